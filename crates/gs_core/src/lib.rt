@@ -1,0 +1,10 @@
+//! The store that programs use: its step is exact, and a run of events is the headline.
+#![tactic(auto)]
+
+mod bases;
+mod stores;
+
+pub use bases::is_base;
+pub use gs_event::{Action, Answer, Event, Kind};
+pub use gs_model::Refusal;
+pub use stores::Store;

@@ -1,0 +1,73 @@
+-- How many triples a dataset has once a graph is another.
+use Rattle.std.proofs.Common.{◌≡◌, ℕ, ◌+◌, Bool, true, false, cond, T, ◌&&◌, List, [], ◌∷◌, length, Option, Some, None, is_some, refl, sym, ap, ◌∙◌, arith}
+use Rattle.std.specs.List.{sum_by}
+use Rattle.std.specs.declared.cmp.Ordering.{Ordering}
+use Rattle.std.specs.declared.cmp.Ordering.TheVariants.{Less, Equal, Greater}
+use Rattle.std.specs.Ordering.{is_eq}
+use Rattle.std.specs.Cmp.{IsTotalOrder}
+use Rattle.std.specs.FinMap as fin
+use Rattle.std.specs.FinMap.Entries.{put, find, is_sorted, by_order, length-put}
+use Rattle.std.proofs.lemmas.List.{length-map}
+use Rattle.std.proofs.lemmas.List.Sums.{sum_by-cons}
+use Rattle.std.proofs.lemmas.Cmp.{nat_list_cmp_total}
+use Rattle.gs_model.specs.Graphs.{Graph, size_of, triples_of}
+use Rattle.gs_model.specs.Triples.{line_of}
+use Rattle.gs_term.specs.declared.names.Target.{Target}
+use Rattle.gs_term.specs.declared.names.Target.TheVariants.{Default, Named}
+use Rattle.gs_model.proofs.GraphLemmas.{empty_has_none}
+use Rattle.gs_event.specs.Datasets.{Dataset, empty_dataset, name_cmp, with_graph, graph_at, lines_if, lines_at, triples_in}
+
+tail_sorted : (a b : Bool) → T (a && b) → T b
+tail_sorted true b h = h
+tail_sorted false b h = absurd h
+
+-- what a value counts, and nothing where there is none
+abbrev pub count_if : {X : Type 0} → (X → ℕ) → Option X → ℕ
+count_if f None = 0
+count_if f (Some x) = f x
+
+none_found : {X : Type 0} (f : X → ℕ) (o : Option X) (n : ℕ) → n + 1 ≡ cond (is_some o) n (n + 1) → count_if f o ≡ 0
+none_found f None n e = refl
+none_found f (Some x) n e = absurd (omega arith)
+
+module _ {K X : Type 0} (R : K → K → Ordering) (o : IsTotalOrder R) (f : X → ℕ) where
+  -- a value that takes the place of another changes the sum by their difference
+  pub sum_by-put : (k : K) (v : X) (es : List (K × X)) → T (is_sorted R es) → sum_by (λ e. f e.1) (put R k v es) + count_if f (find R k es) ≡ sum_by (λ e. f e.1) es + f v
+  sum_by-put k v [] h = omega (arith, sum_by-cons (λ (e : K × X). f e.1) (k, v) [])
+  sum_by-put k v (e ∷ es) h =
+      let total = λ (xs : List (K × X)). sum_by (λ e. f e.1) xs in
+      let whole : total (e ∷ es) ≡ f e.1 + total es = sum_by-cons (λ (x : K × X). f x.1) e es in
+      elim (R k e.0) as (λ r. R k e.0 ≡ r → total (by_order r ((k, v) ∷ e ∷ es) ((e.0, v) ∷ es) (e ∷ put R k v es)) + count_if f (cond (is_eq r) (Some e.1) (find R k es)) ≡ total (e ∷ es) + f v) [
+        | Less ↦ λ is.
+            let found = ap (λ r. cond (is_eq r) (Some e.1) (find R k es)) is in
+            let grown = ap (λ r. length (by_order r ((k, v) ∷ e ∷ es) ((e.0, v) ∷ es) (e ∷ put R k v es))) (sym is) ∙ length-put R o k v (e ∷ es) h in
+            let none : count_if f (find R k (e ∷ es)) ≡ 0 = none_found f (find R k (e ∷ es)) (length (e ∷ es)) (let two : length (e ∷ es) + 1 ≡ length ((k, v) ∷ e ∷ es) = omega arith in two ∙ grown) in
+            let here : count_if f (find R k es) ≡ 0 = sym (ap (count_if f) found) ∙ none in
+            omega (arith, here, sum_by-cons (λ (x : K × X). f x.1) (k, v) (e ∷ es))
+        | Equal ↦ λ is. omega (arith, whole, sum_by-cons (λ (x : K × X). f x.1) (e.0, v) es)
+        | Greater ↦ λ is. omega (arith, whole, sum_by-cons (λ (x : K × X). f x.1) e (put R k v es), sum_by-put k v es (tail_sorted _ _ h))
+      ] refl
+
+length-lines_if : (o : Option Graph) → length (lines_if o) ≡ count_if size_of o
+length-lines_if None = refl
+length-lines_if (Some g) = length-map (triples_of g) line_of
+
+-- the triples of the graph that was there go, and those of the new graph come
+pub triples_in-with_graph : (m : Dataset) (t : Target) (g : Graph) → triples_in (with_graph m t g) + length (lines_at m t) ≡ triples_in m + size_of g
+triples_in-with_graph m Default g = omega (arith, length-map (triples_of m.unnamed) line_of)
+triples_in-with_graph m (Named n) g =
+    let entries : sum_by (λ (e : List ℕ × Graph). size_of e.1) (fin.entries (fin.insert m.named n g)) ≡ sum_by (λ e. size_of e.1) (put name_cmp n g (fin.entries m.named)) =
+    ap (sum_by (λ e. size_of e.1)) (fin.entries-insert nat_list_cmp_total m.named n g) in
+    let moved = sum_by-put name_cmp nat_list_cmp_total size_of n g (fin.entries m.named) (fin.entries_sorted m.named) in
+    let there : length (lines_at m (Named n)) ≡ count_if size_of (find name_cmp n (fin.entries m.named)) = length-lines_if (graph_at m (Named n)) ∙ ap (count_if size_of) (fin.get-entries m.named n) in
+    omega (arith, entries, moved, there)
+
+no_entries : {X : Type 0} (es : List X) → length es ≡ 0 → es ≡ []
+no_entries [] e = refl
+no_entries (x ∷ xs) e = absurd (omega arith)
+
+-- no triple is in the dataset without graphs
+pub triples_in-empty : triples_in empty_dataset ≡ 0
+triples_in-empty =
+    let none : fin.entries (empty_dataset.named) ≡ [] = no_entries _ (sym (fin.len-entries empty_dataset.named) ∙ fin.len-empty name_cmp Graph) in
+    omega (arith, empty_has_none, ap (sum_by (λ (e : List ℕ × Graph). size_of e.1)) none)

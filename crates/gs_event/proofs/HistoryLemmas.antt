@@ -1,0 +1,175 @@
+-- What a store shows after a history and one more answer is the next view of what it showed.
+use Rattle.std.proofs.Common.{◌≡◌, ◌≢◌, ℕ, zero, suc, ◌+◌, Bool, true, false, cond, nat_eq, List, [], ◌∷◌, map, drop, length, Option, Some, None, MatchOption, refl, sym, ap, ◌∙◌, subst, arith, unwrap_or}
+use Rattle.std.specs.List.{slice_get, slice_set, range_with_len, count_by, cons_option, zip}
+use Rattle.std.proofs.Common.{add-zero, zero-add, ◌≤◌, ◌++◌, length-append, reverse}
+use Rattle.std.proofs.lemmas.Bool.{ne_eqb, eq-eqb}
+use Rattle.std.proofs.lemmas.List.{drop-drop, reverse-append}
+use Rattle.std.proofs.lemmas.List.Sums.{sum_by-cons}
+use Rattle.gs_term.specs.declared.names.Target.{Target}
+use Rattle.gs_model.specs.declared.refusals.Refusal.{Refusal}
+use Rattle.gs_model.specs.declared.refusals.Refusal.TheVariants.{BadSeat}
+use Rattle.gs_event.specs.declared.events.Action.{Action}
+use Rattle.gs_event.specs.declared.events.Action.TheVariants.{Open, Stage, Commit, Pin, Piece, Cancel}
+use Rattle.gs_event.specs.declared.events.Event.{Event}
+use Rattle.gs_event.specs.declared.events.Event.TheVariants.{Seat as At, Reclaim}
+use Rattle.gs_event.specs.declared.answers.Answer.{Answer}
+use Rattle.gs_event.specs.declared.answers.Answer.TheVariants.{Opened, Staged, Status, Pinned, Lines, Cancelled, Reclaimed, Refused}
+use Rattle.gs_event.specs.Datasets.{Operation, lines_at, after_all}
+use Rattle.gs_event.specs.Phases.{Phase, Idle, Writing, Reading, phase_after, operation_of}
+use Rattle.gs_event.specs.Views.{View, SeatView, Fits, FitsSeat, is_opened, is_written, after_asked, next_view, next_at, next_if}
+use Rattle.gs_event.specs.Histories.{History, Read, phase_of, phase_by, points_of, dataset_after, lines_left, seat_view, Start, view_of, IsLegal, history_of, HasRun}
+
+-- a seat's phase by its history, with one more answer
+abbrev later : History → Phase Read → Action → Answer → Phase Read
+later before = phase_after (λ t. record { target = t; before = before; told = 0 }) (λ r n. record { target = r.target; before = r.before; told = r.told + n })
+
+same_operation : (p : Phase Read) (action : Action) (a : Answer) → operation_of (seat_view p) action a ≡ operation_of p action a
+same_operation Idle (Pin t) (Pinned s) = refl
+same_operation (Writing t r g) Commit (Status s name) = refl
+same_operation p action a = refl
+
+pinned_view : (b : Bool) (h : History) (t : Target) → seat_view (cond b (Reading (record { target = t; before = h; told = 0 })) Idle) ≡ cond b (Reading (lines_at (dataset_after h) t)) Idle
+pinned_view true h t = refl
+pinned_view false h t = refl
+
+told_view : (b : Bool) (r : Read) (n : ℕ) → seat_view (cond b Idle (Reading (record { target = r.target; before = r.before; told = r.told + n }))) ≡ cond b Idle (Reading (drop n (lines_left r)))
+told_view true r n = refl
+told_view false r n = ap Reading (sym (drop-drop n r.told _))
+
+-- the table of phases says the same of a history and of what is seen
+pub same_phase : (h : History) (p : Phase Read) (action : Action) (a : Answer) → seat_view (later h p action a) ≡ phase_after (lines_at (dataset_after h)) (λ left n. drop n left) (seat_view p) action a
+same_phase h Idle (Open k) (Opened r) = refl
+same_phase h Idle (Pin t) (Pinned s) = pinned_view (nat_eq s 200) h t
+same_phase h (Writing t r g) (Stage ts) Staged = refl
+same_phase h (Writing t r g) Commit (Status s name) = refl
+same_phase h (Writing t r g) Cancel Cancelled = refl
+same_phase h (Reading x) (Piece n) (Lines b end) = told_view end x n
+same_phase h (Reading x) Cancel Cancelled = refl
+same_phase h p action a = refl
+
+after_cons : (q : Option Operation) (qs : List Operation) → after_all (cons_option q qs) ≡ after_asked (after_all qs) q
+after_cons None qs = refl
+after_cons (Some q) qs = refl
+
+-- two lists by index that agree from a on
+same_after : {X : Type 0} (f g : ℕ → X) (a n : ℕ) → ((k : ℕ) → a ≤ k → g k ≡ f k) → map g (range_with_len a n) ≡ map f (range_with_len a n)
+same_after f g a zero alike = refl
+same_after f g a (suc n) alike =
+    let here : g a ≡ f a = alike a (omega arith) in
+    let rest : map g (range_with_len (a + 1) n) ≡ map f (range_with_len (a + 1) n) = same_after f g (a + 1) n (λ k le. alike k (omega arith)) in
+    cc
+
+-- a list by index, changed at one place
+changed_at : {X : Type 0} (f g : ℕ → X) (a n s : ℕ) (x : X) → g (a + s) ≡ x → ((k : ℕ) → k ≢ a + s → g k ≡ f k) → map g (range_with_len a n) ≡ slice_set (map f (range_with_len a n)) s x
+changed_at f g a zero s x at others = refl
+changed_at f g a (suc n) zero x at others =
+    let here : g a ≡ x = rw (add-zero a) at at in
+    let rest : map g (range_with_len (a + 1) n) ≡ map f (range_with_len (a + 1) n) = same_after f g (a + 1) n (λ k le. others k (λ e. absurd (omega arith))) in
+    cc
+changed_at f g a (suc n) (suc s) x at others =
+    let here : g a ≡ f a = others a (λ e. absurd (omega arith)) in
+    let more : a + suc s ≡ a + 1 + s = omega arith in
+    let rest : map g (range_with_len (a + 1) n) ≡ slice_set (map f (range_with_len (a + 1) n)) s x = changed_at f g (a + 1) n s x (rw more at at) (λ k ne. others k (λ e. ne (omega arith))) in
+    cc
+
+-- the element at a place of a list by index
+pub at_place : {X : Type 0} (f : ℕ → X) (a n s : ℕ) (x : X) → slice_get (map f (range_with_len a n)) s ≡ Some x → f (a + s) ≡ x
+at_place f a zero s x e = absurd (cc)
+at_place f a (suc n) zero x e = rw (add-zero a) (ap (λ o. unwrap_or o x) e)
+at_place f a (suc n) (suc s) x e =
+    let more : a + suc s ≡ a + 1 + s = omega arith in
+    rw more (at_place f (a + 1) n s x e)
+
+other_seat : (h : History) (s k : ℕ) (action : Action) (a : Answer) → k ≢ s → seat_view (phase_by h k (phase_of h k) (At s action) a) ≡ seat_view (phase_of h k)
+other_seat h s k action a ne =
+    let apart : nat_eq s k ≡ false = ne_eqb s k (λ e. ne (sym e)) in
+    rw apart
+
+own_seat : (h : History) (s : ℕ) (action : Action) (a : Answer) → seat_view (phase_by h s (phase_of h s) (At s action) a) ≡ phase_after (lines_at (dataset_after h)) (λ left n. drop n left) (seat_view (phase_of h s)) action a
+own_seat h s action a =
+    let same : nat_eq s s ≡ true = eq-eqb s s refl in
+    rw same (same_phase h (phase_of h s) action a)
+
+refused_phase : {R : Type 0} (f : Target → R) (g : R → ℕ → R) (p : Phase R) (action : Action) (r : Refusal) → phase_after f g p action (Refused r) ≡ p
+refused_phase f g Idle (Open k) r = refl
+refused_phase f g Idle (Pin t) r = refl
+refused_phase f g (Writing t n x) (Stage ts) r = refl
+refused_phase f g (Writing t n x) Commit r = refl
+refused_phase f g (Writing t n x) Cancel r = refl
+refused_phase f g (Reading x) (Piece n) r = refl
+refused_phase f g (Reading x) Cancel r = refl
+refused_phase f g p action r = refl
+
+refused_operation : {R : Type 0} (p : Phase R) (action : Action) (r : Refusal) → operation_of p action (Refused r) ≡ None
+refused_operation Idle (Pin t) r = refl
+refused_operation (Writing t n x) Commit r = refl
+refused_operation p action r = refl
+
+counted : (test : Answer → Bool) (n : ℕ) (h : History) (e : Event) (a : Answer) → n + count_by (λ x. test x.1) ((e, a) ∷ h) ≡ n + count_by (λ x. test x.1) h + cond (test a) 1 0
+counted test n h e a = omega (arith, sum_by-cons (λ (x : Event × Answer). cond (test x.1) 1 0) (e, a) h)
+
+-- one more answer to a seat that there is
+next_seen : (start : Start) (h : History) (s : ℕ) (action : Action) (a : Answer) (p : SeatView) → seat_view (phase_of h s) ≡ p → view_of start ((At s action, a) ∷ h) ≡ next_at (view_of start h) s p action a
+next_seen start h s action a p is =
+    let asked : after_all (points_of ((At s action, a) ∷ h)) ≡ after_asked (dataset_after h) (operation_of p action a) =
+    after_cons (operation_of (phase_of h s) action a) (points_of h) ∙ ap (after_asked (dataset_after h)) (sym (same_operation (phase_of h s) action a) ∙ ap (λ q. operation_of q action a) is) in
+    let opened = counted is_opened start.request h (At s action) a in
+    let written = counted is_written start.commit h (At s action) a in
+    let own : seat_view (phase_by h s (phase_of h s) (At s action) a) ≡ phase_after (lines_at (dataset_after h)) (λ left n. drop n left) p action a =
+    own_seat h s action a ∙ ap (λ q. phase_after (lines_at (dataset_after h)) (λ left n. drop n left) q action a) is in
+    let seats = changed_at (λ k. seat_view (phase_of h k)) (λ k. seat_view (phase_by h k (phase_of h k) (At s action) a)) 0 start.seats s (phase_after (lines_at (dataset_after h)) (λ left n. drop n left) p action a) (rw (zero-add s) own) (λ k ne. other_seat h s k action a (λ e. ne (e ∙ sym (zero-add s)))) in
+    λ i. record { totals = record { dataset = asked i; request = opened i; commit = written i }; seats = seats i }
+
+-- a refusal changes nothing that is seen
+refused_seen : (start : Start) (h : History) (s : ℕ) (action : Action) (r : Refusal) → view_of start ((At s action, Refused r) ∷ h) ≡ view_of start h
+refused_seen start h s action r =
+    let asked : after_all (points_of ((At s action, Refused r) ∷ h)) ≡ dataset_after h = rw (refused_operation (phase_of h s) action r) in
+    let opened : start.request + count_by (λ (x : Event × Answer). is_opened x.1) ((At s action, Refused r) ∷ h) ≡ start.request + count_by (λ (x : Event × Answer). is_opened x.1) h = omega (arith, counted is_opened start.request h (At s action) (Refused r)) in
+    let written : start.commit + count_by (λ (x : Event × Answer). is_written x.1) ((At s action, Refused r) ∷ h) ≡ start.commit + count_by (λ (x : Event × Answer). is_written x.1) h = omega (arith, counted is_written start.commit h (At s action) (Refused r)) in
+    let seats = same_after (λ k. seat_view (phase_of h k)) (λ k. seat_view (phase_by h k (phase_of h k) (At s action) (Refused r))) 0 start.seats (λ k _. same_seat k) in
+    λ i. record { totals = record { dataset = asked i; request = opened i; commit = written i }; seats = seats i }
+  where
+    same_seat : (k : ℕ) → seat_view (phase_by h k (phase_of h k) (At s action) (Refused r)) ≡ seat_view (phase_of h k)
+    same_seat k =
+        elim (nat_eq s k) as (λ b. seat_view (cond b (later h (phase_of h k) action (Refused r)) (phase_of h k)) ≡ seat_view (phase_of h k)) [
+          | true ↦ ap seat_view (refused_phase _ _ (phase_of h k) action r)
+          | false ↦ refl
+        ]
+
+-- whether or not there is such a seat
+next_if_seen : (start : Start) (h : History) (s : ℕ) (action : Action) (a : Answer) (o : Option SeatView) → slice_get (view_of start h).seats s ≡ o → MatchOption o (a ≡ Refused BadSeat) (λ p. FitsSeat (view_of start h).totals p action a) → view_of start ((At s action, a) ∷ h) ≡ next_if (view_of start h) s o action a
+next_if_seen start h s action a None is fits = ap (λ r. view_of start ((At s action, r) ∷ h)) fits ∙ refused_seen start h s action BadSeat
+next_if_seen start h s action a (Some p) is fits = next_seen start h s action a p (rw (← zero-add s) (at_place (λ k. seat_view (phase_of h k)) 0 start.seats s p is))
+
+-- what is shown after one more answer that fits
+pub view_of-cons : (start : Start) (h : History) (e : Event) (a : Answer) → Fits (view_of start h) e a → view_of start ((e, a) ∷ h) ≡ next_view (view_of start h) e a
+view_of-cons start h (Reclaim n) (Reclaimed freed left) fits =
+    let opened : start.request + count_by (λ (x : Event × Answer). is_opened x.1) ((Reclaim n, Reclaimed freed left) ∷ h) ≡ start.request + count_by (λ (x : Event × Answer). is_opened x.1) h = omega (arith, counted is_opened start.request h (Reclaim n) (Reclaimed freed left)) in
+    let written : start.commit + count_by (λ (x : Event × Answer). is_written x.1) ((Reclaim n, Reclaimed freed left) ∷ h) ≡ start.commit + count_by (λ (x : Event × Answer). is_written x.1) h = omega (arith, counted is_written start.commit h (Reclaim n) (Reclaimed freed left)) in
+    λ i. record { totals = record { dataset = dataset_after h; request = opened i; commit = written i }; seats = (view_of start h).seats }
+view_of-cons start h (Reclaim n) a fits = absurd fits
+view_of-cons start h (At s action) a fits = next_if_seen start h s action a (slice_get (view_of start h).seats s) refl fits
+
+zip_push : {A B : Type 0} (xs : List A) (ys : List B) (x : A) (y : B) → length ys ≡ length xs → zip (xs ++ x ∷ []) (ys ++ y ∷ []) ≡ zip xs ys ++ (x, y) ∷ []
+zip_push [] [] x y e = refl
+zip_push [] (b ∷ ys) x y e = absurd (omega arith)
+zip_push (a ∷ xs) [] x y e = absurd (omega arith)
+zip_push (a ∷ xs) (b ∷ ys) x y e = ap (λ zs. (a, b) ∷ zs) (zip_push xs ys x y (omega arith))
+
+history_of-push : (events : List Event) (answers : List Answer) (e : Event) (a : Answer) → length answers ≡ length events → history_of (events ++ e ∷ []) (answers ++ a ∷ []) ≡ (e, a) ∷ history_of events answers
+history_of-push events answers e a same = ap reverse (zip_push events answers e a same) ∙ reverse-append (zip events answers) ((e, a) ∷ [])
+
+-- one more event
+pub run_more : {start : Start} {events : List Event} {answers : List Answer} {v : View} (e : Event) (a : Answer) (w : View) → HasRun start events answers v → Fits v e a → w ≡ next_view v e a → HasRun start (events ++ e ∷ []) (answers ++ a ∷ []) w
+run_more {start = start} {events = events} {answers = answers} {v = v} e a w run fits is =
+    let grown = history_of-push events answers e a run.answered in
+    let fit : Fits (view_of start (history_of events answers)) e a = subst (λ u. Fits u e a) run.shows fits in
+    record {
+      answered = grind (arith, length-append, run.answered);
+      legal = subst (IsLegal start) (sym grown) (run.legal, fit);
+      shows = is ∙ ap (λ u. next_view u e a) run.shows ∙ sym (view_of-cons start (history_of events answers) e a fit) ∙ ap (view_of start) (sym grown);
+    }
+
+-- before the first event
+pub run_none : {start : Start} {v : View} → v ≡ view_of start [] → HasRun start [] [] v
+run_none {start = start} {v = v} is = record { answered = refl; legal = tt; shows = is }

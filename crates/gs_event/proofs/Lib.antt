@@ -1,0 +1,2 @@
+pub mod DatasetLemmas
+pub mod HistoryLemmas

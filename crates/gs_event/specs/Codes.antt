@@ -1,0 +1,78 @@
+-- How what a store shows is stored, so that a model may have it as its value.
+use Rattle.std.specs.Prelude.{◌≡◌, ℕ, List, Option, Some, None, ◌⊎◌, refl}
+use Rattle.std.proofs.Common.{inl, inr}
+use Rattle.std.specs.Coded.{Coded, code_by, coded×, coded⊎, coded_option, coded_list, coded_ℕ}
+use Rattle.std.specs.FinMap as map
+use Rattle.gs_model.specs.Graphs.{Graph}
+use Rattle.gs_model.specs.Codes.{graph_code, text_code}
+use Rattle.gs_term.specs.declared.names.Target.{Target}
+use Rattle.gs_term.specs.declared.names.Target.TheVariants.{Default, Named}
+use Rattle.gs_event.specs.declared.events.Kind.{Kind}
+use Rattle.gs_event.specs.declared.events.Kind.TheVariants.{Put}
+use Rattle.gs_event.specs.Datasets.{name_cmp}
+use Rattle.gs_event.specs.Phases.{Idle, Writing, Reading}
+use Rattle.gs_event.specs.Views.{View, SeatView}
+use Rattle.gs_event.specs.Waste.{Lifetime, Shown}
+
+abbrev pub name_of : Target → Option (List ℕ)
+name_of Default = None
+name_of (Named n) = Some n
+
+abbrev pub target_from : Option (List ℕ) → Target
+target_from None = Default
+target_from (Some n) = Named n
+
+abbrev pub target_back : (t : Target) → target_from (name_of t) ≡ t
+target_back Default = refl
+target_back (Named n) = refl
+
+abbrev pub target_code : Coded Target
+target_code = code_by (Option (List ℕ)) (coded_option text_code) name_of target_from target_back
+
+abbrev pub kind_target : Kind → Target
+kind_target (Put t) = t
+
+abbrev pub kind_back : (k : Kind) → Put (kind_target k) ≡ k
+kind_back (Put t) = refl
+
+abbrev pub kind_code : Coded Kind
+kind_code = code_by Target target_code kind_target Put kind_back
+
+abbrev pub Parts : Type 0
+Parts = Option ((Kind × (ℕ × Graph)) ⊎ List (List ℕ))
+
+abbrev pub seat_parts : SeatView → Parts
+seat_parts Idle = None
+seat_parts (Writing k r g) = Some (inl (k, (r, g)))
+seat_parts (Reading left) = Some (inr left)
+
+abbrev pub seat_from : Parts → SeatView
+seat_from None = Idle
+seat_from (Some (inl p)) = Writing p.0 p.1.0 p.1.1
+seat_from (Some (inr left)) = Reading left
+
+abbrev pub seat_back : (s : SeatView) → seat_from (seat_parts s) ≡ s
+seat_back Idle = refl
+seat_back (Writing k r g) = refl
+seat_back (Reading left) = refl
+
+abbrev pub seat_code : Coded SeatView
+seat_code = code_by Parts (coded_option (coded⊎ (coded× kind_code (coded× coded_ℕ graph_code)) (coded_list text_code))) seat_parts seat_from seat_back
+
+abbrev pub ViewParts : Type 0
+ViewParts = (Graph × map.FinMap name_cmp Graph) × (ℕ × (ℕ × List SeatView))
+
+abbrev pub view_code : Coded View
+view_code =
+    code_by ViewParts (coded× (coded× graph_code (map.code text_code graph_code)) (coded× coded_ℕ (coded× coded_ℕ (coded_list seat_code))))
+    (λ v. ((v.totals.dataset.unnamed, v.totals.dataset.named), (v.totals.request, (v.totals.commit, v.seats))))
+    (λ p. record { totals = record { dataset = record { unnamed = p.0.0; named = p.0.1 }; request = p.1.0; commit = p.1.1.0 }; seats = p.1.1.1 })
+    (λ _. refl)
+
+abbrev pub lifetime_code : Coded Lifetime
+lifetime_code = code_by (ℕ × ℕ) (coded× coded_ℕ coded_ℕ) (λ l. (l.birth, l.death)) (λ p. record { birth = p.0; death = p.1 }) (λ _. refl)
+
+abbrev pub shown_code : Coded Shown
+shown_code =
+    code_by (View × List Lifetime) (coded× view_code (coded_list lifetime_code))
+    (λ s. (s.view, s.waste)) (λ p. record { view = p.0; waste = p.1 }) (λ _. refl)

@@ -1,0 +1,89 @@
+-- Histories of events with their answers, and what they mean.
+use Rattle.std.specs.Prelude.{◌≡◌, ℕ, ◌+◌, List, [], ◌∷◌, map, length, nat_eq, cond, drop, Option, None, reverse}
+use Rattle.std.specs.List.{zip, range_with_len, count_by, cons_option}
+use Rattle.gs_term.specs.declared.names.Target.{Target}
+use Rattle.gs_event.specs.declared.events.Event.{Event}
+use Rattle.gs_event.specs.declared.events.Event.TheVariants.{Seat as At, Reclaim}
+use Rattle.gs_event.specs.declared.answers.Answer.{Answer}
+use Rattle.gs_event.specs.Datasets.{Dataset, Operation, lines_at, after_all}
+use Rattle.gs_event.specs.Phases.{Phase, Idle, Writing, Reading, phase_after, operation_of}
+use Rattle.gs_event.specs.Views.{View, SeatView, Fits, is_opened, is_written}
+
+-- each event with its answer, the newest first: the tail of a history is what went before
+abbrev pub History : Type 0
+History = List (Event × Answer)
+
+-- a read: its target, the history before its pin, and how many lines were told since
+pub record Read : Type 0 where
+  pub target : Target
+  pub before : History
+  pub told : ℕ
+
+-- what the phase of a seat becomes by one more event and its answer
+abbrev pub phase_by : History → ℕ → Phase Read → Event → Answer → Phase Read
+phase_by before seat p (Reclaim n) a = p
+phase_by before seat p (At s action) a =
+    cond (nat_eq s seat)
+    (phase_after (λ t. record { target = t; before = before; told = 0 }) (λ r n. record { target = r.target; before = r.before; told = r.told + n }) p action a)
+    p
+
+-- the phase of a seat, from its events and their answers alone
+abbrev pub phase_of : History → ℕ → Phase Read
+phase_of [] seat = Idle
+phase_of (x ∷ before) seat = phase_by before seat (phase_of before seat) x.0 x.1
+
+-- what the abstract store is asked by an event that was answered so
+abbrev pub operation_by : History → Event → Answer → Option Operation
+operation_by before (Reclaim n) a = None
+operation_by before (At s action) a = operation_of (phase_of before s) action a
+
+-- the points of a history, the newest first: each write at its commit, and each read at its pin
+abbrev pub points_of : History → List Operation
+points_of [] = []
+points_of (x ∷ before) = cons_option (operation_by before x.0 x.1) (points_of before)
+
+-- the dataset after a history
+abbrev pub dataset_after : History → Dataset
+dataset_after h = after_all (points_of h)
+
+-- the lines left of a read: its graph's at the pin, without those that were told
+abbrev pub lines_left : Read → List (List ℕ)
+lines_left r = drop r.told (lines_at (dataset_after r.before) r.target)
+
+-- a phase as it is seen
+abbrev pub seat_view : Phase Read → SeatView
+seat_view Idle = Idle
+seat_view (Writing k r g) = Writing k r g
+seat_view (Reading r) = Reading (lines_left r)
+
+-- where a store begins
+pub record Start : Type 0 where
+  pub seats : ℕ
+  pub request : ℕ
+  pub commit : ℕ
+
+-- what a store shows after a history
+abbrev pub view_of : Start → History → View
+view_of start h = record {
+  totals = record {
+    dataset = dataset_after h;
+    request = start.request + count_by (λ x. is_opened x.1) h;
+    commit = start.commit + count_by (λ x. is_written x.1) h;
+  };
+  seats = map (λ s. seat_view (phase_of h s)) (range_with_len 0 start.seats);
+}
+
+-- a legal history: each answer fits what the history before it shows
+abbrev pub IsLegal : Start → History → Type 0
+IsLegal start [] = Unit {0}
+IsLegal start (x ∷ before) = IsLegal start before × Fits (view_of start before) x.0 x.1
+
+-- the history of these events with these answers
+abbrev pub history_of : List Event → List Answer → History
+history_of events answers = reverse (zip events answers)
+
+-- these answers to these events are legal, and the store then shows what their history says
+pub record HasRun (start : Start) (events : List Event) (answers : List Answer) (shown : View) : Type 0 where
+  pub answered : length answers ≡ length events
+  pub legal : IsLegal start (history_of events answers)
+  pub shows : shown ≡ view_of start (history_of events answers)

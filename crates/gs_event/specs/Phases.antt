@@ -1,0 +1,50 @@
+-- The phase of a seat: what it is doing.
+use Rattle.std.specs.Prelude.{ℕ, Bool, true, false, nat_lt, nat_eq, cond, Option, Some, None}
+use Rattle.gs_model.specs.Graphs.{Graph, empty_graph, with_triples}
+use Rattle.gs_term.specs.declared.names.Target.{Target}
+use Rattle.gs_event.specs.declared.events.Kind.{Kind}
+use Rattle.gs_event.specs.declared.events.Kind.TheVariants.{Put}
+use Rattle.gs_event.specs.declared.events.Action.{Action}
+use Rattle.gs_event.specs.declared.events.Action.TheVariants.{Open, Stage, Commit, Pin, Piece, Cancel}
+use Rattle.gs_event.specs.declared.answers.Answer.{Answer}
+use Rattle.gs_event.specs.declared.answers.Answer.TheVariants.{Opened, Staged, Status, Pinned, Lines, Cancelled}
+use Rattle.gs_event.specs.Datasets.{Operation, Puts, Reads}
+
+-- idle; writing, with the request's number and what was staged; reading, where R says what is left
+pub data Phase (R : Type 0) : Type 0 where
+  Idle : Phase R
+  Writing : (kind : Kind) (request : ℕ) (graph : Graph) → Phase R
+  Reading : (left : R) → Phase R
+
+-- whether the phase allows the action
+abbrev pub allows : {R : Type 0} → Phase R → Action → Bool
+allows Idle (Open k) = true
+allows Idle (Pin t) = true
+allows (Writing k r g) (Stage ts) = true
+allows (Writing k r g) Commit = true
+allows (Writing k r g) Cancel = true
+allows (Reading left) (Piece n) = nat_lt 0 n
+allows (Reading left) Cancel = true
+allows p action = false
+
+-- the phase after an answer: `pinned t` is what a read of t has left when it begins,
+-- `told left n` what is left after n lines more
+abbrev pub phase_after : {R : Type 0} → (Target → R) → (R → ℕ → R) → Phase R → Action → Answer → Phase R
+phase_after pinned told Idle (Open k) (Opened r) = Writing k r empty_graph
+phase_after pinned told Idle (Pin t) (Pinned s) = cond (nat_eq s 200) (Reading (pinned t)) Idle
+phase_after pinned told (Writing k r g) (Stage ts) Staged = Writing k r (with_triples g ts.items)
+phase_after pinned told (Writing k r g) Commit (Status s name) = Idle
+phase_after pinned told (Writing k r g) Cancel Cancelled = Idle
+phase_after pinned told (Reading left) (Piece n) (Lines b end) = cond end Idle (Reading (told left n))
+phase_after pinned told (Reading left) Cancel Cancelled = Idle
+phase_after pinned told p action a = p
+
+-- the write that an upload is
+abbrev pub write_of : Kind → ℕ → Graph → Operation
+write_of (Put t) r g = Puts t g
+
+-- what the abstract store is asked at this phase, by an action that was answered so
+abbrev pub operation_of : {R : Type 0} → Phase R → Action → Answer → Option Operation
+operation_of Idle (Pin t) (Pinned s) = Some (Reads t)
+operation_of (Writing k r g) Commit (Status s name) = Some (write_of k r g)
+operation_of p action a = None

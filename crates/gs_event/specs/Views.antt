@@ -1,0 +1,101 @@
+-- What a store shows, the answers that fit it, and what they leave.
+use Rattle.std.specs.Prelude.{◌≡◌, ℕ, ◌+◌, ◌<◌, ◌≤◌, Bool, true, false, if◌then◌else◌, nat_le, List, take, drop, length, Option, Some, None, MatchOption}
+use Rattle.std.specs.List.{slice_get, slice_set, concat}
+use Rattle.gs_model.specs.declared.limits.TheConstants.{LAST_NUMBER}
+use Rattle.gs_model.specs.declared.refusals.Refusal.TheVariants.{NoMemory, WrongPhase, BadSeat, LastNumber}
+use Rattle.gs_event.specs.declared.events.Action.{Action}
+use Rattle.gs_event.specs.declared.events.Action.TheVariants.{Open, Stage, Commit, Pin, Piece, Cancel}
+use Rattle.gs_event.specs.declared.events.Event.{Event}
+use Rattle.gs_event.specs.declared.events.Event.TheVariants.{Seat as At, Reclaim}
+use Rattle.gs_event.specs.declared.answers.Answer.{Answer}
+use Rattle.gs_event.specs.declared.answers.Answer.TheVariants.{Opened, Staged, Status, Pinned, Lines, Cancelled, Reclaimed, Refused}
+use Rattle.gs_event.specs.Datasets.{Dataset, Operation, Reads, lines_at, after, status_of, location_of, is_success, wants_memory}
+use Rattle.gs_event.specs.Phases.{Phase, Idle, Writing, Reading, allows, phase_after, write_of, operation_of}
+
+-- a seat as it is seen: a read is the lines that are left of it
+abbrev pub SeatView : Type 0
+SeatView = Phase (List (List ℕ))
+
+-- the dataset, and the numbers of the last request and of the last commit
+pub record Totals : Type 0 where
+  pub dataset : Dataset
+  pub request : ℕ
+  pub commit : ℕ
+
+pub record View : Type 0 where
+  pub totals : Totals
+  pub seats : List SeatView
+
+-- The answers that fit a write: its status and location, and a commit number that is left for it.
+-- Want of memory may take the place of any but a 404.
+abbrev pub FitsWrite : Totals → Operation → Answer → Type 0
+FitsWrite v q (Status s name) = (s ≡ status_of v.dataset q) × (name ≡ location_of v.dataset q) × (is_success s ≡ true → v.commit < LAST_NUMBER)
+FitsWrite v q (Refused LastNumber) = (is_success (status_of v.dataset q) ≡ true) × (LAST_NUMBER ≤ v.commit)
+FitsWrite v q (Refused NoMemory) = wants_memory v.dataset q ≡ true
+FitsWrite v q a = ⊥
+
+-- The answers that fit a seat's action. Want of memory may be answered where a row says so, and nowhere else.
+abbrev pub FitsSeat : Totals → SeatView → Action → Answer → Type 0
+FitsSeat v Idle (Open k) (Opened r) = (v.request < LAST_NUMBER) × (r ≡ v.request + 1)
+FitsSeat v Idle (Open k) (Refused LastNumber) = LAST_NUMBER ≤ v.request
+FitsSeat v Idle (Open k) (Refused NoMemory) = v.request < LAST_NUMBER
+FitsSeat v Idle (Pin t) (Pinned s) = s ≡ status_of v.dataset (Reads t)
+FitsSeat v (Writing k r g) (Stage ts) Staged = Unit {0}
+FitsSeat v (Writing k r g) (Stage ts) (Refused NoMemory) = Unit {0}
+FitsSeat v (Writing k r g) Commit (Status s name) = FitsWrite v (write_of k r g) (Status s name)
+FitsSeat v (Writing k r g) Commit (Refused LastNumber) = FitsWrite v (write_of k r g) (Refused LastNumber)
+FitsSeat v (Writing k r g) Commit (Refused NoMemory) = FitsWrite v (write_of k r g) (Refused NoMemory)
+FitsSeat v (Writing k r g) Cancel Cancelled = Unit {0}
+FitsSeat v (Reading left) (Piece n) (Lines b end) = (0 < n) × (b.items ≡ concat (take n left)) × (end ≡ nat_le (length left) n)
+FitsSeat v (Reading left) (Piece n) (Refused NoMemory) = 0 < n
+FitsSeat v (Reading left) Cancel Cancelled = Unit {0}
+FitsSeat v p action (Refused WrongPhase) = allows p action ≡ false
+FitsSeat v p action a = ⊥
+
+-- the answers that fit an event
+abbrev pub Fits : View → Event → Answer → Type 0
+Fits v (Reclaim n) (Reclaimed freed left) = Unit {0}
+Fits v (Reclaim n) a = ⊥
+Fits v (At s action) a = MatchOption (slice_get v.seats s) (a ≡ Refused BadSeat) (λ p. FitsSeat v.totals p action a)
+
+abbrev pub is_opened : Answer → Bool
+is_opened (Opened r) = true
+is_opened a = false
+
+-- whether a write took effect
+abbrev pub is_written : Answer → Bool
+is_written (Status s name) = is_success s
+is_written a = false
+
+abbrev pub after_asked : Dataset → Option Operation → Dataset
+after_asked m None = m
+after_asked m (Some q) = after m q
+
+-- the totals after an answer to a seat at this phase
+abbrev pub next_totals : Totals → SeatView → Action → Answer → Totals
+next_totals v p action a = record {
+  dataset = after_asked v.dataset (operation_of p action a);
+  request = v.request + (if is_opened a then 1 else 0);
+  commit = v.commit + (if is_written a then 1 else 0);
+}
+
+-- the phase, as it is seen, after an answer to a seat at this phase
+abbrev pub next_phase : Totals → SeatView → Action → Answer → SeatView
+next_phase v p action a = phase_after (lines_at v.dataset) (λ left n. drop n left) p action a
+
+-- the view after an answer to seat s at this phase
+abbrev pub next_at : View → ℕ → SeatView → Action → Answer → View
+next_at v s p action a = record {
+  totals = next_totals v.totals p action a;
+  seats = slice_set v.seats s (next_phase v.totals p action a);
+}
+
+-- the same, where there may be no such seat
+abbrev pub next_if : View → ℕ → Option SeatView → Action → Answer → View
+next_if v s None action a = v
+next_if v s (Some p) action a = next_at v s p action a
+
+-- the next view: what an answer leaves
+abbrev pub next_view : View → Event → Answer → View
+next_view v (Reclaim n) a = v
+next_view v (At s action) a = next_if v s (slice_get v.seats s) action a

@@ -1,0 +1,25 @@
+//! What a store answers.
+use gs_model::Refusal;
+use gs_term::GraphName;
+
+/// What a store answers to an event.
+#[derive(Debug, Drop)]
+pub enum Answer {
+    /// The upload is open, under this request number.
+    Opened(u64),
+    /// The triples are in the seat's upload.
+    Staged,
+    /// The HTTP status of a write, and the name of the graph that it made up, if it did.
+    Status(u16, Option<GraphName>),
+    /// The HTTP status of a read: 200, and the seat reads, or 404.
+    Pinned(u16),
+    /// The next lines, and whether no line is left after them.
+    Lines(Vec<u8>, bool),
+    /// The seat's upload or read is given up.
+    Cancelled,
+    /// How many nodes were freed, and whether any are left that no current graph and no open
+    /// upload holds.
+    Reclaimed(u64, bool),
+    /// Nothing was done.
+    Refused(Refusal),
+}

@@ -1,0 +1,35 @@
+//! What a store is asked.
+use gs_term::{Target, Triple};
+
+/// What an upload will do to its target when it is committed.
+#[derive(Clone, Debug, Drop)]
+pub enum Kind {
+    /// Replaces the graph (Graph Store Protocol, section 5.3).
+    Put(Target),
+}
+
+/// What a seat does. A seat holds at most one upload or one read at a time.
+#[derive(Debug, Drop)]
+pub enum Action {
+    /// Opens an upload.
+    Open(Kind),
+    /// Adds triples to the seat's upload.
+    Stage(Vec<Triple>),
+    /// Makes the seat's upload take effect, whole.
+    Commit,
+    /// Begins a read of a graph as it is now.
+    Pin(Target),
+    /// Takes the next lines of the seat's read: so many, at least one, or as many as are left.
+    Piece(u32),
+    /// Gives up the seat's upload or read.
+    Cancel,
+}
+
+/// One step of a schedule.
+#[derive(Debug, Drop)]
+pub enum Event {
+    /// A seat's action. Seats are numbered from 0.
+    Seat(u16, Action),
+    /// Frees at most so many nodes that no version needs.
+    Reclaim(u64),
+}

@@ -1,0 +1,10 @@
+//! Events and answers of a graph store, and what their histories mean.
+#![tactic(auto)]
+
+mod answers;
+mod events;
+mod laws;
+
+pub use answers::Answer;
+pub use events::{Action, Event, Kind};
+pub use laws::view_goes_on;

@@ -1,0 +1,3 @@
+pub mod MachineLemmas
+pub mod Encodings
+pub mod Utf8Lemmas

@@ -1,0 +1,3 @@
+pub mod Machines
+pub mod Utf8
+pub mod Decoders

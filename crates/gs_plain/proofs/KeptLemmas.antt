@@ -1,0 +1,168 @@
+-- What a seat's action keeps of the whole store.
+use Rattle.std.proofs.Common.{zero, suc, drop, ◌≡◌, ℕ, ◌+◌, ◌<◌, ◌≤◌, true, false, cond, List, [], ◌∷◌, ◌++◌, map, length, get_or, Some, None, MatchOption, refl, sym, ap, ◌∙◌, subst, arith, length-append, vec_len, vec_capacity, option_map, replicate, add-zero}
+use Rattle.std.specs.List.{slice_get, slice_set, count_by, sum_by, All, range_with_len}
+use Rattle.gs_event.specs.Datasets.{empty_dataset, triples_in}
+use Rattle.gs_event.specs.Histories.{view_of}
+use Rattle.gs_event.specs.Waste.{Shown, staged_at, staged_in, nodes_in}
+use Rattle.gs_event.proofs.DatasetLemmas.{triples_in-empty}
+use Rattle.std.proofs.lemmas.List.Folds.{sum_by-replicate}
+use Rattle.std.proofs.Common.{◌*◌}
+use Rattle.std.proofs.lemmas.List.Elements.{All-set, recursion_from_All, All-from_recursion}
+use Rattle.std.specs.List.{AllByRecursion}
+use Rattle.std.proofs.lemmas.List.Sums.{sum_by-set, sum_by-cons, count_by-le-length}
+use Rattle.std.proofs.lemmas.List.{map-set}
+use Rattle.std.proofs.lemmas.Option.{slice_get-map, slice_get-get_or}
+use Rattle.gs_model.specs.declared.refusals.Refusal.TheVariants.{BadSeat}
+use Rattle.gs_event.specs.declared.events.Action.{Action}
+use Rattle.gs_event.specs.declared.answers.Answer.{Answer}
+use Rattle.gs_event.specs.declared.answers.Answer.TheVariants.{Refused}
+use Rattle.gs_event.specs.Phases as phase
+use Rattle.gs_event.specs.Views.{View, SeatView, FitsSeat, next_phase, next_at, next_if}
+use Rattle.gs_plain.specs.declared.books.Row.{Row}
+use Rattle.gs_plain.specs.declared.books.Books.{Books}
+use Rattle.gs_plain.specs.declared.books.Seat.{Seat}
+use Rattle.gs_plain.specs.declared.books.Seat.TheVariants.{Idle, Writing, Reading}
+use Rattle.gs_plain.specs.declared.stores.PlainStore.TheInside.{Inside}
+use Rattle.gs_plain.specs.Books.{staged_by, dataset_of, lines_of_row, totals_of, seat_shown, is_writing, IsKnown, Acts, HasRoom, KeepsRoom}
+use Rattle.gs_plain.specs.Kept.{shown_of, IsKept}
+
+-- what a store's fields show, without the waste
+abbrev pub view_of_fields : Inside → View
+view_of_fields a = (shown_of a).view
+
+-- more rows change nothing of what a known read shows
+pub get_before : {X : Type 0} (xs ys : List X) (i : ℕ) → i < length xs → slice_get (xs ++ ys) i ≡ slice_get xs i
+get_before [] ys i h = absurd (omega arith)
+get_before (x ∷ xs) ys zero h = refl
+get_before (x ∷ xs) ys (suc i) h = get_before xs ys i (omega arith)
+
+same_shown : (rows more : List Row) (s : Seat) → IsKnown rows s → seat_shown (rows ++ more) s ≡ seat_shown rows s
+same_shown rows more Idle h = refl
+same_shown rows more (Writing k r g) h = refl
+same_shown rows more (Reading None told) h = refl
+same_shown rows more (Reading (Some i) told) h = ap (λ o. phase.Reading (drop told (lines_of_row o))) (get_before rows more i h)
+
+still_known : (rows more : List Row) (s : Seat) → IsKnown rows s → IsKnown (rows ++ more) s
+still_known rows more Idle h = h
+still_known rows more (Writing k r g) h = h
+still_known rows more (Reading None told) h = h
+still_known rows more (Reading (Some i) told) h = omega (arith, length-append rows more)
+
+all_same_shown : (rows more : List Row) (seats : List Seat) → AllByRecursion (IsKnown rows) seats → map (seat_shown (rows ++ more)) seats ≡ map (seat_shown rows) seats
+all_same_shown rows more [] h = refl
+all_same_shown rows more (s ∷ seats) h =
+    let here = same_shown rows more s h.0 in
+    let rest = all_same_shown rows more seats h.1 in
+    λ i. here i ∷ rest i
+
+others_few : (seats : List Seat) (i : ℕ) → i < length seats → count_by is_writing (slice_set seats i Idle) < length seats
+others_few [] i h = absurd (omega arith)
+others_few (s ∷ seats) zero h = omega (arith, sum_by-cons (λ x. cond (is_writing x) 1 0) Idle seats, count_by-le-length is_writing seats)
+others_few (s ∷ seats) (suc i) h =
+    elim (is_writing s) as (λ b. is_writing s ≡ b → count_by is_writing (s ∷ slice_set seats i Idle) < suc (length seats)) [
+      | true ↦ λ e. rw (sum_by-cons (λ x. cond (is_writing x) 1 0) s (slice_set seats i Idle), e) (omega (arith, others_few seats i (omega arith)))
+      | false ↦ λ e. rw (sum_by-cons (λ x. cond (is_writing x) 1 0) s (slice_set seats i Idle), e) (omega (arith, others_few seats i (omega arith)))
+    ] refl
+
+had_room : (len others w wd count cap : ℕ) → others + wd ≡ count + 0 → w ≡ wd → len + count ≤ cap → len + (others + w) ≤ cap
+had_room len others w wd count cap e f h = omega arith
+
+has_room : (len others wd w count after cap : ℕ) → others + wd ≡ count + 0 → after + wd ≡ count + w → len + (others + w) ≤ cap → len + after ≤ cap
+has_room len others wd w count after cap e f h = omega arith
+
+moved : (old new sum sum' was now there : ℕ) → new + was ≡ old + now → old ≡ sum → sum' + there ≡ sum + now → was ≡ there → new ≡ sum'
+moved old new sum sum' was now there e f g h = omega arith
+
+-- what holds of every store still holds
+pub kept_after : (a b : Inside) (i : ℕ) (was now : Seat) (action : Action) (answer : Answer) → i < length a.seats.items → was ≡ get_or a.seats.items i was → b.seats.items ≡ slice_set a.seats.items i now → Acts a.books b.books was now action answer → KeepsRoom (length a.seats.items) a.books b.books was now → IsKept a → IsKept b
+kept_after a b i was now action answer within is seats acts room kept =
+    let xs = a.seats.items in
+    let old_rows = a.books.rows.items in
+    let known : All (IsKnown b.books.rows.items) xs = λ k d lt. subst (λ rs. IsKnown rs (get_or xs k d)) (sym acts.grows.1) (still_known old_rows acts.grows.0 (get_or xs k d) (kept.known k d lt)) in
+    let others = count_by is_writing (slice_set xs i Idle) in
+    let idle : others + cond (is_writing (get_or xs i was)) 1 0 ≡ count_by is_writing xs + 0 = sum_by-set (λ x. cond (is_writing x) 1 0) xs i Idle was within in
+    let after : count_by is_writing (slice_set xs i now) + cond (is_writing (get_or xs i was)) 1 0 ≡ count_by is_writing xs + cond (is_writing now) 1 0 = sum_by-set (λ x. cond (is_writing x) 1 0) xs i now was within in
+    let same : cond {A = ℕ} (is_writing was) 1 0 ≡ cond {A = ℕ} (is_writing (get_or xs i was)) 1 0 = ap (λ (s : Seat). cond {A = ℕ} (is_writing s) 1 0) is in
+    let before : HasRoom a.books others was = had_room (vec_len a.books.rows) others (cond {A = ℕ} (is_writing was) 1 0) (cond {A = ℕ} (is_writing (get_or xs i was)) 1 0) (count_by is_writing xs) (vec_capacity a.books.rows) idle same kept.room in
+    let later : HasRoom b.books others now = room others (others_few xs i within) before in
+    let total : sum_by staged_by (slice_set xs i now) + staged_by (get_or xs i was) ≡ sum_by staged_by xs + staged_by now = sum_by-set staged_by xs i now was within in
+    record {
+      known = rw seats (All-set (IsKnown b.books.rows.items) xs i now acts.known known);
+      room = rw seats (has_room (vec_len b.books.rows) others (cond {A = ℕ} (is_writing (get_or xs i was)) 1 0) (cond {A = ℕ} (is_writing now) 1 0) (count_by is_writing xs) (count_by is_writing (slice_set xs i now)) (vec_capacity b.books.rows) idle after later);
+      counted = acts.counted;
+      staged = rw seats (moved a.books.staged b.books.staged (sum_by staged_by xs) (sum_by staged_by (slice_set xs i now)) (staged_by was) (staged_by now) (staged_by (get_or xs i was)) acts.staged kept.staged total (ap staged_by is));
+    }
+
+seat_there : (a : Inside) (i : ℕ) (was : Seat) → i < length a.seats.items → was ≡ get_or a.seats.items i was → slice_get (view_of_fields a).seats i ≡ Some (seat_shown a.books.rows.items was)
+seat_there a i was within is =
+    slice_get-map (seat_shown a.books.rows.items) a.seats.items i ∙ ap (option_map (seat_shown a.books.rows.items)) (slice_get-get_or a.seats.items i was within ∙ ap Some (sym is))
+
+-- the answer fits what is shown
+pub fits_after : (a : Inside) (v : View) (new : Books) (i : ℕ) (was now : Seat) (action : Action) (answer : Answer) → view_of_fields a ≡ v → i < length a.seats.items → was ≡ get_or a.seats.items i was → Acts a.books new was now action answer → MatchOption (slice_get v.seats i) (answer ≡ Refused BadSeat) (λ p. FitsSeat v.totals p action answer)
+fits_after a v new i was now action answer view within is acts =
+    subst (λ (u : View). MatchOption (slice_get u.seats i) (answer ≡ Refused BadSeat) (λ p. FitsSeat u.totals p action answer)) view
+    (rw (seat_there a i was within is) acts.fits)
+
+-- what is shown then is what comes next
+pub next_after : (a b : Inside) (v : View) (i : ℕ) (was now : Seat) (action : Action) (answer : Answer) → view_of_fields a ≡ v → i < length a.seats.items → was ≡ get_or a.seats.items i was → b.seats.items ≡ slice_set a.seats.items i now → Acts a.books b.books was now action answer → All (IsKnown a.books.rows.items) a.seats.items → view_of_fields b ≡ next_if v i (slice_get v.seats i) action answer
+next_after a b v i was now action answer view within is seats acts known =
+    let old_rows = a.books.rows.items in
+    let shown : map (seat_shown b.books.rows.items) b.seats.items ≡ slice_set (map (seat_shown old_rows) a.seats.items) i (next_phase (totals_of a.books) (seat_shown old_rows was) action answer) =
+    ap (map (seat_shown b.books.rows.items)) seats
+    ∙ map-set (seat_shown b.books.rows.items) a.seats.items i now
+    ∙ ap (λ ss. slice_set ss i (seat_shown b.books.rows.items now)) (ap (λ rs. map (seat_shown rs) a.seats.items) acts.grows.1 ∙ all_same_shown old_rows acts.grows.0 a.seats.items (recursion_from_All (IsKnown old_rows) a.seats.items known))
+    ∙ ap (slice_set (map (seat_shown old_rows) a.seats.items) i) acts.seat in
+    let made : view_of_fields b ≡ next_at (view_of_fields a) i (seat_shown old_rows was) action answer = λ j. record { totals = acts.totals j; seats = shown j } in
+    made ∙ sym (ap (λ o. next_if (view_of_fields a) i o action answer) (seat_there a i was within is)) ∙ ap (λ (u : View). next_if u i (slice_get u.seats i) action answer) view
+
+abbrev idle_view : ℕ → SeatView
+idle_view s = phase.Idle
+
+idle_shown : (a n : ℕ) → map (seat_shown []) (replicate n Idle) ≡ map idle_view (range_with_len a n)
+idle_shown a zero = refl
+idle_shown a (suc n) = ap (λ ss. phase.Idle ∷ ss) (idle_shown (a + 1) n)
+
+-- a store without rows, whose seats are idle
+pub fresh_view : (a : Inside) (seats : ℕ) → a.books.rows.items ≡ [] → a.seats.items ≡ replicate seats Idle → view_of_fields a ≡ view_of (record { seats = seats; request = a.books.request; commit = a.books.commit }) []
+fresh_view a seats rows idle =
+    let dataset : dataset_of a.books.rows.items ≡ empty_dataset = ap dataset_of rows in
+    let shown : map (seat_shown a.books.rows.items) a.seats.items ≡ map idle_view (range_with_len 0 seats) = rw (rows, idle) (idle_shown 0 seats) in
+    λ i. record { totals = record { dataset = dataset i; request = sym (add-zero a.books.request) i; commit = sym (add-zero a.books.commit) i }; seats = shown i }
+
+none_writing : (n : ℕ) → count_by is_writing (replicate n Idle) ≡ 0
+none_writing n = let e : count_by is_writing (replicate n Idle) ≡ n * 0 = sum_by-replicate (λ (s : Seat). cond (is_writing s) 1 0) n Idle in omega (arith, e)
+
+none_staged : (n : ℕ) → sum_by staged_by (replicate n Idle) ≡ 0
+none_staged n = let e : sum_by staged_by (replicate n Idle) ≡ n * 0 = sum_by-replicate staged_by n Idle in omega (arith, e)
+
+idle_known : (rows : List Row) (n : ℕ) → AllByRecursion (IsKnown rows) (replicate n Idle)
+idle_known rows zero = tt
+idle_known rows (suc n) = (tt, idle_known rows n)
+
+-- what holds of a store without rows, whose seats are idle
+pub fresh_kept : (a : Inside) (seats : ℕ) → a.books.rows.items ≡ [] → vec_len a.books.rows ≡ 0 → a.seats.items ≡ replicate seats Idle → a.books.triples ≡ 0 → a.books.staged ≡ 0 → IsKept a
+fresh_kept a seats rows len idle triples staged = record {
+  known = rw idle (All-from_recursion (IsKnown a.books.rows.items) (replicate seats Idle) (idle_known a.books.rows.items seats));
+  room = rw idle (omega (arith, len, none_writing seats));
+  counted = record {
+    triples = triples ∙ sym triples_in-empty ∙ sym (ap (λ rs. triples_in (dataset_of rs)) rows);
+    few = omega arith;
+  };
+  staged = staged ∙ sym (none_staged seats) ∙ sym (ap (sum_by staged_by) idle);
+}
+
+staged_shown : (rows : List Row) (s : Seat) → staged_at (seat_shown rows s) ≡ staged_by s
+staged_shown rows Idle = refl
+staged_shown rows (Writing k r g) = refl
+staged_shown rows (Reading row told) = refl
+
+all_staged_shown : (rows : List Row) (seats : List Seat) → staged_in (map (seat_shown rows) seats) ≡ sum_by staged_by seats
+all_staged_shown rows [] = refl
+all_staged_shown rows (s ∷ seats) =
+    omega (arith, sum_by-cons (λ (p : SeatView). staged_at p) (seat_shown rows s) (map (seat_shown rows) seats), sum_by-cons staged_by s seats, staged_shown rows s, all_staged_shown rows seats)
+
+-- the counts are the nodes in use
+pub nodes_kept : (a : Inside) (s : Shown) → shown_of a ≡ s → IsKept a → a.books.triples + a.books.staged ≡ nodes_in s
+nodes_kept a s view kept =
+    let own : a.books.triples + a.books.staged ≡ nodes_in (shown_of a) = omega (arith, kept.counted.triples, kept.staged, all_staged_shown a.books.rows.items a.seats.items) in
+    own ∙ ap nodes_in view

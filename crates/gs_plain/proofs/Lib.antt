@@ -1,0 +1,3 @@
+pub mod LineRuns
+pub mod RowLemmas
+pub mod KeptLemmas

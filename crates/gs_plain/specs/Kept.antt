@@ -1,0 +1,20 @@
+-- What a plain store's fields show, and what is true of them.
+use Rattle.std.specs.Prelude.{◌≡◌, ◌+◌, ◌≤◌, [], map, vec_len, vec_capacity}
+use Rattle.std.specs.List.{count_by, All, sum_by}
+use Rattle.gs_event.specs.Waste.{Shown}
+use Rattle.gs_plain.specs.declared.stores.PlainStore.TheInside.{Inside}
+use Rattle.gs_plain.specs.Books.{totals_of, seat_shown, is_writing, staged_by, IsKnown, IsCounted}
+
+-- a node there is a triple of a current graph or of an upload, so there is no waste
+abbrev pub shown_of : Inside → Shown
+shown_of a = record {
+  view = record { totals = totals_of a.books; seats = map (seat_shown a.books.rows.items) a.seats.items };
+  waste = [];
+}
+
+-- each read's row is there, there is room for the row of each upload, and the counts are right
+pub record IsKept (a : Inside) : Type 0 where
+  pub known : All (IsKnown a.books.rows.items) a.seats.items
+  pub room : vec_len a.books.rows + count_by is_writing a.seats.items ≤ vec_capacity a.books.rows
+  pub counted : IsCounted a.books
+  pub staged : a.books.staged ≡ sum_by staged_by a.seats.items

@@ -1,0 +1,10 @@
+//! The plain store: whole sorted sets of triples, each version of a graph kept.
+#![tactic(auto)]
+
+mod actions;
+mod books;
+mod graphs;
+mod stores;
+
+pub use graphs::SortedGraph;
+pub use stores::PlainStore;

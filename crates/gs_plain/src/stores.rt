@@ -1,0 +1,134 @@
+//! The plain store: its books and its seats.
+ghost use Rattle.std.specs.Prelude.{◌≡◌, [], false, IfOk, IfErr, replicate};
+ghost use Rattle.gs_event.specs.Datasets.{triples_in};
+ghost use Rattle.gs_event.specs.Views.{Fits, next_view};
+ghost use Rattle.gs_event.specs.Histories.{view_of};
+ghost use Rattle.gs_event.specs.Waste.{Reclaims, nodes_in};
+
+use crate::actions;
+use crate::books::{Books, Seat};
+use gs_event::{Action, Answer, Event};
+use gs_model::Refusal;
+use gs_run::EventStore;
+use std::alloc::{AllocError, Global};
+use std::marker::Model;
+
+/// A store that keeps each version of a graph as a whole sorted set. A contract sees what it
+/// shows, and its waste, of which it has none.
+#[derive(Drop)]
+pub struct PlainStore {
+    alloc: Global,
+    books: Books,
+    seats: Vec<Seat>,
+}
+
+impl Model for PlainStore {
+    ghost use Rattle.gs_event.specs.Waste.{Shown};
+    ghost use Rattle.gs_event.specs.Codes.{shown_code};
+
+    ghost Value = { Shown };
+
+    ghost coded = { shown_code };
+
+    ghost use Rattle.gs_plain.specs.Kept.{shown_of, IsKept};
+
+    ghost view = { shown_of };
+
+    ghost invariant = { IsKept };
+}
+
+impl PlainStore {
+    /// A store without graphs, of so many seats, whose numbers go on from these.
+    pub fn starting_at(
+        alloc: Global,
+        seats: u16,
+        commit: u64,
+        request: u64,
+    ) -> Result<PlainStore, Refusal>
+        ensures view { IfOk result (λ store. store.view ≡ view_of (record { seats = seats; request = request; commit = commit }) []) }
+        ensures waste { IfOk result (λ store. store.waste ≡ []) }
+        ensures refused { IfErr result (λ refusal. refusal ≡ Refusal.NoMemory) }
+    {
+        let idle = idle_seats(alloc, seats)?;
+        let books = Books {
+            request,
+            commit,
+            triples: 0,
+            staged: 0,
+            rows: Vec::new(alloc),
+        };
+        Ok(PlainStore {
+            alloc,
+            books,
+            seats: idle,
+        })
+    }
+
+    /// Takes one event. A refused one changes nothing.
+    pub fn step(&mut self, event: &Event) -> Answer
+        ensures fits { Fits self.old.view event.now result }
+        ensures view { self.new.view ≡ next_view self.old.view event.now result }
+        ensures waste { self.new.waste ≡ self.old.waste }
+        ensures reclaims { Reclaims self.old.waste event.now result self.new.waste }
+    {
+        match event {
+            Event::Reclaim(_) => self.reclaim(),
+            Event::Seat(seat, action) => self.act(*seat as usize, action),
+        }
+    }
+
+    /// Nodes in use: one for each triple of a current graph or of an open upload.
+    pub fn nodes_in_use(&self) -> u64
+        ensures { result ≡ nodes_in self.now }
+    {
+        self.books.triples + self.books.staged
+    }
+
+    /// Triples of the current graphs.
+    pub fn triples_now(&self) -> u64
+        ensures { result ≡ triples_in self.now.view.totals.dataset }
+    {
+        self.books.triples
+    }
+
+    /// There is nothing to free.
+    fn reclaim(&mut self) -> Answer
+        ensures answer { result ≡ Answer.Reclaimed 0 false }
+        ensures kept { self.new ≡ self.old }
+        ensures none { self.old.waste ≡ [] }
+    {
+        let _ = &self.books;
+        Answer::Reclaimed(0, false)
+    }
+
+    fn act(&mut self, seat: usize, action: &Action) -> Answer
+        ensures fits { Fits self.old.view (Event.Seat seat action.now) result }
+        ensures view { self.new.view ≡ next_view self.old.view (Event.Seat seat action.now) result }
+        ensures waste { self.new.waste ≡ self.old.waste }
+    {
+        if seat >= self.seats.len() {
+            return Answer::Refused(Refusal::BadSeat);
+        }
+        let seats = self.seats.len();
+        let held = &mut self.seats[seat];
+        actions::act(&mut self.books, held, seats, self.alloc, action)
+    }
+}
+
+impl EventStore for PlainStore {
+    ghost shows = { λ s. s.view };
+
+    fn step(&mut self, event: &Event) -> Answer {
+        self.step(event)
+    }
+}
+
+fn idle_seats(alloc: Global, count: u16) -> Result<Vec<Seat>, AllocError>
+    ensures { IfOk result (λ seats. seats.items ≡ replicate count Seat.Idle) }
+{
+    let mut seats = Vec::with_capacity(alloc, count as usize)?;
+    for _ in 0..count {
+        seats.push(Seat::Idle)?;
+    }
+    Ok(seats)
+}

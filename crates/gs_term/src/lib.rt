@@ -1,0 +1,11 @@
+//! Terms, triples and the names of graphs: no value exists that is not one.
+#![tactic(auto)]
+
+mod literals;
+mod names;
+mod terms;
+mod triples;
+
+pub use names::{GraphName, Target};
+pub use terms::TermText;
+pub use triples::Triple;

@@ -1,0 +1,116 @@
+//! Names of graphs, and what a request names.
+ghost use Rattle.std.specs.Prelude.{◌≡◌};
+ghost use Rattle.std.specs.Str.{bytes_eq};
+ghost use Rattle.std.proofs.Common.{rules};
+ghost use Rattle.std.specs.Cmp.{partial_order_from_own_ties};
+ghost use Rattle.std.specs.Cmp.Rules.{comparing};
+ghost use Rattle.std.specs.Ordering.{nat_cmp};
+ghost use Rattle.std.specs.Cmp.Lexicographic.{slice_cmp};
+ghost use Rattle.gs_term.specs.Making.{Names};
+
+use gs_iri::is_absolute;
+use gs_model::{LONGEST_NAME, Refusal};
+use std::alloc::{AllocError, Global};
+use std::cmp::Ordering;
+use std::marker::Model;
+
+/// The IRI of a named graph. A contract sees its bytes.
+#[derive(Debug, Drop)]
+pub struct GraphName {
+    bytes: Vec<u8>,
+}
+
+impl Model for GraphName {
+    ghost use Rattle.std.specs.Prelude.{List, ℕ};
+    ghost use Rattle.gs_model.specs.Iris.{IsName};
+
+    ghost Value = { List ℕ };
+
+    ghost view = { λ n. n.bytes.items };
+
+    ghost invariant = { λ n. IsName n.bytes.items };
+}
+
+impl GraphName {
+    ghost use Rattle.gs_model.specs.Iris.{IsName};
+
+    /// The name of an absolute IRI of at most 2,048 bytes. One exact allocation.
+    pub fn new(alloc: Global, text: &str) -> Result<GraphName, Refusal>
+        ensures { Names text.now result }
+    {
+        if !is_absolute(text) {
+            return Err(Refusal::Syntax(0));
+        }
+        if text.len() > LONGEST_NAME {
+            return Err(Refusal::TermTooLong);
+        }
+        let bytes = Vec::from_slice(alloc, text.as_bytes())?;
+        Ok(GraphName { bytes })
+    }
+
+    /// The bytes of the IRI.
+    pub fn as_bytes(&self) -> &[u8]
+        ensures text { result.now ≡ self.now }
+        ensures name { IsName self.now }
+    {
+        self.bytes.as_slice()
+    }
+}
+
+impl Clone for GraphName {
+    ghost is_clone = { λ s t. t ≡ s };
+
+    fn clone(&self) -> Result<GraphName, AllocError> {
+        let bytes = self.bytes.clone()?;
+        Ok(GraphName { bytes })
+    }
+}
+
+impl PartialEq for GraphName {
+    ghost eq = { bytes_eq };
+
+    ghost laws = { Prim.search (comparing, rules) };
+
+    fn eq(&self, other: &GraphName) -> bool {
+        self.bytes.as_slice() == other.bytes.as_slice()
+    }
+}
+
+impl Eq for GraphName {
+    ghost laws = { Prim.search (comparing, rules) };
+}
+
+impl Ord for GraphName {
+    ghost cmp = { slice_cmp nat_cmp };
+
+    ghost total = { Prim.search (comparing, rules) };
+
+    ghost matches_partial_cmp = { Prim.search (comparing, rules) };
+
+    ghost matches_eq = { Prim.search (comparing, rules) };
+
+    fn cmp(&self, other: &GraphName) -> Ordering {
+        self.bytes.as_slice().cmp(&other.bytes.as_slice())
+    }
+}
+
+impl PartialOrd for GraphName {
+    ghost use Rattle.std.specs.Ordering.{as_partial_cmp};
+
+    ghost partial_cmp = { as_partial_cmp (slice_cmp nat_cmp) };
+
+    ghost laws = { partial_order_from_own_ties (Prim.search (comparing, rules)) (Prim.search (comparing, rules)) };
+
+    fn partial_cmp(&self, other: &GraphName) -> Option<Ordering> {
+        Some(self.cmp(other))
+    }
+}
+
+/// The graph that a request is about (Graph Store Protocol, section 4).
+#[derive(Clone, Debug, PartialEq, Eq, Drop)]
+pub enum Target {
+    /// The default graph, which always exists.
+    Default,
+    /// The graph of this name.
+    Named(GraphName),
+}

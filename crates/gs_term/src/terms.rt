@@ -1,0 +1,214 @@
+//! The canonical text of a term.
+ghost use Rattle.std.specs.Prelude.{◌≡◌, ◌≤◌, length, IfOk};
+ghost use Rattle.std.specs.Option.{option_copied};
+ghost use Rattle.std.specs.Str.{str_to_ascii_lowercase};
+ghost use Rattle.std.proofs.Common.{rules};
+ghost use Rattle.std.specs.Cmp.{partial_order_from_own_ties};
+ghost use Rattle.std.specs.Cmp.Rules.{comparing};
+ghost use Rattle.gs_model.specs.Terms.{Iri, Blank, Literal, Typed, Tagged, text_of, IsTerm};
+ghost use Rattle.gs_model.specs.Triples.{term_cmp, term_eq, is_iri as is_iri_of, is_subject as is_subject_of};
+ghost use Rattle.gs_term.specs.Making.{Makes, MakesLiteral, given_kind};
+
+use crate::literals::{self, XSD_STRING};
+use gs_iri::is_absolute;
+use gs_model::{LONGEST_TERM, Refusal};
+use itoa::Buffer;
+use std::alloc::{AllocError, Global};
+use std::cmp::Ordering;
+use std::marker::Model;
+
+/// The canonical bytes of one IRI, blank node or literal, at most 65,535. A contract sees the
+/// term. Order is by the bytes; the first byte tells the kind: `<`, `_` or `"`.
+#[derive(Debug, Drop)]
+pub struct TermText {
+    bytes: Vec<u8>,
+}
+
+impl Model for TermText {
+    ghost use Rattle.gs_model.specs.Terms.{Term};
+    ghost use Rattle.gs_model.specs.Texts.{term_of, IsCanonical};
+
+    ghost Value = { Term };
+
+    ghost view = { λ t. term_of t.bytes.items };
+
+    ghost invariant = { λ t. IsCanonical t.bytes.items };
+}
+
+fn iri_bytes(alloc: Global, text: &str) -> Result<Vec<u8>, AllocError>
+    requires { length text.now ≤ LONGEST_TERM }
+    ensures { IfOk result (λ v. v.items ≡ text_of (Iri text.now)) }
+{
+    let mut bytes = Vec::with_capacity(alloc, text.len() + 2)?;
+    bytes.push(b'<')?;
+    bytes.extend_from_slice(text.as_bytes())?;
+    bytes.push(b'>')?;
+    Ok(bytes)
+}
+
+fn blank_bytes(alloc: Global, request: u64, number: u64) -> Result<Vec<u8>, AllocError>
+    ensures { IfOk result (λ v. v.items ≡ text_of (Blank request number)) }
+{
+    let mut first = Buffer::new();
+    let mut second = Buffer::new();
+    let first = first.format(request).as_bytes();
+    let second = second.format(number).as_bytes();
+    let mut bytes = Vec::with_capacity(alloc, first.len() + second.len() + 4)?;
+    bytes.extend_from_slice(b"_:b")?;
+    bytes.extend_from_slice(first)?;
+    bytes.push(b'_')?;
+    bytes.extend_from_slice(second)?;
+    Ok(bytes)
+}
+
+impl TermText {
+    /// The text.
+    pub fn as_bytes(&self) -> &[u8]
+        ensures text { result.now ≡ text_of self.now }
+        ensures valid { IsTerm self.now }
+    {
+        self.bytes.as_slice()
+    }
+
+    /// Whether it is an IRI, by its first byte.
+    pub fn is_iri(&self) -> bool
+        ensures { result ≡ is_iri_of self.now }
+    {
+        self.as_bytes().first() == Some(&b'<')
+    }
+
+    /// Whether it may be a subject: an IRI or a blank node, by its first byte.
+    pub fn is_subject(&self) -> bool
+        ensures { result ≡ is_subject_of self.now }
+    {
+        match self.as_bytes().first() {
+            None => false,
+            Some(b) => *b != b'"',
+        }
+    }
+
+    /// An IRI.
+    pub fn iri(alloc: Global, text: &str) -> Result<TermText, Refusal>
+        ensures { Makes (Iri text.now) result }
+    {
+        if !is_absolute(text) {
+            return Err(Refusal::Syntax(0));
+        }
+        if text.len() > LONGEST_TERM - 2 {
+            return Err(Refusal::TermTooLong);
+        }
+        let bytes = iri_bytes(alloc, text)?;
+        Ok(TermText { bytes })
+    }
+
+    /// The blank node of a request's number and its own.
+    pub fn blank(alloc: Global, request: u64, number: u64) -> Result<TermText, Refusal>
+        ensures { Makes (Blank request number) result }
+    {
+        let bytes = blank_bytes(alloc, request, number)?;
+        Ok(TermText { bytes })
+    }
+
+    /// A literal of a datatype.
+    fn typed(alloc: Global, lexical: &str, datatype: &str) -> Result<TermText, Refusal>
+        ensures { Makes (Literal lexical.now (Typed datatype.now)) result }
+    {
+        if !is_absolute(datatype) {
+            return Err(Refusal::Syntax(0));
+        }
+        if datatype.len() > LONGEST_TERM {
+            return Err(Refusal::TermTooLong);
+        }
+        let behind = literals::datatype_len(datatype);
+        let Some(count) = literals::fitting_count(lexical, behind) else {
+            return Err(Refusal::TermTooLong);
+        };
+        let mut bytes = literals::quoted_bytes(alloc, lexical, count, behind)?;
+        literals::push_datatype(&mut bytes, datatype)?;
+        Ok(TermText { bytes })
+    }
+
+    /// A literal with a language tag, which is kept in lower case.
+    fn tagged(alloc: Global, lexical: &str, tag: &str) -> Result<TermText, Refusal>
+        ensures { Makes (Literal lexical.now (Tagged (str_to_ascii_lowercase tag.now))) result }
+    {
+        if !literals::is_tag(tag.as_bytes()) {
+            return Err(Refusal::Syntax(0));
+        }
+        if tag.len() > LONGEST_TERM {
+            return Err(Refusal::TermTooLong);
+        }
+        let Some(count) = literals::fitting_count(lexical, tag.len() + 1) else {
+            return Err(Refusal::TermTooLong);
+        };
+        let mut bytes = literals::quoted_bytes(alloc, lexical, count, tag.len() + 1)?;
+        literals::push_tag(&mut bytes, tag.as_bytes())?;
+        Ok(TermText { bytes })
+    }
+
+    /// A literal with a datatype or a language tag, not both, and of `xsd:string` with neither.
+    pub fn literal(
+        alloc: Global,
+        lexical: &str,
+        datatype: Option<&str>,
+        tag: Option<&str>,
+    ) -> Result<TermText, Refusal>
+        ensures { MakesLiteral lexical.now (given_kind (option_copied datatype.entry) (option_copied tag.entry)) result }
+    {
+        match (datatype, tag) {
+            (None, None) => TermText::typed(alloc, lexical, XSD_STRING),
+            (Some(datatype), None) => TermText::typed(alloc, lexical, datatype),
+            (None, Some(tag)) => TermText::tagged(alloc, lexical, tag),
+            (Some(_), Some(_)) => Err(Refusal::Syntax(0)),
+        }
+    }
+}
+
+impl Clone for TermText {
+    ghost is_clone = { λ s t. t ≡ s };
+
+    fn clone(&self) -> Result<TermText, AllocError> {
+        let bytes = self.bytes.clone()?;
+        Ok(TermText { bytes })
+    }
+}
+
+impl PartialEq for TermText {
+    ghost eq = { term_eq };
+
+    ghost laws = { Prim.search (comparing, rules) };
+
+    fn eq(&self, other: &TermText) -> bool {
+        self.bytes.as_slice() == other.bytes.as_slice()
+    }
+}
+
+impl Eq for TermText {
+    ghost laws = { Prim.search (comparing, rules) };
+}
+
+impl Ord for TermText {
+    ghost cmp = { term_cmp };
+
+    ghost total = { Prim.search (comparing, rules) };
+
+    ghost matches_partial_cmp = { Prim.search (comparing, rules) };
+
+    ghost matches_eq = { Prim.search (comparing, rules) };
+
+    fn cmp(&self, other: &TermText) -> Ordering {
+        self.bytes.as_slice().cmp(&other.bytes.as_slice())
+    }
+}
+
+impl PartialOrd for TermText {
+    ghost use Rattle.std.specs.Ordering.{as_partial_cmp};
+
+    ghost partial_cmp = { as_partial_cmp term_cmp };
+
+    ghost laws = { partial_order_from_own_ties (Prim.search (comparing, rules)) (Prim.search (comparing, rules)) };
+
+    fn partial_cmp(&self, other: &TermText) -> Option<Ordering> {
+        Some(self.cmp(other))
+    }
+}
