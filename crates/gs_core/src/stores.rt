@@ -1,10 +1,10 @@
 //! The store, and the headline as the contract of its run.
-ghost use Rattle.std.specs.Prelude.{◌≡◌, ◌≤◌, [], true, IfOk, IfErr, OnErr, length};
+ghost use Rattle.std.specs.Prelude.{◌≡◌, ◌++◌, ◌≤◌, [], true, IfOk, IfErr, OnErr, length};
 ghost use Rattle.gs_model.specs.Bases.{is_base};
 ghost use Rattle.gs_model.specs.declared.limits.TheConstants.{LAST_NUMBER, MOST_SEATS};
 ghost use Rattle.gs_event.specs.Datasets.{triples_in};
 ghost use Rattle.gs_event.specs.Views.{Fits, next_view};
-ghost use Rattle.gs_event.specs.Histories.{Start, IsLegal, history_of, view_of};
+ghost use Rattle.gs_event.specs.Histories.{Start, History, IsLegal, history_of, view_of};
 ghost use Rattle.gs_event.specs.Waste.{Reclaims, nodes_in};
 
 use gs_event::{Answer, Event};
@@ -81,15 +81,15 @@ impl Store {
         self.plain.step(event)
     }
 
-    /// Takes events in any order. On a store that shows what a new one shows, the history of the
-    /// events with the answers is legal: the answers are those of an abstract graph store that
-    /// takes each write whole at its commit and each read whole at its pin; and the store then
-    /// shows what that history says. Room for all answers is made before the first event, so
-    /// `NoMemory` changes nothing.
+    /// Takes events in any order. On a store that shows what a legal history says, as a new store
+    /// does of the empty one, that history with the events and their answers behind it is legal:
+    /// the answers are those of an abstract graph store that takes each write whole at its commit
+    /// and each read whole at its pin; and the store then shows what the whole history says. Room
+    /// for all answers is made before the first event, so `NoMemory` changes nothing.
     pub fn run(&mut self, events: &[Event]) -> Result<Vec<Answer>, Refusal>
-        ensures legal { IfOk result (λ answers. (start : Start) → self.old.view ≡ view_of start [] → IsLegal start (history_of events.now answers.items)) }
+        ensures legal { IfOk result (λ answers. (start : Start) (before : History) → IsLegal start before → self.old.view ≡ view_of start before → IsLegal start (history_of events.now answers.items ++ before)) }
         ensures answered { IfOk result (λ answers. length answers.items ≡ length events.now) }
-        ensures view { IfOk result (λ answers. (start : Start) → self.old.view ≡ view_of start [] → self.new.view ≡ view_of start (history_of events.now answers.items)) }
+        ensures view { IfOk result (λ answers. (start : Start) (before : History) → IsLegal start before → self.old.view ≡ view_of start before → self.new.view ≡ view_of start (history_of events.now answers.items ++ before)) }
         ensures refused { IfErr result (λ refusal. refusal ≡ Refusal.NoMemory) }
         ensures kept { OnErr result (self.new.view ≡ self.old.view) }
     {

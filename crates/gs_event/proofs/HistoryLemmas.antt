@@ -160,16 +160,17 @@ history_of-push : (events : List Event) (answers : List Answer) (e : Event) (a :
 history_of-push events answers e a same = ap reverse (zip_push events answers e a same) ∙ reverse-append (zip events answers) ((e, a) ∷ [])
 
 -- one more event
-pub run_more : {start : Start} {events : List Event} {answers : List Answer} {v : View} (e : Event) (a : Answer) (w : View) → HasRun start events answers v → Fits v e a → w ≡ next_view v e a → HasRun start (events ++ e ∷ []) (answers ++ a ∷ []) w
-run_more {start = start} {events = events} {answers = answers} {v = v} e a w run fits is =
-    let grown = history_of-push events answers e a run.answered in
-    let fit : Fits (view_of start (history_of events answers)) e a = subst (λ u. Fits u e a) run.shows fits in
+pub run_more : {start : Start} {before : History} {events : List Event} {answers : List Answer} {v : View} (e : Event) (a : Answer) (w : View) → HasRun start before events answers v → Fits v e a → w ≡ next_view v e a → HasRun start before (events ++ e ∷ []) (answers ++ a ∷ []) w
+run_more {start = start} {before = before} {events = events} {answers = answers} {v = v} e a w run fits is =
+    let whole = history_of events answers ++ before in
+    let grown : history_of (events ++ e ∷ []) (answers ++ a ∷ []) ++ before ≡ (e, a) ∷ whole = ap (λ h. h ++ before) (history_of-push events answers e a run.answered) in
+    let fit : Fits (view_of start whole) e a = subst (λ u. Fits u e a) run.shows fits in
     record {
       answered = grind (arith, length-append, run.answered);
       legal = subst (IsLegal start) (sym grown) (run.legal, fit);
-      shows = is ∙ ap (λ u. next_view u e a) run.shows ∙ sym (view_of-cons start (history_of events answers) e a fit) ∙ ap (view_of start) (sym grown);
+      shows = is ∙ ap (λ u. next_view u e a) run.shows ∙ sym (view_of-cons start whole e a fit) ∙ ap (view_of start) (sym grown);
     }
 
 -- before the first event
-pub run_none : {start : Start} {v : View} → v ≡ view_of start [] → HasRun start [] [] v
-run_none {start = start} {v = v} is = record { answered = refl; legal = tt; shows = is }
+pub run_none : {start : Start} {before : History} {v : View} → IsLegal start before → v ≡ view_of start before → HasRun start before [] [] v
+run_none {start = start} {before = before} {v = v} legal is = record { answered = refl; legal = legal; shows = is }

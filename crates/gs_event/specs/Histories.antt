@@ -1,5 +1,5 @@
 -- Histories of events with their answers, and what they mean.
-use Rattle.std.specs.Prelude.{◌≡◌, ℕ, ◌+◌, List, [], ◌∷◌, map, length, nat_eq, cond, drop, Option, None, reverse}
+use Rattle.std.specs.Prelude.{◌≡◌, ℕ, ◌+◌, List, [], ◌∷◌, map, length, nat_eq, cond, drop, Option, None, reverse, ◌++◌}
 use Rattle.std.specs.List.{zip, range_with_len, count_by, cons_option}
 use Rattle.gs_term.specs.declared.names.Target.{Target}
 use Rattle.gs_event.specs.declared.events.Event.{Event}
@@ -82,8 +82,9 @@ IsLegal start (x ∷ before) = IsLegal start before × Fits (view_of start befor
 abbrev pub history_of : List Event → List Answer → History
 history_of events answers = reverse (zip events answers)
 
--- these answers to these events are legal, and the store then shows what their history says
-pub record HasRun (start : Start) (events : List Event) (answers : List Answer) (shown : View) : Type 0 where
+-- on a history before them, these answers to these events are legal, and the store then shows what the
+-- whole history says
+pub record HasRun (start : Start) (before : History) (events : List Event) (answers : List Answer) (shown : View) : Type 0 where
   pub answered : length answers ≡ length events
-  pub legal : IsLegal start (history_of events answers)
-  pub shows : shown ≡ view_of start (history_of events answers)
+  pub legal : IsLegal start (history_of events answers ++ before)
+  pub shows : shown ≡ view_of start (history_of events answers ++ before)

@@ -5,7 +5,7 @@ ghost use Rattle.gs_model.specs.Characters.{is_iri_char};
 ghost use Rattle.gs_model.specs.Iris.{is_absolute as is_absolute_text, is_letter as is_letter_of, is_scheme_char as is_scheme_char_of, is_scheme_rest as is_scheme_rest_of};
 
 /// A letter of ASCII.
-fn is_letter(b: u8) -> bool
+pub fn is_letter(b: u8) -> bool
     ensures { result ≡ is_letter_of b }
 {
     b.is_ascii_alphabetic()
@@ -26,10 +26,17 @@ fn is_iri_byte(b: u8) -> bool
 }
 
 /// Whether all are bytes of IRI characters.
-fn are_iri_bytes(bytes: &[u8]) -> bool
+pub fn are_iri_bytes(bytes: &[u8]) -> bool
     ensures { result ≡ list_all is_iri_char bytes.now }
 {
     bytes.iter().all(|b| is_iri_byte(*b))
+}
+
+/// Whether all may go on with a scheme.
+pub fn are_scheme_bytes(bytes: &[u8]) -> bool
+    ensures { result ≡ list_all is_scheme_char_of bytes.now }
+{
+    bytes.iter().all(|b| is_scheme_char(*b))
 }
 
 /// The rest of a scheme, `:`, and IRI characters.

@@ -1,8 +1,12 @@
-//! IRIs: which texts are absolute.
+//! IRIs: which texts are absolute, and what a reference means under a base.
 #![tactic(auto)]
 
 mod absolute;
+mod dots;
 mod laws;
+mod references;
+mod resolving;
 
 pub use absolute::is_absolute;
-pub use laws::{absolute_by_characters, absolute_is};
+pub use laws::{absolute_by_characters, absolute_is, parts_rejoin, resolved_is_absolute};
+pub use resolving::resolve;

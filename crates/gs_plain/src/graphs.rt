@@ -1,5 +1,5 @@
 //! A graph as a sorted list of triples.
-ghost use Rattle.std.specs.Prelude.{◌≡◌, ◌==◌, ◌++◌, ◌+◌, ◌≤◌, OnOk, OnErr, IfOk, take, drop, length, map};
+ghost use Rattle.std.specs.Prelude.{◌≡◌, ◌++◌, ◌+◌, ◌≤◌, OnOk, OnErr, IfOk, take, drop, length, map};
 ghost use Rattle.std.specs.List.{concat};
 ghost use Rattle.std.specs.List.Sorted.{IsStrictlySortedBy};
 ghost use Rattle.gs_model.specs.Triples.{line_of, triple_cmp};
@@ -46,13 +46,6 @@ impl SortedGraph {
         ensures { result ≡ size_of self.now }
     {
         self.triples.len()
-    }
-
-    /// Whether it has no triple.
-    pub fn is_empty(&self) -> bool
-        ensures { result ≡ (size_of self.now == 0) }
-    {
-        self.len() == 0
     }
 
     /// Adds triples, in any order and with repeats. Sorts the whole list, so it takes

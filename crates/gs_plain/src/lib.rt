@@ -6,5 +6,4 @@ mod books;
 mod graphs;
 mod stores;
 
-pub use graphs::SortedGraph;
 pub use stores::PlainStore;

@@ -1,7 +1,7 @@
 //! A store takes one event at a time; a run takes a list of them.
-ghost use Rattle.std.specs.Prelude.{◌≡◌, [], IfOk, IfErr, OnErr, length};
+ghost use Rattle.std.specs.Prelude.{◌≡◌, ◌++◌, IfOk, IfErr, OnErr, length};
 ghost use Rattle.gs_event.specs.Views.{Fits, next_view};
-ghost use Rattle.gs_event.specs.Histories.{Start, IsLegal, history_of, view_of};
+ghost use Rattle.gs_event.specs.Histories.{Start, History, IsLegal, history_of, view_of};
 
 use gs_event::{Answer, Event};
 use gs_model::Refusal;
@@ -21,17 +21,18 @@ pub trait EventStore {
         ensures view { shows self.new ≡ next_view (shows self.old) event.now result };
 }
 
-/// Takes events in order. Where the store shows what one without graphs shows, the history of
-/// the events with the answers is legal, and the store then shows what that history says. Room
-/// for all answers is made before the first event, so `NoMemory` changes nothing.
+/// Takes events in order. Where the store shows what a legal history says, as a new store does of
+/// the empty one, that history with the events and their answers behind it is legal, and the store
+/// then shows what it says. Room for all answers is made before the first event, so `NoMemory`
+/// changes nothing.
 pub fn run<S: EventStore>(
     alloc: Global,
     store: &mut S,
     events: &[Event],
 ) -> Result<Vec<Answer>, Refusal>
-    ensures legal { IfOk result (λ answers. (start : Start) → S.shows store.old ≡ view_of start [] → IsLegal start (history_of events.now answers.items)) }
+    ensures legal { IfOk result (λ answers. (start : Start) (before : History) → IsLegal start before → S.shows store.old ≡ view_of start before → IsLegal start (history_of events.now answers.items ++ before)) }
     ensures answered { IfOk result (λ answers. length answers.items ≡ length events.now) }
-    ensures view { IfOk result (λ answers. (start : Start) → S.shows store.old ≡ view_of start [] → S.shows store.new ≡ view_of start (history_of events.now answers.items)) }
+    ensures view { IfOk result (λ answers. (start : Start) (before : History) → IsLegal start before → S.shows store.old ≡ view_of start before → S.shows store.new ≡ view_of start (history_of events.now answers.items ++ before)) }
     ensures refused { IfErr result (λ refusal. refusal ≡ Refusal.NoMemory) }
     ensures kept { OnErr result (S.shows store.new ≡ S.shows store.old) }
 {

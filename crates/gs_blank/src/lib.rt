@@ -1,0 +1,6 @@
+//! The numbers of the blank nodes of one body.
+#![tactic(auto)]
+
+mod numbering;
+
+pub use numbering::Numbering;

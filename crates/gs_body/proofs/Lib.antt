@@ -1,0 +1,2 @@
+pub mod Cuttings
+pub mod LeadingLemmas

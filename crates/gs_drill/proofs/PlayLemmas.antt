@@ -1,0 +1,149 @@
+-- How a command, a line and a run of lines come out.
+use Rattle.std.proofs.Common.{◌≡◌, ℕ, ◌+◌, ◌<◌, ◌≤◌, Bool, true, false, ◌==◌, suc, List, [], ◌∷◌, ◌++◌, length, Option, Some, Result, Ok, Err, refl, sym, ap, ◌∙◌, subst, append_assoc, append-nil, arith, length-append}
+use Rattle.std.proofs.lemmas.Bool.Decides.{nat_tests}
+use Rattle.std.specs.Io.KnownBytes.{Appends}
+use Rattle.gs_model.specs.Texts.{split_first}
+use Rattle.gs_event.specs.declared.events.Event.{Event}
+use Rattle.gs_event.specs.Datasets.{triples_in}
+use Rattle.gs_event.specs.Waste.{Shown, nodes_in}
+use Rattle.gs_drill.specs.declared.commands.Command.{Command}
+use Rattle.gs_drill.specs.declared.commands.Command.TheVariants.{Ask, Count}
+use Rattle.gs_drill.specs.declared.drills.Stop.{Stop}
+use Rattle.gs_drill.specs.declared.drills.Stop.TheVariants.{NoCommand, NoMemory, Failed}
+use Rattle.gs_drill.specs.Commands.{Says, lines_in}
+use Rattle.gs_drill.specs.Printing.{WritesFront, counts_text}
+use Rattle.gs_drill.specs.Drills.{State, Asks, Does, Takes, Plays, Finishes, Halts, first_state}
+use Rattle.gs_drill.specs.Taking.{Tells, TellsFront, DoesCommand, TakesLine, EndsBy}
+use Rattle.gs_drill.proofs.WritingLemmas.{Appends-append, Appends-none, WritesFront-next}
+use Rattle.gs_drill.proofs.RowLemmas.{late_none}
+use Rattle.gs_drill.proofs.DrillLemmas.{Plays-more, lines_in-split, length-split}
+
+pub ask_fails : (s : State) (event : Event) (after : Shown) (old new : Option (List ℕ)) (text : List ℕ) → Asks s.shown event text after → WritesFront old new text → TellsFront (Does s (Ask event)) old new
+ask_fails s event after old new text asks w = record { text = text; last = record { begun = true; shown = after }; makes = (refl, asks); written = w }
+
+pub count_fails : (s : State) (old new : Option (List ℕ)) (nodes triples : ℕ) → nodes ≡ nodes_in s.shown → triples ≡ triples_in s.shown.view.totals.dataset → WritesFront old new (counts_text nodes triples) → TellsFront (Does s Count) old new
+count_fails s old new nodes triples p q w = record {
+  text = counts_text nodes triples;
+  last = record { begun = true; shown = s.shown };
+  makes = (refl, refl, ap (λ n. counts_text n triples) p ∙ ap (counts_text (nodes_in s.shown)) q);
+  written = w;
+}
+
+-- what a command does is what its line does
+pub does_takes : {X : Type 0} (s t : State) (command : Command) (line : List ℕ) (old new : Option (List ℕ)) (r : Result X Stop) → Says command line → DoesCommand s command t old new r → TakesLine s line t old new r
+does_takes s t command line old new (Ok x) says does = record { text = does.text; makes = record { command = command; says = says; does = does.makes }; written = does.written }
+does_takes s t command line old new (Err NoCommand) says does = (late_none s command line says does.0, does.1)
+does_takes s t command line old new (Err NoMemory) says does = does
+does_takes s t command line old new (Err Failed) says does = record { text = does.text; last = does.last; makes = record { command = command; says = says; does = does.makes }; written = does.written }
+
+length-snoc : (xs : List (List ℕ)) (x : List ℕ) → length (xs ++ x ∷ []) ≡ length xs + 1
+length-snoc xs x = length-append xs (x ∷ [])
+
+-- the first n lines of an input are played, and these bytes are left
+pub record Playing (input rest : List ℕ) (n : ℕ) (s : State) (old new : Option (List ℕ)) : Type 0 where
+  pub before : List (List ℕ)
+  pub text : List ℕ
+  pub parts : lines_in input ≡ before ++ lines_in rest
+  pub number : n ≡ length before
+  pub room : n + length rest ≤ length input
+  pub plays : Plays first_state before text s
+  pub written : Appends old new text
+
+pub Playing-none : (input : List ℕ) (s : State) (old : Option (List ℕ)) → s ≡ first_state → Playing input input 0 s old old
+Playing-none input s old same = record {
+  before = [];
+  text = [];
+  parts = refl;
+  number = refl;
+  room = omega arith;
+  plays = (refl, same);
+  written = Appends-none old;
+}
+
+-- the next line is cut off
+next_line : (input rest : List ℕ) (before : List (List ℕ)) → lines_in input ≡ before ++ lines_in rest → ¬ (rest ≡ []) → lines_in input ≡ before ++ (split_first 10 rest).0 ∷ lines_in (split_first 10 rest).1
+next_line input rest before parts some = parts ∙ ap (λ z. before ++ z) (lines_in-split rest some)
+
+pub Playing-more : (input rest line after : List ℕ) (n : ℕ) (s t : State) (old mid new : Option (List ℕ)) → Playing input rest n s old mid → ¬ (rest ≡ [])
+    → line ≡ (split_first 10 rest).0 → after ≡ (split_first 10 rest).1 → Tells (λ text. Takes s line text t) mid new → Playing input after (n + 1) t old new
+Playing-more input rest line after n s t old mid new p some line_is after_is tells =
+    let cut : lines_in input ≡ p.before ++ line ∷ lines_in after =
+    next_line input rest p.before p.parts some ∙ ap (λ z. p.before ++ z ∷ lines_in (split_first 10 rest).1) (sym line_is) ∙ ap (λ z. p.before ++ line ∷ lines_in z) (sym after_is) in
+    let shorter : length (split_first 10 rest).1 < length rest = length-split rest some in
+    let same : length after ≡ length (split_first 10 rest).1 = ap length after_is in
+    let room = p.room in
+    record {
+      before = p.before ++ line ∷ [];
+      text = p.text ++ tells.text;
+      parts = cut ∙ sym (append_assoc p.before (line ∷ []) (lines_in after));
+      number = ap (λ k. k + 1) p.number ∙ sym (length-snoc p.before line);
+      room = omega arith;
+      plays = Plays-more p.before first_state s t p.text line tells.text p.plays tells.makes;
+      written = Appends-append old mid new p.text tells.text p.written tells.written;
+    }
+
+pub Playing-all : (input rest : List ℕ) (n : ℕ) (s : State) (old new : Option (List ℕ)) → Playing input rest n s old new → rest ≡ [] → Finishes (Some input) old new
+Playing-all input rest n s old new p none =
+    let all : p.before ≡ lines_in input = sym (append-nil p.before) ∙ ap (λ z. p.before ++ lines_in z) (sym none) ∙ sym p.parts in
+    let P : List (List ℕ) → Type 0 = λ z. Plays first_state z p.text s in
+    record { input = input; read = refl; text = p.text; last = s; plays = subst P all p.plays; written = p.written }
+
+pub Playing-ends : (input rest line : List ℕ) (n : ℕ) (s t : State) (old mid new : Option (List ℕ)) (stop : Stop) → Playing input rest n s old mid → ¬ (rest ≡ []) → line ≡ (split_first 10 rest).0
+    → TakesLine s line t mid new {X = Unit {0}} (Err stop) → EndsBy (Some input) old new stop (n + 1)
+Playing-ends input rest line n s t old mid new NoCommand p some line_is takes = record {
+  input = input;
+  read = refl;
+  before = p.before;
+  line = line;
+  behind = lines_in (split_first 10 rest).1;
+  parts = next_line input rest p.before p.parts some ∙ ap (λ z. p.before ++ z ∷ lines_in (split_first 10 rest).1) (sym line_is);
+  number = ap (λ k. k + 1) p.number;
+  text = p.text;
+  last = s;
+  plays = p.plays;
+  refused = takes.0;
+  written = let w : Appends old new (p.text ++ []) = Appends-append old mid new p.text [] p.written takes.1 in subst (λ (z : List ℕ). Appends old new z) (append-nil p.text) w;
+}
+Playing-ends input rest line n s t old mid new NoMemory p some line_is takes = record {
+  input = input;
+  read = refl;
+  before = p.before;
+  behind = lines_in rest;
+  parts = p.parts;
+  text = p.text;
+  last = s;
+  plays = p.plays;
+  written = let w : Appends old new (p.text ++ []) = Appends-append old mid new p.text [] p.written takes in subst (λ (z : List ℕ). Appends old new z) (append-nil p.text) w;
+}
+Playing-ends input rest line n s t old mid new Failed p some line_is takes = record {
+  input = input;
+  read = refl;
+  before = p.before ++ line ∷ [];
+  behind = lines_in (split_first 10 rest).1;
+  parts = next_line input rest p.before p.parts some ∙ ap (λ z. p.before ++ z ∷ lines_in (split_first 10 rest).1) (sym line_is) ∙ sym (append_assoc p.before (line ∷ []) (lines_in (split_first 10 rest).1));
+  text = p.text ++ takes.text;
+  last = takes.last;
+  plays = Plays-more p.before first_state s takes.last p.text line takes.text p.plays takes.makes;
+  written = WritesFront-next old mid new p.text takes.text p.written takes.written;
+}
+
+-- before the first line
+pub Halts-none : (input : List ℕ) (old : Option (List ℕ)) → Halts (Some input) old old
+Halts-none input old = record { input = input; read = refl; before = []; behind = lines_in input; parts = refl; text = []; last = first_state; plays = (refl, refl); written = Appends-none old }
+
+positive : (n : ℕ) → (suc n == 0) ≡ false
+positive n = grind (arith, nat_tests)
+
+pub filled : (x : List ℕ) (b : Bool) → b ≡ (length x == 0) → b ≡ false → ¬ (x ≡ [])
+filled x b is some e =
+    let zero : b ≡ true = is ∙ ap (λ z. length z == 0) e in
+    let clash : false ≡ true = sym some ∙ zero in cc
+
+pub emptied : (x : List ℕ) (b : Bool) → b ≡ (length x == 0) → b ≡ true → x ≡ []
+emptied [] b is none = refl
+emptied (c ∷ cs) b is none =
+    let some : b ≡ false = is ∙ positive (length cs) in
+    let clash : true ≡ false = sym none ∙ some in absurd (cc)
+
+pub shorter : (x after : List ℕ) → ¬ (x ≡ []) → after ≡ (split_first 10 x).1 → length after < length x
+shorter x after some is = let P : List ℕ → Type 0 = λ z. length z < length x in subst P (sym is) (length-split x some)

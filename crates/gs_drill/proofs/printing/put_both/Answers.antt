@@ -1,0 +1,12 @@
+use Rattle.gs_drill.proofs.WritingLemmas.{WritesFront-more, Writes-next}
+use Rattle.gs_drill.proofs.printing.put_both.Goals as goal
+
+pub returns-in-Ok : goal.returns-in-Ok
+returns-in-Ok g c =
+    let held = g.W.Write.contents in
+    Writes-next (held c.args.out.now) (held c.put.new.out) (held c.put-in-Ok.new.out) (c.args.a.now) (c.args.b.now) c.put-in-Ok.result c.in-Ok.ensures c.put-in-Ok.ensures
+
+pub returns-in-Err : goal.returns-in-Err
+returns-in-Err g c =
+    let held = g.W.Write.contents in
+    WritesFront-more (held c.args.out.now) (held c.put.new.out) (c.args.a.now) (c.args.b.now) c.in-Err.ensures

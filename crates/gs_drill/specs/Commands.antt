@@ -1,0 +1,94 @@
+-- What a line of a schedule says. Words are parted by one space.
+use Rattle.std.specs.Prelude.{◌≡◌, ℕ, ◌≤◌, ◌^◌, ◌-◌, Bool, true, ◌==◌, List, [], ◌∷◌, ◌++◌, codes, if◌then◌else◌}
+use Rattle.std.specs.Str.{IsUtf8}
+use Rattle.gs_model.specs.declared.limits.TheConstants.{LAST_NUMBER, MOST_SEATS}
+use Rattle.gs_model.specs.Iris.{IsName}
+use Rattle.gs_model.specs.Terms.{numeral}
+use Rattle.gs_model.specs.Triples.{Statement, IsTriple, line_of}
+use Rattle.gs_term.specs.declared.names.Target.{Target}
+use Rattle.gs_term.specs.declared.names.Target.TheVariants.{Default, Named}
+use Rattle.gs_event.specs.declared.events.Kind.{Kind}
+use Rattle.gs_event.specs.declared.events.Kind.TheVariants.{Put}
+use Rattle.gs_event.specs.declared.events.Action.{Action}
+use Rattle.gs_event.specs.declared.events.Action.TheVariants.{Open, Stage, Commit, Pin, Piece, Cancel}
+use Rattle.gs_event.specs.declared.events.Event.{Event}
+use Rattle.gs_event.specs.declared.events.Event.TheVariants.{Seat as At, Reclaim}
+use Rattle.gs_drill.specs.declared.commands.Command.{Command}
+use Rattle.gs_drill.specs.declared.commands.Command.TheVariants.{Nothing, Begin, Ask, Count}
+use Rattle.gs_drill.specs.Found.{SaysNumber}
+
+abbrev pub before_first : ℕ → List (List ℕ) → List (List ℕ)
+before_first c [] = (c ∷ []) ∷ []
+before_first c (x ∷ xs) = (c ∷ x) ∷ xs
+
+-- the lines of an input: each ends with a line feed, which the last may lack
+abbrev pub lines_in : List ℕ → List (List ℕ)
+lines_in [] = []
+lines_in (c ∷ cs) = if c == 10 then [] ∷ lines_in cs else before_first c (lines_in cs)
+
+-- a word with a space behind it, and then what the rest says
+pub record Behind (word : List ℕ) (Says : List ℕ → Type 0) (x : List ℕ) : Type 0 where
+  pub rest : List ℕ
+  pub parts : x ≡ word ++ rest
+  pub says : Says rest
+
+-- the name of a graph, as it is
+abbrev pub SaysName : List ℕ → List ℕ → Type 0
+SaysName name x = (x ≡ name) × IsName name
+
+-- `default`, or a name between `<` and `>`
+abbrev pub SaysTarget : Target → List ℕ → Type 0
+SaysTarget Default x = x ≡ codes "default"
+SaysTarget (Named name) x = (x ≡ 60 ∷ name ++ 62 ∷ []) × IsName name
+
+-- what an upload is opened for
+abbrev pub SaysKind : Kind → List ℕ → Type 0
+SaysKind (Put t) x = Behind (codes "put ") (SaysTarget t) x
+
+-- a triple, by its canonical line
+abbrev pub SaysLine : Statement → List ℕ → Type 0
+SaysLine t x = (line_of t ≡ x) × IsTriple t
+
+-- a triple, by its canonical line without the line feed
+abbrev pub SaysTriple : Statement → List ℕ → Type 0
+SaysTriple t x = SaysLine t (x ++ 10 ∷ [])
+
+-- one triple
+abbrev pub SaysTriples : List Statement → List ℕ → Type 0
+SaysTriples [] x = ⊥
+SaysTriples (t ∷ []) x = SaysTriple t x
+SaysTriples (t ∷ u ∷ ts) x = ⊥
+
+-- the action of a seat
+abbrev pub SaysAction : Action → List ℕ → Type 0
+SaysAction (Open k) x = Behind (codes "open ") (SaysKind k) x
+SaysAction (Stage ts) x = Behind (codes "stage ") (SaysTriples ts.items) x
+SaysAction Commit x = x ≡ codes "commit"
+SaysAction (Pin t) x = Behind (codes "pin ") (SaysTarget t) x
+SaysAction (Piece n) x = Behind (codes "piece ") (SaysNumber (2 ^ 32 - 1) n) x
+SaysAction Cancel x = x ≡ codes "cancel"
+
+-- an event: a seat's number and its action, or `reclaim` and a number
+abbrev pub SaysEvent : Event → List ℕ → Type 0
+SaysEvent (At s action) x = (s ≤ 2 ^ 16 - 1) × Behind (numeral s ++ 32 ∷ []) (SaysAction action) x
+SaysEvent (Reclaim n) x = Behind (codes "reclaim ") (SaysNumber (2 ^ 64 - 1) n) x
+
+-- how many seats, and the numbers of the last commit and of the last request
+pub record SaysStart (seats commit request : ℕ) (x : List ℕ) : Type 0 where
+  pub parts : x ≡ numeral seats ++ 32 ∷ (numeral commit ++ 32 ∷ numeral request)
+  pub some : 1 ≤ seats
+  pub most : seats ≤ MOST_SEATS
+  pub commit_left : commit ≤ LAST_NUMBER
+  pub request_left : request ≤ LAST_NUMBER
+
+-- an empty line, or one that begins with '#'
+abbrev pub is_skipped : List ℕ → Bool
+is_skipped [] = true
+is_skipped (c ∷ cs) = c == 35
+
+-- what a line says
+abbrev pub Says : Command → List ℕ → Type 0
+Says Nothing x = (is_skipped x ≡ true) × IsUtf8 x
+Says (Begin seats commit request) x = Behind (codes "store ") (SaysStart seats commit request) x
+Says (Ask event) x = SaysEvent event x
+Says Count x = x ≡ codes "counts"

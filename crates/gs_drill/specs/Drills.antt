@@ -1,0 +1,122 @@
+-- What a run of a schedule's lines writes.
+use Rattle.std.specs.Prelude.{◌≡◌, ℕ, ◌+◌, Bool, true, false, List, [], ◌∷◌, ◌++◌, length, Option, None, Some}
+use Rattle.std.specs.Io.KnownBytes.{Appends}
+use Rattle.gs_event.specs.declared.events.Event.{Event}
+use Rattle.gs_event.specs.declared.answers.Answer.{Answer}
+use Rattle.gs_event.specs.Datasets.{triples_in}
+use Rattle.gs_event.specs.Views.{Fits, next_view}
+use Rattle.gs_event.specs.Histories.{Start, view_of}
+use Rattle.gs_event.specs.Waste.{Shown, Reclaims, nodes_in}
+use Rattle.gs_drill.specs.declared.commands.Command.{Command}
+use Rattle.gs_drill.specs.declared.commands.Command.TheVariants.{Nothing, Begin, Ask, Count}
+use Rattle.gs_drill.specs.Commands.{Says, lines_in}
+use Rattle.gs_drill.specs.Printing.{answer_text, counts_text, no_command_text, WritesFront}
+
+-- between two lines: whether a command came before, and what the store shows
+pub record State : Type 0 where
+  pub begun : Bool
+  pub shown : Shown
+
+-- what a store shows that has no graph yet
+abbrev pub new_store : Start → Shown
+new_store start = record { view = view_of start []; waste = [] }
+
+-- before the first line: four seats, and no number given out
+abbrev pub first_state : State
+first_state = record { begun = false; shown = new_store (record { seats = 4; request = 0; commit = 0 }) }
+
+-- an event is answered, and the answer is printed
+pub record Asks (before : Shown) (event : Event) (text : List ℕ) (after : Shown) : Type 0 where
+  pub answer : Answer
+  pub fits : Fits before.view event answer
+  pub view : after.view ≡ next_view before.view event answer
+  pub waste : Reclaims before.waste event answer after.waste
+  pub told : text ≡ answer_text answer
+
+-- what a command prints, and the state that it leaves: a store begins only before any other command
+abbrev pub Does : State → Command → List ℕ → State → Type 0
+Does s Nothing text t = (text ≡ []) × (t ≡ s)
+Does s (Begin seats commit request) text t =
+    (s.begun ≡ false) × (text ≡ []) × (t ≡ record { begun = true; shown = new_store (record { seats = seats; request = request; commit = commit }) })
+Does s (Ask event) text t = (t.begun ≡ true) × Asks s.shown event text t.shown
+Does s Count text t = (t.begun ≡ true) × (t.shown ≡ s.shown) × (text ≡ counts_text (nodes_in s.shown) (triples_in s.shown.view.totals.dataset))
+
+-- a line says a command, which is done
+pub record Takes (s : State) (line text : List ℕ) (t : State) : Type 0 where
+  pub command : Command
+  pub says : Says command line
+  pub does : Does s command text t
+
+-- lines in their order, all that they print, and the state that they leave
+abbrev pub Plays : State → List (List ℕ) → List ℕ → State → Type 0
+Plays s [] text t = (text ≡ []) × (t ≡ s)
+Plays s (line ∷ lines) text t = (u : State) × (first : List ℕ) × (rest : List ℕ) × (text ≡ first ++ rest) × Takes s line first u × Plays u lines rest t
+
+-- a line is no command where it stands: it says nothing, or it begins a store behind another command
+abbrev pub IsLate : State → Command → Type 0
+IsLate s Nothing = ⊥
+IsLate s (Begin seats commit request) = s.begun ≡ true
+IsLate s (Ask event) = ⊥
+IsLate s Count = ⊥
+
+abbrev pub IsNoCommand : State → List ℕ → Type 0
+IsNoCommand s line = (command : Command) → Says command line → IsLate s command
+
+-- the input is what a reader had left, if it tells
+abbrev pub IsRead : Option (List ℕ) → List ℕ → Type 0
+IsRead None input = Unit {0}
+IsRead (Some bytes) input = input ≡ bytes
+
+-- each line of the input is a command, and what they print is written
+pub record Finishes (given old new : Option (List ℕ)) : Type 0 where
+  pub input : List ℕ
+  pub read : IsRead given input
+  pub text : List ℕ
+  pub last : State
+  pub plays : Plays first_state (lines_in input) text last
+  pub written : Appends old new text
+
+-- the lines before line n are commands, and what they print is written; line n is no command
+pub record Stops (given : Option (List ℕ)) (n : ℕ) (old new : Option (List ℕ)) : Type 0 where
+  pub input : List ℕ
+  pub read : IsRead given input
+  pub before : List (List ℕ)
+  pub line : List ℕ
+  pub behind : List (List ℕ)
+  pub parts : lines_in input ≡ before ++ line ∷ behind
+  pub number : n ≡ length before + 1
+  pub text : List ℕ
+  pub last : State
+  pub plays : Plays first_state before text last
+  pub refused : IsNoCommand last line
+  pub written : Appends old new text
+
+-- the same, and it is said
+pub record SaysStop (given old new said_old said_new : Option (List ℕ)) : Type 0 where
+  pub line_number : ℕ
+  pub stops : Stops given line_number old new
+  pub said : Appends said_old said_new (no_command_text line_number)
+
+-- some first lines are commands, and what they print is written
+pub record Halts (given old new : Option (List ℕ)) : Type 0 where
+  pub input : List ℕ
+  pub read : IsRead given input
+  pub before : List (List ℕ)
+  pub behind : List (List ℕ)
+  pub parts : lines_in input ≡ before ++ behind
+  pub text : List ℕ
+  pub last : State
+  pub plays : Plays first_state before text last
+  pub written : Appends old new text
+
+-- the same, where a front of what they print is written
+pub record Breaks (given old new : Option (List ℕ)) : Type 0 where
+  pub input : List ℕ
+  pub read : IsRead given input
+  pub before : List (List ℕ)
+  pub behind : List (List ℕ)
+  pub parts : lines_in input ≡ before ++ behind
+  pub text : List ℕ
+  pub last : State
+  pub plays : Plays first_state before text last
+  pub written : WritesFront old new text

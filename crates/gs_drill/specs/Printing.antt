@@ -1,0 +1,45 @@
+-- What the answers of a store print.
+use Rattle.std.specs.Prelude.{◌≡◌, ℕ, List, [], ◌∷◌, ◌++◌, if◌then◌else◌, codes, Option, None, Some, Result, MatchResult}
+use Rattle.std.specs.Io.KnownBytes.{Appends}
+use Rattle.gs_model.specs.Terms.{numeral}
+use Rattle.gs_model.specs.Refusals.{name_of}
+use Rattle.gs_event.specs.declared.answers.Answer.{Answer}
+use Rattle.gs_event.specs.declared.answers.Answer.TheVariants.{Opened, Staged, Status, Pinned, Lines, Cancelled, Reclaimed, Refused}
+
+-- what stands behind a status: a space and the name of the graph that was made up, if one was
+abbrev pub location_text : Option (List ℕ) → List ℕ
+location_text None = []
+location_text (Some name) = 32 ∷ name
+
+-- one line; the lines of a piece, and then a line
+abbrev pub answer_text : Answer → List ℕ
+answer_text (Opened r) = codes "opened " ++ numeral r ++ 10 ∷ []
+answer_text Staged = codes "staged" ++ 10 ∷ []
+answer_text (Status s name) = numeral s ++ location_text name ++ 10 ∷ []
+answer_text (Pinned s) = numeral s ++ 10 ∷ []
+answer_text (Lines lines is_end) = lines.items ++ (if is_end then codes "end" else codes "more") ++ 10 ∷ []
+answer_text Cancelled = codes "cancelled" ++ 10 ∷ []
+answer_text (Reclaimed freed left) = codes "reclaimed " ++ numeral freed ++ (if left then codes " more" else codes " done") ++ 10 ∷ []
+answer_text (Refused refusal) = codes "refused " ++ name_of refusal ++ 10 ∷ []
+
+-- the nodes in use, and the triples of all graphs
+abbrev pub counts_text : ℕ → ℕ → List ℕ
+counts_text nodes triples = codes "nodes " ++ numeral nodes ++ (codes " triples " ++ numeral triples) ++ 10 ∷ []
+
+-- what is said of a line that is no command, and of want of memory
+abbrev pub no_command_text : ℕ → List ℕ
+no_command_text line = codes "gsdrill: line " ++ numeral line ++ codes " is no command" ++ 10 ∷ []
+
+abbrev pub no_memory_text : List ℕ
+no_memory_text = codes "gsdrill: no memory" ++ 10 ∷ []
+
+-- a front of the text is written
+pub record WritesFront (old new : Option (List ℕ)) (text : List ℕ) : Type 0 where
+  pub told : List ℕ
+  pub rest : List ℕ
+  pub parts : text ≡ told ++ rest
+  pub appends : Appends old new told
+
+-- the text is written; where that fails, a front of it
+abbrev pub Writes : {X E : Type 0} → Option (List ℕ) → Option (List ℕ) → List ℕ → Result X E → Type 0
+Writes old new text written = MatchResult written (λ _. Appends old new text) (λ _. WritesFront old new text)

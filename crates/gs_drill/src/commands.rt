@@ -1,0 +1,206 @@
+//! What a line of a schedule says.
+ghost use Rattle.std.specs.Prelude.{◌≡◌, ◌≤◌, ◌^◌, ◌-◌, ◌++◌, ◌∷◌, [], List, ℕ, IfOk, MatchOption, codes};
+ghost use Rattle.gs_model.specs.Triples.{Statement};
+ghost use Rattle.gs_drill.specs.Found.{Finds, SaysNumber};
+ghost use Rattle.gs_drill.specs.Commands.{SaysName, SaysTarget, SaysKind, SaysTriple, SaysAction, SaysEvent, SaysStart, Says, is_skipped as is_skipped_line};
+ghost use Rattle.gs_event.specs.declared.events.Action.{Action as AnAction};
+
+use crate::lines::read_line;
+use crate::words::{behind, number, split};
+use gs_event::{Action, Event, Kind};
+use gs_model::{LAST_NUMBER, MOST_SEATS, Refusal};
+use gs_term::{GraphName, Target, Triple};
+use std::alloc::{AllocError, Global};
+
+/// What a line says.
+#[derive(Debug, Drop)]
+pub enum Command {
+    /// An empty line, or one that begins with `#`.
+    Nothing,
+    /// Seats, and the numbers of the last commit and of the last request: where the store begins.
+    Begin(u16, u64, u64),
+    /// An event for the store.
+    Ask(Event),
+    /// The nodes in use, and the triples of all graphs.
+    Count,
+}
+
+/// The name of a graph, where the bytes are one.
+fn read_name(alloc: Global, bytes: &[u8]) -> Result<Option<GraphName>, AllocError>
+    ensures { IfOk result (Finds SaysName bytes.now) }
+{
+    let Ok(text) = str::from_utf8(bytes) else {
+        return Ok(None);
+    };
+    match GraphName::new(alloc, text) {
+        Ok(name) => Ok(Some(name)),
+        Err(Refusal::NoMemory) => Err(AllocError),
+        Err(_) => Ok(None),
+    }
+}
+
+/// What stands between `<` and `>`.
+fn between(text: &[u8]) -> Option<&[u8]>
+    ensures { MatchOption result ((name : List ℕ) → ¬ (text.now ≡ 60 ∷ name ++ 62 ∷ [])) (λ name. text.now ≡ 60 ∷ name.now ++ 62 ∷ []) }
+{
+    let Some((b'<', rest)) = text.split_first() else {
+        return None;
+    };
+    let Some((b'>', name)) = rest.split_last() else {
+        return None;
+    };
+    Some(name)
+}
+
+fn read_target(alloc: Global, text: &[u8]) -> Result<Option<Target>, AllocError>
+    ensures { IfOk result (Finds SaysTarget text.now) }
+{
+    if text == b"default".as_slice() {
+        return Ok(Some(Target::Default));
+    }
+    let Some(bytes) = between(text) else {
+        return Ok(None);
+    };
+    match read_name(alloc, bytes)? {
+        Some(name) => Ok(Some(Target::Named(name))),
+        None => Ok(None),
+    }
+}
+
+fn read_kind(alloc: Global, text: &[u8]) -> Result<Option<Kind>, AllocError>
+    ensures { IfOk result (Finds SaysKind text.now) }
+{
+    let Some(rest) = behind(text, b"put ") else {
+        return Ok(None);
+    };
+    match read_target(alloc, rest)? {
+        Some(target) => Ok(Some(Kind::Put(target))),
+        None => Ok(None),
+    }
+}
+
+/// The triple of a canonical line whose line feed is left out.
+fn read_triple(alloc: Global, text: &[u8]) -> Result<Option<Triple>, AllocError>
+    ensures { IfOk result (Finds SaysTriple text.now) }
+{
+    let mut line = Vec::from_slice(alloc, text)?;
+    line.push(b'\n')?;
+    read_line(alloc, line.as_slice())
+}
+
+fn list_of(alloc: Global, triple: Triple) -> Result<Vec<Triple>, AllocError>
+    ensures { IfOk result (λ list. list.items ≡ triple ∷ []) }
+{
+    let mut list = Vec::with_capacity(alloc, 1)?;
+    list.push(triple)?;
+    Ok(list)
+}
+
+fn read_stage(alloc: Global, text: &[u8]) -> Result<Option<Action>, AllocError>
+    ensures { IfOk result (λ found. MatchOption found ((t : Statement) → ¬ (SaysTriple t text.now)) (λ action. SaysAction action (codes "stage " ++ text.now))) }
+{
+    match read_triple(alloc, text)? {
+        Some(triple) => Ok(Some(Action::Stage(list_of(alloc, triple)?))),
+        None => Ok(None),
+    }
+}
+
+/// An action, by the rows of its words.
+fn read_action(alloc: Global, text: &[u8]) -> Result<Option<Action>, AllocError>
+    ensures { IfOk result (Finds SaysAction text.now) }
+{
+    if text == b"commit".as_slice() {
+        return Ok(Some(Action::Commit));
+    }
+    if text == b"cancel".as_slice() {
+        return Ok(Some(Action::Cancel));
+    }
+    if let Some(kind) = behind(text, b"open ") {
+        return Ok(read_kind(alloc, kind)?.map(Action::Open));
+    }
+    if let Some(line) = behind(text, b"stage ") {
+        return read_stage(alloc, line);
+    }
+    if let Some(target) = behind(text, b"pin ") {
+        return Ok(read_target(alloc, target)?.map(Action::Pin));
+    }
+    if let Some(count) = behind(text, b"piece ") {
+        return Ok(number(count, 4_294_967_295).map(|n| Action::Piece(n as u32)));
+    }
+    Ok(None)
+}
+
+/// A seat's number, a space and its action.
+fn read_seat(alloc: Global, text: &[u8]) -> Result<Option<Event>, AllocError>
+    ensures { IfOk result (λ found. MatchOption found ((s : ℕ) (action : AnAction) → ¬ (SaysEvent (Event.Seat s action) text.now)) (λ event. SaysEvent event text.now)) }
+{
+    let (seat, rest) = split(text, b' ');
+    let Some(seat) = number(seat, 65_535) else {
+        return Ok(None);
+    };
+    let Some(action) = read_action(alloc, rest)? else {
+        return Ok(None);
+    };
+    Ok(Some(Event::Seat(seat as u16, action)))
+}
+
+/// Seats, a commit's number and a request's number.
+fn read_start(text: &[u8]) -> Option<(u16, u64, u64)>
+    ensures { Finds (λ p x. SaysStart p.0 p.1 p.2 x) text.now result }
+{
+    let (seats, rest) = split(text, b' ');
+    let (commit, request) = split(rest, b' ');
+    let Some(seats) = number(seats, 512) else {
+        return None;
+    };
+    let Some(commit) = number(commit, LAST_NUMBER) else {
+        return None;
+    };
+    let Some(request) = number(request, LAST_NUMBER) else {
+        return None;
+    };
+    if seats == 0 {
+        return None;
+    }
+    Some((seats as u16, commit, request))
+}
+
+/// What a line says: a row for each first word, and else a seat's number.
+pub fn read_command(alloc: Global, line: &[u8]) -> Result<Option<Command>, AllocError>
+    ensures { IfOk result (Finds Says line.now) }
+{
+    if is_skipped(line) {
+        return match str::from_utf8(line) {
+            Ok(_) => Ok(Some(Command::Nothing)),
+            Err(_) => Ok(None),
+        };
+    }
+    if line == b"counts".as_slice() {
+        return Ok(Some(Command::Count));
+    }
+    if let Some(rest) = behind(line, b"store ") {
+        return match read_start(rest) {
+            Some((seats, commit, request)) => Ok(Some(Command::Begin(seats, commit, request))),
+            None => Ok(None),
+        };
+    }
+    if let Some(rest) = behind(line, b"reclaim ") {
+        return match number(rest, 18_446_744_073_709_551_615) {
+            Some(count) => Ok(Some(Command::Ask(Event::Reclaim(count)))),
+            None => Ok(None),
+        };
+    }
+    let Some(event) = read_seat(alloc, line)? else {
+        return Ok(None);
+    };
+    Ok(Some(Command::Ask(event)))
+}
+
+fn is_skipped(line: &[u8]) -> bool
+    ensures { result ≡ is_skipped_line line.now }
+{
+    match line.first() {
+        None => true,
+        Some(byte) => *byte == b'#',
+    }
+}

@@ -1,0 +1,230 @@
+//! The run of a schedule: each line in turn, and what it prints.
+ghost use Rattle.std.specs.Prelude.{◌≡◌, ◌≤◌, IfOk, IfErr, Some, []};
+ghost use Rattle.std.specs.Io.KnownBytes.{Appends};
+ghost use Rattle.gs_model.specs.declared.limits.TheConstants.{LAST_NUMBER, MOST_SEATS};
+ghost use Rattle.gs_event.specs.Histories.{Start};
+ghost use Rattle.gs_drill.specs.Printing.{no_command_text, no_memory_text};
+ghost use Rattle.gs_drill.specs.Drills.{Asks, new_store as new_store_of, Finishes, SaysStop, Halts, Breaks};
+ghost use Rattle.gs_drill.specs.Taking.{IsInRange, Prints, DoesCommand, TakesLine, Ends};
+
+use crate::commands::{Command, read_command};
+use crate::printing::{print_answer, print_counts, print_no_command, print_no_memory};
+use crate::words::split;
+use gs_core::Store;
+use gs_event::Event;
+use std::alloc::Global;
+use std::io::{self, ErrorKind, Read, Write};
+
+/// The base of the store of a schedule.
+const BASE: &str = "http://localhost";
+
+/// Why a run ends before its last line.
+#[derive(Debug, Drop)]
+pub enum Stop {
+    /// A line is no command where it stands.
+    NoCommand,
+    /// Memory was wanted and not given.
+    NoMemory,
+    /// A write failed.
+    Failed,
+}
+
+/// A store of so many seats, where the last commit number and the last request number were these.
+fn new_store(alloc: Global, seats: u16, commit: u64, request: u64) -> Result<Store, Stop>
+    requires some { 1 ≤ seats }
+    requires few { seats ≤ MOST_SEATS }
+    requires last_commit { commit ≤ LAST_NUMBER }
+    requires last_request { request ≤ LAST_NUMBER }
+    ensures store { IfOk result (λ store. store ≡ new_store_of (record { seats = seats; request = request; commit = commit })) }
+    ensures refused { IfErr result (λ stop. stop ≡ Stop.NoMemory) }
+{
+    match Store::starting_at(alloc, seats, BASE, commit, request) {
+        Ok(store) => Ok(store),
+        Err(_) => Err(Stop::NoMemory),
+    }
+}
+
+/// Asks the store, and prints its answer.
+fn ask<W: Write>(store: &mut Store, event: &Event, out: &mut W) -> io::Result<()>
+    ensures { Prints (λ text. Asks store.old event.now text store.new) (W.contents out.old) (W.contents out.new) result }
+{
+    let answer = store.step(event);
+    print_answer(out, &answer)
+}
+
+/// Does a command, and prints what it answers.
+fn do_command<W: Write>(
+    alloc: Global,
+    begun: &mut bool,
+    store: &mut Store,
+    command: &Command,
+    out: &mut W,
+) -> Result<(), Stop>
+    requires { IsInRange command.now }
+    ensures { DoesCommand (record { begun = begun.old; shown = store.old }) command.now (record { begun = begun.new; shown = store.new }) (W.contents out.old) (W.contents out.new) result }
+{
+    match command {
+        Command::Nothing => Ok(()),
+        Command::Begin(seats, commit, request) => {
+            if *begun {
+                return Err(Stop::NoCommand);
+            }
+            match new_store(alloc, *seats, *commit, *request) {
+                Ok(made) => {
+                    *store = made;
+                    *begun = true;
+                    Ok(())
+                }
+                Err(_) => Err(Stop::NoMemory),
+            }
+        }
+        Command::Ask(event) => {
+            *begun = true;
+            match ask(store, event, out) {
+                Ok(()) => Ok(()),
+                Err(_) => Err(Stop::Failed),
+            }
+        }
+        Command::Count => {
+            *begun = true;
+            match print_counts(out, store.nodes_in_use(), store.triples_now()) {
+                Ok(()) => Ok(()),
+                Err(_) => Err(Stop::Failed),
+            }
+        }
+    }
+}
+
+/// Takes one line: does what it says.
+fn take_line<W: Write>(
+    alloc: Global,
+    begun: &mut bool,
+    store: &mut Store,
+    line: &[u8],
+    out: &mut W,
+) -> Result<(), Stop>
+    ensures { TakesLine (record { begun = begun.old; shown = store.old }) line.now (record { begun = begun.new; shown = store.new }) (W.contents out.old) (W.contents out.new) result }
+{
+    match read_command(alloc, line) {
+        Ok(Some(command)) => do_command(alloc, begun, store, &command, out),
+        Ok(None) => Err(Stop::NoCommand),
+        Err(_) => Err(Stop::NoMemory),
+    }
+}
+
+/// Takes each line of an input. An early end has the number of its line.
+fn play<W: Write>(alloc: Global, input: &[u8], out: &mut W) -> Result<(), (Stop, u64)>
+    ensures { Ends (Some input.now) (W.contents out.old) (W.contents out.new) result }
+{
+    let mut store = match new_store(alloc, 4, 0, 0) {
+        Ok(store) => store,
+        Err(_) => return Err((Stop::NoMemory, 0)),
+    };
+    let mut begun = false;
+    let mut number = 0u64;
+    let mut rest = input;
+    while !rest.is_empty() {
+        let (line, behind) = split(rest, b'\n');
+        number += 1;
+        if let Err(stop) = take_line(alloc, &mut begun, &mut store, line, out) {
+            return Err((stop, number));
+        }
+        rest = behind;
+    }
+    Ok(())
+}
+
+/// Reads an input whole, and takes each of its lines.
+fn read_and_play<R: Read, W: Write>(
+    alloc: Global,
+    reader: &mut R,
+    out: &mut W,
+) -> Result<(), (Stop, u64)>
+    ensures { Ends (R.remaining reader.old) (W.contents out.old) (W.contents out.new) result }
+{
+    let mut input = Vec::new(alloc);
+    match reader.read_to_end(&mut input) {
+        Ok(_) => play(alloc, input.as_slice(), out),
+        Err(error) => {
+            if error.kind() == ErrorKind::OutOfMemory {
+                Err((Stop::NoMemory, 0))
+            } else {
+                Err((Stop::Failed, 0))
+            }
+        }
+    }
+}
+
+/// Says why a run ended early, and gives its status.
+fn report<E: Write>(err: &mut E, stop: Stop, line: u64) -> u8
+    ensures no_command { result ≡ 2 → (stop ≡ Stop.NoCommand) × Appends (E.contents err.old) (E.contents err.new) (no_command_text line) }
+    ensures no_memory { result ≡ 3 → (stop ≡ Stop.NoMemory) × Appends (E.contents err.old) (E.contents err.new) no_memory_text }
+    ensures status { (1 ≤ result) × (result ≤ 3) }
+{
+    let (said, status) = match stop {
+        Stop::NoCommand => (print_no_command(err, line), 2),
+        Stop::NoMemory => (print_no_memory(err), 3),
+        Stop::Failed => return 1,
+    };
+    match said {
+        Ok(()) => status,
+        Err(_) => 1,
+    }
+}
+
+/// Runs a schedule: reads it whole, takes its lines in order and writes what they print. The
+/// status is 0 where each line is a command; 2 where one is not, which is then said on `err`; 3
+/// for want of memory outside an event, which is said too; and 1 where a read or a write failed.
+pub fn drill<R: Read, W: Write, E: Write>(
+    alloc: Global,
+    reader: &mut R,
+    out: &mut W,
+    err: &mut E,
+) -> u8
+    ensures front { Breaks (R.remaining reader.old) (W.contents out.old) (W.contents out.new) }
+    ensures finished { result ≡ 0 → Finishes (R.remaining reader.old) (W.contents out.old) (W.contents out.new) × Appends (E.contents err.old) (E.contents err.new) [] }
+    ensures no_command { result ≡ 2 → SaysStop (R.remaining reader.old) (W.contents out.old) (W.contents out.new) (E.contents err.old) (E.contents err.new) }
+    ensures no_memory { result ≡ 3 → Halts (R.remaining reader.old) (W.contents out.old) (W.contents out.new) × Appends (E.contents err.old) (E.contents err.new) no_memory_text }
+    ensures status { result ≤ 3 }
+{
+    let ended = read_and_play(alloc, reader, out);
+    let flushed = out.flush();
+    match (ended, flushed) {
+        (_, Err(_)) => 1,
+        (Ok(()), Ok(())) => 0,
+        (Err((stop, line)), Ok(())) => report(err, stop, line),
+    }
+}
+
+#[cfg(test)]
+mod tests {
+    use super::*;
+    use std::test::Fail;
+
+    #[test]
+    fn a_schedule_prints_its_answers(rt: HostRuntime) -> Result<(), Fail> {
+        let mut input: &[u8] = b"0 open put default\n0 commit\n0 pin default\n0 piece 1";
+        let mut out = Vec::new(rt.alloc());
+        let mut err = Vec::new(rt.alloc());
+        let status = drill(rt.alloc(), &mut input, &mut out, &mut err);
+        assert_eq!(rt; status, 0);
+        assert_eq!(rt; out.as_slice(), b"opened 1\n204\n200\nend\n".as_slice());
+        assert!(rt; err.is_empty());
+        Ok(())
+    }
+
+    #[test]
+    fn a_bad_line_stops_the_run(rt: HostRuntime) -> Result<(), Fail> {
+        let mut input: &[u8] = b"# first\n0 commit\n0 delete default\n";
+        let mut out = Vec::new(rt.alloc());
+        let mut err = Vec::new(rt.alloc());
+        let status = drill(rt.alloc(), &mut input, &mut out, &mut err);
+        assert_eq!(rt; status, 2);
+        assert_eq!(rt; out.as_slice(), b"refused WrongPhase\n".as_slice());
+        assert_eq!(rt;
+            err.as_slice(),
+            b"gsdrill: line 3 is no command\n".as_slice()
+        );
+        Ok(())
+    }
+}

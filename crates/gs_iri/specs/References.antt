@@ -1,0 +1,86 @@
+-- The parts of a reference (RFC 3986, sections 3 and 4.1): scheme, authority, path, query and fragment.
+use Rattle.std.specs.Prelude.{ℕ, Bool, false, if◌then◌else◌, ◌&&◌, ◌==◌, List, [], ◌∷◌, codes}
+use Rattle.std.specs.Prelude.{Option, Some, None}
+use Rattle.std.specs.Option.{is_some, unwrap_or, option_map, option_and_then}
+use Rattle.std.specs.List.{list_all, list_any}
+use Rattle.gs_model.specs.Iris.{is_letter, is_scheme_char}
+
+-- a part that is undefined is `None`, which is not the same as empty; the path is always defined
+pub record Reference : Type 0 where
+  pub scheme : Option (List ℕ)
+  pub authority : Option (List ℕ)
+  pub path : List ℕ
+  pub query : Option (List ℕ)
+  pub fragment : Option (List ℕ)
+
+-- one of these bytes
+abbrev pub is_one_of : List ℕ → ℕ → Bool
+is_one_of stops c = list_any (λ stop. stop == c) stops
+
+-- the text up to the first of these bytes
+unfoldable pub before : List ℕ → List ℕ → List ℕ
+before stops [] = []
+before stops (c ∷ cs) = if is_one_of stops c then [] else c ∷ before stops cs
+
+-- the text from the first of these bytes on
+unfoldable pub from : List ℕ → List ℕ → List ℕ
+from stops [] = []
+from stops (c ∷ cs) = if is_one_of stops c then c ∷ cs else from stops cs
+
+-- the text behind a byte, where it begins with that byte
+unfoldable pub behind : ℕ → List ℕ → Option (List ℕ)
+behind mark [] = None
+behind mark (c ∷ cs) = if c == mark then Some cs else None
+
+-- 3.1: a letter, then letters, digits, '+', '-' and '.'
+unfoldable pub is_scheme : List ℕ → Bool
+is_scheme [] = false
+is_scheme (c ∷ cs) = is_letter c && list_all is_scheme_char cs
+
+-- the text before its first ':' is a scheme
+unfoldable pub has_scheme : List ℕ → Bool
+has_scheme x = is_some (behind 58 (from (codes ":") x)) && is_scheme (before (codes ":") x)
+
+unfoldable pub scheme_of : List ℕ → Option (List ℕ)
+scheme_of x = if has_scheme x then Some (before (codes ":") x) else None
+
+unfoldable pub behind_scheme : List ℕ → List ℕ
+behind_scheme x = if has_scheme x then unwrap_or (behind 58 (from (codes ":") x)) x else x
+
+-- 3.2: the authority stands behind "//", and ends at the next '/', '?' or '#'
+unfoldable pub behind_slashes : List ℕ → Option (List ℕ)
+behind_slashes x = option_and_then (behind 47) (behind 47 x)
+
+unfoldable pub authority_of : List ℕ → Option (List ℕ)
+authority_of x = option_map (before (codes "/?#")) (behind_slashes x)
+
+unfoldable pub behind_authority : List ℕ → List ℕ
+behind_authority x = unwrap_or (option_map (from (codes "/?#")) (behind_slashes x)) x
+
+-- 3.3: the path ends at the first '?' or '#'
+unfoldable pub path_of : List ℕ → List ℕ
+path_of x = before (codes "?#") x
+
+unfoldable pub behind_path : List ℕ → List ℕ
+behind_path x = from (codes "?#") x
+
+-- 3.4: the query stands behind '?', and ends at the first '#'
+unfoldable pub query_of : List ℕ → Option (List ℕ)
+query_of x = option_map (before (codes "#")) (behind 63 x)
+
+unfoldable pub behind_query : List ℕ → List ℕ
+behind_query x = unwrap_or (option_map (from (codes "#")) (behind 63 x)) x
+
+-- 3.5: the fragment stands behind '#'
+unfoldable pub fragment_of : List ℕ → Option (List ℕ)
+fragment_of x = behind 35 x
+
+-- each part is cut off what the parts before it leave
+unfoldable pub parts_of : List ℕ → Reference
+parts_of x = record {
+  scheme = scheme_of x;
+  authority = authority_of (behind_scheme x);
+  path = path_of (behind_authority (behind_scheme x));
+  query = query_of (behind_path (behind_authority (behind_scheme x)));
+  fragment = fragment_of (behind_query (behind_path (behind_authority (behind_scheme x))));
+}

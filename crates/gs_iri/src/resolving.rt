@@ -1,0 +1,294 @@
+//! A reference resolved against a base.
+ghost use Rattle.std.specs.Prelude.{◌≡◌, ◌++◌, OnOk, OnErr, length, take, codes};
+ghost use Rattle.std.specs.Option.{option_copied};
+ghost use Rattle.std.specs.String.{string_bytes};
+ghost use Rattle.gs_iri.specs.Dots.{dots};
+ghost use Rattle.gs_iri.specs.Resolving.{scheme_text, marked, parts_text, front_text, directory_of, through_last, resolved as resolved_text, Tells};
+
+use crate::absolute::{are_iri_bytes, is_absolute};
+use crate::dots::{append_dots, last_slash};
+use crate::references::{Parts, behind, cut_parts};
+use gs_model::Refusal;
+use std::alloc::AllocError;
+
+/// Appends the scheme and its ':', if it is defined.
+#[tactic(auto, unfolding(crate::specs::Resolving::scheme_text))]
+fn append_scheme(scheme: Option<&str>, resolved: &mut String) -> Result<(), AllocError>
+    ensures ok { OnOk result (string_bytes resolved.new ≡ string_bytes resolved.old ++ scheme_text (option_copied scheme.entry)) }
+    ensures front { take (length (string_bytes resolved.old)) (string_bytes resolved.new) ≡ string_bytes resolved.old }
+{
+    match scheme {
+        None => Ok(()),
+        Some(text) => {
+            resolved.push_str(text)?;
+            resolved.push_str(":")
+        }
+    }
+}
+
+/// Appends a part behind its mark, if it is defined.
+#[tactic(auto, unfolding(crate::specs::Resolving::marked))]
+fn append_marked(mark: &str, part: Option<&str>, resolved: &mut String) -> Result<(), AllocError>
+    ensures ok { OnOk result (string_bytes resolved.new ≡ string_bytes resolved.old ++ marked mark.now (option_copied part.entry)) }
+    ensures front { take (length (string_bytes resolved.old)) (string_bytes resolved.new) ≡ string_bytes resolved.old }
+{
+    match part {
+        None => Ok(()),
+        Some(text) => {
+            resolved.push_str(mark)?;
+            resolved.push_str(text)
+        }
+    }
+}
+
+fn append_head(
+    scheme: Option<&str>,
+    authority: Option<&str>,
+    resolved: &mut String,
+) -> Result<(), AllocError>
+    ensures ok { OnOk result (string_bytes resolved.new ≡ (string_bytes resolved.old ++ scheme_text (option_copied scheme.entry)) ++ marked (codes "//") (option_copied authority.entry)) }
+    ensures front { take (length (string_bytes resolved.old)) (string_bytes resolved.new) ≡ string_bytes resolved.old }
+{
+    append_scheme(scheme, resolved)?;
+    append_marked("//", authority, resolved)
+}
+
+fn append_tail(
+    query: Option<&str>,
+    fragment: Option<&str>,
+    resolved: &mut String,
+) -> Result<(), AllocError>
+    ensures ok { OnOk result (string_bytes resolved.new ≡ (string_bytes resolved.old ++ marked (codes "?") (option_copied query.entry)) ++ marked (codes "#") (option_copied fragment.entry)) }
+    ensures front { take (length (string_bytes resolved.old)) (string_bytes resolved.new) ≡ string_bytes resolved.old }
+{
+    append_marked("?", query, resolved)?;
+    append_marked("#", fragment, resolved)
+}
+
+/// What stands before the last '/'.
+fn before_last_slash(path: &str) -> Option<&str>
+    ensures { front_text (option_copied result) ≡ through_last path.now }
+{
+    match last_slash(path.as_bytes()) {
+        Some(i) => Some(&path[..i]),
+        None => None,
+    }
+}
+
+/// What the segments of a relative path stand behind, with a '/' between (5.2.3).
+#[tactic(auto, unfolding(crate::specs::Resolving::directory_of, crate::specs::Resolving::front_text))]
+fn front_of<'a>(authority: Option<&str>, path: &'a str) -> Option<&'a str>
+    ensures { front_text (option_copied result) ≡ directory_of (option_copied authority.entry) path.now }
+{
+    match authority {
+        Some(_) if path.is_empty() => Some(""),
+        _ => before_last_slash(path),
+    }
+}
+
+/// Appends parts, their path behind `front` and without its dot segments.
+fn append_removed(
+    target: &Parts,
+    front: Option<&str>,
+    resolved: &mut String,
+) -> Result<(), AllocError>
+    ensures ok { OnOk result (string_bytes resolved.new ≡ string_bytes resolved.old ++ parts_text (option_copied target.now.scheme) (option_copied target.now.authority) (dots (front_text (option_copied front.entry) ++ target.now.path.now)) (option_copied target.now.query) (option_copied target.now.fragment)) }
+    ensures front { take (length (string_bytes resolved.old)) (string_bytes resolved.new) ≡ string_bytes resolved.old }
+{
+    append_head(target.scheme, target.authority, resolved)?;
+    append_dots(front, target.path, resolved)?;
+    append_tail(target.query, target.fragment, resolved)
+}
+
+/// Appends parts as they are (5.3).
+fn append_joined(target: &Parts, resolved: &mut String) -> Result<(), AllocError>
+    ensures ok { OnOk result (string_bytes resolved.new ≡ string_bytes resolved.old ++ parts_text (option_copied target.now.scheme) (option_copied target.now.authority) target.now.path.now (option_copied target.now.query) (option_copied target.now.fragment)) }
+    ensures front { take (length (string_bytes resolved.old)) (string_bytes resolved.new) ≡ string_bytes resolved.old }
+{
+    append_head(target.scheme, target.authority, resolved)?;
+    resolved.push_str(target.path)?;
+    append_tail(target.query, target.fragment, resolved)
+}
+
+/// Appends a reference resolved against a base (5.2.2).
+fn append_resolved(base: &str, reference: &str, resolved: &mut String) -> Result<(), AllocError>
+    ensures ok { OnOk result (string_bytes resolved.new ≡ string_bytes resolved.old ++ resolved_text base.now reference.now) }
+    ensures front { take (length (string_bytes resolved.old)) (string_bytes resolved.new) ≡ string_bytes resolved.old }
+{
+    let b = cut_parts(base);
+    let r = cut_parts(reference);
+    if r.scheme.is_some() {
+        return append_removed(&r, None, resolved);
+    }
+    if r.authority.is_some() {
+        let target = Parts {
+            scheme: b.scheme,
+            authority: r.authority,
+            path: r.path,
+            query: r.query,
+            fragment: r.fragment,
+        };
+        return append_removed(&target, None, resolved);
+    }
+    if r.path.is_empty() {
+        let target = Parts {
+            scheme: b.scheme,
+            authority: b.authority,
+            path: b.path,
+            query: r.query.or(b.query),
+            fragment: r.fragment,
+        };
+        return append_joined(&target, resolved);
+    }
+    let target = Parts {
+        scheme: b.scheme,
+        authority: b.authority,
+        path: r.path,
+        query: r.query,
+        fragment: r.fragment,
+    };
+    if behind(r.path, b'/').is_some() {
+        return append_removed(&target, None, resolved);
+    }
+    append_removed(&target, front_of(b.authority, b.path), resolved)
+}
+
+/// Appends the IRI that a reference means under a base (RFC 3986, section 5.2, strict) to
+/// `resolved`, behind what stands there. `Syntax(0)` where the base is not absolute or the
+/// reference has a character that no IRI has; `NoMemory` where the string could not grow. After
+/// a refusal the string is as it was. Linear in the bytes of both, with no allocation but the
+/// string's own growth.
+pub fn resolve(base: &str, reference: &str, resolved: &mut String) -> Result<(), Refusal>
+    ensures value { OnOk result (string_bytes resolved.new ≡ string_bytes resolved.old ++ resolved_text base.now reference.now) }
+    ensures refused { Tells base.now reference.now result }
+    ensures kept { OnErr result (string_bytes resolved.new ≡ string_bytes resolved.old) }
+{
+    if !is_absolute(base) || !are_iri_bytes(reference.as_bytes()) {
+        return Err(Refusal::Syntax(0));
+    }
+    let before = resolved.len();
+    match append_resolved(base, reference, resolved) {
+        Ok(()) => Ok(()),
+        Err(_) => {
+            resolved.truncate(before);
+            Err(Refusal::NoMemory)
+        }
+    }
+}
+
+#[cfg(test)]
+mod tests {
+    use super::*;
+    use std::process::Abort;
+    use std::test::Fail;
+
+    const BASE: &str = "http://a/b/c/d;p?q";
+
+    /// RFC 3986, section 5.4.1: normal examples.
+    const NORMAL: [(&str, &str); 23] = [
+        ("g:h", "g:h"),
+        ("g", "http://a/b/c/g"),
+        ("./g", "http://a/b/c/g"),
+        ("g/", "http://a/b/c/g/"),
+        ("/g", "http://a/g"),
+        ("//g", "http://g"),
+        ("?y", "http://a/b/c/d;p?y"),
+        ("g?y", "http://a/b/c/g?y"),
+        ("#s", "http://a/b/c/d;p?q#s"),
+        ("g#s", "http://a/b/c/g#s"),
+        ("g?y#s", "http://a/b/c/g?y#s"),
+        (";x", "http://a/b/c/;x"),
+        ("g;x", "http://a/b/c/g;x"),
+        ("g;x?y#s", "http://a/b/c/g;x?y#s"),
+        ("", "http://a/b/c/d;p?q"),
+        (".", "http://a/b/c/"),
+        ("./", "http://a/b/c/"),
+        ("..", "http://a/b/"),
+        ("../", "http://a/b/"),
+        ("../g", "http://a/b/g"),
+        ("../..", "http://a/"),
+        ("../../", "http://a/"),
+        ("../../g", "http://a/g"),
+    ];
+
+    /// RFC 3986, section 5.4.2: abnormal examples, the last as strict parsers read it.
+    const ABNORMAL: [(&str, &str); 19] = [
+        ("../../../g", "http://a/g"),
+        ("../../../../g", "http://a/g"),
+        ("/./g", "http://a/g"),
+        ("/../g", "http://a/g"),
+        ("g.", "http://a/b/c/g."),
+        (".g", "http://a/b/c/.g"),
+        ("g..", "http://a/b/c/g.."),
+        ("..g", "http://a/b/c/..g"),
+        ("./../g", "http://a/b/g"),
+        ("./g/.", "http://a/b/c/g/"),
+        ("g/./h", "http://a/b/c/g/h"),
+        ("g/../h", "http://a/b/c/h"),
+        ("g;x=1/./y", "http://a/b/c/g;x=1/y"),
+        ("g;x=1/../y", "http://a/b/c/y"),
+        ("g?y/./x", "http://a/b/c/g?y/./x"),
+        ("g?y/../x", "http://a/b/c/g?y/../x"),
+        ("g#s/./x", "http://a/b/c/g#s/./x"),
+        ("g#s/../x", "http://a/b/c/g#s/../x"),
+        ("http:g", "http:g"),
+    ];
+
+    /// A fragment of the base, and joins by the letter.
+    const OTHERS: [(&str, &str, &str); 5] = [
+        ("http://a/b?q#f", "", "http://a/b?q"),
+        ("http://a", "g", "http://a/g"),
+        ("urn:a:b", "c", "urn:c"),
+        ("f:/a", ".//g", "f://g"),
+        (
+            "http://a/b/c/d;p?q",
+            "\u{e9}/../\u{4e2d}",
+            "http://a/b/c/\u{4e2d}",
+        ),
+    ];
+
+    fn check(
+        rt: &(impl Abort + AllocGlobal),
+        base: &str,
+        reference: &str,
+        wanted: &str,
+    ) -> Result<(), Fail> {
+        let mut resolved = String::new(rt.alloc());
+        resolve(base, reference, &mut resolved)?;
+        assert_eq!(rt; resolved.as_str(), wanted);
+        Ok(())
+    }
+
+    #[test]
+    fn normal_examples(rt: HostRuntime) -> Result<(), Fail> {
+        for (reference, wanted) in NORMAL {
+            check(&rt, BASE, reference, wanted)?;
+        }
+        Ok(())
+    }
+
+    #[test]
+    fn abnormal_examples(rt: HostRuntime) -> Result<(), Fail> {
+        for (reference, wanted) in ABNORMAL {
+            check(&rt, BASE, reference, wanted)?;
+        }
+        Ok(())
+    }
+
+    #[test]
+    fn other_bases(rt: HostRuntime) -> Result<(), Fail> {
+        for (base, reference, wanted) in OTHERS {
+            check(&rt, base, reference, wanted)?;
+        }
+        Ok(())
+    }
+
+    #[test]
+    fn a_resolved_text_stands_behind_what_stood_there(rt: HostRuntime) -> Result<(), Fail> {
+        let mut resolved = String::from_str(rt.alloc(), "<")?;
+        resolve(BASE, "g", &mut resolved)?;
+        assert_eq!(rt; resolved.as_str(), "<http://a/b/c/g");
+        assert!(rt; is_absolute(BASE));
+        Ok(())
+    }
+}

@@ -1,0 +1,15 @@
+pub mod SymbolLemmas
+pub mod AutomatonLemmas
+pub mod ScanLemmas
+pub mod TerminalLemmas
+pub mod LongestLemmas
+pub mod StepLemmas
+pub mod ReadLemmas
+pub mod FinishLemmas
+pub mod Derivatives
+pub mod Residuals
+pub mod AlikeLemmas
+pub mod NextLemmas
+pub mod Checks
+pub mod Codes
+pub mod OneCutLemmas

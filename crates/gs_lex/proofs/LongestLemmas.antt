@@ -1,0 +1,131 @@
+-- What a scan tells of the longest token at the front of a text.
+use Rattle.std.proofs.Common.{◌≡◌, ◌≢◌, ℕ, zero, suc, ◌+◌, ◌<◌, ◌≤◌, Bool, true, false, List, [], ◌∷◌, ◌++◌, refl, sym, ap, ◌∙◌, arith, subst, append_assoc, append-nil, length, length-append, Option, Some, None, take, drop, encode_utf8, encode_utf8_all, ◌&&◌}
+use Rattle.std.proofs.lemmas.Str.{encode_same, encodes-append, len_utf8_bounds, length-encode}
+use Rattle.std.specs.Char.{IsScalar}
+use Rattle.std.specs.Str.{all_scalars}
+use lib.Utf8.{scalar}
+use Rattle.gs_lex.specs.Automata.{Found, Accepts, run, run_from, kind_at, longest}
+use Rattle.gs_lex.specs.States.{tokens, next, start_of, accepts}
+use Rattle.gs_lex.specs.Scans.{IsBest, IsScanned, IsStuck}
+use Rattle.gs_lex.specs.Terminals.{IsTerminal}
+use Rattle.gs_lex.specs.Tokens.{Longest, NoTerminal}
+use Rattle.gs_lex.specs.declared.kinds.Terminal.{Terminal}
+use Rattle.gs_lex.specs.declared.states.State.{State}
+use Rattle.gs_lex.specs.declared.scans.Scan.{Scan}
+use Rattle.gs_lex.proofs.AutomatonLemmas.{then_next, run-append, none-stays, Best, best, Split, IsSplit, longest-split}
+use Rattle.gs_lex.proofs.ScanLemmas.{scan-after, and_both}
+use Rattle.gs_lex.proofs.TerminalLemmas.{accepted-terminal, terminal-accepted}
+
+-- of two lists of characters at the front of one text, one begins with the other
+pub data Compared (v cs s z : List ℕ) : Type 0 where
+  within : (d : List ℕ) → cs ≡ v ++ d → Compared v cs s z
+  beyond : (c : ℕ) (d : List ℕ) → v ≡ cs ++ c ∷ d → z ≡ encode_utf8 c ++ (encode_utf8_all d ++ s) → Compared v cs s z
+
+one_more : (c e : ℕ) (v cs s z : List ℕ) → c ≡ e → Compared v cs s z → Compared (c ∷ v) (e ∷ cs) s z
+one_more c e v cs s z k (within d p) = within d (ap (λ y. y ∷ cs) (sym k) ∙ ap (λ y. c ∷ y) p)
+one_more c e v cs s z k (beyond b d p q) = beyond b d (ap (λ y. y ∷ v) k ∙ ap (λ y. e ∷ y) p) q
+
+pub compare : (v cs s z : List ℕ) → encode_utf8_all v ++ s ≡ encode_utf8_all cs ++ z → Compared v cs s z
+compare [] cs s z e = within cs refl
+compare (c ∷ v) [] s z e = beyond c v refl (sym e ∙ append_assoc (encode_utf8 c) (encode_utf8_all v) s)
+compare (c ∷ v) (d ∷ cs) s z e =
+    let k = encode_same c d (encode_utf8_all v ++ s) (encode_utf8_all cs ++ z)
+    (sym (append_assoc (encode_utf8 c) (encode_utf8_all v) s) ∙ e ∙ append_assoc (encode_utf8 d) (encode_utf8_all cs) z) in
+    one_more c d v cs s z k.0 (compare v cs s z k.1)
+
+-- the characters in the middle
+pub scalar-middle : (cs : List ℕ) (c : ℕ) (d : List ℕ) → all_scalars (cs ++ c ∷ d) ≡ true → IsScalar c
+scalar-middle [] c d h = (and_both (scalar c) (all_scalars d) h).0
+scalar-middle (b ∷ cs) c d h = scalar-middle cs c d (and_both (scalar b) (all_scalars (cs ++ c ∷ d)) h).1
+
+pub scalars-front : (v d : List ℕ) → all_scalars (v ++ d) ≡ true → all_scalars v ≡ true
+scalars-front [] d h = refl
+scalars-front (c ∷ v) d h =
+    let b = and_both (scalar c) (all_scalars (v ++ d)) h in
+    ap (λ z. z && all_scalars v) b.0 ∙ scalars-front v d b.1
+
+-- No token goes beyond what is read.
+pub record IsAll (u : Bool) (cs z : List ℕ) : Type 0 where
+  pub all : (t : Terminal) (v s : List ℕ) → encode_utf8_all cs ++ z ≡ encode_utf8_all v ++ s → all_scalars v ≡ true → Accepts (tokens u) t v → (d : List ℕ) × (cs ≡ v ++ d)
+
+all_compared : (u : Bool) (cs z : List ℕ) (q : State) → run (tokens u) cs ≡ Some q → IsStuck q z → (t : Terminal) (v s : List ℕ) → Compared v cs s z → all_scalars v ≡ true
+    → Accepts (tokens u) t v → (d : List ℕ) × (cs ≡ v ++ d)
+all_compared u cs z q h k t v s (within d p) g a = (d, p)
+all_compared u cs z q h k t v s (beyond c d p e) g a =
+    let dead : next q c ≡ None = k c (encode_utf8_all d ++ s) (scalar-middle cs c d (ap all_scalars (sym p) ∙ g)) e in
+    let stops : run (tokens u) v ≡ None =
+    ap (run (tokens u)) p ∙ run-append (tokens u) (Some (tokens u).start) cs (c ∷ d) ∙ ap (λ o. run_from (tokens u) o (c ∷ d)) h
+    ∙ ap (λ o. run_from (tokens u) o d) dead ∙ none-stays (tokens u) d in
+    absurd (Prim.cc (sym (ap (kind_at (tokens u)) stops) ∙ a))
+
+pub stuck-all : (u : Bool) (cs z : List ℕ) (q : State) → run (tokens u) cs ≡ Some q → IsStuck q z → IsAll u cs z
+stuck-all u cs z q h k = record { all = λ t v s p g a. all_compared u cs z q h k t v s (compare v cs s z (sym p)) g a }
+
+pub no_start : (u : Bool) (t : Terminal) → Accepts (tokens u) t [] → ⊥
+no_start true t e = Prim.cc e
+no_start false t e = Prim.cc e
+
+-- the token that a scan has found in x, which goes on with y
+pub record Finds (u : Bool) (x y : List ℕ) (t : Terminal) (n : ℕ) : Type 0 where
+  pub chars : List ℕ
+  pub longest : Longest u (x ++ y) t chars (drop n x ++ y)
+  pub bytes : take n x ≡ encode_utf8_all chars
+  pub some : 0 < n
+  pub within : n ≤ length x
+
+take_front : (v w : List ℕ) → take (length v) (v ++ w) ≡ v
+take_front [] w = refl
+take_front (c ∷ v) w = ap (λ z. c ∷ z) (take_front v w)
+
+drop_front : (v w : List ℕ) → drop (length v) (v ++ w) ≡ w
+drop_front [] w = refl
+drop_front (c ∷ v) w = drop_front v w
+
+-- a character has some bytes
+some_bytes : (w : List ℕ) → 0 < length w → 0 < length (encode_utf8_all w)
+some_bytes [] h = absurd (omega arith)
+some_bytes (c ∷ w) h = omega (arith, length-append (encode_utf8 c) (encode_utf8_all w), length-encode c, (len_utf8_bounds c).0)
+
+find_case : (u : Bool) (x y cs after : List ℕ) (k : Terminal) (n : ℕ) (f : Found Terminal ℕ) → x ≡ encode_utf8_all cs ++ after → all_scalars cs ≡ true → IsAll u cs (after ++ y)
+    → IsSplit cs f → Best (tokens u) (Some (start_of u)) cs f → IsBest f (Some k) n → Finds u x y k n
+find_case u x y cs after k n None p g a i b e = Prim.cc e
+find_case u x y cs after k n (Some t) p g a i b e =
+    let same : k ≡ t.0 = Prim.cc (e.0) in
+    let front = encode_utf8_all t.1 in
+    let back = encode_utf8_all t.2 ++ after in
+    let parts : x ≡ front ++ back = p ∙ ap (λ z. encode_utf8_all z ++ after) i.parts ∙ ap (λ z. z ++ after) (encodes-append t.1 t.2) ∙ append_assoc front (encode_utf8_all t.2) after in
+    let behind : drop n x ≡ back = ap (λ z. drop z x) e.1 ∙ ap (drop (length front)) parts ∙ drop_front front back in
+    record {
+      chars = t.1;
+      longest = record {
+        parts = ap (λ z. z ++ y) parts ∙ append_assoc front back y ∙ ap (λ z. front ++ (z ++ y)) (sym behind);
+        characters = scalars-front t.1 t.2 (ap all_scalars (sym i.parts) ∙ g);
+        is_terminal = accepted-terminal u k t.1 (subst (λ z. Accepts (tokens u) z t.1) (sym same) b.0);
+        most = λ j v s q l m.
+            let h = terminal-accepted u j v m in
+            let d = a.all j v s (sym (append_assoc (encode_utf8_all cs) after y) ∙ ap (λ z. z ++ y) (sym p) ∙ q) l h in
+            b.1 j v d.0 d.1 h;
+      };
+      bytes = ap (λ z. take z x) e.1 ∙ ap (take (length front)) parts ∙ take_front front back;
+      some = omega (arith, some_bytes t.1 i.some, e.1);
+      within = omega (arith, ap length parts, length-append front back, e.1);
+    }
+
+pub scan-finds : (u : Bool) (x y : List ℕ) (s : Scan) (k : Terminal) → (h : IsScanned u x s) → IsAll u h.chars (h.after ++ y) → s.best ≡ Some k → Finds u x y k s.best_len
+scan-finds u x y s k h a e =
+    find_case u x y h.chars h.after k s.best_len (longest (tokens u) h.chars) h.parts h.characters a (longest-split (tokens u) (Some (start_of u)) h.chars)
+    (best (tokens u) (Some (start_of u)) h.chars) (subst (λ z. IsBest (longest (tokens u) h.chars) z s.best_len) e h.is_best)
+
+some_list : (c : ℕ) (v : List ℕ) → c ∷ v ≢ []
+some_list c v e = Prim.cc e
+
+none_case : (u : Bool) (cs : List ℕ) (n : ℕ) (f : Found Terminal ℕ) → Best (tokens u) (Some (start_of u)) cs f → IsBest f None n → (t : Terminal) (v d : List ℕ) → cs ≡ v ++ d → Accepts (tokens u) t v → ⊥
+none_case u cs n (Some f) b e t v d p a = Prim.cc (e.0)
+none_case u cs n None b e t [] d p a = no_start u t a
+none_case u cs n None b e t (c ∷ v) d p a = b t (c ∷ v) d p (some_list c v) a
+
+pub scan-none : (u : Bool) (x y : List ℕ) (s : Scan) → (h : IsScanned u x s) → IsAll u h.chars (h.after ++ y) → s.best ≡ None → NoTerminal u (x ++ y)
+scan-none u x y s h a e t v r p g m =
+    let k = terminal-accepted u t v m in
+    let d = a.all t v r (sym (append_assoc (encode_utf8_all h.chars) h.after y) ∙ ap (λ z. z ++ y) (sym h.parts) ∙ p) g k in
+    none_case u h.chars s.best_len (longest (tokens u) h.chars) (best (tokens u) (Some (start_of u)) h.chars) (subst (λ z. IsBest (longest (tokens u) h.chars) z s.best_len) e h.is_best) t v d.0 d.1 k

@@ -1,0 +1,70 @@
+-- What a reading has gone over.
+use Rattle.std.proofs.Common.{◌≡◌, ℕ, ◌+◌, ◌-◌, ◌<◌, ◌≤◌, Bool, true, false, List, [], ◌∷◌, ◌++◌, refl, sym, ap, ◌∙◌, arith, subst, append_assoc, append-nil, length, length-append, length-drop, take, drop}
+use Rattle.std.proofs.lemmas.List.{drop-drop}
+use Rattle.gs_lex.specs.Scans.{IsScanned, fresh}
+use Rattle.gs_lex.specs.Tokens.{Cut, Between, Ending, Lexeme, lexeme_at, behind}
+use Rattle.gs_lex.specs.Lexemes.{lexemes_of}
+use Rattle.gs_lex.specs.Readings.{Passes, Gives, CutFrom, MayFollow, Went, Grows, IsWithin, passed_of, behind_of, mode_of, bit}
+use Rattle.gs_lex.specs.declared.kinds.Kind.{Kind}
+use Rattle.gs_lex.specs.declared.scans.Scan.{Scan}
+use Rattle.gs_lex.specs.declared.steps.Reading.{Reading}
+use Rattle.gs_lex.specs.declared.tokens.Token.{Token}
+use Rattle.gs_lex.proofs.ScanLemmas.{scan-fresh}
+
+drop_more : (m n : ℕ) (x : List ℕ) → m ≤ length x → drop n (drop m x) ≡ drop (m + n) x
+drop_more m n x h = drop-drop n m x
+
+pub went-nothing : (is_end : Bool) (x : List ℕ) (r : Reading) (old : List Token) → IsScanned r.updates (drop r.cut x) r.scan → Went is_end x r r old old
+went-nothing is_end x r old h = record { added = []; given = sym (append-nil (lexemes_of old)); mode = refl; scanned = h; cut = λ y ts e m t. t }
+
+pub went-passed : (is_end : Bool) (x : List ℕ) (from r : Reading) (old new : List Token) (count : ℕ) (c : Bool) → r.cut ≤ length x → Went is_end x from r old new
+    → Passes is_end r (drop r.cut x) count c → Went is_end x from (passed_of r count c) old new
+went-passed is_end x from r old new count c l w p = record {
+  added = w.added;
+  given = w.given;
+  mode = w.mode;
+  scanned = scan-fresh r.updates (drop (r.cut + count) x);
+  cut = λ y ts e m t. w.cut y ts e m (p.cut y ts e m
+      (subst (λ z. Cut r.updates (mode_of c) (behind r.place count) r.last (z ++ y) ts e) (sym (drop_more r.cut count x l)) t));
+}
+
+pub went-found : (is_end : Bool) (x : List ℕ) (from r : Reading) (old new newer : List Token) (k : Kind) (count : ℕ) → r.cut ≤ length x → Went is_end x from r old new
+    → Gives is_end r (drop r.cut x) k count → lexemes_of newer ≡ lexemes_of new ++ lexeme_at k r.place (take count (drop r.cut x)) ∷ [] → Went is_end x from (behind_of r count) old newer
+went-found is_end x from r old new newer k count l w g p =
+    let lex = lexeme_at k r.place (take count (drop r.cut x)) in
+    record {
+      added = w.added ++ lex ∷ [];
+      given = p ∙ ap (λ z. z ++ lex ∷ []) w.given ∙ append_assoc (lexemes_of old) w.added (lex ∷ []);
+      mode = w.mode;
+      scanned = scan-fresh r.updates (drop (r.cut + count) x);
+      cut = λ y ts e m t. subst (λ z. CutFrom from (drop from.cut x ++ y) z e) (sym (append_assoc w.added (lex ∷ []) ts))
+          (w.cut y (lex ∷ ts) e m (g.cut y ts e m
+          (subst (λ z. Cut r.updates Between (behind r.place count) (behind r.place count) (z ++ y) ts e) (sym (drop_more r.cut count x l)) t)));
+    }
+
+pub went-wait : (is_end : Bool) (x : List ℕ) (from r : Reading) (old new : List Token) (s : Scan) → Went is_end x from r old new → IsScanned r.updates (drop r.cut x) s
+    → Went is_end x from (record r { scan = s }) old new
+went-wait is_end x from r old new s w h = record { added = w.added; given = w.given; mode = w.mode; scanned = h; cut = w.cut }
+
+pub within-behind : (r : Reading) (x : List ℕ) (count : ℕ) → IsWithin r x → count ≤ length (drop r.cut x) → IsWithin (behind_of r count) x
+within-behind r x count w h = record { cut = omega (arith, length-drop r.cut x, w.cut); scan = omega (arith, length-drop r.cut x, w.cut); best = omega arith }
+
+pub within-passed : (r : Reading) (x : List ℕ) (count : ℕ) (c : Bool) → IsWithin r x → count ≤ length (drop r.cut x) → IsWithin (passed_of r count c) x
+within-passed r x count c w h = record { cut = omega (arith, length-drop r.cut x, w.cut); scan = omega (arith, length-drop r.cut x, w.cut); best = omega arith }
+
+pub within-wait : (r : Reading) (x : List ℕ) (s : Scan) → IsWithin r x → s.len ≤ length (drop r.cut x) → s.best_len ≤ s.len → IsWithin (record r { scan = s }) x
+within-wait r x s w h k = record { cut = w.cut; scan = omega (arith, length-drop r.cut x, w.cut, h); best = k }
+
+pub grows-nothing : (old : List Token) → Grows old old
+grows-nothing old = record { more = []; parts = sym (append-nil old) }
+
+pub grows-more : (old new newer : List Token) → Grows old new → Grows new newer → Grows old newer
+grows-more old new newer g h = record { more = g.more ++ h.more; parts = h.parts ∙ ap (λ z. z ++ h.more) g.parts ∙ append_assoc old g.more h.more }
+
+pub falls-passed : (r : Reading) (x : List ℕ) (count : ℕ) (c : Bool) → IsWithin r x → count ≤ length (drop r.cut x) → bit c < count + count + bit r.in_comment
+    → (length x - (r.cut + count)) + (length x - (r.cut + count)) + bit c < (length x - r.cut) + (length x - r.cut) + bit r.in_comment
+falls-passed r x count c w h k = omega (arith, length-drop r.cut x, w.cut)
+
+pub falls-found : (r : Reading) (x : List ℕ) (count : ℕ) → IsWithin r x → count ≤ length (drop r.cut x) → 0 < count
+    → (length x - (r.cut + count)) + (length x - (r.cut + count)) + 0 < (length x - r.cut) + (length x - r.cut) + bit r.in_comment
+falls-found r x count w h k = omega (arith, length-drop r.cut x, w.cut)

@@ -1,0 +1,101 @@
+-- Laws of reading one character more.
+use Rattle.std.proofs.Common.{◌≡◌, ◌≢◌, ℕ, zero, suc, ◌+◌, ◌-◌, ◌<◌, ◌≤◌, Bool, true, false, List, [], ◌∷◌, ◌++◌, refl, sym, ap, ◌∙◌, arith, subst, append_assoc, append-nil, length, length-append, Option, Some, None, take, drop, length-drop, encode_utf8, encode_utf8_all, ◌&&◌}
+use Rattle.std.proofs.Math.ListN.{take-append-drop}
+use Rattle.std.proofs.lemmas.List.{length-take-le}
+use Rattle.std.proofs.lemmas.Str.{encode_same, encodes-append, len_utf8_bounds, length-encode}
+use Rattle.std.specs.Char.{IsScalar}
+use Rattle.std.specs.Str.{all_scalars, StartsWithNoChar}
+use lib.Utf8.{scalar}
+use Rattle.gs_lex.specs.Automata.{Found, run, run_from, longest}
+use Rattle.gs_lex.specs.States.{tokens, next, accepts}
+use Rattle.gs_lex.specs.Scans.{IsBest, IsScanned, IsStuck, onward_of, fresh, best_after}
+use Rattle.gs_lex.specs.Symbols.{BeginsWith}
+use Rattle.gs_lex.specs.declared.kinds.Terminal.{Terminal}
+use Rattle.gs_lex.specs.declared.states.State.{State}
+use Rattle.gs_lex.specs.declared.scans.Scan.{Scan}
+use Rattle.gs_lex.proofs.SymbolLemmas.{front-nothing}
+use Rattle.gs_lex.proofs.AutomatonLemmas.{onward, then_next, run-snoc, one_more, longest-live}
+
+-- a character has some bytes
+pub begins-some : (c n : ℕ) (x : List ℕ) → BeginsWith c n x → (n ≡ length (encode_utf8 c)) × (0 < n)
+begins-some c n x b =
+    let h = len_utf8_bounds c in
+    let size : n ≡ length (encode_utf8 c) = sym (length-take-le n x b.within) ∙ ap length b.spelled in
+    (size, omega (arith, h.0, length-encode c))
+
+drop_front : (v w : List ℕ) → drop (length v) (v ++ w) ≡ w
+drop_front [] w = refl
+drop_front (c ∷ v) w = drop_front v w
+
+-- what is behind the scan
+pub scan-after : (u : Bool) (x : List ℕ) (s : Scan) → (h : IsScanned u x s) → drop s.len x ≡ h.after
+scan-after u x s h = ap (λ z. drop z x) h.count ∙ ap (drop (length (encode_utf8_all h.chars))) h.parts ∙ drop_front (encode_utf8_all h.chars) h.after
+
+pub scan-fresh : (u : Bool) (x : List ℕ) → IsScanned u x (fresh u)
+scan-fresh u x = record { chars = []; after = x; parts = refl; count = refl; characters = refl; stands = refl; is_best = refl }
+
+best_on : (f : Found Terminal ℕ) (y : List ℕ) (b : Option Terminal) (m : ℕ) → IsBest f b m → IsBest (onward y f) b m
+best_on None y b m h = h
+best_on (Some t) y b m h = h
+
+best_more : (k : Option Terminal) (cs : List ℕ) (c : ℕ) (f : Found Terminal ℕ) (b : Option Terminal) (m n : ℕ) → IsBest f b m → n ≡ length (encode_utf8_all (cs ++ c ∷ []))
+    → IsBest (one_more k cs c f) (best_after k n (b, m)).0 (best_after k n (b, m)).1
+best_more None cs c f b m n h e = best_on f (c ∷ []) b m h
+best_more (Some k) cs c f b m n h e = (refl, e)
+
+pub and_both : (x y : Bool) → (x && y) ≡ true → (x ≡ true) × (y ≡ true)
+and_both true true e = (refl, refl)
+and_both true false e = Prim.cc
+and_both false y e = Prim.cc
+
+both_and : (x y : Bool) → x ≡ true → y ≡ true → (x && y) ≡ true
+both_and x y e f = ap (λ z. z && y) e ∙ f
+
+pub scalars-snoc : (cs : List ℕ) (c : ℕ) → all_scalars cs ≡ true → IsScalar c → all_scalars (cs ++ c ∷ []) ≡ true
+scalars-snoc [] c h k = ap (λ z. z && true) k
+scalars-snoc (d ∷ cs) c h k = both_and (scalar d) (all_scalars (cs ++ c ∷ [])) (and_both (scalar d) (all_scalars cs) h).0 (scalars-snoc cs c (and_both (scalar d) (all_scalars cs) h).1 k)
+
+pub scan-on : (u : Bool) (x : List ℕ) (s : Scan) (c n : ℕ) (p : State) → IsScanned u x s → BeginsWith c n (drop s.len x) → next s.state c ≡ Some p → IsScanned u x (onward_of s p n)
+scan-on u x s c n p h b e =
+    let cs = h.chars in
+    let size = begins-some c n (drop s.len x) b in
+    let spelled : encode_utf8_all (cs ++ c ∷ []) ≡ encode_utf8_all cs ++ encode_utf8 c = encodes-append cs (c ∷ []) ∙ ap (λ z. encode_utf8_all cs ++ z) (append-nil (encode_utf8 c)) in
+    let count : s.len + n ≡ length (encode_utf8_all (cs ++ c ∷ [])) = omega (arith, ap length spelled, length-append (encode_utf8_all cs) (encode_utf8 c), size.0, h.count) in
+    let live : then_next (tokens u) (run (tokens u) cs) c ≡ Some p = ap (λ z. then_next (tokens u) z c) h.stands ∙ e in
+    record {
+      chars = cs ++ c ∷ [];
+      after = drop n (drop s.len x);
+      parts = h.parts ∙ ap (λ z. encode_utf8_all cs ++ z) (sym (scan-after u x s h) ∙ sym (take-append-drop n (drop s.len x)) ∙ ap (λ z. z ++ drop n (drop s.len x)) b.spelled)
+          ∙ sym (append_assoc (encode_utf8_all cs) (encode_utf8 c) (drop n (drop s.len x))) ∙ ap (λ z. z ++ drop n (drop s.len x)) (sym spelled);
+      count = count;
+      characters = scalars-snoc cs c h.characters b.scalar;
+      stands = run-snoc (tokens u) (Some (tokens u).start) cs c ∙ live;
+      is_best = subst (λ z. IsBest z (best_after (accepts p) (s.len + n) (s.best, s.best_len)).0 (best_after (accepts p) (s.len + n) (s.best, s.best_len)).1)
+          (sym (longest-live (tokens u) (Some (tokens u).start) cs c p live))
+          (best_more (accepts p) cs c (longest (tokens u) cs) s.best s.best_len (s.len + n) h.is_best count);
+    }
+
+-- a character by which no token goes on
+pub stuck-character : (q : State) (c n : ℕ) (r : List ℕ) → BeginsWith c n r → next q c ≡ None → (y : List ℕ) → IsStuck q (r ++ y)
+stuck-character q c n r b e y d o k p =
+    let parts : encode_utf8 c ++ (drop n r ++ y) ≡ encode_utf8 d ++ o =
+    sym (append_assoc (encode_utf8 c) (drop n r) y) ∙ ap (λ z. (z ++ drop n r) ++ y) (sym b.spelled) ∙ ap (λ z. z ++ y) (take-append-drop n r) ∙ p in
+    subst (λ z. next q z ≡ None) (encode_same c d (drop n r ++ y) o parts).0 e
+
+-- bytes that begin no character
+pub stuck-bad : (q : State) (z : List ℕ) → StartsWithNoChar z → IsStuck q z
+stuck-bad q z h c o k p = absurd (h c o k p)
+
+-- the scan goes on within the text
+pub scan-within : (s : Scan) (x : List ℕ) (c n : ℕ) → s.len ≤ length x → BeginsWith c n (drop s.len x) → (s.len + n ≤ length x) × (s.len < s.len + n)
+scan-within s x c n h b = let k = begins-some c n (drop s.len x) b in (omega (arith, length-drop s.len x, b.within), omega (arith, k.1))
+
+pub best-within : (s : Scan) (p : State) (n : ℕ) → s.best_len ≤ s.len → (onward_of s p n).best_len ≤ (onward_of s p n).len
+best-within s p n h = best_within (accepts p)
+  where
+    best_within : (k : Option Terminal) → (best_after k (s.len + n) (s.best, s.best_len)).1 ≤ s.len + n
+    best_within None = omega arith
+    best_within (Some k) = omega arith
+
+pub stuck-nothing : (q : State) (n : ℕ) (x : List ℕ) → length x ≤ n → IsStuck q (drop n x)
+stuck-nothing q n x h = stuck-bad q (drop n x) (front-nothing (drop n x) (omega (arith, length-drop n x)))

@@ -1,0 +1,10 @@
+-- The tokens that code hands out, as the definition has them.
+use Rattle.std.specs.Prelude.{List, map}
+use Rattle.gs_lex.specs.Tokens.{Lexeme}
+use Rattle.gs_lex.specs.declared.tokens.Token.{Token}
+
+abbrev pub lexeme_of : Token → Lexeme
+lexeme_of t = record { kind = t.kind; text = t.text.items; start = t.start; «end» = t.«end» }
+
+abbrev pub lexemes_of : List Token → List Lexeme
+lexemes_of ts = map lexeme_of ts

@@ -1,0 +1,79 @@
+-- What a lexer has read of a text that comes in pieces.
+use Rattle.std.specs.Prelude.{◌≡◌, ℕ, Bool, true, false, List, [], ◌++◌}
+use Rattle.gs_model.specs.declared.refusals.Refusal.{Refusal}
+use Rattle.gs_model.specs.declared.refusals.Refusal.TheVariants.{NoMemory, Syntax, Closed}
+use Rattle.gs_lex.specs.Tokens.{IsCut, Ending, Whole, Fault, Lexeme}
+use Rattle.gs_lex.specs.Lexemes.{lexemes_of}
+use Rattle.gs_lex.specs.Readings.{CutFrom, Fails}
+use Rattle.gs_lex.specs.Scans.{IsScanned}
+use Rattle.gs_lex.specs.declared.readings.Halt.{Halt}
+use Rattle.gs_lex.specs.declared.readings.Halt.TheVariants as halt
+use Rattle.gs_lex.specs.declared.tokens.Token.{Token}
+use Rattle.gs_lex.specs.declared.lexers.Lexer.{Lexer}
+
+-- The lexer was fed the text x and gave the tokens ts: however x goes on, they are its first tokens, and the
+-- others are those of what is held and what comes.
+pub record Leads (updates : Bool) (l : Lexer) (x : List ℕ) (ts : List Lexeme) : Type 0 where
+  pub open_ : l.is_closed ≡ false
+  pub reads : l.at.updates ≡ updates
+  pub scanned : IsScanned updates l.held.items l.at.scan
+  pub rest : (y : List ℕ) (us : List Lexeme) (e : Ending) → CutFrom l.at (l.held.items ++ y) us e → IsCut updates (x ++ y) (ts ++ us) e
+
+-- An earlier call was refused, and each later one is.
+abbrev pub IsClosed : Lexer → Type 0
+IsClosed l = l.is_closed ≡ true
+
+-- what it has read stays
+pub record IsUnchanged (old new : Lexer) : Type 0 where
+  pub held : new.held.items ≡ old.held.items
+  pub reading : new.at ≡ old.at
+  pub closed : new.is_closed ≡ old.is_closed
+
+-- these tokens were added to the list
+abbrev pub Adds : List Token → List Token → List Lexeme → Type 0
+Adds old new us = lexemes_of new ≡ lexemes_of old ++ us
+
+-- a piece was read, and its tokens given as far as they are settled
+pub record Feeds (updates : Bool) (new : Lexer) (x : List ℕ) (ts : List Lexeme) (old_list new_list : List Token) : Type 0 where
+  pub added : List Lexeme
+  pub given : Adds old_list new_list added
+  pub leads : Leads updates new x (ts ++ added)
+
+-- the text has this fault, however it goes on; the tokens before it are given
+pub record Breaks (updates : Bool) (x : List ℕ) (ts : List Lexeme) (at : ℕ) (old_list new_list : List Token) : Type 0 where
+  pub added : List Lexeme
+  pub given : Adds old_list new_list added
+  pub fault : (y : List ℕ) → IsCut updates (x ++ y) (ts ++ added) (Fault at)
+
+-- the whole text was read, and ends so; its last tokens are given
+pub record Finishes (updates : Bool) (x : List ℕ) (ts : List Lexeme) (e : Ending) (old_list new_list : List Token) : Type 0 where
+  pub added : List Lexeme
+  pub given : Adds old_list new_list added
+  pub cut : IsCut updates x (ts ++ added) e
+
+-- how `feed` is refused, where the lexer was open
+abbrev pub FeedRefused : Bool → List ℕ → List Lexeme → List Token → List Token → Refusal → Type 0
+FeedRefused updates x ts old_list new_list NoMemory = Unit {0}
+FeedRefused updates x ts old_list new_list (Syntax at) = Breaks updates x ts at old_list new_list
+FeedRefused updates x ts old_list new_list _ = ⊥
+
+abbrev pub FinishRefused : Bool → List ℕ → List Lexeme → List Token → List Token → Refusal → Type 0
+FinishRefused updates x ts old_list new_list NoMemory = Unit {0}
+FinishRefused updates x ts old_list new_list (Syntax at) = Finishes updates x ts (Fault at) old_list new_list
+FinishRefused updates x ts old_list new_list _ = ⊥
+
+-- what a refusal leaves: a fault closes the lexer, and all else changes nothing
+abbrev pub Leaves : Lexer → Lexer → List Token → List Token → Refusal → Type 0
+Leaves old new old_list new_list (Syntax at) = IsClosed new
+Leaves old new old_list new_list Closed = IsClosed old × IsUnchanged old new × (new_list ≡ old_list)
+Leaves old new old_list new_list NoMemory = IsUnchanged old new × (new_list ≡ old_list)
+Leaves old new old_list new_list _ = ⊥
+
+-- the held text was cut, and what is left of it is held
+pub record Takes (old new : Lexer) (old_list new_list : List Token) (h : Halt) : Type 0 where
+  pub added : List Lexeme
+  pub given : Adds old_list new_list added
+  pub reads : new.at.updates ≡ old.at.updates
+  pub scanned : IsScanned new.at.updates new.held.items new.at.scan
+  pub cut : (y : List ℕ) (ts : List Lexeme) (e : Ending) → CutFrom new.at (new.held.items ++ y) ts e → CutFrom old.at (old.held.items ++ y) (added ++ ts) e
+  pub fails : h ≡ halt.Fault → Fails false new.at new.held.items

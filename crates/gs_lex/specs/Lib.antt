@@ -1,0 +1,11 @@
+pub mod Classes
+pub mod Automata
+pub mod States
+pub mod Symbols
+pub mod Regexes
+pub mod Terminals
+pub mod Tokens
+pub mod Scans
+pub mod Lexemes
+pub mod Readings
+pub mod Lexers

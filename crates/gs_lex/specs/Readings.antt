@@ -1,0 +1,103 @@
+-- One step of reading a text: past white space or a comment, over a token, to a fault, or to the end of what is there.
+use Rattle.std.specs.Prelude.{◌≡◌, ◌≢◌, ℕ, ◌+◌, ◌≤◌, ◌<◌, Bool, true, false, List, [], ◌∷◌, ◌++◌, length, take, drop, if◌then◌else◌}
+use Rattle.gs_lex.specs.Classes.{is_ws}
+use Rattle.gs_lex.specs.Tokens.{Cut, Mode, Between, InComment, Ending, Whole, Fault, Lexeme, lexeme_at, behind}
+use Rattle.gs_lex.specs.Lexemes.{lexemes_of}
+use Rattle.gs_lex.specs.Scans.{IsScanned, fresh}
+use Rattle.gs_lex.specs.declared.readings.Halt.{Halt}
+use Rattle.gs_lex.specs.declared.readings.Halt.TheVariants as halt
+use Rattle.gs_lex.specs.declared.kinds.Kind.{Kind}
+use Rattle.gs_lex.specs.declared.scans.Scan.{Scan}
+use Rattle.gs_lex.specs.declared.steps.Reading.{Reading}
+use Rattle.gs_lex.specs.declared.steps.Step.{Step}
+use Rattle.gs_lex.specs.declared.steps.Step.TheVariants as step
+use Rattle.gs_lex.specs.declared.tokens.Token.{Token}
+
+abbrev pub mode_of : Bool → Mode
+mode_of true = InComment
+mode_of false = Between
+
+-- at the end of a text nothing follows
+abbrev pub MayFollow : Bool → List ℕ → Type 0
+MayFollow is_end y = is_end ≡ true → y ≡ []
+
+abbrev pub bit : Bool → ℕ
+bit true = 1
+bit false = 0
+
+-- how the text is cut from where a reading stands
+abbrev pub CutFrom : Reading → List ℕ → List Lexeme → Ending → Type 0
+CutFrom r x ts e = Cut r.updates (mode_of r.in_comment) r.place r.last x ts e
+
+-- the tokens of x are those behind its first bytes
+pub record Passes (is_end : Bool) (r : Reading) (x : List ℕ) (count : ℕ) (in_comment : Bool) : Type 0 where
+  pub cut : (y : List ℕ) (ts : List Lexeme) (e : Ending) → MayFollow is_end y
+      → Cut r.updates (mode_of in_comment) (behind r.place count) r.last (drop count x ++ y) ts e → CutFrom r (x ++ y) ts e
+
+-- the tokens of x are a token of its first bytes, and those behind it
+pub record Gives (is_end : Bool) (r : Reading) (x : List ℕ) (k : Kind) (count : ℕ) : Type 0 where
+  pub cut : (y : List ℕ) (ts : List Lexeme) (e : Ending) → MayFollow is_end y
+      → Cut r.updates Between (behind r.place count) (behind r.place count) (drop count x ++ y) ts e → CutFrom r (x ++ y) (lexeme_at k r.place (take count x) ∷ ts) e
+
+-- x has a fault before its next token ends
+pub record Fails (is_end : Bool) (r : Reading) (x : List ℕ) : Type 0 where
+  pub cut : (y : List ℕ) → MayFollow is_end y → CutFrom r (x ++ y) [] (Fault r.last)
+
+-- what a step says
+abbrev pub StepFits : Bool → Reading → List ℕ → Step → Type 0
+StepFits is_end r x (step.Passed count in_comment) = Passes is_end r x count in_comment
+StepFits is_end r x (step.Found k count) = Gives is_end r x k count
+StepFits is_end r x step.Fault = Fails is_end r x
+StepFits is_end r x step.End = (is_end ≡ true) × CutFrom r x [] Whole
+StepFits is_end r x (step.Wait s) = (is_end ≡ false) × IsScanned r.updates x s
+
+-- a step stays within the text, and goes on
+abbrev pub StepMoves : Reading → List ℕ → Step → Type 0
+StepMoves r x (step.Passed count in_comment) = (count ≤ length x) × (bit in_comment < count + count + bit r.in_comment)
+StepMoves r x (step.Found k count) = (count ≤ length x) × (0 < count)
+StepMoves r x step.Fault = Unit {0}
+StepMoves r x step.End = Unit {0}
+StepMoves r x (step.Wait s) = (s.len ≤ length x) × (s.best_len ≤ s.len)
+
+-- neither white space nor a comment
+pub record BeginsToken (x : List ℕ) : Type 0 where
+  pub first : ℕ
+  pub others : List ℕ
+  pub parts : x ≡ first ∷ others
+  pub no_space : is_ws first ≡ false
+  pub no_hash : first ≢ 35
+
+-- the reading stands within the text
+pub record IsWithin (r : Reading) (x : List ℕ) : Type 0 where
+  pub cut : r.cut ≤ length x
+  pub scan : r.cut + r.scan.len ≤ length x
+  pub best : r.scan.best_len ≤ r.scan.len
+
+abbrev pub passed_of : Reading → ℕ → Bool → Reading
+passed_of r count in_comment = record { updates = r.updates; in_comment = in_comment; cut = r.cut + count; place = behind r.place count; last = r.last; scan = fresh r.updates }
+
+abbrev pub behind_of : Reading → ℕ → Reading
+behind_of r count = record { updates = r.updates; in_comment = false; cut = r.cut + count; place = behind r.place count; last = behind r.place count; scan = fresh r.updates }
+
+-- Some tokens were added, and with those that come they are the tokens of the text.
+pub record Went (is_end : Bool) (x : List ℕ) (from to : Reading) (old new : List Token) : Type 0 where
+  pub added : List Lexeme
+  pub given : lexemes_of new ≡ lexemes_of old ++ added
+  pub mode : to.updates ≡ from.updates
+  pub scanned : IsScanned to.updates (drop to.cut x) to.scan
+  pub cut : (y : List ℕ) (ts : List Lexeme) (e : Ending) → MayFollow is_end y → CutFrom to (drop to.cut x ++ y) ts e → CutFrom from (drop from.cut x ++ y) (added ++ ts) e
+
+-- why the reading stopped
+abbrev pub HasHalted : Bool → List ℕ → Reading → Halt → Type 0
+HasHalted is_end x r halt.Fault = Fails is_end r (drop r.cut x)
+HasHalted is_end x r halt.End = (is_end ≡ true) × CutFrom r (drop r.cut x) [] Whole
+HasHalted is_end x r halt.Wait = is_end ≡ false
+
+-- tokens were added at most
+pub record Grows (old new : List Token) : Type 0 where
+  pub more : List Token
+  pub parts : new ≡ old ++ more
+
+-- at the start of a text
+abbrev pub first_of : Bool → Reading
+first_of updates = record { updates = updates; in_comment = false; cut = 0; place = 0; last = 0; scan = fresh updates }

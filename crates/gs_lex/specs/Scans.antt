@@ -1,0 +1,39 @@
+-- How far a token is read.
+use Rattle.std.specs.Prelude.{◌≡◌, ◌≢◌, ℕ, ◌+◌, ◌≤◌, Bool, true, false, List, [], ◌∷◌, ◌++◌, length, Option, Some, None, encode_utf8, encode_utf8_all}
+use Rattle.std.specs.Char.{IsScalar}
+use Rattle.std.specs.Str.{all_scalars}
+use Rattle.gs_lex.specs.Automata.{Found, run, longest}
+use Rattle.gs_lex.specs.States.{tokens, next, accepts, start_of}
+use Rattle.gs_lex.specs.declared.kinds.Terminal.{Terminal}
+use Rattle.gs_lex.specs.declared.states.State.{State}
+use Rattle.gs_lex.specs.declared.scans.Scan.{Scan}
+
+abbrev pub best_after : Option Terminal → ℕ → Option Terminal × ℕ → Option Terminal × ℕ
+best_after None n b = b
+best_after (Some k) n b = (Some k, n)
+
+-- a character of n bytes more
+abbrev pub onward_of : Scan → State → ℕ → Scan
+onward_of s p n = let b = best_after (accepts p) (s.len + n) (s.best, s.best_len) in record { state = p; len = s.len + n; best = b.0; best_len = b.1 }
+
+abbrev pub fresh : Bool → Scan
+fresh updates = record { state = start_of updates; len = 0; best = None; best_len = 0 }
+
+-- the longest token so far, by its terminal and its bytes
+abbrev pub IsBest : Found Terminal ℕ → Option Terminal → ℕ → Type 0
+IsBest None k n = k ≡ None
+IsBest (Some t) k n = (k ≡ Some t.0) × (n ≡ length (encode_utf8_all t.1))
+
+-- these characters at the front of x led to where the scan stands
+pub record IsScanned (updates : Bool) (x : List ℕ) (s : Scan) : Type 0 where
+  pub chars : List ℕ
+  pub after : List ℕ
+  pub parts : x ≡ encode_utf8_all chars ++ after
+  pub count : s.len ≡ length (encode_utf8_all chars)
+  pub characters : all_scalars chars ≡ true
+  pub stands : run (tokens updates) chars ≡ Some s.state
+  pub is_best : IsBest (longest (tokens updates) chars) s.best s.best_len
+
+-- no character at the front of z goes on with a token
+abbrev pub IsStuck : State → List ℕ → Type 0
+IsStuck q z = (c : ℕ) (o : List ℕ) → IsScalar c → z ≡ encode_utf8 c ++ o → next q c ≡ None

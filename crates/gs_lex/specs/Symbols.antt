@@ -1,0 +1,18 @@
+-- What the front of bytes is (UTF-8, RFC 3629).
+use Rattle.std.specs.Prelude.{◌≡◌, ◌≢◌, ℕ, ◌<◌, ◌≤◌, List, [], ◌++◌, length, take, encode_utf8}
+use Rattle.std.specs.Char.{IsScalar}
+use Rattle.std.specs.Str.{StartsWithNoChar}
+use Rattle.gs_lex.specs.declared.symbols.Symbol.{Symbol}
+use Rattle.gs_lex.specs.declared.symbols.Symbol.TheVariants.{Character, Bad, Short}
+
+-- the bytes begin with this character, which has n bytes
+pub record BeginsWith (c n : ℕ) (x : List ℕ) : Type 0 where
+  pub scalar : IsScalar c
+  pub within : n ≤ length x
+  pub spelled : take n x ≡ encode_utf8 c
+
+-- a character; bytes that begin none, whatever follows; or bytes that begin none if nothing follows
+abbrev pub IsFront : Symbol → List ℕ → Type 0
+IsFront (Character c n) x = BeginsWith c n x
+IsFront Bad x = (y : List ℕ) → StartsWithNoChar (x ++ y)
+IsFront Short x = StartsWithNoChar x

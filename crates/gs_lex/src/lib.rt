@@ -1,0 +1,21 @@
+//! The tokens of Turtle and of SPARQL Update, from a text that comes in any pieces.
+#![tactic(auto)]
+
+mod classes;
+mod kinds;
+mod laws;
+mod lexers;
+mod readings;
+#[cfg(test)]
+mod rows;
+mod scans;
+mod states;
+mod steps;
+mod symbols;
+mod tokens;
+mod words;
+
+pub use kinds::Kind;
+pub use laws::text_has_one_cut;
+pub use lexers::Lexer;
+pub use tokens::Token;

@@ -1,0 +1,112 @@
+//! The reading of a text, step by step.
+ghost use Rattle.std.specs.Prelude.{◌≡◌, ℕ, ◌≤◌, ◌<◌, ◌+◌, ◌^◌, ◌++◌, ◌∷◌, [], length, take, drop, vec_len, IfOk, OnOk};
+ghost use Rattle.gs_lex.specs.Readings.{Went, Grows, HasHalted, IsWithin, StepFits, StepMoves, passed_of, behind_of};
+ghost use Rattle.gs_lex.specs.Lexemes.{lexemes_of};
+ghost use Rattle.gs_lex.specs.Tokens.{lexeme_at};
+ghost use Rattle.gs_lex.specs.Scans.{IsScanned};
+
+use crate::kinds::Kind;
+use crate::scans::Scan;
+use crate::steps::{Reading, Step, next_step};
+use crate::tokens::{Token, place_behind, token_at};
+use std::alloc::{AllocError, Global};
+
+/// Why a reading stops.
+#[derive(Clone, Copy, Debug, PartialEq, Eq)]
+pub enum Halt {
+    Fault,
+    End,
+    Wait,
+}
+
+/// Behind so many bytes that are no part of a token.
+fn passed(at: Reading, count: usize, in_comment: bool) -> Reading
+    requires { at.cut + count < 2 ^ 64 }
+    ensures { result ≡ passed_of at count in_comment }
+{
+    Reading {
+        updates: at.updates,
+        in_comment,
+        cut: at.cut + count,
+        place: place_behind(at.place, count),
+        last: at.last,
+        scan: Scan::new(at.updates),
+    }
+}
+
+/// Behind a token of so many bytes.
+fn behind(at: Reading, count: usize) -> Reading
+    requires { at.cut + count < 2 ^ 64 }
+    ensures { result ≡ behind_of at count }
+{
+    let end = place_behind(at.place, count);
+    Reading {
+        updates: at.updates,
+        in_comment: false,
+        cut: at.cut + count,
+        place: end,
+        last: end,
+        scan: Scan::new(at.updates),
+    }
+}
+
+/// The next step, from the cut on.
+fn step_at(text: &[u8], at: Reading, is_end: bool) -> Step
+    requires { IsWithin at text.now }
+    ensures moves { StepMoves at (drop at.cut text.now) result }
+    ensures fits { IsScanned at.updates (drop at.cut text.now) at.scan → StepFits is_end at (drop at.cut text.now) result }
+{
+    next_step(&text[at.cut..], at, is_end)
+}
+
+/// Adds the token of so many bytes from the cut on.
+fn add_token(
+    alloc: Global,
+    text: &[u8],
+    at: Reading,
+    kind: Kind,
+    count: usize,
+    tokens: &mut Vec<Token>,
+) -> Result<(), AllocError>
+    requires { at.cut + count ≤ length text.now }
+    ensures ok { OnOk result (lexemes_of tokens.new.items ≡ lexemes_of tokens.old.items ++ lexeme_at kind at.place (take count (drop at.cut text.now)) ∷ []) }
+    ensures kept { Grows tokens.old.items tokens.new.items }
+{
+    let rest = &text[at.cut..];
+    let token = token_at(alloc, kind, at.place, &rest[..count])?;
+    tokens.push(token)?;
+    Ok(())
+}
+
+/// Adds the tokens of a text from the cut on, as far as no more text can change them, or, at the
+/// end of the text, all.
+pub fn read(
+    alloc: Global,
+    text: &[u8],
+    from: Reading,
+    is_end: bool,
+    tokens: &mut Vec<Token>,
+) -> Result<(Reading, Halt), AllocError>
+    requires { IsWithin from text.now }
+    ensures ok { IfOk result (λ r. IsWithin r.0 text.now × (IsScanned from.updates (drop from.cut text.now) from.scan → Went is_end text.now from r.0 tokens.old.items tokens.new.items × HasHalted is_end text.now r.0 r.1)) }
+    ensures kept { Grows tokens.old.items tokens.new.items }
+{
+    let mut at = from;
+    'steps: loop {
+        match step_at(text, at, is_end) {
+            Step::Passed(count, in_comment) => {
+                at = passed(at, count, in_comment);
+            }
+            Step::Found(kind, count) => {
+                add_token(alloc, text, at, kind, count, tokens)?;
+                at = behind(at, count);
+            }
+            Step::Fault => return Ok((at, Halt::Fault)),
+            Step::End => return Ok((at, Halt::End)),
+            Step::Wait(scan) => {
+                at.scan = scan;
+                return Ok((at, Halt::Wait));
+            }
+        }
+    }
+}

@@ -1,0 +1,125 @@
+//! One step of reading a text.
+ghost use Rattle.std.specs.Prelude.{◌≡◌, ◌≤◌, length, true, false};
+ghost use Rattle.gs_lex.specs.Classes as spec;
+ghost use Rattle.gs_lex.specs.Scans.{fresh, IsScanned};
+ghost use Rattle.gs_lex.specs.Readings.{BeginsToken, StepFits, StepMoves};
+
+use crate::classes::is_line_end;
+use crate::kinds::Kind;
+use crate::scans::{Scan, read_on};
+use crate::symbols::{Symbol, front_at};
+use crate::words::kind_of;
+
+/// Where the reading of a text stands.
+#[derive(Clone, Copy, Debug)]
+pub struct Reading {
+    /// Whether the tokens of updates are read too.
+    pub updates: bool,
+    pub in_comment: bool,
+    /// How many bytes of the text at hand are cut into tokens.
+    pub cut: usize,
+    /// The place of that cut in the whole text.
+    pub place: u64,
+    /// The place where the last token ends.
+    pub last: u64,
+    /// How far the next token is read.
+    pub scan: Scan,
+}
+
+/// What stands next in a text.
+pub enum Step {
+    /// So many bytes that are no part of a token, and whether a comment goes on behind them.
+    Passed(usize, bool),
+    /// A token of so many bytes.
+    Found(Kind, usize),
+    Fault,
+    /// Nothing, at the end of the whole text.
+    End,
+    /// The front of a token, or of a character.
+    Wait(Scan),
+}
+
+fn is_space(byte: u8) -> bool
+    ensures { result ≡ spec.is_ws byte }
+{
+    byte == b' ' || byte == b'\t' || byte == b'\r' || byte == b'\n'
+}
+
+/// A step in a comment.
+fn comment_step(rest: &[u8], at: Reading, is_end: bool) -> Step
+    requires { at.in_comment ≡ true }
+    ensures moves { StepMoves at rest.now result }
+    ensures fits { StepFits is_end at rest.now result }
+{
+    match front_at(rest, 0) {
+        Symbol::Character(c, size) => {
+            if is_line_end(c) {
+                Step::Passed(0, false)
+            } else {
+                Step::Passed(size, true)
+            }
+        }
+        Symbol::Bad => Step::Fault,
+        Symbol::Short => {
+            if !is_end {
+                Step::Wait(Scan::new(at.updates))
+            } else if rest.len() == 0 {
+                Step::Passed(0, false)
+            } else {
+                Step::Fault
+            }
+        }
+    }
+}
+
+/// A step to a token's end.
+fn token_step(rest: &[u8], at: Reading, is_end: bool) -> Step
+    requires within { at.scan.len ≤ length rest.now }
+    requires best_within { at.scan.best_len ≤ at.scan.len }
+    requires between { at.in_comment ≡ false }
+    requires begins { BeginsToken rest.now }
+    ensures moves { StepMoves at rest.now result }
+    ensures fits { IsScanned at.updates rest.now at.scan → StepFits is_end at rest.now result }
+{
+    let (scan, is_stuck) = read_on(rest, at.scan);
+    if !is_stuck && !is_end {
+        return Step::Wait(scan);
+    }
+    if scan.best_len == 0 {
+        return Step::Fault;
+    }
+    match scan.best {
+        None => Step::Fault,
+        Some(terminal) => match kind_of(at.updates, terminal, &rest[..scan.best_len]) {
+            Some(kind) => Step::Found(kind, scan.best_len),
+            None => Step::Fault,
+        },
+    }
+}
+
+/// What stands next.
+pub fn next_step(rest: &[u8], at: Reading, is_end: bool) -> Step
+    requires within { at.scan.len ≤ length rest.now }
+    requires best_within { at.scan.best_len ≤ at.scan.len }
+    ensures moves { StepMoves at rest.now result }
+    ensures fits { IsScanned at.updates rest.now at.scan → StepFits is_end at rest.now result }
+{
+    if at.in_comment {
+        return comment_step(rest, at, is_end);
+    }
+    if rest.len() == 0 {
+        return if is_end {
+            Step::End
+        } else {
+            Step::Wait(at.scan)
+        };
+    }
+    let byte = rest[0];
+    if is_space(byte) {
+        Step::Passed(1, false)
+    } else if byte == b'#' {
+        Step::Passed(1, true)
+    } else {
+        token_step(rest, at, is_end)
+    }
+}

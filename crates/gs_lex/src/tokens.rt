@@ -1,0 +1,47 @@
+//! A token of a text.
+ghost use Rattle.std.specs.Prelude.{◌≡◌, IfOk, length};
+ghost use Rattle.gs_lex.specs.Tokens.{lexeme_at, behind};
+ghost use Rattle.gs_lex.specs.Lexemes.{lexeme_of};
+
+use crate::kinds::Kind;
+use crate::words::has_text;
+use std::alloc::{AllocError, Global};
+
+/// A token, with its place in the whole text. A place is a number of bytes that stops at the
+/// greatest `u64`.
+#[derive(Debug, Drop)]
+pub struct Token {
+    pub kind: Kind,
+    /// Its bytes with all delimiters and escapes, where the kind leaves them open; else nothing.
+    pub text: Vec<u8>,
+    /// The number of bytes before it.
+    pub start: u64,
+    /// The number of bytes up to its end.
+    pub end: u64,
+}
+
+/// The place behind so many bytes more.
+#[inline]
+pub fn place_behind(place: u64, count: usize) -> u64
+    ensures { result ≡ behind place count }
+{
+    place.saturating_add(count as u64)
+}
+
+/// The token of these bytes at a place. Punctuation and words take no memory.
+pub fn token_at(alloc: Global, kind: Kind, start: u64, bytes: &[u8]) -> Result<Token, AllocError>
+    ensures { IfOk result (λ t. lexeme_of t ≡ lexeme_at kind start bytes.now) }
+{
+    let end = place_behind(start, bytes.len());
+    let text = if has_text(kind) {
+        Vec::from_slice(alloc, bytes)?
+    } else {
+        Vec::new(alloc)
+    };
+    Ok(Token {
+        kind,
+        text,
+        start,
+        end,
+    })
+}

@@ -1,0 +1,115 @@
+-- What is read of a line leaves no line's end behind, and a fault is one.
+use Rattle.std.proofs.Common.{◌≡◌, ℕ, ◌-◌, Bool, true, false, cond, List, [], ◌∷◌, ◌++◌, length, Option, Some, None, Result, Ok, Err}
+use Rattle.std.specs.Prelude.{◌==◌, ◌&&◌, ◌||◌, nat_le}
+use Rattle.std.specs.Char.{encode_utf8}
+use lib.Utf8.{scalar}
+use Rattle.std.specs.Str.{str_to_ascii_lowercase}
+use Rattle.gs_model.specs.Terms.{Term, Iri, Literal, Typed, Tagged, xsd_string, is_term, text_of}
+use Rattle.gs_model.specs.declared.limits.TheConstants.{LONGEST_TERM}
+use Rattle.gs_body.specs.Bodies.{Ending, Whole, Syntax, TooLong}
+use Rattle.gs_ntread.specs.Marks.{Mark}
+use Rattle.gs_ntread.specs.Classes.{is_space, is_line_end, may_stand_in_iri, may_stand_in_string, is_hex, with_digit, is_label_char, begins_label, is_tag_char}
+use Rattle.gs_ntread.specs.Sentences.{made, short, typed_made}
+use Rattle.gs_ntread.specs.Grammar.{Read, ◌>>=◌, skip, before, Inside, Plain, Escape, Digits, escaped, escape_before, iri_after, string_after, goes_on, label_after, label_at, tag_after, before_text, datatype_at, caret_at, suffix_at}
+use Rattle.gs_ntread.proofs.Branches.{either_way}
+
+-- no character of a line ends it
+pub data NoEnd : List Mark → Type 0 where
+  none : NoEnd []
+  more : {m : Mark} {ms : List Mark} → is_line_end m.0 ≡ false → NoEnd ms → NoEnd (m ∷ ms)
+
+abbrev pub IsFault : Ending → Type 0
+IsFault Whole = ⊥
+IsFault Syntax = Unit {0}
+IsFault TooLong = Unit {0}
+
+-- no character of the text behind what was read ends a line
+abbrev pub KeepsLine : {A : Type 0} → Read A → Type 0
+KeepsLine (Err e) = IsFault e
+KeepsLine (Ok r) = NoEnd r.1
+
+keeps_before : (c : ℕ) (r : Read (List ℕ)) → KeepsLine r → KeepsLine (before c r)
+keeps_before c (Err e) h = h
+keeps_before c (Ok r) h = h
+
+pub keeps_iri : (v : Inside) (line : List Mark) → NoEnd line → KeepsLine (iri_after v line)
+keeps_iri v [] n = tt
+keeps_iri Plain (m ∷ ms) (more h n) =
+    either_way KeepsLine (m.0 == 62) _ _ n
+    (either_way KeepsLine (m.0 == 92) _ _ (keeps_iri Escape ms n)
+    (either_way KeepsLine (may_stand_in_iri m.0) _ _ (keeps_before m.0 (iri_after Plain ms) (keeps_iri Plain ms n)) tt))
+keeps_iri Escape (m ∷ ms) (more h n) =
+    either_way KeepsLine (m.0 == 117) _ _ (keeps_iri (Digits 3 0) ms n)
+    (either_way KeepsLine (m.0 == 85) _ _ (keeps_iri (Digits 7 0) ms n) tt)
+keeps_iri (Digits l v) (m ∷ ms) (more h n) =
+    either_way KeepsLine (is_hex m.0) _ _
+    (either_way KeepsLine (l == 0) _ _
+    (either_way KeepsLine (may_stand_in_iri (with_digit v m.0)) _ _ (keeps_before (with_digit v m.0) (iri_after Plain ms) (keeps_iri Plain ms n)) tt)
+    (keeps_iri (Digits (l - 1) (with_digit v m.0)) ms n))
+    tt
+
+keeps_escape : (o : Option ℕ) (r : Read (List ℕ)) → KeepsLine r → KeepsLine (escape_before o r)
+keeps_escape None r h = tt
+keeps_escape (Some c) r h = keeps_before c r h
+
+pub keeps_string : (v : Inside) (line : List Mark) → NoEnd line → KeepsLine (string_after v line)
+keeps_string v [] n = tt
+keeps_string Plain (m ∷ ms) (more h n) =
+    either_way KeepsLine (m.0 == 34) _ _ n
+    (either_way KeepsLine (m.0 == 92) _ _ (keeps_string Escape ms n)
+    (either_way KeepsLine (may_stand_in_string m.0) _ _ (keeps_before m.0 (string_after Plain ms) (keeps_string Plain ms n)) tt))
+keeps_string Escape (m ∷ ms) (more h n) =
+    either_way KeepsLine (m.0 == 117) _ _ (keeps_string (Digits 3 0) ms n)
+    (either_way KeepsLine (m.0 == 85) _ _ (keeps_string (Digits 7 0) ms n) (keeps_escape (escaped m.0) (string_after Plain ms) (keeps_string Plain ms n)))
+keeps_string (Digits l v) (m ∷ ms) (more h n) =
+    either_way KeepsLine (is_hex m.0) _ _
+    (either_way KeepsLine (l == 0) _ _
+    (either_way KeepsLine (scalar (with_digit v m.0)) _ _ (keeps_before (with_digit v m.0) (string_after Plain ms) (keeps_string Plain ms n)) tt)
+    (keeps_string (Digits (l - 1) (with_digit v m.0)) ms n))
+    tt
+
+keeps_label_after : (line : List Mark) → NoEnd line → NoEnd (label_after line).1
+keeps_label_after [] n = n
+keeps_label_after (m ∷ ms) (more h n) =
+    either_way (λ (u : List ℕ × List Mark). NoEnd u.1) (is_label_char m.0 || (m.0 == 46 && goes_on ms)) _ _ (keeps_label_after ms n) (more h n)
+
+pub keeps_label : (line : List Mark) → NoEnd line → KeepsLine (label_at line)
+keeps_label [] n = tt
+keeps_label (m ∷ []) n = tt
+keeps_label (m ∷ d ∷ ms) (more h (more g n)) =
+    either_way KeepsLine (m.0 == 58) _ _ (either_way KeepsLine (begins_label d.0) _ _ (keeps_label_after ms n) tt) tt
+
+keeps_tag : (line : List Mark) → NoEnd line → NoEnd (tag_after line).1
+keeps_tag [] n = n
+keeps_tag (m ∷ ms) (more h n) = either_way (λ (u : List ℕ × List Mark). NoEnd u.1) (is_tag_char m.0) _ _ (keeps_tag ms n) (more h n)
+
+pub keeps_skip : (line : List Mark) → NoEnd line → NoEnd (skip line)
+keeps_skip [] n = n
+keeps_skip (m ∷ ms) (more h n) = either_way NoEnd (is_space m.0) _ _ (keeps_skip ms n) (more h n)
+
+pub keeps_made : (y : List Mark) (t : Term) → NoEnd y → KeepsLine (before_text y (made t))
+keeps_made y t n =
+    either_way (λ (r : Result Term Ending). KeepsLine (before_text y r)) (is_term t) _ _
+    (either_way (λ (r : Result Term Ending). KeepsLine (before_text y r)) (nat_le (length (text_of t)) LONGEST_TERM) _ _ n tt) tt
+
+pub keeps_short : {A : Type 0} (y : List Mark) (token : List ℕ) (r : Result A Ending) → KeepsLine (before_text y r) → KeepsLine (before_text y (short token r))
+keeps_short {A} y token r h = either_way (λ (r : Result A Ending). KeepsLine (before_text y r)) (nat_le (length token) LONGEST_TERM) r (Err TooLong) h tt
+
+keeps_typed : (l : List ℕ) (r : Read (List ℕ)) → KeepsLine r → KeepsLine (r >>= λ i. before_text i.1 (typed_made l i.0))
+keeps_typed l (Err e) h = h
+keeps_typed l (Ok i) h = keeps_short i.1 i.0 (made (Literal l (Typed i.0))) (keeps_made i.1 (Literal l (Typed i.0)) h)
+
+keeps_datatype : (l : List ℕ) (line : List Mark) → NoEnd line → KeepsLine (datatype_at l line)
+keeps_datatype l [] n = tt
+keeps_datatype l (m ∷ ms) (more h n) = either_way KeepsLine (m.0 == 60) _ _ (keeps_typed l (iri_after Plain ms) (keeps_iri Plain ms n)) tt
+
+keeps_caret : (l : List ℕ) (line : List Mark) → NoEnd line → KeepsLine (caret_at l line)
+keeps_caret l [] n = tt
+keeps_caret l (m ∷ ms) (more h n) = either_way KeepsLine (m.0 == 94) _ _ (keeps_datatype l (skip ms) (keeps_skip ms n)) tt
+
+pub keeps_suffix : (l : List ℕ) (line : List Mark) → NoEnd line → KeepsLine (suffix_at l line)
+keeps_suffix l [] n = keeps_made [] (Literal l (Typed xsd_string)) n
+keeps_suffix l (m ∷ ms) (more h n) =
+    either_way KeepsLine (m.0 == 94) _ _ (keeps_caret l ms n)
+    (either_way KeepsLine (m.0 == 64) _ _ (keeps_short (tag_after ms).1 (tag_after ms).0 _ (keeps_made (tag_after ms).1 (Literal l (Tagged (str_to_ascii_lowercase (tag_after ms).0))) (keeps_tag ms n)))
+    (keeps_made (m ∷ ms) (Literal l (Typed xsd_string)) (more h n)))

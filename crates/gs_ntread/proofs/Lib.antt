@@ -1,0 +1,12 @@
+pub mod Branches
+pub mod Holding
+pub mod Keeping
+pub mod WalkTokens
+pub mod WalkLabels
+pub mod WalkLiterals
+pub mod WalkLines
+pub mod Whole
+pub mod Lostness
+pub mod Runs
+pub mod Boundaries
+pub mod Histories

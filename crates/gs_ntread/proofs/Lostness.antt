@@ -1,0 +1,131 @@
+-- Where the decoder is lost the grammar is broken.
+use Rattle.std.proofs.Common.{◌≡◌, ℕ, zero, suc, ◌*◌, ◌+◌, ◌-◌, Bool, true, false, cond, List, [], ◌∷◌, ◌++◌, refl, sym, ap, subst, ◌∙◌, Option, Some, None, Result, Ok, Err}
+use Rattle.std.specs.Prelude.{◌==◌, nat_lt}
+use Rattle.gs_model.specs.Terms.{Term}
+use Rattle.gs_machine.specs.Machines.{Machine, steps, rest, behind}
+use Rattle.gs_machine.specs.Utf8.{Decoding, Ready, Within, Lost, bad, utf8, decode_step, lead, goes_on}
+use Rattle.gs_body.specs.Bodies.{Ending, Syntax, TooLong, Stated}
+use Rattle.gs_blank.specs.Numbers.{Numbers}
+use Rattle.gs_ntread.specs.Marks.{Mark, end_of}
+use Rattle.gs_ntread.specs.Sentences.{Word}
+use Rattle.gs_ntread.specs.Documents.{numbering}
+use Rattle.gs_ntread.specs.Grammar.{Inside, Plain, Escape, Digits}
+use Rattle.gs_ntread.specs.Machine.{State, Turn, Held, Stage, AtSubject, AtPredicate, AtObject, AtSuffix, AtDatatype, AtDot, AtEnd, Mode, Between, Comment, InIri, InString, Underscore, Colon, InLabel, InDots, Caret, InTag, Broken, broken, end_state, turn, behind_literal, behind_subject, behind_object, dotted_object, label_held, plain_held, tagged_held}
+use Rattle.gs_ntread.specs.Reader.{keeping, placing, ntriples, Led}
+use Rattle.gs_ntread.specs.Readers.{IsBroken, Sound}
+use Rattle.gs_ntread.proofs.Branches.{either_way}
+
+bad_literal : (s : Word) (p : Term) (r : Result Term Ending) (n : ℕ) → IsBroken (behind_literal s p r bad n).0
+bad_literal s p (Ok t) n = tt
+bad_literal s p (Err e) n = tt
+
+bad_subject : (r : Result Word Ending) (n : ℕ) → IsBroken (behind_subject r bad n).0
+bad_subject (Ok w) n = tt
+bad_subject (Err e) n = tt
+
+bad_object : (s : Word) (p : Term) (r : Result Word Ending) (n : ℕ) → IsBroken (behind_object s p r bad n).0
+bad_object s p (Ok w) n = tt
+bad_object s p (Err e) n = tt
+
+bad_dots : (s : Word) (p : Term) (r : Result Word Ending) (f k : ℕ) → IsBroken (dotted_object s p r f k bad).0
+bad_dots s p (Ok w) f k = either_way IsBroken (k == 0) (end_state bad) (broken Syntax) tt tt
+bad_dots s p (Err e) f k = tt
+
+-- the mark of ill-formed bytes breaks each state
+pub turn_bad : (g : Stage) (m : Mode) (n : ℕ) → IsBroken (turn g m bad n).0
+turn_bad AtSubject Between n = tt
+turn_bad (AtPredicate s) Between n = tt
+turn_bad (AtObject s p) Between n = tt
+turn_bad (AtSuffix s p l) Between n = bad_literal s p (plain_held l) n
+turn_bad (AtDatatype s p l) Between n = tt
+turn_bad (AtDot s p o) Between n = tt
+turn_bad AtEnd Between n = tt
+turn_bad g Comment n = tt
+turn_bad g (InIri Plain h) n = tt
+turn_bad g (InIri Escape h) n = tt
+turn_bad g (InIri (Digits l v) h) n = tt
+turn_bad g (InString Plain h) n = tt
+turn_bad g (InString Escape h) n = tt
+turn_bad g (InString (Digits l v) h) n = tt
+turn_bad g Underscore n = tt
+turn_bad g Colon n = tt
+turn_bad AtSubject (InLabel h) n = bad_subject (label_held h) n
+turn_bad (AtPredicate s) (InLabel h) n = tt
+turn_bad (AtObject s p) (InLabel h) n = bad_object s p (label_held h) n
+turn_bad (AtSuffix s p l) (InLabel h) n = tt
+turn_bad (AtDatatype s p l) (InLabel h) n = tt
+turn_bad (AtDot s p o) (InLabel h) n = tt
+turn_bad AtEnd (InLabel h) n = tt
+turn_bad AtSubject (InDots h f k) n = tt
+turn_bad (AtPredicate s) (InDots h f k) n = tt
+turn_bad (AtObject s p) (InDots h f k) n = bad_dots s p (label_held h) f k
+turn_bad (AtSuffix s p l) (InDots h f k) n = tt
+turn_bad (AtDatatype s p l) (InDots h f k) n = tt
+turn_bad (AtDot s p o) (InDots h f k) n = tt
+turn_bad AtEnd (InDots h f k) n = tt
+turn_bad g Caret n = tt
+turn_bad AtSubject (InTag h) n = tt
+turn_bad (AtPredicate s) (InTag h) n = tt
+turn_bad (AtObject s p) (InTag h) n = tt
+turn_bad (AtSuffix s p l) (InTag h) n = bad_literal s p (tagged_held l h) n
+turn_bad (AtDatatype s p l) (InTag h) n = tt
+turn_bad (AtDot s p o) (InTag h) n = tt
+turn_bad AtEnd (InTag h) n = tt
+turn_bad g (Broken e) n = tt
+
+-- a decoder that gets lost marks it
+abbrev Marks : Decoding × List ℕ → Type 0
+Marks t = t.0 ≡ Lost → t.1 ≡ bad ∷ []
+
+marks_lost : Marks (Lost, bad ∷ [])
+marks_lost e = refl
+
+marks_ready : (os : List ℕ) → Marks (Ready, os)
+marks_ready os e = absurd (Prim.cc)
+
+marks_within : (n v l h : ℕ) (os : List ℕ) → Marks (Within n v l h, os)
+marks_within n v l h os e = absurd (Prim.cc)
+
+marks_on : (n v : ℕ) → Marks (goes_on n v)
+marks_on zero v = marks_ready (v ∷ [])
+marks_on (suc n) v = marks_within n v 128 191 []
+
+marks_lead : (b : ℕ) → Marks (lead b)
+marks_lead b =
+    either_way Marks (nat_lt b 128) _ _ (marks_ready (b ∷ []))
+    (either_way Marks (nat_lt b 194) _ _ marks_lost
+    (either_way Marks (nat_lt b 224) _ _ (marks_within 0 (b - 192) 128 191 [])
+    (either_way Marks (nat_lt b 240) _ _ (marks_within 1 (b - 224) (cond (b == 224) 160 128) (cond (b == 237) 159 191) [])
+    (either_way Marks (nat_lt b 245) _ _ (marks_within 2 (b - 240) (cond (b == 240) 144 128) (cond (b == 244) 143 191) []) marks_lost))))
+
+marks_step : (n v l h b : ℕ) → Marks (decode_step (Within n v l h) b)
+marks_step n v l h b =
+    either_way Marks (nat_lt b l) _ _ marks_lost
+    (either_way Marks (nat_lt h b) _ _ marks_lost (marks_on n (v * 64 + (b - 128))))
+
+pub marks_any : (d : Decoding) (b : ℕ) → (d ≡ Lost → ⊥) → (decode_step d b).0 ≡ Lost → (decode_step d b).1 ≡ bad ∷ []
+marks_any Ready b n e = marks_lead b e
+marks_any (Within m v l h) b n e = marks_step m v l h b e
+marks_any Lost b n e = absurd (n refl)
+
+-- the reading after some characters
+abbrev after_all : ℕ → ℕ × (State × Numbers) → List ℕ → State
+after_all r p os = (steps (placing r) p os).0.1.0
+
+after_bad : (r : ℕ) (p : ℕ × (State × Numbers)) → IsBroken (after_all r p (bad ∷ []))
+unfolding steps behind keeping
+after_bad r p = turn_bad p.1.0.0 p.1.0.1 (end_of p.0 bad)
+
+lost_at : (r : ℕ) (p : ℕ × (State × Numbers)) (t : Decoding × List ℕ) → Marks t → t.0 ≡ Lost → IsBroken (after_all r p t.1)
+lost_at r p t m e = subst (λ (os : List ℕ). IsBroken (after_all r p os)) (sym (m e)) (after_bad r p)
+
+sound-step : (r : ℕ) (d : Decoding) (p : ℕ × (State × Numbers)) (b : ℕ) → Sound (d, p) → Sound ((ntriples r).step (d, p) b).0
+unfolding behind steps
+sound-step r Ready p b h e = lost_at r p (lead b) (marks_lead b) e
+sound-step r (Within n v l k) p b h e = lost_at r p (decode_step (Within n v l k) b) (marks_step n v l k b) e
+sound-step r Lost p b h e = h refl
+
+pub sound-steps : (r : ℕ) (s : Led) (x : List ℕ) → Sound s → Sound (steps (ntriples r) s x).0
+unfolding steps
+sound-steps r s [] h = h
+sound-steps r s (b ∷ bs) h = sound-steps r ((ntriples r).step s b).0 bs (sound-step r s.0 s.1 b h)

@@ -1,0 +1,133 @@
+-- What a reader takes, step by step.
+use Rattle.std.proofs.Common.{◌≡◌, ℕ, ◌+◌, ◌<◌, Bool, true, false, List, [], ◌∷◌, ◌++◌, length, take, get_or, refl, sym, ap, subst, ◌∙◌, append_assoc, append-nil, Result, Ok, Err}
+use Rattle.std.specs.Prelude.{OnOk, IfErr}
+use Rattle.gs_model.specs.Triples.{Statement}
+use Rattle.gs_model.specs.declared.refusals.Refusal.{Refusal}
+use Rattle.gs_model.specs.declared.refusals.Refusal.TheVariants as refusal
+use Rattle.gs_machine.specs.Machines.{Machine, joined, steps, rest, behind}
+use Rattle.gs_machine.specs.Utf8.{Decoding, Ready, Within, Lost, bad, is_ready_of}
+use Rattle.gs_machine.proofs.MachineLemmas.{steps-snoc, steps-nil}
+use Rattle.gs_body.specs.Bodies.{Stated, Said, Ending, Whole, Syntax, TooLong, triples_of, end_after}
+use Rattle.gs_body.proofs.LeadingLemmas.{triples_of-append, end_after-append}
+use Rattle.gs_blank.specs.Numbers.{Numbers}
+use Rattle.gs_ntread.specs.Machine.{State, Broken, broken}
+use Rattle.gs_ntread.specs.Reader.{Led, placing, stating, ntriples, keeping}
+use Rattle.gs_ntread.specs.Readers.{led_of, Takes, FaultsAs, FaultyAfter, FaultyEnd, ConcludesAs, IsBroken}
+use Rattle.gs_ntread.specs.Views.{state_of}
+use Rattle.gs_ntread.proofs.Whole.{Placed, says_nothing, placing_broken}
+use Rattle.gs_ntread.specs.declared.reader.NTriplesReader.{NTriplesReader}
+
+pub on_ok : {A E : Type 0} (r : Result A E) (P Q : Type 0) → (P → Q) → OnOk r P → OnOk r Q
+on_ok (Ok x) P Q f h = f h
+on_ok (Err e) P Q f h = h
+
+pub if_err : {A E : Type 0} (r : Result A E) (P Q : E → Type 0) → ((e : E) → P e → Q e) → IfErr r P → IfErr r Q
+if_err (Ok x) P Q f h = h
+if_err (Err e) P Q f h = f e h
+
+-- nothing was given
+pub took-none : (a b : NTriplesReader) (ts : List Statement) (t : Led × List Stated) → t ≡ (led_of b, []) → b.last ≡ a.last → b.request ≡ a.request → b.is_closed ≡ a.is_closed → Takes a b ts ts t
+took-none a b ts t e l r k = record {
+  led = ap (λ (u : Led × List Stated). u.0) (sym e);
+  given = sym (append-nil ts) ∙ ap (λ (u : Led × List Stated). ts ++ triples_of u.1) (sym e);
+  last = l ∙ ap (λ (u : Led × List Stated). end_after a.last u.1) (sym e);
+  request = r;
+  closed = k;
+}
+
+-- the same from a reader whose other fields differ
+pub took-from : (a c b : NTriplesReader) (ts us : List Statement) (t u : Led × List Stated) → c.last ≡ a.last → c.request ≡ a.request → c.is_closed ≡ a.is_closed → t ≡ u → Takes c b ts us u → Takes a b ts us t
+took-from a c b ts us t u l r k e h = record {
+  led = h.led ∙ ap (λ (u : Led × List Stated). u.0) (sym e);
+  given = h.given ∙ ap (λ (u : Led × List Stated). ts ++ triples_of u.1) (sym e);
+  last = h.last ∙ ap (λ n. end_after n u.1) l ∙ ap (λ (u : Led × List Stated). end_after a.last u.1) (sym e);
+  request = h.request ∙ r;
+  closed = h.closed ∙ k;
+}
+
+-- one run after another
+pub took-then : (a b c : NTriplesReader) (o1 o2 o3 : List Statement) (t u : Led × List Stated) → Takes a b o1 o2 t → Takes b c o2 o3 u → Takes a c o1 o3 (u.0, t.1 ++ u.1)
+took-then a b c o1 o2 o3 t u f g = record {
+  led = g.led;
+  given = g.given ∙ ap (λ z. z ++ triples_of u.1) f.given ∙ append_assoc o1 (triples_of t.1) (triples_of u.1) ∙ ap (λ z. o1 ++ z) (sym (triples_of-append t.1 u.1));
+  last = g.last ∙ ap (λ z. end_after z u.1) f.last ∙ sym (end_after-append a.last t.1 u.1);
+  request = g.request ∙ f.request;
+  closed = g.closed ∙ f.closed;
+}
+
+-- one byte more of a piece
+pub took-more : (a b c : NTriplesReader) (o1 o2 o3 : List Statement) (x : List ℕ) (n : ℕ) → n < length x
+    → Takes a b o1 o2 (steps (ntriples a.request) (led_of a) (take n x)) → Takes b c o2 o3 ((ntriples b.request).step (led_of b) (get_or x n 0))
+    → Takes a c o1 o3 (steps (ntriples a.request) (led_of a) (take (n + 1) x))
+took-more a b c o1 o2 o3 x n h f g =
+    let t : Led × List Stated = steps (ntriples a.request) (led_of a) (take n x) in
+    let g' : Takes b c o2 o3 ((ntriples a.request).step t.0 (get_or x n 0)) =
+    subst (λ (r : ℕ). Takes b c o2 o3 ((ntriples r).step t.0 (get_or x n 0))) f.request
+    (subst (λ (s : Led). Takes b c o2 o3 ((ntriples b.request).step s (get_or x n 0))) f.led g) in
+    subst (Takes a c o1 o3) (sym (steps-snoc (ntriples a.request) (led_of a) x n 0 h))
+    (took-then a b c o1 o2 o3 t ((ntriples a.request).step t.0 (get_or x n 0)) f g')
+
+-- the fault of a state is that of what was given
+pub fault-after : (e : Refusal) (a b : NTriplesReader) (o1 o2 : List Statement) (s : State) (t : Led × List Stated) → Takes a b o1 o2 t → s ≡ (led_of b).1.1.0 → FaultsAs e b.last s → FaultyAfter e a.last t
+fault-after (refusal.Syntax at) a b o1 o2 s t h q f = (sym (ap (λ (l : Led). l.1.1.0) h.led) ∙ sym q ∙ f.0, f.1 ∙ h.last)
+fault-after refusal.TermTooLong a b o1 o2 s t h q f = sym (ap (λ (l : Led). l.1.1.0) h.led) ∙ sym q ∙ f
+fault-after refusal.NoMemory a b o1 o2 s t h q f = tt
+fault-after refusal.WrongPhase a b o1 o2 s t h q f = f
+fault-after refusal.BadSeat a b o1 o2 s t h q f = f
+fault-after refusal.LastNumber a b o1 o2 s t h q f = f
+fault-after refusal.StoreFull a b o1 o2 s t h q f = f
+fault-after refusal.NotInProfile a b o1 o2 s t h q f = f
+fault-after refusal.Closed a b o1 o2 s t h q f = f
+
+-- the text ends where the decoder is within a character
+pub unready : (r : ℕ) (d : Decoding) (p : ℕ × (State × Numbers)) → is_ready_of d ≡ false → (d ≡ Lost → ⊥)
+    → rest (ntriples r) (d, p) [] ≡ joined ((placing r).step p bad).1 (rest (placing r) ((placing r).step p bad).0 [])
+unfolding rest behind
+unready r Ready p h n = absurd (Prim.cc)
+unready r (Within k v l g) p h n = refl
+unready r Lost p h n = absurd (n refl)
+
+-- what the end of a text concludes
+pub concluded : (e : Refusal) (last n : ℕ) (end : Ending) (t : Said) → t.1 ≡ end → n ≡ end_after last t.0 → ConcludesAs e n end → FaultyEnd e last t
+concluded (refusal.Syntax at) last n end t p q f = (p ∙ f.0, f.1 ∙ q)
+concluded refusal.TermTooLong last n end t p q f = p ∙ f
+concluded refusal.NoMemory last n end t p q f = tt
+concluded refusal.WrongPhase last n end t p q f = f
+concluded refusal.BadSeat last n end t p q f = f
+concluded refusal.LastNumber last n end t p q f = f
+concluded refusal.StoreFull last n end t p q f = f
+concluded refusal.NotInProfile last n end t p q f = f
+concluded refusal.Closed last n end t p q f = f
+
+-- a text that ends where the grammar is broken
+pub broken-end : (e : Refusal) (a : NTriplesReader) → FaultsAs e a.last (state_of a.cursor) → FaultyEnd e a.last (rest (ntriples a.request) (led_of a) [])
+broken-end (refusal.Syntax at) a f =
+    let r : rest (ntriples a.request) (led_of a) [] ≡ ([], Syntax) = ap (λ (q : State). rest (ntriples a.request) (a.decoder, (a.read, (q, a.numbering))) []) f.0 ∙ says_nothing a.request a.decoder a.read Syntax a.numbering [] in
+    (ap (λ (s : Said). s.1) r, f.1 ∙ ap (λ (s : Said). end_after a.last s.0) (sym r))
+broken-end refusal.TermTooLong a f =
+    ap (λ (s : Said). s.1) (ap (λ (q : State). rest (ntriples a.request) (a.decoder, (a.read, (q, a.numbering))) []) f ∙ says_nothing a.request a.decoder a.read TooLong a.numbering [])
+broken-end refusal.NoMemory a f = tt
+broken-end refusal.WrongPhase a f = f
+broken-end refusal.BadSeat a f = f
+broken-end refusal.LastNumber a f = f
+broken-end refusal.StoreFull a f = f
+broken-end refusal.NotInProfile a f = f
+broken-end refusal.Closed a f = f
+
+-- a text that ends within a character
+pub bad-end : (e : Refusal) (a b : NTriplesReader) (ts us : List Statement) (u : Placed × List Stated) → Takes a b ts us ((a.decoder, u.0), u.1) → FaultsAs e b.last (state_of b.cursor)
+    → FaultyEnd e a.last (joined u.1 (rest (placing a.request) u.0 []))
+bad-end (refusal.Syntax at) a b ts us u h f =
+    let q : u.0.1.0 ≡ broken Syntax = sym (ap (λ (l : Led). l.1.1.0) h.led) ∙ f.0 in
+    let r : rest (placing a.request) u.0 [] ≡ ([], Syntax) = ap (λ (q : State). rest (placing a.request) (u.0.0, (q, u.0.1.1)) []) q ∙ placing_broken a.request u.0.0 Syntax u.0.1.1 in
+    (ap (λ (s : Said). s.1) r, f.1 ∙ h.last ∙ ap (end_after a.last) (sym (append-nil u.1)) ∙ ap (λ (s : Said). end_after a.last (u.1 ++ s.0)) (sym r))
+bad-end refusal.TermTooLong a b ts us u h f =
+    let q : u.0.1.0 ≡ broken TooLong = sym (ap (λ (l : Led). l.1.1.0) h.led) ∙ f in
+    ap (λ (s : Said). s.1) (ap (λ (q : State). rest (placing a.request) (u.0.0, (q, u.0.1.1)) []) q ∙ placing_broken a.request u.0.0 TooLong u.0.1.1)
+bad-end refusal.NoMemory a b ts us u h f = tt
+bad-end refusal.WrongPhase a b ts us u h f = f
+bad-end refusal.BadSeat a b ts us u h f = f
+bad-end refusal.LastNumber a b ts us u h f = f
+bad-end refusal.StoreFull a b ts us u h f = f
+bad-end refusal.NotInProfile a b ts us u h f = f
+bad-end refusal.Closed a b ts us u h f = f

@@ -1,0 +1,237 @@
+-- What is said of a document is what its lines mean.
+use Rattle.std.proofs.Common.{◌≡◌, ℕ, Bool, true, false, cond, List, [], ◌∷◌, ◌++◌, refl, sym, ap, ◌∙◌, append_assoc, append-nil, subst, Result, Ok, Err}
+use Rattle.std.specs.Prelude.{◌==◌, ◌||◌, ◌&&◌}
+use Rattle.std.proofs.lemmas.Bool.{eqb-true}
+use Rattle.gs_model.specs.Terms.{Term, Iri}
+use Rattle.gs_machine.specs.Machines.{joined, rest}
+use Rattle.gs_body.specs.Bodies.{Ending, Whole, Syntax, TooLong}
+use Rattle.gs_ntread.specs.Marks.{Mark}
+use Rattle.gs_ntread.specs.Classes.{is_space, is_line_end, may_stand_in_comment}
+use Rattle.gs_ntread.specs.Sentences.{Word, Fixed, Labelled, Sentence, made, iri_made, label_made}
+use Rattle.gs_ntread.specs.Grammar.{Read, ◌>>=◌, skip, Plain, iri_after, string_after, label_at, as_word, iri_read, label_read, before_text, suffix_at, subject_at, predicate_at, object_at, dot_at, triple_at}
+use Rattle.gs_ntread.specs.Documents.{Meant, comment_meant, rest_meant, triple_meant, line_meant, then_meant, lines_meant, document}
+use Rattle.gs_ntread.specs.Machine.{Held, hold, Stage, AtSubject, AtPredicate, AtObject, AtDot, AtEnd, Between, Comment, State, start, broken, sentence, to_predicate, to_object, to_dot, iri_closed, string_closed, iri_held, label_held, reading}
+use Rattle.gs_ntread.proofs.Branches.{two_ways, by_test, by_test_knowing, otherwise}
+use Rattle.gs_ntread.proofs.Holding.{iri_held-hold, label_held-hold}
+use Rattle.gs_ntread.proofs.Keeping.{NoEnd, none, more, IsFault, KeepsLine, keeps_made, keeps_short, keeps_iri, keeps_string, keeps_label, keeps_suffix, keeps_skip}
+use Rattle.gs_ntread.proofs.WalkTokens.{told, follow, Stops, at_nothing, at_feed, at_return, walk_broken, after, walk_iri, walk_string}
+use Rattle.gs_ntread.proofs.WalkLabels.{label_closed, to_label_predicate, to_label_dot, walk_underscore}
+use Rattle.gs_ntread.proofs.WalkLiterals.{literal_told, walk_suffix}
+
+-- what the lines behind one mean
+abbrev pub after_line : List Mark → Meant
+after_line [] = ([], Whole)
+after_line (m ∷ ms) = told start ms
+
+pub walk_comment : (line tail : List Mark) → NoEnd line → Stops tail → told (AtSubject, Comment) (line ++ tail) ≡ then_meant ([], comment_meant line) (after_line tail)
+unfolding rest
+walk_comment [] tail n at_nothing = refl
+walk_comment [] tail n (at_feed k ms) = refl
+walk_comment [] tail n (at_return k ms) = refl
+walk_comment (m ∷ ms) tail (more h n) s =
+    otherwise (λ z. follow z (ms ++ tail)) _ (is_line_end m.0) _ _ h
+    (two_ways (λ z. follow z (ms ++ tail)) (λ z. then_meant ([], z) (after_line tail)) (may_stand_in_comment m.0) _ _ _ _
+    (walk_comment ms tail n s)
+    (walk_broken Syntax (ms ++ tail)))
+
+pub walk_end : (line tail : List Mark) → NoEnd line → Stops tail → told (AtEnd, Between) (line ++ tail) ≡ then_meant ([], rest_meant line) (after_line tail)
+unfolding rest
+walk_end [] tail n at_nothing = refl
+walk_end [] tail n (at_feed k ms) = refl
+walk_end [] tail n (at_return k ms) = refl
+walk_end (m ∷ ms) tail (more h n) s =
+    two_ways (λ z. told z (ms ++ tail)) (λ z. then_meant ([], z) (after_line tail)) (is_space m.0) _ _ _ _
+    (walk_end ms tail n s)
+    (otherwise (λ z. told z (ms ++ tail)) _ (is_line_end m.0) _ _ h
+    (two_ways (λ z. told z (ms ++ tail)) (λ z. then_meant ([], z) (after_line tail)) (m.0 == 35) _ _ _ _
+    (walk_comment ms tail n s)
+    (walk_broken Syntax (ms ++ tail))))
+
+then_joined : (ts : List Sentence) (e : Ending) (r : Meant) → joined ts (then_meant ([], e) r) ≡ then_meant (ts, e) r
+then_joined ts Whole r = refl
+then_joined ts Syntax r = ap (λ z. (z, Syntax)) (append-nil ts)
+then_joined ts TooLong r = ap (λ z. (z, TooLong)) (append-nil ts)
+
+stopped : (e : Ending) (r : Meant) → IsFault e → ([], e) ≡ then_meant ([], e) r
+stopped Whole r h = absurd h
+stopped Syntax r h = refl
+stopped TooLong r h = refl
+
+-- what a line says of its triple, and the lines behind it
+abbrev pub meant : List Mark → Read Sentence → Meant
+meant tail r = then_meant (triple_meant r) (after_line tail)
+
+abbrev pub object_then : Word → Term → Word × List Mark → Read Sentence
+object_then s p o = dot_at (skip o.1) >>= λ d. Ok (sentence s p o.0 d.0, d.1)
+
+abbrev pub predicate_then : Word → Term × List Mark → Read Sentence
+predicate_then s p = object_at (skip p.1) >>= object_then s p.0
+
+abbrev pub subject_then : Word × List Mark → Read Sentence
+subject_then s = predicate_at (skip s.1) >>= predicate_then s.0
+
+pub walk_dot : (s : Word) (p : Term) (o : Word) (line tail : List Mark) → NoEnd line → Stops tail
+    → told (AtDot s p o, Between) (line ++ tail) ≡ meant tail (object_then s p (o, line))
+unfolding rest
+walk_dot s p o [] tail n at_nothing = refl
+walk_dot s p o [] tail n (at_feed k ms) = walk_broken Syntax ms
+walk_dot s p o [] tail n (at_return k ms) = walk_broken Syntax ms
+walk_dot s p o (m ∷ ms) tail (more h n) t =
+    by_test (λ z. follow z (ms ++ tail)) (λ v. meant tail (dot_at (cond v (skip ms) (m ∷ ms)) >>= λ d. Ok (sentence s p o d.0, d.1))) (is_space m.0) _ _
+    (walk_dot s p o ms tail n t)
+    (two_ways (λ z. follow z (ms ++ tail)) (λ z. meant tail (z >>= λ d. Ok (sentence s p o d.0, d.1))) (m.0 == 46) _ _ (Ok (m.1, ms)) (Err Syntax)
+    (ap (joined (sentence s p o m.1 ∷ [])) (walk_end ms tail n t) ∙ then_joined (sentence s p o m.1 ∷ []) (rest_meant ms) (after_line tail))
+    (walk_broken Syntax (ms ++ tail)))
+
+-- a fault, and what is said of it
+faulty : (e : Ending) (x tail : List Mark) → IsFault e → told (broken e) x ≡ meant tail (Err e)
+faulty e x tail h = walk_broken e x ∙ stopped e (after_line tail) h
+
+-- behind an IRI that is an object
+object_told : (s : Word) (p : Term) (y tail : List Mark) (r : Result Term Ending) → Stops tail → KeepsLine (before_text y r)
+    → told (to_dot s p r) (y ++ tail) ≡ meant tail (as_word (before_text y r) >>= object_then s p)
+object_told s p y tail (Ok t) q h = walk_dot s p (Fixed t) y tail h q
+object_told s p y tail (Err e) q h = faulty e (y ++ tail) tail h
+
+closes_object : (s : Word) (p : Term) (tail : List Mark) (r : Read (List ℕ)) → Stops tail → KeepsLine r
+    → after (iri_closed (AtObject s p)) tail [] r ≡ meant tail (as_word (iri_read r) >>= object_then s p)
+closes_object s p tail (Err e) q h = stopped e (after_line tail) h
+closes_object s p tail (Ok i) q h =
+    ap (λ r. told (to_dot s p r) (i.1 ++ tail)) (iri_held-hold i.0)
+    ∙ object_told s p i.1 tail (iri_made i.0) q (keeps_short i.1 i.0 (made (Iri i.0)) (keeps_made i.1 (Iri i.0) h))
+
+-- behind a literal
+literal_closed : (s : Word) (p : Term) (tail : List Mark) (r : Read Term) → Stops tail → KeepsLine r
+    → literal_told s p tail r ≡ meant tail (as_word r >>= object_then s p)
+literal_closed s p tail (Err e) q h = stopped e (after_line tail) h
+literal_closed s p tail (Ok r) q h = walk_dot s p (Fixed r.0) r.1 tail h q
+
+closes_string : (s : Word) (p : Term) (tail : List Mark) (r : Read (List ℕ)) → Stops tail → KeepsLine r
+    → after (string_closed (AtObject s p)) tail [] r ≡ meant tail (as_word (r >>= λ l. suffix_at l.0 (skip l.1)) >>= object_then s p)
+closes_string s p tail (Err e) q h = stopped e (after_line tail) h
+closes_string s p tail (Ok l) q h =
+    walk_suffix s p l.0 l.1 tail q ∙ literal_closed s p tail (suffix_at l.0 (skip l.1)) q (keeps_suffix l.0 (skip l.1) (keeps_skip l.1 h))
+
+-- behind a label that is an object
+label_told : (s : Word) (p : Term) (y tail : List Mark) (r : Result Word Ending) → Stops tail → KeepsLine (before_text y r)
+    → told (to_label_dot s p r) (y ++ tail) ≡ meant tail (before_text y r >>= object_then s p)
+label_told s p y tail (Ok w) q h = walk_dot s p w y tail h q
+label_told s p y tail (Err e) q h = faulty e (y ++ tail) tail h
+
+closes_label : (s : Word) (p : Term) (tail : List Mark) (r : Read (List ℕ)) → Stops tail → KeepsLine r
+    → after (label_closed (AtObject s p)) tail [] r ≡ meant tail (label_read r >>= object_then s p)
+closes_label s p tail (Err e) q h = stopped e (after_line tail) h
+closes_label s p tail (Ok l) q h =
+    ap (λ r. told (to_label_dot s p r) (l.1 ++ tail)) (label_held-hold l.0)
+    ∙ label_told s p l.1 tail (label_made l.0) q (keeps_short l.1 l.0 (Ok (Labelled l.0)) h)
+
+pub walk_object : (s : Word) (p : Term) (line tail : List Mark) → NoEnd line → Stops tail
+    → told (AtObject s p, Between) (line ++ tail) ≡ meant tail (predicate_then s (p, line))
+unfolding rest
+walk_object s p [] tail n at_nothing = refl
+walk_object s p [] tail n (at_feed k ms) = walk_broken Syntax ms
+walk_object s p [] tail n (at_return k ms) = walk_broken Syntax ms
+walk_object s p (m ∷ ms) tail (more h n) q =
+    by_test (λ z. follow z (ms ++ tail)) (λ v. meant tail (object_at (cond v (skip ms) (m ∷ ms)) >>= object_then s p)) (is_space m.0) _ _
+    (walk_object s p ms tail n q)
+    (two_ways (λ z. follow z (ms ++ tail)) (λ z. meant tail (z >>= object_then s p)) (m.0 == 60) _ _ _ _
+    (walk_iri (AtObject s p) Plain [] ms tail q ∙ closes_object s p tail (iri_after Plain ms) q (keeps_iri Plain ms n))
+    (two_ways (λ z. follow z (ms ++ tail)) (λ z. meant tail (z >>= object_then s p)) (m.0 == 95) _ _ _ _
+    (walk_underscore (AtObject s p) ms tail q ∙ closes_label s p tail (label_at ms) q (keeps_label ms n))
+    (two_ways (λ z. follow z (ms ++ tail)) (λ z. meant tail (z >>= object_then s p)) (m.0 == 34) _ _ _ (Err Syntax)
+    (walk_string (AtObject s p) Plain [] ms tail q ∙ closes_string s p tail (string_after Plain ms) q (keeps_string Plain ms n))
+    (walk_broken Syntax (ms ++ tail)))))
+
+-- behind a predicate
+predicate_told : (s : Word) (y tail : List Mark) (r : Result Term Ending) → Stops tail → KeepsLine (before_text y r)
+    → told (to_object s r) (y ++ tail) ≡ meant tail (before_text y r >>= predicate_then s)
+predicate_told s y tail (Ok t) q h = walk_object s t y tail h q
+predicate_told s y tail (Err e) q h = faulty e (y ++ tail) tail h
+
+closes_predicate : (s : Word) (tail : List Mark) (r : Read (List ℕ)) → Stops tail → KeepsLine r
+    → after (iri_closed (AtPredicate s)) tail [] r ≡ meant tail (iri_read r >>= predicate_then s)
+closes_predicate s tail (Err e) q h = stopped e (after_line tail) h
+closes_predicate s tail (Ok i) q h =
+    ap (λ r. told (to_object s r) (i.1 ++ tail)) (iri_held-hold i.0)
+    ∙ predicate_told s i.1 tail (iri_made i.0) q (keeps_short i.1 i.0 (made (Iri i.0)) (keeps_made i.1 (Iri i.0) h))
+
+pub walk_predicate : (s : Word) (line tail : List Mark) → NoEnd line → Stops tail
+    → told (AtPredicate s, Between) (line ++ tail) ≡ meant tail (subject_then (s, line))
+unfolding rest
+walk_predicate s [] tail n at_nothing = refl
+walk_predicate s [] tail n (at_feed k ms) = walk_broken Syntax ms
+walk_predicate s [] tail n (at_return k ms) = walk_broken Syntax ms
+walk_predicate s (m ∷ ms) tail (more h n) q =
+    by_test (λ z. follow z (ms ++ tail)) (λ v. meant tail (predicate_at (cond v (skip ms) (m ∷ ms)) >>= predicate_then s)) (is_space m.0) _ _
+    (walk_predicate s ms tail n q)
+    (two_ways (λ z. follow z (ms ++ tail)) (λ z. meant tail (z >>= predicate_then s)) (m.0 == 60) _ _ _ (Err Syntax)
+    (walk_iri (AtPredicate s) Plain [] ms tail q ∙ closes_predicate s tail (iri_after Plain ms) q (keeps_iri Plain ms n))
+    (walk_broken Syntax (ms ++ tail)))
+
+-- behind a subject
+subject_told : (y tail : List Mark) (r : Result Term Ending) → Stops tail → KeepsLine (before_text y r)
+    → told (to_predicate r) (y ++ tail) ≡ meant tail (as_word (before_text y r) >>= subject_then)
+subject_told y tail (Ok t) q h = walk_predicate (Fixed t) y tail h q
+subject_told y tail (Err e) q h = faulty e (y ++ tail) tail h
+
+closes_subject : (tail : List Mark) (r : Read (List ℕ)) → Stops tail → KeepsLine r
+    → after (iri_closed AtSubject) tail [] r ≡ meant tail (as_word (iri_read r) >>= subject_then)
+closes_subject tail (Err e) q h = stopped e (after_line tail) h
+closes_subject tail (Ok i) q h =
+    ap (λ r. told (to_predicate r) (i.1 ++ tail)) (iri_held-hold i.0)
+    ∙ subject_told i.1 tail (iri_made i.0) q (keeps_short i.1 i.0 (made (Iri i.0)) (keeps_made i.1 (Iri i.0) h))
+
+label_subject_told : (y tail : List Mark) (r : Result Word Ending) → Stops tail → KeepsLine (before_text y r)
+    → told (to_label_predicate r) (y ++ tail) ≡ meant tail (before_text y r >>= subject_then)
+label_subject_told y tail (Ok w) q h = walk_predicate w y tail h q
+label_subject_told y tail (Err e) q h = faulty e (y ++ tail) tail h
+
+closes_subject_label : (tail : List Mark) (r : Read (List ℕ)) → Stops tail → KeepsLine r
+    → after (label_closed AtSubject) tail [] r ≡ meant tail (label_read r >>= subject_then)
+closes_subject_label tail (Err e) q h = stopped e (after_line tail) h
+closes_subject_label tail (Ok l) q h =
+    ap (λ r. told (to_label_predicate r) (l.1 ++ tail)) (label_held-hold l.0)
+    ∙ label_subject_told l.1 tail (label_made l.0) q (keeps_short l.1 l.0 (Ok (Labelled l.0)) h)
+
+-- a whole line
+pub walk_line : (line tail : List Mark) → NoEnd line → Stops tail → told start (line ++ tail) ≡ then_meant (line_meant line) (after_line tail)
+unfolding rest
+walk_line [] tail n at_nothing = refl
+walk_line [] tail n (at_feed k ms) = refl
+walk_line [] tail n (at_return k ms) = refl
+walk_line (m ∷ ms) tail (more h n) q =
+    two_ways (λ z. follow z (ms ++ tail)) (λ z. then_meant z (after_line tail)) (is_space m.0) _ _ _ _
+    (walk_line ms tail n q)
+    (otherwise (λ z. follow z (ms ++ tail)) _ (is_line_end m.0) _ _ h
+    (two_ways (λ z. follow z (ms ++ tail)) (λ z. then_meant z (after_line tail)) (m.0 == 35) _ _ _ _
+    (walk_comment ms tail n q)
+    (two_ways (λ z. follow z (ms ++ tail)) (λ z. meant tail (z >>= subject_then)) (m.0 == 60) _ _ _ _
+    (walk_iri AtSubject Plain [] ms tail q ∙ closes_subject tail (iri_after Plain ms) q (keeps_iri Plain ms n))
+    (two_ways (λ z. follow z (ms ++ tail)) (λ z. meant tail (z >>= subject_then)) (m.0 == 95) _ _ _ (Err Syntax)
+    (walk_underscore AtSubject ms tail q ∙ closes_subject_label tail (label_at ms) q (keeps_label ms n))
+    (walk_broken Syntax (ms ++ tail))))))
+
+NoEnd-push : (line : List Mark) (m : Mark) → NoEnd line → is_line_end m.0 ≡ false → NoEnd (line ++ m ∷ [])
+NoEnd-push [] m n h = more h none
+NoEnd-push (d ∷ ds) m (more g n) h = more g (NoEnd-push ds m n h)
+
+stops_at : (m : Mark) (ms : List Mark) (u v : Bool) → (m.0 == 10) ≡ u → (m.0 == 13) ≡ v → (u || v) ≡ true → Stops (m ∷ ms)
+stops_at m ms true v e f h = subst (λ (c : ℕ). Stops ((c, m.1) ∷ ms)) (sym (eqb-true m.0 10 e)) (at_feed m.1 ms)
+stops_at m ms false true e f h = subst (λ (c : ℕ). Stops ((c, m.1) ∷ ms)) (sym (eqb-true m.0 13 f)) (at_return m.1 ms)
+stops_at m ms false false e f h = absurd (Prim.cc)
+
+then_nothing : (r : Meant) → then_meant r ([], Whole) ≡ r
+then_nothing (ts, Whole) = ap (λ z. (z, Whole)) (append-nil ts)
+then_nothing (ts, Syntax) = refl
+then_nothing (ts, TooLong) = refl
+
+walk_lines : (line x : List Mark) → NoEnd line → told start (line ++ x) ≡ lines_meant line x
+walk_lines line [] n = walk_line line [] n at_nothing ∙ then_nothing (line_meant line)
+walk_lines line (m ∷ ms) n =
+    by_test_knowing (λ (z : Meant). told start (line ++ m ∷ ms)) (λ v. cond v (then_meant (line_meant line) (lines_meant [] ms)) (lines_meant (line ++ m ∷ []) ms)) (is_line_end m.0) ([], Whole) ([], Whole)
+    (λ h. walk_line line (m ∷ ms) n (stops_at m ms _ _ refl refl h) ∙ ap (then_meant (line_meant line)) (walk_lines [] ms none))
+    (λ h. ap (told start) (sym (append_assoc line (m ∷ []) ms)) ∙ walk_lines (line ++ m ∷ []) ms (NoEnd-push line m n h))
+
+-- what is read of a document character by character is what the grammar says
+pub read_is : (x : List Mark) → rest reading start x ≡ document x
+read_is x = walk_lines [] x none

@@ -1,0 +1,111 @@
+-- The four machines say of a text what its meaning is.
+use Rattle.std.proofs.Common.{◌≡◌, ℕ, ◌+◌, Bool, true, false, cond, List, [], ◌∷◌, ◌++◌, refl, sym, ap, subst, ◌∙◌, append_assoc, append-nil, Result, Ok, Err}
+use Rattle.std.specs.Prelude.{◌==◌, nat_lt, nat_le}
+use Rattle.gs_model.specs.Terms.{Term}
+use Rattle.gs_machine.specs.Machines.{Machine, joined, steps, rest, behind}
+use Rattle.gs_machine.specs.Utf8.{Decoding, Ready, Within, Lost, bad, utf8, symbols, decode_step, decode_end, is_ready_of}
+use Rattle.gs_machine.proofs.MachineLemmas.{rest-append, rest-behind, steps-one}
+use Rattle.gs_body.specs.Bodies.{Ending, Whole, Syntax, TooLong, Stated, Said}
+use Rattle.gs_blank.specs.Numbers.{Numbers, no_numbers}
+use Rattle.gs_ntread.specs.Marks.{Mark, marks, places, end_of}
+use Rattle.gs_ntread.specs.Sentences.{Word, Sentence}
+use Rattle.gs_ntread.specs.Documents.{document, numbering, stated, said_by}
+use Rattle.gs_ntread.specs.Machine.{State, Turn, Stage, Mode, Between, Comment, InIri, InString, Underscore, Colon, InLabel, InDots, Caret, InTag, Broken, broken, start, turn, end_of_text, reading}
+use Rattle.gs_ntread.specs.Reader.{keeping, stating, placing, ntriples, Led, unread}
+use Rattle.gs_ntread.proofs.WalkLines.{read_is}
+use Rattle.gs_ntread.proofs.WalkTokens.{walk_broken}
+
+pub rest-keeping : {S T I M O E F : Type 0} (a : Machine S I M E) (b : Machine T M O F) (s : S) (t : T) (x : List I)
+    → rest (keeping a b) (s, t) x ≡ ((rest b t (rest a s x).0).0, (rest a s x).1)
+unfolding rest keeping
+rest-keeping a b s t [] = refl
+rest-keeping a b s t (i ∷ is) =
+    let u = a.step s i in
+    ap (joined (steps b t u.1).1) (rest-keeping a b u.0 (steps b t u.1).0 is)
+    ∙ sym (ap (λ z. (z.0, (rest a u.0 is).1)) (rest-append b t u.1 (rest a u.0 is).0))
+
+places-marks : (n : ℕ) (cs : List ℕ) → (rest places n cs).0 ≡ marks n cs
+unfolding rest marks
+places-marks n [] = refl
+places-marks n (c ∷ cs) = ap (λ z. (c, end_of n c) ∷ z) (places-marks (end_of n c) cs)
+
+pub stating_is : (r : ℕ) (q : State) (n : Numbers) (ms : List Mark) → rest (stating r) (q, n) ms ≡ ((rest (numbering r) n (rest reading q ms).0).0, (rest reading q ms).1)
+stating_is r q n ms = rest-keeping reading (numbering r) q n ms
+
+-- what is said by the machine is the meaning
+pub said_is : (r : ℕ) (x : List ℕ) → rest (ntriples r) unread x ≡ said_by r x
+unfolding said_by symbols
+said_is r x =
+    rest-behind utf8 (placing r) Ready (0, (start, no_numbers)) x
+    ∙ rest-behind places (stating r) 0 (start, no_numbers) (symbols x)
+    ∙ ap (rest (stating r) (start, no_numbers)) (places-marks 0 (symbols x))
+    ∙ stating_is r start no_numbers (marks 0 (symbols x))
+    ∙ ap (λ (d : List Sentence × Ending). ((rest (numbering r) no_numbers d.0).0, d.1)) (read_is (marks 0 (symbols x)))
+
+-- a machine that is broken says nothing more
+pub says_nothing : (r : ℕ) (d : Decoding) (n : ℕ) (e : Ending) (m : Numbers) (y : List ℕ) → rest (ntriples r) (d, (n, (broken e, m))) y ≡ ([], e)
+unfolding rest
+says_nothing r d n e m y =
+    rest-behind utf8 (placing r) d (n, (broken e, m)) y
+    ∙ rest-behind places (stating r) n (broken e, m) (rest utf8 d y).0
+    ∙ stating_is r (broken e) m (rest places n (rest utf8 d y).0).0
+    ∙ ap (λ (u : List Sentence × Ending). ((rest (numbering r) m u.0).0, u.1)) (walk_broken e (rest places n (rest utf8 d y).0).0)
+
+-- between two characters the text may go on so that nothing more is said
+pub silence : (r n : ℕ) (q : State) (m : Numbers) → (y : List ℕ) × ((rest (ntriples r) (Ready, (n, (q, m))) y).0 ≡ [])
+unfolding rest behind keeping steps
+silence r n (g, Between) m = ([], refl)
+silence r n (g, Comment) m = ([], refl)
+silence r n (g, InIri v h) m = ([], refl)
+silence r n (g, InString v h) m = ([], refl)
+silence r n (g, Underscore) m = ([], refl)
+silence r n (g, Colon) m = ([], refl)
+silence r n (g, InLabel h) m = ([], refl)
+silence r n (g, InDots h f k) m = (97 ∷ [], refl)
+silence r n (g, Caret) m = ([], refl)
+silence r n (g, InTag h) m = ([], refl)
+silence r n (g, Broken e) m = ([], refl)
+
+-- one character
+pub character-none : (r n : ℕ) (q q' : State) (m : Numbers) (c : ℕ) → (q', []) ≡ turn q.0 q.1 c (end_of n c) → (placing r).step (n, (q, m)) c ≡ ((end_of n c, (q', m)), [])
+unfolding behind keeping steps
+character-none r n q q' m c e = ap (λ (u : Turn). ((end_of n c, (u.0, (steps (numbering r) m u.1).0)), (steps (numbering r) m u.1).1 ++ [])) (sym e)
+
+pub character-some : (r n : ℕ) (q q' : State) (m : Numbers) (c : ℕ) (s : Sentence) → (q', s ∷ []) ≡ turn q.0 q.1 c (end_of n c)
+    → (placing r).step (n, (q, m)) c ≡ ((end_of n c, (q', (stated r m s).0)), (stated r m s).1)
+unfolding behind keeping steps
+character-some r n q q' m c s e = ap (λ (u : Turn). ((end_of n c, (u.0, (steps (numbering r) m u.1).0)), (steps (numbering r) m u.1).1 ++ [])) (sym e)
+
+-- one byte
+abbrev pub Placed : Type 0
+Placed = ℕ × (State × Numbers)
+
+pub byte-none : (r : ℕ) (d d' : Decoding) (p : Placed) (b : ℕ) → (d', []) ≡ decode_step d b → (ntriples r).step (d, p) b ≡ ((d', p), [])
+unfolding behind steps
+byte-none r d d' p b e = ap (λ (u : Decoding × List ℕ). ((u.0, (steps (placing r) p u.1).0), (steps (placing r) p u.1).1)) (sym e)
+
+pub byte-some : (r : ℕ) (d d' : Decoding) (p : Placed) (b c : ℕ) → (d', c ∷ []) ≡ decode_step d b
+    → (ntriples r).step (d, p) b ≡ ((d', ((placing r).step p c).0), ((placing r).step p c).1)
+unfolding behind
+byte-some r d d' p b c e =
+    ap (λ (u : Decoding × List ℕ). ((u.0, (steps (placing r) p u.1).0), (steps (placing r) p u.1).1)) (sym e)
+    ∙ ap (λ (v : Placed × List Stated). ((d', v.0), v.1)) (steps-one (placing r) p c)
+
+-- the text ends between two characters
+pub end-none : (r : ℕ) (q : State) (n : Numbers) (e : Ending) → ([], e) ≡ end_of_text q.0 q.1 → rest (stating r) (q, n) [] ≡ ([], e)
+unfolding rest keeping
+end-none r q n e h = ap (λ (d : List Sentence × Ending). ((rest (numbering r) n d.0).0, d.1)) (sym h)
+
+pub end-some : (r : ℕ) (q : State) (n : Numbers) (e : Ending) (s : Sentence) → (s ∷ [], e) ≡ end_of_text q.0 q.1 → rest (stating r) (q, n) [] ≡ ((stated r n s).1, e)
+unfolding rest keeping
+end-some r q n e s h = ap (λ (d : List Sentence × Ending). ((rest (numbering r) n d.0).0, d.1)) (sym h)
+
+pub ready_end : (r : ℕ) (d : Decoding) (p : Placed) → is_ready_of d ≡ true → rest (ntriples r) (d, p) [] ≡ rest (stating r) p.1 []
+unfolding rest behind
+ready_end r Ready p h = refl
+ready_end r (Within k v l g) p h = absurd (Prim.cc)
+ready_end r Lost p h = absurd (Prim.cc)
+
+pub placing_broken : (r n : ℕ) (e : Ending) (m : Numbers) → rest (placing r) (n, (broken e, m)) [] ≡ ([], e)
+unfolding rest behind keeping
+placing_broken r n e m = refl

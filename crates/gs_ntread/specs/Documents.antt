@@ -1,0 +1,74 @@
+-- What a document of N-Triples says: its lines, each blank or a triple, up to the first fault.
+use Rattle.std.specs.Prelude.{ℕ, ◌+◌, Bool, true, false, ◌==◌, if◌then◌else◌, List, [], ◌∷◌, ◌++◌, Result, Ok, Err}
+use Rattle.gs_model.specs.Terms.{Term, Blank}
+use Rattle.gs_machine.specs.Utf8.{symbols}
+use Rattle.gs_machine.specs.Machines.{Machine, rest}
+use Rattle.gs_body.specs.Bodies.{Ending, Whole, Syntax, Stated, Said}
+use Rattle.gs_blank.specs.Numbers.{Numbers, no_numbers, number_of}
+use Rattle.gs_ntread.specs.Marks.{Mark, marks}
+use Rattle.gs_ntread.specs.Classes.{is_space, is_line_end, may_stand_in_comment}
+use Rattle.gs_ntread.specs.Sentences.{Word, Fixed, Labelled, Sentence}
+use Rattle.gs_ntread.specs.Grammar.{Read, triple_at}
+
+-- sentences before the first fault, and how the text ends
+abbrev pub Meant : Type 0
+Meant = List Sentence × Ending
+
+-- a comment behind its '#'
+abbrev pub comment_meant : List Mark → Ending
+comment_meant [] = Whole
+comment_meant (m ∷ ms) = if may_stand_in_comment m.0 then comment_meant ms else Syntax
+
+-- the rest of a line behind a triple: blanks, and a comment if there is one
+abbrev pub rest_meant : List Mark → Ending
+rest_meant [] = Whole
+rest_meant (m ∷ ms) = if is_space m.0 then rest_meant ms else if m.0 == 35 then comment_meant ms else Syntax
+
+abbrev pub triple_meant : Read Sentence → Meant
+triple_meant (Err e) = ([], e)
+triple_meant (Ok r) = (r.0 ∷ [], rest_meant r.1)
+
+-- a line is blanks, with a comment if there is one, or a triple
+abbrev pub line_meant : List Mark → Meant
+line_meant [] = ([], Whole)
+line_meant (m ∷ ms) =
+    if is_space m.0 then line_meant ms
+    else if m.0 == 35 then ([], comment_meant ms)
+    else triple_meant (triple_at (m ∷ ms))
+
+-- one line after another, where the first has no fault
+abbrev pub then_meant : Meant → Meant → Meant
+then_meant (ts, Whole) next = (ts ++ next.0, next.1)
+then_meant (ts, e) next = (ts, e)
+
+-- [1] document: what its lines mean, which EOL parts; `line` is the front of the first
+abbrev pub lines_meant : List Mark → List Mark → Meant
+lines_meant line [] = line_meant line
+lines_meant line (m ∷ ms) =
+    if is_line_end m.0 then then_meant (line_meant line) (lines_meant [] ms)
+    else lines_meant (line ++ m ∷ []) ms
+
+abbrev pub document : List Mark → Meant
+document text = lines_meant [] text
+
+-- a word as a term of request r, and the numbers then
+abbrev pub term_of : ℕ → Numbers → Word → Term × Numbers
+term_of r n (Fixed t) = (t, n)
+term_of r n (Labelled label) = (Blank r (number_of n label).0, (number_of n label).1)
+
+-- a sentence as a triple of request r, and the numbers then
+abbrev pub stated : ℕ → Numbers → Sentence → Numbers × List Stated
+stated r n s =
+    let a = term_of r n s.subject in
+    let o = term_of r a.1 s.object in
+    (o.1, record { triple = record { subject = a.0; predicate = s.predicate; object = o.0 }; end = s.end } ∷ [])
+
+-- from sentences to triples, whose blank nodes are numbered by first appearance
+abbrev pub numbering : ℕ → Machine Numbers Sentence Stated (Unit {0})
+numbering r = record { step = stated r; ended = λ n. ([], tt) }
+
+-- what a body of N-Triples says, in a request of number r
+unfoldable pub said_by : ℕ → List ℕ → Said
+said_by r text =
+    let d = document (marks 0 (symbols text)) in
+    ((rest (numbering r) no_numbers d.0).0, d.1)

@@ -1,0 +1,186 @@
+-- The productions of N-Triples (25 February 2014, section 7), each taking the longest text that it can from
+-- the front of a line. Spaces and tabs may stand between tokens.
+use Rattle.std.specs.Prelude.{ℕ, ◌+◌, ◌-◌, Bool, true, false, ◌&&◌, ◌||◌, ◌==◌, if◌then◌else◌, List, [], ◌∷◌, ◌++◌, Result, Ok, Err, Option, Some, None}
+use Rattle.std.specs.Char.{encode_utf8}
+use lib.Utf8.{scalar}
+use Rattle.gs_model.specs.Terms.{Term}
+use Rattle.gs_body.specs.Bodies.{Ending, Syntax}
+use Rattle.gs_ntread.specs.Marks.{Mark}
+use Rattle.gs_ntread.specs.Classes.{is_space, may_stand_in_iri, may_stand_in_string, begins_label, is_label_char, is_tag_char, is_hex, with_digit}
+use Rattle.gs_ntread.specs.Sentences.{Word, Fixed, Sentence, iri_made, label_made, plain_made, typed_made, tagged_made}
+
+-- a value and the text after it, or the fault
+abbrev pub Read : Type 0 → Type 0
+Read A = Result (A × List Mark) Ending
+
+infixl 10 ◌>>=◌
+abbrev pub ◌>>=◌ : {A B : Type 0} → Result A Ending → (A → Result B Ending) → Result B Ending
+(Err e) >>= f = Err e
+(Ok x) >>= f = f x
+
+-- the text after spaces and tabs
+abbrev pub skip : List Mark → List Mark
+skip [] = []
+skip (m ∷ ms) = if is_space m.0 then skip ms else m ∷ ms
+
+-- with a character before what was read
+abbrev pub before : ℕ → Read (List ℕ) → Read (List ℕ)
+before c (Err e) = Err e
+before c (Ok r) = Ok (encode_utf8 c ++ r.0, r.1)
+
+-- Where in an IRI or a string: among its characters, behind a backslash, or within [10] UCHAR, with so many
+-- digits to come after the next, and its number so far.
+pub data Inside : Type 0 where
+  Plain : Inside
+  Escape : Inside
+  Digits : (left value : ℕ) → Inside
+
+-- [153s] ECHAR behind its backslash: what it means
+abbrev pub escaped : ℕ → Option ℕ
+escaped c =
+    if c == 116 then Some 9
+    else if c == 98 then Some 8
+    else if c == 110 then Some 10
+    else if c == 114 then Some 13
+    else if c == 102 then Some 12
+    else if c == 34 || c == 39 || c == 92 then Some c
+    else None
+
+-- [8] IRIREF behind its '<': the bytes of the IRI
+abbrev pub iri_after : Inside → List Mark → Read (List ℕ)
+iri_after v [] = Err Syntax
+iri_after Plain (m ∷ ms) =
+    if m.0 == 62 then Ok ([], ms)
+    else if m.0 == 92 then iri_after Escape ms
+    else if may_stand_in_iri m.0 then before m.0 (iri_after Plain ms)
+    else Err Syntax
+iri_after Escape (m ∷ ms) =
+    if m.0 == 117 then iri_after (Digits 3 0) ms
+    else if m.0 == 85 then iri_after (Digits 7 0) ms
+    else Err Syntax
+iri_after (Digits left value) (m ∷ ms) =
+    if is_hex m.0 then
+    (if left == 0 then
+    (if may_stand_in_iri (with_digit value m.0) then before (with_digit value m.0) (iri_after Plain ms) else Err Syntax)
+    else iri_after (Digits (left - 1) (with_digit value m.0)) ms)
+    else Err Syntax
+
+-- a character that an escape means, before what was read
+abbrev pub escape_before : Option ℕ → Read (List ℕ) → Read (List ℕ)
+escape_before None r = Err Syntax
+escape_before (Some c) r = before c r
+
+-- [9] STRING_LITERAL_QUOTE behind its first '"': the bytes of the lexical form
+abbrev pub string_after : Inside → List Mark → Read (List ℕ)
+string_after v [] = Err Syntax
+string_after Plain (m ∷ ms) =
+    if m.0 == 34 then Ok ([], ms)
+    else if m.0 == 92 then string_after Escape ms
+    else if may_stand_in_string m.0 then before m.0 (string_after Plain ms)
+    else Err Syntax
+string_after Escape (m ∷ ms) =
+    if m.0 == 117 then string_after (Digits 3 0) ms
+    else if m.0 == 85 then string_after (Digits 7 0) ms
+    else escape_before (escaped m.0) (string_after Plain ms)
+string_after (Digits left value) (m ∷ ms) =
+    if is_hex m.0 then
+    (if left == 0 then
+    (if scalar (with_digit value m.0) then before (with_digit value m.0) (string_after Plain ms) else Err Syntax)
+    else string_after (Digits (left - 1) (with_digit value m.0)) ms)
+    else Err Syntax
+
+-- behind a dot: whether a label goes on, by dots and then a character
+abbrev pub goes_on : List Mark → Bool
+goes_on [] = false
+goes_on (m ∷ ms) = if is_label_char m.0 then true else if m.0 == 46 then goes_on ms else false
+
+-- the longest rest of [141s] BLANK_NODE_LABEL, and the text after it
+abbrev pub label_after : List Mark → List ℕ × List Mark
+label_after [] = ([], [])
+label_after (m ∷ ms) =
+    if is_label_char m.0 || (m.0 == 46 && goes_on ms) then (encode_utf8 m.0 ++ (label_after ms).0, (label_after ms).1) else ([], m ∷ ms)
+
+-- BLANK_NODE_LABEL behind its '_'
+abbrev pub label_at : List Mark → Read (List ℕ)
+label_at [] = Err Syntax
+label_at (m ∷ []) = Err Syntax
+label_at (m ∷ d ∷ ms) =
+    if m.0 == 58 then (if begins_label d.0 then Ok (encode_utf8 d.0 ++ (label_after ms).0, (label_after ms).1) else Err Syntax) else Err Syntax
+
+-- the longest run that may be [144s] LANGTAG behind its '@', and the text after it
+abbrev pub tag_after : List Mark → List ℕ × List Mark
+tag_after [] = ([], [])
+tag_after (m ∷ ms) =
+    if is_tag_char m.0 then (encode_utf8 m.0 ++ (tag_after ms).0, (tag_after ms).1) else ([], m ∷ ms)
+
+-- with the text after it
+abbrev pub before_text : {A : Type 0} → List Mark → Result A Ending → Read A
+before_text ms (Err e) = Err e
+before_text ms (Ok x) = Ok (x, ms)
+
+abbrev pub as_word : Result (Term × List Mark) Ending → Read Word
+as_word (Err e) = Err e
+as_word (Ok r) = Ok (Fixed r.0, r.1)
+
+-- IRIREF behind its '<', as a term
+abbrev pub iri_read : Read (List ℕ) → Read Term
+iri_read r = r >>= λ i. before_text i.1 (iri_made i.0)
+
+-- BLANK_NODE_LABEL behind its '_', as a term
+abbrev pub label_read : Read (List ℕ) → Read Word
+label_read r = r >>= λ l. before_text l.1 (label_made l.0)
+
+-- a datatype behind '^^'
+abbrev pub datatype_at : List ℕ → List Mark → Read Term
+datatype_at lexical [] = Err Syntax
+datatype_at lexical (m ∷ ms) =
+    if m.0 == 60 then (iri_after Plain ms >>= λ i. before_text i.1 (typed_made lexical i.0)) else Err Syntax
+
+-- the second '^', and the datatype
+abbrev pub caret_at : List ℕ → List Mark → Read Term
+caret_at lexical [] = Err Syntax
+caret_at lexical (m ∷ ms) = if m.0 == 94 then datatype_at lexical (skip ms) else Err Syntax
+
+-- what may stand behind the string of [6] literal
+abbrev pub suffix_at : List ℕ → List Mark → Read Term
+suffix_at lexical [] = before_text [] (plain_made lexical)
+suffix_at lexical (m ∷ ms) =
+    if m.0 == 94 then caret_at lexical ms
+    else if m.0 == 64 then before_text (tag_after ms).1 (tagged_made lexical (tag_after ms).0)
+    else before_text (m ∷ ms) (plain_made lexical)
+
+-- [3] subject
+abbrev pub subject_at : List Mark → Read Word
+subject_at [] = Err Syntax
+subject_at (m ∷ ms) =
+    if m.0 == 60 then as_word (iri_read (iri_after Plain ms))
+    else if m.0 == 95 then label_read (label_at ms)
+    else Err Syntax
+
+-- [4] predicate
+abbrev pub predicate_at : List Mark → Read Term
+predicate_at [] = Err Syntax
+predicate_at (m ∷ ms) = if m.0 == 60 then iri_read (iri_after Plain ms) else Err Syntax
+
+-- [5] object
+abbrev pub object_at : List Mark → Read Word
+object_at [] = Err Syntax
+object_at (m ∷ ms) =
+    if m.0 == 60 then as_word (iri_read (iri_after Plain ms))
+    else if m.0 == 95 then label_read (label_at ms)
+    else if m.0 == 34 then as_word (string_after Plain ms >>= λ l. suffix_at l.0 (skip l.1))
+    else Err Syntax
+
+-- the end of the dot, and the text after it
+abbrev pub dot_at : List Mark → Read ℕ
+dot_at [] = Err Syntax
+dot_at (m ∷ ms) = if m.0 == 46 then Ok (m.1, ms) else Err Syntax
+
+-- [2] triple, with its dot
+abbrev pub triple_at : List Mark → Read Sentence
+triple_at text =
+    subject_at text >>= λ s.
+    predicate_at (skip s.1) >>= λ p.
+    object_at (skip p.1) >>= λ o.
+    dot_at (skip o.1) >>= λ d.
+    Ok (record { subject = s.0; predicate = p.0; object = o.0; end = d.0 }, d.1)

@@ -1,0 +1,9 @@
+pub mod Marks
+pub mod Classes
+pub mod Sentences
+pub mod Grammar
+pub mod Documents
+pub mod Machine
+pub mod Views
+pub mod Reader
+pub mod Readers

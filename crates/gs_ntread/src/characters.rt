@@ -1,0 +1,273 @@
+//! One character more.
+ghost use Rattle.std.specs.Prelude.{◌≡◌, IfOk, OnOk, if◌then◌else◌, Some, None};
+ghost use Rattle.std.specs.Char.{IsScalar};
+ghost use Rattle.std.specs.Option.{SomeIff};
+ghost use Rattle.gs_ntread.specs.Classes.{is_hex, with_digit as with_digit_of};
+ghost use Rattle.gs_ntread.specs.Grammar.{escaped as escaped_of, Plain, Escape, Digits};
+ghost use Rattle.gs_ntread.specs.Machine.{iri_turn, string_turn, turn, quiet, Colon, InLabel, InDots, InTag, Comment};
+ghost use Rattle.gs_ntread.specs.Views.{held_of, state_of, stage_of, given};
+ghost use Rattle.gs_ntread.specs.declared.parts.Within.TheVariants as within;
+
+use crate::classes::{
+    begins_label, hex_value, is_label_char, is_line_end, is_tag_char, may_stand_in_comment,
+};
+use crate::cursor::Cursor;
+use crate::parts::{Parts, Place, Within};
+use gs_chars::is_iri_char;
+use std::alloc::AllocError;
+
+/// What an escape means.
+fn escaped(c: u32) -> Option<char>
+    ensures { result ≡ escaped_of c }
+{
+    match c {
+        116 => Some('\t'),
+        98 => Some('\u{8}'),
+        110 => Some('\n'),
+        114 => Some('\r'),
+        102 => Some('\u{C}'),
+        34 => Some('"'),
+        39 => Some('\''),
+        92 => Some('\\'),
+        _ => None,
+    }
+}
+
+/// A number with one more digit, where it is one.
+fn with_digit(value: u64, c: u32) -> Option<u64>
+    ensures { result ≡ (if is_hex c then Some (with_digit_of value c) else None) }
+{
+    match hex_value(c) {
+        None => None,
+        Some(digit) => {
+            if value <= 0x10_FFFF {
+                Some(value * 16 + u64::from(digit))
+            } else {
+                Some(value)
+            }
+        }
+    }
+}
+
+/// The character of a number.
+fn char_of(value: u64) -> Option<char>
+    ensures { SomeIff result (IsScalar value) value }
+{
+    if value > 0x10_FFFF {
+        return None;
+    }
+    char::from_u32(value as u32)
+}
+
+impl Cursor {
+    /// A character of an IRI.
+    pub fn in_iri(&mut self, c: u32) -> Result<(), AllocError>
+        requires { self.old.within ≡ within.Iri }
+        ensures { OnOk result (state_of self.new ≡ iri_turn Plain (stage_of self.old.place (held_of self.old.lexical)) (held_of self.old.text) c) }
+    {
+        if c == 62 {
+            return self.close_iri();
+        }
+        if c == 92 {
+            self.within = Within::IriEscape;
+            return Ok(());
+        }
+        match char::from_u32(c) {
+            Some(plain) if is_iri_char(plain) => self.text.push(plain)?,
+            _ => self.break_off(),
+        }
+        Ok(())
+    }
+
+    /// The character behind a backslash in an IRI.
+    pub fn iri_escape(&mut self, c: u32)
+        requires { self.old.within ≡ within.IriEscape }
+        ensures { state_of self.new ≡ iri_turn Escape (stage_of self.old.place (held_of self.old.lexical)) (held_of self.old.text) c }
+    {
+        self.within = Within::IriDigits;
+        self.value = 0;
+        match c {
+            117 => self.count = 3,
+            85 => self.count = 7,
+            _ => self.break_off(),
+        }
+    }
+
+    /// A digit of an escape in an IRI.
+    pub fn iri_digit(&mut self, c: u32) -> Result<(), AllocError>
+        requires { self.old.within ≡ within.IriDigits }
+        ensures { OnOk result (state_of self.new ≡ iri_turn (Digits self.old.count self.old.value) (stage_of self.old.place (held_of self.old.lexical)) (held_of self.old.text) c) }
+    {
+        let Some(value) = with_digit(self.value, c) else {
+            self.break_off();
+            return Ok(());
+        };
+        if self.count != 0 {
+            self.count -= 1;
+            self.value = value;
+            return Ok(());
+        }
+        match char_of(value) {
+            Some(meant) if is_iri_char(meant) => {
+                self.within = Within::Iri;
+                self.text.push(meant)?;
+            }
+            _ => self.break_off(),
+        }
+        Ok(())
+    }
+
+    /// A character of a string.
+    pub fn in_string(&mut self, c: u32) -> Result<(), AllocError>
+        requires { self.old.within ≡ within.Quoted }
+        ensures { OnOk result (state_of self.new ≡ string_turn Plain (stage_of self.old.place (held_of self.old.lexical)) (held_of self.old.text) c) }
+    {
+        if c == 34 {
+            self.close_string();
+            return Ok(());
+        }
+        if c == 92 {
+            self.within = Within::QuotedEscape;
+            return Ok(());
+        }
+        if c == 10 || c == 13 {
+            self.break_off();
+            return Ok(());
+        }
+        match char::from_u32(c) {
+            Some(plain) => self.text.push(plain)?,
+            None => self.break_off(),
+        }
+        Ok(())
+    }
+
+    /// The character behind a backslash in a string.
+    pub fn string_escape(&mut self, c: u32) -> Result<(), AllocError>
+        requires { self.old.within ≡ within.QuotedEscape }
+        ensures { OnOk result (state_of self.new ≡ string_turn Escape (stage_of self.old.place (held_of self.old.lexical)) (held_of self.old.text) c) }
+    {
+        if c == 117 || c == 85 {
+            self.within = Within::QuotedDigits;
+            self.value = 0;
+            self.count = if c == 117 { 3 } else { 7 };
+            return Ok(());
+        }
+        match escaped(c) {
+            Some(meant) => {
+                self.within = Within::Quoted;
+                self.text.push(meant)?;
+            }
+            None => self.break_off(),
+        }
+        Ok(())
+    }
+
+    /// A digit of an escape in a string.
+    pub fn string_digit(&mut self, c: u32) -> Result<(), AllocError>
+        requires { self.old.within ≡ within.QuotedDigits }
+        ensures { OnOk result (state_of self.new ≡ string_turn (Digits self.old.count self.old.value) (stage_of self.old.place (held_of self.old.lexical)) (held_of self.old.text) c) }
+    {
+        let Some(value) = with_digit(self.value, c) else {
+            self.break_off();
+            return Ok(());
+        };
+        if self.count != 0 {
+            self.count -= 1;
+            self.value = value;
+            return Ok(());
+        }
+        match char_of(value) {
+            Some(meant) => {
+                self.within = Within::Quoted;
+                self.text.push(meant)?;
+            }
+            None => self.break_off(),
+        }
+        Ok(())
+    }
+
+    /// The first character of a label.
+    pub fn begin_label(&mut self, c: u32) -> Result<(), AllocError>
+        requires { self.old.within ≡ within.Colon }
+        ensures { OnOk result (quiet (state_of self.new) ≡ turn (stage_of self.old.place (held_of self.old.lexical)) Colon c 0) }
+    {
+        match char::from_u32(c) {
+            Some(first) if begins_label(c) => {
+                self.open(Within::Label);
+                self.text.push(first)?;
+            }
+            _ => self.break_off(),
+        }
+        Ok(())
+    }
+
+    /// A character of a label, or behind it, which ends behind n bytes.
+    pub fn in_label(&mut self, c: u32, n: u64) -> Result<Option<Parts>, AllocError>
+        requires { self.old.within ≡ within.Label }
+        ensures { IfOk result (λ o. (state_of self.new, given o) ≡ turn (stage_of self.old.place (held_of self.old.lexical)) (InLabel (held_of self.old.text)) c n) }
+    {
+        match char::from_u32(c) {
+            Some(next) if is_label_char(c) => {
+                self.text.push(next)?;
+                return Ok(None);
+            }
+            _ => {}
+        }
+        if c == 46 {
+            self.within = Within::Dots;
+            self.count = 0;
+            self.value = n;
+            return Ok(None);
+        }
+        self.behind_label(c, n)
+    }
+
+    /// A character behind dots that may be a label's.
+    pub fn in_dots(&mut self, c: u32) -> Result<Option<Parts>, AllocError>
+        requires { self.old.within ≡ within.Dots }
+        ensures { IfOk result (λ o. (state_of self.new, given o) ≡ turn (stage_of self.old.place (held_of self.old.lexical)) (InDots (held_of self.old.text) self.old.value self.old.count) c 0) }
+    {
+        match char::from_u32(c) {
+            Some(next) if is_label_char(c) => {
+                self.text.push('.')?;
+                self.text.push_dots(self.count)?;
+                self.text.push(next)?;
+                self.within = Within::Label;
+                return Ok(None);
+            }
+            _ => {}
+        }
+        if c == 46 {
+            self.count = self.count.checked_add(1).ok_or(AllocError)?;
+            return Ok(None);
+        }
+        self.behind_dots(c)
+    }
+
+    /// A character of a language tag, or behind it.
+    pub fn in_tag(&mut self, c: u32, n: u64) -> Result<Option<Parts>, AllocError>
+        requires { self.old.within ≡ within.Tag }
+        ensures { IfOk result (λ o. (state_of self.new, given o) ≡ turn (stage_of self.old.place (held_of self.old.lexical)) (InTag (held_of self.old.text)) c n) }
+    {
+        match char::from_u32(c) {
+            Some(next) if is_tag_char(c) => {
+                self.text.push(next)?;
+                Ok(None)
+            }
+            _ => self.behind_tag(c, n),
+        }
+    }
+
+    /// A character of a comment, or behind it.
+    pub fn in_comment(&mut self, c: u32)
+        requires { self.old.within ≡ within.Comment }
+        ensures { quiet (state_of self.new) ≡ turn (stage_of self.old.place (held_of self.old.lexical)) Comment c 0 }
+    {
+        if is_line_end(c) {
+            self.place = Place::Subject;
+            self.within = Within::Between;
+        } else if !may_stand_in_comment(c) {
+            self.break_off();
+        }
+    }
+}

@@ -1,0 +1,129 @@
+//! Where a token ends.
+ghost use Rattle.std.specs.Prelude.{◌≡◌, OnOk, IfOk};
+ghost use Rattle.gs_ntread.specs.Machine.{Held, to_predicate as to_predicate_of, to_object as to_object_of, to_dot as to_dot_of, iri_held, typed_held, iri_closed, string_closed, caret_closed};
+ghost use Rattle.gs_ntread.specs.Views.{settled, held_of, subject_of, state_of, stage_of};
+
+use crate::cursor::Cursor;
+use crate::parts::{Made, Name, Object, Place, Subject, Within};
+use crate::terms;
+use crate::tokens::Token;
+use std::alloc::{AllocError, Global};
+use std::mem;
+
+/// The place behind a subject.
+fn to_predicate(alloc: Global, text: &Token) -> Result<Made<Place>, AllocError>
+    ensures { IfOk result (λ m. (l : Held) → settled m l ≡ to_predicate_of (iri_held (held_of text.now))) }
+{
+    Ok(match terms::iri(alloc, text)? {
+        Made::Term(name) => Made::Term(Place::Predicate(Subject::Iri(name))),
+        Made::Broken => Made::Broken,
+        Made::Overlong => Made::Overlong,
+    })
+}
+
+/// The place behind a predicate.
+fn to_object(alloc: Global, subject: Subject, text: &Token) -> Result<Made<Place>, AllocError>
+    ensures { IfOk result (λ m. (l : Held) → settled m l ≡ to_object_of (subject_of subject) (iri_held (held_of text.now))) }
+{
+    Ok(match terms::iri(alloc, text)? {
+        Made::Term(name) => Made::Term(Place::Object(subject, name)),
+        Made::Broken => Made::Broken,
+        Made::Overlong => Made::Overlong,
+    })
+}
+
+/// The place behind an IRI that is an object.
+fn to_dot(
+    alloc: Global,
+    subject: Subject,
+    predicate: Name,
+    text: &Token,
+) -> Result<Made<Place>, AllocError>
+    ensures { IfOk result (λ m. (l : Held) → settled m l ≡ to_dot_of (subject_of subject) predicate.term (iri_held (held_of text.now))) }
+{
+    Ok(match terms::iri(alloc, text)? {
+        Made::Term(name) => {
+            let Name { term } = name;
+            Made::Term(Place::Dot(subject, predicate, Object::Term(term)))
+        }
+        Made::Broken => Made::Broken,
+        Made::Overlong => Made::Overlong,
+    })
+}
+
+/// The place behind a literal and its datatype.
+fn to_typed(
+    alloc: Global,
+    subject: Subject,
+    predicate: Name,
+    lexical: &Token,
+    text: &Token,
+) -> Result<Made<Place>, AllocError>
+    ensures { IfOk result (λ m. (l : Held) → settled m l ≡ to_dot_of (subject_of subject) predicate.term (typed_held (held_of lexical.now) (held_of text.now))) }
+{
+    Ok(match terms::typed(alloc, lexical, text)? {
+        Made::Term(term) => Made::Term(Place::Dot(subject, predicate, Object::Term(term))),
+        Made::Broken => Made::Broken,
+        Made::Overlong => Made::Overlong,
+    })
+}
+
+impl Cursor {
+    fn settle(&mut self, made: Made<Place>)
+        ensures { state_of self.new ≡ settled made (held_of self.old.lexical) }
+    {
+        match made {
+            Made::Term(place) => {
+                self.place = place;
+                self.within = Within::Between;
+            }
+            Made::Broken => self.within = Within::Broken,
+            Made::Overlong => self.within = Within::Overlong,
+        }
+    }
+
+    /// The `>` of an IRI.
+    pub fn close_iri(&mut self) -> Result<(), AllocError>
+        ensures { OnOk result (state_of self.new ≡ iri_closed (stage_of self.old.place (held_of self.old.lexical)) (held_of self.old.text)) }
+    {
+        let alloc = self.alloc;
+        let made = match mem::replace(&mut self.place, Place::End) {
+            Place::Subject => to_predicate(alloc, &self.text)?,
+            Place::Predicate(subject) => to_object(alloc, subject, &self.text)?,
+            Place::Object(subject, predicate) => to_dot(alloc, subject, predicate, &self.text)?,
+            Place::Datatype(subject, predicate) => {
+                to_typed(alloc, subject, predicate, &self.lexical, &self.text)?
+            }
+            _other => Made::Broken,
+        };
+        self.settle(made);
+        Ok(())
+    }
+
+    /// The second `"` of a string.
+    pub fn close_string(&mut self)
+        ensures { state_of self.new ≡ string_closed (stage_of self.old.place (held_of self.old.lexical)) (held_of self.old.text) }
+    {
+        match mem::replace(&mut self.place, Place::End) {
+            Place::Object(subject, predicate) => {
+                mem::swap(&mut self.text, &mut self.lexical);
+                self.place = Place::Suffix(subject, predicate);
+                self.within = Within::Between;
+            }
+            _ => self.break_off(),
+        }
+    }
+
+    /// The second `^`.
+    pub fn close_caret(&mut self)
+        ensures { state_of self.new ≡ caret_closed (stage_of self.old.place (held_of self.old.lexical)) }
+    {
+        match mem::replace(&mut self.place, Place::End) {
+            Place::Suffix(subject, predicate) => {
+                self.place = Place::Datatype(subject, predicate);
+                self.within = Within::Between;
+            }
+            _ => self.break_off(),
+        }
+    }
+}

@@ -1,0 +1,221 @@
+//! From characters to the parts of triples.
+ghost use Rattle.std.specs.Prelude.{◌≡◌, ◌∷◌, [], OnOk, IfOk, if◌then◌else◌, ◌==◌};
+ghost use Rattle.gs_ntread.specs.Sentences.{Word};
+ghost use Rattle.gs_ntread.specs.Classes.{is_space as is_space_of};
+ghost use Rattle.gs_ntread.specs.Machine.{start, broken, end_state, between_turn, behind_literal, turn, quiet, Between, InIri, Underscore, InString, Text, iri_closed, string_closed, caret_closed, plain_held};
+
+use crate::classes::{is_line_end, is_space};
+use crate::parts::{Made, Name, Object, Parts, Place, Subject, Within};
+use crate::terms;
+use crate::tokens::Token;
+use gs_term::TermText;
+use std::alloc::{AllocError, Global};
+use std::mem;
+
+/// Where in a document the characters so far lead.
+#[derive(Drop)]
+pub struct Cursor {
+    pub alloc: Global,
+    pub place: Place,
+    pub within: Within,
+    pub text: Token,
+    pub lexical: Token,
+    pub count: u64,
+    pub value: u64,
+}
+
+impl Cursor {
+    ghost use Rattle.gs_ntread.specs.Grammar.{Plain};
+    ghost use Rattle.gs_body.specs.Bodies.{Syntax};
+    ghost use Rattle.gs_ntread.specs.Views.{state_of, stage_of, shown, held_of, subject_of, made_of, given, IsSuffix, IsDot};
+    ghost use Rattle.gs_ntread.specs.declared.parts.Within.TheVariants as within;
+    ghost use Rattle.gs_ntread.specs.declared.parts.Place.TheVariants as at;
+
+    pub fn new(alloc: Global) -> Cursor
+        ensures { state_of result ≡ start }
+    {
+        Cursor {
+            alloc,
+            place: Place::Subject,
+            within: Within::Between,
+            text: Token::new(alloc),
+            lexical: Token::new(alloc),
+            count: 0,
+            value: 0,
+        }
+    }
+
+    /// The grammar is broken.
+    pub fn break_off(&mut self)
+        ensures { state_of self.new ≡ broken Syntax }
+    {
+        self.within = Within::Broken;
+    }
+
+    /// A token begins.
+    pub fn open(&mut self, within: Within)
+        ensures { state_of self.new ≡ shown within (stage_of self.old.place (held_of self.old.lexical)) (Text []) self.old.count self.old.value }
+    {
+        self.text.clear();
+        self.within = within;
+    }
+
+    /// A character at the front of a line.
+    fn begin_line(&mut self, c: u32)
+        requires between { self.old.within ≡ within.Between }
+        requires place { self.old.place ≡ at.Subject }
+        ensures { quiet (state_of self.new) ≡ between_turn (stage_of self.old.place (held_of self.old.lexical)) c 0 }
+    {
+        if is_space(c) || is_line_end(c) {
+            return;
+        }
+        match c {
+            35 => self.within = Within::Comment,
+            60 => self.open(Within::Iri),
+            95 => self.within = Within::Underscore,
+            _ => self.break_off(),
+        }
+    }
+
+    /// A character where only an IRI may begin.
+    fn begin_iri(&mut self, c: u32)
+        requires { self.old.within ≡ within.Between }
+        ensures { state_of self.new ≡ (let g = stage_of self.old.place (held_of self.old.lexical) in if is_space_of c then (g, Between) else if c == 60 then (g, InIri Plain (Text [])) else broken Syntax) }
+    {
+        if is_space(c) {
+            return;
+        }
+        match c {
+            60 => self.open(Within::Iri),
+            _ => self.break_off(),
+        }
+    }
+
+    /// A character where an object may begin.
+    fn begin_object(&mut self, c: u32)
+        requires { self.old.within ≡ within.Between }
+        ensures { state_of self.new ≡ (let g = stage_of self.old.place (held_of self.old.lexical) in if is_space_of c then (g, Between) else if c == 60 then (g, InIri Plain (Text [])) else if c == 95 then (g, Underscore) else if c == 34 then (g, InString Plain (Text [])) else broken Syntax) }
+    {
+        if is_space(c) {
+            return;
+        }
+        match c {
+            60 => self.open(Within::Iri),
+            95 => self.within = Within::Underscore,
+            34 => self.open(Within::Quoted),
+            _ => self.break_off(),
+        }
+    }
+
+    /// A character behind a triple's dot.
+    pub fn behind(&mut self, c: u32)
+        requires between { self.old.within ≡ within.Between }
+        requires place { self.old.place ≡ at.End }
+        ensures { state_of self.new ≡ end_state c }
+    {
+        if is_space(c) {
+            return;
+        }
+        if is_line_end(c) {
+            self.place = Place::Subject;
+        } else if c == 35 {
+            self.within = Within::Comment;
+        } else {
+            self.break_off();
+        }
+    }
+
+    /// A character where the dot comes, which ends there, behind n bytes.
+    pub fn dot(&mut self, c: u32, n: u64) -> Option<Parts>
+        requires between { self.old.within ≡ within.Between }
+        requires place { IsDot self.old.place }
+        ensures { (state_of self.new, given result) ≡ between_turn (stage_of self.old.place (held_of self.old.lexical)) c n }
+    {
+        if is_space(c) {
+            return None;
+        }
+        if c != 46 {
+            self.break_off();
+            return None;
+        }
+        match mem::replace(&mut self.place, Place::End) {
+            Place::Dot(subject, predicate, object) => Some(Parts {
+                subject,
+                predicate,
+                object,
+                end: n,
+            }),
+            _ => None,
+        }
+    }
+
+    /// A character behind a literal, whose token ends before it.
+    pub fn behind_literal(
+        &mut self,
+        subject: Subject,
+        predicate: Name,
+        made: Made<TermText>,
+        c: u32,
+        n: u64,
+    ) -> Option<Parts>
+        ensures { (state_of self.new, given result) ≡ behind_literal (subject_of subject) predicate.term (made_of (λ x. x) made) c n }
+    {
+        match made {
+            Made::Term(term) => {
+                self.within = Within::Between;
+                self.place = Place::Dot(subject, predicate, Object::Term(term));
+                self.dot(c, n)
+            }
+            Made::Broken => {
+                self.within = Within::Broken;
+                None
+            }
+            Made::Overlong => {
+                self.within = Within::Overlong;
+                None
+            }
+        }
+    }
+
+    /// A character behind a string.
+    fn suffix(&mut self, c: u32, n: u64) -> Result<Option<Parts>, AllocError>
+        requires between { self.old.within ≡ within.Between }
+        requires place { IsSuffix self.old.place }
+        ensures { IfOk result (λ o. (state_of self.new, given o) ≡ between_turn (stage_of self.old.place (held_of self.old.lexical)) c n) }
+    {
+        if is_space(c) {
+            return Ok(None);
+        }
+        if c == 94 {
+            self.within = Within::Caret;
+            return Ok(None);
+        }
+        if c == 64 {
+            self.open(Within::Tag);
+            return Ok(None);
+        }
+        match mem::replace(&mut self.place, Place::End) {
+            Place::Suffix(subject, predicate) => {
+                let made = terms::plain(self.alloc, &self.lexical)?;
+                Ok(self.behind_literal(subject, predicate, made, c, n))
+            }
+            _ => Ok(None),
+        }
+    }
+
+    /// A character between two tokens.
+    pub fn between(&mut self, c: u32, n: u64) -> Result<Option<Parts>, AllocError>
+        requires { self.old.within ≡ within.Between }
+        ensures { IfOk result (λ o. (state_of self.new, given o) ≡ between_turn (stage_of self.old.place (held_of self.old.lexical)) c n) }
+    {
+        match &self.place {
+            Place::Subject => self.begin_line(c),
+            Place::Predicate(_) | Place::Datatype(_, _) => self.begin_iri(c),
+            Place::Object(_, _) => self.begin_object(c),
+            Place::Suffix(_, _) => return self.suffix(c, n),
+            Place::Dot(_, _, _) => return Ok(self.dot(c, n)),
+            Place::End => self.behind(c),
+        }
+        Ok(None)
+    }
+}

@@ -1,0 +1,11 @@
+//! A law of the reader's machine, proved: the body is empty, and the contract is the law.
+ghost use Rattle.std.specs.Prelude.{◌≡◌, List};
+ghost use Rattle.gs_machine.specs.Machines.{rest};
+ghost use Rattle.gs_ntread.specs.Marks.{Mark};
+ghost use Rattle.gs_ntread.specs.Documents.{document};
+ghost use Rattle.gs_ntread.specs.Machine.{start, reading};
+
+/// What is read character by character is what the grammar says of the whole text.
+pub fn read_by_characters()
+    ensures { (text : List Mark) → rest reading start text ≡ document text }
+{}

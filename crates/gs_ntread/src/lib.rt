@@ -1,0 +1,21 @@
+//! Bodies of N-Triples, read in pieces that are cut anywhere.
+#![tactic(auto)]
+
+mod characters;
+mod classes;
+mod closings;
+mod cursor;
+mod endings;
+mod finals;
+mod laws;
+mod numbers;
+mod parts;
+mod reader;
+mod taking;
+mod terms;
+#[cfg(test)]
+mod tests;
+mod tokens;
+
+pub use laws::read_by_characters;
+pub use reader::NTriplesReader;

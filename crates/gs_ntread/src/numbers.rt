@@ -1,0 +1,85 @@
+//! Blank nodes get their numbers.
+ghost use Rattle.std.specs.Prelude.{◌≡◌, ◌∷◌, [], true, IfOk, IfErr};
+ghost use Rattle.gs_ntread.specs.Sentences.{Labelled};
+ghost use Rattle.gs_model.specs.Triples.{is_subject};
+ghost use Rattle.gs_ntread.specs.Documents.{term_of, stated};
+ghost use Rattle.gs_ntread.specs.Views.{subject_of, object_of, sentence_of};
+
+use crate::parts::{Name, Object, Parts, Subject};
+use gs_blank::Numbering;
+use gs_model::Refusal;
+use gs_term::{TermText, Triple};
+use std::alloc::Global;
+
+/// The blank node of a label.
+fn blank(
+    alloc: Global,
+    request: u64,
+    numbering: &mut Numbering,
+    label: &str,
+) -> Result<TermText, Refusal>
+    ensures term { IfOk result (λ t. (t, numbering.new) ≡ term_of request numbering.old (Labelled label.now)) }
+    ensures refused { IfErr result (λ e. e ≡ Refusal.NoMemory) }
+{
+    let number = numbering.of_label(label)?;
+    match TermText::blank(alloc, request, number) {
+        Ok(term) => Ok(term),
+        Err(_) => Err(Refusal::NoMemory),
+    }
+}
+
+fn subject_term(
+    alloc: Global,
+    request: u64,
+    numbering: &mut Numbering,
+    subject: Subject,
+) -> Result<TermText, Refusal>
+    ensures term { IfOk result (λ t. (t, numbering.new) ≡ term_of request numbering.old (subject_of subject)) }
+    ensures kind { IfOk result (λ t. is_subject t ≡ true) }
+    ensures refused { IfErr result (λ e. e ≡ Refusal.NoMemory) }
+{
+    match subject {
+        Subject::Iri(name) => {
+            let Name { term } = name;
+            Ok(term)
+        }
+        Subject::Label(label) => blank(alloc, request, numbering, label.as_str()),
+    }
+}
+
+fn object_term(
+    alloc: Global,
+    request: u64,
+    numbering: &mut Numbering,
+    object: Object,
+) -> Result<TermText, Refusal>
+    ensures term { IfOk result (λ t. (t, numbering.new) ≡ term_of request numbering.old (object_of object)) }
+    ensures refused { IfErr result (λ e. e ≡ Refusal.NoMemory) }
+{
+    match object {
+        Object::Term(term) => Ok(term),
+        Object::Label(label) => blank(alloc, request, numbering, label.as_str()),
+    }
+}
+
+/// The triple of its parts.
+pub fn triple(
+    alloc: Global,
+    request: u64,
+    numbering: &mut Numbering,
+    parts: Parts,
+) -> Result<Triple, Refusal>
+    ensures triple { IfOk result (λ t. (numbering.new, record { triple = t; end = parts.end } ∷ []) ≡ stated request numbering.old (sentence_of parts)) }
+    ensures refused { IfErr result (λ e. e ≡ Refusal.NoMemory) }
+{
+    let Parts {
+        subject,
+        predicate,
+        object,
+        end: _,
+    } = parts;
+    let Name { term } = predicate;
+    let subject = subject_term(alloc, request, numbering, subject)?;
+    let object = object_term(alloc, request, numbering, object)?;
+    Ok(Triple::new(subject, term, object))
+}

@@ -1,0 +1,84 @@
+//! What was read of a line so far.
+ghost use Rattle.std.specs.Prelude.{◌≡◌, true};
+ghost use Rattle.gs_model.specs.Triples.{is_iri};
+
+use gs_term::TermText;
+
+/// An IRI.
+#[derive(Drop)]
+pub struct Name {
+    pub term: TermText,
+    ghost iri: { is_iri term ≡ true },
+}
+
+/// A subject, where a blank node still is its label.
+#[derive(Drop)]
+pub enum Subject {
+    Iri(Name),
+    Label(String),
+}
+
+/// An object, where a blank node still is its label.
+#[derive(Drop)]
+pub enum Object {
+    Term(TermText),
+    Label(String),
+}
+
+/// A triple whose blank nodes are not numbered yet, and the number of bytes up to its end.
+#[derive(Drop)]
+pub struct Parts {
+    pub subject: Subject,
+    pub predicate: Name,
+    pub object: Object,
+    pub end: u64,
+}
+
+/// Which part of a line comes, with what was read of the line.
+#[derive(Drop)]
+pub enum Place {
+    Subject,
+    Predicate(Subject),
+    Object(Subject, Name),
+    Suffix(Subject, Name),
+    Datatype(Subject, Name),
+    Dot(Subject, Name, Object),
+    End,
+}
+
+/// Between two tokens, or within which.
+#[derive(Clone, Copy)]
+pub enum Within {
+    Between,
+    Comment,
+    Iri,
+    IriEscape,
+    IriDigits,
+    Quoted,
+    QuotedEscape,
+    QuotedDigits,
+    Underscore,
+    Colon,
+    Label,
+    Dots,
+    Caret,
+    Tag,
+    Broken,
+    Overlong,
+}
+
+/// What a token says, or its fault.
+#[derive(Drop)]
+pub enum Made<T> {
+    Term(T),
+    Broken,
+    Overlong,
+}
+
+/// How a text ends.
+#[derive(Clone, Copy)]
+pub enum Final {
+    Whole,
+    Broken,
+    Overlong,
+}

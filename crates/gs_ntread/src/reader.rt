@@ -1,0 +1,256 @@
+//! The reader of N-Triples.
+ghost use Rattle.std.specs.Prelude.{◌≡◌, ◌≢◌, ◌++◌, [], false, OnOk, OnErr, IfErr, IfSome, IfNone, IsErr, List, ℕ};
+ghost use Rattle.gs_ntread.specs.Marks.{end_of};
+
+use crate::cursor::Cursor;
+use crate::numbers;
+use crate::parts::{Final, Parts, Within};
+use gs_blank::Numbering;
+use gs_body::BodyReader;
+use gs_machine::{BAD, Decoder};
+use gs_model::Refusal;
+use gs_term::Triple;
+use std::alloc::Global;
+
+/// Reads a body of N-Triples (25 February 2014) that comes in any pieces.
+#[derive(Drop)]
+pub struct NTriplesReader {
+    alloc: Global,
+    request: u64,
+    decoder: Decoder,
+    read: u64,
+    cursor: Cursor,
+    numbering: Numbering,
+    last: u64,
+    is_closed: bool,
+}
+
+/// The number of bytes up to the end of a character.
+fn end_after_char(n: u64, c: u32) -> u64
+    ensures { result ≡ end_of n c }
+{
+    let len = if c < 0x80 {
+        1
+    } else if c < 0x800 {
+        2
+    } else if c < 0x1_0000 {
+        3
+    } else {
+        4
+    };
+    n.saturating_add(len)
+}
+
+impl NTriplesReader {
+    ghost use Rattle.gs_machine.specs.Machines.{steps, rest, Begins};
+    ghost use Rattle.gs_machine.specs.Utf8.{is_ready_of};
+    ghost use Rattle.gs_body.specs.Bodies.{triples_of, Whole};
+    ghost use Rattle.gs_ntread.specs.Documents.{stated, numbering, said_by};
+    ghost use Rattle.gs_ntread.specs.Reader.{stating, placing, ntriples};
+    ghost use Rattle.gs_ntread.specs.Readers.{led_of, LeadsTo, Takes, IsBroken, FaultsAs, FaultyAfter, ConcludesAs, FaultyEnd, Ends, Sound};
+    ghost use Rattle.gs_ntread.specs.Views.{sentence_of, state_of, ending_of};
+
+    /// A reader at the start of the body of the request of this number. Takes no memory.
+    pub fn new(alloc: Global, request: u64) -> NTriplesReader
+        ensures fresh { ⟦<NTriplesReader as BodyReader>⟧.Leads result [] [] }
+        ensures unread { ⟦<NTriplesReader as BodyReader>⟧.is_closed result ≡ false }
+        ensures said { (x : List ℕ) → ⟦<NTriplesReader as BodyReader>⟧.said result x ≡ said_by request x }
+    {
+        NTriplesReader {
+            alloc,
+            request,
+            decoder: Decoder::new(),
+            read: 0,
+            cursor: Cursor::new(alloc),
+            numbering: Numbering::new(alloc),
+            last: 0,
+            is_closed: false,
+        }
+    }
+
+    /// A triple is complete.
+    fn give(&mut self, parts: Parts, triples: &mut Vec<Triple>) -> Result<(), Refusal>
+        ensures ok { OnOk result (Takes self.old self.new triples.old.items triples.new.items ((self.old.decoder, (self.old.read, (state_of self.old.cursor, (stated self.old.request self.old.numbering (sentence_of parts)).0))), (stated self.old.request self.old.numbering (sentence_of parts)).1)) }
+        ensures err { OnErr result (triples.new.items ≡ triples.old.items) }
+        ensures request { self.new.request ≡ self.old.request }
+        ensures refused { IfErr result (λ e. e ≡ Refusal.NoMemory) }
+    {
+        let end = parts.end;
+        let triple = numbers::triple(self.alloc, self.request, &mut self.numbering, parts)?;
+        triples.push(triple)?;
+        self.last = end;
+        Ok(())
+    }
+
+    /// The next character.
+    fn character(&mut self, c: u32, triples: &mut Vec<Triple>) -> Result<(), Refusal>
+        ensures ok { OnOk result (let u = (placing self.old.request).step (self.old.read, (state_of self.old.cursor, self.old.numbering)) c in Takes self.old self.new triples.old.items triples.new.items ((self.old.decoder, u.0), u.1)) }
+        ensures err { OnErr result (triples.new.items ≡ triples.old.items) }
+        ensures request { self.new.request ≡ self.old.request }
+        ensures refused { IfErr result (λ e. e ≡ Refusal.NoMemory) }
+    {
+        self.read = end_after_char(self.read, c);
+        match self.cursor.take(c, self.read)? {
+            None => Ok(()),
+            Some(parts) => self.give(parts, triples),
+        }
+    }
+
+    /// The next byte.
+    fn step(&mut self, byte: u8, triples: &mut Vec<Triple>) -> Result<(), Refusal>
+        ensures ok { OnOk result (Takes self.old self.new triples.old.items triples.new.items ((ntriples self.old.request).step (led_of self.old) byte)) }
+        ensures err { OnErr result (triples.new.items ≡ triples.old.items) }
+        ensures request { self.new.request ≡ self.old.request }
+        ensures refused { IfErr result (λ e. e ≡ Refusal.NoMemory) }
+    {
+        match self.decoder.decode(byte) {
+            None => Ok(()),
+            Some(c) => self.character(c, triples),
+        }
+    }
+
+    /// The next bytes.
+    fn take_all(&mut self, piece: &[u8], triples: &mut Vec<Triple>) -> Result<(), Refusal>
+        ensures ok { OnOk result (Takes self.old self.new triples.old.items triples.new.items (steps (ntriples self.old.request) (led_of self.old) piece.now)) }
+        ensures err { OnErr result (Begins triples.new.items triples.old.items) }
+        ensures request { self.new.request ≡ self.old.request }
+        ensures refused { IfErr result (λ e. e ≡ Refusal.NoMemory) }
+    {
+        for byte in piece {
+            self.step(*byte, triples)?;
+        }
+        Ok(())
+    }
+
+    /// The fault at which nothing more is read.
+    fn fault(&self) -> Option<Refusal>
+        ensures some { IfSome result (λ e. FaultsAs e self.now.last (state_of self.now.cursor)) }
+        ensures none { IfNone result (¬ (IsBroken (state_of self.now.cursor))) }
+        ensures told { IfSome result (λ e. e ≢ Refusal.Closed) }
+    {
+        match self.cursor.within {
+            Within::Broken => Some(Refusal::Syntax(self.last)),
+            Within::Overlong => Some(Refusal::TermTooLong),
+            _ => None,
+        }
+    }
+
+    /// The next piece, and its fault.
+    fn take_piece(&mut self, piece: &[u8], triples: &mut Vec<Triple>) -> Result<(), Refusal>
+        ensures ok { OnOk result (Takes self.old self.new triples.old.items triples.new.items (steps (ntriples self.old.request) (led_of self.old) piece.now)) }
+        ensures err { OnErr result (Begins triples.new.items triples.old.items) }
+        ensures fault { IfErr result (λ e. FaultyAfter e self.old.last (steps (ntriples self.old.request) (led_of self.old) piece.now)) }
+        ensures request { self.new.request ≡ self.old.request }
+    {
+        self.take_all(piece, triples)?;
+        match self.fault() {
+            None => Ok(()),
+            Some(refusal) => Err(refusal),
+        }
+    }
+
+    /// What the end of a text answers.
+    fn conclude(&self, end: Final) -> Result<(), Refusal>
+        ensures ok { OnOk result (ending_of end ≡ Whole) }
+        ensures told { IfErr result (λ e. e ≢ Refusal.Closed) }
+        ensures fault { IfErr result (λ e. ConcludesAs e self.now.last (ending_of end)) }
+    {
+        match end {
+            Final::Whole => Ok(()),
+            Final::Broken => Err(Refusal::Syntax(self.last)),
+            Final::Overlong => Err(Refusal::TermTooLong),
+        }
+    }
+
+    /// The text ends between two characters.
+    fn end_between(&mut self, triples: &mut Vec<Triple>) -> Result<(), Refusal>
+        ensures ok { OnOk result (Ends triples.old.items triples.new.items (rest (stating self.old.request) (state_of self.old.cursor, self.old.numbering) [])) }
+        ensures err { OnErr result (Begins triples.new.items triples.old.items) }
+        ensures told { IfErr result (λ e. e ≢ Refusal.Closed) }
+        ensures fault { IfErr result (λ e. FaultyEnd e self.old.last (rest (stating self.old.request) (state_of self.old.cursor, self.old.numbering) [])) }
+    {
+        let (parts, end) = self.cursor.end()?;
+        match parts {
+            None => self.conclude(end),
+            Some(parts) => {
+                self.give(parts, triples)?;
+                self.conclude(end)
+            }
+        }
+    }
+
+    /// The text ends within a character.
+    fn end_within(&mut self, triples: &mut Vec<Triple>) -> Result<(), Refusal>
+        requires { is_ready_of self.old.decoder ≡ false }
+        ensures failed { IsErr result }
+        ensures err { OnErr result (Begins triples.new.items triples.old.items) }
+        ensures told { IfErr result (λ e. e ≢ Refusal.Closed) }
+        ensures fault { IfErr result (λ e. Sound (led_of self.old) → FaultyEnd e self.old.last (rest (ntriples self.old.request) (led_of self.old) [])) }
+    {
+        match self.fault() {
+            Some(refusal) => return Err(refusal),
+            None => {}
+        }
+        self.character(BAD, triples)?;
+        match self.fault() {
+            Some(refusal) => Err(refusal),
+            None => Err(Refusal::NoMemory),
+        }
+    }
+
+    /// The text ends.
+    fn take_end(&mut self, triples: &mut Vec<Triple>) -> Result<(), Refusal>
+        ensures ok { OnOk result (Ends triples.old.items triples.new.items (rest (ntriples self.old.request) (led_of self.old) [])) }
+        ensures err { OnErr result (Begins triples.new.items triples.old.items) }
+        ensures told { IfErr result (λ e. e ≢ Refusal.Closed) }
+        ensures fault { IfErr result (λ e. Sound (led_of self.old) → FaultyEnd e self.old.last (rest (ntriples self.old.request) (led_of self.old) [])) }
+    {
+        if self.decoder.is_ready() {
+            self.end_between(triples)
+        } else {
+            self.end_within(triples)
+        }
+    }
+}
+
+impl BodyReader for NTriplesReader {
+    ghost use Rattle.gs_ntread.specs.Documents.{said_by};
+    ghost use Rattle.gs_ntread.specs.Readers.{LeadsTo};
+
+    ghost said = { λ r x. said_by r.request x };
+
+    ghost Leads = { λ r x ts. LeadsTo r x ts };
+
+    ghost is_closed = { λ r. r.is_closed };
+
+    fn feed(&mut self, piece: &[u8], triples: &mut Vec<Triple>) -> Result<(), Refusal> {
+        if self.is_closed {
+            return Err(Refusal::Closed);
+        }
+        let before = triples.as_slice().len();
+        match self.take_piece(piece, triples) {
+            Ok(()) => Ok(()),
+            Err(refusal) => {
+                self.is_closed = true;
+                triples.truncate(before);
+                Err(refusal)
+            }
+        }
+    }
+
+    fn finish(&mut self, triples: &mut Vec<Triple>) -> Result<(), Refusal> {
+        if self.is_closed {
+            return Err(Refusal::Closed);
+        }
+        let before = triples.as_slice().len();
+        let ended = self.take_end(triples);
+        self.is_closed = true;
+        match ended {
+            Ok(()) => Ok(()),
+            Err(refusal) => {
+                triples.truncate(before);
+                Err(refusal)
+            }
+        }
+    }
+}

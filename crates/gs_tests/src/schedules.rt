@@ -1,0 +1,165 @@
+//! Schedules through `drill`, each with what it must print.
+use gs_drill::drill;
+use std::alloc::{AllocError, Global};
+use std::test::Fail;
+
+/// What a schedule printed, what it said of its end, and its status.
+#[derive(Drop)]
+pub struct Played {
+    pub out: Vec<u8>,
+    pub err: Vec<u8>,
+    pub status: u8,
+}
+
+/// Plays a schedule.
+pub fn replay(alloc: Global, input: &str) -> Played {
+    let mut reader = input.as_bytes();
+    let mut out = Vec::new(alloc);
+    let mut err = Vec::new(alloc);
+    let status = drill(alloc, &mut reader, &mut out, &mut err);
+    Played { out, err, status }
+}
+
+/// A worked schedule: its name, its lines and what they print.
+type Row = (&'static str, &'static str, &'static str);
+
+const ROWS: [Row; 9] = [
+    ("an empty input", "", ""),
+    (
+        "a missing graph and the default graph",
+        "0 pin <http://e/g>\n0 pin default\n0 piece 1\n",
+        "404\n200\nend\n",
+    ),
+    (
+        "a graph is put, read and put again",
+        "0 open put <http://e/g>\n0 stage <http://e/s> <http://e/p> \"2\" .\n0 stage <http://e/s> <http://e/p> \"1\" .\n0 commit\n0 pin <http://e/g>\n0 piece 5\n0 open put <http://e/g>\n0 commit\n0 pin <http://e/g>\n0 piece 5\n",
+        "opened 1\nstaged\nstaged\n201\n200\n<http://e/s> <http://e/p> \"1\" .\n<http://e/s> <http://e/p> \"2\" .\nend\nopened 2\n204\n200\nend\n",
+    ),
+    (
+        "an upload shows nothing before its commit",
+        "0 open put default\n0 stage <http://e/s> <http://e/p> \"1\" .\n1 pin default\n1 piece 9\n0 stage <http://e/s> <http://e/p> \"2\" .\n0 commit\n1 pin default\n1 piece 9\n",
+        "opened 1\nstaged\n200\nend\nstaged\n204\n200\n<http://e/s> <http://e/p> \"1\" .\n<http://e/s> <http://e/p> \"2\" .\nend\n",
+    ),
+    (
+        "a read keeps its lines while the graph is put again",
+        "0 open put <http://e/g>\n0 stage <http://e/s> <http://e/p> \"1\" .\n0 stage <http://e/s> <http://e/p> \"2\" .\n0 commit\n1 pin <http://e/g>\n1 piece 1\n0 open put <http://e/g>\n0 commit\n1 piece 1\n1 pin <http://e/g>\n1 piece 1\nreclaim 7\ncounts\n",
+        "opened 1\nstaged\nstaged\n201\n200\n<http://e/s> <http://e/p> \"1\" .\nmore\nopened 2\n204\n<http://e/s> <http://e/p> \"2\" .\nend\n200\nend\nreclaimed 0 done\nnodes 0 triples 0\n",
+    ),
+    (
+        "senseless events are refused and change nothing",
+        "0 open put <http://e/g>\n0 stage <http://e/s> <http://e/p> \"1\" .\n0 pin default\n0 commit\n1 pin <http://e/g>\n1 piece 0\n1 piece 3\n1 piece 3\n0 cancel\n9 cancel\n",
+        "opened 1\nstaged\nrefused WrongPhase\n201\n200\nrefused WrongPhase\n<http://e/s> <http://e/p> \"1\" .\nend\nrefused WrongPhase\nrefused WrongPhase\nrefused BadSeat\n",
+    ),
+    (
+        "a cancelled upload leaves no change and keeps its number",
+        "0 open put default\n0 stage <http://e/s> <http://e/p> \"1\" .\n0 cancel\n1 pin default\n1 piece 1\n0 open put default\n0 commit\ncounts\n",
+        "opened 1\nstaged\ncancelled\n200\nend\nopened 2\n204\nnodes 0 triples 0\n",
+    ),
+    (
+        "three versions of four triples",
+        "0 open put <http://e/g>\n0 stage <http://e/s> <http://e/p> \"1\" .\n0 stage <http://e/s> <http://e/p> \"2\" .\n0 stage <http://e/s> <http://e/p> \"3\" .\n0 stage <http://e/s> <http://e/p> \"4\" .\n0 commit\n0 open put <http://e/g>\n0 stage <http://e/s> <http://e/p> \"1\" .\n0 stage <http://e/s> <http://e/p> \"2\" .\n0 stage <http://e/s> <http://e/p> \"3\" .\n0 stage <http://e/s> <http://e/p> \"4\" .\n0 commit\ncounts\nreclaim 5\nreclaim 5\ncounts\n",
+        "opened 1\nstaged\nstaged\nstaged\nstaged\n201\nopened 2\nstaged\nstaged\nstaged\nstaged\n204\nnodes 4 triples 4\nreclaimed 0 done\nreclaimed 0 done\nnodes 4 triples 4\n",
+    ),
+    (
+        "the last numbers are given out",
+        "store 4 999999999999999999 999999999999999998\n0 open put default\n0 commit\n0 cancel\n0 open put default\n0 pin default\n0 piece 1\n",
+        "opened 999999999999999999\nrefused LastNumber\ncancelled\nrefused LastNumber\n200\nend\n",
+    ),
+];
+
+#[test]
+fn worked_schedules_print_what_they_must(rt: HostRuntime) -> Result<(), Fail> {
+    for (name, input, want) in ROWS {
+        let got = replay(rt.alloc(), input);
+        assert_eq!(rt; str::from_utf8(got.out.as_slice())?, want, "at {name}");
+        assert_eq!(rt; got.err.len(), 0, "at {name}");
+        assert_eq!(rt; got.status, 0, "at {name}");
+    }
+    Ok(())
+}
+
+/// Two seats write one triple each: the second in the order of commits is the graph. Comments and
+/// empty lines are skipped, repeats are one triple, and the last line feed may be missing.
+#[test]
+fn the_last_commit_is_the_graph(rt: HostRuntime) -> Result<(), Fail> {
+    let input =
+        "# two uploads\n\n0 open put default\n1 open put default\n0 stage <http://e/s> <http://e/p> \"0\" .\n0 stage <http://e/s> <http://e/p> \"0\" .\n1 stage _:b1_1 <http://e/p> \"x\\ny\"@en-us .\ncounts\n1 commit\n0 commit\n2 pin default\n2 piece 2";
+    let want =
+        "opened 1\nopened 2\nstaged\nstaged\nstaged\nnodes 2 triples 0\n204\n204\n200\n<http://e/s> <http://e/p> \"0\" .\nend\n";
+    let got = replay(rt.alloc(), input);
+    assert_eq!(rt; str::from_utf8(got.out.as_slice())?, want);
+    assert_eq!(rt; got.status, 0);
+    Ok(())
+}
+
+/// Lines that are no command, each as the third line of a schedule.
+const NO_COMMANDS: [&str; 26] = [
+    "0",
+    "0 ",
+    "pin default",
+    "0 pin",
+    "0 pin graph",
+    "0 pin <e>",
+    "0 pin <http://e/g",
+    "0  pin default",
+    " 0 pin default",
+    "00 pin default",
+    "65536 pin default",
+    "-1 cancel",
+    "0 piece 01",
+    "0 piece 4294967296",
+    "0 piece",
+    "0 commit ",
+    "0 Commit",
+    "0 open",
+    "0 open put",
+    "0 open patch default",
+    "0 stage <e> <http://e/p> \"1\" .",
+    "0 stage <http://e/s> <http://e/p> \"1\".",
+    "0 stage \"1\" <http://e/p> \"1\" .",
+    "reclaim 18446744073709551616",
+    "store 4 0 0",
+    "counts all",
+];
+
+#[test]
+fn a_line_that_is_no_command_ends_the_run(rt: HostRuntime) -> Result<(), Fail> {
+    let alloc = rt.alloc();
+    for line in NO_COMMANDS {
+        let input = format!(in alloc; "# three lines\n0 pin default\n{line}\n0 cancel\n")?;
+        let got = replay(alloc, input.as_str());
+        assert_eq!(rt; str::from_utf8(got.out.as_slice())?, "200\n", "at {line}");
+        assert_eq!(rt;
+            str::from_utf8(got.err.as_slice())?,
+            "gsdrill: line 3 is no command\n",
+            "at {line}"
+        );
+        assert_eq!(rt; got.status, 2, "at {line}");
+    }
+    Ok(())
+}
+
+/// First lines that begin a store outside its conditions.
+const NO_STORES: [&str; 6] = [
+    "store 0 0 0",
+    "store 513 0 0",
+    "store 4 1000000000000000000 0",
+    "store 4 0 1000000000000000000",
+    "store 4 0",
+    "store 4 0 0 0",
+];
+
+#[test]
+fn a_store_outside_its_conditions_is_no_command(rt: HostRuntime) -> Result<(), Fail> {
+    for line in NO_STORES {
+        let got = replay(rt.alloc(), line);
+        assert_eq!(rt; got.out.len(), 0, "at {line}");
+        assert_eq!(rt;
+            str::from_utf8(got.err.as_slice())?,
+            "gsdrill: line 1 is no command\n",
+            "at {line}"
+        );
+        assert_eq!(rt; got.status, 2, "at {line}");
+    }
+    Ok(())
+}
