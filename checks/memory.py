@@ -1,0 +1,131 @@
+"""Checks what gsdrill prints where a request for memory is refused: memory.py PROGRAM SCHEDULES FOLDER."""
+import os
+import re
+import subprocess
+import sys
+
+LAST_NUMBER = 999_999_999_999_999_999
+NO_MEMORY = "refused NoMemory"
+
+
+def worked_schedules(path):
+    """(name, input, output) of each row of the table in gs_tests."""
+    source = open(path, encoding="utf-8").read()
+    table = source[source.index("const ROWS"):]
+    texts = re.findall(r'"((?:[^"\\]|\\.)*)"', table[:table.index("];")])
+    texts = [it.replace("\\n", "\n").replace('\\"', '"') for it in texts]
+    return [tuple(texts[i:i + 3]) for i in range(0, len(texts), 3)]
+
+
+class Store:
+    """An abstract graph store: each write whole at its commit, each read whole at its pin."""
+
+    def __init__(self, seats=4, commit=0, request=0):
+        self.seats, self.commit, self.request = seats, commit, request
+        self.graphs = {"default": set()}
+        self.phases = {}
+
+    def counts(self):
+        current = sum(len(it) for it in self.graphs.values())
+        staged = sum(len(it[2]) for it in self.phases.values() if it[0] == "writing")
+        return f"nodes {current + staged} triples {current}"
+
+    def may_want_memory(self, seat, words):
+        phase = self.phases.get(seat, ("idle",))
+        return {
+            "open": phase[0] == "idle",
+            "stage": phase[0] == "writing",
+            "commit": phase[0] == "writing" and phase[1] not in self.graphs,
+            "piece": phase[0] == "reading" and words[2:] != ["0"],
+        }.get(words[1], False)
+
+    def step(self, seat, words, line):
+        """The lines that the event prints where memory is there."""
+        phase, action = self.phases.get(seat, ("idle",)), words[1]
+        if seat >= self.seats:
+            return ["refused BadSeat"]
+        needed = {"open": ["idle"], "pin": ["idle"], "stage": ["writing"], "commit": ["writing"], "piece": ["reading"]}
+        if phase[0] not in needed.get(action, ["writing", "reading"]) or words[1:] == ["piece", "0"]:
+            return ["refused WrongPhase"]
+        if action == "open":
+            if self.request == LAST_NUMBER:
+                return ["refused LastNumber"]
+            self.request += 1
+            self.phases[seat] = ("writing", words[3], set())
+            return [f"opened {self.request}"]
+        if action == "stage":
+            self.phases[seat] = ("writing", phase[1], phase[2] | {line.split(" ", 2)[2]})
+            return ["staged"]
+        if action == "commit":
+            if self.commit == LAST_NUMBER:
+                return ["refused LastNumber"]
+            status = "204" if phase[1] in self.graphs else "201"
+            self.commit += 1
+            self.graphs[phase[1]] = phase[2]
+            self.phases[seat] = ("idle",)
+            return [status]
+        if action == "pin":
+            if words[2] not in self.graphs:
+                return ["404"]
+            self.phases[seat] = ("reading", sorted(self.graphs[words[2]]))
+            return ["200"]
+        if action == "piece":
+            told, left = phase[1][:int(words[2])], phase[1][int(words[2]):]
+            self.phases[seat] = ("reading", left) if left else ("idle",)
+            return told + ["more" if left else "end"]
+        self.phases[seat] = ("idle",)
+        return ["cancelled"]
+
+
+def refusals(schedule, printed):
+    """How often memory was refused to an event, and whether the whole schedule was answered."""
+    store, count = Store(), 0
+    for line in schedule.split("\n"):
+        words = line.split(" ")
+        if not line or line.startswith("#"):
+            continue
+        if words[0] == "store":
+            store = Store(*map(int, words[1:]))
+            continue
+        if not printed:
+            return count, False
+        if words[0] == "counts":
+            want = [store.counts()]
+        elif words[0] == "reclaim":
+            want = ["reclaimed 0 done"]
+        elif printed[0] == NO_MEMORY:
+            assert store.may_want_memory(int(words[0]), words), f"{line}: {NO_MEMORY}"
+            want, count = [NO_MEMORY], count + 1
+        else:
+            want = store.step(int(words[0]), words, line)
+        assert printed[:len(want)] == want, f"{line}: {printed[:len(want)]}, not {want}"
+        printed = printed[len(want):]
+    assert not printed, f"behind the last answer: {printed}"
+    return count, True
+
+
+def run(program, schedule, room, refused):
+    variables = {"LD_PRELOAD": f"{room}/refuse.so", "COUNT": f"{room}/count", "REFUSED": str(refused)}
+    ran = subprocess.run([program], input=schedule, capture_output=True, text=True, env=os.environ | variables)
+    return ran.returncode, ran.stdout, ran.stderr
+
+
+def main(program, schedules, room):
+    total = 0
+    for name, schedule, want in worked_schedules(schedules):
+        assert run(program, schedule, room, 0) == (0, want, ""), name
+        requests = int(open(f"{room}/count").read())
+        for refused in range(1, requests + 1):
+            status, out, err = run(program, schedule, room, refused)
+            count, is_whole = refusals(schedule, out.split("\n")[:-1])
+            if status == 3:
+                assert err == "gsdrill: no memory\n" and count == 0, (name, refused, err)
+            else:
+                assert (status, err) == (0, "") and is_whole and count <= 1, (name, refused, status, err)
+        total += requests
+        print(f"{name}: {requests} requests, each refused in turn")
+    print(f"{total} runs, and no wrong answer")
+
+
+if __name__ == "__main__":
+    main(*sys.argv[1:])

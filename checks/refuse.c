@@ -1,0 +1,48 @@
+/* Takes the place of the C library's requests for memory: counts them, and refuses one of them.
+   REFUSED says which, from 1; the count goes to the file COUNT when the program ends. */
+#include <errno.h>
+#include <stdio.h>
+#include <stdlib.h>
+
+extern void *__libc_malloc(size_t size);
+extern void *__libc_calloc(size_t count, size_t size);
+extern void *__libc_realloc(void *old, size_t size);
+extern void *__libc_memalign(size_t alignment, size_t size);
+
+static long requests, refused = -1;
+
+static int is_refused(void) {
+    if (refused < 0) {
+        const char *text = getenv("REFUSED");
+        refused = text ? atol(text) : 0;
+    }
+    requests++;
+    if (requests != refused) return 0;
+    errno = ENOMEM;
+    return 1;
+}
+
+void *malloc(size_t size) { return is_refused() ? NULL : __libc_malloc(size); }
+
+void *calloc(size_t count, size_t size) { return is_refused() ? NULL : __libc_calloc(count, size); }
+
+void *realloc(void *old, size_t size) { return is_refused() ? NULL : __libc_realloc(old, size); }
+
+void *aligned_alloc(size_t alignment, size_t size) { return is_refused() ? NULL : __libc_memalign(alignment, size); }
+
+int posix_memalign(void **place, size_t alignment, size_t size) {
+    if (is_refused()) return ENOMEM;
+    *place = __libc_memalign(alignment, size);
+    return *place ? 0 : ENOMEM;
+}
+
+__attribute__((destructor)) static void tell(void) {
+    const char *name = getenv("COUNT");
+    long count = requests;
+    refused = 0;
+    FILE *file = name ? fopen(name, "w") : NULL;
+    if (file) {
+        fprintf(file, "%ld\n", count);
+        fclose(file);
+    }
+}
