@@ -1,3 +1,4 @@
 pub mod LineRuns
 pub mod RowLemmas
-pub mod KeptLemmas
+pub mod WriteLemmas
+pub mod NameLemmas

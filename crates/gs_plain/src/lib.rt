@@ -4,7 +4,8 @@
 mod actions;
 mod books;
 mod graphs;
-mod stores;
+mod names;
+mod reads;
+mod writes;
 
 pub use graphs::SortedGraph;
-pub use stores::PlainStore;

@@ -1,0 +1,4 @@
+use Rattle.gs_plain.proofs.names.name_text.Goals as goal
+
+pub returns : goal.returns
+returns c = ?
