@@ -57,10 +57,10 @@ pub record HasRest (base : List ℕ) : Type 0 where
 
 has_rest : (base : List ℕ) → is_base base ≡ true → HasRest base
 has_rest base e =
-    let parts = both_true _ _ e in
-    let lengths = both_true _ _ parts.0 in
-    let texts = both_true _ _ parts.1 in
-    let split = (starts_is Decides-eqb base (codes "http://") _ refl).0 texts.0 in
+    let parts = both_true (nat_le 8 (length base) && nat_le (length base) 256) (starts_with nat_eq base (codes "http://") && list_all is_base_char (drop 7 base)) e in
+    let lengths = both_true (nat_le 8 (length base)) (nat_le (length base) 256) parts.0 in
+    let texts = both_true (starts_with nat_eq base (codes "http://")) (list_all is_base_char (drop 7 base)) parts.1 in
+    let split = (starts_is Decides-eqb base (codes "http://") (starts_with nat_eq base (codes "http://")) refl).0 texts.0 in
     record {
       rest = drop 7 base;
       is = split;
@@ -111,3 +111,8 @@ free_here m base r names k h free = ap (λ n. first_free m base r n k) (one_less
 -- all of them were taken
 pub free_end : (m : Dataset) (base : List ℕ) (r names k : ℕ) → names ≤ k → first_free m base r (names - k) k ≡ k
 free_end m base r names k h = let none : names - k ≡ 0 = omega arith in ap (λ n. first_free m base r n k) none
+
+-- the name that is made is the first free one
+pub named_so : (m : Dataset) (text base : List ℕ) (r names k : ℕ) (made : Result (List ℕ) AllocError) → text ≡ base → names ≡ names_in m → first_free m base r names 0 ≡ k → IfOk made (λ name. name ≡ made_name text r k) → IfOk made (λ name. name ≡ new_name base m r)
+named_so m text base r names k (Err e) same counted first h = h
+named_so m text base r names k (Ok name) same counted first h = h ∙ ap (λ b. made_name b r k) same ∙ ap (made_name base r) (sym first ∙ ap (λ n. first_free m base r n 0) counted)

@@ -33,8 +33,10 @@ fn made_name(alloc: Global, base: &str, request: u64, number: u64) -> Result<Gra
     let text = name_text(alloc, base, request, number)?;
     match GraphName::new(alloc, text.as_str()) {
         Ok(name) => Ok(name),
-        Err(Refusal::NoMemory) => Err(AllocError),
-        Err(_) => unreachable!(),
+        Err(refusal) => match refusal {
+            Refusal::NoMemory => Err(AllocError),
+            _ => unreachable!(),
+        },
     }
 }
 
