@@ -66,6 +66,11 @@ fn expect(rt: &impl Abort, alloc: Global, events: &[Event], want: &[&str]) -> Re
 }
 
 #[test]
+fn no_events_get_no_answers(rt: HostRuntime) -> Result<(), Fail> {
+    expect(&rt, rt.alloc(), &[], &[])
+}
+
+#[test]
 fn a_missing_graph_and_the_default_graph(rt: HostRuntime) -> Result<(), Fail> {
     let alloc = rt.alloc();
     let events = [
