@@ -27,7 +27,7 @@ class Store:
 
     def counts(self):
         current = sum(len(it) for it in self.graphs.values())
-        staged = sum(len(it[2]) for it in self.phases.values() if it[0] == "writing")
+        staged = sum(len(it[4]) for it in self.phases.values() if it[0] == "writing")
         return f"nodes {current + staged} triples {current}"
 
     def may_want_memory(self, seat, words):
@@ -35,35 +35,66 @@ class Store:
         return {
             "open": phase[0] == "idle",
             "stage": phase[0] == "writing",
-            "commit": phase[0] == "writing" and phase[1] not in self.graphs,
+            "commit": phase[0] == "writing" and not (phase[1] == "put" and phase[2] in self.graphs),
             "piece": phase[0] == "reading" and words[2:] != ["0"],
         }.get(words[1], False)
+
+    def new_name(self, request):
+        k = 0
+        while f"<http://localhost/graphs/n{request}-{k}>" in self.graphs:
+            k += 1
+        return f"<http://localhost/graphs/n{request}-{k}>"
+
+    def commit_upload(self, kind, target, request, upload):
+        """The status of a commit, and the name that was made up."""
+        if kind == "new":
+            target = self.new_name(request)
+        if self.commit == LAST_NUMBER:
+            return "refused LastNumber"
+        status = "204" if target in self.graphs else "201"
+        self.commit += 1
+        self.graphs[target] = upload | self.graphs.get(target, set()) if kind == "post" else upload
+        return f"{status} {target[1:-1]}" if kind == "new" else status
+
+    def delete(self, target):
+        if target not in self.graphs:
+            return "404"
+        if self.commit == LAST_NUMBER:
+            return "refused LastNumber"
+        self.commit += 1
+        if target == "default":
+            self.graphs[target] = set()
+        else:
+            del self.graphs[target]
+        return "204"
 
     def step(self, seat, words, line):
         """The lines that the event prints where memory is there."""
         phase, action = self.phases.get(seat, ("idle",)), words[1]
         if seat >= self.seats:
             return ["refused BadSeat"]
-        needed = {"open": ["idle"], "pin": ["idle"], "stage": ["writing"], "commit": ["writing"], "piece": ["reading"]}
+        idle, writing, reading = ["idle"], ["writing"], ["reading"]
+        needed = {"open": idle, "pin": idle, "head": idle, "delete": idle, "stage": writing, "commit": writing, "piece": reading}
         if phase[0] not in needed.get(action, ["writing", "reading"]) or words[1:] == ["piece", "0"]:
             return ["refused WrongPhase"]
         if action == "open":
             if self.request == LAST_NUMBER:
                 return ["refused LastNumber"]
             self.request += 1
-            self.phases[seat] = ("writing", words[3], set())
+            self.phases[seat] = ("writing", words[2], (words + [""])[3], self.request, set())
             return [f"opened {self.request}"]
         if action == "stage":
-            self.phases[seat] = ("writing", phase[1], phase[2] | {line.split(" ", 2)[2]})
+            self.phases[seat] = phase[:4] + (phase[4] | {line.split(" ", 2)[2]},)
             return ["staged"]
         if action == "commit":
-            if self.commit == LAST_NUMBER:
-                return ["refused LastNumber"]
-            status = "204" if phase[1] in self.graphs else "201"
-            self.commit += 1
-            self.graphs[phase[1]] = phase[2]
-            self.phases[seat] = ("idle",)
-            return [status]
+            told = self.commit_upload(*phase[1:])
+            if not told.startswith("refused"):
+                self.phases[seat] = ("idle",)
+            return [told]
+        if action == "delete":
+            return [self.delete(words[2])]
+        if action == "head":
+            return ["200" if words[2] in self.graphs else "404"]
         if action == "pin":
             if words[2] not in self.graphs:
                 return ["404"]

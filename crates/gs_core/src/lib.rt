@@ -2,9 +2,11 @@
 #![tactic(auto)]
 
 mod bases;
+mod limits;
 mod stores;
 
 pub use bases::is_base;
 pub use gs_event::{Action, Answer, Event, Kind};
 pub use gs_model::Refusal;
+pub use limits::{MOST_NAMES, MOST_TRIPLES};
 pub use stores::Store;

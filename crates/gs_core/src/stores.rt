@@ -6,8 +6,10 @@ ghost use Rattle.gs_event.specs.Datasets.{triples_in};
 ghost use Rattle.gs_event.specs.Views.{Fits, next_view};
 ghost use Rattle.gs_event.specs.Histories.{Start, History, IsLegal, history_of, view_of};
 ghost use Rattle.gs_event.specs.Waste.{Reclaims, nodes_in};
+ghost use Rattle.gs_core.specs.Settings.{setting_of};
 
-use gs_event::{Answer, Event};
+use crate::limits::{MOST_NAMES, MOST_TRIPLES};
+use gs_event::{Answer, Event, Limits};
 use gs_model::Refusal;
 use gs_plain::PlainStore;
 use gs_run::{self, EventStore};
@@ -19,7 +21,6 @@ use std::marker::Model;
 #[derive(Drop)]
 pub struct Store {
     alloc: Global,
-    base: String,
     plain: PlainStore,
 }
 
@@ -41,7 +42,7 @@ impl Store {
         requires some { 1 ≤ seats }
         requires few { seats ≤ MOST_SEATS }
         requires base { is_base base.now ≡ true }
-        ensures view { IfOk result (λ store. store.view ≡ view_of (record { seats = seats; request = 0; commit = 0 }) []) }
+        ensures view { IfOk result (λ store. store.view ≡ view_of (record { seats = seats; setting = setting_of base.now; request = 0; commit = 0 }) []) }
         ensures waste { IfOk result (λ store. store.waste ≡ []) }
         ensures refused { IfErr result (λ refusal. refusal ≡ Refusal.NoMemory) }
     {
@@ -61,13 +62,33 @@ impl Store {
         requires base { is_base base.now ≡ true }
         requires last_commit { commit ≤ LAST_NUMBER }
         requires last_request { request ≤ LAST_NUMBER }
-        ensures view { IfOk result (λ store. store.view ≡ view_of (record { seats = seats; request = request; commit = commit }) []) }
+        ensures view { IfOk result (λ store. store.view ≡ view_of (record { seats = seats; setting = setting_of base.now; request = request; commit = commit }) []) }
         ensures waste { IfOk result (λ store. store.waste ≡ []) }
         ensures refused { IfErr result (λ refusal. refusal ≡ Refusal.NoMemory) }
     {
-        let base = String::from_str(alloc, base)?;
-        let plain = PlainStore::starting_at(alloc, seats, commit, request)?;
-        Ok(Store { alloc, base, plain })
+        let limits = Limits {
+            triples: MOST_TRIPLES,
+            names: MOST_NAMES,
+        };
+        Store::limited(alloc, seats, base, limits, commit, request)
+    }
+
+    /// The same, which holds as much as these limits allow.
+    fn limited(
+        alloc: Global,
+        seats: u16,
+        base: &str,
+        limits: Limits,
+        commit: u64,
+        request: u64,
+    ) -> Result<Store, Refusal>
+        requires { is_base base.now ≡ true }
+        ensures view { IfOk result (λ store. store.view ≡ view_of (record { seats = seats; setting = record { base = base.now; limits = limits }; request = request; commit = commit }) []) }
+        ensures waste { IfOk result (λ store. store.waste ≡ []) }
+        ensures refused { IfErr result (λ refusal. refusal ≡ Refusal.NoMemory) }
+    {
+        let plain = PlainStore::starting_at(alloc, seats, base, limits, commit, request)?;
+        Ok(Store { alloc, plain })
     }
 
     /// Takes one event: the answer fits what the store shows, and the store then shows the next
@@ -116,5 +137,107 @@ impl EventStore for Store {
 
     fn step(&mut self, event: &Event) -> Answer {
         self.step(event)
+    }
+}
+
+#[cfg(test)]
+mod tests {
+    use super::*;
+    use gs_event::{Action, Kind};
+    use gs_term::{GraphName, Target, TermText, Triple};
+    use std::process::Abort;
+    use std::test::Fail;
+
+    /// A store that holds six triples and two names.
+    fn small(alloc: Global) -> Result<Store, Refusal> {
+        let limits = Limits {
+            triples: 6,
+            names: 2,
+        };
+        Store::limited(alloc, 4, "http://localhost", limits, 0, 0)
+    }
+
+    fn named(alloc: Global, name: &str) -> Result<Target, Refusal> {
+        Ok(Target::Named(GraphName::new(alloc, name)?))
+    }
+
+    /// The triples whose objects are these texts.
+    fn triples(alloc: Global, objects: &[&str]) -> Result<Vec<Triple>, Refusal> {
+        let mut list = Vec::new(alloc);
+        for object in objects {
+            let subject = TermText::iri(alloc, "http://e/s")?;
+            let predicate = TermText::iri(alloc, "http://e/p")?;
+            let object = TermText::literal(alloc, object, None, None)?;
+            if !subject.is_subject() || !predicate.is_iri() {
+                return Err(Refusal::Syntax(0));
+            }
+            list.push(Triple::new(subject, predicate, object))?;
+        }
+        Ok(list)
+    }
+
+    /// The status of an upload of these triples, whole.
+    fn uploaded(
+        alloc: Global,
+        store: &mut Store,
+        kind: Kind,
+        objects: &[&str],
+    ) -> Result<u16, Refusal> {
+        let list = triples(alloc, objects)?;
+        let _ = store.step(&Event::Seat(0, Action::Open(kind)));
+        let _ = store.step(&Event::Seat(0, Action::Stage(list)));
+        match store.step(&Event::Seat(0, Action::Commit)) {
+            Answer::Status(status, _) => Ok(status),
+            _ => Ok(0),
+        }
+    }
+
+    /// Asserts the status of an upload, and how many triples there are then.
+    fn expect(
+        rt: &impl Abort,
+        alloc: Global,
+        store: &mut Store,
+        kind: Kind,
+        objects: &[&str],
+        want: (u16, u64),
+    ) -> Result<(), Fail> {
+        let status = uploaded(alloc, store, kind, objects)?;
+        assert_eq!(rt; status, want.0);
+        assert_eq!(rt; store.triples_now(), want.1);
+        Ok(())
+    }
+
+    const SIX: [&str; 6] = ["1", "2", "3", "4", "5", "6"];
+
+    #[test]
+    fn the_limits_are_on_the_result_alone(rt: HostRuntime) -> Result<(), Fail> {
+        let alloc = rt.alloc();
+        let mut store = small(alloc)?;
+        let put = Kind::Put(named(alloc, "http://e/g")?);
+        expect(&rt, alloc, &mut store, put, &SIX, (201, 6))?;
+        let again = Kind::Put(named(alloc, "http://e/g")?);
+        let others = ["7", "8", "9", "10", "11", "12"];
+        expect(&rt, alloc, &mut store, again, &others, (204, 6))?;
+        let known = Kind::Post(named(alloc, "http://e/g")?);
+        expect(&rt, alloc, &mut store, known, &["12", "7"], (204, 6))?;
+        let seventh = Kind::Post(named(alloc, "http://e/g")?);
+        expect(&rt, alloc, &mut store, seventh, &["13"], (507, 6))?;
+        let elsewhere = Kind::Put(Target::Default);
+        expect(&rt, alloc, &mut store, elsewhere, &["1"], (507, 6))
+    }
+
+    #[test]
+    fn a_third_name_is_too_many(rt: HostRuntime) -> Result<(), Fail> {
+        let alloc = rt.alloc();
+        let mut store = small(alloc)?;
+        let first = Kind::Post(named(alloc, "http://e/g")?);
+        expect(&rt, alloc, &mut store, first, &[], (201, 0))?;
+        expect(&rt, alloc, &mut store, Kind::New, &["1"], (201, 1))?;
+        expect(&rt, alloc, &mut store, Kind::New, &["1"], (507, 1))?;
+        let third = Kind::Put(named(alloc, "http://e/h")?);
+        expect(&rt, alloc, &mut store, third, &[], (507, 1))?;
+        let _ = store.step(&Event::Seat(0, Action::Delete(named(alloc, "http://e/g")?)));
+        let then = Kind::Put(named(alloc, "http://e/h")?);
+        expect(&rt, alloc, &mut store, then, &["2"], (201, 2))
     }
 }

@@ -6,7 +6,7 @@ use Rattle.gs_model.specs.Terms.{numeral}
 use Rattle.gs_model.specs.Texts.{split_first, number_of}
 use Rattle.gs_model.proofs.TextLemmas.{number_of-numeral, split_first-other, other-numeral}
 use Rattle.gs_event.specs.declared.events.Action.{Action}
-use Rattle.gs_event.specs.declared.events.Action.TheVariants.{Open, Stage, Commit, Pin, Piece, Cancel}
+use Rattle.gs_event.specs.declared.events.Action.TheVariants.{Open, Stage, Commit, Delete, Head, Pin, Piece, Cancel}
 use Rattle.gs_drill.specs.Found.{Finds, SaysNumber}
 use Rattle.gs_drill.specs.Commands.{Behind, SaysAction, SaysStart}
 
@@ -39,6 +39,8 @@ action_some : (a : Action) (x : List ℕ) → SaysAction a x → ¬ (x ≡ [])
 action_some (Open k) x says h = let e = says.parts in cc
 action_some (Stage ts) x says h = let e = says.parts in cc
 action_some Commit x says h = cc
+action_some (Delete t) x says h = let e = says.parts in cc
+action_some (Head t) x says h = let e = says.parts in cc
 action_some (Pin t) x says h = let e = says.parts in cc
 action_some (Piece n) x says h = let e = says.parts in cc
 action_some Cancel x says h = cc

@@ -8,9 +8,9 @@ use Rattle.gs_model.specs.Triples.{Statement, IsTriple, line_of}
 use Rattle.gs_term.specs.declared.names.Target.{Target}
 use Rattle.gs_term.specs.declared.names.Target.TheVariants.{Default, Named}
 use Rattle.gs_event.specs.declared.events.Kind.{Kind}
-use Rattle.gs_event.specs.declared.events.Kind.TheVariants.{Put}
+use Rattle.gs_event.specs.declared.events.Kind.TheVariants.{Put, Post, New}
 use Rattle.gs_event.specs.declared.events.Action.{Action}
-use Rattle.gs_event.specs.declared.events.Action.TheVariants.{Open, Stage, Commit, Pin, Piece, Cancel}
+use Rattle.gs_event.specs.declared.events.Action.TheVariants.{Open, Stage, Commit, Delete, Head, Pin, Piece, Cancel}
 use Rattle.gs_event.specs.declared.events.Event.{Event}
 use Rattle.gs_event.specs.declared.events.Event.TheVariants.{Seat as At, Reclaim}
 use Rattle.gs_drill.specs.declared.commands.Command.{Command}
@@ -44,6 +44,8 @@ SaysTarget (Named name) x = (x ≡ 60 ∷ name ++ 62 ∷ []) × IsName name
 -- what an upload is opened for
 abbrev pub SaysKind : Kind → List ℕ → Type 0
 SaysKind (Put t) x = Behind (codes "put ") (SaysTarget t) x
+SaysKind (Post t) x = Behind (codes "post ") (SaysTarget t) x
+SaysKind New x = x ≡ codes "new"
 
 -- a triple, by its canonical line
 abbrev pub SaysLine : Statement → List ℕ → Type 0
@@ -64,6 +66,8 @@ abbrev pub SaysAction : Action → List ℕ → Type 0
 SaysAction (Open k) x = Behind (codes "open ") (SaysKind k) x
 SaysAction (Stage ts) x = Behind (codes "stage ") (SaysTriples ts.items) x
 SaysAction Commit x = x ≡ codes "commit"
+SaysAction (Delete t) x = Behind (codes "delete ") (SaysTarget t) x
+SaysAction (Head t) x = Behind (codes "head ") (SaysTarget t) x
 SaysAction (Pin t) x = Behind (codes "pin ") (SaysTarget t) x
 SaysAction (Piece n) x = Behind (codes "piece ") (SaysNumber (2 ^ 32 - 1) n) x
 SaysAction Cancel x = x ≡ codes "cancel"

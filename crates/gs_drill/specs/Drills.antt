@@ -1,5 +1,5 @@
 -- What a run of a schedule's lines writes.
-use Rattle.std.specs.Prelude.{◌≡◌, ℕ, ◌+◌, Bool, true, false, List, [], ◌∷◌, ◌++◌, length, Option, None, Some}
+use Rattle.std.specs.Prelude.{◌≡◌, ℕ, ◌+◌, Bool, true, false, List, [], ◌∷◌, ◌++◌, length, Option, None, Some, codes}
 use Rattle.std.specs.Io.KnownBytes.{Appends}
 use Rattle.gs_event.specs.declared.events.Event.{Event}
 use Rattle.gs_event.specs.declared.answers.Answer.{Answer}
@@ -7,6 +7,7 @@ use Rattle.gs_event.specs.Datasets.{triples_in}
 use Rattle.gs_event.specs.Views.{Fits, next_view}
 use Rattle.gs_event.specs.Histories.{Start, view_of}
 use Rattle.gs_event.specs.Waste.{Shown, Reclaims, nodes_in}
+use Rattle.gs_core.specs.Settings.{setting_of}
 use Rattle.gs_drill.specs.declared.commands.Command.{Command}
 use Rattle.gs_drill.specs.declared.commands.Command.TheVariants.{Nothing, Begin, Ask, Count}
 use Rattle.gs_drill.specs.Commands.{Says, lines_in}
@@ -21,9 +22,13 @@ pub record State : Type 0 where
 abbrev pub new_store : Start → Shown
 new_store start = record { view = view_of start []; waste = [] }
 
+-- where the store of a schedule begins
+abbrev pub drill_start : ℕ → ℕ → ℕ → Start
+drill_start seats commit request = record { seats = seats; setting = setting_of (codes "http://localhost"); request = request; commit = commit }
+
 -- before the first line: four seats, and no number given out
 abbrev pub first_state : State
-first_state = record { begun = false; shown = new_store (record { seats = 4; request = 0; commit = 0 }) }
+first_state = record { begun = false; shown = new_store (drill_start 4 0 0) }
 
 -- an event is answered, and the answer is printed
 pub record Asks (before : Shown) (event : Event) (text : List ℕ) (after : Shown) : Type 0 where
@@ -37,7 +42,7 @@ pub record Asks (before : Shown) (event : Event) (text : List ℕ) (after : Show
 abbrev pub Does : State → Command → List ℕ → State → Type 0
 Does s Nothing text t = (text ≡ []) × (t ≡ s)
 Does s (Begin seats commit request) text t =
-    (s.begun ≡ false) × (text ≡ []) × (t ≡ record { begun = true; shown = new_store (record { seats = seats; request = request; commit = commit }) })
+    (s.begun ≡ false) × (text ≡ []) × (t ≡ record { begun = true; shown = new_store (drill_start seats commit request) })
 Does s (Ask event) text t = (t.begun ≡ true) × Asks s.shown event text t.shown
 Does s Count text t = (t.begun ≡ true) × (t.shown ≡ s.shown) × (text ≡ counts_text (nodes_in s.shown) (triples_in s.shown.view.totals.dataset))
 

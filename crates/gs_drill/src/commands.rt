@@ -70,13 +70,16 @@ fn read_target(alloc: Global, text: &[u8]) -> Result<Option<Target>, AllocError>
 fn read_kind(alloc: Global, text: &[u8]) -> Result<Option<Kind>, AllocError>
     ensures { IfOk result (Finds SaysKind text.now) }
 {
-    let Some(rest) = behind(text, b"put ") else {
-        return Ok(None);
-    };
-    match read_target(alloc, rest)? {
-        Some(target) => Ok(Some(Kind::Put(target))),
-        None => Ok(None),
+    if text == b"new".as_slice() {
+        return Ok(Some(Kind::New));
     }
+    if let Some(target) = behind(text, b"put ") {
+        return Ok(read_target(alloc, target)?.map(Kind::Put));
+    }
+    if let Some(target) = behind(text, b"post ") {
+        return Ok(read_target(alloc, target)?.map(Kind::Post));
+    }
+    Ok(None)
 }
 
 /// The triple of a canonical line whose line feed is left out.
@@ -120,6 +123,12 @@ fn read_action(alloc: Global, text: &[u8]) -> Result<Option<Action>, AllocError>
     }
     if let Some(line) = behind(text, b"stage ") {
         return read_stage(alloc, line);
+    }
+    if let Some(target) = behind(text, b"delete ") {
+        return Ok(read_target(alloc, target)?.map(Action::Delete));
+    }
+    if let Some(target) = behind(text, b"head ") {
+        return Ok(read_target(alloc, target)?.map(Action::Head));
     }
     if let Some(target) = behind(text, b"pin ") {
         return Ok(read_target(alloc, target)?.map(Action::Pin));

@@ -2,9 +2,8 @@
 ghost use Rattle.std.specs.Prelude.{◌≡◌, ◌≤◌, IfOk, IfErr, Some, []};
 ghost use Rattle.std.specs.Io.KnownBytes.{Appends};
 ghost use Rattle.gs_model.specs.declared.limits.TheConstants.{LAST_NUMBER, MOST_SEATS};
-ghost use Rattle.gs_event.specs.Histories.{Start};
 ghost use Rattle.gs_drill.specs.Printing.{no_command_text, no_memory_text};
-ghost use Rattle.gs_drill.specs.Drills.{Asks, new_store as new_store_of, Finishes, SaysStop, Halts, Breaks};
+ghost use Rattle.gs_drill.specs.Drills.{Asks, drill_start, new_store as new_store_of, Finishes, SaysStop, Halts, Breaks};
 ghost use Rattle.gs_drill.specs.Taking.{IsInRange, Prints, DoesCommand, TakesLine, Ends};
 
 use crate::commands::{Command, read_command};
@@ -35,7 +34,7 @@ fn new_store(alloc: Global, seats: u16, commit: u64, request: u64) -> Result<Sto
     requires few { seats ≤ MOST_SEATS }
     requires last_commit { commit ≤ LAST_NUMBER }
     requires last_request { request ≤ LAST_NUMBER }
-    ensures store { IfOk result (λ store. store ≡ new_store_of (record { seats = seats; request = request; commit = commit })) }
+    ensures store { IfOk result (λ store. store ≡ new_store_of (drill_start seats commit request)) }
     ensures refused { IfErr result (λ stop. stop ≡ Stop.NoMemory) }
 {
     match Store::starting_at(alloc, seats, BASE, commit, request) {
@@ -215,7 +214,7 @@ mod tests {
 
     #[test]
     fn a_bad_line_stops_the_run(rt: HostRuntime) -> Result<(), Fail> {
-        let mut input: &[u8] = b"# first\n0 commit\n0 delete default\n";
+        let mut input: &[u8] = b"# first\n0 commit\n0 destroy default\n";
         let mut out = Vec::new(rt.alloc());
         let mut err = Vec::new(rt.alloc());
         let status = drill(rt.alloc(), &mut input, &mut out, &mut err);

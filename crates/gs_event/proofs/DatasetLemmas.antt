@@ -1,10 +1,11 @@
 -- How many triples a dataset has once a graph is another.
-use Rattle.std.proofs.Common.{◌≡◌, ℕ, ◌+◌, Bool, true, false, cond, T, ◌&&◌, List, [], ◌∷◌, length, Option, Some, None, is_some, refl, sym, ap, ◌∙◌, arith}
+use Rattle.std.proofs.Common.{◌≡◌, ℕ, ◌+◌, ◌-◌, ◌≤◌, Bool, true, false, cond, T, ◌&&◌, List, [], ◌∷◌, length, Option, Some, None, is_some, refl, sym, ap, ◌∙◌, arith}
 use Rattle.std.specs.List.{sum_by}
 use Rattle.std.specs.declared.cmp.Ordering.{Ordering}
 use Rattle.std.specs.declared.cmp.Ordering.TheVariants.{Less, Equal, Greater}
-use Rattle.std.specs.Ordering.{is_eq}
-use Rattle.std.specs.Cmp.{IsTotalOrder}
+use Rattle.std.specs.Ordering.{is_eq, eq_by_cmp}
+use Rattle.std.specs.Cmp.{IsTotalOrder, Equal-is, tied_itself}
+use Rattle.std.proofs.lemmas.Map.Lookups.{exact_bytes}
 use Rattle.std.specs.FinMap as fin
 use Rattle.std.specs.FinMap.Entries.{put, find, is_sorted, by_order, length-put}
 use Rattle.std.proofs.lemmas.List.{length-map}
@@ -15,7 +16,7 @@ use Rattle.gs_model.specs.Triples.{line_of}
 use Rattle.gs_term.specs.declared.names.Target.{Target}
 use Rattle.gs_term.specs.declared.names.Target.TheVariants.{Default, Named}
 use Rattle.gs_model.proofs.GraphLemmas.{empty_has_none}
-use Rattle.gs_event.specs.Datasets.{Dataset, empty_dataset, name_cmp, with_graph, graph_at, lines_if, lines_at, triples_in}
+use Rattle.gs_event.specs.Datasets.{Dataset, empty_dataset, name_cmp, with_graph, without_graph, graph_at, is_there, lines_if, lines_at, triples_in, names_in}
 
 tail_sorted : (a b : Bool) → T (a && b) → T b
 tail_sorted true b h = h
@@ -71,3 +72,66 @@ pub triples_in-empty : triples_in empty_dataset ≡ 0
 triples_in-empty =
     let none : fin.entries (empty_dataset.named) ≡ [] = no_entries _ (sym (fin.len-entries empty_dataset.named) ∙ fin.len-empty name_cmp Graph) in
     omega (arith, empty_has_none, ap (sum_by (λ (e : List ℕ × Graph). size_of e.1)) none)
+
+-- what is put back where it was taken out
+put_back : (m : fin.FinMap name_cmp Graph) (n : List ℕ) (g : Graph) → fin.get m n ≡ Some g → fin.insert (fin.remove m n) n g ≡ m
+put_back m n g is = fin.same_map nat_list_cmp_total exact_bytes _ _ (λ q.
+    fin.get-insert nat_list_cmp_total (fin.remove m n) n g q
+    ∙ ap (cond (eq_by_cmp name_cmp q n) (Some g)) (fin.get-remove nat_list_cmp_total m n q)
+    ∙ elim (eq_by_cmp name_cmp q n) as (λ e. eq_by_cmp name_cmp q n ≡ e → cond e (Some g) (cond e None (fin.get m q)) ≡ fin.get m q) [
+      | true ↦ λ e. sym is ∙ fin.get_tied nat_list_cmp_total m q n ((Equal-is _).0 e)
+      | false ↦ λ e. refl
+    ] refl)
+
+-- nothing is taken out where nothing was
+nothing_out : (m : fin.FinMap name_cmp Graph) (n : List ℕ) → fin.get m n ≡ None → fin.remove m n ≡ m
+nothing_out m n is = fin.same_map nat_list_cmp_total exact_bytes _ _ (λ q.
+    fin.get-remove nat_list_cmp_total m n q
+    ∙ elim (eq_by_cmp name_cmp q n) as (λ e. eq_by_cmp name_cmp q n ≡ e → cond e None (fin.get m q) ≡ fin.get m q) [
+      | true ↦ λ e. sym is ∙ fin.get_tied nat_list_cmp_total m q n ((Equal-is _).0 e)
+      | false ↦ λ e. refl
+    ] refl)
+
+taken_out : (m : fin.FinMap name_cmp Graph) (n : List ℕ) → fin.get (fin.remove m n) n ≡ None
+taken_out m n = fin.get-remove nat_list_cmp_total m n n ∙ ap (λ b. cond b None (fin.get m n)) (ap is_eq (tied_itself nat_list_cmp_total n))
+
+named_without : (m : Dataset) (n : List ℕ) (o : Option Graph) → fin.get m.named n ≡ o → triples_in (without_graph m (Named n)) + count_if size_of o ≡ triples_in m
+named_without m n None is = let same : triples_in (without_graph m (Named n)) ≡ triples_in m = ap (λ named. triples_in (record { unnamed = m.unnamed; named = named })) (nothing_out m.named n is) in omega (arith, same)
+named_without m n (Some g) is =
+    let less = without_graph m (Named n) in
+    let back : triples_in (with_graph less (Named n) g) ≡ triples_in m = ap (λ named. triples_in (record { unnamed = m.unnamed; named = named })) (put_back m.named n g is) in
+    let none : length (lines_at less (Named n)) ≡ 0 = ap (λ o. length (lines_if o)) (taken_out m.named n) in
+    omega (arith, back, none, triples_in-with_graph less (Named n) g)
+
+-- the triples of the graph that was there go
+pub triples_in-without_graph : (m : Dataset) (t : Target) → triples_in (without_graph m t) + length (lines_at m t) ≡ triples_in m
+triples_in-without_graph m Default = omega (arith, empty_has_none, length-map (triples_of m.unnamed) line_of)
+triples_in-without_graph m (Named n) =
+    let there : length (lines_at m (Named n)) ≡ count_if size_of (fin.get m.named n) = length-lines_if (fin.get m.named n) in
+    omega (arith, there, named_without m n (fin.get m.named n) refl)
+
+-- one name more where there was none
+pub names_in-with_graph : (m : Dataset) (t : Target) (g : Graph) → names_in (with_graph m t g) ≡ cond (is_there m t) (names_in m) (names_in m + 1)
+names_in-with_graph m Default g = refl
+names_in-with_graph m (Named n) g = fin.len-insert nat_list_cmp_total m.named n g
+
+-- one name less where there was one
+pub names_in-without_name : (m : Dataset) (n : List ℕ) → is_there m (Named n) ≡ true → names_in (without_graph m (Named n)) ≡ names_in m - 1
+names_in-without_name m n there = fin.len-remove nat_list_cmp_total m.named n ∙ ap (λ b. cond b (names_in m - 1) (names_in m)) there
+
+-- there are no names in the dataset without graphs
+pub names_in-empty : names_in empty_dataset ≡ 0
+names_in-empty = fin.len-empty name_cmp Graph
+
+some_name : (m : Dataset) (n : List ℕ) (o : Option Graph) → fin.get m.named n ≡ o → is_some o ≡ true → 1 ≤ names_in m
+some_name m n None is there = absurd (Prim.cc)
+some_name m n (Some g) is there =
+    let less = without_graph m (Named n) in
+    let back : names_in (with_graph less (Named n) g) ≡ names_in m = ap fin.len (put_back m.named n g is) in
+    let none : is_there less (Named n) ≡ false = ap is_some (taken_out m.named n) in
+    let grown : names_in (with_graph less (Named n) g) ≡ names_in less + 1 = names_in-with_graph less (Named n) g ∙ ap (λ b. cond b (names_in less) (names_in less + 1)) none in
+    omega arith
+
+-- where there is a name, there is one at least
+pub names_in-some : (m : Dataset) (n : List ℕ) → is_there m (Named n) ≡ true → 1 ≤ names_in m
+names_in-some m n there = some_name m n (fin.get m.named n) refl there

@@ -1,2 +1,3 @@
 pub mod DatasetLemmas
 pub mod HistoryLemmas
+pub mod NameLemmas

@@ -8,8 +8,8 @@ use Rattle.gs_model.specs.Codes.{graph_code, text_code}
 use Rattle.gs_term.specs.declared.names.Target.{Target}
 use Rattle.gs_term.specs.declared.names.Target.TheVariants.{Default, Named}
 use Rattle.gs_event.specs.declared.events.Kind.{Kind}
-use Rattle.gs_event.specs.declared.events.Kind.TheVariants.{Put}
-use Rattle.gs_event.specs.Datasets.{name_cmp}
+use Rattle.gs_event.specs.declared.events.Kind.TheVariants.{Put, Post, New}
+use Rattle.gs_event.specs.Datasets.{name_cmp, Setting}
 use Rattle.gs_event.specs.Phases.{Idle, Writing, Reading}
 use Rattle.gs_event.specs.Views.{View, SeatView}
 use Rattle.gs_event.specs.Waste.{Lifetime, Shown}
@@ -29,14 +29,31 @@ target_back (Named n) = refl
 abbrev pub target_code : Coded Target
 target_code = code_by (Option (List ℕ)) (coded_option text_code) name_of target_from target_back
 
-abbrev pub kind_target : Kind → Target
-kind_target (Put t) = t
+-- a PUT's target or a POST's target, or neither
+abbrev pub kind_parts : Kind → Option (Target ⊎ Target)
+kind_parts (Put t) = Some (inl t)
+kind_parts (Post t) = Some (inr t)
+kind_parts New = None
 
-abbrev pub kind_back : (k : Kind) → Put (kind_target k) ≡ k
+abbrev pub kind_from : Option (Target ⊎ Target) → Kind
+kind_from (Some (inl t)) = Put t
+kind_from (Some (inr t)) = Post t
+kind_from None = New
+
+abbrev pub kind_back : (k : Kind) → kind_from (kind_parts k) ≡ k
 kind_back (Put t) = refl
+kind_back (Post t) = refl
+kind_back New = refl
 
 abbrev pub kind_code : Coded Kind
-kind_code = code_by Target target_code kind_target Put kind_back
+kind_code = code_by (Option (Target ⊎ Target)) (coded_option (coded⊎ target_code target_code)) kind_parts kind_from kind_back
+
+abbrev pub setting_code : Coded Setting
+setting_code =
+    code_by (List ℕ × (ℕ × ℕ)) (coded× text_code (coded× coded_ℕ coded_ℕ))
+    (λ w. (w.base, (w.limits.triples, w.limits.names)))
+    (λ p. record { base = p.0; limits = record { triples = p.1.0; names = p.1.1 } })
+    (λ _. refl)
 
 abbrev pub Parts : Type 0
 Parts = Option ((Kind × (ℕ × Graph)) ⊎ List (List ℕ))
@@ -60,13 +77,13 @@ abbrev pub seat_code : Coded SeatView
 seat_code = code_by Parts (coded_option (coded⊎ (coded× kind_code (coded× coded_ℕ graph_code)) (coded_list text_code))) seat_parts seat_from seat_back
 
 abbrev pub ViewParts : Type 0
-ViewParts = (Graph × map.FinMap name_cmp Graph) × (ℕ × (ℕ × List SeatView))
+ViewParts = Setting × ((Graph × map.FinMap name_cmp Graph) × (ℕ × (ℕ × List SeatView)))
 
 abbrev pub view_code : Coded View
 view_code =
-    code_by ViewParts (coded× (coded× graph_code (map.code text_code graph_code)) (coded× coded_ℕ (coded× coded_ℕ (coded_list seat_code))))
-    (λ v. ((v.totals.dataset.unnamed, v.totals.dataset.named), (v.totals.request, (v.totals.commit, v.seats))))
-    (λ p. record { totals = record { dataset = record { unnamed = p.0.0; named = p.0.1 }; request = p.1.0; commit = p.1.1.0 }; seats = p.1.1.1 })
+    code_by ViewParts (coded× setting_code (coded× (coded× graph_code (map.code text_code graph_code)) (coded× coded_ℕ (coded× coded_ℕ (coded_list seat_code)))))
+    (λ v. (v.totals.setting, ((v.totals.dataset.unnamed, v.totals.dataset.named), (v.totals.request, (v.totals.commit, v.seats)))))
+    (λ p. record { totals = record { setting = p.0; dataset = record { unnamed = p.1.0.0; named = p.1.0.1 }; request = p.1.1.0; commit = p.1.1.1.0 }; seats = p.1.1.1.1 })
     (λ _. refl)
 
 abbrev pub lifetime_code : Coded Lifetime

@@ -5,7 +5,7 @@ use Rattle.gs_term.specs.declared.names.Target.{Target}
 use Rattle.gs_event.specs.declared.events.Event.{Event}
 use Rattle.gs_event.specs.declared.events.Event.TheVariants.{Seat as At, Reclaim}
 use Rattle.gs_event.specs.declared.answers.Answer.{Answer}
-use Rattle.gs_event.specs.Datasets.{Dataset, Operation, lines_at, after_all}
+use Rattle.gs_event.specs.Datasets.{Dataset, Setting, Operation, lines_at, after_all}
 use Rattle.gs_event.specs.Phases.{Phase, Idle, Writing, Reading, phase_after, operation_of}
 use Rattle.gs_event.specs.Views.{View, SeatView, Fits, is_opened, is_written}
 
@@ -43,22 +43,23 @@ points_of [] = []
 points_of (x ∷ before) = cons_option (operation_by before x.0 x.1) (points_of before)
 
 -- the dataset after a history
-abbrev pub dataset_after : History → Dataset
-dataset_after h = after_all (points_of h)
+abbrev pub dataset_after : Setting → History → Dataset
+dataset_after w h = after_all w (points_of h)
 
 -- the lines left of a read: its graph's at the pin, without those that were told
-abbrev pub lines_left : Read → List (List ℕ)
-lines_left r = drop r.told (lines_at (dataset_after r.before) r.target)
+abbrev pub lines_left : Setting → Read → List (List ℕ)
+lines_left w r = drop r.told (lines_at (dataset_after w r.before) r.target)
 
 -- a phase as it is seen
-abbrev pub seat_view : Phase Read → SeatView
-seat_view Idle = Idle
-seat_view (Writing k r g) = Writing k r g
-seat_view (Reading r) = Reading (lines_left r)
+abbrev pub seat_view : Setting → Phase Read → SeatView
+seat_view w Idle = Idle
+seat_view w (Writing k r g) = Writing k r g
+seat_view w (Reading r) = Reading (lines_left w r)
 
 -- where a store begins
 pub record Start : Type 0 where
   pub seats : ℕ
+  pub setting : Setting
   pub request : ℕ
   pub commit : ℕ
 
@@ -66,11 +67,12 @@ pub record Start : Type 0 where
 abbrev pub view_of : Start → History → View
 view_of start h = record {
   totals = record {
-    dataset = dataset_after h;
+    setting = start.setting;
+    dataset = dataset_after start.setting h;
     request = start.request + count_by (λ x. is_opened x.1) h;
     commit = start.commit + count_by (λ x. is_written x.1) h;
   };
-  seats = map (λ s. seat_view (phase_of h s)) (range_with_len 0 start.seats);
+  seats = map (λ s. seat_view start.setting (phase_of h s)) (range_with_len 0 start.seats);
 }
 
 -- a legal history: each answer fits what the history before it shows

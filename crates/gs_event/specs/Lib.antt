@@ -1,5 +1,6 @@
--- Read in this order: datasets and the abstract store, phases, views, histories.
+-- Read in this order: datasets and the abstract store, names that it makes up, phases, views, histories.
 pub mod Datasets
+pub mod Names
 pub mod Phases
 pub mod Views
 pub mod Histories

@@ -3,12 +3,12 @@ use Rattle.std.specs.Prelude.{ℕ, Bool, true, false, nat_lt, nat_eq, cond, Opti
 use Rattle.gs_model.specs.Graphs.{Graph, empty_graph, with_triples}
 use Rattle.gs_term.specs.declared.names.Target.{Target}
 use Rattle.gs_event.specs.declared.events.Kind.{Kind}
-use Rattle.gs_event.specs.declared.events.Kind.TheVariants.{Put}
+use Rattle.gs_event.specs.declared.events.Kind.TheVariants.{Put, Post, New}
 use Rattle.gs_event.specs.declared.events.Action.{Action}
-use Rattle.gs_event.specs.declared.events.Action.TheVariants.{Open, Stage, Commit, Pin, Piece, Cancel}
+use Rattle.gs_event.specs.declared.events.Action.TheVariants.{Open, Stage, Commit, Delete, Head, Pin, Piece, Cancel}
 use Rattle.gs_event.specs.declared.answers.Answer.{Answer}
 use Rattle.gs_event.specs.declared.answers.Answer.TheVariants.{Opened, Staged, Status, Pinned, Lines, Cancelled}
-use Rattle.gs_event.specs.Datasets.{Operation, Puts, Reads}
+use Rattle.gs_event.specs.Datasets.{Operation, Puts, Posts, Creates, Deletes, Looks, Reads}
 
 -- idle; writing, with the request's number and what was staged; reading, where R says what is left
 pub data Phase (R : Type 0) : Type 0 where
@@ -19,6 +19,8 @@ pub data Phase (R : Type 0) : Type 0 where
 -- whether the phase allows the action
 abbrev pub allows : {R : Type 0} → Phase R → Action → Bool
 allows Idle (Open k) = true
+allows Idle (Delete t) = true
+allows Idle (Head t) = true
 allows Idle (Pin t) = true
 allows (Writing k r g) (Stage ts) = true
 allows (Writing k r g) Commit = true
@@ -42,9 +44,13 @@ phase_after pinned told p action a = p
 -- the write that an upload is
 abbrev pub write_of : Kind → ℕ → Graph → Operation
 write_of (Put t) r g = Puts t g
+write_of (Post t) r g = Posts t g
+write_of New r g = Creates r g
 
 -- what the abstract store is asked at this phase, by an action that was answered so
 abbrev pub operation_of : {R : Type 0} → Phase R → Action → Answer → Option Operation
+operation_of Idle (Delete t) (Status s name) = Some (Deletes t)
+operation_of Idle (Head t) (Status s name) = Some (Looks t)
 operation_of Idle (Pin t) (Pinned s) = Some (Reads t)
 operation_of (Writing k r g) Commit (Status s name) = Some (write_of k r g)
 operation_of p action a = None

@@ -4,20 +4,21 @@ use Rattle.std.specs.List.{slice_get, slice_set, concat}
 use Rattle.gs_model.specs.declared.limits.TheConstants.{LAST_NUMBER}
 use Rattle.gs_model.specs.declared.refusals.Refusal.TheVariants.{NoMemory, WrongPhase, BadSeat, LastNumber}
 use Rattle.gs_event.specs.declared.events.Action.{Action}
-use Rattle.gs_event.specs.declared.events.Action.TheVariants.{Open, Stage, Commit, Pin, Piece, Cancel}
+use Rattle.gs_event.specs.declared.events.Action.TheVariants.{Open, Stage, Commit, Delete, Head, Pin, Piece, Cancel}
 use Rattle.gs_event.specs.declared.events.Event.{Event}
 use Rattle.gs_event.specs.declared.events.Event.TheVariants.{Seat as At, Reclaim}
 use Rattle.gs_event.specs.declared.answers.Answer.{Answer}
 use Rattle.gs_event.specs.declared.answers.Answer.TheVariants.{Opened, Staged, Status, Pinned, Lines, Cancelled, Reclaimed, Refused}
-use Rattle.gs_event.specs.Datasets.{Dataset, Operation, Reads, lines_at, after, status_of, location_of, is_success, wants_memory}
+use Rattle.gs_event.specs.Datasets.{Dataset, Setting, Operation, Deletes, Looks, Reads, lines_at, after, status_of, location_of, is_success, wants_memory}
 use Rattle.gs_event.specs.Phases.{Phase, Idle, Writing, Reading, allows, phase_after, write_of, operation_of}
 
 -- a seat as it is seen: a read is the lines that are left of it
 abbrev pub SeatView : Type 0
 SeatView = Phase (List (List ℕ))
 
--- the dataset, and the numbers of the last request and of the last commit
+-- the setting, the dataset, and the numbers of the last request and of the last commit
 pub record Totals : Type 0 where
+  pub setting : Setting
   pub dataset : Dataset
   pub request : ℕ
   pub commit : ℕ
@@ -29,8 +30,8 @@ pub record View : Type 0 where
 -- The answers that fit a write: its status and location, and a commit number that is left for it.
 -- Want of memory may take the place of any but a 404.
 abbrev pub FitsWrite : Totals → Operation → Answer → Type 0
-FitsWrite v q (Status s name) = (s ≡ status_of v.dataset q) × (name ≡ location_of v.dataset q) × (is_success s ≡ true → v.commit < LAST_NUMBER)
-FitsWrite v q (Refused LastNumber) = (is_success (status_of v.dataset q) ≡ true) × (LAST_NUMBER ≤ v.commit)
+FitsWrite v q (Status s name) = (s ≡ status_of v.setting v.dataset q) × (name ≡ location_of v.setting v.dataset q) × (is_success s ≡ true → v.commit < LAST_NUMBER)
+FitsWrite v q (Refused LastNumber) = (is_success (status_of v.setting v.dataset q) ≡ true) × (LAST_NUMBER ≤ v.commit)
 FitsWrite v q (Refused NoMemory) = wants_memory v.dataset q ≡ true
 FitsWrite v q a = ⊥
 
@@ -39,7 +40,10 @@ abbrev pub FitsSeat : Totals → SeatView → Action → Answer → Type 0
 FitsSeat v Idle (Open k) (Opened r) = (v.request < LAST_NUMBER) × (r ≡ v.request + 1)
 FitsSeat v Idle (Open k) (Refused LastNumber) = LAST_NUMBER ≤ v.request
 FitsSeat v Idle (Open k) (Refused NoMemory) = v.request < LAST_NUMBER
-FitsSeat v Idle (Pin t) (Pinned s) = s ≡ status_of v.dataset (Reads t)
+FitsSeat v Idle (Delete t) (Status s name) = FitsWrite v (Deletes t) (Status s name)
+FitsSeat v Idle (Delete t) (Refused LastNumber) = FitsWrite v (Deletes t) (Refused LastNumber)
+FitsSeat v Idle (Head t) (Status s name) = (s ≡ status_of v.setting v.dataset (Looks t)) × (name ≡ None)
+FitsSeat v Idle (Pin t) (Pinned s) = s ≡ status_of v.setting v.dataset (Reads t)
 FitsSeat v (Writing k r g) (Stage ts) Staged = Unit {0}
 FitsSeat v (Writing k r g) (Stage ts) (Refused NoMemory) = Unit {0}
 FitsSeat v (Writing k r g) Commit (Status s name) = FitsWrite v (write_of k r g) (Status s name)
@@ -67,14 +71,15 @@ abbrev pub is_written : Answer → Bool
 is_written (Status s name) = is_success s
 is_written a = false
 
-abbrev pub after_asked : Dataset → Option Operation → Dataset
-after_asked m None = m
-after_asked m (Some q) = after m q
+abbrev pub after_asked : Setting → Dataset → Option Operation → Dataset
+after_asked w m None = m
+after_asked w m (Some q) = after w m q
 
 -- the totals after an answer to a seat at this phase
 abbrev pub next_totals : Totals → SeatView → Action → Answer → Totals
 next_totals v p action a = record {
-  dataset = after_asked v.dataset (operation_of p action a);
+  setting = v.setting;
+  dataset = after_asked v.setting v.dataset (operation_of p action a);
   request = v.request + (if is_opened a then 1 else 0);
   commit = v.commit + (if is_written a then 1 else 0);
 }

@@ -6,6 +6,10 @@ use gs_term::{Target, Triple};
 pub enum Kind {
     /// Replaces the graph (Graph Store Protocol, section 5.3).
     Put(Target),
+    /// Adds to the graph (section 5.5).
+    Post(Target),
+    /// Makes a graph under a name that the store makes up (section 5.5).
+    New,
 }
 
 /// What a seat does. A seat holds at most one upload or one read at a time.
@@ -17,7 +21,11 @@ pub enum Action {
     Stage(Vec<Triple>),
     /// Makes the seat's upload take effect, whole.
     Commit,
-    /// Begins a read of a graph as it is now.
+    /// Takes a named graph out, or empties the default graph (section 5.4).
+    Delete(Target),
+    /// Asks whether there is such a graph (section 5.6).
+    Head(Target),
+    /// Begins a read of a graph as it is now (section 5.2).
     Pin(Target),
     /// Takes the next lines of the seat's read: so many, at least one, or as many as are left.
     Piece(u32),

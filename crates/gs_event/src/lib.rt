@@ -4,7 +4,9 @@
 mod answers;
 mod events;
 mod laws;
+mod limits;
 
 pub use answers::Answer;
 pub use events::{Action, Event, Kind};
-pub use laws::view_goes_on;
+pub use laws::{new_name_is_free, view_goes_on};
+pub use limits::Limits;

@@ -1,5 +1,5 @@
 -- Graphs as sorted lists of triples.
-use Rattle.std.proofs.Common.{◌≡◌, Bool, true, false, cond, ◌||◌, List, [], ◌∷◌, map, Some, None, refl, sym, ap, ◌∙◌, length, arith}
+use Rattle.std.proofs.Common.{Option, is_some, ◌≡◌, Bool, true, false, cond, ◌||◌, List, [], ◌∷◌, map, Some, None, refl, sym, ap, ◌∙◌, length, arith}
 use Rattle.std.specs.List.{list_any, dedup, dedup_from, AllByRecursion}
 use Rattle.std.specs.List.Sorted.{IsStrictlySortedBy}
 use Rattle.std.specs.Ordering.{eq_by_cmp}
@@ -13,7 +13,7 @@ use Rattle.std.specs.Ordering.{nat_cmp}
 use Rattle.std.specs.Cmp.Lexicographic.{slice_cmp}
 use Rattle.gs_model.specs.Terms.{text_of}
 use Rattle.gs_model.proofs.TextLemmas.{text_of-injective}
-use Rattle.gs_model.specs.Graphs.{empty_graph, triples_of, graph_of, as_entry, size_of}
+use Rattle.gs_model.specs.Graphs.{Graph, empty_graph, triples_of, graph_of, as_entry, size_of}
 use Rattle.gs_model.specs.Triples.{Statement as Triple, triple_cmp}
 
 pub triple_total : IsTotalOrder triple_cmp
@@ -89,3 +89,13 @@ empty_has_none = ap length triples_of-empty
 -- a graph has as many triples as the sorted list that it is made of
 pub size_of-graph_of : (ts : List Triple) → IsStrictlySortedBy triple_cmp ts → size_of (graph_of ts) ≡ length ts
 size_of-graph_of ts sorted = ap length (triples_of-graph_of ts sorted)
+
+or_nothing : (o : Option (Unit {0})) → cond (is_some o) (Some tt) None ≡ o
+or_nothing None = refl
+or_nothing (Some u) = refl
+
+-- a graph is the graph of its triples
+pub graph_of-triples_of : (g : Graph) → graph_of (triples_of g) ≡ g
+graph_of-triples_of g = fin.same_map triple_total triple_exact _ _ (λ q.
+    fin.get-from_entries triple_total (map as_entry (triples_of g)) q ∙ found q (triples_of g)
+    ∙ ap (λ b. cond b (Some tt) None) (sym (fin.contains_key-keys g q)) ∙ or_nothing (fin.get g q))

@@ -1,10 +1,10 @@
 -- What a seat's action keeps of the whole store.
-use Rattle.std.proofs.Common.{zero, suc, drop, ◌≡◌, ℕ, ◌+◌, ◌<◌, ◌≤◌, true, false, cond, List, [], ◌∷◌, ◌++◌, map, length, get_or, Some, None, MatchOption, refl, sym, ap, ◌∙◌, subst, arith, length-append, vec_len, vec_capacity, option_map, replicate, add-zero}
+use Rattle.std.proofs.Common.{zero, suc, drop, ◌≡◌, ℕ, ◌+◌, ◌<◌, ◌≤◌, true, false, cond, List, [], ◌∷◌, map, length, get_or, Some, None, MatchOption, refl, sym, ap, ◌∙◌, subst, arith, vec_len, vec_capacity, string_bytes, ◌^◌, option_map, replicate, add-zero}
 use Rattle.std.specs.List.{slice_get, slice_set, count_by, sum_by, All, range_with_len}
-use Rattle.gs_event.specs.Datasets.{empty_dataset, triples_in}
+use Rattle.gs_event.specs.Datasets.{empty_dataset, triples_in, names_in}
 use Rattle.gs_event.specs.Histories.{view_of}
 use Rattle.gs_event.specs.Waste.{Shown, staged_at, staged_in, nodes_in}
-use Rattle.gs_event.proofs.DatasetLemmas.{triples_in-empty}
+use Rattle.gs_event.proofs.DatasetLemmas.{triples_in-empty, names_in-empty}
 use Rattle.std.proofs.lemmas.List.Folds.{sum_by-replicate}
 use Rattle.std.proofs.Common.{◌*◌}
 use Rattle.std.proofs.lemmas.List.Elements.{All-set, recursion_from_All, All-from_recursion}
@@ -12,6 +12,7 @@ use Rattle.std.specs.List.{AllByRecursion}
 use Rattle.std.proofs.lemmas.List.Sums.{sum_by-set, sum_by-cons, count_by-le-length}
 use Rattle.std.proofs.lemmas.List.{map-set}
 use Rattle.std.proofs.lemmas.Option.{slice_get-map, slice_get-get_or}
+use Rattle.gs_model.specs.Bases.{is_base}
 use Rattle.gs_model.specs.declared.refusals.Refusal.TheVariants.{BadSeat}
 use Rattle.gs_event.specs.declared.events.Action.{Action}
 use Rattle.gs_event.specs.declared.answers.Answer.{Answer}
@@ -23,36 +24,31 @@ use Rattle.gs_plain.specs.declared.books.Books.{Books}
 use Rattle.gs_plain.specs.declared.books.Seat.{Seat}
 use Rattle.gs_plain.specs.declared.books.Seat.TheVariants.{Idle, Writing, Reading}
 use Rattle.gs_plain.specs.declared.stores.PlainStore.TheInside.{Inside}
-use Rattle.gs_plain.specs.Books.{staged_by, dataset_of, lines_of_row, totals_of, seat_shown, is_writing, IsKnown, Acts, HasRoom, KeepsRoom}
+use Rattle.gs_plain.specs.Books.{staged_by, dataset_of, totals_of, seat_shown, is_writing, IsKnown, KeepsRows, Acts, HasRoom, KeepsRoom}
 use Rattle.gs_plain.specs.Kept.{shown_of, IsKept}
 
 -- what a store's fields show, without the waste
 abbrev pub view_of_fields : Inside → View
 view_of_fields a = (shown_of a).view
 
--- more rows change nothing of what a known read shows
-pub get_before : {X : Type 0} (xs ys : List X) (i : ℕ) → i < length xs → slice_get (xs ++ ys) i ≡ slice_get xs i
-get_before [] ys i h = absurd (omega arith)
-get_before (x ∷ xs) ys zero h = refl
-get_before (x ∷ xs) ys (suc i) h = get_before xs ys i (omega arith)
+-- rows that keep what they had change nothing of what a known read shows
+same_shown : (old new : List Row) (s : Seat) → KeepsRows old new → IsKnown old s → seat_shown new s ≡ seat_shown old s
+same_shown old new Idle keeps h = refl
+same_shown old new (Writing k r g) keeps h = refl
+same_shown old new (Reading None told) keeps h = refl
+same_shown old new (Reading (Some i) told) keeps h = ap (λ lines. phase.Reading (drop told lines)) (keeps.same i h)
 
-same_shown : (rows more : List Row) (s : Seat) → IsKnown rows s → seat_shown (rows ++ more) s ≡ seat_shown rows s
-same_shown rows more Idle h = refl
-same_shown rows more (Writing k r g) h = refl
-same_shown rows more (Reading None told) h = refl
-same_shown rows more (Reading (Some i) told) h = ap (λ o. phase.Reading (drop told (lines_of_row o))) (get_before rows more i h)
+still_known : (old new : List Row) (s : Seat) → KeepsRows old new → IsKnown old s → IsKnown new s
+still_known old new Idle keeps h = h
+still_known old new (Writing k r g) keeps h = h
+still_known old new (Reading None told) keeps h = h
+still_known old new (Reading (Some i) told) keeps h = omega (arith, keeps.grows)
 
-still_known : (rows more : List Row) (s : Seat) → IsKnown rows s → IsKnown (rows ++ more) s
-still_known rows more Idle h = h
-still_known rows more (Writing k r g) h = h
-still_known rows more (Reading None told) h = h
-still_known rows more (Reading (Some i) told) h = omega (arith, length-append rows more)
-
-all_same_shown : (rows more : List Row) (seats : List Seat) → AllByRecursion (IsKnown rows) seats → map (seat_shown (rows ++ more)) seats ≡ map (seat_shown rows) seats
-all_same_shown rows more [] h = refl
-all_same_shown rows more (s ∷ seats) h =
-    let here = same_shown rows more s h.0 in
-    let rest = all_same_shown rows more seats h.1 in
+all_same_shown : (old new : List Row) (seats : List Seat) → KeepsRows old new → AllByRecursion (IsKnown old) seats → map (seat_shown new) seats ≡ map (seat_shown old) seats
+all_same_shown old new [] keeps h = refl
+all_same_shown old new (s ∷ seats) keeps h =
+    let here = same_shown old new s keeps h.0 in
+    let rest = all_same_shown old new seats keeps h.1 in
     λ i. here i ∷ rest i
 
 others_few : (seats : List Seat) (i : ℕ) → i < length seats → count_by is_writing (slice_set seats i Idle) < length seats
@@ -78,7 +74,7 @@ pub kept_after : (a b : Inside) (i : ℕ) (was now : Seat) (action : Action) (an
 kept_after a b i was now action answer within is seats acts room kept =
     let xs = a.seats.items in
     let old_rows = a.books.rows.items in
-    let known : All (IsKnown b.books.rows.items) xs = λ k d lt. subst (λ rs. IsKnown rs (get_or xs k d)) (sym acts.grows.1) (still_known old_rows acts.grows.0 (get_or xs k d) (kept.known k d lt)) in
+    let known : All (IsKnown b.books.rows.items) xs = λ k d lt. still_known old_rows b.books.rows.items (get_or xs k d) acts.rows (kept.known k d lt) in
     let others = count_by is_writing (slice_set xs i Idle) in
     let idle : others + cond (is_writing (get_or xs i was)) 1 0 ≡ count_by is_writing xs + 0 = sum_by-set (λ x. cond (is_writing x) 1 0) xs i Idle was within in
     let after : count_by is_writing (slice_set xs i now) + cond (is_writing (get_or xs i was)) 1 0 ≡ count_by is_writing xs + cond (is_writing now) 1 0 = sum_by-set (λ x. cond (is_writing x) 1 0) xs i now was within in
@@ -110,7 +106,7 @@ next_after a b v i was now action answer view within is seats acts known =
     let shown : map (seat_shown b.books.rows.items) b.seats.items ≡ slice_set (map (seat_shown old_rows) a.seats.items) i (next_phase (totals_of a.books) (seat_shown old_rows was) action answer) =
     ap (map (seat_shown b.books.rows.items)) seats
     ∙ map-set (seat_shown b.books.rows.items) a.seats.items i now
-    ∙ ap (λ ss. slice_set ss i (seat_shown b.books.rows.items now)) (ap (λ rs. map (seat_shown rs) a.seats.items) acts.grows.1 ∙ all_same_shown old_rows acts.grows.0 a.seats.items (recursion_from_All (IsKnown old_rows) a.seats.items known))
+    ∙ ap (λ ss. slice_set ss i (seat_shown b.books.rows.items now)) (all_same_shown old_rows b.books.rows.items a.seats.items acts.rows (recursion_from_All (IsKnown old_rows) a.seats.items known))
     ∙ ap (slice_set (map (seat_shown old_rows) a.seats.items) i) acts.seat in
     let made : view_of_fields b ≡ next_at (view_of_fields a) i (seat_shown old_rows was) action answer = λ j. record { totals = acts.totals j; seats = shown j } in
     made ∙ sym (ap (λ o. next_if (view_of_fields a) i o action answer) (seat_there a i was within is)) ∙ ap (λ (u : View). next_if u i (slice_get u.seats i) action answer) view
@@ -123,11 +119,11 @@ idle_shown a zero = refl
 idle_shown a (suc n) = ap (λ ss. phase.Idle ∷ ss) (idle_shown (a + 1) n)
 
 -- a store without rows, whose seats are idle
-pub fresh_view : (a : Inside) (seats : ℕ) → a.books.rows.items ≡ [] → a.seats.items ≡ replicate seats Idle → view_of_fields a ≡ view_of (record { seats = seats; request = a.books.request; commit = a.books.commit }) []
+pub fresh_view : (a : Inside) (seats : ℕ) → a.books.rows.items ≡ [] → a.seats.items ≡ replicate seats Idle → view_of_fields a ≡ view_of (record { seats = seats; setting = record { base = string_bytes a.books.base; limits = a.books.limits }; request = a.books.request; commit = a.books.commit }) []
 fresh_view a seats rows idle =
     let dataset : dataset_of a.books.rows.items ≡ empty_dataset = ap dataset_of rows in
     let shown : map (seat_shown a.books.rows.items) a.seats.items ≡ map idle_view (range_with_len 0 seats) = rw (rows, idle) (idle_shown 0 seats) in
-    λ i. record { totals = record { dataset = dataset i; request = sym (add-zero a.books.request) i; commit = sym (add-zero a.books.commit) i }; seats = shown i }
+    λ i. record { totals = record { setting = record { base = string_bytes a.books.base; limits = a.books.limits }; dataset = dataset i; request = sym (add-zero a.books.request) i; commit = sym (add-zero a.books.commit) i }; seats = shown i }
 
 none_writing : (n : ℕ) → count_by is_writing (replicate n Idle) ≡ 0
 none_writing n = let e : count_by is_writing (replicate n Idle) ≡ n * 0 = sum_by-replicate (λ (s : Seat). cond (is_writing s) 1 0) n Idle in omega (arith, e)
@@ -140,13 +136,16 @@ idle_known rows zero = tt
 idle_known rows (suc n) = (tt, idle_known rows n)
 
 -- what holds of a store without rows, whose seats are idle
-pub fresh_kept : (a : Inside) (seats : ℕ) → a.books.rows.items ≡ [] → vec_len a.books.rows ≡ 0 → a.seats.items ≡ replicate seats Idle → a.books.triples ≡ 0 → a.books.staged ≡ 0 → IsKept a
-fresh_kept a seats rows len idle triples staged = record {
+pub fresh_kept : (a : Inside) (seats : ℕ) → a.books.rows.items ≡ [] → vec_len a.books.rows ≡ 0 → a.seats.items ≡ replicate seats Idle → a.books.triples ≡ 0 → a.books.names ≡ 0 → a.books.staged ≡ 0 → a.books.limits.names < 2 ^ 64 → is_base (string_bytes a.books.base) ≡ true → IsKept a
+fresh_kept a seats rows len idle triples names staged limit base = record {
   known = rw idle (All-from_recursion (IsKnown a.books.rows.items) (replicate seats Idle) (idle_known a.books.rows.items seats));
   room = rw idle (omega (arith, len, none_writing seats));
   counted = record {
     triples = triples ∙ sym triples_in-empty ∙ sym (ap (λ rs. triples_in (dataset_of rs)) rows);
+    names = names ∙ sym names_in-empty ∙ sym (ap (λ rs. names_in (dataset_of rs)) rows);
     few = omega arith;
+    limit = limit;
+    base = base;
   };
   staged = staged ∙ sym (none_staged seats) ∙ sym (ap (sum_by staged_by) idle);
 }

@@ -1,89 +1,165 @@
--- Rows as a dataset: the newest row of a target is its graph.
-use Rattle.std.proofs.Common.{◌≡◌, ℕ, ◌+◌, ◌<◌, Bool, true, false, cond, ◌||◌, List, [], ◌∷◌, ◌++◌, take, length, get_or, Option, Some, None, is_some, IfSome, refl, sym, ap, ◌∙◌, arith}
-use Rattle.gs_model.specs.Triples.{line_of, triple_cmp}
-use Rattle.std.specs.FinMap as map
-use Rattle.std.proofs.lemmas.List.{take_more}
-use Rattle.std.proofs.lemmas.List.Sums.{fold-append}
-use Rattle.std.proofs.lemmas.Option.{slice_get_read}
-use Rattle.std.proofs.lemmas.Cmp.{nat_list_cmp_total}
+-- Rows as a dataset: the newest row of a target says its graph.
+use Rattle.std.proofs.Common.{take, get_or, subst, length-take-le, ◌≡◌, ℕ, ◌+◌, ◌<◌, ◌≤◌, Bool, true, false, cond, ◌||◌, List, [], ◌∷◌, ◌++◌, length, Option, Some, None, is_some, IfSome, refl, sym, ap, ◌∙◌, arith, map as map_each, rules, append_assoc, length-append}
+use Rattle.std.specs.List.{slice_get}
 use Rattle.std.specs.Str.{bytes_eq}
-use Rattle.gs_model.specs.Graphs.{Graph}
-use Rattle.gs_model.proofs.GraphLemmas.{triples_of-graph_of}
+use Rattle.std.specs.FinMap as map
 use Rattle.std.specs.Cmp.{eq_by_cmp_equiv}
-use Rattle.std.specs.List.Sorted.{IsStrictlySortedBy}
-use Rattle.std.proofs.Common.{rules, map as map_each}
+use Rattle.std.proofs.lemmas.List.{take_more, take_all}
+use Rattle.std.proofs.lemmas.Option.{slice_get-get_or}
+use Rattle.std.proofs.lemmas.List.Sums.{fold-append}
+use Rattle.std.proofs.lemmas.Cmp.{nat_list_cmp_total}
+use Rattle.std.proofs.lemmas.Map.Lookups.{exact_bytes}
+use Rattle.gs_model.specs.Triples.{line_of}
+use Rattle.gs_model.specs.Graphs.{Graph}
+use Rattle.gs_model.proofs.GraphLemmas.{triples_of-empty}
+use Rattle.gs_model.proofs.TextLemmas.{same_text}
 use Rattle.gs_term.specs.contracts.names.GraphNameOrd.TheImpl.Laws.{matches_eq-law}
+use Rattle.gs_term.specs.contracts.names.TargetPartialEq.TheImpl as TargetPartialEq
 use Rattle.gs_term.specs.declared.names.Target.{Target}
 use Rattle.gs_term.specs.declared.names.Target.TheVariants.{Default, Named}
-use Rattle.gs_event.specs.Datasets.{name_cmp, Dataset, empty_dataset, with_graph, graph_at, lines_at, lines_if}
+use Rattle.gs_event.specs.Datasets.{name_cmp, Dataset, empty_dataset, with_graph, without_graph, graph_at, lines_if}
 use Rattle.gs_plain.specs.declared.books.Row.{Row}
-use Rattle.gs_term.specs.contracts.names.TargetPartialEq.TheImpl as TargetPartialEq
-use Rattle.gs_plain.specs.Books.{dataset_of, row_lines, lines_of_row, is_default}
+use Rattle.gs_plain.specs.Books.{after_row, dataset_of, lines_of_row, is_default}
+use Rattle.gs_plain.specs.Newest.{target_eq, graph_of_row, graph_by, AreOthers, IsLast, NewestRow}
 
--- as `==` of targets answers
-abbrev pub target_eq : Target → Target → Bool
-target_eq Default Default = true
-target_eq (Named a) (Named b) = bytes_eq a b
-target_eq a b = false
+pub dataset_push : (rows : List Row) (row : Row) → dataset_of (rows ++ row ∷ []) ≡ after_row (dataset_of rows) row
+dataset_push rows row = fold-append (λ m (r : Row). after_row m r) empty_dataset rows (row ∷ [])
 
-pub dataset_push : (rows : List Row) (row : Row) → dataset_of (rows ++ row ∷ []) ≡ with_graph (dataset_of rows) row.target row.graph
-dataset_push rows row = fold-append (λ d (r : Row). with_graph d r.target r.graph) empty_dataset rows (row ∷ [])
+pub graph_at-with_graph : (m : Dataset) (t u : Target) (g : Graph) → graph_at (with_graph m t g) u ≡ cond (target_eq t u) (Some g) (graph_at m u)
+graph_at-with_graph m Default Default g = refl
+graph_at-with_graph m Default (Named b) g = refl
+graph_at-with_graph m (Named a) Default g = refl
+graph_at-with_graph m (Named a) (Named b) g = map.get-insert nat_list_cmp_total m.named a g b ∙ ap (λ e. cond e (Some g) (map.get m.named b)) ((eq_by_cmp_equiv nat_list_cmp_total).symm b a ∙ sym (matches_eq-law a b))
 
-pub graph_at-with_graph : (d : Dataset) (t u : Target) (g : Graph) → graph_at (with_graph d t g) u ≡ cond (target_eq t u) (Some g) (graph_at d u)
-graph_at-with_graph d Default Default g = refl
-graph_at-with_graph d Default (Named b) g = refl
-graph_at-with_graph d (Named a) Default g = refl
-graph_at-with_graph d (Named a) (Named b) g = map.get-insert nat_list_cmp_total d.named a g b ∙ ap (λ e. cond e (Some g) (map.get d.named b)) ((eq_by_cmp_equiv nat_list_cmp_total).symm b a ∙ sym (matches_eq-law a b))
+pub graph_at-without_graph : (m : Dataset) (t u : Target) → graph_at (without_graph m t) u ≡ cond (target_eq t u) (graph_at empty_dataset u) (graph_at m u)
+graph_at-without_graph m Default Default = refl
+graph_at-without_graph m Default (Named b) = refl
+graph_at-without_graph m (Named a) Default = refl
+graph_at-without_graph m (Named a) (Named b) =
+    map.get-remove nat_list_cmp_total m.named a b
+    ∙ ap (λ e. cond e None (map.get m.named b)) ((eq_by_cmp_equiv nat_list_cmp_total).symm b a ∙ sym (matches_eq-law a b))
+    ∙ ap (λ o. cond (bytes_eq a b) o (map.get m.named b)) (sym (map.get-empty name_cmp b))
 
-pub record IsNewest (rows : List Row) (i : ℕ) (t : Target) (found : Option ℕ) : Type 0 where
-  pub lines : row_lines rows found ≡ lines_at (dataset_of (take i rows)) t
-  pub there : (is_default t || is_some found) ≡ is_some (graph_at (dataset_of (take i rows)) t)
-  pub within : IfSome found (λ k. k < i)
+-- what a row makes of the graph of a target
+abbrev pub at_row : Target → Row → Option Graph → Option Graph
+at_row u r o = cond (target_eq r.target u) (cond r.ended (graph_at empty_dataset u) (Some r.graph)) o
 
-none_sorted : IsStrictlySortedBy triple_cmp []
-unfolding IsStrictlySortedBy
-none_sorted = tt
+pub graph_at-after_row : (m : Dataset) (r : Row) (u : Target) → graph_at (after_row m r) u ≡ at_row u r (graph_at m u)
+graph_at-after_row m r u =
+    elim r.ended as (λ b. graph_at (cond b (without_graph m r.target) (with_graph m r.target r.graph)) u ≡ cond (target_eq r.target u) (cond b (graph_at empty_dataset u) (Some r.graph)) (graph_at m u)) [
+      | true ↦ graph_at-without_graph m r.target u
+      | false ↦ graph_at-with_graph m r.target u r.graph
+    ]
 
-empty_lines : (t : Target) → [] ≡ lines_at empty_dataset t
-empty_lines Default = sym (ap (map_each line_of) (triples_of-graph_of [] none_sorted))
+-- two datasets with the same graphs are one
+pub same_dataset : (m n : Dataset) → ((u : Target) → graph_at m u ≡ graph_at n u) → m ≡ n
+same_dataset m n alike =
+    let unnamed : m.unnamed ≡ n.unnamed = some_injective m.unnamed n.unnamed (alike Default) in
+    let named : m.named ≡ n.named = map.same_map nat_list_cmp_total exact_bytes m.named n.named (λ a. alike (Named a)) in
+    λ i. record { unnamed = unnamed i; named = named i }
+  where
+    some_injective : (g h : Graph) → Some g ≡ Some h → g ≡ h
+    some_injective g h e = ap (λ (o : Option Graph). elim o [ None ↦ g | Some x ↦ x ]) e
+
+pub target_eq-true : (t u : Target) → target_eq t u ≡ true → t ≡ u
+target_eq-true Default Default e = refl
+target_eq-true Default (Named b) e = absurd (Prim.cc)
+target_eq-true (Named a) Default e = absurd (Prim.cc)
+target_eq-true (Named a) (Named b) e = ap Named (same_text a b e)
+
+-- the row that is found in a front of the rows
+pub record IsNewest (rows front : List Row) (t : Target) (found : Option ℕ) : Type 0 where
+  pub graph : graph_at (dataset_of front) t ≡ graph_by rows t found
+  pub within : IfSome found (λ i. i < length front)
+  pub last : IfSome found (IsLast front t)
+
+pub newest_none : (rows : List Row) (t : Target) → IsNewest rows [] t None
+newest_none rows t = record { graph = refl; within = search rules; last = search rules }
+
+further : (found : Option ℕ) (m n : ℕ) → m ≤ n → IfSome found (λ k. k < m) → IfSome found (λ k. k < n)
+further None m n le h = h
+further (Some k) m n le h = omega arith
+
+others_push : (t : Target) (rs : List Row) (r : Row) → AreOthers t rs → target_eq r.target t ≡ false → AreOthers t (rs ++ r ∷ [])
+others_push t [] r h k = (k, tt)
+others_push t (x ∷ rs) r h k = (h.0, others_push t rs r h.1 k)
+
+still_last : (front : List Row) (row : Row) (t : Target) (found : Option ℕ) → target_eq row.target t ≡ false → IfSome found (IsLast front t) → IfSome found (IsLast (front ++ row ∷ []) t)
+still_last front row t None other h = h
+still_last front row t (Some j) other h = record {
+  before = h.before;
+  row = h.row;
+  behind = h.behind ++ row ∷ [];
+  parts = ap (λ rs. rs ++ row ∷ []) h.parts ∙ append_assoc h.before (h.row ∷ h.behind) (row ∷ []);
+  place = h.place;
+  same = h.same;
+  others = others_push t h.behind row h.others other;
+}
+
+-- one row more
+pub newest_more : (rows front : List Row) (row : Row) (t : Target) (found : Option ℕ) (same : Bool) → slice_get rows (length front) ≡ Some row → target_eq row.target t ≡ same → IsNewest rows front t found
+    → IsNewest rows (front ++ row ∷ []) t (cond same (cond row.ended None (Some (length front))) found)
+newest_more rows front row t found true at same sofar =
+    let here : graph_at (dataset_of (front ++ row ∷ [])) t ≡ cond row.ended (graph_at empty_dataset t) (Some row.graph) =
+    ap (λ m. graph_at m t) (dataset_push front row) ∙ graph_at-after_row (dataset_of front) row t
+    ∙ ap (λ b. cond b (cond row.ended (graph_at empty_dataset t) (Some row.graph)) (graph_at (dataset_of front) t)) same in
+    elim row.ended as (λ b. graph_at (dataset_of (front ++ row ∷ [])) t ≡ cond b (graph_at empty_dataset t) (Some row.graph) → IsNewest rows (front ++ row ∷ []) t (cond b None (Some (length front)))) [
+      | true ↦ λ is. record { graph = is; within = search rules; last = search rules }
+      | false ↦ λ is. record {
+        graph = is ∙ sym (ap graph_of_row at);
+        within = omega (arith, length-append front (row ∷ []));
+        last = record { before = front; row = row; behind = []; parts = refl; place = refl; same = same; others = tt };
+      }
+    ] here
+newest_more rows front row t found false at same sofar =
+    record {
+      graph =
+          ap (λ m. graph_at m t) (dataset_push front row) ∙ graph_at-after_row (dataset_of front) row t
+          ∙ ap (λ b. cond b (cond row.ended (graph_at empty_dataset t) (Some row.graph)) (graph_at (dataset_of front) t)) same ∙ sofar.graph;
+      within = further found (length front) (length (front ++ row ∷ [])) (omega (arith, length-append front (row ∷ []))) sofar.within;
+      last = still_last front row t found same sofar.last;
+    }
+
+empty_lines : (t : Target) → [] ≡ lines_if (graph_at empty_dataset t)
+empty_lines Default = sym (ap (map_each line_of) triples_of-empty)
 empty_lines (Named n) = sym (ap lines_if (map.get-empty name_cmp n))
 
 empty_there : (t : Target) → (is_default t || false) ≡ is_some (graph_at empty_dataset t)
 empty_there Default = refl
 empty_there (Named n) = sym (ap is_some (map.get-empty name_cmp n))
 
-pub newest_none : (rows : List Row) (t : Target) → IsNewest rows 0 t None
-newest_none rows t = record { lines = empty_lines t; there = empty_there t; within = search rules }
-
-or_true : (a : Bool) → (a || true) ≡ true
+pub or_true : (a : Bool) → (a || true) ≡ true
 or_true true = refl
 or_true false = refl
 
-further : (found : Option ℕ) (i : ℕ) → IfSome found (λ k. k < i) → IfSome found (λ k. k < i + 1)
-further None i h = h
-further (Some k) i h = omega arith
+row_lines_are : (o : Option Row) → lines_of_row o ≡ lines_if (graph_of_row o)
+row_lines_are None = refl
+row_lines_are (Some row) = refl
 
-after_row : (rows : List Row) (i : ℕ) (row : Row) (t : Target) → i < length rows → row ≡ get_or rows i row → graph_at (dataset_of (take (i + 1) rows)) t ≡ cond (target_eq row.target t) (Some row.graph) (graph_at (dataset_of (take i rows)) t)
-after_row rows i row t within is =
-    ap (λ rs. graph_at (dataset_of rs) t) (take_more rows i row within ∙ ap (λ r. take i rows ++ r ∷ []) (sym is))
-    ∙ ap (λ d. graph_at d t) (dataset_push (take i rows) row)
-    ∙ graph_at-with_graph (dataset_of (take i rows)) row.target t row.graph
+pub get_behind : (before : List Row) (row : Row) (behind : List Row) → slice_get (before ++ row ∷ behind) (length before) ≡ Some row
+get_behind [] row behind = refl
+get_behind (x ∷ before) row behind = get_behind before row behind
 
-pub newest_more : (rows : List Row) (i : ℕ) (row : Row) (t : Target) (found : Option ℕ) (b : Bool) → i < length rows → row ≡ get_or rows i row → target_eq row.target t ≡ b → IsNewest rows i t found → IsNewest rows (i + 1) t (cond b (Some i) found)
-newest_more rows i row t found true within is same sofar =
-    let graph : graph_at (dataset_of (take (i + 1) rows)) t ≡ Some row.graph = after_row rows i row t within is ∙ ap (λ b. cond b (Some row.graph) (graph_at (dataset_of (take i rows)) t)) same in
-    record {
-      lines = ap lines_of_row (slice_get_read rows (length rows) i row refl within is) ∙ sym (ap lines_if graph);
-      there = or_true (is_default t) ∙ sym (ap is_some graph);
-      within = omega arith;
-    }
-newest_more rows i row t found false within is same sofar =
-    let graph : graph_at (dataset_of (take (i + 1) rows)) t ≡ graph_at (dataset_of (take i rows)) t = after_row rows i row t within is ∙ ap (λ b. cond b (Some row.graph) (graph_at (dataset_of (take i rows)) t)) same in
-    record {
-      lines = sofar.lines ∙ sym (ap lines_if graph);
-      there = sofar.there ∙ sym (ap is_some graph);
-      within = further found i sofar.within;
-    }
+-- the row of IsLast is at its place
+pub last_at : (rows : List Row) (t : Target) (i : ℕ) (l : IsLast rows t i) → slice_get rows i ≡ Some l.row
+last_at rows t i l = ap (λ rs. slice_get rs i) l.parts ∙ ap (slice_get (l.before ++ l.row ∷ l.behind)) l.place ∙ get_behind l.before l.row l.behind
+
+-- what is found in all rows
+pub newest_row : (rows : List Row) (t : Target) (found : Option ℕ) → IsNewest rows rows t found → NewestRow rows t found
+newest_row rows t None all = record {
+  graph = all.graph;
+  lines = empty_lines t ∙ sym (ap lines_if all.graph);
+  there = empty_there t ∙ sym (ap is_some all.graph);
+  within = all.within;
+  last = all.last;
+}
+newest_row rows t (Some i) all = record {
+  graph = all.graph;
+  lines = row_lines_are (slice_get rows i) ∙ sym (ap lines_if all.graph);
+  there = or_true (is_default t) ∙ sym (ap (λ o. is_some (graph_of_row o)) (last_at rows t i all.last)) ∙ sym (ap is_some all.graph);
+  within = all.within;
+  last = all.last;
+}
 
 -- what the derived `==` computes
 pub derived_eq : (a b : Target) → (TargetPartialEq.ghosts).eq a b ≡ target_eq a b
@@ -91,3 +167,17 @@ derived_eq Default Default = refl
 derived_eq Default (Named b) = refl
 derived_eq (Named a) Default = refl
 derived_eq (Named a) (Named b) = refl
+
+-- one step of the search
+pub newest_step : (rows : List Row) (i : ℕ) (row : Row) (t : Target) (found : Option ℕ) (same : Bool) → i < length rows → row ≡ get_or rows i row → target_eq row.target t ≡ same → IsNewest rows (take i rows) t found
+    → IsNewest rows (take (i + 1) rows) t (cond same (cond row.ended None (Some i)) found)
+newest_step rows i row t found same within is tests sofar =
+    let long : length (take i rows) ≡ i = length-take-le i rows (omega arith) in
+    let at : slice_get rows (length (take i rows)) ≡ Some row = ap (slice_get rows) long ∙ slice_get-get_or rows i row within ∙ ap Some (sym is) in
+    let next = newest_more rows (take i rows) row t found same at tests sofar in
+    let grown : take i rows ++ row ∷ [] ≡ take (i + 1) rows = ap (λ r. take i rows ++ r ∷ []) is ∙ sym (take_more rows i row within) in
+    let moved = subst (λ n. IsNewest rows (take i rows ++ row ∷ []) t (cond same (cond row.ended None (Some n)) found)) long next in
+    subst (λ front. IsNewest rows front t (cond same (cond row.ended None (Some i)) found)) grown moved
+
+pub newest_end : (rows : List Row) (i : ℕ) (t : Target) (found : Option ℕ) → length rows ≤ i → IsNewest rows (take i rows) t found → NewestRow rows t found
+newest_end rows i t found past all = newest_row rows t found (subst (λ front. IsNewest rows front t found) (take_all i rows past) all)

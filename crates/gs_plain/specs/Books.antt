@@ -1,13 +1,14 @@
 -- What the rows and the seats of a plain store show. No public clause cites this module.
-use Rattle.std.specs.Prelude.{◌≡◌, ℕ, ◌<◌, ◌++◌, ◌+◌, ◌≤◌, Bool, true, false, List, [], Option, Some, None, drop, length, IfSome, if◌then◌else◌, vec_len, vec_capacity}
-use Rattle.std.specs.List.{fold, slice_get}
+use Rattle.std.specs.Prelude.{◌≡◌, ℕ, ◌<◌, ◌+◌, ◌≤◌, ◌^◌, Bool, true, false, List, [], Option, Some, None, drop, length, IfSome, if◌then◌else◌, vec_len, vec_capacity, string_bytes}
+use Rattle.std.specs.List.{fold, slice_get, slice_set}
 use Rattle.gs_model.specs.Graphs.{Graph, lines_of, size_of}
+use Rattle.gs_model.specs.Bases.{is_base}
 use Rattle.gs_model.specs.declared.limits.TheConstants.{LAST_NODE}
 use Rattle.gs_term.specs.declared.names.Target.{Target}
 use Rattle.gs_term.specs.declared.names.Target.TheVariants.{Default, Named}
 use Rattle.gs_event.specs.declared.events.Action.{Action}
 use Rattle.gs_event.specs.declared.answers.Answer.{Answer}
-use Rattle.gs_event.specs.Datasets.{Dataset, empty_dataset, with_graph, triples_in}
+use Rattle.gs_event.specs.Datasets.{Dataset, empty_dataset, with_graph, without_graph, lines_at, triples_in, names_in}
 use Rattle.gs_event.specs.Phases as phase
 use Rattle.gs_event.specs.Views.{Totals, SeatView, FitsSeat, next_totals, next_phase}
 use Rattle.gs_plain.specs.declared.books.Row.{Row}
@@ -15,9 +16,12 @@ use Rattle.gs_plain.specs.declared.books.Books.{Books}
 use Rattle.gs_plain.specs.declared.books.Seat.{Seat}
 use Rattle.gs_plain.specs.declared.books.Seat.TheVariants.{Idle, Writing, Reading}
 
--- each row is a write: the newest row of a target is its graph
+-- each row is a write, and an ended one a removal: the newest row of a target is its graph
+abbrev pub after_row : Dataset → Row → Dataset
+after_row m row = if row.ended then without_graph m row.target else with_graph m row.target row.graph
+
 abbrev pub dataset_of : List Row → Dataset
-dataset_of rows = fold (λ m row. with_graph m row.target row.graph) empty_dataset rows
+dataset_of rows = fold (λ m row. after_row m row) empty_dataset rows
 
 abbrev pub lines_of_row : Option Row → List (List ℕ)
 lines_of_row None = []
@@ -33,7 +37,12 @@ seat_shown rows (Writing k r g) = phase.Writing k r g
 seat_shown rows (Reading row told) = phase.Reading (drop told (row_lines rows row))
 
 abbrev pub totals_of : Books → Totals
-totals_of b = record { dataset = dataset_of b.rows.items; request = b.request; commit = b.commit }
+totals_of b = record {
+  setting = record { base = string_bytes b.base; limits = b.limits };
+  dataset = dataset_of b.rows.items;
+  request = b.request;
+  commit = b.commit;
+}
 
 abbrev pub is_writing : Seat → Bool
 is_writing (Writing k r g) = true
@@ -50,30 +59,57 @@ abbrev pub IsKnown : List Row → Seat → Type 0
 IsKnown rows (Reading row told) = IfSome row (λ i. i < length rows)
 IsKnown rows s = Unit {0}
 
--- the list begins with these
-abbrev pub StartsWith : List Row → List Row → Type 0
-StartsWith new old = (more : List Row) × (new ≡ old ++ more)
+-- each row that was there has the lines that it had
+pub record KeepsRows (old new : List Row) : Type 0 where
+  pub grows : length old ≤ length new
+  pub same : (i : ℕ) → i < length old → lines_of_row (slice_get new i) ≡ lines_of_row (slice_get old i)
 
 abbrev pub is_default : Target → Bool
 is_default Default = true
 is_default (Named n) = false
 
--- the counts are right, and leave a node's number for each triple
+-- the counts are right and leave a node's number for each triple, and the base is one
 pub record IsCounted (b : Books) : Type 0 where
   pub triples : b.triples ≡ triples_in (dataset_of b.rows.items)
+  pub names : b.names ≡ names_in (dataset_of b.rows.items)
   pub few : b.triples + b.staged ≤ LAST_NODE
+  pub limit : b.limits.names < 2 ^ 64
+  pub base : is_base (string_bytes b.base) ≡ true
+
+-- what is kept of the books by a write: all but the dataset, its counts and the commit number
+pub record KeepsBooks (old new : Books) : Type 0 where
+  pub rows : KeepsRows old.rows.items new.rows.items
+  pub staged : new.staged ≡ old.staged
+  pub request : new.request ≡ old.request
+  pub commit : new.commit ≡ old.commit + 1
+  pub base : string_bytes new.base ≡ string_bytes old.base
+  pub limits : new.limits ≡ old.limits
+  pub room : vec_capacity new.rows ≡ vec_capacity old.rows
 
 -- the graph is now the newest version of its target, under the next commit number
 pub record PutsVersion (old new : Books) (t : Target) (g : Graph) : Type 0 where
   pub dataset : dataset_of new.rows.items ≡ with_graph (dataset_of old.rows.items) t g
-  pub grows : StartsWith new.rows.items old.rows.items
+  pub kept : KeepsBooks old new
   pub triples : new.triples ≡ triples_in (dataset_of new.rows.items)
-  pub fewer : new.triples ≤ old.triples + size_of g
-  pub staged : new.staged ≡ old.staged
-  pub request : new.request ≡ old.request
-  pub commit : new.commit ≡ old.commit + 1
+  pub moved : new.triples + length (lines_at (dataset_of old.rows.items) t) ≡ old.triples + size_of g
+  pub names : new.names ≡ names_in (dataset_of new.rows.items)
   pub one_more : vec_len new.rows ≡ vec_len old.rows + 1
-  pub room : vec_capacity new.rows ≡ vec_capacity old.rows
+
+-- row i is marked as ended
+abbrev pub ended_row : Row → Row
+ended_row row = record { target = row.target; graph = row.graph; ended = true }
+
+abbrev pub EndsRow : List Row → List Row → ℕ → Type 0
+EndsRow old new i = (row : Row) → slice_get old i ≡ Some row → new ≡ slice_set old i (ended_row row)
+
+-- the target has no graph now, or an empty one where it is the default graph
+pub record EndsVersion (old new : Books) (t : Target) : Type 0 where
+  pub dataset : dataset_of new.rows.items ≡ without_graph (dataset_of old.rows.items) t
+  pub kept : KeepsBooks old new
+  pub triples : new.triples ≡ triples_in (dataset_of new.rows.items)
+  pub fewer : new.triples ≤ old.triples
+  pub names : new.names ≡ names_in (dataset_of new.rows.items)
+  pub as_many : vec_len new.rows ≡ vec_len old.rows
 
 -- books and one of their seats, before an action
 pub record IsReady (b : Books) (s : Seat) : Type 0 where
@@ -87,7 +123,7 @@ pub record Acts (old new : Books) (was now : Seat) (action : Action) (answer : A
   pub totals : totals_of new ≡ next_totals (totals_of old) (seat_shown old.rows.items was) action answer
   pub seat : seat_shown new.rows.items now ≡ next_phase (totals_of old) (seat_shown old.rows.items was) action answer
   pub known : IsKnown new.rows.items now
-  pub grows : StartsWith new.rows.items old.rows.items
+  pub rows : KeepsRows old.rows.items new.rows.items
   pub counted : IsCounted new
   pub staged : new.staged + staged_by was ≡ old.staged + staged_by now
 

@@ -3,7 +3,7 @@ ghost use Rattle.std.specs.Prelude.{◌≡◌, ◌++◌, ◌+◌, ◌≤◌, OnO
 ghost use Rattle.std.specs.List.{concat};
 ghost use Rattle.std.specs.List.Sorted.{IsStrictlySortedBy};
 ghost use Rattle.gs_model.specs.Triples.{line_of, triple_cmp};
-ghost use Rattle.gs_model.specs.Graphs.{empty_graph, with_triples, graph_of, lines_of, size_of};
+ghost use Rattle.gs_model.specs.Graphs.{empty_graph, with_triples, graph_of, triples_of, lines_of, size_of};
 
 use gs_ntwrite::line;
 use gs_term::Triple;
@@ -58,6 +58,31 @@ impl SortedGraph {
         let mut copies = copies_of(alloc, triples)?;
         append_sorted(&mut self.triples, &mut copies)?;
         Ok(())
+    }
+
+    /// A copy.
+    pub fn copied(&self, alloc: Global) -> Result<SortedGraph, AllocError>
+        ensures { IfOk result (λ copy. copy ≡ self.now) }
+    {
+        let triples = copies_of(alloc, self.triples.as_slice())?;
+        Ok(SortedGraph { triples })
+    }
+
+    /// The graph with the triples of another.
+    pub fn united(&self, alloc: Global, other: &SortedGraph) -> Result<SortedGraph, AllocError>
+        ensures value { IfOk result (λ both. both ≡ with_triples self.now (triples_of other.now)) }
+        ensures size { IfOk result (λ both. size_of both ≤ size_of self.now + size_of other.now) }
+    {
+        let mut both = self.copied(alloc)?;
+        both.add_all(alloc, other.as_slice())?;
+        Ok(both)
+    }
+
+    /// Its triples, each once, in their order.
+    pub fn as_slice(&self) -> &[Triple]
+        ensures { result.now ≡ triples_of self.now }
+    {
+        self.triples.as_slice()
     }
 
     /// The lines from the one at `start` on, `count` of them or as many as there are.

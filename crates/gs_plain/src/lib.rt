@@ -4,6 +4,9 @@
 mod actions;
 mod books;
 mod graphs;
+mod names;
+mod reads;
 mod stores;
+mod writes;
 
 pub use stores::PlainStore;

@@ -1,5 +1,6 @@
 //! The plain store: its books and its seats.
-ghost use Rattle.std.specs.Prelude.{◌≡◌, [], false, IfOk, IfErr, replicate};
+ghost use Rattle.std.specs.Prelude.{◌≡◌, [], true, false, IfOk, IfErr, replicate};
+ghost use Rattle.gs_model.specs.Bases.{is_base};
 ghost use Rattle.gs_event.specs.Datasets.{triples_in};
 ghost use Rattle.gs_event.specs.Views.{Fits, next_view};
 ghost use Rattle.gs_event.specs.Histories.{view_of};
@@ -7,7 +8,7 @@ ghost use Rattle.gs_event.specs.Waste.{Reclaims, nodes_in};
 
 use crate::actions;
 use crate::books::{Books, Seat};
-use gs_event::{Action, Answer, Event};
+use gs_event::{Action, Answer, Event, Limits};
 use gs_model::Refusal;
 use gs_run::EventStore;
 use std::alloc::{AllocError, Global};
@@ -38,22 +39,30 @@ impl Model for PlainStore {
 }
 
 impl PlainStore {
-    /// A store without graphs, of so many seats, whose numbers go on from these.
+    /// A store without graphs, of so many seats, whose numbers go on from these, and which holds
+    /// as much as the limits allow. Names that it makes up begin with the base.
     pub fn starting_at(
         alloc: Global,
         seats: u16,
+        base: &str,
+        limits: Limits,
         commit: u64,
         request: u64,
     ) -> Result<PlainStore, Refusal>
-        ensures view { IfOk result (λ store. store.view ≡ view_of (record { seats = seats; request = request; commit = commit }) []) }
+        requires { is_base base.now ≡ true }
+        ensures view { IfOk result (λ store. store.view ≡ view_of (record { seats = seats; setting = record { base = base.now; limits = limits }; request = request; commit = commit }) []) }
         ensures waste { IfOk result (λ store. store.waste ≡ []) }
         ensures refused { IfErr result (λ refusal. refusal ≡ Refusal.NoMemory) }
     {
         let idle = idle_seats(alloc, seats)?;
+        let base = String::from_str(alloc, base)?;
         let books = Books {
+            base,
+            limits,
             request,
             commit,
             triples: 0,
+            names: 0,
             staged: 0,
             rows: Vec::new(alloc),
         };

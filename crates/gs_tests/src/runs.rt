@@ -1,170 +1,161 @@
-//! The events of worked schedules, given whole to `Store::run`.
+//! The events of the worked schedules, given whole to `Store::run`.
+use crate::schedules::ROWS;
 use gs_core::{Action, Answer, Event, Kind, Refusal, Store};
 use gs_term::{GraphName, Target, TermText, Triple};
 use std::alloc::{AllocError, Global};
-use std::process::Abort;
 use std::test::Fail;
 
-fn graph(alloc: Global) -> Result<Target, Refusal> {
-    Ok(Target::Named(GraphName::new(alloc, "http://e/g")?))
+fn target(alloc: Global, word: &str) -> Result<Target, Refusal> {
+    if word == "default" {
+        return Ok(Target::Default);
+    }
+    let name = word.trim_start_matches('<').trim_end_matches('>');
+    Ok(Target::Named(GraphName::new(alloc, name)?))
 }
 
-fn open(target: Target, seat: u16) -> Event {
-    Event::Seat(seat, Action::Open(Kind::Put(target)))
-}
-
-/// Stages the triple whose object is this text.
-fn stage(alloc: Global, seat: u16, object: &str) -> Result<Event, Refusal> {
+/// The triple whose object is this text.
+fn triple(alloc: Global, object: &str) -> Result<Triple, Refusal> {
     let subject = TermText::iri(alloc, "http://e/s")?;
     let predicate = TermText::iri(alloc, "http://e/p")?;
     let object = TermText::literal(alloc, object, None, None)?;
     if !subject.is_subject() || !predicate.is_iri() {
         return Err(Refusal::Syntax(0));
     }
-    let mut triples = Vec::new(alloc);
-    triples.push(Triple::new(subject, predicate, object))?;
-    Ok(Event::Seat(seat, Action::Stage(triples)))
+    Ok(Triple::new(subject, predicate, object))
+}
+
+fn kind(alloc: Global, word: &str, name: &str) -> Result<Kind, Refusal> {
+    match word {
+        "put" => Ok(Kind::Put(target(alloc, name)?)),
+        "post" => Ok(Kind::Post(target(alloc, name)?)),
+        _ => Ok(Kind::New),
+    }
+}
+
+/// The action of a line's words behind the seat.
+fn action(alloc: Global, words: &[&str]) -> Result<Action, Refusal> {
+    let word = words.first().copied().unwrap_or_default();
+    let next = words.get(1).copied().unwrap_or_default();
+    let last = words.get(2).copied().unwrap_or_default();
+    match word {
+        "open" => Ok(Action::Open(kind(alloc, next, last)?)),
+        "stage" => {
+            let object = words.get(3).copied().unwrap_or_default();
+            let mut triples = Vec::new(alloc);
+            triples.push(triple(alloc, object.trim_matches('"'))?)?;
+            Ok(Action::Stage(triples))
+        }
+        "commit" => Ok(Action::Commit),
+        "delete" => Ok(Action::Delete(target(alloc, next)?)),
+        "head" => Ok(Action::Head(target(alloc, next)?)),
+        "pin" => Ok(Action::Pin(target(alloc, next)?)),
+        "piece" => Ok(Action::Piece(next.parse::<u32>().unwrap_or_default())),
+        _ => Ok(Action::Cancel),
+    }
+}
+
+fn event(alloc: Global, line: &str) -> Result<Event, Refusal> {
+    let mut words = Vec::new(alloc);
+    for word in line.split(' ') {
+        words.push(word)?;
+    }
+    let first = words.first().copied().unwrap_or_default();
+    let second = words.get(1).copied().unwrap_or_default();
+    if first == "reclaim" {
+        return Ok(Event::Reclaim(second.parse::<u64>().unwrap_or_default()));
+    }
+    let behind = words.get(1..).unwrap_or_default();
+    Ok(Event::Seat(
+        first.parse::<u16>().unwrap_or_default(),
+        action(alloc, behind)?,
+    ))
+}
+
+/// The store of a schedule: that of its first line, where this says one.
+fn store(alloc: Global, input: &str) -> Result<Store, Refusal> {
+    let base = "http://localhost";
+    match input {
+        _ if input.starts_with("store 4 999999999999999999 999999999999999998") => {
+            Store::starting_at(
+                alloc,
+                4,
+                base,
+                999_999_999_999_999_999,
+                999_999_999_999_999_998,
+            )
+        }
+        _ if input.starts_with("store 4 999999999999999999 0") => {
+            Store::starting_at(alloc, 4, base, 999_999_999_999_999_999, 0)
+        }
+        _ if input.starts_with("store 4 0 999999999999999999") => {
+            Store::starting_at(alloc, 4, base, 0, 999_999_999_999_999_999)
+        }
+        _ => Store::new(alloc, 4, base),
+    }
 }
 
 /// An answer in the words of a schedule.
 fn words(alloc: Global, answer: &Answer) -> Result<String, AllocError> {
     match answer {
-        Answer::Opened(number) => format!(in alloc; "opened {number}"),
-        Answer::Staged => format!(in alloc; "staged"),
-        Answer::Status(status, _) => format!(in alloc; "{status}"),
-        Answer::Pinned(status) => format!(in alloc; "{status}"),
+        Answer::Opened(number) => format!(in alloc; "opened {number}\n"),
+        Answer::Staged => format!(in alloc; "staged\n"),
+        Answer::Status(status, None) => format!(in alloc; "{status}\n"),
+        Answer::Status(status, Some(name)) => {
+            let text = str::from_utf8(name.as_bytes()).unwrap_or("no text");
+            format!(in alloc; "{status} {text}\n")
+        }
+        Answer::Pinned(status) => format!(in alloc; "{status}\n"),
         Answer::Lines(lines, end) => {
             let text = str::from_utf8(lines.as_slice()).unwrap_or("no text");
             let last = if *end { "end" } else { "more" };
-            format!(in alloc; "{text}{last}")
+            format!(in alloc; "{text}{last}\n")
         }
-        Answer::Cancelled => format!(in alloc; "cancelled"),
-        Answer::Reclaimed(freed, left) => format!(in alloc; "reclaimed {freed} {left}"),
-        Answer::Refused(refusal) => format!(in alloc; "refused {refusal}"),
+        Answer::Cancelled => format!(in alloc; "cancelled\n"),
+        Answer::Reclaimed(freed, left) => {
+            let rest = if *left { "more" } else { "done" };
+            format!(in alloc; "reclaimed {freed} {rest}\n")
+        }
+        Answer::Refused(refusal) => {
+            let name = refusal.name();
+            format!(in alloc; "refused {name}\n")
+        }
     }
 }
 
-/// Runs events on a new store of four seats, and gives the answers, each in words.
-fn run(alloc: Global, events: &[Event]) -> Result<Vec<String>, Fail> {
-    let mut store = Store::new(alloc, 4, "http://localhost")?;
-    let answers = store.run(events)?;
-    let mut said = Vec::new(alloc);
-    for answer in &answers {
-        said.push(words(alloc, answer)?)?;
+/// The events of a schedule: its lines but those that begin a store or ask for counts.
+fn events(alloc: Global, input: &str) -> Result<Vec<Event>, Refusal> {
+    let mut events = Vec::new(alloc);
+    for line in input.lines() {
+        if line != "counts" && !line.starts_with("store ") {
+            events.push(event(alloc, line)?)?;
+        }
     }
-    Ok(said)
+    Ok(events)
 }
 
-/// Asserts that events get these answers, a line each.
-fn expect(rt: &impl Abort, alloc: Global, events: &[Event], want: &[&str]) -> Result<(), Fail> {
-    let said = run(alloc, events)?;
-    assert_eq!(rt; said.len(), want.len());
-    for (got, want) in said.iter().zip(want) {
-        assert_eq!(rt; got.as_str(), *want);
+/// What the events print, in all, where the counts are left out.
+fn answered(alloc: Global, printed: &str) -> Result<String, AllocError> {
+    let mut text = String::new(alloc);
+    for line in printed.lines() {
+        if !line.starts_with("nodes ") {
+            text.push_str(line)?;
+            text.push('\n')?;
+        }
+    }
+    Ok(text)
+}
+
+#[test]
+fn a_run_answers_as_the_schedule_does(rt: HostRuntime) -> Result<(), Fail> {
+    let alloc = rt.alloc();
+    for (name, input, want) in ROWS {
+        let mut store = store(alloc, input)?;
+        let answers = store.run(events(alloc, input)?.as_slice())?;
+        let mut text = String::new(alloc);
+        for answer in &answers {
+            text.push_str(words(alloc, answer)?.as_str())?;
+        }
+        assert_eq!(rt; text.as_str(), answered(alloc, want)?.as_str(), "at {name}");
     }
     Ok(())
-}
-
-#[test]
-fn no_events_get_no_answers(rt: HostRuntime) -> Result<(), Fail> {
-    expect(&rt, rt.alloc(), &[], &[])
-}
-
-#[test]
-fn a_missing_graph_and_the_default_graph(rt: HostRuntime) -> Result<(), Fail> {
-    let alloc = rt.alloc();
-    let events = [
-        Event::Seat(0, Action::Pin(graph(alloc)?)),
-        Event::Seat(0, Action::Pin(Target::Default)),
-        Event::Seat(0, Action::Piece(1)),
-    ];
-    expect(&rt, alloc, &events, &["404", "200", "end"])
-}
-
-#[test]
-fn a_graph_is_put_read_and_put_again(rt: HostRuntime) -> Result<(), Fail> {
-    let alloc = rt.alloc();
-    let events = [
-        open(graph(alloc)?, 0),
-        stage(alloc, 0, "2")?,
-        stage(alloc, 0, "1")?,
-        Event::Seat(0, Action::Commit),
-        Event::Seat(0, Action::Pin(graph(alloc)?)),
-        Event::Seat(0, Action::Piece(5)),
-        open(graph(alloc)?, 0),
-        Event::Seat(0, Action::Commit),
-        Event::Seat(0, Action::Pin(graph(alloc)?)),
-        Event::Seat(0, Action::Piece(5)),
-    ];
-    let lines = "<http://e/s> <http://e/p> \"1\" .\n<http://e/s> <http://e/p> \"2\" .\nend";
-    expect(
-        &rt,
-        alloc,
-        &events,
-        &[
-            "opened 1", "staged", "staged", "201", "200", lines, "opened 2", "204", "200", "end",
-        ],
-    )
-}
-
-#[test]
-fn an_upload_shows_nothing_before_its_commit(rt: HostRuntime) -> Result<(), Fail> {
-    let alloc = rt.alloc();
-    let events = [
-        open(Target::Default, 0),
-        stage(alloc, 0, "1")?,
-        Event::Seat(1, Action::Pin(Target::Default)),
-        Event::Seat(1, Action::Piece(9)),
-        stage(alloc, 0, "2")?,
-        Event::Seat(0, Action::Commit),
-        Event::Seat(1, Action::Pin(Target::Default)),
-        Event::Seat(1, Action::Piece(9)),
-    ];
-    let lines = "<http://e/s> <http://e/p> \"1\" .\n<http://e/s> <http://e/p> \"2\" .\nend";
-    expect(
-        &rt,
-        alloc,
-        &events,
-        &[
-            "opened 1", "staged", "200", "end", "staged", "204", "200", lines,
-        ],
-    )
-}
-
-#[test]
-fn a_read_keeps_its_lines_while_the_graph_is_put_again(rt: HostRuntime) -> Result<(), Fail> {
-    let alloc = rt.alloc();
-    let events = [
-        open(graph(alloc)?, 0),
-        stage(alloc, 0, "1")?,
-        stage(alloc, 0, "2")?,
-        Event::Seat(0, Action::Commit),
-        Event::Seat(1, Action::Pin(graph(alloc)?)),
-        Event::Seat(1, Action::Piece(1)),
-        open(graph(alloc)?, 0),
-        Event::Seat(0, Action::Commit),
-        Event::Seat(1, Action::Piece(1)),
-        Event::Seat(1, Action::Pin(graph(alloc)?)),
-        Event::Seat(1, Action::Piece(1)),
-        Event::Reclaim(7),
-        Event::Seat(9, Action::Cancel),
-    ];
-    let first = "<http://e/s> <http://e/p> \"1\" .\nmore";
-    let second = "<http://e/s> <http://e/p> \"2\" .\nend";
-    let want = [
-        "opened 1",
-        "staged",
-        "staged",
-        "201",
-        "200",
-        first,
-        "opened 2",
-        "204",
-        second,
-        "200",
-        "end",
-        "reclaimed 0 false",
-        "refused there is no such seat",
-    ];
-    expect(&rt, alloc, &events, &want)
 }

@@ -21,9 +21,9 @@ pub fn replay(alloc: Global, input: &str) -> Played {
 }
 
 /// A worked schedule: its name, its lines and what they print.
-type Row = (&'static str, &'static str, &'static str);
+pub type Row = (&'static str, &'static str, &'static str);
 
-const ROWS: [Row; 9] = [
+pub const ROWS: [Row; 18] = [
     ("an empty input", "", ""),
     (
         "a missing graph and the default graph",
@@ -57,13 +57,58 @@ const ROWS: [Row; 9] = [
     ),
     (
         "three versions of four triples",
-        "0 open put <http://e/g>\n0 stage <http://e/s> <http://e/p> \"1\" .\n0 stage <http://e/s> <http://e/p> \"2\" .\n0 stage <http://e/s> <http://e/p> \"3\" .\n0 stage <http://e/s> <http://e/p> \"4\" .\n0 commit\n0 open put <http://e/g>\n0 stage <http://e/s> <http://e/p> \"1\" .\n0 stage <http://e/s> <http://e/p> \"2\" .\n0 stage <http://e/s> <http://e/p> \"3\" .\n0 stage <http://e/s> <http://e/p> \"4\" .\n0 commit\ncounts\nreclaim 5\nreclaim 5\ncounts\n",
-        "opened 1\nstaged\nstaged\nstaged\nstaged\n201\nopened 2\nstaged\nstaged\nstaged\nstaged\n204\nnodes 4 triples 4\nreclaimed 0 done\nreclaimed 0 done\nnodes 4 triples 4\n",
+        "0 open put <http://e/g>\n0 stage <http://e/s> <http://e/p> \"1\" .\n0 stage <http://e/s> <http://e/p> \"2\" .\n0 stage <http://e/s> <http://e/p> \"3\" .\n0 stage <http://e/s> <http://e/p> \"4\" .\n0 commit\n0 open put <http://e/g>\n0 stage <http://e/s> <http://e/p> \"1\" .\n0 stage <http://e/s> <http://e/p> \"2\" .\n0 stage <http://e/s> <http://e/p> \"3\" .\n0 stage <http://e/s> <http://e/p> \"4\" .\n0 commit\n0 open put <http://e/g>\n0 stage <http://e/s> <http://e/p> \"1\" .\n0 stage <http://e/s> <http://e/p> \"2\" .\n0 stage <http://e/s> <http://e/p> \"3\" .\n0 stage <http://e/s> <http://e/p> \"4\" .\n0 commit\ncounts\nreclaim 5\nreclaim 5\ncounts\n",
+        "opened 1\nstaged\nstaged\nstaged\nstaged\n201\nopened 2\nstaged\nstaged\nstaged\nstaged\n204\nopened 3\nstaged\nstaged\nstaged\nstaged\n204\nnodes 4 triples 4\nreclaimed 0 done\nreclaimed 0 done\nnodes 4 triples 4\n",
     ),
     (
         "the last numbers are given out",
         "store 4 999999999999999999 999999999999999998\n0 open put default\n0 commit\n0 cancel\n0 open put default\n0 pin default\n0 piece 1\n",
         "opened 999999999999999999\nrefused LastNumber\ncancelled\nrefused LastNumber\n200\nend\n",
+    ),
+    (
+        "a deleted graph is still read by those who pinned it",
+        "0 open post <http://e/g>\n0 stage <http://e/s> <http://e/p> \"1\" .\n0 stage <http://e/s> <http://e/p> \"2\" .\n0 stage <http://e/s> <http://e/p> \"3\" .\n0 commit\n1 pin <http://e/g>\n1 piece 1\n0 delete <http://e/g>\n1 piece 1\n1 piece 1\n1 pin <http://e/g>\n0 delete <http://e/g>\n",
+        "opened 1\nstaged\nstaged\nstaged\n201\n200\n<http://e/s> <http://e/p> \"1\" .\nmore\n204\n<http://e/s> <http://e/p> \"2\" .\nmore\n<http://e/s> <http://e/p> \"3\" .\nend\n404\n404\n",
+    ),
+    (
+        "an ended read and an absent seat",
+        "0 open post <http://e/g>\n0 stage <http://e/s> <http://e/p> \"1\" .\n0 stage <http://e/s> <http://e/p> \"2\" .\n0 stage <http://e/s> <http://e/p> \"3\" .\n0 commit\n1 pin <http://e/g>\n1 piece 3\n1 piece 3\n0 cancel\n9 cancel\n",
+        "opened 1\nstaged\nstaged\nstaged\n201\n200\n<http://e/s> <http://e/p> \"1\" .\n<http://e/s> <http://e/p> \"2\" .\n<http://e/s> <http://e/p> \"3\" .\nend\nrefused WrongPhase\nrefused WrongPhase\nrefused BadSeat\n",
+    ),
+    (
+        "an open upload counts, and a replaced graph does not",
+        "0 open put <http://e/g>\n0 stage <http://e/s> <http://e/p> \"1\" .\n0 stage <http://e/s> <http://e/p> \"2\" .\n0 commit\n1 pin <http://e/g>\n0 open put <http://e/g>\n0 stage <http://e/s> <http://e/p> \"3\" .\n0 commit\nreclaim 1000\n2 open post default\n2 stage <http://e/s> <http://e/p> \"4\" .\n2 stage <http://e/s> <http://e/p> \"5\" .\n1 piece 1\n1 piece 9\ncounts\nreclaim 1000\ncounts\n",
+        "opened 1\nstaged\nstaged\n201\n200\nopened 2\nstaged\n204\nreclaimed 0 done\nopened 3\nstaged\nstaged\n<http://e/s> <http://e/p> \"1\" .\nmore\n<http://e/s> <http://e/p> \"2\" .\nend\nnodes 3 triples 1\nreclaimed 0 done\nnodes 3 triples 1\n",
+    ),
+    (
+        "a new graph gets a name of its request",
+        "0 open put default\n0 stage <http://e/s> <http://e/p> \"1\" .\n0 cancel\n0 open new\n0 commit\n",
+        "opened 1\nstaged\ncancelled\nopened 2\n201 http://localhost/graphs/n2-0\n",
+    ),
+    (
+        "a new graph gets the least name that is free",
+        "0 open put <http://localhost/graphs/n2-0>\n0 commit\n0 open new\n0 commit\n",
+        "opened 1\n201\nopened 2\n201 http://localhost/graphs/n2-1\n",
+    ),
+    (
+        "no write is taken behind the last commit, and a missing graph is missing",
+        "store 4 999999999999999999 0\n0 open put default\n0 commit\n0 cancel\n0 pin default\n0 piece 1\n0 delete <http://e/g>\n",
+        "opened 1\nrefused LastNumber\ncancelled\n200\nend\n404\n",
+    ),
+    (
+        "no upload is opened behind the last request",
+        "store 4 0 999999999999999999\n0 open put <http://e/g>\n0 delete <http://e/g>\n",
+        "refused LastNumber\n404\n",
+    ),
+    (
+        "a post adds, also to a graph that it makes",
+        "0 head <http://e/g>\n0 open post <http://e/g>\n0 commit\n0 head <http://e/g>\n0 open post <http://e/g>\n0 stage <http://e/s> <http://e/p> \"2\" .\n0 commit\n0 open post <http://e/g>\n0 stage <http://e/s> <http://e/p> \"1\" .\n0 stage <http://e/s> <http://e/p> \"2\" .\n0 commit\n0 pin <http://e/g>\n0 piece 9\ncounts\n",
+        "404\nopened 1\n201\n200\nopened 2\nstaged\n204\nopened 3\nstaged\nstaged\n204\n200\n<http://e/s> <http://e/p> \"1\" .\n<http://e/s> <http://e/p> \"2\" .\nend\nnodes 2 triples 2\n",
+    ),
+    (
+        "a deleted default graph is empty and still there",
+        "0 open put default\n0 stage <http://e/s> <http://e/p> \"1\" .\n0 commit\n1 pin default\n0 delete default\n0 head default\n0 pin default\n0 piece 1\n1 piece 1\n0 delete default\ncounts\n",
+        "opened 1\nstaged\n204\n200\n204\n200\n200\nend\n<http://e/s> <http://e/p> \"1\" .\nend\n204\nnodes 0 triples 0\n",
     ),
 ];
 
@@ -93,7 +138,7 @@ fn the_last_commit_is_the_graph(rt: HostRuntime) -> Result<(), Fail> {
 }
 
 /// Lines that are no command, each as the third line of a schedule.
-const NO_COMMANDS: [&str; 26] = [
+const NO_COMMANDS: [&str; 33] = [
     "0",
     "0 ",
     "pin default",
@@ -114,6 +159,13 @@ const NO_COMMANDS: [&str; 26] = [
     "0 open",
     "0 open put",
     "0 open patch default",
+    "0 open post",
+    "0 open new default",
+    "0 open news",
+    "0 delete",
+    "0 delete graph",
+    "0 head",
+    "0 head <http://e/g> ",
     "0 stage <e> <http://e/p> \"1\" .",
     "0 stage <http://e/s> <http://e/p> \"1\".",
     "0 stage \"1\" <http://e/p> \"1\" .",

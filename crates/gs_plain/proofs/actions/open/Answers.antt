@@ -1,6 +1,7 @@
 use Rattle.std.proofs.Common.{◌≡◌, ap, ◌∙◌, rules, arith}
 use Rattle.gs_model.specs.Graphs.{size_of}
 use Rattle.gs_model.proofs.GraphLemmas.{empty_has_none}
+use Rattle.gs_plain.proofs.WriteLemmas.{same_rows}
 use Rattle.gs_plain.proofs.actions.open.Goals as goal
 
 pub returns-clause-acts : goal.returns-clause-acts
@@ -11,7 +12,7 @@ returns-clause-acts c =
       totals = search rules;
       seat = search rules;
       known = search rules;
-      grows = search rules;
+      rows = rw c.reserve.ensures.items (same_rows c.args.books.now.rows.items);
       counted = search rules;
       staged = rw c.in-Idle.is (omega (arith, none));
     }

@@ -1,0 +1,7 @@
+-- The setting of a store: the base of the names that it makes up, and how much it may hold.
+use Rattle.std.specs.Prelude.{ℕ, List}
+use Rattle.gs_event.specs.Datasets.{Setting}
+use Rattle.gs_core.specs.declared.limits.TheConstants.{MOST_TRIPLES, MOST_NAMES}
+
+abbrev pub setting_of : List ℕ → Setting
+setting_of base = record { base = base; limits = record { triples = MOST_TRIPLES; names = MOST_NAMES } }

@@ -1,0 +1,119 @@
+-- What a write makes of the rows and the counts.
+use Rattle.std.proofs.Common.{◌≡◌, ℕ, zero, suc, ◌+◌, ◌-◌, ◌<◌, ◌≤◌, Bool, true, false, cond, ◌&&◌, nat_le, nat_lt, List, [], ◌∷◌, ◌++◌, length, Option, Some, refl, sym, ap, ◌∙◌, subst, arith, length-append}
+use Rattle.std.specs.List.{slice_get, slice_set, fold}
+use Rattle.std.proofs.lemmas.Bool.Decides.{nat_tests}
+use Rattle.std.proofs.lemmas.List.Sums.{fold-append}
+use Rattle.gs_model.specs.Graphs.{Graph}
+use Rattle.gs_term.specs.declared.names.Target.{Target}
+use Rattle.gs_term.specs.declared.names.Target.TheVariants.{Default, Named}
+use Rattle.gs_event.specs.declared.limits.Limits.{Limits}
+use Rattle.gs_event.specs.Datasets.{Dataset, empty_dataset, with_graph, without_graph, graph_at, is_there, is_within, names_in, Setting, stored_status, is_success}
+use Rattle.gs_event.proofs.DatasetLemmas.{names_in-with_graph, names_in-without_name, names_in-some}
+use Rattle.gs_plain.specs.declared.books.Row.{Row}
+use Rattle.gs_plain.specs.Books.{after_row, dataset_of, lines_of_row, ended_row, is_default, KeepsRows}
+use Rattle.gs_plain.specs.Newest.{target_eq, AreOthers, IsLast}
+use Rattle.gs_plain.proofs.RowLemmas.{graph_at-without_graph, graph_at-after_row, at_row, same_dataset, target_eq-true}
+
+-- names by a test
+pub names_by : (m : Dataset) (t : Target) (names : ℕ) (there : Bool) → names ≡ names_in m → is_there m t ≡ there → (g : Graph) → names_in (with_graph m t g) ≡ cond there names (names + 1)
+names_by m t names there counted tests g = names_in-with_graph m t g ∙ ap (λ b. cond b (names_in m) (names_in m + 1)) tests ∙ ap (λ n. cond there n (n + 1)) (sym counted)
+
+pub lt_as_le : (a b : ℕ) → nat_lt a b ≡ nat_le (a + 1) b
+lt_as_le a b = grind (arith, nat_tests)
+
+second : (a b : Bool) → (a && b) ≡ true → b ≡ true
+second true b e = e
+second false b e = absurd (Prim.cc)
+
+pub le_true : (a b : ℕ) → nat_le a b ≡ true → a ≤ b
+le_true a b e = grind (arith, nat_tests)
+
+-- within the limits, the names are few
+pub few_names : (limits : Limits) (m : Dataset) → is_within limits m ≡ true → names_in m ≤ limits.names
+few_names limits m e = le_true (names_in m) limits.names (second _ _ e)
+
+-- rows that stay
+pub same_rows : (rows : List Row) → KeepsRows rows rows
+same_rows rows = record { grows = omega arith; same = λ i h. refl }
+
+pub get_before : {X : Type 0} (xs ys : List X) (i : ℕ) → i < length xs → slice_get (xs ++ ys) i ≡ slice_get xs i
+get_before [] ys i h = absurd (omega arith)
+get_before (x ∷ xs) ys zero h = refl
+get_before (x ∷ xs) ys (suc i) h = get_before xs ys i (omega arith)
+
+pub rows_push : (rows : List Row) (row : Row) → KeepsRows rows (rows ++ row ∷ [])
+rows_push rows row = record { grows = omega (arith, length-append rows (row ∷ [])); same = λ i h. ap lines_of_row (get_before rows (row ∷ []) i h) }
+
+same_lines : (rows : List Row) (i j : ℕ) (row : Row) → slice_get rows i ≡ Some row → lines_of_row (slice_get (slice_set rows i (ended_row row)) j) ≡ lines_of_row (slice_get rows j)
+same_lines [] i j row is = refl
+same_lines (r ∷ rows) zero zero row is = sym (ap lines_of_row is)
+same_lines (r ∷ rows) zero (suc j) row is = refl
+same_lines (r ∷ rows) (suc i) zero row is = refl
+same_lines (r ∷ rows) (suc i) (suc j) row is = same_lines rows i j row is
+
+same_length : (rows : List Row) (i : ℕ) (row : Row) → length (slice_set rows i row) ≡ length rows
+same_length [] i row = refl
+same_length (r ∷ rows) zero row = refl
+same_length (r ∷ rows) (suc i) row = ap suc (same_length rows i row)
+
+pub rows_end : (rows : List Row) (i : ℕ) (row : Row) → slice_get rows i ≡ Some row → KeepsRows rows (slice_set rows i (ended_row row))
+rows_end rows i row is = record { grows = omega (arith, same_length rows i (ended_row row)); same = λ j h. same_lines rows i j row is }
+
+-- the graph of a target after rows
+abbrev fold_at : Target → Option Graph → List Row → Option Graph
+fold_at u o [] = o
+fold_at u o (r ∷ rs) = fold_at u (at_row u r o) rs
+
+graph_at-fold : (u : Target) (m : Dataset) (rs : List Row) → graph_at (fold (λ m r. after_row m r) m rs) u ≡ fold_at u (graph_at m u) rs
+graph_at-fold u m [] = refl
+graph_at-fold u m (r ∷ rs) = graph_at-fold u (after_row m r) rs ∙ ap (λ o. fold_at u o rs) (graph_at-after_row m r u)
+
+graph_at-parts : (u : Target) (before : List Row) (row : Row) (behind : List Row) → graph_at (dataset_of (before ++ row ∷ behind)) u ≡ fold_at u (at_row u row (graph_at (dataset_of before) u)) behind
+graph_at-parts u before row behind = ap (λ m. graph_at m u) (fold-append (λ m (r : Row). after_row m r) empty_dataset before (row ∷ behind)) ∙ graph_at-fold u (dataset_of before) (row ∷ behind)
+
+past_others : (t : Target) (o : Option Graph) (rs : List Row) → AreOthers t rs → fold_at t o rs ≡ o
+past_others t o [] h = refl
+past_others t o (r ∷ rs) h = ap (λ b. fold_at t (cond b (cond r.ended (graph_at empty_dataset t) (Some r.graph)) o) rs) h.0 ∙ past_others t o rs h.1
+
+set_parts : (before : List Row) (row new : Row) (behind : List Row) → slice_set (before ++ row ∷ behind) (length before) new ≡ before ++ new ∷ behind
+set_parts [] row new behind = refl
+set_parts (r ∷ before) row new behind = ap (λ rs. r ∷ rs) (set_parts before row new behind)
+
+-- the newest row of a target is ended: the target's graph is gone, and every other is as it was
+pub dataset_end : (rows : List Row) (t : Target) (i : ℕ) (l : IsLast rows t i) → dataset_of (slice_set rows i (ended_row l.row)) ≡ without_graph (dataset_of rows) t
+dataset_end rows t i l =
+    let set : slice_set rows i (ended_row l.row) ≡ l.before ++ ended_row l.row ∷ l.behind =
+    ap (λ rs. slice_set rs i (ended_row l.row)) l.parts ∙ ap (λ n. slice_set (l.before ++ l.row ∷ l.behind) n (ended_row l.row)) l.place ∙ set_parts l.before l.row (ended_row l.row) l.behind in
+    same_dataset _ _ (λ u. ap (λ rs. graph_at (dataset_of rs) u) set ∙ graph_at-parts u l.before (ended_row l.row) l.behind ∙ at_target u (target_eq t u) refl ∙ sym (graph_at-without_graph (dataset_of rows) t u))
+  where
+    at_target : (u : Target) (b : Bool) → target_eq t u ≡ b → fold_at u (at_row u (ended_row l.row) (graph_at (dataset_of l.before) u)) l.behind ≡ cond (target_eq t u) (graph_at empty_dataset u) (graph_at (dataset_of rows) u)
+    at_target u true e =
+        let same = target_eq-true t u e in
+        let own : target_eq l.row.target u ≡ true = subst (λ x. target_eq l.row.target x ≡ true) same l.same in
+        past_others u _ l.behind (subst (λ x. AreOthers x l.behind) same l.others)
+        ∙ ap (λ b. cond b (graph_at empty_dataset u) (graph_at (dataset_of l.before) u)) own
+        ∙ sym (ap (λ b. cond b (graph_at empty_dataset u) (graph_at (dataset_of rows) u)) e)
+    at_target u false e =
+        let other : target_eq l.row.target u ≡ false = ap (λ x. target_eq x u) (target_eq-true l.row.target t l.same) ∙ e in
+        ap (λ b. fold_at u (cond b (graph_at empty_dataset u) (graph_at (dataset_of l.before) u)) l.behind) other
+        ∙ sym (ap (λ b. fold_at u (cond b (cond l.row.ended (graph_at empty_dataset u) (Some l.row.graph)) (graph_at (dataset_of l.before) u)) l.behind) other)
+        ∙ sym (graph_at-parts u l.before l.row l.behind)
+        ∙ sym (ap (λ rs. graph_at (dataset_of rs) u) l.parts)
+        ∙ sym (ap (λ b. cond b (graph_at empty_dataset u) (graph_at (dataset_of rows) u)) e)
+
+-- a target without a graph of its own loses nothing
+pub dataset_without : (m : Dataset) (t : Target) → graph_at m t ≡ graph_at empty_dataset t → m ≡ without_graph m t
+dataset_without m t none = same_dataset _ _ (λ u. at_target u (target_eq t u) refl ∙ sym (graph_at-without_graph m t u))
+  where
+    at_target : (u : Target) (b : Bool) → target_eq t u ≡ b → graph_at m u ≡ cond (target_eq t u) (graph_at empty_dataset u) (graph_at m u)
+    at_target u true e = subst (λ x. graph_at m x ≡ graph_at empty_dataset x) (target_eq-true t u e) none ∙ sym (ap (λ b. cond b (graph_at empty_dataset u) (graph_at m u)) e)
+    at_target u false e = sym (ap (λ b. cond b (graph_at empty_dataset u) (graph_at m u)) e)
+
+-- the names that go with a target
+pub names_go : (m : Dataset) (t : Target) → is_there m t ≡ true → (cond (is_default t) 0 1 ≤ names_in m) × (names_in (without_graph m t) ≡ names_in m - cond (is_default t) 0 1)
+names_go m Default there = (omega arith, omega arith)
+names_go m (Named n) there = (names_in-some m n there, names_in-without_name m n there)
+
+-- a graph that is stored has a status of success
+pub stored_well : (w : Setting) (m : Dataset) (t : Target) (g : Graph) → is_within w.limits (with_graph m t g) ≡ true → is_success (stored_status w m t g) ≡ true
+stored_well w m t g fits = ap (λ b. is_success (cond b (cond (is_there m t) 204 201) 507)) fits ∙ elim (is_there m t) as (λ b. is_success (cond b 204 201) ≡ true) [ true ↦ refl | false ↦ refl ]

@@ -1,0 +1,68 @@
+//! Names that the store makes up.
+ghost use Rattle.std.specs.Prelude.{◌≡◌, true, IfOk, string_bytes};
+ghost use Rattle.gs_model.specs.Bases.{is_base};
+ghost use Rattle.gs_event.specs.Datasets.{made_name as made_name_of, new_name as new_name_of};
+ghost use Rattle.gs_plain.specs.Books.{dataset_of, IsCounted};
+
+use crate::books::{self, Books};
+use gs_model::Refusal;
+use gs_term::{GraphName, Target};
+use itoa::Buffer;
+use std::alloc::{AllocError, Global};
+
+/// The first of the names for this request that is not in the store.
+fn new_name(books: &Books, alloc: Global, request: u64) -> Result<GraphName, AllocError>
+    requires { IsCounted books.now }
+    ensures { IfOk result (λ name. name ≡ new_name_of (string_bytes books.now.base) (dataset_of books.now.rows.items) request) }
+{
+    let base = books.base.as_str();
+    for number in 0..books.names {
+        let name = Target::Named(made_name(alloc, base, request, number)?);
+        if !books::is_there(books.rows.as_slice(), &name) {
+            return made_name(alloc, base, request, number);
+        }
+    }
+    made_name(alloc, base, request, books.names)
+}
+
+/// The same name, twice: one to keep, and one to tell.
+pub fn new_name_twice(
+    books: &Books,
+    alloc: Global,
+    request: u64,
+) -> Result<(GraphName, GraphName), AllocError>
+    requires { IsCounted books.now }
+    ensures { IfOk result (λ r. (r.0 ≡ new_name_of (string_bytes books.now.base) (dataset_of books.now.rows.items) request) × (r.1 ≡ new_name_of (string_bytes books.now.base) (dataset_of books.now.rows.items) request)) }
+{
+    let name = new_name(books, alloc, request)?;
+    let told = name.clone()?;
+    Ok((name, told))
+}
+
+/// `<base>/graphs/n<request>-<number>`.
+fn made_name(alloc: Global, base: &str, request: u64, number: u64) -> Result<GraphName, AllocError>
+    requires { is_base base.now ≡ true }
+    ensures { IfOk result (λ name. name ≡ made_name_of base.now request number) }
+{
+    let text = name_text(alloc, base, request, number)?;
+    match GraphName::new(alloc, text.as_str()) {
+        Ok(name) => Ok(name),
+        Err(refusal) => match refusal {
+            Refusal::NoMemory => Err(AllocError),
+            _ => unreachable!(),
+        },
+    }
+}
+
+fn name_text(alloc: Global, base: &str, request: u64, number: u64) -> Result<String, AllocError>
+    ensures { IfOk result (λ text. string_bytes text ≡ made_name_of base.now request number) }
+{
+    let mut first = Buffer::new();
+    let mut second = Buffer::new();
+    let mut text = String::from_str(alloc, base)?;
+    text.push_str("/graphs/n")?;
+    text.push_str(first.format(request))?;
+    text.push_str("-")?;
+    text.push_str(second.format(number))?;
+    Ok(text)
+}
