@@ -6,6 +6,56 @@ import sys
 
 LAST_NUMBER = 999_999_999_999_999_999
 NO_MEMORY = "refused NoMemory"
+CODE = r"\\u[0-9A-Fa-f]{4}|\\U[0-9A-Fa-f]{8}"
+IRI = rf'<([A-Za-z][A-Za-z0-9+.-]*:(?:[^\x00-\x20<>"{{}}|^`\\]|{CODE})*)>'
+LABEL = r"_:(\w(?:[\w.-]*[\w-])?)"
+LITERAL = rf'"((?:[^"\\\n\r]|\\[tbnrf"\'\\]|{CODE})*)"(?:@([A-Za-z]+(?:-[A-Za-z0-9]+)*)|\^\^{IRI})?'
+STATEMENT = re.compile(rf"\s*(?:{IRI}|{LABEL})\s*{IRI}\s*(?:{IRI}|{LABEL}|{LITERAL})\s*\.")
+EXCLUDED = r'[\x00-\x20<>"{}|^`\\]'
+LETTERS = {"t": "\t", "b": "\b", "n": "\n", "r": "\r", "f": "\f"}
+
+
+def decoded(text, excluded=None):
+    """What a text with escapes means; `chr` and `encode` refuse what is no character."""
+    meant = re.sub(r"\\(?:[uU]([0-9A-Fa-f]+)|(.))", lambda it: chr(int(it[1], 16)) if it[1] else LETTERS.get(it[2], it[2]), text)
+    meant.encode()
+    if excluded and re.search(excluded, meant):
+        raise ValueError
+    return meant
+
+
+def iri(text):
+    return f"<{decoded(text, EXCLUDED)}>"
+
+
+def written(text):
+    for plain, escape in (("\\", "\\\\"), ('"', '\\"'), ("\n", "\\n"), ("\r", "\\r")):
+        text = text.replace(plain, escape)
+    return text
+
+
+def statements(text, request):
+    """The lines of the complete statements of an N-Triples text, and whether it is a document."""
+    lines, labels, at = [], {}, 0
+
+    def node(name, label):
+        if label is not None:
+            return f"_:b{request}_{labels.setdefault(label, len(labels) + 1)}"
+        return iri(name)
+
+    while text[at:].strip():
+        found = STATEMENT.match(text, at)
+        if not found:
+            return lines, False
+        subject, label, predicate, thing, other, lexical, tag, datatype = found.groups()
+        try:
+            last = f'"{written(decoded(lexical))}"' if lexical is not None else node(thing, other)
+            last += f"@{tag.lower()}" if tag else f"^^{iri(datatype)}" if datatype else ""
+            lines.append(f"{node(subject, label)} {iri(predicate)} {last} .")
+        except (ValueError, OverflowError):
+            return lines, False
+        at = found.end()
+    return lines, True
 
 
 def worked_schedules(path):
@@ -13,7 +63,7 @@ def worked_schedules(path):
     source = open(path, encoding="utf-8").read()
     table = source[source.index("const ROWS"):]
     texts = re.findall(r'"((?:[^"\\]|\\.)*)"', table[:table.index("];")])
-    texts = [it.replace("\\n", "\n").replace('\\"', '"') for it in texts]
+    texts = [re.sub(r"\\(.)", lambda it: {"n": "\n", "t": "\t"}.get(it[1], it[1]), it) for it in texts]
     return [tuple(texts[i:i + 3]) for i in range(0, len(texts), 3)]
 
 
@@ -24,6 +74,7 @@ class Store:
         self.seats, self.commit, self.request = seats, commit, request
         self.graphs = {"default": set()}
         self.phases = {}
+        self.fed = {}
 
     def counts(self):
         current = sum(len(it) for it in self.graphs.values())
@@ -44,6 +95,26 @@ class Store:
         while f"<http://localhost/graphs/n{request}-{k}>" in self.graphs:
             k += 1
         return f"<http://localhost/graphs/n{request}-{k}>"
+
+    def feed(self, seat, text, is_refused):
+        """The line that a feed prints; where its Stage is refused, what it completed is dropped."""
+        if seat >= self.seats:
+            return "refused BadSeat"
+        phase = self.phases.get(seat, ("idle",))
+        if phase[0] != "writing":
+            return "refused WrongPhase"
+        before = self.fed.get(seat, "")
+        if before is None:
+            return "fed"
+        told, _ = statements(before, phase[3])
+        all_told, is_document = statements(before + text + "\n", phase[3])
+        self.fed[seat] = before + text + "\n"
+        new = all_told[len(told):] if is_document else []
+        if is_refused:
+            assert new, "a feed that stages nothing"
+            return NO_MEMORY
+        self.phases[seat] = phase[:4] + (phase[4] | set(new),)
+        return "fed"
 
     def commit_upload(self, kind, target, request, upload):
         """The status of a commit, and the name that was made up."""
@@ -87,9 +158,16 @@ class Store:
             self.phases[seat] = phase[:4] + (phase[4] | {line.split(" ", 2)[2]},)
             return ["staged"]
         if action == "commit":
-            told = self.commit_upload(*phase[1:])
-            if not told.startswith("refused"):
+            if not statements(self.fed.get(seat) or "", phase[3])[1]:
                 self.phases[seat] = ("idle",)
+                self.fed.pop(seat)
+                return ["fault 400"]
+            told = self.commit_upload(*phase[1:])
+            if told.startswith("refused"):
+                self.fed[seat] = None
+            else:
+                self.phases[seat] = ("idle",)
+                self.fed.pop(seat, None)
             return [told]
         if action == "delete":
             return [self.delete(words[2])]
@@ -105,6 +183,7 @@ class Store:
             self.phases[seat] = ("reading", left) if left else ("idle",)
             return told + ["more" if left else "end"]
         self.phases[seat] = ("idle",)
+        self.fed.pop(seat, None)
         return ["cancelled"]
 
 
@@ -118,12 +197,18 @@ def refusals(schedule, printed):
         if words[0] == "store":
             store = Store(*map(int, words[1:]))
             continue
+        if words[0] == "cut":
+            continue
         if not printed:
             return count, False
         if words[0] == "counts":
             want = [store.counts()]
         elif words[0] == "reclaim":
             want = ["reclaimed 0 done"]
+        elif words[1] == "feed":
+            is_refused = printed[0] == NO_MEMORY
+            want = [store.feed(int(words[0]), line.split(" ", 3)[3], is_refused)]
+            count += is_refused
         elif printed[0] == NO_MEMORY:
             assert store.may_want_memory(int(words[0]), words), f"{line}: {NO_MEMORY}"
             want, count = [NO_MEMORY], count + 1

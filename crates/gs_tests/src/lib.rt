@@ -11,3 +11,5 @@ mod runs;
 mod schedules;
 #[cfg(test)]
 mod terms;
+#[cfg(test)]
+mod tokens;

@@ -23,7 +23,7 @@ pub fn replay(alloc: Global, input: &str) -> Played {
 /// A worked schedule: its name, its lines and what they print.
 pub type Row = (&'static str, &'static str, &'static str);
 
-pub const ROWS: [Row; 18] = [
+pub const ROWS: [Row; 19] = [
     ("an empty input", "", ""),
     (
         "a missing graph and the default graph",
@@ -109,6 +109,11 @@ pub const ROWS: [Row; 18] = [
         "a deleted default graph is empty and still there",
         "0 open put default\n0 stage <http://e/s> <http://e/p> \"1\" .\n0 commit\n1 pin default\n0 delete default\n0 head default\n0 pin default\n0 piece 1\n1 piece 1\n0 delete default\ncounts\n",
         "opened 1\nstaged\n204\n200\n204\n200\n200\nend\n<http://e/s> <http://e/p> \"1\" .\nend\n204\nnodes 0 triples 0\n",
+    ),
+    (
+        "a graph is deleted under a read, and another gets a new name",
+        "0 open post <http://e/g>\n0 stage <http://e/s> <http://e/p> \"1\" .\n0 commit\n1 pin <http://e/g>\n0 delete <http://e/g>\n1 piece 9\n1 pin <http://e/g>\n0 delete <http://e/g>\n0 open new\n0 commit\n",
+        "opened 1\nstaged\n201\n200\n204\n<http://e/s> <http://e/p> \"1\" .\nend\n404\n404\nopened 2\n201 http://localhost/graphs/n2-0\n",
     ),
 ];
 
