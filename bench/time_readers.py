@@ -1,5 +1,5 @@
 #!/usr/bin/env python3
-"""The median time of five runs of each reader: time_readers.py PROGRAM FILE TRIPLES."""
+"""The median time of five runs of each reader: time_readers.py PROGRAM FILE TRIPLES [tokens]."""
 import os
 import shutil
 import subprocess
@@ -32,12 +32,13 @@ def report(name, command, stdin, size, count):
 
 def main():
     program, file, count = sys.argv[1], sys.argv[2], int(sys.argv[3])
+    tokens = sys.argv[4:] == ["tokens"]
     size = os.path.getsize(file)
-    ours = report("gs_bench", [program, "65536"], file, size, count)
+    ours = report("gs_bench", [program] + (["tokens"] if tokens else []) + ["65536"], file, size, count)
     if shutil.which("serdi") is None:
         print("serdi is not installed (Debian: apt-get install serdi)")
         return
-    theirs = report("serdi", ["serdi", "-i", "ntriples", "-o", "ntriples", file], file, size, count)
+    theirs = report("serdi", ["serdi", "-i", "turtle" if tokens else "ntriples", "-o", "ntriples", file], file, size, count)
     print(f"ratio: {theirs / ours:.2f} times the triples a second of serdi")
 
 

@@ -1,6 +1,6 @@
 -- Laws of automata: what the longest token at the front of a text is.
-use Rattle.std.proofs.Common.{◌≡◌, ◌≢◌, ℕ, zero, suc, ◌+◌, ◌<◌, ◌≤◌, List, [], ◌∷◌, ◌++◌, refl, sym, ap, ◌∙◌, arith, subst, append_assoc, append-nil, length, length-append, Option, Some, None}
-use Rattle.gs_lex.specs.Automata.{Automaton, run_from, run, kind_at, Accepts, Found, found_behind, longest_from, longest}
+use Rattle.std.proofs.Common.{◌≡◌, ◌≢◌, ◌<◌, ◌≤◌, List, [], ◌∷◌, ◌++◌, refl, sym, ap, ◌∙◌, arith, subst, length, length-append, Option, Some, None}
+use Rattle.gs_lex.specs.Automata.{Automaton, run_from, kind_at, Found, found_behind, longest_from}
 
 -- what is found in a text that goes on with y
 abbrev pub onward : {K I : Type 0} → List I → Found K I → Found K I
@@ -82,7 +82,7 @@ Best {K = K} {I = I} a q x None = (j : K) (v s : List I) → x ≡ v ++ s → v 
 Best {K = K} {I = I} a q x (Some t) =
     (kind_at a (run_from a q t.1) ≡ Some t.0) × ((j : K) (v s : List I) → x ≡ v ++ s → kind_at a (run_from a q v) ≡ Some j → length v ≤ length t.1)
 
-nonempty : {I : Type 0} (i : I) (is : List I) → i ∷ is ≢ []
+pub nonempty : {I : Type 0} (i : I) (is : List I) → i ∷ is ≢ []
 nonempty i is e = Prim.cc
 
 most_some : {Q K I : Type 0} (a : Automaton Q K I) (q : Q) (i : I) (is : List I) (w : List I)

@@ -1,7 +1,7 @@
 -- The check that what is left of each terminal follows the automaton.
-use Rattle.std.proofs.Common.{◌≡◌, ℕ, Bool, true, false, cond, List, [], ◌∷◌, refl, Option, Some, None}
+use Rattle.std.proofs.Common.{◌≡◌, ℕ, Bool, true, false, List, [], ◌∷◌, refl, Option, Some, None}
 use Rattle.std.specs.Prelude.{◌==◌, ◌&&◌}
-use Rattle.gs_lex.specs.Regexes.{Regex, Never, Empty, One, Then, Or, Many}
+use Rattle.gs_lex.specs.Regexes.{Never, Empty, One, Then, Or, Many}
 use Rattle.gs_lex.specs.Terminals.{Chars, Pattern, holds, Less, Greater, Quote, Apostrophe, Backslash, Colon, Underscore, AtSign, Dash, Dot, Percent, Caret, Semicolon, Comma, OpenBracket, CloseBracket, OpenParenthesis, CloseParenthesis, OpenBrace, CloseBrace, VariableMark, SmallU, BigU, IriChar, ShortQuoteChar, ShortApostropheChar, LongQuoteChar, LongApostropheChar, Echar, Hex, Digit, Sign, ExponentLetter, Alpha, Alphanumeric, Base, NameChar, LabelStart, LocalStart, LocalChar, LocalEscape, VariableChar}
 use Rattle.gs_lex.specs.States.{next, accepts}
 use Rattle.gs_lex.specs.declared.kinds.Terminal.{Terminal}

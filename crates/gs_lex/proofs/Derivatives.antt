@@ -1,7 +1,7 @@
 -- Derivatives of regular expressions: what may follow a character.
-use Rattle.std.proofs.Common.{◌≡◌, ◌≢◌, ℕ, Bool, true, false, cond, List, [], ◌∷◌, ◌++◌, refl, sym, ap, ◌∙◌, subst}
+use Rattle.std.proofs.Common.{◌≡◌, ℕ, Bool, true, false, cond, List, [], ◌∷◌, ◌++◌, refl, sym, ap, ◌∙◌, subst}
 use Rattle.std.specs.Prelude.{◌&&◌, ◌||◌}
-use Rattle.gs_lex.specs.Regexes.{Regex, Never, Empty, One, Then, Or, Many, Matches, empty, one, both, left, right, stop, more}
+use Rattle.gs_lex.specs.Regexes.{Never, Empty, One, Then, Or, Many, Matches, empty, one, both, left, right, stop, more}
 use Rattle.gs_lex.specs.Terminals.{Chars, Pattern}
 
 -- whether the empty text matches

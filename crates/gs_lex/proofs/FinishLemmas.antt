@@ -1,21 +1,19 @@
 -- How a text ends.
-use Rattle.std.proofs.Common.{◌≡◌, ℕ, Bool, true, false, List, [], ◌∷◌, ◌++◌, refl, sym, ap, ◌∙◌, subst, append-nil, drop}
-use Rattle.gs_lex.specs.Scans.{IsScanned}
+use Rattle.std.proofs.Common.{◌≡◌, ℕ, Bool, true, false, List, [], ◌++◌, refl, sym, ap, subst, append-nil, drop}
+use Rattle.std.proofs.lemmas.Str.{IsUtf8-nil}
 use Rattle.gs_lex.specs.Tokens.{Ending, Whole, Fault, Lexeme, IsCut}
-use Rattle.gs_lex.specs.Readings.{CutFrom, Fails, Went, HasHalted, first_of}
+use Rattle.gs_lex.specs.Readings.{CutFrom, Fails, IsRead, Went, HasHalted, first_of}
 use Rattle.gs_lex.specs.Lexers.{Leads, Finishes}
 use Rattle.gs_lex.specs.declared.lexers.Lexer.{Lexer}
 use Rattle.gs_lex.specs.declared.readings.Halt.{Halt}
 use Rattle.gs_lex.specs.declared.readings.Halt.TheVariants as halt
 use Rattle.gs_lex.specs.declared.steps.Reading.{Reading}
 use Rattle.gs_lex.specs.declared.tokens.Token.{Token}
-use Rattle.gs_lex.proofs.ScanLemmas.{scan-fresh}
+use Rattle.gs_lex.proofs.BarrenLemmas.{read-end, read-fresh}
 
 -- what is held is read from its start
-pub held-scanned : (u : Bool) (l : Lexer) (x : List ℕ) (ts : List Lexeme) → Leads u l x ts → l.at.cut ≡ 0 → IsScanned l.at.updates (drop l.at.cut l.held.items) l.at.scan
-held-scanned u l x ts h k =
-    subst (λ z. IsScanned z (drop l.at.cut l.held.items) l.at.scan) (sym h.reads)
-    (subst (λ n. IsScanned u (drop n l.held.items) l.at.scan) (sym k) h.scanned)
+pub held-read : (u : Bool) (l : Lexer) (x : List ℕ) (ts : List Lexeme) → Leads u l x ts → l.at.cut ≡ 0 → IsRead true l.at (drop l.at.cut l.held.items)
+held-read u l x ts h k = subst (λ n. IsRead true l.at (drop n l.held.items)) (sym k) (read-end l.at l.held.items h.read)
 
 pub finish-as : (u : Bool) (l : Lexer) (x : List ℕ) (ts : List Lexeme) (r : Reading) (old new : List Token) (e : Ending) → Leads u l x ts → l.at.cut ≡ 0
     → Went true l.held.items l.at r old new → CutFrom r (drop r.cut l.held.items) [] e → Finishes u x ts e old new
@@ -37,14 +35,14 @@ halted-fault x r h e k = fails-at r (drop r.cut x) (subst (HasHalted true x r) e
 pub halted-end : (x : List ℕ) (r : Reading) (h : Halt) → (h ≡ halt.Fault → ⊥) → HasHalted true x r h → CutFrom r (drop r.cut x) [] Whole
 halted-end x r halt.Fault n k = absurd (n refl)
 halted-end x r halt.End n k = k.1
-halted-end x r halt.Wait n k = Prim.cc k
+halted-end x r halt.Wait n k = Prim.cc (k.0)
 
 -- of the text that is held
 pub of-held : (l : Lexer) (text : List ℕ) (r : Reading) (h : Halt) (old new : List Token) → text ≡ l.held.items
-    → (IsScanned l.at.updates (drop l.at.cut text) l.at.scan → Went true text l.at r old new × HasHalted true text r h)
-    → IsScanned l.at.updates (drop l.at.cut l.held.items) l.at.scan → Went true l.held.items l.at r old new × HasHalted true l.held.items r h
+    → (IsRead true l.at (drop l.at.cut text) → Went true text l.at r old new × HasHalted true text r h)
+    → IsRead true l.at (drop l.at.cut l.held.items) → Went true l.held.items l.at r old new × HasHalted true l.held.items r h
 of-held l text r h old new e f =
-    let P : List ℕ → Type 0 = λ z. IsScanned l.at.updates (drop l.at.cut z) l.at.scan → Went true z l.at r old new × HasHalted true z r h in
+    let P : List ℕ → Type 0 = λ z. IsRead true l.at (drop l.at.cut z) → Went true z l.at r old new × HasHalted true z r h in
     subst P e f
 
 -- a lexer at the start of a text
@@ -52,6 +50,9 @@ pub leads-fresh : (u : Bool) (l : Lexer) → l.is_closed ≡ false → l.held.it
 leads-fresh u l h k e = record {
   open_ = h;
   reads = ap (λ (r : Reading). r.updates) e;
-  scanned = subst (λ (r : Reading). IsScanned u l.held.items r.scan) (sym e) (scan-fresh u l.held.items);
+  read = subst (λ (r : Reading). IsRead false r l.held.items) (sym e) (read-fresh u l.held.items);
+  before = [];
+  parts = sym k;
+  characters = IsUtf8-nil;
   rest = λ y us end t. subst (λ z. IsCut u (z ++ y) us end) k (subst (λ (r : Reading). CutFrom r (l.held.items ++ y) us end) e t);
 }

@@ -3,8 +3,13 @@ pub mod AutomatonLemmas
 pub mod ScanLemmas
 pub mod TerminalLemmas
 pub mod LongestLemmas
+pub mod BarrenLemmas
 pub mod StepLemmas
+pub mod RunLemmas
 pub mod ReadLemmas
+pub mod WayLemmas
+pub mod SettledLemmas
+pub mod FeedLemmas
 pub mod FinishLemmas
 pub mod Derivatives
 pub mod Residuals
@@ -13,3 +18,4 @@ pub mod NextLemmas
 pub mod Checks
 pub mod Codes
 pub mod OneCutLemmas
+pub mod SpanLemmas

@@ -1,19 +1,18 @@
 -- What a scan tells of the longest token at the front of a text.
-use Rattle.std.proofs.Common.{◌≡◌, ◌≢◌, ℕ, zero, suc, ◌+◌, ◌<◌, ◌≤◌, Bool, true, false, List, [], ◌∷◌, ◌++◌, refl, sym, ap, ◌∙◌, arith, subst, append_assoc, append-nil, length, length-append, Option, Some, None, take, drop, encode_utf8, encode_utf8_all, ◌&&◌}
+use Rattle.std.proofs.Common.{◌≡◌, ◌≢◌, ℕ, ◌<◌, ◌≤◌, Bool, true, false, List, [], ◌∷◌, ◌++◌, refl, sym, ap, ◌∙◌, arith, subst, append_assoc, length, length-append, Some, None, take, drop, encode_utf8, encode_utf8_all, ◌&&◌}
 use Rattle.std.proofs.lemmas.Str.{encode_same, encodes-append, len_utf8_bounds, length-encode}
 use Rattle.std.specs.Char.{IsScalar}
 use Rattle.std.specs.Str.{all_scalars}
 use lib.Utf8.{scalar}
 use Rattle.gs_lex.specs.Automata.{Found, Accepts, run, run_from, kind_at, longest}
-use Rattle.gs_lex.specs.States.{tokens, next, start_of, accepts}
-use Rattle.gs_lex.specs.Scans.{IsBest, IsScanned, IsStuck}
-use Rattle.gs_lex.specs.Terminals.{IsTerminal}
+use Rattle.gs_lex.specs.States.{tokens, start_of}
+use Rattle.gs_lex.specs.Scans.{IsBest, IsScanned, IsBarren}
 use Rattle.gs_lex.specs.Tokens.{Longest, NoTerminal}
 use Rattle.gs_lex.specs.declared.kinds.Terminal.{Terminal}
 use Rattle.gs_lex.specs.declared.states.State.{State}
 use Rattle.gs_lex.specs.declared.scans.Scan.{Scan}
-use Rattle.gs_lex.proofs.AutomatonLemmas.{then_next, run-append, none-stays, Best, best, Split, IsSplit, longest-split}
-use Rattle.gs_lex.proofs.ScanLemmas.{scan-after, and_both}
+use Rattle.gs_lex.proofs.AutomatonLemmas.{run-append, Best, best, IsSplit, longest-split}
+use Rattle.gs_lex.proofs.ScanLemmas.{and_both}
 use Rattle.gs_lex.proofs.TerminalLemmas.{accepted-terminal, terminal-accepted}
 
 -- of two lists of characters at the front of one text, one begins with the other
@@ -48,17 +47,23 @@ scalars-front (c ∷ v) d h =
 pub record IsAll (u : Bool) (cs z : List ℕ) : Type 0 where
   pub all : (t : Terminal) (v s : List ℕ) → encode_utf8_all cs ++ z ≡ encode_utf8_all v ++ s → all_scalars v ≡ true → Accepts (tokens u) t v → (d : List ℕ) × (cs ≡ v ++ d)
 
-all_compared : (u : Bool) (cs z : List ℕ) (q : State) → run (tokens u) cs ≡ Some q → IsStuck q z → (t : Terminal) (v s : List ℕ) → Compared v cs s z → all_scalars v ≡ true
+pub scalars-back : (v d : List ℕ) → all_scalars (v ++ d) ≡ true → all_scalars d ≡ true
+scalars-back [] d h = h
+scalars-back (c ∷ v) d h = scalars-back v d (and_both (scalar c) (all_scalars (v ++ d)) h).1
+
+list_some : (c : ℕ) (v : List ℕ) → c ∷ v ≢ []
+list_some c v e = Prim.cc e
+
+all_compared : (u : Bool) (cs z : List ℕ) (q : State) → run (tokens u) cs ≡ Some q → IsBarren u q z → (t : Terminal) (v s : List ℕ) → Compared v cs s z → all_scalars v ≡ true
     → Accepts (tokens u) t v → (d : List ℕ) × (cs ≡ v ++ d)
 all_compared u cs z q h k t v s (within d p) g a = (d, p)
 all_compared u cs z q h k t v s (beyond c d p e) g a =
-    let dead : next q c ≡ None = k c (encode_utf8_all d ++ s) (scalar-middle cs c d (ap all_scalars (sym p) ∙ g)) e in
-    let stops : run (tokens u) v ≡ None =
-    ap (run (tokens u)) p ∙ run-append (tokens u) (Some (tokens u).start) cs (c ∷ d) ∙ ap (λ o. run_from (tokens u) o (c ∷ d)) h
-    ∙ ap (λ o. run_from (tokens u) o d) dead ∙ none-stays (tokens u) d in
-    absurd (Prim.cc (sym (ap (kind_at (tokens u)) stops) ∙ a))
+    let goes : run (tokens u) v ≡ run_from (tokens u) (Some q) (c ∷ d) =
+    ap (run (tokens u)) p ∙ run-append (tokens u) (Some (tokens u).start) cs (c ∷ d) ∙ ap (λ o. run_from (tokens u) o (c ∷ d)) h in
+    absurd (k t (c ∷ d) s (e ∙ sym (append_assoc (encode_utf8 c) (encode_utf8_all d) s)) (scalars-back cs (c ∷ d) (ap all_scalars (sym p) ∙ g)) (list_some c d)
+    (sym (ap (kind_at (tokens u)) goes) ∙ a))
 
-pub stuck-all : (u : Bool) (cs z : List ℕ) (q : State) → run (tokens u) cs ≡ Some q → IsStuck q z → IsAll u cs z
+pub stuck-all : (u : Bool) (cs z : List ℕ) (q : State) → run (tokens u) cs ≡ Some q → IsBarren u q z → IsAll u cs z
 stuck-all u cs z q h k = record { all = λ t v s p g a. all_compared u cs z q h k t v s (compare v cs s z (sym p)) g a }
 
 pub no_start : (u : Bool) (t : Terminal) → Accepts (tokens u) t [] → ⊥
@@ -77,12 +82,12 @@ take_front : (v w : List ℕ) → take (length v) (v ++ w) ≡ v
 take_front [] w = refl
 take_front (c ∷ v) w = ap (λ z. c ∷ z) (take_front v w)
 
-drop_front : (v w : List ℕ) → drop (length v) (v ++ w) ≡ w
+pub drop_front : (v w : List ℕ) → drop (length v) (v ++ w) ≡ w
 drop_front [] w = refl
 drop_front (c ∷ v) w = drop_front v w
 
 -- a character has some bytes
-some_bytes : (w : List ℕ) → 0 < length w → 0 < length (encode_utf8_all w)
+pub some_bytes : (w : List ℕ) → 0 < length w → 0 < length (encode_utf8_all w)
 some_bytes [] h = absurd (omega arith)
 some_bytes (c ∷ w) h = omega (arith, length-append (encode_utf8 c) (encode_utf8_all w), length-encode c, (len_utf8_bounds c).0)
 

@@ -1,9 +1,8 @@
 -- Alike characters lead the automaton alike.
-use Rattle.std.proofs.Common.{◌≡◌, ℕ, refl, sym, ap, ◌∙◌, Option, Some, None}
+use Rattle.std.proofs.Common.{◌≡◌, ℕ, refl}
 use Rattle.gs_lex.specs.States.{next, at_start, at_update_start, punctuation, inside, escaped, local}
 use Rattle.gs_lex.specs.declared.states.State.{State}
 use Rattle.gs_lex.specs.declared.states.State.TheVariants as at
-use Rattle.gs_lex.specs.declared.states.Mark.{Mark}
 use Rattle.gs_lex.specs.declared.states.Mark.TheVariants as mark
 use Rattle.gs_lex.specs.declared.states.Text.{Text}
 use Rattle.gs_lex.specs.declared.states.Text.TheVariants as text

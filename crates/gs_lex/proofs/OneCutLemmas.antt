@@ -1,17 +1,14 @@
 -- A text is cut in one way.
-use Rattle.std.proofs.Common.{◌≡◌, ◌≢◌, ℕ, zero, suc, ◌+◌, ◌<◌, ◌≤◌, Bool, true, false, List, [], ◌∷◌, ◌++◌, refl, sym, ap, ◌∙◌, arith, subst, append-nil, length, length-append, Option, Some, None, drop, encode_utf8, encode_utf8_all, ◌⊎◌, inl, inr, append_assoc}
+use Rattle.std.proofs.Common.{◌≡◌, ◌≢◌, ℕ, ◌<◌, Bool, true, false, List, [], ◌∷◌, ◌++◌, refl, sym, ap, ◌∙◌, arith, subst, append-nil, length, length-append, Option, Some, None, drop, encode_utf8, encode_utf8_all, ◌⊎◌, inl, inr, append_assoc}
 use Rattle.std.proofs.lemmas.Bool.Decides.{nat_tests}
 use Rattle.std.proofs.lemmas.Str.{encode_same, length-encode, len_utf8_bounds}
 use Rattle.std.proofs.str.Laws.{one}
-use Rattle.std.specs.Prelude.{◌==◌, ◌||◌}
-use Rattle.std.specs.Char.{IsScalar}
 use Rattle.std.specs.Str.{StartsWithNoChar}
 use Rattle.gs_machine.proofs.Encodings.{scalar_from}
 use Rattle.gs_lex.specs.Automata.{Accepts, run, run_from, kind_at}
 use Rattle.gs_lex.specs.Classes.{is_ws, is_line_end}
 use Rattle.gs_lex.specs.States.{tokens, next, start_of}
-use Rattle.gs_lex.specs.Tokens.{Cut, Mode, Between, InComment, Ending, Whole, Fault, Lexeme, lexeme_at, behind, kind_of, Longest, NoTerminal, EndsLine, ended, space, hash, comment, line_end, bad_comment, token, no_kind, no_token}
-use Rattle.gs_lex.specs.declared.kinds.Kind.{Kind}
+use Rattle.gs_lex.specs.Tokens.{Cut, Mode, Between, InComment, Ending, Lexeme, lexeme_at, behind, kind_of, Longest, NoTerminal, EndsLine, ended, space, hash, comment, line_end, bad_comment, token, no_kind, no_token}
 use Rattle.gs_lex.specs.declared.kinds.Terminal.{Terminal}
 use Rattle.gs_lex.proofs.AutomatonLemmas.{none-stays}
 use Rattle.gs_lex.proofs.LongestLemmas.{Compared, within, beyond, compare, no_start}

@@ -1,42 +1,57 @@
 -- What a reading has gone over.
-use Rattle.std.proofs.Common.{◌≡◌, ℕ, ◌+◌, ◌-◌, ◌<◌, ◌≤◌, Bool, true, false, List, [], ◌∷◌, ◌++◌, refl, sym, ap, ◌∙◌, arith, subst, append_assoc, append-nil, length, length-append, length-drop, take, drop}
+use Rattle.std.proofs.Common.{◌≡◌, ℕ, ◌+◌, ◌-◌, ◌<◌, ◌≤◌, Bool, List, [], ◌∷◌, ◌++◌, refl, sym, ap, ◌∙◌, arith, subst, append_assoc, append-nil, length, length-drop, take, drop}
+use Rattle.std.proofs.Math.ListN.{take-append-drop}
 use Rattle.std.proofs.lemmas.List.{drop-drop}
-use Rattle.gs_lex.specs.Scans.{IsScanned, fresh}
-use Rattle.gs_lex.specs.Tokens.{Cut, Between, Ending, Lexeme, lexeme_at, behind}
+use Rattle.std.proofs.lemmas.Str.{IsUtf8-nil, IsUtf8-append}
+use Rattle.gs_lex.specs.Scans.{IsScanned, IsBarrenTo}
+use Rattle.gs_lex.specs.Tokens.{Cut, Between, lexeme_at, behind}
 use Rattle.gs_lex.specs.Lexemes.{lexemes_of}
-use Rattle.gs_lex.specs.Readings.{Passes, Gives, CutFrom, MayFollow, Went, Grows, IsWithin, passed_of, behind_of, mode_of, bit}
+use Rattle.gs_lex.specs.Readings.{Passes, Gives, CutFrom, IsRead, Went, Grows, IsWithin, passed_of, behind_of, mode_of, bit}
 use Rattle.gs_lex.specs.declared.kinds.Kind.{Kind}
 use Rattle.gs_lex.specs.declared.scans.Scan.{Scan}
 use Rattle.gs_lex.specs.declared.steps.Reading.{Reading}
 use Rattle.gs_lex.specs.declared.tokens.Token.{Token}
 use Rattle.gs_lex.proofs.ScanLemmas.{scan-fresh}
+use Rattle.gs_lex.proofs.BarrenLemmas.{barren-none}
 
 drop_more : (m n : ℕ) (x : List ℕ) → m ≤ length x → drop n (drop m x) ≡ drop (m + n) x
 drop_more m n x h = drop-drop n m x
 
-pub went-nothing : (is_end : Bool) (x : List ℕ) (r : Reading) (old : List Token) → IsScanned r.updates (drop r.cut x) r.scan → Went is_end x r r old old
-went-nothing is_end x r old h = record { added = []; given = sym (append-nil (lexemes_of old)); mode = refl; scanned = h; cut = λ y ts e m t. t }
+parts_more : (from r : Reading) (x : List ℕ) (count : ℕ) (before : List ℕ) → r.cut ≤ length x → drop from.cut x ≡ before ++ drop r.cut x
+    → drop from.cut x ≡ (before ++ take count (drop r.cut x)) ++ drop (r.cut + count) x
+parts_more from r x count before l p =
+    p ∙ ap (λ z. before ++ z) (sym (take-append-drop count (drop r.cut x)) ∙ ap (λ z. take count (drop r.cut x) ++ z) (drop_more r.cut count x l))
+    ∙ sym (append_assoc before (take count (drop r.cut x)) (drop (r.cut + count) x))
+
+pub went-nothing : (is_end : Bool) (x : List ℕ) (r : Reading) (old : List Token) → IsRead is_end r (drop r.cut x) → Went is_end x r r old old
+went-nothing is_end x r old h = record { added = []; given = sym (append-nil (lexemes_of old)); before = []; parts = refl; characters = IsUtf8-nil; mode = refl; read = h; cut = λ y ts e m t. t }
 
 pub went-passed : (is_end : Bool) (x : List ℕ) (from r : Reading) (old new : List Token) (count : ℕ) (c : Bool) → r.cut ≤ length x → Went is_end x from r old new
     → Passes is_end r (drop r.cut x) count c → Went is_end x from (passed_of r count c) old new
 went-passed is_end x from r old new count c l w p = record {
   added = w.added;
   given = w.given;
+  before = w.before ++ take count (drop r.cut x);
+  parts = parts_more from r x count w.before l w.parts;
+  characters = IsUtf8-append w.before (take count (drop r.cut x)) w.characters p.characters;
   mode = w.mode;
-  scanned = scan-fresh r.updates (drop (r.cut + count) x);
+  read = record { scanned = scan-fresh r.updates (drop (r.cut + count) x); barren = barren-none is_end r.updates (drop (r.cut + count) x) };
   cut = λ y ts e m t. w.cut y ts e m (p.cut y ts e m
       (subst (λ z. Cut r.updates (mode_of c) (behind r.place count) r.last (z ++ y) ts e) (sym (drop_more r.cut count x l)) t));
 }
 
-pub went-found : (is_end : Bool) (x : List ℕ) (from r : Reading) (old new newer : List Token) (k : Kind) (count : ℕ) → r.cut ≤ length x → Went is_end x from r old new
-    → Gives is_end r (drop r.cut x) k count → lexemes_of newer ≡ lexemes_of new ++ lexeme_at k r.place (take count (drop r.cut x)) ∷ [] → Went is_end x from (behind_of r count) old newer
-went-found is_end x from r old new newer k count l w g p =
+pub went-found : (is_end : Bool) (x : List ℕ) (from r : Reading) (old new newer : List Token) (k : Kind) (count b : ℕ) → r.cut ≤ length x → Went is_end x from r old new
+    → Gives is_end r (drop r.cut x) k count b → lexemes_of newer ≡ lexemes_of new ++ lexeme_at k r.place (take count (drop r.cut x)) ∷ [] → Went is_end x from (behind_of r count b) old newer
+went-found is_end x from r old new newer k count b l w g p =
     let lex = lexeme_at k r.place (take count (drop r.cut x)) in
     record {
       added = w.added ++ lex ∷ [];
       given = p ∙ ap (λ z. z ++ lex ∷ []) w.given ∙ append_assoc (lexemes_of old) w.added (lex ∷ []);
+      before = w.before ++ take count (drop r.cut x);
+      parts = parts_more from r x count w.before l w.parts;
+      characters = IsUtf8-append w.before (take count (drop r.cut x)) w.characters g.characters;
       mode = w.mode;
-      scanned = scan-fresh r.updates (drop (r.cut + count) x);
+      read = record { scanned = scan-fresh r.updates (drop (r.cut + count) x); barren = subst (λ z. IsBarrenTo is_end r.updates z b) (drop_more r.cut count x l) g.stays };
       cut = λ y ts e m t. subst (λ z. CutFrom from (drop from.cut x ++ y) z e) (sym (append_assoc w.added (lex ∷ []) ts))
           (w.cut y (lex ∷ ts) e m (g.cut y ts e m
           (subst (λ z. Cut r.updates Between (behind r.place count) (behind r.place count) (z ++ y) ts e) (sym (drop_more r.cut count x l)) t)));
@@ -44,10 +59,10 @@ went-found is_end x from r old new newer k count l w g p =
 
 pub went-wait : (is_end : Bool) (x : List ℕ) (from r : Reading) (old new : List Token) (s : Scan) → Went is_end x from r old new → IsScanned r.updates (drop r.cut x) s
     → Went is_end x from (record r { scan = s }) old new
-went-wait is_end x from r old new s w h = record { added = w.added; given = w.given; mode = w.mode; scanned = h; cut = w.cut }
+went-wait is_end x from r old new s w h = record { added = w.added; given = w.given; before = w.before; parts = w.parts; characters = w.characters; mode = w.mode; read = record { scanned = h; barren = w.read.barren }; cut = w.cut }
 
-pub within-behind : (r : Reading) (x : List ℕ) (count : ℕ) → IsWithin r x → count ≤ length (drop r.cut x) → IsWithin (behind_of r count) x
-within-behind r x count w h = record { cut = omega (arith, length-drop r.cut x, w.cut); scan = omega (arith, length-drop r.cut x, w.cut); best = omega arith }
+pub within-behind : (r : Reading) (x : List ℕ) (count b : ℕ) → IsWithin r x → count ≤ length (drop r.cut x) → IsWithin (behind_of r count b) x
+within-behind r x count b w h = record { cut = omega (arith, length-drop r.cut x, w.cut); scan = omega (arith, length-drop r.cut x, w.cut); best = omega arith }
 
 pub within-passed : (r : Reading) (x : List ℕ) (count : ℕ) (c : Bool) → IsWithin r x → count ≤ length (drop r.cut x) → IsWithin (passed_of r count c) x
 within-passed r x count c w h = record { cut = omega (arith, length-drop r.cut x, w.cut); scan = omega (arith, length-drop r.cut x, w.cut); best = omega arith }

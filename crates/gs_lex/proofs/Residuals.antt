@@ -1,7 +1,7 @@
 -- What is left of each terminal where the automaton stands.
-use Rattle.std.specs.Prelude.{ℕ, Bool, true, false, ◌==◌, if◌then◌else◌}
-use Rattle.gs_lex.specs.Regexes.{Never, Empty, One, Then, Or, Many}
-use Rattle.gs_lex.specs.Terminals.{Pattern, ◌·◌, ◌∣◌, plx, local, namespace, digits, exponent, uchar, echar, hex, rule, Less, Greater, Quote, Apostrophe, Backslash, Colon, Underscore, AtSign, Dash, Dot, Percent, Caret, Semicolon, Comma, OpenBracket, CloseBracket, OpenParenthesis, CloseParenthesis, OpenBrace, CloseBrace, VariableMark, SmallU, BigU, IriChar, ShortQuoteChar, ShortApostropheChar, LongQuoteChar, LongApostropheChar, Echar, Hex, Digit, Sign, ExponentLetter, Alpha, Alphanumeric, Base, NameChar, LabelStart, LocalStart, LocalChar, LocalEscape, VariableChar}
+use Rattle.std.specs.Prelude.{ℕ, true, false, ◌==◌, if◌then◌else◌}
+use Rattle.gs_lex.specs.Regexes.{Never, Empty, One, Many}
+use Rattle.gs_lex.specs.Terminals.{Pattern, ◌·◌, ◌∣◌, plx, local, digits, exponent, uchar, echar, hex, rule, Greater, Quote, Apostrophe, Colon, Dash, Dot, Caret, SmallU, BigU, IriChar, ShortQuoteChar, ShortApostropheChar, LongQuoteChar, LongApostropheChar, Echar, Digit, Sign, Alpha, Alphanumeric, NameChar, LabelStart, LocalChar, LocalEscape, VariableChar}
 use Rattle.gs_lex.specs.declared.kinds.Terminal.{Terminal}
 use Rattle.gs_lex.specs.declared.kinds.Terminal.TheVariants as kind
 use Rattle.gs_lex.specs.declared.states.State.{State}

@@ -1,20 +1,21 @@
 -- Laws of reading one character more.
-use Rattle.std.proofs.Common.{◌≡◌, ◌≢◌, ℕ, zero, suc, ◌+◌, ◌-◌, ◌<◌, ◌≤◌, Bool, true, false, List, [], ◌∷◌, ◌++◌, refl, sym, ap, ◌∙◌, arith, subst, append_assoc, append-nil, length, length-append, Option, Some, None, take, drop, length-drop, encode_utf8, encode_utf8_all, ◌&&◌}
+use Rattle.std.proofs.Common.{◌≡◌, ◌≢◌, ℕ, ◌+◌, ◌<◌, ◌≤◌, Bool, true, false, List, [], ◌∷◌, ◌++◌, refl, sym, ap, ◌∙◌, arith, subst, append_assoc, append-nil, length, length-append, Option, Some, None, drop, length-drop, MatchBool, encode_utf8, encode_utf8_all, ◌&&◌}
 use Rattle.std.proofs.Math.ListN.{take-append-drop}
 use Rattle.std.proofs.lemmas.List.{length-take-le}
 use Rattle.std.proofs.lemmas.Str.{encode_same, encodes-append, len_utf8_bounds, length-encode}
 use Rattle.std.specs.Char.{IsScalar}
 use Rattle.std.specs.Str.{all_scalars, StartsWithNoChar}
 use lib.Utf8.{scalar}
-use Rattle.gs_lex.specs.Automata.{Found, run, run_from, longest}
-use Rattle.gs_lex.specs.States.{tokens, next, accepts}
-use Rattle.gs_lex.specs.Scans.{IsBest, IsScanned, IsStuck, onward_of, fresh, best_after}
+use Rattle.gs_lex.specs.Automata.{Found, run, run_from, kind_at, longest}
+use Rattle.gs_lex.specs.States.{tokens, next, accepts, start_of}
+use Rattle.gs_lex.specs.Scans.{IsBest, MayFollow, IsScanned, IsBarren, IsBarrenTo, onward_of, fresh, best_after}
 use Rattle.gs_lex.specs.Symbols.{BeginsWith}
 use Rattle.gs_lex.specs.declared.kinds.Terminal.{Terminal}
 use Rattle.gs_lex.specs.declared.states.State.{State}
+use Rattle.gs_lex.specs.declared.states.State.TheVariants as at
 use Rattle.gs_lex.specs.declared.scans.Scan.{Scan}
 use Rattle.gs_lex.proofs.SymbolLemmas.{front-nothing}
-use Rattle.gs_lex.proofs.AutomatonLemmas.{onward, then_next, run-snoc, one_more, longest-live}
+use Rattle.gs_lex.proofs.AutomatonLemmas.{none-stays, onward, then_next, run-snoc, one_more, longest-live}
 
 -- a character has some bytes
 pub begins-some : (c n : ℕ) (x : List ℕ) → BeginsWith c n x → (n ≡ length (encode_utf8 c)) × (0 < n)
@@ -48,7 +49,7 @@ and_both true true e = (refl, refl)
 and_both true false e = Prim.cc
 and_both false y e = Prim.cc
 
-both_and : (x y : Bool) → x ≡ true → y ≡ true → (x && y) ≡ true
+pub both_and : (x y : Bool) → x ≡ true → y ≡ true → (x && y) ≡ true
 both_and x y e f = ap (λ z. z && y) e ∙ f
 
 pub scalars-snoc : (cs : List ℕ) (c : ℕ) → all_scalars cs ≡ true → IsScalar c → all_scalars (cs ++ c ∷ []) ≡ true
@@ -75,6 +76,30 @@ scan-on u x s c n p h b e =
           (best_more (accepts p) cs c (longest (tokens u) cs) s.best s.best_len (s.len + n) h.is_best count);
     }
 
+-- no character at the front of z goes on with a token
+abbrev pub IsStuck : State → List ℕ → Type 0
+IsStuck q z = (c : ℕ) (o : List ℕ) → IsScalar c → z ≡ encode_utf8 c ++ o → next q c ≡ None
+
+stuck_on : (u : Bool) (q : State) (z : List ℕ) → IsStuck q z → (t : Terminal) (v s : List ℕ) → z ≡ encode_utf8_all v ++ s → all_scalars v ≡ true → v ≢ []
+    → kind_at (tokens u) (run_from (tokens u) (Some q) v) ≡ Some t → ⊥
+stuck_on u q z h t [] s p g n k = n refl
+stuck_on u q z h t (c ∷ v) s p g n k =
+    let dead : next q c ≡ None = h c (encode_utf8_all v ++ s) (and_both (scalar c) (all_scalars v) g).0 (p ∙ append_assoc (encode_utf8 c) (encode_utf8_all v) s) in
+    Prim.cc (sym (ap (λ o. kind_at (tokens u) (run_from (tokens u) o v)) dead ∙ ap (kind_at (tokens u)) (none-stays (tokens u) v)) ∙ k)
+
+pub stuck-barren : (u : Bool) (q : State) (z : List ℕ) → IsStuck q z → IsBarren u q z
+stuck-barren u q z h = stuck_on u q z h
+
+-- an ended token, whatever follows
+pub ended-stuck : (is_end u b : Bool) (q : State) (z : List ℕ) → MatchBool b ((t : Terminal) × (q ≡ at.Ended t)) ((t : Terminal) → q ≢ at.Ended t) → IsBarren u q z
+    → MatchBool b ((y : List ℕ) → MayFollow is_end y → IsBarren u q (z ++ y)) (IsBarren u q z)
+ended-stuck is_end u true q z h k = λ y m. stuck-barren u q (z ++ y) (λ c o i p. subst (λ s. next s c ≡ None) (sym h.1) refl)
+ended-stuck is_end u false q z h k = k
+
+pub not-ended : (b : Bool) (q : State) → MatchBool b ((t : Terminal) × (q ≡ at.Ended t)) ((t : Terminal) → q ≢ at.Ended t) → b ≡ false → (t : Terminal) → q ≢ at.Ended t
+not-ended true q h e = Prim.cc e
+not-ended false q h e = h
+
 -- a character by which no token goes on
 pub stuck-character : (q : State) (c n : ℕ) (r : List ℕ) → BeginsWith c n r → next q c ≡ None → (y : List ℕ) → IsStuck q (r ++ y)
 stuck-character q c n r b e y d o k p =
@@ -97,5 +122,23 @@ best-within s p n h = best_within (accepts p)
     best_within None = omega arith
     best_within (Some k) = omega arith
 
+pub nothing-left : (n : ℕ) (x : List ℕ) → length x ≤ n → StartsWithNoChar (drop n x)
+nothing-left n x h = front-nothing (drop n x) (omega (arith, length-drop n x))
+
 pub stuck-nothing : (q : State) (n : ℕ) (x : List ℕ) → length x ≤ n → IsStuck q (drop n x)
-stuck-nothing q n x h = stuck-bad q (drop n x) (front-nothing (drop n x) (omega (arith, length-drop n x)))
+stuck-nothing q n x h = stuck-bad q (drop n x) (nothing-left n x h)
+
+no_dots : (u : Bool) → start_of u ≡ at.WordDots → ⊥
+no_dots false e = Prim.cc e
+no_dots true e = Prim.cc e
+
+no_chars : (u : Bool) (cs : List ℕ) → run (tokens u) cs ≡ Some at.WordDots → cs ≢ []
+no_chars u [] h e = no_dots u (Prim.cc h)
+no_chars u (c ∷ cs) h e = Prim.cc e
+
+-- behind a word's dots within the barren bytes
+pub scan-barren : (is_end u : Bool) (x : List ℕ) (s : Scan) (n : ℕ) → IsScanned u x s → IsBarrenTo is_end u x n → s.state ≡ at.WordDots → s.len ≤ n → (y : List ℕ) → MayFollow is_end y → IsBarren u s.state (drop s.len x ++ y)
+scan-barren is_end u x s n h b e l y m =
+    subst (λ z. IsBarren u s.state (z ++ y)) (sym (scan-after u x s h)) (subst (λ q. IsBarren u q (h.after ++ y)) (sym e)
+    (b y h.chars (h.after ++ y) m (ap (λ z. z ++ y) h.parts ∙ append_assoc (encode_utf8_all h.chars) h.after y) h.characters
+    (no_chars u h.chars (h.stands ∙ ap Some e)) (omega (arith, l, h.count))))

@@ -1,14 +1,13 @@
 -- What a decoder tells of the front of bytes.
 use Rattle.std.proofs.Common.{◌≡◌, ◌≢◌, ℕ, zero, suc, ◌+◌, ◌-◌, ◌*◌, ◌<◌, ◌≤◌, Bool, true, false, cond, List, [], ◌∷◌, ◌++◌, refl, sym, ap, ◌∙◌, inl, arith, subst, append_assoc, append-nil, length, length-append, take, drop, get_or}
 use Rattle.std.proofs.Math.ListN.{take-append-drop}
-use Rattle.std.proofs.lemmas.List.{take_all}
 use Rattle.std.proofs.lemmas.Str.{len_utf8_bounds, length-encode}
 use Rattle.std.proofs.str.Laws.{one}
 use Rattle.std.specs.Prelude.{nat_lt, ◌==◌, encode_utf8}
 use Rattle.std.specs.Char.{IsScalar}
 use Rattle.std.specs.Str.{StartsWithNoChar}
 use Rattle.gs_machine.specs.Machines.{steps, rest}
-use Rattle.gs_machine.specs.Utf8.{bad, Spells, nothing, char, fault, Decoding, Ready, Within, Lost, lead, goes_on, decode_step, decode_end, utf8}
+use Rattle.gs_machine.specs.Utf8.{bad, Spells, nothing, char, fault, Decoding, Ready, Within, Lost, goes_on, decode_step, decode_end, utf8}
 use Rattle.gs_machine.proofs.MachineLemmas.{rest-append, steps-snoc}
 use Rattle.gs_machine.proofs.Utf8Lemmas.{walk, ready}
 use Rattle.gs_machine.proofs.Encodings.{scalar_from}

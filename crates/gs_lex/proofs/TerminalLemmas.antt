@@ -3,14 +3,14 @@ use Rattle.std.proofs.Common.{◌≡◌, ℕ, Bool, true, false, cond, List, [],
 use Rattle.std.proofs.lemmas.Bool.{eqb-true}
 use Rattle.std.specs.Prelude.{◌==◌, ◌&&◌}
 use Rattle.gs_lex.specs.Automata.{Accepts, run_from, kind_at}
-use Rattle.gs_lex.specs.Regexes.{Regex, Never, Empty, One, Then, Or, Many, Matches}
+use Rattle.gs_lex.specs.Regexes.{Never, Empty, One, Then, Or, Many, Matches}
 use Rattle.gs_lex.specs.States.{tokens, next, accepts, start_of}
-use Rattle.gs_lex.specs.Terminals.{Chars, Pattern, holds, rule, IsTerminal}
+use Rattle.gs_lex.specs.Terminals.{Pattern, holds, rule, IsTerminal}
 use Rattle.gs_lex.specs.declared.kinds.Terminal.{Terminal}
 use Rattle.gs_lex.specs.declared.kinds.Terminal.TheVariants as kind
 use Rattle.gs_lex.specs.declared.states.State.{State}
 use Rattle.gs_lex.proofs.AlikeLemmas.{Alike, In, here, there, boundaries, sample, sample-in, alike-sample, holds-alike}
-use Rattle.gs_lex.proofs.Checks.{kinds, same, target, follows, follows_all, is_kind, same_answer, ends, check, right}
+use Rattle.gs_lex.proofs.Checks.{kinds, same, target, follows, follows_all, is_kind, same_answer, ends, right}
 use Rattle.gs_lex.proofs.Codes.{set-one, kind-one}
 use Rattle.gs_lex.proofs.Derivatives.{nullable, derive, derive-right, derive-back, nullable-right, nullable-back}
 use Rattle.gs_lex.proofs.NextLemmas.{next-alike}

@@ -1,5 +1,5 @@
 -- Automata of tokens: the longest token at the front of a text.
-use Rattle.std.specs.Prelude.{◌≡◌, ℕ, List, [], ◌∷◌, ◌++◌, Option, Some, None}
+use Rattle.std.specs.Prelude.{◌≡◌, List, [], ◌∷◌, Option, Some, None}
 
 -- Where it stands after an item, if some token goes on so; and the kind of the text so far, if it is a token.
 pub record Automaton (Q K I : Type 0) : Type 0 where

@@ -1,22 +1,26 @@
 -- What a lexer has read of a text that comes in pieces.
-use Rattle.std.specs.Prelude.{◌≡◌, ℕ, Bool, true, false, List, [], ◌++◌}
+use Rattle.std.specs.Prelude.{◌≡◌, ℕ, Bool, true, false, List, ◌++◌}
+use Rattle.std.specs.Str.{IsUtf8}
+use Rattle.gs_machine.specs.Machines.{Begins}
 use Rattle.gs_model.specs.declared.refusals.Refusal.{Refusal}
 use Rattle.gs_model.specs.declared.refusals.Refusal.TheVariants.{NoMemory, Syntax, Closed}
-use Rattle.gs_lex.specs.Tokens.{IsCut, Ending, Whole, Fault, Lexeme}
+use Rattle.gs_lex.specs.Tokens.{IsCut, Ending, Fault, Lexeme}
 use Rattle.gs_lex.specs.Lexemes.{lexemes_of}
-use Rattle.gs_lex.specs.Readings.{CutFrom, Fails}
-use Rattle.gs_lex.specs.Scans.{IsScanned}
+use Rattle.gs_lex.specs.Readings.{CutFrom, Fails, IsRead, Waits}
 use Rattle.gs_lex.specs.declared.readings.Halt.{Halt}
 use Rattle.gs_lex.specs.declared.readings.Halt.TheVariants as halt
 use Rattle.gs_lex.specs.declared.tokens.Token.{Token}
 use Rattle.gs_lex.specs.declared.lexers.Lexer.{Lexer}
 
 -- The lexer was fed the text x and gave the tokens ts: however x goes on, they are its first tokens, and the
--- others are those of what is held and what comes.
+-- others are those of what is held and what comes. Before what is held stand whole characters.
 pub record Leads (updates : Bool) (l : Lexer) (x : List ℕ) (ts : List Lexeme) : Type 0 where
   pub open_ : l.is_closed ≡ false
   pub reads : l.at.updates ≡ updates
-  pub scanned : IsScanned updates l.held.items l.at.scan
+  pub read : IsRead false l.at l.held.items
+  pub before : List ℕ
+  pub parts : x ≡ before ++ l.held.items
+  pub characters : IsUtf8 before
   pub rest : (y : List ℕ) (us : List Lexeme) (e : Ending) → CutFrom l.at (l.held.items ++ y) us e → IsCut updates (x ++ y) (ts ++ us) e
 
 -- An earlier call was refused, and each later one is.
@@ -33,11 +37,16 @@ pub record IsUnchanged (old new : Lexer) : Type 0 where
 abbrev pub Adds : List Token → List Token → List Lexeme → Type 0
 Adds old new us = lexemes_of new ≡ lexemes_of old ++ us
 
--- a piece was read, and its tokens given as far as they are settled
+-- each list of tokens with which the tokens of the text begin, however it goes on, is a front of ts
+abbrev pub AreSettled : Bool → List ℕ → List Lexeme → Type 0
+AreSettled updates x ts = (us : List Lexeme) → ((y : List ℕ) (vs : List Lexeme) (e : Ending) → IsCut updates (x ++ y) vs e → Begins vs us) → Begins ts us
+
+-- a piece was read, and its tokens given; where the text so far ends between two characters, all that are settled are
 pub record Feeds (updates : Bool) (new : Lexer) (x : List ℕ) (ts : List Lexeme) (old_list new_list : List Token) : Type 0 where
   pub added : List Lexeme
   pub given : Adds old_list new_list added
   pub leads : Leads updates new x (ts ++ added)
+  pub settled : IsUtf8 x → AreSettled updates x (ts ++ added)
 
 -- the text has this fault, however it goes on; the tokens before it are given
 pub record Breaks (updates : Bool) (x : List ℕ) (ts : List Lexeme) (at : ℕ) (old_list new_list : List Token) : Type 0 where
@@ -74,6 +83,10 @@ pub record Takes (old new : Lexer) (old_list new_list : List Token) (h : Halt) :
   pub added : List Lexeme
   pub given : Adds old_list new_list added
   pub reads : new.at.updates ≡ old.at.updates
-  pub scanned : IsScanned new.at.updates new.held.items new.at.scan
+  pub read : IsRead false new.at new.held.items
+  pub before : List ℕ
+  pub parts : old.held.items ≡ before ++ new.held.items
+  pub characters : IsUtf8 before
   pub cut : (y : List ℕ) (ts : List Lexeme) (e : Ending) → CutFrom new.at (new.held.items ++ y) ts e → CutFrom old.at (old.held.items ++ y) (added ++ ts) e
   pub fails : h ≡ halt.Fault → Fails false new.at new.held.items
+  pub waits : (h ≡ halt.Fault → ⊥) → Waits new.at.in_comment new.held.items new.at.scan

@@ -5,7 +5,9 @@ pub mod Symbols
 pub mod Regexes
 pub mod Terminals
 pub mod Tokens
+pub mod Spans
 pub mod Scans
+pub mod Runs
 pub mod Lexemes
 pub mod Readings
 pub mod Lexers

@@ -1,12 +1,15 @@
 -- One step of reading a text: past white space or a comment, over a token, to a fault, or to the end of what is there.
-use Rattle.std.specs.Prelude.{◌≡◌, ◌≢◌, ℕ, ◌+◌, ◌≤◌, ◌<◌, Bool, true, false, List, [], ◌∷◌, ◌++◌, length, take, drop, if◌then◌else◌}
+use Rattle.std.specs.Prelude.{◌≡◌, ◌≢◌, ℕ, ◌+◌, ◌≤◌, ◌<◌, Bool, true, false, List, [], ◌∷◌, ◌++◌, length, take, drop}
+use Rattle.std.specs.Str.{StartsWithNoChar, IsUtf8}
 use Rattle.gs_lex.specs.Classes.{is_ws}
 use Rattle.gs_lex.specs.Tokens.{Cut, Mode, Between, InComment, Ending, Whole, Fault, Lexeme, lexeme_at, behind}
 use Rattle.gs_lex.specs.Lexemes.{lexemes_of}
-use Rattle.gs_lex.specs.Scans.{IsScanned, fresh}
+use Rattle.gs_lex.specs.Scans.{MayFollow, IsScanned, IsBarrenTo, fresh}
 use Rattle.gs_lex.specs.declared.readings.Halt.{Halt}
 use Rattle.gs_lex.specs.declared.readings.Halt.TheVariants as halt
 use Rattle.gs_lex.specs.declared.kinds.Kind.{Kind}
+use Rattle.gs_lex.specs.declared.kinds.Terminal.{Terminal}
+use Rattle.gs_lex.specs.declared.states.State.TheVariants as at
 use Rattle.gs_lex.specs.declared.scans.Scan.{Scan}
 use Rattle.gs_lex.specs.declared.steps.Reading.{Reading}
 use Rattle.gs_lex.specs.declared.steps.Step.{Step}
@@ -17,10 +20,6 @@ abbrev pub mode_of : Bool → Mode
 mode_of true = InComment
 mode_of false = Between
 
--- at the end of a text nothing follows
-abbrev pub MayFollow : Bool → List ℕ → Type 0
-MayFollow is_end y = is_end ≡ true → y ≡ []
-
 abbrev pub bit : Bool → ℕ
 bit true = 1
 bit false = 0
@@ -29,35 +28,27 @@ bit false = 0
 abbrev pub CutFrom : Reading → List ℕ → List Lexeme → Ending → Type 0
 CutFrom r x ts e = Cut r.updates (mode_of r.in_comment) r.place r.last x ts e
 
--- the tokens of x are those behind its first bytes
+-- the next token of x is read as far as the reading says, and what it has found barren is so
+pub record IsRead (is_end : Bool) (r : Reading) (x : List ℕ) : Type 0 where
+  pub scanned : IsScanned r.updates x r.scan
+  pub barren : IsBarrenTo is_end r.updates x r.barren
+
+-- the tokens of x are those behind its first bytes, which are characters
 pub record Passes (is_end : Bool) (r : Reading) (x : List ℕ) (count : ℕ) (in_comment : Bool) : Type 0 where
   pub cut : (y : List ℕ) (ts : List Lexeme) (e : Ending) → MayFollow is_end y
       → Cut r.updates (mode_of in_comment) (behind r.place count) r.last (drop count x ++ y) ts e → CutFrom r (x ++ y) ts e
+  pub characters : IsUtf8 (take count x)
 
--- the tokens of x are a token of its first bytes, and those behind it
-pub record Gives (is_end : Bool) (r : Reading) (x : List ℕ) (k : Kind) (count : ℕ) : Type 0 where
+-- the tokens of x are a token of its first bytes, and those behind it, where so much is barren
+pub record Gives (is_end : Bool) (r : Reading) (x : List ℕ) (k : Kind) (count barren : ℕ) : Type 0 where
   pub cut : (y : List ℕ) (ts : List Lexeme) (e : Ending) → MayFollow is_end y
       → Cut r.updates Between (behind r.place count) (behind r.place count) (drop count x ++ y) ts e → CutFrom r (x ++ y) (lexeme_at k r.place (take count x) ∷ ts) e
+  pub characters : IsUtf8 (take count x)
+  pub stays : IsBarrenTo is_end r.updates (drop count x) barren
 
 -- x has a fault before its next token ends
 pub record Fails (is_end : Bool) (r : Reading) (x : List ℕ) : Type 0 where
   pub cut : (y : List ℕ) → MayFollow is_end y → CutFrom r (x ++ y) [] (Fault r.last)
-
--- what a step says
-abbrev pub StepFits : Bool → Reading → List ℕ → Step → Type 0
-StepFits is_end r x (step.Passed count in_comment) = Passes is_end r x count in_comment
-StepFits is_end r x (step.Found k count) = Gives is_end r x k count
-StepFits is_end r x step.Fault = Fails is_end r x
-StepFits is_end r x step.End = (is_end ≡ true) × CutFrom r x [] Whole
-StepFits is_end r x (step.Wait s) = (is_end ≡ false) × IsScanned r.updates x s
-
--- a step stays within the text, and goes on
-abbrev pub StepMoves : Reading → List ℕ → Step → Type 0
-StepMoves r x (step.Passed count in_comment) = (count ≤ length x) × (bit in_comment < count + count + bit r.in_comment)
-StepMoves r x (step.Found k count) = (count ≤ length x) × (0 < count)
-StepMoves r x step.Fault = Unit {0}
-StepMoves r x step.End = Unit {0}
-StepMoves r x (step.Wait s) = (s.len ≤ length x) × (s.best_len ≤ s.len)
 
 -- neither white space nor a comment
 pub record BeginsToken (x : List ℕ) : Type 0 where
@@ -67,6 +58,29 @@ pub record BeginsToken (x : List ℕ) : Type 0 where
   pub no_space : is_ws first ≡ false
   pub no_hash : first ≢ 35
 
+-- Why a reading waits at x: no character comes next, in a comment or between two tokens; or a token has begun, no
+-- character comes behind what is read of it, and some may go on with it.
+pub data Waits (in_comment : Bool) (x : List ℕ) (s : Scan) : Type 0 where
+  inside : in_comment ≡ true → StartsWithNoChar x → Waits in_comment x s
+  between : in_comment ≡ false → x ≡ [] → Waits in_comment x s
+  begun : in_comment ≡ false → BeginsToken x → StartsWithNoChar (drop s.len x) → ((t : Terminal) → s.state ≢ at.Ended t) → Waits in_comment x s
+
+-- what a step says
+abbrev pub StepFits : Bool → Reading → List ℕ → Step → Type 0
+StepFits is_end r x (step.Passed count in_comment) = Passes is_end r x count in_comment
+StepFits is_end r x (step.Found k count barren) = Gives is_end r x k count barren
+StepFits is_end r x step.Fault = Fails is_end r x
+StepFits is_end r x step.End = (is_end ≡ true) × CutFrom r x [] Whole
+StepFits is_end r x (step.Wait s) = (is_end ≡ false) × (IsScanned r.updates x s × Waits r.in_comment x s)
+
+-- a step stays within the text, and goes on
+abbrev pub StepMoves : Reading → List ℕ → Step → Type 0
+StepMoves r x (step.Passed count in_comment) = (count ≤ length x) × (bit in_comment < count + count + bit r.in_comment)
+StepMoves r x (step.Found k count barren) = (count ≤ length x) × (0 < count)
+StepMoves r x step.Fault = Unit {0}
+StepMoves r x step.End = Unit {0}
+StepMoves r x (step.Wait s) = (s.len ≤ length x) × (s.best_len ≤ s.len)
+
 -- the reading stands within the text
 pub record IsWithin (r : Reading) (x : List ℕ) : Type 0 where
   pub cut : r.cut ≤ length x
@@ -74,24 +88,27 @@ pub record IsWithin (r : Reading) (x : List ℕ) : Type 0 where
   pub best : r.scan.best_len ≤ r.scan.len
 
 abbrev pub passed_of : Reading → ℕ → Bool → Reading
-passed_of r count in_comment = record { updates = r.updates; in_comment = in_comment; cut = r.cut + count; place = behind r.place count; last = r.last; scan = fresh r.updates }
+passed_of r count in_comment = record { updates = r.updates; in_comment = in_comment; cut = r.cut + count; place = behind r.place count; last = r.last; barren = 0; scan = fresh r.updates }
 
-abbrev pub behind_of : Reading → ℕ → Reading
-behind_of r count = record { updates = r.updates; in_comment = false; cut = r.cut + count; place = behind r.place count; last = behind r.place count; scan = fresh r.updates }
+abbrev pub behind_of : Reading → ℕ → ℕ → Reading
+behind_of r count barren = record { updates = r.updates; in_comment = false; cut = r.cut + count; place = behind r.place count; last = behind r.place count; barren = barren; scan = fresh r.updates }
 
--- Some tokens were added, and with those that come they are the tokens of the text.
+-- Some tokens were added, and with those that come they are the tokens of the text; whole characters were passed.
 pub record Went (is_end : Bool) (x : List ℕ) (from to : Reading) (old new : List Token) : Type 0 where
   pub added : List Lexeme
   pub given : lexemes_of new ≡ lexemes_of old ++ added
+  pub before : List ℕ
+  pub parts : drop from.cut x ≡ before ++ drop to.cut x
+  pub characters : IsUtf8 before
   pub mode : to.updates ≡ from.updates
-  pub scanned : IsScanned to.updates (drop to.cut x) to.scan
+  pub read : IsRead is_end to (drop to.cut x)
   pub cut : (y : List ℕ) (ts : List Lexeme) (e : Ending) → MayFollow is_end y → CutFrom to (drop to.cut x ++ y) ts e → CutFrom from (drop from.cut x ++ y) (added ++ ts) e
 
 -- why the reading stopped
 abbrev pub HasHalted : Bool → List ℕ → Reading → Halt → Type 0
 HasHalted is_end x r halt.Fault = Fails is_end r (drop r.cut x)
 HasHalted is_end x r halt.End = (is_end ≡ true) × CutFrom r (drop r.cut x) [] Whole
-HasHalted is_end x r halt.Wait = is_end ≡ false
+HasHalted is_end x r halt.Wait = (is_end ≡ false) × Waits r.in_comment (drop r.cut x) r.scan
 
 -- tokens were added at most
 pub record Grows (old new : List Token) : Type 0 where
@@ -100,4 +117,4 @@ pub record Grows (old new : List Token) : Type 0 where
 
 -- at the start of a text
 abbrev pub first_of : Bool → Reading
-first_of updates = record { updates = updates; in_comment = false; cut = 0; place = 0; last = 0; scan = fresh updates }
+first_of updates = record { updates = updates; in_comment = false; cut = 0; place = 0; last = 0; barren = 0; scan = fresh updates }

@@ -1,11 +1,11 @@
 -- How far a token is read.
-use Rattle.std.specs.Prelude.{◌≡◌, ◌≢◌, ℕ, ◌+◌, ◌≤◌, Bool, true, false, List, [], ◌∷◌, ◌++◌, length, Option, Some, None, encode_utf8, encode_utf8_all}
-use Rattle.std.specs.Char.{IsScalar}
+use Rattle.std.specs.Prelude.{◌≡◌, ◌≢◌, ℕ, ◌+◌, ◌≤◌, Bool, true, List, [], ◌++◌, length, Option, Some, None, encode_utf8_all}
 use Rattle.std.specs.Str.{all_scalars}
-use Rattle.gs_lex.specs.Automata.{Found, run, longest}
-use Rattle.gs_lex.specs.States.{tokens, next, accepts, start_of}
+use Rattle.gs_lex.specs.Automata.{Found, run, run_from, kind_at, longest}
+use Rattle.gs_lex.specs.States.{tokens, accepts, start_of}
 use Rattle.gs_lex.specs.declared.kinds.Terminal.{Terminal}
 use Rattle.gs_lex.specs.declared.states.State.{State}
+use Rattle.gs_lex.specs.declared.states.State.TheVariants as at
 use Rattle.gs_lex.specs.declared.scans.Scan.{Scan}
 
 abbrev pub best_after : Option Terminal → ℕ → Option Terminal × ℕ → Option Terminal × ℕ
@@ -34,6 +34,14 @@ pub record IsScanned (updates : Bool) (x : List ℕ) (s : Scan) : Type 0 where
   pub stands : run (tokens updates) chars ≡ Some s.state
   pub is_best : IsBest (longest (tokens updates) chars) s.best s.best_len
 
--- no character at the front of z goes on with a token
-abbrev pub IsStuck : State → List ℕ → Type 0
-IsStuck q z = (c : ℕ) (o : List ℕ) → IsScalar c → z ≡ encode_utf8 c ++ o → next q c ≡ None
+-- at the end of a text nothing follows
+abbrev pub MayFollow : Bool → List ℕ → Type 0
+MayFollow is_end y = is_end ≡ true → y ≡ []
+
+-- from this state, the automaton finds no token in z
+abbrev pub IsBarren : Bool → State → List ℕ → Type 0
+IsBarren updates q z = (t : Terminal) (v s : List ℕ) → z ≡ encode_utf8_all v ++ s → all_scalars v ≡ true → v ≢ [] → kind_at (tokens updates) (run_from (tokens updates) (Some q) v) ≡ Some t → ⊥
+
+-- behind each of the first characters of x, which are n bytes, a word's dots lead to no token, however x goes on
+abbrev pub IsBarrenTo : Bool → Bool → List ℕ → ℕ → Type 0
+IsBarrenTo is_end updates x n = (y v z : List ℕ) → MayFollow is_end y → x ++ y ≡ encode_utf8_all v ++ z → all_scalars v ≡ true → v ≢ [] → length (encode_utf8_all v) ≤ n → IsBarren updates at.WordDots z

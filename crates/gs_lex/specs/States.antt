@@ -1,5 +1,5 @@
 -- The automaton that finds the tokens.
-use Rattle.std.specs.Prelude.{ℕ, Bool, true, false, not, ◌==◌, ◌||◌, if◌then◌else◌, Option, Some, None}
+use Rattle.std.specs.Prelude.{ℕ, Bool, true, false, ◌==◌, ◌||◌, if◌then◌else◌, Option, Some, None}
 use Rattle.gs_model.specs.Characters.{is_iri_char}
 use Rattle.gs_lex.specs.Classes as is
 use Rattle.gs_lex.specs.Automata.{Automaton}

@@ -1,5 +1,5 @@
 -- What the front of bytes is (UTF-8, RFC 3629).
-use Rattle.std.specs.Prelude.{◌≡◌, ◌≢◌, ℕ, ◌<◌, ◌≤◌, List, [], ◌++◌, length, take, encode_utf8}
+use Rattle.std.specs.Prelude.{◌≡◌, ℕ, ◌≤◌, List, ◌++◌, length, take, encode_utf8}
 use Rattle.std.specs.Char.{IsScalar}
 use Rattle.std.specs.Str.{StartsWithNoChar}
 use Rattle.gs_lex.specs.declared.symbols.Symbol.{Symbol}

@@ -1,8 +1,15 @@
 //! Laws of the definition, proved: the body is empty, and the contract is the law.
-ghost use Rattle.std.specs.Prelude.{◌≡◌, ℕ, Bool, List};
+ghost use Rattle.std.specs.Prelude.{◌≡◌, ◌<◌, ◌^◌, ℕ, Bool, List, length};
 ghost use Rattle.gs_lex.specs.Tokens.{IsCut, Ending, Lexeme};
+ghost use Rattle.gs_lex.specs.Spans.{AreSpans};
 
 /// A text is cut in one way: its tokens, and how it ends, are determined.
 pub fn text_has_one_cut()
     ensures { (updates : Bool) (x : List ℕ) (ts us : List Lexeme) (e f : Ending) → IsCut updates x ts e → IsCut updates x us f → (ts ≡ us) × (e ≡ f) }
+{}
+
+/// The tokens of a text are its spans, one behind the other, where the text has fewer than 2^64
+/// bytes.
+pub fn tokens_are_spans()
+    ensures { (updates : Bool) (x : List ℕ) (ts : List Lexeme) (e : Ending) → length x < 2 ^ 64 → IsCut updates x ts e → AreSpans updates x 0 ts }
 {}

@@ -1,8 +1,7 @@
 //! The lexer.
-ghost use Rattle.std.specs.Prelude.{◌≡◌, ℕ, ◌≤◌, Bool, true, List, [], ◌++◌, drop, vec_len, IfOk, IfErr, OnOk, OnErr};
+ghost use Rattle.std.specs.Prelude.{◌≡◌, ℕ, ◌≤◌, Bool, true, false, List, [], ◌++◌, drop, vec_len, IfOk, IfErr, OnOk, OnErr};
 ghost use Rattle.gs_lex.specs.Tokens.{Lexeme, Whole};
-ghost use Rattle.gs_lex.specs.Readings.{Grows, first_of};
-ghost use Rattle.gs_lex.specs.Scans.{IsScanned};
+ghost use Rattle.gs_lex.specs.Readings.{Grows, IsRead, first_of};
 
 use crate::readings::{Halt, read};
 use crate::scans::Scan;
@@ -34,6 +33,7 @@ fn first_reading(updates: bool) -> Reading
         cut: 0,
         place: 0,
         last: 0,
+        barren: 0,
         scan: Scan::new(updates),
     }
 }
@@ -48,6 +48,7 @@ fn without_cut(at: Reading) -> Reading
         cut: 0,
         place: at.place,
         last: at.last,
+        barren: at.barren,
         scan: at.scan,
     }
 }
@@ -84,7 +85,7 @@ impl Lexer {
 
     /// Cuts what is held.
     fn take(&mut self, tokens: &mut Vec<Token>) -> Result<Halt, AllocError>
-        ensures ok { IfOk result (λ halt. IsScanned self.old.at.updates self.old.held.items self.old.at.scan → Takes self.old self.new tokens.old.items tokens.new.items halt) }
+        ensures ok { IfOk result (λ halt. IsRead false self.old.at self.old.held.items → Takes self.old self.new tokens.old.items tokens.new.items halt) }
         ensures err { OnErr result (IsUnchanged self.old self.new) }
         ensures closed { self.new.is_closed ≡ self.old.is_closed }
         ensures kept { Grows tokens.old.items tokens.new.items }
@@ -97,8 +98,7 @@ impl Lexer {
 
     /// Reads the next piece, and adds the tokens that no more text can change. Where the text has a
     /// fault, the tokens before it are added, and every later call answers `Closed`. Linear in the
-    /// piece, but for what is held: a run of words and dots is read again when it turns out to be
-    /// no prefix.
+    /// piece and in what was held before it, which is read again only where a token ends in it.
     pub fn feed(&mut self, piece: &[u8], tokens: &mut Vec<Token>) -> Result<(), Refusal>
         ensures ok { (updates : Bool) (x : List ℕ) (ts : List Lexeme) → Leads updates self.old x ts → OnOk result (Feeds updates self.new (x ++ piece.now) ts tokens.old.items tokens.new.items) }
         ensures fault { (updates : Bool) (x : List ℕ) (ts : List Lexeme) → Leads updates self.old x ts → IfErr result (FeedRefused updates (x ++ piece.now) ts tokens.old.items tokens.new.items) }

@@ -8,6 +8,7 @@ mod lexers;
 mod readings;
 #[cfg(test)]
 mod rows;
+mod runs;
 mod scans;
 mod states;
 mod steps;
@@ -16,6 +17,6 @@ mod tokens;
 mod words;
 
 pub use kinds::Kind;
-pub use laws::text_has_one_cut;
+pub use laws::{text_has_one_cut, tokens_are_spans};
 pub use lexers::Lexer;
 pub use tokens::Token;

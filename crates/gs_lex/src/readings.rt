@@ -1,9 +1,8 @@
 //! The reading of a text, step by step.
 ghost use Rattle.std.specs.Prelude.{◌≡◌, ℕ, ◌≤◌, ◌<◌, ◌+◌, ◌^◌, ◌++◌, ◌∷◌, [], length, take, drop, vec_len, IfOk, OnOk};
-ghost use Rattle.gs_lex.specs.Readings.{Went, Grows, HasHalted, IsWithin, StepFits, StepMoves, passed_of, behind_of};
+ghost use Rattle.gs_lex.specs.Readings.{Went, Grows, HasHalted, IsWithin, IsRead, StepFits, StepMoves, passed_of, behind_of};
 ghost use Rattle.gs_lex.specs.Lexemes.{lexemes_of};
 ghost use Rattle.gs_lex.specs.Tokens.{lexeme_at};
-ghost use Rattle.gs_lex.specs.Scans.{IsScanned};
 
 use crate::kinds::Kind;
 use crate::scans::Scan;
@@ -30,14 +29,15 @@ fn passed(at: Reading, count: usize, in_comment: bool) -> Reading
         cut: at.cut + count,
         place: place_behind(at.place, count),
         last: at.last,
+        barren: 0,
         scan: Scan::new(at.updates),
     }
 }
 
-/// Behind a token of so many bytes.
-fn behind(at: Reading, count: usize) -> Reading
+/// Behind a token of so many bytes, where so many more are barren.
+fn behind(at: Reading, count: usize, barren: usize) -> Reading
     requires { at.cut + count < 2 ^ 64 }
-    ensures { result ≡ behind_of at count }
+    ensures { result ≡ behind_of at count barren }
 {
     let end = place_behind(at.place, count);
     Reading {
@@ -46,6 +46,7 @@ fn behind(at: Reading, count: usize) -> Reading
         cut: at.cut + count,
         place: end,
         last: end,
+        barren,
         scan: Scan::new(at.updates),
     }
 }
@@ -54,7 +55,7 @@ fn behind(at: Reading, count: usize) -> Reading
 fn step_at(text: &[u8], at: Reading, is_end: bool) -> Step
     requires { IsWithin at text.now }
     ensures moves { StepMoves at (drop at.cut text.now) result }
-    ensures fits { IsScanned at.updates (drop at.cut text.now) at.scan → StepFits is_end at (drop at.cut text.now) result }
+    ensures fits { IsRead is_end at (drop at.cut text.now) → StepFits is_end at (drop at.cut text.now) result }
 {
     next_step(&text[at.cut..], at, is_end)
 }
@@ -88,7 +89,7 @@ pub fn read(
     tokens: &mut Vec<Token>,
 ) -> Result<(Reading, Halt), AllocError>
     requires { IsWithin from text.now }
-    ensures ok { IfOk result (λ r. IsWithin r.0 text.now × (IsScanned from.updates (drop from.cut text.now) from.scan → Went is_end text.now from r.0 tokens.old.items tokens.new.items × HasHalted is_end text.now r.0 r.1)) }
+    ensures ok { IfOk result (λ r. IsWithin r.0 text.now × (IsRead is_end from (drop from.cut text.now) → Went is_end text.now from r.0 tokens.old.items tokens.new.items × HasHalted is_end text.now r.0 r.1)) }
     ensures kept { Grows tokens.old.items tokens.new.items }
 {
     let mut at = from;
@@ -97,9 +98,9 @@ pub fn read(
             Step::Passed(count, in_comment) => {
                 at = passed(at, count, in_comment);
             }
-            Step::Found(kind, count) => {
+            Step::Found(kind, count, barren) => {
                 add_token(alloc, text, at, kind, count, tokens)?;
-                at = behind(at, count);
+                at = behind(at, count, barren);
             }
             Step::Fault => return Ok((at, Halt::Fault)),
             Step::End => return Ok((at, Halt::End)),

@@ -93,6 +93,78 @@ fn a_dot_belongs_to_the_longest_token(rt: HostRuntime) -> Result<(), Fail> {
 }
 
 #[test]
+fn words_behind_a_word_that_is_no_prefix_are_words(rt: HostRuntime) -> Result<(), Fail> {
+    let alloc = rt.alloc();
+    expect(
+        &rt,
+        alloc,
+        false,
+        b"a.a..a.:",
+        &[
+            Kind::A,
+            Kind::Dot,
+            Kind::A,
+            Kind::Dot,
+            Kind::Dot,
+            Kind::A,
+            Kind::Dot,
+            Kind::PnameNs,
+        ],
+    )?;
+    expect(
+        &rt,
+        alloc,
+        false,
+        b"a.a.a;a.a.a:a.a ",
+        &[
+            Kind::A,
+            Kind::Dot,
+            Kind::A,
+            Kind::Dot,
+            Kind::A,
+            Kind::Semicolon,
+            Kind::PnameLn,
+        ],
+    )?;
+    expect(
+        &rt,
+        alloc,
+        false,
+        b"true.a;a.b:c ",
+        &[
+            Kind::True,
+            Kind::Dot,
+            Kind::A,
+            Kind::Semicolon,
+            Kind::PnameLn,
+        ],
+    )?;
+    refuse(&rt, alloc, b"a.a.true.b.a ", 9)
+}
+
+/// How many tokens are given of a text before it ends.
+fn given(alloc: Global, updates: bool, text: &[u8]) -> Result<usize, Refusal> {
+    let mut lexer = Lexer::new(alloc, updates);
+    let mut tokens = Vec::new(alloc);
+    lexer.feed(text, &mut tokens)?;
+    Ok(tokens.len())
+}
+
+#[test]
+fn a_token_is_given_once_it_is_settled(rt: HostRuntime) -> Result<(), Fail> {
+    let alloc = rt.alloc();
+    assert_eq!(rt; given(alloc, false, b"<a>")?, 1);
+    assert_eq!(rt; given(alloc, false, b"'a'")?, 1);
+    assert_eq!(rt; given(alloc, false, b"''")?, 0);
+    assert_eq!(rt; given(alloc, false, b"''''''")?, 1);
+    assert_eq!(rt; given(alloc, false, b";,[]()^^")?, 7);
+    assert_eq!(rt; given(alloc, true, b"{}")?, 2);
+    assert_eq!(rt; given(alloc, false, b"a:b 1 .")?, 2);
+    assert_eq!(rt; given(alloc, false, b". #")?, 1);
+    Ok(())
+}
+
+#[test]
 fn strings_end_as_the_grammar_says(rt: HostRuntime) -> Result<(), Fail> {
     let alloc = rt.alloc();
     expect(&rt, alloc, false, b"\"\"", &[Kind::StringLiteralQuote])?;

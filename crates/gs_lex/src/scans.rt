@@ -1,9 +1,12 @@
 //! How far a token is read.
-ghost use Rattle.std.specs.Prelude.{◌≡◌, ℕ, ◌+◌, ◌≤◌, ◌<◌, ◌^◌, ◌++◌, Bool, List, length, drop, MatchBool};
-ghost use Rattle.gs_lex.specs.Scans.{onward_of, fresh, IsScanned, IsStuck};
+ghost use Rattle.std.specs.Prelude.{◌≡◌, ◌≢◌, false, ℕ, ◌+◌, ◌≤◌, ◌<◌, ◌^◌, ◌++◌, Bool, List, length, drop, MatchBool};
+ghost use Rattle.std.specs.Str.{StartsWithNoChar};
+ghost use Rattle.gs_lex.specs.Runs.{stay_of};
+ghost use Rattle.gs_lex.specs.Scans.{onward_of, fresh, IsScanned, IsBarren, IsBarrenTo, MayFollow};
 
 use crate::kinds::Terminal;
-use crate::states::{State, accepts, next, start_of};
+use crate::runs::{iri_run, name_run, string_run};
+use crate::states::{State, Text, accepts, next, start_of};
 use crate::symbols::{Symbol, front_at};
 
 /// Where the automaton stands behind so many bytes, and the longest token so far, by its bytes.
@@ -49,29 +52,96 @@ impl Scan {
             },
         }
     }
+
+    /// At a place behind, in the same state.
+    fn stay(self, len: usize) -> Self
+        requires best { self.best_len ≤ self.len }
+        requires behind { self.len ≤ len }
+        ensures stayed { result ≡ stay_of self len }
+        ensures len { result.len ≡ len }
+        ensures best_within { result.best_len ≤ result.len }
+    {
+        if len == self.len {
+            return self;
+        }
+        match accepts(self.state) {
+            Some(terminal) => Scan {
+                state: self.state,
+                len,
+                best: Some(terminal),
+                best_len: len,
+            },
+            None => Scan {
+                state: self.state,
+                len,
+                best: self.best,
+                best_len: self.best_len,
+            },
+        }
+    }
 }
 
-/// Reads on until no token goes on with the next character (`true`), or until the text ends.
-pub fn read_on(text: &[u8], from: Scan) -> (Scan, bool)
+/// Over the plain characters that come next, where the state has such.
+fn over_run(text: &[u8], scan: Scan) -> Scan
+    requires within { scan.len ≤ length text.now }
+    requires best_within { scan.best_len ≤ scan.len }
+    ensures on { scan.len ≤ result.len }
+    ensures within { result.len ≤ length text.now }
+    ensures best_within { result.best_len ≤ result.len }
+    ensures scanned { (updates : Bool) → IsScanned updates text.now scan → IsScanned updates text.now result }
+{
+    match scan.state {
+        State::Inside(inside) => match inside {
+            Text::Iri => scan.stay(iri_run(text, scan.len)),
+            Text::Short(_) => scan.stay(string_run(text, scan.len)),
+            Text::Long(_) => scan.stay(string_run(text, scan.len)),
+        },
+        State::Word => scan.stay(name_run(text, scan.len)),
+        State::WordMore => scan.stay(name_run(text, scan.len)),
+        State::Local => scan.stay(name_run(text, scan.len)),
+        State::Label => scan.stay(name_run(text, scan.len)),
+        _ => scan,
+    }
+}
+
+/// Whether no character goes on with a token.
+fn is_ended(state: State) -> bool
+    ensures { MatchBool result ((t : Terminal) × (state ≡ State.Ended t)) ((t : Terminal) → state ≢ State.Ended t) }
+{
+    match state {
+        State::Ended(_) => true,
+        _ => false,
+    }
+}
+
+/// Reads on until it is known that no longer token comes (`true`), or until the text ends. Behind a
+/// word's dots within the barren bytes it is known at once: an earlier scan went on from there in
+/// vain.
+pub fn read_on(text: &[u8], from: Scan, barren: usize) -> (Scan, bool)
     requires within { from.len ≤ length text.now }
     requires best_within { from.best_len ≤ from.len }
     ensures within { result.0.len ≤ length text.now }
     ensures best_within { result.0.best_len ≤ result.0.len }
     ensures scanned { (updates : Bool) → IsScanned updates text.now from → IsScanned updates text.now result.0 }
-    ensures stuck { MatchBool result.1 ((y : List ℕ) → IsStuck result.0.state (drop result.0.len text.now ++ y)) (IsStuck result.0.state (drop result.0.len text.now)) }
+    ensures stuck { (is_end updates : Bool) → IsScanned updates text.now from → IsBarrenTo is_end updates text.now barren → MatchBool result.1 ((y : List ℕ) → MayFollow is_end y → IsBarren updates result.0.state (drop result.0.len text.now ++ y)) (IsBarren updates result.0.state (drop result.0.len text.now)) }
+    ensures open_ { result.1 ≡ false → StartsWithNoChar (drop result.0.len text.now) × ((t : Terminal) → result.0.state ≢ State.Ended t) }
 {
     let mut scan = from;
     while scan.len < text.len() {
+        if scan.len <= barren && matches!(scan.state, State::WordDots) {
+            return (scan, true);
+        }
         match front_at(text, scan.len) {
             Symbol::Character(c, size) => match next(scan.state, c) {
                 Some(state) => {
-                    scan = scan.onward(state, size);
+                    scan = over_run(text, scan.onward(state, size));
                 }
                 None => return (scan, true),
             },
             Symbol::Bad => return (scan, true),
-            Symbol::Short => return (scan, false),
+            Symbol::Short => return (scan, is_ended(scan.state)),
         }
     }
-    (scan, false)
+    let is_done = is_ended(scan.state);
+    (scan, is_done)
 }

@@ -1,11 +1,10 @@
 //! One step of reading a text.
-ghost use Rattle.std.specs.Prelude.{◌≡◌, ◌≤◌, length, true, false};
-ghost use Rattle.gs_lex.specs.Classes as spec;
-ghost use Rattle.gs_lex.specs.Scans.{fresh, IsScanned};
-ghost use Rattle.gs_lex.specs.Readings.{BeginsToken, StepFits, StepMoves};
+ghost use Rattle.std.specs.Prelude.{◌≡◌, ◌≤◌, ◌-◌, ◌⊎◌, max, length, true, false};
+ghost use Rattle.gs_lex.specs.Readings.{BeginsToken, IsRead, StepFits, StepMoves};
 
 use crate::classes::is_line_end;
-use crate::kinds::Kind;
+use crate::kinds::{Kind, Terminal};
+use crate::runs::{comment_run, is_space, space_run};
 use crate::scans::{Scan, read_on};
 use crate::symbols::{Symbol, front_at};
 use crate::words::kind_of;
@@ -22,6 +21,9 @@ pub struct Reading {
     pub place: u64,
     /// The place where the last token ends.
     pub last: u64,
+    /// How many bytes behind the cut were read in vain by the scan of a token that ends before it:
+    /// no prefix ends there, nor does one go on from there.
+    pub barren: usize,
     /// How far the next token is read.
     pub scan: Scan,
 }
@@ -30,19 +32,13 @@ pub struct Reading {
 pub enum Step {
     /// So many bytes that are no part of a token, and whether a comment goes on behind them.
     Passed(usize, bool),
-    /// A token of so many bytes.
-    Found(Kind, usize),
+    /// A token of so many bytes, and how many bytes behind it are barren.
+    Found(Kind, usize, usize),
     Fault,
     /// Nothing, at the end of the whole text.
     End,
     /// The front of a token, or of a character.
     Wait(Scan),
-}
-
-fn is_space(byte: u8) -> bool
-    ensures { result ≡ spec.is_ws byte }
-{
-    byte == b' ' || byte == b'\t' || byte == b'\r' || byte == b'\n'
 }
 
 /// A step in a comment.
@@ -51,6 +47,10 @@ fn comment_step(rest: &[u8], at: Reading, is_end: bool) -> Step
     ensures moves { StepMoves at rest.now result }
     ensures fits { StepFits is_end at rest.now result }
 {
+    let plain = comment_run(rest, 0);
+    if plain > 0 {
+        return Step::Passed(plain, true);
+    }
     match front_at(rest, 0) {
         Symbol::Character(c, size) => {
             if is_line_end(c) {
@@ -72,6 +72,18 @@ fn comment_step(rest: &[u8], at: Reading, is_end: bool) -> Step
     }
 }
 
+/// How many bytes are barren behind the longest token that a scan has found, where so many were at
+/// its start. Behind a word that is no prefix, so are all that were read.
+fn barren_behind(barren: usize, scan: Scan, terminal: Terminal) -> usize
+    requires { scan.best_len ≤ scan.len }
+    ensures { (result ≡ barren - scan.best_len) ⊎ ((terminal ≡ Terminal.Word) × (result ≡ max (scan.len - scan.best_len) (barren - scan.best_len))) }
+{
+    match terminal {
+        Terminal::Word => (scan.len - scan.best_len).max(barren.saturating_sub(scan.best_len)),
+        _ => barren.saturating_sub(scan.best_len),
+    }
+}
+
 /// A step to a token's end.
 fn token_step(rest: &[u8], at: Reading, is_end: bool) -> Step
     requires within { at.scan.len ≤ length rest.now }
@@ -79,9 +91,9 @@ fn token_step(rest: &[u8], at: Reading, is_end: bool) -> Step
     requires between { at.in_comment ≡ false }
     requires begins { BeginsToken rest.now }
     ensures moves { StepMoves at rest.now result }
-    ensures fits { IsScanned at.updates rest.now at.scan → StepFits is_end at rest.now result }
+    ensures fits { IsRead is_end at rest.now → StepFits is_end at rest.now result }
 {
-    let (scan, is_stuck) = read_on(rest, at.scan);
+    let (scan, is_stuck) = read_on(rest, at.scan, at.barren);
     if !is_stuck && !is_end {
         return Step::Wait(scan);
     }
@@ -91,7 +103,10 @@ fn token_step(rest: &[u8], at: Reading, is_end: bool) -> Step
     match scan.best {
         None => Step::Fault,
         Some(terminal) => match kind_of(at.updates, terminal, &rest[..scan.best_len]) {
-            Some(kind) => Step::Found(kind, scan.best_len),
+            Some(kind) => {
+                let barren = barren_behind(at.barren, scan, terminal);
+                Step::Found(kind, scan.best_len, barren)
+            }
             None => Step::Fault,
         },
     }
@@ -102,7 +117,7 @@ pub fn next_step(rest: &[u8], at: Reading, is_end: bool) -> Step
     requires within { at.scan.len ≤ length rest.now }
     requires best_within { at.scan.best_len ≤ at.scan.len }
     ensures moves { StepMoves at rest.now result }
-    ensures fits { IsScanned at.updates rest.now at.scan → StepFits is_end at rest.now result }
+    ensures fits { IsRead is_end at rest.now → StepFits is_end at rest.now result }
 {
     if at.in_comment {
         return comment_step(rest, at, is_end);
@@ -116,7 +131,7 @@ pub fn next_step(rest: &[u8], at: Reading, is_end: bool) -> Step
     }
     let byte = rest[0];
     if is_space(byte) {
-        Step::Passed(1, false)
+        Step::Passed(space_run(rest, 1), false)
     } else if byte == b'#' {
         Step::Passed(1, true)
     } else {

@@ -1,5 +1,6 @@
-use Rattle.std.proofs.Common.{◌≡◌, ◌+◌, ◌<◌, arith, sym}
+use Rattle.std.proofs.Common.{arith, sym}
 use Rattle.gs_lex.proofs.ScanLemmas.{begins-some}
+use Rattle.gs_lex.proofs.RunLemmas.{pass-comments}
 use Rattle.gs_lex.proofs.StepLemmas.{pass-line-end, pass-comment, fail-comment, ends_line, ends_text, bad-some, some-front, some-length, short-end}
 use Rattle.gs_lex.proofs.steps.comment_step.Goals as goal
 
@@ -31,3 +32,7 @@ pub returns-else-rest-eq0-clause-fits : goal.returns-else-rest-eq0-clause-fits
 returns-else-rest-eq0-clause-fits c =
     fail-comment c.args.is_end c.args.at c.args.rest.now c.requires
     (λ y m. (some-front c.args.rest.now y (some-length c.args.rest.now (omega arith)), short-end c.args.is_end c.args.rest.now y c.if-not-is_end.false c.in-Short.ensures m))
+
+pub returns-then-plain-gt0-clause-fits : goal.returns-then-plain-gt0-clause-fits
+returns-then-plain-gt0-clause-fits c =
+    pass-comments c.args.is_end c.args.at c.args.rest.now c.comment_run-plain.result c.requires c.comment_run-plain.ensures.within (omega arith) c.comment_run-plain.ensures.plain

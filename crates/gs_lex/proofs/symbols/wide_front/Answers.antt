@@ -1,7 +1,7 @@
-use Rattle.std.proofs.Common.{◌≡◌, [], ◌∷◌, arith, refl, sym, ap, subst, ◌∙◌, get_or}
+use Rattle.std.proofs.Common.{[], ◌∷◌, arith, refl, sym, ap, subst, ◌∙◌, get_or}
 use Rattle.std.proofs.lemmas.List.{take_all}
 use Rattle.gs_machine.specs.Machines.{steps}
-use Rattle.gs_machine.specs.Utf8.{Ready, utf8, decode_step}
+use Rattle.gs_machine.specs.Utf8.{Ready, utf8}
 use Rattle.gs_machine.proofs.MachineLemmas.{steps-nil}
 use Rattle.gs_lex.proofs.SymbolLemmas.{front-character, front-bad, front-short, front-more}
 use Rattle.std.specs.Char.{IsScalar}

@@ -1,0 +1,41 @@
+use Rattle.std.proofs.Common.{sym, ap, ◌∙◌, subst}
+use Rattle.gs_lex.specs.Scans.{IsScanned}
+use Rattle.gs_lex.specs.Runs.{plain_iri, plain_string, plain_name}
+use Rattle.gs_lex.specs.declared.states.State.TheVariants as at
+use Rattle.gs_lex.proofs.RunLemmas.{Stays, scan-stays, stays-iri, stays-string, stays-word, stays-word-more, stays-local, stays-label}
+use Rattle.gs_lex.proofs.scans.over_run.Goals as goal
+
+pub returns-in-Iri-clause-scanned : goal.returns-in-Iri-clause-scanned
+returns-in-Iri-clause-scanned c u h =
+    subst (IsScanned u c.args.text.now) (sym c.stay.ensures.stayed)
+    (scan-stays u c.args.text.now c.args.scan plain_iri c.iri_run.result (subst (Stays plain_iri) (sym (c.in-Inside.is ∙ ap at.Inside c.in-Iri.is)) stays-iri) c.iri_run.ensures.after c.iri_run.ensures.within c.iri_run.ensures.plain h)
+
+pub returns-in-Short-clause-scanned : goal.returns-in-Short-clause-scanned
+returns-in-Short-clause-scanned c u h =
+    subst (IsScanned u c.args.text.now) (sym c.stay-in-Short.ensures.stayed)
+    (scan-stays u c.args.text.now c.args.scan plain_string c.string_run.result (subst (Stays plain_string) (sym (c.in-Inside.is)) (stays-string c.in-Inside.inside (λ e. Prim.cc (sym c.in-Short.is ∙ e)))) c.string_run.ensures.after c.string_run.ensures.within c.string_run.ensures.plain h)
+
+pub returns-in-Long-clause-scanned : goal.returns-in-Long-clause-scanned
+returns-in-Long-clause-scanned c u h =
+    subst (IsScanned u c.args.text.now) (sym c.stay-in-Long.ensures.stayed)
+    (scan-stays u c.args.text.now c.args.scan plain_string c.string_run-in-Long.result (subst (Stays plain_string) (sym (c.in-Inside.is)) (stays-string c.in-Inside.inside (λ e. Prim.cc (sym c.in-Long.is ∙ e)))) c.string_run-in-Long.ensures.after c.string_run-in-Long.ensures.within c.string_run-in-Long.ensures.plain h)
+
+pub returns-in-Word-clause-scanned : goal.returns-in-Word-clause-scanned
+returns-in-Word-clause-scanned c u h =
+    subst (IsScanned u c.args.text.now) (sym c.stay-in-Word.ensures.stayed)
+    (scan-stays u c.args.text.now c.args.scan plain_name c.name_run.result (subst (Stays plain_name) (sym (c.in-Word.is)) stays-word) c.name_run.ensures.after c.name_run.ensures.within c.name_run.ensures.plain h)
+
+pub returns-in-WordMore-clause-scanned : goal.returns-in-WordMore-clause-scanned
+returns-in-WordMore-clause-scanned c u h =
+    subst (IsScanned u c.args.text.now) (sym c.stay-in-WordMore.ensures.stayed)
+    (scan-stays u c.args.text.now c.args.scan plain_name c.name_run-in-WordMore.result (subst (Stays plain_name) (sym (c.in-WordMore.is)) stays-word-more) c.name_run-in-WordMore.ensures.after c.name_run-in-WordMore.ensures.within c.name_run-in-WordMore.ensures.plain h)
+
+pub returns-in-Local-clause-scanned : goal.returns-in-Local-clause-scanned
+returns-in-Local-clause-scanned c u h =
+    subst (IsScanned u c.args.text.now) (sym c.stay-in-Local.ensures.stayed)
+    (scan-stays u c.args.text.now c.args.scan plain_name c.name_run-in-Local.result (subst (Stays plain_name) (sym (c.in-Local.is)) stays-local) c.name_run-in-Local.ensures.after c.name_run-in-Local.ensures.within c.name_run-in-Local.ensures.plain h)
+
+pub returns-in-Label-clause-scanned : goal.returns-in-Label-clause-scanned
+returns-in-Label-clause-scanned c u h =
+    subst (IsScanned u c.args.text.now) (sym c.stay-in-Label.ensures.stayed)
+    (scan-stays u c.args.text.now c.args.scan plain_name c.name_run-in-Label.result (subst (Stays plain_name) (sym (c.in-Label.is)) stays-label) c.name_run-in-Label.ensures.after c.name_run-in-Label.ensures.within c.name_run-in-Label.ensures.plain h)
