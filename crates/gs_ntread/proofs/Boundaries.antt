@@ -3,19 +3,12 @@ use Rattle.std.proofs.Common.{◌≡◌, ℕ, Bool, true, false, List, [], ◌�
 use Rattle.std.specs.Prelude.{◌&&◌}
 use Rattle.std.specs.Str.{IsUtf8, encode_utf8_all}
 use lib.Utf8.{scalar, scalars}
-use Rattle.gs_machine.specs.Machines.{joined, steps, rest}
+use Rattle.gs_machine.specs.Machines.{steps, rest}
 use Rattle.gs_machine.specs.Utf8.{Decoding, Ready, Within, Lost, bad, Spells, nothing, char, utf8, symbols, decode_step, decode_end}
 use Rattle.gs_machine.proofs.MachineLemmas.{rest-append}
 use Rattle.gs_machine.proofs.Utf8Lemmas.{spelt, one_spelling}
+use Rattle.gs_ntread.proofs.Branches.{first_of_and, second_of_and}
 use Rattle.gs_ntread.proofs.Lostness.{marks_any}
-
-first_of_and : (a b : Bool) → (a && b) ≡ true → a ≡ true
-first_of_and true b h = refl
-first_of_and false b h = h
-
-second_of_and : (a b : Bool) → (a && b) ≡ true → b ≡ true
-second_of_and true b h = h
-second_of_and false b h = absurd (Prim.cc)
 
 spells_encoded : (cs : List ℕ) → scalars cs ≡ true → Spells (encode_utf8_all cs) cs
 spells_encoded [] h = nothing

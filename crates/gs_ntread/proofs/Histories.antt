@@ -1,22 +1,21 @@
 -- What the history of a reader tells.
-use Rattle.std.proofs.Common.{◌≡◌, ℕ, Bool, List, [], ◌∷◌, ◌++◌, length, take, refl, sym, ap, subst, ◌∙◌, append-nil}
+use Rattle.std.proofs.Common.{◌≡◌, ℕ, List, [], ◌++◌, length, take, refl, sym, ap, subst, ◌∙◌, append-nil}
 use Rattle.std.proofs.Math.Seq.{take-append_seam}
 use Rattle.std.specs.Str.{IsUtf8}
 use Rattle.gs_model.specs.Triples.{Statement}
 use Rattle.gs_model.specs.declared.refusals.Refusal.{Refusal}
 use Rattle.gs_model.specs.declared.refusals.Refusal.TheVariants as refusal
-use Rattle.gs_machine.specs.Machines.{Machine, joined, steps, rest, AreSettled, Begins}
-use Rattle.gs_machine.specs.Utf8.{Decoding, Ready, Lost, utf8}
+use Rattle.gs_machine.specs.Machines.{joined, steps, rest, AreSettled, Begins}
+use Rattle.gs_machine.specs.Utf8.{Decoding, Ready, utf8}
 use Rattle.gs_machine.proofs.MachineLemmas.{steps-behind}
-use Rattle.gs_body.specs.Bodies.{Stated, Said, Ending, Whole, Syntax, TooLong, Tells, triples_of, end_after}
+use Rattle.gs_body.specs.Bodies.{Stated, Said, Syntax, TooLong, Tells, triples_of, end_after}
 use Rattle.gs_body.specs.Feeding.{Feeds, Finishes}
 use Rattle.gs_body.specs.Leading.{IsLed}
 use Rattle.gs_body.proofs.LeadingLemmas.{led-on, led-begun, led-settled, led-said, led-breaks, led-exceeds, triples_of-append, end_after-append}
 use Rattle.gs_ntread.specs.Documents.{said_by}
-use Rattle.gs_ntread.specs.Machine.{State, broken}
+use Rattle.gs_ntread.specs.States.{State}
 use Rattle.gs_ntread.specs.Reader.{Led, placing, ntriples, unread}
 use Rattle.gs_ntread.specs.Readers.{led_of, LeadsTo, Takes, FaultyAfter, FaultyEnd, Ends, Sound}
-use Rattle.gs_ntread.specs.Views.{state_of}
 use Rattle.gs_ntread.specs.declared.reader.NTriplesReader.{NTriplesReader}
 use Rattle.gs_ntread.proofs.Whole.{said_is, says_nothing, silence}
 use Rattle.gs_ntread.proofs.Lostness.{sound-steps}

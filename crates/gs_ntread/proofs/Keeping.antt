@@ -1,16 +1,16 @@
 -- What is read of a line leaves no line's end behind, and a fault is one.
-use Rattle.std.proofs.Common.{◌≡◌, ℕ, ◌-◌, Bool, true, false, cond, List, [], ◌∷◌, ◌++◌, length, Option, Some, None, Result, Ok, Err}
+use Rattle.std.proofs.Common.{◌≡◌, ℕ, ◌-◌, false, List, [], ◌∷◌, length, Option, Some, None, Result, Ok, Err}
 use Rattle.std.specs.Prelude.{◌==◌, ◌&&◌, ◌||◌, nat_le}
-use Rattle.std.specs.Char.{encode_utf8}
 use lib.Utf8.{scalar}
 use Rattle.std.specs.Str.{str_to_ascii_lowercase}
-use Rattle.gs_model.specs.Terms.{Term, Iri, Literal, Typed, Tagged, xsd_string, is_term, text_of}
+use Rattle.gs_model.specs.Terms.{Term, Literal, Typed, Tagged, xsd_string, is_term, text_of}
 use Rattle.gs_model.specs.declared.limits.TheConstants.{LONGEST_TERM}
 use Rattle.gs_body.specs.Bodies.{Ending, Whole, Syntax, TooLong}
 use Rattle.gs_ntread.specs.Marks.{Mark}
 use Rattle.gs_ntread.specs.Classes.{is_space, is_line_end, may_stand_in_iri, may_stand_in_string, is_hex, with_digit, is_label_char, begins_label, is_tag_char}
-use Rattle.gs_ntread.specs.Sentences.{made, short, typed_made}
-use Rattle.gs_ntread.specs.Grammar.{Read, ◌>>=◌, skip, before, Inside, Plain, Escape, Digits, escaped, escape_before, iri_after, string_after, goes_on, label_after, label_at, tag_after, before_text, datatype_at, caret_at, suffix_at}
+use Rattle.gs_ntread.specs.Sentences.{Labelled, Word, made, label_made, typed_made}
+use Rattle.gs_ntread.specs.Terminals.{Read, ◌>>=◌, skip, before, Inside, Plain, Escape, Digits, escaped, escape_before, iri_after, string_after, goes_on, label_after, label_at, tag_after}
+use Rattle.gs_ntread.specs.Grammar.{before_text, datatype_at, caret_at, suffix_at}
 use Rattle.gs_ntread.proofs.Branches.{either_way}
 
 -- no character of a line ends it
@@ -92,12 +92,12 @@ keeps_made y t n =
     either_way (λ (r : Result Term Ending). KeepsLine (before_text y r)) (is_term t) _ _
     (either_way (λ (r : Result Term Ending). KeepsLine (before_text y r)) (nat_le (length (text_of t)) LONGEST_TERM) _ _ n tt) tt
 
-pub keeps_short : {A : Type 0} (y : List Mark) (token : List ℕ) (r : Result A Ending) → KeepsLine (before_text y r) → KeepsLine (before_text y (short token r))
-keeps_short {A} y token r h = either_way (λ (r : Result A Ending). KeepsLine (before_text y r)) (nat_le (length token) LONGEST_TERM) r (Err TooLong) h tt
+pub keeps_label_made : (y : List Mark) (label : List ℕ) → NoEnd y → KeepsLine (before_text y (label_made label))
+keeps_label_made y label h = either_way (λ (r : Result Word Ending). KeepsLine (before_text y r)) (nat_le (length label) LONGEST_TERM) (Ok (Labelled label)) (Err TooLong) h tt
 
 keeps_typed : (l : List ℕ) (r : Read (List ℕ)) → KeepsLine r → KeepsLine (r >>= λ i. before_text i.1 (typed_made l i.0))
 keeps_typed l (Err e) h = h
-keeps_typed l (Ok i) h = keeps_short i.1 i.0 (made (Literal l (Typed i.0))) (keeps_made i.1 (Literal l (Typed i.0)) h)
+keeps_typed l (Ok i) h = keeps_made i.1 (Literal l (Typed i.0)) h
 
 keeps_datatype : (l : List ℕ) (line : List Mark) → NoEnd line → KeepsLine (datatype_at l line)
 keeps_datatype l [] n = tt
@@ -111,5 +111,5 @@ pub keeps_suffix : (l : List ℕ) (line : List Mark) → NoEnd line → KeepsLin
 keeps_suffix l [] n = keeps_made [] (Literal l (Typed xsd_string)) n
 keeps_suffix l (m ∷ ms) (more h n) =
     either_way KeepsLine (m.0 == 94) _ _ (keeps_caret l ms n)
-    (either_way KeepsLine (m.0 == 64) _ _ (keeps_short (tag_after ms).1 (tag_after ms).0 _ (keeps_made (tag_after ms).1 (Literal l (Tagged (str_to_ascii_lowercase (tag_after ms).0))) (keeps_tag ms n)))
+    (either_way KeepsLine (m.0 == 64) _ _ (keeps_made (tag_after ms).1 (Literal l (Tagged (str_to_ascii_lowercase (tag_after ms).0))) (keeps_tag ms n))
     (keeps_made (m ∷ ms) (Literal l (Typed xsd_string)) (more h n)))

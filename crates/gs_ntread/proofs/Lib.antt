@@ -1,4 +1,5 @@
 pub mod Branches
+pub mod FormLemmas
 pub mod Holding
 pub mod Keeping
 pub mod WalkTokens
@@ -7,6 +8,7 @@ pub mod WalkLiterals
 pub mod WalkLines
 pub mod Whole
 pub mod Lostness
-pub mod Runs
+pub mod Takes
 pub mod Boundaries
 pub mod Histories
+pub mod RunLemmas

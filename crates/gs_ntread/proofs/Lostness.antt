@@ -1,16 +1,18 @@
 -- Where the decoder is lost the grammar is broken.
-use Rattle.std.proofs.Common.{◌≡◌, ℕ, zero, suc, ◌*◌, ◌+◌, ◌-◌, Bool, true, false, cond, List, [], ◌∷◌, ◌++◌, refl, sym, ap, subst, ◌∙◌, Option, Some, None, Result, Ok, Err}
+use Rattle.std.proofs.Common.{◌≡◌, ℕ, zero, suc, ◌*◌, ◌+◌, ◌-◌, cond, List, [], ◌∷◌, refl, sym, subst, Result, Ok, Err}
 use Rattle.std.specs.Prelude.{◌==◌, nat_lt}
 use Rattle.gs_model.specs.Terms.{Term}
-use Rattle.gs_machine.specs.Machines.{Machine, steps, rest, behind}
-use Rattle.gs_machine.specs.Utf8.{Decoding, Ready, Within, Lost, bad, utf8, decode_step, lead, goes_on}
-use Rattle.gs_body.specs.Bodies.{Ending, Syntax, TooLong, Stated}
+use Rattle.gs_machine.specs.Machines.{steps, behind}
+use Rattle.gs_machine.specs.Utf8.{Decoding, Ready, Within, Lost, bad, decode_step, lead, goes_on}
+use Rattle.gs_body.specs.Bodies.{Ending, Syntax}
 use Rattle.gs_blank.specs.Numbers.{Numbers}
-use Rattle.gs_ntread.specs.Marks.{Mark, end_of}
+use Rattle.gs_ntread.specs.Marks.{end_of}
 use Rattle.gs_ntread.specs.Sentences.{Word}
-use Rattle.gs_ntread.specs.Documents.{numbering}
-use Rattle.gs_ntread.specs.Grammar.{Inside, Plain, Escape, Digits}
-use Rattle.gs_ntread.specs.Machine.{State, Turn, Held, Stage, AtSubject, AtPredicate, AtObject, AtSuffix, AtDatatype, AtDot, AtEnd, Mode, Between, Comment, InIri, InString, Underscore, Colon, InLabel, InDots, Caret, InTag, Broken, broken, end_state, turn, behind_literal, behind_subject, behind_object, dotted_object, label_held, plain_held, tagged_held}
+use Rattle.gs_ntread.specs.Terminals.{Plain, Escape, Digits}
+use Rattle.gs_ntread.specs.Tokens.{label_held, plain_held, tagged_held}
+use Rattle.gs_ntread.specs.States.{State, Stage, AtSubject, AtPredicate, AtObject, AtSuffix, AtDatatype, AtDot, AtEnd, Mode, Between, Comment, InIri, InString, Underscore, Colon, InLabel, InDots, Caret, InTag, Broken, broken}
+use Rattle.gs_ntread.specs.Lines.{end_state, behind_literal}
+use Rattle.gs_ntread.specs.Turns.{turn, behind_subject, behind_object, dotted_object}
 use Rattle.gs_ntread.specs.Reader.{keeping, placing, ntriples, Led}
 use Rattle.gs_ntread.specs.Readers.{IsBroken, Sound}
 use Rattle.gs_ntread.proofs.Branches.{either_way}

@@ -1,18 +1,22 @@
 -- What is said within a label is what its production says, which takes the dots that the label goes on behind.
-use Rattle.std.proofs.Common.{◌≡◌, ℕ, zero, suc, ◌+◌, add-one, Bool, true, false, cond, List, [], ◌∷◌, ◌++◌, refl, sym, ap, subst, ◌∙◌, append_assoc, append-nil, arith, Result, Ok, Err}
+use Rattle.std.proofs.Common.{◌≡◌, ℕ, zero, suc, add-one, Bool, true, false, cond, List, [], ◌∷◌, ◌++◌, refl, sym, ap, ◌∙◌, append_assoc, append-nil, arith, Result, Ok, Err}
 use Rattle.std.proofs.lemmas.Bool.{eqb-true}
 use Rattle.std.proofs.lemmas.Bool.Decides.{nat_tests}
 use Rattle.std.specs.Prelude.{◌==◌, ◌&&◌, ◌||◌}
 use Rattle.std.specs.Char.{encode_utf8}
 use Rattle.gs_model.specs.Terms.{Term}
 use Rattle.gs_machine.specs.Machines.{joined, rest}
-use Rattle.gs_body.specs.Bodies.{Ending, Whole, Syntax, TooLong}
+use Rattle.gs_body.specs.Bodies.{Ending, Whole, Syntax}
 use Rattle.gs_ntread.specs.Marks.{Mark}
 use Rattle.gs_ntread.specs.Classes.{is_label_char, begins_label}
 use Rattle.gs_ntread.specs.Sentences.{Word}
-use Rattle.gs_ntread.specs.Grammar.{Read, goes_on, label_after, label_at}
+use Rattle.gs_ntread.specs.Terminals.{goes_on, label_after, label_at}
 use Rattle.gs_ntread.specs.Documents.{Meant}
-use Rattle.gs_ntread.specs.Machine.{Held, hold, add, add_dots, Stage, AtSubject, AtPredicate, AtObject, AtSuffix, AtDatatype, AtDot, AtEnd, Mode, Between, Underscore, Colon, InLabel, InDots, State, Turn, quiet, broken, sentence, end_state, label_held, behind_subject, behind_object, label_turn, label_end, dotted_turn, dotted_object, dotted_end, dots_end, fault_of, end_of_text, turn, reading}
+use Rattle.gs_ntread.specs.Tokens.{Held, hold, add, add_dots, label_held}
+use Rattle.gs_ntread.specs.States.{Stage, AtSubject, AtPredicate, AtObject, AtSuffix, AtDatatype, AtDot, AtEnd, Between, Underscore, Colon, InLabel, InDots, State, quiet, broken, sentence, fault_of}
+use Rattle.gs_ntread.specs.Lines.{end_state}
+use Rattle.gs_ntread.specs.Turns.{behind_subject, behind_object, label_turn, dotted_turn, dotted_object, turn}
+use Rattle.gs_ntread.specs.Machine.{label_end, dotted_end, dots_end, end_of_text}
 use Rattle.gs_ntread.proofs.Branches.{two_ways, by_test, by_test_knowing, one_way}
 use Rattle.gs_ntread.proofs.Holding.{add-hold}
 use Rattle.gs_ntread.proofs.WalkTokens.{told, follow, Stops, at_nothing, at_feed, at_return, walk_broken, after}

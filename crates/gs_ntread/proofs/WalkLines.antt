@@ -1,19 +1,22 @@
 -- What is said of a document is what its lines mean.
 use Rattle.std.proofs.Common.{◌≡◌, ℕ, Bool, true, false, cond, List, [], ◌∷◌, ◌++◌, refl, sym, ap, ◌∙◌, append_assoc, append-nil, subst, Result, Ok, Err}
-use Rattle.std.specs.Prelude.{◌==◌, ◌||◌, ◌&&◌}
+use Rattle.std.specs.Prelude.{◌==◌, ◌||◌}
 use Rattle.std.proofs.lemmas.Bool.{eqb-true}
 use Rattle.gs_model.specs.Terms.{Term, Iri}
 use Rattle.gs_machine.specs.Machines.{joined, rest}
 use Rattle.gs_body.specs.Bodies.{Ending, Whole, Syntax, TooLong}
 use Rattle.gs_ntread.specs.Marks.{Mark}
 use Rattle.gs_ntread.specs.Classes.{is_space, is_line_end, may_stand_in_comment}
-use Rattle.gs_ntread.specs.Sentences.{Word, Fixed, Labelled, Sentence, made, iri_made, label_made}
-use Rattle.gs_ntread.specs.Grammar.{Read, ◌>>=◌, skip, Plain, iri_after, string_after, label_at, as_word, iri_read, label_read, before_text, suffix_at, subject_at, predicate_at, object_at, dot_at, triple_at}
+use Rattle.gs_ntread.specs.Sentences.{Word, Fixed, Sentence, iri_made, label_made}
+use Rattle.gs_ntread.specs.Terminals.{Read, ◌>>=◌, skip, Plain, iri_after, string_after, label_at}
+use Rattle.gs_ntread.specs.Grammar.{as_word, iri_read, label_read, before_text, suffix_at, predicate_at, object_at, dot_at}
 use Rattle.gs_ntread.specs.Documents.{Meant, comment_meant, rest_meant, triple_meant, line_meant, then_meant, lines_meant, document}
-use Rattle.gs_ntread.specs.Machine.{Held, hold, Stage, AtSubject, AtPredicate, AtObject, AtDot, AtEnd, Between, Comment, State, start, broken, sentence, to_predicate, to_object, to_dot, iri_closed, string_closed, iri_held, label_held, reading}
+use Rattle.gs_ntread.specs.States.{AtSubject, AtPredicate, AtObject, AtDot, AtEnd, Between, Comment, start, broken, sentence}
+use Rattle.gs_ntread.specs.Lines.{to_predicate, to_object, to_dot, iri_closed, string_closed}
+use Rattle.gs_ntread.specs.Machine.{reading}
 use Rattle.gs_ntread.proofs.Branches.{two_ways, by_test, by_test_knowing, otherwise}
 use Rattle.gs_ntread.proofs.Holding.{iri_held-hold, label_held-hold}
-use Rattle.gs_ntread.proofs.Keeping.{NoEnd, none, more, IsFault, KeepsLine, keeps_made, keeps_short, keeps_iri, keeps_string, keeps_label, keeps_suffix, keeps_skip}
+use Rattle.gs_ntread.proofs.Keeping.{NoEnd, none, more, IsFault, KeepsLine, keeps_made, keeps_label_made, keeps_iri, keeps_string, keeps_label, keeps_suffix, keeps_skip}
 use Rattle.gs_ntread.proofs.WalkTokens.{told, follow, Stops, at_nothing, at_feed, at_return, walk_broken, after, walk_iri, walk_string}
 use Rattle.gs_ntread.proofs.WalkLabels.{label_closed, to_label_predicate, to_label_dot, walk_underscore}
 use Rattle.gs_ntread.proofs.WalkLiterals.{literal_told, walk_suffix}
@@ -98,7 +101,7 @@ closes_object : (s : Word) (p : Term) (tail : List Mark) (r : Read (List ℕ)) �
 closes_object s p tail (Err e) q h = stopped e (after_line tail) h
 closes_object s p tail (Ok i) q h =
     ap (λ r. told (to_dot s p r) (i.1 ++ tail)) (iri_held-hold i.0)
-    ∙ object_told s p i.1 tail (iri_made i.0) q (keeps_short i.1 i.0 (made (Iri i.0)) (keeps_made i.1 (Iri i.0) h))
+    ∙ object_told s p i.1 tail (iri_made i.0) q (keeps_made i.1 (Iri i.0) h)
 
 -- behind a literal
 literal_closed : (s : Word) (p : Term) (tail : List Mark) (r : Read Term) → Stops tail → KeepsLine r
@@ -123,7 +126,7 @@ closes_label : (s : Word) (p : Term) (tail : List Mark) (r : Read (List ℕ)) �
 closes_label s p tail (Err e) q h = stopped e (after_line tail) h
 closes_label s p tail (Ok l) q h =
     ap (λ r. told (to_label_dot s p r) (l.1 ++ tail)) (label_held-hold l.0)
-    ∙ label_told s p l.1 tail (label_made l.0) q (keeps_short l.1 l.0 (Ok (Labelled l.0)) h)
+    ∙ label_told s p l.1 tail (label_made l.0) q (keeps_label_made l.1 l.0 h)
 
 pub walk_object : (s : Word) (p : Term) (line tail : List Mark) → NoEnd line → Stops tail
     → told (AtObject s p, Between) (line ++ tail) ≡ meant tail (predicate_then s (p, line))
@@ -153,7 +156,7 @@ closes_predicate : (s : Word) (tail : List Mark) (r : Read (List ℕ)) → Stops
 closes_predicate s tail (Err e) q h = stopped e (after_line tail) h
 closes_predicate s tail (Ok i) q h =
     ap (λ r. told (to_object s r) (i.1 ++ tail)) (iri_held-hold i.0)
-    ∙ predicate_told s i.1 tail (iri_made i.0) q (keeps_short i.1 i.0 (made (Iri i.0)) (keeps_made i.1 (Iri i.0) h))
+    ∙ predicate_told s i.1 tail (iri_made i.0) q (keeps_made i.1 (Iri i.0) h)
 
 pub walk_predicate : (s : Word) (line tail : List Mark) → NoEnd line → Stops tail
     → told (AtPredicate s, Between) (line ++ tail) ≡ meant tail (subject_then (s, line))
@@ -179,7 +182,7 @@ closes_subject : (tail : List Mark) (r : Read (List ℕ)) → Stops tail → Kee
 closes_subject tail (Err e) q h = stopped e (after_line tail) h
 closes_subject tail (Ok i) q h =
     ap (λ r. told (to_predicate r) (i.1 ++ tail)) (iri_held-hold i.0)
-    ∙ subject_told i.1 tail (iri_made i.0) q (keeps_short i.1 i.0 (made (Iri i.0)) (keeps_made i.1 (Iri i.0) h))
+    ∙ subject_told i.1 tail (iri_made i.0) q (keeps_made i.1 (Iri i.0) h)
 
 label_subject_told : (y tail : List Mark) (r : Result Word Ending) → Stops tail → KeepsLine (before_text y r)
     → told (to_label_predicate r) (y ++ tail) ≡ meant tail (before_text y r >>= subject_then)
@@ -191,7 +194,7 @@ closes_subject_label : (tail : List Mark) (r : Read (List ℕ)) → Stops tail �
 closes_subject_label tail (Err e) q h = stopped e (after_line tail) h
 closes_subject_label tail (Ok l) q h =
     ap (λ r. told (to_label_predicate r) (l.1 ++ tail)) (label_held-hold l.0)
-    ∙ label_subject_told l.1 tail (label_made l.0) q (keeps_short l.1 l.0 (Ok (Labelled l.0)) h)
+    ∙ label_subject_told l.1 tail (label_made l.0) q (keeps_label_made l.1 l.0 h)
 
 -- a whole line
 pub walk_line : (line tail : List Mark) → NoEnd line → Stops tail → told start (line ++ tail) ≡ then_meant (line_meant line) (after_line tail)

@@ -1,17 +1,19 @@
 -- What is said within an IRI, a string or a tag is what their productions say.
-use Rattle.std.proofs.Common.{◌≡◌, ℕ, ◌-◌, Bool, true, false, cond, List, [], ◌∷◌, ◌++◌, refl, sym, ap, ◌∙◌, append_assoc, append-nil, Option, Some, None, Result, Ok, Err}
+use Rattle.std.proofs.Common.{◌≡◌, ℕ, ◌-◌, List, [], ◌∷◌, ◌++◌, refl, sym, ap, ◌∙◌, append_assoc, append-nil, Some, None, Ok, Err}
 use Rattle.std.specs.Prelude.{◌==◌}
 use Rattle.std.specs.Char.{encode_utf8}
 use lib.Utf8.{scalar}
-use Rattle.gs_model.specs.Terms.{Term}
 use Rattle.gs_machine.specs.Machines.{joined, rest}
-use Rattle.gs_body.specs.Bodies.{Ending, Whole, Syntax, TooLong}
+use Rattle.gs_body.specs.Bodies.{Ending, Syntax}
 use Rattle.gs_ntread.specs.Marks.{Mark}
-use Rattle.gs_ntread.specs.Classes.{may_stand_in_iri, may_stand_in_string, is_hex, is_tag_char, with_digit}
-use Rattle.gs_ntread.specs.Sentences.{Word}
-use Rattle.gs_ntread.specs.Grammar.{Read, before, Inside, Plain, Escape, Digits, escaped, escape_before, iri_after, string_after, tag_after}
+use Rattle.gs_ntread.specs.Classes.{may_stand_in_iri, may_stand_in_string, is_hex, with_digit}
+use Rattle.gs_ntread.specs.Terminals.{Read, before, Inside, Plain, Escape, Digits, escaped, escape_before, iri_after, string_after}
 use Rattle.gs_ntread.specs.Documents.{Meant}
-use Rattle.gs_ntread.specs.Machine.{Held, hold, add, Stage, Mode, InIri, InString, InTag, State, Turn, broken, iri_closed, iri_turn, string_closed, string_turn, escape_turn, tag_turn, tag_end, reading}
+use Rattle.gs_ntread.specs.Tokens.{Held, hold}
+use Rattle.gs_ntread.specs.States.{Stage, InIri, InString, State, Turn, broken}
+use Rattle.gs_ntread.specs.Lines.{iri_closed, string_closed}
+use Rattle.gs_ntread.specs.Turns.{escape_turn}
+use Rattle.gs_ntread.specs.Machine.{reading}
 use Rattle.gs_ntread.proofs.Branches.{two_ways}
 use Rattle.gs_ntread.proofs.Holding.{add-hold}
 

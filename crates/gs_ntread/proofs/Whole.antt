@@ -1,17 +1,17 @@
 -- The four machines say of a text what its meaning is.
-use Rattle.std.proofs.Common.{◌≡◌, ℕ, ◌+◌, Bool, true, false, cond, List, [], ◌∷◌, ◌++◌, refl, sym, ap, subst, ◌∙◌, append_assoc, append-nil, Result, Ok, Err}
-use Rattle.std.specs.Prelude.{◌==◌, nat_lt, nat_le}
-use Rattle.gs_model.specs.Terms.{Term}
+use Rattle.std.proofs.Common.{◌≡◌, ℕ, true, List, [], ◌∷◌, ◌++◌, refl, sym, ap, ◌∙◌}
 use Rattle.gs_machine.specs.Machines.{Machine, joined, steps, rest, behind}
-use Rattle.gs_machine.specs.Utf8.{Decoding, Ready, Within, Lost, bad, utf8, symbols, decode_step, decode_end, is_ready_of}
+use Rattle.gs_machine.specs.Utf8.{Decoding, Ready, Within, Lost, utf8, symbols, decode_step, is_ready_of}
 use Rattle.gs_machine.proofs.MachineLemmas.{rest-append, rest-behind, steps-one}
-use Rattle.gs_body.specs.Bodies.{Ending, Whole, Syntax, TooLong, Stated, Said}
+use Rattle.gs_body.specs.Bodies.{Ending, Stated}
 use Rattle.gs_blank.specs.Numbers.{Numbers, no_numbers}
 use Rattle.gs_ntread.specs.Marks.{Mark, marks, places, end_of}
-use Rattle.gs_ntread.specs.Sentences.{Word, Sentence}
-use Rattle.gs_ntread.specs.Documents.{document, numbering, stated, said_by}
-use Rattle.gs_ntread.specs.Machine.{State, Turn, Stage, Mode, Between, Comment, InIri, InString, Underscore, Colon, InLabel, InDots, Caret, InTag, Broken, broken, start, turn, end_of_text, reading}
-use Rattle.gs_ntread.specs.Reader.{keeping, stating, placing, ntriples, Led, unread}
+use Rattle.gs_ntread.specs.Sentences.{Sentence}
+use Rattle.gs_ntread.specs.Documents.{numbering, stated, said_by}
+use Rattle.gs_ntread.specs.States.{State, Turn, Between, Comment, InIri, InString, Underscore, Colon, InLabel, InDots, Caret, InTag, Broken, broken, start}
+use Rattle.gs_ntread.specs.Turns.{turn}
+use Rattle.gs_ntread.specs.Machine.{end_of_text, reading}
+use Rattle.gs_ntread.specs.Reader.{keeping, stating, placing, ntriples, unread}
 use Rattle.gs_ntread.proofs.WalkLines.{read_is}
 use Rattle.gs_ntread.proofs.WalkTokens.{walk_broken}
 

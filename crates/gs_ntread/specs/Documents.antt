@@ -1,5 +1,5 @@
 -- What a document of N-Triples says: its lines, each blank or a triple, up to the first fault.
-use Rattle.std.specs.Prelude.{ℕ, ◌+◌, Bool, true, false, ◌==◌, if◌then◌else◌, List, [], ◌∷◌, ◌++◌, Result, Ok, Err}
+use Rattle.std.specs.Prelude.{ℕ, ◌==◌, if◌then◌else◌, List, [], ◌∷◌, ◌++◌, Ok, Err}
 use Rattle.gs_model.specs.Terms.{Term, Blank}
 use Rattle.gs_machine.specs.Utf8.{symbols}
 use Rattle.gs_machine.specs.Machines.{Machine, rest}
@@ -8,7 +8,8 @@ use Rattle.gs_blank.specs.Numbers.{Numbers, no_numbers, number_of}
 use Rattle.gs_ntread.specs.Marks.{Mark, marks}
 use Rattle.gs_ntread.specs.Classes.{is_space, is_line_end, may_stand_in_comment}
 use Rattle.gs_ntread.specs.Sentences.{Word, Fixed, Labelled, Sentence}
-use Rattle.gs_ntread.specs.Grammar.{Read, triple_at}
+use Rattle.gs_ntread.specs.Terminals.{Read}
+use Rattle.gs_ntread.specs.Grammar.{triple_at}
 
 -- sentences before the first fault, and how the text ends
 abbrev pub Meant : Type 0

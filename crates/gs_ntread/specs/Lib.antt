@@ -1,9 +1,16 @@
 pub mod Marks
 pub mod Classes
 pub mod Sentences
+pub mod Terminals
 pub mod Grammar
 pub mod Documents
+pub mod Forms
+pub mod Tokens
+pub mod States
+pub mod Lines
+pub mod Turns
 pub mod Machine
+pub mod Runs
 pub mod Views
 pub mod Reader
 pub mod Readers

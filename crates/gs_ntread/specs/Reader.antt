@@ -1,13 +1,13 @@
 -- From bytes to triples: the machines of characters, places, sentences and numbers, one behind another.
-use Rattle.std.specs.Prelude.{◌≡◌, ℕ, List}
+use Rattle.std.specs.Prelude.{ℕ}
 use Rattle.gs_machine.specs.Machines.{Machine, steps, rest, behind}
 use Rattle.gs_machine.specs.Utf8.{Decoding, Ready, utf8}
 use Rattle.gs_body.specs.Bodies.{Ending, Stated}
 use Rattle.gs_blank.specs.Numbers.{Numbers, no_numbers}
 use Rattle.gs_ntread.specs.Marks.{Mark, places}
-use Rattle.gs_ntread.specs.Sentences.{Sentence}
 use Rattle.gs_ntread.specs.Documents.{numbering}
-use Rattle.gs_ntread.specs.Machine.{State, start, reading}
+use Rattle.gs_ntread.specs.States.{State, start}
+use Rattle.gs_ntread.specs.Machine.{reading}
 
 -- one machine behind another, with the ending of the first
 unfoldable pub keeping : {S T I M O E F : Type 0} → Machine S I M E → Machine T M O F → Machine (S × T) I O E

@@ -1,5 +1,5 @@
 -- What a reader's fields mean, and what its calls do.
-use Rattle.std.specs.Prelude.{◌≡◌, ℕ, Bool, List, [], ◌++◌}
+use Rattle.std.specs.Prelude.{◌≡◌, ℕ, List, ◌++◌}
 use Rattle.gs_model.specs.Triples.{Statement}
 use Rattle.gs_model.specs.declared.refusals.Refusal.{Refusal}
 use Rattle.gs_model.specs.declared.refusals.Refusal.TheVariants as refusal
@@ -7,7 +7,7 @@ use Rattle.gs_machine.specs.Utf8.{Lost}
 use Rattle.gs_body.specs.Bodies.{Ending, Whole, Syntax, TooLong, Said, Stated, triples_of, end_after}
 use Rattle.gs_body.specs.Leading.{IsLed}
 use Rattle.gs_ntread.specs.Reader.{Led, ntriples, unread}
-use Rattle.gs_ntread.specs.Machine.{State, Mode, Broken, broken}
+use Rattle.gs_ntread.specs.States.{State, Mode, Broken, broken}
 use Rattle.gs_ntread.specs.Views.{state_of}
 use Rattle.gs_ntread.specs.declared.reader.NTriplesReader.{NTriplesReader}
 

@@ -1,14 +1,12 @@
 -- What the fields of a cursor and of a reader mean.
-use Rattle.std.specs.Prelude.{◌≡◌, ℕ, Bool, true, false, List, [], ◌∷◌, Option, Some, None, Result, Ok, Err, string_bytes}
-use Rattle.gs_model.specs.Triples.{Statement}
-use Rattle.gs_machine.specs.Machines.{Machine, behind}
-use Rattle.gs_machine.specs.Utf8.{Decoding, utf8}
+use Rattle.std.specs.Prelude.{ℕ, Bool, true, false, List, [], ◌∷◌, Option, Some, None, Result, Ok, Err, string_bytes}
 use Rattle.gs_body.specs.Bodies.{Ending, Whole, Syntax, TooLong}
 use Rattle.gs_ntread.specs.Sentences.{Word, Fixed, Labelled, Sentence}
-use Rattle.gs_ntread.specs.Grammar.{Plain, Escape, Digits}
-use Rattle.gs_ntread.specs.Machine.{Held, Text, Long, Stage, AtSubject, AtPredicate, AtObject, AtSuffix, AtDatatype, AtDot, AtEnd, State, Between, Comment, InIri, InString, Underscore, Colon, InLabel, InDots, Caret, InTag, Broken, broken}
+use Rattle.gs_ntread.specs.Terminals.{Plain, Escape, Digits}
+use Rattle.gs_ntread.specs.Tokens.{Held, Text, Long}
+use Rattle.gs_ntread.specs.States.{Stage, AtSubject, AtPredicate, AtObject, AtSuffix, AtDatatype, AtDot, AtEnd, State, Between, Comment, InIri, InString, Underscore, Colon, InLabel, InDots, Caret, InTag, broken}
+use Rattle.gs_ntread.specs.declared.forms.Form.{Form}
 use Rattle.gs_ntread.specs.declared.tokens.Token.{Token}
-use Rattle.gs_ntread.specs.declared.parts.Name.{Name}
 use Rattle.gs_ntread.specs.declared.parts.Subject.{Subject}
 use Rattle.gs_ntread.specs.declared.parts.Subject.TheVariants as subject
 use Rattle.gs_ntread.specs.declared.parts.Object.{Object}
@@ -24,13 +22,13 @@ use Rattle.gs_ntread.specs.declared.parts.Final.{Final}
 use Rattle.gs_ntread.specs.declared.parts.Final.TheVariants as final
 use Rattle.gs_ntread.specs.declared.cursor.Cursor.{Cursor}
 
--- the bytes of a token
-abbrev pub held : Bool → List ℕ → Held
-held true text = Long
-held false text = Text text
+-- the bytes of a token, or their form
+abbrev pub held : Bool → Form → List ℕ → Held
+held true form text = Long form
+held false form text = Text text
 
 abbrev pub held_of : Token → Held
-held_of t = held t.is_long (string_bytes t.text)
+held_of t = held t.is_long t.form (string_bytes t.text)
 
 abbrev pub subject_of : Subject → Word
 subject_of (subject.Iri n) = Fixed n.term

@@ -3,8 +3,9 @@ ghost use Rattle.std.specs.Prelude.{◌≡◌, IfOk, OnOk, if◌then◌else◌, 
 ghost use Rattle.std.specs.Char.{IsScalar};
 ghost use Rattle.std.specs.Option.{SomeIff};
 ghost use Rattle.gs_ntread.specs.Classes.{is_hex, with_digit as with_digit_of};
-ghost use Rattle.gs_ntread.specs.Grammar.{escaped as escaped_of, Plain, Escape, Digits};
-ghost use Rattle.gs_ntread.specs.Machine.{iri_turn, string_turn, turn, quiet, Colon, InLabel, InDots, InTag, Comment};
+ghost use Rattle.gs_ntread.specs.Terminals.{escaped as escaped_of, Plain, Escape, Digits};
+ghost use Rattle.gs_ntread.specs.States.{quiet, Colon, InLabel, InDots, InTag, Comment};
+ghost use Rattle.gs_ntread.specs.Turns.{iri_turn, string_turn, turn};
 ghost use Rattle.gs_ntread.specs.Views.{held_of, state_of, stage_of, given};
 ghost use Rattle.gs_ntread.specs.declared.parts.Within.TheVariants as within;
 

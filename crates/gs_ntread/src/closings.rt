@@ -1,6 +1,7 @@
 //! Where a token ends.
 ghost use Rattle.std.specs.Prelude.{◌≡◌, OnOk, IfOk};
-ghost use Rattle.gs_ntread.specs.Machine.{Held, to_predicate as to_predicate_of, to_object as to_object_of, to_dot as to_dot_of, iri_held, typed_held, iri_closed, string_closed, caret_closed};
+ghost use Rattle.gs_ntread.specs.Tokens.{Held, iri_held, typed_held};
+ghost use Rattle.gs_ntread.specs.Lines.{to_predicate as to_predicate_of, to_object as to_object_of, to_dot as to_dot_of, iri_closed, string_closed, caret_closed};
 ghost use Rattle.gs_ntread.specs.Views.{settled, held_of, subject_of, state_of, stage_of};
 
 use crate::cursor::Cursor;

@@ -2,7 +2,10 @@
 ghost use Rattle.std.specs.Prelude.{◌≡◌, ◌∷◌, [], OnOk, IfOk, if◌then◌else◌, ◌==◌};
 ghost use Rattle.gs_ntread.specs.Sentences.{Word};
 ghost use Rattle.gs_ntread.specs.Classes.{is_space as is_space_of};
-ghost use Rattle.gs_ntread.specs.Machine.{start, broken, end_state, between_turn, behind_literal, turn, quiet, Between, InIri, Underscore, InString, Text, iri_closed, string_closed, caret_closed, plain_held};
+ghost use Rattle.gs_ntread.specs.Tokens.{Text, plain_held};
+ghost use Rattle.gs_ntread.specs.States.{start, broken, quiet, Between, InIri, Underscore, InString};
+ghost use Rattle.gs_ntread.specs.Lines.{end_state, between_turn, behind_literal, iri_closed, string_closed, caret_closed};
+ghost use Rattle.gs_ntread.specs.Turns.{turn};
 
 use crate::classes::{is_line_end, is_space};
 use crate::parts::{Made, Name, Object, Parts, Place, Subject, Within};
@@ -25,7 +28,7 @@ pub struct Cursor {
 }
 
 impl Cursor {
-    ghost use Rattle.gs_ntread.specs.Grammar.{Plain};
+    ghost use Rattle.gs_ntread.specs.Terminals.{Plain};
     ghost use Rattle.gs_body.specs.Bodies.{Syntax};
     ghost use Rattle.gs_ntread.specs.Views.{state_of, stage_of, shown, held_of, subject_of, made_of, given, IsSuffix, IsDot};
     ghost use Rattle.gs_ntread.specs.declared.parts.Within.TheVariants as within;

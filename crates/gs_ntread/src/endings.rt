@@ -2,7 +2,8 @@
 ghost use Rattle.std.specs.Prelude.{◌≡◌, ◌==◌, IfOk, if◌then◌else◌, string_bytes, List};
 ghost use Rattle.gs_body.specs.Bodies.{Syntax, TooLong};
 ghost use Rattle.gs_ntread.specs.Sentences.{Labelled};
-ghost use Rattle.gs_ntread.specs.Machine.{quiet, broken, behind_subject, behind_object, dotted_object, label_turn, dotted_turn, tag_turn};
+ghost use Rattle.gs_ntread.specs.States.{quiet, broken};
+ghost use Rattle.gs_ntread.specs.Turns.{behind_subject, behind_object, dotted_object, label_turn, dotted_turn, tag_turn};
 ghost use Rattle.gs_ntread.specs.Views.{held_of, subject_of, state_of, stage_of, given, made_of};
 
 use crate::cursor::Cursor;

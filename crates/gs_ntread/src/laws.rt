@@ -3,7 +3,8 @@ ghost use Rattle.std.specs.Prelude.{◌≡◌, List};
 ghost use Rattle.gs_machine.specs.Machines.{rest};
 ghost use Rattle.gs_ntread.specs.Marks.{Mark};
 ghost use Rattle.gs_ntread.specs.Documents.{document};
-ghost use Rattle.gs_ntread.specs.Machine.{start, reading};
+ghost use Rattle.gs_ntread.specs.States.{start};
+ghost use Rattle.gs_ntread.specs.Machine.{reading};
 
 /// What is read character by character is what the grammar says of the whole text.
 pub fn read_by_characters()

@@ -7,10 +7,12 @@ mod closings;
 mod cursor;
 mod endings;
 mod finals;
+mod forms;
 mod laws;
 mod numbers;
 mod parts;
 mod reader;
+mod runs;
 mod taking;
 mod terms;
 #[cfg(test)]

@@ -1,5 +1,6 @@
 //! The reader of N-Triples.
-ghost use Rattle.std.specs.Prelude.{◌≡◌, ◌≢◌, ◌++◌, [], false, OnOk, OnErr, IfErr, IfSome, IfNone, IsErr, List, ℕ};
+ghost use Rattle.std.specs.Prelude.{◌≡◌, ◌≢◌, ◌++◌, [], ◌<◌, ◌≤◌, false, length, take, OnOk, OnErr, IfOk, IfErr, IfSome, IfNone, IsErr, List, ℕ};
+ghost use Rattle.gs_model.specs.Triples.{Statement};
 ghost use Rattle.gs_ntread.specs.Marks.{end_of};
 
 use crate::cursor::Cursor;
@@ -10,7 +11,7 @@ use gs_body::BodyReader;
 use gs_machine::{BAD, Decoder};
 use gs_model::Refusal;
 use gs_term::Triple;
-use std::alloc::Global;
+use std::alloc::{AllocError, Global};
 
 /// Reads a body of N-Triples (25 February 2014) that comes in any pieces.
 #[derive(Drop)]
@@ -103,10 +104,45 @@ impl NTriplesReader {
         ensures request { self.new.request ≡ self.old.request }
         ensures refused { IfErr result (λ e. e ≡ Refusal.NoMemory) }
     {
+        if byte < 128 && self.decoder.is_ready() {
+            return self.character(u32::from(byte), triples);
+        }
         match self.decoder.decode(byte) {
             None => Ok(()),
             Some(c) => self.character(c, triples),
         }
+    }
+
+    /// The bytes at the front of a piece that change nothing but the text of a token, and how many.
+    #[inline]
+    fn take_run(&mut self, piece: &[u8]) -> Result<usize, AllocError>
+        ensures bound { IfOk result (λ n. n ≤ length piece.now) }
+        ensures ok { IfOk result (λ n. (ts : List Statement) → Takes self.old self.new ts ts (steps (ntriples self.old.request) (led_of self.old) (take n piece.now))) }
+        ensures request { self.new.request ≡ self.old.request }
+    {
+        if !self.decoder.is_ready() {
+            return Ok(0);
+        }
+        let count = self.cursor.take_run(piece)?;
+        self.read = self.read.saturating_add(count as u64);
+        Ok(count)
+    }
+
+    /// The run at the front of a piece, and one byte more where there is one.
+    fn take_some(&mut self, piece: &[u8], triples: &mut Vec<Triple>) -> Result<usize, Refusal>
+        requires { 0 < length piece.now }
+        ensures bound { IfOk result (λ n. (0 < n) × (n ≤ length piece.now)) }
+        ensures ok { IfOk result (λ n. Takes self.old self.new triples.old.items triples.new.items (steps (ntriples self.old.request) (led_of self.old) (take n piece.now))) }
+        ensures err { OnErr result (triples.new.items ≡ triples.old.items) }
+        ensures request { self.new.request ≡ self.old.request }
+        ensures refused { IfErr result (λ e. e ≡ Refusal.NoMemory) }
+    {
+        let count = self.take_run(piece)?;
+        if count == piece.len() {
+            return Ok(count);
+        }
+        self.step(piece[count], triples)?;
+        Ok(count + 1)
     }
 
     /// The next bytes.
@@ -116,8 +152,9 @@ impl NTriplesReader {
         ensures request { self.new.request ≡ self.old.request }
         ensures refused { IfErr result (λ e. e ≡ Refusal.NoMemory) }
     {
-        for byte in piece {
-            self.step(*byte, triples)?;
+        let mut at = 0;
+        while at < piece.len() {
+            at += self.take_some(&piece[at..], triples)?;
         }
         Ok(())
     }

@@ -4,7 +4,7 @@ ghost use Rattle.std.specs.Str.{str_to_ascii_lowercase};
 ghost use Rattle.gs_model.specs.Terms.{Term, is_tag};
 ghost use Rattle.gs_term.specs.Making.{Makes};
 ghost use Rattle.gs_ntread.specs.Sentences.{made, Labelled};
-ghost use Rattle.gs_ntread.specs.Machine.{iri_held, typed_held, tagged_held, plain_held, label_held};
+ghost use Rattle.gs_ntread.specs.Tokens.{iri_held, typed_held, tagged_held, plain_held, label_held};
 ghost use Rattle.gs_ntread.specs.Views.{held_of, made_of};
 
 use crate::parts::{Made, Name};
@@ -31,7 +31,10 @@ pub fn iri(alloc: Global, token: &Token) -> Result<Made<Name>, AllocError>
     ensures { IfOk result (λ m. made_of (λ n. n.term) m ≡ iri_held (held_of token.now)) }
 {
     if token.is_long {
-        return Ok(Made::Overlong);
+        if token.form.is_absolute() {
+            return Ok(Made::Overlong);
+        }
+        return Ok(Made::Broken);
     }
     match TermText::iri(alloc, token.text.as_str()) {
         Ok(term) => Ok(Made::Term(Name { term })),
@@ -56,7 +59,10 @@ pub fn typed(alloc: Global, lexical: &Token, iri: &Token) -> Result<Made<TermTex
     ensures { IfOk result (λ m. made_of (λ x. x) m ≡ typed_held (held_of lexical.now) (held_of iri.now)) }
 {
     if iri.is_long {
-        return Ok(Made::Overlong);
+        if iri.form.is_absolute() {
+            return Ok(Made::Overlong);
+        }
+        return Ok(Made::Broken);
     }
     let datatype = iri.text.as_str();
     if lexical.is_long {
@@ -85,7 +91,10 @@ pub fn tagged(alloc: Global, lexical: &Token, tag: &Token) -> Result<Made<TermTe
     ensures { IfOk result (λ m. made_of (λ x. x) m ≡ tagged_held (held_of lexical.now) (held_of tag.now)) }
 {
     if tag.is_long {
-        return Ok(Made::Overlong);
+        if tag.form.is_tag() {
+            return Ok(Made::Overlong);
+        }
+        return Ok(Made::Broken);
     }
     let tag = tag.text.as_str();
     if lexical.is_long {

@@ -2,6 +2,7 @@
 use crate::{NTriplesReader, read_by_characters};
 use gs_body::BodyReader;
 use gs_model::Refusal;
+use std::alloc::Global;
 use std::test::Fail;
 
 #[test]
@@ -32,5 +33,38 @@ fn a_relative_iri_is_a_fault(rt: HostRuntime) -> Result<(), Fail> {
     let fed = reader.feed(b"<http://e/s> <p> ", &mut triples);
     assert_eq!(rt; fed, Err(Refusal::Syntax(0)));
     assert_eq!(rt; reader.finish(&mut triples), Err(Refusal::Closed));
+    Ok(())
+}
+
+/// The fault of a text with 65,600 letters `a` between a front and a back.
+fn fault_of(alloc: Global, front: &[u8], back: &[u8]) -> Result<Option<Refusal>, Fail> {
+    let mut reader = NTriplesReader::new(alloc, 1);
+    let mut triples = Vec::new(alloc);
+    let letters = vec![in alloc; b'a'; 65_600]?;
+    reader.feed(front, &mut triples)?;
+    reader.feed(&letters, &mut triples)?;
+    match reader.feed(back, &mut triples) {
+        Ok(()) => Ok(reader.finish(&mut triples).err()),
+        Err(refusal) => Ok(Some(refusal)),
+    }
+}
+
+#[test]
+fn a_wrong_form_counts_before_a_great_length(rt: HostRuntime) -> Result<(), Fail> {
+    let alloc = rt.alloc();
+    let syntax = Some(Refusal::Syntax(0));
+    let long = Some(Refusal::TermTooLong);
+    let relative = fault_of(alloc, b"<", b"> <a:p> <a:o> .")?;
+    assert_eq!(rt; relative, syntax);
+    let absolute = fault_of(alloc, b"<a:", b"> <a:p> <a:o> .")?;
+    assert_eq!(rt; absolute, long);
+    let datatype = fault_of(alloc, b"<a:s> <a:p> \"\"^^<", b"> .")?;
+    assert_eq!(rt; datatype, syntax);
+    let wrong_tag = fault_of(alloc, b"<a:s> <a:p> \"\"@", b"1 .")?;
+    assert_eq!(rt; wrong_tag, syntax);
+    let tag = fault_of(alloc, b"<a:s> <a:p> \"\"@", b"-1 .")?;
+    assert_eq!(rt; tag, long);
+    let label = fault_of(alloc, b"_:", b" <a:p> <a:o> .")?;
+    assert_eq!(rt; label, long);
     Ok(())
 }

@@ -3,7 +3,7 @@ use Rattle.std.specs.Ordering.{nat_cmp}
 use Rattle.std.specs.Cmp.Lexicographic.{slice_cmp}
 use Rattle.std.specs.FinMap as finite
 use Rattle.std.proofs.lemmas.Result.{IfOk-at_ok}
-use Rattle.gs_blank.specs.Numbers.{Numbers, known, number_of, with_label}
+use Rattle.gs_blank.specs.Numbers.{Numbers, known}
 use Rattle.gs_blank.proofs.NumbersLemmas.{number-known, number-new, look-up, texts-insert, texts_of}
 use Rattle.gs_blank.proofs.numbering.Numbering.of_label.Goals as goal
 

@@ -1,12 +1,12 @@
-use Rattle.std.proofs.Common.{◌≡◌, ℕ, refl, sym, ap, ◌∙◌, List, [], ◌∷◌, Option, None, Some}
+use Rattle.std.proofs.Common.{◌≡◌, ℕ, refl, sym, ap, ◌∙◌, List, [], ◌∷◌}
 use Rattle.gs_body.specs.Bodies.{Stated}
-use Rattle.gs_blank.specs.Numbers.{Numbers}
 use Rattle.gs_ntread.specs.Marks.{end_of}
 use Rattle.gs_ntread.specs.Documents.{stated}
-use Rattle.gs_ntread.specs.Machine.{State, turn}
+use Rattle.gs_ntread.specs.States.{State}
+use Rattle.gs_ntread.specs.Turns.{turn}
 use Rattle.gs_ntread.specs.Views.{state_of, given, sentence_of}
 use Rattle.gs_ntread.proofs.Whole.{Placed, character-none, character-some}
-use Rattle.gs_ntread.proofs.Runs.{on_ok, took-none, took-from}
+use Rattle.gs_ntread.proofs.Takes.{on_ok, took-none, took-from}
 use Rattle.gs_ntread.proofs.reader.NTriplesReader.character.Goals as goal
 
 pub returns-in-None-clause-ok : goal.returns-in-None-clause-ok

@@ -1,13 +1,13 @@
-use Rattle.std.proofs.Common.{◌≡◌, ℕ, List, [], ◌∷◌, ◌++◌, refl, sym, ap, ◌∙◌, append-nil}
+use Rattle.std.proofs.Common.{◌≡◌, [], ◌++◌, sym, ap, ◌∙◌, append-nil}
 use Rattle.gs_machine.specs.Machines.{rest}
 use Rattle.gs_body.specs.Bodies.{Ending, Whole, Said, triples_of, end_after}
 use Rattle.gs_ntread.specs.Documents.{stated}
-use Rattle.gs_ntread.specs.Machine.{State, end_of_text}
+use Rattle.gs_ntread.specs.States.{State}
 use Rattle.gs_ntread.specs.Reader.{stating}
 use Rattle.gs_ntread.specs.Readers.{Ends, FaultyEnd, ConcludesAs}
 use Rattle.gs_ntread.specs.Views.{state_of, given, ending_of, sentence_of}
 use Rattle.gs_ntread.proofs.Whole.{end-none, end-some}
-use Rattle.gs_ntread.proofs.Runs.{on_ok, if_err, concluded}
+use Rattle.gs_ntread.proofs.Takes.{on_ok, if_err, concluded}
 use Rattle.gs_ntread.proofs.reader.NTriplesReader.end_between.Goals as goal
 
 pub returns-in-None-clause-ok : goal.returns-in-None-clause-ok

@@ -1,10 +1,9 @@
-use Rattle.std.proofs.Common.{◌≡◌, sym, subst}
-use Rattle.gs_machine.specs.Machines.{joined, rest}
+use Rattle.std.proofs.Common.{sym, subst}
 use Rattle.gs_machine.specs.Utf8.{bad}
 use Rattle.gs_body.specs.Bodies.{Said}
 use Rattle.gs_ntread.specs.Reader.{placing}
 use Rattle.gs_ntread.specs.Readers.{FaultyEnd, led_of}
-use Rattle.gs_ntread.proofs.Runs.{broken-end, bad-end, unready}
+use Rattle.gs_ntread.proofs.Takes.{broken-end, bad-end, unready}
 use Rattle.gs_ntread.proofs.reader.NTriplesReader.end_within.Goals as goal
 
 pub returns-in-Some-clause-fault : goal.returns-in-Some-clause-fault

@@ -1,9 +1,9 @@
-use Rattle.std.proofs.Common.{◌≡◌, ℕ, List, [], sym, ap, subst, ◌∙◌}
+use Rattle.std.proofs.Common.{◌≡◌, [], sym, ap, subst, ◌∙◌}
 use Rattle.gs_machine.specs.Utf8.{Decoding, Ready}
 use Rattle.gs_body.specs.Leading.{IsLed}
 use Rattle.gs_body.proofs.LeadingLemmas.{led-start}
 use Rattle.gs_blank.specs.Numbers.{Numbers}
-use Rattle.gs_ntread.specs.Machine.{State, start}
+use Rattle.gs_ntread.specs.States.{State, start}
 use Rattle.gs_ntread.specs.Reader.{Led, ntriples, unread}
 use Rattle.gs_ntread.specs.Views.{state_of}
 use Rattle.gs_ntread.proofs.reader.NTriplesReader.new.Goals as goal

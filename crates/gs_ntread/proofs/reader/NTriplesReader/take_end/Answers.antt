@@ -1,10 +1,10 @@
-use Rattle.std.proofs.Common.{◌≡◌, [], sym, subst, ◌∙◌}
+use Rattle.std.proofs.Common.{[], sym, subst, ◌∙◌}
 use Rattle.gs_machine.specs.Machines.{rest}
 use Rattle.gs_body.specs.Bodies.{Said}
 use Rattle.gs_ntread.specs.Reader.{stating, ntriples}
 use Rattle.gs_ntread.specs.Readers.{Ends, FaultyEnd, led_of, Sound}
 use Rattle.gs_ntread.proofs.Whole.{ready_end}
-use Rattle.gs_ntread.proofs.Runs.{on_ok, if_err}
+use Rattle.gs_ntread.proofs.Takes.{on_ok, if_err}
 use Rattle.gs_ntread.proofs.reader.NTriplesReader.take_end.Goals as goal
 
 pub returns-then-is_ready-clause-ok : goal.returns-then-is_ready-clause-ok

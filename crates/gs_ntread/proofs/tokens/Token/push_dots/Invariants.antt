@@ -1,5 +1,5 @@
 use Rattle.std.proofs.Common.{◌≡◌}
-use Rattle.gs_ntread.specs.Machine.{add_dots}
+use Rattle.gs_ntread.specs.Tokens.{add_dots}
 use Rattle.gs_ntread.specs.Views.{held_of}
 use Rattle.gs_ntread.proofs.tokens.Token.push_dots.Given as goal
 

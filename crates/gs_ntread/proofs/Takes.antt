@@ -1,18 +1,19 @@
 -- What a reader takes, step by step.
-use Rattle.std.proofs.Common.{◌≡◌, ℕ, ◌+◌, ◌<◌, Bool, true, false, List, [], ◌∷◌, ◌++◌, length, take, get_or, refl, sym, ap, subst, ◌∙◌, append_assoc, append-nil, Result, Ok, Err}
+use Rattle.std.proofs.Common.{◌≡◌, ℕ, ◌+◌, ◌<◌, false, List, [], ◌++◌, length, take, drop, get_or, refl, sym, ap, subst, ◌∙◌, append_assoc, append-nil, Result, Ok, Err}
+use Rattle.std.proofs.Math.Seq.{take-add}
 use Rattle.std.specs.Prelude.{OnOk, IfErr}
 use Rattle.gs_model.specs.Triples.{Statement}
 use Rattle.gs_model.specs.declared.refusals.Refusal.{Refusal}
 use Rattle.gs_model.specs.declared.refusals.Refusal.TheVariants as refusal
-use Rattle.gs_machine.specs.Machines.{Machine, joined, steps, rest, behind}
+use Rattle.gs_machine.specs.Machines.{joined, steps, rest, behind}
 use Rattle.gs_machine.specs.Utf8.{Decoding, Ready, Within, Lost, bad, is_ready_of}
-use Rattle.gs_machine.proofs.MachineLemmas.{steps-snoc, steps-nil}
-use Rattle.gs_body.specs.Bodies.{Stated, Said, Ending, Whole, Syntax, TooLong, triples_of, end_after}
+use Rattle.gs_machine.proofs.MachineLemmas.{steps-snoc, steps-append}
+use Rattle.gs_body.specs.Bodies.{Stated, Said, Ending, Syntax, TooLong, triples_of, end_after}
 use Rattle.gs_body.proofs.LeadingLemmas.{triples_of-append, end_after-append}
 use Rattle.gs_blank.specs.Numbers.{Numbers}
-use Rattle.gs_ntread.specs.Machine.{State, Broken, broken}
-use Rattle.gs_ntread.specs.Reader.{Led, placing, stating, ntriples, keeping}
-use Rattle.gs_ntread.specs.Readers.{led_of, Takes, FaultsAs, FaultyAfter, FaultyEnd, ConcludesAs, IsBroken}
+use Rattle.gs_ntread.specs.States.{State, broken}
+use Rattle.gs_ntread.specs.Reader.{Led, placing, ntriples}
+use Rattle.gs_ntread.specs.Readers.{led_of, Takes, FaultsAs, FaultyAfter, FaultyEnd, ConcludesAs}
 use Rattle.gs_ntread.specs.Views.{state_of}
 use Rattle.gs_ntread.proofs.Whole.{Placed, says_nothing, placing_broken}
 use Rattle.gs_ntread.specs.declared.reader.NTriplesReader.{NTriplesReader}
@@ -66,6 +67,19 @@ took-more a b c o1 o2 o3 x n h f g =
     (subst (λ (s : Led). Takes b c o2 o3 ((ntriples b.request).step s (get_or x n 0))) f.led g) in
     subst (Takes a c o1 o3) (sym (steps-snoc (ntriples a.request) (led_of a) x n 0 h))
     (took-then a b c o1 o2 o3 t ((ntriples a.request).step t.0 (get_or x n 0)) f g')
+
+-- some bytes more of a piece
+pub took-on : (a b c : NTriplesReader) (o1 o2 o3 : List Statement) (x : List ℕ) (n k : ℕ)
+    → Takes a b o1 o2 (steps (ntriples a.request) (led_of a) (take n x)) → Takes b c o2 o3 (steps (ntriples b.request) (led_of b) (take k (drop n x)))
+    → Takes a c o1 o3 (steps (ntriples a.request) (led_of a) (take (n + k) x))
+took-on a b c o1 o2 o3 x n k f g =
+    let t : Led × List Stated = steps (ntriples a.request) (led_of a) (take n x) in
+    let y = take k (drop n x) in
+    let g' : Takes b c o2 o3 (steps (ntriples a.request) t.0 y) =
+    subst (λ (r : ℕ). Takes b c o2 o3 (steps (ntriples r) t.0 y)) f.request
+    (subst (λ (s : Led). Takes b c o2 o3 (steps (ntriples b.request) s y)) f.led g) in
+    subst (Takes a c o1 o3) (sym (ap (steps (ntriples a.request) (led_of a)) (take-add n k x) ∙ steps-append (ntriples a.request) (led_of a) (take n x) y))
+    (took-then a b c o1 o2 o3 t (steps (ntriples a.request) t.0 y) f g')
 
 -- the fault of a state is that of what was given
 pub fault-after : (e : Refusal) (a b : NTriplesReader) (o1 o2 : List Statement) (s : State) (t : Led × List Stated) → Takes a b o1 o2 t → s ≡ (led_of b).1.1.0 → FaultsAs e b.last s → FaultyAfter e a.last t

@@ -1,0 +1,242 @@
+-- What a run of bytes does to the machine.
+use Rattle.std.proofs.Common.{◌≡◌, ℕ, ◌+◌, ◌<◌, ◌≤◌, ◌^◌, Bool, true, false, cond, List, [], ◌∷◌, ◌++◌, length, take, get_or, zero, suc, refl, sym, ap, ◌∙◌, arith, append_assoc, append-nil, length-append, Result, Ok, Err}
+use Rattle.std.specs.Prelude.{◌==◌, ◌&&◌, ◌||◌, ◌-◌, not, nat_lt, nat_le, is_ok, OnOk}
+use Rattle.std.specs.Char.{encode_utf8, len_utf8}
+use Rattle.std.specs.List.{list_all}
+use Rattle.std.specs.Str.{IsAscii}
+use Rattle.std.proofs.lemmas.Bool.Decides.{nat_tests}
+use Rattle.std.proofs.lemmas.List.{take_more}
+use Rattle.std.proofs.lemmas.List.Folds.{list_all-append}
+use Rattle.std.proofs.str.Laws.{one}
+use lib.Utf8.{scalar}
+use Rattle.gs_model.specs.Characters.{is_iri_char, in_ranges, pn_chars}
+use Rattle.gs_model.specs.declared.limits.TheConstants.{LONGEST_TERM}
+use Rattle.gs_machine.specs.Machines.{steps}
+use Rattle.gs_machine.specs.Utf8.{Decoding, Ready, Within, Lost, is_ready_of, decode_step}
+use Rattle.gs_body.specs.Bodies.{Stated, Syntax}
+use Rattle.gs_blank.specs.Numbers.{Numbers}
+use Rattle.gs_ntread.specs.Marks.{counted, end_of}
+use Rattle.gs_ntread.specs.Classes.{is_space, is_line_end, may_stand_in_iri, may_stand_in_string, is_label_char, may_stand_in_comment}
+use Rattle.gs_ntread.specs.Terminals.{Plain, Escape}
+use Rattle.gs_ntread.specs.Tokens.{Held, Text, Long, hold, add}
+use Rattle.gs_ntread.specs.States.{State, Stage, AtSubject, AtPredicate, AtObject, AtSuffix, AtDatatype, AtDot, AtEnd, Between, Comment, InIri, InString, InLabel, InDots, quiet, broken}
+use Rattle.gs_ntread.specs.Lines.{iri_closed, string_closed}
+use Rattle.gs_ntread.specs.Turns.{turn, label_turn}
+use Rattle.gs_ntread.specs.Forms.{form_on, form_after, form_of}
+use Rattle.gs_ntread.specs.declared.forms.Form.{Form}
+use Rattle.gs_ntread.specs.Views.{held}
+use Rattle.gs_ntread.specs.Reader.{Led, ntriples}
+use Rattle.gs_ntread.specs.Runs.{runs_in_iri, runs_in_string, runs_in_label, runs_in_comment, joined, Runs, stays, goes}
+use Rattle.gs_ntread.proofs.Branches.{first_of_and, second_of_and}
+use Rattle.gs_ntread.proofs.Holding.{add-hold, add-grown}
+use Rattle.gs_ntread.proofs.Whole.{Placed, byte-some, character-none}
+
+both : (a b : Bool) → a ≡ true → b ≡ true → (a && b) ≡ true
+both true true p q = refl
+both true false p q = q
+both false b p q = p
+
+joined-hold : (t bs : List ℕ) → joined (hold t) bs ≡ hold (t ++ bs)
+joined-hold t [] = ap hold (sym (append-nil t))
+joined-hold t (b ∷ bs) = ap (λ h. joined h bs) (add-hold t (b ∷ [])) ∙ joined-hold (t ++ b ∷ []) bs ∙ ap hold (append_assoc t (b ∷ []) bs)
+
+pub joined-text : (t : List ℕ) (b : ℕ) (bs : List ℕ) → joined (Text t) (b ∷ bs) ≡ hold (t ++ b ∷ bs)
+joined-text t b bs = joined-hold (t ++ b ∷ []) bs ∙ ap hold (append_assoc t (b ∷ []) bs)
+
+joined-long : (f : Form) (bs : List ℕ) → joined (Long f) bs ≡ Long (form_after f bs)
+joined-long f [] = refl
+joined-long f (b ∷ bs) = joined-long (form_on f b) bs
+
+pub joined-still_long : (l : Bool) (f g : Form) (t bs : List ℕ) → l ≡ true → g ≡ form_after f bs → held l g t ≡ joined (held l f t) bs
+joined-still_long true f g t bs e k = ap Long k ∙ sym (joined-long f bs)
+joined-still_long false f g t bs e k = absurd (Prim.cc)
+
+pub joined-too_long : (l m : Bool) (f g : Form) (t u bs : List ℕ) → l ≡ false → m ≡ true → g ≡ form_after (form_of t) bs → 0 < length bs → LONGEST_TERM < length t + length bs
+    → held m g u ≡ joined (held l f t) bs
+joined-too_long true m f g t u bs e k w h n = absurd (Prim.cc)
+joined-too_long false false f g t u bs e k w h n = absurd (Prim.cc)
+joined-too_long false true f g t u [] e k w h n = absurd (omega arith)
+joined-too_long false true f g t u (b ∷ bs) e k w h n = ap Long w ∙ add-grown false f t (b ∷ bs) e n ∙ sym (joined-text t b bs)
+
+pub joined-fits : {A E : Type 0} (r : Result A E) (l : Bool) (f : Form) (t bs u : List ℕ) → l ≡ false → (0 < length bs → length t + length bs ≤ LONGEST_TERM) → u ≡ cond (is_ok r) (t ++ bs) t
+    → OnOk r (held l f u ≡ joined (held l f t) bs)
+joined-fits (Err x) l f t bs u e h w = tt
+joined-fits (Ok x) true f t bs u e h w = absurd (Prim.cc)
+joined-fits (Ok x) false f t [] u e h w = ap Text (w ∙ append-nil t)
+joined-fits (Ok x) false f t (b ∷ bs) u e h w =
+    let n = length-append t (b ∷ bs) in
+    let k = h (omega arith) in
+    let v : nat_le (length (t ++ b ∷ bs)) LONGEST_TERM ≡ true = grind (arith, nat_tests) in
+    ap Text w ∙ sym (joined-text t b bs ∙ ap (λ z. cond z (Text (t ++ b ∷ bs)) (Long (form_of (t ++ b ∷ bs)))) v)
+
+-- one element more of a class
+pub all_more : (p : ℕ → Bool) (xs : List ℕ) (n : ℕ) → n < length xs → list_all p (take n xs) ≡ true → p (get_or xs n 0) ≡ true → list_all p (take (n + 1) xs) ≡ true
+all_more p xs n h a b =
+    ap (list_all p) (take_more xs n 0 h) ∙ list_all-append p (take n xs) (get_or xs n 0 ∷ [])
+    ∙ both (list_all p (take n xs)) (p (get_or xs n 0) && true) a (both (p (get_or xs n 0)) true b refl)
+
+-- a class leaves a character out
+apart : (p : ℕ → Bool) (b k : ℕ) → p b ≡ true → p k ≡ false → (b == k) ≡ false
+apart p b k h f = by_test (b == k) refl
+  where
+    by_test : (v : Bool) → (b == k) ≡ v → v ≡ false
+    by_test true e = let q : b ≡ k = grind (arith, nat_tests) in let r : p b ≡ p k = ap p q in absurd (Prim.cc)
+    by_test false e = refl
+
+ascii : (b : ℕ) (more : Bool) → (nat_lt b 128 && more) ≡ true → b < 128
+ascii b more h = let e = first_of_and (nat_lt b 128) more h in grind (arith, nat_tests)
+
+scalar_ascii : (b : ℕ) → b < 128 → scalar b ≡ true
+scalar_ascii b h = grind (arith, nat_tests)
+
+-- bytes of a class, each of which goes on with a token
+runs_on : (p : ℕ → Bool) (q : Held → State) → ((b : ℕ) → p b ≡ true → b < 128)
+    → ((h : Held) (b n : ℕ) → p b ≡ true → turn (q h).0 (q h).1 b n ≡ quiet (q (add h (b ∷ []))))
+    → (h : Held) (xs : List ℕ) → list_all p xs ≡ true → Runs (q h) xs (q (joined h xs))
+runs_on p q low on h [] e = stays (q h)
+runs_on p q low on h (b ∷ bs) e =
+    let k : p b ≡ true = first_of_and (p b) (list_all p bs) e in
+    goes (q h) (q (add h (b ∷ []))) (q (joined (add h (b ∷ [])) bs)) b bs (low b k) (λ n. on h b n k)
+    (runs_on p q low on (add h (b ∷ [])) bs (second_of_and (p b) (list_all p bs) e))
+
+-- the same where nothing changes
+runs_still : (p : ℕ → Bool) (q : State) → ((b : ℕ) → p b ≡ true → b < 128)
+    → ((b n : ℕ) → p b ≡ true → turn q.0 q.1 b n ≡ quiet q)
+    → (xs : List ℕ) → list_all p xs ≡ true → Runs q xs q
+runs_still p q low on [] e = stays q
+runs_still p q low on (b ∷ bs) e =
+    let k : p b ≡ true = first_of_and (p b) (list_all p bs) e in
+    goes q q q b bs (low b k) (λ n. on b n k) (runs_still p q low on bs (second_of_and (p b) (list_all p bs) e))
+
+low_iri : (b : ℕ) → runs_in_iri b ≡ true → b < 128
+low_iri b k = let e = first_of_and (nat_lt b 123) (is_iri_char b) k in grind (arith, nat_tests)
+
+iri_goes : (g : Stage) (h : Held) (b n : ℕ) → runs_in_iri b ≡ true → turn g (InIri Plain h) b n ≡ quiet (g, InIri Plain (add h (b ∷ [])))
+iri_goes g h b n k =
+    let l : b < 128 = low_iri b k in
+    let e62 : (b == 62) ≡ false = apart runs_in_iri b 62 k refl in
+    let e92 : (b == 92) ≡ false = apart runs_in_iri b 92 k refl in
+    let m : may_stand_in_iri b ≡ true = both (is_iri_char b) (scalar b) (second_of_and (nat_lt b 123) (is_iri_char b) k) (scalar_ascii b l) in
+    ap (λ v. quiet (cond v (iri_closed g h) (cond (b == 92) (g, InIri Escape h) (cond (may_stand_in_iri b) (g, InIri Plain (add h (encode_utf8 b))) (broken Syntax))))) e62
+    ∙ ap (λ v. quiet (cond v (g, InIri Escape h) (cond (may_stand_in_iri b) (g, InIri Plain (add h (encode_utf8 b))) (broken Syntax)))) e92
+    ∙ ap (λ v. quiet (cond v (g, InIri Plain (add h (encode_utf8 b))) (broken Syntax))) m
+    ∙ ap (λ x. quiet (g, InIri Plain (add h x))) (one b l)
+
+pub iri_runs : (g : Stage) (h : Held) (xs : List ℕ) → list_all runs_in_iri xs ≡ true → Runs (g, InIri Plain h) xs (g, InIri Plain (joined h xs))
+iri_runs g = runs_on runs_in_iri (λ h. (g, InIri Plain h)) low_iri (iri_goes g)
+
+low_string : (b : ℕ) → runs_in_string b ≡ true → b < 128
+low_string b k = ascii b (not (b == 34 || b == 92 || b == 10 || b == 13)) k
+
+string_goes : (g : Stage) (h : Held) (b n : ℕ) → runs_in_string b ≡ true → turn g (InString Plain h) b n ≡ quiet (g, InString Plain (add h (b ∷ [])))
+string_goes g h b n k =
+    let l : b < 128 = low_string b k in
+    let e34 : (b == 34) ≡ false = apart runs_in_string b 34 k refl in
+    let e92 : (b == 92) ≡ false = apart runs_in_string b 92 k refl in
+    let m : may_stand_in_string b ≡ true = both (not (b == 34 || b == 92 || b == 10 || b == 13)) (scalar b) (second_of_and (nat_lt b 128) (not (b == 34 || b == 92 || b == 10 || b == 13)) k) (scalar_ascii b l) in
+    ap (λ v. quiet (cond v (string_closed g h) (cond (b == 92) (g, InString Escape h) (cond (may_stand_in_string b) (g, InString Plain (add h (encode_utf8 b))) (broken Syntax))))) e34
+    ∙ ap (λ v. quiet (cond v (g, InString Escape h) (cond (may_stand_in_string b) (g, InString Plain (add h (encode_utf8 b))) (broken Syntax)))) e92
+    ∙ ap (λ v. quiet (cond v (g, InString Plain (add h (encode_utf8 b))) (broken Syntax))) m
+    ∙ ap (λ x. quiet (g, InString Plain (add h x))) (one b l)
+
+pub string_runs : (g : Stage) (h : Held) (xs : List ℕ) → list_all runs_in_string xs ≡ true → Runs (g, InString Plain h) xs (g, InString Plain (joined h xs))
+string_runs g = runs_on runs_in_string (λ h. (g, InString Plain h)) low_string (string_goes g)
+
+low_label : (b : ℕ) → runs_in_label b ≡ true → b < 128
+low_label b k = ascii b (in_ranges pn_chars b || b == 58) k
+
+label_goes : (g : Stage) (h : Held) (b n : ℕ) → runs_in_label b ≡ true → turn g (InLabel h) b n ≡ quiet (g, InLabel (add h (b ∷ [])))
+label_goes g h b n k =
+    let l : b < 128 = low_label b k in
+    let m : is_label_char b ≡ true = both (in_ranges pn_chars b || b == 58) (scalar b) (second_of_and (nat_lt b 128) (in_ranges pn_chars b || b == 58) k) (scalar_ascii b l) in
+    ap (λ v. cond v (quiet (g, InLabel (add h (encode_utf8 b)))) (cond (b == 46) (quiet (g, InDots h n 0)) (label_turn g h b n))) m
+    ∙ ap (λ x. quiet (g, InLabel (add h x))) (one b l)
+
+pub label_runs : (g : Stage) (h : Held) (xs : List ℕ) → list_all runs_in_label xs ≡ true → Runs (g, InLabel h) xs (g, InLabel (joined h xs))
+label_runs g = runs_on runs_in_label (λ h. (g, InLabel h)) low_label (label_goes g)
+
+low_comment : (b : ℕ) → runs_in_comment b ≡ true → b < 128
+low_comment b k = ascii b (not (is_line_end b)) k
+
+is_not : (a : Bool) → not a ≡ true → a ≡ false
+is_not true h = Prim.cc
+is_not false h = refl
+
+comment_goes : (b n : ℕ) → runs_in_comment b ≡ true → turn AtSubject Comment b n ≡ quiet (AtSubject, Comment)
+comment_goes b n k =
+    let e : is_line_end b ≡ false = is_not (is_line_end b) (second_of_and (nat_lt b 128) (not (is_line_end b)) k) in
+    let m : may_stand_in_comment b ≡ true = scalar_ascii b (low_comment b k) in
+    ap (λ v. cond v (quiet (AtSubject, Between)) (cond (may_stand_in_comment b) (quiet (AtSubject, Comment)) (quiet (broken Syntax)))) e
+    ∙ ap (λ v. cond v (quiet (AtSubject, Comment)) (quiet (broken Syntax))) m
+
+pub comment_runs : (xs : List ℕ) → list_all runs_in_comment xs ≡ true → Runs (AtSubject, Comment) xs (AtSubject, Comment)
+comment_runs = runs_still runs_in_comment (AtSubject, Comment) low_comment comment_goes
+
+low_space : (b : ℕ) → is_space b ≡ true → b < 128
+low_space b k = grind (arith, nat_tests)
+
+at_true : {A : Type 0} (v : Bool) (x y : A) → v ≡ true → cond v x y ≡ x
+at_true true x y e = refl
+at_true false x y e = absurd (Prim.cc)
+
+space_goes : (g : Stage) (b n : ℕ) → is_space b ≡ true → turn g Between b n ≡ quiet (g, Between)
+space_goes AtSubject b n k = at_true (is_space b) _ _ k
+space_goes (AtPredicate s) b n k = at_true (is_space b) _ _ k
+space_goes (AtObject s p) b n k = at_true (is_space b) _ _ k
+space_goes (AtSuffix s p l) b n k = at_true (is_space b) _ _ k
+space_goes (AtDatatype s p l) b n k = at_true (is_space b) _ _ k
+space_goes (AtDot s p o) b n k = at_true (is_space b) _ _ k
+space_goes AtEnd b n k = ap quiet (at_true (is_space b) _ _ k)
+
+pub space_runs : (g : Stage) (xs : List ℕ) → list_all is_space xs ≡ true → Runs (g, Between) xs (g, Between)
+space_runs g = runs_still is_space (g, Between) low_space (space_goes g)
+
+-- bytes of ASCII
+ascii_from : (p : ℕ → Bool) → ((b : ℕ) → p b ≡ true → b < 128) → (xs : List ℕ) → list_all p xs ≡ true → IsAscii xs
+ascii_from p low [] e i = omega arith
+ascii_from p low (b ∷ bs) e zero = low b (first_of_and (p b) (list_all p bs) e)
+ascii_from p low (b ∷ bs) e (suc i) = ascii_from p low bs (second_of_and (p b) (list_all p bs) e) i
+
+pub ascii_iri : (xs : List ℕ) → list_all runs_in_iri xs ≡ true → IsAscii xs
+ascii_iri = ascii_from runs_in_iri low_iri
+
+pub ascii_string : (xs : List ℕ) → list_all runs_in_string xs ≡ true → IsAscii xs
+ascii_string = ascii_from runs_in_string low_string
+
+pub ascii_label : (xs : List ℕ) → list_all runs_in_label xs ≡ true → IsAscii xs
+ascii_label = ascii_from runs_in_label low_label
+
+-- a byte of ASCII between two characters is one
+pub at_ascii : (b : ℕ) → b < 128 → (Ready, b ∷ []) ≡ decode_step Ready b
+at_ascii b l = let k : nat_lt b 128 ≡ true = grind (arith, nat_tests) in sym (at_true (nat_lt b 128) (Ready, b ∷ []) _ k)
+
+-- one character of ASCII between two others
+byte_goes : (r n : ℕ) (q q' : State) (m : Numbers) (b : ℕ) → b < 128 → turn q.0 q.1 b (end_of n b) ≡ quiet q'
+    → (ntriples r).step (Ready, (n, (q, m))) b ≡ ((Ready, (end_of n b, (q', m))), [])
+byte_goes r n q q' m b l e =
+    byte-some r Ready Ready (n, (q, m)) b b (at_ascii b l)
+    ∙ ap (λ (u : Placed × List Stated). ((Ready, u.0), u.1)) (character-none r n q q' m b (sym e))
+
+length_one : (b : ℕ) → b < 128 → len_utf8 b ≡ 1
+length_one b l = grind (arith, nat_tests)
+
+counted_more : (n k : ℕ) → counted (counted (n + 1) + k) ≡ counted (n + suc k)
+counted_more n k = omega arith
+
+-- a run only counts its bytes
+pub ran : (r n : ℕ) (q q' : State) (m : Numbers) (xs : List ℕ) → Runs q xs q' → n ≤ 2 ^ 64 - 1
+    → steps (ntriples r) (Ready, (n, (q, m))) xs ≡ ((Ready, (counted (n + length xs), (q', m))), [])
+unfolding steps
+ran r n q _ m [] (stays _) h = ap (λ k. ((Ready, (k, (q, m))), [])) (omega arith)
+ran r n q q' m (b ∷ bs) (goes _ q2 _ _ _ l f s) h =
+    let e = byte_goes r n q q2 m b l (f (end_of n b)) in
+    let k : end_of n b ≡ counted (n + 1) = ap (λ x. counted (n + x)) (length_one b l) in
+    ap (λ (t : Led × List Stated). ((steps (ntriples r) t.0 bs).0, t.1 ++ (steps (ntriples r) t.0 bs).1)) e
+    ∙ ran r (end_of n b) q2 q' m bs s (omega arith)
+    ∙ ap (λ x. ((Ready, (counted (x + length bs), (q', m))), [])) k
+    ∙ ap (λ x. ((Ready, (x, (q', m))), [])) (counted_more n (length bs))
+
+pub ready_is : (d : Decoding) → is_ready_of d ≡ true → d ≡ Ready
+ready_is Ready e = refl
+ready_is (Within n v low high) e = absurd (Prim.cc)
+ready_is Lost e = absurd (Prim.cc)
