@@ -56,7 +56,7 @@ seat_says x word rest s a before behind seat says =
     }
 
 -- a number, a space, and the rest
-number_cut : (x rest : List ℕ) (n : ℕ) → x ≡ numeral n ++ 32 ∷ rest → split_first 32 x ≡ (numeral n, rest)
+pub number_cut : (x rest : List ℕ) (n : ℕ) → x ≡ numeral n ++ 32 ∷ rest → split_first 32 x ≡ (numeral n, rest)
 number_cut x rest n parts = ap (split_first 32) parts ∙ split_first-other 32 (numeral n) rest (other-numeral 32 refl n)
 
 seat_cut : (x : List ℕ) (s : ℕ) (a : Action) (b : Behind (numeral s ++ 32 ∷ []) (SaysAction a) x) → split_first 32 x ≡ (numeral s, b.rest)

@@ -4,7 +4,7 @@ use Rattle.gs_model.specs.Texts.{split_first}
 use Rattle.gs_event.specs.Views.{View}
 use Rattle.gs_event.specs.Waste.{Shown, Lifetime}
 use Rattle.gs_drill.specs.declared.commands.Command.{Command}
-use Rattle.gs_drill.specs.declared.commands.Command.TheVariants.{Nothing, Begin, Ask, Count}
+use Rattle.gs_drill.specs.declared.commands.Command.TheVariants.{Nothing, Begin, Ask, Count, Feed, Cut}
 use Rattle.gs_drill.specs.Commands.{Says, lines_in, before_first}
 use Rattle.gs_drill.specs.Drills.{State, Takes, Plays}
 use Rattle.gs_drill.specs.Taking.{IsInRange}
@@ -19,6 +19,8 @@ says_in_range Nothing x says = tt
 says_in_range (Begin a b c) x says = (says.says.some, says.says.most, says.says.commit_left, says.says.request_left)
 says_in_range (Ask event) x says = tt
 says_in_range Count x says = tt
+says_in_range (Feed seat y) x says = tt
+says_in_range (Cut n) x says = tt
 
 -- the first line, and the rest of the input
 before_split : (c : ℕ) (cs : List ℕ) → (c == 10) ≡ false → lines_in cs ≡ (split_first 10 cs).0 ∷ lines_in (split_first 10 cs).1 → lines_in (c ∷ cs) ≡ (c ∷ (split_first 10 cs).0) ∷ lines_in (split_first 10 cs).1

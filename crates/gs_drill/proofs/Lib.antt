@@ -1,8 +1,15 @@
 pub mod LineReaderLemmas
 pub mod WordLemmas
 pub mod CommandLemmas
+pub mod FeedLineLemmas
 pub mod RowLemmas
 pub mod WritingLemmas
 pub mod DrillLemmas
 pub mod PlayLemmas
 pub mod RunLemmas
+pub mod BodyLemmas
+pub mod ReadingLemmas
+pub mod SeatLemmas
+pub mod DeskLemmas
+pub mod FeedLemmas
+pub mod BeginLemmas

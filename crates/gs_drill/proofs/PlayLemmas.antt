@@ -1,40 +1,50 @@
 -- How a command, a line and a run of lines come out.
-use Rattle.std.proofs.Common.{◌≡◌, ℕ, ◌+◌, ◌<◌, ◌≤◌, Bool, true, false, ◌==◌, suc, List, [], ◌∷◌, ◌++◌, length, Option, Some, Result, Ok, Err, refl, sym, ap, ◌∙◌, subst, append_assoc, append-nil, arith, length-append}
+use Rattle.std.proofs.Common.{◌≡◌, ◌≢◌, ℕ, ◌+◌, ◌<◌, ◌≤◌, Bool, true, false, ◌==◌, suc, List, [], ◌∷◌, ◌++◌, length, Option, Some, Result, Ok, Err, refl, sym, ap, ◌∙◌, subst, append_assoc, append-nil, arith, length-append}
 use Rattle.std.proofs.lemmas.Bool.Decides.{nat_tests}
 use Rattle.std.specs.Io.KnownBytes.{Appends}
 use Rattle.gs_model.specs.Texts.{split_first}
 use Rattle.gs_event.specs.declared.events.Event.{Event}
-use Rattle.gs_event.specs.Datasets.{triples_in}
-use Rattle.gs_event.specs.Waste.{Shown, nodes_in}
+use Rattle.gs_event.specs.declared.events.Event.TheVariants.{Seat as At}
+use Rattle.gs_event.specs.declared.events.Action.TheVariants.{Commit}
 use Rattle.gs_drill.specs.declared.commands.Command.{Command}
-use Rattle.gs_drill.specs.declared.commands.Command.TheVariants.{Ask, Count}
 use Rattle.gs_drill.specs.declared.drills.Stop.{Stop}
 use Rattle.gs_drill.specs.declared.drills.Stop.TheVariants.{NoCommand, NoMemory, Failed}
 use Rattle.gs_drill.specs.Commands.{Says, lines_in}
-use Rattle.gs_drill.specs.Printing.{WritesFront, counts_text}
-use Rattle.gs_drill.specs.Drills.{State, Asks, Does, Takes, Plays, Finishes, Halts, first_state}
-use Rattle.gs_drill.specs.Taking.{Tells, TellsFront, DoesCommand, TakesLine, EndsBy}
+use Rattle.gs_drill.specs.Feeds.{Desk}
+use Rattle.gs_drill.specs.Commits.{Asks, DoesEvent}
+use Rattle.gs_drill.specs.Drills.{State, Does, Takes, Plays, Finishes, Halts, first_state}
+use Rattle.gs_drill.specs.Taking.{Tells, Replies, DoesCommand, TakesLine, EndsBy}
 use Rattle.gs_drill.proofs.WritingLemmas.{Appends-append, Appends-none, WritesFront-next}
 use Rattle.gs_drill.proofs.RowLemmas.{late_none}
 use Rattle.gs_drill.proofs.DrillLemmas.{Plays-more, lines_in-split, length-split}
 
-pub ask_fails : (s : State) (event : Event) (after : Shown) (old new : Option (List ℕ)) (text : List ℕ) → Asks s.shown event text after → WritesFront old new text → TellsFront (Does s (Ask event)) old new
-ask_fails s event after old new text asks w = record { text = text; last = record { begun = true; shown = after }; makes = (refl, asks); written = w }
+-- what is done at a desk, and printed, is what a command does
+pub does_by : {T X : Type 0} (at : T → Desk) (s : State) (command : Command) (done : Desk → State) (Makes : List ℕ → Desk → Type 0) (old new : Option (List ℕ)) (r : Result X Stop)
+    → ((text : List ℕ) (d : Desk) → Makes text d → Does s command text (done d)) → Replies at Makes old new r → DoesCommand s command (λ t. done (at t)) old new r
+does_by at s command done Makes old new (Ok x) does replies = record { text = replies.text; last = replies.last; makes = does replies.text (at replies.last) replies.makes; written = replies.written }
+does_by at s command done Makes old new (Err NoCommand) does replies = absurd replies
+does_by at s command done Makes old new (Err NoMemory) does replies = replies
+does_by at s command done Makes old new (Err Failed) does replies = record { text = replies.text; last = done replies.last; makes = does replies.text replies.last replies.makes; written = replies.written }
 
-pub count_fails : (s : State) (old new : Option (List ℕ)) (nodes triples : ℕ) → nodes ≡ nodes_in s.shown → triples ≡ triples_in s.shown.view.totals.dataset → WritesFront old new (counts_text nodes triples) → TellsFront (Does s Count) old new
-count_fails s old new nodes triples p q w = record {
-  text = counts_text nodes triples;
-  last = record { begun = true; shown = s.shown };
-  makes = (refl, refl, ap (λ n. counts_text n triples) p ∙ ap (counts_text (nodes_in s.shown)) q);
-  written = w;
-}
+-- the same where a text is told that does not depend on the desk
+pub told_by : {T D X : Type 0} (at : T → D) (last : T) (Makes : List ℕ → D → Type 0) (told : List ℕ) (old new : Option (List ℕ)) (r : Result X Stop)
+    → Makes told (at last) → Replies (λ (d : Unit {0}). d) (λ text d. text ≡ told) old new r → Replies at Makes old new r
+told_by at last Makes told old new (Ok x) makes replies = let P : List ℕ → Type 0 = λ z. Makes z (at last) in record { text = replies.text; last = last; makes = subst P (sym replies.makes) makes; written = replies.written }
+told_by at last Makes told old new (Err NoCommand) makes replies = absurd replies
+told_by at last Makes told old new (Err NoMemory) makes replies = replies
+told_by at last Makes told old new (Err Failed) makes replies = let P : List ℕ → Type 0 = λ z. Makes z (at last) in record { text = replies.text; last = at last; makes = subst P (sym replies.makes) makes; written = replies.written }
+
+-- an event that is no commit is asked
+pub asks_event : (d e : Desk) (event : Event) (text : List ℕ) → ((s : ℕ) → event ≢ At s Commit) → Asks d event text e → DoesEvent d event text e
+asks_event d e (At s Commit) text other asks = absurd (other s refl)
+asks_event d e event text other asks = asks
 
 -- what a command does is what its line does
-pub does_takes : {X : Type 0} (s t : State) (command : Command) (line : List ℕ) (old new : Option (List ℕ)) (r : Result X Stop) → Says command line → DoesCommand s command t old new r → TakesLine s line t old new r
-does_takes s t command line old new (Ok x) says does = record { text = does.text; makes = record { command = command; says = says; does = does.makes }; written = does.written }
-does_takes s t command line old new (Err NoCommand) says does = (late_none s command line says does.0, does.1)
-does_takes s t command line old new (Err NoMemory) says does = does
-does_takes s t command line old new (Err Failed) says does = record { text = does.text; last = does.last; makes = record { command = command; says = says; does = does.makes }; written = does.written }
+pub does_takes : {T X : Type 0} (s : State) (after : T → State) (command : Command) (line : List ℕ) (old new : Option (List ℕ)) (r : Result X Stop) → Says command line → DoesCommand s command after old new r → TakesLine s line after old new r
+does_takes s after command line old new (Ok x) says does = record { text = does.text; last = does.last; makes = record { command = command; says = says; does = does.makes }; written = does.written }
+does_takes s after command line old new (Err NoCommand) says does = (late_none s command line says does.0, does.1)
+does_takes s after command line old new (Err NoMemory) says does = does
+does_takes s after command line old new (Err Failed) says does = record { text = does.text; last = does.last; makes = record { command = command; says = says; does = does.makes }; written = does.written }
 
 length-snoc : (xs : List (List ℕ)) (x : List ℕ) → length (xs ++ x ∷ []) ≡ length xs + 1
 length-snoc xs x = length-append xs (x ∷ [])
@@ -88,9 +98,9 @@ Playing-all input rest n s old new p none =
     let P : List (List ℕ) → Type 0 = λ z. Plays first_state z p.text s in
     record { input = input; read = refl; text = p.text; last = s; plays = subst P all p.plays; written = p.written }
 
-pub Playing-ends : (input rest line : List ℕ) (n : ℕ) (s t : State) (old mid new : Option (List ℕ)) (stop : Stop) → Playing input rest n s old mid → ¬ (rest ≡ []) → line ≡ (split_first 10 rest).0
-    → TakesLine s line t mid new {X = Unit {0}} (Err stop) → EndsBy (Some input) old new stop (n + 1)
-Playing-ends input rest line n s t old mid new NoCommand p some line_is takes = record {
+pub Playing-ends : {T : Type 0} (input rest line : List ℕ) (n : ℕ) (s : State) (after : T → State) (old mid new : Option (List ℕ)) (stop : Stop) → Playing input rest n s old mid → ¬ (rest ≡ []) → line ≡ (split_first 10 rest).0
+    → TakesLine s line after mid new {X = Unit {0}} (Err stop) → EndsBy (Some input) old new stop (n + 1)
+Playing-ends input rest line n s after old mid new NoCommand p some line_is takes = record {
   input = input;
   read = refl;
   before = p.before;
@@ -104,7 +114,7 @@ Playing-ends input rest line n s t old mid new NoCommand p some line_is takes = 
   refused = takes.0;
   written = let w : Appends old new (p.text ++ []) = Appends-append old mid new p.text [] p.written takes.1 in subst (λ (z : List ℕ). Appends old new z) (append-nil p.text) w;
 }
-Playing-ends input rest line n s t old mid new NoMemory p some line_is takes = record {
+Playing-ends input rest line n s after old mid new NoMemory p some line_is takes = record {
   input = input;
   read = refl;
   before = p.before;
@@ -115,7 +125,7 @@ Playing-ends input rest line n s t old mid new NoMemory p some line_is takes = r
   plays = p.plays;
   written = let w : Appends old new (p.text ++ []) = Appends-append old mid new p.text [] p.written takes in subst (λ (z : List ℕ). Appends old new z) (append-nil p.text) w;
 }
-Playing-ends input rest line n s t old mid new Failed p some line_is takes = record {
+Playing-ends input rest line n s after old mid new Failed p some line_is takes = record {
   input = input;
   read = refl;
   before = p.before ++ line ∷ [];
@@ -134,12 +144,12 @@ Halts-none input old = record { input = input; read = refl; before = []; behind 
 positive : (n : ℕ) → (suc n == 0) ≡ false
 positive n = grind (arith, nat_tests)
 
-pub filled : (x : List ℕ) (b : Bool) → b ≡ (length x == 0) → b ≡ false → ¬ (x ≡ [])
+pub filled : {X : Type 0} (x : List X) (b : Bool) → b ≡ (length x == 0) → b ≡ false → ¬ (x ≡ [])
 filled x b is some e =
     let zero : b ≡ true = is ∙ ap (λ z. length z == 0) e in
     let clash : false ≡ true = sym some ∙ zero in cc
 
-pub emptied : (x : List ℕ) (b : Bool) → b ≡ (length x == 0) → b ≡ true → x ≡ []
+pub emptied : {X : Type 0} (x : List X) (b : Bool) → b ≡ (length x == 0) → b ≡ true → x ≡ []
 emptied [] b is none = refl
 emptied (c ∷ cs) b is none =
     let some : b ≡ false = is ∙ positive (length cs) in

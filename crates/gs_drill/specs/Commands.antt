@@ -14,7 +14,7 @@ use Rattle.gs_event.specs.declared.events.Action.TheVariants.{Open, Stage, Commi
 use Rattle.gs_event.specs.declared.events.Event.{Event}
 use Rattle.gs_event.specs.declared.events.Event.TheVariants.{Seat as At, Reclaim}
 use Rattle.gs_drill.specs.declared.commands.Command.{Command}
-use Rattle.gs_drill.specs.declared.commands.Command.TheVariants.{Nothing, Begin, Ask, Count}
+use Rattle.gs_drill.specs.declared.commands.Command.TheVariants.{Nothing, Begin, Ask, Count, Feed, Cut}
 use Rattle.gs_drill.specs.Found.{SaysNumber}
 
 abbrev pub before_first : ℕ → List (List ℕ) → List (List ℕ)
@@ -77,6 +77,19 @@ abbrev pub SaysEvent : Event → List ℕ → Type 0
 SaysEvent (At s action) x = (s ≤ 2 ^ 16 - 1) × Behind (numeral s ++ 32 ∷ []) (SaysAction action) x
 SaysEvent (Reclaim n) x = Behind (codes "reclaim ") (SaysNumber (2 ^ 64 - 1) n) x
 
+-- the text of a feed is the rest of the line and a line feed
+abbrev pub SaysText : List ℕ → List ℕ → Type 0
+SaysText y x = (y ≡ x ++ 10 ∷ []) × IsUtf8 x
+
+-- a seat's number, the language, and the text, which may be empty
+abbrev pub SaysFeed : ℕ → List ℕ → List ℕ → Type 0
+SaysFeed s y x = (s ≤ 2 ^ 16 - 1) × Behind (numeral s ++ 32 ∷ []) (Behind (codes "feed nt ") (SaysText y)) x
+
+-- the line is neither a seat's event nor a feed
+pub record SaysNothingAt (x : List ℕ) : Type 0 where
+  pub no_event : (s : ℕ) (action : Action) → ¬ SaysEvent (At s action) x
+  pub no_feed : (s : ℕ) (y : List ℕ) → ¬ SaysFeed s y x
+
 -- how many seats, and the numbers of the last commit and of the last request
 pub record SaysStart (seats commit request : ℕ) (x : List ℕ) : Type 0 where
   pub parts : x ≡ numeral seats ++ 32 ∷ (numeral commit ++ 32 ∷ numeral request)
@@ -96,3 +109,5 @@ Says Nothing x = (is_skipped x ≡ true) × IsUtf8 x
 Says (Begin seats commit request) x = Behind (codes "store ") (SaysStart seats commit request) x
 Says (Ask event) x = SaysEvent event x
 Says Count x = x ≡ codes "counts"
+Says (Feed s y) x = SaysFeed s y.items x
+Says (Cut n) x = Behind (codes "cut ") (SaysNumber (2 ^ 64 - 1) n) x

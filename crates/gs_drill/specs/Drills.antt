@@ -1,26 +1,31 @@
 -- What a run of a schedule's lines writes.
 use Rattle.std.specs.Prelude.{◌≡◌, ℕ, ◌+◌, Bool, true, false, List, [], ◌∷◌, ◌++◌, length, Option, None, Some, codes}
 use Rattle.std.specs.Io.KnownBytes.{Appends}
-use Rattle.gs_event.specs.declared.events.Event.{Event}
-use Rattle.gs_event.specs.declared.answers.Answer.{Answer}
 use Rattle.gs_event.specs.Datasets.{triples_in}
-use Rattle.gs_event.specs.Views.{Fits, next_view}
 use Rattle.gs_event.specs.Histories.{Start, view_of}
-use Rattle.gs_event.specs.Waste.{Shown, Reclaims, nodes_in}
+use Rattle.gs_event.specs.Waste.{Shown, nodes_in}
 use Rattle.gs_core.specs.Settings.{setting_of}
 use Rattle.gs_drill.specs.declared.commands.Command.{Command}
-use Rattle.gs_drill.specs.declared.commands.Command.TheVariants.{Nothing, Begin, Ask, Count}
+use Rattle.gs_drill.specs.declared.commands.Command.TheVariants.{Nothing, Begin, Ask, Count, Feed, Cut}
 use Rattle.gs_drill.specs.Commands.{Says, lines_in}
-use Rattle.gs_drill.specs.Printing.{answer_text, counts_text, no_command_text, WritesFront}
+use Rattle.gs_drill.specs.Printing.{counts_text, no_command_text, WritesFront}
+use Rattle.gs_drill.specs.Feeds.{Unfed, Desk, Feeds}
+use Rattle.gs_drill.specs.Commits.{DoesEvent}
 
--- between two lines: whether a command came before, and what the store shows
+-- between two lines: whether a command came before, in pieces of how many bytes texts are fed (0 is whole), what
+-- the store shows, and what was fed to each seat
 pub record State : Type 0 where
   pub begun : Bool
-  pub shown : Shown
+  pub cut : ℕ
+  pub desk : Desk
 
 -- what a store shows that has no graph yet
 abbrev pub new_store : Start → Shown
 new_store start = record { view = view_of start []; waste = [] }
+
+-- a store begins, and nothing was fed
+abbrev pub new_state : Bool → Start → State
+new_state begun start = record { begun = begun; cut = 0; desk = record { shown = new_store start; fed = λ s. Unfed } }
 
 -- where the store of a schedule begins
 abbrev pub drill_start : ℕ → ℕ → ℕ → Start
@@ -28,23 +33,16 @@ drill_start seats commit request = record { seats = seats; setting = setting_of 
 
 -- before the first line: four seats, and no number given out
 abbrev pub first_state : State
-first_state = record { begun = false; shown = new_store (drill_start 4 0 0) }
-
--- an event is answered, and the answer is printed
-pub record Asks (before : Shown) (event : Event) (text : List ℕ) (after : Shown) : Type 0 where
-  pub answer : Answer
-  pub fits : Fits before.view event answer
-  pub view : after.view ≡ next_view before.view event answer
-  pub waste : Reclaims before.waste event answer after.waste
-  pub told : text ≡ answer_text answer
+first_state = new_state false (drill_start 4 0 0)
 
 -- what a command prints, and the state that it leaves: a store begins only before any other command
 abbrev pub Does : State → Command → List ℕ → State → Type 0
 Does s Nothing text t = (text ≡ []) × (t ≡ s)
-Does s (Begin seats commit request) text t =
-    (s.begun ≡ false) × (text ≡ []) × (t ≡ record { begun = true; shown = new_store (drill_start seats commit request) })
-Does s (Ask event) text t = (t.begun ≡ true) × Asks s.shown event text t.shown
-Does s Count text t = (t.begun ≡ true) × (t.shown ≡ s.shown) × (text ≡ counts_text (nodes_in s.shown) (triples_in s.shown.view.totals.dataset))
+Does s (Begin seats commit request) text t = (s.begun ≡ false) × (text ≡ []) × (t ≡ new_state true (drill_start seats commit request))
+Does s (Ask event) text t = (t.begun ≡ true) × (t.cut ≡ s.cut) × DoesEvent s.desk event text t.desk
+Does s Count text t = (t.begun ≡ true) × (t.cut ≡ s.cut) × (t.desk ≡ s.desk) × (text ≡ counts_text (nodes_in s.desk.shown) (triples_in s.desk.shown.view.totals.dataset))
+Does s (Feed seat y) text t = (t.begun ≡ true) × (t.cut ≡ s.cut) × Feeds s.desk seat y.items text t.desk
+Does s (Cut n) text t = (text ≡ []) × (t ≡ record { begun = true; cut = n; desk = s.desk })
 
 -- a line says a command, which is done
 pub record Takes (s : State) (line text : List ℕ) (t : State) : Type 0 where
@@ -63,6 +61,8 @@ IsLate s Nothing = ⊥
 IsLate s (Begin seats commit request) = s.begun ≡ true
 IsLate s (Ask event) = ⊥
 IsLate s Count = ⊥
+IsLate s (Feed seat y) = ⊥
+IsLate s (Cut n) = ⊥
 
 abbrev pub IsNoCommand : State → List ℕ → Type 0
 IsNoCommand s line = (command : Command) → Says command line → IsLate s command

@@ -1,6 +1,11 @@
--- Read in this order: what a line says, what an answer prints, and what a run of lines writes.
+-- Read in this order: what a line says, what an answer prints, what a feed and a commit do, and what a run of
+-- lines writes.
 pub mod Found
 pub mod Commands
 pub mod Printing
+pub mod Feeds
+pub mod Commits
 pub mod Drills
+pub mod Standing
+pub mod Turns
 pub mod Taking

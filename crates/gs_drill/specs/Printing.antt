@@ -5,6 +5,8 @@ use Rattle.gs_model.specs.Terms.{numeral}
 use Rattle.gs_model.specs.Refusals.{name_of}
 use Rattle.gs_event.specs.declared.answers.Answer.{Answer}
 use Rattle.gs_event.specs.declared.answers.Answer.TheVariants.{Opened, Staged, Status, Pinned, Lines, Cancelled, Reclaimed, Refused}
+use Rattle.gs_drill.specs.declared.printing.Reply.{Reply}
+use Rattle.gs_drill.specs.declared.printing.Reply.TheVariants.{Answered, Taken, Fault}
 
 -- what stands behind a status: a space and the name of the graph that was made up, if one was
 abbrev pub location_text : Option (List ℕ) → List ℕ
@@ -21,6 +23,20 @@ answer_text (Lines lines is_end) = lines.items ++ (if is_end then codes "end" el
 answer_text Cancelled = codes "cancelled" ++ 10 ∷ []
 answer_text (Reclaimed freed left) = codes "reclaimed " ++ numeral freed ++ (if left then codes " more" else codes " done") ++ 10 ∷ []
 answer_text (Refused refusal) = codes "refused " ++ name_of refusal ++ 10 ∷ []
+
+-- what a feed prints
+abbrev pub fed_text : List ℕ
+fed_text = codes "fed" ++ 10 ∷ []
+
+-- what the commit of a text with a fault prints
+abbrev pub fault_text : List ℕ
+fault_text = codes "fault 400" ++ 10 ∷ []
+
+-- what a line prints
+abbrev pub reply_text : Reply → List ℕ
+reply_text (Answered a) = answer_text a
+reply_text Taken = fed_text
+reply_text Fault = fault_text
 
 -- the nodes in use, and the triples of all graphs
 abbrev pub counts_text : ℕ → ℕ → List ℕ

@@ -2,7 +2,7 @@
 ghost use Rattle.std.specs.Prelude.{◌≡◌, ◌≤◌, ◌^◌, ◌-◌, ◌++◌, ◌∷◌, [], List, ℕ, IfOk, MatchOption, codes};
 ghost use Rattle.gs_model.specs.Triples.{Statement};
 ghost use Rattle.gs_drill.specs.Found.{Finds, SaysNumber};
-ghost use Rattle.gs_drill.specs.Commands.{SaysName, SaysTarget, SaysKind, SaysTriple, SaysAction, SaysEvent, SaysStart, Says, is_skipped as is_skipped_line};
+ghost use Rattle.gs_drill.specs.Commands.{SaysName, SaysTarget, SaysKind, SaysTriple, SaysAction, SaysEvent, SaysText, SaysFeed, SaysNothingAt, SaysStart, Says, is_skipped as is_skipped_line};
 ghost use Rattle.gs_event.specs.declared.events.Action.{Action as AnAction};
 
 use crate::lines::read_line;
@@ -23,6 +23,10 @@ pub enum Command {
     Ask(Event),
     /// The nodes in use, and the triples of all graphs.
     Count,
+    /// A text for the upload of a seat: the rest of the line, and a line feed.
+    Feed(u16, Vec<u8>),
+    /// Texts are fed in pieces of so many bytes from here on; 0 is whole.
+    Cut(u64),
 }
 
 /// The name of a graph, where the bytes are one.
@@ -153,6 +157,35 @@ fn read_seat(alloc: Global, text: &[u8]) -> Result<Option<Event>, AllocError>
     Ok(Some(Event::Seat(seat as u16, action)))
 }
 
+/// The text of a feed.
+fn read_text(alloc: Global, rest: &[u8]) -> Result<Option<Vec<u8>>, AllocError>
+    ensures { IfOk result (λ found. MatchOption found ((y : List ℕ) → ¬ (SaysText y rest.now)) (λ y. SaysText y.items rest.now)) }
+{
+    if str::from_utf8(rest).is_err() {
+        return Ok(None);
+    }
+    let mut text = Vec::from_slice(alloc, rest)?;
+    text.push(b'\n')?;
+    Ok(Some(text))
+}
+
+/// A seat's number, a language, and a text in it.
+fn read_feed(alloc: Global, line: &[u8]) -> Result<Option<(u16, Vec<u8>)>, AllocError>
+    ensures { IfOk result (λ found. MatchOption found ((s : ℕ) (y : List ℕ) → ¬ (SaysFeed s y line.now)) (λ p. SaysFeed p.0 p.1.items line.now)) }
+{
+    let (seat, action) = split(line, b' ');
+    let Some(seat) = number(seat, 65_535) else {
+        return Ok(None);
+    };
+    let Some(rest) = behind(action, b"feed nt ") else {
+        return Ok(None);
+    };
+    match read_text(alloc, rest)? {
+        Some(text) => Ok(Some((seat as u16, text))),
+        None => Ok(None),
+    }
+}
+
 /// Seats, a commit's number and a request's number.
 fn read_start(text: &[u8]) -> Option<(u16, u64, u64)>
     ensures { Finds (λ p x. SaysStart p.0 p.1 p.2 x) text.now result }
@@ -199,10 +232,26 @@ pub fn read_command(alloc: Global, line: &[u8]) -> Result<Option<Command>, Alloc
             None => Ok(None),
         };
     }
-    let Some(event) = read_seat(alloc, line)? else {
-        return Ok(None);
-    };
-    Ok(Some(Command::Ask(event)))
+    if let Some(rest) = behind(line, b"cut ") {
+        return match number(rest, 18_446_744_073_709_551_615) {
+            Some(length) => Ok(Some(Command::Cut(length))),
+            None => Ok(None),
+        };
+    }
+    read_at_seat(alloc, line)
+}
+
+/// A line that begins with a seat's number.
+fn read_at_seat(alloc: Global, line: &[u8]) -> Result<Option<Command>, AllocError>
+    ensures { IfOk result (λ found. MatchOption found (SaysNothingAt line.now) (λ command. Says command line.now)) }
+{
+    if let Some((seat, text)) = read_feed(alloc, line)? {
+        return Ok(Some(Command::Feed(seat, text)));
+    }
+    match read_seat(alloc, line)? {
+        Some(event) => Ok(Some(Command::Ask(event))),
+        None => Ok(None),
+    }
 }
 
 fn is_skipped(line: &[u8]) -> bool

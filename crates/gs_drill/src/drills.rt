@@ -1,16 +1,25 @@
 //! The run of a schedule: each line in turn, and what it prints.
-ghost use Rattle.std.specs.Prelude.{◌≡◌, ◌≤◌, IfOk, IfErr, Some, []};
+ghost use Rattle.std.specs.Prelude.{◌≡◌, ◌≢◌, ◌≤◌, ℕ, IfOk, IfErr, MatchOption, Some, []};
 ghost use Rattle.std.specs.Io.KnownBytes.{Appends};
 ghost use Rattle.gs_model.specs.declared.limits.TheConstants.{LAST_NUMBER, MOST_SEATS};
-ghost use Rattle.gs_drill.specs.Printing.{no_command_text, no_memory_text};
-ghost use Rattle.gs_drill.specs.Drills.{Asks, drill_start, new_store as new_store_of, Finishes, SaysStop, Halts, Breaks};
-ghost use Rattle.gs_drill.specs.Taking.{IsInRange, Prints, DoesCommand, TakesLine, Ends};
+ghost use Rattle.gs_event.specs.Datasets.{triples_in};
+ghost use Rattle.gs_event.specs.Waste.{nodes_in};
+ghost use Rattle.gs_drill.specs.Printing.{reply_text, counts_text, no_command_text, no_memory_text};
+ghost use Rattle.gs_drill.specs.Drills.{drill_start, new_store as new_store_of, Finishes, SaysStop, Halts, Breaks};
+ghost use Rattle.gs_drill.specs.Taking.{IsInRange, Prints, Replies, DoesCommand, TakesLine, Ends};
+ghost use Rattle.gs_drill.specs.Feeds.{Feeds};
+ghost use Rattle.gs_drill.specs.Commits.{Asks, DoesEvent};
+ghost use Rattle.gs_drill.specs.Standing.{Standing, desk_of, state_of, Begins};
 
 use crate::commands::{Command, read_command};
-use crate::printing::{print_answer, print_counts, print_no_command, print_no_memory};
+use crate::feeds::{answer, commit, feed};
+use crate::printing::{
+    Reply, print_answer, print_counts, print_no_command, print_no_memory, print_reply,
+};
+use crate::uploads::Uploads;
 use crate::words::split;
 use gs_core::Store;
-use gs_event::Event;
+use gs_event::{Action, Event};
 use std::alloc::Global;
 use std::io::{self, ErrorKind, Read, Write};
 
@@ -43,12 +52,104 @@ fn new_store(alloc: Global, seats: u16, commit: u64, request: u64) -> Result<Sto
     }
 }
 
-/// Asks the store, and prints its answer.
-fn ask<W: Write>(store: &mut Store, event: &Event, out: &mut W) -> io::Result<()>
-    ensures { Prints (λ text. Asks store.old event.now text store.new) (W.contents out.old) (W.contents out.new) result }
+/// A store of so many seats, to which nothing was fed.
+fn begin(alloc: Global, seats: u16, commit: u64, request: u64) -> Result<(Store, Uploads), Stop>
+    requires some { 1 ≤ seats }
+    requires few { seats ≤ MOST_SEATS }
+    requires last_commit { commit ≤ LAST_NUMBER }
+    requires last_request { request ≤ LAST_NUMBER }
+    ensures { IfOk result (λ made. Begins made.0 made.1 (drill_start seats commit request)) }
 {
-    let answer = store.step(event);
+    let store = new_store(alloc, seats, commit, request)?;
+    match Uploads::new(alloc, seats) {
+        Ok(uploads) => Ok((store, uploads)),
+        Err(_) => Err(Stop::NoMemory),
+    }
+}
+
+/// Asks the store, and prints its answer.
+fn ask<W: Write>(
+    store: &mut Store,
+    uploads: &mut Uploads,
+    event: &Event,
+    out: &mut W,
+) -> io::Result<()>
+    ensures does { (st : Standing store.old uploads.old) → Prints (λ text. (en : Standing store.new uploads.new) × Asks (desk_of st) event.now text (desk_of en)) (W.contents out.old) (W.contents out.new) result }
+    ensures cut { uploads.new.cut ≡ uploads.old.cut }
+{
+    let answer = answer(store, uploads, event);
     print_answer(out, &answer)
+}
+
+/// Prints a reply.
+fn tell<W: Write>(reply: &Reply, out: &mut W) -> Result<(), Stop>
+    ensures { Replies (λ (d : Unit {0}). d) (λ text d. text ≡ reply_text reply.now) (W.contents out.old) (W.contents out.new) result }
+{
+    match print_reply(out, reply) {
+        Ok(()) => Ok(()),
+        Err(_) => Err(Stop::Failed),
+    }
+}
+
+/// The seat that commits, where an event is a commit.
+fn committing(event: &Event) -> Option<u16>
+    ensures { MatchOption result ((s : ℕ) → event.now ≢ Event.Seat s Action.Commit) (λ s. event.now ≡ Event.Seat s Action.Commit) }
+{
+    match event {
+        Event::Seat(seat, Action::Commit) => Some(*seat),
+        _ => None,
+    }
+}
+
+/// Asks the store, or commits, and prints what that answers.
+fn do_event<W: Write>(
+    alloc: Global,
+    store: &mut Store,
+    uploads: &mut Uploads,
+    event: &Event,
+    out: &mut W,
+) -> Result<(), Stop>
+    ensures does { (st : Standing store.old uploads.old) → Replies {T = Standing store.new uploads.new} desk_of (DoesEvent (desk_of st) event.now) (W.contents out.old) (W.contents out.new) result }
+    ensures cut { uploads.new.cut ≡ uploads.old.cut }
+{
+    match committing(event) {
+        Some(seat) => match commit(alloc, store, uploads, seat) {
+            Ok(reply) => tell(&reply, out),
+            Err(_) => Err(Stop::NoMemory),
+        },
+        None => match ask(store, uploads, event, out) {
+            Ok(()) => Ok(()),
+            Err(_) => Err(Stop::Failed),
+        },
+    }
+}
+
+/// Feeds a text, and prints what that answers.
+fn do_feed<W: Write>(
+    alloc: Global,
+    store: &mut Store,
+    uploads: &mut Uploads,
+    seat: u16,
+    text: &[u8],
+    out: &mut W,
+) -> Result<(), Stop>
+    ensures does { (st : Standing store.old uploads.old) → Replies {T = Standing store.new uploads.new} desk_of (Feeds (desk_of st) seat text.now) (W.contents out.old) (W.contents out.new) result }
+    ensures cut { uploads.new.cut ≡ uploads.old.cut }
+{
+    match feed(alloc, store, uploads, seat, text) {
+        Ok(reply) => tell(&reply, out),
+        Err(_) => Err(Stop::NoMemory),
+    }
+}
+
+/// Prints the two counts.
+fn do_count<W: Write>(store: &Store, out: &mut W) -> Result<(), Stop>
+    ensures { Replies (λ (d : Unit {0}). d) (λ text d. text ≡ counts_text (nodes_in store.now) (triples_in store.now.view.totals.dataset)) (W.contents out.old) (W.contents out.new) result }
+{
+    match print_counts(out, store.nodes_in_use(), store.triples_now()) {
+        Ok(()) => Ok(()),
+        Err(_) => Err(Stop::Failed),
+    }
 }
 
 /// Does a command, and prints what it answers.
@@ -56,11 +157,12 @@ fn do_command<W: Write>(
     alloc: Global,
     begun: &mut bool,
     store: &mut Store,
+    uploads: &mut Uploads,
     command: &Command,
     out: &mut W,
 ) -> Result<(), Stop>
     requires { IsInRange command.now }
-    ensures { DoesCommand (record { begun = begun.old; shown = store.old }) command.now (record { begun = begun.new; shown = store.new }) (W.contents out.old) (W.contents out.new) result }
+    ensures { (st : Standing store.old uploads.old) → DoesCommand (state_of begun.old st) command.now {T = Standing store.new uploads.new} (state_of begun.new) (W.contents out.old) (W.contents out.new) result }
 {
     match command {
         Command::Nothing => Ok(()),
@@ -68,9 +170,10 @@ fn do_command<W: Write>(
             if *begun {
                 return Err(Stop::NoCommand);
             }
-            match new_store(alloc, *seats, *commit, *request) {
-                Ok(made) => {
+            match begin(alloc, *seats, *commit, *request) {
+                Ok((made, idle)) => {
                     *store = made;
+                    *uploads = idle;
                     *begun = true;
                     Ok(())
                 }
@@ -79,17 +182,20 @@ fn do_command<W: Write>(
         }
         Command::Ask(event) => {
             *begun = true;
-            match ask(store, event, out) {
-                Ok(()) => Ok(()),
-                Err(_) => Err(Stop::Failed),
-            }
+            do_event(alloc, store, uploads, event, out)
         }
         Command::Count => {
             *begun = true;
-            match print_counts(out, store.nodes_in_use(), store.triples_now()) {
-                Ok(()) => Ok(()),
-                Err(_) => Err(Stop::Failed),
-            }
+            do_count(store, out)
+        }
+        Command::Feed(seat, text) => {
+            *begun = true;
+            do_feed(alloc, store, uploads, *seat, text.as_slice(), out)
+        }
+        Command::Cut(length) => {
+            *begun = true;
+            uploads.cut = *length;
+            Ok(())
         }
     }
 }
@@ -99,13 +205,14 @@ fn take_line<W: Write>(
     alloc: Global,
     begun: &mut bool,
     store: &mut Store,
+    uploads: &mut Uploads,
     line: &[u8],
     out: &mut W,
 ) -> Result<(), Stop>
-    ensures { TakesLine (record { begun = begun.old; shown = store.old }) line.now (record { begun = begun.new; shown = store.new }) (W.contents out.old) (W.contents out.new) result }
+    ensures { (st : Standing store.old uploads.old) → TakesLine (state_of begun.old st) line.now {T = Standing store.new uploads.new} (state_of begun.new) (W.contents out.old) (W.contents out.new) result }
 {
     match read_command(alloc, line) {
-        Ok(Some(command)) => do_command(alloc, begun, store, &command, out),
+        Ok(Some(command)) => do_command(alloc, begun, store, uploads, &command, out),
         Ok(None) => Err(Stop::NoCommand),
         Err(_) => Err(Stop::NoMemory),
     }
@@ -115,8 +222,8 @@ fn take_line<W: Write>(
 fn play<W: Write>(alloc: Global, input: &[u8], out: &mut W) -> Result<(), (Stop, u64)>
     ensures { Ends (Some input.now) (W.contents out.old) (W.contents out.new) result }
 {
-    let mut store = match new_store(alloc, 4, 0, 0) {
-        Ok(store) => store,
+    let (mut store, mut uploads) = match begin(alloc, 4, 0, 0) {
+        Ok(made) => made,
         Err(_) => return Err((Stop::NoMemory, 0)),
     };
     let mut begun = false;
@@ -125,7 +232,7 @@ fn play<W: Write>(alloc: Global, input: &[u8], out: &mut W) -> Result<(), (Stop,
     while !rest.is_empty() {
         let (line, behind) = split(rest, b'\n');
         number += 1;
-        if let Err(stop) = take_line(alloc, &mut begun, &mut store, line, out) {
+        if let Err(stop) = take_line(alloc, &mut begun, &mut store, &mut uploads, line, out) {
             return Err((stop, number));
         }
         rest = behind;

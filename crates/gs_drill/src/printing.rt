@@ -2,11 +2,22 @@
 ghost use Rattle.std.specs.Prelude.{◌≡◌, ◌++◌, ◌∷◌, [], codes, ℕ, List};
 ghost use Rattle.std.specs.Io.KnownBytes.{Appends};
 ghost use Rattle.gs_model.specs.Terms.{numeral};
-ghost use Rattle.gs_drill.specs.Printing.{Writes, answer_text, counts_text, no_command_text, no_memory_text};
+ghost use Rattle.gs_drill.specs.Printing.{Writes, answer_text, reply_text, counts_text, no_command_text, no_memory_text};
 
 use gs_event::Answer;
 use itoa::Buffer;
 use std::io::{self, ErrorKind, Write};
+
+/// What a line prints.
+#[derive(Debug, Drop)]
+pub enum Reply {
+    /// The answer of a store.
+    Answered(Answer),
+    /// A text was fed.
+    Taken,
+    /// A text had a fault, and its upload was given up.
+    Fault,
+}
 
 /// Writes some bytes. Where that fails, a front of them is written.
 fn put<W: Write>(out: &mut W, bytes: &[u8]) -> io::Result<()>
@@ -103,6 +114,17 @@ pub fn print_answer<W: Write>(out: &mut W, answer: &Answer) -> io::Result<()>
             put_line(out, b"reclaimed ", shown(&mut buffer, *freed), b"", word)
         }
         Answer::Refused(refusal) => put_pair(out, b"refused ", refusal.name().as_bytes()),
+    }
+}
+
+/// Writes what a line prints.
+pub fn print_reply<W: Write>(out: &mut W, reply: &Reply) -> io::Result<()>
+    ensures { Writes (W.contents out.old) (W.contents out.new) (reply_text reply.now) result }
+{
+    match reply {
+        Reply::Answered(answer) => print_answer(out, answer),
+        Reply::Taken => put_pair(out, b"fed", b""),
+        Reply::Fault => put_pair(out, b"fault 400", b""),
     }
 }
 

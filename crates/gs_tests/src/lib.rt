@@ -6,6 +6,8 @@ mod characters;
 #[cfg(test)]
 mod failures;
 #[cfg(test)]
+mod feeds;
+#[cfg(test)]
 mod runs;
 #[cfg(test)]
 mod schedules;

@@ -1,9 +1,6 @@
-use Rattle.std.proofs.Common.{ℕ, Option, subst}
-use Rattle.std.specs.Prelude.{MatchOption, codes}
-use Rattle.gs_event.specs.declared.events.Action.{Action}
-use Rattle.gs_event.specs.declared.events.Event.TheVariants.{Seat as At}
-use Rattle.gs_drill.specs.Commands.{SaysEvent}
-use Rattle.gs_drill.proofs.RowLemmas.{skipped_none, store_none, reclaim_none, other_none, not_text, IsOther}
+use Rattle.std.specs.Prelude.{codes}
+use Rattle.std.proofs.lemmas.Result.{IfOk-weaker}
+use Rattle.gs_drill.proofs.RowLemmas.{skipped_none, store_none, reclaim_none, cut_none, finds_at, not_text, IsOther}
 use Rattle.gs_drill.proofs.commands.read_command.Goals as goal
 
 pub returns-in-Err : goal.returns-in-Err
@@ -15,13 +12,16 @@ returns-in-None c = store_none c.args.line.now c.in-Some.rest.now c.in-Some.ensu
 pub returns-in-None-number : goal.returns-in-None-number
 returns-in-None-number c = reclaim_none c.args.line.now c.in-Some-behind.rest.now c.in-Some-behind.ensures c.if-is_skipped.ensures c.in-None-number.ensures
 
-pub returns-in_default-2 : goal.returns-in_default-2
-returns-in_default-2 c =
+pub returns-in-None-number-2 : goal.returns-in-None-number-2
+returns-in-None-number-2 c = cut_none c.args.line.now c.in-Some-behind-2.rest.now c.in-Some-behind-2.ensures c.if-is_skipped.ensures c.in-None-number-2.ensures
+
+pub returns : goal.returns
+returns c =
     let other : IsOther c.args.line.now = record {
       plain = c.if-is_skipped.ensures;
       no_counts = not_text c.args.line.now c.as_slice.result.now (codes "counts") c.as_slice.ensures c.if-eq.ensures;
       no_store = c.in_default.ensures;
       no_reclaim = c.in_default-behind.ensures;
+      no_cut = c.in_default-behind-2.ensures;
     } in
-    let P : Option _ → Type 0 = λ f. MatchOption f ((s : ℕ) (action : Action) → ¬ SaysEvent (At s action) c.args.line.now) (λ event. SaysEvent event c.args.line.now) in
-    other_none c.args.line.now other (subst P c.in_default-2.is c.in_ok-event.ensures)
+    IfOk-weaker c.read_at_seat.result _ _ (λ found h. finds_at c.args.line.now other found h) c.read_at_seat.ensures

@@ -1,20 +1,74 @@
-use Rattle.std.proofs.Common.{sym, subst}
+use Rattle.std.proofs.Common.{◌≡◌, ℕ, List, [], true, false, refl, rules, sym, subst}
+use Rattle.gs_event.specs.Datasets.{triples_in}
+use Rattle.gs_event.specs.Waste.{nodes_in}
 use Rattle.gs_drill.specs.declared.commands.Command.{Command}
+use Rattle.gs_drill.specs.declared.commands.Command.TheVariants.{Ask, Count, Feed}
+use Rattle.gs_drill.specs.Printing.{counts_text}
+use Rattle.gs_drill.specs.Feeds.{Desk, Feeds}
+use Rattle.gs_drill.specs.Commits.{DoesEvent}
 use Rattle.gs_drill.specs.Drills.{State, Does}
-use Rattle.gs_drill.specs.Taking.{TellsFront}
-use Rattle.gs_drill.proofs.PlayLemmas.{ask_fails, count_fails}
+use Rattle.gs_drill.specs.Taking.{Replies, DoesCommand}
+use Rattle.gs_drill.specs.Standing.{Standing, desk_of, state_of}
+use Rattle.gs_drill.proofs.WritingLemmas.{Appends-none}
+use Rattle.gs_drill.proofs.PlayLemmas.{does_by, told_by}
 use Rattle.gs_drill.proofs.drills.do_command.Goals as goal
 
-pub returns-in-Err-ask : goal.returns-in-Err-ask
-returns-in-Err-ask g c =
-    let held = g.W.Write.contents in
-    let s : State = record { begun = c.args.begun.now; shown = c.args.store.now } in
-    let P : Command → Type 0 = λ k. TellsFront (Does s k) (held c.args.out.now) (held c.ask.new.out) in
-    subst P (sym c.in-Ask.is) (ask_fails s c.in-Ask.event c.ask.new.store (held c.args.out.now) (held c.ask.new.out) c.in-Err-ask.ensures.text c.in-Err-ask.ensures.makes c.in-Err-ask.ensures.written)
+pub returns-in-Nothing : goal.returns-in-Nothing
+returns-in-Nothing g c = λ st.
+    let s = state_of c.args.begun.now st in
+    let P : Command → Type 0 = λ k. Does s k [] s in
+    record { text = []; last = st; makes = subst P (sym c.in-Nothing.is) (refl, refl); written = Appends-none (g.W.Write.contents c.args.out.now) }
 
-pub returns-in-Err-print_counts : goal.returns-in-Err-print_counts
-returns-in-Err-print_counts g c =
+pub returns-in-Ok : goal.returns-in-Ok
+returns-in-Ok g c = λ st.
+    let s = state_of c.args.begun.now st in
+    let new = c.in-Ok.ensures in
+    let fresh : c.args.begun.now ≡ false = search rules in
+    let P : Command → Type 0 = λ k. Does s k [] (state_of true new.standing) in
+    record { text = []; last = new.standing; makes = subst P (sym c.in-Begin.is) (fresh, refl, new.is true); written = Appends-none (g.W.Write.contents c.args.out.now) }
+
+pub returns-in-Ask : goal.returns-in-Ask
+returns-in-Ask g c = λ st.
     let held = g.W.Write.contents in
-    let s : State = record { begun = c.args.begun.now; shown = c.args.store.now } in
-    let P : Command → Type 0 = λ k. TellsFront (Does s k) (held c.args.out.now) (held c.print_counts.new.out) in
-    subst P (sym c.in-Count.is) (count_fails s (held c.args.out.now) (held c.print_counts.new.out) c.nodes_in_use.result c.triples_now.result c.nodes_in_use.ensures c.triples_now.ensures c.in-Err-print_counts.ensures)
+    let s = state_of c.args.begun.now st in
+    let does = c.do_event in
+    let done : Desk → State = λ d. record { begun = true; cut = does.new.uploads.cut; desk = d } in
+    let P : Command → Type 0 = λ k. DoesCommand s k {T = Standing does.new.store does.new.uploads} (state_of true) (held c.args.out.now) (held does.new.out) does.result in
+    subst P (sym c.in-Ask.is)
+    (does_by {T = Standing does.new.store does.new.uploads} desk_of s (Ask c.in-Ask.event) done (DoesEvent s.desk c.in-Ask.event) (held c.args.out.now) (held does.new.out) does.result
+    (λ text d made. (refl, does.ensures.cut, made)) (does.ensures.does st))
+
+pub returns-in-Count : goal.returns-in-Count
+returns-in-Count g c = λ st.
+    let held = g.W.Write.contents in
+    let s = state_of c.args.begun.now st in
+    let text = counts_text (nodes_in s.desk.shown) (triples_in s.desk.shown.view.totals.dataset) in
+    let done : Desk → State = λ d. record { begun = true; cut = c.args.uploads.now.cut; desk = d } in
+    let made : List ℕ → Desk → Type 0 = λ told d. (d ≡ s.desk) × (told ≡ text) in
+    let P : Command → Type 0 = λ k. DoesCommand s k {T = Standing c.args.store.now c.args.uploads.now} (state_of true) (held c.args.out.now) (held c.do_count.new.out) c.do_count.result in
+    subst P (sym c.in-Count.is)
+    (does_by {T = Standing c.args.store.now c.args.uploads.now} desk_of s Count done made (held c.args.out.now) (held c.do_count.new.out) c.do_count.result
+    (λ told d m. (refl, refl, m.0, m.1)) (told_by desk_of st made text (held c.args.out.now) (held c.do_count.new.out) c.do_count.result (refl, refl) c.do_count.ensures))
+
+pub returns-in-Feed : goal.returns-in-Feed
+returns-in-Feed g c = λ st.
+    let held = g.W.Write.contents in
+    let s = state_of c.args.begun.now st in
+    let does = c.do_feed in
+    let done : Desk → State = λ d. record { begun = true; cut = does.new.uploads.cut; desk = d } in
+    let P : Command → Type 0 = λ k. DoesCommand s k {T = Standing does.new.store does.new.uploads} (state_of true) (held c.args.out.now) (held does.new.out) does.result in
+    let X : List ℕ → Type 0 = λ y. Replies {T = Standing does.new.store does.new.uploads} desk_of (Feeds s.desk c.in-Feed.seat y) (held c.args.out.now) (held does.new.out) does.result in
+    subst P (sym c.in-Feed.is)
+    (does_by {T = Standing does.new.store does.new.uploads} desk_of s (Feed c.in-Feed.seat c.in-Feed.text) done (Feeds s.desk c.in-Feed.seat c.in-Feed.text.items) (held c.args.out.now) (held does.new.out) does.result
+    (λ text d made. (refl, does.ensures.cut, made)) (subst X c.as_slice.ensures.value (does.ensures.does st)))
+
+pub returns-in-Cut : goal.returns-in-Cut
+returns-in-Cut g c = λ st.
+    let s = state_of c.args.begun.now st in
+    let P : Command → Type 0 = λ k. Does s k [] (record { begun = true; cut = c.in-Cut.length; desk = s.desk }) in
+    record {
+      text = [];
+      last = record { fed = st.fed; requests = st.requests; bodies = st.bodies; even = st.even };
+      makes = subst P (sym c.in-Cut.is) (refl, refl);
+      written = Appends-none (g.W.Write.contents c.args.out.now);
+    }

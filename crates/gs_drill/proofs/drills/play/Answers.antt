@@ -1,5 +1,6 @@
-use Rattle.gs_drill.specs.Drills.{State}
-use Rattle.gs_drill.proofs.PlayLemmas.{Playing-more, Playing-ends, Playing-all, Halts-none, filled, emptied, shorter}
+use Rattle.std.proofs.Common.{false}
+use Rattle.gs_drill.specs.Standing.{Standing, state_of}
+use Rattle.gs_drill.proofs.PlayLemmas.{Playing-none, Playing-more, Playing-ends, Playing-all, Halts-none, filled, emptied, shorter}
 use Rattle.gs_drill.proofs.drills.play.Goals as goal
 
 pub returns-in-Err : goal.returns-in-Err
@@ -8,10 +9,14 @@ returns-in-Err g c = Halts-none c.args.input.now (g.W.Write.contents c.args.out.
 pub returns-in-Err-take_line : goal.returns-in-Err-take_line
 returns-in-Err-take_line g c =
     let held = g.W.Write.contents in
-    let s : State = record { begun = c.loop-rest.begun; shown = c.loop-rest.store } in
-    let t : State = record { begun = c.take_line.new.begun; shown = c.take_line.new.store } in
-    Playing-ends c.args.input.now c.loop-rest.rest.now c.split.result.0.now c.loop-rest.number s t (held c.args.out.now) (held c.loop-rest.out) (held c.take_line.new.out) c.in-Err-take_line.stop
-    c.loop-rest.invariant (filled c.loop-rest.rest.now c.is_empty.result c.is_empty.ensures c.loop-rest-test.true) c.split.ensures.before c.in-Err-take_line.ensures
+    let st = c.loop-rest.invariant.0 in
+    let takes = c.take_line in
+    Playing-ends {T = Standing takes.new.store takes.new.uploads} c.args.input.now c.loop-rest.rest.now c.split.result.0.now c.loop-rest.number (state_of c.loop-rest.begun st) (state_of takes.new.begun)
+    (held c.args.out.now) (held c.loop-rest.out) (held takes.new.out) c.in-Err-take_line.stop
+    c.loop-rest.invariant.1 (filled c.loop-rest.rest.now c.is_empty.result c.is_empty.ensures c.loop-rest-test.true) c.split.ensures.before (c.in-Err-take_line.ensures st)
+
+pub loop-rest-init : goal.loop-rest-init
+loop-rest-init g c = let new = c.in-Ok.ensures in (new.standing, Playing-none c.args.input.now (state_of false new.standing) (g.W.Write.contents c.args.out.now) (new.is false))
 
 pub loop-rest-smaller : goal.loop-rest-smaller
 loop-rest-smaller g c =
@@ -21,13 +26,19 @@ loop-rest-smaller g c =
 pub loop-rest-preserved : goal.loop-rest-preserved
 loop-rest-preserved g c =
     let held = g.W.Write.contents in
-    let s : State = record { begun = c.loop-rest.begun; shown = c.loop-rest.store } in
-    let t : State = record { begun = c.take_line.new.begun; shown = c.take_line.new.store } in
-    Playing-more c.args.input.now c.loop-rest.rest.now c.split.result.0.now c.split.result.1.now c.loop-rest.number s t (held c.args.out.now) (held c.loop-rest.out) (held c.take_line.new.out)
-    c.loop-rest.invariant (filled c.loop-rest.rest.now c.is_empty.result c.is_empty.ensures c.loop-rest-test.true) c.split.ensures.before c.split.ensures.behind c.in_default.ensures
+    let st = c.loop-rest.invariant.0 in
+    let takes = c.take_line in
+    let told = c.in_default.ensures st in (
+      told.last,
+      Playing-more c.args.input.now c.loop-rest.rest.now c.split.result.0.now c.split.result.1.now c.loop-rest.number (state_of c.loop-rest.begun st) (state_of takes.new.begun told.last)
+          (held c.args.out.now) (held c.loop-rest.out) (held takes.new.out)
+          c.loop-rest.invariant.1 (filled c.loop-rest.rest.now c.is_empty.result c.is_empty.ensures c.loop-rest-test.true) c.split.ensures.before c.split.ensures.behind
+          (record { text = told.text; makes = told.makes; written = told.written }),
+    )
 
 pub returns : goal.returns
 returns g c =
     let held = g.W.Write.contents in
-    let s : State = record { begun = c.loop-rest.begun; shown = c.loop-rest.store } in
-    Playing-all c.args.input.now c.loop-rest.rest.now c.loop-rest.number s (held c.args.out.now) (held c.loop-rest.out) c.loop-rest.invariant (emptied c.loop-rest.rest.now c.is_empty.result c.is_empty.ensures c.loop-rest-test.false)
+    let st = c.loop-rest.invariant.0 in
+    Playing-all c.args.input.now c.loop-rest.rest.now c.loop-rest.number (state_of c.loop-rest.begun st) (held c.args.out.now) (held c.loop-rest.out) c.loop-rest.invariant.1
+    (emptied c.loop-rest.rest.now c.is_empty.result c.is_empty.ensures c.loop-rest-test.false)

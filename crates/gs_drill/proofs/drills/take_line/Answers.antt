@@ -1,13 +1,12 @@
 use Rattle.gs_drill.specs.Commands.{Says}
-use Rattle.gs_drill.specs.Drills.{State}
+use Rattle.gs_drill.specs.Standing.{Standing, state_of}
 use Rattle.gs_drill.proofs.CommandLemmas.{found_says}
 use Rattle.gs_drill.proofs.PlayLemmas.{does_takes}
 use Rattle.gs_drill.proofs.drills.take_line.Goals as goal
 
 pub returns-in-Ok-Some : goal.returns-in-Ok-Some
-returns-in-Ok-Some g c =
+returns-in-Ok-Some g c = λ st.
     let held = g.W.Write.contents in
-    let s : State = record { begun = c.args.begun.now; shown = c.args.store.now } in
-    let t : State = record { begun = c.do_command.new.begun; shown = c.do_command.new.store } in
-    does_takes s t c.in-Ok-Some.command c.args.line.now (held c.args.out.now) (held c.do_command.new.out) c.do_command.result
-    (found_says Says c.args.line.now c.in-Ok-Some.field-0 c.in-Ok-Some.ensures c.in-Ok-Some.command c.in-Ok-Some.field-0-is) c.do_command.ensures
+    let does = c.do_command in
+    does_takes {T = Standing does.new.store does.new.uploads} (state_of c.args.begun.now st) (state_of does.new.begun) c.in-Ok-Some.command c.args.line.now (held c.args.out.now) (held does.new.out) does.result
+    (found_says Says c.args.line.now c.in-Ok-Some.field-0 c.in-Ok-Some.ensures c.in-Ok-Some.command c.in-Ok-Some.field-0-is) (does.ensures st)

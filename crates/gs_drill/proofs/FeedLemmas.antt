@@ -1,0 +1,118 @@
+-- Feeds and commits, from what the store and the uploads do.
+use Rattle.std.proofs.Common.{◌≡◌, ◌≢◌, ◌<◌, ℕ, List, [], ◌∷◌, length, Option, Some, None, MatchOption, option_map, refl, sym, ap, ◌∙◌, subst, Vec, Global}
+use Rattle.std.specs.List.{slice_get}
+use Rattle.std.proofs.lemmas.Option.{slice_get-map, slice_get_within}
+use Rattle.gs_model.specs.Triples.{Statement}
+use Rattle.gs_model.specs.declared.refusals.Refusal.TheVariants.{BadSeat, WrongPhase}
+use Rattle.gs_term.specs.declared.triples.Triple.{Triple}
+use Rattle.gs_event.specs.declared.events.Action.TheVariants.{Stage, Commit}
+use Rattle.gs_event.specs.declared.events.Event.TheVariants.{Seat as At}
+use Rattle.gs_event.specs.declared.answers.Answer.{Answer}
+use Rattle.gs_event.specs.declared.answers.Answer.TheVariants.{Staged}
+use Rattle.gs_event.specs.Phases.{Idle, Writing, Reading}
+use Rattle.gs_event.specs.Views.{SeatView}
+use Rattle.gs_event.specs.Waste.{Shown}
+use Rattle.gs_drill.specs.declared.bodies.Body.{Body}
+use Rattle.gs_drill.specs.declared.uploads.Uploads.{Uploads}
+use Rattle.gs_drill.specs.Printing.{answer_text, fed_text}
+use Rattle.gs_drill.specs.Feeds.{Fed, Desk, Answers, Accepts, Stages, FeedsUpload, FeedsSeat, RefusesFeed, Feeds, with_fed, feed_text}
+use Rattle.gs_drill.specs.Commits.{Closes, Commits, CommitsBy, Completes, Concludes}
+use Rattle.gs_drill.specs.Standing.{AreFed, Standing, desk_of, request_of}
+
+-- nothing is staged
+pub stages_none : (d : Desk) (s : ℕ) (given : List Statement) → given ≡ [] → Stages d s given Staged d
+stages_none d s given none = let P : List Statement → Type 0 = λ z. Stages d s z Staged d in subst P (sym none) (refl, refl)
+
+stages_by : (d e : Desk) (s : ℕ) (v : Vec Triple Global) (a : Answer) (given : List Statement) → v.items ≡ given → ¬ (given ≡ []) → Answers d (At s (Stage v)) a e → Stages d s given a e
+stages_by d e s v a [] is some answers = absurd (some refl)
+stages_by d e s v a (t ∷ ts) is some answers = (Stage v, is, answers)
+
+-- some triples are staged
+pub stages_some : (d e : Desk) (s : ℕ) (v : Vec Triple Global) (a : Answer) → ¬ (v.items ≡ []) → Answers d (At s (Stage v)) a e → Stages d s v.items a e
+stages_some d e s v a some answers = stages_by d e s v a v.items refl some answers
+
+-- the uploads, once a text was fed to a seat
+abbrev fed_standing : (shown : Shown) (u w : Uploads) (st : Standing shown u) (s : ℕ) (f : Fed) → w.requests.items ≡ u.requests.items → length w.bodies.items ≡ length u.bodies.items → AreFed w.bodies.items (with_fed st.fed s f) → Standing shown w
+fed_standing shown u w st s f requests lengths all = record {
+  fed = with_fed st.fed s f;
+  requests = requests ∙ st.requests;
+  bodies = all;
+  even = lengths ∙ st.even ∙ ap length (sym requests);
+}
+
+-- a text is fed to an upload
+pub feeds_upload : (old new : Shown) (u m w : Uploads) (r s : ℕ) (y : List ℕ) (given : List Statement) (a : Answer) (text : List ℕ) → slice_get u.requests.items s ≡ Some (Some r)
+    → m.requests.items ≡ u.requests.items → length m.bodies.items ≡ length u.bodies.items
+    → ((fed : ℕ → Fed) → AreFed u.bodies.items fed → s < length u.bodies.items → (f : Fed) × AreFed m.bodies.items (with_fed fed s f) × Accepts r (fed s) y given f)
+    → ((st : Standing old m) → (en : Standing new w) × Stages (desk_of st) s given a (desk_of en)) → text ≡ feed_text a
+    → (st : Standing old u) → (en : Standing new w) × FeedsUpload r (desk_of st) s y text (desk_of en)
+feeds_upload old new u m w r s y given a text there requests lengths feeds stages told st =
+    let P : ℕ → Type 0 = λ n. s < n in
+    let f = feeds st.fed st.bodies (subst P (sym st.even) (slice_get_within u.requests.items s (Some r) there)) in
+    let en = stages (fed_standing old u m st s f.0 requests lengths f.1) in
+    (en.0, record { given = given; fed = f.0; accepts = f.2; answer = a; staged = en.1; told = told })
+
+pub staged_text : (a : Answer) → a ≡ Staged → fed_text ≡ feed_text a
+staged_text a is = ap feed_text (sym is)
+
+pub refusal_text : (a : Answer) → a ≢ Staged → answer_text a ≡ feed_text a
+refusal_text Staged other = absurd (other refl)
+refusal_text a other = refl
+
+-- the rows of a feed by the request of the seat
+abbrev pub FeedsRow : Option (Option ℕ) → Desk → ℕ → List ℕ → List ℕ → Desk → Type 0
+FeedsRow None d s y text e = RefusesFeed BadSeat d text e
+FeedsRow (Some None) d s y text e = RefusesFeed WrongPhase d text e
+FeedsRow (Some (Some r)) d s y text e = FeedsUpload r d s y text e
+
+by_phase : (q : Option SeatView) (d : Desk) (s : ℕ) (y text : List ℕ) (e : Desk) → FeedsRow (option_map request_of q) d s y text e → MatchOption q (RefusesFeed BadSeat d text e) (λ p. FeedsSeat p d s y text e)
+by_phase None d s y text e h = h
+by_phase (Some Idle) d s y text e h = h
+by_phase (Some (Writing k r g)) d s y text e h = h
+by_phase (Some (Reading left)) d s y text e h = h
+
+pub feeds_by : (shown : Shown) (u : Uploads) (st : Standing shown u) (s : ℕ) (y text : List ℕ) (e : Desk) (o : Option (Option ℕ)) → slice_get u.requests.items s ≡ o → FeedsRow o (desk_of st) s y text e → Feeds (desk_of st) s y text e
+feeds_by shown u st s y text e o is row =
+    let P : Option (Option ℕ) → Type 0 = λ z. FeedsRow z (desk_of st) s y text e in
+    let same : o ≡ option_map request_of (slice_get shown.view.seats s) = sym is ∙ ap (λ z. slice_get z s) st.requests ∙ slice_get-map request_of shown.view.seats s in
+    by_phase (slice_get shown.view.seats s) (desk_of st) s y text e (subst P same row)
+
+concludes_other : (a : Answer) (d : Desk) (s : ℕ) → a ≢ Staged → Concludes a d s (answer_text a) d
+concludes_other Staged d s other = absurd (other refl)
+concludes_other a d s other = (refl, refl)
+
+-- the last triples are not staged
+pub completes_not : (old new : Shown) (u w : Uploads) (s : ℕ) (given : List Statement) (a : Answer) → a ≢ Staged → ((st : Standing old u) → (en : Standing new w) × Stages (desk_of st) s given a (desk_of en))
+    → (st : Standing old u) → (en : Standing new w) × Completes given (desk_of st) s (answer_text a) (desk_of en)
+completes_not old new u w s given a other stages st =
+    let en = stages st in (en.0, record { answer = a; between = desk_of en.0; staged = en.1; concludes = concludes_other a (desk_of en.0) s other })
+
+-- they are staged, and the upload is committed
+pub completes : (old mid new : Shown) (u m w : Uploads) (s : ℕ) (given : List Statement) (a b : Answer) → a ≡ Staged → ((st : Standing old u) → (en : Standing mid m) × Stages (desk_of st) s given a (desk_of en))
+    → ((st : Standing mid m) → (en : Standing new w) × Answers (desk_of st) (At s Commit) b (desk_of en))
+    → (st : Standing old u) → (en : Standing new w) × Completes given (desk_of st) s (answer_text b) (desk_of en)
+completes old mid new u m w s given a b is stages commits st =
+    let between = stages st in
+    let en = commits between.0 in
+    let P : Answer → Type 0 = λ z. Stages (desk_of st) s given z (desk_of between.0) in (
+      en.0,
+      record { answer = Staged; between = desk_of between.0; staged = subst P is between.1; concludes = record { answer = b; answers = en.1; told = refl } },
+    )
+
+-- what a seat's text gives as it ends, by another name
+pub ends_by : (old new : List Body) (s : ℕ) (m given : Option (List Statement)) → m ≡ given → ((fed : ℕ → Fed) → AreFed old fed → (f : Fed) × AreFed new (with_fed fed s f) × Closes (fed s) m f)
+    → (fed : ℕ → Fed) → AreFed old fed → (f : Fed) × AreFed new (with_fed fed s f) × Closes (fed s) given f
+ends_by old new s m given is ends fed all =
+    let f = ends fed all in
+    let P : Option (List Statement) → Type 0 = λ z. Closes (fed s) z f.0 in
+    (f.0, f.1, subst P is f.2)
+
+-- the text that was fed ends, and the upload is committed or given up
+pub commits : (old new : Shown) (u m w : Uploads) (s : ℕ) (given : Option (List Statement)) (text : List ℕ) → m.requests.items ≡ u.requests.items → length m.bodies.items ≡ length u.bodies.items
+    → ((fed : ℕ → Fed) → AreFed u.bodies.items fed → (f : Fed) × AreFed m.bodies.items (with_fed fed s f) × Closes (fed s) given f)
+    → ((st : Standing old m) → (en : Standing new w) × CommitsBy given (desk_of st) s text (desk_of en))
+    → (st : Standing old u) → (en : Standing new w) × Commits (desk_of st) s text (desk_of en)
+commits old new u m w s given text requests lengths ends by st =
+    let f = ends st.fed st.bodies in
+    let en = by (fed_standing old u m st s f.0 requests lengths f.1) in
+    (en.0, record { given = given; fed = f.0; closes = f.2; commits = en.1 })

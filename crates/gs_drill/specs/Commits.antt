@@ -1,0 +1,63 @@
+-- What an event does, and what a commit does to an upload to which texts were fed.
+use Rattle.std.specs.Prelude.{◌≡◌, ℕ, List, [], ◌++◌, Option, Some, None}
+use Rattle.gs_model.specs.Triples.{Statement}
+use Rattle.gs_body.specs.Bodies.{Whole, triples_of}
+use Rattle.gs_ntread.specs.Documents.{said_by}
+use Rattle.gs_event.specs.declared.events.Action.TheVariants.{Commit, Cancel}
+use Rattle.gs_event.specs.declared.events.Event.{Event}
+use Rattle.gs_event.specs.declared.events.Event.TheVariants.{Seat as At}
+use Rattle.gs_event.specs.declared.answers.Answer.{Answer}
+use Rattle.gs_event.specs.declared.answers.Answer.TheVariants.{Staged}
+use Rattle.gs_drill.specs.Printing.{answer_text, fault_text}
+use Rattle.gs_drill.specs.Feeds.{Fed, Unfed, InPart, Faulted, Finished, Desk, desk_with, Answers, Stages, IsFaulty}
+
+-- an event is answered, and the answer is printed
+pub record Asks (d : Desk) (event : Event) (text : List ℕ) (e : Desk) : Type 0 where
+  pub answer : Answer
+  pub answers : Answers d event answer e
+  pub told : text ≡ answer_text answer
+
+-- The text ends: with the triples that it then gives, if any, all that it means is given; or it has no meaning,
+-- and nothing is given. A text ends once.
+abbrev pub Closes : Fed → Option (List Statement) → Fed → Type 0
+Closes Unfed (Some given) f = (given ≡ []) × (f ≡ Unfed)
+Closes (InPart r x ts) (Some given) f = ((said_by r x).1 ≡ Whole) × (triples_of (said_by r x).0 ≡ ts ++ given) × (f ≡ Finished)
+Closes (InPart r x ts) None f = IsFaulty r x × (f ≡ Faulted)
+Closes Faulted None f = f ≡ Faulted
+Closes Finished (Some given) f = (given ≡ []) × (f ≡ Finished)
+Closes f given g = ⊥
+
+-- the upload is given up, and the fault is printed in the place of the answer
+pub record GivesUp (d : Desk) (s : ℕ) (text : List ℕ) (e : Desk) : Type 0 where
+  pub answer : Answer
+  pub answers : Answers d (At s Cancel) answer e
+  pub told : text ≡ fault_text
+
+-- where the last triples are staged the upload is committed, and else the refusal is printed
+abbrev pub Concludes : Answer → Desk → ℕ → List ℕ → Desk → Type 0
+Concludes Staged d s text e = Asks d (At s Commit) text e
+Concludes a d s text e = (text ≡ answer_text a) × (e ≡ d)
+
+-- the last triples are staged, and then the upload is committed
+pub record Completes (given : List Statement) (d : Desk) (s : ℕ) (text : List ℕ) (e : Desk) : Type 0 where
+  pub answer : Answer
+  pub between : Desk
+  pub staged : Stages d s given answer between
+  pub concludes : Concludes answer between s text e
+
+-- the same by what the text gives as it ends
+abbrev pub CommitsBy : Option (List Statement) → Desk → ℕ → List ℕ → Desk → Type 0
+CommitsBy None d s text e = GivesUp d s text e
+CommitsBy (Some given) d s text e = Completes given d s text e
+
+-- a commit of seat s: the text that was fed ends, and the upload is committed or given up
+pub record Commits (d : Desk) (s : ℕ) (text : List ℕ) (e : Desk) : Type 0 where
+  pub given : Option (List Statement)
+  pub fed : Fed
+  pub closes : Closes (d.fed s) given fed
+  pub commits : CommitsBy given (desk_with d s fed) s text e
+
+-- an event of a schedule
+abbrev pub DoesEvent : Desk → Event → List ℕ → Desk → Type 0
+DoesEvent d (At s Commit) text e = Commits d s text e
+DoesEvent d event text e = Asks d event text e

@@ -1,0 +1,121 @@
+-- What is fed to the upload of a seat: texts of N-Triples, by what they mean (`said_by` of gs_ntread).
+use Rattle.std.specs.Prelude.{◌≡◌, ℕ, Bool, true, false, nat_eq, if◌then◌else◌, List, [], ◌∷◌, ◌++◌, MatchOption}
+use Rattle.std.specs.List.{slice_get}
+use Rattle.std.specs.Str.{IsUtf8}
+use Rattle.gs_model.specs.Triples.{Statement}
+use Rattle.gs_model.specs.declared.refusals.Refusal.{Refusal}
+use Rattle.gs_model.specs.declared.refusals.Refusal.TheVariants.{BadSeat, WrongPhase}
+use Rattle.gs_machine.specs.Machines.{AreSettled, Begins}
+use Rattle.gs_body.specs.Bodies.{Whole, triples_of}
+use Rattle.gs_ntread.specs.Documents.{said_by}
+use Rattle.gs_event.specs.declared.events.Action.{Action}
+use Rattle.gs_event.specs.declared.events.Action.TheVariants.{Stage}
+use Rattle.gs_event.specs.declared.events.Event.{Event}
+use Rattle.gs_event.specs.declared.events.Event.TheVariants.{Seat as At, Reclaim}
+use Rattle.gs_event.specs.declared.answers.Answer.{Answer}
+use Rattle.gs_event.specs.declared.answers.Answer.TheVariants.{Opened, Staged, Status, Cancelled, Refused}
+use Rattle.gs_event.specs.Phases.{Idle, Writing, Reading}
+use Rattle.gs_event.specs.Views.{SeatView, Fits, next_view}
+use Rattle.gs_event.specs.Waste.{Shown, Reclaims}
+use Rattle.gs_drill.specs.Printing.{answer_text, fed_text}
+
+-- What was fed to a seat: nothing; a text to the upload of request r, with the triples that were given so far;
+-- a text that has a fault; or a whole text, of which all is given.
+pub data Fed : Type 0 where
+  Unfed : Fed
+  InPart : (r : ℕ) (x : List ℕ) (given : List Statement) → Fed
+  Faulted : Fed
+  Finished : Fed
+
+-- what the store shows, and what was fed to each seat
+pub record Desk : Type 0 where
+  pub shown : Shown
+  pub fed : ℕ → Fed
+
+-- the same, but this was fed to seat s
+abbrev pub with_fed : (ℕ → Fed) → ℕ → Fed → ℕ → Fed
+with_fed fed s f n = if nat_eq n s then f else fed n
+
+-- the desk where this was fed to seat s
+abbrev pub desk_with : Desk → ℕ → Fed → Desk
+desk_with d s f = record { shown = d.shown; fed = with_fed d.fed s f }
+
+-- the answer says that an upload, or a read, begins anew or ends
+abbrev pub is_turn : Answer → Bool
+is_turn (Opened r) = true
+is_turn (Status s name) = true
+is_turn Cancelled = true
+is_turn a = false
+
+-- what was fed to each seat, after an answer
+abbrev pub fed_after : (ℕ → Fed) → Event → Answer → ℕ → Fed
+fed_after fed (Reclaim n) a = fed
+fed_after fed (At s action) a = if is_turn a then with_fed fed s Unfed else fed
+
+-- an event is answered by an answer that fits, and leaves the next view
+pub record Answers (d : Desk) (event : Event) (a : Answer) (e : Desk) : Type 0 where
+  pub fits : Fits d.shown.view event a
+  pub view : e.shown.view ≡ next_view d.shown.view event a
+  pub waste : Reclaims d.shown.waste event a e.shown.waste
+  pub fed : e.fed ≡ fed_after d.fed event a
+
+-- the action that stages these triples
+abbrev pub IsStage : List Statement → Action → Type 0
+IsStage given (Stage ts) = ts.items ≡ given
+IsStage given action = ⊥
+
+-- triples are staged by one event; where there are none, by no event, and the answer counts as `Staged`
+abbrev pub Stages : Desk → ℕ → List Statement → Answer → Desk → Type 0
+Stages d s [] a e = (a ≡ Staged) × (e ≡ d)
+Stages d s (t ∷ ts) a e = (action : Action) × IsStage (t ∷ ts) action × Answers d (At s action) a e
+
+-- The triples that a text gives so far: a front of what is said, however the text goes on; and where the text
+-- so far ends between two characters, just the triples of its complete statements.
+pub record Gives (r : ℕ) (x : List ℕ) (given : List Statement) : Type 0 where
+  pub begun : (z : List ℕ) → Begins (triples_of (said_by r (x ++ z)).0) given
+  pub settled : IsUtf8 x → AreSettled (λ z. triples_of (said_by r z).0) x given
+
+-- a text without a meaning
+abbrev pub IsFaulty : ℕ → List ℕ → Type 0
+IsFaulty r x = ¬ ((said_by r x).1 ≡ Whole)
+
+-- The text x, which gave ts, goes on by y and gives some triples more; or it has a fault, however it goes on.
+abbrev pub GoesOn : ℕ → List ℕ → List Statement → List ℕ → List Statement → Fed → Type 0
+GoesOn r x ts y given (InPart q z all) = (q ≡ r) × (z ≡ x ++ y) × (all ≡ ts ++ given) × Gives r z all
+GoesOn r x ts y given Faulted = (given ≡ []) × ((z : List ℕ) → IsFaulty r (x ++ y ++ z))
+GoesOn r x ts y given f = ⊥
+
+-- What y gives to the upload of request r. Behind a fault, or behind the end of the text, it is dropped.
+abbrev pub Accepts : ℕ → Fed → List ℕ → List Statement → Fed → Type 0
+Accepts r Unfed y given f = GoesOn r [] [] y given f
+Accepts r (InPart q x ts) y given f = GoesOn q x ts y given f
+Accepts r Faulted y given f = (given ≡ []) × (f ≡ Faulted)
+Accepts r Finished y given f = (given ≡ []) × (f ≡ Finished)
+
+-- a refusal stands in the place of `fed`
+abbrev pub feed_text : Answer → List ℕ
+feed_text Staged = fed_text
+feed_text a = answer_text a
+
+-- y is fed to the upload of request r, and what it gives is staged
+pub record FeedsUpload (r : ℕ) (d : Desk) (s : ℕ) (y text : List ℕ) (e : Desk) : Type 0 where
+  pub given : List Statement
+  pub fed : Fed
+  pub accepts : Accepts r (d.fed s) y given fed
+  pub answer : Answer
+  pub staged : Stages (desk_with d s fed) s given answer e
+  pub told : text ≡ feed_text answer
+
+-- no event is made
+abbrev pub RefusesFeed : Refusal → Desk → List ℕ → Desk → Type 0
+RefusesFeed refusal d text e = (text ≡ answer_text (Refused refusal)) × (e ≡ d)
+
+-- the same by what the seat is doing
+abbrev pub FeedsSeat : SeatView → Desk → ℕ → List ℕ → List ℕ → Desk → Type 0
+FeedsSeat Idle d s y text e = RefusesFeed WrongPhase d text e
+FeedsSeat (Writing k r g) d s y text e = FeedsUpload r d s y text e
+FeedsSeat (Reading left) d s y text e = RefusesFeed WrongPhase d text e
+
+-- y is fed to seat s, which prints the text
+abbrev pub Feeds : Desk → ℕ → List ℕ → List ℕ → Desk → Type 0
+Feeds d s y text e = MatchOption (slice_get d.shown.view.seats s) (RefusesFeed BadSeat d text e) (λ p. FeedsSeat p d s y text e)

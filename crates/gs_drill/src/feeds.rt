@@ -1,0 +1,112 @@
+//! Events, feeds and commits: what they ask the store, and what they print.
+ghost use Rattle.std.specs.Prelude.{◌≡◌, Some, IfOk};
+ghost use Rattle.std.specs.List.{slice_get};
+ghost use Rattle.gs_drill.specs.Printing.{reply_text};
+ghost use Rattle.gs_drill.specs.Feeds.{Answers, Stages, Feeds, FeedsUpload};
+ghost use Rattle.gs_drill.specs.Commits.{Commits, Asks, GivesUp, Completes};
+ghost use Rattle.gs_drill.specs.Standing.{Standing, desk_of};
+
+use crate::printing::Reply;
+use crate::uploads::Uploads;
+use gs_core::Store;
+use gs_event::{Action, Answer, Event};
+use gs_model::Refusal;
+use gs_term::Triple;
+use std::alloc::{AllocError, Global};
+
+/// Asks the store, and follows its answer.
+pub fn answer(store: &mut Store, uploads: &mut Uploads, event: &Event) -> Answer
+    ensures does { (st : Standing store.old uploads.old) → (en : Standing store.new uploads.new) × Answers (desk_of st) event.now result (desk_of en) }
+    ensures cut { uploads.new.cut ≡ uploads.old.cut }
+{
+    let answer = store.step(event);
+    uploads.follow(event, &answer);
+    answer
+}
+
+/// Stages triples by one event, and by none where there are none.
+fn stage(store: &mut Store, uploads: &mut Uploads, seat: u16, given: Vec<Triple>) -> Answer
+    ensures does { (st : Standing store.old uploads.old) → (en : Standing store.new uploads.new) × Stages (desk_of st) seat given.items result (desk_of en) }
+    ensures cut { uploads.new.cut ≡ uploads.old.cut }
+{
+    if given.is_empty() {
+        return Answer::Staged;
+    }
+    answer(store, uploads, &Event::Seat(seat, Action::Stage(given)))
+}
+
+/// Feeds a text to the upload of this request, which the seat has.
+fn feed_upload(
+    alloc: Global,
+    store: &mut Store,
+    uploads: &mut Uploads,
+    seat: u16,
+    request: u64,
+    text: &[u8],
+) -> Result<Reply, AllocError>
+    requires { slice_get uploads.old.requests.items seat ≡ Some (Some request) }
+    ensures does { IfOk result (λ reply. (st : Standing store.old uploads.old) → (en : Standing store.new uploads.new) × FeedsUpload request (desk_of st) seat text.now (reply_text reply) (desk_of en)) }
+    ensures cut { uploads.new.cut ≡ uploads.old.cut }
+{
+    let given = uploads.feed(alloc, seat, request, text)?;
+    match stage(store, uploads, seat, given) {
+        Answer::Staged => Ok(Reply::Taken),
+        other => Ok(Reply::Answered(other)),
+    }
+}
+
+/// Feeds a text to a seat. A seat that has no upload makes no event.
+pub fn feed(
+    alloc: Global,
+    store: &mut Store,
+    uploads: &mut Uploads,
+    seat: u16,
+    text: &[u8],
+) -> Result<Reply, AllocError>
+    ensures does { IfOk result (λ reply. (st : Standing store.old uploads.old) → (en : Standing store.new uploads.new) × Feeds (desk_of st) seat text.now (reply_text reply) (desk_of en)) }
+    ensures cut { uploads.new.cut ≡ uploads.old.cut }
+{
+    match uploads.request(seat) {
+        None => Ok(Reply::Answered(Answer::Refused(Refusal::BadSeat))),
+        Some(None) => Ok(Reply::Answered(Answer::Refused(Refusal::WrongPhase))),
+        Some(Some(request)) => feed_upload(alloc, store, uploads, seat, request, text),
+    }
+}
+
+/// Gives the upload of a seat up, whose text has a fault.
+fn give_up(store: &mut Store, uploads: &mut Uploads, seat: u16) -> Reply
+    ensures does { (st : Standing store.old uploads.old) → (en : Standing store.new uploads.new) × GivesUp (desk_of st) seat (reply_text result) (desk_of en) }
+    ensures cut { uploads.new.cut ≡ uploads.old.cut }
+{
+    let _ = answer(store, uploads, &Event::Seat(seat, Action::Cancel));
+    Reply::Fault
+}
+
+/// Stages the last triples of a seat's upload, and commits it.
+fn complete(store: &mut Store, uploads: &mut Uploads, seat: u16, given: Vec<Triple>) -> Reply
+    ensures does { (st : Standing store.old uploads.old) → (en : Standing store.new uploads.new) × Completes given.items (desk_of st) seat (reply_text result) (desk_of en) }
+    ensures cut { uploads.new.cut ≡ uploads.old.cut }
+{
+    match stage(store, uploads, seat, given) {
+        Answer::Staged => {
+            Reply::Answered(answer(store, uploads, &Event::Seat(seat, Action::Commit)))
+        }
+        other => Reply::Answered(other),
+    }
+}
+
+/// The text that was fed to a seat ends, and its upload is committed or given up.
+pub fn commit(
+    alloc: Global,
+    store: &mut Store,
+    uploads: &mut Uploads,
+    seat: u16,
+) -> Result<Reply, AllocError>
+    ensures does { IfOk result (λ reply. (st : Standing store.old uploads.old) → (en : Standing store.new uploads.new) × Commits (desk_of st) seat (reply_text reply) (desk_of en)) }
+    ensures cut { uploads.new.cut ≡ uploads.old.cut }
+{
+    match uploads.finish(alloc, seat)? {
+        Some(given) => Ok(complete(store, uploads, seat, given)),
+        None => Ok(give_up(store, uploads, seat)),
+    }
+}
