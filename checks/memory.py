@@ -58,10 +58,10 @@ def statements(text, request):
     return lines, True
 
 
-def worked_schedules(path):
-    """(name, input, output) of each row of the table in gs_tests."""
+def worked_schedules(path, name):
+    """(name, input, output) of each row of a table in gs_tests."""
     source = open(path, encoding="utf-8").read()
-    table = source[source.index("const ROWS"):]
+    table = source[source.index(f"const {name}:"):]
     texts = re.findall(r'"((?:[^"\\]|\\.)*)"', table[:table.index("];")])
     texts = [re.sub(r"\\(.)", lambda it: {"n": "\n", "t": "\t"}.get(it[1], it[1]), it) for it in texts]
     return [tuple(texts[i:i + 3]) for i in range(0, len(texts), 3)]
@@ -228,7 +228,8 @@ def run(program, schedule, room, refused):
 
 def main(program, schedules, room):
     total = 0
-    for name, schedule, want in worked_schedules(schedules):
+    tables = worked_schedules(f"{schedules}/schedules.rt", "ROWS") + worked_schedules(f"{schedules}/feeds.rt", "FEEDS")
+    for name, schedule, want in tables:
         assert run(program, schedule, room, 0) == (0, want, ""), name
         requests = int(open(f"{room}/count").read())
         for refused in range(1, requests + 1):

@@ -6,4 +6,4 @@ program=${1:-"$here/../crates/gsdrill/out/gsdrill"}
 room=$(mktemp -d)
 trap 'rm -rf "$room"' EXIT
 cc -shared -fPIC -O1 -o "$room/refuse.so" "$here/refuse.c"
-python3 "$here/memory.py" "$program" "$here/../crates/gs_tests/src/schedules.rt" "$room"
+python3 "$here/memory.py" "$program" "$here/../crates/gs_tests/src" "$room"
