@@ -7,7 +7,7 @@ use Rattle.gs_model.specs.Triples.{Statement}
 use Rattle.gs_lex.specs.Tokens.{Lexeme}
 use Rattle.gs_blank.specs.Numbers.{Numbers, no_numbers}
 use Rattle.gs_body.specs.Bodies.{Said, Stated, Whole, Syntax}
-use Rattle.gs_turtle.specs.Symbols.{Reference, Namespace, Symbol, AWord, At, Dot, PrefixWord, BaseWord, symbol, symbols_of}
+use Rattle.gs_turtle.specs.Symbols.{Reference, Namespace, Symbol, AWord, At, Dot, PrefixWord, BaseWord, symbol_of, symbols_of}
 use Rattle.gs_turtle.specs.Meanings.{Fault, Broken, Long, ending, Context, with_prefix, with_base}
 use Rattle.gs_turtle.specs.Documents as statement
 use Rattle.gs_turtle.specs.Documents.{AreTriples, IsStatement, AreStatements, IsDocument, stated, start}
@@ -147,7 +147,7 @@ statements_read (suc f) (statement.statement {env = env} {next = next} {n = n} {
 
 -- a document, and what the program says of it
 pub document_read : (b : List ℕ) (r : ℕ) (ts : List Lexeme) (S : List Stated) → IsDocument b r ts S → document b r ts ≡ (S, Whole)
-document_read b r ts S d = statements_read (length ts) d (omega (arith, length-map ts (λ t. symbol t.kind t.text t.«end»)))
+document_read b r ts S d = statements_read (length ts) d (omega (arith, length-map ts symbol_of))
 
 pub document_covered : (b : List ℕ) (r : ℕ) (ts : List Lexeme) (S : List Stated) → document b r ts ≡ (S, Whole) → IsDocument b r ts S
 document_covered b r ts S h = statements_covered (length ts) (start b r) no_numbers (symbols_of ts) S h

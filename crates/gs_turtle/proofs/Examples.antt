@@ -94,6 +94,7 @@ half = refl
 
 -- by the rules
 by_rules : IsDocument graph 1 row (stated 49 triples)
+unfolding is_utf8 chars encode
 by_rules =
     statement.statement (statement.prefix (codes "@prefix") (codes "ex:") (codes "<http://e/>") 25 refl declared)
     (statement.statement

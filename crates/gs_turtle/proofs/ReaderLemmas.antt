@@ -6,7 +6,7 @@ use Rattle.gs_lex.specs.Tokens.{Lexeme}
 use Rattle.gs_machine.specs.Machines.{rest}
 use Rattle.gs_blank.specs.Numbers.{Numbers, no_numbers}
 use Rattle.gs_body.specs.Bodies.{Syntax}
-use Rattle.gs_turtle.specs.Symbols.{Word, Reference, Namespace, Symbol, AWord, At, Open, OpenList, Dot, PrefixWord, BaseWord, symbol, symbols_of}
+use Rattle.gs_turtle.specs.Symbols.{Word, Reference, Namespace, Symbol, AWord, At, Open, OpenList, Dot, PrefixWord, BaseWord, symbol_of, symbols_of}
 use Rattle.gs_turtle.specs.Meanings.{Broken, Context, subject, with_prefix, with_base}
 use Rattle.gs_turtle.specs.Goals.{Begun}
 use Rattle.gs_turtle.specs.Documents.{start}
@@ -132,4 +132,4 @@ between (suc f) env n (t ∷ ts) h = lost_rest Syntax ts
 
 -- the machine tells of a document what the program says
 pub machine_tells : (b : List ℕ) (r : ℕ) (ts : List Lexeme) → rest turtle (Between (start b r) no_numbers) (symbols_of ts) ≡ document b r ts
-machine_tells b r ts = between (length ts) (start b r) no_numbers (symbols_of ts) (omega (arith, length-map ts (λ t. symbol t.kind t.text t.«end»)))
+machine_tells b r ts = between (length ts) (start b r) no_numbers (symbols_of ts) (omega (arith, length-map ts symbol_of))

@@ -1,31 +1,23 @@
 -- The terms that symbols mean (Turtle, sections 2.4 to 2.6, 6.3 and 7.2), under the base and the prefixes in force.
-use Rattle.std.specs.Prelude.{ℕ, if◌then◌else◌, List, ◌++◌, length, drop, nat_le, codes, map, Option, Some, None, option_map, option_and_then, Result, Ok, Err}
-use Rattle.std.specs.Char.{to_ascii_lowercase}
-use Rattle.std.specs.Ordering.{nat_cmp}
-use Rattle.std.specs.Cmp.Lexicographic.{slice_cmp}
+use Rattle.std.specs.Prelude.{ℕ, if◌then◌else◌, List, ◌++◌, length, nat_le, codes, Option, Some, None, option_map, option_and_then, Result, Ok, Err}
+use Rattle.std.specs.Str.{str_to_ascii_lowercase}
 use Rattle.std.specs.FinMap as finite
 use Rattle.gs_model.specs.Terms.{Term, Iri, Blank, Literal, Typed, Tagged, xsd_string, text_of, is_term}
 use Rattle.gs_model.specs.declared.limits.TheConstants.{LONGEST_TERM}
 use Rattle.gs_iri.specs.Resolving.{resolved}
-use Rattle.gs_escape.specs.Tokens.{iri_of, string_of, local_of, parts_of}
+use Rattle.gs_escape.specs.Tokens.{behind, iri_of, string_of, local_of, parts_of}
 use Rattle.gs_blank.specs.Numbers.{Numbers, number_of}
 use Rattle.gs_body.specs.Bodies as body
 use Rattle.gs_body.specs.Bodies.{Ending}
+pub use Rattle.gs_turtle.specs.declared.faults.Fault.{Fault}
+pub use Rattle.gs_turtle.specs.declared.faults.Fault.TheVariants.{Broken, Long}
+pub use Rattle.gs_turtle.specs.Prefixes.{Prefixes}
 use Rattle.gs_turtle.specs.Symbols.{Word, Reference, Namespace, Name, Label, Plain, Symbol, AWord, A}
-
--- what stands there breaks the grammar, or is a term that is too long
-pub data Fault : Type 0 where
-  Broken : Fault
-  Long : Fault
 
 -- how a body with this first fault ends
 abbrev pub ending : Fault → Ending
 ending Broken = body.Syntax
 ending Long = body.TooLong
-
--- the IRI of each declared prefix
-abbrev pub Prefixes : Type 0
-Prefixes = finite.FinMap (slice_cmp nat_cmp) (List ℕ)
 
 -- what earlier statements leave, and the request whose blank nodes are numbered
 pub record Context : Type 0 where
@@ -69,9 +61,14 @@ abbrev pub with_numbers : Numbers → Result Term Fault → Result (Term × Numb
 with_numbers n (Err e) = Err e
 with_numbers n (Ok t) = Ok (t, n)
 
--- the term of one token: a label's blank node has the label's number, or else the next
+-- the blank node of a label, which has the label's number, or else the next
+abbrev pub labelled : Context → Numbers → Option (List ℕ) → Result (Term × Numbers) Fault
+labelled env n None = Err Broken
+labelled env n (Some l) = Ok (Blank env.request (number_of n l).0, (number_of n l).1)
+
+-- the term of one token; a label stands behind its `_:`
 unfoldable pub word : Context → Numbers → Word → Result (Term × Numbers) Fault
-word env n (Label x) = Ok (Blank env.request (number_of n (drop 2 x)).0, (number_of n (drop 2 x)).1)
+word env n (Label x) = labelled env n (behind (codes "_:") x)
 word env n (Plain x d) = with_numbers n (made (Some (Literal x (Typed d))))
 word env n w = with_numbers n (iri env w)
 
@@ -86,7 +83,7 @@ simple x = made (option_map (λ l. Literal l (Typed xsd_string)) (string_of x))
 
 -- with its language tag
 unfoldable pub tagged : List ℕ → List ℕ → Result Term Fault
-tagged x tag = made (option_map (λ l. Literal l (Tagged (map to_ascii_lowercase (drop 1 tag)))) (string_of x))
+tagged x tag = made (option_and_then (λ l. option_map (λ t. Literal l (Tagged (str_to_ascii_lowercase t))) (behind (codes "@") tag)) (string_of x))
 
 -- with its datatype
 unfoldable pub typed : Context → List ℕ → Symbol → Result Term Fault

@@ -1,5 +1,6 @@
 -- What the grammar of Turtle (25 February 2014, section 6.5) sees of a token: its terminal, and its text where that is open.
-use Rattle.std.specs.Prelude.{ℕ, List, ◌++◌, codes, map}
+use Rattle.std.specs.Prelude.{ℕ, if◌then◌else◌, List, ◌++◌, codes, map}
+use Rattle.std.specs.Str.{is_utf8}
 use Rattle.gs_lex.specs.Tokens.{Lexeme}
 use Rattle.gs_lex.specs.declared.kinds.Kind.{Kind}
 use Rattle.gs_lex.specs.declared.kinds.Kind.TheVariants as kind
@@ -69,6 +70,10 @@ symbol kind.Prefix x n = PrefixWord
 symbol kind.Base x n = BaseWord
 symbol _ x n = Foreign
 
+-- the symbol of a token, whose text is UTF-8
+abbrev pub symbol_of : Lexeme → Symbol
+symbol_of t = if is_utf8 t.text then symbol t.kind t.text t.«end» else Foreign
+
 -- the symbols of a text's tokens
 abbrev pub symbols_of : List Lexeme → List Symbol
-symbols_of ts = map (λ t. symbol t.kind t.text t.«end») ts
+symbols_of ts = map symbol_of ts

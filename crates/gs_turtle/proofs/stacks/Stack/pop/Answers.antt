@@ -1,0 +1,8 @@
+use Rattle.std.proofs.Common.{◌≡◌, ◌∙◌, ap, sym, ◌++◌}
+use Rattle.std.specs.Prelude.{option_to_list}
+use Rattle.gs_turtle.proofs.StackLemmas.{stack_none}
+use Rattle.gs_turtle.proofs.stacks.Stack.pop.Goals as goal
+
+pub returns-in-None-clause-none : goal.returns-in-None-clause-none
+returns-in-None-clause-none c =
+    stack_none c.args.self.now c.pop.new.self.items _ c.in-None.ensures.cases.0 c.pop.ensures.rest c.in-None.ensures.items

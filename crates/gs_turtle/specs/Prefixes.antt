@@ -1,0 +1,18 @@
+-- The prefixes of a document (Turtle, section 2.4).
+use Rattle.std.specs.Prelude.{ℕ, List, map, string_bytes, String}
+use Rattle.std.specs.Ordering.{nat_cmp}
+use Rattle.std.specs.Cmp.Lexicographic.{slice_cmp}
+use Rattle.std.specs.FinMap as finite
+use Rattle.std.specs.BTreeMap.{BTreeMap}
+
+-- the IRI of each declared prefix
+abbrev pub Prefixes : Type 0
+Prefixes = finite.FinMap (slice_cmp nat_cmp) (List ℕ)
+
+-- an entry with its texts' bytes
+abbrev pub as_texts : {Y Z : Type 0} → String Y × String Z → List ℕ × List ℕ
+as_texts e = (string_bytes e.0, string_bytes e.1)
+
+-- a tree of texts as a map
+abbrev pub texts_of : {Y Z : Type 0} → BTreeMap (String Y) (String Z) → Prefixes
+texts_of m = finite.from_entries (map as_texts m.entries)

@@ -1,0 +1,213 @@
+//! One token more.
+ghost use Rattle.std.specs.Prelude.{◌≡◌, ◌++◌, ◌∷◌, [], OnOk, OnErr, string_bytes};
+
+use crate::faults::Fault;
+use crate::frames::{Frame, Goal, Subject};
+use crate::parser::Parser;
+use crate::places::Place;
+use crate::symbols::{Symbol, Word, symbol_of_token};
+use crate::terms::{self, blank};
+use crate::verbs::begins_verb;
+use gs_lex::Token;
+use gs_term::{TermText, Triple};
+use std::alloc::AllocError;
+use std::mem;
+
+impl Parser {
+    ghost use Rattle.gs_body.specs.Bodies.{triples_of, end_after};
+    ghost use Rattle.gs_lex.specs.Lexemes.{lexeme_of};
+    ghost use Rattle.gs_turtle.specs.Symbols.{symbol_of, At};
+    ghost use Rattle.gs_turtle.specs.Goals.{Verbs, Begun};
+    ghost use Rattle.gs_turtle.specs.Meanings as meaning;
+    ghost use Rattle.gs_turtle.specs.States as state;
+    ghost use Rattle.gs_turtle.specs.Machine as machine;
+    ghost use Rattle.gs_turtle.specs.Views.{state_of, context_of, symbol_at, word_at};
+    ghost use Rattle.gs_turtle.specs.Frames.{stack_of};
+
+    /// A subject, whose verbs come next.
+    fn head_of(&mut self, subject: Subject)
+        ensures state { state_of self.new ≡ state.Heading (Verbs 0 subject.term) [] (context_of self.old.context) [] self.old.numbering }
+        ensures last { self.new.last ≡ self.old.last }
+    {
+        self.stack.clear();
+        self.waiting.clear();
+        self.place = Place::Heading(Goal::Verbs(0, subject));
+    }
+
+    /// A collection opens a statement.
+    fn open_subject(&mut self) -> Result<(), AllocError>
+        ensures state { OnOk result (state_of self.new ≡ state.Heading (Begun 1) (state.ToVerbs ∷ []) (context_of self.old.context) [] self.old.numbering) }
+        ensures last { self.new.last ≡ self.old.last }
+    {
+        self.stack.clear();
+        self.waiting.clear();
+        self.stack.push(Frame::ToVerbs)?;
+        self.place = Place::Heading(Goal::Begun(1));
+        Ok(())
+    }
+
+    /// A word opens a statement.
+    fn begin_word(&mut self, word: Word) -> Result<(), AllocError>
+        ensures state { OnOk result (state_of self.new ≡ machine.begin (context_of self.old.context) (meaning.subject (context_of self.old.context) self.old.numbering (word_at word.entry))) }
+        ensures last { self.new.last ≡ self.old.last }
+    {
+        match terms::subject(self.alloc, &self.context, &mut self.numbering, word)? {
+            Ok(term) => self.head_of(Subject { term }),
+            Err(fault) => self.lose(fault),
+        }
+        Ok(())
+    }
+
+    /// `@prefix` or `@base`.
+    #[tactic(auto, unfolding(crate::specs::Machine::step))]
+    fn begin_at(&mut self, text: &str) -> Result<(), AllocError>
+        ensures state { OnOk result (state_of self.new ≡ (machine.step (state.Between (context_of self.old.context) self.old.numbering) (At text.now)).0) }
+        ensures last { self.new.last ≡ self.old.last }
+    {
+        if text == "@prefix" {
+            self.place = Place::InPrefix(true);
+        } else if text == "@base" {
+            self.place = Place::InBase(true);
+        } else {
+            self.lose(Fault::Broken);
+        }
+        Ok(())
+    }
+
+    /// A symbol between two statements.
+    #[tactic(auto, unfolding(crate::specs::Machine::step))]
+    pub fn begin(&mut self, symbol: Symbol) -> Result<(), AllocError>
+        ensures state { OnOk result (state_of self.new ≡ (machine.step (state.Between (context_of self.old.context) self.old.numbering) (symbol_at symbol.entry)).0) }
+        ensures last { self.new.last ≡ self.old.last }
+    {
+        match symbol {
+            Symbol::At(text) => self.begin_at(text),
+            Symbol::Prefix => {
+                self.place = Place::InPrefix(false);
+                Ok(())
+            }
+            Symbol::Base => {
+                self.place = Place::InBase(false);
+                Ok(())
+            }
+            Symbol::Word(word) => self.begin_word(word),
+            Symbol::Open => {
+                self.place = Place::Opened;
+                Ok(())
+            }
+            Symbol::OpenList => self.open_subject(),
+            _ => {
+                self.lose(Fault::Broken);
+                Ok(())
+            }
+        }
+    }
+
+    /// A symbol behind a `[` that opens a statement.
+    #[tactic(auto, unfolding(crate::specs::Machine::step))]
+    pub fn opened(&mut self, symbol: Symbol) -> Result<(), AllocError>
+        ensures state { OnOk result (state_of self.new ≡ (machine.step (state.Opened (context_of self.old.context) self.old.numbering) (symbol_at symbol.entry)).0) }
+        ensures last { self.new.last ≡ self.old.last }
+    {
+        let Ok(number) = self.numbering.fresh() else {
+            return Err(AllocError);
+        };
+        let term = blank(self.alloc, self.context.request, number)?;
+        match symbol {
+            Symbol::Close => {
+                self.head_of(Subject { term });
+                Ok(())
+            }
+            _ => {
+                self.stack.clear();
+                self.waiting.clear();
+                self.stack.push(Frame::ToMore(number))?;
+                self.at_verb(1, Subject { term }, symbol)
+            }
+        }
+    }
+
+    /// A symbol behind the properties that open a statement.
+    #[tactic(auto, unfolding(crate::specs::Machine::step))]
+    pub fn closed(
+        &mut self,
+        number: u64,
+        symbol: Symbol,
+        triples: &mut Vec<Triple>,
+    ) -> Result<(), AllocError>
+        ensures state { OnOk result (state_of self.new ≡ (machine.step (state.Closed number (context_of self.old.context) self.old.waiting.items self.old.numbering) (symbol_at symbol.entry)).0) }
+        ensures given { OnOk result (triples.new.items ≡ triples.old.items ++ triples_of (machine.step (state.Closed number (context_of self.old.context) self.old.waiting.items self.old.numbering) (symbol_at symbol.entry)).1) }
+        ensures last { OnOk result (self.new.last ≡ end_after self.old.last (machine.step (state.Closed number (context_of self.old.context) self.old.waiting.items self.old.numbering) (symbol_at symbol.entry)).1) }
+        ensures err { OnErr result (triples.new.items ≡ triples.old.items) }
+    {
+        self.stack.clear();
+        if begins_verb(symbol) {
+            let term = blank(self.alloc, self.context.request, number)?;
+            return self.at_verb(0, Subject { term }, symbol);
+        }
+        self.leave(symbol, triples)
+    }
+
+    /// A symbol behind a string without a suffix.
+    pub fn go_on(&mut self, symbol: Symbol, triples: &mut Vec<Triple>) -> Result<(), AllocError>
+        ensures state { OnOk result (state_of self.new ≡ (machine.go_on (symbol_at symbol.entry) (state_of self.old)).0) }
+        ensures given { OnOk result (triples.new.items ≡ triples.old.items ++ triples_of (machine.go_on (symbol_at symbol.entry) (state_of self.old)).1) }
+        ensures last { OnOk result (self.new.last ≡ end_after self.old.last (machine.go_on (symbol_at symbol.entry) (state_of self.old)).1) }
+        ensures err { OnErr result (triples.new.items ≡ triples.old.items) }
+    {
+        match mem::replace(&mut self.place, Place::Between) {
+            Place::Heading(goal) => self.head(goal, symbol, triples),
+            Place::Lost(fault) => {
+                self.lose(fault);
+                Ok(())
+            }
+            _ => {
+                self.lose(Fault::Broken);
+                Ok(())
+            }
+        }
+    }
+
+    /// A symbol behind a string that has no suffix.
+    fn behind_text(
+        &mut self,
+        text: &str,
+        symbol: Symbol,
+        triples: &mut Vec<Triple>,
+    ) -> Result<(), AllocError>
+        ensures state { OnOk result (state_of self.new ≡ (machine.go_on (symbol_at symbol.entry) (machine.put (stack_of self.old.stack) (context_of self.old.context) self.old.waiting.items self.old.numbering (meaning.simple text.now))).0) }
+        ensures given { OnOk result (triples.new.items ≡ triples.old.items ++ triples_of (machine.go_on (symbol_at symbol.entry) (machine.put (stack_of self.old.stack) (context_of self.old.context) self.old.waiting.items self.old.numbering (meaning.simple text.now))).1) }
+        ensures last { OnOk result (self.new.last ≡ end_after self.old.last (machine.go_on (symbol_at symbol.entry) (machine.put (stack_of self.old.stack) (context_of self.old.context) self.old.waiting.items self.old.numbering (meaning.simple text.now))).1) }
+        ensures err { OnErr result (triples.new.items ≡ triples.old.items) }
+    {
+        let made = terms::simple(self.alloc, text)?;
+        self.put(made)?;
+        self.go_on(symbol, triples)
+    }
+
+    /// A symbol behind a string.
+    #[tactic(auto, unfolding(crate::specs::Machine::step))]
+    pub fn held(
+        &mut self,
+        text: &str,
+        symbol: Symbol,
+        triples: &mut Vec<Triple>,
+    ) -> Result<(), AllocError>
+        ensures state { OnOk result (state_of self.new ≡ (machine.step (state.Held text.now (stack_of self.old.stack) (context_of self.old.context) self.old.waiting.items self.old.numbering) (symbol_at symbol.entry)).0) }
+        ensures given { OnOk result (triples.new.items ≡ triples.old.items ++ triples_of (machine.step (state.Held text.now (stack_of self.old.stack) (context_of self.old.context) self.old.waiting.items self.old.numbering) (symbol_at symbol.entry)).1) }
+        ensures last { OnOk result (self.new.last ≡ end_after self.old.last (machine.step (state.Held text.now (stack_of self.old.stack) (context_of self.old.context) self.old.waiting.items self.old.numbering) (symbol_at symbol.entry)).1) }
+        ensures err { OnErr result (triples.new.items ≡ triples.old.items) }
+    {
+        match symbol {
+            Symbol::At(tag) => {
+                let made = terms::tagged(self.alloc, text, tag)?;
+                self.put(made)
+            }
+            Symbol::Carets => {
+                self.place = Place::Typing(String::from_str(self.alloc, text)?);
+                Ok(())
+            }
+            _ => self.behind_text(text, symbol, triples),
+        }
+    }
+}
