@@ -9,8 +9,10 @@ NO_MEMORY = "refused NoMemory"
 CODE = r"\\u[0-9A-Fa-f]{4}|\\U[0-9A-Fa-f]{8}"
 IRI = rf'<([A-Za-z][A-Za-z0-9+.-]*:(?:[^\x00-\x20<>"{{}}|^`\\]|{CODE})*)>'
 LABEL = r"_:(\w(?:[\w.-]*[\w-])?)"
-LITERAL = rf'"((?:[^"\\\n\r]|\\[tbnrf"\'\\]|{CODE})*)"(?:@([A-Za-z]+(?:-[A-Za-z0-9]+)*)|\^\^{IRI})?'
-STATEMENT = re.compile(rf"\s*(?:{IRI}|{LABEL})\s*{IRI}\s*(?:{IRI}|{LABEL}|{LITERAL})\s*\.")
+LITERAL = rf'"((?:[^"\\\n\r]|\\[tbnrf"\'\\]|{CODE})*)"(?:[ \t]*@([A-Za-z]+(?:-[A-Za-z0-9]+)*)|[ \t]*\^\^[ \t]*{IRI})?'
+B = r"[ \t]*"
+STATEMENT = re.compile(rf"{B}(?:{IRI}|{LABEL}){B}{IRI}{B}(?:{IRI}|{LABEL}|{LITERAL}){B}\.")
+EMPTY = re.compile(rf"{B}(?:#.*)?")
 EXCLUDED = r'[\x00-\x20<>"{}|^`\\]'
 LETTERS = {"t": "\t", "b": "\b", "n": "\n", "r": "\r", "f": "\f"}
 
@@ -36,25 +38,29 @@ def written(text):
 
 def statements(text, request):
     """The lines of the complete statements of an N-Triples text, and whether it is a document."""
-    lines, labels, at = [], {}, 0
+    lines, labels = [], {}
 
     def node(name, label):
         if label is not None:
             return f"_:b{request}_{labels.setdefault(label, len(labels) + 1)}"
         return iri(name)
 
-    while text[at:].strip():
-        found = STATEMENT.match(text, at)
+    for line in re.split(r"[\r\n]", text):
+        if EMPTY.fullmatch(line):
+            continue
+        found = STATEMENT.match(line)
         if not found:
             return lines, False
         subject, label, predicate, thing, other, lexical, tag, datatype = found.groups()
         try:
+            first = node(subject, label)
             last = f'"{written(decoded(lexical))}"' if lexical is not None else node(thing, other)
             last += f"@{tag.lower()}" if tag else f"^^{iri(datatype)}" if datatype else ""
-            lines.append(f"{node(subject, label)} {iri(predicate)} {last} .")
+            lines.append(f"{first} {iri(predicate)} {last} .")
         except (ValueError, OverflowError):
             return lines, False
-        at = found.end()
+        if not EMPTY.fullmatch(line[found.end():]):
+            return lines, False
     return lines, True
 
 
@@ -63,7 +69,9 @@ def worked_schedules(path, name):
     source = open(path, encoding="utf-8").read()
     table = source[source.index(f"const {name}:"):]
     texts = re.findall(r'"((?:[^"\\]|\\.)*)"', table[:table.index("];")])
-    texts = [re.sub(r"\\(.)", lambda it: {"n": "\n", "t": "\t"}.get(it[1], it[1]), it) for it in texts]
+    quoted = re.compile(r"\\u\{([0-9A-Fa-f]+)\}|\\(.)")
+    plain = {"n": "\n", "t": "\t"}
+    texts = [quoted.sub(lambda it: chr(int(it[1], 16)) if it[1] else plain.get(it[2], it[2]), text) for text in texts]
     return [tuple(texts[i:i + 3]) for i in range(0, len(texts), 3)]
 
 

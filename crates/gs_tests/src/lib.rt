@@ -4,9 +4,15 @@
 #[cfg(test)]
 mod characters;
 #[cfg(test)]
+mod documents;
+#[cfg(test)]
 mod failures;
 #[cfg(test)]
 mod feeds;
+#[cfg(test)]
+mod plain;
+#[cfg(test)]
+mod refusals;
 #[cfg(test)]
 mod runs;
 #[cfg(test)]
