@@ -1,11 +1,18 @@
 #!/bin/sh
-# Times the reader of N-Triples beside serdi on one document: bench/run.sh [TRIPLES]
+# Times gs_bench beside serdi on one document: bench/run.sh [TRIPLES], or bench/run.sh tokens [TRIPLES] for the tokens of
+# a document of Turtle, which serdi writes as N-Triples.
 # It wants the program built: (cd crates/gs_bench && rt run < /dev/null).
 set -eu
 here=$(cd "$(dirname "$0")" && pwd)
+maker=make_document.py
+mode=
+if [ "${1:-}" = tokens ]; then
+    maker=make_turtle.py
+    mode=tokens
+    shift
+fi
 count=${1:-500000}
-program="$here/../crates/gs_bench/out/gs_bench"
 file=$(mktemp)
 trap 'rm -f "$file"' EXIT
-python3 "$here/make_document.py" "$count" > "$file"
-exec python3 "$here/time_readers.py" "$program" "$file" "$count"
+python3 "$here/$maker" "$count" > "$file"
+python3 "$here/time_readers.py" "$here/../crates/gs_bench/out/gs_bench" "$file" "$count" $mode
