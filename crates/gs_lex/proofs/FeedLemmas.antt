@@ -9,7 +9,7 @@ use Rattle.gs_lex.specs.declared.readings.Halt.TheVariants as halt
 use Rattle.gs_lex.specs.declared.steps.Reading.{Reading}
 use Rattle.gs_lex.specs.declared.tokens.Token.{Token}
 use Rattle.gs_lex.proofs.BarrenLemmas.{no_end, read-more}
-use Rattle.gs_lex.proofs.SettledLemmas.{settled-at}
+use Rattle.gs_lex.proofs.SettledLemmas.{on-settled, on-quietly, goes-on-at}
 use Rattle.std.proofs.lemmas.Str.{IsUtf8-append}
 
 waiting : (x : List ℕ) (r : Reading) (h : Halt) → (h ≡ halt.Fault → ⊥) → HasHalted false x r h → Waits r.in_comment (drop r.cut x) r.scan
@@ -71,7 +71,8 @@ feeds-as u l m n x piece ts old new k h a d o g f =
       added = t.added;
       given = t.given;
       leads = leads;
-      settled = settled-at u n (x ++ piece) (ts ++ t.added) leads (t.waits g);
+      settled = λ i. on-settled u (x ++ piece) (ts ++ t.added) (goes-on-at u n (x ++ piece) (ts ++ t.added) leads (t.waits g) i);
+      quiet = λ i. on-quietly u (x ++ piece) (ts ++ t.added) (goes-on-at u n (x ++ piece) (ts ++ t.added) leads (t.waits g) i);
     }
 
 pub breaks-as : (u : Bool) (l m n : Lexer) (x piece : List ℕ) (ts : List Lexeme) (old new : List Token) (k : Halt) → Leads u l x ts → m.at ≡ l.at → m.held.items ≡ l.held.items ++ piece

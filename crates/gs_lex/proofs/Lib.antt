@@ -19,3 +19,5 @@ pub mod Checks
 pub mod Codes
 pub mod OneCutLemmas
 pub mod SpanLemmas
+pub mod CutLemmas
+mod CutExamples

@@ -1,4 +1,4 @@
--- Each token is given as soon as no continuation of the text changes it.
+-- Each token is given as soon as no continuation of the text changes it, and the text may go on quietly.
 use Rattle.std.proofs.Common.{◌≡◌, ◌≢◌, ℕ, ◌<◌, Bool, true, false, List, [], ◌∷◌, ◌++◌, refl, sym, ap, ◌∙◌, arith, subst, append-nil, length, length-append, Some, None, encode_utf8, encode_utf8_all, if◌then◌else◌}
 use Rattle.std.proofs.lemmas.Bool.{eqb-true}
 use Rattle.std.proofs.lemmas.List.{append_cancel_left}
@@ -14,7 +14,7 @@ use Rattle.gs_lex.specs.Scans.{IsScanned, IsBest}
 use Rattle.gs_lex.specs.Terminals.{holds, Caret}
 use Rattle.gs_lex.specs.Tokens.{Cut, Between, InComment, Ending, Whole, Fault, Lexeme, IsCut, lexeme_at, has_text, kind_of, Longest, NoTerminal, ended, token, no_token, line_end}
 use Rattle.gs_lex.specs.Readings.{CutFrom, BeginsToken, Waits, inside, between, begun, mode_of}
-use Rattle.gs_lex.specs.Lexers.{Leads, AreSettled}
+use Rattle.gs_lex.specs.Lexers.{Leads, AreSettled, MayGoQuietly}
 use Rattle.gs_lex.specs.declared.kinds.Kind.{Kind}
 use Rattle.gs_lex.specs.declared.kinds.Terminal.{Terminal}
 use Rattle.gs_lex.specs.declared.kinds.Terminal.TheVariants as kind
@@ -117,8 +117,20 @@ caret_longest true = refl
 caret_none : (u : Bool) (s : Scan) (cs : List ℕ) → cs ≡ 94 ∷ [] → IsBest (longest (tokens u) cs) s.best s.best_len → s.best ≡ None
 caret_none u s cs e h = let f : longest (tokens u) cs ≡ None = ap (longest (tokens u)) e ∙ caret_longest u in subst (λ z. IsBest z s.best s.best_len) f h
 
-nothing_more : (u : Bool) (x y : List ℕ) (ts us : List Lexeme) (e : Ending) → IsCut u (x ++ y) (ts ++ []) e → ((z : List ℕ) (vs : List Lexeme) (f : Ending) → IsCut u (x ++ z) vs f → Begins vs us) → Begins ts us
-nothing_more u x y ts us e c h = subst (λ z. Begins z us) (append-nil ts) (h y (ts ++ []) e c)
+-- how a text may go on: so that no token comes, or so that one comes, of a kind that has a text, or another
+pub data GoesOn (u : Bool) (x : List ℕ) (ts : List Lexeme) : Type 0 where
+  nothing_more : (y : List ℕ) (e : Ending) → IsCut u (x ++ y) (ts ++ []) e → GoesOn u x ts
+  one_or_other : (y z : List ℕ) (a b : Lexeme) → has_text a.kind ≡ true → a ≢ b → IsCut u (x ++ y) (ts ++ a ∷ []) Whole → IsCut u (x ++ z) (ts ++ b ∷ []) Whole → GoesOn u x ts
+
+-- then the tokens that each continuation has are those before it
+pub on-settled : (u : Bool) (x : List ℕ) (ts : List Lexeme) → GoesOn u x ts → AreSettled u x ts
+on-settled u x ts (nothing_more y e c) us f = subst (λ z. Begins z us) (append-nil ts) (f y (ts ++ []) e c)
+on-settled u x ts (one_or_other y z a b h n c d) us f = begins_both ts us a b (f y (ts ++ a ∷ []) Whole c) (f z (ts ++ b ∷ []) Whole d) n
+
+-- and one of its continuations is quiet
+pub on-quietly : (u : Bool) (x : List ℕ) (ts : List Lexeme) → GoesOn u x ts → MayGoQuietly u x ts
+on-quietly u x ts (nothing_more y e c) = record { behind = y; last = []; ending = e; quiet = tt; cut = c }
+on-quietly u x ts (one_or_other y z a b h n c d) = record { behind = y; last = a ∷ []; ending = Whole; quiet = h; cut = c }
 
 between_cut : (u : Bool) (l : Lexer) (x : List ℕ) (ts : List Lexeme) (e : Ending) → l.at.updates ≡ u → l.at.in_comment ≡ false → Cut u Between l.at.place l.at.last x ts e → CutFrom l.at x ts e
 between_cut u l x ts e h k c = subst (λ b. Cut l.at.updates (mode_of b) l.at.place l.at.last x ts e) (sym k) (subst (λ b. Cut b Between l.at.place l.at.last x ts e) (sym h) c)
@@ -126,8 +138,8 @@ between_cut u l x ts e h k c = subst (λ b. Cut l.at.updates (mode_of b) l.at.pl
 comment_cut : (u : Bool) (l : Lexer) (x : List ℕ) (ts : List Lexeme) (e : Ending) → l.at.updates ≡ u → l.at.in_comment ≡ true → Cut u InComment l.at.place l.at.last x ts e → CutFrom l.at x ts e
 comment_cut u l x ts e h k c = subst (λ b. Cut l.at.updates (mode_of b) l.at.place l.at.last x ts e) (sym k) (subst (λ b. Cut b InComment l.at.place l.at.last x ts e) (sym h) c)
 
-empty_held : (u : Bool) (l : Lexer) (x : List ℕ) (ts : List Lexeme) → Leads u l x ts → l.held.items ≡ [] → CutFrom l.at [] [] Whole → AreSettled u x ts
-empty_held u l x ts h e c us f = nothing_more u x [] ts us Whole (h.rest [] [] Whole (subst (λ z. CutFrom l.at z [] Whole) (sym (append-nil l.held.items ∙ e)) c)) f
+empty_held : (u : Bool) (l : Lexer) (x : List ℕ) (ts : List Lexeme) → Leads u l x ts → l.held.items ≡ [] → CutFrom l.at [] [] Whole → GoesOn u x ts
+empty_held u l x ts h e c = nothing_more [] Whole (h.rest [] [] Whole (subst (λ z. CutFrom l.at z [] Whole) (sym (append-nil l.held.items ∙ e)) c))
 
 -- the token that one way on leads to
 way_token : (u : Bool) (l : Lexer) (x cs v : List ℕ) (ts : List Lexeme) (q : State) (t : Terminal) (k : Kind) → Leads u l x ts → l.at.in_comment ≡ false → l.held.items ≡ encode_utf8_all cs → all_scalars cs ≡ true
@@ -151,44 +163,44 @@ differ_bytes cs v w e g h l = elim (compare (cs ++ w) (cs ++ v) [] [] (ap (λ z.
 ]
 
 two_ways : (u : Bool) (l : Lexer) (x cs : List ℕ) (ts : List Lexeme) (q : State) → Leads u l x ts → l.at.in_comment ≡ false → l.held.items ≡ encode_utf8_all cs → all_scalars cs ≡ true
-    → run (tokens u) cs ≡ Some q → Ways q → AreSettled u x ts
-two_ways u l x cs ts q h b e g r w us f =
+    → run (tokens u) cs ≡ Some q → Ways q → GoesOn u x ts
+two_ways u l x cs ts q h b e g r w =
     let one = lexeme_at w.kind l.at.place (encode_utf8_all (cs ++ w.one)) in
     let other = lexeme_at w.kind l.at.place (encode_utf8_all (cs ++ w.other)) in
-    begins_both ts us one other
-    (f (encode_utf8_all w.one) (ts ++ one ∷ []) Whole (way_token u l x cs w.one ts q w.terminal w.kind h b e g r (w.to_one u) w.scalars_one (w.is_kind u)))
-    (f (encode_utf8_all w.other) (ts ++ other ∷ []) Whole (way_token u l x cs w.other ts q w.terminal w.kind h b e g r (w.to_other u) w.scalars_other (w.is_kind u)))
+    one_or_other (encode_utf8_all w.one) (encode_utf8_all w.other) one other w.holds_text
     (λ same. differ_bytes cs w.one w.other
     (sym (text_at w.kind l.at.place (encode_utf8_all (cs ++ w.one)) w.holds_text) ∙ ap (λ (t : Lexeme). t.text) same ∙ text_at w.kind l.at.place (encode_utf8_all (cs ++ w.other)) w.holds_text)
     (scalars-join cs w.one g w.scalars_one) (scalars-join cs w.other g w.scalars_other) w.longer)
+    (way_token u l x cs w.one ts q w.terminal w.kind h b e g r (w.to_one u) w.scalars_one (w.is_kind u))
+    (way_token u l x cs w.other ts q w.terminal w.kind h b e g r (w.to_other u) w.scalars_other (w.is_kind u))
 
 -- a '^' that nothing follows is a fault
 caret_fault : (u : Bool) (l : Lexer) (x : List ℕ) (ts : List Lexeme) → Leads u l x ts → l.at.in_comment ≡ false → BeginsToken l.held.items → (k : IsScanned u l.held.items l.at.scan) → k.after ≡ []
-    → l.at.scan.state ≡ at.Caret → AreSettled u x ts
-caret_fault u l x ts h b t k a e us f =
+    → l.at.scan.state ≡ at.Caret → GoesOn u x ts
+caret_fault u l x ts h b t k a e =
     let held = l.held.items in
     let none : l.at.scan.best ≡ None = caret_none u l.at.scan k.chars (caret_alone u k.chars (k.stands ∙ ap Some e)) k.is_best in
     let stop : StartsWithNoChar (k.after ++ []) = subst StartsWithNoChar (sym (append-nil k.after ∙ a)) (λ c o i p. no_encode c o p) in
     let all = stuck-all u k.chars (k.after ++ []) l.at.scan.state k.stands (stuck-barren u l.at.scan.state (k.after ++ []) (stuck-bad l.at.scan.state (k.after ++ []) stop)) in
     let no : NoTerminal u (held ++ []) = scan-none u held [] l.at.scan k all none in
-    nothing_more u x [] ts us (Fault l.at.last)
-    (h.rest [] [] (Fault l.at.last) (between_cut u l (held ++ []) [] (Fault l.at.last) h.reads b (no_token t.first (t.others ++ []) (ap (λ z. z ++ []) t.parts) t.no_space t.no_hash no))) f
+    nothing_more [] (Fault l.at.last)
+    (h.rest [] [] (Fault l.at.last) (between_cut u l (held ++ []) [] (Fault l.at.last) h.reads b (no_token t.first (t.others ++ []) (ap (λ z. z ++ []) t.parts) t.no_space t.no_hash no)))
 
-begun_settled : (u : Bool) (l : Lexer) (x : List ℕ) (ts : List Lexeme) → Leads u l x ts → l.at.in_comment ≡ false → BeginsToken l.held.items → (k : IsScanned u l.held.items l.at.scan) → k.after ≡ []
-    → ((t : Terminal) → l.at.scan.state ≢ at.Ended t) → Goes l.at.scan.state → AreSettled u x ts
-begun_settled u l x ts h b t k a n (goes w) =
+begun_on : (u : Bool) (l : Lexer) (x : List ℕ) (ts : List Lexeme) → Leads u l x ts → l.at.in_comment ≡ false → BeginsToken l.held.items → (k : IsScanned u l.held.items l.at.scan) → k.after ≡ []
+    → ((t : Terminal) → l.at.scan.state ≢ at.Ended t) → Goes l.at.scan.state → GoesOn u x ts
+begun_on u l x ts h b t k a n (goes w) =
     two_ways u l x k.chars ts l.at.scan.state h b (k.parts ∙ ap (λ z. encode_utf8_all k.chars ++ z) a ∙ append-nil (encode_utf8_all k.chars)) k.characters k.stands w
-begun_settled u l x ts h b t k a n (has_ended j e) = absurd (n j e)
-begun_settled u l x ts h b t k a n (caret e) = caret_fault u l x ts h b t k a e
+begun_on u l x ts h b t k a n (has_ended j e) = absurd (n j e)
+begun_on u l x ts h b t k a n (caret e) = caret_fault u l x ts h b t k a e
 
-wait_settled : (u : Bool) (l : Lexer) (x : List ℕ) (ts : List Lexeme) → Leads u l x ts → IsUtf8 l.held.items → Waits l.at.in_comment l.held.items l.at.scan → AreSettled u x ts
-wait_settled u l x ts h g (inside c s) = empty_held u l x ts h (none_left l.held.items g s) (comment_cut u l [] [] Whole h.reads c (line_end tt (ended refl)))
-wait_settled u l x ts h g (between b e) = empty_held u l x ts h e (between_cut u l [] [] Whole h.reads b (ended refl))
-wait_settled u l x ts h g (begun b t s n) =
+wait_on : (u : Bool) (l : Lexer) (x : List ℕ) (ts : List Lexeme) → Leads u l x ts → IsUtf8 l.held.items → Waits l.at.in_comment l.held.items l.at.scan → GoesOn u x ts
+wait_on u l x ts h g (inside c s) = empty_held u l x ts h (none_left l.held.items g s) (comment_cut u l [] [] Whole h.reads c (line_end tt (ended refl)))
+wait_on u l x ts h g (between b e) = empty_held u l x ts h e (between_cut u l [] [] Whole h.reads b (ended refl))
+wait_on u l x ts h g (begun b t s n) =
     let k : IsScanned u l.held.items l.at.scan = subst (λ z. IsScanned z l.held.items l.at.scan) h.reads h.read.scanned in
     let after : IsUtf8 k.after = utf8_behind (encode_utf8_all k.chars) k.after l.held.items k.parts (k.chars, (k.characters, refl)) g in
-    begun_settled u l x ts h b t k (none_left k.after after (subst StartsWithNoChar (scan-after u l.held.items l.at.scan k) s)) n (may-go l.at.scan.state)
+    begun_on u l x ts h b t k (none_left k.after after (subst StartsWithNoChar (scan-after u l.held.items l.at.scan k) s)) n (may-go l.at.scan.state)
 
 -- where a piece was read and the lexer waits
-pub settled-at : (u : Bool) (l : Lexer) (x : List ℕ) (ts : List Lexeme) → Leads u l x ts → Waits l.at.in_comment l.held.items l.at.scan → IsUtf8 x → AreSettled u x ts
-settled-at u l x ts h w g = wait_settled u l x ts h (utf8_behind h.before l.held.items x h.parts h.characters g) w
+pub goes-on-at : (u : Bool) (l : Lexer) (x : List ℕ) (ts : List Lexeme) → Leads u l x ts → Waits l.at.in_comment l.held.items l.at.scan → IsUtf8 x → GoesOn u x ts
+goes-on-at u l x ts h w g = wait_on u l x ts h (utf8_behind h.before l.held.items x h.parts h.characters g) w

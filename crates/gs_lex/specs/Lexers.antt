@@ -1,10 +1,10 @@
 -- What a lexer has read of a text that comes in pieces.
-use Rattle.std.specs.Prelude.{◌≡◌, ℕ, Bool, true, false, List, ◌++◌}
+use Rattle.std.specs.Prelude.{◌≡◌, ℕ, Bool, true, false, List, [], ◌∷◌, ◌++◌}
 use Rattle.std.specs.Str.{IsUtf8}
 use Rattle.gs_machine.specs.Machines.{Begins}
 use Rattle.gs_model.specs.declared.refusals.Refusal.{Refusal}
 use Rattle.gs_model.specs.declared.refusals.Refusal.TheVariants.{NoMemory, Syntax, Closed}
-use Rattle.gs_lex.specs.Tokens.{IsCut, Ending, Fault, Lexeme}
+use Rattle.gs_lex.specs.Tokens.{IsCut, Ending, Fault, Lexeme, has_text}
 use Rattle.gs_lex.specs.Lexemes.{lexemes_of}
 use Rattle.gs_lex.specs.Readings.{CutFrom, Fails, IsRead, Waits}
 use Rattle.gs_lex.specs.declared.readings.Halt.{Halt}
@@ -41,12 +41,28 @@ Adds old new us = lexemes_of new ≡ lexemes_of old ++ us
 abbrev pub AreSettled : Bool → List ℕ → List Lexeme → Type 0
 AreSettled updates x ts = (us : List Lexeme) → ((y : List ℕ) (vs : List Lexeme) (e : Ending) → IsCut updates (x ++ y) vs e → Begins vs us) → Begins ts us
 
--- a piece was read, and its tokens given; where the text so far ends between two characters, all that are settled are
+-- the tokens are none, or one of a kind that has a text
+abbrev pub AreQuiet : List Lexeme → Type 0
+AreQuiet [] = Unit {0}
+AreQuiet (t ∷ []) = has_text t.kind ≡ true
+AreQuiet (t ∷ (s ∷ ts)) = ⊥
+
+-- the text may go on so that at most one token comes behind these, of a kind that has a text (so it ends no statement)
+pub record MayGoQuietly (updates : Bool) (x : List ℕ) (ts : List Lexeme) : Type 0 where
+  pub behind : List ℕ
+  pub last : List Lexeme
+  pub ending : Ending
+  pub quiet : AreQuiet last
+  pub cut : IsCut updates (x ++ behind) (ts ++ last) ending
+
+-- a piece was read, and its tokens given; where the text so far ends between two characters, all that are settled are,
+-- and it may go on quietly
 pub record Feeds (updates : Bool) (new : Lexer) (x : List ℕ) (ts : List Lexeme) (old_list new_list : List Token) : Type 0 where
   pub added : List Lexeme
   pub given : Adds old_list new_list added
   pub leads : Leads updates new x (ts ++ added)
   pub settled : IsUtf8 x → AreSettled updates x (ts ++ added)
+  pub quiet : IsUtf8 x → MayGoQuietly updates x (ts ++ added)
 
 -- the text has this fault, however it goes on; the tokens before it are given
 pub record Breaks (updates : Bool) (x : List ℕ) (ts : List Lexeme) (at : ℕ) (old_list new_list : List Token) : Type 0 where

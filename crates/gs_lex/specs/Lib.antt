@@ -5,6 +5,7 @@ pub mod Symbols
 pub mod Regexes
 pub mod Terminals
 pub mod Tokens
+pub mod Cuts
 pub mod Spans
 pub mod Scans
 pub mod Runs

@@ -17,6 +17,6 @@ mod tokens;
 mod words;
 
 pub use kinds::Kind;
-pub use laws::{text_has_one_cut, tokens_are_spans};
+pub use laws::{text_has_a_cut, text_has_one_cut, tokens_are_spans};
 pub use lexers::Lexer;
 pub use tokens::Token;
