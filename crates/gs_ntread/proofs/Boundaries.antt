@@ -7,7 +7,7 @@ use Rattle.gs_machine.specs.Machines.{steps, rest}
 use Rattle.gs_machine.specs.Utf8.{Decoding, Ready, Within, Lost, bad, Spells, nothing, char, utf8, symbols, decode_step, decode_end}
 use Rattle.gs_machine.proofs.MachineLemmas.{rest-append}
 use Rattle.gs_machine.proofs.Utf8Lemmas.{spelt, one_spelling}
-use Rattle.gs_ntread.proofs.Branches.{first_of_and, second_of_and}
+use Rattle.gs_ntterm.proofs.Branches.{first_of_and, second_of_and}
 use Rattle.gs_ntread.proofs.Lostness.{marks_any}
 
 spells_encoded : (cs : List ℕ) → scalars cs ≡ true → Spells (encode_utf8_all cs) cs

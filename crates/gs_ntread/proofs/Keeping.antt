@@ -6,12 +6,12 @@ use Rattle.std.specs.Str.{str_to_ascii_lowercase}
 use Rattle.gs_model.specs.Terms.{Term, Literal, Typed, Tagged, xsd_string, is_term, text_of}
 use Rattle.gs_model.specs.declared.limits.TheConstants.{LONGEST_TERM}
 use Rattle.gs_body.specs.Bodies.{Ending, Whole, Syntax, TooLong}
-use Rattle.gs_ntread.specs.Marks.{Mark}
-use Rattle.gs_ntread.specs.Classes.{is_space, is_line_end, may_stand_in_iri, may_stand_in_string, is_hex, with_digit, is_label_char, begins_label, is_tag_char}
-use Rattle.gs_ntread.specs.Sentences.{Labelled, Word, made, label_made, typed_made}
-use Rattle.gs_ntread.specs.Terminals.{Read, ◌>>=◌, skip, before, Inside, Plain, Escape, Digits, escaped, escape_before, iri_after, string_after, goes_on, label_after, label_at, tag_after}
+use Rattle.gs_ntterm.specs.Marks.{Mark}
+use Rattle.gs_ntterm.specs.Classes.{is_space, is_line_end, may_stand_in_iri, may_stand_in_string, is_hex, with_digit, is_label_char, begins_label, is_tag_char}
+use Rattle.gs_ntterm.specs.Words.{Labelled, Word, made, label_made, typed_made}
+use Rattle.gs_ntterm.specs.Terminals.{Read, ◌>>=◌, skip, before, Inside, Plain, Escape, Digits, escaped, escape_before, iri_after, string_after, goes_on, label_after, label_at, tag_after}
+use Rattle.gs_ntterm.proofs.Branches.{either_way}
 use Rattle.gs_ntread.specs.Grammar.{before_text, datatype_at, caret_at, suffix_at}
-use Rattle.gs_ntread.proofs.Branches.{either_way}
 
 -- no character of a line ends it
 pub data NoEnd : List Mark → Type 0 where

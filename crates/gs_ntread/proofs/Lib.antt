@@ -1,6 +1,3 @@
-pub mod Branches
-pub mod FormLemmas
-pub mod Holding
 pub mod Keeping
 pub mod WalkTokens
 pub mod WalkLabels

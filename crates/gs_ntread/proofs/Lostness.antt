@@ -6,16 +6,16 @@ use Rattle.gs_machine.specs.Machines.{steps, behind}
 use Rattle.gs_machine.specs.Utf8.{Decoding, Ready, Within, Lost, bad, decode_step, lead, goes_on}
 use Rattle.gs_body.specs.Bodies.{Ending, Syntax}
 use Rattle.gs_blank.specs.Numbers.{Numbers}
-use Rattle.gs_ntread.specs.Marks.{end_of}
-use Rattle.gs_ntread.specs.Sentences.{Word}
-use Rattle.gs_ntread.specs.Terminals.{Plain, Escape, Digits}
-use Rattle.gs_ntread.specs.Tokens.{label_held, plain_held, tagged_held}
+use Rattle.gs_ntterm.specs.Marks.{end_of}
+use Rattle.gs_ntterm.specs.Words.{Word}
+use Rattle.gs_ntterm.specs.Terminals.{Plain, Escape, Digits}
+use Rattle.gs_ntterm.specs.Tokens.{label_held, plain_held, tagged_held}
+use Rattle.gs_ntterm.proofs.Branches.{either_way}
 use Rattle.gs_ntread.specs.States.{State, Stage, AtSubject, AtPredicate, AtObject, AtSuffix, AtDatatype, AtDot, AtEnd, Mode, Between, Comment, InIri, InString, Underscore, Colon, InLabel, InDots, Caret, InTag, Broken, broken}
 use Rattle.gs_ntread.specs.Lines.{end_state, behind_literal}
 use Rattle.gs_ntread.specs.Turns.{turn, behind_subject, behind_object, dotted_object}
 use Rattle.gs_ntread.specs.Reader.{keeping, placing, ntriples, Led}
 use Rattle.gs_ntread.specs.Readers.{IsBroken, Sound}
-use Rattle.gs_ntread.proofs.Branches.{either_way}
 
 bad_literal : (s : Word) (p : Term) (r : Result Term Ending) (n : ℕ) → IsBroken (behind_literal s p r bad n).0
 bad_literal s p (Ok t) n = tt

@@ -1,79 +1,29 @@
 -- What a run of bytes does to the machine.
-use Rattle.std.proofs.Common.{◌≡◌, ℕ, ◌+◌, ◌<◌, ◌≤◌, ◌^◌, Bool, true, false, cond, List, [], ◌∷◌, ◌++◌, length, take, get_or, zero, suc, refl, sym, ap, ◌∙◌, arith, append_assoc, append-nil, length-append, Result, Ok, Err}
-use Rattle.std.specs.Prelude.{◌==◌, ◌&&◌, ◌||◌, ◌-◌, not, nat_lt, nat_le, is_ok, OnOk}
+use Rattle.std.proofs.Common.{◌≡◌, ℕ, ◌+◌, ◌<◌, ◌≤◌, ◌^◌, Bool, true, false, cond, List, [], ◌∷◌, ◌++◌, length, suc, refl, sym, ap, ◌∙◌, arith}
+use Rattle.std.specs.Prelude.{◌==◌, ◌||◌, ◌-◌, not, nat_lt}
 use Rattle.std.specs.Char.{encode_utf8, len_utf8}
 use Rattle.std.specs.List.{list_all}
-use Rattle.std.specs.Str.{IsAscii}
 use Rattle.std.proofs.lemmas.Bool.Decides.{nat_tests}
-use Rattle.std.proofs.lemmas.List.{take_more}
-use Rattle.std.proofs.lemmas.List.Folds.{list_all-append}
 use Rattle.std.proofs.str.Laws.{one}
 use lib.Utf8.{scalar}
 use Rattle.gs_model.specs.Characters.{is_iri_char, in_ranges, pn_chars}
-use Rattle.gs_model.specs.declared.limits.TheConstants.{LONGEST_TERM}
 use Rattle.gs_machine.specs.Machines.{steps}
 use Rattle.gs_machine.specs.Utf8.{Decoding, Ready, Within, Lost, is_ready_of, decode_step}
 use Rattle.gs_body.specs.Bodies.{Stated, Syntax}
 use Rattle.gs_blank.specs.Numbers.{Numbers}
-use Rattle.gs_ntread.specs.Marks.{counted, end_of}
-use Rattle.gs_ntread.specs.Classes.{is_space, is_line_end, may_stand_in_iri, may_stand_in_string, is_label_char, may_stand_in_comment}
-use Rattle.gs_ntread.specs.Terminals.{Plain, Escape}
-use Rattle.gs_ntread.specs.Tokens.{Held, Text, Long, hold, add}
+use Rattle.gs_ntterm.specs.Marks.{counted, end_of}
+use Rattle.gs_ntterm.specs.Classes.{is_space, is_line_end, may_stand_in_iri, may_stand_in_string, is_label_char, may_stand_in_comment}
+use Rattle.gs_ntterm.specs.Terminals.{Plain, Escape}
+use Rattle.gs_ntterm.specs.Tokens.{Held, add}
+use Rattle.gs_ntterm.specs.Runs.{runs_in_iri, runs_in_string, runs_in_label, runs_in_comment, joined}
+use Rattle.gs_ntterm.proofs.Branches.{first_of_and, second_of_and}
+use Rattle.gs_ntterm.proofs.RunLemmas.{both, low_iri, low_string, low_label, low_comment, low_space}
 use Rattle.gs_ntread.specs.States.{State, Stage, AtSubject, AtPredicate, AtObject, AtSuffix, AtDatatype, AtDot, AtEnd, Between, Comment, InIri, InString, InLabel, InDots, quiet, broken}
 use Rattle.gs_ntread.specs.Lines.{iri_closed, string_closed}
 use Rattle.gs_ntread.specs.Turns.{turn, label_turn}
-use Rattle.gs_ntread.specs.Forms.{form_on, form_after, form_of}
-use Rattle.gs_ntread.specs.declared.forms.Form.{Form}
-use Rattle.gs_ntread.specs.Views.{held}
 use Rattle.gs_ntread.specs.Reader.{Led, ntriples}
-use Rattle.gs_ntread.specs.Runs.{runs_in_iri, runs_in_string, runs_in_label, runs_in_comment, joined, Runs, stays, goes}
-use Rattle.gs_ntread.proofs.Branches.{first_of_and, second_of_and}
-use Rattle.gs_ntread.proofs.Holding.{add-hold, add-grown}
+use Rattle.gs_ntread.specs.Runs.{Runs, stays, goes}
 use Rattle.gs_ntread.proofs.Whole.{Placed, byte-some, character-none}
-
-both : (a b : Bool) → a ≡ true → b ≡ true → (a && b) ≡ true
-both true true p q = refl
-both true false p q = q
-both false b p q = p
-
-joined-hold : (t bs : List ℕ) → joined (hold t) bs ≡ hold (t ++ bs)
-joined-hold t [] = ap hold (sym (append-nil t))
-joined-hold t (b ∷ bs) = ap (λ h. joined h bs) (add-hold t (b ∷ [])) ∙ joined-hold (t ++ b ∷ []) bs ∙ ap hold (append_assoc t (b ∷ []) bs)
-
-pub joined-text : (t : List ℕ) (b : ℕ) (bs : List ℕ) → joined (Text t) (b ∷ bs) ≡ hold (t ++ b ∷ bs)
-joined-text t b bs = joined-hold (t ++ b ∷ []) bs ∙ ap hold (append_assoc t (b ∷ []) bs)
-
-joined-long : (f : Form) (bs : List ℕ) → joined (Long f) bs ≡ Long (form_after f bs)
-joined-long f [] = refl
-joined-long f (b ∷ bs) = joined-long (form_on f b) bs
-
-pub joined-still_long : (l : Bool) (f g : Form) (t bs : List ℕ) → l ≡ true → g ≡ form_after f bs → held l g t ≡ joined (held l f t) bs
-joined-still_long true f g t bs e k = ap Long k ∙ sym (joined-long f bs)
-joined-still_long false f g t bs e k = absurd (Prim.cc)
-
-pub joined-too_long : (l m : Bool) (f g : Form) (t u bs : List ℕ) → l ≡ false → m ≡ true → g ≡ form_after (form_of t) bs → 0 < length bs → LONGEST_TERM < length t + length bs
-    → held m g u ≡ joined (held l f t) bs
-joined-too_long true m f g t u bs e k w h n = absurd (Prim.cc)
-joined-too_long false false f g t u bs e k w h n = absurd (Prim.cc)
-joined-too_long false true f g t u [] e k w h n = absurd (omega arith)
-joined-too_long false true f g t u (b ∷ bs) e k w h n = ap Long w ∙ add-grown false f t (b ∷ bs) e n ∙ sym (joined-text t b bs)
-
-pub joined-fits : {A E : Type 0} (r : Result A E) (l : Bool) (f : Form) (t bs u : List ℕ) → l ≡ false → (0 < length bs → length t + length bs ≤ LONGEST_TERM) → u ≡ cond (is_ok r) (t ++ bs) t
-    → OnOk r (held l f u ≡ joined (held l f t) bs)
-joined-fits (Err x) l f t bs u e h w = tt
-joined-fits (Ok x) true f t bs u e h w = absurd (Prim.cc)
-joined-fits (Ok x) false f t [] u e h w = ap Text (w ∙ append-nil t)
-joined-fits (Ok x) false f t (b ∷ bs) u e h w =
-    let n = length-append t (b ∷ bs) in
-    let k = h (omega arith) in
-    let v : nat_le (length (t ++ b ∷ bs)) LONGEST_TERM ≡ true = grind (arith, nat_tests) in
-    ap Text w ∙ sym (joined-text t b bs ∙ ap (λ z. cond z (Text (t ++ b ∷ bs)) (Long (form_of (t ++ b ∷ bs)))) v)
-
--- one element more of a class
-pub all_more : (p : ℕ → Bool) (xs : List ℕ) (n : ℕ) → n < length xs → list_all p (take n xs) ≡ true → p (get_or xs n 0) ≡ true → list_all p (take (n + 1) xs) ≡ true
-all_more p xs n h a b =
-    ap (list_all p) (take_more xs n 0 h) ∙ list_all-append p (take n xs) (get_or xs n 0 ∷ [])
-    ∙ both (list_all p (take n xs)) (p (get_or xs n 0) && true) a (both (p (get_or xs n 0)) true b refl)
 
 -- a class leaves a character out
 apart : (p : ℕ → Bool) (b k : ℕ) → p b ≡ true → p k ≡ false → (b == k) ≡ false
@@ -82,9 +32,6 @@ apart p b k h f = by_test (b == k) refl
     by_test : (v : Bool) → (b == k) ≡ v → v ≡ false
     by_test true e = let q : b ≡ k = grind (arith, nat_tests) in let r : p b ≡ p k = ap p q in absurd (Prim.cc)
     by_test false e = refl
-
-ascii : (b : ℕ) (more : Bool) → (nat_lt b 128 && more) ≡ true → b < 128
-ascii b more h = let e = first_of_and (nat_lt b 128) more h in grind (arith, nat_tests)
 
 scalar_ascii : (b : ℕ) → b < 128 → scalar b ≡ true
 scalar_ascii b h = grind (arith, nat_tests)
@@ -108,9 +55,6 @@ runs_still p q low on (b ∷ bs) e =
     let k : p b ≡ true = first_of_and (p b) (list_all p bs) e in
     goes q q q b bs (low b k) (λ n. on b n k) (runs_still p q low on bs (second_of_and (p b) (list_all p bs) e))
 
-low_iri : (b : ℕ) → runs_in_iri b ≡ true → b < 128
-low_iri b k = let e = first_of_and (nat_lt b 123) (is_iri_char b) k in grind (arith, nat_tests)
-
 iri_goes : (g : Stage) (h : Held) (b n : ℕ) → runs_in_iri b ≡ true → turn g (InIri Plain h) b n ≡ quiet (g, InIri Plain (add h (b ∷ [])))
 iri_goes g h b n k =
     let l : b < 128 = low_iri b k in
@@ -124,9 +68,6 @@ iri_goes g h b n k =
 
 pub iri_runs : (g : Stage) (h : Held) (xs : List ℕ) → list_all runs_in_iri xs ≡ true → Runs (g, InIri Plain h) xs (g, InIri Plain (joined h xs))
 iri_runs g = runs_on runs_in_iri (λ h. (g, InIri Plain h)) low_iri (iri_goes g)
-
-low_string : (b : ℕ) → runs_in_string b ≡ true → b < 128
-low_string b k = ascii b (not (b == 34 || b == 92 || b == 10 || b == 13)) k
 
 string_goes : (g : Stage) (h : Held) (b n : ℕ) → runs_in_string b ≡ true → turn g (InString Plain h) b n ≡ quiet (g, InString Plain (add h (b ∷ [])))
 string_goes g h b n k =
@@ -142,9 +83,6 @@ string_goes g h b n k =
 pub string_runs : (g : Stage) (h : Held) (xs : List ℕ) → list_all runs_in_string xs ≡ true → Runs (g, InString Plain h) xs (g, InString Plain (joined h xs))
 string_runs g = runs_on runs_in_string (λ h. (g, InString Plain h)) low_string (string_goes g)
 
-low_label : (b : ℕ) → runs_in_label b ≡ true → b < 128
-low_label b k = ascii b (in_ranges pn_chars b || b == 58) k
-
 label_goes : (g : Stage) (h : Held) (b n : ℕ) → runs_in_label b ≡ true → turn g (InLabel h) b n ≡ quiet (g, InLabel (add h (b ∷ [])))
 label_goes g h b n k =
     let l : b < 128 = low_label b k in
@@ -154,9 +92,6 @@ label_goes g h b n k =
 
 pub label_runs : (g : Stage) (h : Held) (xs : List ℕ) → list_all runs_in_label xs ≡ true → Runs (g, InLabel h) xs (g, InLabel (joined h xs))
 label_runs g = runs_on runs_in_label (λ h. (g, InLabel h)) low_label (label_goes g)
-
-low_comment : (b : ℕ) → runs_in_comment b ≡ true → b < 128
-low_comment b k = ascii b (not (is_line_end b)) k
 
 is_not : (a : Bool) → not a ≡ true → a ≡ false
 is_not true h = Prim.cc
@@ -171,9 +106,6 @@ comment_goes b n k =
 
 pub comment_runs : (xs : List ℕ) → list_all runs_in_comment xs ≡ true → Runs (AtSubject, Comment) xs (AtSubject, Comment)
 comment_runs = runs_still runs_in_comment (AtSubject, Comment) low_comment comment_goes
-
-low_space : (b : ℕ) → is_space b ≡ true → b < 128
-low_space b k = grind (arith, nat_tests)
 
 at_true : {A : Type 0} (v : Bool) (x y : A) → v ≡ true → cond v x y ≡ x
 at_true true x y e = refl
@@ -190,21 +122,6 @@ space_goes AtEnd b n k = ap quiet (at_true (is_space b) _ _ k)
 
 pub space_runs : (g : Stage) (xs : List ℕ) → list_all is_space xs ≡ true → Runs (g, Between) xs (g, Between)
 space_runs g = runs_still is_space (g, Between) low_space (space_goes g)
-
--- bytes of ASCII
-ascii_from : (p : ℕ → Bool) → ((b : ℕ) → p b ≡ true → b < 128) → (xs : List ℕ) → list_all p xs ≡ true → IsAscii xs
-ascii_from p low [] e i = omega arith
-ascii_from p low (b ∷ bs) e zero = low b (first_of_and (p b) (list_all p bs) e)
-ascii_from p low (b ∷ bs) e (suc i) = ascii_from p low bs (second_of_and (p b) (list_all p bs) e) i
-
-pub ascii_iri : (xs : List ℕ) → list_all runs_in_iri xs ≡ true → IsAscii xs
-ascii_iri = ascii_from runs_in_iri low_iri
-
-pub ascii_string : (xs : List ℕ) → list_all runs_in_string xs ≡ true → IsAscii xs
-ascii_string = ascii_from runs_in_string low_string
-
-pub ascii_label : (xs : List ℕ) → list_all runs_in_label xs ≡ true → IsAscii xs
-ascii_label = ascii_from runs_in_label low_label
 
 -- a byte of ASCII between two characters is one
 pub at_ascii : (b : ℕ) → b < 128 → (Ready, b ∷ []) ≡ decode_step Ready b

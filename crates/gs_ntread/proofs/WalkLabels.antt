@@ -7,18 +7,18 @@ use Rattle.std.specs.Char.{encode_utf8}
 use Rattle.gs_model.specs.Terms.{Term}
 use Rattle.gs_machine.specs.Machines.{joined, rest}
 use Rattle.gs_body.specs.Bodies.{Ending, Whole, Syntax}
-use Rattle.gs_ntread.specs.Marks.{Mark}
-use Rattle.gs_ntread.specs.Classes.{is_label_char, begins_label}
-use Rattle.gs_ntread.specs.Sentences.{Word}
-use Rattle.gs_ntread.specs.Terminals.{goes_on, label_after, label_at}
+use Rattle.gs_ntterm.specs.Marks.{Mark}
+use Rattle.gs_ntterm.specs.Classes.{is_label_char, begins_label}
+use Rattle.gs_ntterm.specs.Words.{Word}
+use Rattle.gs_ntterm.specs.Terminals.{goes_on, label_after, label_at}
+use Rattle.gs_ntterm.specs.Tokens.{Held, hold, add, add_dots, label_held}
+use Rattle.gs_ntterm.proofs.Branches.{two_ways, by_test, by_test_knowing, one_way}
+use Rattle.gs_ntterm.proofs.Holding.{add-hold}
 use Rattle.gs_ntread.specs.Documents.{Meant}
-use Rattle.gs_ntread.specs.Tokens.{Held, hold, add, add_dots, label_held}
 use Rattle.gs_ntread.specs.States.{Stage, AtSubject, AtPredicate, AtObject, AtSuffix, AtDatatype, AtDot, AtEnd, Between, Underscore, Colon, InLabel, InDots, State, quiet, broken, sentence, fault_of}
 use Rattle.gs_ntread.specs.Lines.{end_state}
 use Rattle.gs_ntread.specs.Turns.{behind_subject, behind_object, label_turn, dotted_turn, dotted_object, turn}
 use Rattle.gs_ntread.specs.Machine.{label_end, dotted_end, dots_end, end_of_text}
-use Rattle.gs_ntread.proofs.Branches.{two_ways, by_test, by_test_knowing, one_way}
-use Rattle.gs_ntread.proofs.Holding.{add-hold}
 use Rattle.gs_ntread.proofs.WalkTokens.{told, follow, Stops, at_nothing, at_feed, at_return, walk_broken, after}
 
 -- where a label leads

@@ -5,17 +5,18 @@ use Rattle.std.proofs.lemmas.Bool.{eqb-true}
 use Rattle.gs_model.specs.Terms.{Term, Iri}
 use Rattle.gs_machine.specs.Machines.{joined, rest}
 use Rattle.gs_body.specs.Bodies.{Ending, Whole, Syntax, TooLong}
-use Rattle.gs_ntread.specs.Marks.{Mark}
-use Rattle.gs_ntread.specs.Classes.{is_space, is_line_end, may_stand_in_comment}
-use Rattle.gs_ntread.specs.Sentences.{Word, Fixed, Sentence, iri_made, label_made}
-use Rattle.gs_ntread.specs.Terminals.{Read, ◌>>=◌, skip, Plain, iri_after, string_after, label_at}
+use Rattle.gs_ntterm.specs.Marks.{Mark}
+use Rattle.gs_ntterm.specs.Classes.{is_space, is_line_end, may_stand_in_comment}
+use Rattle.gs_ntterm.specs.Words.{Word, Fixed, iri_made, label_made}
+use Rattle.gs_ntterm.specs.Terminals.{Read, ◌>>=◌, skip, Plain, iri_after, string_after, label_at}
+use Rattle.gs_ntterm.proofs.Branches.{two_ways, by_test, by_test_knowing, otherwise}
+use Rattle.gs_ntterm.proofs.Holding.{iri_held-hold, label_held-hold}
+use Rattle.gs_ntread.specs.Sentences.{Sentence}
 use Rattle.gs_ntread.specs.Grammar.{as_word, iri_read, label_read, before_text, suffix_at, predicate_at, object_at, dot_at}
 use Rattle.gs_ntread.specs.Documents.{Meant, comment_meant, rest_meant, triple_meant, line_meant, then_meant, lines_meant, document}
 use Rattle.gs_ntread.specs.States.{AtSubject, AtPredicate, AtObject, AtDot, AtEnd, Between, Comment, start, broken, sentence}
 use Rattle.gs_ntread.specs.Lines.{to_predicate, to_object, to_dot, iri_closed, string_closed}
 use Rattle.gs_ntread.specs.Machine.{reading}
-use Rattle.gs_ntread.proofs.Branches.{two_ways, by_test, by_test_knowing, otherwise}
-use Rattle.gs_ntread.proofs.Holding.{iri_held-hold, label_held-hold}
 use Rattle.gs_ntread.proofs.Keeping.{NoEnd, none, more, IsFault, KeepsLine, keeps_made, keeps_label_made, keeps_iri, keeps_string, keeps_label, keeps_suffix, keeps_skip}
 use Rattle.gs_ntread.proofs.WalkTokens.{told, follow, Stops, at_nothing, at_feed, at_return, walk_broken, after, walk_iri, walk_string}
 use Rattle.gs_ntread.proofs.WalkLabels.{label_closed, to_label_predicate, to_label_dot, walk_underscore}

@@ -5,17 +5,17 @@ use Rattle.std.specs.Char.{encode_utf8}
 use Rattle.gs_model.specs.Terms.{Term}
 use Rattle.gs_machine.specs.Machines.{rest}
 use Rattle.gs_body.specs.Bodies.{Ending, Syntax}
-use Rattle.gs_ntread.specs.Marks.{Mark}
-use Rattle.gs_ntread.specs.Classes.{is_space, is_tag_char}
-use Rattle.gs_ntread.specs.Sentences.{Word, Fixed, plain_made, typed_made, tagged_made}
-use Rattle.gs_ntread.specs.Terminals.{Read, ◌>>=◌, skip, Plain, iri_after, tag_after}
+use Rattle.gs_ntterm.specs.Marks.{Mark}
+use Rattle.gs_ntterm.specs.Classes.{is_space, is_tag_char}
+use Rattle.gs_ntterm.specs.Words.{Word, Fixed, plain_made, typed_made, tagged_made}
+use Rattle.gs_ntterm.specs.Terminals.{Read, ◌>>=◌, skip, Plain, iri_after, tag_after}
+use Rattle.gs_ntterm.specs.Tokens.{hold, tagged_held, typed_held, plain_held}
+use Rattle.gs_ntterm.proofs.Branches.{two_ways, by_test}
+use Rattle.gs_ntterm.proofs.Holding.{add-hold, plain_held-hold, typed_held-hold, tagged_held-hold}
 use Rattle.gs_ntread.specs.Grammar.{before_text, datatype_at, caret_at, suffix_at}
 use Rattle.gs_ntread.specs.Documents.{Meant}
-use Rattle.gs_ntread.specs.Tokens.{hold, tagged_held, typed_held, plain_held}
 use Rattle.gs_ntread.specs.States.{AtSuffix, AtDatatype, AtDot, Between, Caret, InTag, fault_of}
 use Rattle.gs_ntread.specs.Lines.{to_dot, behind_literal, iri_closed}
-use Rattle.gs_ntread.proofs.Branches.{two_ways, by_test}
-use Rattle.gs_ntread.proofs.Holding.{add-hold, plain_held-hold, typed_held-hold, tagged_held-hold}
 use Rattle.gs_ntread.proofs.WalkTokens.{told, follow, Stops, at_nothing, at_feed, at_return, walk_broken, after, walk_iri}
 
 -- behind a literal that ended, with the text y to come

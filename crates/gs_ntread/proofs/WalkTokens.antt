@@ -5,17 +5,17 @@ use Rattle.std.specs.Char.{encode_utf8}
 use lib.Utf8.{scalar}
 use Rattle.gs_machine.specs.Machines.{joined, rest}
 use Rattle.gs_body.specs.Bodies.{Ending, Syntax}
-use Rattle.gs_ntread.specs.Marks.{Mark}
-use Rattle.gs_ntread.specs.Classes.{may_stand_in_iri, may_stand_in_string, is_hex, with_digit}
-use Rattle.gs_ntread.specs.Terminals.{Read, before, Inside, Plain, Escape, Digits, escaped, escape_before, iri_after, string_after}
+use Rattle.gs_ntterm.specs.Marks.{Mark}
+use Rattle.gs_ntterm.specs.Classes.{may_stand_in_iri, may_stand_in_string, is_hex, with_digit}
+use Rattle.gs_ntterm.specs.Terminals.{Read, before, Inside, Plain, Escape, Digits, escaped, escape_before, iri_after, string_after}
+use Rattle.gs_ntterm.specs.Tokens.{Held, hold}
+use Rattle.gs_ntterm.proofs.Branches.{two_ways}
+use Rattle.gs_ntterm.proofs.Holding.{add-hold}
 use Rattle.gs_ntread.specs.Documents.{Meant}
-use Rattle.gs_ntread.specs.Tokens.{Held, hold}
 use Rattle.gs_ntread.specs.States.{Stage, InIri, InString, State, Turn, broken}
 use Rattle.gs_ntread.specs.Lines.{iri_closed, string_closed}
 use Rattle.gs_ntread.specs.Turns.{escape_turn}
 use Rattle.gs_ntread.specs.Machine.{reading}
-use Rattle.gs_ntread.proofs.Branches.{two_ways}
-use Rattle.gs_ntread.proofs.Holding.{add-hold}
 
 -- what is said from a state
 abbrev pub told : State → List Mark → Meant

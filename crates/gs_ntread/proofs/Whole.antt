@@ -5,7 +5,7 @@ use Rattle.gs_machine.specs.Utf8.{Decoding, Ready, Within, Lost, utf8, symbols, 
 use Rattle.gs_machine.proofs.MachineLemmas.{rest-append, rest-behind, steps-one}
 use Rattle.gs_body.specs.Bodies.{Ending, Stated}
 use Rattle.gs_blank.specs.Numbers.{Numbers, no_numbers}
-use Rattle.gs_ntread.specs.Marks.{Mark, marks, places, end_of}
+use Rattle.gs_ntterm.specs.Marks.{Mark, marks, places, end_of}
 use Rattle.gs_ntread.specs.Sentences.{Sentence}
 use Rattle.gs_ntread.specs.Documents.{numbering, stated, said_by}
 use Rattle.gs_ntread.specs.States.{State, Turn, Between, Comment, InIri, InString, Underscore, Colon, InLabel, InDots, Caret, InTag, Broken, broken, start}

@@ -5,10 +5,11 @@ use Rattle.gs_machine.specs.Utf8.{symbols}
 use Rattle.gs_machine.specs.Machines.{Machine, rest}
 use Rattle.gs_body.specs.Bodies.{Ending, Whole, Syntax, Stated, Said}
 use Rattle.gs_blank.specs.Numbers.{Numbers, no_numbers, number_of}
-use Rattle.gs_ntread.specs.Marks.{Mark, marks}
-use Rattle.gs_ntread.specs.Classes.{is_space, is_line_end, may_stand_in_comment}
-use Rattle.gs_ntread.specs.Sentences.{Word, Fixed, Labelled, Sentence}
-use Rattle.gs_ntread.specs.Terminals.{Read}
+use Rattle.gs_ntterm.specs.Marks.{Mark, marks}
+use Rattle.gs_ntterm.specs.Classes.{is_space, is_line_end, may_stand_in_comment}
+use Rattle.gs_ntterm.specs.Words.{Word, Fixed, Labelled}
+use Rattle.gs_ntterm.specs.Terminals.{Read}
+use Rattle.gs_ntread.specs.Sentences.{Sentence}
 use Rattle.gs_ntread.specs.Grammar.{triple_at}
 
 -- sentences before the first fault, and how the text ends

@@ -3,9 +3,10 @@
 use Rattle.std.specs.Prelude.{ℕ, ◌==◌, if◌then◌else◌, List, [], ◌∷◌, Result, Ok, Err}
 use Rattle.gs_model.specs.Terms.{Term}
 use Rattle.gs_body.specs.Bodies.{Ending, Syntax}
-use Rattle.gs_ntread.specs.Marks.{Mark}
-use Rattle.gs_ntread.specs.Sentences.{Word, Fixed, Sentence, iri_made, label_made, plain_made, typed_made, tagged_made}
-use Rattle.gs_ntread.specs.Terminals.{Read, ◌>>=◌, skip, Plain, iri_after, string_after, label_at, tag_after}
+use Rattle.gs_ntterm.specs.Marks.{Mark}
+use Rattle.gs_ntterm.specs.Words.{Word, Fixed, iri_made, label_made, plain_made, typed_made, tagged_made}
+use Rattle.gs_ntterm.specs.Terminals.{Read, ◌>>=◌, skip, Plain, iri_after, string_after, label_at, tag_after}
+use Rattle.gs_ntread.specs.Sentences.{Sentence}
 
 -- with the text after it
 abbrev pub before_text : {A : Type 0} → List Mark → Result A Ending → Read A

@@ -1,11 +1,7 @@
-pub mod Marks
-pub mod Classes
+-- Read in this order: what a document says by the grammar, the machine that reads it, what the reader's fields mean.
 pub mod Sentences
-pub mod Terminals
 pub mod Grammar
 pub mod Documents
-pub mod Forms
-pub mod Tokens
 pub mod States
 pub mod Lines
 pub mod Turns

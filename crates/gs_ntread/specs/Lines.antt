@@ -2,10 +2,10 @@
 use Rattle.std.specs.Prelude.{ℕ, ◌==◌, if◌then◌else◌, [], ◌∷◌, Result, Ok, Err}
 use Rattle.gs_model.specs.Terms.{Term}
 use Rattle.gs_body.specs.Bodies.{Ending, Syntax}
-use Rattle.gs_ntread.specs.Classes.{is_space, is_line_end}
-use Rattle.gs_ntread.specs.Sentences.{Word, Fixed}
-use Rattle.gs_ntread.specs.Terminals.{Plain}
-use Rattle.gs_ntread.specs.Tokens.{Held, Text, iri_held, typed_held, plain_held}
+use Rattle.gs_ntterm.specs.Classes.{is_space, is_line_end}
+use Rattle.gs_ntterm.specs.Words.{Word, Fixed}
+use Rattle.gs_ntterm.specs.Terminals.{Plain}
+use Rattle.gs_ntterm.specs.Tokens.{Held, Text, iri_held, typed_held, plain_held}
 use Rattle.gs_ntread.specs.States.{Stage, AtSubject, AtPredicate, AtObject, AtSuffix, AtDatatype, AtDot, AtEnd, Between, Comment, InIri, InString, Underscore, Caret, InTag, State, Turn, broken, quiet, sentence}
 
 -- behind a dot, or behind a line

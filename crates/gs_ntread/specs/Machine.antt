@@ -3,9 +3,10 @@ use Rattle.std.specs.Prelude.{ℕ, ◌==◌, if◌then◌else◌, List, [], ◌�
 use Rattle.gs_model.specs.Terms.{Term}
 use Rattle.gs_machine.specs.Machines.{Machine}
 use Rattle.gs_body.specs.Bodies.{Ending, Whole, Syntax}
-use Rattle.gs_ntread.specs.Marks.{Mark}
-use Rattle.gs_ntread.specs.Sentences.{Word, Sentence}
-use Rattle.gs_ntread.specs.Tokens.{Held, tagged_held, plain_held, label_held}
+use Rattle.gs_ntterm.specs.Marks.{Mark}
+use Rattle.gs_ntterm.specs.Words.{Word}
+use Rattle.gs_ntterm.specs.Tokens.{Held, tagged_held, plain_held, label_held}
+use Rattle.gs_ntread.specs.Sentences.{Sentence}
 use Rattle.gs_ntread.specs.States.{Stage, AtSubject, AtObject, AtSuffix, AtEnd, Mode, Between, Comment, InLabel, InDots, InTag, Broken, State, sentence, fault_of}
 use Rattle.gs_ntread.specs.Turns.{turn}
 

@@ -4,7 +4,7 @@ use Rattle.gs_machine.specs.Machines.{Machine, steps, rest, behind}
 use Rattle.gs_machine.specs.Utf8.{Decoding, Ready, utf8}
 use Rattle.gs_body.specs.Bodies.{Ending, Stated}
 use Rattle.gs_blank.specs.Numbers.{Numbers, no_numbers}
-use Rattle.gs_ntread.specs.Marks.{Mark, places}
+use Rattle.gs_ntterm.specs.Marks.{Mark, places}
 use Rattle.gs_ntread.specs.Documents.{numbering}
 use Rattle.gs_ntread.specs.States.{State, start}
 use Rattle.gs_ntread.specs.Machine.{reading}

@@ -2,9 +2,10 @@
 use Rattle.std.specs.Prelude.{ℕ, List, [], Result, Ok, Err}
 use Rattle.gs_model.specs.Terms.{Term}
 use Rattle.gs_body.specs.Bodies.{Ending, Syntax}
-use Rattle.gs_ntread.specs.Sentences.{Word, Sentence}
-use Rattle.gs_ntread.specs.Terminals.{Inside}
-use Rattle.gs_ntread.specs.Tokens.{Held}
+use Rattle.gs_ntterm.specs.Words.{Word}
+use Rattle.gs_ntterm.specs.Terminals.{Inside}
+use Rattle.gs_ntterm.specs.Tokens.{Held}
+use Rattle.gs_ntread.specs.Sentences.{Sentence}
 
 -- which part of a line comes, with what was read of the line
 pub data Stage : Type 0 where

@@ -4,10 +4,10 @@ use Rattle.std.specs.Char.{encode_utf8}
 use lib.Utf8.{scalar}
 use Rattle.gs_model.specs.Terms.{Term}
 use Rattle.gs_body.specs.Bodies.{Ending, Syntax}
-use Rattle.gs_ntread.specs.Classes.{is_line_end, may_stand_in_iri, may_stand_in_string, may_stand_in_comment, begins_label, is_label_char, is_tag_char, is_hex, with_digit}
-use Rattle.gs_ntread.specs.Sentences.{Word}
-use Rattle.gs_ntread.specs.Terminals.{Inside, Plain, Escape, Digits, escaped}
-use Rattle.gs_ntread.specs.Tokens.{Held, hold, add, add_dots, tagged_held, label_held}
+use Rattle.gs_ntterm.specs.Classes.{is_line_end, may_stand_in_iri, may_stand_in_string, may_stand_in_comment, begins_label, is_label_char, is_tag_char, is_hex, with_digit}
+use Rattle.gs_ntterm.specs.Words.{Word}
+use Rattle.gs_ntterm.specs.Terminals.{Inside, Plain, Escape, Digits, escaped}
+use Rattle.gs_ntterm.specs.Tokens.{Held, hold, add, add_dots, tagged_held, label_held}
 use Rattle.gs_ntread.specs.States.{Stage, AtSubject, AtPredicate, AtObject, AtSuffix, Mode, Between, Comment, InIri, InString, Underscore, Colon, InLabel, InDots, Caret, InTag, Broken, State, Turn, broken, quiet, sentence, fault_of}
 use Rattle.gs_ntread.specs.Lines.{end_state, at_dot, behind_literal, between_turn, iri_closed, string_closed, caret_closed}
 

@@ -1,12 +1,14 @@
 -- What the fields of a cursor and of a reader mean.
-use Rattle.std.specs.Prelude.{ℕ, Bool, true, false, List, [], ◌∷◌, Option, Some, None, Result, Ok, Err, string_bytes}
+use Rattle.std.specs.Prelude.{ℕ, List, [], ◌∷◌, Option, Some, None, string_bytes}
 use Rattle.gs_body.specs.Bodies.{Ending, Whole, Syntax, TooLong}
-use Rattle.gs_ntread.specs.Sentences.{Word, Fixed, Labelled, Sentence}
-use Rattle.gs_ntread.specs.Terminals.{Plain, Escape, Digits}
-use Rattle.gs_ntread.specs.Tokens.{Held, Text, Long}
+use Rattle.gs_ntterm.specs.Words.{Word, Fixed, Labelled}
+use Rattle.gs_ntterm.specs.Terminals.{Plain, Escape, Digits}
+use Rattle.gs_ntterm.specs.Tokens.{Held}
+use Rattle.gs_ntterm.specs.Views.{held_of}
+use Rattle.gs_ntterm.specs.declared.terms.Made.{Made}
+use Rattle.gs_ntterm.specs.declared.terms.Made.TheVariants as made
+use Rattle.gs_ntread.specs.Sentences.{Sentence}
 use Rattle.gs_ntread.specs.States.{Stage, AtSubject, AtPredicate, AtObject, AtSuffix, AtDatatype, AtDot, AtEnd, State, Between, Comment, InIri, InString, Underscore, Colon, InLabel, InDots, Caret, InTag, broken}
-use Rattle.gs_ntread.specs.declared.forms.Form.{Form}
-use Rattle.gs_ntread.specs.declared.tokens.Token.{Token}
 use Rattle.gs_ntread.specs.declared.parts.Subject.{Subject}
 use Rattle.gs_ntread.specs.declared.parts.Subject.TheVariants as subject
 use Rattle.gs_ntread.specs.declared.parts.Object.{Object}
@@ -16,19 +18,9 @@ use Rattle.gs_ntread.specs.declared.parts.Place.{Place}
 use Rattle.gs_ntread.specs.declared.parts.Place.TheVariants as at
 use Rattle.gs_ntread.specs.declared.parts.Within.{Within}
 use Rattle.gs_ntread.specs.declared.parts.Within.TheVariants as within
-use Rattle.gs_ntread.specs.declared.parts.Made.{Made}
-use Rattle.gs_ntread.specs.declared.parts.Made.TheVariants as made
 use Rattle.gs_ntread.specs.declared.parts.Final.{Final}
 use Rattle.gs_ntread.specs.declared.parts.Final.TheVariants as final
 use Rattle.gs_ntread.specs.declared.cursor.Cursor.{Cursor}
-
--- the bytes of a token, or their form
-abbrev pub held : Bool → Form → List ℕ → Held
-held true form text = Long form
-held false form text = Text text
-
-abbrev pub held_of : Token → Held
-held_of t = held t.is_long t.form (string_bytes t.text)
 
 abbrev pub subject_of : Subject → Word
 subject_of (subject.Iri n) = Fixed n.term
@@ -68,11 +60,6 @@ shown within.Overlong g t c v = broken TooLong
 
 abbrev pub state_of : Cursor → State
 state_of c = shown c.within (stage_of c.place (held_of c.lexical)) (held_of c.text) c.count c.value
-
-abbrev pub made_of : {T A : Type 0} → (T → A) → Made T → Result A Ending
-made_of f (made.Term t) = Ok (f t)
-made_of f made.Broken = Err Syntax
-made_of f made.Overlong = Err TooLong
 
 -- a cursor at a place where no token has begun, or the fault
 abbrev pub settled : Made Place → Held → State

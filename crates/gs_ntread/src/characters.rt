@@ -1,64 +1,20 @@
 //! One character more.
-ghost use Rattle.std.specs.Prelude.{◌≡◌, IfOk, OnOk, if◌then◌else◌, Some, None};
-ghost use Rattle.std.specs.Char.{IsScalar};
-ghost use Rattle.std.specs.Option.{SomeIff};
-ghost use Rattle.gs_ntread.specs.Classes.{is_hex, with_digit as with_digit_of};
-ghost use Rattle.gs_ntread.specs.Terminals.{escaped as escaped_of, Plain, Escape, Digits};
+ghost use Rattle.std.specs.Prelude.{◌≡◌, IfOk, OnOk};
+ghost use Rattle.gs_ntterm.specs.Terminals.{Plain, Escape, Digits};
+ghost use Rattle.gs_ntterm.specs.Views.{held_of};
 ghost use Rattle.gs_ntread.specs.States.{quiet, Colon, InLabel, InDots, InTag, Comment};
 ghost use Rattle.gs_ntread.specs.Turns.{iri_turn, string_turn, turn};
-ghost use Rattle.gs_ntread.specs.Views.{held_of, state_of, stage_of, given};
+ghost use Rattle.gs_ntread.specs.Views.{state_of, stage_of, given};
 ghost use Rattle.gs_ntread.specs.declared.parts.Within.TheVariants as within;
 
-use crate::classes::{
-    begins_label, hex_value, is_label_char, is_line_end, is_tag_char, may_stand_in_comment,
-};
 use crate::cursor::Cursor;
 use crate::parts::{Parts, Place, Within};
 use gs_chars::is_iri_char;
+use gs_ntterm::{
+    begins_label, char_of, escaped, is_label_char, is_line_end, is_tag_char, may_stand_in_comment,
+    with_digit,
+};
 use std::alloc::AllocError;
-
-/// What an escape means.
-fn escaped(c: u32) -> Option<char>
-    ensures { result ≡ escaped_of c }
-{
-    match c {
-        116 => Some('\t'),
-        98 => Some('\u{8}'),
-        110 => Some('\n'),
-        114 => Some('\r'),
-        102 => Some('\u{C}'),
-        34 => Some('"'),
-        39 => Some('\''),
-        92 => Some('\\'),
-        _ => None,
-    }
-}
-
-/// A number with one more digit, where it is one.
-fn with_digit(value: u64, c: u32) -> Option<u64>
-    ensures { result ≡ (if is_hex c then Some (with_digit_of value c) else None) }
-{
-    match hex_value(c) {
-        None => None,
-        Some(digit) => {
-            if value <= 0x10_FFFF {
-                Some(value * 16 + u64::from(digit))
-            } else {
-                Some(value)
-            }
-        }
-    }
-}
-
-/// The character of a number.
-fn char_of(value: u64) -> Option<char>
-    ensures { SomeIff result (IsScalar value) value }
-{
-    if value > 0x10_FFFF {
-        return None;
-    }
-    char::from_u32(value as u32)
-}
 
 impl Cursor {
     /// A character of an IRI.

@@ -1,13 +1,13 @@
 //! Where a token ends.
 ghost use Rattle.std.specs.Prelude.{◌≡◌, OnOk, IfOk};
-ghost use Rattle.gs_ntread.specs.Tokens.{Held, iri_held, typed_held};
+ghost use Rattle.gs_ntterm.specs.Tokens.{Held, iri_held, typed_held};
+ghost use Rattle.gs_ntterm.specs.Views.{held_of};
 ghost use Rattle.gs_ntread.specs.Lines.{to_predicate as to_predicate_of, to_object as to_object_of, to_dot as to_dot_of, iri_closed, string_closed, caret_closed};
-ghost use Rattle.gs_ntread.specs.Views.{settled, held_of, subject_of, state_of, stage_of};
+ghost use Rattle.gs_ntread.specs.Views.{settled, subject_of, state_of, stage_of};
 
 use crate::cursor::Cursor;
-use crate::parts::{Made, Name, Object, Place, Subject, Within};
-use crate::terms;
-use crate::tokens::Token;
+use crate::parts::{Object, Place, Subject, Within};
+use gs_ntterm::{Made, Name, Token};
 use std::alloc::{AllocError, Global};
 use std::mem;
 
@@ -15,7 +15,7 @@ use std::mem;
 fn to_predicate(alloc: Global, text: &Token) -> Result<Made<Place>, AllocError>
     ensures { IfOk result (λ m. (l : Held) → settled m l ≡ to_predicate_of (iri_held (held_of text.now))) }
 {
-    Ok(match terms::iri(alloc, text)? {
+    Ok(match gs_ntterm::iri(alloc, text)? {
         Made::Term(name) => Made::Term(Place::Predicate(Subject::Iri(name))),
         Made::Broken => Made::Broken,
         Made::Overlong => Made::Overlong,
@@ -26,7 +26,7 @@ fn to_predicate(alloc: Global, text: &Token) -> Result<Made<Place>, AllocError>
 fn to_object(alloc: Global, subject: Subject, text: &Token) -> Result<Made<Place>, AllocError>
     ensures { IfOk result (λ m. (l : Held) → settled m l ≡ to_object_of (subject_of subject) (iri_held (held_of text.now))) }
 {
-    Ok(match terms::iri(alloc, text)? {
+    Ok(match gs_ntterm::iri(alloc, text)? {
         Made::Term(name) => Made::Term(Place::Object(subject, name)),
         Made::Broken => Made::Broken,
         Made::Overlong => Made::Overlong,
@@ -42,7 +42,7 @@ fn to_dot(
 ) -> Result<Made<Place>, AllocError>
     ensures { IfOk result (λ m. (l : Held) → settled m l ≡ to_dot_of (subject_of subject) predicate.term (iri_held (held_of text.now))) }
 {
-    Ok(match terms::iri(alloc, text)? {
+    Ok(match gs_ntterm::iri(alloc, text)? {
         Made::Term(name) => {
             let Name { term } = name;
             Made::Term(Place::Dot(subject, predicate, Object::Term(term)))
@@ -62,7 +62,7 @@ fn to_typed(
 ) -> Result<Made<Place>, AllocError>
     ensures { IfOk result (λ m. (l : Held) → settled m l ≡ to_dot_of (subject_of subject) predicate.term (typed_held (held_of lexical.now) (held_of text.now))) }
 {
-    Ok(match terms::typed(alloc, lexical, text)? {
+    Ok(match gs_ntterm::typed(alloc, lexical, text)? {
         Made::Term(term) => Made::Term(Place::Dot(subject, predicate, Object::Term(term))),
         Made::Broken => Made::Broken,
         Made::Overlong => Made::Overlong,

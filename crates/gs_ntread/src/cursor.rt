@@ -1,16 +1,14 @@
 //! From characters to the parts of triples.
 ghost use Rattle.std.specs.Prelude.{◌≡◌, ◌∷◌, [], OnOk, IfOk, if◌then◌else◌, ◌==◌};
-ghost use Rattle.gs_ntread.specs.Sentences.{Word};
-ghost use Rattle.gs_ntread.specs.Classes.{is_space as is_space_of};
-ghost use Rattle.gs_ntread.specs.Tokens.{Text, plain_held};
+ghost use Rattle.gs_ntterm.specs.Words.{Word};
+ghost use Rattle.gs_ntterm.specs.Classes.{is_space as is_space_of};
+ghost use Rattle.gs_ntterm.specs.Tokens.{Text, plain_held};
 ghost use Rattle.gs_ntread.specs.States.{start, broken, quiet, Between, InIri, Underscore, InString};
 ghost use Rattle.gs_ntread.specs.Lines.{end_state, between_turn, behind_literal, iri_closed, string_closed, caret_closed};
 ghost use Rattle.gs_ntread.specs.Turns.{turn};
 
-use crate::classes::{is_line_end, is_space};
-use crate::parts::{Made, Name, Object, Parts, Place, Subject, Within};
-use crate::terms;
-use crate::tokens::Token;
+use crate::parts::{Object, Parts, Place, Subject, Within};
+use gs_ntterm::{Made, Name, Token, is_line_end, is_space};
 use gs_term::TermText;
 use std::alloc::{AllocError, Global};
 use std::mem;
@@ -28,9 +26,10 @@ pub struct Cursor {
 }
 
 impl Cursor {
-    ghost use Rattle.gs_ntread.specs.Terminals.{Plain};
     ghost use Rattle.gs_body.specs.Bodies.{Syntax};
-    ghost use Rattle.gs_ntread.specs.Views.{state_of, stage_of, shown, held_of, subject_of, made_of, given, IsSuffix, IsDot};
+    ghost use Rattle.gs_ntterm.specs.Terminals.{Plain};
+    ghost use Rattle.gs_ntterm.specs.Views.{held_of, made_of};
+    ghost use Rattle.gs_ntread.specs.Views.{state_of, stage_of, shown, subject_of, given, IsSuffix, IsDot};
     ghost use Rattle.gs_ntread.specs.declared.parts.Within.TheVariants as within;
     ghost use Rattle.gs_ntread.specs.declared.parts.Place.TheVariants as at;
 
@@ -199,7 +198,7 @@ impl Cursor {
         }
         match mem::replace(&mut self.place, Place::End) {
             Place::Suffix(subject, predicate) => {
-                let made = terms::plain(self.alloc, &self.lexical)?;
+                let made = gs_ntterm::plain(self.alloc, &self.lexical)?;
                 Ok(self.behind_literal(subject, predicate, made, c, n))
             }
             _ => Ok(None),

@@ -1,14 +1,15 @@
 //! The character behind a token that has no closing mark.
 ghost use Rattle.std.specs.Prelude.{◌≡◌, ◌==◌, IfOk, if◌then◌else◌, string_bytes, List};
 ghost use Rattle.gs_body.specs.Bodies.{Syntax, TooLong};
-ghost use Rattle.gs_ntread.specs.Sentences.{Labelled};
+ghost use Rattle.gs_ntterm.specs.Words.{Labelled};
+ghost use Rattle.gs_ntterm.specs.Views.{held_of, made_of};
 ghost use Rattle.gs_ntread.specs.States.{quiet, broken};
 ghost use Rattle.gs_ntread.specs.Turns.{behind_subject, behind_object, dotted_object, label_turn, dotted_turn, tag_turn};
-ghost use Rattle.gs_ntread.specs.Views.{held_of, subject_of, state_of, stage_of, given, made_of};
+ghost use Rattle.gs_ntread.specs.Views.{subject_of, state_of, stage_of, given};
 
 use crate::cursor::Cursor;
-use crate::parts::{Made, Name, Object, Parts, Place, Subject, Within};
-use crate::terms;
+use crate::parts::{Object, Parts, Place, Subject, Within};
+use gs_ntterm::{Made, Name};
 use std::alloc::AllocError;
 use std::mem;
 
@@ -75,11 +76,11 @@ impl Cursor {
     {
         match mem::replace(&mut self.place, Place::End) {
             Place::Subject => {
-                let made = terms::label(self.alloc, &self.text)?;
+                let made = gs_ntterm::label(self.alloc, &self.text)?;
                 self.behind_subject(made, c, n)
             }
             Place::Object(subject, predicate) => {
-                let made = terms::label(self.alloc, &self.text)?;
+                let made = gs_ntterm::label(self.alloc, &self.text)?;
                 Ok(self.behind_object(subject, predicate, made, c, n))
             }
             _ => Ok(self.stop()),
@@ -130,7 +131,7 @@ impl Cursor {
                 Ok(self.stop())
             }
             Place::Object(subject, predicate) => {
-                let made = terms::label(self.alloc, &self.text)?;
+                let made = gs_ntterm::label(self.alloc, &self.text)?;
                 Ok(self.behind_dots_of(subject, predicate, made, c))
             }
             _ => Ok(self.stop()),
@@ -143,7 +144,7 @@ impl Cursor {
     {
         match mem::replace(&mut self.place, Place::End) {
             Place::Suffix(subject, predicate) => {
-                let made = terms::tagged(self.alloc, &self.lexical, &self.text)?;
+                let made = gs_ntterm::tagged(self.alloc, &self.lexical, &self.text)?;
                 Ok(self.behind_literal(subject, predicate, made, c, n))
             }
             _ => Ok(self.stop()),

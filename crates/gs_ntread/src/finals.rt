@@ -1,12 +1,13 @@
 //! The end of the text.
 ghost use Rattle.std.specs.Prelude.{◌≡◌, IfOk, string_bytes};
-ghost use Rattle.gs_ntread.specs.Sentences.{Labelled};
+ghost use Rattle.gs_ntterm.specs.Words.{Labelled};
+ghost use Rattle.gs_ntterm.specs.Views.{held_of, made_of};
 ghost use Rattle.gs_ntread.specs.Machine.{end_of_text, between_end, label_end, tag_end, dots_end, dotted_end};
-ghost use Rattle.gs_ntread.specs.Views.{state_of, stage_of, held_of, subject_of, made_of, given, ending_of};
+ghost use Rattle.gs_ntread.specs.Views.{state_of, stage_of, subject_of, given, ending_of};
 
 use crate::cursor::Cursor;
-use crate::parts::{Final, Made, Name, Object, Parts, Place, Subject, Within};
-use crate::terms;
+use crate::parts::{Final, Object, Parts, Place, Subject, Within};
+use gs_ntterm::{Made, Name};
 use std::alloc::AllocError;
 use std::mem;
 
@@ -31,7 +32,7 @@ impl Cursor {
     {
         match &self.place {
             Place::Subject | Place::End => Ok(Final::Whole),
-            Place::Suffix(_, _) => match terms::plain(self.alloc, &self.lexical)? {
+            Place::Suffix(_, _) => match gs_ntterm::plain(self.alloc, &self.lexical)? {
                 Made::Overlong => Ok(Final::Overlong),
                 _ => Ok(Final::Broken),
             },
@@ -58,7 +59,7 @@ impl Cursor {
         ensures { IfOk result (λ f. ending_of f ≡ tag_end (stage_of self.now.place (held_of self.now.lexical)) (held_of self.now.text)) }
     {
         match &self.place {
-            Place::Suffix(_, _) => match terms::tagged(self.alloc, &self.lexical, &self.text)? {
+            Place::Suffix(_, _) => match gs_ntterm::tagged(self.alloc, &self.lexical, &self.text)? {
                 Made::Overlong => Ok(Final::Overlong),
                 _ => Ok(Final::Broken),
             },
@@ -71,7 +72,7 @@ impl Cursor {
     {
         match mem::replace(&mut self.place, Place::End) {
             Place::Object(subject, predicate) => {
-                let made = terms::label(self.alloc, &self.text)?;
+                let made = gs_ntterm::label(self.alloc, &self.text)?;
                 Ok(self.end_object(subject, predicate, made))
             }
             Place::Subject => {

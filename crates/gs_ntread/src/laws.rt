@@ -1,7 +1,7 @@
 //! A law of the reader's machine, proved: the body is empty, and the contract is the law.
 ghost use Rattle.std.specs.Prelude.{◌≡◌, List};
 ghost use Rattle.gs_machine.specs.Machines.{rest};
-ghost use Rattle.gs_ntread.specs.Marks.{Mark};
+ghost use Rattle.gs_ntterm.specs.Marks.{Mark};
 ghost use Rattle.gs_ntread.specs.Documents.{document};
 ghost use Rattle.gs_ntread.specs.States.{start};
 ghost use Rattle.gs_ntread.specs.Machine.{reading};

@@ -1,13 +1,14 @@
 //! Blank nodes get their numbers.
 ghost use Rattle.std.specs.Prelude.{◌≡◌, ◌∷◌, [], true, IfOk, IfErr};
-ghost use Rattle.gs_ntread.specs.Sentences.{Labelled};
 ghost use Rattle.gs_model.specs.Triples.{is_subject};
+ghost use Rattle.gs_ntterm.specs.Words.{Labelled};
 ghost use Rattle.gs_ntread.specs.Documents.{term_of, stated};
 ghost use Rattle.gs_ntread.specs.Views.{subject_of, object_of, sentence_of};
 
-use crate::parts::{Name, Object, Parts, Subject};
+use crate::parts::{Object, Parts, Subject};
 use gs_blank::Numbering;
 use gs_model::Refusal;
+use gs_ntterm::Name;
 use gs_term::{TermText, Triple};
 use std::alloc::Global;
 

@@ -1,15 +1,6 @@
 //! What was read of a line so far.
-ghost use Rattle.std.specs.Prelude.{◌≡◌, true};
-ghost use Rattle.gs_model.specs.Triples.{is_iri};
-
+use gs_ntterm::Name;
 use gs_term::TermText;
-
-/// An IRI.
-#[derive(Drop)]
-pub struct Name {
-    pub term: TermText,
-    ghost iri: { is_iri term ≡ true },
-}
 
 /// A subject, where a blank node still is its label.
 #[derive(Drop)]
@@ -63,14 +54,6 @@ pub enum Within {
     Dots,
     Caret,
     Tag,
-    Broken,
-    Overlong,
-}
-
-/// What a token says, or its fault.
-#[derive(Drop)]
-pub enum Made<T> {
-    Term(T),
     Broken,
     Overlong,
 }

@@ -1,7 +1,7 @@
 //! The reader of N-Triples.
 ghost use Rattle.std.specs.Prelude.{◌≡◌, ◌≢◌, ◌++◌, [], ◌<◌, ◌≤◌, false, length, take, OnOk, OnErr, IfOk, IfErr, IfSome, IfNone, IsErr, List, ℕ};
 ghost use Rattle.gs_model.specs.Triples.{Statement};
-ghost use Rattle.gs_ntread.specs.Marks.{end_of};
+ghost use Rattle.gs_ntterm.specs.Marks.{end_of};
 
 use crate::cursor::Cursor;
 use crate::numbers;

@@ -1,8 +1,9 @@
 //! The next character.
 ghost use Rattle.std.specs.Prelude.{◌≡◌, IfOk};
+ghost use Rattle.gs_ntterm.specs.Views.{held_of};
 ghost use Rattle.gs_ntread.specs.States.{Caret, Underscore, quiet};
 ghost use Rattle.gs_ntread.specs.Turns.{turn};
-ghost use Rattle.gs_ntread.specs.Views.{held_of, state_of, stage_of, given};
+ghost use Rattle.gs_ntread.specs.Views.{state_of, stage_of, given};
 ghost use Rattle.gs_ntread.specs.declared.parts.Within.TheVariants as within;
 
 use crate::cursor::Cursor;

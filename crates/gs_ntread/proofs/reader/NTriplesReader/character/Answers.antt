@@ -1,6 +1,6 @@
 use Rattle.std.proofs.Common.{◌≡◌, ℕ, refl, sym, ap, ◌∙◌, List, [], ◌∷◌}
 use Rattle.gs_body.specs.Bodies.{Stated}
-use Rattle.gs_ntread.specs.Marks.{end_of}
+use Rattle.gs_ntterm.specs.Marks.{end_of}
 use Rattle.gs_ntread.specs.Documents.{stated}
 use Rattle.gs_ntread.specs.States.{State}
 use Rattle.gs_ntread.specs.Turns.{turn}

@@ -3,7 +3,7 @@ use Rattle.std.proofs.lemmas.List.{length-take-le}
 use Rattle.gs_machine.specs.Machines.{steps}
 use Rattle.gs_machine.specs.Utf8.{Decoding, Ready}
 use Rattle.gs_machine.proofs.MachineLemmas.{steps-nil}
-use Rattle.gs_ntread.specs.Marks.{counted}
+use Rattle.gs_ntterm.specs.Marks.{counted}
 use Rattle.gs_ntread.specs.States.{State}
 use Rattle.gs_ntread.specs.Reader.{ntriples}
 use Rattle.gs_ntread.specs.Views.{state_of}

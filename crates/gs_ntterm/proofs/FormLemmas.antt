@@ -1,0 +1,63 @@
+-- A token's form, byte by byte, is that of the whole token.
+use Rattle.std.proofs.Common.{◌≡◌, ℕ, Bool, true, false, List, [], ◌∷◌, ◌++◌, map, refl}
+use Rattle.std.specs.Prelude.{◌==◌, ◌&&◌, ◌||◌, nat_le}
+use Rattle.std.specs.Char.{to_ascii_lowercase}
+use Rattle.std.specs.List.{list_all}
+use Rattle.std.specs.Str.{str_to_ascii_lowercase}
+use Rattle.gs_model.specs.Characters.{is_iri_char}
+use Rattle.gs_model.specs.Iris.{is_letter, is_scheme_char, is_scheme_rest, is_absolute}
+use Rattle.gs_model.specs.Terms.{is_tag, is_tag_rest}
+use Rattle.gs_ntterm.specs.Forms.{scheme_after, tag_after_byte, form_on, form_after, form_of, is_absolute_form, is_tag_form}
+use Rattle.gs_ntterm.proofs.Branches.{two_ways, by_test}
+use Rattle.gs_ntterm.specs.declared.forms.Scheme.{Scheme}
+use Rattle.gs_ntterm.specs.declared.forms.Scheme.TheVariants as scheme
+use Rattle.gs_ntterm.specs.declared.forms.Tag.{Tag}
+use Rattle.gs_ntterm.specs.declared.forms.Tag.TheVariants as tag
+use Rattle.gs_ntterm.specs.declared.forms.Form.{Form}
+
+pub form_after-append : (f : Form) (a b : List ℕ) → form_after f (a ++ b) ≡ form_after (form_after f a) b
+form_after-append f [] b = refl
+form_after-append f (x ∷ xs) b = form_after-append (form_on f x) xs b
+
+broken_scheme : (t : Tag) (x : List ℕ) → is_absolute_form (form_after (record { scheme = scheme.Broken; tag = t }) x) ≡ false
+broken_scheme t [] = refl
+broken_scheme t (b ∷ bs) = broken_scheme (tag_after_byte t b) bs
+
+behind_scheme : (t : Tag) (x : List ℕ) → is_absolute_form (form_after (record { scheme = scheme.Behind; tag = t }) x) ≡ list_all is_iri_char x
+behind_scheme t [] = refl
+behind_scheme t (b ∷ bs) =
+    by_test (λ z. is_absolute_form (form_after (record { scheme = z; tag = tag_after_byte t b }) bs)) (λ v. v && list_all is_iri_char bs) (is_iri_char b) _ _
+    (behind_scheme (tag_after_byte t b) bs) (broken_scheme (tag_after_byte t b) bs)
+
+inside_scheme : (t : Tag) (x : List ℕ) → is_absolute_form (form_after (record { scheme = scheme.Inside; tag = t }) x) ≡ is_scheme_rest x
+inside_scheme t [] = refl
+inside_scheme t (b ∷ bs) =
+    let u = tag_after_byte t b in
+    two_ways (λ z. is_absolute_form (form_after (record { scheme = z; tag = u }) bs)) (λ v. v) (b == 58) _ _ _ _
+    (behind_scheme u bs)
+    (by_test (λ z. is_absolute_form (form_after (record { scheme = z; tag = u }) bs)) (λ v. v && is_scheme_rest bs) (is_scheme_char b) _ _
+    (inside_scheme u bs) (broken_scheme u bs))
+
+pub absolute_by_form : (x : List ℕ) → is_absolute_form (form_of x) ≡ is_absolute x
+absolute_by_form [] = refl
+absolute_by_form (b ∷ bs) =
+    let u = tag_after_byte (tag.Part false false) b in
+    by_test (λ z. is_absolute_form (form_after (record { scheme = z; tag = u }) bs)) (λ v. v && is_scheme_rest bs) (is_letter b) _ _
+    (inside_scheme u bs) (broken_scheme u bs)
+
+broken_tag : (s : Scheme) (x : List ℕ) → is_tag_form (form_after (record { scheme = s; tag = tag.Broken }) x) ≡ false
+broken_tag s [] = refl
+broken_tag s (b ∷ bs) = broken_tag (scheme_after s b) bs
+
+in_tag : (s : Scheme) (d e : Bool) (x : List ℕ) → is_tag_form (form_after (record { scheme = s; tag = tag.Part d e }) x) ≡ is_tag_rest d e (map to_ascii_lowercase x)
+in_tag s d e [] = refl
+in_tag s d e (b ∷ bs) =
+    let c = to_ascii_lowercase b in
+    let w = scheme_after s b in
+    two_ways (λ z. is_tag_form (form_after (record { scheme = w; tag = z }) bs)) (λ v. v) ((nat_le 97 c && nat_le c 122) || (d && (nat_le 48 c && nat_le c 57))) _ _ _ _
+    (in_tag w d true bs)
+    (by_test (λ z. is_tag_form (form_after (record { scheme = w; tag = z }) bs)) (λ v. v && is_tag_rest true false (map to_ascii_lowercase bs)) (c == 45 && e) _ _
+    (in_tag w true false bs) (broken_tag w bs))
+
+pub tag_by_form : (x : List ℕ) → is_tag_form (form_of x) ≡ is_tag (str_to_ascii_lowercase x)
+tag_by_form x = in_tag scheme.Unbegun false false x

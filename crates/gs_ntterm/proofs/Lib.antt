@@ -1,0 +1,4 @@
+pub mod Branches
+pub mod FormLemmas
+pub mod Holding
+pub mod RunLemmas

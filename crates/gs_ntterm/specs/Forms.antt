@@ -1,0 +1,55 @@
+-- The form of a token that is too long to be held, byte by byte: whether it is an absolute IRI (RFC 3986,
+-- section 4.3), and whether it is a language tag (N-Triples, section 7, LANGTAG behind its '@').
+use Rattle.std.specs.Prelude.{ℕ, Bool, true, false, if◌then◌else◌, ◌||◌, ◌&&◌, ◌==◌, nat_le, List, [], ◌∷◌}
+use Rattle.std.specs.Char.{to_ascii_lowercase}
+use Rattle.gs_model.specs.Characters.{is_iri_char}
+use Rattle.gs_model.specs.Iris.{is_letter, is_scheme_char}
+use Rattle.gs_ntterm.specs.declared.forms.Scheme.{Scheme}
+use Rattle.gs_ntterm.specs.declared.forms.Scheme.TheVariants as scheme
+use Rattle.gs_ntterm.specs.declared.forms.Tag.{Tag}
+use Rattle.gs_ntterm.specs.declared.forms.Tag.TheVariants as tag
+use Rattle.gs_ntterm.specs.declared.forms.Form.{Form}
+
+-- a letter, then letters, digits, '+', '-' and '.', then ':', and then IRI characters
+abbrev pub scheme_after : Scheme → ℕ → Scheme
+scheme_after scheme.Unbegun b = if is_letter b then scheme.Inside else scheme.Broken
+scheme_after scheme.Inside b = if b == 58 then scheme.Behind else if is_scheme_char b then scheme.Inside else scheme.Broken
+scheme_after scheme.Behind b = if is_iri_char b then scheme.Behind else scheme.Broken
+scheme_after scheme.Broken b = scheme.Broken
+
+-- the same of a byte in lower case, in a part of a tag
+abbrev pub part_after : Bool → Bool → ℕ → Tag
+part_after digits begun c =
+    if (nat_le 97 c && nat_le c 122) || (digits && (nat_le 48 c && nat_le c 57)) then tag.Part digits true
+    else if c == 45 && begun then tag.Part true false
+    else tag.Broken
+
+-- letters, then parts of letters and digits, each behind a '-'
+abbrev pub tag_after_byte : Tag → ℕ → Tag
+tag_after_byte (tag.Part digits begun) b = part_after digits begun (to_ascii_lowercase b)
+tag_after_byte tag.Broken b = tag.Broken
+
+abbrev pub form_on : Form → ℕ → Form
+form_on f b = record { scheme = scheme_after f.scheme b; tag = tag_after_byte f.tag b }
+
+-- a form with some bytes more
+abbrev pub form_after : Form → List ℕ → Form
+form_after f [] = f
+form_after f (b ∷ bs) = form_after (form_on f b) bs
+
+abbrev pub form_of : List ℕ → Form
+form_of bytes = form_after (record { scheme = scheme.Unbegun; tag = tag.Part false false }) bytes
+
+abbrev pub is_behind : Scheme → Bool
+is_behind scheme.Behind = true
+is_behind s = false
+
+abbrev pub has_part : Tag → Bool
+has_part (tag.Part digits begun) = begun
+has_part tag.Broken = false
+
+abbrev pub is_absolute_form : Form → Bool
+is_absolute_form f = is_behind f.scheme
+
+abbrev pub is_tag_form : Form → Bool
+is_tag_form f = has_part f.tag

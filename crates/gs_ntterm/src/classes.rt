@@ -1,0 +1,62 @@
+//! The classes of characters of N-Triples. The mark of ill-formed bytes is in none.
+ghost use Rattle.std.specs.Prelude.{◌≡◌, if◌then◌else◌};
+ghost use Rattle.std.specs.Char.{digit_value};
+ghost use Rattle.gs_ntterm.specs.Classes.{is_space as is_space_of, is_line_end as is_line_end_of, may_stand_in_comment as may_stand_in_comment_of, begins_label as begins_label_of, is_label_char as is_label_char_of, is_tag_char as is_tag_char_of, is_hex as is_hex_of};
+
+use gs_chars::{is_pn_chars, is_pn_chars_u};
+
+#[inline]
+pub fn is_space(c: u32) -> bool
+    ensures { result ≡ is_space_of c }
+{
+    c == 32 || c == 9
+}
+
+#[inline]
+pub fn is_line_end(c: u32) -> bool
+    ensures { result ≡ is_line_end_of c }
+{
+    c == 10 || c == 13
+}
+
+pub fn may_stand_in_comment(c: u32) -> bool
+    ensures { result ≡ may_stand_in_comment_of c }
+{
+    char::from_u32(c).is_some()
+}
+
+pub fn begins_label(c: u32) -> bool
+    ensures { result ≡ begins_label_of c }
+{
+    match char::from_u32(c) {
+        Some(c) => is_pn_chars_u(c) || c == ':' || c.is_ascii_digit(),
+        None => false,
+    }
+}
+
+pub fn is_label_char(c: u32) -> bool
+    ensures { result ≡ is_label_char_of c }
+{
+    match char::from_u32(c) {
+        Some(c) => is_pn_chars(c) || c == ':',
+        None => false,
+    }
+}
+
+pub fn is_tag_char(c: u32) -> bool
+    ensures { result ≡ is_tag_char_of c }
+{
+    (c >= 65 && c <= 90) || (c >= 97 && c <= 122) || (c >= 48 && c <= 57) || c == 45
+}
+
+/// The value of a hexadecimal digit.
+pub fn hex_value(c: u32) -> Option<u32>
+    ensures { result ≡ (if is_hex_of c then Some (digit_value c) else None) }
+{
+    match c {
+        48..=57 => Some(c - 48),
+        65..=70 => Some(c - 55),
+        97..=102 => Some(c - 87),
+        _ => None,
+    }
+}

@@ -1,0 +1,17 @@
+//! The tokens of N-Triples: their characters, what is held of one, and the term that it is.
+#![tactic(auto)]
+
+mod classes;
+mod escapes;
+mod forms;
+mod runs;
+mod terms;
+mod tokens;
+
+pub use classes::{
+    begins_label, is_label_char, is_line_end, is_space, is_tag_char, may_stand_in_comment,
+};
+pub use escapes::{char_of, escaped, with_digit};
+pub use runs::{Between, Class, InComment, InIri, InLabel, InString, run_len};
+pub use terms::{Made, Name, iri, label, plain, tagged, typed};
+pub use tokens::Token;

@@ -1,0 +1,111 @@
+//! The bytes of a token.
+ghost use Rattle.std.specs.Prelude.{◌≡◌, ◌-◌, true, [], OnOk, string_bytes, string_len};
+ghost use Rattle.std.specs.Str.{IsAscii};
+ghost use Rattle.std.specs.Char.{encode_utf8};
+
+use crate::forms::Form;
+use gs_model::LONGEST_TERM;
+use std::alloc::{AllocError, Global};
+use std::str::from_utf8_unchecked;
+
+/// The bytes of a token so far, of which only the form is kept where no term has room for them.
+#[derive(Drop)]
+pub struct Token {
+    pub text: String,
+    pub is_long: bool,
+    pub form: Form,
+}
+
+impl Token {
+    ghost use Rattle.gs_ntterm.specs.Tokens.{add, add_dots, Text, Long};
+    ghost use Rattle.gs_ntterm.specs.Forms.{form_of, form_after};
+    ghost use Rattle.gs_ntterm.specs.Runs.{joined};
+    ghost use Rattle.gs_ntterm.specs.Views.{held_of};
+
+    pub fn new(alloc: Global) -> Token
+        ensures { held_of result ≡ Text [] }
+    {
+        Token {
+            text: String::new(alloc),
+            is_long: false,
+            form: Form::new(),
+        }
+    }
+
+    /// A token begins.
+    pub fn clear(&mut self)
+        ensures { held_of self.new ≡ Text [] }
+    {
+        self.text.clear();
+        self.is_long = false;
+    }
+
+    /// How many bytes more a term may have.
+    #[inline]
+    fn room(&self) -> usize
+        ensures { result ≡ LONGEST_TERM - string_len self.now.text }
+    {
+        LONGEST_TERM - self.text.len().min(LONGEST_TERM)
+    }
+
+    /// No term has room for the token: only its form is kept from now on.
+    fn let_go(&mut self)
+        ensures form { self.new.form ≡ form_of (string_bytes self.old.text) }
+        ensures long { self.new.is_long ≡ true }
+    {
+        self.form = Form::new().after(self.text.as_str().as_bytes());
+        self.is_long = true;
+    }
+
+    /// A character more of a token that is not held; its bytes take the place of the text.
+    fn follow(&mut self, c: char) -> Result<(), AllocError>
+        requires { self.old.is_long ≡ true }
+        ensures { OnOk result (held_of self.new ≡ Long (form_after self.old.form (encode_utf8 c))) }
+    {
+        self.text.clear();
+        self.text.push(c)?;
+        self.form = self.form.after(self.text.as_str().as_bytes());
+        Ok(())
+    }
+
+    /// A character more.
+    pub fn push(&mut self, c: char) -> Result<(), AllocError>
+        ensures { OnOk result (held_of self.new ≡ add (held_of self.old) (encode_utf8 c)) }
+    {
+        if self.is_long {
+            return self.follow(c);
+        }
+        if c.len_utf8() > self.room() {
+            self.let_go();
+            return self.follow(c);
+        }
+        self.text.push(c)
+    }
+
+    /// Bytes of ASCII more.
+    pub fn push_all(&mut self, bytes: &[u8]) -> Result<(), AllocError>
+        requires { IsAscii bytes.now }
+        ensures { OnOk result (held_of self.new ≡ joined (held_of self.old) bytes.now) }
+    {
+        if self.is_long {
+            self.form = self.form.after(bytes);
+            return Ok(());
+        }
+        if bytes.len() > self.room() {
+            self.let_go();
+            self.form = self.form.after(bytes);
+            return Ok(());
+        }
+        self.text.push_str(unsafe { from_utf8_unchecked(bytes) })
+    }
+
+    /// So many dots more.
+    pub fn push_dots(&mut self, count: u64) -> Result<(), AllocError>
+        ensures { OnOk result (held_of self.new ≡ add_dots (held_of self.old) count) }
+    {
+        for _ in 0..count {
+            self.push('.')?;
+        }
+        Ok(())
+    }
+}
