@@ -1,0 +1,37 @@
+-- A second document, by computation: `[ <p> 1 ; ; ] . @base <http://b/> . <s> a "x"@EN-us , "y"^^<d> ; .` in the graph
+-- `http://e/g` and in request 1, as the symbols of its tokens.
+use Rattle.std.proofs.Common.{◌≡◌, List, [], ◌∷◌, ◌++◌, refl}
+use Rattle.std.specs.Prelude.{codes}
+use Rattle.std.specs.Str.{is_utf8, chars}
+use lib.Utf8.{encode}
+use Rattle.gs_model.specs.Terms.{Iri, Blank, Literal, Typed, Tagged, suffix}
+use Rattle.gs_iri.specs.References.{before, from, behind, is_scheme, has_scheme, scheme_of, behind_scheme, behind_slashes, authority_of, behind_authority, path_of, behind_path, query_of, behind_query, fragment_of, parts_of}
+use Rattle.gs_iri.specs.Dots.{segments_of, is_dot, is_dot_dot, is_dots, closed, moved, text_of_segments, output_of, dots}
+use Rattle.gs_iri.specs.Resolving.{scheme_text, marked, parts_text, through_last, directory_of, front_text, resolved_parts, resolved}
+use Rattle.gs_escape.specs.Meanings.{unescaped, stands_short}
+use Rattle.gs_escape.specs.Tokens.{between, quoted, iri_of, string_of}
+use Rattle.gs_blank.specs.Numbers.{no_numbers}
+use Rattle.gs_body.specs.Bodies.{Whole}
+use Rattle.gs_document.specs.Symbols.{Symbol, AWord, Text, At, Carets, A, Open, Close, Semicolon, Comma, Dot, Reference, Plain, xsd}
+use Rattle.gs_document.specs.Meanings.{word, iri, made, simple, tagged, typed, with_base, rdf}
+use Rattle.gs_document.specs.Goals.{triple}
+use Rattle.gs_document.specs.Documents.{start, stated}
+use Rattle.gs_document.specs.Reading.{parse}
+use Rattle.gs_document.specs.Program.{triples_at, statement_at, statements_at}
+
+abbrev symbols : List Symbol
+symbols =
+    Open ∷ AWord (Reference (codes "<p>")) ∷ AWord (Plain (codes "1") (xsd (codes "integer"))) ∷ Semicolon ∷ Semicolon ∷ Close ∷ Dot 15
+    ∷ At (codes "@base") ∷ AWord (Reference (codes "<http://b/>")) ∷ Dot 35
+    ∷ AWord (Reference (codes "<s>")) ∷ A ∷ Text (34 ∷ codes "x" ++ 34 ∷ []) ∷ At (codes "@EN-us") ∷ Comma
+    ∷ Text (34 ∷ codes "y" ++ 34 ∷ []) ∷ Carets ∷ AWord (Reference (codes "<d>")) ∷ Semicolon ∷ Dot 68 ∷ []
+
+by_program : statements_at 20 (start (codes "http://e/g") 1) no_numbers symbols
+    ≡ (
+      stated 15 (triple (Blank 1 1) (Iri (codes "http://e/p")) (Literal (codes "1") (Typed (xsd (codes "integer")))) ∷ [])
+          ++ stated 68 (triple (Iri (codes "http://b/s")) (rdf (codes "type")) (Literal (codes "x") (Tagged (codes "en-us")))
+          ∷ triple (Iri (codes "http://b/s")) (rdf (codes "type")) (Literal (codes "y") (Typed (codes "http://b/d"))) ∷ []),
+      Whole,
+    )
+unfolding statements_at statement_at triples_at parse word iri made simple tagged typed with_base suffix iri_of string_of quoted between unescaped stands_short is_utf8 chars encode resolved resolved_parts parts_of before from behind is_scheme has_scheme scheme_of behind_scheme behind_slashes authority_of behind_authority path_of behind_path query_of behind_query fragment_of dots segments_of closed is_dots is_dot is_dot_dot moved output_of text_of_segments scheme_text marked parts_text through_last directory_of front_text
+by_program = refl

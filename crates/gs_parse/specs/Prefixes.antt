@@ -1,0 +1,13 @@
+-- The prefixes of a document, as a tree of texts keeps them.
+use Rattle.std.specs.Prelude.{ℕ, List, map, string_bytes, String}
+use Rattle.std.specs.FinMap as finite
+use Rattle.std.specs.BTreeMap.{BTreeMap}
+use Rattle.gs_document.specs.Prefixes.{Prefixes}
+
+-- an entry with its texts' bytes
+abbrev pub as_texts : {Y Z : Type 0} → String Y × String Z → List ℕ × List ℕ
+as_texts e = (string_bytes e.0, string_bytes e.1)
+
+-- a tree of texts as a map
+abbrev pub texts_of : {Y Z : Type 0} → BTreeMap (String Y) (String Z) → Prefixes
+texts_of m = finite.from_entries (map as_texts m.entries)

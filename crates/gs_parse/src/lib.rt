@@ -1,0 +1,24 @@
+//! The parser of Turtle, token by token.
+#![tactic(auto)]
+
+mod closings;
+mod contexts;
+mod directives;
+mod endings;
+mod frames;
+mod machine;
+mod parser;
+mod places;
+mod prefixes;
+mod stacks;
+mod steps;
+mod symbols;
+mod terms;
+#[cfg(test)]
+mod tests;
+mod verbs;
+mod vocabulary;
+mod waits;
+
+pub use gs_document::Fault;
+pub use parser::Parser;

@@ -1,0 +1,25 @@
+//! Where the machine stands.
+
+use crate::frames::{Goal, Slot};
+use gs_document::Fault;
+
+/// Between two statements, within a directive, or within the triples of a statement.
+#[derive(Drop)]
+pub enum Place {
+    Between,
+    /// Behind `@prefix`, and then a dot ends the directive, or behind `PREFIX`.
+    InPrefix(bool),
+    InPrefixIri(bool, String),
+    InBase(bool),
+    AtDot,
+    /// Behind a `[` that opens a statement.
+    Opened,
+    /// Behind its `]`.
+    Closed(u64),
+    Heading(Goal),
+    /// Behind a string that is an object.
+    Held(String, Slot),
+    /// Behind its `^^`.
+    Typing(String, Slot),
+    Lost(Fault),
+}

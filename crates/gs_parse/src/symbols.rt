@@ -1,0 +1,93 @@
+//! What the grammar sees of a token.
+ghost use Rattle.std.specs.Prelude.{◌≡◌};
+ghost use Rattle.gs_lex.specs.Lexemes.{lexeme_of};
+ghost use Rattle.gs_document.specs.Symbols.{symbol as kind_symbol, symbol_of};
+ghost use Rattle.gs_parse.specs.Views.{symbol_at};
+
+use gs_lex::{Kind, Token};
+
+const XSD_INTEGER: &str = "http://www.w3.org/2001/XMLSchema#integer";
+
+const XSD_DECIMAL: &str = "http://www.w3.org/2001/XMLSchema#decimal";
+
+const XSD_DOUBLE: &str = "http://www.w3.org/2001/XMLSchema#double";
+
+const XSD_BOOLEAN: &str = "http://www.w3.org/2001/XMLSchema#boolean";
+
+/// A token that is a term by itself, by the names of the grammar.
+#[derive(Clone, Copy, Debug)]
+pub enum Word<'a> {
+    Reference(&'a str),
+    Namespace(&'a str),
+    Name(&'a str),
+    Label(&'a str),
+    /// A number or a boolean, with its datatype.
+    Plain(&'a str, &'a str),
+}
+
+/// A terminal, with what it leaves open.
+#[derive(Clone, Copy, Debug)]
+pub enum Symbol<'a> {
+    Word(Word<'a>),
+    Text(&'a str),
+    /// A language tag, `@prefix` or `@base`.
+    At(&'a str),
+    Carets,
+    /// The word `a`.
+    A,
+    Open,
+    Close,
+    OpenList,
+    CloseList,
+    Semicolon,
+    Comma,
+    /// A dot, with the number of bytes up to its end.
+    Dot(u64),
+    Prefix,
+    Base,
+    /// What stands in updates alone.
+    Foreign,
+}
+
+fn symbol_of_kind(kind: Kind, text: &str, end: u64) -> Symbol<'_>
+    ensures { symbol_at result ≡ kind_symbol kind text.now end }
+{
+    match kind {
+        Kind::IriRef => Symbol::Word(Word::Reference(text)),
+        Kind::PnameNs => Symbol::Word(Word::Namespace(text)),
+        Kind::PnameLn => Symbol::Word(Word::Name(text)),
+        Kind::BlankNodeLabel => Symbol::Word(Word::Label(text)),
+        Kind::Integer => Symbol::Word(Word::Plain(text, XSD_INTEGER)),
+        Kind::Decimal => Symbol::Word(Word::Plain(text, XSD_DECIMAL)),
+        Kind::Double => Symbol::Word(Word::Plain(text, XSD_DOUBLE)),
+        Kind::True => Symbol::Word(Word::Plain("true", XSD_BOOLEAN)),
+        Kind::False => Symbol::Word(Word::Plain("false", XSD_BOOLEAN)),
+        Kind::StringLiteralQuote
+        | Kind::StringLiteralSingleQuote
+        | Kind::StringLiteralLongQuote
+        | Kind::StringLiteralLongSingleQuote => Symbol::Text(text),
+        Kind::LangTag => Symbol::At(text),
+        Kind::Carets => Symbol::Carets,
+        Kind::A => Symbol::A,
+        Kind::OpenBracket => Symbol::Open,
+        Kind::CloseBracket => Symbol::Close,
+        Kind::OpenParenthesis => Symbol::OpenList,
+        Kind::CloseParenthesis => Symbol::CloseList,
+        Kind::Semicolon => Symbol::Semicolon,
+        Kind::Comma => Symbol::Comma,
+        Kind::Dot => Symbol::Dot(end),
+        Kind::Prefix => Symbol::Prefix,
+        Kind::Base => Symbol::Base,
+        _ => Symbol::Foreign,
+    }
+}
+
+/// The symbol of a token.
+pub fn symbol_of_token(token: &Token) -> Symbol<'_>
+    ensures { symbol_at result ≡ symbol_of (lexeme_of token.now) }
+{
+    match str::from_utf8(token.text.as_slice()) {
+        Ok(text) => symbol_of_kind(token.kind, text, token.end),
+        Err(_) => Symbol::Foreign,
+    }
+}

@@ -1,5 +1,0 @@
-use Rattle.gs_turtle.proofs.DocumentLemmas.{document_once}
-use Rattle.gs_turtle.proofs.laws.document_has_one_meaning.Goals as goal
-
-pub returns : goal.returns
-returns c = document_once
