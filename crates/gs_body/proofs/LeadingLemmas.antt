@@ -15,13 +15,13 @@ end_after-append n (s ∷ ss) b = end_after-append s.end ss b
 pub triples_of-append : (a b : List Stated) → triples_of (a ++ b) ≡ triples_of a ++ triples_of b
 triples_of-append a b = map-append (λ (s : Stated). s.triple) a b
 
-module _ {S : Type 0} (m : Machine S ℕ Stated Ending) (start : S) where
+module _ {S I : Type 0} (m : Machine S I Stated Ending) (start : S) where
   -- a machine at its start
   pub led-start : IsLed m start start 0 [] []
   led-start = record { statements = []; run = steps-nil m start; given = refl; place = refl }
 
   -- a machine goes on
-  pub led-on : (s t : S) (n l : ℕ) (x y : List ℕ) (ts : List Statement) (new : List Stated) → IsLed m start s n x ts
+  pub led-on : (s t : S) (n l : ℕ) (x y : List I) (ts : List Statement) (new : List Stated) → IsLed m start s n x ts
       → steps m s y ≡ (t, new) → l ≡ end_after n new → IsLed m start t l (x ++ y) (ts ++ triples_of new)
   led-on s t n l x y ts new h e p = record {
     statements = h.statements ++ new;
@@ -31,18 +31,18 @@ module _ {S : Type 0} (m : Machine S ℕ Stated Ending) (start : S) where
   }
 
   -- what is said of a text that goes on
-  pub led-said : (s : S) (n : ℕ) (x y : List ℕ) (ts : List Statement) → (h : IsLed m start s n x ts)
+  pub led-said : (s : S) (n : ℕ) (x y : List I) (ts : List Statement) → (h : IsLed m start s n x ts)
       → rest m start (x ++ y) ≡ joined h.statements (rest m s y)
   led-said s n x y ts h = rest-append m start x y ∙ ap (λ (u : S × List Stated). joined u.1 (rest m u.0 y)) h.run
 
   -- what was given is a front of what is said
-  pub led-begun : (s : S) (n : ℕ) (x : List ℕ) (ts : List Statement) → IsLed m start s n x ts
-      → (y : List ℕ) → Begins (triples_of (rest m start (x ++ y)).0) ts
+  pub led-begun : (s : S) (n : ℕ) (x : List I) (ts : List Statement) → IsLed m start s n x ts
+      → (y : List I) → Begins (triples_of (rest m start (x ++ y)).0) ts
   led-begun s n x ts h y = (triples_of (rest m s y).0, ap (λ (r : Said). triples_of r.0) (led-said s n x y ts h) ∙ triples_of-append h.statements (rest m s y).0 ∙ ap (λ z. z ++ triples_of (rest m s y).0) (sym h.given))
 
   -- what was given are the triples of the complete statements, where the text may go on so that nothing more is said
-  pub led-settled : (s : S) (n : ℕ) (x : List ℕ) (ts : List Statement) → IsLed m start s n x ts
-      → (y : List ℕ) → (rest m s y).0 ≡ [] → AreSettled (λ z. triples_of (rest m start z).0) x ts
+  pub led-settled : (s : S) (n : ℕ) (x : List I) (ts : List Statement) → IsLed m start s n x ts
+      → (y : List I) → (rest m s y).0 ≡ [] → AreSettled (λ z. triples_of (rest m start z).0) x ts
   led-settled s n x ts h y silent = record {
     stay = led-begun s n x ts h;
     are_all = λ more f.
@@ -52,17 +52,17 @@ module _ {S : Type 0} (m : Machine S ℕ Stated Ending) (start : S) where
   }
 
   -- a machine that says nothing more and ends so
-  pub led-fails : (e : Ending) (s : S) (n : ℕ) (x y : List ℕ) (ts : List Statement) → (h : IsLed m start s n x ts)
+  pub led-fails : (e : Ending) (s : S) (n : ℕ) (x y : List I) (ts : List Statement) → (h : IsLed m start s n x ts)
       → rest m s y ≡ ([], e) → rest m start (x ++ y) ≡ (h.statements, e)
   led-fails e s n x y ts h p = led-said s n x y ts h ∙ ap (joined h.statements) p ∙ ap (λ z. (z, e)) (append-nil h.statements)
 
   -- it breaks the grammar behind the last statement that was given
-  pub led-breaks : (s : S) (n : ℕ) (x y : List ℕ) (ts : List Statement) → IsLed m start s n x ts
+  pub led-breaks : (s : S) (n : ℕ) (x y : List I) (ts : List Statement) → IsLed m start s n x ts
       → rest m s y ≡ ([], Syntax) → IsBroken (rest m start (x ++ y)) n
   led-breaks s n x y ts h p =
       let e = led-fails Syntax s n x y ts h p in
       record { broken = ap (λ (r : Said). r.1) e; place = h.place ∙ ap (λ (r : Said). end_after 0 r.0) (sym e) }
 
-  pub led-exceeds : (s : S) (n : ℕ) (x y : List ℕ) (ts : List Statement) → IsLed m start s n x ts
+  pub led-exceeds : (s : S) (n : ℕ) (x y : List I) (ts : List Statement) → IsLed m start s n x ts
       → rest m s y ≡ ([], TooLong) → (rest m start (x ++ y)).1 ≡ TooLong
   led-exceeds s n x y ts h p = ap (λ (r : Said). r.1) (led-fails TooLong s n x y ts h p)

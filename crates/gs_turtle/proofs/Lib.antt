@@ -1,11 +1,6 @@
-pub mod BackLemmas
-pub mod FollowLemmas
-pub mod ForthLemmas
-pub mod StatementLemmas
-pub mod DocumentLemmas
-pub mod WalkLemmas
-pub mod GoalLemmas
-pub mod MachineLemmas
-pub mod ReaderLemmas
-mod Examples
-mod MoreExamples
+pub mod QuietLemmas
+pub mod PortionLemmas
+pub mod SaidLemmas
+pub mod HistoryLemmas
+pub mod PieceLemmas
+pub mod BodyLemmas

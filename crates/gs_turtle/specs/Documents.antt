@@ -1,64 +1,24 @@
--- Turtle's statements and documents (25 February 2014, section 6.5), each with just the tokens that it spans.
-use Rattle.std.specs.Prelude.{◌≡◌, ℕ, List, [], ◌∷◌, ◌++◌, codes, map, Some, Ok}
-use Rattle.std.specs.FinMap as finite
-use Rattle.gs_model.specs.Terms.{Term, Blank}
-use Rattle.gs_model.specs.Triples.{Statement}
-use Rattle.gs_lex.specs.Tokens.{Lexeme}
-use Rattle.gs_blank.specs.Numbers.{Numbers, one_more, no_numbers}
-use Rattle.gs_body.specs.Bodies.{Stated}
-use Rattle.gs_turtle.specs.Symbols.{Word, Reference, Namespace, Symbol, AWord, At, Open, Close, OpenList, Dot, PrefixWord, BaseWord, symbols_of}
-use Rattle.gs_turtle.specs.Meanings.{Context, subject, with_prefix, with_base}
-use Rattle.gs_turtle.specs.Goals.{Verbs, Begun, next}
-use Rattle.gs_turtle.specs.Rules.{Covers}
+-- What a body of Turtle says (25 February 2014, section 6.5): the statements of its tokens, up to the first fault.
+use Rattle.std.specs.Prelude.{ℕ, false, List}
+use Rattle.gs_lex.specs.Tokens as lexer
+use Rattle.gs_lex.specs.Tokens.{IsCut, Lexeme}
+use Rattle.gs_lex.specs.Cuts.{cut_of}
+use Rattle.gs_body.specs.Bodies.{Said, Stated, Whole, Syntax}
+use Rattle.gs_document.specs.Documents.{IsDocument}
+use Rattle.gs_document.specs.Program.{document}
 
--- [6] triples, and the numbers behind them
-pub data AreTriples (env : Context) (n : Numbers) : List Symbol → List Statement → Numbers → Type 0 where
-  -- [10] subject: an IRI or a label
-  word : {k l : Numbers} {s v : Term} (w : Word) {xs : List Symbol} {T : List Statement} → subject env n w ≡ Ok (s, k)
-      → Covers env (Verbs 0 s) k xs v T l → AreTriples env n (AWord w ∷ xs) T l
-  -- [162s] ANON
-  anon : {l : Numbers} {v : Term} {xs : List Symbol} {T : List Statement}
-      → Covers env (Verbs 0 (Blank env.request (next n))) (one_more n) xs v T l → AreTriples env n (Open ∷ Close ∷ xs) T l
-  -- [15] collection
-  list : {k l : Numbers} {s v : Term} {xs ys : List Symbol} {T U : List Statement} → Covers env (Begun 1) n xs s T k
-      → Covers env (Verbs 0 s) k ys v U l → AreTriples env n (OpenList ∷ xs ++ ys) (T ++ U) l
-  -- [14] blankNodePropertyList, alone or with a predicateObjectList
-  properties : {k : Numbers} {v : Term} {xs : List Symbol} {T : List Statement}
-      → Covers env (Verbs 1 (Blank env.request (next n))) (one_more n) xs v T k → AreTriples env n (Open ∷ xs ++ Close ∷ []) T k
-  properties_and : {k l : Numbers} {v w : Term} {xs ys : List Symbol} {T U : List Statement}
-      → Covers env (Verbs 1 (Blank env.request (next n))) (one_more n) xs v T k
-      → Covers env (Verbs 0 (Blank env.request (next n))) k ys w U l → AreTriples env n (Open ∷ xs ++ Close ∷ ys) (T ++ U) l
+-- Behind the tokens the text ends, or has a fault that is none of theirs: no token, or no character.
+abbrev pub ended_by : lexer.Ending → Said → Said
+ended_by lexer.Whole d = d
+ended_by (lexer.Fault n) (ss, Whole) = (ss, Syntax)
+ended_by (lexer.Fault n) (ss, e) = (ss, e)
 
--- triples of a statement whose dot ends there
-abbrev pub stated : ℕ → List Statement → List Stated
-stated end T = map (λ t. record { triple = t; end = end }) T
+-- what a text says under the base b in the request r
+unfoldable pub said_by : List ℕ → ℕ → List ℕ → Said
+said_by b r x = let c = cut_of false x in ended_by c.1 (document b r c.0)
 
--- [2] statement: what it states, and the context and the numbers for the next one
-pub data IsStatement (env : Context) (n : Numbers) : List Symbol → List Stated → Context → Numbers → Type 0 where
-  -- [4] prefixID
-  prefix : {next : Context} (x p i : List ℕ) (end : ℕ) → x ≡ codes "@prefix" → with_prefix env p i ≡ Some next
-      → IsStatement env n (At x ∷ AWord (Namespace p) ∷ AWord (Reference i) ∷ Dot end ∷ []) [] next n
-  -- [5] base
-  base : {next : Context} (x i : List ℕ) (end : ℕ) → x ≡ codes "@base" → with_base env i ≡ Some next
-      → IsStatement env n (At x ∷ AWord (Reference i) ∷ Dot end ∷ []) [] next n
-  -- [6s] sparqlPrefix
-  prefix_word : {next : Context} (p i : List ℕ) → with_prefix env p i ≡ Some next
-      → IsStatement env n (PrefixWord ∷ AWord (Namespace p) ∷ AWord (Reference i) ∷ []) [] next n
-  -- [5s] sparqlBase
-  base_word : {next : Context} (i : List ℕ) → with_base env i ≡ Some next → IsStatement env n (BaseWord ∷ AWord (Reference i) ∷ []) [] next n
-  triples : {k : Numbers} {xs : List Symbol} {T : List Statement} (end : ℕ) → AreTriples env n xs T k
-      → IsStatement env n (xs ++ Dot end ∷ []) (stated end T) env k
-
--- [1] turtleDoc: statement after statement, each in the context that the ones before it leave
-pub data AreStatements : Context → Numbers → List Symbol → List Stated → Type 0 where
-  nothing : (env : Context) (n : Numbers) → AreStatements env n [] []
-  statement : {env next : Context} {n k : Numbers} {xs ys : List Symbol} {S R : List Stated} → IsStatement env n xs S next k
-      → AreStatements next k ys R → AreStatements env n (xs ++ ys) (S ++ R)
-
--- no prefix is declared, and no blank node is numbered
-abbrev pub start : List ℕ → ℕ → Context
-start b r = record { base = b; prefixes = finite.empty; request = r }
-
--- the tokens of a document, and the triples that it states under this base and in this request
-abbrev pub IsDocument : List ℕ → ℕ → List Lexeme → List Stated → Type 0
-IsDocument b r ts S = AreStatements (start b r) no_numbers (symbols_of ts) S
+-- The text x is cut into the tokens of a document that states these triples under the base b in the request r.
+pub record IsBody (b : List ℕ) (r : ℕ) (x : List ℕ) (triples : List Stated) : Type 0 where
+  pub lexemes : List Lexeme
+  pub cut : IsCut false x lexemes lexer.Whole
+  pub stated : IsDocument b r lexemes triples

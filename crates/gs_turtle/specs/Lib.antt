@@ -1,11 +1,4 @@
--- Read in this order: the symbols of the grammar, the terms that they mean, the rules, the program that reads by them, and
--- the machine.
-pub mod Symbols
-pub mod Meanings
-pub mod Goals
-pub mod Rules
+-- Read in this order: what a body says, what tokens do to a parser, and where a reader stands.
 pub mod Documents
-pub mod Reading
-pub mod Program
-pub mod States
-pub mod Machine
+pub mod Portions
+pub mod Readers

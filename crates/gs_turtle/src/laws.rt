@@ -1,27 +1,10 @@
-//! Laws of the definitions, proved: the body is empty, and the contract is the law.
+//! A law of the definition, proved: the body is empty, and the contract is the law.
 ghost use Rattle.std.specs.Prelude.{◌≡◌, ◌↔◌, ℕ, List};
-ghost use Rattle.gs_lex.specs.Tokens.{Lexeme};
 ghost use Rattle.gs_body.specs.Bodies.{Stated, Whole};
-ghost use Rattle.gs_blank.specs.Numbers.{no_numbers};
-ghost use Rattle.gs_machine.specs.Machines.{rest};
-ghost use Rattle.gs_turtle.specs.Symbols.{symbols_of};
-ghost use Rattle.gs_turtle.specs.Documents.{IsDocument, start};
-ghost use Rattle.gs_turtle.specs.Program.{document};
-ghost use Rattle.gs_turtle.specs.States.{Between};
-ghost use Rattle.gs_turtle.specs.Machine.{turtle};
+ghost use Rattle.gs_turtle.specs.Documents.{IsBody, said_by};
 
-/// The plain program finds what the grammar's rules say of a list of tokens, and nothing else.
-pub fn document_is_read()
-    ensures { (base : List ℕ) (request : ℕ) (ts : List Lexeme) (triples : List Stated) → (IsDocument base request ts triples ↔ (document base request ts ≡ (triples, Whole))) }
-{}
-
-/// Tokens have at most one meaning: the triples that they state are determined.
-pub fn document_has_one_meaning()
-    ensures { (base : List ℕ) (request : ℕ) (ts : List Lexeme) (triples others : List Stated) → IsDocument base request ts triples → IsDocument base request ts others → triples ≡ others }
-{}
-
-/// The machine that takes symbol by symbol tells of a list of tokens what the plain program says:
-/// the triples of the statements before the first fault, and which fault that is.
-pub fn machine_tells_the_document()
-    ensures { (base : List ℕ) (request : ℕ) (ts : List Lexeme) → rest turtle (Between (start base request) no_numbers) (symbols_of ts) ≡ document base request ts }
+/// A body has no fault and states these triples exactly where its tokens, each the longest at its
+/// place, are those of a document that states them.
+pub fn body_is_read()
+    ensures { (b : List ℕ) (r : ℕ) (x : List ℕ) (triples : List Stated) → ((said_by b r x ≡ (triples, Whole)) ↔ IsBody b r x triples) }
 {}

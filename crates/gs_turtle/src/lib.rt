@@ -1,8 +1,11 @@
-//! Turtle: what a document means.
+//! Bodies of Turtle, read in pieces that are cut anywhere.
 #![tactic(auto)]
 
 mod laws;
-mod limits;
+mod portions;
+mod readers;
+#[cfg(test)]
+mod tests;
 
-pub use laws::{document_has_one_meaning, document_is_read, machine_tells_the_document};
-pub use limits::DEEPEST;
+pub use laws::body_is_read;
+pub use readers::TurtleReader;

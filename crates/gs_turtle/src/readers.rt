@@ -1,0 +1,140 @@
+//! The reader.
+ghost use Rattle.std.specs.Prelude.{◌≡◌, ◌≢◌, [], false, true, OnOk, OnErr, IfOk, IfErr, List, ℕ};
+ghost use Rattle.gs_model.specs.Iris.{is_absolute};
+
+use crate::portions::{break_off, conclude, go_on};
+use gs_body::BodyReader;
+use gs_lex::{Lexer, Token};
+use gs_model::Refusal;
+use gs_parse::Parser;
+use gs_term::Triple;
+use std::alloc::{AllocError, Global};
+
+/// The most bytes of a piece that are cut into tokens at once, so that the tokens of a long piece
+/// never stand in memory together.
+const PORTION: usize = 4096;
+
+/// Reads a body of Turtle (25 February 2014) that comes in any pieces.
+#[derive(Drop)]
+pub struct TurtleReader {
+    request: u64,
+    base: String,
+    lexer: Lexer,
+    tokens: Vec<Token>,
+    parser: Parser,
+    is_closed: bool,
+}
+
+impl TurtleReader {
+    ghost use Rattle.gs_machine.specs.Machines.{Begins};
+    ghost use Rattle.gs_body.specs.Feeding.{Finishes};
+    ghost use Rattle.gs_turtle.specs.Documents.{said_by};
+    ghost use Rattle.gs_turtle.specs.Readers.{LeadsTo, said_of, Keeps, Reads, IsRefused, IsRefusedAtEnd};
+
+    /// A reader at the start of the body of the request of this number, under an absolute base.
+    pub fn new(alloc: Global, request: u64, base: &str) -> Result<TurtleReader, AllocError>
+        requires { is_absolute base.now ≡ true }
+        ensures fresh { IfOk result (λ r. ⟦<TurtleReader as BodyReader>⟧.Leads r [] []) }
+        ensures unread { IfOk result (λ r. ⟦<TurtleReader as BodyReader>⟧.is_closed r ≡ false) }
+        ensures said { IfOk result (λ r. (x : List ℕ) → ⟦<TurtleReader as BodyReader>⟧.said r x ≡ said_by base.now request x) }
+    {
+        Ok(TurtleReader {
+            request,
+            base: String::from_str(alloc, base)?,
+            lexer: Lexer::new(alloc, false),
+            tokens: Vec::new(alloc),
+            parser: Parser::new(alloc, base, request)?,
+            is_closed: false,
+        })
+    }
+
+    /// The next portion, and its fault.
+    fn take_portion(&mut self, portion: &[u8], triples: &mut Vec<Triple>) -> Result<(), Refusal>
+        ensures ok { OnOk result (Reads self.old self.new portion.now triples.old.items triples.new.items) }
+        ensures err { OnErr result (Begins triples.new.items triples.old.items) }
+        ensures fault { IfErr result (IsRefused self.old portion.now) }
+        ensures told { IfErr result (λ e. e ≢ Refusal.Closed) }
+        ensures kept { Keeps self.old self.new }
+    {
+        self.tokens.clear();
+        match self.lexer.feed(portion, &mut self.tokens) {
+            Ok(()) => go_on(&mut self.parser, &self.tokens, triples),
+            Err(Refusal::Syntax(_)) => Err(break_off(&mut self.parser, &self.tokens, triples)),
+            // An open lexer is refused for nothing but a fault and memory.
+            Err(_) => Err(Refusal::NoMemory),
+        }
+    }
+
+    /// The next piece, and its fault.
+    fn take_piece(&mut self, piece: &[u8], triples: &mut Vec<Triple>) -> Result<(), Refusal>
+        ensures ok { OnOk result (Reads self.old self.new piece.now triples.old.items triples.new.items) }
+        ensures err { OnErr result (Begins triples.new.items triples.old.items) }
+        ensures fault { IfErr result (IsRefused self.old piece.now) }
+        ensures told { IfErr result (λ e. e ≢ Refusal.Closed) }
+        ensures kept { Keeps self.old self.new }
+    {
+        let mut rest = piece;
+        while rest.len() > PORTION {
+            let (portion, behind) = rest.split_at(PORTION);
+            self.take_portion(portion, triples)?;
+            rest = behind;
+        }
+        self.take_portion(rest, triples)
+    }
+
+    /// The text ends.
+    fn take_end(&mut self, triples: &mut Vec<Triple>) -> Result<(), Refusal>
+        ensures ok { OnOk result (Finishes said_of LeadsTo self.old triples.old.items triples.new.items) }
+        ensures err { OnErr result (Begins triples.new.items triples.old.items) }
+        ensures fault { IfErr result (IsRefusedAtEnd self.old) }
+        ensures told { IfErr result (λ e. e ≢ Refusal.Closed) }
+    {
+        self.tokens.clear();
+        match self.lexer.finish(&mut self.tokens) {
+            Ok(()) => conclude(&mut self.parser, &self.tokens, triples),
+            Err(Refusal::Syntax(_)) => Err(break_off(&mut self.parser, &self.tokens, triples)),
+            Err(_) => Err(Refusal::NoMemory),
+        }
+    }
+}
+
+impl BodyReader for TurtleReader {
+    ghost use Rattle.gs_turtle.specs.Readers.{LeadsTo, said_of};
+
+    ghost said = { λ r x. said_of r x };
+
+    ghost Leads = { λ r x ts. LeadsTo r x ts };
+
+    ghost is_closed = { λ r. r.is_closed };
+
+    fn feed(&mut self, piece: &[u8], triples: &mut Vec<Triple>) -> Result<(), Refusal> {
+        if self.is_closed {
+            return Err(Refusal::Closed);
+        }
+        let before = triples.len();
+        match self.take_piece(piece, triples) {
+            Ok(()) => Ok(()),
+            Err(refusal) => {
+                self.is_closed = true;
+                triples.truncate(before);
+                Err(refusal)
+            }
+        }
+    }
+
+    fn finish(&mut self, triples: &mut Vec<Triple>) -> Result<(), Refusal> {
+        if self.is_closed {
+            return Err(Refusal::Closed);
+        }
+        let before = triples.len();
+        let ended = self.take_end(triples);
+        self.is_closed = true;
+        match ended {
+            Ok(()) => Ok(()),
+            Err(refusal) => {
+                triples.truncate(before);
+                Err(refusal)
+            }
+        }
+    }
+}
