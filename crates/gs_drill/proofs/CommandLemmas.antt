@@ -59,7 +59,7 @@ seat_says x word rest s a before behind seat says =
 pub number_cut : (x rest : List ℕ) (n : ℕ) → x ≡ numeral n ++ 32 ∷ rest → split_first 32 x ≡ (numeral n, rest)
 number_cut x rest n parts = ap (split_first 32) parts ∙ split_first-other 32 (numeral n) rest (other-numeral 32 refl n)
 
-seat_cut : (x : List ℕ) (s : ℕ) (a : Action) (b : Behind (numeral s ++ 32 ∷ []) (SaysAction a) x) → split_first 32 x ≡ (numeral s, b.rest)
+pub seat_cut : (x : List ℕ) (s : ℕ) (a : Action) (b : Behind (numeral s ++ 32 ∷ []) (SaysAction a) x) → split_first 32 x ≡ (numeral s, b.rest)
 seat_cut x s a b = number_cut x b.rest s (b.parts ∙ append_assoc (numeral s) (32 ∷ []) b.rest)
 
 pub seat_word_none : (x word : List ℕ) → word ≡ (split_first 32 x).0 → ((n : ℕ) → ¬ SaysNumber 65535 n word) → (s : ℕ) (a : Action) → (s ≤ 65535) × Behind (numeral s ++ 32 ∷ []) (SaysAction a) x → ⊥

@@ -15,64 +15,65 @@ use Rattle.gs_event.specs.Views.{View, SeatView, Totals, Fits, FitsSeat, next_vi
 use Rattle.gs_event.specs.Waste.{Shown, Reclaims}
 use Rattle.gs_drill.specs.declared.bodies.Body.{Body}
 use Rattle.gs_drill.specs.declared.bodies.Body.TheVariants as body
+use Rattle.gs_drill.specs.declared.openings.Opening.{Opening}
 use Rattle.gs_drill.specs.declared.uploads.Uploads.{Uploads}
 use Rattle.gs_drill.specs.Feeds.{Fed, Unfed, Answers, with_fed, fed_after, is_turn}
-use Rattle.gs_drill.specs.Standing.{AreFed, Standing, desk_of, request_of}
-use Rattle.gs_drill.specs.Turns.{turned, requests_after, bodies_after}
+use Rattle.gs_drill.specs.Standing.{AreFed, Standing, desk_of, opening_of}
+use Rattle.gs_drill.specs.Turns.{opened_by, turned, openings_after, bodies_after}
 use Rattle.gs_drill.proofs.SeatLemmas.{set_same, AreFed-unfed}
 
--- the request of a seat after an answer
-request_turned : Option ℕ → Answer → Option ℕ
-request_turned o (Opened r) = Some r
-request_turned o (Status s name) = None
-request_turned o Cancelled = None
-request_turned o a = o
+-- the opening of a seat after an answer
+opening_turned : Option Opening → Action → Answer → Option Opening
+opening_turned o action (Opened r) = Some (opened_by action r)
+opening_turned o action (Status s name) = None
+opening_turned o action Cancelled = None
+opening_turned o action a = o
 
-pinned_none : (b : Bool) (left : List (List ℕ)) → None ≡ request_of (cond b (Reading left) Idle)
+pinned_none : (b : Bool) (left : List (List ℕ)) → None ≡ opening_of (cond b (Reading left) Idle)
 pinned_none true left = refl
 pinned_none false left = refl
 
-told_none : (b : Bool) (left : List (List ℕ)) → None ≡ request_of (cond b Idle (Reading left))
+told_none : (b : Bool) (left : List (List ℕ)) → None ≡ opening_of (cond b Idle (Reading left))
 told_none true left = refl
 told_none false left = refl
 
--- the phase that is next has the request that the answer leaves
-request_next : (t : Totals) (p : SeatView) (action : Action) (a : Answer) → FitsSeat t p action a → request_turned (request_of p) a ≡ request_of (next_phase t p action a)
-unfolding request_turned
-request_next t Idle (Open k) (Opened r) fits = refl
-request_next t Idle action (Opened r) fits = absurd fits
-request_next t (Writing k r g) Commit (Opened q) fits = absurd fits
-request_next t (Writing k r g) action (Opened q) fits = absurd fits
-request_next t (Reading left) Cancel (Opened r) fits = absurd fits
-request_next t (Reading left) action (Opened r) fits = absurd fits
-request_next t (Writing k r g) Commit (Status s name) fits = refl
-request_next t (Writing k r g) Cancel Cancelled fits = refl
-request_next t (Writing k r g) action (Status s name) fits = absurd fits
-request_next t (Writing k r g) action Cancelled fits = absurd fits
-request_next t Idle (Pin x) (Pinned s) fits = pinned_none (nat_eq s 200) _
-request_next t (Reading left) (Piece n) (Lines b end) fits = told_none end _
-request_next t p action a fits = refl
+-- the phase that is next has the opening that the answer leaves
+opening_next : (t : Totals) (p : SeatView) (action : Action) (a : Answer) → FitsSeat t p action a → opening_turned (opening_of p) action a ≡ opening_of (next_phase t p action a)
+unfolding opening_turned
+opening_next t Idle (Open k) (Opened r) fits = refl
+opening_next t Idle action (Opened r) fits = absurd fits
+opening_next t (Writing k r g) Commit (Opened q) fits = absurd fits
+opening_next t (Writing k r g) action (Opened q) fits = absurd fits
+opening_next t (Reading left) Cancel (Opened r) fits = absurd fits
+opening_next t (Reading left) action (Opened r) fits = absurd fits
+opening_next t (Writing k r g) Commit (Status s name) fits = refl
+opening_next t (Writing k r g) Cancel Cancelled fits = refl
+opening_next t (Writing k r g) action (Status s name) fits = absurd fits
+opening_next t (Writing k r g) action Cancelled fits = absurd fits
+opening_next t Idle (Pin x) (Pinned s) fits = pinned_none (nat_eq s 200) _
+opening_next t (Reading left) (Piece n) (Lines b end) fits = told_none end _
+opening_next t p action a fits = refl
 
-turned_at : (rs : List (Option ℕ)) (s : ℕ) (a : Answer) (o : Option ℕ) → slice_get rs s ≡ Some o → turned rs s a ≡ slice_set rs s (request_turned o a)
-unfolding request_turned
-turned_at rs s (Opened r) o is = refl
-turned_at rs s (Status status name) o is = refl
-turned_at rs s Cancelled o is = refl
-turned_at rs s a o is = sym (set_same rs s o is)
+turned_at : (os : List (Option Opening)) (s : ℕ) (action : Action) (a : Answer) (o : Option Opening) → slice_get os s ≡ Some o → turned os s action a ≡ slice_set os s (opening_turned o action a)
+unfolding opening_turned
+turned_at os s action (Opened r) o is = refl
+turned_at os s action (Status status name) o is = refl
+turned_at os s action Cancelled o is = refl
+turned_at os s action a o is = sym (set_same os s o is)
 
 turned_if : (v : View) (s : ℕ) (action : Action) (a : Answer) (o : Option SeatView) → slice_get v.seats s ≡ o → MatchOption o (a ≡ Refused BadSeat) (λ p. FitsSeat v.totals p action a)
-    → turned (map request_of v.seats) s a ≡ map request_of (next_if v s o action a).seats
-turned_if v s action a None is fits = ap (turned (map request_of v.seats) s) fits
+    → turned (map opening_of v.seats) s action a ≡ map opening_of (next_if v s o action a).seats
+turned_if v s action a None is fits = ap (turned (map opening_of v.seats) s action) fits
 turned_if v s action a (Some p) is fits =
-    let here : slice_get (map request_of v.seats) s ≡ Some (request_of p) = slice_get-map request_of v.seats s ∙ ap (option_map request_of) is in
-    turned_at (map request_of v.seats) s a (request_of p) here
-    ∙ ap (slice_set (map request_of v.seats) s) (request_next v.totals p action a fits)
-    ∙ sym (map-set request_of v.seats s (next_phase v.totals p action a))
+    let here : slice_get (map opening_of v.seats) s ≡ Some (opening_of p) = slice_get-map opening_of v.seats s ∙ ap (option_map opening_of) is in
+    turned_at (map opening_of v.seats) s action a (opening_of p) here
+    ∙ ap (slice_set (map opening_of v.seats) s) (opening_next v.totals p action a fits)
+    ∙ sym (map-set opening_of v.seats s (next_phase v.totals p action a))
 
--- the requests after an answer are those of the next view
-requests_next : (v : View) (event : Event) (a : Answer) → Fits v event a → requests_after (map request_of v.seats) event a ≡ map request_of (next_view v event a).seats
-requests_next v (Reclaim n) a fits = refl
-requests_next v (At s action) a fits = turned_if v s action a (slice_get v.seats s) refl fits
+-- the openings after an answer are those of the next view
+openings_next : (v : View) (event : Event) (a : Answer) → Fits v event a → openings_after (map opening_of v.seats) event a ≡ map opening_of (next_view v event a).seats
+openings_next v (Reclaim n) a fits = refl
+openings_next v (At s action) a fits = turned_if v s action a (slice_get v.seats s) refl fits
 
 bodies_if : (b : Bool) (bs : List Body) (s : ℕ) (fed : ℕ → Fed) → AreFed bs fed → AreFed (cond b (slice_set bs s body.Unfed) bs) (cond b (with_fed fed s Unfed) fed)
 bodies_if true bs s fed all = AreFed-unfed bs s fed all
@@ -86,25 +87,25 @@ bodies_length : (b : Bool) (bs : List Body) (s : ℕ) → length (cond b (slice_
 bodies_length true bs s = length-set bs s body.Unfed
 bodies_length false bs s = refl
 
-turned_length : (rs : List (Option ℕ)) (s : ℕ) (a : Answer) → length (turned rs s a) ≡ length rs
-turned_length rs s (Opened r) = length-set rs s (Some r)
-turned_length rs s (Status status name) = length-set rs s None
-turned_length rs s Cancelled = length-set rs s None
-turned_length rs s a = refl
+turned_length : (os : List (Option Opening)) (s : ℕ) (action : Action) (a : Answer) → length (turned os s action a) ≡ length os
+turned_length os s action (Opened r) = length-set os s (Some (opened_by action r))
+turned_length os s action (Status status name) = length-set os s None
+turned_length os s action Cancelled = length-set os s None
+turned_length os s action a = refl
 
-lengths_next : (bs : List Body) (rs : List (Option ℕ)) (event : Event) (a : Answer) → length bs ≡ length rs → length (bodies_after bs event a) ≡ length (requests_after rs event a)
-lengths_next bs rs (Reclaim n) a even = even
-lengths_next bs rs (At s action) a even = bodies_length (is_turn a) bs s ∙ even ∙ sym (turned_length rs s a)
+lengths_next : (bs : List Body) (os : List (Option Opening)) (event : Event) (a : Answer) → length bs ≡ length os → length (bodies_after bs event a) ≡ length (openings_after os event a)
+lengths_next bs os (Reclaim n) a even = even
+lengths_next bs os (At s action) a even = bodies_length (is_turn a) bs s ∙ even ∙ sym (turned_length os s action a)
 
 -- the uploads follow an answer
 pub follows : (old new : Shown) (u w : Uploads) (event : Event) (a : Answer) → Fits old.view event a → new.view ≡ next_view old.view event a → Reclaims old.waste event a new.waste
-    → w.requests.items ≡ requests_after u.requests.items event a → w.bodies.items ≡ bodies_after u.bodies.items event a
+    → w.openings.items ≡ openings_after u.openings.items event a → w.bodies.items ≡ bodies_after u.bodies.items event a
     → (st : Standing old u) → (en : Standing new w) × Answers (desk_of st) event a (desk_of en)
-follows old new u w event a fits view waste requests bodies st =
+follows old new u w event a fits view waste openings bodies st =
     let P : List Body → Type 0 = λ z. AreFed z (fed_after st.fed event a) in
     let en : Standing new w = record {
       fed = fed_after st.fed event a;
-      requests = requests ∙ ap (λ z. requests_after z event a) st.requests ∙ requests_next old.view event a fits ∙ ap (λ (v : View). map request_of v.seats) (sym view);
+      openings = openings ∙ ap (λ z. openings_after z event a) st.openings ∙ openings_next old.view event a fits ∙ ap (λ (v : View). map opening_of v.seats) (sym view);
       bodies = subst P (sym bodies) (bodies_next u.bodies.items event a st.fed st.bodies);
-      even = ap length bodies ∙ lengths_next u.bodies.items u.requests.items event a st.even ∙ ap length (sym requests);
+      even = ap length bodies ∙ lengths_next u.bodies.items u.openings.items event a st.even ∙ ap length (sym openings);
     } in (en, record { fits = fits; view = view; waste = waste; fed = refl })

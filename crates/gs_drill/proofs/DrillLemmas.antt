@@ -19,7 +19,7 @@ says_in_range Nothing x says = tt
 says_in_range (Begin a b c) x says = (says.says.some, says.says.most, says.says.commit_left, says.says.request_left)
 says_in_range (Ask event) x says = tt
 says_in_range Count x says = tt
-says_in_range (Feed seat y) x says = tt
+says_in_range (Feed seat l y) x says = tt
 says_in_range (Cut n) x says = tt
 
 -- the first line, and the rest of the input

@@ -1,5 +1,5 @@
 -- Feeds and commits, from what the store and the uploads do.
-use Rattle.std.proofs.Common.{◌≡◌, ◌≢◌, ◌<◌, ℕ, List, [], ◌∷◌, length, Option, Some, None, MatchOption, option_map, refl, sym, ap, ◌∙◌, subst, Vec, Global}
+use Rattle.std.proofs.Common.{◌≡◌, ◌≢◌, ◌<◌, ℕ, true, false, List, [], ◌∷◌, length, Option, Some, None, is_some, MatchOption, option_map, refl, sym, ap, ◌∙◌, subst, Vec, Global}
 use Rattle.std.specs.List.{slice_get}
 use Rattle.std.proofs.lemmas.Option.{slice_get-map, slice_get_within}
 use Rattle.gs_model.specs.Triples.{Statement}
@@ -13,11 +13,13 @@ use Rattle.gs_event.specs.Phases.{Idle, Writing, Reading}
 use Rattle.gs_event.specs.Views.{SeatView}
 use Rattle.gs_event.specs.Waste.{Shown}
 use Rattle.gs_drill.specs.declared.bodies.Body.{Body}
+use Rattle.gs_drill.specs.declared.languages.Language.{Language}
+use Rattle.gs_drill.specs.declared.openings.Opening.{Opening}
 use Rattle.gs_drill.specs.declared.uploads.Uploads.{Uploads}
 use Rattle.gs_drill.specs.Printing.{answer_text, fed_text}
 use Rattle.gs_drill.specs.Feeds.{Fed, Desk, Answers, Accepts, Stages, FeedsUpload, FeedsSeat, RefusesFeed, Feeds, with_fed, feed_text}
 use Rattle.gs_drill.specs.Commits.{Closes, Commits, CommitsBy, Completes, Concludes}
-use Rattle.gs_drill.specs.Standing.{AreFed, Standing, desk_of, request_of}
+use Rattle.gs_drill.specs.Standing.{AreFed, Standing, desk_of, opening_of, context_of}
 
 -- nothing is staged
 pub stages_none : (d : Desk) (s : ℕ) (given : List Statement) → given ≡ [] → Stages d s given Staged d
@@ -32,24 +34,25 @@ pub stages_some : (d e : Desk) (s : ℕ) (v : Vec Triple Global) (a : Answer) �
 stages_some d e s v a some answers = stages_by d e s v a v.items refl some answers
 
 -- the uploads, once a text was fed to a seat
-abbrev fed_standing : (shown : Shown) (u w : Uploads) (st : Standing shown u) (s : ℕ) (f : Fed) → w.requests.items ≡ u.requests.items → length w.bodies.items ≡ length u.bodies.items → AreFed w.bodies.items (with_fed st.fed s f) → Standing shown w
-fed_standing shown u w st s f requests lengths all = record {
+abbrev fed_standing : (shown : Shown) (u w : Uploads) (st : Standing shown u) (s : ℕ) (f : Fed) → w.openings.items ≡ u.openings.items → length w.bodies.items ≡ length u.bodies.items → AreFed w.bodies.items (with_fed st.fed s f) → Standing shown w
+fed_standing shown u w st s f openings lengths all = record {
   fed = with_fed st.fed s f;
-  requests = requests ∙ st.requests;
+  openings = openings ∙ st.openings;
   bodies = all;
-  even = lengths ∙ st.even ∙ ap length (sym requests);
+  even = lengths ∙ st.even ∙ ap length (sym openings);
 }
 
 -- a text is fed to an upload
-pub feeds_upload : (old new : Shown) (u m w : Uploads) (r s : ℕ) (y : List ℕ) (given : List Statement) (a : Answer) (text : List ℕ) → slice_get u.requests.items s ≡ Some (Some r)
-    → m.requests.items ≡ u.requests.items → length m.bodies.items ≡ length u.bodies.items
-    → ((fed : ℕ → Fed) → AreFed u.bodies.items fed → s < length u.bodies.items → (f : Fed) × AreFed m.bodies.items (with_fed fed s f) × Accepts r (fed s) y given f)
+pub feeds_upload : (old new : Shown) (u m w : Uploads) (l : Language) (s : ℕ) (y : List ℕ) (given : List Statement) (a : Answer) (text : List ℕ)
+    → m.openings.items ≡ u.openings.items → length m.bodies.items ≡ length u.bodies.items
+    → ((o : Opening) → slice_get u.openings.items s ≡ Some (Some o)
+    → (fed : ℕ → Fed) → AreFed u.bodies.items fed → s < length u.bodies.items → (f : Fed) × AreFed m.bodies.items (with_fed fed s f) × Accepts (context_of l o) (fed s) y given f)
     → ((st : Standing old m) → (en : Standing new w) × Stages (desk_of st) s given a (desk_of en)) → text ≡ feed_text a
-    → (st : Standing old u) → (en : Standing new w) × FeedsUpload r (desk_of st) s y text (desk_of en)
-feeds_upload old new u m w r s y given a text there requests lengths feeds stages told st =
+    → (o : Opening) → slice_get u.openings.items s ≡ Some (Some o) → (st : Standing old u) → (en : Standing new w) × FeedsUpload (context_of l o) (desk_of st) s y text (desk_of en)
+feeds_upload old new u m w l s y given a text openings lengths feeds stages told o there st =
     let P : ℕ → Type 0 = λ n. s < n in
-    let f = feeds st.fed st.bodies (subst P (sym st.even) (slice_get_within u.requests.items s (Some r) there)) in
-    let en = stages (fed_standing old u m st s f.0 requests lengths f.1) in
+    let f = feeds o there st.fed st.bodies (subst P (sym st.even) (slice_get_within u.openings.items s (Some o) there)) in
+    let en = stages (fed_standing old u m st s f.0 openings lengths f.1) in
     (en.0, record { given = given; fed = f.0; accepts = f.2; answer = a; staged = en.1; told = told })
 
 pub staged_text : (a : Answer) → a ≡ Staged → fed_text ≡ feed_text a
@@ -59,23 +62,38 @@ pub refusal_text : (a : Answer) → a ≢ Staged → answer_text a ≡ feed_text
 refusal_text Staged other = absurd (other refl)
 refusal_text a other = refl
 
--- the rows of a feed by the request of the seat
-abbrev pub FeedsRow : Option (Option ℕ) → Desk → ℕ → List ℕ → List ℕ → Desk → Type 0
-FeedsRow None d s y text e = RefusesFeed BadSeat d text e
-FeedsRow (Some None) d s y text e = RefusesFeed WrongPhase d text e
-FeedsRow (Some (Some r)) d s y text e = FeedsUpload r d s y text e
+-- the rows of a feed by what opened the upload of the seat
+abbrev pub FeedsRow : Option (Option Opening) → Desk → ℕ → Language → List ℕ → List ℕ → Desk → Type 0
+FeedsRow None d s l y text e = RefusesFeed BadSeat d text e
+FeedsRow (Some None) d s l y text e = RefusesFeed WrongPhase d text e
+FeedsRow (Some (Some o)) d s l y text e = FeedsUpload (context_of l o) d s y text e
 
-by_phase : (q : Option SeatView) (d : Desk) (s : ℕ) (y text : List ℕ) (e : Desk) → FeedsRow (option_map request_of q) d s y text e → MatchOption q (RefusesFeed BadSeat d text e) (λ p. FeedsSeat p d s y text e)
-by_phase None d s y text e h = h
-by_phase (Some Idle) d s y text e h = h
-by_phase (Some (Writing k r g)) d s y text e h = h
-by_phase (Some (Reading left)) d s y text e h = h
+by_phase : (q : Option SeatView) (d : Desk) (s : ℕ) (l : Language) (y text : List ℕ) (e : Desk) → FeedsRow (option_map opening_of q) d s l y text e → MatchOption q (RefusesFeed BadSeat d text e) (λ p. FeedsSeat p d s l y text e)
+by_phase None d s l y text e h = h
+by_phase (Some Idle) d s l y text e h = h
+by_phase (Some (Writing k r g)) d s l y text e h = h
+by_phase (Some (Reading left)) d s l y text e h = h
 
-pub feeds_by : (shown : Shown) (u : Uploads) (st : Standing shown u) (s : ℕ) (y text : List ℕ) (e : Desk) (o : Option (Option ℕ)) → slice_get u.requests.items s ≡ o → FeedsRow o (desk_of st) s y text e → Feeds (desk_of st) s y text e
-feeds_by shown u st s y text e o is row =
-    let P : Option (Option ℕ) → Type 0 = λ z. FeedsRow z (desk_of st) s y text e in
-    let same : o ≡ option_map request_of (slice_get shown.view.seats s) = sym is ∙ ap (λ z. slice_get z s) st.requests ∙ slice_get-map request_of shown.view.seats s in
-    by_phase (slice_get shown.view.seats s) (desk_of st) s y text e (subst P same row)
+pub feeds_by : (shown : Shown) (u : Uploads) (st : Standing shown u) (s : ℕ) (l : Language) (y text : List ℕ) (e : Desk) (o : Option (Option Opening)) → slice_get u.openings.items s ≡ o → FeedsRow o (desk_of st) s l y text e → Feeds (desk_of st) s l y text e
+feeds_by shown u st s l y text e o is row =
+    let P : Option (Option Opening) → Type 0 = λ z. FeedsRow z (desk_of st) s l y text e in
+    let same : o ≡ option_map opening_of (slice_get shown.view.seats s) = sym is ∙ ap (λ z. slice_get z s) st.openings ∙ slice_get-map opening_of shown.view.seats s in
+    by_phase (slice_get shown.view.seats s) (desk_of st) s l y text e (subst P same row)
+
+-- a seat that has no upload, or none that is there
+pub no_seat : (o : Option (Option Opening)) → option_map is_some o ≡ None → o ≡ None
+no_seat None is = refl
+no_seat (Some o) is = cc
+
+pub no_upload : (o : Option (Option Opening)) → option_map is_some o ≡ Some false → o ≡ Some None
+no_upload None is = cc
+no_upload (Some None) is = refl
+no_upload (Some (Some o)) is = cc
+
+pub some_upload : (o : Option (Option Opening)) → option_map is_some o ≡ Some true → (opening : Opening) × (o ≡ Some (Some opening))
+some_upload None is = absurd (cc)
+some_upload (Some None) is = absurd (cc)
+some_upload (Some (Some opening)) is = (opening, refl)
 
 concludes_other : (a : Answer) (d : Desk) (s : ℕ) → a ≢ Staged → Concludes a d s (answer_text a) d
 concludes_other Staged d s other = absurd (other refl)
@@ -108,11 +126,11 @@ ends_by old new s m given is ends fed all =
     (f.0, f.1, subst P is f.2)
 
 -- the text that was fed ends, and the upload is committed or given up
-pub commits : (old new : Shown) (u m w : Uploads) (s : ℕ) (given : Option (List Statement)) (text : List ℕ) → m.requests.items ≡ u.requests.items → length m.bodies.items ≡ length u.bodies.items
+pub commits : (old new : Shown) (u m w : Uploads) (s : ℕ) (given : Option (List Statement)) (text : List ℕ) → m.openings.items ≡ u.openings.items → length m.bodies.items ≡ length u.bodies.items
     → ((fed : ℕ → Fed) → AreFed u.bodies.items fed → (f : Fed) × AreFed m.bodies.items (with_fed fed s f) × Closes (fed s) given f)
     → ((st : Standing old m) → (en : Standing new w) × CommitsBy given (desk_of st) s text (desk_of en))
     → (st : Standing old u) → (en : Standing new w) × Commits (desk_of st) s text (desk_of en)
-commits old new u m w s given text requests lengths ends by st =
+commits old new u m w s given text openings lengths ends by st =
     let f = ends st.fed st.bodies in
-    let en = by (fed_standing old u m st s f.0 requests lengths f.1) in
+    let en = by (fed_standing old u m st s f.0 openings lengths f.1) in
     (en.0, record { given = given; fed = f.0; closes = f.2; commits = en.1 })

@@ -9,6 +9,7 @@ pub mod PlayLemmas
 pub mod RunLemmas
 pub mod BodyLemmas
 pub mod ReadingLemmas
+pub mod TextLemmas
 pub mod SeatLemmas
 pub mod DeskLemmas
 pub mod FeedLemmas

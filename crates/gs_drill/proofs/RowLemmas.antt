@@ -10,18 +10,12 @@ use Rattle.gs_event.specs.declared.events.Event.TheVariants.{Seat as At, Reclaim
 use Rattle.gs_drill.specs.declared.commands.Command.{Command}
 use Rattle.gs_drill.specs.declared.commands.Command.TheVariants.{Nothing, Begin, Ask, Count, Feed, Cut}
 use Rattle.gs_drill.specs.Found.{Finds, SaysNumber}
+use Rattle.gs_drill.specs.declared.languages.Language.{Language}
+use Rattle.gs_drill.specs.Feeds.{IsIn}
 use Rattle.gs_drill.specs.Drills.{State, IsLate}
-use Rattle.gs_drill.specs.Commands.{Says, SaysNothingAt, SaysStart, is_skipped}
-
-head_of : List ℕ → ℕ
-head_of [] = 0
-head_of (c ∷ cs) = c
-
-first_differs : (b c : ℕ) (xs ys : List ℕ) → (b == c) ≡ false → b ∷ xs ≡ c ∷ ys → ⊥
-unfolding head_of
-first_differs b c xs ys other e =
-    let alike : (b == c) ≡ true = eq-eqb b c (ap head_of e) in
-    let clash : false ≡ true = sym other ∙ alike in cc
+use Rattle.gs_drill.specs.Commands.{Says, SaysFeed, SaysNothingAt, SaysStart, is_skipped}
+use Rattle.gs_drill.proofs.WordLemmas.{first_differs}
+use Rattle.gs_drill.proofs.FeedLineLemmas.{feed_one, feed_no_event}
 
 tail_same : (c : ℕ) (xs ys : List ℕ) → c ∷ xs ≡ c ∷ ys → xs ≡ ys
 tail_same c xs ys e = cc
@@ -50,7 +44,7 @@ skipped_none x skipped other (Begin a b c) says = let clash : true ≡ false = s
 skipped_none x skipped other (Ask (At s action)) says = skipped_digit (numeral s) x says.1.rest (other-numeral 35 refl s) (sym skipped) says.1.parts
 skipped_none x skipped other (Ask (Reclaim n)) says = let clash : true ≡ false = skipped ∙ ap is_skipped says.parts in cc
 skipped_none x skipped other Count says = let clash : true ≡ false = skipped ∙ ap is_skipped says in cc
-skipped_none x skipped other (Feed s y) says = skipped_digit (numeral s) x says.1.rest (other-numeral 35 refl s) (sym skipped) says.1.parts
+skipped_none x skipped other (Feed s l y) says = skipped_digit (numeral s) x says.1.rest (other-numeral 35 refl s) (sym skipped) says.1.parts
 skipped_none x skipped other (Cut n) says = let clash : true ≡ false = skipped ∙ ap is_skipped says.parts in cc
 
 pub store_none : (x rest : List ℕ) → x ≡ codes "store " ++ rest → false ≡ is_skipped x → ((p : ℕ × ℕ × ℕ) → ¬ SaysStart p.0 p.1 p.2 rest) → (c : Command) → ¬ Says c x
@@ -62,7 +56,7 @@ store_none x rest e plain none (Begin a b c) says =
 store_none x rest e plain none (Ask (At s action)) says = other_first 115 (numeral s) (codes "tore " ++ rest) says.1.rest (other-numeral 115 refl s) refl (sym e ∙ says.1.parts)
 store_none x rest e plain none (Ask (Reclaim n)) says = first_differs 115 114 (codes "tore " ++ rest) (codes "eclaim " ++ says.rest) refl (sym e ∙ says.parts)
 store_none x rest e plain none Count says = first_differs 115 99 (codes "tore " ++ rest) (codes "ounts") refl (sym e ∙ says)
-store_none x rest e plain none (Feed s y) says = other_first 115 (numeral s) (codes "tore " ++ rest) says.1.rest (other-numeral 115 refl s) refl (sym e ∙ says.1.parts)
+store_none x rest e plain none (Feed s l y) says = other_first 115 (numeral s) (codes "tore " ++ rest) says.1.rest (other-numeral 115 refl s) refl (sym e ∙ says.1.parts)
 store_none x rest e plain none (Cut n) says = first_differs 115 99 (codes "tore " ++ rest) (codes "ut " ++ says.rest) refl (sym e ∙ says.parts)
 
 pub reclaim_none : (x rest : List ℕ) → x ≡ codes "reclaim " ++ rest → false ≡ is_skipped x → ((n : ℕ) → ¬ SaysNumber (2 ^ 64 - 1) n rest) → (c : Command) → ¬ Says c x
@@ -74,7 +68,7 @@ reclaim_none x rest e plain none (Ask (Reclaim n)) says =
     let same : says.rest ≡ rest = let f = says.parts in cc in
     none n (subst P same says.says)
 reclaim_none x rest e plain none Count says = first_differs 114 99 (codes "eclaim " ++ rest) (codes "ounts") refl (sym e ∙ says)
-reclaim_none x rest e plain none (Feed s y) says = other_first 114 (numeral s) (codes "eclaim " ++ rest) says.1.rest (other-numeral 114 refl s) refl (sym e ∙ says.1.parts)
+reclaim_none x rest e plain none (Feed s l y) says = other_first 114 (numeral s) (codes "eclaim " ++ rest) says.1.rest (other-numeral 114 refl s) refl (sym e ∙ says.1.parts)
 reclaim_none x rest e plain none (Cut n) says = first_differs 114 99 (codes "eclaim " ++ rest) (codes "ut " ++ says.rest) refl (sym e ∙ says.parts)
 
 pub cut_none : (x rest : List ℕ) → x ≡ codes "cut " ++ rest → false ≡ is_skipped x → ((n : ℕ) → ¬ SaysNumber (2 ^ 64 - 1) n rest) → (c : Command) → ¬ Says c x
@@ -83,7 +77,7 @@ cut_none x rest e plain none (Begin a b c) says = first_differs 99 115 (codes "u
 cut_none x rest e plain none (Ask (At s action)) says = other_first 99 (numeral s) (codes "ut " ++ rest) says.1.rest (other-numeral 99 refl s) refl (sym e ∙ says.1.parts)
 cut_none x rest e plain none (Ask (Reclaim n)) says = first_differs 99 114 (codes "ut " ++ rest) (codes "eclaim " ++ says.rest) refl (sym e ∙ says.parts)
 cut_none x rest e plain none Count says = first_differs 117 111 (codes "t " ++ rest) (codes "unts") refl (tail_same 99 (codes "ut " ++ rest) (codes "ounts") (sym e ∙ says))
-cut_none x rest e plain none (Feed s y) says = other_first 99 (numeral s) (codes "ut " ++ rest) says.1.rest (other-numeral 99 refl s) refl (sym e ∙ says.1.parts)
+cut_none x rest e plain none (Feed s l y) says = other_first 99 (numeral s) (codes "ut " ++ rest) says.1.rest (other-numeral 99 refl s) refl (sym e ∙ says.1.parts)
 cut_none x rest e plain none (Cut n) says =
     let P : List ℕ → Type 0 = λ y. SaysNumber (2 ^ 64 - 1) n y in
     let same : says.rest ≡ rest = let f = says.parts in cc in
@@ -108,7 +102,7 @@ other_none x is none (Begin a b c) says = is.no_store says.rest says.parts
 other_none x is none (Ask (At s action)) says = none.no_event s action says
 other_none x is none (Ask (Reclaim n)) says = is.no_reclaim says.rest says.parts
 other_none x is none Count says = is.no_counts says
-other_none x is none (Feed s y) says = none.no_feed s y.items says
+other_none x is none (Feed s l y) says = none.no_feed s l y.items says
 other_none x is none (Cut n) says = is.no_cut says.rest says.parts
 
 -- what a line says that begins with a seat's number
@@ -123,13 +117,31 @@ late_line s x rest e begun (Begin a b c) says = begun
 late_line s x rest e begun (Ask (At seat action)) says = other_first 115 (numeral seat) (codes "tore " ++ rest) says.1.rest (other-numeral 115 refl seat) refl (sym e ∙ says.1.parts)
 late_line s x rest e begun (Ask (Reclaim n)) says = first_differs 115 114 (codes "tore " ++ rest) (codes "eclaim " ++ says.rest) refl (sym e ∙ says.parts)
 late_line s x rest e begun Count says = first_differs 115 99 (codes "tore " ++ rest) (codes "ounts") refl (sym e ∙ says)
-late_line s x rest e begun (Feed seat y) says = other_first 115 (numeral seat) (codes "tore " ++ rest) says.1.rest (other-numeral 115 refl seat) refl (sym e ∙ says.1.parts)
+late_line s x rest e begun (Feed seat l y) says = absurd (other_first 115 (numeral seat) (codes "tore " ++ rest) says.1.rest (other-numeral 115 refl seat) refl (sym e ∙ says.1.parts))
 late_line s x rest e begun (Cut n) says = first_differs 115 99 (codes "tore " ++ rest) (codes "ut " ++ says.rest) refl (sym e ∙ says.parts)
+
+-- a seat's line says no other command than a seat's
+feed_first : (b : ℕ) (x y z : List ℕ) (s : ℕ) (l : Language) → (32 == b) ≡ false → AllOther b (numeral s) → x ≡ b ∷ z → ¬ SaysFeed s l y x
+feed_first b x y z s l space others e says = other_first b (numeral s) z says.1.rest others space (sym e ∙ says.1.parts)
+
+-- what says a feed in another language than before says no other command
+late_feed : (s : State) (x : List ℕ) (seat : ℕ) (l : Language) (y : List ℕ) → SaysFeed seat l y x → ¬ IsIn l (s.desk.fed seat) → (d : Command) → Says d x → IsLate s d
+late_feed s x seat l y feed late Nothing says = absurd (skipped_digit (numeral seat) x feed.1.rest (other-numeral 35 refl seat) says.0 feed.1.parts)
+late_feed s x seat l y feed late (Begin a b c) says = absurd (feed_first 115 x y (codes "tore " ++ says.rest) seat l refl (other-numeral 115 refl seat) says.parts feed)
+late_feed s x seat l y feed late (Ask (At t action)) says = feed_no_event x seat t l y action feed says
+late_feed s x seat l y feed late (Ask (Reclaim n)) says = feed_first 114 x y (codes "eclaim " ++ says.rest) seat l refl (other-numeral 114 refl seat) says.parts feed
+late_feed s x seat l y feed late Count says = feed_first 99 x y (codes "ounts") seat l refl (other-numeral 99 refl seat) says feed
+late_feed s x seat l y feed late (Feed t k z) says =
+    let one = feed_one x seat t l k y z.items feed says in
+    let P : ℕ → Type 0 = λ n. ¬ IsIn l (s.desk.fed n) in
+    let Q : Language → Type 0 = λ m. ¬ IsIn m (s.desk.fed t) in
+    subst Q one.1 (subst P one.0 late)
+late_feed s x seat l y feed late (Cut n) says = feed_first 99 x y (codes "ut " ++ says.rest) seat l refl (other-numeral 99 refl seat) says.parts feed
 
 pub late_none : (s : State) (c : Command) (x : List ℕ) → Says c x → IsLate s c → (d : Command) → Says d x → IsLate s d
 late_none s Nothing x says late d other = absurd late
 late_none s (Begin a b k) x says late d other = late_line s x says.rest says.parts late d other
 late_none s (Ask event) x says late d other = absurd late
 late_none s Count x says late d other = absurd late
-late_none s (Feed seat y) x says late d other = absurd late
+late_none s (Feed seat l y) x says late d other = late_feed s x seat l y.items says late d other
 late_none s (Cut n) x says late d other = absurd late

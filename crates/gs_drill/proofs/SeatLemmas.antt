@@ -10,7 +10,8 @@ use Rattle.gs_drill.specs.declared.bodies.Body.TheVariants as body
 use Rattle.gs_drill.specs.Feeds.{Fed, Unfed, Accepts, with_fed}
 use Rattle.gs_drill.specs.Commits.{Closes}
 use Rattle.gs_drill.specs.Standing.{IsFed, AreFed}
-use Rattle.gs_drill.proofs.ReadingLemmas.{FeedsBody, EndsBody}
+use Rattle.gs_drill.specs.Languages.{Context}
+use Rattle.gs_drill.proofs.TextLemmas.{FeedsBody, EndsBody}
 
 -- a list changed at one place
 pub set_own : {X : Type 0} (xs : List X) (s : ℕ) (x : X) → slice_get (slice_set xs s x) s ≡ option_map (λ _. x) (slice_get xs s)
@@ -77,10 +78,10 @@ there : (o : Option Body) (x b : Body) (f : Fed) → o ≡ Some x → IsFed b f 
 there o x b f is h = let P : Option Body → Type 0 = λ z. MatchOption z (f ≡ Unfed) (λ _. IsFed b f) in subst P (sym is) h
 
 -- the body of a seat is taken, fed and put back
-pub body_fed : (old mid new : List Body) (s : ℕ) (b c : Body) (request : ℕ) (y : List ℕ) (given : List Statement) → MatchOption (slice_get old s) (b ≡ body.Unfed) (λ x. b ≡ x) → mid ≡ slice_set old s body.Unfed
-    → FeedsBody b request y given c → new ≡ slice_set mid s c
-    → (fed : ℕ → Fed) → AreFed old fed → s < length old → (f : Fed) × AreFed new (with_fed fed s f) × Accepts request (fed s) y given f
-body_fed old mid new s b c request y given taken first feeds then fed all room =
+pub body_fed : (old mid new : List Body) (s : ℕ) (b c : Body) (k : Context) (y : List ℕ) (given : List Statement) → MatchOption (slice_get old s) (b ≡ body.Unfed) (λ x. b ≡ x) → mid ≡ slice_set old s body.Unfed
+    → FeedsBody b k y given c → new ≡ slice_set mid s c
+    → (fed : ℕ → Fed) → AreFed old fed → s < length old → (f : Fed) × AreFed new (with_fed fed s f) × Accepts k (fed s) y given f
+body_fed old mid new s b c k y given taken first feeds then fed all room =
     let g = feeds (fed s) (taken_at (slice_get old s) b (fed s) (all s) taken) in
     let own = there (slice_get old s) _ c g.0 (slice_get-get_or old s body.Unfed room) g.1 in
     let P : List Body → Type 0 = λ z. AreFed z (with_fed fed s g.0) in

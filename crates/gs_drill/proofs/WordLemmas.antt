@@ -1,6 +1,7 @@
 -- Words and numbers have one text.
-use Rattle.std.proofs.Common.{◌≡◌, ℕ, ◌^◌, ◌≤◌, ◌<◌, true, false, List, ◌++◌, length, length-append, take, sym, ap, ◌∙◌, arith}
+use Rattle.std.proofs.Common.{◌≡◌, ℕ, ◌^◌, ◌≤◌, ◌<◌, ◌==◌, true, false, List, [], ◌∷◌, ◌++◌, length, length-append, take, sym, ap, ◌∙◌, arith}
 use Rattle.std.proofs.Math.Seq.{take-append_seam}
+use Rattle.std.proofs.lemmas.Bool.{eq-eqb}
 use Rattle.std.proofs.lemmas.Slice.Eq.{bytes_eq-Decides}
 use Rattle.std.specs.Fmt.{decimal}
 use Rattle.std.specs.Str.{bytes_eq}
@@ -39,3 +40,14 @@ number_other text shown most n fits is shows other x says =
     let same : shown ≡ text = shows ∙ decimal_is_numeral n fits ∙ ap numeral e ∙ sym says.0 in
     let alike : bytes_eq shown text ≡ true = (bytes_eq-Decides shown text).1 same in
     let clash : false ≡ true = other ∙ alike in cc
+
+head_of : List ℕ → ℕ
+head_of [] = 0
+head_of (c ∷ cs) = c
+
+-- texts that begin with two characters are not the same
+pub first_differs : (b c : ℕ) (xs ys : List ℕ) → (b == c) ≡ false → b ∷ xs ≡ c ∷ ys → ⊥
+unfolding head_of
+first_differs b c xs ys other e =
+    let alike : (b == c) ≡ true = eq-eqb b c (ap head_of e) in
+    let clash : false ≡ true = sym other ∙ alike in cc

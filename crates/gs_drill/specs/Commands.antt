@@ -15,6 +15,8 @@ use Rattle.gs_event.specs.declared.events.Event.{Event}
 use Rattle.gs_event.specs.declared.events.Event.TheVariants.{Seat as At, Reclaim}
 use Rattle.gs_drill.specs.declared.commands.Command.{Command}
 use Rattle.gs_drill.specs.declared.commands.Command.TheVariants.{Nothing, Begin, Ask, Count, Feed, Cut}
+use Rattle.gs_drill.specs.declared.languages.Language.{Language}
+use Rattle.gs_drill.specs.declared.languages.Language.TheVariants.{NTriples, Turtle}
 use Rattle.gs_drill.specs.Found.{SaysNumber}
 
 abbrev pub before_first : ℕ → List (List ℕ) → List (List ℕ)
@@ -81,14 +83,19 @@ SaysEvent (Reclaim n) x = Behind (codes "reclaim ") (SaysNumber (2 ^ 64 - 1) n) 
 abbrev pub SaysText : List ℕ → List ℕ → Type 0
 SaysText y x = (y ≡ x ++ 10 ∷ []) × IsUtf8 x
 
+-- the words of a feed, by its language
+abbrev pub feed_words : Language → List ℕ
+feed_words NTriples = codes "feed nt "
+feed_words Turtle = codes "feed ttl "
+
 -- a seat's number, the language, and the text, which may be empty
-abbrev pub SaysFeed : ℕ → List ℕ → List ℕ → Type 0
-SaysFeed s y x = (s ≤ 2 ^ 16 - 1) × Behind (numeral s ++ 32 ∷ []) (Behind (codes "feed nt ") (SaysText y)) x
+abbrev pub SaysFeed : ℕ → Language → List ℕ → List ℕ → Type 0
+SaysFeed s l y x = (s ≤ 2 ^ 16 - 1) × Behind (numeral s ++ 32 ∷ []) (Behind (feed_words l) (SaysText y)) x
 
 -- the line is neither a seat's event nor a feed
 pub record SaysNothingAt (x : List ℕ) : Type 0 where
   pub no_event : (s : ℕ) (action : Action) → ¬ SaysEvent (At s action) x
-  pub no_feed : (s : ℕ) (y : List ℕ) → ¬ SaysFeed s y x
+  pub no_feed : (s : ℕ) (l : Language) (y : List ℕ) → ¬ SaysFeed s l y x
 
 -- how many seats, and the numbers of the last commit and of the last request
 pub record SaysStart (seats commit request : ℕ) (x : List ℕ) : Type 0 where
@@ -109,5 +116,5 @@ Says Nothing x = (is_skipped x ≡ true) × IsUtf8 x
 Says (Begin seats commit request) x = Behind (codes "store ") (SaysStart seats commit request) x
 Says (Ask event) x = SaysEvent event x
 Says Count x = x ≡ codes "counts"
-Says (Feed s y) x = SaysFeed s y.items x
+Says (Feed s l y) x = SaysFeed s l y.items x
 Says (Cut n) x = Behind (codes "cut ") (SaysNumber (2 ^ 64 - 1) n) x

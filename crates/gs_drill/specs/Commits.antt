@@ -1,13 +1,13 @@
 -- What an event does, and what a commit does to an upload to which texts were fed.
 use Rattle.std.specs.Prelude.{◌≡◌, ℕ, List, [], ◌++◌, Option, Some, None}
 use Rattle.gs_model.specs.Triples.{Statement}
-use Rattle.gs_body.specs.Bodies.{Whole, triples_of}
-use Rattle.gs_ntread.specs.Documents.{said_by}
+use Rattle.gs_body.specs.Bodies.{Said, Whole, triples_of}
 use Rattle.gs_event.specs.declared.events.Action.TheVariants.{Commit, Cancel}
 use Rattle.gs_event.specs.declared.events.Event.{Event}
 use Rattle.gs_event.specs.declared.events.Event.TheVariants.{Seat as At}
 use Rattle.gs_event.specs.declared.answers.Answer.{Answer}
 use Rattle.gs_event.specs.declared.answers.Answer.TheVariants.{Staged}
+use Rattle.gs_drill.specs.Languages.{said_of}
 use Rattle.gs_drill.specs.Printing.{answer_text, fault_text}
 use Rattle.gs_drill.specs.Feeds.{Fed, Unfed, InPart, Faulted, Finished, Desk, desk_with, Answers, Stages, IsFaulty}
 
@@ -17,14 +17,18 @@ pub record Asks (d : Desk) (event : Event) (text : List ℕ) (e : Desk) : Type 0
   pub answers : Answers d event answer e
   pub told : text ≡ answer_text answer
 
+-- a text has a meaning, which is these triples
+abbrev pub MeansAll : (List ℕ → Said) → List ℕ → List Statement → Type 0
+MeansAll said x ts = ((said x).1 ≡ Whole) × (triples_of (said x).0 ≡ ts)
+
 -- The text ends: with the triples that it then gives, if any, all that it means is given; or it has no meaning,
 -- and nothing is given. A text ends once.
 abbrev pub Closes : Fed → Option (List Statement) → Fed → Type 0
 Closes Unfed (Some given) f = (given ≡ []) × (f ≡ Unfed)
-Closes (InPart r x ts) (Some given) f = ((said_by r x).1 ≡ Whole) × (triples_of (said_by r x).0 ≡ ts ++ given) × (f ≡ Finished)
-Closes (InPart r x ts) None f = IsFaulty r x × (f ≡ Faulted)
-Closes Faulted None f = f ≡ Faulted
-Closes Finished (Some given) f = (given ≡ []) × (f ≡ Finished)
+Closes (InPart c x ts) (Some given) f = MeansAll (said_of c) x (ts ++ given) × (f ≡ Finished c.language)
+Closes (InPart c x ts) None f = IsFaulty (said_of c) x × (f ≡ Faulted c.language)
+Closes (Faulted l) None f = f ≡ Faulted l
+Closes (Finished l) (Some given) f = (given ≡ []) × (f ≡ Finished l)
 Closes f given g = ⊥
 
 -- the upload is given up, and the fault is printed in the place of the answer

@@ -9,7 +9,7 @@ use Rattle.gs_drill.specs.declared.commands.Command.{Command}
 use Rattle.gs_drill.specs.declared.commands.Command.TheVariants.{Nothing, Begin, Ask, Count, Feed, Cut}
 use Rattle.gs_drill.specs.Commands.{Says, lines_in}
 use Rattle.gs_drill.specs.Printing.{counts_text, no_command_text, WritesFront}
-use Rattle.gs_drill.specs.Feeds.{Unfed, Desk, Feeds}
+use Rattle.gs_drill.specs.Feeds.{Unfed, Desk, IsIn, Feeds}
 use Rattle.gs_drill.specs.Commits.{DoesEvent}
 
 -- between two lines: whether a command came before, in pieces of how many bytes texts are fed (0 is whole), what
@@ -35,13 +35,14 @@ drill_start seats commit request = record { seats = seats; setting = setting_of 
 abbrev pub first_state : State
 first_state = new_state false (drill_start 4 0 0)
 
--- what a command prints, and the state that it leaves: a store begins only before any other command
+-- what a command prints, and the state that it leaves: a store begins only before any other command, and an upload
+-- is fed in one language
 abbrev pub Does : State → Command → List ℕ → State → Type 0
 Does s Nothing text t = (text ≡ []) × (t ≡ s)
 Does s (Begin seats commit request) text t = (s.begun ≡ false) × (text ≡ []) × (t ≡ new_state true (drill_start seats commit request))
 Does s (Ask event) text t = (t.begun ≡ true) × (t.cut ≡ s.cut) × DoesEvent s.desk event text t.desk
 Does s Count text t = (t.begun ≡ true) × (t.cut ≡ s.cut) × (t.desk ≡ s.desk) × (text ≡ counts_text (nodes_in s.desk.shown) (triples_in s.desk.shown.view.totals.dataset))
-Does s (Feed seat y) text t = (t.begun ≡ true) × (t.cut ≡ s.cut) × Feeds s.desk seat y.items text t.desk
+Does s (Feed seat l y) text t = IsIn l (s.desk.fed seat) × (t.begun ≡ true) × (t.cut ≡ s.cut) × Feeds s.desk seat l y.items text t.desk
 Does s (Cut n) text t = (text ≡ []) × (t ≡ record { begun = true; cut = n; desk = s.desk })
 
 -- a line says a command, which is done
@@ -55,13 +56,14 @@ abbrev pub Plays : State → List (List ℕ) → List ℕ → State → Type 0
 Plays s [] text t = (text ≡ []) × (t ≡ s)
 Plays s (line ∷ lines) text t = (u : State) × (first : List ℕ) × (rest : List ℕ) × (text ≡ first ++ rest) × Takes s line first u × Plays u lines rest t
 
--- a line is no command where it stands: it says nothing, or it begins a store behind another command
+-- a line is no command where it stands: it says nothing, or it begins a store behind another command, or it feeds
+-- an upload in another language than before
 abbrev pub IsLate : State → Command → Type 0
 IsLate s Nothing = ⊥
 IsLate s (Begin seats commit request) = s.begun ≡ true
 IsLate s (Ask event) = ⊥
 IsLate s Count = ⊥
-IsLate s (Feed seat y) = ⊥
+IsLate s (Feed seat l y) = ¬ IsIn l (s.desk.fed seat)
 IsLate s (Cut n) = ⊥
 
 abbrev pub IsNoCommand : State → List ℕ → Type 0

@@ -1,4 +1,4 @@
--- What is fed to the upload of a seat: texts of N-Triples, by what they mean (`said_by` of gs_ntread).
+-- What is fed to the upload of a seat: texts, by what they mean (`said_by` of gs_ntread and of gs_turtle).
 use Rattle.std.specs.Prelude.{◌≡◌, ℕ, Bool, true, false, nat_eq, if◌then◌else◌, List, [], ◌∷◌, ◌++◌, MatchOption}
 use Rattle.std.specs.List.{slice_get}
 use Rattle.std.specs.Str.{IsUtf8}
@@ -6,8 +6,7 @@ use Rattle.gs_model.specs.Triples.{Statement}
 use Rattle.gs_model.specs.declared.refusals.Refusal.{Refusal}
 use Rattle.gs_model.specs.declared.refusals.Refusal.TheVariants.{BadSeat, WrongPhase}
 use Rattle.gs_machine.specs.Machines.{AreSettled, Begins}
-use Rattle.gs_body.specs.Bodies.{Whole, triples_of}
-use Rattle.gs_ntread.specs.Documents.{said_by}
+use Rattle.gs_body.specs.Bodies.{Said, Whole, triples_of}
 use Rattle.gs_event.specs.declared.events.Action.{Action}
 use Rattle.gs_event.specs.declared.events.Action.TheVariants.{Stage}
 use Rattle.gs_event.specs.declared.events.Event.{Event}
@@ -17,15 +16,24 @@ use Rattle.gs_event.specs.declared.answers.Answer.TheVariants.{Opened, Staged, S
 use Rattle.gs_event.specs.Phases.{Idle, Writing, Reading}
 use Rattle.gs_event.specs.Views.{SeatView, Fits, next_view}
 use Rattle.gs_event.specs.Waste.{Shown, Reclaims}
+use Rattle.gs_drill.specs.declared.languages.Language.{Language}
+use Rattle.gs_drill.specs.Languages.{Context, said_of, first_base}
 use Rattle.gs_drill.specs.Printing.{answer_text, fed_text}
 
--- What was fed to a seat: nothing; a text to the upload of request r, with the triples that were given so far;
--- a text that has a fault; or a whole text, of which all is given.
+-- What was fed to a seat: nothing; a text that is read so, with the triples that were given so far; a text of a
+-- language that has a fault; or a whole text, of which all is given.
 pub data Fed : Type 0 where
   Unfed : Fed
-  InPart : (r : ℕ) (x : List ℕ) (given : List Statement) → Fed
-  Faulted : Fed
-  Finished : Fed
+  InPart : (c : Context) (x : List ℕ) (given : List Statement) → Fed
+  Faulted : (l : Language) → Fed
+  Finished : (l : Language) → Fed
+
+-- nothing was fed yet, or it is in this language: all texts of an upload are in the language of the first
+abbrev pub IsIn : Language → Fed → Type 0
+IsIn l Unfed = Unit {0}
+IsIn l (InPart c x given) = c.language ≡ l
+IsIn l (Faulted k) = k ≡ l
+IsIn l (Finished k) = k ≡ l
 
 -- what the store shows, and what was fed to each seat
 pub record Desk : Type 0 where
@@ -69,39 +77,40 @@ abbrev pub Stages : Desk → ℕ → List Statement → Answer → Desk → Type
 Stages d s [] a e = (a ≡ Staged) × (e ≡ d)
 Stages d s (t ∷ ts) a e = (action : Action) × IsStage (t ∷ ts) action × Answers d (At s action) a e
 
--- The triples that a text gives so far: a front of what is said, however the text goes on; and where the text
--- so far ends between two characters, just the triples of its complete statements.
-pub record Gives (r : ℕ) (x : List ℕ) (given : List Statement) : Type 0 where
-  pub begun : (z : List ℕ) → Begins (triples_of (said_by r (x ++ z)).0) given
-  pub settled : IsUtf8 x → AreSettled (λ z. triples_of (said_by r z).0) x given
+-- The triples that a text gives so far, by what texts say: a front of what is said, however the text goes on; and
+-- where the text so far ends between two characters, just the triples of its complete statements.
+pub record Gives (said : List ℕ → Said) (x : List ℕ) (given : List Statement) : Type 0 where
+  pub begun : (z : List ℕ) → Begins (triples_of (said (x ++ z)).0) given
+  pub settled : IsUtf8 x → AreSettled (λ z. triples_of (said z).0) x given
 
 -- a text without a meaning
-abbrev pub IsFaulty : ℕ → List ℕ → Type 0
-IsFaulty r x = ¬ ((said_by r x).1 ≡ Whole)
+abbrev pub IsFaulty : (List ℕ → Said) → List ℕ → Type 0
+IsFaulty said x = ¬ ((said x).1 ≡ Whole)
 
 -- The text x, which gave ts, goes on by y and gives some triples more; or it has a fault, however it goes on.
-abbrev pub GoesOn : ℕ → List ℕ → List Statement → List ℕ → List Statement → Fed → Type 0
-GoesOn r x ts y given (InPart q z all) = (q ≡ r) × (z ≡ x ++ y) × (all ≡ ts ++ given) × Gives r z all
-GoesOn r x ts y given Faulted = (given ≡ []) × ((z : List ℕ) → IsFaulty r (x ++ y ++ z))
-GoesOn r x ts y given f = ⊥
+abbrev pub GoesOn : Context → List ℕ → List Statement → List ℕ → List Statement → Fed → Type 0
+GoesOn c x ts y given (InPart d z all) = (d ≡ c) × (z ≡ x ++ y) × (all ≡ ts ++ given) × Gives (said_of c) z all
+GoesOn c x ts y given (Faulted l) = (l ≡ c.language) × (given ≡ []) × ((z : List ℕ) → IsFaulty (said_of c) (x ++ y ++ z))
+GoesOn c x ts y given f = ⊥
 
--- What y gives to the upload of request r. Behind a fault, or behind the end of the text, it is dropped.
-abbrev pub Accepts : ℕ → Fed → List ℕ → List Statement → Fed → Type 0
-Accepts r Unfed y given f = GoesOn r [] [] y given f
-Accepts r (InPart q x ts) y given f = GoesOn q x ts y given f
-Accepts r Faulted y given f = (given ≡ []) × (f ≡ Faulted)
-Accepts r Finished y given f = (given ≡ []) × (f ≡ Finished)
+-- What y gives to an upload, whose first text is read as c says. Behind a fault, or behind the end of the text, it
+-- is dropped.
+abbrev pub Accepts : Context → Fed → List ℕ → List Statement → Fed → Type 0
+Accepts c Unfed y given f = GoesOn c [] [] y given f
+Accepts c (InPart d x ts) y given f = GoesOn d x ts y given f
+Accepts c (Faulted l) y given f = (given ≡ []) × (f ≡ Faulted l)
+Accepts c (Finished l) y given f = (given ≡ []) × (f ≡ Finished l)
 
 -- a refusal stands in the place of `fed`
 abbrev pub feed_text : Answer → List ℕ
 feed_text Staged = fed_text
 feed_text a = answer_text a
 
--- y is fed to the upload of request r, and what it gives is staged
-pub record FeedsUpload (r : ℕ) (d : Desk) (s : ℕ) (y text : List ℕ) (e : Desk) : Type 0 where
+-- y is fed to an upload, whose first text is read as c says, and what it gives is staged
+pub record FeedsUpload (c : Context) (d : Desk) (s : ℕ) (y text : List ℕ) (e : Desk) : Type 0 where
   pub given : List Statement
   pub fed : Fed
-  pub accepts : Accepts r (d.fed s) y given fed
+  pub accepts : Accepts c (d.fed s) y given fed
   pub answer : Answer
   pub staged : Stages (desk_with d s fed) s given answer e
   pub told : text ≡ feed_text answer
@@ -111,11 +120,11 @@ abbrev pub RefusesFeed : Refusal → Desk → List ℕ → Desk → Type 0
 RefusesFeed refusal d text e = (text ≡ answer_text (Refused refusal)) × (e ≡ d)
 
 -- the same by what the seat is doing
-abbrev pub FeedsSeat : SeatView → Desk → ℕ → List ℕ → List ℕ → Desk → Type 0
-FeedsSeat Idle d s y text e = RefusesFeed WrongPhase d text e
-FeedsSeat (Writing k r g) d s y text e = FeedsUpload r d s y text e
-FeedsSeat (Reading left) d s y text e = RefusesFeed WrongPhase d text e
+abbrev pub FeedsSeat : SeatView → Desk → ℕ → Language → List ℕ → List ℕ → Desk → Type 0
+FeedsSeat Idle d s l y text e = RefusesFeed WrongPhase d text e
+FeedsSeat (Writing k r g) d s l y text e = FeedsUpload (record { language = l; base = first_base k; request = r }) d s y text e
+FeedsSeat (Reading left) d s l y text e = RefusesFeed WrongPhase d text e
 
--- y is fed to seat s, which prints the text
-abbrev pub Feeds : Desk → ℕ → List ℕ → List ℕ → Desk → Type 0
-Feeds d s y text e = MatchOption (slice_get d.shown.view.seats s) (RefusesFeed BadSeat d text e) (λ p. FeedsSeat p d s y text e)
+-- y, in language l, is fed to seat s, which prints the text
+abbrev pub Feeds : Desk → ℕ → Language → List ℕ → List ℕ → Desk → Type 0
+Feeds d s l y text e = MatchOption (slice_get d.shown.view.seats s) (RefusesFeed BadSeat d text e) (λ p. FeedsSeat p d s l y text e)

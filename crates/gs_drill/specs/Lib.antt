@@ -3,6 +3,7 @@
 pub mod Found
 pub mod Commands
 pub mod Printing
+pub mod Languages
 pub mod Feeds
 pub mod Commits
 pub mod Drills

@@ -1,33 +1,71 @@
--- Where the code stands in a run: the store, and for each seat its request and its reader.
-use Rattle.std.specs.Prelude.{◌≡◌, ℕ, Bool, false, List, length, map, Option, None, Some, MatchOption, Result, Ok, Err}
+-- Where the code stands in a run: the store, and for each seat what opened its upload and the reader of its text.
+use Rattle.std.specs.Prelude.{◌≡◌, ℕ, Bool, false, List, ◌++◌, length, map, string_bytes, Option, None, Some, MatchOption, Result, Ok, Err}
 use Rattle.std.specs.List.{slice_get}
 use Rattle.gs_model.specs.Triples.{Statement}
 use Rattle.gs_model.specs.declared.refusals.Refusal.{Refusal}
 use Rattle.gs_model.specs.declared.refusals.Refusal.TheVariants.{NoMemory}
-use Rattle.gs_ntread.specs.Documents.{said_by}
-use Rattle.gs_ntread.specs.Readers.{LeadsTo}
+use Rattle.gs_body.specs.Bodies.{Said}
+use Rattle.gs_ntread.specs.Documents.{said_by as ntriples_said}
+use Rattle.gs_ntread.specs.Readers.{LeadsTo as NTriplesLeads}
 use Rattle.gs_ntread.specs.declared.reader.NTriplesReader.{NTriplesReader}
+use Rattle.gs_turtle.specs.Documents.{said_by as turtle_said}
+use Rattle.gs_turtle.specs.Readers.{LeadsTo as TurtleLeads}
+use Rattle.gs_turtle.specs.declared.readers.TurtleReader.{TurtleReader}
 use Rattle.gs_event.specs.Phases.{Idle, Writing, Reading}
 use Rattle.gs_event.specs.Views.{SeatView}
 use Rattle.gs_event.specs.Waste.{Shown}
 use Rattle.gs_drill.specs.declared.bodies.Body.{Body}
 use Rattle.gs_drill.specs.declared.bodies.Body.TheVariants as body
+use Rattle.gs_drill.specs.declared.languages.Language.{Language}
+use Rattle.gs_drill.specs.declared.languages.Language.TheVariants.{NTriples, Turtle}
+use Rattle.gs_drill.specs.declared.openings.Opening.{Opening}
 use Rattle.gs_drill.specs.declared.uploads.Uploads.{Uploads}
-use Rattle.gs_drill.specs.Feeds.{Fed, Unfed, InPart, Faulted, Finished, Desk}
+use Rattle.gs_drill.specs.Languages.{Context, said_of, base_under, target_of}
+use Rattle.gs_drill.specs.Feeds.{Fed, Unfed, InPart, Faulted, Finished, Desk, Gives, IsFaulty}
+use Rattle.gs_drill.specs.Commits.{MeansAll}
 use Rattle.gs_event.specs.Histories.{Start}
 use Rattle.gs_drill.specs.Drills.{State, new_state}
 
--- the request whose upload the seat has
-abbrev pub request_of : SeatView → Option ℕ
-request_of Idle = None
-request_of (Writing k r g) = Some r
-request_of (Reading left) = None
+-- what opened the upload that the seat has
+abbrev pub opening_of : SeatView → Option Opening
+opening_of Idle = None
+opening_of (Writing k r g) = Some (record { request = r; target = target_of k })
+opening_of (Reading left) = None
 
--- the reader has read x, has given ts, and goes on
-pub record HasRead (reader : NTriplesReader) (r : ℕ) (x : List ℕ) (ts : List Statement) : Type 0 where
-  pub leads : LeadsTo reader x ts
-  pub goes_on : reader.is_closed ≡ false
-  pub says : (z : List ℕ) → said_by reader.request z ≡ said_by r z
+-- how the first text of an upload is read
+abbrev pub context_of : Language → Opening → Context
+context_of l o = record { language = l; base = base_under o.target; request = o.request }
+
+-- By the words of its trait, the reader has read x, has given ts and goes on, and a text says to it what `means` has.
+pub record HasRead {R : Type 0} (said : R → List ℕ → Said) (Leads : R → List ℕ → List Statement → Type 0) (closed : R → Bool) (means : List ℕ → Said) (reader : R) (x : List ℕ) (ts : List Statement) : Type 0 where
+  pub leads : Leads reader x ts
+  pub goes_on : closed reader ≡ false
+  pub says : (z : List ℕ) → said reader z ≡ means z
+
+-- what a text says to each of the readers, as their `impl` of the trait has it
+abbrev pub ntriples_says : NTriplesReader → List ℕ → Said
+ntriples_says r x = ntriples_said r.request x
+
+abbrev pub turtle_says : TurtleReader → List ℕ → Said
+turtle_says r x = turtle_said (string_bytes r.base) r.request x
+
+-- whether each of them is closed
+abbrev pub ntriples_closed : NTriplesReader → Bool
+ntriples_closed r = r.is_closed
+
+abbrev pub turtle_closed : TurtleReader → Bool
+turtle_closed r = r.is_closed
+
+-- a text that gave ts goes on by y: the reader goes on, or the text has a fault
+abbrev pub ReadsOn : {R : Type 0} → (R → List ℕ → Said) → (R → List ℕ → List Statement → Type 0) → (R → Bool) → R → List ℕ → Option (R × List Statement) → Type 0
+ReadsOn said Leads closed reader y None = (means : List ℕ → Said) (x : List ℕ) (ts : List Statement) → HasRead said Leads closed means reader x ts → (z : List ℕ) → IsFaulty means (x ++ y ++ z)
+ReadsOn said Leads closed reader y (Some p) = (means : List ℕ → Said) (x : List ℕ) (ts : List Statement) → HasRead said Leads closed means reader x ts
+    → HasRead said Leads closed means p.0 (x ++ y) (ts ++ p.1) × Gives means (x ++ y) (ts ++ p.1)
+
+-- a text ends that gave ts: it has a meaning, or a fault
+abbrev pub ReadsEnd : {R : Type 0} → (R → List ℕ → Said) → (R → List ℕ → List Statement → Type 0) → (R → Bool) → R → Option (List Statement) → Type 0
+ReadsEnd said Leads closed reader None = (means : List ℕ → Said) (x : List ℕ) (ts : List Statement) → HasRead said Leads closed means reader x ts → IsFaulty means x
+ReadsEnd said Leads closed reader (Some given) = (means : List ℕ → Said) (x : List ℕ) (ts : List Statement) → HasRead said Leads closed means reader x ts → MeansAll means x (ts ++ given)
 
 -- what a reader gave, where its call was not refused; for want of memory nothing is heard
 abbrev pub Hears : {X : Type 0} → Result X Refusal → List Statement → Option (List Statement) → Type 0
@@ -35,12 +73,31 @@ Hears (Ok x) triples given = given ≡ Some triples
 Hears (Err NoMemory) triples given = ⊥
 Hears (Err e) triples given = given ≡ None
 
+-- a text was fed, or more than one
+abbrev pub IsBegun : Fed → Type 0
+IsBegun Unfed = ⊥
+IsBegun f = Unit {0}
+
+-- a body whose text ended: a whole text gave something, be it no triple
+abbrev pub finished_by : {X : Type 0} → Language → Option X → Body
+finished_by l None = body.Faulted l
+finished_by l (Some given) = body.Finished l
+
+-- the language of what was fed to the body, if anything was
+abbrev pub language_of : Body → Option Language
+language_of body.Unfed = None
+language_of (body.NTriples reader) = Some NTriples
+language_of (body.Turtle reader) = Some Turtle
+language_of (body.Faulted l) = Some l
+language_of (body.Finished l) = Some l
+
 -- what was fed to the body
 abbrev pub IsFed : Body → Fed → Type 0
 IsFed body.Unfed Unfed = Unit {0}
-IsFed (body.Reading reader) (InPart r x ts) = HasRead reader r x ts
-IsFed body.Faulted Faulted = Unit {0}
-IsFed body.Finished Finished = Unit {0}
+IsFed (body.NTriples reader) (InPart c x ts) = (c.language ≡ NTriples) × HasRead ntriples_says NTriplesLeads ntriples_closed (said_of c) reader x ts
+IsFed (body.Turtle reader) (InPart c x ts) = (c.language ≡ Turtle) × HasRead turtle_says TurtleLeads turtle_closed (said_of c) reader x ts
+IsFed (body.Faulted k) (Faulted l) = k ≡ l
+IsFed (body.Finished k) (Finished l) = k ≡ l
 IsFed b f = ⊥
 
 -- the same of each seat; nothing was fed to a seat that is not there
@@ -50,9 +107,9 @@ AreFed bs fed = (s : ℕ) → MatchOption (slice_get bs s) (fed s ≡ Unfed) (λ
 -- what was fed to the seats of a store that shows this
 pub record Standing (shown : Shown) (u : Uploads) : Type 0 where
   pub fed : ℕ → Fed
-  pub requests : u.requests.items ≡ map request_of shown.view.seats
+  pub openings : u.openings.items ≡ map opening_of shown.view.seats
   pub bodies : AreFed u.bodies.items fed
-  pub even : length u.bodies.items ≡ length u.requests.items
+  pub even : length u.bodies.items ≡ length u.openings.items
 
 -- the desk, and the state of the run, at which the code so stands
 abbrev pub desk_of : {shown : Shown} {u : Uploads} → Standing shown u → Desk

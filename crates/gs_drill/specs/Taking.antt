@@ -15,7 +15,7 @@ IsInRange Nothing = Unit {0}
 IsInRange (Begin seats commit request) = (1 ≤ seats) × (seats ≤ MOST_SEATS) × (commit ≤ LAST_NUMBER) × (request ≤ LAST_NUMBER)
 IsInRange (Ask event) = Unit {0}
 IsInRange Count = Unit {0}
-IsInRange (Feed seat y) = Unit {0}
+IsInRange (Feed seat l y) = Unit {0}
 IsInRange (Cut n) = Unit {0}
 
 -- a text is made and written

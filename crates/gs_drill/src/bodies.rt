@@ -2,15 +2,19 @@
 ghost use Rattle.std.specs.Prelude.{◌≡◌, ◌≢◌, ◌≤◌, ◌++◌, [], ℕ, List, Option, None, Some, option_map, true, false, IfOk, OnOk, IfErr};
 ghost use Rattle.gs_model.specs.Triples.{Statement};
 ghost use Rattle.gs_body.specs.Bodies.{Tells};
-ghost use Rattle.gs_body.specs.Feeding.{Feeds, Finishes};
-ghost use Rattle.gs_drill.specs.Feeds.{Fed, Accepts, GoesOn, Faulted};
+ghost use Rattle.gs_body.specs.Feeding.{Feeds};
+ghost use Rattle.gs_drill.specs.Languages.{Context};
+ghost use Rattle.gs_drill.specs.Feeds.{Fed, Accepts};
 ghost use Rattle.gs_drill.specs.Commits.{Closes};
-ghost use Rattle.gs_drill.specs.Standing.{HasRead, IsFed, Hears};
+ghost use Rattle.gs_drill.specs.Standing.{IsFed, Hears, ReadsOn, ReadsEnd, IsBegun, context_of, language_of, finished_by};
 
+use crate::languages::Language;
+use crate::openings::Opening;
 use gs_body::BodyReader;
 use gs_model::Refusal;
 use gs_ntread::NTriplesReader;
 use gs_term::Triple;
+use gs_turtle::TurtleReader;
 use std::alloc::{AllocError, Global};
 
 /// What was fed to the upload of a seat.
@@ -18,12 +22,14 @@ use std::alloc::{AllocError, Global};
 pub enum Body {
     /// Nothing, or there is no upload.
     Unfed,
-    /// A text that may go on.
-    Reading(NTriplesReader),
+    /// A text of N-Triples that may go on.
+    NTriples(NTriplesReader),
+    /// A text of Turtle that may go on.
+    Turtle(TurtleReader),
     /// A text that has a fault. What is fed behind it is dropped.
-    Faulted,
+    Faulted(Language),
     /// A whole text. What is fed behind it is dropped.
-    Finished,
+    Finished(Language),
 }
 
 /// How many bytes a piece has at most.
@@ -75,63 +81,92 @@ fn heard(
     }
 }
 
-/// A text goes on: what that gives, and where the body then stands.
-fn feed_reader(
+/// A text goes on: the reader and what that gives, or nothing where the text has a fault.
+fn feed_reader<R: BodyReader + Drop>(
     alloc: Global,
-    mut reader: NTriplesReader,
+    mut reader: R,
     text: &[u8],
     cut: u64,
-) -> Result<(Body, Vec<Triple>), AllocError>
-    ensures { IfOk result (λ p. (r : ℕ) (x : List ℕ) (ts : List Statement) → HasRead reader r x ts → (f : Fed) × IsFed p.0 f × GoesOn r x ts text.now p.1.items f) }
+) -> Result<Option<(R, Vec<Triple>)>, AllocError>
+    ensures { IfOk result (λ o. ReadsOn R.said R.Leads R.is_closed reader text.now (option_map (λ p. (p.0, p.1.items)) o)) }
 {
     let mut triples = Vec::new(alloc);
     let outcome = feed_pieces(&mut reader, text, cut, &mut triples);
-    match heard(outcome, triples) {
-        Ok(Some(given)) => Ok((Body::Reading(reader), given)),
-        Ok(None) => {
-            drop(reader);
-            Ok((Body::Faulted, Vec::new(alloc)))
-        }
-        Err(error) => {
-            drop(reader);
-            Err(error)
-        }
+    match heard(outcome, triples)? {
+        Some(given) => Ok(Some((reader, given))),
+        None => Ok(None),
     }
 }
 
-/// A text ends: what that gives, and where the body then stands.
-fn finish_reader(
+/// A text ends: what that gives, which is nothing where the text has a fault.
+fn finish_reader<R: BodyReader + Drop>(
     alloc: Global,
-    mut reader: NTriplesReader,
-) -> Result<(Body, Option<Vec<Triple>>), AllocError>
-    ensures { IfOk result (λ p. (r : ℕ) (x : List ℕ) (ts : List Statement) → HasRead reader r x ts → (f : Fed) × IsFed p.0 f × Closes (Fed.InPart r x ts) (option_map (λ ts. ts.items) p.1) f) }
+    mut reader: R,
+) -> Result<Option<Vec<Triple>>, AllocError>
+    ensures { IfOk result (λ given. ReadsEnd R.said R.Leads R.is_closed reader (option_map (λ ts. ts.items) given)) }
 {
     let mut triples = Vec::new(alloc);
     let outcome = reader.finish(&mut triples);
-    drop(reader);
-    match heard(outcome, triples) {
-        Ok(Some(given)) => Ok((Body::Finished, Some(given))),
-        Ok(None) => Ok((Body::Faulted, None)),
-        Err(error) => Err(error),
+    heard(outcome, triples)
+}
+
+/// A body whose text ended.
+fn finished(language: Language, given: Option<Vec<Triple>>) -> (Body, Option<Vec<Triple>>)
+    ensures body { result.0 ≡ finished_by language given }
+    ensures given { result.1 ≡ given }
+{
+    match given {
+        Some(triples) => (Body::Finished(language), Some(triples)),
+        None => (Body::Faulted(language), None),
     }
 }
 
 impl Body {
-    /// Feeds a text to the body of the request of this number: what that gives, and where the body then stands.
+    /// A text that begins, in the language of its first feed.
+    fn begin(alloc: Global, language: Language, opening: &Opening) -> Result<Body, AllocError>
+        ensures { IfOk result (λ body. IsFed body (Fed.InPart (context_of language opening.now) [] [])) }
+    {
+        let request = opening.request;
+        match language {
+            Language::NTriples => Ok(Body::NTriples(NTriplesReader::new(alloc, request))),
+            Language::Turtle => {
+                let reader = TurtleReader::new(alloc, request, opening.base())?;
+                Ok(Body::Turtle(reader))
+            }
+        }
+    }
+
+    /// Feeds a text to a body whose text began: what that gives, and where the body then stands.
+    fn go_on(self, alloc: Global, text: &[u8], cut: u64) -> Result<(Body, Vec<Triple>), AllocError>
+        ensures { IfOk result (λ p. (c : Context) (f : Fed) → IsFed self f → IsBegun f → (g : Fed) × IsFed p.0 g × Accepts c f text.now p.1.items g) }
+    {
+        match self {
+            Body::NTriples(reader) => match feed_reader(alloc, reader, text, cut)? {
+                Some((reader, given)) => Ok((Body::NTriples(reader), given)),
+                None => Ok((Body::Faulted(Language::NTriples), Vec::new(alloc))),
+            },
+            Body::Turtle(reader) => match feed_reader(alloc, reader, text, cut)? {
+                Some((reader, given)) => Ok((Body::Turtle(reader), given)),
+                None => Ok((Body::Faulted(Language::Turtle), Vec::new(alloc))),
+            },
+            body => Ok((body, Vec::new(alloc))),
+        }
+    }
+
+    /// Feeds a text to the body of an upload: what that gives, and where the body then stands.
     pub fn feed(
         self,
         alloc: Global,
-        request: u64,
+        language: Language,
+        opening: &Opening,
         text: &[u8],
         cut: u64,
     ) -> Result<(Body, Vec<Triple>), AllocError>
-        ensures { IfOk result (λ p. (f : Fed) → IsFed self f → (g : Fed) × IsFed p.0 g × Accepts request f text.now p.1.items g) }
+        ensures { IfOk result (λ p. (f : Fed) → IsFed self f → (g : Fed) × IsFed p.0 g × Accepts (context_of language opening.now) f text.now p.1.items g) }
     {
         match self {
-            Body::Unfed => feed_reader(alloc, NTriplesReader::new(alloc, request), text, cut),
-            Body::Reading(reader) => feed_reader(alloc, reader, text, cut),
-            Body::Faulted => Ok((Body::Faulted, Vec::new(alloc))),
-            Body::Finished => Ok((Body::Finished, Vec::new(alloc))),
+            Body::Unfed => Body::begin(alloc, language, opening)?.go_on(alloc, text, cut),
+            body => body.go_on(alloc, text, cut),
         }
     }
 
@@ -140,10 +175,26 @@ impl Body {
         ensures { IfOk result (λ p. (f : Fed) → IsFed self f → (g : Fed) × IsFed p.0 g × Closes f (option_map (λ ts. ts.items) p.1) g) }
     {
         match self {
-            Body::Reading(reader) => finish_reader(alloc, reader),
+            Body::NTriples(reader) => {
+                Ok(finished(Language::NTriples, finish_reader(alloc, reader)?))
+            }
+            Body::Turtle(reader) => Ok(finished(Language::Turtle, finish_reader(alloc, reader)?)),
             Body::Unfed => Ok((Body::Unfed, Some(Vec::new(alloc)))),
-            Body::Faulted => Ok((Body::Faulted, None)),
-            Body::Finished => Ok((Body::Finished, Some(Vec::new(alloc)))),
+            Body::Faulted(language) => Ok((Body::Faulted(language), None)),
+            Body::Finished(language) => Ok((Body::Finished(language), Some(Vec::new(alloc)))),
+        }
+    }
+
+    /// The language of what was fed, if anything was.
+    pub fn language(&self) -> Option<Language>
+        ensures { result ≡ language_of self.now }
+    {
+        match self {
+            Body::Unfed => None,
+            Body::NTriples(_) => Some(Language::NTriples),
+            Body::Turtle(_) => Some(Language::Turtle),
+            Body::Faulted(language) => Some(*language),
+            Body::Finished(language) => Some(*language),
         }
     }
 }

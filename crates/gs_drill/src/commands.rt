@@ -2,9 +2,11 @@
 ghost use Rattle.std.specs.Prelude.{◌≡◌, ◌≤◌, ◌^◌, ◌-◌, ◌++◌, ◌∷◌, [], List, ℕ, IfOk, MatchOption, codes};
 ghost use Rattle.gs_model.specs.Triples.{Statement};
 ghost use Rattle.gs_drill.specs.Found.{Finds, SaysNumber};
-ghost use Rattle.gs_drill.specs.Commands.{SaysName, SaysTarget, SaysKind, SaysTriple, SaysAction, SaysEvent, SaysText, SaysFeed, SaysNothingAt, SaysStart, Says, is_skipped as is_skipped_line};
+ghost use Rattle.gs_drill.specs.Commands.{SaysName, SaysTarget, SaysKind, SaysTriple, SaysAction, SaysEvent, SaysText, SaysFeed, SaysNothingAt, SaysStart, Says, feed_words, is_skipped as is_skipped_line};
 ghost use Rattle.gs_event.specs.declared.events.Action.{Action as AnAction};
+ghost use Rattle.gs_drill.specs.declared.languages.Language.{Language as ALanguage};
 
+use crate::languages::Language;
 use crate::lines::read_line;
 use crate::words::{behind, number, split};
 use gs_event::{Action, Event, Kind};
@@ -23,8 +25,8 @@ pub enum Command {
     Ask(Event),
     /// The nodes in use, and the triples of all graphs.
     Count,
-    /// A text for the upload of a seat: the rest of the line, and a line feed.
-    Feed(u16, Vec<u8>),
+    /// A text in a language for the upload of a seat: the rest of the line, and a line feed.
+    Feed(u16, Language, Vec<u8>),
     /// Texts are fed in pieces of so many bytes from here on; 0 is whole.
     Cut(u64),
 }
@@ -169,19 +171,32 @@ fn read_text(alloc: Global, rest: &[u8]) -> Result<Option<Vec<u8>>, AllocError>
     Ok(Some(text))
 }
 
+/// The language of a feed, and what stands behind its words.
+fn feed_language(action: &[u8]) -> Option<(Language, &[u8])>
+    ensures { MatchOption result ((l : ALanguage) (rest : List ℕ) → ¬ (action.now ≡ feed_words l ++ rest)) (λ p. action.now ≡ feed_words p.0 ++ p.1.now) }
+{
+    if let Some(rest) = behind(action, b"feed nt ") {
+        return Some((Language::NTriples, rest));
+    }
+    if let Some(rest) = behind(action, b"feed ttl ") {
+        return Some((Language::Turtle, rest));
+    }
+    None
+}
+
 /// A seat's number, a language, and a text in it.
-fn read_feed(alloc: Global, line: &[u8]) -> Result<Option<(u16, Vec<u8>)>, AllocError>
-    ensures { IfOk result (λ found. MatchOption found ((s : ℕ) (y : List ℕ) → ¬ (SaysFeed s y line.now)) (λ p. SaysFeed p.0 p.1.items line.now)) }
+fn read_feed(alloc: Global, line: &[u8]) -> Result<Option<(u16, Language, Vec<u8>)>, AllocError>
+    ensures { IfOk result (λ found. MatchOption found ((s : ℕ) (l : ALanguage) (y : List ℕ) → ¬ (SaysFeed s l y line.now)) (λ p. SaysFeed p.0 p.1 p.2.items line.now)) }
 {
     let (seat, action) = split(line, b' ');
     let Some(seat) = number(seat, 65_535) else {
         return Ok(None);
     };
-    let Some(rest) = behind(action, b"feed nt ") else {
+    let Some((language, rest)) = feed_language(action) else {
         return Ok(None);
     };
     match read_text(alloc, rest)? {
-        Some(text) => Ok(Some((seat as u16, text))),
+        Some(text) => Ok(Some((seat as u16, language, text))),
         None => Ok(None),
     }
 }
@@ -245,8 +260,8 @@ pub fn read_command(alloc: Global, line: &[u8]) -> Result<Option<Command>, Alloc
 fn read_at_seat(alloc: Global, line: &[u8]) -> Result<Option<Command>, AllocError>
     ensures { IfOk result (λ found. MatchOption found (SaysNothingAt line.now) (λ command. Says command line.now)) }
 {
-    if let Some((seat, text)) = read_feed(alloc, line)? {
-        return Ok(Some(Command::Feed(seat, text)));
+    if let Some((seat, language, text)) = read_feed(alloc, line)? {
+        return Ok(Some(Command::Feed(seat, language, text)));
     }
     match read_seat(alloc, line)? {
         Some(event) => Ok(Some(Command::Ask(event))),

@@ -13,6 +13,7 @@ ghost use Rattle.gs_drill.specs.Standing.{Standing, desk_of, state_of, Begins};
 
 use crate::commands::{Command, read_command};
 use crate::feeds::{answer, commit, feed};
+use crate::languages::Language;
 use crate::printing::{
     Reply, print_answer, print_counts, print_no_command, print_no_memory, print_reply,
 };
@@ -58,7 +59,8 @@ fn begin(alloc: Global, seats: u16, commit: u64, request: u64) -> Result<(Store,
     requires few { seats ≤ MOST_SEATS }
     requires last_commit { commit ≤ LAST_NUMBER }
     requires last_request { request ≤ LAST_NUMBER }
-    ensures { IfOk result (λ made. Begins made.0 made.1 (drill_start seats commit request)) }
+    ensures begins { IfOk result (λ made. Begins made.0 made.1 (drill_start seats commit request)) }
+    ensures refused { IfErr result (λ stop. stop ≡ Stop.NoMemory) }
 {
     let store = new_store(alloc, seats, commit, request)?;
     match Uploads::new(alloc, seats) {
@@ -71,10 +73,10 @@ fn begin(alloc: Global, seats: u16, commit: u64, request: u64) -> Result<(Store,
 fn ask<W: Write>(
     store: &mut Store,
     uploads: &mut Uploads,
-    event: &Event,
+    event: Event,
     out: &mut W,
 ) -> io::Result<()>
-    ensures does { (st : Standing store.old uploads.old) → Prints (λ text. (en : Standing store.new uploads.new) × Asks (desk_of st) event.now text (desk_of en)) (W.contents out.old) (W.contents out.new) result }
+    ensures does { (st : Standing store.old uploads.old) → Prints (λ text. (en : Standing store.new uploads.new) × Asks (desk_of st) event text (desk_of en)) (W.contents out.old) (W.contents out.new) result }
     ensures cut { uploads.new.cut ≡ uploads.old.cut }
 {
     let answer = answer(store, uploads, event);
@@ -106,13 +108,13 @@ fn do_event<W: Write>(
     alloc: Global,
     store: &mut Store,
     uploads: &mut Uploads,
-    event: &Event,
+    event: Event,
     out: &mut W,
 ) -> Result<(), Stop>
-    ensures does { (st : Standing store.old uploads.old) → Replies {T = Standing store.new uploads.new} desk_of (DoesEvent (desk_of st) event.now) (W.contents out.old) (W.contents out.new) result }
+    ensures does { (st : Standing store.old uploads.old) → Replies {T = Standing store.new uploads.new} desk_of (DoesEvent (desk_of st) event) (W.contents out.old) (W.contents out.new) result }
     ensures cut { uploads.new.cut ≡ uploads.old.cut }
 {
-    match committing(event) {
+    match committing(&event) {
         Some(seat) => match commit(alloc, store, uploads, seat) {
             Ok(reply) => tell(&reply, out),
             Err(_) => Err(Stop::NoMemory),
@@ -130,13 +132,14 @@ fn do_feed<W: Write>(
     store: &mut Store,
     uploads: &mut Uploads,
     seat: u16,
+    language: Language,
     text: &[u8],
     out: &mut W,
 ) -> Result<(), Stop>
-    ensures does { (st : Standing store.old uploads.old) → Replies {T = Standing store.new uploads.new} desk_of (Feeds (desk_of st) seat text.now) (W.contents out.old) (W.contents out.new) result }
+    ensures does { (st : Standing store.old uploads.old) → Replies {T = Standing store.new uploads.new} desk_of (Feeds (desk_of st) seat language text.now) (W.contents out.old) (W.contents out.new) result }
     ensures cut { uploads.new.cut ≡ uploads.old.cut }
 {
-    match feed(alloc, store, uploads, seat, text) {
+    match feed(alloc, store, uploads, seat, language, text) {
         Ok(reply) => tell(&reply, out),
         Err(_) => Err(Stop::NoMemory),
     }
@@ -158,11 +161,11 @@ fn do_command<W: Write>(
     begun: &mut bool,
     store: &mut Store,
     uploads: &mut Uploads,
-    command: &Command,
+    command: Command,
     out: &mut W,
 ) -> Result<(), Stop>
-    requires { IsInRange command.now }
-    ensures { (st : Standing store.old uploads.old) → DoesCommand (state_of begun.old st) command.now {T = Standing store.new uploads.new} (state_of begun.new) (W.contents out.old) (W.contents out.new) result }
+    requires { IsInRange command }
+    ensures { (st : Standing store.old uploads.old) → DoesCommand (state_of begun.old st) command {T = Standing store.new uploads.new} (state_of begun.new) (W.contents out.old) (W.contents out.new) result }
 {
     match command {
         Command::Nothing => Ok(()),
@@ -170,15 +173,11 @@ fn do_command<W: Write>(
             if *begun {
                 return Err(Stop::NoCommand);
             }
-            match begin(alloc, *seats, *commit, *request) {
-                Ok((made, idle)) => {
-                    *store = made;
-                    *uploads = idle;
-                    *begun = true;
-                    Ok(())
-                }
-                Err(_) => Err(Stop::NoMemory),
-            }
+            let (made, idle) = begin(alloc, seats, commit, request)?;
+            *store = made;
+            *uploads = idle;
+            *begun = true;
+            Ok(())
         }
         Command::Ask(event) => {
             *begun = true;
@@ -188,13 +187,16 @@ fn do_command<W: Write>(
             *begun = true;
             do_count(store, out)
         }
-        Command::Feed(seat, text) => {
+        Command::Feed(seat, language, text) => {
             *begun = true;
-            do_feed(alloc, store, uploads, *seat, text.as_slice(), out)
+            if !uploads.takes(seat, language) {
+                return Err(Stop::NoCommand);
+            }
+            do_feed(alloc, store, uploads, seat, language, text.as_slice(), out)
         }
         Command::Cut(length) => {
             *begun = true;
-            uploads.cut = *length;
+            uploads.cut = length;
             Ok(())
         }
     }
@@ -212,7 +214,7 @@ fn take_line<W: Write>(
     ensures { (st : Standing store.old uploads.old) → TakesLine (state_of begun.old st) line.now {T = Standing store.new uploads.new} (state_of begun.new) (W.contents out.old) (W.contents out.new) result }
 {
     match read_command(alloc, line) {
-        Ok(Some(command)) => do_command(alloc, begun, store, uploads, &command, out),
+        Ok(Some(command)) => do_command(alloc, begun, store, uploads, command, out),
         Ok(None) => Err(Stop::NoCommand),
         Err(_) => Err(Stop::NoMemory),
     }

@@ -1,11 +1,13 @@
 //! Events, feeds and commits: what they ask the store, and what they print.
 ghost use Rattle.std.specs.Prelude.{◌≡◌, Some, IfOk};
+ghost use Rattle.gs_drill.specs.declared.openings.Opening.{Opening as AnOpening};
 ghost use Rattle.std.specs.List.{slice_get};
 ghost use Rattle.gs_drill.specs.Printing.{reply_text};
 ghost use Rattle.gs_drill.specs.Feeds.{Answers, Stages, Feeds, FeedsUpload};
 ghost use Rattle.gs_drill.specs.Commits.{Commits, Asks, GivesUp, Completes};
-ghost use Rattle.gs_drill.specs.Standing.{Standing, desk_of};
+ghost use Rattle.gs_drill.specs.Standing.{Standing, desk_of, context_of};
 
+use crate::languages::Language;
 use crate::printing::Reply;
 use crate::uploads::Uploads;
 use gs_core::Store;
@@ -15,11 +17,11 @@ use gs_term::Triple;
 use std::alloc::{AllocError, Global};
 
 /// Asks the store, and follows its answer.
-pub fn answer(store: &mut Store, uploads: &mut Uploads, event: &Event) -> Answer
-    ensures does { (st : Standing store.old uploads.old) → (en : Standing store.new uploads.new) × Answers (desk_of st) event.now result (desk_of en) }
+pub fn answer(store: &mut Store, uploads: &mut Uploads, event: Event) -> Answer
+    ensures does { (st : Standing store.old uploads.old) → (en : Standing store.new uploads.new) × Answers (desk_of st) event result (desk_of en) }
     ensures cut { uploads.new.cut ≡ uploads.old.cut }
 {
-    let answer = store.step(event);
+    let answer = store.step(&event);
     uploads.follow(event, &answer);
     answer
 }
@@ -32,23 +34,22 @@ fn stage(store: &mut Store, uploads: &mut Uploads, seat: u16, given: Vec<Triple>
     if given.is_empty() {
         return Answer::Staged;
     }
-    answer(store, uploads, &Event::Seat(seat, Action::Stage(given)))
+    answer(store, uploads, Event::Seat(seat, Action::Stage(given)))
 }
 
-/// Feeds a text to the upload of this request, which the seat has.
+/// Feeds a text to the upload that the seat has.
 fn feed_upload(
     alloc: Global,
     store: &mut Store,
     uploads: &mut Uploads,
     seat: u16,
-    request: u64,
+    language: Language,
     text: &[u8],
 ) -> Result<Reply, AllocError>
-    requires { slice_get uploads.old.requests.items seat ≡ Some (Some request) }
-    ensures does { IfOk result (λ reply. (st : Standing store.old uploads.old) → (en : Standing store.new uploads.new) × FeedsUpload request (desk_of st) seat text.now (reply_text reply) (desk_of en)) }
+    ensures does { IfOk result (λ reply. (o : AnOpening) → slice_get uploads.old.openings.items seat ≡ Some (Some o) → (st : Standing store.old uploads.old) → (en : Standing store.new uploads.new) × FeedsUpload (context_of language o) (desk_of st) seat text.now (reply_text reply) (desk_of en)) }
     ensures cut { uploads.new.cut ≡ uploads.old.cut }
 {
-    let given = uploads.feed(alloc, seat, request, text)?;
+    let given = uploads.feed(alloc, seat, language, text)?;
     match stage(store, uploads, seat, given) {
         Answer::Staged => Ok(Reply::Taken),
         other => Ok(Reply::Answered(other)),
@@ -61,15 +62,16 @@ pub fn feed(
     store: &mut Store,
     uploads: &mut Uploads,
     seat: u16,
+    language: Language,
     text: &[u8],
 ) -> Result<Reply, AllocError>
-    ensures does { IfOk result (λ reply. (st : Standing store.old uploads.old) → (en : Standing store.new uploads.new) × Feeds (desk_of st) seat text.now (reply_text reply) (desk_of en)) }
+    ensures does { IfOk result (λ reply. (st : Standing store.old uploads.old) → (en : Standing store.new uploads.new) × Feeds (desk_of st) seat language text.now (reply_text reply) (desk_of en)) }
     ensures cut { uploads.new.cut ≡ uploads.old.cut }
 {
-    match uploads.request(seat) {
+    match uploads.has_upload(seat) {
         None => Ok(Reply::Answered(Answer::Refused(Refusal::BadSeat))),
-        Some(None) => Ok(Reply::Answered(Answer::Refused(Refusal::WrongPhase))),
-        Some(Some(request)) => feed_upload(alloc, store, uploads, seat, request, text),
+        Some(false) => Ok(Reply::Answered(Answer::Refused(Refusal::WrongPhase))),
+        Some(true) => feed_upload(alloc, store, uploads, seat, language, text),
     }
 }
 
@@ -78,7 +80,7 @@ fn give_up(store: &mut Store, uploads: &mut Uploads, seat: u16) -> Reply
     ensures does { (st : Standing store.old uploads.old) → (en : Standing store.new uploads.new) × GivesUp (desk_of st) seat (reply_text result) (desk_of en) }
     ensures cut { uploads.new.cut ≡ uploads.old.cut }
 {
-    let _ = answer(store, uploads, &Event::Seat(seat, Action::Cancel));
+    let _ = answer(store, uploads, Event::Seat(seat, Action::Cancel));
     Reply::Fault
 }
 
@@ -89,7 +91,7 @@ fn complete(store: &mut Store, uploads: &mut Uploads, seat: u16, given: Vec<Trip
 {
     match stage(store, uploads, seat, given) {
         Answer::Staged => {
-            Reply::Answered(answer(store, uploads, &Event::Seat(seat, Action::Commit)))
+            Reply::Answered(answer(store, uploads, Event::Seat(seat, Action::Commit)))
         }
         other => Reply::Answered(other),
     }

@@ -19,10 +19,10 @@ returns-in-Nothing g c = λ st.
     let P : Command → Type 0 = λ k. Does s k [] s in
     record { text = []; last = st; makes = subst P (sym c.in-Nothing.is) (refl, refl); written = Appends-none (g.W.Write.contents c.args.out.now) }
 
-pub returns-in-Ok : goal.returns-in-Ok
-returns-in-Ok g c = λ st.
+pub returns-in_ok-made-in-Begin : goal.returns-in_ok-made-in-Begin
+returns-in_ok-made-in-Begin g c = λ st.
     let s = state_of c.args.begun.now st in
-    let new = c.in-Ok.ensures in
+    let new = c.in_ok-made-in-Begin.ensures.begins in
     let fresh : c.args.begun.now ≡ false = search rules in
     let P : Command → Type 0 = λ k. Does s k [] (state_of true new.standing) in
     record { text = []; last = new.standing; makes = subst P (sym c.in-Begin.is) (fresh, refl, new.is true); written = Appends-none (g.W.Write.contents c.args.out.now) }
@@ -50,17 +50,20 @@ returns-in-Count g c = λ st.
     (does_by {T = Standing c.args.store.now c.args.uploads.now} desk_of s Count done made (held c.args.out.now) (held c.do_count.new.out) c.do_count.result
     (λ told d m. (refl, refl, m.0, m.1)) (told_by desk_of st made text (held c.args.out.now) (held c.do_count.new.out) c.do_count.result (refl, refl) c.do_count.ensures))
 
-pub returns-in-Feed : goal.returns-in-Feed
-returns-in-Feed g c = λ st.
+pub returns-else-not-takes : goal.returns-else-not-takes
+returns-else-not-takes g c = λ st.
     let held = g.W.Write.contents in
     let s = state_of c.args.begun.now st in
     let does = c.do_feed in
+    let seat = c.in-Feed.seat in
+    let language = c.in-Feed.language in
+    let within = c.if-not-takes.ensures.same refl st.fed st.bodies in
     let done : Desk → State = λ d. record { begun = true; cut = does.new.uploads.cut; desk = d } in
     let P : Command → Type 0 = λ k. DoesCommand s k {T = Standing does.new.store does.new.uploads} (state_of true) (held c.args.out.now) (held does.new.out) does.result in
-    let X : List ℕ → Type 0 = λ y. Replies {T = Standing does.new.store does.new.uploads} desk_of (Feeds s.desk c.in-Feed.seat y) (held c.args.out.now) (held does.new.out) does.result in
+    let X : List ℕ → Type 0 = λ y. Replies {T = Standing does.new.store does.new.uploads} desk_of (Feeds s.desk seat language y) (held c.args.out.now) (held does.new.out) does.result in
     subst P (sym c.in-Feed.is)
-    (does_by {T = Standing does.new.store does.new.uploads} desk_of s (Feed c.in-Feed.seat c.in-Feed.text) done (Feeds s.desk c.in-Feed.seat c.in-Feed.text.items) (held c.args.out.now) (held does.new.out) does.result
-    (λ text d made. (refl, does.ensures.cut, made)) (subst X c.as_slice.ensures.value (does.ensures.does st)))
+    (does_by {T = Standing does.new.store does.new.uploads} desk_of s (Feed seat language c.in-Feed.text) done (Feeds s.desk seat language c.in-Feed.text.items) (held c.args.out.now) (held does.new.out) does.result
+    (λ text d made. (within, refl, does.ensures.cut, made)) (subst X c.as_slice.ensures.value (does.ensures.does st)))
 
 pub returns-in-Cut : goal.returns-in-Cut
 returns-in-Cut g c = λ st.
@@ -68,7 +71,7 @@ returns-in-Cut g c = λ st.
     let P : Command → Type 0 = λ k. Does s k [] (record { begun = true; cut = c.in-Cut.length; desk = s.desk }) in
     record {
       text = [];
-      last = record { fed = st.fed; requests = st.requests; bodies = st.bodies; even = st.even };
+      last = record { fed = st.fed; openings = st.openings; bodies = st.bodies; even = st.even };
       makes = subst P (sym c.in-Cut.is) (refl, refl);
       written = Appends-none (g.W.Write.contents c.args.out.now);
     }

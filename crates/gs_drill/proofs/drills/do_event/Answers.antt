@@ -12,16 +12,16 @@ returns-in-Ok-clause-does g c = λ st.
     let en = c.in-Ok.ensures.does st in
     let text = reply_text c.in-Ok.reply in
     let P : Event → Type 0 = λ e. DoesEvent (desk_of st) e text (desk_of en.0) in
-    told_by desk_of en.0 (DoesEvent (desk_of st) c.args.event.now) text (held c.args.out.now) (held c.tell.new.out) c.tell.result (subst P (sym c.in-Some.ensures) en.1) c.tell.ensures
+    told_by desk_of en.0 (DoesEvent (desk_of st) c.args.event) text (held c.args.out.now) (held c.tell.new.out) c.tell.result (subst P (sym c.in-Some.ensures) en.1) c.tell.ensures
 
 pub returns-in-Ok-ask-clause-does : goal.returns-in-Ok-ask-clause-does
 returns-in-Ok-ask-clause-does g c = λ st.
     let asked = c.in-Ok-ask.ensures.does st in
     let en = asked.makes in
-    record { text = asked.text; last = en.0; makes = asks_event (desk_of st) (desk_of en.0) c.args.event.now asked.text c.in-None.ensures en.1; written = asked.written }
+    record { text = asked.text; last = en.0; makes = asks_event (desk_of st) (desk_of en.0) c.args.event asked.text c.in-None.ensures en.1; written = asked.written }
 
-pub returns-in-Err-ask-clause-does : goal.returns-in-Err-ask-clause-does
-returns-in-Err-ask-clause-does g c = λ st.
+pub returns-clause-does : goal.returns-clause-does
+returns-clause-does g c = λ st.
     let asked = c.in-Err-ask.ensures.does st in
     let en = asked.makes in
-    record { text = asked.text; last = desk_of en.0; makes = asks_event (desk_of st) (desk_of en.0) c.args.event.now asked.text c.in-None.ensures en.1; written = asked.written }
+    record { text = asked.text; last = desk_of en.0; makes = asks_event (desk_of st) (desk_of en.0) c.args.event asked.text c.in-None.ensures en.1; written = asked.written }

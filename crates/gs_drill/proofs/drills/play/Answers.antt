@@ -16,7 +16,7 @@ returns-in-Err-take_line g c =
     c.loop-rest.invariant.1 (filled c.loop-rest.rest.now c.is_empty.result c.is_empty.ensures c.loop-rest-test.true) c.split.ensures.before (c.in-Err-take_line.ensures st)
 
 pub loop-rest-init : goal.loop-rest-init
-loop-rest-init g c = let new = c.in-Ok.ensures in (new.standing, Playing-none c.args.input.now (state_of false new.standing) (g.W.Write.contents c.args.out.now) (new.is false))
+loop-rest-init g c = let new = c.in-Ok.ensures.begins in (new.standing, Playing-none c.args.input.now (state_of false new.standing) (g.W.Write.contents c.args.out.now) (new.is false))
 
 pub loop-rest-smaller : goal.loop-rest-smaller
 loop-rest-smaller g c =

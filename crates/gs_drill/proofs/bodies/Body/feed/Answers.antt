@@ -1,14 +1,10 @@
 use Rattle.std.proofs.lemmas.Result.{IfOk-weaker}
-use Rattle.gs_drill.proofs.ReadingLemmas.{feeds_first, feeds_more, read_none}
+use Rattle.gs_drill.specs.Standing.{context_of}
+use Rattle.gs_drill.proofs.TextLemmas.{feeds_first}
 use Rattle.gs_drill.proofs.bodies.Body.feed.Goals as goal
 
-pub returns-in-Unfed : goal.returns-in-Unfed
-returns-in-Unfed c =
-    let n = c.new in
-    IfOk-weaker c.feed_reader.result _ _
-    (λ p on. feeds_first c.args.self p.0 n.result c.args.request c.args.text.now p.1.items c.in-Unfed.is (read_none n.result c.args.request n.ensures.fresh n.ensures.unread n.ensures.said) on) c.feed_reader.ensures
-
-pub returns-in-Reading : goal.returns-in-Reading
-returns-in-Reading c =
-    IfOk-weaker c.feed_reader-in-Reading.result _ _
-    (λ p on. feeds_more c.args.self p.0 c.in-Reading.reader c.args.request c.args.text.now p.1.items c.in-Reading.is on) c.feed_reader-in-Reading.ensures
+pub returns-in_ok-begin-in-Unfed : goal.returns-in_ok-begin-in-Unfed
+returns-in_ok-begin-in-Unfed c =
+    let begun = c.in_ok-begin-in-Unfed in
+    IfOk-weaker c.go_on.result _ _
+    (λ p on. feeds_first c.args.self begun.field-0 p.0 (context_of c.args.language c.args.opening.now) c.args.text.now p.1.items c.in-Unfed.is begun.ensures on) c.go_on.ensures
