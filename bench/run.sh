@@ -1,16 +1,18 @@
 #!/bin/sh
-# Times gs_bench beside serdi on one document: bench/run.sh [TRIPLES], or bench/run.sh tokens [TRIPLES] for the tokens of
-# a document of Turtle, which serdi writes as N-Triples.
+# Times gs_bench beside serdi on one document: bench/run.sh [TRIPLES] for N-Triples, bench/run.sh turtle [TRIPLES] for
+# Turtle, and bench/run.sh tokens [TRIPLES] for the tokens of a document of Turtle, which serdi writes as N-Triples.
 # It wants the program built: (cd crates/gs_bench && rt run < /dev/null).
 set -eu
 here=$(cd "$(dirname "$0")" && pwd)
 maker=make_document.py
 mode=
-if [ "${1:-}" = tokens ]; then
+case "${1:-}" in
+turtle | tokens)
     maker=make_turtle.py
-    mode=tokens
+    mode=$1
     shift
-fi
+    ;;
+esac
 count=${1:-500000}
 file=$(mktemp)
 trap 'rm -f "$file"' EXIT

@@ -21,3 +21,5 @@ mod schedules;
 mod terms;
 #[cfg(test)]
 mod tokens;
+#[cfg(test)]
+mod turtle;
