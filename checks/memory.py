@@ -4,6 +4,8 @@ import re
 import subprocess
 import sys
 
+from turtle_text import statements as turtle_statements
+
 LAST_NUMBER = 999_999_999_999_999_999
 NO_MEMORY = "refused NoMemory"
 CODE = r"\\u[0-9A-Fa-f]{4}|\\U[0-9A-Fa-f]{8}"
@@ -83,6 +85,7 @@ class Store:
         self.graphs = {"default": set()}
         self.phases = {}
         self.fed = {}
+        self.languages = {}
 
     def counts(self):
         current = sum(len(it) for it in self.graphs.values())
@@ -104,7 +107,15 @@ class Store:
             k += 1
         return f"<http://localhost/graphs/n{request}-{k}>"
 
-    def feed(self, seat, text, is_refused):
+    def read(self, seat, text):
+        """The lines that a text completes in its language, and whether it is a document, unfinished, or has a fault."""
+        _, kind, target, request, _ = self.phases[seat]
+        if self.languages.get(seat) == "ttl":
+            return turtle_statements(text, target[1:-1] if target.startswith("<") else "http://localhost/store", request)
+        lines, is_document = statements(text, request)
+        return lines, "document" if is_document else "fault"
+
+    def feed(self, seat, language, text, is_refused):
         """The line that a feed prints; where its Stage is refused, what it completed is dropped."""
         if seat >= self.seats:
             return "refused BadSeat"
@@ -114,10 +125,11 @@ class Store:
         before = self.fed.get(seat, "")
         if before is None:
             return "fed"
-        told, _ = statements(before, phase[3])
-        all_told, is_document = statements(before + text + "\n", phase[3])
+        self.languages[seat] = language
+        told, _ = self.read(seat, before)
+        all_told, ended = self.read(seat, before + text + "\n")
         self.fed[seat] = before + text + "\n"
-        new = all_told[len(told):] if is_document else []
+        new = all_told[len(told):] if ended != "fault" else []
         if is_refused:
             assert new, "a feed that stages nothing"
             return NO_MEMORY
@@ -166,7 +178,7 @@ class Store:
             self.phases[seat] = phase[:4] + (phase[4] | {line.split(" ", 2)[2]},)
             return ["staged"]
         if action == "commit":
-            if not statements(self.fed.get(seat) or "", phase[3])[1]:
+            if self.fed.get(seat) and self.read(seat, self.fed[seat])[1] != "document":
                 self.phases[seat] = ("idle",)
                 self.fed.pop(seat)
                 return ["fault 400"]
@@ -215,7 +227,7 @@ def refusals(schedule, printed):
             want = ["reclaimed 0 done"]
         elif words[1] == "feed":
             is_refused = printed[0] == NO_MEMORY
-            want = [store.feed(int(words[0]), line.split(" ", 3)[3], is_refused)]
+            want = [store.feed(int(words[0]), words[2], line.split(" ", 3)[3], is_refused)]
             count += is_refused
         elif printed[0] == NO_MEMORY:
             assert store.may_want_memory(int(words[0]), words), f"{line}: {NO_MEMORY}"
@@ -236,8 +248,9 @@ def run(program, schedule, room, refused):
 
 def main(program, schedules, room):
     total = 0
-    tables = worked_schedules(f"{schedules}/schedules.rt", "ROWS") + worked_schedules(f"{schedules}/feeds.rt", "FEEDS")
-    for name, schedule, want in tables:
+    tables = [("schedules.rt", "ROWS"), ("feeds.rt", "FEEDS"), ("turtle.rt", "FEEDS")]
+    rows = [row for file, table in tables for row in worked_schedules(f"{schedules}/{file}", table)]
+    for name, schedule, want in rows:
         assert run(program, schedule, room, 0) == (0, want, ""), name
         requests = int(open(f"{room}/count").read())
         for refused in range(1, requests + 1):
