@@ -1,6 +1,6 @@
 -- What the history of a machine tells.
 use Rattle.std.proofs.Common.{◌≡◌, ℕ, List, [], ◌∷◌, ◌++◌, refl, sym, ap, subst, ◌∙◌, append-nil}
-use Rattle.std.proofs.lemmas.List.{map-append}
+use Rattle.std.proofs.lemmas.List.Concat.{flat_map-append}
 use Rattle.gs_model.specs.Triples.{Statement}
 use Rattle.gs_model.specs.declared.refusals.Refusal.TheVariants as refusal
 use Rattle.gs_machine.specs.Machines.{Machine, joined, steps, rest, AreSettled, Begins}
@@ -13,7 +13,7 @@ end_after-append n [] b = refl
 end_after-append n (s ∷ ss) b = end_after-append s.end ss b
 
 pub triples_of-append : (a b : List Stated) → triples_of (a ++ b) ≡ triples_of a ++ triples_of b
-triples_of-append a b = map-append (λ (s : Stated). s.triple) a b
+triples_of-append a b = flat_map-append (λ (s : Stated). s.triples) a b
 
 module _ {S I : Type 0} (m : Machine S I Stated Ending) (start : S) where
   -- a machine at its start

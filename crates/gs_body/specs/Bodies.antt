@@ -1,12 +1,13 @@
 -- What a body says: its complete statements, each with its end, and how it ends.
-use Rattle.std.specs.Prelude.{◌≡◌, ℕ, List, [], ◌∷◌, map}
+use Rattle.std.specs.Prelude.{◌≡◌, ℕ, List, [], ◌∷◌}
+use Rattle.std.specs.List.{flat_map}
 use Rattle.gs_model.specs.Triples.{Statement}
 use Rattle.gs_model.specs.declared.refusals.Refusal.{Refusal}
 use Rattle.gs_model.specs.declared.refusals.Refusal.TheVariants as refusal
 
--- a triple that a body states, and the number of bytes up to the end of its '.'
+-- a statement of a body: the triples that it states, none where it is a directive, and the number of bytes up to its end
 pub record Stated : Type 0 where
-  pub triple : Statement
+  pub triples : List Statement
   pub end : ℕ
 
 -- A body has no fault; or its first fault breaks the grammar, or is a term that is too long.
@@ -20,7 +21,7 @@ abbrev pub Said : Type 0
 Said = List Stated × Ending
 
 abbrev pub triples_of : List Stated → List Statement
-triples_of ss = map (λ s. s.triple) ss
+triples_of ss = flat_map (λ s. s.triples) ss
 
 -- the end of the last statement, where one that ends behind n bytes stands before
 abbrev pub end_after : ℕ → List Stated → ℕ

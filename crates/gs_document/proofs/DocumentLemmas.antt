@@ -20,19 +20,19 @@ CoveredStatement env n ts (Err e) = Unit {0}
 CoveredStatement env n ts (Ok r) = (front : List Symbol) × (ts ≡ front ++ r.rest) × IsStatement env n front r.stated r.context r.numbers
 
 -- a directive of some tokens
-back_told : (env : Context) (n : Numbers) (front rest : List Symbol) (m q : Option Context) → m ≡ q
-    → ((next : Context) → m ≡ Some next → IsStatement env n front [] next n) → CoveredStatement env n (front ++ rest) (told [] n rest q)
-back_told env n front rest m None h rule = tt
-back_told env n front rest m (Some next) h rule = (front, refl, rule next h)
+back_told : (env : Context) (n : Numbers) (S : List Stated) (front rest : List Symbol) (m q : Option Context) → m ≡ q
+    → ((next : Context) → m ≡ Some next → IsStatement env n front S next n) → CoveredStatement env n (front ++ rest) (told S n rest q)
+back_told env n S front rest m None h rule = tt
+back_told env n S front rest m (Some next) h rule = (front, refl, rule next h)
 
 back_prefix : (env : Context) (n : Numbers) (x : List ℕ) (ts : List Symbol) → x ≡ codes "@prefix" → CoveredStatement env n (At x ∷ ts) (prefix_at env n ts)
-back_prefix env n x (AWord (Namespace p) ∷ AWord (Reference i) ∷ Dot e ∷ ts) h =
-    back_told env n (At x ∷ AWord (Namespace p) ∷ AWord (Reference i) ∷ Dot e ∷ []) ts (with_prefix env p i) _ refl (λ c q. statement.prefix x p i e h q)
+back_prefix env n x (AWord (Namespace p) ∷ AWord (Reference i k) ∷ Dot e ∷ ts) h =
+    back_told env n (stated e []) (At x ∷ AWord (Namespace p) ∷ AWord (Reference i k) ∷ Dot e ∷ []) ts (with_prefix env p i) _ refl (λ c q. statement.prefix x p i k e h q)
 back_prefix env n x _ h = tt
 
 back_base : (env : Context) (n : Numbers) (x : List ℕ) (ts : List Symbol) → x ≡ codes "@base" → CoveredStatement env n (At x ∷ ts) (base_at env n ts)
-back_base env n x (AWord (Reference i) ∷ Dot e ∷ ts) h =
-    back_told env n (At x ∷ AWord (Reference i) ∷ Dot e ∷ []) ts (with_base env i) _ refl (λ c q. statement.base x i e h q)
+back_base env n x (AWord (Reference i k) ∷ Dot e ∷ ts) h =
+    back_told env n (stated e []) (At x ∷ AWord (Reference i k) ∷ Dot e ∷ []) ts (with_base env i) _ refl (λ c q. statement.base x i k e h q)
 back_base env n x _ h = tt
 
 back_at : (env : Context) (n : Numbers) (x : List ℕ) (ts : List Symbol) (b c : Bool) → bytes_eq x (codes "@prefix") ≡ b → bytes_eq x (codes "@base") ≡ c
@@ -53,10 +53,11 @@ back_triples env n ts (Ok g) (xs, e, c) = back_dot env n g.numbers ts xs g.rest 
 statement_covered : (env : Context) (n : Numbers) (ts : List Symbol) → CoveredStatement env n ts (statement_at env n ts)
 unfolding statement_at
 statement_covered env n (At x ∷ ts) = back_at env n x ts (bytes_eq x (codes "@prefix")) (bytes_eq x (codes "@base")) refl refl
-statement_covered env n (PrefixWord ∷ AWord (Namespace p) ∷ AWord (Reference i) ∷ ts) =
-    back_told env n (PrefixWord ∷ AWord (Namespace p) ∷ AWord (Reference i) ∷ []) ts (with_prefix env p i) _ refl (λ c q. statement.prefix_word p i q)
+statement_covered env n (PrefixWord ∷ AWord (Namespace p) ∷ AWord (Reference i e) ∷ ts) =
+    back_told env n (stated e []) (PrefixWord ∷ AWord (Namespace p) ∷ AWord (Reference i e) ∷ []) ts (with_prefix env p i) _ refl (λ c q. statement.prefix_word p i e q)
 statement_covered env n (PrefixWord ∷ _) = tt
-statement_covered env n (BaseWord ∷ AWord (Reference i) ∷ ts) = back_told env n (BaseWord ∷ AWord (Reference i) ∷ []) ts (with_base env i) _ refl (λ c q. statement.base_word i q)
+statement_covered env n (BaseWord ∷ AWord (Reference i e) ∷ ts) =
+    back_told env n (stated e []) (BaseWord ∷ AWord (Reference i e) ∷ []) ts (with_base env i) _ refl (λ c q. statement.base_word i e q)
 statement_covered env n (BaseWord ∷ _) = tt
 statement_covered env n ts = back_triples env n ts (triples_at env n ts) (triples_covered env n ts)
 
@@ -76,14 +77,14 @@ triples_go (statement.properties_and a c) z = refl
 statement_read : {env next : Context} {n k : Numbers} {xs : List Symbol} {S : List Stated} → IsStatement env n xs S next k → (rest : List Symbol)
     → statement_at env n (xs ++ rest) ≡ as_told S next k rest
 unfolding statement_at
-statement_read {env = env} {n = n} (statement.prefix x p i e h q) rest =
-    ap (λ z. cond (bytes_eq z (codes "@prefix")) (told [] n rest (with_prefix env p i)) (cond (bytes_eq z (codes "@base")) (base_at env n (AWord (Namespace p) ∷ AWord (Reference i) ∷ Dot e ∷ rest)) (Err Broken))) h
-    ∙ ap (told [] n rest) q
-statement_read {env = env} {n = n} (statement.base x i e h q) rest =
-    ap (λ z. cond (bytes_eq z (codes "@prefix")) (prefix_at env n (AWord (Reference i) ∷ Dot e ∷ rest)) (cond (bytes_eq z (codes "@base")) (told [] n rest (with_base env i)) (Err Broken))) h
-    ∙ ap (told [] n rest) q
-statement_read {n = n} (statement.prefix_word p i q) rest = ap (told [] n rest) q
-statement_read {n = n} (statement.base_word i q) rest = ap (told [] n rest) q
+statement_read {env = env} {n = n} (statement.prefix x p i k e h q) rest =
+    ap (λ z. cond (bytes_eq z (codes "@prefix")) (told (stated e []) n rest (with_prefix env p i)) (cond (bytes_eq z (codes "@base")) (base_at env n (AWord (Namespace p) ∷ AWord (Reference i k) ∷ Dot e ∷ rest)) (Err Broken))) h
+    ∙ ap (told (stated e []) n rest) q
+statement_read {env = env} {n = n} (statement.base x i k e h q) rest =
+    ap (λ z. cond (bytes_eq z (codes "@prefix")) (prefix_at env n (AWord (Reference i k) ∷ Dot e ∷ rest)) (cond (bytes_eq z (codes "@base")) (told (stated e []) n rest (with_base env i)) (Err Broken))) h
+    ∙ ap (told (stated e []) n rest) q
+statement_read {n = n} (statement.prefix_word p i e q) rest = ap (told (stated e []) n rest) q
+statement_read {n = n} (statement.base_word i e q) rest = ap (told (stated e []) n rest) q
 statement_read {env = env} {n = n} (statement.triples {xs = xs} e c) rest =
     ap (statement_at env n) (append_assoc xs (Dot e ∷ []) rest) ∙ triples_go c (Dot e ∷ rest) ∙ triples_read c e rest
 
@@ -120,10 +121,10 @@ triples_take (statement.properties c) = omega arith
 triples_take (statement.properties_and a c) = omega arith
 
 statement_takes : {env next : Context} {n k : Numbers} {xs : List Symbol} {S : List Stated} → IsStatement env n xs S next k → 0 < length xs
-statement_takes (statement.prefix x p i e h q) = omega arith
-statement_takes (statement.base x i e h q) = omega arith
-statement_takes (statement.prefix_word p i q) = omega arith
-statement_takes (statement.base_word i q) = omega arith
+statement_takes (statement.prefix x p i k e h q) = omega arith
+statement_takes (statement.base x i k e h q) = omega arith
+statement_takes (statement.prefix_word p i e q) = omega arith
+statement_takes (statement.base_word i e q) = omega arith
 statement_takes (statement.triples {xs = xs} e c) = simp length-append (omega arith)
 
 -- one step of the program, where tokens are left
@@ -152,6 +153,6 @@ document_read b r ts S d = statements_read (length ts) d (omega (arith, length-m
 pub document_covered : (b : List ℕ) (r : ℕ) (ts : List Lexeme) (S : List Stated) → document b r ts ≡ (S, Whole) → IsDocument b r ts S
 document_covered b r ts S h = statements_covered (length ts) (start b r) no_numbers (symbols_of ts) S h
 
--- so a document states one list of triples
+-- so a document has one list of statements
 pub document_once : (b : List ℕ) (r : ℕ) (ts : List Lexeme) (S R : List Stated) → IsDocument b r ts S → IsDocument b r ts R → S ≡ R
 document_once b r ts S R d e = ap (λ (z : Said). z.0) (sym (document_read b r ts S d) ∙ document_read b r ts R e)

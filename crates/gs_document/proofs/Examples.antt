@@ -16,7 +16,7 @@ use Rattle.gs_iri.specs.Resolving.{scheme_text, marked, parts_text, resolved_par
 use Rattle.gs_escape.specs.Meanings.{unescaped, stands_local}
 use Rattle.gs_escape.specs.Tokens.{between, iri_of}
 use Rattle.gs_blank.specs.Numbers.{Numbers, no_numbers}
-use Rattle.gs_body.specs.Bodies.{Whole}
+use Rattle.gs_body.specs.Bodies.{Stated, Whole}
 use Rattle.gs_document.specs.Symbols.{Reference, Name, Plain, A, xsd}
 use Rattle.gs_document.specs.Meanings as meaning
 use Rattle.gs_document.specs.Meanings.{Fault, Context, Prefixes, made, name_text, iri, rdf, with_numbers, with_prefix}
@@ -44,7 +44,7 @@ row =
 abbrev cell : ℕ → Term
 cell k = Blank 1 k
 
--- the triples, each at its last token
+-- the triples of the second statement, each at its last token
 abbrev triples : List Statement
 triples =
     triple (Iri graph) (rdf (codes "type")) (Iri (codes "http://e/a.b"))
@@ -66,7 +66,7 @@ declared : with_prefix (start graph 1) (codes "ex:") (codes "<http://e/>") ≡ S
 unfolding with_prefix iri_of between unescaped is_utf8 chars encode resolved resolved_parts parts_of before from behind is_scheme has_scheme scheme_of behind_scheme behind_slashes authority_of behind_authority path_of behind_path query_of behind_query fragment_of dots segments_of closed is_dots is_dot is_dot_dot moved output_of text_of_segments scheme_text marked parts_text
 declared = refl
 
-subject : meaning.subject context no_numbers (Reference (codes "<>")) ≡ Ok (Iri graph, no_numbers)
+subject : meaning.subject context no_numbers (Reference (codes "<>") 28) ≡ Ok (Iri graph, no_numbers)
 unfolding meaning.word iri made iri_of between unescaped is_utf8 chars encode resolved resolved_parts parts_of before from behind is_scheme has_scheme scheme_of behind_scheme behind_slashes authority_of behind_authority path_of behind_path query_of behind_query fragment_of dots segments_of closed is_dots is_dot is_dot_dot moved output_of text_of_segments scheme_text marked parts_text
 subject = refl
 
@@ -92,14 +92,18 @@ half : meaning.word context (numbers 2) (Plain (codes ".5") (xsd (codes "decimal
 unfolding meaning.word made suffix
 half = refl
 
+-- the directive, and the triples
+abbrev statements : List Stated
+statements = stated 25 [] ++ stated 49 triples
+
 -- by the rules
-by_rules : IsDocument graph 1 row (stated 49 triples)
+by_rules : IsDocument graph 1 row statements
 unfolding is_utf8 chars encode
 by_rules =
-    statement.statement (statement.prefix (codes "@prefix") (codes "ex:") (codes "<http://e/>") 25 refl declared)
+    statement.statement (statement.prefix (codes "@prefix") (codes "ex:") (codes "<http://e/>") 23 25 refl declared)
     (statement.statement
     (statement.triples 49
-    (statement.word (Reference (codes "<>")) subject
+    (statement.word (Reference (codes "<>") 28) subject
     (rule.verbs A refl (rule.word (Name (codes "ex:a.b")) named)
     (rule.comma
     (rule.list refl
@@ -109,5 +113,5 @@ by_rules =
     (statement.nothing context (numbers 2)))
 
 -- and by the program
-by_program : document graph 1 row ≡ (stated 49 triples, Whole)
-by_program = document_read graph 1 row (stated 49 triples) by_rules
+by_program : document graph 1 row ≡ (statements, Whole)
+by_program = document_read graph 1 row statements by_rules

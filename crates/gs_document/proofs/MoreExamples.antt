@@ -21,15 +21,16 @@ use Rattle.gs_document.specs.Program.{triples_at, statement_at, statements_at}
 
 abbrev symbols : List Symbol
 symbols =
-    Open ∷ AWord (Reference (codes "<p>")) ∷ AWord (Plain (codes "1") (xsd (codes "integer"))) ∷ Semicolon ∷ Semicolon ∷ Close ∷ Dot 15
-    ∷ At (codes "@base") ∷ AWord (Reference (codes "<http://b/>")) ∷ Dot 35
-    ∷ AWord (Reference (codes "<s>")) ∷ A ∷ Text (34 ∷ codes "x" ++ 34 ∷ []) ∷ At (codes "@EN-us") ∷ Comma
-    ∷ Text (34 ∷ codes "y" ++ 34 ∷ []) ∷ Carets ∷ AWord (Reference (codes "<d>")) ∷ Semicolon ∷ Dot 68 ∷ []
+    Open ∷ AWord (Reference (codes "<p>") 5) ∷ AWord (Plain (codes "1") (xsd (codes "integer"))) ∷ Semicolon ∷ Semicolon ∷ Close ∷ Dot 15
+    ∷ At (codes "@base") ∷ AWord (Reference (codes "<http://b/>") 33) ∷ Dot 35
+    ∷ AWord (Reference (codes "<s>") 39) ∷ A ∷ Text (34 ∷ codes "x" ++ 34 ∷ []) ∷ At (codes "@EN-us") ∷ Comma
+    ∷ Text (34 ∷ codes "y" ++ 34 ∷ []) ∷ Carets ∷ AWord (Reference (codes "<d>") 62) ∷ Semicolon ∷ Dot 66 ∷ []
 
 by_program : statements_at 20 (start (codes "http://e/g") 1) no_numbers symbols
     ≡ (
       stated 15 (triple (Blank 1 1) (Iri (codes "http://e/p")) (Literal (codes "1") (Typed (xsd (codes "integer")))) ∷ [])
-          ++ stated 68 (triple (Iri (codes "http://b/s")) (rdf (codes "type")) (Literal (codes "x") (Tagged (codes "en-us")))
+          ++ stated 35 []
+          ++ stated 66 (triple (Iri (codes "http://b/s")) (rdf (codes "type")) (Literal (codes "x") (Tagged (codes "en-us")))
           ∷ triple (Iri (codes "http://b/s")) (rdf (codes "type")) (Literal (codes "y") (Typed (codes "http://b/d"))) ∷ []),
       Whole,
     )

@@ -3,13 +3,13 @@ use Rattle.std.proofs.Common.{◌≡◌, ℕ, zero, suc, ◌≤◌, Bool, true, 
 use Rattle.std.specs.Prelude.{Err, Option, Some, None, codes, bytes_eq}
 use Rattle.std.proofs.lemmas.List.{length-map}
 use Rattle.gs_lex.specs.Tokens.{Lexeme}
-use Rattle.gs_machine.specs.Machines.{rest}
+use Rattle.gs_machine.specs.Machines.{joined, rest}
 use Rattle.gs_blank.specs.Numbers.{Numbers, no_numbers}
 use Rattle.gs_body.specs.Bodies.{Syntax}
 use Rattle.gs_document.specs.Symbols.{Word, Reference, Namespace, Symbol, AWord, At, Open, OpenList, Dot, PrefixWord, BaseWord, symbol_of, symbols_of}
 use Rattle.gs_document.specs.Meanings.{Broken, Context, subject, with_prefix, with_base}
 use Rattle.gs_document.specs.Goals.{Begun}
-use Rattle.gs_document.specs.Documents.{start}
+use Rattle.gs_document.specs.Documents.{stated, start}
 use Rattle.gs_document.specs.Program.{told as told_by}
 use Rattle.gs_document.specs.Reading.{◌>>=◌, enough, read}
 use Rattle.gs_document.specs.Program.{triples_at, dotted, prefix_at, base_at, statement_at, followed, statements_at, document}
@@ -21,36 +21,36 @@ use Rattle.gs_document.proofs.WalkLemmas.{told, lost_rest}
 use Rattle.gs_document.proofs.GoalLemmas.{walk}
 use Rattle.gs_document.proofs.MachineLemmas.{Known, word_rest, list_rest, open_rest}
 
--- a context that a directive leaves, where the text ends, where a dot stands, and where none does
-set_ends : (n : Numbers) (q : Option Context) → rest turtle (set true n q) [] ≡ ([], Syntax)
+-- the turn of a directive's IRI, where the text ends, where a dot stands, where something else does, and where it ends there
+set_ends : (k : ℕ) (n : Numbers) (q : Option Context) → told (set true k n q) [] ≡ ([], Syntax)
 unfolding rest ended
-set_ends n None = refl
-set_ends n (Some env) = refl
+set_ends k n None = refl
+set_ends k n (Some env) = refl
 
-set_dot : (f : ℕ) (n : Numbers) (e : ℕ) (us : List Symbol) → Known f → length us ≤ f → (q : Option Context)
-    → rest turtle (set true n q) (Dot e ∷ us) ≡ followed (statements_at f) (told_by [] n us q)
+set_dot : (f k : ℕ) (n : Numbers) (e : ℕ) (us : List Symbol) → Known f → length us ≤ f → (q : Option Context)
+    → told (set true k n q) (Dot e ∷ us) ≡ followed (statements_at f) (told_by (stated e []) n us q)
 unfolding rest step
-set_dot f n e us again h None = lost_rest Syntax us
-set_dot f n e us again h (Some env) = again env n us h
+set_dot f k n e us again h None = lost_rest Syntax us
+set_dot f k n e us again h (Some env) = ap (joined (stated e [])) (again env n us h)
 
-set_other : (n : Numbers) (t : Symbol) (us : List Symbol) (q : Option Context) → ((env : Context) → step (AtDot env n) t ≡ quiet (lost Broken))
-    → rest turtle (set true n q) (t ∷ us) ≡ ([], Syntax)
+set_other : (k : ℕ) (n : Numbers) (t : Symbol) (us : List Symbol) (q : Option Context) → ((env : Context) → step (AtDot env n) t ≡ quiet (lost Broken))
+    → told (set true k n q) (t ∷ us) ≡ ([], Syntax)
 unfolding rest
-set_other n t us None s = lost_rest Syntax (t ∷ us)
-set_other n t us (Some env) s = ap (λ z. told z us) (s env) ∙ lost_rest Syntax us
+set_other k n t us None s = lost_rest Syntax (t ∷ us)
+set_other k n t us (Some env) s = ap (λ z. told z us) (s env) ∙ lost_rest Syntax us
 
-set_word : (f : ℕ) (n : Numbers) (us : List Symbol) → Known f → length us ≤ f → (q : Option Context)
-    → rest turtle (set false n q) us ≡ followed (statements_at f) (told_by [] n us q)
-set_word f n us again h None = lost_rest Syntax us
-set_word f n us again h (Some env) = again env n us h
+set_word : (f e : ℕ) (n : Numbers) (us : List Symbol) → Known f → length us ≤ f → (q : Option Context)
+    → told (set false e n q) us ≡ followed (statements_at f) (told_by (stated e []) n us q)
+set_word f e n us again h None = lost_rest Syntax us
+set_word f e n us again h (Some env) = ap (joined (stated e [])) (again env n us h)
 
 iri_dot : (f : ℕ) (p : List ℕ) (env : Context) (n : Numbers) (ts : List Symbol) → Known f → length ts ≤ f
     → rest turtle (InPrefixIri true p env n) ts ≡ followed (statements_at f) (prefix_at env n (AWord (Namespace p) ∷ ts))
 unfolding rest step ended
 iri_dot f p env n [] again h = refl
-iri_dot f p env n (AWord (Reference i) ∷ []) again h = set_ends n (with_prefix env p i)
-iri_dot f p env n (AWord (Reference i) ∷ Dot e ∷ us) again h = set_dot f n e us again (omega arith) (with_prefix env p i)
-iri_dot f p env n (AWord (Reference i) ∷ t ∷ us) again h = set_other n t us (with_prefix env p i) (λ c. refl)
+iri_dot f p env n (AWord (Reference i k) ∷ []) again h = set_ends k n (with_prefix env p i)
+iri_dot f p env n (AWord (Reference i k) ∷ Dot e ∷ us) again h = set_dot f k n e us again (omega arith) (with_prefix env p i)
+iri_dot f p env n (AWord (Reference i k) ∷ t ∷ us) again h = set_other k n t us (with_prefix env p i) (λ c. refl)
 iri_dot f p env n (AWord w ∷ ts) again h = lost_rest Syntax ts
 iri_dot f p env n (t ∷ ts) again h = lost_rest Syntax ts
 
@@ -66,9 +66,9 @@ base_dot : (f : ℕ) (env : Context) (n : Numbers) (ts : List Symbol) → Known 
     → rest turtle (InBase true env n) ts ≡ followed (statements_at f) (base_at env n ts)
 unfolding rest step ended
 base_dot f env n [] again h = refl
-base_dot f env n (AWord (Reference i) ∷ []) again h = set_ends n (with_base env i)
-base_dot f env n (AWord (Reference i) ∷ Dot e ∷ us) again h = set_dot f n e us again (omega arith) (with_base env i)
-base_dot f env n (AWord (Reference i) ∷ t ∷ us) again h = set_other n t us (with_base env i) (λ c. refl)
+base_dot f env n (AWord (Reference i k) ∷ []) again h = set_ends k n (with_base env i)
+base_dot f env n (AWord (Reference i k) ∷ Dot e ∷ us) again h = set_dot f k n e us again (omega arith) (with_base env i)
+base_dot f env n (AWord (Reference i k) ∷ t ∷ us) again h = set_other k n t us (with_base env i) (λ c. refl)
 base_dot f env n (AWord w ∷ ts) again h = lost_rest Syntax ts
 base_dot f env n (t ∷ ts) again h = lost_rest Syntax ts
 
@@ -84,7 +84,7 @@ iri_word : (f : ℕ) (p : List ℕ) (env : Context) (n : Numbers) (ts : List Sym
     → rest turtle (InPrefixIri false p env n) ts ≡ followed (statements_at f) (statement_at env n (PrefixWord ∷ AWord (Namespace p) ∷ ts))
 unfolding rest step ended statement_at
 iri_word f p env n [] again h = refl
-iri_word f p env n (AWord (Reference i) ∷ ts) again h = set_word f n ts again (omega arith) (with_prefix env p i)
+iri_word f p env n (AWord (Reference i e) ∷ ts) again h = set_word f e n ts again (omega arith) (with_prefix env p i)
 iri_word f p env n (AWord w ∷ ts) again h = lost_rest Syntax ts
 iri_word f p env n (t ∷ ts) again h = lost_rest Syntax ts
 
@@ -100,7 +100,7 @@ base_word : (f : ℕ) (env : Context) (n : Numbers) (ts : List Symbol) → Known
     → rest turtle (InBase false env n) ts ≡ followed (statements_at f) (statement_at env n (BaseWord ∷ ts))
 unfolding rest step ended statement_at
 base_word f env n [] again h = refl
-base_word f env n (AWord (Reference i) ∷ ts) again h = set_word f n ts again (omega arith) (with_base env i)
+base_word f env n (AWord (Reference i e) ∷ ts) again h = set_word f e n ts again (omega arith) (with_base env i)
 base_word f env n (AWord w ∷ ts) again h = lost_rest Syntax ts
 base_word f env n (t ∷ ts) again h = lost_rest Syntax ts
 

@@ -1,5 +1,5 @@
 -- Turtle's statements and documents (25 February 2014, section 6.5), each with just the tokens that it spans.
-use Rattle.std.specs.Prelude.{◌≡◌, ℕ, List, [], ◌∷◌, ◌++◌, codes, map, Some, Ok}
+use Rattle.std.specs.Prelude.{◌≡◌, ℕ, List, [], ◌∷◌, ◌++◌, codes, Some, Ok}
 use Rattle.std.specs.FinMap as finite
 use Rattle.gs_model.specs.Terms.{Term, Blank}
 use Rattle.gs_model.specs.Triples.{Statement}
@@ -29,23 +29,23 @@ pub data AreTriples (env : Context) (n : Numbers) : List Symbol → List Stateme
       → Covers env (Verbs 1 (Blank env.request (next n))) (one_more n) xs v T k
       → Covers env (Verbs 0 (Blank env.request (next n))) k ys w U l → AreTriples env n (Open ∷ xs ++ Close ∷ ys) (T ++ U) l
 
--- triples of a statement whose dot ends there
+-- a statement that ends there, with its triples; a directive has none
 abbrev pub stated : ℕ → List Statement → List Stated
-stated end T = map (λ t. record { triple = t; end = end }) T
+stated end T = record { triples = T; end = end } ∷ []
 
 -- [2] statement: what it states, and the context and the numbers for the next one
 pub data IsStatement (env : Context) (n : Numbers) : List Symbol → List Stated → Context → Numbers → Type 0 where
   -- [4] prefixID
-  prefix : {next : Context} (x p i : List ℕ) (end : ℕ) → x ≡ codes "@prefix" → with_prefix env p i ≡ Some next
-      → IsStatement env n (At x ∷ AWord (Namespace p) ∷ AWord (Reference i) ∷ Dot end ∷ []) [] next n
+  prefix : {next : Context} (x p i : List ℕ) (e end : ℕ) → x ≡ codes "@prefix" → with_prefix env p i ≡ Some next
+      → IsStatement env n (At x ∷ AWord (Namespace p) ∷ AWord (Reference i e) ∷ Dot end ∷ []) (stated end []) next n
   -- [5] base
-  base : {next : Context} (x i : List ℕ) (end : ℕ) → x ≡ codes "@base" → with_base env i ≡ Some next
-      → IsStatement env n (At x ∷ AWord (Reference i) ∷ Dot end ∷ []) [] next n
+  base : {next : Context} (x i : List ℕ) (e end : ℕ) → x ≡ codes "@base" → with_base env i ≡ Some next
+      → IsStatement env n (At x ∷ AWord (Reference i e) ∷ Dot end ∷ []) (stated end []) next n
   -- [6s] sparqlPrefix
-  prefix_word : {next : Context} (p i : List ℕ) → with_prefix env p i ≡ Some next
-      → IsStatement env n (PrefixWord ∷ AWord (Namespace p) ∷ AWord (Reference i) ∷ []) [] next n
+  prefix_word : {next : Context} (p i : List ℕ) (end : ℕ) → with_prefix env p i ≡ Some next
+      → IsStatement env n (PrefixWord ∷ AWord (Namespace p) ∷ AWord (Reference i end) ∷ []) (stated end []) next n
   -- [5s] sparqlBase
-  base_word : {next : Context} (i : List ℕ) → with_base env i ≡ Some next → IsStatement env n (BaseWord ∷ AWord (Reference i) ∷ []) [] next n
+  base_word : {next : Context} (i : List ℕ) (end : ℕ) → with_base env i ≡ Some next → IsStatement env n (BaseWord ∷ AWord (Reference i end) ∷ []) (stated end []) next n
   triples : {k : Numbers} {xs : List Symbol} {T : List Statement} (end : ℕ) → AreTriples env n xs T k
       → IsStatement env n (xs ++ Dot end ∷ []) (stated end T) env k
 
@@ -59,6 +59,6 @@ pub data AreStatements : Context → Numbers → List Symbol → List Stated →
 abbrev pub start : List ℕ → ℕ → Context
 start b r = record { base = b; prefixes = finite.empty; request = r }
 
--- the tokens of a document, and the triples that it states under this base and in this request
+-- the tokens of a document, and the statements that it has under this base and in this request
 abbrev pub IsDocument : List ℕ → ℕ → List Lexeme → List Stated → Type 0
 IsDocument b r ts S = AreStatements (start b r) no_numbers (symbols_of ts) S

@@ -78,11 +78,11 @@ go_on t (Heading g fs env P n) = head g t fs env P n
 go_on t (Lost e) = quiet (Lost e)
 go_on t s = quiet (lost Broken)
 
--- the context of a directive, with a dot to come or not
-abbrev pub set : Bool → Numbers → Option Context → State
-set dot n None = lost Broken
-set true n (Some env) = AtDot env n
-set false n (Some env) = Between env n
+-- the context of a directive, with a dot to come, or ended there
+abbrev pub set : Bool → ℕ → Numbers → Option Context → Turn
+set dot e n None = quiet (lost Broken)
+set true e n (Some env) = quiet (AtDot env n)
+set false e n (Some env) = (Between env n, stated e [])
 
 -- the subject of a statement, or its fault
 abbrev pub begin : Context → Result (Term × Numbers) Fault → State
@@ -100,11 +100,11 @@ step (Between env n) OpenList = quiet (Heading (Begun 1) (ToVerbs ∷ []) env []
 step (Between env n) t = quiet (lost Broken)
 step (InPrefix dot env n) (AWord (Namespace p)) = quiet (InPrefixIri dot p env n)
 step (InPrefix dot env n) t = quiet (lost Broken)
-step (InPrefixIri dot p env n) (AWord (Reference i)) = quiet (set dot n (with_prefix env p i))
+step (InPrefixIri dot p env n) (AWord (Reference i e)) = set dot e n (with_prefix env p i)
 step (InPrefixIri dot p env n) t = quiet (lost Broken)
-step (InBase dot env n) (AWord (Reference i)) = quiet (set dot n (with_base env i))
+step (InBase dot env n) (AWord (Reference i e)) = set dot e n (with_base env i)
 step (InBase dot env n) t = quiet (lost Broken)
-step (AtDot env n) (Dot e) = quiet (Between env n)
+step (AtDot env n) (Dot e) = (Between env n, stated e [])
 step (AtDot env n) t = quiet (lost Broken)
 step (Opened env n) Close = quiet (Heading (Verbs 0 (Blank env.request (next n))) [] env [] (one_more n))
 step (Opened env n) t = quiet (at_verb 1 (Blank env.request (next n)) t (ToMore (next n) ∷ []) env [] (one_more n))

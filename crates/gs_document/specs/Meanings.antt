@@ -41,7 +41,7 @@ name_text env x =
 
 -- [135s] iri: a reference is resolved against the base (6.3)
 abbrev pub iri_text : Context → Word → Option (List ℕ)
-iri_text env (Reference x) = option_map (resolved env.base) (iri_of x)
+iri_text env (Reference x e) = option_map (resolved env.base) (iri_of x)
 iri_text env (Namespace x) = name_text env x
 iri_text env (Name x) = name_text env x
 iri_text env _ = None

@@ -55,20 +55,20 @@ dotted env g = ends_at env g.triples g.numbers g.rest
 
 -- behind '@prefix'
 abbrev pub prefix_at : Context → Numbers → List Symbol → Result Told Fault
-prefix_at env n (AWord (Namespace p) ∷ AWord (Reference i) ∷ Dot e ∷ ts) = told [] n ts (with_prefix env p i)
+prefix_at env n (AWord (Namespace p) ∷ AWord (Reference i k) ∷ Dot e ∷ ts) = told (stated e []) n ts (with_prefix env p i)
 prefix_at env n _ = Err Broken
 
 -- behind '@base'
 abbrev pub base_at : Context → Numbers → List Symbol → Result Told Fault
-base_at env n (AWord (Reference i) ∷ Dot e ∷ ts) = told [] n ts (with_base env i)
+base_at env n (AWord (Reference i k) ∷ Dot e ∷ ts) = told (stated e []) n ts (with_base env i)
 base_at env n _ = Err Broken
 
 -- [2] statement
 unfoldable pub statement_at : Context → Numbers → List Symbol → Result Told Fault
 statement_at env n (At x ∷ ts) = if bytes_eq x (codes "@prefix") then prefix_at env n ts else if bytes_eq x (codes "@base") then base_at env n ts else Err Broken
-statement_at env n (PrefixWord ∷ AWord (Namespace p) ∷ AWord (Reference i) ∷ ts) = told [] n ts (with_prefix env p i)
+statement_at env n (PrefixWord ∷ AWord (Namespace p) ∷ AWord (Reference i e) ∷ ts) = told (stated e []) n ts (with_prefix env p i)
 statement_at env n (PrefixWord ∷ _) = Err Broken
-statement_at env n (BaseWord ∷ AWord (Reference i) ∷ ts) = told [] n ts (with_base env i)
+statement_at env n (BaseWord ∷ AWord (Reference i e) ∷ ts) = told (stated e []) n ts (with_base env i)
 statement_at env n (BaseWord ∷ _) = Err Broken
 statement_at env n ts = triples_at env n ts >>= dotted env
 

@@ -8,7 +8,8 @@ use Rattle.gs_lex.specs.declared.kinds.Kind.TheVariants as kind
 -- a token that is a term by itself: [18] IRIREF, [139s] PNAME_NS, [140s] PNAME_LN, [141s] BLANK_NODE_LABEL; or a number
 -- or a boolean, with its datatype
 pub data Word : Type 0 where
-  Reference : (text : List ℕ) → Word
+  -- with the number of bytes up to its end, since it may end a directive
+  Reference : (text : List ℕ) (end : ℕ) → Word
   Namespace : (text : List ℕ) → Word
   Name : (text : List ℕ) → Word
   Label : (text : List ℕ) → Word
@@ -43,7 +44,7 @@ xsd name = codes "http://www.w3.org/2001/XMLSchema#" ++ name
 
 -- 2.5.2, 2.5.3: numbers and booleans have the lexical form that is written
 abbrev pub symbol : Kind → List ℕ → ℕ → Symbol
-symbol kind.IriRef x n = AWord (Reference x)
+symbol kind.IriRef x n = AWord (Reference x n)
 symbol kind.PnameNs x n = AWord (Namespace x)
 symbol kind.PnameLn x n = AWord (Name x)
 symbol kind.BlankNodeLabel x n = AWord (Label x)

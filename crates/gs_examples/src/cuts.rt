@@ -10,6 +10,9 @@ const WHOLE: &[u8] = b"@prefix ex: <http://e/> . <> a ex:a.b, ( 1 .5 ) .";
 /// The lengths at which the text is a document.
 const ENDS: [usize; 5] = [0, 25, 26, 36, 49];
 
+/// The end of the directive, which is a statement with no triple.
+const DIRECTIVE: usize = 25;
+
 #[test]
 fn a_text_that_ends_too_early_is_a_fault(rt: HostRuntime) -> Result<(), Fail> {
     assert_eq!(rt; WHOLE.len(), 49);
@@ -20,8 +23,10 @@ fn a_text_that_ends_too_early_is_a_fault(rt: HostRuntime) -> Result<(), Fail> {
             let told = read(rt.alloc(), BASE, text, size, &mut triples);
             let want = if ENDS.contains(&length) {
                 Ok(())
-            } else {
+            } else if length < DIRECTIVE {
                 Err(Refusal::Syntax(0))
+            } else {
+                Err(Refusal::Syntax(25))
             };
             assert_eq!(rt; told, want, "at {length}, {size}");
         }

@@ -6,7 +6,8 @@ use std::process::Abort;
 use std::test::Fail;
 
 /// A text under the base `http://e/`, and the number of its bytes up to the end of the last
-/// statement that is whole.
+/// statement before the fault that is whole. A directive is a statement too: one with `@` ends at
+/// its dot, another at its IRI.
 type Row = (&'static str, u64);
 
 /// Asserts that a text has its fault at that place, whole and in pieces of 1, 2 and 3 bytes.
@@ -109,8 +110,8 @@ const DIRECTIVES: [Row; 24] = [
     ("<s> <p> <o> . @prefix p: <http://f/> ; <s> <p> <o> .", 13),
     ("@base <http://f/>", 0),
     ("@base <http://f/> <s> <p> <o> .", 0),
-    ("PREFIX p: <http://f/> .", 0),
-    ("BASE <http://f/> .", 0),
+    ("PREFIX p: <http://f/> .", 21),
+    ("BASE <http://f/> .", 16),
     ("@PREFIX p: <http://f/> .", 0),
     ("@Base <http://f/> .", 0),
     ("@ prefix p: <http://f/> .", 0),
@@ -129,7 +130,7 @@ const DIRECTIVES: [Row; 24] = [
     ("BASE", 0),
     (
         "@prefix p: <http://f/> . <s> p:p <o> ; @prefix q: <http://g/> .",
-        0,
+        24,
     ),
 ];
 
@@ -141,20 +142,46 @@ fn a_directive_out_of_order_is_a_fault(rt: HostRuntime) -> Result<(), Fail> {
     Ok(())
 }
 
+const BEHIND_DIRECTIVES: [Row; 15] = [
+    ("BASE <http://f/> <s> .", 16),
+    ("BASE <http://f/>\n# one\n~", 16),
+    ("BASE <http://f/> BASE <\\u0020>", 16),
+    ("@base <http://f/> . <s> .", 19),
+    ("@base <http://f/> . .", 19),
+    ("@base <http://f/> .~", 19),
+    ("PREFIX p: <http://f/> p:s <p> .", 21),
+    ("PREFIX p: <http://f/> @base <g/> p:s <p> p:o .", 21),
+    ("@prefix p: <http://f/> . BASE <g/> p:s .", 34),
+    ("@prefix p: <http://f/> . BASE <g/> .", 34),
+    ("BASE <http://f/>\nPREFIX p: <g/>\np:s .", 31),
+    ("@base <http://f/> . @prefix p: <g/> . p:s .", 37),
+    ("<s> <p> <o> . BASE <g/> <s> .", 23),
+    ("<s> <p> <o> . @base <g/> . <s> .", 26),
+    ("PREFIX p: <http://f/> p:s <p> <o> . p:s .", 35),
+];
+
+#[test]
+fn a_fault_stands_behind_a_whole_directive(rt: HostRuntime) -> Result<(), Fail> {
+    for (text, at) in BEHIND_DIRECTIVES {
+        expect_fault(&rt, rt.alloc(), text, at)?;
+    }
+    Ok(())
+}
+
 const NAMES: [Row; 38] = [
     ("p:s <p> <o> .", 0),
     (": <p> <o> .", 0),
     ("<s> <p> <o> . <s> p:p <o> .", 13),
     ("<s> <p> p: .", 0),
     ("<s> <p> \"x\"^^p:d .", 0),
-    ("@prefix p: <http://f/> . <s> P:p <o> .", 0),
-    ("@prefix p: <http://f/> . p:\\q <p> <o> .", 0),
-    ("@prefix p: <http://f/> . p:\\u0061 <p> <o> .", 0),
-    ("@prefix p: <http://f/> . p:%4 <p> <o> .", 0),
-    ("@prefix p: <http://f/> . p:%zz <p> <o> .", 0),
-    ("@prefix p: <http://f/> . p:a/b <p> <o> .", 0),
-    ("@prefix p: <http://f/> . p:-a <p> <o> .", 0),
-    ("@prefix p: <http://f/> . p:.a <p> <o> .", 0),
+    ("@prefix p: <http://f/> . <s> P:p <o> .", 24),
+    ("@prefix p: <http://f/> . p:\\q <p> <o> .", 24),
+    ("@prefix p: <http://f/> . p:\\u0061 <p> <o> .", 24),
+    ("@prefix p: <http://f/> . p:%4 <p> <o> .", 24),
+    ("@prefix p: <http://f/> . p:%zz <p> <o> .", 24),
+    ("@prefix p: <http://f/> . p:a/b <p> <o> .", 24),
+    ("@prefix p: <http://f/> . p:-a <p> <o> .", 24),
+    ("@prefix p: <http://f/> . p:.a <p> <o> .", 24),
     ("<s \u{1}t> <p> <o> .", 0),
     ("<\u{1}> <p> <o> .", 0),
     ("<s\u{1F}> <p> <o> .", 0),
@@ -242,7 +269,7 @@ fn an_ill_formed_literal_is_a_fault(rt: HostRuntime) -> Result<(), Fail> {
 }
 
 /// Texts that are not UTF-8.
-const BYTES: [(&[u8], u64); 7] = [
+const BYTES: [(&[u8], u64); 8] = [
     (b"<s> <p> \"\xFF\" .", 0),
     (b"<s> <p> <o> . # \x80", 13),
     (b"<s> <p> \"\xC3\" .", 0),
@@ -250,6 +277,7 @@ const BYTES: [(&[u8], u64); 7] = [
     (b"<s> <p> \"\xED\xA0\x80\" .", 0),
     (b"<s> <p> \"\xF4\x90\x80\x80\" .", 0),
     (b"<s> <p> <o> . # \xE2\x82", 13),
+    (b"BASE <http://f/> # \x80", 16),
 ];
 
 #[test]

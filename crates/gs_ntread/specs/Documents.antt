@@ -63,7 +63,7 @@ abbrev pub stated : ℕ → Numbers → Sentence → Numbers × List Stated
 stated r n s =
     let a = term_of r n s.subject in
     let o = term_of r a.1 s.object in
-    (o.1, record { triple = record { subject = a.0; predicate = s.predicate; object = o.0 }; end = s.end } ∷ [])
+    (o.1, record { triples = record { subject = a.0; predicate = s.predicate; object = o.0 } ∷ []; end = s.end } ∷ [])
 
 -- from sentences to triples, whose blank nodes are numbered by first appearance
 abbrev pub numbering : ℕ → Machine Numbers Sentence Stated (Unit {0})

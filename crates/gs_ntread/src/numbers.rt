@@ -70,7 +70,7 @@ pub fn triple(
     numbering: &mut Numbering,
     parts: Parts,
 ) -> Result<Triple, Refusal>
-    ensures triple { IfOk result (λ t. (numbering.new, record { triple = t; end = parts.end } ∷ []) ≡ stated request numbering.old (sentence_of parts)) }
+    ensures triple { IfOk result (λ t. (numbering.new, record { triples = t ∷ []; end = parts.end } ∷ []) ≡ stated request numbering.old (sentence_of parts)) }
     ensures refused { IfErr result (λ e. e ≡ Refusal.NoMemory) }
 {
     let Parts {

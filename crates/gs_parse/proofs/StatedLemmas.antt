@@ -1,9 +1,9 @@
 -- The triples of a statement, with its end.
-use Rattle.std.proofs.Common.{◌≡◌, ℕ, List, [], ◌∷◌, ◌++◌, ◌∙◌, sym, ap, refl}
+use Rattle.std.proofs.Common.{◌≡◌, ℕ, List, [], ◌∷◌, ◌++◌, ◌∙◌, sym, ap}
 use Rattle.std.proofs.lemmas.List.{append-nil}
 use Rattle.gs_model.specs.Triples.{Statement}
 use Rattle.gs_blank.specs.Numbers.{Numbers}
-use Rattle.gs_body.specs.Bodies.{triples_of, end_after}
+use Rattle.gs_body.specs.Bodies.{triples_of}
 use Rattle.gs_document.specs.Documents.{stated}
 use Rattle.gs_document.specs.Symbols.{Dot}
 use Rattle.gs_document.specs.Meanings.{Context}
@@ -11,16 +11,7 @@ use Rattle.gs_document.specs.States.{Frame}
 use Rattle.gs_document.specs.Machine.{leave}
 
 pub triples_stated : (end : ℕ) (P : List Statement) → triples_of (stated end P) ≡ P
-triples_stated end [] = refl
-triples_stated end (t ∷ P) = ap (λ Q. t ∷ Q) (triples_stated end P)
-
--- behind a statement that states triples
-end_stated : (last end : ℕ) (t : Statement) (P : List Statement) → end_after last (stated end (t ∷ P)) ≡ end
-end_stated last end t [] = refl
-end_stated last end t (u ∷ P) = end_stated end end u P
-
-pub end_when : (last end : ℕ) (P : List Statement) (t : Statement) (Q : List Statement) → P ≡ t ∷ Q → end ≡ end_after last (stated end P)
-end_when last end P t Q e = sym (ap (λ R. end_after last (stated end R)) e ∙ end_stated last end t Q)
+triples_stated end P = append-nil P
 
 -- the list with the triples of a statement that ends there
 pub given_at_end : (env : Context) (n : Numbers) (fs : List Frame) (old new P : List Statement) (end : ℕ) → fs ≡ [] → new ≡ old ++ P → new ≡ old ++ triples_of (leave (Dot end) fs env P n).1

@@ -20,7 +20,7 @@ use Rattle.gs_document.specs.declared.faults.Fault.{Fault}
 
 -- a word of the code, as one of the grammar
 abbrev pub word_at : Word → grammar.Word
-word_at (word.Reference x) = grammar.Reference x.now
+word_at (word.Reference x e) = grammar.Reference x.now e
 word_at (word.Namespace x) = grammar.Namespace x.now
 word_at (word.Name x) = grammar.Name x.now
 word_at (word.Label x) = grammar.Label x.now

@@ -39,6 +39,15 @@ impl Parser {
         Ok(())
     }
 
+    /// A statement ends there, and the next one may begin.
+    pub(crate) fn between(&mut self, end: u64)
+        ensures state { state_of self.new ≡ Between (context_of self.old.context) self.old.numbering }
+        ensures last { self.new.last ≡ end }
+    {
+        self.last = end;
+        self.place = Place::Between;
+    }
+
     /// The triples that wait are stated, and a statement ends there.
     fn state(&mut self, end: u64, triples: &mut Vec<Triple>) -> Result<(), AllocError>
         ensures state { OnOk result (state_of self.new ≡ Between (context_of self.old.context) self.old.numbering) }
@@ -46,10 +55,8 @@ impl Parser {
         ensures last { OnOk result (self.new.last ≡ end_after self.old.last (stated end self.old.waiting.items)) }
         ensures err { OnErr result (triples.new.items ≡ triples.old.items) }
     {
-        let last = end_behind(self.last, end, self.waiting.as_slice());
         triples.append(&mut self.waiting)?;
-        self.last = last;
-        self.place = Place::Between;
+        self.between(end);
         Ok(())
     }
 
@@ -87,16 +94,5 @@ impl Parser {
                 Ok(())
             }
         }
-    }
-}
-
-/// The end of the last statement that stated triples, where one with these ends.
-#[tactic(auto, using(crate::proofs::StatedLemmas::end_when))]
-fn end_behind(last: u64, end: u64, waiting: &[Triple]) -> u64
-    ensures { result ≡ end_after last (stated end waiting.now) }
-{
-    match waiting.split_first() {
-        None => last,
-        Some(_) => end,
     }
 }

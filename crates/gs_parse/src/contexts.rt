@@ -108,7 +108,7 @@ impl Context {
         ensures { IfOk result (λ o. option_map string_bytes o ≡ iri_text (context_of self.now) (word_at word.entry)) }
     {
         match word {
-            Word::Reference(text) => self.resolve(text),
+            Word::Reference(text, _) => self.resolve(text),
             Word::Namespace(text) | Word::Name(text) => self.name(text),
             _ => Ok(None),
         }

@@ -1,5 +1,6 @@
 //! Directives, and the datatype of a string.
 ghost use Rattle.std.specs.Prelude.{◌≡◌, ◌∷◌, OnOk, Some};
+ghost use Rattle.gs_body.specs.Bodies.{end_after};
 
 use crate::frames::Slot;
 use crate::parser::Parser;
@@ -45,15 +46,15 @@ impl Parser {
         Ok(())
     }
 
-    /// Behind the IRI of a directive.
-    fn set(&mut self, dot: bool)
-        ensures state { state_of self.new ≡ machine.set dot self.old.numbering (Some (context_of self.old.context)) }
-        ensures last { self.new.last ≡ self.old.last }
+    /// Behind the IRI of a directive, which ends there where no dot is to come.
+    fn set(&mut self, dot: bool, end: u64)
+        ensures state { state_of self.new ≡ (machine.set dot end self.old.numbering (Some (context_of self.old.context))).0 }
+        ensures last { self.new.last ≡ end_after self.old.last (machine.set dot end self.old.numbering (Some (context_of self.old.context))).1 }
     {
         if dot {
             self.place = Place::AtDot;
         } else {
-            self.place = Place::Between;
+            self.between(end);
         }
     }
 
@@ -66,12 +67,12 @@ impl Parser {
         symbol: Symbol,
     ) -> Result<(), AllocError>
         ensures state { OnOk result (state_of self.new ≡ (machine.step (state.InPrefixIri dot prefix.now (context_of self.old.context) self.old.numbering) (symbol_at symbol.entry)).0) }
-        ensures last { self.new.last ≡ self.old.last }
+        ensures last { OnOk result (self.new.last ≡ end_after self.old.last (machine.step (state.InPrefixIri dot prefix.now (context_of self.old.context) self.old.numbering) (symbol_at symbol.entry)).1) }
     {
         match symbol {
-            Symbol::Word(Word::Reference(text)) => {
+            Symbol::Word(Word::Reference(text, end)) => {
                 if self.context.declare(prefix, text)? {
-                    self.set(dot);
+                    self.set(dot, end);
                 } else {
                     self.lose(Fault::Broken);
                 }
@@ -85,12 +86,12 @@ impl Parser {
     #[tactic(auto, unfolding(gs_document::specs::Machine::step))]
     pub(crate) fn base(&mut self, dot: bool, symbol: Symbol) -> Result<(), AllocError>
         ensures state { OnOk result (state_of self.new ≡ (machine.step (state.InBase dot (context_of self.old.context) self.old.numbering) (symbol_at symbol.entry)).0) }
-        ensures last { self.new.last ≡ self.old.last }
+        ensures last { OnOk result (self.new.last ≡ end_after self.old.last (machine.step (state.InBase dot (context_of self.old.context) self.old.numbering) (symbol_at symbol.entry)).1) }
     {
         match symbol {
-            Symbol::Word(Word::Reference(text)) => {
+            Symbol::Word(Word::Reference(text, end)) => {
                 if self.context.set_base(text)? {
-                    self.set(dot);
+                    self.set(dot, end);
                 } else {
                     self.lose(Fault::Broken);
                 }
@@ -104,10 +105,10 @@ impl Parser {
     #[tactic(auto, unfolding(gs_document::specs::Machine::step))]
     pub(crate) fn dot(&mut self, symbol: Symbol)
         ensures state { state_of self.new ≡ (machine.step (state.AtDot (context_of self.old.context) self.old.numbering) (symbol_at symbol.entry)).0 }
-        ensures last { self.new.last ≡ self.old.last }
+        ensures last { self.new.last ≡ end_after self.old.last (machine.step (state.AtDot (context_of self.old.context) self.old.numbering) (symbol_at symbol.entry)).1 }
     {
         match symbol {
-            Symbol::Dot(_) => self.place = Place::Between,
+            Symbol::Dot(end) => self.between(end),
             _ => self.lose(Fault::Broken),
         }
     }

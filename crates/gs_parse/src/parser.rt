@@ -23,7 +23,7 @@ pub struct Parser {
     /// The triples of the statement that has not ended.
     pub(crate) waiting: Vec<Triple>,
     pub(crate) place: Place,
-    /// The number of bytes up to the end of the last statement that stated triples.
+    /// The number of bytes up to the end of the last statement.
     pub last: u64,
 }
 

@@ -17,7 +17,8 @@ const XSD_BOOLEAN: &str = "http://www.w3.org/2001/XMLSchema#boolean";
 /// A token that is a term by itself, by the names of the grammar.
 #[derive(Clone, Copy, Debug)]
 pub enum Word<'a> {
-    Reference(&'a str),
+    /// With the number of bytes up to its end, since it may end a directive.
+    Reference(&'a str, u64),
     Namespace(&'a str),
     Name(&'a str),
     Label(&'a str),
@@ -53,7 +54,7 @@ fn symbol_of_kind(kind: Kind, text: &str, end: u64) -> Symbol<'_>
     ensures { symbol_at result ≡ kind_symbol kind text.now end }
 {
     match kind {
-        Kind::IriRef => Symbol::Word(Word::Reference(text)),
+        Kind::IriRef => Symbol::Word(Word::Reference(text, end)),
         Kind::PnameNs => Symbol::Word(Word::Namespace(text)),
         Kind::PnameLn => Symbol::Word(Word::Name(text)),
         Kind::BlankNodeLabel => Symbol::Word(Word::Label(text)),

@@ -82,3 +82,23 @@ fn a_statement_without_an_object_is_a_fault(rt: HostRuntime) -> Result<(), Fail>
     assert_eq!(rt; unended.end()?, Err(Fault::Broken));
     Ok(())
 }
+
+#[test]
+fn a_fault_is_told_behind_a_directive(rt: HostRuntime) -> Result<(), Fail> {
+    let rows = [
+        // A verb is missing behind the dot of `@prefix`.
+        (b"@prefix p: <http://e/> . p: .".as_slice(), 24),
+        // A dot stands where a `PREFIX` has ended.
+        (b"PREFIX p: <http://e/> .".as_slice(), 21),
+        // A dot is missing behind `@base`, and the first directive is the last statement.
+        (b"BASE <a> @base <b> BASE <c>".as_slice(), 8),
+    ];
+    for (text, last) in rows.iter() {
+        let mut triples = Vec::new(rt.alloc());
+        let parser = parsed(rt.alloc(), text, &mut triples)?;
+        assert_eq!(rt; parser.fault(), Some(Fault::Broken));
+        assert_eq!(rt; parser.last, *last);
+        assert_eq!(rt; triples.len(), 0);
+    }
+    Ok(())
+}

@@ -1,5 +1,5 @@
--- A statement ends at a dot alone: no other token gives triples.
-use Rattle.std.proofs.Common.{◌≡◌, ℕ, Bool, true, false, List, [], ◌∷◌, refl, ◌∙◌, append-nil}
+-- Triples are stated at a dot alone: no other token gives any, though an IRI may end a directive.
+use Rattle.std.proofs.Common.{◌≡◌, ℕ, Bool, true, false, List, [], ◌∷◌, refl, ap, ◌∙◌, append-nil, Option, Some, None}
 use Rattle.std.specs.Prelude.{if◌then◌else◌}
 use Rattle.std.specs.Str.{is_utf8}
 use Rattle.gs_model.specs.Triples.{Statement}
@@ -9,11 +9,12 @@ use Rattle.gs_lex.specs.Lexers.{AreQuiet}
 use Rattle.gs_lex.specs.declared.kinds.Kind.{Kind}
 use Rattle.gs_lex.specs.declared.kinds.Kind.TheVariants as kind
 use Rattle.gs_blank.specs.Numbers.{Numbers}
+use Rattle.gs_body.specs.Bodies.{triples_of}
 use Rattle.gs_document.specs.Symbols.{Symbol, AWord, At, Carets, Reference, Namespace, Close, CloseList, Semicolon, Comma, Dot, Foreign, symbol, symbol_of, symbols_of}
-use Rattle.gs_document.specs.Meanings.{Context, simple}
+use Rattle.gs_document.specs.Meanings.{Context, simple, with_prefix, with_base}
 use Rattle.gs_document.specs.Goals.{Goal, Object, Inside, Verbs, After, Semis, Begun, Items}
 use Rattle.gs_document.specs.States.{Frame, ToClose, ToMore, State, Between, InPrefix, InPrefixIri, InBase, AtDot, Opened, Closed, Heading, Held, Typing, Lost}
-use Rattle.gs_document.specs.Machine.{leave, head, go_on, put, step, turtle}
+use Rattle.gs_document.specs.Machine.{leave, head, go_on, put, set, step, turtle}
 
 -- the symbol is no dot
 abbrev pub IsNoDot : Symbol → Type 0
@@ -21,7 +22,7 @@ IsNoDot (Dot e) = ⊥
 IsNoDot _ = Unit {0}
 
 -- a token behind a list of verbs and objects
-leave_quiet : (t : Symbol) (fs : List Frame) (env : Context) (P : List Statement) (n : Numbers) → IsNoDot t → (leave t fs env P n).1 ≡ []
+leave_quiet : (t : Symbol) (fs : List Frame) (env : Context) (P : List Statement) (n : Numbers) → IsNoDot t → triples_of (leave t fs env P n).1 ≡ []
 leave_quiet (Dot e) fs env P n h = absurd h
 leave_quiet Close (ToClose m ∷ fs) env P n h = refl
 leave_quiet Close (ToMore m ∷ []) env P n h = refl
@@ -30,7 +31,7 @@ leave_quiet Close fs env P n h = refl
 leave_quiet t fs env P n h = refl
 
 -- a token at a goal
-head_quiet : (g : Goal) (t : Symbol) (fs : List Frame) (env : Context) (P : List Statement) (n : Numbers) → IsNoDot t → (head g t fs env P n).1 ≡ []
+head_quiet : (g : Goal) (t : Symbol) (fs : List Frame) (env : Context) (P : List Statement) (n : Numbers) → IsNoDot t → triples_of (head g t fs env P n).1 ≡ []
 head_quiet (Object d) t fs env P n h = refl
 head_quiet (Inside d m) Close fs env P n h = refl
 head_quiet (Inside d m) t fs env P n h = refl
@@ -48,23 +49,29 @@ head_quiet (Items d i l) CloseList fs env P n h = refl
 head_quiet (Items d i l) t fs env P n h = refl
 
 -- a token behind a string
-go_quiet : (t : Symbol) (s : State) → IsNoDot t → (go_on t s).1 ≡ []
+go_quiet : (t : Symbol) (s : State) → IsNoDot t → triples_of (go_on t s).1 ≡ []
 go_quiet t (Heading g fs env P n) h = head_quiet g t fs env P n h
 go_quiet t (Lost e) h = refl
 go_quiet t s h = refl
 
+-- the IRI of a directive
+set_quiet : (dot : Bool) (e : ℕ) (n : Numbers) (env : Option Context) → triples_of (set dot e n env).1 ≡ []
+set_quiet dot e n None = refl
+set_quiet true e n (Some env) = refl
+set_quiet false e n (Some env) = refl
+
 -- a token in each state
-step_quiet : (s : State) (t : Symbol) → IsNoDot t → (step s t).1 ≡ []
+step_quiet : (s : State) (t : Symbol) → IsNoDot t → triples_of (step s t).1 ≡ []
 unfolding step
 step_quiet (Between env n) (At x) h = refl
 step_quiet (Between env n) t h = refl
 step_quiet (InPrefix dot env n) (AWord (Namespace p)) h = refl
 step_quiet (InPrefix dot env n) (AWord w) h = refl
 step_quiet (InPrefix dot env n) t h = refl
-step_quiet (InPrefixIri dot p env n) (AWord (Reference i)) h = refl
+step_quiet (InPrefixIri dot p env n) (AWord (Reference i e)) h = set_quiet dot e n (with_prefix env p i)
 step_quiet (InPrefixIri dot p env n) (AWord w) h = refl
 step_quiet (InPrefixIri dot p env n) t h = refl
-step_quiet (InBase dot env n) (AWord (Reference i)) h = refl
+step_quiet (InBase dot env n) (AWord (Reference i e)) h = set_quiet dot e n (with_base env i)
 step_quiet (InBase dot env n) (AWord w) h = refl
 step_quiet (InBase dot env n) t h = refl
 step_quiet (AtDot env n) (Dot e) h = refl
@@ -90,9 +97,9 @@ either_quiet true s h = h
 either_quiet false s h = tt
 
 -- tokens that are quiet give no triples
-pub quiet_end : (s : State) (ts : List Lexeme) → AreQuiet ts → (rest turtle s (symbols_of ts)).0 ≡ []
+pub quiet_end : (s : State) (ts : List Lexeme) → AreQuiet ts → triples_of (rest turtle s (symbols_of ts)).0 ≡ []
 unfolding rest
 quiet_end s [] h = refl
 quiet_end s (t ∷ []) h =
-    append-nil (step s (symbol_of t)).1 ∙ step_quiet s (symbol_of t) (either_quiet (is_utf8 t.text) (symbol t.kind t.text t.«end») (kind_quiet t.kind t.text t.«end» h))
+    ap triples_of (append-nil (step s (symbol_of t)).1) ∙ step_quiet s (symbol_of t) (either_quiet (is_utf8 t.text) (symbol t.kind t.text t.«end») (kind_quiet t.kind t.text t.«end» h))
 quiet_end s (t ∷ (u ∷ ts)) h = absurd h

@@ -92,7 +92,8 @@ all-settled a x ts l q = record {
   are_all = λ more f.
       let e : triples_of (said_of a (x ++ q.behind)).0 ≡ ts =
       ap (λ (s : Said). triples_of s.0) (said_on a x ts l (x ++ q.behind) q.last q.ending q.cut)
-      ∙ ap (λ z. triples_of (l.parsed.statements ++ z)) (ended-states q.ending (end_of a.parser q.last) ∙ quiet_end (state_of a.parser) q.last q.quiet)
-      ∙ ap triples_of (append-nil l.parsed.statements) ∙ sym l.parsed.given in
+      ∙ triples_of-append l.parsed.statements (ended_by q.ending (end_of a.parser q.last)).0
+      ∙ ap (λ z. triples_of l.parsed.statements ++ z) (ap triples_of (ended-states q.ending (end_of a.parser q.last)) ∙ quiet_end (state_of a.parser) q.last q.quiet)
+      ∙ append-nil (triples_of l.parsed.statements) ∙ sym l.parsed.given in
       subst (λ z. Begins z more) e (f q.behind);
 }

@@ -17,8 +17,8 @@ ended_by (lexer.Fault n) (ss, e) = (ss, e)
 unfoldable pub said_by : List ℕ → ℕ → List ℕ → Said
 said_by b r x = let c = cut_of false x in ended_by c.1 (document b r c.0)
 
--- The text x is cut into the tokens of a document that states these triples under the base b in the request r.
-pub record IsBody (b : List ℕ) (r : ℕ) (x : List ℕ) (triples : List Stated) : Type 0 where
+-- The text x is cut into the tokens of a document that has these statements under the base b in the request r.
+pub record IsBody (b : List ℕ) (r : ℕ) (x : List ℕ) (statements : List Stated) : Type 0 where
   pub lexemes : List Lexeme
   pub cut : IsCut false x lexemes lexer.Whole
-  pub stated : IsDocument b r lexemes triples
+  pub stated : IsDocument b r lexemes statements

@@ -36,13 +36,15 @@ const STATED: [[&str; 3]; 5] = [
 ];
 
 /// Texts with a fault.
-const FAULTS: [(&str, Refusal); 6] = [
+const FAULTS: [(&str, Refusal); 8] = [
     ("<s> <p> <o> . <s> <p> .", Refusal::Syntax(13)),
     ("<s> <p> <o> . <s> <p> ~", Refusal::Syntax(13)),
     ("<s> <p> <o> . <s> <p> <o>", Refusal::Syntax(13)),
     ("<s> <p> <o> . e:s ~ <o>", Refusal::Syntax(13)),
     ("<s> <p> <o> . <s> . ~", Refusal::Syntax(13)),
     ("<s> <p> \"", Refusal::Syntax(0)),
+    ("@prefix p: <d/> . p:s ~ <o>", Refusal::Syntax(17)),
+    ("<s> <p> <o> . BASE <d/> <s> .", Refusal::Syntax(23)),
 ];
 
 /// What a reader under the base `http://b/` in request 3 gives of a text in pieces of so many bytes.
