@@ -4,8 +4,8 @@ use Rattle.gs_model.specs.Triples.{Statement}
 use Rattle.gs_machine.specs.Machines.{Machine, steps}
 use Rattle.gs_body.specs.Bodies.{Stated, Ending, triples_of, end_after}
 
--- The input x leads the machine from its start to a state, and to having given the triples ts,
--- the last of which ends behind so many bytes.
+-- The input x leads the machine from its start to a state, and to having given the triples ts
+-- of statements the last of which ends behind so many bytes.
 pub record IsLed {S I : Type 0} (m : Machine S I Stated Ending) (start s : S) (last : ℕ) (x : List I) (ts : List Statement) : Type 0 where
   pub statements : List Stated
   pub run : steps m start x ≡ (s, statements)

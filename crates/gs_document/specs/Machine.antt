@@ -128,6 +128,6 @@ ended (Held x fs env P n) = unended (simple x)
 ended (Lost e) = e
 ended _ = Syntax
 
--- the reader: symbols in, triples out, and how the text ends
+-- the reader: symbols in, statements out, and how the text ends
 abbrev pub turtle : Machine State Symbol Stated Ending
 turtle = record { step = step; ended = λ s. ([], ended s) }

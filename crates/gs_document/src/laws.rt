@@ -15,13 +15,14 @@ pub fn document_is_read()
     ensures { (base : List ℕ) (request : ℕ) (ts : List Lexeme) (triples : List Stated) → (IsDocument base request ts triples ↔ (document base request ts ≡ (triples, Whole))) }
 {}
 
-/// Tokens have at most one meaning: the triples that they state are determined.
+/// Tokens have at most one meaning: their statements are determined, with the triples of each and
+/// its end.
 pub fn document_has_one_meaning()
     ensures { (base : List ℕ) (request : ℕ) (ts : List Lexeme) (triples others : List Stated) → IsDocument base request ts triples → IsDocument base request ts others → triples ≡ others }
 {}
 
 /// The machine that takes symbol by symbol tells of a list of tokens what the plain program says:
-/// the triples of the statements before the first fault, and which fault that is.
+/// the statements before the first fault, and which fault that is.
 pub fn machine_tells_the_document()
     ensures { (base : List ℕ) (request : ℕ) (ts : List Lexeme) → rest turtle (Between (start base request) no_numbers) (symbols_of ts) ≡ document base request ts }
 {}
