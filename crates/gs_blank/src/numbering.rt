@@ -74,7 +74,7 @@ impl Numbering {
     }
 }
 
-/// The number behind the last one, if there is one.
+/// The number after the last one, if there is one.
 fn next(last: u64) -> Result<u64, Refusal>
     ensures value { IfOk result (λ k. k ≡ last + 1) }
     ensures refused { IfErr result (λ e. e ≡ Refusal.NoMemory) }

@@ -1,68 +1,68 @@
 -- What the history of a machine tells.
 use Rattle.std.proofs.Common.{◌≡◌, ℕ, List, [], ◌∷◌, ◌++◌, refl, sym, ap, subst, ◌∙◌, append-nil}
 use Rattle.std.proofs.lemmas.List.Concat.{flat_map-append}
-use Rattle.gs_model.specs.Triples.{Statement}
+use Rattle.gs_model.specs.Triples.{RdfTriple}
 use Rattle.gs_model.specs.declared.refusals.Refusal.TheVariants as refusal
 use Rattle.gs_machine.specs.Machines.{Machine, joined, steps, rest, AreSettled, Begins}
 use Rattle.gs_machine.proofs.MachineLemmas.{steps-append, rest-append, steps-nil}
-use Rattle.gs_body.specs.Bodies.{Stated, Ending, Whole, Syntax, TooLong, Said, triples_of, end_after, IsBroken, Tells}
+use Rattle.gs_body.specs.Bodies.{Statement, Ending, Whole, Syntax, TooLong, Meaning, triples_of, end_after, IsBroken, Reports}
 use Rattle.gs_body.specs.Leading.{IsLed}
 
-pub end_after-append : (n : ℕ) (a b : List Stated) → end_after n (a ++ b) ≡ end_after (end_after n a) b
+pub end_after-append : (n : ℕ) (a b : List Statement) → end_after n (a ++ b) ≡ end_after (end_after n a) b
 end_after-append n [] b = refl
 end_after-append n (s ∷ ss) b = end_after-append s.end ss b
 
-pub triples_of-append : (a b : List Stated) → triples_of (a ++ b) ≡ triples_of a ++ triples_of b
-triples_of-append a b = flat_map-append (λ (s : Stated). s.triples) a b
+pub triples_of-append : (a b : List Statement) → triples_of (a ++ b) ≡ triples_of a ++ triples_of b
+triples_of-append a b = flat_map-append (λ (s : Statement). s.triples) a b
 
-module _ {S I : Type 0} (m : Machine S I Stated Ending) (start : S) where
+module _ {S I : Type 0} (m : Machine S I Statement Ending) (start : S) where
   -- a machine at its start
   pub led-start : IsLed m start start 0 [] []
   led-start = record { statements = []; run = steps-nil m start; given = refl; place = refl }
 
   -- a machine goes on
-  pub led-on : (s t : S) (n l : ℕ) (x y : List I) (ts : List Statement) (new : List Stated) → IsLed m start s n x ts
+  pub led-on : (s t : S) (n l : ℕ) (x y : List I) (ts : List RdfTriple) (new : List Statement) → IsLed m start s n x ts
       → steps m s y ≡ (t, new) → l ≡ end_after n new → IsLed m start t l (x ++ y) (ts ++ triples_of new)
   led-on s t n l x y ts new h e p = record {
     statements = h.statements ++ new;
-    run = steps-append m start x y ∙ ap (λ (u : S × List Stated). ((steps m u.0 y).0, u.1 ++ (steps m u.0 y).1)) h.run ∙ ap (λ (u : S × List Stated). (u.0, h.statements ++ u.1)) e;
+    run = steps-append m start x y ∙ ap (λ (u : S × List Statement). ((steps m u.0 y).0, u.1 ++ (steps m u.0 y).1)) h.run ∙ ap (λ (u : S × List Statement). (u.0, h.statements ++ u.1)) e;
     given = ap (λ z. z ++ triples_of new) h.given ∙ sym (triples_of-append h.statements new);
     place = p ∙ ap (λ z. end_after z new) h.place ∙ sym (end_after-append 0 h.statements new);
   }
 
   -- what is said of a text that goes on
-  pub led-said : (s : S) (n : ℕ) (x y : List I) (ts : List Statement) → (h : IsLed m start s n x ts)
+  pub led-meaning : (s : S) (n : ℕ) (x y : List I) (ts : List RdfTriple) → (h : IsLed m start s n x ts)
       → rest m start (x ++ y) ≡ joined h.statements (rest m s y)
-  led-said s n x y ts h = rest-append m start x y ∙ ap (λ (u : S × List Stated). joined u.1 (rest m u.0 y)) h.run
+  led-meaning s n x y ts h = rest-append m start x y ∙ ap (λ (u : S × List Statement). joined u.1 (rest m u.0 y)) h.run
 
   -- what was given is a front of what is said
-  pub led-begun : (s : S) (n : ℕ) (x : List I) (ts : List Statement) → IsLed m start s n x ts
+  pub led-begun : (s : S) (n : ℕ) (x : List I) (ts : List RdfTriple) → IsLed m start s n x ts
       → (y : List I) → Begins (triples_of (rest m start (x ++ y)).0) ts
-  led-begun s n x ts h y = (triples_of (rest m s y).0, ap (λ (r : Said). triples_of r.0) (led-said s n x y ts h) ∙ triples_of-append h.statements (rest m s y).0 ∙ ap (λ z. z ++ triples_of (rest m s y).0) (sym h.given))
+  led-begun s n x ts h y = (triples_of (rest m s y).0, ap (λ (r : Meaning). triples_of r.0) (led-meaning s n x y ts h) ∙ triples_of-append h.statements (rest m s y).0 ∙ ap (λ z. z ++ triples_of (rest m s y).0) (sym h.given))
 
   -- what was given are the triples of the complete statements, where the text may go on so that nothing more is said
-  pub led-settled : (s : S) (n : ℕ) (x : List I) (ts : List Statement) → IsLed m start s n x ts
+  pub led-settled : (s : S) (n : ℕ) (x : List I) (ts : List RdfTriple) → IsLed m start s n x ts
       → (y : List I) → (rest m s y).0 ≡ [] → AreSettled (λ z. triples_of (rest m start z).0) x ts
   led-settled s n x ts h y silent = record {
     stay = led-begun s n x ts h;
     are_all = λ more f.
         let e : triples_of (rest m start (x ++ y)).0 ≡ ts =
-        ap (λ (r : Said). triples_of r.0) (led-said s n x y ts h) ∙ ap (λ z. triples_of (h.statements ++ z)) silent ∙ ap triples_of (append-nil h.statements) ∙ sym h.given in
+        ap (λ (r : Meaning). triples_of r.0) (led-meaning s n x y ts h) ∙ ap (λ z. triples_of (h.statements ++ z)) silent ∙ ap triples_of (append-nil h.statements) ∙ sym h.given in
         subst (λ z. Begins z more) e (f y);
   }
 
   -- a machine that says nothing more and ends so
-  pub led-fails : (e : Ending) (s : S) (n : ℕ) (x y : List I) (ts : List Statement) → (h : IsLed m start s n x ts)
+  pub led-fails : (e : Ending) (s : S) (n : ℕ) (x y : List I) (ts : List RdfTriple) → (h : IsLed m start s n x ts)
       → rest m s y ≡ ([], e) → rest m start (x ++ y) ≡ (h.statements, e)
-  led-fails e s n x y ts h p = led-said s n x y ts h ∙ ap (joined h.statements) p ∙ ap (λ z. (z, e)) (append-nil h.statements)
+  led-fails e s n x y ts h p = led-meaning s n x y ts h ∙ ap (joined h.statements) p ∙ ap (λ z. (z, e)) (append-nil h.statements)
 
-  -- it breaks the grammar behind the last statement that was given
-  pub led-breaks : (s : S) (n : ℕ) (x y : List I) (ts : List Statement) → IsLed m start s n x ts
+  -- it breaks the grammar after the last statement that was given
+  pub led-breaks : (s : S) (n : ℕ) (x y : List I) (ts : List RdfTriple) → IsLed m start s n x ts
       → rest m s y ≡ ([], Syntax) → IsBroken (rest m start (x ++ y)) n
   led-breaks s n x y ts h p =
       let e = led-fails Syntax s n x y ts h p in
-      record { broken = ap (λ (r : Said). r.1) e; place = h.place ∙ ap (λ (r : Said). end_after 0 r.0) (sym e) }
+      record { broken = ap (λ (r : Meaning). r.1) e; place = h.place ∙ ap (λ (r : Meaning). end_after 0 r.0) (sym e) }
 
-  pub led-exceeds : (s : S) (n : ℕ) (x y : List I) (ts : List Statement) → IsLed m start s n x ts
+  pub led-exceeds : (s : S) (n : ℕ) (x y : List I) (ts : List RdfTriple) → IsLed m start s n x ts
       → rest m s y ≡ ([], TooLong) → (rest m start (x ++ y)).1 ≡ TooLong
-  led-exceeds s n x y ts h p = ap (λ (r : Said). r.1) (led-fails TooLong s n x y ts h p)
+  led-exceeds s n x y ts h p = ap (λ (r : Meaning). r.1) (led-fails TooLong s n x y ts h p)

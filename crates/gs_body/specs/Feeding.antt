@@ -1,25 +1,25 @@
 -- What one call of a reader does, in the words of its trait.
 use Rattle.std.specs.Prelude.{◌≡◌, ℕ, Bool, true, false, List, [], ◌∷◌, ◌++◌}
-use Rattle.gs_model.specs.Triples.{Statement}
+use Rattle.gs_model.specs.Triples.{RdfTriple}
 use Rattle.std.specs.Str.{IsUtf8}
 use Rattle.gs_machine.specs.Machines.{AreSettled, Begins}
-use Rattle.gs_body.specs.Bodies.{Said, Whole, triples_of}
+use Rattle.gs_body.specs.Bodies.{Meaning, Whole, triples_of}
 
 -- A piece was fed: the list grew by some triples. With them a reader of x that had given ts has given a front
 -- of what is said, however the text goes on; and where the text so far ends between two characters, just the
 -- triples of its complete statements: all that is said however the text goes on.
-pub record Feeds {R : Type 0} (said : R → List ℕ → Said) (Leads : R → List ℕ → List Statement → Type 0) (old new : R) (piece : List ℕ) (before after : List Statement) : Type 0 where
-  pub given : List Statement
+pub record Feeds {R : Type 0} (meaning_of : R → List ℕ → Meaning) (Leads : R → List ℕ → List RdfTriple → Type 0) (old new : R) (piece : List ℕ) (before after : List RdfTriple) : Type 0 where
+  pub given : List RdfTriple
   pub grown : after ≡ before ++ given
-  pub leads : (x : List ℕ) (ts : List Statement) → Leads old x ts → Leads new (x ++ piece) (ts ++ given)
-  pub begun : (x : List ℕ) (ts : List Statement) → Leads old x ts
-      → (y : List ℕ) → Begins (triples_of (said old (x ++ piece ++ y)).0) (ts ++ given)
-  pub settled : (x : List ℕ) (ts : List Statement) → Leads old x ts → IsUtf8 (x ++ piece)
-      → AreSettled (λ z. triples_of (said old z).0) (x ++ piece) (ts ++ given)
+  pub leads : (x : List ℕ) (ts : List RdfTriple) → Leads old x ts → Leads new (x ++ piece) (ts ++ given)
+  pub begun : (x : List ℕ) (ts : List RdfTriple) → Leads old x ts
+      → (y : List ℕ) → Begins (triples_of (meaning_of old (x ++ piece ++ y)).0) (ts ++ given)
+  pub settled : (x : List ℕ) (ts : List RdfTriple) → Leads old x ts → IsUtf8 (x ++ piece)
+      → AreSettled (λ z. triples_of (meaning_of old z).0) (x ++ piece) (ts ++ given)
 
 -- The text ended: it has no fault, and with the triples by which the list grew all that it says is given.
-pub record Finishes {R : Type 0} (said : R → List ℕ → Said) (Leads : R → List ℕ → List Statement → Type 0) (old : R) (before after : List Statement) : Type 0 where
-  pub given : List Statement
+pub record Finishes {R : Type 0} (meaning_of : R → List ℕ → Meaning) (Leads : R → List ℕ → List RdfTriple → Type 0) (old : R) (before after : List RdfTriple) : Type 0 where
+  pub given : List RdfTriple
   pub grown : after ≡ before ++ given
-  pub whole : (x : List ℕ) (ts : List Statement) → Leads old x ts → (said old x).1 ≡ Whole
-  pub all : (x : List ℕ) (ts : List Statement) → Leads old x ts → triples_of (said old x).0 ≡ ts ++ given
+  pub whole : (x : List ℕ) (ts : List RdfTriple) → Leads old x ts → (meaning_of old x).1 ≡ Whole
+  pub all : (x : List ℕ) (ts : List RdfTriple) → Leads old x ts → triples_of (meaning_of old x).0 ≡ ts ++ given

@@ -1,7 +1,7 @@
 //! Readers of bodies.
 ghost use Rattle.std.specs.Prelude.{◌≡◌, ◌++◌, ◌↔◌, ℕ, List, Bool, true, false, OnOk, OnErr, IfErr};
-ghost use Rattle.gs_model.specs.Triples.{Statement};
-ghost use Rattle.gs_body.specs.Bodies.{Said};
+ghost use Rattle.gs_model.specs.Triples.{RdfTriple};
+ghost use Rattle.gs_body.specs.Bodies.{Meaning};
 
 use gs_model::Refusal;
 use gs_term::Triple;
@@ -12,33 +12,33 @@ use gs_term::Triple;
 /// Where no call was refused for memory, a fault is told by `finish` at the latest, with the kind
 /// and the place of the first fault of the whole text, for every cutting.
 pub trait BodyReader {
-    ghost use Rattle.gs_body.specs.Bodies.{Tells};
+    ghost use Rattle.gs_body.specs.Bodies.{Reports};
     ghost use Rattle.gs_body.specs.Feeding.{Feeds, Finishes};
 
     // What a whole text says.
-    ghost said: { Self → List ℕ → Said };
+    ghost meaning_of: { Self → List ℕ → Meaning };
 
     // A text, in any pieces, leads a new reader here, and to having given these triples.
-    ghost Leads: { Self → List ℕ → List Statement → Type 0 };
+    ghost Leads: { Self → List ℕ → List RdfTriple → Type 0 };
 
     // Each call is refused from now on.
     ghost is_closed: { Self → Bool };
 
     /// Takes the next piece, and appends the triples of the statements that are complete now.
     fn feed(&mut self, piece: &[u8], triples: &mut Vec<Triple>) -> Result<(), Refusal>
-        ensures given { OnOk result (Feeds said Leads self.old self.new piece.now triples.old.items triples.new.items) }
+        ensures given { OnOk result (Feeds meaning_of Leads self.old self.new piece.now triples.old.items triples.new.items) }
         // The text has that fault, however it goes on.
-        ensures fault { IfErr result (λ e. (x : List ℕ) (ts : List Statement) → Leads self.old x ts → (y : List ℕ) → Tells e (said self.old (x ++ piece.now ++ y))) }
+        ensures fault { IfErr result (λ e. (x : List ℕ) (ts : List RdfTriple) → Leads self.old x ts → (y : List ℕ) → Reports e (meaning_of self.old (x ++ piece.now ++ y))) }
         ensures kept { OnErr result (triples.new.items ≡ triples.old.items) }
         ensures refused { OnErr result (is_closed self.new ≡ true) }
         ensures open_still { OnOk result (is_closed self.new ≡ false) }
         ensures closed { (result ≡ Err Refusal.Closed) ↔ (is_closed self.old ≡ true) }
-        ensures reading { (x : List ℕ) → said self.new x ≡ said self.old x };
+        ensures reading { (x : List ℕ) → meaning_of self.new x ≡ meaning_of self.old x };
 
     /// The text ends: appends the triples that are complete by that.
     fn finish(&mut self, triples: &mut Vec<Triple>) -> Result<(), Refusal>
-        ensures given { OnOk result (Finishes said Leads self.old triples.old.items triples.new.items) }
-        ensures fault { IfErr result (λ e. (x : List ℕ) (ts : List Statement) → Leads self.old x ts → Tells e (said self.old x)) }
+        ensures given { OnOk result (Finishes meaning_of Leads self.old triples.old.items triples.new.items) }
+        ensures fault { IfErr result (λ e. (x : List ℕ) (ts : List RdfTriple) → Leads self.old x ts → Reports e (meaning_of self.old x)) }
         ensures kept { OnErr result (triples.new.items ≡ triples.old.items) }
         ensures ended { is_closed self.new ≡ true }
         ensures closed { (result ≡ Err Refusal.Closed) ↔ (is_closed self.old ≡ true) };

@@ -1,7 +1,7 @@
 -- The setting of a store: the base of the names that it makes up, and how much it may hold.
 use Rattle.std.specs.Prelude.{ℕ, List}
 use Rattle.gs_event.specs.Datasets.{Setting}
-use Rattle.gs_core.specs.declared.limits.TheConstants.{MOST_TRIPLES, MOST_NAMES}
+use Rattle.gs_model.specs.Limits.{max_triples, max_names}
 
 abbrev pub setting_of : List ℕ → Setting
-setting_of base = record { base = base; limits = record { triples = MOST_TRIPLES; names = MOST_NAMES } }
+setting_of base = record { base = base; limits = record { triples = max_triples; names = max_names } }

@@ -6,7 +6,7 @@ mod limits;
 mod stores;
 
 pub use bases::is_base;
-pub use gs_event::{Action, Answer, Event, Kind};
+pub use gs_event::{Action, Answer, Event, UploadKind};
 pub use gs_model::Refusal;
-pub use limits::{MOST_NAMES, MOST_TRIPLES};
+pub use limits::{MAX_NAMES, MAX_TRIPLES};
 pub use stores::Store;

@@ -1,7 +1,7 @@
 //! How much a store may hold: a write whose result has more is answered 507.
 
 /// Triples over all graphs.
-pub const MOST_TRIPLES: u64 = 10_000_000;
+pub const MAX_TRIPLES: u64 = 10_000_000;
 
 /// Names of graphs.
-pub const MOST_NAMES: u64 = 65_536;
+pub const MAX_NAMES: u64 = 65_536;

@@ -1,14 +1,14 @@
 //! The store, and the headline as the contract of its run.
 ghost use Rattle.std.specs.Prelude.{◌≡◌, ◌++◌, ◌≤◌, [], true, IfOk, IfErr, OnErr, length};
 ghost use Rattle.gs_model.specs.Bases.{is_base};
-ghost use Rattle.gs_model.specs.declared.limits.TheConstants.{LAST_NUMBER, MOST_SEATS};
+ghost use Rattle.gs_model.specs.Limits.{last_number, max_seats};
 ghost use Rattle.gs_event.specs.Datasets.{triples_in};
 ghost use Rattle.gs_event.specs.Views.{Fits, next_view};
 ghost use Rattle.gs_event.specs.Histories.{Start, History, IsLegal, history_of, view_of};
 ghost use Rattle.gs_event.specs.Waste.{Reclaims, nodes_in};
 ghost use Rattle.gs_core.specs.Settings.{setting_of};
 
-use crate::limits::{MOST_NAMES, MOST_TRIPLES};
+use crate::limits::{MAX_NAMES, MAX_TRIPLES};
 use gs_event::{Answer, Event, Limits};
 use gs_model::Refusal;
 use gs_plain::PlainStore;
@@ -40,7 +40,7 @@ impl Store {
     /// makes up names of graphs.
     pub fn new(alloc: Global, seats: u16, base: &str) -> Result<Store, Refusal>
         requires some { 1 ≤ seats }
-        requires few { seats ≤ MOST_SEATS }
+        requires few { seats ≤ max_seats }
         requires base { is_base base.now ≡ true }
         ensures view { IfOk result (λ store. store.view ≡ view_of (record { seats = seats; setting = setting_of base.now; request = 0; commit = 0 }) []) }
         ensures waste { IfOk result (λ store. store.waste ≡ []) }
@@ -58,17 +58,17 @@ impl Store {
         request: u64,
     ) -> Result<Store, Refusal>
         requires some { 1 ≤ seats }
-        requires few { seats ≤ MOST_SEATS }
+        requires few { seats ≤ max_seats }
         requires base { is_base base.now ≡ true }
-        requires last_commit { commit ≤ LAST_NUMBER }
-        requires last_request { request ≤ LAST_NUMBER }
+        requires last_commit { commit ≤ last_number }
+        requires last_request { request ≤ last_number }
         ensures view { IfOk result (λ store. store.view ≡ view_of (record { seats = seats; setting = setting_of base.now; request = request; commit = commit }) []) }
         ensures waste { IfOk result (λ store. store.waste ≡ []) }
         ensures refused { IfErr result (λ refusal. refusal ≡ Refusal.NoMemory) }
     {
         let limits = Limits {
-            triples: MOST_TRIPLES,
-            names: MOST_NAMES,
+            triples: MAX_TRIPLES,
+            names: MAX_NAMES,
         };
         Store::limited(alloc, seats, base, limits, commit, request)
     }
@@ -103,7 +103,7 @@ impl Store {
     }
 
     /// Takes events in any order. On a store that shows what a legal history says, as a new store
-    /// does of the empty one, that history with the events and their answers behind it is legal:
+    /// does of the empty one, that history with the events and their answers after it is legal:
     /// the answers are those of an abstract graph store that takes each write whole at its commit
     /// and each read whole at its pin; and the store then shows what the whole history says. Room
     /// for all answers is made before the first event, so `NoMemory` changes nothing.
@@ -143,7 +143,7 @@ impl EventStore for Store {
 #[cfg(test)]
 mod tests {
     use super::*;
-    use gs_event::{Action, Kind};
+    use gs_event::{Action, UploadKind};
     use gs_term::{GraphName, Target, TermText, Triple};
     use std::process::Abort;
     use std::test::Fail;
@@ -180,7 +180,7 @@ mod tests {
     fn uploaded(
         alloc: Global,
         store: &mut Store,
-        kind: Kind,
+        kind: UploadKind,
         objects: &[&str],
     ) -> Result<u16, Refusal> {
         let list = triples(alloc, objects)?;
@@ -197,7 +197,7 @@ mod tests {
         rt: &impl Abort,
         alloc: Global,
         store: &mut Store,
-        kind: Kind,
+        kind: UploadKind,
         objects: &[&str],
         want: (u16, u64),
     ) -> Result<(), Fail> {
@@ -213,16 +213,16 @@ mod tests {
     fn the_limits_are_on_the_result_alone(rt: HostRuntime) -> Result<(), Fail> {
         let alloc = rt.alloc();
         let mut store = small(alloc)?;
-        let put = Kind::Put(named(alloc, "http://e/g")?);
+        let put = UploadKind::Put(named(alloc, "http://e/g")?);
         expect(&rt, alloc, &mut store, put, &SIX, (201, 6))?;
-        let again = Kind::Put(named(alloc, "http://e/g")?);
+        let again = UploadKind::Put(named(alloc, "http://e/g")?);
         let others = ["7", "8", "9", "10", "11", "12"];
         expect(&rt, alloc, &mut store, again, &others, (204, 6))?;
-        let known = Kind::Post(named(alloc, "http://e/g")?);
+        let known = UploadKind::Post(named(alloc, "http://e/g")?);
         expect(&rt, alloc, &mut store, known, &["12", "7"], (204, 6))?;
-        let seventh = Kind::Post(named(alloc, "http://e/g")?);
+        let seventh = UploadKind::Post(named(alloc, "http://e/g")?);
         expect(&rt, alloc, &mut store, seventh, &["13"], (507, 6))?;
-        let elsewhere = Kind::Put(Target::Default);
+        let elsewhere = UploadKind::Put(Target::Default);
         expect(&rt, alloc, &mut store, elsewhere, &["1"], (507, 6))
     }
 
@@ -230,14 +230,14 @@ mod tests {
     fn a_third_name_is_too_many(rt: HostRuntime) -> Result<(), Fail> {
         let alloc = rt.alloc();
         let mut store = small(alloc)?;
-        let first = Kind::Post(named(alloc, "http://e/g")?);
+        let first = UploadKind::Post(named(alloc, "http://e/g")?);
         expect(&rt, alloc, &mut store, first, &[], (201, 0))?;
-        expect(&rt, alloc, &mut store, Kind::New, &["1"], (201, 1))?;
-        expect(&rt, alloc, &mut store, Kind::New, &["1"], (507, 1))?;
-        let third = Kind::Put(named(alloc, "http://e/h")?);
+        expect(&rt, alloc, &mut store, UploadKind::New, &["1"], (201, 1))?;
+        expect(&rt, alloc, &mut store, UploadKind::New, &["1"], (507, 1))?;
+        let third = UploadKind::Put(named(alloc, "http://e/h")?);
         expect(&rt, alloc, &mut store, third, &[], (507, 1))?;
         let _ = store.step(&Event::Seat(0, Action::Delete(named(alloc, "http://e/g")?)));
-        let then = Kind::Put(named(alloc, "http://e/h")?);
+        let then = UploadKind::Put(named(alloc, "http://e/h")?);
         expect(&rt, alloc, &mut store, then, &["2"], (201, 2))
     }
 }

@@ -2,7 +2,7 @@
 use Rattle.std.proofs.Common.{◌≡◌, ℕ, zero, suc, Bool, true, false, cond, List, [], ◌∷◌, ◌++◌, refl, sym, ap, ◌∙◌, append_assoc}
 use Rattle.std.specs.Prelude.{Result, Ok, Err}
 use Rattle.gs_model.specs.Terms.{Term, Blank}
-use Rattle.gs_model.specs.Triples.{Statement}
+use Rattle.gs_model.specs.Triples.{RdfTriple}
 use Rattle.gs_blank.specs.Numbers.{Numbers, one_more}
 use Rattle.gs_document.specs.Symbols.{Word, Symbol, AWord, Text, At, Carets, A, Open, Close, OpenList, CloseList, Semicolon, Comma}
 use Rattle.gs_document.specs.Meanings as meaning
@@ -17,15 +17,15 @@ Covered env g n ts (Err e) = Unit {0}
 Covered env g n ts (Ok r) = (front : List Symbol) × (ts ≡ front ++ r.rest) × Covers env g n front r.value r.triples r.numbers
 
 -- a rule of an object and another goal
-abbrev Rule : Context → ℕ → Goal → Goal → Numbers → Numbers → List Symbol → (Term → List Statement) → Type 0
-Rule env d g then m n pre X = (xs ys : List Symbol) (o w : Term) (T U : List Statement) (k l : Numbers) → Covers env (Object d) n xs o T k → Covers env then k ys w U l
+abbrev Rule : Context → ℕ → Goal → Goal → Numbers → Numbers → List Symbol → (Term → List RdfTriple) → Type 0
+Rule env d g then m n pre X = (xs ys : List Symbol) (o w : Term) (T U : List RdfTriple) (k l : Numbers) → Covers env (Object d) n xs o T k → Covers env then k ys w U l
     → Covers env g m (pre ++ (xs ++ ys)) w ((T ++ X o) ++ U) l
 
 joins : (pre ts xs ys a b : List Symbol) → ts ≡ xs ++ a → a ≡ ys ++ b → pre ++ ts ≡ (pre ++ (xs ++ ys)) ++ b
 joins pre ts xs ys a b e h =
     ap (λ z. pre ++ z) (e ∙ ap (λ z. xs ++ z) h ∙ sym (append_assoc xs ys b)) ∙ sym (append_assoc pre (xs ++ ys) b)
 
-covered_then : (env : Context) (f d : ℕ) (m n : Numbers) (g then : Goal) (pre ts : List Symbol) (X : Term → List Statement) → Rule env d g then m n pre X
+covered_then : (env : Context) (f d : ℕ) (m n : Numbers) (g then : Goal) (pre ts : List Symbol) (X : Term → List RdfTriple) → Rule env d g then m n pre X
     → ((k : Numbers) (us : List Symbol) → Covered env then k us (parse env f then k us))
     → (r : Result Got Fault) → Covered env (Object d) n ts r
     → Covered env g m (pre ++ ts) (r >>= λ o. with_front (o.triples ++ X o.value) (parse env f then o.numbers o.rest))
@@ -36,15 +36,15 @@ covered_then env f d m n g then pre ts X rule ih (Ok o) (xs, e, c) = go (parse e
     go (Err e) h = tt
     go (Ok r) (ys, h, b) = (pre ++ (xs ++ ys), joins pre ts xs ys o.rest r.rest e h, rule xs ys o.value r.value o.triples r.triples o.numbers r.numbers c b)
 
--- a goal behind one token
+-- a goal after one token
 covered_behind : (env : Context) (g h : Goal) (m n : Numbers) (t : Symbol) (ts : List Symbol)
-    → ((us : List Symbol) (v : Term) (T : List Statement) (k : Numbers) → Covers env h n us v T k → Covers env g m (t ∷ us) v T k)
+    → ((us : List Symbol) (v : Term) (T : List RdfTriple) (k : Numbers) → Covers env h n us v T k → Covers env g m (t ∷ us) v T k)
     → (r : Result Got Fault) → Covered env h n ts r → Covered env g m (t ∷ ts) r
 covered_behind env g h m n t ts rule (Err e) c = tt
 covered_behind env g h m n t ts rule (Ok r) (us, e, d) = (t ∷ us, ap (λ z. t ∷ z) e, rule us r.value r.triples r.numbers d)
 
 covered_if : (env : Context) (g h : Goal) (m n : Numbers) (t : Symbol) (ts : List Symbol) (b : Bool)
-    → (b ≡ true → (us : List Symbol) (v : Term) (T : List Statement) (k : Numbers) → Covers env h n us v T k → Covers env g m (t ∷ us) v T k)
+    → (b ≡ true → (us : List Symbol) (v : Term) (T : List RdfTriple) (k : Numbers) → Covers env h n us v T k → Covers env g m (t ∷ us) v T k)
     → (r : Result Got Fault) → Covered env h n ts r → Covered env g m (t ∷ ts) (cond b r (Err Broken))
 covered_if env g h m n t ts true rule r c = covered_behind env g h m n t ts (rule refl) r c
 covered_if env g h m n t ts false rule r c = tt
@@ -67,7 +67,7 @@ covered_literal env d n x (Carets ∷ t ∷ ts) = covered_bare env d n (Text x �
 covered_literal env d n x (t ∷ ts) = covered_bare env d n (Text x ∷ []) (t ∷ ts) (meaning.simple x) _ refl (λ v h. rule.simple x h)
 
 -- properties up to their ']'
-covered_close : (env : Context) (d m : ℕ) (n : Numbers) (ts xs us : List Symbol) (w : Term) (T : List Statement) (k : Numbers) → ts ≡ xs ++ us
+covered_close : (env : Context) (d m : ℕ) (n : Numbers) (ts xs us : List Symbol) (w : Term) (T : List RdfTriple) (k : Numbers) → ts ≡ xs ++ us
     → Covers env (Verbs d (Blank env.request m)) n xs w T k → Covered env (Inside d m) n ts (close (Blank env.request m) T k us)
 covered_close env d m n ts xs [] w T k e c = tt
 covered_close env d m n ts xs (Close ∷ us) w T k e c = (xs ++ Close ∷ [], e ∙ sym (append_assoc xs (Close ∷ []) us), rule.properties c)
@@ -88,15 +88,15 @@ covered_verbs env f d s n t ts (Ok p) h ih c =
 
 -- a goal that is another one
 covered_as : (env : Context) (g h : Goal) (n : Numbers) (ts : List Symbol)
-    → ((us : List Symbol) (v : Term) (T : List Statement) (k : Numbers) → Covers env h n us v T k → Covers env g n us v T k)
+    → ((us : List Symbol) (v : Term) (T : List RdfTriple) (k : Numbers) → Covers env h n us v T k → Covers env g n us v T k)
     → (r : Result Got Fault) → Covered env h n ts r → Covered env g n ts r
 covered_as env g h n ts rule (Err e) c = tt
 covered_as env g h n ts rule (Ok r) (us, e, d) = (us, e, rule us r.value r.triples r.numbers d)
 
-abbrev first_of : Context → ℕ → Term → List Statement
+abbrev first_of : Context → ℕ → Term → List RdfTriple
 first_of env m o = first_is env m o ∷ []
 
-abbrev cell_of : Context → ℕ → ℕ → Term → List Statement
+abbrev cell_of : Context → ℕ → ℕ → Term → List RdfTriple
 cell_of env m l o = first_is env m o ∷ rest_is env l (Blank env.request m) ∷ []
 
 pub covered : (env : Context) (f : ℕ) (g : Goal) (n : Numbers) (ts : List Symbol) → Covered env g n ts (parse env f g n ts)

@@ -3,10 +3,10 @@ use Rattle.std.proofs.Common.{◌≡◌, ℕ, zero, suc, ◌<◌, ◌≤◌, Boo
 use Rattle.std.specs.Prelude.{Result, Ok, Err, Option, Some, None, codes, bytes_eq}
 use Rattle.std.proofs.lemmas.Slice.Eq.{bytes_eq-Decides}
 use Rattle.std.proofs.lemmas.List.{length-map}
-use Rattle.gs_model.specs.Triples.{Statement}
+use Rattle.gs_model.specs.Triples.{RdfTriple}
 use Rattle.gs_lex.specs.Tokens.{Lexeme}
 use Rattle.gs_blank.specs.Numbers.{Numbers, no_numbers}
-use Rattle.gs_body.specs.Bodies.{Said, Stated, Whole, Syntax}
+use Rattle.gs_body.specs.Bodies.{Meaning, Statement, Whole, Syntax}
 use Rattle.gs_document.specs.Symbols.{Reference, Namespace, Symbol, AWord, At, Dot, PrefixWord, BaseWord, symbol_of, symbols_of}
 use Rattle.gs_document.specs.Meanings.{Fault, Broken, Long, ending, Context, with_prefix, with_base}
 use Rattle.gs_document.specs.Documents as statement
@@ -20,7 +20,7 @@ CoveredStatement env n ts (Err e) = Unit {0}
 CoveredStatement env n ts (Ok r) = (front : List Symbol) × (ts ≡ front ++ r.rest) × IsStatement env n front r.stated r.context r.numbers
 
 -- a directive of some tokens
-back_told : (env : Context) (n : Numbers) (S : List Stated) (front rest : List Symbol) (m q : Option Context) → m ≡ q
+back_told : (env : Context) (n : Numbers) (S : List Statement) (front rest : List Symbol) (m q : Option Context) → m ≡ q
     → ((next : Context) → m ≡ Some next → IsStatement env n front S next n) → CoveredStatement env n (front ++ rest) (told S n rest q)
 back_told env n S front rest m None h rule = tt
 back_told env n S front rest m (Some next) h rule = (front, refl, rule next h)
@@ -41,7 +41,7 @@ back_at env n x ts true c h k = back_prefix env n x ts ((bytes_eq-Decides x (cod
 back_at env n x ts false true h k = back_base env n x ts ((bytes_eq-Decides x (codes "@base")).0 k)
 back_at env n x ts false false h k = tt
 
-back_dot : (env : Context) (n k : Numbers) (ts xs us : List Symbol) (T : List Statement) → ts ≡ xs ++ us → AreTriples env n xs T k → CoveredStatement env n ts (ends_at env T k us)
+back_dot : (env : Context) (n k : Numbers) (ts xs us : List Symbol) (T : List RdfTriple) → ts ≡ xs ++ us → AreTriples env n xs T k → CoveredStatement env n ts (ends_at env T k us)
 back_dot env n k ts xs [] T e c = tt
 back_dot env n k ts xs (Dot z ∷ us) T e c = (xs ++ Dot z ∷ [], e ∙ sym (append_assoc xs (Dot z ∷ []) us), statement.triples z c)
 back_dot env n k ts xs (t ∷ us) T e c = tt
@@ -62,10 +62,10 @@ statement_covered env n (BaseWord ∷ _) = tt
 statement_covered env n ts = back_triples env n ts (triples_at env n ts) (triples_covered env n ts)
 
 -- a statement is read by its rule
-abbrev as_told : List Stated → Context → Numbers → List Symbol → Result Told Fault
+abbrev as_told : List Statement → Context → Numbers → List Symbol → Result Told Fault
 as_told S env n rest = Ok (record { stated = S; context = env; numbers = n; rest = rest })
 
-triples_go : {env : Context} {n k : Numbers} {xs : List Symbol} {T : List Statement} → AreTriples env n xs T k → (z : List Symbol)
+triples_go : {env : Context} {n k : Numbers} {xs : List Symbol} {T : List RdfTriple} → AreTriples env n xs T k → (z : List Symbol)
     → statement_at env n (xs ++ z) ≡ (triples_at env n (xs ++ z) >>= dotted env)
 unfolding statement_at
 triples_go (statement.word w q c) z = refl
@@ -74,7 +74,7 @@ triples_go (statement.list a b) z = refl
 triples_go (statement.properties c) z = refl
 triples_go (statement.properties_and a c) z = refl
 
-statement_read : {env next : Context} {n k : Numbers} {xs : List Symbol} {S : List Stated} → IsStatement env n xs S next k → (rest : List Symbol)
+statement_read : {env next : Context} {n k : Numbers} {xs : List Symbol} {S : List Statement} → IsStatement env n xs S next k → (rest : List Symbol)
     → statement_at env n (xs ++ rest) ≡ as_told S next k rest
 unfolding statement_at
 statement_read {env = env} {n = n} (statement.prefix x p i k e h q) rest =
@@ -93,19 +93,19 @@ no_end : (e : Fault) → ending e ≡ Whole → ⊥
 no_end Broken h = cc
 no_end Long h = cc
 
-back_followed : (env : Context) (n : Numbers) (ts : List Symbol) (f : ℕ) (S : List Stated) (r : Result Told Fault)
-    → ((e : Context) (k : Numbers) (us : List Symbol) (R : List Stated) → statements_at f e k us ≡ (R, Whole) → AreStatements e k us R)
+back_followed : (env : Context) (n : Numbers) (ts : List Symbol) (f : ℕ) (S : List Statement) (r : Result Told Fault)
+    → ((e : Context) (k : Numbers) (us : List Symbol) (R : List Statement) → statements_at f e k us ≡ (R, Whole) → AreStatements e k us R)
     → CoveredStatement env n ts r → followed (statements_at f) r ≡ (S, Whole) → AreStatements env n ts S
 back_followed env n ts f S (Err e) ih c h = absurd (no_end e (ap (λ z. z.1) h))
 back_followed env n ts f S (Ok r) ih (xs, e, c) h =
-    let rest : Said = statements_at f r.context r.numbers r.rest in
+    let rest : Meaning = statements_at f r.context r.numbers r.rest in
     let whole : rest.1 ≡ Whole = ap (λ z. z.1) h in
-    let same : rest ≡ (rest.0, Whole) = ap (λ z. let p : Said = (rest.0, z) in p) whole in
+    let same : rest ≡ (rest.0, Whole) = ap (λ z. let p : Meaning = (rest.0, z) in p) whole in
     subst (λ z. AreStatements env n z S) (sym e)
     (subst (λ z. AreStatements env n (xs ++ r.rest) z) (ap (λ z. z.0) h)
     (statement.statement c (ih r.context r.numbers r.rest rest.0 same)))
 
-statements_covered : (f : ℕ) (env : Context) (n : Numbers) (ts : List Symbol) (S : List Stated) → statements_at f env n ts ≡ (S, Whole) → AreStatements env n ts S
+statements_covered : (f : ℕ) (env : Context) (n : Numbers) (ts : List Symbol) (S : List Statement) → statements_at f env n ts ≡ (S, Whole) → AreStatements env n ts S
 unfolding statements_at
 statements_covered f env n [] S h = subst (AreStatements env n []) (ap (λ z. z.0) h) (statement.nothing env n)
 statements_covered zero env n (t ∷ ts) S h = let k : Syntax ≡ Whole = ap (λ z. z.1) h in absurd (cc)
@@ -113,14 +113,14 @@ statements_covered (suc f) env n (t ∷ ts) S h =
     back_followed env n (t ∷ ts) f S (statement_at env n (t ∷ ts)) (statements_covered f) (statement_covered env n (t ∷ ts)) h
 
 -- a statement takes a token
-triples_take : {env : Context} {n k : Numbers} {xs : List Symbol} {T : List Statement} → AreTriples env n xs T k → 0 < length xs
+triples_take : {env : Context} {n k : Numbers} {xs : List Symbol} {T : List RdfTriple} → AreTriples env n xs T k → 0 < length xs
 triples_take (statement.word w q c) = omega arith
 triples_take (statement.anon c) = omega arith
 triples_take (statement.list a b) = omega arith
 triples_take (statement.properties c) = omega arith
 triples_take (statement.properties_and a c) = omega arith
 
-statement_takes : {env next : Context} {n k : Numbers} {xs : List Symbol} {S : List Stated} → IsStatement env n xs S next k → 0 < length xs
+statement_takes : {env next : Context} {n k : Numbers} {xs : List Symbol} {S : List Statement} → IsStatement env n xs S next k → 0 < length xs
 statement_takes (statement.prefix x p i k e h q) = omega arith
 statement_takes (statement.base x i k e h q) = omega arith
 statement_takes (statement.prefix_word p i e q) = omega arith
@@ -138,21 +138,21 @@ unfolding statements_at
 statements_nil zero env n = refl
 statements_nil (suc f) env n = refl
 
-statements_read : (f : ℕ) {env : Context} {n : Numbers} {ts : List Symbol} {S : List Stated} → AreStatements env n ts S → length ts ≤ f → statements_at f env n ts ≡ (S, Whole)
+statements_read : (f : ℕ) {env : Context} {n : Numbers} {ts : List Symbol} {S : List Statement} → AreStatements env n ts S → length ts ≤ f → statements_at f env n ts ≡ (S, Whole)
 statements_read f (statement.nothing env n) h = statements_nil f env n
 statements_read zero (statement.statement {xs = xs} {ys = ys} a b) h = absurd (omega (arith, statement_takes a, length-append xs ys))
 statements_read (suc f) (statement.statement {env = env} {next = next} {n = n} {k = k} {xs = xs} {ys = ys} {S = S} {R = R} a b) h =
     statements_step f env n (xs ++ ys) (omega (arith, statement_takes a, length-append xs ys))
     ∙ ap (followed (statements_at f)) (statement_read a ys)
-    ∙ ap (λ z. let p : Said = (S ++ z.0, z.1) in p) (statements_read f b (omega (arith, statement_takes a, length-append xs ys)))
+    ∙ ap (λ z. let p : Meaning = (S ++ z.0, z.1) in p) (statements_read f b (omega (arith, statement_takes a, length-append xs ys)))
 
 -- a document, and what the program says of it
-pub document_read : (b : List ℕ) (r : ℕ) (ts : List Lexeme) (S : List Stated) → IsDocument b r ts S → document b r ts ≡ (S, Whole)
+pub document_read : (b : List ℕ) (r : ℕ) (ts : List Lexeme) (S : List Statement) → IsDocument b r ts S → document b r ts ≡ (S, Whole)
 document_read b r ts S d = statements_read (length ts) d (omega (arith, length-map ts symbol_of))
 
-pub document_covered : (b : List ℕ) (r : ℕ) (ts : List Lexeme) (S : List Stated) → document b r ts ≡ (S, Whole) → IsDocument b r ts S
+pub document_covered : (b : List ℕ) (r : ℕ) (ts : List Lexeme) (S : List Statement) → document b r ts ≡ (S, Whole) → IsDocument b r ts S
 document_covered b r ts S h = statements_covered (length ts) (start b r) no_numbers (symbols_of ts) S h
 
 -- so a document has one list of statements
-pub document_once : (b : List ℕ) (r : ℕ) (ts : List Lexeme) (S R : List Stated) → IsDocument b r ts S → IsDocument b r ts R → S ≡ R
-document_once b r ts S R d e = ap (λ (z : Said). z.0) (sym (document_read b r ts S d) ∙ document_read b r ts R e)
+pub document_once : (b : List ℕ) (r : ℕ) (ts : List Lexeme) (S R : List Statement) → IsDocument b r ts S → IsDocument b r ts R → S ≡ R
+document_once b r ts S R d e = ap (λ (z : Meaning). z.0) (sym (document_read b r ts S d) ∙ document_read b r ts R e)

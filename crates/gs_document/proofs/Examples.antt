@@ -6,17 +6,17 @@ use Rattle.std.specs.FinMap as finite
 use Rattle.std.specs.Cmp.Lexicographic.{nat_list_cmp_total}
 use lib.Utf8.{encode}
 use Rattle.gs_model.specs.Terms.{Term, Iri, Blank, Literal, Typed, suffix}
-use Rattle.gs_model.specs.Triples.{Statement}
+use Rattle.gs_model.specs.Triples.{RdfTriple}
 use Rattle.gs_lex.specs.Tokens.{Lexeme}
-use Rattle.gs_lex.specs.declared.kinds.Kind.{Kind}
-use Rattle.gs_lex.specs.declared.kinds.Kind.TheVariants as kind
+use Rattle.gs_lex.specs.declared.kinds.TokenKind.{TokenKind}
+use Rattle.gs_lex.specs.declared.kinds.TokenKind.TheVariants as kind
 use Rattle.gs_iri.specs.References.{before, from, behind, is_scheme, has_scheme, scheme_of, behind_scheme, behind_slashes, authority_of, behind_authority, path_of, behind_path, query_of, behind_query, fragment_of, parts_of}
 use Rattle.gs_iri.specs.Dots.{segments_of, is_dot, is_dot_dot, is_dots, closed, moved, text_of_segments, output_of, dots}
 use Rattle.gs_iri.specs.Resolving.{scheme_text, marked, parts_text, resolved_parts, resolved}
 use Rattle.gs_escape.specs.Meanings.{unescaped, stands_local}
 use Rattle.gs_escape.specs.Tokens.{between, iri_of}
 use Rattle.gs_blank.specs.Numbers.{Numbers, no_numbers}
-use Rattle.gs_body.specs.Bodies.{Stated, Whole}
+use Rattle.gs_body.specs.Bodies.{Statement, Whole}
 use Rattle.gs_document.specs.Symbols.{Reference, Name, Plain, A, xsd}
 use Rattle.gs_document.specs.Meanings as meaning
 use Rattle.gs_document.specs.Meanings.{Fault, Context, Prefixes, made, name_text, iri, rdf, with_numbers, with_prefix}
@@ -31,7 +31,7 @@ abbrev graph : List ℕ
 graph = codes "http://e/g"
 
 -- a token that ends there
-abbrev token : Kind → List ℕ → ℕ → Lexeme
+abbrev token : TokenKind → List ℕ → ℕ → Lexeme
 token k x end = record { kind = k; text = x; start = 0; «end» = end }
 
 abbrev row : List Lexeme
@@ -45,7 +45,7 @@ abbrev cell : ℕ → Term
 cell k = Blank 1 k
 
 -- the triples of the second statement, each at its last token
-abbrev triples : List Statement
+abbrev triples : List RdfTriple
 triples =
     triple (Iri graph) (rdf (codes "type")) (Iri (codes "http://e/a.b"))
     ∷ triple (cell 1) (rdf (codes "first")) (Literal (codes "1") (Typed (xsd (codes "integer"))))
@@ -58,7 +58,7 @@ triples =
 abbrev prefixes : Prefixes
 prefixes = finite.insert finite.empty (codes "ex") (codes "http://e/")
 
--- the context behind the first statement
+-- the context after the first statement
 abbrev context : Context
 context = record { base = graph; prefixes = prefixes; request = 1 }
 
@@ -93,7 +93,7 @@ unfolding meaning.word made suffix
 half = refl
 
 -- the directive, and the triples
-abbrev statements : List Stated
+abbrev statements : List Statement
 statements = stated 25 [] ++ stated 49 triples
 
 -- by the rules

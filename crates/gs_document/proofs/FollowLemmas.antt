@@ -1,7 +1,7 @@
--- What may stand behind a goal, so that it ends there.
+-- What may stand after a goal, so that it ends there.
 use Rattle.std.proofs.Common.{◌≡◌, ℕ, List, [], ◌∷◌, ◌++◌, refl, sym, append_assoc, subst}
 use Rattle.gs_model.specs.Terms.{Term}
-use Rattle.gs_model.specs.Triples.{Statement}
+use Rattle.gs_model.specs.Triples.{RdfTriple}
 use Rattle.gs_blank.specs.Numbers.{Numbers}
 use Rattle.gs_document.specs.Symbols.{Symbol, At, Carets, Close, Dot}
 use Rattle.gs_document.specs.Meanings as meaning
@@ -37,14 +37,14 @@ no_suffix (Close ∷ ts) h = tt
 no_suffix (Dot e ∷ ts) h = tt
 no_suffix (t ∷ ts) h = elim h [ ]
 
--- behind an object, where verbs and objects go on or end
-pub behind_object : {env : Context} {d : ℕ} {s p v : Term} {n k : Numbers} {ys : List Symbol} {T : List Statement} → Covers env (After d s p) n ys v T k
+-- after an object, where verbs and objects go on or end
+pub behind_object : {env : Context} {d : ℕ} {s p v : Term} {n k : Numbers} {ys : List Symbol} {T : List RdfTriple} → Covers env (After d s p) n ys v T k
     → (rest : List Symbol) → EndsVerbs rest → NoSuffix (ys ++ rest)
 behind_object (rule.no_more s p n) rest h = no_suffix rest h
 behind_object (rule.comma a b) rest h = tt
 behind_object (rule.semicolon a) rest h = tt
 
-object_begins : {env : Context} {d : ℕ} {v : Term} {n k : Numbers} {xs : List Symbol} {T : List Statement} → Covers env (Object d) n xs v T k
+object_begins : {env : Context} {d : ℕ} {v : Term} {n k : Numbers} {xs : List Symbol} {T : List RdfTriple} → Covers env (Object d) n xs v T k
     → (rest : List Symbol) → NoSuffix (xs ++ rest)
 object_begins (rule.word w h) rest = tt
 object_begins (rule.simple x h) rest = tt
@@ -53,7 +53,7 @@ object_begins (rule.typed x t h) rest = tt
 object_begins (rule.brackets h c) rest = tt
 object_begins (rule.list h c) rest = tt
 
-pub behind_cell : {env : Context} {d h m : ℕ} {v : Term} {n k : Numbers} {ys : List Symbol} {T : List Statement} → Covers env (Items d h m) n ys v T k
+pub behind_cell : {env : Context} {d h m : ℕ} {v : Term} {n k : Numbers} {ys : List Symbol} {T : List RdfTriple} → Covers env (Items d h m) n ys v T k
     → (rest : List Symbol) → NoSuffix (ys ++ rest)
 behind_cell (rule.ended h m n) rest = tt
 behind_cell (rule.item {xs = xs} {ys = ys} a b) rest = subst NoSuffix (sym (append_assoc xs ys rest)) (object_begins a (ys ++ rest))

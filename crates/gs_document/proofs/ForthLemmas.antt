@@ -2,7 +2,7 @@
 use Rattle.std.proofs.Common.{◌≡◌, ℕ, zero, suc, ◌+◌, ◌*◌, ◌<◌, Bool, true, cond, List, [], ◌∷◌, ◌++◌, length, refl, sym, ap, ◌∙◌, append_assoc, arith, length-append}
 use Rattle.std.specs.Prelude.{Result, Ok, Err}
 use Rattle.gs_model.specs.Terms.{Term, Blank}
-use Rattle.gs_model.specs.Triples.{Statement}
+use Rattle.gs_model.specs.Triples.{RdfTriple}
 use Rattle.gs_blank.specs.Numbers.{Numbers, one_more}
 use Rattle.gs_document.specs.Symbols.{Symbol, AWord, A, Close, Semicolon, Comma}
 use Rattle.gs_document.specs.Meanings as meaning
@@ -20,7 +20,7 @@ rank (Begun d) = 1
 rank (Items d h m) = 1
 rank g = 0
 
-abbrev pub got : Term → List Statement → Numbers → List Symbol → Result Got Fault
+abbrev pub got : Term → List RdfTriple → Numbers → List Symbol → Result Got Fault
 got v T n ts = Ok (record { value = v; triples = T; numbers = n; rest = ts })
 
 ends_after : (env : Context) (f d : ℕ) (s p : Term) (n : Numbers) (ts : List Symbol) → EndsVerbs ts → parse env (suc f) (After d s p) n ts ≡ got s [] n ts
@@ -39,10 +39,10 @@ ends_semis env f d s n (A ∷ ts) h = elim h [ ]
 ends_semis env f d s n (t ∷ ts) h = refl
 
 -- an object, and then another goal
-abbrev then_goal : Context → ℕ → Goal → (Term → List Statement) → Got → Result Got Fault
+abbrev then_goal : Context → ℕ → Goal → (Term → List RdfTriple) → Got → Result Got Fault
 then_goal env f g X r = with_front (r.triples ++ X r.value) (parse env f g r.numbers r.rest)
 
-reads_then : (env : Context) (f d : ℕ) (n k l : Numbers) (g : Goal) (xs ys rest : List Symbol) (o w : Term) (T U : List Statement) (X : Term → List Statement)
+reads_then : (env : Context) (f d : ℕ) (n k l : Numbers) (g : Goal) (xs ys rest : List Symbol) (o w : Term) (T U : List RdfTriple) (X : Term → List RdfTriple)
     → parse env f (Object d) n (xs ++ (ys ++ rest)) ≡ got o T k (ys ++ rest) → parse env f g k (ys ++ rest) ≡ got w U l rest
     → (parse env f (Object d) n ((xs ++ ys) ++ rest) >>= then_goal env f g X) ≡ got w ((T ++ X o) ++ U) l rest
 reads_then env f d n k l g xs ys rest o w T U X one two =
@@ -50,13 +50,13 @@ reads_then env f d n k l g xs ys rest o w T U X one two =
     ∙ ap (λ z. z >>= then_goal env f g X) one
     ∙ ap (with_front (T ++ X o)) two
 
-abbrev first_of : Context → ℕ → Term → List Statement
+abbrev first_of : Context → ℕ → Term → List RdfTriple
 first_of env m o = first_is env m o ∷ []
 
-abbrev cell_of : Context → ℕ → ℕ → Term → List Statement
+abbrev cell_of : Context → ℕ → ℕ → Term → List RdfTriple
 cell_of env m l o = first_is env m o ∷ rest_is env l (Blank env.request m) ∷ []
 
-begun_goes : {env : Context} {d : ℕ} {n k : Numbers} {xs : List Symbol} {o : Term} {T : List Statement} (f : ℕ) (m : Numbers) → Covers env (Object d) n xs o T k → (z : List Symbol)
+begun_goes : {env : Context} {d : ℕ} {n k : Numbers} {xs : List Symbol} {o : Term} {T : List RdfTriple} (f : ℕ) (m : Numbers) → Covers env (Object d) n xs o T k → (z : List Symbol)
     → parse env (suc f) (Begun d) m (xs ++ z) ≡ (parse env f (Object d) (one_more m) (xs ++ z) >>= then_goal env f (Items d (next m) (next m)) (first_of env (next m)))
 unfolding parse
 begun_goes f m (rule.word w h) z = refl
@@ -66,7 +66,7 @@ begun_goes f m (rule.typed x t h) z = refl
 begun_goes f m (rule.brackets h c) z = refl
 begun_goes f m (rule.list h c) z = refl
 
-items_goes : {env : Context} {d : ℕ} {n k : Numbers} {xs : List Symbol} {o : Term} {T : List Statement} (f a b : ℕ) (m : Numbers) → Covers env (Object d) n xs o T k → (z : List Symbol)
+items_goes : {env : Context} {d : ℕ} {n k : Numbers} {xs : List Symbol} {o : Term} {T : List RdfTriple} (f a b : ℕ) (m : Numbers) → Covers env (Object d) n xs o T k → (z : List Symbol)
     → parse env (suc f) (Items d a b) m (xs ++ z) ≡ (parse env f (Object d) (one_more m) (xs ++ z) >>= then_goal env f (Items d a (next m)) (cell_of env (next m) b))
 unfolding parse
 items_goes f a b m (rule.word w h) z = refl
@@ -95,17 +95,17 @@ semis_by env f d s i (AWord w) ts p h = refl
 semis_by env f d s i A ts p h = refl
 semis_by env f d s i t ts p h = absurd (cc)
 
--- a list of verbs and objects behind a '[' or a ';'
-inside_goes : {env : Context} {d : ℕ} {s v : Term} {n k : Numbers} {xs : List Symbol} {T : List Statement} (f e m : ℕ) (i : Numbers) → Covers env (Verbs d s) n xs v T k → (z : List Symbol)
+-- a list of verbs and objects after a '[' or a ';'
+inside_goes : {env : Context} {d : ℕ} {s v : Term} {n k : Numbers} {xs : List Symbol} {T : List RdfTriple} (f e m : ℕ) (i : Numbers) → Covers env (Verbs d s) n xs v T k → (z : List Symbol)
     → parse env (suc f) (Inside e m) i (xs ++ z) ≡ (parse env f (Verbs e (Blank env.request m)) i (xs ++ z) >>= closes (Blank env.request m))
 inside_goes {env = env} f e m i (rule.verbs {p = p} t {xs = xs} {ys = ys} h a b) z = inside_by env f e m i t ((xs ++ ys) ++ z) p h
 
-semis_goes : {env : Context} {d : ℕ} {s v : Term} {n k : Numbers} {xs : List Symbol} {T : List Statement} (f : ℕ) (i : Numbers) → Covers env (Verbs d s) n xs v T k → (z : List Symbol)
+semis_goes : {env : Context} {d : ℕ} {s v : Term} {n k : Numbers} {xs : List Symbol} {T : List RdfTriple} (f : ℕ) (i : Numbers) → Covers env (Verbs d s) n xs v T k → (z : List Symbol)
     → parse env (suc f) (Semis d s) i (xs ++ z) ≡ parse env f (Verbs d s) i (xs ++ z)
 semis_goes {env = env} {d = d} {s = s} f i (rule.verbs {p = p} t {xs = xs} {ys = ys} h a b) z = semis_by env f d s i t ((xs ++ ys) ++ z) p h
 
 -- an object takes a token
-pub takes : {env : Context} {d : ℕ} {n k : Numbers} {xs : List Symbol} {o : Term} {T : List Statement} → Covers env (Object d) n xs o T k → 0 < length xs
+pub takes : {env : Context} {d : ℕ} {n k : Numbers} {xs : List Symbol} {o : Term} {T : List RdfTriple} → Covers env (Object d) n xs o T k → 0 < length xs
 takes (rule.word w h) = omega arith
 takes (rule.simple x h) = omega arith
 takes (rule.tagged x y h) = omega arith
@@ -116,7 +116,7 @@ takes (rule.list h c) = omega arith
 reads_open : (env : Context) (b : Bool) (r q : Result Got Fault) → b ≡ true → r ≡ q → cond b r (Err Broken) ≡ q
 reads_open env b r q h e = ap (λ z. cond z r (Err Broken)) h ∙ e
 
-pub reads : (env : Context) (f : ℕ) {g : Goal} {n k : Numbers} {xs : List Symbol} {v : Term} {T : List Statement} → Covers env g n xs v T k
+pub reads : (env : Context) (f : ℕ) {g : Goal} {n k : Numbers} {xs : List Symbol} {v : Term} {T : List RdfTriple} → Covers env g n xs v T k
     → (rest : List Symbol) → 2 * length (xs ++ rest) + rank g < f → Follows g rest → parse env f g n (xs ++ rest) ≡ got v T k rest
 unfolding parse
 reads env zero c rest h e = absurd (omega arith)

@@ -2,10 +2,10 @@
 use Rattle.std.proofs.Common.{◌≡◌, ℕ, zero, suc, ◌+◌, ◌*◌, ◌<◌, Bool, true, false, cond, List, [], ◌∷◌, ◌++◌, length, refl, sym, ap, ◌∙◌, append-nil, arith}
 use Rattle.std.specs.Prelude.{Result, Ok, Err, codes}
 use Rattle.gs_model.specs.Terms.{Term, Blank}
-use Rattle.gs_model.specs.Triples.{Statement}
+use Rattle.gs_model.specs.Triples.{RdfTriple}
 use Rattle.gs_machine.specs.Machines.{rest}
 use Rattle.gs_blank.specs.Numbers.{Numbers, one_more}
-use Rattle.gs_body.specs.Bodies.{Said, Syntax}
+use Rattle.gs_body.specs.Bodies.{Meaning, Syntax}
 use Rattle.gs_document.specs.Symbols.{Symbol, AWord, Text, A, Open, Close, OpenList, CloseList, Semicolon, Comma}
 use Rattle.gs_document.specs.Meanings as meaning
 use Rattle.gs_document.specs.Meanings.{Fault, Broken, ending, Context, rdf}
@@ -17,41 +17,41 @@ use Rattle.gs_document.proofs.BackLemmas.{covered}
 use Rattle.gs_document.proofs.ForthLemmas.{rank}
 use Rattle.gs_document.proofs.WalkLemmas.{told, lost_rest, leaves, continue, continue_then, as_begun, as_items, as_verbs, as_semis, as_after, as_object, list_object, close_then, given_rest, held_rest}
 
-open_rest : (env : Context) (d : ℕ) (b : Bool) (g : Goal) (fs : List Frame) (P : List Statement) (n : Numbers) (ts : List Symbol) (r : Result Got Fault)
+open_rest : (env : Context) (d : ℕ) (b : Bool) (g : Goal) (fs : List Frame) (P : List RdfTriple) (n : Numbers) (ts : List Symbol) (r : Result Got Fault)
     → rest turtle (Heading g fs env P n) ts ≡ continue (Object d) fs env P r
     → rest turtle (cond b (Heading g fs env P n) (lost Broken)) ts ≡ continue (Object d) fs env P (cond b r (Err Broken))
 open_rest env d true g fs P n ts r e = e
 open_rest env d false g fs P n ts r e = lost_rest Syntax ts
 
 -- where no tokens are left
-stop_inside : (env : Context) (f d m : ℕ) (n : Numbers) (fs : List Frame) (P : List Statement) → (let p : Said = ([], Syntax) in p) ≡ continue (Inside d m) fs env P (parse env (suc f) (Inside d m) n [])
+stop_inside : (env : Context) (f d m : ℕ) (n : Numbers) (fs : List Frame) (P : List RdfTriple) → (let p : Meaning = ([], Syntax) in p) ≡ continue (Inside d m) fs env P (parse env (suc f) (Inside d m) n [])
 unfolding parse
 stop_inside env zero d m n fs P = refl
 stop_inside env (suc f) d m n fs P = refl
 
-stop_begun : (env : Context) (f d : ℕ) (n : Numbers) (fs : List Frame) (P : List Statement) → (let p : Said = ([], Syntax) in p) ≡ continue (Begun d) fs env P (parse env (suc f) (Begun d) n [])
+stop_begun : (env : Context) (f d : ℕ) (n : Numbers) (fs : List Frame) (P : List RdfTriple) → (let p : Meaning = ([], Syntax) in p) ≡ continue (Begun d) fs env P (parse env (suc f) (Begun d) n [])
 unfolding parse
 stop_begun env zero d n fs P = refl
 stop_begun env (suc f) d n fs P = refl
 
-stop_items : (env : Context) (f d h m : ℕ) (n : Numbers) (fs : List Frame) (P : List Statement) → (let p : Said = ([], Syntax) in p) ≡ continue (Items d h m) fs env P (parse env (suc f) (Items d h m) n [])
+stop_items : (env : Context) (f d h m : ℕ) (n : Numbers) (fs : List Frame) (P : List RdfTriple) → (let p : Meaning = ([], Syntax) in p) ≡ continue (Items d h m) fs env P (parse env (suc f) (Items d h m) n [])
 unfolding parse
 stop_items env zero d h m n fs P = refl
 stop_items env (suc f) d h m n fs P = refl
 
-abbrev first_of : Context → ℕ → Term → List Statement
+abbrev first_of : Context → ℕ → Term → List RdfTriple
 first_of env m o = first_is env m o ∷ []
 
-abbrev cell_of : Context → ℕ → ℕ → Term → List Statement
+abbrev cell_of : Context → ℕ → ℕ → Term → List RdfTriple
 cell_of env m l o = first_is env m o ∷ rest_is env l (Blank env.request m) ∷ []
 
-verb_rest : (env : Context) (f d : ℕ) (s : Term) (fs : List Frame) (P : List Statement) (n : Numbers) (ts : List Symbol) (q : Result Term Fault)
+verb_rest : (env : Context) (f d : ℕ) (s : Term) (fs : List Frame) (P : List RdfTriple) (n : Numbers) (ts : List Symbol) (q : Result Term Fault)
     → ((p : Term) → rest turtle (Heading (Object d) (ToObject d s p ∷ fs) env P n) ts ≡ continue (Verbs d s) fs env P (parse env f (Object d) n ts >>= λ o. with_front (o.triples ++ triple s p o.value ∷ []) (parse env f (After d s p) o.numbers o.rest)))
     → rest turtle (to_object d s fs env P n q) ts ≡ continue (Verbs d s) fs env P (q >>= λ p. parse env f (Object d) n ts >>= λ o. with_front (o.triples ++ triple s p o.value ∷ []) (parse env f (After d s p) o.numbers o.rest))
 verb_rest env f d s fs P n ts (Err e) h = lost_rest (ending e) ts
 verb_rest env f d s fs P n ts (Ok p) h = h p
 
-pub walk : (env : Context) (f : ℕ) (g : Goal) (n : Numbers) (ts : List Symbol) (fs : List Frame) (P : List Statement) → 2 * length ts + rank g < f
+pub walk : (env : Context) (f : ℕ) (g : Goal) (n : Numbers) (ts : List Symbol) (fs : List Frame) (P : List RdfTriple) → 2 * length ts + rank g < f
     → rest turtle (Heading g fs env P n) ts ≡ continue g fs env P (parse env f g n ts)
 unfolding parse rest step ended leaves
 walk env zero g n ts fs P h = absurd (omega arith)

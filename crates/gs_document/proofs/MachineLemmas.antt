@@ -2,7 +2,7 @@
 use Rattle.std.proofs.Common.{◌≡◌, ℕ, ◌≤◌, Bool, true, false, cond, List, [], ◌∷◌, ◌++◌, length, refl, ap, ◌∙◌, arith, length-append}
 use Rattle.std.specs.Prelude.{Result, Ok, Err}
 use Rattle.gs_model.specs.Terms.{Term, Blank}
-use Rattle.gs_model.specs.Triples.{Statement}
+use Rattle.gs_model.specs.Triples.{RdfTriple}
 use Rattle.gs_machine.specs.Machines.{joined, rest}
 use Rattle.gs_blank.specs.Numbers.{Numbers, one_more}
 use Rattle.gs_body.specs.Bodies.{Syntax}
@@ -22,13 +22,13 @@ use Rattle.gs_document.proofs.GoalLemmas.{walk}
 abbrev pub Known : ℕ → Type 0
 Known f = (env : Context) (n : Numbers) (us : List Symbol) → length us ≤ f → rest turtle (Between env n) us ≡ statements_at f env n us
 
-dot_rest : (f : ℕ) (env : Context) (T : List Statement) (n : Numbers) (us : List Symbol) → Known f → length us ≤ f → leaves [] env T n us ≡ followed (statements_at f) (ends_at env T n us)
+dot_rest : (f : ℕ) (env : Context) (T : List RdfTriple) (n : Numbers) (us : List Symbol) → Known f → length us ≤ f → leaves [] env T n us ≡ followed (statements_at f) (ends_at env T n us)
 unfolding leaves
 dot_rest f env T n [] again h = refl
 dot_rest f env T n (Dot e ∷ us) again h = ap (joined (stated e T)) (again env n us (omega arith))
 dot_rest f env T n (t ∷ us) again h = lost_rest Syntax us
 
-verbs_dot : (f : ℕ) (env : Context) (s : Term) (P : List Statement) (n : Numbers) (ts : List Symbol) → Known f → length ts ≤ f → (r : Result Got Fault) → Covered env (Verbs 0 s) n ts r
+verbs_dot : (f : ℕ) (env : Context) (s : Term) (P : List RdfTriple) (n : Numbers) (ts : List Symbol) → Known f → length ts ≤ f → (r : Result Got Fault) → Covered env (Verbs 0 s) n ts r
     → continue (Verbs 0 s) [] env P r ≡ followed (statements_at f) (with_front P r >>= dotted env)
 verbs_dot f env s P n ts again h (Err e) c = refl
 verbs_dot f env s P n ts again h (Ok r) (xs, e, c) = dot_rest f env (P ++ r.triples) r.numbers r.rest again (omega (arith, ap length e, length-append xs r.rest))
@@ -43,7 +43,7 @@ pub heads_bare : (f : ℕ) (env : Context) (s : Term) (n : Numbers) (ts : List S
     → rest turtle (Heading (Verbs 0 s) [] env [] n) ts ≡ followed (statements_at f) (read env (Verbs 0 s) n ts >>= dotted env)
 heads_bare f env s n ts again h = walk env (enough ts) (Verbs 0 s) n ts [] [] (omega arith) ∙ verbs_bare f env s n ts again h (read env (Verbs 0 s) n ts) (covered env (enough ts) (Verbs 0 s) n ts)
 
-heads_with : (f : ℕ) (env : Context) (s : Term) (P : List Statement) (n : Numbers) (ts : List Symbol) → Known f → length ts ≤ f
+heads_with : (f : ℕ) (env : Context) (s : Term) (P : List RdfTriple) (n : Numbers) (ts : List Symbol) → Known f → length ts ≤ f
     → rest turtle (Heading (Verbs 0 s) [] env P n) ts ≡ followed (statements_at f) (with_front P (read env (Verbs 0 s) n ts) >>= dotted env)
 heads_with f env s P n ts again h = walk env (enough ts) (Verbs 0 s) n ts [] P (omega arith) ∙ verbs_dot f env s P n ts again h (read env (Verbs 0 s) n ts) (covered env (enough ts) (Verbs 0 s) n ts)
 
@@ -57,21 +57,21 @@ pub list_rest : (f : ℕ) (env : Context) (n : Numbers) (ts : List Symbol) → K
 list_rest f env n ts again h (Err e) c = refl
 list_rest f env n ts again h (Ok o) (xs, e, c) = heads_with f env o.value o.triples o.numbers o.rest again (omega (arith, ap length e, length-append xs o.rest))
 
--- behind the properties of a blank node that opens a statement
-closed_if : (f : ℕ) (env : Context) (m : ℕ) (T : List Statement) (k : Numbers) (t : Symbol) (us : List Symbol) → Known f → length (t ∷ us) ≤ f → (b : Bool)
+-- after the properties of a blank node that opens a statement
+closed_if : (f : ℕ) (env : Context) (m : ℕ) (T : List RdfTriple) (k : Numbers) (t : Symbol) (us : List Symbol) → Known f → length (t ∷ us) ≤ f → (b : Bool)
     → told (cond b (quiet (at_verb 0 (Blank env.request m) t [] env T k)) (leave t [] env T k)) us
     ≡ followed (statements_at f) (cond b (with_front T (read env (Verbs 0 (Blank env.request m)) k (t ∷ us))) (Ok (record { value = Blank env.request m; triples = T; numbers = k; rest = t ∷ us })) >>= dotted env)
 unfolding rest step leaves
 closed_if f env m T k t us again h true = heads_with f env (Blank env.request m) T k (t ∷ us) again h
 closed_if f env m T k t us again h false = dot_rest f env T k (t ∷ us) again h
 
-closed_rest : (f : ℕ) (env : Context) (m : ℕ) (T : List Statement) (k : Numbers) (us : List Symbol) → Known f → length us ≤ f
+closed_rest : (f : ℕ) (env : Context) (m : ℕ) (T : List RdfTriple) (k : Numbers) (us : List Symbol) → Known f → length us ≤ f
     → rest turtle (Closed m env T k) us ≡ followed (statements_at f) (after_properties env (Blank env.request m) (record { value = Blank env.request m; triples = T; numbers = k; rest = us }) >>= dotted env)
 unfolding rest step ended
 closed_rest f env m T k [] again h = refl
 closed_rest f env m T k (t ∷ us) again h = closed_if f env m T k t us again h (begins_verb t)
 
-close_rest : (f : ℕ) (env : Context) (m : ℕ) (T : List Statement) (k : Numbers) (us : List Symbol) → Known f → length us ≤ f
+close_rest : (f : ℕ) (env : Context) (m : ℕ) (T : List RdfTriple) (k : Numbers) (us : List Symbol) → Known f → length us ≤ f
     → leaves (ToMore m ∷ []) env T k us ≡ followed (statements_at f) ((close (Blank env.request m) T k us >>= after_properties env (Blank env.request m)) >>= dotted env)
 unfolding leaves
 close_rest f env m T k [] again h = refl

@@ -2,7 +2,7 @@
 use Rattle.std.proofs.Common.{◌≡◌, ℕ, ◌≤◌, Bool, true, false, cond, List, [], ◌∷◌, ◌++◌, refl, sym, ap, ◌∙◌, append_assoc, subst, arith}
 use Rattle.std.specs.Prelude.{Result, Ok, Err}
 use Rattle.gs_model.specs.Terms.{Term, Blank}
-use Rattle.gs_model.specs.Triples.{Statement}
+use Rattle.gs_model.specs.Triples.{RdfTriple}
 use Rattle.gs_blank.specs.Numbers.{Numbers, one_more}
 use Rattle.gs_document.specs.Symbols.{Word, Symbol, AWord, Open, Close, OpenList, Dot}
 use Rattle.gs_document.specs.Meanings as meaning
@@ -25,16 +25,16 @@ CoveredTriples env n ts (Ok r) = (front : List Symbol) × (ts ≡ front ++ r.res
 read_covered : (env : Context) (g : Goal) (n : Numbers) (ts : List Symbol) → Covered env g n ts (read env g n ts)
 read_covered env g n ts = covered env (enough ts) g n ts
 
--- verbs behind a subject of some tokens
-back_verbs : (env : Context) (n k : Numbers) (s : Term) (pre ts : List Symbol) (T : List Statement)
-    → ((xs : List Symbol) (v : Term) (U : List Statement) (l : Numbers) → Covers env (Verbs 0 s) k xs v U l → AreTriples env n (pre ++ xs) (T ++ U) l)
+-- verbs after a subject of some tokens
+back_verbs : (env : Context) (n k : Numbers) (s : Term) (pre ts : List Symbol) (T : List RdfTriple)
+    → ((xs : List Symbol) (v : Term) (U : List RdfTriple) (l : Numbers) → Covers env (Verbs 0 s) k xs v U l → AreTriples env n (pre ++ xs) (T ++ U) l)
     → (r : Result Got Fault) → Covered env (Verbs 0 s) k ts r → CoveredTriples env n (pre ++ ts) (with_front T r)
 back_verbs env n k s pre ts T rule (Err e) c = tt
 back_verbs env n k s pre ts T rule (Ok r) (xs, e, c) = (pre ++ xs, ap (λ z. pre ++ z) e ∙ sym (append_assoc pre xs r.rest), rule xs r.value r.triples r.numbers c)
 
 -- without triples before
 back_bare : (env : Context) (n k : Numbers) (s : Term) (pre ts : List Symbol)
-    → ((xs : List Symbol) (v : Term) (U : List Statement) (l : Numbers) → Covers env (Verbs 0 s) k xs v U l → AreTriples env n (pre ++ xs) U l)
+    → ((xs : List Symbol) (v : Term) (U : List RdfTriple) (l : Numbers) → Covers env (Verbs 0 s) k xs v U l → AreTriples env n (pre ++ xs) U l)
     → (r : Result Got Fault) → Covered env (Verbs 0 s) k ts r → CoveredTriples env n (pre ++ ts) r
 back_bare env n k s pre ts rule (Err e) c = tt
 back_bare env n k s pre ts rule (Ok r) (xs, e, c) = (pre ++ xs, ap (λ z. pre ++ z) e ∙ sym (append_assoc pre xs r.rest), rule xs r.value r.triples r.numbers c)
@@ -53,8 +53,8 @@ back_list env n ts (Ok s) (xs, e, c) = go (read env (Verbs 0 s.value) s.numbers 
     go (Err f) h = tt
     go (Ok r) (ys, h, b) = (OpenList ∷ xs ++ ys, ap (λ z. OpenList ∷ z) (e ∙ ap (λ z. xs ++ z) h ∙ sym (append_assoc xs ys r.rest)), statement.list c b)
 
--- properties in brackets, and what stands behind them
-back_after : (env : Context) (n k : Numbers) (xs rest : List Symbol) (v : Term) (T : List Statement) (b : Bool) → Covers env (Verbs 1 (Blank env.request (next n))) (one_more n) xs v T k
+-- properties in brackets, and what stands after them
+back_after : (env : Context) (n k : Numbers) (xs rest : List Symbol) (v : Term) (T : List RdfTriple) (b : Bool) → Covers env (Verbs 1 (Blank env.request (next n))) (one_more n) xs v T k
     → CoveredTriples env n (Open ∷ xs ++ Close ∷ rest) (cond b (with_front T (read env (Verbs 0 (Blank env.request (next n))) k rest)) (Ok (record { value = Blank env.request (next n); triples = T; numbers = k; rest = rest })))
 back_after env n k xs rest v T true c =
     go (read env (Verbs 0 (Blank env.request (next n))) k rest) (read_covered env (Verbs 0 (Blank env.request (next n))) k rest)
@@ -64,7 +64,7 @@ back_after env n k xs rest v T true c =
     go (Ok r) (ys, h, b) = (Open ∷ xs ++ Close ∷ ys, ap (λ z. Open ∷ xs ++ Close ∷ z) h ∙ ap (λ z. Open ∷ z) (sym (append_assoc xs (Close ∷ ys) r.rest)), statement.properties_and c b)
 back_after env n k xs rest v T false c = (Open ∷ xs ++ Close ∷ [], ap (λ z. Open ∷ z) (sym (append_assoc xs (Close ∷ []) rest)), statement.properties c)
 
-back_close : (env : Context) (n k : Numbers) (ts xs us : List Symbol) (v : Term) (T : List Statement) → ts ≡ xs ++ us → Covers env (Verbs 1 (Blank env.request (next n))) (one_more n) xs v T k
+back_close : (env : Context) (n k : Numbers) (ts xs us : List Symbol) (v : Term) (T : List RdfTriple) → ts ≡ xs ++ us → Covers env (Verbs 1 (Blank env.request (next n))) (one_more n) xs v T k
     → CoveredTriples env n (Open ∷ ts) (close (Blank env.request (next n)) T k us >>= after_properties env (Blank env.request (next n)))
 back_close env n k ts xs [] v T e c = tt
 back_close env n k ts xs (Close ∷ us) v T e c =
@@ -89,11 +89,11 @@ triples_covered env n (OpenList ∷ ts) = back_list env n ts _ (read_covered env
 triples_covered env n (t ∷ ts) = tt
 
 -- a goal that ends where it ends
-read_of : (env : Context) (g : Goal) (n k : Numbers) (xs rest : List Symbol) (v : Term) (T : List Statement) → Covers env g n xs v T k → rank g ≤ 1
+read_of : (env : Context) (g : Goal) (n k : Numbers) (xs rest : List Symbol) (v : Term) (T : List RdfTriple) → Covers env g n xs v T k → rank g ≤ 1
     → Follows g rest → read env g n (xs ++ rest) ≡ got v T k rest
 read_of env g n k xs rest v T c small h = reads env (enough (xs ++ rest)) c rest (omega arith) h
 
-abbrev pub told_of : Context → Numbers → List Statement → ℕ → List Symbol → Result Told Fault
+abbrev pub told_of : Context → Numbers → List RdfTriple → ℕ → List Symbol → Result Told Fault
 told_of env k T e rest = Ok (record { stated = stated e T; context = env; numbers = k; rest = rest })
 
 -- the verbs of brackets that open a statement
@@ -103,14 +103,14 @@ unfolding triples_at
 open_by env m Close ts p h = absurd (cc)
 open_by env m t ts p h = refl
 
-open_goes : {env : Context} {d : ℕ} {s v : Term} {n k : Numbers} {xs : List Symbol} {T : List Statement} (m : Numbers) → Covers env (Verbs d s) n xs v T k → (z : List Symbol)
+open_goes : {env : Context} {d : ℕ} {s v : Term} {n k : Numbers} {xs : List Symbol} {T : List RdfTriple} (m : Numbers) → Covers env (Verbs d s) n xs v T k → (z : List Symbol)
     → triples_at env m (Open ∷ (xs ++ z)) ≡ ((read env (Verbs 1 (Blank env.request (next m))) (one_more m) (xs ++ z) >>= closes (Blank env.request (next m))) >>= after_properties env (Blank env.request (next m)))
 open_goes {env = env} m (rule.verbs {p = p} t {xs = xs} {ys = ys} h a b) z = open_by env m t ((xs ++ ys) ++ z) p h
 
-verbs_start : {env : Context} {d : ℕ} {s v : Term} {n k : Numbers} {xs : List Symbol} {T : List Statement} → Covers env (Verbs d s) n xs v T k → (z : List Symbol) → starts_verb (xs ++ z) ≡ true
+verbs_start : {env : Context} {d : ℕ} {s v : Term} {n k : Numbers} {xs : List Symbol} {T : List RdfTriple} → Covers env (Verbs d s) n xs v T k → (z : List Symbol) → starts_verb (xs ++ z) ≡ true
 verbs_start {env = env} (rule.verbs {p = p} t h a b) z = verb_begins env t p h
 
-pub triples_read : {env : Context} {n k : Numbers} {xs : List Symbol} {T : List Statement} → AreTriples env n xs T k → (e : ℕ) (rest : List Symbol)
+pub triples_read : {env : Context} {n k : Numbers} {xs : List Symbol} {T : List RdfTriple} → AreTriples env n xs T k → (e : ℕ) (rest : List Symbol)
     → (triples_at env n (xs ++ Dot e ∷ rest) >>= dotted env) ≡ told_of env k T e rest
 unfolding triples_at
 triples_read {env = env} {n = n} (statement.word {k = k} {l = l} {s = s} {v = v} w {xs = xs} {T = T} q c) e rest =

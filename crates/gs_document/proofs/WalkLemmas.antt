@@ -2,10 +2,10 @@
 use Rattle.std.proofs.Common.{◌≡◌, ℕ, ◌+◌, ◌≤◌, List, [], ◌∷◌, ◌++◌, length, refl, sym, ap, ◌∙◌, append_assoc, append-nil, arith, length-append}
 use Rattle.std.specs.Prelude.{Result, Ok, Err}
 use Rattle.gs_model.specs.Terms.{Term, Blank}
-use Rattle.gs_model.specs.Triples.{Statement}
+use Rattle.gs_model.specs.Triples.{RdfTriple}
 use Rattle.gs_machine.specs.Machines.{joined, rest}
 use Rattle.gs_blank.specs.Numbers.{Numbers}
-use Rattle.gs_body.specs.Bodies.{Said, Ending, Syntax}
+use Rattle.gs_body.specs.Bodies.{Meaning, Ending, Syntax}
 use Rattle.gs_document.specs.Symbols.{Symbol, At, Carets, Close}
 use Rattle.gs_document.specs.Meanings as meaning
 use Rattle.gs_document.specs.Meanings.{Fault, Broken, ending, Context, rdf}
@@ -18,7 +18,7 @@ use Rattle.gs_document.proofs.BackLemmas.{Covered}
 use Rattle.gs_document.proofs.ForthLemmas.{takes}
 
 -- what is told of the rest, from a turn
-abbrev pub told : Turn → List Symbol → Said
+abbrev pub told : Turn → List Symbol → Meaning
 told u ts = joined u.1 (rest turtle u.0 ts)
 
 pub lost_rest : (e : Ending) (ts : List Symbol) → rest turtle (Lost e) ts ≡ ([], e)
@@ -26,22 +26,22 @@ unfolding rest step ended
 lost_rest e [] = refl
 lost_rest e (t ∷ ts) = lost_rest e ts
 
-unfoldable pub leaves : List Frame → Context → List Statement → Numbers → List Symbol → Said
+unfoldable pub leaves : List Frame → Context → List RdfTriple → Numbers → List Symbol → Meaning
 unfolding rest
 leaves fs env P n [] = ([], Syntax)
 leaves fs env P n (t ∷ ts) = told (leave t fs env P n) ts
 
-abbrev pub continue : Goal → List Frame → Context → List Statement → Result Got Fault → Said
+abbrev pub continue : Goal → List Frame → Context → List RdfTriple → Result Got Fault → Meaning
 continue g fs env P (Err e) = ([], ending e)
 continue (Verbs d s) fs env P (Ok r) = leaves fs env (P ++ r.triples) r.numbers r.rest
 continue (After d s p) fs env P (Ok r) = leaves fs env (P ++ r.triples) r.numbers r.rest
 continue (Semis d s) fs env P (Ok r) = leaves fs env (P ++ r.triples) r.numbers r.rest
 continue g fs env P (Ok r) = rest turtle (give env r.value fs (P ++ r.triples) r.numbers) r.rest
 
-pub regroup : (P a b c : List Statement) → ((P ++ a) ++ b) ++ c ≡ P ++ ((a ++ b) ++ c)
+pub regroup : (P a b c : List RdfTriple) → ((P ++ a) ++ b) ++ c ≡ P ++ ((a ++ b) ++ c)
 regroup P a b c = simp append_assoc
 
-pub continue_front : (g : Goal) (fs : List Frame) (env : Context) (P a b : List Statement) (r : Result Got Fault) → continue g fs env ((P ++ a) ++ b) r ≡ continue g fs env P (with_front (a ++ b) r)
+pub continue_front : (g : Goal) (fs : List Frame) (env : Context) (P a b : List RdfTriple) (r : Result Got Fault) → continue g fs env ((P ++ a) ++ b) r ≡ continue g fs env P (with_front (a ++ b) r)
 continue_front g fs env P a b (Err e) = refl
 continue_front (Verbs d s) fs env P a b (Ok r) = ap (λ z. leaves fs env z r.numbers r.rest) (regroup P a b r.triples)
 continue_front (After d s p) fs env P a b (Ok r) = ap (λ z. leaves fs env z r.numbers r.rest) (regroup P a b r.triples)
@@ -52,13 +52,13 @@ continue_front (Begun d) fs env P a b (Ok r) = ap (λ z. rest turtle (give env r
 continue_front (Items d h m) fs env P a b (Ok r) = ap (λ z. rest turtle (give env r.value fs z r.numbers) r.rest) (regroup P a b r.triples)
 
 -- an object leaves fewer tokens
-pub shorter : {env : Context} {d : ℕ} {n k : Numbers} {xs : List Symbol} {v : Term} {T : List Statement} (ts us : List Symbol) → ts ≡ xs ++ us → Covers env (Object d) n xs v T k → length us + 1 ≤ length ts
+pub shorter : {env : Context} {d : ℕ} {n k : Numbers} {xs : List Symbol} {v : Term} {T : List RdfTriple} (ts us : List Symbol) → ts ≡ xs ++ us → Covers env (Object d) n xs v T k → length us + 1 ≤ length ts
 shorter {xs = xs} ts us e c = omega (arith, takes c, ap length e, length-append xs us)
 
 -- a frame that goes on to another goal
-pub continue_then : (env : Context) (f d : ℕ) (n : Numbers) (fr : Frame) (fs : List Frame) (P : List Statement) (T : Term → List Statement) (then : Goal) (k : ℕ)
-    → ((v : Term) (Q : List Statement) (l : Numbers) → give env v (fr ∷ fs) Q l ≡ Heading then fs env (Q ++ T v) l)
-    → ((l : Numbers) (us : List Symbol) (Q : List Statement) → length us + 1 ≤ k → rest turtle (Heading then fs env Q l) us ≡ continue then fs env Q (parse env f then l us))
+pub continue_then : (env : Context) (f d : ℕ) (n : Numbers) (fr : Frame) (fs : List Frame) (P : List RdfTriple) (T : Term → List RdfTriple) (then : Goal) (k : ℕ)
+    → ((v : Term) (Q : List RdfTriple) (l : Numbers) → give env v (fr ∷ fs) Q l ≡ Heading then fs env (Q ++ T v) l)
+    → ((l : Numbers) (us : List Symbol) (Q : List RdfTriple) → length us + 1 ≤ k → rest turtle (Heading then fs env Q l) us ≡ continue then fs env Q (parse env f then l us))
     → (ts : List Symbol) → length ts ≤ k → (r : Result Got Fault) → Covered env (Object d) n ts r
     → continue (Object d) (fr ∷ fs) env P r ≡ continue then fs env P (r >>= λ o. with_front (o.triples ++ T o.value) (parse env f then o.numbers o.rest))
 continue_then env f d n fr fs P T then k e again ts h (Err x) c = refl
@@ -67,60 +67,60 @@ continue_then env f d n fr fs P T then k e again ts h (Ok o) (xs, q, c) =
     ∙ again o.numbers o.rest ((P ++ o.triples) ++ T o.value) (omega (arith, shorter ts o.rest q c))
     ∙ continue_front then fs env P o.triples (T o.value) (parse env f then o.numbers o.rest)
 
-pub as_begun : (env : Context) (d h m : ℕ) (fs : List Frame) (P : List Statement) (r : Result Got Fault) → continue (Items d h m) fs env P r ≡ continue (Begun d) fs env P r
+pub as_begun : (env : Context) (d h m : ℕ) (fs : List Frame) (P : List RdfTriple) (r : Result Got Fault) → continue (Items d h m) fs env P r ≡ continue (Begun d) fs env P r
 as_begun env d h m fs P (Err e) = refl
 as_begun env d h m fs P (Ok r) = refl
 
-pub as_items : (env : Context) (d h m k : ℕ) (fs : List Frame) (P : List Statement) (r : Result Got Fault) → continue (Items d h k) fs env P r ≡ continue (Items d h m) fs env P r
+pub as_items : (env : Context) (d h m k : ℕ) (fs : List Frame) (P : List RdfTriple) (r : Result Got Fault) → continue (Items d h k) fs env P r ≡ continue (Items d h m) fs env P r
 as_items env d h m k fs P (Err e) = refl
 as_items env d h m k fs P (Ok r) = refl
 
-pub as_verbs : (env : Context) (d : ℕ) (s p : Term) (fs : List Frame) (P : List Statement) (r : Result Got Fault) → continue (After d s p) fs env P r ≡ continue (Verbs d s) fs env P r
+pub as_verbs : (env : Context) (d : ℕ) (s p : Term) (fs : List Frame) (P : List RdfTriple) (r : Result Got Fault) → continue (After d s p) fs env P r ≡ continue (Verbs d s) fs env P r
 as_verbs env d s p fs P (Err e) = refl
 as_verbs env d s p fs P (Ok r) = refl
 
-pub as_semis : (env : Context) (d : ℕ) (s : Term) (fs : List Frame) (P : List Statement) (r : Result Got Fault) → continue (Verbs d s) fs env P r ≡ continue (Semis d s) fs env P r
+pub as_semis : (env : Context) (d : ℕ) (s : Term) (fs : List Frame) (P : List RdfTriple) (r : Result Got Fault) → continue (Verbs d s) fs env P r ≡ continue (Semis d s) fs env P r
 as_semis env d s fs P (Err e) = refl
 as_semis env d s fs P (Ok r) = refl
 
-pub as_after : (env : Context) (d : ℕ) (s p : Term) (fs : List Frame) (P : List Statement) (r : Result Got Fault) → continue (Semis d s) fs env P r ≡ continue (After d s p) fs env P r
+pub as_after : (env : Context) (d : ℕ) (s p : Term) (fs : List Frame) (P : List RdfTriple) (r : Result Got Fault) → continue (Semis d s) fs env P r ≡ continue (After d s p) fs env P r
 as_after env d s p fs P (Err e) = refl
 as_after env d s p fs P (Ok r) = refl
 
-pub as_object : (env : Context) (d e m : ℕ) (fs : List Frame) (P : List Statement) (r : Result Got Fault) → continue (Inside e m) fs env P r ≡ continue (Object d) fs env P r
+pub as_object : (env : Context) (d e m : ℕ) (fs : List Frame) (P : List RdfTriple) (r : Result Got Fault) → continue (Inside e m) fs env P r ≡ continue (Object d) fs env P r
 as_object env d e m fs P (Err x) = refl
 as_object env d e m fs P (Ok r) = refl
 
-pub list_object : (env : Context) (d e : ℕ) (fs : List Frame) (P : List Statement) (r : Result Got Fault) → continue (Begun e) fs env P r ≡ continue (Object d) fs env P r
+pub list_object : (env : Context) (d e : ℕ) (fs : List Frame) (P : List RdfTriple) (r : Result Got Fault) → continue (Begun e) fs env P r ≡ continue (Object d) fs env P r
 list_object env d e fs P (Err x) = refl
 list_object env d e fs P (Ok r) = refl
 
--- behind the properties in brackets
-pub close_step : (env : Context) (d m : ℕ) (fs : List Frame) (P Q : List Statement) (n : Numbers) (ts : List Symbol)
+-- after the properties in brackets
+pub close_step : (env : Context) (d m : ℕ) (fs : List Frame) (P Q : List RdfTriple) (n : Numbers) (ts : List Symbol)
     → leaves (ToClose m ∷ fs) env (P ++ Q) n ts ≡ continue (Inside d m) fs env P (close (Blank env.request m) Q n ts)
 unfolding leaves
 close_step env d m fs P Q n [] = refl
 close_step env d m fs P Q n (Close ∷ ts) = refl
 close_step env d m fs P Q n (t ∷ ts) = lost_rest Syntax ts
 
-pub close_then : (env : Context) (d m : ℕ) (s : Term) (fs : List Frame) (P : List Statement) (r : Result Got Fault)
+pub close_then : (env : Context) (d m : ℕ) (s : Term) (fs : List Frame) (P : List RdfTriple) (r : Result Got Fault)
     → continue (Verbs d s) (ToClose m ∷ fs) env P r ≡ continue (Inside d m) fs env P (r >>= closes (Blank env.request m))
 close_then env d m s fs P (Err e) = refl
 close_then env d m s fs P (Ok g) = close_step env d m fs P g.triples g.numbers g.rest
 
 -- a term of one token
-pub given_rest : (env : Context) (d : ℕ) (fs : List Frame) (P : List Statement) (ts : List Symbol) (r : Result (Term × Numbers) Fault)
+pub given_rest : (env : Context) (d : ℕ) (fs : List Frame) (P : List RdfTriple) (ts : List Symbol) (r : Result (Term × Numbers) Fault)
     → rest turtle (given fs env P r) ts ≡ continue (Object d) fs env P (named ts r)
 given_rest env d fs P ts (Err e) = lost_rest (ending e) ts
 given_rest env d fs P ts (Ok p) = ap (λ z. rest turtle (give env p.0 fs z p.1) ts) (sym (append-nil P))
 
-pub put_rest : (env : Context) (d : ℕ) (fs : List Frame) (P : List Statement) (n : Numbers) (ts : List Symbol) (r : Result Term Fault)
+pub put_rest : (env : Context) (d : ℕ) (fs : List Frame) (P : List RdfTriple) (n : Numbers) (ts : List Symbol) (r : Result Term Fault)
     → rest turtle (put fs env P n r) ts ≡ continue (Object d) fs env P (bare n ts r)
 put_rest env d fs P n ts (Err e) = lost_rest (ending e) ts
 put_rest env d fs P n ts (Ok v) = ap (λ z. rest turtle (give env v fs z n) ts) (sym (append-nil P))
 
 -- where a term is given, the text may not end
-give_ends : (env : Context) (v : Term) (fs : List Frame) (P : List Statement) (n : Numbers) → rest turtle (give env v fs P n) [] ≡ ([], Syntax)
+give_ends : (env : Context) (v : Term) (fs : List Frame) (P : List RdfTriple) (n : Numbers) → rest turtle (give env v fs P n) [] ≡ ([], Syntax)
 unfolding rest ended
 give_ends env v [] P n = refl
 give_ends env v (ToObject d s p ∷ fs) P n = refl
@@ -131,7 +131,7 @@ give_ends env v (ToVerbs ∷ fs) P n = refl
 give_ends env v (ToMore m ∷ fs) P n = refl
 
 -- and a symbol goes on there
-give_goes : (env : Context) (v : Term) (fs : List Frame) (P : List Statement) (n : Numbers) (t : Symbol) → step (give env v fs P n) t ≡ go_on t (give env v fs P n)
+give_goes : (env : Context) (v : Term) (fs : List Frame) (P : List RdfTriple) (n : Numbers) (t : Symbol) → step (give env v fs P n) t ≡ go_on t (give env v fs P n)
 unfolding step
 give_goes env v [] P n t = refl
 give_goes env v (ToObject d s p ∷ fs) P n t = refl
@@ -141,19 +141,19 @@ give_goes env v (ToItem d h l m ∷ fs) P n t = refl
 give_goes env v (ToVerbs ∷ fs) P n t = refl
 give_goes env v (ToMore m ∷ fs) P n t = refl
 
-simple_ends : (env : Context) (d : ℕ) (fs : List Frame) (P : List Statement) (n : Numbers) (r : Result Term Fault)
-    → (let p : Said = ([], unended r) in p) ≡ continue (Object d) fs env P (bare n [] r)
+simple_ends : (env : Context) (d : ℕ) (fs : List Frame) (P : List RdfTriple) (n : Numbers) (r : Result Term Fault)
+    → (let p : Meaning = ([], unended r) in p) ≡ continue (Object d) fs env P (bare n [] r)
 simple_ends env d fs P n (Err e) = refl
 simple_ends env d fs P n (Ok v) = sym (give_ends env v fs (P ++ []) n)
 
-simple_goes : (env : Context) (d : ℕ) (fs : List Frame) (P : List Statement) (n : Numbers) (t : Symbol) (ts : List Symbol) (r : Result Term Fault)
+simple_goes : (env : Context) (d : ℕ) (fs : List Frame) (P : List RdfTriple) (n : Numbers) (t : Symbol) (ts : List Symbol) (r : Result Term Fault)
     → told (go_on t (put fs env P n r)) ts ≡ continue (Object d) fs env P (bare n (t ∷ ts) r)
 unfolding rest
 simple_goes env d fs P n t ts (Err e) = lost_rest (ending e) ts
 simple_goes env d fs P n t ts (Ok v) =
     ap (λ z. told z ts) (sym (give_goes env v fs P n t)) ∙ ap (λ z. rest turtle (give env v fs z n) (t ∷ ts)) (sym (append-nil P))
 
-pub held_rest : (env : Context) (d : ℕ) (fs : List Frame) (P : List Statement) (n : Numbers) (x : List ℕ) (ts : List Symbol)
+pub held_rest : (env : Context) (d : ℕ) (fs : List Frame) (P : List RdfTriple) (n : Numbers) (x : List ℕ) (ts : List Symbol)
     → rest turtle (Held x fs env P n) ts ≡ continue (Object d) fs env P (literal env n x ts)
 unfolding rest step ended
 held_rest env d fs P n x [] = simple_ends env d fs P n (meaning.simple x)

@@ -3,7 +3,7 @@ use Rattle.std.specs.Prelude.{ℕ, if◌then◌else◌, List, ◌++◌, length, 
 use Rattle.std.specs.Str.{str_to_ascii_lowercase}
 use Rattle.std.specs.FinMap as finite
 use Rattle.gs_model.specs.Terms.{Term, Iri, Blank, Literal, Typed, Tagged, xsd_string, text_of, is_term}
-use Rattle.gs_model.specs.declared.limits.TheConstants.{LONGEST_TERM}
+use Rattle.gs_model.specs.Limits.{max_term_bytes}
 use Rattle.gs_iri.specs.Resolving.{resolved}
 use Rattle.gs_escape.specs.Tokens.{behind, iri_of, string_of, local_of, parts_of}
 use Rattle.gs_blank.specs.Numbers.{Numbers, number_of}
@@ -32,9 +32,9 @@ rdf name = Iri (codes "http://www.w3.org/1999/02/22-rdf-syntax-ns#" ++ name)
 -- a term, where its parts have their forms and its text is not too long
 unfoldable pub made : Option Term → Result Term Fault
 made None = Err Broken
-made (Some t) = if is_term t then (if nat_le (length (text_of t)) LONGEST_TERM then Ok t else Err Long) else Err Broken
+made (Some t) = if is_term t then (if nat_le (length (text_of t)) max_term_bytes then Ok t else Err Long) else Err Broken
 
--- 2.4: the prefix's IRI, and behind it the local part
+-- 2.4: the prefix's IRI, and after it the local part
 unfoldable pub name_text : Context → List ℕ → Option (List ℕ)
 name_text env x =
     option_and_then (λ p. option_and_then (λ i. option_map (λ l. i ++ l) (local_of p.1)) (finite.get env.prefixes p.0)) (parts_of x)
@@ -66,7 +66,7 @@ abbrev pub labelled : Context → Numbers → Option (List ℕ) → Result (Term
 labelled env n None = Err Broken
 labelled env n (Some l) = Ok (Blank env.request (number_of n l).0, (number_of n l).1)
 
--- the term of one token; a label stands behind its `_:`
+-- the term of one token; a label stands after its `_:`
 unfoldable pub word : Context → Numbers → Word → Result (Term × Numbers) Fault
 word env n (Label x) = labelled env n (behind (codes "_:") x)
 word env n (Plain x d) = with_numbers n (made (Some (Literal x (Typed d))))

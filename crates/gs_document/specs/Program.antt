@@ -1,10 +1,10 @@
 -- The reader of Turtle as a plain program on a whole list of tokens.
 use Rattle.std.specs.Prelude.{ℕ, zero, suc, Bool, false, if◌then◌else◌, List, [], ◌∷◌, ◌++◌, length, codes, bytes_eq, Option, Some, None, Result, Ok, Err}
 use Rattle.gs_model.specs.Terms.{Term, Blank}
-use Rattle.gs_model.specs.Triples.{Statement}
+use Rattle.gs_model.specs.Triples.{RdfTriple}
 use Rattle.gs_lex.specs.Tokens.{Lexeme}
 use Rattle.gs_blank.specs.Numbers.{Numbers, one_more, no_numbers}
-use Rattle.gs_body.specs.Bodies.{Said, Stated, Whole, Syntax}
+use Rattle.gs_body.specs.Bodies.{Meaning, Statement, Whole, Syntax}
 use Rattle.gs_document.specs.Symbols.{Reference, Namespace, Symbol, AWord, At, Open, Close, OpenList, Dot, PrefixWord, BaseWord, symbols_of}
 use Rattle.gs_document.specs.Meanings.{Fault, Broken, ending, Context, subject, with_prefix, with_base}
 use Rattle.gs_document.specs.Goals.{Verbs, Begun, next}
@@ -16,7 +16,7 @@ abbrev pub starts_verb : List Symbol → Bool
 starts_verb [] = false
 starts_verb (t ∷ ts) = begins_verb t
 
--- behind the properties of a blank node that opens a statement: more verbs, or none
+-- after the properties of a blank node that opens a statement: more verbs, or none
 abbrev pub after_properties : Context → Term → Got → Result Got Fault
 after_properties env s g = if starts_verb g.rest then with_front g.triples (read env (Verbs 0 s) g.numbers g.rest) else Ok g
 
@@ -32,20 +32,20 @@ triples_at env n (Open ∷ ts) = read env (Verbs 1 (Blank env.request (next n)))
 triples_at env n (OpenList ∷ ts) = read env (Begun 1) n ts >>= λ s. with_front s.triples (read env (Verbs 0 s.value) s.numbers s.rest)
 triples_at env n _ = Err Broken
 
--- what a statement states, what it leaves, and the tokens behind it
+-- what a statement states, what it leaves, and the tokens after it
 pub record Told : Type 0 where
-  pub stated : List Stated
+  pub stated : List Statement
   pub context : Context
   pub numbers : Numbers
   pub rest : List Symbol
 
 -- what a statement tells, where its context is right
-abbrev pub told : List Stated → Numbers → List Symbol → Option Context → Result Told Fault
+abbrev pub told : List Statement → Numbers → List Symbol → Option Context → Result Told Fault
 told S n ts None = Err Broken
 told S n ts (Some env) = Ok (record { stated = S; context = env; numbers = n; rest = ts })
 
 -- triples up to their dot
-abbrev pub ends_at : Context → List Statement → Numbers → List Symbol → Result Told Fault
+abbrev pub ends_at : Context → List RdfTriple → Numbers → List Symbol → Result Told Fault
 ends_at env T n (Dot e ∷ ts) = told (stated e T) n ts (Some env)
 ends_at env T n _ = Err Broken
 
@@ -53,12 +53,12 @@ ends_at env T n _ = Err Broken
 abbrev pub dotted : Context → Got → Result Told Fault
 dotted env g = ends_at env g.triples g.numbers g.rest
 
--- behind '@prefix'
+-- after '@prefix'
 abbrev pub prefix_at : Context → Numbers → List Symbol → Result Told Fault
 prefix_at env n (AWord (Namespace p) ∷ AWord (Reference i k) ∷ Dot e ∷ ts) = told (stated e []) n ts (with_prefix env p i)
 prefix_at env n _ = Err Broken
 
--- behind '@base'
+-- after '@base'
 abbrev pub base_at : Context → Numbers → List Symbol → Result Told Fault
 base_at env n (AWord (Reference i k) ∷ Dot e ∷ ts) = told (stated e []) n ts (with_base env i)
 base_at env n _ = Err Broken
@@ -73,16 +73,16 @@ statement_at env n (BaseWord ∷ _) = Err Broken
 statement_at env n ts = triples_at env n ts >>= dotted env
 
 -- what a statement states, before what the rest says
-abbrev pub followed : (Context → Numbers → List Symbol → Said) → Result Told Fault → Said
+abbrev pub followed : (Context → Numbers → List Symbol → Meaning) → Result Told Fault → Meaning
 followed rest (Err e) = ([], ending e)
 followed rest (Ok r) = (r.stated ++ (rest r.context r.numbers r.rest).0, (rest r.context r.numbers r.rest).1)
 
 -- [1] turtleDoc: what the statements before the first fault state, and how the text ends, in at most so many statements
-unfoldable pub statements_at : ℕ → Context → Numbers → List Symbol → Said
+unfoldable pub statements_at : ℕ → Context → Numbers → List Symbol → Meaning
 statements_at f env n [] = ([], Whole)
 statements_at zero env n (t ∷ ts) = ([], Syntax)
 statements_at (suc f) env n (t ∷ ts) = followed (statements_at f) (statement_at env n (t ∷ ts))
 
 -- what a document says under this base and in this request
-abbrev pub document : List ℕ → ℕ → List Lexeme → Said
+abbrev pub document : List ℕ → ℕ → List Lexeme → Meaning
 document b r ts = statements_at (length ts) (start b r) no_numbers (symbols_of ts)

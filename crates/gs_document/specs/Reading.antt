@@ -1,16 +1,16 @@
 -- A goal read at the front of a list of tokens, as a plain recursive program.
 use Rattle.std.specs.Prelude.{ℕ, zero, suc, ◌+◌, ◌*◌, Bool, true, false, if◌then◌else◌, List, [], ◌∷◌, ◌++◌, length, codes, Result, Ok, Err}
 use Rattle.gs_model.specs.Terms.{Term, Blank}
-use Rattle.gs_model.specs.Triples.{Statement}
+use Rattle.gs_model.specs.Triples.{RdfTriple}
 use Rattle.gs_blank.specs.Numbers.{Numbers, one_more}
 use Rattle.gs_document.specs.Symbols.{Symbol, AWord, Text, At, Carets, A, Open, Close, OpenList, CloseList, Semicolon, Comma}
 use Rattle.gs_document.specs.Meanings.{Fault, Broken, Context, rdf, verb, word, simple, tagged, typed}
 use Rattle.gs_document.specs.Goals.{Goal, Object, Inside, Verbs, After, Semis, Begun, Items, may_open, next, triple, first_is, rest_is}
 
--- what a goal gives, and the tokens behind it
+-- what a goal gives, and the tokens after it
 pub record Got : Type 0 where
   pub value : Term
-  pub triples : List Statement
+  pub triples : List RdfTriple
   pub numbers : Numbers
   pub rest : List Symbol
 
@@ -21,33 +21,33 @@ abbrev pub ◌>>=◌ : {A B : Type 0} → Result A Fault → (A → Result B Fau
 (Ok x) >>= f = f x
 
 -- with triples before
-abbrev pub with_front : List Statement → Result Got Fault → Result Got Fault
+abbrev pub with_front : List RdfTriple → Result Got Fault → Result Got Fault
 with_front T (Err e) = Err e
 with_front T (Ok g) = Ok (record g { triples = T ++ g.triples })
 
--- a literal with the tokens behind it
+-- a literal with the tokens after it
 abbrev pub bare : Numbers → List Symbol → Result Term Fault → Result Got Fault
 bare n ts (Err e) = Err e
 bare n ts (Ok v) = Ok (record { value = v; triples = []; numbers = n; rest = ts })
 
--- a string, and what may stand behind it
+-- a string, and what may stand after it
 abbrev pub literal : Context → Numbers → List ℕ → List Symbol → Result Got Fault
 literal env n x (At y ∷ ts) = bare n ts (tagged x y)
 literal env n x (Carets ∷ t ∷ ts) = bare n ts (typed env x t)
 literal env n x (Carets ∷ []) = Err Broken
 literal env n x ts = bare n ts (simple x)
 
--- a term of one token, with the tokens behind it
+-- a term of one token, with the tokens after it
 abbrev pub named : List Symbol → Result (Term × Numbers) Fault → Result Got Fault
 named ts (Err e) = Err e
 named ts (Ok p) = Ok (record { value = p.0; triples = []; numbers = p.1; rest = ts })
 
--- a ']' and the tokens behind it
-abbrev pub close : Term → List Statement → Numbers → List Symbol → Result Got Fault
+-- a ']' and the tokens after it
+abbrev pub close : Term → List RdfTriple → Numbers → List Symbol → Result Got Fault
 close s T n (Close ∷ ts) = Ok (record { value = s; triples = T; numbers = n; rest = ts })
 close s T n _ = Err Broken
 
--- a ']' behind the properties of a blank node
+-- a ']' after the properties of a blank node
 abbrev pub closes : Term → Got → Result Got Fault
 closes s g = close s g.triples g.numbers g.rest
 

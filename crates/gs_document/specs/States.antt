@@ -1,9 +1,9 @@
 -- The states of the machine that reads Turtle, and its stack.
 use Rattle.std.specs.Prelude.{ℕ, Bool, List, []}
 use Rattle.gs_model.specs.Terms.{Term}
-use Rattle.gs_model.specs.Triples.{Statement}
+use Rattle.gs_model.specs.Triples.{RdfTriple}
 use Rattle.gs_blank.specs.Numbers.{Numbers}
-use Rattle.gs_body.specs.Bodies.{Stated, Ending}
+use Rattle.gs_body.specs.Bodies.{Statement, Ending}
 use Rattle.gs_document.specs.Meanings.{Fault, ending, Context}
 use Rattle.gs_document.specs.Goals.{Goal}
 
@@ -22,27 +22,27 @@ pub data Frame : Type 0 where
 -- between statements, within a directive, or at a goal of the triples of a statement
 pub data State : Type 0 where
   Between : Context → Numbers → State
-  -- behind '@prefix' (and then a dot comes at the end) or 'PREFIX'
+  -- after '@prefix' (and then a dot comes at the end) or 'PREFIX'
   InPrefix : (dot : Bool) → Context → Numbers → State
   InPrefixIri : (dot : Bool) → List ℕ → Context → Numbers → State
   InBase : (dot : Bool) → Context → Numbers → State
   AtDot : Context → Numbers → State
-  -- behind a '[' that opens a statement, and behind its ']'
+  -- after a '[' that opens a statement, and after its ']'
   Opened : Context → Numbers → State
-  Closed : (number : ℕ) → Context → List Statement → Numbers → State
-  Heading : Goal → List Frame → Context → List Statement → Numbers → State
-  -- behind a string, and behind its '^^'
-  Held : List ℕ → List Frame → Context → List Statement → Numbers → State
-  Typing : List ℕ → List Frame → Context → List Statement → Numbers → State
+  Closed : (number : ℕ) → Context → List RdfTriple → Numbers → State
+  Heading : Goal → List Frame → Context → List RdfTriple → Numbers → State
+  -- after a string, and after its '^^'
+  Held : List ℕ → List Frame → Context → List RdfTriple → Numbers → State
+  Typing : List ℕ → List Frame → Context → List RdfTriple → Numbers → State
   Lost : Ending → State
 
 -- a fault, from which nothing leads away
 abbrev pub lost : Fault → State
 lost e = Lost (ending e)
 
--- the state behind a symbol, and what is stated
+-- the state after a symbol, and what is stated
 abbrev pub Turn : Type 0
-Turn = State × List Stated
+Turn = State × List Statement
 
 -- nothing is stated
 abbrev pub quiet : State → Turn

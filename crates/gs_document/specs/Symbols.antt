@@ -2,8 +2,8 @@
 use Rattle.std.specs.Prelude.{ℕ, if◌then◌else◌, List, ◌++◌, codes, map}
 use Rattle.std.specs.Str.{is_utf8}
 use Rattle.gs_lex.specs.Tokens.{Lexeme}
-use Rattle.gs_lex.specs.declared.kinds.Kind.{Kind}
-use Rattle.gs_lex.specs.declared.kinds.Kind.TheVariants as kind
+use Rattle.gs_lex.specs.declared.kinds.TokenKind.{TokenKind}
+use Rattle.gs_lex.specs.declared.kinds.TokenKind.TheVariants as kind
 
 -- a token that is a term by itself: [18] IRIREF, [139s] PNAME_NS, [140s] PNAME_LN, [141s] BLANK_NODE_LABEL; or a number
 -- or a boolean, with its datatype
@@ -43,7 +43,7 @@ abbrev pub xsd : List ℕ → List ℕ
 xsd name = codes "http://www.w3.org/2001/XMLSchema#" ++ name
 
 -- 2.5.2, 2.5.3: numbers and booleans have the lexical form that is written
-abbrev pub symbol : Kind → List ℕ → ℕ → Symbol
+abbrev pub symbol : TokenKind → List ℕ → ℕ → Symbol
 symbol kind.IriRef x n = AWord (Reference x n)
 symbol kind.PnameNs x n = AWord (Namespace x)
 symbol kind.PnameLn x n = AWord (Name x)

@@ -1,7 +1,7 @@
 //! Laws of the definitions, proved: the body is empty, and the contract is the law.
 ghost use Rattle.std.specs.Prelude.{◌≡◌, ◌↔◌, ℕ, List};
 ghost use Rattle.gs_lex.specs.Tokens.{Lexeme};
-ghost use Rattle.gs_body.specs.Bodies.{Stated, Whole};
+ghost use Rattle.gs_body.specs.Bodies.{Statement, Whole};
 ghost use Rattle.gs_blank.specs.Numbers.{no_numbers};
 ghost use Rattle.gs_machine.specs.Machines.{rest};
 ghost use Rattle.gs_document.specs.Symbols.{symbols_of};
@@ -12,13 +12,13 @@ ghost use Rattle.gs_document.specs.Machine.{turtle};
 
 /// The plain program finds what the grammar's rules say of a list of tokens, and nothing else.
 pub fn document_is_read()
-    ensures { (base : List ℕ) (request : ℕ) (ts : List Lexeme) (triples : List Stated) → (IsDocument base request ts triples ↔ (document base request ts ≡ (triples, Whole))) }
+    ensures { (base : List ℕ) (request : ℕ) (ts : List Lexeme) (triples : List Statement) → (IsDocument base request ts triples ↔ (document base request ts ≡ (triples, Whole))) }
 {}
 
 /// Tokens have at most one meaning: their statements are determined, with the triples of each and
 /// its end.
 pub fn document_has_one_meaning()
-    ensures { (base : List ℕ) (request : ℕ) (ts : List Lexeme) (triples others : List Stated) → IsDocument base request ts triples → IsDocument base request ts others → triples ≡ others }
+    ensures { (base : List ℕ) (request : ℕ) (ts : List Lexeme) (triples others : List Statement) → IsDocument base request ts triples → IsDocument base request ts others → triples ≡ others }
 {}
 
 /// The machine that takes symbol by symbol tells of a list of tokens what the plain program says:

@@ -3,8 +3,6 @@
 
 mod faults;
 mod laws;
-mod limits;
 
 pub use faults::Fault;
 pub use laws::{document_has_one_meaning, document_is_read, machine_tells_the_document};
-pub use limits::DEEPEST;

@@ -1,7 +1,7 @@
 -- A seat's line and a store's line have one reading.
 use Rattle.std.proofs.Common.{◌≡◌, ℕ, ◌≤◌, true, false, cond, ◌==◌, List, [], ◌∷◌, ◌++◌, refl, sym, ap, ◌∙◌, subst, append_assoc, arith, Option, Some, None, ◌⊎◌, inl, inr}
 use Rattle.std.proofs.lemmas.Bool.{eqb-true}
-use Rattle.gs_model.specs.declared.limits.TheConstants.{LAST_NUMBER}
+use Rattle.gs_model.specs.Limits.{last_number}
 use Rattle.gs_model.specs.Terms.{numeral}
 use Rattle.gs_model.specs.Texts.{split_first, number_of}
 use Rattle.gs_model.proofs.TextLemmas.{number_of-numeral, split_first-other, other-numeral}
@@ -17,7 +17,7 @@ found_says Says text found finds x is = let P : Option _ → Type 0 = λ f. Find
 pub found_none : {X : Type 0} (Says : X → List ℕ → Type 0) (text : List ℕ) (found : Option X) → Finds Says text found → found ≡ None → (x : X) → ¬ Says x text
 found_none Says text found finds is = let P : Option _ → Type 0 = λ f. Finds Says text f in subst P is finds
 
--- where something stands behind the first of these, the text is cut there
+-- where something stands after the first of these, the text is cut there
 pub split_first-some : (at : ℕ) (x : List ℕ) → ¬ ((split_first at x).1 ≡ []) → x ≡ (split_first at x).0 ++ at ∷ (split_first at x).1
 split_first-some at [] some = absurd (some refl)
 split_first-some at (c ∷ cs) some =
@@ -82,7 +82,7 @@ pub record IsCut (x seats rest commit request : List ℕ) : Type 0 where
   pub commit_is : commit ≡ (split_first 32 rest).0
   pub request_is : request ≡ (split_first 32 rest).1
 
-pub start_says : (x seats rest commit request : List ℕ) (a b c : ℕ) → IsCut x seats rest commit request → SaysNumber 512 a seats → SaysNumber LAST_NUMBER b commit → SaysNumber LAST_NUMBER c request → ¬ (a ≡ 0) → SaysStart a b c x
+pub start_says : (x seats rest commit request : List ℕ) (a b c : ℕ) → IsCut x seats rest commit request → SaysNumber 512 a seats → SaysNumber last_number b commit → SaysNumber last_number c request → ¬ (a ≡ 0) → SaysStart a b c x
 start_says x seats rest commit request a b c cut p q r some =
     let filled : ¬ ((split_first 32 rest).1 ≡ []) = λ h. numeral_some c (sym r.0 ∙ cut.request_is ∙ h) in
     let second : rest ≡ numeral b ++ 32 ∷ numeral c = split_first-some 32 rest filled ∙ ap (λ z. z ++ 32 ∷ (split_first 32 rest).1) (sym cut.commit_is ∙ q.0) ∙ ap (λ z. numeral b ++ 32 ∷ z) (sym cut.request_is ∙ r.0) in
@@ -103,7 +103,7 @@ start_cut x seats rest commit request cut a b c says =
 
 -- each number of the line
 pub start_none : (x seats rest commit request : List ℕ) → IsCut x seats rest commit request
-    → (((n : ℕ) → ¬ SaysNumber 512 n seats) ⊎ (((n : ℕ) → ¬ SaysNumber LAST_NUMBER n commit) ⊎ ((n : ℕ) → ¬ SaysNumber LAST_NUMBER n request)))
+    → (((n : ℕ) → ¬ SaysNumber 512 n seats) ⊎ (((n : ℕ) → ¬ SaysNumber last_number n commit) ⊎ ((n : ℕ) → ¬ SaysNumber last_number n request)))
     → (p : ℕ × ℕ × ℕ) → ¬ SaysStart p.0 p.1 p.2 x
 start_none x seats rest commit request cut (inl none) p says = none p.0 ((start_cut x seats rest commit request cut p.0 p.1 p.2 says).0, says.most)
 start_none x seats rest commit request cut (inr (inl none)) p says = none p.1 ((start_cut x seats rest commit request cut p.0 p.1 p.2 says).1, says.commit_left)

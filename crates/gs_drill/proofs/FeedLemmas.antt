@@ -2,7 +2,7 @@
 use Rattle.std.proofs.Common.{◌≡◌, ◌≢◌, ◌<◌, ℕ, true, false, List, [], ◌∷◌, length, Option, Some, None, is_some, MatchOption, option_map, refl, sym, ap, ◌∙◌, subst, Vec, Global}
 use Rattle.std.specs.List.{slice_get}
 use Rattle.std.proofs.lemmas.Option.{slice_get-map, slice_get_within}
-use Rattle.gs_model.specs.Triples.{Statement}
+use Rattle.gs_model.specs.Triples.{RdfTriple}
 use Rattle.gs_model.specs.declared.refusals.Refusal.TheVariants.{BadSeat, WrongPhase}
 use Rattle.gs_term.specs.declared.triples.Triple.{Triple}
 use Rattle.gs_event.specs.declared.events.Action.TheVariants.{Stage, Commit}
@@ -22,10 +22,10 @@ use Rattle.gs_drill.specs.Commits.{Closes, Commits, CommitsBy, Completes, Conclu
 use Rattle.gs_drill.specs.Standing.{AreFed, Standing, desk_of, opening_of, context_of}
 
 -- nothing is staged
-pub stages_none : (d : Desk) (s : ℕ) (given : List Statement) → given ≡ [] → Stages d s given Staged d
-stages_none d s given none = let P : List Statement → Type 0 = λ z. Stages d s z Staged d in subst P (sym none) (refl, refl)
+pub stages_none : (d : Desk) (s : ℕ) (given : List RdfTriple) → given ≡ [] → Stages d s given Staged d
+stages_none d s given none = let P : List RdfTriple → Type 0 = λ z. Stages d s z Staged d in subst P (sym none) (refl, refl)
 
-stages_by : (d e : Desk) (s : ℕ) (v : Vec Triple Global) (a : Answer) (given : List Statement) → v.items ≡ given → ¬ (given ≡ []) → Answers d (At s (Stage v)) a e → Stages d s given a e
+stages_by : (d e : Desk) (s : ℕ) (v : Vec Triple Global) (a : Answer) (given : List RdfTriple) → v.items ≡ given → ¬ (given ≡ []) → Answers d (At s (Stage v)) a e → Stages d s given a e
 stages_by d e s v a [] is some answers = absurd (some refl)
 stages_by d e s v a (t ∷ ts) is some answers = (Stage v, is, answers)
 
@@ -43,7 +43,7 @@ fed_standing shown u w st s f openings lengths all = record {
 }
 
 -- a text is fed to an upload
-pub feeds_upload : (old new : Shown) (u m w : Uploads) (l : Language) (s : ℕ) (y : List ℕ) (given : List Statement) (a : Answer) (text : List ℕ)
+pub feeds_upload : (old new : Shown) (u m w : Uploads) (l : Language) (s : ℕ) (y : List ℕ) (given : List RdfTriple) (a : Answer) (text : List ℕ)
     → m.openings.items ≡ u.openings.items → length m.bodies.items ≡ length u.bodies.items
     → ((o : Opening) → slice_get u.openings.items s ≡ Some (Some o)
     → (fed : ℕ → Fed) → AreFed u.bodies.items fed → s < length u.bodies.items → (f : Fed) × AreFed m.bodies.items (with_fed fed s f) × Accepts (context_of l o) (fed s) y given f)
@@ -100,13 +100,13 @@ concludes_other Staged d s other = absurd (other refl)
 concludes_other a d s other = (refl, refl)
 
 -- the last triples are not staged
-pub completes_not : (old new : Shown) (u w : Uploads) (s : ℕ) (given : List Statement) (a : Answer) → a ≢ Staged → ((st : Standing old u) → (en : Standing new w) × Stages (desk_of st) s given a (desk_of en))
+pub completes_not : (old new : Shown) (u w : Uploads) (s : ℕ) (given : List RdfTriple) (a : Answer) → a ≢ Staged → ((st : Standing old u) → (en : Standing new w) × Stages (desk_of st) s given a (desk_of en))
     → (st : Standing old u) → (en : Standing new w) × Completes given (desk_of st) s (answer_text a) (desk_of en)
 completes_not old new u w s given a other stages st =
     let en = stages st in (en.0, record { answer = a; between = desk_of en.0; staged = en.1; concludes = concludes_other a (desk_of en.0) s other })
 
 -- they are staged, and the upload is committed
-pub completes : (old mid new : Shown) (u m w : Uploads) (s : ℕ) (given : List Statement) (a b : Answer) → a ≡ Staged → ((st : Standing old u) → (en : Standing mid m) × Stages (desk_of st) s given a (desk_of en))
+pub completes : (old mid new : Shown) (u m w : Uploads) (s : ℕ) (given : List RdfTriple) (a b : Answer) → a ≡ Staged → ((st : Standing old u) → (en : Standing mid m) × Stages (desk_of st) s given a (desk_of en))
     → ((st : Standing mid m) → (en : Standing new w) × Answers (desk_of st) (At s Commit) b (desk_of en))
     → (st : Standing old u) → (en : Standing new w) × Completes given (desk_of st) s (answer_text b) (desk_of en)
 completes old mid new u m w s given a b is stages commits st =
@@ -118,15 +118,15 @@ completes old mid new u m w s given a b is stages commits st =
     )
 
 -- what a seat's text gives as it ends, by another name
-pub ends_by : (old new : List Body) (s : ℕ) (m given : Option (List Statement)) → m ≡ given → ((fed : ℕ → Fed) → AreFed old fed → (f : Fed) × AreFed new (with_fed fed s f) × Closes (fed s) m f)
+pub ends_by : (old new : List Body) (s : ℕ) (m given : Option (List RdfTriple)) → m ≡ given → ((fed : ℕ → Fed) → AreFed old fed → (f : Fed) × AreFed new (with_fed fed s f) × Closes (fed s) m f)
     → (fed : ℕ → Fed) → AreFed old fed → (f : Fed) × AreFed new (with_fed fed s f) × Closes (fed s) given f
 ends_by old new s m given is ends fed all =
     let f = ends fed all in
-    let P : Option (List Statement) → Type 0 = λ z. Closes (fed s) z f.0 in
+    let P : Option (List RdfTriple) → Type 0 = λ z. Closes (fed s) z f.0 in
     (f.0, f.1, subst P is f.2)
 
 -- the text that was fed ends, and the upload is committed or given up
-pub commits : (old new : Shown) (u m w : Uploads) (s : ℕ) (given : Option (List Statement)) (text : List ℕ) → m.openings.items ≡ u.openings.items → length m.bodies.items ≡ length u.bodies.items
+pub commits : (old new : Shown) (u m w : Uploads) (s : ℕ) (given : Option (List RdfTriple)) (text : List ℕ) → m.openings.items ≡ u.openings.items → length m.bodies.items ≡ length u.bodies.items
     → ((fed : ℕ → Fed) → AreFed u.bodies.items fed → (f : Fed) × AreFed m.bodies.items (with_fed fed s f) × Closes (fed s) given f)
     → ((st : Standing old m) → (en : Standing new w) × CommitsBy given (desk_of st) s text (desk_of en))
     → (st : Standing old u) → (en : Standing new w) × Commits (desk_of st) s text (desk_of en)

@@ -20,7 +20,7 @@ feed_cut x s l y says = number_cut x says.1.rest s (says.1.parts ∙ append_asso
 pub feed_seat_none : (x word : List ℕ) → word ≡ (split_first 32 x).0 → ((n : ℕ) → ¬ SaysNumber 65535 n word) → (s : ℕ) (l : Language) (y : List ℕ) → ¬ SaysFeed s l y x
 feed_seat_none x word before none s l y says = none s (before ∙ ap (λ p. p.0) (feed_cut x s l y says), says.0)
 
--- what stands behind the seat's number is no feed
+-- what stands after the seat's number is no feed
 feed_rest_none : (x action : List ℕ) → action ≡ (split_first 32 x).1 → ((l : Language) (y : List ℕ) → ¬ Behind (feed_words l) (SaysText y) action) → (s : ℕ) (l : Language) (y : List ℕ) → ¬ SaysFeed s l y x
 feed_rest_none x action behind none s l y says =
     let P : List ℕ → Type 0 = λ z. Behind (feed_words l) (SaysText y) z in

@@ -6,10 +6,10 @@ use Rattle.std.proofs.Common.{◌⊎◌, inl, inr, suc, subst}
 use Rattle.std.specs.Str.{IsAscii}
 use Rattle.std.proofs.lemmas.Str.Ascii.{IsAscii-nil, IsAscii-cons}
 use Rattle.std.specs.Str.{bytes_eq}
-use Rattle.gs_model.specs.Triples.{Statement, IsTriple, line_of}
+use Rattle.gs_model.specs.Triples.{RdfTriple, IsTriple, line_of}
 use Rattle.gs_drill.specs.Commands.{SaysLine}
-use Rattle.gs_model.specs.Texts.{statement_of}
-use Rattle.gs_model.proofs.LineLemmas.{statement_of-line_of}
+use Rattle.gs_model.specs.Texts.{triple_of}
+use Rattle.gs_model.proofs.LineLemmas.{triple_of-line_of}
 use Rattle.std.proofs.lemmas.Slice.Eq.{bytes_eq-Decides}
 use Rattle.std.proofs.Common.{◌*◌, drop, get_or, drop-cons, Option, Some, None}
 use Rattle.std.specs.Int.Digits.{number_from_digits_after}
@@ -58,19 +58,19 @@ step_least ds i value h =
     subst P (sym (drop-cons ds i 0 h)) (least (value * 10 + (get_or ds i 0 - 48)) (map (λ d. d - 48) (drop (suc i) ds)))
 
 -- the triple that a line would be of is the one that was read
-pub read_line_none : (bytes : List ℕ) (r : Option Statement) → (IsTriple (statement_of bytes) → r ≡ Some (statement_of bytes)) → r ≡ None → (t : Statement) → ¬ SaysLine t bytes
+pub read_line_none : (bytes : List ℕ) (r : Option RdfTriple) → (IsTriple (triple_of bytes) → r ≡ Some (triple_of bytes)) → r ≡ None → (t : RdfTriple) → ¬ SaysLine t bytes
 read_line_none bytes r read none t says =
-    let same : statement_of bytes ≡ t = sym (ap statement_of says.0) ∙ statement_of-line_of t says.1 in
-    let P : Statement → Type 0 = λ u. IsTriple u in
+    let same : triple_of bytes ≡ t = sym (ap triple_of says.0) ∙ triple_of-line_of t says.1 in
+    let P : RdfTriple → Type 0 = λ u. IsTriple u in
     let got = read (subst P (sym same) says.1) in
-    let clash : None ≡ Some (statement_of bytes) = sym none ∙ got in cc
+    let clash : None ≡ Some (triple_of bytes) = sym none ∙ got in cc
 
-pub read_line_other : (bytes : List ℕ) (r : Option Statement) (triple : Statement) (shown : List ℕ) → (IsTriple (statement_of bytes) → r ≡ Some (statement_of bytes)) → r ≡ Some triple → shown ≡ line_of triple
-    → false ≡ bytes_eq shown bytes → (t : Statement) → ¬ SaysLine t bytes
+pub read_line_other : (bytes : List ℕ) (r : Option RdfTriple) (triple : RdfTriple) (shown : List ℕ) → (IsTriple (triple_of bytes) → r ≡ Some (triple_of bytes)) → r ≡ Some triple → shown ≡ line_of triple
+    → false ≡ bytes_eq shown bytes → (t : RdfTriple) → ¬ SaysLine t bytes
 read_line_other bytes r triple shown read some shows other t says =
-    let same : statement_of bytes ≡ t = sym (ap statement_of says.0) ∙ statement_of-line_of t says.1 in
-    let P : Statement → Type 0 = λ u. IsTriple u in
+    let same : triple_of bytes ≡ t = sym (ap triple_of says.0) ∙ triple_of-line_of t says.1 in
+    let P : RdfTriple → Type 0 = λ u. IsTriple u in
     let got = read (subst P (sym same) says.1) in
-    let alike : triple ≡ statement_of bytes = cc in
+    let alike : triple ≡ triple_of bytes = cc in
     let text : shown ≡ bytes = shows ∙ ap line_of (alike ∙ same) ∙ says.0 in
     let yes_eq : bytes_eq shown bytes ≡ true = (bytes_eq-Decides shown bytes).1 text in cc

@@ -13,7 +13,7 @@ use Rattle.gs_drill.specs.Commands.{Says, lines_in}
 use Rattle.gs_drill.specs.Feeds.{Desk}
 use Rattle.gs_drill.specs.Commits.{Asks, DoesEvent}
 use Rattle.gs_drill.specs.Drills.{State, Does, Takes, Plays, Finishes, Halts, first_state}
-use Rattle.gs_drill.specs.Taking.{Tells, Replies, DoesCommand, TakesLine, EndsBy}
+use Rattle.gs_drill.specs.Taking.{Reports, Replies, DoesCommand, TakesLine, EndsBy}
 use Rattle.gs_drill.proofs.WritingLemmas.{Appends-append, Appends-none, WritesFront-next}
 use Rattle.gs_drill.proofs.RowLemmas.{late_none}
 use Rattle.gs_drill.proofs.DrillLemmas.{Plays-more, lines_in-split, length-split}
@@ -75,7 +75,7 @@ next_line : (input rest : List ℕ) (before : List (List ℕ)) → lines_in inpu
 next_line input rest before parts some = parts ∙ ap (λ z. before ++ z) (lines_in-split rest some)
 
 pub Playing-more : (input rest line after : List ℕ) (n : ℕ) (s t : State) (old mid new : Option (List ℕ)) → Playing input rest n s old mid → ¬ (rest ≡ [])
-    → line ≡ (split_first 10 rest).0 → after ≡ (split_first 10 rest).1 → Tells (λ text. Takes s line text t) mid new → Playing input after (n + 1) t old new
+    → line ≡ (split_first 10 rest).0 → after ≡ (split_first 10 rest).1 → Reports (λ text. Takes s line text t) mid new → Playing input after (n + 1) t old new
 Playing-more input rest line after n s t old mid new p some line_is after_is tells =
     let cut : lines_in input ≡ p.before ++ line ∷ lines_in after =
     next_line input rest p.before p.parts some ∙ ap (λ z. p.before ++ z ∷ lines_in (split_first 10 rest).1) (sym line_is) ∙ ap (λ z. p.before ++ line ∷ lines_in z) (sym after_is) in

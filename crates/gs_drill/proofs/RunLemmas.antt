@@ -179,11 +179,11 @@ finishes given old new r x is e = let P : Result _ (Stop × ℕ) → Type 0 = λ
 ends_by : {X : Type 0} (given old new : Option (List ℕ)) (r : Result X (Stop × ℕ)) (p : Stop × ℕ) → r ≡ Err p → Ends given old new r → EndsBy given old new p.0 p.1
 ends_by given old new r p is e = let P : Result _ (Stop × ℕ) → Type 0 = λ z. Ends given old new z in subst P is e
 
-pub stops_said : {X : Type 0} (given old new said_old said_new : Option (List ℕ)) (r : Result X (Stop × ℕ)) (stop : Stop) (n : ℕ) → r ≡ Err (stop, n) → Ends given old new r
-    → (stop ≡ NoCommand) × Appends said_old said_new (no_command_text n) → SaysStop given old new said_old said_new
-stops_said given old new said_old said_new r stop n is e h =
+pub stops_said : {X : Type 0} (given old new errors_old errors_new : Option (List ℕ)) (r : Result X (Stop × ℕ)) (stop : Stop) (n : ℕ) → r ≡ Err (stop, n) → Ends given old new r
+    → (stop ≡ NoCommand) × Appends errors_old errors_new (no_command_text n) → SaysStop given old new errors_old errors_new
+stops_said given old new errors_old errors_new r stop n is e h =
     let P : Stop → Type 0 = λ z. EndsBy given old new z n in
-    record { line_number = n; stops = subst P h.0 (ends_by given old new r (stop, n) is e); said = h.1 }
+    record { line_number = n; stops = subst P h.0 (ends_by given old new r (stop, n) is e); printed = h.1 }
 
 pub halts_said : {X : Type 0} (given old new : Option (List ℕ)) (r : Result X (Stop × ℕ)) (stop : Stop) (n : ℕ) → r ≡ Err (stop, n) → Ends given old new r → stop ≡ NoMemory → Halts given old new
 halts_said given old new r stop n is e h = let P : Stop → Type 0 = λ z. EndsBy given old new z n in subst P h (ends_by given old new r (stop, n) is e)

@@ -4,7 +4,7 @@ use Rattle.std.specs.List.{slice_get, slice_set}
 use Rattle.std.proofs.lemmas.Bool.{eqb-true, eq-eqb}
 use Rattle.std.proofs.lemmas.List.{length-set}
 use Rattle.std.proofs.lemmas.Option.{slice_get-get_or}
-use Rattle.gs_model.specs.Triples.{Statement}
+use Rattle.gs_model.specs.Triples.{RdfTriple}
 use Rattle.gs_drill.specs.declared.bodies.Body.{Body}
 use Rattle.gs_drill.specs.declared.bodies.Body.TheVariants as body
 use Rattle.gs_drill.specs.Feeds.{Fed, Unfed, Accepts, with_fed}
@@ -78,7 +78,7 @@ there : (o : Option Body) (x b : Body) (f : Fed) → o ≡ Some x → IsFed b f 
 there o x b f is h = let P : Option Body → Type 0 = λ z. MatchOption z (f ≡ Unfed) (λ _. IsFed b f) in subst P (sym is) h
 
 -- the body of a seat is taken, fed and put back
-pub body_fed : (old mid new : List Body) (s : ℕ) (b c : Body) (k : Context) (y : List ℕ) (given : List Statement) → MatchOption (slice_get old s) (b ≡ body.Unfed) (λ x. b ≡ x) → mid ≡ slice_set old s body.Unfed
+pub body_fed : (old mid new : List Body) (s : ℕ) (b c : Body) (k : Context) (y : List ℕ) (given : List RdfTriple) → MatchOption (slice_get old s) (b ≡ body.Unfed) (λ x. b ≡ x) → mid ≡ slice_set old s body.Unfed
     → FeedsBody b k y given c → new ≡ slice_set mid s c
     → (fed : ℕ → Fed) → AreFed old fed → s < length old → (f : Fed) × AreFed new (with_fed fed s f) × Accepts k (fed s) y given f
 body_fed old mid new s b c k y given taken first feeds then fed all room =
@@ -87,16 +87,16 @@ body_fed old mid new s b c k y given taken first feeds then fed all room =
     let P : List Body → Type 0 = λ z. AreFed z (with_fed fed s g.0) in
     (g.0, subst P (sym (then ∙ ap (λ z. slice_set z s c) first ∙ set_twice old s body.Unfed c)) (AreFed-set old s c fed g.0 all own), g.2)
 
-closes_unfed : (given : Option (List Statement)) (f g : Fed) → f ≡ Unfed → Closes f given g → g ≡ Unfed
+closes_unfed : (given : Option (List RdfTriple)) (f g : Fed) → f ≡ Unfed → Closes f given g → g ≡ Unfed
 closes_unfed None f g is h = let P : Fed → Type 0 = λ z. Closes z None g in absurd (subst P is h)
 closes_unfed (Some ts) f g is h = let P : Fed → Type 0 = λ z. Closes z (Some ts) g in (subst P is h).1
 
-closed_own : (o : Option Body) (c : Body) (f g : Fed) (given : Option (List Statement)) → MatchOption o (f ≡ Unfed) (λ x. IsFed x f) → IsFed c g → Closes f given g → MatchOption o (g ≡ Unfed) (λ _. IsFed c g)
+closed_own : (o : Option Body) (c : Body) (f g : Fed) (given : Option (List RdfTriple)) → MatchOption o (f ≡ Unfed) (λ x. IsFed x f) → IsFed c g → Closes f given g → MatchOption o (g ≡ Unfed) (λ _. IsFed c g)
 closed_own None c f g given h is ends = closes_unfed given f g h ends
 closed_own (Some x) c f g given h is ends = is
 
 -- the body of a seat is taken, ended and put back
-pub body_ended : (old mid new : List Body) (s : ℕ) (b c : Body) (given : Option (List Statement)) → MatchOption (slice_get old s) (b ≡ body.Unfed) (λ x. b ≡ x) → mid ≡ slice_set old s body.Unfed
+pub body_ended : (old mid new : List Body) (s : ℕ) (b c : Body) (given : Option (List RdfTriple)) → MatchOption (slice_get old s) (b ≡ body.Unfed) (λ x. b ≡ x) → mid ≡ slice_set old s body.Unfed
     → EndsBody b given c → new ≡ slice_set mid s c
     → (fed : ℕ → Fed) → AreFed old fed → (f : Fed) × AreFed new (with_fed fed s f) × Closes (fed s) given f
 body_ended old mid new s b c given taken first ends then fed all =

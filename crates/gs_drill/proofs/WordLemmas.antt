@@ -22,21 +22,21 @@ behind_short bytes word short rest parts =
     let same : length bytes ≡ length (word ++ rest) = ap length parts in
     omega (arith, same, length-append word rest)
 
-said_number : (most x : ℕ) (text : List ℕ) → SaysNumber most x text → number_of text ≡ x
-said_number most x text says = ap number_of says.0 ∙ number_of-numeral x
+meaning_number : (most x : ℕ) (text : List ℕ) → SaysNumber most x text → number_of text ≡ x
+meaning_number most x text says = ap number_of says.0 ∙ number_of-numeral x
 
 pub number_unfit : (text : List ℕ) (most : ℕ) → 2 ^ 64 ≤ number_of text → most < 2 ^ 64 → (x : ℕ) → SaysNumber most x text → ⊥
-number_unfit text most large fits x says = let e = said_number most x text says in let b = says.1 in omega arith
+number_unfit text most large fits x says = let e = meaning_number most x text says in let b = says.1 in omega arith
 
 pub number_above : (text : List ℕ) (most n : ℕ) → n ≡ number_of text → most < n → (x : ℕ) → SaysNumber most x text → ⊥
-number_above text most n is above x says = let e = said_number most x text says in let b = says.1 in omega arith
+number_above text most n is above x says = let e = meaning_number most x text says in let b = says.1 in omega arith
 
 pub number_is : (text shown : List ℕ) (n : ℕ) → n < 2 ^ 64 → shown ≡ decimal n → true ≡ bytes_eq shown text → text ≡ numeral n
 number_is text shown n fits is alike = sym (same_text shown text (sym alike)) ∙ is ∙ decimal_is_numeral n fits
 
 pub number_other : (text shown : List ℕ) (most n : ℕ) → n < 2 ^ 64 → n ≡ number_of text → shown ≡ decimal n → false ≡ bytes_eq shown text → (x : ℕ) → SaysNumber most x text → ⊥
 number_other text shown most n fits is shows other x says =
-    let e : n ≡ x = is ∙ said_number most x text says in
+    let e : n ≡ x = is ∙ meaning_number most x text says in
     let same : shown ≡ text = shows ∙ decimal_is_numeral n fits ∙ ap numeral e ∙ sym says.0 in
     let alike : bytes_eq shown text ≡ true = (bytes_eq-Decides shown text).1 same in
     let clash : false ≡ true = other ∙ alike in cc

@@ -1,14 +1,14 @@
 -- What a line of a schedule says. Words are parted by one space.
 use Rattle.std.specs.Prelude.{◌≡◌, ℕ, ◌≤◌, ◌^◌, ◌-◌, Bool, true, ◌==◌, List, [], ◌∷◌, ◌++◌, codes, if◌then◌else◌}
 use Rattle.std.specs.Str.{IsUtf8}
-use Rattle.gs_model.specs.declared.limits.TheConstants.{LAST_NUMBER, MOST_SEATS}
+use Rattle.gs_model.specs.Limits.{last_number, max_seats}
 use Rattle.gs_model.specs.Iris.{IsName}
 use Rattle.gs_model.specs.Terms.{numeral}
-use Rattle.gs_model.specs.Triples.{Statement, IsTriple, line_of}
+use Rattle.gs_model.specs.Triples.{RdfTriple, IsTriple, line_of}
 use Rattle.gs_term.specs.declared.names.Target.{Target}
 use Rattle.gs_term.specs.declared.names.Target.TheVariants.{Default, Named}
-use Rattle.gs_event.specs.declared.events.Kind.{Kind}
-use Rattle.gs_event.specs.declared.events.Kind.TheVariants.{Put, Post, New}
+use Rattle.gs_event.specs.declared.events.UploadKind.{UploadKind}
+use Rattle.gs_event.specs.declared.events.UploadKind.TheVariants.{Put, Post, New}
 use Rattle.gs_event.specs.declared.events.Action.{Action}
 use Rattle.gs_event.specs.declared.events.Action.TheVariants.{Open, Stage, Commit, Delete, Head, Pin, Piece, Cancel}
 use Rattle.gs_event.specs.declared.events.Event.{Event}
@@ -28,7 +28,7 @@ abbrev pub lines_in : List ℕ → List (List ℕ)
 lines_in [] = []
 lines_in (c ∷ cs) = if c == 10 then [] ∷ lines_in cs else before_first c (lines_in cs)
 
--- a word with a space behind it, and then what the rest says
+-- a word with a space after it, and then what the rest says
 pub record Behind (word : List ℕ) (Says : List ℕ → Type 0) (x : List ℕ) : Type 0 where
   pub rest : List ℕ
   pub parts : x ≡ word ++ rest
@@ -44,21 +44,21 @@ SaysTarget Default x = x ≡ codes "default"
 SaysTarget (Named name) x = (x ≡ 60 ∷ name ++ 62 ∷ []) × IsName name
 
 -- what an upload is opened for
-abbrev pub SaysKind : Kind → List ℕ → Type 0
+abbrev pub SaysKind : UploadKind → List ℕ → Type 0
 SaysKind (Put t) x = Behind (codes "put ") (SaysTarget t) x
 SaysKind (Post t) x = Behind (codes "post ") (SaysTarget t) x
 SaysKind New x = x ≡ codes "new"
 
 -- a triple, by its canonical line
-abbrev pub SaysLine : Statement → List ℕ → Type 0
+abbrev pub SaysLine : RdfTriple → List ℕ → Type 0
 SaysLine t x = (line_of t ≡ x) × IsTriple t
 
 -- a triple, by its canonical line without the line feed
-abbrev pub SaysTriple : Statement → List ℕ → Type 0
+abbrev pub SaysTriple : RdfTriple → List ℕ → Type 0
 SaysTriple t x = SaysLine t (x ++ 10 ∷ [])
 
 -- one triple
-abbrev pub SaysTriples : List Statement → List ℕ → Type 0
+abbrev pub SaysTriples : List RdfTriple → List ℕ → Type 0
 SaysTriples [] x = ⊥
 SaysTriples (t ∷ []) x = SaysTriple t x
 SaysTriples (t ∷ u ∷ ts) x = ⊥
@@ -101,9 +101,9 @@ pub record SaysNothingAt (x : List ℕ) : Type 0 where
 pub record SaysStart (seats commit request : ℕ) (x : List ℕ) : Type 0 where
   pub parts : x ≡ numeral seats ++ 32 ∷ (numeral commit ++ 32 ∷ numeral request)
   pub some : 1 ≤ seats
-  pub most : seats ≤ MOST_SEATS
-  pub commit_left : commit ≤ LAST_NUMBER
-  pub request_left : request ≤ LAST_NUMBER
+  pub most : seats ≤ max_seats
+  pub commit_left : commit ≤ last_number
+  pub request_left : request ≤ last_number
 
 -- an empty line, or one that begins with '#'
 abbrev pub is_skipped : List ℕ → Bool

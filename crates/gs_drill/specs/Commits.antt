@@ -1,13 +1,13 @@
 -- What an event does, and what a commit does to an upload to which texts were fed.
 use Rattle.std.specs.Prelude.{◌≡◌, ℕ, List, [], ◌++◌, Option, Some, None}
-use Rattle.gs_model.specs.Triples.{Statement}
-use Rattle.gs_body.specs.Bodies.{Said, Whole, triples_of}
+use Rattle.gs_model.specs.Triples.{RdfTriple}
+use Rattle.gs_body.specs.Bodies.{Meaning, Whole, triples_of}
 use Rattle.gs_event.specs.declared.events.Action.TheVariants.{Commit, Cancel}
 use Rattle.gs_event.specs.declared.events.Event.{Event}
 use Rattle.gs_event.specs.declared.events.Event.TheVariants.{Seat as At}
 use Rattle.gs_event.specs.declared.answers.Answer.{Answer}
 use Rattle.gs_event.specs.declared.answers.Answer.TheVariants.{Staged}
-use Rattle.gs_drill.specs.Languages.{said_of}
+use Rattle.gs_drill.specs.Languages.{meaning_for}
 use Rattle.gs_drill.specs.Printing.{answer_text, fault_text}
 use Rattle.gs_drill.specs.Feeds.{Fed, Unfed, InPart, Faulted, Finished, Desk, desk_with, Answers, Stages, IsFaulty}
 
@@ -18,15 +18,15 @@ pub record Asks (d : Desk) (event : Event) (text : List ℕ) (e : Desk) : Type 0
   pub told : text ≡ answer_text answer
 
 -- a text has a meaning, which is these triples
-abbrev pub MeansAll : (List ℕ → Said) → List ℕ → List Statement → Type 0
-MeansAll said x ts = ((said x).1 ≡ Whole) × (triples_of (said x).0 ≡ ts)
+abbrev pub MeansAll : (List ℕ → Meaning) → List ℕ → List RdfTriple → Type 0
+MeansAll meaning_of x ts = ((meaning_of x).1 ≡ Whole) × (triples_of (meaning_of x).0 ≡ ts)
 
 -- The text ends: with the triples that it then gives, if any, all that it means is given; or it has no meaning,
 -- and nothing is given. A text ends once.
-abbrev pub Closes : Fed → Option (List Statement) → Fed → Type 0
+abbrev pub Closes : Fed → Option (List RdfTriple) → Fed → Type 0
 Closes Unfed (Some given) f = (given ≡ []) × (f ≡ Unfed)
-Closes (InPart c x ts) (Some given) f = MeansAll (said_of c) x (ts ++ given) × (f ≡ Finished c.language)
-Closes (InPart c x ts) None f = IsFaulty (said_of c) x × (f ≡ Faulted c.language)
+Closes (InPart c x ts) (Some given) f = MeansAll (meaning_for c) x (ts ++ given) × (f ≡ Finished c.language)
+Closes (InPart c x ts) None f = IsFaulty (meaning_for c) x × (f ≡ Faulted c.language)
 Closes (Faulted l) None f = f ≡ Faulted l
 Closes (Finished l) (Some given) f = (given ≡ []) × (f ≡ Finished l)
 Closes f given g = ⊥
@@ -43,20 +43,20 @@ Concludes Staged d s text e = Asks d (At s Commit) text e
 Concludes a d s text e = (text ≡ answer_text a) × (e ≡ d)
 
 -- the last triples are staged, and then the upload is committed
-pub record Completes (given : List Statement) (d : Desk) (s : ℕ) (text : List ℕ) (e : Desk) : Type 0 where
+pub record Completes (given : List RdfTriple) (d : Desk) (s : ℕ) (text : List ℕ) (e : Desk) : Type 0 where
   pub answer : Answer
   pub between : Desk
   pub staged : Stages d s given answer between
   pub concludes : Concludes answer between s text e
 
 -- the same by what the text gives as it ends
-abbrev pub CommitsBy : Option (List Statement) → Desk → ℕ → List ℕ → Desk → Type 0
+abbrev pub CommitsBy : Option (List RdfTriple) → Desk → ℕ → List ℕ → Desk → Type 0
 CommitsBy None d s text e = GivesUp d s text e
 CommitsBy (Some given) d s text e = Completes given d s text e
 
 -- a commit of seat s: the text that was fed ends, and the upload is committed or given up
 pub record Commits (d : Desk) (s : ℕ) (text : List ℕ) (e : Desk) : Type 0 where
-  pub given : Option (List Statement)
+  pub given : Option (List RdfTriple)
   pub fed : Fed
   pub closes : Closes (d.fed s) given fed
   pub commits : CommitsBy given (desk_with d s fed) s text e

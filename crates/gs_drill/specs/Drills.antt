@@ -56,7 +56,7 @@ abbrev pub Plays : State → List (List ℕ) → List ℕ → State → Type 0
 Plays s [] text t = (text ≡ []) × (t ≡ s)
 Plays s (line ∷ lines) text t = (u : State) × (first : List ℕ) × (rest : List ℕ) × (text ≡ first ++ rest) × Takes s line first u × Plays u lines rest t
 
--- a line is no command where it stands: it says nothing, or it begins a store behind another command, or it feeds
+-- a line is no command where it stands: it says nothing, or it begins a store after another command, or it feeds
 -- an upload in another language than before
 abbrev pub IsLate : State → Command → Type 0
 IsLate s Nothing = ⊥
@@ -99,10 +99,10 @@ pub record Stops (given : Option (List ℕ)) (n : ℕ) (old new : Option (List �
   pub written : Appends old new text
 
 -- the same, and it is said
-pub record SaysStop (given old new said_old said_new : Option (List ℕ)) : Type 0 where
+pub record SaysStop (given old new errors_old errors_new : Option (List ℕ)) : Type 0 where
   pub line_number : ℕ
   pub stops : Stops given line_number old new
-  pub said : Appends said_old said_new (no_command_text line_number)
+  pub printed : Appends errors_old errors_new (no_command_text line_number)
 
 -- some first lines are commands, and what they print is written
 pub record Halts (given old new : Option (List ℕ)) : Type 0 where

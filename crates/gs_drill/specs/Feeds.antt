@@ -1,12 +1,12 @@
--- What is fed to the upload of a seat: texts, by what they mean (`said_by` of gs_ntread and of gs_turtle).
+-- What is fed to the upload of a seat: texts, by what they mean (`meaning_by` of gs_ntread and of gs_turtle).
 use Rattle.std.specs.Prelude.{◌≡◌, ℕ, Bool, true, false, nat_eq, if◌then◌else◌, List, [], ◌∷◌, ◌++◌, MatchOption}
 use Rattle.std.specs.List.{slice_get}
 use Rattle.std.specs.Str.{IsUtf8}
-use Rattle.gs_model.specs.Triples.{Statement}
+use Rattle.gs_model.specs.Triples.{RdfTriple}
 use Rattle.gs_model.specs.declared.refusals.Refusal.{Refusal}
 use Rattle.gs_model.specs.declared.refusals.Refusal.TheVariants.{BadSeat, WrongPhase}
 use Rattle.gs_machine.specs.Machines.{AreSettled, Begins}
-use Rattle.gs_body.specs.Bodies.{Said, Whole, triples_of}
+use Rattle.gs_body.specs.Bodies.{Meaning, Whole, triples_of}
 use Rattle.gs_event.specs.declared.events.Action.{Action}
 use Rattle.gs_event.specs.declared.events.Action.TheVariants.{Stage}
 use Rattle.gs_event.specs.declared.events.Event.{Event}
@@ -17,14 +17,14 @@ use Rattle.gs_event.specs.Phases.{Idle, Writing, Reading}
 use Rattle.gs_event.specs.Views.{SeatView, Fits, next_view}
 use Rattle.gs_event.specs.Waste.{Shown, Reclaims}
 use Rattle.gs_drill.specs.declared.languages.Language.{Language}
-use Rattle.gs_drill.specs.Languages.{Context, said_of, first_base}
+use Rattle.gs_drill.specs.Languages.{Context, meaning_for, first_base}
 use Rattle.gs_drill.specs.Printing.{answer_text, fed_text}
 
 -- What was fed to a seat: nothing; a text that is read so, with the triples that were given so far; a text of a
 -- language that has a fault; or a whole text, of which all is given.
 pub data Fed : Type 0 where
   Unfed : Fed
-  InPart : (c : Context) (x : List ℕ) (given : List Statement) → Fed
+  InPart : (c : Context) (x : List ℕ) (given : List RdfTriple) → Fed
   Faulted : (l : Language) → Fed
   Finished : (l : Language) → Fed
 
@@ -68,34 +68,34 @@ pub record Answers (d : Desk) (event : Event) (a : Answer) (e : Desk) : Type 0 w
   pub fed : e.fed ≡ fed_after d.fed event a
 
 -- the action that stages these triples
-abbrev pub IsStage : List Statement → Action → Type 0
+abbrev pub IsStage : List RdfTriple → Action → Type 0
 IsStage given (Stage ts) = ts.items ≡ given
 IsStage given action = ⊥
 
 -- triples are staged by one event; where there are none, by no event, and the answer counts as `Staged`
-abbrev pub Stages : Desk → ℕ → List Statement → Answer → Desk → Type 0
+abbrev pub Stages : Desk → ℕ → List RdfTriple → Answer → Desk → Type 0
 Stages d s [] a e = (a ≡ Staged) × (e ≡ d)
 Stages d s (t ∷ ts) a e = (action : Action) × IsStage (t ∷ ts) action × Answers d (At s action) a e
 
 -- The triples that a text gives so far, by what texts say: a front of what is said, however the text goes on; and
 -- where the text so far ends between two characters, just the triples of its complete statements.
-pub record Gives (said : List ℕ → Said) (x : List ℕ) (given : List Statement) : Type 0 where
-  pub begun : (z : List ℕ) → Begins (triples_of (said (x ++ z)).0) given
-  pub settled : IsUtf8 x → AreSettled (λ z. triples_of (said z).0) x given
+pub record Gives (meaning_of : List ℕ → Meaning) (x : List ℕ) (given : List RdfTriple) : Type 0 where
+  pub begun : (z : List ℕ) → Begins (triples_of (meaning_of (x ++ z)).0) given
+  pub settled : IsUtf8 x → AreSettled (λ z. triples_of (meaning_of z).0) x given
 
 -- a text without a meaning
-abbrev pub IsFaulty : (List ℕ → Said) → List ℕ → Type 0
-IsFaulty said x = ¬ ((said x).1 ≡ Whole)
+abbrev pub IsFaulty : (List ℕ → Meaning) → List ℕ → Type 0
+IsFaulty meaning_of x = ¬ ((meaning_of x).1 ≡ Whole)
 
 -- The text x, which gave ts, goes on by y and gives some triples more; or it has a fault, however it goes on.
-abbrev pub GoesOn : Context → List ℕ → List Statement → List ℕ → List Statement → Fed → Type 0
-GoesOn c x ts y given (InPart d z all) = (d ≡ c) × (z ≡ x ++ y) × (all ≡ ts ++ given) × Gives (said_of c) z all
-GoesOn c x ts y given (Faulted l) = (l ≡ c.language) × (given ≡ []) × ((z : List ℕ) → IsFaulty (said_of c) (x ++ y ++ z))
+abbrev pub GoesOn : Context → List ℕ → List RdfTriple → List ℕ → List RdfTriple → Fed → Type 0
+GoesOn c x ts y given (InPart d z all) = (d ≡ c) × (z ≡ x ++ y) × (all ≡ ts ++ given) × Gives (meaning_for c) z all
+GoesOn c x ts y given (Faulted l) = (l ≡ c.language) × (given ≡ []) × ((z : List ℕ) → IsFaulty (meaning_for c) (x ++ y ++ z))
 GoesOn c x ts y given f = ⊥
 
--- What y gives to an upload, whose first text is read as c says. Behind a fault, or behind the end of the text, it
+-- What y gives to an upload, whose first text is read as c says. Behind a fault, or after the end of the text, it
 -- is dropped.
-abbrev pub Accepts : Context → Fed → List ℕ → List Statement → Fed → Type 0
+abbrev pub Accepts : Context → Fed → List ℕ → List RdfTriple → Fed → Type 0
 Accepts c Unfed y given f = GoesOn c [] [] y given f
 Accepts c (InPart d x ts) y given f = GoesOn d x ts y given f
 Accepts c (Faulted l) y given f = (given ≡ []) × (f ≡ Faulted l)
@@ -108,7 +108,7 @@ feed_text a = answer_text a
 
 -- y is fed to an upload, whose first text is read as c says, and what it gives is staged
 pub record FeedsUpload (c : Context) (d : Desk) (s : ℕ) (y text : List ℕ) (e : Desk) : Type 0 where
-  pub given : List Statement
+  pub given : List RdfTriple
   pub fed : Fed
   pub accepts : Accepts c (d.fed s) y given fed
   pub answer : Answer

@@ -8,7 +8,7 @@ use Rattle.gs_event.specs.declared.answers.Answer.TheVariants.{Opened, Staged, S
 use Rattle.gs_drill.specs.declared.printing.Reply.{Reply}
 use Rattle.gs_drill.specs.declared.printing.Reply.TheVariants.{Answered, Taken, Fault}
 
--- what stands behind a status: a space and the name of the graph that was made up, if one was
+-- what stands after a status: a space and the name of the graph that was made up, if one was
 abbrev pub location_text : Option (List ℕ) → List ℕ
 location_text None = []
 location_text (Some name) = 32 ∷ name

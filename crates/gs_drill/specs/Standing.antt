@@ -1,14 +1,14 @@
 -- Where the code stands in a run: the store, and for each seat what opened its upload and the reader of its text.
 use Rattle.std.specs.Prelude.{◌≡◌, ℕ, Bool, false, List, ◌++◌, length, map, string_bytes, Option, None, Some, MatchOption, Result, Ok, Err}
 use Rattle.std.specs.List.{slice_get}
-use Rattle.gs_model.specs.Triples.{Statement}
+use Rattle.gs_model.specs.Triples.{RdfTriple}
 use Rattle.gs_model.specs.declared.refusals.Refusal.{Refusal}
 use Rattle.gs_model.specs.declared.refusals.Refusal.TheVariants.{NoMemory}
-use Rattle.gs_body.specs.Bodies.{Said}
-use Rattle.gs_ntread.specs.Documents.{said_by as ntriples_said}
+use Rattle.gs_body.specs.Bodies.{Meaning}
+use Rattle.gs_ntread.specs.Documents.{meaning_by as ntriples_said}
 use Rattle.gs_ntread.specs.Readers.{LeadsTo as NTriplesLeads}
 use Rattle.gs_ntread.specs.declared.reader.NTriplesReader.{NTriplesReader}
-use Rattle.gs_turtle.specs.Documents.{said_by as turtle_said}
+use Rattle.gs_turtle.specs.Documents.{meaning_by as turtle_said}
 use Rattle.gs_turtle.specs.Readers.{LeadsTo as TurtleLeads}
 use Rattle.gs_turtle.specs.declared.readers.TurtleReader.{TurtleReader}
 use Rattle.gs_event.specs.Phases.{Idle, Writing, Reading}
@@ -20,7 +20,7 @@ use Rattle.gs_drill.specs.declared.languages.Language.{Language}
 use Rattle.gs_drill.specs.declared.languages.Language.TheVariants.{NTriples, Turtle}
 use Rattle.gs_drill.specs.declared.openings.Opening.{Opening}
 use Rattle.gs_drill.specs.declared.uploads.Uploads.{Uploads}
-use Rattle.gs_drill.specs.Languages.{Context, said_of, base_under, target_of}
+use Rattle.gs_drill.specs.Languages.{Context, meaning_for, base_under, target_of}
 use Rattle.gs_drill.specs.Feeds.{Fed, Unfed, InPart, Faulted, Finished, Desk, Gives, IsFaulty}
 use Rattle.gs_drill.specs.Commits.{MeansAll}
 use Rattle.gs_event.specs.Histories.{Start}
@@ -37,16 +37,16 @@ abbrev pub context_of : Language → Opening → Context
 context_of l o = record { language = l; base = base_under o.target; request = o.request }
 
 -- By the words of its trait, the reader has read x, has given ts and goes on, and a text says to it what `means` has.
-pub record HasRead {R : Type 0} (said : R → List ℕ → Said) (Leads : R → List ℕ → List Statement → Type 0) (closed : R → Bool) (means : List ℕ → Said) (reader : R) (x : List ℕ) (ts : List Statement) : Type 0 where
+pub record HasRead {R : Type 0} (meaning_of : R → List ℕ → Meaning) (Leads : R → List ℕ → List RdfTriple → Type 0) (closed : R → Bool) (means : List ℕ → Meaning) (reader : R) (x : List ℕ) (ts : List RdfTriple) : Type 0 where
   pub leads : Leads reader x ts
   pub goes_on : closed reader ≡ false
-  pub says : (z : List ℕ) → said reader z ≡ means z
+  pub says : (z : List ℕ) → meaning_of reader z ≡ means z
 
 -- what a text says to each of the readers, as their `impl` of the trait has it
-abbrev pub ntriples_says : NTriplesReader → List ℕ → Said
+abbrev pub ntriples_says : NTriplesReader → List ℕ → Meaning
 ntriples_says r x = ntriples_said r.request x
 
-abbrev pub turtle_says : TurtleReader → List ℕ → Said
+abbrev pub turtle_says : TurtleReader → List ℕ → Meaning
 turtle_says r x = turtle_said (string_bytes r.base) r.request x
 
 -- whether each of them is closed
@@ -57,18 +57,18 @@ abbrev pub turtle_closed : TurtleReader → Bool
 turtle_closed r = r.is_closed
 
 -- a text that gave ts goes on by y: the reader goes on, or the text has a fault
-abbrev pub ReadsOn : {R : Type 0} → (R → List ℕ → Said) → (R → List ℕ → List Statement → Type 0) → (R → Bool) → R → List ℕ → Option (R × List Statement) → Type 0
-ReadsOn said Leads closed reader y None = (means : List ℕ → Said) (x : List ℕ) (ts : List Statement) → HasRead said Leads closed means reader x ts → (z : List ℕ) → IsFaulty means (x ++ y ++ z)
-ReadsOn said Leads closed reader y (Some p) = (means : List ℕ → Said) (x : List ℕ) (ts : List Statement) → HasRead said Leads closed means reader x ts
-    → HasRead said Leads closed means p.0 (x ++ y) (ts ++ p.1) × Gives means (x ++ y) (ts ++ p.1)
+abbrev pub ReadsOn : {R : Type 0} → (R → List ℕ → Meaning) → (R → List ℕ → List RdfTriple → Type 0) → (R → Bool) → R → List ℕ → Option (R × List RdfTriple) → Type 0
+ReadsOn meaning_of Leads closed reader y None = (means : List ℕ → Meaning) (x : List ℕ) (ts : List RdfTriple) → HasRead meaning_of Leads closed means reader x ts → (z : List ℕ) → IsFaulty means (x ++ y ++ z)
+ReadsOn meaning_of Leads closed reader y (Some p) = (means : List ℕ → Meaning) (x : List ℕ) (ts : List RdfTriple) → HasRead meaning_of Leads closed means reader x ts
+    → HasRead meaning_of Leads closed means p.0 (x ++ y) (ts ++ p.1) × Gives means (x ++ y) (ts ++ p.1)
 
 -- a text ends that gave ts: it has a meaning, or a fault
-abbrev pub ReadsEnd : {R : Type 0} → (R → List ℕ → Said) → (R → List ℕ → List Statement → Type 0) → (R → Bool) → R → Option (List Statement) → Type 0
-ReadsEnd said Leads closed reader None = (means : List ℕ → Said) (x : List ℕ) (ts : List Statement) → HasRead said Leads closed means reader x ts → IsFaulty means x
-ReadsEnd said Leads closed reader (Some given) = (means : List ℕ → Said) (x : List ℕ) (ts : List Statement) → HasRead said Leads closed means reader x ts → MeansAll means x (ts ++ given)
+abbrev pub ReadsEnd : {R : Type 0} → (R → List ℕ → Meaning) → (R → List ℕ → List RdfTriple → Type 0) → (R → Bool) → R → Option (List RdfTriple) → Type 0
+ReadsEnd meaning_of Leads closed reader None = (means : List ℕ → Meaning) (x : List ℕ) (ts : List RdfTriple) → HasRead meaning_of Leads closed means reader x ts → IsFaulty means x
+ReadsEnd meaning_of Leads closed reader (Some given) = (means : List ℕ → Meaning) (x : List ℕ) (ts : List RdfTriple) → HasRead meaning_of Leads closed means reader x ts → MeansAll means x (ts ++ given)
 
 -- what a reader gave, where its call was not refused; for want of memory nothing is heard
-abbrev pub Hears : {X : Type 0} → Result X Refusal → List Statement → Option (List Statement) → Type 0
+abbrev pub Hears : {X : Type 0} → Result X Refusal → List RdfTriple → Option (List RdfTriple) → Type 0
 Hears (Ok x) triples given = given ≡ Some triples
 Hears (Err NoMemory) triples given = ⊥
 Hears (Err e) triples given = given ≡ None
@@ -94,8 +94,8 @@ language_of (body.Finished l) = Some l
 -- what was fed to the body
 abbrev pub IsFed : Body → Fed → Type 0
 IsFed body.Unfed Unfed = Unit {0}
-IsFed (body.NTriples reader) (InPart c x ts) = (c.language ≡ NTriples) × HasRead ntriples_says NTriplesLeads ntriples_closed (said_of c) reader x ts
-IsFed (body.Turtle reader) (InPart c x ts) = (c.language ≡ Turtle) × HasRead turtle_says TurtleLeads turtle_closed (said_of c) reader x ts
+IsFed (body.NTriples reader) (InPart c x ts) = (c.language ≡ NTriples) × HasRead ntriples_says NTriplesLeads ntriples_closed (meaning_for c) reader x ts
+IsFed (body.Turtle reader) (InPart c x ts) = (c.language ≡ Turtle) × HasRead turtle_says TurtleLeads turtle_closed (meaning_for c) reader x ts
 IsFed (body.Faulted k) (Faulted l) = k ≡ l
 IsFed (body.Finished k) (Finished l) = k ≡ l
 IsFed b f = ⊥

@@ -1,7 +1,7 @@
 -- How one line, and how a run of lines, comes out.
 use Rattle.std.specs.Prelude.{◌≤◌, ℕ, List, [], Option, Result, Ok, Err}
 use Rattle.std.specs.Io.KnownBytes.{Appends}
-use Rattle.gs_model.specs.declared.limits.TheConstants.{LAST_NUMBER, MOST_SEATS}
+use Rattle.gs_model.specs.Limits.{last_number, max_seats}
 use Rattle.gs_drill.specs.declared.commands.Command.{Command}
 use Rattle.gs_drill.specs.declared.commands.Command.TheVariants.{Nothing, Begin, Ask, Count, Feed, Cut}
 use Rattle.gs_drill.specs.declared.drills.Stop.{Stop}
@@ -12,14 +12,14 @@ use Rattle.gs_drill.specs.Drills.{State, Does, Takes, IsLate, IsNoCommand, Finis
 -- a store may begin with these numbers
 abbrev pub IsInRange : Command → Type 0
 IsInRange Nothing = Unit {0}
-IsInRange (Begin seats commit request) = (1 ≤ seats) × (seats ≤ MOST_SEATS) × (commit ≤ LAST_NUMBER) × (request ≤ LAST_NUMBER)
+IsInRange (Begin seats commit request) = (1 ≤ seats) × (seats ≤ max_seats) × (commit ≤ last_number) × (request ≤ last_number)
 IsInRange (Ask event) = Unit {0}
 IsInRange Count = Unit {0}
 IsInRange (Feed seat l y) = Unit {0}
 IsInRange (Cut n) = Unit {0}
 
 -- a text is made and written
-pub record Tells (Makes : List ℕ → Type 0) (old new : Option (List ℕ)) : Type 0 where
+pub record Reports (Makes : List ℕ → Type 0) (old new : Option (List ℕ)) : Type 0 where
   pub text : List ℕ
   pub makes : Makes text
   pub written : Appends old new text

@@ -1,7 +1,7 @@
 //! What was fed to one upload.
 ghost use Rattle.std.specs.Prelude.{◌≡◌, ◌≢◌, ◌≤◌, ◌++◌, [], ℕ, List, Option, None, Some, option_map, true, false, IfOk, OnOk, IfErr};
-ghost use Rattle.gs_model.specs.Triples.{Statement};
-ghost use Rattle.gs_body.specs.Bodies.{Tells};
+ghost use Rattle.gs_model.specs.Triples.{RdfTriple};
+ghost use Rattle.gs_body.specs.Bodies.{Reports};
 ghost use Rattle.gs_body.specs.Feeding.{Feeds};
 ghost use Rattle.gs_drill.specs.Languages.{Context};
 ghost use Rattle.gs_drill.specs.Feeds.{Fed, Accepts};
@@ -26,9 +26,9 @@ pub enum Body {
     NTriples(NTriplesReader),
     /// A text of Turtle that may go on.
     Turtle(TurtleReader),
-    /// A text that has a fault. What is fed behind it is dropped.
+    /// A text that has a fault. What is fed after it is dropped.
     Faulted(Language),
-    /// A whole text. What is fed behind it is dropped.
+    /// A whole text. What is fed after it is dropped.
     Finished(Language),
 }
 
@@ -49,11 +49,11 @@ pub fn feed_pieces<R: BodyReader>(
     cut: u64,
     triples: &mut Vec<Triple>,
 ) -> Result<(), Refusal>
-    ensures given { OnOk result (Feeds R.said R.Leads reader.old reader.new text.now triples.old.items triples.new.items) }
-    ensures fault { IfErr result (λ e. (x : List ℕ) (ts : List Statement) → R.Leads reader.old x ts → (y : List ℕ) → Tells e (R.said reader.old (x ++ text.now ++ y))) }
+    ensures given { OnOk result (Feeds R.meaning_of R.Leads reader.old reader.new text.now triples.old.items triples.new.items) }
+    ensures fault { IfErr result (λ e. (x : List ℕ) (ts : List RdfTriple) → R.Leads reader.old x ts → (y : List ℕ) → Reports e (R.meaning_of reader.old (x ++ text.now ++ y))) }
     ensures told { R.is_closed reader.old ≡ false → IfErr result (λ e. e ≢ Refusal.Closed) }
     ensures open_still { OnOk result (R.is_closed reader.new ≡ false) }
-    ensures reading { OnOk result ((x : List ℕ) → R.said reader.new x ≡ R.said reader.old x) }
+    ensures reading { OnOk result ((x : List ℕ) → R.meaning_of reader.new x ≡ R.meaning_of reader.old x) }
 {
     let length = piece_length(cut);
     let (first, behind) = text.split_at(length.min(text.len()));
@@ -88,7 +88,7 @@ fn feed_reader<R: BodyReader + Drop>(
     text: &[u8],
     cut: u64,
 ) -> Result<Option<(R, Vec<Triple>)>, AllocError>
-    ensures { IfOk result (λ o. ReadsOn R.said R.Leads R.is_closed reader text.now (option_map (λ p. (p.0, p.1.items)) o)) }
+    ensures { IfOk result (λ o. ReadsOn R.meaning_of R.Leads R.is_closed reader text.now (option_map (λ p. (p.0, p.1.items)) o)) }
 {
     let mut triples = Vec::new(alloc);
     let outcome = feed_pieces(&mut reader, text, cut, &mut triples);
@@ -103,7 +103,7 @@ fn finish_reader<R: BodyReader + Drop>(
     alloc: Global,
     mut reader: R,
 ) -> Result<Option<Vec<Triple>>, AllocError>
-    ensures { IfOk result (λ given. ReadsEnd R.said R.Leads R.is_closed reader (option_map (λ ts. ts.items) given)) }
+    ensures { IfOk result (λ given. ReadsEnd R.meaning_of R.Leads R.is_closed reader (option_map (λ ts. ts.items) given)) }
 {
     let mut triples = Vec::new(alloc);
     let outcome = reader.finish(&mut triples);

@@ -1,6 +1,6 @@
 //! What a line of a schedule says.
 ghost use Rattle.std.specs.Prelude.{◌≡◌, ◌≤◌, ◌^◌, ◌-◌, ◌++◌, ◌∷◌, [], List, ℕ, IfOk, MatchOption, codes};
-ghost use Rattle.gs_model.specs.Triples.{Statement};
+ghost use Rattle.gs_model.specs.Triples.{RdfTriple};
 ghost use Rattle.gs_drill.specs.Found.{Finds, SaysNumber};
 ghost use Rattle.gs_drill.specs.Commands.{SaysName, SaysTarget, SaysKind, SaysTriple, SaysAction, SaysEvent, SaysText, SaysFeed, SaysNothingAt, SaysStart, Says, feed_words, is_skipped as is_skipped_line};
 ghost use Rattle.gs_event.specs.declared.events.Action.{Action as AnAction};
@@ -9,8 +9,8 @@ ghost use Rattle.gs_drill.specs.declared.languages.Language.{Language as ALangua
 use crate::languages::Language;
 use crate::lines::read_line;
 use crate::words::{behind, number, split};
-use gs_event::{Action, Event, Kind};
-use gs_model::{LAST_NUMBER, MOST_SEATS, Refusal};
+use gs_event::{Action, Event, UploadKind};
+use gs_model::{LAST_NUMBER, MAX_SEATS, Refusal};
 use gs_term::{GraphName, Target, Triple};
 use std::alloc::{AllocError, Global};
 
@@ -73,17 +73,17 @@ fn read_target(alloc: Global, text: &[u8]) -> Result<Option<Target>, AllocError>
     }
 }
 
-fn read_kind(alloc: Global, text: &[u8]) -> Result<Option<Kind>, AllocError>
+fn read_kind(alloc: Global, text: &[u8]) -> Result<Option<UploadKind>, AllocError>
     ensures { IfOk result (Finds SaysKind text.now) }
 {
     if text == b"new".as_slice() {
-        return Ok(Some(Kind::New));
+        return Ok(Some(UploadKind::New));
     }
     if let Some(target) = behind(text, b"put ") {
-        return Ok(read_target(alloc, target)?.map(Kind::Put));
+        return Ok(read_target(alloc, target)?.map(UploadKind::Put));
     }
     if let Some(target) = behind(text, b"post ") {
-        return Ok(read_target(alloc, target)?.map(Kind::Post));
+        return Ok(read_target(alloc, target)?.map(UploadKind::Post));
     }
     Ok(None)
 }
@@ -106,7 +106,7 @@ fn list_of(alloc: Global, triple: Triple) -> Result<Vec<Triple>, AllocError>
 }
 
 fn read_stage(alloc: Global, text: &[u8]) -> Result<Option<Action>, AllocError>
-    ensures { IfOk result (λ found. MatchOption found ((t : Statement) → ¬ (SaysTriple t text.now)) (λ action. SaysAction action (codes "stage " ++ text.now))) }
+    ensures { IfOk result (λ found. MatchOption found ((t : RdfTriple) → ¬ (SaysTriple t text.now)) (λ action. SaysAction action (codes "stage " ++ text.now))) }
 {
     match read_triple(alloc, text)? {
         Some(triple) => Ok(Some(Action::Stage(list_of(alloc, triple)?))),
@@ -171,7 +171,7 @@ fn read_text(alloc: Global, rest: &[u8]) -> Result<Option<Vec<u8>>, AllocError>
     Ok(Some(text))
 }
 
-/// The language of a feed, and what stands behind its words.
+/// The language of a feed, and what stands after its words.
 fn feed_language(action: &[u8]) -> Option<(Language, &[u8])>
     ensures { MatchOption result ((l : ALanguage) (rest : List ℕ) → ¬ (action.now ≡ feed_words l ++ rest)) (λ p. action.now ≡ feed_words p.0 ++ p.1.now) }
 {

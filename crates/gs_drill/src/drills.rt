@@ -1,7 +1,7 @@
 //! The run of a schedule: each line in turn, and what it prints.
 ghost use Rattle.std.specs.Prelude.{◌≡◌, ◌≢◌, ◌≤◌, ℕ, IfOk, IfErr, MatchOption, Some, []};
 ghost use Rattle.std.specs.Io.KnownBytes.{Appends};
-ghost use Rattle.gs_model.specs.declared.limits.TheConstants.{LAST_NUMBER, MOST_SEATS};
+ghost use Rattle.gs_model.specs.Limits.{last_number, max_seats};
 ghost use Rattle.gs_event.specs.Datasets.{triples_in};
 ghost use Rattle.gs_event.specs.Waste.{nodes_in};
 ghost use Rattle.gs_drill.specs.Printing.{reply_text, counts_text, no_command_text, no_memory_text};
@@ -41,9 +41,9 @@ pub enum Stop {
 /// A store of so many seats, where the last commit number and the last request number were these.
 fn new_store(alloc: Global, seats: u16, commit: u64, request: u64) -> Result<Store, Stop>
     requires some { 1 ≤ seats }
-    requires few { seats ≤ MOST_SEATS }
-    requires last_commit { commit ≤ LAST_NUMBER }
-    requires last_request { request ≤ LAST_NUMBER }
+    requires few { seats ≤ max_seats }
+    requires last_commit { commit ≤ last_number }
+    requires last_request { request ≤ last_number }
     ensures store { IfOk result (λ store. store ≡ new_store_of (drill_start seats commit request)) }
     ensures refused { IfErr result (λ stop. stop ≡ Stop.NoMemory) }
 {
@@ -56,9 +56,9 @@ fn new_store(alloc: Global, seats: u16, commit: u64, request: u64) -> Result<Sto
 /// A store of so many seats, to which nothing was fed.
 fn begin(alloc: Global, seats: u16, commit: u64, request: u64) -> Result<(Store, Uploads), Stop>
     requires some { 1 ≤ seats }
-    requires few { seats ≤ MOST_SEATS }
-    requires last_commit { commit ≤ LAST_NUMBER }
-    requires last_request { request ≤ LAST_NUMBER }
+    requires few { seats ≤ max_seats }
+    requires last_commit { commit ≤ last_number }
+    requires last_request { request ≤ last_number }
     ensures begins { IfOk result (λ made. Begins made.0 made.1 (drill_start seats commit request)) }
     ensures refused { IfErr result (λ stop. stop ≡ Stop.NoMemory) }
 {
@@ -269,12 +269,12 @@ fn report<E: Write>(err: &mut E, stop: Stop, line: u64) -> u8
     ensures no_memory { result ≡ 3 → (stop ≡ Stop.NoMemory) × Appends (E.contents err.old) (E.contents err.new) no_memory_text }
     ensures status { (1 ≤ result) × (result ≤ 3) }
 {
-    let (said, status) = match stop {
+    let (outcome, status) = match stop {
         Stop::NoCommand => (print_no_command(err, line), 2),
         Stop::NoMemory => (print_no_memory(err), 3),
         Stop::Failed => return 1,
     };
-    match said {
+    match outcome {
         Ok(()) => status,
         Err(_) => 1,
     }

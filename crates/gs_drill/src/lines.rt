@@ -1,8 +1,8 @@
 //! The canonical line of one triple.
 ghost use Rattle.std.specs.Prelude.{MatchOption, ◌≡◌, ◌++◌, ◌∷◌, [], ℕ, List, IfOk, drop, length, true, false, ◌≤◌};
 ghost use Rattle.gs_model.specs.Terms.{Term, Iri, Blank, Literal, Typed, Tagged, text_of, IsTerm};
-ghost use Rattle.gs_model.specs.Texts.{lexical_of, kind_of, front as front_of, split_first, blank_of, term_of, statement_of};
-ghost use Rattle.gs_model.specs.Triples.{Statement, IsTriple, line_of};
+ghost use Rattle.gs_model.specs.Texts.{lexical_of, kind_of, front as front_of, split_first, blank_of, term_of, triple_of};
+ghost use Rattle.gs_model.specs.Triples.{RdfTriple, IsTriple, line_of};
 ghost use Rattle.gs_term.specs.Making.{Makes};
 ghost use Rattle.gs_drill.specs.Found.{Finds};
 ghost use Rattle.gs_drill.specs.Commands.{SaysLine};
@@ -13,7 +13,7 @@ use gs_ntwrite::line as push_line;
 use gs_term::{TermText, Triple};
 use std::alloc::{AllocError, Global};
 
-/// The bytes of a lexical form up to its closing quote, and where the text behind the quote begins.
+/// The bytes of a lexical form up to its closing quote, and where the text after the quote begins.
 fn unescaped(alloc: Global, bytes: &[u8]) -> Result<(Vec<u8>, usize), AllocError>
     ensures { IfOk result (λ r. (r.1 ≤ length bytes.now) × (lexical_of false bytes.now ≡ (r.0.items, drop r.1 bytes.now))) }
 {
@@ -147,9 +147,9 @@ fn read_term(alloc: Global, bytes: &[u8]) -> Result<Option<TermText>, AllocError
 }
 
 /// The triple of a line, where there is one.
-#[tactic(auto, unfolding(gs_model::specs::Texts::statement_of))]
+#[tactic(auto, unfolding(gs_model::specs::Texts::triple_of))]
 fn read_parts(alloc: Global, line: &[u8]) -> Result<Option<Triple>, AllocError>
-    ensures { IsTriple (statement_of line.now) → IfOk result (λ r. r ≡ Some (statement_of line.now)) }
+    ensures { IsTriple (triple_of line.now) → IfOk result (λ r. r ≡ Some (triple_of line.now)) }
 {
     let (subject, rest) = split(line, b' ');
     let (predicate, rest) = split(rest, b' ');

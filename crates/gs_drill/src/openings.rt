@@ -4,7 +4,7 @@ ghost use Rattle.gs_model.specs.Iris.{is_absolute};
 ghost use Rattle.gs_drill.specs.Languages.{base_under, name_in as name_of, target_of as target_name};
 ghost use Rattle.gs_drill.specs.Turns.{opened_by};
 
-use gs_event::{Action, Kind};
+use gs_event::{Action, UploadKind};
 use gs_term::{GraphName, Target};
 
 /// The base of a text for the default graph, and of one for a graph that has no name yet.
@@ -28,13 +28,13 @@ fn name_in(target: Target) -> Option<GraphName>
 }
 
 /// The name of the graph that an upload is for, if it has one.
-fn target_of(kind: Kind) -> Option<GraphName>
+fn target_of(kind: UploadKind) -> Option<GraphName>
     ensures { result ≡ target_name kind }
 {
     match kind {
-        Kind::Put(target) => name_in(target),
-        Kind::Post(target) => name_in(target),
-        Kind::New => None,
+        UploadKind::Put(target) => name_in(target),
+        UploadKind::Post(target) => name_in(target),
+        UploadKind::New => None,
     }
 }
 

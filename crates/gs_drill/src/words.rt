@@ -5,7 +5,7 @@ ghost use Rattle.gs_drill.specs.Found.{Finds, SaysNumber};
 
 use itoa::Buffer;
 
-/// What stands before the first of these bytes, and what behind it.
+/// What stands before the first of these bytes, and what after it.
 pub fn split(bytes: &[u8], at: u8) -> (&[u8], &[u8])
     ensures before { result.0.now ≡ (split_first at bytes.now).0 }
     ensures behind { result.1.now ≡ (split_first at bytes.now).1 }
@@ -18,7 +18,7 @@ pub fn split(bytes: &[u8], at: u8) -> (&[u8], &[u8])
     (bytes, &bytes[bytes.len()..])
 }
 
-/// What stands behind a word that begins the bytes.
+/// What stands after a word that begins the bytes.
 pub fn behind<'a>(bytes: &'a [u8], word: &[u8]) -> Option<&'a [u8]>
     ensures { MatchOption result ((rest : List ℕ) → ¬ (bytes.now ≡ word.now ++ rest)) (λ rest. bytes.now ≡ word.now ++ rest.now) }
 {

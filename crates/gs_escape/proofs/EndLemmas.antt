@@ -1,4 +1,4 @@
--- An escape ends within the text, behind a byte of ASCII.
+-- An escape ends within the text, after a byte of ASCII.
 use Rattle.std.proofs.Common.{◌≡◌, ℕ, ◌+◌, ◌-◌, ◌<◌, ◌≤◌, ◌==◌, true, false, cond, ◌&&◌, List, [], ◌∷◌, length, take, get_or, refl, sym, ap, ◌∙◌, arith, subst, suc, zero}
 use Rattle.std.specs.Prelude.{Some, None, option_map, option_and_then}
 use Rattle.std.specs.Option.{option_or}
@@ -116,7 +116,7 @@ escape_end form.StringLiteralLongQuote x e k = string_end x e k
 escape_end form.StringLiteralLongSingleQuote x e k = string_end x e k
 escape_end form.Local x e k = local_end x e k
 
--- so a text may be cut behind its escape
+-- so a text may be cut after its escape
 pub escape_boundary : (f : Form) (c : ℕ) (x : List ℕ) (e : Escape) → IsUtf8 (c ∷ x) → escape f x ≡ Some e → IsCharBoundary (c ∷ x) (e.1 + 1)
 escape_boundary f c x e u k =
     let ends = escape_end f x e k in

@@ -21,7 +21,7 @@ numbers : iri_of (60 ∷ 92 ∷ codes "u0061" ++ 92 ∷ codes "U00000062" ++ cod
 unfolding iri_of between unescaped iri_escape uchar numbered hex_number is_utf8 chars encode
 numbers = refl
 
--- a space, a surrogate and a number behind the last character
+-- a space, a surrogate and a number after the last character
 space : iri_of (60 ∷ 92 ∷ codes "u0020>") ≡ None
 unfolding iri_of between unescaped iri_escape uchar numbered hex_number is_utf8 chars encode
 space = refl

@@ -60,7 +60,7 @@ high_stands form.Local c x h = high_local c h
 low_stop : (f : Form) (c : ℕ) (x : List ℕ) → stands f c x ≡ false → c < 128
 low_stop f c x e = ⊎_elim (λ l. l) (λ h. let k = high_stands f c x h in absurd (cc)) (cases_lt c 128)
 
--- the byte behind the run does not stand, and so is ASCII
+-- the byte after the run does not stand, and so is ASCII
 pub run_of-low : (f : Form) (x : List ℕ) → run_of f x < length x → get_or x (run_of f x) 0 < 128
 unfolding run_of
 run_of-low f [] h = absurd (omega arith)

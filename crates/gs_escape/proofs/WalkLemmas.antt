@@ -1,4 +1,4 @@
--- The meaning of a text, from its run and the escape behind it.
+-- The meaning of a text, from its run and the escape after it.
 use Rattle.std.proofs.Common.{◌≡◌, ◌≢◌, length-drop, ℕ, ◌+◌, ◌<◌, ◌==◌, Bool, true, false, cond, List, [], ◌∷◌, ◌++◌, length, take, drop, refl, sym, ap, ◌∙◌, arith, suc, zero, append_assoc, append-nil}
 use Rattle.std.specs.Prelude.{Option, Some, None, option_map, option_and_then, encode_utf8}
 use Rattle.std.specs.Option.{is_some}
@@ -28,7 +28,7 @@ unescaped-drop f zero x = refl
 unescaped-drop f (suc n) [] = refl
 unescaped-drop f (suc n) (c ∷ cs) = unescaped-drop f n cs
 
--- what an escape at the front gives, with the text behind it
+-- what an escape at the front gives, with the text after it
 abbrev pub step : Form → Option (ℕ × List ℕ) → Option (List ℕ)
 step f o = option_and_then (λ e. before (encode_utf8 e.0) (unescaped f 0 e.1)) o
 
@@ -59,7 +59,7 @@ run_of-stop : (f : Form) (c : ℕ) (cs : List ℕ) → stands f c cs ≡ false �
 unfolding run_of
 run_of-stop f c cs h = ap (λ b. cond b (1 + run_of f cs) 0) h
 
--- what the text behind the run gives
+-- what the text after the run gives
 abbrev rest_of : Form → List ℕ → Option (List ℕ)
 rest_of f [] = Some []
 rest_of f (c ∷ cs) = step f (front_escape f (c ∷ cs))
@@ -102,7 +102,7 @@ unescaped-end f x plain back e g h =
     ∙ ap (before (take (run_of f x) x)) (rest_of-end f (drop (run_of f x) x) (ap length (sym g) ∙ h))
     ∙ ap Some (append-nil (take (run_of f x) x) ∙ sym e)
 
--- an escape stands behind the run, or nothing that is one
+-- an escape stands after the run, or nothing that is one
 pub unescaped-step : (f : Form) (x plain back : List ℕ) → plain ≡ take (run_of f x) x → back ≡ drop (run_of f x) x → length back ≢ 0 → unescaped f 0 x ≡ before plain (step f (front_escape f back))
 unescaped-step f x plain back e g h =
     unescaped-run f x
@@ -121,7 +121,7 @@ pub unescaped-none : (f : Form) (w x plain back : List ℕ) → is_some (unescap
 unescaped-none f w x plain back a e g h k =
     none_of (unescaped f 0 w) (sym a ∙ ap is_some (unescaped-step f x plain back e g h ∙ ap (λ o. before plain (step f o)) (sym k)))
 
--- two texts are put, one behind the other
+-- two texts are put, one after the other
 pub two_puts : (o0 o1 o2 u v : List ℕ) (m : Option (List ℕ)) → o1 ≡ o0 ++ u → o2 ≡ o1 ++ v → before o2 m ≡ before o0 (before u (before v m))
 two_puts o0 o1 o2 u v m e g =
     ap (λ z. before z m) (g ∙ ap (λ z. z ++ v) e)
@@ -153,7 +153,7 @@ shorter_if : (b : Bool) (d : ℕ) (ds : List ℕ) (o : Option Escape) (c : ℕ) 
 shorter_if true d ds o c y k = shorter_of d ds o c y k
 shorter_if false d ds o c y k = absurd (cc)
 
--- and the text behind the escape is shorter
+-- and the text after the escape is shorter
 pub front_escape-shorter : (f : Form) (x : List ℕ) (c : ℕ) (y : List ℕ) → front_escape f x ≡ Some (c, y) → length y < length x
 unfolding front_escape
 front_escape-shorter f [] c y h = absurd (cc)

@@ -1,5 +1,5 @@
 -- What an escape means (Turtle, 25 February 2014, section 6.4, with the productions of section 6.5): the character, and
--- how many bytes the escape has behind its backslash.
+-- how many bytes the escape has after its backslash.
 use Rattle.std.specs.Prelude.{ℕ, ◌+◌, ◌*◌, ◌&&◌, ◌||◌, ◌==◌, if◌then◌else◌, List, [], ◌∷◌, Option, Some, None, length, take, fold, option_map, option_and_then}
 use Rattle.std.specs.Char.{digit_value}
 use Rattle.std.specs.List.{list_all}
@@ -10,7 +10,7 @@ use Rattle.gs_lex.specs.Classes.{is_hex, is_local_escape}
 use Rattle.gs_escape.specs.declared.forms.Form.{Form}
 use Rattle.gs_escape.specs.declared.forms.Form.TheVariants as form
 
--- an escape's character, and its number of bytes behind the backslash
+-- an escape's character, and its number of bytes after the backslash
 abbrev pub Escape : Type 0
 Escape = ℕ × ℕ
 

@@ -49,8 +49,8 @@ abbrev pub parts_of : List ℕ → Option (List ℕ × List ℕ)
 parts_of x = option_map (λ i. (take i x, drop (i + 1) x)) (position (λ c. c == 58) x)
 
 -- which answers a text with this meaning, or with none, may get
-abbrev pub Tells : Option (List ℕ) → Result (Unit {0}) Refusal → Type 0
-Tells m (Ok _) = is_some m ≡ true
-Tells m (Err NoMemory) = is_some m ≡ true
-Tells m (Err (Syntax at)) = (m ≡ None) × (at ≡ 0)
-Tells m (Err _) = ⊥
+abbrev pub Reports : Option (List ℕ) → Result (Unit {0}) Refusal → Type 0
+Reports m (Ok _) = is_some m ≡ true
+Reports m (Err NoMemory) = is_some m ≡ true
+Reports m (Err (Syntax at)) = (m ≡ None) × (at ≡ 0)
+Reports m (Err _) = ⊥

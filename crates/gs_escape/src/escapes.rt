@@ -1,4 +1,4 @@
-//! What an escape means, behind its backslash.
+//! What an escape means, after its backslash.
 ghost use Rattle.std.specs.Prelude.{◌≡◌, ◌≤◌, length, if◌then◌else◌};
 ghost use Rattle.std.specs.List.{list_all};
 ghost use Rattle.gs_lex.specs.Classes.{is_hex, is_local_escape as is_local_escape_of};
@@ -22,7 +22,7 @@ fn number(digits: &[u8]) -> Option<u32>
     Some(value)
 }
 
-/// The character of so many digits, and the bytes of the escape behind its backslash.
+/// The character of so many digits, and the bytes of the escape after its backslash.
 #[tactic(auto, unfolding(crate::specs::Escapes::numbered))]
 fn numbered(count: usize, text: &[u8]) -> Option<(char, usize)>
     requires { count ≤ 8 }
@@ -128,7 +128,7 @@ fn local_escape(text: &[u8]) -> Option<(char, usize)>
     }
 }
 
-/// The character that an escape of a form means, and how many bytes the escape has behind its
+/// The character that an escape of a form means, and how many bytes the escape has after its
 /// backslash.
 pub fn escape(form: Form, text: &[u8]) -> Option<(char, usize)>
     ensures { result ≡ escape_of form text.now }

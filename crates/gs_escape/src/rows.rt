@@ -116,7 +116,7 @@ const PARTS: [(&[u8], Option<(&[u8], &[u8])>); 5] = [
     (b"a", None),
 ];
 
-/// What a call leaves behind a text, where it is to be a meaning, and that text alone where not.
+/// What a call leaves after a text, where it is to be a meaning, and that text alone where not.
 fn check(
     rt: &impl Abort,
     told: Result<(), Refusal>,

@@ -72,7 +72,7 @@ fn run(form: Form, bytes: &[u8]) -> usize
     bytes.len()
 }
 
-/// The text that stands as it is, and the text behind it.
+/// The text that stands as it is, and the text after it.
 pub fn cut_run(form: Form, text: &str) -> (&str, &str)
     ensures front { result.0.now ≡ take (run_of form text.now) text.now }
     ensures back { result.1.now ≡ drop (run_of form text.now) text.now }

@@ -3,7 +3,7 @@ ghost use Rattle.std.specs.Prelude.{◌≡◌, ◌==◌, Some, OnOk, OnErr, opti
 ghost use Rattle.std.specs.Option.{option_copied};
 ghost use Rattle.std.specs.String.{string_bytes};
 ghost use Rattle.gs_escape.specs.Meanings.{before};
-ghost use Rattle.gs_escape.specs.Tokens.{between as between_of, quoted as quoted_of, iri_of, string_of, local_of, parts_of, Tells};
+ghost use Rattle.gs_escape.specs.Tokens.{between as between_of, quoted as quoted_of, iri_of, string_of, local_of, parts_of, Reports};
 
 use crate::forms::Form;
 use crate::walks::append;
@@ -48,7 +48,7 @@ fn quoted(text: &[u8]) -> Option<(Form, &[u8])>
 #[tactic(auto, unfolding(crate::specs::Tokens::iri_of))]
 pub fn iri(text: &[u8], meaning: &mut String) -> Result<(), Refusal>
     ensures value { OnOk result (Some (string_bytes meaning.new) ≡ before (string_bytes meaning.old) (iri_of text.now)) }
-    ensures refused { Tells (iri_of text.now) result }
+    ensures refused { Reports (iri_of text.now) result }
     ensures kept { OnErr result (string_bytes meaning.new ≡ string_bytes meaning.old) }
 {
     match between(text, b"<", b">") {
@@ -63,7 +63,7 @@ pub fn iri(text: &[u8], meaning: &mut String) -> Result<(), Refusal>
 #[tactic(auto, unfolding(crate::specs::Tokens::string_of))]
 pub fn string(text: &[u8], meaning: &mut String) -> Result<(), Refusal>
     ensures value { OnOk result (Some (string_bytes meaning.new) ≡ before (string_bytes meaning.old) (string_of text.now)) }
-    ensures refused { Tells (string_of text.now) result }
+    ensures refused { Reports (string_of text.now) result }
     ensures kept { OnErr result (string_bytes meaning.new ≡ string_bytes meaning.old) }
 {
     match quoted(text) {
@@ -78,7 +78,7 @@ pub fn string(text: &[u8], meaning: &mut String) -> Result<(), Refusal>
 /// else a local part may not have is the lexer's to refuse.
 pub fn local(text: &[u8], meaning: &mut String) -> Result<(), Refusal>
     ensures value { OnOk result (Some (string_bytes meaning.new) ≡ before (string_bytes meaning.old) (local_of text.now)) }
-    ensures refused { Tells (local_of text.now) result }
+    ensures refused { Reports (local_of text.now) result }
     ensures kept { OnErr result (string_bytes meaning.new ≡ string_bytes meaning.old) }
 {
     append(Form::Local, text, meaning)

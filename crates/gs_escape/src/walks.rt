@@ -5,14 +5,14 @@ ghost use Rattle.std.specs.String.{string_bytes};
 ghost use Rattle.std.specs.Str.{IsUtf8};
 ghost use Rattle.gs_escape.specs.Meanings.{before, unescaped, meaning};
 ghost use Rattle.gs_escape.specs.Runs.{front_escape};
-ghost use Rattle.gs_escape.specs.Tokens.{Tells};
+ghost use Rattle.gs_escape.specs.Tokens.{Reports};
 
 use crate::escapes::escape;
 use crate::forms::Form;
 use crate::runs::cut_run;
 use gs_model::Refusal;
 
-/// The character of the escape at the front, and the text behind it.
+/// The character of the escape at the front, and the text after it.
 #[tactic(auto, unfolding(crate::specs::Runs::front_escape))]
 fn cut_escape(form: Form, text: &str) -> Option<(char, &str)>
     ensures value { option_map (λ e. (e.0, e.1.now)) result ≡ front_escape form text.now }
@@ -47,7 +47,7 @@ fn put_character(c: char, room: bool, unescaped: &mut String) -> bool
 /// want of memory.
 fn append_front(form: Form, text: &str, out: &mut String) -> Result<(), Refusal>
     ensures value { OnOk result (Some (string_bytes out.new) ≡ before (string_bytes out.old) (unescaped form 0 text.now)) }
-    ensures refused { Tells (unescaped form 0 text.now) result }
+    ensures refused { Reports (unescaped form 0 text.now) result }
     ensures front { take (length (string_bytes out.old)) (string_bytes out.new) ≡ string_bytes out.old }
 {
     let mut rest = text;
@@ -71,7 +71,7 @@ fn append_front(form: Form, text: &str, out: &mut String) -> Result<(), Refusal>
 /// Appends what a text of a form means. After a refusal the string is as it was.
 pub fn append(form: Form, text: &[u8], out: &mut String) -> Result<(), Refusal>
     ensures value { OnOk result (Some (string_bytes out.new) ≡ before (string_bytes out.old) (meaning form text.now)) }
-    ensures refused { Tells (meaning form text.now) result }
+    ensures refused { Reports (meaning form text.now) result }
     ensures kept { OnErr result (string_bytes out.new ≡ string_bytes out.old) }
 {
     let Ok(text) = str::from_utf8(text) else {

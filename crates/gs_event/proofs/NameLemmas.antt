@@ -42,7 +42,7 @@ all_counted (suc n) m base r there =
     let few : n ≤ names_in less = all_counted n less base r (λ k h. still_there m base r k n (λ e. absurd (omega arith)) (there k (omega arith))) in
     omega (arith, few, names_in-without_name m (made_name base r n) last, names_in-some m (made_name base r n) last)
 
--- what the search among n numbers from k on finds: a free one, or the next behind them all
+-- what the search among n numbers from k on finds: a free one, or the next after them all
 record Finds (m : Dataset) (base : List ℕ) (r n k found : ℕ) : Type 0 where
   from : k ≤ found
   within : found ≤ k + n

@@ -7,8 +7,8 @@ use Rattle.gs_model.specs.Graphs.{Graph}
 use Rattle.gs_model.specs.Codes.{graph_code, text_code}
 use Rattle.gs_term.specs.declared.names.Target.{Target}
 use Rattle.gs_term.specs.declared.names.Target.TheVariants.{Default, Named}
-use Rattle.gs_event.specs.declared.events.Kind.{Kind}
-use Rattle.gs_event.specs.declared.events.Kind.TheVariants.{Put, Post, New}
+use Rattle.gs_event.specs.declared.events.UploadKind.{UploadKind}
+use Rattle.gs_event.specs.declared.events.UploadKind.TheVariants.{Put, Post, New}
 use Rattle.gs_event.specs.Datasets.{name_cmp, Setting}
 use Rattle.gs_event.specs.Phases.{Idle, Writing, Reading}
 use Rattle.gs_event.specs.Views.{View, SeatView}
@@ -30,22 +30,22 @@ abbrev pub target_code : Coded Target
 target_code = code_by (Option (List ℕ)) (coded_option text_code) name_of target_from target_back
 
 -- a PUT's target or a POST's target, or neither
-abbrev pub kind_parts : Kind → Option (Target ⊎ Target)
+abbrev pub kind_parts : UploadKind → Option (Target ⊎ Target)
 kind_parts (Put t) = Some (inl t)
 kind_parts (Post t) = Some (inr t)
 kind_parts New = None
 
-abbrev pub kind_from : Option (Target ⊎ Target) → Kind
+abbrev pub kind_from : Option (Target ⊎ Target) → UploadKind
 kind_from (Some (inl t)) = Put t
 kind_from (Some (inr t)) = Post t
 kind_from None = New
 
-abbrev pub kind_back : (k : Kind) → kind_from (kind_parts k) ≡ k
+abbrev pub kind_back : (k : UploadKind) → kind_from (kind_parts k) ≡ k
 kind_back (Put t) = refl
 kind_back (Post t) = refl
 kind_back New = refl
 
-abbrev pub kind_code : Coded Kind
+abbrev pub kind_code : Coded UploadKind
 kind_code = code_by (Option (Target ⊎ Target)) (coded_option (coded⊎ target_code target_code)) kind_parts kind_from kind_back
 
 abbrev pub setting_code : Coded Setting
@@ -56,7 +56,7 @@ setting_code =
     (λ _. refl)
 
 abbrev pub Parts : Type 0
-Parts = Option ((Kind × (ℕ × Graph)) ⊎ List (List ℕ))
+Parts = Option ((UploadKind × (ℕ × Graph)) ⊎ List (List ℕ))
 
 abbrev pub seat_parts : SeatView → Parts
 seat_parts Idle = None

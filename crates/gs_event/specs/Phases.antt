@@ -2,8 +2,8 @@
 use Rattle.std.specs.Prelude.{ℕ, Bool, true, false, nat_lt, nat_eq, cond, Option, Some, None}
 use Rattle.gs_model.specs.Graphs.{Graph, empty_graph, with_triples}
 use Rattle.gs_term.specs.declared.names.Target.{Target}
-use Rattle.gs_event.specs.declared.events.Kind.{Kind}
-use Rattle.gs_event.specs.declared.events.Kind.TheVariants.{Put, Post, New}
+use Rattle.gs_event.specs.declared.events.UploadKind.{UploadKind}
+use Rattle.gs_event.specs.declared.events.UploadKind.TheVariants.{Put, Post, New}
 use Rattle.gs_event.specs.declared.events.Action.{Action}
 use Rattle.gs_event.specs.declared.events.Action.TheVariants.{Open, Stage, Commit, Delete, Head, Pin, Piece, Cancel}
 use Rattle.gs_event.specs.declared.answers.Answer.{Answer}
@@ -13,7 +13,7 @@ use Rattle.gs_event.specs.Datasets.{Operation, Puts, Posts, Creates, Deletes, Lo
 -- idle; writing, with the request's number and what was staged; reading, where R says what is left
 pub data Phase (R : Type 0) : Type 0 where
   Idle : Phase R
-  Writing : (kind : Kind) (request : ℕ) (graph : Graph) → Phase R
+  Writing : (kind : UploadKind) (request : ℕ) (graph : Graph) → Phase R
   Reading : (left : R) → Phase R
 
 -- whether the phase allows the action
@@ -42,7 +42,7 @@ phase_after pinned told (Reading left) Cancel Cancelled = Idle
 phase_after pinned told p action a = p
 
 -- the write that an upload is
-abbrev pub write_of : Kind → ℕ → Graph → Operation
+abbrev pub write_of : UploadKind → ℕ → Graph → Operation
 write_of (Put t) r g = Puts t g
 write_of (Post t) r g = Posts t g
 write_of New r g = Creates r g

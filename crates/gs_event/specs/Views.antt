@@ -1,7 +1,7 @@
 -- What a store shows, the answers that fit it, and what they leave.
 use Rattle.std.specs.Prelude.{◌≡◌, ℕ, ◌+◌, ◌<◌, ◌≤◌, Bool, true, false, if◌then◌else◌, nat_le, List, take, drop, length, Option, Some, None, MatchOption}
 use Rattle.std.specs.List.{slice_get, slice_set, concat}
-use Rattle.gs_model.specs.declared.limits.TheConstants.{LAST_NUMBER}
+use Rattle.gs_model.specs.Limits.{last_number}
 use Rattle.gs_model.specs.declared.refusals.Refusal.TheVariants.{NoMemory, WrongPhase, BadSeat, LastNumber}
 use Rattle.gs_event.specs.declared.events.Action.{Action}
 use Rattle.gs_event.specs.declared.events.Action.TheVariants.{Open, Stage, Commit, Delete, Head, Pin, Piece, Cancel}
@@ -30,16 +30,16 @@ pub record View : Type 0 where
 -- The answers that fit a write: its status and location, and a commit number that is left for it.
 -- Want of memory may take the place of any but a 404.
 abbrev pub FitsWrite : Totals → Operation → Answer → Type 0
-FitsWrite v q (Status s name) = (s ≡ status_of v.setting v.dataset q) × (name ≡ location_of v.setting v.dataset q) × (is_success s ≡ true → v.commit < LAST_NUMBER)
-FitsWrite v q (Refused LastNumber) = (is_success (status_of v.setting v.dataset q) ≡ true) × (LAST_NUMBER ≤ v.commit)
+FitsWrite v q (Status s name) = (s ≡ status_of v.setting v.dataset q) × (name ≡ location_of v.setting v.dataset q) × (is_success s ≡ true → v.commit < last_number)
+FitsWrite v q (Refused LastNumber) = (is_success (status_of v.setting v.dataset q) ≡ true) × (last_number ≤ v.commit)
 FitsWrite v q (Refused NoMemory) = wants_memory v.dataset q ≡ true
 FitsWrite v q a = ⊥
 
 -- The answers that fit a seat's action. Want of memory may be answered where a row says so, and nowhere else.
 abbrev pub FitsSeat : Totals → SeatView → Action → Answer → Type 0
-FitsSeat v Idle (Open k) (Opened r) = (v.request < LAST_NUMBER) × (r ≡ v.request + 1)
-FitsSeat v Idle (Open k) (Refused LastNumber) = LAST_NUMBER ≤ v.request
-FitsSeat v Idle (Open k) (Refused NoMemory) = v.request < LAST_NUMBER
+FitsSeat v Idle (Open k) (Opened r) = (v.request < last_number) × (r ≡ v.request + 1)
+FitsSeat v Idle (Open k) (Refused LastNumber) = last_number ≤ v.request
+FitsSeat v Idle (Open k) (Refused NoMemory) = v.request < last_number
 FitsSeat v Idle (Delete t) (Status s name) = FitsWrite v (Deletes t) (Status s name)
 FitsSeat v Idle (Delete t) (Refused LastNumber) = FitsWrite v (Deletes t) (Refused LastNumber)
 FitsSeat v Idle (Head t) (Status s name) = (s ≡ status_of v.setting v.dataset (Looks t)) × (name ≡ None)

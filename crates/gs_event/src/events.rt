@@ -3,7 +3,7 @@ use gs_term::{Target, Triple};
 
 /// What an upload will do to its target when it is committed.
 #[derive(Clone, Debug, Drop)]
-pub enum Kind {
+pub enum UploadKind {
     /// Replaces the graph (Graph Store Protocol, section 5.3).
     Put(Target),
     /// Adds to the graph (section 5.5).
@@ -16,7 +16,7 @@ pub enum Kind {
 #[derive(Debug, Drop)]
 pub enum Action {
     /// Opens an upload.
-    Open(Kind),
+    Open(UploadKind),
     /// Adds triples to the seat's upload.
     Stage(Vec<Triple>),
     /// Makes the seat's upload take effect, whole.

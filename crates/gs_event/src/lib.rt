@@ -7,6 +7,6 @@ mod laws;
 mod limits;
 
 pub use answers::Answer;
-pub use events::{Action, Event, Kind};
+pub use events::{Action, Event, UploadKind};
 pub use laws::{new_name_is_free, view_goes_on};
 pub use limits::Limits;

@@ -38,7 +38,7 @@ fn expect_closed(
     assert_eq!(rt; triples.len(), length);
 }
 
-/// A document in pieces, each with the number of triples that are there behind it. A directive, a
+/// A document in pieces, each with the number of triples that are there after it. A directive, a
 /// string and a statement are cut, and the last dot is known as one only at the end.
 const PIECES: [(&str, usize); 5] = [
     ("@prefix ex: <http:", 0),

@@ -187,7 +187,7 @@ unfolding marked
 iri-marked mark None a b = refl
 iri-marked mark (Some x) a b = iri-append mark x a b
 
--- the text behind the scheme
+-- the text after the scheme
 pub iri-behind_colon : (b r : Reference) → IriParts (resolved_parts b r)
     → AllIri (marked (codes "//") (resolved_parts b r).authority ++ ((resolved_parts b r).path ++ (marked (codes "?") (resolved_parts b r).query ++ marked (codes "#") (resolved_parts b r).fragment)))
 iri-behind_colon b r i =

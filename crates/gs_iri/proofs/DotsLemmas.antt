@@ -17,12 +17,12 @@ slash_test c =
       | inr p ↦ ap (λ b. b || false) (ne_eqb 47 c (λ e. p.1 (sym e))) ∙ sym p.0
     ]
 
--- the segments behind the first
+-- the segments after the first
 abbrev pub more_segments : Option (List ℕ) → List (List ℕ)
 more_segments None = []
 more_segments (Some y) = segments_of y
 
--- the segments of a path are the text before its first '/', and those of the text behind it
+-- the segments of a path are the text before its first '/', and those of the text after it
 pub segments-cut : (x : List ℕ) → segments_of x ≡ before (codes "/") x ∷ more_segments (behind 47 (from (codes "/") x))
 unfolding segments_of before from behind
 segments-cut [] = refl
@@ -39,7 +39,7 @@ segments-cut (c ∷ cs) =
 onto_first-append : (c : ℕ) (xs ys : List (List ℕ)) (s : List ℕ) (ss : List (List ℕ)) → xs ≡ s ∷ ss → onto_first c (xs ++ ys) ≡ onto_first c xs ++ ys
 onto_first-append c xs ys s ss e = ap (λ z. onto_first c (z ++ ys)) e ∙ sym (ap (λ z. onto_first c z ++ ys) e)
 
--- a path through a '/' has the segments before it and those behind it
+-- a path through a '/' has the segments before it and those after it
 pub segments-append : (x y : List ℕ) → segments_of (x ++ 47 ∷ y) ≡ segments_of x ++ segments_of y
 unfolding segments_of
 segments-append [] y = refl
@@ -52,7 +52,7 @@ segments-append (c ∷ cs) y =
 last-more : (s t : List ℕ) (xs ts : List (List ℕ)) → xs ≡ t ∷ ts → last_of (s ∷ xs) ≡ last_of xs
 last-more s t xs ts e = ap (λ z. last_of (s ∷ z)) e ∙ sym (ap last_of e)
 
--- the last segment is that of the text behind the first '/'
+-- the last segment is that of the text after the first '/'
 pub last-cut : (s y : List ℕ) → last_of (s ∷ segments_of y) ≡ last_of (segments_of y)
 last-cut s y = last-more s (before (codes "/") y) (segments_of y) (more_segments (behind 47 (from (codes "/") y))) (segments-cut y)
 
@@ -83,7 +83,7 @@ unfolding without_last
 without_last-slash [] y h = ap (λ b. cond b (47 ∷ without_last y) []) h
 without_last-slash (c ∷ cs) y h = ap (λ b. cond b (c ∷ without_last (cs ++ 47 ∷ y)) []) (slash_within cs y) ∙ ap (λ z. c ∷ z) (without_last-slash cs y h)
 
--- what is moved: a segment behind a '/', or the first of all without it
+-- what is moved: a segment after a '/', or the first of all without it
 pub record IsBehind (s : List ℕ) : Type 0 where
   pub text : List ℕ
   pub parts : s ≡ 47 ∷ text
@@ -179,7 +179,7 @@ dots-text path =
     ap (λ z. z.1) (moves_all None (closed (segments_of path)) tt (plain_closed (segments_of path) (plain_segments path)))
     ∙ output-shown (fold moved None (closed (segments_of path)))
 
--- one segment more, and what is behind it
+-- one segment more, and what is after it
 pub put_more : (o : Bool × List ℕ) (x segment back y : List ℕ) → segment ≡ before (codes "/") x → back ≡ from (codes "/") x → behind 47 back ≡ Some y
     → fold put o (segments_of x) ≡ fold put (put o segment) (segments_of y)
 put_more o x segment back y s b e =
@@ -231,7 +231,7 @@ closed-append xs y =
     ap (λ z. (xs ++ segments_of y) ++ cond (is_dots z) ([] ∷ []) []) (last-append xs y)
     ∙ append_assoc xs (segments_of y) (cond (is_dots (last_of (segments_of y))) ([] ∷ []) [])
 
--- a path behind a front and a '/'
+-- a path after a front and a '/'
 pub dots_behind : (front path : List ℕ) → (fold put (fold put (false, []) (segments_of front)) (closed (segments_of path))).1 ≡ dots ((front ++ codes "/") ++ path)
 dots_behind front path =
     ap (λ z. z.1) (sym (fold-append put (false, []) (segments_of front) (closed (segments_of path))) ∙ ap (fold put (false, [])) (sym (closed-append (segments_of front) path) ∙ ap closed (sym (segments-append front path))))

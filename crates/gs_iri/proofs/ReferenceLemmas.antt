@@ -48,7 +48,7 @@ boundary_at_stop stops x n a e within = (
       absurd (omega arith),
 )
 
--- a text may be cut behind its first byte, where that is ASCII
+-- a text may be cut after its first byte, where that is ASCII
 pub boundary_behind_first : (x : List ℕ) (v : ℕ) → IsUtf8 x → slice_get x 0 ≡ Some v → v < 128 → IsCharBoundary x 1
 boundary_behind_first [] v u e low = absurd (cc)
 boundary_behind_first (c ∷ cs) v u e low =

@@ -35,7 +35,7 @@ spelled_whole x n e u = subst IsUtf8 (sym (ap (λ m. take m x) e ∙ take-length
 pub drop_whole : (x : List ℕ) (n : ℕ) → n ≡ length x → drop n x ≡ []
 drop_whole x n e = ap (λ m. drop m x) e ∙ drop-length x
 
--- a string whose front is the old one, and what stands behind that
+-- a string whose front is the old one, and what stands after that
 pub appended : (old new t : List ℕ) (n : ℕ) → n ≡ length old → take n new ≡ take n old → drop n new ≡ t → new ≡ old ++ t
 appended old new t n e f d =
     sym (take-append-drop n new) ∙ ap (λ z. z ++ drop n new) (f ∙ ap (λ m. take m old) e ∙ take-length old) ∙ ap (λ z. old ++ z) d

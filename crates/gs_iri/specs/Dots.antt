@@ -30,7 +30,7 @@ closed ss = ss ++ (if is_dots (last_of ss) then [] ∷ [] else [])
 abbrev pub Output : Type 0
 Output = Option (List (List ℕ))
 
--- A and D: a dot segment in front goes, with the '/' behind it.
+-- A and D: a dot segment in front goes, with the '/' after it.
 -- B: "/." goes. C: "/.." goes, and the newest segment of the output with it. E: any other segment is moved.
 unfoldable pub moved : Output → List ℕ → Output
 moved None s = if is_dots s then None else Some (s ∷ [])

@@ -12,12 +12,12 @@ pub record IsLastSlash (x : List ℕ) (i : ℕ) : Type 0 where
   pub slash : slice_index x i ≡ 47
   pub last : has_slash (drop (i + 1) x) ≡ false
 
--- without the last '/' and what stands behind it; nothing where there is no '/'
+-- without the last '/' and what stands after it; nothing where there is no '/'
 unfoldable pub without_last : List ℕ → List ℕ
 without_last [] = []
 without_last (c ∷ cs) = if has_slash cs then c ∷ without_last cs else []
 
--- a segment behind a '/'
+-- a segment after a '/'
 unfoldable pub put_behind : List ℕ → List ℕ → List ℕ
 put_behind out s = if is_dot s then out else if is_dot_dot s then without_last out else out ++ 47 ∷ s
 

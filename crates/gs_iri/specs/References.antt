@@ -27,7 +27,7 @@ unfoldable pub from : List ℕ → List ℕ → List ℕ
 from stops [] = []
 from stops (c ∷ cs) = if is_one_of stops c then c ∷ cs else from stops cs
 
--- the text behind a byte, where it begins with that byte
+-- the text after a byte, where it begins with that byte
 unfoldable pub behind : ℕ → List ℕ → Option (List ℕ)
 behind mark [] = None
 behind mark (c ∷ cs) = if c == mark then Some cs else None
@@ -47,7 +47,7 @@ scheme_of x = if has_scheme x then Some (before (codes ":") x) else None
 unfoldable pub behind_scheme : List ℕ → List ℕ
 behind_scheme x = if has_scheme x then unwrap_or (behind 58 (from (codes ":") x)) x else x
 
--- 3.2: the authority stands behind "//", and ends at the next '/', '?' or '#'
+-- 3.2: the authority stands after "//", and ends at the next '/', '?' or '#'
 unfoldable pub behind_slashes : List ℕ → Option (List ℕ)
 behind_slashes x = option_and_then (behind 47) (behind 47 x)
 
@@ -64,14 +64,14 @@ path_of x = before (codes "?#") x
 unfoldable pub behind_path : List ℕ → List ℕ
 behind_path x = from (codes "?#") x
 
--- 3.4: the query stands behind '?', and ends at the first '#'
+-- 3.4: the query stands after '?', and ends at the first '#'
 unfoldable pub query_of : List ℕ → Option (List ℕ)
 query_of x = option_map (before (codes "#")) (behind 63 x)
 
 unfoldable pub behind_query : List ℕ → List ℕ
 behind_query x = unwrap_or (option_map (from (codes "#")) (behind 63 x)) x
 
--- 3.5: the fragment stands behind '#'
+-- 3.5: the fragment stands after '#'
 unfoldable pub fragment_of : List ℕ → Option (List ℕ)
 fragment_of x = behind 35 x
 

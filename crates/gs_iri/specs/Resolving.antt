@@ -35,11 +35,11 @@ unfoldable pub through_last : List ℕ → List ℕ
 through_last [] = []
 through_last (c ∷ cs) = if has_slash (c ∷ cs) then c ∷ through_last cs else []
 
--- 5.2.3: what a path that begins without '/' is put behind, under a base with this authority and path
+-- 5.2.3: what a path that begins without '/' is put after, under a base with this authority and path
 unfoldable pub directory_of : Option (List ℕ) → List ℕ → List ℕ
 directory_of authority path = if is_some authority && is_empty path then codes "/" else through_last path
 
--- the front of a path, and the '/' behind it
+-- the front of a path, and the '/' after it
 unfoldable pub front_text : Option (List ℕ) → List ℕ
 front_text None = []
 front_text (Some s) = s ++ codes "/"
@@ -62,8 +62,8 @@ abbrev pub is_resolvable : List ℕ → List ℕ → Bool
 is_resolvable base reference = is_absolute base && list_all is_iri_char reference
 
 -- which answers a base and a reference may get
-abbrev pub Tells : List ℕ → List ℕ → Result (Unit {0}) Refusal → Type 0
-Tells base reference (Ok _) = is_resolvable base reference ≡ true
-Tells base reference (Err NoMemory) = is_resolvable base reference ≡ true
-Tells base reference (Err (Syntax at)) = (is_resolvable base reference ≡ false) × (at ≡ 0)
-Tells base reference (Err _) = ⊥
+abbrev pub Reports : List ℕ → List ℕ → Result (Unit {0}) Refusal → Type 0
+Reports base reference (Ok _) = is_resolvable base reference ≡ true
+Reports base reference (Err NoMemory) = is_resolvable base reference ≡ true
+Reports base reference (Err (Syntax at)) = (is_resolvable base reference ≡ false) × (at ≡ 0)
+Reports base reference (Err _) = ⊥

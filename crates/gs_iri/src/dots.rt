@@ -45,7 +45,7 @@ pub fn last_slash(bytes: &[u8]) -> Option<usize>
     None
 }
 
-/// Drops the last segment behind `start`, with the '/' before it.
+/// Drops the last segment after `start`, with the '/' before it.
 fn drop_last(start: usize, resolved: &mut String)
     requires within { start ≤ length (string_bytes resolved.old) }
     requires spelled { IsUtf8 (take start (string_bytes resolved.old)) }
@@ -59,7 +59,7 @@ fn drop_last(start: usize, resolved: &mut String)
     }
 }
 
-/// Puts one segment behind what is put, if any is. The front up to `start` stays.
+/// Puts one segment after what is put, if any is. The front up to `start` stays.
 #[tactic(auto, unfolding(crate::specs::Output::put, crate::specs::Output::put_behind))]
 fn put_segment(
     segment: &str,

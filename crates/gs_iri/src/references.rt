@@ -39,7 +39,7 @@ pub fn cut<'a>(text: &'a str, stops: &[u8]) -> (&'a str, &'a str)
     text.split_at(find_stop(text.as_bytes(), stops))
 }
 
-/// What stands behind an ASCII byte, where the text begins with it.
+/// What stands after an ASCII byte, where the text begins with it.
 #[tactic(auto, unfolding(crate::specs::References::behind))]
 pub fn behind(text: &str, mark: u8) -> Option<&str>
     requires { mark < 128 }

@@ -3,7 +3,7 @@ ghost use Rattle.std.specs.Prelude.{◌≡◌, ◌++◌, OnOk, OnErr, length, ta
 ghost use Rattle.std.specs.Option.{option_copied};
 ghost use Rattle.std.specs.String.{string_bytes};
 ghost use Rattle.gs_iri.specs.Dots.{dots};
-ghost use Rattle.gs_iri.specs.Resolving.{scheme_text, marked, parts_text, front_text, directory_of, through_last, resolved as resolved_text, Tells};
+ghost use Rattle.gs_iri.specs.Resolving.{scheme_text, marked, parts_text, front_text, directory_of, through_last, resolved as resolved_text, Reports};
 
 use crate::absolute::{are_iri_bytes, is_absolute};
 use crate::dots::{append_dots, last_slash};
@@ -26,7 +26,7 @@ fn append_scheme(scheme: Option<&str>, resolved: &mut String) -> Result<(), Allo
     }
 }
 
-/// Appends a part behind its mark, if it is defined.
+/// Appends a part after its mark, if it is defined.
 #[tactic(auto, unfolding(crate::specs::Resolving::marked))]
 fn append_marked(mark: &str, part: Option<&str>, resolved: &mut String) -> Result<(), AllocError>
     ensures ok { OnOk result (string_bytes resolved.new ≡ string_bytes resolved.old ++ marked mark.now (option_copied part.entry)) }
@@ -75,7 +75,7 @@ fn before_last_slash(path: &str) -> Option<&str>
     }
 }
 
-/// What the segments of a relative path stand behind, with a '/' between (5.2.3).
+/// What the segments of a relative path stand after, with a '/' between (5.2.3).
 #[tactic(auto, unfolding(crate::specs::Resolving::directory_of, crate::specs::Resolving::front_text))]
 fn front_of<'a>(authority: Option<&str>, path: &'a str) -> Option<&'a str>
     ensures { front_text (option_copied result) ≡ directory_of (option_copied authority.entry) path.now }
@@ -86,7 +86,7 @@ fn front_of<'a>(authority: Option<&str>, path: &'a str) -> Option<&'a str>
     }
 }
 
-/// Appends parts, their path behind `front` and without its dot segments.
+/// Appends parts, their path after `front` and without its dot segments.
 fn append_removed(
     target: &Parts,
     front: Option<&str>,
@@ -154,13 +154,13 @@ fn append_resolved(base: &str, reference: &str, resolved: &mut String) -> Result
 }
 
 /// Appends the IRI that a reference means under a base (RFC 3986, section 5.2, strict) to
-/// `resolved`, behind what stands there. `Syntax(0)` where the base is not absolute or the
+/// `resolved`, after what stands there. `Syntax(0)` where the base is not absolute or the
 /// reference has a character that no IRI has; `NoMemory` where the string could not grow. After
 /// a refusal the string is as it was. Linear in the bytes of both, with no allocation but the
 /// string's own growth.
 pub fn resolve(base: &str, reference: &str, resolved: &mut String) -> Result<(), Refusal>
     ensures value { OnOk result (string_bytes resolved.new ≡ string_bytes resolved.old ++ resolved_text base.now reference.now) }
-    ensures refused { Tells base.now reference.now result }
+    ensures refused { Reports base.now reference.now result }
     ensures kept { OnErr result (string_bytes resolved.new ≡ string_bytes resolved.old) }
 {
     if !is_absolute(base) || !are_iri_bytes(reference.as_bytes()) {

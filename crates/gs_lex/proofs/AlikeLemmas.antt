@@ -8,7 +8,7 @@ use Rattle.gs_model.specs.Characters.{Range, in_range, in_ranges, pn_chars_base,
 use Rattle.gs_lex.specs.Classes as is
 use Rattle.gs_lex.specs.Terminals.{Chars, holds, Less, Greater, Quote, Apostrophe, Backslash, Colon, Underscore, AtSign, Dash, Dot, Percent, Caret, Semicolon, Comma, OpenBracket, CloseBracket, OpenParenthesis, CloseParenthesis, OpenBrace, CloseBrace, VariableMark, SmallU, BigU, IriChar, ShortQuoteChar, ShortApostropheChar, LongQuoteChar, LongApostropheChar, Echar, Hex, Digit, Sign, ExponentLetter, Alpha, Alphanumeric, Base, NameChar, LabelStart, LocalStart, LocalChar, LocalEscape, VariableChar}
 
--- the first characters of the classes, and those behind the last ones
+-- the first characters of the classes, and those after the last ones
 abbrev pub later_boundaries : List ℕ
 later_boundaries = 10 ∷ 11 ∷ 13 ∷ 14 ∷ 33 ∷ 34 ∷ 35 ∷ 36 ∷ 37 ∷ 38 ∷ 39 ∷ 40 ∷ 41 ∷ 42 ∷ 43 ∷ 44 ∷ 45 ∷ 46 ∷ 47 ∷ 48 ∷ 58 ∷ 59 ∷ 60 ∷ 61 ∷ 62 ∷ 63 ∷ 64 ∷ 65 ∷ 69 ∷ 70 ∷ 71 ∷ 85 ∷ 86 ∷ 91 ∷ 92 ∷ 93 ∷ 94 ∷ 95 ∷ 96 ∷ 97 ∷ 98 ∷ 99 ∷ 101 ∷ 102 ∷ 103 ∷ 110 ∷ 111 ∷ 114 ∷ 115 ∷ 116 ∷ 117 ∷ 118 ∷ 123 ∷ 124 ∷ 125 ∷ 126 ∷ 127 ∷ 183 ∷ 184 ∷ 192 ∷ 215 ∷ 216 ∷ 247 ∷ 248 ∷ 768 ∷ 880 ∷ 894 ∷ 895 ∷ 8192 ∷ 8204 ∷ 8206 ∷ 8255 ∷ 8257 ∷ 8304 ∷ 8592 ∷ 11264 ∷ 12272 ∷ 12289 ∷ 55296 ∷ 63744 ∷ 64976 ∷ 65008 ∷ 65534 ∷ 65536 ∷ 983040 ∷ []
 

@@ -1,4 +1,4 @@
--- What a scan that went on from a word in vain tells of the words behind it.
+-- What a scan that went on from a word in vain tells of the words after it.
 use Rattle.std.proofs.Common.{◌≡◌, ◌≢◌, ℕ, ◌-◌, ◌<◌, ◌≤◌, max, Bool, true, false, cond, List, [], ◌∷◌, ◌++◌, refl, sym, ap, ◌∙◌, arith, subst, append_assoc, length, length-append, Option, Some, None, take, drop, encode_utf8_all, ◌⊎◌, inl, inr}
 use Rattle.std.proofs.Math.ListN.{take-append-drop}
 use Rattle.std.proofs.lemmas.Str.{encodes-append}
@@ -32,7 +32,7 @@ some_length (c ∷ v) n = omega arith
 pub some_bytes_of : (v : List ℕ) → v ≢ [] → 0 < length (encode_utf8_all v)
 some_bytes_of v n = some_bytes v (some_length v n)
 
--- in a word behind its dots
+-- in a word after its dots
 pub data Inner : State → Type 0 where
   dots : Inner at.WordDots
   more : Inner at.WordMore
@@ -139,7 +139,7 @@ word_inner : (u : Bool) (v : List ℕ) (p q : State) → accepts q ≡ Some kind
 word_inner u [] p q i n h e = absurd (n refl)
 word_inner u (c ∷ v) p q i n h e = first_in u q (next_word q i) c v h p (stays_inner u v p) e
 
--- what goes on behind a word's dots goes on behind the characters after them
+-- what goes on after a word's dots goes on after the characters after them
 either_next : (a b d : Bool) → (cond a (Some at.WordMore) (cond b (Some at.WordDots) None) ≡ None)
     ⊎ (cond a (Some at.WordMore) (cond b (Some at.WordDots) None) ≡ cond a (Some at.WordMore) (cond b (Some at.WordDots) (cond d (Some at.Namespace) None)))
 either_next true b d = inr refl
@@ -168,7 +168,7 @@ scalars-join (c ∷ v) d h k =
     let b = and_both (scalar c) (all_scalars v) h in
     both_and (scalar c) (all_scalars (v ++ d)) b.0 (scalars-join v d b.1 k)
 
--- from behind some of the characters that were read behind a word
+-- from after some of the characters that were read after a word
 word_barren : (u : Bool) (cs w v d z tail : List ℕ) (q : State) → cs ≡ (w ++ v) ++ d → v ≢ [] → all_scalars cs ≡ true → run (tokens u) cs ≡ Some q → kind_at (tokens u) (run (tokens u) w) ≡ Some kind.Word
     → ((j : Terminal) (a s : List ℕ) → cs ≡ a ++ s → kind_at (tokens u) (run (tokens u) a) ≡ Some j → length a ≤ length w)
     → IsAll u cs tail → encode_utf8_all cs ++ tail ≡ encode_utf8_all (w ++ v) ++ z → IsBarren u at.WordDots z
@@ -217,14 +217,14 @@ word_case is_end u x cs after n len q (Some t) p k g s i b e a = λ y v z m t_p 
       | beyond c d w o ↦ absurd (beyond_long v t.2 c d w room)
     ]
 
--- behind a word that ends before the scan, all that was read is barren
+-- after a word that ends before the scan, all that was read is barren
 pub barren-word : (is_end u : Bool) (x : List ℕ) (s : Scan) → (h : IsScanned u x s) → s.best ≡ Some kind.Word → ((y : List ℕ) → MayFollow is_end y → IsAll u h.chars (h.after ++ y))
     → IsBarrenTo is_end u (drop s.best_len x) (s.len - s.best_len)
 barren-word is_end u x s h e a =
     word_case is_end u x h.chars h.after s.best_len s.len s.state (longest (tokens u) h.chars) h.parts h.count h.characters h.stands (longest-split (tokens u) (Some (start_of u)) h.chars)
     (best (tokens u) (Some (start_of u)) h.chars) (subst (λ z. IsBest (longest (tokens u) h.chars) z s.best_len) e h.is_best) a
 
--- behind a token, what was barren is so
+-- after a token, what was barren is so
 pub barren-behind : (is_end u : Bool) (x : List ℕ) (n b : ℕ) (w : List ℕ) → take n x ≡ encode_utf8_all w → all_scalars w ≡ true → n ≤ length x → IsBarrenTo is_end u x b → IsBarrenTo is_end u (drop n x) (b - n)
 barren-behind is_end u x n b w t k l h = λ y v z m p g e i.
     let size : n ≡ length (encode_utf8_all w) = sym (length-take-le n x l) ∙ ap length t in

@@ -71,7 +71,7 @@ same (Or r s) (Or t u) = same r t && same s u
 same (Many r) (Many s) = same r s
 same _ _ = false
 
--- what is to be left behind a character
+-- what is to be left after a character
 abbrev pub target : Option State → Terminal → Pattern
 target None k = Never
 target (Some q) k = residual q k

@@ -6,7 +6,7 @@ use Rattle.gs_machine.specs.Machines.{rest}
 use Rattle.gs_machine.specs.Utf8.{symbols}
 use Rattle.gs_lex.specs.Cuts.{parted, cut_of}
 use Rattle.gs_lex.specs.Tokens.{Whole, Fault}
-use Rattle.gs_lex.specs.declared.kinds.Kind.TheVariants as kind
+use Rattle.gs_lex.specs.declared.kinds.TokenKind.TheVariants as kind
 
 -- an IRI, the word `a`, a string with its language, and the dot
 triple : cut_of false (codes "<a> a \"b\"@en .") ≡ (

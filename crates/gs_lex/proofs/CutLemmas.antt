@@ -18,7 +18,7 @@ use Rattle.gs_lex.specs.Lexers.{Leads}
 use Rattle.gs_lex.specs.Readings.{BeginsToken, mode_of}
 use Rattle.gs_lex.specs.States.{tokens, next, start_of}
 use Rattle.gs_lex.specs.Tokens.{Cut, Mode, Between, InComment, Ending, Lexeme, Longest, NoTerminal, EndsLine, IsCut, behind, kind_of, ended, space, hash, comment, line_end, bad_comment, token, no_kind, no_token}
-use Rattle.gs_lex.specs.declared.kinds.Kind.{Kind}
+use Rattle.gs_lex.specs.declared.kinds.TokenKind.{TokenKind}
 use Rattle.gs_lex.specs.declared.kinds.Terminal.{Terminal}
 use Rattle.gs_lex.specs.declared.lexers.Lexer.{Lexer}
 use Rattle.gs_lex.specs.declared.states.State.{State}
@@ -124,8 +124,8 @@ found_longest u x cs t h b k = record {
 abbrev pub IsParted : Bool → Mode → ℕ → ℕ → List ℕ → Parted → Type 0
 IsParted u m n l x p = Cut u m n l x p.0 p.1
 
--- behind the longest token, whether it has a kind or not
-kind_parted : (u : Bool) (n l : ℕ) (x : List ℕ) (t : Terminal) (w r cs : List ℕ) (go : ℕ → List ℕ → Parted) (k : Option Kind) → Longest u x t w r → kind_of u t (encode_utf8_all w) ≡ k
+-- after the longest token, whether it has a kind or not
+kind_parted : (u : Bool) (n l : ℕ) (x : List ℕ) (t : Terminal) (w r cs : List ℕ) (go : ℕ → List ℕ → Parted) (k : Option TokenKind) → Longest u x t w r → kind_of u t (encode_utf8_all w) ≡ k
     → IsParted u Between (behind n (length (encode_utf8_all w))) (behind n (length (encode_utf8_all w))) r (go (behind n (length (encode_utf8_all w))) cs)
     → IsParted u Between n l x (from_kind go n l (encode_utf8_all w) cs k)
 kind_parted u n l x t w r cs go None g e d = no_kind t w r g e
@@ -178,7 +178,7 @@ by_test P false p q f g = g refl
 no_scalar : (c : ℕ) → IsScalar c → (c == bad) ≡ true → ⊥
 no_scalar c k e = let h : IsScalar bad = subst IsScalar (eqb-true c bad e) k in Prim.cc h
 
--- behind the end of a comment's line
+-- after the end of a comment's line
 line_parted : (u : Bool) (n l : ℕ) (x : List ℕ) (c : ℕ) (o : List ℕ) (p : Parted) → x ≡ encode_utf8 c ++ o → is_line_end c ≡ true → IsParted u Between (behind n 1) l o p → IsParted u InComment n l x p
 line_parted u n l x c o p e t d =
     let q : x ≡ c ∷ o = e ∙ ap (λ z. z ++ o) (one c (end_low c t)) in

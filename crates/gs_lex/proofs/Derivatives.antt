@@ -141,7 +141,7 @@ right_or h c r s f g x (right k) = right (g x k)
 right_many : (h : Chars → ℕ → Bool) (c : ℕ) (r : Pattern) → Follows h c r → (x : List ℕ) → Matches h (Then (derive h c r) (Many r)) x → Matches h (Many r) (c ∷ x)
 right_many h c r f x (both v w e k l) = more (c ∷ v) w (ap (λ z. c ∷ z) e) (f v k) l
 
--- what is in the derivative, behind c is in the expression
+-- what is in the derivative, after c is in the expression
 pub derive-right : (h : Chars → ℕ → Bool) (c : ℕ) (r : Pattern) → Follows h c r
 derive-right h c Never x m = absurd (never h x m)
 derive-right h c Empty x m = absurd (never h x m)
@@ -176,7 +176,7 @@ then-back h (Many r) s x m = m
 tails : {c d : ℕ} {x y : List ℕ} → c ∷ x ≡ d ∷ y → (c ≡ d) × (x ≡ y)
 tails e = (Prim.cc, Prim.cc)
 
--- what is in the expression behind c is in the derivative
+-- what is in the expression after c is in the derivative
 pub derive-back : (h : Chars → ℕ → Bool) (c : ℕ) (r : Pattern) (y : List ℕ) → Matches h r y → (x : List ℕ) → y ≡ c ∷ x → Matches h (derive h c r) x
 derive-back h c _ _ empty x e = absurd (Prim.cc e)
 derive-back h c _ _ (one {s = s} {c = d} k) x e =

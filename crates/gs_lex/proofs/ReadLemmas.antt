@@ -7,7 +7,7 @@ use Rattle.gs_lex.specs.Scans.{IsScanned, IsBarrenTo}
 use Rattle.gs_lex.specs.Tokens.{Cut, Between, lexeme_at, behind}
 use Rattle.gs_lex.specs.Lexemes.{lexemes_of}
 use Rattle.gs_lex.specs.Readings.{Passes, Gives, CutFrom, IsRead, Went, Grows, IsWithin, passed_of, behind_of, mode_of, bit}
-use Rattle.gs_lex.specs.declared.kinds.Kind.{Kind}
+use Rattle.gs_lex.specs.declared.kinds.TokenKind.{TokenKind}
 use Rattle.gs_lex.specs.declared.scans.Scan.{Scan}
 use Rattle.gs_lex.specs.declared.steps.Reading.{Reading}
 use Rattle.gs_lex.specs.declared.tokens.Token.{Token}
@@ -40,7 +40,7 @@ went-passed is_end x from r old new count c l w p = record {
       (subst (λ z. Cut r.updates (mode_of c) (behind r.place count) r.last (z ++ y) ts e) (sym (drop_more r.cut count x l)) t));
 }
 
-pub went-found : (is_end : Bool) (x : List ℕ) (from r : Reading) (old new newer : List Token) (k : Kind) (count b : ℕ) → r.cut ≤ length x → Went is_end x from r old new
+pub went-found : (is_end : Bool) (x : List ℕ) (from r : Reading) (old new newer : List Token) (k : TokenKind) (count b : ℕ) → r.cut ≤ length x → Went is_end x from r old new
     → Gives is_end r (drop r.cut x) k count b → lexemes_of newer ≡ lexemes_of new ++ lexeme_at k r.place (take count (drop r.cut x)) ∷ [] → Went is_end x from (behind_of r count b) old newer
 went-found is_end x from r old new newer k count b l w g p =
     let lex = lexeme_at k r.place (take count (drop r.cut x)) in

@@ -85,7 +85,7 @@ stay_run u x s test (suc k) f l h g =
     subst (λ n. IsScanned u x (stay_of s n)) (sym there)
     (stay_on u x s test (s.len + k) f (omega arith) (omega (arith, l)) (h (s.len + k) (omega arith) (omega arith)) before)
 
--- the scan behind a run
+-- the scan after a run
 pub scan-stays : (u : Bool) (x : List ℕ) (s : Scan) (test : ℕ → Bool) (n : ℕ) → Stays test s.state → s.len ≤ n → n ≤ length x → AllFrom test x s.len n → IsScanned u x s → IsScanned u x (stay_of s n)
 scan-stays u x s test n f l b h g =
     let there : n ≡ s.len + (n - s.len) = omega (arith, l) in
@@ -164,7 +164,7 @@ stays-label c h = let p = name_parts c h in (p.0, if_true (is_name c) at.Label _
 pub stays-local : Stays plain_name at.Local
 stays-local c h = let p = name_parts c h in (p.0, if_true (is_local c) at.Local _ (local_name c p.1))
 
--- the first byte, and those behind it
+-- the first byte, and those after it
 pub all-spaces : (x : List ℕ) (n : ℕ) → is_ws (get_or x 0 0) ≡ true → AllFrom is_ws x 1 n → AllFrom is_ws x 0 n
 all-spaces x n h f i l b = first i b
   where

@@ -28,7 +28,7 @@ drop_front : (v w : List ℕ) → drop (length v) (v ++ w) ≡ w
 drop_front [] w = refl
 drop_front (c ∷ v) w = drop_front v w
 
--- what is behind the scan
+-- what is after the scan
 pub scan-after : (u : Bool) (x : List ℕ) (s : Scan) → (h : IsScanned u x s) → drop s.len x ≡ h.after
 scan-after u x s h = ap (λ z. drop z x) h.count ∙ ap (drop (length (encode_utf8_all h.chars))) h.parts ∙ drop_front (encode_utf8_all h.chars) h.after
 
@@ -136,7 +136,7 @@ no_chars : (u : Bool) (cs : List ℕ) → run (tokens u) cs ≡ Some at.WordDots
 no_chars u [] h e = no_dots u (Prim.cc h)
 no_chars u (c ∷ cs) h e = Prim.cc e
 
--- behind a word's dots within the barren bytes
+-- after a word's dots within the barren bytes
 pub scan-barren : (is_end u : Bool) (x : List ℕ) (s : Scan) (n : ℕ) → IsScanned u x s → IsBarrenTo is_end u x n → s.state ≡ at.WordDots → s.len ≤ n → (y : List ℕ) → MayFollow is_end y → IsBarren u s.state (drop s.len x ++ y)
 scan-barren is_end u x s n h b e l y m =
     subst (λ z. IsBarren u s.state (z ++ y)) (sym (scan-after u x s h)) (subst (λ q. IsBarren u q (h.after ++ y)) (sym e)

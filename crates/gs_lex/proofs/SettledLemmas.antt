@@ -15,7 +15,7 @@ use Rattle.gs_lex.specs.Terminals.{holds, Caret}
 use Rattle.gs_lex.specs.Tokens.{Cut, Between, InComment, Ending, Whole, Fault, Lexeme, IsCut, lexeme_at, has_text, kind_of, Longest, NoTerminal, ended, token, no_token, line_end}
 use Rattle.gs_lex.specs.Readings.{CutFrom, BeginsToken, Waits, inside, between, begun, mode_of}
 use Rattle.gs_lex.specs.Lexers.{Leads, AreSettled, MayGoQuietly}
-use Rattle.gs_lex.specs.declared.kinds.Kind.{Kind}
+use Rattle.gs_lex.specs.declared.kinds.TokenKind.{TokenKind}
 use Rattle.gs_lex.specs.declared.kinds.Terminal.{Terminal}
 use Rattle.gs_lex.specs.declared.kinds.Terminal.TheVariants as kind
 use Rattle.gs_lex.specs.declared.lexers.Lexer.{Lexer}
@@ -35,7 +35,7 @@ no_encode c o e =
     let k : 0 ≡ length (encode_utf8 c ++ o) = ap length e in
     omega (arith, length-append (encode_utf8 c) o, length-encode c, h.0, k)
 
--- characters behind characters
+-- characters after characters
 behind_chars : (v w b : List ℕ) → encode_utf8_all v ++ b ≡ encode_utf8_all w ++ [] → all_scalars w ≡ true → IsUtf8 b
 behind_chars v w b e g = elim (compare v w b [] e) [
   | within d p ↦ (
@@ -88,7 +88,7 @@ whole_longest u x w t e g a = record {
   ];
 }
 
-whole_cut : (u : Bool) (n l : ℕ) (x w : List ℕ) (t : Terminal) (k : Kind) → x ≡ encode_utf8_all w → all_scalars w ≡ true → Accepts (tokens u) t w → kind_of u t (encode_utf8_all w) ≡ Some k
+whole_cut : (u : Bool) (n l : ℕ) (x w : List ℕ) (t : Terminal) (k : TokenKind) → x ≡ encode_utf8_all w → all_scalars w ≡ true → Accepts (tokens u) t w → kind_of u t (encode_utf8_all w) ≡ Some k
     → Cut u Between n l x (lexeme_at k n (encode_utf8_all w) ∷ []) Whole
 whole_cut u n l x w t k e g a i = token t w [] k (whole_longest u x w t e g a) i (ended refl)
 
@@ -142,7 +142,7 @@ empty_held : (u : Bool) (l : Lexer) (x : List ℕ) (ts : List Lexeme) → Leads 
 empty_held u l x ts h e c = nothing_more [] Whole (h.rest [] [] Whole (subst (λ z. CutFrom l.at z [] Whole) (sym (append-nil l.held.items ∙ e)) c))
 
 -- the token that one way on leads to
-way_token : (u : Bool) (l : Lexer) (x cs v : List ℕ) (ts : List Lexeme) (q : State) (t : Terminal) (k : Kind) → Leads u l x ts → l.at.in_comment ≡ false → l.held.items ≡ encode_utf8_all cs → all_scalars cs ≡ true
+way_token : (u : Bool) (l : Lexer) (x cs v : List ℕ) (ts : List Lexeme) (q : State) (t : Terminal) (k : TokenKind) → Leads u l x ts → l.at.in_comment ≡ false → l.held.items ≡ encode_utf8_all cs → all_scalars cs ≡ true
     → run (tokens u) cs ≡ Some q → kind_at (tokens u) (run_from (tokens u) (Some q) v) ≡ Some t → all_scalars v ≡ true → ((z : List ℕ) → kind_of u t z ≡ Some k)
     → IsCut u (x ++ encode_utf8_all v) (ts ++ lexeme_at k l.at.place (encode_utf8_all (cs ++ v)) ∷ []) Whole
 way_token u l x cs v ts q t k h b e g r a i j =
@@ -152,7 +152,7 @@ way_token u l x cs v ts q t k h b e g r a i j =
     (between_cut u l (l.held.items ++ encode_utf8_all v) (lexeme_at k l.at.place (encode_utf8_all (cs ++ v)) ∷ []) Whole h.reads b
     (whole_cut u l.at.place l.at.last (l.held.items ++ encode_utf8_all v) (cs ++ v) t k spelled (scalars-join cs v g i) accepted (j (encode_utf8_all (cs ++ v)))))
 
-text_at : (k : Kind) (n : ℕ) (x : List ℕ) → has_text k ≡ true → (lexeme_at k n x).text ≡ x
+text_at : (k : TokenKind) (n : ℕ) (x : List ℕ) → has_text k ≡ true → (lexeme_at k n x).text ≡ x
 text_at k n x h = ap (λ b. if b then x else []) h
 
 -- as many characters have as many bytes at least

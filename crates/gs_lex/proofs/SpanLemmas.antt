@@ -7,7 +7,7 @@ use Rattle.gs_lex.proofs.BarrenLemmas.{some_bytes_of}
 use Rattle.gs_lex.proofs.LongestLemmas.{no_start}
 use Rattle.gs_lex.proofs.TerminalLemmas.{terminal-accepted}
 
--- behind some bytes more of a text that is short enough
+-- after some bytes more of a text that is short enough
 behind_more : (x before w r : List ℕ) (n : ℕ) → x ≡ before ++ (w ++ r) → n ≡ length before → length x < 2 ^ 64
     → (behind n (length w) ≡ length (before ++ w)) × ((behind n (length w) ≡ n + length w) × (n + length w ≤ length x))
 behind_more x before w r n p e h =

@@ -12,7 +12,7 @@ use Rattle.gs_lex.specs.Scans.{MayFollow, IsScanned, IsBarren, IsBarrenTo}
 use Rattle.gs_lex.specs.Symbols.{BeginsWith}
 use Rattle.gs_lex.specs.Tokens.{Cut, Between, InComment, Whole, Fault, Lexeme, lexeme_at, behind, kind_of, NoTerminal, EndsLine, ended, hash, comment, line_end, bad_comment, token, no_kind, no_token}
 use Rattle.gs_lex.specs.Readings.{Passes, Gives, Fails, CutFrom, mode_of, BeginsToken}
-use Rattle.gs_lex.specs.declared.kinds.Kind.{Kind}
+use Rattle.gs_lex.specs.declared.kinds.TokenKind.{TokenKind}
 use Rattle.gs_lex.specs.declared.kinds.Terminal.{Terminal}
 use Rattle.gs_lex.specs.declared.kinds.Terminal.TheVariants as kind
 use Rattle.gs_lex.specs.declared.scans.Scan.{Scan}
@@ -88,7 +88,7 @@ pub fail-comment : (is_end : Bool) (r : Reading) (x : List ℕ) → r.in_comment
 fail-comment is_end r x k h = record { cut = λ y m. within r (x ++ y) [] (Fault r.last) k (bad_comment (h y m).0 (h y m).1) }
 
 -- the token that a scan has found
-pub find-token : (is_end : Bool) (r : Reading) (x : List ℕ) (t : Terminal) (n b : ℕ) (k : Kind) → r.in_comment ≡ false → ((y : List ℕ) → MayFollow is_end y → Finds r.updates x y t n)
+pub find-token : (is_end : Bool) (r : Reading) (x : List ℕ) (t : Terminal) (n b : ℕ) (k : TokenKind) → r.in_comment ≡ false → ((y : List ℕ) → MayFollow is_end y → Finds r.updates x y t n)
     → kind_of r.updates t (take n x) ≡ Some k → n ≤ length x → IsBarrenTo is_end r.updates (drop n x) b → Gives is_end r x k n b
 find-token is_end r x t n b k c f e l a = record {
   characters = let g = f [] (λ _. refl) in (g.chars, (g.longest.characters, sym g.bytes));
@@ -153,7 +153,7 @@ pub end-nothing : (r : Reading) (x : List ℕ) → r.in_comment ≡ false → le
 end-nothing r [] k l = between r [] [] Whole k (ended refl)
 end-nothing r (c ∷ x) k l = absurd (omega arith)
 
--- what is barren behind the token that a scan has found
+-- what is barren after the token that a scan has found
 pub found-barren : (is_end u : Bool) (x : List ℕ) (s : Scan) (b : ℕ) (t : Terminal) (n : ℕ) → IsScanned u x s → IsStuckAt is_end u x s → s.best ≡ Some t → s.best_len ≤ length x → IsBarrenTo is_end u x b
     → (n ≡ b - s.best_len) ⊎ ((t ≡ kind.Word) × (n ≡ max (s.len - s.best_len) (b - s.best_len))) → IsBarrenTo is_end u (drop s.best_len x) n
 found-barren is_end u x s b t n h k e l a c = elim c [

@@ -99,7 +99,7 @@ among kind.Carets = later (later (later (later (later (later (later (later (late
 among kind.OpenBrace = later (later (later (later (later (later (later (later (later (later (later (later (later (later (later (later (later (later (later (later (later (later (later first))))))))))))))))))))))
 among kind.CloseBrace = later (later (later (later (later (later (later (later (later (later (later (later (later (later (later (later (later (later (later (later (later (later (later (later first)))))))))))))))))))))))
 
--- what is left behind a character, for each character
+-- what is left after a character, for each character
 pub derive-residual : (q : State) (c : ℕ) (k : Terminal) → derive holds c (residual q k) ≡ target (next q c) k
 derive-residual q c k =
     let h = and_both (ends q kinds) (follows_all q boundaries) (right q) in

@@ -5,8 +5,8 @@ use lib.Utf8.{scalar}
 use Rattle.gs_lex.specs.Automata.{run_from, kind_at}
 use Rattle.gs_lex.specs.States.{tokens, next}
 use Rattle.gs_lex.specs.Tokens.{kind_of, has_text}
-use Rattle.gs_lex.specs.declared.kinds.Kind.{Kind}
-use Rattle.gs_lex.specs.declared.kinds.Kind.TheVariants as token
+use Rattle.gs_lex.specs.declared.kinds.TokenKind.{TokenKind}
+use Rattle.gs_lex.specs.declared.kinds.TokenKind.TheVariants as token
 use Rattle.gs_lex.specs.declared.kinds.Terminal.{Terminal}
 use Rattle.gs_lex.specs.declared.kinds.Terminal.TheVariants as kind
 use Rattle.gs_lex.specs.declared.states.State.{State}
@@ -24,7 +24,7 @@ pub record Ways (q : State) : Type 0 where
   pub one : List ℕ
   pub other : List ℕ
   pub terminal : Terminal
-  pub kind : Kind
+  pub kind : TokenKind
   pub to_one : (u : Bool) → kind_at (tokens u) (run_from (tokens u) (Some q) one) ≡ Some terminal
   pub to_other : (u : Bool) → kind_at (tokens u) (run_from (tokens u) (Some q) other) ≡ Some terminal
   pub is_kind : (u : Bool) (x : List ℕ) → kind_of u terminal x ≡ Some kind
@@ -33,7 +33,7 @@ pub record Ways (q : State) : Type 0 where
   pub scalars_other : all_scalars other ≡ true
   pub longer : length one < length other
 
-ways_to : (q : State) (one other : List ℕ) (t : Terminal) (k : Kind) → ((u : Bool) → kind_at (tokens u) (run_from (tokens u) (Some q) one) ≡ Some t)
+ways_to : (q : State) (one other : List ℕ) (t : Terminal) (k : TokenKind) → ((u : Bool) → kind_at (tokens u) (run_from (tokens u) (Some q) one) ≡ Some t)
     → ((u : Bool) → kind_at (tokens u) (run_from (tokens u) (Some q) other) ≡ Some t) → ((u : Bool) (x : List ℕ) → kind_of u t x ≡ Some k) → has_text k ≡ true
     → all_scalars one ≡ true → all_scalars other ≡ true → length one < length other → Ways q
 ways_to q one other t k a b c h i j l = record {
@@ -50,7 +50,7 @@ ways_to q one other t k a b c h i j l = record {
   longer = l;
 }
 
--- behind one character
+-- after one character
 ways_behind : (q p : State) (c : ℕ) → next q c ≡ Some p → scalar c ≡ true → Ways p → Ways q
 ways_behind q p c e s w = record {
   one = c ∷ w.one;

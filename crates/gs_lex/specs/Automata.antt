@@ -28,7 +28,7 @@ Accepts a k w = kind_at a (run a w) ≡ Some k
 abbrev pub Found : Type 0 → Type 0 → Type 0
 Found K I = Option (K × List I × List I)
 
--- the item i, and what was found behind it, or the token that ends with i
+-- the item i, and what was found after it, or the token that ends with i
 abbrev pub found_behind : {K I : Type 0} → I → List I → Option K → Found K I → Found K I
 found_behind i is k (Some f) = Some (f.0, i ∷ f.1, f.2)
 found_behind i is (Some k) None = Some (k, i ∷ [], is)

@@ -30,11 +30,11 @@ is_alphanumeric c = is_alpha c || is_digit c
 abbrev pub is_hex : ℕ → Bool
 is_hex c = is_digit c || (nat_le 65 c && nat_le c 70) || (nat_le 97 c && nat_le c 102)
 
--- behind the backslash of [159s] ECHAR
+-- after the backslash of [159s] ECHAR
 abbrev pub is_echar : ℕ → Bool
 is_echar c = c == 116 || c == 98 || c == 110 || c == 114 || c == 102 || c == 34 || c == 39 || c == 92
 
--- behind the backslash of [172s] PN_LOCAL_ESC
+-- after the backslash of [172s] PN_LOCAL_ESC
 abbrev pub is_local_escape : ℕ → Bool
 is_local_escape c =
     c == 95 || c == 126 || c == 46 || c == 45 || c == 33 || c == 36 || c == 38 || c == 39 || c == 40 || c == 41
@@ -58,6 +58,6 @@ is_local_start c = in_ranges pn_chars_u c || c == 58 || is_digit c
 abbrev pub is_local : ℕ → Bool
 is_local c = in_ranges pn_chars c || c == 58
 
--- behind the first of [166] VARNAME of SPARQL: PN_CHARS but '-'
+-- after the first of [166] VARNAME of SPARQL: PN_CHARS but '-'
 abbrev pub is_variable : ℕ → Bool
 is_variable c = in_ranges pn_chars_u c || is_digit c || c == 0xB7 || (nat_le 0x300 c && nat_le c 0x36F) || (nat_le 0x203F c && nat_le c 0x2040)

@@ -47,7 +47,7 @@ AreQuiet [] = Unit {0}
 AreQuiet (t ∷ []) = has_text t.kind ≡ true
 AreQuiet (t ∷ (s ∷ ts)) = ⊥
 
--- the text may go on so that at most one token comes behind these, of a kind that has a text (so it is no dot)
+-- the text may go on so that at most one token comes after these, of a kind that has a text (so it is no dot)
 pub record MayGoQuietly (updates : Bool) (x : List ℕ) (ts : List Lexeme) : Type 0 where
   pub behind : List ℕ
   pub last : List Lexeme

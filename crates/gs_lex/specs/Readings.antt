@@ -7,7 +7,7 @@ use Rattle.gs_lex.specs.Lexemes.{lexemes_of}
 use Rattle.gs_lex.specs.Scans.{MayFollow, IsScanned, IsBarrenTo, fresh}
 use Rattle.gs_lex.specs.declared.readings.Halt.{Halt}
 use Rattle.gs_lex.specs.declared.readings.Halt.TheVariants as halt
-use Rattle.gs_lex.specs.declared.kinds.Kind.{Kind}
+use Rattle.gs_lex.specs.declared.kinds.TokenKind.{TokenKind}
 use Rattle.gs_lex.specs.declared.kinds.Terminal.{Terminal}
 use Rattle.gs_lex.specs.declared.states.State.TheVariants as at
 use Rattle.gs_lex.specs.declared.scans.Scan.{Scan}
@@ -33,14 +33,14 @@ pub record IsRead (is_end : Bool) (r : Reading) (x : List ℕ) : Type 0 where
   pub scanned : IsScanned r.updates x r.scan
   pub barren : IsBarrenTo is_end r.updates x r.barren
 
--- the tokens of x are those behind its first bytes, which are characters
+-- the tokens of x are those after its first bytes, which are characters
 pub record Passes (is_end : Bool) (r : Reading) (x : List ℕ) (count : ℕ) (in_comment : Bool) : Type 0 where
   pub cut : (y : List ℕ) (ts : List Lexeme) (e : Ending) → MayFollow is_end y
       → Cut r.updates (mode_of in_comment) (behind r.place count) r.last (drop count x ++ y) ts e → CutFrom r (x ++ y) ts e
   pub characters : IsUtf8 (take count x)
 
--- the tokens of x are a token of its first bytes, and those behind it, where so much is barren
-pub record Gives (is_end : Bool) (r : Reading) (x : List ℕ) (k : Kind) (count barren : ℕ) : Type 0 where
+-- the tokens of x are a token of its first bytes, and those after it, where so much is barren
+pub record Gives (is_end : Bool) (r : Reading) (x : List ℕ) (k : TokenKind) (count barren : ℕ) : Type 0 where
   pub cut : (y : List ℕ) (ts : List Lexeme) (e : Ending) → MayFollow is_end y
       → Cut r.updates Between (behind r.place count) (behind r.place count) (drop count x ++ y) ts e → CutFrom r (x ++ y) (lexeme_at k r.place (take count x) ∷ ts) e
   pub characters : IsUtf8 (take count x)
@@ -59,7 +59,7 @@ pub record BeginsToken (x : List ℕ) : Type 0 where
   pub no_hash : first ≢ 35
 
 -- Why a reading waits at x: no character comes next, in a comment or between two tokens; or a token has begun, no
--- character comes behind what is read of it, and some may go on with it.
+-- character comes after what is read of it, and some may go on with it.
 pub data Waits (in_comment : Bool) (x : List ℕ) (s : Scan) : Type 0 where
   inside : in_comment ≡ true → StartsWithNoChar x → Waits in_comment x s
   between : in_comment ≡ false → x ≡ [] → Waits in_comment x s

@@ -30,6 +30,6 @@ AllFrom test x m n = (i : ℕ) → m ≤ i → i < n → test (get_or x i 0) ≡
 abbrev pub at_place : Scan → ℕ → Scan
 at_place s n = let b = best_after (accepts s.state) n (s.best, s.best_len) in record { state = s.state; len = n; best = b.0; best_len = b.1 }
 
--- the scan behind a run that ends at the place n
+-- the scan after a run that ends at the place n
 abbrev pub stay_of : Scan → ℕ → Scan
 stay_of s n = if n == s.len then s else at_place s n

@@ -42,6 +42,6 @@ MayFollow is_end y = is_end ≡ true → y ≡ []
 abbrev pub IsBarren : Bool → State → List ℕ → Type 0
 IsBarren updates q z = (t : Terminal) (v s : List ℕ) → z ≡ encode_utf8_all v ++ s → all_scalars v ≡ true → v ≢ [] → kind_at (tokens updates) (run_from (tokens updates) (Some q) v) ≡ Some t → ⊥
 
--- behind each of the first characters of x, which are n bytes, a word's dots lead to no token, however x goes on
+-- after each of the first characters of x, which are n bytes, a word's dots lead to no token, however x goes on
 abbrev pub IsBarrenTo : Bool → Bool → List ℕ → ℕ → Type 0
 IsBarrenTo is_end updates x n = (y v z : List ℕ) → MayFollow is_end y → x ++ y ≡ encode_utf8_all v ++ z → all_scalars v ≡ true → v ≢ [] → length (encode_utf8_all v) ≤ n → IsBarren updates at.WordDots z

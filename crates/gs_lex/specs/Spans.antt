@@ -2,18 +2,18 @@
 use Rattle.std.specs.Prelude.{◌≡◌, ℕ, ◌+◌, ◌≤◌, ◌<◌, Bool, List, [], ◌∷◌, ◌++◌, length, Some, if◌then◌else◌, encode_utf8_all}
 use Rattle.gs_lex.specs.Terminals.{IsTerminal}
 use Rattle.gs_lex.specs.Tokens.{Lexeme, has_text, kind_of}
-use Rattle.gs_lex.specs.declared.kinds.Kind.{Kind}
+use Rattle.gs_lex.specs.declared.kinds.TokenKind.{TokenKind}
 use Rattle.gs_lex.specs.declared.kinds.Terminal.{Terminal}
 
 -- these bytes are a token of this kind
-pub record IsSpelling (updates : Bool) (k : Kind) (bytes : List ℕ) : Type 0 where
+pub record IsSpelling (updates : Bool) (k : TokenKind) (bytes : List ℕ) : Type 0 where
   pub terminal : Terminal
   pub characters : List ℕ
   pub spelled : bytes ≡ encode_utf8_all characters
   pub is_terminal : IsTerminal updates terminal characters
   pub is_kind : kind_of updates terminal bytes ≡ Some k
 
--- the token is some bytes of the text x, between its start and its end, behind the token before it, which ends at the place n
+-- the token is some bytes of the text x, between its start and its end, after the token before it, which ends at the place n
 pub record IsSpan (updates : Bool) (x : List ℕ) (n : ℕ) (t : Lexeme) : Type 0 where
   pub before : List ℕ
   pub bytes : List ℕ
@@ -27,7 +27,7 @@ pub record IsSpan (updates : Bool) (x : List ℕ) (n : ℕ) (t : Lexeme) : Type 
   pub is_token : IsSpelling updates t.kind bytes
   pub has_bytes : t.text ≡ (if has_text t.kind then bytes else [])
 
--- these tokens are spans of x, one behind the other, and behind the place n
+-- these tokens are spans of x, one after the other, and after the place n
 abbrev pub AreSpans : Bool → List ℕ → ℕ → List Lexeme → Type 0
 AreSpans updates x n [] = Unit {0}
 AreSpans updates x n (t ∷ ts) = IsSpan updates x n t × AreSpans updates x t.«end» ts

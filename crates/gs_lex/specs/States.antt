@@ -105,7 +105,7 @@ local c =
     else if c == 92 then Some at.LocalEscape
     else None
 
--- the state behind a character; none where no token goes on so
+-- the state after a character; none where no token goes on so
 abbrev pub next : State → ℕ → Option State
 next at.Start c = at_start c
 next at.UpdateStart c = at_update_start c

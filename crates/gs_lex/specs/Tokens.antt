@@ -5,8 +5,8 @@ use Rattle.std.specs.Char.{IsScalar, to_ascii_lowercase}
 use Rattle.std.specs.Str.{StartsWithNoChar, all_scalars}
 use Rattle.gs_lex.specs.Classes.{is_ws, is_line_end}
 use Rattle.gs_lex.specs.Terminals.{IsTerminal}
-use Rattle.gs_lex.specs.declared.kinds.Kind.{Kind}
-use Rattle.gs_lex.specs.declared.kinds.Kind.TheVariants as kind
+use Rattle.gs_lex.specs.declared.kinds.TokenKind.{TokenKind}
+use Rattle.gs_lex.specs.declared.kinds.TokenKind.TheVariants as kind
 use Rattle.gs_lex.specs.declared.kinds.Terminal.{Terminal}
 use Rattle.gs_lex.specs.declared.kinds.Terminal.TheVariants as terminal
 
@@ -19,14 +19,14 @@ abbrev pub is_word : List ℕ → List ℕ → Bool
 is_word x word = bytes_eq (map to_ascii_lowercase x) (map to_ascii_lowercase word)
 
 -- the word of a directive, in any case
-abbrev pub directive : List ℕ → Option Kind
+abbrev pub directive : List ℕ → Option TokenKind
 directive x =
     if is_word x (codes "prefix") then Some kind.Prefix
     else if is_word x (codes "base") then Some kind.Base
     else None
 
 -- the other words of updates
-abbrev pub update_word : List ℕ → Option Kind
+abbrev pub update_word : List ℕ → Option TokenKind
 update_word x =
     if is_word x (codes "insert") then Some kind.Insert
     else if is_word x (codes "delete") then Some kind.Delete
@@ -44,7 +44,7 @@ update_word x =
     else directive x
 
 -- the words of a text: `a`, `true` and `false` in lower case
-abbrev pub word : Bool → List ℕ → Option Kind
+abbrev pub word : Bool → List ℕ → Option TokenKind
 word updates x =
     if bytes_eq x (codes "a") then Some kind.A
     else if bytes_eq x (codes "true") then Some kind.True
@@ -53,7 +53,7 @@ word updates x =
     else directive x
 
 -- the kind of a token of these bytes; a word that is none of these has none, nor has a string that does not end
-abbrev pub kind_of : Bool → Terminal → List ℕ → Option Kind
+abbrev pub kind_of : Bool → Terminal → List ℕ → Option TokenKind
 kind_of updates terminal.IriRef x = Some kind.IriRef
 kind_of updates terminal.PnameNs x = Some kind.PnameNs
 kind_of updates terminal.PnameLn x = Some kind.PnameLn
@@ -81,7 +81,7 @@ kind_of updates terminal.OpenBrace x = Some kind.OpenBrace
 kind_of updates terminal.CloseBrace x = Some kind.CloseBrace
 
 -- whether the kind leaves the token's text open
-abbrev pub has_text : Kind → Bool
+abbrev pub has_text : TokenKind → Bool
 has_text kind.IriRef = true
 has_text kind.PnameNs = true
 has_text kind.PnameLn = true
@@ -99,13 +99,13 @@ has_text _ = false
 
 -- a token: its kind, its bytes where the kind leaves them open, and its place
 pub record Lexeme : Type 0 where
-  pub kind : Kind
+  pub kind : TokenKind
   pub text : List ℕ
   pub start : ℕ
   pub «end» : ℕ
 
 -- the token of these bytes at a place
-abbrev pub lexeme_at : Kind → ℕ → List ℕ → Lexeme
+abbrev pub lexeme_at : TokenKind → ℕ → List ℕ → Lexeme
 lexeme_at k n x = record { kind = k; text = if has_text k then x else []; start = n; «end» = behind n (length x) }
 
 -- the text x begins with the characters w of a terminal, and with no longer one
@@ -124,7 +124,7 @@ pub data Mode : Type 0 where
   Between : Mode
   InComment : Mode
 
--- the text ends between tokens or in a comment; or it has a fault, behind a last token that ends there
+-- the text ends between tokens or in a comment; or it has a fault, after a last token that ends there
 pub data Ending : Type 0 where
   Whole : Ending
   Fault : ℕ → Ending
@@ -133,7 +133,7 @@ abbrev pub EndsLine : List ℕ → Type 0
 EndsLine [] = Unit {0}
 EndsLine (c ∷ cs) = is_line_end c ≡ true
 
--- The text x, at the place n and behind a last token that ends at the place l, is cut into these tokens.
+-- The text x, at the place n and after a last token that ends at the place l, is cut into these tokens.
 pub data Cut (updates : Bool) : Mode → ℕ → ℕ → List ℕ → List Lexeme → Ending → Type 0 where
   ended : {n l : ℕ} {x : List ℕ} → x ≡ [] → Cut updates Between n l x [] Whole
   space : {n l : ℕ} {x : List ℕ} {ts : List Lexeme} {e : Ending} (c : ℕ) (r : List ℕ) → x ≡ c ∷ r → is_ws c ≡ true
@@ -144,7 +144,7 @@ pub data Cut (updates : Bool) : Mode → ℕ → ℕ → List ℕ → List Lexem
       → Cut updates InComment (behind n (length (encode_utf8 c))) l r ts e → Cut updates InComment n l x ts e
   line_end : {n l : ℕ} {x : List ℕ} {ts : List Lexeme} {e : Ending} → EndsLine x → Cut updates Between n l x ts e → Cut updates InComment n l x ts e
   bad_comment : {n l : ℕ} {x : List ℕ} → x ≢ [] → StartsWithNoChar x → Cut updates InComment n l x [] (Fault l)
-  token : {n l : ℕ} {x : List ℕ} {ts : List Lexeme} {e : Ending} (t : Terminal) (w r : List ℕ) (k : Kind) → Longest updates x t w r → kind_of updates t (encode_utf8_all w) ≡ Some k
+  token : {n l : ℕ} {x : List ℕ} {ts : List Lexeme} {e : Ending} (t : Terminal) (w r : List ℕ) (k : TokenKind) → Longest updates x t w r → kind_of updates t (encode_utf8_all w) ≡ Some k
       → Cut updates Between (behind n (length (encode_utf8_all w))) (behind n (length (encode_utf8_all w))) r ts e
       → Cut updates Between n l x (lexeme_at k n (encode_utf8_all w) ∷ ts) e
   no_kind : {n l : ℕ} {x : List ℕ} (t : Terminal) (w r : List ℕ) → Longest updates x t w r → kind_of updates t (encode_utf8_all w) ≡ None → Cut updates Between n l x [] (Fault l)

@@ -2,7 +2,7 @@
 
 /// What a token is (Turtle, section 6.5; SPARQL 1.1 Query, section 19.8).
 #[derive(Clone, Copy, Debug, PartialEq, Eq)]
-pub enum Kind {
+pub enum TokenKind {
     IriRef,
     PnameNs,
     PnameLn,

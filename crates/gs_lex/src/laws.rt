@@ -14,7 +14,7 @@ pub fn text_has_a_cut()
     ensures { (updates : Bool) (m : Mode) (n last : ℕ) (x : List ℕ) → Cut updates m n last x (cut_from updates m n last x).0 (cut_from updates m n last x).1 }
 {}
 
-/// The tokens of a text are its spans, one behind the other, where the text has fewer than 2^64
+/// The tokens of a text are its spans, one after the other, where the text has fewer than 2^64
 /// bytes.
 pub fn tokens_are_spans()
     ensures { (updates : Bool) (x : List ℕ) (ts : List Lexeme) (e : Ending) → length x < 2 ^ 64 → IsCut updates x ts e → AreSpans updates x 0 ts }

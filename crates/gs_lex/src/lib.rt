@@ -16,7 +16,7 @@ mod symbols;
 mod tokens;
 mod words;
 
-pub use kinds::Kind;
+pub use kinds::TokenKind;
 pub use laws::{text_has_a_cut, text_has_one_cut, tokens_are_spans};
 pub use lexers::Lexer;
 pub use tokens::Token;

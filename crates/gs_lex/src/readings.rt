@@ -4,7 +4,7 @@ ghost use Rattle.gs_lex.specs.Readings.{Went, Grows, HasHalted, IsWithin, IsRead
 ghost use Rattle.gs_lex.specs.Lexemes.{lexemes_of};
 ghost use Rattle.gs_lex.specs.Tokens.{lexeme_at};
 
-use crate::kinds::Kind;
+use crate::kinds::TokenKind;
 use crate::scans::Scan;
 use crate::steps::{Reading, Step, next_step};
 use crate::tokens::{Token, place_behind, token_at};
@@ -65,7 +65,7 @@ fn add_token(
     alloc: Global,
     text: &[u8],
     at: Reading,
-    kind: Kind,
+    kind: TokenKind,
     count: usize,
     tokens: &mut Vec<Token>,
 ) -> Result<(), AllocError>

@@ -1,13 +1,18 @@
 //! Rows of texts and their tokens, whole and in pieces of 1, 2 and 3 bytes.
 ghost use Rattle.std.specs.Prelude.{◌<◌};
 
-use super::{Kind, Lexer};
+use super::{Lexer, TokenKind};
 use gs_model::Refusal;
 use std::alloc::Global;
 use std::process::Abort;
 use std::test::Fail;
 
-fn kinds_of(alloc: Global, updates: bool, text: &[u8], size: usize) -> Result<Vec<Kind>, Refusal>
+fn kinds_of(
+    alloc: Global,
+    updates: bool,
+    text: &[u8],
+    size: usize,
+) -> Result<Vec<TokenKind>, Refusal>
     requires { 0 < size }
 {
     let mut lexer = Lexer::new(alloc, updates);
@@ -29,7 +34,7 @@ fn expect(
     alloc: Global,
     updates: bool,
     text: &[u8],
-    kinds: &[Kind],
+    kinds: &[TokenKind],
 ) -> Result<(), Fail> {
     let whole = kinds_of(alloc, updates, text, 1000)?;
     assert_eq!(rt; whole.as_slice(), kinds);
@@ -42,7 +47,7 @@ fn expect(
     Ok(())
 }
 
-/// The text has a fault behind so many bytes, however it is cut.
+/// The text has a fault after so many bytes, however it is cut.
 fn refuse(rt: &impl Abort, alloc: Global, text: &[u8], at: u64) -> Result<(), Fail> {
     assert_eq!(rt;
         kinds_of(alloc, false, text, 1000).err(),
@@ -62,33 +67,69 @@ fn refuse(rt: &impl Abort, alloc: Global, text: &[u8], at: u64) -> Result<(), Fa
 #[test]
 fn a_dot_belongs_to_the_longest_token(rt: HostRuntime) -> Result<(), Fail> {
     let alloc = rt.alloc();
-    expect(&rt, alloc, false, b"ex:a.b,", &[Kind::PnameLn, Kind::Comma])?;
-    expect(&rt, alloc, false, b"ex:a. ", &[Kind::PnameLn, Kind::Dot])?;
-    expect(&rt, alloc, false, b"1.", &[Kind::Integer, Kind::Dot])?;
-    expect(&rt, alloc, false, b"1.e0", &[Kind::Double])?;
+    expect(
+        &rt,
+        alloc,
+        false,
+        b"ex:a.b,",
+        &[TokenKind::PnameLn, TokenKind::Comma],
+    )?;
+    expect(
+        &rt,
+        alloc,
+        false,
+        b"ex:a. ",
+        &[TokenKind::PnameLn, TokenKind::Dot],
+    )?;
+    expect(
+        &rt,
+        alloc,
+        false,
+        b"1.",
+        &[TokenKind::Integer, TokenKind::Dot],
+    )?;
+    expect(&rt, alloc, false, b"1.e0", &[TokenKind::Double])?;
     expect(
         &rt,
         alloc,
         false,
         b"-.5 +1.5 2",
-        &[Kind::Decimal, Kind::Decimal, Kind::Integer],
+        &[TokenKind::Decimal, TokenKind::Decimal, TokenKind::Integer],
     )?;
-    expect(&rt, alloc, false, b"true.", &[Kind::True, Kind::Dot])?;
-    expect(&rt, alloc, false, b"true.a:b", &[Kind::PnameLn])?;
-    expect(&rt, alloc, false, b"true.5", &[Kind::True, Kind::Decimal])?;
+    expect(
+        &rt,
+        alloc,
+        false,
+        b"true.",
+        &[TokenKind::True, TokenKind::Dot],
+    )?;
+    expect(&rt, alloc, false, b"true.a:b", &[TokenKind::PnameLn])?;
+    expect(
+        &rt,
+        alloc,
+        false,
+        b"true.5",
+        &[TokenKind::True, TokenKind::Decimal],
+    )?;
     expect(
         &rt,
         alloc,
         false,
         b"_:a..",
-        &[Kind::BlankNodeLabel, Kind::Dot, Kind::Dot],
+        &[TokenKind::BlankNodeLabel, TokenKind::Dot, TokenKind::Dot],
     )?;
     expect(
         &rt,
         alloc,
         false,
         b"a.a.a ",
-        &[Kind::A, Kind::Dot, Kind::A, Kind::Dot, Kind::A],
+        &[
+            TokenKind::A,
+            TokenKind::Dot,
+            TokenKind::A,
+            TokenKind::Dot,
+            TokenKind::A,
+        ],
     )
 }
 
@@ -101,14 +142,14 @@ fn words_behind_a_word_that_is_no_prefix_are_words(rt: HostRuntime) -> Result<()
         false,
         b"a.a..a.:",
         &[
-            Kind::A,
-            Kind::Dot,
-            Kind::A,
-            Kind::Dot,
-            Kind::Dot,
-            Kind::A,
-            Kind::Dot,
-            Kind::PnameNs,
+            TokenKind::A,
+            TokenKind::Dot,
+            TokenKind::A,
+            TokenKind::Dot,
+            TokenKind::Dot,
+            TokenKind::A,
+            TokenKind::Dot,
+            TokenKind::PnameNs,
         ],
     )?;
     expect(
@@ -117,13 +158,13 @@ fn words_behind_a_word_that_is_no_prefix_are_words(rt: HostRuntime) -> Result<()
         false,
         b"a.a.a;a.a.a:a.a ",
         &[
-            Kind::A,
-            Kind::Dot,
-            Kind::A,
-            Kind::Dot,
-            Kind::A,
-            Kind::Semicolon,
-            Kind::PnameLn,
+            TokenKind::A,
+            TokenKind::Dot,
+            TokenKind::A,
+            TokenKind::Dot,
+            TokenKind::A,
+            TokenKind::Semicolon,
+            TokenKind::PnameLn,
         ],
     )?;
     expect(
@@ -132,11 +173,11 @@ fn words_behind_a_word_that_is_no_prefix_are_words(rt: HostRuntime) -> Result<()
         false,
         b"true.a;a.b:c ",
         &[
-            Kind::True,
-            Kind::Dot,
-            Kind::A,
-            Kind::Semicolon,
-            Kind::PnameLn,
+            TokenKind::True,
+            TokenKind::Dot,
+            TokenKind::A,
+            TokenKind::Semicolon,
+            TokenKind::PnameLn,
         ],
     )?;
     refuse(&rt, alloc, b"a.a.true.b.a ", 9)
@@ -167,34 +208,38 @@ fn a_token_is_given_once_it_is_settled(rt: HostRuntime) -> Result<(), Fail> {
 #[test]
 fn strings_end_as_the_grammar_says(rt: HostRuntime) -> Result<(), Fail> {
     let alloc = rt.alloc();
-    expect(&rt, alloc, false, b"\"\"", &[Kind::StringLiteralQuote])?;
+    expect(&rt, alloc, false, b"\"\"", &[TokenKind::StringLiteralQuote])?;
     expect(
         &rt,
         alloc,
         false,
         b"'a\\'\\u00e9'",
-        &[Kind::StringLiteralSingleQuote],
+        &[TokenKind::StringLiteralSingleQuote],
     )?;
     expect(
         &rt,
         alloc,
         false,
         b"\"\"\"a\"b\"\"c\n\"\"\"",
-        &[Kind::StringLiteralLongQuote],
+        &[TokenKind::StringLiteralLongQuote],
     )?;
     expect(
         &rt,
         alloc,
         false,
         b"''''''.",
-        &[Kind::StringLiteralLongSingleQuote, Kind::Dot],
+        &[TokenKind::StringLiteralLongSingleQuote, TokenKind::Dot],
     )?;
     expect(
         &rt,
         alloc,
         false,
         b"'x'@en-GB^^",
-        &[Kind::StringLiteralSingleQuote, Kind::LangTag, Kind::Carets],
+        &[
+            TokenKind::StringLiteralSingleQuote,
+            TokenKind::LangTag,
+            TokenKind::Carets,
+        ],
     )?;
     refuse(&rt, alloc, b"a \"\"\"b\"\"", 1)?;
     refuse(&rt, alloc, b"<a> 'b\n'", 3)?;
@@ -209,7 +254,7 @@ fn white_space_and_comments_part_tokens(rt: HostRuntime) -> Result<(), Fail> {
         alloc,
         false,
         b" <a#b>#c . d\r\n; # end",
-        &[Kind::IriRef, Kind::Semicolon],
+        &[TokenKind::IriRef, TokenKind::Semicolon],
     )?;
     expect(
         &rt,
@@ -217,11 +262,11 @@ fn white_space_and_comments_part_tokens(rt: HostRuntime) -> Result<(), Fail> {
         false,
         "é:ü[]()".as_bytes(),
         &[
-            Kind::PnameLn,
-            Kind::OpenBracket,
-            Kind::CloseBracket,
-            Kind::OpenParenthesis,
-            Kind::CloseParenthesis,
+            TokenKind::PnameLn,
+            TokenKind::OpenBracket,
+            TokenKind::CloseBracket,
+            TokenKind::OpenParenthesis,
+            TokenKind::CloseParenthesis,
         ],
     )?;
     expect(
@@ -229,7 +274,12 @@ fn white_space_and_comments_part_tokens(rt: HostRuntime) -> Result<(), Fail> {
         alloc,
         false,
         b"@prefix : BASE pReFiX",
-        &[Kind::LangTag, Kind::PnameNs, Kind::Base, Kind::Prefix],
+        &[
+            TokenKind::LangTag,
+            TokenKind::PnameNs,
+            TokenKind::Base,
+            TokenKind::Prefix,
+        ],
     )?;
     refuse(&rt, alloc, b"a # \xff\n", 1)?;
     refuse(&rt, alloc, b". \xc3", 1)?;
@@ -247,13 +297,13 @@ fn updates_have_words_braces_and_variables(rt: HostRuntime) -> Result<(), Fail> 
         true,
         b"insert DATA{?x $y1 a:b}",
         &[
-            Kind::Insert,
-            Kind::Data,
-            Kind::OpenBrace,
-            Kind::Var,
-            Kind::Var,
-            Kind::PnameLn,
-            Kind::CloseBrace,
+            TokenKind::Insert,
+            TokenKind::Data,
+            TokenKind::OpenBrace,
+            TokenKind::Var,
+            TokenKind::Var,
+            TokenKind::PnameLn,
+            TokenKind::CloseBrace,
         ],
     )?;
     expect(
@@ -262,17 +312,17 @@ fn updates_have_words_braces_and_variables(rt: HostRuntime) -> Result<(), Fail> 
         true,
         b"delete where graph load clear drop create add move copy with",
         &[
-            Kind::Delete,
-            Kind::Where,
-            Kind::Graph,
-            Kind::Load,
-            Kind::Clear,
-            Kind::Drop,
-            Kind::Create,
-            Kind::Add,
-            Kind::Move,
-            Kind::Copy,
-            Kind::With,
+            TokenKind::Delete,
+            TokenKind::Where,
+            TokenKind::Graph,
+            TokenKind::Load,
+            TokenKind::Clear,
+            TokenKind::Drop,
+            TokenKind::Create,
+            TokenKind::Add,
+            TokenKind::Move,
+            TokenKind::Copy,
+            TokenKind::With,
         ],
     )
 }

@@ -9,7 +9,7 @@ use crate::runs::{iri_run, name_run, string_run};
 use crate::states::{State, Text, accepts, next, start_of};
 use crate::symbols::{Symbol, front_at};
 
-/// Where the automaton stands behind so many bytes, and the longest token so far, by its bytes.
+/// Where the automaton stands after so many bytes, and the longest token so far, by its bytes.
 #[derive(Clone, Copy, Debug)]
 pub struct Scan {
     pub state: State,
@@ -53,7 +53,7 @@ impl Scan {
         }
     }
 
-    /// At a place behind, in the same state.
+    /// At a place after, in the same state.
     fn stay(self, len: usize) -> Self
         requires best { self.best_len ≤ self.len }
         requires behind { self.len ≤ len }

@@ -48,7 +48,7 @@ pub enum State {
     Hex(Text, Left),
     /// Behind a token that no character goes on with.
     Ended(Terminal),
-    /// Behind a quote that opens a string, behind two, and behind three.
+    /// Behind a quote that opens a string, after two, and after three.
     First(Mark),
     Empty(Mark),
     Opened(Mark),
@@ -73,7 +73,7 @@ pub enum State {
     Exponent,
     ExponentSign,
     ExponentDigits,
-    /// In a word, behind dots in it, and behind characters after them: a prefix, if `:` comes.
+    /// In a word, after dots in it, and after characters after them: a prefix, if `:` comes.
     Word,
     WordDots,
     WordMore,
@@ -260,7 +260,7 @@ fn local(c: char) -> Option<State>
     }
 }
 
-/// The state behind a character; none where no token goes on so.
+/// The state after a character; none where no token goes on so.
 pub fn next(state: State, c: char) -> Option<State>
     ensures { result ≡ spec.next state c }
 {

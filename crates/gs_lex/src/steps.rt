@@ -3,7 +3,7 @@ ghost use Rattle.std.specs.Prelude.{◌≡◌, ◌≤◌, ◌-◌, ◌⊎◌, ma
 ghost use Rattle.gs_lex.specs.Readings.{BeginsToken, IsRead, StepFits, StepMoves};
 
 use crate::classes::is_line_end;
-use crate::kinds::{Kind, Terminal};
+use crate::kinds::{Terminal, TokenKind};
 use crate::runs::{comment_run, is_space, space_run};
 use crate::scans::{Scan, read_on};
 use crate::symbols::{Symbol, front_at};
@@ -21,7 +21,7 @@ pub struct Reading {
     pub place: u64,
     /// The place where the last token ends.
     pub last: u64,
-    /// How many bytes behind the cut were read in vain by the scan of a token that ends before it:
+    /// How many bytes after the cut were read in vain by the scan of a token that ends before it:
     /// no prefix ends there, nor does one go on from there.
     pub barren: usize,
     /// How far the next token is read.
@@ -30,10 +30,10 @@ pub struct Reading {
 
 /// What stands next in a text.
 pub enum Step {
-    /// So many bytes that are no part of a token, and whether a comment goes on behind them.
+    /// So many bytes that are no part of a token, and whether a comment goes on after them.
     Passed(usize, bool),
-    /// A token of so many bytes, and how many bytes behind it are barren.
-    Found(Kind, usize, usize),
+    /// A token of so many bytes, and how many bytes after it are barren.
+    Found(TokenKind, usize, usize),
     Fault,
     /// Nothing, at the end of the whole text.
     End,
@@ -72,7 +72,7 @@ fn comment_step(rest: &[u8], at: Reading, is_end: bool) -> Step
     }
 }
 
-/// How many bytes are barren behind the longest token that a scan has found, where so many were at
+/// How many bytes are barren after the longest token that a scan has found, where so many were at
 /// its start. Behind a word that is no prefix, so are all that were read.
 fn barren_behind(barren: usize, scan: Scan, terminal: Terminal) -> usize
     requires { scan.best_len ≤ scan.len }

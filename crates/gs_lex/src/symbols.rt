@@ -47,7 +47,7 @@ fn front(text: &[u8]) -> Symbol
     }
 }
 
-/// The character behind so many bytes.
+/// The character after so many bytes.
 #[inline]
 pub fn front_at(text: &[u8], at: usize) -> Symbol
     requires { at ≤ length text.now }

@@ -3,7 +3,7 @@ ghost use Rattle.std.specs.Prelude.{◌≡◌, IfOk, length};
 ghost use Rattle.gs_lex.specs.Tokens.{lexeme_at, behind};
 ghost use Rattle.gs_lex.specs.Lexemes.{lexeme_of};
 
-use crate::kinds::Kind;
+use crate::kinds::TokenKind;
 use crate::words::has_text;
 use std::alloc::{AllocError, Global};
 
@@ -11,7 +11,7 @@ use std::alloc::{AllocError, Global};
 /// greatest `u64`.
 #[derive(Debug, Drop)]
 pub struct Token {
-    pub kind: Kind,
+    pub kind: TokenKind,
     /// Its bytes with all delimiters and escapes, where the kind leaves them open; else nothing.
     pub text: Vec<u8>,
     /// The number of bytes before it.
@@ -20,7 +20,7 @@ pub struct Token {
     pub end: u64,
 }
 
-/// The place behind so many bytes more.
+/// The place after so many bytes more.
 #[inline]
 pub fn place_behind(place: u64, count: usize) -> u64
     ensures { result ≡ behind place count }
@@ -29,7 +29,12 @@ pub fn place_behind(place: u64, count: usize) -> u64
 }
 
 /// The token of these bytes at a place. Punctuation and words take no memory.
-pub fn token_at(alloc: Global, kind: Kind, start: u64, bytes: &[u8]) -> Result<Token, AllocError>
+pub fn token_at(
+    alloc: Global,
+    kind: TokenKind,
+    start: u64,
+    bytes: &[u8],
+) -> Result<Token, AllocError>
     ensures { IfOk result (λ t. lexeme_of t ≡ lexeme_at kind start bytes.now) }
 {
     let end = place_behind(start, bytes.len());

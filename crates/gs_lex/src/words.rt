@@ -2,7 +2,7 @@
 ghost use Rattle.std.specs.Prelude.{◌≡◌, bytes_eq};
 ghost use Rattle.gs_lex.specs.Tokens as spec;
 
-use crate::kinds::{Kind, Terminal};
+use crate::kinds::{Terminal, TokenKind};
 
 fn is_text(text: &[u8], word: &[u8]) -> bool
     ensures { result ≡ bytes_eq text.now word.now }
@@ -17,61 +17,61 @@ fn is_word(text: &[u8], word: &[u8]) -> bool
     text.eq_ignore_ascii_case(word)
 }
 
-fn directive(text: &[u8]) -> Option<Kind>
+fn directive(text: &[u8]) -> Option<TokenKind>
     ensures { result ≡ spec.directive text.now }
 {
     if is_word(text, b"prefix") {
-        Some(Kind::Prefix)
+        Some(TokenKind::Prefix)
     } else if is_word(text, b"base") {
-        Some(Kind::Base)
+        Some(TokenKind::Base)
     } else {
         None
     }
 }
 
-fn update_word(text: &[u8]) -> Option<Kind>
+fn update_word(text: &[u8]) -> Option<TokenKind>
     ensures { result ≡ spec.update_word text.now }
 {
     if is_word(text, b"insert") {
-        Some(Kind::Insert)
+        Some(TokenKind::Insert)
     } else if is_word(text, b"delete") {
-        Some(Kind::Delete)
+        Some(TokenKind::Delete)
     } else if is_word(text, b"data") {
-        Some(Kind::Data)
+        Some(TokenKind::Data)
     } else if is_word(text, b"where") {
-        Some(Kind::Where)
+        Some(TokenKind::Where)
     } else if is_word(text, b"graph") {
-        Some(Kind::Graph)
+        Some(TokenKind::Graph)
     } else if is_word(text, b"load") {
-        Some(Kind::Load)
+        Some(TokenKind::Load)
     } else if is_word(text, b"clear") {
-        Some(Kind::Clear)
+        Some(TokenKind::Clear)
     } else if is_word(text, b"drop") {
-        Some(Kind::Drop)
+        Some(TokenKind::Drop)
     } else if is_word(text, b"create") {
-        Some(Kind::Create)
+        Some(TokenKind::Create)
     } else if is_word(text, b"add") {
-        Some(Kind::Add)
+        Some(TokenKind::Add)
     } else if is_word(text, b"move") {
-        Some(Kind::Move)
+        Some(TokenKind::Move)
     } else if is_word(text, b"copy") {
-        Some(Kind::Copy)
+        Some(TokenKind::Copy)
     } else if is_word(text, b"with") {
-        Some(Kind::With)
+        Some(TokenKind::With)
     } else {
         directive(text)
     }
 }
 
-fn word(updates: bool, text: &[u8]) -> Option<Kind>
+fn word(updates: bool, text: &[u8]) -> Option<TokenKind>
     ensures { result ≡ spec.word updates text.now }
 {
     if is_text(text, b"a") {
-        Some(Kind::A)
+        Some(TokenKind::A)
     } else if is_text(text, b"true") {
-        Some(Kind::True)
+        Some(TokenKind::True)
     } else if is_text(text, b"false") {
-        Some(Kind::False)
+        Some(TokenKind::False)
     } else if updates {
         update_word(text)
     } else {
@@ -81,56 +81,56 @@ fn word(updates: bool, text: &[u8]) -> Option<Kind>
 
 /// The kind of a token of these bytes. A word that is none of the grammar's has none, nor have
 /// three quotes whose string does not end.
-pub fn kind_of(updates: bool, terminal: Terminal, text: &[u8]) -> Option<Kind>
+pub fn kind_of(updates: bool, terminal: Terminal, text: &[u8]) -> Option<TokenKind>
     ensures { result ≡ spec.kind_of updates terminal text.now }
 {
     match terminal {
-        Terminal::IriRef => Some(Kind::IriRef),
-        Terminal::PnameNs => Some(Kind::PnameNs),
-        Terminal::PnameLn => Some(Kind::PnameLn),
-        Terminal::BlankNodeLabel => Some(Kind::BlankNodeLabel),
-        Terminal::LangTag => Some(Kind::LangTag),
-        Terminal::Integer => Some(Kind::Integer),
-        Terminal::Decimal => Some(Kind::Decimal),
-        Terminal::Double => Some(Kind::Double),
-        Terminal::StringLiteralQuote => Some(Kind::StringLiteralQuote),
-        Terminal::StringLiteralSingleQuote => Some(Kind::StringLiteralSingleQuote),
-        Terminal::StringLiteralLongQuote => Some(Kind::StringLiteralLongQuote),
-        Terminal::StringLiteralLongSingleQuote => Some(Kind::StringLiteralLongSingleQuote),
-        Terminal::Var => Some(Kind::Var),
+        Terminal::IriRef => Some(TokenKind::IriRef),
+        Terminal::PnameNs => Some(TokenKind::PnameNs),
+        Terminal::PnameLn => Some(TokenKind::PnameLn),
+        Terminal::BlankNodeLabel => Some(TokenKind::BlankNodeLabel),
+        Terminal::LangTag => Some(TokenKind::LangTag),
+        Terminal::Integer => Some(TokenKind::Integer),
+        Terminal::Decimal => Some(TokenKind::Decimal),
+        Terminal::Double => Some(TokenKind::Double),
+        Terminal::StringLiteralQuote => Some(TokenKind::StringLiteralQuote),
+        Terminal::StringLiteralSingleQuote => Some(TokenKind::StringLiteralSingleQuote),
+        Terminal::StringLiteralLongQuote => Some(TokenKind::StringLiteralLongQuote),
+        Terminal::StringLiteralLongSingleQuote => Some(TokenKind::StringLiteralLongSingleQuote),
+        Terminal::Var => Some(TokenKind::Var),
         Terminal::Word => word(updates, text),
         Terminal::Opening => None,
-        Terminal::Dot => Some(Kind::Dot),
-        Terminal::Semicolon => Some(Kind::Semicolon),
-        Terminal::Comma => Some(Kind::Comma),
-        Terminal::OpenBracket => Some(Kind::OpenBracket),
-        Terminal::CloseBracket => Some(Kind::CloseBracket),
-        Terminal::OpenParenthesis => Some(Kind::OpenParenthesis),
-        Terminal::CloseParenthesis => Some(Kind::CloseParenthesis),
-        Terminal::Carets => Some(Kind::Carets),
-        Terminal::OpenBrace => Some(Kind::OpenBrace),
-        Terminal::CloseBrace => Some(Kind::CloseBrace),
+        Terminal::Dot => Some(TokenKind::Dot),
+        Terminal::Semicolon => Some(TokenKind::Semicolon),
+        Terminal::Comma => Some(TokenKind::Comma),
+        Terminal::OpenBracket => Some(TokenKind::OpenBracket),
+        Terminal::CloseBracket => Some(TokenKind::CloseBracket),
+        Terminal::OpenParenthesis => Some(TokenKind::OpenParenthesis),
+        Terminal::CloseParenthesis => Some(TokenKind::CloseParenthesis),
+        Terminal::Carets => Some(TokenKind::Carets),
+        Terminal::OpenBrace => Some(TokenKind::OpenBrace),
+        Terminal::CloseBrace => Some(TokenKind::CloseBrace),
     }
 }
 
 /// Whether the kind leaves the token's text open.
-pub fn has_text(kind: Kind) -> bool
+pub fn has_text(kind: TokenKind) -> bool
     ensures { result ≡ spec.has_text kind }
 {
     match kind {
-        Kind::IriRef
-        | Kind::PnameNs
-        | Kind::PnameLn
-        | Kind::BlankNodeLabel
-        | Kind::LangTag
-        | Kind::Integer
-        | Kind::Decimal
-        | Kind::Double
-        | Kind::StringLiteralQuote
-        | Kind::StringLiteralSingleQuote
-        | Kind::StringLiteralLongQuote
-        | Kind::StringLiteralLongSingleQuote
-        | Kind::Var => true,
+        TokenKind::IriRef
+        | TokenKind::PnameNs
+        | TokenKind::PnameLn
+        | TokenKind::BlankNodeLabel
+        | TokenKind::LangTag
+        | TokenKind::Integer
+        | TokenKind::Decimal
+        | TokenKind::Double
+        | TokenKind::StringLiteralQuote
+        | TokenKind::StringLiteralSingleQuote
+        | TokenKind::StringLiteralLongQuote
+        | TokenKind::StringLiteralLongSingleQuote
+        | TokenKind::Var => true,
         _ => false,
     }
 }

@@ -20,7 +20,7 @@ unfoldable pub rest : {S I O E : Type 0} → Machine S I O E → S → List I �
 rest m s [] = m.ended s
 rest m s (i ∷ is) = joined (m.step s i).1 (rest m (m.step s i).0 is)
 
--- One machine behind another: what the first gives, the second takes.
+-- One machine after another: what the first gives, the second takes.
 unfoldable pub behind : {S T I M O E F : Type 0} → Machine S I M E → Machine T M O F → Machine (S × T) I O F
 behind a b = record {
   step = λ s i. let u = a.step s.0 i in let v = steps b s.1 u.1 in ((u.0, v.0), v.1);

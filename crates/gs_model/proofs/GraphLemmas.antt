@@ -14,7 +14,7 @@ use Rattle.std.specs.Cmp.Lexicographic.{slice_cmp}
 use Rattle.gs_model.specs.Terms.{text_of}
 use Rattle.gs_model.proofs.TextLemmas.{text_of-injective}
 use Rattle.gs_model.specs.Graphs.{Graph, empty_graph, triples_of, graph_of, as_entry, size_of}
-use Rattle.gs_model.specs.Triples.{Statement as Triple, triple_cmp}
+use Rattle.gs_model.specs.Triples.{RdfTriple as Triple, triple_cmp}
 
 pub triple_total : IsTotalOrder triple_cmp
 triple_total = then_total (on_total (λ (t : Triple). text_of t.subject) nat_list_cmp_total) (then_total (on_total (λ (t : Triple). text_of t.predicate) nat_list_cmp_total) (on_total (λ (t : Triple). text_of t.object) nat_list_cmp_total))

@@ -8,9 +8,9 @@ use Rattle.gs_model.specs.Iris.{is_absolute, is_letter, is_scheme_char, is_schem
 use Rattle.std.specs.Str.{bytes_eq}
 use Rattle.gs_model.specs.Terms.{Term, Iri, Blank, Literal, LiteralKind, Typed, Tagged, text_of, numeral, IsTerm, escape_of, escaped, is_tag_rest, is_kind, suffix, xsd_string}
 use Rattle.gs_model.specs.Texts.{front, split_first, term_of}
-use Rattle.gs_model.specs.Triples.{Statement, IsTriple, line_of, is_subject, is_iri}
+use Rattle.gs_model.specs.Triples.{RdfTriple, IsTriple, line_of, is_subject, is_iri}
 use Rattle.gs_model.proofs.TextLemmas.{AllOther, front-snoc, split_first-other, term_of-text_of, other-numeral}
-use Rattle.gs_model.specs.Texts.{statement_of}
+use Rattle.gs_model.specs.Texts.{triple_of}
 
 both : (a b : Bool) → (a && b) ≡ true → (a ≡ true) × (b ≡ true)
 both true b e = (refl, e)
@@ -57,9 +57,9 @@ last_three xs a b c =
     ap (λ z. front (front (front z))) (sym (append_assoc xs (a ∷ b ∷ []) (c ∷ []))) ∙ ap (λ z. front (front z)) (front-snoc (xs ++ a ∷ b ∷ []) c)
     ∙ ap (λ z. front (front z)) (sym (append_assoc xs (a ∷ []) (b ∷ []))) ∙ ap front (front-snoc (xs ++ a ∷ []) b) ∙ front-snoc xs a
 
-pub statement_of-line_of : (t : Statement) → IsTriple t → statement_of (line_of t) ≡ t
-unfolding statement_of
-statement_of-line_of t ok =
+pub triple_of-line_of : (t : RdfTriple) → IsTriple t → triple_of (line_of t) ≡ t
+unfolding triple_of
+triple_of-line_of t ok =
     let kinds = both (is_subject t.subject) (is_iri t.predicate) ok.kinds in
     let ends = 32 ∷ 46 ∷ 10 ∷ [] in
     let after_p = text_of t.object ++ ends in
@@ -75,8 +75,8 @@ statement_of-line_of t ok =
     ap (λ q. term_of (front (front (front q.1)))) both_parts ∙ ap term_of (last_three (text_of t.object) 32 46 10) ∙ term_of-text_of t.object in
     λ i. record { subject = s_is i; predicate = p_is i; object = o_is i }
 
-pub line_of-injective : (t u : Statement) → IsTriple t → IsTriple u → line_of t ≡ line_of u → t ≡ u
-line_of-injective t u a b e = sym (statement_of-line_of t a) ∙ ap statement_of e ∙ statement_of-line_of u b
+pub line_of-injective : (t u : RdfTriple) → IsTriple t → IsTriple u → line_of t ≡ line_of u → t ≡ u
+line_of-injective t u a b e = sym (triple_of-line_of t a) ∙ ap triple_of e ∙ triple_of-line_of u b
 
 escape_others : (c : ℕ) → AllOther 10 (escape_of c)
 escape_others c =

@@ -5,7 +5,7 @@ use Rattle.std.specs.Coded.{Coded, code_by, coded×, coded⊎, coded_list, coded
 use Rattle.std.specs.FinMap as map
 use base.Stored.{coded_unit}
 use Rattle.gs_model.specs.Terms.{Term, Iri, Blank, Literal, LiteralKind, Typed, Tagged}
-use Rattle.gs_model.specs.Triples.{Statement}
+use Rattle.gs_model.specs.Triples.{RdfTriple}
 use Rattle.gs_model.specs.Graphs.{Graph}
 
 abbrev pub Parts : Type 0
@@ -41,7 +41,7 @@ text_code = coded_list coded_ℕ
 abbrev pub term_code : Coded Term
 term_code = code_by Parts (coded⊎ (coded⊎ text_code (coded× coded_ℕ coded_ℕ)) (coded× text_code (coded⊎ text_code text_code))) term_parts term_from term_back
 
-abbrev pub triple_code : Coded Statement
+abbrev pub triple_code : Coded RdfTriple
 triple_code =
     code_by (Term × (Term × Term)) (coded× term_code (coded× term_code term_code))
     (λ t. (t.subject, (t.predicate, t.object)))

@@ -4,7 +4,7 @@ use Rattle.std.specs.Prelude.{◌≡◌, ℕ, ◌≤◌, Bool, true, false, if�
 use Rattle.std.specs.List.{list_all}
 use Rattle.std.specs.Str.{IsUtf8}
 use Rattle.gs_model.specs.Characters.{is_iri_char}
-use Rattle.gs_model.specs.declared.limits.TheConstants.{LONGEST_NAME}
+use Rattle.gs_model.specs.Limits.{max_name_bytes}
 
 -- ALPHA
 abbrev pub is_letter : ℕ → Bool
@@ -38,4 +38,4 @@ pub record IsAbsolute (text : List ℕ) : Type 0 where
 pub record IsName (text : List ℕ) : Type 0 where
   pub absolute : is_absolute text ≡ true
   pub spelled : IsUtf8 text
-  pub short : length text ≤ LONGEST_NAME
+  pub short : length text ≤ max_name_bytes

@@ -1,4 +1,5 @@
 -- Read in this order: what a character, an IRI, a term, its text, a triple and a graph are.
+pub mod Limits
 pub mod Refusals
 pub mod Characters
 pub mod Iris

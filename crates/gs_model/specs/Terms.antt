@@ -3,7 +3,7 @@ use Rattle.std.specs.Prelude.{◌≡◌, ℕ, ◌+◌, ◌^◌, ◌≤◌, Bool,
 use Rattle.std.specs.Int.Digits.{digits_of}
 use Rattle.std.specs.Str.{IsUtf8, bytes_eq}
 use Rattle.gs_model.specs.Iris.{is_absolute}
-use Rattle.gs_model.specs.declared.limits.TheConstants.{LONGEST_TERM}
+use Rattle.gs_model.specs.Limits.{max_term_bytes}
 
 -- what a literal has besides its lexical form (3.3): its datatype's IRI, or a language tag in lower case
 pub data LiteralKind : Type 0 where
@@ -38,7 +38,7 @@ escaped (c ∷ cs) = escape_of c ++ escaped cs
 unfoldable pub numeral : ℕ → List ℕ
 numeral n = if n == 0 then 48 ∷ [] else map (λ d. 48 + d) (digits_of 10 n)
 
--- what stands behind the closing quote
+-- what stands after the closing quote
 unfoldable pub suffix : LiteralKind → List ℕ
 suffix (Typed d) = if bytes_eq d xsd_string then [] else 94 ∷ 94 ∷ 60 ∷ d ++ 62 ∷ []
 suffix (Tagged t) = 64 ∷ t
@@ -62,7 +62,7 @@ is_tag_rest digits begun (c ∷ cs) =
     if (nat_le 97 c && nat_le c 122) || (digits && (nat_le 48 c && nat_le c 57)) then is_tag_rest digits true cs
     else (c == 45 && begun) && is_tag_rest true false cs
 
--- LANGTAG behind its '@' (Turtle [144s]) in lower case: letters, then parts of letters and digits, each behind a '-'
+-- LANGTAG after its '@' (Turtle [144s]) in lower case: letters, then parts of letters and digits, each after a '-'
 abbrev pub is_tag : List ℕ → Bool
 is_tag tag = is_tag_rest false false tag
 
@@ -90,7 +90,7 @@ IsText (Literal lexical kind) = IsUtf8 lexical × IsKindText kind
 pub record IsTerm (t : Term) : Type 0 where
   pub formed : is_term t ≡ true
   pub spelled : IsText t
-  pub short : length (text_of t) ≤ LONGEST_TERM
+  pub short : length (text_of t) ≤ max_term_bytes
 
 -- a byte that is escaped
 abbrev pub is_escaped : ℕ → Bool

@@ -2,7 +2,7 @@
 use Rattle.std.specs.Prelude.{◌≡◌, ℕ, ◌-◌, Bool, true, false, if◌then◌else◌, ◌==◌, List, [], ◌∷◌, map, drop}
 use Rattle.std.specs.Int.Digits.{number_from_digits}
 use Rattle.gs_model.specs.Terms.{Term, Iri, Blank, Literal, LiteralKind, Typed, Tagged, xsd_string, text_of, IsTerm}
-use Rattle.gs_model.specs.Triples.{Statement}
+use Rattle.gs_model.specs.Triples.{RdfTriple}
 
 -- all but the last
 abbrev pub front : List ℕ → List ℕ
@@ -22,7 +22,7 @@ number_of ds = number_from_digits 10 (map (λ d. d - 48) ds)
 abbrev pub escape_meaning : ℕ → ℕ
 escape_meaning c = if c == 110 then 10 else if c == 114 then 13 else c
 
--- the lexical form up to its closing quote, and the text behind the quote; whether a backslash stands before
+-- the lexical form up to its closing quote, and the text after the quote; whether a backslash stands before
 abbrev pub lexical_of : Bool → List ℕ → List ℕ × List ℕ
 lexical_of behind [] = ([], [])
 lexical_of true (c ∷ cs) = (escape_meaning c ∷ (lexical_of false cs).0, (lexical_of false cs).1)
@@ -55,8 +55,8 @@ pub record IsCanonical (bytes : List ℕ) : Type 0 where
   pub valid : IsTerm (term_of bytes)
 
 -- the triple of a line: by what stands before the first space, before the second, and before the last three bytes
-unfoldable pub statement_of : List ℕ → Statement
-statement_of line = record {
+unfoldable pub triple_of : List ℕ → RdfTriple
+triple_of line = record {
   subject = term_of (split_first 32 line).0;
   predicate = term_of (split_first 32 (split_first 32 line).1).0;
   object = term_of (front (front (front (split_first 32 (split_first 32 line).1).1)));

@@ -7,7 +7,7 @@ use Rattle.std.specs.declared.cmp.Ordering.{Ordering}
 use Rattle.gs_model.specs.Terms.{Term, Iri, Blank, Literal, text_of, IsTerm}
 
 -- what a triple says: its three terms, of any kinds
-pub record Statement : Type 0 where
+pub record RdfTriple : Type 0 where
   pub subject : Term
   pub predicate : Term
   pub object : Term
@@ -23,11 +23,11 @@ is_subject (Blank r k) = true
 is_subject (Literal lexical kind) = false
 
 -- the subject is an IRI or a blank node, and the predicate is an IRI
-abbrev pub has_kinds : Statement → Bool
+abbrev pub has_kinds : RdfTriple → Bool
 has_kinds t = is_subject t.subject && is_iri t.predicate
 
 -- a triple
-pub record IsTriple (t : Statement) : Type 0 where
+pub record IsTriple (t : RdfTriple) : Type 0 where
   pub kinds : has_kinds t ≡ true
   pub subject_is : IsTerm t.subject
   pub predicate_is : IsTerm t.predicate
@@ -41,9 +41,9 @@ abbrev pub term_eq : Term → Term → Bool
 term_eq t u = bytes_eq (text_of t) (text_of u)
 
 -- triples are ordered by subject, then predicate, then object
-abbrev pub triple_cmp : Statement → Statement → Ordering
+abbrev pub triple_cmp : RdfTriple → RdfTriple → Ordering
 triple_cmp t u = ordering_then (term_cmp t.subject u.subject) (ordering_then (term_cmp t.predicate u.predicate) (term_cmp t.object u.object))
 
--- the canonical line: three texts, each with a space behind it, a dot and a line feed
-abbrev pub line_of : Statement → List ℕ
+-- the canonical line: three texts, each with a space after it, a dot and a line feed
+abbrev pub line_of : RdfTriple → List ℕ
 line_of t = text_of t.subject ++ 32 ∷ text_of t.predicate ++ 32 ∷ text_of t.object ++ 32 ∷ 46 ∷ 10 ∷ []

@@ -3,8 +3,8 @@ ghost use Rattle.std.specs.Prelude.{◌≡◌, ◌==◌, List, ℕ, true, not, s
 ghost use Rattle.std.specs.List.{list_all};
 ghost use Rattle.std.specs.List.Sorted.{IsStrictlySortedBy};
 ghost use Rattle.gs_model.specs.Terms.{Term, text_of, kind_byte, IsTerm};
-ghost use Rattle.gs_model.specs.Texts.{term_of, statement_of};
-ghost use Rattle.gs_model.specs.Triples.{Statement, IsTriple, triple_cmp, line_of};
+ghost use Rattle.gs_model.specs.Texts.{term_of, triple_of};
+ghost use Rattle.gs_model.specs.Triples.{RdfTriple, IsTriple, triple_cmp, line_of};
 ghost use Rattle.gs_model.specs.Graphs.{triples_of, graph_of};
 
 /// Each term is the term of its text, so the texts of two different terms differ.
@@ -25,11 +25,11 @@ pub fn text_has_no_line_feed()
 
 /// Each triple is the triple of its line, so the lines of two different triples differ.
 pub fn line_has_one_triple()
-    ensures one { (t : Statement) → IsTriple t → statement_of (line_of t) ≡ t }
-    ensures distinct { (t u : Statement) → IsTriple t → IsTriple u → line_of t ≡ line_of u → t ≡ u }
+    ensures one { (t : RdfTriple) → IsTriple t → triple_of (line_of t) ≡ t }
+    ensures distinct { (t u : RdfTriple) → IsTriple t → IsTriple u → line_of t ≡ line_of u → t ≡ u }
 {}
 
 /// A strictly rising list of triples is the list of its graph's triples.
 pub fn graph_has_one_list()
-    ensures { (ts : List Statement) → IsStrictlySortedBy triple_cmp ts → triples_of (graph_of ts) ≡ ts }
+    ensures { (ts : List RdfTriple) → IsStrictlySortedBy triple_cmp ts → triples_of (graph_of ts) ≡ ts }
 {}

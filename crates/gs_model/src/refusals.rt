@@ -1,5 +1,5 @@
 //! Why a call or an event is refused.
-ghost use Rattle.std.specs.Prelude.{◌≡◌};
+ghost use Rattle.std.specs.Prelude.{◌≡◌, ◌≢◌, IfOk, OnErr};
 
 use std::alloc::{AllocError, AllocFailed};
 use std::error::Error;
@@ -64,6 +64,18 @@ impl Refusal {
             Refusal::NotInProfile => "the update is outside what is served",
             Refusal::Closed => "an earlier call was refused",
         }
+    }
+}
+
+/// Sets want of memory apart from every other outcome, which stays as it is.
+pub fn memory_apart<T>(outcome: Result<T, Refusal>) -> Result<Result<T, Refusal>, AllocError>
+    ensures value { IfOk result (λ other. other ≡ outcome) }
+    ensures apart { IfOk result (λ other. other ≢ Err Refusal.NoMemory) }
+    ensures memory { OnErr result (outcome ≡ Err Refusal.NoMemory) }
+{
+    match outcome {
+        Err(Refusal::NoMemory) => Err(AllocError),
+        other => Ok(other),
     }
 }
 

@@ -1,10 +1,10 @@
--- What is read of a line leaves no line's end behind, and a fault is one.
+-- What is read of a line leaves no line's end after, and a fault is one.
 use Rattle.std.proofs.Common.{◌≡◌, ℕ, ◌-◌, false, List, [], ◌∷◌, length, Option, Some, None, Result, Ok, Err}
 use Rattle.std.specs.Prelude.{◌==◌, ◌&&◌, ◌||◌, nat_le}
 use lib.Utf8.{scalar}
 use Rattle.std.specs.Str.{str_to_ascii_lowercase}
 use Rattle.gs_model.specs.Terms.{Term, Literal, Typed, Tagged, xsd_string, is_term, text_of}
-use Rattle.gs_model.specs.declared.limits.TheConstants.{LONGEST_TERM}
+use Rattle.gs_model.specs.Limits.{max_term_bytes}
 use Rattle.gs_body.specs.Bodies.{Ending, Whole, Syntax, TooLong}
 use Rattle.gs_ntterm.specs.Marks.{Mark}
 use Rattle.gs_ntterm.specs.Classes.{is_space, is_line_end, may_stand_in_iri, may_stand_in_string, is_hex, with_digit, is_label_char, begins_label, is_tag_char}
@@ -23,7 +23,7 @@ IsFault Whole = ⊥
 IsFault Syntax = Unit {0}
 IsFault TooLong = Unit {0}
 
--- no character of the text behind what was read ends a line
+-- no character of the text after what was read ends a line
 abbrev pub KeepsLine : {A : Type 0} → Read A → Type 0
 KeepsLine (Err e) = IsFault e
 KeepsLine (Ok r) = NoEnd r.1
@@ -90,10 +90,10 @@ keeps_skip (m ∷ ms) (more h n) = either_way NoEnd (is_space m.0) _ _ (keeps_sk
 pub keeps_made : (y : List Mark) (t : Term) → NoEnd y → KeepsLine (before_text y (made t))
 keeps_made y t n =
     either_way (λ (r : Result Term Ending). KeepsLine (before_text y r)) (is_term t) _ _
-    (either_way (λ (r : Result Term Ending). KeepsLine (before_text y r)) (nat_le (length (text_of t)) LONGEST_TERM) _ _ n tt) tt
+    (either_way (λ (r : Result Term Ending). KeepsLine (before_text y r)) (nat_le (length (text_of t)) max_term_bytes) _ _ n tt) tt
 
 pub keeps_label_made : (y : List Mark) (label : List ℕ) → NoEnd y → KeepsLine (before_text y (label_made label))
-keeps_label_made y label h = either_way (λ (r : Result Word Ending). KeepsLine (before_text y r)) (nat_le (length label) LONGEST_TERM) (Ok (Labelled label)) (Err TooLong) h tt
+keeps_label_made y label h = either_way (λ (r : Result Word Ending). KeepsLine (before_text y r)) (nat_le (length label) max_term_bytes) (Ok (Labelled label)) (Err TooLong) h tt
 
 keeps_typed : (l : List ℕ) (r : Read (List ℕ)) → KeepsLine r → KeepsLine (r >>= λ i. before_text i.1 (typed_made l i.0))
 keeps_typed l (Err e) h = h

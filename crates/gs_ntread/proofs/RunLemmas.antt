@@ -9,7 +9,7 @@ use lib.Utf8.{scalar}
 use Rattle.gs_model.specs.Characters.{is_iri_char, in_ranges, pn_chars}
 use Rattle.gs_machine.specs.Machines.{steps}
 use Rattle.gs_machine.specs.Utf8.{Decoding, Ready, Within, Lost, is_ready_of, decode_step}
-use Rattle.gs_body.specs.Bodies.{Stated, Syntax}
+use Rattle.gs_body.specs.Bodies.{Statement, Syntax}
 use Rattle.gs_blank.specs.Numbers.{Numbers}
 use Rattle.gs_ntterm.specs.Marks.{counted, end_of}
 use Rattle.gs_ntterm.specs.Classes.{is_space, is_line_end, may_stand_in_iri, may_stand_in_string, is_label_char, may_stand_in_comment}
@@ -132,7 +132,7 @@ byte_goes : (r n : ℕ) (q q' : State) (m : Numbers) (b : ℕ) → b < 128 → t
     → (ntriples r).step (Ready, (n, (q, m))) b ≡ ((Ready, (end_of n b, (q', m))), [])
 byte_goes r n q q' m b l e =
     byte-some r Ready Ready (n, (q, m)) b b (at_ascii b l)
-    ∙ ap (λ (u : Placed × List Stated). ((Ready, u.0), u.1)) (character-none r n q q' m b (sym e))
+    ∙ ap (λ (u : Placed × List Statement). ((Ready, u.0), u.1)) (character-none r n q q' m b (sym e))
 
 length_one : (b : ℕ) → b < 128 → len_utf8 b ≡ 1
 length_one b l = grind (arith, nat_tests)
@@ -148,7 +148,7 @@ ran r n q _ m [] (stays _) h = ap (λ k. ((Ready, (k, (q, m))), [])) (omega arit
 ran r n q q' m (b ∷ bs) (goes _ q2 _ _ _ l f s) h =
     let e = byte_goes r n q q2 m b l (f (end_of n b)) in
     let k : end_of n b ≡ counted (n + 1) = ap (λ x. counted (n + x)) (length_one b l) in
-    ap (λ (t : Led × List Stated). ((steps (ntriples r) t.0 bs).0, t.1 ++ (steps (ntriples r) t.0 bs).1)) e
+    ap (λ (t : Led × List Statement). ((steps (ntriples r) t.0 bs).0, t.1 ++ (steps (ntriples r) t.0 bs).1)) e
     ∙ ran r (end_of n b) q2 q' m bs s (omega arith)
     ∙ ap (λ x. ((Ready, (counted (x + length bs), (q', m))), [])) k
     ∙ ap (λ x. ((Ready, (x, (q', m))), [])) (counted_more n (length bs))

@@ -2,13 +2,13 @@
 use Rattle.std.proofs.Common.{◌≡◌, ℕ, ◌+◌, ◌<◌, false, List, [], ◌++◌, length, take, drop, get_or, refl, sym, ap, subst, ◌∙◌, append_assoc, append-nil, Result, Ok, Err}
 use Rattle.std.proofs.Math.Seq.{take-add}
 use Rattle.std.specs.Prelude.{OnOk, IfErr}
-use Rattle.gs_model.specs.Triples.{Statement}
+use Rattle.gs_model.specs.Triples.{RdfTriple}
 use Rattle.gs_model.specs.declared.refusals.Refusal.{Refusal}
 use Rattle.gs_model.specs.declared.refusals.Refusal.TheVariants as refusal
 use Rattle.gs_machine.specs.Machines.{joined, steps, rest, behind}
 use Rattle.gs_machine.specs.Utf8.{Decoding, Ready, Within, Lost, bad, is_ready_of}
 use Rattle.gs_machine.proofs.MachineLemmas.{steps-snoc, steps-append}
-use Rattle.gs_body.specs.Bodies.{Stated, Said, Ending, Syntax, TooLong, triples_of, end_after}
+use Rattle.gs_body.specs.Bodies.{Statement, Meaning, Ending, Syntax, TooLong, triples_of, end_after}
 use Rattle.gs_body.proofs.LeadingLemmas.{triples_of-append, end_after-append}
 use Rattle.gs_blank.specs.Numbers.{Numbers}
 use Rattle.gs_ntread.specs.States.{State, broken}
@@ -27,27 +27,27 @@ if_err (Ok x) P Q f h = h
 if_err (Err e) P Q f h = f e h
 
 -- nothing was given
-pub took-none : (a b : NTriplesReader) (ts : List Statement) (t : Led × List Stated) → t ≡ (led_of b, []) → b.last ≡ a.last → b.request ≡ a.request → b.is_closed ≡ a.is_closed → Takes a b ts ts t
+pub took-none : (a b : NTriplesReader) (ts : List RdfTriple) (t : Led × List Statement) → t ≡ (led_of b, []) → b.last ≡ a.last → b.request ≡ a.request → b.is_closed ≡ a.is_closed → Takes a b ts ts t
 took-none a b ts t e l r k = record {
-  led = ap (λ (u : Led × List Stated). u.0) (sym e);
-  given = sym (append-nil ts) ∙ ap (λ (u : Led × List Stated). ts ++ triples_of u.1) (sym e);
-  last = l ∙ ap (λ (u : Led × List Stated). end_after a.last u.1) (sym e);
+  led = ap (λ (u : Led × List Statement). u.0) (sym e);
+  given = sym (append-nil ts) ∙ ap (λ (u : Led × List Statement). ts ++ triples_of u.1) (sym e);
+  last = l ∙ ap (λ (u : Led × List Statement). end_after a.last u.1) (sym e);
   request = r;
   closed = k;
 }
 
 -- the same from a reader whose other fields differ
-pub took-from : (a c b : NTriplesReader) (ts us : List Statement) (t u : Led × List Stated) → c.last ≡ a.last → c.request ≡ a.request → c.is_closed ≡ a.is_closed → t ≡ u → Takes c b ts us u → Takes a b ts us t
+pub took-from : (a c b : NTriplesReader) (ts us : List RdfTriple) (t u : Led × List Statement) → c.last ≡ a.last → c.request ≡ a.request → c.is_closed ≡ a.is_closed → t ≡ u → Takes c b ts us u → Takes a b ts us t
 took-from a c b ts us t u l r k e h = record {
-  led = h.led ∙ ap (λ (u : Led × List Stated). u.0) (sym e);
-  given = h.given ∙ ap (λ (u : Led × List Stated). ts ++ triples_of u.1) (sym e);
-  last = h.last ∙ ap (λ n. end_after n u.1) l ∙ ap (λ (u : Led × List Stated). end_after a.last u.1) (sym e);
+  led = h.led ∙ ap (λ (u : Led × List Statement). u.0) (sym e);
+  given = h.given ∙ ap (λ (u : Led × List Statement). ts ++ triples_of u.1) (sym e);
+  last = h.last ∙ ap (λ n. end_after n u.1) l ∙ ap (λ (u : Led × List Statement). end_after a.last u.1) (sym e);
   request = h.request ∙ r;
   closed = h.closed ∙ k;
 }
 
 -- one run after another
-pub took-then : (a b c : NTriplesReader) (o1 o2 o3 : List Statement) (t u : Led × List Stated) → Takes a b o1 o2 t → Takes b c o2 o3 u → Takes a c o1 o3 (u.0, t.1 ++ u.1)
+pub took-then : (a b c : NTriplesReader) (o1 o2 o3 : List RdfTriple) (t u : Led × List Statement) → Takes a b o1 o2 t → Takes b c o2 o3 u → Takes a c o1 o3 (u.0, t.1 ++ u.1)
 took-then a b c o1 o2 o3 t u f g = record {
   led = g.led;
   given = g.given ∙ ap (λ z. z ++ triples_of u.1) f.given ∙ append_assoc o1 (triples_of t.1) (triples_of u.1) ∙ ap (λ z. o1 ++ z) (sym (triples_of-append t.1 u.1));
@@ -57,11 +57,11 @@ took-then a b c o1 o2 o3 t u f g = record {
 }
 
 -- one byte more of a piece
-pub took-more : (a b c : NTriplesReader) (o1 o2 o3 : List Statement) (x : List ℕ) (n : ℕ) → n < length x
+pub took-more : (a b c : NTriplesReader) (o1 o2 o3 : List RdfTriple) (x : List ℕ) (n : ℕ) → n < length x
     → Takes a b o1 o2 (steps (ntriples a.request) (led_of a) (take n x)) → Takes b c o2 o3 ((ntriples b.request).step (led_of b) (get_or x n 0))
     → Takes a c o1 o3 (steps (ntriples a.request) (led_of a) (take (n + 1) x))
 took-more a b c o1 o2 o3 x n h f g =
-    let t : Led × List Stated = steps (ntriples a.request) (led_of a) (take n x) in
+    let t : Led × List Statement = steps (ntriples a.request) (led_of a) (take n x) in
     let g' : Takes b c o2 o3 ((ntriples a.request).step t.0 (get_or x n 0)) =
     subst (λ (r : ℕ). Takes b c o2 o3 ((ntriples r).step t.0 (get_or x n 0))) f.request
     (subst (λ (s : Led). Takes b c o2 o3 ((ntriples b.request).step s (get_or x n 0))) f.led g) in
@@ -69,11 +69,11 @@ took-more a b c o1 o2 o3 x n h f g =
     (took-then a b c o1 o2 o3 t ((ntriples a.request).step t.0 (get_or x n 0)) f g')
 
 -- some bytes more of a piece
-pub took-on : (a b c : NTriplesReader) (o1 o2 o3 : List Statement) (x : List ℕ) (n k : ℕ)
+pub took-on : (a b c : NTriplesReader) (o1 o2 o3 : List RdfTriple) (x : List ℕ) (n k : ℕ)
     → Takes a b o1 o2 (steps (ntriples a.request) (led_of a) (take n x)) → Takes b c o2 o3 (steps (ntriples b.request) (led_of b) (take k (drop n x)))
     → Takes a c o1 o3 (steps (ntriples a.request) (led_of a) (take (n + k) x))
 took-on a b c o1 o2 o3 x n k f g =
-    let t : Led × List Stated = steps (ntriples a.request) (led_of a) (take n x) in
+    let t : Led × List Statement = steps (ntriples a.request) (led_of a) (take n x) in
     let y = take k (drop n x) in
     let g' : Takes b c o2 o3 (steps (ntriples a.request) t.0 y) =
     subst (λ (r : ℕ). Takes b c o2 o3 (steps (ntriples r) t.0 y)) f.request
@@ -82,7 +82,7 @@ took-on a b c o1 o2 o3 x n k f g =
     (took-then a b c o1 o2 o3 t (steps (ntriples a.request) t.0 y) f g')
 
 -- the fault of a state is that of what was given
-pub fault-after : (e : Refusal) (a b : NTriplesReader) (o1 o2 : List Statement) (s : State) (t : Led × List Stated) → Takes a b o1 o2 t → s ≡ (led_of b).1.1.0 → FaultsAs e b.last s → FaultyAfter e a.last t
+pub fault-after : (e : Refusal) (a b : NTriplesReader) (o1 o2 : List RdfTriple) (s : State) (t : Led × List Statement) → Takes a b o1 o2 t → s ≡ (led_of b).1.1.0 → FaultsAs e b.last s → FaultyAfter e a.last t
 fault-after (refusal.Syntax at) a b o1 o2 s t h q f = (sym (ap (λ (l : Led). l.1.1.0) h.led) ∙ sym q ∙ f.0, f.1 ∙ h.last)
 fault-after refusal.TermTooLong a b o1 o2 s t h q f = sym (ap (λ (l : Led). l.1.1.0) h.led) ∙ sym q ∙ f
 fault-after refusal.NoMemory a b o1 o2 s t h q f = tt
@@ -102,7 +102,7 @@ unready r (Within k v l g) p h n = refl
 unready r Lost p h n = absurd (n refl)
 
 -- what the end of a text concludes
-pub concluded : (e : Refusal) (last n : ℕ) (end : Ending) (t : Said) → t.1 ≡ end → n ≡ end_after last t.0 → ConcludesAs e n end → FaultyEnd e last t
+pub concluded : (e : Refusal) (last n : ℕ) (end : Ending) (t : Meaning) → t.1 ≡ end → n ≡ end_after last t.0 → ConcludesAs e n end → FaultyEnd e last t
 concluded (refusal.Syntax at) last n end t p q f = (p ∙ f.0, f.1 ∙ q)
 concluded refusal.TermTooLong last n end t p q f = p ∙ f
 concluded refusal.NoMemory last n end t p q f = tt
@@ -117,9 +117,9 @@ concluded refusal.Closed last n end t p q f = f
 pub broken-end : (e : Refusal) (a : NTriplesReader) → FaultsAs e a.last (state_of a.cursor) → FaultyEnd e a.last (rest (ntriples a.request) (led_of a) [])
 broken-end (refusal.Syntax at) a f =
     let r : rest (ntriples a.request) (led_of a) [] ≡ ([], Syntax) = ap (λ (q : State). rest (ntriples a.request) (a.decoder, (a.read, (q, a.numbering))) []) f.0 ∙ says_nothing a.request a.decoder a.read Syntax a.numbering [] in
-    (ap (λ (s : Said). s.1) r, f.1 ∙ ap (λ (s : Said). end_after a.last s.0) (sym r))
+    (ap (λ (s : Meaning). s.1) r, f.1 ∙ ap (λ (s : Meaning). end_after a.last s.0) (sym r))
 broken-end refusal.TermTooLong a f =
-    ap (λ (s : Said). s.1) (ap (λ (q : State). rest (ntriples a.request) (a.decoder, (a.read, (q, a.numbering))) []) f ∙ says_nothing a.request a.decoder a.read TooLong a.numbering [])
+    ap (λ (s : Meaning). s.1) (ap (λ (q : State). rest (ntriples a.request) (a.decoder, (a.read, (q, a.numbering))) []) f ∙ says_nothing a.request a.decoder a.read TooLong a.numbering [])
 broken-end refusal.NoMemory a f = tt
 broken-end refusal.WrongPhase a f = f
 broken-end refusal.BadSeat a f = f
@@ -129,15 +129,15 @@ broken-end refusal.NotInProfile a f = f
 broken-end refusal.Closed a f = f
 
 -- a text that ends within a character
-pub bad-end : (e : Refusal) (a b : NTriplesReader) (ts us : List Statement) (u : Placed × List Stated) → Takes a b ts us ((a.decoder, u.0), u.1) → FaultsAs e b.last (state_of b.cursor)
+pub bad-end : (e : Refusal) (a b : NTriplesReader) (ts us : List RdfTriple) (u : Placed × List Statement) → Takes a b ts us ((a.decoder, u.0), u.1) → FaultsAs e b.last (state_of b.cursor)
     → FaultyEnd e a.last (joined u.1 (rest (placing a.request) u.0 []))
 bad-end (refusal.Syntax at) a b ts us u h f =
     let q : u.0.1.0 ≡ broken Syntax = sym (ap (λ (l : Led). l.1.1.0) h.led) ∙ f.0 in
     let r : rest (placing a.request) u.0 [] ≡ ([], Syntax) = ap (λ (q : State). rest (placing a.request) (u.0.0, (q, u.0.1.1)) []) q ∙ placing_broken a.request u.0.0 Syntax u.0.1.1 in
-    (ap (λ (s : Said). s.1) r, f.1 ∙ h.last ∙ ap (end_after a.last) (sym (append-nil u.1)) ∙ ap (λ (s : Said). end_after a.last (u.1 ++ s.0)) (sym r))
+    (ap (λ (s : Meaning). s.1) r, f.1 ∙ h.last ∙ ap (end_after a.last) (sym (append-nil u.1)) ∙ ap (λ (s : Meaning). end_after a.last (u.1 ++ s.0)) (sym r))
 bad-end refusal.TermTooLong a b ts us u h f =
     let q : u.0.1.0 ≡ broken TooLong = sym (ap (λ (l : Led). l.1.1.0) h.led) ∙ f in
-    ap (λ (s : Said). s.1) (ap (λ (q : State). rest (placing a.request) (u.0.0, (q, u.0.1.1)) []) q ∙ placing_broken a.request u.0.0 TooLong u.0.1.1)
+    ap (λ (s : Meaning). s.1) (ap (λ (q : State). rest (placing a.request) (u.0.0, (q, u.0.1.1)) []) q ∙ placing_broken a.request u.0.0 TooLong u.0.1.1)
 bad-end refusal.NoMemory a b ts us u h f = tt
 bad-end refusal.WrongPhase a b ts us u h f = f
 bad-end refusal.BadSeat a b ts us u h f = f

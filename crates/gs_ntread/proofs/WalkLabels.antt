@@ -1,4 +1,4 @@
--- What is said within a label is what its production says, which takes the dots that the label goes on behind.
+-- What is said within a label is what its production says, which takes the dots that the label goes on after.
 use Rattle.std.proofs.Common.{◌≡◌, ℕ, zero, suc, add-one, Bool, true, false, cond, List, [], ◌∷◌, ◌++◌, refl, sym, ap, ◌∙◌, append_assoc, append-nil, arith, Result, Ok, Err}
 use Rattle.std.proofs.lemmas.Bool.{eqb-true}
 use Rattle.std.proofs.lemmas.Bool.Decides.{nat_tests}
@@ -39,7 +39,7 @@ label_closed (AtDatatype s p l) h = broken Syntax
 label_closed (AtDot s p o) h = broken Syntax
 label_closed AtEnd h = broken Syntax
 
--- the character behind a label
+-- the character after a label
 pub closed_step : (g : Stage) (h : Held) (c n : ℕ) → label_turn g h c n ≡ turn (label_closed g h).0 (label_closed g h).1 c n
 closed_step AtSubject h c n = elim (label_held h) as (λ r. behind_subject r c n ≡ turn (to_label_predicate r).0 (to_label_predicate r).1 c n) [ Ok w ↦ refl | Err e ↦ refl ]
 closed_step (AtObject s p) h c n = elim (label_held h) as (λ r. behind_object s p r c n ≡ turn (to_label_dot s p r).0 (to_label_dot s p r).1 c n) [ Ok w ↦ refl | Err e ↦ refl ]
@@ -58,7 +58,7 @@ closed_end (AtDatatype s p l) h = refl
 closed_end (AtDot s p o) h = refl
 closed_end AtEnd h = refl
 
--- so many dots behind the first
+-- so many dots after the first
 pub data Dots : ℕ → List Mark → Type 0 where
   one : Dots zero []
   many : {j : ℕ} (k : ℕ) (es : List Mark) → Dots (suc j) ((46, k) ∷ es)
@@ -67,7 +67,7 @@ dots_more : {more : ℕ} {ds : List Mark} → Dots more ds → (k : ℕ) → Dot
 dots_more one k = many k []
 dots_more (many k0 es) k = many k0 (es ++ (46, k) ∷ [])
 
--- a character behind dots that are not the label's
+-- a character after dots that are not the label's
 dotted_step : (g : Stage) (h : Held) (n more c k : ℕ) (x ds : List Mark) → Dots more ds
     → follow (dotted_turn g h n more c) x ≡ told (label_closed g h) ((46, n) ∷ (ds ++ (c, k) ∷ x))
 unfolding rest
@@ -92,7 +92,7 @@ dotted_step (AtDatatype s p l) h n more c k x ds d = walk_broken Syntax x ∙ sy
 dotted_step (AtDot s p o) h n more c k x ds d = walk_broken Syntax x ∙ sym (walk_broken Syntax (ds ++ (c, k) ∷ x))
 dotted_step AtEnd h n more c k x ds d = walk_broken Syntax x ∙ sym (walk_broken Syntax (ds ++ (c, k) ∷ x))
 
--- the text ends behind such dots
+-- the text ends after such dots
 dotted_ended : (g : Stage) (h : Held) (n more : ℕ) (ds : List Mark) → Dots more ds → dots_end g h n more ≡ told (label_closed g h) ((46, n) ∷ (ds ++ []))
 unfolding rest
 dotted_ended AtSubject h n more ds d =
@@ -116,11 +116,11 @@ dotted_ended (AtDatatype s p l) h n more ds d = sym (walk_broken Syntax (ds ++ [
 dotted_ended (AtDot s p o) h n more ds d = sym (walk_broken Syntax (ds ++ []))
 dotted_ended AtEnd h n more ds d = sym (walk_broken Syntax (ds ++ []))
 
--- behind a label
+-- after a label
 abbrev pub after_label : Stage → List Mark → List ℕ → List ℕ × List Mark → Meant
 after_label g tail t u = told (label_closed g (hold (t ++ u.0))) (u.1 ++ tail)
 
--- behind dots: they belong to the label, or the label ends before them
+-- after dots: they belong to the label, or the label ends before them
 abbrev pub after_dotted : Stage → List Mark → List ℕ → List ℕ → ℕ → List Mark → List ℕ × List Mark → List Mark → Bool → Meant
 after_dotted g tail t w n ds u x true = after_label g tail w u
 after_dotted g tail t w n ds u x false = told (label_closed g (hold t)) ((46, n) ∷ (ds ++ x))
@@ -174,7 +174,7 @@ walk_label g (m ∷ ms) tail s = (
       (λ _. dotted_step g (hold t) n more m.0 m.1 (ms ++ tail) ds d)),
 )
 
--- behind the underscore of a label
+-- after the underscore of a label
 pub walk_underscore : (g : Stage) (line tail : List Mark) → Stops tail → told (g, Underscore) (line ++ tail) ≡ after (label_closed g) tail [] (label_at line)
 unfolding rest
 walk_underscore g [] tail at_nothing = refl

@@ -11,7 +11,7 @@ use Rattle.gs_ntterm.specs.Words.{Word, Fixed, iri_made, label_made}
 use Rattle.gs_ntterm.specs.Terminals.{Read, ◌>>=◌, skip, Plain, iri_after, string_after, label_at}
 use Rattle.gs_ntterm.proofs.Branches.{two_ways, by_test, by_test_knowing, otherwise}
 use Rattle.gs_ntterm.proofs.Holding.{iri_held-hold, label_held-hold}
-use Rattle.gs_ntread.specs.Sentences.{Sentence}
+use Rattle.gs_ntread.specs.LineTriples.{LineTriple}
 use Rattle.gs_ntread.specs.Grammar.{as_word, iri_read, label_read, before_text, suffix_at, predicate_at, object_at, dot_at}
 use Rattle.gs_ntread.specs.Documents.{Meant, comment_meant, rest_meant, triple_meant, line_meant, then_meant, lines_meant, document}
 use Rattle.gs_ntread.specs.States.{AtSubject, AtPredicate, AtObject, AtDot, AtEnd, Between, Comment, start, broken, sentence}
@@ -22,7 +22,7 @@ use Rattle.gs_ntread.proofs.WalkTokens.{told, follow, Stops, at_nothing, at_feed
 use Rattle.gs_ntread.proofs.WalkLabels.{label_closed, to_label_predicate, to_label_dot, walk_underscore}
 use Rattle.gs_ntread.proofs.WalkLiterals.{literal_told, walk_suffix}
 
--- what the lines behind one mean
+-- what the lines after one mean
 abbrev pub after_line : List Mark → Meant
 after_line [] = ([], Whole)
 after_line (m ∷ ms) = told start ms
@@ -51,7 +51,7 @@ walk_end (m ∷ ms) tail (more h n) s =
     (walk_comment ms tail n s)
     (walk_broken Syntax (ms ++ tail))))
 
-then_joined : (ts : List Sentence) (e : Ending) (r : Meant) → joined ts (then_meant ([], e) r) ≡ then_meant (ts, e) r
+then_joined : (ts : List LineTriple) (e : Ending) (r : Meant) → joined ts (then_meant ([], e) r) ≡ then_meant (ts, e) r
 then_joined ts Whole r = refl
 then_joined ts Syntax r = ap (λ z. (z, Syntax)) (append-nil ts)
 then_joined ts TooLong r = ap (λ z. (z, TooLong)) (append-nil ts)
@@ -61,17 +61,17 @@ stopped Whole r h = absurd h
 stopped Syntax r h = refl
 stopped TooLong r h = refl
 
--- what a line says of its triple, and the lines behind it
-abbrev pub meant : List Mark → Read Sentence → Meant
+-- what a line says of its triple, and the lines after it
+abbrev pub meant : List Mark → Read LineTriple → Meant
 meant tail r = then_meant (triple_meant r) (after_line tail)
 
-abbrev pub object_then : Word → Term → Word × List Mark → Read Sentence
+abbrev pub object_then : Word → Term → Word × List Mark → Read LineTriple
 object_then s p o = dot_at (skip o.1) >>= λ d. Ok (sentence s p o.0 d.0, d.1)
 
-abbrev pub predicate_then : Word → Term × List Mark → Read Sentence
+abbrev pub predicate_then : Word → Term × List Mark → Read LineTriple
 predicate_then s p = object_at (skip p.1) >>= object_then s p.0
 
-abbrev pub subject_then : Word × List Mark → Read Sentence
+abbrev pub subject_then : Word × List Mark → Read LineTriple
 subject_then s = predicate_at (skip s.1) >>= predicate_then s.0
 
 pub walk_dot : (s : Word) (p : Term) (o : Word) (line tail : List Mark) → NoEnd line → Stops tail
@@ -91,7 +91,7 @@ walk_dot s p o (m ∷ ms) tail (more h n) t =
 faulty : (e : Ending) (x tail : List Mark) → IsFault e → told (broken e) x ≡ meant tail (Err e)
 faulty e x tail h = walk_broken e x ∙ stopped e (after_line tail) h
 
--- behind an IRI that is an object
+-- after an IRI that is an object
 object_told : (s : Word) (p : Term) (y tail : List Mark) (r : Result Term Ending) → Stops tail → KeepsLine (before_text y r)
     → told (to_dot s p r) (y ++ tail) ≡ meant tail (as_word (before_text y r) >>= object_then s p)
 object_told s p y tail (Ok t) q h = walk_dot s p (Fixed t) y tail h q
@@ -104,7 +104,7 @@ closes_object s p tail (Ok i) q h =
     ap (λ r. told (to_dot s p r) (i.1 ++ tail)) (iri_held-hold i.0)
     ∙ object_told s p i.1 tail (iri_made i.0) q (keeps_made i.1 (Iri i.0) h)
 
--- behind a literal
+-- after a literal
 literal_closed : (s : Word) (p : Term) (tail : List Mark) (r : Read Term) → Stops tail → KeepsLine r
     → literal_told s p tail r ≡ meant tail (as_word r >>= object_then s p)
 literal_closed s p tail (Err e) q h = stopped e (after_line tail) h
@@ -116,7 +116,7 @@ closes_string s p tail (Err e) q h = stopped e (after_line tail) h
 closes_string s p tail (Ok l) q h =
     walk_suffix s p l.0 l.1 tail q ∙ literal_closed s p tail (suffix_at l.0 (skip l.1)) q (keeps_suffix l.0 (skip l.1) (keeps_skip l.1 h))
 
--- behind a label that is an object
+-- after a label that is an object
 label_told : (s : Word) (p : Term) (y tail : List Mark) (r : Result Word Ending) → Stops tail → KeepsLine (before_text y r)
     → told (to_label_dot s p r) (y ++ tail) ≡ meant tail (before_text y r >>= object_then s p)
 label_told s p y tail (Ok w) q h = walk_dot s p w y tail h q
@@ -146,7 +146,7 @@ walk_object s p (m ∷ ms) tail (more h n) q =
     (walk_string (AtObject s p) Plain [] ms tail q ∙ closes_string s p tail (string_after Plain ms) q (keeps_string Plain ms n))
     (walk_broken Syntax (ms ++ tail)))))
 
--- behind a predicate
+-- after a predicate
 predicate_told : (s : Word) (y tail : List Mark) (r : Result Term Ending) → Stops tail → KeepsLine (before_text y r)
     → told (to_object s r) (y ++ tail) ≡ meant tail (before_text y r >>= predicate_then s)
 predicate_told s y tail (Ok t) q h = walk_object s t y tail h q
@@ -172,7 +172,7 @@ walk_predicate s (m ∷ ms) tail (more h n) q =
     (walk_iri (AtPredicate s) Plain [] ms tail q ∙ closes_predicate s tail (iri_after Plain ms) q (keeps_iri Plain ms n))
     (walk_broken Syntax (ms ++ tail)))
 
--- behind a subject
+-- after a subject
 subject_told : (y tail : List Mark) (r : Result Term Ending) → Stops tail → KeepsLine (before_text y r)
     → told (to_predicate r) (y ++ tail) ≡ meant tail (as_word (before_text y r) >>= subject_then)
 subject_told y tail (Ok t) q h = walk_predicate (Fixed t) y tail h q

@@ -1,4 +1,4 @@
--- What is said behind a string is what the grammar says of its datatype, or its tag.
+-- What is said after a string is what the grammar says of its datatype, or its tag.
 use Rattle.std.proofs.Common.{◌≡◌, ℕ, cond, List, [], ◌∷◌, ◌++◌, refl, sym, ap, ◌∙◌, append_assoc, append-nil, Result, Ok, Err}
 use Rattle.std.specs.Prelude.{◌==◌}
 use Rattle.std.specs.Char.{encode_utf8}
@@ -18,12 +18,12 @@ use Rattle.gs_ntread.specs.States.{AtSuffix, AtDatatype, AtDot, Between, Caret, 
 use Rattle.gs_ntread.specs.Lines.{to_dot, behind_literal, iri_closed}
 use Rattle.gs_ntread.proofs.WalkTokens.{told, follow, Stops, at_nothing, at_feed, at_return, walk_broken, after, walk_iri}
 
--- behind a literal that ended, with the text y to come
+-- after a literal that ended, with the text y to come
 abbrev pub behind : Word → Term → Result Term Ending → List Mark → Meant
 behind s p (Err e) y = ([], e)
 behind s p (Ok t) y = told (AtDot s p (Fixed t), Between) y
 
--- behind a literal that was read
+-- after a literal that was read
 abbrev pub literal_told : Word → Term → List Mark → Read Term → Meant
 literal_told s p tail (Err e) = ([], e)
 literal_told s p tail (Ok r) = told (AtDot s p (Fixed r.0), Between) (r.1 ++ tail)
@@ -49,7 +49,7 @@ dot_behind s p (Err e) y = walk_broken e y
 abbrev pub after_tag : Word → Term → List ℕ → List Mark → List ℕ → List ℕ × List Mark → Meant
 after_tag s p l tail t u = behind s p (tagged_made l (t ++ u.0)) (u.1 ++ tail)
 
--- a tag, and the first character behind it
+-- a tag, and the first character after it
 tag_ends : (s : Word) (p : Term) (l t : List ℕ) (c n : ℕ) (x : List Mark) → follow (behind_literal s p (tagged_held (hold l) (hold t)) c n) x ≡ behind s p (tagged_made l (t ++ [])) ((c, n) ∷ x)
 tag_ends s p l t c n x =
     step_literal s p (tagged_held (hold l) (hold t)) c n x
@@ -98,7 +98,7 @@ walk_caret s p l (m ∷ ms) tail h =
     (walk_datatype s p l ms tail h)
     (walk_broken Syntax (ms ++ tail))
 
--- a plain literal, and the first character behind it
+-- a plain literal, and the first character after it
 plain_ends : (s : Word) (p : Term) (l : List ℕ) (c n : ℕ) (x : List Mark) → follow (behind_literal s p (plain_held (hold l)) c n) x ≡ behind s p (plain_made l) ((c, n) ∷ x)
 plain_ends s p l c n x = step_literal s p (plain_held (hold l)) c n x ∙ ap (λ r. behind s p r ((c, n) ∷ x)) (plain_held-hold l)
 

@@ -35,7 +35,7 @@ unfolding rest
 walk_broken e [] = refl
 walk_broken e (m ∷ ms) = walk_broken e ms
 
--- behind a token that was read up to its closing mark
+-- after a token that was read up to its closing mark
 abbrev pub after : (Held → State) → List Mark → List ℕ → Read (List ℕ) → Meant
 after close tail t (Err e) = ([], e)
 after close tail t (Ok r) = told (close (hold (t ++ r.0))) (r.1 ++ tail)

@@ -3,11 +3,11 @@ use Rattle.std.proofs.Common.{◌≡◌, ℕ, true, List, [], ◌∷◌, ◌++�
 use Rattle.gs_machine.specs.Machines.{Machine, joined, steps, rest, behind}
 use Rattle.gs_machine.specs.Utf8.{Decoding, Ready, Within, Lost, utf8, symbols, decode_step, is_ready_of}
 use Rattle.gs_machine.proofs.MachineLemmas.{rest-append, rest-behind, steps-one}
-use Rattle.gs_body.specs.Bodies.{Ending, Stated}
+use Rattle.gs_body.specs.Bodies.{Ending, Statement}
 use Rattle.gs_blank.specs.Numbers.{Numbers, no_numbers}
 use Rattle.gs_ntterm.specs.Marks.{Mark, marks, places, end_of}
-use Rattle.gs_ntread.specs.Sentences.{Sentence}
-use Rattle.gs_ntread.specs.Documents.{numbering, stated, said_by}
+use Rattle.gs_ntread.specs.LineTriples.{LineTriple}
+use Rattle.gs_ntread.specs.Documents.{numbering, stated, meaning_by}
 use Rattle.gs_ntread.specs.States.{State, Turn, Between, Comment, InIri, InString, Underscore, Colon, InLabel, InDots, Caret, InTag, Broken, broken, start}
 use Rattle.gs_ntread.specs.Turns.{turn}
 use Rattle.gs_ntread.specs.Machine.{end_of_text, reading}
@@ -33,14 +33,14 @@ pub stating_is : (r : ℕ) (q : State) (n : Numbers) (ms : List Mark) → rest (
 stating_is r q n ms = rest-keeping reading (numbering r) q n ms
 
 -- what is said by the machine is the meaning
-pub said_is : (r : ℕ) (x : List ℕ) → rest (ntriples r) unread x ≡ said_by r x
-unfolding said_by symbols
-said_is r x =
+pub meaning_is : (r : ℕ) (x : List ℕ) → rest (ntriples r) unread x ≡ meaning_by r x
+unfolding meaning_by symbols
+meaning_is r x =
     rest-behind utf8 (placing r) Ready (0, (start, no_numbers)) x
     ∙ rest-behind places (stating r) 0 (start, no_numbers) (symbols x)
     ∙ ap (rest (stating r) (start, no_numbers)) (places-marks 0 (symbols x))
     ∙ stating_is r start no_numbers (marks 0 (symbols x))
-    ∙ ap (λ (d : List Sentence × Ending). ((rest (numbering r) no_numbers d.0).0, d.1)) (read_is (marks 0 (symbols x)))
+    ∙ ap (λ (d : List LineTriple × Ending). ((rest (numbering r) no_numbers d.0).0, d.1)) (read_is (marks 0 (symbols x)))
 
 -- a machine that is broken says nothing more
 pub says_nothing : (r : ℕ) (d : Decoding) (n : ℕ) (e : Ending) (m : Numbers) (y : List ℕ) → rest (ntriples r) (d, (n, (broken e, m))) y ≡ ([], e)
@@ -49,7 +49,7 @@ says_nothing r d n e m y =
     rest-behind utf8 (placing r) d (n, (broken e, m)) y
     ∙ rest-behind places (stating r) n (broken e, m) (rest utf8 d y).0
     ∙ stating_is r (broken e) m (rest places n (rest utf8 d y).0).0
-    ∙ ap (λ (u : List Sentence × Ending). ((rest (numbering r) m u.0).0, u.1)) (walk_broken e (rest places n (rest utf8 d y).0).0)
+    ∙ ap (λ (u : List LineTriple × Ending). ((rest (numbering r) m u.0).0, u.1)) (walk_broken e (rest places n (rest utf8 d y).0).0)
 
 -- between two characters the text may go on so that nothing more is said
 pub silence : (r n : ℕ) (q : State) (m : Numbers) → (y : List ℕ) × ((rest (ntriples r) (Ready, (n, (q, m))) y).0 ≡ [])
@@ -71,7 +71,7 @@ pub character-none : (r n : ℕ) (q q' : State) (m : Numbers) (c : ℕ) → (q',
 unfolding behind keeping steps
 character-none r n q q' m c e = ap (λ (u : Turn). ((end_of n c, (u.0, (steps (numbering r) m u.1).0)), (steps (numbering r) m u.1).1 ++ [])) (sym e)
 
-pub character-some : (r n : ℕ) (q q' : State) (m : Numbers) (c : ℕ) (s : Sentence) → (q', s ∷ []) ≡ turn q.0 q.1 c (end_of n c)
+pub character-some : (r n : ℕ) (q q' : State) (m : Numbers) (c : ℕ) (s : LineTriple) → (q', s ∷ []) ≡ turn q.0 q.1 c (end_of n c)
     → (placing r).step (n, (q, m)) c ≡ ((end_of n c, (q', (stated r m s).0)), (stated r m s).1)
 unfolding behind keeping steps
 character-some r n q q' m c s e = ap (λ (u : Turn). ((end_of n c, (u.0, (steps (numbering r) m u.1).0)), (steps (numbering r) m u.1).1 ++ [])) (sym e)
@@ -89,16 +89,16 @@ pub byte-some : (r : ℕ) (d d' : Decoding) (p : Placed) (b c : ℕ) → (d', c 
 unfolding behind
 byte-some r d d' p b c e =
     ap (λ (u : Decoding × List ℕ). ((u.0, (steps (placing r) p u.1).0), (steps (placing r) p u.1).1)) (sym e)
-    ∙ ap (λ (v : Placed × List Stated). ((d', v.0), v.1)) (steps-one (placing r) p c)
+    ∙ ap (λ (v : Placed × List Statement). ((d', v.0), v.1)) (steps-one (placing r) p c)
 
 -- the text ends between two characters
 pub end-none : (r : ℕ) (q : State) (n : Numbers) (e : Ending) → ([], e) ≡ end_of_text q.0 q.1 → rest (stating r) (q, n) [] ≡ ([], e)
 unfolding rest keeping
-end-none r q n e h = ap (λ (d : List Sentence × Ending). ((rest (numbering r) n d.0).0, d.1)) (sym h)
+end-none r q n e h = ap (λ (d : List LineTriple × Ending). ((rest (numbering r) n d.0).0, d.1)) (sym h)
 
-pub end-some : (r : ℕ) (q : State) (n : Numbers) (e : Ending) (s : Sentence) → (s ∷ [], e) ≡ end_of_text q.0 q.1 → rest (stating r) (q, n) [] ≡ ((stated r n s).1, e)
+pub end-some : (r : ℕ) (q : State) (n : Numbers) (e : Ending) (s : LineTriple) → (s ∷ [], e) ≡ end_of_text q.0 q.1 → rest (stating r) (q, n) [] ≡ ((stated r n s).1, e)
 unfolding rest keeping
-end-some r q n e s h = ap (λ (d : List Sentence × Ending). ((rest (numbering r) n d.0).0, d.1)) (sym h)
+end-some r q n e s h = ap (λ (d : List LineTriple × Ending). ((rest (numbering r) n d.0).0, d.1)) (sym h)
 
 pub ready_end : (r : ℕ) (d : Decoding) (p : Placed) → is_ready_of d ≡ true → rest (ntriples r) (d, p) [] ≡ rest (stating r) p.1 []
 unfolding rest behind

@@ -3,30 +3,30 @@ use Rattle.std.specs.Prelude.{ℕ, ◌==◌, if◌then◌else◌, List, [], ◌�
 use Rattle.gs_model.specs.Terms.{Term, Blank}
 use Rattle.gs_machine.specs.Utf8.{symbols}
 use Rattle.gs_machine.specs.Machines.{Machine, rest}
-use Rattle.gs_body.specs.Bodies.{Ending, Whole, Syntax, Stated, Said}
+use Rattle.gs_body.specs.Bodies.{Ending, Whole, Syntax, Statement, Meaning}
 use Rattle.gs_blank.specs.Numbers.{Numbers, no_numbers, number_of}
 use Rattle.gs_ntterm.specs.Marks.{Mark, marks}
 use Rattle.gs_ntterm.specs.Classes.{is_space, is_line_end, may_stand_in_comment}
 use Rattle.gs_ntterm.specs.Words.{Word, Fixed, Labelled}
 use Rattle.gs_ntterm.specs.Terminals.{Read}
-use Rattle.gs_ntread.specs.Sentences.{Sentence}
+use Rattle.gs_ntread.specs.LineTriples.{LineTriple}
 use Rattle.gs_ntread.specs.Grammar.{triple_at}
 
 -- sentences before the first fault, and how the text ends
 abbrev pub Meant : Type 0
-Meant = List Sentence × Ending
+Meant = List LineTriple × Ending
 
--- a comment behind its '#'
+-- a comment after its '#'
 abbrev pub comment_meant : List Mark → Ending
 comment_meant [] = Whole
 comment_meant (m ∷ ms) = if may_stand_in_comment m.0 then comment_meant ms else Syntax
 
--- the rest of a line behind a triple: blanks, and a comment if there is one
+-- the rest of a line after a triple: blanks, and a comment if there is one
 abbrev pub rest_meant : List Mark → Ending
 rest_meant [] = Whole
 rest_meant (m ∷ ms) = if is_space m.0 then rest_meant ms else if m.0 == 35 then comment_meant ms else Syntax
 
-abbrev pub triple_meant : Read Sentence → Meant
+abbrev pub triple_meant : Read LineTriple → Meant
 triple_meant (Err e) = ([], e)
 triple_meant (Ok r) = (r.0 ∷ [], rest_meant r.1)
 
@@ -59,18 +59,18 @@ term_of r n (Fixed t) = (t, n)
 term_of r n (Labelled label) = (Blank r (number_of n label).0, (number_of n label).1)
 
 -- a sentence as a triple of request r, and the numbers then
-abbrev pub stated : ℕ → Numbers → Sentence → Numbers × List Stated
+abbrev pub stated : ℕ → Numbers → LineTriple → Numbers × List Statement
 stated r n s =
     let a = term_of r n s.subject in
     let o = term_of r a.1 s.object in
     (o.1, record { triples = record { subject = a.0; predicate = s.predicate; object = o.0 } ∷ []; end = s.end } ∷ [])
 
 -- from sentences to triples, whose blank nodes are numbered by first appearance
-abbrev pub numbering : ℕ → Machine Numbers Sentence Stated (Unit {0})
+abbrev pub numbering : ℕ → Machine Numbers LineTriple Statement (Unit {0})
 numbering r = record { step = stated r; ended = λ n. ([], tt) }
 
 -- what a body of N-Triples says, in a request of number r
-unfoldable pub said_by : ℕ → List ℕ → Said
-said_by r text =
+unfoldable pub meaning_by : ℕ → List ℕ → Meaning
+meaning_by r text =
     let d = document (marks 0 (symbols text)) in
     ((rest (numbering r) no_numbers d.0).0, d.1)

@@ -6,7 +6,7 @@ use Rattle.gs_body.specs.Bodies.{Ending, Syntax}
 use Rattle.gs_ntterm.specs.Marks.{Mark}
 use Rattle.gs_ntterm.specs.Words.{Word, Fixed, iri_made, label_made, plain_made, typed_made, tagged_made}
 use Rattle.gs_ntterm.specs.Terminals.{Read, ◌>>=◌, skip, Plain, iri_after, string_after, label_at, tag_after}
-use Rattle.gs_ntread.specs.Sentences.{Sentence}
+use Rattle.gs_ntread.specs.LineTriples.{LineTriple}
 
 -- with the text after it
 abbrev pub before_text : {A : Type 0} → List Mark → Result A Ending → Read A
@@ -17,15 +17,15 @@ abbrev pub as_word : Result (Term × List Mark) Ending → Read Word
 as_word (Err e) = Err e
 as_word (Ok r) = Ok (Fixed r.0, r.1)
 
--- IRIREF behind its '<', as a term
+-- IRIREF after its '<', as a term
 abbrev pub iri_read : Read (List ℕ) → Read Term
 iri_read r = r >>= λ i. before_text i.1 (iri_made i.0)
 
--- BLANK_NODE_LABEL behind its '_', as a term
+-- BLANK_NODE_LABEL after its '_', as a term
 abbrev pub label_read : Read (List ℕ) → Read Word
 label_read r = r >>= λ l. before_text l.1 (label_made l.0)
 
--- a datatype behind '^^'
+-- a datatype after '^^'
 abbrev pub datatype_at : List ℕ → List Mark → Read Term
 datatype_at lexical [] = Err Syntax
 datatype_at lexical (m ∷ ms) =
@@ -36,7 +36,7 @@ abbrev pub caret_at : List ℕ → List Mark → Read Term
 caret_at lexical [] = Err Syntax
 caret_at lexical (m ∷ ms) = if m.0 == 94 then datatype_at lexical (skip ms) else Err Syntax
 
--- what may stand behind the string of [6] literal
+-- what may stand after the string of [6] literal
 abbrev pub suffix_at : List ℕ → List Mark → Read Term
 suffix_at lexical [] = before_text [] (plain_made lexical)
 suffix_at lexical (m ∷ ms) =
@@ -72,7 +72,7 @@ dot_at [] = Err Syntax
 dot_at (m ∷ ms) = if m.0 == 46 then Ok (m.1, ms) else Err Syntax
 
 -- [2] triple, with its dot
-abbrev pub triple_at : List Mark → Read Sentence
+abbrev pub triple_at : List Mark → Read LineTriple
 triple_at text =
     subject_at text >>= λ s.
     predicate_at (skip s.1) >>= λ p.

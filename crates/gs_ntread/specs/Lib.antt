@@ -1,5 +1,5 @@
 -- Read in this order: what a document says by the grammar, the machine that reads it, what the reader's fields mean.
-pub mod Sentences
+pub mod LineTriples
 pub mod Grammar
 pub mod Documents
 pub mod States

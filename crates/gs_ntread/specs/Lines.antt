@@ -8,7 +8,7 @@ use Rattle.gs_ntterm.specs.Terminals.{Plain}
 use Rattle.gs_ntterm.specs.Tokens.{Held, Text, iri_held, typed_held, plain_held}
 use Rattle.gs_ntread.specs.States.{Stage, AtSubject, AtPredicate, AtObject, AtSuffix, AtDatatype, AtDot, AtEnd, Between, Comment, InIri, InString, Underscore, Caret, InTag, State, Turn, broken, quiet, sentence}
 
--- behind a dot, or behind a line
+-- after a dot, or after a line
 abbrev pub end_state : ℕ → State
 end_state c =
     if is_space c then (AtEnd, Between)
@@ -23,7 +23,7 @@ at_dot s p o c n =
     else if c == 46 then ((AtEnd, Between), sentence s p o n ∷ [])
     else quiet (broken Syntax)
 
--- the same behind a literal that ended before c
+-- the same after a literal that ended before c
 abbrev pub behind_literal : Word → Term → Result Term Ending → ℕ → ℕ → Turn
 behind_literal s p (Ok t) c n = at_dot s p (Fixed t) c n
 behind_literal s p (Err e) c n = quiet (broken e)

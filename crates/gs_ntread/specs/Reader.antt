@@ -1,15 +1,15 @@
--- From bytes to triples: the machines of characters, places, sentences and numbers, one behind another.
+-- From bytes to triples: the machines of characters, places, sentences and numbers, one after another.
 use Rattle.std.specs.Prelude.{ℕ}
 use Rattle.gs_machine.specs.Machines.{Machine, steps, rest, behind}
 use Rattle.gs_machine.specs.Utf8.{Decoding, Ready, utf8}
-use Rattle.gs_body.specs.Bodies.{Ending, Stated}
+use Rattle.gs_body.specs.Bodies.{Ending, Statement}
 use Rattle.gs_blank.specs.Numbers.{Numbers, no_numbers}
 use Rattle.gs_ntterm.specs.Marks.{Mark, places}
 use Rattle.gs_ntread.specs.Documents.{numbering}
 use Rattle.gs_ntread.specs.States.{State, start}
 use Rattle.gs_ntread.specs.Machine.{reading}
 
--- one machine behind another, with the ending of the first
+-- one machine after another, with the ending of the first
 unfoldable pub keeping : {S T I M O E F : Type 0} → Machine S I M E → Machine T M O F → Machine (S × T) I O E
 keeping a b = record {
   step = λ s i. let u = a.step s.0 i in let v = steps b s.1 u.1 in ((u.0, v.0), v.1);
@@ -17,11 +17,11 @@ keeping a b = record {
 }
 
 -- from marks to triples of request r
-abbrev pub stating : ℕ → Machine (State × Numbers) Mark Stated Ending
+abbrev pub stating : ℕ → Machine (State × Numbers) Mark Statement Ending
 stating r = keeping reading (numbering r)
 
 -- from characters
-abbrev pub placing : ℕ → Machine (ℕ × (State × Numbers)) ℕ Stated Ending
+abbrev pub placing : ℕ → Machine (ℕ × (State × Numbers)) ℕ Statement Ending
 placing r = behind places (stating r)
 
 -- where the bytes so far lead
@@ -29,7 +29,7 @@ abbrev pub Led : Type 0
 Led = Decoding × (ℕ × (State × Numbers))
 
 -- from bytes
-abbrev pub ntriples : ℕ → Machine Led ℕ Stated Ending
+abbrev pub ntriples : ℕ → Machine Led ℕ Statement Ending
 ntriples r = behind utf8 (placing r)
 
 abbrev pub unread : Led

@@ -5,7 +5,7 @@ use Rattle.gs_body.specs.Bodies.{Ending, Syntax}
 use Rattle.gs_ntterm.specs.Words.{Word}
 use Rattle.gs_ntterm.specs.Terminals.{Inside}
 use Rattle.gs_ntterm.specs.Tokens.{Held}
-use Rattle.gs_ntread.specs.Sentences.{Sentence}
+use Rattle.gs_ntread.specs.LineTriples.{LineTriple}
 
 -- which part of a line comes, with what was read of the line
 pub data Stage : Type 0 where
@@ -17,7 +17,7 @@ pub data Stage : Type 0 where
   AtDot : Word → Term → Word → Stage
   AtEnd : Stage
 
--- Between two tokens, or within one. In dots that a label may go on behind: the end of the first, and how many more.
+-- Between two tokens, or within one. In dots that a label may go on after: the end of the first, and how many more.
 pub data Mode : Type 0 where
   Between : Mode
   Comment : Mode
@@ -35,7 +35,7 @@ abbrev pub State : Type 0
 State = Stage × Mode
 
 abbrev pub Turn : Type 0
-Turn = State × List Sentence
+Turn = State × List LineTriple
 
 abbrev pub start : State
 start = (AtSubject, Between)
@@ -47,7 +47,7 @@ broken e = (AtSubject, Broken e)
 abbrev pub quiet : State → Turn
 quiet s = (s, [])
 
-abbrev pub sentence : Word → Term → Word → ℕ → Sentence
+abbrev pub sentence : Word → Term → Word → ℕ → LineTriple
 sentence s p o n = record { subject = s; predicate = p; object = o; end = n }
 
 abbrev pub fault_of : {A : Type 0} → Result A Ending → Ending

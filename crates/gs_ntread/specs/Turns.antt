@@ -49,7 +49,7 @@ string_turn (Digits left value) g h c =
     else (g, InString (Digits (left - 1) (with_digit value c)) h))
     else broken Syntax
 
--- a character behind a label
+-- a character after a label
 abbrev pub behind_subject : Result Word Ending → ℕ → ℕ → Turn
 behind_subject (Ok s) c n = between_turn (AtPredicate s) c n
 behind_subject (Err e) c n = quiet (broken e)
@@ -63,7 +63,7 @@ label_turn AtSubject h c n = behind_subject (label_held h) c n
 label_turn (AtObject s p) h c n = behind_object s p (label_held h) c n
 label_turn g h c n = quiet (broken Syntax)
 
--- a character behind a label and dots, the first of which ends the statement
+-- a character after a label and dots, the first of which ends the statement
 abbrev pub dotted_object : Word → Term → Result Word Ending → ℕ → ℕ → ℕ → Turn
 dotted_object s p (Ok o) first more c = (if more == 0 then end_state c else broken Syntax, sentence s p o first ∷ [])
 dotted_object s p (Err e) first more c = quiet (broken e)
@@ -73,7 +73,7 @@ dotted_turn (AtObject s p) h first more c = dotted_object s p (label_held h) fir
 dotted_turn AtSubject h first more c = quiet (broken (fault_of (label_held h)))
 dotted_turn g h first more c = quiet (broken Syntax)
 
--- a character behind a language tag
+-- a character after a language tag
 abbrev pub tag_turn : Stage → Held → ℕ → ℕ → Turn
 tag_turn (AtSuffix s p l) h c n = behind_literal s p (tagged_held l h) c n
 tag_turn g h c n = quiet (broken Syntax)

@@ -7,7 +7,7 @@ use Rattle.gs_ntterm.specs.Tokens.{Held}
 use Rattle.gs_ntterm.specs.Views.{held_of}
 use Rattle.gs_ntterm.specs.declared.terms.Made.{Made}
 use Rattle.gs_ntterm.specs.declared.terms.Made.TheVariants as made
-use Rattle.gs_ntread.specs.Sentences.{Sentence}
+use Rattle.gs_ntread.specs.LineTriples.{LineTriple}
 use Rattle.gs_ntread.specs.States.{Stage, AtSubject, AtPredicate, AtObject, AtSuffix, AtDatatype, AtDot, AtEnd, State, Between, Comment, InIri, InString, Underscore, Colon, InLabel, InDots, Caret, InTag, broken}
 use Rattle.gs_ntread.specs.declared.parts.Subject.{Subject}
 use Rattle.gs_ntread.specs.declared.parts.Subject.TheVariants as subject
@@ -76,10 +76,10 @@ IsDot (at.Dot s p o) = Unit {0}
 IsDot place = ⊥
 
 -- the sentence of its parts
-abbrev pub sentence_of : Parts → Sentence
+abbrev pub sentence_of : Parts → LineTriple
 sentence_of p = record { subject = subject_of p.subject; predicate = p.predicate.term; object = object_of p.object; end = p.end }
 
-abbrev pub given : Option Parts → List Sentence
+abbrev pub given : Option Parts → List LineTriple
 given None = []
 given (Some p) = sentence_of p ∷ []
 

@@ -36,7 +36,7 @@ impl Cursor {
         Ok(())
     }
 
-    /// The character behind a backslash in an IRI.
+    /// The character after a backslash in an IRI.
     pub fn iri_escape(&mut self, c: u32)
         requires { self.old.within ≡ within.IriEscape }
         ensures { state_of self.new ≡ iri_turn Escape (stage_of self.old.place (held_of self.old.lexical)) (held_of self.old.text) c }
@@ -98,7 +98,7 @@ impl Cursor {
         Ok(())
     }
 
-    /// The character behind a backslash in a string.
+    /// The character after a backslash in a string.
     pub fn string_escape(&mut self, c: u32) -> Result<(), AllocError>
         requires { self.old.within ≡ within.QuotedEscape }
         ensures { OnOk result (state_of self.new ≡ string_turn Escape (stage_of self.old.place (held_of self.old.lexical)) (held_of self.old.text) c) }
@@ -158,7 +158,7 @@ impl Cursor {
         Ok(())
     }
 
-    /// A character of a label, or behind it, which ends behind n bytes.
+    /// A character of a label, or after it, which ends after n bytes.
     pub fn in_label(&mut self, c: u32, n: u64) -> Result<Option<Parts>, AllocError>
         requires { self.old.within ≡ within.Label }
         ensures { IfOk result (λ o. (state_of self.new, given o) ≡ turn (stage_of self.old.place (held_of self.old.lexical)) (InLabel (held_of self.old.text)) c n) }
@@ -179,7 +179,7 @@ impl Cursor {
         self.behind_label(c, n)
     }
 
-    /// A character behind dots that may be a label's.
+    /// A character after dots that may be a label's.
     pub fn in_dots(&mut self, c: u32) -> Result<Option<Parts>, AllocError>
         requires { self.old.within ≡ within.Dots }
         ensures { IfOk result (λ o. (state_of self.new, given o) ≡ turn (stage_of self.old.place (held_of self.old.lexical)) (InDots (held_of self.old.text) self.old.value self.old.count) c 0) }
@@ -201,7 +201,7 @@ impl Cursor {
         self.behind_dots(c)
     }
 
-    /// A character of a language tag, or behind it.
+    /// A character of a language tag, or after it.
     pub fn in_tag(&mut self, c: u32, n: u64) -> Result<Option<Parts>, AllocError>
         requires { self.old.within ≡ within.Tag }
         ensures { IfOk result (λ o. (state_of self.new, given o) ≡ turn (stage_of self.old.place (held_of self.old.lexical)) (InTag (held_of self.old.text)) c n) }
@@ -215,7 +215,7 @@ impl Cursor {
         }
     }
 
-    /// A character of a comment, or behind it.
+    /// A character of a comment, or after it.
     pub fn in_comment(&mut self, c: u32)
         requires { self.old.within ≡ within.Comment }
         ensures { quiet (state_of self.new) ≡ turn (stage_of self.old.place (held_of self.old.lexical)) Comment c 0 }

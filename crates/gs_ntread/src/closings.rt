@@ -11,7 +11,7 @@ use gs_ntterm::{Made, Name, Token};
 use std::alloc::{AllocError, Global};
 use std::mem;
 
-/// The place behind a subject.
+/// The place after a subject.
 fn to_predicate(alloc: Global, text: &Token) -> Result<Made<Place>, AllocError>
     ensures { IfOk result (λ m. (l : Held) → settled m l ≡ to_predicate_of (iri_held (held_of text.now))) }
 {
@@ -22,7 +22,7 @@ fn to_predicate(alloc: Global, text: &Token) -> Result<Made<Place>, AllocError>
     })
 }
 
-/// The place behind a predicate.
+/// The place after a predicate.
 fn to_object(alloc: Global, subject: Subject, text: &Token) -> Result<Made<Place>, AllocError>
     ensures { IfOk result (λ m. (l : Held) → settled m l ≡ to_object_of (subject_of subject) (iri_held (held_of text.now))) }
 {
@@ -33,7 +33,7 @@ fn to_object(alloc: Global, subject: Subject, text: &Token) -> Result<Made<Place
     })
 }
 
-/// The place behind an IRI that is an object.
+/// The place after an IRI that is an object.
 fn to_dot(
     alloc: Global,
     subject: Subject,
@@ -52,7 +52,7 @@ fn to_dot(
     })
 }
 
-/// The place behind a literal and its datatype.
+/// The place after a literal and its datatype.
 fn to_typed(
     alloc: Global,
     subject: Subject,

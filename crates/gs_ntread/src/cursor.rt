@@ -109,7 +109,7 @@ impl Cursor {
         }
     }
 
-    /// A character behind a triple's dot.
+    /// A character after a triple's dot.
     pub fn behind(&mut self, c: u32)
         requires between { self.old.within ≡ within.Between }
         requires place { self.old.place ≡ at.End }
@@ -127,7 +127,7 @@ impl Cursor {
         }
     }
 
-    /// A character where the dot comes, which ends there, behind n bytes.
+    /// A character where the dot comes, which ends there, after n bytes.
     pub fn dot(&mut self, c: u32, n: u64) -> Option<Parts>
         requires between { self.old.within ≡ within.Between }
         requires place { IsDot self.old.place }
@@ -151,7 +151,7 @@ impl Cursor {
         }
     }
 
-    /// A character behind a literal, whose token ends before it.
+    /// A character after a literal, whose token ends before it.
     pub fn behind_literal(
         &mut self,
         subject: Subject,
@@ -179,7 +179,7 @@ impl Cursor {
         }
     }
 
-    /// A character behind a string.
+    /// A character after a string.
     fn suffix(&mut self, c: u32, n: u64) -> Result<Option<Parts>, AllocError>
         requires between { self.old.within ≡ within.Between }
         requires place { IsSuffix self.old.place }

@@ -1,4 +1,4 @@
-//! The character behind a token that has no closing mark.
+//! The character after a token that has no closing mark.
 ghost use Rattle.std.specs.Prelude.{◌≡◌, ◌==◌, IfOk, if◌then◌else◌, string_bytes, List};
 ghost use Rattle.gs_body.specs.Bodies.{Syntax, TooLong};
 ghost use Rattle.gs_ntterm.specs.Words.{Labelled};
@@ -28,7 +28,7 @@ impl Cursor {
         None
     }
 
-    /// A character behind a label that is a subject.
+    /// A character after a label that is a subject.
     fn behind_subject(
         &mut self,
         made: Made<String>,
@@ -48,7 +48,7 @@ impl Cursor {
         }
     }
 
-    /// A character behind a label that is an object.
+    /// A character after a label that is an object.
     fn behind_object(
         &mut self,
         subject: Subject,
@@ -70,7 +70,7 @@ impl Cursor {
         }
     }
 
-    /// A character behind a label.
+    /// A character after a label.
     pub fn behind_label(&mut self, c: u32, n: u64) -> Result<Option<Parts>, AllocError>
         ensures { IfOk result (λ o. (state_of self.new, given o) ≡ label_turn (stage_of self.old.place (held_of self.old.lexical)) (held_of self.old.text) c n) }
     {
@@ -87,7 +87,7 @@ impl Cursor {
         }
     }
 
-    /// A character behind a label that is an object and dots, the first of which is the triple's.
+    /// A character after a label that is an object and dots, the first of which is the triple's.
     fn behind_dots_of(
         &mut self,
         subject: Subject,
@@ -119,7 +119,7 @@ impl Cursor {
         }
     }
 
-    /// A character behind a label and dots that are not the label's.
+    /// A character after a label and dots that are not the label's.
     pub fn behind_dots(&mut self, c: u32) -> Result<Option<Parts>, AllocError>
         ensures { IfOk result (λ o. (state_of self.new, given o) ≡ dotted_turn (stage_of self.old.place (held_of self.old.lexical)) (held_of self.old.text) self.old.value self.old.count c) }
     {
@@ -138,7 +138,7 @@ impl Cursor {
         }
     }
 
-    /// A character behind a language tag.
+    /// A character after a language tag.
     pub fn behind_tag(&mut self, c: u32, n: u64) -> Result<Option<Parts>, AllocError>
         ensures { IfOk result (λ o. (state_of self.new, given o) ≡ tag_turn (stage_of self.old.place (held_of self.old.lexical)) (held_of self.old.text) c n) }
     {

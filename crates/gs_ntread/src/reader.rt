@@ -1,6 +1,6 @@
 //! The reader of N-Triples.
 ghost use Rattle.std.specs.Prelude.{◌≡◌, ◌≢◌, ◌++◌, [], ◌<◌, ◌≤◌, false, length, take, OnOk, OnErr, IfOk, IfErr, IfSome, IfNone, IsErr, List, ℕ};
-ghost use Rattle.gs_model.specs.Triples.{Statement};
+ghost use Rattle.gs_model.specs.Triples.{RdfTriple};
 ghost use Rattle.gs_ntterm.specs.Marks.{end_of};
 
 use crate::cursor::Cursor;
@@ -46,7 +46,7 @@ impl NTriplesReader {
     ghost use Rattle.gs_machine.specs.Machines.{steps, rest, Begins};
     ghost use Rattle.gs_machine.specs.Utf8.{is_ready_of};
     ghost use Rattle.gs_body.specs.Bodies.{triples_of, Whole};
-    ghost use Rattle.gs_ntread.specs.Documents.{stated, numbering, said_by};
+    ghost use Rattle.gs_ntread.specs.Documents.{stated, numbering, meaning_by};
     ghost use Rattle.gs_ntread.specs.Reader.{stating, placing, ntriples};
     ghost use Rattle.gs_ntread.specs.Readers.{led_of, LeadsTo, Takes, IsBroken, FaultsAs, FaultyAfter, ConcludesAs, FaultyEnd, Ends, Sound};
     ghost use Rattle.gs_ntread.specs.Views.{sentence_of, state_of, ending_of};
@@ -55,7 +55,7 @@ impl NTriplesReader {
     pub fn new(alloc: Global, request: u64) -> NTriplesReader
         ensures fresh { ⟦<NTriplesReader as BodyReader>⟧.Leads result [] [] }
         ensures unread { ⟦<NTriplesReader as BodyReader>⟧.is_closed result ≡ false }
-        ensures said { (x : List ℕ) → ⟦<NTriplesReader as BodyReader>⟧.said result x ≡ said_by request x }
+        ensures meaning_of { (x : List ℕ) → ⟦<NTriplesReader as BodyReader>⟧.meaning_of result x ≡ meaning_by request x }
     {
         NTriplesReader {
             alloc,
@@ -117,7 +117,7 @@ impl NTriplesReader {
     #[inline]
     fn take_run(&mut self, piece: &[u8]) -> Result<usize, AllocError>
         ensures bound { IfOk result (λ n. n ≤ length piece.now) }
-        ensures ok { IfOk result (λ n. (ts : List Statement) → Takes self.old self.new ts ts (steps (ntriples self.old.request) (led_of self.old) (take n piece.now))) }
+        ensures ok { IfOk result (λ n. (ts : List RdfTriple) → Takes self.old self.new ts ts (steps (ntriples self.old.request) (led_of self.old) (take n piece.now))) }
         ensures request { self.new.request ≡ self.old.request }
     {
         if !self.decoder.is_ready() {
@@ -251,10 +251,10 @@ impl NTriplesReader {
 }
 
 impl BodyReader for NTriplesReader {
-    ghost use Rattle.gs_ntread.specs.Documents.{said_by};
+    ghost use Rattle.gs_ntread.specs.Documents.{meaning_by};
     ghost use Rattle.gs_ntread.specs.Readers.{LeadsTo};
 
-    ghost said = { λ r x. said_by r.request x };
+    ghost meaning_of = { λ r x. meaning_by r.request x };
 
     ghost Leads = { λ r x ts. LeadsTo r x ts };
 

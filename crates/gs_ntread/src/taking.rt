@@ -11,7 +11,7 @@ use crate::parts::{Parts, Within};
 use std::alloc::AllocError;
 
 impl Cursor {
-    /// Takes a character that ends behind n bytes, and gives the triple that it completes.
+    /// Takes a character that ends after n bytes, and gives the triple that it completes.
     pub fn take(&mut self, c: u32, n: u64) -> Result<Option<Parts>, AllocError>
         ensures { IfOk result (λ o. (state_of self.new, given o) ≡ turn (state_of self.old).0 (state_of self.old).1 c n) }
     {
@@ -35,7 +35,7 @@ impl Cursor {
         Ok(None)
     }
 
-    /// The character behind an underscore.
+    /// The character after an underscore.
     fn underscore(&mut self, c: u32)
         requires { self.old.within ≡ within.Underscore }
         ensures { quiet (state_of self.new) ≡ turn (stage_of self.old.place (held_of self.old.lexical)) Underscore c 0 }
@@ -47,7 +47,7 @@ impl Cursor {
         }
     }
 
-    /// The character behind a `^`.
+    /// The character after a `^`.
     fn caret(&mut self, c: u32)
         requires { self.old.within ≡ within.Caret }
         ensures { quiet (state_of self.new) ≡ turn (stage_of self.old.place (held_of self.old.lexical)) Caret c 0 }

@@ -6,7 +6,7 @@ use Rattle.std.proofs.lemmas.List.{length-map}
 use Rattle.std.specs.Str.{str_to_ascii_lowercase, bytes_eq}
 use Rattle.std.proofs.lemmas.Bool.Decides.{nat_tests}
 use Rattle.gs_model.specs.Terms.{Term, Iri, Literal, LiteralKind, Typed, Tagged, xsd_string, is_kind, is_term, text_of, escaped, escape_of, suffix}
-use Rattle.gs_model.specs.declared.limits.TheConstants.{LONGEST_TERM}
+use Rattle.gs_model.specs.Limits.{max_term_bytes}
 use Rattle.gs_body.specs.Bodies.{Syntax, TooLong}
 use Rattle.gs_model.proofs.TextLemmas.{same_text}
 use Rattle.gs_term.proofs.MakingLemmas.{suffix_other, suffix_tag}
@@ -18,7 +18,7 @@ use Rattle.gs_ntterm.specs.Views.{held}
 use Rattle.gs_ntterm.specs.Tokens.{Text, Long, hold, add, iri_held, literal_held, typed_held, tagged_held, plain_held, label_held}
 
 abbrev fits : List ℕ → Bool
-fits t = nat_le (length t) LONGEST_TERM
+fits t = nat_le (length t) max_term_bytes
 
 longer : (t more : List ℕ) → fits t ≡ false → fits (t ++ more) ≡ false
 longer t more h = let k = length-append t more in grind (arith, nat_tests)
@@ -33,11 +33,11 @@ add-hold t more = by_fit (fits t) refl
         ∙ ap (λ b. cond b (Text (t ++ more)) (Long (form_of (t ++ more)))) (sym (longer t more h))
 
 -- a text that is as long as a token for which no term has room
-outgrown : (t text : List ℕ) → length t ≤ length text → fits t ≡ false → nat_le (length text) LONGEST_TERM ≡ false
+outgrown : (t text : List ℕ) → length t ≤ length text → fits t ≡ false → nat_le (length text) max_term_bytes ≡ false
 outgrown t text l h = grind (arith, nat_tests)
 
 -- a term of a form that was told byte by byte, where its text is too long
-told_long : (t : Term) (v : Bool) → v ≡ is_term t → nat_le (length (text_of t)) LONGEST_TERM ≡ false → cond v (Err TooLong) (Err Syntax) ≡ made t
+told_long : (t : Term) (v : Bool) → v ≡ is_term t → nat_le (length (text_of t)) max_term_bytes ≡ false → cond v (Err TooLong) (Err Syntax) ≡ made t
 told_long t v e h =
     ap (λ v. cond v (Err TooLong) (Err Syntax)) e
     ∙ ap (λ b. cond (is_term t) (cond b (Ok t) (Err TooLong)) (Err Syntax)) (sym h)
@@ -79,7 +79,7 @@ literal_length l k = omega (arith, escaped_length l, length-append (escaped l) (
 pub literal_held-hold : (l : List ℕ) (k : LiteralKind) → literal_held (hold l) k ≡ made (Literal l k)
 literal_held-hold l k = by_fit (fits l) refl
   where
-    too_long : fits l ≡ false → nat_le (length (text_of (Literal l k))) LONGEST_TERM ≡ false
+    too_long : fits l ≡ false → nat_le (length (text_of (Literal l k))) max_term_bytes ≡ false
     too_long h = let k2 = literal_length l k in grind (arith, nat_tests)
 
     by_fit : (b : Bool) → fits l ≡ b → literal_held (cond b (Text l) (Long (form_of l))) k ≡ made (Literal l k)
@@ -122,7 +122,7 @@ tagged_held-hold l t = by_fit (fits t) refl
     by_fit false h = told_long (Literal l k) (is_tag_form (form_of t)) (tag_by_form t) (outgrown t (text_of (Literal l k)) (tag_length l t) h)
 
 -- a token for which no term has room any more
-pub add-grown : (long : Bool) (f : Form) (t more : List ℕ) → long ≡ false → LONGEST_TERM < length t + length more → Long (form_after (form_of t) more) ≡ add (held long f t) more
+pub add-grown : (long : Bool) (f : Form) (t more : List ℕ) → long ≡ false → max_term_bytes < length t + length more → Long (form_after (form_of t) more) ≡ add (held long f t) more
 add-grown true f t more e h = absurd (Prim.cc)
 add-grown false f t more e h =
     let n = length-append t more in

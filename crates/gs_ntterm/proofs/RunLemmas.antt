@@ -1,9 +1,9 @@
--- A token with a run behind it, and that each byte of a run is ASCII.
+-- A token with a run after it, and that each byte of a run is ASCII.
 use Rattle.std.proofs.Common.{◌≡◌, ℕ, ◌+◌, ◌<◌, ◌≤◌, Bool, true, false, cond, List, [], ◌∷◌, ◌++◌, length, refl, sym, ap, ◌∙◌, arith, append_assoc, append-nil, length-append, Result, Ok, Err}
 use Rattle.std.specs.Prelude.{◌==◌, ◌&&◌, ◌||◌, not, nat_lt, nat_le, is_ok, OnOk}
 use Rattle.std.proofs.lemmas.Bool.Decides.{nat_tests}
 use Rattle.gs_model.specs.Characters.{is_iri_char, in_ranges, pn_chars}
-use Rattle.gs_model.specs.declared.limits.TheConstants.{LONGEST_TERM}
+use Rattle.gs_model.specs.Limits.{max_term_bytes}
 use Rattle.gs_ntterm.specs.Classes.{is_space, is_line_end}
 use Rattle.gs_ntterm.specs.Tokens.{Text, Long, hold}
 use Rattle.gs_ntterm.specs.Forms.{form_on, form_after, form_of}
@@ -33,14 +33,14 @@ pub joined-still_long : (l : Bool) (f g : Form) (t bs : List ℕ) → l ≡ true
 joined-still_long true f g t bs e k = ap Long k ∙ sym (joined-long f bs)
 joined-still_long false f g t bs e k = absurd (Prim.cc)
 
-pub joined-too_long : (l m : Bool) (f g : Form) (t u bs : List ℕ) → l ≡ false → m ≡ true → g ≡ form_after (form_of t) bs → 0 < length bs → LONGEST_TERM < length t + length bs
+pub joined-too_long : (l m : Bool) (f g : Form) (t u bs : List ℕ) → l ≡ false → m ≡ true → g ≡ form_after (form_of t) bs → 0 < length bs → max_term_bytes < length t + length bs
     → held m g u ≡ joined (held l f t) bs
 joined-too_long true m f g t u bs e k w h n = absurd (Prim.cc)
 joined-too_long false false f g t u bs e k w h n = absurd (Prim.cc)
 joined-too_long false true f g t u [] e k w h n = absurd (omega arith)
 joined-too_long false true f g t u (b ∷ bs) e k w h n = ap Long w ∙ add-grown false f t (b ∷ bs) e n ∙ sym (joined-text t b bs)
 
-pub joined-fits : {A E : Type 0} (r : Result A E) (l : Bool) (f : Form) (t bs u : List ℕ) → l ≡ false → (0 < length bs → length t + length bs ≤ LONGEST_TERM) → u ≡ cond (is_ok r) (t ++ bs) t
+pub joined-fits : {A E : Type 0} (r : Result A E) (l : Bool) (f : Form) (t bs u : List ℕ) → l ≡ false → (0 < length bs → length t + length bs ≤ max_term_bytes) → u ≡ cond (is_ok r) (t ++ bs) t
     → OnOk r (held l f u ≡ joined (held l f t) bs)
 joined-fits (Err x) l f t bs u e h w = tt
 joined-fits (Ok x) true f t bs u e h w = absurd (Prim.cc)
@@ -48,7 +48,7 @@ joined-fits (Ok x) false f t [] u e h w = ap Text (w ∙ append-nil t)
 joined-fits (Ok x) false f t (b ∷ bs) u e h w =
     let n = length-append t (b ∷ bs) in
     let k = h (omega arith) in
-    let v : nat_le (length (t ++ b ∷ bs)) LONGEST_TERM ≡ true = grind (arith, nat_tests) in
+    let v : nat_le (length (t ++ b ∷ bs)) max_term_bytes ≡ true = grind (arith, nat_tests) in
     ap Text w ∙ sym (joined-text t b bs ∙ ap (λ z. cond z (Text (t ++ b ∷ bs)) (Long (form_of (t ++ b ∷ bs)))) v)
 
 -- the bytes of each class are ASCII

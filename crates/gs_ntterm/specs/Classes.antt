@@ -32,7 +32,7 @@ begins_label c = (in_ranges pn_chars_u c || c == 58 || (nat_le 48 c && nat_le c 
 abbrev pub is_label_char : ℕ → Bool
 is_label_char c = (in_ranges pn_chars c || c == 58) && scalar c
 
--- of [144s] LANGTAG behind its '@'
+-- of [144s] LANGTAG after its '@'
 abbrev pub is_tag_char : ℕ → Bool
 is_tag_char c = (nat_le 65 c && nat_le c 90) || (nat_le 97 c && nat_le c 122) || (nat_le 48 c && nat_le c 57) || c == 45
 

@@ -1,5 +1,5 @@
 -- The form of a token that is too long to be held, byte by byte: whether it is an absolute IRI (RFC 3986,
--- section 4.3), and whether it is a language tag (N-Triples, section 7, LANGTAG behind its '@').
+-- section 4.3), and whether it is a language tag (N-Triples, section 7, LANGTAG after its '@').
 use Rattle.std.specs.Prelude.{ℕ, Bool, true, false, if◌then◌else◌, ◌||◌, ◌&&◌, ◌==◌, nat_le, List, [], ◌∷◌}
 use Rattle.std.specs.Char.{to_ascii_lowercase}
 use Rattle.gs_model.specs.Characters.{is_iri_char}
@@ -24,7 +24,7 @@ part_after digits begun c =
     else if c == 45 && begun then tag.Part true false
     else tag.Broken
 
--- letters, then parts of letters and digits, each behind a '-'
+-- letters, then parts of letters and digits, each after a '-'
 abbrev pub tag_after_byte : Tag → ℕ → Tag
 tag_after_byte (tag.Part digits begun) b = part_after digits begun (to_ascii_lowercase b)
 tag_after_byte tag.Broken b = tag.Broken

@@ -1,4 +1,4 @@
--- Runs of bytes of ASCII that go on with a token or a comment, and a token with a run behind it.
+-- Runs of bytes of ASCII that go on with a token or a comment, and a token with a run after it.
 use Rattle.std.specs.Prelude.{ℕ, Bool, ◌&&◌, ◌||◌, ◌==◌, not, List, [], ◌∷◌, nat_lt}
 use Rattle.gs_model.specs.Characters.{is_iri_char, in_ranges, pn_chars}
 use Rattle.gs_ntterm.specs.Classes.{is_line_end}

@@ -26,14 +26,14 @@ abbrev pub before : ℕ → Read (List ℕ) → Read (List ℕ)
 before c (Err e) = Err e
 before c (Ok r) = Ok (encode_utf8 c ++ r.0, r.1)
 
--- Where in an IRI or a string: among its characters, behind a backslash, or within [10] UCHAR, with so many
+-- Where in an IRI or a string: among its characters, after a backslash, or within [10] UCHAR, with so many
 -- digits to come after the next, and its number so far.
 pub data Inside : Type 0 where
   Plain : Inside
   Escape : Inside
   Digits : (left value : ℕ) → Inside
 
--- [153s] ECHAR behind its backslash: what it means
+-- [153s] ECHAR after its backslash: what it means
 abbrev pub escaped : ℕ → Option ℕ
 escaped c =
     if c == 116 then Some 9
@@ -44,7 +44,7 @@ escaped c =
     else if c == 34 || c == 39 || c == 92 then Some c
     else None
 
--- [8] IRIREF behind its '<': the bytes of the IRI
+-- [8] IRIREF after its '<': the bytes of the IRI
 abbrev pub iri_after : Inside → List Mark → Read (List ℕ)
 iri_after v [] = Err Syntax
 iri_after Plain (m ∷ ms) =
@@ -68,7 +68,7 @@ abbrev pub escape_before : Option ℕ → Read (List ℕ) → Read (List ℕ)
 escape_before None r = Err Syntax
 escape_before (Some c) r = before c r
 
--- [9] STRING_LITERAL_QUOTE behind its first '"': the bytes of the lexical form
+-- [9] STRING_LITERAL_QUOTE after its first '"': the bytes of the lexical form
 abbrev pub string_after : Inside → List Mark → Read (List ℕ)
 string_after v [] = Err Syntax
 string_after Plain (m ∷ ms) =
@@ -87,7 +87,7 @@ string_after (Digits left value) (m ∷ ms) =
     else string_after (Digits (left - 1) (with_digit value m.0)) ms)
     else Err Syntax
 
--- behind a dot: whether a label goes on, by dots and then a character
+-- after a dot: whether a label goes on, by dots and then a character
 abbrev pub goes_on : List Mark → Bool
 goes_on [] = false
 goes_on (m ∷ ms) = if is_label_char m.0 then true else if m.0 == 46 then goes_on ms else false
@@ -98,14 +98,14 @@ label_after [] = ([], [])
 label_after (m ∷ ms) =
     if is_label_char m.0 || (m.0 == 46 && goes_on ms) then (encode_utf8 m.0 ++ (label_after ms).0, (label_after ms).1) else ([], m ∷ ms)
 
--- BLANK_NODE_LABEL behind its '_'
+-- BLANK_NODE_LABEL after its '_'
 abbrev pub label_at : List Mark → Read (List ℕ)
 label_at [] = Err Syntax
 label_at (m ∷ []) = Err Syntax
 label_at (m ∷ d ∷ ms) =
     if m.0 == 58 then (if begins_label d.0 then Ok (encode_utf8 d.0 ++ (label_after ms).0, (label_after ms).1) else Err Syntax) else Err Syntax
 
--- the longest run that may be [144s] LANGTAG behind its '@', and the text after it
+-- the longest run that may be [144s] LANGTAG after its '@', and the text after it
 abbrev pub tag_after : List Mark → List ℕ × List Mark
 tag_after [] = ([], [])
 tag_after (m ∷ ms) =

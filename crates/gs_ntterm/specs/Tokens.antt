@@ -3,7 +3,7 @@ use Rattle.std.specs.Prelude.{ℕ, zero, suc, if◌then◌else◌, List, ◌++�
 use Rattle.std.specs.Char.{encode_utf8}
 use Rattle.std.specs.Str.{str_to_ascii_lowercase}
 use Rattle.gs_model.specs.Terms.{Term, Iri, Literal, LiteralKind, Typed, Tagged, xsd_string, is_kind}
-use Rattle.gs_model.specs.declared.limits.TheConstants.{LONGEST_TERM}
+use Rattle.gs_model.specs.Limits.{max_term_bytes}
 use Rattle.gs_body.specs.Bodies.{Ending, Syntax, TooLong}
 use Rattle.gs_ntterm.specs.Words.{Word, Labelled, made}
 use Rattle.gs_ntterm.specs.Forms.{form_of, form_after, is_absolute_form, is_tag_form}
@@ -15,7 +15,7 @@ pub data Held : Type 0 where
   Long : Form → Held
 
 abbrev pub hold : List ℕ → Held
-hold bytes = if nat_le (length bytes) LONGEST_TERM then Text bytes else Long (form_of bytes)
+hold bytes = if nat_le (length bytes) max_term_bytes then Text bytes else Long (form_of bytes)
 
 abbrev pub add : Held → List ℕ → Held
 add (Text t) bytes = hold (t ++ bytes)

@@ -4,7 +4,7 @@ ghost use Rattle.std.specs.Str.{IsAscii};
 ghost use Rattle.std.specs.Char.{encode_utf8};
 
 use crate::forms::Form;
-use gs_model::LONGEST_TERM;
+use gs_model::MAX_TERM_BYTES;
 use std::alloc::{AllocError, Global};
 use std::str::from_utf8_unchecked;
 
@@ -43,9 +43,9 @@ impl Token {
     /// How many bytes more a term may have.
     #[inline]
     fn room(&self) -> usize
-        ensures { result ≡ LONGEST_TERM - string_len self.now.text }
+        ensures { result ≡ max_term_bytes - string_len self.now.text }
     {
-        LONGEST_TERM - self.text.len().min(LONGEST_TERM)
+        MAX_TERM_BYTES - self.text.len().min(MAX_TERM_BYTES)
     }
 
     /// No term has room for the token: only its form is kept from now on.

@@ -6,7 +6,7 @@ use gs_model::Refusal;
 use gs_term::Triple;
 use std::alloc::AllocError;
 
-/// Appends the canonical line of a triple: its three terms, each with a space behind it, a dot
+/// Appends the canonical line of a triple: its three terms, each with a space after it, a dot
 /// and a line feed. Linear in the bytes of the line.
 pub fn line(triple: &Triple, bytes: &mut Vec<u8>) -> Result<(), Refusal>
     ensures ok { OnOk result (bytes.new.items ≡ bytes.old.items ++ line_of triple.now) }

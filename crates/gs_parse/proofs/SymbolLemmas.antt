@@ -17,7 +17,7 @@ symbol_of_bytes t n =
       | false ↦ λ h. refl
     ] refl
 
--- a text may be cut behind a front that is text
+-- a text may be cut after a front that is text
 pub boundary_behind : (front x : List ℕ) → IsUtf8 x → IsUtf8 front → length front ≤ length x → take (length front) x ≡ front → IsCharBoundary x (length front)
 boundary_behind front x u f l e = IsCharBoundary-from_take x (length front) u l (subst IsUtf8 (sym e) f)
 

@@ -1,6 +1,6 @@
 -- What values of the code stand for.
 use Rattle.std.specs.Prelude.{List, ◌∷◌, Result, Ok, Err, string_bytes}
-use Rattle.gs_model.specs.Triples.{Statement}
+use Rattle.gs_model.specs.Triples.{RdfTriple}
 use Rattle.gs_blank.specs.Numbers.{Numbers}
 use Rattle.gs_body.specs.Bodies.{Ending, Whole}
 use Rattle.gs_document.specs.Symbols as grammar
@@ -49,7 +49,7 @@ abbrev pub context_of : Context → meaning.Context
 context_of c = record { base = string_bytes c.base; prefixes = c.prefixes; request = c.request }
 
 -- what a place stands for, with the other fields: each place has only some of them
-abbrev pub state_at : Place → meaning.Context → List machine.Frame → List Statement → Numbers → machine.State
+abbrev pub state_at : Place → meaning.Context → List machine.Frame → List RdfTriple → Numbers → machine.State
 state_at place.Between env fs P n = machine.Between env n
 state_at (place.InPrefix dot) env fs P n = machine.InPrefix dot env n
 state_at (place.InPrefixIri dot p) env fs P n = machine.InPrefixIri dot (string_bytes p) env n

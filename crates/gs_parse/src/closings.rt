@@ -1,4 +1,4 @@
-//! What ends behind a list of verbs: brackets, and a statement.
+//! What ends after a list of verbs: brackets, and a statement.
 ghost use Rattle.std.specs.Prelude.{◌≡◌, ◌++◌, OnOk, OnErr};
 ghost use Rattle.gs_body.specs.Bodies.{end_after};
 ghost use Rattle.gs_document.specs.Documents.{stated};
@@ -60,7 +60,7 @@ impl Parser {
         Ok(())
     }
 
-    /// A dot behind a list of verbs and objects.
+    /// A dot after a list of verbs and objects.
     #[tactic(auto, using(crate::proofs::StatedLemmas::given_at_end))]
     fn end_statement(&mut self, end: u64, triples: &mut Vec<Triple>) -> Result<(), AllocError>
         ensures state { OnOk result (state_of self.new ≡ (leave (grammar.Dot end) (stack_of self.old.stack) (context_of self.old.context) self.old.waiting.items self.old.numbering).0) }
@@ -75,7 +75,7 @@ impl Parser {
         Ok(())
     }
 
-    /// A token behind a list of verbs and objects.
+    /// A token after a list of verbs and objects.
     pub(crate) fn leave(
         &mut self,
         symbol: Symbol,

@@ -13,7 +13,7 @@ impl Parser {
     ghost use Rattle.gs_document.specs.Machine.{ended};
     ghost use Rattle.gs_parse.specs.Views.{state_of, ending_at};
 
-    /// The fault behind which nothing is read.
+    /// The fault after which nothing is read.
     pub fn fault(&self) -> Option<Fault>
         ensures some { IfSome result (λ f. state_of self.now ≡ lost f) }
         ensures none { IfNone result ((e : Ending) → state_of self.now ≢ Lost e) }

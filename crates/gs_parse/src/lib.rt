@@ -8,6 +8,7 @@ mod endings;
 mod frames;
 mod machine;
 mod parser;
+mod pending;
 mod places;
 mod prefixes;
 mod stacks;
@@ -18,7 +19,6 @@ mod terms;
 mod tests;
 mod verbs;
 mod vocabulary;
-mod waits;
 
 pub use gs_document::Fault;
 pub use parser::Parser;

@@ -3,13 +3,14 @@ ghost use Rattle.std.specs.Prelude.{◌≡◌, ◌∷◌, OnOk};
 
 use crate::contexts::Context;
 use crate::frames::{Frame, Goal, Name, Slot, Subject};
+use crate::pending::{put, put_first, put_rest};
 use crate::places::Place;
 use crate::stacks::Stack;
 use crate::symbols::Symbol;
 use crate::terms::{self, blank};
-use crate::waits::{put, put_first, put_rest};
 use gs_blank::Numbering;
-use gs_document::{DEEPEST, Fault};
+use gs_document::Fault;
+use gs_model::MAX_NESTING;
 use gs_term::{TermText, Triple};
 use std::alloc::{AllocError, Global};
 
@@ -42,7 +43,7 @@ impl Parser {
         self.place = Place::Lost(fault);
     }
 
-    /// A term behind another one of a collection.
+    /// A term after another one of a collection.
     fn give_item(
         &mut self,
         depth: usize,
@@ -121,7 +122,7 @@ impl Parser {
         ensures state { OnOk result (state_of self.new ≡ machine.object depth Open (slot_of slot ∷ stack_of self.old.stack) (context_of self.old.context) self.old.waiting.items self.old.numbering) }
         ensures last { self.new.last ≡ self.old.last }
     {
-        if depth >= DEEPEST {
+        if depth >= MAX_NESTING {
             self.lose(Fault::Broken);
             return Ok(());
         }
@@ -138,7 +139,7 @@ impl Parser {
         ensures state { OnOk result (state_of self.new ≡ machine.object depth OpenList (slot_of slot ∷ stack_of self.old.stack) (context_of self.old.context) self.old.waiting.items self.old.numbering) }
         ensures last { self.new.last ≡ self.old.last }
     {
-        if depth >= DEEPEST {
+        if depth >= MAX_NESTING {
             self.lose(Fault::Broken);
             return Ok(());
         }

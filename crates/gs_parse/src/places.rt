@@ -7,7 +7,7 @@ use gs_document::Fault;
 #[derive(Drop)]
 pub enum Place {
     Between,
-    /// Behind `@prefix`, and then a dot ends the directive, or behind `PREFIX`.
+    /// Behind `@prefix`, and then a dot ends the directive, or after `PREFIX`.
     InPrefix(bool),
     InPrefixIri(bool, String),
     InBase(bool),

@@ -89,7 +89,7 @@ impl Parser {
         Ok(())
     }
 
-    /// A symbol behind a `[` that opens a statement.
+    /// A symbol after a `[` that opens a statement.
     #[tactic(auto, unfolding(gs_document::specs::Machine::step))]
     pub(crate) fn opened(&mut self, symbol: Symbol) -> Result<(), AllocError>
         ensures state { OnOk result (state_of self.new ≡ (machine.step (state.Opened (context_of self.old.context) self.old.numbering) (symbol_at symbol.entry)).0) }
@@ -113,7 +113,7 @@ impl Parser {
         }
     }
 
-    /// A symbol behind the properties that open a statement.
+    /// A symbol after the properties that open a statement.
     #[tactic(auto, unfolding(gs_document::specs::Machine::step))]
     pub(crate) fn closed(
         &mut self,
@@ -134,7 +134,7 @@ impl Parser {
         self.leave(symbol, triples)
     }
 
-    /// A symbol behind a string without a suffix.
+    /// A symbol after a string without a suffix.
     pub(crate) fn go_on(
         &mut self,
         symbol: Symbol,
@@ -158,7 +158,7 @@ impl Parser {
         }
     }
 
-    /// A symbol behind a string that has no suffix.
+    /// A symbol after a string that has no suffix.
     fn behind_text(
         &mut self,
         text: String,
@@ -176,7 +176,7 @@ impl Parser {
         self.go_on(symbol, triples)
     }
 
-    /// A symbol behind a string.
+    /// A symbol after a string.
     #[tactic(auto, unfolding(gs_document::specs::Machine::step))]
     pub(crate) fn held(
         &mut self,

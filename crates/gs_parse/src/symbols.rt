@@ -4,7 +4,7 @@ ghost use Rattle.gs_lex.specs.Lexemes.{lexeme_of};
 ghost use Rattle.gs_document.specs.Symbols.{symbol as kind_symbol, symbol_of};
 ghost use Rattle.gs_parse.specs.Views.{symbol_at};
 
-use gs_lex::{Kind, Token};
+use gs_lex::{Token, TokenKind};
 
 const XSD_INTEGER: &str = "http://www.w3.org/2001/XMLSchema#integer";
 
@@ -50,35 +50,35 @@ pub enum Symbol<'a> {
     Foreign,
 }
 
-fn symbol_of_kind(kind: Kind, text: &str, end: u64) -> Symbol<'_>
+fn symbol_of_kind(kind: TokenKind, text: &str, end: u64) -> Symbol<'_>
     ensures { symbol_at result ≡ kind_symbol kind text.now end }
 {
     match kind {
-        Kind::IriRef => Symbol::Word(Word::Reference(text, end)),
-        Kind::PnameNs => Symbol::Word(Word::Namespace(text)),
-        Kind::PnameLn => Symbol::Word(Word::Name(text)),
-        Kind::BlankNodeLabel => Symbol::Word(Word::Label(text)),
-        Kind::Integer => Symbol::Word(Word::Plain(text, XSD_INTEGER)),
-        Kind::Decimal => Symbol::Word(Word::Plain(text, XSD_DECIMAL)),
-        Kind::Double => Symbol::Word(Word::Plain(text, XSD_DOUBLE)),
-        Kind::True => Symbol::Word(Word::Plain("true", XSD_BOOLEAN)),
-        Kind::False => Symbol::Word(Word::Plain("false", XSD_BOOLEAN)),
-        Kind::StringLiteralQuote
-        | Kind::StringLiteralSingleQuote
-        | Kind::StringLiteralLongQuote
-        | Kind::StringLiteralLongSingleQuote => Symbol::Text(text),
-        Kind::LangTag => Symbol::At(text),
-        Kind::Carets => Symbol::Carets,
-        Kind::A => Symbol::A,
-        Kind::OpenBracket => Symbol::Open,
-        Kind::CloseBracket => Symbol::Close,
-        Kind::OpenParenthesis => Symbol::OpenList,
-        Kind::CloseParenthesis => Symbol::CloseList,
-        Kind::Semicolon => Symbol::Semicolon,
-        Kind::Comma => Symbol::Comma,
-        Kind::Dot => Symbol::Dot(end),
-        Kind::Prefix => Symbol::Prefix,
-        Kind::Base => Symbol::Base,
+        TokenKind::IriRef => Symbol::Word(Word::Reference(text, end)),
+        TokenKind::PnameNs => Symbol::Word(Word::Namespace(text)),
+        TokenKind::PnameLn => Symbol::Word(Word::Name(text)),
+        TokenKind::BlankNodeLabel => Symbol::Word(Word::Label(text)),
+        TokenKind::Integer => Symbol::Word(Word::Plain(text, XSD_INTEGER)),
+        TokenKind::Decimal => Symbol::Word(Word::Plain(text, XSD_DECIMAL)),
+        TokenKind::Double => Symbol::Word(Word::Plain(text, XSD_DOUBLE)),
+        TokenKind::True => Symbol::Word(Word::Plain("true", XSD_BOOLEAN)),
+        TokenKind::False => Symbol::Word(Word::Plain("false", XSD_BOOLEAN)),
+        TokenKind::StringLiteralQuote
+        | TokenKind::StringLiteralSingleQuote
+        | TokenKind::StringLiteralLongQuote
+        | TokenKind::StringLiteralLongSingleQuote => Symbol::Text(text),
+        TokenKind::LangTag => Symbol::At(text),
+        TokenKind::Carets => Symbol::Carets,
+        TokenKind::A => Symbol::A,
+        TokenKind::OpenBracket => Symbol::Open,
+        TokenKind::CloseBracket => Symbol::Close,
+        TokenKind::OpenParenthesis => Symbol::OpenList,
+        TokenKind::CloseParenthesis => Symbol::CloseList,
+        TokenKind::Semicolon => Symbol::Semicolon,
+        TokenKind::Comma => Symbol::Comma,
+        TokenKind::Dot => Symbol::Dot(end),
+        TokenKind::Prefix => Symbol::Prefix,
+        TokenKind::Base => Symbol::Base,
         _ => Symbol::Foreign,
     }
 }

@@ -57,7 +57,7 @@ fn made_literal(
     checked(TermText::literal(alloc, form, Some(datatype), None))
 }
 
-/// What stands behind the front of a text.
+/// What stands after the front of a text.
 fn behind<'a>(text: &'a str, front: &str) -> Option<&'a str>
     ensures { option_copied result ≡ behind_of front.now text.now }
 {

@@ -6,7 +6,7 @@ use gs_term::Triple;
 use std::alloc::Global;
 use std::test::Fail;
 
-/// The parser behind a text under the base `http://e/`, in request 7.
+/// The parser after a text under the base `http://e/`, in request 7.
 fn parsed(alloc: Global, text: &[u8], triples: &mut Vec<Triple>) -> Result<Parser, Fail> {
     let mut lexer = Lexer::new(alloc, false);
     let mut tokens = Vec::new(alloc);
@@ -86,11 +86,11 @@ fn a_statement_without_an_object_is_a_fault(rt: HostRuntime) -> Result<(), Fail>
 #[test]
 fn a_fault_is_told_behind_a_directive(rt: HostRuntime) -> Result<(), Fail> {
     let rows = [
-        // A verb is missing behind the dot of `@prefix`.
+        // A verb is missing after the dot of `@prefix`.
         (b"@prefix p: <http://e/> . p: .".as_slice(), 24),
         // A dot stands where a `PREFIX` has ended.
         (b"PREFIX p: <http://e/> .".as_slice(), 21),
-        // A dot is missing behind `@base`, and the first directive is the last statement.
+        // A dot is missing after `@base`, and the first directive is the last statement.
         (b"BASE <a> @base <b> BASE <c>".as_slice(), 8),
     ];
     for (text, last) in rows.iter() {

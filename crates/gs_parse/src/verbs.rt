@@ -5,11 +5,11 @@ ghost use Rattle.gs_parse.specs.Views.{symbol_at};
 
 use crate::frames::{Frame, Goal, Name, Slot, Subject};
 use crate::parser::Parser;
+use crate::pending::put_rest;
 use crate::places::Place;
 use crate::symbols::Symbol;
 use crate::terms::blank;
 use crate::vocabulary::rdf_nil;
-use crate::waits::put_rest;
 use gs_term::Triple;
 use std::alloc::AllocError;
 
@@ -27,7 +27,7 @@ impl Parser {
     ghost use Rattle.gs_parse.specs.Views.{state_of, context_of};
     ghost use Rattle.gs_parse.specs.Frames.{stack_of, goal_of, frames_at};
 
-    /// A symbol behind the `[` of an object.
+    /// A symbol after the `[` of an object.
     fn inside(&mut self, depth: usize, number: u64, symbol: Symbol) -> Result<(), AllocError>
         ensures state { OnOk result (state_of self.new ≡ (machine.head (rule.Inside depth number) (symbol_at symbol.entry) (stack_of self.old.stack) (context_of self.old.context) self.old.waiting.items self.old.numbering).0) }
         ensures last { self.new.last ≡ self.old.last }
@@ -42,7 +42,7 @@ impl Parser {
         }
     }
 
-    /// A symbol behind the `(` of a collection.
+    /// A symbol after the `(` of a collection.
     fn begun(&mut self, depth: usize, symbol: Symbol) -> Result<(), AllocError>
         ensures state { OnOk result (state_of self.new ≡ (machine.head (rule.Begun depth) (symbol_at symbol.entry) (stack_of self.old.stack) (context_of self.old.context) self.old.waiting.items self.old.numbering).0) }
         ensures last { self.new.last ≡ self.old.last }
@@ -61,7 +61,7 @@ impl Parser {
         }
     }
 
-    /// A symbol behind an object of a collection.
+    /// A symbol after an object of a collection.
     fn items(
         &mut self,
         depth: usize,
@@ -90,7 +90,7 @@ impl Parser {
         }
     }
 
-    /// A symbol behind an object of a verb.
+    /// A symbol after an object of a verb.
     fn after(
         &mut self,
         depth: usize,
@@ -117,7 +117,7 @@ impl Parser {
         }
     }
 
-    /// A symbol behind a `;`.
+    /// A symbol after a `;`.
     fn semis(
         &mut self,
         depth: usize,

@@ -30,7 +30,7 @@ pub fn rdf_first(alloc: Global) -> Result<TermText, AllocError>
     vocabulary(alloc, "http://www.w3.org/1999/02/22-rdf-syntax-ns#first")
 }
 
-/// Of a cell, to what stands behind it.
+/// Of a cell, to what stands after it.
 pub fn rdf_rest(alloc: Global) -> Result<TermText, AllocError>
     ensures { IfOk result (λ t. t ≡ rdf (codes "rest")) }
 {

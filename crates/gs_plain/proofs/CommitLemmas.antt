@@ -1,11 +1,11 @@
 -- What commits rest on: room for a graph's triples, and the last commit number.
 use Rattle.std.proofs.Common.{◌≡◌, ℕ, ◌+◌, ◌≤◌, Bool, true, false, cond, List, Some, length, refl, sym, ap, ◌∙◌, subst, arith, add-zero, string_bytes}
 use Rattle.gs_model.specs.Graphs.{Graph, size_of}
-use Rattle.gs_model.specs.declared.limits.TheConstants.{LAST_NODE, LAST_NUMBER}
+use Rattle.gs_model.specs.Limits.{last_node, last_number}
 use Rattle.gs_model.specs.declared.refusals.Refusal.TheVariants.{LastNumber}
 use Rattle.gs_term.specs.declared.names.Target.{Target}
 use Rattle.gs_term.specs.declared.names.Target.TheVariants.{Named}
-use Rattle.gs_event.specs.declared.events.Kind.TheVariants.{Post, New}
+use Rattle.gs_event.specs.declared.events.UploadKind.TheVariants.{Post, New}
 use Rattle.gs_event.specs.declared.events.Action.TheVariants.{Commit}
 use Rattle.gs_event.specs.declared.answers.Answer.TheVariants.{Refused, Status}
 use Rattle.gs_event.specs.Datasets.{Dataset, lines_at, triples_in, with_graph, is_there, is_within, is_success, new_name}
@@ -22,11 +22,11 @@ pub lines_few : (m : Dataset) (t : Target) → length (lines_at m t) ≤ triples
 lines_few m t = omega (arith, triples_in-without_graph m t)
 
 -- a graph united with an upload has a number for each of its triples
-pub united_small : (b : Books) (t : Target) (r : ℕ) (upload g : Graph) → IsReady b (Writing (Post t) r upload) → size_of g ≤ length (lines_at (dataset_of b.rows.items) t) + size_of upload → size_of g ≤ LAST_NODE
+pub united_small : (b : Books) (t : Target) (r : ℕ) (upload g : Graph) → IsReady b (Writing (Post t) r upload) → size_of g ≤ length (lines_at (dataset_of b.rows.items) t) + size_of upload → size_of g ≤ last_node
 united_small b t r upload g ready size = omega (arith, size, lines_few (dataset_of b.rows.items) t, ready.counted.triples, ready.counted.few, ready.staged)
 
 -- at the last commit number a new graph is refused, and nothing changes
-pub last_new : (b : Books) (r : ℕ) (g : Graph) (name : List ℕ) → name ≡ new_name (string_bytes b.base) (dataset_of b.rows.items) r → is_within b.limits (with_graph (dataset_of b.rows.items) (Named name) g) ≡ true → LAST_NUMBER ≤ b.commit → IsReady b (Writing New r g) → Acts b b (Writing New r g) (Writing New r g) Commit (Refused LastNumber)
+pub last_new : (b : Books) (r : ℕ) (g : Graph) (name : List ℕ) → name ≡ new_name (string_bytes b.base) (dataset_of b.rows.items) r → is_within b.limits (with_graph (dataset_of b.rows.items) (Named name) g) ≡ true → last_number ≤ b.commit → IsReady b (Writing New r g) → Acts b b (Writing New r g) (Writing New r g) Commit (Refused LastNumber)
 last_new b r g name is within last ready =
     let m = dataset_of b.rows.items in
     let fits : is_within b.limits (with_graph m (Named (new_name (string_bytes b.base) m r)) g) ≡ true = subst (λ n. is_within b.limits (with_graph m (Named n) g) ≡ true) is within in

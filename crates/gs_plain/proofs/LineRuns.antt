@@ -3,7 +3,7 @@ use Rattle.std.proofs.Common.{◌≡◌, ℕ, ◌+◌, ◌-◌, ◌<◌, ◌≤�
 use Rattle.std.specs.List.{concat, take-map, drop-map}
 use Rattle.std.proofs.lemmas.List.{take_more, take_min, take_all, drop_min}
 use Rattle.gs_model.specs.Triples.{line_of}
-use Rattle.gs_model.specs.Triples.{Statement as Triple}
+use Rattle.gs_model.specs.Triples.{RdfTriple as Triple}
 
 concat_push : (xs : List (List ℕ)) (y : List ℕ) → concat (xs ++ y ∷ []) ≡ concat xs ++ y
 concat_push [] y = append-nil y

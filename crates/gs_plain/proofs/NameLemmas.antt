@@ -8,7 +8,7 @@ use Rattle.std.specs.Int.Digits.{digits_of, AllBelowBase}
 use Rattle.std.proofs.lemmas.Int.Digits.{all_below_base_digits_of}
 use Rattle.gs_model.specs.declared.refusals.Refusal.{Refusal}
 use Rattle.gs_model.specs.declared.refusals.Refusal.TheVariants.{NoMemory, WrongPhase, BadSeat, LastNumber, Syntax, TermTooLong, StoreFull, NotInProfile, Closed}
-use Rattle.gs_model.specs.declared.limits.TheConstants.{LONGEST_NAME}
+use Rattle.gs_model.specs.Limits.{max_name_bytes}
 use Rattle.gs_model.specs.Characters.{is_iri_char}
 use Rattle.gs_model.specs.Iris.{is_absolute}
 use Rattle.gs_model.specs.Terms.{numeral}
@@ -48,7 +48,7 @@ all_append : (xs ys : List ℕ) → list_all is_iri_char xs ≡ true → list_al
 all_append [] ys h k = k
 all_append (x ∷ xs) ys h k = let two = both_true (is_iri_char x) (list_all is_iri_char xs) h in ap (λ b. b && list_all is_iri_char (xs ++ ys)) two.0 ∙ all_append xs ys two.1 k
 
--- the rest of a base behind `http://`
+-- the rest of a base after `http://`
 pub record HasRest (base : List ℕ) : Type 0 where
   pub rest : List ℕ
   pub is : base ≡ codes "http://" ++ rest
@@ -80,13 +80,13 @@ made_absolute base r k e =
     let tail_ok : list_all is_iri_char tail ≡ true = all_append (codes "/graphs/n" ++ numeral r) (45 ∷ numeral k) (all_append (codes "/graphs/n") (numeral r) refl (numeral_chars r)) number in
     ap is_absolute whole ∙ all_append h.rest tail h.characters tail_ok
 
-pub made_short : (base : List ℕ) (r k : ℕ) → is_base base ≡ true → r < 2 ^ 64 → k < 2 ^ 64 → length (made_name base r k) ≤ LONGEST_NAME
+pub made_short : (base : List ℕ) (r k : ℕ) → is_base base ≡ true → r < 2 ^ 64 → k < 2 ^ 64 → length (made_name base r k) ≤ max_name_bytes
 made_short base r k e p q =
     let h = has_rest base e in
     omega (arith, h.short, length-append (base ++ codes "/graphs/n" ++ numeral r) (45 ∷ numeral k), length-append (base ++ codes "/graphs/n") (numeral r), length-append base (codes "/graphs/n"), length-numeral r p, length-numeral k q)
 
 -- making a name of such a text is refused for memory alone
-pub never_refused : (text : List ℕ) (e : Refusal) → is_absolute text ≡ true → length text ≤ LONGEST_NAME → Names text (Err e) → (e ≡ NoMemory → ⊥) → ⊥
+pub never_refused : (text : List ℕ) (e : Refusal) → is_absolute text ≡ true → length text ≤ max_name_bytes → Names text (Err e) → (e ≡ NoMemory → ⊥) → ⊥
 never_refused text NoMemory formed short says other = other refl
 never_refused text (Syntax at) formed short says other = let h = says.1 in absurd (Prim.cc)
 never_refused text TermTooLong formed short says other = omega (arith, says.1)

@@ -3,7 +3,7 @@ use Rattle.std.specs.Prelude.{◌≡◌, ℕ, ◌<◌, ◌+◌, ◌≤◌, ◌^�
 use Rattle.std.specs.List.{fold, slice_get, slice_set}
 use Rattle.gs_model.specs.Graphs.{Graph, lines_of, size_of}
 use Rattle.gs_model.specs.Bases.{is_base}
-use Rattle.gs_model.specs.declared.limits.TheConstants.{LAST_NODE}
+use Rattle.gs_model.specs.Limits.{last_node}
 use Rattle.gs_term.specs.declared.names.Target.{Target}
 use Rattle.gs_term.specs.declared.names.Target.TheVariants.{Default, Named}
 use Rattle.gs_event.specs.declared.events.Action.{Action}
@@ -72,7 +72,7 @@ is_default (Named n) = false
 pub record IsCounted (b : Books) : Type 0 where
   pub triples : b.triples ≡ triples_in (dataset_of b.rows.items)
   pub names : b.names ≡ names_in (dataset_of b.rows.items)
-  pub few : b.triples + b.staged ≤ LAST_NODE
+  pub few : b.triples + b.staged ≤ last_node
   pub limit : b.limits.names < 2 ^ 64
   pub base : is_base (string_bytes b.base) ≡ true
 

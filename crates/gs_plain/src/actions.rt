@@ -5,7 +5,7 @@ ghost use Rattle.gs_plain.specs.Books.{is_writing, IsReady, Acts, KeepsRoom};
 use crate::books::{self, Books, Seat};
 use crate::graphs::SortedGraph;
 use crate::{reads, writes};
-use gs_event::{Action, Answer, Kind};
+use gs_event::{Action, Answer, UploadKind};
 use gs_model::{LAST_NODE, LAST_NUMBER, Refusal};
 use gs_term::{Target, Triple};
 use std::alloc::Global;
@@ -36,7 +36,13 @@ pub fn act(
 }
 
 /// Makes room for the row of the upload, so that its commit takes no memory for it.
-fn open(books: &mut Books, seat: &mut Seat, seats: usize, alloc: Global, kind: &Kind) -> Answer
+fn open(
+    books: &mut Books,
+    seat: &mut Seat,
+    seats: usize,
+    alloc: Global,
+    kind: &UploadKind,
+) -> Answer
     requires { IsReady books.old seat.old }
     ensures acts { Acts books.old books.new seat.old seat.new (Action.Open kind.now) result }
     ensures room { KeepsRoom seats books.old books.new seat.old seat.new }

@@ -1,13 +1,13 @@
 //! What a plain store keeps besides its seats: the numbers given out, the counts, and the rows.
 ghost use Rattle.std.specs.Prelude.{◌≡◌, ◌<◌, ◌≤◌, ◌^◌, true, nat_le, if◌then◌else◌, length, vec_len, vec_capacity};
 ghost use Rattle.gs_model.specs.Graphs.{Graph, empty_graph, size_of};
-ghost use Rattle.gs_model.specs.declared.limits.TheConstants.{LAST_NODE, LAST_NUMBER};
+ghost use Rattle.gs_model.specs.Limits.{last_node, last_number};
 ghost use Rattle.gs_event.specs.Datasets.{is_there as is_there_of, is_within as is_within_of, lines_at, with_graph, triples_in, names_in};
 ghost use Rattle.gs_plain.specs.Books.{dataset_of, is_default, IsCounted, PutsVersion, EndsVersion, EndsRow};
 ghost use Rattle.gs_plain.specs.Newest.{NewestRow};
 
 use crate::graphs::SortedGraph;
-use gs_event::{Kind, Limits};
+use gs_event::{Limits, UploadKind};
 use gs_term::Target;
 
 /// A version of a graph. The newest row of a target is its current one, if it is not ended.
@@ -24,7 +24,7 @@ pub struct Row {
 pub enum Seat {
     Idle,
     /// An upload: what it will do, its request number, and what was staged.
-    Writing(Kind, u64, SortedGraph),
+    Writing(UploadKind, u64, SortedGraph),
     /// A read: the row that it reads (none for an empty default graph), and how many lines were
     /// given.
     Reading(Option<usize>, usize),
@@ -108,7 +108,7 @@ fn has_few_names(books: &Books, target: &Target) -> bool
 /// How many triples there are once the target's graph is one of so many triples.
 fn triples_with(books: &Books, target: &Target, size: u64) -> u64
     requires counted { IsCounted books.now }
-    requires small { size ≤ LAST_NODE }
+    requires small { size ≤ last_node }
     ensures { (g : Graph) → size_of g ≡ size → result ≡ triples_in (with_graph (dataset_of books.now.rows.items) target.now g) }
 {
     let replaced = size_at(books.rows.as_slice(), target);
@@ -118,7 +118,7 @@ fn triples_with(books: &Books, target: &Target, size: u64) -> u64
 /// Whether the result is within the limits where the target's graph becomes this one.
 pub fn is_within(books: &Books, target: &Target, graph: &SortedGraph) -> bool
     requires counted { IsCounted books.now }
-    requires small { size_of graph.now ≤ LAST_NODE }
+    requires small { size_of graph.now ≤ last_node }
     ensures { result ≡ is_within_of books.now.limits (with_graph (dataset_of books.now.rows.items) target.now graph.now) }
 {
     let triples = triples_with(books, target, graph.len() as u64);
@@ -129,10 +129,10 @@ pub fn is_within(books: &Books, target: &Target, graph: &SortedGraph) -> bool
 /// where room was made for it, so this takes no memory.
 pub fn put_version(books: &mut Books, target: Target, graph: SortedGraph)
     requires counted { IsCounted books.old }
-    requires small { size_of graph ≤ LAST_NODE }
+    requires small { size_of graph ≤ last_node }
     requires within { is_within_of books.old.limits (with_graph (dataset_of books.old.rows.items) target graph) ≡ true }
     requires room { vec_len books.old.rows < vec_capacity books.old.rows }
-    requires number { books.old.commit < LAST_NUMBER }
+    requires number { books.old.commit < last_number }
     ensures { PutsVersion books.old books.new target graph }
 {
     let triples = triples_with(books, &target, graph.len() as u64);
@@ -171,7 +171,7 @@ fn name_count(target: &Target) -> u64
 /// Takes the target's graph away, under the next commit number. Takes no memory.
 pub fn end_version(books: &mut Books, target: &Target)
     requires counted { IsCounted books.old }
-    requires number { books.old.commit < LAST_NUMBER }
+    requires number { books.old.commit < last_number }
     ensures { EndsVersion books.old books.new target.now }
 {
     books.commit += 1;

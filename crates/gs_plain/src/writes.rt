@@ -1,7 +1,7 @@
 //! Writes: the commits of uploads, and deletes.
 ghost use Rattle.std.specs.Prelude.{◌≡◌, ◌<◌, ◌≤◌, ◌+◌, ℕ, true, nat_le, if◌then◌else◌, IsTrue, IfOk, length, vec_len, vec_capacity};
 ghost use Rattle.gs_model.specs.Graphs.{size_of};
-ghost use Rattle.gs_model.specs.declared.limits.TheConstants.{LAST_NODE, LAST_NUMBER};
+ghost use Rattle.gs_model.specs.Limits.{last_node, last_number};
 ghost use Rattle.gs_event.specs.Datasets.{graph_at, is_there as is_there_of, is_within as is_within_of, united, lines_at, with_graph};
 ghost use Rattle.gs_event.specs.declared.events.Action.TheVariants.{Commit, Delete};
 ghost use Rattle.gs_plain.specs.Books.{dataset_of, is_writing, IsReady, IsCounted, PutsVersion, Acts, KeepsRoom};
@@ -9,7 +9,7 @@ ghost use Rattle.gs_plain.specs.Books.{dataset_of, is_writing, IsReady, IsCounte
 use crate::books::{self, Books, Seat};
 use crate::graphs::SortedGraph;
 use crate::names;
-use gs_event::{Answer, Kind};
+use gs_event::{Answer, UploadKind};
 use gs_model::{LAST_NUMBER, Refusal};
 use gs_term::Target;
 use std::alloc::{AllocError, Global};
@@ -23,9 +23,9 @@ pub fn commit(books: &mut Books, seat: &mut Seat, alloc: Global) -> Answer
 {
     match mem::replace(seat, Seat::Idle) {
         Seat::Writing(kind, request, upload) => match kind {
-            Kind::Put(target) => commit_put(books, seat, target, request, upload),
-            Kind::Post(target) => commit_post(books, seat, alloc, target, request, upload),
-            Kind::New => commit_new(books, seat, alloc, request, upload),
+            UploadKind::Put(target) => commit_put(books, seat, target, request, upload),
+            UploadKind::Post(target) => commit_post(books, seat, alloc, target, request, upload),
+            UploadKind::New => commit_new(books, seat, alloc, request, upload),
         },
         other => {
             *seat = other;
@@ -36,7 +36,7 @@ pub fn commit(books: &mut Books, seat: &mut Seat, alloc: Global) -> Answer
 
 /// Whether no commit number is left.
 fn is_last(books: &Books) -> bool
-    ensures { result ≡ nat_le LAST_NUMBER books.now.commit }
+    ensures { result ≡ nat_le last_number books.now.commit }
 {
     books.commit >= LAST_NUMBER
 }
@@ -44,10 +44,10 @@ fn is_last(books: &Books) -> bool
 /// Makes the graph its target's, and gives the status of that. Takes no memory.
 fn store(books: &mut Books, target: Target, graph: SortedGraph) -> u16
     requires counted { IsCounted books.old }
-    requires small { size_of graph ≤ LAST_NODE }
+    requires small { size_of graph ≤ last_node }
     requires within { is_within_of books.old.limits (with_graph (dataset_of books.old.rows.items) target graph) ≡ true }
     requires room { vec_len books.old.rows < vec_capacity books.old.rows }
-    requires number { books.old.commit < LAST_NUMBER }
+    requires number { books.old.commit < last_number }
     ensures version { PutsVersion books.old books.new target graph }
     ensures status { result ≡ (if is_there_of (dataset_of books.old.rows.items) target then 204 else 201) }
 {
@@ -64,11 +64,11 @@ fn commit_put(
     request: u64,
     upload: SortedGraph,
 ) -> Answer
-    requires ready { IsReady books.old (Seat.Writing (Kind.Put target) request upload) }
+    requires ready { IsReady books.old (Seat.Writing (UploadKind.Put target) request upload) }
     requires room { vec_len books.old.rows < vec_capacity books.old.rows }
     requires idle { seat.old ≡ Seat.Idle }
-    ensures acts { Acts books.old books.new (Seat.Writing (Kind.Put target) request upload) seat.new Commit result }
-    ensures room { (seats : ℕ) → KeepsRoom seats books.old books.new (Seat.Writing (Kind.Put target) request upload) seat.new }
+    ensures acts { Acts books.old books.new (Seat.Writing (UploadKind.Put target) request upload) seat.new Commit result }
+    ensures room { (seats : ℕ) → KeepsRoom seats books.old books.new (Seat.Writing (UploadKind.Put target) request upload) seat.new }
 {
     let staged = upload.len() as u64;
     if !books::is_within(books, &target, &upload) {
@@ -76,7 +76,7 @@ fn commit_put(
         return Answer::Status(507, None);
     }
     if is_last(books) {
-        *seat = Seat::Writing(Kind::Put(target), request, upload);
+        *seat = Seat::Writing(UploadKind::Put(target), request, upload);
         return Answer::Refused(Refusal::LastNumber);
     }
     let status = store(books, target, upload);
@@ -109,14 +109,14 @@ fn commit_post(
     request: u64,
     upload: SortedGraph,
 ) -> Answer
-    requires ready { IsReady books.old (Seat.Writing (Kind.Post target) request upload) }
+    requires ready { IsReady books.old (Seat.Writing (UploadKind.Post target) request upload) }
     requires room { vec_len books.old.rows < vec_capacity books.old.rows }
     requires idle { seat.old ≡ Seat.Idle }
-    ensures acts { Acts books.old books.new (Seat.Writing (Kind.Post target) request upload) seat.new Commit result }
-    ensures room { (seats : ℕ) → KeepsRoom seats books.old books.new (Seat.Writing (Kind.Post target) request upload) seat.new }
+    ensures acts { Acts books.old books.new (Seat.Writing (UploadKind.Post target) request upload) seat.new Commit result }
+    ensures room { (seats : ℕ) → KeepsRoom seats books.old books.new (Seat.Writing (UploadKind.Post target) request upload) seat.new }
 {
     let Ok(graph) = posted(books, alloc, &target, &upload) else {
-        *seat = Seat::Writing(Kind::Post(target), request, upload);
+        *seat = Seat::Writing(UploadKind::Post(target), request, upload);
         return Answer::Refused(Refusal::NoMemory);
     };
     let staged = upload.len() as u64;
@@ -125,7 +125,7 @@ fn commit_post(
         return Answer::Status(507, None);
     }
     if is_last(books) {
-        *seat = Seat::Writing(Kind::Post(target), request, upload);
+        *seat = Seat::Writing(UploadKind::Post(target), request, upload);
         return Answer::Refused(Refusal::LastNumber);
     }
     let status = store(books, target, graph);
@@ -141,14 +141,14 @@ fn commit_new(
     request: u64,
     upload: SortedGraph,
 ) -> Answer
-    requires ready { IsReady books.old (Seat.Writing Kind.New request upload) }
+    requires ready { IsReady books.old (Seat.Writing UploadKind.New request upload) }
     requires room { vec_len books.old.rows < vec_capacity books.old.rows }
     requires idle { seat.old ≡ Seat.Idle }
-    ensures acts { Acts books.old books.new (Seat.Writing Kind.New request upload) seat.new Commit result }
-    ensures room { (seats : ℕ) → KeepsRoom seats books.old books.new (Seat.Writing Kind.New request upload) seat.new }
+    ensures acts { Acts books.old books.new (Seat.Writing UploadKind.New request upload) seat.new Commit result }
+    ensures room { (seats : ℕ) → KeepsRoom seats books.old books.new (Seat.Writing UploadKind.New request upload) seat.new }
 {
     let Ok((name, location)) = names::new_name_twice(books, alloc, request) else {
-        *seat = Seat::Writing(Kind::New, request, upload);
+        *seat = Seat::Writing(UploadKind::New, request, upload);
         return Answer::Refused(Refusal::NoMemory);
     };
     let target = Target::Named(name);
@@ -158,7 +158,7 @@ fn commit_new(
         return Answer::Status(507, None);
     }
     if is_last(books) {
-        *seat = Seat::Writing(Kind::New, request, upload);
+        *seat = Seat::Writing(UploadKind::New, request, upload);
         return Answer::Refused(Refusal::LastNumber);
     }
     let status = store(books, target, upload);

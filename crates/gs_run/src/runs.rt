@@ -22,7 +22,7 @@ pub trait EventStore {
 }
 
 /// Takes events in order. Where the store shows what a legal history says, as a new store does of
-/// the empty one, that history with the events and their answers behind it is legal, and the store
+/// the empty one, that history with the events and their answers after it is legal, and the store
 /// then shows what it says. Room for all answers is made before the first event, so `NoMemory`
 /// changes nothing.
 pub fn run<S: EventStore>(

@@ -11,7 +11,7 @@ use Rattle.std.specs.Fmt.{decimal}
 use Rattle.std.proofs.lemmas.Fmt.{decimal_by_steps, length-decimal-le}
 use Rattle.std.specs.Int.Digits.{digits_of}
 use Rattle.std.proofs.lemmas.Int.Digits.{digits_of_step}
-use Rattle.gs_model.specs.declared.limits.TheConstants.{LONGEST_TERM}
+use Rattle.gs_model.specs.Limits.{max_term_bytes}
 use Rattle.gs_model.specs.Terms.{Term, Blank, Literal, LiteralKind, Typed, Tagged, xsd_string, suffix, text_of, is_term, IsText, IsTerm, numeral, escaped, escape_of, is_escaped}
 use Rattle.gs_model.specs.Texts.{term_of}
 use Rattle.gs_model.specs.Texts.{IsCanonical}
@@ -20,13 +20,13 @@ use Rattle.gs_model.proofs.TextLemmas.{term_of-text_of, same_text}
 pub term_of-bytes : (t : Term) (bytes : List ℕ) → bytes ≡ text_of t → term_of bytes ≡ t
 term_of-bytes t bytes e = ap term_of e ∙ term_of-text_of t
 
-pub canonical : (t : Term) (bytes : List ℕ) → bytes ≡ text_of t → is_term t ≡ true → IsText t → length bytes ≤ LONGEST_TERM → IsCanonical bytes
+pub canonical : (t : Term) (bytes : List ℕ) → bytes ≡ text_of t → is_term t ≡ true → IsText t → length bytes ≤ max_term_bytes → IsCanonical bytes
 canonical t bytes e formed spelled short =
     let same = term_of-bytes t bytes e in
     let P : Term → Type 0 = λ u. IsTerm u in
     record {
       canonical = ap text_of same ∙ sym e;
-      valid = subst P (sym same) (record { formed = formed; spelled = spelled; short = let Q : List ℕ → Type 0 = λ bs. length bs ≤ LONGEST_TERM in subst Q e short });
+      valid = subst P (sym same) (record { formed = formed; spelled = spelled; short = let Q : List ℕ → Type 0 = λ bs. length bs ≤ max_term_bytes in subst Q e short });
     }
 
 -- numbers as the program writes them
@@ -65,7 +65,7 @@ length-numeral n h = let P : List ℕ → Type 0 = λ ds. length ds ≤ 20 in su
 pub blank_formed : (r k : ℕ) → r < 2 ^ 64 → k < 2 ^ 64 → is_term (Blank r k) ≡ true
 blank_formed r k p q = grind (arith, nat_tests)
 
-pub blank_short : (r k : ℕ) → r < 2 ^ 64 → k < 2 ^ 64 → length (text_of (Blank r k)) ≤ LONGEST_TERM
+pub blank_short : (r k : ℕ) → r < 2 ^ 64 → k < 2 ^ 64 → length (text_of (Blank r k)) ≤ max_term_bytes
 blank_short r k p q = omega (arith, length-append (numeral r) (95 ∷ numeral k), length-numeral r p, length-numeral k q)
 
 -- escaping
@@ -135,9 +135,9 @@ pub length-tag : (t : List ℕ) → length (suffix (Tagged (str_to_ascii_lowerca
 length-tag t = ap length (suffix_tag (str_to_ascii_lowercase t)) ∙ omega (arith, length-map t to_ascii_lowercase)
 
 -- a datatype that is longer than any term makes a literal too long
-pub long_datatype : (d : List ℕ) → LONGEST_TERM < length d → LONGEST_TERM < length (suffix (Typed d))
+pub long_datatype : (d : List ℕ) → max_term_bytes < length d → max_term_bytes < length (suffix (Typed d))
 long_datatype d h =
-    elim (bytes_eq d xsd_string) as (λ b. b ≡ bytes_eq d xsd_string → LONGEST_TERM < length (suffix (Typed d))) [
+    elim (bytes_eq d xsd_string) as (λ b. b ≡ bytes_eq d xsd_string → max_term_bytes < length (suffix (Typed d))) [
       | true ↦ λ e. let n : length d ≡ 39 = ap length (same_text d xsd_string (sym e)) in absurd (omega arith)
       | false ↦ λ e. rw (suffix_other d e) (omega (arith, length-append d (62 ∷ [])))
     ] refl

@@ -3,16 +3,16 @@ use Rattle.std.specs.Prelude.{◌≡◌, ℕ, ◌≤◌, ◌<◌, true, false, L
 use Rattle.std.specs.Str.{str_to_ascii_lowercase}
 use Rattle.gs_model.specs.declared.refusals.Refusal.{Refusal}
 use Rattle.gs_model.specs.declared.refusals.Refusal.TheVariants.{NoMemory, Syntax, TermTooLong}
-use Rattle.gs_model.specs.declared.limits.TheConstants.{LONGEST_TERM, LONGEST_NAME}
+use Rattle.gs_model.specs.Limits.{max_term_bytes, max_name_bytes}
 use Rattle.gs_model.specs.Iris.{is_absolute}
 use Rattle.gs_model.specs.Terms.{Term, Literal, LiteralKind, Typed, Tagged, text_of, is_term, xsd_string}
 
 -- The term, where it is one and its text is not too long. A wrong form counts before a great length.
 abbrev pub Makes : Term → Result Term Refusal → Type 0
-Makes t (Ok made) = (made ≡ t) × (is_term t ≡ true) × (length (text_of t) ≤ LONGEST_TERM)
-Makes t (Err NoMemory) = (is_term t ≡ true) × (length (text_of t) ≤ LONGEST_TERM)
+Makes t (Ok made) = (made ≡ t) × (is_term t ≡ true) × (length (text_of t) ≤ max_term_bytes)
+Makes t (Err NoMemory) = (is_term t ≡ true) × (length (text_of t) ≤ max_term_bytes)
 Makes t (Err (Syntax at)) = (at ≡ 0) × (is_term t ≡ false)
-Makes t (Err TermTooLong) = (is_term t ≡ true) × (LONGEST_TERM < length (text_of t))
+Makes t (Err TermTooLong) = (is_term t ≡ true) × (max_term_bytes < length (text_of t))
 Makes t (Err refusal) = ⊥
 
 -- a literal's kind by what was given: not both, and `xsd:string` by neither
@@ -28,8 +28,8 @@ MakesLiteral lexical None made = made ≡ Err (Syntax 0)
 
 -- The name of a text, where it is an absolute IRI and not too long. A wrong form counts before a great length.
 abbrev pub Names : List ℕ → Result (List ℕ) Refusal → Type 0
-Names text (Ok name) = (name ≡ text) × (is_absolute text ≡ true) × (length text ≤ LONGEST_NAME)
-Names text (Err NoMemory) = (is_absolute text ≡ true) × (length text ≤ LONGEST_NAME)
+Names text (Ok name) = (name ≡ text) × (is_absolute text ≡ true) × (length text ≤ max_name_bytes)
+Names text (Err NoMemory) = (is_absolute text ≡ true) × (length text ≤ max_name_bytes)
 Names text (Err (Syntax at)) = (at ≡ 0) × (is_absolute text ≡ false)
-Names text (Err TermTooLong) = (is_absolute text ≡ true) × (LONGEST_NAME < length text)
+Names text (Err TermTooLong) = (is_absolute text ≡ true) × (max_name_bytes < length text)
 Names text (Err refusal) = ⊥

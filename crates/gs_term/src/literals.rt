@@ -3,7 +3,7 @@ ghost use Rattle.std.specs.Prelude.{◌≡◌, ◌+◌, ◌≤◌, ◌<◌, ◌+
 ghost use Rattle.std.specs.Char.{to_ascii_lowercase};
 ghost use Rattle.gs_model.specs.Terms.{Typed, Tagged, escaped, is_escaped, escape_of, suffix, is_tag as is_tag_of};
 
-use gs_model::LONGEST_TERM;
+use gs_model::MAX_TERM_BYTES;
 use std::alloc::{AllocError, Global};
 
 /// The datatype that a canonical text leaves out.
@@ -49,16 +49,16 @@ fn push_escaped(bytes: &mut Vec<u8>, lexical: &[u8], count: usize) -> Result<(),
     Ok(())
 }
 
-/// How many bytes are escaped, if a literal with so many bytes behind its closing quote is not too long.
+/// How many bytes are escaped, if a literal with so many bytes after its closing quote is not too long.
 pub fn fitting_count(lexical: &str, behind: usize) -> Option<usize>
-    ensures fits { IfSome result (λ n. (n ≡ count_by is_escaped lexical.now) × (length lexical.now + n + behind + 2 ≤ LONGEST_TERM)) }
-    ensures long { IfNone result (LONGEST_TERM < length lexical.now + count_by is_escaped lexical.now + behind + 2) }
+    ensures fits { IfSome result (λ n. (n ≡ count_by is_escaped lexical.now) × (length lexical.now + n + behind + 2 ≤ max_term_bytes)) }
+    ensures long { IfNone result (max_term_bytes < length lexical.now + count_by is_escaped lexical.now + behind + 2) }
 {
-    if lexical.len() > LONGEST_TERM || behind > LONGEST_TERM {
+    if lexical.len() > MAX_TERM_BYTES || behind > MAX_TERM_BYTES {
         return None;
     }
     let count = escaped_count(lexical.as_bytes());
-    if lexical.len() + count + behind + 2 > LONGEST_TERM {
+    if lexical.len() + count + behind + 2 > MAX_TERM_BYTES {
         return None;
     }
     Some(count)
@@ -72,7 +72,7 @@ pub fn quoted_bytes(
     behind: usize,
 ) -> Result<Vec<u8>, AllocError>
     requires count { count ≡ count_by is_escaped lexical.now }
-    requires fits { length lexical.now + count + behind + 2 ≤ LONGEST_TERM }
+    requires fits { length lexical.now + count + behind + 2 ≤ max_term_bytes }
     ensures { IfOk result (λ v. v.items ≡ 34 ∷ escaped lexical.now ++ 34 ∷ []) }
 {
     let mut bytes = Vec::with_capacity(alloc, lexical.len() + count + behind + 2)?;
@@ -82,7 +82,7 @@ pub fn quoted_bytes(
     Ok(bytes)
 }
 
-/// Appends what stands behind the quote of a literal of this datatype.
+/// Appends what stands after the quote of a literal of this datatype.
 pub fn push_datatype(bytes: &mut Vec<u8>, datatype: &str) -> Result<(), AllocError>
     ensures { OnOk result (bytes.new.items ≡ bytes.old.items ++ suffix (Typed datatype.now)) }
 {
@@ -96,7 +96,7 @@ pub fn push_datatype(bytes: &mut Vec<u8>, datatype: &str) -> Result<(), AllocErr
 }
 
 pub fn datatype_len(datatype: &str) -> usize
-    requires { length datatype.now ≤ LONGEST_TERM }
+    requires { length datatype.now ≤ max_term_bytes }
     ensures { result ≡ length (suffix (Typed datatype.now)) }
 {
     if datatype == XSD_STRING {

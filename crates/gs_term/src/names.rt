@@ -9,7 +9,7 @@ ghost use Rattle.std.specs.Cmp.Lexicographic.{slice_cmp};
 ghost use Rattle.gs_term.specs.Making.{Names};
 
 use gs_iri::is_absolute;
-use gs_model::{LONGEST_NAME, Refusal};
+use gs_model::{MAX_NAME_BYTES, Refusal};
 use std::alloc::{AllocError, Global};
 use std::cmp::Ordering;
 use std::marker::Model;
@@ -41,7 +41,7 @@ impl GraphName {
         if !is_absolute(text) {
             return Err(Refusal::Syntax(0));
         }
-        if text.len() > LONGEST_NAME {
+        if text.len() > MAX_NAME_BYTES {
             return Err(Refusal::TermTooLong);
         }
         let bytes = Vec::from_slice(alloc, text.as_bytes())?;

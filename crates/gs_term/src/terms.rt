@@ -11,7 +11,7 @@ ghost use Rattle.gs_term.specs.Making.{Makes, MakesLiteral, given_kind};
 
 use crate::literals::{self, XSD_STRING};
 use gs_iri::is_absolute;
-use gs_model::{LONGEST_TERM, Refusal};
+use gs_model::{MAX_TERM_BYTES, Refusal};
 use itoa::Buffer;
 use std::alloc::{AllocError, Global};
 use std::cmp::Ordering;
@@ -36,7 +36,7 @@ impl Model for TermText {
 }
 
 fn iri_bytes(alloc: Global, text: &str) -> Result<Vec<u8>, AllocError>
-    requires { length text.now ≤ LONGEST_TERM }
+    requires { length text.now ≤ max_term_bytes }
     ensures { IfOk result (λ v. v.items ≡ text_of (Iri text.now)) }
 {
     let mut bytes = Vec::with_capacity(alloc, text.len() + 2)?;
@@ -94,7 +94,7 @@ impl TermText {
         if !is_absolute(text) {
             return Err(Refusal::Syntax(0));
         }
-        if text.len() > LONGEST_TERM - 2 {
+        if text.len() > MAX_TERM_BYTES - 2 {
             return Err(Refusal::TermTooLong);
         }
         let bytes = iri_bytes(alloc, text)?;
@@ -116,7 +116,7 @@ impl TermText {
         if !is_absolute(datatype) {
             return Err(Refusal::Syntax(0));
         }
-        if datatype.len() > LONGEST_TERM {
+        if datatype.len() > MAX_TERM_BYTES {
             return Err(Refusal::TermTooLong);
         }
         let behind = literals::datatype_len(datatype);
@@ -135,7 +135,7 @@ impl TermText {
         if !literals::is_tag(tag.as_bytes()) {
             return Err(Refusal::Syntax(0));
         }
-        if tag.len() > LONGEST_TERM {
+        if tag.len() > MAX_TERM_BYTES {
             return Err(Refusal::TermTooLong);
         }
         let Some(count) = literals::fitting_count(lexical, tag.len() + 1) else {

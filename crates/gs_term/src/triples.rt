@@ -16,9 +16,9 @@ pub struct Triple {
 
 impl Model for Triple {
     ghost use Rattle.std.specs.Prelude.{◌≡◌, true, ◌&&◌};
-    ghost use Rattle.gs_model.specs.Triples.{Statement, is_subject, is_iri};
+    ghost use Rattle.gs_model.specs.Triples.{RdfTriple, is_subject, is_iri};
 
-    ghost Value = { Statement };
+    ghost Value = { RdfTriple };
 
     ghost view = { λ t. record { subject = t.subject; predicate = t.predicate; object = t.object } };
 

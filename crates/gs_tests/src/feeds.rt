@@ -185,7 +185,7 @@ fn pieces_may_change_their_length(rt: HostRuntime) -> Result<(), Fail> {
     Ok(())
 }
 
-/// A commit that the store refuses ends the text: a feed behind it is dropped, and what it says is
+/// A commit that the store refuses ends the text: a feed after it is dropped, and what it says is
 /// no part of the upload.
 #[test]
 fn a_refused_commit_ends_the_text(rt: HostRuntime) -> Result<(), Fail> {
@@ -239,7 +239,7 @@ fn lines_near_a_feed_end_the_run(rt: HostRuntime) -> Result<(), Fail> {
     Ok(())
 }
 
-/// A cut and a refused feed are commands: no store begins behind them.
+/// A cut and a refused feed are commands: no store begins after them.
 #[test]
 fn no_store_begins_behind_a_feed(rt: HostRuntime) -> Result<(), Fail> {
     let alloc = rt.alloc();

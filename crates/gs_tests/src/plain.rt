@@ -71,7 +71,7 @@ impl Text {
         char::from_u32(u32::try_from(value).ok()?)
     }
 
-    /// [10] UCHAR, behind its backslash.
+    /// [10] UCHAR, after its backslash.
     fn uchar(&mut self) -> Option<char> {
         match self.next() {
             Some('u') => self.digits(4),
@@ -80,7 +80,7 @@ impl Text {
         }
     }
 
-    /// [153s] ECHAR or [10] UCHAR, behind the backslash.
+    /// [153s] ECHAR or [10] UCHAR, after the backslash.
     fn escape(&mut self) -> Option<char> {
         match self.chars.get(self.at).copied() {
             Some('u' | 'U') => self.uchar(),
@@ -189,7 +189,7 @@ impl Text {
         Ok(None)
     }
 
-    /// [144s] LANGTAG behind its `@`: letters, and behind each `-` letters and digits.
+    /// [144s] LANGTAG after its `@`: letters, and after each `-` letters and digits.
     fn tag(&mut self, alloc: Global) -> Result<Option<String>, AllocError> {
         let mut tag = String::new(alloc);
         for _ in 0..self.chars.len() {

@@ -2,7 +2,7 @@
 //! answers; `rt try --test --fail-alloc N` refuses the request of that number.
 use gs_body::BodyReader;
 use gs_iri::resolve;
-use gs_lex::{Kind, Lexer};
+use gs_lex::{Lexer, TokenKind};
 use gs_model::Refusal;
 use gs_ntread::NTriplesReader;
 use std::alloc::Global;
@@ -15,7 +15,7 @@ fn feed_again(
     alloc: Global,
     lexer: &mut Lexer,
     piece: &str,
-    kinds: &mut Vec<Kind>,
+    kinds: &mut Vec<TokenKind>,
 ) -> Result<(), Fail> {
     let mut tokens = Vec::new(alloc);
     if lexer.feed(piece.as_bytes(), &mut tokens) == Err(Refusal::NoMemory) {
@@ -44,11 +44,11 @@ fn a_refused_piece_of_tokens_changes_nothing(rt: HostRuntime) -> Result<(), Fail
         lexer.finish(&mut tokens)?;
     }
     let wanted = [
-        Kind::IriRef,
-        Kind::PnameLn,
-        Kind::StringLiteralQuote,
-        Kind::LangTag,
-        Kind::Dot,
+        TokenKind::IriRef,
+        TokenKind::PnameLn,
+        TokenKind::StringLiteralQuote,
+        TokenKind::LangTag,
+        TokenKind::Dot,
     ];
     assert_eq!(rt; kinds.as_slice(), wanted.as_slice());
     assert_eq!(rt; tokens.len(), 5);

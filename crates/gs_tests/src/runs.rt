@@ -1,6 +1,6 @@
 //! The events of the worked schedules, given whole to `Store::run`.
 use crate::schedules::ROWS;
-use gs_core::{Action, Answer, Event, Kind, Refusal, Store};
+use gs_core::{Action, Answer, Event, Refusal, Store, UploadKind};
 use gs_term::{GraphName, Target, TermText, Triple};
 use std::alloc::{AllocError, Global};
 use std::test::Fail;
@@ -24,15 +24,15 @@ fn triple(alloc: Global, object: &str) -> Result<Triple, Refusal> {
     Ok(Triple::new(subject, predicate, object))
 }
 
-fn kind(alloc: Global, word: &str, name: &str) -> Result<Kind, Refusal> {
+fn kind(alloc: Global, word: &str, name: &str) -> Result<UploadKind, Refusal> {
     match word {
-        "put" => Ok(Kind::Put(target(alloc, name)?)),
-        "post" => Ok(Kind::Post(target(alloc, name)?)),
-        _ => Ok(Kind::New),
+        "put" => Ok(UploadKind::Put(target(alloc, name)?)),
+        "post" => Ok(UploadKind::Post(target(alloc, name)?)),
+        _ => Ok(UploadKind::New),
     }
 }
 
-/// The action of a line's words behind the seat.
+/// The action of a line's words after the seat.
 fn action(alloc: Global, words: &[&str]) -> Result<Action, Refusal> {
     let word = words.first().copied().unwrap_or_default();
     let next = words.get(1).copied().unwrap_or_default();

@@ -4,21 +4,21 @@ use Rattle.gs_lex.specs.Tokens as lexer
 use Rattle.gs_lex.specs.Tokens.{IsCut}
 use Rattle.gs_lex.specs.Cuts.{cut_of}
 use Rattle.gs_lex.proofs.CutLemmas.{cut-from}
-use Rattle.gs_body.specs.Bodies.{Whole, Syntax, TooLong, Said, Stated}
+use Rattle.gs_body.specs.Bodies.{Whole, Syntax, TooLong, Meaning, Statement}
 use Rattle.gs_document.specs.Program.{document}
 use Rattle.gs_document.proofs.DocumentLemmas.{document_read, document_covered}
 use Rattle.gs_document.proofs.ReaderLemmas.{machine_tells}
-use Rattle.gs_turtle.specs.Documents.{ended_by, said_by, IsBody}
-use Rattle.gs_turtle.proofs.SaidLemmas.{said_cut}
+use Rattle.gs_turtle.specs.Documents.{ended_by, meaning_by, IsBody}
+use Rattle.gs_turtle.proofs.SaidLemmas.{meaning_cut}
 
-whole-ends : (e : lexer.Ending) (d : Said) (S : List Stated) → ended_by e d ≡ (S, Whole) → (e ≡ lexer.Whole) × (d ≡ (S, Whole))
+whole-ends : (e : lexer.Ending) (d : Meaning) (S : List Statement) → ended_by e d ≡ (S, Whole) → (e ≡ lexer.Whole) × (d ≡ (S, Whole))
 whole-ends lexer.Whole d S h = (refl, h)
-whole-ends (lexer.Fault n) (ss, Whole) S h = absurd (Prim.cc (ap (λ (t : Said). t.1) h))
-whole-ends (lexer.Fault n) (ss, Syntax) S h = absurd (Prim.cc (ap (λ (t : Said). t.1) h))
-whole-ends (lexer.Fault n) (ss, TooLong) S h = absurd (Prim.cc (ap (λ (t : Said). t.1) h))
+whole-ends (lexer.Fault n) (ss, Whole) S h = absurd (Prim.cc (ap (λ (t : Meaning). t.1) h))
+whole-ends (lexer.Fault n) (ss, Syntax) S h = absurd (Prim.cc (ap (λ (t : Meaning). t.1) h))
+whole-ends (lexer.Fault n) (ss, TooLong) S h = absurd (Prim.cc (ap (λ (t : Meaning). t.1) h))
 
-pub body-covered : (b : List ℕ) (r : ℕ) (x : List ℕ) (S : List Stated) → said_by b r x ≡ (S, Whole) → IsBody b r x S
-unfolding said_by
+pub body-covered : (b : List ℕ) (r : ℕ) (x : List ℕ) (S : List Statement) → meaning_by b r x ≡ (S, Whole) → IsBody b r x S
+unfolding meaning_by
 body-covered b r x S h =
     let c = cut_of false x in
     let w = whole-ends c.1 (document b r c.0) S h in
@@ -28,5 +28,5 @@ body-covered b r x S h =
       stated = document_covered b r c.0 S w.1;
     }
 
-pub body-read : (b : List ℕ) (r : ℕ) (x : List ℕ) (S : List Stated) → IsBody b r x S → said_by b r x ≡ (S, Whole)
-body-read b r x S h = said_cut b r x h.lexemes lexer.Whole h.cut ∙ machine_tells b r h.lexemes ∙ document_read b r h.lexemes S h.stated
+pub body-read : (b : List ℕ) (r : ℕ) (x : List ℕ) (S : List Statement) → IsBody b r x S → meaning_by b r x ≡ (S, Whole)
+body-read b r x S h = meaning_cut b r x h.lexemes lexer.Whole h.cut ∙ machine_tells b r h.lexemes ∙ document_read b r h.lexemes S h.stated

@@ -2,7 +2,7 @@
 use Rattle.std.proofs.Common.{◌≡◌, ℕ, Bool, false, List, [], ◌++◌, sym, ap, subst, ◌∙◌, append_assoc}
 use Rattle.std.specs.Prelude.{string_bytes}
 use Rattle.std.proofs.lemmas.List.{map-append}
-use Rattle.gs_model.specs.Triples.{Statement}
+use Rattle.gs_model.specs.Triples.{RdfTriple}
 use Rattle.gs_model.specs.declared.refusals.Refusal.{Refusal}
 use Rattle.gs_machine.specs.Machines.{joined, AreSettled}
 use Rattle.gs_lex.specs.Tokens as lexer
@@ -13,7 +13,7 @@ use Rattle.gs_lex.specs.Lexers.{Leads, Breaks, MayGoQuietly}
 use Rattle.gs_lex.specs.declared.tokens.Token.{Token}
 use Rattle.gs_lex.proofs.CutLemmas.{leads-goes-on}
 use Rattle.gs_blank.specs.Numbers.{no_numbers}
-use Rattle.gs_body.specs.Bodies.{Said, triples_of}
+use Rattle.gs_body.specs.Bodies.{Meaning, triples_of}
 use Rattle.gs_body.specs.Feeding.{Finishes}
 use Rattle.gs_body.specs.Leading.{IsLed}
 use Rattle.gs_body.proofs.LeadingLemmas.{led-on, triples_of-append}
@@ -23,16 +23,16 @@ use Rattle.gs_document.specs.States.{State, Between}
 use Rattle.gs_document.specs.Machine.{turtle}
 use Rattle.gs_parse.specs.Views.{state_of}
 use Rattle.gs_parse.specs.declared.parser.Parser.{Parser}
-use Rattle.gs_turtle.specs.Documents.{ended_by, said_by}
+use Rattle.gs_turtle.specs.Documents.{ended_by, meaning_by}
 use Rattle.gs_turtle.specs.Portions.{turn_of, end_of, Takes, Concludes, TellsBehind}
-use Rattle.gs_turtle.specs.Readers.{unread, LeadsTo, said_of, Keeps, Reads, IsRefused, IsRefusedAtEnd}
+use Rattle.gs_turtle.specs.Readers.{unread, LeadsTo, meaning_for, Keeps, Reads, IsRefused, IsRefusedAtEnd}
 use Rattle.gs_turtle.specs.declared.readers.TurtleReader.{TurtleReader}
 use Rattle.gs_turtle.proofs.PortionLemmas.{tells-ended}
-use Rattle.gs_turtle.proofs.SaidLemmas.{said_on, tells_joined, all-settled}
+use Rattle.gs_turtle.proofs.SaidLemmas.{meaning_on, tells_joined, all-settled}
 
 -- a step keeps what a reader says, and where it began
-pub said-same : (a b : TurtleReader) → Keeps a b → (x : List ℕ) → said_of b x ≡ said_of a x
-said-same a b k x = ap (λ (z : List ℕ). said_by z b.request x) k.base ∙ ap (λ n. said_by (string_bytes a.base) n x) k.request
+pub meaning_of-same : (a b : TurtleReader) → Keeps a b → (x : List ℕ) → meaning_for b x ≡ meaning_for a x
+meaning_of-same a b k x = ap (λ (z : List ℕ). meaning_by z b.request x) k.base ∙ ap (λ n. meaning_by (string_bytes a.base) n x) k.request
 
 unread-same : (a b : TurtleReader) → Keeps a b → unread b ≡ unread a
 unread-same a b k = ap (λ (z : List ℕ). Between (start z b.request) no_numbers) k.base ∙ ap (λ n. Between (start (string_bytes a.base) n) no_numbers) k.request
@@ -50,8 +50,8 @@ same-added : (old new : List Token) (us : List Lexeme) → old ≡ [] → lexing
 same-added old new us e g = sym (g ∙ ap (λ z. lexemes_of z ++ us) e)
 
 -- tokens that the parser took too
-abbrev leads-to : (a b : TurtleReader) (piece : List ℕ) (old new : List Token) (o1 o2 : List Statement) → old ≡ [] → Keeps a b → Lexes a b piece old new → Takes a.parser b.parser (lexemes_of new) o1 o2
-    → (x : List ℕ) (ts : List Statement) → LeadsTo a x ts → LeadsTo b (x ++ piece) (ts ++ triples_of (turn_of a.parser (lexemes_of new)).1)
+abbrev leads-to : (a b : TurtleReader) (piece : List ℕ) (old new : List Token) (o1 o2 : List RdfTriple) → old ≡ [] → Keeps a b → Lexes a b piece old new → Takes a.parser b.parser (lexemes_of new) o1 o2
+    → (x : List ℕ) (ts : List RdfTriple) → LeadsTo a x ts → LeadsTo b (x ++ piece) (ts ++ triples_of (turn_of a.parser (lexemes_of new)).1)
 leads-to a b piece old new o1 o2 e k f h x ts l =
     let fed = f false x l.lexemes l.lexed in
     let us = lexemes_of new in
@@ -66,17 +66,17 @@ leads-to a b piece old new o1 o2 e k f h x ts l =
     }
 
 -- a portion was read
-pub reads-portion : (a b : TurtleReader) (piece : List ℕ) (old new : List Token) (o1 o2 : List Statement) → old ≡ [] → Keeps a b → Lexes a b piece old new → Takes a.parser b.parser (lexemes_of new) o1 o2
+pub reads-portion : (a b : TurtleReader) (piece : List ℕ) (old new : List Token) (o1 o2 : List RdfTriple) → old ≡ [] → Keeps a b → Lexes a b piece old new → Takes a.parser b.parser (lexemes_of new) o1 o2
     → Reads a b piece o1 o2
 reads-portion a b piece old new o1 o2 e k f h =
     let us = lexemes_of new in
-    let given : List Statement = triples_of (turn_of a.parser us).1 in
+    let given : List RdfTriple = triples_of (turn_of a.parser us).1 in
     record {
       goes = record { given = given; grown = h.given; leads = leads-to a b piece old new o1 o2 e k f h };
       settled = λ x ts l i.
           let fed = f false x l.lexemes l.lexed in
           let quiet : MayGoQuietly false (x ++ piece) (l.lexemes ++ us) = subst (λ z. MayGoQuietly false (x ++ piece) (l.lexemes ++ z)) (same-added old new fed.added e fed.given) (fed.quiet i) in
-          subst (λ (g : List ℕ → List Statement). AreSettled g (x ++ piece) (ts ++ given)) (λ j z. triples_of (said-same a b k z j).0)
+          subst (λ (g : List ℕ → List RdfTriple). AreSettled g (x ++ piece) (ts ++ given)) (λ j z. triples_of (meaning_of-same a b k z j).0)
           (all-settled b (x ++ piece) (ts ++ given) (leads-to a b piece old new o1 o2 e k f h x ts l) quiet);
     }
 
@@ -89,10 +89,10 @@ refused-portion e a b piece old new n f h = λ x ts l y.
     let us = lexemes_of new ++ g.0 in
     let cut : IsCut false ((x ++ piece) ++ y) (l.lexemes ++ us) g.1 =
     subst (λ z. IsCut false ((x ++ piece) ++ y) z g.1) (append_assoc l.lexemes fed.added g.0 ∙ ap (λ z. l.lexemes ++ (z ++ g.0)) (same-added old new fed.added n fed.given)) g.2 in
-    tells_joined e a.parser.last l.parsed.statements (ended_by g.1 (end_of a.parser us)) (said_of a ((x ++ piece) ++ y)) l.parsed.place
-    (said_on a x ts l ((x ++ piece) ++ y) us g.1 cut) (tells-ended e a.parser.last g.1 (end_of a.parser us) (h g.0))
+    tells_joined e a.parser.last l.parsed.statements (ended_by g.1 (end_of a.parser us)) (meaning_for a ((x ++ piece) ++ y)) l.parsed.place
+    (meaning_on a x ts l ((x ++ piece) ++ y) us g.1 cut) (tells-ended e a.parser.last g.1 (end_of a.parser us) (h g.0))
 
--- behind its tokens stands something that is none
+-- after its tokens stands something that is none
 pub broken-portion : (e : Refusal) (a : TurtleReader) (piece : List ℕ) (old new : List Token) (at : ℕ) → old ≡ []
     → ((updates : Bool) (x : List ℕ) (ts : List Lexeme) → Leads updates a.lexer x ts → Breaks updates (x ++ piece) ts at old new)
     → ((n : ℕ) → TellsBehind a.parser.last e (ended_by (lexer.Fault n) (end_of a.parser (lexemes_of new)))) → IsRefused a piece e
@@ -101,33 +101,33 @@ broken-portion e a piece old new at n f h = λ x ts l y.
     let us = lexemes_of new in
     let cut : IsCut false ((x ++ piece) ++ y) (l.lexemes ++ us) (lexer.Fault at) =
     subst (λ z. IsCut false ((x ++ piece) ++ y) (l.lexemes ++ z) (lexer.Fault at)) (same-added old new b.added n b.given) (b.fault y) in
-    tells_joined e a.parser.last l.parsed.statements (ended_by (lexer.Fault at) (end_of a.parser us)) (said_of a ((x ++ piece) ++ y)) l.parsed.place
-    (said_on a x ts l ((x ++ piece) ++ y) us (lexer.Fault at) cut) (h at)
+    tells_joined e a.parser.last l.parsed.statements (ended_by (lexer.Fault at) (end_of a.parser us)) (meaning_for a ((x ++ piece) ++ y)) l.parsed.place
+    (meaning_on a x ts l ((x ++ piece) ++ y) us (lexer.Fault at) cut) (h at)
 
 -- how the lexer ends a text
 abbrev pub Ends : TurtleReader → lexer.Ending → List Token → List Token → Type 0
 Ends a end old new = (x : List ℕ) (ts : List Lexeme) → Leads false a.lexer x ts → lexing.Finishes false x ts end old new
 
 -- what a text says that ends there
-said-end : (a : TurtleReader) (end : lexer.Ending) (old new : List Token) → old ≡ [] → Ends a end old new → (x : List ℕ) (ts : List Statement) (l : LeadsTo a x ts)
-    → said_of a x ≡ joined l.parsed.statements (ended_by end (end_of a.parser (lexemes_of new)))
-said-end a end old new n f x ts l =
+meaning_of-end : (a : TurtleReader) (end : lexer.Ending) (old new : List Token) → old ≡ [] → Ends a end old new → (x : List ℕ) (ts : List RdfTriple) (l : LeadsTo a x ts)
+    → meaning_for a x ≡ joined l.parsed.statements (ended_by end (end_of a.parser (lexemes_of new)))
+meaning_of-end a end old new n f x ts l =
     let g = f x l.lexemes l.lexed in
-    said_on a x ts l x (lexemes_of new) end (subst (λ z. IsCut false x (l.lexemes ++ z) end) (same-added old new g.added n g.given) g.cut)
+    meaning_on a x ts l x (lexemes_of new) end (subst (λ z. IsCut false x (l.lexemes ++ z) end) (same-added old new g.added n g.given) g.cut)
 
 -- the text ends, and its last tokens have a fault or not
 pub refused-at-end : (e : Refusal) (a : TurtleReader) (end : lexer.Ending) (old new : List Token) → old ≡ [] → Ends a end old new
     → TellsBehind a.parser.last e (ended_by end (end_of a.parser (lexemes_of new))) → IsRefusedAtEnd a e
 refused-at-end e a end old new n f h = λ x ts l.
-    tells_joined e a.parser.last l.parsed.statements (ended_by end (end_of a.parser (lexemes_of new))) (said_of a x) l.parsed.place (said-end a end old new n f x ts l) h
+    tells_joined e a.parser.last l.parsed.statements (ended_by end (end_of a.parser (lexemes_of new))) (meaning_for a x) l.parsed.place (meaning_of-end a end old new n f x ts l) h
 
-pub ends-whole : (a : TurtleReader) (p : Parser) (old new : List Token) (o1 o2 : List Statement) → old ≡ [] → Ends a lexer.Whole old new → Concludes a.parser p (lexemes_of new) o1 o2
-    → Finishes said_of LeadsTo a o1 o2
+pub ends-whole : (a : TurtleReader) (p : Parser) (old new : List Token) (o1 o2 : List RdfTriple) → old ≡ [] → Ends a lexer.Whole old new → Concludes a.parser p (lexemes_of new) o1 o2
+    → Finishes meaning_for LeadsTo a o1 o2
 ends-whole a p old new o1 o2 n f h =
     let t = end_of a.parser (lexemes_of new) in
     record {
       given = triples_of t.0;
       grown = h.given;
-      whole = λ x ts l. ap (λ (s : Said). s.1) (said-end a lexer.Whole old new n f x ts l) ∙ h.whole;
-      all = λ x ts l. ap (λ (s : Said). triples_of s.0) (said-end a lexer.Whole old new n f x ts l) ∙ triples_of-append l.parsed.statements t.0 ∙ ap (λ z. z ++ triples_of t.0) (sym l.parsed.given);
+      whole = λ x ts l. ap (λ (s : Meaning). s.1) (meaning_of-end a lexer.Whole old new n f x ts l) ∙ h.whole;
+      all = λ x ts l. ap (λ (s : Meaning). triples_of s.0) (meaning_of-end a lexer.Whole old new n f x ts l) ∙ triples_of-append l.parsed.statements t.0 ∙ ap (λ z. z ++ triples_of t.0) (sym l.parsed.given);
     }

@@ -1,7 +1,7 @@
 -- The tokens of a portion, one after another.
 use Rattle.std.proofs.Common.{◌≡◌, ◌≢◌, ℕ, ◌+◌, ◌<◌, List, [], ◌∷◌, ◌++◌, length, take, get_or, refl, sym, ap, subst, ◌∙◌, append_assoc, append-nil}
 use Rattle.std.proofs.lemmas.List.{map-append, take_more}
-use Rattle.gs_model.specs.Triples.{Statement}
+use Rattle.gs_model.specs.Triples.{RdfTriple}
 use Rattle.gs_model.specs.declared.refusals.Refusal.{Refusal}
 use Rattle.gs_model.specs.declared.refusals.Refusal.TheVariants as refusal
 use Rattle.gs_machine.specs.Machines.{joined, steps, rest}
@@ -10,7 +10,7 @@ use Rattle.gs_lex.specs.Tokens as lexer
 use Rattle.gs_lex.specs.Tokens.{Lexeme}
 use Rattle.gs_lex.specs.Lexemes.{lexeme_of, lexemes_of}
 use Rattle.gs_lex.specs.declared.tokens.Token.{Token}
-use Rattle.gs_body.specs.Bodies.{Whole, Syntax, TooLong, Said, Stated, triples_of, end_after}
+use Rattle.gs_body.specs.Bodies.{Whole, Syntax, TooLong, Meaning, Statement, triples_of, end_after}
 use Rattle.gs_body.proofs.LeadingLemmas.{triples_of-append, end_after-append}
 use Rattle.gs_document.specs.declared.faults.Fault.{Fault}
 use Rattle.gs_document.specs.declared.faults.Fault.TheVariants.{Broken, Long}
@@ -25,33 +25,33 @@ use Rattle.gs_turtle.specs.Documents.{ended_by}
 use Rattle.gs_turtle.specs.Portions.{turn_of, end_of, Takes, Concludes, refusal_of, TellsBehind}
 
 -- no tokens
-pub takes-none : (p : Parser) (before : List Statement) → Takes p p [] before before
+pub takes-none : (p : Parser) (before : List RdfTriple) → Takes p p [] before before
 unfolding steps
 takes-none p before = record { state = refl; given = sym (append-nil before); last = refl }
 
--- the state behind tokens and more tokens
+-- the state after tokens and more tokens
 turn-append : (p : Parser) (s : State) (ts us : List Lexeme) → s ≡ (turn_of p ts).0 → turn_of p (ts ++ us) ≡ ((steps turtle s (symbols_of us)).0, (turn_of p ts).1 ++ (steps turtle s (symbols_of us)).1)
 turn-append p s ts us e =
     ap (steps turtle (state_of p)) (map-append symbol_of ts us) ∙ steps-append turtle (state_of p) (symbols_of ts) (symbols_of us)
     ∙ ap (λ (z : State). ((steps turtle z (symbols_of us)).0, (turn_of p ts).1 ++ (steps turtle z (symbols_of us)).1)) (sym e)
 
 -- one token more
-pub takes-more : (a b c : Parser) (ts : List Lexeme) (t : Lexeme) (o1 o2 o3 : List Statement) → Takes a b ts o1 o2
+pub takes-more : (a b c : Parser) (ts : List Lexeme) (t : Lexeme) (o1 o2 o3 : List RdfTriple) → Takes a b ts o1 o2
     → state_of c ≡ (step (state_of b) (symbol_of t)).0 → o3 ≡ o2 ++ triples_of (step (state_of b) (symbol_of t)).1 → c.last ≡ end_after b.last (step (state_of b) (symbol_of t)).1
     → Takes a c (ts ++ t ∷ []) o1 o3
 takes-more a b c ts t o1 o2 o3 h p q r =
     let u = step (state_of b) (symbol_of t) in
     let old = (turn_of a ts).1 in
     let e : turn_of a (ts ++ t ∷ []) ≡ (u.0, old ++ u.1) =
-    turn-append a (state_of b) ts (t ∷ []) h.state ∙ ap (λ (z : State × List Stated). (z.0, old ++ z.1)) (steps-one turtle (state_of b) (symbol_of t)) in
+    turn-append a (state_of b) ts (t ∷ []) h.state ∙ ap (λ (z : State × List Statement). (z.0, old ++ z.1)) (steps-one turtle (state_of b) (symbol_of t)) in
     record {
-      state = p ∙ ap (λ (z : State × List Stated). z.0) (sym e);
-      given = q ∙ ap (λ z. z ++ triples_of u.1) h.given ∙ append_assoc o1 (triples_of old) (triples_of u.1) ∙ ap (λ z. o1 ++ z) (sym (triples_of-append old u.1)) ∙ ap (λ (z : State × List Stated). o1 ++ triples_of z.1) (sym e);
-      last = r ∙ ap (λ z. end_after z u.1) h.last ∙ sym (end_after-append a.last old u.1) ∙ ap (λ (z : State × List Stated). end_after a.last z.1) (sym e);
+      state = p ∙ ap (λ (z : State × List Statement). z.0) (sym e);
+      given = q ∙ ap (λ z. z ++ triples_of u.1) h.given ∙ append_assoc o1 (triples_of old) (triples_of u.1) ∙ ap (λ z. o1 ++ z) (sym (triples_of-append old u.1)) ∙ ap (λ (z : State × List Statement). o1 ++ triples_of z.1) (sym e);
+      last = r ∙ ap (λ z. end_after z u.1) h.last ∙ sym (end_after-append a.last old u.1) ∙ ap (λ (z : State × List Statement). end_after a.last z.1) (sym e);
     }
 
 -- the next token of a list
-pub takes-next : (a b c : Parser) (xs : List Token) (n : ℕ) (t : Token) (o1 o2 o3 : List Statement) → n < length xs → t ≡ get_or xs n t → Takes a b (lexemes_of (take n xs)) o1 o2
+pub takes-next : (a b c : Parser) (xs : List Token) (n : ℕ) (t : Token) (o1 o2 o3 : List RdfTriple) → n < length xs → t ≡ get_or xs n t → Takes a b (lexemes_of (take n xs)) o1 o2
     → state_of c ≡ (step (state_of b) (symbol_of (lexeme_of t))).0 → o3 ≡ o2 ++ triples_of (step (state_of b) (symbol_of (lexeme_of t))).1
     → c.last ≡ end_after b.last (step (state_of b) (symbol_of (lexeme_of t))).1 → Takes a c (lexemes_of (take (n + 1) xs)) o1 o3
 takes-next a b c xs n t o1 o2 o3 l i h p q r =
@@ -60,21 +60,21 @@ takes-next a b c xs n t o1 o2 o3 l i h p q r =
     subst (λ (z : List Lexeme). Takes a c z o1 o3) (sym e) (takes-more a b c (lexemes_of (take n xs)) (lexeme_of t) o1 o2 o3 h p q r)
 
 -- a fault by its refusal
-pub tells-fault : (f : Fault) (last n : ℕ) (t : Said) → t.1 ≡ ending f → n ≡ end_after last t.0 → TellsBehind last (refusal_of n f) t
+pub tells-fault : (f : Fault) (last n : ℕ) (t : Meaning) → t.1 ≡ ending f → n ≡ end_after last t.0 → TellsBehind last (refusal_of n f) t
 tells-fault Broken last n t p q = (p, q)
 tells-fault Long last n t p q = p
 
 -- where the parser is lost, whatever follows says nothing more
-pub lost-tells : (a b : Parser) (ts us : List Lexeme) (o1 o2 : List Statement) (f : Fault) → Takes a b ts o1 o2 → state_of b ≡ lost f → TellsBehind a.last (refusal_of b.last f) (end_of a (ts ++ us))
+pub lost-tells : (a b : Parser) (ts us : List Lexeme) (o1 o2 : List RdfTriple) (f : Fault) → Takes a b ts o1 o2 → state_of b ≡ lost f → TellsBehind a.last (refusal_of b.last f) (end_of a (ts ++ us))
 lost-tells a b ts us o1 o2 f h e =
     let old = (turn_of a ts).1 in
     let all : end_of a (ts ++ us) ≡ (old, ending f) =
     ap (rest turtle (state_of a)) (map-append symbol_of ts us) ∙ rest-append turtle (state_of a) (symbols_of ts) (symbols_of us)
     ∙ ap (λ (z : State). joined old (rest turtle z (symbols_of us))) (sym h.state ∙ e) ∙ ap (joined old) (lost_rest (ending f) (symbols_of us)) ∙ ap (λ z. (z, ending f)) (append-nil old) in
-    tells-fault f a.last b.last (end_of a (ts ++ us)) (ap (λ (z : Said). z.1) all) (h.last ∙ ap (λ (z : Said). end_after a.last z.0) (sym all))
+    tells-fault f a.last b.last (end_of a (ts ++ us)) (ap (λ (z : Meaning). z.1) all) (h.last ∙ ap (λ (z : Meaning). end_after a.last z.0) (sym all))
 
 -- the text ends there
-end-is : (a b : Parser) (ts : List Lexeme) (o1 o2 : List Statement) → Takes a b ts o1 o2 → end_of a ts ≡ ((turn_of a ts).1, ended (state_of b))
+end-is : (a b : Parser) (ts : List Lexeme) (o1 o2 : List RdfTriple) → Takes a b ts o1 o2 → end_of a ts ≡ ((turn_of a ts).1, ended (state_of b))
 unfolding rest
 end-is a b ts o1 o2 h =
     let old = (turn_of a ts).1 in
@@ -82,23 +82,23 @@ end-is a b ts o1 o2 h =
     ∙ ap (λ (z : State). joined old (rest turtle z [])) (sym h.state) ∙ ap (λ z. (z, ended (state_of b))) (append-nil old)
 
 -- without a fault
-pub concludes : (a b : Parser) (ts : List Lexeme) (o1 o2 : List Statement) → Takes a b ts o1 o2 → Whole ≡ ended (state_of b) → Concludes a b ts o1 o2
+pub concludes : (a b : Parser) (ts : List Lexeme) (o1 o2 : List RdfTriple) → Takes a b ts o1 o2 → Whole ≡ ended (state_of b) → Concludes a b ts o1 o2
 concludes a b ts o1 o2 h e =
     let all = end-is a b ts o1 o2 h in
     record {
-      whole = ap (λ (z : Said). z.1) all ∙ sym e;
-      given = h.given ∙ ap (λ (z : Said). o1 ++ triples_of z.0) (sym all);
-      last = h.last ∙ ap (λ (z : Said). end_after a.last z.0) (sym all);
+      whole = ap (λ (z : Meaning). z.1) all ∙ sym e;
+      given = h.given ∙ ap (λ (z : Meaning). o1 ++ triples_of z.0) (sym all);
+      last = h.last ∙ ap (λ (z : Meaning). end_after a.last z.0) (sym all);
     }
 
 -- with a fault
-pub ends-faulty : (a b : Parser) (ts : List Lexeme) (o1 o2 : List Statement) (f : Fault) → Takes a b ts o1 o2 → ending f ≡ ended (state_of b) → TellsBehind a.last (refusal_of b.last f) (end_of a ts)
+pub ends-faulty : (a b : Parser) (ts : List Lexeme) (o1 o2 : List RdfTriple) (f : Fault) → Takes a b ts o1 o2 → ending f ≡ ended (state_of b) → TellsBehind a.last (refusal_of b.last f) (end_of a ts)
 ends-faulty a b ts o1 o2 f h e =
     let all = end-is a b ts o1 o2 h in
-    tells-fault f a.last b.last (end_of a ts) (ap (λ (z : Said). z.1) all ∙ sym e) (h.last ∙ ap (λ (z : Said). end_after a.last z.0) (sym all))
+    tells-fault f a.last b.last (end_of a ts) (ap (λ (z : Meaning). z.1) all ∙ sym e) (h.last ∙ ap (λ (z : Meaning). end_after a.last z.0) (sym all))
 
 -- the first fault of all is that of the tokens, where they have one
-pub tells-ended : (e : Refusal) (last : ℕ) (end : lexer.Ending) (t : Said) → TellsBehind last e t → TellsBehind last e (ended_by end t)
+pub tells-ended : (e : Refusal) (last : ℕ) (end : lexer.Ending) (t : Meaning) → TellsBehind last e t → TellsBehind last e (ended_by end t)
 tells-ended e last lexer.Whole t h = h
 tells-ended e last (lexer.Fault n) (ss, Syntax) h = h
 tells-ended e last (lexer.Fault n) (ss, TooLong) h = h
@@ -112,12 +112,12 @@ tells-ended refusal.StoreFull last (lexer.Fault n) (ss, Whole) h = h
 tells-ended refusal.NotInProfile last (lexer.Fault n) (ss, Whole) h = h
 tells-ended refusal.Closed last (lexer.Fault n) (ss, Whole) h = h
 
--- and else that behind them
-pub tells-broken : (last m n : ℕ) (t : Said) → t.1 ≡ Whole → m ≡ end_after last t.0 → TellsBehind last (refusal.Syntax m) (ended_by (lexer.Fault n) t)
+-- and else that after them
+pub tells-broken : (last m n : ℕ) (t : Meaning) → t.1 ≡ Whole → m ≡ end_after last t.0 → TellsBehind last (refusal.Syntax m) (ended_by (lexer.Fault n) t)
 tells-broken last m n (ss, Whole) p q = (refl, q)
 tells-broken last m n (ss, Syntax) p q = (refl, q)
 tells-broken last m n (ss, TooLong) p q = absurd (Prim.cc p)
 
 -- what tells of a fault is not that an earlier call was refused
-pub tells-open : (e : Refusal) (last : ℕ) (t : Said) → TellsBehind last e t → e ≢ refusal.Closed
+pub tells-open : (e : Refusal) (last : ℕ) (t : Meaning) → TellsBehind last e t → e ≢ refusal.Closed
 tells-open e last t h = λ p. subst (λ r. TellsBehind last r t) p h

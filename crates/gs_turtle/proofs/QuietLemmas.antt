@@ -2,12 +2,12 @@
 use Rattle.std.proofs.Common.{◌≡◌, ℕ, Bool, true, false, List, [], ◌∷◌, refl, ap, ◌∙◌, append-nil, Option, Some, None}
 use Rattle.std.specs.Prelude.{if◌then◌else◌}
 use Rattle.std.specs.Str.{is_utf8}
-use Rattle.gs_model.specs.Triples.{Statement}
+use Rattle.gs_model.specs.Triples.{RdfTriple}
 use Rattle.gs_machine.specs.Machines.{rest}
 use Rattle.gs_lex.specs.Tokens.{Lexeme, has_text}
 use Rattle.gs_lex.specs.Lexers.{AreQuiet}
-use Rattle.gs_lex.specs.declared.kinds.Kind.{Kind}
-use Rattle.gs_lex.specs.declared.kinds.Kind.TheVariants as kind
+use Rattle.gs_lex.specs.declared.kinds.TokenKind.{TokenKind}
+use Rattle.gs_lex.specs.declared.kinds.TokenKind.TheVariants as kind
 use Rattle.gs_blank.specs.Numbers.{Numbers}
 use Rattle.gs_body.specs.Bodies.{triples_of}
 use Rattle.gs_document.specs.Symbols.{Symbol, AWord, At, Carets, Reference, Namespace, Close, CloseList, Semicolon, Comma, Dot, Foreign, symbol, symbol_of, symbols_of}
@@ -21,8 +21,8 @@ abbrev pub IsNoDot : Symbol → Type 0
 IsNoDot (Dot e) = ⊥
 IsNoDot _ = Unit {0}
 
--- a token behind a list of verbs and objects
-leave_quiet : (t : Symbol) (fs : List Frame) (env : Context) (P : List Statement) (n : Numbers) → IsNoDot t → triples_of (leave t fs env P n).1 ≡ []
+-- a token after a list of verbs and objects
+leave_quiet : (t : Symbol) (fs : List Frame) (env : Context) (P : List RdfTriple) (n : Numbers) → IsNoDot t → triples_of (leave t fs env P n).1 ≡ []
 leave_quiet (Dot e) fs env P n h = absurd h
 leave_quiet Close (ToClose m ∷ fs) env P n h = refl
 leave_quiet Close (ToMore m ∷ []) env P n h = refl
@@ -31,7 +31,7 @@ leave_quiet Close fs env P n h = refl
 leave_quiet t fs env P n h = refl
 
 -- a token at a goal
-head_quiet : (g : Goal) (t : Symbol) (fs : List Frame) (env : Context) (P : List Statement) (n : Numbers) → IsNoDot t → triples_of (head g t fs env P n).1 ≡ []
+head_quiet : (g : Goal) (t : Symbol) (fs : List Frame) (env : Context) (P : List RdfTriple) (n : Numbers) → IsNoDot t → triples_of (head g t fs env P n).1 ≡ []
 head_quiet (Object d) t fs env P n h = refl
 head_quiet (Inside d m) Close fs env P n h = refl
 head_quiet (Inside d m) t fs env P n h = refl
@@ -48,7 +48,7 @@ head_quiet (Begun d) t fs env P n h = refl
 head_quiet (Items d i l) CloseList fs env P n h = refl
 head_quiet (Items d i l) t fs env P n h = refl
 
--- a token behind a string
+-- a token after a string
 go_quiet : (t : Symbol) (s : State) → IsNoDot t → triples_of (go_on t s).1 ≡ []
 go_quiet t (Heading g fs env P n) h = head_quiet g t fs env P n h
 go_quiet t (Lost e) h = refl
@@ -88,7 +88,7 @@ step_quiet (Typing x fs env P n) t h = refl
 step_quiet (Lost e) t h = refl
 
 -- a kind that has a text is no dot
-kind_quiet : (k : Kind) (x : List ℕ) (n : ℕ) → has_text k ≡ true → IsNoDot (symbol k x n)
+kind_quiet : (k : TokenKind) (x : List ℕ) (n : ℕ) → has_text k ≡ true → IsNoDot (symbol k x n)
 kind_quiet kind.Dot x n h = absurd (Prim.cc)
 kind_quiet k x n h = tt
 

@@ -2,7 +2,7 @@
 use Rattle.std.proofs.Common.{◌≡◌, ℕ, false, List, ◌++◌, refl, sym, ap, subst, ◌∙◌, append-nil}
 use Rattle.std.specs.Prelude.{string_bytes}
 use Rattle.std.proofs.lemmas.List.{map-append}
-use Rattle.gs_model.specs.Triples.{Statement}
+use Rattle.gs_model.specs.Triples.{RdfTriple}
 use Rattle.gs_model.specs.declared.refusals.Refusal.{Refusal}
 use Rattle.gs_model.specs.declared.refusals.Refusal.TheVariants as refusal
 use Rattle.gs_machine.specs.Machines.{joined, rest, AreSettled, Begins}
@@ -13,8 +13,8 @@ use Rattle.gs_lex.specs.Lexers.{MayGoQuietly}
 use Rattle.gs_lex.proofs.OneCutLemmas.{cut-one}
 use Rattle.gs_lex.proofs.CutLemmas.{cut-from, leads-goes-on}
 use Rattle.gs_blank.specs.Numbers.{no_numbers}
-use Rattle.gs_body.specs.Bodies.{Whole, Syntax, TooLong, Said, Stated, Tells, triples_of, end_after}
-use Rattle.gs_body.proofs.LeadingLemmas.{led-said, triples_of-append, end_after-append}
+use Rattle.gs_body.specs.Bodies.{Whole, Syntax, TooLong, Meaning, Statement, Reports, triples_of, end_after}
+use Rattle.gs_body.proofs.LeadingLemmas.{led-meaning, triples_of-append, end_after-append}
 use Rattle.gs_document.specs.Symbols.{Symbol, symbol_of, symbols_of}
 use Rattle.gs_document.specs.Documents.{start}
 use Rattle.gs_document.specs.Program.{document}
@@ -22,52 +22,52 @@ use Rattle.gs_document.specs.States.{Between}
 use Rattle.gs_document.specs.Machine.{turtle}
 use Rattle.gs_document.proofs.ReaderLemmas.{machine_tells}
 use Rattle.gs_parse.specs.Views.{state_of}
-use Rattle.gs_turtle.specs.Documents.{ended_by, said_by}
+use Rattle.gs_turtle.specs.Documents.{ended_by, meaning_by}
 use Rattle.gs_turtle.specs.Portions.{end_of, TellsBehind}
-use Rattle.gs_turtle.specs.Readers.{unread, LeadsTo, said_of}
+use Rattle.gs_turtle.specs.Readers.{unread, LeadsTo, meaning_for}
 use Rattle.gs_turtle.specs.declared.readers.TurtleReader.{TurtleReader}
 use Rattle.gs_turtle.proofs.QuietLemmas.{quiet_end}
 
 -- what was stated before does not change how a text ends
-ended-joined : (e : lexer.Ending) (ss : List Stated) (t : Said) → ended_by e (joined ss t) ≡ joined ss (ended_by e t)
+ended-joined : (e : lexer.Ending) (ss : List Statement) (t : Meaning) → ended_by e (joined ss t) ≡ joined ss (ended_by e t)
 ended-joined lexer.Whole ss t = refl
 ended-joined (lexer.Fault n) ss (rs, Whole) = refl
 ended-joined (lexer.Fault n) ss (rs, Syntax) = refl
 ended-joined (lexer.Fault n) ss (rs, TooLong) = refl
 
 -- the end of a text changes nothing of what it states
-pub ended-states : (e : lexer.Ending) (t : Said) → (ended_by e t).0 ≡ t.0
+pub ended-states : (e : lexer.Ending) (t : Meaning) → (ended_by e t).0 ≡ t.0
 ended-states lexer.Whole t = refl
 ended-states (lexer.Fault n) (rs, Whole) = refl
 ended-states (lexer.Fault n) (rs, Syntax) = refl
 ended-states (lexer.Fault n) (rs, TooLong) = refl
 
 -- a text that is cut so
-pub said_cut : (b : List ℕ) (r : ℕ) (x : List ℕ) (ts : List Lexeme) (e : lexer.Ending) → IsCut false x ts e
-    → said_by b r x ≡ ended_by e (rest turtle (Between (start b r) no_numbers) (symbols_of ts))
-unfolding said_by
-said_cut b r x ts e c =
+pub meaning_cut : (b : List ℕ) (r : ℕ) (x : List ℕ) (ts : List Lexeme) (e : lexer.Ending) → IsCut false x ts e
+    → meaning_by b r x ≡ ended_by e (rest turtle (Between (start b r) no_numbers) (symbols_of ts))
+unfolding meaning_by
+meaning_cut b r x ts e c =
     let same = cut-one false lexer.Between 0 0 x (cut_of false x).0 ts (cut_of false x).1 e (cut-from false lexer.Between 0 0 x) c in
     ap (λ (z : List Lexeme). ended_by (cut_of false x).1 (document b r z)) same.0
     ∙ ap (λ (z : lexer.Ending). ended_by z (document b r ts)) same.1
     ∙ ap (ended_by e) (sym (machine_tells b r ts))
 
--- behind the tokens that a reader took
-pub said_on : (a : TurtleReader) (x : List ℕ) (ts : List Statement) (l : LeadsTo a x ts) (z : List ℕ) (us : List Lexeme) (e : lexer.Ending) → IsCut false z (l.lexemes ++ us) e
-    → said_of a z ≡ joined l.parsed.statements (ended_by e (end_of a.parser us))
-said_on a x ts l z us e c =
-    said_cut (string_bytes a.base) a.request z (l.lexemes ++ us) e c
+-- after the tokens that a reader took
+pub meaning_on : (a : TurtleReader) (x : List ℕ) (ts : List RdfTriple) (l : LeadsTo a x ts) (z : List ℕ) (us : List Lexeme) (e : lexer.Ending) → IsCut false z (l.lexemes ++ us) e
+    → meaning_for a z ≡ joined l.parsed.statements (ended_by e (end_of a.parser us))
+meaning_on a x ts l z us e c =
+    meaning_cut (string_bytes a.base) a.request z (l.lexemes ++ us) e c
     ∙ ap (λ (s : List Symbol). ended_by e (rest turtle (unread a) s)) (map-append symbol_of l.lexemes us)
-    ∙ ap (ended_by e) (led-said turtle (unread a) (state_of a.parser) a.parser.last (symbols_of l.lexemes) (symbols_of us) ts l.parsed)
+    ∙ ap (ended_by e) (led-meaning turtle (unread a) (state_of a.parser) a.parser.last (symbols_of l.lexemes) (symbols_of us) ts l.parsed)
     ∙ ended-joined e l.parsed.statements (end_of a.parser us)
 
 -- what a refusal tells of the rest of a text it tells of the whole
-pub tells_joined : (e : Refusal) (last : ℕ) (ss : List Stated) (t s : Said) → last ≡ end_after 0 ss → s ≡ joined ss t → TellsBehind last e t → Tells e s
+pub tells_joined : (e : Refusal) (last : ℕ) (ss : List Statement) (t s : Meaning) → last ≡ end_after 0 ss → s ≡ joined ss t → TellsBehind last e t → Reports e s
 tells_joined (refusal.Syntax at) last ss t s p q h = record {
-  broken = ap (λ (u : Said). u.1) q ∙ h.0;
-  place = h.1 ∙ ap (λ n. end_after n t.0) p ∙ sym (end_after-append 0 ss t.0) ∙ ap (λ (u : Said). end_after 0 u.0) (sym q);
+  broken = ap (λ (u : Meaning). u.1) q ∙ h.0;
+  place = h.1 ∙ ap (λ n. end_after n t.0) p ∙ sym (end_after-append 0 ss t.0) ∙ ap (λ (u : Meaning). end_after 0 u.0) (sym q);
 }
-tells_joined refusal.TermTooLong last ss t s p q h = ap (λ (u : Said). u.1) q ∙ h
+tells_joined refusal.TermTooLong last ss t s p q h = ap (λ (u : Meaning). u.1) q ∙ h
 tells_joined refusal.NoMemory last ss t s p q h = tt
 tells_joined refusal.Closed last ss t s p q h = tt
 tells_joined refusal.WrongPhase last ss t s p q h = h
@@ -77,21 +77,21 @@ tells_joined refusal.StoreFull last ss t s p q h = h
 tells_joined refusal.NotInProfile last ss t s p q h = h
 
 -- what was given is a front of what is said
-pub begun : (a : TurtleReader) (x : List ℕ) (ts : List Statement) → LeadsTo a x ts → (y : List ℕ) → Begins (triples_of (said_of a (x ++ y)).0) ts
+pub begun : (a : TurtleReader) (x : List ℕ) (ts : List RdfTriple) → LeadsTo a x ts → (y : List ℕ) → Begins (triples_of (meaning_for a (x ++ y)).0) ts
 begun a x ts l y =
     let g = leads-goes-on false a.lexer x l.lexemes l.lexed y in
     let t = ended_by g.1 (end_of a.parser g.0) in (
       triples_of t.0,
-      ap (λ (s : Said). triples_of s.0) (said_on a x ts l (x ++ y) g.0 g.1 g.2) ∙ triples_of-append l.parsed.statements t.0 ∙ ap (λ z. z ++ triples_of t.0) (sym l.parsed.given),
+      ap (λ (s : Meaning). triples_of s.0) (meaning_on a x ts l (x ++ y) g.0 g.1 g.2) ∙ triples_of-append l.parsed.statements t.0 ∙ ap (λ z. z ++ triples_of t.0) (sym l.parsed.given),
     )
 
 -- and all that is settled, where the text may go on quietly
-pub all-settled : (a : TurtleReader) (x : List ℕ) (ts : List Statement) (l : LeadsTo a x ts) → MayGoQuietly false x l.lexemes → AreSettled (λ z. triples_of (said_of a z).0) x ts
+pub all-settled : (a : TurtleReader) (x : List ℕ) (ts : List RdfTriple) (l : LeadsTo a x ts) → MayGoQuietly false x l.lexemes → AreSettled (λ z. triples_of (meaning_for a z).0) x ts
 all-settled a x ts l q = record {
   stay = begun a x ts l;
   are_all = λ more f.
-      let e : triples_of (said_of a (x ++ q.behind)).0 ≡ ts =
-      ap (λ (s : Said). triples_of s.0) (said_on a x ts l (x ++ q.behind) q.last q.ending q.cut)
+      let e : triples_of (meaning_for a (x ++ q.behind)).0 ≡ ts =
+      ap (λ (s : Meaning). triples_of s.0) (meaning_on a x ts l (x ++ q.behind) q.last q.ending q.cut)
       ∙ triples_of-append l.parsed.statements (ended_by q.ending (end_of a.parser q.last)).0
       ∙ ap (λ z. triples_of l.parsed.statements ++ z) (ap triples_of (ended-states q.ending (end_of a.parser q.last)) ∙ quiet_end (state_of a.parser) q.last q.quiet)
       ∙ append-nil (triples_of l.parsed.statements) ∙ sym l.parsed.given in

@@ -1,20 +1,20 @@
 -- Where a reader stands in a text, and what its steps do.
 use Rattle.std.specs.Prelude.{◌≡◌, false, ℕ, List, ◌++◌, string_bytes}
 use Rattle.std.specs.Str.{IsUtf8}
-use Rattle.gs_model.specs.Triples.{Statement}
+use Rattle.gs_model.specs.Triples.{RdfTriple}
 use Rattle.gs_model.specs.declared.refusals.Refusal.{Refusal}
 use Rattle.gs_machine.specs.Machines.{AreSettled}
 use Rattle.gs_blank.specs.Numbers.{no_numbers}
 use Rattle.gs_lex.specs.Tokens.{Lexeme}
 use Rattle.gs_lex.specs.Lexers.{Leads}
-use Rattle.gs_body.specs.Bodies.{Said, Tells, triples_of}
+use Rattle.gs_body.specs.Bodies.{Meaning, Reports, triples_of}
 use Rattle.gs_body.specs.Leading.{IsLed}
 use Rattle.gs_document.specs.Symbols.{symbols_of}
 use Rattle.gs_document.specs.Documents.{start}
 use Rattle.gs_document.specs.States.{State, Between}
 use Rattle.gs_document.specs.Machine.{turtle}
 use Rattle.gs_parse.specs.Views.{state_of}
-use Rattle.gs_turtle.specs.Documents.{said_by}
+use Rattle.gs_turtle.specs.Documents.{meaning_by}
 use Rattle.gs_turtle.specs.declared.readers.TurtleReader.{TurtleReader}
 
 -- at the start of a text
@@ -23,14 +23,14 @@ unread r = Between (start (string_bytes r.base) r.request) no_numbers
 
 -- The text x leads a new reader to this one: its lexer has given these tokens of x, and they lead its parser there,
 -- and to having given the triples ts.
-pub record LeadsTo (reader : TurtleReader) (x : List ℕ) (ts : List Statement) : Type 0 where
+pub record LeadsTo (reader : TurtleReader) (x : List ℕ) (ts : List RdfTriple) : Type 0 where
   pub lexemes : List Lexeme
   pub lexed : Leads false reader.lexer x lexemes
   pub parsed : IsLed turtle (unread reader) (state_of reader.parser) reader.parser.last (symbols_of lexemes) ts
 
 -- what a whole text says
-abbrev pub said_of : TurtleReader → List ℕ → Said
-said_of r x = said_by (string_bytes r.base) r.request x
+abbrev pub meaning_for : TurtleReader → List ℕ → Meaning
+meaning_for r x = meaning_by (string_bytes r.base) r.request x
 
 -- the reader is for the same request under the same base, and no more and no less closed
 pub record Keeps (old new : TurtleReader) : Type 0 where
@@ -39,21 +39,21 @@ pub record Keeps (old new : TurtleReader) : Type 0 where
   pub closed : new.is_closed ≡ old.is_closed
 
 -- a piece leads a reader on, and the list grew by the triples that it gives
-pub record Goes (old new : TurtleReader) (piece : List ℕ) (before after : List Statement) : Type 0 where
-  pub given : List Statement
+pub record Goes (old new : TurtleReader) (piece : List ℕ) (before after : List RdfTriple) : Type 0 where
+  pub given : List RdfTriple
   pub grown : after ≡ before ++ given
-  pub leads : (x : List ℕ) (ts : List Statement) → LeadsTo old x ts → LeadsTo new (x ++ piece) (ts ++ given)
+  pub leads : (x : List ℕ) (ts : List RdfTriple) → LeadsTo old x ts → LeadsTo new (x ++ piece) (ts ++ given)
 
 -- and where the text so far ends between two characters, those of all complete statements are given
-pub record Reads (old new : TurtleReader) (piece : List ℕ) (before after : List Statement) : Type 0 where
+pub record Reads (old new : TurtleReader) (piece : List ℕ) (before after : List RdfTriple) : Type 0 where
   pub goes : Goes old new piece before after
-  pub settled : (x : List ℕ) (ts : List Statement) → LeadsTo old x ts → IsUtf8 (x ++ piece)
-      → AreSettled (λ z. triples_of (said_of old z).0) (x ++ piece) (ts ++ goes.given)
+  pub settled : (x : List ℕ) (ts : List RdfTriple) → LeadsTo old x ts → IsUtf8 (x ++ piece)
+      → AreSettled (λ z. triples_of (meaning_for old z).0) (x ++ piece) (ts ++ goes.given)
 
 -- the piece has this fault, however the text goes on
 abbrev pub IsRefused : TurtleReader → List ℕ → Refusal → Type 0
-IsRefused old piece e = (x : List ℕ) (ts : List Statement) → LeadsTo old x ts → (y : List ℕ) → Tells e (said_of old (x ++ piece ++ y))
+IsRefused old piece e = (x : List ℕ) (ts : List RdfTriple) → LeadsTo old x ts → (y : List ℕ) → Reports e (meaning_for old (x ++ piece ++ y))
 
 -- the text ends and has this fault
 abbrev pub IsRefusedAtEnd : TurtleReader → Refusal → Type 0
-IsRefusedAtEnd old e = (x : List ℕ) (ts : List Statement) → LeadsTo old x ts → Tells e (said_of old x)
+IsRefusedAtEnd old e = (x : List ℕ) (ts : List RdfTriple) → LeadsTo old x ts → Reports e (meaning_for old x)

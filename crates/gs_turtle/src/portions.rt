@@ -39,7 +39,7 @@ fn refusal(parser: &Parser, fault: Fault) -> Refusal
     }
 }
 
-/// Tokens behind which the text goes on.
+/// Tokens after which the text goes on.
 pub fn go_on(
     parser: &mut Parser,
     tokens: &[Token],
@@ -56,7 +56,7 @@ pub fn go_on(
     }
 }
 
-/// Tokens behind which the text ends.
+/// Tokens after which the text ends.
 pub fn conclude(
     parser: &mut Parser,
     tokens: &[Token],
@@ -73,7 +73,7 @@ pub fn conclude(
     }
 }
 
-/// Tokens behind which stands something that is none: the first fault of all.
+/// Tokens after which stands something that is none: the first fault of all.
 pub fn break_off(parser: &mut Parser, tokens: &[Token], triples: &mut Vec<Triple>) -> Refusal
     ensures kept { Begins triples.new.items triples.old.items }
     ensures fault { (n : ℕ) → TellsBehind parser.old.last result (ended_by (lexer.Fault n) (end_of parser.old (lexemes_of tokens.now))) }

@@ -28,15 +28,15 @@ pub struct TurtleReader {
 impl TurtleReader {
     ghost use Rattle.gs_machine.specs.Machines.{Begins};
     ghost use Rattle.gs_body.specs.Feeding.{Finishes};
-    ghost use Rattle.gs_turtle.specs.Documents.{said_by};
-    ghost use Rattle.gs_turtle.specs.Readers.{LeadsTo, said_of, Keeps, Reads, IsRefused, IsRefusedAtEnd};
+    ghost use Rattle.gs_turtle.specs.Documents.{meaning_by};
+    ghost use Rattle.gs_turtle.specs.Readers.{LeadsTo, meaning_for, Keeps, Reads, IsRefused, IsRefusedAtEnd};
 
     /// A reader at the start of the body of the request of this number, under an absolute base.
     pub fn new(alloc: Global, request: u64, base: &str) -> Result<TurtleReader, AllocError>
         requires { is_absolute base.now ≡ true }
         ensures fresh { IfOk result (λ r. ⟦<TurtleReader as BodyReader>⟧.Leads r [] []) }
         ensures unread { IfOk result (λ r. ⟦<TurtleReader as BodyReader>⟧.is_closed r ≡ false) }
-        ensures said { IfOk result (λ r. (x : List ℕ) → ⟦<TurtleReader as BodyReader>⟧.said r x ≡ said_by base.now request x) }
+        ensures meaning_of { IfOk result (λ r. (x : List ℕ) → ⟦<TurtleReader as BodyReader>⟧.meaning_of r x ≡ meaning_by base.now request x) }
     {
         Ok(TurtleReader {
             request,
@@ -84,7 +84,7 @@ impl TurtleReader {
 
     /// The text ends.
     fn take_end(&mut self, triples: &mut Vec<Triple>) -> Result<(), Refusal>
-        ensures ok { OnOk result (Finishes said_of LeadsTo self.old triples.old.items triples.new.items) }
+        ensures ok { OnOk result (Finishes meaning_for LeadsTo self.old triples.old.items triples.new.items) }
         ensures err { OnErr result (Begins triples.new.items triples.old.items) }
         ensures fault { IfErr result (IsRefusedAtEnd self.old) }
         ensures told { IfErr result (λ e. e ≢ Refusal.Closed) }
@@ -99,9 +99,9 @@ impl TurtleReader {
 }
 
 impl BodyReader for TurtleReader {
-    ghost use Rattle.gs_turtle.specs.Readers.{LeadsTo, said_of};
+    ghost use Rattle.gs_turtle.specs.Readers.{LeadsTo, meaning_for};
 
-    ghost said = { λ r x. said_of r x };
+    ghost meaning_of = { λ r x. meaning_for r x };
 
     ghost Leads = { λ r x ts. LeadsTo r x ts };
 

@@ -6,5 +6,5 @@ abbrev pub invariant-loop-piece : goal.invariant-loop-piece
 invariant-loop-piece g l = record {
   leads : g.R.BodyReader.Leads l.reader (flat_map (λ piece. piece.items) (take l.piece-index l.pieces)) l.triples.items;
   unread : g.R.BodyReader.is_closed l.reader ≡ false;
-  same : (x : List ℕ) → g.R.BodyReader.said l.reader x ≡ g.R.BodyReader.said l.fn.reader x;
+  same : (x : List ℕ) → g.R.BodyReader.meaning_of l.reader x ≡ g.R.BodyReader.meaning_of l.fn.reader x;
 }

@@ -9,5 +9,5 @@ returns g c =
     let b = g.R.BodyReader in
     let end = c.finish-outcome in
     IfOk-weaker c.heard.result _ _
-    (λ m heard. reads_end b.said b.Leads b.is_closed end.result c.args.reader c.new-triples.result.items end.new.triples.items (option_map (λ (v : Vec Triple Global). v.items) m)
+    (λ m heard. reads_end b.meaning_of b.Leads b.is_closed end.result c.args.reader c.new-triples.result.items end.new.triples.items (option_map (λ (v : Vec Triple Global). v.items) m)
     heard c.new-triples.ensures.items end.ensures.given end.ensures.fault end.ensures.closed) c.heard.ensures

@@ -35,9 +35,9 @@ returns-in-Ok-Ok-clause-finished g c = λ zero.
 pub returns-in-Err-Ok-clause-no_command : goal.returns-in-Err-Ok-clause-no_command
 returns-in-Err-Ok-clause-no_command g c = λ two.
     let held = g.W.Write.contents in
-    let said = g.E.Write.contents in
+    let meaning_of = g.E.Write.contents in
     let given = g.R.Read.remaining c.args.reader.now in
-    stops_said given (held c.args.out.now) (held c.flush-flushed.new.self) (said c.args.err.now) (said c.report.new.err) c.read_and_play-ended.result c.in-Err-Ok.stop c.in-Err-Ok.line c.in-Err-Ok.is-0
+    stops_said given (held c.args.out.now) (held c.flush-flushed.new.self) (meaning_of c.args.err.now) (meaning_of c.report.new.err) c.read_and_play-ended.result c.in-Err-Ok.stop c.in-Err-Ok.line c.in-Err-Ok.is-0
     (ends_kept given (held c.args.out.now) (held c.read_and_play-ended.new.out) (held c.flush-flushed.new.self) c.read_and_play-ended.result c.flush-flushed.ensures.bytes c.read_and_play-ended.ensures)
     (c.report.ensures.no_command two)
 

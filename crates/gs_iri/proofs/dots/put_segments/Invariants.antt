@@ -1,4 +1,4 @@
--- what is left gives, behind what is put, what the path gives
+-- what is left gives, after what is put, what the path gives
 use Rattle.std.proofs.Common.{◌≡◌, ◌≤◌, length, take, drop}
 use Rattle.std.specs.Prelude.{fold}
 use Rattle.std.specs.String.{string_bytes}

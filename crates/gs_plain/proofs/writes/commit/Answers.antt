@@ -1,5 +1,5 @@
 use Rattle.std.proofs.Common.{◌≡◌, sym, ap, ◌∙◌, subst}
-use Rattle.gs_event.specs.declared.events.Kind.TheVariants.{Put, Post, New}
+use Rattle.gs_event.specs.declared.events.UploadKind.TheVariants.{Put, Post, New}
 use Rattle.gs_plain.specs.declared.books.Seat.TheVariants.{Writing}
 use Rattle.gs_plain.specs.Books.{KeepsRoom}
 use Rattle.gs_plain.proofs.writes.commit.Goals as goal

@@ -1,11 +1,11 @@
 use Rattle.gs_plain.proofs.CommitLemmas.{last_new, new_totals}
 use Rattle.std.proofs.Common.{sym, ◌∙◌, rules}
-use Rattle.gs_model.specs.declared.limits.TheConstants.{LAST_NUMBER}
+use Rattle.gs_model.specs.Limits.{last_number}
 use Rattle.gs_plain.proofs.WriteLemmas.{le_true}
 use Rattle.gs_plain.proofs.writes.commit_new.Goals as goal
 
 pub returns-then-is_last-clause-acts : goal.returns-then-is_last-clause-acts
-returns-then-is_last-clause-acts c = last_new c.args.books.now c.args.request c.args.upload c.in-Ok.name c.in-Ok.ensures.0 (sym c.is_within.ensures ∙ c.if-not-is_within.false) (le_true LAST_NUMBER c.args.books.now.commit (sym c.is_last.ensures ∙ c.if-is_last.true)) c.requires.ready
+returns-then-is_last-clause-acts c = last_new c.args.books.now c.args.request c.args.upload c.in-Ok.name c.in-Ok.ensures.0 (sym c.is_within.ensures ∙ c.if-not-is_within.false) (le_true last_number c.args.books.now.commit (sym c.is_last.ensures ∙ c.if-is_last.true)) c.requires.ready
 
 pub returns-clause-acts : goal.returns-clause-acts
 returns-clause-acts c =

@@ -1,5 +1,5 @@
 use Rattle.std.proofs.Common.{◌≡◌, ℕ, refl, sym, ap, ◌∙◌, List, [], ◌∷◌}
-use Rattle.gs_body.specs.Bodies.{Stated}
+use Rattle.gs_body.specs.Bodies.{Statement}
 use Rattle.gs_ntterm.specs.Marks.{end_of}
 use Rattle.gs_ntread.specs.Documents.{stated}
 use Rattle.gs_ntread.specs.States.{State}
@@ -18,7 +18,7 @@ returns-in-None-clause-ok c =
     let e : (q2, []) ≡ turn q.0 q.1 c.args.c (end_of s.read c.args.c) =
     ap (λ o. (q2, given o)) (sym c.in-None.is) ∙ c.in_ok-take.ensures ∙ ap (turn q.0 q.1 c.args.c) n in
     took-none s _ c.args.triples.now.items _
-    (ap (λ (u : Placed × List Stated). ((s.decoder, u.0), u.1)) (character-none s.request s.read q q2 s.numbering c.args.c e) ∙ ap (λ (k : ℕ). ((s.decoder, (k, (q2, s.numbering))), [])) (sym n))
+    (ap (λ (u : Placed × List Statement). ((s.decoder, u.0), u.1)) (character-none s.request s.read q q2 s.numbering c.args.c e) ∙ ap (λ (k : ℕ). ((s.decoder, (k, (q2, s.numbering))), [])) (sym n))
     refl refl refl
 
 pub returns-in-Some-clause-ok : goal.returns-in-Some-clause-ok
@@ -32,5 +32,5 @@ returns-in-Some-clause-ok c =
     ap (λ o. (q2, given o)) (sym c.in-Some.is) ∙ c.in_ok-take.ensures ∙ ap (turn q.0 q.1 c.args.c) n in
     on_ok c.give.result _ _
     (took-from s _ c.give.new.self c.args.triples.now.items c.give.new.triples.items _ _ refl refl refl
-    (ap (λ (u : Placed × List Stated). ((s.decoder, u.0), u.1)) (character-some s.request s.read q q2 s.numbering c.args.c w e) ∙ ap (λ (k : ℕ). ((s.decoder, (k, (q2, (stated s.request s.numbering w).0))), (stated s.request s.numbering w).1)) (sym n)))
+    (ap (λ (u : Placed × List Statement). ((s.decoder, u.0), u.1)) (character-some s.request s.read q q2 s.numbering c.args.c w e) ∙ ap (λ (k : ℕ). ((s.decoder, (k, (q2, (stated s.request s.numbering w).0))), (stated s.request s.numbering w).1)) (sym n)))
     c.give.ensures.ok

@@ -41,7 +41,7 @@ pub fn put_first(
     Ok(())
 }
 
-/// What stands behind a cell.
+/// What stands after a cell.
 pub fn put_rest(
     alloc: Global,
     waiting: &mut Vec<Triple>,

@@ -4,7 +4,7 @@ use Rattle.gs_model.specs.Terms.{Term}
 use Rattle.gs_ntterm.specs.Words.{Word}
 
 -- a triple, and the number of bytes up to the end of its '.'
-pub record Sentence : Type 0 where
+pub record LineTriple : Type 0 where
   pub subject : Word
   pub predicate : Term
   pub object : Word
