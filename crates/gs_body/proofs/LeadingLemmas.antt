@@ -2,10 +2,10 @@
 use Rattle.std.proofs.Common.{◌≡◌, ℕ, List, [], ◌∷◌, ◌++◌, refl, sym, ap, subst, ◌∙◌, append-nil}
 use Rattle.std.proofs.lemmas.List.Concat.{flat_map-append}
 use Rattle.gs_model.specs.Triples.{RdfTriple}
-use Rattle.gs_model.specs.declared.refusals.Refusal.TheVariants as refusal
+use Rattle.gs_model.specs.declared.faults.Fault.TheVariants as fault
 use Rattle.gs_machine.specs.Machines.{Machine, joined, steps, rest, AreSettled, Begins}
 use Rattle.gs_machine.proofs.MachineLemmas.{steps-append, rest-append, steps-nil}
-use Rattle.gs_body.specs.Bodies.{Statement, Ending, Whole, Syntax, TooLong, Meaning, triples_of, end_after, IsBroken, Reports}
+use Rattle.gs_body.specs.Bodies.{Statement, Ending, Faulty, Meaning, triples_of, end_after, IsBroken, Reports}
 use Rattle.gs_body.specs.Leading.{IsLed}
 
 pub end_after-append : (n : ℕ) (a b : List Statement) → end_after n (a ++ b) ≡ end_after (end_after n a) b
@@ -58,11 +58,11 @@ module _ {S I : Type 0} (m : Machine S I Statement Ending) (start : S) where
 
   -- it breaks the grammar after the last statement that was given
   pub led-breaks : (s : S) (n : ℕ) (x y : List I) (ts : List RdfTriple) → IsLed m start s n x ts
-      → rest m s y ≡ ([], Syntax) → IsBroken (rest m start (x ++ y)) n
+      → rest m s y ≡ ([], Faulty fault.Syntax) → IsBroken (rest m start (x ++ y)) n
   led-breaks s n x y ts h p =
-      let e = led-fails Syntax s n x y ts h p in
+      let e = led-fails (Faulty fault.Syntax) s n x y ts h p in
       record { broken = ap (λ (r : Meaning). r.1) e; place = h.place ∙ ap (λ (r : Meaning). end_after 0 r.0) (sym e) }
 
   pub led-exceeds : (s : S) (n : ℕ) (x y : List I) (ts : List RdfTriple) → IsLed m start s n x ts
-      → rest m s y ≡ ([], TooLong) → (rest m start (x ++ y)).1 ≡ TooLong
-  led-exceeds s n x y ts h p = ap (λ (r : Meaning). r.1) (led-fails TooLong s n x y ts h p)
+      → rest m s y ≡ ([], Faulty fault.TermTooLong) → (rest m start (x ++ y)).1 ≡ Faulty fault.TermTooLong
+  led-exceeds s n x y ts h p = ap (λ (r : Meaning). r.1) (led-fails (Faulty fault.TermTooLong) s n x y ts h p)

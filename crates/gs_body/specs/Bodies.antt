@@ -2,6 +2,8 @@
 use Rattle.std.specs.Prelude.{◌≡◌, ℕ, List, [], ◌∷◌}
 use Rattle.std.specs.List.{flat_map}
 use Rattle.gs_model.specs.Triples.{RdfTriple}
+use Rattle.gs_model.specs.declared.faults.Fault.{Fault}
+use Rattle.gs_model.specs.declared.faults.Fault.TheVariants as fault
 use Rattle.gs_model.specs.declared.refusals.Refusal.{Refusal}
 use Rattle.gs_model.specs.declared.refusals.Refusal.TheVariants as refusal
 
@@ -10,11 +12,10 @@ pub record Statement : Type 0 where
   pub triples : List RdfTriple
   pub end : ℕ
 
--- A body has no fault; or its first fault breaks the grammar, or is a term that is too long.
+-- a body has no fault, or this is its first
 pub data Ending : Type 0 where
   Whole : Ending
-  Syntax : Ending
-  TooLong : Ending
+  Faulty : (fault : Fault) → Ending
 
 -- the statements before the first fault, and how the body ends
 abbrev pub Meaning : Type 0
@@ -30,13 +31,13 @@ end_after n (s ∷ ss) = end_after s.end ss
 
 -- The body breaks the grammar, first after a statement that ends after so many bytes, or after none and 0.
 pub record IsBroken (r : Meaning) (at : ℕ) : Type 0 where
-  pub broken : r.1 ≡ Syntax
+  pub broken : r.1 ≡ Faulty fault.Syntax
   pub place : at ≡ end_after 0 r.0
 
--- What a refusal tells of the body: its first fault. For want of memory, or after a refusal, nothing is told.
+-- What a refusal reports of the body: its first fault. For want of memory, or after a refusal, nothing is reported.
 abbrev pub Reports : Refusal → Meaning → Type 0
 Reports (refusal.Syntax at) r = IsBroken r at
-Reports refusal.TermTooLong r = r.1 ≡ TooLong
+Reports refusal.TermTooLong r = r.1 ≡ Faulty fault.TermTooLong
 Reports refusal.NoMemory r = Unit {0}
 Reports refusal.Closed r = Unit {0}
 Reports other r = ⊥

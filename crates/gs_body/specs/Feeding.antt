@@ -1,21 +1,21 @@
 -- What one call of a reader does, in the words of its trait.
 use Rattle.std.specs.Prelude.{◌≡◌, ℕ, Bool, true, false, List, [], ◌∷◌, ◌++◌}
 use Rattle.gs_model.specs.Triples.{RdfTriple}
-use Rattle.std.specs.Str.{IsUtf8}
 use Rattle.gs_machine.specs.Machines.{AreSettled, Begins}
+use Rattle.gs_machine.specs.Utf8.{IsLongestFront}
 use Rattle.gs_body.specs.Bodies.{Meaning, Whole, triples_of}
 
--- A piece was fed: the list grew by some triples. With them a reader of x that had given ts has given a front
--- of what is said, however the text goes on; and where the text so far ends between two characters, just the
--- triples of its complete statements: all that is said however the text goes on.
+-- A piece was fed: the list grew by some triples. With them a reader of x that had given ts has given just the
+-- triples of the complete statements: of the longest front of the text so far that ends between two characters, all
+-- that it means however it goes on. They begin what the whole text means, however that goes on.
 pub record Feeds {R : Type 0} (meaning_of : R → List ℕ → Meaning) (Leads : R → List ℕ → List RdfTriple → Type 0) (old new : R) (piece : List ℕ) (before after : List RdfTriple) : Type 0 where
   pub given : List RdfTriple
   pub grown : after ≡ before ++ given
   pub leads : (x : List ℕ) (ts : List RdfTriple) → Leads old x ts → Leads new (x ++ piece) (ts ++ given)
   pub begun : (x : List ℕ) (ts : List RdfTriple) → Leads old x ts
       → (y : List ℕ) → Begins (triples_of (meaning_of old (x ++ piece ++ y)).0) (ts ++ given)
-  pub settled : (x : List ℕ) (ts : List RdfTriple) → Leads old x ts → IsUtf8 (x ++ piece)
-      → AreSettled (λ z. triples_of (meaning_of old z).0) (x ++ piece) (ts ++ given)
+  pub settled : (x : List ℕ) (ts : List RdfTriple) → Leads old x ts → (front : List ℕ) → IsLongestFront (x ++ piece) front
+      → AreSettled (λ z. triples_of (meaning_of old z).0) front (ts ++ given)
 
 -- The text ended: it has no fault, and with the triples by which the list grew all that it says is given.
 pub record Finishes {R : Type 0} (meaning_of : R → List ℕ → Meaning) (Leads : R → List ℕ → List RdfTriple → Type 0) (old : R) (before after : List RdfTriple) : Type 0 where

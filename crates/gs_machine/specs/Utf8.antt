@@ -2,7 +2,7 @@
 use Rattle.std.specs.Prelude.{Bool, true, false, ◌≡◌, ◌≢◌, ℕ, zero, suc, ◌+◌, ◌-◌, ◌*◌, ◌==◌, nat_lt, if◌then◌else◌, List, [], ◌∷◌, ◌++◌}
 use Rattle.std.specs.Char.{IsScalar}
 use Rattle.std.specs.Char.{encode_utf8}
-use Rattle.std.specs.Str.{StartsWithNoChar}
+use Rattle.std.specs.Str.{IsUtf8, StartsWithNoChar}
 use Rattle.gs_machine.specs.Machines.{Machine, rest}
 
 -- what stands for bytes that are no character: a number that no character has
@@ -62,3 +62,10 @@ utf8 = record { step = decode_step; ended = λ s. (decode_end s, tt) }
 -- the characters of a text, up to the first fault, which is marked
 unfoldable pub symbols : List ℕ → List ℕ
 symbols bytes = (rest utf8 Ready bytes).0
+
+-- The longest front of a text that ends between two characters: what comes after it is no character, or only begins one.
+pub record IsLongestFront (x front : List ℕ) : Type 0 where
+  pub after : List ℕ
+  pub parts : x ≡ front ++ after
+  pub characters : IsUtf8 front
+  pub longest : (more others : List ℕ) → after ≡ more ++ others → IsUtf8 (front ++ more) → more ≡ []

@@ -2,6 +2,7 @@
 ghost use Rattle.std.specs.Prelude.{◌≡◌, ◌-◌, true, [], OnOk, string_bytes, string_len};
 ghost use Rattle.std.specs.Str.{IsAscii};
 ghost use Rattle.std.specs.Char.{encode_utf8};
+ghost use Rattle.gs_model.specs.Limits.{max_term_bytes};
 
 use crate::forms::Form;
 use gs_model::MAX_TERM_BYTES;

@@ -2,6 +2,7 @@
 ghost use Rattle.std.specs.Prelude.{◌≡◌, ◌+◌, ◌≤◌, ◌<◌, ◌++◌, ◌∷◌, [], length, map, count_by, IfOk, OnOk, IfSome, IfNone};
 ghost use Rattle.std.specs.Char.{to_ascii_lowercase};
 ghost use Rattle.gs_model.specs.Terms.{Typed, Tagged, escaped, is_escaped, escape_of, suffix, is_tag as is_tag_of};
+ghost use Rattle.gs_model.specs.Limits.{max_term_bytes};
 
 use gs_model::MAX_TERM_BYTES;
 use std::alloc::{AllocError, Global};

@@ -8,6 +8,7 @@ ghost use Rattle.std.specs.Cmp.Rules.{comparing};
 ghost use Rattle.gs_model.specs.Terms.{Iri, Blank, Literal, Typed, Tagged, text_of, IsTerm};
 ghost use Rattle.gs_model.specs.Triples.{term_cmp, term_eq, is_iri as is_iri_of, is_subject as is_subject_of};
 ghost use Rattle.gs_term.specs.Making.{Makes, MakesLiteral, given_kind};
+ghost use Rattle.gs_model.specs.Limits.{max_term_bytes};
 
 use crate::literals::{self, XSD_STRING};
 use gs_iri::is_absolute;

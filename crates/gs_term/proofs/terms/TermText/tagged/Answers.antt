@@ -5,8 +5,8 @@ use Rattle.gs_model.specs.Terms.{Literal, Tagged, text_of, is_tag}
 use Rattle.gs_term.proofs.MakingLemmas.{canonical, term_of-bytes, length-literal, length-tag, literal_bytes}
 use Rattle.gs_term.proofs.terms.TermText.tagged.Goals as goal
 
-pub returns-then-tag-gt-max_term_bytes : goal.returns-then-tag-gt-max_term_bytes
-returns-then-tag-gt-max_term_bytes c =
+pub returns-then-tag-gt-MAX_TERM_BYTES : goal.returns-then-tag-gt-MAX_TERM_BYTES
+returns-then-tag-gt-MAX_TERM_BYTES c =
     let formed : is_tag (str_to_ascii_lowercase c.args.tag.now) ≡ true = search rules in (formed, omega (arith, length-literal c.args.lexical.now (Tagged (str_to_ascii_lowercase c.args.tag.now)), length-tag c.args.tag.now))
 
 pub returns-in_default : goal.returns-in_default

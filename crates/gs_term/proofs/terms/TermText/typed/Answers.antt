@@ -5,9 +5,9 @@ use Rattle.gs_model.specs.Terms.{Literal, Typed, text_of}
 use Rattle.gs_term.proofs.MakingLemmas.{canonical, term_of-bytes, length-literal, literal_bytes, long_datatype}
 use Rattle.gs_term.proofs.terms.TermText.typed.Goals as goal
 
-pub returns-then-datatype-gt-max_term_bytes : goal.returns-then-datatype-gt-max_term_bytes
-returns-then-datatype-gt-max_term_bytes c =
-    let formed : is_absolute c.args.datatype.now ≡ true = search rules in (formed, omega (arith, length-literal c.args.lexical.now (Typed c.args.datatype.now), long_datatype c.args.datatype.now c.if-datatype-gt-max_term_bytes.true))
+pub returns-then-datatype-gt-MAX_TERM_BYTES : goal.returns-then-datatype-gt-MAX_TERM_BYTES
+returns-then-datatype-gt-MAX_TERM_BYTES c =
+    let formed : is_absolute c.args.datatype.now ≡ true = search rules in (formed, omega (arith, length-literal c.args.lexical.now (Typed c.args.datatype.now), long_datatype c.args.datatype.now c.if-datatype-gt-MAX_TERM_BYTES.true))
 
 pub returns-in_default : goal.returns-in_default
 returns-in_default c =
