@@ -1,15 +1,23 @@
 -- What making a term or a name may answer.
-use Rattle.std.specs.Prelude.{◌≡◌, ℕ, ◌≤◌, ◌<◌, true, false, List, length, Option, Some, None, Result, Ok, Err}
+use Rattle.std.specs.Prelude.{◌≡◌, ℕ, ◌≤◌, ◌<◌, nat_le, if◌then◌else◌, true, false, List, length, Option, Some, None, Result, Ok, Err}
 use Rattle.std.specs.Str.{str_to_ascii_lowercase}
+use Rattle.gs_model.specs.declared.faults.Fault.{Fault}
+use Rattle.gs_model.specs.declared.faults.Fault.TheVariants as fault
 use Rattle.gs_model.specs.declared.refusals.Refusal.{Refusal}
 use Rattle.gs_model.specs.declared.refusals.Refusal.TheVariants.{NoMemory, Syntax, TermTooLong}
 use Rattle.gs_model.specs.Limits.{max_term_bytes, max_name_bytes}
 use Rattle.gs_model.specs.Iris.{is_absolute}
 use Rattle.gs_model.specs.Terms.{Term, Literal, LiteralKind, Typed, Tagged, text_of, is_term, xsd_string}
 
--- The term, where it is one and its text is not too long. A wrong form counts before a great length.
+-- The term, where it is one and its text is not too long, and else its fault. A wrong form counts before a great length.
+abbrev pub made : Term → Result Term Fault
+made t =
+    if is_term t then (if nat_le (length (text_of t)) max_term_bytes then Ok t else Err fault.TermTooLong)
+    else Err fault.Syntax
+
+-- what making the term may answer: the same, or want of memory where it is one
 abbrev pub Makes : Term → Result Term Refusal → Type 0
-Makes t (Ok made) = (made ≡ t) × (is_term t ≡ true) × (length (text_of t) ≤ max_term_bytes)
+Makes t (Ok u) = (u ≡ t) × (is_term t ≡ true) × (length (text_of t) ≤ max_term_bytes)
 Makes t (Err NoMemory) = (is_term t ≡ true) × (length (text_of t) ≤ max_term_bytes)
 Makes t (Err (Syntax at)) = (at ≡ 0) × (is_term t ≡ false)
 Makes t (Err TermTooLong) = (is_term t ≡ true) × (max_term_bytes < length (text_of t))
@@ -23,8 +31,8 @@ given_kind None (Some tag) = Some (Tagged (str_to_ascii_lowercase tag))
 given_kind (Some datatype) (Some tag) = None
 
 abbrev pub MakesLiteral : List ℕ → Option LiteralKind → Result Term Refusal → Type 0
-MakesLiteral lexical (Some kind) made = Makes (Literal lexical kind) made
-MakesLiteral lexical None made = made ≡ Err (Syntax 0)
+MakesLiteral lexical (Some kind) r = Makes (Literal lexical kind) r
+MakesLiteral lexical None r = r ≡ Err (Syntax 0)
 
 -- The name of a text, where it is an absolute IRI and not too long. A wrong form counts before a great length.
 abbrev pub Names : List ℕ → Result (List ℕ) Refusal → Type 0
