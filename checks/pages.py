@@ -1,0 +1,44 @@
+"""Compares the pages with the tree: each edit that must fail is a row of docs/WRONG_BODIES.md, and each row an edit;
+each crate has a page of its own, a line of crates.txt, and a place in README's table and in docs/ARCHITECTURE.md; and
+each file and crate that a table of the pages names is there. Prints what does not agree, and ends with status 1 if
+anything is wrong."""
+
+import os
+import re
+import sys
+
+os.chdir(os.path.join(os.path.dirname(os.path.abspath(__file__)), ".."))
+wrong = []
+
+
+def text(path):
+    with open(path, encoding="utf-8") as file:
+        return file.read()
+
+
+crates = re.findall(r"(?m)^(\w+)[^:#\n]*:", text("crates.txt"))
+rows = re.findall(r"(?m)^\| `(\w+)` \| `(\w+)` \|", text("docs/WRONG_BODIES.md"))
+edits = []
+for crate in crates:
+    folder = f"crates/{crate}/must-fail"
+    for name in sorted(os.listdir(folder)) if os.path.isdir(folder) else []:
+        edits.append((name.removesuffix(".edit"), crate))
+wrong += [f"docs/WRONG_BODIES.md has no row for {name} of {crate}" for name, crate in edits if (name, crate) not in rows]
+wrong += [f"docs/WRONG_BODIES.md names {name} of {crate}, which is no edit" for name, crate in rows if (name, crate) not in edits]
+wrong += [f"docs/WRONG_BODIES.md names {row} twice" for row in sorted({it for it in rows if rows.count(it) > 1})]
+
+for crate in crates:
+    if not os.path.isfile(f"crates/{crate}/README.md"):
+        wrong.append(f"{crate} has no page of its own")
+    for page in ("README.md", "docs/ARCHITECTURE.md"):
+        if not re.search(rf"\b{crate}\b", text(page)):
+            wrong.append(f"{page} does not name {crate}")
+wrong += [f"crates/{name} stands in no line of crates.txt" for name in sorted(os.listdir("crates")) if name not in crates]
+
+for page in ("README.md", "CONTRIBUTING.md", "docs/ARCHITECTURE.md", "docs/DECISIONS.md", "docs/DEFINITIONS.md", "docs/PROFILE.md"):
+    for path in re.findall(r"`((?:gs_|gsd)\w*/(?:src|specs|proofs)/[\w/]+\.(?:rt|antt))`", text(page)):
+        if not os.path.isfile(f"crates/{path}"):
+            wrong.append(f"{page} names {path}, which is not there")
+
+print("\n".join(wrong) or "the pages agree with the tree")
+sys.exit(1 if wrong else 0)
