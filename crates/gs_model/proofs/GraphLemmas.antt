@@ -1,5 +1,6 @@
 -- Graphs as sorted lists of triples.
-use Rattle.std.proofs.Common.{Option, is_some, ◌≡◌, Bool, true, false, cond, ◌||◌, List, [], ◌∷◌, map, Some, None, refl, sym, ap, ◌∙◌, length, arith}
+use Rattle.std.proofs.lemmas.List.{nil_from_length}
+use Rattle.std.proofs.Common.{Option, is_some, ◌≡◌, Bool, true, false, cond, ◌||◌, List, [], ◌∷◌, map, Some, None, refl, sym, ap, ◌∙◌, length}
 use Rattle.std.specs.List.{list_any, dedup, dedup_from, AllByRecursion}
 use Rattle.std.specs.List.Sorted.{IsStrictlySortedBy}
 use Rattle.std.specs.Ordering.{eq_by_cmp}
@@ -31,13 +32,9 @@ put_first : (t : Triple) (ts : List Triple) → AllByRecursion (λ u. triple_cmp
 put_first t [] below = refl
 put_first t (u ∷ us) below = ap (λ r. by_order r ((t, tt) ∷ (u, tt) ∷ map as_entry us) ((u, tt) ∷ map as_entry us) ((u, tt) ∷ put triple_cmp t tt (map as_entry us))) below.0
 
-no_length : {X : Type 0} (xs : List X) → length xs ≡ 0 → xs ≡ []
-no_length [] e = refl
-no_length (x ∷ xs) e = absurd (omega arith)
-
 entries-graph_of : (ts : List Triple) → IsStrictlySortedBy triple_cmp ts → fin.entries (graph_of ts) ≡ map as_entry ts
 unfolding IsStrictlySortedBy
-entries-graph_of [] sorted = no_length _ (sym (fin.len-entries fin.empty) ∙ fin.len-empty triple_cmp (Unit {0}))
+entries-graph_of [] sorted = nil_from_length _ (sym (fin.len-entries fin.empty) ∙ fin.len-empty triple_cmp (Unit {0}))
 entries-graph_of (t ∷ ts) sorted = fin.entries-insert triple_total (graph_of ts) t tt ∙ ap (put triple_cmp t tt) (entries-graph_of ts sorted.1) ∙ put_first t ts sorted.0
 
 keys_of : (ts : List Triple) → map (λ (e : Triple × Unit {0}). e.0) (map as_entry ts) ≡ ts

@@ -1,7 +1,7 @@
 -- A triple's line gives the triple back.
 use Rattle.std.proofs.Common.{◌≡◌, ℕ, Bool, true, false, cond, not, nat_le, ◌||◌, ◌&&◌, ◌==◌, List, [], ◌∷◌, ◌++◌, refl, sym, ap, ◌∙◌, arith, append_assoc}
 use Rattle.std.specs.List.{list_all}
-use Rattle.std.proofs.lemmas.Bool.{eqb-true}
+use Rattle.std.proofs.lemmas.Bool.{eqb-true, and_parts}
 use Rattle.std.proofs.lemmas.Bool.Decides.{nat_tests}
 use Rattle.gs_model.specs.Characters.{is_iri_char}
 use Rattle.gs_model.specs.Iris.{is_absolute, is_letter, is_scheme_char, is_scheme_rest}
@@ -11,10 +11,6 @@ use Rattle.gs_model.specs.Texts.{front, split_first, term_of}
 use Rattle.gs_model.specs.Triples.{RdfTriple, IsTriple, line_of, is_subject, is_iri}
 use Rattle.gs_model.proofs.TextLemmas.{AllOther, front-snoc, split_first-other, term_of-text_of, other-numeral}
 use Rattle.gs_model.specs.Texts.{triple_of}
-
-both : (a b : Bool) → (a && b) ≡ true → (a ≡ true) × (b ≡ true)
-both true b e = (refl, e)
-both false b e = absurd (cc)
 
 pub other-append : (x : ℕ) (xs ys : List ℕ) → AllOther x xs → AllOther x ys → AllOther x (xs ++ ys)
 other-append x [] ys h k = k
@@ -26,20 +22,20 @@ not_equal p x c never h = elim (c == x) as (λ b. (c == x) ≡ b → b ≡ false
 
 others : (p : ℕ → Bool) (x : ℕ) → p x ≡ false → (cs : List ℕ) → list_all p cs ≡ true → AllOther x cs
 others p x never [] h = tt
-others p x never (c ∷ cs) h = let two = both (p c) (list_all p cs) h in (not_equal p x c never two.0, others p x never cs two.1)
+others p x never (c ∷ cs) h = let two = and_parts (p c) (list_all p cs) h in (not_equal p x c never two.0, others p x never cs two.1)
 
 rest_others : (x : ℕ) → is_iri_char x ≡ false → is_scheme_char x ≡ false → (58 == x) ≡ false → (cs : List ℕ) → is_scheme_rest cs ≡ true → AllOther x cs
 rest_others x a b d [] h = absurd (cc)
 rest_others x a b d (c ∷ cs) h =
     elim (c == 58) as (λ t. (c == 58) ≡ t → cond t (list_all is_iri_char cs) (is_scheme_char c && is_scheme_rest cs) ≡ true → AllOther x (c ∷ cs)) [
       | true ↦ λ e k. (ap (λ z. z == x) (eqb-true c 58 e) ∙ d, others is_iri_char x a cs k)
-      | false ↦ λ e k. let two = both (is_scheme_char c) (is_scheme_rest cs) k in (not_equal is_scheme_char x c b two.0, rest_others x a b d cs two.1)
+      | false ↦ λ e k. let two = and_parts (is_scheme_char c) (is_scheme_rest cs) k in (not_equal is_scheme_char x c b two.0, rest_others x a b d cs two.1)
     ] refl h
 
 -- an absolute IRI has no character that may not stand in it
 pub absolute_others : (x : ℕ) → is_letter x ≡ false → is_iri_char x ≡ false → is_scheme_char x ≡ false → (58 == x) ≡ false → (cs : List ℕ) → is_absolute cs ≡ true → AllOther x cs
 absolute_others x l a b d [] h = absurd (cc)
-absolute_others x l a b d (c ∷ cs) h = let two = both (is_letter c) (is_scheme_rest cs) h in (not_equal is_letter x c l two.0, rest_others x a b d cs two.1)
+absolute_others x l a b d (c ∷ cs) h = let two = and_parts (is_letter c) (is_scheme_rest cs) h in (not_equal is_letter x c l two.0, rest_others x a b d cs two.1)
 
 -- an IRI or a blank node has no space
 pub no_space : (t : Term) → IsTerm t → is_subject t ≡ true → AllOther 32 (text_of t)
@@ -60,7 +56,7 @@ last_three xs a b c =
 pub triple_of-line_of : (t : RdfTriple) → IsTriple t → triple_of (line_of t) ≡ t
 unfolding triple_of
 triple_of-line_of t ok =
-    let kinds = both (is_subject t.subject) (is_iri t.predicate) ok.kinds in
+    let kinds = and_parts (is_subject t.subject) (is_iri t.predicate) ok.kinds in
     let ends = 32 ∷ 46 ∷ 10 ∷ [] in
     let after_p = text_of t.object ++ ends in
     let after_s = text_of t.predicate ++ (32 ∷ after_p) in
@@ -101,7 +97,7 @@ tag_others d b (c ∷ cs) h =
     elim ((nat_le 97 c && nat_le c 122) || (d && (nat_le 48 c && nat_le c 57))) as (λ x. ((nat_le 97 c && nat_le c 122) || (d && (nat_le 48 c && nat_le c 57))) ≡ x
     → cond x (is_tag_rest d true cs) ((c == 45 && b) && is_tag_rest true false cs) ≡ true → AllOther 10 (c ∷ cs)) [
       | true ↦ λ e k. (grind (arith, nat_tests), tag_others d true cs k)
-      | false ↦ λ e k. let two = both (c == 45 && b) (is_tag_rest true false cs) k in (grind (arith, nat_tests, two.0), tag_others true false cs two.1)
+      | false ↦ λ e k. let two = and_parts (c == 45 && b) (is_tag_rest true false cs) k in (grind (arith, nat_tests, two.0), tag_others true false cs two.1)
     ] refl h
 
 kind_others : (k : LiteralKind) → is_kind k ≡ true → AllOther 10 (suffix k)

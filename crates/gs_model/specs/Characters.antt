@@ -1,10 +1,90 @@
 -- The classes of characters, as ranges of their numbers (Turtle, 25 February 2014, section 6.5; N-Triples, section 7).
 use Rattle.std.specs.Prelude.{ℕ, Bool, false, not, ◌||◌, ◌&&◌, nat_le, List, [], ◌∷◌, ◌++◌}
 
+-- the characters that texts of terms are made of, by their names
+abbrev pub line_feed : ℕ
+line_feed = 10
+
+abbrev pub carriage_return : ℕ
+carriage_return = 13
+
+abbrev pub space : ℕ
+space = 32
+
+-- `"`
+abbrev pub quote : ℕ
+quote = 34
+
+-- `#`
+abbrev pub number_sign : ℕ
+number_sign = 35
+
+abbrev pub plus : ℕ
+plus = 43
+
+abbrev pub hyphen : ℕ
+hyphen = 45
+
+-- `.`
+abbrev pub dot : ℕ
+dot = 46
+
+abbrev pub colon : ℕ
+colon = 58
+
+-- `<`
+abbrev pub less_than : ℕ
+less_than = 60
+
+-- `>`
+abbrev pub greater_than : ℕ
+greater_than = 62
+
+-- `@`
+abbrev pub at_sign : ℕ
+at_sign = 64
+
+-- `[` and `]`
+abbrev pub left_bracket : ℕ
+left_bracket = 91
+
+abbrev pub right_bracket : ℕ
+right_bracket = 93
+
+abbrev pub backslash : ℕ
+backslash = 92
+
+-- `^`
+abbrev pub caret : ℕ
+caret = 94
+
+abbrev pub underscore : ℕ
+underscore = 95
+
+-- `n` and `r`, after a backslash
+abbrev pub letter_n : ℕ
+letter_n = 110
+
+abbrev pub letter_r : ℕ
+letter_r = 114
+
+-- 'A' to 'Z'
+abbrev pub is_upper : ℕ → Bool
+is_upper c = nat_le 65 c && nat_le c 90
+
+-- 'a' to 'z'
+abbrev pub is_lower : ℕ → Bool
+is_lower c = nat_le 97 c && nat_le c 122
+
+-- '0' to '9'
+abbrev pub is_digit : ℕ → Bool
+is_digit c = nat_le 48 c && nat_le c 57
+
 -- from the first to the last
 abbrev pub Range : Type 0
 Range = ℕ × ℕ
 
+-- the number is from the first to the last
 abbrev pub in_range : Range → ℕ → Bool
 in_range r c = nat_le r.0 c && nat_le c r.1
 
@@ -33,5 +113,6 @@ abbrev pub not_in_iris : List Range
 not_in_iris =
     (0, 0x20) ∷ (0x22, 0x22) ∷ (0x3C, 0x3C) ∷ (0x3E, 0x3E) ∷ (0x5C, 0x5C) ∷ (0x5E, 0x5E) ∷ (0x60, 0x60) ∷ (0x7B, 0x7D) ∷ []
 
+-- any other character may stand in an IRI
 abbrev pub is_iri_char : ℕ → Bool
 is_iri_char c = not (in_ranges not_in_iris c)

@@ -7,6 +7,7 @@ use Rattle.gs_model.specs.Triples.{RdfTriple, triple_cmp, line_of}
 abbrev pub Graph : Type 0
 Graph = map.FinMap triple_cmp (Unit {0})
 
+-- the graph without a triple
 abbrev pub empty_graph : Graph
 empty_graph = map.empty
 
@@ -14,6 +15,7 @@ empty_graph = map.empty
 abbrev pub triples_of : Graph → List RdfTriple
 triples_of g = map.keys g
 
+-- a triple as an entry of the map
 abbrev pub as_entry : RdfTriple → RdfTriple × Unit {0}
 as_entry t = (t, tt)
 
