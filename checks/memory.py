@@ -1,4 +1,4 @@
-"""Checks what gsdrill prints where a request for memory is refused: memory.py PROGRAM SCHEDULES FOLDER."""
+"""Checks what gsdrill prints where a request for memory is refused: memory.py PROGRAM CRATES FOLDER."""
 import os
 import re
 import subprocess
@@ -67,7 +67,7 @@ def statements(text, request):
 
 
 def worked_schedules(path, name):
-    """(name, input, output) of each row of a table in gs_tests."""
+    """(name, input, output) of each row of a table of schedules."""
     source = open(path, encoding="utf-8").read()
     table = source[source.index(f"const {name}:"):]
     texts = re.findall(r'"((?:[^"\\]|\\.)*)"', table[:table.index("];")])
@@ -240,28 +240,35 @@ def refusals(schedule, printed):
     return count, True
 
 
-def run(program, schedule, room, refused):
+def run(program, schedule, room, refused, later=False):
     variables = {"LD_PRELOAD": f"{room}/refuse.so", "COUNT": f"{room}/count", "REFUSED": str(refused)}
+    variables |= {"LATER": "1"} if later else {}
     ran = subprocess.run([program], input=schedule, capture_output=True, text=True, env=os.environ | variables)
     return ran.returncode, ran.stdout, ran.stderr
 
 
-def main(program, schedules, room):
+def check(program, schedule, room, refused, later):
+    """The run ends for want of memory, or answers the whole schedule; nothing else ends it."""
+    status, out, err = run(program, schedule, room, refused, later)
+    count, is_whole = refusals(schedule, out.split("\n")[:-1])
+    if status == 3:
+        assert err == "gsdrill: no memory\n" and (later or count == 0), (refused, err)
+    else:
+        assert (status, err) == (0, "") and is_whole and (later or count <= 1), (refused, status, err)
+
+
+def main(program, crates, room):
     total = 0
-    tables = [("schedules.rt", "ROWS"), ("feeds.rt", "FEEDS"), ("turtle.rt", "FEEDS")]
-    rows = [row for file, table in tables for row in worked_schedules(f"{schedules}/{file}", table)]
+    tables = [("gs_schedules/src/rows.rt", "ROWS"), ("gs_feed_tests/src/feeds.rt", "FEEDS"), ("gs_feed_tests/src/turtle.rt", "FEEDS")]
+    rows = [row for file, table in tables for row in worked_schedules(f"{crates}/{file}", table)]
     for name, schedule, want in rows:
         assert run(program, schedule, room, 0) == (0, want, ""), name
         requests = int(open(f"{room}/count").read())
         for refused in range(1, requests + 1):
-            status, out, err = run(program, schedule, room, refused)
-            count, is_whole = refusals(schedule, out.split("\n")[:-1])
-            if status == 3:
-                assert err == "gsdrill: no memory\n" and count == 0, (name, refused, err)
-            else:
-                assert (status, err) == (0, "") and is_whole and count <= 1, (name, refused, status, err)
-        total += requests
-        print(f"{name}: {requests} requests, each refused in turn")
+            for later in (False, True):
+                check(program, schedule, room, refused, later)
+        total += 2 * requests
+        print(f"{name}: {requests} requests, each refused in turn, alone and with all after it")
     print(f"{total} runs, and no wrong answer")
 
 

@@ -1,5 +1,6 @@
-/* Takes the place of the C library's requests for memory: counts them, and refuses one of them.
-   REFUSED says which, from 1; the count goes to the file COUNT when the program ends. */
+/* Takes the place of the C library's requests for memory: counts them, and refuses one of them, or all from one on.
+   REFUSED says which, from 1; with LATER all after it are refused too. The count goes to the file COUNT when the
+   program ends. */
 #include <errno.h>
 #include <stdio.h>
 #include <stdlib.h>
@@ -10,14 +11,16 @@ extern void *__libc_realloc(void *old, size_t size);
 extern void *__libc_memalign(size_t alignment, size_t size);
 
 static long requests, refused = -1;
+static int later;
 
 static int is_refused(void) {
     if (refused < 0) {
         const char *text = getenv("REFUSED");
         refused = text ? atol(text) : 0;
+        later = getenv("LATER") != NULL;
     }
     requests++;
-    if (requests != refused) return 0;
+    if (refused == 0 || (later ? requests < refused : requests != refused)) return 0;
     errno = ENOMEM;
     return 1;
 }

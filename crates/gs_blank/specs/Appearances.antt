@@ -34,3 +34,7 @@ before label (Named other ∷ nodes) =
     else if bytes_eq label other then nodes
     else Named other ∷ nodes
 before label (Nameless ∷ nodes) = if appears label nodes then before label nodes else Nameless ∷ nodes
+
+-- the place of a label by first appearance: one more than there are labels, and nodes without one, before it
+abbrev pub place_of : List ℕ → List Node → ℕ
+place_of label nodes = count_of (before label nodes) + 1

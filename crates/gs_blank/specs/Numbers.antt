@@ -8,6 +8,7 @@ use Rattle.std.specs.FinMap as map
 abbrev pub Numbers : Type 0
 Numbers = map.FinMap (slice_cmp nat_cmp) ℕ × ℕ
 
+-- no node is numbered yet
 abbrev pub no_numbers : Numbers
 no_numbers = (map.empty, 0)
 

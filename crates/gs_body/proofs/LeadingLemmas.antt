@@ -3,9 +3,11 @@ use Rattle.std.proofs.Common.{◌≡◌, ℕ, List, [], ◌∷◌, ◌++◌, ref
 use Rattle.std.proofs.lemmas.List.Concat.{flat_map-append}
 use Rattle.gs_model.specs.Triples.{RdfTriple}
 use Rattle.gs_model.specs.declared.faults.Fault.TheVariants as fault
-use Rattle.gs_machine.specs.Machines.{Machine, joined, steps, rest, AreSettled, Begins}
-use Rattle.gs_machine.proofs.MachineLemmas.{steps-append, rest-append, steps-nil}
-use Rattle.gs_body.specs.Bodies.{Statement, Ending, Faulty, Meaning, triples_of, end_after, IsBroken, Reports}
+use Rattle.gs_machine.specs.Machines.{Machine, joined, steps, rest, composed, AreSettled, Begins}
+use Rattle.gs_machine.specs.Utf8.{Decoding, Ready, Lost, utf8, IsLongestFront}
+use Rattle.gs_machine.proofs.MachineLemmas.{steps-append, rest-append, steps-nil, steps-composed}
+use Rattle.gs_machine.proofs.FrontLemmas.{composed-at_front}
+use Rattle.gs_body.specs.Bodies.{Statement, Ending, Faulty, Meaning, triples_of, end_after, IsBroken}
 use Rattle.gs_body.specs.Leading.{IsLed}
 
 pub end_after-append : (n : ℕ) (a b : List Statement) → end_after n (a ++ b) ≡ end_after (end_after n a) b
@@ -66,3 +68,26 @@ module _ {S I : Type 0} (m : Machine S I Statement Ending) (start : S) where
   pub led-exceeds : (s : S) (n : ℕ) (x y : List I) (ts : List RdfTriple) → IsLed m start s n x ts
       → rest m s y ≡ ([], Faulty fault.TermTooLong) → (rest m start (x ++ y)).1 ≡ Faulty fault.TermTooLong
   led-exceeds s n x y ts h p = ap (λ (r : Meaning). r.1) (led-fails (Faulty fault.TermTooLong) s n x y ts h p)
+
+-- A machine that takes what a decoder gives, where the decoder is not lost: the longest front of the text that ends between
+-- two characters leads it to the same state, and to having given the same, with the decoder between two characters.
+pub led-at_front : {T : Type 0} (b : Machine T ℕ Statement Ending) (start : T) (s : Decoding × T) (n : ℕ) (x front : List ℕ) (ts : List RdfTriple)
+    → IsLed (composed utf8 b) (Ready, start) s n x ts → IsLongestFront x front → (s.0 ≡ Lost → ⊥)
+    → IsLed (composed utf8 b) (Ready, start) (Ready, s.1) n front ts
+led-at_front {T} b start s n x front ts h f open_ =
+    let m : Machine (Decoding × T) ℕ Statement Ending = composed utf8 b in
+    let state : s.0 ≡ (steps utf8 Ready x).0 = ap (λ (t : (Decoding × T) × List Statement). t.0.0) (sym h.run ∙ steps-composed utf8 b Ready start x) in
+    record {
+      statements = h.statements;
+      run = composed-at_front b start x front f (λ e. open_ (state ∙ e)) ∙ ap (λ (t : (Decoding × T) × List Statement). ((Ready, t.0.1), t.1)) h.run;
+      given = h.given;
+      place = h.place;
+    }
+
+-- So what was given is settled by that front, where the text may go on from there so that nothing more is said.
+pub led-settled_at_front : {T : Type 0} (b : Machine T ℕ Statement Ending) (start : T) (s : Decoding × T) (n : ℕ) (x front : List ℕ) (ts : List RdfTriple)
+    → IsLed (composed utf8 b) (Ready, start) s n x ts → IsLongestFront x front → (s.0 ≡ Lost → ⊥)
+    → (y : List ℕ) → (rest (composed utf8 b) (Ready, s.1) y).0 ≡ []
+    → AreSettled (λ z. triples_of (rest (composed utf8 b) (Ready, start) z).0) front ts
+led-settled_at_front b start s n x front ts h f open_ y silent =
+    led-settled (composed utf8 b) (Ready, start) (Ready, s.1) n front ts (led-at_front b start s n x front ts h f open_) y silent

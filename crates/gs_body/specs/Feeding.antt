@@ -1,5 +1,5 @@
 -- What one call of a reader does, in the words of its trait.
-use Rattle.std.specs.Prelude.{◌≡◌, ℕ, Bool, true, false, List, [], ◌∷◌, ◌++◌}
+use Rattle.std.specs.Prelude.{◌≡◌, ℕ, List, ◌++◌}
 use Rattle.gs_model.specs.Triples.{RdfTriple}
 use Rattle.gs_machine.specs.Machines.{AreSettled, Begins}
 use Rattle.gs_machine.specs.Utf8.{IsLongestFront}

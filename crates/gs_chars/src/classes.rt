@@ -24,7 +24,7 @@ pub fn is_pn_chars_base(c: char) -> bool
         | '\u{10000}'..='\u{EFFFF}')
 }
 
-/// PN_CHARS_U (Turtle, section 6.5). N-Triples admits `:` besides, which its reader tests itself.
+/// PN_CHARS_U (Turtle, section 6.5). N-Triples admits `:` besides, which `gs_ntterm` tests.
 pub fn is_pn_chars_u(c: char) -> bool
     ensures { result ≡ in_ranges pn_chars_u c }
 {

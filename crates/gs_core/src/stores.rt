@@ -3,9 +3,10 @@ ghost use Rattle.std.specs.Prelude.{◌≡◌, ◌++◌, ◌≤◌, [], true, If
 ghost use Rattle.gs_model.specs.Bases.{is_base};
 ghost use Rattle.gs_model.specs.Limits.{last_number, max_seats};
 ghost use Rattle.gs_event.specs.Datasets.{triples_in};
-ghost use Rattle.gs_event.specs.Views.{Fits, next_view};
-ghost use Rattle.gs_event.specs.Histories.{Start, History, IsLegal, history_of, view_of};
-ghost use Rattle.gs_event.specs.Waste.{Reclaims, nodes_in};
+ghost use Rattle.gs_event.specs.Steps.{Steps};
+ghost use Rattle.gs_event.specs.Runs.{Runs};
+ghost use Rattle.gs_event.specs.Histories.{Start, History, IsLegal, history_of, view_of, pinned_of};
+ghost use Rattle.gs_event.specs.Waste.{nodes_in};
 ghost use Rattle.gs_core.specs.Settings.{setting_of};
 
 use crate::limits::{MAX_NAMES, MAX_TRIPLES};
@@ -43,6 +44,7 @@ impl Store {
         requires few { seats ≤ max_seats }
         requires base { is_base base.now ≡ true }
         ensures view { IfOk result (λ store. store.view ≡ view_of (record { seats = seats; setting = setting_of base.now; request = 0; commit = 0 }) []) }
+        ensures pinned { IfOk result (λ store. store.pinned ≡ pinned_of (record { seats = seats; setting = setting_of base.now; request = 0; commit = 0 }) []) }
         ensures waste { IfOk result (λ store. store.waste ≡ []) }
         ensures refused { IfErr result (λ refusal. refusal ≡ Refusal.NoMemory) }
     {
@@ -63,6 +65,7 @@ impl Store {
         requires last_commit { commit ≤ last_number }
         requires last_request { request ≤ last_number }
         ensures view { IfOk result (λ store. store.view ≡ view_of (record { seats = seats; setting = setting_of base.now; request = request; commit = commit }) []) }
+        ensures pinned { IfOk result (λ store. store.pinned ≡ pinned_of (record { seats = seats; setting = setting_of base.now; request = request; commit = commit }) []) }
         ensures waste { IfOk result (λ store. store.waste ≡ []) }
         ensures refused { IfErr result (λ refusal. refusal ≡ Refusal.NoMemory) }
     {
@@ -84,6 +87,7 @@ impl Store {
     ) -> Result<Store, Refusal>
         requires { is_base base.now ≡ true }
         ensures view { IfOk result (λ store. store.view ≡ view_of (record { seats = seats; setting = record { base = base.now; limits = limits }; request = request; commit = commit }) []) }
+        ensures pinned { IfOk result (λ store. store.pinned ≡ pinned_of (record { seats = seats; setting = record { base = base.now; limits = limits }; request = request; commit = commit }) []) }
         ensures waste { IfOk result (λ store. store.waste ≡ []) }
         ensures refused { IfErr result (λ refusal. refusal ≡ Refusal.NoMemory) }
     {
@@ -94,10 +98,7 @@ impl Store {
     /// Takes one event: the answer fits what the store shows, and the store then shows the next
     /// view. A refused event changes nothing.
     pub fn step(&mut self, event: &Event) -> Answer
-        ensures fits { Fits self.old.view event.now result }
-        ensures view { self.new.view ≡ next_view self.old.view event.now result }
-        ensures waste { self.new.waste ≡ self.old.waste }
-        ensures reclaims { Reclaims self.old.waste event.now result self.new.waste }
+        ensures steps { Steps self.old event.now result self.new }
     {
         self.plain.step(event)
     }
@@ -105,14 +106,17 @@ impl Store {
     /// Takes events in any order. On a store that shows what a legal history says, as a new store
     /// does of the empty one, that history with the events and their answers after it is legal:
     /// the answers are those of an abstract graph store that takes each write whole at its commit
-    /// and each read whole at its pin; and the store then shows what the whole history says. Room
+    /// and each read whole at its pin; and the store then shows what the whole history says. Each
+    /// event is one `step`, which says what becomes of the waste and what a Reclaim answers. Room
     /// for all answers is made before the first event, so `NoMemory` changes nothing.
     pub fn run(&mut self, events: &[Event]) -> Result<Vec<Answer>, Refusal>
         ensures legal { IfOk result (λ answers. (start : Start) (before : History) → IsLegal start before → self.old.view ≡ view_of start before → IsLegal start (history_of events.now answers.items ++ before)) }
         ensures answered { IfOk result (λ answers. length answers.items ≡ length events.now) }
         ensures view { IfOk result (λ answers. (start : Start) (before : History) → IsLegal start before → self.old.view ≡ view_of start before → self.new.view ≡ view_of start (history_of events.now answers.items ++ before)) }
+        ensures pinned { IfOk result (λ answers. (start : Start) (before : History) → IsLegal start before → self.old.view ≡ view_of start before → self.old.pinned ≡ pinned_of start before → self.new.pinned ≡ pinned_of start (history_of events.now answers.items ++ before)) }
+        ensures ran { IfOk result (λ answers. Runs Steps self.old events.now answers.items self.new) }
         ensures refused { IfErr result (λ refusal. refusal ≡ Refusal.NoMemory) }
-        ensures kept { OnErr result (self.new.view ≡ self.old.view) }
+        ensures kept { OnErr result (self.new ≡ self.old) }
     {
         gs_run::run(self.alloc, self, events)
     }
@@ -133,7 +137,9 @@ impl Store {
 }
 
 impl EventStore for Store {
-    ghost shows = { λ s. s.view };
+    ghost use Rattle.gs_event.specs.Steps.{Steps};
+
+    ghost Takes = { Steps };
 
     fn step(&mut self, event: &Event) -> Answer {
         self.step(event)

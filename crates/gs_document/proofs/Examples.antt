@@ -17,11 +17,13 @@ use Rattle.gs_escape.specs.Meanings.{unescaped, stands_local}
 use Rattle.gs_escape.specs.Tokens.{between, iri_of}
 use Rattle.gs_blank.specs.Numbers.{Numbers, no_numbers}
 use Rattle.gs_body.specs.Bodies.{Statement, Whole}
-use Rattle.gs_document.specs.Symbols.{Reference, Name, Plain, A, xsd}
-use Rattle.gs_document.specs.Meanings as meaning
-use Rattle.gs_document.specs.Meanings.{Fault, Context, Prefixes, made, name_text, iri, rdf, with_numbers, with_prefix}
-use Rattle.gs_document.specs.Goals.{triple}
-use Rattle.gs_document.specs.Rules as rule
+use Rattle.gs_triples.specs.Symbols.{Reference, Name, Plain, A, xsd}
+use Rattle.gs_triples.specs.Meanings as meaning
+use Rattle.gs_triples.specs.Meanings.{Fault, Context, Prefixes, made_of, name_text, iri, rdf, with_numbers}
+use Rattle.gs_triples.specs.Goals.{triple}
+use Rattle.gs_document.specs.Directives.{with_prefix}
+use Rattle.gs_triples.specs.Rules as rule
+use Rattle.gs_triples.specs.Triples as triples_of
 use Rattle.gs_document.specs.Documents as statement
 use Rattle.gs_document.specs.Documents.{IsDocument, start, stated}
 use Rattle.gs_document.specs.Program.{document}
@@ -67,7 +69,7 @@ unfolding with_prefix iri_of between unescaped is_utf8 chars encode resolved res
 declared = refl
 
 subject : meaning.subject context no_numbers (Reference (codes "<>") 28) ≡ Ok (Iri graph, no_numbers)
-unfolding meaning.word iri made iri_of between unescaped is_utf8 chars encode resolved resolved_parts parts_of before from behind is_scheme has_scheme scheme_of behind_scheme behind_slashes authority_of behind_authority path_of behind_path query_of behind_query fragment_of dots segments_of closed is_dots is_dot is_dot_dot moved output_of text_of_segments scheme_text marked parts_text
+unfolding meaning.word iri made_of iri_of between unescaped is_utf8 chars encode resolved resolved_parts parts_of before from behind is_scheme has_scheme scheme_of behind_scheme behind_slashes authority_of behind_authority path_of behind_path query_of behind_query fragment_of dots segments_of closed is_dots is_dot is_dot_dot moved output_of text_of_segments scheme_text marked parts_text
 subject = refl
 
 found : finite.get prefixes (codes "ex") ≡ Some (codes "http://e/")
@@ -78,18 +80,18 @@ unfolding name_text unescaped stands_local is_utf8 chars encode
 spelled = ap (λ o. option_and_then (λ i. option_map (λ l. i ++ l) (Some (codes "a.b"))) o) found
 
 named : meaning.word context no_numbers (Name (codes "ex:a.b")) ≡ Ok (Iri (codes "http://e/a.b"), no_numbers)
-unfolding meaning.word iri made
-named = ap (λ o. with_numbers no_numbers (made (option_map Iri o))) spelled
+unfolding meaning.word iri made_of
+named = ap (λ o. with_numbers no_numbers (made_of (option_map Iri o))) spelled
 
 abbrev numbers : ℕ → Numbers
 numbers k = (no_numbers.0, k)
 
 one : meaning.word context (numbers 1) (Plain (codes "1") (xsd (codes "integer"))) ≡ Ok (Literal (codes "1") (Typed (xsd (codes "integer"))), numbers 1)
-unfolding meaning.word made suffix
+unfolding meaning.word made_of suffix
 one = refl
 
 half : meaning.word context (numbers 2) (Plain (codes ".5") (xsd (codes "decimal"))) ≡ Ok (Literal (codes ".5") (Typed (xsd (codes "decimal"))), numbers 2)
-unfolding meaning.word made suffix
+unfolding meaning.word made_of suffix
 half = refl
 
 -- the directive, and the triples
@@ -99,18 +101,21 @@ statements = stated 25 [] ++ stated 49 triples
 -- by the rules
 by_rules : IsDocument graph 1 row statements
 unfolding is_utf8 chars encode
-by_rules =
-    statement.statement (statement.prefix (codes "@prefix") (codes "ex:") (codes "<http://e/>") 23 25 refl declared)
-    (statement.statement
-    (statement.triples 49
-    (statement.word (Reference (codes "<>") 28) subject
-    (rule.verbs A refl (rule.word (Name (codes "ex:a.b")) named)
-    (rule.comma
-    (rule.list refl
-    (rule.begun (rule.word (Plain (codes "1") (xsd (codes "integer"))) one)
-    (rule.item (rule.word (Plain (codes ".5") (xsd (codes "decimal"))) half) (rule.ended 1 2 (numbers 2)))))
-    (rule.no_more (Iri graph) (rdf (codes "type")) (numbers 2))))))
-    (statement.nothing context (numbers 2)))
+by_rules = (
+  context,
+  numbers 2,
+  statement.statement (statement.prefix (codes "@prefix") (codes "ex:") (codes "<http://e/>") 23 25 refl declared)
+      (statement.statement
+      (statement.triples 49
+      (triples_of.word (Reference (codes "<>") 28) subject
+      (rule.verbs A refl (rule.word (Name (codes "ex:a.b")) named)
+      (rule.comma
+      (rule.list refl
+      (rule.begun (rule.word (Plain (codes "1") (xsd (codes "integer"))) one)
+      (rule.item (rule.word (Plain (codes ".5") (xsd (codes "decimal"))) half) (rule.ended 1 2 (numbers 2)))))
+      (rule.no_more (Iri graph) (rdf (codes "type")) (numbers 2))))))
+      (statement.nothing context (numbers 2))),
+)
 
 -- and by the program
 by_program : document graph 1 row ≡ (statements, Whole)

@@ -11,13 +11,15 @@ use Rattle.gs_iri.specs.Resolving.{scheme_text, marked, parts_text, through_last
 use Rattle.gs_escape.specs.Meanings.{unescaped, stands_short}
 use Rattle.gs_escape.specs.Tokens.{between, quoted, iri_of, string_of}
 use Rattle.gs_blank.specs.Numbers.{no_numbers}
-use Rattle.gs_body.specs.Bodies.{Whole, Syntax}
-use Rattle.gs_document.specs.Symbols.{Symbol, AWord, Text, At, Carets, A, Open, Close, Semicolon, Comma, Dot, BaseWord, Reference, Plain, xsd}
-use Rattle.gs_document.specs.Meanings.{word, iri, made, simple, tagged, typed, with_base, rdf}
-use Rattle.gs_document.specs.Goals.{triple}
+use Rattle.gs_body.specs.Bodies.{Whole, Faulty}
+use Rattle.gs_triples.specs.Symbols.{Symbol, AWord, Text, At, Carets, A, Open, Close, Semicolon, Comma, Dot, BaseWord, Reference, Plain, xsd}
+use Rattle.gs_triples.specs.Meanings.{Syntax, word, iri, made_of, simple, tagged, typed, rdf}
+use Rattle.gs_triples.specs.Goals.{triple}
+use Rattle.gs_document.specs.Directives.{with_base}
 use Rattle.gs_document.specs.Documents.{start, stated}
-use Rattle.gs_document.specs.Reading.{parse}
-use Rattle.gs_document.specs.Program.{triples_at, statement_at, statements_at}
+use Rattle.gs_triples.specs.Reading.{parse}
+use Rattle.gs_triples.specs.Program.{triples_at}
+use Rattle.gs_document.specs.Program.{statement_at, statements_at}
 
 abbrev symbols : List Symbol
 symbols =
@@ -34,13 +36,13 @@ by_program : statements_at 20 (start (codes "http://e/g") 1) no_numbers symbols
           ∷ triple (Iri (codes "http://b/s")) (rdf (codes "type")) (Literal (codes "y") (Typed (codes "http://b/d"))) ∷ []),
       Whole,
     )
-unfolding statements_at statement_at triples_at parse word iri made simple tagged typed with_base suffix iri_of string_of quoted between unescaped stands_short is_utf8 chars encode resolved resolved_parts parts_of before from behind is_scheme has_scheme scheme_of behind_scheme behind_slashes authority_of behind_authority path_of behind_path query_of behind_query fragment_of dots segments_of closed is_dots is_dot is_dot_dot moved output_of text_of_segments scheme_text marked parts_text through_last directory_of front_text
+unfolding statements_at statement_at triples_at parse word iri made_of simple tagged typed with_base suffix iri_of string_of quoted between unescaped stands_short is_utf8 chars encode resolved resolved_parts parts_of before from behind is_scheme has_scheme scheme_of behind_scheme behind_slashes authority_of behind_authority path_of behind_path query_of behind_query fragment_of dots segments_of closed is_dots is_dot is_dot_dot moved output_of text_of_segments scheme_text marked parts_text through_last directory_of front_text
 by_program = refl
 
 -- directives alone, and then a fault: `@base <http://b/> . BASE <c> .`, whose second directive ends without a dot
 abbrev directives : List Symbol
 directives = At (codes "@base") ∷ AWord (Reference (codes "<http://b/>") 17) ∷ Dot 19 ∷ BaseWord ∷ AWord (Reference (codes "<c>") 28) ∷ Dot 30 ∷ []
 
-fault_behind_directives : statements_at 6 (start (codes "http://e/g") 1) no_numbers directives ≡ (stated 19 [] ++ stated 28 [], Syntax)
+fault_behind_directives : statements_at 6 (start (codes "http://e/g") 1) no_numbers directives ≡ (stated 19 [] ++ stated 28 [], Faulty Syntax)
 unfolding statements_at statement_at triples_at with_base iri_of between unescaped is_utf8 chars encode resolved resolved_parts parts_of before from behind is_scheme has_scheme scheme_of behind_scheme behind_slashes authority_of behind_authority path_of behind_path query_of behind_query fragment_of dots segments_of closed is_dots is_dot is_dot_dot moved output_of text_of_segments scheme_text marked parts_text through_last directory_of front_text
 fault_behind_directives = refl

@@ -1,40 +1,97 @@
--- The machine and the program, directive by directive, and on whole documents.
-use Rattle.std.proofs.Common.{◌≡◌, ℕ, zero, suc, ◌≤◌, Bool, true, false, cond, List, [], ◌∷◌, length, refl, sym, ap, ◌∙◌, arith}
-use Rattle.std.specs.Prelude.{Err, Option, Some, None, codes, bytes_eq}
+-- The machine and the program, directive by directive, on the triples of a statement, and on whole documents.
+use Rattle.std.proofs.Common.{◌≡◌, ℕ, zero, suc, ◌≤◌, Bool, true, false, cond, List, [], ◌∷◌, length, refl, sym, ap, ◌∙◌, arith, length-append}
+use Rattle.std.specs.Prelude.{Result, Ok, Err, Option, Some, None, codes, bytes_eq}
 use Rattle.std.proofs.lemmas.List.{length-map}
+use Rattle.gs_model.specs.Terms.{Term}
+use Rattle.gs_model.specs.Triples.{RdfTriple}
 use Rattle.gs_lex.specs.Tokens.{Lexeme}
 use Rattle.gs_machine.specs.Machines.{joined, rest}
 use Rattle.gs_blank.specs.Numbers.{Numbers, no_numbers}
-use Rattle.gs_body.specs.Bodies.{Syntax}
-use Rattle.gs_document.specs.Symbols.{Word, Reference, Namespace, Symbol, AWord, At, Open, OpenList, Dot, PrefixWord, BaseWord, symbol_of, symbols_of}
-use Rattle.gs_document.specs.Meanings.{Broken, Context, subject, with_prefix, with_base}
-use Rattle.gs_document.specs.Goals.{Begun}
+use Rattle.gs_body.specs.Bodies.{Meaning, Faulty}
+use Rattle.gs_triples.specs.Symbols.{Reference, Namespace, Symbol, AWord, At, Dot, PrefixWord, BaseWord, symbol_of, symbols_of}
+use Rattle.gs_triples.specs.Meanings.{Fault, Syntax, Context}
+use Rattle.gs_triples.specs.Reading.{Got, ◌>>=◌}
+use Rattle.gs_triples.specs.Program.{triples_at, CoversTriples}
+use Rattle.gs_triples.specs.States as triples
+use Rattle.gs_triples.specs.States.{Lost, Goes, Ends}
+use Rattle.gs_triples.specs.Machine as triples_machine
+use Rattle.gs_triples.specs.Machine.{opening, Done, taken, run, goes_on}
+use Rattle.gs_triples.proofs.TriplesLemmas.{triples_covered}
+use Rattle.gs_triples.proofs.MachineLemmas.{opening_run}
+use Rattle.gs_document.specs.Directives.{with_prefix, with_base}
 use Rattle.gs_document.specs.Documents.{stated, start}
 use Rattle.gs_document.specs.Program.{told as told_by}
-use Rattle.gs_document.specs.Reading.{◌>>=◌, enough, read}
-use Rattle.gs_document.specs.Program.{triples_at, dotted, prefix_at, base_at, statement_at, followed, statements_at, document}
-use Rattle.gs_document.specs.States.{ToVerbs, Between, InPrefix, InPrefixIri, InBase, AtDot, Heading, lost, quiet}
-use Rattle.gs_document.specs.Machine.{begin, set, step, ended, turtle}
-use Rattle.gs_document.proofs.BackLemmas.{covered}
+use Rattle.gs_document.specs.Program.{dotted, prefix_at, base_at, statement_at, followed, statements_at, document}
+use Rattle.gs_document.specs.States.{Turn, Between, InPrefix, InPrefixIri, InBase, AtDot, Within, lost, quiet}
+use Rattle.gs_document.specs.Machine.{set, conclude, over, step, ended, turtle}
 use Rattle.gs_document.proofs.DocumentLemmas.{statements_nil}
-use Rattle.gs_document.proofs.WalkLemmas.{told, lost_rest}
-use Rattle.gs_document.proofs.GoalLemmas.{walk}
-use Rattle.gs_document.proofs.MachineLemmas.{Known, word_rest, list_rest, open_rest}
+
+-- what is told of the rest, from a turn
+abbrev pub told : Turn → List Symbol → Meaning
+told u ts = joined u.1 (rest turtle u.0 ts)
+
+pub lost_rest : (e : Fault) (ts : List Symbol) → rest turtle (lost e) ts ≡ ([], Faulty e)
+unfolding rest step ended triples_machine.step triples_machine.ended
+lost_rest e [] = refl
+lost_rest e (t ∷ ts) = lost_rest e ts
+
+-- what is told of shorter texts is known
+abbrev Known : ℕ → Type 0
+Known f = (env : Context) (n : Numbers) (us : List Symbol) → length us ≤ f → rest turtle (Between env n) us ≡ statements_at f env n us
+
+-- what is told after triples
+abbrev told_after : Context → List RdfTriple → Numbers → List Symbol → Meaning
+told_after env T n [] = ([], Faulty Syntax)
+told_after env T n (t ∷ ts) = told (conclude t env T n) ts
+
+-- and where they have a fault
+abbrev concluded : Result Done Fault → Meaning
+concluded (Err e) = ([], Faulty e)
+concluded (Ok d) = told_after d.context d.triples d.numbers d.rest
+
+-- within triples the machine tells what theirs reads
+within_turn : (t : Symbol) (ts : List Symbol) (u : triples.Turn) → ((s : triples.State) → rest turtle (Within s) ts ≡ concluded (run ts s))
+    → told (over t u) ts ≡ concluded (taken (run ts) (t ∷ ts) u)
+within_turn t ts (Goes s) again = again s
+within_turn t ts (Ends env T n) again = refl
+
+within : (ts : List Symbol) (s : triples.State) → rest turtle (Within s) ts ≡ concluded (run ts s)
+unfolding rest run step ended
+within [] s = refl
+within (t ∷ ts) s = within_turn t ts (triples_machine.step s t) (within ts)
+
+-- a statement of triples
+dot_told : (f : ℕ) (env : Context) (v : Term) (T : List RdfTriple) (n : Numbers) (us : List Symbol) → Known f → length us ≤ suc f
+    → concluded (goes_on env (record { value = v; triples = T; numbers = n; rest = us })) ≡ followed (statements_at f) (dotted env (record { value = v; triples = T; numbers = n; rest = us }))
+dot_told f env v T n [] again h = refl
+dot_told f env v T n (Dot e ∷ us) again h = ap (joined (stated e T)) (again env n us (omega arith))
+dot_told f env v T n (t ∷ us) again h = lost_rest Syntax us
+
+triples_told : (f : ℕ) (env : Context) (n : Numbers) (ts : List Symbol) → Known f → length ts ≤ suc f → (r : Result Got Fault) → CoversTriples env n ts r
+    → concluded (r >>= goes_on env) ≡ followed (statements_at f) (r >>= dotted env)
+triples_told f env n ts again h (Err e) c = refl
+triples_told f env n ts again h (Ok g) (xs, e, c) = dot_told f env g.value g.triples g.numbers g.rest again (omega (arith, ap length e, length-append xs g.rest))
+
+triples_rest : (f : ℕ) (env : Context) (n : Numbers) (t : Symbol) (ts : List Symbol) → Known f → length ts ≤ f
+    → rest turtle (Within (opening env n t)) ts ≡ followed (statements_at f) (triples_at env n (t ∷ ts) >>= dotted env)
+triples_rest f env n t ts again h =
+    within ts (opening env n t) ∙ ap concluded (opening_run env n t ts)
+    ∙ triples_told f env n (t ∷ ts) again (omega arith) (triples_at env n (t ∷ ts)) (triples_covered env n (t ∷ ts))
 
 -- the turn of a directive's IRI, where the text ends, where a dot stands, where something else does, and where it ends there
-set_ends : (k : ℕ) (n : Numbers) (q : Option Context) → told (set true k n q) [] ≡ ([], Syntax)
-unfolding rest ended
+set_ends : (k : ℕ) (n : Numbers) (q : Option Context) → told (set true k n q) [] ≡ ([], Faulty Syntax)
+unfolding rest ended triples_machine.ended
 set_ends k n None = refl
 set_ends k n (Some env) = refl
 
 set_dot : (f k : ℕ) (n : Numbers) (e : ℕ) (us : List Symbol) → Known f → length us ≤ f → (q : Option Context)
     → told (set true k n q) (Dot e ∷ us) ≡ followed (statements_at f) (told_by (stated e []) n us q)
-unfolding rest step
+unfolding rest step triples_machine.step
 set_dot f k n e us again h None = lost_rest Syntax us
 set_dot f k n e us again h (Some env) = ap (joined (stated e [])) (again env n us h)
 
-set_other : (k : ℕ) (n : Numbers) (t : Symbol) (us : List Symbol) (q : Option Context) → ((env : Context) → step (AtDot env n) t ≡ quiet (lost Broken))
-    → told (set true k n q) (t ∷ us) ≡ ([], Syntax)
+set_other : (k : ℕ) (n : Numbers) (t : Symbol) (us : List Symbol) (q : Option Context) → ((env : Context) → step (AtDot env n) t ≡ quiet (lost Syntax))
+    → told (set true k n q) (t ∷ us) ≡ ([], Faulty Syntax)
 unfolding rest
 set_other k n t us None s = lost_rest Syntax (t ∷ us)
 set_other k n t us (Some env) s = ap (λ z. told z us) (s env) ∙ lost_rest Syntax us
@@ -46,7 +103,7 @@ set_word f e n us again h (Some env) = ap (joined (stated e [])) (again env n us
 
 iri_dot : (f : ℕ) (p : List ℕ) (env : Context) (n : Numbers) (ts : List Symbol) → Known f → length ts ≤ f
     → rest turtle (InPrefixIri true p env n) ts ≡ followed (statements_at f) (prefix_at env n (AWord (Namespace p) ∷ ts))
-unfolding rest step ended
+unfolding rest step ended triples_machine.step triples_machine.ended
 iri_dot f p env n [] again h = refl
 iri_dot f p env n (AWord (Reference i k) ∷ []) again h = set_ends k n (with_prefix env p i)
 iri_dot f p env n (AWord (Reference i k) ∷ Dot e ∷ us) again h = set_dot f k n e us again (omega arith) (with_prefix env p i)
@@ -56,7 +113,7 @@ iri_dot f p env n (t ∷ ts) again h = lost_rest Syntax ts
 
 prefix_dot : (f : ℕ) (env : Context) (n : Numbers) (ts : List Symbol) → Known f → length ts ≤ f
     → rest turtle (InPrefix true env n) ts ≡ followed (statements_at f) (prefix_at env n ts)
-unfolding rest step ended
+unfolding rest step ended triples_machine.step triples_machine.ended
 prefix_dot f env n [] again h = refl
 prefix_dot f env n (AWord (Namespace p) ∷ ts) again h = iri_dot f p env n ts again (omega arith)
 prefix_dot f env n (AWord w ∷ ts) again h = lost_rest Syntax ts
@@ -64,7 +121,7 @@ prefix_dot f env n (t ∷ ts) again h = lost_rest Syntax ts
 
 base_dot : (f : ℕ) (env : Context) (n : Numbers) (ts : List Symbol) → Known f → length ts ≤ f
     → rest turtle (InBase true env n) ts ≡ followed (statements_at f) (base_at env n ts)
-unfolding rest step ended
+unfolding rest step ended triples_machine.step triples_machine.ended
 base_dot f env n [] again h = refl
 base_dot f env n (AWord (Reference i k) ∷ []) again h = set_ends k n (with_base env i)
 base_dot f env n (AWord (Reference i k) ∷ Dot e ∷ us) again h = set_dot f k n e us again (omega arith) (with_base env i)
@@ -74,15 +131,15 @@ base_dot f env n (t ∷ ts) again h = lost_rest Syntax ts
 
 -- an at-word
 at_rest : (f : ℕ) (env : Context) (n : Numbers) (ts : List Symbol) → Known f → length ts ≤ f → (b c : Bool)
-    → rest turtle (cond b (InPrefix true env n) (cond c (InBase true env n) (lost Broken))) ts
-    ≡ followed (statements_at f) (cond b (prefix_at env n ts) (cond c (base_at env n ts) (Err Broken)))
+    → rest turtle (cond b (InPrefix true env n) (cond c (InBase true env n) (lost Syntax))) ts
+    ≡ followed (statements_at f) (cond b (prefix_at env n ts) (cond c (base_at env n ts) (Err Syntax)))
 at_rest f env n ts again h true c = prefix_dot f env n ts again h
 at_rest f env n ts again h false true = base_dot f env n ts again h
 at_rest f env n ts again h false false = lost_rest Syntax ts
 
 iri_word : (f : ℕ) (p : List ℕ) (env : Context) (n : Numbers) (ts : List Symbol) → Known f → length ts ≤ f
     → rest turtle (InPrefixIri false p env n) ts ≡ followed (statements_at f) (statement_at env n (PrefixWord ∷ AWord (Namespace p) ∷ ts))
-unfolding rest step ended statement_at
+unfolding rest step ended statement_at triples_machine.step triples_machine.ended
 iri_word f p env n [] again h = refl
 iri_word f p env n (AWord (Reference i e) ∷ ts) again h = set_word f e n ts again (omega arith) (with_prefix env p i)
 iri_word f p env n (AWord w ∷ ts) again h = lost_rest Syntax ts
@@ -90,7 +147,7 @@ iri_word f p env n (t ∷ ts) again h = lost_rest Syntax ts
 
 prefix_word : (f : ℕ) (env : Context) (n : Numbers) (ts : List Symbol) → Known f → length ts ≤ f
     → rest turtle (InPrefix false env n) ts ≡ followed (statements_at f) (statement_at env n (PrefixWord ∷ ts))
-unfolding rest step ended statement_at
+unfolding rest step ended statement_at triples_machine.step triples_machine.ended
 prefix_word f env n [] again h = refl
 prefix_word f env n (AWord (Namespace p) ∷ ts) again h = iri_word f p env n ts again (omega arith)
 prefix_word f env n (AWord w ∷ ts) again h = lost_rest Syntax ts
@@ -98,37 +155,22 @@ prefix_word f env n (t ∷ ts) again h = lost_rest Syntax ts
 
 base_word : (f : ℕ) (env : Context) (n : Numbers) (ts : List Symbol) → Known f → length ts ≤ f
     → rest turtle (InBase false env n) ts ≡ followed (statements_at f) (statement_at env n (BaseWord ∷ ts))
-unfolding rest step ended statement_at
+unfolding rest step ended statement_at triples_machine.step triples_machine.ended
 base_word f env n [] again h = refl
 base_word f env n (AWord (Reference i e) ∷ ts) again h = set_word f e n ts again (omega arith) (with_base env i)
 base_word f env n (AWord w ∷ ts) again h = lost_rest Syntax ts
 base_word f env n (t ∷ ts) again h = lost_rest Syntax ts
 
--- a subject of one token, and a collection
-word_at : (f : ℕ) (env : Context) (n : Numbers) (w : Word) (ts : List Symbol) → Known f → length ts ≤ f
-    → rest turtle (begin env (subject env n w)) ts ≡ followed (statements_at f) (triples_at env n (AWord w ∷ ts) >>= dotted env)
-unfolding triples_at
-word_at f env n w ts again h = word_rest f env ts again h (subject env n w)
-
-list_at : (f : ℕ) (env : Context) (n : Numbers) (ts : List Symbol) → Known f → length ts ≤ f
-    → rest turtle (Heading (Begun 1) (ToVerbs ∷ []) env [] n) ts ≡ followed (statements_at f) (triples_at env n (OpenList ∷ ts) >>= dotted env)
-unfolding triples_at
-list_at f env n ts again h =
-    walk env (enough ts) (Begun 1) n ts (ToVerbs ∷ []) [] (omega arith)
-    ∙ list_rest f env n ts again h (read env (Begun 1) n ts) (covered env (enough ts) (Begun 1) n ts)
-
 -- between two statements
 pub between : (f : ℕ) (env : Context) (n : Numbers) (ts : List Symbol) → length ts ≤ f → rest turtle (Between env n) ts ≡ statements_at f env n ts
-unfolding rest step ended statements_at statement_at triples_at
+unfolding rest step ended statements_at statement_at
 between f env n [] h = sym (statements_nil f env n)
 between zero env n (t ∷ ts) h = absurd (omega arith)
 between (suc f) env n (At x ∷ ts) h = at_rest f env n ts (between f) (omega arith) (bytes_eq x (codes "@prefix")) (bytes_eq x (codes "@base"))
 between (suc f) env n (PrefixWord ∷ ts) h = prefix_word f env n ts (between f) (omega arith)
 between (suc f) env n (BaseWord ∷ ts) h = base_word f env n ts (between f) (omega arith)
-between (suc f) env n (AWord w ∷ ts) h = word_at f env n w ts (between f) (omega arith)
-between (suc f) env n (Open ∷ ts) h = open_rest f env n ts (between f) (omega arith)
-between (suc f) env n (OpenList ∷ ts) h = list_at f env n ts (between f) (omega arith)
-between (suc f) env n (t ∷ ts) h = lost_rest Syntax ts
+between (suc f) env n (AWord w ∷ ts) h = triples_rest f env n (AWord w) ts (between f) (omega arith)
+between (suc f) env n (t ∷ ts) h = triples_rest f env n t ts (between f) (omega arith)
 
 -- the machine tells of a document what the program says
 pub machine_tells : (b : List ℕ) (r : ℕ) (ts : List Lexeme) → rest turtle (Between (start b r) no_numbers) (symbols_of ts) ≡ document b r ts

@@ -1,33 +1,14 @@
 -- Turtle's statements and documents (25 February 2014, section 6.5), each with just the tokens that it spans.
-use Rattle.std.specs.Prelude.{◌≡◌, ℕ, List, [], ◌∷◌, ◌++◌, codes, Some, Ok}
+use Rattle.std.specs.Prelude.{◌≡◌, ℕ, List, [], ◌∷◌, ◌++◌, codes, Some}
 use Rattle.std.specs.FinMap as finite
-use Rattle.gs_model.specs.Terms.{Term, Blank}
 use Rattle.gs_model.specs.Triples.{RdfTriple}
 use Rattle.gs_lex.specs.Tokens.{Lexeme}
-use Rattle.gs_blank.specs.Numbers.{Numbers, one_more, no_numbers}
+use Rattle.gs_blank.specs.Numbers.{Numbers, no_numbers}
 use Rattle.gs_body.specs.Bodies.{Statement}
-use Rattle.gs_document.specs.Symbols.{Word, Reference, Namespace, Symbol, AWord, At, Open, Close, OpenList, Dot, PrefixWord, BaseWord, symbols_of}
-use Rattle.gs_document.specs.Meanings.{Context, subject, with_prefix, with_base}
-use Rattle.gs_document.specs.Goals.{Verbs, Begun, next}
-use Rattle.gs_document.specs.Rules.{Covers}
-
--- [6] triples, and the numbers after them
-pub data AreTriples (env : Context) (n : Numbers) : List Symbol → List RdfTriple → Numbers → Type 0 where
-  -- [10] subject: an IRI or a label
-  word : {k l : Numbers} {s v : Term} (w : Word) {xs : List Symbol} {T : List RdfTriple} → subject env n w ≡ Ok (s, k)
-      → Covers env (Verbs 0 s) k xs v T l → AreTriples env n (AWord w ∷ xs) T l
-  -- [162s] ANON
-  anon : {l : Numbers} {v : Term} {xs : List Symbol} {T : List RdfTriple}
-      → Covers env (Verbs 0 (Blank env.request (next n))) (one_more n) xs v T l → AreTriples env n (Open ∷ Close ∷ xs) T l
-  -- [15] collection
-  list : {k l : Numbers} {s v : Term} {xs ys : List Symbol} {T U : List RdfTriple} → Covers env (Begun 1) n xs s T k
-      → Covers env (Verbs 0 s) k ys v U l → AreTriples env n (OpenList ∷ xs ++ ys) (T ++ U) l
-  -- [14] blankNodePropertyList, alone or with a predicateObjectList
-  properties : {k : Numbers} {v : Term} {xs : List Symbol} {T : List RdfTriple}
-      → Covers env (Verbs 1 (Blank env.request (next n))) (one_more n) xs v T k → AreTriples env n (Open ∷ xs ++ Close ∷ []) T k
-  properties_and : {k l : Numbers} {v w : Term} {xs ys : List Symbol} {T U : List RdfTriple}
-      → Covers env (Verbs 1 (Blank env.request (next n))) (one_more n) xs v T k
-      → Covers env (Verbs 0 (Blank env.request (next n))) k ys w U l → AreTriples env n (Open ∷ xs ++ Close ∷ ys) (T ++ U) l
+use Rattle.gs_triples.specs.Symbols.{Reference, Namespace, Symbol, AWord, At, Dot, PrefixWord, BaseWord, symbols_of}
+use Rattle.gs_triples.specs.Meanings.{Context}
+use Rattle.gs_triples.specs.Triples.{AreTriples}
+use Rattle.gs_document.specs.Directives.{with_prefix, with_base}
 
 -- a statement that ends there, with its triples; a directive has none
 abbrev pub stated : ℕ → List RdfTriple → List Statement
@@ -49,11 +30,12 @@ pub data IsStatement (env : Context) (n : Numbers) : List Symbol → List Statem
   triples : {k : Numbers} {xs : List Symbol} {T : List RdfTriple} (end : ℕ) → AreTriples env n xs T k
       → IsStatement env n (xs ++ Dot end ∷ []) (stated end T) env k
 
--- [1] turtleDoc: statement after statement, each in the context that the ones before it leave
-pub data AreStatements : Context → Numbers → List Symbol → List Statement → Type 0 where
-  nothing : (env : Context) (n : Numbers) → AreStatements env n [] []
-  statement : {env next : Context} {n k : Numbers} {xs ys : List Symbol} {S R : List Statement} → IsStatement env n xs S next k
-      → AreStatements next k ys R → AreStatements env n (xs ++ ys) (S ++ R)
+-- [1] turtleDoc: statement after statement, each in the context that the ones before it leave; what they state, and the
+-- context and the numbers that they leave
+pub data AreStatements : Context → Numbers → List Symbol → List Statement → Context → Numbers → Type 0 where
+  nothing : (env : Context) (n : Numbers) → AreStatements env n [] [] env n
+  statement : {env next last : Context} {n k l : Numbers} {xs ys : List Symbol} {S R : List Statement}
+      → IsStatement env n xs S next k → AreStatements next k ys R last l → AreStatements env n (xs ++ ys) (S ++ R) last l
 
 -- no prefix is declared, and no blank node is numbered
 abbrev pub start : List ℕ → ℕ → Context
@@ -61,4 +43,4 @@ start b r = record { base = b; prefixes = finite.empty; request = r }
 
 -- the tokens of a document, and the statements that it has under this base and in this request
 abbrev pub IsDocument : List ℕ → ℕ → List Lexeme → List Statement → Type 0
-IsDocument b r ts S = AreStatements (start b r) no_numbers (symbols_of ts) S
+IsDocument b r ts S = (last : Context) × (n : Numbers) × AreStatements (start b r) no_numbers (symbols_of ts) S last n

@@ -1,12 +1,7 @@
--- Read in this order: the symbols of the grammar, the terms that they mean, the rules, the program that reads by them, and
--- the machine.
-pub mod Symbols
-pub mod Prefixes
-pub mod Meanings
-pub mod Goals
-pub mod Rules
+-- Read in this order: directives, the rules of statements and documents, the program that reads by them, and the machine.
+pub mod Directives
 pub mod Documents
-pub mod Reading
+pub mod Fronts
 pub mod Program
 pub mod States
 pub mod Machine

@@ -1,36 +1,15 @@
 -- The reader of Turtle as a plain program on a whole list of tokens.
-use Rattle.std.specs.Prelude.{ℕ, zero, suc, Bool, false, if◌then◌else◌, List, [], ◌∷◌, ◌++◌, length, codes, bytes_eq, Option, Some, None, Result, Ok, Err}
-use Rattle.gs_model.specs.Terms.{Term, Blank}
+use Rattle.std.specs.Prelude.{ℕ, zero, suc, if◌then◌else◌, List, [], ◌∷◌, ◌++◌, length, codes, bytes_eq, Option, Some, None, Result, Ok, Err}
 use Rattle.gs_model.specs.Triples.{RdfTriple}
 use Rattle.gs_lex.specs.Tokens.{Lexeme}
-use Rattle.gs_blank.specs.Numbers.{Numbers, one_more, no_numbers}
-use Rattle.gs_body.specs.Bodies.{Meaning, Statement, Whole, Syntax}
-use Rattle.gs_document.specs.Symbols.{Reference, Namespace, Symbol, AWord, At, Open, Close, OpenList, Dot, PrefixWord, BaseWord, symbols_of}
-use Rattle.gs_document.specs.Meanings.{Fault, Broken, ending, Context, subject, with_prefix, with_base}
-use Rattle.gs_document.specs.Goals.{Verbs, Begun, next}
+use Rattle.gs_blank.specs.Numbers.{Numbers, no_numbers}
+use Rattle.gs_body.specs.Bodies.{Meaning, Statement, Whole, Faulty}
+use Rattle.gs_triples.specs.Symbols.{Reference, Namespace, Symbol, AWord, At, Dot, PrefixWord, BaseWord, symbols_of}
+use Rattle.gs_triples.specs.Meanings.{Fault, Syntax, Context}
+use Rattle.gs_triples.specs.Reading.{Got, ◌>>=◌}
+use Rattle.gs_triples.specs.Program.{triples_at}
+use Rattle.gs_document.specs.Directives.{with_prefix, with_base}
 use Rattle.gs_document.specs.Documents.{stated, start}
-use Rattle.gs_document.specs.Reading.{Got, ◌>>=◌, with_front, closes, begins_verb, read}
-
--- a verb stands next
-abbrev pub starts_verb : List Symbol → Bool
-starts_verb [] = false
-starts_verb (t ∷ ts) = begins_verb t
-
--- after the properties of a blank node that opens a statement: more verbs, or none
-abbrev pub after_properties : Context → Term → Got → Result Got Fault
-after_properties env s g = if starts_verb g.rest then with_front g.triples (read env (Verbs 0 s) g.numbers g.rest) else Ok g
-
--- the verbs and objects of a subject
-abbrev pub verbs_of : Context → List Symbol → Term × Numbers → Result Got Fault
-verbs_of env ts p = read env (Verbs 0 p.0) p.1 ts
-
--- [6] triples
-unfoldable pub triples_at : Context → Numbers → List Symbol → Result Got Fault
-triples_at env n (AWord w ∷ ts) = subject env n w >>= verbs_of env ts
-triples_at env n (Open ∷ Close ∷ ts) = read env (Verbs 0 (Blank env.request (next n))) (one_more n) ts
-triples_at env n (Open ∷ ts) = read env (Verbs 1 (Blank env.request (next n))) (one_more n) ts >>= closes (Blank env.request (next n)) >>= after_properties env (Blank env.request (next n))
-triples_at env n (OpenList ∷ ts) = read env (Begun 1) n ts >>= λ s. with_front s.triples (read env (Verbs 0 s.value) s.numbers s.rest)
-triples_at env n _ = Err Broken
 
 -- what a statement states, what it leaves, and the tokens after it
 pub record Told : Type 0 where
@@ -41,13 +20,13 @@ pub record Told : Type 0 where
 
 -- what a statement tells, where its context is right
 abbrev pub told : List Statement → Numbers → List Symbol → Option Context → Result Told Fault
-told S n ts None = Err Broken
+told S n ts None = Err Syntax
 told S n ts (Some env) = Ok (record { stated = S; context = env; numbers = n; rest = ts })
 
 -- triples up to their dot
 abbrev pub ends_at : Context → List RdfTriple → Numbers → List Symbol → Result Told Fault
 ends_at env T n (Dot e ∷ ts) = told (stated e T) n ts (Some env)
-ends_at env T n _ = Err Broken
+ends_at env T n _ = Err Syntax
 
 -- the '.' of a statement
 abbrev pub dotted : Context → Got → Result Told Fault
@@ -56,31 +35,31 @@ dotted env g = ends_at env g.triples g.numbers g.rest
 -- after '@prefix'
 abbrev pub prefix_at : Context → Numbers → List Symbol → Result Told Fault
 prefix_at env n (AWord (Namespace p) ∷ AWord (Reference i k) ∷ Dot e ∷ ts) = told (stated e []) n ts (with_prefix env p i)
-prefix_at env n _ = Err Broken
+prefix_at env n _ = Err Syntax
 
 -- after '@base'
 abbrev pub base_at : Context → Numbers → List Symbol → Result Told Fault
 base_at env n (AWord (Reference i k) ∷ Dot e ∷ ts) = told (stated e []) n ts (with_base env i)
-base_at env n _ = Err Broken
+base_at env n _ = Err Syntax
 
 -- [2] statement
 unfoldable pub statement_at : Context → Numbers → List Symbol → Result Told Fault
-statement_at env n (At x ∷ ts) = if bytes_eq x (codes "@prefix") then prefix_at env n ts else if bytes_eq x (codes "@base") then base_at env n ts else Err Broken
+statement_at env n (At x ∷ ts) = if bytes_eq x (codes "@prefix") then prefix_at env n ts else if bytes_eq x (codes "@base") then base_at env n ts else Err Syntax
 statement_at env n (PrefixWord ∷ AWord (Namespace p) ∷ AWord (Reference i e) ∷ ts) = told (stated e []) n ts (with_prefix env p i)
-statement_at env n (PrefixWord ∷ _) = Err Broken
+statement_at env n (PrefixWord ∷ _) = Err Syntax
 statement_at env n (BaseWord ∷ AWord (Reference i e) ∷ ts) = told (stated e []) n ts (with_base env i)
-statement_at env n (BaseWord ∷ _) = Err Broken
+statement_at env n (BaseWord ∷ _) = Err Syntax
 statement_at env n ts = triples_at env n ts >>= dotted env
 
 -- what a statement states, before what the rest says
 abbrev pub followed : (Context → Numbers → List Symbol → Meaning) → Result Told Fault → Meaning
-followed rest (Err e) = ([], ending e)
+followed rest (Err e) = ([], Faulty e)
 followed rest (Ok r) = (r.stated ++ (rest r.context r.numbers r.rest).0, (rest r.context r.numbers r.rest).1)
 
 -- [1] turtleDoc: what the statements before the first fault state, and how the text ends, in at most so many statements
 unfoldable pub statements_at : ℕ → Context → Numbers → List Symbol → Meaning
 statements_at f env n [] = ([], Whole)
-statements_at zero env n (t ∷ ts) = ([], Syntax)
+statements_at zero env n (t ∷ ts) = ([], Faulty Syntax)
 statements_at (suc f) env n (t ∷ ts) = followed (statements_at f) (statement_at env n (t ∷ ts))
 
 -- what a document says under this base and in this request

@@ -4,8 +4,8 @@ use Rattle.std.specs.List.{range_with_len}
 use Rattle.gs_event.specs.Phases.{Idle}
 use Rattle.gs_event.specs.Histories.{Start}
 use Rattle.gs_event.specs.Waste.{Shown}
-use Rattle.gs_drill.specs.declared.bodies.Body.{Body}
-use Rattle.gs_drill.specs.declared.bodies.Body.TheVariants as body
+use Rattle.gs_drill.specs.declared.texts.SeatText.{SeatText}
+use Rattle.gs_drill.specs.declared.texts.SeatText.TheVariants as seat_text
 use Rattle.gs_drill.specs.declared.openings.Opening.{Opening}
 use Rattle.gs_drill.specs.declared.uploads.Uploads.{Uploads}
 use Rattle.gs_drill.specs.Feeds.{Unfed}
@@ -17,17 +17,17 @@ idle_openings : (a n : ℕ) → replicate n None ≡ map opening_of (map (λ s. 
 idle_openings a zero = refl
 idle_openings a (suc n) = ap (λ z. None ∷ z) (idle_openings (a + 1) n)
 
-same_lengths : (n : ℕ) → length (replicate n body.Unfed) ≡ length (replicate {A = Option Opening} n None)
+same_lengths : (n : ℕ) → length (replicate n seat_text.Unfed) ≡ length (replicate {A = Option Opening} n None)
 same_lengths zero = refl
 same_lengths (suc n) = ap suc (same_lengths n)
 
-pub begins : (shown : Shown) (u : Uploads) (start : Start) → shown ≡ new_store start → u.cut ≡ 0 → u.openings.items ≡ replicate start.seats None → u.bodies.items ≡ replicate start.seats body.Unfed → Begins shown u start
-begins shown u start new whole openings bodies =
-    let P : List Body → Type 0 = λ z. AreFed z (λ s. Unfed) in
+pub begins : (shown : Shown) (u : Uploads) (start : Start) → shown ≡ new_store start → u.cut ≡ 0 → u.openings.items ≡ replicate start.seats None → u.texts.items ≡ replicate start.seats seat_text.Unfed → Begins shown u start
+begins shown u start new whole openings texts =
+    let P : List SeatText → Type 0 = λ z. AreFed z (λ s. Unfed) in
     let standing : Standing shown u = record {
       fed = λ s. Unfed;
       openings = openings ∙ idle_openings 0 start.seats ∙ ap (λ (s : Shown). map opening_of s.view.seats) (sym new);
-      bodies = subst P (sym bodies) (AreFed-none start.seats);
-      even = ap length bodies ∙ same_lengths start.seats ∙ ap length (sym openings);
+      texts = subst P (sym texts) (AreFed-none start.seats);
+      even = ap length texts ∙ same_lengths start.seats ∙ ap length (sym openings);
     } in
     record { standing = standing; is = λ begun i. record { begun = begun; cut = whole i; desk = record { shown = new i; fed = λ s. Unfed } } }

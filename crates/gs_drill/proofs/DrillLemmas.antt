@@ -9,10 +9,6 @@ use Rattle.gs_drill.specs.Commands.{Says, lines_in, before_first}
 use Rattle.gs_drill.specs.Drills.{State, Takes, Plays}
 use Rattle.gs_drill.specs.Taking.{IsInRange}
 
--- a store by what it shows
-pub shown_by : (s : Shown) (v : View) (w : List Lifetime) → s.view ≡ v → s.waste ≡ w → s ≡ record { view = v; waste = w }
-shown_by s v w p q = λ i. record { view = p i; waste = q i }
-
 -- a command that a line says is in range
 pub says_in_range : (c : Command) (x : List ℕ) → Says c x → IsInRange c
 says_in_range Nothing x says = tt

@@ -12,8 +12,8 @@ use Rattle.gs_event.specs.declared.answers.Answer.TheVariants.{Staged}
 use Rattle.gs_event.specs.Phases.{Idle, Writing, Reading}
 use Rattle.gs_event.specs.Views.{SeatView}
 use Rattle.gs_event.specs.Waste.{Shown}
-use Rattle.gs_drill.specs.declared.bodies.Body.{Body}
-use Rattle.gs_drill.specs.declared.languages.Language.{Language}
+use Rattle.gs_drill.specs.declared.texts.SeatText.{SeatText}
+use Rattle.gs_upload.specs.declared.languages.Language.{Language}
 use Rattle.gs_drill.specs.declared.openings.Opening.{Opening}
 use Rattle.gs_drill.specs.declared.uploads.Uploads.{Uploads}
 use Rattle.gs_drill.specs.Printing.{answer_text, fed_text}
@@ -34,24 +34,24 @@ pub stages_some : (d e : Desk) (s : ℕ) (v : Vec Triple Global) (a : Answer) �
 stages_some d e s v a some answers = stages_by d e s v a v.items refl some answers
 
 -- the uploads, once a text was fed to a seat
-abbrev fed_standing : (shown : Shown) (u w : Uploads) (st : Standing shown u) (s : ℕ) (f : Fed) → w.openings.items ≡ u.openings.items → length w.bodies.items ≡ length u.bodies.items → AreFed w.bodies.items (with_fed st.fed s f) → Standing shown w
+abbrev fed_standing : (shown : Shown) (u w : Uploads) (st : Standing shown u) (s : ℕ) (f : Fed) → w.openings.items ≡ u.openings.items → length w.texts.items ≡ length u.texts.items → AreFed w.texts.items (with_fed st.fed s f) → Standing shown w
 fed_standing shown u w st s f openings lengths all = record {
   fed = with_fed st.fed s f;
   openings = openings ∙ st.openings;
-  bodies = all;
+  texts = all;
   even = lengths ∙ st.even ∙ ap length (sym openings);
 }
 
 -- a text is fed to an upload
 pub feeds_upload : (old new : Shown) (u m w : Uploads) (l : Language) (s : ℕ) (y : List ℕ) (given : List RdfTriple) (a : Answer) (text : List ℕ)
-    → m.openings.items ≡ u.openings.items → length m.bodies.items ≡ length u.bodies.items
+    → m.openings.items ≡ u.openings.items → length m.texts.items ≡ length u.texts.items
     → ((o : Opening) → slice_get u.openings.items s ≡ Some (Some o)
-    → (fed : ℕ → Fed) → AreFed u.bodies.items fed → s < length u.bodies.items → (f : Fed) × AreFed m.bodies.items (with_fed fed s f) × Accepts (context_of l o) (fed s) y given f)
+    → (fed : ℕ → Fed) → AreFed u.texts.items fed → s < length u.texts.items → (f : Fed) × AreFed m.texts.items (with_fed fed s f) × Accepts (context_of l o) (fed s) y given f)
     → ((st : Standing old m) → (en : Standing new w) × Stages (desk_of st) s given a (desk_of en)) → text ≡ feed_text a
     → (o : Opening) → slice_get u.openings.items s ≡ Some (Some o) → (st : Standing old u) → (en : Standing new w) × FeedsUpload (context_of l o) (desk_of st) s y text (desk_of en)
 feeds_upload old new u m w l s y given a text openings lengths feeds stages told o there st =
     let P : ℕ → Type 0 = λ n. s < n in
-    let f = feeds o there st.fed st.bodies (subst P (sym st.even) (slice_get_within u.openings.items s (Some o) there)) in
+    let f = feeds o there st.fed st.texts (subst P (sym st.even) (slice_get_within u.openings.items s (Some o) there)) in
     let en = stages (fed_standing old u m st s f.0 openings lengths f.1) in
     (en.0, record { given = given; fed = f.0; accepts = f.2; answer = a; staged = en.1; told = told })
 
@@ -118,7 +118,7 @@ completes old mid new u m w s given a b is stages commits st =
     )
 
 -- what a seat's text gives as it ends, by another name
-pub ends_by : (old new : List Body) (s : ℕ) (m given : Option (List RdfTriple)) → m ≡ given → ((fed : ℕ → Fed) → AreFed old fed → (f : Fed) × AreFed new (with_fed fed s f) × Closes (fed s) m f)
+pub ends_by : (old new : List SeatText) (s : ℕ) (m given : Option (List RdfTriple)) → m ≡ given → ((fed : ℕ → Fed) → AreFed old fed → (f : Fed) × AreFed new (with_fed fed s f) × Closes (fed s) m f)
     → (fed : ℕ → Fed) → AreFed old fed → (f : Fed) × AreFed new (with_fed fed s f) × Closes (fed s) given f
 ends_by old new s m given is ends fed all =
     let f = ends fed all in
@@ -126,11 +126,11 @@ ends_by old new s m given is ends fed all =
     (f.0, f.1, subst P is f.2)
 
 -- the text that was fed ends, and the upload is committed or given up
-pub commits : (old new : Shown) (u m w : Uploads) (s : ℕ) (given : Option (List RdfTriple)) (text : List ℕ) → m.openings.items ≡ u.openings.items → length m.bodies.items ≡ length u.bodies.items
-    → ((fed : ℕ → Fed) → AreFed u.bodies.items fed → (f : Fed) × AreFed m.bodies.items (with_fed fed s f) × Closes (fed s) given f)
+pub commits : (old new : Shown) (u m w : Uploads) (s : ℕ) (given : Option (List RdfTriple)) (text : List ℕ) → m.openings.items ≡ u.openings.items → length m.texts.items ≡ length u.texts.items
+    → ((fed : ℕ → Fed) → AreFed u.texts.items fed → (f : Fed) × AreFed m.texts.items (with_fed fed s f) × Closes (fed s) given f)
     → ((st : Standing old m) → (en : Standing new w) × CommitsBy given (desk_of st) s text (desk_of en))
     → (st : Standing old u) → (en : Standing new w) × Commits (desk_of st) s text (desk_of en)
 commits old new u m w s given text openings lengths ends by st =
-    let f = ends st.fed st.bodies in
+    let f = ends st.fed st.texts in
     let en = by (fed_standing old u m st s f.0 openings lengths f.1) in
     (en.0, record { given = given; fed = f.0; closes = f.2; commits = en.1 })

@@ -7,8 +7,8 @@ use Rattle.gs_model.proofs.TextLemmas.{number_of-numeral}
 use Rattle.gs_event.specs.declared.events.Action.{Action}
 use Rattle.gs_event.specs.declared.events.Action.TheVariants.{Open, Stage, Commit, Delete, Head, Pin, Piece, Cancel}
 use Rattle.gs_event.specs.declared.events.Event.TheVariants.{Seat as At}
-use Rattle.gs_drill.specs.declared.languages.Language.{Language}
-use Rattle.gs_drill.specs.declared.languages.Language.TheVariants.{NTriples, Turtle}
+use Rattle.gs_upload.specs.declared.languages.Language.{Language}
+use Rattle.gs_upload.specs.declared.languages.Language.TheVariants.{NTriples, Turtle}
 use Rattle.gs_drill.specs.Found.{SaysNumber}
 use Rattle.gs_drill.specs.Commands.{Behind, SaysText, SaysFeed, SaysAction, SaysEvent, feed_words}
 use Rattle.gs_drill.proofs.WordLemmas.{first_differs}

@@ -7,8 +7,6 @@ pub mod WritingLemmas
 pub mod DrillLemmas
 pub mod PlayLemmas
 pub mod RunLemmas
-pub mod BodyLemmas
-pub mod ReadingLemmas
 pub mod TextLemmas
 pub mod SeatLemmas
 pub mod DeskLemmas

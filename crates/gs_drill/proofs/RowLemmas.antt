@@ -10,7 +10,7 @@ use Rattle.gs_event.specs.declared.events.Event.TheVariants.{Seat as At, Reclaim
 use Rattle.gs_drill.specs.declared.commands.Command.{Command}
 use Rattle.gs_drill.specs.declared.commands.Command.TheVariants.{Nothing, Begin, Ask, Count, Feed, Cut}
 use Rattle.gs_drill.specs.Found.{Finds, SaysNumber}
-use Rattle.gs_drill.specs.declared.languages.Language.{Language}
+use Rattle.gs_upload.specs.declared.languages.Language.{Language}
 use Rattle.gs_drill.specs.Feeds.{IsIn}
 use Rattle.gs_drill.specs.Drills.{State, IsLate}
 use Rattle.gs_drill.specs.Commands.{Says, SaysFeed, SaysNothingAt, SaysStart, is_skipped}

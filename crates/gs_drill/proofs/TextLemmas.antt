@@ -1,123 +1,140 @@
--- What was fed to a body, as its text begins, goes on and ends.
-use Rattle.std.proofs.Common.{◌≡◌, ℕ, List, [], ◌++◌, refl, sym, ap, ◌∙◌, subst, Option, Some, None, option_map}
+-- What was fed to a seat, as its text begins, goes on and ends.
+use Rattle.std.proofs.Common.{◌≡◌, ◌≢◌, ℕ, Bool, true, false, cond, List, [], ◌++◌, refl, sym, ap, ◌∙◌, subst, is_some, Option, Some, None, Result, Ok}
+use Rattle.std.specs.declared.alloc.AllocError.{AllocError}
 use Rattle.gs_model.specs.Triples.{RdfTriple}
-use Rattle.gs_ntread.specs.Readers.{LeadsTo as NTriplesLeads}
-use Rattle.gs_ntread.specs.declared.reader.NTriplesReader.{NTriplesReader}
-use Rattle.gs_turtle.specs.Readers.{LeadsTo as TurtleLeads}
-use Rattle.gs_turtle.specs.declared.readers.TurtleReader.{TurtleReader}
-use Rattle.gs_drill.specs.declared.languages.Language.{Language}
-use Rattle.gs_drill.specs.declared.languages.Language.TheVariants.{NTriples, Turtle}
-use Rattle.gs_drill.specs.declared.bodies.Body.{Body}
-use Rattle.gs_drill.specs.declared.bodies.Body.TheVariants as body
-use Rattle.gs_drill.specs.Languages.{Context}
-use Rattle.gs_drill.specs.Feeds.{Fed, Unfed, InPart, Faulted, Finished, Accepts}
+use Rattle.gs_model.specs.declared.refusals.Refusal.{Refusal}
+use Rattle.gs_model.specs.declared.refusals.Refusal.TheVariants as refusal
+use Rattle.gs_body.specs.Bodies.{Meaning, Whole}
+use Rattle.gs_upload.specs.declared.languages.Language.{Language}
+use Rattle.gs_upload.specs.declared.readers.TextReader.{TextReader}
+use Rattle.gs_upload.specs.declared.readings.Reading.{Reading}
+use Rattle.gs_upload.specs.Faults.{HasFault}
+use Rattle.gs_upload.specs.Languages.{Context, meaning_for, meaning_in}
+use Rattle.gs_upload.specs.Readings.{Stands, Ends, ArePieces, FeedsEach, Feeds as FeedsReading, MeansAll, GivesComplete}
+use Rattle.gs_upload.specs.Readers.{meaning_of_text, LeadsText, is_closed_text, IsFedText}
+use Rattle.gs_drill.specs.declared.texts.SeatText.{SeatText}
+use Rattle.gs_drill.specs.declared.texts.SeatText.TheVariants as seat_text
+use Rattle.gs_drill.specs.declared.openings.Opening.{Opening}
+use Rattle.gs_drill.specs.Feeds.{Fed, Unfed, InPart, Faulted, Finished, Accepts, IsFaulty}
 use Rattle.gs_drill.specs.Commits.{Closes}
-use Rattle.gs_drill.specs.Standing.{IsFed, IsBegun, ReadsOn, ReadsEnd, finished_by, ntriples_says, ntriples_closed, turtle_says, turtle_closed}
+use Rattle.gs_drill.specs.Standing.{IsFed, IsBegun, FedInPieces, Ended, context_of}
 
--- what a body was fed, and what it then is
-abbrev pub FeedsBody : Body → Context → List ℕ → List RdfTriple → Body → Type 0
-FeedsBody b c y given e = (f : Fed) → IsFed b f → (g : Fed) × IsFed e g × Accepts c f y given g
+-- what a text was fed, and what it then is
+abbrev pub FeedsText : SeatText → Context → List ℕ → List RdfTriple → SeatText → Type 0
+FeedsText b c y given e = (f : Fed) → IsFed b f → (g : Fed) × IsFed e g × Accepts c f y given g
 
-abbrev pub EndsBody : Body → Option (List RdfTriple) → Body → Type 0
-EndsBody b given e = (f : Fed) → IsFed b f → (g : Fed) × IsFed e g × Closes f given g
+abbrev pub EndsText : SeatText → Option (List RdfTriple) → SeatText → Type 0
+EndsText b given e = (f : Fed) → IsFed b f → (g : Fed) × IsFed e g × Closes f given g
 
--- the same, where a text was fed before
-abbrev pub GoesOnBody : Body → List ℕ → List RdfTriple → Body → Type 0
-GoesOnBody b y given e = (c : Context) (f : Fed) → IsFed b f → IsBegun f → (g : Fed) × IsFed e g × Accepts c f y given g
+-- the same, where something was fed before
+abbrev pub GoesOnText : SeatText → List ℕ → List RdfTriple → SeatText → Type 0
+GoesOnText b y given e = (c : Context) (f : Fed) → IsFed b f → IsBegun f → (g : Fed) × IsFed e g × Accepts c f y given g
 
--- the two readers go on, and end
-abbrev pub NTriplesReadsOn : NTriplesReader → List ℕ → Option (NTriplesReader × List RdfTriple) → Type 0
-NTriplesReadsOn reader y o = ReadsOn ntriples_says NTriplesLeads ntriples_closed reader y o
+-- a body with a fault has no meaning
+fault_faulty : (e : Refusal) (m : Meaning) → HasFault e m → m.1 ≢ Whole
+fault_faulty (refusal.Syntax at) m h whole = let clash = sym h.broken ∙ whole in cc
+fault_faulty refusal.TermTooLong m h whole = let clash = sym h ∙ whole in cc
+fault_faulty e m h whole = absurd h
 
-abbrev pub TurtleReadsOn : TurtleReader → List ℕ → Option (TurtleReader × List RdfTriple) → Type 0
-TurtleReadsOn reader y o = ReadsOn turtle_says TurtleLeads turtle_closed reader y o
+-- a text begins
+pub begins_text : (k : Reading TextReader) (l : Language) (o : Opening) (base : List ℕ) → base ≡ (context_of l o).base → k.fault ≡ None
+    → IsFedText k (meaning_in l base o.request) [] [] → IsFed (seat_text.Fed l k) (InPart (context_of l o) [] [])
+begins_text k l o base is none h =
+    let P : List ℕ → Type 0 = λ z. IsFedText k (meaning_in l z o.request) [] [] in
+    (refl, none, subst P is h)
 
-abbrev pub NTriplesReadsEnd : NTriplesReader → Option (List RdfTriple) → Type 0
-NTriplesReadsEnd reader o = ReadsEnd ntriples_says NTriplesLeads ntriples_closed reader o
+-- what stands of a reading with a fault
+faulty_on : (o : Option Refusal) (e : Refusal) (k : Reading TextReader) (means : List ℕ → Meaning) (x : List ℕ) (ts : List RdfTriple) → o ≡ Some e
+    → Stands meaning_of_text LeadsText is_closed_text o k.reader means x ts → (y : List ℕ) → IsFaulty means (x ++ y)
+faulty_on o e k means x ts is h y =
+    let P : Option Refusal → Type 0 = λ z. Stands meaning_of_text LeadsText is_closed_text z k.reader means x ts in
+    let faults : (y : List ℕ) → HasFault e (means (x ++ y)) = subst P is h in
+    fault_faulty e (means (x ++ y)) (faults y)
 
-abbrev pub TurtleReadsEnd : TurtleReader → Option (List RdfTriple) → Type 0
-TurtleReadsEnd reader o = ReadsEnd turtle_says TurtleLeads turtle_closed reader o
-
--- a text of N-Triples goes on
-pub ntriples_on : (b : Body) (reader after : NTriplesReader) (y : List ℕ) (given : List RdfTriple) → b ≡ body.NTriples reader → NTriplesReadsOn reader y (Some (after, given)) → GoesOnBody b y given (body.NTriples after)
-ntriples_on b reader after y given is on = let P : Body → Type 0 = λ z. GoesOnBody z y given (body.NTriples after) in subst P (sym is) more
+-- an upload's text goes on
+pub goes_on : (b : SeatText) (l : Language) (k n : Reading TextReader) (y : List ℕ) (cut : ℕ) (given : List RdfTriple) → b ≡ seat_text.Fed l k → FedInPieces k n y cut given → GoesOnText b y given (seat_text.Fed l n)
+goes_on b l k n y cut given is fed = let P : SeatText → Type 0 = λ z. GoesOnText z y given (seat_text.Fed l n) in subst P (sym is) more
   where
-    more : GoesOnBody (body.NTriples reader) y given (body.NTriples after)
-    more c Unfed fed begun = absurd fed
-    more c (InPart d x ts) fed begun = let h = on _ x ts fed.1 in (InPart d (x ++ y) (ts ++ given), (fed.0, h.0), (refl, refl, refl, h.1))
-    more c (Faulted l) fed begun = absurd fed
-    more c (Finished l) fed begun = absurd fed
+    by_fault : (o : Option Refusal) → n.fault ≡ o → (c d : Context) (x : List ℕ) (ts : List RdfTriple) → IsFed (seat_text.Fed l k) (InPart d x ts) → (g : Fed) × IsFed (seat_text.Fed l n) g × Accepts c (InPart d x ts) y given g
+    by_fault None none c d x ts h =
+        let all : given ≡ fed.triples = fed.kept ∙ ap (λ (o : Option Refusal). cond (is_some o) [] fed.triples) none in
+        let f = fed.feeds.fed (meaning_for d) x ts h.2 in
+        let same : fed.feeds.given ≡ fed.triples = sym fed.feeds.grown in
+        let T : List RdfTriple → Type 0 = λ us. IsFedText n (meaning_for d) (x ++ y) (ts ++ us) in
+        let fs = subst T (same ∙ sym all) f in
+        let C : List RdfTriple → Type 0 = λ us. GivesComplete (meaning_for d) (x ++ y) (ts ++ us) in
+        let complete = subst C (same ∙ sym all) (fed.feeds.complete (meaning_for d) x ts h.2 none) in
+        (InPart d (x ++ y) (ts ++ given), (h.0, none, fs), (refl, refl, refl, record { begun = fs.begun; complete = complete }))
+    by_fault (Some e) some c d x ts h =
+        let none : given ≡ [] = fed.kept ∙ ap (λ (o : Option Refusal). cond (is_some o) [] fed.triples) some in
+        let f = fed.feeds.fed (meaning_for d) x ts h.2 in
+        (Faulted d.language, (h.0, ap is_some some), (refl, none, faulty_on n.fault e n (meaning_for d) (x ++ y) (ts ++ fed.feeds.given) some f.stands))
 
--- it has a fault
-pub ntriples_fault : (b : Body) (reader : NTriplesReader) (y : List ℕ) (given : List RdfTriple) → b ≡ body.NTriples reader → given ≡ [] → NTriplesReadsOn reader y None → GoesOnBody b y given (body.Faulted NTriples)
-ntriples_fault b reader y given is none on = let P : Body → Type 0 = λ z. GoesOnBody z y given (body.Faulted NTriples) in subst P (sym is) more
-  where
-    more : GoesOnBody (body.NTriples reader) y given (body.Faulted NTriples)
-    more c Unfed fed begun = absurd fed
-    more c (InPart d x ts) fed begun = (Faulted NTriples, refl, (sym fed.0, none, on _ x ts fed.1))
-    more c (Faulted l) fed begun = absurd fed
-    more c (Finished l) fed begun = absurd fed
+    some_of : (o : Option Refusal) → is_some o ≡ true → (e : Refusal) × (o ≡ Some e)
+    some_of None is = absurd (cc)
+    some_of (Some e) is = (e, refl)
 
--- a text of Turtle goes on
-pub turtle_on : (b : Body) (reader after : TurtleReader) (y : List ℕ) (given : List RdfTriple) → b ≡ body.Turtle reader → TurtleReadsOn reader y (Some (after, given)) → GoesOnBody b y given (body.Turtle after)
-turtle_on b reader after y given is on = let P : Body → Type 0 = λ z. GoesOnBody z y given (body.Turtle after) in subst P (sym is) more
-  where
-    more : GoesOnBody (body.Turtle reader) y given (body.Turtle after)
-    more c Unfed fed begun = absurd fed
-    more c (InPart d x ts) fed begun = let h = on _ x ts fed.1 in (InPart d (x ++ y) (ts ++ given), (fed.0, h.0), (refl, refl, refl, h.1))
-    more c (Faulted l) fed begun = absurd fed
-    more c (Finished l) fed begun = absurd fed
+    more : GoesOnText (seat_text.Fed l k) y given (seat_text.Fed l n)
+    more c Unfed h begun = absurd h
+    more c (InPart d x ts) h begun = by_fault n.fault refl c d x ts h
+    more c (Faulted m) h begun =
+        let e = some_of k.fault h.1 in
+        let kept = fed.feeds.latched e.0 e.1 in
+        (Faulted m, (h.0, ap is_some kept), (fed.kept ∙ ap (λ (o : Option Refusal). cond (is_some o) [] fed.triples) kept, refl))
+    more c (Finished m) h begun = absurd h
 
--- it has a fault
-pub turtle_fault : (b : Body) (reader : TurtleReader) (y : List ℕ) (given : List RdfTriple) → b ≡ body.Turtle reader → given ≡ [] → TurtleReadsOn reader y None → GoesOnBody b y given (body.Faulted Turtle)
-turtle_fault b reader y given is none on = let P : Body → Type 0 = λ z. GoesOnBody z y given (body.Faulted Turtle) in subst P (sym is) more
-  where
-    more : GoesOnBody (body.Turtle reader) y given (body.Faulted Turtle)
-    more c Unfed fed begun = absurd fed
-    more c (InPart d x ts) fed begun = (Faulted Turtle, refl, (sym fed.0, none, on _ x ts fed.1))
-    more c (Faulted l) fed begun = absurd fed
-    more c (Finished l) fed begun = absurd fed
+-- a text was fed in pieces
+pub fed_pieces : (old new : Reading TextReader) (text : List ℕ) (cut : ℕ) (before triples given : List RdfTriple) → before ≡ []
+    → (pieces : List (List ℕ)) × ArePieces cut text pieces × FeedsEach meaning_of_text LeadsText is_closed_text old new pieces before triples
+    → FeedsReading meaning_of_text LeadsText is_closed_text old new text before triples → given ≡ cond (is_some new.fault) [] triples → FedInPieces old new text cut given
+fed_pieces old new text cut before triples given empty cuts feeds kept =
+    let P : List RdfTriple → Type 0 = λ z. FeedsEach meaning_of_text LeadsText is_closed_text old new cuts.0 z triples in
+    let Q : List RdfTriple → Type 0 = λ z. FeedsReading meaning_of_text LeadsText is_closed_text old new text z triples in
+    record { triples = triples; pieces = cuts.0; cuts = cuts.1; each = subst P empty cuts.2; feeds = subst Q empty feeds; kept = kept }
 
 -- a first text begins, and goes on
-pub feeds_first : (b begun e : Body) (c : Context) (y : List ℕ) (given : List RdfTriple) → b ≡ body.Unfed → IsFed begun (InPart c [] []) → GoesOnBody begun y given e → FeedsBody b c y given e
-feeds_first b begun e c y given is fed on = let P : Body → Type 0 = λ z. FeedsBody z c y given e in subst P (sym is) first
+pub feeds_first : (b begun e : SeatText) (c : Context) (y : List ℕ) (given : List RdfTriple) → b ≡ seat_text.Unfed → IsFed begun (InPart c [] []) → GoesOnText begun y given e → FeedsText b c y given e
+feeds_first b begun e c y given is fed on = let P : SeatText → Type 0 = λ z. FeedsText z c y given e in subst P (sym is) first
   where
-    first : FeedsBody body.Unfed c y given e
+    first : FeedsText seat_text.Unfed c y given e
     first Unfed h = on c (InPart c [] []) fed tt
     first (InPart d x ts) h = absurd h
     first (Faulted l) h = absurd h
     first (Finished l) h = absurd h
 
--- a text of N-Triples ends
-pub ntriples_end : (b : Body) (reader : NTriplesReader) (given : Option (List RdfTriple)) → b ≡ body.NTriples reader → NTriplesReadsEnd reader given → EndsBody b given (finished_by NTriples given)
-ntriples_end b reader given is ends = let P : Body → Type 0 = λ z. EndsBody z given (finished_by NTriples given) in subst P (sym is) (more given ends)
+-- an upload's text ends
+pub ends_text : (b t : SeatText) (l : Language) (k : Reading TextReader) (given : Option (List RdfTriple)) → b ≡ seat_text.Fed l k → Ended l k t given → EndsText b given t
+ends_text b t l k given is ends = let P : SeatText → Type 0 = λ z. EndsText z given t in subst P (sym is) (more given ends)
   where
-    more : (given : Option (List RdfTriple)) → NTriplesReadsEnd reader given → EndsBody (body.NTriples reader) given (finished_by NTriples given)
-    more given ends Unfed fed = absurd fed
-    more None ends (InPart c x ts) fed = (Faulted NTriples, refl, (ends _ x ts fed.1, ap Faulted (sym fed.0)))
-    more (Some us) ends (InPart c x ts) fed = (Finished NTriples, refl, (ends _ x ts fed.1, ap Finished (sym fed.0)))
-    more given ends (Faulted l) fed = absurd fed
-    more given ends (Finished l) fed = absurd fed
+    more : (given : Option (List RdfTriple)) → Ended l k t given → EndsText (seat_text.Fed l k) given t
+    more given ends Unfed h = absurd h
+    more None ends (InPart c x ts) h =
+        let P : SeatText → Type 0 = λ z. IsFed z (Faulted c.language) in
+        (Faulted c.language, subst P (sym ends.0) h.0, (ends.1 (meaning_for c) x ts h.2, refl))
+    more (Some us) ends (InPart c x ts) h =
+        let P : SeatText → Type 0 = λ z. IsFed z (Finished c.language) in
+        (Finished c.language, subst P (sym ends.0) h.0, (ends.2 (meaning_for c) x ts h.2, refl))
+    more None ends (Faulted m) h = let P : SeatText → Type 0 = λ z. IsFed z (Faulted m) in (Faulted m, subst P (sym ends.0) h.0, refl)
+    more (Some us) ends (Faulted m) h = absurd (let clash : false ≡ true = sym (ap is_some ends.1) ∙ h.1 in cc)
+    more given ends (Finished m) h = absurd h
 
--- a text of Turtle ends
-pub turtle_end : (b : Body) (reader : TurtleReader) (given : Option (List RdfTriple)) → b ≡ body.Turtle reader → TurtleReadsEnd reader given → EndsBody b given (finished_by Turtle given)
-turtle_end b reader given is ends = let P : Body → Type 0 = λ z. EndsBody z given (finished_by Turtle given) in subst P (sym is) (more given ends)
-  where
-    more : (given : Option (List RdfTriple)) → TurtleReadsEnd reader given → EndsBody (body.Turtle reader) given (finished_by Turtle given)
-    more given ends Unfed fed = absurd fed
-    more None ends (InPart c x ts) fed = (Faulted Turtle, refl, (ends _ x ts fed.1, ap Faulted (sym fed.0)))
-    more (Some us) ends (InPart c x ts) fed = (Finished Turtle, refl, (ends _ x ts fed.1, ap Finished (sym fed.0)))
-    more given ends (Faulted l) fed = absurd fed
-    more given ends (Finished l) fed = absurd fed
+-- how the text of a reading ended
+pub ended_whole : (l : Language) (k : Reading TextReader) (before after : List RdfTriple) → before ≡ [] → k.fault ≡ None → Ends meaning_of_text LeadsText is_closed_text k None before after
+    → Ended l k (seat_text.Finished l) (Some after)
+ended_whole l k before after empty none h =
+    let all : h.given ≡ after = sym (h.grown ∙ ap (λ z. z ++ h.given) empty) in (
+      refl,
+      none,
+      λ means x ts fed. (let P : List RdfTriple → Type 0 = λ us. MeansAll (means x) (ts ++ us) in subst P all (h.all means x ts fed)),
+    )
 
--- a body whose text ended, by what it gave
-pub ends_along : {X : Type 0} (b e : Body) (l : Language) (items : X → List RdfTriple) (given out : Option X) → e ≡ finished_by l given → out ≡ given
-    → EndsBody b (option_map items given) (finished_by l (option_map items given)) → EndsBody b (option_map items out) e
-ends_along b e l items given out is same ends =
-    let P : Body → Type 0 = λ z. EndsBody b (option_map items given) z in
-    let Q : Option _ → Type 0 = λ z. EndsBody b (option_map items z) e in
-    subst Q (sym same) (subst P (by_items given ∙ sym is) ends)
+pub ended_faulty : (l : Language) (k : Reading TextReader) (e : Refusal) (before after : List RdfTriple) → Ends meaning_of_text LeadsText is_closed_text k (Some e) before after → Ended l k (seat_text.Faulted l) None
+ended_faulty l k e before after h = (refl, λ means x ts fed. fault_faulty e (means x) (h.first means x ts fed))
+
+-- a reading that ended without a fault had kept none
+pub no_fault_by : (k : Reading TextReader) (o : Result (Option Refusal) AllocError) → o ≡ Ok None → ((e : Refusal) → k.fault ≡ Some e → o ≡ Ok (Some e)) → k.fault ≡ None
+no_fault_by k o is latched = by_fault k.fault refl
   where
-    by_items : (given : Option _) → finished_by l (option_map items given) ≡ finished_by l given
-    by_items None = refl
-    by_items (Some x) = refl
+    by_fault : (f : Option Refusal) → k.fault ≡ f → k.fault ≡ None
+    by_fault None same = same
+    by_fault (Some e) same = absurd (let clash : Ok None ≡ Ok (Some e) = sym is ∙ latched e same in cc)

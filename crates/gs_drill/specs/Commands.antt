@@ -15,8 +15,8 @@ use Rattle.gs_event.specs.declared.events.Event.{Event}
 use Rattle.gs_event.specs.declared.events.Event.TheVariants.{Seat as At, Reclaim}
 use Rattle.gs_drill.specs.declared.commands.Command.{Command}
 use Rattle.gs_drill.specs.declared.commands.Command.TheVariants.{Nothing, Begin, Ask, Count, Feed, Cut}
-use Rattle.gs_drill.specs.declared.languages.Language.{Language}
-use Rattle.gs_drill.specs.declared.languages.Language.TheVariants.{NTriples, Turtle}
+use Rattle.gs_upload.specs.declared.languages.Language.{Language}
+use Rattle.gs_upload.specs.declared.languages.Language.TheVariants.{NTriples, Turtle}
 use Rattle.gs_drill.specs.Found.{SaysNumber}
 
 abbrev pub before_first : ℕ → List (List ℕ) → List (List ℕ)

@@ -1,13 +1,13 @@
 -- What an event does, and what a commit does to an upload to which texts were fed.
 use Rattle.std.specs.Prelude.{◌≡◌, ℕ, List, [], ◌++◌, Option, Some, None}
 use Rattle.gs_model.specs.Triples.{RdfTriple}
-use Rattle.gs_body.specs.Bodies.{Meaning, Whole, triples_of}
 use Rattle.gs_event.specs.declared.events.Action.TheVariants.{Commit, Cancel}
 use Rattle.gs_event.specs.declared.events.Event.{Event}
 use Rattle.gs_event.specs.declared.events.Event.TheVariants.{Seat as At}
 use Rattle.gs_event.specs.declared.answers.Answer.{Answer}
 use Rattle.gs_event.specs.declared.answers.Answer.TheVariants.{Staged}
-use Rattle.gs_drill.specs.Languages.{meaning_for}
+use Rattle.gs_upload.specs.Languages.{meaning_for}
+use Rattle.gs_upload.specs.Readings.{MeansAll}
 use Rattle.gs_drill.specs.Printing.{answer_text, fault_text}
 use Rattle.gs_drill.specs.Feeds.{Fed, Unfed, InPart, Faulted, Finished, Desk, desk_with, Answers, Stages, IsFaulty}
 
@@ -17,15 +17,11 @@ pub record Asks (d : Desk) (event : Event) (text : List ℕ) (e : Desk) : Type 0
   pub answers : Answers d event answer e
   pub told : text ≡ answer_text answer
 
--- a text has a meaning, which is these triples
-abbrev pub MeansAll : (List ℕ → Meaning) → List ℕ → List RdfTriple → Type 0
-MeansAll meaning_of x ts = ((meaning_of x).1 ≡ Whole) × (triples_of (meaning_of x).0 ≡ ts)
-
 -- The text ends: with the triples that it then gives, if any, all that it means is given; or it has no meaning,
 -- and nothing is given. A text ends once.
 abbrev pub Closes : Fed → Option (List RdfTriple) → Fed → Type 0
 Closes Unfed (Some given) f = (given ≡ []) × (f ≡ Unfed)
-Closes (InPart c x ts) (Some given) f = MeansAll (meaning_for c) x (ts ++ given) × (f ≡ Finished c.language)
+Closes (InPart c x ts) (Some given) f = MeansAll (meaning_for c x) (ts ++ given) × (f ≡ Finished c.language)
 Closes (InPart c x ts) None f = IsFaulty (meaning_for c) x × (f ≡ Faulted c.language)
 Closes (Faulted l) None f = f ≡ Faulted l
 Closes (Finished l) (Some given) f = (given ≡ []) × (f ≡ Finished l)

@@ -1,11 +1,10 @@
--- What is fed to the upload of a seat: texts, by what they mean (`meaning_by` of gs_ntread and of gs_turtle).
+-- What is fed to the upload of a seat: texts, by what they mean (`meaning_in` of gs_upload).
 use Rattle.std.specs.Prelude.{◌≡◌, ℕ, Bool, true, false, nat_eq, if◌then◌else◌, List, [], ◌∷◌, ◌++◌, MatchOption}
 use Rattle.std.specs.List.{slice_get}
-use Rattle.std.specs.Str.{IsUtf8}
 use Rattle.gs_model.specs.Triples.{RdfTriple}
 use Rattle.gs_model.specs.declared.refusals.Refusal.{Refusal}
 use Rattle.gs_model.specs.declared.refusals.Refusal.TheVariants.{BadSeat, WrongPhase}
-use Rattle.gs_machine.specs.Machines.{AreSettled, Begins}
+use Rattle.gs_machine.specs.Machines.{Begins}
 use Rattle.gs_body.specs.Bodies.{Meaning, Whole, triples_of}
 use Rattle.gs_event.specs.declared.events.Action.{Action}
 use Rattle.gs_event.specs.declared.events.Action.TheVariants.{Stage}
@@ -14,10 +13,13 @@ use Rattle.gs_event.specs.declared.events.Event.TheVariants.{Seat as At, Reclaim
 use Rattle.gs_event.specs.declared.answers.Answer.{Answer}
 use Rattle.gs_event.specs.declared.answers.Answer.TheVariants.{Opened, Staged, Status, Cancelled, Refused}
 use Rattle.gs_event.specs.Phases.{Idle, Writing, Reading}
-use Rattle.gs_event.specs.Views.{SeatView, Fits, next_view}
-use Rattle.gs_event.specs.Waste.{Shown, Reclaims}
-use Rattle.gs_drill.specs.declared.languages.Language.{Language}
-use Rattle.gs_drill.specs.Languages.{Context, meaning_for, first_base}
+use Rattle.gs_event.specs.Views.{SeatView}
+use Rattle.gs_event.specs.Waste.{Shown}
+use Rattle.gs_event.specs.Steps.{Steps}
+use Rattle.gs_upload.specs.declared.languages.Language.{Language}
+use Rattle.gs_upload.specs.Languages.{Context, meaning_for}
+use Rattle.gs_upload.specs.Readings.{GivesComplete}
+use Rattle.gs_drill.specs.Languages.{first_base}
 use Rattle.gs_drill.specs.Printing.{answer_text, fed_text}
 
 -- What was fed to a seat: nothing; a text that is read so, with the triples that were given so far; a text of a
@@ -49,22 +51,20 @@ abbrev pub desk_with : Desk → ℕ → Fed → Desk
 desk_with d s f = record { shown = d.shown; fed = with_fed d.fed s f }
 
 -- the answer says that an upload, or a read, begins anew or ends
-abbrev pub is_turn : Answer → Bool
-is_turn (Opened r) = true
-is_turn (Status s name) = true
-is_turn Cancelled = true
-is_turn a = false
+abbrev pub is_boundary : Answer → Bool
+is_boundary (Opened r) = true
+is_boundary (Status s name) = true
+is_boundary Cancelled = true
+is_boundary a = false
 
 -- what was fed to each seat, after an answer
 abbrev pub fed_after : (ℕ → Fed) → Event → Answer → ℕ → Fed
 fed_after fed (Reclaim n) a = fed
-fed_after fed (At s action) a = if is_turn a then with_fed fed s Unfed else fed
+fed_after fed (At s action) a = if is_boundary a then with_fed fed s Unfed else fed
 
--- an event is answered by an answer that fits, and leaves the next view
+-- an event is answered, in one step of the store
 pub record Answers (d : Desk) (event : Event) (a : Answer) (e : Desk) : Type 0 where
-  pub fits : Fits d.shown.view event a
-  pub view : e.shown.view ≡ next_view d.shown.view event a
-  pub waste : Reclaims d.shown.waste event a e.shown.waste
+  pub steps : Steps d.shown event a e.shown
   pub fed : e.fed ≡ fed_after d.fed event a
 
 -- the action that stages these triples
@@ -77,11 +77,11 @@ abbrev pub Stages : Desk → ℕ → List RdfTriple → Answer → Desk → Type
 Stages d s [] a e = (a ≡ Staged) × (e ≡ d)
 Stages d s (t ∷ ts) a e = (action : Action) × IsStage (t ∷ ts) action × Answers d (At s action) a e
 
--- The triples that a text gives so far, by what texts say: a front of what is said, however the text goes on; and
--- where the text so far ends between two characters, just the triples of its complete statements.
+-- The triples that a text gives so far, by what texts mean: with them its triples begin, however the text goes on; and
+-- they are just those of its complete statements.
 pub record Gives (meaning_of : List ℕ → Meaning) (x : List ℕ) (given : List RdfTriple) : Type 0 where
   pub begun : (z : List ℕ) → Begins (triples_of (meaning_of (x ++ z)).0) given
-  pub settled : IsUtf8 x → AreSettled (λ z. triples_of (meaning_of z).0) x given
+  pub complete : GivesComplete meaning_of x given
 
 -- a text without a meaning
 abbrev pub IsFaulty : (List ℕ → Meaning) → List ℕ → Type 0
@@ -93,8 +93,8 @@ GoesOn c x ts y given (InPart d z all) = (d ≡ c) × (z ≡ x ++ y) × (all ≡
 GoesOn c x ts y given (Faulted l) = (l ≡ c.language) × (given ≡ []) × ((z : List ℕ) → IsFaulty (meaning_for c) (x ++ y ++ z))
 GoesOn c x ts y given f = ⊥
 
--- What y gives to an upload, whose first text is read as c says. Behind a fault, or after the end of the text, it
--- is dropped.
+-- What y gives to an upload, whose first text is read as c says. After a fault, or after the end of the text, it is
+-- dropped.
 abbrev pub Accepts : Context → Fed → List ℕ → List RdfTriple → Fed → Type 0
 Accepts c Unfed y given f = GoesOn c [] [] y given f
 Accepts c (InPart d x ts) y given f = GoesOn d x ts y given f

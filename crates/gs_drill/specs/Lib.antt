@@ -8,5 +8,5 @@ pub mod Feeds
 pub mod Commits
 pub mod Drills
 pub mod Standing
-pub mod Turns
+pub mod Following
 pub mod Taking

@@ -4,14 +4,14 @@ ghost use Rattle.gs_model.specs.Triples.{RdfTriple};
 ghost use Rattle.gs_drill.specs.Found.{Finds, SaysNumber};
 ghost use Rattle.gs_drill.specs.Commands.{SaysName, SaysTarget, SaysKind, SaysTriple, SaysAction, SaysEvent, SaysText, SaysFeed, SaysNothingAt, SaysStart, Says, feed_words, is_skipped as is_skipped_line};
 ghost use Rattle.gs_event.specs.declared.events.Action.{Action as AnAction};
-ghost use Rattle.gs_drill.specs.declared.languages.Language.{Language as ALanguage};
+ghost use Rattle.gs_upload.specs.declared.languages.Language.{Language as ALanguage};
 
-use crate::languages::Language;
 use crate::lines::read_line;
 use crate::words::{behind, number, split};
 use gs_event::{Action, Event, UploadKind};
 use gs_model::{LAST_NUMBER, MAX_SEATS, Refusal};
 use gs_term::{GraphName, Target, Triple};
+use gs_upload::Language;
 use std::alloc::{AllocError, Global};
 
 /// What a line says.

@@ -13,7 +13,6 @@ ghost use Rattle.gs_drill.specs.Standing.{Standing, desk_of, state_of, Begins};
 
 use crate::commands::{Command, read_command};
 use crate::feeds::{answer, commit, feed};
-use crate::languages::Language;
 use crate::printing::{
     Reply, print_answer, print_counts, print_no_command, print_no_memory, print_reply,
 };
@@ -21,6 +20,7 @@ use crate::uploads::Uploads;
 use crate::words::split;
 use gs_core::Store;
 use gs_event::{Action, Event};
+use gs_upload::Language;
 use std::alloc::Global;
 use std::io::{self, ErrorKind, Read, Write};
 

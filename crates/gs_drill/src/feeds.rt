@@ -7,13 +7,13 @@ ghost use Rattle.gs_drill.specs.Feeds.{Answers, Stages, Feeds, FeedsUpload};
 ghost use Rattle.gs_drill.specs.Commits.{Commits, Asks, GivesUp, Completes};
 ghost use Rattle.gs_drill.specs.Standing.{Standing, desk_of, context_of};
 
-use crate::languages::Language;
 use crate::printing::Reply;
 use crate::uploads::Uploads;
 use gs_core::Store;
 use gs_event::{Action, Answer, Event};
 use gs_model::Refusal;
 use gs_term::Triple;
+use gs_upload::Language;
 use std::alloc::{AllocError, Global};
 
 /// Asks the store, and follows its answer.

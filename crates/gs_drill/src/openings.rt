@@ -2,7 +2,7 @@
 ghost use Rattle.std.specs.Prelude.{◌≡◌, true};
 ghost use Rattle.gs_model.specs.Iris.{is_absolute};
 ghost use Rattle.gs_drill.specs.Languages.{base_under, name_in as name_of, target_of as target_name};
-ghost use Rattle.gs_drill.specs.Turns.{opened_by};
+ghost use Rattle.gs_drill.specs.Following.{opened_by};
 
 use gs_event::{Action, UploadKind};
 use gs_term::{GraphName, Target};

@@ -1,4 +1,5 @@
 -- An escape ends within the text, after a byte of ASCII.
+use Rattle.std.proofs.lemmas.Bool.{and_parts}
 use Rattle.std.proofs.Common.{◌≡◌, ℕ, ◌+◌, ◌-◌, ◌<◌, ◌≤◌, ◌==◌, true, false, cond, ◌&&◌, List, [], ◌∷◌, length, take, get_or, refl, sym, ap, ◌∙◌, arith, subst, suc, zero}
 use Rattle.std.specs.Prelude.{Some, None, option_map, option_and_then}
 use Rattle.std.specs.Option.{option_or}
@@ -8,7 +9,6 @@ use Rattle.std.proofs.lemmas.Str.{IsCharBoundary-after_ascii}
 use Rattle.std.proofs.lemmas.Bool.Decides.{nat_tests}
 use lib.Utf8.{scalar}
 use Rattle.gs_model.specs.Characters.{is_iri_char}
-use Rattle.gs_iri.proofs.AbsoluteLemmas.{both}
 use Rattle.gs_lex.specs.Classes.{is_hex, is_local_escape}
 use Rattle.gs_escape.specs.declared.forms.Form.{Form}
 use Rattle.gs_escape.specs.declared.forms.Form.TheVariants as form
@@ -25,9 +25,9 @@ low_hex c h = grind (arith, nat_tests)
 
 last_digit : (x : List ℕ) (j : ℕ) → length (take (suc j) x) ≡ suc j → list_all is_hex (take (suc j) x) ≡ true → (get_or x j 0 < 128) × (j < length x)
 last_digit [] j l h = absurd (omega (arith, l))
-last_digit (c ∷ cs) zero l h = (low_hex c (both (is_hex c) (list_all is_hex (take zero cs)) h).0, omega arith)
+last_digit (c ∷ cs) zero l h = (low_hex c (and_parts (is_hex c) (list_all is_hex (take zero cs)) h).0, omega arith)
 last_digit (c ∷ cs) (suc j) l h =
-    let r = last_digit cs j (omega (arith, l)) (both (is_hex c) (list_all is_hex (take (suc j) cs)) h).1 in
+    let r = last_digit cs j (omega (arith, l)) (and_parts (is_hex c) (list_all is_hex (take (suc j) cs)) h).1 in
     (r.0, omega (arith, r.1))
 
 numbered_end : (u : ℕ) (x : List ℕ) (j : ℕ) (e : Escape) → numbered (suc j) x ≡ Some e → Ends (u ∷ x) e.1
@@ -35,7 +35,7 @@ unfolding numbered
 numbered_end u x j e =
     elim ((length (take (suc j) x) == suc j && list_all is_hex (take (suc j) x)) && scalar (hex_number (take (suc j) x))) as (λ b. ((length (take (suc j) x) == suc j && list_all is_hex (take (suc j) x)) && scalar (hex_number (take (suc j) x))) ≡ b → cond b (Some (hex_number (take (suc j) x), suc j + 1)) None ≡ Some e → Ends (u ∷ x) e.1) [
       | true ↦ λ h k.
-          let two = both (length (take (suc j) x) == suc j) (list_all is_hex (take (suc j) x)) (both (length (take (suc j) x) == suc j && list_all is_hex (take (suc j) x)) (scalar (hex_number (take (suc j) x))) h).0 in
+          let two = and_parts (length (take (suc j) x) == suc j) (list_all is_hex (take (suc j) x)) (and_parts (length (take (suc j) x) == suc j && list_all is_hex (take (suc j) x)) (scalar (hex_number (take (suc j) x))) h).0 in
           let all = last_digit x j (grind (arith, nat_tests, two.0)) two.1 in
           let size : suc j + 1 ≡ e.1 = ap (λ z. z.1) (let p : (hex_number (take (suc j) x), suc j + 1) ≡ e = cc in p) in
           let place : e.1 - 1 ≡ suc j = omega arith in

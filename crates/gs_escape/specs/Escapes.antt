@@ -1,5 +1,6 @@
 -- What an escape means (Turtle, 25 February 2014, section 6.4, with the productions of section 6.5): the character, and
--- how many bytes the escape has after its backslash.
+-- how many bytes the escape has after its backslash. The productions alone take each number and, in an IRI, each character: that
+-- a number which no character has, and in an IRI a character which no IRI has, have no meaning is the rule of these definitions.
 use Rattle.std.specs.Prelude.{ℕ, ◌+◌, ◌*◌, ◌&&◌, ◌||◌, ◌==◌, if◌then◌else◌, List, [], ◌∷◌, Option, Some, None, length, take, fold, option_map, option_and_then}
 use Rattle.std.specs.Char.{digit_value}
 use Rattle.std.specs.List.{list_all}

@@ -8,7 +8,7 @@ use Rattle.std.specs.Cmp.{IsTotalOrder, Equal-is, tied_itself}
 use Rattle.std.proofs.lemmas.Map.Lookups.{exact_bytes}
 use Rattle.std.specs.FinMap as fin
 use Rattle.std.specs.FinMap.Entries.{put, find, is_sorted, by_order, length-put}
-use Rattle.std.proofs.lemmas.List.{length-map}
+use Rattle.std.proofs.lemmas.List.{length-map, nil_from_length}
 use Rattle.std.proofs.lemmas.List.Sums.{sum_by-cons}
 use Rattle.std.proofs.lemmas.Cmp.{nat_list_cmp_total}
 use Rattle.gs_model.specs.Graphs.{Graph, size_of, triples_of}
@@ -63,14 +63,10 @@ triples_in-with_graph m (Named n) g =
     let there : length (lines_at m (Named n)) ≡ count_if size_of (find name_cmp n (fin.entries m.named)) = length-lines_if (graph_at m (Named n)) ∙ ap (count_if size_of) (fin.get-entries m.named n) in
     omega (arith, entries, moved, there)
 
-no_entries : {X : Type 0} (es : List X) → length es ≡ 0 → es ≡ []
-no_entries [] e = refl
-no_entries (x ∷ xs) e = absurd (omega arith)
-
 -- no triple is in the dataset without graphs
 pub triples_in-empty : triples_in empty_dataset ≡ 0
 triples_in-empty =
-    let none : fin.entries (empty_dataset.named) ≡ [] = no_entries _ (sym (fin.len-entries empty_dataset.named) ∙ fin.len-empty name_cmp Graph) in
+    let none : fin.entries (empty_dataset.named) ≡ [] = nil_from_length _ (sym (fin.len-entries empty_dataset.named) ∙ fin.len-empty name_cmp Graph) in
     omega (arith, empty_has_none, ap (sum_by (λ (e : List ℕ × Graph). size_of e.1)) none)
 
 -- what is put back where it was taken out

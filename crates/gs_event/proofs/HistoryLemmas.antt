@@ -1,9 +1,9 @@
 -- What a store shows after a history and one more answer is the next view of what it showed.
-use Rattle.std.proofs.Common.{◌≡◌, ◌≢◌, ℕ, zero, suc, ◌+◌, Bool, true, false, cond, nat_eq, List, [], ◌∷◌, map, drop, length, Option, Some, None, MatchOption, refl, sym, ap, ◌∙◌, subst, arith, unwrap_or}
-use Rattle.std.specs.List.{slice_get, slice_set, range_with_len, count_by, cons_option, zip}
-use Rattle.std.proofs.Common.{add-zero, zero-add, ◌≤◌, ◌++◌, length-append, reverse}
+use Rattle.std.proofs.Common.{◌≡◌, ◌≢◌, ℕ, zero, suc, ◌+◌, Bool, true, false, cond, nat_eq, List, ◌∷◌, map, drop, Option, Some, None, MatchOption, refl, sym, ap, ◌∙◌, arith, unwrap_or}
+use Rattle.std.specs.List.{slice_get, slice_set, range_with_len, count_by, cons_option}
+use Rattle.std.proofs.Common.{add-zero, zero-add, ◌≤◌}
 use Rattle.std.proofs.lemmas.Bool.{ne_eqb, eq-eqb}
-use Rattle.std.proofs.lemmas.List.{drop-drop, reverse-append}
+use Rattle.std.proofs.lemmas.List.{drop-drop}
 use Rattle.std.proofs.lemmas.List.Sums.{sum_by-cons}
 use Rattle.gs_term.specs.declared.names.Target.{Target}
 use Rattle.gs_model.specs.declared.refusals.Refusal.{Refusal}
@@ -16,11 +16,11 @@ use Rattle.gs_event.specs.declared.answers.Answer.{Answer}
 use Rattle.gs_event.specs.declared.answers.Answer.TheVariants.{Opened, Staged, Status, Pinned, Lines, Cancelled, Reclaimed, Refused}
 use Rattle.gs_event.specs.Datasets.{Setting, Operation, lines_at, after_all}
 use Rattle.gs_event.specs.Phases.{Phase, Idle, Writing, Reading, phase_after, operation_of}
-use Rattle.gs_event.specs.Views.{View, SeatView, Fits, FitsSeat, is_opened, is_written, after_asked, next_view, next_at, next_if}
-use Rattle.gs_event.specs.Histories.{History, Read, phase_of, phase_by, points_of, dataset_after, lines_left, seat_view, Start, view_of, IsLegal, history_of, HasRun}
+use Rattle.gs_event.specs.Views.{SeatView, Fits, FitsSeat, is_opened, is_written, after_asked, next_view, next_at, next_if}
+use Rattle.gs_event.specs.Histories.{History, Read, phase_of, phase_by, points_of, dataset_after, lines_left, seat_view, Start, view_of}
 
 -- a seat's phase by its history, with one more answer
-abbrev later : History → Phase Read → Action → Answer → Phase Read
+abbrev pub later : History → Phase Read → Action → Answer → Phase Read
 later before = phase_after (λ t. record { target = t; before = before; told = 0 }) (λ r n. record { target = r.target; before = r.before; told = r.told + n })
 
 same_operation : (w : Setting) (p : Phase Read) (action : Action) (a : Answer) → operation_of (seat_view w p) action a ≡ operation_of p action a
@@ -54,7 +54,7 @@ after_cons w None qs = refl
 after_cons w (Some q) qs = refl
 
 -- two lists by index that agree from a on
-same_after : {X : Type 0} (f g : ℕ → X) (a n : ℕ) → ((k : ℕ) → a ≤ k → g k ≡ f k) → map g (range_with_len a n) ≡ map f (range_with_len a n)
+pub same_after : {X : Type 0} (f g : ℕ → X) (a n : ℕ) → ((k : ℕ) → a ≤ k → g k ≡ f k) → map g (range_with_len a n) ≡ map f (range_with_len a n)
 same_after f g a zero alike = refl
 same_after f g a (suc n) alike =
     let here : g a ≡ f a = alike a (omega arith) in
@@ -62,7 +62,7 @@ same_after f g a (suc n) alike =
     cc
 
 -- a list by index, changed at one place
-changed_at : {X : Type 0} (f g : ℕ → X) (a n s : ℕ) (x : X) → g (a + s) ≡ x → ((k : ℕ) → k ≢ a + s → g k ≡ f k) → map g (range_with_len a n) ≡ slice_set (map f (range_with_len a n)) s x
+pub changed_at : {X : Type 0} (f g : ℕ → X) (a n s : ℕ) (x : X) → g (a + s) ≡ x → ((k : ℕ) → k ≢ a + s → g k ≡ f k) → map g (range_with_len a n) ≡ slice_set (map f (range_with_len a n)) s x
 changed_at f g a zero s x at others = refl
 changed_at f g a (suc n) zero x at others =
     let here : g a ≡ x = rw (add-zero a) at at in
@@ -92,7 +92,7 @@ own_seat w h s action a =
     let same : nat_eq s s ≡ true = eq-eqb s s refl in
     rw same (same_phase w h (phase_of h s) action a)
 
-refused_phase : {R : Type 0} (f : Target → R) (g : R → ℕ → R) (p : Phase R) (action : Action) (r : Refusal) → phase_after f g p action (Refused r) ≡ p
+pub refused_phase : {R : Type 0} (f : Target → R) (g : R → ℕ → R) (p : Phase R) (action : Action) (r : Refusal) → phase_after f g p action (Refused r) ≡ p
 refused_phase f g Idle (Open k) r = refl
 refused_phase f g Idle (Pin t) r = refl
 refused_phase f g (Writing t n x) (Stage ts) r = refl
@@ -153,28 +153,3 @@ view_of-cons start h (Reclaim n) (Reclaimed freed left) fits =
     λ i. record { totals = record { setting = start.setting; dataset = dataset_after start.setting h; request = opened i; commit = written i }; seats = (view_of start h).seats }
 view_of-cons start h (Reclaim n) a fits = absurd fits
 view_of-cons start h (At s action) a fits = next_if_seen start h s action a (slice_get (view_of start h).seats s) refl fits
-
-zip_push : {A B : Type 0} (xs : List A) (ys : List B) (x : A) (y : B) → length ys ≡ length xs → zip (xs ++ x ∷ []) (ys ++ y ∷ []) ≡ zip xs ys ++ (x, y) ∷ []
-zip_push [] [] x y e = refl
-zip_push [] (b ∷ ys) x y e = absurd (omega arith)
-zip_push (a ∷ xs) [] x y e = absurd (omega arith)
-zip_push (a ∷ xs) (b ∷ ys) x y e = ap (λ zs. (a, b) ∷ zs) (zip_push xs ys x y (omega arith))
-
-history_of-push : (events : List Event) (answers : List Answer) (e : Event) (a : Answer) → length answers ≡ length events → history_of (events ++ e ∷ []) (answers ++ a ∷ []) ≡ (e, a) ∷ history_of events answers
-history_of-push events answers e a same = ap reverse (zip_push events answers e a same) ∙ reverse-append (zip events answers) ((e, a) ∷ [])
-
--- one more event
-pub run_more : {start : Start} {before : History} {events : List Event} {answers : List Answer} {v : View} (e : Event) (a : Answer) (w : View) → HasRun start before events answers v → Fits v e a → w ≡ next_view v e a → HasRun start before (events ++ e ∷ []) (answers ++ a ∷ []) w
-run_more {start = start} {before = before} {events = events} {answers = answers} {v = v} e a w run fits is =
-    let whole = history_of events answers ++ before in
-    let grown : history_of (events ++ e ∷ []) (answers ++ a ∷ []) ++ before ≡ (e, a) ∷ whole = ap (λ h. h ++ before) (history_of-push events answers e a run.answered) in
-    let fit : Fits (view_of start whole) e a = subst (λ u. Fits u e a) run.shows fits in
-    record {
-      answered = grind (arith, length-append, run.answered);
-      legal = subst (IsLegal start) (sym grown) (run.legal, fit);
-      shows = is ∙ ap (λ u. next_view u e a) run.shows ∙ sym (view_of-cons start whole e a fit) ∙ ap (view_of start) (sym grown);
-    }
-
--- before the first event
-pub run_none : {start : Start} {before : History} {v : View} → IsLegal start before → v ≡ view_of start before → HasRun start before [] [] v
-run_none {start = start} {before = before} {v = v} legal is = record { answered = refl; legal = legal; shows = is }

@@ -1,3 +1,6 @@
 pub mod DatasetLemmas
 pub mod HistoryLemmas
 pub mod NameLemmas
+pub mod PinLemmas
+pub mod RunLemmas
+pub mod VerdictLemmas

@@ -91,5 +91,8 @@ lifetime_code = code_by (ℕ × ℕ) (coded× coded_ℕ coded_ℕ) (λ l. (l.bir
 
 abbrev pub shown_code : Coded Shown
 shown_code =
-    code_by (View × List Lifetime) (coded× view_code (coded_list lifetime_code))
-    (λ s. (s.view, s.waste)) (λ p. record { view = p.0; waste = p.1 }) (λ _. refl)
+    code_by (View × (List (Option ℕ) × List Lifetime))
+    (coded× view_code (coded× (coded_list (coded_option coded_ℕ)) (coded_list lifetime_code)))
+    (λ s. (s.view, (s.pinned, s.waste)))
+    (λ p. record { view = p.0; pinned = p.1.0; waste = p.1.1 })
+    (λ _. refl)

@@ -1,5 +1,5 @@
 -- Histories of events with their answers, and what they mean.
-use Rattle.std.specs.Prelude.{◌≡◌, ℕ, ◌+◌, List, [], ◌∷◌, map, length, nat_eq, cond, drop, Option, None, reverse, ◌++◌}
+use Rattle.std.specs.Prelude.{◌≡◌, ℕ, ◌+◌, List, [], ◌∷◌, map, length, nat_eq, cond, drop, Option, Some, None, reverse, ◌++◌}
 use Rattle.std.specs.List.{zip, range_with_len, count_by, cons_option}
 use Rattle.gs_term.specs.declared.names.Target.{Target}
 use Rattle.gs_event.specs.declared.events.Event.{Event}
@@ -8,12 +8,13 @@ use Rattle.gs_event.specs.declared.answers.Answer.{Answer}
 use Rattle.gs_event.specs.Datasets.{Dataset, Setting, Operation, lines_at, after_all}
 use Rattle.gs_event.specs.Phases.{Phase, Idle, Writing, Reading, phase_after, operation_of}
 use Rattle.gs_event.specs.Views.{View, SeatView, Fits, is_opened, is_written}
+use Rattle.gs_event.specs.Waste.{Shown}
 
 -- each event with its answer, the newest first: the tail of a history is what went before
 abbrev pub History : Type 0
 History = List (Event × Answer)
 
--- a read: its target, the history before its pin, and how many lines were told since
+-- a read: its target, the history before its pin, and how many of its lines were given since
 pub record Read : Type 0 where
   pub target : Target
   pub before : History
@@ -46,7 +47,7 @@ points_of (x ∷ before) = cons_option (operation_by before x.0 x.1) (points_of 
 abbrev pub dataset_after : Setting → History → Dataset
 dataset_after w h = after_all w (points_of h)
 
--- the lines left of a read: its graph's at the pin, without those that were told
+-- the lines left of a read: its graph's at the pin, without those that were given
 abbrev pub lines_left : Setting → Read → List (List ℕ)
 lines_left w r = drop r.told (lines_at (dataset_after w r.before) r.target)
 
@@ -63,6 +64,10 @@ pub record Start : Type 0 where
   pub request : ℕ
   pub commit : ℕ
 
+-- the last commit number after a history
+abbrev pub commit_after : Start → History → ℕ
+commit_after start h = start.commit + count_by (λ x. is_written x.1) h
+
 -- what a store shows after a history
 abbrev pub view_of : Start → History → View
 view_of start h = record {
@@ -70,10 +75,20 @@ view_of start h = record {
     setting = start.setting;
     dataset = dataset_after start.setting h;
     request = start.request + count_by (λ x. is_opened x.1) h;
-    commit = start.commit + count_by (λ x. is_written x.1) h;
+    commit = commit_after start h;
   };
   seats = map (λ s. seat_view start.setting (phase_of h s)) (range_with_len 0 start.seats);
 }
+
+-- the commit number at the pin of a read
+abbrev pub pin_of : Start → Phase Read → Option ℕ
+pin_of start Idle = None
+pin_of start (Writing k r g) = None
+pin_of start (Reading r) = Some (commit_after start r.before)
+
+-- the commit numbers at the pins of all reads, by seat
+abbrev pub pinned_of : Start → History → List (Option ℕ)
+pinned_of start h = map (λ s. pin_of start (phase_of h s)) (range_with_len 0 start.seats)
 
 -- a legal history: each answer fits what the history before it shows
 abbrev pub IsLegal : Start → History → Type 0
@@ -85,8 +100,9 @@ abbrev pub history_of : List Event → List Answer → History
 history_of events answers = reverse (zip events answers)
 
 -- on a history before them, these answers to these events are legal, and the store then shows what the
--- whole history says
-pub record HasRun (start : Start) (before : History) (events : List Event) (answers : List Answer) (shown : View) : Type 0 where
+-- whole history says, and has its pins
+pub record HasRun (start : Start) (before : History) (events : List Event) (answers : List Answer) (shown : Shown) : Type 0 where
   pub answered : length answers ≡ length events
   pub legal : IsLegal start (history_of events answers ++ before)
-  pub shows : shown ≡ view_of start (history_of events answers ++ before)
+  pub view : shown.view ≡ view_of start (history_of events answers ++ before)
+  pub pinned : shown.pinned ≡ pinned_of start (history_of events answers ++ before)

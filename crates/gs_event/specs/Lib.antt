@@ -1,8 +1,12 @@
--- Read in this order: datasets and the abstract store, names that it makes up, phases, views, histories.
+-- Read in this order: datasets and the abstract store, names that it makes up, phases, views, waste, one
+-- step, runs, histories. The verdicts stand by themselves, on the abstract store.
 pub mod Datasets
 pub mod Names
 pub mod Phases
 pub mod Views
-pub mod Histories
 pub mod Waste
+pub mod Steps
+pub mod Runs
+pub mod Histories
 pub mod Codes
+pub mod Verdicts

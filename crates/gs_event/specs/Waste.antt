@@ -1,11 +1,7 @@
 -- Nodes in use, and waste: what a store keeps beyond its current graphs and its open uploads.
-use Rattle.std.specs.Prelude.{◌≡◌, ◌≢◌, ℕ, ◌+◌, ◌≤◌, List, [], length, IsTrue, ◌↔◌}
-use Rattle.std.specs.List.{sum_by}
+use Rattle.std.specs.Prelude.{ℕ, ◌+◌, Bool, false, ◌&&◌, nat_le, nat_lt, if◌then◌else◌, List, length, Option, Some, None}
+use Rattle.std.specs.List.{sum_by, list_any}
 use Rattle.gs_model.specs.Graphs.{size_of}
-use Rattle.gs_event.specs.declared.events.Event.{Event}
-use Rattle.gs_event.specs.declared.events.Event.TheVariants.{Seat as At, Reclaim}
-use Rattle.gs_event.specs.declared.answers.Answer.{Answer}
-use Rattle.gs_event.specs.declared.answers.Answer.TheVariants.{Reclaimed}
 use Rattle.gs_event.specs.Datasets.{triples_in}
 use Rattle.gs_event.specs.Phases.{Phase, Idle, Writing, Reading}
 use Rattle.gs_event.specs.Views.{View, SeatView}
@@ -15,9 +11,10 @@ pub record Lifetime : Type 0 where
   pub birth : ℕ
   pub death : ℕ
 
--- what a store shows, and its waste
+-- what a store shows, the commit number at the pin of each seat's read, and the waste
 pub record Shown : Type 0 where
   pub view : View
+  pub pinned : List (Option ℕ)
   pub waste : List Lifetime
 
 -- how many triples the seat's open upload has
@@ -26,6 +23,7 @@ staged_at Idle = 0
 staged_at (Writing k r g) = size_of g
 staged_at (Reading left) = 0
 
+-- how many triples all open uploads have
 abbrev pub staged_in : List SeatView → ℕ
 staged_in seats = sum_by (λ p. staged_at p) seats
 
@@ -33,8 +31,15 @@ staged_in seats = sum_by (λ p. staged_at p) seats
 abbrev pub nodes_in : Shown → ℕ
 nodes_in s = triples_in s.view.totals.dataset + staged_in s.view.seats + length s.waste
 
--- what an event that was answered so makes of the waste
-abbrev pub Reclaims : List Lifetime → Event → Answer → List Lifetime → Type 0
-Reclaims old (Reclaim n) (Reclaimed freed left) new = (freed ≤ n) × (length new + freed ≡ length old) × (IsTrue left ↔ (new ≢ []))
-Reclaims old (Reclaim n) a new = ⊥
-Reclaims old (At s action) a new = new ≡ old
+-- whether the pinned version, if there is one, has the node
+abbrev pub holds : Lifetime → Option ℕ → Bool
+holds l None = false
+holds l (Some v) = nat_le l.birth v && nat_lt v l.death
+
+-- whether a pinned version has the node
+abbrev pub is_needed : List (Option ℕ) → Lifetime → Bool
+is_needed pins l = list_any (λ p. holds l p) pins
+
+-- how many of these nodes no pinned version has
+abbrev pub unneeded : List (Option ℕ) → List Lifetime → ℕ
+unneeded pins waste = sum_by (λ l. if is_needed pins l then 0 else 1) waste

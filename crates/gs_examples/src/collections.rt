@@ -237,7 +237,7 @@ const NESTED: [Example; 6] = [
         ],
     },
     Example {
-        name: "a collection behind a collection as subject and object",
+        name: "a collection after a collection as subject and object",
         base: "http://e/",
         text: "( ( <a> ) <b> ) <p> ( <c> ) .",
         lines: &[

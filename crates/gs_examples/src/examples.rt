@@ -20,6 +20,19 @@ pub struct Example {
 }
 
 /// Feeds a document in pieces of so many bytes, at least 1, and ends it.
+fn feed(
+    reader: &mut TurtleReader,
+    text: &[u8],
+    size: usize,
+    triples: &mut Vec<Triple>,
+) -> Result<(), Refusal> {
+    for piece in text.chunks(size.max(1)) {
+        reader.feed(piece, triples)?;
+    }
+    reader.finish(triples)
+}
+
+/// Reads a document of request 1 under a base, in pieces of so many bytes.
 pub fn read(
     alloc: Global,
     base: &str,
@@ -31,10 +44,7 @@ pub fn read(
         return Err(Refusal::Syntax(0));
     }
     let mut reader = TurtleReader::new(alloc, 1, base)?;
-    for piece in text.chunks(size.max(1)) {
-        reader.feed(piece, triples)?;
-    }
-    reader.finish(triples)
+    feed(&mut reader, text, size, triples)
 }
 
 /// The lines of triples, sorted, each once.

@@ -142,7 +142,7 @@ fn a_directive_out_of_order_is_a_fault(rt: HostRuntime) -> Result<(), Fail> {
     Ok(())
 }
 
-const BEHIND_DIRECTIVES: [Row; 15] = [
+const AFTER_DIRECTIVES: [Row; 15] = [
     ("BASE <http://f/> <s> .", 16),
     ("BASE <http://f/>\n# one\n~", 16),
     ("BASE <http://f/> BASE <\\u0020>", 16),
@@ -161,8 +161,8 @@ const BEHIND_DIRECTIVES: [Row; 15] = [
 ];
 
 #[test]
-fn a_fault_stands_behind_a_whole_directive(rt: HostRuntime) -> Result<(), Fail> {
-    for (text, at) in BEHIND_DIRECTIVES {
+fn a_fault_stands_after_a_whole_directive(rt: HostRuntime) -> Result<(), Fail> {
+    for (text, at) in AFTER_DIRECTIVES {
         expect_fault(&rt, rt.alloc(), text, at)?;
     }
     Ok(())

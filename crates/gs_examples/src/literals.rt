@@ -203,7 +203,7 @@ const NUMBERS: [Example; 8] = [
         ],
     },
     Example {
-        name: "a dot behind a number ends the statement",
+        name: "a dot after a number ends the statement",
         base: "http://e/",
         text: "<a> <p> 1.<b> <p> 1.5.<c> <p> .5. <d> <p> 1e1.<e> <p> -2.\n<f> <p> 3.",
         lines: &[

@@ -201,7 +201,7 @@ const NAMES: [Example; 13] = [
         ],
     },
     Example {
-        name: "a dot behind a name",
+        name: "a dot after a name",
         base: "http://e/",
         text: "@prefix p: <> . p:a p:b p:c.d. p:a p:b p:e.\np:a p:b p:f.# the end",
         lines: &[

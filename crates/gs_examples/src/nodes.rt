@@ -139,7 +139,7 @@ _:b <http://words.example/page> <ben.html> .
         ],
     },
     Example {
-        name: "brackets with verbs behind them",
+        name: "brackets with verbs after them",
         base: "http://e/",
         text: "[ <p> <o> ] <q> <r> ; a <c> .",
         lines: &[
@@ -149,7 +149,7 @@ _:b <http://words.example/page> <ben.html> .
         ],
     },
     Example {
-        name: "empty brackets with verbs behind them",
+        name: "empty brackets with verbs after them",
         base: "http://e/",
         text: "[] a <c> ; <p> [] . [\t\r\n] <p> <o> . [ # nothing\n] <p> <o> .",
         lines: &[
@@ -204,7 +204,7 @@ _:b <http://words.example/page> <ben.html> .
         ],
     },
     Example {
-        name: "an object's verbs go on behind its brackets",
+        name: "an object's verbs go on after its brackets",
         base: "http://e/",
         text: "<s> <p> [ <q> <a> ; <r> <b> ] ; <q> <c> , [ a <d> ] , <e> .",
         lines: &[

@@ -48,26 +48,37 @@ const PIECES: [(&str, usize); 5] = [
     ("] . <s> a ex:a.", 12),
 ];
 
+/// Feeds the pieces up to the first one that is refused, and reports whether none was.
+fn feed_all(rt: &impl Abort, reader: &mut TurtleReader, triples: &mut Vec<Triple>) -> bool {
+    for (piece, length) in PIECES {
+        let before = triples.len();
+        if let Err(refusal) = reader.feed(piece.as_bytes(), triples) {
+            assert_eq!(rt; refusal, Refusal::NoMemory);
+            expect_closed(rt, reader, triples, before);
+            return false;
+        }
+        assert_eq!(rt; triples.len(), length, "at {piece}");
+    }
+    true
+}
+
+/// Ends the text of the pieces.
+fn end(rt: &impl Abort, reader: &mut TurtleReader, triples: &mut Vec<Triple>) {
+    if let Err(refusal) = reader.finish(triples) {
+        assert_eq!(rt; refusal, Refusal::NoMemory);
+        expect_closed(rt, reader, triples, 12);
+        return;
+    }
+    expect_closed(rt, reader, triples, 13);
+}
+
 #[test]
 fn a_refused_request_for_memory_leaves_the_list(rt: HostRuntime) -> Result<(), Fail> {
-    let alloc = rt.alloc();
-    let mut reader = reader(alloc)?;
-    let mut triples = Vec::new(alloc);
-    for (piece, behind) in PIECES {
-        let before = triples.len();
-        if let Err(refusal) = reader.feed(piece.as_bytes(), &mut triples) {
-            assert_eq!(rt; refusal, Refusal::NoMemory);
-            expect_closed(&rt, &mut reader, &mut triples, before);
-            return Ok(());
-        }
-        assert_eq!(rt; triples.len(), behind, "at {piece}");
+    let mut reader = reader(rt.alloc())?;
+    let mut triples = Vec::new(rt.alloc());
+    if feed_all(&rt, &mut reader, &mut triples) {
+        end(&rt, &mut reader, &mut triples);
     }
-    if let Err(refusal) = reader.finish(&mut triples) {
-        assert_eq!(rt; refusal, Refusal::NoMemory);
-        expect_closed(&rt, &mut reader, &mut triples, 12);
-        return Ok(());
-    }
-    expect_closed(&rt, &mut reader, &mut triples, 13);
     Ok(())
 }
 

@@ -94,7 +94,7 @@ const STATEMENTS: [Example; 12] = [
         ],
     },
     Example {
-        name: "semicolons without a verb behind them",
+        name: "semicolons without a verb after them",
         base: "http://e/",
         text: "<s> <p> <a> ;; ; <q> <b> ; . <t> <p> <a>;.",
         lines: &[

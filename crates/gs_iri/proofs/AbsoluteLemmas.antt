@@ -2,7 +2,7 @@
 use Rattle.std.proofs.Common.{◌≡◌, ℕ, ◌+◌, ◌/◌, ◌%◌, ◌≤◌, ◌<◌, Bool, true, false, cond, ◌&&◌, ◌==◌, List, [], ◌∷◌, ◌++◌, refl, sym, ap, ◌∙◌, arith}
 use Rattle.std.specs.List.{list_all}
 use Rattle.std.proofs.lemmas.List.Folds.{list_all-append}
-use Rattle.std.proofs.lemmas.Bool.{eqb-true}
+use Rattle.std.proofs.lemmas.Bool.{eqb-true, and_parts}
 use Rattle.std.proofs.lemmas.Bool.Decides.{nat_tests}
 use Rattle.std.proofs.lemmas.Str.{encode_ascii, length-encode, len_utf8_bounds}
 use Rattle.std.proofs.Math.Bool.{and-true}
@@ -12,10 +12,6 @@ use lib.Utf8.{encode, encodes}
 use lib.Dec.{ltb}
 use Rattle.gs_model.specs.Characters.{is_iri_char}
 use Rattle.gs_model.specs.Iris.{is_absolute, is_letter, is_scheme_char, is_scheme_rest, IsAbsolute}
-
-pub both : (a b : Bool) → (a && b) ≡ true → (a ≡ true) × (b ≡ true)
-both true b e = (refl, e)
-both false b e = absurd (cc)
 
 pub from_both : {a b : Bool} → a ≡ true → b ≡ true → (a && b) ≡ true
 from_both {a} {b} p q = cc
@@ -33,7 +29,7 @@ rest_parts (c ∷ cs) e =
     elim (c == 58) as (λ b. (c == 58) ≡ b → cond b (list_all is_iri_char cs) (is_scheme_char c && is_scheme_rest cs) ≡ true → RestParts (c ∷ cs)) [
       | true ↦ λ h k. record { scheme = []; rest = cs; parts = ap (λ z. z ∷ cs) (eqb-true c 58 h); goes_on = refl; characters = k }
       | false ↦ λ h k.
-          let two = both (is_scheme_char c) (is_scheme_rest cs) k in
+          let two = and_parts (is_scheme_char c) (is_scheme_rest cs) k in
           let p = rest_parts cs two.1 in
           record { scheme = c ∷ p.scheme; rest = p.rest; parts = ap (λ z. c ∷ z) p.parts; goes_on = from_both two.0 p.goes_on; characters = p.characters }
     ] refl e
@@ -42,14 +38,14 @@ rest_back : (scheme rest : List ℕ) → list_all is_scheme_char scheme ≡ true
 rest_back [] rest g k = k
 rest_back (c ∷ cs) rest g k =
     elim (c == 58) as (λ b. (c == 58) ≡ b → cond b (list_all is_iri_char (cs ++ 58 ∷ rest)) (is_scheme_char c && is_scheme_rest (cs ++ 58 ∷ rest)) ≡ true) [
-      | true ↦ λ h. let colon : is_scheme_char 58 ≡ true = sym (ap is_scheme_char (eqb-true c 58 h)) ∙ (both (is_scheme_char c) (list_all is_scheme_char cs) g).0 in absurd (cc)
-      | false ↦ λ h. let two = both (is_scheme_char c) (list_all is_scheme_char cs) g in from_both two.0 (rest_back cs rest two.1 k)
+      | true ↦ λ h. let colon : is_scheme_char 58 ≡ true = sym (ap is_scheme_char (eqb-true c 58 h)) ∙ (and_parts (is_scheme_char c) (list_all is_scheme_char cs) g).0 in absurd (cc)
+      | false ↦ λ h. let two = and_parts (is_scheme_char c) (list_all is_scheme_char cs) g in from_both two.0 (rest_back cs rest two.1 k)
     ] refl
 
 pub absolute_forth : (text : List ℕ) → is_absolute text ≡ true → IsAbsolute text
 absolute_forth [] e = absurd (cc)
 absolute_forth (c ∷ cs) e =
-    let two = both (is_letter c) (is_scheme_rest cs) e in
+    let two = and_parts (is_letter c) (is_scheme_rest cs) e in
     let p = rest_parts cs two.1 in
     record { first = c; scheme = p.scheme; rest = p.rest; parts = ap (λ z. c ∷ z) p.parts; begins = two.0; goes_on = p.goes_on; characters = p.characters }
 

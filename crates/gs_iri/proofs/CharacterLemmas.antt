@@ -1,11 +1,12 @@
 -- A reference of IRI characters, resolved against an absolute base, is absolute.
+use Rattle.std.proofs.lemmas.Bool.{and_parts}
 use Rattle.std.proofs.Common.{◌≡◌, ℕ, Bool, true, false, cond, ◌&&◌, ◌==◌, List, [], ◌∷◌, ◌++◌, refl, ◌∙◌, drop}
 use Rattle.std.specs.Prelude.{Option, Some, None, codes, fold}
 use Rattle.std.specs.Option.{is_some, unwrap_or, option_map, option_and_then, option_or}
 use Rattle.std.specs.List.{list_all, onto_first}
 use Rattle.std.proofs.lemmas.List.Folds.{list_all-append}
 use Rattle.gs_model.specs.Characters.{is_iri_char}
-use Rattle.gs_iri.proofs.AbsoluteLemmas.{both, from_both}
+use Rattle.gs_iri.proofs.AbsoluteLemmas.{from_both}
 use Rattle.gs_iri.specs.References.{Reference, is_one_of, before, from, behind, has_scheme, behind_scheme, behind_slashes, authority_of, behind_authority, path_of, behind_path, query_of, behind_query, fragment_of, parts_of}
 use Rattle.gs_iri.specs.Dots.{Output, segments_of, is_dot, is_dot_dot, is_dots, last_of, closed, moved, text_of_segments, output_of, dots}
 use Rattle.gs_iri.specs.Output.{has_slash}
@@ -22,14 +23,14 @@ iri-before : (stops x : List ℕ) → AllIri x → AllIri (before stops x)
 unfolding before
 iri-before stops [] a = refl
 iri-before stops (c ∷ cs) a =
-    let two = both (is_iri_char c) (list_all is_iri_char cs) a in
+    let two = and_parts (is_iri_char c) (list_all is_iri_char cs) a in
     elim (is_one_of stops c) as (λ b. AllIri (cond b [] (c ∷ before stops cs))) [ true ↦ refl | false ↦ from_both two.0 (iri-before stops cs two.1) ]
 
 iri-from : (stops x : List ℕ) → AllIri x → AllIri (from stops x)
 unfolding from
 iri-from stops [] a = refl
 iri-from stops (c ∷ cs) a =
-    elim (is_one_of stops c) as (λ b. AllIri (cond b (c ∷ cs) (from stops cs))) [ true ↦ a | false ↦ iri-from stops cs (both (is_iri_char c) (list_all is_iri_char cs) a).1 ]
+    elim (is_one_of stops c) as (λ b. AllIri (cond b (c ∷ cs) (from stops cs))) [ true ↦ a | false ↦ iri-from stops cs (and_parts (is_iri_char c) (list_all is_iri_char cs) a).1 ]
 
 abbrev pub IriPart : Option (List ℕ) → Type 0
 IriPart None = Unit {0}
@@ -39,7 +40,7 @@ iri-behind : (mark : ℕ) (x : List ℕ) → AllIri x → IriPart (behind mark x
 unfolding behind
 iri-behind mark [] a = tt
 iri-behind mark (c ∷ cs) a =
-    elim (c == mark) as (λ b. IriPart (cond b (Some cs) None)) [ true ↦ (both (is_iri_char c) (list_all is_iri_char cs) a).1 | false ↦ tt ]
+    elim (c == mark) as (λ b. IriPart (cond b (Some cs) None)) [ true ↦ (and_parts (is_iri_char c) (list_all is_iri_char cs) a).1 | false ↦ tt ]
 
 iri-map : (f : List ℕ → List ℕ) → ((x : List ℕ) → AllIri x → AllIri (f x)) → (o : Option (List ℕ)) → IriPart o → IriPart (option_map f o)
 iri-map f keeps None a = tt
@@ -104,7 +105,7 @@ iris-segments : (x : List ℕ) → AllIri x → AllIris (segments_of x)
 unfolding segments_of
 iris-segments [] a = (refl, tt)
 iris-segments (c ∷ cs) a =
-    let two = both (is_iri_char c) (list_all is_iri_char cs) a in
+    let two = and_parts (is_iri_char c) (list_all is_iri_char cs) a in
     elim (c == 47) as (λ b. AllIris (cond b ([] ∷ segments_of cs) (onto_first c (segments_of cs)))) [
       | true ↦ (refl, iris-segments cs two.1)
       | false ↦ iris-onto c (segments_of cs) two.0 (iris-segments cs two.1)
@@ -157,7 +158,7 @@ iri-through : (x : List ℕ) → AllIri x → AllIri (through_last x)
 unfolding through_last
 iri-through [] a = refl
 iri-through (c ∷ cs) a =
-    let two = both (is_iri_char c) (list_all is_iri_char cs) a in
+    let two = and_parts (is_iri_char c) (list_all is_iri_char cs) a in
     elim (has_slash (c ∷ cs)) as (λ b. AllIri (cond b (c ∷ through_last cs) [])) [ true ↦ from_both two.0 (iri-through cs two.1) | false ↦ refl ]
 
 iri-directory : (authority : Option (List ℕ)) (path : List ℕ) → AllIri path → AllIri (directory_of authority path)

@@ -5,8 +5,7 @@ use Rattle.std.specs.List.{list_all, position_or_len}
 use Rattle.std.specs.Str.{IsCharBoundary, IsUtf8}
 use Rattle.std.proofs.lemmas.Str.{IsCharBoundary-after_ascii}
 use Rattle.std.proofs.lemmas.List.Sums.{passes_at_first}
-use Rattle.std.proofs.lemmas.Bool.{ltb-true, eqb-true}
-use Rattle.gs_iri.proofs.AbsoluteLemmas.{both}
+use Rattle.std.proofs.lemmas.Bool.{ltb-true, eqb-true, and_parts}
 use Rattle.gs_iri.specs.References.{is_one_of, before, from}
 
 -- the two cuts at the first of some bytes
@@ -33,8 +32,8 @@ one_is_ascii : (stops : List ℕ) (c : ℕ) → list_all (λ b. nat_lt b 128) st
 one_is_ascii [] c a h = absurd (cc)
 one_is_ascii (s ∷ ss) c a h =
     elim (s == c) as (λ b. (s == c) ≡ b → (b || is_one_of ss c) ≡ true → c < 128) [
-      | true ↦ λ e k. subst (λ z. z < 128) (eqb-true s c e) (ltb-true s 128 (both (nat_lt s 128) (list_all (λ b. nat_lt b 128) ss) a).0)
-      | false ↦ λ e k. one_is_ascii ss c (both (nat_lt s 128) (list_all (λ b. nat_lt b 128) ss) a).1 k
+      | true ↦ λ e k. subst (λ z. z < 128) (eqb-true s c e) (ltb-true s 128 (and_parts (nat_lt s 128) (list_all (λ b. nat_lt b 128) ss) a).0)
+      | false ↦ λ e k. one_is_ascii ss c (and_parts (nat_lt s 128) (list_all (λ b. nat_lt b 128) ss) a).1 k
     ] refl h
 
 -- a text may be cut before the first of some ASCII bytes

@@ -4,11 +4,11 @@ use Rattle.std.specs.Prelude.{Option, Some, None, codes, nat_le}
 use Rattle.std.specs.Option.{is_some}
 use Rattle.std.specs.List.{list_all}
 use Rattle.std.proofs.lemmas.List.Folds.{list_all-append}
-use Rattle.std.proofs.lemmas.Bool.{eqb-true}
+use Rattle.std.proofs.lemmas.Bool.{eqb-true, and_parts}
 use Rattle.std.proofs.lemmas.Bool.Decides.{nat_tests}
 use Rattle.gs_model.specs.Characters.{is_iri_char}
 use Rattle.gs_model.specs.Iris.{is_absolute, is_letter, is_scheme_char}
-use Rattle.gs_iri.proofs.AbsoluteLemmas.{both, from_both, absolute_forth, absolute_back}
+use Rattle.gs_iri.proofs.AbsoluteLemmas.{from_both, absolute_forth, absolute_back}
 use Rattle.gs_iri.proofs.CharacterLemmas.{AllIri, iri-behind_colon, iri-resolved_parts}
 use Rattle.gs_iri.specs.References.{Reference, is_one_of, before, from, behind, is_scheme, has_scheme, scheme_of, parts_of}
 use Rattle.gs_iri.specs.Resolving.{scheme_text, parts_text, is_empty, resolved_parts, resolved}
@@ -38,14 +38,14 @@ before_colon : (s rest : List ℕ) → list_all is_scheme_char s ≡ true → be
 unfolding before
 before_colon [] rest h = refl
 before_colon (c ∷ cs) rest h =
-    let two = both (is_scheme_char c) (list_all is_scheme_char cs) h in
+    let two = and_parts (is_scheme_char c) (list_all is_scheme_char cs) h in
     ap (λ b. cond b [] (c ∷ before (codes ":") (cs ++ 58 ∷ rest))) (no_colon c two.0) ∙ ap (λ z. c ∷ z) (before_colon cs rest two.1)
 
 from_colon : (s rest : List ℕ) → list_all is_scheme_char s ≡ true → from (codes ":") (s ++ 58 ∷ rest) ≡ 58 ∷ rest
 unfolding from
 from_colon [] rest h = refl
 from_colon (c ∷ cs) rest h =
-    let two = both (is_scheme_char c) (list_all is_scheme_char cs) h in
+    let two = and_parts (is_scheme_char c) (list_all is_scheme_char cs) h in
     ap (λ b. cond b (c ∷ (cs ++ 58 ∷ rest)) (from (codes ":") (cs ++ 58 ∷ rest))) (no_colon c two.0) ∙ from_colon cs rest two.1
 
 letter_goes_on : (c : ℕ) → is_letter c ≡ true → is_scheme_char c ≡ true
@@ -85,7 +85,7 @@ absolute_text : (s rest : List ℕ) → is_scheme s ≡ true → AllIri rest →
 unfolding is_scheme
 absolute_text [] rest f a = absurd (cc)
 absolute_text (c ∷ cs) rest f a =
-    let two = both (is_letter c) (list_all is_scheme_char cs) f in
+    let two = and_parts (is_letter c) (list_all is_scheme_char cs) f in
     absolute_back ((c ∷ cs) ++ 58 ∷ rest) (record { first = c; scheme = cs; rest = rest; parts = refl; begins = two.0; goes_on = two.1; characters = a })
 
 absolute_parts : (o : Option (List ℕ)) (rest : List ℕ) → is_some o ≡ true → FormedScheme o → AllIri rest → is_absolute (scheme_text o ++ rest) ≡ true
@@ -99,7 +99,7 @@ scheme_char_is_iri c h = grind (arith, nat_tests)
 iri_scheme : (s : List ℕ) → list_all is_scheme_char s ≡ true → AllIri s
 iri_scheme [] h = refl
 iri_scheme (c ∷ cs) h =
-    let two = both (is_scheme_char c) (list_all is_scheme_char cs) h in
+    let two = and_parts (is_scheme_char c) (list_all is_scheme_char cs) h in
     from_both (scheme_char_is_iri c two.0) (iri_scheme cs two.1)
 
 iri_base : (x : List ℕ) → is_absolute x ≡ true → AllIri x

@@ -4,6 +4,7 @@ use Rattle.std.specs.Prelude.{Option, Some, None}
 use Rattle.std.specs.Option.{is_some, unwrap_or, option_map, option_and_then}
 use Rattle.std.specs.List.{list_all, list_any}
 use Rattle.gs_model.specs.Iris.{is_letter, is_scheme_char}
+use Rattle.gs_iri.specs.Marks.{colon, slash, question_mark, number_sign}
 
 -- a part that is undefined is `None`, which is not the same as empty; the path is always defined
 pub record Reference : Type 0 where
@@ -39,21 +40,25 @@ is_scheme (c ∷ cs) = is_letter c && list_all is_scheme_char cs
 
 -- the text before its first ':' is a scheme
 unfoldable pub has_scheme : List ℕ → Bool
-has_scheme x = is_some (behind 58 (from (codes ":") x)) && is_scheme (before (codes ":") x)
+has_scheme x = is_some (behind colon (from (codes ":") x)) && is_scheme (before (codes ":") x)
 
+-- the scheme, if there is one
 unfoldable pub scheme_of : List ℕ → Option (List ℕ)
 scheme_of x = if has_scheme x then Some (before (codes ":") x) else None
 
+-- what is left after the scheme and its ':'
 unfoldable pub behind_scheme : List ℕ → List ℕ
-behind_scheme x = if has_scheme x then unwrap_or (behind 58 (from (codes ":") x)) x else x
+behind_scheme x = if has_scheme x then unwrap_or (behind colon (from (codes ":") x)) x else x
 
--- 3.2: the authority stands after "//", and ends at the next '/', '?' or '#'
+-- 3.2: the text after "//", where an authority stands up to the next '/', '?' or '#'
 unfoldable pub behind_slashes : List ℕ → Option (List ℕ)
-behind_slashes x = option_and_then (behind 47) (behind 47 x)
+behind_slashes x = option_and_then (behind slash) (behind slash x)
 
+-- the authority, if the text begins with "//"
 unfoldable pub authority_of : List ℕ → Option (List ℕ)
 authority_of x = option_map (before (codes "/?#")) (behind_slashes x)
 
+-- what is left after the authority
 unfoldable pub behind_authority : List ℕ → List ℕ
 behind_authority x = unwrap_or (option_map (from (codes "/?#")) (behind_slashes x)) x
 
@@ -61,19 +66,21 @@ behind_authority x = unwrap_or (option_map (from (codes "/?#")) (behind_slashes 
 unfoldable pub path_of : List ℕ → List ℕ
 path_of x = before (codes "?#") x
 
+-- what is left after the path
 unfoldable pub behind_path : List ℕ → List ℕ
 behind_path x = from (codes "?#") x
 
 -- 3.4: the query stands after '?', and ends at the first '#'
 unfoldable pub query_of : List ℕ → Option (List ℕ)
-query_of x = option_map (before (codes "#")) (behind 63 x)
+query_of x = option_map (before (codes "#")) (behind question_mark x)
 
+-- what is left after the query
 unfoldable pub behind_query : List ℕ → List ℕ
-behind_query x = unwrap_or (option_map (from (codes "#")) (behind 63 x)) x
+behind_query x = unwrap_or (option_map (from (codes "#")) (behind question_mark x)) x
 
 -- 3.5: the fragment stands after '#'
 unfoldable pub fragment_of : List ℕ → Option (List ℕ)
-fragment_of x = behind 35 x
+fragment_of x = behind number_sign x
 
 -- each part is cut off what the parts before it leave
 unfoldable pub parts_of : List ℕ → Reference

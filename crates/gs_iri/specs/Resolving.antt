@@ -6,26 +6,31 @@ use Rattle.gs_model.specs.Characters.{is_iri_char}
 use Rattle.gs_model.specs.Iris.{is_absolute}
 use Rattle.gs_model.specs.declared.refusals.Refusal.{Refusal}
 use Rattle.gs_model.specs.declared.refusals.Refusal.TheVariants.{NoMemory, Syntax}
+use Rattle.gs_iri.specs.Marks.{slash}
 use Rattle.gs_iri.specs.References.{Reference, behind, parts_of}
 use Rattle.gs_iri.specs.Dots.{dots}
 use Rattle.gs_iri.specs.Output.{has_slash}
 
--- 5.3: the text of parts, each with its mark, where it is defined
+-- a scheme and its ':', where it is defined
 unfoldable pub scheme_text : Option (List ℕ) → List ℕ
 scheme_text None = []
 scheme_text (Some s) = s ++ codes ":"
 
+-- a part after its mark, where it is defined
 unfoldable pub marked : List ℕ → Option (List ℕ) → List ℕ
 marked mark None = []
 marked mark (Some s) = mark ++ s
 
+-- 5.3: the text of five parts, one after another
 unfoldable pub parts_text : Option (List ℕ) → Option (List ℕ) → List ℕ → Option (List ℕ) → Option (List ℕ) → List ℕ
 parts_text scheme authority path query fragment =
     scheme_text scheme ++ (marked (codes "//") authority ++ (path ++ (marked (codes "?") query ++ marked (codes "#") fragment)))
 
+-- the same of the parts of a reference
 abbrev pub joined : Reference → List ℕ
 joined r = parts_text r.scheme r.authority r.path r.query r.fragment
 
+-- no byte
 abbrev pub is_empty : List ℕ → Bool
 is_empty [] = true
 is_empty (c ∷ cs) = false
@@ -50,7 +55,7 @@ resolved_parts b r =
     if is_some r.scheme then record { scheme = r.scheme; authority = r.authority; path = dots r.path; query = r.query; fragment = r.fragment }
     else if is_some r.authority then record { scheme = b.scheme; authority = r.authority; path = dots r.path; query = r.query; fragment = r.fragment }
     else if is_empty r.path then record { scheme = b.scheme; authority = b.authority; path = b.path; query = option_or r.query b.query; fragment = r.fragment }
-    else if is_some (behind 47 r.path) then record { scheme = b.scheme; authority = b.authority; path = dots r.path; query = r.query; fragment = r.fragment }
+    else if is_some (behind slash r.path) then record { scheme = b.scheme; authority = b.authority; path = dots r.path; query = r.query; fragment = r.fragment }
     else record { scheme = b.scheme; authority = b.authority; path = dots (directory_of b.authority b.path ++ r.path); query = r.query; fragment = r.fragment }
 
 -- the text of a reference resolved against a base
@@ -67,3 +72,8 @@ Reports base reference (Ok _) = is_resolvable base reference ≡ true
 Reports base reference (Err NoMemory) = is_resolvable base reference ≡ true
 Reports base reference (Err (Syntax at)) = (is_resolvable base reference ≡ false) × (at ≡ 0)
 Reports base reference (Err _) = ⊥
+
+-- a reference of IRI characters means an absolute IRI, if the base is absolute
+abbrev pub StaysAbsolute : List ℕ → List ℕ → Type 0
+StaysAbsolute base reference =
+    is_absolute base ≡ true → list_all is_iri_char reference ≡ true → is_absolute (resolved base reference) ≡ true

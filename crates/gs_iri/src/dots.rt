@@ -1,15 +1,15 @@
 //! A path appended to a string without its dot segments.
-ghost use Rattle.std.specs.Prelude.{◌≡◌, ◌≤◌, ◌++◌, OnOk, IfOk, MatchOption, false, length, take, drop, fold};
-ghost use Rattle.std.specs.Option.{option_copied};
+ghost use Rattle.std.specs.Prelude.{◌≡◌, ◌≤◌, OnOk, IfOk, MatchOption, false, length, take};
 ghost use Rattle.std.specs.String.{string_bytes};
 ghost use Rattle.std.specs.Str.{IsUtf8};
-ghost use Rattle.gs_iri.specs.Dots.{is_dot as is_dot_of, is_dot_dot as is_dot_dot_of, is_dots as is_dots_of, closed, segments_of, last_of, dots};
-ghost use Rattle.gs_iri.specs.Output.{has_slash, IsLastSlash, without_last, put};
-ghost use Rattle.gs_iri.specs.Resolving.{front_text};
+ghost use Rattle.gs_iri.specs.Dots.{is_dot as is_dot_of, is_dot_dot as is_dot_dot_of, is_dots as is_dots_of, segments_of, last_of};
+ghost use Rattle.gs_iri.specs.Output.{has_slash, IsLastSlash, DropsLast, KeepsFront, Puts, PutsAll, PutsPath};
+ghost use Rattle.gs_iri.specs.Appending.{AppendsDots, KeepsAll};
 
 use crate::references::{behind, cut};
 use std::alloc::AllocError;
 
+/// Whether a segment stands for its own directory.
 #[tactic(auto, unfolding(crate::specs::Dots::is_dot))]
 fn is_dot(segment: &str) -> bool
     ensures { result ≡ is_dot_of segment.now }
@@ -17,6 +17,7 @@ fn is_dot(segment: &str) -> bool
     segment == "."
 }
 
+/// Whether a segment stands for the directory above.
 #[tactic(auto, unfolding(crate::specs::Dots::is_dot_dot))]
 fn is_dot_dot(segment: &str) -> bool
     ensures { result ≡ is_dot_dot_of segment.now }
@@ -24,6 +25,7 @@ fn is_dot_dot(segment: &str) -> bool
     segment == ".."
 }
 
+/// Whether a segment is one of the two.
 #[tactic(auto, unfolding(crate::specs::Dots::is_dots))]
 fn is_dots(segment: &str) -> bool
     ensures { result ≡ is_dots_of segment.now }
@@ -50,8 +52,8 @@ fn drop_last(start: usize, resolved: &mut String)
     requires within { start ≤ length (string_bytes resolved.old) }
     requires spelled { IsUtf8 (take start (string_bytes resolved.old)) }
     ensures within { start ≤ length (string_bytes resolved.new) }
-    ensures front { take start (string_bytes resolved.new) ≡ take start (string_bytes resolved.old) }
-    ensures back { drop start (string_bytes resolved.new) ≡ without_last (drop start (string_bytes resolved.old)) }
+    ensures front { KeepsFront start resolved.old resolved.new }
+    ensures back { DropsLast start resolved.old resolved.new }
 {
     match last_slash(&resolved.as_bytes()[start..]) {
         Some(i) => resolved.truncate(start + i),
@@ -70,8 +72,8 @@ fn put_segment(
     requires within { start ≤ length (string_bytes resolved.old) }
     requires spelled { IsUtf8 (take start (string_bytes resolved.old)) }
     ensures within { start ≤ length (string_bytes resolved.new) }
-    ensures front { take start (string_bytes resolved.new) ≡ take start (string_bytes resolved.old) }
-    ensures output { IfOk result (λ b. (b, drop start (string_bytes resolved.new)) ≡ put (begun, drop start (string_bytes resolved.old)) segment.now) }
+    ensures front { KeepsFront start resolved.old resolved.new }
+    ensures output { IfOk result (λ b. Puts start begun segment.now resolved.old resolved.new b) }
 {
     if !begun {
         if is_dots(segment) {
@@ -102,8 +104,8 @@ fn put_segments<'a>(
     requires within { start ≤ length (string_bytes resolved.old) }
     requires spelled { IsUtf8 (take start (string_bytes resolved.old)) }
     ensures within { start ≤ length (string_bytes resolved.new) }
-    ensures front { take start (string_bytes resolved.new) ≡ take start (string_bytes resolved.old) }
-    ensures output { IfOk result (λ r. (r.0, drop start (string_bytes resolved.new)) ≡ fold put (begun, drop start (string_bytes resolved.old)) (segments_of path.now)) }
+    ensures front { KeepsFront start resolved.old resolved.new }
+    ensures output { IfOk result (λ r. PutsAll start begun path.now resolved.old resolved.new r.0) }
     ensures last { IfOk result (λ r. r.1.now ≡ last_of (segments_of path.now)) }
 {
     let mut begun = begun;
@@ -123,8 +125,8 @@ fn put_path(path: &str, begun: bool, start: usize, resolved: &mut String) -> Res
     requires within { start ≤ length (string_bytes resolved.old) }
     requires spelled { IsUtf8 (take start (string_bytes resolved.old)) }
     ensures within { start ≤ length (string_bytes resolved.new) }
-    ensures front { take start (string_bytes resolved.new) ≡ take start (string_bytes resolved.old) }
-    ensures output { OnOk result (drop start (string_bytes resolved.new) ≡ (fold put (begun, drop start (string_bytes resolved.old)) (closed (segments_of path.now))).1) }
+    ensures front { KeepsFront start resolved.old resolved.new }
+    ensures output { OnOk result (PutsPath start begun path.now resolved.old resolved.new) }
 {
     let (more, last) = put_segments(path, begun, start, resolved)?;
     if is_dots(last) {
@@ -136,8 +138,8 @@ fn put_path(path: &str, begun: bool, start: usize, resolved: &mut String) -> Res
 /// Appends a path without its dot segments (RFC 3986, section 5.2.4). Before it stand `front` and
 /// a '/', if there is a front.
 pub fn append_dots(front: Option<&str>, path: &str, resolved: &mut String) -> Result<(), AllocError>
-    ensures ok { OnOk result (string_bytes resolved.new ≡ string_bytes resolved.old ++ dots (front_text (option_copied front.entry) ++ path.now)) }
-    ensures front { take (length (string_bytes resolved.old)) (string_bytes resolved.new) ≡ string_bytes resolved.old }
+    ensures ok { OnOk result (AppendsDots resolved.old resolved.new front.entry path.now) }
+    ensures front { KeepsAll resolved.old resolved.new }
 {
     let start = resolved.len();
     match front {

@@ -1,9 +1,9 @@
 //! A reference resolved against a base.
-ghost use Rattle.std.specs.Prelude.{◌≡◌, ◌++◌, OnOk, OnErr, length, take, codes};
+ghost use Rattle.std.specs.Prelude.{◌≡◌, OnOk, OnErr};
 ghost use Rattle.std.specs.Option.{option_copied};
 ghost use Rattle.std.specs.String.{string_bytes};
-ghost use Rattle.gs_iri.specs.Dots.{dots};
-ghost use Rattle.gs_iri.specs.Resolving.{scheme_text, marked, parts_text, front_text, directory_of, through_last, resolved as resolved_text, Reports};
+ghost use Rattle.gs_iri.specs.Resolving.{scheme_text, front_text, directory_of, through_last, resolved as resolved_text, Reports};
+ghost use Rattle.gs_iri.specs.Appending.{Appends, AppendsHead, AppendsPart, AppendsRemoved, AppendsTail, KeepsAll, text_with};
 
 use crate::absolute::{are_iri_bytes, is_absolute};
 use crate::dots::{append_dots, last_slash};
@@ -14,8 +14,8 @@ use std::alloc::AllocError;
 /// Appends the scheme and its ':', if it is defined.
 #[tactic(auto, unfolding(crate::specs::Resolving::scheme_text))]
 fn append_scheme(scheme: Option<&str>, resolved: &mut String) -> Result<(), AllocError>
-    ensures ok { OnOk result (string_bytes resolved.new ≡ string_bytes resolved.old ++ scheme_text (option_copied scheme.entry)) }
-    ensures front { take (length (string_bytes resolved.old)) (string_bytes resolved.new) ≡ string_bytes resolved.old }
+    ensures ok { OnOk result (Appends resolved.old resolved.new (scheme_text (option_copied scheme.entry))) }
+    ensures front { KeepsAll resolved.old resolved.new }
 {
     match scheme {
         None => Ok(()),
@@ -29,8 +29,8 @@ fn append_scheme(scheme: Option<&str>, resolved: &mut String) -> Result<(), Allo
 /// Appends a part after its mark, if it is defined.
 #[tactic(auto, unfolding(crate::specs::Resolving::marked))]
 fn append_marked(mark: &str, part: Option<&str>, resolved: &mut String) -> Result<(), AllocError>
-    ensures ok { OnOk result (string_bytes resolved.new ≡ string_bytes resolved.old ++ marked mark.now (option_copied part.entry)) }
-    ensures front { take (length (string_bytes resolved.old)) (string_bytes resolved.new) ≡ string_bytes resolved.old }
+    ensures ok { OnOk result (AppendsPart resolved.old resolved.new mark.now part.entry) }
+    ensures front { KeepsAll resolved.old resolved.new }
 {
     match part {
         None => Ok(()),
@@ -41,25 +41,27 @@ fn append_marked(mark: &str, part: Option<&str>, resolved: &mut String) -> Resul
     }
 }
 
+/// Appends the scheme and the authority, those that are defined.
 fn append_head(
     scheme: Option<&str>,
     authority: Option<&str>,
     resolved: &mut String,
 ) -> Result<(), AllocError>
-    ensures ok { OnOk result (string_bytes resolved.new ≡ (string_bytes resolved.old ++ scheme_text (option_copied scheme.entry)) ++ marked (codes "//") (option_copied authority.entry)) }
-    ensures front { take (length (string_bytes resolved.old)) (string_bytes resolved.new) ≡ string_bytes resolved.old }
+    ensures ok { OnOk result (AppendsHead resolved.old resolved.new scheme.entry authority.entry) }
+    ensures front { KeepsAll resolved.old resolved.new }
 {
     append_scheme(scheme, resolved)?;
     append_marked("//", authority, resolved)
 }
 
+/// Appends the query and the fragment, those that are defined.
 fn append_tail(
     query: Option<&str>,
     fragment: Option<&str>,
     resolved: &mut String,
 ) -> Result<(), AllocError>
-    ensures ok { OnOk result (string_bytes resolved.new ≡ (string_bytes resolved.old ++ marked (codes "?") (option_copied query.entry)) ++ marked (codes "#") (option_copied fragment.entry)) }
-    ensures front { take (length (string_bytes resolved.old)) (string_bytes resolved.new) ≡ string_bytes resolved.old }
+    ensures ok { OnOk result (AppendsTail resolved.old resolved.new query.entry fragment.entry) }
+    ensures front { KeepsAll resolved.old resolved.new }
 {
     append_marked("?", query, resolved)?;
     append_marked("#", fragment, resolved)
@@ -92,8 +94,8 @@ fn append_removed(
     front: Option<&str>,
     resolved: &mut String,
 ) -> Result<(), AllocError>
-    ensures ok { OnOk result (string_bytes resolved.new ≡ string_bytes resolved.old ++ parts_text (option_copied target.now.scheme) (option_copied target.now.authority) (dots (front_text (option_copied front.entry) ++ target.now.path.now)) (option_copied target.now.query) (option_copied target.now.fragment)) }
-    ensures front { take (length (string_bytes resolved.old)) (string_bytes resolved.new) ≡ string_bytes resolved.old }
+    ensures ok { OnOk result (AppendsRemoved resolved.old resolved.new target.now front.entry) }
+    ensures front { KeepsAll resolved.old resolved.new }
 {
     append_head(target.scheme, target.authority, resolved)?;
     append_dots(front, target.path, resolved)?;
@@ -102,8 +104,8 @@ fn append_removed(
 
 /// Appends parts as they are (5.3).
 fn append_joined(target: &Parts, resolved: &mut String) -> Result<(), AllocError>
-    ensures ok { OnOk result (string_bytes resolved.new ≡ string_bytes resolved.old ++ parts_text (option_copied target.now.scheme) (option_copied target.now.authority) target.now.path.now (option_copied target.now.query) (option_copied target.now.fragment)) }
-    ensures front { take (length (string_bytes resolved.old)) (string_bytes resolved.new) ≡ string_bytes resolved.old }
+    ensures ok { OnOk result (Appends resolved.old resolved.new (text_with target.now target.now.path.now)) }
+    ensures front { KeepsAll resolved.old resolved.new }
 {
     append_head(target.scheme, target.authority, resolved)?;
     resolved.push_str(target.path)?;
@@ -112,8 +114,8 @@ fn append_joined(target: &Parts, resolved: &mut String) -> Result<(), AllocError
 
 /// Appends a reference resolved against a base (5.2.2).
 fn append_resolved(base: &str, reference: &str, resolved: &mut String) -> Result<(), AllocError>
-    ensures ok { OnOk result (string_bytes resolved.new ≡ string_bytes resolved.old ++ resolved_text base.now reference.now) }
-    ensures front { take (length (string_bytes resolved.old)) (string_bytes resolved.new) ≡ string_bytes resolved.old }
+    ensures ok { OnOk result (Appends resolved.old resolved.new (resolved_text base.now reference.now)) }
+    ensures front { KeepsAll resolved.old resolved.new }
 {
     let b = cut_parts(base);
     let r = cut_parts(reference);
@@ -159,7 +161,7 @@ fn append_resolved(base: &str, reference: &str, resolved: &mut String) -> Result
 /// a refusal the string is as it was. Linear in the bytes of both, with no allocation but the
 /// string's own growth.
 pub fn resolve(base: &str, reference: &str, resolved: &mut String) -> Result<(), Refusal>
-    ensures value { OnOk result (string_bytes resolved.new ≡ string_bytes resolved.old ++ resolved_text base.now reference.now) }
+    ensures value { OnOk result (Appends resolved.old resolved.new (resolved_text base.now reference.now)) }
     ensures refused { Reports base.now reference.now result }
     ensures kept { OnErr result (string_bytes resolved.new ≡ string_bytes resolved.old) }
 {

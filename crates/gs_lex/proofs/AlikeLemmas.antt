@@ -1,7 +1,7 @@
 -- Characters between two neighbouring boundaries are alike in every test.
 use Rattle.std.proofs.Common.{◌≡◌, ℕ, suc, ◌<◌, ◌≤◌, Bool, true, false, cond, List, [], ◌∷◌, refl, sym, ap, ◌∙◌, subst, arith}
 use Rattle.std.proofs.lemmas.Bool.Decides.{nat_tests}
-use Rattle.std.proofs.lemmas.Bool.{eqb-true}
+use Rattle.std.proofs.lemmas.Bool.{eqb-true, and_parts}
 use Rattle.std.specs.Prelude.{◌==◌, ◌&&◌, ◌||◌, ◌⊎◌, nat_le, nat_lt, not}
 use Rattle.std.proofs.Common.{inl, inr}
 use Rattle.gs_model.specs.Characters.{Range, in_range, in_ranges, pn_chars_base, pn_chars_u, pn_chars, not_in_iris, is_iri_char}
@@ -34,11 +34,6 @@ sample c = last_from later_boundaries c 0
 either : (b c : ℕ) → ((b ≤ c) × (nat_le b c ≡ true)) ⊎ ((c < b) × (nat_le b c ≡ false))
 either b c = grind (arith, nat_tests)
 
-and_both : (x y : Bool) → (x && y) ≡ true → (x ≡ true) × (y ≡ true)
-and_both true true e = (refl, refl)
-and_both true false e = Prim.cc
-and_both false y e = Prim.cc
-
 less : (a b : ℕ) → nat_lt a b ≡ true → a < b
 less a b h = grind (arith, nat_tests)
 
@@ -62,7 +57,7 @@ last_most (b ∷ bs) c best h = elim (either b c) [
 last_least : (bs : List ℕ) (c best : ℕ) → rises best bs ≡ true → best ≤ last_from bs c best
 last_least [] c best h = omega arith
 last_least (b ∷ bs) c best h =
-    let r = and_both (nat_lt best b) (rises b bs) h in
+    let r = and_parts (nat_lt best b) (rises b bs) h in
     let l = less best b r.0 in
     elim (either b c) [
       | inl p ↦ subst (λ t. best ≤ cond t (last_from bs c b) best) (sym p.1) (let k = last_least bs c b r.1 in omega (arith, l, k))
@@ -70,9 +65,9 @@ last_least (b ∷ bs) c best h =
     ]
 
 above : (x best : ℕ) (bs : List ℕ) → rises best bs ≡ true → In x bs → best < x
-above x best _ h (here {xs = xs}) = less best x (and_both (nat_lt best x) (rises x xs) h).0
+above x best _ h (here {xs = xs}) = less best x (and_parts (nat_lt best x) (rises x xs) h).0
 above x best _ h (there {y = y} {xs = xs} i) =
-    let r = and_both (nat_lt best y) (rises y xs) h in
+    let r = and_parts (nat_lt best y) (rises y xs) h in
     let l = less best y r.0 in
     let k = above x y xs r.1 i in
     omega (arith, l, k)
@@ -85,7 +80,7 @@ last_up : (c x best : ℕ) (bs : List ℕ) → rises best bs ≡ true → In x (
 last_up c x _ bs h here k = last_least bs c x h
 last_up c x best [] h (there i) k = elim i [ ]
 last_up c x best (b ∷ bs) h (there i) k =
-    let r = and_both (nat_lt best b) (rises b bs) h in
+    let r = and_parts (nat_lt best b) (rises b bs) h in
     elim (either b c) [
       | inl p ↦ subst (λ t. x ≤ cond t (last_from bs c b) best) (sym p.1) (last_up c x b bs r.1 i k)
       | inr p ↦ let l = above_least x b bs r.1 i in absurd (omega (arith, l, p.0, k))
@@ -134,12 +129,12 @@ ge-alike c d n h m = le_not c n ∙ ap not (le-alike c d (suc n) h m) ∙ sym (l
 
 pub eq-alike : (c d n : ℕ) → Alike c d → (member n boundaries && member (suc n) boundaries) ≡ true → (c == n) ≡ (d == n)
 eq-alike c d n h m =
-    let p = and_both (member n boundaries) (member (suc n) boundaries) m in
+    let p = and_parts (member n boundaries) (member (suc n) boundaries) m in
     eq_not c n ∙ ap (λ t. t && not (nat_le (suc n) c)) (le-alike c d n h p.0) ∙ ap (λ t. nat_le n d && not t) (le-alike c d (suc n) h p.1) ∙ sym (eq_not d n)
 
 pub range-alike : (c d a b : ℕ) → Alike c d → (member a boundaries && member (suc b) boundaries) ≡ true → (nat_le a c && nat_le c b) ≡ (nat_le a d && nat_le d b)
 range-alike c d a b h m =
-    let p = and_both (member a boundaries) (member (suc b) boundaries) m in
+    let p = and_parts (member a boundaries) (member (suc b) boundaries) m in
     ap (λ t. t && nat_le c b) (le-alike c d a h p.0) ∙ ap (λ t. nat_le a d && t) (ge-alike c d b h p.1)
 
 abbrev pub bounded : List Range → Bool
@@ -149,7 +144,7 @@ bounded (r ∷ rs) = (member r.0 boundaries && member (suc r.1) boundaries) && b
 pub ranges-alike : (c d : ℕ) (rs : List Range) → Alike c d → bounded rs ≡ true → in_ranges rs c ≡ in_ranges rs d
 ranges-alike c d [] h m = refl
 ranges-alike c d (r ∷ rs) h m =
-    let p = and_both (member r.0 boundaries && member (suc r.1) boundaries) (bounded rs) m in
+    let p = and_parts (member r.0 boundaries && member (suc r.1) boundaries) (bounded rs) m in
     ap (λ t. t || in_ranges rs c) (range-alike c d r.0 r.1 h p.0) ∙ ap (λ t. in_range r d || t) (ranges-alike c d rs h p.1)
 
 pub is_line_end-alike : (c d : ℕ) → Alike c d → is.is_line_end c ≡ is.is_line_end d

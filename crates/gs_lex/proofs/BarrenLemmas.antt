@@ -1,4 +1,6 @@
 -- What a scan that went on from a word in vain tells of the words after it.
+use Rattle.std.proofs.Math.Seq.{drop-append_seam}
+use Rattle.std.proofs.lemmas.Bool.{and_parts}
 use Rattle.std.proofs.Common.{◌≡◌, ◌≢◌, ℕ, ◌-◌, ◌<◌, ◌≤◌, max, Bool, true, false, cond, List, [], ◌∷◌, ◌++◌, refl, sym, ap, ◌∙◌, arith, subst, append_assoc, length, length-append, Option, Some, None, take, drop, encode_utf8_all, ◌⊎◌, inl, inr}
 use Rattle.std.proofs.Math.ListN.{take-append-drop}
 use Rattle.std.proofs.lemmas.Str.{encodes-append}
@@ -9,7 +11,7 @@ use lib.Utf8.{scalar}
 use Rattle.gs_lex.specs.Automata.{Found, run, run_from, kind_at, longest}
 use Rattle.gs_lex.specs.Classes.{is_name}
 use Rattle.gs_lex.specs.States.{tokens, next, start_of, accepts}
-use Rattle.gs_lex.specs.Scans.{MayFollow, IsBest, IsScanned, IsBarren, IsBarrenTo}
+use Rattle.gs_lex.specs.Scans.{MayBecome, IsBest, IsScanned, IsBarren, IsBarrenTo}
 use Rattle.gs_lex.specs.Readings.{IsRead, first_of}
 use Rattle.gs_lex.specs.declared.kinds.Terminal.{Terminal}
 use Rattle.gs_lex.specs.declared.kinds.Terminal.TheVariants as kind
@@ -19,8 +21,9 @@ use Rattle.gs_lex.specs.declared.states.Mark.TheVariants as mark
 use Rattle.gs_lex.specs.declared.scans.Scan.{Scan}
 use Rattle.gs_lex.specs.declared.steps.Reading.{Reading}
 use Rattle.gs_lex.proofs.AutomatonLemmas.{run-append, none-stays, Best, best, IsSplit, longest-split}
-use Rattle.gs_lex.proofs.ScanLemmas.{scan-fresh, and_both, both_and}
-use Rattle.gs_lex.proofs.LongestLemmas.{within, beyond, compare, scalars-front, IsAll, some_bytes, drop_front}
+use Rattle.gs_lex.proofs.ScanLemmas.{scan-fresh, both_and}
+use Rattle.gs_lex.proofs.BecomeLemmas.{becomes-before, becomes-after, becomes-more, becomes-open}
+use Rattle.gs_lex.proofs.LongestLemmas.{within, beyond, compare, scalars-front, scalars-back, IsAll, some_bytes}
 
 some_list : (c : ℕ) (v : List ℕ) → c ∷ v ≢ []
 some_list c v e = Prim.cc e
@@ -165,7 +168,7 @@ kind_some u (Some p) t e = (p, (refl, e))
 pub scalars-join : (v d : List ℕ) → all_scalars v ≡ true → all_scalars d ≡ true → all_scalars (v ++ d) ≡ true
 scalars-join [] d h k = k
 scalars-join (c ∷ v) d h k =
-    let b = and_both (scalar c) (all_scalars v) h in
+    let b = and_parts (scalar c) (all_scalars v) h in
     both_and (scalar c) (all_scalars (v ++ d)) b.0 (scalars-join v d b.1 k)
 
 -- from after some of the characters that were read after a word
@@ -199,37 +202,41 @@ beyond_long v r c d p l =
 
 word_case : (is_end u : Bool) (x cs after : List ℕ) (n len : ℕ) (q : State) (f : Found Terminal ℕ) → x ≡ encode_utf8_all cs ++ after → len ≡ length (encode_utf8_all cs) → all_scalars cs ≡ true
     → run (tokens u) cs ≡ Some q → IsSplit cs f → Best (tokens u) (Some (start_of u)) cs f → IsBest f (Some kind.Word) n
-    → ((y : List ℕ) → MayFollow is_end y → IsAll u cs (after ++ y)) → IsBarrenTo is_end u (drop n x) (len - n)
+    → ((y : List ℕ) → MayBecome is_end after y → IsAll u cs y) → IsBarrenTo is_end u (drop n x) (len - n)
 word_case is_end u x cs after n len q None p k g s i b e a = Prim.cc e
-word_case is_end u x cs after n len q (Some t) p k g s i b e a = λ y v z m t_p v_g v_n v_l.
+word_case is_end u x cs after n len q (Some t) p k g s i b e a = λ whole v z m t_p v_g v_n v_l.
     let word : kind.Word ≡ t.0 = Prim.cc (e.0) in
     let front = encode_utf8_all t.1 in
     let back = encode_utf8_all t.2 ++ after in
     let chars : encode_utf8_all cs ≡ front ++ encode_utf8_all t.2 = ap encode_utf8_all i.parts ∙ encodes-append t.1 t.2 in
     let parts : x ≡ front ++ back = p ∙ ap (λ r. r ++ after) chars ∙ append_assoc front (encode_utf8_all t.2) after in
-    let behind : drop n x ≡ back = ap (λ r. drop r x) e.1 ∙ ap (drop (length front)) parts ∙ drop_front front back in
-    let text : encode_utf8_all v ++ z ≡ encode_utf8_all t.2 ++ (after ++ y) = sym t_p ∙ ap (λ r. r ++ y) behind ∙ append_assoc (encode_utf8_all t.2) after y in
+    let left : drop n x ≡ back = ap (λ r. drop r x) e.1 ∙ ap (drop (length front)) parts ∙ drop-append_seam front back in
+    let g2 : all_scalars t.2 ≡ true = scalars-back t.1 t.2 (ap all_scalars (sym i.parts) ∙ g) in
+    let on = becomes-after is_end (encode_utf8_all t.2) after whole (t.2, (g2, refl)) (subst (λ r. MayBecome is_end r whole) left m) in
+    let y = on.rest in
+    let text : encode_utf8_all v ++ z ≡ encode_utf8_all t.2 ++ y = sym t_p ∙ on.text in
     let room : length (encode_utf8_all v) ≤ length (encode_utf8_all t.2) = omega (arith, v_l, k, e.1, ap length chars, length-append front (encode_utf8_all t.2)) in
-    elim (compare v t.2 z (after ++ y) text) [
-      | within d w ↦ word_barren u cs t.1 v d z (after ++ y) q (i.parts ∙ ap (λ r. t.1 ++ r) w ∙ sym (append_assoc t.1 v d)) v_n g s (b.0 ∙ ap Some (sym word)) b.1 (a y m)
-          (ap (λ r. r ++ (after ++ y)) chars ∙ append_assoc front (encode_utf8_all t.2) (after ++ y) ∙ ap (λ r. front ++ r) (sym text)
+    elim (compare v t.2 z y text) [
+      | within d w ↦ word_barren u cs t.1 v d z y q (i.parts ∙ ap (λ r. t.1 ++ r) w ∙ sym (append_assoc t.1 v d)) v_n g s (b.0 ∙ ap Some (sym word)) b.1 (a y on.becomes)
+          (ap (λ r. r ++ y) chars ∙ append_assoc front (encode_utf8_all t.2) y ∙ ap (λ r. front ++ r) (sym text)
           ∙ sym (append_assoc front (encode_utf8_all v) z) ∙ ap (λ r. r ++ z) (sym (encodes-append t.1 v)))
       | beyond c d w o ↦ absurd (beyond_long v t.2 c d w room)
     ]
 
 -- after a word that ends before the scan, all that was read is barren
-pub barren-word : (is_end u : Bool) (x : List ℕ) (s : Scan) → (h : IsScanned u x s) → s.best ≡ Some kind.Word → ((y : List ℕ) → MayFollow is_end y → IsAll u h.chars (h.after ++ y))
+pub barren-word : (is_end u : Bool) (x : List ℕ) (s : Scan) → (h : IsScanned u x s) → s.best ≡ Some kind.Word → ((y : List ℕ) → MayBecome is_end h.after y → IsAll u h.chars y)
     → IsBarrenTo is_end u (drop s.best_len x) (s.len - s.best_len)
 barren-word is_end u x s h e a =
     word_case is_end u x h.chars h.after s.best_len s.len s.state (longest (tokens u) h.chars) h.parts h.count h.characters h.stands (longest-split (tokens u) (Some (start_of u)) h.chars)
     (best (tokens u) (Some (start_of u)) h.chars) (subst (λ z. IsBest (longest (tokens u) h.chars) z s.best_len) e h.is_best) a
 
 -- after a token, what was barren is so
-pub barren-behind : (is_end u : Bool) (x : List ℕ) (n b : ℕ) (w : List ℕ) → take n x ≡ encode_utf8_all w → all_scalars w ≡ true → n ≤ length x → IsBarrenTo is_end u x b → IsBarrenTo is_end u (drop n x) (b - n)
-barren-behind is_end u x n b w t k l h = λ y v z m p g e i.
+pub barren-after : (is_end u : Bool) (x : List ℕ) (n b : ℕ) (w : List ℕ) → take n x ≡ encode_utf8_all w → all_scalars w ≡ true → n ≤ length x → IsBarrenTo is_end u x b → IsBarrenTo is_end u (drop n x) (b - n)
+barren-after is_end u x n b w t k l h = λ y v z m p g e i.
     let size : n ≡ length (encode_utf8_all w) = sym (length-take-le n x l) ∙ ap length t in
-    h y (w ++ v) z m
-    (ap (λ r. r ++ y) (sym (take-append-drop n x)) ∙ append_assoc (take n x) (drop n x) y ∙ ap (λ r. r ++ (drop n x ++ y)) t ∙ ap (λ r. encode_utf8_all w ++ r) p
+    h (take n x ++ y) (w ++ v) z
+    (subst (λ r. MayBecome is_end r (take n x ++ y)) (take-append-drop n x) (becomes-before is_end (take n x) (drop n x) y (w, (k, sym t)) m))
+    (ap (λ r. r ++ y) t ∙ ap (λ r. encode_utf8_all w ++ r) p
     ∙ sym (append_assoc (encode_utf8_all w) (encode_utf8_all v) z) ∙ ap (λ r. r ++ z) (sym (encodes-append w v)))
     (scalars-join w v k g)
     (λ r. let none : length (w ++ v) ≡ 0 = ap length r in omega (arith, none, length-append w v, some_length v e))
@@ -244,9 +251,6 @@ barren-max is_end u x a b h k = λ y v z m p g e l. elim (at_most (length (encod
 pub barren-none : (is_end u : Bool) (x : List ℕ) → IsBarrenTo is_end u x 0
 barren-none is_end u x = λ y v z m p g e l. absurd (omega (arith, l, some_bytes_of v e))
 
-pub no_end : (y : List ℕ) → MayFollow false y
-no_end y e = Prim.cc e
-
 -- as the text goes on, and at its end
 pub read-more : (r : Reading) (x y : List ℕ) → IsRead false r x → IsRead false r (x ++ y)
 read-more r x y h = record {
@@ -259,11 +263,11 @@ read-more r x y h = record {
     stands = h.scanned.stands;
     is_best = h.scanned.is_best;
   };
-  barren = λ z v w m p. h.barren (y ++ z) v w (no_end (y ++ z)) (sym (append_assoc x y z) ∙ p);
+  barren = λ z v w m. h.barren z v w (becomes-more x y z m);
 }
 
 pub read-end : (r : Reading) (x : List ℕ) → IsRead false r x → IsRead true r x
-read-end r x h = record { scanned = h.scanned; barren = λ y v z m. h.barren y v z (no_end y) }
+read-end r x h = record { scanned = h.scanned; barren = λ y v z m. h.barren y v z (becomes-open x y m) }
 
 pub read-fresh : (u : Bool) (x : List ℕ) → IsRead false (first_of u) x
 read-fresh u x = record { scanned = scan-fresh u x; barren = barren-none false u x }

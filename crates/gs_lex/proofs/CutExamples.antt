@@ -5,7 +5,7 @@ use lib.Utf8.{encode}
 use Rattle.gs_machine.specs.Machines.{rest}
 use Rattle.gs_machine.specs.Utf8.{symbols}
 use Rattle.gs_lex.specs.Cuts.{parted, cut_of}
-use Rattle.gs_lex.specs.Tokens.{Whole, Fault}
+use Rattle.gs_lex.specs.Tokens.{AtEnd, AtFault}
 use Rattle.gs_lex.specs.declared.kinds.TokenKind.TheVariants as kind
 
 -- an IRI, the word `a`, a string with its language, and the dot
@@ -16,7 +16,7 @@ triple : cut_of false (codes "<a> a \"b\"@en .") ≡ (
       ∷ record { kind = kind.LangTag; text = codes "@en"; start = 9; «end» = 12 }
       ∷ record { kind = kind.Dot; text = []; start = 13; «end» = 14 }
       ∷ [],
-  Whole,
+  AtEnd,
 )
 unfolding parted symbols rest encode
 triple = refl
@@ -26,7 +26,7 @@ words : cut_of false (codes "a.b") ≡ (
   record { kind = kind.A; text = []; start = 0; «end» = 1 }
       ∷ record { kind = kind.Dot; text = []; start = 1; «end» = 2 }
       ∷ [],
-  Fault 2,
+  AtFault 2,
 )
 unfolding parted symbols rest encode
 words = refl

@@ -1,6 +1,6 @@
 -- Each text has a cut, which is read off its characters.
 use Rattle.std.proofs.Common.{◌≡◌, ◌≢◌, ℕ, zero, suc, ◌<◌, ◌≤◌, Bool, true, false, List, [], ◌∷◌, ◌++◌, refl, sym, ap, ◌∙◌, arith, inl, subst, append_assoc, length, length-append, Option, Some, None, encode_utf8, encode_utf8_all, eq-eqb, if◌then◌else◌}
-use Rattle.std.proofs.lemmas.Bool.{eqb-true}
+use Rattle.std.proofs.lemmas.Bool.{eqb-true, and_parts}
 use Rattle.std.proofs.lemmas.Bool.Decides.{nat_tests}
 use Rattle.std.proofs.lemmas.Str.{encode_same, len_utf8_bounds, length-encode}
 use Rattle.std.proofs.str.Laws.{one}
@@ -11,13 +11,14 @@ use lib.Utf8.{scalar}
 use Rattle.gs_machine.specs.Utf8.{bad, Spells, nothing, char, fault, symbols}
 use Rattle.gs_machine.proofs.Encodings.{scalar_from}
 use Rattle.gs_machine.proofs.Utf8Lemmas.{spelt}
+use Rattle.gs_lex.proofs.BecomeLemmas.{becomes-on, no_end}
 use Rattle.gs_lex.specs.Automata.{Found, run_from, kind_at, Accepts, longest}
 use Rattle.gs_lex.specs.Classes.{is_ws, is_line_end}
 use Rattle.gs_lex.specs.Cuts.{Parted, parted, from_kind, from_found, cut_from}
 use Rattle.gs_lex.specs.Lexers.{Leads}
 use Rattle.gs_lex.specs.Readings.{BeginsToken, mode_of}
 use Rattle.gs_lex.specs.States.{tokens, next, start_of}
-use Rattle.gs_lex.specs.Tokens.{Cut, Mode, Between, InComment, Ending, Lexeme, Longest, NoTerminal, EndsLine, IsCut, behind, kind_of, ended, space, hash, comment, line_end, bad_comment, token, no_kind, no_token}
+use Rattle.gs_lex.specs.Tokens.{Cut, Mode, Between, InComment, CutEnd, Lexeme, Longest, NoTerminal, EndsLine, IsCut, place_after, kind_of, ended, space, hash, comment, line_end, bad_comment, token, no_kind, no_token}
 use Rattle.gs_lex.specs.declared.kinds.TokenKind.{TokenKind}
 use Rattle.gs_lex.specs.declared.kinds.Terminal.{Terminal}
 use Rattle.gs_lex.specs.declared.lexers.Lexer.{Lexer}
@@ -27,7 +28,7 @@ use Rattle.gs_lex.specs.declared.states.Mark.TheVariants as mark
 use Rattle.gs_lex.specs.declared.states.Text.TheVariants as text
 use Rattle.gs_lex.proofs.AutomatonLemmas.{Best, best, IsSplit, longest-split, nonempty, shorter}
 use Rattle.gs_lex.proofs.LongestLemmas.{no_start}
-use Rattle.gs_lex.proofs.ScanLemmas.{and_both, both_and}
+use Rattle.gs_lex.proofs.ScanLemmas.{both_and}
 use Rattle.gs_lex.proofs.TerminalLemmas.{accepted-terminal, terminal-accepted}
 
 -- no token ends with bytes that are no character
@@ -99,9 +100,9 @@ front_spelt [] s x cs h e g = (cs, refl)
 front_spelt (c ∷ v) s _ _ nothing e g = absurd (no_encode c (encode_utf8_all v ++ s) (e ∙ append_assoc (encode_utf8 c) (encode_utf8_all v) s))
 front_spelt (c ∷ v) s x _ (char d o cs j p h) e g =
     let k = encode_same d c o (encode_utf8_all v ++ s) (sym p ∙ e ∙ append_assoc (encode_utf8 c) (encode_utf8_all v) s) in
-    let r = front_spelt v s o cs h k.1 (and_both (scalar c) (all_scalars v) g).1 in
+    let r = front_spelt v s o cs h k.1 (and_parts (scalar c) (all_scalars v) g).1 in
     (r.0, ap (λ z. z ∷ cs) k.0 ∙ ap (λ z. c ∷ z) r.1)
-front_spelt (c ∷ v) s x _ (fault n j) e g = absurd (j c (encode_utf8_all v ++ s) (and_both (scalar c) (all_scalars v) g).0 (e ∙ append_assoc (encode_utf8 c) (encode_utf8_all v) s))
+front_spelt (c ∷ v) s x _ (fault n j) e g = absurd (j c (encode_utf8_all v ++ s) (and_parts (scalar c) (all_scalars v) g).0 (e ∙ append_assoc (encode_utf8 c) (encode_utf8_all v) s))
 
 none_at : (u : Bool) (cs : List ℕ) → Best (tokens u) (Some (start_of u)) cs None → (t : Terminal) (v d : List ℕ) → cs ≡ v ++ d → Accepts (tokens u) t v → ⊥
 none_at u cs b t [] d p a = no_start u t a
@@ -126,7 +127,7 @@ IsParted u m n l x p = Cut u m n l x p.0 p.1
 
 -- after the longest token, whether it has a kind or not
 kind_parted : (u : Bool) (n l : ℕ) (x : List ℕ) (t : Terminal) (w r cs : List ℕ) (go : ℕ → List ℕ → Parted) (k : Option TokenKind) → Longest u x t w r → kind_of u t (encode_utf8_all w) ≡ k
-    → IsParted u Between (behind n (length (encode_utf8_all w))) (behind n (length (encode_utf8_all w))) r (go (behind n (length (encode_utf8_all w))) cs)
+    → IsParted u Between (place_after n (length (encode_utf8_all w))) (place_after n (length (encode_utf8_all w))) r (go (place_after n (length (encode_utf8_all w))) cs)
     → IsParted u Between n l x (from_kind go n l (encode_utf8_all w) cs k)
 kind_parted u n l x t w r cs go None g e d = no_kind t w r g e
 kind_parted u n l x t w r cs go (Some k) g e d = token t w r k g e d
@@ -137,7 +138,7 @@ found_parted : (u : Bool) (n l : ℕ) (x cs : List ℕ) (go : ℕ → List ℕ �
 found_parted u n l x cs go None h s b t d = no_token t.first t.others t.parts t.no_space t.no_hash (found_none u x cs h b)
 found_parted u n l x cs go (Some t) h s b i d =
     let k = accepted_spelt u (Some (start_of u)) t.0 t.1 t.2 x cs h s.parts b.0 in
-    let place = behind n (length (encode_utf8_all t.1)) in
+    let place = place_after n (length (encode_utf8_all t.1)) in
     kind_parted u n l x t.0 t.1 k.rest t.2 go (kind_of u t.0 (encode_utf8_all t.1)) (found_longest u x cs t h b k) refl (d place k.rest t.2 k.spells (shorter s))
 
 space_low : (c : ℕ) → is_ws c ≡ true → c < 128
@@ -179,7 +180,7 @@ no_scalar : (c : ℕ) → IsScalar c → (c == bad) ≡ true → ⊥
 no_scalar c k e = let h : IsScalar bad = subst IsScalar (eqb-true c bad e) k in Prim.cc h
 
 -- after the end of a comment's line
-line_parted : (u : Bool) (n l : ℕ) (x : List ℕ) (c : ℕ) (o : List ℕ) (p : Parted) → x ≡ encode_utf8 c ++ o → is_line_end c ≡ true → IsParted u Between (behind n 1) l o p → IsParted u InComment n l x p
+line_parted : (u : Bool) (n l : ℕ) (x : List ℕ) (c : ℕ) (o : List ℕ) (p : Parted) → x ≡ encode_utf8 c ++ o → is_line_end c ≡ true → IsParted u Between (place_after n 1) l o p → IsParted u InComment n l x p
 line_parted u n l x c o p e t d =
     let q : x ≡ c ∷ o = e ∙ ap (λ z. z ++ o) (one c (end_low c t)) in
     line_end (subst EndsLine (sym q) t) (space c o q (end_space c t) d)
@@ -201,15 +202,15 @@ parted-cut (suc f) u InComment n l x _ (fault k j) h = bad_comment k j
 parted-cut (suc f) u InComment n l x _ (char c o cs s e q) h =
     let P = IsParted u InComment n l x in
     by_test P (c == bad) _ _ (λ t. absurd (no_scalar c s t)) (λ _.
-    by_test P (is_line_end c) _ _ (λ t. line_parted u n l x c o _ e t (parted-cut f u Between (behind n 1) l o cs q (omega (arith, h)))) (λ t.
-    comment c o e s t (parted-cut f u InComment (behind n (length (encode_utf8 c))) l o cs q (omega (arith, h)))))
+    by_test P (is_line_end c) _ _ (λ t. line_parted u n l x c o _ e t (parted-cut f u Between (place_after n 1) l o cs q (omega (arith, h)))) (λ t.
+    comment c o e s t (parted-cut f u InComment (place_after n (length (encode_utf8 c))) l o cs q (omega (arith, h)))))
 parted-cut (suc f) u Between n l x _ (fault k j) h =
     found_parted u n l x (bad ∷ []) (λ k ds. parted f u Between k k ds) (longest (tokens u) (bad ∷ [])) (fault k j) (longest-split (tokens u) (Some (start_of u)) (bad ∷ [])) (best (tokens u) (Some (start_of u)) (bad ∷ [])) (begins_bad x k j)
     (λ p y ds g i. parted-cut f u Between p p y ds g (omega (arith, h, i)))
 parted-cut (suc f) u Between n l x _ (char c o cs s e q) h =
     let P = IsParted u Between n l x in
-    by_test P (is_ws c) _ _ (λ t. space c o (one_byte x c o e (space_low c t)) t (parted-cut f u Between (behind n 1) l o cs q (omega (arith, h)))) (λ w.
-    by_test P (c == 35) _ _ (λ t. hash o (hash_parts x c o e t) (parted-cut f u InComment (behind n 1) l o cs q (omega (arith, h)))) (λ i.
+    by_test P (is_ws c) _ _ (λ t. space c o (one_byte x c o e (space_low c t)) t (parted-cut f u Between (place_after n 1) l o cs q (omega (arith, h)))) (λ w.
+    by_test P (c == 35) _ _ (λ t. hash o (hash_parts x c o e t) (parted-cut f u InComment (place_after n 1) l o cs q (omega (arith, h)))) (λ i.
     found_parted u n l x (c ∷ cs) (λ k ds. parted f u Between k k ds) (longest (tokens u) (c ∷ cs)) (char c o cs s e q) (longest-split (tokens u) (Some (start_of u)) (c ∷ cs)) (best (tokens u) (Some (start_of u)) (c ∷ cs)) (begins_char x c o e w i)
     (λ p y ds g j. parted-cut f u Between p p y ds g (omega (arith, h, j)))))
 
@@ -218,7 +219,8 @@ pub cut-from : (u : Bool) (m : Mode) (n l : ℕ) (x : List ℕ) → Cut u m n l 
 cut-from u m n l x = parted-cut (length (symbols x)) u m n l x (symbols x) (spelt x) (omega arith)
 
 -- a text that a lexer was fed has a cut, however it goes on, and the tokens given are its first
-pub leads-goes-on : (u : Bool) (l : Lexer) (x : List ℕ) (ts : List Lexeme) → Leads u l x ts → (y : List ℕ) → (us : List Lexeme) × (e : Ending) × IsCut u (x ++ y) (ts ++ us) e
+pub leads-goes-on : (u : Bool) (l : Lexer) (x : List ℕ) (ts : List Lexeme) → Leads u l x ts → (y : List ℕ) → (us : List Lexeme) × (e : CutEnd) × IsCut u (x ++ y) (ts ++ us) e
 leads-goes-on u l x ts h y =
     let p = cut_from l.at.updates (mode_of l.at.in_comment) l.at.place l.at.last (l.held.items ++ y) in
-    (p.0, p.1, h.rest y p.0 p.1 (cut-from l.at.updates (mode_of l.at.in_comment) l.at.place l.at.last (l.held.items ++ y)))
+    let c = h.rest (l.held.items ++ y) p.0 p.1 (becomes-on false l.held.items y (no_end y)) (cut-from l.at.updates (mode_of l.at.in_comment) l.at.place l.at.last (l.held.items ++ y)) in
+    (p.0, p.1, subst (λ z. IsCut u z (ts ++ p.0) p.1) (sym (append_assoc h.before l.held.items y) ∙ ap (λ z. z ++ y) (sym h.parts)) c)

@@ -1,4 +1,5 @@
 -- Derivatives of regular expressions: what may follow a character.
+use Rattle.std.proofs.lemmas.Bool.{and_parts}
 use Rattle.std.proofs.Common.{◌≡◌, ℕ, Bool, true, false, cond, List, [], ◌∷◌, ◌++◌, refl, sym, ap, ◌∙◌, subst}
 use Rattle.std.specs.Prelude.{◌&&◌, ◌||◌}
 use Rattle.gs_lex.specs.Regexes.{Never, Empty, One, Then, Or, Many, Matches, empty, one, both, left, right, stop, more}
@@ -47,11 +48,6 @@ derive holds c (Then r s) = or (then (derive holds c r) s) (cond (nullable r) (d
 derive holds c (Or r s) = or (derive holds c r) (derive holds c s)
 derive holds c (Many r) = then (derive holds c r) (Many r)
 
-and_both : (x y : Bool) → (x && y) ≡ true → (x ≡ true) × (y ≡ true)
-and_both true true e = (refl, refl)
-and_both true false e = Prim.cc
-and_both false y e = Prim.cc
-
 or_true : (x y : Bool) → y ≡ true → (x || y) ≡ true
 or_true true y e = refl
 or_true false y e = e
@@ -69,7 +65,7 @@ pub nullable-right : (h : Chars → ℕ → Bool) (r : Pattern) → nullable r �
 nullable-right h Never e = Prim.cc
 nullable-right h Empty e = empty
 nullable-right h (One s) e = Prim.cc
-nullable-right h (Then r s) e = let b = and_both (nullable r) (nullable s) e in both [] [] refl (nullable-right h r b.0) (nullable-right h s b.1)
+nullable-right h (Then r s) e = let b = and_parts (nullable r) (nullable s) e in both [] [] refl (nullable-right h r b.0) (nullable-right h s b.1)
 nullable-right h (Or r s) e = null_or h r s (nullable-right h r) (nullable-right h s) (nullable r) refl (nullable s) refl e
 nullable-right h (Many r) e = stop
 

@@ -1,6 +1,6 @@
 -- What a piece leads to.
 use Rattle.std.proofs.Common.{◌≡◌, ℕ, Bool, false, List, [], ◌++◌, refl, sym, ap, ◌∙◌, subst, append_assoc, append-nil, drop}
-use Rattle.gs_lex.specs.Tokens.{Ending, Fault, Lexeme, IsCut}
+use Rattle.gs_lex.specs.Tokens.{CutEnd, AtFault, Lexeme, IsCut}
 use Rattle.gs_lex.specs.Readings.{CutFrom, Fails, IsRead, Waits, Went, HasHalted}
 use Rattle.gs_lex.specs.Lexers.{Leads, Feeds, Breaks, Takes}
 use Rattle.gs_lex.specs.declared.lexers.Lexer.{Lexer}
@@ -8,8 +8,10 @@ use Rattle.gs_lex.specs.declared.readings.Halt.{Halt}
 use Rattle.gs_lex.specs.declared.readings.Halt.TheVariants as halt
 use Rattle.gs_lex.specs.declared.steps.Reading.{Reading}
 use Rattle.gs_lex.specs.declared.tokens.Token.{Token}
-use Rattle.gs_lex.proofs.BarrenLemmas.{no_end, read-more}
-use Rattle.gs_lex.proofs.SettledLemmas.{on-settled, on-quietly, goes-on-at}
+use Rattle.gs_lex.specs.Scans.{MayBecome}
+use Rattle.gs_lex.proofs.BecomeLemmas.{no_end, becomes-on, becomes-before, becomes-more}
+use Rattle.gs_lex.proofs.BarrenLemmas.{read-more}
+use Rattle.gs_lex.proofs.SettledLemmas.{settled-at, quiet-at}
 use Rattle.std.proofs.lemmas.Str.{IsUtf8-append}
 
 waiting : (x : List ℕ) (r : Reading) (h : Halt) → (h ≡ halt.Fault → ⊥) → HasHalted false x r h → Waits r.in_comment (drop r.cut x) r.scan
@@ -35,9 +37,7 @@ takes-as l m text r h old new e k a d f g =
       before = w.0.before;
       parts = subst (λ n. drop n x ≡ w.0.before ++ m.held.items) k (w.0.parts ∙ ap (λ z. w.0.before ++ z) (sym d));
       characters = w.0.characters;
-      cut = λ y ts end t.
-          let c : CutFrom r (drop r.cut x ++ y) ts end = subst (λ z. CutFrom r (z ++ y) ts end) d (subst (λ s. CutFrom s (m.held.items ++ y) ts end) a t) in
-          subst (λ n. CutFrom l.at (drop n x ++ y) (w.0.added ++ ts) end) k (w.0.cut y ts end (no_end y) c);
+      cut = λ z ts end b t. w.0.cut z ts end (subst (λ y. MayBecome false y z) d b) (subst (λ s. CutFrom s z ts end) a t);
       fails = λ p. subst (Fails false m.at) (sym d) (failed m.at a (subst (HasHalted false x r) p w.1));
       waits = λ p. subst (λ z. Waits m.at.in_comment z m.at.scan) (sym d) (subst (λ (s : Reading). Waits s.in_comment (drop r.cut x) s.scan) (sym a) (waiting x r h p w.1));
     }
@@ -45,14 +45,21 @@ takes-as l m text r h old new e k a d f g =
 read_piece : (u : Bool) (l m : Lexer) (x piece : List ℕ) (ts : List Lexeme) → Leads u l x ts → m.at ≡ l.at → m.held.items ≡ l.held.items ++ piece → IsRead false m.at m.held.items
 read_piece u l m x piece ts h a d = subst (λ q. IsRead false q m.held.items) (sym a) (subst (IsRead false l.at) (sym d) (read-more l.at l.held.items piece h.read))
 
--- the tokens of the text are those given before, those of the piece, and those of what follows
-cut_piece : (u : Bool) (l m n : Lexer) (x piece : List ℕ) (ts : List Lexeme) (old new : List Token) (k : Halt) → Leads u l x ts → m.at ≡ l.at → m.held.items ≡ l.held.items ++ piece
-    → (t : Takes m n old new k) → (y : List ℕ) (us : List Lexeme) (e : Ending) → CutFrom n.at (n.held.items ++ y) us e → IsCut u ((x ++ piece) ++ y) ((ts ++ t.added) ++ us) e
-cut_piece u l m n x piece ts old new k h a d t y us e c =
-    let all : CutFrom l.at (l.held.items ++ (piece ++ y)) (t.added ++ us) e =
-    subst (λ z. CutFrom l.at z (t.added ++ us) e) (ap (λ z. z ++ y) d ∙ append_assoc l.held.items piece y) (subst (λ q. CutFrom q (m.held.items ++ y) (t.added ++ us) e) a (t.cut y us e c)) in
-    subst (λ z. IsCut u z ((ts ++ t.added) ++ us) e) (sym (append_assoc x piece y))
-    (subst (λ z. IsCut u (x ++ (piece ++ y)) z e) (sym (append_assoc ts t.added us)) (h.rest (piece ++ y) (t.added ++ us) e all))
+-- the tokens of the text are those given before, those of the piece, and those of what becomes of the bytes that are held
+cut_piece : (u : Bool) (l m n : Lexer) (x piece : List ℕ) (ts : List Lexeme) (old new : List Token) (k : Halt) → (h : Leads u l x ts) → m.at ≡ l.at → m.held.items ≡ l.held.items ++ piece
+    → (t : Takes m n old new k) → (z : List ℕ) (us : List Lexeme) (e : CutEnd) → MayBecome false n.held.items z → CutFrom n.at z us e → IsCut u ((h.before ++ t.before) ++ z) ((ts ++ t.added) ++ us) e
+cut_piece u l m n x piece ts old new k h a d t z us e b c =
+    let all : CutFrom l.at (t.before ++ z) (t.added ++ us) e = subst (λ q. CutFrom q (t.before ++ z) (t.added ++ us) e) a (t.cut z us e b c) in
+    let held : MayBecome false l.held.items (t.before ++ z) =
+    becomes-more l.held.items piece (t.before ++ z) (subst (λ y. MayBecome false y (t.before ++ z)) (sym t.parts ∙ d) (becomes-before false t.before n.held.items z t.characters b)) in
+    subst (λ y. IsCut u y ((ts ++ t.added) ++ us) e) (sym (append_assoc h.before t.before z))
+    (subst (λ y. IsCut u (h.before ++ (t.before ++ z)) y e) (sym (append_assoc ts t.added us)) (h.rest (t.before ++ z) (t.added ++ us) e held all))
+
+-- the text up to the end of the piece: what is cut, and what is held
+piece_parts : (u : Bool) (l m n : Lexer) (x piece : List ℕ) (ts : List Lexeme) (old new : List Token) (k : Halt) → (h : Leads u l x ts) → m.held.items ≡ l.held.items ++ piece
+    → (t : Takes m n old new k) → x ++ piece ≡ (h.before ++ t.before) ++ n.held.items
+piece_parts u l m n x piece ts old new k h d t =
+    ap (λ z. z ++ piece) h.parts ∙ append_assoc h.before l.held.items piece ∙ ap (λ z. h.before ++ z) (sym d ∙ t.parts) ∙ sym (append_assoc h.before t.before n.held.items)
 
 pub feeds-as : (u : Bool) (l m n : Lexer) (x piece : List ℕ) (ts : List Lexeme) (old new : List Token) (k : Halt) → Leads u l x ts → m.at ≡ l.at → m.held.items ≡ l.held.items ++ piece
     → n.is_closed ≡ false → (k ≡ halt.Fault → ⊥) → (IsRead false m.at m.held.items → Takes m n old new k) → Feeds u n (x ++ piece) ts old new
@@ -63,7 +70,7 @@ feeds-as u l m n x piece ts old new k h a d o g f =
       reads = t.reads ∙ ap (λ (q : Reading). q.updates) a ∙ h.reads;
       read = t.read;
       before = h.before ++ t.before;
-      parts = ap (λ z. z ++ piece) h.parts ∙ append_assoc h.before l.held.items piece ∙ ap (λ z. h.before ++ z) (sym d ∙ t.parts) ∙ sym (append_assoc h.before t.before n.held.items);
+      parts = piece_parts u l m n x piece ts old new k h d t;
       characters = IsUtf8-append h.before t.before h.characters t.characters;
       rest = cut_piece u l m n x piece ts old new k h a d t;
     } in
@@ -71,8 +78,8 @@ feeds-as u l m n x piece ts old new k h a d o g f =
       added = t.added;
       given = t.given;
       leads = leads;
-      settled = λ i. on-settled u (x ++ piece) (ts ++ t.added) (goes-on-at u n (x ++ piece) (ts ++ t.added) leads (t.waits g) i);
-      quiet = λ i. on-quietly u (x ++ piece) (ts ++ t.added) (goes-on-at u n (x ++ piece) (ts ++ t.added) leads (t.waits g) i);
+      settled = λ front i. settled-at u n (x ++ piece) front (ts ++ t.added) leads (t.waits g) i;
+      quiet = λ front i. quiet-at u n (x ++ piece) front (ts ++ t.added) leads (t.waits g) i;
     }
 
 pub breaks-as : (u : Bool) (l m n : Lexer) (x piece : List ℕ) (ts : List Lexeme) (old new : List Token) (k : Halt) → Leads u l x ts → m.at ≡ l.at → m.held.items ≡ l.held.items ++ piece
@@ -82,6 +89,10 @@ breaks-as u l m n x piece ts old new k h a d p f =
     record {
       added = t.added;
       given = t.given;
-      fault = λ y. subst (λ z. IsCut u ((x ++ piece) ++ y) z (Fault n.at.last)) (append-nil (ts ++ t.added))
-          (cut_piece u l m n x piece ts old new k h a d t y [] (Fault n.at.last) ((t.fails p).cut y (no_end y)));
+      fault = λ y.
+          let text : (h.before ++ t.before) ++ (n.held.items ++ y) ≡ (x ++ piece) ++ y =
+          sym (append_assoc (h.before ++ t.before) n.held.items y) ∙ ap (λ z. z ++ y) (sym (piece_parts u l m n x piece ts old new k h d t)) in
+          subst (λ z. IsCut u z (ts ++ t.added) (AtFault n.at.last)) text
+          (subst (λ z. IsCut u ((h.before ++ t.before) ++ (n.held.items ++ y)) z (AtFault n.at.last)) (append-nil (ts ++ t.added))
+          (cut_piece u l m n x piece ts old new k h a d t (n.held.items ++ y) [] (AtFault n.at.last) (becomes-on false n.held.items y (no_end y)) ((t.fails p).cut y (no_end y))));
     }

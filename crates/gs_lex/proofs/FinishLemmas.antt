@@ -1,7 +1,7 @@
 -- How a text ends.
-use Rattle.std.proofs.Common.{◌≡◌, ℕ, Bool, true, false, List, [], ◌++◌, refl, sym, ap, subst, append-nil, drop}
+use Rattle.std.proofs.Common.{◌≡◌, ℕ, Bool, true, false, List, [], ◌++◌, refl, sym, ap, ◌∙◌, subst, append-nil, drop}
 use Rattle.std.proofs.lemmas.Str.{IsUtf8-nil}
-use Rattle.gs_lex.specs.Tokens.{Ending, Whole, Fault, Lexeme, IsCut}
+use Rattle.gs_lex.specs.Tokens.{CutEnd, AtEnd, AtFault, Lexeme, IsCut}
 use Rattle.gs_lex.specs.Readings.{CutFrom, Fails, IsRead, Went, HasHalted, first_of}
 use Rattle.gs_lex.specs.Lexers.{Leads, Finishes}
 use Rattle.gs_lex.specs.declared.lexers.Lexer.{Lexer}
@@ -9,30 +9,36 @@ use Rattle.gs_lex.specs.declared.readings.Halt.{Halt}
 use Rattle.gs_lex.specs.declared.readings.Halt.TheVariants as halt
 use Rattle.gs_lex.specs.declared.steps.Reading.{Reading}
 use Rattle.gs_lex.specs.declared.tokens.Token.{Token}
+use Rattle.gs_lex.specs.Scans.{MayBecome}
+use Rattle.gs_lex.proofs.BecomeLemmas.{becomes-self}
 use Rattle.gs_lex.proofs.BarrenLemmas.{read-end, read-fresh}
 
 -- what is held is read from its start
 pub held-read : (u : Bool) (l : Lexer) (x : List ℕ) (ts : List Lexeme) → Leads u l x ts → l.at.cut ≡ 0 → IsRead true l.at (drop l.at.cut l.held.items)
 held-read u l x ts h k = subst (λ n. IsRead true l.at (drop n l.held.items)) (sym k) (read-end l.at l.held.items h.read)
 
-pub finish-as : (u : Bool) (l : Lexer) (x : List ℕ) (ts : List Lexeme) (r : Reading) (old new : List Token) (e : Ending) → Leads u l x ts → l.at.cut ≡ 0
+pub finish-as : (u : Bool) (l : Lexer) (x : List ℕ) (ts : List Lexeme) (r : Reading) (old new : List Token) (e : CutEnd) → Leads u l x ts → l.at.cut ≡ 0
     → Went true l.held.items l.at r old new → CutFrom r (drop r.cut l.held.items) [] e → Finishes u x ts e old new
 finish-as u l x ts r old new e h k w f =
-    let t : CutFrom l.at (drop l.at.cut l.held.items ++ []) (w.added ++ []) e = w.cut [] [] e (λ _. refl) (subst (λ z. CutFrom r z [] e) (sym (append-nil (drop r.cut l.held.items))) f) in
-    let c : CutFrom l.at (l.held.items ++ []) (w.added ++ []) e = subst (λ n. CutFrom l.at (drop n l.held.items ++ []) (w.added ++ []) e) k t in
+    let rest = drop r.cut l.held.items in
+    let t : CutFrom l.at (w.before ++ rest) (w.added ++ []) e = w.cut rest [] e (becomes-self true rest) f in
+    let whole : l.held.items ≡ w.before ++ rest = subst (λ n. drop n l.held.items ≡ w.before ++ rest) k w.parts in
+    let text : h.before ++ (w.before ++ rest) ≡ x = ap (λ z. h.before ++ z) (sym whole) ∙ sym h.parts in
+    let c : IsCut u (h.before ++ (w.before ++ rest)) (ts ++ (w.added ++ [])) e =
+    h.rest (w.before ++ rest) (w.added ++ []) e (subst (λ z. MayBecome false l.held.items z) whole (becomes-self false l.held.items)) t in
     record {
       added = w.added;
       given = w.given;
-      cut = subst (λ z. IsCut u x (ts ++ z) e) (append-nil w.added) (subst (λ z. IsCut u z (ts ++ (w.added ++ [])) e) (append-nil x) (h.rest [] (w.added ++ []) e c));
+      cut = subst (λ z. IsCut u x (ts ++ z) e) (append-nil w.added) (subst (λ z. IsCut u z (ts ++ (w.added ++ [])) e) text c);
     }
 
-pub fails-at : (r : Reading) (x : List ℕ) → Fails true r x → CutFrom r x [] (Fault r.last)
-fails-at r x f = subst (λ z. CutFrom r z [] (Fault r.last)) (append-nil x) (f.cut [] (λ _. refl))
+pub fails-at : (r : Reading) (x : List ℕ) → Fails true r x → CutFrom r x [] (AtFault r.last)
+fails-at r x f = subst (λ z. CutFrom r z [] (AtFault r.last)) (append-nil x) (f.cut [] (λ _. refl))
 
-pub halted-fault : (x : List ℕ) (r : Reading) (h : Halt) → h ≡ halt.Fault → HasHalted true x r h → CutFrom r (drop r.cut x) [] (Fault r.last)
+pub halted-fault : (x : List ℕ) (r : Reading) (h : Halt) → h ≡ halt.Fault → HasHalted true x r h → CutFrom r (drop r.cut x) [] (AtFault r.last)
 halted-fault x r h e k = fails-at r (drop r.cut x) (subst (HasHalted true x r) e k)
 
-pub halted-end : (x : List ℕ) (r : Reading) (h : Halt) → (h ≡ halt.Fault → ⊥) → HasHalted true x r h → CutFrom r (drop r.cut x) [] Whole
+pub halted-end : (x : List ℕ) (r : Reading) (h : Halt) → (h ≡ halt.Fault → ⊥) → HasHalted true x r h → CutFrom r (drop r.cut x) [] AtEnd
 halted-end x r halt.Fault n k = absurd (n refl)
 halted-end x r halt.End n k = k.1
 halted-end x r halt.Wait n k = Prim.cc (k.0)
@@ -54,5 +60,5 @@ leads-fresh u l h k e = record {
   before = [];
   parts = sym k;
   characters = IsUtf8-nil;
-  rest = λ y us end t. subst (λ z. IsCut u (z ++ y) us end) k (subst (λ (r : Reading). CutFrom r (l.held.items ++ y) us end) e t);
+  rest = λ z us end b t. subst (λ (r : Reading). CutFrom r z us end) e t;
 }

@@ -1,3 +1,4 @@
+pub mod BecomeLemmas
 pub mod SymbolLemmas
 pub mod AutomatonLemmas
 pub mod ScanLemmas

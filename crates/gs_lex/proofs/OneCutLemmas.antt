@@ -1,4 +1,5 @@
 -- A text is cut in one way.
+use Rattle.std.proofs.Math.Seq.{drop-append_seam}
 use Rattle.std.proofs.Common.{◌≡◌, ◌≢◌, ℕ, ◌<◌, Bool, true, false, List, [], ◌∷◌, ◌++◌, refl, sym, ap, ◌∙◌, arith, subst, append-nil, length, length-append, Option, Some, None, drop, encode_utf8, encode_utf8_all, ◌⊎◌, inl, inr, append_assoc}
 use Rattle.std.proofs.lemmas.Bool.Decides.{nat_tests}
 use Rattle.std.proofs.lemmas.Str.{encode_same, length-encode, len_utf8_bounds}
@@ -8,7 +9,7 @@ use Rattle.gs_machine.proofs.Encodings.{scalar_from}
 use Rattle.gs_lex.specs.Automata.{Accepts, run, run_from, kind_at}
 use Rattle.gs_lex.specs.Classes.{is_ws, is_line_end}
 use Rattle.gs_lex.specs.States.{tokens, next, start_of}
-use Rattle.gs_lex.specs.Tokens.{Cut, Mode, Between, InComment, Ending, Lexeme, lexeme_at, behind, kind_of, Longest, NoTerminal, EndsLine, ended, space, hash, comment, line_end, bad_comment, token, no_kind, no_token}
+use Rattle.gs_lex.specs.Tokens.{Cut, Mode, Between, InComment, CutEnd, Lexeme, lexeme_at, place_after, kind_of, Longest, NoTerminal, EndsLine, ended, space, hash, comment, line_end, bad_comment, token, no_kind, no_token}
 use Rattle.gs_lex.specs.declared.kinds.Terminal.{Terminal}
 use Rattle.gs_lex.proofs.AutomatonLemmas.{none-stays}
 use Rattle.gs_lex.proofs.LongestLemmas.{Compared, within, beyond, compare, no_start}
@@ -78,10 +79,6 @@ space_hash c e k = let h : is_ws 35 ≡ true = subst (λ z. is_ws z ≡ true) e 
 space_both : (c d : ℕ) → c ≡ d → is_ws c ≡ true → is_ws d ≡ false → ⊥
 space_both c d e k h = Prim.cc (sym k ∙ ap is_ws e ∙ h)
 
-drop_front : (v w : List ℕ) → drop (length v) (v ++ w) ≡ w
-drop_front [] w = refl
-drop_front (c ∷ v) w = drop_front v w
-
 empty_list : (d : List ℕ) → length d ≡ 0 → d ≡ []
 empty_list [] h = refl
 empty_list (c ∷ d) h = absurd (omega arith)
@@ -102,8 +99,8 @@ one_longest : (u : Bool) (x : List ℕ) (t j : Terminal) (w v r s : List ℕ) �
 one_longest u x t j w v r s g h =
     let l : length v ≡ length w = omega (arith, g.most j v s h.parts h.characters h.is_terminal, h.most t w r g.parts g.characters g.is_terminal) in
     let same : w ≡ v = same_chars v w s r l (compare v w s r (sym h.parts ∙ g.parts)) in
-    let back : r ≡ s = sym (drop_front (encode_utf8_all w) r) ∙ ap (drop (length (encode_utf8_all w))) (sym g.parts ∙ h.parts)
-    ∙ ap (λ z. drop (length (encode_utf8_all z)) (encode_utf8_all v ++ s)) same ∙ drop_front (encode_utf8_all v) s in
+    let back : r ≡ s = sym (drop-append_seam (encode_utf8_all w) r) ∙ ap (drop (length (encode_utf8_all w))) (sym g.parts ∙ h.parts)
+    ∙ ap (λ z. drop (length (encode_utf8_all z)) (encode_utf8_all v ++ s)) same ∙ drop-append_seam (encode_utf8_all v) s in
     record {
       terminals = some_same (sym (terminal-accepted u t w g.is_terminal) ∙ ap (λ z. kind_at (tokens u) (run (tokens u) z)) same ∙ terminal-accepted u j v h.is_terminal);
       chars = same;
@@ -129,7 +126,7 @@ bad_ends (b ∷ x) h n k =
     k b x (scalar_from b (inl (omega (arith, low)))) (ap (λ z. z ++ x) (sym (one b low)))
 
 -- a text is cut in one way
-pub cut-one : (u : Bool) (m : Mode) (n l : ℕ) (x : List ℕ) (ts us : List Lexeme) (e f : Ending) → Cut u m n l x ts e → Cut u m n l x us f → (ts ≡ us) × (e ≡ f)
+pub cut-one : (u : Bool) (m : Mode) (n l : ℕ) (x : List ℕ) (ts us : List Lexeme) (e f : CutEnd) → Cut u m n l x ts e → Cut u m n l x us f → (ts ≡ us) × (e ≡ f)
 cut-one u _ n l x _ _ _ _ (ended p) (ended q) = (refl, refl)
 cut-one u _ n l x _ _ _ _ (ended p) (space c r q k d) = absurd (nil_head p q)
 cut-one u _ n l x _ _ _ _ (ended p) (hash r q d) = absurd (nil_head p q)
@@ -138,7 +135,7 @@ cut-one u _ n l x _ _ _ _ (ended p) (no_kind t w r g h) = absurd (no_nil u x t w
 cut-one u _ n l x _ _ _ _ (ended p) (no_token c r q k h i) = absurd (nil_head p q)
 cut-one u _ n l x _ _ _ _ (space c r p k d) (ended q) = absurd (nil_head q p)
 cut-one u _ n l x ts us e f (space c r p k d) (space b s q j g) =
-    cut-one u Between (behind n 1) l r ts us e f d (subst (λ z. Cut u Between (behind n 1) l z us f) (sym (heads p q).1) g)
+    cut-one u Between (place_after n 1) l r ts us e f d (subst (λ z. Cut u Between (place_after n 1) l z us f) (sym (heads p q).1) g)
 cut-one u _ n l x _ _ _ _ (space c r p k d) (hash s q g) = absurd (space_hash c (heads p q).0 k)
 cut-one u _ n l x _ _ _ _ (space c r p k d) (token t w s j g h i) = absurd (no_space u x t w s c r p k g)
 cut-one u _ n l x _ _ _ _ (space c r p k d) (no_kind t w s g h) = absurd (no_space u x t w s c r p k g)
@@ -146,7 +143,7 @@ cut-one u _ n l x _ _ _ _ (space c r p k d) (no_token b s q j h i) = absurd (spa
 cut-one u _ n l x _ _ _ _ (hash r p d) (ended q) = absurd (nil_head q p)
 cut-one u _ n l x _ _ _ _ (hash r p d) (space b s q j g) = absurd (space_hash b (heads q p).0 j)
 cut-one u _ n l x ts us e f (hash r p d) (hash s q g) =
-    cut-one u InComment (behind n 1) l r ts us e f d (subst (λ z. Cut u InComment (behind n 1) l z us f) (sym (heads p q).1) g)
+    cut-one u InComment (place_after n 1) l r ts us e f d (subst (λ z. Cut u InComment (place_after n 1) l z us f) (sym (heads p q).1) g)
 cut-one u _ n l x _ _ _ _ (hash r p d) (token t w s j g h i) = absurd (no_hash u x t w s r p g)
 cut-one u _ n l x _ _ _ _ (hash r p d) (no_kind t w s g h) = absurd (no_hash u x t w s r p g)
 cut-one u _ n l x _ _ _ _ (hash r p d) (no_token b s q j h i) = absurd (h (heads q p).0)
@@ -156,10 +153,10 @@ cut-one u _ n l x _ _ _ _ (token t w r k g h d) (hash s q i) = absurd (no_hash u
 cut-one u _ n l x _ _ e f (token {ts = ts} t w r k g h d) (token {ts = us} j v s b i q a) =
     let o = one_longest u x t j w v r s g i in
     let kinds : k ≡ b = some_same (sym h ∙ ap (λ z. kind_of u z (encode_utf8_all w)) o.terminals ∙ ap (λ z. kind_of u j (encode_utf8_all z)) o.chars ∙ q) in
-    let moved : Cut u Between (behind n (length (encode_utf8_all w))) (behind n (length (encode_utf8_all w))) s us f =
-    subst (λ z. Cut u Between (behind n (length (encode_utf8_all z))) (behind n (length (encode_utf8_all z))) s us f) (sym o.chars) a in
-    let ih = cut-one u Between (behind n (length (encode_utf8_all w))) (behind n (length (encode_utf8_all w))) r ts us e f d
-    (subst (λ z. Cut u Between (behind n (length (encode_utf8_all w))) (behind n (length (encode_utf8_all w))) z us f) (sym o.rests) moved) in
+    let moved : Cut u Between (place_after n (length (encode_utf8_all w))) (place_after n (length (encode_utf8_all w))) s us f =
+    subst (λ z. Cut u Between (place_after n (length (encode_utf8_all z))) (place_after n (length (encode_utf8_all z))) s us f) (sym o.chars) a in
+    let ih = cut-one u Between (place_after n (length (encode_utf8_all w))) (place_after n (length (encode_utf8_all w))) r ts us e f d
+    (subst (λ z. Cut u Between (place_after n (length (encode_utf8_all w))) (place_after n (length (encode_utf8_all w))) z us f) (sym o.rests) moved) in
     (ap (λ z. lexeme_at z n (encode_utf8_all w) ∷ ts) kinds ∙ ap (λ z. lexeme_at b n (encode_utf8_all z) ∷ ts) o.chars ∙ ap (λ z. lexeme_at b n (encode_utf8_all v) ∷ z) ih.0, ih.1)
 cut-one u _ n l x _ _ _ _ (token t w r k g h d) (no_kind j v s i q) =
     let o = one_longest u x t j w v r s g i in
@@ -181,8 +178,8 @@ cut-one u _ n l x _ _ _ _ (no_token c r p k h i) (no_kind t w s g q) = absurd (n
 cut-one u _ n l x _ _ _ _ (no_token c r p k h i) (no_token b s q j g a) = (refl, refl)
 cut-one u _ n l x ts us e f (comment c r p s k d) (comment b o q t j g) =
     let same = encode_same c b r o (sym p ∙ q) in
-    let moved : Cut u InComment (behind n (length (encode_utf8 c))) l o us f = subst (λ z. Cut u InComment (behind n (length (encode_utf8 z))) l o us f) (sym same.0) g in
-    cut-one u InComment (behind n (length (encode_utf8 c))) l r ts us e f d (subst (λ z. Cut u InComment (behind n (length (encode_utf8 c))) l z us f) (sym same.1) moved)
+    let moved : Cut u InComment (place_after n (length (encode_utf8 c))) l o us f = subst (λ z. Cut u InComment (place_after n (length (encode_utf8 z))) l o us f) (sym same.0) g in
+    cut-one u InComment (place_after n (length (encode_utf8 c))) l r ts us e f d (subst (λ z. Cut u InComment (place_after n (length (encode_utf8 c))) l z us f) (sym same.1) moved)
 cut-one u _ n l x _ _ _ _ (comment c r p s k d) (line_end h g) = absurd (comment_ends x c r p k h)
 cut-one u _ n l x _ _ _ _ (comment c r p s k d) (bad_comment i h) = absurd (h c r s p)
 cut-one u _ n l x _ _ _ _ (line_end h d) (comment b o q t j g) = absurd (comment_ends x b o q j h)

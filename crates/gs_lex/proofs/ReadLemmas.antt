@@ -3,14 +3,16 @@ use Rattle.std.proofs.Common.{◌≡◌, ℕ, ◌+◌, ◌-◌, ◌<◌, ◌≤�
 use Rattle.std.proofs.Math.ListN.{take-append-drop}
 use Rattle.std.proofs.lemmas.List.{drop-drop}
 use Rattle.std.proofs.lemmas.Str.{IsUtf8-nil, IsUtf8-append}
-use Rattle.gs_lex.specs.Scans.{IsScanned, IsBarrenTo}
-use Rattle.gs_lex.specs.Tokens.{Cut, Between, lexeme_at, behind}
+use Rattle.std.specs.Str.{IsUtf8}
+use Rattle.gs_lex.specs.Scans.{MayBecome, IsScanned, IsBarrenTo}
+use Rattle.gs_lex.specs.Tokens.{lexeme_at}
 use Rattle.gs_lex.specs.Lexemes.{lexemes_of}
-use Rattle.gs_lex.specs.Readings.{Passes, Gives, CutFrom, IsRead, Went, Grows, IsWithin, passed_of, behind_of, mode_of, bit}
+use Rattle.gs_lex.specs.Readings.{Passes, Gives, CutFrom, IsRead, Went, Grows, IsWithin, passed_of, found_of, bit}
 use Rattle.gs_lex.specs.declared.kinds.TokenKind.{TokenKind}
 use Rattle.gs_lex.specs.declared.scans.Scan.{Scan}
 use Rattle.gs_lex.specs.declared.steps.Reading.{Reading}
 use Rattle.gs_lex.specs.declared.tokens.Token.{Token}
+use Rattle.gs_lex.proofs.BecomeLemmas.{becomes-before}
 use Rattle.gs_lex.proofs.ScanLemmas.{scan-fresh}
 use Rattle.gs_lex.proofs.BarrenLemmas.{barren-none}
 
@@ -23,8 +25,12 @@ parts_more from r x count before l p =
     p ∙ ap (λ z. before ++ z) (sym (take-append-drop count (drop r.cut x)) ∙ ap (λ z. take count (drop r.cut x) ++ z) (drop_more r.cut count x l))
     ∙ sym (append_assoc before (take count (drop r.cut x)) (drop (r.cut + count) x))
 
+-- what becomes of the rest becomes of the text, whose front stays
+becomes-front : (is_end : Bool) (x z : List ℕ) (count : ℕ) → IsUtf8 (take count x) → MayBecome is_end (drop count x) z → MayBecome is_end x (take count x ++ z)
+becomes-front is_end x z count u m = subst (λ y. MayBecome is_end y (take count x ++ z)) (take-append-drop count x) (becomes-before is_end (take count x) (drop count x) z u m)
+
 pub went-nothing : (is_end : Bool) (x : List ℕ) (r : Reading) (old : List Token) → IsRead is_end r (drop r.cut x) → Went is_end x r r old old
-went-nothing is_end x r old h = record { added = []; given = sym (append-nil (lexemes_of old)); before = []; parts = refl; characters = IsUtf8-nil; mode = refl; read = h; cut = λ y ts e m t. t }
+went-nothing is_end x r old h = record { added = []; given = sym (append-nil (lexemes_of old)); before = []; parts = refl; characters = IsUtf8-nil; mode = refl; read = h; cut = λ z ts e m t. t }
 
 pub went-passed : (is_end : Bool) (x : List ℕ) (from r : Reading) (old new : List Token) (count : ℕ) (c : Bool) → r.cut ≤ length x → Went is_end x from r old new
     → Passes is_end r (drop r.cut x) count c → Went is_end x from (passed_of r count c) old new
@@ -36,12 +42,15 @@ went-passed is_end x from r old new count c l w p = record {
   characters = IsUtf8-append w.before (take count (drop r.cut x)) w.characters p.characters;
   mode = w.mode;
   read = record { scanned = scan-fresh r.updates (drop (r.cut + count) x); barren = barren-none is_end r.updates (drop (r.cut + count) x) };
-  cut = λ y ts e m t. w.cut y ts e m (p.cut y ts e m
-      (subst (λ z. Cut r.updates (mode_of c) (behind r.place count) r.last (z ++ y) ts e) (sym (drop_more r.cut count x l)) t));
+  cut = λ z ts e m t.
+      let before = take count (drop r.cut x) in
+      let rest : MayBecome is_end (drop count (drop r.cut x)) z = subst (λ y. MayBecome is_end y z) (sym (drop_more r.cut count x l)) m in
+      subst (λ y. CutFrom from y (w.added ++ ts) e) (sym (append_assoc w.before before z))
+      (w.cut (before ++ z) ts e (becomes-front is_end (drop r.cut x) z count p.characters rest) (p.cut z ts e rest t));
 }
 
 pub went-found : (is_end : Bool) (x : List ℕ) (from r : Reading) (old new newer : List Token) (k : TokenKind) (count b : ℕ) → r.cut ≤ length x → Went is_end x from r old new
-    → Gives is_end r (drop r.cut x) k count b → lexemes_of newer ≡ lexemes_of new ++ lexeme_at k r.place (take count (drop r.cut x)) ∷ [] → Went is_end x from (behind_of r count b) old newer
+    → Gives is_end r (drop r.cut x) k count b → lexemes_of newer ≡ lexemes_of new ++ lexeme_at k r.place (take count (drop r.cut x)) ∷ [] → Went is_end x from (found_of r count b) old newer
 went-found is_end x from r old new newer k count b l w g p =
     let lex = lexeme_at k r.place (take count (drop r.cut x)) in
     record {
@@ -52,17 +61,20 @@ went-found is_end x from r old new newer k count b l w g p =
       characters = IsUtf8-append w.before (take count (drop r.cut x)) w.characters g.characters;
       mode = w.mode;
       read = record { scanned = scan-fresh r.updates (drop (r.cut + count) x); barren = subst (λ z. IsBarrenTo is_end r.updates z b) (drop_more r.cut count x l) g.stays };
-      cut = λ y ts e m t. subst (λ z. CutFrom from (drop from.cut x ++ y) z e) (sym (append_assoc w.added (lex ∷ []) ts))
-          (w.cut y (lex ∷ ts) e m (g.cut y ts e m
-          (subst (λ z. Cut r.updates Between (behind r.place count) (behind r.place count) (z ++ y) ts e) (sym (drop_more r.cut count x l)) t)));
+      cut = λ z ts e m t.
+          let before = take count (drop r.cut x) in
+          let rest : MayBecome is_end (drop count (drop r.cut x)) z = subst (λ y. MayBecome is_end y z) (sym (drop_more r.cut count x l)) m in
+          subst (λ y. CutFrom from y ((w.added ++ lex ∷ []) ++ ts) e) (sym (append_assoc w.before before z))
+          (subst (λ y. CutFrom from (w.before ++ (before ++ z)) y e) (sym (append_assoc w.added (lex ∷ []) ts))
+          (w.cut (before ++ z) (lex ∷ ts) e (becomes-front is_end (drop r.cut x) z count g.characters rest) (g.cut z ts e rest t)));
     }
 
 pub went-wait : (is_end : Bool) (x : List ℕ) (from r : Reading) (old new : List Token) (s : Scan) → Went is_end x from r old new → IsScanned r.updates (drop r.cut x) s
     → Went is_end x from (record r { scan = s }) old new
 went-wait is_end x from r old new s w h = record { added = w.added; given = w.given; before = w.before; parts = w.parts; characters = w.characters; mode = w.mode; read = record { scanned = h; barren = w.read.barren }; cut = w.cut }
 
-pub within-behind : (r : Reading) (x : List ℕ) (count b : ℕ) → IsWithin r x → count ≤ length (drop r.cut x) → IsWithin (behind_of r count b) x
-within-behind r x count b w h = record { cut = omega (arith, length-drop r.cut x, w.cut); scan = omega (arith, length-drop r.cut x, w.cut); best = omega arith }
+pub within-found : (r : Reading) (x : List ℕ) (count b : ℕ) → IsWithin r x → count ≤ length (drop r.cut x) → IsWithin (found_of r count b) x
+within-found r x count b w h = record { cut = omega (arith, length-drop r.cut x, w.cut); scan = omega (arith, length-drop r.cut x, w.cut); best = omega arith }
 
 pub within-passed : (r : Reading) (x : List ℕ) (count : ℕ) (c : Bool) → IsWithin r x → count ≤ length (drop r.cut x) → IsWithin (passed_of r count c) x
 within-passed r x count c w h = record { cut = omega (arith, length-drop r.cut x, w.cut); scan = omega (arith, length-drop r.cut x, w.cut); best = omega arith }

@@ -1,6 +1,6 @@
 -- Laws of runs: a run is so many steps of the automaton.
 use Rattle.std.proofs.Common.{◌≡◌, ℕ, zero, suc, ◌+◌, ◌-◌, ◌^◌, ◌<◌, ◌≤◌, Bool, true, false, cond, List, [], ◌∷◌, ◌++◌, refl, sym, ap, ◌∙◌, arith, subst, length, length-drop, Option, Some, None, take, drop, get_or, eq-eqb}
-use Rattle.std.proofs.lemmas.Bool.{eqb-true}
+use Rattle.std.proofs.lemmas.Bool.{eqb-true, and_parts}
 use Rattle.std.proofs.lemmas.Bool.Decides.{nat_tests}
 use Rattle.std.proofs.lemmas.List.{get_or-drop, get_or_default}
 use Rattle.std.proofs.lemmas.Str.{IsUtf8-nil, IsUtf8-append}
@@ -15,7 +15,7 @@ use Rattle.gs_lex.specs.Readings.{Passes}
 use Rattle.gs_lex.specs.Runs.{AllFrom, plain_iri, plain_string, plain_comment, plain_name, stay_of, at_place}
 use Rattle.gs_lex.specs.Scans.{IsScanned, best_after, onward_of}
 use Rattle.gs_lex.specs.States.{next, accepts}
-use Rattle.gs_lex.specs.Tokens.{Cut, Between, InComment, Ending, Lexeme, behind, space, comment}
+use Rattle.gs_lex.specs.Tokens.{Cut, Between, InComment, CutEnd, Lexeme, place_after, space, comment}
 use Rattle.gs_lex.specs.declared.kinds.Terminal.{Terminal}
 use Rattle.gs_lex.specs.declared.scans.Scan.{Scan}
 use Rattle.gs_lex.specs.declared.states.State.{State}
@@ -24,7 +24,7 @@ use Rattle.gs_lex.specs.declared.states.Mark.TheVariants as mark
 use Rattle.gs_lex.specs.declared.states.Text.TheVariants as text
 use Rattle.gs_lex.specs.declared.states.Text.{Text}
 use Rattle.gs_lex.specs.declared.steps.Reading.{Reading}
-use Rattle.gs_lex.proofs.ScanLemmas.{scan-on, and_both}
+use Rattle.gs_lex.proofs.ScanLemmas.{scan-on}
 use Rattle.gs_lex.proofs.StepLemmas.{between, within as inside, low_utf8, space_low}
 use Rattle.gs_lex.proofs.SymbolLemmas.{front-ascii}
 
@@ -133,7 +133,7 @@ all_below f (suc n) = f n && all_below f n
 below_is : (f : ℕ → Bool) (n c : ℕ) → all_below f n ≡ true → c < n → f c ≡ true
 below_is f zero c h l = absurd (omega (arith, l))
 below_is f (suc n) c h l =
-    let b = and_both (f n) (all_below f n) h in
+    let b = and_parts (f n) (all_below f n) h in
     elim (either_place 0 n c (omega (arith, l))) [ inl k ↦ below_is f n c b.1 k | inr e ↦ subst (λ z. f z ≡ true) (sym e) b.0 ]
 
 name_low : (c : ℕ) → plain_name c ≡ true → c < 128
@@ -172,15 +172,15 @@ all-spaces x n h f i l b = first i b
     first zero b = h
     first (suc i) b = f (suc i) (omega arith) b
 
-spaces_cut : (u : Bool) (l p : ℕ) (x y : List ℕ) (n : ℕ) (ts : List Lexeme) (e : Ending) → n ≤ length x → p < 2 ^ 64 → AllFrom is_ws x 0 n
-    → Cut u Between (behind p n) l (drop n x ++ y) ts e → Cut u Between p l (x ++ y) ts e
-spaces_cut u l p x y zero ts e h b f c = subst (λ z. Cut u Between z l (x ++ y) ts e) (omega (arith, b)) c
-spaces_cut u l p [] y (suc n) ts e h b f c = absurd (omega (arith, h))
-spaces_cut u l p (d ∷ x) y (suc n) ts e h b f c =
-    let next_place : behind p (suc n) ≡ behind (behind p 1) n = omega arith in
-    space d (x ++ y) refl (f 0 (omega arith) (omega arith))
-    (spaces_cut u l (behind p 1) x y n ts e (omega (arith, h)) (omega arith) (λ i m k. f (suc i) (omega arith) (omega (arith, k)))
-    (subst (λ z. Cut u Between z l (drop n x ++ y) ts e) next_place c))
+spaces_cut : (u : Bool) (l p : ℕ) (x z : List ℕ) (n : ℕ) (ts : List Lexeme) (e : CutEnd) → n ≤ length x → p < 2 ^ 64 → AllFrom is_ws x 0 n
+    → Cut u Between (place_after p n) l z ts e → Cut u Between p l (take n x ++ z) ts e
+spaces_cut u l p x z zero ts e h b f c = subst (λ m. Cut u Between m l z ts e) (omega (arith, b)) c
+spaces_cut u l p [] z (suc n) ts e h b f c = absurd (omega (arith, h))
+spaces_cut u l p (d ∷ x) z (suc n) ts e h b f c =
+    let next_place : place_after p (suc n) ≡ place_after (place_after p 1) n = omega arith in
+    space d (take n x ++ z) refl (f 0 (omega arith) (omega arith))
+    (spaces_cut u l (place_after p 1) x z n ts e (omega (arith, h)) (omega arith) (λ i m k. f (suc i) (omega arith) (omega (arith, k)))
+    (subst (λ m. Cut u Between m l z ts e) next_place c))
 
 spaces_utf8 : (x : List ℕ) (n : ℕ) → AllFrom is_ws x 0 n → n ≤ length x → IsUtf8 (take n x)
 spaces_utf8 x zero f h = IsUtf8-nil
@@ -191,23 +191,23 @@ spaces_utf8 (d ∷ x) (suc n) f h =
 pub pass-spaces : (is_end : Bool) (r : Reading) (x : List ℕ) (n : ℕ) → r.in_comment ≡ false → n ≤ length x → r.place < 2 ^ 64 → AllFrom is_ws x 0 n → Passes is_end r x n false
 pass-spaces is_end r x n k h b f = record {
   characters = spaces_utf8 x n f h;
-  cut = λ y ts e m t. between r (x ++ y) ts e k (spaces_cut r.updates r.last r.place x y n ts e h b f t);
+  cut = λ z ts e m t. between r (take n x ++ z) ts e k (spaces_cut r.updates r.last r.place x z n ts e h b f t);
 }
 
 comment_parts : (c : ℕ) → plain_comment c ≡ true → (c < 128) × (is_line_end c ≡ false)
 comment_parts c h = grind (arith, nat_tests)
 
-comments_cut : (u : Bool) (l p : ℕ) (x y : List ℕ) (n : ℕ) (ts : List Lexeme) (e : Ending) → n ≤ length x → p < 2 ^ 64 → AllFrom plain_comment x 0 n
-    → Cut u InComment (behind p n) l (drop n x ++ y) ts e → Cut u InComment p l (x ++ y) ts e
-comments_cut u l p x y zero ts e h b f c = subst (λ z. Cut u InComment z l (x ++ y) ts e) (omega (arith, b)) c
-comments_cut u l p [] y (suc n) ts e h b f c = absurd (omega (arith, h))
-comments_cut u l p (d ∷ x) y (suc n) ts e h b f c =
+comments_cut : (u : Bool) (l p : ℕ) (x z : List ℕ) (n : ℕ) (ts : List Lexeme) (e : CutEnd) → n ≤ length x → p < 2 ^ 64 → AllFrom plain_comment x 0 n
+    → Cut u InComment (place_after p n) l z ts e → Cut u InComment p l (take n x ++ z) ts e
+comments_cut u l p x z zero ts e h b f c = subst (λ m. Cut u InComment m l z ts e) (omega (arith, b)) c
+comments_cut u l p [] z (suc n) ts e h b f c = absurd (omega (arith, h))
+comments_cut u l p (d ∷ x) z (suc n) ts e h b f c =
     let plain = comment_parts d (f 0 (omega arith) (omega arith)) in
-    let next_place : behind p (suc n) ≡ behind (behind p 1) n = omega arith in
-    let rest = comments_cut u l (behind p 1) x y n ts e (omega (arith, h)) (omega arith) (λ i m k. f (suc i) (omega arith) (omega (arith, k)))
-    (subst (λ z. Cut u InComment z l (drop n x ++ y) ts e) next_place c) in
-    comment d (x ++ y) (ap (λ z. z ++ (x ++ y)) (sym (one d plain.0))) (scalar_from d (inl (omega (arith, plain.0)))) plain.1
-    (subst (λ z. Cut u InComment (behind p z) l (x ++ y) ts e) (sym (ap length (one d plain.0))) rest)
+    let next_place : place_after p (suc n) ≡ place_after (place_after p 1) n = omega arith in
+    let rest = comments_cut u l (place_after p 1) x z n ts e (omega (arith, h)) (omega arith) (λ i m k. f (suc i) (omega arith) (omega (arith, k)))
+    (subst (λ m. Cut u InComment m l z ts e) next_place c) in
+    comment d (take n x ++ z) (ap (λ y. y ++ (take n x ++ z)) (sym (one d plain.0))) (scalar_from d (inl (omega (arith, plain.0)))) plain.1
+    (subst (λ m. Cut u InComment (place_after p m) l (take n x ++ z) ts e) (sym (ap length (one d plain.0))) rest)
 
 comments_utf8 : (x : List ℕ) (n : ℕ) → AllFrom plain_comment x 0 n → n ≤ length x → IsUtf8 (take n x)
 comments_utf8 x zero f h = IsUtf8-nil
@@ -218,5 +218,5 @@ comments_utf8 (d ∷ x) (suc n) f h =
 pub pass-comments : (is_end : Bool) (r : Reading) (x : List ℕ) (n : ℕ) → r.in_comment ≡ true → n ≤ length x → r.place < 2 ^ 64 → AllFrom plain_comment x 0 n → Passes is_end r x n true
 pass-comments is_end r x n k h b f = record {
   characters = comments_utf8 x n f h;
-  cut = λ y ts e m t. inside r (x ++ y) ts e k (comments_cut r.updates r.last r.place x y n ts e h b f t);
+  cut = λ z ts e m t. inside r (take n x ++ z) ts e k (comments_cut r.updates r.last r.place x z n ts e h b f t);
 }

@@ -1,19 +1,22 @@
 -- Laws of reading one character more.
+use Rattle.std.proofs.lemmas.Bool.{and_parts}
+use Rattle.std.proofs.Math.Seq.{drop-append_seam}
 use Rattle.std.proofs.Common.{◌≡◌, ◌≢◌, ℕ, ◌+◌, ◌<◌, ◌≤◌, Bool, true, false, List, [], ◌∷◌, ◌++◌, refl, sym, ap, ◌∙◌, arith, subst, append_assoc, append-nil, length, length-append, Option, Some, None, drop, length-drop, MatchBool, encode_utf8, encode_utf8_all, ◌&&◌}
 use Rattle.std.proofs.Math.ListN.{take-append-drop}
 use Rattle.std.proofs.lemmas.List.{length-take-le}
-use Rattle.std.proofs.lemmas.Str.{encode_same, encodes-append, len_utf8_bounds, length-encode}
+use Rattle.std.proofs.lemmas.Str.{encode_same, encodes-append, len_utf8_bounds, length-encode, IsUtf8-encode}
 use Rattle.std.specs.Char.{IsScalar}
 use Rattle.std.specs.Str.{all_scalars, StartsWithNoChar}
 use lib.Utf8.{scalar}
 use Rattle.gs_lex.specs.Automata.{Found, run, run_from, kind_at, longest}
 use Rattle.gs_lex.specs.States.{tokens, next, accepts, start_of}
-use Rattle.gs_lex.specs.Scans.{IsBest, MayFollow, IsScanned, IsBarren, IsBarrenTo, onward_of, fresh, best_after}
-use Rattle.gs_lex.specs.Symbols.{BeginsWith}
+use Rattle.gs_lex.specs.Scans.{IsBest, MayBecome, IsScanned, IsBarren, IsBarrenTo, onward_of, fresh, best_after}
+use Rattle.gs_lex.specs.Symbols.{BeginsWith, IsShort}
 use Rattle.gs_lex.specs.declared.kinds.Terminal.{Terminal}
 use Rattle.gs_lex.specs.declared.states.State.{State}
 use Rattle.gs_lex.specs.declared.states.State.TheVariants as at
 use Rattle.gs_lex.specs.declared.scans.Scan.{Scan}
+use Rattle.gs_lex.proofs.BecomeLemmas.{Becomes, becomes-before, becomes-after, short-begins}
 use Rattle.gs_lex.proofs.SymbolLemmas.{front-nothing}
 use Rattle.gs_lex.proofs.AutomatonLemmas.{none-stays, onward, then_next, run-snoc, one_more, longest-live}
 
@@ -24,13 +27,9 @@ begins-some c n x b =
     let size : n ≡ length (encode_utf8 c) = sym (length-take-le n x b.within) ∙ ap length b.spelled in
     (size, omega (arith, h.0, length-encode c))
 
-drop_front : (v w : List ℕ) → drop (length v) (v ++ w) ≡ w
-drop_front [] w = refl
-drop_front (c ∷ v) w = drop_front v w
-
 -- what is after the scan
 pub scan-after : (u : Bool) (x : List ℕ) (s : Scan) → (h : IsScanned u x s) → drop s.len x ≡ h.after
-scan-after u x s h = ap (λ z. drop z x) h.count ∙ ap (drop (length (encode_utf8_all h.chars))) h.parts ∙ drop_front (encode_utf8_all h.chars) h.after
+scan-after u x s h = ap (λ z. drop z x) h.count ∙ ap (drop (length (encode_utf8_all h.chars))) h.parts ∙ drop-append_seam (encode_utf8_all h.chars) h.after
 
 pub scan-fresh : (u : Bool) (x : List ℕ) → IsScanned u x (fresh u)
 scan-fresh u x = record { chars = []; after = x; parts = refl; count = refl; characters = refl; stands = refl; is_best = refl }
@@ -44,17 +43,12 @@ best_more : (k : Option Terminal) (cs : List ℕ) (c : ℕ) (f : Found Terminal 
 best_more None cs c f b m n h e = best_on f (c ∷ []) b m h
 best_more (Some k) cs c f b m n h e = (refl, e)
 
-pub and_both : (x y : Bool) → (x && y) ≡ true → (x ≡ true) × (y ≡ true)
-and_both true true e = (refl, refl)
-and_both true false e = Prim.cc
-and_both false y e = Prim.cc
-
 pub both_and : (x y : Bool) → x ≡ true → y ≡ true → (x && y) ≡ true
 both_and x y e f = ap (λ z. z && y) e ∙ f
 
 pub scalars-snoc : (cs : List ℕ) (c : ℕ) → all_scalars cs ≡ true → IsScalar c → all_scalars (cs ++ c ∷ []) ≡ true
 scalars-snoc [] c h k = ap (λ z. z && true) k
-scalars-snoc (d ∷ cs) c h k = both_and (scalar d) (all_scalars (cs ++ c ∷ [])) (and_both (scalar d) (all_scalars cs) h).0 (scalars-snoc cs c (and_both (scalar d) (all_scalars cs) h).1 k)
+scalars-snoc (d ∷ cs) c h k = both_and (scalar d) (all_scalars (cs ++ c ∷ [])) (and_parts (scalar d) (all_scalars cs) h).0 (scalars-snoc cs c (and_parts (scalar d) (all_scalars cs) h).1 k)
 
 pub scan-on : (u : Bool) (x : List ℕ) (s : Scan) (c n : ℕ) (p : State) → IsScanned u x s → BeginsWith c n (drop s.len x) → next s.state c ≡ Some p → IsScanned u x (onward_of s p n)
 scan-on u x s c n p h b e =
@@ -84,7 +78,7 @@ stuck_on : (u : Bool) (q : State) (z : List ℕ) → IsStuck q z → (t : Termin
     → kind_at (tokens u) (run_from (tokens u) (Some q) v) ≡ Some t → ⊥
 stuck_on u q z h t [] s p g n k = n refl
 stuck_on u q z h t (c ∷ v) s p g n k =
-    let dead : next q c ≡ None = h c (encode_utf8_all v ++ s) (and_both (scalar c) (all_scalars v) g).0 (p ∙ append_assoc (encode_utf8 c) (encode_utf8_all v) s) in
+    let dead : next q c ≡ None = h c (encode_utf8_all v ++ s) (and_parts (scalar c) (all_scalars v) g).0 (p ∙ append_assoc (encode_utf8 c) (encode_utf8_all v) s) in
     Prim.cc (sym (ap (λ o. kind_at (tokens u) (run_from (tokens u) o v)) dead ∙ ap (kind_at (tokens u)) (none-stays (tokens u) v)) ∙ k)
 
 pub stuck-barren : (u : Bool) (q : State) (z : List ℕ) → IsStuck q z → IsBarren u q z
@@ -92,20 +86,34 @@ stuck-barren u q z h = stuck_on u q z h
 
 -- an ended token, whatever follows
 pub ended-stuck : (is_end u b : Bool) (q : State) (z : List ℕ) → MatchBool b ((t : Terminal) × (q ≡ at.Ended t)) ((t : Terminal) → q ≢ at.Ended t) → IsBarren u q z
-    → MatchBool b ((y : List ℕ) → MayFollow is_end y → IsBarren u q (z ++ y)) (IsBarren u q z)
-ended-stuck is_end u true q z h k = λ y m. stuck-barren u q (z ++ y) (λ c o i p. subst (λ s. next s c ≡ None) (sym h.1) refl)
+    → MatchBool b ((w : List ℕ) → MayBecome is_end z w → IsBarren u q w) (IsBarren u q z)
+ended-stuck is_end u true q z h k = λ w m. stuck-barren u q w (λ c o i p. subst (λ s. next s c ≡ None) (sym h.1) refl)
 ended-stuck is_end u false q z h k = k
 
 pub not-ended : (b : Bool) (q : State) → MatchBool b ((t : Terminal) × (q ≡ at.Ended t)) ((t : Terminal) → q ≢ at.Ended t) → b ≡ false → (t : Terminal) → q ≢ at.Ended t
 not-ended true q h e = Prim.cc e
 not-ended false q h e = h
 
+-- a text that begins with a character becomes one that begins with it
+pub begins-become : (is_end : Bool) (c n : ℕ) (x z : List ℕ) → BeginsWith c n x → MayBecome is_end x z → Becomes is_end (encode_utf8 c) (drop n x) z
+begins-become is_end c n x z b m =
+    becomes-after is_end (encode_utf8 c) (drop n x) z (IsUtf8-encode c b.scalar)
+    (subst (λ y. MayBecome is_end y z) (sym (take-append-drop n x) ∙ ap (λ y. y ++ drop n x) b.spelled) m)
+
+-- a text whose first characters a scan has read becomes one with them at its front
+pub scan-becomes : (is_end u : Bool) (x z : List ℕ) (s : Scan) → (h : IsScanned u x s) → MayBecome is_end x z → Becomes is_end (encode_utf8_all h.chars) h.after z
+scan-becomes is_end u x z s h m = becomes-after is_end (encode_utf8_all h.chars) h.after z (h.chars, (h.characters, refl)) (subst (λ y. MayBecome is_end y z) h.parts m)
+
+-- and what becomes of the rest, after those characters, becomes of the text
+pub rest-becomes : (is_end u : Bool) (x z : List ℕ) (s : Scan) → (h : IsScanned u x s) → MayBecome is_end h.after z → MayBecome is_end x (encode_utf8_all h.chars ++ z)
+rest-becomes is_end u x z s h m =
+    subst (λ y. MayBecome is_end y (encode_utf8_all h.chars ++ z)) (sym h.parts) (becomes-before is_end (encode_utf8_all h.chars) h.after z (h.chars, (h.characters, refl)) m)
+
 -- a character by which no token goes on
-pub stuck-character : (q : State) (c n : ℕ) (r : List ℕ) → BeginsWith c n r → next q c ≡ None → (y : List ℕ) → IsStuck q (r ++ y)
-stuck-character q c n r b e y d o k p =
-    let parts : encode_utf8 c ++ (drop n r ++ y) ≡ encode_utf8 d ++ o =
-    sym (append_assoc (encode_utf8 c) (drop n r) y) ∙ ap (λ z. (z ++ drop n r) ++ y) (sym b.spelled) ∙ ap (λ z. z ++ y) (take-append-drop n r) ∙ p in
-    subst (λ z. next q z ≡ None) (encode_same c d (drop n r ++ y) o parts).0 e
+pub stuck-character : (is_end : Bool) (q : State) (c n : ℕ) (r : List ℕ) → BeginsWith c n r → next q c ≡ None → (z : List ℕ) → MayBecome is_end r z → IsStuck q z
+stuck-character is_end q c n r b e z m d o k p =
+    let g = begins-become is_end c n r z b m in
+    subst (λ y. next q y ≡ None) (encode_same c d g.rest o (sym g.text ∙ p)).0 e
 
 -- bytes that begin no character
 pub stuck-bad : (q : State) (z : List ℕ) → StartsWithNoChar z → IsStuck q z
@@ -122,11 +130,11 @@ best-within s p n h = best_within (accepts p)
     best_within None = omega arith
     best_within (Some k) = omega arith
 
-pub nothing-left : (n : ℕ) (x : List ℕ) → length x ≤ n → StartsWithNoChar (drop n x)
+pub nothing-left : (n : ℕ) (x : List ℕ) → length x ≤ n → IsShort (drop n x)
 nothing-left n x h = front-nothing (drop n x) (omega (arith, length-drop n x))
 
 pub stuck-nothing : (q : State) (n : ℕ) (x : List ℕ) → length x ≤ n → IsStuck q (drop n x)
-stuck-nothing q n x h = stuck-bad q (drop n x) (nothing-left n x h)
+stuck-nothing q n x h = stuck-bad q (drop n x) (short-begins (drop n x) (nothing-left n x h))
 
 no_dots : (u : Bool) → start_of u ≡ at.WordDots → ⊥
 no_dots false e = Prim.cc e
@@ -137,8 +145,8 @@ no_chars u [] h e = no_dots u (Prim.cc h)
 no_chars u (c ∷ cs) h e = Prim.cc e
 
 -- after a word's dots within the barren bytes
-pub scan-barren : (is_end u : Bool) (x : List ℕ) (s : Scan) (n : ℕ) → IsScanned u x s → IsBarrenTo is_end u x n → s.state ≡ at.WordDots → s.len ≤ n → (y : List ℕ) → MayFollow is_end y → IsBarren u s.state (drop s.len x ++ y)
-scan-barren is_end u x s n h b e l y m =
-    subst (λ z. IsBarren u s.state (z ++ y)) (sym (scan-after u x s h)) (subst (λ q. IsBarren u q (h.after ++ y)) (sym e)
-    (b y h.chars (h.after ++ y) m (ap (λ z. z ++ y) h.parts ∙ append_assoc (encode_utf8_all h.chars) h.after y) h.characters
-    (no_chars u h.chars (h.stands ∙ ap Some e)) (omega (arith, l, h.count))))
+pub scan-barren : (is_end u : Bool) (x : List ℕ) (s : Scan) (n : ℕ) → IsScanned u x s → IsBarrenTo is_end u x n → s.state ≡ at.WordDots → s.len ≤ n → (z : List ℕ) → MayBecome is_end (drop s.len x) z → IsBarren u s.state z
+scan-barren is_end u x s n h b e l z m =
+    subst (λ q. IsBarren u q z) (sym e)
+    (b (encode_utf8_all h.chars ++ z) h.chars z (rest-becomes is_end u x z s h (subst (λ y. MayBecome is_end y z) (scan-after u x s h) m)) refl h.characters
+    (no_chars u h.chars (h.stands ∙ ap Some e)) (omega (arith, l, h.count)))

@@ -1,7 +1,6 @@
 -- What a decoder tells of the front of bytes.
-use Rattle.std.proofs.Common.{◌≡◌, ◌≢◌, ℕ, zero, suc, ◌+◌, ◌-◌, ◌*◌, ◌<◌, ◌≤◌, Bool, true, false, cond, List, [], ◌∷◌, ◌++◌, refl, sym, ap, ◌∙◌, inl, arith, subst, append_assoc, append-nil, length, length-append, take, drop, get_or}
+use Rattle.std.proofs.Common.{◌≡◌, ◌≢◌, ℕ, zero, suc, ◌+◌, ◌-◌, ◌*◌, ◌<◌, ◌≤◌, Bool, true, false, cond, List, [], ◌∷◌, ◌++◌, refl, sym, ap, ◌∙◌, inl, arith, subst, append_assoc, append-nil, length, take, drop, get_or}
 use Rattle.std.proofs.Math.ListN.{take-append-drop}
-use Rattle.std.proofs.lemmas.Str.{len_utf8_bounds, length-encode}
 use Rattle.std.proofs.str.Laws.{one}
 use Rattle.std.specs.Prelude.{nat_lt, ◌==◌, encode_utf8}
 use Rattle.std.specs.Char.{IsScalar}
@@ -9,9 +8,10 @@ use Rattle.std.specs.Str.{StartsWithNoChar}
 use Rattle.gs_machine.specs.Machines.{steps, rest}
 use Rattle.gs_machine.specs.Utf8.{bad, Spells, nothing, char, fault, Decoding, Ready, Within, Lost, goes_on, decode_step, decode_end, utf8}
 use Rattle.gs_machine.proofs.MachineLemmas.{rest-append, steps-snoc}
-use Rattle.gs_machine.proofs.Utf8Lemmas.{walk, ready}
+use Rattle.gs_machine.proofs.Utf8Lemmas.{walk, Stands, ready, within, stands-on, completes}
 use Rattle.gs_machine.proofs.Encodings.{scalar_from}
-use Rattle.gs_lex.specs.Symbols.{BeginsWith}
+use Rattle.gs_lex.specs.Symbols.{BeginsWith, IsShort}
+use Rattle.gs_lex.proofs.BecomeLemmas.{short-nothing}
 
 -- a character is given between two characters alone
 abbrev Quiet : Decoding × List ℕ → Type 0
@@ -90,20 +90,16 @@ front-bad x n s d b c e l i g k y =
     subst StartsWithNoChar (sym (append_assoc (take (n + 1) x) (drop (n + 1) x) y) ∙ ap (λ z. z ++ y) (take-append-drop (n + 1) x))
     (no_front (take (n + 1) x ++ (drop (n + 1) x ++ y)) c _ (told_at (take (n + 1) x) (drop (n + 1) x ++ y) d (c ∷ []) t) k)
 
-nothing_begins : StartsWithNoChar []
-nothing_begins c r s e =
-    let h = len_utf8_bounds c in
-    let k : length (encode_utf8 c ++ r) ≡ 0 = ap length (sym e) in
-    omega (arith, length-append (encode_utf8 c) r, length-encode c, h.0, k)
+-- the bytes for which a decoder stands are the first of a character
+short_of : (s : Decoding) (x : List ℕ) → Stands s x → IsShort x
+short_of _ _ ready = short-nothing
+short_of _ _ (within k v low high a p o h) =
+    let q = completes k v low high (a ∷ p) o h in
+    record { character = q.character; others = q.others; scalar = q.scalar; some = q.some; parts = q.parts }
 
-short_of : (x : List ℕ) (s : Decoding) → Spells x (decode_end s) → StartsWithNoChar x
-short_of x Ready nothing = nothing_begins
-short_of x Lost nothing = nothing_begins
-short_of x (Within n v low high) k = no_front x bad [] k (λ s. Prim.cc s)
-
--- a text that gives nothing begins with no character
-pub front-short : (x : List ℕ) (s : Decoding) → steps utf8 Ready x ≡ (s, []) → StartsWithNoChar x
-front-short x s e = short_of x s (told_of x s [] e)
+-- a text that gives nothing is the first bytes of a character
+pub front-short : (x : List ℕ) (s : Decoding) → steps utf8 Ready x ≡ (s, []) → IsShort x
+front-short x s e = short_of (steps utf8 Ready x).0 x (stands-on x Ready [] ready (ap (λ (t : Decoding × List ℕ). t.1) e))
 
 -- one byte of ASCII
 pub front-ascii : (x : List ℕ) (b : ℕ) → b ≡ get_or x 0 b → 0 < length x → b < 128 → BeginsWith b 1 x
@@ -114,8 +110,8 @@ front-ascii (d ∷ x) b e l h = record {
   spelled = ap (λ z. z ∷ []) (sym e) ∙ sym (one b h);
 }
 
-pub front-nothing : (x : List ℕ) → length x ≤ 0 → StartsWithNoChar x
-front-nothing [] h = nothing_begins
+pub front-nothing : (x : List ℕ) → length x ≤ 0 → IsShort x
+front-nothing [] h = short-nothing
 front-nothing (c ∷ x) h = absurd (omega arith)
 
 -- one byte more, which gives nothing

@@ -1,6 +1,6 @@
 -- The automaton finds the terminals as their rules describe them, for every character.
 use Rattle.std.proofs.Common.{◌≡◌, ℕ, Bool, true, false, cond, List, [], ◌∷◌, refl, sym, ap, ◌∙◌, subst, Option, Some, None, eq-eqb}
-use Rattle.std.proofs.lemmas.Bool.{eqb-true}
+use Rattle.std.proofs.lemmas.Bool.{eqb-true, and_parts}
 use Rattle.std.specs.Prelude.{◌==◌, ◌&&◌}
 use Rattle.gs_lex.specs.Automata.{Accepts, run_from, kind_at}
 use Rattle.gs_lex.specs.Regexes.{Never, Empty, One, Then, Or, Many, Matches}
@@ -16,18 +16,13 @@ use Rattle.gs_lex.proofs.Derivatives.{nullable, derive, derive-right, derive-bac
 use Rattle.gs_lex.proofs.NextLemmas.{next-alike}
 use Rattle.gs_lex.proofs.Residuals.{code, residual}
 
-and_both : (x y : Bool) → (x && y) ≡ true → (x ≡ true) × (y ≡ true)
-and_both true true e = (refl, refl)
-and_both true false e = Prim.cc
-and_both false y e = Prim.cc
-
 -- the test of equality is right
 same-right : (r s : Pattern) → same r s ≡ true → r ≡ s
 same-right Never Never e = refl
 same-right Empty Empty e = refl
 same-right (One m) (One n) e = ap One (set-one m n e)
-same-right (Then r s) (Then t u) e = let b = and_both (same r t) (same s u) e in ap (λ z. Then z s) (same-right r t b.0) ∙ ap (λ z. Then t z) (same-right s u b.1)
-same-right (Or r s) (Or t u) e = let b = and_both (same r t) (same s u) e in ap (λ z. Or z s) (same-right r t b.0) ∙ ap (λ z. Or t z) (same-right s u b.1)
+same-right (Then r s) (Then t u) e = let b = and_parts (same r t) (same s u) e in ap (λ z. Then z s) (same-right r t b.0) ∙ ap (λ z. Then t z) (same-right s u b.1)
+same-right (Or r s) (Or t u) e = let b = and_parts (same r t) (same s u) e in ap (λ z. Or z s) (same-right r t b.0) ∙ ap (λ z. Or t z) (same-right s u b.1)
 same-right (Many r) (Many s) e = ap Many (same-right r s e)
 same-right _ _ e = Prim.cc e
 
@@ -45,12 +40,12 @@ pub data Among (k : Terminal) : List Terminal → Type 0 where
   later : {j : Terminal} {ks : List Terminal} → Among k ks → Among k (j ∷ ks)
 
 follows_kind : (q : State) (c : ℕ) (o : Option State) (k : Terminal) (ks : List Terminal) → follows q c o ks ≡ true → Among k ks → derive holds c (residual q k) ≡ target o k
-follows_kind q c o k _ h (first {ks = ks}) = same-right (derive holds c (residual q k)) (target o k) (and_both (same (derive holds c (residual q k)) (target o k)) (follows q c o ks) h).0
-follows_kind q c o k _ h (later {j = j} {ks = ks} a) = follows_kind q c o k ks (and_both (same (derive holds c (residual q j)) (target o j)) (follows q c o ks) h).1 a
+follows_kind q c o k _ h (first {ks = ks}) = same-right (derive holds c (residual q k)) (target o k) (and_parts (same (derive holds c (residual q k)) (target o k)) (follows q c o ks) h).0
+follows_kind q c o k _ h (later {j = j} {ks = ks} a) = follows_kind q c o k ks (and_parts (same (derive holds c (residual q j)) (target o j)) (follows q c o ks) h).1 a
 
 follows_at : (q : State) (c : ℕ) (cs : List ℕ) → follows_all q cs ≡ true → In c cs → follows q c (next q c) kinds ≡ true
-follows_at q c _ h (here {xs = cs}) = (and_both (follows q c (next q c) kinds) (follows_all q cs) h).0
-follows_at q c _ h (there {y = d} {xs = cs} i) = follows_at q c cs (and_both (follows q d (next q d) kinds) (follows_all q cs) h).1 i
+follows_at q c _ h (here {xs = cs}) = (and_parts (follows q c (next q c) kinds) (follows_all q cs) h).0
+follows_at q c _ h (there {y = d} {xs = cs} i) = follows_at q c cs (and_parts (follows q d (next q d) kinds) (follows_all q cs) h).1 i
 
 kind_case : (a : Option Terminal) (k : Terminal) (b : Bool) → same_answer (is_kind a k) b ≡ true → (a ≡ Some k → b ≡ true) × (b ≡ true → a ≡ Some k)
 kind_case None k true h = Prim.cc h
@@ -69,8 +64,8 @@ kind_case (Some j) k b h = go (code j == code k) refl h
         no false f z = Prim.cc z
 
 ends_at : (q : State) (k : Terminal) (ks : List Terminal) → ends q ks ≡ true → Among k ks → (accepts q ≡ Some k → nullable (residual q k) ≡ true) × (nullable (residual q k) ≡ true → accepts q ≡ Some k)
-ends_at q k _ h (first {ks = ks}) = kind_case (accepts q) k (nullable (residual q k)) (and_both (same_answer (is_kind (accepts q) k) (nullable (residual q k))) (ends q ks) h).0
-ends_at q k _ h (later {j = j} {ks = ks} a) = ends_at q k ks (and_both (same_answer (is_kind (accepts q) j) (nullable (residual q j))) (ends q ks) h).1 a
+ends_at q k _ h (first {ks = ks}) = kind_case (accepts q) k (nullable (residual q k)) (and_parts (same_answer (is_kind (accepts q) k) (nullable (residual q k))) (ends q ks) h).0
+ends_at q k _ h (later {j = j} {ks = ks} a) = ends_at q k ks (and_parts (same_answer (is_kind (accepts q) j) (nullable (residual q j))) (ends q ks) h).1 a
 
 among : (k : Terminal) → Among k kinds
 among kind.IriRef = first
@@ -102,7 +97,7 @@ among kind.CloseBrace = later (later (later (later (later (later (later (later (
 -- what is left after a character, for each character
 pub derive-residual : (q : State) (c : ℕ) (k : Terminal) → derive holds c (residual q k) ≡ target (next q c) k
 derive-residual q c k =
-    let h = and_both (ends q kinds) (follows_all q boundaries) (right q) in
+    let h = and_parts (ends q kinds) (follows_all q boundaries) (right q) in
     let s = sample c in
     let l = alike-sample c in
     derive-alike c s l (residual q k)
@@ -110,7 +105,7 @@ derive-residual q c k =
     ∙ ap (λ o. target o k) (sym (next-alike q c s l))
 
 pub ends-residual : (q : State) (k : Terminal) → (accepts q ≡ Some k → nullable (residual q k) ≡ true) × (nullable (residual q k) ≡ true → accepts q ≡ Some k)
-ends-residual q k = ends_at q k kinds (and_both (ends q kinds) (follows_all q boundaries) (right q)).0 (among k)
+ends-residual q k = ends_at q k kinds (and_parts (ends q kinds) (follows_all q boundaries) (right q)).0 (among k)
 
 stuck : (u : Bool) (w : List ℕ) (k : Terminal) → kind_at (tokens u) (run_from (tokens u) None w) ≡ Some k → ⊥
 stuck u [] k e = Prim.cc

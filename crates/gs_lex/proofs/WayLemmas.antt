@@ -51,8 +51,8 @@ ways_to q one other t k a b c h i j l = record {
 }
 
 -- after one character
-ways_behind : (q p : State) (c : ℕ) → next q c ≡ Some p → scalar c ≡ true → Ways p → Ways q
-ways_behind q p c e s w = record {
+ways_after : (q p : State) (c : ℕ) → next q c ≡ Some p → scalar c ≡ true → Ways p → Ways q
+ways_after q p c e s w = record {
   one = c ∷ w.one;
   other = c ∷ w.other;
   terminal = w.terminal;
@@ -104,28 +104,28 @@ to_close (text.Long mark.Quote) = ways_to (at.Inside (text.Long mark.Quote)) (34
 to_close (text.Long mark.Apostrophe) = ways_to (at.Inside (text.Long mark.Apostrophe)) (39 ∷ 39 ∷ 39 ∷ []) (97 ∷ 39 ∷ 39 ∷ 39 ∷ []) kind.StringLiteralLongSingleQuote token.StringLiteralLongSingleQuote (λ u. refl) (λ u. refl) (λ u x. refl) refl refl refl (omega arith)
 
 to_hex_one : (t : Text) → Ways (at.Hex t left.One)
-to_hex_one t = ways_behind (at.Hex t left.One) (at.Inside t) 48 refl refl (to_close t)
+to_hex_one t = ways_after (at.Hex t left.One) (at.Inside t) 48 refl refl (to_close t)
 
 to_hex_two : (t : Text) → Ways (at.Hex t left.Two)
-to_hex_two t = ways_behind (at.Hex t left.Two) (at.Hex t left.One) 48 refl refl (to_hex_one t)
+to_hex_two t = ways_after (at.Hex t left.Two) (at.Hex t left.One) 48 refl refl (to_hex_one t)
 
 to_hex_three : (t : Text) → Ways (at.Hex t left.Three)
-to_hex_three t = ways_behind (at.Hex t left.Three) (at.Hex t left.Two) 48 refl refl (to_hex_two t)
+to_hex_three t = ways_after (at.Hex t left.Three) (at.Hex t left.Two) 48 refl refl (to_hex_two t)
 
 to_hex_four : (t : Text) → Ways (at.Hex t left.Four)
-to_hex_four t = ways_behind (at.Hex t left.Four) (at.Hex t left.Three) 48 refl refl (to_hex_three t)
+to_hex_four t = ways_after (at.Hex t left.Four) (at.Hex t left.Three) 48 refl refl (to_hex_three t)
 
 to_hex_five : (t : Text) → Ways (at.Hex t left.Five)
-to_hex_five t = ways_behind (at.Hex t left.Five) (at.Hex t left.Four) 48 refl refl (to_hex_four t)
+to_hex_five t = ways_after (at.Hex t left.Five) (at.Hex t left.Four) 48 refl refl (to_hex_four t)
 
 to_hex_six : (t : Text) → Ways (at.Hex t left.Six)
-to_hex_six t = ways_behind (at.Hex t left.Six) (at.Hex t left.Five) 48 refl refl (to_hex_five t)
+to_hex_six t = ways_after (at.Hex t left.Six) (at.Hex t left.Five) 48 refl refl (to_hex_five t)
 
 to_hex_seven : (t : Text) → Ways (at.Hex t left.Seven)
-to_hex_seven t = ways_behind (at.Hex t left.Seven) (at.Hex t left.Six) 48 refl refl (to_hex_six t)
+to_hex_seven t = ways_after (at.Hex t left.Seven) (at.Hex t left.Six) 48 refl refl (to_hex_six t)
 
 to_hex_eight : (t : Text) → Ways (at.Hex t left.Eight)
-to_hex_eight t = ways_behind (at.Hex t left.Eight) (at.Hex t left.Seven) 48 refl refl (to_hex_seven t)
+to_hex_eight t = ways_after (at.Hex t left.Eight) (at.Hex t left.Seven) 48 refl refl (to_hex_seven t)
 
 to_hex : (t : Text) (n : Left) → Ways (at.Hex t n)
 to_hex t left.One = to_hex_one t
@@ -138,20 +138,20 @@ to_hex t left.Seven = to_hex_seven t
 to_hex t left.Eight = to_hex_eight t
 
 to_opened : (m : Mark) → Ways (at.Opened m)
-to_opened mark.Quote = ways_behind (at.Opened mark.Quote) (at.Inside (text.Long mark.Quote)) 97 refl refl (to_close (text.Long mark.Quote))
-to_opened mark.Apostrophe = ways_behind (at.Opened mark.Apostrophe) (at.Inside (text.Long mark.Apostrophe)) 97 refl refl (to_close (text.Long mark.Apostrophe))
+to_opened mark.Quote = ways_after (at.Opened mark.Quote) (at.Inside (text.Long mark.Quote)) 97 refl refl (to_close (text.Long mark.Quote))
+to_opened mark.Apostrophe = ways_after (at.Opened mark.Apostrophe) (at.Inside (text.Long mark.Apostrophe)) 97 refl refl (to_close (text.Long mark.Apostrophe))
 
 to_label_dots : Ways at.LabelDots
-to_label_dots = ways_behind at.LabelDots at.Label 97 refl refl to_label
+to_label_dots = ways_after at.LabelDots at.Label 97 refl refl to_label
 
 to_word_more : Ways at.WordMore
-to_word_more = ways_behind at.WordMore at.Namespace 58 refl refl to_namespace
+to_word_more = ways_after at.WordMore at.Namespace 58 refl refl to_namespace
 
 to_percent : Ways at.PercentOne
-to_percent = ways_behind at.PercentOne at.Local 48 refl refl to_local
+to_percent = ways_after at.PercentOne at.Local 48 refl refl to_local
 
 to_first_percent : Ways at.FirstPercentOne
-to_first_percent = ways_behind at.FirstPercentOne at.Local 48 refl refl to_local
+to_first_percent = ways_after at.FirstPercentOne at.Local 48 refl refl to_local
 
 -- where a token that has begun may go on
 pub data Goes (q : State) : Type 0 where
@@ -160,51 +160,51 @@ pub data Goes (q : State) : Type 0 where
   caret : q ≡ at.Caret → Goes q
 
 pub may-go : (q : State) → Goes q
-may-go at.Start = goes (ways_behind at.Start at.Integer 48 refl refl to_integer)
-may-go at.UpdateStart = goes (ways_behind at.UpdateStart at.Integer 48 refl refl to_integer)
+may-go at.Start = goes (ways_after at.Start at.Integer 48 refl refl to_integer)
+may-go at.UpdateStart = goes (ways_after at.UpdateStart at.Integer 48 refl refl to_integer)
 may-go (at.Inside t) = goes (to_close t)
-may-go (at.Escape t) = goes (ways_behind (at.Escape t) (at.Hex t left.Four) 117 refl refl (to_hex t left.Four))
+may-go (at.Escape t) = goes (ways_after (at.Escape t) (at.Hex t left.Four) 117 refl refl (to_hex t left.Four))
 may-go (at.Hex t n) = goes (to_hex t n)
 may-go (at.Ended t) = ended t refl
-may-go (at.First mark.Quote) = goes (ways_behind (at.First mark.Quote) (at.Inside (text.Short mark.Quote)) 97 refl refl (to_close (text.Short mark.Quote)))
-may-go (at.Empty mark.Quote) = goes (ways_behind (at.Empty mark.Quote) (at.Opened mark.Quote) 34 refl refl (to_opened mark.Quote))
-may-go (at.OneMark mark.Quote) = goes (ways_behind (at.OneMark mark.Quote) (at.Inside (text.Long mark.Quote)) 97 refl refl (to_close (text.Long mark.Quote)))
-may-go (at.TwoMarks mark.Quote) = goes (ways_behind (at.TwoMarks mark.Quote) (at.Inside (text.Long mark.Quote)) 97 refl refl (to_close (text.Long mark.Quote)))
-may-go (at.First mark.Apostrophe) = goes (ways_behind (at.First mark.Apostrophe) (at.Inside (text.Short mark.Apostrophe)) 97 refl refl (to_close (text.Short mark.Apostrophe)))
-may-go (at.Empty mark.Apostrophe) = goes (ways_behind (at.Empty mark.Apostrophe) (at.Opened mark.Apostrophe) 39 refl refl (to_opened mark.Apostrophe))
-may-go (at.OneMark mark.Apostrophe) = goes (ways_behind (at.OneMark mark.Apostrophe) (at.Inside (text.Long mark.Apostrophe)) 97 refl refl (to_close (text.Long mark.Apostrophe)))
-may-go (at.TwoMarks mark.Apostrophe) = goes (ways_behind (at.TwoMarks mark.Apostrophe) (at.Inside (text.Long mark.Apostrophe)) 97 refl refl (to_close (text.Long mark.Apostrophe)))
+may-go (at.First mark.Quote) = goes (ways_after (at.First mark.Quote) (at.Inside (text.Short mark.Quote)) 97 refl refl (to_close (text.Short mark.Quote)))
+may-go (at.Empty mark.Quote) = goes (ways_after (at.Empty mark.Quote) (at.Opened mark.Quote) 34 refl refl (to_opened mark.Quote))
+may-go (at.OneMark mark.Quote) = goes (ways_after (at.OneMark mark.Quote) (at.Inside (text.Long mark.Quote)) 97 refl refl (to_close (text.Long mark.Quote)))
+may-go (at.TwoMarks mark.Quote) = goes (ways_after (at.TwoMarks mark.Quote) (at.Inside (text.Long mark.Quote)) 97 refl refl (to_close (text.Long mark.Quote)))
+may-go (at.First mark.Apostrophe) = goes (ways_after (at.First mark.Apostrophe) (at.Inside (text.Short mark.Apostrophe)) 97 refl refl (to_close (text.Short mark.Apostrophe)))
+may-go (at.Empty mark.Apostrophe) = goes (ways_after (at.Empty mark.Apostrophe) (at.Opened mark.Apostrophe) 39 refl refl (to_opened mark.Apostrophe))
+may-go (at.OneMark mark.Apostrophe) = goes (ways_after (at.OneMark mark.Apostrophe) (at.Inside (text.Long mark.Apostrophe)) 97 refl refl (to_close (text.Long mark.Apostrophe)))
+may-go (at.TwoMarks mark.Apostrophe) = goes (ways_after (at.TwoMarks mark.Apostrophe) (at.Inside (text.Long mark.Apostrophe)) 97 refl refl (to_close (text.Long mark.Apostrophe)))
 may-go (at.Opened m) = goes (to_opened m)
-may-go at.Underscore = goes (ways_behind at.Underscore at.LabelColon 58 refl refl (ways_behind at.LabelColon at.Label 97 refl refl to_label))
-may-go at.LabelColon = goes (ways_behind at.LabelColon at.Label 97 refl refl to_label)
+may-go at.Underscore = goes (ways_after at.Underscore at.LabelColon 58 refl refl (ways_after at.LabelColon at.Label 97 refl refl to_label))
+may-go at.LabelColon = goes (ways_after at.LabelColon at.Label 97 refl refl to_label)
 may-go at.Label = goes to_label
 may-go at.LabelDots = goes to_label_dots
-may-go at.AtSign = goes (ways_behind at.AtSign at.Tag 97 refl refl to_tag)
+may-go at.AtSign = goes (ways_after at.AtSign at.Tag 97 refl refl to_tag)
 may-go at.Tag = goes to_tag
-may-go at.TagDash = goes (ways_behind at.TagDash at.TagPart 97 refl refl to_tag_part)
+may-go at.TagDash = goes (ways_after at.TagDash at.TagPart 97 refl refl to_tag_part)
 may-go at.TagPart = goes to_tag_part
-may-go at.Sign = goes (ways_behind at.Sign at.Integer 48 refl refl to_integer)
-may-go at.SignDot = goes (ways_behind at.SignDot at.Fraction 48 refl refl to_fraction)
-may-go at.Dot = goes (ways_behind at.Dot at.Fraction 48 refl refl to_fraction)
+may-go at.Sign = goes (ways_after at.Sign at.Integer 48 refl refl to_integer)
+may-go at.SignDot = goes (ways_after at.SignDot at.Fraction 48 refl refl to_fraction)
+may-go at.Dot = goes (ways_after at.Dot at.Fraction 48 refl refl to_fraction)
 may-go at.Integer = goes to_integer
-may-go at.IntegerDot = goes (ways_behind at.IntegerDot at.IntegerFraction 48 refl refl to_integer_fraction)
+may-go at.IntegerDot = goes (ways_after at.IntegerDot at.IntegerFraction 48 refl refl to_integer_fraction)
 may-go at.IntegerFraction = goes to_integer_fraction
 may-go at.Fraction = goes to_fraction
-may-go at.Exponent = goes (ways_behind at.Exponent at.ExponentDigits 48 refl refl to_exponent)
-may-go at.ExponentSign = goes (ways_behind at.ExponentSign at.ExponentDigits 48 refl refl to_exponent)
+may-go at.Exponent = goes (ways_after at.Exponent at.ExponentDigits 48 refl refl to_exponent)
+may-go at.ExponentSign = goes (ways_after at.ExponentSign at.ExponentDigits 48 refl refl to_exponent)
 may-go at.ExponentDigits = goes to_exponent
-may-go at.Word = goes (ways_behind at.Word at.Namespace 58 refl refl to_namespace)
-may-go at.WordDots = goes (ways_behind at.WordDots at.WordMore 97 refl refl to_word_more)
+may-go at.Word = goes (ways_after at.Word at.Namespace 58 refl refl to_namespace)
+may-go at.WordDots = goes (ways_after at.WordDots at.WordMore 97 refl refl to_word_more)
 may-go at.WordMore = goes to_word_more
 may-go at.Namespace = goes to_namespace
-may-go at.FirstPercent = goes (ways_behind at.FirstPercent at.FirstPercentOne 48 refl refl to_first_percent)
+may-go at.FirstPercent = goes (ways_after at.FirstPercent at.FirstPercentOne 48 refl refl to_first_percent)
 may-go at.FirstPercentOne = goes to_first_percent
-may-go at.FirstEscape = goes (ways_behind at.FirstEscape at.Local 95 refl refl to_local)
+may-go at.FirstEscape = goes (ways_after at.FirstEscape at.Local 95 refl refl to_local)
 may-go at.Local = goes to_local
-may-go at.LocalDots = goes (ways_behind at.LocalDots at.Local 97 refl refl to_local)
-may-go at.Percent = goes (ways_behind at.Percent at.PercentOne 48 refl refl to_percent)
+may-go at.LocalDots = goes (ways_after at.LocalDots at.Local 97 refl refl to_local)
+may-go at.Percent = goes (ways_after at.Percent at.PercentOne 48 refl refl to_percent)
 may-go at.PercentOne = goes to_percent
-may-go at.LocalEscape = goes (ways_behind at.LocalEscape at.Local 95 refl refl to_local)
-may-go at.VariableMark = goes (ways_behind at.VariableMark at.Variable 97 refl refl to_variable)
+may-go at.LocalEscape = goes (ways_after at.LocalEscape at.Local 95 refl refl to_local)
+may-go at.VariableMark = goes (ways_after at.VariableMark at.Variable 97 refl refl to_variable)
 may-go at.Variable = goes to_variable
 may-go at.Caret = caret refl

@@ -29,16 +29,16 @@ abbrev pub Found : Type 0 → Type 0 → Type 0
 Found K I = Option (K × List I × List I)
 
 -- the item i, and what was found after it, or the token that ends with i
-abbrev pub found_behind : {K I : Type 0} → I → List I → Option K → Found K I → Found K I
-found_behind i is k (Some f) = Some (f.0, i ∷ f.1, f.2)
-found_behind i is (Some k) None = Some (k, i ∷ [], is)
-found_behind i is None None = None
+abbrev pub found_after : {K I : Type 0} → I → List I → Option K → Found K I → Found K I
+found_after i is k (Some f) = Some (f.0, i ∷ f.1, f.2)
+found_after i is (Some k) None = Some (k, i ∷ [], is)
+found_after i is None None = None
 
 -- the longest token at the front, from where the automaton stands
 abbrev pub longest_from : {Q K I : Type 0} → Automaton Q K I → Option Q → List I → Found K I
 longest_from a None x = None
 longest_from a (Some q) [] = None
-longest_from a (Some q) (i ∷ is) = found_behind i is (kind_at a (a.next q i)) (longest_from a (a.next q i) is)
+longest_from a (Some q) (i ∷ is) = found_after i is (kind_at a (a.next q i)) (longest_from a (a.next q i) is)
 
 abbrev pub longest : {Q K I : Type 0} → Automaton Q K I → List I → Found K I
 longest a x = longest_from a (Some a.start) x

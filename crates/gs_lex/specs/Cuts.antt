@@ -4,13 +4,13 @@ use Rattle.gs_machine.specs.Utf8.{bad, symbols}
 use Rattle.gs_lex.specs.Classes.{is_ws, is_line_end}
 use Rattle.gs_lex.specs.Automata.{Found, longest}
 use Rattle.gs_lex.specs.States.{tokens}
-use Rattle.gs_lex.specs.Tokens.{Mode, Between, InComment, Ending, Whole, Fault, Lexeme, behind, kind_of, lexeme_at}
+use Rattle.gs_lex.specs.Tokens.{Mode, Between, InComment, CutEnd, AtEnd, AtFault, Lexeme, place_after, kind_of, lexeme_at}
 use Rattle.gs_lex.specs.declared.kinds.TokenKind.{TokenKind}
 use Rattle.gs_lex.specs.declared.kinds.Terminal.{Terminal}
 
 -- the tokens of a text, and how it ends
 abbrev pub Parted : Type 0
-Parted = List Lexeme × Ending
+Parted = List Lexeme × CutEnd
 
 -- a token, and those after it
 abbrev pub with_token : Lexeme → Parted → Parted
@@ -18,25 +18,25 @@ with_token t p = (t ∷ p.0, p.1)
 
 -- A token of these bytes that ends there, and what follows by `next`; or a fault after the last token.
 abbrev pub from_kind : (ℕ → List ℕ → Parted) → ℕ → ℕ → List ℕ → List ℕ → Option TokenKind → Parted
-from_kind next n last x cs None = ([], Fault last)
-from_kind next n last x cs (Some k) = with_token (lexeme_at k n x) (next (behind n (length x)) cs)
+from_kind next n last x cs None = ([], AtFault last)
+from_kind next n last x cs (Some k) = with_token (lexeme_at k n x) (next (place_after n (length x)) cs)
 
 -- The token that was found at the front, and what follows it; or a fault after the last token.
 abbrev pub from_found : (ℕ → List ℕ → Parted) → Bool → ℕ → ℕ → Found Terminal ℕ → Parted
-from_found next updates n last None = ([], Fault last)
+from_found next updates n last None = ([], AtFault last)
 from_found next updates n last (Some (t, w, cs)) = from_kind next n last (encode_utf8_all w) cs (kind_of updates t (encode_utf8_all w))
 
 -- characters at the place n, after a last token that ends at the place `last`, in at most so many steps
 unfoldable pub parted : ℕ → Bool → Mode → ℕ → ℕ → List ℕ → Parted
-parted f updates m n last [] = ([], Whole)
-parted zero updates m n last (c ∷ cs) = ([], Fault last)
+parted f updates m n last [] = ([], AtEnd)
+parted zero updates m n last (c ∷ cs) = ([], AtFault last)
 parted (suc f) updates InComment n last (c ∷ cs) =
-    if c == bad then ([], Fault last)
-    else if is_line_end c then parted f updates Between (behind n 1) last cs
-    else parted f updates InComment (behind n (length (encode_utf8 c))) last cs
+    if c == bad then ([], AtFault last)
+    else if is_line_end c then parted f updates Between (place_after n 1) last cs
+    else parted f updates InComment (place_after n (length (encode_utf8 c))) last cs
 parted (suc f) updates Between n last (c ∷ cs) =
-    if is_ws c then parted f updates Between (behind n 1) last cs
-    else if c == 35 then parted f updates InComment (behind n 1) last cs
+    if is_ws c then parted f updates Between (place_after n 1) last cs
+    else if c == 35 then parted f updates InComment (place_after n 1) last cs
     else from_found (λ k ds. parted f updates Between k k ds) updates n last (longest (tokens updates) (c ∷ cs))
 
 -- bytes from there on

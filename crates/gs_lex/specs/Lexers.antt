@@ -2,18 +2,20 @@
 use Rattle.std.specs.Prelude.{◌≡◌, ℕ, Bool, true, false, List, [], ◌∷◌, ◌++◌}
 use Rattle.std.specs.Str.{IsUtf8}
 use Rattle.gs_machine.specs.Machines.{Begins}
+use Rattle.gs_machine.specs.Utf8.{IsLongestFront}
 use Rattle.gs_model.specs.declared.refusals.Refusal.{Refusal}
 use Rattle.gs_model.specs.declared.refusals.Refusal.TheVariants.{NoMemory, Syntax, Closed}
-use Rattle.gs_lex.specs.Tokens.{IsCut, Ending, Fault, Lexeme, has_text}
+use Rattle.gs_lex.specs.Tokens.{IsCut, CutEnd, AtFault, Lexeme, has_text}
 use Rattle.gs_lex.specs.Lexemes.{lexemes_of}
+use Rattle.gs_lex.specs.Scans.{MayBecome}
 use Rattle.gs_lex.specs.Readings.{CutFrom, Fails, IsRead, Waits}
 use Rattle.gs_lex.specs.declared.readings.Halt.{Halt}
 use Rattle.gs_lex.specs.declared.readings.Halt.TheVariants as halt
 use Rattle.gs_lex.specs.declared.tokens.Token.{Token}
 use Rattle.gs_lex.specs.declared.lexers.Lexer.{Lexer}
 
--- The lexer was fed the text x and gave the tokens ts: however x goes on, they are its first tokens, and the
--- others are those of what is held and what comes. Before what is held stand whole characters.
+-- The lexer was fed the text x and gave the tokens ts: whatever x becomes, they are its first tokens, and the
+-- others are those of what becomes of the bytes that are held. Before what is held stand whole characters.
 pub record Leads (updates : Bool) (l : Lexer) (x : List ℕ) (ts : List Lexeme) : Type 0 where
   pub open_ : l.is_closed ≡ false
   pub reads : l.at.updates ≡ updates
@@ -21,7 +23,7 @@ pub record Leads (updates : Bool) (l : Lexer) (x : List ℕ) (ts : List Lexeme) 
   pub before : List ℕ
   pub parts : x ≡ before ++ l.held.items
   pub characters : IsUtf8 before
-  pub rest : (y : List ℕ) (us : List Lexeme) (e : Ending) → CutFrom l.at (l.held.items ++ y) us e → IsCut updates (x ++ y) (ts ++ us) e
+  pub rest : (z : List ℕ) (us : List Lexeme) (e : CutEnd) → MayBecome false l.held.items z → CutFrom l.at z us e → IsCut updates (before ++ z) (ts ++ us) e
 
 -- An earlier call was refused, and each later one is.
 abbrev pub IsClosed : Lexer → Type 0
@@ -37,9 +39,14 @@ pub record IsUnchanged (old new : Lexer) : Type 0 where
 abbrev pub Adds : List Token → List Token → List Lexeme → Type 0
 Adds old new us = lexemes_of new ≡ lexemes_of old ++ us
 
--- each list of tokens with which the tokens of the text begin, however it goes on, is a front of ts
-abbrev pub AreSettled : Bool → List ℕ → List Lexeme → Type 0
-AreSettled updates x ts = (us : List Lexeme) → ((y : List ℕ) (vs : List Lexeme) (e : Ending) → IsCut updates (x ++ y) vs e → Begins vs us) → Begins ts us
+-- the tokens of the text begin with these however it goes on
+abbrev pub Stay : Bool → List ℕ → List Lexeme → Type 0
+Stay updates x ts = (y : List ℕ) (us : List Lexeme) (e : CutEnd) → IsCut updates (x ++ y) us e → Begins us ts
+
+-- and with no longer list do they all begin
+pub record AreSettled (updates : Bool) (x : List ℕ) (ts : List Lexeme) : Type 0 where
+  pub stay : Stay updates x ts
+  pub are_all : (more : List Lexeme) → Stay updates x more → Begins ts more
 
 -- the tokens are none, or one of a kind that has a text
 abbrev pub AreQuiet : List Lexeme → Type 0
@@ -49,29 +56,29 @@ AreQuiet (t ∷ (s ∷ ts)) = ⊥
 
 -- the text may go on so that at most one token comes after these, of a kind that has a text (so it is no dot)
 pub record MayGoQuietly (updates : Bool) (x : List ℕ) (ts : List Lexeme) : Type 0 where
-  pub behind : List ℕ
+  pub onward : List ℕ
   pub last : List Lexeme
-  pub ending : Ending
+  pub ending : CutEnd
   pub quiet : AreQuiet last
-  pub cut : IsCut updates (x ++ behind) (ts ++ last) ending
+  pub cut : IsCut updates (x ++ onward) (ts ++ last) ending
 
--- a piece was read, and its tokens given; where the text so far ends between two characters, all that are settled are,
--- and it may go on quietly
+-- A piece was read, and its tokens given: all that are settled by the longest front of the text so far that ends between
+-- two characters, and that front may go on quietly.
 pub record Feeds (updates : Bool) (new : Lexer) (x : List ℕ) (ts : List Lexeme) (old_list new_list : List Token) : Type 0 where
   pub added : List Lexeme
   pub given : Adds old_list new_list added
   pub leads : Leads updates new x (ts ++ added)
-  pub settled : IsUtf8 x → AreSettled updates x (ts ++ added)
-  pub quiet : IsUtf8 x → MayGoQuietly updates x (ts ++ added)
+  pub settled : (front : List ℕ) → IsLongestFront x front → AreSettled updates front (ts ++ added)
+  pub quiet : (front : List ℕ) → IsLongestFront x front → MayGoQuietly updates front (ts ++ added)
 
 -- the text has this fault, however it goes on; the tokens before it are given
 pub record Breaks (updates : Bool) (x : List ℕ) (ts : List Lexeme) (at : ℕ) (old_list new_list : List Token) : Type 0 where
   pub added : List Lexeme
   pub given : Adds old_list new_list added
-  pub fault : (y : List ℕ) → IsCut updates (x ++ y) (ts ++ added) (Fault at)
+  pub fault : (y : List ℕ) → IsCut updates (x ++ y) (ts ++ added) (AtFault at)
 
 -- the whole text was read, and ends so; its last tokens are given
-pub record Finishes (updates : Bool) (x : List ℕ) (ts : List Lexeme) (e : Ending) (old_list new_list : List Token) : Type 0 where
+pub record Finishes (updates : Bool) (x : List ℕ) (ts : List Lexeme) (e : CutEnd) (old_list new_list : List Token) : Type 0 where
   pub added : List Lexeme
   pub given : Adds old_list new_list added
   pub cut : IsCut updates x (ts ++ added) e
@@ -84,7 +91,7 @@ FeedRefused updates x ts old_list new_list _ = ⊥
 
 abbrev pub FinishRefused : Bool → List ℕ → List Lexeme → List Token → List Token → Refusal → Type 0
 FinishRefused updates x ts old_list new_list NoMemory = Unit {0}
-FinishRefused updates x ts old_list new_list (Syntax at) = Finishes updates x ts (Fault at) old_list new_list
+FinishRefused updates x ts old_list new_list (Syntax at) = Finishes updates x ts (AtFault at) old_list new_list
 FinishRefused updates x ts old_list new_list _ = ⊥
 
 -- what a refusal leaves: a fault closes the lexer, and all else changes nothing
@@ -103,6 +110,6 @@ pub record Takes (old new : Lexer) (old_list new_list : List Token) (h : Halt) :
   pub before : List ℕ
   pub parts : old.held.items ≡ before ++ new.held.items
   pub characters : IsUtf8 before
-  pub cut : (y : List ℕ) (ts : List Lexeme) (e : Ending) → CutFrom new.at (new.held.items ++ y) ts e → CutFrom old.at (old.held.items ++ y) (added ++ ts) e
+  pub cut : (z : List ℕ) (ts : List Lexeme) (e : CutEnd) → MayBecome false new.held.items z → CutFrom new.at z ts e → CutFrom old.at (before ++ z) (added ++ ts) e
   pub fails : h ≡ halt.Fault → Fails false new.at new.held.items
   pub waits : (h ≡ halt.Fault → ⊥) → Waits new.at.in_comment new.held.items new.at.scan

@@ -1,9 +1,12 @@
 pub mod Classes
 pub mod Automata
+pub mod Moves
 pub mod States
 pub mod Symbols
 pub mod Regexes
+pub mod Chars
 pub mod Terminals
+pub mod Kinds
 pub mod Tokens
 pub mod Cuts
 pub mod Spans

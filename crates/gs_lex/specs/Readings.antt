@@ -1,10 +1,11 @@
 -- One step of reading a text: past white space or a comment, over a token, to a fault, or to the end of what is there.
 use Rattle.std.specs.Prelude.{◌≡◌, ◌≢◌, ℕ, ◌+◌, ◌≤◌, ◌<◌, Bool, true, false, List, [], ◌∷◌, ◌++◌, length, take, drop}
-use Rattle.std.specs.Str.{StartsWithNoChar, IsUtf8}
+use Rattle.std.specs.Str.{IsUtf8}
 use Rattle.gs_lex.specs.Classes.{is_ws}
-use Rattle.gs_lex.specs.Tokens.{Cut, Mode, Between, InComment, Ending, Whole, Fault, Lexeme, lexeme_at, behind}
+use Rattle.gs_lex.specs.Tokens.{Cut, Mode, Between, InComment, CutEnd, AtEnd, AtFault, Lexeme, lexeme_at, place_after}
 use Rattle.gs_lex.specs.Lexemes.{lexemes_of}
-use Rattle.gs_lex.specs.Scans.{MayFollow, IsScanned, IsBarrenTo, fresh}
+use Rattle.gs_lex.specs.Symbols.{IsShort}
+use Rattle.gs_lex.specs.Scans.{MayFollow, MayBecome, IsScanned, IsBarrenTo, fresh}
 use Rattle.gs_lex.specs.declared.readings.Halt.{Halt}
 use Rattle.gs_lex.specs.declared.readings.Halt.TheVariants as halt
 use Rattle.gs_lex.specs.declared.kinds.TokenKind.{TokenKind}
@@ -25,7 +26,7 @@ bit true = 1
 bit false = 0
 
 -- how the text is cut from where a reading stands
-abbrev pub CutFrom : Reading → List ℕ → List Lexeme → Ending → Type 0
+abbrev pub CutFrom : Reading → List ℕ → List Lexeme → CutEnd → Type 0
 CutFrom r x ts e = Cut r.updates (mode_of r.in_comment) r.place r.last x ts e
 
 -- the next token of x is read as far as the reading says, and what it has found barren is so
@@ -35,20 +36,20 @@ pub record IsRead (is_end : Bool) (r : Reading) (x : List ℕ) : Type 0 where
 
 -- the tokens of x are those after its first bytes, which are characters
 pub record Passes (is_end : Bool) (r : Reading) (x : List ℕ) (count : ℕ) (in_comment : Bool) : Type 0 where
-  pub cut : (y : List ℕ) (ts : List Lexeme) (e : Ending) → MayFollow is_end y
-      → Cut r.updates (mode_of in_comment) (behind r.place count) r.last (drop count x ++ y) ts e → CutFrom r (x ++ y) ts e
+  pub cut : (z : List ℕ) (ts : List Lexeme) (e : CutEnd) → MayBecome is_end (drop count x) z
+      → Cut r.updates (mode_of in_comment) (place_after r.place count) r.last z ts e → CutFrom r (take count x ++ z) ts e
   pub characters : IsUtf8 (take count x)
 
 -- the tokens of x are a token of its first bytes, and those after it, where so much is barren
 pub record Gives (is_end : Bool) (r : Reading) (x : List ℕ) (k : TokenKind) (count barren : ℕ) : Type 0 where
-  pub cut : (y : List ℕ) (ts : List Lexeme) (e : Ending) → MayFollow is_end y
-      → Cut r.updates Between (behind r.place count) (behind r.place count) (drop count x ++ y) ts e → CutFrom r (x ++ y) (lexeme_at k r.place (take count x) ∷ ts) e
+  pub cut : (z : List ℕ) (ts : List Lexeme) (e : CutEnd) → MayBecome is_end (drop count x) z
+      → Cut r.updates Between (place_after r.place count) (place_after r.place count) z ts e → CutFrom r (take count x ++ z) (lexeme_at k r.place (take count x) ∷ ts) e
   pub characters : IsUtf8 (take count x)
   pub stays : IsBarrenTo is_end r.updates (drop count x) barren
 
 -- x has a fault before its next token ends
 pub record Fails (is_end : Bool) (r : Reading) (x : List ℕ) : Type 0 where
-  pub cut : (y : List ℕ) → MayFollow is_end y → CutFrom r (x ++ y) [] (Fault r.last)
+  pub cut : (y : List ℕ) → MayFollow is_end y → CutFrom r (x ++ y) [] (AtFault r.last)
 
 -- neither white space nor a comment
 pub record BeginsToken (x : List ℕ) : Type 0 where
@@ -58,19 +59,19 @@ pub record BeginsToken (x : List ℕ) : Type 0 where
   pub no_space : is_ws first ≡ false
   pub no_hash : first ≢ 35
 
--- Why a reading waits at x: no character comes next, in a comment or between two tokens; or a token has begun, no
--- character comes after what is read of it, and some may go on with it.
+-- Why a reading waits at x: no whole character comes next, in a comment or between two tokens; or a token has begun, no
+-- whole character comes after what is read of it, and some may go on with it.
 pub data Waits (in_comment : Bool) (x : List ℕ) (s : Scan) : Type 0 where
-  inside : in_comment ≡ true → StartsWithNoChar x → Waits in_comment x s
+  inside : in_comment ≡ true → IsShort x → Waits in_comment x s
   between : in_comment ≡ false → x ≡ [] → Waits in_comment x s
-  begun : in_comment ≡ false → BeginsToken x → StartsWithNoChar (drop s.len x) → ((t : Terminal) → s.state ≢ at.Ended t) → Waits in_comment x s
+  begun : in_comment ≡ false → BeginsToken x → IsShort (drop s.len x) → ((t : Terminal) → s.state ≢ at.Ended t) → Waits in_comment x s
 
 -- what a step says
 abbrev pub StepFits : Bool → Reading → List ℕ → Step → Type 0
 StepFits is_end r x (step.Passed count in_comment) = Passes is_end r x count in_comment
 StepFits is_end r x (step.Found k count barren) = Gives is_end r x k count barren
 StepFits is_end r x step.Fault = Fails is_end r x
-StepFits is_end r x step.End = (is_end ≡ true) × CutFrom r x [] Whole
+StepFits is_end r x step.End = (is_end ≡ true) × CutFrom r x [] AtEnd
 StepFits is_end r x (step.Wait s) = (is_end ≡ false) × (IsScanned r.updates x s × Waits r.in_comment x s)
 
 -- a step stays within the text, and goes on
@@ -88,10 +89,10 @@ pub record IsWithin (r : Reading) (x : List ℕ) : Type 0 where
   pub best : r.scan.best_len ≤ r.scan.len
 
 abbrev pub passed_of : Reading → ℕ → Bool → Reading
-passed_of r count in_comment = record { updates = r.updates; in_comment = in_comment; cut = r.cut + count; place = behind r.place count; last = r.last; barren = 0; scan = fresh r.updates }
+passed_of r count in_comment = record { updates = r.updates; in_comment = in_comment; cut = r.cut + count; place = place_after r.place count; last = r.last; barren = 0; scan = fresh r.updates }
 
-abbrev pub behind_of : Reading → ℕ → ℕ → Reading
-behind_of r count barren = record { updates = r.updates; in_comment = false; cut = r.cut + count; place = behind r.place count; last = behind r.place count; barren = barren; scan = fresh r.updates }
+abbrev pub found_of : Reading → ℕ → ℕ → Reading
+found_of r count barren = record { updates = r.updates; in_comment = false; cut = r.cut + count; place = place_after r.place count; last = place_after r.place count; barren = barren; scan = fresh r.updates }
 
 -- Some tokens were added, and with those that come they are the tokens of the text; whole characters were passed.
 pub record Went (is_end : Bool) (x : List ℕ) (from to : Reading) (old new : List Token) : Type 0 where
@@ -102,12 +103,12 @@ pub record Went (is_end : Bool) (x : List ℕ) (from to : Reading) (old new : Li
   pub characters : IsUtf8 before
   pub mode : to.updates ≡ from.updates
   pub read : IsRead is_end to (drop to.cut x)
-  pub cut : (y : List ℕ) (ts : List Lexeme) (e : Ending) → MayFollow is_end y → CutFrom to (drop to.cut x ++ y) ts e → CutFrom from (drop from.cut x ++ y) (added ++ ts) e
+  pub cut : (z : List ℕ) (ts : List Lexeme) (e : CutEnd) → MayBecome is_end (drop to.cut x) z → CutFrom to z ts e → CutFrom from (before ++ z) (added ++ ts) e
 
 -- why the reading stopped
 abbrev pub HasHalted : Bool → List ℕ → Reading → Halt → Type 0
 HasHalted is_end x r halt.Fault = Fails is_end r (drop r.cut x)
-HasHalted is_end x r halt.End = (is_end ≡ true) × CutFrom r (drop r.cut x) [] Whole
+HasHalted is_end x r halt.End = (is_end ≡ true) × CutFrom r (drop r.cut x) [] AtEnd
 HasHalted is_end x r halt.Wait = (is_end ≡ false) × Waits r.in_comment (drop r.cut x) r.scan
 
 -- tokens were added at most

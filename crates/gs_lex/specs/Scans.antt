@@ -1,8 +1,9 @@
 -- How far a token is read.
-use Rattle.std.specs.Prelude.{◌≡◌, ◌≢◌, ℕ, ◌+◌, ◌≤◌, Bool, true, List, [], ◌++◌, length, Option, Some, None, encode_utf8_all}
-use Rattle.std.specs.Str.{all_scalars}
+use Rattle.std.specs.Prelude.{◌≡◌, ◌≢◌, ℕ, ◌+◌, ◌≤◌, Bool, true, false, List, [], ◌++◌, length, Option, Some, None, encode_utf8_all}
+use Rattle.std.specs.Str.{IsUtf8, all_scalars}
 use Rattle.gs_lex.specs.Automata.{Found, run, run_from, kind_at, longest}
 use Rattle.gs_lex.specs.States.{tokens, accepts, start_of}
+use Rattle.gs_lex.specs.Symbols.{IsShort}
 use Rattle.gs_lex.specs.declared.kinds.Terminal.{Terminal}
 use Rattle.gs_lex.specs.declared.states.State.{State}
 use Rattle.gs_lex.specs.declared.states.State.TheVariants as at
@@ -38,10 +39,16 @@ pub record IsScanned (updates : Bool) (x : List ℕ) (s : Scan) : Type 0 where
 abbrev pub MayFollow : Bool → List ℕ → Type 0
 MayFollow is_end y = is_end ≡ true → y ≡ []
 
+-- What the text x may become: it goes on; or, where it does not end yet, its last character, of which not all bytes are
+-- there, turns out to be another. What is decided of x holds of all of these.
+pub data MayBecome (is_end : Bool) (x z : List ℕ) : Type 0 where
+  goes_on : (y : List ℕ) → MayFollow is_end y → z ≡ x ++ y → MayBecome is_end x z
+  recut : (front short y : List ℕ) → is_end ≡ false → x ≡ front ++ short → IsUtf8 front → IsShort short → z ≡ front ++ y → MayBecome is_end x z
+
 -- from this state, the automaton finds no token in z
 abbrev pub IsBarren : Bool → State → List ℕ → Type 0
 IsBarren updates q z = (t : Terminal) (v s : List ℕ) → z ≡ encode_utf8_all v ++ s → all_scalars v ≡ true → v ≢ [] → kind_at (tokens updates) (run_from (tokens updates) (Some q) v) ≡ Some t → ⊥
 
--- after each of the first characters of x, which are n bytes, a word's dots lead to no token, however x goes on
+-- after each of the first characters of x, which are n bytes, a word's dots lead to no token, whatever x becomes
 abbrev pub IsBarrenTo : Bool → Bool → List ℕ → ℕ → Type 0
-IsBarrenTo is_end updates x n = (y v z : List ℕ) → MayFollow is_end y → x ++ y ≡ encode_utf8_all v ++ z → all_scalars v ≡ true → v ≢ [] → length (encode_utf8_all v) ≤ n → IsBarren updates at.WordDots z
+IsBarrenTo is_end updates x n = (text v z : List ℕ) → MayBecome is_end x text → text ≡ encode_utf8_all v ++ z → all_scalars v ≡ true → v ≢ [] → length (encode_utf8_all v) ≤ n → IsBarren updates at.WordDots z

@@ -21,7 +21,7 @@ pub record IsSpan (updates : Bool) (x : List ℕ) (n : ℕ) (t : Lexeme) : Type 
   pub parts : x ≡ before ++ (bytes ++ after)
   pub starts : t.start ≡ length before
   pub ends : t.«end» ≡ t.start + length bytes
-  pub behind : n ≤ t.start
+  pub apart : n ≤ t.start
   pub some : t.start < t.«end»
   pub within : t.«end» ≤ length x
   pub is_token : IsSpelling updates t.kind bytes

@@ -1,118 +1,36 @@
 -- The terminals of Turtle (section 6.5), with the numbers of their productions, and those that SPARQL Update has
--- besides (SPARQL 1.1 Query, section 19.8).
-use Rattle.std.specs.Prelude.{ℕ, Bool, true, false, not, ◌==◌, ◌||◌, List}
-use Rattle.gs_model.specs.Characters.{is_iri_char}
-use Rattle.gs_lex.specs.Classes as is
+-- besides (SPARQL 1.1 Query, section 19.8). They say which form a token has: "\U00110000" (a value outside Unicode),
+-- <\uD800> (a surrogate) and <a\u0020> (a character that no IRI has) are tokens. That these stand for no text is a rule of
+-- gs_escape, which finds what escapes mean.
+use Rattle.std.specs.Prelude.{ℕ, Bool, true, false, List}
 use Rattle.gs_lex.specs.Regexes.{Regex, Never, Empty, One, Then, Or, Many, Matches}
 use Rattle.gs_lex.specs.declared.kinds.Terminal.{Terminal}
 use Rattle.gs_lex.specs.declared.kinds.Terminal.TheVariants as kind
+pub use Rattle.gs_lex.specs.Chars.{Chars, Less, Greater, Quote, Apostrophe, Backslash, Colon, Underscore, AtSign, Dash, Dot, Percent, Caret, Semicolon, Comma, OpenBracket, CloseBracket, OpenParenthesis, CloseParenthesis, OpenBrace, CloseBrace, VariableMark, SmallU, BigU, IriChar, ShortQuoteChar, ShortApostropheChar, LongQuoteChar, LongApostropheChar, Echar, Hex, Digit, Sign, ExponentLetter, Alpha, Alphanumeric, Base, NameChar, LabelStart, LocalStart, LocalChar, LocalEscape, VariableChar, holds}
 
--- the sets of characters that the terminals name: one character, or a class
-pub data Chars : Type 0 where
-  Less : Chars
-  Greater : Chars
-  Quote : Chars
-  Apostrophe : Chars
-  Backslash : Chars
-  Colon : Chars
-  Underscore : Chars
-  AtSign : Chars
-  Dash : Chars
-  Dot : Chars
-  Percent : Chars
-  Caret : Chars
-  Semicolon : Chars
-  Comma : Chars
-  OpenBracket : Chars
-  CloseBracket : Chars
-  OpenParenthesis : Chars
-  CloseParenthesis : Chars
-  OpenBrace : Chars
-  CloseBrace : Chars
-  VariableMark : Chars
-  SmallU : Chars
-  BigU : Chars
-  IriChar : Chars
-  ShortQuoteChar : Chars
-  ShortApostropheChar : Chars
-  LongQuoteChar : Chars
-  LongApostropheChar : Chars
-  Echar : Chars
-  Hex : Chars
-  Digit : Chars
-  Sign : Chars
-  ExponentLetter : Chars
-  Alpha : Chars
-  Alphanumeric : Chars
-  Base : Chars
-  NameChar : Chars
-  LabelStart : Chars
-  LocalStart : Chars
-  LocalChar : Chars
-  LocalEscape : Chars
-  VariableChar : Chars
-
-abbrev pub holds : Chars → ℕ → Bool
-holds Less c = c == 60
-holds Greater c = c == 62
-holds Quote c = c == 34
-holds Apostrophe c = c == 39
-holds Backslash c = c == 92
-holds Colon c = c == 58
-holds Underscore c = c == 95
-holds AtSign c = c == 64
-holds Dash c = c == 45
-holds Dot c = c == 46
-holds Percent c = c == 37
-holds Caret c = c == 94
-holds Semicolon c = c == 59
-holds Comma c = c == 44
-holds OpenBracket c = c == 91
-holds CloseBracket c = c == 93
-holds OpenParenthesis c = c == 40
-holds CloseParenthesis c = c == 41
-holds OpenBrace c = c == 123
-holds CloseBrace c = c == 125
-holds VariableMark c = c == 63 || c == 36
-holds SmallU c = c == 117
-holds BigU c = c == 85
-holds IriChar c = is_iri_char c
-holds ShortQuoteChar c = not (c == 34 || c == 92 || is.is_line_end c)
-holds ShortApostropheChar c = not (c == 39 || c == 92 || is.is_line_end c)
-holds LongQuoteChar c = not (c == 34 || c == 92)
-holds LongApostropheChar c = not (c == 39 || c == 92)
-holds Echar c = is.is_echar c
-holds Hex c = is.is_hex c
-holds Digit c = is.is_digit c
-holds Sign c = is.is_sign c
-holds ExponentLetter c = is.is_exponent c
-holds Alpha c = is.is_alpha c
-holds Alphanumeric c = is.is_alphanumeric c
-holds Base c = is.is_base c
-holds NameChar c = is.is_name c
-holds LabelStart c = is.is_label_start c
-holds LocalStart c = is.is_local_start c
-holds LocalChar c = is.is_local c
-holds LocalEscape c = is.is_local_escape c
-holds VariableChar c = is.is_variable c
-
+-- a regular expression over those sets
 abbrev pub Pattern : Type 0
 Pattern = Regex Chars
 
+-- one after the other
 infixr 6 ◌·◌
 abbrev pub ◌·◌ : Pattern → Pattern → Pattern
 r · s = Then r s
 
+-- one or the other
 infixr 5 ◌∣◌
 abbrev pub ◌∣◌ : Pattern → Pattern → Pattern
 r ∣ s = Or r s
 
+-- one or more
 abbrev pub some : Pattern → Pattern
 some r = r · Many r
 
+-- one or none
 abbrev pub maybe : Pattern → Pattern
 maybe r = r ∣ Empty
 
+-- a hexadecimal digit
 abbrev pub hex : Pattern
 hex = One Hex
 
@@ -140,9 +58,11 @@ namespace = maybe prefix · One Colon
 abbrev pub local : Pattern
 local = (One LocalStart ∣ plx) · maybe (Many (One LocalChar ∣ One Dot ∣ plx) · (One LocalChar ∣ plx))
 
+-- digits, at least one
 abbrev pub digits : Pattern
 digits = some (One Digit)
 
+-- a sign, or none
 abbrev pub sign : Pattern
 sign = maybe (One Sign)
 
@@ -165,6 +85,7 @@ abbrev pub if_updates : Bool → Pattern → Pattern
 if_updates true r = r
 if_updates false r = Never
 
+-- the regular expression of each terminal
 abbrev pub rule : Bool → Terminal → Pattern
 -- [18] IRIREF
 rule updates kind.IriRef = One Less · Many (One IriChar ∣ uchar) · One Greater

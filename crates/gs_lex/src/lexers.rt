@@ -1,6 +1,6 @@
 //! The lexer.
 ghost use Rattle.std.specs.Prelude.{◌≡◌, ℕ, ◌≤◌, Bool, true, false, List, [], ◌++◌, drop, vec_len, IfOk, IfErr, OnOk, OnErr};
-ghost use Rattle.gs_lex.specs.Tokens.{Lexeme, Whole};
+ghost use Rattle.gs_lex.specs.Tokens.{Lexeme, AtEnd};
 ghost use Rattle.gs_lex.specs.Readings.{Grows, IsRead, first_of};
 
 use crate::readings::{Halt, read};
@@ -130,7 +130,7 @@ impl Lexer {
     /// Ends the text, and adds its last tokens. The lexer then stands at the start of another
     /// text.
     pub fn finish(&mut self, tokens: &mut Vec<Token>) -> Result<(), Refusal>
-        ensures ok { (updates : Bool) (x : List ℕ) (ts : List Lexeme) → Leads updates self.old x ts → OnOk result (Finishes updates x ts Whole tokens.old.items tokens.new.items × Leads updates self.new [] []) }
+        ensures ok { (updates : Bool) (x : List ℕ) (ts : List Lexeme) → Leads updates self.old x ts → OnOk result (Finishes updates x ts AtEnd tokens.old.items tokens.new.items × Leads updates self.new [] []) }
         ensures fault { (updates : Bool) (x : List ℕ) (ts : List Lexeme) → Leads updates self.old x ts → IfErr result (FinishRefused updates x ts tokens.old.items tokens.new.items) }
         ensures err { IfErr result (Leaves self.old self.new tokens.old.items tokens.new.items) }
         ensures closed { IsClosed self.old → result ≡ Err Refusal.Closed }

@@ -1,13 +1,13 @@
 //! The reading of a text, step by step.
 ghost use Rattle.std.specs.Prelude.{◌≡◌, ℕ, ◌≤◌, ◌<◌, ◌+◌, ◌^◌, ◌++◌, ◌∷◌, [], length, take, drop, vec_len, IfOk, OnOk};
-ghost use Rattle.gs_lex.specs.Readings.{Went, Grows, HasHalted, IsWithin, IsRead, StepFits, StepMoves, passed_of, behind_of};
+ghost use Rattle.gs_lex.specs.Readings.{Went, Grows, HasHalted, IsWithin, IsRead, StepFits, StepMoves, passed_of, found_of};
 ghost use Rattle.gs_lex.specs.Lexemes.{lexemes_of};
 ghost use Rattle.gs_lex.specs.Tokens.{lexeme_at};
 
 use crate::kinds::TokenKind;
 use crate::scans::Scan;
 use crate::steps::{Reading, Step, next_step};
-use crate::tokens::{Token, place_behind, token_at};
+use crate::tokens::{Token, later_place, token_at};
 use std::alloc::{AllocError, Global};
 
 /// Why a reading stops.
@@ -18,7 +18,7 @@ pub enum Halt {
     Wait,
 }
 
-/// Behind so many bytes that are no part of a token.
+/// After so many bytes that are no part of a token.
 fn passed(at: Reading, count: usize, in_comment: bool) -> Reading
     requires { at.cut + count < 2 ^ 64 }
     ensures { result ≡ passed_of at count in_comment }
@@ -27,19 +27,19 @@ fn passed(at: Reading, count: usize, in_comment: bool) -> Reading
         updates: at.updates,
         in_comment,
         cut: at.cut + count,
-        place: place_behind(at.place, count),
+        place: later_place(at.place, count),
         last: at.last,
         barren: 0,
         scan: Scan::new(at.updates),
     }
 }
 
-/// Behind a token of so many bytes, where so many more are barren.
-fn behind(at: Reading, count: usize, barren: usize) -> Reading
+/// After a token of so many bytes, where so many more are barren.
+fn found(at: Reading, count: usize, barren: usize) -> Reading
     requires { at.cut + count < 2 ^ 64 }
-    ensures { result ≡ behind_of at count barren }
+    ensures { result ≡ found_of at count barren }
 {
-    let end = place_behind(at.place, count);
+    let end = later_place(at.place, count);
     Reading {
         updates: at.updates,
         in_comment: false,
@@ -100,7 +100,7 @@ pub fn read(
             }
             Step::Found(kind, count, barren) => {
                 add_token(alloc, text, at, kind, count, tokens)?;
-                at = behind(at, count, barren);
+                at = found(at, count, barren);
             }
             Step::Fault => return Ok((at, Halt::Fault)),
             Step::End => return Ok((at, Halt::End)),

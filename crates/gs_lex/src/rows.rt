@@ -134,7 +134,7 @@ fn a_dot_belongs_to_the_longest_token(rt: HostRuntime) -> Result<(), Fail> {
 }
 
 #[test]
-fn words_behind_a_word_that_is_no_prefix_are_words(rt: HostRuntime) -> Result<(), Fail> {
+fn words_after_a_word_that_is_no_prefix_are_words(rt: HostRuntime) -> Result<(), Fail> {
     let alloc = rt.alloc();
     expect(
         &rt,

@@ -1,8 +1,8 @@
 //! How far a token is read.
 ghost use Rattle.std.specs.Prelude.{◌≡◌, ◌≢◌, false, ℕ, ◌+◌, ◌≤◌, ◌<◌, ◌^◌, ◌++◌, Bool, List, length, drop, MatchBool};
-ghost use Rattle.std.specs.Str.{StartsWithNoChar};
 ghost use Rattle.gs_lex.specs.Runs.{stay_of};
-ghost use Rattle.gs_lex.specs.Scans.{onward_of, fresh, IsScanned, IsBarren, IsBarrenTo, MayFollow};
+ghost use Rattle.gs_lex.specs.Symbols.{IsShort};
+ghost use Rattle.gs_lex.specs.Scans.{onward_of, fresh, IsScanned, IsBarren, IsBarrenTo, MayBecome};
 
 use crate::kinds::Terminal;
 use crate::runs::{iri_run, name_run, string_run};
@@ -31,7 +31,7 @@ impl Scan {
         }
     }
 
-    /// Behind one character more, of so many bytes.
+    /// After one character more, of so many bytes.
     fn onward(self, state: State, size: usize) -> Self
         requires { self.len + size < 2 ^ 64 }
         ensures { result ≡ onward_of self state size }
@@ -56,7 +56,7 @@ impl Scan {
     /// At a place after, in the same state.
     fn stay(self, len: usize) -> Self
         requires best { self.best_len ≤ self.len }
-        requires behind { self.len ≤ len }
+        requires onward { self.len ≤ len }
         ensures stayed { result ≡ stay_of self len }
         ensures len { result.len ≡ len }
         ensures best_within { result.best_len ≤ result.len }
@@ -114,7 +114,7 @@ fn is_ended(state: State) -> bool
     }
 }
 
-/// Reads on until it is known that no longer token comes (`true`), or until the text ends. Behind a
+/// Reads on until it is known that no longer token comes (`true`), or until the text ends. After a
 /// word's dots within the barren bytes it is known at once: an earlier scan went on from there in
 /// vain.
 pub fn read_on(text: &[u8], from: Scan, barren: usize) -> (Scan, bool)
@@ -123,8 +123,8 @@ pub fn read_on(text: &[u8], from: Scan, barren: usize) -> (Scan, bool)
     ensures within { result.0.len ≤ length text.now }
     ensures best_within { result.0.best_len ≤ result.0.len }
     ensures scanned { (updates : Bool) → IsScanned updates text.now from → IsScanned updates text.now result.0 }
-    ensures stuck { (is_end updates : Bool) → IsScanned updates text.now from → IsBarrenTo is_end updates text.now barren → MatchBool result.1 ((y : List ℕ) → MayFollow is_end y → IsBarren updates result.0.state (drop result.0.len text.now ++ y)) (IsBarren updates result.0.state (drop result.0.len text.now)) }
-    ensures open_ { result.1 ≡ false → StartsWithNoChar (drop result.0.len text.now) × ((t : Terminal) → result.0.state ≢ State.Ended t) }
+    ensures stuck { (is_end updates : Bool) → IsScanned updates text.now from → IsBarrenTo is_end updates text.now barren → MatchBool result.1 ((z : List ℕ) → MayBecome is_end (drop result.0.len text.now) z → IsBarren updates result.0.state z) (IsBarren updates result.0.state (drop result.0.len text.now)) }
+    ensures open_ { result.1 ≡ false → IsShort (drop result.0.len text.now) × ((t : Terminal) → result.0.state ≢ State.Ended t) }
 {
     let mut scan = from;
     while scan.len < text.len() {

@@ -43,16 +43,16 @@ pub enum State {
     Start,
     UpdateStart,
     Inside(Text),
-    /// Behind a backslash.
+    /// After a backslash.
     Escape(Text),
     Hex(Text, Left),
-    /// Behind a token that no character goes on with.
+    /// After a token that no character goes on with.
     Ended(Terminal),
-    /// Behind a quote that opens a string, after two, and after three.
+    /// After a quote that opens a string, after two, and after three.
     First(Mark),
     Empty(Mark),
     Opened(Mark),
-    /// Behind one and two quotes in a long string.
+    /// After one and two quotes in a long string.
     OneMark(Mark),
     TwoMarks(Mark),
     Underscore,

@@ -73,8 +73,8 @@ fn comment_step(rest: &[u8], at: Reading, is_end: bool) -> Step
 }
 
 /// How many bytes are barren after the longest token that a scan has found, where so many were at
-/// its start. Behind a word that is no prefix, so are all that were read.
-fn barren_behind(barren: usize, scan: Scan, terminal: Terminal) -> usize
+/// its start. After a word that is no prefix, so are all that were read.
+fn barren_after(barren: usize, scan: Scan, terminal: Terminal) -> usize
     requires { scan.best_len ≤ scan.len }
     ensures { (result ≡ barren - scan.best_len) ⊎ ((terminal ≡ Terminal.Word) × (result ≡ max (scan.len - scan.best_len) (barren - scan.best_len))) }
 {
@@ -104,7 +104,7 @@ fn token_step(rest: &[u8], at: Reading, is_end: bool) -> Step
         None => Step::Fault,
         Some(terminal) => match kind_of(at.updates, terminal, &rest[..scan.best_len]) {
             Some(kind) => {
-                let barren = barren_behind(at.barren, scan, terminal);
+                let barren = barren_after(at.barren, scan, terminal);
                 Step::Found(kind, scan.best_len, barren)
             }
             None => Step::Fault,

@@ -1,6 +1,6 @@
 //! A token of a text.
 ghost use Rattle.std.specs.Prelude.{◌≡◌, IfOk, length};
-ghost use Rattle.gs_lex.specs.Tokens.{lexeme_at, behind};
+ghost use Rattle.gs_lex.specs.Tokens.{lexeme_at, place_after};
 ghost use Rattle.gs_lex.specs.Lexemes.{lexeme_of};
 
 use crate::kinds::TokenKind;
@@ -22,8 +22,8 @@ pub struct Token {
 
 /// The place after so many bytes more.
 #[inline]
-pub fn place_behind(place: u64, count: usize) -> u64
-    ensures { result ≡ behind place count }
+pub fn later_place(place: u64, count: usize) -> u64
+    ensures { result ≡ place_after place count }
 {
     place.saturating_add(count as u64)
 }
@@ -37,7 +37,7 @@ pub fn token_at(
 ) -> Result<Token, AllocError>
     ensures { IfOk result (λ t. lexeme_of t ≡ lexeme_at kind start bytes.now) }
 {
-    let end = place_behind(start, bytes.len());
+    let end = later_place(start, bytes.len());
     let text = if has_text(kind) {
         Vec::from_slice(alloc, bytes)?
     } else {

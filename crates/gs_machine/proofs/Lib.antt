@@ -1,3 +1,4 @@
 pub mod MachineLemmas
 pub mod Encodings
 pub mod Utf8Lemmas
+pub mod FrontLemmas

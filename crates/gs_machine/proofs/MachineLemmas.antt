@@ -1,7 +1,7 @@
 -- Laws of machines.
 use Rattle.std.proofs.Common.{◌≡◌, ℕ, ◌+◌, ◌<◌, List, [], ◌∷◌, ◌++◌, length, take, get_or, refl, sym, ap, ◌∙◌, append_assoc, append-nil}
 use Rattle.std.proofs.lemmas.List.{take_more}
-use Rattle.gs_machine.specs.Machines.{Machine, joined, steps, rest, behind, AreSettled, Silences}
+use Rattle.gs_machine.specs.Machines.{Machine, joined, steps, rest, composed, AreSettled, Silences}
 
 pub joined-joined : {O E : Type 0} (a b : List O) (r : List O × E) → joined (a ++ b) r ≡ joined a (joined b r)
 joined-joined a b r = ap (λ x. (x, r.1)) (append_assoc a b r.0)
@@ -15,7 +15,7 @@ steps-append m s (i ∷ is) y =
     ap (λ u. (u.0, t.1 ++ u.1)) (steps-append m t.0 is y)
     ∙ ap (λ z. ((steps m (steps m t.0 is).0 y).0, z)) (sym (append_assoc t.1 (steps m t.0 is).1 (steps m (steps m t.0 is).0 y).1))
 
--- what is told of a text is what its front gives, and what is told of the rest from there
+-- the outputs over a text are those of its front, and those of the rest from there
 pub rest-append : {S I O E : Type 0} (m : Machine S I O E) (s : S) (x y : List I)
     → rest m s (x ++ y) ≡ joined (steps m s x).1 (rest m (steps m s x).0 y)
 unfolding steps rest
@@ -24,24 +24,24 @@ rest-append m s (i ∷ is) y =
     let t = m.step s i in
     ap (joined t.1) (rest-append m t.0 is y) ∙ sym (joined-joined t.1 (steps m t.0 is).1 (rest m (steps m t.0 is).0 y))
 
-pub steps-behind : {S T I M O E F : Type 0} (a : Machine S I M E) (b : Machine T M O F) (s : S) (t : T) (x : List I)
-    → steps (behind a b) (s, t) x ≡ (((steps a s x).0, (steps b t (steps a s x).1).0), (steps b t (steps a s x).1).1)
-unfolding steps behind
-steps-behind a b s t [] = refl
-steps-behind a b s t (i ∷ is) =
+pub steps-composed : {S T I M O E F : Type 0} (a : Machine S I M E) (b : Machine T M O F) (s : S) (t : T) (x : List I)
+    → steps (composed a b) (s, t) x ≡ (((steps a s x).0, (steps b t (steps a s x).1).0), (steps b t (steps a s x).1).1)
+unfolding steps composed
+steps-composed a b s t [] = refl
+steps-composed a b s t (i ∷ is) =
     let u = a.step s i in
     let v = steps b t u.1 in
-    ap (λ z. (z.0, v.1 ++ z.1)) (steps-behind a b u.0 v.0 is)
+    ap (λ z. (z.0, v.1 ++ z.1)) (steps-composed a b u.0 v.0 is)
     ∙ ap (λ z. (((steps a u.0 is).0, z.0), z.1)) (sym (steps-append b t u.1 (steps a u.0 is).1))
 
--- what two machines tell is what the second tells of what the first tells
-pub rest-behind : {S T I M O E F : Type 0} (a : Machine S I M E) (b : Machine T M O F) (s : S) (t : T) (x : List I)
-    → rest (behind a b) (s, t) x ≡ rest b t (rest a s x).0
-unfolding rest behind
-rest-behind a b s t [] = refl
-rest-behind a b s t (i ∷ is) =
+-- the outputs of two machines are those of the second over the outputs of the first
+pub rest-composed : {S T I M O E F : Type 0} (a : Machine S I M E) (b : Machine T M O F) (s : S) (t : T) (x : List I)
+    → rest (composed a b) (s, t) x ≡ rest b t (rest a s x).0
+unfolding rest composed
+rest-composed a b s t [] = refl
+rest-composed a b s t (i ∷ is) =
     let u = a.step s i in
-    ap (joined (steps b t u.1).1) (rest-behind a b u.0 (steps b t u.1).0 is)
+    ap (joined (steps b t u.1).1) (rest-composed a b u.0 (steps b t u.1).0 is)
     ∙ sym (rest-append b t u.1 (rest a u.0 is).0)
 
 -- what was given so far is settled, and all that is

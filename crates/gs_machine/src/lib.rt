@@ -5,4 +5,4 @@ mod decoder;
 mod laws;
 
 pub use decoder::{BAD, Decoder};
-pub use laws::text_has_one_spelling;
+pub use laws::{text_has_one_longest_front, text_has_one_spelling};

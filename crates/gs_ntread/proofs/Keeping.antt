@@ -1,31 +1,27 @@
--- What is read of a line leaves no line's end after, and a fault is one.
-use Rattle.std.proofs.Common.{◌≡◌, ℕ, ◌-◌, false, List, [], ◌∷◌, length, Option, Some, None, Result, Ok, Err}
+-- What is read of a line leaves no line's end after it.
+use Rattle.std.proofs.Common.{◌≡◌, ℕ, ◌-◌, Bool, true, false, List, [], ◌∷◌, length, Option, Some, None, Result, Ok, Err}
 use Rattle.std.specs.Prelude.{◌==◌, ◌&&◌, ◌||◌, nat_le}
 use lib.Utf8.{scalar}
 use Rattle.std.specs.Str.{str_to_ascii_lowercase}
 use Rattle.gs_model.specs.Terms.{Term, Literal, Typed, Tagged, xsd_string, is_term, text_of}
 use Rattle.gs_model.specs.Limits.{max_term_bytes}
-use Rattle.gs_body.specs.Bodies.{Ending, Whole, Syntax, TooLong}
+use Rattle.gs_model.specs.declared.faults.Fault.{Fault}
 use Rattle.gs_ntterm.specs.Marks.{Mark}
 use Rattle.gs_ntterm.specs.Classes.{is_space, is_line_end, may_stand_in_iri, may_stand_in_string, is_hex, with_digit, is_label_char, begins_label, is_tag_char}
-use Rattle.gs_ntterm.specs.Words.{Labelled, Word, made, label_made, typed_made}
-use Rattle.gs_ntterm.specs.Terminals.{Read, ◌>>=◌, skip, before, Inside, Plain, Escape, Digits, escaped, escape_before, iri_after, string_after, goes_on, label_after, label_at, tag_after}
+use Rattle.gs_term.specs.Making.{made}
+use Rattle.gs_ntterm.specs.LineTerms.{typed_made}
+use Rattle.gs_ntterm.specs.Terminals.{Read, ◌>>=◌, skip, before, Inside, Plain, Escape, Digits, escaped, escape_before, iri_after, string_after, goes_on, label_after, label_at, begins_part, tag_after}
 use Rattle.gs_ntterm.proofs.Branches.{either_way}
-use Rattle.gs_ntread.specs.Grammar.{before_text, datatype_at, caret_at, suffix_at}
+use Rattle.gs_ntread.specs.Grammar.{before_text, datatype_at, caret_at, tag_at, suffix_at}
 
 -- no character of a line ends it
 pub data NoEnd : List Mark → Type 0 where
   none : NoEnd []
   more : {m : Mark} {ms : List Mark} → is_line_end m.0 ≡ false → NoEnd ms → NoEnd (m ∷ ms)
 
-abbrev pub IsFault : Ending → Type 0
-IsFault Whole = ⊥
-IsFault Syntax = Unit {0}
-IsFault TooLong = Unit {0}
-
 -- no character of the text after what was read ends a line
 abbrev pub KeepsLine : {A : Type 0} → Read A → Type 0
-KeepsLine (Err e) = IsFault e
+KeepsLine (Err e) = Unit {0}
 KeepsLine (Ok r) = NoEnd r.1
 
 keeps_before : (c : ℕ) (r : Read (List ℕ)) → KeepsLine r → KeepsLine (before c r)
@@ -79,9 +75,11 @@ keeps_label (m ∷ []) n = tt
 keeps_label (m ∷ d ∷ ms) (more h (more g n)) =
     either_way KeepsLine (m.0 == 58) _ _ (either_way KeepsLine (begins_label d.0) _ _ (keeps_label_after ms n) tt) tt
 
-keeps_tag : (line : List Mark) → NoEnd line → NoEnd (tag_after line).1
-keeps_tag [] n = n
-keeps_tag (m ∷ ms) (more h n) = either_way (λ (u : List ℕ × List Mark). NoEnd u.1) (is_tag_char m.0) _ _ (keeps_tag ms n) (more h n)
+keeps_tag : (d : Bool) (line : List Mark) → NoEnd line → NoEnd (tag_after d line).1
+keeps_tag d [] n = n
+keeps_tag d (m ∷ ms) (more h n) =
+    either_way (λ (u : List ℕ × List Mark). NoEnd u.1) (is_tag_char d m.0) _ _ (keeps_tag d ms n)
+    (either_way (λ (u : List ℕ × List Mark). NoEnd u.1) (m.0 == 45 && begins_part true ms) _ _ (keeps_tag true ms n) (more h n))
 
 pub keeps_skip : (line : List Mark) → NoEnd line → NoEnd (skip line)
 keeps_skip [] n = n
@@ -89,11 +87,8 @@ keeps_skip (m ∷ ms) (more h n) = either_way NoEnd (is_space m.0) _ _ (keeps_sk
 
 pub keeps_made : (y : List Mark) (t : Term) → NoEnd y → KeepsLine (before_text y (made t))
 keeps_made y t n =
-    either_way (λ (r : Result Term Ending). KeepsLine (before_text y r)) (is_term t) _ _
-    (either_way (λ (r : Result Term Ending). KeepsLine (before_text y r)) (nat_le (length (text_of t)) max_term_bytes) _ _ n tt) tt
-
-pub keeps_label_made : (y : List Mark) (label : List ℕ) → NoEnd y → KeepsLine (before_text y (label_made label))
-keeps_label_made y label h = either_way (λ (r : Result Word Ending). KeepsLine (before_text y r)) (nat_le (length label) max_term_bytes) (Ok (Labelled label)) (Err TooLong) h tt
+    either_way (λ (r : Result Term Fault). KeepsLine (before_text y r)) (is_term t) _ _
+    (either_way (λ (r : Result Term Fault). KeepsLine (before_text y r)) (nat_le (length (text_of t)) max_term_bytes) _ _ n tt) tt
 
 keeps_typed : (l : List ℕ) (r : Read (List ℕ)) → KeepsLine r → KeepsLine (r >>= λ i. before_text i.1 (typed_made l i.0))
 keeps_typed l (Err e) h = h
@@ -107,9 +102,13 @@ keeps_caret : (l : List ℕ) (line : List Mark) → NoEnd line → KeepsLine (ca
 keeps_caret l [] n = tt
 keeps_caret l (m ∷ ms) (more h n) = either_way KeepsLine (m.0 == 94) _ _ (keeps_datatype l (skip ms) (keeps_skip ms n)) tt
 
+keeps_tag_at : (l : List ℕ) (line : List Mark) → NoEnd line → KeepsLine (tag_at l line)
+keeps_tag_at l line n =
+    either_way KeepsLine (begins_part false line) _ _ (keeps_made (tag_after false line).1 (Literal l (Tagged (str_to_ascii_lowercase (tag_after false line).0))) (keeps_tag false line n)) tt
+
 pub keeps_suffix : (l : List ℕ) (line : List Mark) → NoEnd line → KeepsLine (suffix_at l line)
 keeps_suffix l [] n = keeps_made [] (Literal l (Typed xsd_string)) n
 keeps_suffix l (m ∷ ms) (more h n) =
     either_way KeepsLine (m.0 == 94) _ _ (keeps_caret l ms n)
-    (either_way KeepsLine (m.0 == 64) _ _ (keeps_made (tag_after ms).1 (Literal l (Tagged (str_to_ascii_lowercase (tag_after ms).0))) (keeps_tag ms n))
+    (either_way KeepsLine (m.0 == 64) _ _ (keeps_tag_at l ms n)
     (keeps_made (m ∷ ms) (Literal l (Typed xsd_string)) (more h n)))

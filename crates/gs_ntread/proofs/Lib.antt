@@ -6,6 +6,5 @@ pub mod WalkLines
 pub mod Whole
 pub mod Lostness
 pub mod Takes
-pub mod Boundaries
 pub mod Histories
 pub mod RunLemmas

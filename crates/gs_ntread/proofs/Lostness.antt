@@ -1,37 +1,37 @@
 -- Where the decoder is lost the grammar is broken.
-use Rattle.std.proofs.Common.{◌≡◌, ℕ, zero, suc, ◌*◌, ◌+◌, ◌-◌, cond, List, [], ◌∷◌, refl, sym, subst, Result, Ok, Err}
+use Rattle.std.proofs.Common.{◌≡◌, ℕ, zero, suc, ◌*◌, ◌+◌, ◌-◌, Bool, true, false, cond, List, [], ◌∷◌, refl, sym, ap, subst, Result, Ok, Err}
 use Rattle.std.specs.Prelude.{◌==◌, nat_lt}
 use Rattle.gs_model.specs.Terms.{Term}
-use Rattle.gs_machine.specs.Machines.{steps, behind}
+use Rattle.gs_model.specs.Triples.{RdfTriple}
+use Rattle.gs_model.specs.declared.faults.Fault.{Fault}
+use Rattle.gs_model.specs.declared.faults.Fault.TheVariants.{Syntax}
+use Rattle.gs_machine.specs.Machines.{steps, composed}
 use Rattle.gs_machine.specs.Utf8.{Decoding, Ready, Within, Lost, bad, decode_step, lead, goes_on}
-use Rattle.gs_body.specs.Bodies.{Ending, Syntax}
+use Rattle.gs_body.specs.Bodies.{Statement}
+use Rattle.gs_body.specs.Leading.{IsLed}
 use Rattle.gs_blank.specs.Numbers.{Numbers}
 use Rattle.gs_ntterm.specs.Marks.{end_of}
-use Rattle.gs_ntterm.specs.Words.{Word}
+use Rattle.gs_ntterm.specs.LineTerms.{LineTerm}
 use Rattle.gs_ntterm.specs.Terminals.{Plain, Escape, Digits}
-use Rattle.gs_ntterm.specs.Tokens.{label_held, plain_held, tagged_held}
+use Rattle.gs_ntterm.specs.Tokens.{Held, plain_held, tagged_held}
 use Rattle.gs_ntterm.proofs.Branches.{either_way}
-use Rattle.gs_ntread.specs.States.{State, Stage, AtSubject, AtPredicate, AtObject, AtSuffix, AtDatatype, AtDot, AtEnd, Mode, Between, Comment, InIri, InString, Underscore, Colon, InLabel, InDots, Caret, InTag, Broken, broken}
-use Rattle.gs_ntread.specs.Lines.{end_state, behind_literal}
-use Rattle.gs_ntread.specs.Turns.{turn, behind_subject, behind_object, dotted_object}
-use Rattle.gs_ntread.specs.Reader.{keeping, placing, ntriples, Led}
+use Rattle.gs_ntread.specs.States.{State, Turn, Stage, AtSubject, AtPredicate, AtObject, AtSuffix, AtDatatype, AtDot, AtEnd, Mode, Between, Comment, InIri, InString, Underscore, Colon, InLabel, InDots, Caret, AtSign, InTag, Hyphen, Broken, broken, quiet}
+use Rattle.gs_ntread.specs.Lines.{end_state, after_literal}
+use Rattle.gs_ntread.specs.Turns.{turn, tag_turn}
+use Rattle.gs_ntread.specs.Reader.{keeping, placing, ntriples, Led, unread}
 use Rattle.gs_ntread.specs.Readers.{IsBroken, Sound}
 
-bad_literal : (s : Word) (p : Term) (r : Result Term Ending) (n : ℕ) → IsBroken (behind_literal s p r bad n).0
+bad_literal : (s : LineTerm) (p : Term) (r : Result Term Fault) (n : ℕ) → IsBroken (after_literal s p r bad n).0
 bad_literal s p (Ok t) n = tt
 bad_literal s p (Err e) n = tt
 
-bad_subject : (r : Result Word Ending) (n : ℕ) → IsBroken (behind_subject r bad n).0
-bad_subject (Ok w) n = tt
-bad_subject (Err e) n = tt
+bad_tag : (s : LineTerm) (p : Term) (l h : Held) (d : Bool) (n : ℕ) → IsBroken (turn (AtSuffix s p l) (InTag d h) bad n).0
+bad_tag s p l h true n = bad_literal s p (tagged_held l h) n
+bad_tag s p l h false n = bad_literal s p (tagged_held l h) n
 
-bad_object : (s : Word) (p : Term) (r : Result Word Ending) (n : ℕ) → IsBroken (behind_object s p r bad n).0
-bad_object s p (Ok w) n = tt
-bad_object s p (Err e) n = tt
-
-bad_dots : (s : Word) (p : Term) (r : Result Word Ending) (f k : ℕ) → IsBroken (dotted_object s p r f k bad).0
-bad_dots s p (Ok w) f k = either_way IsBroken (k == 0) (end_state bad) (broken Syntax) tt tt
-bad_dots s p (Err e) f k = tt
+bad_part : (g : Stage) (h : Held) (d : Bool) (n : ℕ) → (tag_turn g h bad n ≡ quiet (broken Syntax)) → IsBroken (turn g (InTag d h) bad n).0
+bad_part g h true n e = subst (λ (t : Turn). IsBroken t.0) (sym e) tt
+bad_part g h false n e = subst (λ (t : Turn). IsBroken t.0) (sym e) tt
 
 -- the mark of ill-formed bytes breaks each state
 pub turn_bad : (g : Stage) (m : Mode) (n : ℕ) → IsBroken (turn g m bad n).0
@@ -51,28 +51,30 @@ turn_bad g (InString Escape h) n = tt
 turn_bad g (InString (Digits l v) h) n = tt
 turn_bad g Underscore n = tt
 turn_bad g Colon n = tt
-turn_bad AtSubject (InLabel h) n = bad_subject (label_held h) n
+turn_bad AtSubject (InLabel h) n = tt
 turn_bad (AtPredicate s) (InLabel h) n = tt
-turn_bad (AtObject s p) (InLabel h) n = bad_object s p (label_held h) n
+turn_bad (AtObject s p) (InLabel h) n = tt
 turn_bad (AtSuffix s p l) (InLabel h) n = tt
 turn_bad (AtDatatype s p l) (InLabel h) n = tt
 turn_bad (AtDot s p o) (InLabel h) n = tt
 turn_bad AtEnd (InLabel h) n = tt
 turn_bad AtSubject (InDots h f k) n = tt
 turn_bad (AtPredicate s) (InDots h f k) n = tt
-turn_bad (AtObject s p) (InDots h f k) n = bad_dots s p (label_held h) f k
+turn_bad (AtObject s p) (InDots h f k) n = either_way IsBroken (k == 0) (end_state bad) (broken Syntax) tt tt
 turn_bad (AtSuffix s p l) (InDots h f k) n = tt
 turn_bad (AtDatatype s p l) (InDots h f k) n = tt
 turn_bad (AtDot s p o) (InDots h f k) n = tt
 turn_bad AtEnd (InDots h f k) n = tt
 turn_bad g Caret n = tt
-turn_bad AtSubject (InTag h) n = tt
-turn_bad (AtPredicate s) (InTag h) n = tt
-turn_bad (AtObject s p) (InTag h) n = tt
-turn_bad (AtSuffix s p l) (InTag h) n = bad_literal s p (tagged_held l h) n
-turn_bad (AtDatatype s p l) (InTag h) n = tt
-turn_bad (AtDot s p o) (InTag h) n = tt
-turn_bad AtEnd (InTag h) n = tt
+turn_bad g AtSign n = tt
+turn_bad AtSubject (InTag d h) n = bad_part AtSubject h d n refl
+turn_bad (AtPredicate s) (InTag d h) n = bad_part (AtPredicate s) h d n refl
+turn_bad (AtObject s p) (InTag d h) n = bad_part (AtObject s p) h d n refl
+turn_bad (AtSuffix s p l) (InTag d h) n = bad_tag s p l h d n
+turn_bad (AtDatatype s p l) (InTag d h) n = bad_part (AtDatatype s p l) h d n refl
+turn_bad (AtDot s p o) (InTag d h) n = bad_part (AtDot s p o) h d n refl
+turn_bad AtEnd (InTag d h) n = bad_part AtEnd h d n refl
+turn_bad g (Hyphen h) n = tt
 turn_bad g (Broken e) n = tt
 
 -- a decoder that gets lost marks it
@@ -105,24 +107,19 @@ marks_step n v l h b =
     either_way Marks (nat_lt b l) _ _ marks_lost
     (either_way Marks (nat_lt h b) _ _ marks_lost (marks_on n (v * 64 + (b - 128))))
 
-pub marks_any : (d : Decoding) (b : ℕ) → (d ≡ Lost → ⊥) → (decode_step d b).0 ≡ Lost → (decode_step d b).1 ≡ bad ∷ []
-marks_any Ready b n e = marks_lead b e
-marks_any (Within m v l h) b n e = marks_step m v l h b e
-marks_any Lost b n e = absurd (n refl)
-
 -- the reading after some characters
 abbrev after_all : ℕ → ℕ × (State × Numbers) → List ℕ → State
 after_all r p os = (steps (placing r) p os).0.1.0
 
 after_bad : (r : ℕ) (p : ℕ × (State × Numbers)) → IsBroken (after_all r p (bad ∷ []))
-unfolding steps behind keeping
+unfolding steps composed keeping
 after_bad r p = turn_bad p.1.0.0 p.1.0.1 (end_of p.0 bad)
 
 lost_at : (r : ℕ) (p : ℕ × (State × Numbers)) (t : Decoding × List ℕ) → Marks t → t.0 ≡ Lost → IsBroken (after_all r p t.1)
 lost_at r p t m e = subst (λ (os : List ℕ). IsBroken (after_all r p os)) (sym (m e)) (after_bad r p)
 
 sound-step : (r : ℕ) (d : Decoding) (p : ℕ × (State × Numbers)) (b : ℕ) → Sound (d, p) → Sound ((ntriples r).step (d, p) b).0
-unfolding behind steps
+unfolding composed steps
 sound-step r Ready p b h e = lost_at r p (lead b) (marks_lead b) e
 sound-step r (Within n v l k) p b h e = lost_at r p (decode_step (Within n v l k) b) (marks_step n v l k b) e
 sound-step r Lost p b h e = h refl
@@ -131,3 +128,7 @@ pub sound-steps : (r : ℕ) (s : Led) (x : List ℕ) → Sound s → Sound (step
 unfolding steps
 sound-steps r s [] h = h
 sound-steps r s (b ∷ bs) h = sound-steps r ((ntriples r).step s b).0 bs (sound-step r s.0 s.1 b h)
+
+-- so it is where a text leads
+pub sound-led : (r : ℕ) (s : Led) (n : ℕ) (x : List ℕ) (ts : List RdfTriple) → IsLed (ntriples r) unread s n x ts → Sound s
+sound-led r s n x ts l = subst Sound (ap (λ (t : Led × List Statement). t.0) l.run) (sound-steps r unread x (λ e. absurd (Prim.cc)))

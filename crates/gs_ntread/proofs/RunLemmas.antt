@@ -1,5 +1,5 @@
 -- What a run of bytes does to the machine.
-use Rattle.std.proofs.Common.{◌≡◌, ℕ, ◌+◌, ◌<◌, ◌≤◌, ◌^◌, Bool, true, false, cond, List, [], ◌∷◌, ◌++◌, length, suc, refl, sym, ap, ◌∙◌, arith}
+use Rattle.std.proofs.Common.{◌≡◌, ℕ, ◌+◌, ◌<◌, ◌≤◌, ◌^◌, Bool, true, false, cond, List, [], ◌∷◌, ◌++◌, length, suc, refl, sym, ap, subst, ◌∙◌, arith, append_assoc, append-nil}
 use Rattle.std.specs.Prelude.{◌==◌, ◌||◌, ◌-◌, not, nat_lt}
 use Rattle.std.specs.Char.{encode_utf8, len_utf8}
 use Rattle.std.specs.List.{list_all}
@@ -9,7 +9,8 @@ use lib.Utf8.{scalar}
 use Rattle.gs_model.specs.Characters.{is_iri_char, in_ranges, pn_chars}
 use Rattle.gs_machine.specs.Machines.{steps}
 use Rattle.gs_machine.specs.Utf8.{Decoding, Ready, Within, Lost, is_ready_of, decode_step}
-use Rattle.gs_body.specs.Bodies.{Statement, Syntax}
+use Rattle.gs_model.specs.declared.faults.Fault.TheVariants.{Syntax}
+use Rattle.gs_body.specs.Bodies.{Statement}
 use Rattle.gs_blank.specs.Numbers.{Numbers}
 use Rattle.gs_ntterm.specs.Marks.{counted, end_of}
 use Rattle.gs_ntterm.specs.Classes.{is_space, is_line_end, may_stand_in_iri, may_stand_in_string, is_label_char, may_stand_in_comment}
@@ -83,15 +84,20 @@ string_goes g h b n k =
 pub string_runs : (g : Stage) (h : Held) (xs : List ℕ) → list_all runs_in_string xs ≡ true → Runs (g, InString Plain h) xs (g, InString Plain (joined h xs))
 string_runs g = runs_on runs_in_string (λ h. (g, InString Plain h)) low_string (string_goes g)
 
-label_goes : (g : Stage) (h : Held) (b n : ℕ) → runs_in_label b ≡ true → turn g (InLabel h) b n ≡ quiet (g, InLabel (add h (b ∷ [])))
-label_goes g h b n k =
+label_goes : (g : Stage) (t : List ℕ) (b n : ℕ) → runs_in_label b ≡ true → turn g (InLabel t) b n ≡ quiet (g, InLabel (t ++ b ∷ []))
+label_goes g t b n k =
     let l : b < 128 = low_label b k in
     let m : is_label_char b ≡ true = both (in_ranges pn_chars b || b == 58) (scalar b) (second_of_and (nat_lt b 128) (in_ranges pn_chars b || b == 58) k) (scalar_ascii b l) in
-    ap (λ v. cond v (quiet (g, InLabel (add h (encode_utf8 b)))) (cond (b == 46) (quiet (g, InDots h n 0)) (label_turn g h b n))) m
-    ∙ ap (λ x. quiet (g, InLabel (add h x))) (one b l)
+    ap (λ v. cond v (quiet (g, InLabel (t ++ encode_utf8 b))) (cond (b == 46) (quiet (g, InDots t n 0)) (label_turn g t b n))) m
+    ∙ ap (λ x. quiet (g, InLabel (t ++ x))) (one b l)
 
-pub label_runs : (g : Stage) (h : Held) (xs : List ℕ) → list_all runs_in_label xs ≡ true → Runs (g, InLabel h) xs (g, InLabel (joined h xs))
-label_runs g = runs_on runs_in_label (λ h. (g, InLabel h)) low_label (label_goes g)
+pub label_runs : (g : Stage) (t xs : List ℕ) → list_all runs_in_label xs ≡ true → Runs (g, InLabel t) xs (g, InLabel (t ++ xs))
+label_runs g t [] e = subst (λ z. Runs (g, InLabel t) [] (g, InLabel z)) (sym (append-nil t)) (stays (g, InLabel t))
+label_runs g t (b ∷ bs) e =
+    let k : runs_in_label b ≡ true = first_of_and (runs_in_label b) (list_all runs_in_label bs) e in
+    goes (g, InLabel t) (g, InLabel (t ++ b ∷ [])) (g, InLabel (t ++ b ∷ bs)) b bs (low_label b k) (λ n. label_goes g t b n k)
+    (subst (λ z. Runs (g, InLabel (t ++ b ∷ [])) bs (g, InLabel z)) (append_assoc t (b ∷ []) bs)
+    (label_runs g (t ++ b ∷ []) bs (second_of_and (runs_in_label b) (list_all runs_in_label bs) e)))
 
 is_not : (a : Bool) → not a ≡ true → a ≡ false
 is_not true h = Prim.cc

@@ -1,19 +1,18 @@
 -- What a reader takes, step by step.
-use Rattle.std.proofs.Common.{◌≡◌, ℕ, ◌+◌, ◌<◌, false, List, [], ◌++◌, length, take, drop, get_or, refl, sym, ap, subst, ◌∙◌, append_assoc, append-nil, Result, Ok, Err}
+use Rattle.std.proofs.Common.{◌≡◌, ℕ, ◌+◌, ◌<◌, false, List, [], ◌++◌, length, take, drop, get_or, refl, sym, ap, subst, ◌∙◌, append_assoc, append-nil, inr, Result, Ok, Err}
 use Rattle.std.proofs.Math.Seq.{take-add}
 use Rattle.std.specs.Prelude.{OnOk, IfErr}
 use Rattle.gs_model.specs.Triples.{RdfTriple}
 use Rattle.gs_model.specs.declared.refusals.Refusal.{Refusal}
-use Rattle.gs_model.specs.declared.refusals.Refusal.TheVariants as refusal
-use Rattle.gs_machine.specs.Machines.{joined, steps, rest, behind}
+use Rattle.gs_machine.specs.Machines.{joined, steps, rest, composed}
 use Rattle.gs_machine.specs.Utf8.{Decoding, Ready, Within, Lost, bad, is_ready_of}
 use Rattle.gs_machine.proofs.MachineLemmas.{steps-snoc, steps-append}
-use Rattle.gs_body.specs.Bodies.{Statement, Meaning, Ending, Syntax, TooLong, triples_of, end_after}
+use Rattle.gs_body.specs.Bodies.{Statement, Meaning, Ending, Faulty, triples_of, end_after}
 use Rattle.gs_body.proofs.LeadingLemmas.{triples_of-append, end_after-append}
 use Rattle.gs_blank.specs.Numbers.{Numbers}
 use Rattle.gs_ntread.specs.States.{State, broken}
 use Rattle.gs_ntread.specs.Reader.{Led, placing, ntriples}
-use Rattle.gs_ntread.specs.Readers.{led_of, Takes, FaultsAs, FaultyAfter, FaultyEnd, ConcludesAs}
+use Rattle.gs_ntread.specs.Readers.{led_of, Takes, refusal_of, FaultsAs, FaultyAfter, FaultyEnd, ConcludesAs}
 use Rattle.gs_ntread.specs.Views.{state_of}
 use Rattle.gs_ntread.proofs.Whole.{Placed, says_nothing, placing_broken}
 use Rattle.gs_ntread.specs.declared.reader.NTriplesReader.{NTriplesReader}
@@ -83,65 +82,39 @@ took-on a b c o1 o2 o3 x n k f g =
 
 -- the fault of a state is that of what was given
 pub fault-after : (e : Refusal) (a b : NTriplesReader) (o1 o2 : List RdfTriple) (s : State) (t : Led × List Statement) → Takes a b o1 o2 t → s ≡ (led_of b).1.1.0 → FaultsAs e b.last s → FaultyAfter e a.last t
-fault-after (refusal.Syntax at) a b o1 o2 s t h q f = (sym (ap (λ (l : Led). l.1.1.0) h.led) ∙ sym q ∙ f.0, f.1 ∙ h.last)
-fault-after refusal.TermTooLong a b o1 o2 s t h q f = sym (ap (λ (l : Led). l.1.1.0) h.led) ∙ sym q ∙ f
-fault-after refusal.NoMemory a b o1 o2 s t h q f = tt
-fault-after refusal.WrongPhase a b o1 o2 s t h q f = f
-fault-after refusal.BadSeat a b o1 o2 s t h q f = f
-fault-after refusal.LastNumber a b o1 o2 s t h q f = f
-fault-after refusal.StoreFull a b o1 o2 s t h q f = f
-fault-after refusal.NotInProfile a b o1 o2 s t h q f = f
-fault-after refusal.Closed a b o1 o2 s t h q f = f
+fault-after e a b o1 o2 s t h q f = inr (record {
+  fault = f.fault;
+  is = sym (ap (λ (l : Led). l.1.1.0) h.led) ∙ sym q ∙ f.is;
+  refusal = f.refusal ∙ ap (λ n. refusal_of n f.fault) h.last;
+})
 
 -- the text ends where the decoder is within a character
 pub unready : (r : ℕ) (d : Decoding) (p : ℕ × (State × Numbers)) → is_ready_of d ≡ false → (d ≡ Lost → ⊥)
     → rest (ntriples r) (d, p) [] ≡ joined ((placing r).step p bad).1 (rest (placing r) ((placing r).step p bad).0 [])
-unfolding rest behind
+unfolding rest composed
 unready r Ready p h n = absurd (Prim.cc)
 unready r (Within k v l g) p h n = refl
 unready r Lost p h n = absurd (n refl)
 
 -- what the end of a text concludes
 pub concluded : (e : Refusal) (last n : ℕ) (end : Ending) (t : Meaning) → t.1 ≡ end → n ≡ end_after last t.0 → ConcludesAs e n end → FaultyEnd e last t
-concluded (refusal.Syntax at) last n end t p q f = (p ∙ f.0, f.1 ∙ q)
-concluded refusal.TermTooLong last n end t p q f = p ∙ f
-concluded refusal.NoMemory last n end t p q f = tt
-concluded refusal.WrongPhase last n end t p q f = f
-concluded refusal.BadSeat last n end t p q f = f
-concluded refusal.LastNumber last n end t p q f = f
-concluded refusal.StoreFull last n end t p q f = f
-concluded refusal.NotInProfile last n end t p q f = f
-concluded refusal.Closed last n end t p q f = f
+concluded e last n end t p q f = inr (record { fault = f.fault; is = p ∙ f.is; refusal = f.refusal ∙ ap (λ k. refusal_of k f.fault) q })
 
--- a text that ends where the grammar is broken
+-- a text that ends where nothing more is read
 pub broken-end : (e : Refusal) (a : NTriplesReader) → FaultsAs e a.last (state_of a.cursor) → FaultyEnd e a.last (rest (ntriples a.request) (led_of a) [])
-broken-end (refusal.Syntax at) a f =
-    let r : rest (ntriples a.request) (led_of a) [] ≡ ([], Syntax) = ap (λ (q : State). rest (ntriples a.request) (a.decoder, (a.read, (q, a.numbering))) []) f.0 ∙ says_nothing a.request a.decoder a.read Syntax a.numbering [] in
-    (ap (λ (s : Meaning). s.1) r, f.1 ∙ ap (λ (s : Meaning). end_after a.last s.0) (sym r))
-broken-end refusal.TermTooLong a f =
-    ap (λ (s : Meaning). s.1) (ap (λ (q : State). rest (ntriples a.request) (a.decoder, (a.read, (q, a.numbering))) []) f ∙ says_nothing a.request a.decoder a.read TooLong a.numbering [])
-broken-end refusal.NoMemory a f = tt
-broken-end refusal.WrongPhase a f = f
-broken-end refusal.BadSeat a f = f
-broken-end refusal.LastNumber a f = f
-broken-end refusal.StoreFull a f = f
-broken-end refusal.NotInProfile a f = f
-broken-end refusal.Closed a f = f
+broken-end e a f =
+    let r : rest (ntriples a.request) (led_of a) [] ≡ ([], Faulty f.fault) =
+    ap (λ (q : State). rest (ntriples a.request) (a.decoder, (a.read, (q, a.numbering))) []) f.is ∙ says_nothing a.request a.decoder a.read f.fault a.numbering [] in
+    inr (record { fault = f.fault; is = ap (λ (s : Meaning). s.1) r; refusal = f.refusal ∙ ap (λ (s : Meaning). refusal_of (end_after a.last s.0) f.fault) (sym r) })
 
 -- a text that ends within a character
 pub bad-end : (e : Refusal) (a b : NTriplesReader) (ts us : List RdfTriple) (u : Placed × List Statement) → Takes a b ts us ((a.decoder, u.0), u.1) → FaultsAs e b.last (state_of b.cursor)
     → FaultyEnd e a.last (joined u.1 (rest (placing a.request) u.0 []))
-bad-end (refusal.Syntax at) a b ts us u h f =
-    let q : u.0.1.0 ≡ broken Syntax = sym (ap (λ (l : Led). l.1.1.0) h.led) ∙ f.0 in
-    let r : rest (placing a.request) u.0 [] ≡ ([], Syntax) = ap (λ (q : State). rest (placing a.request) (u.0.0, (q, u.0.1.1)) []) q ∙ placing_broken a.request u.0.0 Syntax u.0.1.1 in
-    (ap (λ (s : Meaning). s.1) r, f.1 ∙ h.last ∙ ap (end_after a.last) (sym (append-nil u.1)) ∙ ap (λ (s : Meaning). end_after a.last (u.1 ++ s.0)) (sym r))
-bad-end refusal.TermTooLong a b ts us u h f =
-    let q : u.0.1.0 ≡ broken TooLong = sym (ap (λ (l : Led). l.1.1.0) h.led) ∙ f in
-    ap (λ (s : Meaning). s.1) (ap (λ (q : State). rest (placing a.request) (u.0.0, (q, u.0.1.1)) []) q ∙ placing_broken a.request u.0.0 TooLong u.0.1.1)
-bad-end refusal.NoMemory a b ts us u h f = tt
-bad-end refusal.WrongPhase a b ts us u h f = f
-bad-end refusal.BadSeat a b ts us u h f = f
-bad-end refusal.LastNumber a b ts us u h f = f
-bad-end refusal.StoreFull a b ts us u h f = f
-bad-end refusal.NotInProfile a b ts us u h f = f
-bad-end refusal.Closed a b ts us u h f = f
+bad-end e a b ts us u h f =
+    let q : u.0.1.0 ≡ broken f.fault = sym (ap (λ (l : Led). l.1.1.0) h.led) ∙ f.is in
+    let r : rest (placing a.request) u.0 [] ≡ ([], Faulty f.fault) = ap (λ (q : State). rest (placing a.request) (u.0.0, (q, u.0.1.1)) []) q ∙ placing_broken a.request u.0.0 f.fault u.0.1.1 in
+    inr (record {
+      fault = f.fault;
+      is = ap (λ (s : Meaning). s.1) r;
+      refusal = f.refusal ∙ ap (λ n. refusal_of n f.fault) (h.last ∙ ap (end_after a.last) (sym (append-nil u.1)) ∙ ap (λ (s : Meaning). end_after a.last (u.1 ++ s.0)) (sym r));
+    })

@@ -4,22 +4,24 @@ use Rattle.std.specs.Prelude.{◌==◌, ◌||◌}
 use Rattle.std.proofs.lemmas.Bool.{eqb-true}
 use Rattle.gs_model.specs.Terms.{Term, Iri}
 use Rattle.gs_machine.specs.Machines.{joined, rest}
-use Rattle.gs_body.specs.Bodies.{Ending, Whole, Syntax, TooLong}
+use Rattle.gs_model.specs.declared.faults.Fault.{Fault}
+use Rattle.gs_model.specs.declared.faults.Fault.TheVariants.{Syntax}
+use Rattle.gs_body.specs.Bodies.{Ending, Whole, Faulty}
 use Rattle.gs_ntterm.specs.Marks.{Mark}
 use Rattle.gs_ntterm.specs.Classes.{is_space, is_line_end, may_stand_in_comment}
-use Rattle.gs_ntterm.specs.Words.{Word, Fixed, iri_made, label_made}
+use Rattle.gs_ntterm.specs.LineTerms.{LineTerm, Fixed, Labelled, iri_made}
 use Rattle.gs_ntterm.specs.Terminals.{Read, ◌>>=◌, skip, Plain, iri_after, string_after, label_at}
 use Rattle.gs_ntterm.proofs.Branches.{two_ways, by_test, by_test_knowing, otherwise}
-use Rattle.gs_ntterm.proofs.Holding.{iri_held-hold, label_held-hold}
+use Rattle.gs_ntterm.proofs.Holding.{iri_held-hold}
 use Rattle.gs_ntread.specs.LineTriples.{LineTriple}
-use Rattle.gs_ntread.specs.Grammar.{as_word, iri_read, label_read, before_text, suffix_at, predicate_at, object_at, dot_at}
+use Rattle.gs_ntread.specs.Grammar.{fixed, iri_read, label_read, before_text, suffix_at, predicate_at, object_at, dot_at}
 use Rattle.gs_ntread.specs.Documents.{Meant, comment_meant, rest_meant, triple_meant, line_meant, then_meant, lines_meant, document}
 use Rattle.gs_ntread.specs.States.{AtSubject, AtPredicate, AtObject, AtDot, AtEnd, Between, Comment, start, broken, sentence}
 use Rattle.gs_ntread.specs.Lines.{to_predicate, to_object, to_dot, iri_closed, string_closed}
 use Rattle.gs_ntread.specs.Machine.{reading}
-use Rattle.gs_ntread.proofs.Keeping.{NoEnd, none, more, IsFault, KeepsLine, keeps_made, keeps_label_made, keeps_iri, keeps_string, keeps_label, keeps_suffix, keeps_skip}
-use Rattle.gs_ntread.proofs.WalkTokens.{told, follow, Stops, at_nothing, at_feed, at_return, walk_broken, after, walk_iri, walk_string}
-use Rattle.gs_ntread.proofs.WalkLabels.{label_closed, to_label_predicate, to_label_dot, walk_underscore}
+use Rattle.gs_ntread.proofs.Keeping.{NoEnd, none, more, KeepsLine, keeps_made, keeps_iri, keeps_string, keeps_label, keeps_suffix, keeps_skip}
+use Rattle.gs_ntread.proofs.WalkTokens.{told, follow, Stops, at_nothing, at_feed, at_return, walk_broken, closes, after, walk_iri, walk_string}
+use Rattle.gs_ntread.proofs.WalkLabels.{label_closed, walk_underscore}
 use Rattle.gs_ntread.proofs.WalkLiterals.{literal_told, walk_suffix}
 
 -- what the lines after one mean
@@ -53,28 +55,22 @@ walk_end (m ∷ ms) tail (more h n) s =
 
 then_joined : (ts : List LineTriple) (e : Ending) (r : Meant) → joined ts (then_meant ([], e) r) ≡ then_meant (ts, e) r
 then_joined ts Whole r = refl
-then_joined ts Syntax r = ap (λ z. (z, Syntax)) (append-nil ts)
-then_joined ts TooLong r = ap (λ z. (z, TooLong)) (append-nil ts)
-
-stopped : (e : Ending) (r : Meant) → IsFault e → ([], e) ≡ then_meant ([], e) r
-stopped Whole r h = absurd h
-stopped Syntax r h = refl
-stopped TooLong r h = refl
+then_joined ts (Faulty e) r = ap (λ z. (z, Faulty e)) (append-nil ts)
 
 -- what a line says of its triple, and the lines after it
 abbrev pub meant : List Mark → Read LineTriple → Meant
 meant tail r = then_meant (triple_meant r) (after_line tail)
 
-abbrev pub object_then : Word → Term → Word × List Mark → Read LineTriple
+abbrev pub object_then : LineTerm → Term → LineTerm × List Mark → Read LineTriple
 object_then s p o = dot_at (skip o.1) >>= λ d. Ok (sentence s p o.0 d.0, d.1)
 
-abbrev pub predicate_then : Word → Term × List Mark → Read LineTriple
+abbrev pub predicate_then : LineTerm → Term × List Mark → Read LineTriple
 predicate_then s p = object_at (skip p.1) >>= object_then s p.0
 
-abbrev pub subject_then : Word × List Mark → Read LineTriple
+abbrev pub subject_then : LineTerm × List Mark → Read LineTriple
 subject_then s = predicate_at (skip s.1) >>= predicate_then s.0
 
-pub walk_dot : (s : Word) (p : Term) (o : Word) (line tail : List Mark) → NoEnd line → Stops tail
+pub walk_dot : (s : LineTerm) (p : Term) (o : LineTerm) (line tail : List Mark) → NoEnd line → Stops tail
     → told (AtDot s p o, Between) (line ++ tail) ≡ meant tail (object_then s p (o, line))
 unfolding rest
 walk_dot s p o [] tail n at_nothing = refl
@@ -88,48 +84,41 @@ walk_dot s p o (m ∷ ms) tail (more h n) t =
     (walk_broken Syntax (ms ++ tail)))
 
 -- a fault, and what is said of it
-faulty : (e : Ending) (x tail : List Mark) → IsFault e → told (broken e) x ≡ meant tail (Err e)
-faulty e x tail h = walk_broken e x ∙ stopped e (after_line tail) h
+faulty : (e : Fault) (x tail : List Mark) → told (broken e) x ≡ meant tail (Err e)
+faulty e x tail = walk_broken e x
 
 -- after an IRI that is an object
-object_told : (s : Word) (p : Term) (y tail : List Mark) (r : Result Term Ending) → Stops tail → KeepsLine (before_text y r)
-    → told (to_dot s p r) (y ++ tail) ≡ meant tail (as_word (before_text y r) >>= object_then s p)
+object_told : (s : LineTerm) (p : Term) (y tail : List Mark) (r : Result Term Fault) → Stops tail → KeepsLine (before_text y r)
+    → told (to_dot s p r) (y ++ tail) ≡ meant tail (fixed (before_text y r) >>= object_then s p)
 object_told s p y tail (Ok t) q h = walk_dot s p (Fixed t) y tail h q
-object_told s p y tail (Err e) q h = faulty e (y ++ tail) tail h
+object_told s p y tail (Err e) q h = faulty e (y ++ tail) tail
 
-closes_object : (s : Word) (p : Term) (tail : List Mark) (r : Read (List ℕ)) → Stops tail → KeepsLine r
-    → after (iri_closed (AtObject s p)) tail [] r ≡ meant tail (as_word (iri_read r) >>= object_then s p)
-closes_object s p tail (Err e) q h = stopped e (after_line tail) h
+closes_object : (s : LineTerm) (p : Term) (tail : List Mark) (r : Read (List ℕ)) → Stops tail → KeepsLine r
+    → after (closes (iri_closed (AtObject s p))) tail [] r ≡ meant tail (fixed (iri_read r) >>= object_then s p)
+closes_object s p tail (Err e) q h = refl
 closes_object s p tail (Ok i) q h =
     ap (λ r. told (to_dot s p r) (i.1 ++ tail)) (iri_held-hold i.0)
     ∙ object_told s p i.1 tail (iri_made i.0) q (keeps_made i.1 (Iri i.0) h)
 
 -- after a literal
-literal_closed : (s : Word) (p : Term) (tail : List Mark) (r : Read Term) → Stops tail → KeepsLine r
-    → literal_told s p tail r ≡ meant tail (as_word r >>= object_then s p)
-literal_closed s p tail (Err e) q h = stopped e (after_line tail) h
+literal_closed : (s : LineTerm) (p : Term) (tail : List Mark) (r : Read Term) → Stops tail → KeepsLine r
+    → literal_told s p tail r ≡ meant tail (fixed r >>= object_then s p)
+literal_closed s p tail (Err e) q h = refl
 literal_closed s p tail (Ok r) q h = walk_dot s p (Fixed r.0) r.1 tail h q
 
-closes_string : (s : Word) (p : Term) (tail : List Mark) (r : Read (List ℕ)) → Stops tail → KeepsLine r
-    → after (string_closed (AtObject s p)) tail [] r ≡ meant tail (as_word (r >>= λ l. suffix_at l.0 (skip l.1)) >>= object_then s p)
-closes_string s p tail (Err e) q h = stopped e (after_line tail) h
+closes_string : (s : LineTerm) (p : Term) (tail : List Mark) (r : Read (List ℕ)) → Stops tail → KeepsLine r
+    → after (closes (string_closed (AtObject s p))) tail [] r ≡ meant tail (fixed (r >>= λ l. suffix_at l.0 (skip l.1)) >>= object_then s p)
+closes_string s p tail (Err e) q h = refl
 closes_string s p tail (Ok l) q h =
     walk_suffix s p l.0 l.1 tail q ∙ literal_closed s p tail (suffix_at l.0 (skip l.1)) q (keeps_suffix l.0 (skip l.1) (keeps_skip l.1 h))
 
 -- after a label that is an object
-label_told : (s : Word) (p : Term) (y tail : List Mark) (r : Result Word Ending) → Stops tail → KeepsLine (before_text y r)
-    → told (to_label_dot s p r) (y ++ tail) ≡ meant tail (before_text y r >>= object_then s p)
-label_told s p y tail (Ok w) q h = walk_dot s p w y tail h q
-label_told s p y tail (Err e) q h = faulty e (y ++ tail) tail h
-
-closes_label : (s : Word) (p : Term) (tail : List Mark) (r : Read (List ℕ)) → Stops tail → KeepsLine r
+closes_label : (s : LineTerm) (p : Term) (tail : List Mark) (r : Read (List ℕ)) → Stops tail → KeepsLine r
     → after (label_closed (AtObject s p)) tail [] r ≡ meant tail (label_read r >>= object_then s p)
-closes_label s p tail (Err e) q h = stopped e (after_line tail) h
-closes_label s p tail (Ok l) q h =
-    ap (λ r. told (to_label_dot s p r) (l.1 ++ tail)) (label_held-hold l.0)
-    ∙ label_told s p l.1 tail (label_made l.0) q (keeps_label_made l.1 l.0 h)
+closes_label s p tail (Err e) q h = refl
+closes_label s p tail (Ok l) q h = walk_dot s p (Labelled l.0) l.1 tail h q
 
-pub walk_object : (s : Word) (p : Term) (line tail : List Mark) → NoEnd line → Stops tail
+pub walk_object : (s : LineTerm) (p : Term) (line tail : List Mark) → NoEnd line → Stops tail
     → told (AtObject s p, Between) (line ++ tail) ≡ meant tail (predicate_then s (p, line))
 unfolding rest
 walk_object s p [] tail n at_nothing = refl
@@ -147,19 +136,19 @@ walk_object s p (m ∷ ms) tail (more h n) q =
     (walk_broken Syntax (ms ++ tail)))))
 
 -- after a predicate
-predicate_told : (s : Word) (y tail : List Mark) (r : Result Term Ending) → Stops tail → KeepsLine (before_text y r)
+predicate_told : (s : LineTerm) (y tail : List Mark) (r : Result Term Fault) → Stops tail → KeepsLine (before_text y r)
     → told (to_object s r) (y ++ tail) ≡ meant tail (before_text y r >>= predicate_then s)
 predicate_told s y tail (Ok t) q h = walk_object s t y tail h q
-predicate_told s y tail (Err e) q h = faulty e (y ++ tail) tail h
+predicate_told s y tail (Err e) q h = faulty e (y ++ tail) tail
 
-closes_predicate : (s : Word) (tail : List Mark) (r : Read (List ℕ)) → Stops tail → KeepsLine r
-    → after (iri_closed (AtPredicate s)) tail [] r ≡ meant tail (iri_read r >>= predicate_then s)
-closes_predicate s tail (Err e) q h = stopped e (after_line tail) h
+closes_predicate : (s : LineTerm) (tail : List Mark) (r : Read (List ℕ)) → Stops tail → KeepsLine r
+    → after (closes (iri_closed (AtPredicate s))) tail [] r ≡ meant tail (iri_read r >>= predicate_then s)
+closes_predicate s tail (Err e) q h = refl
 closes_predicate s tail (Ok i) q h =
     ap (λ r. told (to_object s r) (i.1 ++ tail)) (iri_held-hold i.0)
     ∙ predicate_told s i.1 tail (iri_made i.0) q (keeps_made i.1 (Iri i.0) h)
 
-pub walk_predicate : (s : Word) (line tail : List Mark) → NoEnd line → Stops tail
+pub walk_predicate : (s : LineTerm) (line tail : List Mark) → NoEnd line → Stops tail
     → told (AtPredicate s, Between) (line ++ tail) ≡ meant tail (subject_then (s, line))
 unfolding rest
 walk_predicate s [] tail n at_nothing = refl
@@ -173,29 +162,23 @@ walk_predicate s (m ∷ ms) tail (more h n) q =
     (walk_broken Syntax (ms ++ tail)))
 
 -- after a subject
-subject_told : (y tail : List Mark) (r : Result Term Ending) → Stops tail → KeepsLine (before_text y r)
-    → told (to_predicate r) (y ++ tail) ≡ meant tail (as_word (before_text y r) >>= subject_then)
+subject_told : (y tail : List Mark) (r : Result Term Fault) → Stops tail → KeepsLine (before_text y r)
+    → told (to_predicate r) (y ++ tail) ≡ meant tail (fixed (before_text y r) >>= subject_then)
 subject_told y tail (Ok t) q h = walk_predicate (Fixed t) y tail h q
-subject_told y tail (Err e) q h = faulty e (y ++ tail) tail h
+subject_told y tail (Err e) q h = faulty e (y ++ tail) tail
 
 closes_subject : (tail : List Mark) (r : Read (List ℕ)) → Stops tail → KeepsLine r
-    → after (iri_closed AtSubject) tail [] r ≡ meant tail (as_word (iri_read r) >>= subject_then)
-closes_subject tail (Err e) q h = stopped e (after_line tail) h
+    → after (closes (iri_closed AtSubject)) tail [] r ≡ meant tail (fixed (iri_read r) >>= subject_then)
+closes_subject tail (Err e) q h = refl
 closes_subject tail (Ok i) q h =
     ap (λ r. told (to_predicate r) (i.1 ++ tail)) (iri_held-hold i.0)
     ∙ subject_told i.1 tail (iri_made i.0) q (keeps_made i.1 (Iri i.0) h)
 
-label_subject_told : (y tail : List Mark) (r : Result Word Ending) → Stops tail → KeepsLine (before_text y r)
-    → told (to_label_predicate r) (y ++ tail) ≡ meant tail (before_text y r >>= subject_then)
-label_subject_told y tail (Ok w) q h = walk_predicate w y tail h q
-label_subject_told y tail (Err e) q h = faulty e (y ++ tail) tail h
-
+-- after a label that is a subject
 closes_subject_label : (tail : List Mark) (r : Read (List ℕ)) → Stops tail → KeepsLine r
     → after (label_closed AtSubject) tail [] r ≡ meant tail (label_read r >>= subject_then)
-closes_subject_label tail (Err e) q h = stopped e (after_line tail) h
-closes_subject_label tail (Ok l) q h =
-    ap (λ r. told (to_label_predicate r) (l.1 ++ tail)) (label_held-hold l.0)
-    ∙ label_subject_told l.1 tail (label_made l.0) q (keeps_label_made l.1 l.0 h)
+closes_subject_label tail (Err e) q h = refl
+closes_subject_label tail (Ok l) q h = walk_predicate (Labelled l.0) l.1 tail h q
 
 -- a whole line
 pub walk_line : (line tail : List Mark) → NoEnd line → Stops tail → told start (line ++ tail) ≡ then_meant (line_meant line) (after_line tail)
@@ -226,8 +209,7 @@ stops_at m ms false false e f h = absurd (Prim.cc)
 
 then_nothing : (r : Meant) → then_meant r ([], Whole) ≡ r
 then_nothing (ts, Whole) = ap (λ z. (z, Whole)) (append-nil ts)
-then_nothing (ts, Syntax) = refl
-then_nothing (ts, TooLong) = refl
+then_nothing (ts, Faulty e) = refl
 
 walk_lines : (line x : List Mark) → NoEnd line → told start (line ++ x) ≡ lines_meant line x
 walk_lines line [] n = walk_line line [] n at_nothing ∙ then_nothing (line_meant line)

@@ -4,7 +4,9 @@ use Rattle.std.specs.Prelude.{◌==◌}
 use Rattle.std.specs.Char.{encode_utf8}
 use lib.Utf8.{scalar}
 use Rattle.gs_machine.specs.Machines.{joined, rest}
-use Rattle.gs_body.specs.Bodies.{Ending, Syntax}
+use Rattle.gs_model.specs.declared.faults.Fault.{Fault}
+use Rattle.gs_model.specs.declared.faults.Fault.TheVariants.{Syntax}
+use Rattle.gs_body.specs.Bodies.{Faulty}
 use Rattle.gs_ntterm.specs.Marks.{Mark}
 use Rattle.gs_ntterm.specs.Classes.{may_stand_in_iri, may_stand_in_string, is_hex, with_digit}
 use Rattle.gs_ntterm.specs.Terminals.{Read, before, Inside, Plain, Escape, Digits, escaped, escape_before, iri_after, string_after}
@@ -30,22 +32,26 @@ pub data Stops : List Mark → Type 0 where
   at_feed : (n : ℕ) (ms : List Mark) → Stops ((10, n) ∷ ms)
   at_return : (n : ℕ) (ms : List Mark) → Stops ((13, n) ∷ ms)
 
-pub walk_broken : (e : Ending) (x : List Mark) → told (broken e) x ≡ ([], e)
+pub walk_broken : (e : Fault) (x : List Mark) → told (broken e) x ≡ ([], Faulty e)
 unfolding rest
 walk_broken e [] = refl
 walk_broken e (m ∷ ms) = walk_broken e ms
 
--- after a token that was read up to its closing mark
-abbrev pub after : (Held → State) → List Mark → List ℕ → Read (List ℕ) → Meant
-after close tail t (Err e) = ([], e)
-after close tail t (Ok r) = told (close (hold (t ++ r.0))) (r.1 ++ tail)
+-- the state after a token that is held
+abbrev pub closes : (Held → State) → List ℕ → State
+closes close t = close (hold t)
 
-pub after-before : (close : Held → State) (tail : List Mark) (t : List ℕ) (c : ℕ) (r : Read (List ℕ))
+-- after a token that was read up to its end
+abbrev pub after : (List ℕ → State) → List Mark → List ℕ → Read (List ℕ) → Meant
+after close tail t (Err e) = ([], Faulty e)
+after close tail t (Ok r) = told (close (t ++ r.0)) (r.1 ++ tail)
+
+pub after-before : (close : List ℕ → State) (tail : List Mark) (t : List ℕ) (c : ℕ) (r : Read (List ℕ))
     → after close tail (t ++ encode_utf8 c) r ≡ after close tail t (before c r)
 after-before close tail t c (Err e) = refl
-after-before close tail t c (Ok r) = ap (λ z. told (close (hold z)) (r.1 ++ tail)) (append_assoc t (encode_utf8 c) r.0)
+after-before close tail t c (Ok r) = ap (λ z. told (close z) (r.1 ++ tail)) (append_assoc t (encode_utf8 c) r.0)
 
-pub cut_iri : (g : Stage) (v : Inside) (h : Held) (tail : List Mark) → Stops tail → told (g, InIri v h) tail ≡ ([], Syntax)
+pub cut_iri : (g : Stage) (v : Inside) (h : Held) (tail : List Mark) → Stops tail → told (g, InIri v h) tail ≡ ([], Faulty Syntax)
 unfolding rest
 cut_iri g v h [] at_nothing = refl
 cut_iri g Plain h _ (at_feed n ms) = walk_broken Syntax ms
@@ -56,33 +62,33 @@ cut_iri g Escape h _ (at_return n ms) = walk_broken Syntax ms
 cut_iri g (Digits l w) h _ (at_return n ms) = walk_broken Syntax ms
 
 pub walk_iri : (g : Stage) (v : Inside) (t : List ℕ) (line tail : List Mark) → Stops tail
-    → told (g, InIri v (hold t)) (line ++ tail) ≡ after (iri_closed g) tail t (iri_after v line)
+    → told (g, InIri v (hold t)) (line ++ tail) ≡ after (closes (iri_closed g)) tail t (iri_after v line)
 unfolding rest
 walk_iri g v t [] tail s = cut_iri g v (hold t) tail s
 walk_iri g Plain t (m ∷ ms) tail s =
-    two_ways (λ z. told z (ms ++ tail)) (after (iri_closed g) tail t) (m.0 == 62) _ _ _ _
+    two_ways (λ z. told z (ms ++ tail)) (after (closes (iri_closed g)) tail t) (m.0 == 62) _ _ _ _
     (ap (λ z. told (iri_closed g (hold z)) (ms ++ tail)) (sym (append-nil t)))
-    (two_ways (λ z. told z (ms ++ tail)) (after (iri_closed g) tail t) (m.0 == 92) _ _ _ _
+    (two_ways (λ z. told z (ms ++ tail)) (after (closes (iri_closed g)) tail t) (m.0 == 92) _ _ _ _
     (walk_iri g Escape t ms tail s)
-    (two_ways (λ z. told z (ms ++ tail)) (after (iri_closed g) tail t) (may_stand_in_iri m.0) _ _ _ _
-    (ap (λ h. told (g, InIri Plain h) (ms ++ tail)) (add-hold t (encode_utf8 m.0)) ∙ walk_iri g Plain (t ++ encode_utf8 m.0) ms tail s ∙ after-before (iri_closed g) tail t m.0 (iri_after Plain ms))
+    (two_ways (λ z. told z (ms ++ tail)) (after (closes (iri_closed g)) tail t) (may_stand_in_iri m.0) _ _ _ _
+    (ap (λ h. told (g, InIri Plain h) (ms ++ tail)) (add-hold t (encode_utf8 m.0)) ∙ walk_iri g Plain (t ++ encode_utf8 m.0) ms tail s ∙ after-before (closes (iri_closed g)) tail t m.0 (iri_after Plain ms))
     (walk_broken Syntax (ms ++ tail))))
 walk_iri g Escape t (m ∷ ms) tail s =
-    two_ways (λ z. told z (ms ++ tail)) (after (iri_closed g) tail t) (m.0 == 117) _ _ _ _
+    two_ways (λ z. told z (ms ++ tail)) (after (closes (iri_closed g)) tail t) (m.0 == 117) _ _ _ _
     (walk_iri g (Digits 3 0) t ms tail s)
-    (two_ways (λ z. told z (ms ++ tail)) (after (iri_closed g) tail t) (m.0 == 85) _ _ _ _
+    (two_ways (λ z. told z (ms ++ tail)) (after (closes (iri_closed g)) tail t) (m.0 == 85) _ _ _ _
     (walk_iri g (Digits 7 0) t ms tail s)
     (walk_broken Syntax (ms ++ tail)))
 walk_iri g (Digits l v) t (m ∷ ms) tail s =
-    two_ways (λ z. told z (ms ++ tail)) (after (iri_closed g) tail t) (is_hex m.0) _ _ _ _
-    (two_ways (λ z. told z (ms ++ tail)) (after (iri_closed g) tail t) (l == 0) _ _ _ _
-    (two_ways (λ z. told z (ms ++ tail)) (after (iri_closed g) tail t) (may_stand_in_iri (with_digit v m.0)) _ _ _ _
-    (ap (λ h. told (g, InIri Plain h) (ms ++ tail)) (add-hold t (encode_utf8 (with_digit v m.0))) ∙ walk_iri g Plain (t ++ encode_utf8 (with_digit v m.0)) ms tail s ∙ after-before (iri_closed g) tail t (with_digit v m.0) (iri_after Plain ms))
+    two_ways (λ z. told z (ms ++ tail)) (after (closes (iri_closed g)) tail t) (is_hex m.0) _ _ _ _
+    (two_ways (λ z. told z (ms ++ tail)) (after (closes (iri_closed g)) tail t) (l == 0) _ _ _ _
+    (two_ways (λ z. told z (ms ++ tail)) (after (closes (iri_closed g)) tail t) (may_stand_in_iri (with_digit v m.0)) _ _ _ _
+    (ap (λ h. told (g, InIri Plain h) (ms ++ tail)) (add-hold t (encode_utf8 (with_digit v m.0))) ∙ walk_iri g Plain (t ++ encode_utf8 (with_digit v m.0)) ms tail s ∙ after-before (closes (iri_closed g)) tail t (with_digit v m.0) (iri_after Plain ms))
     (walk_broken Syntax (ms ++ tail)))
     (walk_iri g (Digits (l - 1) (with_digit v m.0)) t ms tail s))
     (walk_broken Syntax (ms ++ tail))
 
-pub cut_string : (g : Stage) (v : Inside) (h : Held) (tail : List Mark) → Stops tail → told (g, InString v h) tail ≡ ([], Syntax)
+pub cut_string : (g : Stage) (v : Inside) (h : Held) (tail : List Mark) → Stops tail → told (g, InString v h) tail ≡ ([], Faulty Syntax)
 unfolding rest
 cut_string g v h [] at_nothing = refl
 cut_string g Plain h _ (at_feed n ms) = walk_broken Syntax ms
@@ -93,31 +99,31 @@ cut_string g Escape h _ (at_return n ms) = walk_broken Syntax ms
 cut_string g (Digits l w) h _ (at_return n ms) = walk_broken Syntax ms
 
 pub walk_string : (g : Stage) (v : Inside) (t : List ℕ) (line tail : List Mark) → Stops tail
-    → told (g, InString v (hold t)) (line ++ tail) ≡ after (string_closed g) tail t (string_after v line)
+    → told (g, InString v (hold t)) (line ++ tail) ≡ after (closes (string_closed g)) tail t (string_after v line)
 unfolding rest
 walk_string g v t [] tail s = cut_string g v (hold t) tail s
 walk_string g Plain t (m ∷ ms) tail s =
-    two_ways (λ z. told z (ms ++ tail)) (after (string_closed g) tail t) (m.0 == 34) _ _ _ _
+    two_ways (λ z. told z (ms ++ tail)) (after (closes (string_closed g)) tail t) (m.0 == 34) _ _ _ _
     (ap (λ z. told (string_closed g (hold z)) (ms ++ tail)) (sym (append-nil t)))
-    (two_ways (λ z. told z (ms ++ tail)) (after (string_closed g) tail t) (m.0 == 92) _ _ _ _
+    (two_ways (λ z. told z (ms ++ tail)) (after (closes (string_closed g)) tail t) (m.0 == 92) _ _ _ _
     (walk_string g Escape t ms tail s)
-    (two_ways (λ z. told z (ms ++ tail)) (after (string_closed g) tail t) (may_stand_in_string m.0) _ _ _ _
-    (ap (λ h. told (g, InString Plain h) (ms ++ tail)) (add-hold t (encode_utf8 m.0)) ∙ walk_string g Plain (t ++ encode_utf8 m.0) ms tail s ∙ after-before (string_closed g) tail t m.0 (string_after Plain ms))
+    (two_ways (λ z. told z (ms ++ tail)) (after (closes (string_closed g)) tail t) (may_stand_in_string m.0) _ _ _ _
+    (ap (λ h. told (g, InString Plain h) (ms ++ tail)) (add-hold t (encode_utf8 m.0)) ∙ walk_string g Plain (t ++ encode_utf8 m.0) ms tail s ∙ after-before (closes (string_closed g)) tail t m.0 (string_after Plain ms))
     (walk_broken Syntax (ms ++ tail))))
 walk_string g Escape t (m ∷ ms) tail s =
-    two_ways (λ z. told z (ms ++ tail)) (after (string_closed g) tail t) (m.0 == 117) _ _ _ _
+    two_ways (λ z. told z (ms ++ tail)) (after (closes (string_closed g)) tail t) (m.0 == 117) _ _ _ _
     (walk_string g (Digits 3 0) t ms tail s)
-    (two_ways (λ z. told z (ms ++ tail)) (after (string_closed g) tail t) (m.0 == 85) _ _ _ _
+    (two_ways (λ z. told z (ms ++ tail)) (after (closes (string_closed g)) tail t) (m.0 == 85) _ _ _ _
     (walk_string g (Digits 7 0) t ms tail s)
-    (elim (escaped m.0) as (λ o. told (escape_turn g (hold t) o) (ms ++ tail) ≡ after (string_closed g) tail t (escape_before o (string_after Plain ms))) [
+    (elim (escaped m.0) as (λ o. told (escape_turn g (hold t) o) (ms ++ tail) ≡ after (closes (string_closed g)) tail t (escape_before o (string_after Plain ms))) [
       | None ↦ walk_broken Syntax (ms ++ tail)
-      | Some c ↦ ap (λ h. told (g, InString Plain h) (ms ++ tail)) (add-hold t (encode_utf8 c)) ∙ walk_string g Plain (t ++ encode_utf8 c) ms tail s ∙ after-before (string_closed g) tail t c (string_after Plain ms)
+      | Some c ↦ ap (λ h. told (g, InString Plain h) (ms ++ tail)) (add-hold t (encode_utf8 c)) ∙ walk_string g Plain (t ++ encode_utf8 c) ms tail s ∙ after-before (closes (string_closed g)) tail t c (string_after Plain ms)
     ]))
 walk_string g (Digits l v) t (m ∷ ms) tail s =
-    two_ways (λ z. told z (ms ++ tail)) (after (string_closed g) tail t) (is_hex m.0) _ _ _ _
-    (two_ways (λ z. told z (ms ++ tail)) (after (string_closed g) tail t) (l == 0) _ _ _ _
-    (two_ways (λ z. told z (ms ++ tail)) (after (string_closed g) tail t) (scalar (with_digit v m.0)) _ _ _ _
-    (ap (λ h. told (g, InString Plain h) (ms ++ tail)) (add-hold t (encode_utf8 (with_digit v m.0))) ∙ walk_string g Plain (t ++ encode_utf8 (with_digit v m.0)) ms tail s ∙ after-before (string_closed g) tail t (with_digit v m.0) (string_after Plain ms))
+    two_ways (λ z. told z (ms ++ tail)) (after (closes (string_closed g)) tail t) (is_hex m.0) _ _ _ _
+    (two_ways (λ z. told z (ms ++ tail)) (after (closes (string_closed g)) tail t) (l == 0) _ _ _ _
+    (two_ways (λ z. told z (ms ++ tail)) (after (closes (string_closed g)) tail t) (scalar (with_digit v m.0)) _ _ _ _
+    (ap (λ h. told (g, InString Plain h) (ms ++ tail)) (add-hold t (encode_utf8 (with_digit v m.0))) ∙ walk_string g Plain (t ++ encode_utf8 (with_digit v m.0)) ms tail s ∙ after-before (closes (string_closed g)) tail t (with_digit v m.0) (string_after Plain ms))
     (walk_broken Syntax (ms ++ tail)))
     (walk_string g (Digits (l - 1) (with_digit v m.0)) t ms tail s))
     (walk_broken Syntax (ms ++ tail))

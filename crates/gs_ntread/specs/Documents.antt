@@ -3,31 +3,33 @@ use Rattle.std.specs.Prelude.{ℕ, ◌==◌, if◌then◌else◌, List, [], ◌�
 use Rattle.gs_model.specs.Terms.{Term, Blank}
 use Rattle.gs_machine.specs.Utf8.{symbols}
 use Rattle.gs_machine.specs.Machines.{Machine, rest}
-use Rattle.gs_body.specs.Bodies.{Ending, Whole, Syntax, Statement, Meaning}
+use Rattle.gs_model.specs.declared.faults.Fault.TheVariants.{Syntax}
+use Rattle.gs_body.specs.Bodies.{Ending, Whole, Faulty, Statement, Meaning}
 use Rattle.gs_blank.specs.Numbers.{Numbers, no_numbers, number_of}
 use Rattle.gs_ntterm.specs.Marks.{Mark, marks}
 use Rattle.gs_ntterm.specs.Classes.{is_space, is_line_end, may_stand_in_comment}
-use Rattle.gs_ntterm.specs.Words.{Word, Fixed, Labelled}
+use Rattle.gs_ntterm.specs.LineTerms.{LineTerm, Fixed, Labelled}
 use Rattle.gs_ntterm.specs.Terminals.{Read}
 use Rattle.gs_ntread.specs.LineTriples.{LineTriple}
 use Rattle.gs_ntread.specs.Grammar.{triple_at}
 
--- sentences before the first fault, and how the text ends
+-- line triples before the first fault, and how the text ends
 abbrev pub Meant : Type 0
 Meant = List LineTriple × Ending
 
 -- a comment after its '#'
 abbrev pub comment_meant : List Mark → Ending
 comment_meant [] = Whole
-comment_meant (m ∷ ms) = if may_stand_in_comment m.0 then comment_meant ms else Syntax
+comment_meant (m ∷ ms) = if may_stand_in_comment m.0 then comment_meant ms else Faulty Syntax
 
 -- the rest of a line after a triple: blanks, and a comment if there is one
 abbrev pub rest_meant : List Mark → Ending
 rest_meant [] = Whole
-rest_meant (m ∷ ms) = if is_space m.0 then rest_meant ms else if m.0 == 35 then comment_meant ms else Syntax
+rest_meant (m ∷ ms) = if is_space m.0 then rest_meant ms else if m.0 == 35 then comment_meant ms else Faulty Syntax
 
+-- a triple with the rest of its line, or its fault
 abbrev pub triple_meant : Read LineTriple → Meant
-triple_meant (Err e) = ([], e)
+triple_meant (Err e) = ([], Faulty e)
 triple_meant (Ok r) = (r.0 ∷ [], rest_meant r.1)
 
 -- a line is blanks, with a comment if there is one, or a triple
@@ -41,7 +43,7 @@ line_meant (m ∷ ms) =
 -- one line after another, where the first has no fault
 abbrev pub then_meant : Meant → Meant → Meant
 then_meant (ts, Whole) next = (ts ++ next.0, next.1)
-then_meant (ts, e) next = (ts, e)
+then_meant (ts, Faulty e) next = (ts, Faulty e)
 
 -- [1] document: what its lines mean, which EOL parts; `line` is the front of the first
 abbrev pub lines_meant : List Mark → List Mark → Meant
@@ -50,22 +52,23 @@ lines_meant line (m ∷ ms) =
     if is_line_end m.0 then then_meant (line_meant line) (lines_meant [] ms)
     else lines_meant (line ++ m ∷ []) ms
 
+-- a whole document
 abbrev pub document : List Mark → Meant
 document text = lines_meant [] text
 
--- a word as a term of request r, and the numbers then
-abbrev pub term_of : ℕ → Numbers → Word → Term × Numbers
+-- a line's term as a term of request r, and the numbers then
+abbrev pub term_of : ℕ → Numbers → LineTerm → Term × Numbers
 term_of r n (Fixed t) = (t, n)
 term_of r n (Labelled label) = (Blank r (number_of n label).0, (number_of n label).1)
 
--- a sentence as a triple of request r, and the numbers then
+-- a line triple as a triple of request r, and the numbers then
 abbrev pub stated : ℕ → Numbers → LineTriple → Numbers × List Statement
 stated r n s =
     let a = term_of r n s.subject in
     let o = term_of r a.1 s.object in
     (o.1, record { triples = record { subject = a.0; predicate = s.predicate; object = o.0 } ∷ []; end = s.end } ∷ [])
 
--- from sentences to triples, whose blank nodes are numbered by first appearance
+-- from line triples to triples, whose blank nodes are numbered by first appearance
 abbrev pub numbering : ℕ → Machine Numbers LineTriple Statement (Unit {0})
 numbering r = record { step = stated r; ended = λ n. ([], tt) }
 

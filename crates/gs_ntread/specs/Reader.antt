@@ -1,6 +1,6 @@
--- From bytes to triples: the machines of characters, places, sentences and numbers, one after another.
+-- From bytes to triples: the machines of characters, places, lines and numbers, one after another.
 use Rattle.std.specs.Prelude.{ℕ}
-use Rattle.gs_machine.specs.Machines.{Machine, steps, rest, behind}
+use Rattle.gs_machine.specs.Machines.{Machine, steps, rest, composed}
 use Rattle.gs_machine.specs.Utf8.{Decoding, Ready, utf8}
 use Rattle.gs_body.specs.Bodies.{Ending, Statement}
 use Rattle.gs_blank.specs.Numbers.{Numbers, no_numbers}
@@ -22,7 +22,7 @@ stating r = keeping reading (numbering r)
 
 -- from characters
 abbrev pub placing : ℕ → Machine (ℕ × (State × Numbers)) ℕ Statement Ending
-placing r = behind places (stating r)
+placing r = composed places (stating r)
 
 -- where the bytes so far lead
 abbrev pub Led : Type 0
@@ -30,7 +30,8 @@ Led = Decoding × (ℕ × (State × Numbers))
 
 -- from bytes
 abbrev pub ntriples : ℕ → Machine Led ℕ Statement Ending
-ntriples r = behind utf8 (placing r)
+ntriples r = composed utf8 (placing r)
 
+-- at the front of a body
 abbrev pub unread : Led
 unread = (Ready, (0, (start, no_numbers)))

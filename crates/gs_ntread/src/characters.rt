@@ -1,18 +1,18 @@
 //! One character more.
 ghost use Rattle.std.specs.Prelude.{◌≡◌, IfOk, OnOk};
 ghost use Rattle.gs_ntterm.specs.Terminals.{Plain, Escape, Digits};
+ghost use Rattle.gs_ntterm.specs.Labels.{label_of};
 ghost use Rattle.gs_ntterm.specs.Views.{held_of};
-ghost use Rattle.gs_ntread.specs.States.{quiet, Colon, InLabel, InDots, InTag, Comment};
+ghost use Rattle.gs_ntread.specs.States.{quiet, Colon, InLabel, InDots, Comment};
 ghost use Rattle.gs_ntread.specs.Turns.{iri_turn, string_turn, turn};
-ghost use Rattle.gs_ntread.specs.Views.{state_of, stage_of, given};
+ghost use Rattle.gs_ntread.specs.Views.{state_of, stage_at, given};
 ghost use Rattle.gs_ntread.specs.declared.parts.Within.TheVariants as within;
 
 use crate::cursor::Cursor;
 use crate::parts::{Parts, Place, Within};
 use gs_chars::is_iri_char;
 use gs_ntterm::{
-    begins_label, char_of, escaped, is_label_char, is_line_end, is_tag_char, may_stand_in_comment,
-    with_digit,
+    begins_label, char_of, escaped, is_label_char, is_line_end, may_stand_in_comment, with_digit,
 };
 use std::alloc::AllocError;
 
@@ -20,7 +20,7 @@ impl Cursor {
     /// A character of an IRI.
     pub fn in_iri(&mut self, c: u32) -> Result<(), AllocError>
         requires { self.old.within ≡ within.Iri }
-        ensures { OnOk result (state_of self.new ≡ iri_turn Plain (stage_of self.old.place (held_of self.old.lexical)) (held_of self.old.text) c) }
+        ensures { OnOk result (state_of self.new ≡ iri_turn Plain (stage_at self.old) (held_of self.old.text) c) }
     {
         if c == 62 {
             return self.close_iri();
@@ -39,7 +39,7 @@ impl Cursor {
     /// The character after a backslash in an IRI.
     pub fn iri_escape(&mut self, c: u32)
         requires { self.old.within ≡ within.IriEscape }
-        ensures { state_of self.new ≡ iri_turn Escape (stage_of self.old.place (held_of self.old.lexical)) (held_of self.old.text) c }
+        ensures { state_of self.new ≡ iri_turn Escape (stage_at self.old) (held_of self.old.text) c }
     {
         self.within = Within::IriDigits;
         self.value = 0;
@@ -53,7 +53,7 @@ impl Cursor {
     /// A digit of an escape in an IRI.
     pub fn iri_digit(&mut self, c: u32) -> Result<(), AllocError>
         requires { self.old.within ≡ within.IriDigits }
-        ensures { OnOk result (state_of self.new ≡ iri_turn (Digits self.old.count self.old.value) (stage_of self.old.place (held_of self.old.lexical)) (held_of self.old.text) c) }
+        ensures { OnOk result (state_of self.new ≡ iri_turn (Digits self.old.count self.old.value) (stage_at self.old) (held_of self.old.text) c) }
     {
         let Some(value) = with_digit(self.value, c) else {
             self.break_off();
@@ -77,7 +77,7 @@ impl Cursor {
     /// A character of a string.
     pub fn in_string(&mut self, c: u32) -> Result<(), AllocError>
         requires { self.old.within ≡ within.Quoted }
-        ensures { OnOk result (state_of self.new ≡ string_turn Plain (stage_of self.old.place (held_of self.old.lexical)) (held_of self.old.text) c) }
+        ensures { OnOk result (state_of self.new ≡ string_turn Plain (stage_at self.old) (held_of self.old.text) c) }
     {
         if c == 34 {
             self.close_string();
@@ -101,7 +101,7 @@ impl Cursor {
     /// The character after a backslash in a string.
     pub fn string_escape(&mut self, c: u32) -> Result<(), AllocError>
         requires { self.old.within ≡ within.QuotedEscape }
-        ensures { OnOk result (state_of self.new ≡ string_turn Escape (stage_of self.old.place (held_of self.old.lexical)) (held_of self.old.text) c) }
+        ensures { OnOk result (state_of self.new ≡ string_turn Escape (stage_at self.old) (held_of self.old.text) c) }
     {
         if c == 117 || c == 85 {
             self.within = Within::QuotedDigits;
@@ -122,7 +122,7 @@ impl Cursor {
     /// A digit of an escape in a string.
     pub fn string_digit(&mut self, c: u32) -> Result<(), AllocError>
         requires { self.old.within ≡ within.QuotedDigits }
-        ensures { OnOk result (state_of self.new ≡ string_turn (Digits self.old.count self.old.value) (stage_of self.old.place (held_of self.old.lexical)) (held_of self.old.text) c) }
+        ensures { OnOk result (state_of self.new ≡ string_turn (Digits self.old.count self.old.value) (stage_at self.old) (held_of self.old.text) c) }
     {
         let Some(value) = with_digit(self.value, c) else {
             self.break_off();
@@ -146,12 +146,12 @@ impl Cursor {
     /// The first character of a label.
     pub fn begin_label(&mut self, c: u32) -> Result<(), AllocError>
         requires { self.old.within ≡ within.Colon }
-        ensures { OnOk result (quiet (state_of self.new) ≡ turn (stage_of self.old.place (held_of self.old.lexical)) Colon c 0) }
+        ensures { OnOk result (quiet (state_of self.new) ≡ turn (stage_at self.old) Colon c 0) }
     {
         match char::from_u32(c) {
             Some(first) if begins_label(c) => {
-                self.open(Within::Label);
-                self.text.push(first)?;
+                self.within = Within::Label;
+                self.label.begin(first)?;
             }
             _ => self.break_off(),
         }
@@ -161,11 +161,11 @@ impl Cursor {
     /// A character of a label, or after it, which ends after n bytes.
     pub fn in_label(&mut self, c: u32, n: u64) -> Result<Option<Parts>, AllocError>
         requires { self.old.within ≡ within.Label }
-        ensures { IfOk result (λ o. (state_of self.new, given o) ≡ turn (stage_of self.old.place (held_of self.old.lexical)) (InLabel (held_of self.old.text)) c n) }
+        ensures { IfOk result (λ o. (state_of self.new, given o) ≡ turn (stage_at self.old) (InLabel (label_of self.old.label)) c n) }
     {
         match char::from_u32(c) {
             Some(next) if is_label_char(c) => {
-                self.text.push(next)?;
+                self.label.push(next)?;
                 return Ok(None);
             }
             _ => {}
@@ -176,19 +176,19 @@ impl Cursor {
             self.value = n;
             return Ok(None);
         }
-        self.behind_label(c, n)
+        self.after_label(c, n)
     }
 
     /// A character after dots that may be a label's.
     pub fn in_dots(&mut self, c: u32) -> Result<Option<Parts>, AllocError>
         requires { self.old.within ≡ within.Dots }
-        ensures { IfOk result (λ o. (state_of self.new, given o) ≡ turn (stage_of self.old.place (held_of self.old.lexical)) (InDots (held_of self.old.text) self.old.value self.old.count) c 0) }
+        ensures { IfOk result (λ o. (state_of self.new, given o) ≡ turn (stage_at self.old) (InDots (label_of self.old.label) self.old.value self.old.count) c 0) }
     {
         match char::from_u32(c) {
             Some(next) if is_label_char(c) => {
-                self.text.push('.')?;
-                self.text.push_dots(self.count)?;
-                self.text.push(next)?;
+                self.label.push('.')?;
+                self.label.push_dots(self.count)?;
+                self.label.push(next)?;
                 self.within = Within::Label;
                 return Ok(None);
             }
@@ -198,27 +198,13 @@ impl Cursor {
             self.count = self.count.checked_add(1).ok_or(AllocError)?;
             return Ok(None);
         }
-        self.behind_dots(c)
-    }
-
-    /// A character of a language tag, or after it.
-    pub fn in_tag(&mut self, c: u32, n: u64) -> Result<Option<Parts>, AllocError>
-        requires { self.old.within ≡ within.Tag }
-        ensures { IfOk result (λ o. (state_of self.new, given o) ≡ turn (stage_of self.old.place (held_of self.old.lexical)) (InTag (held_of self.old.text)) c n) }
-    {
-        match char::from_u32(c) {
-            Some(next) if is_tag_char(c) => {
-                self.text.push(next)?;
-                Ok(None)
-            }
-            _ => self.behind_tag(c, n),
-        }
+        self.after_dots(c)
     }
 
     /// A character of a comment, or after it.
     pub fn in_comment(&mut self, c: u32)
         requires { self.old.within ≡ within.Comment }
-        ensures { quiet (state_of self.new) ≡ turn (stage_of self.old.place (held_of self.old.lexical)) Comment c 0 }
+        ensures { quiet (state_of self.new) ≡ turn (stage_at self.old) Comment c 0 }
     {
         if is_line_end(c) {
             self.place = Place::Subject;

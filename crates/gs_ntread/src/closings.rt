@@ -3,33 +3,36 @@ ghost use Rattle.std.specs.Prelude.{◌≡◌, OnOk, IfOk};
 ghost use Rattle.gs_ntterm.specs.Tokens.{Held, iri_held, typed_held};
 ghost use Rattle.gs_ntterm.specs.Views.{held_of};
 ghost use Rattle.gs_ntread.specs.Lines.{to_predicate as to_predicate_of, to_object as to_object_of, to_dot as to_dot_of, iri_closed, string_closed, caret_closed};
-ghost use Rattle.gs_ntread.specs.Views.{settled, subject_of, state_of, stage_of};
+ghost use Rattle.gs_ntread.specs.Views.{settled, subject_of, state_of, stage_at};
 
 use crate::cursor::Cursor;
 use crate::parts::{Object, Place, Subject, Within};
-use gs_ntterm::{Made, Name, Token};
+use gs_model::Fault;
+use gs_ntterm::{Name, Token};
 use std::alloc::{AllocError, Global};
 use std::mem;
 
 /// The place after a subject.
-fn to_predicate(alloc: Global, text: &Token) -> Result<Made<Place>, AllocError>
+fn to_predicate(alloc: Global, text: &Token) -> Result<Result<Place, Fault>, AllocError>
     ensures { IfOk result (λ m. (l : Held) → settled m l ≡ to_predicate_of (iri_held (held_of text.now))) }
 {
     Ok(match gs_ntterm::iri(alloc, text)? {
-        Made::Term(name) => Made::Term(Place::Predicate(Subject::Iri(name))),
-        Made::Broken => Made::Broken,
-        Made::Overlong => Made::Overlong,
+        Ok(name) => Ok(Place::Predicate(Subject::Iri(name))),
+        Err(fault) => Err(fault),
     })
 }
 
 /// The place after a predicate.
-fn to_object(alloc: Global, subject: Subject, text: &Token) -> Result<Made<Place>, AllocError>
+fn to_object(
+    alloc: Global,
+    subject: Subject,
+    text: &Token,
+) -> Result<Result<Place, Fault>, AllocError>
     ensures { IfOk result (λ m. (l : Held) → settled m l ≡ to_object_of (subject_of subject) (iri_held (held_of text.now))) }
 {
     Ok(match gs_ntterm::iri(alloc, text)? {
-        Made::Term(name) => Made::Term(Place::Object(subject, name)),
-        Made::Broken => Made::Broken,
-        Made::Overlong => Made::Overlong,
+        Ok(name) => Ok(Place::Object(subject, name)),
+        Err(fault) => Err(fault),
     })
 }
 
@@ -39,16 +42,15 @@ fn to_dot(
     subject: Subject,
     predicate: Name,
     text: &Token,
-) -> Result<Made<Place>, AllocError>
+) -> Result<Result<Place, Fault>, AllocError>
     ensures { IfOk result (λ m. (l : Held) → settled m l ≡ to_dot_of (subject_of subject) predicate.term (iri_held (held_of text.now))) }
 {
     Ok(match gs_ntterm::iri(alloc, text)? {
-        Made::Term(name) => {
+        Ok(name) => {
             let Name { term } = name;
-            Made::Term(Place::Dot(subject, predicate, Object::Term(term)))
+            Ok(Place::Dot(subject, predicate, Object::Term(term)))
         }
-        Made::Broken => Made::Broken,
-        Made::Overlong => Made::Overlong,
+        Err(fault) => Err(fault),
     })
 }
 
@@ -59,51 +61,49 @@ fn to_typed(
     predicate: Name,
     lexical: &Token,
     text: &Token,
-) -> Result<Made<Place>, AllocError>
+) -> Result<Result<Place, Fault>, AllocError>
     ensures { IfOk result (λ m. (l : Held) → settled m l ≡ to_dot_of (subject_of subject) predicate.term (typed_held (held_of lexical.now) (held_of text.now))) }
 {
     Ok(match gs_ntterm::typed(alloc, lexical, text)? {
-        Made::Term(term) => Made::Term(Place::Dot(subject, predicate, Object::Term(term))),
-        Made::Broken => Made::Broken,
-        Made::Overlong => Made::Overlong,
+        Ok(term) => Ok(Place::Dot(subject, predicate, Object::Term(term))),
+        Err(fault) => Err(fault),
     })
 }
 
 impl Cursor {
-    fn settle(&mut self, made: Made<Place>)
-        ensures { state_of self.new ≡ settled made (held_of self.old.lexical) }
+    fn settle(&mut self, place: Result<Place, Fault>)
+        ensures { state_of self.new ≡ settled place (held_of self.old.lexical) }
     {
-        match made {
-            Made::Term(place) => {
+        match place {
+            Ok(place) => {
                 self.place = place;
                 self.within = Within::Between;
             }
-            Made::Broken => self.within = Within::Broken,
-            Made::Overlong => self.within = Within::Overlong,
+            Err(fault) => self.fail(fault),
         }
     }
 
     /// The `>` of an IRI.
     pub fn close_iri(&mut self) -> Result<(), AllocError>
-        ensures { OnOk result (state_of self.new ≡ iri_closed (stage_of self.old.place (held_of self.old.lexical)) (held_of self.old.text)) }
+        ensures { OnOk result (state_of self.new ≡ iri_closed (stage_at self.old) (held_of self.old.text)) }
     {
         let alloc = self.alloc;
-        let made = match mem::replace(&mut self.place, Place::End) {
+        let place = match mem::replace(&mut self.place, Place::End) {
             Place::Subject => to_predicate(alloc, &self.text)?,
             Place::Predicate(subject) => to_object(alloc, subject, &self.text)?,
             Place::Object(subject, predicate) => to_dot(alloc, subject, predicate, &self.text)?,
             Place::Datatype(subject, predicate) => {
                 to_typed(alloc, subject, predicate, &self.lexical, &self.text)?
             }
-            _other => Made::Broken,
+            _other => Err(Fault::Syntax),
         };
-        self.settle(made);
+        self.settle(place);
         Ok(())
     }
 
     /// The second `"` of a string.
     pub fn close_string(&mut self)
-        ensures { state_of self.new ≡ string_closed (stage_of self.old.place (held_of self.old.lexical)) (held_of self.old.text) }
+        ensures { state_of self.new ≡ string_closed (stage_at self.old) (held_of self.old.text) }
     {
         match mem::replace(&mut self.place, Place::End) {
             Place::Object(subject, predicate) => {
@@ -117,7 +117,7 @@ impl Cursor {
 
     /// The second `^`.
     pub fn close_caret(&mut self)
-        ensures { state_of self.new ≡ caret_closed (stage_of self.old.place (held_of self.old.lexical)) }
+        ensures { state_of self.new ≡ caret_closed (stage_at self.old) }
     {
         match mem::replace(&mut self.place, Place::End) {
             Place::Suffix(subject, predicate) => {

@@ -11,6 +11,7 @@ mod numbers;
 mod parts;
 mod reader;
 mod runs;
+mod tags;
 mod taking;
 #[cfg(test)]
 mod tests;

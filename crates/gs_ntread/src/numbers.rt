@@ -1,7 +1,7 @@
 //! Blank nodes get their numbers.
 ghost use Rattle.std.specs.Prelude.{◌≡◌, ◌∷◌, [], true, IfOk, IfErr};
 ghost use Rattle.gs_model.specs.Triples.{is_subject};
-ghost use Rattle.gs_ntterm.specs.Words.{Labelled};
+ghost use Rattle.gs_ntterm.specs.LineTerms.{Labelled};
 ghost use Rattle.gs_ntread.specs.Documents.{term_of, stated};
 ghost use Rattle.gs_ntread.specs.Views.{subject_of, object_of, sentence_of};
 

@@ -1,4 +1,5 @@
 //! What was read of a line so far.
+use gs_model::Fault;
 use gs_ntterm::Name;
 use gs_term::TermText;
 
@@ -37,7 +38,8 @@ pub enum Place {
     End,
 }
 
-/// Between two tokens, or within which.
+/// Between two tokens, or within which. A tag's first part has letters alone, the later ones digits
+/// too.
 #[derive(Clone, Copy)]
 pub enum Within {
     Between,
@@ -53,15 +55,9 @@ pub enum Within {
     Label,
     Dots,
     Caret,
+    AtSign,
     Tag,
-    Broken,
-    Overlong,
-}
-
-/// How a text ends.
-#[derive(Clone, Copy)]
-pub enum Final {
-    Whole,
-    Broken,
-    Overlong,
+    TagPart,
+    Hyphen,
+    Faulty(Fault),
 }

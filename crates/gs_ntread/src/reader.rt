@@ -4,12 +4,13 @@ ghost use Rattle.gs_model.specs.Triples.{RdfTriple};
 ghost use Rattle.gs_ntterm.specs.Marks.{end_of};
 
 use crate::cursor::Cursor;
+use crate::finals::Ending;
 use crate::numbers;
-use crate::parts::{Final, Parts, Within};
+use crate::parts::{Parts, Within};
 use gs_blank::Numbering;
 use gs_body::BodyReader;
 use gs_machine::{BAD, Decoder};
-use gs_model::Refusal;
+use gs_model::{Fault, Refusal};
 use gs_term::Triple;
 use std::alloc::{AllocError, Global};
 
@@ -48,7 +49,7 @@ impl NTriplesReader {
     ghost use Rattle.gs_body.specs.Bodies.{triples_of, Whole};
     ghost use Rattle.gs_ntread.specs.Documents.{stated, numbering, meaning_by};
     ghost use Rattle.gs_ntread.specs.Reader.{stating, placing, ntriples};
-    ghost use Rattle.gs_ntread.specs.Readers.{led_of, LeadsTo, Takes, IsBroken, FaultsAs, FaultyAfter, ConcludesAs, FaultyEnd, Ends, Sound};
+    ghost use Rattle.gs_ntread.specs.Readers.{led_of, LeadsTo, Takes, IsBroken, refusal_of, FaultsAs, FaultyAfter, ConcludesAs, FaultyEnd, Ends, Sound};
     ghost use Rattle.gs_ntread.specs.Views.{sentence_of, state_of, ending_of};
 
     /// A reader at the start of the body of the request of this number. Takes no memory.
@@ -159,6 +160,17 @@ impl NTriplesReader {
         Ok(())
     }
 
+    /// The refusal of a fault after the statements so far.
+    fn refusal(&self, fault: Fault) -> Refusal
+        ensures value { result ≡ refusal_of self.now.last fault }
+        ensures told { result ≢ Refusal.Closed }
+    {
+        match fault {
+            Fault::Syntax => Refusal::Syntax(self.last),
+            Fault::TermTooLong => Refusal::TermTooLong,
+        }
+    }
+
     /// The fault at which nothing more is read.
     fn fault(&self) -> Option<Refusal>
         ensures some { IfSome result (λ e. FaultsAs e self.now.last (state_of self.now.cursor)) }
@@ -166,8 +178,7 @@ impl NTriplesReader {
         ensures told { IfSome result (λ e. e ≢ Refusal.Closed) }
     {
         match self.cursor.within {
-            Within::Broken => Some(Refusal::Syntax(self.last)),
-            Within::Overlong => Some(Refusal::TermTooLong),
+            Within::Faulty(fault) => Some(self.refusal(fault)),
             _ => None,
         }
     }
@@ -178,6 +189,7 @@ impl NTriplesReader {
         ensures err { OnErr result (Begins triples.new.items triples.old.items) }
         ensures fault { IfErr result (λ e. FaultyAfter e self.old.last (steps (ntriples self.old.request) (led_of self.old) piece.now)) }
         ensures request { self.new.request ≡ self.old.request }
+        ensures unbroken { OnOk result (¬ (IsBroken (state_of self.new.cursor))) }
     {
         self.take_all(piece, triples)?;
         match self.fault() {
@@ -187,15 +199,14 @@ impl NTriplesReader {
     }
 
     /// What the end of a text answers.
-    fn conclude(&self, end: Final) -> Result<(), Refusal>
+    fn conclude(&self, end: Ending) -> Result<(), Refusal>
         ensures ok { OnOk result (ending_of end ≡ Whole) }
         ensures told { IfErr result (λ e. e ≢ Refusal.Closed) }
         ensures fault { IfErr result (λ e. ConcludesAs e self.now.last (ending_of end)) }
     {
         match end {
-            Final::Whole => Ok(()),
-            Final::Broken => Err(Refusal::Syntax(self.last)),
-            Final::Overlong => Err(Refusal::TermTooLong),
+            Ok(()) => Ok(()),
+            Err(fault) => Err(self.refusal(fault)),
         }
     }
 

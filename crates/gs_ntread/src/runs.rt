@@ -36,7 +36,7 @@ impl Cursor {
         ensures run { IfOk result (λ n. Runs (state_of self.old) (take n piece.now) (state_of self.new)) }
     {
         let n = run_len::<InLabel>(piece);
-        self.text.push_all(&piece[..n])?;
+        self.label.push_all(&piece[..n])?;
         Ok(n)
     }
 

@@ -1,9 +1,8 @@
 //! The next character.
 ghost use Rattle.std.specs.Prelude.{◌≡◌, IfOk};
-ghost use Rattle.gs_ntterm.specs.Views.{held_of};
-ghost use Rattle.gs_ntread.specs.States.{Caret, Underscore, quiet};
+ghost use Rattle.gs_ntread.specs.States.{Underscore, quiet};
 ghost use Rattle.gs_ntread.specs.Turns.{turn};
-ghost use Rattle.gs_ntread.specs.Views.{state_of, stage_of, given};
+ghost use Rattle.gs_ntread.specs.Views.{state_of, stage_at, given};
 ghost use Rattle.gs_ntread.specs.declared.parts.Within.TheVariants as within;
 
 use crate::cursor::Cursor;
@@ -28,9 +27,12 @@ impl Cursor {
             Within::Colon => self.begin_label(c)?,
             Within::Label => return self.in_label(c, n),
             Within::Dots => return self.in_dots(c),
-            Within::Caret => self.caret(c),
+            Within::Caret => self.caret(c)?,
+            Within::AtSign => self.at_sign(c)?,
             Within::Tag => return self.in_tag(c, n),
-            Within::Broken | Within::Overlong => {}
+            Within::TagPart => return self.in_part(c, n),
+            Within::Hyphen => self.hyphen(c)?,
+            Within::Faulty(_) => {}
         }
         Ok(None)
     }
@@ -38,22 +40,10 @@ impl Cursor {
     /// The character after an underscore.
     fn underscore(&mut self, c: u32)
         requires { self.old.within ≡ within.Underscore }
-        ensures { quiet (state_of self.new) ≡ turn (stage_of self.old.place (held_of self.old.lexical)) Underscore c 0 }
+        ensures { quiet (state_of self.new) ≡ turn (stage_at self.old) Underscore c 0 }
     {
         if c == 58 {
             self.within = Within::Colon;
-        } else {
-            self.break_off();
-        }
-    }
-
-    /// The character after a `^`.
-    fn caret(&mut self, c: u32)
-        requires { self.old.within ≡ within.Caret }
-        ensures { quiet (state_of self.new) ≡ turn (stage_of self.old.place (held_of self.old.lexical)) Caret c 0 }
-    {
-        if c == 94 {
-            self.close_caret();
         } else {
             self.break_off();
         }

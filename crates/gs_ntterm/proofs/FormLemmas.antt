@@ -23,18 +23,18 @@ broken_scheme : (t : Tag) (x : List ℕ) → is_absolute_form (form_after (recor
 broken_scheme t [] = refl
 broken_scheme t (b ∷ bs) = broken_scheme (tag_after_byte t b) bs
 
-behind_scheme : (t : Tag) (x : List ℕ) → is_absolute_form (form_after (record { scheme = scheme.Behind; tag = t }) x) ≡ list_all is_iri_char x
-behind_scheme t [] = refl
-behind_scheme t (b ∷ bs) =
+after_colon : (t : Tag) (x : List ℕ) → is_absolute_form (form_after (record { scheme = scheme.AfterColon; tag = t }) x) ≡ list_all is_iri_char x
+after_colon t [] = refl
+after_colon t (b ∷ bs) =
     by_test (λ z. is_absolute_form (form_after (record { scheme = z; tag = tag_after_byte t b }) bs)) (λ v. v && list_all is_iri_char bs) (is_iri_char b) _ _
-    (behind_scheme (tag_after_byte t b) bs) (broken_scheme (tag_after_byte t b) bs)
+    (after_colon (tag_after_byte t b) bs) (broken_scheme (tag_after_byte t b) bs)
 
 inside_scheme : (t : Tag) (x : List ℕ) → is_absolute_form (form_after (record { scheme = scheme.Inside; tag = t }) x) ≡ is_scheme_rest x
 inside_scheme t [] = refl
 inside_scheme t (b ∷ bs) =
     let u = tag_after_byte t b in
     two_ways (λ z. is_absolute_form (form_after (record { scheme = z; tag = u }) bs)) (λ v. v) (b == 58) _ _ _ _
-    (behind_scheme u bs)
+    (after_colon u bs)
     (by_test (λ z. is_absolute_form (form_after (record { scheme = z; tag = u }) bs)) (λ v. v && is_scheme_rest bs) (is_scheme_char b) _ _
     (inside_scheme u bs) (broken_scheme u bs))
 

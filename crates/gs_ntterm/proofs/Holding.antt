@@ -7,15 +7,16 @@ use Rattle.std.specs.Str.{str_to_ascii_lowercase, bytes_eq}
 use Rattle.std.proofs.lemmas.Bool.Decides.{nat_tests}
 use Rattle.gs_model.specs.Terms.{Term, Iri, Literal, LiteralKind, Typed, Tagged, xsd_string, is_kind, is_term, text_of, escaped, escape_of, suffix}
 use Rattle.gs_model.specs.Limits.{max_term_bytes}
-use Rattle.gs_body.specs.Bodies.{Syntax, TooLong}
+use Rattle.gs_model.specs.declared.faults.Fault.TheVariants.{Syntax, TermTooLong}
+use Rattle.gs_term.specs.Making.{made}
 use Rattle.gs_model.proofs.TextLemmas.{same_text}
 use Rattle.gs_term.proofs.MakingLemmas.{suffix_other, suffix_tag}
 use Rattle.gs_ntterm.specs.Forms.{form_of, form_after, is_absolute_form, is_tag_form}
 use Rattle.gs_ntterm.proofs.FormLemmas.{form_after-append, absolute_by_form, tag_by_form}
-use Rattle.gs_ntterm.specs.Words.{Labelled, made, iri_made, label_made, plain_made, typed_made, tagged_made}
+use Rattle.gs_ntterm.specs.LineTerms.{iri_made, plain_made, typed_made, tagged_made}
 use Rattle.gs_ntterm.specs.declared.forms.Form.{Form}
 use Rattle.gs_ntterm.specs.Views.{held}
-use Rattle.gs_ntterm.specs.Tokens.{Text, Long, hold, add, iri_held, literal_held, typed_held, tagged_held, plain_held, label_held}
+use Rattle.gs_ntterm.specs.Tokens.{Text, Long, hold, add, iri_held, literal_held, typed_held, tagged_held, plain_held}
 
 abbrev fits : List ℕ → Bool
 fits t = nat_le (length t) max_term_bytes
@@ -37,10 +38,10 @@ outgrown : (t text : List ℕ) → length t ≤ length text → fits t ≡ false
 outgrown t text l h = grind (arith, nat_tests)
 
 -- a term of a form that was told byte by byte, where its text is too long
-told_long : (t : Term) (v : Bool) → v ≡ is_term t → nat_le (length (text_of t)) max_term_bytes ≡ false → cond v (Err TooLong) (Err Syntax) ≡ made t
+told_long : (t : Term) (v : Bool) → v ≡ is_term t → nat_le (length (text_of t)) max_term_bytes ≡ false → cond v (Err TermTooLong) (Err Syntax) ≡ made t
 told_long t v e h =
-    ap (λ v. cond v (Err TooLong) (Err Syntax)) e
-    ∙ ap (λ b. cond (is_term t) (cond b (Ok t) (Err TooLong)) (Err Syntax)) (sym h)
+    ap (λ v. cond v (Err TermTooLong) (Err Syntax)) e
+    ∙ ap (λ b. cond (is_term t) (cond b (Ok t) (Err TermTooLong)) (Err Syntax)) (sym h)
 
 iri_length : (t : List ℕ) → length t ≤ length (text_of (Iri t))
 iri_length t = omega (arith, length-append t (62 ∷ []))
@@ -51,13 +52,6 @@ iri_held-hold t = by_fit (fits t) refl
     by_fit : (b : Bool) → fits t ≡ b → iri_held (cond b (Text t) (Long (form_of t))) ≡ made (Iri t)
     by_fit true h = refl
     by_fit false h = told_long (Iri t) (is_absolute_form (form_of t)) (absolute_by_form t) (outgrown t (text_of (Iri t)) (iri_length t) h)
-
-pub label_held-hold : (t : List ℕ) → label_held (hold t) ≡ label_made t
-label_held-hold t = by_fit (fits t)
-  where
-    by_fit : (b : Bool) → label_held (cond b (Text t) (Long (form_of t))) ≡ cond b (Ok (Labelled t)) (Err TooLong)
-    by_fit true = refl
-    by_fit false = refl
 
 escape_length : (c : ℕ) → 1 ≤ length (escape_of c)
 escape_length c = one (c == 34) (c == 92) (c == 10) (c == 13)
@@ -84,7 +78,7 @@ literal_held-hold l k = by_fit (fits l) refl
 
     by_fit : (b : Bool) → fits l ≡ b → literal_held (cond b (Text l) (Long (form_of l))) k ≡ made (Literal l k)
     by_fit true h = refl
-    by_fit false h = ap (λ b. cond (is_kind k) (cond b (Ok (Literal l k)) (Err TooLong)) (Err Syntax)) (sym (too_long h))
+    by_fit false h = ap (λ b. cond (is_kind k) (cond b (Ok (Literal l k)) (Err TermTooLong)) (Err Syntax)) (sym (too_long h))
 
 pub plain_held-hold : (l : List ℕ) → plain_held (hold l) ≡ plain_made l
 plain_held-hold l = literal_held-hold l (Typed xsd_string)

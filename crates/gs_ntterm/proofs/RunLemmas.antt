@@ -40,7 +40,7 @@ joined-too_long false false f g t u bs e k w h n = absurd (Prim.cc)
 joined-too_long false true f g t u [] e k w h n = absurd (omega arith)
 joined-too_long false true f g t u (b ∷ bs) e k w h n = ap Long w ∙ add-grown false f t (b ∷ bs) e n ∙ sym (joined-text t b bs)
 
-pub joined-fits : {A E : Type 0} (r : Result A E) (l : Bool) (f : Form) (t bs u : List ℕ) → l ≡ false → (0 < length bs → length t + length bs ≤ max_term_bytes) → u ≡ cond (is_ok r) (t ++ bs) t
+pub joined-fits : {A E : Type 0} (r : Result A E) (l : Bool) (f : Form) (t bs u : List ℕ) → l ≡ false → (0 < length bs → length t + length bs ≤ max_term_bytes) → OnOk r (u ≡ t ++ bs)
     → OnOk r (held l f u ≡ joined (held l f t) bs)
 joined-fits (Err x) l f t bs u e h w = tt
 joined-fits (Ok x) true f t bs u e h w = absurd (Prim.cc)

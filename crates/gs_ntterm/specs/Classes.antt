@@ -3,6 +3,7 @@ use Rattle.std.specs.Prelude.{ℕ, ◌+◌, ◌*◌, Bool, not, ◌&&◌, ◌||�
 use Rattle.std.specs.Char.{digit_value, is_digit}
 use lib.Utf8.{scalar}
 use Rattle.gs_model.specs.Characters.{in_ranges, pn_chars, pn_chars_u, is_iri_char}
+use Rattle.gs_model.specs.Iris.{is_letter}
 
 -- what may part tokens within a line
 abbrev pub is_space : ℕ → Bool
@@ -32,9 +33,9 @@ begins_label c = (in_ranges pn_chars_u c || c == 58 || (nat_le 48 c && nat_le c 
 abbrev pub is_label_char : ℕ → Bool
 is_label_char c = (in_ranges pn_chars c || c == 58) && scalar c
 
--- of [144s] LANGTAG after its '@'
-abbrev pub is_tag_char : ℕ → Bool
-is_tag_char c = (nat_le 65 c && nat_le c 90) || (nat_le 97 c && nat_le c 122) || (nat_le 48 c && nat_le c 57) || c == 45
+-- what may stand in a part of [144s] LANGTAG: letters, and in the parts after a '-' digits too
+abbrev pub is_tag_char : (digits : Bool) → ℕ → Bool
+is_tag_char digits c = is_letter c || ((nat_le 48 c && nat_le c 57) && digits)
 
 -- [162s] HEX
 abbrev pub is_hex : ℕ → Bool

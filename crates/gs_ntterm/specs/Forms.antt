@@ -13,8 +13,8 @@ use Rattle.gs_ntterm.specs.declared.forms.Form.{Form}
 -- a letter, then letters, digits, '+', '-' and '.', then ':', and then IRI characters
 abbrev pub scheme_after : Scheme → ℕ → Scheme
 scheme_after scheme.Unbegun b = if is_letter b then scheme.Inside else scheme.Broken
-scheme_after scheme.Inside b = if b == 58 then scheme.Behind else if is_scheme_char b then scheme.Inside else scheme.Broken
-scheme_after scheme.Behind b = if is_iri_char b then scheme.Behind else scheme.Broken
+scheme_after scheme.Inside b = if b == 58 then scheme.AfterColon else if is_scheme_char b then scheme.Inside else scheme.Broken
+scheme_after scheme.AfterColon b = if is_iri_char b then scheme.AfterColon else scheme.Broken
 scheme_after scheme.Broken b = scheme.Broken
 
 -- the same of a byte in lower case, in a part of a tag
@@ -29,6 +29,7 @@ abbrev pub tag_after_byte : Tag → ℕ → Tag
 tag_after_byte (tag.Part digits begun) b = part_after digits begun (to_ascii_lowercase b)
 tag_after_byte tag.Broken b = tag.Broken
 
+-- a form with a byte more
 abbrev pub form_on : Form → ℕ → Form
 form_on f b = record { scheme = scheme_after f.scheme b; tag = tag_after_byte f.tag b }
 
@@ -37,19 +38,24 @@ abbrev pub form_after : Form → List ℕ → Form
 form_after f [] = f
 form_after f (b ∷ bs) = form_after (form_on f b) bs
 
+-- the form of a text
 abbrev pub form_of : List ℕ → Form
 form_of bytes = form_after (record { scheme = scheme.Unbegun; tag = tag.Part false false }) bytes
 
-abbrev pub is_behind : Scheme → Bool
-is_behind scheme.Behind = true
-is_behind s = false
+-- after its ':'
+abbrev pub is_after_colon : Scheme → Bool
+is_after_colon scheme.AfterColon = true
+is_after_colon s = false
 
+-- its last part has begun
 abbrev pub has_part : Tag → Bool
 has_part (tag.Part digits begun) = begun
 has_part tag.Broken = false
 
+-- the bytes are an absolute IRI
 abbrev pub is_absolute_form : Form → Bool
-is_absolute_form f = is_behind f.scheme
+is_absolute_form f = is_after_colon f.scheme
 
+-- the bytes are a language tag
 abbrev pub is_tag_form : Form → Bool
 is_tag_form f = has_part f.tag

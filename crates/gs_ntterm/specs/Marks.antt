@@ -11,6 +11,7 @@ Mark = ℕ × ℕ
 abbrev pub counted : ℕ → ℕ
 counted n = min n (2 ^ 64 - 1)
 
+-- the end of a character after n bytes
 abbrev pub end_of : ℕ → ℕ → ℕ
 end_of n c = counted (n + len_utf8 c)
 

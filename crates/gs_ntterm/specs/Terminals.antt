@@ -3,16 +3,18 @@
 use Rattle.std.specs.Prelude.{ℕ, ◌-◌, Bool, true, false, ◌&&◌, ◌||◌, ◌==◌, if◌then◌else◌, List, [], ◌∷◌, ◌++◌, Result, Ok, Err, Option, Some, None}
 use Rattle.std.specs.Char.{encode_utf8}
 use lib.Utf8.{scalar}
-use Rattle.gs_body.specs.Bodies.{Ending, Syntax}
+use Rattle.gs_model.specs.declared.faults.Fault.{Fault}
+use Rattle.gs_model.specs.declared.faults.Fault.TheVariants.{Syntax}
 use Rattle.gs_ntterm.specs.Marks.{Mark}
 use Rattle.gs_ntterm.specs.Classes.{is_space, may_stand_in_iri, may_stand_in_string, begins_label, is_label_char, is_tag_char, is_hex, with_digit}
 
 -- a value and the text after it, or the fault
 abbrev pub Read : Type 0 → Type 0
-Read A = Result (A × List Mark) Ending
+Read A = Result (A × List Mark) Fault
 
 infixl 10 ◌>>=◌
-abbrev pub ◌>>=◌ : {A B : Type 0} → Result A Ending → (A → Result B Ending) → Result B Ending
+-- what comes next, where there is no fault
+abbrev pub ◌>>=◌ : {A B : Type 0} → Result A Fault → (A → Result B Fault) → Result B Fault
 (Err e) >>= f = Err e
 (Ok x) >>= f = f x
 
@@ -26,6 +28,8 @@ abbrev pub before : ℕ → Read (List ℕ) → Read (List ℕ)
 before c (Err e) = Err e
 before c (Ok r) = Ok (encode_utf8 c ++ r.0, r.1)
 
+-- An escape of a number that no character has is no character, so it breaks the grammar here, and so does in an IRI one of
+-- a character that may not stand in it: the productions alone would take them.
 -- Where in an IRI or a string: among its characters, after a backslash, or within [10] UCHAR, with so many
 -- digits to come after the next, and its number so far.
 pub data Inside : Type 0 where
@@ -105,8 +109,16 @@ label_at (m ∷ []) = Err Syntax
 label_at (m ∷ d ∷ ms) =
     if m.0 == 58 then (if begins_label d.0 then Ok (encode_utf8 d.0 ++ (label_after ms).0, (label_after ms).1) else Err Syntax) else Err Syntax
 
--- the longest run that may be [144s] LANGTAG after its '@', and the text after it
-abbrev pub tag_after : List Mark → List ℕ × List Mark
-tag_after [] = ([], [])
-tag_after (m ∷ ms) =
-    if is_tag_char m.0 then (encode_utf8 m.0 ++ (tag_after ms).0, (tag_after ms).1) else ([], m ∷ ms)
+-- whether a part of a tag begins there
+abbrev pub begins_part : (digits : Bool) → List Mark → Bool
+begins_part digits [] = false
+begins_part digits (m ∷ ms) = is_tag_char digits m.0
+
+-- The longest rest of [144s] LANGTAG, and the text after it: letters, and in the parts after a '-' digits too. A '-' is the
+-- tag's where a part begins after it.
+abbrev pub tag_after : (digits : Bool) → List Mark → List ℕ × List Mark
+tag_after digits [] = ([], [])
+tag_after digits (m ∷ ms) =
+    if is_tag_char digits m.0 then (encode_utf8 m.0 ++ (tag_after digits ms).0, (tag_after digits ms).1)
+    else if m.0 == 45 && begins_part true ms then (encode_utf8 45 ++ (tag_after true ms).0, (tag_after true ms).1)
+    else ([], m ∷ ms)

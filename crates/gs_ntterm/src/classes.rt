@@ -19,12 +19,14 @@ pub fn is_line_end(c: u32) -> bool
     c == 10 || c == 13
 }
 
+/// Whether it may stand in a comment: each character but a line end may.
 pub fn may_stand_in_comment(c: u32) -> bool
     ensures { result ≡ may_stand_in_comment_of c }
 {
     char::from_u32(c).is_some()
 }
 
+/// Whether a label may begin with it.
 pub fn begins_label(c: u32) -> bool
     ensures { result ≡ begins_label_of c }
 {
@@ -34,6 +36,7 @@ pub fn begins_label(c: u32) -> bool
     }
 }
 
+/// Whether it may stand in a label as it is; a dot may only before another.
 pub fn is_label_char(c: u32) -> bool
     ensures { result ≡ is_label_char_of c }
 {
@@ -43,10 +46,11 @@ pub fn is_label_char(c: u32) -> bool
     }
 }
 
-pub fn is_tag_char(c: u32) -> bool
-    ensures { result ≡ is_tag_char_of c }
+/// Whether a character may stand in a part of a language tag, where digits may or may not.
+pub fn is_tag_char(digits: bool, c: u32) -> bool
+    ensures { result ≡ is_tag_char_of digits c }
 {
-    (c >= 65 && c <= 90) || (c >= 97 && c <= 122) || (c >= 48 && c <= 57) || c == 45
+    (c >= 65 && c <= 90) || (c >= 97 && c <= 122) || (digits && c >= 48 && c <= 57)
 }
 
 /// The value of a hexadecimal digit.

@@ -9,7 +9,7 @@ use gs_chars::is_iri_char;
 pub enum Scheme {
     Unbegun,
     Inside,
-    Behind,
+    AfterColon,
     Broken,
 }
 
@@ -38,11 +38,11 @@ impl Scheme {
                 _ => Scheme::Broken,
             },
             Scheme::Inside => match b {
-                b':' => Scheme::Behind,
+                b':' => Scheme::AfterColon,
                 b'A'..=b'Z' | b'a'..=b'z' | b'0'..=b'9' | b'+' | b'-' | b'.' => Scheme::Inside,
                 _ => Scheme::Broken,
             },
-            Scheme::Behind if is_iri_char(char::from(b)) => Scheme::Behind,
+            Scheme::AfterColon if is_iri_char(char::from(b)) => Scheme::AfterColon,
             _ => Scheme::Broken,
         }
     }
@@ -101,7 +101,7 @@ impl Form {
     pub fn is_absolute(self) -> bool
         ensures { result ≡ is_absolute_form self }
     {
-        matches!(self.scheme, Scheme::Behind)
+        matches!(self.scheme, Scheme::AfterColon)
     }
 
     /// Whether the bytes are a language tag.

@@ -4,6 +4,8 @@
 mod classes;
 mod escapes;
 mod forms;
+mod labels;
+mod names;
 mod runs;
 mod terms;
 mod tokens;
@@ -12,6 +14,8 @@ pub use classes::{
     begins_label, is_label_char, is_line_end, is_space, is_tag_char, may_stand_in_comment,
 };
 pub use escapes::{char_of, escaped, with_digit};
+pub use labels::Label;
+pub use names::Name;
 pub use runs::{Between, Class, InComment, InIri, InLabel, InString, run_len};
-pub use terms::{Made, Name, iri, label, plain, tagged, typed};
+pub use terms::{iri, plain, tagged, typed};
 pub use tokens::Token;

@@ -1,5 +1,5 @@
 //! The bytes of a token.
-ghost use Rattle.std.specs.Prelude.{◌≡◌, ◌-◌, true, [], OnOk, string_bytes, string_len};
+ghost use Rattle.std.specs.Prelude.{◌≡◌, ◌-◌, ◌++◌, true, [], OnOk, string_bytes, string_len};
 ghost use Rattle.std.specs.Str.{IsAscii};
 ghost use Rattle.std.specs.Char.{encode_utf8};
 ghost use Rattle.gs_model.specs.Limits.{max_term_bytes};
@@ -8,6 +8,14 @@ use crate::forms::Form;
 use gs_model::MAX_TERM_BYTES;
 use std::alloc::{AllocError, Global};
 use std::str::from_utf8_unchecked;
+
+/// Appends bytes of ASCII, as text that is not tested again.
+pub fn push_ascii(text: &mut String, bytes: &[u8]) -> Result<(), AllocError>
+    requires { IsAscii bytes.now }
+    ensures { OnOk result (string_bytes text.new ≡ string_bytes text.old ++ bytes.now) }
+{
+    text.push_str(unsafe { from_utf8_unchecked(bytes) })
+}
 
 /// The bytes of a token so far, of which only the form is kept where no term has room for them.
 #[derive(Drop)]
@@ -18,11 +26,12 @@ pub struct Token {
 }
 
 impl Token {
-    ghost use Rattle.gs_ntterm.specs.Tokens.{add, add_dots, Text, Long};
+    ghost use Rattle.gs_ntterm.specs.Tokens.{add, Text, Long};
     ghost use Rattle.gs_ntterm.specs.Forms.{form_of, form_after};
     ghost use Rattle.gs_ntterm.specs.Runs.{joined};
     ghost use Rattle.gs_ntterm.specs.Views.{held_of};
 
+    /// No bytes yet.
     pub fn new(alloc: Global) -> Token
         ensures { held_of result ≡ Text [] }
     {
@@ -97,16 +106,6 @@ impl Token {
             self.form = self.form.after(bytes);
             return Ok(());
         }
-        self.text.push_str(unsafe { from_utf8_unchecked(bytes) })
-    }
-
-    /// So many dots more.
-    pub fn push_dots(&mut self, count: u64) -> Result<(), AllocError>
-        ensures { OnOk result (held_of self.new ≡ add_dots (held_of self.old) count) }
-    {
-        for _ in 0..count {
-            self.push('.')?;
-        }
-        Ok(())
+        push_ascii(&mut self.text, bytes)
     }
 }

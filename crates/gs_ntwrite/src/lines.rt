@@ -23,6 +23,7 @@ pub fn line(triple: &Triple, bytes: &mut Vec<u8>) -> Result<(), Refusal>
     }
 }
 
+/// Appends the line; what stood before stays also where memory is refused.
 fn push_parts(triple: &Triple, bytes: &mut Vec<u8>) -> Result<(), AllocError>
     ensures ok { OnOk result (bytes.new.items ≡ bytes.old.items ++ line_of triple.now) }
     ensures front { take (length bytes.old.items) bytes.new.items ≡ bytes.old.items }

@@ -5,7 +5,7 @@ use Rattle.std.specs.Str.{IsUtf8, IsCharBoundary, is_utf8}
 use Rattle.std.proofs.lemmas.Bool.{eqb-true}
 use Rattle.std.proofs.lemmas.Str.{is_utf8-from_IsUtf8, IsUtf8-from_is_utf8, IsCharBoundary-from_take}
 use Rattle.gs_lex.specs.Tokens.{Lexeme}
-use Rattle.gs_document.specs.Symbols.{Foreign, symbol, symbol_of}
+use Rattle.gs_triples.specs.Symbols.{Foreign, symbol, symbol_of}
 
 pub symbol_of_text : (t : Lexeme) (x : List ℕ) → x ≡ t.text → IsUtf8 t.text → symbol t.kind x t.«end» ≡ symbol_of t
 symbol_of_text t x e u = ap (λ y. symbol t.kind y t.«end») e ∙ sym (ap (λ b. cond b (symbol t.kind t.text t.«end») Foreign) (is_utf8-from_IsUtf8 t.text u))

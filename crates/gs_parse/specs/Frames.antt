@@ -1,7 +1,7 @@
 -- What the frames of the code stand for.
 use Rattle.std.specs.Prelude.{List, ◌∷◌, map, reverse}
-use Rattle.gs_document.specs.Goals as rule
-use Rattle.gs_document.specs.States as machine
+use Rattle.gs_triples.specs.Goals as rule
+use Rattle.gs_triples.specs.States as machine
 use Rattle.gs_parse.specs.declared.frames.Goal.{Goal}
 use Rattle.gs_parse.specs.declared.frames.Goal.TheVariants as goal
 use Rattle.gs_parse.specs.declared.frames.Slot.{Slot}

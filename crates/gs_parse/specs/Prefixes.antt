@@ -2,7 +2,7 @@
 use Rattle.std.specs.Prelude.{ℕ, List, map, string_bytes, String}
 use Rattle.std.specs.FinMap as finite
 use Rattle.std.specs.BTreeMap.{BTreeMap}
-use Rattle.gs_document.specs.Prefixes.{Prefixes}
+use Rattle.gs_triples.specs.Prefixes.{Prefixes}
 
 -- an entry with its texts' bytes
 abbrev pub as_texts : {Y Z : Type 0} → String Y × String Z → List ℕ × List ℕ

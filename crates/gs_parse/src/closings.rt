@@ -8,33 +8,37 @@ use crate::parser::Parser;
 use crate::places::Place;
 use crate::symbols::Symbol;
 use crate::terms::blank;
-use gs_document::Fault;
+use gs_model::Fault;
 use gs_term::Triple;
 use std::alloc::AllocError;
 
 impl Parser {
     ghost use Rattle.gs_body.specs.Bodies.{triples_of};
-    ghost use Rattle.gs_document.specs.Symbols as grammar;
-    ghost use Rattle.gs_document.specs.States.{Between};
-    ghost use Rattle.gs_document.specs.Machine.{leave};
+    ghost use Rattle.gs_triples.specs.Machine.{leave, shut};
+    ghost use Rattle.gs_document.specs.States.{Between, Within};
+    ghost use Rattle.gs_document.specs.Machine.{conclude, over};
     ghost use Rattle.gs_parse.specs.Views.{state_of, context_of, symbol_at};
-    ghost use Rattle.gs_parse.specs.Frames.{stack_of};
+    ghost use Rattle.gs_parse.specs.Frames.{frame_of, stack_of};
 
-    /// A bracket closes.
-    fn close(&mut self) -> Result<(), AllocError>
-        ensures state { OnOk result (state_of self.new ≡ (leave grammar.Close (stack_of self.old.stack) (context_of self.old.context) self.old.waiting.items self.old.numbering).0) }
+    /// A token where this frame is open after a list of verbs and objects.
+    fn shut(&mut self, frame: Frame, symbol: Symbol) -> Result<(), AllocError>
+        ensures state { OnOk result (state_of self.new ≡ Within (shut (symbol_at symbol.entry) (frame_of frame) (stack_of self.old.stack) (context_of self.old.context) self.old.waiting.items self.old.numbering)) }
         ensures last { self.new.last ≡ self.old.last }
     {
-        match self.stack.pop() {
-            Some(Frame::ToClose(number)) => {
+        let Symbol::Close = symbol else {
+            self.lose(Fault::Syntax);
+            return Ok(());
+        };
+        match frame {
+            Frame::ToClose(number) => {
                 let term = blank(self.alloc, self.context.request, number)?;
                 return self.give_subject(Subject { term });
             }
-            Some(Frame::ToMore(number)) => match self.stack.pop() {
+            Frame::ToMore(number) => match self.stack.pop() {
                 None => self.place = Place::Closed(number),
-                Some(_) => self.lose(Fault::Broken),
+                Some(_) => self.lose(Fault::Syntax),
             },
-            _ => self.lose(Fault::Broken),
+            _ => self.lose(Fault::Syntax),
         }
         Ok(())
     }
@@ -60,39 +64,38 @@ impl Parser {
         Ok(())
     }
 
-    /// A dot after a list of verbs and objects.
-    #[tactic(auto, using(crate::proofs::StatedLemmas::given_at_end))]
-    fn end_statement(&mut self, end: u64, triples: &mut Vec<Triple>) -> Result<(), AllocError>
-        ensures state { OnOk result (state_of self.new ≡ (leave (grammar.Dot end) (stack_of self.old.stack) (context_of self.old.context) self.old.waiting.items self.old.numbering).0) }
-        ensures given { OnOk result (triples.new.items ≡ triples.old.items ++ triples_of (leave (grammar.Dot end) (stack_of self.old.stack) (context_of self.old.context) self.old.waiting.items self.old.numbering).1) }
-        ensures last { OnOk result (self.new.last ≡ end_after self.old.last (leave (grammar.Dot end) (stack_of self.old.stack) (context_of self.old.context) self.old.waiting.items self.old.numbering).1) }
+    /// The symbol after the triples of a statement, which is to be their dot.
+    #[tactic(auto, using(crate::proofs::StatedLemmas::given_stated))]
+    fn conclude(&mut self, symbol: Symbol, triples: &mut Vec<Triple>) -> Result<(), AllocError>
+        ensures state { OnOk result (state_of self.new ≡ (conclude (symbol_at symbol.entry) (context_of self.old.context) self.old.waiting.items self.old.numbering).0) }
+        ensures given { OnOk result (triples.new.items ≡ triples.old.items ++ triples_of (conclude (symbol_at symbol.entry) (context_of self.old.context) self.old.waiting.items self.old.numbering).1) }
+        ensures last { OnOk result (self.new.last ≡ end_after self.old.last (conclude (symbol_at symbol.entry) (context_of self.old.context) self.old.waiting.items self.old.numbering).1) }
         ensures err { OnErr result (triples.new.items ≡ triples.old.items) }
     {
-        match self.stack.pop() {
-            Some(_) => self.lose(Fault::Broken),
-            None => self.state(end, triples)?,
+        match symbol {
+            Symbol::Dot(end) => self.state(end, triples),
+            _ => {
+                self.lose(Fault::Syntax);
+                Ok(())
+            }
         }
-        Ok(())
     }
 
     /// A token after a list of verbs and objects.
+    #[tactic(auto, using(crate::proofs::StatedLemmas::left_none, crate::proofs::StatedLemmas::left_some))]
     pub(crate) fn leave(
         &mut self,
         symbol: Symbol,
         triples: &mut Vec<Triple>,
     ) -> Result<(), AllocError>
-        ensures state { OnOk result (state_of self.new ≡ (leave (symbol_at symbol.entry) (stack_of self.old.stack) (context_of self.old.context) self.old.waiting.items self.old.numbering).0) }
-        ensures given { OnOk result (triples.new.items ≡ triples.old.items ++ triples_of (leave (symbol_at symbol.entry) (stack_of self.old.stack) (context_of self.old.context) self.old.waiting.items self.old.numbering).1) }
-        ensures last { OnOk result (self.new.last ≡ end_after self.old.last (leave (symbol_at symbol.entry) (stack_of self.old.stack) (context_of self.old.context) self.old.waiting.items self.old.numbering).1) }
+        ensures state { OnOk result (state_of self.new ≡ (over (symbol_at symbol.entry) (leave (symbol_at symbol.entry) (stack_of self.old.stack) (context_of self.old.context) self.old.waiting.items self.old.numbering)).0) }
+        ensures given { OnOk result (triples.new.items ≡ triples.old.items ++ triples_of (over (symbol_at symbol.entry) (leave (symbol_at symbol.entry) (stack_of self.old.stack) (context_of self.old.context) self.old.waiting.items self.old.numbering)).1) }
+        ensures last { OnOk result (self.new.last ≡ end_after self.old.last (over (symbol_at symbol.entry) (leave (symbol_at symbol.entry) (stack_of self.old.stack) (context_of self.old.context) self.old.waiting.items self.old.numbering)).1) }
         ensures err { OnErr result (triples.new.items ≡ triples.old.items) }
     {
-        match symbol {
-            Symbol::Close => self.close(),
-            Symbol::Dot(end) => self.end_statement(end, triples),
-            _ => {
-                self.lose(Fault::Broken);
-                Ok(())
-            }
+        match self.stack.pop() {
+            None => self.conclude(symbol, triples),
+            Some(frame) => self.shut(frame, symbol),
         }
     }
 }

@@ -6,7 +6,7 @@ ghost use Rattle.gs_escape.specs.Tokens.{iri_of, parts_of};
 
 use crate::prefixes::Prefixes;
 use crate::symbols::Word;
-use gs_model::Refusal;
+use gs_model::memory_apart;
 use std::alloc::{AllocError, Global};
 
 /// The base and the prefixes in force, and the request whose blank nodes are numbered.
@@ -41,16 +41,16 @@ fn reference(alloc: Global, text: &str) -> Result<Option<String>, AllocError>
     ensures { IfOk result (λ o. option_map string_bytes o ≡ iri_of text.now) }
 {
     let mut meaning = String::new(alloc);
-    match gs_escape::iri(text.as_bytes(), &mut meaning) {
+    match memory_apart(gs_escape::iri(text.as_bytes(), &mut meaning))? {
         Ok(()) => Ok(Some(meaning)),
-        Err(Refusal::NoMemory) => Err(AllocError),
         Err(_) => Ok(None),
     }
 }
 
 impl Context {
     ghost use Rattle.gs_document.specs.Documents.{start};
-    ghost use Rattle.gs_document.specs.Meanings.{name_text, iri_text, with_prefix, with_base};
+    ghost use Rattle.gs_triples.specs.Meanings.{name_text, iri_text};
+    ghost use Rattle.gs_document.specs.Directives.{with_prefix, with_base};
     ghost use Rattle.gs_parse.specs.Views.{word_at, context_of};
 
     /// At the start of a document under an absolute base.
@@ -76,15 +76,14 @@ impl Context {
             return Ok(None);
         };
         let mut iri = String::new(self.alloc);
-        match gs_iri::resolve(self.base.as_str(), reference.as_str(), &mut iri) {
+        match memory_apart(gs_iri::resolve(self.base.as_str(), reference.as_str(), &mut iri))? {
             Ok(()) => Ok(Some(iri)),
-            Err(Refusal::Syntax(_)) => Ok(None),
-            Err(_) => Err(AllocError),
+            Err(_) => Ok(None),
         }
     }
 
     /// The IRI that a prefixed name means.
-    #[tactic(auto, unfolding(gs_document::specs::Meanings::name_text))]
+    #[tactic(auto, unfolding(gs_triples::specs::Meanings::name_text))]
     fn name(&self, text: &str) -> Result<Option<String>, AllocError>
         ensures { IfOk result (λ o. option_map string_bytes o ≡ name_text (context_of self.now) text.now) }
     {
@@ -96,9 +95,8 @@ impl Context {
         };
         let mut text = String::with_capacity(self.alloc, iri.len() + local.len())?;
         text.push_str(iri)?;
-        match gs_escape::local(local.as_bytes(), &mut text) {
+        match memory_apart(gs_escape::local(local.as_bytes(), &mut text))? {
             Ok(()) => Ok(Some(text)),
-            Err(Refusal::NoMemory) => Err(AllocError),
             Err(_) => Ok(None),
         }
     }
@@ -115,7 +113,7 @@ impl Context {
     }
 
     /// Declares a prefix. Whether these are a prefix and an IRI.
-    #[tactic(auto, unfolding(gs_document::specs::Meanings::with_prefix))]
+    #[tactic(auto, unfolding(gs_document::specs::Directives::with_prefix))]
     pub fn declare(&mut self, prefix: &str, text: &str) -> Result<bool, AllocError>
         ensures { IfOk result (λ b. (if b then Some (context_of self.new) else None) ≡ with_prefix (context_of self.old) prefix.now text.now) }
     {
@@ -130,7 +128,7 @@ impl Context {
     }
 
     /// Sets the base. Whether this is an IRI.
-    #[tactic(auto, unfolding(gs_document::specs::Meanings::with_base))]
+    #[tactic(auto, unfolding(gs_document::specs::Directives::with_base))]
     pub fn set_base(&mut self, text: &str) -> Result<bool, AllocError>
         ensures { IfOk result (λ b. (if b then Some (context_of self.new) else None) ≡ with_base (context_of self.old) text.now) }
     {

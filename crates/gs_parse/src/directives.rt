@@ -7,24 +7,25 @@ use crate::parser::Parser;
 use crate::places::Place;
 use crate::symbols::{Symbol, Word};
 use crate::terms;
-use gs_document::Fault;
+use gs_model::Fault;
 use std::alloc::AllocError;
 
 impl Parser {
+    ghost use Rattle.gs_triples.specs.States.{Typing};
     ghost use Rattle.gs_document.specs.States as state;
     ghost use Rattle.gs_document.specs.Machine as machine;
     ghost use Rattle.gs_parse.specs.Views.{state_of, context_of, symbol_at};
     ghost use Rattle.gs_parse.specs.Frames.{slot_of, stack_of};
 
     /// The datatype of a string.
-    #[tactic(auto, unfolding(gs_document::specs::Machine::step))]
+    #[tactic(auto, unfolding(gs_document::specs::Machine::step, gs_triples::specs::Machine::step))]
     pub(crate) fn typing(
         &mut self,
         text: &str,
         slot: Slot,
         symbol: Symbol,
     ) -> Result<(), AllocError>
-        ensures state { OnOk result (state_of self.new ≡ (machine.step (state.Typing text.now (slot_of slot ∷ stack_of self.old.stack) (context_of self.old.context) self.old.waiting.items self.old.numbering) (symbol_at symbol.entry)).0) }
+        ensures state { OnOk result (state_of self.new ≡ (machine.step (state.Within (Typing text.now (slot_of slot ∷ stack_of self.old.stack) (context_of self.old.context) self.old.waiting.items self.old.numbering)) (symbol_at symbol.entry)).0) }
         ensures last { self.new.last ≡ self.old.last }
     {
         let made = terms::typed(self.alloc, &self.context, text, symbol)?;
@@ -41,7 +42,7 @@ impl Parser {
             Symbol::Word(Word::Namespace(prefix)) => {
                 self.place = Place::InPrefixIri(dot, String::from_str(self.alloc, prefix)?);
             }
-            _ => self.lose(Fault::Broken),
+            _ => self.lose(Fault::Syntax),
         }
         Ok(())
     }
@@ -74,10 +75,10 @@ impl Parser {
                 if self.context.declare(prefix, text)? {
                     self.set(dot, end);
                 } else {
-                    self.lose(Fault::Broken);
+                    self.lose(Fault::Syntax);
                 }
             }
-            _ => self.lose(Fault::Broken),
+            _ => self.lose(Fault::Syntax),
         }
         Ok(())
     }
@@ -93,10 +94,10 @@ impl Parser {
                 if self.context.set_base(text)? {
                     self.set(dot, end);
                 } else {
-                    self.lose(Fault::Broken);
+                    self.lose(Fault::Syntax);
                 }
             }
-            _ => self.lose(Fault::Broken),
+            _ => self.lose(Fault::Syntax),
         }
         Ok(())
     }
@@ -109,7 +110,7 @@ impl Parser {
     {
         match symbol {
             Symbol::Dot(end) => self.between(end),
-            _ => self.lose(Fault::Broken),
+            _ => self.lose(Fault::Syntax),
         }
     }
 }

@@ -1,22 +1,22 @@
 //! What a parser says where a text ends, or has a fault.
 ghost use Rattle.std.specs.Prelude.{◌≡◌, ◌≢◌, IfOk, IfSome, IfNone};
-ghost use Rattle.gs_body.specs.Bodies.{Ending};
+ghost use Rattle.gs_model.specs.declared.faults.Fault.{Fault};
 
 use crate::parser::Parser;
 use crate::places::Place;
 use crate::terms;
-use gs_document::Fault;
+use gs_model::Fault;
 use std::alloc::AllocError;
 
 impl Parser {
-    ghost use Rattle.gs_document.specs.States.{Lost, lost};
+    ghost use Rattle.gs_document.specs.States.{lost};
     ghost use Rattle.gs_document.specs.Machine.{ended};
     ghost use Rattle.gs_parse.specs.Views.{state_of, ending_at};
 
     /// The fault after which nothing is read.
     pub fn fault(&self) -> Option<Fault>
         ensures some { IfSome result (λ f. state_of self.now ≡ lost f) }
-        ensures none { IfNone result ((e : Ending) → state_of self.now ≢ Lost e) }
+        ensures none { IfNone result ((f : Fault) → state_of self.now ≢ lost f) }
     {
         match self.place {
             Place::Lost(fault) => Some(fault),
@@ -25,18 +25,18 @@ impl Parser {
     }
 
     /// How a text ends that ends here: between two statements, or with a fault.
-    #[tactic(auto, unfolding(gs_document::specs::Machine::ended))]
+    #[tactic(auto, unfolding(gs_document::specs::Machine::ended, gs_triples::specs::Machine::ended))]
     pub fn end(&self) -> Result<Result<(), Fault>, AllocError>
         ensures { IfOk result (λ r. ending_at r ≡ ended (state_of self.now)) }
     {
         match &self.place {
             Place::Between => Ok(Ok(())),
             Place::Held(text, _) => match terms::simple(self.alloc, text.as_str())? {
-                Ok(_) => Ok(Err(Fault::Broken)),
+                Ok(_) => Ok(Err(Fault::Syntax)),
                 Err(fault) => Ok(Err(fault)),
             },
             Place::Lost(fault) => Ok(Err(*fault)),
-            _ => Ok(Err(Fault::Broken)),
+            _ => Ok(Err(Fault::Syntax)),
         }
     }
 }

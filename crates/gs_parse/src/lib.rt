@@ -20,5 +20,4 @@ mod tests;
 mod verbs;
 mod vocabulary;
 
-pub use gs_document::Fault;
 pub use parser::Parser;

@@ -17,7 +17,7 @@ use std::mem;
 impl Parser {
     ghost use Rattle.gs_body.specs.Bodies.{triples_of, end_after};
     ghost use Rattle.gs_lex.specs.Lexemes.{lexeme_of};
-    ghost use Rattle.gs_document.specs.Symbols.{symbol_of};
+    ghost use Rattle.gs_triples.specs.Symbols.{symbol_of};
     ghost use Rattle.gs_document.specs.Documents.{start};
     ghost use Rattle.gs_document.specs.States.{Between};
     ghost use Rattle.gs_document.specs.Machine as machine;
@@ -41,7 +41,7 @@ impl Parser {
     }
 
     /// One symbol more.
-    #[tactic(auto, unfolding(gs_document::specs::Machine::step))]
+    #[tactic(auto, unfolding(gs_document::specs::Machine::step, gs_triples::specs::Machine::step))]
     fn take(&mut self, symbol: Symbol, triples: &mut Vec<Triple>) -> Result<(), AllocError>
         ensures state { OnOk result (state_of self.new ≡ (machine.step (state_of self.old) (symbol_at symbol.entry)).0) }
         ensures given { OnOk result (triples.new.items ≡ triples.old.items ++ triples_of (machine.step (state_of self.old) (symbol_at symbol.entry)).1) }

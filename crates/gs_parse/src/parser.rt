@@ -9,8 +9,7 @@ use crate::stacks::Stack;
 use crate::symbols::Symbol;
 use crate::terms::{self, blank};
 use gs_blank::Numbering;
-use gs_document::Fault;
-use gs_model::MAX_NESTING;
+use gs_model::{Fault, MAX_NESTING};
 use gs_term::{TermText, Triple};
 use std::alloc::{AllocError, Global};
 
@@ -29,9 +28,10 @@ pub struct Parser {
 }
 
 impl Parser {
-    ghost use Rattle.gs_document.specs.States.{lost, ToItem};
-    ghost use Rattle.gs_document.specs.Symbols.{Open, OpenList};
-    ghost use Rattle.gs_document.specs.Machine as machine;
+    ghost use Rattle.gs_triples.specs.States.{ToItem};
+    ghost use Rattle.gs_document.specs.States.{Within, lost};
+    ghost use Rattle.gs_triples.specs.Symbols.{Open, OpenList};
+    ghost use Rattle.gs_triples.specs.Machine as machine;
     ghost use Rattle.gs_parse.specs.Views.{state_of, context_of, symbol_at};
     ghost use Rattle.gs_parse.specs.Frames.{slot_of, stack_of};
 
@@ -52,7 +52,7 @@ impl Parser {
         number: u64,
         term: TermText,
     ) -> Result<(), AllocError>
-        ensures state { OnOk result (state_of self.new ≡ machine.give (context_of self.old.context) term (ToItem depth first cell number ∷ stack_of self.old.stack) self.old.waiting.items self.old.numbering) }
+        ensures state { OnOk result (state_of self.new ≡ Within (machine.give (context_of self.old.context) term (ToItem depth first cell number ∷ stack_of self.old.stack) self.old.waiting.items self.old.numbering)) }
         ensures last { self.new.last ≡ self.old.last }
     {
         let request = self.context.request;
@@ -65,7 +65,7 @@ impl Parser {
 
     /// A term for a slot.
     pub(crate) fn give(&mut self, slot: Slot, term: TermText) -> Result<(), AllocError>
-        ensures state { OnOk result (state_of self.new ≡ machine.give (context_of self.old.context) term (slot_of slot ∷ stack_of self.old.stack) self.old.waiting.items self.old.numbering) }
+        ensures state { OnOk result (state_of self.new ≡ Within (machine.give (context_of self.old.context) term (slot_of slot ∷ stack_of self.old.stack) self.old.waiting.items self.old.numbering)) }
         ensures last { self.new.last ≡ self.old.last }
     {
         match slot {
@@ -88,13 +88,13 @@ impl Parser {
 
     /// A blank node or a collection, for what stands on top of the stack.
     pub(crate) fn give_subject(&mut self, subject: Subject) -> Result<(), AllocError>
-        ensures state { OnOk result (state_of self.new ≡ machine.give (context_of self.old.context) subject.term (stack_of self.old.stack) self.old.waiting.items self.old.numbering) }
+        ensures state { OnOk result (state_of self.new ≡ Within (machine.give (context_of self.old.context) subject.term (stack_of self.old.stack) self.old.waiting.items self.old.numbering)) }
         ensures last { self.new.last ≡ self.old.last }
     {
         match self.stack.pop() {
             Some(Frame::ToSlot(slot)) => return self.give(slot, subject.term),
             Some(Frame::ToVerbs) => self.place = Place::Heading(Goal::Verbs(0, subject)),
-            _ => self.lose(Fault::Broken),
+            _ => self.lose(Fault::Syntax),
         }
         Ok(())
     }
@@ -105,7 +105,7 @@ impl Parser {
         slot: Slot,
         made: Result<TermText, Fault>,
     ) -> Result<(), AllocError>
-        ensures state { OnOk result (state_of self.new ≡ machine.put (slot_of slot ∷ stack_of self.old.stack) (context_of self.old.context) self.old.waiting.items self.old.numbering made) }
+        ensures state { OnOk result (state_of self.new ≡ Within (machine.put (slot_of slot ∷ stack_of self.old.stack) (context_of self.old.context) self.old.waiting.items self.old.numbering made)) }
         ensures last { self.new.last ≡ self.old.last }
     {
         match made {
@@ -119,11 +119,11 @@ impl Parser {
 
     /// A blank node for a slot, whose properties stand in brackets.
     fn open(&mut self, depth: usize, slot: Slot) -> Result<(), AllocError>
-        ensures state { OnOk result (state_of self.new ≡ machine.object depth Open (slot_of slot ∷ stack_of self.old.stack) (context_of self.old.context) self.old.waiting.items self.old.numbering) }
+        ensures state { OnOk result (state_of self.new ≡ Within (machine.object depth Open (slot_of slot ∷ stack_of self.old.stack) (context_of self.old.context) self.old.waiting.items self.old.numbering)) }
         ensures last { self.new.last ≡ self.old.last }
     {
         if depth >= MAX_NESTING {
-            self.lose(Fault::Broken);
+            self.lose(Fault::Syntax);
             return Ok(());
         }
         let Ok(number) = self.numbering.fresh() else {
@@ -136,11 +136,11 @@ impl Parser {
 
     /// A collection for a slot.
     fn open_list(&mut self, depth: usize, slot: Slot) -> Result<(), AllocError>
-        ensures state { OnOk result (state_of self.new ≡ machine.object depth OpenList (slot_of slot ∷ stack_of self.old.stack) (context_of self.old.context) self.old.waiting.items self.old.numbering) }
+        ensures state { OnOk result (state_of self.new ≡ Within (machine.object depth OpenList (slot_of slot ∷ stack_of self.old.stack) (context_of self.old.context) self.old.waiting.items self.old.numbering)) }
         ensures last { self.new.last ≡ self.old.last }
     {
         if depth >= MAX_NESTING {
-            self.lose(Fault::Broken);
+            self.lose(Fault::Syntax);
             return Ok(());
         }
         self.stack.push(Frame::ToSlot(slot))?;
@@ -155,7 +155,7 @@ impl Parser {
         slot: Slot,
         symbol: Symbol,
     ) -> Result<(), AllocError>
-        ensures state { OnOk result (state_of self.new ≡ machine.object depth (symbol_at symbol.entry) (slot_of slot ∷ stack_of self.old.stack) (context_of self.old.context) self.old.waiting.items self.old.numbering) }
+        ensures state { OnOk result (state_of self.new ≡ Within (machine.object depth (symbol_at symbol.entry) (slot_of slot ∷ stack_of self.old.stack) (context_of self.old.context) self.old.waiting.items self.old.numbering)) }
         ensures last { self.new.last ≡ self.old.last }
     {
         match symbol {
@@ -169,7 +169,7 @@ impl Parser {
             }
             Symbol::Open => return self.open(depth, slot),
             Symbol::OpenList => return self.open_list(depth, slot),
-            _ => self.lose(Fault::Broken),
+            _ => self.lose(Fault::Syntax),
         }
         Ok(())
     }
@@ -181,7 +181,7 @@ impl Parser {
         subject: Subject,
         symbol: Symbol,
     ) -> Result<(), AllocError>
-        ensures state { OnOk result (state_of self.new ≡ machine.at_verb depth subject.term (symbol_at symbol.entry) (stack_of self.old.stack) (context_of self.old.context) self.old.waiting.items self.old.numbering) }
+        ensures state { OnOk result (state_of self.new ≡ Within (machine.at_verb depth subject.term (symbol_at symbol.entry) (stack_of self.old.stack) (context_of self.old.context) self.old.waiting.items self.old.numbering)) }
         ensures last { self.new.last ≡ self.old.last }
     {
         match terms::verb(self.alloc, &self.context, symbol)? {

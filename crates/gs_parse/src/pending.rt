@@ -1,8 +1,8 @@
 //! The triples that wait for their dot.
 ghost use Rattle.std.specs.Prelude.{◌≡◌, ◌++◌, ◌∷◌, [], OnOk, codes};
 ghost use Rattle.gs_model.specs.Terms.{Blank};
-ghost use Rattle.gs_document.specs.Goals.{triple};
-ghost use Rattle.gs_document.specs.Meanings.{rdf};
+ghost use Rattle.gs_triples.specs.Goals.{triple};
+ghost use Rattle.gs_triples.specs.Meanings.{rdf};
 
 use crate::frames::{Name, Subject};
 use crate::terms::blank;

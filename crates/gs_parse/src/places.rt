@@ -1,7 +1,7 @@
 //! Where the machine stands.
 
 use crate::frames::{Goal, Slot};
-use gs_document::Fault;
+use gs_model::Fault;
 
 /// Between two statements, within a directive, or within the triples of a statement.
 #[derive(Drop)]

@@ -16,7 +16,7 @@ pub struct Prefixes {
 impl Model for Prefixes {
     ghost use Rattle.std.specs.FinMap as finite;
     ghost use Rattle.std.specs.Coded.{coded_ℕ, coded_list};
-    ghost use Rattle.gs_document.specs.Prefixes.{Prefixes as Declared};
+    ghost use Rattle.gs_triples.specs.Prefixes.{Prefixes as Declared};
     ghost use Rattle.gs_parse.specs.Prefixes.{texts_of};
 
     ghost Value = { Declared };

@@ -7,24 +7,26 @@ use crate::places::Place;
 use crate::symbols::{Symbol, Word};
 use crate::terms::{self, blank};
 use crate::verbs::begins_verb;
-use gs_document::Fault;
+use gs_model::Fault;
 use gs_term::Triple;
 use std::alloc::AllocError;
 use std::mem;
 
 impl Parser {
     ghost use Rattle.gs_body.specs.Bodies.{triples_of, end_after};
-    ghost use Rattle.gs_document.specs.Symbols.{At};
-    ghost use Rattle.gs_document.specs.Goals.{Verbs, Begun};
-    ghost use Rattle.gs_document.specs.Meanings as meaning;
-    ghost use Rattle.gs_document.specs.States as state;
-    ghost use Rattle.gs_document.specs.Machine as machine;
-    ghost use Rattle.gs_parse.specs.Views.{state_of, context_of, symbol_at, word_at};
+    ghost use Rattle.gs_triples.specs.Symbols.{At};
+    ghost use Rattle.gs_triples.specs.Goals.{Verbs, Begun};
+    ghost use Rattle.gs_triples.specs.Meanings as meaning;
+    ghost use Rattle.gs_triples.specs.States as state;
+    ghost use Rattle.gs_triples.specs.Machine as machine;
+    ghost use Rattle.gs_document.specs.States.{Between, Within};
+    ghost use Rattle.gs_document.specs.Machine.{step};
+    ghost use Rattle.gs_parse.specs.Views.{state_of, context_of, symbol_at, word_at, go_on_at};
     ghost use Rattle.gs_parse.specs.Frames.{slot_of, stack_of};
 
     /// A subject, whose verbs come next.
     fn head_of(&mut self, subject: Subject)
-        ensures state { state_of self.new ≡ state.Heading (Verbs 0 subject.term) [] (context_of self.old.context) [] self.old.numbering }
+        ensures state { state_of self.new ≡ Within (state.Heading (Verbs 0 subject.term) [] (context_of self.old.context) [] self.old.numbering) }
         ensures last { self.new.last ≡ self.old.last }
     {
         self.stack.clear();
@@ -34,7 +36,7 @@ impl Parser {
 
     /// A collection opens a statement.
     fn open_subject(&mut self) -> Result<(), AllocError>
-        ensures state { OnOk result (state_of self.new ≡ state.Heading (Begun 1) (state.ToVerbs ∷ []) (context_of self.old.context) [] self.old.numbering) }
+        ensures state { OnOk result (state_of self.new ≡ Within (state.Heading (Begun 1) (state.ToVerbs ∷ []) (context_of self.old.context) [] self.old.numbering)) }
         ensures last { self.new.last ≡ self.old.last }
     {
         self.stack.clear();
@@ -46,7 +48,7 @@ impl Parser {
 
     /// A word opens a statement.
     fn begin_word(&mut self, word: Word) -> Result<(), AllocError>
-        ensures state { OnOk result (state_of self.new ≡ machine.begin (context_of self.old.context) (meaning.subject (context_of self.old.context) self.old.numbering (word_at word.entry))) }
+        ensures state { OnOk result (state_of self.new ≡ Within (machine.begin (context_of self.old.context) (meaning.subject (context_of self.old.context) self.old.numbering (word_at word.entry)))) }
         ensures last { self.new.last ≡ self.old.last }
     {
         match terms::subject(self.alloc, &self.context, &mut self.numbering, word)? {
@@ -57,9 +59,9 @@ impl Parser {
     }
 
     /// `@prefix` or `@base`.
-    #[tactic(auto, unfolding(gs_document::specs::Machine::step))]
+    #[tactic(auto, unfolding(gs_document::specs::Machine::step, gs_triples::specs::Machine::step))]
     fn begin_at(&mut self, text: &str)
-        ensures state { state_of self.new ≡ (machine.step (state.Between (context_of self.old.context) self.old.numbering) (At text.now)).0 }
+        ensures state { state_of self.new ≡ (step (Between (context_of self.old.context) self.old.numbering) (At text.now)).0 }
         ensures last { self.new.last ≡ self.old.last }
     {
         if text == "@prefix" {
@@ -67,14 +69,14 @@ impl Parser {
         } else if text == "@base" {
             self.place = Place::InBase(true);
         } else {
-            self.lose(Fault::Broken);
+            self.lose(Fault::Syntax);
         }
     }
 
     /// A symbol between two statements.
-    #[tactic(auto, unfolding(gs_document::specs::Machine::step))]
+    #[tactic(auto, unfolding(gs_document::specs::Machine::step, gs_triples::specs::Machine::step))]
     pub(crate) fn begin(&mut self, symbol: Symbol) -> Result<(), AllocError>
-        ensures state { OnOk result (state_of self.new ≡ (machine.step (state.Between (context_of self.old.context) self.old.numbering) (symbol_at symbol.entry)).0) }
+        ensures state { OnOk result (state_of self.new ≡ (step (Between (context_of self.old.context) self.old.numbering) (symbol_at symbol.entry)).0) }
         ensures last { self.new.last ≡ self.old.last }
     {
         match symbol {
@@ -84,15 +86,15 @@ impl Parser {
             Symbol::Word(word) => return self.begin_word(word),
             Symbol::Open => self.place = Place::Opened,
             Symbol::OpenList => return self.open_subject(),
-            _ => self.lose(Fault::Broken),
+            _ => self.lose(Fault::Syntax),
         }
         Ok(())
     }
 
     /// A symbol after a `[` that opens a statement.
-    #[tactic(auto, unfolding(gs_document::specs::Machine::step))]
+    #[tactic(auto, unfolding(gs_document::specs::Machine::step, gs_triples::specs::Machine::step))]
     pub(crate) fn opened(&mut self, symbol: Symbol) -> Result<(), AllocError>
-        ensures state { OnOk result (state_of self.new ≡ (machine.step (state.Opened (context_of self.old.context) self.old.numbering) (symbol_at symbol.entry)).0) }
+        ensures state { OnOk result (state_of self.new ≡ (step (Within (state.Opened (context_of self.old.context) self.old.numbering)) (symbol_at symbol.entry)).0) }
         ensures last { self.new.last ≡ self.old.last }
     {
         let Ok(number) = self.numbering.fresh() else {
@@ -114,16 +116,16 @@ impl Parser {
     }
 
     /// A symbol after the properties that open a statement.
-    #[tactic(auto, unfolding(gs_document::specs::Machine::step))]
+    #[tactic(auto, unfolding(gs_document::specs::Machine::step, gs_triples::specs::Machine::step))]
     pub(crate) fn closed(
         &mut self,
         number: u64,
         symbol: Symbol,
         triples: &mut Vec<Triple>,
     ) -> Result<(), AllocError>
-        ensures state { OnOk result (state_of self.new ≡ (machine.step (state.Closed number (context_of self.old.context) self.old.waiting.items self.old.numbering) (symbol_at symbol.entry)).0) }
-        ensures given { OnOk result (triples.new.items ≡ triples.old.items ++ triples_of (machine.step (state.Closed number (context_of self.old.context) self.old.waiting.items self.old.numbering) (symbol_at symbol.entry)).1) }
-        ensures last { OnOk result (self.new.last ≡ end_after self.old.last (machine.step (state.Closed number (context_of self.old.context) self.old.waiting.items self.old.numbering) (symbol_at symbol.entry)).1) }
+        ensures state { OnOk result (state_of self.new ≡ (step (Within (state.Closed number (context_of self.old.context) self.old.waiting.items self.old.numbering)) (symbol_at symbol.entry)).0) }
+        ensures given { OnOk result (triples.new.items ≡ triples.old.items ++ triples_of (step (Within (state.Closed number (context_of self.old.context) self.old.waiting.items self.old.numbering)) (symbol_at symbol.entry)).1) }
+        ensures last { OnOk result (self.new.last ≡ end_after self.old.last (step (Within (state.Closed number (context_of self.old.context) self.old.waiting.items self.old.numbering)) (symbol_at symbol.entry)).1) }
         ensures err { OnErr result (triples.new.items ≡ triples.old.items) }
     {
         self.stack.clear();
@@ -140,9 +142,9 @@ impl Parser {
         symbol: Symbol,
         triples: &mut Vec<Triple>,
     ) -> Result<(), AllocError>
-        ensures state { OnOk result (state_of self.new ≡ (machine.go_on (symbol_at symbol.entry) (state_of self.old)).0) }
-        ensures given { OnOk result (triples.new.items ≡ triples.old.items ++ triples_of (machine.go_on (symbol_at symbol.entry) (state_of self.old)).1) }
-        ensures last { OnOk result (self.new.last ≡ end_after self.old.last (machine.go_on (symbol_at symbol.entry) (state_of self.old)).1) }
+        ensures state { OnOk result (state_of self.new ≡ (go_on_at (symbol_at symbol.entry) (state_of self.old)).0) }
+        ensures given { OnOk result (triples.new.items ≡ triples.old.items ++ triples_of (go_on_at (symbol_at symbol.entry) (state_of self.old)).1) }
+        ensures last { OnOk result (self.new.last ≡ end_after self.old.last (go_on_at (symbol_at symbol.entry) (state_of self.old)).1) }
         ensures err { OnErr result (triples.new.items ≡ triples.old.items) }
     {
         match mem::replace(&mut self.place, Place::Between) {
@@ -152,7 +154,7 @@ impl Parser {
                 Ok(())
             }
             _ => {
-                self.lose(Fault::Broken);
+                self.lose(Fault::Syntax);
                 Ok(())
             }
         }
@@ -166,9 +168,9 @@ impl Parser {
         symbol: Symbol,
         triples: &mut Vec<Triple>,
     ) -> Result<(), AllocError>
-        ensures state { OnOk result (state_of self.new ≡ (machine.go_on (symbol_at symbol.entry) (machine.put (slot_of slot ∷ stack_of self.old.stack) (context_of self.old.context) self.old.waiting.items self.old.numbering (meaning.simple (string_bytes text)))).0) }
-        ensures given { OnOk result (triples.new.items ≡ triples.old.items ++ triples_of (machine.go_on (symbol_at symbol.entry) (machine.put (slot_of slot ∷ stack_of self.old.stack) (context_of self.old.context) self.old.waiting.items self.old.numbering (meaning.simple (string_bytes text)))).1) }
-        ensures last { OnOk result (self.new.last ≡ end_after self.old.last (machine.go_on (symbol_at symbol.entry) (machine.put (slot_of slot ∷ stack_of self.old.stack) (context_of self.old.context) self.old.waiting.items self.old.numbering (meaning.simple (string_bytes text)))).1) }
+        ensures state { OnOk result (state_of self.new ≡ (go_on_at (symbol_at symbol.entry) (Within (machine.put (slot_of slot ∷ stack_of self.old.stack) (context_of self.old.context) self.old.waiting.items self.old.numbering (meaning.simple (string_bytes text))))).0) }
+        ensures given { OnOk result (triples.new.items ≡ triples.old.items ++ triples_of (go_on_at (symbol_at symbol.entry) (Within (machine.put (slot_of slot ∷ stack_of self.old.stack) (context_of self.old.context) self.old.waiting.items self.old.numbering (meaning.simple (string_bytes text))))).1) }
+        ensures last { OnOk result (self.new.last ≡ end_after self.old.last (go_on_at (symbol_at symbol.entry) (Within (machine.put (slot_of slot ∷ stack_of self.old.stack) (context_of self.old.context) self.old.waiting.items self.old.numbering (meaning.simple (string_bytes text))))).1) }
         ensures err { OnErr result (triples.new.items ≡ triples.old.items) }
     {
         let made = terms::simple(self.alloc, text.as_str())?;
@@ -177,7 +179,7 @@ impl Parser {
     }
 
     /// A symbol after a string.
-    #[tactic(auto, unfolding(gs_document::specs::Machine::step))]
+    #[tactic(auto, unfolding(gs_document::specs::Machine::step, gs_triples::specs::Machine::step))]
     pub(crate) fn held(
         &mut self,
         text: String,
@@ -185,9 +187,9 @@ impl Parser {
         symbol: Symbol,
         triples: &mut Vec<Triple>,
     ) -> Result<(), AllocError>
-        ensures state { OnOk result (state_of self.new ≡ (machine.step (state.Held (string_bytes text) (slot_of slot ∷ stack_of self.old.stack) (context_of self.old.context) self.old.waiting.items self.old.numbering) (symbol_at symbol.entry)).0) }
-        ensures given { OnOk result (triples.new.items ≡ triples.old.items ++ triples_of (machine.step (state.Held (string_bytes text) (slot_of slot ∷ stack_of self.old.stack) (context_of self.old.context) self.old.waiting.items self.old.numbering) (symbol_at symbol.entry)).1) }
-        ensures last { OnOk result (self.new.last ≡ end_after self.old.last (machine.step (state.Held (string_bytes text) (slot_of slot ∷ stack_of self.old.stack) (context_of self.old.context) self.old.waiting.items self.old.numbering) (symbol_at symbol.entry)).1) }
+        ensures state { OnOk result (state_of self.new ≡ (step (Within (state.Held (string_bytes text) (slot_of slot ∷ stack_of self.old.stack) (context_of self.old.context) self.old.waiting.items self.old.numbering)) (symbol_at symbol.entry)).0) }
+        ensures given { OnOk result (triples.new.items ≡ triples.old.items ++ triples_of (step (Within (state.Held (string_bytes text) (slot_of slot ∷ stack_of self.old.stack) (context_of self.old.context) self.old.waiting.items self.old.numbering)) (symbol_at symbol.entry)).1) }
+        ensures last { OnOk result (self.new.last ≡ end_after self.old.last (step (Within (state.Held (string_bytes text) (slot_of slot ∷ stack_of self.old.stack) (context_of self.old.context) self.old.waiting.items self.old.numbering)) (symbol_at symbol.entry)).1) }
         ensures err { OnErr result (triples.new.items ≡ triples.old.items) }
     {
         match symbol {

@@ -1,7 +1,7 @@
 //! What the grammar sees of a token.
 ghost use Rattle.std.specs.Prelude.{◌≡◌};
 ghost use Rattle.gs_lex.specs.Lexemes.{lexeme_of};
-ghost use Rattle.gs_document.specs.Symbols.{symbol as kind_symbol, symbol_of};
+ghost use Rattle.gs_triples.specs.Symbols.{symbol as kind_symbol, symbol_of};
 ghost use Rattle.gs_parse.specs.Views.{symbol_at};
 
 use gs_lex::{Token, TokenKind};

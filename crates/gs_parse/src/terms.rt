@@ -4,45 +4,42 @@ ghost use Rattle.gs_model.specs.Terms.{Term, Iri, Blank, Literal, Typed};
 ghost use Rattle.gs_model.specs.Triples.{is_iri, is_subject};
 ghost use Rattle.gs_term.specs.Making.{Makes};
 ghost use Rattle.gs_escape.specs.Tokens.{behind as behind_of, string_of};
-ghost use Rattle.gs_document.specs.Meanings as meaning;
-ghost use Rattle.gs_document.specs.Meanings.{made};
+ghost use Rattle.gs_triples.specs.Meanings as meaning;
+ghost use Rattle.gs_triples.specs.Meanings.{made_of};
 ghost use Rattle.gs_parse.specs.Views.{word_at, symbol_at, context_of};
 
 use crate::contexts::Context;
 use crate::symbols::{Symbol, Word};
 use crate::vocabulary::rdf_type;
 use gs_blank::Numbering;
-use gs_document::Fault;
-use gs_model::Refusal;
+use gs_model::{Fault, Refusal, memory_apart};
 use gs_term::TermText;
 use std::alloc::{AllocError, Global};
 
 const XSD_STRING: &str = "http://www.w3.org/2001/XMLSchema#string";
 
-/// What making a term answered, where want of memory is told apart.
-#[tactic(auto, unfolding(gs_document::specs::Meanings::made))]
+/// The term that making one answered, or its fault.
+#[tactic(auto, unfolding(gs_triples::specs::Meanings::made_of))]
 fn checked(answer: Result<TermText, Refusal>) -> Result<Result<TermText, Fault>, AllocError>
-    ensures { (t : Term) → Makes t answer → IfOk result (λ m. m ≡ made (Some t)) }
+    ensures { (t : Term) → Makes t answer → IfOk result (λ m. m ≡ made_of (Some t)) }
 {
-    match answer {
+    match memory_apart(answer)? {
         Ok(term) => Ok(Ok(term)),
-        Err(Refusal::NoMemory) => Err(AllocError),
-        Err(Refusal::TermTooLong) => Ok(Err(Fault::Long)),
-        Err(_) => Ok(Err(Fault::Broken)),
+        Err(Refusal::TermTooLong) => Ok(Err(Fault::TermTooLong)),
+        Err(_) => Ok(Err(Fault::Syntax)),
     }
 }
 
 /// The IRI of a text.
-#[tactic(auto, unfolding(gs_document::specs::Meanings::made))]
+#[tactic(auto, unfolding(gs_triples::specs::Meanings::made_of))]
 fn made_iri(alloc: Global, text: &str) -> Result<Result<TermText, Fault>, AllocError>
-    ensures value { IfOk result (λ m. m ≡ made (Some (Iri text.now))) }
+    ensures value { IfOk result (λ m. m ≡ made_of (Some (Iri text.now))) }
     ensures kind { IfOk result (λ m. IfOk m (λ t. is_iri t ≡ true)) }
 {
-    match TermText::iri(alloc, text) {
+    match memory_apart(TermText::iri(alloc, text))? {
         Ok(term) => Ok(Ok(term)),
-        Err(Refusal::NoMemory) => Err(AllocError),
-        Err(Refusal::TermTooLong) => Ok(Err(Fault::Long)),
-        Err(_) => Ok(Err(Fault::Broken)),
+        Err(Refusal::TermTooLong) => Ok(Err(Fault::TermTooLong)),
+        Err(_) => Ok(Err(Fault::Syntax)),
     }
 }
 
@@ -52,7 +49,7 @@ fn made_literal(
     form: &str,
     datatype: &str,
 ) -> Result<Result<TermText, Fault>, AllocError>
-    ensures { IfOk result (λ m. m ≡ made (Some (Literal form.now (Typed datatype.now)))) }
+    ensures { IfOk result (λ m. m ≡ made_of (Some (Literal form.now (Typed datatype.now)))) }
 {
     checked(TermText::literal(alloc, form, Some(datatype), None))
 }
@@ -82,15 +79,14 @@ fn lexical(alloc: Global, text: &str) -> Result<Option<String>, AllocError>
     ensures { IfOk result (λ o. option_map string_bytes o ≡ string_of text.now) }
 {
     let mut meaning = String::new(alloc);
-    match gs_escape::string(text.as_bytes(), &mut meaning) {
+    match memory_apart(gs_escape::string(text.as_bytes(), &mut meaning))? {
         Ok(()) => Ok(Some(meaning)),
-        Err(Refusal::NoMemory) => Err(AllocError),
         Err(_) => Ok(None),
     }
 }
 
 /// An IRI.
-#[tactic(auto, unfolding(gs_document::specs::Meanings::iri, gs_document::specs::Meanings::made))]
+#[tactic(auto, unfolding(gs_triples::specs::Meanings::iri, gs_triples::specs::Meanings::made_of))]
 pub fn iri(
     alloc: Global,
     context: &Context,
@@ -100,38 +96,38 @@ pub fn iri(
     ensures kind { IfOk result (λ m. IfOk m (λ t. is_iri t ≡ true)) }
 {
     match context.iri(word)? {
-        None => Ok(Err(Fault::Broken)),
+        None => Ok(Err(Fault::Syntax)),
         Some(text) => made_iri(alloc, text.as_str()),
     }
 }
 
 /// A literal with neither datatype nor tag.
-#[tactic(auto, unfolding(gs_document::specs::Meanings::simple, gs_document::specs::Meanings::made))]
+#[tactic(auto, unfolding(gs_triples::specs::Meanings::simple, gs_triples::specs::Meanings::made_of))]
 pub fn simple(alloc: Global, text: &str) -> Result<Result<TermText, Fault>, AllocError>
     ensures { IfOk result (λ m. m ≡ meaning.simple text.now) }
 {
     match lexical(alloc, text)? {
-        None => Ok(Err(Fault::Broken)),
+        None => Ok(Err(Fault::Syntax)),
         Some(form) => made_literal(alloc, form.as_str(), XSD_STRING),
     }
 }
 
 /// A literal with a language tag.
-#[tactic(auto, unfolding(gs_document::specs::Meanings::tagged, gs_document::specs::Meanings::made))]
+#[tactic(auto, unfolding(gs_triples::specs::Meanings::tagged, gs_triples::specs::Meanings::made_of))]
 pub fn tagged(alloc: Global, text: &str, tag: &str) -> Result<Result<TermText, Fault>, AllocError>
     ensures { IfOk result (λ m. m ≡ meaning.tagged text.now tag.now) }
 {
     let Some(form) = lexical(alloc, text)? else {
-        return Ok(Err(Fault::Broken));
+        return Ok(Err(Fault::Syntax));
     };
     match behind(tag, "@") {
-        None => Ok(Err(Fault::Broken)),
+        None => Ok(Err(Fault::Syntax)),
         Some(tag) => checked(TermText::literal(alloc, form.as_str(), None, Some(tag))),
     }
 }
 
 /// A literal with a datatype.
-#[tactic(auto, unfolding(gs_document::specs::Meanings::typed, gs_document::specs::Meanings::made))]
+#[tactic(auto, unfolding(gs_triples::specs::Meanings::typed, gs_triples::specs::Meanings::made_of))]
 pub fn typed(
     alloc: Global,
     context: &Context,
@@ -141,13 +137,13 @@ pub fn typed(
     ensures { IfOk result (λ m. m ≡ meaning.typed (context_of context.now) text.now (symbol_at datatype.entry)) }
 {
     let Symbol::Word(word) = datatype else {
-        return Ok(Err(Fault::Broken));
+        return Ok(Err(Fault::Syntax));
     };
     let Some(form) = lexical(alloc, text)? else {
-        return Ok(Err(Fault::Broken));
+        return Ok(Err(Fault::Syntax));
     };
     match context.iri(word)? {
-        None => Ok(Err(Fault::Broken)),
+        None => Ok(Err(Fault::Syntax)),
         Some(iri) => made_literal(alloc, form.as_str(), iri.as_str()),
     }
 }
@@ -164,7 +160,7 @@ pub fn verb(
     match symbol {
         Symbol::Word(word) => iri(alloc, context, word),
         Symbol::A => Ok(Ok(rdf_type(alloc)?)),
-        _ => Ok(Err(Fault::Broken)),
+        _ => Ok(Err(Fault::Syntax)),
     }
 }
 
@@ -179,7 +175,7 @@ fn labelled(
     ensures kind { IfOk result (λ m. IfOk m (λ t. is_subject t ≡ true)) }
 {
     let Some(label) = behind(label, "_:") else {
-        return Ok(Err(Fault::Broken));
+        return Ok(Err(Fault::Syntax));
     };
     let Ok(number) = numbering.of_label(label) else {
         return Err(AllocError);
@@ -188,7 +184,7 @@ fn labelled(
 }
 
 /// The term of one token.
-#[tactic(auto, unfolding(gs_document::specs::Meanings::word, gs_document::specs::Meanings::made, gs_document::specs::Meanings::iri))]
+#[tactic(auto, unfolding(gs_triples::specs::Meanings::word, gs_triples::specs::Meanings::made_of, gs_triples::specs::Meanings::iri))]
 pub fn word(
     alloc: Global,
     context: &Context,
@@ -205,7 +201,7 @@ pub fn word(
 }
 
 /// The subject of one token.
-#[tactic(auto, unfolding(gs_document::specs::Meanings::word))]
+#[tactic(auto, unfolding(gs_triples::specs::Meanings::word))]
 pub fn subject(
     alloc: Global,
     context: &Context,
@@ -217,7 +213,7 @@ pub fn subject(
 {
     match word {
         Word::Label(label) => labelled(alloc, context, numbering, label),
-        Word::Plain(_, _) => Ok(Err(Fault::Broken)),
+        Word::Plain(_, _) => Ok(Err(Fault::Syntax)),
         _ => iri(alloc, context, word),
     }
 }

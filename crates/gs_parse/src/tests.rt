@@ -1,7 +1,7 @@
 //! Each public call once, on the tokens of a text.
 use crate::Parser;
-use gs_document::Fault;
 use gs_lex::Lexer;
+use gs_model::Fault;
 use gs_term::Triple;
 use std::alloc::Global;
 use std::test::Fail;
@@ -75,11 +75,11 @@ fn a_statement_without_an_object_is_a_fault(rt: HostRuntime) -> Result<(), Fail>
     )?;
     assert_eq!(rt; triples.len(), 1);
     assert_eq!(rt; parser.last, 13);
-    assert_eq!(rt; parser.fault(), Some(Fault::Broken));
-    assert_eq!(rt; parser.end()?, Err(Fault::Broken));
+    assert_eq!(rt; parser.fault(), Some(Fault::Syntax));
+    assert_eq!(rt; parser.end()?, Err(Fault::Syntax));
     let unended = parsed(rt.alloc(), b"<s> <p> \"o\"", &mut triples)?;
     assert_eq!(rt; unended.fault(), None);
-    assert_eq!(rt; unended.end()?, Err(Fault::Broken));
+    assert_eq!(rt; unended.end()?, Err(Fault::Syntax));
     Ok(())
 }
 
@@ -96,7 +96,7 @@ fn a_fault_is_told_behind_a_directive(rt: HostRuntime) -> Result<(), Fail> {
     for (text, last) in rows.iter() {
         let mut triples = Vec::new(rt.alloc());
         let parser = parsed(rt.alloc(), text, &mut triples)?;
-        assert_eq!(rt; parser.fault(), Some(Fault::Broken));
+        assert_eq!(rt; parser.fault(), Some(Fault::Syntax));
         assert_eq!(rt; parser.last, *last);
         assert_eq!(rt; triples.len(), 0);
     }

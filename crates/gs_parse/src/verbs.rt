@@ -1,6 +1,6 @@
 //! One symbol at a goal within a statement.
 ghost use Rattle.std.specs.Prelude.{◌≡◌, ◌++◌, OnOk, OnErr};
-ghost use Rattle.gs_document.specs.Reading.{begins_verb as begins_verb_of};
+ghost use Rattle.gs_triples.specs.Reading.{begins_verb as begins_verb_of};
 ghost use Rattle.gs_parse.specs.Views.{symbol_at};
 
 use crate::frames::{Frame, Goal, Name, Slot, Subject};
@@ -22,14 +22,15 @@ pub fn begins_verb(symbol: Symbol) -> bool
 
 impl Parser {
     ghost use Rattle.gs_body.specs.Bodies.{triples_of, end_after};
-    ghost use Rattle.gs_document.specs.Goals as rule;
-    ghost use Rattle.gs_document.specs.Machine as machine;
+    ghost use Rattle.gs_triples.specs.Goals as rule;
+    ghost use Rattle.gs_triples.specs.Machine as machine;
+    ghost use Rattle.gs_document.specs.Machine.{over};
     ghost use Rattle.gs_parse.specs.Views.{state_of, context_of};
     ghost use Rattle.gs_parse.specs.Frames.{stack_of, goal_of, frames_at};
 
     /// A symbol after the `[` of an object.
     fn inside(&mut self, depth: usize, number: u64, symbol: Symbol) -> Result<(), AllocError>
-        ensures state { OnOk result (state_of self.new ≡ (machine.head (rule.Inside depth number) (symbol_at symbol.entry) (stack_of self.old.stack) (context_of self.old.context) self.old.waiting.items self.old.numbering).0) }
+        ensures state { OnOk result (state_of self.new ≡ (over (symbol_at symbol.entry) (machine.head (rule.Inside depth number) (symbol_at symbol.entry) (stack_of self.old.stack) (context_of self.old.context) self.old.waiting.items self.old.numbering)).0) }
         ensures last { self.new.last ≡ self.old.last }
     {
         let term = blank(self.alloc, self.context.request, number)?;
@@ -44,7 +45,7 @@ impl Parser {
 
     /// A symbol after the `(` of a collection.
     fn begun(&mut self, depth: usize, symbol: Symbol) -> Result<(), AllocError>
-        ensures state { OnOk result (state_of self.new ≡ (machine.head (rule.Begun depth) (symbol_at symbol.entry) (stack_of self.old.stack) (context_of self.old.context) self.old.waiting.items self.old.numbering).0) }
+        ensures state { OnOk result (state_of self.new ≡ (over (symbol_at symbol.entry) (machine.head (rule.Begun depth) (symbol_at symbol.entry) (stack_of self.old.stack) (context_of self.old.context) self.old.waiting.items self.old.numbering)).0) }
         ensures last { self.new.last ≡ self.old.last }
     {
         match symbol {
@@ -69,7 +70,7 @@ impl Parser {
         cell: u64,
         symbol: Symbol,
     ) -> Result<(), AllocError>
-        ensures state { OnOk result (state_of self.new ≡ (machine.head (rule.Items depth first cell) (symbol_at symbol.entry) (stack_of self.old.stack) (context_of self.old.context) self.old.waiting.items self.old.numbering).0) }
+        ensures state { OnOk result (state_of self.new ≡ (over (symbol_at symbol.entry) (machine.head (rule.Items depth first cell) (symbol_at symbol.entry) (stack_of self.old.stack) (context_of self.old.context) self.old.waiting.items self.old.numbering)).0) }
         ensures last { self.new.last ≡ self.old.last }
     {
         match symbol {
@@ -99,9 +100,9 @@ impl Parser {
         symbol: Symbol,
         triples: &mut Vec<Triple>,
     ) -> Result<(), AllocError>
-        ensures state { OnOk result (state_of self.new ≡ (machine.head (rule.After depth subject.term verb.term) (symbol_at symbol.entry) (stack_of self.old.stack) (context_of self.old.context) self.old.waiting.items self.old.numbering).0) }
-        ensures given { OnOk result (triples.new.items ≡ triples.old.items ++ triples_of (machine.head (rule.After depth subject.term verb.term) (symbol_at symbol.entry) (stack_of self.old.stack) (context_of self.old.context) self.old.waiting.items self.old.numbering).1) }
-        ensures last { OnOk result (self.new.last ≡ end_after self.old.last (machine.head (rule.After depth subject.term verb.term) (symbol_at symbol.entry) (stack_of self.old.stack) (context_of self.old.context) self.old.waiting.items self.old.numbering).1) }
+        ensures state { OnOk result (state_of self.new ≡ (over (symbol_at symbol.entry) (machine.head (rule.After depth subject.term verb.term) (symbol_at symbol.entry) (stack_of self.old.stack) (context_of self.old.context) self.old.waiting.items self.old.numbering)).0) }
+        ensures given { OnOk result (triples.new.items ≡ triples.old.items ++ triples_of (over (symbol_at symbol.entry) (machine.head (rule.After depth subject.term verb.term) (symbol_at symbol.entry) (stack_of self.old.stack) (context_of self.old.context) self.old.waiting.items self.old.numbering)).1) }
+        ensures last { OnOk result (self.new.last ≡ end_after self.old.last (over (symbol_at symbol.entry) (machine.head (rule.After depth subject.term verb.term) (symbol_at symbol.entry) (stack_of self.old.stack) (context_of self.old.context) self.old.waiting.items self.old.numbering)).1) }
         ensures err { OnErr result (triples.new.items ≡ triples.old.items) }
     {
         match symbol {
@@ -125,9 +126,9 @@ impl Parser {
         symbol: Symbol,
         triples: &mut Vec<Triple>,
     ) -> Result<(), AllocError>
-        ensures state { OnOk result (state_of self.new ≡ (machine.head (rule.Semis depth subject.term) (symbol_at symbol.entry) (stack_of self.old.stack) (context_of self.old.context) self.old.waiting.items self.old.numbering).0) }
-        ensures given { OnOk result (triples.new.items ≡ triples.old.items ++ triples_of (machine.head (rule.Semis depth subject.term) (symbol_at symbol.entry) (stack_of self.old.stack) (context_of self.old.context) self.old.waiting.items self.old.numbering).1) }
-        ensures last { OnOk result (self.new.last ≡ end_after self.old.last (machine.head (rule.Semis depth subject.term) (symbol_at symbol.entry) (stack_of self.old.stack) (context_of self.old.context) self.old.waiting.items self.old.numbering).1) }
+        ensures state { OnOk result (state_of self.new ≡ (over (symbol_at symbol.entry) (machine.head (rule.Semis depth subject.term) (symbol_at symbol.entry) (stack_of self.old.stack) (context_of self.old.context) self.old.waiting.items self.old.numbering)).0) }
+        ensures given { OnOk result (triples.new.items ≡ triples.old.items ++ triples_of (over (symbol_at symbol.entry) (machine.head (rule.Semis depth subject.term) (symbol_at symbol.entry) (stack_of self.old.stack) (context_of self.old.context) self.old.waiting.items self.old.numbering)).1) }
+        ensures last { OnOk result (self.new.last ≡ end_after self.old.last (over (symbol_at symbol.entry) (machine.head (rule.Semis depth subject.term) (symbol_at symbol.entry) (stack_of self.old.stack) (context_of self.old.context) self.old.waiting.items self.old.numbering)).1) }
         ensures err { OnErr result (triples.new.items ≡ triples.old.items) }
     {
         match symbol {
@@ -147,9 +148,9 @@ impl Parser {
         symbol: Symbol,
         triples: &mut Vec<Triple>,
     ) -> Result<(), AllocError>
-        ensures state { OnOk result (state_of self.new ≡ (machine.head (goal_of goal) (symbol_at symbol.entry) (frames_at goal (stack_of self.old.stack)) (context_of self.old.context) self.old.waiting.items self.old.numbering).0) }
-        ensures given { OnOk result (triples.new.items ≡ triples.old.items ++ triples_of (machine.head (goal_of goal) (symbol_at symbol.entry) (frames_at goal (stack_of self.old.stack)) (context_of self.old.context) self.old.waiting.items self.old.numbering).1) }
-        ensures last { OnOk result (self.new.last ≡ end_after self.old.last (machine.head (goal_of goal) (symbol_at symbol.entry) (frames_at goal (stack_of self.old.stack)) (context_of self.old.context) self.old.waiting.items self.old.numbering).1) }
+        ensures state { OnOk result (state_of self.new ≡ (over (symbol_at symbol.entry) (machine.head (goal_of goal) (symbol_at symbol.entry) (frames_at goal (stack_of self.old.stack)) (context_of self.old.context) self.old.waiting.items self.old.numbering)).0) }
+        ensures given { OnOk result (triples.new.items ≡ triples.old.items ++ triples_of (over (symbol_at symbol.entry) (machine.head (goal_of goal) (symbol_at symbol.entry) (frames_at goal (stack_of self.old.stack)) (context_of self.old.context) self.old.waiting.items self.old.numbering)).1) }
+        ensures last { OnOk result (self.new.last ≡ end_after self.old.last (over (symbol_at symbol.entry) (machine.head (goal_of goal) (symbol_at symbol.entry) (frames_at goal (stack_of self.old.stack)) (context_of self.old.context) self.old.waiting.items self.old.numbering)).1) }
         ensures err { OnErr result (triples.new.items ≡ triples.old.items) }
     {
         match goal {

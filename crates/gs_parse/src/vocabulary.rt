@@ -1,7 +1,7 @@
 //! The vocabulary of RDF.
 ghost use Rattle.std.specs.Prelude.{◌≡◌, IfOk, codes};
 ghost use Rattle.gs_model.specs.Terms.{Iri};
-ghost use Rattle.gs_document.specs.Meanings.{rdf};
+ghost use Rattle.gs_triples.specs.Meanings.{rdf};
 
 use gs_term::TermText;
 use std::alloc::{AllocError, Global};

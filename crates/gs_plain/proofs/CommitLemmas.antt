@@ -14,16 +14,8 @@ use Rattle.gs_event.specs.Views.{next_totals}
 use Rattle.gs_event.proofs.DatasetLemmas.{triples_in-without_graph}
 use Rattle.gs_plain.specs.declared.books.Books.{Books}
 use Rattle.gs_plain.specs.declared.books.Seat.TheVariants.{Writing}
-use Rattle.gs_plain.specs.Books.{dataset_of, totals_of, IsReady, KeepsBooks, Acts}
+use Rattle.gs_plain.specs.Books.{dataset_of, most_nodes, totals_of, IsReady, KeepsBooks, Acts}
 use Rattle.gs_plain.proofs.WriteLemmas.{same_rows, stored_well}
-
--- the triples of one graph are no more than all
-pub lines_few : (m : Dataset) (t : Target) → length (lines_at m t) ≤ triples_in m
-lines_few m t = omega (arith, triples_in-without_graph m t)
-
--- a graph united with an upload has a number for each of its triples
-pub united_small : (b : Books) (t : Target) (r : ℕ) (upload g : Graph) → IsReady b (Writing (Post t) r upload) → size_of g ≤ length (lines_at (dataset_of b.rows.items) t) + size_of upload → size_of g ≤ last_node
-united_small b t r upload g ready size = omega (arith, size, lines_few (dataset_of b.rows.items) t, ready.counted.triples, ready.counted.few, ready.staged)
 
 -- at the last commit number a new graph is refused, and nothing changes
 pub last_new : (b : Books) (r : ℕ) (g : Graph) (name : List ℕ) → name ≡ new_name (string_bytes b.base) (dataset_of b.rows.items) r → is_within b.limits (with_graph (dataset_of b.rows.items) (Named name) g) ≡ true → last_number ≤ b.commit → IsReady b (Writing New r g) → Acts b b (Writing New r g) (Writing New r g) Commit (Refused LastNumber)
@@ -34,6 +26,7 @@ last_new b r g name is within last ready =
       fits = (stored_well (totals_of b).setting m (Named (new_name (string_bytes b.base) m r)) g fits, last);
       totals = λ i. record { setting = (totals_of b).setting; dataset = m; request = sym (add-zero b.request) i; commit = sym (add-zero b.commit) i };
       seat = refl;
+      pin = refl;
       known = tt;
       rows = same_rows b.rows.items;
       counted = ready.counted;

@@ -35,14 +35,14 @@ view_of_fields a = (shown_of a).view
 same_shown : (old new : List Row) (s : Seat) → KeepsRows old new → IsKnown old s → seat_shown new s ≡ seat_shown old s
 same_shown old new Idle keeps h = refl
 same_shown old new (Writing k r g) keeps h = refl
-same_shown old new (Reading None told) keeps h = refl
-same_shown old new (Reading (Some i) told) keeps h = ap (λ lines. phase.Reading (drop told lines)) (keeps.same i h)
+same_shown old new (Reading None given pin) keeps h = refl
+same_shown old new (Reading (Some i) given pin) keeps h = ap (λ lines. phase.Reading (drop given lines)) (keeps.same i h)
 
 still_known : (old new : List Row) (s : Seat) → KeepsRows old new → IsKnown old s → IsKnown new s
 still_known old new Idle keeps h = h
 still_known old new (Writing k r g) keeps h = h
-still_known old new (Reading None told) keeps h = h
-still_known old new (Reading (Some i) told) keeps h = omega (arith, keeps.grows)
+still_known old new (Reading None given pin) keeps h = h
+still_known old new (Reading (Some i) given pin) keeps h = omega (arith, keeps.grows)
 
 all_same_shown : (old new : List Row) (seats : List Seat) → KeepsRows old new → AllByRecursion (IsKnown old) seats → map (seat_shown new) seats ≡ map (seat_shown old) seats
 all_same_shown old new [] keeps h = refl
@@ -80,7 +80,7 @@ kept_after a b i was now action answer within is seats acts room kept =
     let after : count_by is_writing (slice_set xs i now) + cond (is_writing (get_or xs i was)) 1 0 ≡ count_by is_writing xs + cond (is_writing now) 1 0 = sum_by-set (λ x. cond (is_writing x) 1 0) xs i now was within in
     let same : cond {A = ℕ} (is_writing was) 1 0 ≡ cond {A = ℕ} (is_writing (get_or xs i was)) 1 0 = ap (λ (s : Seat). cond {A = ℕ} (is_writing s) 1 0) is in
     let before : HasRoom a.books others was = had_room (vec_len a.books.rows) others (cond {A = ℕ} (is_writing was) 1 0) (cond {A = ℕ} (is_writing (get_or xs i was)) 1 0) (count_by is_writing xs) (vec_capacity a.books.rows) idle same kept.room in
-    let later : HasRoom b.books others now = room others (others_few xs i within) before in
+    let later : HasRoom b.books others now = room.kept others (others_few xs i within) before in
     let total : sum_by staged_by (slice_set xs i now) + staged_by (get_or xs i was) ≡ sum_by staged_by xs + staged_by now = sum_by-set staged_by xs i now was within in
     record {
       known = rw seats (All-set (IsKnown b.books.rows.items) xs i now acts.known known);
@@ -136,15 +136,14 @@ idle_known rows zero = tt
 idle_known rows (suc n) = (tt, idle_known rows n)
 
 -- what holds of a store without rows, whose seats are idle
-pub fresh_kept : (a : Inside) (seats : ℕ) → a.books.rows.items ≡ [] → vec_len a.books.rows ≡ 0 → a.seats.items ≡ replicate seats Idle → a.books.triples ≡ 0 → a.books.names ≡ 0 → a.books.staged ≡ 0 → a.books.limits.names < 2 ^ 64 → is_base (string_bytes a.books.base) ≡ true → IsKept a
-fresh_kept a seats rows len idle triples names staged limit base = record {
+pub fresh_kept : (a : Inside) (seats : ℕ) → a.books.rows.items ≡ [] → vec_len a.books.rows ≡ 0 → a.seats.items ≡ replicate seats Idle → a.books.triples ≡ 0 → a.books.names ≡ 0 → a.books.staged ≡ 0 → is_base (string_bytes a.books.base) ≡ true → IsKept a
+fresh_kept a seats rows len idle triples names staged base = record {
   known = rw idle (All-from_recursion (IsKnown a.books.rows.items) (replicate seats Idle) (idle_known a.books.rows.items seats));
   room = rw idle (omega (arith, len, none_writing seats));
   counted = record {
     triples = triples ∙ sym triples_in-empty ∙ sym (ap (λ rs. triples_in (dataset_of rs)) rows);
     names = names ∙ sym names_in-empty ∙ sym (ap (λ rs. names_in (dataset_of rs)) rows);
     few = omega arith;
-    limit = limit;
     base = base;
   };
   staged = staged ∙ sym (none_staged seats) ∙ sym (ap (sum_by staged_by) idle);
@@ -153,7 +152,7 @@ fresh_kept a seats rows len idle triples names staged limit base = record {
 staged_shown : (rows : List Row) (s : Seat) → staged_at (seat_shown rows s) ≡ staged_by s
 staged_shown rows Idle = refl
 staged_shown rows (Writing k r g) = refl
-staged_shown rows (Reading row told) = refl
+staged_shown rows (Reading row given pin) = refl
 
 all_staged_shown : (rows : List Row) (seats : List Seat) → staged_in (map (seat_shown rows) seats) ≡ sum_by staged_by seats
 all_staged_shown rows [] = refl

@@ -1,7 +1,9 @@
-pub mod LineRuns
-pub mod RowLemmas
-pub mod WriteLemmas
-pub mod NameLemmas
-pub mod KeptLemmas
-pub mod PostLemmas
 pub mod CommitLemmas
+pub mod KeptLemmas
+pub mod LineRuns
+pub mod NameLemmas
+pub mod PinLemmas
+pub mod PostLemmas
+pub mod RowLemmas
+pub mod WasteLemmas
+pub mod WriteLemmas

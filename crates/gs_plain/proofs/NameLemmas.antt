@@ -1,4 +1,5 @@
 -- Names that the store makes up: they are names of graphs, and the first free one is found in turn.
+use Rattle.std.proofs.lemmas.Bool.{and_parts}
 use Rattle.std.proofs.Common.{◌≡◌, ℕ, suc, ◌+◌, ◌-◌, ◌<◌, ◌≤◌, ◌^◌, Bool, true, false, cond, ◌&&◌, ◌==◌, nat_le, nat_eq, List, [], ◌∷◌, ◌++◌, length, drop, map, Result, Ok, Err, IfOk, refl, sym, ap, ◌∙◌, arith, length-append, append_assoc, codes}
 use Rattle.std.specs.List.{list_all, starts_with}
 use Rattle.std.proofs.lemmas.Bool.Decides.{nat_tests}
@@ -18,10 +19,6 @@ use Rattle.gs_term.proofs.MakingLemmas.{length-numeral}
 use Rattle.gs_term.specs.declared.names.Target.TheVariants.{Named}
 use Rattle.gs_event.specs.Datasets.{Dataset, is_there, names_in, made_name, first_free, new_name}
 
-both_true : (a b : Bool) → (a && b) ≡ true → (a ≡ true) × (b ≡ true)
-both_true true b e = (refl, e)
-both_true false b e = absurd (Prim.cc)
-
 -- a character of a base may stand in an IRI
 base_char : (c : ℕ) → is_base_char c ≡ true → is_iri_char c ≡ true
 base_char c e = grind (arith, nat_tests)
@@ -31,7 +28,7 @@ digit_char d h = grind (arith, nat_tests)
 
 base_chars : (cs : List ℕ) → list_all is_base_char cs ≡ true → list_all is_iri_char cs ≡ true
 base_chars [] e = refl
-base_chars (c ∷ cs) e = let two = both_true (is_base_char c) (list_all is_base_char cs) e in ap (λ b. b && list_all is_iri_char cs) (base_char c two.0) ∙ base_chars cs two.1
+base_chars (c ∷ cs) e = let two = and_parts (is_base_char c) (list_all is_base_char cs) e in ap (λ b. b && list_all is_iri_char cs) (base_char c two.0) ∙ base_chars cs two.1
 
 digit_chars : (ds : List ℕ) → AllBelowBase 10 ds → list_all is_iri_char (map (λ d. 48 + d) ds) ≡ true
 digit_chars [] h = refl
@@ -46,7 +43,7 @@ numeral_chars n = elim (n == 0) as (λ b. list_all is_iri_char (cond b (48 ∷ [
 
 all_append : (xs ys : List ℕ) → list_all is_iri_char xs ≡ true → list_all is_iri_char ys ≡ true → list_all is_iri_char (xs ++ ys) ≡ true
 all_append [] ys h k = k
-all_append (x ∷ xs) ys h k = let two = both_true (is_iri_char x) (list_all is_iri_char xs) h in ap (λ b. b && list_all is_iri_char (xs ++ ys)) two.0 ∙ all_append xs ys two.1 k
+all_append (x ∷ xs) ys h k = let two = and_parts (is_iri_char x) (list_all is_iri_char xs) h in ap (λ b. b && list_all is_iri_char (xs ++ ys)) two.0 ∙ all_append xs ys two.1 k
 
 -- the rest of a base after `http://`
 pub record HasRest (base : List ℕ) : Type 0 where
@@ -57,9 +54,9 @@ pub record HasRest (base : List ℕ) : Type 0 where
 
 has_rest : (base : List ℕ) → is_base base ≡ true → HasRest base
 has_rest base e =
-    let parts = both_true (nat_le 8 (length base) && nat_le (length base) 256) (starts_with nat_eq base (codes "http://") && list_all is_base_char (drop 7 base)) e in
-    let lengths = both_true (nat_le 8 (length base)) (nat_le (length base) 256) parts.0 in
-    let texts = both_true (starts_with nat_eq base (codes "http://")) (list_all is_base_char (drop 7 base)) parts.1 in
+    let parts = and_parts (nat_le 8 (length base) && nat_le (length base) 256) (starts_with nat_eq base (codes "http://") && list_all is_base_char (drop 7 base)) e in
+    let lengths = and_parts (nat_le 8 (length base)) (nat_le (length base) 256) parts.0 in
+    let texts = and_parts (starts_with nat_eq base (codes "http://")) (list_all is_base_char (drop 7 base)) parts.1 in
     let split = (starts_is Decides-eqb base (codes "http://") (starts_with nat_eq base (codes "http://")) refl).0 texts.0 in
     record {
       rest = drop 7 base;

@@ -14,24 +14,6 @@ use Rattle.gs_plain.specs.Books.{after_row, dataset_of, lines_of_row, ended_row,
 use Rattle.gs_plain.specs.Newest.{target_eq, AreOthers, IsLast}
 use Rattle.gs_plain.proofs.RowLemmas.{graph_at-without_graph, graph_at-after_row, at_row, same_dataset, target_eq-true}
 
--- names by a test
-pub names_by : (m : Dataset) (t : Target) (names : ℕ) (there : Bool) → names ≡ names_in m → is_there m t ≡ there → (g : Graph) → names_in (with_graph m t g) ≡ cond there names (names + 1)
-names_by m t names there counted tests g = names_in-with_graph m t g ∙ ap (λ b. cond b (names_in m) (names_in m + 1)) tests ∙ ap (λ n. cond there n (n + 1)) (sym counted)
-
-pub lt_as_le : (a b : ℕ) → nat_lt a b ≡ nat_le (a + 1) b
-lt_as_le a b = grind (arith, nat_tests)
-
-second : (a b : Bool) → (a && b) ≡ true → b ≡ true
-second true b e = e
-second false b e = absurd (Prim.cc)
-
-pub le_true : (a b : ℕ) → nat_le a b ≡ true → a ≤ b
-le_true a b e = grind (arith, nat_tests)
-
--- within the limits, the names are few
-pub few_names : (limits : Limits) (m : Dataset) → is_within limits m ≡ true → names_in m ≤ limits.names
-few_names limits m e = le_true (names_in m) limits.names (second _ _ e)
-
 -- rows that stay
 pub same_rows : (rows : List Row) → KeepsRows rows rows
 same_rows rows = record { grows = omega arith; same = λ i h. refl }
@@ -108,11 +90,6 @@ dataset_without m t none = same_dataset _ _ (λ u. at_target u (target_eq t u) r
     at_target : (u : Target) (b : Bool) → target_eq t u ≡ b → graph_at m u ≡ cond (target_eq t u) (graph_at empty_dataset u) (graph_at m u)
     at_target u true e = subst (λ x. graph_at m x ≡ graph_at empty_dataset x) (target_eq-true t u e) none ∙ sym (ap (λ b. cond b (graph_at empty_dataset u) (graph_at m u)) e)
     at_target u false e = sym (ap (λ b. cond b (graph_at empty_dataset u) (graph_at m u)) e)
-
--- the names that go with a target
-pub names_go : (m : Dataset) (t : Target) → is_there m t ≡ true → (cond (is_default t) 0 1 ≤ names_in m) × (names_in (without_graph m t) ≡ names_in m - cond (is_default t) 0 1)
-names_go m Default there = (omega arith, omega arith)
-names_go m (Named n) there = (names_in-some m n there, names_in-without_name m n there)
 
 -- a graph that is stored has a status of success
 pub stored_well : (w : Setting) (m : Dataset) (t : Target) (g : Graph) → is_within w.limits (with_graph m t g) ≡ true → is_success (stored_status w m t g) ≡ true

@@ -8,9 +8,10 @@ use Rattle.gs_term.specs.declared.names.Target.{Target}
 use Rattle.gs_term.specs.declared.names.Target.TheVariants.{Default, Named}
 use Rattle.gs_event.specs.declared.events.Action.{Action}
 use Rattle.gs_event.specs.declared.answers.Answer.{Answer}
-use Rattle.gs_event.specs.Datasets.{Dataset, empty_dataset, with_graph, without_graph, lines_at, triples_in, names_in}
+use Rattle.gs_event.specs.Datasets.{Dataset, Setting, empty_dataset, with_graph, without_graph, lines_at, triples_in, names_in}
 use Rattle.gs_event.specs.Phases as phase
 use Rattle.gs_event.specs.Views.{Totals, SeatView, FitsSeat, next_totals, next_phase}
+use Rattle.gs_event.specs.Steps.{pin_after}
 use Rattle.gs_plain.specs.declared.books.Row.{Row}
 use Rattle.gs_plain.specs.declared.books.Books.{Books}
 use Rattle.gs_plain.specs.declared.books.Seat.{Seat}
@@ -34,11 +35,15 @@ row_lines rows (Some i) = lines_of_row (slice_get rows i)
 abbrev pub seat_shown : List Row → Seat → SeatView
 seat_shown rows Idle = phase.Idle
 seat_shown rows (Writing k r g) = phase.Writing k r g
-seat_shown rows (Reading row told) = phase.Reading (drop told (row_lines rows row))
+seat_shown rows (Reading row given pin) = phase.Reading (drop given (row_lines rows row))
 
+abbrev pub setting_of : Books → Setting
+setting_of b = record { base = string_bytes b.base; limits = b.limits }
+
+-- the setting, the dataset and the numbers given out
 abbrev pub totals_of : Books → Totals
 totals_of b = record {
-  setting = record { base = string_bytes b.base; limits = b.limits };
+  setting = setting_of b;
   dataset = dataset_of b.rows.items;
   request = b.request;
   commit = b.commit;
@@ -52,11 +57,16 @@ is_writing s = false
 abbrev pub staged_by : Seat → ℕ
 staged_by Idle = 0
 staged_by (Writing k r g) = size_of g
-staged_by (Reading row told) = 0
+staged_by (Reading row given pin) = 0
+
+-- the last commit number at the pin of the seat's read
+abbrev pub seat_pin : Seat → Option ℕ
+seat_pin (Reading row given pin) = Some pin
+seat_pin s = None
 
 -- a read's row is among these
 abbrev pub IsKnown : List Row → Seat → Type 0
-IsKnown rows (Reading row told) = IfSome row (λ i. i < length rows)
+IsKnown rows (Reading row given pin) = IfSome row (λ i. i < length rows)
 IsKnown rows s = Unit {0}
 
 -- each row that was there has the lines that it had
@@ -68,12 +78,15 @@ abbrev pub is_default : Target → Bool
 is_default Default = true
 is_default (Named n) = false
 
+-- the most nodes: their numbers begin at 0
+abbrev pub most_nodes : ℕ
+most_nodes = last_node + 1
+
 -- the counts are right and leave a node's number for each triple, and the base is one
 pub record IsCounted (b : Books) : Type 0 where
   pub triples : b.triples ≡ triples_in (dataset_of b.rows.items)
   pub names : b.names ≡ names_in (dataset_of b.rows.items)
-  pub few : b.triples + b.staged ≤ last_node
-  pub limit : b.limits.names < 2 ^ 64
+  pub few : b.triples + b.staged ≤ most_nodes
   pub base : is_base (string_bytes b.base) ≡ true
 
 -- what is kept of the books by a write: all but the dataset, its counts and the commit number
@@ -122,6 +135,7 @@ pub record Acts (old new : Books) (was now : Seat) (action : Action) (answer : A
   pub fits : FitsSeat (totals_of old) (seat_shown old.rows.items was) action answer
   pub totals : totals_of new ≡ next_totals (totals_of old) (seat_shown old.rows.items was) action answer
   pub seat : seat_shown new.rows.items now ≡ next_phase (totals_of old) (seat_shown old.rows.items was) action answer
+  pub pin : seat_pin now ≡ pin_after old.commit (seat_pin was) action answer
   pub known : IsKnown new.rows.items now
   pub rows : KeepsRows old.rows.items new.rows.items
   pub counted : IsCounted new
@@ -131,5 +145,10 @@ pub record Acts (old new : Books) (was now : Seat) (action : Action) (answer : A
 abbrev pub HasRoom : Books → ℕ → Seat → Type 0
 HasRoom b others s = vec_len b.rows + (others + (if is_writing s then 1 else 0)) ≤ vec_capacity b.rows
 
-abbrev pub KeepsRoom : ℕ → Books → Books → Seat → Seat → Type 0
-KeepsRoom seats old new was now = (others : ℕ) → others < seats → HasRoom old others was → HasRoom new others now
+-- at a store of so many seats there is still room
+pub record KeepsRoom (seats : ℕ) (old new : Books) (was now : Seat) : Type 0 where
+  pub kept : (others : ℕ) → others < seats → HasRoom old others was → HasRoom new others now
+
+-- there is still room, however many seats there are
+pub record HoldsRoom (old new : Books) (was now : Seat) : Type 0 where
+  pub held : (seats : ℕ) → KeepsRoom seats old new was now

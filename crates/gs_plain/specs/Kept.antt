@@ -3,12 +3,13 @@ use Rattle.std.specs.Prelude.{◌≡◌, ◌+◌, ◌≤◌, [], map, vec_len, v
 use Rattle.std.specs.List.{count_by, All, sum_by}
 use Rattle.gs_event.specs.Waste.{Shown}
 use Rattle.gs_plain.specs.declared.stores.PlainStore.TheInside.{Inside}
-use Rattle.gs_plain.specs.Books.{totals_of, seat_shown, is_writing, staged_by, IsKnown, IsCounted}
+use Rattle.gs_plain.specs.Books.{totals_of, seat_shown, seat_pin, is_writing, staged_by, IsKnown, IsCounted}
 
 -- a node there is a triple of a current graph or of an upload, so there is no waste
 abbrev pub shown_of : Inside → Shown
 shown_of a = record {
   view = record { totals = totals_of a.books; seats = map (seat_shown a.books.rows.items) a.seats.items };
+  pinned = map seat_pin a.seats.items;
   waste = [];
 }
 

@@ -1,6 +1,6 @@
 //! What a seat's action does to the books and to the seat. A refused action changes neither.
 ghost use Rattle.std.specs.Prelude.{◌≡◌, ◌<◌, ℕ, IsTrue, vec_len, vec_capacity};
-ghost use Rattle.gs_plain.specs.Books.{is_writing, IsReady, Acts, KeepsRoom};
+ghost use Rattle.gs_plain.specs.Books.{is_writing, IsReady, Acts, KeepsRoom, HoldsRoom};
 
 use crate::books::{self, Books, Seat};
 use crate::graphs::SortedGraph;
@@ -9,6 +9,9 @@ use gs_event::{Action, Answer, UploadKind};
 use gs_model::{LAST_NODE, LAST_NUMBER, Refusal};
 use gs_term::{Target, Triple};
 use std::alloc::Global;
+
+/// The most nodes, of current graphs and open uploads: their numbers begin at 0.
+const MAX_NODES: u64 = LAST_NODE + 1;
 
 /// Any action, at a store of so many seats.
 pub fn act(
@@ -64,24 +67,21 @@ fn open(
     Answer::Opened(books.request)
 }
 
-/// The whole piece or nothing. Where a node's number might not be left for each triple of the
-/// piece, repeats counted, that is want of memory too.
+/// The whole piece or nothing. Where there are too few nodes for the triples of the piece, that is
+/// want of memory too.
 fn stage(books: &mut Books, seat: &mut Seat, alloc: Global, triples: &Vec<Triple>) -> Answer
     requires { IsReady books.old seat.old }
     ensures acts { Acts books.old books.new seat.old seat.new (Action.Stage triples.now) result }
-    ensures room { (seats : ℕ) → KeepsRoom seats books.old books.new seat.old seat.new }
+    ensures room { HoldsRoom books.old books.new seat.old seat.new }
 {
     let Seat::Writing(_, _, graph) = seat else {
         return Answer::Refused(Refusal::WrongPhase);
     };
-    let in_use = books.triples + books.staged;
-    if LAST_NODE - in_use < triples.as_slice().len() as u64 {
-        return Answer::Refused(Refusal::NoMemory);
-    }
-    let before = graph.len() as u64;
-    match graph.add_all(alloc, triples.as_slice()) {
+    let others = books.staged - graph.len() as u64;
+    let most = MAX_NODES - (books.triples + others);
+    match graph.add_within(alloc, triples.as_slice(), most) {
         Ok(()) => {
-            books.staged = books.staged - before + graph.len() as u64;
+            books.staged = others + graph.len() as u64;
             Answer::Staged
         }
         Err(_) => Answer::Refused(Refusal::NoMemory),
@@ -91,12 +91,12 @@ fn stage(books: &mut Books, seat: &mut Seat, alloc: Global, triples: &Vec<Triple
 fn cancel(books: &mut Books, seat: &mut Seat) -> Answer
     requires { IsReady books.old seat.old }
     ensures acts { Acts books.old books.new seat.old seat.new Action.Cancel result }
-    ensures room { (seats : ℕ) → KeepsRoom seats books.old books.new seat.old seat.new }
+    ensures room { HoldsRoom books.old books.new seat.old seat.new }
 {
     match seat {
         Seat::Idle => return Answer::Refused(Refusal::WrongPhase),
         Seat::Writing(_, _, graph) => books.staged -= graph.len() as u64,
-        Seat::Reading(_, _) => {}
+        Seat::Reading(_, _, _) => {}
     }
     *seat = Seat::Idle;
     Answer::Cancelled

@@ -1,9 +1,8 @@
 //! What a plain store keeps besides its seats: the numbers given out, the counts, and the rows.
-ghost use Rattle.std.specs.Prelude.{◌≡◌, ◌<◌, ◌≤◌, ◌^◌, true, nat_le, if◌then◌else◌, length, vec_len, vec_capacity};
-ghost use Rattle.gs_model.specs.Graphs.{Graph, empty_graph, size_of};
-ghost use Rattle.gs_model.specs.Limits.{last_node, last_number};
-ghost use Rattle.gs_event.specs.Datasets.{is_there as is_there_of, is_within as is_within_of, lines_at, with_graph, triples_in, names_in};
-ghost use Rattle.gs_plain.specs.Books.{dataset_of, is_default, IsCounted, PutsVersion, EndsVersion, EndsRow};
+ghost use Rattle.std.specs.Prelude.{◌≡◌, ◌<◌, length, vec_len, vec_capacity};
+ghost use Rattle.gs_model.specs.Limits.{last_number};
+ghost use Rattle.gs_event.specs.Datasets.{is_there as is_there_of, lines_at, with_graph, without_graph, triples_in, names_in};
+ghost use Rattle.gs_plain.specs.Books.{dataset_of, IsCounted, PutsVersion, EndsVersion, EndsRow};
 ghost use Rattle.gs_plain.specs.Newest.{NewestRow};
 
 use crate::graphs::SortedGraph;
@@ -25,9 +24,9 @@ pub enum Seat {
     Idle,
     /// An upload: what it will do, its request number, and what was staged.
     Writing(UploadKind, u64, SortedGraph),
-    /// A read: the row that it reads (none for an empty default graph), and how many lines were
-    /// given.
-    Reading(Option<usize>, usize),
+    /// A read: the row that it reads (none for an empty default graph), how many lines were given,
+    /// and the last commit number at its pin.
+    Reading(Option<usize>, usize, u64),
 }
 
 /// The numbers given out, how much there is, and the versions of all graphs.
@@ -80,63 +79,16 @@ pub fn size_at(rows: &[Row], target: &Target) -> u64
     }
 }
 
-/// How many names there are once the target has a graph.
-fn names_with(books: &Books, target: &Target) -> u64
-    requires counted { IsCounted books.now }
-    requires fits { names_in (with_graph (dataset_of books.now.rows.items) target.now empty_graph) < 2 ^ 64 }
-    ensures { (g : Graph) → result ≡ names_in (with_graph (dataset_of books.now.rows.items) target.now g) }
-{
-    if is_there(books.rows.as_slice(), target) {
-        books.names
-    } else {
-        books.names + 1
-    }
-}
-
-/// Whether there are few enough names once the target has a graph.
-fn has_few_names(books: &Books, target: &Target) -> bool
-    requires counted { IsCounted books.now }
-    ensures { (g : Graph) → result ≡ nat_le (names_in (with_graph (dataset_of books.now.rows.items) target.now g)) books.now.limits.names }
-{
-    if is_there(books.rows.as_slice(), target) {
-        books.names <= books.limits.names
-    } else {
-        books.names < books.limits.names
-    }
-}
-
-/// How many triples there are once the target's graph is one of so many triples.
-fn triples_with(books: &Books, target: &Target, size: u64) -> u64
-    requires counted { IsCounted books.now }
-    requires small { size ≤ last_node }
-    ensures { (g : Graph) → size_of g ≡ size → result ≡ triples_in (with_graph (dataset_of books.now.rows.items) target.now g) }
-{
-    let replaced = size_at(books.rows.as_slice(), target);
-    books.triples + size - replaced
-}
-
-/// Whether the result is within the limits where the target's graph becomes this one.
-pub fn is_within(books: &Books, target: &Target, graph: &SortedGraph) -> bool
-    requires counted { IsCounted books.now }
-    requires small { size_of graph.now ≤ last_node }
-    ensures { result ≡ is_within_of books.now.limits (with_graph (dataset_of books.now.rows.items) target.now graph.now) }
-{
-    let triples = triples_with(books, target, graph.len() as u64);
-    triples <= books.limits.triples && has_few_names(books, target)
-}
-
-/// Makes the graph the newest version of its target, under the next commit number. The row goes
-/// where room was made for it, so this takes no memory.
-pub fn put_version(books: &mut Books, target: Target, graph: SortedGraph)
+/// Makes the graph the newest version of its target, under the next commit number; there are so
+/// many triples and names then. The row goes where room was made for it, so this takes no memory.
+pub fn put_version(books: &mut Books, target: Target, graph: SortedGraph, triples: u64, names: u64)
     requires counted { IsCounted books.old }
-    requires small { size_of graph ≤ last_node }
-    requires within { is_within_of books.old.limits (with_graph (dataset_of books.old.rows.items) target graph) ≡ true }
+    requires triples { triples ≡ triples_in (with_graph (dataset_of books.old.rows.items) target graph) }
+    requires names { names ≡ names_in (with_graph (dataset_of books.old.rows.items) target graph) }
     requires room { vec_len books.old.rows < vec_capacity books.old.rows }
     requires number { books.old.commit < last_number }
     ensures { PutsVersion books.old books.new target graph }
 {
-    let triples = triples_with(books, &target, graph.len() as u64);
-    let names = names_with(books, &target);
     books.rows.push_reserved(Row {
         target,
         graph,
@@ -158,28 +110,20 @@ fn end_row(rows: &mut Vec<Row>, i: usize)
     row.ended = true;
 }
 
-/// How many names go with a target.
-fn name_count(target: &Target) -> u64
-    ensures { result ≡ (if is_default target.now then 0 else 1) }
-{
-    match target {
-        Target::Default => 0,
-        Target::Named(_) => 1,
-    }
-}
-
-/// Takes the target's graph away, under the next commit number. Takes no memory.
-pub fn end_version(books: &mut Books, target: &Target)
+/// Takes the target's graph away, under the next commit number; there are so many triples and
+/// names then. Takes no memory.
+pub fn end_version(books: &mut Books, target: &Target, triples: u64, names: u64)
     requires counted { IsCounted books.old }
+    requires triples { triples ≡ triples_in (without_graph (dataset_of books.old.rows.items) target.now) }
+    requires names { names ≡ names_in (without_graph (dataset_of books.old.rows.items) target.now) }
     requires number { books.old.commit < last_number }
     ensures { EndsVersion books.old books.new target.now }
 {
+    books.triples = triples;
+    books.names = names;
     books.commit += 1;
-    let removed = size_at(books.rows.as_slice(), target);
     let Some(i) = newest(books.rows.as_slice(), target) else {
         return;
     };
-    books.triples -= removed;
-    books.names -= name_count(target);
     end_row(&mut books.rows, i);
 }

@@ -60,6 +60,31 @@ impl SortedGraph {
         Ok(())
     }
 
+    /// Adds triples where there are then at most so many in all. Only near that number it works on
+    /// a copy.
+    pub fn add_within(
+        &mut self,
+        alloc: Global,
+        triples: &[Triple],
+        most: u64,
+    ) -> Result<(), AllocError>
+        ensures ok { OnOk result (self.new ≡ with_triples self.old triples.now) }
+        ensures few { OnOk result (size_of self.new ≤ most) }
+        ensures kept { OnErr result (self.new ≡ self.old) }
+    {
+        let before = self.len() as u64;
+        if before <= most && triples.len() as u64 <= most - before {
+            return self.add_all(alloc, triples);
+        }
+        let mut larger = self.copied(alloc)?;
+        larger.add_all(alloc, triples)?;
+        if larger.len() as u64 > most {
+            return Err(AllocError);
+        }
+        *self = larger;
+        Ok(())
+    }
+
     /// A copy.
     pub fn copied(&self, alloc: Global) -> Result<SortedGraph, AllocError>
         ensures { IfOk result (λ copy. copy ≡ self.now) }

@@ -7,6 +7,7 @@ mod graphs;
 mod names;
 mod reads;
 mod stores;
+mod verdicts;
 mod writes;
 
 pub use stores::PlainStore;

@@ -2,7 +2,7 @@
 ghost use Rattle.std.specs.Prelude.{◌≡◌, ◌+◌, ◌<◌, ◌^◌, ℕ, IfSome, IfOk, length, take, drop};
 ghost use Rattle.std.specs.List.{concat};
 ghost use Rattle.gs_event.specs.declared.events.Action.TheVariants.{Head, Pin, Piece};
-ghost use Rattle.gs_plain.specs.Books.{row_lines, IsReady, Acts, KeepsRoom};
+ghost use Rattle.gs_plain.specs.Books.{row_lines, IsReady, Acts, HoldsRoom};
 
 use crate::books::{self, Books, Row, Seat};
 use gs_event::Answer;
@@ -13,7 +13,7 @@ use std::alloc::{AllocError, Global};
 pub fn head(books: &mut Books, seat: &mut Seat, target: &Target) -> Answer
     requires { IsReady books.old seat.old }
     ensures acts { Acts books.old books.new seat.old seat.new (Head target.now) result }
-    ensures room { (seats : ℕ) → KeepsRoom seats books.old books.new seat.old seat.new }
+    ensures room { HoldsRoom books.old books.new seat.old seat.new }
 {
     let Seat::Idle = seat else {
         return Answer::Refused(Refusal::WrongPhase);
@@ -25,7 +25,7 @@ pub fn head(books: &mut Books, seat: &mut Seat, target: &Target) -> Answer
 pub fn pin(books: &mut Books, seat: &mut Seat, target: &Target) -> Answer
     requires { IsReady books.old seat.old }
     ensures acts { Acts books.old books.new seat.old seat.new (Pin target.now) result }
-    ensures room { (seats : ℕ) → KeepsRoom seats books.old books.new seat.old seat.new }
+    ensures room { HoldsRoom books.old books.new seat.old seat.new }
 {
     let Seat::Idle = seat else {
         return Answer::Refused(Refusal::WrongPhase);
@@ -34,30 +34,30 @@ pub fn pin(books: &mut Books, seat: &mut Seat, target: &Target) -> Answer
     if row.is_none() && !matches!(target, Target::Default) {
         return Answer::Pinned(404);
     }
-    *seat = Seat::Reading(row, 0);
+    *seat = Seat::Reading(row, 0, books.commit);
     Answer::Pinned(200)
 }
 
 pub fn piece(books: &mut Books, seat: &mut Seat, alloc: Global, count: u32) -> Answer
     requires { IsReady books.old seat.old }
     ensures acts { Acts books.old books.new seat.old seat.new (Piece count) result }
-    ensures room { (seats : ℕ) → KeepsRoom seats books.old books.new seat.old seat.new }
+    ensures room { HoldsRoom books.old books.new seat.old seat.new }
 {
-    let Seat::Reading(row, told) = seat else {
+    let Seat::Reading(row, given, _) = seat else {
         return Answer::Refused(Refusal::WrongPhase);
     };
     if count == 0 {
         return Answer::Refused(Refusal::WrongPhase);
     }
     let count = count as usize;
-    let Ok((bytes, left)) = read(books.rows.as_slice(), *row, *told, count, alloc) else {
+    let Ok((bytes, left)) = read(books.rows.as_slice(), *row, *given, count, alloc) else {
         return Answer::Refused(Refusal::NoMemory);
     };
     if left <= count {
         *seat = Seat::Idle;
         return Answer::Lines(bytes, true);
     }
-    *told += count;
+    *given += count;
     Answer::Lines(bytes, false)
 }
 
@@ -65,19 +65,19 @@ pub fn piece(books: &mut Books, seat: &mut Seat, alloc: Global, count: u32) -> A
 fn read(
     rows: &[Row],
     row: Option<usize>,
-    told: usize,
+    given: usize,
     count: usize,
     alloc: Global,
 ) -> Result<(Vec<u8>, usize), AllocError>
     requires { IfSome row (λ i. i < length rows.now) }
-    ensures bytes { IfOk result (λ r. r.0.items ≡ concat (take count (drop told (row_lines rows.now row)))) }
-    ensures left { IfOk result (λ r. r.1 ≡ length (drop told (row_lines rows.now row))) }
-    ensures fits { IfOk result (λ r. count < r.1 → told + count < 2 ^ 64) }
+    ensures bytes { IfOk result (λ r. r.0.items ≡ concat (take count (drop given (row_lines rows.now row)))) }
+    ensures left { IfOk result (λ r. r.1 ≡ length (drop given (row_lines rows.now row))) }
+    ensures fits { IfOk result (λ r. count < r.1 → given + count < 2 ^ 64) }
 {
     let Some(i) = row else {
         return Ok((Vec::new(alloc), 0));
     };
     let graph = &rows[i].graph;
-    let bytes = graph.lines_from(alloc, told, count)?;
-    Ok((bytes, graph.len().saturating_sub(told)))
+    let bytes = graph.lines_from(alloc, given, count)?;
+    Ok((bytes, graph.len().saturating_sub(given)))
 }

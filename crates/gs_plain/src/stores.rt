@@ -3,8 +3,9 @@ ghost use Rattle.std.specs.Prelude.{◌≡◌, [], true, false, IfOk, IfErr, rep
 ghost use Rattle.gs_model.specs.Bases.{is_base};
 ghost use Rattle.gs_event.specs.Datasets.{triples_in};
 ghost use Rattle.gs_event.specs.Views.{Fits, next_view};
-ghost use Rattle.gs_event.specs.Histories.{view_of};
-ghost use Rattle.gs_event.specs.Waste.{Reclaims, nodes_in};
+ghost use Rattle.gs_event.specs.Steps.{Steps, next_pinned};
+ghost use Rattle.gs_event.specs.Histories.{view_of, pinned_of};
+ghost use Rattle.gs_event.specs.Waste.{nodes_in};
 
 use crate::actions;
 use crate::books::{Books, Seat};
@@ -51,6 +52,7 @@ impl PlainStore {
     ) -> Result<PlainStore, Refusal>
         requires { is_base base.now ≡ true }
         ensures view { IfOk result (λ store. store.view ≡ view_of (record { seats = seats; setting = record { base = base.now; limits = limits }; request = request; commit = commit }) []) }
+        ensures pinned { IfOk result (λ store. store.pinned ≡ pinned_of (record { seats = seats; setting = record { base = base.now; limits = limits }; request = request; commit = commit }) []) }
         ensures waste { IfOk result (λ store. store.waste ≡ []) }
         ensures refused { IfErr result (λ refusal. refusal ≡ Refusal.NoMemory) }
     {
@@ -74,11 +76,10 @@ impl PlainStore {
     }
 
     /// Takes one event. A refused one changes nothing.
+    #[tactic(auto, using(crate::proofs::WasteLemmas::none_wasted, crate::proofs::WasteLemmas::none_freed))]
     pub fn step(&mut self, event: &Event) -> Answer
-        ensures fits { Fits self.old.view event.now result }
-        ensures view { self.new.view ≡ next_view self.old.view event.now result }
-        ensures waste { self.new.waste ≡ self.old.waste }
-        ensures reclaims { Reclaims self.old.waste event.now result self.new.waste }
+        ensures steps { Steps self.old event.now result self.new }
+        ensures none { self.new.waste ≡ [] }
     {
         match event {
             Event::Reclaim(_) => self.reclaim(),
@@ -113,7 +114,9 @@ impl PlainStore {
     fn act(&mut self, seat: usize, action: &Action) -> Answer
         ensures fits { Fits self.old.view (Event.Seat seat action.now) result }
         ensures view { self.new.view ≡ next_view self.old.view (Event.Seat seat action.now) result }
-        ensures waste { self.new.waste ≡ self.old.waste }
+        ensures pinned { self.new.pinned ≡ next_pinned self.old (Event.Seat seat action.now) result }
+        ensures before { self.old.waste ≡ [] }
+        ensures none { self.new.waste ≡ [] }
     {
         if seat >= self.seats.len() {
             return Answer::Refused(Refusal::BadSeat);
@@ -125,7 +128,9 @@ impl PlainStore {
 }
 
 impl EventStore for PlainStore {
-    ghost shows = { λ s. s.view };
+    ghost use Rattle.gs_event.specs.Steps.{Steps};
+
+    ghost Takes = { Steps };
 
     fn step(&mut self, event: &Event) -> Answer {
         self.step(event)

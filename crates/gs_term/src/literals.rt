@@ -1,8 +1,9 @@
 //! The bytes of literals, and the test of a language tag.
-ghost use Rattle.std.specs.Prelude.{◌≡◌, ◌+◌, ◌≤◌, ◌<◌, ◌++◌, ◌∷◌, [], length, map, count_by, IfOk, OnOk, IfSome, IfNone};
-ghost use Rattle.std.specs.Char.{to_ascii_lowercase};
+ghost use Rattle.std.specs.Prelude.{◌≡◌, ◌+◌, ◌≤◌, ◌<◌, ◌++◌, ◌∷◌, [], length, count_by, IfOk, OnOk, IfSome, IfNone};
+ghost use Rattle.std.specs.Str.{str_to_ascii_lowercase as lower_case};
 ghost use Rattle.gs_model.specs.Terms.{Typed, Tagged, escaped, is_escaped, escape_of, suffix, is_tag as is_tag_of};
 ghost use Rattle.gs_model.specs.Limits.{max_term_bytes};
+ghost use Rattle.gs_term.specs.Making.{Fits, literal_len};
 
 use gs_model::MAX_TERM_BYTES;
 use std::alloc::{AllocError, Global};
@@ -10,12 +11,14 @@ use std::alloc::{AllocError, Global};
 /// The datatype that a canonical text leaves out.
 pub const XSD_STRING: &str = "http://www.w3.org/2001/XMLSchema#string";
 
+/// Whether a byte is written with a backslash in a literal.
 fn is_escaped_byte(b: u8) -> bool
     ensures { result ≡ is_escaped b }
 {
     matches!(b, b'"' | b'\\' | b'\n' | b'\r')
 }
 
+/// How many bytes are written with a backslash.
 fn escaped_count(lexical: &[u8]) -> usize
     ensures count { result ≡ count_by is_escaped lexical.now }
     ensures bound { result ≤ length lexical.now }
@@ -51,15 +54,15 @@ fn push_escaped(bytes: &mut Vec<u8>, lexical: &[u8], count: usize) -> Result<(),
 }
 
 /// How many bytes are escaped, if a literal with so many bytes after its closing quote is not too long.
-pub fn fitting_count(lexical: &str, behind: usize) -> Option<usize>
-    ensures fits { IfSome result (λ n. (n ≡ count_by is_escaped lexical.now) × (length lexical.now + n + behind + 2 ≤ max_term_bytes)) }
-    ensures long { IfNone result (max_term_bytes < length lexical.now + count_by is_escaped lexical.now + behind + 2) }
+pub fn fitting_count(lexical: &str, after: usize) -> Option<usize>
+    ensures fits { IfSome result (λ n. Fits lexical.now after n) }
+    ensures long { IfNone result (max_term_bytes < literal_len lexical.now after) }
 {
-    if lexical.len() > MAX_TERM_BYTES || behind > MAX_TERM_BYTES {
+    if lexical.len() > MAX_TERM_BYTES || after > MAX_TERM_BYTES {
         return None;
     }
     let count = escaped_count(lexical.as_bytes());
-    if lexical.len() + count + behind + 2 > MAX_TERM_BYTES {
+    if lexical.len() + count + after + 2 > MAX_TERM_BYTES {
         return None;
     }
     Some(count)
@@ -70,13 +73,13 @@ pub fn quoted_bytes(
     alloc: Global,
     lexical: &str,
     count: usize,
-    behind: usize,
+    after: usize,
 ) -> Result<Vec<u8>, AllocError>
     requires count { count ≡ count_by is_escaped lexical.now }
-    requires fits { length lexical.now + count + behind + 2 ≤ max_term_bytes }
+    requires fits { length lexical.now + count + after + 2 ≤ max_term_bytes }
     ensures { IfOk result (λ v. v.items ≡ 34 ∷ escaped lexical.now ++ 34 ∷ []) }
 {
-    let mut bytes = Vec::with_capacity(alloc, lexical.len() + count + behind + 2)?;
+    let mut bytes = Vec::with_capacity(alloc, lexical.len() + count + after + 2)?;
     bytes.push(b'"')?;
     push_escaped(&mut bytes, lexical.as_bytes(), count)?;
     bytes.push(b'"')?;
@@ -96,6 +99,7 @@ pub fn push_datatype(bytes: &mut Vec<u8>, datatype: &str) -> Result<(), AllocErr
     Ok(())
 }
 
+/// How many bytes stand after the quote of a literal of this datatype.
 pub fn datatype_len(datatype: &str) -> usize
     requires { length datatype.now ≤ max_term_bytes }
     ensures { result ≡ length (suffix (Typed datatype.now)) }
@@ -109,7 +113,7 @@ pub fn datatype_len(datatype: &str) -> usize
 
 /// Appends a tag in lower case.
 pub fn push_tag(bytes: &mut Vec<u8>, tag: &[u8]) -> Result<(), AllocError>
-    ensures { OnOk result (bytes.new.items ≡ bytes.old.items ++ suffix (Tagged (map to_ascii_lowercase tag.now))) }
+    ensures { OnOk result (bytes.new.items ≡ bytes.old.items ++ suffix (Tagged (lower_case tag.now))) }
 {
     bytes.push(b'@')?;
     for b in tag {
@@ -120,7 +124,7 @@ pub fn push_tag(bytes: &mut Vec<u8>, tag: &[u8]) -> Result<(), AllocError>
 
 /// Whether these are a language tag once they are in lower case.
 pub fn is_tag(tag: &[u8]) -> bool
-    ensures { result ≡ is_tag_of (map to_ascii_lowercase tag.now) }
+    ensures { result ≡ is_tag_of (lower_case tag.now) }
 {
     let mut digits = false;
     let mut begun = false;

@@ -7,7 +7,7 @@ ghost use Rattle.std.specs.Cmp.{partial_order_from_own_ties};
 ghost use Rattle.std.specs.Cmp.Rules.{comparing};
 ghost use Rattle.gs_model.specs.Terms.{Iri, Blank, Literal, Typed, Tagged, text_of, IsTerm};
 ghost use Rattle.gs_model.specs.Triples.{term_cmp, term_eq, is_iri as is_iri_of, is_subject as is_subject_of};
-ghost use Rattle.gs_term.specs.Making.{Makes, MakesLiteral, given_kind};
+ghost use Rattle.gs_term.specs.Making.{Makes, MakesLiteral};
 ghost use Rattle.gs_model.specs.Limits.{max_term_bytes};
 
 use crate::literals::{self, XSD_STRING};
@@ -36,6 +36,7 @@ impl Model for TermText {
     ghost invariant = { λ t. IsCanonical t.bytes.items };
 }
 
+/// The canonical text of an IRI.
 fn iri_bytes(alloc: Global, text: &str) -> Result<Vec<u8>, AllocError>
     requires { length text.now ≤ max_term_bytes }
     ensures { IfOk result (λ v. v.items ≡ text_of (Iri text.now)) }
@@ -47,6 +48,7 @@ fn iri_bytes(alloc: Global, text: &str) -> Result<Vec<u8>, AllocError>
     Ok(bytes)
 }
 
+/// The canonical text of a blank node.
 fn blank_bytes(alloc: Global, request: u64, number: u64) -> Result<Vec<u8>, AllocError>
     ensures { IfOk result (λ v. v.items ≡ text_of (Blank request number)) }
 {
@@ -120,11 +122,11 @@ impl TermText {
         if datatype.len() > MAX_TERM_BYTES {
             return Err(Refusal::TermTooLong);
         }
-        let behind = literals::datatype_len(datatype);
-        let Some(count) = literals::fitting_count(lexical, behind) else {
+        let after = literals::datatype_len(datatype);
+        let Some(count) = literals::fitting_count(lexical, after) else {
             return Err(Refusal::TermTooLong);
         };
-        let mut bytes = literals::quoted_bytes(alloc, lexical, count, behind)?;
+        let mut bytes = literals::quoted_bytes(alloc, lexical, count, after)?;
         literals::push_datatype(&mut bytes, datatype)?;
         Ok(TermText { bytes })
     }
@@ -154,7 +156,7 @@ impl TermText {
         datatype: Option<&str>,
         tag: Option<&str>,
     ) -> Result<TermText, Refusal>
-        ensures { MakesLiteral lexical.now (given_kind (option_copied datatype.entry) (option_copied tag.entry)) result }
+        ensures { MakesLiteral lexical.now (option_copied datatype.entry) (option_copied tag.entry) result }
     {
         match (datatype, tag) {
             (None, None) => TermText::typed(alloc, lexical, XSD_STRING),

@@ -42,18 +42,21 @@ impl Triple {
         }
     }
 
+    /// An IRI or a blank node.
     pub fn subject(&self) -> &TermText
         ensures { result.now ≡ self.now.subject }
     {
         &self.subject
     }
 
+    /// An IRI.
     pub fn predicate(&self) -> &TermText
         ensures { result.now ≡ self.now.predicate }
     {
         &self.predicate
     }
 
+    /// A term of any kind.
     pub fn object(&self) -> &TermText
         ensures { result.now ≡ self.now.object }
     {

@@ -17,7 +17,7 @@ use Rattle.gs_body.specs.Bodies.{Meaning, triples_of}
 use Rattle.gs_body.specs.Feeding.{Finishes}
 use Rattle.gs_body.specs.Leading.{IsLed}
 use Rattle.gs_body.proofs.LeadingLemmas.{led-on, triples_of-append}
-use Rattle.gs_document.specs.Symbols.{Symbol, symbol_of, symbols_of}
+use Rattle.gs_triples.specs.Symbols.{Symbol, symbol_of, symbols_of}
 use Rattle.gs_document.specs.Documents.{start}
 use Rattle.gs_document.specs.States.{State, Between}
 use Rattle.gs_document.specs.Machine.{turtle}
@@ -73,11 +73,12 @@ reads-portion a b piece old new o1 o2 e k f h =
     let given : List RdfTriple = triples_of (turn_of a.parser us).1 in
     record {
       goes = record { given = given; grown = h.given; leads = leads-to a b piece old new o1 o2 e k f h };
-      settled = λ x ts l i.
+      settled = λ x ts l front i.
           let fed = f false x l.lexemes l.lexed in
-          let quiet : MayGoQuietly false (x ++ piece) (l.lexemes ++ us) = subst (λ z. MayGoQuietly false (x ++ piece) (l.lexemes ++ z)) (same-added old new fed.added e fed.given) (fed.quiet i) in
-          subst (λ (g : List ℕ → List RdfTriple). AreSettled g (x ++ piece) (ts ++ given)) (λ j z. triples_of (meaning_of-same a b k z j).0)
-          (all-settled b (x ++ piece) (ts ++ given) (leads-to a b piece old new o1 o2 e k f h x ts l) quiet);
+          let same = same-added old new fed.added e fed.given in
+          subst (λ (g : List ℕ → List RdfTriple). AreSettled g front (ts ++ given)) (λ j z. triples_of (meaning_of-same a b k z j).0)
+          (all-settled b (x ++ piece) front (ts ++ given) (leads-to a b piece old new o1 o2 e k f h x ts l)
+          (subst (λ z. lexing.AreSettled false front (l.lexemes ++ z)) same (fed.settled front i)) (subst (λ z. MayGoQuietly false front (l.lexemes ++ z)) same (fed.quiet front i)));
     }
 
 -- its tokens have a fault
@@ -95,39 +96,39 @@ refused-portion e a b piece old new n f h = λ x ts l y.
 -- after its tokens stands something that is none
 pub broken-portion : (e : Refusal) (a : TurtleReader) (piece : List ℕ) (old new : List Token) (at : ℕ) → old ≡ []
     → ((updates : Bool) (x : List ℕ) (ts : List Lexeme) → Leads updates a.lexer x ts → Breaks updates (x ++ piece) ts at old new)
-    → ((n : ℕ) → TellsBehind a.parser.last e (ended_by (lexer.Fault n) (end_of a.parser (lexemes_of new)))) → IsRefused a piece e
+    → ((n : ℕ) → TellsBehind a.parser.last e (ended_by (lexer.AtFault n) (end_of a.parser (lexemes_of new)))) → IsRefused a piece e
 broken-portion e a piece old new at n f h = λ x ts l y.
     let b = f false x l.lexemes l.lexed in
     let us = lexemes_of new in
-    let cut : IsCut false ((x ++ piece) ++ y) (l.lexemes ++ us) (lexer.Fault at) =
-    subst (λ z. IsCut false ((x ++ piece) ++ y) (l.lexemes ++ z) (lexer.Fault at)) (same-added old new b.added n b.given) (b.fault y) in
-    tells_joined e a.parser.last l.parsed.statements (ended_by (lexer.Fault at) (end_of a.parser us)) (meaning_for a ((x ++ piece) ++ y)) l.parsed.place
-    (meaning_on a x ts l ((x ++ piece) ++ y) us (lexer.Fault at) cut) (h at)
+    let cut : IsCut false ((x ++ piece) ++ y) (l.lexemes ++ us) (lexer.AtFault at) =
+    subst (λ z. IsCut false ((x ++ piece) ++ y) (l.lexemes ++ z) (lexer.AtFault at)) (same-added old new b.added n b.given) (b.fault y) in
+    tells_joined e a.parser.last l.parsed.statements (ended_by (lexer.AtFault at) (end_of a.parser us)) (meaning_for a ((x ++ piece) ++ y)) l.parsed.place
+    (meaning_on a x ts l ((x ++ piece) ++ y) us (lexer.AtFault at) cut) (h at)
 
 -- how the lexer ends a text
-abbrev pub Ends : TurtleReader → lexer.Ending → List Token → List Token → Type 0
+abbrev pub Ends : TurtleReader → lexer.CutEnd → List Token → List Token → Type 0
 Ends a end old new = (x : List ℕ) (ts : List Lexeme) → Leads false a.lexer x ts → lexing.Finishes false x ts end old new
 
 -- what a text says that ends there
-meaning_of-end : (a : TurtleReader) (end : lexer.Ending) (old new : List Token) → old ≡ [] → Ends a end old new → (x : List ℕ) (ts : List RdfTriple) (l : LeadsTo a x ts)
+meaning_of-end : (a : TurtleReader) (end : lexer.CutEnd) (old new : List Token) → old ≡ [] → Ends a end old new → (x : List ℕ) (ts : List RdfTriple) (l : LeadsTo a x ts)
     → meaning_for a x ≡ joined l.parsed.statements (ended_by end (end_of a.parser (lexemes_of new)))
 meaning_of-end a end old new n f x ts l =
     let g = f x l.lexemes l.lexed in
     meaning_on a x ts l x (lexemes_of new) end (subst (λ z. IsCut false x (l.lexemes ++ z) end) (same-added old new g.added n g.given) g.cut)
 
 -- the text ends, and its last tokens have a fault or not
-pub refused-at-end : (e : Refusal) (a : TurtleReader) (end : lexer.Ending) (old new : List Token) → old ≡ [] → Ends a end old new
+pub refused-at-end : (e : Refusal) (a : TurtleReader) (end : lexer.CutEnd) (old new : List Token) → old ≡ [] → Ends a end old new
     → TellsBehind a.parser.last e (ended_by end (end_of a.parser (lexemes_of new))) → IsRefusedAtEnd a e
 refused-at-end e a end old new n f h = λ x ts l.
     tells_joined e a.parser.last l.parsed.statements (ended_by end (end_of a.parser (lexemes_of new))) (meaning_for a x) l.parsed.place (meaning_of-end a end old new n f x ts l) h
 
-pub ends-whole : (a : TurtleReader) (p : Parser) (old new : List Token) (o1 o2 : List RdfTriple) → old ≡ [] → Ends a lexer.Whole old new → Concludes a.parser p (lexemes_of new) o1 o2
+pub ends-whole : (a : TurtleReader) (p : Parser) (old new : List Token) (o1 o2 : List RdfTriple) → old ≡ [] → Ends a lexer.AtEnd old new → Concludes a.parser p (lexemes_of new) o1 o2
     → Finishes meaning_for LeadsTo a o1 o2
 ends-whole a p old new o1 o2 n f h =
     let t = end_of a.parser (lexemes_of new) in
     record {
       given = triples_of t.0;
       grown = h.given;
-      whole = λ x ts l. ap (λ (s : Meaning). s.1) (meaning_of-end a lexer.Whole old new n f x ts l) ∙ h.whole;
-      all = λ x ts l. ap (λ (s : Meaning). triples_of s.0) (meaning_of-end a lexer.Whole old new n f x ts l) ∙ triples_of-append l.parsed.statements t.0 ∙ ap (λ z. z ++ triples_of t.0) (sym l.parsed.given);
+      whole = λ x ts l. ap (λ (s : Meaning). s.1) (meaning_of-end a lexer.AtEnd old new n f x ts l) ∙ h.whole;
+      all = λ x ts l. ap (λ (s : Meaning). triples_of s.0) (meaning_of-end a lexer.AtEnd old new n f x ts l) ∙ triples_of-append l.parsed.statements t.0 ∙ ap (λ z. z ++ triples_of t.0) (sym l.parsed.given);
     }

@@ -1,10 +1,10 @@
 -- Portions one after another.
 use Rattle.std.proofs.Common.{◌≡◌, ℕ, List, [], ◌++◌, sym, ap, subst, ◌∙◌, take, drop, append_assoc, append-nil}
 use Rattle.std.proofs.lemmas.List.{take-append-drop}
-use Rattle.std.specs.Str.{IsUtf8}
 use Rattle.gs_model.specs.Triples.{RdfTriple}
 use Rattle.gs_model.specs.declared.refusals.Refusal.{Refusal}
 use Rattle.gs_machine.specs.Machines.{AreSettled, Begins}
+use Rattle.gs_machine.specs.Utf8.{IsLongestFront}
 use Rattle.gs_body.specs.Bodies.{Meaning, Reports, triples_of}
 use Rattle.gs_body.specs.Feeding.{Feeds}
 use Rattle.gs_turtle.specs.Readers.{LeadsTo, meaning_for, Keeps, Goes, Reads, IsRefused}
@@ -46,13 +46,12 @@ walks-more a b c piece rest portion behind o1 o2 o3 w e r k = record {
 reads-then : (a b c : TurtleReader) (p q : List ℕ) (o1 o2 o3 : List RdfTriple) → Keeps a b → Goes a b p o1 o2 → Reads b c q o2 o3 → Reads a c (p ++ q) o1 o3
 reads-then a b c p q o1 o2 o3 k g r = record {
   goes = goes-then a b c p q o1 o2 o3 g r.goes;
-  settled = λ x ts l u.
-      let i : IsUtf8 ((x ++ p) ++ q) = subst IsUtf8 (sym (append_assoc x p q)) u in
-      let s : AreSettled (λ z. triples_of (meaning_for a z).0) ((x ++ p) ++ q) ((ts ++ g.given) ++ r.goes.given) =
-      subst (λ (f : List ℕ → List RdfTriple). AreSettled f ((x ++ p) ++ q) ((ts ++ g.given) ++ r.goes.given)) (λ j z. triples_of (meaning_of-same a b k z j).0)
-      (r.settled (x ++ p) (ts ++ g.given) (g.leads x ts l) i) in
-      subst (λ z. AreSettled (λ y. triples_of (meaning_for a y).0) z (ts ++ (g.given ++ r.goes.given))) (append_assoc x p q)
-      (subst (AreSettled (λ y. triples_of (meaning_for a y).0) ((x ++ p) ++ q)) (append_assoc ts g.given r.goes.given) s);
+  settled = λ x ts l front u.
+      let i : IsLongestFront ((x ++ p) ++ q) front = subst (λ z. IsLongestFront z front) (sym (append_assoc x p q)) u in
+      let s : AreSettled (λ z. triples_of (meaning_for a z).0) front ((ts ++ g.given) ++ r.goes.given) =
+      subst (λ (f : List ℕ → List RdfTriple). AreSettled f front ((ts ++ g.given) ++ r.goes.given)) (λ j z. triples_of (meaning_of-same a b k z j).0)
+      (r.settled (x ++ p) (ts ++ g.given) (g.leads x ts l) front i) in
+      subst (AreSettled (λ y. triples_of (meaning_for a y).0) front) (append_assoc ts g.given r.goes.given) s;
 }
 
 -- all of a piece was read

@@ -10,15 +10,14 @@ use Rattle.gs_lex.specs.Tokens as lexer
 use Rattle.gs_lex.specs.Tokens.{Lexeme}
 use Rattle.gs_lex.specs.Lexemes.{lexeme_of, lexemes_of}
 use Rattle.gs_lex.specs.declared.tokens.Token.{Token}
-use Rattle.gs_body.specs.Bodies.{Whole, Syntax, TooLong, Meaning, Statement, triples_of, end_after}
+use Rattle.gs_model.specs.declared.faults.Fault.{Fault}
+use Rattle.gs_model.specs.declared.faults.Fault.TheVariants as fault
+use Rattle.gs_body.specs.Bodies.{Whole, Faulty, Meaning, Statement, triples_of, end_after}
 use Rattle.gs_body.proofs.LeadingLemmas.{triples_of-append, end_after-append}
-use Rattle.gs_document.specs.declared.faults.Fault.{Fault}
-use Rattle.gs_document.specs.declared.faults.Fault.TheVariants.{Broken, Long}
-use Rattle.gs_document.specs.Meanings.{ending}
-use Rattle.gs_document.specs.Symbols.{symbol_of, symbols_of}
+use Rattle.gs_triples.specs.Symbols.{symbol_of, symbols_of}
 use Rattle.gs_document.specs.States.{State, lost}
 use Rattle.gs_document.specs.Machine.{step, ended, turtle}
-use Rattle.gs_document.proofs.WalkLemmas.{lost_rest}
+use Rattle.gs_document.proofs.ReaderLemmas.{lost_rest}
 use Rattle.gs_parse.specs.Views.{state_of}
 use Rattle.gs_parse.specs.declared.parser.Parser.{Parser}
 use Rattle.gs_turtle.specs.Documents.{ended_by}
@@ -60,17 +59,17 @@ takes-next a b c xs n t o1 o2 o3 l i h p q r =
     subst (λ (z : List Lexeme). Takes a c z o1 o3) (sym e) (takes-more a b c (lexemes_of (take n xs)) (lexeme_of t) o1 o2 o3 h p q r)
 
 -- a fault by its refusal
-pub tells-fault : (f : Fault) (last n : ℕ) (t : Meaning) → t.1 ≡ ending f → n ≡ end_after last t.0 → TellsBehind last (refusal_of n f) t
-tells-fault Broken last n t p q = (p, q)
-tells-fault Long last n t p q = p
+pub tells-fault : (f : Fault) (last n : ℕ) (t : Meaning) → t.1 ≡ Faulty f → n ≡ end_after last t.0 → TellsBehind last (refusal_of n f) t
+tells-fault fault.Syntax last n t p q = (p, q)
+tells-fault fault.TermTooLong last n t p q = p
 
 -- where the parser is lost, whatever follows says nothing more
 pub lost-tells : (a b : Parser) (ts us : List Lexeme) (o1 o2 : List RdfTriple) (f : Fault) → Takes a b ts o1 o2 → state_of b ≡ lost f → TellsBehind a.last (refusal_of b.last f) (end_of a (ts ++ us))
 lost-tells a b ts us o1 o2 f h e =
     let old = (turn_of a ts).1 in
-    let all : end_of a (ts ++ us) ≡ (old, ending f) =
+    let all : end_of a (ts ++ us) ≡ (old, Faulty f) =
     ap (rest turtle (state_of a)) (map-append symbol_of ts us) ∙ rest-append turtle (state_of a) (symbols_of ts) (symbols_of us)
-    ∙ ap (λ (z : State). joined old (rest turtle z (symbols_of us))) (sym h.state ∙ e) ∙ ap (joined old) (lost_rest (ending f) (symbols_of us)) ∙ ap (λ z. (z, ending f)) (append-nil old) in
+    ∙ ap (λ (z : State). joined old (rest turtle z (symbols_of us))) (sym h.state ∙ e) ∙ ap (joined old) (lost_rest f (symbols_of us)) ∙ ap (λ z. (z, Faulty f)) (append-nil old) in
     tells-fault f a.last b.last (end_of a (ts ++ us)) (ap (λ (z : Meaning). z.1) all) (h.last ∙ ap (λ (z : Meaning). end_after a.last z.0) (sym all))
 
 -- the text ends there
@@ -92,31 +91,29 @@ concludes a b ts o1 o2 h e =
     }
 
 -- with a fault
-pub ends-faulty : (a b : Parser) (ts : List Lexeme) (o1 o2 : List RdfTriple) (f : Fault) → Takes a b ts o1 o2 → ending f ≡ ended (state_of b) → TellsBehind a.last (refusal_of b.last f) (end_of a ts)
+pub ends-faulty : (a b : Parser) (ts : List Lexeme) (o1 o2 : List RdfTriple) (f : Fault) → Takes a b ts o1 o2 → Faulty f ≡ ended (state_of b) → TellsBehind a.last (refusal_of b.last f) (end_of a ts)
 ends-faulty a b ts o1 o2 f h e =
     let all = end-is a b ts o1 o2 h in
     tells-fault f a.last b.last (end_of a ts) (ap (λ (z : Meaning). z.1) all ∙ sym e) (h.last ∙ ap (λ (z : Meaning). end_after a.last z.0) (sym all))
 
 -- the first fault of all is that of the tokens, where they have one
-pub tells-ended : (e : Refusal) (last : ℕ) (end : lexer.Ending) (t : Meaning) → TellsBehind last e t → TellsBehind last e (ended_by end t)
-tells-ended e last lexer.Whole t h = h
-tells-ended e last (lexer.Fault n) (ss, Syntax) h = h
-tells-ended e last (lexer.Fault n) (ss, TooLong) h = h
-tells-ended (refusal.Syntax at) last (lexer.Fault n) (ss, Whole) h = absurd (Prim.cc (h.0))
-tells-ended refusal.TermTooLong last (lexer.Fault n) (ss, Whole) h = absurd (Prim.cc h)
-tells-ended refusal.NoMemory last (lexer.Fault n) (ss, Whole) h = h
-tells-ended refusal.WrongPhase last (lexer.Fault n) (ss, Whole) h = h
-tells-ended refusal.BadSeat last (lexer.Fault n) (ss, Whole) h = h
-tells-ended refusal.LastNumber last (lexer.Fault n) (ss, Whole) h = h
-tells-ended refusal.StoreFull last (lexer.Fault n) (ss, Whole) h = h
-tells-ended refusal.NotInProfile last (lexer.Fault n) (ss, Whole) h = h
-tells-ended refusal.Closed last (lexer.Fault n) (ss, Whole) h = h
+pub tells-ended : (e : Refusal) (last : ℕ) (end : lexer.CutEnd) (t : Meaning) → TellsBehind last e t → TellsBehind last e (ended_by end t)
+tells-ended e last lexer.AtEnd t h = h
+tells-ended e last (lexer.AtFault n) (ss, Faulty f) h = h
+tells-ended (refusal.Syntax at) last (lexer.AtFault n) (ss, Whole) h = absurd (Prim.cc (h.0))
+tells-ended refusal.TermTooLong last (lexer.AtFault n) (ss, Whole) h = absurd (Prim.cc h)
+tells-ended refusal.NoMemory last (lexer.AtFault n) (ss, Whole) h = h
+tells-ended refusal.WrongPhase last (lexer.AtFault n) (ss, Whole) h = h
+tells-ended refusal.BadSeat last (lexer.AtFault n) (ss, Whole) h = h
+tells-ended refusal.LastNumber last (lexer.AtFault n) (ss, Whole) h = h
+tells-ended refusal.StoreFull last (lexer.AtFault n) (ss, Whole) h = h
+tells-ended refusal.NotInProfile last (lexer.AtFault n) (ss, Whole) h = h
+tells-ended refusal.Closed last (lexer.AtFault n) (ss, Whole) h = h
 
 -- and else that after them
-pub tells-broken : (last m n : ℕ) (t : Meaning) → t.1 ≡ Whole → m ≡ end_after last t.0 → TellsBehind last (refusal.Syntax m) (ended_by (lexer.Fault n) t)
+pub tells-broken : (last m n : ℕ) (t : Meaning) → t.1 ≡ Whole → m ≡ end_after last t.0 → TellsBehind last (refusal.Syntax m) (ended_by (lexer.AtFault n) t)
 tells-broken last m n (ss, Whole) p q = (refl, q)
-tells-broken last m n (ss, Syntax) p q = (refl, q)
-tells-broken last m n (ss, TooLong) p q = absurd (Prim.cc p)
+tells-broken last m n (ss, Faulty f) p q = absurd (Prim.cc p)
 
 -- what tells of a fault is not that an earlier call was refused
 pub tells-open : (e : Refusal) (last : ℕ) (t : Meaning) → TellsBehind last e t → e ≢ refusal.Closed

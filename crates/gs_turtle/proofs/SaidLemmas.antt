@@ -9,13 +9,14 @@ use Rattle.gs_machine.specs.Machines.{joined, rest, AreSettled, Begins}
 use Rattle.gs_lex.specs.Tokens as lexer
 use Rattle.gs_lex.specs.Tokens.{Lexeme, IsCut}
 use Rattle.gs_lex.specs.Cuts.{cut_of}
+use Rattle.gs_lex.specs.Lexers as lexing
 use Rattle.gs_lex.specs.Lexers.{MayGoQuietly}
 use Rattle.gs_lex.proofs.OneCutLemmas.{cut-one}
 use Rattle.gs_lex.proofs.CutLemmas.{cut-from, leads-goes-on}
 use Rattle.gs_blank.specs.Numbers.{no_numbers}
-use Rattle.gs_body.specs.Bodies.{Whole, Syntax, TooLong, Meaning, Statement, Reports, triples_of, end_after}
+use Rattle.gs_body.specs.Bodies.{Whole, Faulty, Meaning, Statement, Reports, triples_of, end_after}
 use Rattle.gs_body.proofs.LeadingLemmas.{led-meaning, triples_of-append, end_after-append}
-use Rattle.gs_document.specs.Symbols.{Symbol, symbol_of, symbols_of}
+use Rattle.gs_triples.specs.Symbols.{Symbol, symbol_of, symbols_of}
 use Rattle.gs_document.specs.Documents.{start}
 use Rattle.gs_document.specs.Program.{document}
 use Rattle.gs_document.specs.States.{Between}
@@ -29,31 +30,29 @@ use Rattle.gs_turtle.specs.declared.readers.TurtleReader.{TurtleReader}
 use Rattle.gs_turtle.proofs.QuietLemmas.{quiet_end}
 
 -- what was stated before does not change how a text ends
-ended-joined : (e : lexer.Ending) (ss : List Statement) (t : Meaning) → ended_by e (joined ss t) ≡ joined ss (ended_by e t)
-ended-joined lexer.Whole ss t = refl
-ended-joined (lexer.Fault n) ss (rs, Whole) = refl
-ended-joined (lexer.Fault n) ss (rs, Syntax) = refl
-ended-joined (lexer.Fault n) ss (rs, TooLong) = refl
+ended-joined : (e : lexer.CutEnd) (ss : List Statement) (t : Meaning) → ended_by e (joined ss t) ≡ joined ss (ended_by e t)
+ended-joined lexer.AtEnd ss t = refl
+ended-joined (lexer.AtFault n) ss (rs, Whole) = refl
+ended-joined (lexer.AtFault n) ss (rs, Faulty f) = refl
 
 -- the end of a text changes nothing of what it states
-pub ended-states : (e : lexer.Ending) (t : Meaning) → (ended_by e t).0 ≡ t.0
-ended-states lexer.Whole t = refl
-ended-states (lexer.Fault n) (rs, Whole) = refl
-ended-states (lexer.Fault n) (rs, Syntax) = refl
-ended-states (lexer.Fault n) (rs, TooLong) = refl
+pub ended-states : (e : lexer.CutEnd) (t : Meaning) → (ended_by e t).0 ≡ t.0
+ended-states lexer.AtEnd t = refl
+ended-states (lexer.AtFault n) (rs, Whole) = refl
+ended-states (lexer.AtFault n) (rs, Faulty f) = refl
 
 -- a text that is cut so
-pub meaning_cut : (b : List ℕ) (r : ℕ) (x : List ℕ) (ts : List Lexeme) (e : lexer.Ending) → IsCut false x ts e
+pub meaning_cut : (b : List ℕ) (r : ℕ) (x : List ℕ) (ts : List Lexeme) (e : lexer.CutEnd) → IsCut false x ts e
     → meaning_by b r x ≡ ended_by e (rest turtle (Between (start b r) no_numbers) (symbols_of ts))
 unfolding meaning_by
 meaning_cut b r x ts e c =
     let same = cut-one false lexer.Between 0 0 x (cut_of false x).0 ts (cut_of false x).1 e (cut-from false lexer.Between 0 0 x) c in
     ap (λ (z : List Lexeme). ended_by (cut_of false x).1 (document b r z)) same.0
-    ∙ ap (λ (z : lexer.Ending). ended_by z (document b r ts)) same.1
+    ∙ ap (λ (z : lexer.CutEnd). ended_by z (document b r ts)) same.1
     ∙ ap (ended_by e) (sym (machine_tells b r ts))
 
 -- after the tokens that a reader took
-pub meaning_on : (a : TurtleReader) (x : List ℕ) (ts : List RdfTriple) (l : LeadsTo a x ts) (z : List ℕ) (us : List Lexeme) (e : lexer.Ending) → IsCut false z (l.lexemes ++ us) e
+pub meaning_on : (a : TurtleReader) (x : List ℕ) (ts : List RdfTriple) (l : LeadsTo a x ts) (z : List ℕ) (us : List Lexeme) (e : lexer.CutEnd) → IsCut false z (l.lexemes ++ us) e
     → meaning_for a z ≡ joined l.parsed.statements (ended_by e (end_of a.parser us))
 meaning_on a x ts l z us e c =
     meaning_cut (string_bytes a.base) a.request z (l.lexemes ++ us) e c
@@ -85,15 +84,24 @@ begun a x ts l y =
       ap (λ (s : Meaning). triples_of s.0) (meaning_on a x ts l (x ++ y) g.0 g.1 g.2) ∙ triples_of-append l.parsed.statements t.0 ∙ ap (λ z. z ++ triples_of t.0) (sym l.parsed.given),
     )
 
--- and all that is settled, where the text may go on quietly
-pub all-settled : (a : TurtleReader) (x : List ℕ) (ts : List RdfTriple) (l : LeadsTo a x ts) → MayGoQuietly false x l.lexemes → AreSettled (λ z. triples_of (meaning_for a z).0) x ts
-all-settled a x ts l q = record {
-  stay = begun a x ts l;
+-- And all that is settled by a front of the text, where the tokens are settled by it, and it may go on quietly.
+pub all-settled : (a : TurtleReader) (x front : List ℕ) (ts : List RdfTriple) (l : LeadsTo a x ts) → lexing.AreSettled false front l.lexemes → MayGoQuietly false front l.lexemes
+    → AreSettled (λ z. triples_of (meaning_for a z).0) front ts
+all-settled a x front ts l h q = record {
+  stay = λ y.
+      let e = (cut_of false (front ++ y)).1 in
+      let c = cut-from false lexer.Between 0 0 (front ++ y) in
+      let g = h.stay y (cut_of false (front ++ y)).0 e c in
+      let t = ended_by e (end_of a.parser g.0) in (
+        triples_of t.0,
+        ap (λ (s : Meaning). triples_of s.0) (meaning_on a x ts l (front ++ y) g.0 e (subst (λ z. IsCut false (front ++ y) z e) g.1 c))
+            ∙ triples_of-append l.parsed.statements t.0 ∙ ap (λ z. z ++ triples_of t.0) (sym l.parsed.given),
+      );
   are_all = λ more f.
-      let e : triples_of (meaning_for a (x ++ q.behind)).0 ≡ ts =
-      ap (λ (s : Meaning). triples_of s.0) (meaning_on a x ts l (x ++ q.behind) q.last q.ending q.cut)
+      let e : triples_of (meaning_for a (front ++ q.onward)).0 ≡ ts =
+      ap (λ (s : Meaning). triples_of s.0) (meaning_on a x ts l (front ++ q.onward) q.last q.ending q.cut)
       ∙ triples_of-append l.parsed.statements (ended_by q.ending (end_of a.parser q.last)).0
       ∙ ap (λ z. triples_of l.parsed.statements ++ z) (ap triples_of (ended-states q.ending (end_of a.parser q.last)) ∙ quiet_end (state_of a.parser) q.last q.quiet)
       ∙ append-nil (triples_of l.parsed.statements) ∙ sym l.parsed.given in
-      subst (λ z. Begins z more) e (f q.behind);
+      subst (λ z. Begins z more) e (f q.onward);
 }

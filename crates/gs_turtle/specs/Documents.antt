@@ -3,15 +3,16 @@ use Rattle.std.specs.Prelude.{ℕ, false, List}
 use Rattle.gs_lex.specs.Tokens as lexer
 use Rattle.gs_lex.specs.Tokens.{IsCut, Lexeme}
 use Rattle.gs_lex.specs.Cuts.{cut_of}
-use Rattle.gs_body.specs.Bodies.{Meaning, Statement, Whole, Syntax}
+use Rattle.gs_model.specs.declared.faults.Fault.TheVariants as fault
+use Rattle.gs_body.specs.Bodies.{Meaning, Statement, Whole, Faulty}
 use Rattle.gs_document.specs.Documents.{IsDocument}
 use Rattle.gs_document.specs.Program.{document}
 
--- Behind the tokens the text ends, or has a fault that is none of theirs: no token, or no character.
-abbrev pub ended_by : lexer.Ending → Meaning → Meaning
-ended_by lexer.Whole d = d
-ended_by (lexer.Fault n) (ss, Whole) = (ss, Syntax)
-ended_by (lexer.Fault n) (ss, e) = (ss, e)
+-- After the tokens the text ends, or has a fault that is none of theirs: no token, or no character.
+abbrev pub ended_by : lexer.CutEnd → Meaning → Meaning
+ended_by lexer.AtEnd d = d
+ended_by (lexer.AtFault n) (ss, Whole) = (ss, Faulty fault.Syntax)
+ended_by (lexer.AtFault n) (ss, Faulty f) = (ss, Faulty f)
 
 -- what a text says under the base b in the request r
 unfoldable pub meaning_by : List ℕ → ℕ → List ℕ → Meaning
@@ -20,5 +21,5 @@ meaning_by b r x = let c = cut_of false x in ended_by c.1 (document b r c.0)
 -- The text x is cut into the tokens of a document that has these statements under the base b in the request r.
 pub record IsBody (b : List ℕ) (r : ℕ) (x : List ℕ) (statements : List Statement) : Type 0 where
   pub lexemes : List Lexeme
-  pub cut : IsCut false x lexemes lexer.Whole
+  pub cut : IsCut false x lexemes lexer.AtEnd
   pub stated : IsDocument b r lexemes statements

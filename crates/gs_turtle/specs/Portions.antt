@@ -5,10 +5,10 @@ use Rattle.gs_model.specs.declared.refusals.Refusal.{Refusal}
 use Rattle.gs_model.specs.declared.refusals.Refusal.TheVariants as refusal
 use Rattle.gs_machine.specs.Machines.{steps, rest}
 use Rattle.gs_lex.specs.Tokens.{Lexeme}
-use Rattle.gs_body.specs.Bodies.{Whole, Syntax, TooLong, Meaning, Statement, triples_of, end_after}
-use Rattle.gs_document.specs.declared.faults.Fault.{Fault}
-use Rattle.gs_document.specs.declared.faults.Fault.TheVariants.{Broken, Long}
-use Rattle.gs_document.specs.Symbols.{symbols_of}
+use Rattle.gs_model.specs.declared.faults.Fault.{Fault}
+use Rattle.gs_model.specs.declared.faults.Fault.TheVariants as fault
+use Rattle.gs_body.specs.Bodies.{Whole, Faulty, Meaning, Statement, triples_of, end_after}
+use Rattle.gs_triples.specs.Symbols.{symbols_of}
 use Rattle.gs_document.specs.States.{State}
 use Rattle.gs_document.specs.Machine.{turtle}
 use Rattle.gs_parse.specs.Views.{state_of}
@@ -34,14 +34,14 @@ pub record Concludes (old new : Parser) (ts : List Lexeme) (before after : List 
   pub given : after ≡ before ++ triples_of (end_of old ts).0
   pub last : new.last ≡ end_after old.last (end_of old ts).0
 
--- the refusal that tells of a fault, where the last statement ends after so many bytes
+-- the refusal that reports a fault, where the last statement ends after so many bytes
 abbrev pub refusal_of : ℕ → Fault → Refusal
-refusal_of last Broken = refusal.Syntax last
-refusal_of last Long = refusal.TermTooLong
+refusal_of last fault.Syntax = refusal.Syntax last
+refusal_of last fault.TermTooLong = refusal.TermTooLong
 
--- what a refusal tells of the rest of a text, where the last statement before it ends after so many bytes
+-- what a refusal reports of the rest of a text, where the last statement before it ends after so many bytes
 abbrev pub TellsBehind : ℕ → Refusal → Meaning → Type 0
-TellsBehind last (refusal.Syntax at) r = (r.1 ≡ Syntax) × (at ≡ end_after last r.0)
-TellsBehind last refusal.TermTooLong r = r.1 ≡ TooLong
+TellsBehind last (refusal.Syntax at) r = (r.1 ≡ Faulty fault.Syntax) × (at ≡ end_after last r.0)
+TellsBehind last refusal.TermTooLong r = r.1 ≡ Faulty fault.TermTooLong
 TellsBehind last refusal.NoMemory r = Unit {0}
 TellsBehind last other r = ⊥

@@ -1,15 +1,15 @@
 -- Where a reader stands in a text, and what its steps do.
 use Rattle.std.specs.Prelude.{◌≡◌, false, ℕ, List, ◌++◌, string_bytes}
-use Rattle.std.specs.Str.{IsUtf8}
 use Rattle.gs_model.specs.Triples.{RdfTriple}
 use Rattle.gs_model.specs.declared.refusals.Refusal.{Refusal}
 use Rattle.gs_machine.specs.Machines.{AreSettled}
+use Rattle.gs_machine.specs.Utf8.{IsLongestFront}
 use Rattle.gs_blank.specs.Numbers.{no_numbers}
 use Rattle.gs_lex.specs.Tokens.{Lexeme}
 use Rattle.gs_lex.specs.Lexers.{Leads}
 use Rattle.gs_body.specs.Bodies.{Meaning, Reports, triples_of}
 use Rattle.gs_body.specs.Leading.{IsLed}
-use Rattle.gs_document.specs.Symbols.{symbols_of}
+use Rattle.gs_triples.specs.Symbols.{symbols_of}
 use Rattle.gs_document.specs.Documents.{start}
 use Rattle.gs_document.specs.States.{State, Between}
 use Rattle.gs_document.specs.Machine.{turtle}
@@ -44,11 +44,11 @@ pub record Goes (old new : TurtleReader) (piece : List ℕ) (before after : List
   pub grown : after ≡ before ++ given
   pub leads : (x : List ℕ) (ts : List RdfTriple) → LeadsTo old x ts → LeadsTo new (x ++ piece) (ts ++ given)
 
--- and where the text so far ends between two characters, those of all complete statements are given
+-- and those of all complete statements are given, of the longest front of the text so far that ends between two characters
 pub record Reads (old new : TurtleReader) (piece : List ℕ) (before after : List RdfTriple) : Type 0 where
   pub goes : Goes old new piece before after
-  pub settled : (x : List ℕ) (ts : List RdfTriple) → LeadsTo old x ts → IsUtf8 (x ++ piece)
-      → AreSettled (λ z. triples_of (meaning_for old z).0) (x ++ piece) (ts ++ goes.given)
+  pub settled : (x : List ℕ) (ts : List RdfTriple) → LeadsTo old x ts → (front : List ℕ) → IsLongestFront (x ++ piece) front
+      → AreSettled (λ z. triples_of (meaning_for old z).0) front (ts ++ goes.given)
 
 -- the piece has this fault, however the text goes on
 abbrev pub IsRefused : TurtleReader → List ℕ → Refusal → Type 0

@@ -7,9 +7,8 @@ ghost use Rattle.gs_lex.specs.Lexemes.{lexemes_of};
 ghost use Rattle.gs_turtle.specs.Documents.{ended_by};
 ghost use Rattle.gs_turtle.specs.Portions.{Takes, Concludes, TellsBehind, refusal_of, end_of};
 
-use gs_document::Fault;
 use gs_lex::Token;
-use gs_model::Refusal;
+use gs_model::{Fault, Refusal};
 use gs_parse::Parser;
 use gs_term::Triple;
 use std::alloc::AllocError;
@@ -29,13 +28,13 @@ fn take_tokens(
     Ok(())
 }
 
-/// The refusal that tells of a fault.
+/// The refusal that reports a fault.
 fn refusal(parser: &Parser, fault: Fault) -> Refusal
     ensures { result ≡ refusal_of parser.now.last fault }
 {
     match fault {
-        Fault::Broken => Refusal::Syntax(parser.last),
-        Fault::Long => Refusal::TermTooLong,
+        Fault::Syntax => Refusal::Syntax(parser.last),
+        Fault::TermTooLong => Refusal::TermTooLong,
     }
 }
 
@@ -76,7 +75,7 @@ pub fn conclude(
 /// Tokens after which stands something that is none: the first fault of all.
 pub fn break_off(parser: &mut Parser, tokens: &[Token], triples: &mut Vec<Triple>) -> Refusal
     ensures kept { Begins triples.new.items triples.old.items }
-    ensures fault { (n : ℕ) → TellsBehind parser.old.last result (ended_by (lexer.Fault n) (end_of parser.old (lexemes_of tokens.now))) }
+    ensures fault { (n : ℕ) → TellsBehind parser.old.last result (ended_by (lexer.AtFault n) (end_of parser.old (lexemes_of tokens.now))) }
 {
     match conclude(parser, tokens, triples) {
         Ok(()) => Refusal::Syntax(parser.last),

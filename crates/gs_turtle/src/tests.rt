@@ -36,7 +36,7 @@ const STATED: [[&str; 3]; 5] = [
 ];
 
 /// Texts with a fault.
-const FAULTS: [(&str, Refusal); 8] = [
+const FAULTS: [(&str, Refusal); 11] = [
     ("<s> <p> <o> . <s> <p> .", Refusal::Syntax(13)),
     ("<s> <p> <o> . <s> <p> ~", Refusal::Syntax(13)),
     ("<s> <p> <o> . <s> <p> <o>", Refusal::Syntax(13)),
@@ -45,6 +45,11 @@ const FAULTS: [(&str, Refusal); 8] = [
     ("<s> <p> \"", Refusal::Syntax(0)),
     ("@prefix p: <d/> . p:s ~ <o>", Refusal::Syntax(17)),
     ("<s> <p> <o> . BASE <d/> <s> .", Refusal::Syntax(23)),
+    // A byte order mark is a character that may begin a prefix; before anything else it is a word
+    // that the grammar does not have.
+    ("\u{FEFF}<s> <p> <o> .", Refusal::Syntax(0)),
+    ("\u{FEFF}@prefix e: <d/> .", Refusal::Syntax(0)),
+    ("\u{FEFF}e:s <p> <o> .", Refusal::Syntax(0)),
 ];
 
 /// What a reader under the base `http://b/` in request 3 gives of a text in pieces of so many bytes.
@@ -90,11 +95,19 @@ fn a_document_in_any_pieces_states_its_triples(rt: HostRuntime) -> Result<(), Fa
 }
 
 #[test]
-fn the_first_fault_of_a_text_is_told(rt: HostRuntime) -> Result<(), Fail> {
+fn the_first_fault_of_a_text_is_reported(rt: HostRuntime) -> Result<(), Fail> {
     expect_faults(&rt, rt.alloc(), 1);
     expect_faults(&rt, rt.alloc(), 2);
     expect_faults(&rt, rt.alloc(), 3);
     expect_faults(&rt, rt.alloc(), 1000);
+    Ok(())
+}
+
+#[test]
+fn a_byte_order_mark_may_begin_a_prefix(rt: HostRuntime) -> Result<(), Fail> {
+    let text = "PREFIX \u{FEFF}e: <http://e/> \u{FEFF}e:s \u{FEFF}e:p \u{FEFF}e:o .";
+    assert_eq!(rt; read(rt.alloc(), text, 1)?.len(), 1);
+    assert_eq!(rt; read(rt.alloc(), text, 1000)?.len(), 1);
     Ok(())
 }
 

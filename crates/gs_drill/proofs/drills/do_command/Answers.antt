@@ -57,7 +57,7 @@ returns-else-not-takes g c = λ st.
     let does = c.do_feed in
     let seat = c.in-Feed.seat in
     let language = c.in-Feed.language in
-    let within = c.if-not-takes.ensures.same refl st.fed st.bodies in
+    let within = c.if-not-takes.ensures.same refl st.fed st.texts in
     let done : Desk → State = λ d. record { begun = true; cut = does.new.uploads.cut; desk = d } in
     let P : Command → Type 0 = λ k. DoesCommand s k {T = Standing does.new.store does.new.uploads} (state_of true) (held c.args.out.now) (held does.new.out) does.result in
     let X : List ℕ → Type 0 = λ y. Replies {T = Standing does.new.store does.new.uploads} desk_of (Feeds s.desk seat language y) (held c.args.out.now) (held does.new.out) does.result in
@@ -71,7 +71,7 @@ returns-in-Cut g c = λ st.
     let P : Command → Type 0 = λ k. Does s k [] (record { begun = true; cut = c.in-Cut.length; desk = s.desk }) in
     record {
       text = [];
-      last = record { fed = st.fed; openings = st.openings; bodies = st.bodies; even = st.even };
+      last = record { fed = st.fed; openings = st.openings; texts = st.texts; even = st.even };
       makes = subst P (sym c.in-Cut.is) (refl, refl);
       written = Appends-none (g.W.Write.contents c.args.out.now);
     }

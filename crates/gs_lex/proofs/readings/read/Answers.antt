@@ -1,7 +1,7 @@
 use Rattle.std.proofs.Common.{sym, subst, drop}
 use Rattle.gs_lex.specs.Readings.{Went, Grows, IsRead, IsWithin}
 use Rattle.gs_lex.specs.declared.steps.Reading.{Reading}
-use Rattle.gs_lex.proofs.ReadLemmas.{went-nothing, grows-nothing, went-found, went-passed, within-passed, within-behind, grows-more}
+use Rattle.gs_lex.proofs.ReadLemmas.{went-nothing, grows-nothing, went-found, went-passed, within-passed, within-found, grows-more}
 use Rattle.gs_lex.proofs.readings.read.Goals as goal
 
 pub steps-init : goal.steps-init
@@ -21,8 +21,8 @@ steps-preserved c =
       went : IsRead c.args.is_end c.args.from (drop c.args.from.cut x) → Went c.args.is_end x c.args.from r c.args.tokens.now.items c.add_token.new.tokens.items;
       kept : Grows c.args.tokens.now.items c.add_token.new.tokens.items;
     } in
-    subst P (sym c.behind-at.ensures) (record {
-      within = within-behind c.steps.at x c.in-Found.count c.in-Found.barren h.within m.0;
+    subst P (sym c.found-at.ensures) (record {
+      within = within-found c.steps.at x c.in-Found.count c.in-Found.barren h.within m.0;
       went = λ g. let w = h.went g in
           went-found c.args.is_end x c.args.from c.steps.at c.args.tokens.now.items c.steps.tokens.items c.add_token.new.tokens.items c.in-Found.kind c.in-Found.count c.in-Found.barren h.within.cut w
           (c.in-Found.ensures.fits w.read) c.in_ok-add_token-in-Found.ensures.ok;

@@ -1,7 +1,8 @@
-use Rattle.std.proofs.Common.{◌≡◌, arith, subst, sym, ap, ◌∙◌, drop, ◌++◌}
+use Rattle.std.proofs.Common.{◌≡◌, arith, subst, sym, ap, ◌∙◌, drop}
 use Rattle.gs_lex.specs.Scans.{IsScanned}
 use Rattle.gs_lex.specs.declared.scans.Scan.{Scan}
 use Rattle.gs_lex.proofs.ScanLemmas.{scan-on, scan-within, scan-barren, ended-stuck, not-ended, nothing-left, stuck-barren, stuck-character, stuck-bad, stuck-nothing}
+use Rattle.gs_lex.proofs.BecomeLemmas.{becomes-bad, short-begins}
 use Rattle.gs_lex.proofs.scans.read_on.Goals as goal
 use Rattle.gs_lex.proofs.scans.read_on.Goals.{in-WordDots, in_default}
 use Rattle.gs_lex.specs.declared.states.State.TheVariants as at
@@ -22,16 +23,16 @@ loop-scan-preserved c =
     }
 
 pub returns-in-None-clause-stuck : goal.returns-in-None-clause-stuck
-returns-in-None-clause-stuck c is_end u h b y m = stuck-barren u _ _ (stuck-character c.loop-scan.scan.state c.in-Character.c c.in-Character.size (drop c.loop-scan.scan.len c.args.text.now) c.in-Character.ensures (sym c.in-None.ensures) y)
+returns-in-None-clause-stuck c is_end u h b z m = stuck-barren u _ _ (stuck-character is_end c.loop-scan.scan.state c.in-Character.c c.in-Character.size (drop c.loop-scan.scan.len c.args.text.now) c.in-Character.ensures (sym c.in-None.ensures) z m)
 
 pub returns-clause-stuck : goal.returns-clause-stuck
 returns-clause-stuck c is_end u h b = ended-stuck is_end u c.is_ended-is_done.result c.loop-scan.scan.state (drop c.loop-scan.scan.len c.args.text.now) c.is_ended-is_done.ensures (stuck-barren u _ _ (stuck-nothing c.loop-scan.scan.state c.loop-scan.scan.len c.args.text.now (omega arith)))
 
 pub returns-in-Bad-clause-stuck : goal.returns-in-Bad-clause-stuck
-returns-in-Bad-clause-stuck c is_end u h b y m = stuck-barren u _ _ (stuck-bad c.loop-scan.scan.state (drop c.loop-scan.scan.len c.args.text.now ++ y) (c.in-Bad.ensures y))
+returns-in-Bad-clause-stuck c is_end u h b z m = stuck-barren u _ _ (stuck-bad c.loop-scan.scan.state z (becomes-bad is_end (drop c.loop-scan.scan.len c.args.text.now) z c.in-Bad.ensures m))
 
 pub returns-in-Short-clause-stuck : goal.returns-in-Short-clause-stuck
-returns-in-Short-clause-stuck c is_end u h b = ended-stuck is_end u c.is_ended.result c.loop-scan.scan.state (drop c.loop-scan.scan.len c.args.text.now) c.is_ended.ensures (stuck-barren u _ _ (stuck-bad c.loop-scan.scan.state (drop c.loop-scan.scan.len c.args.text.now) c.in-Short.ensures))
+returns-in-Short-clause-stuck c is_end u h b = ended-stuck is_end u c.is_ended.result c.loop-scan.scan.state (drop c.loop-scan.scan.len c.args.text.now) c.is_ended.ensures (stuck-barren u _ _ (stuck-bad c.loop-scan.scan.state (drop c.loop-scan.scan.len c.args.text.now) (short-begins (drop c.loop-scan.scan.len c.args.text.now) c.in-Short.ensures)))
 
 pub returns-clause-open_ : goal.returns-clause-open_
 returns-clause-open_ c e =
@@ -41,6 +42,6 @@ pub returns-in-Short-clause-open_ : goal.returns-in-Short-clause-open_
 returns-in-Short-clause-open_ c e = (c.in-Short.ensures, not-ended c.is_ended.result c.loop-scan.scan.state c.is_ended.ensures e)
 
 pub returns-then-matches-clause-stuck : goal.returns-then-matches-clause-stuck
-returns-then-matches-clause-stuck c is_end u h b y m =
+returns-then-matches-clause-stuck c is_end u h b z m =
     let dots : c.loop-scan.scan.state ≡ at.WordDots = elim c.match-matches.branch [ in-WordDots w ↦ w.in-WordDots.is | in_default w ↦ absurd (Prim.cc (sym w.matches-is ∙ c.if-matches.true)) ] in
-    scan-barren is_end u c.args.text.now c.loop-scan.scan c.args.barren (c.loop-scan.invariant.scanned u h) b dots (omega arith) y m
+    scan-barren is_end u c.args.text.now c.loop-scan.scan c.args.barren (c.loop-scan.invariant.scanned u h) b dots (omega arith) z m

@@ -1,7 +1,7 @@
 use Rattle.std.proofs.Common.{◌≡◌, ◌∙◌, ap, sym, subst, Result}
 use Rattle.std.specs.Prelude.{IfOk, option_map, string_bytes}
 use Rattle.gs_model.specs.Terms.{Term}
-use Rattle.gs_document.specs.declared.faults.Fault.{Fault}
+use Rattle.gs_model.specs.declared.faults.Fault.{Fault}
 use Rattle.gs_parse.proofs.ContextLemmas.{simple_is}
 use Rattle.gs_parse.proofs.terms.simple.Goals as goal
 

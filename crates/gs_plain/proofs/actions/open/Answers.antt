@@ -11,6 +11,7 @@ returns-clause-acts c =
       fits = search rules;
       totals = search rules;
       seat = search rules;
+      pin = search rules;
       known = search rules;
       rows = rw c.reserve.ensures.items (same_rows c.args.books.now.rows.items);
       counted = search rules;

@@ -1,27 +1,17 @@
 use Rattle.std.proofs.Common.{◌≡◌, false, arith, refl, sym, ap, ◌∙◌}
-use Rattle.gs_model.specs.Graphs.{empty_graph}
 use Rattle.gs_event.specs.Datasets.{triples_in, names_in, with_graph}
-use Rattle.gs_event.proofs.DatasetLemmas.{triples_in-with_graph, names_in-with_graph}
+use Rattle.gs_event.proofs.DatasetLemmas.{triples_in-with_graph}
 use Rattle.gs_plain.specs.declared.books.Row.{Row}
 use Rattle.gs_plain.specs.Books.{dataset_of}
 use Rattle.gs_plain.proofs.RowLemmas.{dataset_push}
-use Rattle.gs_plain.proofs.WriteLemmas.{few_names, rows_push}
+use Rattle.gs_plain.proofs.WriteLemmas.{rows_push}
 use Rattle.gs_plain.proofs.books.put_version.Goals as goal
-
-pub names_with-names-requires-clause-fits : goal.names_with-names-requires-clause-fits
-names_with-names-requires-clause-fits c =
-    let m = dataset_of c.args.books.now.rows.items in
-    let same : names_in (with_graph m c.args.target empty_graph) ≡ names_in (with_graph m c.args.target c.args.graph) = names_in-with_graph m c.args.target empty_graph ∙ sym (names_in-with_graph m c.args.target c.args.graph) in
-    let few = few_names c.args.books.now.limits (with_graph m c.args.target c.args.graph) c.requires.within in
-    omega (arith, same, few, c.requires.counted.limit)
 
 pub returns : goal.returns
 returns c =
     let m = dataset_of c.args.books.now.rows.items in
     let row : Row = record { target = c.args.target; graph = c.args.graph; ended = false } in
     let pushed : dataset_of c.push_reserved.new.self.items ≡ with_graph m c.args.target c.args.graph = ap dataset_of c.push_reserved.ensures.items ∙ dataset_push c.args.books.now.rows.items row in
-    let triples : c.triples_with-triples.result ≡ triples_in (with_graph m c.args.target c.args.graph) = c.triples_with-triples.ensures c.args.graph (sym c.len.ensures) in
-    let names : c.names_with-names.result ≡ names_in (with_graph m c.args.target c.args.graph) = c.names_with-names.ensures c.args.graph in
     record {
       dataset = pushed;
       kept = record {
@@ -33,8 +23,8 @@ returns c =
         limits = refl;
         room = c.push_reserved.ensures.capacity;
       };
-      triples = triples ∙ sym (ap triples_in pushed);
-      moved = omega (arith, triples, triples_in-with_graph m c.args.target c.args.graph, c.requires.counted.triples);
-      names = names ∙ sym (ap names_in pushed);
+      triples = c.requires.triples ∙ sym (ap triples_in pushed);
+      moved = omega (arith, c.requires.triples, triples_in-with_graph m c.args.target c.args.graph, c.requires.counted.triples);
+      names = c.requires.names ∙ sym (ap names_in pushed);
       one_more = c.push_reserved.ensures.len;
     }

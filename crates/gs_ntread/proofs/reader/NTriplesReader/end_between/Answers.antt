@@ -27,7 +27,7 @@ returns-in-None-clause-fault c =
     let f : Ending = ending_of c.in_ok-parts.end in
     let e : rest (stating s.request) (q, s.numbering) [] ≡ ([], f) = end-none s.request q s.numbering f (ap (λ o. (given o, f)) (sym c.in-None.is) ∙ c.in_ok-parts.ensures) in
     if_err c.conclude.result (λ r. ConcludesAs r s.last f) (λ r. FaultyEnd r s.last (rest (stating s.request) (q, s.numbering) []))
-    (λ r h. concluded r s.last s.last f _ (ap (λ (t : Meaning). t.1) e) (ap (λ (t : Meaning). end_after s.last t.0) (sym e)) h) c.conclude.ensures.fault
+    (λ r h. concluded r s.last s.last f (rest (stating s.request) (q, s.numbering) []) (ap (λ (t : Meaning). t.1) e) (ap (λ (t : Meaning). end_after s.last t.0) (sym e)) h) c.conclude.ensures.fault
 
 pub returns-in_ok-give-in-Some-clause-ok : goal.returns-in_ok-give-in-Some-clause-ok
 returns-in_ok-give-in-Some-clause-ok c =
@@ -48,4 +48,4 @@ returns-in_ok-give-in-Some-clause-fault c =
     let w = sentence_of c.in-Some.parts in
     let e : rest (stating s.request) (q, s.numbering) [] ≡ ((stated s.request s.numbering w).1, f) = end-some s.request q s.numbering f w (ap (λ o. (given o, f)) (sym c.in-Some.is) ∙ c.in_ok-parts.ensures) in
     if_err c.conclude-in-Some.result (λ r. ConcludesAs r c.give.new.self.last f) (λ r. FaultyEnd r s.last (rest (stating s.request) (q, s.numbering) []))
-    (λ r h. concluded r s.last c.give.new.self.last f _ (ap (λ (t : Meaning). t.1) e) (c.in_ok-give-in-Some.ensures.ok.last ∙ ap (λ (t : Meaning). end_after s.last t.0) (sym e)) h) c.conclude-in-Some.ensures.fault
+    (λ r h. concluded r s.last c.give.new.self.last f (rest (stating s.request) (q, s.numbering) []) (ap (λ (t : Meaning). t.1) e) (c.in_ok-give-in-Some.ensures.ok.last ∙ ap (λ (t : Meaning). end_after s.last t.0) (sym e)) h) c.conclude-in-Some.ensures.fault

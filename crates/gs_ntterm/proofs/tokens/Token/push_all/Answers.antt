@@ -1,6 +1,4 @@
-use Rattle.std.proofs.Common.{◌++◌, ap, ◌∙◌, cond, string_bytes, arith}
-use Rattle.std.specs.Prelude.{is_ok}
-use Rattle.std.proofs.lemmas.Str.{IsUtf8-from_ascii}
+use Rattle.std.proofs.Common.{ap, ◌∙◌, string_bytes, arith}
 use Rattle.gs_ntterm.specs.Forms.{form_after}
 use Rattle.gs_ntterm.specs.declared.forms.Form.{Form}
 use Rattle.gs_ntterm.proofs.RunLemmas.{joined-still_long, joined-too_long, joined-fits}
@@ -14,12 +12,9 @@ returns-then-bytes-room c =
     joined-too_long _ _ _ _ (string_bytes c.args.self.now.text) _ c.args.bytes.now c.if-self.false c.let_go.ensures.long
     (c.after-self-then-bytes-room.ensures ∙ ap (λ (f : Form). form_after f c.args.bytes.now) c.let_go.ensures.form) (omega arith) (omega arith)
 
-pub from_utf8_unchecked-requires : goal.from_utf8_unchecked-requires
-from_utf8_unchecked-requires c = IsUtf8-from_ascii c.args.bytes.now c.requires
-
 pub returns : goal.returns
 returns c =
     let s = c.args.self.now in
     let t = string_bytes s.text in
-    joined-fits c.push_str.result s.is_long s.form t c.args.bytes.now (string_bytes c.push_str.new.self) c.if-self.false (λ some. omega arith)
-    (c.push_str.ensures.bytes ∙ ap (λ z. cond (is_ok c.push_str.result) (t ++ z) t) c.from_utf8_unchecked.ensures)
+    joined-fits c.push_ascii.result s.is_long s.form t c.args.bytes.now (string_bytes c.push_ascii.new.text) c.if-self.false (λ some. omega arith)
+    c.push_ascii.ensures

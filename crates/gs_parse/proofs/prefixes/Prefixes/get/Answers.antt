@@ -1,7 +1,7 @@
 use Rattle.std.proofs.Common.{ap, sym, ◌∙◌, Some}
 use Rattle.std.specs.Prelude.{option_map, option_copied, string_bytes}
 use Rattle.std.specs.FinMap as finite
-use Rattle.gs_document.specs.Prefixes.{Prefixes}
+use Rattle.gs_triples.specs.Prefixes.{Prefixes}
 use Rattle.gs_parse.proofs.PrefixLemmas.{get-texts}
 use Rattle.gs_parse.proofs.prefixes.Prefixes.get.Goals as goal
 

@@ -1,7 +1,7 @@
 use Rattle.std.proofs.Common.{◌≡◌, ℕ, List, ap, ◌∙◌, string_bytes}
 use Rattle.std.specs.FinMap as finite
 use Rattle.std.proofs.lemmas.Result.{IfOk-at_ok}
-use Rattle.gs_document.specs.Prefixes.{Prefixes}
+use Rattle.gs_triples.specs.Prefixes.{Prefixes}
 use Rattle.gs_parse.specs.Prefixes.{texts_of}
 use Rattle.gs_parse.proofs.PrefixLemmas.{texts-insert}
 use Rattle.gs_parse.proofs.prefixes.Prefixes.insert.Goals as goal

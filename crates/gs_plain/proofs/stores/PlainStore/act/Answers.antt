@@ -4,6 +4,7 @@ use Rattle.gs_plain.specs.declared.stores.PlainStore.TheInside.{Inside}
 use Rattle.gs_plain.specs.Books.{KeepsRoom}
 use Rattle.gs_event.specs.Waste.{Shown}
 use Rattle.gs_plain.proofs.KeptLemmas.{kept_after, fits_after, next_after}
+use Rattle.gs_plain.proofs.PinLemmas.{pins_after, pins_kept}
 use Rattle.gs_plain.proofs.stores.PlainStore.act.Goals as goal
 
 pub invariant_of-self : goal.invariant_of-self
@@ -24,3 +25,8 @@ returns-clause-view c =
     let within : c.args.seat < length c.self.inside.seats.items = omega arith in
     let new : Inside = record { alloc = c.self.inside.alloc; books = c.act.new.books; seats = with_item c.self.inside.seats c.args.seat c.act.new.seat } in
     next_after c.self.inside new c.args.self.now.view c.args.seat c.index_mut-held.result.now c.act.new.seat c.args.action.now c.act.result (ap (λ (s : Shown). s.view) c.self.view_is) within c.index_mut-held.ensures.value refl c.act.ensures.acts c.self.invariant.known
+
+pub returns-clause-pinned : goal.returns-clause-pinned
+returns-clause-pinned c =
+    let within : c.args.seat < length c.self.inside.seats.items = omega arith in
+    pins_after c.self.inside c.args.self.now (with_item c.self.inside.seats c.args.seat c.act.new.seat).items c.args.seat c.index_mut-held.result.now c.act.new.seat c.args.action.now c.act.result c.self.view_is within c.index_mut-held.ensures.value refl c.act.ensures.acts.pin

@@ -24,7 +24,7 @@ pub returns-in-Ok-clause-fault : goal.returns-in-Ok-clause-fault
 returns-in-Ok-clause-fault c =
     let a = c.args.self.now in
     IfErr-weaker c.conclude.result _ _
-    (λ e told. refused-at-end e a lexer.Whole c.clear.new.self.items c.finish.new.tokens.items c.clear.ensures.items (λ x ts l. (c.in-Ok.ensures.ok false x ts l).0)
+    (λ e told. refused-at-end e a lexer.AtEnd c.clear.new.self.items c.finish.new.tokens.items c.clear.ensures.items (λ x ts l. (c.in-Ok.ensures.ok false x ts l).0)
     (subst (λ (z : List Token). TellsBehind a.parser.last e (end_of a.parser (lexemes_of z))) c.deref.ensures.value told))
     c.conclude.ensures.fault
 
@@ -34,11 +34,11 @@ returns-in-Err-Syntax-clause-fault c =
     let old = c.clear.new.self.items in
     let new = c.finish.new.tokens.items in
     let at = c.in-Err-Syntax.field-0-0 in
-    refused-at-end c.break_off.result a (lexer.Fault at) old new c.clear.ensures.items
+    refused-at-end c.break_off.result a (lexer.AtFault at) old new c.clear.ensures.items
     (λ x ts l. subst (FinishRefused false x ts old new) c.in-Err-Syntax.field-0-is (c.in-Err-Syntax.ensures.fault false x ts l))
-    (subst (λ (z : List Token). TellsBehind a.parser.last c.break_off.result (ended_by (lexer.Fault at) (end_of a.parser (lexemes_of z)))) c.deref-in-Err-Syntax.ensures.value (c.break_off.ensures.fault at))
+    (subst (λ (z : List Token). TellsBehind a.parser.last c.break_off.result (ended_by (lexer.AtFault at) (end_of a.parser (lexemes_of z)))) c.deref-in-Err-Syntax.ensures.value (c.break_off.ensures.fault at))
 
 pub returns-in-Err-Syntax-clause-told : goal.returns-in-Err-Syntax-clause-told
 returns-in-Err-Syntax-clause-told c =
     let p = c.args.self.now.parser in
-    tells-open c.break_off.result p.last (ended_by (lexer.Fault 0) (end_of p (lexemes_of c.deref-in-Err-Syntax.result.now))) (c.break_off.ensures.fault 0)
+    tells-open c.break_off.result p.last (ended_by (lexer.AtFault 0) (end_of p (lexemes_of c.deref-in-Err-Syntax.result.now))) (c.break_off.ensures.fault 0)

@@ -40,9 +40,9 @@ returns-in-Err-Syntax-clause-fault c =
     let new = c.feed.new.tokens.items in
     broken-portion c.break_off.result a c.args.portion.now old new c.in-Err-Syntax.field-0-0 c.clear.ensures.items
     (λ u x ts l. subst (FeedRefused u (x ++ c.args.portion.now) ts old new) c.in-Err-Syntax.field-0-is (c.in-Err-Syntax.ensures.fault u x ts l))
-    (λ n. subst (λ (z : List Token). TellsBehind a.parser.last c.break_off.result (ended_by (lexer.Fault n) (end_of a.parser (lexemes_of z)))) c.deref-in-Err-Syntax.ensures.value (c.break_off.ensures.fault n))
+    (λ n. subst (λ (z : List Token). TellsBehind a.parser.last c.break_off.result (ended_by (lexer.AtFault n) (end_of a.parser (lexemes_of z)))) c.deref-in-Err-Syntax.ensures.value (c.break_off.ensures.fault n))
 
 pub returns-in-Err-Syntax-clause-told : goal.returns-in-Err-Syntax-clause-told
 returns-in-Err-Syntax-clause-told c =
     let p = c.args.self.now.parser in
-    tells-open c.break_off.result p.last (ended_by (lexer.Fault 0) (end_of p (lexemes_of c.deref-in-Err-Syntax.result.now))) (c.break_off.ensures.fault 0)
+    tells-open c.break_off.result p.last (ended_by (lexer.AtFault 0) (end_of p (lexemes_of c.deref-in-Err-Syntax.result.now))) (c.break_off.ensures.fault 0)

@@ -1,0 +1,60 @@
+-- One step of a store: what an event that was answered so makes of what it shows, its pins and its waste.
+use Rattle.std.specs.Prelude.{◌≡◌, ◌≢◌, ◌⊎◌, ◌↔◌, ℕ, ◌+◌, Bool, true, false, if◌then◌else◌, nat_eq, min, IsTrue, List, [], length, Option, Some, None}
+use Rattle.std.specs.List.{sum_by, slice_index_or, slice_set, All}
+use Rattle.gs_event.specs.declared.events.Action.{Action}
+use Rattle.gs_event.specs.declared.events.Action.TheVariants.{Commit, Delete, Pin, Piece, Cancel}
+use Rattle.gs_event.specs.declared.events.Event.{Event}
+use Rattle.gs_event.specs.declared.events.Event.TheVariants.{Seat as At, Reclaim}
+use Rattle.gs_event.specs.declared.answers.Answer.{Answer}
+use Rattle.gs_event.specs.declared.answers.Answer.TheVariants.{Status, Pinned, Lines, Cancelled, Reclaimed}
+use Rattle.gs_event.specs.Views.{Fits, next_view, is_written}
+use Rattle.gs_event.specs.Waste.{Lifetime, Shown, is_needed, unneeded}
+
+-- a seat's pin after an answer, at the last commit number: a read begins with one and ends without
+abbrev pub pin_after : ℕ → Option ℕ → Action → Answer → Option ℕ
+pin_after commit p (Pin t) (Pinned s) = if nat_eq s 200 then Some commit else p
+pin_after commit p (Piece n) (Lines b end) = if end then None else p
+pin_after commit p Cancel Cancelled = None
+pin_after commit p action a = p
+
+-- the next pins, by seat: what an answer leaves
+abbrev pub next_pinned : Shown → Event → Answer → List (Option ℕ)
+next_pinned old (Reclaim n) a = old.pinned
+next_pinned old (At s action) a =
+    slice_set old.pinned s (pin_after old.view.totals.commit (slice_index_or old.pinned s None) action a)
+
+-- the node ends with the commit that the answer speaks of, or no version has it
+abbrev pub EndsNow : ℕ → Answer → Lifetime → Type 0
+EndsNow commit a l = (l.death ≡ 0) ⊎ ((is_written a ≡ true) × (l.death ≡ commit + 1))
+
+-- nodes are added to the waste, and none is taken out; its order means nothing
+pub record Adds (commit : ℕ) (a : Answer) (old new : List Lifetime) : Type 0 where
+  pub more : List Lifetime
+  pub same : (f : Lifetime → ℕ) → sum_by f new ≡ sum_by f old + sum_by f more
+  pub ended : All (EndsNow commit a) more
+
+-- as many nodes as may be are taken out of the waste, none that a pinned version has, and nothing else;
+-- its order means nothing
+pub record Frees (pins : List (Option ℕ)) (n freed : ℕ) (left : Bool) (old new : List Lifetime) : Type 0 where
+  pub exact : freed ≡ min n (unneeded pins old)
+  pub gone : List Lifetime
+  pub many : length gone ≡ freed
+  pub same : (f : Lifetime → ℕ) → sum_by f new + sum_by f gone ≡ sum_by f old
+  pub none_needed : All (λ l. is_needed pins l ≡ false) gone
+  pub left_is : IsTrue left ↔ (new ≢ [])
+
+-- what an event that was answered so makes of the waste
+abbrev pub Wastes : Shown → Event → Answer → List Lifetime → Type 0
+Wastes old (Reclaim n) (Reclaimed freed left) new = Frees old.pinned n freed left old.waste new
+Wastes old (At s Commit) (Status status name) new = Adds old.view.totals.commit (Status status name) old.waste new
+Wastes old (At s (Delete t)) (Status status name) new = Adds old.view.totals.commit (Status status name) old.waste new
+Wastes old (At s Cancel) Cancelled new = Adds old.view.totals.commit Cancelled old.waste new
+Wastes old (At s action) a new = new ≡ old.waste
+Wastes old (Reclaim n) a new = ⊥
+
+-- the answer fits, and the values before and after it are those of one step
+pub record Steps (old : Shown) (e : Event) (a : Answer) (new : Shown) : Type 0 where
+  pub fits : Fits old.view e a
+  pub view : new.view ≡ next_view old.view e a
+  pub pinned : new.pinned ≡ next_pinned old e a
+  pub waste : Wastes old e a new.waste

@@ -1,0 +1,98 @@
+//! Schedules, worked by hand.
+
+/// A worked schedule: its name, its lines and what they print.
+pub type Row = (&'static str, &'static str, &'static str);
+
+pub const ROWS: [Row; 19] = [
+    ("an empty input", "", ""),
+    (
+        "a missing graph and the default graph",
+        "0 pin <http://e/g>\n0 pin default\n0 piece 1\n",
+        "404\n200\nend\n",
+    ),
+    (
+        "a graph is put, read and put again",
+        "0 open put <http://e/g>\n0 stage <http://e/s> <http://e/p> \"2\" .\n0 stage <http://e/s> <http://e/p> \"1\" .\n0 commit\n0 pin <http://e/g>\n0 piece 5\n0 open put <http://e/g>\n0 commit\n0 pin <http://e/g>\n0 piece 5\n",
+        "opened 1\nstaged\nstaged\n201\n200\n<http://e/s> <http://e/p> \"1\" .\n<http://e/s> <http://e/p> \"2\" .\nend\nopened 2\n204\n200\nend\n",
+    ),
+    (
+        "an upload shows nothing before its commit",
+        "0 open put default\n0 stage <http://e/s> <http://e/p> \"1\" .\n1 pin default\n1 piece 9\n0 stage <http://e/s> <http://e/p> \"2\" .\n0 commit\n1 pin default\n1 piece 9\n",
+        "opened 1\nstaged\n200\nend\nstaged\n204\n200\n<http://e/s> <http://e/p> \"1\" .\n<http://e/s> <http://e/p> \"2\" .\nend\n",
+    ),
+    (
+        "a read keeps its lines while the graph is put again",
+        "0 open put <http://e/g>\n0 stage <http://e/s> <http://e/p> \"1\" .\n0 stage <http://e/s> <http://e/p> \"2\" .\n0 commit\n1 pin <http://e/g>\n1 piece 1\n0 open put <http://e/g>\n0 commit\n1 piece 1\n1 pin <http://e/g>\n1 piece 1\nreclaim 7\ncounts\n",
+        "opened 1\nstaged\nstaged\n201\n200\n<http://e/s> <http://e/p> \"1\" .\nmore\nopened 2\n204\n<http://e/s> <http://e/p> \"2\" .\nend\n200\nend\nreclaimed 0 done\nnodes 0 triples 0\n",
+    ),
+    (
+        "senseless events are refused and change nothing",
+        "0 open put <http://e/g>\n0 stage <http://e/s> <http://e/p> \"1\" .\n0 pin default\n0 commit\n1 pin <http://e/g>\n1 piece 0\n1 piece 3\n1 piece 3\n0 cancel\n9 cancel\n",
+        "opened 1\nstaged\nrefused WrongPhase\n201\n200\nrefused WrongPhase\n<http://e/s> <http://e/p> \"1\" .\nend\nrefused WrongPhase\nrefused WrongPhase\nrefused BadSeat\n",
+    ),
+    (
+        "a cancelled upload leaves no change and keeps its number",
+        "0 open put default\n0 stage <http://e/s> <http://e/p> \"1\" .\n0 cancel\n1 pin default\n1 piece 1\n0 open put default\n0 commit\ncounts\n",
+        "opened 1\nstaged\ncancelled\n200\nend\nopened 2\n204\nnodes 0 triples 0\n",
+    ),
+    (
+        "three versions of four triples",
+        "0 open put <http://e/g>\n0 stage <http://e/s> <http://e/p> \"1\" .\n0 stage <http://e/s> <http://e/p> \"2\" .\n0 stage <http://e/s> <http://e/p> \"3\" .\n0 stage <http://e/s> <http://e/p> \"4\" .\n0 commit\n0 open put <http://e/g>\n0 stage <http://e/s> <http://e/p> \"1\" .\n0 stage <http://e/s> <http://e/p> \"2\" .\n0 stage <http://e/s> <http://e/p> \"3\" .\n0 stage <http://e/s> <http://e/p> \"4\" .\n0 commit\n0 open put <http://e/g>\n0 stage <http://e/s> <http://e/p> \"1\" .\n0 stage <http://e/s> <http://e/p> \"2\" .\n0 stage <http://e/s> <http://e/p> \"3\" .\n0 stage <http://e/s> <http://e/p> \"4\" .\n0 commit\ncounts\nreclaim 5\nreclaim 5\ncounts\n",
+        "opened 1\nstaged\nstaged\nstaged\nstaged\n201\nopened 2\nstaged\nstaged\nstaged\nstaged\n204\nopened 3\nstaged\nstaged\nstaged\nstaged\n204\nnodes 4 triples 4\nreclaimed 0 done\nreclaimed 0 done\nnodes 4 triples 4\n",
+    ),
+    (
+        "the last numbers are given out",
+        "store 4 999999999999999999 999999999999999998\n0 open put default\n0 commit\n0 cancel\n0 open put default\n0 pin default\n0 piece 1\n",
+        "opened 999999999999999999\nrefused LastNumber\ncancelled\nrefused LastNumber\n200\nend\n",
+    ),
+    (
+        "a deleted graph is still read by those who pinned it",
+        "0 open post <http://e/g>\n0 stage <http://e/s> <http://e/p> \"1\" .\n0 stage <http://e/s> <http://e/p> \"2\" .\n0 stage <http://e/s> <http://e/p> \"3\" .\n0 commit\n1 pin <http://e/g>\n1 piece 1\n0 delete <http://e/g>\n1 piece 1\n1 piece 1\n1 pin <http://e/g>\n0 delete <http://e/g>\n",
+        "opened 1\nstaged\nstaged\nstaged\n201\n200\n<http://e/s> <http://e/p> \"1\" .\nmore\n204\n<http://e/s> <http://e/p> \"2\" .\nmore\n<http://e/s> <http://e/p> \"3\" .\nend\n404\n404\n",
+    ),
+    (
+        "an ended read and an absent seat",
+        "0 open post <http://e/g>\n0 stage <http://e/s> <http://e/p> \"1\" .\n0 stage <http://e/s> <http://e/p> \"2\" .\n0 stage <http://e/s> <http://e/p> \"3\" .\n0 commit\n1 pin <http://e/g>\n1 piece 3\n1 piece 3\n0 cancel\n9 cancel\n",
+        "opened 1\nstaged\nstaged\nstaged\n201\n200\n<http://e/s> <http://e/p> \"1\" .\n<http://e/s> <http://e/p> \"2\" .\n<http://e/s> <http://e/p> \"3\" .\nend\nrefused WrongPhase\nrefused WrongPhase\nrefused BadSeat\n",
+    ),
+    (
+        "an open upload counts, and a replaced graph does not",
+        "0 open put <http://e/g>\n0 stage <http://e/s> <http://e/p> \"1\" .\n0 stage <http://e/s> <http://e/p> \"2\" .\n0 commit\n1 pin <http://e/g>\n0 open put <http://e/g>\n0 stage <http://e/s> <http://e/p> \"3\" .\n0 commit\nreclaim 1000\n2 open post default\n2 stage <http://e/s> <http://e/p> \"4\" .\n2 stage <http://e/s> <http://e/p> \"5\" .\n1 piece 1\n1 piece 9\ncounts\nreclaim 1000\ncounts\n",
+        "opened 1\nstaged\nstaged\n201\n200\nopened 2\nstaged\n204\nreclaimed 0 done\nopened 3\nstaged\nstaged\n<http://e/s> <http://e/p> \"1\" .\nmore\n<http://e/s> <http://e/p> \"2\" .\nend\nnodes 3 triples 1\nreclaimed 0 done\nnodes 3 triples 1\n",
+    ),
+    (
+        "a new graph gets a name of its request",
+        "0 open put default\n0 stage <http://e/s> <http://e/p> \"1\" .\n0 cancel\n0 open new\n0 commit\n",
+        "opened 1\nstaged\ncancelled\nopened 2\n201 http://localhost/graphs/n2-0\n",
+    ),
+    (
+        "a new graph gets the least name that is free",
+        "0 open put <http://localhost/graphs/n2-0>\n0 commit\n0 open new\n0 commit\n",
+        "opened 1\n201\nopened 2\n201 http://localhost/graphs/n2-1\n",
+    ),
+    (
+        "no write is taken after the last commit, and a missing graph is missing",
+        "store 4 999999999999999999 0\n0 open put default\n0 commit\n0 cancel\n0 pin default\n0 piece 1\n0 delete <http://e/g>\n",
+        "opened 1\nrefused LastNumber\ncancelled\n200\nend\n404\n",
+    ),
+    (
+        "no upload is opened after the last request",
+        "store 4 0 999999999999999999\n0 open put <http://e/g>\n0 delete <http://e/g>\n",
+        "refused LastNumber\n404\n",
+    ),
+    (
+        "a post adds, also to a graph that it makes",
+        "0 head <http://e/g>\n0 open post <http://e/g>\n0 commit\n0 head <http://e/g>\n0 open post <http://e/g>\n0 stage <http://e/s> <http://e/p> \"2\" .\n0 commit\n0 open post <http://e/g>\n0 stage <http://e/s> <http://e/p> \"1\" .\n0 stage <http://e/s> <http://e/p> \"2\" .\n0 commit\n0 pin <http://e/g>\n0 piece 9\ncounts\n",
+        "404\nopened 1\n201\n200\nopened 2\nstaged\n204\nopened 3\nstaged\nstaged\n204\n200\n<http://e/s> <http://e/p> \"1\" .\n<http://e/s> <http://e/p> \"2\" .\nend\nnodes 2 triples 2\n",
+    ),
+    (
+        "a deleted default graph is empty and still there",
+        "0 open put default\n0 stage <http://e/s> <http://e/p> \"1\" .\n0 commit\n1 pin default\n0 delete default\n0 head default\n0 pin default\n0 piece 1\n1 piece 1\n0 delete default\ncounts\n",
+        "opened 1\nstaged\n204\n200\n204\n200\n200\nend\n<http://e/s> <http://e/p> \"1\" .\nend\n204\nnodes 0 triples 0\n",
+    ),
+    (
+        "a graph is deleted under a read, and another gets a new name",
+        "0 open post <http://e/g>\n0 stage <http://e/s> <http://e/p> \"1\" .\n0 commit\n1 pin <http://e/g>\n0 delete <http://e/g>\n1 piece 9\n1 pin <http://e/g>\n0 delete <http://e/g>\n0 open new\n0 commit\n",
+        "opened 1\nstaged\n201\n200\n204\n<http://e/s> <http://e/p> \"1\" .\nend\n404\n404\nopened 2\n201 http://localhost/graphs/n2-0\n",
+    ),
+];

@@ -1,0 +1,7 @@
+//! Tests of characters and terms: the ends of ranges, canonical texts, the longest terms and terms of wrong form.
+#![tactic(auto)]
+
+#[cfg(test)]
+mod characters;
+#[cfg(test)]
+mod terms;

@@ -1,0 +1,5 @@
+//! Tests of tokens: each terminal of Turtle and of updates.
+#![tactic(auto)]
+
+#[cfg(test)]
+mod tokens;

@@ -1,0 +1,80 @@
+-- What the grammar of Turtle (25 February 2014, section 6.5) sees of a token: its terminal, and its text where that is open.
+use Rattle.std.specs.Prelude.{ℕ, if◌then◌else◌, List, ◌++◌, codes, map}
+use Rattle.std.specs.Str.{is_utf8}
+use Rattle.gs_lex.specs.Tokens.{Lexeme}
+use Rattle.gs_lex.specs.declared.kinds.TokenKind.{TokenKind}
+use Rattle.gs_lex.specs.declared.kinds.TokenKind.TheVariants as kind
+
+-- a token that is a term by itself: [18] IRIREF, [139s] PNAME_NS, [140s] PNAME_LN, [141s] BLANK_NODE_LABEL; or a number
+-- or a boolean, with its datatype
+pub data TermToken : Type 0 where
+  -- with the number of bytes up to its end, since it may end a directive
+  Reference : (text : List ℕ) (end : ℕ) → TermToken
+  Namespace : (text : List ℕ) → TermToken
+  Name : (text : List ℕ) → TermToken
+  Label : (text : List ℕ) → TermToken
+  Plain : (lexical datatype : List ℕ) → TermToken
+
+-- a terminal, with what it leaves open
+pub data Symbol : Type 0 where
+  AWord : TermToken → Symbol
+  -- [17] String
+  Text : (text : List ℕ) → Symbol
+  -- [144s] LANGTAG, '@prefix' or '@base'
+  At : (text : List ℕ) → Symbol
+  Carets : Symbol
+  -- 'a'
+  A : Symbol
+  Open : Symbol
+  Close : Symbol
+  OpenList : Symbol
+  CloseList : Symbol
+  Semicolon : Symbol
+  Comma : Symbol
+  -- '.', with the number of bytes up to its end
+  Dot : (end : ℕ) → Symbol
+  PrefixWord : Symbol
+  BaseWord : Symbol
+  -- what stands in updates alone
+  Foreign : Symbol
+
+-- a name of the XML Schema datatypes
+abbrev pub xsd : List ℕ → List ℕ
+xsd name = codes "http://www.w3.org/2001/XMLSchema#" ++ name
+
+-- 2.5.2, 2.5.3: numbers and booleans have the lexical form that is written
+abbrev pub symbol : TokenKind → List ℕ → ℕ → Symbol
+symbol kind.IriRef x n = AWord (Reference x n)
+symbol kind.PnameNs x n = AWord (Namespace x)
+symbol kind.PnameLn x n = AWord (Name x)
+symbol kind.BlankNodeLabel x n = AWord (Label x)
+symbol kind.Integer x n = AWord (Plain x (xsd (codes "integer")))
+symbol kind.Decimal x n = AWord (Plain x (xsd (codes "decimal")))
+symbol kind.Double x n = AWord (Plain x (xsd (codes "double")))
+symbol kind.True x n = AWord (Plain (codes "true") (xsd (codes "boolean")))
+symbol kind.False x n = AWord (Plain (codes "false") (xsd (codes "boolean")))
+symbol kind.StringLiteralQuote x n = Text x
+symbol kind.StringLiteralSingleQuote x n = Text x
+symbol kind.StringLiteralLongQuote x n = Text x
+symbol kind.StringLiteralLongSingleQuote x n = Text x
+symbol kind.LangTag x n = At x
+symbol kind.Carets x n = Carets
+symbol kind.A x n = A
+symbol kind.OpenBracket x n = Open
+symbol kind.CloseBracket x n = Close
+symbol kind.OpenParenthesis x n = OpenList
+symbol kind.CloseParenthesis x n = CloseList
+symbol kind.Semicolon x n = Semicolon
+symbol kind.Comma x n = Comma
+symbol kind.Dot x n = Dot n
+symbol kind.Prefix x n = PrefixWord
+symbol kind.Base x n = BaseWord
+symbol _ x n = Foreign
+
+-- the symbol of a token, whose text is UTF-8
+abbrev pub symbol_of : Lexeme → Symbol
+symbol_of t = if is_utf8 t.text then symbol t.kind t.text t.«end» else Foreign
+
+-- the symbols of a text's tokens
+abbrev pub symbols_of : List Lexeme → List Symbol
+symbols_of ts = map symbol_of ts

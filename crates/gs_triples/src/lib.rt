@@ -1,0 +1,6 @@
+//! Triples in Turtle and in updates: what they mean.
+#![tactic(auto)]
+
+mod laws;
+
+pub use laws::{machine_reads_triples, triples_are_covered, triples_are_read};

@@ -1,0 +1,75 @@
+-- A reader of one language does what it does as a reader of either.
+use Rattle.std.proofs.Common.{◌≡◌, ℕ, List, ◌++◌, sym, subst, string_bytes, Result}
+use Rattle.std.specs.Prelude.{OnOk, IfErr}
+use Rattle.std.proofs.lemmas.Result.{on_ok_weaker}
+use Rattle.gs_model.specs.Triples.{RdfTriple}
+use Rattle.gs_model.specs.declared.refusals.Refusal.{Refusal}
+use Rattle.gs_body.specs.Bodies.{Meaning, Reports}
+use Rattle.gs_body.specs.Feeding.{Feeds, Finishes}
+use Rattle.gs_ntread.specs.Documents.{meaning_by as ntriples_meaning}
+use Rattle.gs_ntread.specs.Readers.{LeadsTo as NTriplesLeads}
+use Rattle.gs_ntread.specs.declared.reader.NTriplesReader.{NTriplesReader}
+use Rattle.gs_turtle.specs.Documents.{meaning_by as turtle_meaning}
+use Rattle.gs_turtle.specs.Readers.{LeadsTo as TurtleLeads}
+use Rattle.gs_turtle.specs.declared.readers.TurtleReader.{TurtleReader}
+use Rattle.gs_upload.specs.declared.readers.TextReader.{TextReader}
+use Rattle.gs_upload.specs.declared.readers.TextReader.TheVariants.{NTriples, Turtle}
+use Rattle.gs_upload.specs.Readers.{meaning_of_text, LeadsText}
+
+-- what a call tells of a text that goes on, or ends
+abbrev pub FaultOn : {R : Type 0} → (R → List ℕ → Meaning) → (R → List ℕ → List RdfTriple → Type 0) → R → List ℕ → Refusal → Type 0
+FaultOn meaning_of Leads r piece e = (x : List ℕ) (ts : List RdfTriple) → Leads r x ts → (y : List ℕ) → Reports e (meaning_of r (x ++ piece ++ y))
+
+abbrev pub FaultEnd : {R : Type 0} → (R → List ℕ → Meaning) → (R → List ℕ → List RdfTriple → Type 0) → R → Refusal → Type 0
+FaultEnd meaning_of Leads r e = (x : List ℕ) (ts : List RdfTriple) → Leads r x ts → Reports e (meaning_of r x)
+
+-- what each reader's `impl` of the trait has
+abbrev pub ntriples_text : NTriplesReader → List ℕ → Meaning
+ntriples_text r x = ntriples_meaning r.request x
+
+abbrev pub turtle_text : TurtleReader → List ℕ → Meaning
+turtle_text r x = turtle_meaning (string_bytes r.base) r.request x
+
+-- a piece is fed to a reader of N-Triples
+pub ntriples_feeds : (o : Result (Unit {0}) Refusal) (k : TextReader) (r n : NTriplesReader) (piece : List ℕ) (before after : List RdfTriple) → k ≡ NTriples r
+    → OnOk o (Feeds ntriples_text NTriplesLeads r n piece before after) → OnOk o (Feeds meaning_of_text LeadsText k (NTriples n) piece before after)
+ntriples_feeds o k r n piece before after is h =
+    let P : TextReader → Type 0 = λ z. OnOk o (Feeds meaning_of_text LeadsText z (NTriples n) piece before after) in
+    subst P (sym is) (on_ok_weaker o (λ f. record { given = f.given; grown = f.grown; leads = f.leads; begun = f.begun; settled = f.settled }) h)
+
+pub ntriples_faults : (o : Result (Unit {0}) Refusal) (k : TextReader) (r : NTriplesReader) (piece : List ℕ) → k ≡ NTriples r
+    → IfErr o (FaultOn ntriples_text NTriplesLeads r piece) → IfErr o (FaultOn meaning_of_text LeadsText k piece)
+ntriples_faults o k r piece is h = let P : TextReader → Type 0 = λ z. IfErr o (FaultOn meaning_of_text LeadsText z piece) in subst P (sym is) h
+
+-- and its text ends
+pub ntriples_finishes : (o : Result (Unit {0}) Refusal) (k : TextReader) (r : NTriplesReader) (before after : List RdfTriple) → k ≡ NTriples r
+    → OnOk o (Finishes ntriples_text NTriplesLeads r before after) → OnOk o (Finishes meaning_of_text LeadsText k before after)
+ntriples_finishes o k r before after is h =
+    let P : TextReader → Type 0 = λ z. OnOk o (Finishes meaning_of_text LeadsText z before after) in
+    subst P (sym is) (on_ok_weaker o (λ f. record { given = f.given; grown = f.grown; whole = f.whole; all = f.all }) h)
+
+pub ntriples_end_faults : (o : Result (Unit {0}) Refusal) (k : TextReader) (r : NTriplesReader) → k ≡ NTriples r
+    → IfErr o (FaultEnd ntriples_text NTriplesLeads r) → IfErr o (FaultEnd meaning_of_text LeadsText k)
+ntriples_end_faults o k r is h = let P : TextReader → Type 0 = λ z. IfErr o (FaultEnd meaning_of_text LeadsText z) in subst P (sym is) h
+
+-- a piece is fed to a reader of Turtle
+pub turtle_feeds : (o : Result (Unit {0}) Refusal) (k : TextReader) (r n : TurtleReader) (piece : List ℕ) (before after : List RdfTriple) → k ≡ Turtle r
+    → OnOk o (Feeds turtle_text TurtleLeads r n piece before after) → OnOk o (Feeds meaning_of_text LeadsText k (Turtle n) piece before after)
+turtle_feeds o k r n piece before after is h =
+    let P : TextReader → Type 0 = λ z. OnOk o (Feeds meaning_of_text LeadsText z (Turtle n) piece before after) in
+    subst P (sym is) (on_ok_weaker o (λ f. record { given = f.given; grown = f.grown; leads = f.leads; begun = f.begun; settled = f.settled }) h)
+
+pub turtle_faults : (o : Result (Unit {0}) Refusal) (k : TextReader) (r : TurtleReader) (piece : List ℕ) → k ≡ Turtle r
+    → IfErr o (FaultOn turtle_text TurtleLeads r piece) → IfErr o (FaultOn meaning_of_text LeadsText k piece)
+turtle_faults o k r piece is h = let P : TextReader → Type 0 = λ z. IfErr o (FaultOn meaning_of_text LeadsText z piece) in subst P (sym is) h
+
+-- and its text ends
+pub turtle_finishes : (o : Result (Unit {0}) Refusal) (k : TextReader) (r : TurtleReader) (before after : List RdfTriple) → k ≡ Turtle r
+    → OnOk o (Finishes turtle_text TurtleLeads r before after) → OnOk o (Finishes meaning_of_text LeadsText k before after)
+turtle_finishes o k r before after is h =
+    let P : TextReader → Type 0 = λ z. OnOk o (Finishes meaning_of_text LeadsText z before after) in
+    subst P (sym is) (on_ok_weaker o (λ f. record { given = f.given; grown = f.grown; whole = f.whole; all = f.all }) h)
+
+pub turtle_end_faults : (o : Result (Unit {0}) Refusal) (k : TextReader) (r : TurtleReader) → k ≡ Turtle r
+    → IfErr o (FaultEnd turtle_text TurtleLeads r) → IfErr o (FaultEnd meaning_of_text LeadsText k)
+turtle_end_faults o k r is h = let P : TextReader → Type 0 = λ z. IfErr o (FaultEnd meaning_of_text LeadsText z) in subst P (sym is) h

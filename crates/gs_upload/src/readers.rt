@@ -1,0 +1,66 @@
+//! A reader of either language.
+ghost use Rattle.std.specs.Prelude.{◌≡◌, [], ℕ, List, false, true, IfOk};
+ghost use Rattle.gs_model.specs.Iris.{is_absolute};
+ghost use Rattle.gs_upload.specs.Languages.{meaning_in};
+
+use crate::languages::Language;
+use gs_body::BodyReader;
+use gs_model::Refusal;
+use gs_ntread::NTriplesReader;
+use gs_term::Triple;
+use gs_turtle::TurtleReader;
+use std::alloc::{AllocError, Global};
+
+/// A reader of a body in one of the languages.
+#[derive(Drop)]
+pub enum TextReader {
+    /// A reader of N-Triples.
+    NTriples(NTriplesReader),
+    /// A reader of Turtle.
+    Turtle(TurtleReader),
+}
+
+impl TextReader {
+    /// A reader at the start of the body of the request of this number. `gs_iri::is_absolute` tests
+    /// a base.
+    pub fn new(
+        alloc: Global,
+        language: Language,
+        request: u64,
+        base: &str,
+    ) -> Result<TextReader, AllocError>
+        requires { is_absolute base.now ≡ true }
+        ensures fresh { IfOk result (λ r. ⟦<TextReader as BodyReader>⟧.Leads r [] []) }
+        ensures unread { IfOk result (λ r. ⟦<TextReader as BodyReader>⟧.is_closed r ≡ false) }
+        ensures meaning_of { IfOk result (λ r. (x : List ℕ) → ⟦<TextReader as BodyReader>⟧.meaning_of r x ≡ meaning_in language base.now request x) }
+    {
+        match language {
+            Language::NTriples => Ok(TextReader::NTriples(NTriplesReader::new(alloc, request))),
+            Language::Turtle => Ok(TextReader::Turtle(TurtleReader::new(alloc, request, base)?)),
+        }
+    }
+}
+
+impl BodyReader for TextReader {
+    ghost use Rattle.gs_upload.specs.Readers.{meaning_of_text, LeadsText, is_closed_text};
+
+    ghost meaning_of = { λ r x. meaning_of_text r x };
+
+    ghost Leads = { λ r x ts. LeadsText r x ts };
+
+    ghost is_closed = { λ r. is_closed_text r };
+
+    fn feed(&mut self, piece: &[u8], triples: &mut Vec<Triple>) -> Result<(), Refusal> {
+        match self {
+            TextReader::NTriples(reader) => reader.feed(piece, triples),
+            TextReader::Turtle(reader) => reader.feed(piece, triples),
+        }
+    }
+
+    fn finish(&mut self, triples: &mut Vec<Triple>) -> Result<(), Refusal> {
+        match self {
+            TextReader::NTriples(reader) => reader.finish(triples),
+            TextReader::Turtle(reader) => reader.finish(triples),
+        }
+    }
+}
