@@ -26,7 +26,8 @@ pub trait BodyReader {
 
     /// Takes the next piece, and appends the triples of the statements that are complete now: those
     /// that every text has that begins with the longest front of the text so far that ends between
-    /// two characters. A character that the piece cuts keeps none back.
+    /// two characters. A statement that only the first bytes of the next character would complete is
+    /// given once that character ends.
     fn feed(&mut self, piece: &[u8], triples: &mut Vec<Triple>) -> Result<(), Refusal>
         ensures given { OnOk result (Feeds meaning_of Leads self.old self.new piece.now triples.old.items triples.new.items) }
         // The text has that fault, however it goes on.

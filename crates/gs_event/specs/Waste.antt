@@ -6,7 +6,7 @@ use Rattle.gs_event.specs.Datasets.{triples_in}
 use Rattle.gs_event.specs.Phases.{Phase, Idle, Writing, Reading}
 use Rattle.gs_event.specs.Views.{View, SeatView}
 
--- a node that no current graph and no open upload has: the versions v with birth ≤ v < death have it
+-- a node that no current graph and no open upload has: no versions but those v with birth ≤ v < death have it
 pub record Lifetime : Type 0 where
   pub birth : ℕ
   pub death : ℕ

@@ -1,4 +1,4 @@
-//! Triples in Turtle and in updates: what they mean.
+//! The triples of Turtle, which updates are to share: what they mean.
 #![tactic(auto)]
 
 mod laws;
