@@ -21,6 +21,7 @@ pub data Ending : Type 0 where
 abbrev pub Meaning : Type 0
 Meaning = List Statement × Ending
 
+-- all triples that these statements state, in their order
 abbrev pub triples_of : List Statement → List RdfTriple
 triples_of ss = flat_map (λ s. s.triples) ss
 

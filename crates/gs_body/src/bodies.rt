@@ -9,8 +9,8 @@ use gs_term::Triple;
 /// A reader of a body that comes in pieces, cut anywhere, also inside a character or a token.
 ///
 /// After a refusal the list is as it was before the call, and every later call answers `Closed`.
-/// Where no call was refused for memory, a fault is told by `finish` at the latest, with the kind
-/// and the place of the first fault of the whole text, for every cutting.
+/// Where no call was refused for memory, a fault is reported by `finish` at the latest, with the
+/// kind and the place of the first fault of the whole text, for every cutting.
 pub trait BodyReader {
     ghost use Rattle.gs_body.specs.Bodies.{Reports};
     ghost use Rattle.gs_body.specs.Feeding.{Feeds, Finishes};

@@ -26,7 +26,7 @@ use Rattle.gs_document.specs.States.{Turn, Between, InPrefix, InPrefixIri, InBas
 use Rattle.gs_document.specs.Machine.{set, conclude, over, step, ended, turtle}
 use Rattle.gs_document.proofs.DocumentLemmas.{statements_nil}
 
--- what is told of the rest, from a turn
+-- what is reported of the rest, from a turn
 abbrev pub told : Turn → List Symbol → Meaning
 told u ts = joined u.1 (rest turtle u.0 ts)
 
@@ -35,11 +35,11 @@ unfolding rest step ended triples_machine.step triples_machine.ended
 lost_rest e [] = refl
 lost_rest e (t ∷ ts) = lost_rest e ts
 
--- what is told of shorter texts is known
+-- what is reported of shorter texts is known
 abbrev Known : ℕ → Type 0
 Known f = (env : Context) (n : Numbers) (us : List Symbol) → length us ≤ f → rest turtle (Between env n) us ≡ statements_at f env n us
 
--- what is told after triples
+-- what is reported after triples
 abbrev told_after : Context → List RdfTriple → Numbers → List Symbol → Meaning
 told_after env T n [] = ([], Faulty Syntax)
 told_after env T n (t ∷ ts) = told (conclude t env T n) ts
@@ -49,7 +49,7 @@ abbrev concluded : Result Done Fault → Meaning
 concluded (Err e) = ([], Faulty e)
 concluded (Ok d) = told_after d.context d.triples d.numbers d.rest
 
--- within triples the machine tells what theirs reads
+-- within triples the machine reports what theirs reads
 within_turn : (t : Symbol) (ts : List Symbol) (u : triples.Turn) → ((s : triples.State) → rest turtle (Within s) ts ≡ concluded (run ts s))
     → told (over t u) ts ≡ concluded (taken (run ts) (t ∷ ts) u)
 within_turn t ts (Goes s) again = again s
@@ -172,6 +172,6 @@ between (suc f) env n (BaseWord ∷ ts) h = base_word f env n ts (between f) (om
 between (suc f) env n (AWord w ∷ ts) h = triples_rest f env n (AWord w) ts (between f) (omega arith)
 between (suc f) env n (t ∷ ts) h = triples_rest f env n t ts (between f) (omega arith)
 
--- the machine tells of a document what the program says
+-- the machine reports of a document what the program says
 pub machine_tells : (b : List ℕ) (r : ℕ) (ts : List Lexeme) → rest turtle (Between (start b r) no_numbers) (symbols_of ts) ≡ document b r ts
 machine_tells b r ts = between (length ts) (start b r) no_numbers (symbols_of ts) (omega (arith, length-map ts symbol_of))

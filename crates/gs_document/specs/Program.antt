@@ -18,7 +18,7 @@ pub record Told : Type 0 where
   pub numbers : Numbers
   pub rest : List Symbol
 
--- what a statement tells, where its context is right
+-- what a statement gives, where its context is right
 abbrev pub told : List Statement → Numbers → List Symbol → Option Context → Result Told Fault
 told S n ts None = Err Syntax
 told S n ts (Some env) = Ok (record { stated = S; context = env; numbers = n; rest = ts })

@@ -23,7 +23,7 @@ pub fn document_has_one_meaning()
     ensures { (base : List ℕ) (request : ℕ) (ts : List Lexeme) (triples others : List Statement) → IsDocument base request ts triples → IsDocument base request ts others → triples ≡ others }
 {}
 
-/// The machine that takes symbol by symbol tells of a list of tokens what the plain program says:
+/// The machine that takes symbol by symbol reports of a list of tokens what the plain program says:
 /// the statements before the first fault, and which fault that is.
 pub fn machine_tells_the_document()
     ensures { (base : List ℕ) (request : ℕ) (ts : List Lexeme) → rest turtle (Between (start base request) no_numbers) (symbols_of ts) ≡ document base request ts }

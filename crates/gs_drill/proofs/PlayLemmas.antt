@@ -26,7 +26,7 @@ does_by at s command done Makes old new (Err NoCommand) does replies = absurd re
 does_by at s command done Makes old new (Err NoMemory) does replies = replies
 does_by at s command done Makes old new (Err Failed) does replies = record { text = replies.text; last = done replies.last; makes = does replies.text replies.last replies.makes; written = replies.written }
 
--- the same where a text is told that does not depend on the desk
+-- the same where a text is given that does not depend on the desk
 pub told_by : {T D X : Type 0} (at : T → D) (last : T) (Makes : List ℕ → D → Type 0) (told : List ℕ) (old new : Option (List ℕ)) (r : Result X Stop)
     → Makes told (at last) → Replies (λ (d : Unit {0}). d) (λ text d. text ≡ told) old new r → Replies at Makes old new r
 told_by at last Makes told old new (Ok x) makes replies = let P : List ℕ → Type 0 = λ z. Makes z (at last) in record { text = replies.text; last = last; makes = subst P (sym replies.makes) makes; written = replies.written }

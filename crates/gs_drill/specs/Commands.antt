@@ -19,6 +19,7 @@ use Rattle.gs_upload.specs.declared.languages.Language.{Language}
 use Rattle.gs_upload.specs.declared.languages.Language.TheVariants.{NTriples, Turtle}
 use Rattle.gs_drill.specs.Found.{SaysNumber}
 
+-- a character at the front of the first line, or as the only line where there is none
 abbrev pub before_first : ℕ → List (List ℕ) → List (List ℕ)
 before_first c [] = (c ∷ []) ∷ []
 before_first c (x ∷ xs) = (c ∷ x) ∷ xs

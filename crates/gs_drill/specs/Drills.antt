@@ -66,10 +66,11 @@ IsLate s Count = ⊥
 IsLate s (Feed seat l y) = ¬ IsIn l (s.desk.fed seat)
 IsLate s (Cut n) = ⊥
 
+-- each command that the line says, if it says one, is late in this state
 abbrev pub IsNoCommand : State → List ℕ → Type 0
 IsNoCommand s line = (command : Command) → Says command line → IsLate s command
 
--- the input is what a reader had left, if it tells
+-- the input is what a reader had left, if it reports that
 abbrev pub IsRead : Option (List ℕ) → List ℕ → Type 0
 IsRead None input = Unit {0}
 IsRead (Some bytes) input = input ≡ bytes

@@ -42,10 +42,11 @@ reply_text Fault = fault_text
 abbrev pub counts_text : ℕ → ℕ → List ℕ
 counts_text nodes triples = codes "nodes " ++ numeral nodes ++ (codes " triples " ++ numeral triples) ++ 10 ∷ []
 
--- what is said of a line that is no command, and of want of memory
+-- what is said of a line that is no command
 abbrev pub no_command_text : ℕ → List ℕ
 no_command_text line = codes "gsdrill: line " ++ numeral line ++ codes " is no command" ++ 10 ∷ []
 
+-- what is said of want of memory
 abbrev pub no_memory_text : List ℕ
 no_memory_text = codes "gsdrill: no memory" ++ 10 ∷ []
 

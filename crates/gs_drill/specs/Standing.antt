@@ -79,10 +79,11 @@ pub record Standing (shown : Shown) (u : Uploads) : Type 0 where
   pub texts : AreFed u.texts.items fed
   pub even : length u.texts.items ≡ length u.openings.items
 
--- the desk, and the state of the run, at which the code so stands
+-- the desk at which the code so stands
 abbrev pub desk_of : {shown : Shown} {u : Uploads} → Standing shown u → Desk
 desk_of {shown} st = record { shown = shown; fed = st.fed }
 
+-- the state of the run with that desk and the code's cut, for this `begun`
 abbrev pub state_of : Bool → {shown : Shown} {u : Uploads} → Standing shown u → State
 state_of begun {shown} {u} st = record { begun = begun; cut = u.cut; desk = record { shown = shown; fed = st.fed } }
 

@@ -71,6 +71,7 @@ EndsBy given old new NoCommand n = Stops given n old new
 EndsBy given old new NoMemory n = Halts given old new
 EndsBy given old new Failed n = Breaks given old new
 
+-- a run of lines finishes, or it ends by the reason that stopped it
 abbrev pub Ends : Option (List ℕ) → Option (List ℕ) → Option (List ℕ) → {X : Type 0} → Result X (Stop × ℕ) → Type 0
 Ends given old new (Ok x) = Finishes given old new
 Ends given old new (Err e) = EndsBy given old new e.0 e.1

@@ -14,18 +14,22 @@ use Rattle.gs_event.specs.Phases.{Idle, Writing, Reading}
 use Rattle.gs_event.specs.Views.{View, SeatView}
 use Rattle.gs_event.specs.Waste.{Lifetime, Shown}
 
+-- the name of a target; the default graph has none
 abbrev pub name_of : Target → Option (List ℕ)
 name_of Default = None
 name_of (Named n) = Some n
 
+-- the target of this name, or the default graph where there is none
 abbrev pub target_from : Option (List ℕ) → Target
 target_from None = Default
 target_from (Some n) = Named n
 
+-- the target made of a target's name is that target
 abbrev pub target_back : (t : Target) → target_from (name_of t) ≡ t
 target_back Default = refl
 target_back (Named n) = refl
 
+-- how a target is stored: by its name, if it has one
 abbrev pub target_code : Coded Target
 target_code = code_by (Option (List ℕ)) (coded_option text_code) name_of target_from target_back
 
@@ -35,19 +39,23 @@ kind_parts (Put t) = Some (inl t)
 kind_parts (Post t) = Some (inr t)
 kind_parts New = None
 
+-- a PUT or a POST with this target, or the kind that has none
 abbrev pub kind_from : Option (Target ⊎ Target) → UploadKind
 kind_from (Some (inl t)) = Put t
 kind_from (Some (inr t)) = Post t
 kind_from None = New
 
+-- the kind made of a kind's parts is that kind
 abbrev pub kind_back : (k : UploadKind) → kind_from (kind_parts k) ≡ k
 kind_back (Put t) = refl
 kind_back (Post t) = refl
 kind_back New = refl
 
+-- how a kind of upload is stored: a PUT's target or a POST's target, or neither
 abbrev pub kind_code : Coded UploadKind
 kind_code = code_by (Option (Target ⊎ Target)) (coded_option (coded⊎ target_code target_code)) kind_parts kind_from kind_back
 
+-- how a setting is stored: its base, and its limits of triples and of names
 abbrev pub setting_code : Coded Setting
 setting_code =
     code_by (List ℕ × (ℕ × ℕ)) (coded× text_code (coded× coded_ℕ coded_ℕ))
@@ -55,30 +63,37 @@ setting_code =
     (λ p. record { base = p.0; limits = record { triples = p.1.0; names = p.1.1 } })
     (λ _. refl)
 
+-- an upload's kind, request and graph, or the lines that are left of a read, or neither
 abbrev pub Parts : Type 0
 Parts = Option ((UploadKind × (ℕ × Graph)) ⊎ List (List ℕ))
 
+-- the parts of a seat; an idle one has none
 abbrev pub seat_parts : SeatView → Parts
 seat_parts Idle = None
 seat_parts (Writing k r g) = Some (inl (k, (r, g)))
 seat_parts (Reading left) = Some (inr left)
 
+-- the seat of these parts
 abbrev pub seat_from : Parts → SeatView
 seat_from None = Idle
 seat_from (Some (inl p)) = Writing p.0 p.1.0 p.1.1
 seat_from (Some (inr left)) = Reading left
 
+-- the seat made of a seat's parts is that seat
 abbrev pub seat_back : (s : SeatView) → seat_from (seat_parts s) ≡ s
 seat_back Idle = refl
 seat_back (Writing k r g) = refl
 seat_back (Reading left) = refl
 
+-- how a seat is stored: by its parts
 abbrev pub seat_code : Coded SeatView
 seat_code = code_by Parts (coded_option (coded⊎ (coded× kind_code (coded× coded_ℕ graph_code)) (coded_list text_code))) seat_parts seat_from seat_back
 
+-- the setting, the default graph, the named graphs, the last request, the last commit, and the seats
 abbrev pub ViewParts : Type 0
 ViewParts = Setting × ((Graph × map.FinMap name_cmp Graph) × (ℕ × (ℕ × List SeatView)))
 
+-- how a view is stored: by those parts
 abbrev pub view_code : Coded View
 view_code =
     code_by ViewParts (coded× setting_code (coded× (coded× graph_code (map.code text_code graph_code)) (coded× coded_ℕ (coded× coded_ℕ (coded_list seat_code)))))
@@ -86,9 +101,11 @@ view_code =
     (λ p. record { totals = record { setting = p.0; dataset = record { unnamed = p.1.0.0; named = p.1.0.1 }; request = p.1.1.0; commit = p.1.1.1.0 }; seats = p.1.1.1.1 })
     (λ _. refl)
 
+-- how a lifetime is stored: its birth and its death
 abbrev pub lifetime_code : Coded Lifetime
 lifetime_code = code_by (ℕ × ℕ) (coded× coded_ℕ coded_ℕ) (λ l. (l.birth, l.death)) (λ p. record { birth = p.0; death = p.1 }) (λ _. refl)
 
+-- how what a store shows is stored: its view, the pins of its seats, and its waste
 abbrev pub shown_code : Coded Shown
 shown_code =
     code_by (View × (List (Option ℕ) × List Lifetime))

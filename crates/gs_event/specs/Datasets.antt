@@ -21,6 +21,7 @@ pub record Dataset : Type 0 where
   pub unnamed : Graph
   pub named : map.FinMap name_cmp Graph
 
+-- an empty default graph, and no graph with a name
 abbrev pub empty_dataset : Dataset
 empty_dataset = record { unnamed = empty_graph; named = map.empty }
 
@@ -29,6 +30,7 @@ abbrev pub graph_at : Dataset → Target → Option Graph
 graph_at m Default = Some m.unnamed
 graph_at m (Named name) = map.get m.named name
 
+-- whether the target has a graph; the default graph is always there
 abbrev pub is_there : Dataset → Target → Bool
 is_there m t = is_some (graph_at m t)
 
@@ -42,11 +44,12 @@ abbrev pub without_graph : Dataset → Target → Dataset
 without_graph m Default = record { unnamed = empty_graph; named = m.named }
 without_graph m (Named name) = record { unnamed = m.unnamed; named = map.remove m.named name }
 
--- the lines of a target's graph, none where it is missing
+-- the lines of a graph, none where it is missing
 abbrev pub lines_if : Option Graph → List (List ℕ)
 lines_if None = []
 lines_if (Some g) = lines_of g
 
+-- the lines of a target's graph, none where it is missing
 abbrev pub lines_at : Dataset → Target → List (List ℕ)
 lines_at m t = lines_if (graph_at m t)
 
@@ -63,6 +66,7 @@ pub record Setting : Type 0 where
   pub base : List ℕ
   pub limits : Limits
 
+-- whether a dataset has no more triples and no more names than the limits
 abbrev pub is_within : Limits → Dataset → Bool
 is_within limits m = nat_le (triples_in m) limits.triples && nat_le (names_in m) limits.names
 
@@ -98,6 +102,7 @@ pub data Operation : Type 0 where
 abbrev pub stored : Setting → Dataset → Target → Graph → Dataset
 stored w m t g = if is_within w.limits (with_graph m t g) then with_graph m t g else m
 
+-- the HTTP status of that: 204 over a graph, 201 where there was none, 507 beyond the limits
 abbrev pub stored_status : Setting → Dataset → Target → Graph → ℕ
 stored_status w m t g = if is_within w.limits (with_graph m t g) then (if is_there m t then 204 else 201) else 507
 

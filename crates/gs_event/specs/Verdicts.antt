@@ -36,6 +36,7 @@ verdict_of h p Removes =
     then granted_of h.commit 204 (h.triples - p.triples) (h.names - (if p.is_name then 1 else 0))
     else Missing
 
+-- whether the target is a named graph
 abbrev pub is_name : Target → Bool
 is_name Default = false
 is_name (Named n) = true

@@ -23,6 +23,7 @@ pub record Totals : Type 0 where
   pub request : ℕ
   pub commit : ℕ
 
+-- the totals, and the seats by their numbers
 pub record View : Type 0 where
   pub totals : Totals
   pub seats : List SeatView
@@ -62,6 +63,7 @@ Fits v (Reclaim n) (Reclaimed freed left) = Unit {0}
 Fits v (Reclaim n) a = ⊥
 Fits v (At s action) a = MatchOption (slice_get v.seats s) (a ≡ Refused BadSeat) (λ p. FitsSeat v.totals p action a)
 
+-- whether an upload was opened
 abbrev pub is_opened : Answer → Bool
 is_opened (Opened r) = true
 is_opened a = false
@@ -71,6 +73,7 @@ abbrev pub is_written : Answer → Bool
 is_written (Status s name) = is_success s
 is_written a = false
 
+-- the dataset after an operation, if there was one
 abbrev pub after_asked : Setting → Dataset → Option Operation → Dataset
 after_asked w m None = m
 after_asked w m (Some q) = after w m q

@@ -1,4 +1,4 @@
--- What a scan that went on from a word in vain tells of the words after it.
+-- What a scan that went on from a word in vain reports of the words after it.
 use Rattle.std.proofs.Math.Seq.{drop-append_seam}
 use Rattle.std.proofs.lemmas.Bool.{and_parts}
 use Rattle.std.proofs.Common.{◌≡◌, ◌≢◌, ℕ, ◌-◌, ◌<◌, ◌≤◌, max, Bool, true, false, cond, List, [], ◌∷◌, ◌++◌, refl, sym, ap, ◌∙◌, arith, subst, append_assoc, length, length-append, Option, Some, None, take, drop, encode_utf8_all, ◌⊎◌, inl, inr}

@@ -1,4 +1,4 @@
--- What a decoder tells of the front of bytes.
+-- What a decoder reports of the front of bytes.
 use Rattle.std.proofs.Common.{◌≡◌, ◌≢◌, ℕ, zero, suc, ◌+◌, ◌-◌, ◌*◌, ◌<◌, ◌≤◌, Bool, true, false, cond, List, [], ◌∷◌, ◌++◌, refl, sym, ap, ◌∙◌, inl, arith, subst, append_assoc, append-nil, length, take, drop, get_or}
 use Rattle.std.proofs.Math.ListN.{take-append-drop}
 use Rattle.std.proofs.str.Laws.{one}
@@ -43,7 +43,7 @@ quiet (Within n v low high) b =
     (quiet_if (nat_lt high b) _ _ (given Lost (bad ∷ []) refl) (quiet_on n (v * 64 + (b - 128))))
 quiet Lost b = silent Lost
 
--- what is told of a text that leads to a state
+-- what is reported of a text that leads to a state
 told_at : (x y : List ℕ) (s : Decoding) (os : List ℕ) → steps utf8 Ready x ≡ (s, os) → Spells (x ++ y) (os ++ (rest utf8 s y).0)
 told_at x y s os e =
     subst (Spells (x ++ y)) (ap (λ r. r.0) (rest-append utf8 Ready x y) ∙ ap (λ t. t.1 ++ (rest utf8 t.0 y).0) e) (walk Ready [] (x ++ y) ready)

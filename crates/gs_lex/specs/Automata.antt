@@ -13,9 +13,11 @@ run_from a q [] = q
 run_from a None (i ∷ is) = None
 run_from a (Some q) (i ∷ is) = run_from a (a.next q i) is
 
+-- where it stands after a text that it reads from its start
 abbrev pub run : {Q K I : Type 0} → Automaton Q K I → List I → Option Q
 run a x = run_from a (Some a.start) x
 
+-- the kind of the text that led there, if it is a token
 abbrev pub kind_at : {Q K I : Type 0} → Automaton Q K I → Option Q → Option K
 kind_at a None = None
 kind_at a (Some q) = a.accepts q
@@ -40,5 +42,6 @@ longest_from a None x = None
 longest_from a (Some q) [] = None
 longest_from a (Some q) (i ∷ is) = found_after i is (kind_at a (a.next q i)) (longest_from a (a.next q i) is)
 
+-- the longest token at the front of a text
 abbrev pub longest : {Q K I : Type 0} → Automaton Q K I → List I → Found K I
 longest a x = longest_from a (Some a.start) x

@@ -10,9 +10,11 @@ is_ws c = c == 32 || c == 9 || c == 13 || c == 10
 abbrev pub is_line_end : ℕ → Bool
 is_line_end c = c == 10 || c == 13
 
+-- '0' to '9'
 abbrev pub is_digit : ℕ → Bool
 is_digit c = nat_le 48 c && nat_le c 57
 
+-- '+' or '-'
 abbrev pub is_sign : ℕ → Bool
 is_sign c = c == 43 || c == 45
 
@@ -20,9 +22,11 @@ is_sign c = c == 43 || c == 45
 abbrev pub is_exponent : ℕ → Bool
 is_exponent c = c == 101 || c == 69
 
+-- 'A' to 'Z', or 'a' to 'z'
 abbrev pub is_alpha : ℕ → Bool
 is_alpha c = (nat_le 65 c && nat_le c 90) || (nat_le 97 c && nat_le c 122)
 
+-- one of those letters, or a digit
 abbrev pub is_alphanumeric : ℕ → Bool
 is_alphanumeric c = is_alpha c || is_digit c
 
@@ -44,6 +48,7 @@ is_local_escape c =
 abbrev pub is_base : ℕ → Bool
 is_base c = in_ranges pn_chars_base c
 
+-- [166s] PN_CHARS
 abbrev pub is_name : ℕ → Bool
 is_name c = in_ranges pn_chars c
 
@@ -55,6 +60,7 @@ is_label_start c = in_ranges pn_chars_u c || is_digit c
 abbrev pub is_local_start : ℕ → Bool
 is_local_start c = in_ranges pn_chars_u c || c == 58 || is_digit c
 
+-- [166s] PN_CHARS or ':', as [168s] PN_LOCAL has them after its first character
 abbrev pub is_local : ℕ → Bool
 is_local c = in_ranges pn_chars c || c == 58
 

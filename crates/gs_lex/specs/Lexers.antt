@@ -89,6 +89,7 @@ FeedRefused updates x ts old_list new_list NoMemory = Unit {0}
 FeedRefused updates x ts old_list new_list (Syntax at) = Breaks updates x ts at old_list new_list
 FeedRefused updates x ts old_list new_list _ = ⊥
 
+-- how `finish` is refused, where the lexer was open
 abbrev pub FinishRefused : Bool → List ℕ → List Lexeme → List Token → List Token → Refusal → Type 0
 FinishRefused updates x ts old_list new_list NoMemory = Unit {0}
 FinishRefused updates x ts old_list new_list (Syntax at) = Finishes updates x ts (AtFault at) old_list new_list

@@ -17,10 +17,12 @@ use Rattle.gs_lex.specs.declared.steps.Step.{Step}
 use Rattle.gs_lex.specs.declared.steps.Step.TheVariants as step
 use Rattle.gs_lex.specs.declared.tokens.Token.{Token}
 
+-- in a comment, or between tokens
 abbrev pub mode_of : Bool → Mode
 mode_of true = InComment
 mode_of false = Between
 
+-- 1 for true, 0 for false
 abbrev pub bit : Bool → ℕ
 bit true = 1
 bit false = 0
@@ -88,9 +90,11 @@ pub record IsWithin (r : Reading) (x : List ℕ) : Type 0 where
   pub scan : r.cut + r.scan.len ≤ length x
   pub best : r.scan.best_len ≤ r.scan.len
 
+-- the reading after so many bytes that are no part of a token
 abbrev pub passed_of : Reading → ℕ → Bool → Reading
 passed_of r count in_comment = record { updates = r.updates; in_comment = in_comment; cut = r.cut + count; place = place_after r.place count; last = r.last; barren = 0; scan = fresh r.updates }
 
+-- the reading after a token of so many bytes, where so many bytes after it are barren
 abbrev pub found_of : Reading → ℕ → ℕ → Reading
 found_of r count barren = record { updates = r.updates; in_comment = false; cut = r.cut + count; place = place_after r.place count; last = place_after r.place count; barren = barren; scan = fresh r.updates }
 

@@ -1,6 +1,7 @@
 -- Regular expressions over characters, as grammars write their terminals.
 use Rattle.std.specs.Prelude.{◌≡◌, ℕ, Bool, true, List, [], ◌∷◌, ◌++◌}
 
+-- no text, the empty text, a character of a set, one after another, one or another, and any number of one
 pub data Regex (S : Type 0) : Type 0 where
   Never : Regex S
   Empty : Regex S

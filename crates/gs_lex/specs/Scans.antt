@@ -9,6 +9,7 @@ use Rattle.gs_lex.specs.declared.states.State.{State}
 use Rattle.gs_lex.specs.declared.states.State.TheVariants as at
 use Rattle.gs_lex.specs.declared.scans.Scan.{Scan}
 
+-- the token of n bytes that ends here, if one does, and else the best one before
 abbrev pub best_after : Option Terminal → ℕ → Option Terminal × ℕ → Option Terminal × ℕ
 best_after None n b = b
 best_after (Some k) n b = (Some k, n)
@@ -17,6 +18,7 @@ best_after (Some k) n b = (Some k, n)
 abbrev pub onward_of : Scan → State → ℕ → Scan
 onward_of s p n = let b = best_after (accepts p) (s.len + n) (s.best, s.best_len) in record { state = p; len = s.len + n; best = b.0; best_len = b.1 }
 
+-- a scan that has read nothing
 abbrev pub fresh : Bool → Scan
 fresh updates = record { state = start_of updates; len = 0; best = None; best_len = 0 }
 

@@ -12,13 +12,13 @@ pub use Rattle.gs_lex.specs.Chars.{Chars, Less, Greater, Quote, Apostrophe, Back
 abbrev pub Pattern : Type 0
 Pattern = Regex Chars
 
--- one after the other
 infixr 6 ◌·◌
+-- one after the other
 abbrev pub ◌·◌ : Pattern → Pattern → Pattern
 r · s = Then r s
 
--- one or the other
 infixr 5 ◌∣◌
+-- one or the other
 abbrev pub ◌∣◌ : Pattern → Pattern → Pattern
 r ∣ s = Or r s
 

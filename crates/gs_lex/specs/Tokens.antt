@@ -46,6 +46,7 @@ pub data CutEnd : Type 0 where
   AtEnd : CutEnd
   AtFault : ℕ → CutEnd
 
+-- the text is empty, or its first byte ends a line
 abbrev pub EndsLine : List ℕ → Type 0
 EndsLine [] = Unit {0}
 EndsLine (c ∷ cs) = is_line_end c ≡ true

@@ -34,6 +34,7 @@ fn is_plain_name(byte: u8) -> bool
         || byte == b'-'
 }
 
+/// White space: a space, a tab, a carriage return or a line feed.
 pub fn is_space(byte: u8) -> bool
     ensures { result ≡ class.is_ws byte }
 {

@@ -5,6 +5,7 @@ use Rattle.gs_machine.specs.declared.decoder.Phase.{Phase}
 use Rattle.gs_machine.specs.declared.decoder.Phase.TheVariants as phase
 use Rattle.gs_machine.specs.declared.decoder.State.{State}
 
+-- what a phase stands for, with the value so far and the bounds of the next byte
 abbrev pub decoding : Phase → ℕ → ℕ → ℕ → Decoding
 decoding phase.Between v low high = Ready
 decoding phase.Last v low high = Within 0 v low high

@@ -43,6 +43,7 @@ abbrev pub goes_on : ℕ → ℕ → Decoding × List ℕ
 goes_on zero v = (Ready, v ∷ [])
 goes_on (suc n) v = (Within n v 128 191, [])
 
+-- after a byte, and what it gives: a character, a mark where no character goes on so, or nothing
 abbrev pub decode_step : Decoding → ℕ → Decoding × List ℕ
 decode_step Ready b = lead b
 decode_step (Within n v low high) b =
@@ -51,11 +52,13 @@ decode_step (Within n v low high) b =
     else goes_on n (v * 64 + (b - 128))
 decode_step Lost b = (Lost, [])
 
+-- what the end of the bytes gives: a mark within a character, and else nothing
 abbrev pub decode_end : Decoding → List ℕ
 decode_end Ready = []
 decode_end (Within n v low high) = bad ∷ []
 decode_end Lost = []
 
+-- the machine that takes bytes and gives characters, and a mark where they are not UTF-8
 abbrev pub utf8 : Machine Decoding ℕ ℕ (Unit {0})
 utf8 = record { step = decode_step; ended = λ s. (decode_end s, tt) }
 

@@ -7,10 +7,11 @@ use Rattle.gs_model.specs.Characters.{hyphen, dot, colon, left_bracket, right_br
 abbrev pub is_base_char : ℕ → Bool
 is_base_char c = is_upper c || is_lower c || is_digit c || c == hyphen || c == dot || c == colon || c == left_bracket || c == right_bracket
 
--- the bytes of a base, in all
+-- the fewest bytes of a base, in all
 abbrev pub min_base_bytes : ℕ
 min_base_bytes = 8
 
+-- the most bytes of a base, in all
 abbrev pub max_base_bytes : ℕ
 max_base_bytes = 256
 

@@ -5,9 +5,11 @@ use Rattle.std.specs.Prelude.{ℕ, Bool, false, not, ◌||◌, ◌&&◌, nat_le,
 abbrev pub line_feed : ℕ
 line_feed = 10
 
+-- U+000D
 abbrev pub carriage_return : ℕ
 carriage_return = 13
 
+-- U+0020
 abbrev pub space : ℕ
 space = 32
 
@@ -19,9 +21,11 @@ quote = 34
 abbrev pub number_sign : ℕ
 number_sign = 35
 
+-- `+`
 abbrev pub plus : ℕ
 plus = 43
 
+-- `-`
 abbrev pub hyphen : ℕ
 hyphen = 45
 
@@ -29,6 +33,7 @@ hyphen = 45
 abbrev pub dot : ℕ
 dot = 46
 
+-- `:`
 abbrev pub colon : ℕ
 colon = 58
 
@@ -44,13 +49,15 @@ greater_than = 62
 abbrev pub at_sign : ℕ
 at_sign = 64
 
--- `[` and `]`
+-- `[`
 abbrev pub left_bracket : ℕ
 left_bracket = 91
 
+-- `]`
 abbrev pub right_bracket : ℕ
 right_bracket = 93
 
+-- `\`
 abbrev pub backslash : ℕ
 backslash = 92
 
@@ -58,13 +65,15 @@ backslash = 92
 abbrev pub caret : ℕ
 caret = 94
 
+-- `_`
 abbrev pub underscore : ℕ
 underscore = 95
 
--- `n` and `r`, after a backslash
+-- `n`, after a backslash
 abbrev pub letter_n : ℕ
 letter_n = 110
 
+-- `r`, after a backslash
 abbrev pub letter_r : ℕ
 letter_r = 114
 

@@ -36,6 +36,7 @@ impl Cursor {
     ghost use Rattle.gs_ntread.specs.declared.parts.Within.TheVariants as within;
     ghost use Rattle.gs_ntread.specs.declared.parts.Place.TheVariants as at;
 
+    /// At the start of a document, with nothing read.
     pub fn new(alloc: Global) -> Cursor
         ensures { state_of result ≡ start }
     {

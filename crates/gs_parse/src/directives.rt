@@ -47,7 +47,7 @@ impl Parser {
         Ok(())
     }
 
-    /// Behind the IRI of a directive, which ends there where no dot is to come.
+    /// After the IRI of a directive, which ends there where no dot is to come.
     fn set(&mut self, dot: bool, end: u64)
         ensures state { state_of self.new ≡ (machine.set dot end self.old.numbering (Some (context_of self.old.context))).0 }
         ensures last { self.new.last ≡ end_after self.old.last (machine.set dot end self.old.numbering (Some (context_of self.old.context))).1 }

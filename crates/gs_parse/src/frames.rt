@@ -23,17 +23,17 @@ pub struct Subject {
 pub enum Goal {
     /// An object of this subject and verb.
     Object(usize, Subject, Name),
-    /// Behind the `[` of a blank node of this number.
+    /// After the `[` of a blank node of this number.
     Inside(usize, u64),
     /// A verb of this subject.
     Verbs(usize, Subject),
-    /// Behind an object of this subject and verb.
+    /// After an object of this subject and verb.
     After(usize, Subject, Name),
-    /// Behind a `;`.
+    /// After a `;`.
     Semis(usize, Subject),
-    /// Behind the `(` of a collection.
+    /// After the `(` of a collection.
     Begun(usize),
-    /// Behind an object of a collection, with the numbers of its first cell and of this one.
+    /// After an object of a collection, with the numbers of its first cell and of this one.
     Items(usize, u64, u64),
 }
 

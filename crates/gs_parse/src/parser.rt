@@ -35,7 +35,7 @@ impl Parser {
     ghost use Rattle.gs_parse.specs.Views.{state_of, context_of, symbol_at};
     ghost use Rattle.gs_parse.specs.Frames.{slot_of, stack_of};
 
-    /// Behind this fault nothing is read.
+    /// After this fault nothing is read.
     pub(crate) fn lose(&mut self, fault: Fault)
         ensures state { state_of self.new ≡ lost fault }
         ensures last { self.new.last ≡ self.old.last }

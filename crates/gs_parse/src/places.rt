@@ -7,19 +7,19 @@ use gs_model::Fault;
 #[derive(Drop)]
 pub enum Place {
     Between,
-    /// Behind `@prefix`, and then a dot ends the directive, or after `PREFIX`.
+    /// After `@prefix`, and then a dot ends the directive, or after `PREFIX`.
     InPrefix(bool),
     InPrefixIri(bool, String),
     InBase(bool),
     AtDot,
-    /// Behind a `[` that opens a statement.
+    /// After a `[` that opens a statement.
     Opened,
-    /// Behind its `]`.
+    /// After its `]`.
     Closed(u64),
     Heading(Goal),
-    /// Behind a string that is an object.
+    /// After a string that is an object.
     Held(String, Slot),
-    /// Behind its `^^`.
+    /// After its `^^`.
     Typing(String, Slot),
     Lost(Fault),
 }

@@ -21,22 +21,27 @@ use Rattle.gs_plain.specs.declared.books.Seat.TheVariants.{Idle, Writing, Readin
 abbrev pub after_row : Dataset → Row → Dataset
 after_row m row = if row.ended then without_graph m row.target else with_graph m row.target row.graph
 
+-- the dataset after all of these rows, from an empty one
 abbrev pub dataset_of : List Row → Dataset
 dataset_of rows = fold (λ m row. after_row m row) empty_dataset rows
 
+-- the lines of a row's graph, none where there is no row
 abbrev pub lines_of_row : Option Row → List (List ℕ)
 lines_of_row None = []
 lines_of_row (Some row) = lines_of row.graph
 
+-- the lines of the row of this number, none where there is no such row
 abbrev pub row_lines : List Row → Option ℕ → List (List ℕ)
 row_lines rows None = []
 row_lines rows (Some i) = lines_of_row (slice_get rows i)
 
+-- a seat as it is seen: a read is the lines of its row after those that were given
 abbrev pub seat_shown : List Row → Seat → SeatView
 seat_shown rows Idle = phase.Idle
 seat_shown rows (Writing k r g) = phase.Writing k r g
 seat_shown rows (Reading row given pin) = phase.Reading (drop given (row_lines rows row))
 
+-- the base and the limits of the books
 abbrev pub setting_of : Books → Setting
 setting_of b = record { base = string_bytes b.base; limits = b.limits }
 
@@ -49,6 +54,7 @@ totals_of b = record {
   commit = b.commit;
 }
 
+-- whether the seat has an open upload
 abbrev pub is_writing : Seat → Bool
 is_writing (Writing k r g) = true
 is_writing s = false
@@ -74,6 +80,7 @@ pub record KeepsRows (old new : List Row) : Type 0 where
   pub grows : length old ≤ length new
   pub same : (i : ℕ) → i < length old → lines_of_row (slice_get new i) ≡ lines_of_row (slice_get old i)
 
+-- whether the target is the default graph
 abbrev pub is_default : Target → Bool
 is_default Default = true
 is_default (Named n) = false
@@ -108,10 +115,11 @@ pub record PutsVersion (old new : Books) (t : Target) (g : Graph) : Type 0 where
   pub names : new.names ≡ names_in (dataset_of new.rows.items)
   pub one_more : vec_len new.rows ≡ vec_len old.rows + 1
 
--- row i is marked as ended
+-- the row, marked as ended
 abbrev pub ended_row : Row → Row
 ended_row row = record { target = row.target; graph = row.graph; ended = true }
 
+-- row i, if there is one, is now marked as ended, and the other rows are as they were
 abbrev pub EndsRow : List Row → List Row → ℕ → Type 0
 EndsRow old new i = (row : Row) → slice_get old i ≡ Some row → new ≡ slice_set old i (ended_row row)
 

@@ -15,6 +15,7 @@ target_eq Default Default = true
 target_eq (Named a) (Named b) = bytes_eq a b
 target_eq t u = false
 
+-- the graph of a row, if there is a row
 abbrev pub graph_of_row : Option Row → Option Graph
 graph_of_row None = None
 graph_of_row (Some row) = Some row.graph

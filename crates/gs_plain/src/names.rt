@@ -25,7 +25,7 @@ fn new_name(books: &Books, alloc: Global, request: u64) -> Result<GraphName, All
     made_name(alloc, base, request, books.names)
 }
 
-/// The same name, twice: one to keep, and one to tell.
+/// The same name, twice: one to keep, and one to report.
 pub fn new_name_twice(
     books: &Books,
     alloc: Global,

@@ -10,6 +10,7 @@ use gs_model::Refusal;
 use gs_term::Target;
 use std::alloc::{AllocError, Global};
 
+/// Answers 200 where the target has a graph, and else 404, if the seat is idle.
 pub fn head(books: &mut Books, seat: &mut Seat, target: &Target) -> Answer
     requires { IsReady books.old seat.old }
     ensures acts { Acts books.old books.new seat.old seat.new (Head target.now) result }
@@ -22,6 +23,7 @@ pub fn head(books: &mut Books, seat: &mut Seat, target: &Target) -> Answer
     Answer::Status(if there { 200 } else { 404 }, None)
 }
 
+/// Begins a read of the target's graph at the seat, if it is idle and the target has one.
 pub fn pin(books: &mut Books, seat: &mut Seat, target: &Target) -> Answer
     requires { IsReady books.old seat.old }
     ensures acts { Acts books.old books.new seat.old seat.new (Pin target.now) result }
@@ -38,6 +40,7 @@ pub fn pin(books: &mut Books, seat: &mut Seat, target: &Target) -> Answer
     Answer::Pinned(200)
 }
 
+/// At most `count` lines more of the seat's read, which ends where none are left.
 pub fn piece(books: &mut Books, seat: &mut Seat, alloc: Global, count: u32) -> Answer
     requires { IsReady books.old seat.old }
     ensures acts { Acts books.old books.new seat.old seat.new (Piece count) result }

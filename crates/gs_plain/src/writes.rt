@@ -15,6 +15,7 @@ use gs_term::Target;
 use std::alloc::{AllocError, Global};
 use std::mem;
 
+/// Commits the seat's open upload, by its kind.
 pub fn commit(books: &mut Books, seat: &mut Seat, alloc: Global) -> Answer
     requires ready { IsReady books.old seat.old }
     requires room { IsTrue (is_writing seat.old) → vec_len books.old.rows < vec_capacity books.old.rows }

@@ -14,8 +14,8 @@ pub record Got : Type 0 where
   pub numbers : Numbers
   pub rest : List Symbol
 
--- what comes next, where there is no fault
 infixl 10 ◌>>=◌
+-- what comes next, where there is no fault
 abbrev pub ◌>>=◌ : {A B : Type 0} → Result A Fault → (A → Result B Fault) → Result B Fault
 (Err e) >>= f = Err e
 (Ok x) >>= f = f x

@@ -115,6 +115,6 @@ pub tells-broken : (last m n : ℕ) (t : Meaning) → t.1 ≡ Whole → m ≡ en
 tells-broken last m n (ss, Whole) p q = (refl, q)
 tells-broken last m n (ss, Faulty f) p q = absurd (Prim.cc p)
 
--- what tells of a fault is not that an earlier call was refused
+-- what reports a fault is not that an earlier call was refused
 pub tells-open : (e : Refusal) (last : ℕ) (t : Meaning) → TellsBehind last e t → e ≢ refusal.Closed
 tells-open e last t h = λ p. subst (λ r. TellsBehind last r t) p h

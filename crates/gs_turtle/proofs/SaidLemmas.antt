@@ -60,7 +60,7 @@ meaning_on a x ts l z us e c =
     ∙ ap (ended_by e) (led-meaning turtle (unread a) (state_of a.parser) a.parser.last (symbols_of l.lexemes) (symbols_of us) ts l.parsed)
     ∙ ended-joined e l.parsed.statements (end_of a.parser us)
 
--- what a refusal tells of the rest of a text it tells of the whole
+-- what a refusal reports of the rest of a text it reports of the whole
 pub tells_joined : (e : Refusal) (last : ℕ) (ss : List Statement) (t s : Meaning) → last ≡ end_after 0 ss → s ≡ joined ss t → TellsBehind last e t → Reports e s
 tells_joined (refusal.Syntax at) last ss t s p q h = record {
   broken = ap (λ (u : Meaning). u.1) q ∙ h.0;

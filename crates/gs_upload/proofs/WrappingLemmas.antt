@@ -16,7 +16,7 @@ use Rattle.gs_upload.specs.declared.readers.TextReader.{TextReader}
 use Rattle.gs_upload.specs.declared.readers.TextReader.TheVariants.{NTriples, Turtle}
 use Rattle.gs_upload.specs.Readers.{meaning_of_text, LeadsText}
 
--- what a call tells of a text that goes on, or ends
+-- what a call reports of a text that goes on, or ends
 abbrev pub FaultOn : {R : Type 0} → (R → List ℕ → Meaning) → (R → List ℕ → List RdfTriple → Type 0) → R → List ℕ → Refusal → Type 0
 FaultOn meaning_of Leads r piece e = (x : List ℕ) (ts : List RdfTriple) → Leads r x ts → (y : List ℕ) → Reports e (meaning_of r (x ++ piece ++ y))
 
