@@ -17,13 +17,13 @@ use Rattle.gs_event.specs.declared.answers.Answer.TheVariants.{Opened, Staged, S
 use Rattle.gs_event.specs.Datasets.{Setting, Operation, lines_at, after_all}
 use Rattle.gs_event.specs.Phases.{Phase, Idle, Writing, Reading, phase_after, operation_of}
 use Rattle.gs_event.specs.Views.{SeatView, Fits, FitsSeat, is_opened, is_written, after_asked, next_view, next_at, next_if}
-use Rattle.gs_event.specs.Histories.{History, Read, phase_of, phase_by, points_of, dataset_after, lines_left, seat_view, Start, view_of}
+use Rattle.gs_event.specs.Histories.{History, OpenRead, phase_of, phase_by, points_of, dataset_after, lines_left, seat_view, Start, view_of}
 
 -- a seat's phase by its history, with one more answer
-abbrev pub later : History → Phase Read → Action → Answer → Phase Read
+abbrev pub later : History → Phase OpenRead → Action → Answer → Phase OpenRead
 later before = phase_after (λ t. record { target = t; before = before; told = 0 }) (λ r n. record { target = r.target; before = r.before; told = r.told + n })
 
-same_operation : (w : Setting) (p : Phase Read) (action : Action) (a : Answer) → operation_of (seat_view w p) action a ≡ operation_of p action a
+same_operation : (w : Setting) (p : Phase OpenRead) (action : Action) (a : Answer) → operation_of (seat_view w p) action a ≡ operation_of p action a
 same_operation w Idle (Delete t) (Status s name) = refl
 same_operation w Idle (Head t) (Status s name) = refl
 same_operation w Idle (Pin t) (Pinned s) = refl
@@ -34,12 +34,12 @@ pinned_view : (w : Setting) (b : Bool) (h : History) (t : Target) → seat_view 
 pinned_view w true h t = refl
 pinned_view w false h t = refl
 
-told_view : (w : Setting) (b : Bool) (r : Read) (n : ℕ) → seat_view w (cond b Idle (Reading (record { target = r.target; before = r.before; told = r.told + n }))) ≡ cond b Idle (Reading (drop n (lines_left w r)))
+told_view : (w : Setting) (b : Bool) (r : OpenRead) (n : ℕ) → seat_view w (cond b Idle (Reading (record { target = r.target; before = r.before; told = r.told + n }))) ≡ cond b Idle (Reading (drop n (lines_left w r)))
 told_view w true r n = refl
 told_view w false r n = ap Reading (sym (drop-drop n r.told _))
 
 -- the table of phases says the same of a history and of what is seen
-pub same_phase : (w : Setting) (h : History) (p : Phase Read) (action : Action) (a : Answer) → seat_view w (later h p action a) ≡ phase_after (lines_at (dataset_after w h)) (λ left n. drop n left) (seat_view w p) action a
+pub same_phase : (w : Setting) (h : History) (p : Phase OpenRead) (action : Action) (a : Answer) → seat_view w (later h p action a) ≡ phase_after (lines_at (dataset_after w h)) (λ left n. drop n left) (seat_view w p) action a
 same_phase w h Idle (Open k) (Opened r) = refl
 same_phase w h Idle (Pin t) (Pinned s) = pinned_view w (nat_eq s 200) h t
 same_phase w h (Writing t r g) (Stage ts) Staged = refl

@@ -17,7 +17,7 @@ use Rattle.gs_event.specs.Phases.{Phase, Idle, Writing, Reading}
 use Rattle.gs_event.specs.Views.{View, Totals, SeatView, Fits, FitsSeat}
 use Rattle.gs_event.specs.Waste.{Shown}
 use Rattle.gs_event.specs.Steps.{pin_after, next_pinned}
-use Rattle.gs_event.specs.Histories.{History, Read, phase_of, phase_by, seat_view, Start, view_of, commit_after, pin_of, pinned_of}
+use Rattle.gs_event.specs.Histories.{History, OpenRead, phase_of, phase_by, seat_view, Start, view_of, commit_after, pin_of, pinned_of}
 use Rattle.gs_event.proofs.HistoryLemmas.{later, refused_phase, same_after, changed_at, at_place}
 
 -- a read begins where the test says so
@@ -26,12 +26,12 @@ pin_begins start h t true = refl
 pin_begins start h t false = refl
 
 -- a read ends where the test says so, and else goes on with its pin
-pin_ends : (start : Start) (r : Read) (n : ℕ) (b : Bool) → pin_of start (cond b Idle (Reading (record { target = r.target; before = r.before; told = r.told + n }))) ≡ cond b None (Some (commit_after start r.before))
+pin_ends : (start : Start) (r : OpenRead) (n : ℕ) (b : Bool) → pin_of start (cond b Idle (Reading (record { target = r.target; before = r.before; told = r.told + n }))) ≡ cond b None (Some (commit_after start r.before))
 pin_ends start r n true = refl
 pin_ends start r n false = refl
 
 -- a seat's pin by its phase goes on as the table of pins says
-pin_next : (start : Start) (h : History) (v : Totals) (w : Setting) (p : Phase Read) (action : Action) (a : Answer) → FitsSeat v (seat_view w p) action a → pin_of start (later h p action a) ≡ pin_after (commit_after start h) (pin_of start p) action a
+pin_next : (start : Start) (h : History) (v : Totals) (w : Setting) (p : Phase OpenRead) (action : Action) (a : Answer) → FitsSeat v (seat_view w p) action a → pin_of start (later h p action a) ≡ pin_after (commit_after start h) (pin_of start p) action a
 pin_next start h v w Idle (Open k) (Opened r) fits = refl
 pin_next start h v w Idle (Pin t) (Pinned s) fits = pin_begins start h t (nat_eq s 200)
 pin_next start h v w Idle (Piece n) (Lines b end) fits = absurd fits

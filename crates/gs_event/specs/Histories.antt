@@ -14,14 +14,14 @@ use Rattle.gs_event.specs.Waste.{Shown}
 abbrev pub History : Type 0
 History = List (Event × Answer)
 
--- a read: its target, the history before its pin, and how many of its lines were given since
-pub record Read : Type 0 where
+-- an open read: its target, the history before its pin, and how many of its lines were given since
+pub record OpenRead : Type 0 where
   pub target : Target
   pub before : History
   pub told : ℕ
 
 -- what the phase of a seat becomes by one more event and its answer
-abbrev pub phase_by : History → ℕ → Phase Read → Event → Answer → Phase Read
+abbrev pub phase_by : History → ℕ → Phase OpenRead → Event → Answer → Phase OpenRead
 phase_by before seat p (Reclaim n) a = p
 phase_by before seat p (At s action) a =
     cond (nat_eq s seat)
@@ -29,7 +29,7 @@ phase_by before seat p (At s action) a =
     p
 
 -- the phase of a seat, from its events and their answers alone
-abbrev pub phase_of : History → ℕ → Phase Read
+abbrev pub phase_of : History → ℕ → Phase OpenRead
 phase_of [] seat = Idle
 phase_of (x ∷ before) seat = phase_by before seat (phase_of before seat) x.0 x.1
 
@@ -48,11 +48,11 @@ abbrev pub dataset_after : Setting → History → Dataset
 dataset_after w h = after_all w (points_of h)
 
 -- the lines left of a read: its graph's at the pin, without those that were given
-abbrev pub lines_left : Setting → Read → List (List ℕ)
+abbrev pub lines_left : Setting → OpenRead → List (List ℕ)
 lines_left w r = drop r.told (lines_at (dataset_after w r.before) r.target)
 
 -- a phase as it is seen
-abbrev pub seat_view : Setting → Phase Read → SeatView
+abbrev pub seat_view : Setting → Phase OpenRead → SeatView
 seat_view w Idle = Idle
 seat_view w (Writing k r g) = Writing k r g
 seat_view w (Reading r) = Reading (lines_left w r)
@@ -63,6 +63,10 @@ pub record Start : Type 0 where
   pub setting : Setting
   pub request : ℕ
   pub commit : ℕ
+
+-- so many seats, this setting, and these last request and commit numbers
+abbrev pub start_with : ℕ → Setting → ℕ → ℕ → Start
+start_with seats setting request commit = record { seats = seats; setting = setting; request = request; commit = commit }
 
 -- the last commit number after a history
 abbrev pub commit_after : Start → History → ℕ
@@ -81,7 +85,7 @@ view_of start h = record {
 }
 
 -- the commit number at the pin of a read
-abbrev pub pin_of : Start → Phase Read → Option ℕ
+abbrev pub pin_of : Start → Phase OpenRead → Option ℕ
 pin_of start Idle = None
 pin_of start (Writing k r g) = None
 pin_of start (Reading r) = Some (commit_after start r.before)

@@ -1,5 +1,5 @@
 -- Read in this order: datasets and the abstract store, names that it makes up, phases, views, waste, one
--- step, runs, histories. The verdicts stand by themselves, on the abstract store.
+-- step, runs, histories, and how these go on. The verdicts stand by themselves, on the abstract store.
 pub mod Datasets
 pub mod Names
 pub mod Phases
@@ -8,5 +8,6 @@ pub mod Waste
 pub mod Steps
 pub mod Runs
 pub mod Histories
+pub mod Continuing
 pub mod Codes
 pub mod Verdicts

@@ -1,6 +1,6 @@
 //! What becomes of a write, by the books alone.
 ghost use Rattle.std.specs.Prelude.{◌≡◌};
-ghost use Rattle.gs_event.specs.Verdicts.{DecidesRemoval, DecidesStore, holdings_of, place_of};
+ghost use Rattle.gs_event.specs.Verdicts.{DecidesRemoval, DecidesStore, holdings_of, place_in};
 ghost use Rattle.gs_plain.specs.Books.{dataset_of, setting_of, IsCounted};
 
 use crate::books::{self, Books};
@@ -21,7 +21,7 @@ fn holdings(books: &Books) -> Holdings
 }
 
 fn place(books: &Books, target: &Target) -> Place
-    ensures { result ≡ place_of (dataset_of books.now.rows.items) target.now }
+    ensures { result ≡ place_in (dataset_of books.now.rows.items) target.now }
 {
     let rows = books.rows.as_slice();
     Place {
