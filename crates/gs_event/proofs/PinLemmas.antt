@@ -18,6 +18,7 @@ use Rattle.gs_event.specs.Views.{View, Totals, SeatView, Fits, FitsSeat}
 use Rattle.gs_event.specs.Waste.{Shown}
 use Rattle.gs_event.specs.Steps.{pin_after, next_pinned}
 use Rattle.gs_event.specs.Histories.{History, OpenRead, phase_of, phase_by, seat_view, Start, view_of, commit_after, pin_of, pinned_of}
+use Rattle.gs_event.specs.Continuing.{PinsGoOn}
 use Rattle.gs_event.proofs.HistoryLemmas.{later, refused_phase, same_after, changed_at, at_place}
 
 -- a read begins where the test says so
@@ -99,7 +100,7 @@ next_pins start h s action a (Some p) is fits =
     changed_at (λ k. pin_of start (phase_of h k)) (λ k. pin_of start (phase_by h k (phase_of h k) (At s action) a)) 0 start.seats s _ (ap (λ k. pin_of start (phase_by h k (phase_of h k) (At s action) a)) (zero-add s) ∙ own) (λ k ne. other_pin start h s k action a (λ e. ne (e ∙ sym (zero-add s))))
 
 -- the pins after one more answer that fits
-pub pinned_of-cons : (start : Start) (h : History) (s : Shown) (e : Event) (a : Answer) → s.view ≡ view_of start h → s.pinned ≡ pinned_of start h → Fits s.view e a → pinned_of start ((e, a) ∷ h) ≡ next_pinned s e a
+pub pinned_of-cons : (start : Start) (h : History) (s : Shown) → PinsGoOn start h s
 pinned_of-cons start h s (Reclaim n) a view pins fits = sym pins
 pinned_of-cons start h s (At k action) a view pins fits =
     let fit : Fits (view_of start h) (At k action) a = subst (λ v. Fits v (At k action) a) view fits in

@@ -9,13 +9,13 @@ use Rattle.gs_event.specs.Runs.{Runs}
 use Rattle.gs_event.specs.Histories.{Start, History, IsLegal, HasRun, view_of, pinned_of, history_of}
 
 -- what is shown after one more answer that fits is the next view
-abbrev pub ViewGoesOn : Start → History → Event → Answer → Type 0
-ViewGoesOn start h e a = Fits (view_of start h) e a → view_of start ((e, a) ∷ h) ≡ next_view (view_of start h) e a
+abbrev pub ViewGoesOn : Start → History → Type 0
+ViewGoesOn start h = (e : Event) (a : Answer) → Fits (view_of start h) e a → view_of start ((e, a) ∷ h) ≡ next_view (view_of start h) e a
 
 -- after one more answer that fits what is shown, the pins are the next ones
-abbrev pub PinsGoOn : Start → History → Shown → Event → Answer → Type 0
-PinsGoOn start h s e a =
-    s.view ≡ view_of start h → s.pinned ≡ pinned_of start h → Fits s.view e a
+abbrev pub PinsGoOn : Start → History → Shown → Type 0
+PinsGoOn start h s =
+    (e : Event) (a : Answer) → s.view ≡ view_of start h → s.pinned ≡ pinned_of start h → Fits s.view e a
     → pinned_of start ((e, a) ∷ h) ≡ next_pinned s e a
 
 -- steps from what a legal history says to t make a legal history, and t shows what it says

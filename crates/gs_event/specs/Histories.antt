@@ -5,6 +5,7 @@ use Rattle.gs_term.specs.declared.names.Target.{Target}
 use Rattle.gs_event.specs.declared.events.Event.{Event}
 use Rattle.gs_event.specs.declared.events.Event.TheVariants.{Seat as At, Reclaim}
 use Rattle.gs_event.specs.declared.answers.Answer.{Answer}
+use Rattle.gs_event.specs.declared.limits.Limits.{Limits}
 use Rattle.gs_event.specs.Datasets.{Dataset, Setting, Operation, lines_at, after_all}
 use Rattle.gs_event.specs.Phases.{Phase, Idle, Writing, Reading, phase_after, operation_of}
 use Rattle.gs_event.specs.Views.{View, SeatView, Fits, is_opened, is_written}
@@ -64,9 +65,10 @@ pub record Start : Type 0 where
   pub request : ℕ
   pub commit : ℕ
 
--- so many seats, this setting, and these last request and commit numbers
-abbrev pub start_with : ℕ → Setting → ℕ → ℕ → Start
-start_with seats setting request commit = record { seats = seats; setting = setting; request = request; commit = commit }
+-- so many seats, this base and these limits, and these last request and commit numbers
+abbrev pub start_with : ℕ → List ℕ → Limits → ℕ → ℕ → Start
+start_with seats base limits request commit =
+    record { seats = seats; setting = record { base = base; limits = limits }; request = request; commit = commit }
 
 -- the last commit number after a history
 abbrev pub commit_after : Start → History → ℕ
@@ -93,6 +95,14 @@ pin_of start (Reading r) = Some (commit_after start r.before)
 -- the commit numbers at the pins of all reads, by seat
 abbrev pub pinned_of : Start → History → List (Option ℕ)
 pinned_of start h = map (λ s. pin_of start (phase_of h s)) (range_with_len 0 start.seats)
+
+-- a store that begins so shows what the empty history says
+abbrev pub ShowsStart : Start → Shown → Type 0
+ShowsStart start s = s.view ≡ view_of start []
+
+-- and has its pins, which are none
+abbrev pub HasStartPins : Start → Shown → Type 0
+HasStartPins start s = s.pinned ≡ pinned_of start []
 
 -- a legal history: each answer fits what the history before it shows
 abbrev pub IsLegal : Start → History → Type 0

@@ -1,7 +1,5 @@
 //! Laws of histories, proved: the body is empty, and the contract is the law.
 ghost use Rattle.std.specs.Prelude.{ℕ, List};
-ghost use Rattle.gs_event.specs.declared.events.Event.{Event as AnEvent};
-ghost use Rattle.gs_event.specs.declared.answers.Answer.{Answer as AnAnswer};
 ghost use Rattle.gs_event.specs.Datasets.{Dataset, Operation, Setting, new_name};
 ghost use Rattle.gs_event.specs.Verdicts.{IsDecided};
 ghost use Rattle.gs_event.specs.Names.{IsLeastFree};
@@ -11,12 +9,12 @@ ghost use Rattle.gs_event.specs.Continuing.{ViewGoesOn, PinsGoOn, StepsGoOn};
 
 /// What is shown after one more answer that fits is the next view.
 pub fn view_goes_on()
-    ensures { (start : Start) (h : History) (e : AnEvent) (a : AnAnswer) → ViewGoesOn start h e a }
+    ensures { (start : Start) (h : History) → ViewGoesOn start h }
 {}
 
 /// After one more answer that fits, the pins are the next ones.
 pub fn pinned_goes_on()
-    ensures { (start : Start) (h : History) (s : Shown) (e : AnEvent) (a : AnAnswer) → PinsGoOn start h s e a }
+    ensures { (start : Start) (h : History) (s : Shown) → PinsGoOn start h s }
 {}
 
 /// Steps from a value that shows what a legal history says make a legal history, and end in a
