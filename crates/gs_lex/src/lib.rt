@@ -6,8 +6,6 @@ mod kinds;
 mod laws;
 mod lexers;
 mod readings;
-#[cfg(test)]
-mod rows;
 mod runs;
 mod scans;
 mod states;
