@@ -7,7 +7,7 @@ ghost use Rattle.gs_iri.specs.Appending.{Appends, AppendsHead, AppendsPart, Appe
 
 use crate::absolute::{are_iri_bytes, is_absolute};
 use crate::dots::{append_dots, last_slash};
-use crate::references::{Parts, behind, cut_parts};
+use crate::references::{Parts, after, cut_parts};
 use gs_model::Refusal;
 use std::alloc::AllocError;
 
@@ -149,7 +149,7 @@ fn append_resolved(base: &str, reference: &str, resolved: &mut String) -> Result
         query: r.query,
         fragment: r.fragment,
     };
-    if behind(r.path, b'/').is_some() {
+    if after(r.path, b'/').is_some() {
         return append_removed(&target, None, resolved);
     }
     append_removed(&target, front_of(b.authority, b.path), resolved)

@@ -10,7 +10,8 @@ use Rattle.gs_lex.specs.declared.kinds.Terminal.{Terminal}
 use Rattle.gs_lex.specs.declared.kinds.Terminal.TheVariants as kind
 use Rattle.gs_lex.specs.declared.states.State.{State}
 use Rattle.gs_lex.proofs.AlikeLemmas.{Alike, In, here, there, boundaries, sample, sample-in, alike-sample, holds-alike}
-use Rattle.gs_lex.proofs.Checks.{kinds, same, target, follows, follows_all, is_kind, same_answer, ends, right}
+use Rattle.gs_lex.proofs.Checks.{kinds, same, target, follows, follows_all, is_kind, same_answer, ends}
+use Rattle.gs_lex.proofs.StateChecks.{right}
 use Rattle.gs_lex.proofs.Codes.{set-one, kind-one}
 use Rattle.gs_lex.proofs.Derivatives.{nullable, derive, derive-right, derive-back, nullable-right, nullable-back}
 use Rattle.gs_lex.proofs.NextLemmas.{next-alike}

@@ -1,6 +1,7 @@
 -- The sets of characters that the terminals of Turtle and SPARQL Update name.
 use Rattle.std.specs.Prelude.{ℕ, Bool, not, ◌==◌, ◌||◌}
-use Rattle.gs_model.specs.Characters.{is_iri_char}
+use Rattle.gs_model.specs.Characters.{quote, hyphen, dot, colon, less_than, greater_than, at_sign, left_bracket, right_bracket, backslash, caret, underscore, is_iri_char}
+use Rattle.gs_chars.specs.Characters.{dollar, percent, apostrophe, left_parenthesis, right_parenthesis, comma, semicolon, question_mark, letter_large_u, letter_u, left_brace, right_brace}
 use Rattle.gs_lex.specs.Classes as is
 
 -- the sets of characters that the terminals name: one character, or a class
@@ -50,34 +51,34 @@ pub data Chars : Type 0 where
 
 -- whether a character is in the set
 abbrev pub holds : Chars → ℕ → Bool
-holds Less c = c == 60
-holds Greater c = c == 62
-holds Quote c = c == 34
-holds Apostrophe c = c == 39
-holds Backslash c = c == 92
-holds Colon c = c == 58
-holds Underscore c = c == 95
-holds AtSign c = c == 64
-holds Dash c = c == 45
-holds Dot c = c == 46
-holds Percent c = c == 37
-holds Caret c = c == 94
-holds Semicolon c = c == 59
-holds Comma c = c == 44
-holds OpenBracket c = c == 91
-holds CloseBracket c = c == 93
-holds OpenParenthesis c = c == 40
-holds CloseParenthesis c = c == 41
-holds OpenBrace c = c == 123
-holds CloseBrace c = c == 125
-holds VariableMark c = c == 63 || c == 36
-holds SmallU c = c == 117
-holds BigU c = c == 85
+holds Less c = c == less_than
+holds Greater c = c == greater_than
+holds Quote c = c == quote
+holds Apostrophe c = c == apostrophe
+holds Backslash c = c == backslash
+holds Colon c = c == colon
+holds Underscore c = c == underscore
+holds AtSign c = c == at_sign
+holds Dash c = c == hyphen
+holds Dot c = c == dot
+holds Percent c = c == percent
+holds Caret c = c == caret
+holds Semicolon c = c == semicolon
+holds Comma c = c == comma
+holds OpenBracket c = c == left_bracket
+holds CloseBracket c = c == right_bracket
+holds OpenParenthesis c = c == left_parenthesis
+holds CloseParenthesis c = c == right_parenthesis
+holds OpenBrace c = c == left_brace
+holds CloseBrace c = c == right_brace
+holds VariableMark c = c == question_mark || c == dollar
+holds SmallU c = c == letter_u
+holds BigU c = c == letter_large_u
 holds IriChar c = is_iri_char c
-holds ShortQuoteChar c = not (c == 34 || c == 92 || is.is_line_end c)
-holds ShortApostropheChar c = not (c == 39 || c == 92 || is.is_line_end c)
-holds LongQuoteChar c = not (c == 34 || c == 92)
-holds LongApostropheChar c = not (c == 39 || c == 92)
+holds ShortQuoteChar c = not (c == quote || c == backslash || is.is_line_end c)
+holds ShortApostropheChar c = not (c == apostrophe || c == backslash || is.is_line_end c)
+holds LongQuoteChar c = not (c == quote || c == backslash)
+holds LongApostropheChar c = not (c == apostrophe || c == backslash)
 holds Echar c = is.is_echar c
 holds Hex c = is.is_hex c
 holds Digit c = is.is_digit c

@@ -1,6 +1,7 @@
 -- The tokens of a text as a function: from left to right over its characters.
 use Rattle.std.specs.Prelude.{ℕ, zero, suc, Bool, ◌==◌, if◌then◌else◌, List, [], ◌∷◌, length, Option, Some, None, encode_utf8, encode_utf8_all}
 use Rattle.gs_machine.specs.Utf8.{bad, symbols}
+use Rattle.gs_model.specs.Characters.{number_sign}
 use Rattle.gs_lex.specs.Classes.{is_ws, is_line_end}
 use Rattle.gs_lex.specs.Automata.{Found, longest}
 use Rattle.gs_lex.specs.States.{tokens}
@@ -36,7 +37,7 @@ parted (suc f) updates InComment n last (c ∷ cs) =
     else parted f updates InComment (place_after n (length (encode_utf8 c))) last cs
 parted (suc f) updates Between n last (c ∷ cs) =
     if is_ws c then parted f updates Between (place_after n 1) last cs
-    else if c == 35 then parted f updates InComment (place_after n 1) last cs
+    else if c == number_sign then parted f updates InComment (place_after n 1) last cs
     else from_found (λ k ds. parted f updates Between k k ds) updates n last (longest (tokens updates) (c ∷ cs))
 
 -- bytes from there on

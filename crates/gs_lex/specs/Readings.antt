@@ -1,6 +1,7 @@
 -- One step of reading a text: past white space or a comment, over a token, to a fault, or to the end of what is there.
 use Rattle.std.specs.Prelude.{◌≡◌, ◌≢◌, ℕ, ◌+◌, ◌≤◌, ◌<◌, Bool, true, false, List, [], ◌∷◌, ◌++◌, length, take, drop}
 use Rattle.std.specs.Str.{IsUtf8}
+use Rattle.gs_model.specs.Characters.{number_sign}
 use Rattle.gs_lex.specs.Classes.{is_ws}
 use Rattle.gs_lex.specs.Tokens.{Cut, Mode, Between, InComment, CutEnd, AtEnd, AtFault, Lexeme, lexeme_at, place_after}
 use Rattle.gs_lex.specs.Lexemes.{lexemes_of}
@@ -59,7 +60,7 @@ pub record BeginsToken (x : List ℕ) : Type 0 where
   pub others : List ℕ
   pub parts : x ≡ first ∷ others
   pub no_space : is_ws first ≡ false
-  pub no_hash : first ≢ 35
+  pub no_hash : first ≢ number_sign
 
 -- Why a reading waits at x: no whole character comes next, in a comment or between two tokens; or a token has begun, no
 -- whole character comes after what is read of it, and some may go on with it.

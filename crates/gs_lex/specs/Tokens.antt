@@ -4,6 +4,7 @@
 use Rattle.std.specs.Prelude.{◌≡◌, ◌≢◌, ℕ, ◌+◌, ◌-◌, ◌^◌, ◌≤◌, min, Bool, true, false, List, [], ◌∷◌, ◌++◌, length, Some, None, if◌then◌else◌, encode_utf8, encode_utf8_all}
 use Rattle.std.specs.Char.{IsScalar}
 use Rattle.std.specs.Str.{StartsWithNoChar, all_scalars}
+use Rattle.gs_model.specs.Characters.{number_sign}
 use Rattle.gs_lex.specs.Classes.{is_ws, is_line_end}
 use Rattle.gs_lex.specs.Terminals.{IsTerminal}
 use Rattle.gs_lex.specs.declared.kinds.TokenKind.{TokenKind}
@@ -56,7 +57,7 @@ pub data Cut (updates : Bool) : Mode → ℕ → ℕ → List ℕ → List Lexem
   ended : {n l : ℕ} {x : List ℕ} → x ≡ [] → Cut updates Between n l x [] AtEnd
   space : {n l : ℕ} {x : List ℕ} {ts : List Lexeme} {e : CutEnd} (c : ℕ) (r : List ℕ) → x ≡ c ∷ r → is_ws c ≡ true
       → Cut updates Between (place_after n 1) l r ts e → Cut updates Between n l x ts e
-  hash : {n l : ℕ} {x : List ℕ} {ts : List Lexeme} {e : CutEnd} (r : List ℕ) → x ≡ 35 ∷ r
+  hash : {n l : ℕ} {x : List ℕ} {ts : List Lexeme} {e : CutEnd} (r : List ℕ) → x ≡ number_sign ∷ r
       → Cut updates InComment (place_after n 1) l r ts e → Cut updates Between n l x ts e
   comment : {n l : ℕ} {x : List ℕ} {ts : List Lexeme} {e : CutEnd} (c : ℕ) (r : List ℕ) → x ≡ encode_utf8 c ++ r → IsScalar c → is_line_end c ≡ false
       → Cut updates InComment (place_after n (length (encode_utf8 c))) l r ts e → Cut updates InComment n l x ts e
@@ -66,7 +67,7 @@ pub data Cut (updates : Bool) : Mode → ℕ → ℕ → List ℕ → List Lexem
       → Cut updates Between (place_after n (length (encode_utf8_all w))) (place_after n (length (encode_utf8_all w))) r ts e
       → Cut updates Between n l x (lexeme_at k n (encode_utf8_all w) ∷ ts) e
   no_kind : {n l : ℕ} {x : List ℕ} (t : Terminal) (w r : List ℕ) → Longest updates x t w r → kind_of updates t (encode_utf8_all w) ≡ None → Cut updates Between n l x [] (AtFault l)
-  no_token : {n l : ℕ} {x : List ℕ} (c : ℕ) (r : List ℕ) → x ≡ c ∷ r → is_ws c ≡ false → c ≢ 35 → NoTerminal updates x → Cut updates Between n l x [] (AtFault l)
+  no_token : {n l : ℕ} {x : List ℕ} (c : ℕ) (r : List ℕ) → x ≡ c ∷ r → is_ws c ≡ false → c ≢ number_sign → NoTerminal updates x → Cut updates Between n l x [] (AtFault l)
 
 -- the tokens of a whole text, and how it ends
 abbrev pub IsCut : Bool → List ℕ → List Lexeme → CutEnd → Type 0

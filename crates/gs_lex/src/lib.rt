@@ -5,6 +5,8 @@ mod classes;
 mod kinds;
 mod laws;
 mod lexers;
+mod moves;
+mod quotes;
 mod readings;
 mod runs;
 mod scans;

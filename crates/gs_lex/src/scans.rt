@@ -5,8 +5,9 @@ ghost use Rattle.gs_lex.specs.Symbols.{IsShort};
 ghost use Rattle.gs_lex.specs.Scans.{onward_of, fresh, IsScanned, IsBarren, IsBarrenTo, MayBecome};
 
 use crate::kinds::Terminal;
+use crate::moves::next;
 use crate::runs::{iri_run, name_run, string_run};
-use crate::states::{State, Text, accepts, next, start_of};
+use crate::states::{State, Text, accepts, start_of};
 use crate::symbols::{Symbol, front_at};
 
 /// Where the automaton stands after so many bytes, and the longest token so far, by its bytes.

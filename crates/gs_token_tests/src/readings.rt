@@ -32,6 +32,22 @@ fn kinds_of(
     Ok(tokens.iter().map(|token| token.kind).collect(alloc)?)
 }
 
+/// Asserts that a text in pieces of so many bytes has these tokens.
+fn expect_in(
+    rt: &impl Abort,
+    alloc: Global,
+    updates: bool,
+    text: &str,
+    size: usize,
+    want: &[TokenKind],
+) -> Result<(), Fail>
+    requires { 0 < size }
+{
+    let kinds = kinds_of(alloc, updates, text.as_bytes(), size)?;
+    assert_eq!(rt; kinds.as_slice(), want, "at {text}");
+    Ok(())
+}
+
 /// Asserts that a text has these tokens, whole and in pieces of 1, 2 and 3 bytes.
 pub fn expect(
     rt: &impl Abort,
@@ -40,15 +56,25 @@ pub fn expect(
     text: &str,
     want: &[TokenKind],
 ) -> Result<(), Fail> {
-    let bytes = text.as_bytes();
-    let whole = kinds_of(alloc, updates, bytes, 1000)?;
-    assert_eq!(rt; whole.as_slice(), want, "at {text}");
-    let ones = kinds_of(alloc, updates, bytes, 1)?;
-    assert_eq!(rt; ones.as_slice(), want, "at {text}");
-    let twos = kinds_of(alloc, updates, bytes, 2)?;
-    assert_eq!(rt; twos.as_slice(), want, "at {text}");
-    let threes = kinds_of(alloc, updates, bytes, 3)?;
-    assert_eq!(rt; threes.as_slice(), want, "at {text}");
+    expect_in(rt, alloc, updates, text, 1000, want)?;
+    expect_in(rt, alloc, updates, text, 1, want)?;
+    expect_in(rt, alloc, updates, text, 2, want)?;
+    expect_in(rt, alloc, updates, text, 3, want)
+}
+
+/// Asserts that a text of Turtle in pieces of so many bytes has a fault after so many bytes.
+fn refuse_in(
+    rt: &impl Abort,
+    alloc: Global,
+    name: &str,
+    text: &[u8],
+    size: usize,
+    at: u64,
+) -> Result<(), Fail>
+    requires { 0 < size }
+{
+    let refusal = kinds_of(alloc, false, text, size).err();
+    assert_eq!(rt; refusal, Some(Refusal::Syntax(at)), "at {name}");
     Ok(())
 }
 
@@ -61,14 +87,8 @@ pub fn refuse(
     text: &[u8],
     at: u64,
 ) -> Result<(), Fail> {
-    let fault = Some(Refusal::Syntax(at));
-    assert_eq!(rt;
-        kinds_of(alloc, false, text, 1000).err(),
-        fault,
-        "at {name}"
-    );
-    assert_eq!(rt; kinds_of(alloc, false, text, 1).err(), fault, "at {name}");
-    assert_eq!(rt; kinds_of(alloc, false, text, 2).err(), fault, "at {name}");
-    assert_eq!(rt; kinds_of(alloc, false, text, 3).err(), fault, "at {name}");
-    Ok(())
+    refuse_in(rt, alloc, name, text, 1000, at)?;
+    refuse_in(rt, alloc, name, text, 1, at)?;
+    refuse_in(rt, alloc, name, text, 2, at)?;
+    refuse_in(rt, alloc, name, text, 3, at)
 }
