@@ -2,8 +2,8 @@
 use Rattle.std.proofs.Common.{ℕ, Bool, true, false, List, [], ◌∷◌, Option, Some, None}
 use Rattle.std.specs.Prelude.{◌==◌, ◌&&◌}
 use Rattle.gs_lex.specs.Regexes.{Never, Empty, One, Then, Or, Many}
-use Rattle.gs_lex.specs.Terminals.{Chars, Pattern, holds, Less, Greater, Quote, Apostrophe, Backslash, Colon, Underscore, AtSign, Dash, Dot, Percent, Caret, Semicolon, Comma, OpenBracket, CloseBracket, OpenParenthesis, CloseParenthesis, OpenBrace, CloseBrace, VariableMark, SmallU, BigU, IriChar, ShortQuoteChar, ShortApostropheChar, LongQuoteChar, LongApostropheChar, Echar, Hex, Digit, Sign, ExponentLetter, Alpha, Alphanumeric, Base, NameChar, LabelStart, LocalStart, LocalChar, LocalEscape, VariableChar}
-use Rattle.gs_lex.specs.States.{next, accepts}
+use Rattle.gs_lex.specs.Terminals.{Chars, Pattern, has_char, Less, Greater, Quote, Apostrophe, Backslash, Colon, Underscore, AtSign, Dash, Dot, Percent, Caret, Semicolon, Comma, OpenBracket, CloseBracket, OpenParenthesis, CloseParenthesis, OpenBrace, CloseBrace, VariableMark, SmallU, BigU, IriChar, ShortQuoteChar, ShortApostropheChar, LongQuoteChar, LongApostropheChar, Echar, Hex, Digit, Sign, ExponentLetter, Alpha, Alphanumeric, Base, NameChar, LabelStart, LocalStart, LocalChar, LocalEscape, VariableChar}
+use Rattle.gs_lex.specs.States.{state_after, accepts}
 use Rattle.gs_lex.specs.declared.kinds.Terminal.{Terminal}
 use Rattle.gs_lex.specs.declared.kinds.Terminal.TheVariants as kind
 use Rattle.gs_lex.specs.declared.states.State.{State}
@@ -78,12 +78,12 @@ target (Some q) k = residual q k
 -- After the character c, what is left of each of these terminals is what is left in the state o.
 abbrev pub follows : State → ℕ → Option State → List Terminal → Bool
 follows q c o [] = true
-follows q c o (k ∷ ks) = same (derive holds c (residual q k)) (target o k) && follows q c o ks
+follows q c o (k ∷ ks) = same (derive has_char c (residual q k)) (target o k) && follows q c o ks
 
 -- the same for each of these characters
 abbrev pub follows_all : State → List ℕ → Bool
 follows_all q [] = true
-follows_all q (c ∷ cs) = follows q c (next q c) kinds && follows_all q cs
+follows_all q (c ∷ cs) = follows q c (state_after q c) kinds && follows_all q cs
 
 -- the state ends a token of this kind
 abbrev pub is_kind : Option Terminal → Terminal → Bool

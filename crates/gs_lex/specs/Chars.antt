@@ -50,46 +50,46 @@ pub data Chars : Type 0 where
   VariableChar : Chars
 
 -- whether a character is in the set
-abbrev pub holds : Chars → ℕ → Bool
-holds Less c = c == less_than
-holds Greater c = c == greater_than
-holds Quote c = c == quote
-holds Apostrophe c = c == apostrophe
-holds Backslash c = c == backslash
-holds Colon c = c == colon
-holds Underscore c = c == underscore
-holds AtSign c = c == at_sign
-holds Dash c = c == hyphen
-holds Dot c = c == dot
-holds Percent c = c == percent
-holds Caret c = c == caret
-holds Semicolon c = c == semicolon
-holds Comma c = c == comma
-holds OpenBracket c = c == left_bracket
-holds CloseBracket c = c == right_bracket
-holds OpenParenthesis c = c == left_parenthesis
-holds CloseParenthesis c = c == right_parenthesis
-holds OpenBrace c = c == left_brace
-holds CloseBrace c = c == right_brace
-holds VariableMark c = c == question_mark || c == dollar
-holds SmallU c = c == letter_u
-holds BigU c = c == letter_large_u
-holds IriChar c = is_iri_char c
-holds ShortQuoteChar c = not (c == quote || c == backslash || is.is_line_end c)
-holds ShortApostropheChar c = not (c == apostrophe || c == backslash || is.is_line_end c)
-holds LongQuoteChar c = not (c == quote || c == backslash)
-holds LongApostropheChar c = not (c == apostrophe || c == backslash)
-holds Echar c = is.is_echar c
-holds Hex c = is.is_hex c
-holds Digit c = is.is_digit c
-holds Sign c = is.is_sign c
-holds ExponentLetter c = is.is_exponent c
-holds Alpha c = is.is_alpha c
-holds Alphanumeric c = is.is_alphanumeric c
-holds Base c = is.is_base c
-holds NameChar c = is.is_name c
-holds LabelStart c = is.is_label_start c
-holds LocalStart c = is.is_local_start c
-holds LocalChar c = is.is_local c
-holds LocalEscape c = is.is_local_escape c
-holds VariableChar c = is.is_variable c
+abbrev pub has_char : Chars → ℕ → Bool
+has_char Less c = c == less_than
+has_char Greater c = c == greater_than
+has_char Quote c = c == quote
+has_char Apostrophe c = c == apostrophe
+has_char Backslash c = c == backslash
+has_char Colon c = c == colon
+has_char Underscore c = c == underscore
+has_char AtSign c = c == at_sign
+has_char Dash c = c == hyphen
+has_char Dot c = c == dot
+has_char Percent c = c == percent
+has_char Caret c = c == caret
+has_char Semicolon c = c == semicolon
+has_char Comma c = c == comma
+has_char OpenBracket c = c == left_bracket
+has_char CloseBracket c = c == right_bracket
+has_char OpenParenthesis c = c == left_parenthesis
+has_char CloseParenthesis c = c == right_parenthesis
+has_char OpenBrace c = c == left_brace
+has_char CloseBrace c = c == right_brace
+has_char VariableMark c = c == question_mark || c == dollar
+has_char SmallU c = c == letter_u
+has_char BigU c = c == letter_large_u
+has_char IriChar c = is_iri_char c
+has_char ShortQuoteChar c = not (c == quote || c == backslash || is.is_line_end c)
+has_char ShortApostropheChar c = not (c == apostrophe || c == backslash || is.is_line_end c)
+has_char LongQuoteChar c = not (c == quote || c == backslash)
+has_char LongApostropheChar c = not (c == apostrophe || c == backslash)
+has_char Echar c = is.is_echar c
+has_char Hex c = is.is_hex c
+has_char Digit c = is.is_digit c
+has_char Sign c = is.is_sign c
+has_char ExponentLetter c = is.is_exponent c
+has_char Alpha c = is.is_alpha c
+has_char Alphanumeric c = is.is_alphanumeric c
+has_char Base c = is.is_prefix_start c
+has_char NameChar c = is.is_name_char c
+has_char LabelStart c = is.is_label_start c
+has_char LocalStart c = is.is_local_start c
+has_char LocalChar c = is.is_local c
+has_char LocalEscape c = is.is_local_escape c
+has_char VariableChar c = is.is_variable c

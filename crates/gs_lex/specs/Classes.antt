@@ -47,12 +47,12 @@ is_local_escape c =
     || c == percent
 
 -- the first character of a prefix, and of a word
-abbrev pub is_base : ℕ → Bool
-is_base c = in_ranges pn_chars_base c
+abbrev pub is_prefix_start : ℕ → Bool
+is_prefix_start c = in_ranges pn_chars_base c
 
 -- [166s] PN_CHARS
-abbrev pub is_name : ℕ → Bool
-is_name c = in_ranges pn_chars c
+abbrev pub is_name_char : ℕ → Bool
+is_name_char c = in_ranges pn_chars c
 
 -- the first character of a label, and of a variable's name
 abbrev pub is_label_start : ℕ → Bool

@@ -53,7 +53,7 @@ at_start c =
     else if c == caret then Some at.Caret
     else if is.is_sign c then Some at.Sign
     else if is.is_digit c then Some at.Integer
-    else if is.is_base c then Some at.Word
+    else if is.is_prefix_start c then Some at.Word
     else punctuation c
 
 -- and of a token of updates
@@ -88,8 +88,8 @@ has_echar (text.Short m) = true
 has_echar (text.Long m) = true
 
 -- after a backslash there
-abbrev pub escaped : Text → ℕ → Option State
-escaped t c =
+abbrev pub after_backslash : Text → ℕ → Option State
+after_backslash t c =
     if c == letter_u then Some (at.Hex t left.Four)
     else if c == letter_large_u then Some (at.Hex t left.Eight)
     else if has_echar t then (if is.is_echar c then Some (at.Inside t) else None)

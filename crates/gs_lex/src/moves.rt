@@ -3,11 +3,11 @@ ghost use Rattle.std.specs.Prelude.{◌≡◌, if◌then◌else◌, Some, None};
 ghost use Rattle.gs_lex.specs.States as spec;
 
 use crate::classes::{
-    is_alpha, is_alphanumeric, is_base, is_digit, is_exponent, is_hex, is_label_start, is_local,
-    is_local_escape, is_local_start, is_name, is_sign, is_variable,
+    is_alpha, is_alphanumeric, is_digit, is_exponent, is_hex, is_label_start, is_local,
+    is_local_escape, is_local_start, is_name_char, is_prefix_start, is_sign, is_variable,
 };
 use crate::kinds::Terminal;
-use crate::quotes::{escaped, hexadecimal, inside, quoted};
+use crate::quotes::{after_backslash, hexadecimal, inside, quoted};
 use crate::states::{Mark, State, Text};
 
 /// One way on, where the character takes it.
@@ -15,13 +15,6 @@ fn only_if(takes: bool, state: State) -> Option<State>
     ensures { result ≡ (if takes then Some state else None) }
 {
     if takes { Some(state) } else { None }
-}
-
-/// One way on, where the character takes it, and otherwise the others.
-fn either(takes: bool, state: State, others: Option<State>) -> Option<State>
-    ensures { result ≡ (if takes then Some state else others) }
-{
-    if takes { Some(state) } else { others }
 }
 
 fn punctuation(c: char) -> Option<State>
@@ -55,7 +48,7 @@ fn at_start(c: char) -> Option<State>
                 Some(State::Sign)
             } else if is_digit(c) {
                 Some(State::Integer)
-            } else if is_base(c) {
+            } else if is_prefix_start(c) {
                 Some(State::Word)
             } else {
                 punctuation(c)
@@ -78,18 +71,13 @@ fn at_update_start(c: char) -> Option<State>
 /// In a blank node's label.
 fn in_label(state: State, c: char) -> Option<State>
     requires { spec.IsInLabel state }
-    ensures { result ≡ spec.next state c }
+    ensures { result ≡ spec.state_after state c }
 {
     match state {
-        State::Underscore => only_if(c == ':', State::LabelColon),
-        State::LabelColon => only_if(is_label_start(c), State::Label),
-        State::Label | State::LabelDots => {
-            either(
-                is_name(c),
-                State::Label,
-                only_if(c == '.', State::LabelDots),
-            )
-        }
+        State::Underscore if c == ':' => Some(State::LabelColon),
+        State::LabelColon if is_label_start(c) => Some(State::Label),
+        State::Label | State::LabelDots if is_name_char(c) => Some(State::Label),
+        State::Label | State::LabelDots if c == '.' => Some(State::LabelDots),
         _ => None,
     }
 }
@@ -97,19 +85,12 @@ fn in_label(state: State, c: char) -> Option<State>
 /// In a language tag.
 fn in_tag(state: State, c: char) -> Option<State>
     requires { spec.IsInTag state }
-    ensures { result ≡ spec.next state c }
+    ensures { result ≡ spec.state_after state c }
 {
     match state {
-        State::AtSign => only_if(is_alpha(c), State::Tag),
-        State::Tag => either(is_alpha(c), State::Tag, only_if(c == '-', State::TagDash)),
-        State::TagDash => only_if(is_alphanumeric(c), State::TagPart),
-        State::TagPart => {
-            either(
-                is_alphanumeric(c),
-                State::TagPart,
-                only_if(c == '-', State::TagDash),
-            )
-        }
+        State::AtSign | State::Tag if is_alpha(c) => Some(State::Tag),
+        State::TagDash | State::TagPart if is_alphanumeric(c) => Some(State::TagPart),
+        State::Tag | State::TagPart if c == '-' => Some(State::TagDash),
         _ => None,
     }
 }
@@ -117,32 +98,38 @@ fn in_tag(state: State, c: char) -> Option<State>
 /// In a number.
 fn in_number(state: State, c: char) -> Option<State>
     requires { spec.IsInNumber state }
-    ensures { result ≡ spec.next state c }
+    ensures { result ≡ spec.state_after state c }
 {
-    let digit = is_digit(c);
-    let exponent = only_if(is_exponent(c), State::Exponent);
     match state {
-        State::Sign => either(digit, State::Integer, only_if(c == '.', State::SignDot)),
-        State::SignDot | State::Dot => only_if(digit, State::Fraction),
-        State::Integer => {
-            either(
-                digit,
-                State::Integer,
-                either(c == '.', State::IntegerDot, exponent),
-            )
-        }
-        State::IntegerDot | State::IntegerFraction => {
-            either(digit, State::IntegerFraction, exponent)
-        }
-        State::Fraction => either(digit, State::Fraction, exponent),
-        State::Exponent => {
-            either(
-                digit,
-                State::ExponentDigits,
-                only_if(is_sign(c), State::ExponentSign),
-            )
-        }
-        State::ExponentSign | State::ExponentDigits => only_if(digit, State::ExponentDigits),
+        State::Sign => if is_digit(c) {
+            Some(State::Integer)
+        } else {
+            only_if(c == '.', State::SignDot)
+        },
+        State::SignDot | State::Dot => only_if(is_digit(c), State::Fraction),
+        State::Integer => if is_digit(c) {
+            Some(State::Integer)
+        } else if c == '.' {
+            Some(State::IntegerDot)
+        } else {
+            only_if(is_exponent(c), State::Exponent)
+        },
+        State::IntegerDot | State::IntegerFraction => if is_digit(c) {
+            Some(State::IntegerFraction)
+        } else {
+            only_if(is_exponent(c), State::Exponent)
+        },
+        State::Fraction => if is_digit(c) {
+            Some(State::Fraction)
+        } else {
+            only_if(is_exponent(c), State::Exponent)
+        },
+        State::Exponent => if is_digit(c) {
+            Some(State::ExponentDigits)
+        } else {
+            only_if(is_sign(c), State::ExponentSign)
+        },
+        State::ExponentSign | State::ExponentDigits => only_if(is_digit(c), State::ExponentDigits),
         _ => None,
     }
 }
@@ -150,29 +137,28 @@ fn in_number(state: State, c: char) -> Option<State>
 /// In a word, or in a prefix.
 fn in_word(state: State, c: char) -> Option<State>
     requires { spec.IsInWord state }
-    ensures { result ≡ spec.next state c }
+    ensures { result ≡ spec.state_after state c }
 {
-    let colon = only_if(c == ':', State::Namespace);
     match state {
-        State::Word => either(
-            is_name(c),
-            State::Word,
-            either(c == '.', State::WordDots, colon),
-        ),
-        State::WordDots => {
-            either(
-                is_name(c),
-                State::WordMore,
-                only_if(c == '.', State::WordDots),
-            )
-        }
-        State::WordMore => {
-            either(
-                is_name(c),
-                State::WordMore,
-                either(c == '.', State::WordDots, colon),
-            )
-        }
+        State::Word => if is_name_char(c) {
+            Some(State::Word)
+        } else if c == '.' {
+            Some(State::WordDots)
+        } else {
+            only_if(c == ':', State::Namespace)
+        },
+        State::WordDots => if is_name_char(c) {
+            Some(State::WordMore)
+        } else {
+            only_if(c == '.', State::WordDots)
+        },
+        State::WordMore => if is_name_char(c) {
+            Some(State::WordMore)
+        } else if c == '.' {
+            Some(State::WordDots)
+        } else {
+            only_if(c == ':', State::Namespace)
+        },
         _ => None,
     }
 }
@@ -195,35 +181,30 @@ fn local(c: char) -> Option<State>
 /// In a local name, after the colon of its prefix.
 fn in_local(state: State, c: char) -> Option<State>
     requires { spec.IsInLocal state }
-    ensures { result ≡ spec.next state c }
+    ensures { result ≡ spec.state_after state c }
 {
     match state {
-        State::Namespace => {
-            let escape = only_if(c == '\\', State::FirstEscape);
-            either(
-                is_local_start(c),
-                State::Local,
-                either(c == '%', State::FirstPercent, escape),
-            )
-        }
-        State::FirstPercent => only_if(is_hex(c), State::FirstPercentOne),
-        State::Percent => only_if(is_hex(c), State::PercentOne),
-        State::FirstPercentOne | State::PercentOne => only_if(is_hex(c), State::Local),
-        State::FirstEscape | State::LocalEscape => only_if(is_local_escape(c), State::Local),
+        State::Namespace if is_local_start(c) => Some(State::Local),
+        State::Namespace if c == '%' => Some(State::FirstPercent),
+        State::Namespace if c == '\\' => Some(State::FirstEscape),
+        State::FirstPercent if is_hex(c) => Some(State::FirstPercentOne),
+        State::Percent if is_hex(c) => Some(State::PercentOne),
+        State::FirstPercentOne | State::PercentOne if is_hex(c) => Some(State::Local),
+        State::FirstEscape | State::LocalEscape if is_local_escape(c) => Some(State::Local),
         State::Local | State::LocalDots => local(c),
         _ => None,
     }
 }
 
 /// The state after a character; none where no token goes on so.
-pub fn next(state: State, c: char) -> Option<State>
-    ensures { result ≡ spec.next state c }
+pub fn state_after(state: State, c: char) -> Option<State>
+    ensures { result ≡ spec.state_after state c }
 {
     match state {
         State::Start => at_start(c),
         State::UpdateStart => at_update_start(c),
         State::Inside(text) => inside(text, c),
-        State::Escape(text) => escaped(text, c),
+        State::Escape(text) => after_backslash(text, c),
         State::Hex(text, left) => hexadecimal(text, left, c),
         State::Ended(_) => None,
         State::First(_)

@@ -70,8 +70,8 @@ fn has_echar(text: Text) -> bool
 }
 
 /// After a backslash in one.
-pub fn escaped(text: Text, c: char) -> Option<State>
-    ensures { result ≡ spec.escaped text c }
+pub fn after_backslash(text: Text, c: char) -> Option<State>
+    ensures { result ≡ spec.after_backslash text c }
 {
     if c == 'u' {
         Some(State::Hex(text, Left::Four))
@@ -106,7 +106,7 @@ fn after_hex(text: Text, left: Left) -> State
 
 /// In the digits of a UCHAR.
 pub fn hexadecimal(text: Text, left: Left, c: char) -> Option<State>
-    ensures { result ≡ spec.next (State.Hex text left) c }
+    ensures { result ≡ spec.state_after (State.Hex text left) c }
 {
     if is_hex(c) {
         Some(after_hex(text, left))
@@ -118,7 +118,7 @@ pub fn hexadecimal(text: Text, left: Left, c: char) -> Option<State>
 /// After quotes that open a string, or that may close a long one.
 pub fn quoted(state: State, c: char) -> Option<State>
     requires { spec.IsQuoted state }
-    ensures { result ≡ spec.next state c }
+    ensures { result ≡ spec.state_after state c }
 {
     match state {
         State::First(mark) if c == character_of(mark) => Some(State::Empty(mark)),
