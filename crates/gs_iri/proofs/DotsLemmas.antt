@@ -7,7 +7,7 @@ use Rattle.std.proofs.lemmas.Bool.Decides.{eqb_tells}
 use Rattle.std.proofs.lemmas.List.Sums.{fold-append}
 use Rattle.gs_iri.specs.References.{is_one_of, before, from, behind}
 use Rattle.gs_iri.specs.Dots.{Output, segments_of, is_dot, is_dot_dot, is_dots, last_of, closed, moved, text_of_segments, output_of, dots}
-use Rattle.gs_iri.specs.Output.{has_slash, without_last, put_behind, put}
+use Rattle.gs_iri.specs.Output.{has_slash, without_last, put_after, put}
 
 -- the one byte "/"
 pub slash_test : (c : ℕ) → is_one_of (codes "/") c ≡ (c == 47)
@@ -120,7 +120,7 @@ pub record Moves (o : Output) (s : List ℕ) : Type 0 where
   pub output : IsOutput (moved o s)
 
 moves : (o : Output) (s : List ℕ) → IsOutput o → has_slash s ≡ false → Moves o s
-unfolding moved put put_behind text_of_segments
+unfolding moved put put_after text_of_segments
 moves None s m h =
     elim (is_dots s) as (λ b. is_dots s ≡ b → Moves None s) [
       | true ↦ λ e. record { same = rw e refl; output = rw e tt }

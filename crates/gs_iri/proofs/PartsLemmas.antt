@@ -4,7 +4,7 @@ use Rattle.std.specs.Prelude.{Some, None, codes}
 use Rattle.std.specs.Option.{is_some, unwrap_or, option_map, option_and_then}
 use Rattle.std.proofs.lemmas.Bool.{eqb-true}
 use Rattle.gs_iri.specs.References.{is_one_of, before, from, behind, is_scheme, has_scheme, scheme_of, behind_scheme, behind_slashes, authority_of, behind_authority, path_of, behind_path, query_of, behind_query, fragment_of, parts_of}
-use Rattle.gs_iri.specs.Resolving.{scheme_text, marked, parts_text, joined}
+use Rattle.gs_iri.specs.Resolving.{scheme_text, marked, parts_text, recomposed}
 
 pub before-from : (stops x : List ℕ) → before stops x ++ from stops x ≡ x
 unfolding before from
@@ -109,7 +109,7 @@ fragment-rejoin x =
       | Some y ↦ λ h. fragment_from y
     ] refl
 
-pub rejoin : (x : List ℕ) → joined (parts_of x) ≡ x
+pub rejoin : (x : List ℕ) → recomposed (parts_of x) ≡ x
 unfolding parts_of parts_text path_of behind_path
 rejoin x =
     let a = behind_scheme x in

@@ -6,7 +6,7 @@ use Rattle.std.proofs.lemmas.Bool.{ne_eqb}
 use denote.Ref.{Bor}
 use Rattle.gs_iri.specs.References.{Reference, behind}
 use Rattle.gs_iri.specs.Dots.{dots}
-use Rattle.gs_iri.specs.Resolving.{parts_text, joined, is_empty, directory_of, resolved_parts}
+use Rattle.gs_iri.specs.Resolving.{parts_text, recomposed, is_empty, directory_of, resolved_parts}
 
 some_copied : (o : Option (Bor (List ℕ))) → is_some (option_copied o) ≡ is_some o
 some_copied None = refl
@@ -19,25 +19,25 @@ is_told o e p q = sym (ap is_some e) ∙ some_copied o ∙ sym p ∙ q
 pub parts_same : {s s' a a' : Option (List ℕ)} {p p' : List ℕ} {q q' f f' : Option (List ℕ)} → s ≡ s' → a ≡ a' → p ≡ p' → q ≡ q' → f ≡ f' → parts_text s a p q f ≡ parts_text s' a' p' q' f'
 parts_same e1 e2 e3 e4 e5 = cc
 
-pub own_scheme : (b r : Reference) → is_some r.scheme ≡ true → parts_text r.scheme r.authority (dots r.path) r.query r.fragment ≡ joined (resolved_parts b r)
+pub own_scheme : (b r : Reference) → is_some r.scheme ≡ true → parts_text r.scheme r.authority (dots r.path) r.query r.fragment ≡ recomposed (resolved_parts b r)
 unfolding resolved_parts
 own_scheme b r h = rw h refl
 
-pub own_authority : (b r : Reference) → is_some r.scheme ≡ false → is_some r.authority ≡ true → parts_text b.scheme r.authority (dots r.path) r.query r.fragment ≡ joined (resolved_parts b r)
+pub own_authority : (b r : Reference) → is_some r.scheme ≡ false → is_some r.authority ≡ true → parts_text b.scheme r.authority (dots r.path) r.query r.fragment ≡ recomposed (resolved_parts b r)
 unfolding resolved_parts
 own_authority b r h k = rw (h, k) refl
 
-pub no_path : (b r : Reference) → is_some r.scheme ≡ false → is_some r.authority ≡ false → is_empty r.path ≡ true → parts_text b.scheme b.authority b.path (option_or r.query b.query) r.fragment ≡ joined (resolved_parts b r)
+pub no_path : (b r : Reference) → is_some r.scheme ≡ false → is_some r.authority ≡ false → is_empty r.path ≡ true → parts_text b.scheme b.authority b.path (option_or r.query b.query) r.fragment ≡ recomposed (resolved_parts b r)
 unfolding resolved_parts
 no_path b r h k l = rw (h, k, l) refl
 
 pub own_path : (b r : Reference) → is_some r.scheme ≡ false → is_some r.authority ≡ false → is_empty r.path ≡ false → is_some (behind 47 r.path) ≡ true
-    → parts_text b.scheme b.authority (dots r.path) r.query r.fragment ≡ joined (resolved_parts b r)
+    → parts_text b.scheme b.authority (dots r.path) r.query r.fragment ≡ recomposed (resolved_parts b r)
 unfolding resolved_parts
 own_path b r h k l m = rw (h, k, l, m) refl
 
 pub merged_path : (b r : Reference) → is_some r.scheme ≡ false → is_some r.authority ≡ false → is_empty r.path ≡ false → is_some (behind 47 r.path) ≡ false
-    → parts_text b.scheme b.authority (dots (directory_of b.authority b.path ++ r.path)) r.query r.fragment ≡ joined (resolved_parts b r)
+    → parts_text b.scheme b.authority (dots (directory_of b.authority b.path ++ r.path)) r.query r.fragment ≡ recomposed (resolved_parts b r)
 unfolding resolved_parts
 merged_path b r h k l m = rw (h, k, l, m) refl
 

@@ -1,6 +1,4 @@
--- Read in this order: the marks between the parts of a reference, the parts, the path without dot segments, the
--- reference resolved.
-pub mod Marks
+-- Read in this order: the parts of a reference, the path without dot segments, the reference resolved.
 pub mod References
 pub mod Dots
 pub mod Output

@@ -2,7 +2,7 @@
 use Rattle.std.specs.Prelude.{◌≡◌, ℕ, ◌+◌, ◌<◌, String, length, take, drop, fold, slice_index, Bool, true, false, if◌then◌else◌, ◌==◌, List, [], ◌∷◌, ◌++◌}
 use Rattle.std.specs.List.{list_any}
 use Rattle.std.specs.String.{string_bytes}
-use Rattle.gs_iri.specs.Marks.{slash}
+use Rattle.gs_chars.specs.Characters.{slash}
 use Rattle.gs_iri.specs.Dots.{segments_of, closed, is_dot, is_dot_dot, is_dots}
 
 -- some byte is a '/'
@@ -21,12 +21,12 @@ without_last [] = []
 without_last (c ∷ cs) = if has_slash cs then c ∷ without_last cs else []
 
 -- a segment after a '/'
-unfoldable pub put_behind : List ℕ → List ℕ → List ℕ
-put_behind out s = if is_dot s then out else if is_dot_dot s then without_last out else out ++ slash ∷ s
+unfoldable pub put_after : List ℕ → List ℕ → List ℕ
+put_after out s = if is_dot s then out else if is_dot_dot s then without_last out else out ++ slash ∷ s
 
 -- a segment after what is put, if any is
 unfoldable pub put : Bool × List ℕ → List ℕ → Bool × List ℕ
-put o s = if o.0 then (true, put_behind o.1 s) else if is_dots s then o else (true, o.1 ++ s)
+put o s = if o.0 then (true, put_after o.1 s) else if is_dots s then o else (true, o.1 ++ s)
 
 -- the first bytes of the string, so many, stay
 abbrev pub KeepsFront : {Z : Type 0} → ℕ → String Z → String Z → Type 0

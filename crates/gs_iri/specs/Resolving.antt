@@ -6,7 +6,7 @@ use Rattle.gs_model.specs.Characters.{is_iri_char}
 use Rattle.gs_model.specs.Iris.{is_absolute}
 use Rattle.gs_model.specs.declared.refusals.Refusal.{Refusal}
 use Rattle.gs_model.specs.declared.refusals.Refusal.TheVariants.{NoMemory, Syntax}
-use Rattle.gs_iri.specs.Marks.{slash}
+use Rattle.gs_chars.specs.Characters.{slash}
 use Rattle.gs_iri.specs.References.{Reference, behind, parts_of}
 use Rattle.gs_iri.specs.Dots.{dots}
 use Rattle.gs_iri.specs.Output.{has_slash}
@@ -26,9 +26,9 @@ unfoldable pub parts_text : Option (List ℕ) → Option (List ℕ) → List ℕ
 parts_text scheme authority path query fragment =
     scheme_text scheme ++ (marked (codes "//") authority ++ (path ++ (marked (codes "?") query ++ marked (codes "#") fragment)))
 
--- the same of the parts of a reference
-abbrev pub joined : Reference → List ℕ
-joined r = parts_text r.scheme r.authority r.path r.query r.fragment
+-- 5.3: the text of a reference of these parts
+abbrev pub recomposed : Reference → List ℕ
+recomposed r = parts_text r.scheme r.authority r.path r.query r.fragment
 
 -- no byte
 abbrev pub is_empty : List ℕ → Bool
@@ -60,7 +60,7 @@ resolved_parts b r =
 
 -- the text of a reference resolved against a base
 unfoldable pub resolved : List ℕ → List ℕ → List ℕ
-resolved base reference = joined (resolved_parts (parts_of base) (parts_of reference))
+resolved base reference = recomposed (resolved_parts (parts_of base) (parts_of reference))
 
 -- the base is absolute, and the reference has IRI characters only
 abbrev pub is_resolvable : List ℕ → List ℕ → Bool

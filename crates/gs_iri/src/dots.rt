@@ -6,7 +6,7 @@ ghost use Rattle.gs_iri.specs.Dots.{is_dot as is_dot_of, is_dot_dot as is_dot_do
 ghost use Rattle.gs_iri.specs.Output.{has_slash, IsLastSlash, DropsLast, KeepsFront, Puts, PutsAll, PutsPath};
 ghost use Rattle.gs_iri.specs.Appending.{AppendsDots, KeepsAll};
 
-use crate::references::{behind, cut};
+use crate::references::{after, cut};
 use std::alloc::AllocError;
 
 /// Whether a segment stands for its own directory.
@@ -62,7 +62,7 @@ fn drop_last(start: usize, resolved: &mut String)
 }
 
 /// Puts one segment after what is put, if any is. The front up to `start` stays.
-#[tactic(auto, unfolding(crate::specs::Output::put, crate::specs::Output::put_behind))]
+#[tactic(auto, unfolding(crate::specs::Output::put, crate::specs::Output::put_after))]
 fn put_segment(
     segment: &str,
     begun: bool,
@@ -113,7 +113,7 @@ fn put_segments<'a>(
     'segments: loop {
         let (segment, back) = cut(rest, b"/");
         begun = put_segment(segment, begun, start, resolved)?;
-        match behind(back, b'/') {
+        match after(back, b'/') {
             None => return Ok((begun, segment)),
             Some(more) => rest = more,
         }

@@ -3,7 +3,7 @@ ghost use Rattle.std.specs.Prelude.{◌≡◌, ℕ, List, true, ◌↔◌};
 ghost use Rattle.std.specs.Str.{all_scalars, encode_utf8_all};
 ghost use Rattle.gs_model.specs.Iris.{is_absolute as absolute, IsAbsolute};
 ghost use Rattle.gs_iri.specs.References.{parts_of};
-ghost use Rattle.gs_iri.specs.Resolving.{joined, StaysAbsolute};
+ghost use Rattle.gs_iri.specs.Resolving.{recomposed, StaysAbsolute};
 
 /// The test says what the definition says.
 pub fn absolute_is()
@@ -17,7 +17,7 @@ pub fn absolute_by_characters()
 
 /// The parts of a text, joined again, are the text.
 pub fn parts_rejoin()
-    ensures { (text : List ℕ) → joined (parts_of text) ≡ text }
+    ensures { (text : List ℕ) → recomposed (parts_of text) ≡ text }
 {}
 
 /// The IRI that a reference of IRI characters means under an absolute base is absolute.

@@ -3,7 +3,7 @@ ghost use Rattle.std.specs.Prelude.{◌≡◌, ◌≤◌, ◌<◌, true, IfSome,
 ghost use Rattle.std.specs.Option.{option_copied};
 ghost use Rattle.std.specs.List.{list_all, position_or_len};
 ghost use Rattle.std.specs.Str.{IsUtf8};
-ghost use Rattle.gs_iri.specs.References.{is_one_of, before, from, behind as behind_in, is_scheme as is_scheme_of, scheme_of, behind_scheme, behind_slashes as behind_slashes_of, authority_of, behind_authority, query_of, behind_query, parts_of};
+ghost use Rattle.gs_iri.specs.References.{is_one_of, before, from, behind, is_scheme as is_scheme_of, scheme_of, behind_scheme, behind_slashes, authority_of, behind_authority, query_of, behind_query, parts_of};
 
 use crate::absolute::{are_scheme_bytes, is_letter};
 
@@ -41,9 +41,9 @@ pub fn cut<'a>(text: &'a str, stops: &[u8]) -> (&'a str, &'a str)
 
 /// What stands after an ASCII byte, where the text begins with it.
 #[tactic(auto, unfolding(crate::specs::References::behind))]
-pub fn behind(text: &str, mark: u8) -> Option<&str>
+pub fn after(text: &str, mark: u8) -> Option<&str>
     requires { mark < 128 }
-    ensures value { option_copied result ≡ behind_in mark text.now }
+    ensures value { option_copied result ≡ behind mark text.now }
     ensures text { IfSome result (λ rest. IsUtf8 rest.now) }
 {
     match text.as_bytes().first() {
@@ -68,19 +68,19 @@ fn cut_scheme(text: &str) -> (Option<&str>, &str)
     ensures back { result.1.now ≡ behind_scheme text.now }
 {
     let (front, back) = cut(text, b":");
-    match behind(back, b':') {
+    match after(back, b':') {
         Some(rest) if is_scheme(front.as_bytes()) => (Some(front), rest),
         _ => (None, text),
     }
 }
 
 #[tactic(auto, unfolding(crate::specs::References::behind_slashes))]
-fn behind_slashes(text: &str) -> Option<&str>
-    ensures { option_copied result ≡ behind_slashes_of text.now }
+fn after_slashes(text: &str) -> Option<&str>
+    ensures { option_copied result ≡ behind_slashes text.now }
 {
-    match behind(text, b'/') {
+    match after(text, b'/') {
         None => None,
-        Some(rest) => behind(rest, b'/'),
+        Some(rest) => after(rest, b'/'),
     }
 }
 
@@ -89,7 +89,7 @@ fn cut_authority(text: &str) -> (Option<&str>, &str)
     ensures front { option_copied result.0 ≡ authority_of text.now }
     ensures back { result.1.now ≡ behind_authority text.now }
 {
-    match behind_slashes(text) {
+    match after_slashes(text) {
         None => (None, text),
         Some(rest) => {
             let (authority, back) = cut(rest, b"/?#");
@@ -103,7 +103,7 @@ fn cut_query(text: &str) -> (Option<&str>, &str)
     ensures front { option_copied result.0 ≡ query_of text.now }
     ensures back { result.1.now ≡ behind_query text.now }
 {
-    match behind(text, b'?') {
+    match after(text, b'?') {
         None => (None, text),
         Some(rest) => {
             let (query, back) = cut(rest, b"#");
@@ -121,11 +121,11 @@ pub fn cut_parts(text: &str) -> Parts<'_>
     ensures query { option_copied result.query ≡ (parts_of text.now).query }
     ensures fragment { option_copied result.fragment ≡ (parts_of text.now).fragment }
 {
-    let (scheme, behind_scheme) = cut_scheme(text);
-    let (authority, behind_authority) = cut_authority(behind_scheme);
-    let (path, behind_path) = cut(behind_authority, b"?#");
-    let (query, behind_query) = cut_query(behind_path);
-    let fragment = behind(behind_query, b'#');
+    let (scheme, after_scheme) = cut_scheme(text);
+    let (authority, after_authority) = cut_authority(after_scheme);
+    let (path, after_path) = cut(after_authority, b"?#");
+    let (query, after_query) = cut_query(after_path);
+    let fragment = after(after_query, b'#');
     Parts {
         scheme,
         authority,

@@ -7,7 +7,7 @@ ghost use Rattle.gs_iri.specs.Appending.{Appends, AppendsHead, AppendsPart, Appe
 
 use crate::absolute::{are_iri_bytes, is_absolute};
 use crate::dots::{append_dots, last_slash};
-use crate::references::{Parts, behind, cut_parts};
+use crate::references::{Parts, after, cut_parts};
 use gs_model::Refusal;
 use std::alloc::AllocError;
 
@@ -149,7 +149,7 @@ fn append_resolved(base: &str, reference: &str, resolved: &mut String) -> Result
         query: r.query,
         fragment: r.fragment,
     };
-    if behind(r.path, b'/').is_some() {
+    if after(r.path, b'/').is_some() {
         return append_removed(&target, None, resolved);
     }
     append_removed(&target, front_of(b.authority, b.path), resolved)
@@ -175,122 +175,5 @@ pub fn resolve(base: &str, reference: &str, resolved: &mut String) -> Result<(),
             resolved.truncate(before);
             Err(Refusal::NoMemory)
         }
-    }
-}
-
-#[cfg(test)]
-mod tests {
-    use super::*;
-    use std::process::Abort;
-    use std::test::Fail;
-
-    const BASE: &str = "http://a/b/c/d;p?q";
-
-    /// RFC 3986, section 5.4.1: normal examples.
-    const NORMAL: [(&str, &str); 23] = [
-        ("g:h", "g:h"),
-        ("g", "http://a/b/c/g"),
-        ("./g", "http://a/b/c/g"),
-        ("g/", "http://a/b/c/g/"),
-        ("/g", "http://a/g"),
-        ("//g", "http://g"),
-        ("?y", "http://a/b/c/d;p?y"),
-        ("g?y", "http://a/b/c/g?y"),
-        ("#s", "http://a/b/c/d;p?q#s"),
-        ("g#s", "http://a/b/c/g#s"),
-        ("g?y#s", "http://a/b/c/g?y#s"),
-        (";x", "http://a/b/c/;x"),
-        ("g;x", "http://a/b/c/g;x"),
-        ("g;x?y#s", "http://a/b/c/g;x?y#s"),
-        ("", "http://a/b/c/d;p?q"),
-        (".", "http://a/b/c/"),
-        ("./", "http://a/b/c/"),
-        ("..", "http://a/b/"),
-        ("../", "http://a/b/"),
-        ("../g", "http://a/b/g"),
-        ("../..", "http://a/"),
-        ("../../", "http://a/"),
-        ("../../g", "http://a/g"),
-    ];
-
-    /// RFC 3986, section 5.4.2: abnormal examples, the last as strict parsers read it.
-    const ABNORMAL: [(&str, &str); 19] = [
-        ("../../../g", "http://a/g"),
-        ("../../../../g", "http://a/g"),
-        ("/./g", "http://a/g"),
-        ("/../g", "http://a/g"),
-        ("g.", "http://a/b/c/g."),
-        (".g", "http://a/b/c/.g"),
-        ("g..", "http://a/b/c/g.."),
-        ("..g", "http://a/b/c/..g"),
-        ("./../g", "http://a/b/g"),
-        ("./g/.", "http://a/b/c/g/"),
-        ("g/./h", "http://a/b/c/g/h"),
-        ("g/../h", "http://a/b/c/h"),
-        ("g;x=1/./y", "http://a/b/c/g;x=1/y"),
-        ("g;x=1/../y", "http://a/b/c/y"),
-        ("g?y/./x", "http://a/b/c/g?y/./x"),
-        ("g?y/../x", "http://a/b/c/g?y/../x"),
-        ("g#s/./x", "http://a/b/c/g#s/./x"),
-        ("g#s/../x", "http://a/b/c/g#s/../x"),
-        ("http:g", "http:g"),
-    ];
-
-    /// A fragment of the base, and joins by the letter.
-    const OTHERS: [(&str, &str, &str); 5] = [
-        ("http://a/b?q#f", "", "http://a/b?q"),
-        ("http://a", "g", "http://a/g"),
-        ("urn:a:b", "c", "urn:c"),
-        ("f:/a", ".//g", "f://g"),
-        (
-            "http://a/b/c/d;p?q",
-            "\u{e9}/../\u{4e2d}",
-            "http://a/b/c/\u{4e2d}",
-        ),
-    ];
-
-    fn check(
-        rt: &(impl Abort + AllocGlobal),
-        base: &str,
-        reference: &str,
-        wanted: &str,
-    ) -> Result<(), Fail> {
-        let mut resolved = String::new(rt.alloc());
-        resolve(base, reference, &mut resolved)?;
-        assert_eq!(rt; resolved.as_str(), wanted);
-        Ok(())
-    }
-
-    #[test]
-    fn normal_examples(rt: HostRuntime) -> Result<(), Fail> {
-        for (reference, wanted) in NORMAL {
-            check(&rt, BASE, reference, wanted)?;
-        }
-        Ok(())
-    }
-
-    #[test]
-    fn abnormal_examples(rt: HostRuntime) -> Result<(), Fail> {
-        for (reference, wanted) in ABNORMAL {
-            check(&rt, BASE, reference, wanted)?;
-        }
-        Ok(())
-    }
-
-    #[test]
-    fn other_bases(rt: HostRuntime) -> Result<(), Fail> {
-        for (base, reference, wanted) in OTHERS {
-            check(&rt, base, reference, wanted)?;
-        }
-        Ok(())
-    }
-
-    #[test]
-    fn a_resolved_text_stands_behind_what_stood_there(rt: HostRuntime) -> Result<(), Fail> {
-        let mut resolved = String::from_str(rt.alloc(), "<")?;
-        resolve(BASE, "g", &mut resolved)?;
-        assert_eq!(rt; resolved.as_str(), "<http://a/b/c/g");
-        assert!(rt; is_absolute(BASE));
-        Ok(())
     }
 }

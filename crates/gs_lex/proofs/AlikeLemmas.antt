@@ -6,7 +6,7 @@ use Rattle.std.specs.Prelude.{◌==◌, ◌&&◌, ◌||◌, ◌⊎◌, nat_le, n
 use Rattle.std.proofs.Common.{inl, inr}
 use Rattle.gs_model.specs.Characters.{Range, in_range, in_ranges, pn_chars_base, pn_chars_u, pn_chars, not_in_iris, is_iri_char}
 use Rattle.gs_lex.specs.Classes as is
-use Rattle.gs_lex.specs.Terminals.{Chars, holds, Less, Greater, Quote, Apostrophe, Backslash, Colon, Underscore, AtSign, Dash, Dot, Percent, Caret, Semicolon, Comma, OpenBracket, CloseBracket, OpenParenthesis, CloseParenthesis, OpenBrace, CloseBrace, VariableMark, SmallU, BigU, IriChar, ShortQuoteChar, ShortApostropheChar, LongQuoteChar, LongApostropheChar, Echar, Hex, Digit, Sign, ExponentLetter, Alpha, Alphanumeric, Base, NameChar, LabelStart, LocalStart, LocalChar, LocalEscape, VariableChar}
+use Rattle.gs_lex.specs.Terminals.{Chars, has_char, Less, Greater, Quote, Apostrophe, Backslash, Colon, Underscore, AtSign, Dash, Dot, Percent, Caret, Semicolon, Comma, OpenBracket, CloseBracket, OpenParenthesis, CloseParenthesis, OpenBrace, CloseBrace, VariableMark, SmallU, BigU, IriChar, ShortQuoteChar, ShortApostropheChar, LongQuoteChar, LongApostropheChar, Echar, Hex, Digit, Sign, ExponentLetter, Alpha, Alphanumeric, Base, NameChar, LabelStart, LocalStart, LocalChar, LocalEscape, VariableChar}
 
 -- the first characters of the classes, and those after the last ones
 abbrev pub later_boundaries : List ℕ
@@ -174,11 +174,11 @@ is_echar-alike c d h = Prim.cc (eq-alike c d 116 h refl, eq-alike c d 98 h refl,
 pub is_local_escape-alike : (c d : ℕ) → Alike c d → is.is_local_escape c ≡ is.is_local_escape d
 is_local_escape-alike c d h = Prim.cc (eq-alike c d 95 h refl, eq-alike c d 126 h refl, eq-alike c d 46 h refl, eq-alike c d 45 h refl, eq-alike c d 33 h refl, eq-alike c d 36 h refl, eq-alike c d 38 h refl, eq-alike c d 39 h refl, eq-alike c d 40 h refl, eq-alike c d 41 h refl, eq-alike c d 42 h refl, eq-alike c d 43 h refl, eq-alike c d 44 h refl, eq-alike c d 59 h refl, eq-alike c d 61 h refl, eq-alike c d 47 h refl, eq-alike c d 63 h refl, eq-alike c d 35 h refl, eq-alike c d 64 h refl, eq-alike c d 37 h refl)
 
-pub is_base-alike : (c d : ℕ) → Alike c d → is.is_base c ≡ is.is_base d
-is_base-alike c d h = Prim.cc (ranges-alike c d pn_chars_base h refl)
+pub is_prefix_start-alike : (c d : ℕ) → Alike c d → is.is_prefix_start c ≡ is.is_prefix_start d
+is_prefix_start-alike c d h = Prim.cc (ranges-alike c d pn_chars_base h refl)
 
-pub is_name-alike : (c d : ℕ) → Alike c d → is.is_name c ≡ is.is_name d
-is_name-alike c d h = Prim.cc (ranges-alike c d pn_chars h refl)
+pub is_name_char-alike : (c d : ℕ) → Alike c d → is.is_name_char c ≡ is.is_name_char d
+is_name_char-alike c d h = Prim.cc (ranges-alike c d pn_chars h refl)
 
 pub is_label_start-alike : (c d : ℕ) → Alike c d → is.is_label_start c ≡ is.is_label_start d
 is_label_start-alike c d h = Prim.cc (ranges-alike c d pn_chars_u h refl, range-alike c d 48 57 h refl)
@@ -195,46 +195,46 @@ is_variable-alike c d h = Prim.cc (ranges-alike c d pn_chars_u h refl, range-ali
 pub iri-alike : (c d : ℕ) → Alike c d → is_iri_char c ≡ is_iri_char d
 iri-alike c d h = ap not (ranges-alike c d not_in_iris h refl)
 
-pub holds-alike : (c d : ℕ) → Alike c d → (s : Chars) → holds s c ≡ holds s d
-holds-alike c d h Less = Prim.cc (eq-alike c d 60 h refl)
-holds-alike c d h Greater = Prim.cc (eq-alike c d 62 h refl)
-holds-alike c d h Quote = Prim.cc (eq-alike c d 34 h refl)
-holds-alike c d h Apostrophe = Prim.cc (eq-alike c d 39 h refl)
-holds-alike c d h Backslash = Prim.cc (eq-alike c d 92 h refl)
-holds-alike c d h Colon = Prim.cc (eq-alike c d 58 h refl)
-holds-alike c d h Underscore = Prim.cc (eq-alike c d 95 h refl)
-holds-alike c d h AtSign = Prim.cc (eq-alike c d 64 h refl)
-holds-alike c d h Dash = Prim.cc (eq-alike c d 45 h refl)
-holds-alike c d h Dot = Prim.cc (eq-alike c d 46 h refl)
-holds-alike c d h Percent = Prim.cc (eq-alike c d 37 h refl)
-holds-alike c d h Caret = Prim.cc (eq-alike c d 94 h refl)
-holds-alike c d h Semicolon = Prim.cc (eq-alike c d 59 h refl)
-holds-alike c d h Comma = Prim.cc (eq-alike c d 44 h refl)
-holds-alike c d h OpenBracket = Prim.cc (eq-alike c d 91 h refl)
-holds-alike c d h CloseBracket = Prim.cc (eq-alike c d 93 h refl)
-holds-alike c d h OpenParenthesis = Prim.cc (eq-alike c d 40 h refl)
-holds-alike c d h CloseParenthesis = Prim.cc (eq-alike c d 41 h refl)
-holds-alike c d h OpenBrace = Prim.cc (eq-alike c d 123 h refl)
-holds-alike c d h CloseBrace = Prim.cc (eq-alike c d 125 h refl)
-holds-alike c d h VariableMark = Prim.cc (eq-alike c d 63 h refl, eq-alike c d 36 h refl)
-holds-alike c d h SmallU = Prim.cc (eq-alike c d 117 h refl)
-holds-alike c d h BigU = Prim.cc (eq-alike c d 85 h refl)
-holds-alike c d h IriChar = Prim.cc (iri-alike c d h)
-holds-alike c d h ShortQuoteChar = Prim.cc (is_line_end-alike c d h, eq-alike c d 34 h refl, eq-alike c d 92 h refl)
-holds-alike c d h ShortApostropheChar = Prim.cc (is_line_end-alike c d h, eq-alike c d 39 h refl, eq-alike c d 92 h refl)
-holds-alike c d h LongQuoteChar = Prim.cc (eq-alike c d 34 h refl, eq-alike c d 92 h refl)
-holds-alike c d h LongApostropheChar = Prim.cc (eq-alike c d 39 h refl, eq-alike c d 92 h refl)
-holds-alike c d h Echar = Prim.cc (is_echar-alike c d h)
-holds-alike c d h Hex = Prim.cc (is_hex-alike c d h)
-holds-alike c d h Digit = Prim.cc (is_digit-alike c d h)
-holds-alike c d h Sign = Prim.cc (is_sign-alike c d h)
-holds-alike c d h ExponentLetter = Prim.cc (is_exponent-alike c d h)
-holds-alike c d h Alpha = Prim.cc (is_alpha-alike c d h)
-holds-alike c d h Alphanumeric = Prim.cc (is_alphanumeric-alike c d h)
-holds-alike c d h Base = Prim.cc (is_base-alike c d h)
-holds-alike c d h NameChar = Prim.cc (is_name-alike c d h)
-holds-alike c d h LabelStart = Prim.cc (is_label_start-alike c d h)
-holds-alike c d h LocalStart = Prim.cc (is_local_start-alike c d h)
-holds-alike c d h LocalChar = Prim.cc (is_local-alike c d h)
-holds-alike c d h LocalEscape = Prim.cc (is_local_escape-alike c d h)
-holds-alike c d h VariableChar = Prim.cc (is_variable-alike c d h)
+pub has_char-alike : (c d : ℕ) → Alike c d → (s : Chars) → has_char s c ≡ has_char s d
+has_char-alike c d h Less = Prim.cc (eq-alike c d 60 h refl)
+has_char-alike c d h Greater = Prim.cc (eq-alike c d 62 h refl)
+has_char-alike c d h Quote = Prim.cc (eq-alike c d 34 h refl)
+has_char-alike c d h Apostrophe = Prim.cc (eq-alike c d 39 h refl)
+has_char-alike c d h Backslash = Prim.cc (eq-alike c d 92 h refl)
+has_char-alike c d h Colon = Prim.cc (eq-alike c d 58 h refl)
+has_char-alike c d h Underscore = Prim.cc (eq-alike c d 95 h refl)
+has_char-alike c d h AtSign = Prim.cc (eq-alike c d 64 h refl)
+has_char-alike c d h Dash = Prim.cc (eq-alike c d 45 h refl)
+has_char-alike c d h Dot = Prim.cc (eq-alike c d 46 h refl)
+has_char-alike c d h Percent = Prim.cc (eq-alike c d 37 h refl)
+has_char-alike c d h Caret = Prim.cc (eq-alike c d 94 h refl)
+has_char-alike c d h Semicolon = Prim.cc (eq-alike c d 59 h refl)
+has_char-alike c d h Comma = Prim.cc (eq-alike c d 44 h refl)
+has_char-alike c d h OpenBracket = Prim.cc (eq-alike c d 91 h refl)
+has_char-alike c d h CloseBracket = Prim.cc (eq-alike c d 93 h refl)
+has_char-alike c d h OpenParenthesis = Prim.cc (eq-alike c d 40 h refl)
+has_char-alike c d h CloseParenthesis = Prim.cc (eq-alike c d 41 h refl)
+has_char-alike c d h OpenBrace = Prim.cc (eq-alike c d 123 h refl)
+has_char-alike c d h CloseBrace = Prim.cc (eq-alike c d 125 h refl)
+has_char-alike c d h VariableMark = Prim.cc (eq-alike c d 63 h refl, eq-alike c d 36 h refl)
+has_char-alike c d h SmallU = Prim.cc (eq-alike c d 117 h refl)
+has_char-alike c d h BigU = Prim.cc (eq-alike c d 85 h refl)
+has_char-alike c d h IriChar = Prim.cc (iri-alike c d h)
+has_char-alike c d h ShortQuoteChar = Prim.cc (is_line_end-alike c d h, eq-alike c d 34 h refl, eq-alike c d 92 h refl)
+has_char-alike c d h ShortApostropheChar = Prim.cc (is_line_end-alike c d h, eq-alike c d 39 h refl, eq-alike c d 92 h refl)
+has_char-alike c d h LongQuoteChar = Prim.cc (eq-alike c d 34 h refl, eq-alike c d 92 h refl)
+has_char-alike c d h LongApostropheChar = Prim.cc (eq-alike c d 39 h refl, eq-alike c d 92 h refl)
+has_char-alike c d h Echar = Prim.cc (is_echar-alike c d h)
+has_char-alike c d h Hex = Prim.cc (is_hex-alike c d h)
+has_char-alike c d h Digit = Prim.cc (is_digit-alike c d h)
+has_char-alike c d h Sign = Prim.cc (is_sign-alike c d h)
+has_char-alike c d h ExponentLetter = Prim.cc (is_exponent-alike c d h)
+has_char-alike c d h Alpha = Prim.cc (is_alpha-alike c d h)
+has_char-alike c d h Alphanumeric = Prim.cc (is_alphanumeric-alike c d h)
+has_char-alike c d h Base = Prim.cc (is_prefix_start-alike c d h)
+has_char-alike c d h NameChar = Prim.cc (is_name_char-alike c d h)
+has_char-alike c d h LabelStart = Prim.cc (is_label_start-alike c d h)
+has_char-alike c d h LocalStart = Prim.cc (is_local_start-alike c d h)
+has_char-alike c d h LocalChar = Prim.cc (is_local-alike c d h)
+has_char-alike c d h LocalEscape = Prim.cc (is_local_escape-alike c d h)
+has_char-alike c d h VariableChar = Prim.cc (is_variable-alike c d h)

@@ -9,10 +9,10 @@ use Rattle.std.specs.Prelude.{◌==◌}
 use Rattle.std.specs.Str.{all_scalars}
 use lib.Utf8.{scalar}
 use Rattle.gs_lex.specs.Automata.{Found, run, run_from, kind_at, longest}
-use Rattle.gs_lex.specs.Classes.{is_name}
-use Rattle.gs_lex.specs.States.{tokens, next, start_of, accepts}
+use Rattle.gs_lex.specs.Classes.{is_name_char}
+use Rattle.gs_lex.specs.States.{tokens, state_after, start_of, accepts}
 use Rattle.gs_lex.specs.Scans.{MayBecome, IsBest, IsScanned, IsBarren, IsBarrenTo}
-use Rattle.gs_lex.specs.Readings.{IsRead, first_of}
+use Rattle.gs_lex.specs.Readings.{HasRead, first_of}
 use Rattle.gs_lex.specs.declared.kinds.Terminal.{Terminal}
 use Rattle.gs_lex.specs.declared.kinds.Terminal.TheVariants as kind
 use Rattle.gs_lex.specs.declared.states.State.{State}
@@ -63,13 +63,13 @@ from_word false true d p e n = subst Inner (same_state at.WordDots p e) dots
 from_word false false true p e n = absurd (accepted_not at.Namespace p kind.PnameNs e refl n)
 from_word false false false p e n = Prim.cc e
 
-next_inner : (q : State) → Inner q → (c : ℕ) (p : State) → next q c ≡ Some p → accepts p ≡ None → Inner p
-next_inner _ dots c p e n = from_dots (is_name c) (c == 46) p e
-next_inner _ more c p e n = from_more (is_name c) (c == 46) (c == 58) p e n
+next_inner : (q : State) → Inner q → (c : ℕ) (p : State) → state_after q c ≡ Some p → accepts p ≡ None → Inner p
+next_inner _ dots c p e n = from_dots (is_name_char c) (c == 46) p e
+next_inner _ more c p e n = from_more (is_name_char c) (c == 46) (c == 58) p e n
 
 -- the state of a word alone goes on in vain
-next_word : (q : State) → accepts q ≡ Some kind.Word → (c : ℕ) (p : State) → next q c ≡ Some p → accepts p ≡ None → Inner p
-next_word at.Word k c p e n = from_word (is_name c) (c == 46) (c == 58) p e n
+next_word : (q : State) → accepts q ≡ Some kind.Word → (c : ℕ) (p : State) → state_after q c ≡ Some p → accepts p ≡ None → Inner p
+next_word at.Word k c p e n = from_word (is_name_char c) (c == 46) (c == 58) p e n
 next_word (at.Ended t) k c p e n = Prim.cc e
 next_word (at.Empty mark.Quote) k c p e n = Prim.cc k
 next_word (at.Empty mark.Apostrophe) k c p e n = Prim.cc k
@@ -120,17 +120,17 @@ abbrev NoFront : Bool → State → List ℕ → Type 0
 NoFront u q v = (w s : List ℕ) (t : Terminal) → v ≡ w ++ s → w ≢ [] → kind_at (tokens u) (run_from (tokens u) (Some q) w) ≡ Some t → ⊥
 
 abbrev GoesInner : State → Type 0
-GoesInner q = (c : ℕ) (p : State) → next q c ≡ Some p → accepts p ≡ None → Inner p
+GoesInner q = (c : ℕ) (p : State) → state_after q c ≡ Some p → accepts p ≡ None → Inner p
 
 first_in : (u : Bool) (q : State) → GoesInner q → (c : ℕ) (v : List ℕ) → NoFront u q (c ∷ v) → (p : State)
     → ((r : State) → Inner r → NoFront u r v → run_from (tokens u) (Some r) v ≡ Some p → Inner p) → run_from (tokens u) (Some q) (c ∷ v) ≡ Some p → Inner p
-first_in u q i c v h p f e = by_next (next q c) refl e
+first_in u q i c v h p f e = by_next (state_after q c) refl e
   where
-    by_kind : (r : State) → next q c ≡ Some r → run_from (tokens u) (Some r) v ≡ Some p → (k : Option Terminal) → accepts r ≡ k → Inner p
+    by_kind : (r : State) → state_after q c ≡ Some r → run_from (tokens u) (Some r) v ≡ Some p → (k : Option Terminal) → accepts r ≡ k → Inner p
     by_kind r k g None a = f r (i c r k a) (λ w s t b n m. h (c ∷ w) s t (ap (λ z. c ∷ z) b) (some_list c w) (ap (λ o. kind_at (tokens u) (run_from (tokens u) o w)) k ∙ m)) g
     by_kind r k g (Some t) a = absurd (h (c ∷ []) v t refl (some_list c []) (ap (kind_at (tokens u)) k ∙ a))
 
-    by_next : (o : Option State) → next q c ≡ o → run_from (tokens u) o v ≡ Some p → Inner p
+    by_next : (o : Option State) → state_after q c ≡ o → run_from (tokens u) o v ≡ Some p → Inner p
     by_next None k g = Prim.cc (sym (none-stays (tokens u) v) ∙ g)
     by_next (Some r) k g = by_kind r k g (accepts r) refl
 
@@ -152,7 +152,7 @@ either_next false false d = inl refl
 inner_accepts : (u : Bool) (p : State) → Inner p → (v : List ℕ) (t : Terminal) → kind_at (tokens u) (run_from (tokens u) (Some at.WordDots) v) ≡ Some t → kind_at (tokens u) (run_from (tokens u) (Some p) v) ≡ Some t
 inner_accepts u _ dots v t k = k
 inner_accepts u _ more [] t k = Prim.cc k
-inner_accepts u _ more (c ∷ v) t k = elim (either_next (is_name c) (c == 46) (c == 58)) [
+inner_accepts u _ more (c ∷ v) t k = elim (either_next (is_name_char c) (c == 46) (c == 58)) [
   | inl e ↦ Prim.cc (sym (ap (λ o. kind_at (tokens u) (run_from (tokens u) o v)) e ∙ ap (kind_at (tokens u)) (none-stays (tokens u) v)) ∙ k)
   | inr e ↦ sym (ap (λ o. kind_at (tokens u) (run_from (tokens u) o v)) e) ∙ k
 ]
@@ -252,7 +252,7 @@ pub barren-none : (is_end u : Bool) (x : List ℕ) → IsBarrenTo is_end u x 0
 barren-none is_end u x = λ y v z m p g e l. absurd (omega (arith, l, some_bytes_of v e))
 
 -- as the text goes on, and at its end
-pub read-more : (r : Reading) (x y : List ℕ) → IsRead false r x → IsRead false r (x ++ y)
+pub read-more : (r : Reading) (x y : List ℕ) → HasRead false r x → HasRead false r (x ++ y)
 read-more r x y h = record {
   scanned = record {
     chars = h.scanned.chars;
@@ -266,8 +266,8 @@ read-more r x y h = record {
   barren = λ z v w m. h.barren z v w (becomes-more x y z m);
 }
 
-pub read-end : (r : Reading) (x : List ℕ) → IsRead false r x → IsRead true r x
+pub read-end : (r : Reading) (x : List ℕ) → HasRead false r x → HasRead true r x
 read-end r x h = record { scanned = h.scanned; barren = λ y v z m. h.barren y v z (becomes-open x y m) }
 
-pub read-fresh : (u : Bool) (x : List ℕ) → IsRead false (first_of u) x
+pub read-fresh : (u : Bool) (x : List ℕ) → HasRead false (first_of u) x
 read-fresh u x = record { scanned = scan-fresh u x; barren = barren-none false u x }

@@ -12,13 +12,13 @@ use Rattle.gs_machine.specs.Utf8.{bad, Spells, nothing, char, fault, symbols}
 use Rattle.gs_machine.proofs.Encodings.{scalar_from}
 use Rattle.gs_machine.proofs.Utf8Lemmas.{spelt}
 use Rattle.gs_lex.proofs.BecomeLemmas.{becomes-on, no_end}
-use Rattle.gs_lex.specs.Automata.{Found, run_from, kind_at, Accepts, longest}
+use Rattle.gs_lex.specs.Automata.{Found, run_from, kind_at, Recognizes, longest}
 use Rattle.gs_lex.specs.Classes.{is_ws, is_line_end}
 use Rattle.gs_lex.specs.Cuts.{Parted, parted, from_kind, from_found, cut_from}
 use Rattle.gs_lex.specs.Lexers.{Leads}
-use Rattle.gs_lex.specs.Readings.{BeginsToken, mode_of}
-use Rattle.gs_lex.specs.States.{tokens, next, start_of}
-use Rattle.gs_lex.specs.Tokens.{Cut, Mode, Between, InComment, CutEnd, Lexeme, Longest, NoTerminal, EndsLine, IsCut, place_after, kind_of, ended, space, hash, comment, line_end, bad_comment, token, no_kind, no_token}
+use Rattle.gs_lex.specs.Readings.{BeginsToken, gap_of}
+use Rattle.gs_lex.specs.States.{tokens, state_after, start_of}
+use Rattle.gs_lex.specs.Tokens.{Cut, Gap, Between, InComment, CutEnd, Lexeme, Longest, NoTerminal, EndsLine, IsCut, place_after, token_kind, ended, space, hash, comment, line_end, bad_comment, token, no_kind, no_token}
 use Rattle.gs_lex.specs.declared.kinds.TokenKind.{TokenKind}
 use Rattle.gs_lex.specs.declared.kinds.Terminal.{Terminal}
 use Rattle.gs_lex.specs.declared.lexers.Lexer.{Lexer}
@@ -32,7 +32,7 @@ use Rattle.gs_lex.proofs.ScanLemmas.{both_and}
 use Rattle.gs_lex.proofs.TerminalLemmas.{accepted-terminal, terminal-accepted}
 
 -- no token ends with bytes that are no character
-bad_none : (u : Bool) (q : State) → kind_at (tokens u) (next q bad) ≡ None
+bad_none : (u : Bool) (q : State) → kind_at (tokens u) (state_after q bad) ≡ None
 bad_none u (at.Inside text.Iri) = refl
 bad_none u (at.Inside (text.Short mark.Quote)) = refl
 bad_none u (at.Inside (text.Short mark.Apostrophe)) = refl
@@ -70,10 +70,10 @@ one_more c o x w r k e s = record {
 }
 
 -- characters with such bytes among them are no token
-bad_inside : (u : Bool) (q : State) (t : Terminal) (c : ℕ) (w r : List ℕ) → bad ∷ [] ≡ c ∷ (w ++ r) → kind_at (tokens u) (run_from (tokens u) (next q c) w) ≡ Some t → ⊥
+bad_inside : (u : Bool) (q : State) (t : Terminal) (c : ℕ) (w r : List ℕ) → bad ∷ [] ≡ c ∷ (w ++ r) → kind_at (tokens u) (run_from (tokens u) (state_after q c) w) ≡ Some t → ⊥
 bad_inside u q t c [] r e k =
     let same : bad ≡ c = Prim.cc e in
-    let none : kind_at (tokens u) (next q c) ≡ None = subst (λ z. kind_at (tokens u) (next q z) ≡ None) same (bad_none u q) in
+    let none : kind_at (tokens u) (state_after q c) ≡ None = subst (λ z. kind_at (tokens u) (state_after q z) ≡ None) same (bad_none u q) in
     Prim.cc (sym none ∙ k)
 bad_inside u q t c (d ∷ w) r e k = Prim.cc e
 
@@ -85,7 +85,7 @@ accepted_spelt u (Some q) t (c ∷ w) r _ _ nothing e k = Prim.cc e
 accepted_spelt u (Some q) t (c ∷ w) r x _ (char d o cs s p h) e k =
     let same : d ≡ c = Prim.cc e in
     let others : cs ≡ w ++ r = Prim.cc e in
-    one_more c o x w r (subst IsScalar same s) (p ∙ ap (λ z. encode_utf8 z ++ o) same) (accepted_spelt u (next q c) t w r o cs h others k)
+    one_more c o x w r (subst IsScalar same s) (p ∙ ap (λ z. encode_utf8 z ++ o) same) (accepted_spelt u (state_after q c) t w r o cs h others k)
 accepted_spelt u (Some q) t (c ∷ w) r x _ (fault n h) e k = absurd (bad_inside u q t c w r e k)
 
 no_encode : (c : ℕ) (o : List ℕ) → [] ≡ encode_utf8 c ++ o → ⊥
@@ -104,7 +104,7 @@ front_spelt (c ∷ v) s x _ (char d o cs j p h) e g =
     (r.0, ap (λ z. z ∷ cs) k.0 ∙ ap (λ z. c ∷ z) r.1)
 front_spelt (c ∷ v) s x _ (fault n j) e g = absurd (j c (encode_utf8_all v ++ s) (and_parts (scalar c) (all_scalars v) g).0 (e ∙ append_assoc (encode_utf8 c) (encode_utf8_all v) s))
 
-none_at : (u : Bool) (cs : List ℕ) → Best (tokens u) (Some (start_of u)) cs None → (t : Terminal) (v d : List ℕ) → cs ≡ v ++ d → Accepts (tokens u) t v → ⊥
+none_at : (u : Bool) (cs : List ℕ) → Best (tokens u) (Some (start_of u)) cs None → (t : Terminal) (v d : List ℕ) → cs ≡ v ++ d → Recognizes (tokens u) t v → ⊥
 none_at u cs b t [] d p a = no_start u t a
 none_at u cs b t (c ∷ v) d p a = b t (c ∷ v) d p (nonempty c v) a
 
@@ -122,11 +122,11 @@ found_longest u x cs t h b k = record {
 }
 
 -- the text x is cut so
-abbrev pub IsParted : Bool → Mode → ℕ → ℕ → List ℕ → Parted → Type 0
+abbrev pub IsParted : Bool → Gap → ℕ → ℕ → List ℕ → Parted → Type 0
 IsParted u m n l x p = Cut u m n l x p.0 p.1
 
 -- after the longest token, whether it has a kind or not
-kind_parted : (u : Bool) (n l : ℕ) (x : List ℕ) (t : Terminal) (w r cs : List ℕ) (go : ℕ → List ℕ → Parted) (k : Option TokenKind) → Longest u x t w r → kind_of u t (encode_utf8_all w) ≡ k
+kind_parted : (u : Bool) (n l : ℕ) (x : List ℕ) (t : Terminal) (w r cs : List ℕ) (go : ℕ → List ℕ → Parted) (k : Option TokenKind) → Longest u x t w r → token_kind u t (encode_utf8_all w) ≡ k
     → IsParted u Between (place_after n (length (encode_utf8_all w))) (place_after n (length (encode_utf8_all w))) r (go (place_after n (length (encode_utf8_all w))) cs)
     → IsParted u Between n l x (from_kind go n l (encode_utf8_all w) cs k)
 kind_parted u n l x t w r cs go None g e d = no_kind t w r g e
@@ -139,7 +139,7 @@ found_parted u n l x cs go None h s b t d = no_token t.first t.others t.parts t.
 found_parted u n l x cs go (Some t) h s b i d =
     let k = accepted_spelt u (Some (start_of u)) t.0 t.1 t.2 x cs h s.parts b.0 in
     let place = place_after n (length (encode_utf8_all t.1)) in
-    kind_parted u n l x t.0 t.1 k.rest t.2 go (kind_of u t.0 (encode_utf8_all t.1)) (found_longest u x cs t h b k) refl (d place k.rest t.2 k.spells (shorter s))
+    kind_parted u n l x t.0 t.1 k.rest t.2 go (token_kind u t.0 (encode_utf8_all t.1)) (found_longest u x cs t h b k) refl (d place k.rest t.2 k.spells (shorter s))
 
 space_low : (c : ℕ) → is_ws c ≡ true → c < 128
 space_low c h = grind (arith, nat_tests)
@@ -192,7 +192,7 @@ hash_parts : (x : List ℕ) (c : ℕ) (o : List ℕ) → x ≡ encode_utf8 c ++ 
 hash_parts x c o e h = let k = eqb-true c 35 h in one_byte x c o e (omega (arith, k)) ∙ ap (λ z. z ∷ o) k
 
 -- the cut of the characters that a text spells, where there are enough steps for them
-pub parted-cut : (f : ℕ) (u : Bool) (m : Mode) (n l : ℕ) (x cs : List ℕ) → Spells x cs → length cs ≤ f → IsParted u m n l x (parted f u m n l cs)
+pub parted-cut : (f : ℕ) (u : Bool) (m : Gap) (n l : ℕ) (x cs : List ℕ) → Spells x cs → length cs ≤ f → IsParted u m n l x (parted f u m n l cs)
 unfolding parted
 parted-cut f u Between n l _ _ nothing h = ended refl
 parted-cut f u InComment n l _ _ nothing h = line_end tt (ended refl)
@@ -215,12 +215,12 @@ parted-cut (suc f) u Between n l x _ (char c o cs s e q) h =
     (λ p y ds g j. parted-cut f u Between p p y ds g (omega (arith, h, j)))))
 
 -- each text has a cut, from each place
-pub cut-from : (u : Bool) (m : Mode) (n l : ℕ) (x : List ℕ) → Cut u m n l x (cut_from u m n l x).0 (cut_from u m n l x).1
+pub cut-from : (u : Bool) (m : Gap) (n l : ℕ) (x : List ℕ) → Cut u m n l x (cut_from u m n l x).0 (cut_from u m n l x).1
 cut-from u m n l x = parted-cut (length (symbols x)) u m n l x (symbols x) (spelt x) (omega arith)
 
 -- a text that a lexer was fed has a cut, however it goes on, and the tokens given are its first
 pub leads-goes-on : (u : Bool) (l : Lexer) (x : List ℕ) (ts : List Lexeme) → Leads u l x ts → (y : List ℕ) → (us : List Lexeme) × (e : CutEnd) × IsCut u (x ++ y) (ts ++ us) e
 leads-goes-on u l x ts h y =
-    let p = cut_from l.at.updates (mode_of l.at.in_comment) l.at.place l.at.last (l.held.items ++ y) in
-    let c = h.rest (l.held.items ++ y) p.0 p.1 (becomes-on false l.held.items y (no_end y)) (cut-from l.at.updates (mode_of l.at.in_comment) l.at.place l.at.last (l.held.items ++ y)) in
+    let p = cut_from l.at.updates (gap_of l.at.in_comment) l.at.place l.at.last (l.held.items ++ y) in
+    let c = h.rest (l.held.items ++ y) p.0 p.1 (becomes-on false l.held.items y (no_end y)) (cut-from l.at.updates (gap_of l.at.in_comment) l.at.place l.at.last (l.held.items ++ y)) in
     (p.0, p.1, subst (λ z. IsCut u z (ts ++ p.0) p.1) (sym (append_assoc h.before l.held.items y) ∙ ap (λ z. z ++ y) (sym h.parts)) c)

@@ -41,12 +41,12 @@ or (Many r) s = or_some (Many r) s
 
 -- what may follow the character c
 abbrev pub derive : (Chars → ℕ → Bool) → ℕ → Pattern → Pattern
-derive holds c Never = Never
-derive holds c Empty = Never
-derive holds c (One s) = cond (holds s c) Empty Never
-derive holds c (Then r s) = or (then (derive holds c r) s) (cond (nullable r) (derive holds c s) Never)
-derive holds c (Or r s) = or (derive holds c r) (derive holds c s)
-derive holds c (Many r) = then (derive holds c r) (Many r)
+derive has_char c Never = Never
+derive has_char c Empty = Never
+derive has_char c (One s) = cond (has_char s c) Empty Never
+derive has_char c (Then r s) = or (then (derive has_char c r) s) (cond (nullable r) (derive has_char c s) Never)
+derive has_char c (Or r s) = or (derive has_char c r) (derive has_char c s)
+derive has_char c (Many r) = then (derive has_char c r) (Many r)
 
 or_true : (x y : Bool) → y ≡ true → (x || y) ≡ true
 or_true true y e = refl
@@ -177,8 +177,8 @@ pub derive-back : (h : Chars → ℕ → Bool) (c : ℕ) (r : Pattern) (y : List
 derive-back h c _ _ empty x e = absurd (Prim.cc e)
 derive-back h c _ _ (one {s = s} {c = d} k) x e =
     let t = tails e in
-    let holds : h s c ≡ true = ap (h s) (sym t.0) ∙ k in
-    subst (λ z. Matches h z x) (ap (λ b. cond b Empty Never) (sym holds)) (subst (Matches h Empty) t.1 empty)
+    let has_char : h s c ≡ true = ap (h s) (sym t.0) ∙ k in
+    subst (λ z. Matches h z x) (ap (λ b. cond b Empty Never) (sym has_char)) (subst (Matches h Empty) t.1 empty)
 derive-back h c _ y (both {r = r} {s = s} [] w p k l) x e =
     let n = nullable-back h r [] k refl in
     or-back h (then (derive h c r) s) (cond (nullable r) (derive h c s) Never) x

@@ -1,8 +1,8 @@
 -- What a piece leads to.
 use Rattle.std.proofs.Common.{◌≡◌, ℕ, Bool, false, List, [], ◌++◌, refl, sym, ap, ◌∙◌, subst, append_assoc, append-nil, drop}
 use Rattle.gs_lex.specs.Tokens.{CutEnd, AtFault, Lexeme, IsCut}
-use Rattle.gs_lex.specs.Readings.{CutFrom, Fails, IsRead, Waits, Went, HasHalted}
-use Rattle.gs_lex.specs.Lexers.{Leads, Feeds, Breaks, Takes}
+use Rattle.gs_lex.specs.Readings.{CutFrom, Fails, HasRead, Waits, Went, HasHalted}
+use Rattle.gs_lex.specs.Lexers.{Leads, Feeds, Breaks, CutsHeld}
 use Rattle.gs_lex.specs.declared.lexers.Lexer.{Lexer}
 use Rattle.gs_lex.specs.declared.readings.Halt.{Halt}
 use Rattle.gs_lex.specs.declared.readings.Halt.TheVariants as halt
@@ -21,19 +21,19 @@ waiting x r halt.Wait n k = k.1
 
 -- what was read of the text that is held, where what is left is held from then on
 pub takes-as : (l m : Lexer) (text : List ℕ) (r : Reading) (h : Halt) (old new : List Token) → text ≡ l.held.items → l.at.cut ≡ 0 → m.at ≡ record r { cut = 0 } → m.held.items ≡ drop r.cut l.held.items
-    → (IsRead false l.at (drop l.at.cut text) → Went false text l.at r old new × HasHalted false text r h) → IsRead false l.at l.held.items → Takes l m old new h
+    → (HasRead false l.at (drop l.at.cut text) → Went false text l.at r old new × HasHalted false text r h) → HasRead false l.at l.held.items → CutsHeld l m old new h
 takes-as l m text r h old new e k a d f g =
     let x = l.held.items in
-    let w = subst (λ z. IsRead false l.at (drop l.at.cut z) → Went false z l.at r old new × HasHalted false z r h) e f (subst (λ n. IsRead false l.at (drop n x)) (sym k) g) in
-    let left : (q : Reading) → q ≡ record r { cut = 0 } → IsRead false q (drop r.cut x) =
-    λ q p. subst (λ s. IsRead false s (drop r.cut x)) (sym p) (record { scanned = w.0.read.scanned; barren = w.0.read.barren }) in
+    let w = subst (λ z. HasRead false l.at (drop l.at.cut z) → Went false z l.at r old new × HasHalted false z r h) e f (subst (λ n. HasRead false l.at (drop n x)) (sym k) g) in
+    let left : (q : Reading) → q ≡ record r { cut = 0 } → HasRead false q (drop r.cut x) =
+    λ q p. subst (λ s. HasRead false s (drop r.cut x)) (sym p) (record { scanned = w.0.read.scanned; barren = w.0.read.barren }) in
     let failed : (q : Reading) → q ≡ record r { cut = 0 } → Fails false r (drop r.cut x) → Fails false q (drop r.cut x) =
     λ q p i. subst (λ s. Fails false s (drop r.cut x)) (sym p) (record { cut = i.cut }) in
     record {
       added = w.0.added;
       given = w.0.given;
       reads = ap (λ (s : Reading). s.updates) a ∙ w.0.mode;
-      read = subst (IsRead false m.at) (sym d) (left m.at a);
+      read = subst (HasRead false m.at) (sym d) (left m.at a);
       before = w.0.before;
       parts = subst (λ n. drop n x ≡ w.0.before ++ m.held.items) k (w.0.parts ∙ ap (λ z. w.0.before ++ z) (sym d));
       characters = w.0.characters;
@@ -42,12 +42,12 @@ takes-as l m text r h old new e k a d f g =
       waits = λ p. subst (λ z. Waits m.at.in_comment z m.at.scan) (sym d) (subst (λ (s : Reading). Waits s.in_comment (drop r.cut x) s.scan) (sym a) (waiting x r h p w.1));
     }
 
-read_piece : (u : Bool) (l m : Lexer) (x piece : List ℕ) (ts : List Lexeme) → Leads u l x ts → m.at ≡ l.at → m.held.items ≡ l.held.items ++ piece → IsRead false m.at m.held.items
-read_piece u l m x piece ts h a d = subst (λ q. IsRead false q m.held.items) (sym a) (subst (IsRead false l.at) (sym d) (read-more l.at l.held.items piece h.read))
+read_piece : (u : Bool) (l m : Lexer) (x piece : List ℕ) (ts : List Lexeme) → Leads u l x ts → m.at ≡ l.at → m.held.items ≡ l.held.items ++ piece → HasRead false m.at m.held.items
+read_piece u l m x piece ts h a d = subst (λ q. HasRead false q m.held.items) (sym a) (subst (HasRead false l.at) (sym d) (read-more l.at l.held.items piece h.read))
 
 -- the tokens of the text are those given before, those of the piece, and those of what becomes of the bytes that are held
 cut_piece : (u : Bool) (l m n : Lexer) (x piece : List ℕ) (ts : List Lexeme) (old new : List Token) (k : Halt) → (h : Leads u l x ts) → m.at ≡ l.at → m.held.items ≡ l.held.items ++ piece
-    → (t : Takes m n old new k) → (z : List ℕ) (us : List Lexeme) (e : CutEnd) → MayBecome false n.held.items z → CutFrom n.at z us e → IsCut u ((h.before ++ t.before) ++ z) ((ts ++ t.added) ++ us) e
+    → (t : CutsHeld m n old new k) → (z : List ℕ) (us : List Lexeme) (e : CutEnd) → MayBecome false n.held.items z → CutFrom n.at z us e → IsCut u ((h.before ++ t.before) ++ z) ((ts ++ t.added) ++ us) e
 cut_piece u l m n x piece ts old new k h a d t z us e b c =
     let all : CutFrom l.at (t.before ++ z) (t.added ++ us) e = subst (λ q. CutFrom q (t.before ++ z) (t.added ++ us) e) a (t.cut z us e b c) in
     let held : MayBecome false l.held.items (t.before ++ z) =
@@ -57,12 +57,12 @@ cut_piece u l m n x piece ts old new k h a d t z us e b c =
 
 -- the text up to the end of the piece: what is cut, and what is held
 piece_parts : (u : Bool) (l m n : Lexer) (x piece : List ℕ) (ts : List Lexeme) (old new : List Token) (k : Halt) → (h : Leads u l x ts) → m.held.items ≡ l.held.items ++ piece
-    → (t : Takes m n old new k) → x ++ piece ≡ (h.before ++ t.before) ++ n.held.items
+    → (t : CutsHeld m n old new k) → x ++ piece ≡ (h.before ++ t.before) ++ n.held.items
 piece_parts u l m n x piece ts old new k h d t =
     ap (λ z. z ++ piece) h.parts ∙ append_assoc h.before l.held.items piece ∙ ap (λ z. h.before ++ z) (sym d ∙ t.parts) ∙ sym (append_assoc h.before t.before n.held.items)
 
 pub feeds-as : (u : Bool) (l m n : Lexer) (x piece : List ℕ) (ts : List Lexeme) (old new : List Token) (k : Halt) → Leads u l x ts → m.at ≡ l.at → m.held.items ≡ l.held.items ++ piece
-    → n.is_closed ≡ false → (k ≡ halt.Fault → ⊥) → (IsRead false m.at m.held.items → Takes m n old new k) → Feeds u n (x ++ piece) ts old new
+    → n.is_closed ≡ false → (k ≡ halt.Fault → ⊥) → (HasRead false m.at m.held.items → CutsHeld m n old new k) → Feeds u n (x ++ piece) ts old new
 feeds-as u l m n x piece ts old new k h a d o g f =
     let t = f (read_piece u l m x piece ts h a d) in
     let leads : Leads u n (x ++ piece) (ts ++ t.added) = record {
@@ -83,7 +83,7 @@ feeds-as u l m n x piece ts old new k h a d o g f =
     }
 
 pub breaks-as : (u : Bool) (l m n : Lexer) (x piece : List ℕ) (ts : List Lexeme) (old new : List Token) (k : Halt) → Leads u l x ts → m.at ≡ l.at → m.held.items ≡ l.held.items ++ piece
-    → k ≡ halt.Fault → (IsRead false m.at m.held.items → Takes m n old new k) → Breaks u (x ++ piece) ts n.at.last old new
+    → k ≡ halt.Fault → (HasRead false m.at m.held.items → CutsHeld m n old new k) → Breaks u (x ++ piece) ts n.at.last old new
 breaks-as u l m n x piece ts old new k h a d p f =
     let t = f (read_piece u l m x piece ts h a d) in
     record {

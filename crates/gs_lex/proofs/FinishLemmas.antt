@@ -2,7 +2,7 @@
 use Rattle.std.proofs.Common.{◌≡◌, ℕ, Bool, true, false, List, [], ◌++◌, refl, sym, ap, ◌∙◌, subst, append-nil, drop}
 use Rattle.std.proofs.lemmas.Str.{IsUtf8-nil}
 use Rattle.gs_lex.specs.Tokens.{CutEnd, AtEnd, AtFault, Lexeme, IsCut}
-use Rattle.gs_lex.specs.Readings.{CutFrom, Fails, IsRead, Went, HasHalted, first_of}
+use Rattle.gs_lex.specs.Readings.{CutFrom, Fails, HasRead, Went, HasHalted, first_of}
 use Rattle.gs_lex.specs.Lexers.{Leads, Finishes}
 use Rattle.gs_lex.specs.declared.lexers.Lexer.{Lexer}
 use Rattle.gs_lex.specs.declared.readings.Halt.{Halt}
@@ -14,8 +14,8 @@ use Rattle.gs_lex.proofs.BecomeLemmas.{becomes-self}
 use Rattle.gs_lex.proofs.BarrenLemmas.{read-end, read-fresh}
 
 -- what is held is read from its start
-pub held-read : (u : Bool) (l : Lexer) (x : List ℕ) (ts : List Lexeme) → Leads u l x ts → l.at.cut ≡ 0 → IsRead true l.at (drop l.at.cut l.held.items)
-held-read u l x ts h k = subst (λ n. IsRead true l.at (drop n l.held.items)) (sym k) (read-end l.at l.held.items h.read)
+pub held-read : (u : Bool) (l : Lexer) (x : List ℕ) (ts : List Lexeme) → Leads u l x ts → l.at.cut ≡ 0 → HasRead true l.at (drop l.at.cut l.held.items)
+held-read u l x ts h k = subst (λ n. HasRead true l.at (drop n l.held.items)) (sym k) (read-end l.at l.held.items h.read)
 
 pub finish-as : (u : Bool) (l : Lexer) (x : List ℕ) (ts : List Lexeme) (r : Reading) (old new : List Token) (e : CutEnd) → Leads u l x ts → l.at.cut ≡ 0
     → Went true l.held.items l.at r old new → CutFrom r (drop r.cut l.held.items) [] e → Finishes u x ts e old new
@@ -45,10 +45,10 @@ halted-end x r halt.Wait n k = Prim.cc (k.0)
 
 -- of the text that is held
 pub of-held : (l : Lexer) (text : List ℕ) (r : Reading) (h : Halt) (old new : List Token) → text ≡ l.held.items
-    → (IsRead true l.at (drop l.at.cut text) → Went true text l.at r old new × HasHalted true text r h)
-    → IsRead true l.at (drop l.at.cut l.held.items) → Went true l.held.items l.at r old new × HasHalted true l.held.items r h
+    → (HasRead true l.at (drop l.at.cut text) → Went true text l.at r old new × HasHalted true text r h)
+    → HasRead true l.at (drop l.at.cut l.held.items) → Went true l.held.items l.at r old new × HasHalted true l.held.items r h
 of-held l text r h old new e f =
-    let P : List ℕ → Type 0 = λ z. IsRead true l.at (drop l.at.cut z) → Went true z l.at r old new × HasHalted true z r h in
+    let P : List ℕ → Type 0 = λ z. HasRead true l.at (drop l.at.cut z) → Went true z l.at r old new × HasHalted true z r h in
     subst P e f
 
 -- a lexer at the start of a text
@@ -56,7 +56,7 @@ pub leads-fresh : (u : Bool) (l : Lexer) → l.is_closed ≡ false → l.held.it
 leads-fresh u l h k e = record {
   open_ = h;
   reads = ap (λ (r : Reading). r.updates) e;
-  read = subst (λ (r : Reading). IsRead false r l.held.items) (sym e) (read-fresh u l.held.items);
+  read = subst (λ (r : Reading). HasRead false r l.held.items) (sym e) (read-fresh u l.held.items);
   before = [];
   parts = sym k;
   characters = IsUtf8-nil;

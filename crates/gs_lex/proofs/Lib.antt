@@ -17,6 +17,7 @@ pub mod Residuals
 pub mod AlikeLemmas
 pub mod NextLemmas
 pub mod Checks
+pub mod StateChecks
 pub mod Codes
 pub mod OneCutLemmas
 pub mod SpanLemmas

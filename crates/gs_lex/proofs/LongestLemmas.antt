@@ -6,7 +6,7 @@ use Rattle.std.proofs.lemmas.Str.{encode_same, encodes-append, len_utf8_bounds, 
 use Rattle.std.specs.Char.{IsScalar}
 use Rattle.std.specs.Str.{all_scalars}
 use lib.Utf8.{scalar}
-use Rattle.gs_lex.specs.Automata.{Found, Accepts, run, run_from, kind_at, longest}
+use Rattle.gs_lex.specs.Automata.{Found, Recognizes, run, run_from, kind_at, longest}
 use Rattle.gs_lex.specs.States.{tokens, start_of}
 use Rattle.gs_lex.specs.Scans.{IsBest, IsScanned, IsBarren}
 use Rattle.gs_lex.specs.Tokens.{Longest, NoTerminal}
@@ -46,7 +46,7 @@ scalars-front (c ∷ v) d h =
 
 -- No token goes beyond what is read.
 pub record IsAll (u : Bool) (cs z : List ℕ) : Type 0 where
-  pub all : (t : Terminal) (v s : List ℕ) → encode_utf8_all cs ++ z ≡ encode_utf8_all v ++ s → all_scalars v ≡ true → Accepts (tokens u) t v → (d : List ℕ) × (cs ≡ v ++ d)
+  pub all : (t : Terminal) (v s : List ℕ) → encode_utf8_all cs ++ z ≡ encode_utf8_all v ++ s → all_scalars v ≡ true → Recognizes (tokens u) t v → (d : List ℕ) × (cs ≡ v ++ d)
 
 pub scalars-back : (v d : List ℕ) → all_scalars (v ++ d) ≡ true → all_scalars d ≡ true
 scalars-back [] d h = h
@@ -56,7 +56,7 @@ list_some : (c : ℕ) (v : List ℕ) → c ∷ v ≢ []
 list_some c v e = Prim.cc e
 
 all_compared : (u : Bool) (cs z : List ℕ) (q : State) → run (tokens u) cs ≡ Some q → IsBarren u q z → (t : Terminal) (v s : List ℕ) → Compared v cs s z → all_scalars v ≡ true
-    → Accepts (tokens u) t v → (d : List ℕ) × (cs ≡ v ++ d)
+    → Recognizes (tokens u) t v → (d : List ℕ) × (cs ≡ v ++ d)
 all_compared u cs z q h k t v s (within d p) g a = (d, p)
 all_compared u cs z q h k t v s (beyond c d p e) g a =
     let goes : run (tokens u) v ≡ run_from (tokens u) (Some q) (c ∷ d) =
@@ -67,7 +67,7 @@ all_compared u cs z q h k t v s (beyond c d p e) g a =
 pub stuck-all : (u : Bool) (cs z : List ℕ) (q : State) → run (tokens u) cs ≡ Some q → IsBarren u q z → IsAll u cs z
 stuck-all u cs z q h k = record { all = λ t v s p g a. all_compared u cs z q h k t v s (compare v cs s z (sym p)) g a }
 
-pub no_start : (u : Bool) (t : Terminal) → Accepts (tokens u) t [] → ⊥
+pub no_start : (u : Bool) (t : Terminal) → Recognizes (tokens u) t [] → ⊥
 no_start true t e = Prim.cc e
 no_start false t e = Prim.cc e
 
@@ -103,7 +103,7 @@ find_case u x text cs after z k n (Some t) p w g a i b e =
       longest = record {
         parts = w ∙ ap (λ y. encode_utf8_all y ++ z) i.parts ∙ ap (λ y. y ++ z) (encodes-append t.1 t.2) ∙ append_assoc front (encode_utf8_all t.2) z;
         characters = scalars-front t.1 t.2 (ap all_scalars (sym i.parts) ∙ g);
-        is_terminal = accepted-terminal u k t.1 (subst (λ z. Accepts (tokens u) z t.1) (sym same) b.0);
+        is_terminal = accepted-terminal u k t.1 (subst (λ z. Recognizes (tokens u) z t.1) (sym same) b.0);
         most = λ j v s q l m.
             let h = terminal-accepted u j v m in
             let d = a.all j v s (sym w ∙ q) l h in
@@ -122,7 +122,7 @@ scan-finds u x text z s k h w a e =
 some_list : (c : ℕ) (v : List ℕ) → c ∷ v ≢ []
 some_list c v e = Prim.cc e
 
-none_case : (u : Bool) (cs : List ℕ) (n : ℕ) (f : Found Terminal ℕ) → Best (tokens u) (Some (start_of u)) cs f → IsBest f None n → (t : Terminal) (v d : List ℕ) → cs ≡ v ++ d → Accepts (tokens u) t v → ⊥
+none_case : (u : Bool) (cs : List ℕ) (n : ℕ) (f : Found Terminal ℕ) → Best (tokens u) (Some (start_of u)) cs f → IsBest f None n → (t : Terminal) (v d : List ℕ) → cs ≡ v ++ d → Recognizes (tokens u) t v → ⊥
 none_case u cs n (Some f) b e t v d p a = Prim.cc (e.0)
 none_case u cs n None b e t [] d p a = no_start u t a
 none_case u cs n None b e t (c ∷ v) d p a = b t (c ∷ v) d p (some_list c v) a

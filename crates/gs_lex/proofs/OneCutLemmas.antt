@@ -6,10 +6,10 @@ use Rattle.std.proofs.lemmas.Str.{encode_same, length-encode, len_utf8_bounds}
 use Rattle.std.proofs.str.Laws.{one}
 use Rattle.std.specs.Str.{StartsWithNoChar}
 use Rattle.gs_machine.proofs.Encodings.{scalar_from}
-use Rattle.gs_lex.specs.Automata.{Accepts, run, run_from, kind_at}
+use Rattle.gs_lex.specs.Automata.{Recognizes, run, run_from, kind_at}
 use Rattle.gs_lex.specs.Classes.{is_ws, is_line_end}
-use Rattle.gs_lex.specs.States.{tokens, next, start_of}
-use Rattle.gs_lex.specs.Tokens.{Cut, Mode, Between, InComment, CutEnd, Lexeme, lexeme_at, place_after, kind_of, Longest, NoTerminal, EndsLine, ended, space, hash, comment, line_end, bad_comment, token, no_kind, no_token}
+use Rattle.gs_lex.specs.States.{tokens, state_after, start_of}
+use Rattle.gs_lex.specs.Tokens.{Cut, Gap, Between, InComment, CutEnd, Lexeme, lexeme_at, place_after, token_kind, Longest, NoTerminal, EndsLine, ended, space, hash, comment, line_end, bad_comment, token, no_kind, no_token}
 use Rattle.gs_lex.specs.declared.kinds.Terminal.{Terminal}
 use Rattle.gs_lex.proofs.AutomatonLemmas.{none-stays}
 use Rattle.gs_lex.proofs.LongestLemmas.{Compared, within, beyond, compare, no_start}
@@ -28,29 +28,29 @@ line_end_is : (c : ℕ) → is_line_end c ≡ true → (c ≡ 10) ⊎ (c ≡ 13)
 line_end_is c h = grind (arith, nat_tests)
 
 -- no token begins with white space, nor with '#'
-dead_at : (u : Bool) (c : ℕ) → (c ≡ 35) ⊎ ((c ≡ 32) ⊎ ((c ≡ 9) ⊎ ((c ≡ 13) ⊎ (c ≡ 10)))) → (next (start_of u) c ≡ None) × (c < 128)
-dead_at true c (inl e) = subst (λ z. (next (start_of true) z ≡ None) × (z < 128)) (sym e) (refl, omega arith)
-dead_at true c (inr (inl e)) = subst (λ z. (next (start_of true) z ≡ None) × (z < 128)) (sym e) (refl, omega arith)
-dead_at true c (inr (inr (inl e))) = subst (λ z. (next (start_of true) z ≡ None) × (z < 128)) (sym e) (refl, omega arith)
-dead_at true c (inr (inr (inr (inl e)))) = subst (λ z. (next (start_of true) z ≡ None) × (z < 128)) (sym e) (refl, omega arith)
-dead_at true c (inr (inr (inr (inr e)))) = subst (λ z. (next (start_of true) z ≡ None) × (z < 128)) (sym e) (refl, omega arith)
-dead_at false c (inl e) = subst (λ z. (next (start_of false) z ≡ None) × (z < 128)) (sym e) (refl, omega arith)
-dead_at false c (inr (inl e)) = subst (λ z. (next (start_of false) z ≡ None) × (z < 128)) (sym e) (refl, omega arith)
-dead_at false c (inr (inr (inl e))) = subst (λ z. (next (start_of false) z ≡ None) × (z < 128)) (sym e) (refl, omega arith)
-dead_at false c (inr (inr (inr (inl e)))) = subst (λ z. (next (start_of false) z ≡ None) × (z < 128)) (sym e) (refl, omega arith)
-dead_at false c (inr (inr (inr (inr e)))) = subst (λ z. (next (start_of false) z ≡ None) × (z < 128)) (sym e) (refl, omega arith)
+dead_at : (u : Bool) (c : ℕ) → (c ≡ 35) ⊎ ((c ≡ 32) ⊎ ((c ≡ 9) ⊎ ((c ≡ 13) ⊎ (c ≡ 10)))) → (state_after (start_of u) c ≡ None) × (c < 128)
+dead_at true c (inl e) = subst (λ z. (state_after (start_of true) z ≡ None) × (z < 128)) (sym e) (refl, omega arith)
+dead_at true c (inr (inl e)) = subst (λ z. (state_after (start_of true) z ≡ None) × (z < 128)) (sym e) (refl, omega arith)
+dead_at true c (inr (inr (inl e))) = subst (λ z. (state_after (start_of true) z ≡ None) × (z < 128)) (sym e) (refl, omega arith)
+dead_at true c (inr (inr (inr (inl e)))) = subst (λ z. (state_after (start_of true) z ≡ None) × (z < 128)) (sym e) (refl, omega arith)
+dead_at true c (inr (inr (inr (inr e)))) = subst (λ z. (state_after (start_of true) z ≡ None) × (z < 128)) (sym e) (refl, omega arith)
+dead_at false c (inl e) = subst (λ z. (state_after (start_of false) z ≡ None) × (z < 128)) (sym e) (refl, omega arith)
+dead_at false c (inr (inl e)) = subst (λ z. (state_after (start_of false) z ≡ None) × (z < 128)) (sym e) (refl, omega arith)
+dead_at false c (inr (inr (inl e))) = subst (λ z. (state_after (start_of false) z ≡ None) × (z < 128)) (sym e) (refl, omega arith)
+dead_at false c (inr (inr (inr (inl e)))) = subst (λ z. (state_after (start_of false) z ≡ None) × (z < 128)) (sym e) (refl, omega arith)
+dead_at false c (inr (inr (inr (inr e)))) = subst (λ z. (state_after (start_of false) z ≡ None) × (z < 128)) (sym e) (refl, omega arith)
 
-accepts_dead : (u : Bool) (c : ℕ) (w : List ℕ) (t : Terminal) → next (start_of u) c ≡ None → Accepts (tokens u) t (c ∷ w) → ⊥
+accepts_dead : (u : Bool) (c : ℕ) (w : List ℕ) (t : Terminal) → state_after (start_of u) c ≡ None → Recognizes (tokens u) t (c ∷ w) → ⊥
 accepts_dead u c w t e h = Prim.cc (sym (ap (λ o. kind_at (tokens u) (run_from (tokens u) o w)) e ∙ ap (kind_at (tokens u)) (none-stays (tokens u) w)) ∙ h)
 
-longest_dead : (u : Bool) (t : Terminal) (w r : List ℕ) (c : ℕ) (s : List ℕ) → c ∷ s ≡ encode_utf8_all w ++ r → Accepts (tokens u) t w → (next (start_of u) c ≡ None) × (c < 128) → ⊥
+longest_dead : (u : Bool) (t : Terminal) (w r : List ℕ) (c : ℕ) (s : List ℕ) → c ∷ s ≡ encode_utf8_all w ++ r → Recognizes (tokens u) t w → (state_after (start_of u) c ≡ None) × (c < 128) → ⊥
 longest_dead u t [] r c s e h k = no_start u t h
 longest_dead u t (d ∷ w) r c s e h k =
     let p : encode_utf8 c ++ s ≡ encode_utf8 d ++ (encode_utf8_all w ++ r) = ap (λ z. z ++ s) (one c k.1) ∙ e ∙ append_assoc (encode_utf8 d) (encode_utf8_all w) r in
     let same = (encode_same c d s (encode_utf8_all w ++ r) p).0 in
-    accepts_dead u d w t (subst (λ z. next (start_of u) z ≡ None) same k.0) h
+    accepts_dead u d w t (subst (λ z. state_after (start_of u) z ≡ None) same k.0) h
 
-nil_longest : (u : Bool) (t : Terminal) (w r : List ℕ) → [] ≡ encode_utf8_all w ++ r → Accepts (tokens u) t w → ⊥
+nil_longest : (u : Bool) (t : Terminal) (w r : List ℕ) → [] ≡ encode_utf8_all w ++ r → Recognizes (tokens u) t w → ⊥
 nil_longest u t [] r e h = no_start u t h
 nil_longest u t (d ∷ w) r e h = some_encode d (encode_utf8_all w ++ r) (sym (append_assoc (encode_utf8 d) (encode_utf8_all w) r) ∙ sym e)
 
@@ -126,7 +126,7 @@ bad_ends (b ∷ x) h n k =
     k b x (scalar_from b (inl (omega (arith, low)))) (ap (λ z. z ++ x) (sym (one b low)))
 
 -- a text is cut in one way
-pub cut-one : (u : Bool) (m : Mode) (n l : ℕ) (x : List ℕ) (ts us : List Lexeme) (e f : CutEnd) → Cut u m n l x ts e → Cut u m n l x us f → (ts ≡ us) × (e ≡ f)
+pub cut-one : (u : Bool) (m : Gap) (n l : ℕ) (x : List ℕ) (ts us : List Lexeme) (e f : CutEnd) → Cut u m n l x ts e → Cut u m n l x us f → (ts ≡ us) × (e ≡ f)
 cut-one u _ n l x _ _ _ _ (ended p) (ended q) = (refl, refl)
 cut-one u _ n l x _ _ _ _ (ended p) (space c r q k d) = absurd (nil_head p q)
 cut-one u _ n l x _ _ _ _ (ended p) (hash r q d) = absurd (nil_head p q)
@@ -152,7 +152,7 @@ cut-one u _ n l x _ _ _ _ (token t w r k g h d) (space c s q j i) = absurd (no_s
 cut-one u _ n l x _ _ _ _ (token t w r k g h d) (hash s q i) = absurd (no_hash u x t w r s q g)
 cut-one u _ n l x _ _ e f (token {ts = ts} t w r k g h d) (token {ts = us} j v s b i q a) =
     let o = one_longest u x t j w v r s g i in
-    let kinds : k ≡ b = some_same (sym h ∙ ap (λ z. kind_of u z (encode_utf8_all w)) o.terminals ∙ ap (λ z. kind_of u j (encode_utf8_all z)) o.chars ∙ q) in
+    let kinds : k ≡ b = some_same (sym h ∙ ap (λ z. token_kind u z (encode_utf8_all w)) o.terminals ∙ ap (λ z. token_kind u j (encode_utf8_all z)) o.chars ∙ q) in
     let moved : Cut u Between (place_after n (length (encode_utf8_all w))) (place_after n (length (encode_utf8_all w))) s us f =
     subst (λ z. Cut u Between (place_after n (length (encode_utf8_all z))) (place_after n (length (encode_utf8_all z))) s us f) (sym o.chars) a in
     let ih = cut-one u Between (place_after n (length (encode_utf8_all w))) (place_after n (length (encode_utf8_all w))) r ts us e f d
@@ -160,14 +160,14 @@ cut-one u _ n l x _ _ e f (token {ts = ts} t w r k g h d) (token {ts = us} j v s
     (ap (λ z. lexeme_at z n (encode_utf8_all w) ∷ ts) kinds ∙ ap (λ z. lexeme_at b n (encode_utf8_all z) ∷ ts) o.chars ∙ ap (λ z. lexeme_at b n (encode_utf8_all v) ∷ z) ih.0, ih.1)
 cut-one u _ n l x _ _ _ _ (token t w r k g h d) (no_kind j v s i q) =
     let o = one_longest u x t j w v r s g i in
-    absurd (some_none k (kind_of u j (encode_utf8_all v)) (ap (λ z. kind_of u j (encode_utf8_all z)) (sym o.chars) ∙ ap (λ z. kind_of u z (encode_utf8_all w)) (sym o.terminals) ∙ h) q)
+    absurd (some_none k (token_kind u j (encode_utf8_all v)) (ap (λ z. token_kind u j (encode_utf8_all z)) (sym o.chars) ∙ ap (λ z. token_kind u z (encode_utf8_all w)) (sym o.terminals) ∙ h) q)
 cut-one u _ n l x _ _ _ _ (token t w r k g h d) (no_token c s q j i a) = absurd (no_longest u x t w r a g)
 cut-one u _ n l x _ _ _ _ (no_kind t w r g h) (ended q) = absurd (no_nil u x t w r q g)
 cut-one u _ n l x _ _ _ _ (no_kind t w r g h) (space c s q j i) = absurd (no_space u x t w r c s q j g)
 cut-one u _ n l x _ _ _ _ (no_kind t w r g h) (hash s q i) = absurd (no_hash u x t w r s q g)
 cut-one u _ n l x _ _ _ _ (no_kind t w r g h) (token j v s b i q a) =
     let o = one_longest u x t j w v r s g i in
-    absurd (some_none b (kind_of u t (encode_utf8_all w)) (ap (λ z. kind_of u t (encode_utf8_all z)) o.chars ∙ ap (λ z. kind_of u z (encode_utf8_all v)) o.terminals ∙ q) h)
+    absurd (some_none b (token_kind u t (encode_utf8_all w)) (ap (λ z. token_kind u t (encode_utf8_all z)) o.chars ∙ ap (λ z. token_kind u z (encode_utf8_all v)) o.terminals ∙ q) h)
 cut-one u _ n l x _ _ _ _ (no_kind t w r g h) (no_kind j v s i q) = (refl, refl)
 cut-one u _ n l x _ _ _ _ (no_kind t w r g h) (no_token c s q j i a) = absurd (no_longest u x t w r a g)
 cut-one u _ n l x _ _ _ _ (no_token c r p k h i) (ended q) = absurd (nil_head q p)

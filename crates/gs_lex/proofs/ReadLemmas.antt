@@ -7,7 +7,7 @@ use Rattle.std.specs.Str.{IsUtf8}
 use Rattle.gs_lex.specs.Scans.{MayBecome, IsScanned, IsBarrenTo}
 use Rattle.gs_lex.specs.Tokens.{lexeme_at}
 use Rattle.gs_lex.specs.Lexemes.{lexemes_of}
-use Rattle.gs_lex.specs.Readings.{Passes, Gives, CutFrom, IsRead, Went, Grows, IsWithin, passed_of, found_of, bit}
+use Rattle.gs_lex.specs.Readings.{Passes, FindsToken, CutFrom, HasRead, Went, Grows, IsWithin, passed_of, found_of, bit}
 use Rattle.gs_lex.specs.declared.kinds.TokenKind.{TokenKind}
 use Rattle.gs_lex.specs.declared.scans.Scan.{Scan}
 use Rattle.gs_lex.specs.declared.steps.Reading.{Reading}
@@ -29,7 +29,7 @@ parts_more from r x count before l p =
 becomes-front : (is_end : Bool) (x z : List ℕ) (count : ℕ) → IsUtf8 (take count x) → MayBecome is_end (drop count x) z → MayBecome is_end x (take count x ++ z)
 becomes-front is_end x z count u m = subst (λ y. MayBecome is_end y (take count x ++ z)) (take-append-drop count x) (becomes-before is_end (take count x) (drop count x) z u m)
 
-pub went-nothing : (is_end : Bool) (x : List ℕ) (r : Reading) (old : List Token) → IsRead is_end r (drop r.cut x) → Went is_end x r r old old
+pub went-nothing : (is_end : Bool) (x : List ℕ) (r : Reading) (old : List Token) → HasRead is_end r (drop r.cut x) → Went is_end x r r old old
 went-nothing is_end x r old h = record { added = []; given = sym (append-nil (lexemes_of old)); before = []; parts = refl; characters = IsUtf8-nil; mode = refl; read = h; cut = λ z ts e m t. t }
 
 pub went-passed : (is_end : Bool) (x : List ℕ) (from r : Reading) (old new : List Token) (count : ℕ) (c : Bool) → r.cut ≤ length x → Went is_end x from r old new
@@ -50,7 +50,7 @@ went-passed is_end x from r old new count c l w p = record {
 }
 
 pub went-found : (is_end : Bool) (x : List ℕ) (from r : Reading) (old new newer : List Token) (k : TokenKind) (count b : ℕ) → r.cut ≤ length x → Went is_end x from r old new
-    → Gives is_end r (drop r.cut x) k count b → lexemes_of newer ≡ lexemes_of new ++ lexeme_at k r.place (take count (drop r.cut x)) ∷ [] → Went is_end x from (found_of r count b) old newer
+    → FindsToken is_end r (drop r.cut x) k count b → lexemes_of newer ≡ lexemes_of new ++ lexeme_at k r.place (take count (drop r.cut x)) ∷ [] → Went is_end x from (found_of r count b) old newer
 went-found is_end x from r old new newer k count b l w g p =
     let lex = lexeme_at k r.place (take count (drop r.cut x)) in
     record {

@@ -10,11 +10,11 @@ use Rattle.std.specs.Str.{IsUtf8}
 use Rattle.std.proofs.str.Laws.{one}
 use Rattle.gs_machine.proofs.Encodings.{scalar_from}
 use Rattle.gs_model.specs.Characters.{is_iri_char}
-use Rattle.gs_lex.specs.Classes.{is_ws, is_name, is_line_end, is_local}
+use Rattle.gs_lex.specs.Classes.{is_ws, is_name_char, is_line_end, is_local}
 use Rattle.gs_lex.specs.Readings.{Passes}
 use Rattle.gs_lex.specs.Runs.{AllFrom, plain_iri, plain_string, plain_comment, plain_name, stay_of, at_place}
 use Rattle.gs_lex.specs.Scans.{IsScanned, best_after, onward_of}
-use Rattle.gs_lex.specs.States.{next, accepts}
+use Rattle.gs_lex.specs.States.{state_after, accepts}
 use Rattle.gs_lex.specs.Tokens.{Cut, Between, InComment, CutEnd, Lexeme, place_after, space, comment}
 use Rattle.gs_lex.specs.declared.kinds.Terminal.{Terminal}
 use Rattle.gs_lex.specs.declared.scans.Scan.{Scan}
@@ -39,7 +39,7 @@ run-none test x m i l b = absurd (omega (arith, l, b))
 
 -- over each such byte the automaton stays
 abbrev pub Stays : (ℕ → Bool) → State → Type 0
-Stays test q = (c : ℕ) → test c ≡ true → (c < 128) × (next q c ≡ Some q)
+Stays test q = (c : ℕ) → test c ≡ true → (c < 128) × (state_after q c ≡ Some q)
 
 best_again : (k : Option Terminal) (m n : ℕ) (b : Option Terminal × ℕ) → best_after k m (best_after k n b) ≡ best_after k m b
 best_again None m n b = refl
@@ -74,7 +74,7 @@ stay_on u x s test n f h l e g =
     let rest = drop t.len x in
     let some : 0 < length rest = omega (arith, length-drop t.len x, l, len) in
     let byte : c ≡ get_or rest 0 c = ap (λ z. get_or x z 0) (sym len) ∙ get_or_default x t.len 0 c (omega (arith, l, len)) ∙ ap (λ z. get_or x z c) (omega arith) ∙ sym (get_or-drop t.len x 0 c) in
-    let on : IsScanned u x (onward_of t s.state 1) = scan-on u x t c 1 s.state g (front-ascii rest c byte some stays.0) (ap (λ z. next z c) state ∙ stays.1) in
+    let on : IsScanned u x (onward_of t s.state 1) = scan-on u x t c 1 s.state g (front-ascii rest c byte some stays.0) (ap (λ z. state_after z c) state ∙ stays.1) in
     subst (IsScanned u x) (stay_more s n h (n == s.len) refl ∙ sym (at_other s n h)) on
 
 stay_run : (u : Bool) (x : List ℕ) (s : Scan) (test : ℕ → Bool) (k : ℕ) → Stays test s.state → s.len + k ≤ length x → AllFrom test x s.len (s.len + k) → IsScanned u x s → IsScanned u x (stay_of s (s.len + k))
@@ -143,23 +143,23 @@ implied : (a b : Bool) → (not a || b) ≡ true → a ≡ true → b ≡ true
 implied true b h k = h
 implied false b h k = Prim.cc k
 
-plain_names : all_below (λ c. not (plain_name c) || is_name c) 128 ≡ true
+plain_names : all_below (λ c. not (plain_name c) || is_name_char c) 128 ≡ true
 plain_names = refl
 
-name_parts : (c : ℕ) → plain_name c ≡ true → (c < 128) × (is_name c ≡ true)
-name_parts c h = (name_low c h, implied (plain_name c) (is_name c) (below_is (λ d. not (plain_name d) || is_name d) 128 c plain_names (name_low c h)) h)
+name_parts : (c : ℕ) → plain_name c ≡ true → (c < 128) × (is_name_char c ≡ true)
+name_parts c h = (name_low c h, implied (plain_name c) (is_name_char c) (below_is (λ d. not (plain_name d) || is_name_char d) 128 c plain_names (name_low c h)) h)
 
-local_name : (c : ℕ) → is_name c ≡ true → is_local c ≡ true
+local_name : (c : ℕ) → is_name_char c ≡ true → is_local c ≡ true
 local_name c h = ap (λ b. b || (c == 58)) h
 
 pub stays-word : Stays plain_name at.Word
-stays-word c h = let p = name_parts c h in (p.0, if_true (is_name c) at.Word _ p.1)
+stays-word c h = let p = name_parts c h in (p.0, if_true (is_name_char c) at.Word _ p.1)
 
 pub stays-word-more : Stays plain_name at.WordMore
-stays-word-more c h = let p = name_parts c h in (p.0, if_true (is_name c) at.WordMore _ p.1)
+stays-word-more c h = let p = name_parts c h in (p.0, if_true (is_name_char c) at.WordMore _ p.1)
 
 pub stays-label : Stays plain_name at.Label
-stays-label c h = let p = name_parts c h in (p.0, if_true (is_name c) at.Label _ p.1)
+stays-label c h = let p = name_parts c h in (p.0, if_true (is_name_char c) at.Label _ p.1)
 
 pub stays-local : Stays plain_name at.Local
 stays-local c h = let p = name_parts c h in (p.0, if_true (is_local c) at.Local _ (local_name c p.1))

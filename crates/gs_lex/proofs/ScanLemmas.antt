@@ -9,7 +9,7 @@ use Rattle.std.specs.Char.{IsScalar}
 use Rattle.std.specs.Str.{all_scalars, StartsWithNoChar}
 use lib.Utf8.{scalar}
 use Rattle.gs_lex.specs.Automata.{Found, run, run_from, kind_at, longest}
-use Rattle.gs_lex.specs.States.{tokens, next, accepts, start_of}
+use Rattle.gs_lex.specs.States.{tokens, state_after, accepts, start_of}
 use Rattle.gs_lex.specs.Scans.{IsBest, MayBecome, IsScanned, IsBarren, IsBarrenTo, onward_of, fresh, best_after}
 use Rattle.gs_lex.specs.Symbols.{BeginsWith, IsShort}
 use Rattle.gs_lex.specs.declared.kinds.Terminal.{Terminal}
@@ -50,7 +50,7 @@ pub scalars-snoc : (cs : List ℕ) (c : ℕ) → all_scalars cs ≡ true → IsS
 scalars-snoc [] c h k = ap (λ z. z && true) k
 scalars-snoc (d ∷ cs) c h k = both_and (scalar d) (all_scalars (cs ++ c ∷ [])) (and_parts (scalar d) (all_scalars cs) h).0 (scalars-snoc cs c (and_parts (scalar d) (all_scalars cs) h).1 k)
 
-pub scan-on : (u : Bool) (x : List ℕ) (s : Scan) (c n : ℕ) (p : State) → IsScanned u x s → BeginsWith c n (drop s.len x) → next s.state c ≡ Some p → IsScanned u x (onward_of s p n)
+pub scan-on : (u : Bool) (x : List ℕ) (s : Scan) (c n : ℕ) (p : State) → IsScanned u x s → BeginsWith c n (drop s.len x) → state_after s.state c ≡ Some p → IsScanned u x (onward_of s p n)
 scan-on u x s c n p h b e =
     let cs = h.chars in
     let size = begins-some c n (drop s.len x) b in
@@ -72,13 +72,13 @@ scan-on u x s c n p h b e =
 
 -- no character at the front of z goes on with a token
 abbrev pub IsStuck : State → List ℕ → Type 0
-IsStuck q z = (c : ℕ) (o : List ℕ) → IsScalar c → z ≡ encode_utf8 c ++ o → next q c ≡ None
+IsStuck q z = (c : ℕ) (o : List ℕ) → IsScalar c → z ≡ encode_utf8 c ++ o → state_after q c ≡ None
 
 stuck_on : (u : Bool) (q : State) (z : List ℕ) → IsStuck q z → (t : Terminal) (v s : List ℕ) → z ≡ encode_utf8_all v ++ s → all_scalars v ≡ true → v ≢ []
     → kind_at (tokens u) (run_from (tokens u) (Some q) v) ≡ Some t → ⊥
 stuck_on u q z h t [] s p g n k = n refl
 stuck_on u q z h t (c ∷ v) s p g n k =
-    let dead : next q c ≡ None = h c (encode_utf8_all v ++ s) (and_parts (scalar c) (all_scalars v) g).0 (p ∙ append_assoc (encode_utf8 c) (encode_utf8_all v) s) in
+    let dead : state_after q c ≡ None = h c (encode_utf8_all v ++ s) (and_parts (scalar c) (all_scalars v) g).0 (p ∙ append_assoc (encode_utf8 c) (encode_utf8_all v) s) in
     Prim.cc (sym (ap (λ o. kind_at (tokens u) (run_from (tokens u) o v)) dead ∙ ap (kind_at (tokens u)) (none-stays (tokens u) v)) ∙ k)
 
 pub stuck-barren : (u : Bool) (q : State) (z : List ℕ) → IsStuck q z → IsBarren u q z
@@ -87,7 +87,7 @@ stuck-barren u q z h = stuck_on u q z h
 -- an ended token, whatever follows
 pub ended-stuck : (is_end u b : Bool) (q : State) (z : List ℕ) → MatchBool b ((t : Terminal) × (q ≡ at.Ended t)) ((t : Terminal) → q ≢ at.Ended t) → IsBarren u q z
     → MatchBool b ((w : List ℕ) → MayBecome is_end z w → IsBarren u q w) (IsBarren u q z)
-ended-stuck is_end u true q z h k = λ w m. stuck-barren u q w (λ c o i p. subst (λ s. next s c ≡ None) (sym h.1) refl)
+ended-stuck is_end u true q z h k = λ w m. stuck-barren u q w (λ c o i p. subst (λ s. state_after s c ≡ None) (sym h.1) refl)
 ended-stuck is_end u false q z h k = k
 
 pub not-ended : (b : Bool) (q : State) → MatchBool b ((t : Terminal) × (q ≡ at.Ended t)) ((t : Terminal) → q ≢ at.Ended t) → b ≡ false → (t : Terminal) → q ≢ at.Ended t
@@ -110,10 +110,10 @@ rest-becomes is_end u x z s h m =
     subst (λ y. MayBecome is_end y (encode_utf8_all h.chars ++ z)) (sym h.parts) (becomes-before is_end (encode_utf8_all h.chars) h.after z (h.chars, (h.characters, refl)) m)
 
 -- a character by which no token goes on
-pub stuck-character : (is_end : Bool) (q : State) (c n : ℕ) (r : List ℕ) → BeginsWith c n r → next q c ≡ None → (z : List ℕ) → MayBecome is_end r z → IsStuck q z
+pub stuck-character : (is_end : Bool) (q : State) (c n : ℕ) (r : List ℕ) → BeginsWith c n r → state_after q c ≡ None → (z : List ℕ) → MayBecome is_end r z → IsStuck q z
 stuck-character is_end q c n r b e z m d o k p =
     let g = begins-become is_end c n r z b m in
-    subst (λ y. next q y ≡ None) (encode_same c d g.rest o (sym g.text ∙ p)).0 e
+    subst (λ y. state_after q y ≡ None) (encode_same c d g.rest o (sym g.text ∙ p)).0 e
 
 -- bytes that begin no character
 pub stuck-bad : (q : State) (z : List ℕ) → StartsWithNoChar z → IsStuck q z

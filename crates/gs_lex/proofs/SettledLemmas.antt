@@ -7,14 +7,14 @@ use Rattle.std.specs.Str.{all_scalars, IsUtf8}
 use Rattle.gs_machine.specs.Machines.{Begins}
 use Rattle.gs_machine.specs.Utf8.{IsLongestFront}
 use Rattle.gs_machine.proofs.FrontLemmas.{front_of_parts, one_front}
-use Rattle.gs_lex.specs.Automata.{Accepts, run, run_from, kind_at}
+use Rattle.gs_lex.specs.Automata.{Recognizes, run, run_from, kind_at}
 use Rattle.gs_lex.specs.Regexes.{Matches, One, Then, both, one}
 use Rattle.gs_lex.specs.States.{tokens, start_of}
 use Rattle.gs_lex.specs.Scans.{IsScanned, recut}
 use Rattle.gs_lex.specs.Symbols.{IsShort}
-use Rattle.gs_lex.specs.Terminals.{holds, Caret}
-use Rattle.gs_lex.specs.Tokens.{Cut, Between, InComment, CutEnd, AtEnd, AtFault, Lexeme, IsCut, lexeme_at, has_text, kind_of, Longest, NoTerminal, ended, token, no_token, line_end}
-use Rattle.gs_lex.specs.Readings.{CutFrom, Waits, inside, between, begun, mode_of}
+use Rattle.gs_lex.specs.Terminals.{has_char, Caret}
+use Rattle.gs_lex.specs.Tokens.{Cut, Between, InComment, CutEnd, AtEnd, AtFault, Lexeme, IsCut, lexeme_at, has_text, token_kind, Longest, NoTerminal, ended, token, no_token, line_end}
+use Rattle.gs_lex.specs.Readings.{CutFrom, Waits, inside, between, begun, gap_of}
 use Rattle.gs_lex.specs.Cuts.{cut_from}
 use Rattle.gs_lex.specs.Lexers.{Leads, Stay, AreSettled, MayGoQuietly}
 use Rattle.gs_lex.specs.declared.kinds.TokenKind.{TokenKind}
@@ -54,7 +54,7 @@ begins_both (t ∷ ts) (c ∷ us) a b h k n =
     (r.0, ap (λ z. z ∷ ts) same ∙ ap (λ z. c ∷ z) r.1)
 
 -- a text that is a token is its longest
-whole_longest : (u : Bool) (x w : List ℕ) (t : Terminal) → x ≡ encode_utf8_all w → all_scalars w ≡ true → Accepts (tokens u) t w → Longest u x t w []
+whole_longest : (u : Bool) (x w : List ℕ) (t : Terminal) → x ≡ encode_utf8_all w → all_scalars w ≡ true → Recognizes (tokens u) t w → Longest u x t w []
 whole_longest u x w t e g a = record {
   parts = e ∙ sym (append-nil (encode_utf8_all w));
   characters = g;
@@ -65,7 +65,7 @@ whole_longest u x w t e g a = record {
   ];
 }
 
-whole_cut : (u : Bool) (n l : ℕ) (x w : List ℕ) (t : Terminal) (k : TokenKind) → x ≡ encode_utf8_all w → all_scalars w ≡ true → Accepts (tokens u) t w → kind_of u t (encode_utf8_all w) ≡ Some k
+whole_cut : (u : Bool) (n l : ℕ) (x w : List ℕ) (t : Terminal) (k : TokenKind) → x ≡ encode_utf8_all w → all_scalars w ≡ true → Recognizes (tokens u) t w → token_kind u t (encode_utf8_all w) ≡ Some k
     → Cut u Between n l x (lexeme_at k n (encode_utf8_all w) ∷ []) AtEnd
 whole_cut u n l x w t k e g a i = token t w [] k (whole_longest u x w t e g a) i (ended refl)
 
@@ -78,23 +78,23 @@ no_caret : (u : Bool) → start_of u ≡ at.Caret → ⊥
 no_caret false e = Prim.cc e
 no_caret true e = Prim.cc e
 
-caret_chars : (x : List ℕ) (c : ℕ) (cs : List ℕ) → Matches holds (Then (One Caret) (One Caret)) x → x ≡ (c ∷ cs) ++ 94 ∷ [] → c ∷ cs ≡ 94 ∷ []
+caret_chars : (x : List ℕ) (c : ℕ) (cs : List ℕ) → Matches has_char (Then (One Caret) (One Caret)) x → x ≡ (c ∷ cs) ++ 94 ∷ [] → c ∷ cs ≡ 94 ∷ []
 caret_chars _ c cs (both _ _ p (one {c = a} h) (one {c = b} k)) e = two_chars a b c cs (eqb-true a 94 h) (sym p ∙ e)
 
 caret_alone : (u : Bool) (cs : List ℕ) → run (tokens u) cs ≡ Some at.Caret → cs ≡ 94 ∷ []
 caret_alone u [] h = absurd (no_caret u (Prim.cc h))
 caret_alone u (c ∷ cs) h =
-    let carets : Accepts (tokens u) kind.Carets ((c ∷ cs) ++ 94 ∷ []) = ap (kind_at (tokens u)) (run-append (tokens u) (Some (tokens u).start) (c ∷ cs) (94 ∷ []) ∙ ap (λ o. run_from (tokens u) o (94 ∷ [])) h) in
+    let carets : Recognizes (tokens u) kind.Carets ((c ∷ cs) ++ 94 ∷ []) = ap (kind_at (tokens u)) (run-append (tokens u) (Some (tokens u).start) (c ∷ cs) (94 ∷ []) ∙ ap (λ o. run_from (tokens u) o (94 ∷ [])) h) in
     caret_chars ((c ∷ cs) ++ 94 ∷ []) c cs (accepted-terminal u kind.Carets ((c ∷ cs) ++ 94 ∷ []) carets) refl
 
-no_caret_token : (u : Bool) (t : Terminal) (v d : List ℕ) → v ++ d ≡ 94 ∷ [] → Accepts (tokens u) t v → ⊥
+no_caret_token : (u : Bool) (t : Terminal) (v d : List ℕ) → v ++ d ≡ 94 ∷ [] → Recognizes (tokens u) t v → ⊥
 no_caret_token u t [] d e a = no_start u t a
 no_caret_token false t (c ∷ []) d e a =
     let same : c ≡ 94 = Prim.cc e in
-    let k = subst (λ z. Accepts (tokens false) t (z ∷ [])) same a in Prim.cc k
+    let k = subst (λ z. Recognizes (tokens false) t (z ∷ [])) same a in Prim.cc k
 no_caret_token true t (c ∷ []) d e a =
     let same : c ≡ 94 = Prim.cc e in
-    let k = subst (λ z. Accepts (tokens true) t (z ∷ [])) same a in Prim.cc k
+    let k = subst (λ z. Recognizes (tokens true) t (z ∷ [])) same a in Prim.cc k
 no_caret_token u t (c ∷ b ∷ v) d e a = absurd (omega (arith, ap length e, length-append v d))
 
 -- how a text may go on: so that no token comes, or so that one comes, of a kind that has a text, or another
@@ -119,10 +119,10 @@ record FromFront (u : Bool) (l : Lexer) (front : List ℕ) (ts : List Lexeme) (h
   pub reads : l.at.updates ≡ u
 
 between_cut : (u : Bool) (l : Lexer) (x : List ℕ) (ts : List Lexeme) (e : CutEnd) → l.at.updates ≡ u → l.at.in_comment ≡ false → Cut u Between l.at.place l.at.last x ts e → CutFrom l.at x ts e
-between_cut u l x ts e h k c = subst (λ b. Cut l.at.updates (mode_of b) l.at.place l.at.last x ts e) (sym k) (subst (λ b. Cut b Between l.at.place l.at.last x ts e) (sym h) c)
+between_cut u l x ts e h k c = subst (λ b. Cut l.at.updates (gap_of b) l.at.place l.at.last x ts e) (sym k) (subst (λ b. Cut b Between l.at.place l.at.last x ts e) (sym h) c)
 
 comment_cut : (u : Bool) (l : Lexer) (x : List ℕ) (ts : List Lexeme) (e : CutEnd) → l.at.updates ≡ u → l.at.in_comment ≡ true → Cut u InComment l.at.place l.at.last x ts e → CutFrom l.at x ts e
-comment_cut u l x ts e h k c = subst (λ b. Cut l.at.updates (mode_of b) l.at.place l.at.last x ts e) (sym k) (subst (λ b. Cut b InComment l.at.place l.at.last x ts e) (sym h) c)
+comment_cut u l x ts e h k c = subst (λ b. Cut l.at.updates (gap_of b) l.at.place l.at.last x ts e) (sym k) (subst (λ b. Cut b InComment l.at.place l.at.last x ts e) (sym h) c)
 
 -- no character is held
 empty_held : (u : Bool) (l : Lexer) (x : List ℕ) (ts : List Lexeme) → FromFront u l x ts [] → CutFrom l.at [] [] AtEnd → GoesOn u x ts
@@ -130,10 +130,10 @@ empty_held u l x ts h c = nothing_more [] AtEnd (h.on [] [] AtEnd c)
 
 -- the token that one way on leads to
 way_token : (u : Bool) (l : Lexer) (x cs v : List ℕ) (ts : List Lexeme) (q : State) (t : Terminal) (k : TokenKind) → FromFront u l x ts (encode_utf8_all cs) → l.at.in_comment ≡ false → all_scalars cs ≡ true
-    → run (tokens u) cs ≡ Some q → kind_at (tokens u) (run_from (tokens u) (Some q) v) ≡ Some t → all_scalars v ≡ true → ((z : List ℕ) → kind_of u t z ≡ Some k)
+    → run (tokens u) cs ≡ Some q → kind_at (tokens u) (run_from (tokens u) (Some q) v) ≡ Some t → all_scalars v ≡ true → ((z : List ℕ) → token_kind u t z ≡ Some k)
     → IsCut u (x ++ encode_utf8_all v) (ts ++ lexeme_at k l.at.place (encode_utf8_all (cs ++ v)) ∷ []) AtEnd
 way_token u l x cs v ts q t k h b g r a i j =
-    let accepted : Accepts (tokens u) t (cs ++ v) = ap (kind_at (tokens u)) (run-append (tokens u) (Some (tokens u).start) cs v ∙ ap (λ o. run_from (tokens u) o v) r) ∙ a in
+    let accepted : Recognizes (tokens u) t (cs ++ v) = ap (kind_at (tokens u)) (run-append (tokens u) (Some (tokens u).start) cs v ∙ ap (λ o. run_from (tokens u) o v) r) ∙ a in
     let held = encode_utf8_all cs ++ encode_utf8_all v in
     h.on (encode_utf8_all v) (lexeme_at k l.at.place (encode_utf8_all (cs ++ v)) ∷ []) AtEnd
     (between_cut u l held (lexeme_at k l.at.place (encode_utf8_all (cs ++ v)) ∷ []) AtEnd h.reads b
@@ -169,7 +169,7 @@ caret_bytes = append-nil (encode_utf8 94) ∙ one_byte 94 (omega arith)
 caret_ends : (u : Bool) → NoTerminal u (94 ∷ [])
 caret_ends u t v s p g a = caret_case u t v s (compare v (94 ∷ []) s [] (sym p ∙ sym caret_bytes ∙ sym (append-nil (encode_utf8_all (94 ∷ []))))) g (terminal-accepted u t v a)
   where
-    caret_case : (u : Bool) (t : Terminal) (v s : List ℕ) → Compared v (94 ∷ []) s [] → all_scalars v ≡ true → Accepts (tokens u) t v → ⊥
+    caret_case : (u : Bool) (t : Terminal) (v s : List ℕ) → Compared v (94 ∷ []) s [] → all_scalars v ≡ true → Recognizes (tokens u) t v → ⊥
     caret_case u t v s (within d q) g a = no_caret_token u t v d (sym q) a
     caret_case u t v s (beyond c d q r) g a = no_encode c (encode_utf8_all d ++ s) r
 
@@ -203,8 +203,8 @@ from_front u l x front ts held short h p g s f =
 -- however that front goes on, its tokens begin with those that were given
 stays_on : (u : Bool) (l : Lexer) (front : List ℕ) (ts : List Lexeme) (held : List ℕ) → FromFront u l front ts held → Stay u front ts
 stays_on u l front ts held h y vs e c =
-    let p = cut_from l.at.updates (mode_of l.at.in_comment) l.at.place l.at.last (held ++ y) in
-    let d = h.on y p.0 p.1 (cut-from l.at.updates (mode_of l.at.in_comment) l.at.place l.at.last (held ++ y)) in
+    let p = cut_from l.at.updates (gap_of l.at.in_comment) l.at.place l.at.last (held ++ y) in
+    let d = h.on y p.0 p.1 (cut-from l.at.updates (gap_of l.at.in_comment) l.at.place l.at.last (held ++ y)) in
     (p.0, (cut-one u Between 0 0 (front ++ y) vs (ts ++ p.0) e p.1 c d).0)
 
 -- where a piece was read and the lexer waits

@@ -1,7 +1,7 @@
 -- The tokens of a cut are their spans.
 use Rattle.std.proofs.Common.{◌≡◌, ℕ, ◌+◌, ◌^◌, ◌<◌, ◌≤◌, Bool, List, [], ◌∷◌, ◌++◌, refl, sym, ap, ◌∙◌, arith, append_assoc, length, length-append, encode_utf8, encode_utf8_all}
 use Rattle.gs_lex.specs.Spans.{AreSpans}
-use Rattle.gs_lex.specs.Tokens.{Cut, Mode, Between, InComment, CutEnd, Lexeme, Longest, place_after, ended, space, hash, comment, line_end, bad_comment, token, no_kind, no_token}
+use Rattle.gs_lex.specs.Tokens.{Cut, Gap, Between, InComment, CutEnd, Lexeme, Longest, place_after, ended, space, hash, comment, line_end, bad_comment, token, no_kind, no_token}
 use Rattle.gs_lex.proofs.AutomatonLemmas.{nonempty}
 use Rattle.gs_lex.proofs.BarrenLemmas.{some_bytes_of}
 use Rattle.gs_lex.proofs.LongestLemmas.{no_start}
@@ -23,7 +23,7 @@ some_token : (u : Bool) (x w : List ℕ) (t : _) (r : List ℕ) → Longest u x 
 some_token u x [] t r g = absurd (no_start u t (terminal-accepted u t [] g.is_terminal))
 some_token u x (c ∷ w) t r g = some_bytes_of (c ∷ w) (nonempty c w)
 
-pub cut-spans : (u : Bool) (x before : List ℕ) (m : Mode) (n l : ℕ) (y : List ℕ) (ts : List Lexeme) (e : CutEnd) → length x < 2 ^ 64 → x ≡ before ++ y → n ≡ length before → l ≤ n
+pub cut-spans : (u : Bool) (x before : List ℕ) (m : Gap) (n l : ℕ) (y : List ℕ) (ts : List Lexeme) (e : CutEnd) → length x < 2 ^ 64 → x ≡ before ++ y → n ≡ length before → l ≤ n
     → Cut u m n l y ts e → AreSpans u x l ts
 cut-spans u x before _ n l y _ _ h p k b (ended q) = tt
 cut-spans u x before _ n l y ts e h p k b (space c r q i d) =

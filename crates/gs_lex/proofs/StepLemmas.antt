@@ -10,8 +10,8 @@ use Rattle.gs_machine.proofs.Encodings.{scalar_from}
 use Rattle.gs_lex.specs.Classes.{is_ws, is_line_end}
 use Rattle.gs_lex.specs.Scans.{MayFollow, MayBecome, IsScanned, IsBarren, IsBarrenTo}
 use Rattle.gs_lex.specs.Symbols.{BeginsWith}
-use Rattle.gs_lex.specs.Tokens.{Cut, Between, InComment, AtEnd, AtFault, Lexeme, lexeme_at, place_after, kind_of, NoTerminal, EndsLine, ended, hash, comment, line_end, bad_comment, token, no_kind, no_token}
-use Rattle.gs_lex.specs.Readings.{Passes, Gives, Fails, CutFrom, mode_of, BeginsToken}
+use Rattle.gs_lex.specs.Tokens.{Cut, Between, InComment, AtEnd, AtFault, Lexeme, lexeme_at, place_after, token_kind, NoTerminal, EndsLine, ended, hash, comment, line_end, bad_comment, token, no_kind, no_token}
+use Rattle.gs_lex.specs.Readings.{Passes, FindsToken, Fails, CutFrom, gap_of, BeginsToken}
 use Rattle.gs_lex.specs.declared.kinds.TokenKind.{TokenKind}
 use Rattle.gs_lex.specs.declared.kinds.Terminal.{Terminal}
 use Rattle.gs_lex.specs.declared.kinds.Terminal.TheVariants as kind
@@ -24,10 +24,10 @@ use Rattle.gs_lex.proofs.LongestLemmas.{IsAll, Finds, stuck-all, scan-finds, sca
 
 -- in the mode that the reading has
 pub between : (r : Reading) (x : List ℕ) (ts : List Lexeme) (e : _) → r.in_comment ≡ false → Cut r.updates Between r.place r.last x ts e → CutFrom r x ts e
-between r x ts e k h = subst (λ b. Cut r.updates (mode_of b) r.place r.last x ts e) (sym k) h
+between r x ts e k h = subst (λ b. Cut r.updates (gap_of b) r.place r.last x ts e) (sym k) h
 
 pub within : (r : Reading) (x : List ℕ) (ts : List Lexeme) (e : _) → r.in_comment ≡ true → Cut r.updates InComment r.place r.last x ts e → CutFrom r x ts e
-within r x ts e k h = subst (λ b. Cut r.updates (mode_of b) r.place r.last x ts e) (sym k) h
+within r x ts e k h = subst (λ b. Cut r.updates (gap_of b) r.place r.last x ts e) (sym k) h
 
 -- a byte that is a character of its own
 pub low_utf8 : (c : ℕ) → c < 128 → IsUtf8 (c ∷ [])
@@ -89,7 +89,7 @@ fail-comment is_end r x k h = record { cut = λ y m. within r (x ++ y) [] (AtFau
 
 -- the token that a scan has found
 pub find-token : (is_end : Bool) (r : Reading) (x : List ℕ) (t : Terminal) (n b : ℕ) (k : TokenKind) → r.in_comment ≡ false → ((text : List ℕ) → MayBecome is_end x text → Finds r.updates x text t n)
-    → kind_of r.updates t (take n x) ≡ Some k → n ≤ length x → IsBarrenTo is_end r.updates (drop n x) b → Gives is_end r x k n b
+    → token_kind r.updates t (take n x) ≡ Some k → n ≤ length x → IsBarrenTo is_end r.updates (drop n x) b → FindsToken is_end r x k n b
 find-token is_end r x t n b k c f e l a = record {
   characters = characters;
   stays = a;
@@ -100,7 +100,7 @@ find-token is_end r x t n b k c f e l a = record {
       let back : z ≡ g.rest = append_cancel_left w z g.rest (ap (λ y. y ++ z) (sym g.bytes) ∙ g.longest.parts) in
       subst (λ y. CutFrom r (take n x ++ z) (lexeme_at k r.place y ∷ ts) en) (sym g.bytes)
       (between r (take n x ++ z) (lexeme_at k r.place w ∷ ts) en c
-      (token t g.chars g.rest k g.longest (ap (kind_of r.updates t) (sym g.bytes) ∙ e)
+      (token t g.chars g.rest k g.longest (ap (token_kind r.updates t) (sym g.bytes) ∙ e)
       (subst (λ y. Cut r.updates Between (place_after r.place (length w)) (place_after r.place (length w)) y ts en) back (subst (λ j. Cut r.updates Between (place_after r.place j) (place_after r.place j) z ts en) (sym size) d))));
 }
   where
@@ -108,11 +108,11 @@ find-token is_end r x t n b k c f e l a = record {
     characters = let g = f x (becomes-self is_end x) in (g.chars, (g.longest.characters, sym g.bytes))
 
 pub fail-kind : (is_end : Bool) (r : Reading) (x : List ℕ) (t : Terminal) (n : ℕ) → r.in_comment ≡ false → ((text : List ℕ) → MayBecome is_end x text → Finds r.updates x text t n)
-    → kind_of r.updates t (take n x) ≡ None → Fails is_end r x
+    → token_kind r.updates t (take n x) ≡ None → Fails is_end r x
 fail-kind is_end r x t n b f e = record {
   cut = λ y m.
       let g = f (x ++ y) (becomes-on is_end x y m) in
-      between r (x ++ y) [] (AtFault r.last) b (no_kind t g.chars g.rest g.longest (ap (kind_of r.updates t) (sym g.bytes) ∙ e));
+      between r (x ++ y) [] (AtFault r.last) b (no_kind t g.chars g.rest g.longest (ap (token_kind r.updates t) (sym g.bytes) ∙ e));
 }
 
 pub fail-token : (is_end : Bool) (r : Reading) (x : List ℕ) → r.in_comment ≡ false → BeginsToken x → ((text : List ℕ) → MayBecome is_end x text → NoTerminal r.updates text) → Fails is_end r x

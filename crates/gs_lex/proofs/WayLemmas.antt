@@ -3,8 +3,8 @@ use Rattle.std.proofs.Common.{◌≡◌, ℕ, ◌<◌, Bool, true, List, [], ◌
 use Rattle.std.specs.Str.{all_scalars}
 use lib.Utf8.{scalar}
 use Rattle.gs_lex.specs.Automata.{run_from, kind_at}
-use Rattle.gs_lex.specs.States.{tokens, next}
-use Rattle.gs_lex.specs.Tokens.{kind_of, has_text}
+use Rattle.gs_lex.specs.States.{tokens, state_after}
+use Rattle.gs_lex.specs.Tokens.{token_kind, has_text}
 use Rattle.gs_lex.specs.declared.kinds.TokenKind.{TokenKind}
 use Rattle.gs_lex.specs.declared.kinds.TokenKind.TheVariants as token
 use Rattle.gs_lex.specs.declared.kinds.Terminal.{Terminal}
@@ -27,14 +27,14 @@ pub record Ways (q : State) : Type 0 where
   pub kind : TokenKind
   pub to_one : (u : Bool) → kind_at (tokens u) (run_from (tokens u) (Some q) one) ≡ Some terminal
   pub to_other : (u : Bool) → kind_at (tokens u) (run_from (tokens u) (Some q) other) ≡ Some terminal
-  pub is_kind : (u : Bool) (x : List ℕ) → kind_of u terminal x ≡ Some kind
+  pub is_kind : (u : Bool) (x : List ℕ) → token_kind u terminal x ≡ Some kind
   pub holds_text : has_text kind ≡ true
   pub scalars_one : all_scalars one ≡ true
   pub scalars_other : all_scalars other ≡ true
   pub longer : length one < length other
 
 ways_to : (q : State) (one other : List ℕ) (t : Terminal) (k : TokenKind) → ((u : Bool) → kind_at (tokens u) (run_from (tokens u) (Some q) one) ≡ Some t)
-    → ((u : Bool) → kind_at (tokens u) (run_from (tokens u) (Some q) other) ≡ Some t) → ((u : Bool) (x : List ℕ) → kind_of u t x ≡ Some k) → has_text k ≡ true
+    → ((u : Bool) → kind_at (tokens u) (run_from (tokens u) (Some q) other) ≡ Some t) → ((u : Bool) (x : List ℕ) → token_kind u t x ≡ Some k) → has_text k ≡ true
     → all_scalars one ≡ true → all_scalars other ≡ true → length one < length other → Ways q
 ways_to q one other t k a b c h i j l = record {
   one = one;
@@ -51,7 +51,7 @@ ways_to q one other t k a b c h i j l = record {
 }
 
 -- after one character
-ways_after : (q p : State) (c : ℕ) → next q c ≡ Some p → scalar c ≡ true → Ways p → Ways q
+ways_after : (q p : State) (c : ℕ) → state_after q c ≡ Some p → scalar c ≡ true → Ways p → Ways q
 ways_after q p c e s w = record {
   one = c ∷ w.one;
   other = c ∷ w.other;

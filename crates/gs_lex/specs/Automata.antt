@@ -23,8 +23,8 @@ kind_at a None = None
 kind_at a (Some q) = a.accepts q
 
 -- a text that is a token of this kind
-abbrev pub Accepts : {Q K I : Type 0} → Automaton Q K I → K → List I → Type 0
-Accepts a k w = kind_at a (run a w) ≡ Some k
+abbrev pub Recognizes : {Q K I : Type 0} → Automaton Q K I → K → List I → Type 0
+Recognizes a k w = kind_at a (run a w) ≡ Some k
 
 -- a token and what follows it
 abbrev pub Found : Type 0 → Type 0 → Type 0

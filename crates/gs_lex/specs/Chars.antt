@@ -1,6 +1,7 @@
 -- The sets of characters that the terminals of Turtle and SPARQL Update name.
 use Rattle.std.specs.Prelude.{ℕ, Bool, not, ◌==◌, ◌||◌}
-use Rattle.gs_model.specs.Characters.{is_iri_char}
+use Rattle.gs_model.specs.Characters.{quote, hyphen, dot, colon, less_than, greater_than, at_sign, left_bracket, right_bracket, backslash, caret, underscore, is_iri_char}
+use Rattle.gs_chars.specs.Characters.{dollar, percent, apostrophe, left_parenthesis, right_parenthesis, comma, semicolon, question_mark, letter_large_u, letter_u, left_brace, right_brace}
 use Rattle.gs_lex.specs.Classes as is
 
 -- the sets of characters that the terminals name: one character, or a class
@@ -49,46 +50,46 @@ pub data Chars : Type 0 where
   VariableChar : Chars
 
 -- whether a character is in the set
-abbrev pub holds : Chars → ℕ → Bool
-holds Less c = c == 60
-holds Greater c = c == 62
-holds Quote c = c == 34
-holds Apostrophe c = c == 39
-holds Backslash c = c == 92
-holds Colon c = c == 58
-holds Underscore c = c == 95
-holds AtSign c = c == 64
-holds Dash c = c == 45
-holds Dot c = c == 46
-holds Percent c = c == 37
-holds Caret c = c == 94
-holds Semicolon c = c == 59
-holds Comma c = c == 44
-holds OpenBracket c = c == 91
-holds CloseBracket c = c == 93
-holds OpenParenthesis c = c == 40
-holds CloseParenthesis c = c == 41
-holds OpenBrace c = c == 123
-holds CloseBrace c = c == 125
-holds VariableMark c = c == 63 || c == 36
-holds SmallU c = c == 117
-holds BigU c = c == 85
-holds IriChar c = is_iri_char c
-holds ShortQuoteChar c = not (c == 34 || c == 92 || is.is_line_end c)
-holds ShortApostropheChar c = not (c == 39 || c == 92 || is.is_line_end c)
-holds LongQuoteChar c = not (c == 34 || c == 92)
-holds LongApostropheChar c = not (c == 39 || c == 92)
-holds Echar c = is.is_echar c
-holds Hex c = is.is_hex c
-holds Digit c = is.is_digit c
-holds Sign c = is.is_sign c
-holds ExponentLetter c = is.is_exponent c
-holds Alpha c = is.is_alpha c
-holds Alphanumeric c = is.is_alphanumeric c
-holds Base c = is.is_base c
-holds NameChar c = is.is_name c
-holds LabelStart c = is.is_label_start c
-holds LocalStart c = is.is_local_start c
-holds LocalChar c = is.is_local c
-holds LocalEscape c = is.is_local_escape c
-holds VariableChar c = is.is_variable c
+abbrev pub has_char : Chars → ℕ → Bool
+has_char Less c = c == less_than
+has_char Greater c = c == greater_than
+has_char Quote c = c == quote
+has_char Apostrophe c = c == apostrophe
+has_char Backslash c = c == backslash
+has_char Colon c = c == colon
+has_char Underscore c = c == underscore
+has_char AtSign c = c == at_sign
+has_char Dash c = c == hyphen
+has_char Dot c = c == dot
+has_char Percent c = c == percent
+has_char Caret c = c == caret
+has_char Semicolon c = c == semicolon
+has_char Comma c = c == comma
+has_char OpenBracket c = c == left_bracket
+has_char CloseBracket c = c == right_bracket
+has_char OpenParenthesis c = c == left_parenthesis
+has_char CloseParenthesis c = c == right_parenthesis
+has_char OpenBrace c = c == left_brace
+has_char CloseBrace c = c == right_brace
+has_char VariableMark c = c == question_mark || c == dollar
+has_char SmallU c = c == letter_u
+has_char BigU c = c == letter_large_u
+has_char IriChar c = is_iri_char c
+has_char ShortQuoteChar c = not (c == quote || c == backslash || is.is_line_end c)
+has_char ShortApostropheChar c = not (c == apostrophe || c == backslash || is.is_line_end c)
+has_char LongQuoteChar c = not (c == quote || c == backslash)
+has_char LongApostropheChar c = not (c == apostrophe || c == backslash)
+has_char Echar c = is.is_echar c
+has_char Hex c = is.is_hex c
+has_char Digit c = is.is_digit c
+has_char Sign c = is.is_sign c
+has_char ExponentLetter c = is.is_exponent c
+has_char Alpha c = is.is_alpha c
+has_char Alphanumeric c = is.is_alphanumeric c
+has_char Base c = is.is_prefix_start c
+has_char NameChar c = is.is_name_char c
+has_char LabelStart c = is.is_label_start c
+has_char LocalStart c = is.is_local_start c
+has_char LocalChar c = is.is_local c
+has_char LocalEscape c = is.is_local_escape c
+has_char VariableChar c = is.is_variable c

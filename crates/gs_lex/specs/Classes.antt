@@ -1,56 +1,58 @@
 -- The classes of characters that the terminals name (Turtle, section 6.5; SPARQL 1.1 Query, section 19.8).
-use Rattle.std.specs.Prelude.{ℕ, Bool, ◌==◌, ◌||◌, nat_le, ◌&&◌}
-use Rattle.gs_model.specs.Characters.{in_ranges, pn_chars_base, pn_chars_u, pn_chars}
+use Rattle.std.specs.Prelude.{ℕ, Bool, ◌==◌, ◌||◌}
+use Rattle.gs_model.specs.Characters.{line_feed, carriage_return, space, quote, number_sign, plus, hyphen, dot, colon, at_sign, backslash, underscore, letter_n, letter_r, is_upper, is_lower, in_range, in_ranges, pn_chars_base, pn_chars_u, pn_chars}
+pub use Rattle.gs_model.specs.Characters.{is_digit}
+use Rattle.gs_chars.specs.Characters.{tab, exclamation_mark, dollar, percent, ampersand, apostrophe, left_parenthesis, right_parenthesis, asterisk, comma, slash, semicolon, equals_sign, question_mark, letter_large_e, letter_b, letter_e, letter_f, letter_t, tilde}
 
 -- [161s] WS
 abbrev pub is_ws : ℕ → Bool
-is_ws c = c == 32 || c == 9 || c == 13 || c == 10
+is_ws c = c == space || c == tab || c == carriage_return || c == line_feed
 
 -- where a comment or a short string ends
 abbrev pub is_line_end : ℕ → Bool
-is_line_end c = c == 10 || c == 13
-
--- '0' to '9'
-abbrev pub is_digit : ℕ → Bool
-is_digit c = nat_le 48 c && nat_le c 57
+is_line_end c = c == line_feed || c == carriage_return
 
 -- '+' or '-'
 abbrev pub is_sign : ℕ → Bool
-is_sign c = c == 43 || c == 45
+is_sign c = c == plus || c == hyphen
 
 -- the letter of [154s] EXPONENT
 abbrev pub is_exponent : ℕ → Bool
-is_exponent c = c == 101 || c == 69
+is_exponent c = c == letter_e || c == letter_large_e
 
 -- 'A' to 'Z', or 'a' to 'z'
 abbrev pub is_alpha : ℕ → Bool
-is_alpha c = (nat_le 65 c && nat_le c 90) || (nat_le 97 c && nat_le c 122)
+is_alpha c = is_upper c || is_lower c
 
 -- one of those letters, or a digit
 abbrev pub is_alphanumeric : ℕ → Bool
 is_alphanumeric c = is_alpha c || is_digit c
 
--- [171s] HEX
+-- [171s] HEX: a digit, 'A' to 'F', or 'a' to 'f'
 abbrev pub is_hex : ℕ → Bool
-is_hex c = is_digit c || (nat_le 65 c && nat_le c 70) || (nat_le 97 c && nat_le c 102)
+is_hex c = is_digit c || in_range (0x41, 0x46) c || in_range (0x61, 0x66) c
 
 -- after the backslash of [159s] ECHAR
 abbrev pub is_echar : ℕ → Bool
-is_echar c = c == 116 || c == 98 || c == 110 || c == 114 || c == 102 || c == 34 || c == 39 || c == 92
+is_echar c =
+    c == letter_t || c == letter_b || c == letter_n || c == letter_r || c == letter_f || c == quote || c == apostrophe
+    || c == backslash
 
 -- after the backslash of [172s] PN_LOCAL_ESC
 abbrev pub is_local_escape : ℕ → Bool
 is_local_escape c =
-    c == 95 || c == 126 || c == 46 || c == 45 || c == 33 || c == 36 || c == 38 || c == 39 || c == 40 || c == 41
-    || c == 42 || c == 43 || c == 44 || c == 59 || c == 61 || c == 47 || c == 63 || c == 35 || c == 64 || c == 37
+    c == underscore || c == tilde || c == dot || c == hyphen || c == exclamation_mark || c == dollar || c == ampersand
+    || c == apostrophe || c == left_parenthesis || c == right_parenthesis || c == asterisk || c == plus || c == comma
+    || c == semicolon || c == equals_sign || c == slash || c == question_mark || c == number_sign || c == at_sign
+    || c == percent
 
 -- the first character of a prefix, and of a word
-abbrev pub is_base : ℕ → Bool
-is_base c = in_ranges pn_chars_base c
+abbrev pub is_prefix_start : ℕ → Bool
+is_prefix_start c = in_ranges pn_chars_base c
 
 -- [166s] PN_CHARS
-abbrev pub is_name : ℕ → Bool
-is_name c = in_ranges pn_chars c
+abbrev pub is_name_char : ℕ → Bool
+is_name_char c = in_ranges pn_chars c
 
 -- the first character of a label, and of a variable's name
 abbrev pub is_label_start : ℕ → Bool
@@ -58,12 +60,12 @@ is_label_start c = in_ranges pn_chars_u c || is_digit c
 
 -- the first character of a local name
 abbrev pub is_local_start : ℕ → Bool
-is_local_start c = in_ranges pn_chars_u c || c == 58 || is_digit c
+is_local_start c = in_ranges pn_chars_u c || c == colon || is_digit c
 
 -- [166s] PN_CHARS or ':', as [168s] PN_LOCAL has them after its first character
 abbrev pub is_local : ℕ → Bool
-is_local c = in_ranges pn_chars c || c == 58
+is_local c = in_ranges pn_chars c || c == colon
 
 -- after the first of [166] VARNAME of SPARQL: PN_CHARS but '-'
 abbrev pub is_variable : ℕ → Bool
-is_variable c = in_ranges pn_chars_u c || is_digit c || c == 0xB7 || (nat_le 0x300 c && nat_le c 0x36F) || (nat_le 0x203F c && nat_le c 0x2040)
+is_variable c = in_ranges pn_chars_u c || is_digit c || c == 0xB7 || in_range (0x300, 0x36F) c || in_range (0x203F, 0x2040) c

@@ -1,10 +1,11 @@
 -- The tokens of a text as a function: from left to right over its characters.
-use Rattle.std.specs.Prelude.{ℕ, zero, suc, Bool, ◌==◌, if◌then◌else◌, List, [], ◌∷◌, length, Option, Some, None, encode_utf8, encode_utf8_all}
+use Rattle.std.specs.Prelude.{◌≡◌, ℕ, zero, suc, Bool, ◌==◌, if◌then◌else◌, List, [], ◌∷◌, length, Option, Some, None, encode_utf8, encode_utf8_all}
 use Rattle.gs_machine.specs.Utf8.{bad, symbols}
+use Rattle.gs_model.specs.Characters.{number_sign}
 use Rattle.gs_lex.specs.Classes.{is_ws, is_line_end}
 use Rattle.gs_lex.specs.Automata.{Found, longest}
 use Rattle.gs_lex.specs.States.{tokens}
-use Rattle.gs_lex.specs.Tokens.{Mode, Between, InComment, CutEnd, AtEnd, AtFault, Lexeme, place_after, kind_of, lexeme_at}
+use Rattle.gs_lex.specs.Tokens.{Cut, IsCut, Gap, Between, InComment, CutEnd, AtEnd, AtFault, Lexeme, place_after, token_kind, lexeme_at}
 use Rattle.gs_lex.specs.declared.kinds.TokenKind.{TokenKind}
 use Rattle.gs_lex.specs.declared.kinds.Terminal.{Terminal}
 
@@ -24,10 +25,10 @@ from_kind next n last x cs (Some k) = with_token (lexeme_at k n x) (next (place_
 -- The token that was found at the front, and what follows it; or a fault after the last token.
 abbrev pub from_found : (ℕ → List ℕ → Parted) → Bool → ℕ → ℕ → Found Terminal ℕ → Parted
 from_found next updates n last None = ([], AtFault last)
-from_found next updates n last (Some (t, w, cs)) = from_kind next n last (encode_utf8_all w) cs (kind_of updates t (encode_utf8_all w))
+from_found next updates n last (Some (t, w, cs)) = from_kind next n last (encode_utf8_all w) cs (token_kind updates t (encode_utf8_all w))
 
 -- characters at the place n, after a last token that ends at the place `last`, in at most so many steps
-unfoldable pub parted : ℕ → Bool → Mode → ℕ → ℕ → List ℕ → Parted
+unfoldable pub parted : ℕ → Bool → Gap → ℕ → ℕ → List ℕ → Parted
 parted f updates m n last [] = ([], AtEnd)
 parted zero updates m n last (c ∷ cs) = ([], AtFault last)
 parted (suc f) updates InComment n last (c ∷ cs) =
@@ -36,13 +37,22 @@ parted (suc f) updates InComment n last (c ∷ cs) =
     else parted f updates InComment (place_after n (length (encode_utf8 c))) last cs
 parted (suc f) updates Between n last (c ∷ cs) =
     if is_ws c then parted f updates Between (place_after n 1) last cs
-    else if c == 35 then parted f updates InComment (place_after n 1) last cs
+    else if c == number_sign then parted f updates InComment (place_after n 1) last cs
     else from_found (λ k ds. parted f updates Between k k ds) updates n last (longest (tokens updates) (c ∷ cs))
 
 -- bytes from there on
-abbrev pub cut_from : Bool → Mode → ℕ → ℕ → List ℕ → Parted
+abbrev pub cut_from : Bool → Gap → ℕ → ℕ → List ℕ → Parted
 cut_from updates m n last x = parted (length (symbols x)) updates m n last (symbols x)
 
 -- a whole text
 abbrev pub cut_of : Bool → List ℕ → Parted
 cut_of updates x = cut_from updates Between 0 0 x
+
+-- bytes from there on are cut so
+abbrev pub HasThatCut : Bool → Gap → ℕ → ℕ → List ℕ → Type 0
+HasThatCut updates m n last x = let p = cut_from updates m n last x in Cut updates m n last x p.0 p.1
+
+-- two cuts of a text are the same
+abbrev pub HasOneCut : Bool → List ℕ → Type 0
+HasOneCut updates x =
+    (ts us : List Lexeme) (e f : CutEnd) → IsCut updates x ts e → IsCut updates x us f → (ts ≡ us) × (e ≡ f)

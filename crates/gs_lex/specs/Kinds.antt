@@ -45,32 +45,32 @@ word updates x =
     else directive x
 
 -- the kind of a token of these bytes; a word that is none of these has none, nor has a string that does not end
-abbrev pub kind_of : Bool → Terminal → List ℕ → Option TokenKind
-kind_of updates terminal.IriRef x = Some kind.IriRef
-kind_of updates terminal.PnameNs x = Some kind.PnameNs
-kind_of updates terminal.PnameLn x = Some kind.PnameLn
-kind_of updates terminal.BlankNodeLabel x = Some kind.BlankNodeLabel
-kind_of updates terminal.LangTag x = Some kind.LangTag
-kind_of updates terminal.Integer x = Some kind.Integer
-kind_of updates terminal.Decimal x = Some kind.Decimal
-kind_of updates terminal.Double x = Some kind.Double
-kind_of updates terminal.StringLiteralQuote x = Some kind.StringLiteralQuote
-kind_of updates terminal.StringLiteralSingleQuote x = Some kind.StringLiteralSingleQuote
-kind_of updates terminal.StringLiteralLongQuote x = Some kind.StringLiteralLongQuote
-kind_of updates terminal.StringLiteralLongSingleQuote x = Some kind.StringLiteralLongSingleQuote
-kind_of updates terminal.Var x = Some kind.Var
-kind_of updates terminal.Word x = word updates x
-kind_of updates terminal.Opening x = None
-kind_of updates terminal.Dot x = Some kind.Dot
-kind_of updates terminal.Semicolon x = Some kind.Semicolon
-kind_of updates terminal.Comma x = Some kind.Comma
-kind_of updates terminal.OpenBracket x = Some kind.OpenBracket
-kind_of updates terminal.CloseBracket x = Some kind.CloseBracket
-kind_of updates terminal.OpenParenthesis x = Some kind.OpenParenthesis
-kind_of updates terminal.CloseParenthesis x = Some kind.CloseParenthesis
-kind_of updates terminal.Carets x = Some kind.Carets
-kind_of updates terminal.OpenBrace x = Some kind.OpenBrace
-kind_of updates terminal.CloseBrace x = Some kind.CloseBrace
+abbrev pub token_kind : Bool → Terminal → List ℕ → Option TokenKind
+token_kind updates terminal.IriRef x = Some kind.IriRef
+token_kind updates terminal.PnameNs x = Some kind.PnameNs
+token_kind updates terminal.PnameLn x = Some kind.PnameLn
+token_kind updates terminal.BlankNodeLabel x = Some kind.BlankNodeLabel
+token_kind updates terminal.LangTag x = Some kind.LangTag
+token_kind updates terminal.Integer x = Some kind.Integer
+token_kind updates terminal.Decimal x = Some kind.Decimal
+token_kind updates terminal.Double x = Some kind.Double
+token_kind updates terminal.StringLiteralQuote x = Some kind.StringLiteralQuote
+token_kind updates terminal.StringLiteralSingleQuote x = Some kind.StringLiteralSingleQuote
+token_kind updates terminal.StringLiteralLongQuote x = Some kind.StringLiteralLongQuote
+token_kind updates terminal.StringLiteralLongSingleQuote x = Some kind.StringLiteralLongSingleQuote
+token_kind updates terminal.Var x = Some kind.Var
+token_kind updates terminal.Word x = word updates x
+token_kind updates terminal.Opening x = None
+token_kind updates terminal.Dot x = Some kind.Dot
+token_kind updates terminal.Semicolon x = Some kind.Semicolon
+token_kind updates terminal.Comma x = Some kind.Comma
+token_kind updates terminal.OpenBracket x = Some kind.OpenBracket
+token_kind updates terminal.CloseBracket x = Some kind.CloseBracket
+token_kind updates terminal.OpenParenthesis x = Some kind.OpenParenthesis
+token_kind updates terminal.CloseParenthesis x = Some kind.CloseParenthesis
+token_kind updates terminal.Carets x = Some kind.Carets
+token_kind updates terminal.OpenBrace x = Some kind.OpenBrace
+token_kind updates terminal.CloseBrace x = Some kind.CloseBrace
 
 -- whether the kind leaves the token's text open
 abbrev pub has_text : TokenKind → Bool

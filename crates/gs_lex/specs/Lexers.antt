@@ -1,14 +1,14 @@
 -- What a lexer has read of a text that comes in pieces.
-use Rattle.std.specs.Prelude.{◌≡◌, ℕ, Bool, true, false, List, [], ◌∷◌, ◌++◌}
+use Rattle.std.specs.Prelude.{◌≡◌, ℕ, Bool, true, false, List, [], ◌∷◌, ◌++◌, Result, OnOk, IfErr}
 use Rattle.std.specs.Str.{IsUtf8}
 use Rattle.gs_machine.specs.Machines.{Begins}
 use Rattle.gs_machine.specs.Utf8.{IsLongestFront}
 use Rattle.gs_model.specs.declared.refusals.Refusal.{Refusal}
 use Rattle.gs_model.specs.declared.refusals.Refusal.TheVariants.{NoMemory, Syntax, Closed}
-use Rattle.gs_lex.specs.Tokens.{IsCut, CutEnd, AtFault, Lexeme, has_text}
+use Rattle.gs_lex.specs.Tokens.{IsCut, CutEnd, AtEnd, AtFault, Lexeme, has_text}
 use Rattle.gs_lex.specs.Lexemes.{lexemes_of}
 use Rattle.gs_lex.specs.Scans.{MayBecome}
-use Rattle.gs_lex.specs.Readings.{CutFrom, Fails, IsRead, Waits}
+use Rattle.gs_lex.specs.Readings.{CutFrom, Fails, HasRead, Waits}
 use Rattle.gs_lex.specs.declared.readings.Halt.{Halt}
 use Rattle.gs_lex.specs.declared.readings.Halt.TheVariants as halt
 use Rattle.gs_lex.specs.declared.tokens.Token.{Token}
@@ -19,7 +19,7 @@ use Rattle.gs_lex.specs.declared.lexers.Lexer.{Lexer}
 pub record Leads (updates : Bool) (l : Lexer) (x : List ℕ) (ts : List Lexeme) : Type 0 where
   pub open_ : l.is_closed ≡ false
   pub reads : l.at.updates ≡ updates
-  pub read : IsRead false l.at l.held.items
+  pub read : HasRead false l.at l.held.items
   pub before : List ℕ
   pub parts : x ≡ before ++ l.held.items
   pub characters : IsUtf8 before
@@ -103,14 +103,42 @@ Leaves old new old_list new_list NoMemory = IsUnchanged old new × (new_list ≡
 Leaves old new old_list new_list _ = ⊥
 
 -- the held text was cut, and what is left of it is held
-pub record Takes (old new : Lexer) (old_list new_list : List Token) (h : Halt) : Type 0 where
+pub record CutsHeld (old new : Lexer) (old_list new_list : List Token) (h : Halt) : Type 0 where
   pub added : List Lexeme
   pub given : Adds old_list new_list added
   pub reads : new.at.updates ≡ old.at.updates
-  pub read : IsRead false new.at new.held.items
+  pub read : HasRead false new.at new.held.items
   pub before : List ℕ
   pub parts : old.held.items ≡ before ++ new.held.items
   pub characters : IsUtf8 before
   pub cut : (z : List ℕ) (ts : List Lexeme) (e : CutEnd) → MayBecome false new.held.items z → CutFrom new.at z ts e → CutFrom old.at (before ++ z) (added ++ ts) e
   pub fails : h ≡ halt.Fault → Fails false new.at new.held.items
   pub waits : (h ≡ halt.Fault → ⊥) → Waits new.at.in_comment new.held.items new.at.scan
+
+-- the held text was cut so, where what is read of it is as the reading says
+abbrev pub CutsIfRead : Lexer → Lexer → List Token → List Token → Halt → Type 0
+CutsIfRead old new old_list new_list h = HasRead false old.at old.held.items → CutsHeld old new old_list new_list h
+
+-- `feed` reads a piece more of each text that led to the lexer
+abbrev pub FeedReads : Lexer → Lexer → List ℕ → List Token → List Token → Result (Unit {0}) Refusal → Type 0
+FeedReads old new piece old_list new_list result =
+    (updates : Bool) (x : List ℕ) (ts : List Lexeme) → Leads updates old x ts
+    → OnOk result (Feeds updates new (x ++ piece) ts old_list new_list)
+
+-- or is refused as that text wants
+abbrev pub FeedFails : Lexer → List ℕ → List Token → List Token → Result (Unit {0}) Refusal → Type 0
+FeedFails old piece old_list new_list result =
+    (updates : Bool) (x : List ℕ) (ts : List Lexeme) → Leads updates old x ts
+    → IfErr result (FeedRefused updates (x ++ piece) ts old_list new_list)
+
+-- `finish` reads each text that led to the lexer to its end, and the lexer then stands at the start of another
+abbrev pub FinishReads : Lexer → Lexer → List Token → List Token → Result (Unit {0}) Refusal → Type 0
+FinishReads old new old_list new_list result =
+    (updates : Bool) (x : List ℕ) (ts : List Lexeme) → Leads updates old x ts
+    → OnOk result (Finishes updates x ts AtEnd old_list new_list × Leads updates new [] [])
+
+-- or is refused as that text wants
+abbrev pub FinishFails : Lexer → List Token → List Token → Result (Unit {0}) Refusal → Type 0
+FinishFails old old_list new_list result =
+    (updates : Bool) (x : List ℕ) (ts : List Lexeme) → Leads updates old x ts
+    → IfErr result (FinishRefused updates x ts old_list new_list)

@@ -1,6 +1,7 @@
 -- The moves of the automaton that several of its states share.
 use Rattle.std.specs.Prelude.{ℕ, Bool, true, false, ◌==◌, ◌||◌, if◌then◌else◌, Option, Some, None}
-use Rattle.gs_model.specs.Characters.{is_iri_char}
+use Rattle.gs_model.specs.Characters.{quote, dot, colon, less_than, greater_than, at_sign, left_bracket, right_bracket, backslash, caret, underscore, is_iri_char}
+use Rattle.gs_chars.specs.Characters.{dollar, percent, apostrophe, left_parenthesis, right_parenthesis, comma, semicolon, question_mark, letter_large_u, letter_u, left_brace, right_brace}
 use Rattle.gs_lex.specs.Classes as is
 use Rattle.gs_lex.specs.declared.kinds.Terminal.{Terminal}
 use Rattle.gs_lex.specs.declared.kinds.Terminal.TheVariants as kind
@@ -15,8 +16,8 @@ use Rattle.gs_lex.specs.declared.states.Left.TheVariants as left
 
 -- the character of a quote
 abbrev pub character_of : Mark → ℕ
-character_of mark.Quote = 34
-character_of mark.Apostrophe = 39
+character_of mark.Quote = quote
+character_of mark.Apostrophe = apostrophe
 
 -- the string between two such quotes
 abbrev pub short_of : Mark → Terminal
@@ -31,53 +32,53 @@ long_of mark.Apostrophe = kind.StringLiteralLongSingleQuote
 -- a token of one character
 abbrev pub punctuation : ℕ → Option State
 punctuation c =
-    if c == 59 then Some (at.Ended kind.Semicolon)
-    else if c == 44 then Some (at.Ended kind.Comma)
-    else if c == 91 then Some (at.Ended kind.OpenBracket)
-    else if c == 93 then Some (at.Ended kind.CloseBracket)
-    else if c == 40 then Some (at.Ended kind.OpenParenthesis)
-    else if c == 41 then Some (at.Ended kind.CloseParenthesis)
+    if c == semicolon then Some (at.Ended kind.Semicolon)
+    else if c == comma then Some (at.Ended kind.Comma)
+    else if c == left_bracket then Some (at.Ended kind.OpenBracket)
+    else if c == right_bracket then Some (at.Ended kind.CloseBracket)
+    else if c == left_parenthesis then Some (at.Ended kind.OpenParenthesis)
+    else if c == right_parenthesis then Some (at.Ended kind.CloseParenthesis)
     else None
 
 -- the first character of a token of Turtle
 abbrev pub at_start : ℕ → Option State
 at_start c =
-    if c == 60 then Some (at.Inside text.Iri)
-    else if c == 34 then Some (at.First mark.Quote)
-    else if c == 39 then Some (at.First mark.Apostrophe)
-    else if c == 58 then Some at.Namespace
-    else if c == 95 then Some at.Underscore
-    else if c == 64 then Some at.AtSign
-    else if c == 46 then Some at.Dot
-    else if c == 94 then Some at.Caret
+    if c == less_than then Some (at.Inside text.Iri)
+    else if c == quote then Some (at.First mark.Quote)
+    else if c == apostrophe then Some (at.First mark.Apostrophe)
+    else if c == colon then Some at.Namespace
+    else if c == underscore then Some at.Underscore
+    else if c == at_sign then Some at.AtSign
+    else if c == dot then Some at.Dot
+    else if c == caret then Some at.Caret
     else if is.is_sign c then Some at.Sign
     else if is.is_digit c then Some at.Integer
-    else if is.is_base c then Some at.Word
+    else if is.is_prefix_start c then Some at.Word
     else punctuation c
 
 -- and of a token of updates
 abbrev pub at_update_start : ℕ → Option State
 at_update_start c =
-    if c == 123 then Some (at.Ended kind.OpenBrace)
-    else if c == 125 then Some (at.Ended kind.CloseBrace)
-    else if c == 63 || c == 36 then Some at.VariableMark
+    if c == left_brace then Some (at.Ended kind.OpenBrace)
+    else if c == right_brace then Some (at.Ended kind.CloseBrace)
+    else if c == question_mark || c == dollar then Some at.VariableMark
     else at_start c
 
 -- in an IRI or a string
 abbrev pub inside : Text → ℕ → Option State
 inside text.Iri c =
-    if c == 62 then Some (at.Ended kind.IriRef)
-    else if c == 92 then Some (at.Escape text.Iri)
+    if c == greater_than then Some (at.Ended kind.IriRef)
+    else if c == backslash then Some (at.Escape text.Iri)
     else if is_iri_char c then Some (at.Inside text.Iri)
     else None
 inside (text.Short m) c =
     if c == character_of m then Some (at.Ended (short_of m))
-    else if c == 92 then Some (at.Escape (text.Short m))
+    else if c == backslash then Some (at.Escape (text.Short m))
     else if is.is_line_end c then None
     else Some (at.Inside (text.Short m))
 inside (text.Long m) c =
     if c == character_of m then Some (at.OneMark m)
-    else if c == 92 then Some (at.Escape (text.Long m))
+    else if c == backslash then Some (at.Escape (text.Long m))
     else Some (at.Inside (text.Long m))
 
 -- whether ECHAR may stand there
@@ -87,10 +88,10 @@ has_echar (text.Short m) = true
 has_echar (text.Long m) = true
 
 -- after a backslash there
-abbrev pub escaped : Text → ℕ → Option State
-escaped t c =
-    if c == 117 then Some (at.Hex t left.Four)
-    else if c == 85 then Some (at.Hex t left.Eight)
+abbrev pub after_backslash : Text → ℕ → Option State
+after_backslash t c =
+    if c == letter_u then Some (at.Hex t left.Four)
+    else if c == letter_large_u then Some (at.Hex t left.Eight)
     else if has_echar t then (if is.is_echar c then Some (at.Inside t) else None)
     else None
 
@@ -109,7 +110,7 @@ after_hex t left.Eight = at.Hex t left.Seven
 abbrev pub local : ℕ → Option State
 local c =
     if is.is_local c then Some at.Local
-    else if c == 46 then Some at.LocalDots
-    else if c == 37 then Some at.Percent
-    else if c == 92 then Some at.LocalEscape
+    else if c == dot then Some at.LocalDots
+    else if c == percent then Some at.Percent
+    else if c == backslash then Some at.LocalEscape
     else None

@@ -1,8 +1,9 @@
 -- One step of reading a text: past white space or a comment, over a token, to a fault, or to the end of what is there.
 use Rattle.std.specs.Prelude.{◌≡◌, ◌≢◌, ℕ, ◌+◌, ◌≤◌, ◌<◌, Bool, true, false, List, [], ◌∷◌, ◌++◌, length, take, drop}
 use Rattle.std.specs.Str.{IsUtf8}
+use Rattle.gs_model.specs.Characters.{number_sign}
 use Rattle.gs_lex.specs.Classes.{is_ws}
-use Rattle.gs_lex.specs.Tokens.{Cut, Mode, Between, InComment, CutEnd, AtEnd, AtFault, Lexeme, lexeme_at, place_after}
+use Rattle.gs_lex.specs.Tokens.{Cut, Gap, Between, InComment, CutEnd, AtEnd, AtFault, Lexeme, lexeme_at, place_after}
 use Rattle.gs_lex.specs.Lexemes.{lexemes_of}
 use Rattle.gs_lex.specs.Symbols.{IsShort}
 use Rattle.gs_lex.specs.Scans.{MayFollow, MayBecome, IsScanned, IsBarrenTo, fresh}
@@ -18,9 +19,9 @@ use Rattle.gs_lex.specs.declared.steps.Step.TheVariants as step
 use Rattle.gs_lex.specs.declared.tokens.Token.{Token}
 
 -- in a comment, or between tokens
-abbrev pub mode_of : Bool → Mode
-mode_of true = InComment
-mode_of false = Between
+abbrev pub gap_of : Bool → Gap
+gap_of true = InComment
+gap_of false = Between
 
 -- 1 for true, 0 for false
 abbrev pub bit : Bool → ℕ
@@ -29,21 +30,21 @@ bit false = 0
 
 -- how the text is cut from where a reading stands
 abbrev pub CutFrom : Reading → List ℕ → List Lexeme → CutEnd → Type 0
-CutFrom r x ts e = Cut r.updates (mode_of r.in_comment) r.place r.last x ts e
+CutFrom r x ts e = Cut r.updates (gap_of r.in_comment) r.place r.last x ts e
 
 -- the next token of x is read as far as the reading says, and what it has found barren is so
-pub record IsRead (is_end : Bool) (r : Reading) (x : List ℕ) : Type 0 where
+pub record HasRead (is_end : Bool) (r : Reading) (x : List ℕ) : Type 0 where
   pub scanned : IsScanned r.updates x r.scan
   pub barren : IsBarrenTo is_end r.updates x r.barren
 
 -- the tokens of x are those after its first bytes, which are characters
 pub record Passes (is_end : Bool) (r : Reading) (x : List ℕ) (count : ℕ) (in_comment : Bool) : Type 0 where
   pub cut : (z : List ℕ) (ts : List Lexeme) (e : CutEnd) → MayBecome is_end (drop count x) z
-      → Cut r.updates (mode_of in_comment) (place_after r.place count) r.last z ts e → CutFrom r (take count x ++ z) ts e
+      → Cut r.updates (gap_of in_comment) (place_after r.place count) r.last z ts e → CutFrom r (take count x ++ z) ts e
   pub characters : IsUtf8 (take count x)
 
 -- the tokens of x are a token of its first bytes, and those after it, where so much is barren
-pub record Gives (is_end : Bool) (r : Reading) (x : List ℕ) (k : TokenKind) (count barren : ℕ) : Type 0 where
+pub record FindsToken (is_end : Bool) (r : Reading) (x : List ℕ) (k : TokenKind) (count barren : ℕ) : Type 0 where
   pub cut : (z : List ℕ) (ts : List Lexeme) (e : CutEnd) → MayBecome is_end (drop count x) z
       → Cut r.updates Between (place_after r.place count) (place_after r.place count) z ts e → CutFrom r (take count x ++ z) (lexeme_at k r.place (take count x) ∷ ts) e
   pub characters : IsUtf8 (take count x)
@@ -59,7 +60,7 @@ pub record BeginsToken (x : List ℕ) : Type 0 where
   pub others : List ℕ
   pub parts : x ≡ first ∷ others
   pub no_space : is_ws first ≡ false
-  pub no_hash : first ≢ 35
+  pub no_hash : first ≢ number_sign
 
 -- Why a reading waits at x: no whole character comes next, in a comment or between two tokens; or a token has begun, no
 -- whole character comes after what is read of it, and some may go on with it.
@@ -71,10 +72,14 @@ pub data Waits (in_comment : Bool) (x : List ℕ) (s : Scan) : Type 0 where
 -- what a step says
 abbrev pub StepFits : Bool → Reading → List ℕ → Step → Type 0
 StepFits is_end r x (step.Passed count in_comment) = Passes is_end r x count in_comment
-StepFits is_end r x (step.Found k count barren) = Gives is_end r x k count barren
+StepFits is_end r x (step.Found k count barren) = FindsToken is_end r x k count barren
 StepFits is_end r x step.Fault = Fails is_end r x
 StepFits is_end r x step.End = (is_end ≡ true) × CutFrom r x [] AtEnd
 StepFits is_end r x (step.Wait s) = (is_end ≡ false) × (IsScanned r.updates x s × Waits r.in_comment x s)
+
+-- the same, where what is read of x is as the reading says
+abbrev pub StepFollows : Bool → Reading → List ℕ → Step → Type 0
+StepFollows is_end r x s = HasRead is_end r x → StepFits is_end r x s
 
 -- a step stays within the text, and goes on
 abbrev pub StepMoves : Reading → List ℕ → Step → Type 0
@@ -106,7 +111,7 @@ pub record Went (is_end : Bool) (x : List ℕ) (from to : Reading) (old new : Li
   pub parts : drop from.cut x ≡ before ++ drop to.cut x
   pub characters : IsUtf8 before
   pub mode : to.updates ≡ from.updates
-  pub read : IsRead is_end to (drop to.cut x)
+  pub read : HasRead is_end to (drop to.cut x)
   pub cut : (z : List ℕ) (ts : List Lexeme) (e : CutEnd) → MayBecome is_end (drop to.cut x) z → CutFrom to z ts e → CutFrom from (before ++ z) (added ++ ts) e
 
 -- why the reading stopped
@@ -123,3 +128,12 @@ pub record Grows (old new : List Token) : Type 0 where
 -- at the start of a text
 abbrev pub first_of : Bool → Reading
 first_of updates = record { updates = updates; in_comment = false; cut = 0; place = 0; last = 0; barren = 0; scan = fresh updates }
+
+-- the token of so many bytes from the cut on was added
+abbrev pub AddsToken : List ℕ → Reading → TokenKind → ℕ → List Token → List Token → Type 0
+AddsToken x r k count old new = lexemes_of new ≡ lexemes_of old ++ lexeme_at k r.place (take count (drop r.cut x)) ∷ []
+
+-- the reading stands within the text x, and where it began as it says, it went on and halted as it should
+abbrev pub ReadsTo : Bool → List ℕ → Reading → List Token → List Token → Reading × Halt → Type 0
+ReadsTo is_end x from old new r =
+    IsWithin r.0 x × (HasRead is_end from (drop from.cut x) → Went is_end x from r.0 old new × HasHalted is_end x r.0 r.1)

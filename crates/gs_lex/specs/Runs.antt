@@ -1,26 +1,31 @@
 -- Runs of plain characters: bytes of ASCII over which the automaton stays where it is.
 use Rattle.std.specs.Prelude.{◌≡◌, ℕ, ◌≤◌, ◌<◌, Bool, true, not, ◌==◌, ◌&&◌, ◌||◌, nat_lt, List, get_or, if◌then◌else◌}
-use Rattle.gs_model.specs.Characters.{is_iri_char}
+use Rattle.gs_model.specs.Characters.{quote, hyphen, backslash, underscore, is_iri_char}
+use Rattle.gs_chars.specs.Characters.{apostrophe}
 use Rattle.gs_lex.specs.Classes.{is_alphanumeric, is_line_end}
 use Rattle.gs_lex.specs.Scans.{best_after}
 use Rattle.gs_lex.specs.States.{accepts}
 use Rattle.gs_lex.specs.declared.scans.Scan.{Scan}
 
+-- U+0000 to U+007F
+abbrev pub is_ascii : ℕ → Bool
+is_ascii c = nat_lt c 0x80
+
 -- in an IRI
 abbrev pub plain_iri : ℕ → Bool
-plain_iri c = nat_lt c 128 && is_iri_char c
+plain_iri c = is_ascii c && is_iri_char c
 
 -- in a string: neither a quote nor a backslash, nor the end of a line
 abbrev pub plain_string : ℕ → Bool
-plain_string c = nat_lt c 128 && not (c == 34 || c == 39 || c == 92 || is_line_end c)
+plain_string c = is_ascii c && not (c == quote || c == apostrophe || c == backslash || is_line_end c)
 
 -- in a comment: not the end of a line
 abbrev pub plain_comment : ℕ → Bool
-plain_comment c = nat_lt c 128 && not (is_line_end c)
+plain_comment c = is_ascii c && not (is_line_end c)
 
 -- in a name
 abbrev pub plain_name : ℕ → Bool
-plain_name c = is_alphanumeric c || c == 95 || c == 45
+plain_name c = is_alphanumeric c || c == underscore || c == hyphen
 
 -- each byte of x from the place m up to the place n is such
 abbrev pub AllFrom : (ℕ → Bool) → List ℕ → ℕ → ℕ → Type 0

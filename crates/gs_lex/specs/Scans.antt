@@ -1,10 +1,11 @@
 -- How far a token is read.
-use Rattle.std.specs.Prelude.{◌≡◌, ◌≢◌, ℕ, ◌+◌, ◌≤◌, Bool, true, false, List, [], ◌++◌, length, Option, Some, None, encode_utf8_all}
+use Rattle.std.specs.Prelude.{◌≡◌, ◌≢◌, ℕ, ◌+◌, ◌-◌, ◌≤◌, max, ◌⊎◌, Bool, MatchBool, true, false, List, [], ◌++◌, length, drop, Option, Some, None, encode_utf8_all}
 use Rattle.std.specs.Str.{IsUtf8, all_scalars}
 use Rattle.gs_lex.specs.Automata.{Found, run, run_from, kind_at, longest}
 use Rattle.gs_lex.specs.States.{tokens, accepts, start_of}
 use Rattle.gs_lex.specs.Symbols.{IsShort}
 use Rattle.gs_lex.specs.declared.kinds.Terminal.{Terminal}
+use Rattle.gs_lex.specs.declared.kinds.Terminal.TheVariants as kind
 use Rattle.gs_lex.specs.declared.states.State.{State}
 use Rattle.gs_lex.specs.declared.states.State.TheVariants as at
 use Rattle.gs_lex.specs.declared.scans.Scan.{Scan}
@@ -54,3 +55,30 @@ IsBarren updates q z = (t : Terminal) (v s : List ℕ) → z ≡ encode_utf8_all
 -- after each of the first characters of x, which are n bytes, a word's dots lead to no token, whatever x becomes
 abbrev pub IsBarrenTo : Bool → Bool → List ℕ → ℕ → Type 0
 IsBarrenTo is_end updates x n = (text v z : List ℕ) → MayBecome is_end x text → text ≡ encode_utf8_all v ++ z → all_scalars v ≡ true → v ≢ [] → length (encode_utf8_all v) ≤ n → IsBarren updates at.WordDots z
+
+-- what is scanned of x stays scanned
+abbrev pub StaysScanned : List ℕ → Scan → Scan → Type 0
+StaysScanned x from to = (updates : Bool) → IsScanned updates x from → IsScanned updates x to
+
+-- no character goes on with a token
+abbrev pub IsEnded : State → Type 0
+IsEnded q = (t : Terminal) × (q ≡ at.Ended t)
+
+-- some character may
+abbrev pub IsOpen : State → Type 0
+IsOpen q = (t : Terminal) → q ≢ at.Ended t
+
+-- no longer token comes: whatever the text x becomes, if that is known, and if not, in x alone
+abbrev pub FindsNoMore : Bool → Bool → List ℕ → Scan → Bool → Type 0
+FindsNoMore is_end updates x s is_known =
+    MatchBool is_known ((z : List ℕ) → MayBecome is_end (drop s.len x) z → IsBarren updates s.state z) (IsBarren updates s.state (drop s.len x))
+
+-- from a scan on, where so much is barren, the text was read as far as a longer token may come
+abbrev pub IsReadOn : List ℕ → Scan → ℕ → Scan × Bool → Type 0
+IsReadOn x from barren r =
+    (is_end updates : Bool) → IsScanned updates x from → IsBarrenTo is_end updates x barren → FindsNoMore is_end updates x r.0 r.1
+
+-- so many bytes are barren after the longest token: those that were, without the token's; or after a word all that were read
+abbrev pub IsBarrenAfter : ℕ → Scan → Terminal → ℕ → Type 0
+IsBarrenAfter barren s t n =
+    (n ≡ barren - s.best_len) ⊎ ((t ≡ kind.Word) × (n ≡ max (s.len - s.best_len) (barren - s.best_len)))

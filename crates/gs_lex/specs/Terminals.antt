@@ -6,7 +6,7 @@ use Rattle.std.specs.Prelude.{ℕ, Bool, true, false, List}
 use Rattle.gs_lex.specs.Regexes.{Regex, Never, Empty, One, Then, Or, Many, Matches}
 use Rattle.gs_lex.specs.declared.kinds.Terminal.{Terminal}
 use Rattle.gs_lex.specs.declared.kinds.Terminal.TheVariants as kind
-pub use Rattle.gs_lex.specs.Chars.{Chars, Less, Greater, Quote, Apostrophe, Backslash, Colon, Underscore, AtSign, Dash, Dot, Percent, Caret, Semicolon, Comma, OpenBracket, CloseBracket, OpenParenthesis, CloseParenthesis, OpenBrace, CloseBrace, VariableMark, SmallU, BigU, IriChar, ShortQuoteChar, ShortApostropheChar, LongQuoteChar, LongApostropheChar, Echar, Hex, Digit, Sign, ExponentLetter, Alpha, Alphanumeric, Base, NameChar, LabelStart, LocalStart, LocalChar, LocalEscape, VariableChar, holds}
+pub use Rattle.gs_lex.specs.Chars.{Chars, Less, Greater, Quote, Apostrophe, Backslash, Colon, Underscore, AtSign, Dash, Dot, Percent, Caret, Semicolon, Comma, OpenBracket, CloseBracket, OpenParenthesis, CloseParenthesis, OpenBrace, CloseBrace, VariableMark, SmallU, BigU, IriChar, ShortQuoteChar, ShortApostropheChar, LongQuoteChar, LongApostropheChar, Echar, Hex, Digit, Sign, ExponentLetter, Alpha, Alphanumeric, Base, NameChar, LabelStart, LocalStart, LocalChar, LocalEscape, VariableChar, has_char}
 
 -- a regular expression over those sets
 abbrev pub Pattern : Type 0
@@ -123,4 +123,4 @@ rule updates kind.CloseBrace = if_updates updates (One CloseBrace)
 
 -- these characters are this terminal
 abbrev pub IsTerminal : Bool → Terminal → List ℕ → Type 0
-IsTerminal updates t w = Matches holds (rule updates t) w
+IsTerminal updates t w = Matches has_char (rule updates t) w

@@ -89,15 +89,15 @@ pub fn is_local_escape(c: char) -> bool
 }
 
 /// PN_CHARS_BASE: the first character of a prefix, and of a word.
-pub fn is_base(c: char) -> bool
-    ensures { result ≡ spec.is_base c }
+pub fn is_prefix_start(c: char) -> bool
+    ensures { result ≡ spec.is_prefix_start c }
 {
     is_pn_chars_base(c)
 }
 
 /// PN_CHARS.
-pub fn is_name(c: char) -> bool
-    ensures { result ≡ spec.is_name c }
+pub fn is_name_char(c: char) -> bool
+    ensures { result ≡ spec.is_name_char c }
 {
     is_pn_chars(c)
 }

@@ -1,7 +1,6 @@
 //! The lexer.
-ghost use Rattle.std.specs.Prelude.{◌≡◌, ℕ, ◌≤◌, Bool, true, false, List, [], ◌++◌, drop, vec_len, IfOk, IfErr, OnOk, OnErr};
-ghost use Rattle.gs_lex.specs.Tokens.{Lexeme, AtEnd};
-ghost use Rattle.gs_lex.specs.Readings.{Grows, IsRead, first_of};
+ghost use Rattle.std.specs.Prelude.{◌≡◌, ◌≤◌, [], drop, vec_len, IfOk, IfErr, OnOk, OnErr};
+ghost use Rattle.gs_lex.specs.Readings.{Grows, first_of};
 
 use crate::readings::{Halt, read};
 use crate::scans::Scan;
@@ -68,7 +67,7 @@ fn drop_front(alloc: Global, held: &mut Vec<u8>, count: usize) -> Result<(), All
 }
 
 impl Lexer {
-    ghost use Rattle.gs_lex.specs.Lexers.{Leads, IsClosed, Feeds, FeedRefused, FinishRefused, Finishes, Leaves, Takes, IsUnchanged};
+    ghost use Rattle.gs_lex.specs.Lexers.{Leads, IsClosed, FeedReads, FeedFails, FinishReads, FinishFails, Leaves, CutsIfRead, IsUnchanged};
 
     /// A lexer at the start of a text, of the tokens of Turtle, or of SPARQL Update too. It takes
     /// no memory.
@@ -85,7 +84,7 @@ impl Lexer {
 
     /// Cuts what is held.
     fn take(&mut self, tokens: &mut Vec<Token>) -> Result<Halt, AllocError>
-        ensures ok { IfOk result (λ halt. IsRead false self.old.at self.old.held.items → Takes self.old self.new tokens.old.items tokens.new.items halt) }
+        ensures ok { IfOk result (CutsIfRead self.old self.new tokens.old.items tokens.new.items) }
         ensures err { OnErr result (IsUnchanged self.old self.new) }
         ensures closed { self.new.is_closed ≡ self.old.is_closed }
         ensures kept { Grows tokens.old.items tokens.new.items }
@@ -100,8 +99,8 @@ impl Lexer {
     /// fault, the tokens before it are added, and every later call answers `Closed`. Linear in the
     /// piece and in what was held before it, which is read again only where a token ends in it.
     pub fn feed(&mut self, piece: &[u8], tokens: &mut Vec<Token>) -> Result<(), Refusal>
-        ensures ok { (updates : Bool) (x : List ℕ) (ts : List Lexeme) → Leads updates self.old x ts → OnOk result (Feeds updates self.new (x ++ piece.now) ts tokens.old.items tokens.new.items) }
-        ensures fault { (updates : Bool) (x : List ℕ) (ts : List Lexeme) → Leads updates self.old x ts → IfErr result (FeedRefused updates (x ++ piece.now) ts tokens.old.items tokens.new.items) }
+        ensures ok { FeedReads self.old self.new piece.now tokens.old.items tokens.new.items result }
+        ensures fault { FeedFails self.old piece.now tokens.old.items tokens.new.items result }
         ensures err { IfErr result (Leaves self.old self.new tokens.old.items tokens.new.items) }
         ensures closed { IsClosed self.old → result ≡ Err Refusal.Closed }
     {
@@ -130,8 +129,8 @@ impl Lexer {
     /// Ends the text, and adds its last tokens. The lexer then stands at the start of another
     /// text.
     pub fn finish(&mut self, tokens: &mut Vec<Token>) -> Result<(), Refusal>
-        ensures ok { (updates : Bool) (x : List ℕ) (ts : List Lexeme) → Leads updates self.old x ts → OnOk result (Finishes updates x ts AtEnd tokens.old.items tokens.new.items × Leads updates self.new [] []) }
-        ensures fault { (updates : Bool) (x : List ℕ) (ts : List Lexeme) → Leads updates self.old x ts → IfErr result (FinishRefused updates x ts tokens.old.items tokens.new.items) }
+        ensures ok { FinishReads self.old self.new tokens.old.items tokens.new.items result }
+        ensures fault { FinishFails self.old tokens.old.items tokens.new.items result }
         ensures err { IfErr result (Leaves self.old self.new tokens.old.items tokens.new.items) }
         ensures closed { IsClosed self.old → result ≡ Err Refusal.Closed }
     {

@@ -5,9 +5,9 @@ mod classes;
 mod kinds;
 mod laws;
 mod lexers;
+mod moves;
+mod quotes;
 mod readings;
-#[cfg(test)]
-mod rows;
 mod runs;
 mod scans;
 mod states;

@@ -1,8 +1,6 @@
 //! The reading of a text, step by step.
-ghost use Rattle.std.specs.Prelude.{◌≡◌, ℕ, ◌≤◌, ◌<◌, ◌+◌, ◌^◌, ◌++◌, ◌∷◌, [], length, take, drop, vec_len, IfOk, OnOk};
-ghost use Rattle.gs_lex.specs.Readings.{Went, Grows, HasHalted, IsWithin, IsRead, StepFits, StepMoves, passed_of, found_of};
-ghost use Rattle.gs_lex.specs.Lexemes.{lexemes_of};
-ghost use Rattle.gs_lex.specs.Tokens.{lexeme_at};
+ghost use Rattle.std.specs.Prelude.{◌≡◌, ◌≤◌, ◌<◌, ◌+◌, ◌^◌, length, drop, IfOk, OnOk};
+ghost use Rattle.gs_lex.specs.Readings.{AddsToken, Grows, IsWithin, ReadsTo, StepFollows, StepMoves, passed_of, found_of};
 
 use crate::kinds::TokenKind;
 use crate::scans::Scan;
@@ -55,7 +53,7 @@ fn found(at: Reading, count: usize, barren: usize) -> Reading
 fn step_at(text: &[u8], at: Reading, is_end: bool) -> Step
     requires { IsWithin at text.now }
     ensures moves { StepMoves at (drop at.cut text.now) result }
-    ensures fits { IsRead is_end at (drop at.cut text.now) → StepFits is_end at (drop at.cut text.now) result }
+    ensures fits { StepFollows is_end at (drop at.cut text.now) result }
 {
     next_step(&text[at.cut..], at, is_end)
 }
@@ -70,7 +68,7 @@ fn add_token(
     tokens: &mut Vec<Token>,
 ) -> Result<(), AllocError>
     requires { at.cut + count ≤ length text.now }
-    ensures ok { OnOk result (lexemes_of tokens.new.items ≡ lexemes_of tokens.old.items ++ lexeme_at kind at.place (take count (drop at.cut text.now)) ∷ []) }
+    ensures ok { OnOk result (AddsToken text.now at kind count tokens.old.items tokens.new.items) }
     ensures kept { Grows tokens.old.items tokens.new.items }
 {
     let rest = &text[at.cut..];
@@ -89,7 +87,7 @@ pub fn read(
     tokens: &mut Vec<Token>,
 ) -> Result<(Reading, Halt), AllocError>
     requires { IsWithin from text.now }
-    ensures ok { IfOk result (λ r. IsWithin r.0 text.now × (IsRead is_end from (drop from.cut text.now) → Went is_end text.now from r.0 tokens.old.items tokens.new.items × HasHalted is_end text.now r.0 r.1)) }
+    ensures ok { IfOk result (ReadsTo is_end text.now from tokens.old.items tokens.new.items) }
     ensures kept { Grows tokens.old.items tokens.new.items }
 {
     let mut at = from;

@@ -1,12 +1,13 @@
 //! How far a token is read.
-ghost use Rattle.std.specs.Prelude.{◌≡◌, ◌≢◌, false, ℕ, ◌+◌, ◌≤◌, ◌<◌, ◌^◌, ◌++◌, Bool, List, length, drop, MatchBool};
+ghost use Rattle.std.specs.Prelude.{◌≡◌, false, ◌+◌, ◌≤◌, ◌<◌, ◌^◌, length, drop, MatchBool};
 ghost use Rattle.gs_lex.specs.Runs.{stay_of};
 ghost use Rattle.gs_lex.specs.Symbols.{IsShort};
-ghost use Rattle.gs_lex.specs.Scans.{onward_of, fresh, IsScanned, IsBarren, IsBarrenTo, MayBecome};
+ghost use Rattle.gs_lex.specs.Scans.{onward_of, fresh, StaysScanned, IsEnded, IsOpen, IsReadOn};
 
 use crate::kinds::Terminal;
+use crate::moves::state_after;
 use crate::runs::{iri_run, name_run, string_run};
-use crate::states::{State, Text, accepts, next, start_of};
+use crate::states::{State, Text, accepts, start_of};
 use crate::symbols::{Symbol, front_at};
 
 /// Where the automaton stands after so many bytes, and the longest token so far, by its bytes.
@@ -88,7 +89,7 @@ fn over_run(text: &[u8], scan: Scan) -> Scan
     ensures on { scan.len ≤ result.len }
     ensures within { result.len ≤ length text.now }
     ensures best_within { result.best_len ≤ result.len }
-    ensures scanned { (updates : Bool) → IsScanned updates text.now scan → IsScanned updates text.now result }
+    ensures scanned { StaysScanned text.now scan result }
 {
     match scan.state {
         State::Inside(inside) => match inside {
@@ -106,7 +107,7 @@ fn over_run(text: &[u8], scan: Scan) -> Scan
 
 /// Whether no character goes on with a token.
 fn is_ended(state: State) -> bool
-    ensures { MatchBool result ((t : Terminal) × (state ≡ State.Ended t)) ((t : Terminal) → state ≢ State.Ended t) }
+    ensures { MatchBool result (IsEnded state) (IsOpen state) }
 {
     match state {
         State::Ended(_) => true,
@@ -122,9 +123,9 @@ pub fn read_on(text: &[u8], from: Scan, barren: usize) -> (Scan, bool)
     requires best_within { from.best_len ≤ from.len }
     ensures within { result.0.len ≤ length text.now }
     ensures best_within { result.0.best_len ≤ result.0.len }
-    ensures scanned { (updates : Bool) → IsScanned updates text.now from → IsScanned updates text.now result.0 }
-    ensures stuck { (is_end updates : Bool) → IsScanned updates text.now from → IsBarrenTo is_end updates text.now barren → MatchBool result.1 ((z : List ℕ) → MayBecome is_end (drop result.0.len text.now) z → IsBarren updates result.0.state z) (IsBarren updates result.0.state (drop result.0.len text.now)) }
-    ensures open_ { result.1 ≡ false → IsShort (drop result.0.len text.now) × ((t : Terminal) → result.0.state ≢ State.Ended t) }
+    ensures scanned { StaysScanned text.now from result.0 }
+    ensures stuck { IsReadOn text.now from barren result }
+    ensures open_ { result.1 ≡ false → IsShort (drop result.0.len text.now) × IsOpen result.0.state }
 {
     let mut scan = from;
     while scan.len < text.len() {
@@ -132,7 +133,7 @@ pub fn read_on(text: &[u8], from: Scan, barren: usize) -> (Scan, bool)
             return (scan, true);
         }
         match front_at(text, scan.len) {
-            Symbol::Character(c, size) => match next(scan.state, c) {
+            Symbol::Character(c, size) => match state_after(scan.state, c) {
                 Some(state) => {
                     scan = over_run(text, scan.onward(state, size));
                 }

@@ -1,13 +1,14 @@
 //! One step of reading a text.
-ghost use Rattle.std.specs.Prelude.{◌≡◌, ◌≤◌, ◌-◌, ◌⊎◌, max, length, true, false};
-ghost use Rattle.gs_lex.specs.Readings.{BeginsToken, IsRead, StepFits, StepMoves};
+ghost use Rattle.std.specs.Prelude.{◌≡◌, ◌≤◌, length, true, false};
+ghost use Rattle.gs_lex.specs.Readings.{BeginsToken, StepFits, StepFollows, StepMoves};
+ghost use Rattle.gs_lex.specs.Scans.{IsBarrenAfter};
 
 use crate::classes::is_line_end;
 use crate::kinds::{Terminal, TokenKind};
 use crate::runs::{comment_run, is_space, space_run};
 use crate::scans::{Scan, read_on};
 use crate::symbols::{Symbol, front_at};
-use crate::words::kind_of;
+use crate::words::token_kind;
 
 /// Where the reading of a text stands.
 #[derive(Clone, Copy, Debug)]
@@ -76,7 +77,7 @@ fn comment_step(rest: &[u8], at: Reading, is_end: bool) -> Step
 /// its start. After a word that is no prefix, so are all that were read.
 fn barren_after(barren: usize, scan: Scan, terminal: Terminal) -> usize
     requires { scan.best_len ≤ scan.len }
-    ensures { (result ≡ barren - scan.best_len) ⊎ ((terminal ≡ Terminal.Word) × (result ≡ max (scan.len - scan.best_len) (barren - scan.best_len))) }
+    ensures { IsBarrenAfter barren scan terminal result }
 {
     match terminal {
         Terminal::Word => (scan.len - scan.best_len).max(barren.saturating_sub(scan.best_len)),
@@ -91,7 +92,7 @@ fn token_step(rest: &[u8], at: Reading, is_end: bool) -> Step
     requires between { at.in_comment ≡ false }
     requires begins { BeginsToken rest.now }
     ensures moves { StepMoves at rest.now result }
-    ensures fits { IsRead is_end at rest.now → StepFits is_end at rest.now result }
+    ensures fits { StepFollows is_end at rest.now result }
 {
     let (scan, is_stuck) = read_on(rest, at.scan, at.barren);
     if !is_stuck && !is_end {
@@ -102,7 +103,7 @@ fn token_step(rest: &[u8], at: Reading, is_end: bool) -> Step
     }
     match scan.best {
         None => Step::Fault,
-        Some(terminal) => match kind_of(at.updates, terminal, &rest[..scan.best_len]) {
+        Some(terminal) => match token_kind(at.updates, terminal, &rest[..scan.best_len]) {
             Some(kind) => {
                 let barren = barren_after(at.barren, scan, terminal);
                 Step::Found(kind, scan.best_len, barren)
@@ -117,7 +118,7 @@ pub fn next_step(rest: &[u8], at: Reading, is_end: bool) -> Step
     requires within { at.scan.len ≤ length rest.now }
     requires best_within { at.scan.best_len ≤ at.scan.len }
     ensures moves { StepMoves at rest.now result }
-    ensures fits { IsRead is_end at rest.now → StepFits is_end at rest.now result }
+    ensures fits { StepFollows is_end at rest.now result }
 {
     if at.in_comment {
         return comment_step(rest, at, is_end);

@@ -81,8 +81,8 @@ fn word(updates: bool, text: &[u8]) -> Option<TokenKind>
 
 /// The kind of a token of these bytes. A word that is none of the grammar's has none, nor have
 /// three quotes whose string does not end.
-pub fn kind_of(updates: bool, terminal: Terminal, text: &[u8]) -> Option<TokenKind>
-    ensures { result ≡ spec.kind_of updates terminal text.now }
+pub fn token_kind(updates: bool, terminal: Terminal, text: &[u8]) -> Option<TokenKind>
+    ensures { result ≡ spec.token_kind updates terminal text.now }
 {
     match terminal {
         Terminal::IriRef => Some(TokenKind::IriRef),

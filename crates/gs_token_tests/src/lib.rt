@@ -1,5 +1,13 @@
-//! Tests of tokens: each terminal of Turtle and of updates.
+//! Tests of tokens: each terminal, texts and their tokens, faults, and what is given of a piece.
 #![tactic(auto)]
 
 #[cfg(test)]
-mod tokens;
+mod faults;
+#[cfg(test)]
+mod pieces;
+#[cfg(test)]
+mod readings;
+#[cfg(test)]
+mod terminals;
+#[cfg(test)]
+mod texts;

@@ -37,7 +37,7 @@ unfolding resolved front_text
 returns-then-is_some-3-clause-ok c =
     let b = c.cut_parts-b.ensures in
     let r = c.cut_parts-r.ensures in
-    let case = own_path (parts_of c.args.base.now) (parts_of c.args.reference.now) (is_told c.cut_parts-r.result.scheme r.scheme c.is_some.ensures c.if-is_some.false) (is_told c.cut_parts-r.result.authority r.authority c.is_some-2.ensures c.if-is_some-2.false) (empty_told c.cut_parts-r.result.path.now r.path c.is_empty.ensures c.if-is_empty.false) (is_told c.behind.result (c.behind.ensures.value ∙ ap (behind 47) r.path) c.is_some-3.ensures c.if-is_some-3.true) in
+    let case = own_path (parts_of c.args.base.now) (parts_of c.args.reference.now) (is_told c.cut_parts-r.result.scheme r.scheme c.is_some.ensures c.if-is_some.false) (is_told c.cut_parts-r.result.authority r.authority c.is_some-2.ensures c.if-is_some-2.false) (empty_told c.cut_parts-r.result.path.now r.path c.is_empty.ensures c.if-is_empty.false) (is_told c.after.result (c.after.ensures.value ∙ ap (behind 47) r.path) c.is_some-3.ensures c.if-is_some-3.true) in
     on_ok c.append_removed-then-is_some-3.result (λ h. h ∙ ap (λ z. string_bytes c.args.resolved.now ++ z) (parts_same b.scheme b.authority (ap dots r.path) r.query r.fragment ∙ case)) c.append_removed-then-is_some-3.ensures.ok
 
 pub returns-clause-ok : goal.returns-clause-ok
@@ -45,7 +45,7 @@ unfolding resolved
 returns-clause-ok c =
     let b = c.cut_parts-b.ensures in
     let r = c.cut_parts-r.ensures in
-    let case = merged_path (parts_of c.args.base.now) (parts_of c.args.reference.now) (is_told c.cut_parts-r.result.scheme r.scheme c.is_some.ensures c.if-is_some.false) (is_told c.cut_parts-r.result.authority r.authority c.is_some-2.ensures c.if-is_some-2.false) (empty_told c.cut_parts-r.result.path.now r.path c.is_empty.ensures c.if-is_empty.false) (is_told c.behind.result (c.behind.ensures.value ∙ ap (behind 47) r.path) c.is_some-3.ensures c.if-is_some-3.false) in
+    let case = merged_path (parts_of c.args.base.now) (parts_of c.args.reference.now) (is_told c.cut_parts-r.result.scheme r.scheme c.is_some.ensures c.if-is_some.false) (is_told c.cut_parts-r.result.authority r.authority c.is_some-2.ensures c.if-is_some-2.false) (empty_told c.cut_parts-r.result.path.now r.path c.is_empty.ensures c.if-is_empty.false) (is_told c.after.result (c.after.ensures.value ∙ ap (behind 47) r.path) c.is_some-3.ensures c.if-is_some-3.false) in
     let front = c.front_of.ensures ∙ ap (λ z. directory_of z c.cut_parts-b.result.path.now) b.authority ∙ ap (directory_of (parts_of c.args.base.now).authority) b.path in
     let whole = ap (λ z. z ++ c.cut_parts-r.result.path.now) front ∙ ap (λ z. directory_of (parts_of c.args.base.now).authority (parts_of c.args.base.now).path ++ z) r.path in
     on_ok c.append_removed-2.result (λ h. h ∙ ap (λ z. string_bytes c.args.resolved.now ++ z) (parts_same b.scheme b.authority (ap dots whole) r.query r.fragment ∙ case)) c.append_removed-2.ensures.ok

@@ -4,4 +4,4 @@ use Rattle.gs_lex.proofs.SpanLemmas.{cut-spans}
 use Rattle.gs_lex.proofs.laws.tokens_are_spans.Goals as goal
 
 pub returns : goal.returns
-returns c = λ u x ts e h d. cut-spans u x [] Between 0 0 x ts e h refl refl (omega arith) d
+returns c = λ u x h ts e d. cut-spans u x [] Between 0 0 x ts e h refl refl (omega arith) d

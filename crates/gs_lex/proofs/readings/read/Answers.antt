@@ -1,5 +1,5 @@
 use Rattle.std.proofs.Common.{sym, subst, drop}
-use Rattle.gs_lex.specs.Readings.{Went, Grows, IsRead, IsWithin}
+use Rattle.gs_lex.specs.Readings.{Went, Grows, HasRead, IsWithin}
 use Rattle.gs_lex.specs.declared.steps.Reading.{Reading}
 use Rattle.gs_lex.proofs.ReadLemmas.{went-nothing, grows-nothing, went-found, went-passed, within-passed, within-found, grows-more}
 use Rattle.gs_lex.proofs.readings.read.Goals as goal
@@ -18,7 +18,7 @@ steps-preserved c =
     let m = c.in-Found.ensures.moves in
     let P : Reading → Type 0 = λ r. record {
       within : IsWithin r x;
-      went : IsRead c.args.is_end c.args.from (drop c.args.from.cut x) → Went c.args.is_end x c.args.from r c.args.tokens.now.items c.add_token.new.tokens.items;
+      went : HasRead c.args.is_end c.args.from (drop c.args.from.cut x) → Went c.args.is_end x c.args.from r c.args.tokens.now.items c.add_token.new.tokens.items;
       kept : Grows c.args.tokens.now.items c.add_token.new.tokens.items;
     } in
     subst P (sym c.found-at.ensures) (record {
@@ -36,7 +36,7 @@ steps-preserved-in-Passed c =
     let m = c.in-Passed.ensures.moves in
     let P : Reading → Type 0 = λ r. record {
       within : IsWithin r x;
-      went : IsRead c.args.is_end c.args.from (drop c.args.from.cut x) → Went c.args.is_end x c.args.from r c.args.tokens.now.items c.steps.tokens.items;
+      went : HasRead c.args.is_end c.args.from (drop c.args.from.cut x) → Went c.args.is_end x c.args.from r c.args.tokens.now.items c.steps.tokens.items;
       kept : Grows c.args.tokens.now.items c.steps.tokens.items;
     } in
     subst P (sym c.passed-at.ensures) (record {

@@ -1,7 +1,7 @@
 use Rattle.std.proofs.Common.{◌<◌, ◌∙◌, ap, sym, arith}
 use Rattle.std.specs.Prelude.{slice_get}
 use Rattle.gs_iri.proofs.ReferenceLemmas.{boundary_behind_first}
-use Rattle.gs_iri.proofs.references.behind.Goals as goal
+use Rattle.gs_iri.proofs.references.after.Goals as goal
 
 pub range_from-requires : goal.range_from-requires
 range_from-requires c =

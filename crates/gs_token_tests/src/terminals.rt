@@ -1,10 +1,6 @@
 //! Each terminal of Turtle and of updates, alone and with a dot after it, in pieces of any size.
-ghost use Rattle.std.specs.Prelude.{◌<◌};
-
-use gs_lex::{Lexer, Token, TokenKind};
-use gs_model::Refusal;
-use std::alloc::Global;
-use std::process::Abort;
+use crate::readings::expect;
+use gs_lex::TokenKind;
 use std::test::Fail;
 
 /// A token's text, its kind, and whether it stands in updates alone.
@@ -113,50 +109,6 @@ const TERMINALS: [Row; 91] = [
     ("COPY", TokenKind::Copy, true),
     ("WITH", TokenKind::With, true),
 ];
-
-/// Feeds a text in pieces of so many bytes, and ends it.
-fn cut(lexer: &mut Lexer, text: &str, size: usize, tokens: &mut Vec<Token>) -> Result<(), Refusal>
-    requires { 0 < size }
-{
-    for piece in text.as_bytes().chunks(size) {
-        lexer.feed(piece, tokens)?;
-    }
-    lexer.finish(tokens)
-}
-
-/// The kinds of a text's tokens.
-fn kinds_of(
-    alloc: Global,
-    updates: bool,
-    text: &str,
-    size: usize,
-) -> Result<Vec<TokenKind>, Refusal>
-    requires { 0 < size }
-{
-    let mut lexer = Lexer::new(alloc, updates);
-    let mut tokens = Vec::new(alloc);
-    cut(&mut lexer, text, size, &mut tokens)?;
-    Ok(tokens.iter().map(|token| token.kind).collect(alloc)?)
-}
-
-/// Asserts that a text has these tokens, whole and in pieces of 1, 2 and 3 bytes.
-fn expect(
-    rt: &impl Abort,
-    alloc: Global,
-    updates: bool,
-    text: &str,
-    want: &[TokenKind],
-) -> Result<(), Fail> {
-    let whole = kinds_of(alloc, updates, text, 1000)?;
-    assert_eq!(rt; whole.as_slice(), want, "at {text}");
-    let ones = kinds_of(alloc, updates, text, 1)?;
-    assert_eq!(rt; ones.as_slice(), want, "at {text}");
-    let twos = kinds_of(alloc, updates, text, 2)?;
-    assert_eq!(rt; twos.as_slice(), want, "at {text}");
-    let threes = kinds_of(alloc, updates, text, 3)?;
-    assert_eq!(rt; threes.as_slice(), want, "at {text}");
-    Ok(())
-}
 
 #[test]
 fn each_terminal_ends_at_the_end_of_the_text(rt: HostRuntime) -> Result<(), Fail> {
