@@ -3,7 +3,7 @@
 use Rattle.std.specs.Prelude.{ℕ, ◌+◌, ◌*◌, Bool, not, ◌&&◌, ◌||◌, ◌==◌, if◌then◌else◌, nat_le, List, Option, Some, None, fold}
 use Rattle.std.specs.Char.{digit_value}
 use lib.Utf8.{scalar}
-use Rattle.gs_model.specs.Characters.{line_feed, carriage_return, quote, backslash, letter_n, letter_r, is_digit, is_iri_char}
+use Rattle.gs_model.specs.Characters.{line_feed, carriage_return, quote, backslash, letter_n, letter_r, is_digit}
 
 -- U+0008
 abbrev pub backspace : ℕ
@@ -68,14 +68,14 @@ with_hex v c = v * 16 + digit_value c
 unfoldable pub hex_number : List ℕ → ℕ
 hex_number ds = fold with_hex 0 ds
 
+-- the greatest number of a character
+abbrev pub last_character : ℕ
+last_character = 0x10_FFFF
+
 -- The number of a character: at most 10FFFF, and no surrogate. [26] UCHAR of Turtle and [10] of N-Triples take any number, so
 -- that an escape of another means nothing is the rule of the definitions that cite this one.
 abbrev pub is_character : ℕ → Bool
 is_character n = scalar n
-
--- a character that may stand in an IRI, as it is or by its number: [18] IRIREF of Turtle, [8] of N-Triples
-abbrev pub is_iri_character : ℕ → Bool
-is_iri_character c = is_iri_char c && is_character c
 
 -- what stands as it is in a string of one line, whose quote is q: [22] and [23] of Turtle, [9] of N-Triples
 abbrev pub is_string_char : (q : ℕ) → ℕ → Bool

@@ -10,7 +10,7 @@ use Rattle.gs_machine.specs.Utf8.{Decoding, Ready, Within, Lost, bad, decode_ste
 use Rattle.gs_body.specs.Bodies.{Statement}
 use Rattle.gs_body.specs.Leading.{IsLed}
 use Rattle.gs_blank.specs.Numbers.{Numbers}
-use Rattle.gs_ntterm.specs.Marks.{end_of}
+use Rattle.gs_ntterm.specs.Marks.{char_end}
 use Rattle.gs_ntterm.specs.LineTerms.{LineTerm}
 use Rattle.gs_ntterm.specs.Terminals.{Plain, Escape, Digits}
 use Rattle.gs_ntterm.specs.Tokens.{Held, plain_held, tagged_held}
@@ -113,7 +113,7 @@ after_all r p os = (steps (placing r) p os).0.1.0
 
 after_bad : (r : ℕ) (p : ℕ × (State × Numbers)) → IsBroken (after_all r p (bad ∷ []))
 unfolding steps composed keeping
-after_bad r p = turn_bad p.1.0.0 p.1.0.1 (end_of p.0 bad)
+after_bad r p = turn_bad p.1.0.0 p.1.0.1 (char_end p.0 bad)
 
 lost_at : (r : ℕ) (p : ℕ × (State × Numbers)) (t : Decoding × List ℕ) → Marks t → t.0 ≡ Lost → IsBroken (after_all r p t.1)
 lost_at r p t m e = subst (λ (os : List ℕ). IsBroken (after_all r p os)) (sym (m e)) (after_bad r p)

@@ -10,7 +10,7 @@ use Rattle.gs_body.specs.Bodies.{Ending, Whole, Faulty}
 use Rattle.gs_ntterm.specs.Marks.{Mark}
 use Rattle.gs_ntterm.specs.Classes.{is_space, is_line_end, may_stand_in_comment}
 use Rattle.gs_ntterm.specs.LineTerms.{LineTerm, Fixed, Labelled, iri_made}
-use Rattle.gs_ntterm.specs.Terminals.{Read, ◌>>=◌, skip, Plain, iri_after, string_after, label_at}
+use Rattle.gs_ntterm.specs.Terminals.{FrontRead, ◌>>=◌, skip, Plain, iri_after, string_after, label_at}
 use Rattle.gs_ntterm.proofs.Branches.{two_ways, by_test, by_test_knowing, otherwise}
 use Rattle.gs_ntterm.proofs.Holding.{iri_held-hold}
 use Rattle.gs_ntread.specs.LineTriples.{LineTriple}
@@ -58,16 +58,16 @@ then_joined ts Whole r = refl
 then_joined ts (Faulty e) r = ap (λ z. (z, Faulty e)) (append-nil ts)
 
 -- what a line says of its triple, and the lines after it
-abbrev pub meant : List Mark → Read LineTriple → Meant
+abbrev pub meant : List Mark → FrontRead LineTriple → Meant
 meant tail r = then_meant (triple_meant r) (after_line tail)
 
-abbrev pub object_then : LineTerm → Term → LineTerm × List Mark → Read LineTriple
+abbrev pub object_then : LineTerm → Term → LineTerm × List Mark → FrontRead LineTriple
 object_then s p o = dot_at (skip o.1) >>= λ d. Ok (sentence s p o.0 d.0, d.1)
 
-abbrev pub predicate_then : LineTerm → Term × List Mark → Read LineTriple
+abbrev pub predicate_then : LineTerm → Term × List Mark → FrontRead LineTriple
 predicate_then s p = object_at (skip p.1) >>= object_then s p.0
 
-abbrev pub subject_then : LineTerm × List Mark → Read LineTriple
+abbrev pub subject_then : LineTerm × List Mark → FrontRead LineTriple
 subject_then s = predicate_at (skip s.1) >>= predicate_then s.0
 
 pub walk_dot : (s : LineTerm) (p : Term) (o : LineTerm) (line tail : List Mark) → NoEnd line → Stops tail
@@ -93,7 +93,7 @@ object_told : (s : LineTerm) (p : Term) (y tail : List Mark) (r : Result Term Fa
 object_told s p y tail (Ok t) q h = walk_dot s p (Fixed t) y tail h q
 object_told s p y tail (Err e) q h = faulty e (y ++ tail) tail
 
-closes_object : (s : LineTerm) (p : Term) (tail : List Mark) (r : Read (List ℕ)) → Stops tail → KeepsLine r
+closes_object : (s : LineTerm) (p : Term) (tail : List Mark) (r : FrontRead (List ℕ)) → Stops tail → KeepsLine r
     → after (closes (iri_closed (AtObject s p))) tail [] r ≡ meant tail (fixed (iri_read r) >>= object_then s p)
 closes_object s p tail (Err e) q h = refl
 closes_object s p tail (Ok i) q h =
@@ -101,19 +101,19 @@ closes_object s p tail (Ok i) q h =
     ∙ object_told s p i.1 tail (iri_made i.0) q (keeps_made i.1 (Iri i.0) h)
 
 -- after a literal
-literal_closed : (s : LineTerm) (p : Term) (tail : List Mark) (r : Read Term) → Stops tail → KeepsLine r
+literal_closed : (s : LineTerm) (p : Term) (tail : List Mark) (r : FrontRead Term) → Stops tail → KeepsLine r
     → literal_told s p tail r ≡ meant tail (fixed r >>= object_then s p)
 literal_closed s p tail (Err e) q h = refl
 literal_closed s p tail (Ok r) q h = walk_dot s p (Fixed r.0) r.1 tail h q
 
-closes_string : (s : LineTerm) (p : Term) (tail : List Mark) (r : Read (List ℕ)) → Stops tail → KeepsLine r
+closes_string : (s : LineTerm) (p : Term) (tail : List Mark) (r : FrontRead (List ℕ)) → Stops tail → KeepsLine r
     → after (closes (string_closed (AtObject s p))) tail [] r ≡ meant tail (fixed (r >>= λ l. suffix_at l.0 (skip l.1)) >>= object_then s p)
 closes_string s p tail (Err e) q h = refl
 closes_string s p tail (Ok l) q h =
     walk_suffix s p l.0 l.1 tail q ∙ literal_closed s p tail (suffix_at l.0 (skip l.1)) q (keeps_suffix l.0 (skip l.1) (keeps_skip l.1 h))
 
 -- after a label that is an object
-closes_label : (s : LineTerm) (p : Term) (tail : List Mark) (r : Read (List ℕ)) → Stops tail → KeepsLine r
+closes_label : (s : LineTerm) (p : Term) (tail : List Mark) (r : FrontRead (List ℕ)) → Stops tail → KeepsLine r
     → after (label_closed (AtObject s p)) tail [] r ≡ meant tail (label_read r >>= object_then s p)
 closes_label s p tail (Err e) q h = refl
 closes_label s p tail (Ok l) q h = walk_dot s p (Labelled l.0) l.1 tail h q
@@ -141,7 +141,7 @@ predicate_told : (s : LineTerm) (y tail : List Mark) (r : Result Term Fault) →
 predicate_told s y tail (Ok t) q h = walk_object s t y tail h q
 predicate_told s y tail (Err e) q h = faulty e (y ++ tail) tail
 
-closes_predicate : (s : LineTerm) (tail : List Mark) (r : Read (List ℕ)) → Stops tail → KeepsLine r
+closes_predicate : (s : LineTerm) (tail : List Mark) (r : FrontRead (List ℕ)) → Stops tail → KeepsLine r
     → after (closes (iri_closed (AtPredicate s))) tail [] r ≡ meant tail (iri_read r >>= predicate_then s)
 closes_predicate s tail (Err e) q h = refl
 closes_predicate s tail (Ok i) q h =
@@ -167,7 +167,7 @@ subject_told : (y tail : List Mark) (r : Result Term Fault) → Stops tail → K
 subject_told y tail (Ok t) q h = walk_predicate (Fixed t) y tail h q
 subject_told y tail (Err e) q h = faulty e (y ++ tail) tail
 
-closes_subject : (tail : List Mark) (r : Read (List ℕ)) → Stops tail → KeepsLine r
+closes_subject : (tail : List Mark) (r : FrontRead (List ℕ)) → Stops tail → KeepsLine r
     → after (closes (iri_closed AtSubject)) tail [] r ≡ meant tail (fixed (iri_read r) >>= subject_then)
 closes_subject tail (Err e) q h = refl
 closes_subject tail (Ok i) q h =
@@ -175,7 +175,7 @@ closes_subject tail (Ok i) q h =
     ∙ subject_told i.1 tail (iri_made i.0) q (keeps_made i.1 (Iri i.0) h)
 
 -- after a label that is a subject
-closes_subject_label : (tail : List Mark) (r : Read (List ℕ)) → Stops tail → KeepsLine r
+closes_subject_label : (tail : List Mark) (r : FrontRead (List ℕ)) → Stops tail → KeepsLine r
     → after (label_closed AtSubject) tail [] r ≡ meant tail (label_read r >>= subject_then)
 closes_subject_label tail (Err e) q h = refl
 closes_subject_label tail (Ok l) q h = walk_predicate (Labelled l.0) l.1 tail h q

@@ -11,7 +11,7 @@ use Rattle.gs_body.specs.Bodies.{Faulty}
 use Rattle.gs_ntterm.specs.Marks.{Mark}
 use Rattle.gs_ntterm.specs.Classes.{is_space, is_tag_char}
 use Rattle.gs_ntterm.specs.LineTerms.{LineTerm, Fixed, plain_made, typed_made, tagged_made, fault_of}
-use Rattle.gs_ntterm.specs.Terminals.{Read, ◌>>=◌, skip, Plain, iri_after, begins_part, tag_after}
+use Rattle.gs_ntterm.specs.Terminals.{FrontRead, ◌>>=◌, skip, Plain, iri_after, begins_part, tag_after}
 use Rattle.gs_ntterm.specs.Tokens.{hold, add, tagged_held, typed_held, plain_held}
 use Rattle.gs_ntterm.proofs.Branches.{two_ways, by_test, by_test_knowing, otherwise}
 use Rattle.gs_ntterm.proofs.Holding.{add-hold, plain_held-hold, typed_held-hold, tagged_held-hold}
@@ -27,7 +27,7 @@ go_on s p (Err e) y = ([], Faulty e)
 go_on s p (Ok t) y = told (AtDot s p (Fixed t), Between) y
 
 -- after a literal that was read
-abbrev pub literal_told : LineTerm → Term → List Mark → Read Term → Meant
+abbrev pub literal_told : LineTerm → Term → List Mark → FrontRead Term → Meant
 literal_told s p tail (Err e) = ([], Faulty e)
 literal_told s p tail (Ok r) = told (AtDot s p (Fixed r.0), Between) (r.1 ++ tail)
 
@@ -128,7 +128,7 @@ walk_tag s p l (m ∷ ms) tail h = (
     parts m ms true = refl
     parts m ms false = refl
 
-closes_datatype : (s : LineTerm) (p : Term) (l : List ℕ) (tail : List Mark) (r : Read (List ℕ))
+closes_datatype : (s : LineTerm) (p : Term) (l : List ℕ) (tail : List Mark) (r : FrontRead (List ℕ))
     → after (closes (iri_closed (AtDatatype s p (hold l)))) tail [] r ≡ literal_told s p tail (r >>= λ i. before_text i.1 (typed_made l i.0))
 closes_datatype s p l tail (Err e) = refl
 closes_datatype s p l tail (Ok i) =

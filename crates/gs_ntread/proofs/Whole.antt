@@ -6,7 +6,7 @@ use Rattle.gs_machine.proofs.MachineLemmas.{rest-append, rest-composed, steps-on
 use Rattle.gs_model.specs.declared.faults.Fault.{Fault}
 use Rattle.gs_body.specs.Bodies.{Ending, Faulty, Statement}
 use Rattle.gs_blank.specs.Numbers.{Numbers, no_numbers}
-use Rattle.gs_ntterm.specs.Marks.{Mark, marks, places, end_of}
+use Rattle.gs_ntterm.specs.Marks.{Mark, marks, places, char_end}
 use Rattle.gs_ntread.specs.LineTriples.{LineTriple}
 use Rattle.gs_ntread.specs.Documents.{numbering, stated, meaning_by}
 use Rattle.gs_ntread.specs.States.{State, Turn, Between, Comment, InIri, InString, Underscore, Colon, InLabel, InDots, Caret, AtSign, InTag, Hyphen, Broken, broken, start}
@@ -28,7 +28,7 @@ rest-keeping a b s t (i ∷ is) =
 places-marks : (n : ℕ) (cs : List ℕ) → (rest places n cs).0 ≡ marks n cs
 unfolding rest marks
 places-marks n [] = refl
-places-marks n (c ∷ cs) = ap (λ z. (c, end_of n c) ∷ z) (places-marks (end_of n c) cs)
+places-marks n (c ∷ cs) = ap (λ z. (c, char_end n c) ∷ z) (places-marks (char_end n c) cs)
 
 pub stating_is : (r : ℕ) (q : State) (n : Numbers) (ms : List Mark) → rest (stating r) (q, n) ms ≡ ((rest (numbering r) n (rest reading q ms).0).0, (rest reading q ms).1)
 stating_is r q n ms = rest-keeping reading (numbering r) q n ms
@@ -70,14 +70,14 @@ silence r n (g, Hyphen h) m = ([], refl)
 silence r n (g, Broken e) m = ([], refl)
 
 -- one character
-pub character-none : (r n : ℕ) (q q' : State) (m : Numbers) (c : ℕ) → (q', []) ≡ turn q.0 q.1 c (end_of n c) → (placing r).step (n, (q, m)) c ≡ ((end_of n c, (q', m)), [])
+pub character-none : (r n : ℕ) (q q' : State) (m : Numbers) (c : ℕ) → (q', []) ≡ turn q.0 q.1 c (char_end n c) → (placing r).step (n, (q, m)) c ≡ ((char_end n c, (q', m)), [])
 unfolding composed keeping steps
-character-none r n q q' m c e = ap (λ (u : Turn). ((end_of n c, (u.0, (steps (numbering r) m u.1).0)), (steps (numbering r) m u.1).1 ++ [])) (sym e)
+character-none r n q q' m c e = ap (λ (u : Turn). ((char_end n c, (u.0, (steps (numbering r) m u.1).0)), (steps (numbering r) m u.1).1 ++ [])) (sym e)
 
-pub character-some : (r n : ℕ) (q q' : State) (m : Numbers) (c : ℕ) (s : LineTriple) → (q', s ∷ []) ≡ turn q.0 q.1 c (end_of n c)
-    → (placing r).step (n, (q, m)) c ≡ ((end_of n c, (q', (stated r m s).0)), (stated r m s).1)
+pub character-some : (r n : ℕ) (q q' : State) (m : Numbers) (c : ℕ) (s : LineTriple) → (q', s ∷ []) ≡ turn q.0 q.1 c (char_end n c)
+    → (placing r).step (n, (q, m)) c ≡ ((char_end n c, (q', (stated r m s).0)), (stated r m s).1)
 unfolding composed keeping steps
-character-some r n q q' m c s e = ap (λ (u : Turn). ((end_of n c, (u.0, (steps (numbering r) m u.1).0)), (steps (numbering r) m u.1).1 ++ [])) (sym e)
+character-some r n q q' m c s e = ap (λ (u : Turn). ((char_end n c, (u.0, (steps (numbering r) m u.1).0)), (steps (numbering r) m u.1).1 ++ [])) (sym e)
 
 -- one byte
 abbrev pub Placed : Type 0

@@ -9,7 +9,7 @@ use Rattle.gs_blank.specs.Numbers.{Numbers, no_numbers, number_of}
 use Rattle.gs_ntterm.specs.Marks.{Mark, marks}
 use Rattle.gs_ntterm.specs.Classes.{is_space, is_line_end, may_stand_in_comment}
 use Rattle.gs_ntterm.specs.LineTerms.{LineTerm, Fixed, Labelled}
-use Rattle.gs_ntterm.specs.Terminals.{Read}
+use Rattle.gs_ntterm.specs.Terminals.{FrontRead}
 use Rattle.gs_ntread.specs.LineTriples.{LineTriple}
 use Rattle.gs_ntread.specs.Grammar.{triple_at}
 
@@ -28,7 +28,7 @@ rest_meant [] = Whole
 rest_meant (m ∷ ms) = if is_space m.0 then rest_meant ms else if m.0 == 35 then comment_meant ms else Faulty Syntax
 
 -- a triple with the rest of its line, or its fault
-abbrev pub triple_meant : Read LineTriple → Meant
+abbrev pub triple_meant : FrontRead LineTriple → Meant
 triple_meant (Err e) = ([], Faulty e)
 triple_meant (Ok r) = (r.0 ∷ [], rest_meant r.1)
 

@@ -22,9 +22,9 @@ abbrev pub LeadsTo : NTriplesReader → List ℕ → List RdfTriple → Type 0
 LeadsTo r x ts = IsLed (ntriples r.request) unread (led_of r) r.last x ts
 
 -- a reader goes on, by what a machine gives
-pub record Takes (old new : NTriplesReader) (before after : List RdfTriple) (t : Led × List Statement) : Type 0 where
+pub record Takes (old new : NTriplesReader) (before_read after : List RdfTriple) (t : Led × List Statement) : Type 0 where
   pub led : led_of new ≡ t.0
-  pub given : after ≡ before ++ triples_of t.1
+  pub given : after ≡ before_read ++ triples_of t.1
   pub last : new.last ≡ end_after old.last t.1
   pub request : new.request ≡ old.request
   pub closed : new.is_closed ≡ old.is_closed
@@ -66,9 +66,9 @@ abbrev pub FaultyEnd : Refusal → ℕ → Meaning → Type 0
 FaultyEnd e last t = (e ≡ refusal.NoMemory) ⊎ Refuses e (end_after last t.0) (λ f. t.1 ≡ Faulty f)
 
 -- the text ends without a fault, and gives the rest of its triples
-pub record Ends (before after : List RdfTriple) (t : Meaning) : Type 0 where
+pub record Ends (before_read after : List RdfTriple) (t : Meaning) : Type 0 where
   pub whole : t.1 ≡ Whole
-  pub given : after ≡ before ++ triples_of t.0
+  pub given : after ≡ before_read ++ triples_of t.0
 
 -- where the decoder is lost the grammar is broken
 abbrev pub Sound : Led → Type 0

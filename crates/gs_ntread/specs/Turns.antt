@@ -1,12 +1,12 @@
 -- How a document is read, character by character.
 use Rattle.std.specs.Prelude.{ℕ, ◌+◌, ◌-◌, ◌==◌, true, false, if◌then◌else◌, List, [], ◌∷◌, ◌++◌, Option, Some, None}
 use Rattle.std.specs.Char.{encode_utf8}
-use lib.Utf8.{scalar}
+use Rattle.gs_model.specs.Escapes.{is_character}
 use Rattle.gs_model.specs.declared.faults.Fault.{Fault}
 use Rattle.gs_model.specs.declared.faults.Fault.TheVariants.{Syntax}
 use Rattle.gs_ntterm.specs.Classes.{is_line_end, may_stand_in_iri, may_stand_in_string, may_stand_in_comment, begins_label, is_label_char, is_tag_char, is_hex, with_digit}
 use Rattle.gs_ntterm.specs.LineTerms.{Labelled, fault_of}
-use Rattle.gs_ntterm.specs.Terminals.{Inside, Plain, Escape, Digits, escaped}
+use Rattle.gs_ntterm.specs.Terminals.{Inside, Plain, Escape, Digits}
 use Rattle.gs_ntterm.specs.Tokens.{Held, hold, add, tagged_held}
 use Rattle.gs_ntterm.specs.Labels.{add_dots}
 use Rattle.gs_ntread.specs.States.{Stage, AtSubject, AtPredicate, AtObject, AtSuffix, Mode, Between, Comment, InIri, InString, Underscore, Colon, InLabel, InDots, Caret, AtSign, InTag, Hyphen, Broken, State, Turn, broken, quiet, sentence}
@@ -45,11 +45,11 @@ string_turn Plain g h c =
 string_turn Escape g h c =
     if c == 117 then (g, InString (Digits 3 0) h)
     else if c == 85 then (g, InString (Digits 7 0) h)
-    else escape_turn g h (escaped c)
+    else escape_turn g h (echar_meaning c)
 string_turn (Digits left value) g h c =
     if is_hex c then
     (if left == 0 then
-    (if scalar (with_digit value c) then (g, InString Plain (add h (encode_utf8 (with_digit value c)))) else broken Syntax)
+    (if is_character (with_digit value c) then (g, InString Plain (add h (encode_utf8 (with_digit value c)))) else broken Syntax)
     else (g, InString (Digits (left - 1) (with_digit value c)) h))
     else broken Syntax
 

@@ -1,7 +1,7 @@
 //! The reader of N-Triples.
 ghost use Rattle.std.specs.Prelude.{◌≡◌, ◌≢◌, ◌++◌, [], ◌<◌, ◌≤◌, false, length, take, OnOk, OnErr, IfOk, IfErr, IfSome, IfNone, IsErr, List, ℕ};
 ghost use Rattle.gs_model.specs.Triples.{RdfTriple};
-ghost use Rattle.gs_ntterm.specs.Marks.{end_of};
+ghost use Rattle.gs_ntterm.specs.Marks.{char_end};
 
 use crate::cursor::Cursor;
 use crate::finals::Ending;
@@ -29,7 +29,7 @@ pub struct NTriplesReader {
 
 /// The number of bytes up to the end of a character.
 fn end_after_char(n: u64, c: u32) -> u64
-    ensures { result ≡ end_of n c }
+    ensures { result ≡ char_end n c }
 {
     let len = if c < 0x80 {
         1

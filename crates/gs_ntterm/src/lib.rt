@@ -11,9 +11,9 @@ mod terms;
 mod tokens;
 
 pub use classes::{
-    begins_label, is_label_char, is_line_end, is_space, is_tag_char, may_stand_in_comment,
+    begins_label, is_label_char, is_space, is_tag_char, may_stand_in_comment,
 };
-pub use escapes::{char_of, escaped, with_digit};
+pub use escapes::{char_of, with_digit};
 pub use labels::Label;
 pub use names::Name;
 pub use runs::{Between, Class, InComment, InIri, InLabel, InString, run_len};

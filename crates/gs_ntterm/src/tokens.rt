@@ -28,7 +28,7 @@ pub struct Token {
 impl Token {
     ghost use Rattle.gs_ntterm.specs.Tokens.{add, Text, Long};
     ghost use Rattle.gs_ntterm.specs.Forms.{form_of, form_after};
-    ghost use Rattle.gs_ntterm.specs.Runs.{joined};
+    ghost use Rattle.gs_ntterm.specs.Runs.{add_each};
     ghost use Rattle.gs_ntterm.specs.Views.{held_of};
 
     /// No bytes yet.
@@ -95,7 +95,7 @@ impl Token {
     /// Bytes of ASCII more.
     pub fn push_all(&mut self, bytes: &[u8]) -> Result<(), AllocError>
         requires { IsAscii bytes.now }
-        ensures { OnOk result (held_of self.new ≡ joined (held_of self.old) bytes.now) }
+        ensures { OnOk result (held_of self.new ≡ add_each (held_of self.old) bytes.now) }
     {
         if self.is_long {
             self.form = self.form.after(bytes);
