@@ -1,16 +1,17 @@
 -- What is read of a line leaves no line's end after it.
 use Rattle.std.proofs.Common.{◌≡◌, ℕ, ◌-◌, Bool, true, false, List, [], ◌∷◌, length, Option, Some, None, Result, Ok, Err}
 use Rattle.std.specs.Prelude.{◌==◌, ◌&&◌, ◌||◌, nat_le}
-use Rattle.gs_model.specs.Escapes.{is_character}
+use Rattle.gs_model.specs.Escapes.{is_character, is_hex, is_line_end, echar_meaning}
 use Rattle.std.specs.Str.{str_to_ascii_lowercase}
 use Rattle.gs_model.specs.Terms.{Term, Literal, Typed, Tagged, xsd_string, is_term, text_of}
 use Rattle.gs_model.specs.Limits.{max_term_bytes}
 use Rattle.gs_model.specs.declared.faults.Fault.{Fault}
 use Rattle.gs_ntterm.specs.Marks.{Mark}
-use Rattle.gs_ntterm.specs.Classes.{is_space, is_line_end, may_stand_in_iri, may_stand_in_string, is_hex, with_digit, is_label_char, begins_label, is_tag_char}
+use Rattle.gs_ntterm.specs.Classes.{is_space, may_stand_in_iri, may_stand_in_string, with_digit, is_label_char, begins_label, is_tag_char}
 use Rattle.gs_term.specs.Making.{made}
 use Rattle.gs_ntterm.specs.LineTerms.{typed_made}
-use Rattle.gs_ntterm.specs.Terminals.{FrontRead, ◌>>=◌, skip, before_read, Inside, Plain, Escape, Digits, escape_before, iri_after, string_after, label_goes_on, label_after, label_at, begins_part, tag_after}
+use Rattle.gs_model.specs.Faults.{◌>>=◌}
+use Rattle.gs_ntterm.specs.Terminals.{FrontRead, skip, before_read, Inside, Plain, Escape, Digits, escape_before, iri_after, string_after, label_goes_on, label_after, label_at, begins_part, tag_after}
 use Rattle.gs_ntterm.proofs.Branches.{either_way}
 use Rattle.gs_ntread.specs.Grammar.{before_text, datatype_at, caret_at, tag_at, suffix_at}
 

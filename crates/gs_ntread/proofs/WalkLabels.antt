@@ -14,14 +14,14 @@ use Rattle.gs_ntterm.specs.Terminals.{label_goes_on, label_after, label_at}
 use Rattle.gs_ntterm.specs.Labels.{add_dots}
 use Rattle.gs_ntterm.proofs.Branches.{two_ways, by_test, by_test_knowing, one_way}
 use Rattle.gs_ntread.specs.Documents.{Meant}
-use Rattle.gs_ntread.specs.States.{Stage, AtSubject, AtPredicate, AtObject, AtSuffix, AtDatatype, AtDot, AtEnd, Between, Underscore, Colon, InLabel, InDots, State, broken, sentence}
+use Rattle.gs_ntread.specs.States.{Stage, AtSubject, AtPredicate, AtObject, AtSuffix, AtDatatype, AtDot, AtEnd, Between, Underscore, Colon, InLabel, InDots, LineState, broken, sentence}
 use Rattle.gs_ntread.specs.Lines.{end_state}
 use Rattle.gs_ntread.specs.Turns.{label_turn, dotted_turn, turn}
 use Rattle.gs_ntread.specs.Machine.{dots_end, end_of_text}
 use Rattle.gs_ntread.proofs.WalkTokens.{told, follow, Stops, at_nothing, at_feed, at_return, walk_broken, after}
 
 -- where a label leads
-abbrev pub label_closed : Stage → List ℕ → State
+abbrev pub label_closed : Stage → List ℕ → LineState
 label_closed AtSubject t = (AtPredicate (Labelled t), Between)
 label_closed (AtObject s p) t = (AtDot s p (Labelled t), Between)
 label_closed (AtPredicate s) t = broken Syntax

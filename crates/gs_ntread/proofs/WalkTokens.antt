@@ -2,28 +2,28 @@
 use Rattle.std.proofs.Common.{◌≡◌, ℕ, ◌-◌, List, [], ◌∷◌, ◌++◌, refl, sym, ap, ◌∙◌, append_assoc, append-nil, Some, None, Ok, Err}
 use Rattle.std.specs.Prelude.{◌==◌}
 use Rattle.std.specs.Char.{encode_utf8}
-use Rattle.gs_model.specs.Escapes.{is_character}
+use Rattle.gs_model.specs.Escapes.{is_character, is_hex, echar_meaning}
 use Rattle.gs_machine.specs.Machines.{joined, rest}
 use Rattle.gs_model.specs.declared.faults.Fault.{Fault}
 use Rattle.gs_model.specs.declared.faults.Fault.TheVariants.{Syntax}
 use Rattle.gs_body.specs.Bodies.{Faulty}
 use Rattle.gs_ntterm.specs.Marks.{Mark}
-use Rattle.gs_ntterm.specs.Classes.{may_stand_in_iri, may_stand_in_string, is_hex, with_digit}
+use Rattle.gs_ntterm.specs.Classes.{may_stand_in_iri, may_stand_in_string, with_digit}
 use Rattle.gs_ntterm.specs.Terminals.{FrontRead, before_read, Inside, Plain, Escape, Digits, escape_before, iri_after, string_after}
 use Rattle.gs_ntterm.specs.Tokens.{Held, hold}
 use Rattle.gs_ntterm.proofs.Branches.{two_ways}
 use Rattle.gs_ntterm.proofs.Holding.{add-hold}
 use Rattle.gs_ntread.specs.Documents.{Meant}
-use Rattle.gs_ntread.specs.States.{Stage, InIri, InString, State, Turn, broken}
+use Rattle.gs_ntread.specs.States.{Stage, InIri, InString, LineState, LineTurn, broken}
 use Rattle.gs_ntread.specs.Lines.{iri_closed, string_closed}
 use Rattle.gs_ntread.specs.Turns.{escape_turn}
 use Rattle.gs_ntread.specs.Machine.{reading}
 
 -- what is said from a state
-abbrev pub told : State → List Mark → Meant
+abbrev pub told : LineState → List Mark → Meant
 told s x = rest reading s x
 
-abbrev pub follow : Turn → List Mark → Meant
+abbrev pub follow : LineTurn → List Mark → Meant
 follow t x = joined t.1 (told t.0 x)
 
 -- nothing, or a line's end and more
@@ -38,15 +38,15 @@ walk_broken e [] = refl
 walk_broken e (m ∷ ms) = walk_broken e ms
 
 -- the state after a token that is held
-abbrev pub closes : (Held → State) → List ℕ → State
+abbrev pub closes : (Held → LineState) → List ℕ → LineState
 closes close t = close (hold t)
 
 -- after a token that was read up to its end
-abbrev pub after : (List ℕ → State) → List Mark → List ℕ → FrontRead (List ℕ) → Meant
+abbrev pub after : (List ℕ → LineState) → List Mark → List ℕ → FrontRead (List ℕ) → Meant
 after close tail t (Err e) = ([], Faulty e)
 after close tail t (Ok r) = told (close (t ++ r.0)) (r.1 ++ tail)
 
-pub after-before_read : (close : List ℕ → State) (tail : List Mark) (t : List ℕ) (c : ℕ) (r : FrontRead (List ℕ))
+pub after-before_read : (close : List ℕ → LineState) (tail : List Mark) (t : List ℕ) (c : ℕ) (r : FrontRead (List ℕ))
     → after close tail (t ++ encode_utf8 c) r ≡ after close tail t (before_read c r)
 after-before_read close tail t c (Err e) = refl
 after-before_read close tail t c (Ok r) = ap (λ z. told (close z) (r.1 ++ tail)) (append_assoc t (encode_utf8 c) r.0)
@@ -89,7 +89,7 @@ walk_iri g (Digits l v) t (m ∷ ms) tail s =
     (walk_broken Syntax (ms ++ tail))
 
 pub cut_string : (g : Stage) (v : Inside) (h : Held) (tail : List Mark) → Stops tail → told (g, InString v h) tail ≡ ([], Faulty Syntax)
-unfolding rest
+unfolding rest echar_meaning
 cut_string g v h [] at_nothing = refl
 cut_string g Plain h _ (at_feed n ms) = walk_broken Syntax ms
 cut_string g Escape h _ (at_feed n ms) = walk_broken Syntax ms

@@ -14,11 +14,12 @@ pub enum Scheme {
     Broken,
 }
 
-/// How far a language tag has been read: whether digits may stand in its part, and whether the
-/// part has begun.
+/// How far a language tag has been read.
 #[derive(Clone, Copy)]
 pub enum Tag {
+    /// In a part: whether digits may stand in it, and whether it has begun.
     Part(bool, bool),
+    /// The bytes are no language tag, and begin none.
     Broken,
 }
 

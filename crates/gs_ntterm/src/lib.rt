@@ -5,6 +5,7 @@ mod classes;
 mod escapes;
 mod forms;
 mod labels;
+mod laws;
 mod names;
 mod runs;
 mod terms;
@@ -15,6 +16,7 @@ pub use classes::{
 };
 pub use escapes::{char_of, with_digit};
 pub use labels::Label;
+pub use laws::digits_make_the_number;
 pub use names::Name;
 pub use runs::{Between, Class, InComment, InIri, InLabel, InString, run_len};
 pub use terms::{iri, plain, tagged, typed};

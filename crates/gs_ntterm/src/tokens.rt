@@ -20,8 +20,11 @@ pub fn push_ascii(text: &mut String, bytes: &[u8]) -> Result<(), AllocError>
 /// The bytes of a token so far, of which only the form is kept where no term has room for them.
 #[derive(Drop)]
 pub struct Token {
+    /// All bytes so far, as long as a term has room for them.
     pub text: String,
+    /// No term has room for the bytes.
     pub is_long: bool,
+    /// The form of all bytes so far, where no term has room for them.
     pub form: Form,
 }
 
@@ -67,7 +70,8 @@ impl Token {
         self.is_long = true;
     }
 
-    /// A character more of a token that is not held; its bytes take the place of the text.
+    /// Takes a character of a token for which no term has room: the form goes on with its bytes. The
+    /// text is needed no more, and serves as the room in which the character is encoded.
     fn follow(&mut self, c: char) -> Result<(), AllocError>
         requires { self.old.is_long ≡ true }
         ensures { OnOk result (held_of self.new ≡ Long (form_after self.old.form (encode_utf8 c))) }
