@@ -17,7 +17,7 @@ use Rattle.gs_ntread.specs.Documents.{one_statement, term_of, line_stated}
 use Rattle.gs_ntread.specs.States.{TokenMode, InLabel, InDots, InTag, Hyphen, LineState, LineTurn}
 use Rattle.gs_ntread.specs.Lines.{dot_next, iri_closed}
 use Rattle.gs_ntread.specs.Runs.{RunsTo}
-use Rattle.gs_ntread.specs.Turns.{turn, iri_turn, string_turn, dotted_turn}
+use Rattle.gs_ntread.specs.Turns.{turn, iri_numbered, string_numbered, iri_turn, string_turn, dotted_turn}
 use Rattle.gs_ntread.specs.Machine.{dots_end}
 use Rattle.gs_ntread.specs.Views.{shown, settled, stage_at, cursor_state, subject_of, sentence_of, sentences_of, ending_of}
 use Rattle.gs_ntread.specs.declared.cursor.Cursor.{Cursor}
@@ -50,6 +50,14 @@ iri_turn_of old v c = iri_turn v (stage_at old) (held_of old.text) c
 -- the same of a string
 abbrev pub string_turn_of : Cursor → Inside → ℕ → LineState
 string_turn_of old v c = string_turn v (stage_at old) (held_of old.text) c
+
+-- the whole number of an escape in an IRI, where a cursor stands
+abbrev pub iri_number_of : Cursor → ℕ → LineState
+iri_number_of old v = iri_numbered (stage_at old) (held_of old.text) v
+
+-- the same in a string
+abbrev pub string_number_of : Cursor → ℕ → LineState
+string_number_of old v = string_numbered (stage_at old) (held_of old.text) v
 
 -- the escape by its number so far, with so many digits to come after the next
 abbrev pub digits_so_far : Cursor → Inside

@@ -13,6 +13,14 @@ use Rattle.gs_ntterm.specs.Labels.{add_dots}
 use Rattle.gs_ntread.specs.States.{Stage, AtSubject, AtPredicate, AtObject, AtSuffix, TokenMode, Between, Comment, InIri, InString, Underscore, Colon, InLabel, InDots, Caret, AtSign, InTag, Hyphen, Broken, LineState, LineTurn, broken, no_triple, sentence}
 use Rattle.gs_ntread.specs.Lines.{end_state, at_dot, after_literal, between_turn, iri_closed, string_closed, caret_closed, string_fault}
 
+-- the whole number of an escape in an IRI
+abbrev pub iri_numbered : Stage → Held → ℕ → LineState
+iri_numbered g h v = if may_stand_in_iri v then (g, InIri Plain (add h (encode_utf8 v))) else broken Syntax
+
+-- the whole number of an escape in a string
+abbrev pub string_numbered : Stage → Held → ℕ → LineState
+string_numbered g h v = if is_character v then (g, InString Plain (add h (encode_utf8 v))) else broken Syntax
+
 -- a character of an IRI
 abbrev pub iri_turn : Inside → Stage → Held → ℕ → LineState
 iri_turn Plain g h c =
@@ -26,9 +34,7 @@ iri_turn Escape g h c =
     else broken Syntax
 iri_turn (Digits left value) g h c =
     if is_hex c then
-    (if left == 0 then
-    (if may_stand_in_iri (with_digit value c) then (g, InIri Plain (add h (encode_utf8 (with_digit value c)))) else broken Syntax)
-    else (g, InIri (Digits (left - 1) (with_digit value c)) h))
+    (if left == 0 then iri_numbered g h (with_digit value c) else (g, InIri (Digits (left - 1) (with_digit value c)) h))
     else broken Syntax
 
 -- what an escape in a string means
@@ -49,9 +55,7 @@ string_turn Escape g h c =
     else escape_turn g h (echar_meaning c)
 string_turn (Digits left value) g h c =
     if is_hex c then
-    (if left == 0 then
-    (if is_character (with_digit value c) then (g, InString Plain (add h (encode_utf8 (with_digit value c)))) else broken Syntax)
-    else (g, InString (Digits (left - 1) (with_digit value c)) h))
+    (if left == 0 then string_numbered g h (with_digit value c) else (g, InString (Digits (left - 1) (with_digit value c)) h))
     else broken Syntax
 
 -- a character after a label

@@ -5,7 +5,7 @@ ghost use Rattle.gs_ntterm.specs.Labels.{label_of};
 ghost use Rattle.gs_ntterm.specs.Views.{held_of};
 ghost use Rattle.gs_ntread.specs.States.{no_triple, Colon, Comment};
 ghost use Rattle.gs_ntread.specs.Views.{cursor_state};
-ghost use Rattle.gs_ntread.specs.Clauses.{AnswersTurn, digits_so_far, dots_so_far, iri_turn_of, label_so_far, string_turn_of, turn_in};
+ghost use Rattle.gs_ntread.specs.Clauses.{AnswersTurn, digits_so_far, dots_so_far, iri_number_of, iri_turn_of, label_so_far, string_number_of, string_turn_of, turn_in};
 ghost use Rattle.gs_ntread.specs.declared.parts.Within.TheVariants as within;
 
 use crate::cursor::Cursor;
@@ -49,6 +49,20 @@ impl Cursor {
         }
     }
 
+    /// The last digit of an escape in an IRI has come, which makes this number.
+    fn iri_number(&mut self, value: u64) -> Result<(), AllocError>
+        ensures { OnOk result (cursor_state self.new ≡ iri_number_of self.old value) }
+    {
+        match char_of(value) {
+            Some(meant) if is_iri_char(meant) => {
+                self.within = Within::Iri;
+                self.text.push(meant)?;
+            }
+            _ => self.break_off(),
+        }
+        Ok(())
+    }
+
     /// A digit of an escape in an IRI.
     pub fn iri_digit(&mut self, c: u32) -> Result<(), AllocError>
         requires { self.old.within ≡ within.IriDigits }
@@ -63,14 +77,7 @@ impl Cursor {
             self.value = value;
             return Ok(());
         }
-        match char_of(value) {
-            Some(meant) if is_iri_char(meant) => {
-                self.within = Within::Iri;
-                self.text.push(meant)?;
-            }
-            _ => self.break_off(),
-        }
-        Ok(())
+        self.iri_number(value)
     }
 
     /// A character of a string.
@@ -118,6 +125,20 @@ impl Cursor {
         Ok(())
     }
 
+    /// The last digit of an escape in a string has come, which makes this number.
+    fn string_number(&mut self, value: u64) -> Result<(), AllocError>
+        ensures { OnOk result (cursor_state self.new ≡ string_number_of self.old value) }
+    {
+        match char_of(value) {
+            Some(meant) => {
+                self.within = Within::Quoted;
+                self.text.push(meant)?;
+            }
+            None => self.break_off(),
+        }
+        Ok(())
+    }
+
     /// A digit of an escape in a string.
     pub fn string_digit(&mut self, c: u32) -> Result<(), AllocError>
         requires { self.old.within ≡ within.QuotedDigits }
@@ -132,14 +153,7 @@ impl Cursor {
             self.value = value;
             return Ok(());
         }
-        match char_of(value) {
-            Some(meant) => {
-                self.within = Within::Quoted;
-                self.text.push(meant)?;
-            }
-            None => self.break_off(),
-        }
-        Ok(())
+        self.string_number(value)
     }
 
     /// The first character of a label.
