@@ -1,5 +1,5 @@
 -- What a body says: its complete statements, each with its end, and how it ends.
-use Rattle.std.specs.Prelude.{◌≡◌, ℕ, List, [], ◌∷◌}
+use Rattle.std.specs.Prelude.{◌≡◌, ℕ, List, [], ◌∷◌, Vec}
 use Rattle.std.specs.List.{flat_map}
 use Rattle.gs_model.specs.Triples.{RdfTriple}
 use Rattle.gs_model.specs.declared.faults.Fault.{Fault}
@@ -42,3 +42,7 @@ Reports refusal.TermTooLong r = r.1 ≡ Faulty fault.TermTooLong
 Reports refusal.NoMemory r = Unit {0}
 Reports refusal.Closed r = Unit {0}
 Reports other r = ⊥
+
+-- the text of these pieces, one after another
+abbrev pub whole_text : {Z : Type 0} → List (Vec ℕ Z) → List ℕ
+whole_text pieces = flat_map (λ piece. piece.items) pieces

@@ -1,9 +1,10 @@
 -- What one call of a reader does, in the words of its trait.
-use Rattle.std.specs.Prelude.{◌≡◌, ℕ, List, ◌++◌}
+use Rattle.std.specs.Prelude.{◌≡◌, ℕ, List, ◌++◌, Vec, Result, OnOk}
 use Rattle.gs_model.specs.Triples.{RdfTriple}
+use Rattle.gs_model.specs.declared.refusals.Refusal.{Refusal}
 use Rattle.gs_machine.specs.Machines.{AreSettled, Begins}
 use Rattle.gs_machine.specs.Utf8.{IsLongestFront}
-use Rattle.gs_body.specs.Bodies.{Meaning, Whole, triples_of}
+use Rattle.gs_body.specs.Bodies.{Meaning, Whole, Reports, triples_of}
 
 -- A piece was fed: the list grew by some triples. With them a reader of x that had given ts has given just the
 -- triples of the complete statements: of the longest front of the text so far that ends between two characters, all
@@ -23,3 +24,17 @@ pub record Finishes {R : Type 0} (meaning_of : R → List ℕ → Meaning) (Lead
   pub grown : after ≡ before ++ given
   pub whole : (x : List ℕ) (ts : List RdfTriple) → Leads old x ts → (meaning_of old x).1 ≡ Whole
   pub all : (x : List ℕ) (ts : List RdfTriple) → Leads old x ts → triples_of (meaning_of old x).0 ≡ ts ++ given
+
+-- a call that fed a piece, if it was not refused: a list of triples grew as `Feeds` says
+abbrev pub FedInto : {R E Y Z : Type 0} → (R → List ℕ → Meaning) → (R → List ℕ → List RdfTriple → Type 0) → (old new : R) → List ℕ
+    → (before after : Vec RdfTriple Z) → Result Y E → Type 0
+FedInto meaning_of Leads old new piece before after answer = OnOk answer (Feeds meaning_of Leads old new piece before.items after.items)
+
+-- a refusal of a piece reports the fault of each text that goes on with it, whatever comes then
+abbrev pub IsFaultOn : {R : Type 0} → (R → List ℕ → Meaning) → (R → List ℕ → List RdfTriple → Type 0) → R → List ℕ → Refusal → Type 0
+IsFaultOn meaning_of Leads old piece e =
+    (x : List ℕ) (ts : List RdfTriple) → Leads old x ts → (y : List ℕ) → Reports e (meaning_of old (x ++ piece ++ y))
+
+-- a refusal at the end reports the fault of the text
+abbrev pub IsFaultAtEnd : {R : Type 0} → (R → List ℕ → Meaning) → (R → List ℕ → List RdfTriple → Type 0) → R → Refusal → Type 0
+IsFaultAtEnd meaning_of Leads old e = (x : List ℕ) (ts : List RdfTriple) → Leads old x ts → Reports e (meaning_of old x)

@@ -1,5 +1,5 @@
 //! Readers of bodies.
-ghost use Rattle.std.specs.Prelude.{◌≡◌, ◌++◌, ◌↔◌, ℕ, List, Bool, true, false, OnOk, OnErr, IfErr};
+ghost use Rattle.std.specs.Prelude.{◌≡◌, ◌↔◌, ℕ, List, Bool, true, false, OnOk, OnErr, IfErr};
 ghost use Rattle.gs_model.specs.Triples.{RdfTriple};
 ghost use Rattle.gs_body.specs.Bodies.{Meaning};
 
@@ -12,8 +12,7 @@ use gs_term::Triple;
 /// Where no call was refused for memory, a fault is reported by `finish` at the latest, with the
 /// kind and the place of the first fault of the whole text, for every cutting.
 pub trait BodyReader {
-    ghost use Rattle.gs_body.specs.Bodies.{Reports};
-    ghost use Rattle.gs_body.specs.Feeding.{Feeds, Finishes};
+    ghost use Rattle.gs_body.specs.Feeding.{FedInto, Finishes, IsFaultOn, IsFaultAtEnd};
 
     // What a whole text says.
     ghost meaning_of: { Self → List ℕ → Meaning };
@@ -29,9 +28,9 @@ pub trait BodyReader {
     /// two characters. A statement that only the first bytes of the next character would complete is
     /// given once that character ends.
     fn feed(&mut self, piece: &[u8], triples: &mut Vec<Triple>) -> Result<(), Refusal>
-        ensures given { OnOk result (Feeds meaning_of Leads self.old self.new piece.now triples.old.items triples.new.items) }
+        ensures given { FedInto meaning_of Leads self.old self.new piece.now triples.old triples.new result }
         // The text has that fault, however it goes on.
-        ensures fault { IfErr result (λ e. (x : List ℕ) (ts : List RdfTriple) → Leads self.old x ts → (y : List ℕ) → Reports e (meaning_of self.old (x ++ piece.now ++ y))) }
+        ensures fault { IfErr result (λ e. IsFaultOn meaning_of Leads self.old piece.now e) }
         ensures kept { OnErr result (triples.new.items ≡ triples.old.items) }
         ensures refused { OnErr result (is_closed self.new ≡ true) }
         ensures open_still { OnOk result (is_closed self.new ≡ false) }
@@ -41,7 +40,7 @@ pub trait BodyReader {
     /// The text ends: appends the triples that are complete by that.
     fn finish(&mut self, triples: &mut Vec<Triple>) -> Result<(), Refusal>
         ensures given { OnOk result (Finishes meaning_of Leads self.old triples.old.items triples.new.items) }
-        ensures fault { IfErr result (λ e. (x : List ℕ) (ts : List RdfTriple) → Leads self.old x ts → Reports e (meaning_of self.old x)) }
+        ensures fault { IfErr result (λ e. IsFaultAtEnd meaning_of Leads self.old e) }
         ensures kept { OnErr result (triples.new.items ≡ triples.old.items) }
         ensures ended { is_closed self.new ≡ true }
         ensures closed { (result ≡ Err Refusal.Closed) ↔ (is_closed self.old ≡ true) };

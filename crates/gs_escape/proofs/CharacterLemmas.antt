@@ -10,7 +10,7 @@ use Rattle.gs_model.specs.Characters.{is_iri_char}
 use Rattle.gs_iri.proofs.AbsoluteLemmas.{absolute_encodes, from_both}
 use Rattle.gs_escape.specs.declared.forms.Form.TheVariants as form
 use Rattle.gs_escape.specs.Escapes.{Escape, uchar, iri_escape}
-use Rattle.gs_escape.specs.Meanings.{before, unescaped, meaning}
+use Rattle.gs_escape.specs.Meanings.{meant_after, unescaped, meaning}
 use Rattle.gs_escape.specs.Tokens.{between, iri_of}
 
 abbrev AllIri : List ℕ → Type 0
@@ -24,7 +24,7 @@ iri_encode c = absolute_encodes (97 ∷ 58 ∷ c ∷ [])
 all_encode : (c : ℕ) → is_iri_char c ≡ true → AllIri (encode_utf8 c)
 all_encode c h = ap (list_all is_iri_char) (sym (append-nil (encode c))) ∙ iri_encode c ∙ and-true (is_iri_char c) ∙ h
 
-all_before : (u : List ℕ) (m : Option (List ℕ)) (v : List ℕ) → AllIri u → ((w : List ℕ) → m ≡ Some w → AllIri w) → before u m ≡ Some v → AllIri v
+all_before : (u : List ℕ) (m : Option (List ℕ)) (v : List ℕ) → AllIri u → ((w : List ℕ) → m ≡ Some w → AllIri w) → meant_after u m ≡ Some v → AllIri v
 all_before u None v h ih e = absurd (cc)
 all_before u (Some w) v h ih e =
     let same : u ++ w ≡ v = cc in
@@ -43,12 +43,12 @@ unfolding iri_escape
 iri_escape_char x e k = escape_kept (uchar x) e k
 
 all_escaped : (cs : List ℕ) (o : Option Escape) (v : List ℕ) → iri_escape cs ≡ o → ((n : ℕ) (w : List ℕ) → unescaped form.IriRef n cs ≡ Some w → AllIri w)
-    → option_and_then (λ e. before (encode_utf8 e.0) (unescaped form.IriRef e.1 cs)) o ≡ Some v → AllIri v
+    → option_and_then (λ e. meant_after (encode_utf8 e.0) (unescaped form.IriRef e.1 cs)) o ≡ Some v → AllIri v
 all_escaped cs None v h ih e = absurd (cc)
 all_escaped cs (Some d) v h ih e = all_before (encode_utf8 d.0) (unescaped form.IriRef d.1 cs) v (all_encode d.0 (iri_escape_char cs d h)) (ih d.1) e
 
 all_first : (c : ℕ) (cs v : List ℕ) (a b : Bool) → is_iri_char c ≡ a → ((n : ℕ) (w : List ℕ) → unescaped form.IriRef n cs ≡ Some w → AllIri w)
-    → cond a (before (c ∷ []) (unescaped form.IriRef 0 cs)) (cond b (option_and_then (λ e. before (encode_utf8 e.0) (unescaped form.IriRef e.1 cs)) (iri_escape cs)) None) ≡ Some v → AllIri v
+    → cond a (meant_after (c ∷ []) (unescaped form.IriRef 0 cs)) (cond b (option_and_then (λ e. meant_after (encode_utf8 e.0) (unescaped form.IriRef e.1 cs)) (iri_escape cs)) None) ≡ Some v → AllIri v
 all_first c cs v true b h ih e = all_before (c ∷ []) (unescaped form.IriRef 0 cs) v (from_both h refl) (ih 0) e
 all_first c cs v false true h ih e = all_escaped cs (iri_escape cs) v refl ih e
 all_first c cs v false false h ih e = absurd (cc)

@@ -9,10 +9,11 @@ use Rattle.std.proofs.lemmas.Str.{IsCharBoundary-after_ascii}
 use Rattle.std.proofs.lemmas.Bool.Decides.{nat_tests}
 use lib.Utf8.{scalar}
 use Rattle.gs_model.specs.Characters.{is_iri_char}
-use Rattle.gs_lex.specs.Classes.{is_hex, is_local_escape}
+use Rattle.gs_model.specs.Escapes.{is_hex, hex_number, echar_meaning}
+use Rattle.gs_lex.specs.Classes.{is_local_escape}
 use Rattle.gs_escape.specs.declared.forms.Form.{Form}
 use Rattle.gs_escape.specs.declared.forms.Form.TheVariants as form
-use Rattle.gs_escape.specs.Escapes.{Escape, hex_number, numbered, uchar, echar_meaning, single, echar, local_escape, iri_escape, string_escape, escape}
+use Rattle.gs_escape.specs.Escapes.{Escape, numbered, uchar, single, echar, local_escape, iri_escape, string_escape, escape}
 
 -- the last of n bytes stands in the text, and is ASCII
 pub record Ends (x : List ℕ) (n : ℕ) : Type 0 where

@@ -3,7 +3,8 @@ use Rattle.std.proofs.Common.{◌≡◌, [], ◌∷◌, ◌++◌, refl}
 use Rattle.std.specs.Prelude.{codes, Some, None}
 use Rattle.std.specs.Str.{is_utf8, chars}
 use lib.Utf8.{encode}
-use Rattle.gs_escape.specs.Escapes.{hex_number, numbered, uchar, echar_meaning, echar, local_escape, iri_escape, string_escape}
+use Rattle.gs_model.specs.Escapes.{hex_number, echar_meaning}
+use Rattle.gs_escape.specs.Escapes.{numbered, uchar, echar, local_escape, iri_escape, string_escape}
 use Rattle.gs_escape.specs.Meanings.{stands_short, stands_long, stands_local, unescaped}
 use Rattle.gs_escape.specs.Tokens.{between, quoted, iri_of, string_of, local_of, parts_of}
 

@@ -1,6 +1,6 @@
 -- The number of hexadecimal digits, and its bound.
-use Rattle.std.proofs.Common.{◌≡◌, ℕ, ◌+◌, ◌*◌, ◌^◌, ◌<◌, ◌≤◌, List, [], length, take, get_or, refl, sym, ap, ◌∙◌, arith, true, false, ◌&&◌}
-use Rattle.std.specs.Prelude.{nat_lt}
+use Rattle.std.proofs.Common.{◌≡◌, ℕ, cond, ◌+◌, ◌*◌, ◌^◌, ◌<◌, ◌≤◌, List, [], length, take, get_or, refl, sym, ap, ◌∙◌, arith, true, false, ◌&&◌}
+use Rattle.std.specs.Prelude.{Bool, Option, Some, None, if◌then◌else◌}
 use Rattle.std.specs.Char.{digit_value}
 use Rattle.std.proofs.Math.Nat.{pow-le-pow_right}
 use Rattle.std.proofs.lemmas.Grind.{pow_more}
@@ -8,8 +8,7 @@ use Rattle.std.proofs.lemmas.List.Sums.{fold_more}
 use Rattle.std.proofs.lemmas.Bool.Decides.{nat_tests}
 use Rattle.std.specs.List.{list_all}
 use Rattle.std.proofs.lemmas.List.Folds.{list_all_more, list_all_at}
-use Rattle.gs_lex.specs.Classes.{is_hex}
-use Rattle.gs_escape.specs.Escapes.{hex_number}
+use Rattle.gs_model.specs.Escapes.{is_hex, hex_number}
 
 pub hex_number-nil : hex_number [] ≡ 0
 unfolding hex_number
@@ -32,26 +31,27 @@ bound_room v n h k =
     let q : 16 ^ n ≤ 16 ^ 7 = pow-le-pow_right p m in
     omega (arith, q)
 
--- a hexadecimal digit has a value below sixteen, and no other byte has
-pub hex_value : (c : ℕ) → is_hex c ≡ nat_lt (digit_value c) 16
-hex_value c = grind (arith, nat_tests)
+-- a byte that has a value as a digit, and one that has none
+pub digit_some : (c d : ℕ) → Some d ≡ (if is_hex c then Some (digit_value c) else None) → (is_hex c ≡ true) × (d ≡ digit_value c)
+digit_some c d h = by_test (is_hex c) refl
+  where
+    by_test : (b : Bool) → is_hex c ≡ b → (is_hex c ≡ true) × (d ≡ digit_value c)
+    by_test true e = let k : Some d ≡ Some (digit_value c) = h ∙ ap (λ b. cond b (Some (digit_value c)) None) e in (e, let p : d ≡ digit_value c = cc in p)
+    by_test false e = let k : Some d ≡ None = h ∙ ap (λ b. cond b (Some (digit_value c)) None) e in absurd (cc)
 
-ltb-from_lt : (a b : ℕ) → a < b → nat_lt a b ≡ true
-ltb-from_lt a b h = grind (arith, nat_tests)
+pub digit_none : (c : ℕ) → None ≡ (if is_hex c then Some (digit_value c) else None) → is_hex c ≡ false
+digit_none c h = by_test (is_hex c) refl
+  where
+    by_test : (b : Bool) → is_hex c ≡ b → is_hex c ≡ false
+    by_test true e = let k : None ≡ Some (digit_value c) = h ∙ ap (λ b. cond b (Some (digit_value c)) None) e in absurd (cc)
+    by_test false e = e
 
-ltb-from_not : (a b : ℕ) → ¬ (a < b) → nat_lt a b ≡ false
-ltb-from_not a b h = grind (arith, nat_tests)
+pub digit_small : (c : ℕ) → is_hex c ≡ true → digit_value c < 16
+digit_small c h = grind (arith, nat_tests)
 
 -- one digit more, and one byte that is none
-pub all_more : (ds : List ℕ) (i c : ℕ) → i < length ds → c ≡ get_or ds i 0 → digit_value c < 16 → list_all is_hex (take i ds) ≡ true → list_all is_hex (take (i + 1) ds) ≡ true
-all_more ds i c h e l k =
-    list_all_more is_hex ds i 0 h
-    ∙ ap (λ b. b && is_hex (get_or ds i 0)) k
-    ∙ sym (ap is_hex e)
-    ∙ hex_value c
-    ∙ ltb-from_lt (digit_value c) 16 l
+pub all_more : (ds : List ℕ) (i c : ℕ) → i < length ds → c ≡ get_or ds i 0 → is_hex c ≡ true → list_all is_hex (take i ds) ≡ true → list_all is_hex (take (i + 1) ds) ≡ true
+all_more ds i c h e l k = list_all_more is_hex ds i 0 h ∙ ap (λ b. b && is_hex (get_or ds i 0)) k ∙ sym (ap is_hex e) ∙ l
 
-pub all_not : (ds : List ℕ) (i c : ℕ) → i < length ds → c ≡ get_or ds i 0 → ¬ (digit_value c < 16) → list_all is_hex ds ≡ false
-all_not ds i c h e l =
-    let no : is_hex (get_or ds i 0) ≡ false = sym (ap is_hex e) ∙ hex_value c ∙ ltb-from_not (digit_value c) 16 l in
-    list_all_at is_hex ds i 0 h no
+pub all_not : (ds : List ℕ) (i c : ℕ) → i < length ds → c ≡ get_or ds i 0 → is_hex c ≡ false → list_all is_hex ds ≡ false
+all_not ds i c h e l = list_all_at is_hex ds i 0 h (sym (ap is_hex e) ∙ l)

@@ -6,20 +6,20 @@ use Rattle.std.specs.Str.{IsUtf8, is_utf8}
 use Rattle.std.proofs.lemmas.Str.{IsUtf8-from_is_utf8, is_utf8-from_IsUtf8}
 use Rattle.gs_escape.specs.declared.forms.Form.{Form}
 use Rattle.gs_escape.specs.Escapes.{Escape, escape}
-use Rattle.gs_escape.specs.Meanings.{stands, before, unescaped, meaning}
+use Rattle.gs_escape.specs.Meanings.{stands, meant_after, unescaped, meaning}
 use Rattle.gs_escape.specs.Runs.{run_of, front_escape}
 
-pub before-before : (u v : List ℕ) (m : Option (List ℕ)) → before u (before v m) ≡ before (u ++ v) m
-before-before u v None = refl
-before-before u v (Some w) = ap Some (sym (append_assoc u v w))
+pub meant_after-meant_after : (u v : List ℕ) (m : Option (List ℕ)) → meant_after u (meant_after v m) ≡ meant_after (u ++ v) m
+meant_after-meant_after u v None = refl
+meant_after-meant_after u v (Some w) = ap Some (sym (append_assoc u v w))
 
-before-nil : (m : Option (List ℕ)) → before [] m ≡ m
-before-nil None = refl
-before-nil (Some w) = refl
+meant_after-nil : (m : Option (List ℕ)) → meant_after [] m ≡ m
+meant_after-nil None = refl
+meant_after-nil (Some w) = refl
 
-pub is_some-before : (u : List ℕ) (m : Option (List ℕ)) → is_some (before u m) ≡ is_some m
-is_some-before u None = refl
-is_some-before u (Some w) = refl
+pub is_some-meant_after : (u : List ℕ) (m : Option (List ℕ)) → is_some (meant_after u m) ≡ is_some m
+is_some-meant_after u None = refl
+is_some-meant_after u (Some w) = refl
 
 -- the bytes of an escape are passed over
 unescaped-drop : (f : Form) (n : ℕ) (x : List ℕ) → unescaped f n x ≡ unescaped f 0 (drop n x)
@@ -30,26 +30,26 @@ unescaped-drop f (suc n) (c ∷ cs) = unescaped-drop f n cs
 
 -- what an escape at the front gives, with the text after it
 abbrev pub step : Form → Option (ℕ × List ℕ) → Option (List ℕ)
-step f o = option_and_then (λ e. before (encode_utf8 e.0) (unescaped f 0 e.1)) o
+step f o = option_and_then (λ e. meant_after (encode_utf8 e.0) (unescaped f 0 e.1)) o
 
 taken : (f : Form) (cs : List ℕ) (o : Option Escape)
-    → option_and_then (λ e. before (encode_utf8 e.0) (unescaped f e.1 cs)) o ≡ step f (option_map (λ e. (e.0, drop e.1 cs)) o)
+    → option_and_then (λ e. meant_after (encode_utf8 e.0) (unescaped f e.1 cs)) o ≡ step f (option_map (λ e. (e.0, drop e.1 cs)) o)
 taken f cs None = refl
-taken f cs (Some e) = ap (before (encode_utf8 e.0)) (unescaped-drop f e.1 cs)
+taken f cs (Some e) = ap (meant_after (encode_utf8 e.0)) (unescaped-drop f e.1 cs)
 
 unescaped-stop : (f : Form) (c : ℕ) (cs : List ℕ) → stands f c cs ≡ false → unescaped f 0 (c ∷ cs) ≡ step f (front_escape f (c ∷ cs))
 unfolding unescaped front_escape
 unescaped-stop f c cs h =
-    ap (λ b. cond b (before (c ∷ []) (unescaped f 0 cs)) (cond (c == 92) (option_and_then (λ e. before (encode_utf8 e.0) (unescaped f e.1 cs)) (escape f cs)) None)) h
-    ∙ elim (c == 92) as (λ b. cond b (option_and_then (λ e. before (encode_utf8 e.0) (unescaped f e.1 cs)) (escape f cs)) None ≡ step f (cond b (option_map (λ e. (e.0, drop e.1 cs)) (escape f cs)) None)) [
+    ap (λ b. cond b (meant_after (c ∷ []) (unescaped f 0 cs)) (cond (c == 92) (option_and_then (λ e. meant_after (encode_utf8 e.0) (unescaped f e.1 cs)) (escape f cs)) None)) h
+    ∙ elim (c == 92) as (λ b. cond b (option_and_then (λ e. meant_after (encode_utf8 e.0) (unescaped f e.1 cs)) (escape f cs)) None ≡ step f (cond b (option_map (λ e. (e.0, drop e.1 cs)) (escape f cs)) None)) [
       | true ↦ taken f cs (escape f cs)
       | false ↦ refl
     ]
 
-unescaped-plain : (f : Form) (c : ℕ) (cs : List ℕ) → stands f c cs ≡ true → unescaped f 0 (c ∷ cs) ≡ before (c ∷ []) (unescaped f 0 cs)
+unescaped-plain : (f : Form) (c : ℕ) (cs : List ℕ) → stands f c cs ≡ true → unescaped f 0 (c ∷ cs) ≡ meant_after (c ∷ []) (unescaped f 0 cs)
 unfolding unescaped
 unescaped-plain f c cs h =
-    ap (λ b. cond b (before (c ∷ []) (unescaped f 0 cs)) (cond (c == 92) (option_and_then (λ e. before (encode_utf8 e.0) (unescaped f e.1 cs)) (escape f cs)) None)) h
+    ap (λ b. cond b (meant_after (c ∷ []) (unescaped f 0 cs)) (cond (c == 92) (option_and_then (λ e. meant_after (encode_utf8 e.0) (unescaped f e.1 cs)) (escape f cs)) None)) h
 
 run_of-plain : (f : Form) (c : ℕ) (cs : List ℕ) → stands f c cs ≡ true → run_of f (c ∷ cs) ≡ suc (run_of f cs)
 unfolding run_of
@@ -72,19 +72,19 @@ run_of-nil : (f : Form) → run_of f [] ≡ 0
 unfolding run_of
 run_of-nil f = refl
 
-unescaped-run : (f : Form) (x : List ℕ) → unescaped f 0 x ≡ before (take (run_of f x) x) (rest_of f (drop (run_of f x) x))
-unescaped-run f [] = unescaped-nil f ∙ sym (ap (λ n. before (take n []) (rest_of f (drop n []))) (run_of-nil f))
+unescaped-run : (f : Form) (x : List ℕ) → unescaped f 0 x ≡ meant_after (take (run_of f x) x) (rest_of f (drop (run_of f x) x))
+unescaped-run f [] = unescaped-nil f ∙ sym (ap (λ n. meant_after (take n []) (rest_of f (drop n []))) (run_of-nil f))
 unescaped-run f (c ∷ cs) =
-    elim (stands f c cs) as (λ b. stands f c cs ≡ b → unescaped f 0 (c ∷ cs) ≡ before (take (run_of f (c ∷ cs)) (c ∷ cs)) (rest_of f (drop (run_of f (c ∷ cs)) (c ∷ cs)))) [
+    elim (stands f c cs) as (λ b. stands f c cs ≡ b → unescaped f 0 (c ∷ cs) ≡ meant_after (take (run_of f (c ∷ cs)) (c ∷ cs)) (rest_of f (drop (run_of f (c ∷ cs)) (c ∷ cs)))) [
       | true ↦ λ h.
           unescaped-plain f c cs h
-          ∙ ap (before (c ∷ [])) (unescaped-run f cs)
-          ∙ before-before (c ∷ []) (take (run_of f cs) cs) (rest_of f (drop (run_of f cs) cs))
-          ∙ sym (ap (λ n. before (take n (c ∷ cs)) (rest_of f (drop n (c ∷ cs)))) (run_of-plain f c cs h))
+          ∙ ap (meant_after (c ∷ [])) (unescaped-run f cs)
+          ∙ meant_after-meant_after (c ∷ []) (take (run_of f cs) cs) (rest_of f (drop (run_of f cs) cs))
+          ∙ sym (ap (λ n. meant_after (take n (c ∷ cs)) (rest_of f (drop n (c ∷ cs)))) (run_of-plain f c cs h))
       | false ↦ λ h.
           unescaped-stop f c cs h
-          ∙ sym (before-nil (step f (front_escape f (c ∷ cs))))
-          ∙ sym (ap (λ n. before (take n (c ∷ cs)) (rest_of f (drop n (c ∷ cs)))) (run_of-stop f c cs h))
+          ∙ sym (meant_after-nil (step f (front_escape f (c ∷ cs))))
+          ∙ sym (ap (λ n. meant_after (take n (c ∷ cs)) (rest_of f (drop n (c ∷ cs)))) (run_of-stop f c cs h))
     ] refl
 
 rest_of-end : (f : Form) (y : List ℕ) → length y ≡ 0 → rest_of f y ≡ Some []
@@ -99,19 +99,19 @@ rest_of-step f (c ∷ cs) h = refl
 pub unescaped-end : (f : Form) (x plain back : List ℕ) → plain ≡ take (run_of f x) x → back ≡ drop (run_of f x) x → length back ≡ 0 → unescaped f 0 x ≡ Some plain
 unescaped-end f x plain back e g h =
     unescaped-run f x
-    ∙ ap (before (take (run_of f x) x)) (rest_of-end f (drop (run_of f x) x) (ap length (sym g) ∙ h))
+    ∙ ap (meant_after (take (run_of f x) x)) (rest_of-end f (drop (run_of f x) x) (ap length (sym g) ∙ h))
     ∙ ap Some (append-nil (take (run_of f x) x) ∙ sym e)
 
 -- an escape stands after the run, or nothing that is one
-pub unescaped-step : (f : Form) (x plain back : List ℕ) → plain ≡ take (run_of f x) x → back ≡ drop (run_of f x) x → length back ≢ 0 → unescaped f 0 x ≡ before plain (step f (front_escape f back))
+pub unescaped-step : (f : Form) (x plain back : List ℕ) → plain ≡ take (run_of f x) x → back ≡ drop (run_of f x) x → length back ≢ 0 → unescaped f 0 x ≡ meant_after plain (step f (front_escape f back))
 unescaped-step f x plain back e g h =
     unescaped-run f x
-    ∙ ap (before (take (run_of f x) x)) (rest_of-step f (drop (run_of f x) x) (λ k. h (ap length g ∙ k)))
-    ∙ ap (λ z. before (take (run_of f x) x) (step f (front_escape f z))) (sym g)
-    ∙ ap (λ z. before z (step f (front_escape f back))) (sym e)
+    ∙ ap (meant_after (take (run_of f x) x)) (rest_of-step f (drop (run_of f x) x) (λ k. h (ap length g ∙ k)))
+    ∙ ap (λ z. meant_after (take (run_of f x) x) (step f (front_escape f z))) (sym g)
+    ∙ ap (λ z. meant_after z (step f (front_escape f back))) (sym e)
 
-pub unescaped-turn : (f : Form) (x plain back : List ℕ) (c : ℕ) (y : List ℕ) → plain ≡ take (run_of f x) x → back ≡ drop (run_of f x) x → length back ≢ 0 → Some (c, y) ≡ front_escape f back → unescaped f 0 x ≡ before plain (before (encode_utf8 c) (unescaped f 0 y))
-unescaped-turn f x plain back c y e g h k = unescaped-step f x plain back e g h ∙ ap (λ o. before plain (step f o)) (sym k)
+pub unescaped-turn : (f : Form) (x plain back : List ℕ) (c : ℕ) (y : List ℕ) → plain ≡ take (run_of f x) x → back ≡ drop (run_of f x) x → length back ≢ 0 → Some (c, y) ≡ front_escape f back → unescaped f 0 x ≡ meant_after plain (meant_after (encode_utf8 c) (unescaped f 0 y))
+unescaped-turn f x plain back c y e g h k = unescaped-step f x plain back e g h ∙ ap (λ o. meant_after plain (step f o)) (sym k)
 
 none_of : (m : Option (List ℕ)) → is_some m ≡ false → m ≡ None
 none_of None h = refl
@@ -119,14 +119,14 @@ none_of (Some v) h = absurd (cc)
 
 pub unescaped-none : (f : Form) (w x plain back : List ℕ) → is_some (unescaped f 0 x) ≡ is_some (unescaped f 0 w) → plain ≡ take (run_of f x) x → back ≡ drop (run_of f x) x → length back ≢ 0 → None ≡ front_escape f back → unescaped f 0 w ≡ None
 unescaped-none f w x plain back a e g h k =
-    none_of (unescaped f 0 w) (sym a ∙ ap is_some (unescaped-step f x plain back e g h ∙ ap (λ o. before plain (step f o)) (sym k)))
+    none_of (unescaped f 0 w) (sym a ∙ ap is_some (unescaped-step f x plain back e g h ∙ ap (λ o. meant_after plain (step f o)) (sym k)))
 
 -- two texts are put, one after the other
-pub two_puts : (o0 o1 o2 u v : List ℕ) (m : Option (List ℕ)) → o1 ≡ o0 ++ u → o2 ≡ o1 ++ v → before o2 m ≡ before o0 (before u (before v m))
+pub two_puts : (o0 o1 o2 u v : List ℕ) (m : Option (List ℕ)) → o1 ≡ o0 ++ u → o2 ≡ o1 ++ v → meant_after o2 m ≡ meant_after o0 (meant_after u (meant_after v m))
 two_puts o0 o1 o2 u v m e g =
-    ap (λ z. before z m) (g ∙ ap (λ z. z ++ v) e)
-    ∙ sym (before-before (o0 ++ u) v m)
-    ∙ sym (before-before o0 u (before v m))
+    ap (λ z. meant_after z m) (g ∙ ap (λ z. z ++ v) e)
+    ∙ sym (meant_after-meant_after (o0 ++ u) v m)
+    ∙ sym (meant_after-meant_after o0 u (meant_after v m))
 
 -- the meaning of UTF-8, and of other bytes
 pub meaning_of_text : (f : Form) (x y : List ℕ) → y ≡ x → IsUtf8 x → meaning f x ≡ unescaped f 0 y

@@ -1,13 +1,13 @@
 -- What an escape means (Turtle, 25 February 2014, section 6.4, with the productions of section 6.5): the character, and
--- how many bytes the escape has after its backslash. The productions alone take each number and, in an IRI, each character: that
--- a number which no character has, and in an IRI a character which no IRI has, have no meaning is the rule of these definitions.
-use Rattle.std.specs.Prelude.{ℕ, ◌+◌, ◌*◌, ◌&&◌, ◌||◌, ◌==◌, if◌then◌else◌, List, [], ◌∷◌, Option, Some, None, length, take, fold, option_map, option_and_then}
-use Rattle.std.specs.Char.{digit_value}
+-- how many bytes the escape has after its backslash. What the letters and the digits mean is in `gs_model/specs/Escapes.antt`.
+-- The productions alone take in an IRI an escape of each character: that one of a character which no IRI has means nothing is
+-- the rule of these definitions.
+use Rattle.std.specs.Prelude.{ℕ, ◌+◌, ◌*◌, ◌&&◌, ◌||◌, ◌==◌, if◌then◌else◌, List, [], ◌∷◌, Option, Some, None, length, take, option_map, option_and_then}
 use Rattle.std.specs.List.{list_all}
 use Rattle.std.specs.Option.{option_or}
-use lib.Utf8.{scalar}
 use Rattle.gs_model.specs.Characters.{is_iri_char}
-use Rattle.gs_lex.specs.Classes.{is_hex, is_local_escape}
+use Rattle.gs_model.specs.Escapes.{small_u, big_u, is_hex, hex_number, is_character, echar_meaning}
+use Rattle.gs_lex.specs.Classes.{is_local_escape}
 use Rattle.gs_escape.specs.declared.forms.Form.{Form}
 use Rattle.gs_escape.specs.declared.forms.Form.TheVariants as form
 
@@ -15,30 +15,17 @@ use Rattle.gs_escape.specs.declared.forms.Form.TheVariants as form
 abbrev pub Escape : Type 0
 Escape = ℕ × ℕ
 
--- the number that hexadecimal digits write
-unfoldable pub hex_number : List ℕ → ℕ
-hex_number ds = fold (λ v d. v * 16 + digit_value d) 0 ds
-
--- n hexadecimal digits, and the character of their number: no surrogate, and at most 10FFFF
+-- n hexadecimal digits, where the text begins with them, and the character of their number
 unfoldable pub numbered : ℕ → List ℕ → Option Escape
 numbered n x =
-    if (length (take n x) == n && list_all is_hex (take n x)) && scalar (hex_number (take n x)) then Some (hex_number (take n x), n + 1) else None
+    if (length (take n x) == n && list_all is_hex (take n x)) && is_character (hex_number (take n x))
+    then Some (hex_number (take n x), n + 1)
+    else None
 
 -- [26] UCHAR: 'u' and four digits, or 'U' and eight
 unfoldable pub uchar : List ℕ → Option Escape
 uchar [] = None
-uchar (c ∷ cs) = if c == 117 then numbered 4 cs else if c == 85 then numbered 8 cs else None
-
--- what the letter of [159s] ECHAR means: t b n r f, or one of " ' \ itself
-unfoldable pub echar_meaning : ℕ → Option ℕ
-echar_meaning c =
-    if c == 116 then Some 9
-    else if c == 98 then Some 8
-    else if c == 110 then Some 10
-    else if c == 114 then Some 13
-    else if c == 102 then Some 12
-    else if c == 34 || c == 39 || c == 92 then Some c
-    else None
+uchar (c ∷ cs) = if c == small_u then numbered 4 cs else if c == big_u then numbered 8 cs else None
 
 -- of one byte
 abbrev pub single : ℕ → Escape

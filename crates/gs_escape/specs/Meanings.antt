@@ -2,8 +2,8 @@
 -- bytes of all other characters stand as they are.
 use Rattle.std.specs.Prelude.{ℕ, zero, suc, Bool, true, false, not, ◌||◌, ◌==◌, if◌then◌else◌, List, [], ◌∷◌, ◌++◌, Option, Some, None, option_map, option_and_then, encode_utf8}
 use Rattle.std.specs.Str.{is_utf8}
-use Rattle.gs_model.specs.Characters.{is_iri_char}
-use Rattle.gs_lex.specs.Classes.{is_line_end}
+use Rattle.gs_model.specs.Characters.{quote, backslash, is_iri_char}
+use Rattle.gs_model.specs.Escapes.{apostrophe, is_string_char}
 use Rattle.gs_escape.specs.declared.forms.Form.{Form}
 use Rattle.gs_escape.specs.declared.forms.Form.TheVariants as form
 use Rattle.gs_escape.specs.Escapes.{escape}
@@ -20,28 +20,28 @@ has_few_quotes q (c ∷ cs) = if c == q then begins_with_other q cs else true
 
 -- between single quotes of a kind: all but the quote, the backslash and the ends of lines
 unfoldable pub stands_short : ℕ → ℕ → Bool
-stands_short q c = not (c == q || c == 92 || is_line_end c)
+stands_short q c = is_string_char q c
 
 -- between triple quotes of a kind: all but the backslash and a quote that may be one of three; x is what follows
 unfoldable pub stands_long : ℕ → ℕ → List ℕ → Bool
-stands_long q c x = if c == q then has_few_quotes q x else not (c == 92)
+stands_long q c x = if c == q then has_few_quotes q x else not (c == backslash)
 
 -- a part of a name: all but the backslash
 unfoldable pub stands_local : ℕ → Bool
-stands_local c = not (c == 92)
+stands_local c = not (c == backslash)
 
 -- which bytes stand as they are, before the text x: [18] IRIREF, [22] to [25], and what [168s] PN_LOCAL does not escape
 abbrev pub stands : Form → ℕ → List ℕ → Bool
 stands form.IriRef c x = is_iri_char c
-stands form.StringLiteralQuote c x = stands_short 34 c
-stands form.StringLiteralSingleQuote c x = stands_short 39 c
-stands form.StringLiteralLongQuote c x = stands_long 34 c x
-stands form.StringLiteralLongSingleQuote c x = stands_long 39 c x
+stands form.StringLiteralQuote c x = stands_short quote c
+stands form.StringLiteralSingleQuote c x = stands_short apostrophe c
+stands form.StringLiteralLongQuote c x = stands_long quote c x
+stands form.StringLiteralLongSingleQuote c x = stands_long apostrophe c x
 stands form.Local c x = stands_local c
 
 -- with bytes before what is meant, where anything is
-abbrev pub before : List ℕ → Option (List ℕ) → Option (List ℕ)
-before v m = option_map (λ w. v ++ w) m
+abbrev pub meant_after : List ℕ → Option (List ℕ) → Option (List ℕ)
+meant_after v m = option_map (λ w. v ++ w) m
 
 -- The bytes that stand, and the characters that escapes mean, in their order. Of the text, the first n bytes belong to an
 -- escape whose character is taken.
@@ -49,8 +49,8 @@ unfoldable pub unescaped : Form → ℕ → List ℕ → Option (List ℕ)
 unescaped f n [] = Some []
 unescaped f (suc n) (c ∷ cs) = unescaped f n cs
 unescaped f zero (c ∷ cs) =
-    if stands f c cs then before (c ∷ []) (unescaped f zero cs)
-    else if c == 92 then option_and_then (λ e. before (encode_utf8 e.0) (unescaped f e.1 cs)) (escape f cs)
+    if stands f c cs then meant_after (c ∷ []) (unescaped f zero cs)
+    else if c == backslash then option_and_then (λ e. meant_after (encode_utf8 e.0) (unescaped f e.1 cs)) (escape f cs)
     else None
 
 -- what a text of this form means

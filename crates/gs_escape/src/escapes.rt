@@ -1,11 +1,12 @@
 //! What an escape means, after its backslash.
 ghost use Rattle.std.specs.Prelude.{◌≡◌, ◌≤◌, length, if◌then◌else◌};
 ghost use Rattle.std.specs.List.{list_all};
-ghost use Rattle.gs_lex.specs.Classes.{is_hex, is_local_escape as is_local_escape_of};
-ghost use Rattle.gs_escape.specs.Escapes.{hex_number, numbered as numbered_of, uchar as uchar_of, echar_meaning as echar_meaning_of, iri_escape as iri_escape_of, string_escape as string_escape_of, local_escape as local_escape_of, escape as escape_of};
+ghost use Rattle.gs_model.specs.Escapes.{is_hex, hex_number};
+ghost use Rattle.gs_lex.specs.Classes.{is_local_escape as is_local_escape_of};
+ghost use Rattle.gs_escape.specs.Escapes.{numbered as numbered_of, uchar as uchar_of, iri_escape as iri_escape_of, string_escape as string_escape_of, local_escape as local_escape_of, escape as escape_of};
 
 use crate::forms::Form;
-use gs_chars::is_iri_char;
+use gs_chars::{echar_meaning, hex_value, is_iri_char};
 
 /// The number that hexadecimal digits write.
 fn number(digits: &[u8]) -> Option<u32>
@@ -14,7 +15,7 @@ fn number(digits: &[u8]) -> Option<u32>
 {
     let mut value = 0;
     for d in digits {
-        match char::from(*d).to_digit(16) {
+        match hex_value(u32::from(*d)) {
             None => return None,
             Some(digit) => value = value * 16 + digit,
         }
@@ -47,23 +48,6 @@ fn uchar(text: &[u8]) -> Option<(char, usize)>
     match text.split_first() {
         Some((b'u', digits)) => numbered(4, digits),
         Some((b'U', digits)) => numbered(8, digits),
-        _ => None,
-    }
-}
-
-#[tactic(auto, unfolding(crate::specs::Escapes::echar_meaning))]
-fn echar_meaning(b: u8) -> Option<char>
-    ensures { result ≡ echar_meaning_of b }
-{
-    match b {
-        b't' => Some('\t'),
-        b'b' => Some('\u{8}'),
-        b'n' => Some('\n'),
-        b'r' => Some('\r'),
-        b'f' => Some('\u{C}'),
-        b'"' => Some('"'),
-        b'\'' => Some('\''),
-        b'\\' => Some('\\'),
         _ => None,
     }
 }
@@ -112,7 +96,7 @@ fn string_escape(text: &[u8]) -> Option<(char, usize)>
     let Some(first) = text.first() else {
         return None;
     };
-    match echar_meaning(*first) {
+    match echar_meaning(u32::from(*first)) {
         Some(c) => Some((c, 1)),
         None => uchar(text),
     }

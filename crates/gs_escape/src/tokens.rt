@@ -2,8 +2,8 @@
 ghost use Rattle.std.specs.Prelude.{◌≡◌, ◌==◌, Some, OnOk, OnErr, option_map, position};
 ghost use Rattle.std.specs.Option.{option_copied};
 ghost use Rattle.std.specs.String.{string_bytes};
-ghost use Rattle.gs_escape.specs.Meanings.{before};
-ghost use Rattle.gs_escape.specs.Tokens.{between as between_of, quoted as quoted_of, iri_of, string_of, local_of, parts_of, Reports};
+ghost use Rattle.gs_model.specs.Characters.{colon as colon_of};
+ghost use Rattle.gs_escape.specs.Tokens.{between as between_of, quoted as quoted_of, iri_of, string_of, local_of, parts_of, AppendsMeaning, ReportsMeaning};
 
 use crate::forms::Form;
 use crate::walks::append;
@@ -47,8 +47,8 @@ fn quoted(text: &[u8]) -> Option<(Form, &[u8])>
 /// growth.
 #[tactic(auto, unfolding(crate::specs::Tokens::iri_of))]
 pub fn iri(text: &[u8], meaning: &mut String) -> Result<(), Refusal>
-    ensures value { OnOk result (Some (string_bytes meaning.new) ≡ before (string_bytes meaning.old) (iri_of text.now)) }
-    ensures refused { Reports (iri_of text.now) result }
+    ensures value { OnOk result (AppendsMeaning meaning.old meaning.new (iri_of text.now)) }
+    ensures refused { ReportsMeaning (iri_of text.now) result }
     ensures kept { OnErr result (string_bytes meaning.new ≡ string_bytes meaning.old) }
 {
     match between(text, b"<", b">") {
@@ -62,8 +62,8 @@ pub fn iri(text: &[u8], meaning: &mut String) -> Result<(), Refusal>
 /// `iri`.
 #[tactic(auto, unfolding(crate::specs::Tokens::string_of))]
 pub fn string(text: &[u8], meaning: &mut String) -> Result<(), Refusal>
-    ensures value { OnOk result (Some (string_bytes meaning.new) ≡ before (string_bytes meaning.old) (string_of text.now)) }
-    ensures refused { Reports (string_of text.now) result }
+    ensures value { OnOk result (AppendsMeaning meaning.old meaning.new (string_of text.now)) }
+    ensures refused { ReportsMeaning (string_of text.now) result }
     ensures kept { OnErr result (string_bytes meaning.new ≡ string_bytes meaning.old) }
 {
     match quoted(text) {
@@ -77,8 +77,8 @@ pub fn string(text: &[u8], meaning: &mut String) -> Result<(), Refusal>
 /// stands before any other character, or where the bytes are no UTF-8; otherwise as `iri`. What
 /// else a local part may not have is the lexer's to refuse.
 pub fn local(text: &[u8], meaning: &mut String) -> Result<(), Refusal>
-    ensures value { OnOk result (Some (string_bytes meaning.new) ≡ before (string_bytes meaning.old) (local_of text.now)) }
-    ensures refused { Reports (local_of text.now) result }
+    ensures value { OnOk result (AppendsMeaning meaning.old meaning.new (local_of text.now)) }
+    ensures refused { ReportsMeaning (local_of text.now) result }
     ensures kept { OnErr result (string_bytes meaning.new ≡ string_bytes meaning.old) }
 {
     append(Form::Local, text, meaning)
@@ -86,7 +86,7 @@ pub fn local(text: &[u8], meaning: &mut String) -> Result<(), Refusal>
 
 /// Where the first colon stands.
 fn colon(text: &[u8]) -> Option<usize>
-    ensures { result ≡ position (λ c. c == 58) text.now }
+    ensures { result ≡ position (λ c. c == colon_of) text.now }
 {
     text.iter().position(|b| *b == b':')
 }

@@ -1,11 +1,12 @@
 //! A text with escapes, appended as what it means.
-ghost use Rattle.std.specs.Prelude.{◌≡◌, ◌++◌, Some, true, OnOk, OnErr, IfSome, length, take, option_map, encode_utf8};
+ghost use Rattle.std.specs.Prelude.{◌≡◌, true, OnOk, OnErr, IfSome, option_map, encode_utf8};
 ghost use Rattle.std.specs.Bool.{OnTrue};
 ghost use Rattle.std.specs.String.{string_bytes};
 ghost use Rattle.std.specs.Str.{IsUtf8};
-ghost use Rattle.gs_escape.specs.Meanings.{before, unescaped, meaning};
+ghost use Rattle.gs_iri.specs.Appending.{Appends, KeepsAll};
+ghost use Rattle.gs_escape.specs.Meanings.{unescaped, meaning};
 ghost use Rattle.gs_escape.specs.Runs.{front_escape};
-ghost use Rattle.gs_escape.specs.Tokens.{Reports};
+ghost use Rattle.gs_escape.specs.Tokens.{AppendsMeaning, ReportsMeaning};
 
 use crate::escapes::escape;
 use crate::forms::Form;
@@ -29,16 +30,16 @@ fn cut_escape(form: Form, text: &str) -> Option<(char, &str)>
 
 /// Appends a text, where there was room so far. Whether there was.
 fn put_text(text: &str, room: bool, unescaped: &mut String) -> bool
-    ensures value { OnTrue result ((room ≡ true) × (string_bytes unescaped.new ≡ string_bytes unescaped.old ++ text.now)) }
-    ensures front { take (length (string_bytes unescaped.old)) (string_bytes unescaped.new) ≡ string_bytes unescaped.old }
+    ensures value { OnTrue result ((room ≡ true) × Appends unescaped.old unescaped.new text.now) }
+    ensures front { KeepsAll unescaped.old unescaped.new }
 {
     room && unescaped.push_str(text).is_ok()
 }
 
 /// Appends a character, where there was room so far. Whether there was.
 fn put_character(c: char, room: bool, unescaped: &mut String) -> bool
-    ensures value { OnTrue result ((room ≡ true) × (string_bytes unescaped.new ≡ string_bytes unescaped.old ++ encode_utf8 c)) }
-    ensures front { take (length (string_bytes unescaped.old)) (string_bytes unescaped.new) ≡ string_bytes unescaped.old }
+    ensures value { OnTrue result ((room ≡ true) × Appends unescaped.old unescaped.new (encode_utf8 c)) }
+    ensures front { KeepsAll unescaped.old unescaped.new }
 {
     room && unescaped.push(c).is_ok()
 }
@@ -46,9 +47,9 @@ fn put_character(c: char, room: bool, unescaped: &mut String) -> bool
 /// Appends what a text means, up to its fault or the want of memory. A fault comes before the
 /// want of memory.
 fn append_front(form: Form, text: &str, out: &mut String) -> Result<(), Refusal>
-    ensures value { OnOk result (Some (string_bytes out.new) ≡ before (string_bytes out.old) (unescaped form 0 text.now)) }
-    ensures refused { Reports (unescaped form 0 text.now) result }
-    ensures front { take (length (string_bytes out.old)) (string_bytes out.new) ≡ string_bytes out.old }
+    ensures value { OnOk result (AppendsMeaning out.old out.new (unescaped form 0 text.now)) }
+    ensures refused { ReportsMeaning (unescaped form 0 text.now) result }
+    ensures front { KeepsAll out.old out.new }
 {
     let mut rest = text;
     let mut room = true;
@@ -70,8 +71,8 @@ fn append_front(form: Form, text: &str, out: &mut String) -> Result<(), Refusal>
 
 /// Appends what a text of a form means. After a refusal the string is as it was.
 pub fn append(form: Form, text: &[u8], out: &mut String) -> Result<(), Refusal>
-    ensures value { OnOk result (Some (string_bytes out.new) ≡ before (string_bytes out.old) (meaning form text.now)) }
-    ensures refused { Reports (meaning form text.now) result }
+    ensures value { OnOk result (AppendsMeaning out.old out.new (meaning form text.now)) }
+    ensures refused { ReportsMeaning (meaning form text.now) result }
     ensures kept { OnErr result (string_bytes out.new ≡ string_bytes out.old) }
 {
     let Ok(text) = str::from_utf8(text) else {

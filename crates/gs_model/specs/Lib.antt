@@ -1,7 +1,9 @@
--- Read in this order: what a character, an IRI, a term, its text, a triple and a graph are.
+-- Read in this order: what a character, an escape, an IRI, a term, its text, a triple and a graph are.
 pub mod Limits
 pub mod Refusals
+pub mod Faults
 pub mod Characters
+pub mod Escapes
 pub mod Iris
 pub mod Bases
 pub mod Terms

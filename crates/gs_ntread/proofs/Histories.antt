@@ -13,10 +13,10 @@ use Rattle.gs_body.specs.Feeding.{Feeds, Finishes}
 use Rattle.gs_body.specs.Leading.{IsLed}
 use Rattle.gs_body.proofs.LeadingLemmas.{led-on, led-begun, led-settled_at_front, led-meaning, led-fails, triples_of-append, end_after-append}
 use Rattle.gs_ntread.specs.Documents.{meaning_by}
-use Rattle.gs_ntread.specs.States.{State, broken}
-use Rattle.gs_ntread.specs.Reader.{Led, placing, ntriples, unread}
-use Rattle.gs_ntread.specs.Readers.{led_of, LeadsTo, Takes, IsBroken, refusal_of, Refuses, FaultyAfter, FaultyEnd, Ends, Sound}
-use Rattle.gs_ntread.specs.Views.{state_of}
+use Rattle.gs_ntread.specs.States.{LineState, broken}
+use Rattle.gs_ntread.specs.Reader.{Led, placing, ntriples, nothing_read}
+use Rattle.gs_ntread.specs.Readers.{led_of, LeadsTo, Advances, IsStopped, refusal_after, Refuses, FaultyAfter, FaultyEnd, EndsWell, Sound}
+use Rattle.gs_ntread.specs.Views.{cursor_state}
 use Rattle.gs_ntread.specs.declared.reader.NTriplesReader.{NTriplesReader}
 use Rattle.gs_ntread.proofs.Whole.{meaning_is, says_nothing, silence}
 use Rattle.gs_ntread.proofs.Lostness.{sound-led}
@@ -26,36 +26,36 @@ meaning_for r x = meaning_by r.request x
 
 -- a machine that led somewhere goes on to a state
 goes : (a : NTriplesReader) (x y : List ℕ) (ts : List RdfTriple) → LeadsTo a x ts
-    → IsLed (ntriples a.request) unread (steps (ntriples a.request) (led_of a) y).0 (end_after a.last (steps (ntriples a.request) (led_of a) y).1) (x ++ y) (ts ++ triples_of (steps (ntriples a.request) (led_of a) y).1)
-goes a x y ts l = led-on (ntriples a.request) unread (led_of a) (steps (ntriples a.request) (led_of a) y).0 a.last _ x y ts (steps (ntriples a.request) (led_of a) y).1 l refl refl
+    → IsLed (ntriples a.request) nothing_read (steps (ntriples a.request) (led_of a) y).0 (end_after a.last (steps (ntriples a.request) (led_of a) y).1) (x ++ y) (ts ++ triples_of (steps (ntriples a.request) (led_of a) y).1)
+goes a x y ts l = led-on (ntriples a.request) nothing_read (led_of a) (steps (ntriples a.request) (led_of a) y).0 a.last _ x y ts (steps (ntriples a.request) (led_of a) y).1 l refl refl
 
 -- A decoder that is not lost has given all by the longest front between characters, where the text may go on so that
 -- nothing more is said.
-settled_at : (r : ℕ) (s : Led) (n : ℕ) (x : List ℕ) (ts : List RdfTriple) → IsLed (ntriples r) unread s n x ts → (s.0 ≡ Lost → ⊥) → (front : List ℕ) → IsLongestFront x front
+settled_at : (r : ℕ) (s : Led) (n : ℕ) (x : List ℕ) (ts : List RdfTriple) → IsLed (ntriples r) nothing_read s n x ts → (s.0 ≡ Lost → ⊥) → (front : List ℕ) → IsLongestFront x front
     → AreSettled (λ z. triples_of (meaning_by r z).0) front ts
 settled_at r s n x ts h kept front f =
     let y = silence r s.1.0 s.1.1.0 s.1.1.1 in
-    subst (λ (g : List ℕ → List RdfTriple). AreSettled g front ts) (λ i z. triples_of (meaning_is r z i).0) (led-settled_at_front (placing r) unread.1 s n x front ts h f kept y.0 y.1)
+    subst (λ (g : List ℕ → List RdfTriple). AreSettled g front ts) (λ i z. triples_of (meaning_is r z i).0) (led-settled_at_front (placing r) nothing_read.1 s n x front ts h f kept y.0 y.1)
 
 -- a piece that was taken, and by which no fault came
-pub feeds : (a b : NTriplesReader) (y : List ℕ) (o1 o2 : List RdfTriple) → Takes a b o1 o2 (steps (ntriples a.request) (led_of a) y) → ¬ (IsBroken (state_of b.cursor)) → Feeds meaning_for LeadsTo a b y o1 o2
+pub feeds : (a b : NTriplesReader) (y : List ℕ) (o1 o2 : List RdfTriple) → Advances a b o1 o2 (steps (ntriples a.request) (led_of a) y) → ¬ (IsStopped (cursor_state b.cursor)) → Feeds meaning_for LeadsTo a b y o1 o2
 feeds a b y o1 o2 h unbroken =
     let m = ntriples a.request in
     let new : List Statement = (steps m (led_of a) y).1 in
     record {
       given = triples_of new;
       grown = h.given;
-      leads = λ x ts l. subst (λ (r : ℕ). IsLed (ntriples r) unread (led_of b) b.last (x ++ y) (ts ++ triples_of new)) (sym h.request)
-          (led-on m unread (led_of a) (led_of b) a.last b.last x y ts new l (ap (λ (s : Led). (s, new)) (sym h.led)) h.last);
-      begun = λ x ts l z. subst (λ (s : Meaning). Begins (triples_of s.0) (ts ++ triples_of new)) (meaning_is a.request ((x ++ y) ++ z)) (led-begun m unread _ _ (x ++ y) (ts ++ triples_of new) (goes a x y ts l) z);
+      leads = λ x ts l. subst (λ (r : ℕ). IsLed (ntriples r) nothing_read (led_of b) b.last (x ++ y) (ts ++ triples_of new)) (sym h.request)
+          (led-on m nothing_read (led_of a) (led_of b) a.last b.last x y ts new l (ap (λ (s : Led). (s, new)) (sym h.led)) h.last);
+      begun = λ x ts l z. subst (λ (s : Meaning). Begins (triples_of s.0) (ts ++ triples_of new)) (meaning_is a.request ((x ++ y) ++ z)) (led-begun m nothing_read _ _ (x ++ y) (ts ++ triples_of new) (goes a x y ts l) z);
       settled = λ x ts l front f.
           let g = goes a x y ts l in
-          let whole : ¬ (IsBroken (steps m (led_of a) y).0.1.1.0) = subst (λ (s : Led). ¬ (IsBroken s.1.1.0)) h.led unbroken in
+          let whole : ¬ (IsStopped (steps m (led_of a) y).0.1.1.0) = subst (λ (s : Led). ¬ (IsStopped s.1.1.0)) h.led unbroken in
           settled_at a.request _ _ (x ++ y) (ts ++ triples_of new) g (λ e. whole (sound-led a.request _ _ (x ++ y) (ts ++ triples_of new) g e)) front f;
     }
 
 -- what the refusal of a fault reports
-reports_fault : (f : Fault) (n : ℕ) (t : Meaning) → t.1 ≡ Faulty f → n ≡ end_after 0 t.0 → Reports (refusal_of n f) t
+reports_fault : (f : Fault) (n : ℕ) (t : Meaning) → t.1 ≡ Faulty f → n ≡ end_after 0 t.0 → Reports (refusal_after n f) t
 reports_fault Syntax n t e p = record { broken = e; place = p }
 reports_fault TermTooLong n t e p = e
 
@@ -74,18 +74,18 @@ faults e a y f x ts l z = elim f [ inl h ↦ unreported e _ h | inr h ↦ report
         let m = ntriples a.request in
         let n = end_after a.last t.1 in
         let nothing : rest m t.0 z ≡ ([], Faulty h.fault) =
-        ap (λ (q : State). rest m (t.0.0, (t.0.1.0, (q, t.0.1.1.1))) z) h.is ∙ says_nothing a.request t.0.0 t.0.1.0 h.fault t.0.1.1.1 z in
+        ap (λ (q : LineState). rest m (t.0.0, (t.0.1.0, (q, t.0.1.1.1))) z) h.is ∙ says_nothing a.request t.0.0 t.0.1.0 h.fault t.0.1.1.1 z in
         let g = goes a x y ts l in
-        let whole = led-fails m unread (Faulty h.fault) t.0 n (x ++ y) z (ts ++ triples_of t.1) g nothing in
+        let whole = led-fails m nothing_read (Faulty h.fault) t.0 n (x ++ y) z (ts ++ triples_of t.1) g nothing in
         subst (λ (s : Meaning). Reports e s) (meaning_is a.request ((x ++ y) ++ z))
-        (subst (λ (k : Refusal). Reports k (rest m unread ((x ++ y) ++ z))) (sym h.refusal)
+        (subst (λ (k : Refusal). Reports k (rest m nothing_read ((x ++ y) ++ z))) (sym h.refusal)
         (reports_fault h.fault n _ (ap (λ (s : Meaning). s.1) whole) (g.place ∙ ap (λ (s : Meaning). end_after 0 s.0) (sym whole))))
 
 -- the text ends
 meaning_at_end : (a : NTriplesReader) (x : List ℕ) (ts : List RdfTriple) → (l : LeadsTo a x ts) → meaning_for a x ≡ joined l.statements (rest (ntriples a.request) (led_of a) [])
-meaning_at_end a x ts l = sym (meaning_is a.request x) ∙ ap (rest (ntriples a.request) unread) (sym (append-nil x)) ∙ led-meaning (ntriples a.request) unread (led_of a) a.last x [] ts l
+meaning_at_end a x ts l = sym (meaning_is a.request x) ∙ ap (rest (ntriples a.request) nothing_read) (sym (append-nil x)) ∙ led-meaning (ntriples a.request) nothing_read (led_of a) a.last x [] ts l
 
-pub finishes : (a : NTriplesReader) (o1 o2 : List RdfTriple) → Ends o1 o2 (rest (ntriples a.request) (led_of a) []) → Finishes meaning_for LeadsTo a o1 o2
+pub finishes : (a : NTriplesReader) (o1 o2 : List RdfTriple) → EndsWell o1 o2 (rest (ntriples a.request) (led_of a) []) → Finishes meaning_for LeadsTo a o1 o2
 finishes a o1 o2 h =
     let t : Meaning = rest (ntriples a.request) (led_of a) [] in
     record {

@@ -1,16 +1,17 @@
 -- What is read of a line leaves no line's end after it.
 use Rattle.std.proofs.Common.{◌≡◌, ℕ, ◌-◌, Bool, true, false, List, [], ◌∷◌, length, Option, Some, None, Result, Ok, Err}
 use Rattle.std.specs.Prelude.{◌==◌, ◌&&◌, ◌||◌, nat_le}
-use lib.Utf8.{scalar}
+use Rattle.gs_model.specs.Escapes.{is_character, is_hex, is_line_end, echar_meaning}
 use Rattle.std.specs.Str.{str_to_ascii_lowercase}
 use Rattle.gs_model.specs.Terms.{Term, Literal, Typed, Tagged, xsd_string, is_term, text_of}
 use Rattle.gs_model.specs.Limits.{max_term_bytes}
 use Rattle.gs_model.specs.declared.faults.Fault.{Fault}
 use Rattle.gs_ntterm.specs.Marks.{Mark}
-use Rattle.gs_ntterm.specs.Classes.{is_space, is_line_end, may_stand_in_iri, may_stand_in_string, is_hex, with_digit, is_label_char, begins_label, is_tag_char}
+use Rattle.gs_ntterm.specs.Classes.{is_space, may_stand_in_iri, may_stand_in_string, with_digit, is_label_char, begins_label, is_tag_char}
 use Rattle.gs_term.specs.Making.{made}
 use Rattle.gs_ntterm.specs.LineTerms.{typed_made}
-use Rattle.gs_ntterm.specs.Terminals.{Read, ◌>>=◌, skip, before, Inside, Plain, Escape, Digits, escaped, escape_before, iri_after, string_after, goes_on, label_after, label_at, begins_part, tag_after}
+use Rattle.gs_model.specs.Faults.{◌>>=◌}
+use Rattle.gs_ntterm.specs.Terminals.{FrontRead, skip, before_read, Inside, Plain, Escape, Digits, escape_before, iri_after, string_after, label_goes_on, label_after, label_at, begins_part, tag_after}
 use Rattle.gs_ntterm.proofs.Branches.{either_way}
 use Rattle.gs_ntread.specs.Grammar.{before_text, datatype_at, caret_at, tag_at, suffix_at}
 
@@ -20,11 +21,11 @@ pub data NoEnd : List Mark → Type 0 where
   more : {m : Mark} {ms : List Mark} → is_line_end m.0 ≡ false → NoEnd ms → NoEnd (m ∷ ms)
 
 -- no character of the text after what was read ends a line
-abbrev pub KeepsLine : {A : Type 0} → Read A → Type 0
+abbrev pub KeepsLine : {A : Type 0} → FrontRead A → Type 0
 KeepsLine (Err e) = Unit {0}
 KeepsLine (Ok r) = NoEnd r.1
 
-keeps_before : (c : ℕ) (r : Read (List ℕ)) → KeepsLine r → KeepsLine (before c r)
+keeps_before : (c : ℕ) (r : FrontRead (List ℕ)) → KeepsLine r → KeepsLine (before_read c r)
 keeps_before c (Err e) h = h
 keeps_before c (Ok r) h = h
 
@@ -44,7 +45,7 @@ keeps_iri (Digits l v) (m ∷ ms) (more h n) =
     (keeps_iri (Digits (l - 1) (with_digit v m.0)) ms n))
     tt
 
-keeps_escape : (o : Option ℕ) (r : Read (List ℕ)) → KeepsLine r → KeepsLine (escape_before o r)
+keeps_escape : (o : Option ℕ) (r : FrontRead (List ℕ)) → KeepsLine r → KeepsLine (escape_before o r)
 keeps_escape None r h = tt
 keeps_escape (Some c) r h = keeps_before c r h
 
@@ -56,18 +57,18 @@ keeps_string Plain (m ∷ ms) (more h n) =
     (either_way KeepsLine (may_stand_in_string m.0) _ _ (keeps_before m.0 (string_after Plain ms) (keeps_string Plain ms n)) tt))
 keeps_string Escape (m ∷ ms) (more h n) =
     either_way KeepsLine (m.0 == 117) _ _ (keeps_string (Digits 3 0) ms n)
-    (either_way KeepsLine (m.0 == 85) _ _ (keeps_string (Digits 7 0) ms n) (keeps_escape (escaped m.0) (string_after Plain ms) (keeps_string Plain ms n)))
+    (either_way KeepsLine (m.0 == 85) _ _ (keeps_string (Digits 7 0) ms n) (keeps_escape (echar_meaning m.0) (string_after Plain ms) (keeps_string Plain ms n)))
 keeps_string (Digits l v) (m ∷ ms) (more h n) =
     either_way KeepsLine (is_hex m.0) _ _
     (either_way KeepsLine (l == 0) _ _
-    (either_way KeepsLine (scalar (with_digit v m.0)) _ _ (keeps_before (with_digit v m.0) (string_after Plain ms) (keeps_string Plain ms n)) tt)
+    (either_way KeepsLine (is_character (with_digit v m.0)) _ _ (keeps_before (with_digit v m.0) (string_after Plain ms) (keeps_string Plain ms n)) tt)
     (keeps_string (Digits (l - 1) (with_digit v m.0)) ms n))
     tt
 
 keeps_label_after : (line : List Mark) → NoEnd line → NoEnd (label_after line).1
 keeps_label_after [] n = n
 keeps_label_after (m ∷ ms) (more h n) =
-    either_way (λ (u : List ℕ × List Mark). NoEnd u.1) (is_label_char m.0 || (m.0 == 46 && goes_on ms)) _ _ (keeps_label_after ms n) (more h n)
+    either_way (λ (u : List ℕ × List Mark). NoEnd u.1) (is_label_char m.0 || (m.0 == 46 && label_goes_on ms)) _ _ (keeps_label_after ms n) (more h n)
 
 pub keeps_label : (line : List Mark) → NoEnd line → KeepsLine (label_at line)
 keeps_label [] n = tt
@@ -90,7 +91,7 @@ keeps_made y t n =
     either_way (λ (r : Result Term Fault). KeepsLine (before_text y r)) (is_term t) _ _
     (either_way (λ (r : Result Term Fault). KeepsLine (before_text y r)) (nat_le (length (text_of t)) max_term_bytes) _ _ n tt) tt
 
-keeps_typed : (l : List ℕ) (r : Read (List ℕ)) → KeepsLine r → KeepsLine (r >>= λ i. before_text i.1 (typed_made l i.0))
+keeps_typed : (l : List ℕ) (r : FrontRead (List ℕ)) → KeepsLine r → KeepsLine (r >>= λ i. before_text i.1 (typed_made l i.0))
 keeps_typed l (Err e) h = h
 keeps_typed l (Ok i) h = keeps_made i.1 (Literal l (Typed i.0)) h
 

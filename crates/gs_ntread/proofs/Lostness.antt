@@ -5,36 +5,38 @@ use Rattle.gs_model.specs.Terms.{Term}
 use Rattle.gs_model.specs.Triples.{RdfTriple}
 use Rattle.gs_model.specs.declared.faults.Fault.{Fault}
 use Rattle.gs_model.specs.declared.faults.Fault.TheVariants.{Syntax}
+use Rattle.gs_model.specs.Escapes.{echar_meaning}
 use Rattle.gs_machine.specs.Machines.{steps, composed}
 use Rattle.gs_machine.specs.Utf8.{Decoding, Ready, Within, Lost, bad, decode_step, lead, goes_on}
 use Rattle.gs_body.specs.Bodies.{Statement}
 use Rattle.gs_body.specs.Leading.{IsLed}
 use Rattle.gs_blank.specs.Numbers.{Numbers}
-use Rattle.gs_ntterm.specs.Marks.{end_of}
+use Rattle.gs_ntterm.specs.Marks.{char_end}
 use Rattle.gs_ntterm.specs.LineTerms.{LineTerm}
 use Rattle.gs_ntterm.specs.Terminals.{Plain, Escape, Digits}
 use Rattle.gs_ntterm.specs.Tokens.{Held, plain_held, tagged_held}
 use Rattle.gs_ntterm.proofs.Branches.{either_way}
-use Rattle.gs_ntread.specs.States.{State, Turn, Stage, AtSubject, AtPredicate, AtObject, AtSuffix, AtDatatype, AtDot, AtEnd, Mode, Between, Comment, InIri, InString, Underscore, Colon, InLabel, InDots, Caret, AtSign, InTag, Hyphen, Broken, broken, quiet}
+use Rattle.gs_ntread.specs.States.{LineState, LineTurn, Stage, AtSubject, AtPredicate, AtObject, AtSuffix, AtDatatype, AtDot, AtEnd, TokenMode, Between, Comment, InIri, InString, Underscore, Colon, InLabel, InDots, Caret, AtSign, InTag, Hyphen, Broken, broken, no_triple}
 use Rattle.gs_ntread.specs.Lines.{end_state, after_literal}
 use Rattle.gs_ntread.specs.Turns.{turn, tag_turn}
-use Rattle.gs_ntread.specs.Reader.{keeping, placing, ntriples, Led, unread}
-use Rattle.gs_ntread.specs.Readers.{IsBroken, Sound}
+use Rattle.gs_ntread.specs.Reader.{keeping, placing, ntriples, Led, nothing_read}
+use Rattle.gs_ntread.specs.Readers.{IsStopped, Sound}
 
-bad_literal : (s : LineTerm) (p : Term) (r : Result Term Fault) (n : ℕ) → IsBroken (after_literal s p r bad n).0
+bad_literal : (s : LineTerm) (p : Term) (r : Result Term Fault) (n : ℕ) → IsStopped (after_literal s p r bad n).0
 bad_literal s p (Ok t) n = tt
 bad_literal s p (Err e) n = tt
 
-bad_tag : (s : LineTerm) (p : Term) (l h : Held) (d : Bool) (n : ℕ) → IsBroken (turn (AtSuffix s p l) (InTag d h) bad n).0
+bad_tag : (s : LineTerm) (p : Term) (l h : Held) (d : Bool) (n : ℕ) → IsStopped (turn (AtSuffix s p l) (InTag d h) bad n).0
 bad_tag s p l h true n = bad_literal s p (tagged_held l h) n
 bad_tag s p l h false n = bad_literal s p (tagged_held l h) n
 
-bad_part : (g : Stage) (h : Held) (d : Bool) (n : ℕ) → (tag_turn g h bad n ≡ quiet (broken Syntax)) → IsBroken (turn g (InTag d h) bad n).0
-bad_part g h true n e = subst (λ (t : Turn). IsBroken t.0) (sym e) tt
-bad_part g h false n e = subst (λ (t : Turn). IsBroken t.0) (sym e) tt
+bad_part : (g : Stage) (h : Held) (d : Bool) (n : ℕ) → (tag_turn g h bad n ≡ no_triple (broken Syntax)) → IsStopped (turn g (InTag d h) bad n).0
+bad_part g h true n e = subst (λ (t : LineTurn). IsStopped t.0) (sym e) tt
+bad_part g h false n e = subst (λ (t : LineTurn). IsStopped t.0) (sym e) tt
 
 -- the mark of ill-formed bytes breaks each state
-pub turn_bad : (g : Stage) (m : Mode) (n : ℕ) → IsBroken (turn g m bad n).0
+pub turn_bad : (g : Stage) (m : TokenMode) (n : ℕ) → IsStopped (turn g m bad n).0
+unfolding echar_meaning
 turn_bad AtSubject Between n = tt
 turn_bad (AtPredicate s) Between n = tt
 turn_bad (AtObject s p) Between n = tt
@@ -60,7 +62,7 @@ turn_bad (AtDot s p o) (InLabel h) n = tt
 turn_bad AtEnd (InLabel h) n = tt
 turn_bad AtSubject (InDots h f k) n = tt
 turn_bad (AtPredicate s) (InDots h f k) n = tt
-turn_bad (AtObject s p) (InDots h f k) n = either_way IsBroken (k == 0) (end_state bad) (broken Syntax) tt tt
+turn_bad (AtObject s p) (InDots h f k) n = either_way IsStopped (k == 0) (end_state bad) (broken Syntax) tt tt
 turn_bad (AtSuffix s p l) (InDots h f k) n = tt
 turn_bad (AtDatatype s p l) (InDots h f k) n = tt
 turn_bad (AtDot s p o) (InDots h f k) n = tt
@@ -108,17 +110,17 @@ marks_step n v l h b =
     (either_way Marks (nat_lt h b) _ _ marks_lost (marks_on n (v * 64 + (b - 128))))
 
 -- the reading after some characters
-abbrev after_all : ℕ → ℕ × (State × Numbers) → List ℕ → State
+abbrev after_all : ℕ → ℕ × (LineState × Numbers) → List ℕ → LineState
 after_all r p os = (steps (placing r) p os).0.1.0
 
-after_bad : (r : ℕ) (p : ℕ × (State × Numbers)) → IsBroken (after_all r p (bad ∷ []))
+after_bad : (r : ℕ) (p : ℕ × (LineState × Numbers)) → IsStopped (after_all r p (bad ∷ []))
 unfolding steps composed keeping
-after_bad r p = turn_bad p.1.0.0 p.1.0.1 (end_of p.0 bad)
+after_bad r p = turn_bad p.1.0.0 p.1.0.1 (char_end p.0 bad)
 
-lost_at : (r : ℕ) (p : ℕ × (State × Numbers)) (t : Decoding × List ℕ) → Marks t → t.0 ≡ Lost → IsBroken (after_all r p t.1)
-lost_at r p t m e = subst (λ (os : List ℕ). IsBroken (after_all r p os)) (sym (m e)) (after_bad r p)
+lost_at : (r : ℕ) (p : ℕ × (LineState × Numbers)) (t : Decoding × List ℕ) → Marks t → t.0 ≡ Lost → IsStopped (after_all r p t.1)
+lost_at r p t m e = subst (λ (os : List ℕ). IsStopped (after_all r p os)) (sym (m e)) (after_bad r p)
 
-sound-step : (r : ℕ) (d : Decoding) (p : ℕ × (State × Numbers)) (b : ℕ) → Sound (d, p) → Sound ((ntriples r).step (d, p) b).0
+sound-step : (r : ℕ) (d : Decoding) (p : ℕ × (LineState × Numbers)) (b : ℕ) → Sound (d, p) → Sound ((ntriples r).step (d, p) b).0
 unfolding composed steps
 sound-step r Ready p b h e = lost_at r p (lead b) (marks_lead b) e
 sound-step r (Within n v l k) p b h e = lost_at r p (decode_step (Within n v l k) b) (marks_step n v l k b) e
@@ -130,5 +132,5 @@ sound-steps r s [] h = h
 sound-steps r s (b ∷ bs) h = sound-steps r ((ntriples r).step s b).0 bs (sound-step r s.0 s.1 b h)
 
 -- so it is where a text leads
-pub sound-led : (r : ℕ) (s : Led) (n : ℕ) (x : List ℕ) (ts : List RdfTriple) → IsLed (ntriples r) unread s n x ts → Sound s
-sound-led r s n x ts l = subst Sound (ap (λ (t : Led × List Statement). t.0) l.run) (sound-steps r unread x (λ e. absurd (Prim.cc)))
+pub sound-led : (r : ℕ) (s : Led) (n : ℕ) (x : List ℕ) (ts : List RdfTriple) → IsLed (ntriples r) nothing_read s n x ts → Sound s
+sound-led r s n x ts l = subst Sound (ap (λ (t : Led × List Statement). t.0) l.run) (sound-steps r nothing_read x (λ e. absurd (Prim.cc)))

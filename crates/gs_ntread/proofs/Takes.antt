@@ -10,10 +10,10 @@ use Rattle.gs_machine.proofs.MachineLemmas.{steps-snoc, steps-append}
 use Rattle.gs_body.specs.Bodies.{Statement, Meaning, Ending, Faulty, triples_of, end_after}
 use Rattle.gs_body.proofs.LeadingLemmas.{triples_of-append, end_after-append}
 use Rattle.gs_blank.specs.Numbers.{Numbers}
-use Rattle.gs_ntread.specs.States.{State, broken}
+use Rattle.gs_ntread.specs.States.{LineState, broken}
 use Rattle.gs_ntread.specs.Reader.{Led, placing, ntriples}
-use Rattle.gs_ntread.specs.Readers.{led_of, Takes, refusal_of, FaultsAs, FaultyAfter, FaultyEnd, ConcludesAs}
-use Rattle.gs_ntread.specs.Views.{state_of}
+use Rattle.gs_ntread.specs.Readers.{led_of, Advances, refusal_after, FaultsAs, FaultyAfter, FaultyEnd, ConcludesAs}
+use Rattle.gs_ntread.specs.Views.{cursor_state}
 use Rattle.gs_ntread.proofs.Whole.{Placed, says_nothing, placing_broken}
 use Rattle.gs_ntread.specs.declared.reader.NTriplesReader.{NTriplesReader}
 
@@ -26,7 +26,7 @@ if_err (Ok x) P Q f h = h
 if_err (Err e) P Q f h = f e h
 
 -- nothing was given
-pub took-none : (a b : NTriplesReader) (ts : List RdfTriple) (t : Led × List Statement) → t ≡ (led_of b, []) → b.last ≡ a.last → b.request ≡ a.request → b.is_closed ≡ a.is_closed → Takes a b ts ts t
+pub took-none : (a b : NTriplesReader) (ts : List RdfTriple) (t : Led × List Statement) → t ≡ (led_of b, []) → b.last ≡ a.last → b.request ≡ a.request → b.is_closed ≡ a.is_closed → Advances a b ts ts t
 took-none a b ts t e l r k = record {
   led = ap (λ (u : Led × List Statement). u.0) (sym e);
   given = sym (append-nil ts) ∙ ap (λ (u : Led × List Statement). ts ++ triples_of u.1) (sym e);
@@ -36,7 +36,7 @@ took-none a b ts t e l r k = record {
 }
 
 -- the same from a reader whose other fields differ
-pub took-from : (a c b : NTriplesReader) (ts us : List RdfTriple) (t u : Led × List Statement) → c.last ≡ a.last → c.request ≡ a.request → c.is_closed ≡ a.is_closed → t ≡ u → Takes c b ts us u → Takes a b ts us t
+pub took-from : (a c b : NTriplesReader) (ts us : List RdfTriple) (t u : Led × List Statement) → c.last ≡ a.last → c.request ≡ a.request → c.is_closed ≡ a.is_closed → t ≡ u → Advances c b ts us u → Advances a b ts us t
 took-from a c b ts us t u l r k e h = record {
   led = h.led ∙ ap (λ (u : Led × List Statement). u.0) (sym e);
   given = h.given ∙ ap (λ (u : Led × List Statement). ts ++ triples_of u.1) (sym e);
@@ -46,7 +46,7 @@ took-from a c b ts us t u l r k e h = record {
 }
 
 -- one run after another
-pub took-then : (a b c : NTriplesReader) (o1 o2 o3 : List RdfTriple) (t u : Led × List Statement) → Takes a b o1 o2 t → Takes b c o2 o3 u → Takes a c o1 o3 (u.0, t.1 ++ u.1)
+pub took-then : (a b c : NTriplesReader) (o1 o2 o3 : List RdfTriple) (t u : Led × List Statement) → Advances a b o1 o2 t → Advances b c o2 o3 u → Advances a c o1 o3 (u.0, t.1 ++ u.1)
 took-then a b c o1 o2 o3 t u f g = record {
   led = g.led;
   given = g.given ∙ ap (λ z. z ++ triples_of u.1) f.given ∙ append_assoc o1 (triples_of t.1) (triples_of u.1) ∙ ap (λ z. o1 ++ z) (sym (triples_of-append t.1 u.1));
@@ -57,39 +57,39 @@ took-then a b c o1 o2 o3 t u f g = record {
 
 -- one byte more of a piece
 pub took-more : (a b c : NTriplesReader) (o1 o2 o3 : List RdfTriple) (x : List ℕ) (n : ℕ) → n < length x
-    → Takes a b o1 o2 (steps (ntriples a.request) (led_of a) (take n x)) → Takes b c o2 o3 ((ntriples b.request).step (led_of b) (get_or x n 0))
-    → Takes a c o1 o3 (steps (ntriples a.request) (led_of a) (take (n + 1) x))
+    → Advances a b o1 o2 (steps (ntriples a.request) (led_of a) (take n x)) → Advances b c o2 o3 ((ntriples b.request).step (led_of b) (get_or x n 0))
+    → Advances a c o1 o3 (steps (ntriples a.request) (led_of a) (take (n + 1) x))
 took-more a b c o1 o2 o3 x n h f g =
     let t : Led × List Statement = steps (ntriples a.request) (led_of a) (take n x) in
-    let g' : Takes b c o2 o3 ((ntriples a.request).step t.0 (get_or x n 0)) =
-    subst (λ (r : ℕ). Takes b c o2 o3 ((ntriples r).step t.0 (get_or x n 0))) f.request
-    (subst (λ (s : Led). Takes b c o2 o3 ((ntriples b.request).step s (get_or x n 0))) f.led g) in
-    subst (Takes a c o1 o3) (sym (steps-snoc (ntriples a.request) (led_of a) x n 0 h))
+    let g' : Advances b c o2 o3 ((ntriples a.request).step t.0 (get_or x n 0)) =
+    subst (λ (r : ℕ). Advances b c o2 o3 ((ntriples r).step t.0 (get_or x n 0))) f.request
+    (subst (λ (s : Led). Advances b c o2 o3 ((ntriples b.request).step s (get_or x n 0))) f.led g) in
+    subst (Advances a c o1 o3) (sym (steps-snoc (ntriples a.request) (led_of a) x n 0 h))
     (took-then a b c o1 o2 o3 t ((ntriples a.request).step t.0 (get_or x n 0)) f g')
 
 -- some bytes more of a piece
 pub took-on : (a b c : NTriplesReader) (o1 o2 o3 : List RdfTriple) (x : List ℕ) (n k : ℕ)
-    → Takes a b o1 o2 (steps (ntriples a.request) (led_of a) (take n x)) → Takes b c o2 o3 (steps (ntriples b.request) (led_of b) (take k (drop n x)))
-    → Takes a c o1 o3 (steps (ntriples a.request) (led_of a) (take (n + k) x))
+    → Advances a b o1 o2 (steps (ntriples a.request) (led_of a) (take n x)) → Advances b c o2 o3 (steps (ntriples b.request) (led_of b) (take k (drop n x)))
+    → Advances a c o1 o3 (steps (ntriples a.request) (led_of a) (take (n + k) x))
 took-on a b c o1 o2 o3 x n k f g =
     let t : Led × List Statement = steps (ntriples a.request) (led_of a) (take n x) in
     let y = take k (drop n x) in
-    let g' : Takes b c o2 o3 (steps (ntriples a.request) t.0 y) =
-    subst (λ (r : ℕ). Takes b c o2 o3 (steps (ntriples r) t.0 y)) f.request
-    (subst (λ (s : Led). Takes b c o2 o3 (steps (ntriples b.request) s y)) f.led g) in
-    subst (Takes a c o1 o3) (sym (ap (steps (ntriples a.request) (led_of a)) (take-add n k x) ∙ steps-append (ntriples a.request) (led_of a) (take n x) y))
+    let g' : Advances b c o2 o3 (steps (ntriples a.request) t.0 y) =
+    subst (λ (r : ℕ). Advances b c o2 o3 (steps (ntriples r) t.0 y)) f.request
+    (subst (λ (s : Led). Advances b c o2 o3 (steps (ntriples b.request) s y)) f.led g) in
+    subst (Advances a c o1 o3) (sym (ap (steps (ntriples a.request) (led_of a)) (take-add n k x) ∙ steps-append (ntriples a.request) (led_of a) (take n x) y))
     (took-then a b c o1 o2 o3 t (steps (ntriples a.request) t.0 y) f g')
 
 -- the fault of a state is that of what was given
-pub fault-after : (e : Refusal) (a b : NTriplesReader) (o1 o2 : List RdfTriple) (s : State) (t : Led × List Statement) → Takes a b o1 o2 t → s ≡ (led_of b).1.1.0 → FaultsAs e b.last s → FaultyAfter e a.last t
+pub fault-after : (e : Refusal) (a b : NTriplesReader) (o1 o2 : List RdfTriple) (s : LineState) (t : Led × List Statement) → Advances a b o1 o2 t → s ≡ (led_of b).1.1.0 → FaultsAs e b.last s → FaultyAfter e a.last t
 fault-after e a b o1 o2 s t h q f = inr (record {
   fault = f.fault;
   is = sym (ap (λ (l : Led). l.1.1.0) h.led) ∙ sym q ∙ f.is;
-  refusal = f.refusal ∙ ap (λ n. refusal_of n f.fault) h.last;
+  refusal = f.refusal ∙ ap (λ n. refusal_after n f.fault) h.last;
 })
 
 -- the text ends where the decoder is within a character
-pub unready : (r : ℕ) (d : Decoding) (p : ℕ × (State × Numbers)) → is_ready_of d ≡ false → (d ≡ Lost → ⊥)
+pub unready : (r : ℕ) (d : Decoding) (p : ℕ × (LineState × Numbers)) → is_ready_of d ≡ false → (d ≡ Lost → ⊥)
     → rest (ntriples r) (d, p) [] ≡ joined ((placing r).step p bad).1 (rest (placing r) ((placing r).step p bad).0 [])
 unfolding rest composed
 unready r Ready p h n = absurd (Prim.cc)
@@ -98,23 +98,23 @@ unready r Lost p h n = absurd (n refl)
 
 -- what the end of a text concludes
 pub concluded : (e : Refusal) (last n : ℕ) (end : Ending) (t : Meaning) → t.1 ≡ end → n ≡ end_after last t.0 → ConcludesAs e n end → FaultyEnd e last t
-concluded e last n end t p q f = inr (record { fault = f.fault; is = p ∙ f.is; refusal = f.refusal ∙ ap (λ k. refusal_of k f.fault) q })
+concluded e last n end t p q f = inr (record { fault = f.fault; is = p ∙ f.is; refusal = f.refusal ∙ ap (λ k. refusal_after k f.fault) q })
 
 -- a text that ends where nothing more is read
-pub broken-end : (e : Refusal) (a : NTriplesReader) → FaultsAs e a.last (state_of a.cursor) → FaultyEnd e a.last (rest (ntriples a.request) (led_of a) [])
+pub broken-end : (e : Refusal) (a : NTriplesReader) → FaultsAs e a.last (cursor_state a.cursor) → FaultyEnd e a.last (rest (ntriples a.request) (led_of a) [])
 broken-end e a f =
     let r : rest (ntriples a.request) (led_of a) [] ≡ ([], Faulty f.fault) =
-    ap (λ (q : State). rest (ntriples a.request) (a.decoder, (a.read, (q, a.numbering))) []) f.is ∙ says_nothing a.request a.decoder a.read f.fault a.numbering [] in
-    inr (record { fault = f.fault; is = ap (λ (s : Meaning). s.1) r; refusal = f.refusal ∙ ap (λ (s : Meaning). refusal_of (end_after a.last s.0) f.fault) (sym r) })
+    ap (λ (q : LineState). rest (ntriples a.request) (a.decoder, (a.read, (q, a.numbering))) []) f.is ∙ says_nothing a.request a.decoder a.read f.fault a.numbering [] in
+    inr (record { fault = f.fault; is = ap (λ (s : Meaning). s.1) r; refusal = f.refusal ∙ ap (λ (s : Meaning). refusal_after (end_after a.last s.0) f.fault) (sym r) })
 
 -- a text that ends within a character
-pub bad-end : (e : Refusal) (a b : NTriplesReader) (ts us : List RdfTriple) (u : Placed × List Statement) → Takes a b ts us ((a.decoder, u.0), u.1) → FaultsAs e b.last (state_of b.cursor)
+pub bad-end : (e : Refusal) (a b : NTriplesReader) (ts us : List RdfTriple) (u : Placed × List Statement) → Advances a b ts us ((a.decoder, u.0), u.1) → FaultsAs e b.last (cursor_state b.cursor)
     → FaultyEnd e a.last (joined u.1 (rest (placing a.request) u.0 []))
 bad-end e a b ts us u h f =
     let q : u.0.1.0 ≡ broken f.fault = sym (ap (λ (l : Led). l.1.1.0) h.led) ∙ f.is in
-    let r : rest (placing a.request) u.0 [] ≡ ([], Faulty f.fault) = ap (λ (q : State). rest (placing a.request) (u.0.0, (q, u.0.1.1)) []) q ∙ placing_broken a.request u.0.0 f.fault u.0.1.1 in
+    let r : rest (placing a.request) u.0 [] ≡ ([], Faulty f.fault) = ap (λ (q : LineState). rest (placing a.request) (u.0.0, (q, u.0.1.1)) []) q ∙ placing_broken a.request u.0.0 f.fault u.0.1.1 in
     inr (record {
       fault = f.fault;
       is = ap (λ (s : Meaning). s.1) r;
-      refusal = f.refusal ∙ ap (λ n. refusal_of n f.fault) (h.last ∙ ap (end_after a.last) (sym (append-nil u.1)) ∙ ap (λ (s : Meaning). end_after a.last (u.1 ++ s.0)) (sym r));
+      refusal = f.refusal ∙ ap (λ n. refusal_after n f.fault) (h.last ∙ ap (end_after a.last) (sym (append-nil u.1)) ∙ ap (λ (s : Meaning). end_after a.last (u.1 ++ s.0)) (sym r));
     })

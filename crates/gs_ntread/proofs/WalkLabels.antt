@@ -10,18 +10,18 @@ use Rattle.gs_body.specs.Bodies.{Whole, Faulty}
 use Rattle.gs_ntterm.specs.Marks.{Mark}
 use Rattle.gs_ntterm.specs.Classes.{is_label_char, begins_label}
 use Rattle.gs_ntterm.specs.LineTerms.{Labelled}
-use Rattle.gs_ntterm.specs.Terminals.{goes_on, label_after, label_at}
+use Rattle.gs_ntterm.specs.Terminals.{label_goes_on, label_after, label_at}
 use Rattle.gs_ntterm.specs.Labels.{add_dots}
 use Rattle.gs_ntterm.proofs.Branches.{two_ways, by_test, by_test_knowing, one_way}
 use Rattle.gs_ntread.specs.Documents.{Meant}
-use Rattle.gs_ntread.specs.States.{Stage, AtSubject, AtPredicate, AtObject, AtSuffix, AtDatatype, AtDot, AtEnd, Between, Underscore, Colon, InLabel, InDots, State, broken, sentence}
+use Rattle.gs_ntread.specs.States.{Stage, AtSubject, AtPredicate, AtObject, AtSuffix, AtDatatype, AtDot, AtEnd, Between, Underscore, Colon, InLabel, InDots, LineState, broken, sentence}
 use Rattle.gs_ntread.specs.Lines.{end_state}
 use Rattle.gs_ntread.specs.Turns.{label_turn, dotted_turn, turn}
 use Rattle.gs_ntread.specs.Machine.{dots_end, end_of_text}
 use Rattle.gs_ntread.proofs.WalkTokens.{told, follow, Stops, at_nothing, at_feed, at_return, walk_broken, after}
 
 -- where a label leads
-abbrev pub label_closed : Stage → List ℕ → State
+abbrev pub label_closed : Stage → List ℕ → LineState
 label_closed AtSubject t = (AtPredicate (Labelled t), Between)
 label_closed (AtObject s p) t = (AtDot s p (Labelled t), Between)
 label_closed (AtPredicate s) t = broken Syntax
@@ -121,7 +121,7 @@ one_dot g tail t w n ds m ms e false =
 pub walk_label : (g : Stage) (line tail : List Mark) → Stops tail
     → ((t : List ℕ) → told (g, InLabel t) (line ++ tail) ≡ after_label g tail t (label_after line))
     × ((t w : List ℕ) (n more : ℕ) (ds : List Mark) → Dots more ds → add_dots (t ++ encode_utf8 46) more ≡ w
-    → told (g, InDots t n more) (line ++ tail) ≡ after_dotted g tail t w n ds (label_after line) (line ++ tail) (goes_on line))
+    → told (g, InDots t n more) (line ++ tail) ≡ after_dotted g tail t w n ds (label_after line) (line ++ tail) (label_goes_on line))
 unfolding rest
 walk_label g [] tail at_nothing = (
   λ t. closed_end g t ∙ ap (λ z. told (label_closed g z) []) (sym (append-nil t)),
@@ -136,17 +136,17 @@ walk_label g [] tail (at_return k ms) = (
   λ t w n more ds d e. dotted_step g t n more 13 k ms ds d,
 )
 walk_label g (m ∷ ms) tail s = (
-  λ t. by_test (λ z. follow z (ms ++ tail)) (λ v. after_label g tail t (cond (v || (m.0 == 46 && goes_on ms)) (label_more m ms) ([], m ∷ ms))) (is_label_char m.0) _ _
+  λ t. by_test (λ z. follow z (ms ++ tail)) (λ v. after_label g tail t (cond (v || (m.0 == 46 && label_goes_on ms)) (label_more m ms) ([], m ∷ ms))) (is_label_char m.0) _ _
       ((walk_label g ms tail s).0 (t ++ encode_utf8 m.0) ∙ ap (λ z. told (label_closed g z) ((label_after ms).1 ++ tail)) (append_assoc t (encode_utf8 m.0) (label_after ms).0))
-      (by_test_knowing (λ z. follow z (ms ++ tail)) (λ v. after_label g tail t (cond (v && goes_on ms) (label_more m ms) ([], m ∷ ms))) (m.0 == 46) _ _
-      (λ e. (walk_label g ms tail s).1 t (t ++ encode_utf8 46) m.1 zero [] one refl ∙ first_dot g tail t m ms (eqb-true m.0 46 e) (goes_on ms))
+      (by_test_knowing (λ z. follow z (ms ++ tail)) (λ v. after_label g tail t (cond (v && label_goes_on ms) (label_more m ms) ([], m ∷ ms))) (m.0 == 46) _ _
+      (λ e. (walk_label g ms tail s).1 t (t ++ encode_utf8 46) m.1 zero [] one refl ∙ first_dot g tail t m ms (eqb-true m.0 46 e) (label_goes_on ms))
       (λ _. ap (λ z. follow z (ms ++ tail)) (closed_step g t m.0 m.1) ∙ ap (λ z. told (label_closed g z) (m ∷ (ms ++ tail))) (sym (append-nil t)))),
-  λ t w n more ds d e. by_test (λ z. follow z (ms ++ tail)) (λ v. after_dotted g tail t w n ds (cond (v || (m.0 == 46 && goes_on ms)) (label_more m ms) ([], m ∷ ms)) (m ∷ (ms ++ tail)) (cond v true (cond (m.0 == 46) (goes_on ms) false))) (is_label_char m.0) _ _
+  λ t w n more ds d e. by_test (λ z. follow z (ms ++ tail)) (λ v. after_dotted g tail t w n ds (cond (v || (m.0 == 46 && label_goes_on ms)) (label_more m ms) ([], m ∷ ms)) (m ∷ (ms ++ tail)) (cond v true (cond (m.0 == 46) (label_goes_on ms) false))) (is_label_char m.0) _ _
       (ap (λ h. told (g, InLabel (h ++ encode_utf8 m.0)) (ms ++ tail)) e ∙ (walk_label g ms tail s).0 (w ++ encode_utf8 m.0) ∙ ap (λ z. told (label_closed g z) ((label_after ms).1 ++ tail)) (append_assoc w (encode_utf8 m.0) (label_after ms).0))
-      (by_test_knowing (λ z. follow z (ms ++ tail)) (λ v. after_dotted g tail t w n ds (cond (v && goes_on ms) (label_more m ms) ([], m ∷ ms)) (m ∷ (ms ++ tail)) (cond v (goes_on ms) false)) (m.0 == 46) _ _
+      (by_test_knowing (λ z. follow z (ms ++ tail)) (λ v. after_dotted g tail t w n ds (cond (v && label_goes_on ms) (label_more m ms) ([], m ∷ ms)) (m ∷ (ms ++ tail)) (cond v (label_goes_on ms) false)) (m.0 == 46) _ _
       (λ h. ap (λ k. told (g, InDots t n k) (ms ++ tail)) (add-one more)
       ∙ (walk_label g ms tail s).1 t (w ++ encode_utf8 46) n (suc more) (ds ++ (46, m.1) ∷ []) (dots_more d m.1) (ap (λ x. x ++ encode_utf8 46) e)
-      ∙ one_dot g tail t w n ds m ms (eqb-true m.0 46 h) (goes_on ms))
+      ∙ one_dot g tail t w n ds m ms (eqb-true m.0 46 h) (label_goes_on ms))
       (λ _. dotted_step g t n more m.0 m.1 (ms ++ tail) ds d)),
 )
 

@@ -8,16 +8,18 @@ use Rattle.gs_model.specs.declared.faults.Fault.{Fault}
 use Rattle.gs_model.specs.declared.faults.Fault.TheVariants.{Syntax}
 use Rattle.gs_body.specs.Bodies.{Ending, Whole, Faulty}
 use Rattle.gs_ntterm.specs.Marks.{Mark}
-use Rattle.gs_ntterm.specs.Classes.{is_space, is_line_end, may_stand_in_comment}
+use Rattle.gs_model.specs.Escapes.{is_line_end}
+use Rattle.gs_ntterm.specs.Classes.{is_space, may_stand_in_comment}
 use Rattle.gs_ntterm.specs.LineTerms.{LineTerm, Fixed, Labelled, iri_made}
-use Rattle.gs_ntterm.specs.Terminals.{Read, ◌>>=◌, skip, Plain, iri_after, string_after, label_at}
+use Rattle.gs_model.specs.Faults.{◌>>=◌}
+use Rattle.gs_ntterm.specs.Terminals.{FrontRead, skip, Plain, iri_after, string_after, label_at}
 use Rattle.gs_ntterm.proofs.Branches.{two_ways, by_test, by_test_knowing, otherwise}
 use Rattle.gs_ntterm.proofs.Holding.{iri_held-hold}
 use Rattle.gs_ntread.specs.LineTriples.{LineTriple}
 use Rattle.gs_ntread.specs.Grammar.{fixed, iri_read, label_read, before_text, suffix_at, predicate_at, object_at, dot_at}
-use Rattle.gs_ntread.specs.Documents.{Meant, comment_meant, rest_meant, triple_meant, line_meant, then_meant, lines_meant, document}
-use Rattle.gs_ntread.specs.States.{AtSubject, AtPredicate, AtObject, AtDot, AtEnd, Between, Comment, start, broken, sentence}
-use Rattle.gs_ntread.specs.Lines.{to_predicate, to_object, to_dot, iri_closed, string_closed}
+use Rattle.gs_ntread.specs.Documents.{Meant, comment_meant, rest_meant, triple_meant, line_meant, then_meant, lines_meant, document_meant}
+use Rattle.gs_ntread.specs.States.{AtSubject, AtPredicate, AtObject, AtDot, AtEnd, Between, Comment, line_start, broken, sentence}
+use Rattle.gs_ntread.specs.Lines.{predicate_next, object_next, dot_next, iri_closed, string_closed}
 use Rattle.gs_ntread.specs.Machine.{reading}
 use Rattle.gs_ntread.proofs.Keeping.{NoEnd, none, more, KeepsLine, keeps_made, keeps_iri, keeps_string, keeps_label, keeps_suffix, keeps_skip}
 use Rattle.gs_ntread.proofs.WalkTokens.{told, follow, Stops, at_nothing, at_feed, at_return, walk_broken, closes, after, walk_iri, walk_string}
@@ -27,7 +29,7 @@ use Rattle.gs_ntread.proofs.WalkLiterals.{literal_told, walk_suffix}
 -- what the lines after one mean
 abbrev pub after_line : List Mark → Meant
 after_line [] = ([], Whole)
-after_line (m ∷ ms) = told start ms
+after_line (m ∷ ms) = told line_start ms
 
 pub walk_comment : (line tail : List Mark) → NoEnd line → Stops tail → told (AtSubject, Comment) (line ++ tail) ≡ then_meant ([], comment_meant line) (after_line tail)
 unfolding rest
@@ -58,16 +60,16 @@ then_joined ts Whole r = refl
 then_joined ts (Faulty e) r = ap (λ z. (z, Faulty e)) (append-nil ts)
 
 -- what a line says of its triple, and the lines after it
-abbrev pub meant : List Mark → Read LineTriple → Meant
+abbrev pub meant : List Mark → FrontRead LineTriple → Meant
 meant tail r = then_meant (triple_meant r) (after_line tail)
 
-abbrev pub object_then : LineTerm → Term → LineTerm × List Mark → Read LineTriple
+abbrev pub object_then : LineTerm → Term → LineTerm × List Mark → FrontRead LineTriple
 object_then s p o = dot_at (skip o.1) >>= λ d. Ok (sentence s p o.0 d.0, d.1)
 
-abbrev pub predicate_then : LineTerm → Term × List Mark → Read LineTriple
+abbrev pub predicate_then : LineTerm → Term × List Mark → FrontRead LineTriple
 predicate_then s p = object_at (skip p.1) >>= object_then s p.0
 
-abbrev pub subject_then : LineTerm × List Mark → Read LineTriple
+abbrev pub subject_then : LineTerm × List Mark → FrontRead LineTriple
 subject_then s = predicate_at (skip s.1) >>= predicate_then s.0
 
 pub walk_dot : (s : LineTerm) (p : Term) (o : LineTerm) (line tail : List Mark) → NoEnd line → Stops tail
@@ -89,31 +91,31 @@ faulty e x tail = walk_broken e x
 
 -- after an IRI that is an object
 object_told : (s : LineTerm) (p : Term) (y tail : List Mark) (r : Result Term Fault) → Stops tail → KeepsLine (before_text y r)
-    → told (to_dot s p r) (y ++ tail) ≡ meant tail (fixed (before_text y r) >>= object_then s p)
+    → told (dot_next s p r) (y ++ tail) ≡ meant tail (fixed (before_text y r) >>= object_then s p)
 object_told s p y tail (Ok t) q h = walk_dot s p (Fixed t) y tail h q
 object_told s p y tail (Err e) q h = faulty e (y ++ tail) tail
 
-closes_object : (s : LineTerm) (p : Term) (tail : List Mark) (r : Read (List ℕ)) → Stops tail → KeepsLine r
+closes_object : (s : LineTerm) (p : Term) (tail : List Mark) (r : FrontRead (List ℕ)) → Stops tail → KeepsLine r
     → after (closes (iri_closed (AtObject s p))) tail [] r ≡ meant tail (fixed (iri_read r) >>= object_then s p)
 closes_object s p tail (Err e) q h = refl
 closes_object s p tail (Ok i) q h =
-    ap (λ r. told (to_dot s p r) (i.1 ++ tail)) (iri_held-hold i.0)
+    ap (λ r. told (dot_next s p r) (i.1 ++ tail)) (iri_held-hold i.0)
     ∙ object_told s p i.1 tail (iri_made i.0) q (keeps_made i.1 (Iri i.0) h)
 
 -- after a literal
-literal_closed : (s : LineTerm) (p : Term) (tail : List Mark) (r : Read Term) → Stops tail → KeepsLine r
+literal_closed : (s : LineTerm) (p : Term) (tail : List Mark) (r : FrontRead Term) → Stops tail → KeepsLine r
     → literal_told s p tail r ≡ meant tail (fixed r >>= object_then s p)
 literal_closed s p tail (Err e) q h = refl
 literal_closed s p tail (Ok r) q h = walk_dot s p (Fixed r.0) r.1 tail h q
 
-closes_string : (s : LineTerm) (p : Term) (tail : List Mark) (r : Read (List ℕ)) → Stops tail → KeepsLine r
+closes_string : (s : LineTerm) (p : Term) (tail : List Mark) (r : FrontRead (List ℕ)) → Stops tail → KeepsLine r
     → after (closes (string_closed (AtObject s p))) tail [] r ≡ meant tail (fixed (r >>= λ l. suffix_at l.0 (skip l.1)) >>= object_then s p)
 closes_string s p tail (Err e) q h = refl
 closes_string s p tail (Ok l) q h =
     walk_suffix s p l.0 l.1 tail q ∙ literal_closed s p tail (suffix_at l.0 (skip l.1)) q (keeps_suffix l.0 (skip l.1) (keeps_skip l.1 h))
 
 -- after a label that is an object
-closes_label : (s : LineTerm) (p : Term) (tail : List Mark) (r : Read (List ℕ)) → Stops tail → KeepsLine r
+closes_label : (s : LineTerm) (p : Term) (tail : List Mark) (r : FrontRead (List ℕ)) → Stops tail → KeepsLine r
     → after (label_closed (AtObject s p)) tail [] r ≡ meant tail (label_read r >>= object_then s p)
 closes_label s p tail (Err e) q h = refl
 closes_label s p tail (Ok l) q h = walk_dot s p (Labelled l.0) l.1 tail h q
@@ -137,15 +139,15 @@ walk_object s p (m ∷ ms) tail (more h n) q =
 
 -- after a predicate
 predicate_told : (s : LineTerm) (y tail : List Mark) (r : Result Term Fault) → Stops tail → KeepsLine (before_text y r)
-    → told (to_object s r) (y ++ tail) ≡ meant tail (before_text y r >>= predicate_then s)
+    → told (object_next s r) (y ++ tail) ≡ meant tail (before_text y r >>= predicate_then s)
 predicate_told s y tail (Ok t) q h = walk_object s t y tail h q
 predicate_told s y tail (Err e) q h = faulty e (y ++ tail) tail
 
-closes_predicate : (s : LineTerm) (tail : List Mark) (r : Read (List ℕ)) → Stops tail → KeepsLine r
+closes_predicate : (s : LineTerm) (tail : List Mark) (r : FrontRead (List ℕ)) → Stops tail → KeepsLine r
     → after (closes (iri_closed (AtPredicate s))) tail [] r ≡ meant tail (iri_read r >>= predicate_then s)
 closes_predicate s tail (Err e) q h = refl
 closes_predicate s tail (Ok i) q h =
-    ap (λ r. told (to_object s r) (i.1 ++ tail)) (iri_held-hold i.0)
+    ap (λ r. told (object_next s r) (i.1 ++ tail)) (iri_held-hold i.0)
     ∙ predicate_told s i.1 tail (iri_made i.0) q (keeps_made i.1 (Iri i.0) h)
 
 pub walk_predicate : (s : LineTerm) (line tail : List Mark) → NoEnd line → Stops tail
@@ -163,25 +165,25 @@ walk_predicate s (m ∷ ms) tail (more h n) q =
 
 -- after a subject
 subject_told : (y tail : List Mark) (r : Result Term Fault) → Stops tail → KeepsLine (before_text y r)
-    → told (to_predicate r) (y ++ tail) ≡ meant tail (fixed (before_text y r) >>= subject_then)
+    → told (predicate_next r) (y ++ tail) ≡ meant tail (fixed (before_text y r) >>= subject_then)
 subject_told y tail (Ok t) q h = walk_predicate (Fixed t) y tail h q
 subject_told y tail (Err e) q h = faulty e (y ++ tail) tail
 
-closes_subject : (tail : List Mark) (r : Read (List ℕ)) → Stops tail → KeepsLine r
+closes_subject : (tail : List Mark) (r : FrontRead (List ℕ)) → Stops tail → KeepsLine r
     → after (closes (iri_closed AtSubject)) tail [] r ≡ meant tail (fixed (iri_read r) >>= subject_then)
 closes_subject tail (Err e) q h = refl
 closes_subject tail (Ok i) q h =
-    ap (λ r. told (to_predicate r) (i.1 ++ tail)) (iri_held-hold i.0)
+    ap (λ r. told (predicate_next r) (i.1 ++ tail)) (iri_held-hold i.0)
     ∙ subject_told i.1 tail (iri_made i.0) q (keeps_made i.1 (Iri i.0) h)
 
 -- after a label that is a subject
-closes_subject_label : (tail : List Mark) (r : Read (List ℕ)) → Stops tail → KeepsLine r
+closes_subject_label : (tail : List Mark) (r : FrontRead (List ℕ)) → Stops tail → KeepsLine r
     → after (label_closed AtSubject) tail [] r ≡ meant tail (label_read r >>= subject_then)
 closes_subject_label tail (Err e) q h = refl
 closes_subject_label tail (Ok l) q h = walk_predicate (Labelled l.0) l.1 tail h q
 
 -- a whole line
-pub walk_line : (line tail : List Mark) → NoEnd line → Stops tail → told start (line ++ tail) ≡ then_meant (line_meant line) (after_line tail)
+pub walk_line : (line tail : List Mark) → NoEnd line → Stops tail → told line_start (line ++ tail) ≡ then_meant (line_meant line) (after_line tail)
 unfolding rest
 walk_line [] tail n at_nothing = refl
 walk_line [] tail n (at_feed k ms) = refl
@@ -211,13 +213,13 @@ then_nothing : (r : Meant) → then_meant r ([], Whole) ≡ r
 then_nothing (ts, Whole) = ap (λ z. (z, Whole)) (append-nil ts)
 then_nothing (ts, Faulty e) = refl
 
-walk_lines : (line x : List Mark) → NoEnd line → told start (line ++ x) ≡ lines_meant line x
+walk_lines : (line x : List Mark) → NoEnd line → told line_start (line ++ x) ≡ lines_meant line x
 walk_lines line [] n = walk_line line [] n at_nothing ∙ then_nothing (line_meant line)
 walk_lines line (m ∷ ms) n =
-    by_test_knowing (λ (z : Meant). told start (line ++ m ∷ ms)) (λ v. cond v (then_meant (line_meant line) (lines_meant [] ms)) (lines_meant (line ++ m ∷ []) ms)) (is_line_end m.0) ([], Whole) ([], Whole)
+    by_test_knowing (λ (z : Meant). told line_start (line ++ m ∷ ms)) (λ v. cond v (then_meant (line_meant line) (lines_meant [] ms)) (lines_meant (line ++ m ∷ []) ms)) (is_line_end m.0) ([], Whole) ([], Whole)
     (λ h. walk_line line (m ∷ ms) n (stops_at m ms _ _ refl refl h) ∙ ap (then_meant (line_meant line)) (walk_lines [] ms none))
-    (λ h. ap (told start) (sym (append_assoc line (m ∷ []) ms)) ∙ walk_lines (line ++ m ∷ []) ms (NoEnd-push line m n h))
+    (λ h. ap (told line_start) (sym (append_assoc line (m ∷ []) ms)) ∙ walk_lines (line ++ m ∷ []) ms (NoEnd-push line m n h))
 
 -- what is read of a document character by character is what the grammar says
-pub read_is : (x : List Mark) → rest reading start x ≡ document x
+pub read_is : (x : List Mark) → rest reading line_start x ≡ document_meant x
 read_is x = walk_lines [] x none

@@ -11,14 +11,15 @@ use Rattle.gs_body.specs.Bodies.{Faulty}
 use Rattle.gs_ntterm.specs.Marks.{Mark}
 use Rattle.gs_ntterm.specs.Classes.{is_space, is_tag_char}
 use Rattle.gs_ntterm.specs.LineTerms.{LineTerm, Fixed, plain_made, typed_made, tagged_made, fault_of}
-use Rattle.gs_ntterm.specs.Terminals.{Read, ◌>>=◌, skip, Plain, iri_after, begins_part, tag_after}
+use Rattle.gs_model.specs.Faults.{◌>>=◌}
+use Rattle.gs_ntterm.specs.Terminals.{FrontRead, skip, Plain, iri_after, begins_part, tag_after}
 use Rattle.gs_ntterm.specs.Tokens.{hold, add, tagged_held, typed_held, plain_held}
 use Rattle.gs_ntterm.proofs.Branches.{two_ways, by_test, by_test_knowing, otherwise}
 use Rattle.gs_ntterm.proofs.Holding.{add-hold, plain_held-hold, typed_held-hold, tagged_held-hold}
 use Rattle.gs_ntread.specs.Grammar.{before_text, datatype_at, caret_at, tag_at, suffix_at}
 use Rattle.gs_ntread.specs.Documents.{Meant}
 use Rattle.gs_ntread.specs.States.{AtSuffix, AtDatatype, AtDot, Between, Caret, AtSign, InTag, Hyphen, broken}
-use Rattle.gs_ntread.specs.Lines.{to_dot, after_literal, iri_closed}
+use Rattle.gs_ntread.specs.Lines.{dot_next, after_literal, iri_closed}
 use Rattle.gs_ntread.proofs.WalkTokens.{told, follow, Stops, at_nothing, at_feed, at_return, walk_broken, closes, after, walk_iri}
 
 -- after a literal that ended, with the text y to come
@@ -27,7 +28,7 @@ go_on s p (Err e) y = ([], Faulty e)
 go_on s p (Ok t) y = told (AtDot s p (Fixed t), Between) y
 
 -- after a literal that was read
-abbrev pub literal_told : LineTerm → Term → List Mark → Read Term → Meant
+abbrev pub literal_told : LineTerm → Term → List Mark → FrontRead Term → Meant
 literal_told s p tail (Err e) = ([], Faulty e)
 literal_told s p tail (Ok r) = told (AtDot s p (Fixed r.0), Between) (r.1 ++ tail)
 
@@ -45,7 +46,7 @@ unfolding rest
 end_literal s p (Ok t) = refl
 end_literal s p (Err e) = refl
 
-pub dot_after : (s : LineTerm) (p : Term) (r : Result Term Fault) (y : List Mark) → told (to_dot s p r) y ≡ go_on s p r y
+pub dot_after : (s : LineTerm) (p : Term) (r : Result Term Fault) (y : List Mark) → told (dot_next s p r) y ≡ go_on s p r y
 dot_after s p (Ok t) y = refl
 dot_after s p (Err e) y = walk_broken e y
 
@@ -128,7 +129,7 @@ walk_tag s p l (m ∷ ms) tail h = (
     parts m ms true = refl
     parts m ms false = refl
 
-closes_datatype : (s : LineTerm) (p : Term) (l : List ℕ) (tail : List Mark) (r : Read (List ℕ))
+closes_datatype : (s : LineTerm) (p : Term) (l : List ℕ) (tail : List Mark) (r : FrontRead (List ℕ))
     → after (closes (iri_closed (AtDatatype s p (hold l)))) tail [] r ≡ literal_told s p tail (r >>= λ i. before_text i.1 (typed_made l i.0))
 closes_datatype s p l tail (Err e) = refl
 closes_datatype s p l tail (Ok i) =

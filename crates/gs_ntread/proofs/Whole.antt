@@ -6,13 +6,13 @@ use Rattle.gs_machine.proofs.MachineLemmas.{rest-append, rest-composed, steps-on
 use Rattle.gs_model.specs.declared.faults.Fault.{Fault}
 use Rattle.gs_body.specs.Bodies.{Ending, Faulty, Statement}
 use Rattle.gs_blank.specs.Numbers.{Numbers, no_numbers}
-use Rattle.gs_ntterm.specs.Marks.{Mark, marks, places, end_of}
+use Rattle.gs_ntterm.specs.Marks.{Mark, marks, places, char_end}
 use Rattle.gs_ntread.specs.LineTriples.{LineTriple}
-use Rattle.gs_ntread.specs.Documents.{numbering, stated, meaning_by}
-use Rattle.gs_ntread.specs.States.{State, Turn, Between, Comment, InIri, InString, Underscore, Colon, InLabel, InDots, Caret, AtSign, InTag, Hyphen, Broken, broken, start}
+use Rattle.gs_ntread.specs.Documents.{numbering, line_stated, meaning_by}
+use Rattle.gs_ntread.specs.States.{LineState, LineTurn, Between, Comment, InIri, InString, Underscore, Colon, InLabel, InDots, Caret, AtSign, InTag, Hyphen, Broken, broken, line_start}
 use Rattle.gs_ntread.specs.Turns.{turn}
 use Rattle.gs_ntread.specs.Machine.{end_of_text, reading}
-use Rattle.gs_ntread.specs.Reader.{keeping, stating, placing, ntriples, unread}
+use Rattle.gs_ntread.specs.Reader.{keeping, stating, placing, ntriples, nothing_read}
 use Rattle.gs_ntread.proofs.WalkLines.{read_is}
 use Rattle.gs_ntread.proofs.WalkTokens.{walk_broken}
 
@@ -28,19 +28,19 @@ rest-keeping a b s t (i ∷ is) =
 places-marks : (n : ℕ) (cs : List ℕ) → (rest places n cs).0 ≡ marks n cs
 unfolding rest marks
 places-marks n [] = refl
-places-marks n (c ∷ cs) = ap (λ z. (c, end_of n c) ∷ z) (places-marks (end_of n c) cs)
+places-marks n (c ∷ cs) = ap (λ z. (c, char_end n c) ∷ z) (places-marks (char_end n c) cs)
 
-pub stating_is : (r : ℕ) (q : State) (n : Numbers) (ms : List Mark) → rest (stating r) (q, n) ms ≡ ((rest (numbering r) n (rest reading q ms).0).0, (rest reading q ms).1)
+pub stating_is : (r : ℕ) (q : LineState) (n : Numbers) (ms : List Mark) → rest (stating r) (q, n) ms ≡ ((rest (numbering r) n (rest reading q ms).0).0, (rest reading q ms).1)
 stating_is r q n ms = rest-keeping reading (numbering r) q n ms
 
 -- what is said by the machine is the meaning
-pub meaning_is : (r : ℕ) (x : List ℕ) → rest (ntriples r) unread x ≡ meaning_by r x
+pub meaning_is : (r : ℕ) (x : List ℕ) → rest (ntriples r) nothing_read x ≡ meaning_by r x
 unfolding meaning_by symbols
 meaning_is r x =
-    rest-composed utf8 (placing r) Ready (0, (start, no_numbers)) x
-    ∙ rest-composed places (stating r) 0 (start, no_numbers) (symbols x)
-    ∙ ap (rest (stating r) (start, no_numbers)) (places-marks 0 (symbols x))
-    ∙ stating_is r start no_numbers (marks 0 (symbols x))
+    rest-composed utf8 (placing r) Ready (0, (line_start, no_numbers)) x
+    ∙ rest-composed places (stating r) 0 (line_start, no_numbers) (symbols x)
+    ∙ ap (rest (stating r) (line_start, no_numbers)) (places-marks 0 (symbols x))
+    ∙ stating_is r line_start no_numbers (marks 0 (symbols x))
     ∙ ap (λ (d : List LineTriple × Ending). ((rest (numbering r) no_numbers d.0).0, d.1)) (read_is (marks 0 (symbols x)))
 
 -- a machine that is broken says nothing more
@@ -53,7 +53,7 @@ says_nothing r d n e m y =
     ∙ ap (λ (u : List LineTriple × Ending). ((rest (numbering r) m u.0).0, u.1)) (walk_broken e (rest places n (rest utf8 d y).0).0)
 
 -- between two characters the text may go on so that nothing more is said
-pub silence : (r n : ℕ) (q : State) (m : Numbers) → (y : List ℕ) × ((rest (ntriples r) (Ready, (n, (q, m))) y).0 ≡ [])
+pub silence : (r n : ℕ) (q : LineState) (m : Numbers) → (y : List ℕ) × ((rest (ntriples r) (Ready, (n, (q, m))) y).0 ≡ [])
 unfolding rest composed keeping steps
 silence r n (g, Between) m = ([], refl)
 silence r n (g, Comment) m = ([], refl)
@@ -70,18 +70,18 @@ silence r n (g, Hyphen h) m = ([], refl)
 silence r n (g, Broken e) m = ([], refl)
 
 -- one character
-pub character-none : (r n : ℕ) (q q' : State) (m : Numbers) (c : ℕ) → (q', []) ≡ turn q.0 q.1 c (end_of n c) → (placing r).step (n, (q, m)) c ≡ ((end_of n c, (q', m)), [])
+pub character-none : (r n : ℕ) (q q' : LineState) (m : Numbers) (c : ℕ) → (q', []) ≡ turn q.0 q.1 c (char_end n c) → (placing r).step (n, (q, m)) c ≡ ((char_end n c, (q', m)), [])
 unfolding composed keeping steps
-character-none r n q q' m c e = ap (λ (u : Turn). ((end_of n c, (u.0, (steps (numbering r) m u.1).0)), (steps (numbering r) m u.1).1 ++ [])) (sym e)
+character-none r n q q' m c e = ap (λ (u : LineTurn). ((char_end n c, (u.0, (steps (numbering r) m u.1).0)), (steps (numbering r) m u.1).1 ++ [])) (sym e)
 
-pub character-some : (r n : ℕ) (q q' : State) (m : Numbers) (c : ℕ) (s : LineTriple) → (q', s ∷ []) ≡ turn q.0 q.1 c (end_of n c)
-    → (placing r).step (n, (q, m)) c ≡ ((end_of n c, (q', (stated r m s).0)), (stated r m s).1)
+pub character-some : (r n : ℕ) (q q' : LineState) (m : Numbers) (c : ℕ) (s : LineTriple) → (q', s ∷ []) ≡ turn q.0 q.1 c (char_end n c)
+    → (placing r).step (n, (q, m)) c ≡ ((char_end n c, (q', (line_stated r m s).0)), (line_stated r m s).1)
 unfolding composed keeping steps
-character-some r n q q' m c s e = ap (λ (u : Turn). ((end_of n c, (u.0, (steps (numbering r) m u.1).0)), (steps (numbering r) m u.1).1 ++ [])) (sym e)
+character-some r n q q' m c s e = ap (λ (u : LineTurn). ((char_end n c, (u.0, (steps (numbering r) m u.1).0)), (steps (numbering r) m u.1).1 ++ [])) (sym e)
 
 -- one byte
 abbrev pub Placed : Type 0
-Placed = ℕ × (State × Numbers)
+Placed = ℕ × (LineState × Numbers)
 
 pub byte-none : (r : ℕ) (d d' : Decoding) (p : Placed) (b : ℕ) → (d', []) ≡ decode_step d b → (ntriples r).step (d, p) b ≡ ((d', p), [])
 unfolding composed steps
@@ -95,11 +95,11 @@ byte-some r d d' p b c e =
     ∙ ap (λ (v : Placed × List Statement). ((d', v.0), v.1)) (steps-one (placing r) p c)
 
 -- the text ends between two characters
-pub end-none : (r : ℕ) (q : State) (n : Numbers) (e : Ending) → ([], e) ≡ end_of_text q.0 q.1 → rest (stating r) (q, n) [] ≡ ([], e)
+pub end-none : (r : ℕ) (q : LineState) (n : Numbers) (e : Ending) → ([], e) ≡ end_of_text q.0 q.1 → rest (stating r) (q, n) [] ≡ ([], e)
 unfolding rest keeping
 end-none r q n e h = ap (λ (d : List LineTriple × Ending). ((rest (numbering r) n d.0).0, d.1)) (sym h)
 
-pub end-some : (r : ℕ) (q : State) (n : Numbers) (e : Ending) (s : LineTriple) → (s ∷ [], e) ≡ end_of_text q.0 q.1 → rest (stating r) (q, n) [] ≡ ((stated r n s).1, e)
+pub end-some : (r : ℕ) (q : LineState) (n : Numbers) (e : Ending) (s : LineTriple) → (s ∷ [], e) ≡ end_of_text q.0 q.1 → rest (stating r) (q, n) [] ≡ ((line_stated r n s).1, e)
 unfolding rest keeping
 end-some r q n e s h = ap (λ (d : List LineTriple × Ending). ((rest (numbering r) n d.0).0, d.1)) (sym h)
 

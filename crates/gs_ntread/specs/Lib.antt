@@ -1,4 +1,4 @@
--- Read in this order: what a document says by the grammar, the machine that reads it, what the reader's fields mean.
+-- Read in this order: what a document says by the grammar, the machine that reads it, what the reader's fields mean, what its calls do.
 pub mod LineTriples
 pub mod Grammar
 pub mod Documents
@@ -8,5 +8,6 @@ pub mod Turns
 pub mod Machine
 pub mod Runs
 pub mod Views
+pub mod Clauses
 pub mod Reader
 pub mod Readers

@@ -7,7 +7,7 @@ use Rattle.gs_body.specs.Bodies.{Ending, Whole, Faulty}
 use Rattle.gs_ntterm.specs.Marks.{Mark}
 use Rattle.gs_ntterm.specs.LineTerms.{Labelled}
 use Rattle.gs_ntread.specs.LineTriples.{LineTriple}
-use Rattle.gs_ntread.specs.States.{Stage, AtSubject, AtObject, AtSuffix, AtEnd, Mode, Between, Comment, InDots, Caret, AtSign, InTag, Hyphen, Broken, State, sentence}
+use Rattle.gs_ntread.specs.States.{Stage, AtSubject, AtObject, AtSuffix, AtEnd, TokenMode, Between, Comment, InDots, Caret, AtSign, InTag, Hyphen, Broken, LineState, sentence}
 use Rattle.gs_ntread.specs.Lines.{string_fault}
 use Rattle.gs_ntread.specs.Turns.{turn, tag_fault}
 
@@ -24,7 +24,7 @@ dots_end (AtObject s p) label first more = (sentence s p (Labelled label) first 
 dots_end g label first more = ([], Faulty Syntax)
 
 -- the end of the text: the triple that is complete by that, and the ending
-abbrev pub end_of_text : Stage → Mode → List LineTriple × Ending
+abbrev pub end_of_text : Stage → TokenMode → List LineTriple × Ending
 end_of_text g Between = ([], between_end g)
 end_of_text g Comment = ([], Whole)
 end_of_text g (InDots label first more) = dots_end g label first more
@@ -36,5 +36,5 @@ end_of_text g (Broken e) = ([], Faulty e)
 end_of_text g m = ([], Faulty Syntax)
 
 -- from characters to the triples of lines
-abbrev pub reading : Machine State Mark LineTriple Ending
+abbrev pub reading : Machine LineState Mark LineTriple Ending
 reading = record { step = λ s m. turn s.0 s.1 m.0 m.1; ended = λ s. end_of_text s.0 s.1 }

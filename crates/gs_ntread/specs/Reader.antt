@@ -6,7 +6,7 @@ use Rattle.gs_body.specs.Bodies.{Ending, Statement}
 use Rattle.gs_blank.specs.Numbers.{Numbers, no_numbers}
 use Rattle.gs_ntterm.specs.Marks.{Mark, places}
 use Rattle.gs_ntread.specs.Documents.{numbering}
-use Rattle.gs_ntread.specs.States.{State, start}
+use Rattle.gs_ntread.specs.States.{LineState, line_start}
 use Rattle.gs_ntread.specs.Machine.{reading}
 
 -- one machine after another, with the ending of the first
@@ -17,21 +17,21 @@ keeping a b = record {
 }
 
 -- from marks to triples of request r
-abbrev pub stating : ℕ → Machine (State × Numbers) Mark Statement Ending
+abbrev pub stating : ℕ → Machine (LineState × Numbers) Mark Statement Ending
 stating r = keeping reading (numbering r)
 
 -- from characters
-abbrev pub placing : ℕ → Machine (ℕ × (State × Numbers)) ℕ Statement Ending
+abbrev pub placing : ℕ → Machine (ℕ × (LineState × Numbers)) ℕ Statement Ending
 placing r = composed places (stating r)
 
 -- where the bytes so far lead
 abbrev pub Led : Type 0
-Led = Decoding × (ℕ × (State × Numbers))
+Led = Decoding × (ℕ × (LineState × Numbers))
 
 -- from bytes
 abbrev pub ntriples : ℕ → Machine Led ℕ Statement Ending
 ntriples r = composed utf8 (placing r)
 
 -- at the front of a body
-abbrev pub unread : Led
-unread = (Ready, (0, (start, no_numbers)))
+abbrev pub nothing_read : Led
+nothing_read = (Ready, (0, (line_start, no_numbers)))

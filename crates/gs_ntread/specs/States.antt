@@ -19,40 +19,40 @@ pub data Stage : Type 0 where
 
 -- Between two tokens, or within one. In dots that a label may go on after: the end of the first, and how many more. In a
 -- tag: whether digits may stand. After a '-' that a tag may go on after: the tag without it.
-pub data Mode : Type 0 where
-  Between : Mode
-  Comment : Mode
-  InIri : Inside → Held → Mode
-  InString : Inside → Held → Mode
-  Underscore : Mode
-  Colon : Mode
-  InLabel : List ℕ → Mode
-  InDots : List ℕ → (first more : ℕ) → Mode
-  Caret : Mode
-  AtSign : Mode
-  InTag : (digits : Bool) → Held → Mode
-  Hyphen : Held → Mode
-  Broken : Fault → Mode
+pub data TokenMode : Type 0 where
+  Between : TokenMode
+  Comment : TokenMode
+  InIri : Inside → Held → TokenMode
+  InString : Inside → Held → TokenMode
+  Underscore : TokenMode
+  Colon : TokenMode
+  InLabel : List ℕ → TokenMode
+  InDots : List ℕ → (first more : ℕ) → TokenMode
+  Caret : TokenMode
+  AtSign : TokenMode
+  InTag : (digits : Bool) → Held → TokenMode
+  Hyphen : Held → TokenMode
+  Broken : Fault → TokenMode
 
 -- where the characters so far lead
-abbrev pub State : Type 0
-State = Stage × Mode
+abbrev pub LineState : Type 0
+LineState = Stage × TokenMode
 
 -- the state after a character, and the triple that it completes
-abbrev pub Turn : Type 0
-Turn = State × List LineTriple
+abbrev pub LineTurn : Type 0
+LineTurn = LineState × List LineTriple
 
 -- at the front of a document
-abbrev pub start : State
-start = (AtSubject, Between)
+abbrev pub line_start : LineState
+line_start = (AtSubject, Between)
 
 -- nothing more is read
-abbrev pub broken : Fault → State
+abbrev pub broken : Fault → LineState
 broken e = (AtSubject, Broken e)
 
 -- no triple is complete
-abbrev pub quiet : State → Turn
-quiet s = (s, [])
+abbrev pub no_triple : LineState → LineTurn
+no_triple s = (s, [])
 
 -- a triple that is complete
 abbrev pub sentence : LineTerm → Term → LineTerm → ℕ → LineTriple

@@ -8,7 +8,7 @@ use Rattle.gs_ntterm.specs.Tokens.{Held}
 use Rattle.gs_ntterm.specs.Labels.{label_of}
 use Rattle.gs_ntterm.specs.Views.{held_of}
 use Rattle.gs_ntread.specs.LineTriples.{LineTriple}
-use Rattle.gs_ntread.specs.States.{Stage, AtSubject, AtPredicate, AtObject, AtSuffix, AtDatatype, AtDot, AtEnd, State, Between, Comment, InIri, InString, Underscore, Colon, InLabel, InDots, Caret, AtSign, InTag, Hyphen, broken}
+use Rattle.gs_ntread.specs.States.{Stage, AtSubject, AtPredicate, AtObject, AtSuffix, AtDatatype, AtDot, AtEnd, LineState, Between, Comment, InIri, InString, Underscore, Colon, InLabel, InDots, Caret, AtSign, InTag, Hyphen, broken}
 use Rattle.gs_ntread.specs.declared.parts.Subject.{Subject}
 use Rattle.gs_ntread.specs.declared.parts.Subject.TheVariants as subject
 use Rattle.gs_ntread.specs.declared.parts.Object.{Object}
@@ -41,7 +41,7 @@ stage_of (at.Dot s p o) l = AtDot (subject_of s) p.term (object_of o)
 stage_of at.End l = AtEnd
 
 -- what the fields stand for: each kind of token has only some of them
-abbrev pub shown : Within → Stage → Held → List ℕ → ℕ → ℕ → State
+abbrev pub shown : Within → Stage → Held → List ℕ → ℕ → ℕ → LineState
 shown within.Between g t label c v = (g, Between)
 shown within.Comment g t label c v = (AtSubject, Comment)
 shown within.Iri g t label c v = (g, InIri Plain t)
@@ -66,11 +66,11 @@ abbrev pub stage_at : Cursor → Stage
 stage_at c = stage_of c.place (held_of c.lexical)
 
 -- where a cursor stands
-abbrev pub state_of : Cursor → State
-state_of c = shown c.within (stage_at c) (held_of c.text) (label_of c.label) c.count c.value
+abbrev pub cursor_state : Cursor → LineState
+cursor_state c = shown c.within (stage_at c) (held_of c.text) (label_of c.label) c.count c.value
 
 -- a cursor at a place where no token has begun, or the fault
-abbrev pub settled : Result Place Fault → Held → State
+abbrev pub settled : Result Place Fault → Held → LineState
 settled (Ok place) l = (stage_of place l, Between)
 settled (Err fault) l = broken fault
 
@@ -89,9 +89,9 @@ abbrev pub sentence_of : Parts → LineTriple
 sentence_of p = record { subject = subject_of p.subject; predicate = p.predicate.term; object = object_of p.object; end = p.end }
 
 -- the triple that is complete, if there is one
-abbrev pub given : Option Parts → List LineTriple
-given None = []
-given (Some p) = sentence_of p ∷ []
+abbrev pub sentences_of : Option Parts → List LineTriple
+sentences_of None = []
+sentences_of (Some p) = sentence_of p ∷ []
 
 -- how a text ends
 abbrev pub ending_of : Result (Unit {0}) Fault → Ending

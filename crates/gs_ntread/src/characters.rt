@@ -3,29 +3,28 @@ ghost use Rattle.std.specs.Prelude.{◌≡◌, IfOk, OnOk};
 ghost use Rattle.gs_ntterm.specs.Terminals.{Plain, Escape, Digits};
 ghost use Rattle.gs_ntterm.specs.Labels.{label_of};
 ghost use Rattle.gs_ntterm.specs.Views.{held_of};
-ghost use Rattle.gs_ntread.specs.States.{quiet, Colon, InLabel, InDots, Comment};
-ghost use Rattle.gs_ntread.specs.Turns.{iri_turn, string_turn, turn};
-ghost use Rattle.gs_ntread.specs.Views.{state_of, stage_at, given};
+ghost use Rattle.gs_ntread.specs.States.{no_triple, Colon, Comment};
+ghost use Rattle.gs_ntread.specs.Views.{cursor_state};
+ghost use Rattle.gs_ntread.specs.Clauses.{AnswersTurn, digits_so_far, dots_so_far, iri_number_of, iri_turn_of, label_so_far, string_number_of, string_turn_of, turn_in};
 ghost use Rattle.gs_ntread.specs.declared.parts.Within.TheVariants as within;
 
 use crate::cursor::Cursor;
 use crate::parts::{Parts, Place, Within};
-use gs_chars::is_iri_char;
-use gs_ntterm::{
-    begins_label, char_of, escaped, is_label_char, is_line_end, may_stand_in_comment, with_digit,
-};
+use gs_chars::marks::{BACKSLASH, BIG_U, DOT, GREATER_THAN, QUOTE, SMALL_U};
+use gs_chars::{echar_meaning, is_iri_char, is_line_end};
+use gs_ntterm::{begins_label, char_of, is_label_char, may_stand_in_comment, with_digit};
 use std::alloc::AllocError;
 
 impl Cursor {
     /// A character of an IRI.
     pub fn in_iri(&mut self, c: u32) -> Result<(), AllocError>
         requires { self.old.within ≡ within.Iri }
-        ensures { OnOk result (state_of self.new ≡ iri_turn Plain (stage_at self.old) (held_of self.old.text) c) }
+        ensures { OnOk result (cursor_state self.new ≡ iri_turn_of self.old Plain c) }
     {
-        if c == 62 {
+        if c == GREATER_THAN {
             return self.close_iri();
         }
-        if c == 92 {
+        if c == BACKSLASH {
             self.within = Within::IriEscape;
             return Ok(());
         }
@@ -39,31 +38,21 @@ impl Cursor {
     /// The character after a backslash in an IRI.
     pub fn iri_escape(&mut self, c: u32)
         requires { self.old.within ≡ within.IriEscape }
-        ensures { state_of self.new ≡ iri_turn Escape (stage_at self.old) (held_of self.old.text) c }
+        ensures { cursor_state self.new ≡ iri_turn_of self.old Escape c }
     {
         self.within = Within::IriDigits;
         self.value = 0;
         match c {
-            117 => self.count = 3,
-            85 => self.count = 7,
+            SMALL_U => self.count = 3,
+            BIG_U => self.count = 7,
             _ => self.break_off(),
         }
     }
 
-    /// A digit of an escape in an IRI.
-    pub fn iri_digit(&mut self, c: u32) -> Result<(), AllocError>
-        requires { self.old.within ≡ within.IriDigits }
-        ensures { OnOk result (state_of self.new ≡ iri_turn (Digits self.old.count self.old.value) (stage_at self.old) (held_of self.old.text) c) }
+    /// The last digit of an escape in an IRI has come, which makes this number.
+    fn iri_number(&mut self, value: u64) -> Result<(), AllocError>
+        ensures { OnOk result (cursor_state self.new ≡ iri_number_of self.old value) }
     {
-        let Some(value) = with_digit(self.value, c) else {
-            self.break_off();
-            return Ok(());
-        };
-        if self.count != 0 {
-            self.count -= 1;
-            self.value = value;
-            return Ok(());
-        }
         match char_of(value) {
             Some(meant) if is_iri_char(meant) => {
                 self.within = Within::Iri;
@@ -74,20 +63,37 @@ impl Cursor {
         Ok(())
     }
 
+    /// A digit of an escape in an IRI.
+    pub fn iri_digit(&mut self, c: u32) -> Result<(), AllocError>
+        requires { self.old.within ≡ within.IriDigits }
+        ensures { OnOk result (cursor_state self.new ≡ iri_turn_of self.old (digits_so_far self.old) c) }
+    {
+        let Some(value) = with_digit(self.value, c) else {
+            self.break_off();
+            return Ok(());
+        };
+        if self.count != 0 {
+            self.count -= 1;
+            self.value = value;
+            return Ok(());
+        }
+        self.iri_number(value)
+    }
+
     /// A character of a string.
     pub fn in_string(&mut self, c: u32) -> Result<(), AllocError>
         requires { self.old.within ≡ within.Quoted }
-        ensures { OnOk result (state_of self.new ≡ string_turn Plain (stage_at self.old) (held_of self.old.text) c) }
+        ensures { OnOk result (cursor_state self.new ≡ string_turn_of self.old Plain c) }
     {
-        if c == 34 {
+        if c == QUOTE {
             self.close_string();
             return Ok(());
         }
-        if c == 92 {
+        if c == BACKSLASH {
             self.within = Within::QuotedEscape;
             return Ok(());
         }
-        if c == 10 || c == 13 {
+        if is_line_end(c) {
             self.break_off();
             return Ok(());
         }
@@ -101,15 +107,29 @@ impl Cursor {
     /// The character after a backslash in a string.
     pub fn string_escape(&mut self, c: u32) -> Result<(), AllocError>
         requires { self.old.within ≡ within.QuotedEscape }
-        ensures { OnOk result (state_of self.new ≡ string_turn Escape (stage_at self.old) (held_of self.old.text) c) }
+        ensures { OnOk result (cursor_state self.new ≡ string_turn_of self.old Escape c) }
     {
-        if c == 117 || c == 85 {
+        if c == SMALL_U || c == BIG_U {
             self.within = Within::QuotedDigits;
             self.value = 0;
-            self.count = if c == 117 { 3 } else { 7 };
+            self.count = if c == SMALL_U { 3 } else { 7 };
             return Ok(());
         }
-        match escaped(c) {
+        match echar_meaning(c) {
+            Some(meant) => {
+                self.within = Within::Quoted;
+                self.text.push(meant)?;
+            }
+            None => self.break_off(),
+        }
+        Ok(())
+    }
+
+    /// The last digit of an escape in a string has come, which makes this number.
+    fn string_number(&mut self, value: u64) -> Result<(), AllocError>
+        ensures { OnOk result (cursor_state self.new ≡ string_number_of self.old value) }
+    {
+        match char_of(value) {
             Some(meant) => {
                 self.within = Within::Quoted;
                 self.text.push(meant)?;
@@ -122,7 +142,7 @@ impl Cursor {
     /// A digit of an escape in a string.
     pub fn string_digit(&mut self, c: u32) -> Result<(), AllocError>
         requires { self.old.within ≡ within.QuotedDigits }
-        ensures { OnOk result (state_of self.new ≡ string_turn (Digits self.old.count self.old.value) (stage_at self.old) (held_of self.old.text) c) }
+        ensures { OnOk result (cursor_state self.new ≡ string_turn_of self.old (digits_so_far self.old) c) }
     {
         let Some(value) = with_digit(self.value, c) else {
             self.break_off();
@@ -133,20 +153,13 @@ impl Cursor {
             self.value = value;
             return Ok(());
         }
-        match char_of(value) {
-            Some(meant) => {
-                self.within = Within::Quoted;
-                self.text.push(meant)?;
-            }
-            None => self.break_off(),
-        }
-        Ok(())
+        self.string_number(value)
     }
 
     /// The first character of a label.
     pub fn begin_label(&mut self, c: u32) -> Result<(), AllocError>
         requires { self.old.within ≡ within.Colon }
-        ensures { OnOk result (quiet (state_of self.new) ≡ turn (stage_at self.old) Colon c 0) }
+        ensures { OnOk result (no_triple (cursor_state self.new) ≡ turn_in self.old Colon c 0) }
     {
         match char::from_u32(c) {
             Some(first) if begins_label(c) => {
@@ -161,7 +174,7 @@ impl Cursor {
     /// A character of a label, or after it, which ends after n bytes.
     pub fn in_label(&mut self, c: u32, n: u64) -> Result<Option<Parts>, AllocError>
         requires { self.old.within ≡ within.Label }
-        ensures { IfOk result (λ o. (state_of self.new, given o) ≡ turn (stage_at self.old) (InLabel (label_of self.old.label)) c n) }
+        ensures { AnswersTurn self.new result (turn_in self.old (label_so_far self.old) c n) }
     {
         match char::from_u32(c) {
             Some(next) if is_label_char(c) => {
@@ -170,7 +183,7 @@ impl Cursor {
             }
             _ => {}
         }
-        if c == 46 {
+        if c == DOT {
             self.within = Within::Dots;
             self.count = 0;
             self.value = n;
@@ -182,7 +195,7 @@ impl Cursor {
     /// A character after dots that may be a label's.
     pub fn in_dots(&mut self, c: u32) -> Result<Option<Parts>, AllocError>
         requires { self.old.within ≡ within.Dots }
-        ensures { IfOk result (λ o. (state_of self.new, given o) ≡ turn (stage_at self.old) (InDots (label_of self.old.label) self.old.value self.old.count) c 0) }
+        ensures { AnswersTurn self.new result (turn_in self.old (dots_so_far self.old) c 0) }
     {
         match char::from_u32(c) {
             Some(next) if is_label_char(c) => {
@@ -194,7 +207,7 @@ impl Cursor {
             }
             _ => {}
         }
-        if c == 46 {
+        if c == DOT {
             self.count = self.count.checked_add(1).ok_or(AllocError)?;
             return Ok(None);
         }
@@ -204,7 +217,7 @@ impl Cursor {
     /// A character of a comment, or after it.
     pub fn in_comment(&mut self, c: u32)
         requires { self.old.within ≡ within.Comment }
-        ensures { quiet (state_of self.new) ≡ turn (stage_at self.old) Comment c 0 }
+        ensures { no_triple (cursor_state self.new) ≡ turn_in self.old Comment c 0 }
     {
         if is_line_end(c) {
             self.place = Place::Subject;

@@ -2,8 +2,9 @@
 ghost use Rattle.std.specs.Prelude.{◌≡◌, OnOk, IfOk};
 ghost use Rattle.gs_ntterm.specs.Tokens.{Held, iri_held, typed_held};
 ghost use Rattle.gs_ntterm.specs.Views.{held_of};
-ghost use Rattle.gs_ntread.specs.Lines.{to_predicate as to_predicate_of, to_object as to_object_of, to_dot as to_dot_of, iri_closed, string_closed, caret_closed};
-ghost use Rattle.gs_ntread.specs.Views.{settled, subject_of, state_of, stage_at};
+ghost use Rattle.gs_ntread.specs.Lines.{predicate_next, object_next, dot_next, string_closed, caret_closed};
+ghost use Rattle.gs_ntread.specs.Views.{settled, subject_of, cursor_state, stage_at};
+ghost use Rattle.gs_ntread.specs.Clauses.{SettlesAs, iri_closed_of, token_iri, typed_next};
 
 use crate::cursor::Cursor;
 use crate::parts::{Object, Place, Subject, Within};
@@ -14,7 +15,7 @@ use std::mem;
 
 /// The place after a subject.
 fn to_predicate(alloc: Global, text: &Token) -> Result<Result<Place, Fault>, AllocError>
-    ensures { IfOk result (λ m. (l : Held) → settled m l ≡ to_predicate_of (iri_held (held_of text.now))) }
+    ensures { SettlesAs result (predicate_next (token_iri text.now)) }
 {
     Ok(match gs_ntterm::iri(alloc, text)? {
         Ok(name) => Ok(Place::Predicate(Subject::Iri(name))),
@@ -28,7 +29,7 @@ fn to_object(
     subject: Subject,
     text: &Token,
 ) -> Result<Result<Place, Fault>, AllocError>
-    ensures { IfOk result (λ m. (l : Held) → settled m l ≡ to_object_of (subject_of subject) (iri_held (held_of text.now))) }
+    ensures { SettlesAs result (object_next (subject_of subject) (token_iri text.now)) }
 {
     Ok(match gs_ntterm::iri(alloc, text)? {
         Ok(name) => Ok(Place::Object(subject, name)),
@@ -43,7 +44,7 @@ fn to_dot(
     predicate: Name,
     text: &Token,
 ) -> Result<Result<Place, Fault>, AllocError>
-    ensures { IfOk result (λ m. (l : Held) → settled m l ≡ to_dot_of (subject_of subject) predicate.term (iri_held (held_of text.now))) }
+    ensures { SettlesAs result (dot_next (subject_of subject) predicate.term (token_iri text.now)) }
 {
     Ok(match gs_ntterm::iri(alloc, text)? {
         Ok(name) => {
@@ -62,7 +63,7 @@ fn to_typed(
     lexical: &Token,
     text: &Token,
 ) -> Result<Result<Place, Fault>, AllocError>
-    ensures { IfOk result (λ m. (l : Held) → settled m l ≡ to_dot_of (subject_of subject) predicate.term (typed_held (held_of lexical.now) (held_of text.now))) }
+    ensures { SettlesAs result (typed_next subject predicate lexical.now text.now) }
 {
     Ok(match gs_ntterm::typed(alloc, lexical, text)? {
         Ok(term) => Ok(Place::Dot(subject, predicate, Object::Term(term))),
@@ -72,7 +73,7 @@ fn to_typed(
 
 impl Cursor {
     fn settle(&mut self, place: Result<Place, Fault>)
-        ensures { state_of self.new ≡ settled place (held_of self.old.lexical) }
+        ensures { cursor_state self.new ≡ settled place (held_of self.old.lexical) }
     {
         match place {
             Ok(place) => {
@@ -85,7 +86,7 @@ impl Cursor {
 
     /// The `>` of an IRI.
     pub fn close_iri(&mut self) -> Result<(), AllocError>
-        ensures { OnOk result (state_of self.new ≡ iri_closed (stage_at self.old) (held_of self.old.text)) }
+        ensures { OnOk result (cursor_state self.new ≡ iri_closed_of self.old) }
     {
         let alloc = self.alloc;
         let place = match mem::replace(&mut self.place, Place::End) {
@@ -103,7 +104,7 @@ impl Cursor {
 
     /// The second `"` of a string.
     pub fn close_string(&mut self)
-        ensures { state_of self.new ≡ string_closed (stage_at self.old) (held_of self.old.text) }
+        ensures { cursor_state self.new ≡ string_closed (stage_at self.old) (held_of self.old.text) }
     {
         match mem::replace(&mut self.place, Place::End) {
             Place::Object(subject, predicate) => {
@@ -117,7 +118,7 @@ impl Cursor {
 
     /// The second `^`.
     pub fn close_caret(&mut self)
-        ensures { state_of self.new ≡ caret_closed (stage_at self.old) }
+        ensures { cursor_state self.new ≡ caret_closed (stage_at self.old) }
     {
         match mem::replace(&mut self.place, Place::End) {
             Place::Suffix(subject, predicate) => {

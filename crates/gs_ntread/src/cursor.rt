@@ -3,13 +3,14 @@ ghost use Rattle.std.specs.Prelude.{◌≡◌, ◌∷◌, [], OnOk, IfOk, if◌t
 ghost use Rattle.gs_ntterm.specs.LineTerms.{LineTerm};
 ghost use Rattle.gs_ntterm.specs.Classes.{is_space as is_space_of};
 ghost use Rattle.gs_ntterm.specs.Tokens.{Text, plain_held};
-ghost use Rattle.gs_ntread.specs.States.{start, broken, quiet, Between, InIri, Underscore, InString};
-ghost use Rattle.gs_ntread.specs.Lines.{end_state, between_turn, after_literal, iri_closed, string_closed, caret_closed};
-ghost use Rattle.gs_ntread.specs.Turns.{turn};
+ghost use Rattle.gs_ntread.specs.States.{line_start, broken, no_triple};
+ghost use Rattle.gs_ntread.specs.Lines.{end_state, between_turn, after_literal, iri_begins, object_comes};
 
 use crate::parts::{Object, Parts, Place, Subject, Within};
+use gs_chars::is_line_end;
+use gs_chars::marks::{AT_SIGN, CARET, DOT, LESS_THAN, NUMBER_SIGN, QUOTE, UNDERSCORE};
 use gs_model::Fault;
-use gs_ntterm::{Label, Name, Token, is_line_end, is_space};
+use gs_ntterm::{Label, Name, Token, is_space};
 use gs_term::TermText;
 use std::alloc::{AllocError, Global};
 use std::mem;
@@ -18,12 +19,21 @@ use std::mem;
 #[derive(Drop)]
 pub struct Cursor {
     pub alloc: Global,
+    /// Which part of the line comes, with what was read of the line.
     pub place: Place,
+    /// Between two tokens, or in which token.
     pub within: Within,
+    /// The IRI, the string or the language tag that is being read.
     pub text: Token,
+    /// The string before a datatype or a language tag, as long as one may follow.
     pub lexical: Token,
+    /// The label that is being read, also in the dots after it.
     pub label: Label,
+    /// In an escape, how many digits come after the next one. In dots after a label, how many
+    /// there are after the first.
     pub count: u64,
+    /// In an escape, the number that its digits so far write. In dots after a label, how many
+    /// bytes the body has up to the end of the first dot.
     pub value: u64,
 }
 
@@ -32,13 +42,14 @@ impl Cursor {
     ghost use Rattle.gs_ntterm.specs.Terminals.{Plain};
     ghost use Rattle.gs_ntterm.specs.Labels.{label_of};
     ghost use Rattle.gs_ntterm.specs.Views.{held_of};
-    ghost use Rattle.gs_ntread.specs.Views.{state_of, stage_at, shown, subject_of, given, IsSuffix, IsDot};
+    ghost use Rattle.gs_ntread.specs.Views.{cursor_state, stage_at, subject_of, IsSuffix, IsDot};
+    ghost use Rattle.gs_ntread.specs.Clauses.{AnswersTurn, TurnsTo, opened_token};
     ghost use Rattle.gs_ntread.specs.declared.parts.Within.TheVariants as within;
     ghost use Rattle.gs_ntread.specs.declared.parts.Place.TheVariants as at;
 
     /// At the start of a document, with nothing read.
     pub fn new(alloc: Global) -> Cursor
-        ensures { state_of result ≡ start }
+        ensures { cursor_state result ≡ line_start }
     {
         Cursor {
             alloc,
@@ -54,21 +65,21 @@ impl Cursor {
 
     /// Nothing more is read, for a fault.
     pub fn fail(&mut self, fault: Fault)
-        ensures { state_of self.new ≡ broken fault }
+        ensures { cursor_state self.new ≡ broken fault }
     {
         self.within = Within::Faulty(fault);
     }
 
     /// The grammar is broken.
     pub fn break_off(&mut self)
-        ensures { state_of self.new ≡ broken Syntax }
+        ensures { cursor_state self.new ≡ broken Syntax }
     {
         self.fail(Fault::Syntax);
     }
 
     /// A token begins.
     pub fn open(&mut self, within: Within)
-        ensures { state_of self.new ≡ shown within (stage_at self.old) (Text []) (label_of self.old.label) self.old.count self.old.value }
+        ensures { cursor_state self.new ≡ opened_token self.old within }
     {
         self.text.clear();
         self.within = within;
@@ -78,15 +89,15 @@ impl Cursor {
     fn begin_line(&mut self, c: u32)
         requires between { self.old.within ≡ within.Between }
         requires place { self.old.place ≡ at.Subject }
-        ensures { quiet (state_of self.new) ≡ between_turn (stage_at self.old) c 0 }
+        ensures { no_triple (cursor_state self.new) ≡ between_turn (stage_at self.old) c 0 }
     {
         if is_space(c) || is_line_end(c) {
             return;
         }
         match c {
-            35 => self.within = Within::Comment,
-            60 => self.open(Within::Iri),
-            95 => self.within = Within::Underscore,
+            NUMBER_SIGN => self.within = Within::Comment,
+            LESS_THAN => self.open(Within::Iri),
+            UNDERSCORE => self.within = Within::Underscore,
             _ => self.break_off(),
         }
     }
@@ -94,13 +105,13 @@ impl Cursor {
     /// A character where only an IRI may begin.
     fn begin_iri(&mut self, c: u32)
         requires { self.old.within ≡ within.Between }
-        ensures { state_of self.new ≡ (let g = stage_at self.old in if is_space_of c then (g, Between) else if c == 60 then (g, InIri Plain (Text [])) else broken Syntax) }
+        ensures { cursor_state self.new ≡ iri_begins (stage_at self.old) c }
     {
         if is_space(c) {
             return;
         }
         match c {
-            60 => self.open(Within::Iri),
+            LESS_THAN => self.open(Within::Iri),
             _ => self.break_off(),
         }
     }
@@ -108,15 +119,15 @@ impl Cursor {
     /// A character where an object may begin.
     fn begin_object(&mut self, c: u32)
         requires { self.old.within ≡ within.Between }
-        ensures { state_of self.new ≡ (let g = stage_at self.old in if is_space_of c then (g, Between) else if c == 60 then (g, InIri Plain (Text [])) else if c == 95 then (g, Underscore) else if c == 34 then (g, InString Plain (Text [])) else broken Syntax) }
+        ensures { cursor_state self.new ≡ object_comes (stage_at self.old) c }
     {
         if is_space(c) {
             return;
         }
         match c {
-            60 => self.open(Within::Iri),
-            95 => self.within = Within::Underscore,
-            34 => self.open(Within::Quoted),
+            LESS_THAN => self.open(Within::Iri),
+            UNDERSCORE => self.within = Within::Underscore,
+            QUOTE => self.open(Within::Quoted),
             _ => self.break_off(),
         }
     }
@@ -125,14 +136,14 @@ impl Cursor {
     pub fn after_dot(&mut self, c: u32)
         requires between { self.old.within ≡ within.Between }
         requires place { self.old.place ≡ at.End }
-        ensures { state_of self.new ≡ end_state c }
+        ensures { cursor_state self.new ≡ end_state c }
     {
         if is_space(c) {
             return;
         }
         if is_line_end(c) {
             self.place = Place::Subject;
-        } else if c == 35 {
+        } else if c == NUMBER_SIGN {
             self.within = Within::Comment;
         } else {
             self.break_off();
@@ -143,12 +154,12 @@ impl Cursor {
     pub fn dot(&mut self, c: u32, n: u64) -> Option<Parts>
         requires between { self.old.within ≡ within.Between }
         requires place { IsDot self.old.place }
-        ensures { (state_of self.new, given result) ≡ between_turn (stage_at self.old) c n }
+        ensures { TurnsTo self.new result (between_turn (stage_at self.old) c n) }
     {
         if is_space(c) {
             return None;
         }
-        if c != 46 {
+        if c != DOT {
             self.break_off();
             return None;
         }
@@ -172,7 +183,7 @@ impl Cursor {
         c: u32,
         n: u64,
     ) -> Option<Parts>
-        ensures { (state_of self.new, given result) ≡ after_literal (subject_of subject) predicate.term literal c n }
+        ensures { TurnsTo self.new result (after_literal (subject_of subject) predicate.term literal c n) }
     {
         match literal {
             Ok(term) => {
@@ -191,16 +202,16 @@ impl Cursor {
     fn suffix(&mut self, c: u32, n: u64) -> Result<Option<Parts>, AllocError>
         requires between { self.old.within ≡ within.Between }
         requires place { IsSuffix self.old.place }
-        ensures { IfOk result (λ o. (state_of self.new, given o) ≡ between_turn (stage_at self.old) c n) }
+        ensures { AnswersTurn self.new result (between_turn (stage_at self.old) c n) }
     {
         if is_space(c) {
             return Ok(None);
         }
-        if c == 94 {
+        if c == CARET {
             self.within = Within::Caret;
             return Ok(None);
         }
-        if c == 64 {
+        if c == AT_SIGN {
             self.within = Within::AtSign;
             return Ok(None);
         }
@@ -216,7 +227,7 @@ impl Cursor {
     /// A character between two tokens.
     pub fn between(&mut self, c: u32, n: u64) -> Result<Option<Parts>, AllocError>
         requires { self.old.within ≡ within.Between }
-        ensures { IfOk result (λ o. (state_of self.new, given o) ≡ between_turn (stage_at self.old) c n) }
+        ensures { AnswersTurn self.new result (between_turn (stage_at self.old) c n) }
     {
         match &self.place {
             Place::Subject => self.begin_line(c),

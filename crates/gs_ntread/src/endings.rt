@@ -3,19 +3,21 @@ ghost use Rattle.std.specs.Prelude.{◌≡◌, ◌==◌, IfOk, if◌then◌else�
 ghost use Rattle.gs_model.specs.declared.faults.Fault.TheVariants.{Syntax};
 ghost use Rattle.gs_ntterm.specs.Labels.{label_of};
 ghost use Rattle.gs_ntterm.specs.Views.{held_of};
-ghost use Rattle.gs_ntread.specs.States.{quiet, broken, Hyphen};
+ghost use Rattle.gs_ntread.specs.States.{no_triple, broken};
 ghost use Rattle.gs_ntread.specs.Lines.{end_state};
-ghost use Rattle.gs_ntread.specs.Turns.{label_turn, dotted_turn, tag_turn};
-ghost use Rattle.gs_ntread.specs.Views.{state_of, stage_at, given};
+ghost use Rattle.gs_ntread.specs.Turns.{label_turn, tag_turn, tag_ended};
+ghost use Rattle.gs_ntread.specs.Views.{cursor_state, stage_at};
+ghost use Rattle.gs_ntread.specs.Clauses.{AnswersTurn, TurnsTo, dotted_turn_of};
 
 use crate::cursor::Cursor;
 use crate::parts::{Object, Parts, Place, Subject, Within};
+use gs_chars::marks::HYPHEN;
 use std::alloc::AllocError;
 use std::mem;
 
 impl Cursor {
     fn stop(&mut self) -> Option<Parts>
-        ensures { (state_of self.new, given result) ≡ quiet (broken Syntax) }
+        ensures { TurnsTo self.new result (no_triple (broken Syntax)) }
     {
         self.break_off();
         None
@@ -23,7 +25,7 @@ impl Cursor {
 
     /// A character after a label.
     pub fn after_label(&mut self, c: u32, n: u64) -> Result<Option<Parts>, AllocError>
-        ensures { IfOk result (λ o. (state_of self.new, given o) ≡ label_turn (stage_at self.old) (label_of self.old.label) c n) }
+        ensures { AnswersTurn self.new result (label_turn (stage_at self.old) (label_of self.old.label) c n) }
     {
         let label = self.label.copy(self.alloc)?;
         match mem::replace(&mut self.place, Place::End) {
@@ -43,7 +45,7 @@ impl Cursor {
 
     /// Where a label that is an object and dots have ended: the first dot ended the statement.
     fn after_statement(&mut self, c: u32)
-        ensures { state_of self.new ≡ (if self.old.count == 0 then end_state c else broken Syntax) }
+        ensures { cursor_state self.new ≡ (if self.old.count == 0 then end_state c else broken Syntax) }
     {
         self.within = Within::Between;
         self.place = Place::End;
@@ -56,7 +58,7 @@ impl Cursor {
 
     /// A character after a label and dots that are not the label's.
     pub fn after_dots(&mut self, c: u32) -> Result<Option<Parts>, AllocError>
-        ensures { IfOk result (λ o. (state_of self.new, given o) ≡ dotted_turn (stage_at self.old) (label_of self.old.label) self.old.value self.old.count c) }
+        ensures { AnswersTurn self.new result (dotted_turn_of self.old c) }
     {
         let label = self.label.copy(self.alloc)?;
         let end = self.value;
@@ -76,7 +78,7 @@ impl Cursor {
 
     /// A character after a language tag.
     fn after_tag(&mut self, c: u32, n: u64) -> Result<Option<Parts>, AllocError>
-        ensures { IfOk result (λ o. (state_of self.new, given o) ≡ tag_turn (stage_at self.old) (held_of self.old.text) c n) }
+        ensures { AnswersTurn self.new result (tag_turn (stage_at self.old) (held_of self.old.text) c n) }
     {
         match mem::replace(&mut self.place, Place::End) {
             Place::Suffix(subject, predicate) => {
@@ -89,9 +91,9 @@ impl Cursor {
 
     /// A character that does not go on with a part of a language tag.
     pub fn tag_ends(&mut self, c: u32, n: u64) -> Result<Option<Parts>, AllocError>
-        ensures { IfOk result (λ o. (state_of self.new, given o) ≡ (if c == 45 then quiet (stage_at self.old, Hyphen (held_of self.old.text)) else tag_turn (stage_at self.old) (held_of self.old.text) c n)) }
+        ensures { AnswersTurn self.new result (tag_ended (stage_at self.old) (held_of self.old.text) c n) }
     {
-        if c == 45 {
+        if c == HYPHEN {
             self.within = Within::Hyphen;
             return Ok(None);
         }

@@ -1,8 +1,9 @@
 //! The end of the text.
 ghost use Rattle.std.specs.Prelude.{◌≡◌, IfOk};
 ghost use Rattle.gs_ntterm.specs.Labels.{label_of};
-ghost use Rattle.gs_ntread.specs.Machine.{end_of_text, between_end, dots_end};
-ghost use Rattle.gs_ntread.specs.Views.{state_of, stage_at, given, ending_of};
+ghost use Rattle.gs_ntread.specs.Machine.{end_of_text, between_end};
+ghost use Rattle.gs_ntread.specs.Views.{cursor_state, stage_at, ending_of};
+ghost use Rattle.gs_ntread.specs.Clauses.{ClosesAs, dots_end_of};
 
 use crate::cursor::Cursor;
 use crate::parts::{Object, Parts, Place, Within};
@@ -16,7 +17,7 @@ pub type Ending = Result<(), Fault>;
 impl Cursor {
     /// The text ends: the triple that is complete by that, and how.
     pub fn end(&mut self) -> Result<(Option<Parts>, Ending), AllocError>
-        ensures { IfOk result (λ r. (given r.0, ending_of r.1) ≡ end_of_text (state_of self.old).0 (state_of self.old).1) }
+        ensures { ClosesAs result (end_of_text (cursor_state self.old).0 (cursor_state self.old).1) }
     {
         match self.within {
             Within::Between => Ok((None, self.end_between()?)),
@@ -40,7 +41,7 @@ impl Cursor {
     }
 
     fn end_dots(&mut self) -> Result<(Option<Parts>, Ending), AllocError>
-        ensures { IfOk result (λ r. (given r.0, ending_of r.1) ≡ dots_end (stage_at self.old) (label_of self.old.label) self.old.value self.old.count) }
+        ensures { ClosesAs result (dots_end_of self.old) }
     {
         let label = self.label.copy(self.alloc)?;
         match mem::replace(&mut self.place, Place::End) {

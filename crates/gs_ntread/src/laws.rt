@@ -2,11 +2,11 @@
 ghost use Rattle.std.specs.Prelude.{◌≡◌, List};
 ghost use Rattle.gs_machine.specs.Machines.{rest};
 ghost use Rattle.gs_ntterm.specs.Marks.{Mark};
-ghost use Rattle.gs_ntread.specs.Documents.{document};
-ghost use Rattle.gs_ntread.specs.States.{start};
+ghost use Rattle.gs_ntread.specs.Documents.{document_meant};
+ghost use Rattle.gs_ntread.specs.States.{line_start};
 ghost use Rattle.gs_ntread.specs.Machine.{reading};
 
 /// What is read character by character is what the grammar says of the whole text.
 pub fn read_by_characters()
-    ensures { (text : List Mark) → rest reading start text ≡ document text }
+    ensures { (text : List Mark) → rest reading line_start text ≡ document_meant text }
 {}

@@ -13,8 +13,6 @@ mod reader;
 mod runs;
 mod tags;
 mod taking;
-#[cfg(test)]
-mod tests;
 
 pub use laws::read_by_characters;
 pub use reader::NTriplesReader;

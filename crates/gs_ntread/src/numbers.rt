@@ -2,8 +2,8 @@
 ghost use Rattle.std.specs.Prelude.{◌≡◌, ◌∷◌, [], true, IfOk, IfErr};
 ghost use Rattle.gs_model.specs.Triples.{is_subject};
 ghost use Rattle.gs_ntterm.specs.LineTerms.{Labelled};
-ghost use Rattle.gs_ntread.specs.Documents.{term_of, stated};
-ghost use Rattle.gs_ntread.specs.Views.{subject_of, object_of, sentence_of};
+ghost use Rattle.gs_ntread.specs.Views.{subject_of, object_of};
+ghost use Rattle.gs_ntread.specs.Clauses.{AnswersTerm, AnswersTriple};
 
 use crate::parts::{Object, Parts, Subject};
 use gs_blank::Numbering;
@@ -19,7 +19,7 @@ fn blank(
     numbering: &mut Numbering,
     label: &str,
 ) -> Result<TermText, Refusal>
-    ensures term { IfOk result (λ t. (t, numbering.new) ≡ term_of request numbering.old (Labelled label.now)) }
+    ensures term { AnswersTerm request numbering.old numbering.new (Labelled label.now) result }
     ensures refused { IfErr result (λ e. e ≡ Refusal.NoMemory) }
 {
     let number = numbering.of_label(label)?;
@@ -35,7 +35,7 @@ fn subject_term(
     numbering: &mut Numbering,
     subject: Subject,
 ) -> Result<TermText, Refusal>
-    ensures term { IfOk result (λ t. (t, numbering.new) ≡ term_of request numbering.old (subject_of subject)) }
+    ensures term { AnswersTerm request numbering.old numbering.new (subject_of subject) result }
     ensures kind { IfOk result (λ t. is_subject t ≡ true) }
     ensures refused { IfErr result (λ e. e ≡ Refusal.NoMemory) }
 {
@@ -54,7 +54,7 @@ fn object_term(
     numbering: &mut Numbering,
     object: Object,
 ) -> Result<TermText, Refusal>
-    ensures term { IfOk result (λ t. (t, numbering.new) ≡ term_of request numbering.old (object_of object)) }
+    ensures term { AnswersTerm request numbering.old numbering.new (object_of object) result }
     ensures refused { IfErr result (λ e. e ≡ Refusal.NoMemory) }
 {
     match object {
@@ -70,7 +70,7 @@ pub fn triple(
     numbering: &mut Numbering,
     parts: Parts,
 ) -> Result<Triple, Refusal>
-    ensures triple { IfOk result (λ t. (numbering.new, record { triples = t ∷ []; end = parts.end } ∷ []) ≡ stated request numbering.old (sentence_of parts)) }
+    ensures triple { AnswersTriple request numbering.old numbering.new parts result }
     ensures refused { IfErr result (λ e. e ≡ Refusal.NoMemory) }
 {
     let Parts {

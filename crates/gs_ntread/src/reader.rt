@@ -1,7 +1,7 @@
 //! The reader of N-Triples.
 ghost use Rattle.std.specs.Prelude.{◌≡◌, ◌≢◌, ◌++◌, [], ◌<◌, ◌≤◌, false, length, take, OnOk, OnErr, IfOk, IfErr, IfSome, IfNone, IsErr, List, ℕ};
 ghost use Rattle.gs_model.specs.Triples.{RdfTriple};
-ghost use Rattle.gs_ntterm.specs.Marks.{end_of};
+ghost use Rattle.gs_ntterm.specs.Marks.{char_end};
 
 use crate::cursor::Cursor;
 use crate::finals::Ending;
@@ -18,18 +18,25 @@ use std::alloc::{AllocError, Global};
 #[derive(Drop)]
 pub struct NTriplesReader {
     alloc: Global,
+    /// The number of the request, in which blank nodes have their numbers.
     request: u64,
+    /// From bytes to characters.
     decoder: Decoder,
+    /// How many bytes the characters so far have. It stops at the greatest `u64`.
     read: u64,
+    /// From characters to the parts of triples.
     cursor: Cursor,
+    /// The numbers of the labels so far.
     numbering: Numbering,
+    /// How many bytes there are up to the end of the last complete statement, 0 before the first.
     last: u64,
+    /// A call was refused, or the text has ended.
     is_closed: bool,
 }
 
 /// The number of bytes up to the end of a character.
 fn end_after_char(n: u64, c: u32) -> u64
-    ensures { result ≡ end_of n c }
+    ensures { result ≡ char_end n c }
 {
     let len = if c < 0x80 {
         1
@@ -47,16 +54,15 @@ impl NTriplesReader {
     ghost use Rattle.gs_machine.specs.Machines.{steps, rest, Begins};
     ghost use Rattle.gs_machine.specs.Utf8.{is_ready_of};
     ghost use Rattle.gs_body.specs.Bodies.{triples_of, Whole};
-    ghost use Rattle.gs_ntread.specs.Documents.{stated, numbering, meaning_by};
-    ghost use Rattle.gs_ntread.specs.Reader.{stating, placing, ntriples};
-    ghost use Rattle.gs_ntread.specs.Readers.{led_of, LeadsTo, Takes, IsBroken, refusal_of, FaultsAs, FaultyAfter, ConcludesAs, FaultyEnd, Ends, Sound};
-    ghost use Rattle.gs_ntread.specs.Views.{sentence_of, state_of, ending_of};
+    ghost use Rattle.gs_ntread.specs.Documents.{meaning_by, Means};
+    ghost use Rattle.gs_ntread.specs.Readers.{LeadsTo, IsStopped, refusal_after, FaultsAs, ConcludesAs, FaultyEnd, EndsWell, FaultsAfter, FaultsAtEnd, GivesParts, TakesAll, TakesByte, TakesChar, TakesFront, TakesRun, body_end, text_end};
+    ghost use Rattle.gs_ntread.specs.Views.{cursor_state, ending_of};
 
     /// A reader at the start of the body of the request of this number. Takes no memory.
     pub fn new(alloc: Global, request: u64) -> NTriplesReader
         ensures fresh { ⟦<NTriplesReader as BodyReader>⟧.Leads result [] [] }
         ensures unread { ⟦<NTriplesReader as BodyReader>⟧.is_closed result ≡ false }
-        ensures meaning_of { (x : List ℕ) → ⟦<NTriplesReader as BodyReader>⟧.meaning_of result x ≡ meaning_by request x }
+        ensures meaning_of { Means (⟦<NTriplesReader as BodyReader>⟧.meaning_of result) request }
     {
         NTriplesReader {
             alloc,
@@ -72,7 +78,7 @@ impl NTriplesReader {
 
     /// A triple is complete.
     fn give(&mut self, parts: Parts, triples: &mut Vec<Triple>) -> Result<(), Refusal>
-        ensures ok { OnOk result (Takes self.old self.new triples.old.items triples.new.items ((self.old.decoder, (self.old.read, (state_of self.old.cursor, (stated self.old.request self.old.numbering (sentence_of parts)).0))), (stated self.old.request self.old.numbering (sentence_of parts)).1)) }
+        ensures ok { OnOk result (GivesParts self.old self.new triples.old.items triples.new.items parts) }
         ensures err { OnErr result (triples.new.items ≡ triples.old.items) }
         ensures request { self.new.request ≡ self.old.request }
         ensures refused { IfErr result (λ e. e ≡ Refusal.NoMemory) }
@@ -86,7 +92,7 @@ impl NTriplesReader {
 
     /// The next character.
     fn character(&mut self, c: u32, triples: &mut Vec<Triple>) -> Result<(), Refusal>
-        ensures ok { OnOk result (let u = (placing self.old.request).step (self.old.read, (state_of self.old.cursor, self.old.numbering)) c in Takes self.old self.new triples.old.items triples.new.items ((self.old.decoder, u.0), u.1)) }
+        ensures ok { OnOk result (TakesChar self.old self.new triples.old.items triples.new.items c) }
         ensures err { OnErr result (triples.new.items ≡ triples.old.items) }
         ensures request { self.new.request ≡ self.old.request }
         ensures refused { IfErr result (λ e. e ≡ Refusal.NoMemory) }
@@ -100,7 +106,7 @@ impl NTriplesReader {
 
     /// The next byte.
     fn step(&mut self, byte: u8, triples: &mut Vec<Triple>) -> Result<(), Refusal>
-        ensures ok { OnOk result (Takes self.old self.new triples.old.items triples.new.items ((ntriples self.old.request).step (led_of self.old) byte)) }
+        ensures ok { OnOk result (TakesByte self.old self.new triples.old.items triples.new.items byte) }
         ensures err { OnErr result (triples.new.items ≡ triples.old.items) }
         ensures request { self.new.request ≡ self.old.request }
         ensures refused { IfErr result (λ e. e ≡ Refusal.NoMemory) }
@@ -118,7 +124,7 @@ impl NTriplesReader {
     #[inline]
     fn take_run(&mut self, piece: &[u8]) -> Result<usize, AllocError>
         ensures bound { IfOk result (λ n. n ≤ length piece.now) }
-        ensures ok { IfOk result (λ n. (ts : List RdfTriple) → Takes self.old self.new ts ts (steps (ntriples self.old.request) (led_of self.old) (take n piece.now))) }
+        ensures ok { TakesRun self.old self.new piece.now result }
         ensures request { self.new.request ≡ self.old.request }
     {
         if !self.decoder.is_ready() {
@@ -133,7 +139,7 @@ impl NTriplesReader {
     fn take_some(&mut self, piece: &[u8], triples: &mut Vec<Triple>) -> Result<usize, Refusal>
         requires { 0 < length piece.now }
         ensures bound { IfOk result (λ n. (0 < n) × (n ≤ length piece.now)) }
-        ensures ok { IfOk result (λ n. Takes self.old self.new triples.old.items triples.new.items (steps (ntriples self.old.request) (led_of self.old) (take n piece.now))) }
+        ensures ok { TakesFront self.old self.new triples.old.items triples.new.items piece.now result }
         ensures err { OnErr result (triples.new.items ≡ triples.old.items) }
         ensures request { self.new.request ≡ self.old.request }
         ensures refused { IfErr result (λ e. e ≡ Refusal.NoMemory) }
@@ -148,7 +154,7 @@ impl NTriplesReader {
 
     /// The next bytes.
     fn take_all(&mut self, piece: &[u8], triples: &mut Vec<Triple>) -> Result<(), Refusal>
-        ensures ok { OnOk result (Takes self.old self.new triples.old.items triples.new.items (steps (ntriples self.old.request) (led_of self.old) piece.now)) }
+        ensures ok { OnOk result (TakesAll self.old self.new triples.old.items triples.new.items piece.now) }
         ensures err { OnErr result (Begins triples.new.items triples.old.items) }
         ensures request { self.new.request ≡ self.old.request }
         ensures refused { IfErr result (λ e. e ≡ Refusal.NoMemory) }
@@ -162,7 +168,7 @@ impl NTriplesReader {
 
     /// The refusal of a fault after the statements so far.
     fn refusal(&self, fault: Fault) -> Refusal
-        ensures value { result ≡ refusal_of self.now.last fault }
+        ensures value { result ≡ refusal_after self.now.last fault }
         ensures told { result ≢ Refusal.Closed }
     {
         match fault {
@@ -173,8 +179,8 @@ impl NTriplesReader {
 
     /// The fault at which nothing more is read.
     fn fault(&self) -> Option<Refusal>
-        ensures some { IfSome result (λ e. FaultsAs e self.now.last (state_of self.now.cursor)) }
-        ensures none { IfNone result (¬ (IsBroken (state_of self.now.cursor))) }
+        ensures some { IfSome result (λ e. FaultsAs e self.now.last (cursor_state self.now.cursor)) }
+        ensures none { IfNone result (¬ (IsStopped (cursor_state self.now.cursor))) }
         ensures told { IfSome result (λ e. e ≢ Refusal.Closed) }
     {
         match self.cursor.within {
@@ -185,11 +191,11 @@ impl NTriplesReader {
 
     /// The next piece, and its fault.
     fn take_piece(&mut self, piece: &[u8], triples: &mut Vec<Triple>) -> Result<(), Refusal>
-        ensures ok { OnOk result (Takes self.old self.new triples.old.items triples.new.items (steps (ntriples self.old.request) (led_of self.old) piece.now)) }
+        ensures ok { OnOk result (TakesAll self.old self.new triples.old.items triples.new.items piece.now) }
         ensures err { OnErr result (Begins triples.new.items triples.old.items) }
-        ensures fault { IfErr result (λ e. FaultyAfter e self.old.last (steps (ntriples self.old.request) (led_of self.old) piece.now)) }
+        ensures fault { IfErr result (λ e. FaultsAfter self.old piece.now e) }
         ensures request { self.new.request ≡ self.old.request }
-        ensures unbroken { OnOk result (¬ (IsBroken (state_of self.new.cursor))) }
+        ensures unbroken { OnOk result (¬ (IsStopped (cursor_state self.new.cursor))) }
     {
         self.take_all(piece, triples)?;
         match self.fault() {
@@ -212,10 +218,10 @@ impl NTriplesReader {
 
     /// The text ends between two characters.
     fn end_between(&mut self, triples: &mut Vec<Triple>) -> Result<(), Refusal>
-        ensures ok { OnOk result (Ends triples.old.items triples.new.items (rest (stating self.old.request) (state_of self.old.cursor, self.old.numbering) [])) }
+        ensures ok { OnOk result (EndsWell triples.old.items triples.new.items (text_end self.old)) }
         ensures err { OnErr result (Begins triples.new.items triples.old.items) }
         ensures told { IfErr result (λ e. e ≢ Refusal.Closed) }
-        ensures fault { IfErr result (λ e. FaultyEnd e self.old.last (rest (stating self.old.request) (state_of self.old.cursor, self.old.numbering) [])) }
+        ensures fault { IfErr result (λ e. FaultyEnd e self.old.last (text_end self.old)) }
     {
         let (parts, end) = self.cursor.end()?;
         match parts {
@@ -233,7 +239,7 @@ impl NTriplesReader {
         ensures failed { IsErr result }
         ensures err { OnErr result (Begins triples.new.items triples.old.items) }
         ensures told { IfErr result (λ e. e ≢ Refusal.Closed) }
-        ensures fault { IfErr result (λ e. Sound (led_of self.old) → FaultyEnd e self.old.last (rest (ntriples self.old.request) (led_of self.old) [])) }
+        ensures fault { IfErr result (λ e. FaultsAtEnd self.old e) }
     {
         match self.fault() {
             Some(refusal) => return Err(refusal),
@@ -248,10 +254,10 @@ impl NTriplesReader {
 
     /// The text ends.
     fn take_end(&mut self, triples: &mut Vec<Triple>) -> Result<(), Refusal>
-        ensures ok { OnOk result (Ends triples.old.items triples.new.items (rest (ntriples self.old.request) (led_of self.old) [])) }
+        ensures ok { OnOk result (EndsWell triples.old.items triples.new.items (body_end self.old)) }
         ensures err { OnErr result (Begins triples.new.items triples.old.items) }
         ensures told { IfErr result (λ e. e ≢ Refusal.Closed) }
-        ensures fault { IfErr result (λ e. Sound (led_of self.old) → FaultyEnd e self.old.last (rest (ntriples self.old.request) (led_of self.old) [])) }
+        ensures fault { IfErr result (λ e. FaultsAtEnd self.old e) }
     {
         if self.decoder.is_ready() {
             self.end_between(triples)

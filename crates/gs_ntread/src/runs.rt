@@ -1,8 +1,7 @@
 //! Runs of bytes that change nothing but a token's text, taken in one go.
 ghost use Rattle.std.specs.Prelude.{◌≡◌, ◌≤◌, length, take, IfOk};
-ghost use Rattle.gs_ntread.specs.Runs.{Runs};
-ghost use Rattle.gs_ntread.specs.Views.{state_of};
 ghost use Rattle.gs_ntread.specs.declared.parts.Within.TheVariants as within;
+ghost use Rattle.gs_ntread.specs.Clauses.{RunsOver};
 
 use crate::cursor::Cursor;
 use crate::parts::Within;
@@ -13,7 +12,7 @@ impl Cursor {
     fn run_in_iri(&mut self, piece: &[u8]) -> Result<usize, AllocError>
         requires { self.old.within ≡ within.Iri }
         ensures bound { IfOk result (λ n. n ≤ length piece.now) }
-        ensures run { IfOk result (λ n. Runs (state_of self.old) (take n piece.now) (state_of self.new)) }
+        ensures run { IfOk result (λ n. RunsOver self.old self.new (take n piece.now)) }
     {
         let n = run_len::<InIri>(piece);
         self.text.push_all(&piece[..n])?;
@@ -23,7 +22,7 @@ impl Cursor {
     fn run_in_string(&mut self, piece: &[u8]) -> Result<usize, AllocError>
         requires { self.old.within ≡ within.Quoted }
         ensures bound { IfOk result (λ n. n ≤ length piece.now) }
-        ensures run { IfOk result (λ n. Runs (state_of self.old) (take n piece.now) (state_of self.new)) }
+        ensures run { IfOk result (λ n. RunsOver self.old self.new (take n piece.now)) }
     {
         let n = run_len::<InString>(piece);
         self.text.push_all(&piece[..n])?;
@@ -33,7 +32,7 @@ impl Cursor {
     fn run_in_label(&mut self, piece: &[u8]) -> Result<usize, AllocError>
         requires { self.old.within ≡ within.Label }
         ensures bound { IfOk result (λ n. n ≤ length piece.now) }
-        ensures run { IfOk result (λ n. Runs (state_of self.old) (take n piece.now) (state_of self.new)) }
+        ensures run { IfOk result (λ n. RunsOver self.old self.new (take n piece.now)) }
     {
         let n = run_len::<InLabel>(piece);
         self.label.push_all(&piece[..n])?;
@@ -43,7 +42,7 @@ impl Cursor {
     fn run_in_comment(&self, piece: &[u8]) -> usize
         requires { self.now.within ≡ within.Comment }
         ensures bound { result ≤ length piece.now }
-        ensures run { Runs (state_of self.now) (take result piece.now) (state_of self.now) }
+        ensures run { RunsOver self.now self.now (take result piece.now) }
     {
         run_len::<InComment>(piece)
     }
@@ -51,7 +50,7 @@ impl Cursor {
     fn run_between(&self, piece: &[u8]) -> usize
         requires { self.now.within ≡ within.Between }
         ensures bound { result ≤ length piece.now }
-        ensures run { Runs (state_of self.now) (take result piece.now) (state_of self.now) }
+        ensures run { RunsOver self.now self.now (take result piece.now) }
     {
         run_len::<Between>(piece)
     }
@@ -61,7 +60,7 @@ impl Cursor {
     #[inline]
     pub fn take_run(&mut self, piece: &[u8]) -> Result<usize, AllocError>
         ensures bound { IfOk result (λ n. n ≤ length piece.now) }
-        ensures run { IfOk result (λ n. Runs (state_of self.old) (take n piece.now) (state_of self.new)) }
+        ensures run { IfOk result (λ n. RunsOver self.old self.new (take n piece.now)) }
     {
         match self.within {
             Within::Between => Ok(self.run_between(piece)),

@@ -1,15 +1,17 @@
 //! After a string: its datatype or its language tag.
-ghost use Rattle.std.specs.Prelude.{◌≡◌, true, false, OnOk, IfOk};
+ghost use Rattle.std.specs.Prelude.{◌≡◌, true, false, None, OnOk, IfOk};
 ghost use Rattle.gs_ntterm.specs.LineTerms.{fault_of as fault_of_result};
 ghost use Rattle.gs_ntterm.specs.Views.{held_of};
-ghost use Rattle.gs_ntread.specs.States.{broken, quiet, Caret, AtSign, InTag, Hyphen};
+ghost use Rattle.gs_ntread.specs.States.{no_triple, Caret, AtSign};
 ghost use Rattle.gs_ntread.specs.Lines.{string_fault as string_fault_of};
-ghost use Rattle.gs_ntread.specs.Turns.{turn, tag_fault as tag_fault_of};
-ghost use Rattle.gs_ntread.specs.Views.{state_of, stage_at, given};
+ghost use Rattle.gs_ntread.specs.Turns.{tag_fault as tag_fault_of};
+ghost use Rattle.gs_ntread.specs.Views.{cursor_state, stage_at};
+ghost use Rattle.gs_ntread.specs.Clauses.{AnswersTurn, TurnsTo, hyphen_so_far, tag_so_far, turn_in};
 ghost use Rattle.gs_ntread.specs.declared.parts.Within.TheVariants as within;
 
 use crate::cursor::Cursor;
 use crate::parts::{Parts, Place, Within};
+use gs_chars::marks::CARET;
 use gs_model::Fault;
 use gs_ntterm::is_tag_char;
 use gs_term::TermText;
@@ -52,9 +54,9 @@ impl Cursor {
     /// The character after a `^`.
     pub fn caret(&mut self, c: u32) -> Result<(), AllocError>
         requires { self.old.within ≡ within.Caret }
-        ensures { OnOk result (quiet (state_of self.new) ≡ turn (stage_at self.old) Caret c 0) }
+        ensures { OnOk result (no_triple (cursor_state self.new) ≡ turn_in self.old Caret c 0) }
     {
-        if c == 94 {
+        if c == CARET {
             self.close_caret();
         } else {
             let fault = self.string_fault()?;
@@ -66,7 +68,7 @@ impl Cursor {
     /// The character after an `@`.
     pub fn at_sign(&mut self, c: u32) -> Result<(), AllocError>
         requires { self.old.within ≡ within.AtSign }
-        ensures { OnOk result (quiet (state_of self.new) ≡ turn (stage_at self.old) AtSign c 0) }
+        ensures { OnOk result (no_triple (cursor_state self.new) ≡ turn_in self.old AtSign c 0) }
     {
         match char::from_u32(c) {
             Some(first) if is_tag_char(false, c) => {
@@ -84,7 +86,7 @@ impl Cursor {
     /// A character of a tag's first part, or after it.
     pub fn in_tag(&mut self, c: u32, n: u64) -> Result<Option<Parts>, AllocError>
         requires { self.old.within ≡ within.Tag }
-        ensures { IfOk result (λ o. (state_of self.new, given o) ≡ turn (stage_at self.old) (InTag false (held_of self.old.text)) c n) }
+        ensures { AnswersTurn self.new result (turn_in self.old (tag_so_far false self.old) c n) }
     {
         match char::from_u32(c) {
             Some(next) if is_tag_char(false, c) => {
@@ -98,7 +100,7 @@ impl Cursor {
     /// A character of a tag's later part, or after it.
     pub fn in_part(&mut self, c: u32, n: u64) -> Result<Option<Parts>, AllocError>
         requires { self.old.within ≡ within.TagPart }
-        ensures { IfOk result (λ o. (state_of self.new, given o) ≡ turn (stage_at self.old) (InTag true (held_of self.old.text)) c n) }
+        ensures { AnswersTurn self.new result (turn_in self.old (tag_so_far true self.old) c n) }
     {
         match char::from_u32(c) {
             Some(next) if is_tag_char(true, c) => {
@@ -112,7 +114,7 @@ impl Cursor {
     /// The character after a `-` that a tag may go on after.
     pub fn hyphen(&mut self, c: u32) -> Result<(), AllocError>
         requires { self.old.within ≡ within.Hyphen }
-        ensures { OnOk result (quiet (state_of self.new) ≡ turn (stage_at self.old) (Hyphen (held_of self.old.text)) c 0) }
+        ensures { OnOk result (TurnsTo self.new None (turn_in self.old (hyphen_so_far self.old) c 0)) }
     {
         match char::from_u32(c) {
             Some(next) if is_tag_char(true, c) => {

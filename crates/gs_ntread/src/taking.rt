@@ -1,18 +1,19 @@
 //! The next character.
 ghost use Rattle.std.specs.Prelude.{◌≡◌, IfOk};
-ghost use Rattle.gs_ntread.specs.States.{Underscore, quiet};
-ghost use Rattle.gs_ntread.specs.Turns.{turn};
-ghost use Rattle.gs_ntread.specs.Views.{state_of, stage_at, given};
+ghost use Rattle.gs_ntread.specs.States.{Underscore, no_triple};
+ghost use Rattle.gs_ntread.specs.Views.{cursor_state};
+ghost use Rattle.gs_ntread.specs.Clauses.{AnswersTurn, turn_in, turn_of};
 ghost use Rattle.gs_ntread.specs.declared.parts.Within.TheVariants as within;
 
 use crate::cursor::Cursor;
 use crate::parts::{Parts, Within};
+use gs_chars::marks::COLON;
 use std::alloc::AllocError;
 
 impl Cursor {
     /// Takes a character that ends after n bytes, and gives the triple that it completes.
     pub fn take(&mut self, c: u32, n: u64) -> Result<Option<Parts>, AllocError>
-        ensures { IfOk result (λ o. (state_of self.new, given o) ≡ turn (state_of self.old).0 (state_of self.old).1 c n) }
+        ensures { AnswersTurn self.new result (turn_of self.old c n) }
     {
         match self.within {
             Within::Between => return self.between(c, n),
@@ -40,9 +41,9 @@ impl Cursor {
     /// The character after an underscore.
     fn underscore(&mut self, c: u32)
         requires { self.old.within ≡ within.Underscore }
-        ensures { quiet (state_of self.new) ≡ turn (stage_at self.old) Underscore c 0 }
+        ensures { no_triple (cursor_state self.new) ≡ turn_in self.old Underscore c 0 }
     {
-        if c == 58 {
+        if c == COLON {
             self.within = Within::Colon;
         } else {
             self.break_off();

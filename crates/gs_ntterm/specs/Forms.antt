@@ -1,9 +1,9 @@
 -- The form of a token that is too long to be held, byte by byte: whether it is an absolute IRI (RFC 3986,
 -- section 4.3), and whether it is a language tag (N-Triples, section 7, LANGTAG after its '@').
 use Rattle.std.specs.Prelude.{ℕ, Bool, true, false, if◌then◌else◌, ◌||◌, ◌&&◌, ◌==◌, nat_le, List, [], ◌∷◌}
-use Rattle.std.specs.Char.{to_ascii_lowercase}
-use Rattle.gs_model.specs.Characters.{is_iri_char}
+use Rattle.gs_model.specs.Characters.{hyphen, colon, is_iri_char}
 use Rattle.gs_model.specs.Iris.{is_letter, is_scheme_char}
+use Rattle.gs_ntterm.specs.Classes.{is_tag_char}
 use Rattle.gs_ntterm.specs.declared.forms.Scheme.{Scheme}
 use Rattle.gs_ntterm.specs.declared.forms.Scheme.TheVariants as scheme
 use Rattle.gs_ntterm.specs.declared.forms.Tag.{Tag}
@@ -13,20 +13,14 @@ use Rattle.gs_ntterm.specs.declared.forms.Form.{Form}
 -- a letter, then letters, digits, '+', '-' and '.', then ':', and then IRI characters
 abbrev pub scheme_after : Scheme → ℕ → Scheme
 scheme_after scheme.Unbegun b = if is_letter b then scheme.Inside else scheme.Broken
-scheme_after scheme.Inside b = if b == 58 then scheme.AfterColon else if is_scheme_char b then scheme.Inside else scheme.Broken
+scheme_after scheme.Inside b = if b == colon then scheme.AfterColon else if is_scheme_char b then scheme.Inside else scheme.Broken
 scheme_after scheme.AfterColon b = if is_iri_char b then scheme.AfterColon else scheme.Broken
 scheme_after scheme.Broken b = scheme.Broken
 
--- the same of a byte in lower case, in a part of a tag
-abbrev pub part_after : Bool → Bool → ℕ → Tag
-part_after digits begun c =
-    if (nat_le 97 c && nat_le c 122) || (digits && (nat_le 48 c && nat_le c 57)) then tag.Part digits true
-    else if c == 45 && begun then tag.Part true false
-    else tag.Broken
-
 -- letters, then parts of letters and digits, each after a '-'
 abbrev pub tag_after_byte : Tag → ℕ → Tag
-tag_after_byte (tag.Part digits begun) b = part_after digits begun (to_ascii_lowercase b)
+tag_after_byte (tag.Part digits begun) b =
+    if is_tag_char digits b then tag.Part digits true else if b == hyphen && begun then tag.Part true false else tag.Broken
 tag_after_byte tag.Broken b = tag.Broken
 
 -- a form with a byte more

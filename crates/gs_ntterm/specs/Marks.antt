@@ -12,14 +12,14 @@ abbrev pub counted : ℕ → ℕ
 counted n = min n (2 ^ 64 - 1)
 
 -- the end of a character after n bytes
-abbrev pub end_of : ℕ → ℕ → ℕ
-end_of n c = counted (n + len_utf8 c)
+abbrev pub char_end : ℕ → ℕ → ℕ
+char_end n c = counted (n + len_utf8 c)
 
 -- the characters of a text with their places, where n bytes stand before
 unfoldable pub marks : ℕ → List ℕ → List Mark
 marks n [] = []
-marks n (c ∷ cs) = (c, end_of n c) ∷ marks (end_of n c) cs
+marks n (c ∷ cs) = (c, char_end n c) ∷ marks (char_end n c) cs
 
 -- the same as a machine, whose state is the number of bytes so far
 abbrev pub places : Machine ℕ ℕ Mark (Unit {0})
-places = record { step = λ n c. (end_of n c, (c, end_of n c) ∷ []); ended = λ n. ([], tt) }
+places = record { step = λ n c. (char_end n c, (c, char_end n c) ∷ []); ended = λ n. ([], tt) }

@@ -18,5 +18,5 @@ abbrev pub held_of : Token → Held
 held_of t = held t.is_long t.form (string_bytes t.text)
 
 -- the term of an IRI, or the fault
-abbrev pub named : Result Name Fault → Result Term Fault
-named r = result_map_both (λ n. n.term) (λ e. e) r
+abbrev pub name_made : Result Name Fault → Result Term Fault
+name_made r = result_map_both (λ n. n.term) (λ e. e) r

@@ -1,22 +1,15 @@
 //! The classes of characters of N-Triples. The mark of ill-formed bytes is in none.
-ghost use Rattle.std.specs.Prelude.{◌≡◌, if◌then◌else◌};
-ghost use Rattle.std.specs.Char.{digit_value};
-ghost use Rattle.gs_ntterm.specs.Classes.{is_space as is_space_of, is_line_end as is_line_end_of, may_stand_in_comment as may_stand_in_comment_of, begins_label as begins_label_of, is_label_char as is_label_char_of, is_tag_char as is_tag_char_of, is_hex as is_hex_of};
+ghost use Rattle.std.specs.Prelude.{◌≡◌};
+ghost use Rattle.gs_ntterm.specs.Classes.{is_space as is_space_of, may_stand_in_comment as may_stand_in_comment_of, begins_label as begins_label_of, is_label_char as is_label_char_of, is_tag_char as is_tag_char_of};
 
 use gs_chars::{is_pn_chars, is_pn_chars_u};
 
+/// Whether it may part tokens within a line.
 #[inline]
 pub fn is_space(c: u32) -> bool
     ensures { result ≡ is_space_of c }
 {
     c == 32 || c == 9
-}
-
-#[inline]
-pub fn is_line_end(c: u32) -> bool
-    ensures { result ≡ is_line_end_of c }
-{
-    c == 10 || c == 13
 }
 
 /// Whether it may stand in a comment: each character but a line end may.
@@ -51,16 +44,4 @@ pub fn is_tag_char(digits: bool, c: u32) -> bool
     ensures { result ≡ is_tag_char_of digits c }
 {
     (c >= 65 && c <= 90) || (c >= 97 && c <= 122) || (digits && c >= 48 && c <= 57)
-}
-
-/// The value of a hexadecimal digit.
-pub fn hex_value(c: u32) -> Option<u32>
-    ensures { result ≡ (if is_hex_of c then Some (digit_value c) else None) }
-{
-    match c {
-        48..=57 => Some(c - 48),
-        65..=70 => Some(c - 55),
-        97..=102 => Some(c - 87),
-        _ => None,
-    }
 }

@@ -2,6 +2,7 @@
 ghost use Rattle.std.specs.Prelude.{◌≡◌, []};
 ghost use Rattle.gs_ntterm.specs.Forms.{scheme_after, tag_after_byte, form_on, form_after, form_of, is_absolute_form, is_tag_form};
 
+use crate::classes::is_tag_char;
 use gs_chars::is_iri_char;
 
 /// How far an absolute IRI has been read: its scheme, `:`, and IRI characters.
@@ -13,11 +14,12 @@ pub enum Scheme {
     Broken,
 }
 
-/// How far a language tag has been read: whether digits may stand in its part, and whether the
-/// part has begun.
+/// How far a language tag has been read.
 #[derive(Clone, Copy)]
 pub enum Tag {
+    /// In a part: whether digits may stand in it, and whether it has begun.
     Part(bool, bool),
+    /// The bytes are no language tag, and begin none.
     Broken,
 }
 
@@ -55,10 +57,9 @@ impl Tag {
         let Tag::Part(digits, begun) = self else {
             return Tag::Broken;
         };
-        let c = b.to_ascii_lowercase();
-        if matches!(c, b'a'..=b'z') || (digits && matches!(c, b'0'..=b'9')) {
+        if is_tag_char(digits, u32::from(b)) {
             Tag::Part(digits, true)
-        } else if c == b'-' && begun {
+        } else if b == b'-' && begun {
             Tag::Part(true, false)
         } else {
             Tag::Broken

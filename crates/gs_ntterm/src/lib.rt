@@ -5,16 +5,18 @@ mod classes;
 mod escapes;
 mod forms;
 mod labels;
+mod laws;
 mod names;
 mod runs;
 mod terms;
 mod tokens;
 
 pub use classes::{
-    begins_label, is_label_char, is_line_end, is_space, is_tag_char, may_stand_in_comment,
+    begins_label, is_label_char, is_space, is_tag_char, may_stand_in_comment,
 };
-pub use escapes::{char_of, escaped, with_digit};
+pub use escapes::{char_of, with_digit};
 pub use labels::Label;
+pub use laws::digits_make_the_number;
 pub use names::Name;
 pub use runs::{Between, Class, InComment, InIri, InLabel, InString, run_len};
 pub use terms::{iri, plain, tagged, typed};

@@ -4,7 +4,7 @@ ghost use Rattle.std.specs.Str.{str_to_ascii_lowercase};
 ghost use Rattle.gs_model.specs.Terms.{Term, is_tag};
 ghost use Rattle.gs_term.specs.Making.{Makes, made};
 ghost use Rattle.gs_ntterm.specs.Tokens.{iri_held, typed_held, tagged_held, plain_held};
-ghost use Rattle.gs_ntterm.specs.Views.{held_of, named};
+ghost use Rattle.gs_ntterm.specs.Views.{held_of, name_made};
 
 use crate::names::Name;
 use crate::tokens::Token;
@@ -26,7 +26,7 @@ fn checked(answer: Result<TermText, Refusal>) -> Result<Result<TermText, Fault>,
 
 /// The IRI of a token.
 pub fn iri(alloc: Global, token: &Token) -> Result<Result<Name, Fault>, AllocError>
-    ensures { IfOk result (λ r. named r ≡ iri_held (held_of token.now)) }
+    ensures { IfOk result (λ r. name_made r ≡ iri_held (held_of token.now)) }
 {
     if token.is_long {
         if token.form.is_absolute() {

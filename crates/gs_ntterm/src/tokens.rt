@@ -20,15 +20,18 @@ pub fn push_ascii(text: &mut String, bytes: &[u8]) -> Result<(), AllocError>
 /// The bytes of a token so far, of which only the form is kept where no term has room for them.
 #[derive(Drop)]
 pub struct Token {
+    /// All bytes so far, as long as a term has room for them.
     pub text: String,
+    /// No term has room for the bytes.
     pub is_long: bool,
+    /// The form of all bytes so far, where no term has room for them.
     pub form: Form,
 }
 
 impl Token {
     ghost use Rattle.gs_ntterm.specs.Tokens.{add, Text, Long};
     ghost use Rattle.gs_ntterm.specs.Forms.{form_of, form_after};
-    ghost use Rattle.gs_ntterm.specs.Runs.{joined};
+    ghost use Rattle.gs_ntterm.specs.Runs.{add_each};
     ghost use Rattle.gs_ntterm.specs.Views.{held_of};
 
     /// No bytes yet.
@@ -67,7 +70,8 @@ impl Token {
         self.is_long = true;
     }
 
-    /// A character more of a token that is not held; its bytes take the place of the text.
+    /// Takes a character of a token for which no term has room: the form goes on with its bytes. The
+    /// text is needed no more, and serves as the room in which the character is encoded.
     fn follow(&mut self, c: char) -> Result<(), AllocError>
         requires { self.old.is_long ≡ true }
         ensures { OnOk result (held_of self.new ≡ Long (form_after self.old.form (encode_utf8 c))) }
@@ -95,7 +99,7 @@ impl Token {
     /// Bytes of ASCII more.
     pub fn push_all(&mut self, bytes: &[u8]) -> Result<(), AllocError>
         requires { IsAscii bytes.now }
-        ensures { OnOk result (held_of self.new ≡ joined (held_of self.old) bytes.now) }
+        ensures { OnOk result (held_of self.new ≡ add_each (held_of self.old) bytes.now) }
     {
         if self.is_long {
             self.form = self.form.after(bytes);

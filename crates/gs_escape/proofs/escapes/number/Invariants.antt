@@ -1,8 +1,7 @@
 -- the value is that of the digits so far
 use Rattle.std.proofs.Common.{◌≡◌, ◌<◌, ◌^◌, take, true}
 use Rattle.std.specs.List.{list_all}
-use Rattle.gs_lex.specs.Classes.{is_hex}
-use Rattle.gs_escape.specs.Escapes.{hex_number}
+use Rattle.gs_model.specs.Escapes.{is_hex, hex_number}
 use Rattle.gs_escape.proofs.escapes.number.Given as goal
 
 abbrev pub invariant-loop-d : goal.invariant-loop-d

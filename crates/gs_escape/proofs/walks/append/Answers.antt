@@ -4,8 +4,8 @@ use Rattle.std.specs.Option.{is_some}
 use Rattle.std.specs.String.{string_bytes}
 use Rattle.std.proofs.lemmas.Str.{IsUtf8-string_bytes}
 use Rattle.gs_iri.proofs.TextLemmas.{boundary_of_old}
-use Rattle.gs_escape.specs.Meanings.{before}
-use Rattle.gs_escape.specs.Tokens.{Reports}
+use Rattle.gs_escape.specs.Meanings.{meant_after}
+use Rattle.gs_escape.specs.Tokens.{ReportsMeaning}
 use Rattle.gs_escape.proofs.WalkLemmas.{meaning_of_text, meaning_of_none}
 use Rattle.gs_escape.proofs.walks.append.Goals as goal
 
@@ -23,7 +23,7 @@ truncate-requires c =
 pub returns-in-Ok-append_front-clause-value : goal.returns-in-Ok-append_front-clause-value
 returns-in-Ok-append_front-clause-value c =
     c.in-Ok-append_front.ensures.value
-    ∙ sym (ap (before (string_bytes c.args.out.now)) (meaning_of_text c.args.form c.args.text.now c.in-Ok.text.now c.in-Ok.ensures.cases.0 c.in-Ok.ensures.cases.1))
+    ∙ sym (ap (meant_after (string_bytes c.args.out.now)) (meaning_of_text c.args.form c.args.text.now c.in-Ok.text.now c.in-Ok.ensures.cases.0 c.in-Ok.ensures.cases.1))
 
 pub returns-in-Ok-append_front-clause-refused : goal.returns-in-Ok-append_front-clause-refused
 returns-in-Ok-append_front-clause-refused c =
@@ -32,4 +32,4 @@ returns-in-Ok-append_front-clause-refused c =
 
 pub returns-in-Err-clause-refused : goal.returns-in-Err-clause-refused
 returns-in-Err-clause-refused c =
-    subst (λ m. Reports m (Err c.in-Err.refusal)) (sym (meaning_of_text c.args.form c.args.text.now c.in-Ok.text.now c.in-Ok.ensures.cases.0 c.in-Ok.ensures.cases.1)) c.in-Err.ensures.refused
+    subst (λ m. ReportsMeaning m (Err c.in-Err.refusal)) (sym (meaning_of_text c.args.form c.args.text.now c.in-Ok.text.now c.in-Ok.ensures.cases.0 c.in-Ok.ensures.cases.1)) c.in-Err.ensures.refused

@@ -5,9 +5,9 @@ use Rattle.std.specs.String.{string_bytes}
 use Rattle.std.proofs.lemmas.Bool.{eqb-true, eqb-false}
 use Rattle.std.proofs.lemmas.Bool.Decides.{when_true}
 use Rattle.gs_iri.proofs.TextLemmas.{front_along}
-use Rattle.gs_escape.specs.Meanings.{before, unescaped}
+use Rattle.gs_escape.specs.Meanings.{meant_after, unescaped}
 use Rattle.gs_escape.specs.Runs.{run_of}
-use Rattle.gs_escape.proofs.WalkLemmas.{is_some-before, unescaped-end, unescaped-turn, unescaped-none, two_puts, front_escape-shorter}
+use Rattle.gs_escape.proofs.WalkLemmas.{is_some-meant_after, unescaped-end, unescaped-turn, unescaped-none, two_puts, front_escape-shorter}
 use Rattle.gs_escape.proofs.walks.append_front.Goals as goal
 
 pub returns-then-room-clause-value : goal.returns-then-room-clause-value
@@ -15,7 +15,7 @@ returns-then-room-clause-value c =
     let put = when_true _ (Unit {0}) c.if-room.true c.put_text-room.ensures.value in
     let empty = eqb-true (length c.cut_run.result.1.now) 0 (sym c.is_empty.ensures ∙ c.if-is_empty.true) in
     ap Some put.1
-    ∙ sym (ap (before (string_bytes c.parts.out)) (unescaped-end c.args.form c.parts.rest.now c.cut_run.result.0.now c.cut_run.result.1.now c.cut_run.ensures.front c.cut_run.ensures.back empty))
+    ∙ sym (ap (meant_after (string_bytes c.parts.out)) (unescaped-end c.args.form c.parts.rest.now c.cut_run.result.0.now c.cut_run.result.1.now c.cut_run.ensures.front c.cut_run.ensures.back empty))
     ∙ c.parts.invariant.value put.0
 
 pub returns-then-room-clause-refused : goal.returns-then-room-clause-refused
@@ -51,12 +51,12 @@ parts-preserved c =
           let first = when_true _ (Unit {0}) second.0 c.put_text-room.ensures.value in
           two_puts (string_bytes c.parts.out) (string_bytes c.put_text-room.new.unescaped) (string_bytes c.put_character-room.new.unescaped)
           c.cut_run.result.0.now (encode_utf8 c.in-Some.c) (unescaped c.args.form 0 c.in-Some.more.now) first.1 second.1
-          ∙ sym (ap (before (string_bytes c.parts.out)) turn)
+          ∙ sym (ap (meant_after (string_bytes c.parts.out)) turn)
           ∙ c.parts.invariant.value first.0;
       alike =
           sym (ap is_some turn
-          ∙ is_some-before c.cut_run.result.0.now (before (encode_utf8 c.in-Some.c) (unescaped c.args.form 0 c.in-Some.more.now))
-          ∙ is_some-before (encode_utf8 c.in-Some.c) (unescaped c.args.form 0 c.in-Some.more.now))
+          ∙ is_some-meant_after c.cut_run.result.0.now (meant_after (encode_utf8 c.in-Some.c) (unescaped c.args.form 0 c.in-Some.more.now))
+          ∙ is_some-meant_after (encode_utf8 c.in-Some.c) (unescaped c.args.form 0 c.in-Some.more.now))
           ∙ c.parts.invariant.alike;
       front =
           front_along (string_bytes c.args.out.now) (string_bytes c.parts.out) (string_bytes c.put_character-room.new.unescaped)

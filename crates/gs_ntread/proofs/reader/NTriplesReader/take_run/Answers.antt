@@ -4,9 +4,9 @@ use Rattle.gs_machine.specs.Machines.{steps}
 use Rattle.gs_machine.specs.Utf8.{Decoding, Ready}
 use Rattle.gs_machine.proofs.MachineLemmas.{steps-nil}
 use Rattle.gs_ntterm.specs.Marks.{counted}
-use Rattle.gs_ntread.specs.States.{State}
+use Rattle.gs_ntread.specs.States.{LineState}
 use Rattle.gs_ntread.specs.Reader.{ntriples}
-use Rattle.gs_ntread.specs.Views.{state_of}
+use Rattle.gs_ntread.specs.Views.{cursor_state}
 use Rattle.gs_ntread.proofs.RunLemmas.{ran, ready_is}
 use Rattle.gs_ntread.proofs.Takes.{took-none}
 use Rattle.gs_ntread.proofs.reader.NTriplesReader.take_run.Goals as goal
@@ -18,8 +18,8 @@ pub returns-clause-ok : goal.returns-clause-ok
 returns-clause-ok c = λ ts.
     let s = c.args.self.now in
     let xs = take c.in_ok-count.count c.args.piece.now in
-    let q : State = state_of s.cursor in
-    let q2 : State = state_of c.take_run.new.self in
+    let q : LineState = cursor_state s.cursor in
+    let q2 : LineState = cursor_state c.take_run.new.self in
     let d : s.decoder ≡ Ready = ready_is s.decoder (sym c.is_ready.ensures ∙ c.if-not-is_ready.false) in
     let n : c.saturating_add-self.result ≡ counted (s.read + length xs) = c.saturating_add-self.ensures ∙ ap (λ k. counted (s.read + k)) (sym (length-take-le _ c.args.piece.now c.in_ok-count.ensures.bound)) in
     took-none s _ ts _

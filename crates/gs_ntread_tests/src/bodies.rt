@@ -1,7 +1,7 @@
 //! Each public call once, and the first fault of texts with long tokens.
-use crate::{NTriplesReader, read_by_characters};
 use gs_body::BodyReader;
 use gs_model::Refusal;
+use gs_ntread::{NTriplesReader, read_by_characters};
 use std::alloc::Global;
 use std::test::Fail;
 

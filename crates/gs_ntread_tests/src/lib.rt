@@ -1,0 +1,5 @@
+//! Tests of the reader of N-Triples, through its public calls.
+#![tactic(auto)]
+
+#[cfg(test)]
+mod bodies;
