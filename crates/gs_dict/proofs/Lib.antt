@@ -1,0 +1,4 @@
+pub mod ChainLemmas
+pub mod EntryLemmas
+pub mod TableLemmas
+pub mod TermLemmas

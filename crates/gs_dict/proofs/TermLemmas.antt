@@ -1,0 +1,263 @@
+-- The terms of a dictionary, and what stays true of it.
+use Rattle.std.proofs.Common.{◌≡◌, ℕ, ◌+◌, ◌<◌, ◌≤◌, List, [], ◌∷◌, ◌++◌, length, map, ap, sym, ◌∙◌, subst, refl, inl, inr, arith, get_or, nat_lt, Bool, false, Option, Some, None}
+use Rattle.std.proofs.lemmas.Bool.{cases_eq}
+use Rattle.std.proofs.lemmas.Option.{slice_get-get_or, slice_get_within, same_Some}
+use Rattle.std.proofs.lemmas.List.FromFn.{length-map-range_with_len, get_or-map-range_with_len, map-range_with_len_more, fill_by_all}
+use Rattle.std.specs.List.{range_with_len, slice_get}
+use Rattle.std.specs.Option.{option_map}
+use Rattle.std.specs.declared.hash.FoldHasher.{FoldHasher}
+use Rattle.gs_model.specs.Terms.{Term, Iri, text_of, IsTerm}
+use Rattle.gs_model.specs.Texts.{term_of, IsCanonical}
+use Rattle.std.proofs.lemmas.Bool.Decides.{nat_tests}
+use Rattle.std.specs.Bool.{Decides}
+use Rattle.gs_model.proofs.TextLemmas.{term_of-text_of, text_of-injective}
+use Rattle.gs_dict.specs.declared.chains.Entry.{Entry}
+use Rattle.gs_dict.specs.Chains.{IsTable, Has, Meets, KeepsTexts, entry_at, text_at, start_at}
+use Rattle.gs_dict.specs.Numbering.{IsNumberOf, IsNew, IsDistinct, Joins, last_term}
+use Rattle.gs_dict.specs.Kept.{IsDict, hash_of, term_at, terms_of}
+
+-- as many terms as entries
+pub length-terms_of : (arena : List ℕ) (es : List Entry) → length (terms_of arena es) ≡ length es
+unfolding terms_of
+length-terms_of arena es = length-map-range_with_len (term_at arena es) 0 (length es)
+
+-- the term of a number is that of its text
+pub get-terms_of : (arena : List ℕ) (es : List Entry) (i : ℕ) → i < length es → slice_get (terms_of arena es) i ≡ Some (term_at arena es i)
+unfolding terms_of
+get-terms_of arena es i inside =
+    let within : i < length (terms_of arena es) = omega (arith, length-terms_of arena es) in
+    let same : 0 + i ≡ i = omega arith in
+    slice_get-get_or (terms_of arena es) i (Iri []) within
+    ∙ ap (λ (t : Term). Some t) (get_or-map-range_with_len (term_at arena es) 0 (length es) i i (Iri []) inside same)
+
+pub number_inside : (arena : List ℕ) (es : List Entry) (i : ℕ) (t : Term) → IsNumberOf (terms_of arena es) i t → i < length es
+number_inside arena es i t number = omega (arith, slice_get_within (terms_of arena es) i t number, length-terms_of arena es)
+
+-- a number's text is its term's
+pub number_text :
+    (arena : List ℕ) (es : List Entry) (heads : List ℕ) (s : FoldHasher) (last i : ℕ) (t : Term) → IsDict arena es heads s last
+    → IsNumberOf (terms_of arena es) i t → text_at arena es i ≡ text_of t
+number_text arena es heads s last i t d number =
+    let inside : i < length es = number_inside arena es i t number in
+    let same : term_at arena es i ≡ t = same_Some (term_at arena es i) t (sym (get-terms_of arena es i inside) ∙ number) in
+    sym (d.canonical i inside).canonical ∙ ap text_of same
+
+pub text_number :
+    (arena : List ℕ) (es : List Entry) (i : ℕ) (t : Term) → i < length es → text_at arena es i ≡ text_of t → IsNumberOf (terms_of arena es) i t
+text_number arena es i t inside same =
+    get-terms_of arena es i inside ∙ ap (λ (u : Term). Some u) (ap term_of same ∙ term_of-text_of t)
+
+-- the text and the term of a number that was given
+pub given_text :
+    (arena : List ℕ) (es : List Entry) (heads : List ℕ) (s : FoldHasher) (last i : ℕ) → IsDict arena es heads s last → i < length es
+    → option_map text_of (slice_get (terms_of arena es) i) ≡ Some (text_at arena es i)
+given_text arena es heads s last i d inside =
+    ap (option_map text_of) (get-terms_of arena es i inside) ∙ ap (λ (x : List ℕ). Some x) (d.canonical i inside).canonical
+
+pub number_valid :
+    (arena : List ℕ) (es : List Entry) (heads : List ℕ) (s : FoldHasher) (last i : ℕ) (t : Term) → IsDict arena es heads s last
+    → IsNumberOf (terms_of arena es) i t → IsTerm t
+number_valid arena es heads s last i t d number =
+    let inside : i < length es = number_inside arena es i t number in
+    let P : Term → Type 0 = λ u. IsTerm u in
+    subst P (same_Some (term_at arena es i) t (sym (get-terms_of arena es i inside) ∙ number)) (d.canonical i inside).valid
+
+-- no term has two numbers
+pub terms_distinct :
+    (arena : List ℕ) (es : List Entry) (heads : List ℕ) (s : FoldHasher) (last : ℕ) → IsDict arena es heads s last → IsDistinct (terms_of arena es)
+terms_distinct arena es heads s last d m n t at_m at_n =
+    d.apart m n (number_inside arena es m t at_m) (number_inside arena es n t at_n)
+    (number_text arena es heads s last m t d at_m ∙ sym (number_text arena es heads s last n t d at_n))
+
+-- there are no more terms than numbers
+pub terms_fit :
+    (arena : List ℕ) (es : List Entry) (heads : List ℕ) (s : FoldHasher) (last : ℕ) → IsDict arena es heads s last
+    → length (terms_of arena es) ≤ last_term + 1
+terms_fit arena es heads s last d = omega (arith, length-terms_of arena es, d.few)
+
+-- a term whose text is not along the chain of its hash is new
+pub new_term :
+    (arena : List ℕ) (es : List Entry) (heads : List ℕ) (s : FoldHasher) (last : ℕ) (t : Term) → IsDict arena es heads s last
+    → Meets arena es (hash_of s (text_of t)) (text_of t) None → IsNew (terms_of arena es) t
+new_term arena es heads s last t d none n number =
+    let inside : n < length es = number_inside arena es n t number in
+    let same : text_at arena es n ≡ text_of t = number_text arena es heads s last n t d number in
+    none n inside (d.hashed n inside ∙ ap (hash_of s) same, same)
+
+-- each term that was there keeps its number
+below_same :
+    (arena later : List ℕ) (es fs : List Entry) → KeepsTexts arena es later fs
+    → map (term_at arena es) (range_with_len 0 (length es)) ≡ map (term_at later fs) (range_with_len 0 (length es))
+below_same arena later es fs kept =
+    fill_by_all (term_at later fs) (map (term_at arena es) (range_with_len 0 (length es))) (length es) (Iri [])
+    (length-map-range_with_len (term_at arena es) 0 (length es))
+    (λ k p.
+    let same : 0 + k ≡ k = omega arith in
+    get_or-map-range_with_len (term_at arena es) 0 (length es) k k (Iri []) p same ∙ ap term_of (sym (kept.text_same k p)))
+
+pub terms_kept :
+    (arena later : List ℕ) (es fs : List Entry) → KeepsTexts arena es later fs → length fs ≡ length es
+    → terms_of later fs ≡ terms_of arena es
+unfolding terms_of
+terms_kept arena later es fs kept count =
+    ap (λ m. map (term_at later fs) (range_with_len 0 m)) count ∙ sym (below_same arena later es fs kept)
+
+pub terms_more :
+    (arena later : List ℕ) (es fs : List Entry) (t : Term) → KeepsTexts arena es later fs → length fs ≡ length es + 1
+    → text_at later fs (length es) ≡ text_of t → terms_of later fs ≡ terms_of arena es ++ t ∷ []
+unfolding terms_of
+terms_more arena later es fs t kept count text =
+    let n : ℕ = length es in
+    let same : 0 + n ≡ n = omega arith in
+    let term : term_at later fs n ≡ t = ap term_of text ∙ term_of-text_of t in
+    ap (λ m. map (term_at later fs) (range_with_len 0 m)) count
+    ∙ (map-range_with_len_more (term_at later fs) 0 n n same
+    ∙ (ap (λ z. z ++ term_at later fs n ∷ []) (sym (below_same arena later es fs kept))
+    ∙ ap (λ (u : Term). map (term_at arena es) (range_with_len 0 n) ++ u ∷ []) term))
+
+-- the text of a term is canonical
+pub canonical_text : (t : Term) → IsTerm t → IsCanonical (text_of t)
+canonical_text t valid = record {
+  canonical = ap text_of (term_of-text_of t);
+  valid = let P : Term → Type 0 = λ u. IsTerm u in subst P (sym (term_of-text_of t)) valid;
+}
+
+-- a dictionary whose links alone were written
+pub dict_kept :
+    (arena later : List ℕ) (es fs : List Entry) (heads links : List ℕ) (s : FoldHasher) (last : ℕ) → IsDict arena es heads s last
+    → IsTable later fs links → KeepsTexts arena es later fs → length fs ≡ length es → IsDict later fs links s last
+dict_kept arena later es fs heads links s last d table kept count = record {
+  table = table;
+  canonical = λ i p.
+      let inside : i < length es = omega arith in
+      let P : List ℕ → Type 0 = λ x. IsCanonical x in
+      subst P (sym (kept.text_same i inside)) (d.canonical i inside);
+  hashed = λ i p.
+      let inside : i < length es = omega arith in
+      kept.hash_same i inside ∙ (d.hashed i inside ∙ ap (hash_of s) (sym (kept.text_same i inside)));
+  apart = λ i j p q e.
+      let i_inside : i < length es = omega arith in
+      let j_inside : j < length es = omega arith in
+      d.apart i j i_inside j_inside (sym (kept.text_same i i_inside) ∙ (e ∙ kept.text_same j j_inside));
+  few = omega (arith, d.few);
+  bounded = d.bounded;
+}
+
+-- a dictionary with one text more, which it did not have
+pub dict_more :
+    (arena later : List ℕ) (es fs : List Entry) (heads links : List ℕ) (s : FoldHasher) (last : ℕ) (x : List ℕ) → IsDict arena es heads s last
+    → IsTable later fs links → KeepsTexts arena es later fs → length fs ≡ length es + 1 → Has later fs (length es) (hash_of s x) x
+    → IsCanonical x → Meets arena es (hash_of s x) x None → length es ≤ last → IsDict later fs links s last
+dict_more arena later es fs heads links s last x d table kept count has canonical none room =
+    let P : List ℕ → Type 0 = λ y. IsCanonical y in
+    let absent : (j : ℕ) → j < length es → text_at later fs j ≡ x → ⊥ =
+    λ j p e.
+    let same : text_at arena es j ≡ x = sym (kept.text_same j p) ∙ e in
+    none j p (d.hashed j p ∙ ap (hash_of s) same, same)
+    in
+    record {
+      table = table;
+      canonical = λ i p. elim (cases_eq i (length es)) [
+        | inl at ↦ subst P (sym (ap (text_at later fs) at ∙ has.1)) canonical
+        | inr other ↦ let inside : i < length es = omega arith in subst P (sym (kept.text_same i inside)) (d.canonical i inside)
+      ];
+      hashed = λ i p. elim (cases_eq i (length es)) [
+        | inl at ↦ ap (λ k. (entry_at fs k).hash) at ∙ (has.0 ∙ ap (hash_of s) (sym (ap (text_at later fs) at ∙ has.1)))
+        | inr other ↦
+            let inside : i < length es = omega arith in
+            kept.hash_same i inside ∙ (d.hashed i inside ∙ ap (hash_of s) (sym (kept.text_same i inside)))
+      ];
+      apart = λ i j p q e. elim (cases_eq i (length es)) [
+        | inl i_at ↦ elim (cases_eq j (length es)) [
+          | inl j_at ↦ i_at ∙ sym j_at
+          | inr j_other ↦
+              let inside : j < length es = omega arith in absurd (absent j inside (sym e ∙ (ap (text_at later fs) i_at ∙ has.1)))
+        ]
+        | inr i_other ↦
+            let i_inside : i < length es = omega arith in
+            elim (cases_eq j (length es)) [
+              | inl j_at ↦ absurd (absent i i_inside (e ∙ (ap (text_at later fs) j_at ∙ has.1)))
+              | inr j_other ↦
+                  let j_inside : j < length es = omega arith in
+                  d.apart i j i_inside j_inside (sym (kept.text_same i i_inside) ∙ (e ∙ kept.text_same j j_inside))
+            ]
+      ];
+      few = omega (arith, d.bounded);
+      bounded = d.bounded;
+    }
+
+-- one without terms
+pub dict_empty :
+    (heads : List ℕ) (s : FoldHasher) (last : ℕ) → ((b : ℕ) → get_or heads b 0 ≡ 0) → 0 < length heads → last ≤ last_term
+    → IsDict [] [] heads s last
+unfolding start_at
+dict_empty heads s last empty some bounded = record {
+  table = record {
+    linked = record {
+      head_given = λ b. omega (arith, empty b);
+      head_there = λ b p. absurd (omega (arith, empty b));
+      head_greatest = λ j p. absurd (omega arith);
+      next_below = λ i p. absurd (omega arith);
+      next_there = λ i p q. absurd (omega arith);
+      next_greatest = λ i j p q r. absurd (omega arith);
+    };
+    spanned = record { rises = λ i p. absurd (omega arith); inside = λ i p. absurd (omega arith); whole = refl };
+    bucketed = some;
+  };
+  canonical = λ i p. absurd (omega arith);
+  hashed = λ i p. absurd (omega arith);
+  apart = λ i j p q e. absurd (omega arith);
+  few = omega arith;
+  bounded = bounded;
+}
+
+pub terms_none : terms_of [] [] ≡ []
+unfolding terms_of
+terms_none = refl
+
+-- what a look-up says, in the words of the dictionary
+pub meets_as :
+    (a arena : List ℕ) (e es : List Entry) (h : ℕ) (x : List ℕ) (s : FoldHasher) (t : Term) (o : Option ℕ) → Meets a e h x o → a ≡ arena → e ≡ es
+    → x ≡ text_of t → h ≡ hash_of s x → Meets arena es (hash_of s (text_of t)) (text_of t) o
+meets_as a arena e es h x s t o m same_arena same_entries text hash =
+    let P : List ℕ → Type 0 = λ z. Meets z e h x o in
+    let Q : List Entry → Type 0 = λ z. Meets arena z h x o in
+    let R : ℕ → Type 0 = λ z. Meets arena es z x o in
+    let S : List ℕ → Type 0 = λ z. Meets arena es (hash_of s z) z o in
+    subst S text (subst R hash (subst Q same_entries (subst P same_arena m)))
+
+-- a number of an option's term, by its text
+option_number :
+    (o : Option Term) (t : Term) (x : List ℕ) → option_map text_of o ≡ Some x → x ≡ text_of t → o ≡ Some t
+option_number None t x given same = absurd (cc)
+option_number (Some u) t x given same = ap (λ (v : Term). Some v) (text_of-injective u t (same_Some (text_of u) x given ∙ same))
+
+pub number_decides :
+    (ts : List Term) (n : ℕ) (t : Term) (x : List ℕ) (r : Bool) → option_map text_of (slice_get ts n) ≡ Some x → Decides r (x ≡ text_of t)
+    → Decides r (IsNumberOf ts n t)
+number_decides ts n t x r given d = (
+  λ yes. option_number (slice_get ts n) t x given (d.0 yes),
+  λ number. d.1 (same_Some x (text_of t) (sym given ∙ ap (option_map text_of) number)),
+)
+
+pub no_number : (ts : List Term) (n : ℕ) (t : Term) → nat_lt n (length ts) ≡ false → IsNumberOf ts n t → ⊥
+no_number ts n t past number = let inside : n < length ts = slice_get_within ts n t number in grind (arith, nat_tests)
+
+-- a new term, with the entry that was added for it
+pub joined :
+    (arena later : List ℕ) (es fs : List Entry) (heads links : List ℕ) (s : FoldHasher) (last : ℕ) (t : Term) (x : List ℕ) (h i : ℕ)
+    → IsDict arena es heads s last → IsTerm t → x ≡ text_of t → h ≡ hash_of s x → Meets arena es (hash_of s (text_of t)) (text_of t) None
+    → length es ≤ last → IsTable later fs links → KeepsTexts arena es later fs
+    → (i ≡ length es) × (length fs ≡ length es + 1) × Has later fs (length es) h x
+    → IsDict later fs links s last × Joins (terms_of arena es) t i (terms_of later fs)
+joined arena later es fs heads links s last t x h i d valid text hash none room table kept added =
+    let H : ℕ → Type 0 = λ k. Has later fs (length es) k x in
+    let X : List ℕ → Type 0 = λ z. Has later fs (length es) (hash_of s z) z in
+    let has : Has later fs (length es) (hash_of s (text_of t)) (text_of t) = subst X text (subst H hash added.2) in (
+      dict_more arena later es fs heads links s last (text_of t) d table kept added.1 has (canonical_text t valid) none room,
+      record {
+        absent = new_term arena es heads s last t d none;
+        next = added.0 ∙ sym (length-terms_of arena es);
+        more = terms_more arena later es fs t kept added.1 has.1;
+      },
+    )

@@ -1,0 +1,12 @@
+use Rattle.std.proofs.Common.{◌∙◌, ap, arith, []}
+use Rattle.gs_dict.specs.Kept.{terms_of}
+use Rattle.gs_dict.proofs.TermLemmas.{dict_empty, terms_none}
+use Rattle.gs_dict.proofs.dict.Dict.new.Goals as goal
+
+pub invariant_of-result : goal.invariant_of-result
+invariant_of-result c =
+    rw (c.new.ensures.items, c.new-2.ensures.items)
+    (dict_empty c.in_ok-heads.heads.items _ _ c.in_ok-heads.ensures.empty (omega (arith, c.in_ok-heads.ensures.count)) (omega arith))
+
+pub returns : goal.returns
+returns c = ap (λ xs. terms_of xs c.new-2.result.items) c.new.ensures.items ∙ (ap (terms_of []) c.new-2.ensures.items ∙ terms_none)

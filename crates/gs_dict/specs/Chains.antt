@@ -1,0 +1,86 @@
+-- The entries of a dictionary: where each text ends in the arena, and the chains of the buckets.
+use Rattle.std.specs.Prelude.{◌≡◌, ℕ, ◌+◌, ◌-◌, ◌<◌, ◌≤◌, if◌then◌else◌, ◌==◌, List, length, slice_index, slice_index_or, slice_range, bit_and, Option, Some, None, Result, Ok, Err}
+use Rattle.std.specs.declared.alloc.AllocError.{AllocError}
+use Rattle.gs_dict.specs.declared.chains.Entry.{Entry}
+
+abbrev pub no_entry : Entry
+no_entry = record { end = 0; next = 0; hash = 0 }
+
+abbrev pub entry_at : List Entry → ℕ → Entry
+entry_at es i = slice_index_or es i no_entry
+
+-- a text begins where the one before it ends
+unfoldable pub start_at : List Entry → ℕ → ℕ
+start_at es i = if i == 0 then 0 else (entry_at es (i - 1)).end
+
+unfoldable pub text_at : List ℕ → List Entry → ℕ → List ℕ
+text_at arena es i = slice_range arena (start_at es i) (entry_at es i).end
+
+-- the bucket of a hash, among so many
+unfoldable pub bucket_of : ℕ → ℕ → ℕ
+bucket_of buckets hash = bit_and hash (buckets - 1)
+
+-- The first n numbers are in chains, by the bucket of each, the link after it, and the link of each bucket. A link is a
+-- number plus one, and 0 at a chain's end; along a chain the numbers fall.
+pub record IsChained (n : ℕ) (bucket next head : ℕ → ℕ) : Type 0 where
+  -- a bucket's link is to one of its numbers, and the greatest
+  pub head_given : (b : ℕ) → head b ≤ n
+  pub head_there : (b : ℕ) → 0 < head b → bucket (head b - 1) ≡ b
+  pub head_greatest : (j : ℕ) → j < n → j < head (bucket j)
+  -- a number's next is the greatest of its bucket below it
+  pub next_below : (i : ℕ) → i < n → next i ≤ i
+  pub next_there : (i : ℕ) → i < n → 0 < next i → bucket (next i - 1) ≡ bucket i
+  pub next_greatest : (i j : ℕ) → i < n → j < i → bucket j ≡ bucket i → j < next i
+
+-- the bucket of an entry, among so many
+abbrev pub bucket_at : ℕ → List Entry → ℕ → ℕ
+bucket_at buckets es i = bucket_of buckets (entry_at es i).hash
+
+abbrev pub link_after : List Entry → ℕ → ℕ
+link_after es i = (entry_at es i).next
+
+-- the first n entries are in chains
+abbrev pub IsLinked : ℕ → List Entry → List ℕ → Type 0
+IsLinked n es heads = IsChained n (bucket_at (length heads) es) (link_after es) (slice_index heads)
+
+-- texts end one after another, the last at the end of the arena
+pub record IsSpanned (arena : List ℕ) (es : List Entry) : Type 0 where
+  pub rises : (i : ℕ) → i < length es → start_at es i ≤ (entry_at es i).end
+  pub inside : (i : ℕ) → i < length es → (entry_at es i).end ≤ length arena
+  pub whole : start_at es (length es) ≡ length arena
+
+pub record IsTable (arena : List ℕ) (es : List Entry) (heads : List ℕ) : Type 0 where
+  pub linked : IsLinked (length es) es heads
+  pub spanned : IsSpanned arena es
+  pub bucketed : 0 < length heads
+
+-- the number has this hash and this text
+abbrev pub Has : List ℕ → List Entry → ℕ → ℕ → List ℕ → Type 0
+Has arena es i hash x = ((entry_at es i).hash ≡ hash) × (text_at arena es i ≡ x)
+
+-- no number has this hash and this text, or this one has
+abbrev pub Meets : List ℕ → List Entry → ℕ → List ℕ → Option ℕ → Type 0
+Meets arena es hash x None = (j : ℕ) → j < length es → Has arena es j hash x → ⊥
+Meets arena es hash x (Some i) = (i < length es) × Has arena es i hash x
+
+-- the chain from a link on has all numbers of this hash and this text
+pub record IsAlong (arena : List ℕ) (es : List Entry) (buckets hash : ℕ) (x : List ℕ) (link : ℕ) : Type 0 where
+  pub given : link ≤ length es
+  pub there : 0 < link → bucket_at buckets es (link - 1) ≡ bucket_of buckets hash
+  pub passed : (j : ℕ) → j < length es → link ≤ j → Has arena es j hash x → ⊥
+
+-- as many entries, with the ends and the hashes that they had
+pub record Agree (es fs : List Entry) : Type 0 where
+  pub count : length fs ≡ length es
+  pub end_same : (i : ℕ) → (entry_at fs i).end ≡ (entry_at es i).end
+  pub hash_same : (i : ℕ) → (entry_at fs i).hash ≡ (entry_at es i).hash
+
+-- each number keeps its text and its hash
+pub record KeepsTexts (arena : List ℕ) (es : List Entry) (later : List ℕ) (fs : List Entry) : Type 0 where
+  pub text_same : (i : ℕ) → i < length es → text_at later fs i ≡ text_at arena es i
+  pub hash_same : (i : ℕ) → i < length es → (entry_at fs i).hash ≡ (entry_at es i).hash
+
+-- one more entry has the next number, this hash and this text; or memory was wanted, and there are as many as before
+abbrev pub AddsText : ℕ → List ℕ → List Entry → ℕ → List ℕ → Result ℕ AllocError → Type 0
+AddsText n later fs hash x (Ok i) = (i ≡ n) × (length fs ≡ n + 1) × Has later fs n hash x
+AddsText n later fs hash x (Err e) = length fs ≡ n

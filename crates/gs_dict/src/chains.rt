@@ -1,0 +1,135 @@
+//! Texts in one arena, with an entry for each, and chains of entries by their hashes.
+ghost use Rattle.std.specs.Prelude.{◌≡◌, ◌+◌, ◌-◌, ◌<◌, ◌≤◌, ◌^◌, length, slice_index, ℕ, IfOk};
+ghost use Rattle.std.specs.Bool.{Decides};
+ghost use Rattle.gs_dict.specs.Chains.{IsLinked, IsSpanned, IsTable, Has, Meets, Agree, KeepsTexts, AddsText, text_at as text_of_number, bucket_of};
+
+use std::alloc::{AllocError, Global};
+
+/// Where a text ends in the arena, the next link of its chain, and its hash. A link is a number
+/// plus one, and 0 at the end of a chain. 16 bytes.
+#[derive(Clone, Copy, Debug, Drop)]
+pub struct Entry {
+    pub end: u64,
+    pub next: u32,
+    pub hash: u32,
+}
+
+/// The bucket of a hash.
+#[tactic(auto, using(std::proofs::lemmas::Nat::and_le_r), unfolding(crate::specs::Chains::bucket_of))]
+fn bucket(hash: u32, buckets: usize) -> usize
+    requires { 0 < buckets }
+    ensures value { result ≡ bucket_of buckets hash }
+    ensures inside { result < buckets }
+{
+    hash as usize & (buckets - 1)
+}
+
+/// The text of a number.
+#[tactic(auto, unfolding(crate::specs::Chains::text_at, crate::specs::Chains::start_at))]
+pub fn text_at<'a>(arena: &'a [u8], entries: &[Entry], number: usize) -> &'a [u8]
+    requires given { number < length entries.now }
+    requires spanned { IsSpanned arena.now entries.now }
+    ensures { result.now ≡ text_of_number arena.now entries.now number }
+{
+    let start = if number == 0 {
+        0
+    } else {
+        entries[number - 1].end as usize
+    };
+    let end = entries[number].end as usize;
+    &arena[start..end]
+}
+
+/// Whether a number has this hash and this text. Few texts are compared: most hashes differ.
+fn has(arena: &[u8], entries: &[Entry], number: usize, text: &[u8], hash: u32) -> bool
+    requires given { number < length entries.now }
+    requires spanned { IsSpanned arena.now entries.now }
+    ensures { Decides result (Has arena.now entries.now number hash text.now) }
+{
+    entries[number].hash == hash && text_at(arena, entries, number) == text
+}
+
+/// The number of a text, looked for along the chain of its hash.
+pub fn find(arena: &[u8], entries: &[Entry], heads: &[u32], text: &[u8], hash: u32) -> Option<u32>
+    requires { IsTable arena.now entries.now heads.now }
+    ensures { Meets arena.now entries.now hash text.now result }
+{
+    let mut link = heads[bucket(hash, heads.len())];
+    while link > 0 {
+        let number = link - 1;
+        if has(arena, entries, number as usize, text, hash) {
+            return Some(number);
+        }
+        link = entries[number as usize].next;
+    }
+    None
+}
+
+/// Puts all entries into chains, in the order of their numbers.
+fn relink(entries: &mut [Entry], heads: &mut [u32])
+    requires few { length entries.old < 2 ^ 32 }
+    requires bucketed { 0 < length heads.old }
+    requires empty { (b : ℕ) → slice_index heads.old b ≡ 0 }
+    ensures linked { IsLinked (length entries.old) entries.new heads.new }
+    ensures kept { Agree entries.old entries.new }
+{
+    for i in 0..entries.len() {
+        let b = bucket(entries[i].hash, heads.len());
+        entries[i].next = heads[b];
+        heads[b] = i as u32 + 1;
+    }
+}
+
+/// So many buckets, without entries.
+pub fn empty_buckets(alloc: Global, count: usize) -> Result<Vec<u32>, AllocError>
+    ensures count { IfOk result (λ v. length v.items ≡ count) }
+    ensures empty { IfOk result (λ v. (b : ℕ) → slice_index v.items b ≡ 0) }
+{
+    vec![in alloc; 0u32; count]
+}
+
+/// Twice as many buckets, where there are as many entries as buckets.
+fn grow(entries: &mut Vec<Entry>, heads: &mut Vec<u32>) -> Result<(), AllocError>
+    requires few { length entries.old.items < 2 ^ 32 }
+    requires bucketed { 0 < length heads.old.items }
+    requires linked { IsLinked (length entries.old.items) entries.old.items heads.old.items }
+    ensures linked { IsLinked (length entries.old.items) entries.new.items heads.new.items }
+    ensures bucketed { 0 < length heads.new.items }
+    ensures kept { Agree entries.old.items entries.new.items }
+{
+    if entries.len() < heads.len() {
+        return Ok(());
+    }
+    let mut more = empty_buckets(*heads.allocator(), 2 * heads.len())?;
+    relink(entries, &mut more);
+    *heads = more;
+    Ok(())
+}
+
+/// Adds a text, which has the next number. Where memory is wanted, nothing is added.
+pub fn add(
+    arena: &mut Vec<u8>,
+    entries: &mut Vec<Entry>,
+    heads: &mut Vec<u32>,
+    text: &[u8],
+    hash: u32,
+) -> Result<u32, AllocError>
+    requires table { IsTable arena.old.items entries.old.items heads.old.items }
+    requires few { length entries.old.items + 1 < 2 ^ 32 }
+    ensures table { IsTable arena.new.items entries.new.items heads.new.items }
+    ensures kept { KeepsTexts arena.old.items entries.old.items arena.new.items entries.new.items }
+    ensures value { AddsText (length entries.old.items) arena.new.items entries.new.items hash text.now result }
+{
+    grow(entries, heads)?;
+    entries.reserve(1)?;
+    arena.extend_from_slice(text)?;
+    let b = bucket(hash, heads.len());
+    let number = entries.len() as u32;
+    entries.push(Entry {
+        end: arena.len() as u64,
+        next: heads[b],
+        hash,
+    })?;
+    heads[b] = number + 1;
+    Ok(number)
+}

@@ -1,0 +1,162 @@
+//! The dictionary.
+ghost use Rattle.std.specs.Prelude.{◌≡◌, ◌+◌, ◌<◌, ◌≤◌, [], length, nat_lt, slice_get, Some, MatchResult, ℕ};
+ghost use Rattle.std.specs.Bool.{Decides};
+ghost use Rattle.std.specs.Option.{option_map};
+ghost use Rattle.gs_model.specs.Terms.{Term, text_of, IsTerm};
+ghost use Rattle.gs_dict.specs.Numbering.{last_term, IsNumberOf, IsDistinct, LooksUp, Interns};
+ghost use Rattle.gs_dict.specs.Kept.{hash_of as hash_of_text};
+
+use crate::chains::{self, Entry};
+use crate::numbers::TermId;
+use gs_model::Refusal;
+use gs_term::TermText;
+use std::alloc::Global;
+use std::hash::{FoldHasher, Hasher};
+use std::marker::Model;
+
+/// The greatest number of a term.
+const LAST_TERM: u32 = 4_294_967_294;
+
+/// The buckets of a dictionary without terms. They are doubled as terms are added.
+const FIRST_BUCKETS: usize = 1024;
+
+/// Terms by number. Each text stands once, in one arena; a number is found by the hash of its
+/// text, which a seed keeps from strangers. A contract sees the terms, in the order of their
+/// numbers.
+#[derive(Drop)]
+pub struct Dict {
+    arena: Vec<u8>,
+    entries: Vec<Entry>,
+    heads: Vec<u32>,
+    /// A hasher that has been given the seed.
+    seeded: FoldHasher,
+    /// No number is greater.
+    last: u32,
+}
+
+impl Model for Dict {
+    ghost use Rattle.std.specs.Prelude.{List};
+    ghost use Rattle.std.specs.Coded.{coded_list};
+    ghost use Rattle.gs_model.specs.Terms.{Term};
+    ghost use Rattle.gs_model.specs.Codes.{term_code};
+
+    ghost Value = { List Term };
+
+    ghost coded = { coded_list term_code };
+
+    ghost use Rattle.gs_dict.specs.Kept.{terms_of, IsDict};
+
+    ghost view = { λ d. terms_of d.arena.items d.entries.items };
+
+    ghost invariant = { λ d. IsDict d.arena.items d.entries.items d.heads.items d.seeded d.last };
+}
+
+#[tactic(auto, unfolding(crate::specs::Kept::hash_of))]
+fn hash_of(seeded: FoldHasher, text: &[u8]) -> u32
+    ensures { result ≡ hash_of_text seeded text.now }
+{
+    let mut hasher = seeded;
+    hasher.write(text);
+    (hasher.finish() & 0xFFFF_FFFF) as u32
+}
+
+impl Dict {
+    /// One without terms. Where strangers choose the terms, the seed is random and kept from them:
+    /// the first number of a `RandomState`. No number is greater than `last`, nor than
+    /// 4,294,967,294.
+    pub fn new(alloc: Global, seed: u64, last: u32) -> Result<Dict, Refusal>
+        ensures { MatchResult result (λ d. d ≡ []) (λ e. e ≡ Refusal.NoMemory) }
+    {
+        let mut seeded = FoldHasher::default();
+        seeded.write_u64(seed);
+        let heads = chains::empty_buckets(alloc, FIRST_BUCKETS)?;
+        Ok(Dict {
+            arena: Vec::new(alloc),
+            entries: Vec::new(alloc),
+            heads,
+            seeded,
+            last: last.min(LAST_TERM),
+        })
+    }
+
+    /// How many terms there are.
+    pub fn len(&self) -> usize
+        ensures value { result ≡ length self.now }
+        ensures fits { length self.now ≤ last_term + 1 }
+        ensures distinct { IsDistinct self.now }
+    {
+        self.entries.len()
+    }
+
+    /// Whether this number was given.
+    pub fn has(&self, id: TermId) -> bool
+        ensures { result ≡ nat_lt id.number (length self.now) }
+    {
+        (id.number as usize) < self.len()
+    }
+
+    /// The canonical text of a number that was given.
+    pub fn text(&self, id: TermId) -> &[u8]
+        requires { id.number < length self.now }
+        ensures value { option_map text_of (slice_get self.now id.number) ≡ Some result.now }
+        ensures valid { (t : Term) → IsNumberOf self.now id.number t → IsTerm t }
+    {
+        chains::text_at(&self.arena, &self.entries, id.number as usize)
+    }
+
+    /// Whether this number is the term's: one comparison of texts, and no hash.
+    pub fn is_number_of(&self, id: TermId, term: &TermText) -> bool
+        ensures { Decides result (IsNumberOf self.now id.number term.now) }
+    {
+        if !self.has(id) {
+            return false;
+        }
+        self.text(id) == term.as_bytes()
+    }
+
+    /// The number of a term that has one.
+    pub fn find(&self, term: &TermText) -> Option<TermId>
+        ensures { LooksUp self.now term.now result }
+    {
+        let text = term.as_bytes();
+        let hash = hash_of(self.seeded, text);
+        let number = chains::find(&self.arena, &self.entries, &self.heads, text, hash)?;
+        Some(TermId { number })
+    }
+
+    /// The number of a term, which is given one where it has none. Wants memory for a new term
+    /// alone; that the numbers are used up counts as want of memory.
+    pub fn intern(&mut self, term: &TermText) -> Result<TermId, Refusal>
+        ensures value { Interns self.old term.now result self.new }
+        ensures distinct { IsDistinct self.new }
+        ensures fits { length self.new ≤ last_term + 1 }
+    {
+        let text = term.as_bytes();
+        let hash = hash_of(self.seeded, text);
+        if let Some(number) = chains::find(&self.arena, &self.entries, &self.heads, text, hash) {
+            return Ok(TermId { number });
+        }
+        if self.entries.len() > self.last as usize {
+            return Err(Refusal::NoMemory);
+        }
+        let number = chains::add(
+            &mut self.arena,
+            &mut self.entries,
+            &mut self.heads,
+            text,
+            hash,
+        )?;
+        Ok(TermId { number })
+    }
+
+    /// The same, with a number to try first, which saves the hash where it is the term's: the last
+    /// subject's number, as a subject mostly comes again.
+    pub fn intern_near(&mut self, guess: TermId, term: &TermText) -> Result<TermId, Refusal>
+        ensures { Interns self.old term.now result self.new }
+    {
+        if self.is_number_of(guess, term) {
+            return Ok(guess);
+        }
+        self.intern(term)
+    }
+}

@@ -1,0 +1,9 @@
+//! Terms by number: two terms have one number exactly where they are equal.
+#![tactic(auto)]
+
+mod chains;
+mod dict;
+mod numbers;
+
+pub use dict::Dict;
+pub use numbers::TermId;

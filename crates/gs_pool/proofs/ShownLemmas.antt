@@ -1,0 +1,197 @@
+-- What a pool shows after the first place of a list left it, and after a place more.
+use Rattle.std.proofs.Common.{◌≡◌, ◌≢◌, ℕ, zero, suc, ◌+◌, ◌<◌, Bool, true, false, cond, List, [], ◌∷◌, ◌++◌, map, length, get_or, set, inl, inr, Option, Some, None, is_some, count_by, refl, sym, ap, ◌∙◌, arith, length-set, true≢false, eqb}
+use Rattle.std.specs.Prelude.{is_none}
+use Rattle.std.proofs.lemmas.Bool.{cases_lt, eqb-true, eq-eqb}
+use Rattle.std.proofs.lemmas.List.{map_push, length-map, length_push, get_or-map, get_or_past, get_or_append_left, get_or_push}
+use Rattle.std.proofs.lemmas.List.Sums.{sum_by_push}
+use Rattle.gs_pool.specs.declared.nodes.Node.{Node}
+use Rattle.gs_pool.specs.declared.places.Place.{Place}
+use Rattle.gs_pool.specs.declared.places.State.{State}
+use Rattle.gs_pool.specs.declared.places.State.TheVariants.{Free, Plain, AsideNode, AsideTree, RetiredNode, RetiredTree}
+use Rattle.gs_pool.specs.Pool.{Nodes, NodeMark, plain, aside, retired, is_aside, is_retired, Fills}
+use Rattle.gs_pool.specs.Places.{content_of, node_in, mark_in, is_whole, node_of, mark_of, is_free_place, is_aside_place, is_retired_place, IsListOf, IsSound}
+use Rattle.gs_pool.proofs.ListLemmas.{list_pop, list_more, none_listed}
+use Rattle.gs_pool.proofs.PlaceLemmas.{Relists, relists, Writes, writes, mark_by}
+
+-- a place marked as set aside is in one of two states
+aside_place : (st : State) (death : ℕ) (n : Node) → is_aside (mark_in st death) ≡ true → (mark_in st death ≡ aside death (is_whole st)) × (node_in st n ≡ Some n)
+aside_place Free death n h = absurd (true≢false (sym h))
+aside_place Plain death n h = absurd (true≢false (sym h))
+aside_place AsideNode death n h = (refl, refl)
+aside_place AsideTree death n h = (refl, refl)
+aside_place RetiredNode death n h = absurd (true≢false (sym h))
+aside_place RetiredTree death n h = absurd (true≢false (sym h))
+
+-- a place marked as retired is in one of two states
+retired_place : (st : State) (death : ℕ) (n : Node) → is_retired (mark_in st death) ≡ true → (mark_in st death ≡ retired death (is_whole st)) × (node_in st n ≡ Some n)
+retired_place Free death n h = absurd (true≢false (sym h))
+retired_place Plain death n h = absurd (true≢false (sym h))
+retired_place AsideNode death n h = absurd (true≢false (sym h))
+retired_place AsideTree death n h = absurd (true≢false (sym h))
+retired_place RetiredNode death n h = (refl, refl)
+retired_place RetiredTree death n h = (refl, refl)
+
+-- a free place is marked as plain
+pub free_state : (st : State) (death : ℕ) (n : Node) → is_none (node_in st n) ≡ true → (mark_in st death ≡ plain) × (node_in st n ≡ None)
+free_state Free death n h = (refl, refl)
+free_state Plain death n h = absurd (true≢false (sym h))
+free_state AsideNode death n h = absurd (true≢false (sym h))
+free_state AsideTree death n h = absurd (true≢false (sym h))
+free_state RetiredNode death n h = absurd (true≢false (sym h))
+free_state RetiredTree death n h = absurd (true≢false (sym h))
+
+-- the place with this mark is plain again
+pub record Leaves (places : List Place) (id : ℕ) (s d : Place) (m : NodeMark) : Type 0 where
+  pub within : id < length places
+  pub shown : get_or (map node_of places) id None ≡ Some (content_of d)
+  pub mark : get_or (map mark_of places) id plain ≡ m
+  pub was : mark_of d ≡ m
+  pub not_free : is_free_place d ≡ false
+  pub still_used : is_free_place s ≡ false
+  pub now : mark_of s ≡ plain
+  pub relists : Relists places id s m plain
+
+leaves : (places : List Place) (id : ℕ) (s d : Place) (m : NodeMark) → id < length places → d ≡ get_or places id d → node_of d ≡ Some (content_of d) → mark_of d ≡ m → content_of s ≡ content_of d → s.state ≡ Plain → s.death ≡ 0 → Leaves places id s d m
+leaves places id s d m within read node was content state dies =
+    let same : node_of s ≡ node_of d = ap (λ k. node_in k (content_of s)) state ∙ ap Some content ∙ sym node in
+    let now = mark_by s Plain 0 state dies in
+    let not_free : is_free_place d ≡ false = ap is_none node in
+    record {
+      within = within;
+      shown = get_or-map node_of places id d None within ∙ ap node_of (sym read) ∙ node;
+      mark = get_or-map mark_of places id d plain within ∙ ap mark_of (sym read) ∙ was;
+      was = was;
+      not_free = not_free;
+      still_used = ap is_none same ∙ not_free;
+      now = now;
+      relists = relists places id s d m plain within read same was now;
+    }
+
+pub leaves_aside : (places : List Place) (first : Option ℕ) (id : ℕ) (s d : Place) → IsListOf is_aside_place places first → first ≡ Some id → d ≡ get_or places id d → content_of s ≡ content_of d → s.state ≡ Plain → s.death ≡ 0 → Leaves places id s d (aside d.death (is_whole d.state))
+leaves_aside places first id s d list is read content state dies =
+    let pops = list_pop is_aside_place places first id s d list is read (ap is_aside (mark_by s Plain 0 state dies)) in
+    let was = aside_place d.state d.death (content_of d) pops.was in
+    leaves places id s d (aside d.death (is_whole d.state)) pops.within read was.1 was.0 content state dies
+
+pub leaves_retired : (places : List Place) (first : Option ℕ) (id : ℕ) (s d : Place) → IsListOf is_retired_place places first → first ≡ Some id → d ≡ get_or places id d → content_of s ≡ content_of d → s.state ≡ Plain → s.death ≡ 0 → Leaves places id s d (retired d.death (is_whole d.state))
+leaves_retired places first id s d list is read content state dies =
+    let pops = list_pop is_retired_place places first id s d list is read (ap is_retired (mark_by s Plain 0 state dies)) in
+    let was = retired_place d.state d.death (content_of d) pops.was in
+    leaves places id s d (retired d.death (is_whole d.state)) pops.within read was.1 was.0 content state dies
+
+-- all marks stay where a place keeps its mark
+pub marks_kept : (places : List Place) (id : ℕ) (s d : Place) → d ≡ get_or places id d → mark_of s ≡ mark_of d → map mark_of (set places id s) ≡ map mark_of places
+marks_kept places id s d read same = Rattle.std.proofs.Math.Seq.map-set_same mark_of places id s d (same ∙ ap mark_of read)
+
+-- there are as many numbers after a place is written
+pub numbers_kept : (places : List Place) (id : ℕ) (s : Place) → length (map node_of (set places id s)) ≡ length (map node_of places)
+numbers_kept places id s = length-map (set places id s) node_of ∙ length-set places id s ∙ sym (length-map places node_of)
+
+-- a number that is free has no mark
+pub free_is_unmarked : (places : List Place) (id : ℕ) → get_or (map node_of places) id None ≡ None → get_or (map mark_of places) id plain ≡ plain
+free_is_unmarked [] id h = refl
+free_is_unmarked (s ∷ places) zero h = (free_state s.state s.death (content_of s) (ap is_none h)).0
+free_is_unmarked (s ∷ places) (suc id) h = free_is_unmarked places id h
+
+-- the first free place gets a node
+pub record Filled (places : List Place) (id limit : ℕ) (s d : Place) (n : Node) : Type 0 where
+  pub within : id < length places
+  pub was : is_free_place d ≡ true
+  pub mark : mark_of d ≡ plain
+  pub fills : (old new : Nodes) → old.nodes ≡ map node_of places → old.marks ≡ map mark_of places → new.nodes ≡ map node_of (set places id s) → new.marks ≡ map mark_of (set places id s) → new.limit ≡ limit → Fills old new id n
+  pub fewer : count_by is_none (map node_of (set places id s)) + 1 ≡ count_by is_none (map node_of places)
+
+pub filled : (places : List Place) (ff fr ft : Option ℕ) (free limit id : ℕ) (s d : Place) (n : Node) → IsSound places ff fr ft free limit → ff ≡ Some id → d ≡ get_or places id d → node_of s ≡ Some n → mark_of s ≡ plain → Filled places id limit s d n
+filled places ff fr ft free limit id s d n sound is read node mark =
+    let pops = list_pop is_free_place places ff id s d sound.free_list is read (ap is_none node) in
+    let was = free_state d.state d.death (content_of d) pops.was in
+    let w = writes places id s d pops.within read in
+    let kept = marks_kept places id s d read (mark ∙ sym was.0) in
+    let used = rw (ap is_some was.1, ap is_some node) at w.used in
+    let fewer = rw (pops.was, ap is_none node) at w.free in
+    record {
+      within = pops.within;
+      was = pops.was;
+      mark = was.0;
+      fills = λ old new old_nodes old_marks new_nodes new_marks limits. record {
+        was_free = rw old_nodes (get_or-map node_of places id d None pops.within ∙ ap node_of (sym read) ∙ was.1);
+        updates = record {
+          changed = rw new_nodes (w.node ∙ node);
+          others = λ x ne. rw (new_nodes, old_nodes) (w.node_others x ne);
+        };
+        plain_now = rw new_marks (w.mark ∙ mark);
+        marks = λ x. ap (λ ms. get_or ms x plain) (new_marks ∙ kept ∙ sym old_marks);
+        below = omega (arith, limits, sound.short, pops.within);
+        in_use = rw (new_nodes, old_nodes) (omega arith);
+        aside = ap (count_by is_aside) (new_marks ∙ kept ∙ sym old_marks);
+        retired = ap (count_by is_retired) (new_marks ∙ kept ∙ sym old_marks);
+        reuses = λ some. rw (new_nodes, old_nodes) (omega (arith, length-map (set places id s) node_of, length-map places node_of, w.len));
+        grows = λ full. let none : count_by is_none (map node_of places) ≡ 0 = rw old_nodes at full in absurd (omega (arith, fewer));
+      };
+      fewer = omega arith;
+    }
+
+-- what is shown under a number after a place more
+shown_push : {B : Type 0} (show : Place → B) (none : B) (places : List Place) (s : Place) (x : ℕ) → x ≢ length places → get_or (map show (places ++ s ∷ [])) x none ≡ get_or (map show places) x none
+shown_push show none places s x ne =
+    rw (map_push show places s) (elim (cases_lt x (length places)) [
+      | inl here ↦ get_or_append_left (map show places) (show s ∷ []) none x (omega (arith, length-map places show))
+      | inr past ↦ get_or_past (map show places ++ show s ∷ []) x none (omega (arith, length-map places show, length_push (map show places) (show s))) ∙ sym (get_or_past (map show places) x none (omega (arith, length-map places show)))
+    ])
+
+-- what is shown under the new number
+shown_last : {B : Type 0} (show : Place → B) (none : B) (places : List Place) (s : Place) → get_or (map show (places ++ s ∷ [])) (length places) none ≡ show s
+shown_last show none places s = rw (map_push show places s) (get_or_push (map show places) (show s) none (length places) (length-map places show))
+
+-- how many pass a test after a place more
+counted_push : {B : Type 0} (test : B → Bool) (show : Place → B) (places : List Place) (s : Place) → count_by test (map show (places ++ s ∷ [])) ≡ count_by test (map show places) + cond (test (show s)) 1 0
+counted_push test show places s = rw (map_push show places s) (sum_by_push (λ o. cond (test o) 1 0) (map show places) (show s))
+
+-- a place more gets a node
+pub record Pushed (places : List Place) (limit : ℕ) (s : Place) (n : Node) : Type 0 where
+  pub fills : (old new : Nodes) → old.nodes ≡ map node_of places → old.marks ≡ map mark_of places → new.nodes ≡ map node_of (places ++ s ∷ []) → new.marks ≡ map mark_of (places ++ s ∷ []) → new.limit ≡ limit → Fills old new (length places) n
+  pub free : count_by is_none (map node_of (places ++ s ∷ [])) ≡ 0
+
+pub pushed : (places : List Place) (ff fr ft : Option ℕ) (free limit : ℕ) (s : Place) (n : Node) → IsSound places ff fr ft free limit → ff ≡ None → length places < limit → node_of s ≡ Some n → mark_of s ≡ plain → Pushed places limit s n
+pushed places ff fr ft free limit s n sound none room node mark =
+    let full : count_by is_none (map node_of places) ≡ 0 = Rattle.gs_pool.proofs.PlaceLemmas.count_shown is_none node_of places ∙ none_listed is_free_place places ff sound.free_list none in
+    let same : (x : ℕ) → get_or (map mark_of (places ++ s ∷ [])) x plain ≡ get_or (map mark_of places) x plain = λ x. elim (eqb x (length places)) as (λ b. eqb x (length places) ≡ b → get_or (map mark_of (places ++ s ∷ [])) x plain ≡ get_or (map mark_of places) x plain) [
+      | true ↦ λ e.
+          let at : x ≡ length places = eqb-true x (length places) e in
+          rw at (shown_last mark_of plain places s ∙ mark) ∙ sym (get_or_past (map mark_of places) x plain (omega (arith, length-map places mark_of)))
+      | false ↦ λ e. shown_push mark_of plain places s x (λ f. true≢false (sym (eq-eqb x (length places) f) ∙ e))
+    ] refl in
+    let used = rw (ap is_some node) at (counted_push is_some node_of places s) in
+    let free_after = rw (ap is_none node) at (counted_push is_none node_of places s) in
+    let aside_after = rw (ap is_aside mark) at (counted_push is_aside mark_of places s) in
+    let retired_after = rw (ap is_retired mark) at (counted_push is_retired mark_of places s) in
+    record {
+      fills = λ old new old_nodes old_marks new_nodes new_marks limits. record {
+        was_free = rw old_nodes (get_or_past (map node_of places) (length places) None (omega (arith, length-map places node_of)));
+        updates = record {
+          changed = rw new_nodes (shown_last node_of None places s ∙ node);
+          others = λ x ne. rw (new_nodes, old_nodes) (shown_push node_of None places s x ne);
+        };
+        plain_now = rw new_marks (shown_last mark_of plain places s ∙ mark);
+        marks = λ x. rw (new_marks, old_marks) (same x);
+        below = omega (arith, limits, room);
+        in_use = rw (new_nodes, old_nodes) (omega arith);
+        aside = rw (new_marks, old_marks) (omega arith);
+        retired = rw (new_marks, old_marks) (omega arith);
+        grows = λ _. rw (new_nodes, old_nodes) (omega (arith, length-map (places ++ s ∷ []) node_of, length-map places node_of, length_push places s));
+        reuses = λ some. let has : 0 < count_by is_none (map node_of places) = rw old_nodes at some in absurd (omega arith);
+      };
+      free = omega arith;
+    }
+
+pub pushed_sound : (places : List Place) (ff fr ft : Option ℕ) (free limit : ℕ) (s : Place) (n : Node) → IsSound places ff fr ft free limit → length places < limit → node_of s ≡ Some n → mark_of s ≡ plain → IsSound (places ++ s ∷ []) ff fr ft free limit
+pushed_sound places ff fr ft free limit s n sound room node mark =
+    let counted = rw (ap is_none node) at (sum_by_push (λ p. cond (is_free_place p) 1 0) places s) in
+    record {
+      free_list = list_more is_free_place places ff s sound.free_list (ap is_none node);
+      aside_list = list_more is_aside_place places fr s sound.aside_list (ap is_aside mark);
+      retired_list = list_more is_retired_place places ft s sound.retired_list (ap is_retired mark);
+      counted = omega (arith, sound.counted);
+      short = omega (arith, length_push places s);
+      small = sound.small;
+    }

@@ -1,0 +1,106 @@
+-- How a `Pool` lays out its nodes. No public clause cites this module.
+use Rattle.std.specs.Prelude.{◌≡◌, ℕ, ◌+◌, ◌≤◌, Bool, true, false, List, [], ◌∷◌, length, Option, Some, None, is_none, count_by, slice_get, if◌then◌else◌, ◌==◌}
+use Rattle.gs_pool.specs.declared.nodes.Node.{Node}
+use Rattle.gs_pool.specs.declared.places.Place.{Place}
+use Rattle.gs_pool.specs.declared.places.State.{State}
+use Rattle.gs_pool.specs.declared.places.State.TheVariants.{Free, Plain, AsideNode, AsideTree, RetiredNode, RetiredTree}
+use Rattle.gs_model.specs.Limits.{last_node}
+use Rattle.gs_pool.specs.Pool.{NodeMark, plain, aside, retired, is_aside, is_retired}
+
+-- a number, where there is one
+abbrev pub number_if : Bool → ℕ → Option ℕ
+number_if has id = if has then Some id else None
+
+-- the node of a place, whether it is in use or not
+abbrev pub content_of : Place → Node
+content_of s = record { key = s.key; left = number_if s.has_left s.left; right = number_if s.has_right s.right; height = s.height; birth = s.birth }
+
+-- the next place of the list that a place is on
+abbrev pub next_of : Place → Option ℕ
+next_of s = number_if s.has_next s.next
+
+-- a node in this state, where the state is not free
+abbrev pub node_in : State → Node → Option Node
+node_in Free n = None
+node_in Plain n = Some n
+node_in AsideNode n = Some n
+node_in AsideTree n = Some n
+node_in RetiredNode n = Some n
+node_in RetiredTree n = Some n
+
+-- the mark of this state
+abbrev pub mark_in : State → ℕ → NodeMark
+mark_in Free death = plain
+mark_in Plain death = plain
+mark_in AsideNode death = aside death false
+mark_in AsideTree death = aside death true
+mark_in RetiredNode death = retired death false
+mark_in RetiredTree death = retired death true
+
+-- whether the state is that of a node in use that is on no list
+abbrev pub is_plain : State → Bool
+is_plain Free = false
+is_plain Plain = true
+is_plain AsideNode = false
+is_plain AsideTree = false
+is_plain RetiredNode = false
+is_plain RetiredTree = false
+
+-- whether the state is that of a node that stands for all below it too
+abbrev pub is_whole : State → Bool
+is_whole Free = false
+is_whole Plain = false
+is_whole AsideNode = false
+is_whole AsideTree = true
+is_whole RetiredNode = false
+is_whole RetiredTree = true
+
+-- the states of a node set aside and of a retired one, alone or with all below it
+abbrev pub aside_state : Bool → State
+aside_state whole = if whole then AsideTree else AsideNode
+
+abbrev pub retired_state : Bool → State
+retired_state whole = if whole then RetiredTree else RetiredNode
+
+-- the node of a place, where it is not free, and its mark
+abbrev pub node_of : Place → Option Node
+node_of s = node_in s.state (content_of s)
+
+abbrev pub mark_of : Place → NodeMark
+mark_of s = mark_in s.state s.death
+
+-- the places of each list
+abbrev pub is_free_place : Place → Bool
+is_free_place s = is_none (node_of s)
+
+abbrev pub is_aside_place : Place → Bool
+is_aside_place s = is_aside (mark_of s)
+
+abbrev pub is_retired_place : Place → Bool
+is_retired_place s = is_retired (mark_of s)
+
+-- how often a number is in a list
+abbrev pub times : ℕ → List ℕ → ℕ
+times x [] = 0
+times x (y ∷ ys) = (if y == x then 1 else 0) + times x ys
+
+-- the places named by these numbers pass the test, and each names the next
+abbrev pub IsChain : (Place → Bool) → List Place → Option ℕ → List ℕ → Type 0
+IsChain test places first [] = first ≡ None
+IsChain test places first (id ∷ ids) = (first ≡ Some id) × ((s : Place) × (slice_get places id ≡ Some s) × (test s ≡ true) × IsChain test places (next_of s) ids)
+
+-- the list that begins at `first` has each place once that passes the test
+pub record IsListOf (test : Place → Bool) (places : List Place) (first : Option ℕ) : Type 0 where
+  pub ids : List ℕ
+  pub chain : IsChain test places first ids
+  pub once : (x : ℕ) → times x ids ≤ 1
+  pub all : length ids ≡ count_by test places
+
+-- each list is whole
+pub record IsSound (places : List Place) (first_free first_aside first_retired : Option ℕ) (free limit : ℕ) : Type 0 where
+  pub free_list : IsListOf is_free_place places first_free
+  pub aside_list : IsListOf is_aside_place places first_aside
+  pub retired_list : IsListOf is_retired_place places first_retired
+  pub counted : free ≡ count_by is_free_place places
+  pub short : length places ≤ limit
+  pub small : limit ≤ last_node + 1

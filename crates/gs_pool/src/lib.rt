@@ -1,0 +1,9 @@
+//! Nodes named by number in one vector, with lists through the nodes: free, aside, retired.
+#![tactic(auto)]
+
+mod nodes;
+mod places;
+mod pools;
+
+pub use nodes::{Key, Node, Retired};
+pub use pools::Pool;

@@ -1,0 +1,284 @@
+//! Nodes, each under a number.
+ghost use Rattle.std.specs.Prelude.{◌≡◌, ℕ, ◌+◌, ◌<◌, ◌≤◌, [], length, Some, None, IsSome, IsOk, OnOk, OnErr, IfOk, min, true, false};
+ghost use Rattle.std.specs.Bool.{Decides};
+ghost use Rattle.gs_model.specs.Limits.{last_node};
+ghost use Rattle.gs_pool.specs.Pool.{node_at, mark_at, free_count, in_use, room, aside_count, retired_count, plain, aside, replaced, retired};
+ghost use Rattle.gs_pool.specs.Pool.{IsPlain, IsParted, Updates, Marks, KeepsMarks, Fills, Replaces, TakesAside, TakesRetired, Counts};
+
+use crate::nodes::{Node, Retired};
+use crate::places::{Place, State};
+use gs_model::LAST_NODE;
+use std::alloc::{AllocError, Global};
+use std::marker::Model;
+
+/// Nodes, each under a number. A number is free, or in use and then plain, set aside or retired. Free,
+/// aside and retired ones are on a list each, which runs through the nodes.
+#[derive(Drop)]
+pub struct Pool {
+    places: Vec<Place>,
+    first_free: Option<u32>,
+    first_aside: Option<u32>,
+    first_retired: Option<u32>,
+    free: usize,
+    // How many numbers there are at most.
+    limit: usize,
+}
+
+impl Model for Pool {
+    ghost use Rattle.std.specs.Prelude.{◌-◌, map, min, vec_len, vec_capacity};
+    ghost use Rattle.gs_pool.specs.Pool.{Nodes};
+
+    ghost Value = { Nodes };
+
+    ghost use Rattle.gs_pool.specs.Places.{node_of, mark_of, IsSound};
+
+    ghost view = { λ p. record {
+      nodes = map node_of p.places.items;
+      marks = map mark_of p.places.items;
+      spare = min (vec_capacity p.places) p.limit - vec_len p.places;
+      limit = p.limit;
+    } };
+
+    ghost invariant = { λ p. IsSound p.places.items p.first_free p.first_aside p.first_retired p.free p.limit };
+}
+
+impl Pool {
+    /// A pool with no node, whose numbers go from 0 to `last`, or to the greatest number of a node.
+    pub fn new(alloc: Global, last: u32) -> Self
+        ensures nodes { result.nodes ≡ [] }
+        ensures marks { result.marks ≡ [] }
+        ensures limit { result.limit ≡ min last last_node + 1 }
+    {
+        Pool {
+            places: Vec::new(alloc),
+            first_free: None,
+            first_aside: None,
+            first_retired: None,
+            free: 0,
+            limit: u64::from(last).min(LAST_NODE) as usize + 1,
+        }
+    }
+
+    /// How many nodes are in use, retired ones included.
+    pub fn nodes_in_use(&self) -> u64
+        ensures value { result ≡ in_use self.now }
+        ensures parted { result + free_count self.now ≡ length self.now.nodes }
+        ensures unmarked { IsParted self.now }
+    {
+        (self.places.len() - self.free) as u64
+    }
+
+    /// Whether a number's node is in use and on no list.
+    pub fn is_plain(&self, id: u32) -> bool
+        ensures { Decides result (IsPlain self.now id) }
+    {
+        match self.places.get(id as usize) {
+            Some(place) => place.is_plain(),
+            None => false,
+        }
+    }
+
+    /// The node of a number, whatever its mark.
+    pub fn get(&self, id: u32) -> Node
+        requires { IsSome (node_at self.now id) }
+        ensures { node_at self.now id ≡ Some result }
+    {
+        self.places[id as usize].node()
+    }
+
+    /// Makes room for `more` nodes. Only where too few are free does the pool grow.
+    pub fn reserve(&mut self, more: usize) -> Result<(), AllocError>
+        ensures ok { OnOk result (more ≤ room self.new) }
+        ensures nodes { self.new.nodes ≡ self.old.nodes }
+        ensures marks { self.new.marks ≡ self.old.marks }
+        ensures limit { self.new.limit ≡ self.old.limit }
+        ensures fits { length self.new.nodes ≤ self.new.limit }
+        ensures small { self.new.limit ≤ last_node + 1 }
+        ensures free { more ≤ free_count self.old → IsOk result }
+    {
+        if more <= self.free {
+            return Ok(());
+        }
+        let missing = more - self.free;
+        if self.limit - self.places.len() < missing {
+            return Err(AllocError);
+        }
+        self.places.reserve(missing)
+    }
+
+    /// Stores a node under a number that was free. The pool grows only where none is.
+    pub fn alloc(&mut self, node: Node) -> Result<u32, AllocError>
+        ensures ok { IfOk result (λ id. Fills self.old self.new id node) }
+        ensures kept { OnErr result (self.new.nodes ≡ self.old.nodes) }
+        ensures marks { OnErr result (self.new.marks ≡ self.old.marks) }
+        ensures limit { self.new.limit ≡ self.old.limit }
+        ensures free { 0 < free_count self.old → IsOk result }
+    {
+        self.reserve(1)?;
+        Ok(self.alloc_reserved(node))
+    }
+
+    /// Stores a node under a number that was free. Takes no memory.
+    pub fn alloc_reserved(&mut self, node: Node) -> u32
+        requires { 0 < room self.old }
+        ensures fills { Fills self.old self.new result node }
+        ensures room { room self.new + 1 ≡ room self.old }
+        ensures limit { self.new.limit ≡ self.old.limit }
+    {
+        let place = Place::plain(node);
+        match self.first_free {
+            Some(id) => {
+                self.first_free = self.places[id as usize].next();
+                self.places[id as usize] = place;
+                self.free -= 1;
+                id
+            }
+            None => {
+                let id = self.places.len() as u32;
+                self.places.push_reserved(place);
+                id
+            }
+        }
+    }
+
+    /// Changes the node of a number.
+    pub fn set(&mut self, id: u32, node: Node)
+        requires { IsSome (node_at self.old id) }
+        ensures updates { Updates self.old self.new id (Some node) }
+        ensures marks { self.new.marks ≡ self.old.marks }
+        ensures numbers { length self.new.nodes ≡ length self.old.nodes }
+        ensures room { room self.new ≡ room self.old }
+        ensures in_use { in_use self.new ≡ in_use self.old }
+        ensures limit { self.new.limit ≡ self.old.limit }
+    {
+        let place = self.places[id as usize];
+        self.places[id as usize] = place.with_node(node);
+    }
+
+    /// Gives the number of a plain node back. Takes no memory.
+    pub fn free(&mut self, id: u32)
+        requires used { IsSome (node_at self.old id) }
+        requires unlisted { mark_at self.old id ≡ plain }
+        ensures updates { Updates self.old self.new id None }
+        ensures marks { KeepsMarks self.old self.new }
+        ensures numbers { length self.new.nodes ≡ length self.old.nodes }
+        ensures room { room self.new ≡ room self.old + 1 }
+        ensures in_use { in_use self.new + 1 ≡ in_use self.old }
+        ensures limit { self.new.limit ≡ self.old.limit }
+    {
+        let place = self.places[id as usize];
+        self.places[id as usize] = place.with_state(State::Free, 0, self.first_free);
+        self.first_free = Some(id);
+        self.free += 1;
+    }
+
+    /// Sets a plain node aside, which puts it on a list of its own until the call is over that set it
+    /// aside. Takes no memory.
+    pub fn set_aside(&mut self, entry: Retired)
+        requires used { IsSome (node_at self.old entry.id) }
+        requires unlisted { mark_at self.old entry.id ≡ plain }
+        ensures marks { Marks self.old self.new entry.id (aside entry.death entry.whole) }
+        ensures aside { aside_count self.new ≡ aside_count self.old + 1 }
+        ensures retired { retired_count self.new ≡ retired_count self.old }
+    {
+        let place = self.places[entry.id as usize];
+        let state = State::aside(entry.whole);
+        self.places[entry.id as usize] = place.with_state(state, entry.death, self.first_aside);
+        self.first_aside = Some(entry.id);
+    }
+
+    /// Sets a plain node aside that is out of its tree. Its death is given where it is retired.
+    /// Takes no memory.
+    pub fn mark_replaced(&mut self, id: u32)
+        requires used { IsSome (node_at self.old id) }
+        requires unlisted { mark_at self.old id ≡ plain }
+        ensures marks { Marks self.old self.new id replaced }
+        ensures aside { aside_count self.new ≡ aside_count self.old + 1 }
+        ensures retired { retired_count self.new ≡ retired_count self.old }
+    {
+        self.set_aside(Retired::alone(id, 0));
+    }
+
+    /// Stores a node in place of another, which is set aside. Takes no memory.
+    pub fn replace(&mut self, id: u32, node: Node) -> u32
+        requires used { IsSome (node_at self.old id) }
+        requires unlisted { mark_at self.old id ≡ plain }
+        requires room { 0 < room self.old }
+        ensures replaces { Replaces self.old self.new id result node }
+        ensures room { room self.new + 1 ≡ room self.old }
+        ensures limit { self.new.limit ≡ self.old.limit }
+    {
+        self.mark_replaced(id);
+        self.alloc_reserved(node)
+    }
+
+    /// Takes a node that was set aside off its list: it is plain again. `None` says that none is there.
+    pub fn next_aside(&mut self) -> Option<Retired>
+        ensures takes { TakesAside self.old self.new result }
+        ensures none { Counts result (aside_count self.old) (aside_count self.new) }
+        ensures retired { retired_count self.new ≡ retired_count self.old }
+    {
+        let id = self.first_aside?;
+        let place = self.places[id as usize];
+        self.first_aside = place.next();
+        self.places[id as usize] = place.with_state(State::Plain, 0, None);
+        Some(Retired {
+            id,
+            death: place.death,
+            whole: place.is_whole(),
+        })
+    }
+
+    /// Retires a plain node. Takes no memory.
+    pub fn retire(&mut self, entry: Retired)
+        requires used { IsSome (node_at self.old entry.id) }
+        requires unlisted { mark_at self.old entry.id ≡ plain }
+        ensures marks { Marks self.old self.new entry.id (retired entry.death entry.whole) }
+        ensures aside { aside_count self.new ≡ aside_count self.old }
+        ensures retired { retired_count self.new ≡ retired_count self.old + 1 }
+    {
+        let place = self.places[entry.id as usize];
+        let state = State::retired(entry.whole);
+        self.places[entry.id as usize] = place.with_state(state, entry.death, self.first_retired);
+        self.first_retired = Some(entry.id);
+    }
+
+    /// Retires a plain node alone. Takes no memory.
+    pub fn retire_one(&mut self, id: u32, death: u64)
+        requires used { IsSome (node_at self.old id) }
+        requires unlisted { mark_at self.old id ≡ plain }
+        ensures marks { Marks self.old self.new id (retired death false) }
+        ensures aside { aside_count self.new ≡ aside_count self.old }
+        ensures retired { retired_count self.new ≡ retired_count self.old + 1 }
+    {
+        self.retire(Retired::alone(id, death));
+    }
+
+    /// Retires a plain node with all nodes below it, which stay plain. Takes no memory.
+    pub fn retire_tree(&mut self, id: u32, death: u64)
+        requires used { IsSome (node_at self.old id) }
+        requires unlisted { mark_at self.old id ≡ plain }
+        ensures marks { Marks self.old self.new id (retired death true) }
+        ensures aside { aside_count self.new ≡ aside_count self.old }
+        ensures retired { retired_count self.new ≡ retired_count self.old + 1 }
+    {
+        self.retire(Retired::tree(id, death));
+    }
+
+    /// Takes a node off the list of retired ones: it is plain again. `None` says that none is there.
+    pub fn next_retired(&mut self) -> Option<Retired>
+        ensures takes { TakesRetired self.old self.new result }
+        ensures none { Counts result (retired_count self.old) (retired_count self.new) }
+        ensures aside { aside_count self.new ≡ aside_count self.old }
+    {
+        let id = self.first_retired?;
+        let place = self.places[id as usize];
+        self.first_retired = place.next();
+        self.places[id as usize] = place.with_state(State::Plain, 0, None);
+        Some(Retired {
+            id,
+            death: place.death,
+            whole: place.is_whole(),
+        })
+    }
+}
