@@ -1,7 +1,7 @@
 -- The sets of characters that the terminals of Turtle and SPARQL Update name.
 use Rattle.std.specs.Prelude.{ℕ, Bool, not, ◌==◌, ◌||◌}
 use Rattle.gs_model.specs.Characters.{quote, hyphen, dot, colon, less_than, greater_than, at_sign, left_bracket, right_bracket, backslash, caret, underscore, is_iri_char}
-use Rattle.gs_chars.specs.Characters.{dollar, percent, apostrophe, left_parenthesis, right_parenthesis, comma, semicolon, question_mark, letter_large_u, letter_u, left_brace, right_brace}
+use Rattle.gs_model.specs.Ascii.{dollar, percent, apostrophe, left_parenthesis, right_parenthesis, comma, semicolon, question_mark, big_u, small_u, left_brace, right_brace}
 use Rattle.gs_lex.specs.Classes as is
 
 -- the sets of characters that the terminals name: one character, or a class
@@ -72,8 +72,8 @@ has_char CloseParenthesis c = c == right_parenthesis
 has_char OpenBrace c = c == left_brace
 has_char CloseBrace c = c == right_brace
 has_char VariableMark c = c == question_mark || c == dollar
-has_char SmallU c = c == letter_u
-has_char BigU c = c == letter_large_u
+has_char SmallU c = c == small_u
+has_char BigU c = c == big_u
 has_char IriChar c = is_iri_char c
 has_char ShortQuoteChar c = not (c == quote || c == backslash || is.is_line_end c)
 has_char ShortApostropheChar c = not (c == apostrophe || c == backslash || is.is_line_end c)

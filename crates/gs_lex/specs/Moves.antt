@@ -1,7 +1,7 @@
 -- The moves of the automaton that several of its states share.
 use Rattle.std.specs.Prelude.{ℕ, Bool, true, false, ◌==◌, ◌||◌, if◌then◌else◌, Option, Some, None}
 use Rattle.gs_model.specs.Characters.{quote, dot, colon, less_than, greater_than, at_sign, left_bracket, right_bracket, backslash, caret, underscore, is_iri_char}
-use Rattle.gs_chars.specs.Characters.{dollar, percent, apostrophe, left_parenthesis, right_parenthesis, comma, semicolon, question_mark, letter_large_u, letter_u, left_brace, right_brace}
+use Rattle.gs_model.specs.Ascii.{dollar, percent, apostrophe, left_parenthesis, right_parenthesis, comma, semicolon, question_mark, big_u, small_u, left_brace, right_brace}
 use Rattle.gs_lex.specs.Classes as is
 use Rattle.gs_lex.specs.declared.kinds.Terminal.{Terminal}
 use Rattle.gs_lex.specs.declared.kinds.Terminal.TheVariants as kind
@@ -90,8 +90,8 @@ has_echar (text.Long m) = true
 -- after a backslash there
 abbrev pub after_backslash : Text → ℕ → Option State
 after_backslash t c =
-    if c == letter_u then Some (at.Hex t left.Four)
-    else if c == letter_large_u then Some (at.Hex t left.Eight)
+    if c == small_u then Some (at.Hex t left.Four)
+    else if c == big_u then Some (at.Hex t left.Eight)
     else if has_echar t then (if is.is_echar c then Some (at.Inside t) else None)
     else None
 

@@ -3,43 +3,8 @@
 use Rattle.std.specs.Prelude.{ℕ, ◌+◌, ◌*◌, Bool, not, ◌&&◌, ◌||◌, ◌==◌, if◌then◌else◌, nat_le, List, Option, Some, None, fold}
 use Rattle.std.specs.Char.{digit_value}
 use lib.Utf8.{scalar}
+use Rattle.gs_model.specs.Ascii.{backspace, tab, form_feed, apostrophe, letter_b, letter_f, letter_t}
 use Rattle.gs_model.specs.Characters.{line_feed, carriage_return, quote, backslash, letter_n, letter_r, is_digit}
-
--- U+0008
-abbrev pub backspace : ℕ
-backspace = 8
-
--- U+0009
-abbrev pub tab : ℕ
-tab = 9
-
--- U+000C
-abbrev pub form_feed : ℕ
-form_feed = 12
-
--- `'`
-abbrev pub apostrophe : ℕ
-apostrophe = 39
-
--- `b`, after a backslash
-abbrev pub letter_b : ℕ
-letter_b = 98
-
--- `f`, after a backslash
-abbrev pub letter_f : ℕ
-letter_f = 102
-
--- `t`, after a backslash
-abbrev pub letter_t : ℕ
-letter_t = 116
-
--- `u`, before four hexadecimal digits
-abbrev pub small_u : ℕ
-small_u = 117
-
--- `U`, before eight
-abbrev pub big_u : ℕ
-big_u = 85
 
 -- a line feed or a carriage return: [7] EOL of N-Triples, the end of a comment, and what no string of one line has
 abbrev pub is_line_end : ℕ → Bool

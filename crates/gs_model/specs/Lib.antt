@@ -2,6 +2,7 @@
 pub mod Limits
 pub mod Refusals
 pub mod Faults
+pub mod Ascii
 pub mod Characters
 pub mod Escapes
 pub mod Iris

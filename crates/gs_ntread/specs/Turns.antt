@@ -2,7 +2,8 @@
 use Rattle.std.specs.Prelude.{ℕ, ◌+◌, ◌-◌, ◌==◌, true, false, if◌then◌else◌, List, [], ◌∷◌, ◌++◌, Option, Some, None}
 use Rattle.std.specs.Char.{encode_utf8}
 use Rattle.gs_model.specs.Characters.{quote, hyphen, dot, colon, greater_than, backslash, caret}
-use Rattle.gs_model.specs.Escapes.{small_u, big_u, is_line_end, is_hex, is_character, echar_meaning}
+use Rattle.gs_model.specs.Ascii.{small_u, big_u}
+use Rattle.gs_model.specs.Escapes.{is_line_end, is_hex, is_character, echar_meaning}
 use Rattle.gs_model.specs.declared.faults.Fault.{Fault}
 use Rattle.gs_model.specs.declared.faults.Fault.TheVariants.{Syntax}
 use Rattle.gs_ntterm.specs.Classes.{may_stand_in_iri, may_stand_in_string, may_stand_in_comment, begins_label, is_label_char, is_tag_char, with_digit}

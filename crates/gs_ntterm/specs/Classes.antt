@@ -1,7 +1,8 @@
 -- The classes of characters of N-Triples (25 February 2014, section 7). The mark of ill-formed bytes is in none.
 use Rattle.std.specs.Prelude.{ℕ, Bool, ◌&&◌, ◌||◌, ◌==◌, if◌then◌else◌, nat_le}
 use Rattle.gs_model.specs.Characters.{space, quote, colon, is_digit, in_ranges, pn_chars, pn_chars_u, is_iri_char}
-use Rattle.gs_model.specs.Escapes.{tab, is_character, last_character, is_string_char, with_hex}
+use Rattle.gs_model.specs.Ascii.{tab}
+use Rattle.gs_model.specs.Escapes.{is_character, last_character, is_string_char, with_hex}
 use Rattle.gs_model.specs.Iris.{is_letter}
 
 -- what may part tokens within a line

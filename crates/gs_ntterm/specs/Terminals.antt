@@ -3,7 +3,8 @@
 use Rattle.std.specs.Prelude.{ℕ, ◌-◌, Bool, true, false, ◌&&◌, ◌||◌, ◌==◌, if◌then◌else◌, List, [], ◌∷◌, ◌++◌, Result, Ok, Err, Option, Some, None}
 use Rattle.std.specs.Char.{encode_utf8}
 use Rattle.gs_model.specs.Characters.{quote, hyphen, dot, colon, greater_than, backslash}
-use Rattle.gs_model.specs.Escapes.{small_u, big_u, is_hex, is_character, echar_meaning}
+use Rattle.gs_model.specs.Ascii.{small_u, big_u}
+use Rattle.gs_model.specs.Escapes.{is_hex, is_character, echar_meaning}
 use Rattle.gs_model.specs.declared.faults.Fault.{Fault}
 use Rattle.gs_model.specs.declared.faults.Fault.TheVariants.{Syntax}
 use Rattle.gs_ntterm.specs.Marks.{Mark}
