@@ -36,8 +36,8 @@ abbrev pub AnswersTurn : {E : Type 0} → Cursor → Result (Option Parts) E →
 AnswersTurn new answer t = IfOk answer (λ o. TurnsTo new o t)
 
 -- a character more, where a cursor stands
-abbrev pub turn_of : Cursor → ℕ → ℕ → LineTurn
-turn_of old c n = turn (cursor_state old).0 (cursor_state old).1 c n
+abbrev pub next_turn : Cursor → ℕ → ℕ → LineTurn
+next_turn old c n = turn (cursor_state old).0 (cursor_state old).1 c n
 
 -- a character more, at the part of a line where a cursor stands, in such a mode
 abbrev pub turn_in : Cursor → TokenMode → ℕ → ℕ → LineTurn

@@ -69,8 +69,8 @@ in_tag s d e (b ∷ bs) =
     let shown : Tag → Bool = λ z. is_tag_form (form_after (record { scheme = w; tag = z }) bs) in
     ap shown (same_part d e b)
     ∙ two_ways shown (λ v. v) (is_lower c || (d && is_digit c)) _ _ _ _
-      (in_tag w d true bs)
-      (by_test shown (λ v. v && is_tag_rest true false (map to_ascii_lowercase bs)) (c == hyphen && e) _ _ (in_tag w true false bs) (broken_tag w bs))
+    (in_tag w d true bs)
+    (by_test shown (λ v. v && is_tag_rest true false (map to_ascii_lowercase bs)) (c == hyphen && e) _ _ (in_tag w true false bs) (broken_tag w bs))
 
 pub tag_by_form : (x : List ℕ) → is_tag_form (form_of x) ≡ is_tag (str_to_ascii_lowercase x)
 tag_by_form x = in_tag scheme.Unbegun false false x

@@ -1,5 +1,5 @@
 -- The classes of characters of N-Triples (25 February 2014, section 7). The mark of ill-formed bytes is in none.
-use Rattle.std.specs.Prelude.{ℕ, Bool, ◌&&◌, ◌||◌, ◌==◌, if◌then◌else◌, nat_le}
+use Rattle.std.specs.Prelude.{ℕ, Bool, ◌&&◌, ◌||◌, ◌==◌, if◌then◌else◌, nat_le, List, fold}
 use Rattle.gs_model.specs.Characters.{space, quote, colon, is_digit, in_ranges, pn_chars, pn_chars_u, is_iri_char}
 use Rattle.gs_model.specs.Ascii.{tab}
 use Rattle.gs_model.specs.Escapes.{is_character, last_character, is_string_char, with_hex}
@@ -37,3 +37,7 @@ is_tag_char digits c = is_letter c || (is_digit c && digits)
 -- number that is told digit by digit has a bound, and is a character's just where the whole number is.
 abbrev pub with_digit : ℕ → ℕ → ℕ
 with_digit v c = if nat_le v last_character then with_hex v c else v
+
+-- the number of hexadecimal digits that come one by one
+abbrev pub told_number : List ℕ → ℕ
+told_number ds = fold with_digit 0 ds

@@ -11,9 +11,7 @@ mod runs;
 mod terms;
 mod tokens;
 
-pub use classes::{
-    begins_label, is_label_char, is_space, is_tag_char, may_stand_in_comment,
-};
+pub use classes::{begins_label, is_label_char, is_space, is_tag_char, may_stand_in_comment};
 pub use escapes::{char_of, with_digit};
 pub use labels::Label;
 pub use laws::digits_make_the_number;
