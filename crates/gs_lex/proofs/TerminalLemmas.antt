@@ -1,7 +1,7 @@
 -- The automaton finds the terminals as their rules describe them, for every character.
 use Rattle.std.proofs.Common.{◌≡◌, ℕ, Bool, true, false, cond, List, [], ◌∷◌, refl, sym, ap, ◌∙◌, subst, Option, Some, None, eq-eqb}
 use Rattle.std.proofs.lemmas.Bool.{eqb-true, and_parts}
-use Rattle.std.specs.Prelude.{◌==◌, ◌&&◌}
+use Rattle.std.specs.Prelude.{◌==◌}
 use Rattle.gs_lex.specs.Automata.{Recognizes, run_from, kind_at}
 use Rattle.gs_lex.specs.Regexes.{Never, Empty, One, Then, Or, Many, Matches}
 use Rattle.gs_lex.specs.States.{tokens, state_after, accepts, start_of}
