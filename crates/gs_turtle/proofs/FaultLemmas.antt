@@ -1,5 +1,5 @@
 -- A body with a fault says the statements of the longest front of its tokens that is whole statements.
-use Rattle.std.proofs.Common.{◌≡◌, ◌≤◌, ◌^◌, ◌<◌, ℕ, false, List, [], ◌∷◌, ◌++◌, length, refl, sym, ap, subst, ◌∙◌, arith, append-nil, length-append, take}
+use Rattle.std.proofs.Common.{◌≡◌, ◌≤◌, ℕ, false, List, [], ◌∷◌, ◌++◌, length, refl, sym, ap, subst, ◌∙◌, arith, append-nil, length-append, take}
 use Rattle.std.proofs.Math.Seq.{take-append_seam}
 use Rattle.std.specs.List.{All, AllByRecursion}
 use Rattle.std.proofs.lemmas.List.Elements.{All-from_recursion}
@@ -13,7 +13,7 @@ use Rattle.gs_model.specs.declared.faults.Fault.{Fault}
 use Rattle.gs_model.specs.declared.faults.Fault.TheVariants as fault
 use Rattle.gs_triples.specs.Symbols.{Symbol, symbols_of}
 use Rattle.gs_triples.specs.Meanings.{Context}
-use Rattle.gs_document.specs.Documents.{AreStatements, IsStatement, IsDocument, start}
+use Rattle.gs_document.specs.Documents.{AreStatements, IsDocument, start}
 use Rattle.gs_document.specs.Fronts.{NoStatement, AreLongest, AreBeforeFault}
 use Rattle.gs_document.specs.Program.{document}
 use Rattle.gs_document.proofs.DocumentLemmas.{document_covered, document_once, statement_takes}
