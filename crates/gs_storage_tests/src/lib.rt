@@ -1,0 +1,13 @@
+//! Tests of storage: terms by number, nodes and pins, each beside a plain model of lists.
+#![tactic(auto)]
+
+#[cfg(test)]
+mod draws;
+#[cfg(test)]
+mod nodes;
+#[cfg(test)]
+mod pins;
+#[cfg(test)]
+mod refusals;
+#[cfg(test)]
+mod terms;

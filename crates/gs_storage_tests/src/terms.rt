@@ -1,0 +1,138 @@
+//! Dictionaries beside a plain list of what was drawn.
+use crate::draws::Draws;
+use gs_dict::{Dict, TermId};
+use gs_model::Refusal;
+use gs_term::TermText;
+use std::alloc::Global;
+use std::hash::{FoldHasher, Hasher};
+use std::process::Abort;
+
+fn term(alloc: Global, drawn: u64) -> Result<TermText, Refusal> {
+    let text = format!(in alloc; "e:{drawn}")?;
+    TermText::iri(alloc, text.as_str())
+}
+
+/// The number that the list has for what was drawn, which it is given where it has none.
+fn number_in(list: &mut Vec<u64>, drawn: u64) -> Result<usize, Refusal> {
+    let known = list.iter().position(|x| *x == drawn);
+    match known {
+        Some(number) => Ok(number),
+        None => {
+            let number = list.len();
+            list.push(drawn)?;
+            Ok(number)
+        }
+    }
+}
+
+/// Goes past the first 1,024 buckets, which are doubled on the way.
+#[test]
+fn terms_have_the_numbers_of_a_list(rt: HostRuntime) -> Result<(), Refusal> {
+    let alloc = rt.alloc();
+    let mut dict = Dict::new(alloc, 1, u32::MAX)?;
+    let mut list: Vec<u64> = Vec::new(alloc);
+    let mut draws = Draws::new(1);
+    for _ in 0..4_000 {
+        let drawn = draws.next() % 2_500;
+        let drawn_term = term(alloc, drawn)?;
+        let known = list.iter().position(|x| *x == drawn);
+        let found = dict.find(&drawn_term).map(|id| id.number as usize);
+        assert!(&rt; found == known);
+        let wanted = number_in(&mut list, drawn)?;
+        let guess = TermId {
+            number: (draws.next() & 0xFF) as u32,
+        };
+        let id = dict.intern_near(guess, &drawn_term)?;
+        assert_eq!(&rt; id.number as usize, wanted);
+        assert!(&rt; dict.find(&drawn_term) == Some(id));
+    }
+    assert_eq!(&rt; dict.len(), list.len());
+    assert!(&rt; dict.len() > 1_024);
+    for (i, drawn) in list.iter().enumerate() {
+        let wanted = term(alloc, *drawn)?;
+        let Ok(number) = u32::try_from(i) else {
+            return Err(Refusal::StoreFull);
+        };
+        let id = TermId { number };
+        assert!(&rt; dict.is_number_of(id, &wanted));
+        assert!(&rt; dict.has(id) && dict.text(id) == wanted.as_bytes());
+    }
+    Ok(())
+}
+
+/// The first ten bits of a term's hash, under the seed: what chooses among 1,024 buckets.
+fn bucket(seed: u64, term: &TermText) -> u64 {
+    let mut hasher = FoldHasher::default();
+    hasher.write_u64(seed);
+    hasher.write(term.as_bytes());
+    hasher.finish() & 1_023
+}
+
+#[test]
+fn crafted_terms_of_one_bucket_keep_apart(rt: HostRuntime) -> Result<(), Refusal> {
+    let alloc = rt.alloc();
+    let seed = 7;
+    let mut dict = Dict::new(alloc, seed, u32::MAX)?;
+    let mut terms: Vec<TermText> = Vec::new(alloc);
+    for drawn in 0..16_000u64 {
+        let candidate = term(alloc, drawn)?;
+        if bucket(seed, &candidate) == 5 {
+            dict.intern(&candidate)?;
+            terms.push(candidate)?;
+        }
+    }
+    assert!(&rt; terms.len() > 8);
+    assert_eq!(&rt; dict.len(), terms.len());
+    for (i, wanted) in terms.iter().enumerate() {
+        let found = dict.find(wanted).map(|id| id.number as usize);
+        assert!(&rt; found == Some(i));
+    }
+    Ok(())
+}
+
+/// Gives a term its number twice, and reads its text back.
+fn give(rt: &impl Abort, dict: &mut Dict, term: &TermText, wanted: u32) -> Result<(), Refusal> {
+    let id = dict.intern(term)?;
+    assert_eq!(rt; id.number, wanted);
+    assert!(rt; dict.intern(term)? == id);
+    assert!(rt; dict.has(id) && dict.text(id) == term.as_bytes());
+    Ok(())
+}
+
+#[test]
+fn terms_that_differ_in_one_byte_have_two_numbers(rt: HostRuntime) -> Result<(), Refusal> {
+    let alloc = rt.alloc();
+    let mut dict = Dict::new(alloc, 3, u32::MAX)?;
+    let mut wanted = 0u32;
+    for text in [
+        "e:long/a",
+        "e:long/b",
+        "e:long/\u{E9}",
+        "e:long/\u{E8}",
+        "e:long/",
+    ] {
+        let iri = TermText::iri(alloc, text)?;
+        give(&rt, &mut dict, &iri, wanted)?;
+        let literal = TermText::literal(alloc, text, None, None)?;
+        give(&rt, &mut dict, &literal, wanted.saturating_add(1))?;
+        wanted = wanted.saturating_add(2);
+    }
+    give(&rt, &mut dict, &TermText::blank(alloc, 1, 20)?, 10)?;
+    give(&rt, &mut dict, &TermText::blank(alloc, 12, 0)?, 11)
+}
+
+#[test]
+fn past_the_last_number_memory_is_wanted(rt: HostRuntime) -> Result<(), Refusal> {
+    let alloc = rt.alloc();
+    let mut dict = Dict::new(alloc, 1, 2)?;
+    for drawn in 0..3u64 {
+        dict.intern(&term(alloc, drawn)?)?;
+    }
+    let next = term(alloc, 3)?;
+    assert!(&rt; dict.intern(&next) == Err(Refusal::NoMemory));
+    assert!(&rt; dict.find(&next) == None);
+    assert_eq!(&rt; dict.len(), 3);
+    let known = dict.intern(&term(alloc, 2)?)?;
+    assert_eq!(&rt; known.number, 2);
+    Ok(())
+}
