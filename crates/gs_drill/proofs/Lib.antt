@@ -1,8 +1,4 @@
-pub mod LineReaderLemmas
-pub mod WordLemmas
-pub mod CommandLemmas
-pub mod FeedLineLemmas
-pub mod RowLemmas
+pub mod LateLemmas
 pub mod WritingLemmas
 pub mod DrillLemmas
 pub mod PlayLemmas

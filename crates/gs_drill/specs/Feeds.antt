@@ -17,23 +17,23 @@ use Rattle.gs_event.specs.Views.{SeatView}
 use Rattle.gs_event.specs.Waste.{Shown}
 use Rattle.gs_event.specs.Steps.{Steps}
 use Rattle.gs_upload.specs.declared.languages.Language.{Language}
-use Rattle.gs_upload.specs.Languages.{Context, meaning_for}
-use Rattle.gs_upload.specs.Readings.{GivesComplete}
+use Rattle.gs_upload.specs.Languages.{TextContext, meaning_in_context}
+use Rattle.gs_upload.specs.Readings.{GivesComplete, ArePieces}
 use Rattle.gs_drill.specs.Languages.{first_base}
 use Rattle.gs_drill.specs.Printing.{answer_text, fed_text}
 
--- What was fed to a seat: nothing; a text that is read so, with the triples that were given so far; a text of a
--- language that has a fault; or a whole text, of which all is given.
+-- What was fed to a seat: nothing; a text that is read so, with the pieces in which it was fed and the triples that
+-- were given so far; a text of a language that has a fault; or a whole text, of which all is given.
 pub data Fed : Type 0 where
   Unfed : Fed
-  InPart : (c : Context) (x : List ℕ) (given : List RdfTriple) → Fed
+  InPart : (c : TextContext) (x : List ℕ) (pieces : List (List ℕ)) (given : List RdfTriple) → Fed
   Faulted : (l : Language) → Fed
   Finished : (l : Language) → Fed
 
 -- nothing was fed yet, or it is in this language: all texts of an upload are in the language of the first
 abbrev pub IsIn : Language → Fed → Type 0
 IsIn l Unfed = Unit {0}
-IsIn l (InPart c x given) = c.language ≡ l
+IsIn l (InPart c x pieces given) = c.language ≡ l
 IsIn l (Faulted k) = k ≡ l
 IsIn l (Finished k) = k ≡ l
 
@@ -79,7 +79,7 @@ Stages d s (t ∷ ts) a e = (action : Action) × IsStage (t ∷ ts) action × An
 
 -- The triples that a text gives so far, by what texts mean: with them its triples begin, however the text goes on; and
 -- they are just those of its complete statements.
-pub record Gives (meaning_of : List ℕ → Meaning) (x : List ℕ) (given : List RdfTriple) : Type 0 where
+pub record GivesSoFar (meaning_of : List ℕ → Meaning) (x : List ℕ) (given : List RdfTriple) : Type 0 where
   pub begun : (z : List ℕ) → Begins (triples_of (meaning_of (x ++ z)).0) given
   pub complete : GivesComplete meaning_of x given
 
@@ -87,30 +87,38 @@ pub record Gives (meaning_of : List ℕ → Meaning) (x : List ℕ) (given : Lis
 abbrev pub IsFaulty : (List ℕ → Meaning) → List ℕ → Type 0
 IsFaulty meaning_of x = ¬ ((meaning_of x).1 ≡ Whole)
 
--- The text x, which gave ts, goes on by y and gives some triples more; or it has a fault, however it goes on.
-abbrev pub GoesOn : Context → List ℕ → List RdfTriple → List ℕ → List RdfTriple → Fed → Type 0
-GoesOn c x ts y given (InPart d z all) = (d ≡ c) × (z ≡ x ++ y) × (all ≡ ts ++ given) × Gives (meaning_for c) z all
-GoesOn c x ts y given (Faulted l) = (l ≡ c.language) × (given ≡ []) × ((z : List ℕ) → IsFaulty (meaning_for c) (x ++ y ++ z))
-GoesOn c x ts y given f = ⊥
+-- after some pieces a text was fed in pieces of just n bytes, of which the last may be shorter; 0 is whole
+pub record GoesOnInPieces (n : ℕ) (before : List (List ℕ)) (y : List ℕ) (after : List (List ℕ)) : Type 0 where
+  pub pieces : List (List ℕ)
+  pub cut : ArePieces n y pieces
+  pub grown : after ≡ before ++ pieces
 
--- What y gives to an upload, whose first text is read as c says. After a fault, or after the end of the text, it is
--- dropped.
-abbrev pub Accepts : Context → Fed → List ℕ → List RdfTriple → Fed → Type 0
-Accepts c Unfed y given f = GoesOn c [] [] y given f
-Accepts c (InPart d x ts) y given f = GoesOn d x ts y given f
-Accepts c (Faulted l) y given f = (given ≡ []) × (f ≡ Faulted l)
-Accepts c (Finished l) y given f = (given ≡ []) × (f ≡ Finished l)
+-- The text x, which gave ts, goes on by y, in pieces of n bytes, and gives some triples more; or it has a fault,
+-- however it goes on.
+abbrev pub GoesOn : ℕ → TextContext → List ℕ → List (List ℕ) → List RdfTriple → List ℕ → List RdfTriple → Fed → Type 0
+GoesOn n c x ps ts y given (InPart d z qs all) = (d ≡ c) × (z ≡ x ++ y) × GoesOnInPieces n ps y qs × (all ≡ ts ++ given)
+    × GivesSoFar (meaning_in_context c) z all
+GoesOn n c x ps ts y given (Faulted l) = (l ≡ c.language) × (given ≡ []) × ((z : List ℕ) → IsFaulty (meaning_in_context c) (x ++ y ++ z))
+GoesOn n c x ps ts y given f = ⊥
+
+-- What y gives to an upload, whose first text is read as c says. It is fed in pieces of n bytes. After a fault, or
+-- after the end of the text, it is dropped.
+abbrev pub Receives : ℕ → TextContext → Fed → List ℕ → List RdfTriple → Fed → Type 0
+Receives n c Unfed y given f = GoesOn n c [] [] [] y given f
+Receives n c (InPart d x ps ts) y given f = GoesOn n d x ps ts y given f
+Receives n c (Faulted l) y given f = (given ≡ []) × (f ≡ Faulted l)
+Receives n c (Finished l) y given f = (given ≡ []) × (f ≡ Finished l)
 
 -- a refusal stands in the place of `fed`
 abbrev pub feed_text : Answer → List ℕ
 feed_text Staged = fed_text
 feed_text a = answer_text a
 
--- y is fed to an upload, whose first text is read as c says, and what it gives is staged
-pub record FeedsUpload (c : Context) (d : Desk) (s : ℕ) (y text : List ℕ) (e : Desk) : Type 0 where
+-- y is fed in pieces of n bytes to an upload, whose first text is read as c says, and what it gives is staged
+pub record FeedsUpload (n : ℕ) (c : TextContext) (d : Desk) (s : ℕ) (y text : List ℕ) (e : Desk) : Type 0 where
   pub given : List RdfTriple
   pub fed : Fed
-  pub accepts : Accepts c (d.fed s) y given fed
+  pub receives : Receives n c (d.fed s) y given fed
   pub answer : Answer
   pub staged : Stages (desk_with d s fed) s given answer e
   pub told : text ≡ feed_text answer
@@ -120,11 +128,11 @@ abbrev pub RefusesFeed : Refusal → Desk → List ℕ → Desk → Type 0
 RefusesFeed refusal d text e = (text ≡ answer_text (Refused refusal)) × (e ≡ d)
 
 -- the same by what the seat is doing
-abbrev pub FeedsSeat : SeatView → Desk → ℕ → Language → List ℕ → List ℕ → Desk → Type 0
-FeedsSeat Idle d s l y text e = RefusesFeed WrongPhase d text e
-FeedsSeat (Writing k r g) d s l y text e = FeedsUpload (record { language = l; base = first_base k; request = r }) d s y text e
-FeedsSeat (Reading left) d s l y text e = RefusesFeed WrongPhase d text e
+abbrev pub FeedsSeat : SeatView → ℕ → Desk → ℕ → Language → List ℕ → List ℕ → Desk → Type 0
+FeedsSeat Idle n d s l y text e = RefusesFeed WrongPhase d text e
+FeedsSeat (Writing k r g) n d s l y text e = FeedsUpload n (record { language = l; base = first_base k; request = r }) d s y text e
+FeedsSeat (Reading left) n d s l y text e = RefusesFeed WrongPhase d text e
 
--- y, in language l, is fed to seat s, which prints the text
-abbrev pub Feeds : Desk → ℕ → Language → List ℕ → List ℕ → Desk → Type 0
-Feeds d s l y text e = MatchOption (slice_get d.shown.view.seats s) (RefusesFeed BadSeat d text e) (λ p. FeedsSeat p d s l y text e)
+-- y, in language l, is fed in pieces of n bytes to seat s, which prints the text
+abbrev pub DoesFeed : ℕ → Desk → ℕ → Language → List ℕ → List ℕ → Desk → Type 0
+DoesFeed n d s l y text e = MatchOption (slice_get d.shown.view.seats s) (RefusesFeed BadSeat d text e) (λ p. FeedsSeat p n d s l y text e)

@@ -10,12 +10,12 @@ use Rattle.gs_event.specs.declared.answers.Answer.TheVariants.{Opened, Status, C
 use Rattle.gs_drill.specs.declared.texts.SeatText.{SeatText}
 use Rattle.gs_drill.specs.declared.texts.SeatText.TheVariants.{Unfed}
 use Rattle.gs_drill.specs.declared.openings.Opening.{Opening}
-use Rattle.gs_drill.specs.Languages.{target_of}
+use Rattle.gs_drill.specs.Languages.{target_name}
 use Rattle.gs_drill.specs.Feeds.{is_boundary}
 
 -- what an action opened, by the number of its request
 abbrev pub opened_by : Action → ℕ → Opening
-opened_by (Open k) r = record { request = r; target = target_of k }
+opened_by (Open k) r = record { request = r; target = target_name k }
 opened_by action r = record { request = r; target = None }
 
 -- the openings of all seats after an answer to seat s

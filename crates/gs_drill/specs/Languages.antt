@@ -11,10 +11,10 @@ name_in Default = None
 name_in (Named name) = Some name
 
 -- the name of the graph that an upload is for, if it has one
-abbrev pub target_of : UploadKind → Option (List ℕ)
-target_of (Put t) = name_in t
-target_of (Post t) = name_in t
-target_of New = None
+abbrev pub target_name : UploadKind → Option (List ℕ)
+target_name (Put t) = name_in t
+target_name (Post t) = name_in t
+target_name New = None
 
 -- the base of a text for the graph of this name; one for a graph without a name has the IRI of the default graph
 abbrev pub base_under : Option (List ℕ) → List ℕ
@@ -23,4 +23,4 @@ base_under (Some name) = name
 
 -- the base of the text of an upload
 abbrev pub first_base : UploadKind → List ℕ
-first_base k = base_under (target_of k)
+first_base k = base_under (target_name k)

@@ -1,9 +1,7 @@
 //! The text that is fed to the upload of a seat.
 ghost use Rattle.std.specs.Prelude.{◌≡◌, [], Option, option_map, IfOk};
-ghost use Rattle.gs_upload.specs.Languages.{Context};
-ghost use Rattle.gs_drill.specs.Feeds.{Fed, Accepts};
-ghost use Rattle.gs_drill.specs.Commits.{Closes};
-ghost use Rattle.gs_drill.specs.Standing.{IsFed, IsBegun, FedInPieces, Ended, context_of, language_of};
+ghost use Rattle.gs_drill.specs.Feeds.{Fed};
+ghost use Rattle.gs_drill.specs.Standing.{WasFed, FeedsText, GoesOnText, EndsText, FedInPieces, Ended, first_context, language_of};
 
 use crate::openings::Opening;
 use gs_term::Triple;
@@ -58,7 +56,7 @@ fn finish_reading(
 impl SeatText {
     /// A text that begins, in the language of its first feed.
     fn begin(alloc: Global, language: Language, opening: &Opening) -> Result<SeatText, AllocError>
-        ensures { IfOk result (λ begun. IsFed begun (Fed.InPart (context_of language opening.now) [] [])) }
+        ensures { IfOk result (λ begun. WasFed begun (Fed.InPart (first_context language opening.now) [] [] [])) }
     {
         let reading = Reading::new(alloc, language, opening.request, opening.base())?;
         Ok(SeatText::Fed(language, reading))
@@ -71,7 +69,7 @@ impl SeatText {
         text: &[u8],
         cut: u64,
     ) -> Result<(SeatText, Vec<Triple>), AllocError>
-        ensures { IfOk result (λ p. (c : Context) (f : Fed) → IsFed self f → IsBegun f → (g : Fed) × IsFed p.0 g × Accepts c f text.now p.1.items g) }
+        ensures { IfOk result (λ p. GoesOnText cut self text.now p.1.items p.0) }
     {
         match self {
             SeatText::Fed(language, mut reading) => {
@@ -91,7 +89,8 @@ impl SeatText {
         text: &[u8],
         cut: u64,
     ) -> Result<(SeatText, Vec<Triple>), AllocError>
-        ensures { IfOk result (λ p. (f : Fed) → IsFed self f → (g : Fed) × IsFed p.0 g × Accepts (context_of language opening.now) f text.now p.1.items g) }
+        ensures { IfOk result (λ p. FeedsText cut (first_context language opening.now) self text.now
+            p.1.items p.0) }
     {
         match self {
             SeatText::Unfed => SeatText::begin(alloc, language, opening)?.go_on(alloc, text, cut),
@@ -101,7 +100,7 @@ impl SeatText {
 
     /// The text ends: what that gives, which is nothing where it has a fault, and where it then stands.
     pub fn finish(self, alloc: Global) -> Result<(SeatText, Option<Vec<Triple>>), AllocError>
-        ensures { IfOk result (λ p. (f : Fed) → IsFed self f → (g : Fed) × IsFed p.0 g × Closes f (option_map (λ ts. ts.items) p.1) g) }
+        ensures { IfOk result (λ p. EndsText self (option_map (λ ts. ts.items) p.1) p.0) }
     {
         match self {
             SeatText::Fed(language, reading) => finish_reading(alloc, language, reading),
