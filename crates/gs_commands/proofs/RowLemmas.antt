@@ -106,4 +106,3 @@ other_none x is none (Cut n) says = is.no_cut says.rest says.parts
 pub finds_at : (x : List ℕ) → IsOther x → (found : Option Command) → MatchOption found (SaysNothingAt x) (λ c. Says c x) → Finds Says x found
 finds_at x is None nothing = other_none x is nothing
 finds_at x is (Some c) says = says
-

@@ -187,7 +187,8 @@ fn feed_language(action: &[u8]) -> Option<(Language, &[u8])>
 
 /// A seat's number, a language, and a text in it.
 fn read_feed(alloc: Global, line: &[u8]) -> Result<Option<(u16, Language, Vec<u8>)>, AllocError>
-    ensures { IfOk result (λ found. MatchOption found ((s : ℕ) (l : ALanguage) (y : List ℕ) → ¬ (SaysFeed s l y line.now))
+    ensures { IfOk result (λ found. MatchOption found
+        ((s : ℕ) (l : ALanguage) (y : List ℕ) → ¬ (SaysFeed s l y line.now))
         (λ p. SaysFeed p.0 p.1 p.2.items line.now)) }
 {
     let (seat, action) = split(line, b' ');

@@ -12,14 +12,16 @@ use Rattle.gs_event.specs.declared.answers.Answer.TheVariants.{Staged}
 use Rattle.gs_event.specs.Phases.{Idle, Writing, Reading}
 use Rattle.gs_event.specs.Views.{SeatView}
 use Rattle.gs_event.specs.Waste.{Shown}
-use Rattle.gs_drill.specs.declared.texts.SeatText.{SeatText}
+use Rattle.gs_feeding.specs.declared.texts.SeatText.{SeatText}
 use Rattle.gs_upload.specs.declared.languages.Language.{Language}
-use Rattle.gs_drill.specs.declared.openings.Opening.{Opening}
+use Rattle.gs_feeding.specs.declared.openings.Opening.{Opening}
 use Rattle.gs_drill.specs.declared.uploads.Uploads.{Uploads}
 use Rattle.gs_drill.specs.Printing.{answer_text, fed_text}
-use Rattle.gs_drill.specs.Feeds.{Fed, Desk, Answers, Stages, FeedsUpload, FeedsSeat, RefusesFeed, DoesFeed, with_fed, feed_text}
-use Rattle.gs_drill.specs.Commits.{Closes, Commits, CommitsBy, Completes, CommitsStaged}
-use Rattle.gs_drill.specs.Standing.{AreFed, Standing, FeedsAt, desk_of, opening_of, first_context}
+use Rattle.gs_drill.specs.Feeds.{Desk, Answers, Stages, FeedsUpload, FeedsSeat, RefusesFeed, DoesFeed, with_fed, feed_text}
+use Rattle.gs_drill.specs.Commits.{Commits, CommitsBy, Completes, CommitsStaged}
+use Rattle.gs_drill.specs.Standing.{AreFed, Standing, FeedsAt, desk_of, opening_of}
+use Rattle.gs_feeding.specs.Receiving.{Fed, Closes}
+use Rattle.gs_feeding.specs.SeatTexts.{first_context}
 
 -- nothing is staged
 pub stages_none : (d : Desk) (s : ℕ) (given : List RdfTriple) → given ≡ [] → Stages d s given Staged d

@@ -11,7 +11,7 @@ use Rattle.gs_commands.specs.Commands.{Says, SaysFeed, is_skipped}
 use Rattle.gs_commands.proofs.WordLemmas.{first_differs}
 use Rattle.gs_commands.proofs.FeedLineLemmas.{feed_one, feed_no_event}
 use Rattle.gs_commands.proofs.RowLemmas.{other_first, skipped_digit}
-use Rattle.gs_drill.specs.Feeds.{IsIn}
+use Rattle.gs_feeding.specs.Receiving.{IsIn}
 use Rattle.gs_drill.specs.Drills.{RunState, IsLate}
 
 -- what says that a store begins says no other command

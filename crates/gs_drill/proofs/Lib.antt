@@ -3,7 +3,6 @@ pub mod WritingLemmas
 pub mod DrillLemmas
 pub mod PlayLemmas
 pub mod RunLemmas
-pub mod TextLemmas
 pub mod SeatLemmas
 pub mod DeskLemmas
 pub mod FeedLemmas

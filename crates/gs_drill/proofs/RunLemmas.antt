@@ -6,7 +6,7 @@ use Rattle.gs_drill.specs.declared.drills.Stop.{Stop}
 use Rattle.gs_drill.specs.declared.drills.Stop.TheVariants.{NoCommand, NoMemory, Failed}
 use Rattle.gs_commands.specs.Commands.{lines_in}
 use Rattle.gs_drill.specs.Printing.{WritesFront, no_command_text}
-use Rattle.gs_drill.specs.Drills.{IsInput, FinishesRun, SaysStop, Halts, BreaksOff, Fails, first_state}
+use Rattle.gs_drill.specs.Drills.{IsInput, FinishesRun, SaysStop, Halts, BreaksOff, FailsRun, first_state}
 use Rattle.gs_drill.specs.Taking.{EndsBy, EndsRun, stop_text}
 use Rattle.gs_drill.proofs.WritingLemmas.{Appends-keeps, Appends-none, WritesFront-all, WritesFront-none, WritesFront-keeps}
 
@@ -185,12 +185,12 @@ stops_said given old new errors_old errors_new r stop n is e h =
 pub halts_said : {X : Type 0} (given old new : Option (List ℕ)) (r : Result X (Stop × ℕ)) (stop : Stop) (n : ℕ) → r ≡ Err (stop, n) → EndsRun given old new r → stop ≡ NoMemory → Halts given old new
 halts_said given old new r stop n is e h = let P : Stop → Type 0 = λ z. EndsBy given old new z n in subst P h (ends_by given old new r (stop, n) is e)
 
-fails_by : (given old new errors_old errors_new : Option (List ℕ)) (stop : Stop) (n : ℕ) → EndsBy given old new stop n → WritesFront errors_old errors_new (stop_text stop n) → Fails given old new errors_old errors_new
+fails_by : (given old new errors_old errors_new : Option (List ℕ)) (stop : Stop) (n : ℕ) → EndsBy given old new stop n → WritesFront errors_old errors_new (stop_text stop n) → FailsRun given old new errors_old errors_new
 fails_by given old new errors_old errors_new NoCommand n e w = inr (inl (n, e, w))
 fails_by given old new errors_old errors_new NoMemory n e w = inr (inr (e, w))
 fails_by given old new errors_old errors_new Failed n e w = inl (e, WritesFront-none errors_old errors_new w)
 
 -- a front is written of what is said of the end of a run
 pub fails_said : {X : Type 0} (given old new errors_old errors_new : Option (List ℕ)) (r : Result X (Stop × ℕ)) (stop : Stop) (n : ℕ) → r ≡ Err (stop, n) → EndsRun given old new r
-    → WritesFront errors_old errors_new (stop_text stop n) → Fails given old new errors_old errors_new
+    → WritesFront errors_old errors_new (stop_text stop n) → FailsRun given old new errors_old errors_new
 fails_said given old new errors_old errors_new r stop n is e w = fails_by given old new errors_old errors_new stop n (ends_by given old new r (stop, n) is e) w

@@ -5,11 +5,12 @@ use Rattle.std.proofs.lemmas.Bool.{eqb-true, eq-eqb}
 use Rattle.std.proofs.lemmas.List.{length-set}
 use Rattle.std.proofs.lemmas.Option.{slice_get-get_or}
 use Rattle.gs_model.specs.Triples.{RdfTriple}
-use Rattle.gs_drill.specs.declared.texts.SeatText.{SeatText}
-use Rattle.gs_drill.specs.declared.texts.SeatText.TheVariants as seat_text
-use Rattle.gs_drill.specs.Feeds.{Fed, Unfed, Receives, with_fed}
-use Rattle.gs_drill.specs.Commits.{Closes}
-use Rattle.gs_drill.specs.Standing.{WasFed, AreFed, FeedsText, EndsText}
+use Rattle.gs_feeding.specs.declared.texts.SeatText.{SeatText}
+use Rattle.gs_feeding.specs.declared.texts.SeatText.TheVariants as seat_text
+use Rattle.gs_drill.specs.Feeds.{with_fed}
+use Rattle.gs_drill.specs.Standing.{AreFed}
+use Rattle.gs_feeding.specs.Receiving.{Fed, Unfed, Receives, Closes}
+use Rattle.gs_feeding.specs.SeatTexts.{WasFed, FeedsText, EndsText}
 use Rattle.gs_upload.specs.Languages.{TextContext}
 
 -- a list changed at one place

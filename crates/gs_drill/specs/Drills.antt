@@ -9,8 +9,9 @@ use Rattle.gs_commands.specs.declared.commands.Command.{Command}
 use Rattle.gs_commands.specs.declared.commands.Command.TheVariants.{Nothing, Begin, Ask, Count, Feed, Cut}
 use Rattle.gs_commands.specs.Commands.{Says, lines_in}
 use Rattle.gs_drill.specs.Printing.{counts_text, no_command_text, no_memory_text, WritesFront}
-use Rattle.gs_drill.specs.Feeds.{Unfed, Desk, IsIn, DoesFeed}
+use Rattle.gs_drill.specs.Feeds.{Desk, DoesFeed}
 use Rattle.gs_drill.specs.Commits.{DoesEvent}
+use Rattle.gs_feeding.specs.Receiving.{Unfed, IsIn}
 
 -- between two lines: whether a command came before, in pieces of how many bytes texts are fed (0 is whole), what
 -- the store shows, and what was fed to each seat
@@ -131,7 +132,7 @@ pub record BreaksOff (given old new : Option (List ℕ)) : Type 0 where
 
 -- A read or a write failed. Of what some first lines print a front is written, and nothing is said; or the run ended
 -- early, what its lines print is written, and of what is said of that a front.
-abbrev pub Fails : Option (List ℕ) → Option (List ℕ) → Option (List ℕ) → Option (List ℕ) → Option (List ℕ) → Type 0
-Fails given old new errors_old errors_new = (BreaksOff given old new × Appends errors_old errors_new [])
+abbrev pub FailsRun : Option (List ℕ) → Option (List ℕ) → Option (List ℕ) → Option (List ℕ) → Option (List ℕ) → Type 0
+FailsRun given old new errors_old errors_new = (BreaksOff given old new × Appends errors_old errors_new [])
     ⊎ (((n : ℕ) × Stops given n old new × WritesFront errors_old errors_new (no_command_text n))
     ⊎ (Halts given old new × WritesFront errors_old errors_new no_memory_text))

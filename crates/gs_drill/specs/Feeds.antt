@@ -1,11 +1,9 @@
--- What is fed to the upload of a seat: texts, by what they mean (`meaning_in` of gs_upload).
+-- What a feed does to the upload of a seat.
 use Rattle.std.specs.Prelude.{◌≡◌, ℕ, Bool, true, false, nat_eq, if◌then◌else◌, List, [], ◌∷◌, ◌++◌, MatchOption}
 use Rattle.std.specs.List.{slice_get}
 use Rattle.gs_model.specs.Triples.{RdfTriple}
 use Rattle.gs_model.specs.declared.refusals.Refusal.{Refusal}
 use Rattle.gs_model.specs.declared.refusals.Refusal.TheVariants.{BadSeat, WrongPhase}
-use Rattle.gs_machine.specs.Machines.{Begins}
-use Rattle.gs_body.specs.Bodies.{Meaning, Whole, triples_of}
 use Rattle.gs_event.specs.declared.events.Action.{Action}
 use Rattle.gs_event.specs.declared.events.Action.TheVariants.{Stage}
 use Rattle.gs_event.specs.declared.events.Event.{Event}
@@ -17,25 +15,10 @@ use Rattle.gs_event.specs.Views.{SeatView}
 use Rattle.gs_event.specs.Waste.{Shown}
 use Rattle.gs_event.specs.Steps.{Steps}
 use Rattle.gs_upload.specs.declared.languages.Language.{Language}
-use Rattle.gs_upload.specs.Languages.{TextContext, meaning_in_context}
-use Rattle.gs_upload.specs.Readings.{GivesComplete, ArePieces}
-use Rattle.gs_drill.specs.Languages.{first_base}
+use Rattle.gs_upload.specs.Languages.{TextContext}
+use Rattle.gs_feeding.specs.Languages.{first_base}
+use Rattle.gs_feeding.specs.Receiving.{Fed, Unfed, Receives}
 use Rattle.gs_drill.specs.Printing.{answer_text, fed_text}
-
--- What was fed to a seat: nothing; a text that is read so, with the pieces in which it was fed and the triples that
--- were given so far; a text of a language that has a fault; or a whole text, of which all is given.
-pub data Fed : Type 0 where
-  Unfed : Fed
-  InPart : (c : TextContext) (x : List ℕ) (pieces : List (List ℕ)) (given : List RdfTriple) → Fed
-  Faulted : (l : Language) → Fed
-  Finished : (l : Language) → Fed
-
--- nothing was fed yet, or it is in this language: all texts of an upload are in the language of the first
-abbrev pub IsIn : Language → Fed → Type 0
-IsIn l Unfed = Unit {0}
-IsIn l (InPart c x pieces given) = c.language ≡ l
-IsIn l (Faulted k) = k ≡ l
-IsIn l (Finished k) = k ≡ l
 
 -- what the store shows, and what was fed to each seat
 pub record Desk : Type 0 where
@@ -76,38 +59,6 @@ IsStage given action = ⊥
 abbrev pub Stages : Desk → ℕ → List RdfTriple → Answer → Desk → Type 0
 Stages d s [] a e = (a ≡ Staged) × (e ≡ d)
 Stages d s (t ∷ ts) a e = (action : Action) × IsStage (t ∷ ts) action × Answers d (At s action) a e
-
--- The triples that a text gives so far, by what texts mean: with them its triples begin, however the text goes on; and
--- they are just those of its complete statements.
-pub record GivesSoFar (meaning_of : List ℕ → Meaning) (x : List ℕ) (given : List RdfTriple) : Type 0 where
-  pub begun : (z : List ℕ) → Begins (triples_of (meaning_of (x ++ z)).0) given
-  pub complete : GivesComplete meaning_of x given
-
--- a text without a meaning
-abbrev pub IsFaulty : (List ℕ → Meaning) → List ℕ → Type 0
-IsFaulty meaning_of x = ¬ ((meaning_of x).1 ≡ Whole)
-
--- after some pieces a text was fed in pieces of just n bytes, of which the last may be shorter; 0 is whole
-pub record GoesOnInPieces (n : ℕ) (before : List (List ℕ)) (y : List ℕ) (after : List (List ℕ)) : Type 0 where
-  pub pieces : List (List ℕ)
-  pub cut : ArePieces n y pieces
-  pub grown : after ≡ before ++ pieces
-
--- The text x, which gave ts, goes on by y, in pieces of n bytes, and gives some triples more; or it has a fault,
--- however it goes on.
-abbrev pub GoesOn : ℕ → TextContext → List ℕ → List (List ℕ) → List RdfTriple → List ℕ → List RdfTriple → Fed → Type 0
-GoesOn n c x ps ts y given (InPart d z qs all) = (d ≡ c) × (z ≡ x ++ y) × GoesOnInPieces n ps y qs × (all ≡ ts ++ given)
-    × GivesSoFar (meaning_in_context c) z all
-GoesOn n c x ps ts y given (Faulted l) = (l ≡ c.language) × (given ≡ []) × ((z : List ℕ) → IsFaulty (meaning_in_context c) (x ++ y ++ z))
-GoesOn n c x ps ts y given f = ⊥
-
--- What y gives to an upload, whose first text is read as c says. It is fed in pieces of n bytes. After a fault, or
--- after the end of the text, it is dropped.
-abbrev pub Receives : ℕ → TextContext → Fed → List ℕ → List RdfTriple → Fed → Type 0
-Receives n c Unfed y given f = GoesOn n c [] [] [] y given f
-Receives n c (InPart d x ps ts) y given f = GoesOn n d x ps ts y given f
-Receives n c (Faulted l) y given f = (given ≡ []) × (f ≡ Faulted l)
-Receives n c (Finished l) y given f = (given ≡ []) × (f ≡ Finished l)
 
 -- a refusal stands in the place of `fed`
 abbrev pub feed_text : Answer → List ℕ

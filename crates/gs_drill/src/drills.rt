@@ -5,7 +5,7 @@ ghost use Rattle.gs_model.specs.Limits.{last_number, max_seats};
 ghost use Rattle.gs_event.specs.Datasets.{triples_in};
 ghost use Rattle.gs_event.specs.Waste.{nodes_in};
 ghost use Rattle.gs_drill.specs.Printing.{Writes, WritesFront, reply_text, counts_text, no_command_text, no_memory_text};
-ghost use Rattle.gs_drill.specs.Drills.{drill_start, new_store as new_store_of, FinishesRun, SaysStop, Halts, BreaksOff, Fails};
+ghost use Rattle.gs_drill.specs.Drills.{drill_start, new_store as new_store_of, FinishesRun, SaysStop, Halts, BreaksOff, FailsRun};
 ghost use Rattle.gs_drill.specs.Taking.{IsInRange, Prints, RepliesText, RepliesFrom, DoesCommand, TakesLine, EndsRun, stop_text};
 ghost use Rattle.gs_drill.specs.Feeds.{DoesFeed};
 ghost use Rattle.gs_drill.specs.Commits.{Asks, DoesEvent};
@@ -288,7 +288,8 @@ fn say<E: Write>(err: &mut E, stop: &Stop, line: u64) -> io::Result<()>
 /// Says it, and flushes what was said: whether all of it was written.
 fn say_whole<E: Write>(err: &mut E, stop: &Stop, line: u64) -> bool
     ensures front { WritesFront (E.contents err.old) (E.contents err.new) (stop_text stop.now line) }
-    ensures whole { result ≡ true → Appends (E.contents err.old) (E.contents err.new) (stop_text stop.now line) }
+    ensures whole { result ≡ true
+        → Appends (E.contents err.old) (E.contents err.new) (stop_text stop.now line) }
 {
     let said = say(err, stop, line);
     let flushed = err.flush();
@@ -304,7 +305,8 @@ fn report<E: Write>(err: &mut E, stop: Stop, line: u64) -> u8
         × Appends (E.contents err.old) (E.contents err.new) (no_command_text line) }
     ensures no_memory { result ≡ 3 → (stop ≡ Stop.NoMemory)
         × Appends (E.contents err.old) (E.contents err.new) no_memory_text }
-    ensures failed { result ≡ 1 → WritesFront (E.contents err.old) (E.contents err.new) (stop_text stop line) }
+    ensures failed { result ≡ 1
+        → WritesFront (E.contents err.old) (E.contents err.new) (stop_text stop line) }
     ensures status { (1 ≤ result) × (result ≤ 3) }
 {
     if !say_whole(err, &stop, line) {
@@ -328,14 +330,17 @@ pub fn drill<R: Read, W: Write, E: Write>(
     err: &mut E,
 ) -> u8
     ensures front { BreaksOff (R.remaining reader.old) (W.contents out.old) (W.contents out.new) }
-    ensures finished { result ≡ 0 → FinishesRun (R.remaining reader.old) (W.contents out.old) (W.contents out.new)
+    ensures finished { result ≡ 0
+        → FinishesRun (R.remaining reader.old) (W.contents out.old) (W.contents out.new)
         × Appends (E.contents err.old) (E.contents err.new) [] }
     ensures at_end { result ≡ 0 → IsAtEnd (R.remaining reader.new) }
-    ensures failed { result ≡ 1 → Fails (R.remaining reader.old) (W.contents out.old) (W.contents out.new)
+    ensures failed { result ≡ 1 → FailsRun (R.remaining reader.old) (W.contents out.old) (W.contents out.new)
         (E.contents err.old) (E.contents err.new) }
-    ensures no_command { result ≡ 2 → SaysStop (R.remaining reader.old) (W.contents out.old) (W.contents out.new)
+    ensures no_command { result ≡ 2
+        → SaysStop (R.remaining reader.old) (W.contents out.old) (W.contents out.new)
         (E.contents err.old) (E.contents err.new) }
-    ensures no_memory { result ≡ 3 → Halts (R.remaining reader.old) (W.contents out.old) (W.contents out.new)
+    ensures no_memory { result ≡ 3
+        → Halts (R.remaining reader.old) (W.contents out.old) (W.contents out.new)
         × Appends (E.contents err.old) (E.contents err.new) no_memory_text }
     ensures status { result ≤ 3 }
 {

@@ -1,11 +1,12 @@
 //! Events, feeds and commits: what they ask the store, and what they print.
 ghost use Rattle.std.specs.Prelude.{◌≡◌, Some, IfOk};
-ghost use Rattle.gs_drill.specs.declared.openings.Opening.{Opening as AnOpening};
+ghost use Rattle.gs_feeding.specs.declared.openings.Opening.{Opening as AnOpening};
 ghost use Rattle.std.specs.List.{slice_get};
 ghost use Rattle.gs_drill.specs.Printing.{reply_text};
 ghost use Rattle.gs_drill.specs.Feeds.{Answers, Stages, DoesFeed, FeedsUpload};
 ghost use Rattle.gs_drill.specs.Commits.{Commits, Asks, GivesUp, Completes};
-ghost use Rattle.gs_drill.specs.Standing.{MovesDesk, first_context};
+ghost use Rattle.gs_drill.specs.Standing.{MovesDesk};
+ghost use Rattle.gs_feeding.specs.SeatTexts.{first_context};
 
 use crate::printing::Reply;
 use crate::uploads::Uploads;

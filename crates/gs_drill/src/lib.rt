@@ -3,9 +3,7 @@
 
 mod drills;
 mod feeds;
-mod openings;
 mod printing;
-mod texts;
 mod uploads;
 
 pub use drills::drill;

@@ -1,14 +1,14 @@
 //! The uploads of all seats, and what was fed to each.
 ghost use Rattle.std.specs.Prelude.{◌≡◌, length, [], ℕ, List, true, false, is_some, None, Some, option_map, MatchOption, IfOk, replicate};
 ghost use Rattle.std.specs.List.{slice_get, slice_set};
-ghost use Rattle.gs_drill.specs.declared.openings.Opening.{Opening as AnOpening};
-ghost use Rattle.gs_drill.specs.Feeds.{Fed, IsIn};
-ghost use Rattle.gs_drill.specs.Standing.{AreFed, FeedsText, FeedsAt, EndsAt, first_context};
+ghost use Rattle.gs_feeding.specs.declared.openings.Opening.{Opening as AnOpening};
+ghost use Rattle.gs_drill.specs.Standing.{AreFed, FeedsAt, EndsAt};
 ghost use Rattle.gs_drill.specs.Following.{openings_after, texts_after};
+ghost use Rattle.gs_feeding.specs.Receiving.{Fed, IsIn};
+ghost use Rattle.gs_feeding.specs.SeatTexts.{FeedsText, first_context};
 
-use crate::openings::Opening;
-use crate::texts::SeatText;
 use gs_event::{Answer, Event};
+use gs_feeding::{Opening, SeatText};
 use gs_term::Triple;
 use gs_upload::Language;
 use std::alloc::{AllocError, Global};

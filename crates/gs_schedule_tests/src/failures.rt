@@ -114,11 +114,7 @@ fn a_failed_write_ends_the_run_and_keeps_a_front(rt: HostRuntime) {
 /// Also where the last line is no command, and where nothing was written.
 #[test]
 fn a_failed_flush_ends_the_run(rt: HostRuntime) {
-    for (input, want) in [
-        (INPUT, OUTPUT),
-        ("", ""),
-        (STOPPED, "200\n"),
-    ] {
+    for (input, want) in [(INPUT, OUTPUT), ("", ""), (STOPPED, "200\n")] {
         let mut out = BrokenWriter {
             taken: Vec::new(rt.alloc()),
             fails_at: usize::MAX,

@@ -1,5 +1,5 @@
 use Rattle.std.proofs.Common.{ℕ, subst}
-use Rattle.gs_drill.specs.Standing.{FeedsText, first_context}
+use Rattle.gs_feeding.specs.SeatTexts.{FeedsText, first_context}
 use Rattle.gs_drill.proofs.SeatLemmas.{text_fed}
 use Rattle.gs_drill.proofs.uploads.Uploads.feed.Goals as goal
 

@@ -1,7 +1,7 @@
 use Rattle.std.proofs.lemmas.Result.{IfOk-weaker}
-use Rattle.gs_drill.specs.Standing.{first_context}
-use Rattle.gs_drill.proofs.TextLemmas.{feeds_first}
-use Rattle.gs_drill.proofs.texts.SeatText.feed.Goals as goal
+use Rattle.gs_feeding.specs.SeatTexts.{first_context}
+use Rattle.gs_feeding.proofs.TextLemmas.{feeds_first}
+use Rattle.gs_feeding.proofs.texts.SeatText.feed.Goals as goal
 
 pub returns-in_ok-begin-in-Unfed : goal.returns-in_ok-begin-in-Unfed
 returns-in_ok-begin-in-Unfed c =

@@ -1,6 +1,6 @@
 use Rattle.std.proofs.Common.{List, [], cond, sym, ap, ◌∙◌, Bool}
-use Rattle.gs_drill.proofs.TextLemmas.{fed_pieces}
-use Rattle.gs_drill.proofs.texts.feed_reading.Goals as goal
+use Rattle.gs_feeding.proofs.TextLemmas.{fed_pieces}
+use Rattle.gs_feeding.proofs.texts.feed_reading.Goals as goal
 
 pub returns-then-has_fault : goal.returns-then-has_fault
 returns-then-has_fault c =

@@ -1,5 +1,5 @@
-use Rattle.gs_drill.proofs.TextLemmas.{begins_text}
-use Rattle.gs_drill.proofs.texts.SeatText.begin.Goals as goal
+use Rattle.gs_feeding.proofs.TextLemmas.{begins_text}
+use Rattle.gs_feeding.proofs.texts.SeatText.begin.Goals as goal
 
 pub returns : goal.returns
 returns c =

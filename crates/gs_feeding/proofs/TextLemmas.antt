@@ -13,11 +13,11 @@ use Rattle.gs_upload.specs.Languages.{TextContext, meaning_in_context, meaning_i
 use Rattle.gs_upload.specs.Readings.{Stands, EndsReading, FeedsPieces, FeedsEach, FeedsReading, MeansAll, GivesComplete}
 use Rattle.gs_upload.specs.Readers.{meaning_of_text, LeadsText, is_closed_text, IsFedText}
 use Rattle.gs_upload.proofs.ReadingLemmas.{IsFedBy-more}
-use Rattle.gs_drill.specs.declared.texts.SeatText.{SeatText}
-use Rattle.gs_drill.specs.declared.texts.SeatText.TheVariants as seat_text
-use Rattle.gs_drill.specs.declared.openings.Opening.{Opening}
-use Rattle.gs_drill.specs.Feeds.{Fed, Unfed, InPart, Faulted, Finished, Receives, IsFaulty}
-use Rattle.gs_drill.specs.Standing.{WasFed, IsBegun, FedInPieces, FeedsText, GoesOnText, EndsText, Ended, first_context}
+use Rattle.gs_feeding.specs.declared.texts.SeatText.{SeatText}
+use Rattle.gs_feeding.specs.declared.texts.SeatText.TheVariants as seat_text
+use Rattle.gs_feeding.specs.declared.openings.Opening.{Opening}
+use Rattle.gs_feeding.specs.Receiving.{Fed, Unfed, InPart, Faulted, Finished, Receives, IsFaulty}
+use Rattle.gs_feeding.specs.SeatTexts.{WasFed, IsBegun, FedInPieces, FeedsText, GoesOnText, EndsText, Ended, first_context}
 
 -- a body with a fault has no meaning
 fault_faulty : (e : Refusal) (m : Meaning) → HasFault e m → m.1 ≢ Whole

@@ -2,8 +2,8 @@ use Rattle.std.proofs.Common.{Option, Some, None, Ok, ap, ◌∙◌, subst}
 use Rattle.gs_model.specs.declared.refusals.Refusal.{Refusal}
 use Rattle.gs_upload.specs.Readings.{EndsReading}
 use Rattle.gs_upload.specs.Readers.{meaning_of_text, LeadsText, is_closed_text}
-use Rattle.gs_drill.proofs.TextLemmas.{ended_whole, ended_faulty, no_fault_by}
-use Rattle.gs_drill.proofs.texts.finish_reading.Goals as goal
+use Rattle.gs_feeding.proofs.TextLemmas.{ended_whole, ended_faulty, no_fault_by}
+use Rattle.gs_feeding.proofs.texts.finish_reading.Goals as goal
 
 pub returns-in-None : goal.returns-in-None
 returns-in-None c =

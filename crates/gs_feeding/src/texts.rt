@@ -1,7 +1,7 @@
 //! The text that is fed to the upload of a seat.
 ghost use Rattle.std.specs.Prelude.{◌≡◌, [], Option, option_map, IfOk};
-ghost use Rattle.gs_drill.specs.Feeds.{Fed};
-ghost use Rattle.gs_drill.specs.Standing.{WasFed, FeedsText, GoesOnText, EndsText, FedInPieces, Ended, first_context, language_of};
+ghost use Rattle.gs_feeding.specs.Receiving.{Fed};
+ghost use Rattle.gs_feeding.specs.SeatTexts.{WasFed, FeedsText, GoesOnText, EndsText, FedInPieces, Ended, first_context, language_of};
 
 use crate::openings::Opening;
 use gs_term::Triple;
@@ -56,7 +56,8 @@ fn finish_reading(
 impl SeatText {
     /// A text that begins, in the language of its first feed.
     fn begin(alloc: Global, language: Language, opening: &Opening) -> Result<SeatText, AllocError>
-        ensures { IfOk result (λ begun. WasFed begun (Fed.InPart (first_context language opening.now) [] [] [])) }
+        ensures { IfOk result (λ begun. WasFed begun
+            (Fed.InPart (first_context language opening.now) [] [] [])) }
     {
         let reading = Reading::new(alloc, language, opening.request, opening.base())?;
         Ok(SeatText::Fed(language, reading))

@@ -1,5 +1,5 @@
-use Rattle.gs_drill.proofs.TextLemmas.{goes_on}
-use Rattle.gs_drill.proofs.texts.SeatText.go_on.Goals as goal
+use Rattle.gs_feeding.proofs.TextLemmas.{goes_on}
+use Rattle.gs_feeding.proofs.texts.SeatText.go_on.Goals as goal
 
 pub returns-in_ok-given-in-Fed : goal.returns-in_ok-given-in-Fed
 returns-in_ok-given-in-Fed c =

@@ -1,8 +1,8 @@
 //! What an upload was opened with.
 ghost use Rattle.std.specs.Prelude.{◌≡◌, true};
 ghost use Rattle.gs_model.specs.Iris.{is_absolute};
-ghost use Rattle.gs_drill.specs.Languages.{base_under, name_in as name_of, target_name};
-ghost use Rattle.gs_drill.specs.Following.{opened_by};
+ghost use Rattle.gs_feeding.specs.Languages.{base_under, name_in as name_of, target_name};
+ghost use Rattle.gs_feeding.specs.SeatTexts.{opened_by};
 
 use gs_event::{Action, UploadKind};
 use gs_term::{GraphName, Target};

@@ -1,8 +1,8 @@
 use Rattle.std.proofs.Common.{Vec, Global, option_map}
 use Rattle.std.proofs.lemmas.Result.{IfOk-weaker}
 use Rattle.gs_term.specs.declared.triples.Triple.{Triple}
-use Rattle.gs_drill.proofs.TextLemmas.{ends_text}
-use Rattle.gs_drill.proofs.texts.SeatText.finish.Goals as goal
+use Rattle.gs_feeding.proofs.TextLemmas.{ends_text}
+use Rattle.gs_feeding.proofs.texts.SeatText.finish.Goals as goal
 
 pub returns-in-Fed : goal.returns-in-Fed
 returns-in-Fed c =
