@@ -236,7 +236,7 @@ def refusals(schedule, printed):
             want = store.step(int(words[0]), words, line)
         assert printed[:len(want)] == want, f"{line}: {printed[:len(want)]}, not {want}"
         printed = printed[len(want):]
-    assert not printed, f"behind the last answer: {printed}"
+    assert not printed, f"after the last answer: {printed}"
     return count, True
 
 

@@ -14,13 +14,15 @@ use Rattle.gs_event.specs.Phases.{Idle, Writing, Reading}
 use Rattle.gs_event.specs.Views.{View, SeatView, Totals, Fits, FitsSeat, next_view, next_phase, next_if}
 use Rattle.gs_event.specs.Waste.{Shown}
 use Rattle.gs_event.specs.Steps.{Steps}
-use Rattle.gs_drill.specs.declared.texts.SeatText.{SeatText}
-use Rattle.gs_drill.specs.declared.texts.SeatText.TheVariants as seat_text
-use Rattle.gs_drill.specs.declared.openings.Opening.{Opening}
+use Rattle.gs_feeding.specs.declared.texts.SeatText.{SeatText}
+use Rattle.gs_feeding.specs.declared.texts.SeatText.TheVariants as seat_text
+use Rattle.gs_feeding.specs.declared.openings.Opening.{Opening}
 use Rattle.gs_drill.specs.declared.uploads.Uploads.{Uploads}
-use Rattle.gs_drill.specs.Feeds.{Fed, Unfed, Answers, with_fed, fed_after, is_boundary}
+use Rattle.gs_drill.specs.Feeds.{Answers, with_fed, fed_after, is_boundary}
 use Rattle.gs_drill.specs.Standing.{AreFed, Standing, desk_of, opening_of}
-use Rattle.gs_drill.specs.Following.{opened_by, openings_reset, openings_after, texts_after}
+use Rattle.gs_drill.specs.Following.{openings_reset, openings_after, texts_after}
+use Rattle.gs_feeding.specs.Receiving.{Fed, Unfed}
+use Rattle.gs_feeding.specs.SeatTexts.{opened_by}
 use Rattle.gs_drill.proofs.SeatLemmas.{set_same, AreFed-unfed}
 
 -- the opening of a seat after an answer

@@ -12,14 +12,16 @@ use Rattle.gs_event.specs.declared.answers.Answer.TheVariants.{Staged}
 use Rattle.gs_event.specs.Phases.{Idle, Writing, Reading}
 use Rattle.gs_event.specs.Views.{SeatView}
 use Rattle.gs_event.specs.Waste.{Shown}
-use Rattle.gs_drill.specs.declared.texts.SeatText.{SeatText}
+use Rattle.gs_feeding.specs.declared.texts.SeatText.{SeatText}
 use Rattle.gs_upload.specs.declared.languages.Language.{Language}
-use Rattle.gs_drill.specs.declared.openings.Opening.{Opening}
+use Rattle.gs_feeding.specs.declared.openings.Opening.{Opening}
 use Rattle.gs_drill.specs.declared.uploads.Uploads.{Uploads}
 use Rattle.gs_drill.specs.Printing.{answer_text, fed_text}
-use Rattle.gs_drill.specs.Feeds.{Fed, Desk, Answers, Accepts, Stages, FeedsUpload, FeedsSeat, RefusesFeed, Feeds, with_fed, feed_text}
-use Rattle.gs_drill.specs.Commits.{Closes, Commits, CommitsBy, Completes, Concludes}
-use Rattle.gs_drill.specs.Standing.{AreFed, Standing, desk_of, opening_of, context_of}
+use Rattle.gs_drill.specs.Feeds.{Desk, Answers, Stages, FeedsUpload, FeedsSeat, RefusesFeed, DoesFeed, with_fed, feed_text}
+use Rattle.gs_drill.specs.Commits.{Commits, CommitsBy, Completes, CommitsStaged}
+use Rattle.gs_drill.specs.Standing.{AreFed, Standing, FeedsAt, desk_of, opening_of}
+use Rattle.gs_feeding.specs.Receiving.{Fed, Closes}
+use Rattle.gs_feeding.specs.SeatTexts.{first_context}
 
 -- nothing is staged
 pub stages_none : (d : Desk) (s : ℕ) (given : List RdfTriple) → given ≡ [] → Stages d s given Staged d
@@ -43,17 +45,16 @@ fed_standing shown u w st s f openings lengths all = record {
 }
 
 -- a text is fed to an upload
-pub feeds_upload : (old new : Shown) (u m w : Uploads) (l : Language) (s : ℕ) (y : List ℕ) (given : List RdfTriple) (a : Answer) (text : List ℕ)
+pub feeds_upload : (n : ℕ) (old new : Shown) (u m w : Uploads) (l : Language) (s : ℕ) (y : List ℕ) (given : List RdfTriple) (a : Answer) (text : List ℕ)
     → m.openings.items ≡ u.openings.items → length m.texts.items ≡ length u.texts.items
-    → ((o : Opening) → slice_get u.openings.items s ≡ Some (Some o)
-    → (fed : ℕ → Fed) → AreFed u.texts.items fed → s < length u.texts.items → (f : Fed) × AreFed m.texts.items (with_fed fed s f) × Accepts (context_of l o) (fed s) y given f)
+    → FeedsAt n l s y u.openings.items u.texts.items m.texts.items given
     → ((st : Standing old m) → (en : Standing new w) × Stages (desk_of st) s given a (desk_of en)) → text ≡ feed_text a
-    → (o : Opening) → slice_get u.openings.items s ≡ Some (Some o) → (st : Standing old u) → (en : Standing new w) × FeedsUpload (context_of l o) (desk_of st) s y text (desk_of en)
-feeds_upload old new u m w l s y given a text openings lengths feeds stages told o there st =
-    let P : ℕ → Type 0 = λ n. s < n in
+    → (o : Opening) → slice_get u.openings.items s ≡ Some (Some o) → (st : Standing old u) → (en : Standing new w) × FeedsUpload n (first_context l o) (desk_of st) s y text (desk_of en)
+feeds_upload n old new u m w l s y given a text openings lengths feeds stages told o there st =
+    let P : ℕ → Type 0 = λ k. s < k in
     let f = feeds o there st.fed st.texts (subst P (sym st.even) (slice_get_within u.openings.items s (Some o) there)) in
     let en = stages (fed_standing old u m st s f.0 openings lengths f.1) in
-    (en.0, record { given = given; fed = f.0; accepts = f.2; answer = a; staged = en.1; told = told })
+    (en.0, record { given = given; fed = f.0; receives = f.2; answer = a; staged = en.1; told = told })
 
 pub staged_text : (a : Answer) → a ≡ Staged → fed_text ≡ feed_text a
 staged_text a is = ap feed_text (sym is)
@@ -63,22 +64,22 @@ refusal_text Staged other = absurd (other refl)
 refusal_text a other = refl
 
 -- the rows of a feed by what opened the upload of the seat
-abbrev pub FeedsRow : Option (Option Opening) → Desk → ℕ → Language → List ℕ → List ℕ → Desk → Type 0
-FeedsRow None d s l y text e = RefusesFeed BadSeat d text e
-FeedsRow (Some None) d s l y text e = RefusesFeed WrongPhase d text e
-FeedsRow (Some (Some o)) d s l y text e = FeedsUpload (context_of l o) d s y text e
+abbrev pub FeedsRow : Option (Option Opening) → ℕ → Desk → ℕ → Language → List ℕ → List ℕ → Desk → Type 0
+FeedsRow None n d s l y text e = RefusesFeed BadSeat d text e
+FeedsRow (Some None) n d s l y text e = RefusesFeed WrongPhase d text e
+FeedsRow (Some (Some o)) n d s l y text e = FeedsUpload n (first_context l o) d s y text e
 
-by_phase : (q : Option SeatView) (d : Desk) (s : ℕ) (l : Language) (y text : List ℕ) (e : Desk) → FeedsRow (option_map opening_of q) d s l y text e → MatchOption q (RefusesFeed BadSeat d text e) (λ p. FeedsSeat p d s l y text e)
-by_phase None d s l y text e h = h
-by_phase (Some Idle) d s l y text e h = h
-by_phase (Some (Writing k r g)) d s l y text e h = h
-by_phase (Some (Reading left)) d s l y text e h = h
+by_phase : (q : Option SeatView) (n : ℕ) (d : Desk) (s : ℕ) (l : Language) (y text : List ℕ) (e : Desk) → FeedsRow (option_map opening_of q) n d s l y text e → MatchOption q (RefusesFeed BadSeat d text e) (λ p. FeedsSeat p n d s l y text e)
+by_phase None n d s l y text e h = h
+by_phase (Some Idle) n d s l y text e h = h
+by_phase (Some (Writing k r g)) n d s l y text e h = h
+by_phase (Some (Reading left)) n d s l y text e h = h
 
-pub feeds_by : (shown : Shown) (u : Uploads) (st : Standing shown u) (s : ℕ) (l : Language) (y text : List ℕ) (e : Desk) (o : Option (Option Opening)) → slice_get u.openings.items s ≡ o → FeedsRow o (desk_of st) s l y text e → Feeds (desk_of st) s l y text e
-feeds_by shown u st s l y text e o is row =
-    let P : Option (Option Opening) → Type 0 = λ z. FeedsRow z (desk_of st) s l y text e in
+pub feeds_by : (n : ℕ) (shown : Shown) (u : Uploads) (st : Standing shown u) (s : ℕ) (l : Language) (y text : List ℕ) (e : Desk) (o : Option (Option Opening)) → slice_get u.openings.items s ≡ o → FeedsRow o n (desk_of st) s l y text e → DoesFeed n (desk_of st) s l y text e
+feeds_by n shown u st s l y text e o is row =
+    let P : Option (Option Opening) → Type 0 = λ z. FeedsRow z n (desk_of st) s l y text e in
     let same : o ≡ option_map opening_of (slice_get shown.view.seats s) = sym is ∙ ap (λ z. slice_get z s) st.openings ∙ slice_get-map opening_of shown.view.seats s in
-    by_phase (slice_get shown.view.seats s) (desk_of st) s l y text e (subst P same row)
+    by_phase (slice_get shown.view.seats s) n (desk_of st) s l y text e (subst P same row)
 
 -- a seat that has no upload, or none that is there
 pub no_seat : (o : Option (Option Opening)) → option_map is_some o ≡ None → o ≡ None
@@ -95,7 +96,7 @@ some_upload None is = absurd (cc)
 some_upload (Some None) is = absurd (cc)
 some_upload (Some (Some opening)) is = (opening, refl)
 
-concludes_other : (a : Answer) (d : Desk) (s : ℕ) → a ≢ Staged → Concludes a d s (answer_text a) d
+concludes_other : (a : Answer) (d : Desk) (s : ℕ) → a ≢ Staged → CommitsStaged a d s (answer_text a) d
 concludes_other Staged d s other = absurd (other refl)
 concludes_other a d s other = (refl, refl)
 

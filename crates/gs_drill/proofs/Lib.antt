@@ -1,13 +1,8 @@
-pub mod LineReaderLemmas
-pub mod WordLemmas
-pub mod CommandLemmas
-pub mod FeedLineLemmas
-pub mod RowLemmas
+pub mod LateLemmas
 pub mod WritingLemmas
 pub mod DrillLemmas
 pub mod PlayLemmas
 pub mod RunLemmas
-pub mod TextLemmas
 pub mod SeatLemmas
 pub mod DeskLemmas
 pub mod FeedLemmas

@@ -6,20 +6,21 @@ use Rattle.gs_model.specs.Texts.{split_first}
 use Rattle.gs_event.specs.declared.events.Event.{Event}
 use Rattle.gs_event.specs.declared.events.Event.TheVariants.{Seat as At}
 use Rattle.gs_event.specs.declared.events.Action.TheVariants.{Commit}
-use Rattle.gs_drill.specs.declared.commands.Command.{Command}
+use Rattle.gs_commands.specs.declared.commands.Command.{Command}
 use Rattle.gs_drill.specs.declared.drills.Stop.{Stop}
 use Rattle.gs_drill.specs.declared.drills.Stop.TheVariants.{NoCommand, NoMemory, Failed}
-use Rattle.gs_drill.specs.Commands.{Says, lines_in}
+use Rattle.gs_commands.specs.Commands.{Says, lines_in}
 use Rattle.gs_drill.specs.Feeds.{Desk}
 use Rattle.gs_drill.specs.Commits.{Asks, DoesEvent}
-use Rattle.gs_drill.specs.Drills.{State, Does, Takes, Plays, Finishes, Halts, first_state}
-use Rattle.gs_drill.specs.Taking.{Reports, Replies, DoesCommand, TakesLine, EndsBy}
+use Rattle.gs_drill.specs.Drills.{RunState, Does, DoesLine, Plays, FinishesRun, Halts, first_state}
+use Rattle.gs_drill.specs.Taking.{PrintsAll, Replies, DoesCommand, TakesLine, EndsBy}
 use Rattle.gs_drill.proofs.WritingLemmas.{Appends-append, Appends-none, WritesFront-next}
-use Rattle.gs_drill.proofs.RowLemmas.{late_none}
-use Rattle.gs_drill.proofs.DrillLemmas.{Plays-more, lines_in-split, length-split}
+use Rattle.gs_drill.proofs.LateLemmas.{late_none}
+use Rattle.gs_commands.proofs.LinesLemmas.{lines_in-split, length-split}
+use Rattle.gs_drill.proofs.DrillLemmas.{Plays-more}
 
 -- what is done at a desk, and printed, is what a command does
-pub does_by : {T X : Type 0} (at : T → Desk) (s : State) (command : Command) (done : Desk → State) (Makes : List ℕ → Desk → Type 0) (old new : Option (List ℕ)) (r : Result X Stop)
+pub does_by : {T X : Type 0} (at : T → Desk) (s : RunState) (command : Command) (done : Desk → RunState) (Makes : List ℕ → Desk → Type 0) (old new : Option (List ℕ)) (r : Result X Stop)
     → ((text : List ℕ) (d : Desk) → Makes text d → Does s command text (done d)) → Replies at Makes old new r → DoesCommand s command (λ t. done (at t)) old new r
 does_by at s command done Makes old new (Ok x) does replies = record { text = replies.text; last = replies.last; makes = does replies.text (at replies.last) replies.makes; written = replies.written }
 does_by at s command done Makes old new (Err NoCommand) does replies = absurd replies
@@ -40,7 +41,7 @@ asks_event d e (At s Commit) text other asks = absurd (other s refl)
 asks_event d e event text other asks = asks
 
 -- what a command does is what its line does
-pub does_takes : {T X : Type 0} (s : State) (after : T → State) (command : Command) (line : List ℕ) (old new : Option (List ℕ)) (r : Result X Stop) → Says command line → DoesCommand s command after old new r → TakesLine s line after old new r
+pub does_takes : {T X : Type 0} (s : RunState) (after : T → RunState) (command : Command) (line : List ℕ) (old new : Option (List ℕ)) (r : Result X Stop) → Says command line → DoesCommand s command after old new r → TakesLine s line after old new r
 does_takes s after command line old new (Ok x) says does = record { text = does.text; last = does.last; makes = record { command = command; says = says; does = does.makes }; written = does.written }
 does_takes s after command line old new (Err NoCommand) says does = (late_none s command line says does.0, does.1)
 does_takes s after command line old new (Err NoMemory) says does = does
@@ -50,7 +51,7 @@ length-snoc : (xs : List (List ℕ)) (x : List ℕ) → length (xs ++ x ∷ []) 
 length-snoc xs x = length-append xs (x ∷ [])
 
 -- the first n lines of an input are played, and these bytes are left
-pub record Playing (input rest : List ℕ) (n : ℕ) (s : State) (old new : Option (List ℕ)) : Type 0 where
+pub record Playing (input rest : List ℕ) (n : ℕ) (s : RunState) (old new : Option (List ℕ)) : Type 0 where
   pub before : List (List ℕ)
   pub text : List ℕ
   pub parts : lines_in input ≡ before ++ lines_in rest
@@ -59,7 +60,7 @@ pub record Playing (input rest : List ℕ) (n : ℕ) (s : State) (old new : Opti
   pub plays : Plays first_state before text s
   pub written : Appends old new text
 
-pub Playing-none : (input : List ℕ) (s : State) (old : Option (List ℕ)) → s ≡ first_state → Playing input input 0 s old old
+pub Playing-none : (input : List ℕ) (s : RunState) (old : Option (List ℕ)) → s ≡ first_state → Playing input input 0 s old old
 Playing-none input s old same = record {
   before = [];
   text = [];
@@ -74,8 +75,8 @@ Playing-none input s old same = record {
 next_line : (input rest : List ℕ) (before : List (List ℕ)) → lines_in input ≡ before ++ lines_in rest → ¬ (rest ≡ []) → lines_in input ≡ before ++ (split_first 10 rest).0 ∷ lines_in (split_first 10 rest).1
 next_line input rest before parts some = parts ∙ ap (λ z. before ++ z) (lines_in-split rest some)
 
-pub Playing-more : (input rest line after : List ℕ) (n : ℕ) (s t : State) (old mid new : Option (List ℕ)) → Playing input rest n s old mid → ¬ (rest ≡ [])
-    → line ≡ (split_first 10 rest).0 → after ≡ (split_first 10 rest).1 → Reports (λ text. Takes s line text t) mid new → Playing input after (n + 1) t old new
+pub Playing-more : (input rest line after : List ℕ) (n : ℕ) (s t : RunState) (old mid new : Option (List ℕ)) → Playing input rest n s old mid → ¬ (rest ≡ [])
+    → line ≡ (split_first 10 rest).0 → after ≡ (split_first 10 rest).1 → PrintsAll (λ text. DoesLine s line text t) mid new → Playing input after (n + 1) t old new
 Playing-more input rest line after n s t old mid new p some line_is after_is tells =
     let cut : lines_in input ≡ p.before ++ line ∷ lines_in after =
     next_line input rest p.before p.parts some ∙ ap (λ z. p.before ++ z ∷ lines_in (split_first 10 rest).1) (sym line_is) ∙ ap (λ z. p.before ++ line ∷ lines_in z) (sym after_is) in
@@ -92,20 +93,20 @@ Playing-more input rest line after n s t old mid new p some line_is after_is tel
       written = Appends-append old mid new p.text tells.text p.written tells.written;
     }
 
-pub Playing-all : (input rest : List ℕ) (n : ℕ) (s : State) (old new : Option (List ℕ)) → Playing input rest n s old new → rest ≡ [] → Finishes (Some input) old new
+pub Playing-all : (input rest : List ℕ) (n : ℕ) (s : RunState) (old new : Option (List ℕ)) → Playing input rest n s old new → rest ≡ [] → FinishesRun (Some input) old new
 Playing-all input rest n s old new p none =
     let all : p.before ≡ lines_in input = sym (append-nil p.before) ∙ ap (λ z. p.before ++ lines_in z) (sym none) ∙ sym p.parts in
     let P : List (List ℕ) → Type 0 = λ z. Plays first_state z p.text s in
     record { input = input; read = refl; text = p.text; last = s; plays = subst P all p.plays; written = p.written }
 
-pub Playing-ends : {T : Type 0} (input rest line : List ℕ) (n : ℕ) (s : State) (after : T → State) (old mid new : Option (List ℕ)) (stop : Stop) → Playing input rest n s old mid → ¬ (rest ≡ []) → line ≡ (split_first 10 rest).0
+pub Playing-ends : {T : Type 0} (input rest line : List ℕ) (n : ℕ) (s : RunState) (after : T → RunState) (old mid new : Option (List ℕ)) (stop : Stop) → Playing input rest n s old mid → ¬ (rest ≡ []) → line ≡ (split_first 10 rest).0
     → TakesLine s line after mid new {X = Unit {0}} (Err stop) → EndsBy (Some input) old new stop (n + 1)
 Playing-ends input rest line n s after old mid new NoCommand p some line_is takes = record {
   input = input;
   read = refl;
   before = p.before;
   line = line;
-  behind = lines_in (split_first 10 rest).1;
+  after = lines_in (split_first 10 rest).1;
   parts = next_line input rest p.before p.parts some ∙ ap (λ z. p.before ++ z ∷ lines_in (split_first 10 rest).1) (sym line_is);
   number = ap (λ k. k + 1) p.number;
   text = p.text;
@@ -118,7 +119,7 @@ Playing-ends input rest line n s after old mid new NoMemory p some line_is takes
   input = input;
   read = refl;
   before = p.before;
-  behind = lines_in rest;
+  after = lines_in rest;
   parts = p.parts;
   text = p.text;
   last = s;
@@ -129,7 +130,7 @@ Playing-ends input rest line n s after old mid new Failed p some line_is takes =
   input = input;
   read = refl;
   before = p.before ++ line ∷ [];
-  behind = lines_in (split_first 10 rest).1;
+  after = lines_in (split_first 10 rest).1;
   parts = next_line input rest p.before p.parts some ∙ ap (λ z. p.before ++ z ∷ lines_in (split_first 10 rest).1) (sym line_is) ∙ sym (append_assoc p.before (line ∷ []) (lines_in (split_first 10 rest).1));
   text = p.text ++ takes.text;
   last = takes.last;
@@ -139,7 +140,7 @@ Playing-ends input rest line n s after old mid new Failed p some line_is takes =
 
 -- before the first line
 pub Halts-none : (input : List ℕ) (old : Option (List ℕ)) → Halts (Some input) old old
-Halts-none input old = record { input = input; read = refl; before = []; behind = lines_in input; parts = refl; text = []; last = first_state; plays = (refl, refl); written = Appends-none old }
+Halts-none input old = record { input = input; read = refl; before = []; after = lines_in input; parts = refl; text = []; last = first_state; plays = (refl, refl); written = Appends-none old }
 
 positive : (n : ℕ) → (suc n == 0) ≡ false
 positive n = grind (arith, nat_tests)

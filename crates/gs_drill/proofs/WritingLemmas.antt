@@ -1,5 +1,5 @@
 -- Writes one after another.
-use Rattle.std.proofs.Common.{◌≡◌, List, ℕ, [], ◌++◌, Option, Some, None, Result, Ok, Err, refl, sym, ap, ◌∙◌, append_assoc, append-nil, take, drop, subst, length, length-drop, ◌-◌}
+use Rattle.std.proofs.Common.{◌≡◌, List, ℕ, [], ◌∷◌, ◌++◌, Option, Some, None, Result, Ok, Err, refl, sym, ap, ◌∙◌, append_assoc, append-nil, take, drop, subst, length, length-drop, ◌-◌}
 use Rattle.std.proofs.Math.Seq.{take-length}
 use Rattle.std.proofs.lemmas.List.{take-append-drop}
 use Rattle.std.specs.Io.KnownBytes.{Appends, Keeps}
@@ -45,6 +45,23 @@ WritesFront-more old new a b w = record {
 
 pub WritesFront-all : (old new : Option (List ℕ)) (a : List ℕ) → Appends old new a → WritesFront old new a
 WritesFront-all old new a p = record { told = a; rest = []; parts = sym (append-nil a); appends = p }
+
+-- of no text nothing is written
+pub WritesFront-none : (old new : Option (List ℕ)) → WritesFront old new [] → Appends old new []
+WritesFront-none old new w = none w.told w.parts w.appends
+  where
+    none : (told : List ℕ) → [] ≡ told ++ w.rest → Appends old new told → Appends old new []
+    none [] parts appends = appends
+    none (c ∷ cs) parts appends = absurd (cc)
+
+-- a flush keeps what is written
+pub WritesFront-keeps : (old mid new : Option (List ℕ)) (text : List ℕ) → WritesFront old mid text → Keeps mid new → WritesFront old new text
+WritesFront-keeps old mid new text w k = record { told = w.told; rest = w.rest; parts = w.parts; appends = Appends-keeps old mid new w.told w.appends k }
+
+-- a text is written, or a front of it, and then flushed
+pub Writes-front : {X E : Type 0} (old mid new : Option (List ℕ)) (text : List ℕ) (r : Result X E) → Writes old mid text r → Keeps mid new → WritesFront old new text
+Writes-front old mid new text (Ok x) w k = WritesFront-all old new text (Appends-keeps old mid new text w k)
+Writes-front old mid new text (Err e) w k = WritesFront-keeps old mid new text w k
 
 -- so much of a text is written, and this is left of it
 pub record Writing (old new : Option (List ℕ)) (text rest : List ℕ) : Type 0 where

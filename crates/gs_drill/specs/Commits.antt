@@ -6,26 +6,15 @@ use Rattle.gs_event.specs.declared.events.Event.{Event}
 use Rattle.gs_event.specs.declared.events.Event.TheVariants.{Seat as At}
 use Rattle.gs_event.specs.declared.answers.Answer.{Answer}
 use Rattle.gs_event.specs.declared.answers.Answer.TheVariants.{Staged}
-use Rattle.gs_upload.specs.Languages.{meaning_for}
-use Rattle.gs_upload.specs.Readings.{MeansAll}
 use Rattle.gs_drill.specs.Printing.{answer_text, fault_text}
-use Rattle.gs_drill.specs.Feeds.{Fed, Unfed, InPart, Faulted, Finished, Desk, desk_with, Answers, Stages, IsFaulty}
+use Rattle.gs_drill.specs.Feeds.{Desk, desk_with, Answers, Stages}
+use Rattle.gs_feeding.specs.Receiving.{Fed, Closes}
 
 -- an event is answered, and the answer is printed
 pub record Asks (d : Desk) (event : Event) (text : List ℕ) (e : Desk) : Type 0 where
   pub answer : Answer
   pub answers : Answers d event answer e
   pub told : text ≡ answer_text answer
-
--- The text ends: with the triples that it then gives, if any, all that it means is given; or it has no meaning,
--- and nothing is given. A text ends once.
-abbrev pub Closes : Fed → Option (List RdfTriple) → Fed → Type 0
-Closes Unfed (Some given) f = (given ≡ []) × (f ≡ Unfed)
-Closes (InPart c x ts) (Some given) f = MeansAll (meaning_for c x) (ts ++ given) × (f ≡ Finished c.language)
-Closes (InPart c x ts) None f = IsFaulty (meaning_for c) x × (f ≡ Faulted c.language)
-Closes (Faulted l) None f = f ≡ Faulted l
-Closes (Finished l) (Some given) f = (given ≡ []) × (f ≡ Finished l)
-Closes f given g = ⊥
 
 -- the upload is given up, and the fault is printed in the place of the answer
 pub record GivesUp (d : Desk) (s : ℕ) (text : List ℕ) (e : Desk) : Type 0 where
@@ -34,16 +23,16 @@ pub record GivesUp (d : Desk) (s : ℕ) (text : List ℕ) (e : Desk) : Type 0 wh
   pub told : text ≡ fault_text
 
 -- where the last triples are staged the upload is committed, and else the refusal is printed
-abbrev pub Concludes : Answer → Desk → ℕ → List ℕ → Desk → Type 0
-Concludes Staged d s text e = Asks d (At s Commit) text e
-Concludes a d s text e = (text ≡ answer_text a) × (e ≡ d)
+abbrev pub CommitsStaged : Answer → Desk → ℕ → List ℕ → Desk → Type 0
+CommitsStaged Staged d s text e = Asks d (At s Commit) text e
+CommitsStaged a d s text e = (text ≡ answer_text a) × (e ≡ d)
 
 -- the last triples are staged, and then the upload is committed
 pub record Completes (given : List RdfTriple) (d : Desk) (s : ℕ) (text : List ℕ) (e : Desk) : Type 0 where
   pub answer : Answer
   pub between : Desk
   pub staged : Stages d s given answer between
-  pub concludes : Concludes answer between s text e
+  pub concludes : CommitsStaged answer between s text e
 
 -- the same by what the text gives as it ends
 abbrev pub CommitsBy : Option (List RdfTriple) → Desk → ℕ → List ℕ → Desk → Type 0

@@ -1,20 +1,21 @@
 -- What a run of a schedule's lines writes.
-use Rattle.std.specs.Prelude.{◌≡◌, ℕ, ◌+◌, Bool, true, false, List, [], ◌∷◌, ◌++◌, length, Option, None, Some, codes}
+use Rattle.std.specs.Prelude.{◌≡◌, ◌⊎◌, ℕ, ◌+◌, Bool, true, false, List, [], ◌∷◌, ◌++◌, length, Option, None, Some, codes}
 use Rattle.std.specs.Io.KnownBytes.{Appends}
 use Rattle.gs_event.specs.Datasets.{triples_in}
 use Rattle.gs_event.specs.Histories.{Start, view_of, pinned_of}
 use Rattle.gs_event.specs.Waste.{Shown, nodes_in}
 use Rattle.gs_core.specs.Settings.{setting_of}
-use Rattle.gs_drill.specs.declared.commands.Command.{Command}
-use Rattle.gs_drill.specs.declared.commands.Command.TheVariants.{Nothing, Begin, Ask, Count, Feed, Cut}
-use Rattle.gs_drill.specs.Commands.{Says, lines_in}
-use Rattle.gs_drill.specs.Printing.{counts_text, no_command_text, WritesFront}
-use Rattle.gs_drill.specs.Feeds.{Unfed, Desk, IsIn, Feeds}
+use Rattle.gs_commands.specs.declared.commands.Command.{Command}
+use Rattle.gs_commands.specs.declared.commands.Command.TheVariants.{Nothing, Begin, Ask, Count, Feed, Cut}
+use Rattle.gs_commands.specs.Commands.{Says, lines_in}
+use Rattle.gs_drill.specs.Printing.{counts_text, no_command_text, no_memory_text, WritesFront}
+use Rattle.gs_drill.specs.Feeds.{Desk, DoesFeed}
 use Rattle.gs_drill.specs.Commits.{DoesEvent}
+use Rattle.gs_feeding.specs.Receiving.{Unfed, IsIn}
 
 -- between two lines: whether a command came before, in pieces of how many bytes texts are fed (0 is whole), what
 -- the store shows, and what was fed to each seat
-pub record State : Type 0 where
+pub record RunState : Type 0 where
   pub begun : Bool
   pub cut : ℕ
   pub desk : Desk
@@ -24,7 +25,7 @@ abbrev pub new_store : Start → Shown
 new_store start = record { view = view_of start []; pinned = pinned_of start []; waste = [] }
 
 -- a store begins, and nothing was fed
-abbrev pub new_state : Bool → Start → State
+abbrev pub new_state : Bool → Start → RunState
 new_state begun start = record { begun = begun; cut = 0; desk = record { shown = new_store start; fed = λ s. Unfed } }
 
 -- where the store of a schedule begins
@@ -32,33 +33,33 @@ abbrev pub drill_start : ℕ → ℕ → ℕ → Start
 drill_start seats commit request = record { seats = seats; setting = setting_of (codes "http://localhost"); request = request; commit = commit }
 
 -- before the first line: four seats, and no number given out
-abbrev pub first_state : State
+abbrev pub first_state : RunState
 first_state = new_state false (drill_start 4 0 0)
 
 -- what a command prints, and the state that it leaves: a store begins only before any other command, and an upload
 -- is fed in one language
-abbrev pub Does : State → Command → List ℕ → State → Type 0
+abbrev pub Does : RunState → Command → List ℕ → RunState → Type 0
 Does s Nothing text t = (text ≡ []) × (t ≡ s)
 Does s (Begin seats commit request) text t = (s.begun ≡ false) × (text ≡ []) × (t ≡ new_state true (drill_start seats commit request))
 Does s (Ask event) text t = (t.begun ≡ true) × (t.cut ≡ s.cut) × DoesEvent s.desk event text t.desk
 Does s Count text t = (t.begun ≡ true) × (t.cut ≡ s.cut) × (t.desk ≡ s.desk) × (text ≡ counts_text (nodes_in s.desk.shown) (triples_in s.desk.shown.view.totals.dataset))
-Does s (Feed seat l y) text t = IsIn l (s.desk.fed seat) × (t.begun ≡ true) × (t.cut ≡ s.cut) × Feeds s.desk seat l y.items text t.desk
+Does s (Feed seat l y) text t = IsIn l (s.desk.fed seat) × (t.begun ≡ true) × (t.cut ≡ s.cut) × DoesFeed s.cut s.desk seat l y.items text t.desk
 Does s (Cut n) text t = (text ≡ []) × (t ≡ record { begun = true; cut = n; desk = s.desk })
 
 -- a line says a command, which is done
-pub record Takes (s : State) (line text : List ℕ) (t : State) : Type 0 where
+pub record DoesLine (s : RunState) (line text : List ℕ) (t : RunState) : Type 0 where
   pub command : Command
   pub says : Says command line
   pub does : Does s command text t
 
 -- lines in their order, all that they print, and the state that they leave
-abbrev pub Plays : State → List (List ℕ) → List ℕ → State → Type 0
+abbrev pub Plays : RunState → List (List ℕ) → List ℕ → RunState → Type 0
 Plays s [] text t = (text ≡ []) × (t ≡ s)
-Plays s (line ∷ lines) text t = (u : State) × (first : List ℕ) × (rest : List ℕ) × (text ≡ first ++ rest) × Takes s line first u × Plays u lines rest t
+Plays s (line ∷ lines) text t = (u : RunState) × (first : List ℕ) × (rest : List ℕ) × (text ≡ first ++ rest) × DoesLine s line first u × Plays u lines rest t
 
 -- a line is no command where it stands: it says nothing, or it begins a store after another command, or it feeds
 -- an upload in another language than before
-abbrev pub IsLate : State → Command → Type 0
+abbrev pub IsLate : RunState → Command → Type 0
 IsLate s Nothing = ⊥
 IsLate s (Begin seats commit request) = s.begun ≡ true
 IsLate s (Ask event) = ⊥
@@ -67,34 +68,34 @@ IsLate s (Feed seat l y) = ¬ IsIn l (s.desk.fed seat)
 IsLate s (Cut n) = ⊥
 
 -- each command that the line says, if it says one, is late in this state
-abbrev pub IsNoCommand : State → List ℕ → Type 0
+abbrev pub IsNoCommand : RunState → List ℕ → Type 0
 IsNoCommand s line = (command : Command) → Says command line → IsLate s command
 
 -- the input is what a reader had left, if it reports that
-abbrev pub IsRead : Option (List ℕ) → List ℕ → Type 0
-IsRead None input = Unit {0}
-IsRead (Some bytes) input = input ≡ bytes
+abbrev pub IsInput : Option (List ℕ) → List ℕ → Type 0
+IsInput None input = Unit {0}
+IsInput (Some bytes) input = input ≡ bytes
 
 -- each line of the input is a command, and what they print is written
-pub record Finishes (given old new : Option (List ℕ)) : Type 0 where
+pub record FinishesRun (given old new : Option (List ℕ)) : Type 0 where
   pub input : List ℕ
-  pub read : IsRead given input
+  pub read : IsInput given input
   pub text : List ℕ
-  pub last : State
+  pub last : RunState
   pub plays : Plays first_state (lines_in input) text last
   pub written : Appends old new text
 
 -- the lines before line n are commands, and what they print is written; line n is no command
 pub record Stops (given : Option (List ℕ)) (n : ℕ) (old new : Option (List ℕ)) : Type 0 where
   pub input : List ℕ
-  pub read : IsRead given input
+  pub read : IsInput given input
   pub before : List (List ℕ)
   pub line : List ℕ
-  pub behind : List (List ℕ)
-  pub parts : lines_in input ≡ before ++ line ∷ behind
+  pub after : List (List ℕ)
+  pub parts : lines_in input ≡ before ++ line ∷ after
   pub number : n ≡ length before + 1
   pub text : List ℕ
-  pub last : State
+  pub last : RunState
   pub plays : Plays first_state before text last
   pub refused : IsNoCommand last line
   pub written : Appends old new text
@@ -108,23 +109,30 @@ pub record SaysStop (given old new errors_old errors_new : Option (List ℕ)) : 
 -- some first lines are commands, and what they print is written
 pub record Halts (given old new : Option (List ℕ)) : Type 0 where
   pub input : List ℕ
-  pub read : IsRead given input
+  pub read : IsInput given input
   pub before : List (List ℕ)
-  pub behind : List (List ℕ)
-  pub parts : lines_in input ≡ before ++ behind
+  pub after : List (List ℕ)
+  pub parts : lines_in input ≡ before ++ after
   pub text : List ℕ
-  pub last : State
+  pub last : RunState
   pub plays : Plays first_state before text last
   pub written : Appends old new text
 
 -- the same, where a front of what they print is written
-pub record Breaks (given old new : Option (List ℕ)) : Type 0 where
+pub record BreaksOff (given old new : Option (List ℕ)) : Type 0 where
   pub input : List ℕ
-  pub read : IsRead given input
+  pub read : IsInput given input
   pub before : List (List ℕ)
-  pub behind : List (List ℕ)
-  pub parts : lines_in input ≡ before ++ behind
+  pub after : List (List ℕ)
+  pub parts : lines_in input ≡ before ++ after
   pub text : List ℕ
-  pub last : State
+  pub last : RunState
   pub plays : Plays first_state before text last
   pub written : WritesFront old new text
+
+-- A read or a write failed. Of what some first lines print a front is written, and nothing is said; or the run ended
+-- early, what its lines print is written, and of what is said of that a front.
+abbrev pub FailsRun : Option (List ℕ) → Option (List ℕ) → Option (List ℕ) → Option (List ℕ) → Option (List ℕ) → Type 0
+FailsRun given old new errors_old errors_new = (BreaksOff given old new × Appends errors_old errors_new [])
+    ⊎ (((n : ℕ) × Stops given n old new × WritesFront errors_old errors_new (no_command_text n))
+    ⊎ (Halts given old new × WritesFront errors_old errors_new no_memory_text))

@@ -1,11 +1,9 @@
--- What is fed to the upload of a seat: texts, by what they mean (`meaning_in` of gs_upload).
+-- What a feed does to the upload of a seat.
 use Rattle.std.specs.Prelude.{◌≡◌, ℕ, Bool, true, false, nat_eq, if◌then◌else◌, List, [], ◌∷◌, ◌++◌, MatchOption}
 use Rattle.std.specs.List.{slice_get}
 use Rattle.gs_model.specs.Triples.{RdfTriple}
 use Rattle.gs_model.specs.declared.refusals.Refusal.{Refusal}
 use Rattle.gs_model.specs.declared.refusals.Refusal.TheVariants.{BadSeat, WrongPhase}
-use Rattle.gs_machine.specs.Machines.{Begins}
-use Rattle.gs_body.specs.Bodies.{Meaning, Whole, triples_of}
 use Rattle.gs_event.specs.declared.events.Action.{Action}
 use Rattle.gs_event.specs.declared.events.Action.TheVariants.{Stage}
 use Rattle.gs_event.specs.declared.events.Event.{Event}
@@ -17,25 +15,10 @@ use Rattle.gs_event.specs.Views.{SeatView}
 use Rattle.gs_event.specs.Waste.{Shown}
 use Rattle.gs_event.specs.Steps.{Steps}
 use Rattle.gs_upload.specs.declared.languages.Language.{Language}
-use Rattle.gs_upload.specs.Languages.{Context, meaning_for}
-use Rattle.gs_upload.specs.Readings.{GivesComplete}
-use Rattle.gs_drill.specs.Languages.{first_base}
+use Rattle.gs_upload.specs.Languages.{TextContext}
+use Rattle.gs_feeding.specs.Languages.{first_base}
+use Rattle.gs_feeding.specs.Receiving.{Fed, Unfed, Receives}
 use Rattle.gs_drill.specs.Printing.{answer_text, fed_text}
-
--- What was fed to a seat: nothing; a text that is read so, with the triples that were given so far; a text of a
--- language that has a fault; or a whole text, of which all is given.
-pub data Fed : Type 0 where
-  Unfed : Fed
-  InPart : (c : Context) (x : List ℕ) (given : List RdfTriple) → Fed
-  Faulted : (l : Language) → Fed
-  Finished : (l : Language) → Fed
-
--- nothing was fed yet, or it is in this language: all texts of an upload are in the language of the first
-abbrev pub IsIn : Language → Fed → Type 0
-IsIn l Unfed = Unit {0}
-IsIn l (InPart c x given) = c.language ≡ l
-IsIn l (Faulted k) = k ≡ l
-IsIn l (Finished k) = k ≡ l
 
 -- what the store shows, and what was fed to each seat
 pub record Desk : Type 0 where
@@ -77,40 +60,16 @@ abbrev pub Stages : Desk → ℕ → List RdfTriple → Answer → Desk → Type
 Stages d s [] a e = (a ≡ Staged) × (e ≡ d)
 Stages d s (t ∷ ts) a e = (action : Action) × IsStage (t ∷ ts) action × Answers d (At s action) a e
 
--- The triples that a text gives so far, by what texts mean: with them its triples begin, however the text goes on; and
--- they are just those of its complete statements.
-pub record Gives (meaning_of : List ℕ → Meaning) (x : List ℕ) (given : List RdfTriple) : Type 0 where
-  pub begun : (z : List ℕ) → Begins (triples_of (meaning_of (x ++ z)).0) given
-  pub complete : GivesComplete meaning_of x given
-
--- a text without a meaning
-abbrev pub IsFaulty : (List ℕ → Meaning) → List ℕ → Type 0
-IsFaulty meaning_of x = ¬ ((meaning_of x).1 ≡ Whole)
-
--- The text x, which gave ts, goes on by y and gives some triples more; or it has a fault, however it goes on.
-abbrev pub GoesOn : Context → List ℕ → List RdfTriple → List ℕ → List RdfTriple → Fed → Type 0
-GoesOn c x ts y given (InPart d z all) = (d ≡ c) × (z ≡ x ++ y) × (all ≡ ts ++ given) × Gives (meaning_for c) z all
-GoesOn c x ts y given (Faulted l) = (l ≡ c.language) × (given ≡ []) × ((z : List ℕ) → IsFaulty (meaning_for c) (x ++ y ++ z))
-GoesOn c x ts y given f = ⊥
-
--- What y gives to an upload, whose first text is read as c says. After a fault, or after the end of the text, it is
--- dropped.
-abbrev pub Accepts : Context → Fed → List ℕ → List RdfTriple → Fed → Type 0
-Accepts c Unfed y given f = GoesOn c [] [] y given f
-Accepts c (InPart d x ts) y given f = GoesOn d x ts y given f
-Accepts c (Faulted l) y given f = (given ≡ []) × (f ≡ Faulted l)
-Accepts c (Finished l) y given f = (given ≡ []) × (f ≡ Finished l)
-
 -- a refusal stands in the place of `fed`
 abbrev pub feed_text : Answer → List ℕ
 feed_text Staged = fed_text
 feed_text a = answer_text a
 
--- y is fed to an upload, whose first text is read as c says, and what it gives is staged
-pub record FeedsUpload (c : Context) (d : Desk) (s : ℕ) (y text : List ℕ) (e : Desk) : Type 0 where
+-- y is fed in pieces of n bytes to an upload, whose first text is read as c says, and what it gives is staged
+pub record FeedsUpload (n : ℕ) (c : TextContext) (d : Desk) (s : ℕ) (y text : List ℕ) (e : Desk) : Type 0 where
   pub given : List RdfTriple
   pub fed : Fed
-  pub accepts : Accepts c (d.fed s) y given fed
+  pub receives : Receives n c (d.fed s) y given fed
   pub answer : Answer
   pub staged : Stages (desk_with d s fed) s given answer e
   pub told : text ≡ feed_text answer
@@ -120,11 +79,11 @@ abbrev pub RefusesFeed : Refusal → Desk → List ℕ → Desk → Type 0
 RefusesFeed refusal d text e = (text ≡ answer_text (Refused refusal)) × (e ≡ d)
 
 -- the same by what the seat is doing
-abbrev pub FeedsSeat : SeatView → Desk → ℕ → Language → List ℕ → List ℕ → Desk → Type 0
-FeedsSeat Idle d s l y text e = RefusesFeed WrongPhase d text e
-FeedsSeat (Writing k r g) d s l y text e = FeedsUpload (record { language = l; base = first_base k; request = r }) d s y text e
-FeedsSeat (Reading left) d s l y text e = RefusesFeed WrongPhase d text e
+abbrev pub FeedsSeat : SeatView → ℕ → Desk → ℕ → Language → List ℕ → List ℕ → Desk → Type 0
+FeedsSeat Idle n d s l y text e = RefusesFeed WrongPhase d text e
+FeedsSeat (Writing k r g) n d s l y text e = FeedsUpload n (record { language = l; base = first_base k; request = r }) d s y text e
+FeedsSeat (Reading left) n d s l y text e = RefusesFeed WrongPhase d text e
 
--- y, in language l, is fed to seat s, which prints the text
-abbrev pub Feeds : Desk → ℕ → Language → List ℕ → List ℕ → Desk → Type 0
-Feeds d s l y text e = MatchOption (slice_get d.shown.view.seats s) (RefusesFeed BadSeat d text e) (λ p. FeedsSeat p d s l y text e)
+-- y, in language l, is fed in pieces of n bytes to seat s, which prints the text
+abbrev pub DoesFeed : ℕ → Desk → ℕ → Language → List ℕ → List ℕ → Desk → Type 0
+DoesFeed n d s l y text e = MatchOption (slice_get d.shown.view.seats s) (RefusesFeed BadSeat d text e) (λ p. FeedsSeat p n d s l y text e)

@@ -2,21 +2,15 @@
 use Rattle.std.specs.Prelude.{ℕ, List, Option, None, Some, if◌then◌else◌}
 use Rattle.std.specs.List.{slice_set}
 use Rattle.gs_event.specs.declared.events.Action.{Action}
-use Rattle.gs_event.specs.declared.events.Action.TheVariants.{Open}
 use Rattle.gs_event.specs.declared.events.Event.{Event}
 use Rattle.gs_event.specs.declared.events.Event.TheVariants.{Seat as At, Reclaim}
 use Rattle.gs_event.specs.declared.answers.Answer.{Answer}
 use Rattle.gs_event.specs.declared.answers.Answer.TheVariants.{Opened, Status, Cancelled}
-use Rattle.gs_drill.specs.declared.texts.SeatText.{SeatText}
-use Rattle.gs_drill.specs.declared.texts.SeatText.TheVariants.{Unfed}
-use Rattle.gs_drill.specs.declared.openings.Opening.{Opening}
-use Rattle.gs_drill.specs.Languages.{target_of}
+use Rattle.gs_feeding.specs.declared.texts.SeatText.{SeatText}
+use Rattle.gs_feeding.specs.declared.texts.SeatText.TheVariants.{Unfed}
+use Rattle.gs_feeding.specs.declared.openings.Opening.{Opening}
+use Rattle.gs_feeding.specs.SeatTexts.{opened_by}
 use Rattle.gs_drill.specs.Feeds.{is_boundary}
-
--- what an action opened, by the number of its request
-abbrev pub opened_by : Action → ℕ → Opening
-opened_by (Open k) r = record { request = r; target = target_of k }
-opened_by action r = record { request = r; target = None }
 
 -- the openings of all seats after an answer to seat s
 abbrev pub openings_reset : List (Option Opening) → ℕ → Action → Answer → List (Option Opening)

@@ -1,9 +1,6 @@
 -- Read in this order: what a line says, what an answer prints, what a feed and a commit do, and what a run of
 -- lines writes.
-pub mod Found
-pub mod Commands
 pub mod Printing
-pub mod Languages
 pub mod Feeds
 pub mod Commits
 pub mod Drills

@@ -1,6 +1,7 @@
 -- What the answers of a store print.
 use Rattle.std.specs.Prelude.{◌≡◌, ℕ, List, [], ◌∷◌, ◌++◌, if◌then◌else◌, codes, Option, None, Some, Result, MatchResult}
 use Rattle.std.specs.Io.KnownBytes.{Appends}
+use Rattle.gs_model.specs.Characters.{line_feed, space}
 use Rattle.gs_model.specs.Terms.{numeral}
 use Rattle.gs_model.specs.Refusals.{name_of}
 use Rattle.gs_event.specs.declared.answers.Answer.{Answer}
@@ -11,26 +12,26 @@ use Rattle.gs_drill.specs.declared.printing.Reply.TheVariants.{Answered, Taken, 
 -- what stands after a status: a space and the name of the graph that was made up, if one was
 abbrev pub location_text : Option (List ℕ) → List ℕ
 location_text None = []
-location_text (Some name) = 32 ∷ name
+location_text (Some name) = space ∷ name
 
 -- one line; the lines of a piece, and then a line
 abbrev pub answer_text : Answer → List ℕ
-answer_text (Opened r) = codes "opened " ++ numeral r ++ 10 ∷ []
-answer_text Staged = codes "staged" ++ 10 ∷ []
-answer_text (Status s name) = numeral s ++ location_text name ++ 10 ∷ []
-answer_text (Pinned s) = numeral s ++ 10 ∷ []
-answer_text (Lines lines is_end) = lines.items ++ (if is_end then codes "end" else codes "more") ++ 10 ∷ []
-answer_text Cancelled = codes "cancelled" ++ 10 ∷ []
-answer_text (Reclaimed freed left) = codes "reclaimed " ++ numeral freed ++ (if left then codes " more" else codes " done") ++ 10 ∷ []
-answer_text (Refused refusal) = codes "refused " ++ name_of refusal ++ 10 ∷ []
+answer_text (Opened r) = codes "opened " ++ numeral r ++ line_feed ∷ []
+answer_text Staged = codes "staged" ++ line_feed ∷ []
+answer_text (Status s name) = numeral s ++ location_text name ++ line_feed ∷ []
+answer_text (Pinned s) = numeral s ++ line_feed ∷ []
+answer_text (Lines lines is_end) = lines.items ++ (if is_end then codes "end" else codes "more") ++ line_feed ∷ []
+answer_text Cancelled = codes "cancelled" ++ line_feed ∷ []
+answer_text (Reclaimed freed left) = codes "reclaimed " ++ numeral freed ++ (if left then codes " more" else codes " done") ++ line_feed ∷ []
+answer_text (Refused refusal) = codes "refused " ++ name_of refusal ++ line_feed ∷ []
 
 -- what a feed prints
 abbrev pub fed_text : List ℕ
-fed_text = codes "fed" ++ 10 ∷ []
+fed_text = codes "fed" ++ line_feed ∷ []
 
 -- what the commit of a text with a fault prints
 abbrev pub fault_text : List ℕ
-fault_text = codes "fault 400" ++ 10 ∷ []
+fault_text = codes "fault 400" ++ line_feed ∷ []
 
 -- what a line prints
 abbrev pub reply_text : Reply → List ℕ
@@ -40,15 +41,15 @@ reply_text Fault = fault_text
 
 -- the nodes in use, and the triples of all graphs
 abbrev pub counts_text : ℕ → ℕ → List ℕ
-counts_text nodes triples = codes "nodes " ++ numeral nodes ++ (codes " triples " ++ numeral triples) ++ 10 ∷ []
+counts_text nodes triples = codes "nodes " ++ numeral nodes ++ (codes " triples " ++ numeral triples) ++ line_feed ∷ []
 
 -- what is said of a line that is no command
 abbrev pub no_command_text : ℕ → List ℕ
-no_command_text line = codes "gsdrill: line " ++ numeral line ++ codes " is no command" ++ 10 ∷ []
+no_command_text line = codes "gsdrill: line " ++ numeral line ++ codes " is no command" ++ line_feed ∷ []
 
 -- what is said of want of memory
 abbrev pub no_memory_text : List ℕ
-no_memory_text = codes "gsdrill: no memory" ++ 10 ∷ []
+no_memory_text = codes "gsdrill: no memory" ++ line_feed ∷ []
 
 -- a front of the text is written
 pub record WritesFront (old new : Option (List ℕ)) (text : List ℕ) : Type 0 where

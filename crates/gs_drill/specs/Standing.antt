@@ -1,76 +1,39 @@
 -- Where the code stands in a run: the store, and for each seat what opened its upload and the reader of its text.
-use Rattle.std.specs.Prelude.{◌≡◌, ℕ, Bool, true, List, [], ◌++◌, length, map, is_some, if◌then◌else◌, Option, None, Some, MatchOption}
+use Rattle.std.specs.Prelude.{◌≡◌, ◌<◌, ℕ, Bool, List, length, map, Option, None, Some, MatchOption}
 use Rattle.std.specs.List.{slice_get}
 use Rattle.gs_model.specs.Triples.{RdfTriple}
-use Rattle.gs_body.specs.Bodies.{Meaning}
 use Rattle.gs_upload.specs.declared.languages.Language.{Language}
-use Rattle.gs_upload.specs.declared.readers.TextReader.{TextReader}
-use Rattle.gs_upload.specs.declared.readings.Reading.{Reading}
-use Rattle.gs_upload.specs.Languages.{Context, meaning_for}
-use Rattle.gs_upload.specs.Readings.{ArePieces, FeedsEach, MeansAll, Feeds as FeedsReading}
-use Rattle.gs_upload.specs.Readers.{meaning_of_text, LeadsText, is_closed_text, IsFedText}
-use Rattle.gs_event.specs.Phases.{Idle, Writing, Reading as ReadingPhase}
+use Rattle.gs_event.specs.Phases.{Idle, Writing, Reading}
 use Rattle.gs_event.specs.Views.{SeatView}
 use Rattle.gs_event.specs.Waste.{Shown}
 use Rattle.gs_event.specs.Histories.{Start}
-use Rattle.gs_drill.specs.declared.texts.SeatText.{SeatText}
-use Rattle.gs_drill.specs.declared.texts.SeatText.TheVariants as seat_text
-use Rattle.gs_drill.specs.declared.openings.Opening.{Opening}
+use Rattle.gs_feeding.specs.declared.texts.SeatText.{SeatText}
+use Rattle.gs_feeding.specs.declared.openings.Opening.{Opening}
+use Rattle.gs_feeding.specs.Languages.{target_name}
+use Rattle.gs_feeding.specs.Receiving.{Fed, Unfed, Receives, Closes}
+use Rattle.gs_feeding.specs.SeatTexts.{WasFed, first_context}
 use Rattle.gs_drill.specs.declared.uploads.Uploads.{Uploads}
-use Rattle.gs_drill.specs.Languages.{base_under, target_of}
-use Rattle.gs_drill.specs.Feeds.{Fed, Unfed, InPart, Faulted, Finished, Desk, IsFaulty}
-use Rattle.gs_drill.specs.Drills.{State, new_state}
+use Rattle.gs_drill.specs.Feeds.{Desk, with_fed}
+use Rattle.gs_drill.specs.Drills.{RunState, new_state}
 
 -- what opened the upload that the seat has
 abbrev pub opening_of : SeatView → Option Opening
 opening_of Idle = None
-opening_of (Writing k r g) = Some (record { request = r; target = target_of k })
-opening_of (ReadingPhase left) = None
+opening_of (Writing k r g) = Some (record { request = r; target = target_name k })
+opening_of (Reading left) = None
 
--- how the first text of an upload is read
-abbrev pub context_of : Language → Opening → Context
-context_of l o = record { language = l; base = base_under o.target; request = o.request }
-
--- Some triples came of a text that was fed in pieces of so many bytes; where it has a fault, all are dropped.
-pub record FedInPieces (old new : Reading TextReader) (text : List ℕ) (cut : ℕ) (given : List RdfTriple) : Type 0 where
-  pub triples : List RdfTriple
-  pub pieces : List (List ℕ)
-  pub cuts : ArePieces cut text pieces
-  pub each : FeedsEach meaning_of_text LeadsText is_closed_text old new pieces [] triples
-  pub feeds : FeedsReading meaning_of_text LeadsText is_closed_text old new text [] triples
-  pub kept : given ≡ (if is_some new.fault then [] else triples)
-
--- a text ended with all that it means, or with a fault
-abbrev pub Ended : Language → Reading TextReader → SeatText → Option (List RdfTriple) → Type 0
-Ended l k t None = (t ≡ seat_text.Faulted l)
-    × ((means : List ℕ → Meaning) (x : List ℕ) (ts : List RdfTriple) → IsFedText k means x ts → IsFaulty means x)
-Ended l k t (Some given) = (t ≡ seat_text.Finished l) × (k.fault ≡ None)
-    × ((means : List ℕ → Meaning) (x : List ℕ) (ts : List RdfTriple) → IsFedText k means x ts → MeansAll (means x) (ts ++ given))
-
--- a text was fed, or more than one
-abbrev pub IsBegun : Fed → Type 0
-IsBegun Unfed = ⊥
-IsBegun f = Unit {0}
-
--- the language of what was fed to a seat, if anything was
-abbrev pub language_of : SeatText → Option Language
-language_of seat_text.Unfed = None
-language_of (seat_text.Fed l k) = Some l
-language_of (seat_text.Faulted l) = Some l
-language_of (seat_text.Finished l) = Some l
-
--- what was fed to a seat
-abbrev pub IsFed : SeatText → Fed → Type 0
-IsFed seat_text.Unfed Unfed = Unit {0}
-IsFed (seat_text.Fed l k) (InPart c x ts) = (l ≡ c.language) × (k.fault ≡ None) × IsFedText k (meaning_for c) x ts
-IsFed (seat_text.Fed l k) (Faulted m) = (l ≡ m) × (is_some k.fault ≡ true)
-IsFed (seat_text.Faulted k) (Faulted l) = k ≡ l
-IsFed (seat_text.Finished k) (Finished l) = k ≡ l
-IsFed b f = ⊥
-
--- the same of each seat; nothing was fed to a seat that is not there
+-- what was fed to each seat; nothing was fed to a seat that is not there
 abbrev pub AreFed : List SeatText → (ℕ → Fed) → Type 0
-AreFed bs fed = (s : ℕ) → MatchOption (slice_get bs s) (fed s ≡ Unfed) (λ b. IsFed b (fed s))
+AreFed bs fed = (s : ℕ) → MatchOption (slice_get bs s) (fed s ≡ Unfed) (λ b. WasFed b (fed s))
+
+-- y is fed to the text of seat s, which has an upload, in pieces of n bytes
+abbrev pub FeedsAt : ℕ → Language → ℕ → List ℕ → List (Option Opening) → List SeatText → List SeatText → List RdfTriple → Type 0
+FeedsAt n l s y openings old new given = (o : Opening) → slice_get openings s ≡ Some (Some o) → (fed : ℕ → Fed) → AreFed old fed
+    → s < length old → (f : Fed) × AreFed new (with_fed fed s f) × Receives n (first_context l o) (fed s) y given f
+
+-- the text of seat s ends
+abbrev pub EndsAt : ℕ → List SeatText → List SeatText → Option (List RdfTriple) → Type 0
+EndsAt s old new given = (fed : ℕ → Fed) → AreFed old fed → (f : Fed) × AreFed new (with_fed fed s f) × Closes (fed s) given f
 
 -- what was fed to the seats of a store that shows this
 pub record Standing (shown : Shown) (u : Uploads) : Type 0 where
@@ -83,11 +46,15 @@ pub record Standing (shown : Shown) (u : Uploads) : Type 0 where
 abbrev pub desk_of : {shown : Shown} {u : Uploads} → Standing shown u → Desk
 desk_of {shown} st = record { shown = shown; fed = st.fed }
 
+-- wherever the code stands at first, it stands in the end where this leads
+abbrev pub MovesDesk : Shown → Uploads → Shown → Uploads → (Desk → Desk → Type 0) → Type 0
+MovesDesk old u new w Leads = (st : Standing old u) → (en : Standing new w) × Leads (desk_of st) (desk_of en)
+
 -- the state of the run with that desk and the code's cut, for this `begun`
-abbrev pub state_of : Bool → {shown : Shown} {u : Uploads} → Standing shown u → State
-state_of begun {shown} {u} st = record { begun = begun; cut = u.cut; desk = record { shown = shown; fed = st.fed } }
+abbrev pub run_state : Bool → {shown : Shown} {u : Uploads} → Standing shown u → RunState
+run_state begun {shown} {u} st = record { begun = begun; cut = u.cut; desk = record { shown = shown; fed = st.fed } }
 
 -- a store begins, and nothing was fed
-pub record Begins (shown : Shown) (u : Uploads) (start : Start) : Type 0 where
+pub record BeginsStore (shown : Shown) (u : Uploads) (start : Start) : Type 0 where
   pub standing : Standing shown u
-  pub is : (begun : Bool) → state_of begun standing ≡ new_state begun start
+  pub is : (begun : Bool) → run_state begun standing ≡ new_state begun start

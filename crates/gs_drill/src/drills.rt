@@ -1,23 +1,22 @@
 //! The run of a schedule: each line in turn, and what it prints.
-ghost use Rattle.std.specs.Prelude.{◌≡◌, ◌≢◌, ◌≤◌, ℕ, IfOk, IfErr, MatchOption, Some, []};
-ghost use Rattle.std.specs.Io.KnownBytes.{Appends};
+ghost use Rattle.std.specs.Prelude.{◌≡◌, ◌≢◌, ◌≤◌, ℕ, IfOk, IfErr, OnOk, MatchOption, Some, [], true};
+ghost use Rattle.std.specs.Io.KnownBytes.{Appends, IsAtEnd};
 ghost use Rattle.gs_model.specs.Limits.{last_number, max_seats};
 ghost use Rattle.gs_event.specs.Datasets.{triples_in};
 ghost use Rattle.gs_event.specs.Waste.{nodes_in};
-ghost use Rattle.gs_drill.specs.Printing.{reply_text, counts_text, no_command_text, no_memory_text};
-ghost use Rattle.gs_drill.specs.Drills.{drill_start, new_store as new_store_of, Finishes, SaysStop, Halts, Breaks};
-ghost use Rattle.gs_drill.specs.Taking.{IsInRange, Prints, Replies, DoesCommand, TakesLine, Ends};
-ghost use Rattle.gs_drill.specs.Feeds.{Feeds};
+ghost use Rattle.gs_drill.specs.Printing.{Writes, WritesFront, reply_text, counts_text, no_command_text, no_memory_text};
+ghost use Rattle.gs_drill.specs.Drills.{drill_start, new_store as new_store_of, FinishesRun, SaysStop, Halts, BreaksOff, FailsRun};
+ghost use Rattle.gs_drill.specs.Taking.{IsInRange, Prints, RepliesText, RepliesFrom, DoesCommand, TakesLine, EndsRun, stop_text};
+ghost use Rattle.gs_drill.specs.Feeds.{DoesFeed};
 ghost use Rattle.gs_drill.specs.Commits.{Asks, DoesEvent};
-ghost use Rattle.gs_drill.specs.Standing.{Standing, desk_of, state_of, Begins};
+ghost use Rattle.gs_drill.specs.Standing.{Standing, desk_of, run_state, BeginsStore};
 
-use crate::commands::{Command, read_command};
 use crate::feeds::{answer, commit, feed};
 use crate::printing::{
     Reply, print_answer, print_counts, print_no_command, print_no_memory, print_reply,
 };
 use crate::uploads::Uploads;
-use crate::words::split;
+use gs_commands::{Command, read_command, split};
 use gs_core::Store;
 use gs_event::{Action, Event};
 use gs_upload::Language;
@@ -59,7 +58,7 @@ fn begin(alloc: Global, seats: u16, commit: u64, request: u64) -> Result<(Store,
     requires few { seats ≤ max_seats }
     requires last_commit { commit ≤ last_number }
     requires last_request { request ≤ last_number }
-    ensures begins { IfOk result (λ made. Begins made.0 made.1 (drill_start seats commit request)) }
+    ensures begins { IfOk result (λ made. BeginsStore made.0 made.1 (drill_start seats commit request)) }
     ensures refused { IfErr result (λ stop. stop ≡ Stop.NoMemory) }
 {
     let store = new_store(alloc, seats, commit, request)?;
@@ -76,7 +75,9 @@ fn ask<W: Write>(
     event: Event,
     out: &mut W,
 ) -> io::Result<()>
-    ensures does { (st : Standing store.old uploads.old) → Prints (λ text. (en : Standing store.new uploads.new) × Asks (desk_of st) event text (desk_of en)) (W.contents out.old) (W.contents out.new) result }
+    ensures does { (st : Standing store.old uploads.old)
+        → Prints (λ text. (en : Standing store.new uploads.new) × Asks (desk_of st) event text (desk_of en))
+        (W.contents out.old) (W.contents out.new) result }
     ensures cut { uploads.new.cut ≡ uploads.old.cut }
 {
     let answer = answer(store, uploads, event);
@@ -85,7 +86,7 @@ fn ask<W: Write>(
 
 /// Prints a reply.
 fn tell<W: Write>(reply: &Reply, out: &mut W) -> Result<(), Stop>
-    ensures { Replies (λ (d : Unit {0}). d) (λ text d. text ≡ reply_text reply.now) (W.contents out.old) (W.contents out.new) result }
+    ensures { RepliesText (reply_text reply.now) (W.contents out.old) (W.contents out.new) result }
 {
     match print_reply(out, reply) {
         Ok(()) => Ok(()),
@@ -95,7 +96,8 @@ fn tell<W: Write>(reply: &Reply, out: &mut W) -> Result<(), Stop>
 
 /// The seat that commits, where an event is a commit.
 fn committing(event: &Event) -> Option<u16>
-    ensures { MatchOption result ((s : ℕ) → event.now ≢ Event.Seat s Action.Commit) (λ s. event.now ≡ Event.Seat s Action.Commit) }
+    ensures { MatchOption result ((s : ℕ) → event.now ≢ Event.Seat s Action.Commit)
+        (λ s. event.now ≡ Event.Seat s Action.Commit) }
 {
     match event {
         Event::Seat(seat, Action::Commit) => Some(*seat),
@@ -111,7 +113,8 @@ fn do_event<W: Write>(
     event: Event,
     out: &mut W,
 ) -> Result<(), Stop>
-    ensures does { (st : Standing store.old uploads.old) → Replies {T = Standing store.new uploads.new} desk_of (DoesEvent (desk_of st) event) (W.contents out.old) (W.contents out.new) result }
+    ensures does { RepliesFrom store.old uploads.old store.new uploads.new (λ d. DoesEvent d event)
+        (W.contents out.old) (W.contents out.new) result }
     ensures cut { uploads.new.cut ≡ uploads.old.cut }
 {
     match committing(&event) {
@@ -136,7 +139,9 @@ fn do_feed<W: Write>(
     text: &[u8],
     out: &mut W,
 ) -> Result<(), Stop>
-    ensures does { (st : Standing store.old uploads.old) → Replies {T = Standing store.new uploads.new} desk_of (Feeds (desk_of st) seat language text.now) (W.contents out.old) (W.contents out.new) result }
+    ensures does { RepliesFrom store.old uploads.old store.new uploads.new
+        (λ d. DoesFeed uploads.old.cut d seat language text.now)
+        (W.contents out.old) (W.contents out.new) result }
     ensures cut { uploads.new.cut ≡ uploads.old.cut }
 {
     match feed(alloc, store, uploads, seat, language, text) {
@@ -147,7 +152,8 @@ fn do_feed<W: Write>(
 
 /// Prints the two counts.
 fn do_count<W: Write>(store: &Store, out: &mut W) -> Result<(), Stop>
-    ensures { Replies (λ (d : Unit {0}). d) (λ text d. text ≡ counts_text (nodes_in store.now) (triples_in store.now.view.totals.dataset)) (W.contents out.old) (W.contents out.new) result }
+    ensures { RepliesText (counts_text (nodes_in store.now) (triples_in store.now.view.totals.dataset))
+        (W.contents out.old) (W.contents out.new) result }
 {
     match print_counts(out, store.nodes_in_use(), store.triples_now()) {
         Ok(()) => Ok(()),
@@ -165,7 +171,9 @@ fn do_command<W: Write>(
     out: &mut W,
 ) -> Result<(), Stop>
     requires { IsInRange command }
-    ensures { (st : Standing store.old uploads.old) → DoesCommand (state_of begun.old st) command {T = Standing store.new uploads.new} (state_of begun.new) (W.contents out.old) (W.contents out.new) result }
+    ensures { (st : Standing store.old uploads.old)
+        → DoesCommand (run_state begun.old st) command {T = Standing store.new uploads.new} (run_state begun.new)
+        (W.contents out.old) (W.contents out.new) result }
 {
     match command {
         Command::Nothing => Ok(()),
@@ -211,7 +219,9 @@ fn take_line<W: Write>(
     line: &[u8],
     out: &mut W,
 ) -> Result<(), Stop>
-    ensures { (st : Standing store.old uploads.old) → TakesLine (state_of begun.old st) line.now {T = Standing store.new uploads.new} (state_of begun.new) (W.contents out.old) (W.contents out.new) result }
+    ensures { (st : Standing store.old uploads.old)
+        → TakesLine (run_state begun.old st) line.now {T = Standing store.new uploads.new} (run_state begun.new)
+        (W.contents out.old) (W.contents out.new) result }
 {
     match read_command(alloc, line) {
         Ok(Some(command)) => do_command(alloc, begun, store, uploads, command, out),
@@ -222,7 +232,7 @@ fn take_line<W: Write>(
 
 /// Takes each line of an input. An early end has the number of its line.
 fn play<W: Write>(alloc: Global, input: &[u8], out: &mut W) -> Result<(), (Stop, u64)>
-    ensures { Ends (Some input.now) (W.contents out.old) (W.contents out.new) result }
+    ensures { EndsRun (Some input.now) (W.contents out.old) (W.contents out.new) result }
 {
     let (mut store, mut uploads) = match begin(alloc, 4, 0, 0) {
         Ok(made) => made,
@@ -232,12 +242,12 @@ fn play<W: Write>(alloc: Global, input: &[u8], out: &mut W) -> Result<(), (Stop,
     let mut number = 0u64;
     let mut rest = input;
     while !rest.is_empty() {
-        let (line, behind) = split(rest, b'\n');
+        let (line, after) = split(rest, b'\n');
         number += 1;
         if let Err(stop) = take_line(alloc, &mut begun, &mut store, &mut uploads, line, out) {
             return Err((stop, number));
         }
-        rest = behind;
+        rest = after;
     }
     Ok(())
 }
@@ -248,7 +258,8 @@ fn read_and_play<R: Read, W: Write>(
     reader: &mut R,
     out: &mut W,
 ) -> Result<(), (Stop, u64)>
-    ensures { Ends (R.remaining reader.old) (W.contents out.old) (W.contents out.new) result }
+    ensures ends { EndsRun (R.remaining reader.old) (W.contents out.old) (W.contents out.new) result }
+    ensures at_end { OnOk result (IsAtEnd (R.remaining reader.new)) }
 {
     let mut input = Vec::new(alloc);
     match reader.read_to_end(&mut input) {
@@ -263,36 +274,74 @@ fn read_and_play<R: Read, W: Write>(
     }
 }
 
-/// Says why a run ended early, and gives its status.
-fn report<E: Write>(err: &mut E, stop: Stop, line: u64) -> u8
-    ensures no_command { result ≡ 2 → (stop ≡ Stop.NoCommand) × Appends (E.contents err.old) (E.contents err.new) (no_command_text line) }
-    ensures no_memory { result ≡ 3 → (stop ≡ Stop.NoMemory) × Appends (E.contents err.old) (E.contents err.new) no_memory_text }
-    ensures status { (1 ≤ result) × (result ≤ 3) }
+/// Says why a run ended early. Of a failed read or write nothing is said.
+fn say<E: Write>(err: &mut E, stop: &Stop, line: u64) -> io::Result<()>
+    ensures { Writes (E.contents err.old) (E.contents err.new) (stop_text stop.now line) result }
 {
-    let (outcome, status) = match stop {
-        Stop::NoCommand => (print_no_command(err, line), 2),
-        Stop::NoMemory => (print_no_memory(err), 3),
-        Stop::Failed => return 1,
-    };
-    match outcome {
-        Ok(()) => status,
-        Err(_) => 1,
+    match stop {
+        Stop::NoCommand => print_no_command(err, line),
+        Stop::NoMemory => print_no_memory(err),
+        Stop::Failed => Ok(()),
     }
 }
 
-/// Runs a schedule: reads it whole, takes its lines in order and writes what they print. The
-/// status is 0 where each line is a command; 2 where one is not, which is then said on `err`; 3
-/// for want of memory outside an event, which is said too; and 1 where a read or a write failed.
+/// Says it, and flushes what was said: whether all of it was written.
+fn say_whole<E: Write>(err: &mut E, stop: &Stop, line: u64) -> bool
+    ensures front { WritesFront (E.contents err.old) (E.contents err.new) (stop_text stop.now line) }
+    ensures whole { result ≡ true
+        → Appends (E.contents err.old) (E.contents err.new) (stop_text stop.now line) }
+{
+    let said = say(err, stop, line);
+    let flushed = err.flush();
+    match (said, flushed) {
+        (Ok(()), Ok(())) => true,
+        _ => false,
+    }
+}
+
+/// Says why a run ended early, and gives its status.
+fn report<E: Write>(err: &mut E, stop: Stop, line: u64) -> u8
+    ensures no_command { result ≡ 2 → (stop ≡ Stop.NoCommand)
+        × Appends (E.contents err.old) (E.contents err.new) (no_command_text line) }
+    ensures no_memory { result ≡ 3 → (stop ≡ Stop.NoMemory)
+        × Appends (E.contents err.old) (E.contents err.new) no_memory_text }
+    ensures failed { result ≡ 1
+        → WritesFront (E.contents err.old) (E.contents err.new) (stop_text stop line) }
+    ensures status { (1 ≤ result) × (result ≤ 3) }
+{
+    if !say_whole(err, &stop, line) {
+        return 1;
+    }
+    match stop {
+        Stop::NoCommand => 2,
+        Stop::NoMemory => 3,
+        Stop::Failed => 1,
+    }
+}
+
+/// Runs a schedule: reads it whole, takes its lines in order and writes what they print. What was
+/// written is flushed before a status is given. The status is 0 at the end of the input, where each
+/// line is a command; 2 where one is not, which is then said on `err`; 3 for want of memory outside
+/// an event, which is said too; and 1 where a read, a write or a flush failed, of `err` too.
 pub fn drill<R: Read, W: Write, E: Write>(
     alloc: Global,
     reader: &mut R,
     out: &mut W,
     err: &mut E,
 ) -> u8
-    ensures front { Breaks (R.remaining reader.old) (W.contents out.old) (W.contents out.new) }
-    ensures finished { result ≡ 0 → Finishes (R.remaining reader.old) (W.contents out.old) (W.contents out.new) × Appends (E.contents err.old) (E.contents err.new) [] }
-    ensures no_command { result ≡ 2 → SaysStop (R.remaining reader.old) (W.contents out.old) (W.contents out.new) (E.contents err.old) (E.contents err.new) }
-    ensures no_memory { result ≡ 3 → Halts (R.remaining reader.old) (W.contents out.old) (W.contents out.new) × Appends (E.contents err.old) (E.contents err.new) no_memory_text }
+    ensures front { BreaksOff (R.remaining reader.old) (W.contents out.old) (W.contents out.new) }
+    ensures finished { result ≡ 0
+        → FinishesRun (R.remaining reader.old) (W.contents out.old) (W.contents out.new)
+        × Appends (E.contents err.old) (E.contents err.new) [] }
+    ensures at_end { result ≡ 0 → IsAtEnd (R.remaining reader.new) }
+    ensures failed { result ≡ 1 → FailsRun (R.remaining reader.old) (W.contents out.old) (W.contents out.new)
+        (E.contents err.old) (E.contents err.new) }
+    ensures no_command { result ≡ 2
+        → SaysStop (R.remaining reader.old) (W.contents out.old) (W.contents out.new)
+        (E.contents err.old) (E.contents err.new) }
+    ensures no_memory { result ≡ 3
+        → Halts (R.remaining reader.old) (W.contents out.old) (W.contents out.new)
+        × Appends (E.contents err.old) (E.contents err.new) no_memory_text }
     ensures status { result ≤ 3 }
 {
     let ended = read_and_play(alloc, reader, out);
@@ -301,38 +350,5 @@ pub fn drill<R: Read, W: Write, E: Write>(
         (_, Err(_)) => 1,
         (Ok(()), Ok(())) => 0,
         (Err((stop, line)), Ok(())) => report(err, stop, line),
-    }
-}
-
-#[cfg(test)]
-mod tests {
-    use super::*;
-    use std::test::Fail;
-
-    #[test]
-    fn a_schedule_prints_its_answers(rt: HostRuntime) -> Result<(), Fail> {
-        let mut input: &[u8] = b"0 open put default\n0 commit\n0 pin default\n0 piece 1";
-        let mut out = Vec::new(rt.alloc());
-        let mut err = Vec::new(rt.alloc());
-        let status = drill(rt.alloc(), &mut input, &mut out, &mut err);
-        assert_eq!(rt; status, 0);
-        assert_eq!(rt; out.as_slice(), b"opened 1\n204\n200\nend\n".as_slice());
-        assert!(rt; err.is_empty());
-        Ok(())
-    }
-
-    #[test]
-    fn a_bad_line_stops_the_run(rt: HostRuntime) -> Result<(), Fail> {
-        let mut input: &[u8] = b"# first\n0 commit\n0 destroy default\n";
-        let mut out = Vec::new(rt.alloc());
-        let mut err = Vec::new(rt.alloc());
-        let status = drill(rt.alloc(), &mut input, &mut out, &mut err);
-        assert_eq!(rt; status, 2);
-        assert_eq!(rt; out.as_slice(), b"refused WrongPhase\n".as_slice());
-        assert_eq!(rt;
-            err.as_slice(),
-            b"gsdrill: line 3 is no command\n".as_slice()
-        );
-        Ok(())
     }
 }

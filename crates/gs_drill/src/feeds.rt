@@ -1,11 +1,12 @@
 //! Events, feeds and commits: what they ask the store, and what they print.
 ghost use Rattle.std.specs.Prelude.{◌≡◌, Some, IfOk};
-ghost use Rattle.gs_drill.specs.declared.openings.Opening.{Opening as AnOpening};
+ghost use Rattle.gs_feeding.specs.declared.openings.Opening.{Opening as AnOpening};
 ghost use Rattle.std.specs.List.{slice_get};
 ghost use Rattle.gs_drill.specs.Printing.{reply_text};
-ghost use Rattle.gs_drill.specs.Feeds.{Answers, Stages, Feeds, FeedsUpload};
+ghost use Rattle.gs_drill.specs.Feeds.{Answers, Stages, DoesFeed, FeedsUpload};
 ghost use Rattle.gs_drill.specs.Commits.{Commits, Asks, GivesUp, Completes};
-ghost use Rattle.gs_drill.specs.Standing.{Standing, desk_of, context_of};
+ghost use Rattle.gs_drill.specs.Standing.{MovesDesk};
+ghost use Rattle.gs_feeding.specs.SeatTexts.{first_context};
 
 use crate::printing::Reply;
 use crate::uploads::Uploads;
@@ -18,7 +19,7 @@ use std::alloc::{AllocError, Global};
 
 /// Asks the store, and follows its answer.
 pub fn answer(store: &mut Store, uploads: &mut Uploads, event: Event) -> Answer
-    ensures does { (st : Standing store.old uploads.old) → (en : Standing store.new uploads.new) × Answers (desk_of st) event result (desk_of en) }
+    ensures does { MovesDesk store.old uploads.old store.new uploads.new (λ d e. Answers d event result e) }
     ensures cut { uploads.new.cut ≡ uploads.old.cut }
 {
     let answer = store.step(&event);
@@ -28,7 +29,8 @@ pub fn answer(store: &mut Store, uploads: &mut Uploads, event: Event) -> Answer
 
 /// Stages triples by one event, and by none where there are none.
 fn stage(store: &mut Store, uploads: &mut Uploads, seat: u16, given: Vec<Triple>) -> Answer
-    ensures does { (st : Standing store.old uploads.old) → (en : Standing store.new uploads.new) × Stages (desk_of st) seat given.items result (desk_of en) }
+    ensures does { MovesDesk store.old uploads.old store.new uploads.new
+        (λ d e. Stages d seat given.items result e) }
     ensures cut { uploads.new.cut ≡ uploads.old.cut }
 {
     if given.is_empty() {
@@ -46,7 +48,10 @@ fn feed_upload(
     language: Language,
     text: &[u8],
 ) -> Result<Reply, AllocError>
-    ensures does { IfOk result (λ reply. (o : AnOpening) → slice_get uploads.old.openings.items seat ≡ Some (Some o) → (st : Standing store.old uploads.old) → (en : Standing store.new uploads.new) × FeedsUpload (context_of language o) (desk_of st) seat text.now (reply_text reply) (desk_of en)) }
+    ensures does { IfOk result (λ reply. (o : AnOpening)
+        → slice_get uploads.old.openings.items seat ≡ Some (Some o)
+        → MovesDesk store.old uploads.old store.new uploads.new
+        (λ d e. FeedsUpload uploads.old.cut (first_context language o) d seat text.now (reply_text reply) e)) }
     ensures cut { uploads.new.cut ≡ uploads.old.cut }
 {
     let given = uploads.feed(alloc, seat, language, text)?;
@@ -65,7 +70,8 @@ pub fn feed(
     language: Language,
     text: &[u8],
 ) -> Result<Reply, AllocError>
-    ensures does { IfOk result (λ reply. (st : Standing store.old uploads.old) → (en : Standing store.new uploads.new) × Feeds (desk_of st) seat language text.now (reply_text reply) (desk_of en)) }
+    ensures does { IfOk result (λ reply. MovesDesk store.old uploads.old store.new uploads.new
+        (λ d e. DoesFeed uploads.old.cut d seat language text.now (reply_text reply) e)) }
     ensures cut { uploads.new.cut ≡ uploads.old.cut }
 {
     match uploads.has_upload(seat) {
@@ -77,7 +83,8 @@ pub fn feed(
 
 /// Gives the upload of a seat up, whose text has a fault.
 fn give_up(store: &mut Store, uploads: &mut Uploads, seat: u16) -> Reply
-    ensures does { (st : Standing store.old uploads.old) → (en : Standing store.new uploads.new) × GivesUp (desk_of st) seat (reply_text result) (desk_of en) }
+    ensures does { MovesDesk store.old uploads.old store.new uploads.new
+        (λ d e. GivesUp d seat (reply_text result) e) }
     ensures cut { uploads.new.cut ≡ uploads.old.cut }
 {
     let _ = answer(store, uploads, Event::Seat(seat, Action::Cancel));
@@ -86,7 +93,8 @@ fn give_up(store: &mut Store, uploads: &mut Uploads, seat: u16) -> Reply
 
 /// Stages the last triples of a seat's upload, and commits it.
 fn complete(store: &mut Store, uploads: &mut Uploads, seat: u16, given: Vec<Triple>) -> Reply
-    ensures does { (st : Standing store.old uploads.old) → (en : Standing store.new uploads.new) × Completes given.items (desk_of st) seat (reply_text result) (desk_of en) }
+    ensures does { MovesDesk store.old uploads.old store.new uploads.new
+        (λ d e. Completes given.items d seat (reply_text result) e) }
     ensures cut { uploads.new.cut ≡ uploads.old.cut }
 {
     match stage(store, uploads, seat, given) {
@@ -104,7 +112,8 @@ pub fn commit(
     uploads: &mut Uploads,
     seat: u16,
 ) -> Result<Reply, AllocError>
-    ensures does { IfOk result (λ reply. (st : Standing store.old uploads.old) → (en : Standing store.new uploads.new) × Commits (desk_of st) seat (reply_text reply) (desk_of en)) }
+    ensures does { IfOk result (λ reply. MovesDesk store.old uploads.old store.new uploads.new
+        (λ d e. Commits d seat (reply_text reply) e)) }
     ensures cut { uploads.new.cut ≡ uploads.old.cut }
 {
     match uploads.finish(alloc, seat)? {

@@ -1,6 +1,7 @@
 //! What the answers of a store print.
 ghost use Rattle.std.specs.Prelude.{◌≡◌, ◌++◌, ◌∷◌, [], codes, ℕ, List};
 ghost use Rattle.std.specs.Io.KnownBytes.{Appends};
+ghost use Rattle.gs_model.specs.Characters.{line_feed};
 ghost use Rattle.gs_model.specs.Terms.{numeral};
 ghost use Rattle.gs_drill.specs.Printing.{Writes, answer_text, reply_text, counts_text, no_command_text, no_memory_text};
 
@@ -63,7 +64,7 @@ fn put_all<W: Write>(out: &mut W, a: &[u8], b: &[u8], c: &[u8], d: &[u8]) -> io:
 
 /// Writes a line of two parts.
 fn put_pair<W: Write>(out: &mut W, a: &[u8], b: &[u8]) -> io::Result<()>
-    ensures { Writes (W.contents out.old) (W.contents out.new) (a.now ++ b.now ++ 10 ∷ []) result }
+    ensures { Writes (W.contents out.old) (W.contents out.new) (a.now ++ b.now ++ line_feed ∷ []) result }
 {
     match put_both(out, a, b) {
         Ok(()) => put(out, b"\n"),
@@ -73,7 +74,8 @@ fn put_pair<W: Write>(out: &mut W, a: &[u8], b: &[u8]) -> io::Result<()>
 
 /// Writes a line of four parts.
 fn put_line<W: Write>(out: &mut W, a: &[u8], b: &[u8], c: &[u8], d: &[u8]) -> io::Result<()>
-    ensures { Writes (W.contents out.old) (W.contents out.new) (a.now ++ b.now ++ (c.now ++ d.now) ++ 10 ∷ []) result }
+    ensures { Writes (W.contents out.old) (W.contents out.new)
+        (a.now ++ b.now ++ (c.now ++ d.now) ++ line_feed ∷ []) result }
 {
     match put_all(out, a, b, c, d) {
         Ok(()) => put(out, b"\n"),

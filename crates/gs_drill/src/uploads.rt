@@ -1,15 +1,14 @@
 //! The uploads of all seats, and what was fed to each.
-ghost use Rattle.std.specs.Prelude.{◌≡◌, ◌<◌, length, [], ℕ, List, true, false, is_some, None, Some, option_map, MatchOption, IfOk, replicate};
+ghost use Rattle.std.specs.Prelude.{◌≡◌, length, [], ℕ, List, true, false, is_some, None, Some, option_map, MatchOption, IfOk, replicate};
 ghost use Rattle.std.specs.List.{slice_get, slice_set};
-ghost use Rattle.gs_drill.specs.declared.openings.Opening.{Opening as AnOpening};
-ghost use Rattle.gs_drill.specs.Feeds.{Fed, Accepts, IsIn, with_fed};
-ghost use Rattle.gs_drill.specs.Commits.{Closes};
-ghost use Rattle.gs_drill.specs.Standing.{AreFed, IsFed, context_of};
+ghost use Rattle.gs_feeding.specs.declared.openings.Opening.{Opening as AnOpening};
+ghost use Rattle.gs_drill.specs.Standing.{AreFed, FeedsAt, EndsAt};
 ghost use Rattle.gs_drill.specs.Following.{openings_after, texts_after};
+ghost use Rattle.gs_feeding.specs.Receiving.{Fed, IsIn};
+ghost use Rattle.gs_feeding.specs.SeatTexts.{FeedsText, first_context};
 
-use crate::openings::Opening;
-use crate::texts::SeatText;
 use gs_event::{Answer, Event};
+use gs_feeding::{Opening, SeatText};
 use gs_term::Triple;
 use gs_upload::Language;
 use std::alloc::{AllocError, Global};
@@ -56,8 +55,10 @@ impl Uploads {
 
     /// Whether a text in this language may be fed to the seat: all texts of an upload are in one.
     pub fn takes(&self, seat: u16, language: Language) -> bool
-        ensures same { result ≡ true → (fed : ℕ → Fed) → AreFed self.now.texts.items fed → IsIn language (fed seat) }
-        ensures other { result ≡ false → (fed : ℕ → Fed) → AreFed self.now.texts.items fed → ¬ (IsIn language (fed seat)) }
+        ensures same { result ≡ true → (fed : ℕ → Fed) → AreFed self.now.texts.items fed
+            → IsIn language (fed seat) }
+        ensures other { result ≡ false → (fed : ℕ → Fed) → AreFed self.now.texts.items fed
+            → ¬ (IsIn language (fed seat)) }
     {
         let Some(held) = self.texts.get(usize::from(seat)) else {
             return true;
@@ -102,7 +103,8 @@ impl Uploads {
 
     /// What was fed to a seat, which then has nothing.
     fn take(&mut self, seat: u16) -> SeatText
-        ensures taken { MatchOption (slice_get self.old.texts.items seat) (result ≡ SeatText.Unfed) (λ b. result ≡ b) }
+        ensures taken { MatchOption (slice_get self.old.texts.items seat) (result ≡ SeatText.Unfed)
+            (λ b. result ≡ b) }
         ensures openings { self.new.openings.items ≡ self.old.openings.items }
         ensures texts { self.new.texts.items ≡ slice_set self.old.texts.items seat SeatText.Unfed }
         ensures cut { self.new.cut ≡ self.old.cut }
@@ -135,7 +137,9 @@ impl Uploads {
         language: Language,
         text: &[u8],
     ) -> Result<(SeatText, Vec<Triple>), AllocError>
-        ensures { IfOk result (λ p. (o : AnOpening) → slice_get self.now.openings.items seat ≡ Some (Some o) → (f : Fed) → IsFed held f → (g : Fed) × IsFed p.0 g × Accepts (context_of language o) f text.now p.1.items g) }
+        ensures { IfOk result (λ p. (o : AnOpening)
+            → slice_get self.now.openings.items seat ≡ Some (Some o)
+            → FeedsText self.now.cut (first_context language o) held text.now p.1.items p.0) }
     {
         match self.openings.get(usize::from(seat)) {
             Some(Some(opening)) => held.feed(alloc, language, opening, text, self.cut),
@@ -151,7 +155,8 @@ impl Uploads {
         language: Language,
         text: &[u8],
     ) -> Result<Vec<Triple>, AllocError>
-        ensures given { IfOk result (λ given. (o : AnOpening) → slice_get self.old.openings.items seat ≡ Some (Some o) → (fed : ℕ → Fed) → AreFed self.old.texts.items fed → seat < length self.old.texts.items → (f : Fed) × AreFed self.new.texts.items (with_fed fed seat f) × Accepts (context_of language o) (fed seat) text.now given.items f) }
+        ensures given { IfOk result (λ given. FeedsAt self.old.cut language seat text.now
+            self.old.openings.items self.old.texts.items self.new.texts.items given.items) }
         ensures openings { IfOk result (λ given. self.new.openings.items ≡ self.old.openings.items) }
         ensures even { IfOk result (λ given. length self.new.texts.items ≡ length self.old.texts.items) }
         ensures cut { self.new.cut ≡ self.old.cut }
@@ -164,7 +169,8 @@ impl Uploads {
 
     /// The text that was fed to a seat ends: what that gives, which is nothing where it has a fault.
     pub fn finish(&mut self, alloc: Global, seat: u16) -> Result<Option<Vec<Triple>>, AllocError>
-        ensures given { IfOk result (λ given. (fed : ℕ → Fed) → AreFed self.old.texts.items fed → (f : Fed) × AreFed self.new.texts.items (with_fed fed seat f) × Closes (fed seat) (option_map (λ ts. ts.items) given) f) }
+        ensures given { IfOk result (λ given. EndsAt seat self.old.texts.items self.new.texts.items
+            (option_map (λ ts. ts.items) given)) }
         ensures openings { IfOk result (λ given. self.new.openings.items ≡ self.old.openings.items) }
         ensures even { IfOk result (λ given. length self.new.texts.items ≡ length self.old.texts.items) }
         ensures cut { self.new.cut ≡ self.old.cut }

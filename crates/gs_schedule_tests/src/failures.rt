@@ -80,6 +80,11 @@ fn status_of_write(alloc: Global, input: &str, out: &mut BrokenWriter) -> u8 {
     drill(alloc, &mut reader, out, &mut err)
 }
 
+/// A schedule that ends at its second line, and what is said of that.
+const STOPPED: &str = "0 pin default\nno command\n";
+
+const SAID: &str = "gsdrill: line 2 is no command\n";
+
 #[test]
 fn a_failed_read_ends_the_run(rt: HostRuntime) {
     for fails_at in [0, 1, 30, INPUT.len() - 1, INPUT.len()] {
@@ -109,11 +114,7 @@ fn a_failed_write_ends_the_run_and_keeps_a_front(rt: HostRuntime) {
 /// Also where the last line is no command, and where nothing was written.
 #[test]
 fn a_failed_flush_ends_the_run(rt: HostRuntime) {
-    for (input, want) in [
-        (INPUT, OUTPUT),
-        ("", ""),
-        ("0 pin default\nno command\n", "200\n"),
-    ] {
+    for (input, want) in [(INPUT, OUTPUT), ("", ""), (STOPPED, "200\n")] {
         let mut out = BrokenWriter {
             taken: Vec::new(rt.alloc()),
             fails_at: usize::MAX,
@@ -125,6 +126,25 @@ fn a_failed_flush_ends_the_run(rt: HostRuntime) {
             "at {input}"
         );
         assert_eq!(rt; out.taken.as_slice(), want.as_bytes(), "at {input}");
+    }
+}
+
+/// What is said of an early end is flushed too. The writer takes a front of it, or all of it.
+#[test]
+fn a_failed_flush_or_write_of_err_ends_the_run(rt: HostRuntime) {
+    for (fails_at, flush_fails) in [(usize::MAX, true), (0, false), (SAID.len() - 1, false)] {
+        let mut reader = STOPPED.as_bytes();
+        let mut out = Vec::new(rt.alloc());
+        let mut err = BrokenWriter {
+            taken: Vec::new(rt.alloc()),
+            fails_at,
+            flush_fails,
+        };
+        let status = drill(rt.alloc(), &mut reader, &mut out, &mut err);
+        assert_eq!(rt; status, 1, "at {fails_at}");
+        assert_eq!(rt; out.as_slice(), b"200\n".as_slice(), "at {fails_at}");
+        let want = &SAID.as_bytes()[..SAID.len().min(fails_at)];
+        assert_eq!(rt; err.taken.as_slice(), want, "at {fails_at}");
     }
 }
 

@@ -13,6 +13,33 @@ fn worked_schedules_print_what_they_must(rt: HostRuntime) -> Result<(), Fail> {
     Ok(())
 }
 
+#[test]
+fn a_schedule_prints_its_answers(rt: HostRuntime) -> Result<(), Fail> {
+    let got = replay(
+        rt.alloc(),
+        "0 open put default\n0 commit\n0 pin default\n0 piece 1",
+    );
+    assert_eq!(rt;
+        str::from_utf8(got.out.as_slice())?,
+        "opened 1\n204\n200\nend\n"
+    );
+    assert_eq!(rt; got.err.len(), 0);
+    assert_eq!(rt; got.status, 0);
+    Ok(())
+}
+
+#[test]
+fn a_bad_line_stops_the_run(rt: HostRuntime) -> Result<(), Fail> {
+    let got = replay(rt.alloc(), "# first\n0 commit\n0 destroy default\n");
+    assert_eq!(rt; str::from_utf8(got.out.as_slice())?, "refused WrongPhase\n");
+    assert_eq!(rt;
+        str::from_utf8(got.err.as_slice())?,
+        "gsdrill: line 3 is no command\n"
+    );
+    assert_eq!(rt; got.status, 2);
+    Ok(())
+}
+
 /// Two seats write one triple each: the second in the order of commits is the graph. Comments and
 /// empty lines are skipped, repeats are one triple, and the last line feed may be missing.
 #[test]

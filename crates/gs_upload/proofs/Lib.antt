@@ -1,2 +1,3 @@
 pub mod ReadingLemmas
 pub mod WrappingLemmas
+pub mod CuttingLemmas

@@ -10,8 +10,8 @@ use Rattle.gs_machine.specs.Machines.{AreSettled, Begins}
 use Rattle.gs_body.specs.Bodies.{Meaning, Reports, triples_of}
 use Rattle.gs_body.specs.Feeding as feeding
 use Rattle.gs_upload.specs.declared.readings.Reading.{Reading}
-use Rattle.gs_upload.specs.Faults.{HasFault, Finds}
-use Rattle.gs_upload.specs.Readings.{ReadsOn, Stands, IsFed, Feeds, FeedsPiece, FeedsEach, ArePieces, Ends, EndsWhole, EndsFaulty, GivesComplete}
+use Rattle.gs_upload.specs.Faults.{HasFault, ReportsFault}
+use Rattle.gs_upload.specs.Readings.{ReadsOn, Stands, IsFedReading, FeedsReading, FeedsPiece, FeedsEach, IsFedBy, ArePieces, EndsReading, EndsWhole, EndsFaulty, GivesComplete}
 
 -- a refusal that is neither want of memory nor a closed reader's is a fault of the body
 reported_fault : (e : Refusal) (m : Meaning) → e ≢ refusal.NoMemory → e ≢ refusal.Closed → Reports e m → HasFault e m
@@ -44,10 +44,10 @@ on_err P e is h = let Q : Result (Unit {0}) Refusal → Type 0 = λ z. OnErr z P
 
 module _ {R : Type 0} (meaning_of : R → List ℕ → Meaning) (Leads : R → List ℕ → List RdfTriple → Type 0) (closed : R → Bool) where
   -- the same facts of an equal text and of equal triples
-  fed_along : (k : Reading R) (means : List ℕ → Meaning) (x z : List ℕ) (ts us : List RdfTriple) → x ≡ z → ts ≡ us → IsFed meaning_of Leads closed k means x ts → IsFed meaning_of Leads closed k means z us
+  fed_along : (k : Reading R) (means : List ℕ → Meaning) (x z : List ℕ) (ts us : List RdfTriple) → x ≡ z → ts ≡ us → IsFedReading meaning_of Leads closed k means x ts → IsFedReading meaning_of Leads closed k means z us
   fed_along k means x z ts us p q h =
-      let P : List ℕ → Type 0 = λ w. IsFed meaning_of Leads closed k means w us in
-      let Q : List RdfTriple → Type 0 = λ w. IsFed meaning_of Leads closed k means x w in
+      let P : List ℕ → Type 0 = λ w. IsFedReading meaning_of Leads closed k means w us in
+      let Q : List RdfTriple → Type 0 = λ w. IsFedReading meaning_of Leads closed k means x w in
       subst P p (subst Q q h)
 
   complete_along : (means : List ℕ → Meaning) (x z : List ℕ) (ts us : List RdfTriple) → x ≡ z → ts ≡ us → GivesComplete means x ts → GivesComplete means z us
@@ -86,7 +86,7 @@ module _ {R : Type 0} (meaning_of : R → List ℕ → Meaning) (Leads : R → L
       }
 
   -- where no fault is kept the reader goes on
-  reads_on : (k : Reading R) (means : List ℕ → Meaning) (x : List ℕ) (ts : List RdfTriple) → k.fault ≡ None → IsFed meaning_of Leads closed k means x ts → ReadsOn meaning_of Leads closed k.reader means x ts
+  reads_on : (k : Reading R) (means : List ℕ → Meaning) (x : List ℕ) (ts : List RdfTriple) → k.fault ≡ None → IsFedReading meaning_of Leads closed k means x ts → ReadsOn meaning_of Leads closed k.reader means x ts
   reads_on k means x ts none h = let P : Option Refusal → Type 0 = λ o. Stands meaning_of Leads closed o k.reader means x ts in subst P none h.stands
 
   -- a piece is read
@@ -143,7 +143,7 @@ module _ {R : Type 0} (meaning_of : R → List ℕ → Meaning) (Leads : R → L
       }
 
   -- a piece is fed to a reading without a fault
-  pub takes_piece : (o : Result (Unit {0}) Refusal) (found : Option Refusal) (k new : Reading R) (piece : List ℕ) (before after : List RdfTriple) → k.fault ≡ None → new.fault ≡ found → Finds o found
+  pub takes_piece : (o : Result (Unit {0}) Refusal) (found : Option Refusal) (k new : Reading R) (piece : List ℕ) (before after : List RdfTriple) → k.fault ≡ None → new.fault ≡ found → ReportsFault o found
       → OnOk o (feeding.Feeds meaning_of Leads k.reader new.reader piece before after) → OnOk o (closed new.reader ≡ false) → ((x : List ℕ) → meaning_of new.reader x ≡ meaning_of k.reader x) → OnErr o (after ≡ before)
       → IfErr o (λ e. (z : List ℕ) (us : List RdfTriple) → Leads k.reader z us → (w : List ℕ) → Reports e (meaning_of k.reader (z ++ piece ++ w)))
       → FeedsPiece meaning_of Leads closed k new piece before after
@@ -151,9 +151,9 @@ module _ {R : Type 0} (meaning_of : R → List ℕ → Meaning) (Leads : R → L
   takes_piece o (Some e) k new piece before after none is finds feeds goes_on same stays reports = keeps_fault o e k new piece before after none is stays finds.0 finds.1 finds.2 reports
 
   -- one text after another
-  Feeds-append : (old mid new : Reading R) (p q : List ℕ) (before between after : List RdfTriple)
-      → Feeds meaning_of Leads closed old mid p before between → Feeds meaning_of Leads closed mid new q between after → Feeds meaning_of Leads closed old new (p ++ q) before after
-  Feeds-append old mid new p q before between after f g = record {
+  FeedsReading-append : (old mid new : Reading R) (p q : List ℕ) (before between after : List RdfTriple)
+      → FeedsReading meaning_of Leads closed old mid p before between → FeedsReading meaning_of Leads closed mid new q between after → FeedsReading meaning_of Leads closed old new (p ++ q) before after
+  FeedsReading-append old mid new p q before between after f g = record {
     given = f.given ++ g.given;
     grown = g.grown ∙ ap (λ z. z ++ g.given) f.grown ∙ append_assoc before f.given g.given;
     fed = λ means x ts h. fed_along new means ((x ++ p) ++ q) (x ++ (p ++ q)) ((ts ++ f.given) ++ g.given) (ts ++ (f.given ++ g.given)) (append_assoc x p q) (append_assoc ts f.given g.given)
@@ -172,6 +172,45 @@ module _ {R : Type 0} (meaning_of : R → List ℕ → Meaning) (Leads : R → L
       (new, after, subst P h.0 (subst Q h.1 f), (refl, refl))
   FeedsEach-more (p ∷ ps) old mid new piece before between after h f = (h.0, h.1, h.2, FeedsEach-more ps h.0 mid new piece h.1 between after h.3 f)
 
+  -- a piece is fed, whatever stands at the front of the list
+  FeedsPiece-front : (old new : Reading R) (piece : List ℕ) (front before after : List RdfTriple) → FeedsPiece meaning_of Leads closed old new piece before after
+      → FeedsPiece meaning_of Leads closed old new piece (front ++ before) (front ++ after)
+  FeedsPiece-front old new piece front before after f = record {
+    feeds = record {
+      given = f.feeds.given;
+      grown = ap (λ z. front ++ z) f.feeds.grown ∙ sym (append_assoc front before f.feeds.given);
+      fed = f.feeds.fed;
+      complete = f.feeds.complete;
+      latched = f.feeds.latched;
+    };
+    silent = λ is. ap (λ z. front ++ z) (f.silent is);
+  }
+
+  -- the same of pieces one by one
+  FeedsEach-front : (pieces : List (List ℕ)) (old new : Reading R) (front before after : List RdfTriple) → FeedsEach meaning_of Leads closed old new pieces before after
+      → FeedsEach meaning_of Leads closed old new pieces (front ++ before) (front ++ after)
+  FeedsEach-front [] old new front before after h = (h.0, ap (λ z. front ++ z) h.1)
+  FeedsEach-front (p ∷ ps) old new front before after h = (h.0, front ++ h.1, FeedsPiece-front old h.0 p front before h.1 h.2, FeedsEach-front ps h.0 new front h.1 after h.3)
+
+  -- pieces are fed after others
+  FeedsEach-append : (ps qs : List (List ℕ)) (old mid new : Reading R) (before between after : List RdfTriple)
+      → FeedsEach meaning_of Leads closed old mid ps before between → FeedsEach meaning_of Leads closed mid new qs between after → FeedsEach meaning_of Leads closed old new (ps ++ qs) before after
+  FeedsEach-append [] qs old mid new before between after h f =
+      let P : Reading R → Type 0 = λ k. FeedsEach meaning_of Leads closed k new qs before after in
+      let Q : List RdfTriple → Type 0 = λ ts. FeedsEach meaning_of Leads closed mid new qs ts after in
+      subst P h.0 (subst Q h.1 f)
+  FeedsEach-append (p ∷ ps) qs old mid new before between after h f = (h.0, h.1, h.2, FeedsEach-append ps qs h.0 mid new h.1 between after h.3 f)
+
+  -- a reading that was fed some pieces is fed more
+  pub IsFedBy-more : (k new : Reading R) (means : List ℕ → Meaning) (ps qs : List (List ℕ)) (ts us : List RdfTriple)
+      → IsFedBy meaning_of Leads closed k means ps ts → FeedsEach meaning_of Leads closed k new qs [] us → IsFedBy meaning_of Leads closed new means (ps ++ qs) (ts ++ us)
+  IsFedBy-more k new means ps qs ts us h f =
+      let P : List RdfTriple → Type 0 = λ z. FeedsEach meaning_of Leads closed k new qs z (ts ++ us) in record {
+        first = h.first;
+        fresh = h.fresh;
+        each = FeedsEach-append ps qs h.first k new [] ts (ts ++ us) h.each (subst P (append-nil ts) (FeedsEach-front qs k new ts [] us f));
+      }
+
   -- the list only grows
   pub each_grows : (pieces : List (List ℕ)) (old new : Reading R) (before after : List RdfTriple) → FeedsEach meaning_of Leads closed old new pieces before after → Begins after before
   each_grows [] old new before after h = ([], h.1 ∙ sym (append-nil before))
@@ -181,17 +220,17 @@ module _ {R : Type 0} (meaning_of : R → List ℕ → Meaning) (Leads : R → L
 
   -- a text that is fed in pieces is fed whole
   pub feeds_pieces : (n : ℕ) (pieces : List (List ℕ)) (text : List ℕ) (old new : Reading R) (before after : List RdfTriple) → ArePieces n text pieces
-      → FeedsEach meaning_of Leads closed old new pieces before after → Feeds meaning_of Leads closed old new text before after
+      → FeedsEach meaning_of Leads closed old new pieces before after → FeedsReading meaning_of Leads closed old new text before after
   feeds_pieces n [] text old new before after are h = absurd are
   feeds_pieces n (p ∷ []) text old new before after are h =
-      let P : Reading R → Type 0 = λ k. Feeds meaning_of Leads closed old k text before after in
-      let Q : List RdfTriple → Type 0 = λ ts. Feeds meaning_of Leads closed old h.0 text before ts in
-      let T : List ℕ → Type 0 = λ z. Feeds meaning_of Leads closed old h.0 z before h.1 in
+      let P : Reading R → Type 0 = λ k. FeedsReading meaning_of Leads closed old k text before after in
+      let Q : List RdfTriple → Type 0 = λ ts. FeedsReading meaning_of Leads closed old h.0 text before ts in
+      let T : List ℕ → Type 0 = λ z. FeedsReading meaning_of Leads closed old h.0 z before h.1 in
       subst P (sym h.3.0) (subst Q (sym h.3.1) (subst T are.0 h.2.feeds))
   feeds_pieces n (p ∷ q ∷ ps) text old new before after are h =
       let rest = feeds_pieces n (q ∷ ps) (drop n text) h.0 new h.1 after are.3 h.3 in
-      let T : List ℕ → Type 0 = λ z. Feeds meaning_of Leads closed old new z before after in
-      subst T (ap (λ z. z ++ drop n text) are.2 ∙ take-append-drop n text) (Feeds-append old h.0 new p (drop n text) before h.1 after h.2.feeds rest)
+      let T : List ℕ → Type 0 = λ z. FeedsReading meaning_of Leads closed old new z before after in
+      subst T (ap (λ z. z ++ drop n text) are.2 ∙ take-append-drop n text) (FeedsReading-append old h.0 new p (drop n text) before h.1 after h.2.feeds rest)
 
   -- a text ends that has a fault
   pub ends_kept : (k : Reading R) (e : Refusal) (before : List RdfTriple) → k.fault ≡ Some e → EndsFaulty meaning_of Leads closed k e before before
@@ -232,33 +271,8 @@ module _ {R : Type 0} (meaning_of : R → List ℕ → Meaning) (Leads : R → L
   }
 
   -- a text ends to a reading without a fault
-  pub ends_by : (o : Result (Unit {0}) Refusal) (found : Option Refusal) (k : Reading R) (before after : List RdfTriple) → k.fault ≡ None → Finds o found
+  pub ends_by : (o : Result (Unit {0}) Refusal) (found : Option Refusal) (k : Reading R) (before after : List RdfTriple) → k.fault ≡ None → ReportsFault o found
       → OnOk o (feeding.Finishes meaning_of Leads k.reader before after) → OnErr o (after ≡ before)
-      → IfErr o (λ e. (z : List ℕ) (us : List RdfTriple) → Leads k.reader z us → Reports e (meaning_of k.reader z)) → Ends meaning_of Leads closed k found before after
+      → IfErr o (λ e. (z : List ℕ) (us : List RdfTriple) → Leads k.reader z us → Reports e (meaning_of k.reader z)) → EndsReading meaning_of Leads closed k found before after
   ends_by o None k before after none finds finishes stays reports = ends_whole o k before after none finds finishes
   ends_by o (Some e) k before after none finds finishes stays reports = ends_faulty o e k before after none stays finds.0 finds.1 finds.2 reports
-
--- pieces of one length that come before the rest of a text
-pub record Cutting (n : ℕ) (text rest : List ℕ) (pieces : List (List ℕ)) : Type 0 where
-  pub join : (others : List (List ℕ)) → ArePieces n rest others → ArePieces n text (pieces ++ others)
-
-pub cutting-more : (n : ℕ) (text rest piece back : List ℕ) (pieces : List (List ℕ)) → Cutting n text rest pieces → 0 < n → n < length rest → piece ≡ take n rest → back ≡ drop n rest
-    → Cutting n text back (pieces ++ piece ∷ [])
-cutting-more n text rest piece back pieces h some long is after = record {
-  join = λ others are.
-      let P : List (List ℕ) → Type 0 = λ z. ArePieces n text z in
-      let Q : List ℕ → Type 0 = λ z. ArePieces n z others in
-      subst P (sym (append_assoc pieces (piece ∷ []) others)) (h.join (piece ∷ others) (one others (subst Q after are)));
-}
-  where
-    one : (others : List (List ℕ)) → ArePieces n (drop n rest) others → ArePieces n rest (piece ∷ others)
-    one [] are = absurd are
-    one (q ∷ qs) are = (some, long, is, are)
-
--- what is left is the last piece
-pub cutting-last : (n : ℕ) (text rest : List ℕ) (pieces : List (List ℕ)) → Cutting n text rest pieces → (0 < n → length rest ≤ n) → ArePieces n text (pieces ++ rest ∷ [])
-cutting-last n text rest pieces h short = h.join (rest ∷ []) (refl, short)
-
--- nothing is cut off yet
-pub cutting-none : (n : ℕ) (text : List ℕ) → Cutting n text text []
-cutting-none n text = record { join = λ others are. are }

@@ -12,13 +12,13 @@ HasFault refusal.TermTooLong m = m.1 ≡ Faulty fault.TermTooLong
 HasFault other m = ⊥
 
 -- what a reader's call reports: nothing, or this fault
-abbrev pub Finds : Result (Unit {0}) Refusal → Option Refusal → Type 0
-Finds outcome None = outcome ≡ Ok tt
-Finds outcome (Some e) = (outcome ≡ Err e) × (e ≢ refusal.NoMemory) × (e ≢ refusal.Closed)
+abbrev pub ReportsFault : Result (Unit {0}) Refusal → Option Refusal → Type 0
+ReportsFault outcome None = outcome ≡ Ok tt
+ReportsFault outcome (Some e) = (outcome ≡ Err e) × (e ≢ refusal.NoMemory) × (e ≢ refusal.Closed)
 
 -- memory was wanted and not given, by this call or by an earlier one
-abbrev pub IsRefused : Result (Unit {0}) Refusal → Type 0
-IsRefused (Ok x) = ⊥
-IsRefused (Err refusal.NoMemory) = Unit {0}
-IsRefused (Err refusal.Closed) = Unit {0}
-IsRefused (Err e) = ⊥
+abbrev pub IsRefusedMemory : Result (Unit {0}) Refusal → Type 0
+IsRefusedMemory (Ok x) = ⊥
+IsRefusedMemory (Err refusal.NoMemory) = Unit {0}
+IsRefusedMemory (Err refusal.Closed) = Unit {0}
+IsRefusedMemory (Err e) = ⊥

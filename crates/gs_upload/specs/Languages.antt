@@ -12,11 +12,11 @@ meaning_in NTriples b r x = ntriples.meaning_by r x
 meaning_in Turtle b r x = turtle.meaning_by b r x
 
 -- how a text is read: its language, its base, and the number of the request whose blank nodes it names
-pub record Context : Type 0 where
+pub record TextContext : Type 0 where
   pub language : Language
   pub base : List ℕ
   pub request : ℕ
 
 -- what a text means as it is read
-abbrev pub meaning_for : Context → List ℕ → Meaning
-meaning_for c x = meaning_in c.language c.base c.request x
+abbrev pub meaning_in_context : TextContext → List ℕ → Meaning
+meaning_in_context c x = meaning_in c.language c.base c.request x

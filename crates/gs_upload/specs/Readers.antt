@@ -9,7 +9,7 @@ use Rattle.gs_turtle.specs.Documents.{meaning_by as turtle_meaning}
 use Rattle.gs_upload.specs.declared.readers.TextReader.{TextReader}
 use Rattle.gs_upload.specs.declared.readers.TextReader.TheVariants.{NTriples, Turtle}
 use Rattle.gs_upload.specs.declared.readings.Reading.{Reading}
-use Rattle.gs_upload.specs.Readings.{IsFed}
+use Rattle.gs_upload.specs.Readings.{IsFedReading, IsFedBy}
 
 -- what a whole text means to a reader
 abbrev pub meaning_of_text : TextReader → List ℕ → Meaning
@@ -28,4 +28,8 @@ is_closed_text (Turtle r) = r.is_closed
 
 -- Of a text that means what `means` says, x was fed to the reading, and ts were given.
 abbrev pub IsFedText : Reading TextReader → (List ℕ → Meaning) → List ℕ → List RdfTriple → Type 0
-IsFedText k means x ts = IsFed meaning_of_text LeadsText is_closed_text k means x ts
+IsFedText k means x ts = IsFedReading meaning_of_text LeadsText is_closed_text k means x ts
+
+-- the same of the pieces that were fed, one by one, from its start
+abbrev pub IsTextFedBy : Reading TextReader → (List ℕ → Meaning) → List (List ℕ) → List RdfTriple → Type 0
+IsTextFedBy k means pieces ts = IsFedBy meaning_of_text LeadsText is_closed_text k means pieces ts

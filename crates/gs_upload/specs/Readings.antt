@@ -24,7 +24,7 @@ Stands meaning_of Leads closed (Some e) reader means x ts = (y : List ℕ) → H
 
 -- Of a text that means what `means` says, x was fed to the reading, and ts were given, with which its triples begin,
 -- however it goes on.
-pub record IsFed {R : Type 0} (meaning_of : R → List ℕ → Meaning) (Leads : R → List ℕ → List RdfTriple → Type 0) (closed : R → Bool)
+pub record IsFedReading {R : Type 0} (meaning_of : R → List ℕ → Meaning) (Leads : R → List ℕ → List RdfTriple → Type 0) (closed : R → Bool)
     (k : Reading R) (means : List ℕ → Meaning) (x : List ℕ) (ts : List RdfTriple) : Type 0 where
   pub begun : (y : List ℕ) → Begins (triples_of (means (x ++ y)).0) ts
   pub stands : Stands meaning_of Leads closed k.fault k.reader means x ts
@@ -36,20 +36,20 @@ GivesComplete means x ts = (front : List ℕ) → IsLongestFront x front → Are
 
 -- A text was fed, and the list grew by what it gives. Without a fault those are the triples of the complete statements;
 -- a fault that was kept before is kept.
-pub record Feeds {R : Type 0} (meaning_of : R → List ℕ → Meaning) (Leads : R → List ℕ → List RdfTriple → Type 0) (closed : R → Bool)
+pub record FeedsReading {R : Type 0} (meaning_of : R → List ℕ → Meaning) (Leads : R → List ℕ → List RdfTriple → Type 0) (closed : R → Bool)
     (old new : Reading R) (text : List ℕ) (before after : List RdfTriple) : Type 0 where
   pub given : List RdfTriple
   pub grown : after ≡ before ++ given
-  pub fed : (means : List ℕ → Meaning) (x : List ℕ) (ts : List RdfTriple) → IsFed meaning_of Leads closed old means x ts
-      → IsFed meaning_of Leads closed new means (x ++ text) (ts ++ given)
-  pub complete : (means : List ℕ → Meaning) (x : List ℕ) (ts : List RdfTriple) → IsFed meaning_of Leads closed old means x ts
+  pub fed : (means : List ℕ → Meaning) (x : List ℕ) (ts : List RdfTriple) → IsFedReading meaning_of Leads closed old means x ts
+      → IsFedReading meaning_of Leads closed new means (x ++ text) (ts ++ given)
+  pub complete : (means : List ℕ → Meaning) (x : List ℕ) (ts : List RdfTriple) → IsFedReading meaning_of Leads closed old means x ts
       → new.fault ≡ None → GivesComplete means (x ++ text) (ts ++ given)
   pub latched : (e : Refusal) → old.fault ≡ Some e → new.fault ≡ Some e
 
 -- the same of one piece: where a fault is kept nothing is given
 pub record FeedsPiece {R : Type 0} (meaning_of : R → List ℕ → Meaning) (Leads : R → List ℕ → List RdfTriple → Type 0) (closed : R → Bool)
     (old new : Reading R) (piece : List ℕ) (before after : List RdfTriple) : Type 0 where
-  pub feeds : Feeds meaning_of Leads closed old new piece before after
+  pub feeds : FeedsReading meaning_of Leads closed old new piece before after
   pub silent : is_some new.fault ≡ true → after ≡ before
 
 -- the pieces were fed one by one
@@ -59,11 +59,24 @@ FeedsEach {R} meaning_of Leads closed old new [] before after = (new ≡ old) ×
 FeedsEach {R} meaning_of Leads closed old new (p ∷ ps) before after = (mid : Reading R) × (between : List RdfTriple)
     × FeedsPiece meaning_of Leads closed old mid p before between × FeedsEach meaning_of Leads closed mid new ps between after
 
+-- These pieces were fed one by one to a new reading of a text that means what `means` says, and ts were given.
+pub record IsFedBy {R : Type 0} (meaning_of : R → List ℕ → Meaning) (Leads : R → List ℕ → List RdfTriple → Type 0) (closed : R → Bool)
+    (k : Reading R) (means : List ℕ → Meaning) (pieces : List (List ℕ)) (ts : List RdfTriple) : Type 0 where
+  pub first : Reading R
+  pub fresh : IsFedReading meaning_of Leads closed first means [] []
+  pub each : FeedsEach meaning_of Leads closed first k pieces [] ts
+
 -- the text in pieces of just n bytes, of which the last may be shorter; 0 is whole
 abbrev pub ArePieces : ℕ → List ℕ → List (List ℕ) → Type 0
 ArePieces n x [] = ⊥
 ArePieces n x (p ∷ []) = (p ≡ x) × (0 < n → length x ≤ n)
 ArePieces n x (p ∷ q ∷ ps) = (0 < n) × (n < length x) × (p ≡ take n x) × ArePieces n (drop n x) (q ∷ ps)
+
+-- the text was fed in pieces of just n bytes, one after another
+abbrev pub FeedsPieces : {R : Type 0} → (R → List ℕ → Meaning) → (R → List ℕ → List RdfTriple → Type 0) → (R → Bool)
+    → ℕ → Reading R → Reading R → List ℕ → List RdfTriple → List RdfTriple → Type 0
+FeedsPieces meaning_of Leads closed n old new text before after = (pieces : List (List ℕ)) × ArePieces n text pieces
+    × FeedsEach meaning_of Leads closed old new pieces before after
 
 -- a text has no fault, and its triples are these
 pub record MeansAll (m : Meaning) (ts : List RdfTriple) : Type 0 where
@@ -75,21 +88,21 @@ pub record EndsWhole {R : Type 0} (meaning_of : R → List ℕ → Meaning) (Lea
     (k : Reading R) (before after : List RdfTriple) : Type 0 where
   pub given : List RdfTriple
   pub grown : after ≡ before ++ given
-  pub all : (means : List ℕ → Meaning) (x : List ℕ) (ts : List RdfTriple) → IsFed meaning_of Leads closed k means x ts → MeansAll (means x) (ts ++ given)
+  pub all : (means : List ℕ → Meaning) (x : List ℕ) (ts : List RdfTriple) → IsFedReading meaning_of Leads closed k means x ts → MeansAll (means x) (ts ++ given)
 
 -- the text ended with this as its first fault, and nothing is given
 pub record EndsFaulty {R : Type 0} (meaning_of : R → List ℕ → Meaning) (Leads : R → List ℕ → List RdfTriple → Type 0) (closed : R → Bool)
     (k : Reading R) (e : Refusal) (before after : List RdfTriple) : Type 0 where
   pub unchanged : after ≡ before
-  pub first : (means : List ℕ → Meaning) (x : List ℕ) (ts : List RdfTriple) → IsFed meaning_of Leads closed k means x ts → HasFault e (means x)
+  pub first : (means : List ℕ → Meaning) (x : List ℕ) (ts : List RdfTriple) → IsFedReading meaning_of Leads closed k means x ts → HasFault e (means x)
 
 -- the text ended so
-abbrev pub Ends : {R : Type 0} → (R → List ℕ → Meaning) → (R → List ℕ → List RdfTriple → Type 0) → (R → Bool)
+abbrev pub EndsReading : {R : Type 0} → (R → List ℕ → Meaning) → (R → List ℕ → List RdfTriple → Type 0) → (R → Bool)
     → Reading R → Option Refusal → List RdfTriple → List RdfTriple → Type 0
-Ends meaning_of Leads closed k None before after = EndsWhole meaning_of Leads closed k before after
-Ends meaning_of Leads closed k (Some e) before after = EndsFaulty meaning_of Leads closed k e before after
+EndsReading meaning_of Leads closed k None before after = EndsWhole meaning_of Leads closed k before after
+EndsReading meaning_of Leads closed k (Some e) before after = EndsFaulty meaning_of Leads closed k e before after
 
 -- a call wanted memory and got none, and each later call is refused
-pub record IsClosed {R : Type 0} (closed : R → Bool) (k : Reading R) : Type 0 where
+pub record IsClosedReading {R : Type 0} (closed : R → Bool) (k : Reading R) : Type 0 where
   pub no_fault : k.fault ≡ None
   pub refused : closed k.reader ≡ true

@@ -32,7 +32,8 @@ impl TextReader {
         requires { is_absolute base.now ≡ true }
         ensures fresh { IfOk result (λ r. ⟦<TextReader as BodyReader>⟧.Leads r [] []) }
         ensures unread { IfOk result (λ r. ⟦<TextReader as BodyReader>⟧.is_closed r ≡ false) }
-        ensures meaning_of { IfOk result (λ r. (x : List ℕ) → ⟦<TextReader as BodyReader>⟧.meaning_of r x ≡ meaning_in language base.now request x) }
+        ensures meaning_of { IfOk result (λ r. (x : List ℕ)
+            → ⟦<TextReader as BodyReader>⟧.meaning_of r x ≡ meaning_in language base.now request x) }
     {
         match language {
             Language::NTriples => Ok(TextReader::NTriples(NTriplesReader::new(alloc, request))),

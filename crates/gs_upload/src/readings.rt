@@ -3,8 +3,8 @@ ghost use Rattle.std.specs.Prelude.{◌≡◌, ◌↔◌, [], ℕ, List, Bool, f
 ghost use Rattle.gs_machine.specs.Machines.{Begins};
 ghost use Rattle.gs_model.specs.Iris.{is_absolute};
 ghost use Rattle.gs_model.specs.declared.refusals.Refusal.{Refusal as ARefusal};
-ghost use Rattle.gs_upload.specs.Faults.{Finds, IsRefused};
-ghost use Rattle.gs_upload.specs.Readings.{IsFed, FeedsPiece, Feeds, FeedsEach, ArePieces, Ends, IsClosed};
+ghost use Rattle.gs_upload.specs.Faults.{ReportsFault, IsRefusedMemory};
+ghost use Rattle.gs_upload.specs.Readings.{IsFedReading, FeedsPiece, FeedsReading, FeedsPieces, EndsReading, IsClosedReading};
 
 use crate::languages::Language;
 use crate::readers::TextReader;
@@ -26,8 +26,8 @@ pub struct Reading<R> {
 /// The fault that a reader's call reports, if it reports one. A reader is closed where it wanted
 /// memory and got none.
 fn fault_in(outcome: Result<(), Refusal>) -> Result<Option<Refusal>, AllocError>
-    ensures fault { IfOk result (Finds outcome) }
-    ensures memory { IsErr result ↔ IsRefused outcome }
+    ensures fault { IfOk result (ReportsFault outcome) }
+    ensures memory { IsErr result ↔ IsRefusedMemory outcome }
 {
     match outcome {
         Ok(()) => Ok(None),
@@ -42,7 +42,7 @@ impl<R: BodyReader + Drop> Reading<R> {
     pub fn of(reader: R) -> Reading<R>
         requires fresh { R.Leads reader [] [] }
         requires unread { R.is_closed reader ≡ false }
-        ensures fed { IsFed R.meaning_of R.Leads R.is_closed result (R.meaning_of reader) [] [] }
+        ensures fed { IsFedReading R.meaning_of R.Leads R.is_closed result (R.meaning_of reader) [] [] }
         ensures no_fault { result.fault ≡ None }
     {
         Reading {
@@ -64,8 +64,8 @@ impl<R: BodyReader + Drop> Reading<R> {
         ensures given { OnOk result (FeedsPiece R.meaning_of R.Leads R.is_closed self.old self.new
             piece.now triples.old.items triples.new.items) }
         ensures kept { OnErr result (triples.new.items ≡ triples.old.items) }
-        ensures refused { OnErr result (IsClosed R.is_closed self.new) }
-        ensures closed { IsClosed R.is_closed self.old → IsErr result }
+        ensures refused { OnErr result (IsClosedReading R.is_closed self.new) }
+        ensures closed { IsClosedReading R.is_closed self.old → IsErr result }
     {
         if self.fault.is_some() {
             return Ok(());
@@ -81,10 +81,10 @@ impl<R: BodyReader + Drop> Reading<R> {
         length: usize,
         triples: &mut Vec<Triple>,
     ) -> Result<(), AllocError>
-        ensures pieces { OnOk result ((pieces : List (List ℕ)) × ArePieces length text.now pieces × FeedsEach R.meaning_of R.Leads R.is_closed self.old self.new
-            pieces triples.old.items triples.new.items) }
+        ensures pieces { OnOk result (FeedsPieces R.meaning_of R.Leads R.is_closed length self.old self.new
+            text.now triples.old.items triples.new.items) }
         ensures kept { OnErr result (Begins triples.new.items triples.old.items) }
-        ensures refused { OnErr result (IsClosed R.is_closed self.new) }
+        ensures refused { OnErr result (IsClosedReading R.is_closed self.new) }
     {
         let mut rest = text;
         while 0 < length && length < rest.len() {
@@ -102,12 +102,12 @@ impl<R: BodyReader + Drop> Reading<R> {
         length: usize,
         triples: &mut Vec<Triple>,
     ) -> Result<(), AllocError>
-        ensures pieces { OnOk result ((pieces : List (List ℕ)) × ArePieces length text.now pieces × FeedsEach R.meaning_of R.Leads R.is_closed self.old self.new
-            pieces triples.old.items triples.new.items) }
-        ensures given { OnOk result (Feeds R.meaning_of R.Leads R.is_closed self.old self.new
+        ensures pieces { OnOk result (FeedsPieces R.meaning_of R.Leads R.is_closed length self.old self.new
+            text.now triples.old.items triples.new.items) }
+        ensures given { OnOk result (FeedsReading R.meaning_of R.Leads R.is_closed self.old self.new
             text.now triples.old.items triples.new.items) }
         ensures kept { OnErr result (triples.new.items ≡ triples.old.items) }
-        ensures refused { OnErr result (IsClosed R.is_closed self.new) }
+        ensures refused { OnErr result (IsClosedReading R.is_closed self.new) }
     {
         let before = triples.as_slice().len();
         match self.feed_each(text, length, triples) {
@@ -122,11 +122,11 @@ impl<R: BodyReader + Drop> Reading<R> {
     /// The text ends: appends the triples that are complete by that, or gives its first fault, with
     /// its kind and its place.
     pub fn finish(mut self, triples: &mut Vec<Triple>) -> Result<Option<Refusal>, AllocError>
-        ensures ended { IfOk result (λ fault. Ends R.meaning_of R.Leads R.is_closed self fault
+        ensures ended { IfOk result (λ fault. EndsReading R.meaning_of R.Leads R.is_closed self fault
             triples.old.items triples.new.items) }
         ensures kept { OnErr result (triples.new.items ≡ triples.old.items) }
         ensures latched { (e : ARefusal) → self.fault ≡ Some e → result ≡ Ok (Some e) }
-        ensures closed { IsClosed R.is_closed self → IsErr result }
+        ensures closed { IsClosedReading R.is_closed self → IsErr result }
     {
         if let Some(fault) = self.fault {
             return Ok(Some(fault));

@@ -1,5 +1,5 @@
 use Rattle.std.proofs.Common.{false}
-use Rattle.gs_drill.specs.Standing.{Standing, state_of}
+use Rattle.gs_drill.specs.Standing.{Standing, run_state}
 use Rattle.gs_drill.proofs.PlayLemmas.{Playing-none, Playing-more, Playing-ends, Playing-all, Halts-none, filled, emptied, shorter}
 use Rattle.gs_drill.proofs.drills.play.Goals as goal
 
@@ -11,17 +11,17 @@ returns-in-Err-take_line g c =
     let held = g.W.Write.contents in
     let st = c.loop-rest.invariant.0 in
     let takes = c.take_line in
-    Playing-ends {T = Standing takes.new.store takes.new.uploads} c.args.input.now c.loop-rest.rest.now c.split.result.0.now c.loop-rest.number (state_of c.loop-rest.begun st) (state_of takes.new.begun)
+    Playing-ends {T = Standing takes.new.store takes.new.uploads} c.args.input.now c.loop-rest.rest.now c.split.result.0.now c.loop-rest.number (run_state c.loop-rest.begun st) (run_state takes.new.begun)
     (held c.args.out.now) (held c.loop-rest.out) (held takes.new.out) c.in-Err-take_line.stop
     c.loop-rest.invariant.1 (filled c.loop-rest.rest.now c.is_empty.result c.is_empty.ensures c.loop-rest-test.true) c.split.ensures.before (c.in-Err-take_line.ensures st)
 
 pub loop-rest-init : goal.loop-rest-init
-loop-rest-init g c = let new = c.in-Ok.ensures.begins in (new.standing, Playing-none c.args.input.now (state_of false new.standing) (g.W.Write.contents c.args.out.now) (new.is false))
+loop-rest-init g c = let new = c.in-Ok.ensures.begins in (new.standing, Playing-none c.args.input.now (run_state false new.standing) (g.W.Write.contents c.args.out.now) (new.is false))
 
 pub loop-rest-smaller : goal.loop-rest-smaller
 loop-rest-smaller g c =
     let some = filled c.loop-rest.rest.now c.is_empty.result c.is_empty.ensures c.loop-rest-test.true in
-    shorter c.loop-rest.rest.now c.split.result.1.now some c.split.ensures.behind
+    shorter c.loop-rest.rest.now c.split.result.1.now some c.split.ensures.after
 
 pub loop-rest-preserved : goal.loop-rest-preserved
 loop-rest-preserved g c =
@@ -30,9 +30,9 @@ loop-rest-preserved g c =
     let takes = c.take_line in
     let told = c.in_default.ensures st in (
       told.last,
-      Playing-more c.args.input.now c.loop-rest.rest.now c.split.result.0.now c.split.result.1.now c.loop-rest.number (state_of c.loop-rest.begun st) (state_of takes.new.begun told.last)
+      Playing-more c.args.input.now c.loop-rest.rest.now c.split.result.0.now c.split.result.1.now c.loop-rest.number (run_state c.loop-rest.begun st) (run_state takes.new.begun told.last)
           (held c.args.out.now) (held c.loop-rest.out) (held takes.new.out)
-          c.loop-rest.invariant.1 (filled c.loop-rest.rest.now c.is_empty.result c.is_empty.ensures c.loop-rest-test.true) c.split.ensures.before c.split.ensures.behind
+          c.loop-rest.invariant.1 (filled c.loop-rest.rest.now c.is_empty.result c.is_empty.ensures c.loop-rest-test.true) c.split.ensures.before c.split.ensures.after
           (record { text = told.text; makes = told.makes; written = told.written }),
     )
 
@@ -40,5 +40,5 @@ pub returns : goal.returns
 returns g c =
     let held = g.W.Write.contents in
     let st = c.loop-rest.invariant.0 in
-    Playing-all c.args.input.now c.loop-rest.rest.now c.loop-rest.number (state_of c.loop-rest.begun st) (held c.args.out.now) (held c.loop-rest.out) c.loop-rest.invariant.1
+    Playing-all c.args.input.now c.loop-rest.rest.now c.loop-rest.number (run_state c.loop-rest.begun st) (held c.args.out.now) (held c.loop-rest.out) c.loop-rest.invariant.1
     (emptied c.loop-rest.rest.now c.is_empty.result c.is_empty.ensures c.loop-rest-test.false)

@@ -1,5 +1,5 @@
 use Rattle.std.proofs.Common.{◌≡◌, replicate, None}
-use Rattle.gs_drill.specs.declared.texts.SeatText.TheVariants.{Unfed}
+use Rattle.gs_feeding.specs.declared.texts.SeatText.TheVariants.{Unfed}
 use Rattle.gs_drill.proofs.uploads.Uploads.new.Given as goal
 
 abbrev pub invariant-loop : goal.invariant-loop

@@ -2,7 +2,8 @@ use Rattle.std.proofs.Common.{◌∷◌, [], ◌++◌, ◌≤◌, ◌<◌, lengt
 use Rattle.std.proofs.lemmas.Result.{on_err_weaker, on_ok_weaker}
 use Rattle.gs_model.specs.Triples.{RdfTriple}
 use Rattle.gs_machine.specs.Machines.{Begins}
-use Rattle.gs_upload.proofs.ReadingLemmas.{FeedsEach-more, any_err, each_grows, cutting-more, cutting-last}
+use Rattle.gs_upload.proofs.ReadingLemmas.{FeedsEach-more, any_err, each_grows}
+use Rattle.gs_upload.proofs.CuttingLemmas.{cutting-more, cutting-last}
 use Rattle.gs_upload.proofs.readings.Reading.feed_each.Goals as goal
 use Rattle.gs_upload.proofs.readings.Reading.feed_each.Goals.{then-loop-rest-test+else-length-rest, else-loop-rest-test}
 

@@ -1,6 +1,6 @@
 use Rattle.std.proofs.Common.{ℕ, List, length}
 use Rattle.gs_upload.specs.Readings.{FeedsEach}
-use Rattle.gs_upload.proofs.ReadingLemmas.{Cutting}
+use Rattle.gs_upload.proofs.CuttingLemmas.{Cutting}
 use Rattle.gs_upload.proofs.readings.Reading.feed_each.Given as goal
 
 abbrev pub invariant-loop-rest : goal.invariant-loop-rest

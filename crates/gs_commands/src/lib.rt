@@ -1,0 +1,9 @@
+//! What a line of a schedule says.
+#![tactic(auto)]
+
+mod commands;
+mod lines;
+mod words;
+
+pub use commands::{Command, read_command};
+pub use words::split;

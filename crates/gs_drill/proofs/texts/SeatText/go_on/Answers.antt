@@ -1,6 +1,0 @@
-use Rattle.gs_drill.proofs.TextLemmas.{goes_on}
-use Rattle.gs_drill.proofs.texts.SeatText.go_on.Goals as goal
-
-pub returns-in_ok-given-in-Fed : goal.returns-in_ok-given-in-Fed
-returns-in_ok-given-in-Fed c =
-    goes_on c.args.self c.in-Fed.language c.in-Fed.reading c.feed_reading.new.reading c.args.text.now c.args.cut c.in_ok-given-in-Fed.given.items c.in-Fed.is c.in_ok-given-in-Fed.ensures
