@@ -1,0 +1,4 @@
+pub mod Prefixes
+pub mod Frames
+pub mod Views
+pub mod Machine

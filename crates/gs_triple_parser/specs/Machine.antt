@@ -1,0 +1,60 @@
+-- The machine of triples at a parser: what its functions give with the parser's context, stack, triples and numbers.
+use Rattle.std.specs.Prelude.{ℕ, ◌∷◌, Result}
+use Rattle.gs_model.specs.Terms.{Term}
+use Rattle.gs_triples.specs.Meanings.{Fault}
+use Rattle.gs_triples.specs.States.{State, Turn}
+use Rattle.gs_triples.specs.Machine as machine
+use Rattle.gs_triple_parser.specs.Frames.{goal_of, slot_of, frame_of, frames_at, stack_of}
+use Rattle.gs_triple_parser.specs.Views.{symbol_at, context_of, triples_state, triples_state_at}
+use Rattle.gs_triple_parser.specs.declared.frames.Frame.{Frame}
+use Rattle.gs_triple_parser.specs.declared.frames.Goal.{Goal}
+use Rattle.gs_triple_parser.specs.declared.frames.Slot.{Slot}
+use Rattle.gs_triple_parser.specs.declared.places.Place.{Place}
+use Rattle.gs_triple_parser.specs.declared.symbols.Symbol.{Symbol}
+use Rattle.gs_triple_parser.specs.declared.parser.TripleParser.{TripleParser}
+
+-- a term for a slot
+abbrev pub given_slot : TripleParser → Slot → Term → State
+given_slot p s v = machine.give (context_of p.context) v (slot_of s ∷ stack_of p.stack) p.pending.items p.numbering
+
+-- a term for what stands on top of the stack
+abbrev pub given_top : TripleParser → Term → State
+given_top p v = machine.give (context_of p.context) v (stack_of p.stack) p.pending.items p.numbering
+
+-- a term for a slot, or its fault
+abbrev pub put_slot : TripleParser → Slot → Result Term Fault → State
+put_slot p s made = machine.put (slot_of s ∷ stack_of p.stack) (context_of p.context) p.pending.items p.numbering made
+
+-- the first symbol of an object for a slot
+abbrev pub object_of : TripleParser → ℕ → Slot → Symbol → State
+object_of p d s t =
+    machine.object d (symbol_at t) (slot_of s ∷ stack_of p.stack) (context_of p.context) p.pending.items p.numbering
+
+-- the symbol of a verb
+abbrev pub verb_of : TripleParser → ℕ → Term → Symbol → State
+verb_of p d s t = machine.at_verb d s (symbol_at t) (stack_of p.stack) (context_of p.context) p.pending.items p.numbering
+
+-- a symbol where this frame is open after a list of verbs and objects
+abbrev pub shut_of : TripleParser → Frame → Symbol → State
+shut_of p f t = machine.shut (symbol_at t) (frame_of f) (stack_of p.stack) (context_of p.context) p.pending.items p.numbering
+
+-- a symbol after a list of verbs and objects
+abbrev pub leave_of : TripleParser → Symbol → Turn
+leave_of p t = machine.leave (symbol_at t) (stack_of p.stack) (context_of p.context) p.pending.items p.numbering
+
+-- one symbol at a goal
+abbrev pub head_of : TripleParser → Goal → Symbol → Turn
+head_of p g t =
+    machine.head (goal_of g) (symbol_at t) (frames_at g (stack_of p.stack)) (context_of p.context) p.pending.items p.numbering
+
+-- one symbol at a place
+abbrev pub step_of : TripleParser → Place → Symbol → Turn
+step_of p l t = machine.step (triples_state_at p l) (symbol_at t)
+
+-- a symbol after a string without a suffix, which is the object that stands last
+abbrev pub next_of : State → Symbol → Turn
+next_of s t = machine.go_on (symbol_at t) s
+
+-- the first symbol of triples
+abbrev pub opening_of : TripleParser → Symbol → State
+opening_of p t = machine.opening (context_of p.context) p.numbering (symbol_at t)
