@@ -1,5 +1,5 @@
 //! What begins a statement, and the rest of a directive.
-ghost use Rattle.std.specs.Prelude.{◌≡◌, OnOk, IfOk, Some, None, if◌then◌else◌, string_bytes};
+ghost use Rattle.std.specs.Prelude.{◌≡◌, OnOk, Some};
 
 use crate::parser::Parser;
 use crate::places::Place;
@@ -8,10 +8,10 @@ use std::alloc::AllocError;
 
 impl Parser {
     ghost use Rattle.gs_triples.specs.Symbols.{At};
-    ghost use Rattle.gs_document.specs.Directives.{with_prefix, with_base};
+    ghost use Rattle.gs_triple_parser.specs.Contexts.{Changes};
     ghost use Rattle.gs_document.specs.Machine.{step, set};
     ghost use Rattle.gs_parse.specs.Views.{state_at, context_at, numbers_at};
-    ghost use Rattle.gs_parse.specs.Steps.{turn_at, Turns};
+    ghost use Rattle.gs_parse.specs.Steps.{turn, declared, Turns};
 
     /// `@prefix` or `@base`.
     #[tactic(auto, unfolding(gs_document::specs::Machine::step))]
@@ -30,7 +30,7 @@ impl Parser {
     /// A symbol between two statements.
     #[tactic(auto, unfolding(gs_document::specs::Machine::step))]
     pub(crate) fn begin(&mut self, symbol: Symbol) -> Result<(), AllocError>
-        ensures { OnOk result (Turns self.old self.new (turn_at self.old Place.Between symbol.entry)) }
+        ensures { OnOk result (Turns self.old self.new (turn self.old Place.Between symbol.entry)) }
     {
         match symbol {
             Symbol::At(text) => self.begin_at(text),
@@ -47,7 +47,7 @@ impl Parser {
     /// The prefix that a directive declares.
     #[tactic(auto, unfolding(gs_document::specs::Machine::step))]
     pub(crate) fn prefix(&mut self, dot: bool, symbol: Symbol) -> Result<(), AllocError>
-        ensures { OnOk result (Turns self.old self.new (turn_at self.old (Place.InPrefix dot) symbol.entry)) }
+        ensures { OnOk result (Turns self.old self.new (turn self.old (Place.InPrefix dot) symbol.entry)) }
     {
         match symbol {
             Symbol::Word(Word::Namespace(prefix)) => {
@@ -73,7 +73,7 @@ impl Parser {
     /// Declares the prefix that a directive has. Whether it and this are a prefix and an IRI.
     #[tactic(auto, unfolding(gs_document::specs::Directives::with_prefix))]
     fn declare(&mut self, text: &str) -> Result<bool, AllocError>
-        ensures context { IfOk result (λ b. (if b then Some (context_at self.new) else None) ≡ with_prefix (context_at self.old) (string_bytes self.old.prefix) text.now) }
+        ensures context { Changes result (context_at self.new) (declared self.old text.now) }
         ensures numbers { numbers_at self.new ≡ numbers_at self.old }
         ensures last { self.new.last ≡ self.old.last }
     {
@@ -86,7 +86,7 @@ impl Parser {
     /// The IRI that a prefix stands for.
     #[tactic(auto, unfolding(gs_document::specs::Machine::step))]
     pub(crate) fn prefix_iri(&mut self, dot: bool, symbol: Symbol) -> Result<(), AllocError>
-        ensures { OnOk result (Turns self.old self.new (turn_at self.old (Place.InPrefixIri dot) symbol.entry)) }
+        ensures { OnOk result (Turns self.old self.new (turn self.old (Place.InPrefixIri dot) symbol.entry)) }
     {
         match symbol {
             Symbol::Word(Word::Reference(text, end)) => {
@@ -104,7 +104,7 @@ impl Parser {
     /// The IRI of a base.
     #[tactic(auto, unfolding(gs_document::specs::Machine::step, gs_document::specs::Directives::with_base))]
     pub(crate) fn base(&mut self, dot: bool, symbol: Symbol) -> Result<(), AllocError>
-        ensures { OnOk result (Turns self.old self.new (turn_at self.old (Place.InBase dot) symbol.entry)) }
+        ensures { OnOk result (Turns self.old self.new (turn self.old (Place.InBase dot) symbol.entry)) }
     {
         match symbol {
             Symbol::Word(Word::Reference(text, end)) => {
@@ -122,7 +122,7 @@ impl Parser {
     /// The dot of a directive.
     #[tactic(auto, unfolding(gs_document::specs::Machine::step))]
     pub(crate) fn dot(&mut self, symbol: Symbol)
-        ensures { Turns self.old self.new (turn_at self.old Place.AtDot symbol.entry) }
+        ensures { Turns self.old self.new (turn self.old Place.AtDot symbol.entry) }
     {
         match symbol {
             Symbol::Dot(end) => self.between(end),

@@ -11,13 +11,10 @@ use gs_triple_parser::{Symbol, TripleParser, Turn, symbol_of_token};
 use std::alloc::{AllocError, Global};
 
 impl Parser {
-    ghost use Rattle.gs_body.specs.Bodies.{triples_of, end_after};
-    ghost use Rattle.gs_triple_parser.specs.Views.{symbol_at, pending_triples};
     ghost use Rattle.gs_document.specs.Documents.{start};
     ghost use Rattle.gs_document.specs.States.{Between};
-    ghost use Rattle.gs_document.specs.Machine.{conclude};
-    ghost use Rattle.gs_parse.specs.Views.{state_of, context_at, numbers_at};
-    ghost use Rattle.gs_parse.specs.Steps.{turn_at, token_turn, Steps};
+    ghost use Rattle.gs_parse.specs.Views.{state_of};
+    ghost use Rattle.gs_parse.specs.Steps.{state_after, stated_by, last_after, turn_here, turn_within, turn_after, Moves, Gives};
 
     /// At the start of a document under an absolute base, in the request of this number.
     pub fn new(alloc: Global, base: &str, request: u64) -> Result<Parser, AllocError>
@@ -37,8 +34,8 @@ impl Parser {
     /// The symbol after the triples of a statement, which is to be their dot.
     #[tactic(auto, using(crate::proofs::StepLemmas::given_stated))]
     fn conclude(&mut self, symbol: Symbol, triples: &mut Vec<Triple>) -> Result<(), AllocError>
-        ensures ok { OnOk result (Steps self.old self.new (conclude (symbol_at symbol.entry) (context_at self.old) (pending_triples self.old.triples) (numbers_at self.old)) triples.old.items triples.new.items) }
-        ensures err { OnErr result (triples.new.items ≡ triples.old.items) }
+        ensures moves { OnOk result (Moves self.old self.new (turn_after self.old symbol.entry)) }
+        ensures given { Gives result triples.old.items triples.new.items (turn_after self.old symbol.entry) }
     {
         let Symbol::Dot(end) = symbol else {
             self.lose();
@@ -52,8 +49,8 @@ impl Parser {
     /// A symbol within the triples of a statement, or after them.
     #[tactic(auto, unfolding(gs_document::specs::Machine::step))]
     fn within(&mut self, symbol: Symbol, triples: &mut Vec<Triple>) -> Result<(), AllocError>
-        ensures ok { OnOk result (Steps self.old self.new (turn_at self.old Place.Within symbol.entry) triples.old.items triples.new.items) }
-        ensures err { OnErr result (triples.new.items ≡ triples.old.items) }
+        ensures moves { OnOk result (Moves self.old self.new (turn_within self.old symbol.entry)) }
+        ensures given { Gives result triples.old.items triples.new.items (turn_within self.old symbol.entry) }
     {
         match self.triples.step(symbol)? {
             Turn::Over => self.conclude(symbol, triples),
@@ -65,10 +62,10 @@ impl Parser {
     }
 
     /// One symbol more.
-    #[tactic(auto, using(crate::proofs::StepLemmas::quiet_turn), unfolding(gs_document::specs::Machine::step))]
+    #[tactic(auto, using(crate::proofs::StepLemmas::quiet_moves, crate::proofs::StepLemmas::quiet_given), unfolding(gs_document::specs::Machine::step, gs_triples::specs::Machine::step))]
     fn take(&mut self, symbol: Symbol, triples: &mut Vec<Triple>) -> Result<(), AllocError>
-        ensures ok { OnOk result (Steps self.old self.new (turn_at self.old self.old.place symbol.entry) triples.old.items triples.new.items) }
-        ensures err { OnErr result (triples.new.items ≡ triples.old.items) }
+        ensures moves { OnOk result (Moves self.old self.new (turn_here self.old symbol.entry)) }
+        ensures given { Gives result triples.old.items triples.new.items (turn_here self.old symbol.entry) }
     {
         match self.place {
             Place::Within => return self.within(symbol, triples),
@@ -77,7 +74,7 @@ impl Parser {
             Place::InPrefixIri(dot) => self.prefix_iri(dot, symbol)?,
             Place::InBase(dot) => self.base(dot, symbol)?,
             Place::AtDot => self.dot(symbol),
-            Place::Lost => {}
+            Place::Lost => self.lose(),
         }
         Ok(())
     }
@@ -85,9 +82,9 @@ impl Parser {
     /// One token more: the triples of the statement that it ends are added to the list. After a
     /// refusal the list is as it was, and the parser is of no more use.
     pub fn step(&mut self, token: &Token, triples: &mut Vec<Triple>) -> Result<(), AllocError>
-        ensures state { OnOk result (state_of self.new ≡ (token_turn self.old token.now).0) }
-        ensures given { OnOk result (triples.new.items ≡ triples.old.items ++ triples_of (token_turn self.old token.now).1) }
-        ensures last { OnOk result (self.new.last ≡ end_after self.old.last (token_turn self.old token.now).1) }
+        ensures state { OnOk result (state_of self.new ≡ state_after self.old token.now) }
+        ensures given { OnOk result (triples.new.items ≡ triples.old.items ++ stated_by self.old token.now) }
+        ensures last { OnOk result (self.new.last ≡ last_after self.old token.now) }
         ensures err { OnErr result (triples.new.items ≡ triples.old.items) }
     {
         self.take(symbol_of_token(token), triples)

@@ -19,13 +19,13 @@ pub struct Parser {
 
 impl Parser {
     ghost use Rattle.gs_model.specs.declared.faults.Fault.TheVariants.{Syntax};
-    ghost use Rattle.gs_document.specs.States.{Between, lost};
+    ghost use Rattle.gs_document.specs.States.{Between, lost, quiet};
     ghost use Rattle.gs_parse.specs.Views.{state_of, context_at, numbers_at};
+    ghost use Rattle.gs_parse.specs.Steps.{Turns};
 
     /// The grammar is broken outside triples: nothing is read after it.
     pub(crate) fn lose(&mut self)
-        ensures state { state_of self.new ≡ lost Syntax }
-        ensures last { self.new.last ≡ self.old.last }
+        ensures { Turns self.old self.new (quiet (lost Syntax)) }
     {
         self.place = Place::Lost;
     }

@@ -1,17 +1,31 @@
 -- The machine of triples at a parser: what its functions give with the parser's context, stack, triples and numbers.
-use Rattle.std.specs.Prelude.{ℕ, ◌∷◌, Result}
+use Rattle.std.specs.Prelude.{◌≡◌, ℕ, List, [], ◌∷◌, Result, OnOk, IfOk}
 use Rattle.gs_model.specs.Terms.{Term}
-use Rattle.gs_triples.specs.Meanings.{Fault}
-use Rattle.gs_triples.specs.States.{State, Turn}
+use Rattle.gs_triples.specs.Meanings.{Fault, simple}
+use Rattle.gs_triples.specs.Goals.{Verbs}
+use Rattle.gs_triples.specs.States.{State, Heading, Turn, Goes}
 use Rattle.gs_triples.specs.Machine as machine
 use Rattle.gs_triple_parser.specs.Frames.{goal_of, slot_of, frame_of, frames_at, stack_of}
-use Rattle.gs_triple_parser.specs.Views.{symbol_at, context_of, triples_state, triples_state_at}
+use Rattle.gs_triple_parser.specs.Views.{symbol_at, context_of, triples_state, triples_state_at, triples_turn}
 use Rattle.gs_triple_parser.specs.declared.frames.Frame.{Frame}
 use Rattle.gs_triple_parser.specs.declared.frames.Goal.{Goal}
 use Rattle.gs_triple_parser.specs.declared.frames.Slot.{Slot}
 use Rattle.gs_triple_parser.specs.declared.places.Place.{Place}
 use Rattle.gs_triple_parser.specs.declared.symbols.Symbol.{Symbol}
 use Rattle.gs_triple_parser.specs.declared.parser.TripleParser.{TripleParser}
+use Rattle.gs_triple_parser.specs.declared.parser.Turn as code
+
+-- a call that has not failed left a parser in this state
+abbrev pub Reaches : {E : Type 0} → Result (Unit {0}) E → TripleParser → State → Type 0
+Reaches r p s = OnOk r (triples_state p ≡ s)
+
+-- it took a symbol
+abbrev pub IsTaken : {E : Type 0} → Result (Unit {0}) E → TripleParser → Turn → Type 0
+IsTaken r p t = OnOk r (Goes (triples_state p) ≡ t)
+
+-- it reports what a symbol does
+abbrev pub Turned : {E : Type 0} → Result code.Turn E → TripleParser → Turn → Type 0
+Turned r p t = IfOk r (λ u. triples_turn p u ≡ t)
 
 -- a term for a slot
 abbrev pub given_slot : TripleParser → Slot → Term → State
@@ -54,6 +68,14 @@ step_of p l t = machine.step (triples_state_at p l) (symbol_at t)
 -- a symbol after a string without a suffix, which is the object that stands last
 abbrev pub next_of : State → Symbol → Turn
 next_of s t = machine.go_on (symbol_at t) s
+
+-- a subject, before its first verb
+abbrev pub first_verb : TripleParser → Term → State
+first_verb p s = Heading (Verbs 0 s) [] (context_of p.context) [] p.numbering
+
+-- a string that is an object by itself
+abbrev pub simple_of : TripleParser → Slot → List ℕ → State
+simple_of p s x = put_slot p s (simple x)
 
 -- the first symbol of triples
 abbrev pub opening_of : TripleParser → Symbol → State

@@ -1,9 +1,7 @@
 -- What values of the code stand for.
-use Rattle.std.specs.Prelude.{ℕ, List, ◌∷◌, Bool, if◌then◌else◌, Option, Some, None, string_bytes}
-use Rattle.std.specs.FinMap as finite
+use Rattle.std.specs.Prelude.{List, ◌∷◌, string_bytes}
 use Rattle.gs_model.specs.Triples.{RdfTriple}
 use Rattle.gs_blank.specs.Numbers.{Numbers}
-use Rattle.gs_iri.specs.Resolving.{resolved}
 use Rattle.gs_triples.specs.Symbols as grammar
 use Rattle.gs_triples.specs.Meanings as meaning
 use Rattle.gs_triples.specs.States as machine
@@ -48,18 +46,6 @@ symbol_at symbol.Foreign = grammar.Foreign
 -- the base, the prefixes and the request of a context
 abbrev pub context_of : Context → meaning.Context
 context_of c = record { base = string_bytes c.base; prefixes = c.prefixes; request = c.request }
-
--- a context with this reference as its base, which is resolved against the base before it
-abbrev pub with_base_at : meaning.Context → List ℕ → meaning.Context
-with_base_at env i = record env { base = resolved env.base i }
-
--- and with this reference for a prefix
-abbrev pub with_prefix_at : meaning.Context → List ℕ → List ℕ → meaning.Context
-with_prefix_at env p i = record env { prefixes = finite.insert env.prefixes p (resolved env.base i) }
-
--- a context that has changed, or none
-abbrev pub changed : Bool → meaning.Context → Option meaning.Context
-changed b env = if b then Some env else None
 
 -- what a place stands for, with the other fields: each place has only some of them
 abbrev pub state_at : Place → meaning.Context → List machine.Frame → List RdfTriple → Numbers → machine.State

@@ -11,11 +11,11 @@ use std::alloc::AllocError;
 
 impl TripleParser {
     ghost use Rattle.gs_triple_parser.specs.Views.{triples_state, triples_turn};
-    ghost use Rattle.gs_triple_parser.specs.Machine.{shut_of, leave_of};
+    ghost use Rattle.gs_triple_parser.specs.Machine.{Reaches, Turned, shut_of, leave_of};
 
     /// A symbol where this frame is open after a list of verbs and objects.
     fn shut(&mut self, frame: Frame, symbol: Symbol) -> Result<(), AllocError>
-        ensures { OnOk result (triples_state self.new ≡ shut_of self.old frame symbol.entry) }
+        ensures { Reaches result self.new (shut_of self.old frame symbol.entry) }
     {
         let Symbol::Close = symbol else {
             self.lose(Fault::Syntax);
@@ -38,7 +38,7 @@ impl TripleParser {
     /// A symbol after a list of verbs and objects, which are all where no frame is open.
     #[tactic(auto, using(crate::proofs::LeaveLemmas::left_none, crate::proofs::LeaveLemmas::left_some))]
     pub(crate) fn leave(&mut self, symbol: Symbol) -> Result<Turn, AllocError>
-        ensures { IfOk result (λ t. triples_turn self.new t ≡ leave_of self.old symbol.entry) }
+        ensures { Turned result self.new (leave_of self.old symbol.entry) }
     {
         match self.stack.pop() {
             None => Ok(Turn::Over),

@@ -1,9 +1,9 @@
 //! What earlier statements leave.
-ghost use Rattle.std.specs.Prelude.{◌≡◌, ◌==◌, position, true, IfSome, Some, None, option_map, IfOk, string_bytes};
-ghost use Rattle.std.specs.FinMap as finite;
+ghost use Rattle.std.specs.Prelude.{◌≡◌, ◌==◌, position, true, IfSome, option_map, IfOk, string_bytes};
 ghost use Rattle.gs_model.specs.Iris.{is_absolute};
 ghost use Rattle.gs_iri.specs.Resolving.{resolved};
 ghost use Rattle.gs_escape.specs.Tokens.{iri_of, parts_of};
+ghost use Rattle.gs_triple_parser.specs.Contexts.{IsText};
 
 use crate::prefixes::Prefixes;
 use crate::symbols::Word;
@@ -39,7 +39,7 @@ pub fn parts(text: &str) -> Option<(&str, &str)>
 
 /// The reference between the brackets of a token.
 fn reference(alloc: Global, text: &str) -> Result<Option<String>, AllocError>
-    ensures { IfOk result (λ o. option_map string_bytes o ≡ iri_of text.now) }
+    ensures { IsText result (iri_of text.now) }
 {
     let mut meaning = String::new(alloc);
     match memory_apart(gs_escape::iri(text.as_bytes(), &mut meaning))? {
@@ -50,12 +50,13 @@ fn reference(alloc: Global, text: &str) -> Result<Option<String>, AllocError>
 
 impl Context {
     ghost use Rattle.gs_triples.specs.Meanings.{name_text, iri_text};
-    ghost use Rattle.gs_triple_parser.specs.Views.{word_at, context_of, with_base_at, with_prefix_at, changed};
+    ghost use Rattle.gs_triple_parser.specs.Views.{word_at, context_of};
+    ghost use Rattle.gs_triple_parser.specs.Contexts.{no_prefix, base_set, prefix_set, Changes};
 
     /// Under an absolute base, with no prefix.
     pub fn new(alloc: Global, base: &str, request: u64) -> Result<Context, AllocError>
         requires { is_absolute base.now ≡ true }
-        ensures { IfOk result (λ c. context_of c ≡ record { base = base.now; prefixes = finite.empty; request = request }) }
+        ensures { IfOk result (λ c. context_of c ≡ no_prefix base.now request) }
     {
         let base = String::from_str(alloc, base)?;
         Ok(Context {
@@ -68,7 +69,7 @@ impl Context {
 
     /// The IRI that a reference means, which is absolute as the base is.
     fn resolve(&self, text: &str) -> Result<Option<String>, AllocError>
-        ensures value { IfOk result (λ o. option_map string_bytes o ≡ option_map (resolved (string_bytes self.now.base)) (iri_of text.now)) }
+        ensures value { IsText result (option_map (resolved (string_bytes self.now.base)) (iri_of text.now)) }
         ensures absolute { IfOk result (λ o. IfSome o (λ i. is_absolute (string_bytes i) ≡ true)) }
     {
         let Some(reference) = reference(self.alloc, text)? else {
@@ -84,7 +85,7 @@ impl Context {
     /// The IRI that a prefixed name means.
     #[tactic(auto, unfolding(gs_triples::specs::Meanings::name_text))]
     fn name(&self, text: &str) -> Result<Option<String>, AllocError>
-        ensures { IfOk result (λ o. option_map string_bytes o ≡ name_text (context_of self.now) text.now) }
+        ensures { IsText result (name_text (context_of self.now) text.now) }
     {
         let Some((prefix, local)) = parts(text) else {
             return Ok(None);
@@ -102,7 +103,7 @@ impl Context {
 
     /// The IRI that a word means, if it means one.
     pub fn iri(&self, word: Word) -> Result<Option<String>, AllocError>
-        ensures { IfOk result (λ o. option_map string_bytes o ≡ iri_text (context_of self.now) (word_at word.entry)) }
+        ensures { IsText result (iri_text (context_of self.now) (word_at word.entry)) }
     {
         match word {
             Word::Reference(text, _) => self.resolve(text),
@@ -113,7 +114,7 @@ impl Context {
 
     /// Declares a prefix by the text of a reference. Whether that is one.
     pub fn set_prefix(&mut self, prefix: &str, text: &str) -> Result<bool, AllocError>
-        ensures { IfOk result (λ b. changed b (context_of self.new) ≡ option_map (with_prefix_at (context_of self.old) prefix.now) (iri_of text.now)) }
+        ensures { Changes result (context_of self.new) (prefix_set (context_of self.old) prefix.now text.now) }
     {
         let Some(iri) = self.resolve(text)? else {
             return Ok(false);
@@ -124,7 +125,7 @@ impl Context {
 
     /// Sets the base by the text of a reference. Whether that is one.
     pub fn set_base(&mut self, text: &str) -> Result<bool, AllocError>
-        ensures { IfOk result (λ b. changed b (context_of self.new) ≡ option_map (with_base_at (context_of self.old)) (iri_of text.now)) }
+        ensures { Changes result (context_of self.new) (base_set (context_of self.old) text.now) }
     {
         let Some(base) = self.resolve(text)? else {
             return Ok(false);

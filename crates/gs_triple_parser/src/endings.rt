@@ -1,10 +1,8 @@
 //! Where triples are over, have a fault, or are not finished; and what stands between triples.
-ghost use Rattle.std.specs.Prelude.{◌≡◌, ◌≢◌, ◌++◌, true, OnOk, OnErr, IfOk, IfSome, IfNone, option_map};
-ghost use Rattle.std.specs.FinMap as finite;
+ghost use Rattle.std.specs.Prelude.{◌≡◌, ◌≢◌, ◌++◌, true, OnOk, OnErr, IfOk, IfSome, IfNone};
 ghost use Rattle.gs_model.specs.Iris.{is_absolute};
 ghost use Rattle.gs_model.specs.declared.faults.Fault.{Fault};
 ghost use Rattle.gs_blank.specs.Numbers.{no_numbers};
-ghost use Rattle.gs_escape.specs.Tokens.{iri_of};
 
 use crate::contexts::Context;
 use crate::parser::TripleParser;
@@ -19,13 +17,14 @@ use std::alloc::{AllocError, Global};
 impl TripleParser {
     ghost use Rattle.gs_triples.specs.States.{Lost};
     ghost use Rattle.gs_triples.specs.Machine as machine;
-    ghost use Rattle.gs_triple_parser.specs.Views.{triples_state, context_now, numbers_now, pending_triples, with_base_at, with_prefix_at, changed};
+    ghost use Rattle.gs_triple_parser.specs.Views.{triples_state, context_now, numbers_now, pending_triples};
+    ghost use Rattle.gs_triple_parser.specs.Contexts.{no_prefix, base_set, prefix_set, Changes};
 
     /// Before any triples, under an absolute base, in the request of this number. Until triples
     /// open, a symbol is a fault of the grammar.
     pub fn new(alloc: Global, base: &str, request: u64) -> Result<TripleParser, AllocError>
         requires { is_absolute base.now ≡ true }
-        ensures context { IfOk result (λ p. context_now p ≡ record { base = base.now; prefixes = finite.empty; request = request }) }
+        ensures context { IfOk result (λ p. context_now p ≡ no_prefix base.now request) }
         ensures numbers { IfOk result (λ p. numbers_now p ≡ no_numbers) }
     {
         Ok(TripleParser {
@@ -40,7 +39,7 @@ impl TripleParser {
 
     /// Declares a prefix by the text of a reference. Whether that is one.
     pub fn set_prefix(&mut self, prefix: &str, text: &str) -> Result<bool, AllocError>
-        ensures context { IfOk result (λ b. changed b (context_now self.new) ≡ option_map (with_prefix_at (context_now self.old) prefix.now) (iri_of text.now)) }
+        ensures ok { Changes result (context_now self.new) (prefix_set (context_now self.old) prefix.now text.now) }
         ensures numbers { numbers_now self.new ≡ numbers_now self.old }
     {
         self.context.set_prefix(prefix, text)
@@ -48,7 +47,7 @@ impl TripleParser {
 
     /// Sets the base by the text of a reference. Whether that is one.
     pub fn set_base(&mut self, text: &str) -> Result<bool, AllocError>
-        ensures context { IfOk result (λ b. changed b (context_now self.new) ≡ option_map (with_base_at (context_now self.old)) (iri_of text.now)) }
+        ensures ok { Changes result (context_now self.new) (base_set (context_now self.old) text.now) }
         ensures numbers { numbers_now self.new ≡ numbers_now self.old }
     {
         self.context.set_base(text)

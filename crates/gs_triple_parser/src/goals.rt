@@ -22,11 +22,11 @@ pub fn begins_verb(symbol: Symbol) -> bool
 impl TripleParser {
     ghost use Rattle.gs_triples.specs.States.{Goes};
     ghost use Rattle.gs_triple_parser.specs.Views.{triples_state, triples_turn};
-    ghost use Rattle.gs_triple_parser.specs.Machine.{head_of};
+    ghost use Rattle.gs_triple_parser.specs.Machine.{IsTaken, Turned, head_of};
 
     /// A symbol after the `[` of an object.
     fn inside(&mut self, depth: usize, number: u64, symbol: Symbol) -> Result<(), AllocError>
-        ensures { OnOk result (Goes (triples_state self.new) ≡ head_of self.old (Goal.Inside depth number) symbol.entry) }
+        ensures { IsTaken result self.new (head_of self.old (Goal.Inside depth number) symbol.entry) }
     {
         let term = blank(self.alloc, self.context.request, number)?;
         match symbol {
@@ -40,7 +40,7 @@ impl TripleParser {
 
     /// A symbol after the `(` of a collection.
     fn begun(&mut self, depth: usize, symbol: Symbol) -> Result<(), AllocError>
-        ensures { OnOk result (Goes (triples_state self.new) ≡ head_of self.old (Goal.Begun depth) symbol.entry) }
+        ensures { IsTaken result self.new (head_of self.old (Goal.Begun depth) symbol.entry) }
     {
         match symbol {
             Symbol::CloseList => {
@@ -58,7 +58,7 @@ impl TripleParser {
 
     /// The `)` of a collection that has a cell.
     fn end_list(&mut self, depth: usize, first: u64, cell: u64) -> Result<(), AllocError>
-        ensures { OnOk result (Goes (triples_state self.new) ≡ head_of self.old (Goal.Items depth first cell) Symbol.CloseList) }
+        ensures { IsTaken result self.new (head_of self.old (Goal.Items depth first cell) Symbol.CloseList) }
     {
         let nil = rdf_nil(self.alloc)?;
         put_rest(self.alloc, &self.context, &mut self.pending, cell, nil)?;
@@ -74,7 +74,7 @@ impl TripleParser {
         cell: u64,
         symbol: Symbol,
     ) -> Result<(), AllocError>
-        ensures { OnOk result (Goes (triples_state self.new) ≡ head_of self.old (Goal.Items depth first cell) symbol.entry) }
+        ensures { IsTaken result self.new (head_of self.old (Goal.Items depth first cell) symbol.entry) }
     {
         match symbol {
             Symbol::CloseList => self.end_list(depth, first, cell),
@@ -96,7 +96,7 @@ impl TripleParser {
         verb: Name,
         symbol: Symbol,
     ) -> Result<Turn, AllocError>
-        ensures { IfOk result (λ t. triples_turn self.new t ≡ head_of self.old (Goal.After depth subject verb) symbol.entry) }
+        ensures { Turned result self.new (head_of self.old (Goal.After depth subject verb) symbol.entry) }
     {
         match symbol {
             Symbol::Comma => {
@@ -112,13 +112,8 @@ impl TripleParser {
     }
 
     /// A symbol after a `;`.
-    fn semis(
-        &mut self,
-        depth: usize,
-        subject: Subject,
-        symbol: Symbol,
-    ) -> Result<Turn, AllocError>
-        ensures { IfOk result (λ t. triples_turn self.new t ≡ head_of self.old (Goal.Semis depth subject) symbol.entry) }
+    fn semis(&mut self, depth: usize, subject: Subject, symbol: Symbol) -> Result<Turn, AllocError>
+        ensures { Turned result self.new (head_of self.old (Goal.Semis depth subject) symbol.entry) }
     {
         match symbol {
             Symbol::Semicolon => {
@@ -135,7 +130,7 @@ impl TripleParser {
 
     /// One symbol at a goal.
     pub(crate) fn head(&mut self, goal: Goal, symbol: Symbol) -> Result<Turn, AllocError>
-        ensures { IfOk result (λ t. triples_turn self.new t ≡ head_of self.old goal symbol.entry) }
+        ensures { Turned result self.new (head_of self.old goal symbol.entry) }
     {
         match goal {
             Goal::Object(depth, subject, verb) => {

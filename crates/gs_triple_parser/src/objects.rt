@@ -11,11 +11,11 @@ use std::alloc::AllocError;
 
 impl TripleParser {
     ghost use Rattle.gs_triple_parser.specs.Views.{triples_state};
-    ghost use Rattle.gs_triple_parser.specs.Machine.{object_of, verb_of};
+    ghost use Rattle.gs_triple_parser.specs.Machine.{Reaches, object_of, verb_of};
 
     /// A blank node for a slot, whose properties stand in brackets.
     fn open_brackets(&mut self, depth: usize, slot: Slot) -> Result<(), AllocError>
-        ensures { OnOk result (triples_state self.new ≡ object_of self.old depth slot Symbol.Open) }
+        ensures { Reaches result self.new (object_of self.old depth slot Symbol.Open) }
     {
         if depth >= MAX_NESTING {
             self.lose(Fault::Syntax);
@@ -31,7 +31,7 @@ impl TripleParser {
 
     /// A collection for a slot.
     fn open_list(&mut self, depth: usize, slot: Slot) -> Result<(), AllocError>
-        ensures { OnOk result (triples_state self.new ≡ object_of self.old depth slot Symbol.OpenList) }
+        ensures { Reaches result self.new (object_of self.old depth slot Symbol.OpenList) }
     {
         if depth >= MAX_NESTING {
             self.lose(Fault::Syntax);
@@ -49,7 +49,7 @@ impl TripleParser {
         slot: Slot,
         symbol: Symbol,
     ) -> Result<(), AllocError>
-        ensures { OnOk result (triples_state self.new ≡ object_of self.old depth slot symbol.entry) }
+        ensures { Reaches result self.new (object_of self.old depth slot symbol.entry) }
     {
         match symbol {
             Symbol::Word(word) => {
@@ -74,7 +74,7 @@ impl TripleParser {
         subject: Subject,
         symbol: Symbol,
     ) -> Result<(), AllocError>
-        ensures { OnOk result (triples_state self.new ≡ verb_of self.old depth subject.term symbol.entry) }
+        ensures { Reaches result self.new (verb_of self.old depth subject.term symbol.entry) }
     {
         match terms::verb(self.alloc, &self.context, symbol)? {
             Err(fault) => self.lose(fault),

@@ -1,5 +1,5 @@
 //! The first symbol of triples.
-ghost use Rattle.std.specs.Prelude.{◌≡◌, ◌∷◌, [], OnOk};
+ghost use Rattle.std.specs.Prelude.{◌≡◌};
 
 use crate::frames::{Frame, Goal, Subject};
 use crate::parser::TripleParser;
@@ -10,14 +10,12 @@ use gs_model::Fault;
 use std::alloc::AllocError;
 
 impl TripleParser {
-    ghost use Rattle.gs_triples.specs.Goals.{Verbs};
-    ghost use Rattle.gs_triples.specs.States as state;
-    ghost use Rattle.gs_triple_parser.specs.Views.{triples_state, context_now, numbers_now};
-    ghost use Rattle.gs_triple_parser.specs.Machine.{opening_of};
+    ghost use Rattle.gs_triple_parser.specs.Views.{triples_state};
+    ghost use Rattle.gs_triple_parser.specs.Machine.{Reaches, first_verb, opening_of};
 
     /// A subject, whose verbs come next.
     pub(crate) fn begin(&mut self, subject: Subject)
-        ensures { triples_state self.new ≡ state.Heading (Verbs 0 subject.term) [] (context_now self.old) [] (numbers_now self.old) }
+        ensures { triples_state self.new ≡ first_verb self.old subject.term }
     {
         self.stack.clear();
         self.pending.clear();
@@ -26,7 +24,7 @@ impl TripleParser {
 
     /// A collection opens triples.
     fn open_subject(&mut self) -> Result<(), AllocError>
-        ensures { OnOk result (triples_state self.new ≡ opening_of self.old Symbol.OpenList) }
+        ensures { Reaches result self.new (opening_of self.old Symbol.OpenList) }
     {
         self.stack.clear();
         self.pending.clear();
@@ -37,7 +35,7 @@ impl TripleParser {
 
     /// A word opens triples.
     fn open_word(&mut self, word: Word) -> Result<(), AllocError>
-        ensures { OnOk result (triples_state self.new ≡ opening_of self.old (Symbol.Word word.entry)) }
+        ensures { Reaches result self.new (opening_of self.old (Symbol.Word word.entry)) }
     {
         match terms::subject(self.alloc, &self.context, &mut self.numbering, word)? {
             Ok(term) => self.begin(Subject { term }),
@@ -48,7 +46,7 @@ impl TripleParser {
 
     /// The first symbol of triples. After a refusal the parser is of no more use.
     pub fn open(&mut self, symbol: Symbol) -> Result<(), AllocError>
-        ensures { OnOk result (triples_state self.new ≡ opening_of self.old symbol.entry) }
+        ensures { Reaches result self.new (opening_of self.old symbol.entry) }
     {
         match symbol {
             Symbol::Word(word) => return self.open_word(word),

@@ -35,7 +35,7 @@ pub struct TripleParser {
 impl TripleParser {
     ghost use Rattle.gs_triples.specs.States.{Lost};
     ghost use Rattle.gs_triple_parser.specs.Views.{triples_state};
-    ghost use Rattle.gs_triple_parser.specs.Machine.{given_slot, given_top, put_slot};
+    ghost use Rattle.gs_triple_parser.specs.Machine.{Reaches, given_slot, given_top, put_slot};
 
     /// After this fault nothing is read until triples open.
     pub(crate) fn lose(&mut self, fault: Fault)
@@ -53,7 +53,7 @@ impl TripleParser {
         number: u64,
         term: TermText,
     ) -> Result<(), AllocError>
-        ensures { OnOk result (triples_state self.new ≡ given_slot self.old (Slot.ToItem depth first cell number) term) }
+        ensures { Reaches result self.new (given_slot self.old (Slot.ToItem depth first cell number) term) }
     {
         put_first(self.alloc, &self.context, &mut self.pending, number, term)?;
         let next = blank(self.alloc, self.context.request, number)?;
@@ -64,7 +64,7 @@ impl TripleParser {
 
     /// A term for a slot.
     pub(crate) fn give(&mut self, slot: Slot, term: TermText) -> Result<(), AllocError>
-        ensures { OnOk result (triples_state self.new ≡ given_slot self.old slot term) }
+        ensures { Reaches result self.new (given_slot self.old slot term) }
     {
         match slot {
             Slot::ToObject(depth, subject, verb) => {
@@ -85,7 +85,7 @@ impl TripleParser {
 
     /// A blank node or a collection, for what stands on top of the stack.
     pub(crate) fn give_subject(&mut self, subject: Subject) -> Result<(), AllocError>
-        ensures { OnOk result (triples_state self.new ≡ given_top self.old subject.term) }
+        ensures { Reaches result self.new (given_top self.old subject.term) }
     {
         match self.stack.pop() {
             Some(Frame::ToSlot(slot)) => return self.give(slot, subject.term),
@@ -101,7 +101,7 @@ impl TripleParser {
         slot: Slot,
         made: Result<TermText, Fault>,
     ) -> Result<(), AllocError>
-        ensures { OnOk result (triples_state self.new ≡ put_slot self.old slot made) }
+        ensures { Reaches result self.new (put_slot self.old slot made) }
     {
         match made {
             Ok(term) => self.give(slot, term),

@@ -1,7 +1,7 @@
 //! The triples so far, which wait for what ends them.
-ghost use Rattle.std.specs.Prelude.{◌≡◌, ◌++◌, ◌∷◌, [], OnOk};
 ghost use Rattle.gs_triples.specs.Goals.{triple, first_is, rest_is};
 ghost use Rattle.gs_triple_parser.specs.Views.{context_of};
+ghost use Rattle.gs_triple_parser.specs.Terms.{Pushes};
 
 use crate::contexts::Context;
 use crate::frames::{Name, Subject};
@@ -17,7 +17,7 @@ pub fn put(
     verb: &Name,
     object: TermText,
 ) -> Result<(), AllocError>
-    ensures { OnOk result (pending.new.items ≡ pending.old.items ++ triple subject.now.term verb.now.term object ∷ []) }
+    ensures { Pushes result pending.old.items pending.new.items (triple subject.now.term verb.now.term object) }
 {
     let subject = subject.term.clone()?;
     let verb = verb.term.clone()?;
@@ -33,7 +33,7 @@ pub fn put_first(
     cell: u64,
     object: TermText,
 ) -> Result<(), AllocError>
-    ensures { OnOk result (pending.new.items ≡ pending.old.items ++ first_is (context_of context.now) cell object ∷ []) }
+    ensures { Pushes result pending.old.items pending.new.items (first_is (context_of context.now) cell object) }
 {
     let cell = blank(alloc, context.request, cell)?;
     let verb = rdf_first(alloc)?;
@@ -49,7 +49,7 @@ pub fn put_rest(
     cell: u64,
     object: TermText,
 ) -> Result<(), AllocError>
-    ensures { OnOk result (pending.new.items ≡ pending.old.items ++ rest_is (context_of context.now) cell object ∷ []) }
+    ensures { Pushes result pending.old.items pending.new.items (rest_is (context_of context.now) cell object) }
 {
     let cell = blank(alloc, context.request, cell)?;
     let verb = rdf_rest(alloc)?;

@@ -13,15 +13,14 @@ use std::mem;
 
 impl TripleParser {
     ghost use Rattle.gs_triples.specs.States.{Goes};
-    ghost use Rattle.gs_triples.specs.Meanings as meaning;
     ghost use Rattle.gs_triples.specs.Machine as machine;
     ghost use Rattle.gs_triple_parser.specs.Views.{triples_state, triples_turn, symbol_at};
-    ghost use Rattle.gs_triple_parser.specs.Machine.{put_slot, step_of, next_of};
+    ghost use Rattle.gs_triple_parser.specs.Machine.{IsTaken, Turned, simple_of, step_of, next_of};
 
     /// A symbol after a `[` that opens triples.
     #[tactic(auto, unfolding(gs_triples::specs::Machine::step))]
     fn opened(&mut self, symbol: Symbol) -> Result<(), AllocError>
-        ensures { OnOk result (Goes (triples_state self.new) ≡ step_of self.old Place.Opened symbol.entry) }
+        ensures { IsTaken result self.new (step_of self.old Place.Opened symbol.entry) }
     {
         let Ok(number) = self.numbering.fresh() else {
             return Err(AllocError);
@@ -44,7 +43,7 @@ impl TripleParser {
     /// A symbol after the properties that open triples.
     #[tactic(auto, unfolding(gs_triples::specs::Machine::step))]
     fn closed(&mut self, number: u64, symbol: Symbol) -> Result<Turn, AllocError>
-        ensures { IfOk result (λ t. triples_turn self.new t ≡ step_of self.old (Place.Closed number) symbol.entry) }
+        ensures { Turned result self.new (step_of self.old (Place.Closed number) symbol.entry) }
     {
         if !begins_verb(symbol) {
             return Ok(Turn::Over);
@@ -57,7 +56,7 @@ impl TripleParser {
 
     /// A symbol after the string that was an object.
     fn go_on(&mut self, symbol: Symbol) -> Result<Turn, AllocError>
-        ensures { IfOk result (λ t. triples_turn self.new t ≡ next_of (triples_state self.old) symbol.entry) }
+        ensures { Turned result self.new (next_of (triples_state self.old) symbol.entry) }
     {
         match mem::replace(&mut self.place, Place::Lost(Fault::Syntax)) {
             Place::Heading(goal) => self.head(goal, symbol),
@@ -71,7 +70,7 @@ impl TripleParser {
 
     /// A symbol after a string that has no suffix.
     fn simple(&mut self, text: String, slot: Slot, symbol: Symbol) -> Result<Turn, AllocError>
-        ensures { IfOk result (λ t. triples_turn self.new t ≡ next_of (put_slot self.old slot (meaning.simple (string_bytes text))) symbol.entry) }
+        ensures { Turned result self.new (next_of (simple_of self.old slot (string_bytes text)) symbol.entry) }
     {
         let made = terms::simple(self.alloc, text.as_str())?;
         self.put(slot, made)?;
@@ -81,7 +80,7 @@ impl TripleParser {
     /// A symbol after a string.
     #[tactic(auto, unfolding(gs_triples::specs::Machine::step))]
     fn held(&mut self, text: String, slot: Slot, symbol: Symbol) -> Result<Turn, AllocError>
-        ensures { IfOk result (λ t. triples_turn self.new t ≡ step_of self.old (Place.Held text slot) symbol.entry) }
+        ensures { Turned result self.new (step_of self.old (Place.Held text slot) symbol.entry) }
     {
         match symbol {
             Symbol::At(tag) => {
@@ -100,7 +99,7 @@ impl TripleParser {
     /// The datatype of a string.
     #[tactic(auto, unfolding(gs_triples::specs::Machine::step))]
     fn typing(&mut self, text: String, slot: Slot, symbol: Symbol) -> Result<(), AllocError>
-        ensures { OnOk result (Goes (triples_state self.new) ≡ step_of self.old (Place.Typing text slot) symbol.entry) }
+        ensures { IsTaken result self.new (step_of self.old (Place.Typing text slot) symbol.entry) }
     {
         let made = terms::typed(self.alloc, &self.context, text.as_str(), symbol)?;
         self.put(slot, made)
@@ -110,7 +109,7 @@ impl TripleParser {
     /// is of no more use.
     #[tactic(auto, unfolding(gs_triples::specs::Machine::step))]
     pub fn step(&mut self, symbol: Symbol) -> Result<Turn, AllocError>
-        ensures { IfOk result (λ t. triples_turn self.new t ≡ machine.step (triples_state self.old) (symbol_at symbol.entry)) }
+        ensures { Turned result self.new (machine.step (triples_state self.old) (symbol_at symbol.entry)) }
     {
         match mem::replace(&mut self.place, Place::Lost(Fault::Syntax)) {
             Place::Opened => self.opened(symbol)?,

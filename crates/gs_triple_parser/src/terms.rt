@@ -1,5 +1,5 @@
 //! The terms of tokens.
-ghost use Rattle.std.specs.Prelude.{◌≡◌, true, Some, codes, IfOk, option_map, option_copied, string_bytes};
+ghost use Rattle.std.specs.Prelude.{◌≡◌, true, Some, IfOk, option_map, option_copied, string_bytes};
 ghost use Rattle.gs_model.specs.Terms.{Term, Iri, Blank, Literal, Typed};
 ghost use Rattle.gs_model.specs.Triples.{is_iri, is_subject};
 ghost use Rattle.gs_term.specs.Making.{Makes};
@@ -7,6 +7,8 @@ ghost use Rattle.gs_escape.specs.Tokens.{behind, string_of};
 ghost use Rattle.gs_triples.specs.Meanings as meaning;
 ghost use Rattle.gs_triples.specs.Meanings.{made_of};
 ghost use Rattle.gs_triple_parser.specs.Views.{word_at, symbol_at, context_of};
+ghost use Rattle.gs_triple_parser.specs.Contexts.{IsText};
+ghost use Rattle.gs_triple_parser.specs.Terms.{IsNumbered, labelled_of, word_of, subject_of, typed_of};
 
 use crate::contexts::Context;
 use crate::symbols::{Symbol, Word};
@@ -74,7 +76,7 @@ pub fn blank(alloc: Global, request: u64, number: u64) -> Result<TermText, Alloc
 
 /// The lexical form that a string means.
 fn lexical(alloc: Global, text: &str) -> Result<Option<String>, AllocError>
-    ensures { IfOk result (λ o. option_map string_bytes o ≡ string_of text.now) }
+    ensures { IsText result (string_of text.now) }
 {
     let mut meaning = String::new(alloc);
     match memory_apart(gs_escape::string(text.as_bytes(), &mut meaning))? {
@@ -132,7 +134,7 @@ pub fn typed(
     text: &str,
     datatype: Symbol,
 ) -> Result<Result<TermText, Fault>, AllocError>
-    ensures { IfOk result (λ m. m ≡ meaning.typed (context_of context.now) text.now (symbol_at datatype.entry)) }
+    ensures { IfOk result (λ m. m ≡ typed_of context.now text.now datatype.entry) }
 {
     let Symbol::Word(word) = datatype else {
         return Ok(Err(Fault::Syntax));
@@ -169,7 +171,7 @@ fn labelled(
     numbering: &mut Numbering,
     label: &str,
 ) -> Result<Result<TermText, Fault>, AllocError>
-    ensures value { IfOk result (λ m. meaning.with_numbers numbering.new m ≡ meaning.labelled (context_of context.now) numbering.old (behind (codes "_:") label.now)) }
+    ensures value { IsNumbered result numbering.new (labelled_of context.now numbering.old label.now) }
     ensures kind { IfOk result (λ m. IfOk m (λ t. is_subject t ≡ true)) }
 {
     let Some(label) = after(label, "_:") else {
@@ -189,7 +191,7 @@ pub fn word(
     numbering: &mut Numbering,
     word: Word,
 ) -> Result<Result<TermText, Fault>, AllocError>
-    ensures { IfOk result (λ m. meaning.with_numbers numbering.new m ≡ meaning.word (context_of context.now) numbering.old (word_at word.entry)) }
+    ensures { IsNumbered result numbering.new (word_of context.now numbering.old word.entry) }
 {
     match word {
         Word::Label(label) => labelled(alloc, context, numbering, label),
@@ -206,7 +208,7 @@ pub fn subject(
     numbering: &mut Numbering,
     word: Word,
 ) -> Result<Result<TermText, Fault>, AllocError>
-    ensures value { IfOk result (λ m. meaning.with_numbers numbering.new m ≡ meaning.subject (context_of context.now) numbering.old (word_at word.entry)) }
+    ensures value { IsNumbered result numbering.new (subject_of context.now numbering.old word.entry) }
     ensures kind { IfOk result (λ m. IfOk m (λ t. is_subject t ≡ true)) }
 {
     match word {
