@@ -14,12 +14,12 @@ abbrev pub no_prefix : List ℕ → ℕ → Context
 no_prefix b r = record { base = b; prefixes = finite.empty; request = r }
 
 -- the text of a reference as the base, resolved against the base before it
-abbrev pub base_set : Context → List ℕ → Option Context
-base_set env x = option_map (λ i. record env { base = resolved env.base i }) (iri_of x)
+abbrev pub based : Context → List ℕ → Option Context
+based env x = option_map (λ i. record env { base = resolved env.base i }) (iri_of x)
 
 -- and for a prefix
-abbrev pub prefix_set : Context → List ℕ → List ℕ → Option Context
-prefix_set env p x = option_map (λ i. record env { prefixes = finite.insert env.prefixes p (resolved env.base i) }) (iri_of x)
+abbrev pub prefixed : Context → List ℕ → List ℕ → Option Context
+prefixed env p x = option_map (λ i. record env { prefixes = finite.insert env.prefixes p (resolved env.base i) }) (iri_of x)
 
 -- a call that has not failed says whether there is such a context, and leaves it
 abbrev pub Changes : {E : Type 0} → Result Bool E → Context → Option Context → Type 0

@@ -1,12 +1,13 @@
 -- The machine of triples at a parser: what its functions give with the parser's context, stack, triples and numbers.
-use Rattle.std.specs.Prelude.{◌≡◌, ℕ, List, [], ◌∷◌, Result, OnOk, IfOk}
+use Rattle.std.specs.Prelude.{◌≡◌, ℕ, [], ◌∷◌, Bool, Option, Result, OnOk, IfOk, String, string_bytes}
 use Rattle.gs_model.specs.Terms.{Term}
-use Rattle.gs_triples.specs.Meanings.{Fault, simple}
+use Rattle.gs_triples.specs.Meanings.{Fault, Context, simple}
 use Rattle.gs_triples.specs.Goals.{Verbs}
 use Rattle.gs_triples.specs.States.{State, Heading, Turn, Goes}
 use Rattle.gs_triples.specs.Machine as machine
 use Rattle.gs_triple_parser.specs.Frames.{goal_of, slot_of, frame_of, frames_at, stack_of}
-use Rattle.gs_triple_parser.specs.Views.{symbol_at, context_of, triples_state, triples_state_at, triples_turn}
+use Rattle.gs_triple_parser.specs.Views.{symbol_at, context_of, triples_state, triples_state_at, triples_turn, context_now, numbers_now}
+use Rattle.gs_triple_parser.specs.Contexts.{Changes}
 use Rattle.gs_triple_parser.specs.declared.frames.Frame.{Frame}
 use Rattle.gs_triple_parser.specs.declared.frames.Goal.{Goal}
 use Rattle.gs_triple_parser.specs.declared.frames.Slot.{Slot}
@@ -26,6 +27,11 @@ IsTaken r p t = OnOk r (Goes (triples_state p) ≡ t)
 -- it reports what a symbol does
 abbrev pub Turned : {E : Type 0} → Result code.Turn E → TripleParser → Turn → Type 0
 Turned r p t = IfOk r (λ u. triples_turn p u ≡ t)
+
+-- it says whether there is such a context, and leaves it; the numbers stay
+pub record Declares {E : Type 0} (r : Result Bool E) (old new : TripleParser) (o : Option Context) : Type 0 where
+  pub context : Changes r (context_now new) o
+  pub numbers : numbers_now new ≡ numbers_now old
 
 -- a term for a slot
 abbrev pub given_slot : TripleParser → Slot → Term → State
@@ -74,8 +80,8 @@ abbrev pub first_verb : TripleParser → Term → State
 first_verb p s = Heading (Verbs 0 s) [] (context_of p.context) [] p.numbering
 
 -- a string that is an object by itself
-abbrev pub simple_of : TripleParser → Slot → List ℕ → State
-simple_of p s x = put_slot p s (simple x)
+abbrev pub simple_of : {Y : Type 0} → TripleParser → Slot → String Y → State
+simple_of p s x = put_slot p s (simple (string_bytes x))
 
 -- the first symbol of triples
 abbrev pub opening_of : TripleParser → Symbol → State

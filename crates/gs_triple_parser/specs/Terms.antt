@@ -4,6 +4,7 @@ use Rattle.gs_model.specs.Terms.{Term}
 use Rattle.gs_model.specs.Triples.{RdfTriple}
 use Rattle.gs_blank.specs.Numbers.{Numbers}
 use Rattle.gs_escape.specs.Tokens.{behind}
+use Rattle.gs_triples.specs.Goals.{first_is, rest_is}
 use Rattle.gs_triples.specs.Meanings.{Fault, with_numbers}
 use Rattle.gs_triples.specs.Meanings as meaning
 use Rattle.gs_triple_parser.specs.Views.{word_at, symbol_at, context_of}
@@ -16,8 +17,16 @@ abbrev pub IsNumbered : {E : Type 0} → Result (Result Term Fault) E → Number
 IsNumbered r n x = IfOk r (λ m. with_numbers n m ≡ x)
 
 -- it adds this triple
-abbrev pub Pushes : {E : Type 0} → Result (Unit {0}) E → List RdfTriple → List RdfTriple → RdfTriple → Type 0
-Pushes r old new t = OnOk r (new ≡ old ++ t ∷ [])
+abbrev pub Adds : {E : Type 0} → Result (Unit {0}) E → List RdfTriple → List RdfTriple → RdfTriple → Type 0
+Adds r old new t = OnOk r (new ≡ old ++ t ∷ [])
+
+-- the object of a cell
+abbrev pub first_of : Context → ℕ → Term → RdfTriple
+first_of env m o = first_is (context_of env) m o
+
+-- what stands after a cell
+abbrev pub rest_of : Context → ℕ → Term → RdfTriple
+rest_of env m o = rest_is (context_of env) m o
 
 -- the term of one token
 abbrev pub word_of : Context → Numbers → Word → Result (Term × Numbers) Fault

@@ -51,7 +51,7 @@ fn reference(alloc: Global, text: &str) -> Result<Option<String>, AllocError>
 impl Context {
     ghost use Rattle.gs_triples.specs.Meanings.{name_text, iri_text};
     ghost use Rattle.gs_triple_parser.specs.Views.{word_at, context_of};
-    ghost use Rattle.gs_triple_parser.specs.Contexts.{no_prefix, base_set, prefix_set, Changes};
+    ghost use Rattle.gs_triple_parser.specs.Contexts.{no_prefix, based, prefixed, Changes};
 
     /// Under an absolute base, with no prefix.
     pub fn new(alloc: Global, base: &str, request: u64) -> Result<Context, AllocError>
@@ -114,7 +114,7 @@ impl Context {
 
     /// Declares a prefix by the text of a reference. Whether that is one.
     pub fn set_prefix(&mut self, prefix: &str, text: &str) -> Result<bool, AllocError>
-        ensures { Changes result (context_of self.new) (prefix_set (context_of self.old) prefix.now text.now) }
+        ensures { Changes result (context_of self.new) (prefixed (context_of self.old) prefix.now text.now) }
     {
         let Some(iri) = self.resolve(text)? else {
             return Ok(false);
@@ -125,7 +125,7 @@ impl Context {
 
     /// Sets the base by the text of a reference. Whether that is one.
     pub fn set_base(&mut self, text: &str) -> Result<bool, AllocError>
-        ensures { Changes result (context_of self.new) (base_set (context_of self.old) text.now) }
+        ensures { Changes result (context_of self.new) (based (context_of self.old) text.now) }
     {
         let Some(base) = self.resolve(text)? else {
             return Ok(false);

@@ -14,7 +14,7 @@ use gs_term::{TermText, Triple};
 use std::alloc::{AllocError, Global};
 
 /// What a symbol does: it is taken, or the triples are over before it.
-#[derive(Clone, Copy, Debug, PartialEq, Eq)]
+#[derive(Clone, Copy)]
 pub enum Turn {
     Taken,
     Over,

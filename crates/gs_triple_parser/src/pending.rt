@@ -1,7 +1,6 @@
 //! The triples so far, which wait for what ends them.
-ghost use Rattle.gs_triples.specs.Goals.{triple, first_is, rest_is};
-ghost use Rattle.gs_triple_parser.specs.Views.{context_of};
-ghost use Rattle.gs_triple_parser.specs.Terms.{Pushes};
+ghost use Rattle.gs_triples.specs.Goals.{triple};
+ghost use Rattle.gs_triple_parser.specs.Terms.{Adds, first_of, rest_of};
 
 use crate::contexts::Context;
 use crate::frames::{Name, Subject};
@@ -17,7 +16,7 @@ pub fn put(
     verb: &Name,
     object: TermText,
 ) -> Result<(), AllocError>
-    ensures { Pushes result pending.old.items pending.new.items (triple subject.now.term verb.now.term object) }
+    ensures { Adds result pending.old.items pending.new.items (triple subject.now.term verb.now.term object) }
 {
     let subject = subject.term.clone()?;
     let verb = verb.term.clone()?;
@@ -33,7 +32,7 @@ pub fn put_first(
     cell: u64,
     object: TermText,
 ) -> Result<(), AllocError>
-    ensures { Pushes result pending.old.items pending.new.items (first_is (context_of context.now) cell object) }
+    ensures { Adds result pending.old.items pending.new.items (first_of context.now cell object) }
 {
     let cell = blank(alloc, context.request, cell)?;
     let verb = rdf_first(alloc)?;
@@ -49,7 +48,7 @@ pub fn put_rest(
     cell: u64,
     object: TermText,
 ) -> Result<(), AllocError>
-    ensures { Pushes result pending.old.items pending.new.items (rest_is (context_of context.now) cell object) }
+    ensures { Adds result pending.old.items pending.new.items (rest_of context.now cell object) }
 {
     let cell = blank(alloc, context.request, cell)?;
     let verb = rdf_rest(alloc)?;

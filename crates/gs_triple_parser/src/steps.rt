@@ -1,5 +1,5 @@
 //! One symbol more.
-ghost use Rattle.std.specs.Prelude.{◌≡◌, OnOk, IfOk, string_bytes};
+ghost use Rattle.std.specs.Prelude.{◌≡◌, OnOk, IfOk};
 
 use crate::frames::{Frame, Slot, Subject};
 use crate::goals::begins_verb;
@@ -70,7 +70,7 @@ impl TripleParser {
 
     /// A symbol after a string that has no suffix.
     fn simple(&mut self, text: String, slot: Slot, symbol: Symbol) -> Result<Turn, AllocError>
-        ensures { Turned result self.new (next_of (simple_of self.old slot (string_bytes text)) symbol.entry) }
+        ensures { Turned result self.new (next_of (simple_of self.old slot text) symbol.entry) }
     {
         let made = terms::simple(self.alloc, text.as_str())?;
         self.put(slot, made)?;

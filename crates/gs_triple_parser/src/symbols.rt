@@ -8,7 +8,7 @@ use crate::vocabulary::{XSD_BOOLEAN, XSD_DECIMAL, XSD_DOUBLE, XSD_INTEGER};
 use gs_lex::{Token, TokenKind};
 
 /// A token that is a term by itself, by the names of the grammar.
-#[derive(Clone, Copy, Debug)]
+#[derive(Clone, Copy)]
 pub enum Word<'a> {
     /// With the number of bytes up to its end, since it may end a directive.
     Reference(&'a str, u64),
@@ -20,7 +20,7 @@ pub enum Word<'a> {
 }
 
 /// A terminal, with what it leaves open.
-#[derive(Clone, Copy, Debug)]
+#[derive(Clone, Copy)]
 pub enum Symbol<'a> {
     Word(Word<'a>),
     Text(&'a str),
