@@ -1,5 +1,5 @@
 -- The list of triples after a turn: with those of a statement that ends, or as it was.
-use Rattle.std.proofs.Common.{◌≡◌, ℕ, List, [], ◌++◌, ◌∙◌, sym, ap}
+use Rattle.std.proofs.Common.{◌≡◌, ℕ, List, ◌++◌, ◌∙◌, sym, ap}
 use Rattle.std.proofs.lemmas.List.{append-nil}
 use Rattle.gs_model.specs.Triples.{RdfTriple}
 use Rattle.gs_body.specs.Bodies.{triples_of}
