@@ -1,32 +1,17 @@
 -- What a token does to a parser and to the list of triples.
 use Rattle.std.specs.Prelude.{◌≡◌, ℕ, List, [], ◌++◌, Option, Result, Ok, Err, string_bytes}
 use Rattle.gs_model.specs.Triples.{RdfTriple}
-use Rattle.gs_lex.specs.Lexemes.{lexeme_of}
-use Rattle.gs_lex.specs.declared.tokens.Token.{Token}
 use Rattle.gs_body.specs.Bodies.{triples_of, end_after}
 use Rattle.gs_triples.specs.Meanings.{Context}
-use Rattle.gs_triples.specs.Symbols.{symbol_of}
 use Rattle.gs_triple_parser.specs.Views.{symbol_at, pending_triples}
 use Rattle.gs_triple_parser.specs.declared.symbols.Symbol.{Symbol}
 use Rattle.gs_document.specs.Directives.{with_prefix}
-use Rattle.gs_document.specs.States.{State, Turn}
+use Rattle.gs_document.specs.States.{Turn}
 use Rattle.gs_document.specs.Machine as machine
 use Rattle.gs_parse.specs.Views.{state_of, state_at, context_at, numbers_at}
 use Rattle.gs_parse.specs.declared.parser.Parser.{Parser}
 use Rattle.gs_parse.specs.declared.places.Place.{Place}
 use Rattle.gs_parse.specs.declared.places.Place.TheVariants as place
-
--- the machine's turn by a token: the state after it
-abbrev pub state_after : Parser → Token → State
-state_after p t = (machine.step (state_of p) (symbol_of (lexeme_of t))).0
-
--- the triples that are stated there
-abbrev pub stated_by : Parser → Token → List RdfTriple
-stated_by p t = triples_of (machine.step (state_of p) (symbol_of (lexeme_of t))).1
-
--- the end of the last statement
-abbrev pub last_after : Parser → Token → ℕ
-last_after p t = end_after p.last (machine.step (state_of p) (symbol_of (lexeme_of t))).1
 
 -- the machine's turn by a symbol, were the parser at this place
 abbrev pub turn : Parser → Place → Symbol → Turn

@@ -11,10 +11,14 @@ use gs_triple_parser::{Symbol, TripleParser, Turn, symbol_of_token};
 use std::alloc::{AllocError, Global};
 
 impl Parser {
+    ghost use Rattle.gs_body.specs.Bodies.{triples_of, end_after};
+    ghost use Rattle.gs_lex.specs.Lexemes.{lexeme_of};
+    ghost use Rattle.gs_triples.specs.Symbols.{symbol_of};
     ghost use Rattle.gs_document.specs.Documents.{start};
+    ghost use Rattle.gs_document.specs.Machine as machine;
     ghost use Rattle.gs_document.specs.States.{Between};
     ghost use Rattle.gs_parse.specs.Views.{state_of};
-    ghost use Rattle.gs_parse.specs.Steps.{state_after, stated_by, last_after, turn_here, turn_within, turn_after, Moves, Gives};
+    ghost use Rattle.gs_parse.specs.Steps.{turn_here, turn_within, turn_after, Moves, Gives};
 
     /// At the start of a document under an absolute base, in the request of this number.
     pub fn new(alloc: Global, base: &str, request: u64) -> Result<Parser, AllocError>
@@ -82,9 +86,9 @@ impl Parser {
     /// One token more: the triples of the statement that it ends are added to the list. After a
     /// refusal the list is as it was, and the parser is of no more use.
     pub fn step(&mut self, token: &Token, triples: &mut Vec<Triple>) -> Result<(), AllocError>
-        ensures state { OnOk result (state_of self.new ≡ state_after self.old token.now) }
-        ensures given { OnOk result (triples.new.items ≡ triples.old.items ++ stated_by self.old token.now) }
-        ensures last { OnOk result (self.new.last ≡ last_after self.old token.now) }
+        ensures state { OnOk result (state_of self.new ≡ (machine.step (state_of self.old) (symbol_of (lexeme_of token.now))).0) }
+        ensures given { OnOk result (triples.new.items ≡ triples.old.items ++ triples_of (machine.step (state_of self.old) (symbol_of (lexeme_of token.now))).1) }
+        ensures last { OnOk result (self.new.last ≡ end_after self.old.last (machine.step (state_of self.old) (symbol_of (lexeme_of token.now))).1) }
         ensures err { OnErr result (triples.new.items ≡ triples.old.items) }
     {
         self.take(symbol_of_token(token), triples)
