@@ -1,4 +1,5 @@
--- Read in this order: directives, the rules of statements and documents, the program that reads by them, and the machine.
+-- Read in this order: the context of a statement, directives, the rules of statements and documents, the program that reads by them, and the machine.
+pub mod Contexts
 pub mod Directives
 pub mod Documents
 pub mod Fronts
