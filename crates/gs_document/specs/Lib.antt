@@ -6,3 +6,4 @@ pub mod Fronts
 pub mod Program
 pub mod States
 pub mod Machine
+pub mod Readings
