@@ -58,7 +58,7 @@ impl Parser {
                 Ok(())
             }
             Place::Opened => self.opened(symbol),
-            Place::Closed(number) => self.closed(number, symbol, triples),
+            Place::Closed(subject) => self.closed(subject, symbol, triples),
             Place::Heading(goal) => self.head(goal, symbol, triples),
             Place::Held(text, slot) => self.held(text, slot, symbol, triples),
             Place::Typing(text, slot) => self.typing(text.as_str(), slot, symbol),

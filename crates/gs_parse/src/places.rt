@@ -1,6 +1,6 @@
 //! Where the machine stands.
 
-use crate::frames::{Goal, Slot};
+use crate::frames::{Goal, Slot, Subject};
 use gs_model::Fault;
 
 /// Between two statements, within a directive, or within the triples of a statement.
@@ -14,8 +14,8 @@ pub enum Place {
     AtDot,
     /// After a `[` that opens a statement.
     Opened,
-    /// After its `]`.
-    Closed(u64),
+    /// After its `]`: this blank node may stand alone.
+    Closed(Subject),
     Heading(Goal),
     /// After a string that is an object.
     Held(String, Slot),

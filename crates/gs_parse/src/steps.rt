@@ -119,24 +119,24 @@ impl Parser {
     #[tactic(auto, unfolding(gs_document::specs::Machine::step, gs_triples::specs::Machine::step))]
     pub(crate) fn closed(
         &mut self,
-        number: u64,
+        subject: Subject,
         symbol: Symbol,
         triples: &mut Vec<Triple>,
     ) -> Result<(), AllocError>
-        ensures state { OnOk result (state_of self.new ≡ (step (Within (state.Closed number (context_of self.old.context) self.old.waiting.items self.old.numbering)) (symbol_at symbol.entry)).0) }
-        ensures given { OnOk result (triples.new.items ≡ triples.old.items ++ triples_of (step (Within (state.Closed number (context_of self.old.context) self.old.waiting.items self.old.numbering)) (symbol_at symbol.entry)).1) }
-        ensures last { OnOk result (self.new.last ≡ end_after self.old.last (step (Within (state.Closed number (context_of self.old.context) self.old.waiting.items self.old.numbering)) (symbol_at symbol.entry)).1) }
+        ensures state { OnOk result (state_of self.new ≡ (step (Within (state.Closed subject.term (context_of self.old.context) self.old.waiting.items self.old.numbering)) (symbol_at symbol.entry)).0) }
+        ensures given { OnOk result (triples.new.items ≡ triples.old.items ++ triples_of (step (Within (state.Closed subject.term (context_of self.old.context) self.old.waiting.items self.old.numbering)) (symbol_at symbol.entry)).1) }
+        ensures last { OnOk result (self.new.last ≡ end_after self.old.last (step (Within (state.Closed subject.term (context_of self.old.context) self.old.waiting.items self.old.numbering)) (symbol_at symbol.entry)).1) }
         ensures err { OnErr result (triples.new.items ≡ triples.old.items) }
     {
         self.stack.clear();
         if begins_verb(symbol) {
-            let term = blank(self.alloc, self.context.request, number)?;
-            return self.at_verb(0, Subject { term }, symbol);
+            return self.at_verb(0, subject, symbol);
         }
         self.leave(symbol, triples)
     }
 
     /// A symbol after a string without a suffix.
+    #[tactic(auto, unfolding(gs_document::specs::Machine::step, gs_triples::specs::Machine::step))]
     pub(crate) fn go_on(
         &mut self,
         symbol: Symbol,
@@ -149,6 +149,7 @@ impl Parser {
     {
         match mem::replace(&mut self.place, Place::Between) {
             Place::Heading(goal) => self.head(goal, symbol, triples),
+            Place::Closed(subject) => self.closed(subject, symbol, triples),
             Place::Lost(fault) => {
                 self.lose(fault);
                 Ok(())
