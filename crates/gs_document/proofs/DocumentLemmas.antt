@@ -17,7 +17,7 @@ use Rattle.gs_document.specs.Contexts.{TurtleContext}
 use Rattle.gs_document.specs.Directives.{with_prefix, with_base}
 use Rattle.gs_document.specs.Documents as statement
 use Rattle.gs_document.specs.Documents.{IsStatement, AreStatements, IsDocument, stated, start}
-use Rattle.gs_triples.specs.Reading.{Got, ◌>>=◌}
+use Rattle.gs_triples.specs.Reading.{Got, ◌and_then◌}
 use Rattle.gs_document.specs.Program.{Told, told, ends_at, dotted, prefix_at, base_at, statement_at, followed, statements_at, document}
 use Rattle.gs_triples.proofs.TriplesLemmas.{triples_covered, triples_read}
 
@@ -52,7 +52,7 @@ back_dot env n k ts xs [] T e c = tt
 back_dot env n k ts xs (Dot z ∷ us) T e c = (xs ++ Dot z ∷ [], e ∙ sym (append_assoc xs (Dot z ∷ []) us), statement.triples z c)
 back_dot env n k ts xs (t ∷ us) T e c = tt
 
-back_triples : (env : TurtleContext) (n : Numbers) (ts : List Symbol) (r : Result (Got Term RdfTriple) Fault) → CoversTriples env n ts r → CoveredStatement env n ts (r >>= dotted env)
+back_triples : (env : TurtleContext) (n : Numbers) (ts : List Symbol) (r : Result (Got Term RdfTriple) Fault) → CoversTriples env n ts r → CoveredStatement env n ts (r and_then dotted env)
 back_triples env n ts (Err e) c = tt
 back_triples env n ts (Ok g) (xs, e, c) = back_dot env n g.numbers ts xs g.rest g.triples e c
 
@@ -72,7 +72,7 @@ abbrev pub as_told : List Statement → TurtleContext → Numbers → List Symbo
 as_told S env n rest = Ok (record { stated = S; context = env; numbers = n; rest = rest })
 
 triples_go : {env : TurtleContext} {n k : Numbers} {xs : List Symbol} {T : List RdfTriple} → AreTriples env n xs T k → (z : List Symbol)
-    → statement_at env n (xs ++ z) ≡ (triples_at env n (xs ++ z) >>= dotted env)
+    → statement_at env n (xs ++ z) ≡ (triples_at env n (xs ++ z) and_then dotted env)
 unfolding statement_at
 triples_go (triples.word w q c) z = refl
 triples_go (triples.anon q c) z = refl
@@ -93,7 +93,7 @@ statement_read {env = env} {n = n} (statement.base x i k e h q) rest =
 statement_read {n = n} (statement.prefix_word p i e q) rest = ap (told (stated e []) n rest) q
 statement_read {n = n} (statement.base_word i e q) rest = ap (told (stated e []) n rest) q
 statement_read {env = env} {n = n} (statement.triples {xs = xs} e c) rest =
-    ap (statement_at env n) (append_assoc xs (Dot e ∷ []) rest) ∙ triples_go c (Dot e ∷ rest) ∙ ap (λ z. z >>= dotted env) (triples_read c (Dot e ∷ rest) tt).1
+    ap (statement_at env n) (append_assoc xs (Dot e ∷ []) rest) ∙ triples_go c (Dot e ∷ rest) ∙ ap (λ z. z and_then dotted env) (triples_read c (Dot e ∷ rest) tt).1
 
 -- these tokens are these statements, whatever they leave
 abbrev Are : TurtleContext → Numbers → List Symbol → List Statement → Type 0

@@ -10,7 +10,7 @@ use Rattle.gs_blank.specs.Numbers.{Numbers, no_numbers}
 use Rattle.gs_body.specs.Bodies.{Meaning, Faulty}
 use Rattle.gs_triples.specs.Symbols.{Reference, Namespace, Symbol, AWord, At, Dot, PrefixWord, BaseWord, symbol_of, symbols_of}
 use Rattle.gs_triples.specs.Meanings.{Fault, Syntax}
-use Rattle.gs_triples.specs.Reading.{Got, ◌>>=◌}
+use Rattle.gs_triples.specs.Reading.{Got, ◌and_then◌}
 use Rattle.gs_triples.specs.Program.{triples_at, CoversTriples}
 use Rattle.gs_triples.specs.States as triples
 use Rattle.gs_triples.specs.States.{Lost, Goes, Ends}
@@ -70,12 +70,12 @@ dot_told f env v T n (Dot e ∷ us) again h = ap (joined (stated e T)) (again en
 dot_told f env v T n (t ∷ us) again h = lost_rest Syntax us
 
 triples_told : (f : ℕ) (env : TurtleContext) (n : Numbers) (ts : List Symbol) → Known f → length ts ≤ suc f → (r : Result (Got Term RdfTriple) Fault) → CoversTriples env n ts r
-    → concluded (r >>= done_of env) ≡ followed (statements_at f) (r >>= dotted env)
+    → concluded (r and_then done_of env) ≡ followed (statements_at f) (r and_then dotted env)
 triples_told f env n ts again h (Err e) c = refl
 triples_told f env n ts again h (Ok g) (xs, e, c) = dot_told f env g.value g.triples g.numbers g.rest again (omega (arith, ap length e, length-append xs g.rest))
 
 triples_rest : (f : ℕ) (env : TurtleContext) (n : Numbers) (t : Symbol) (ts : List Symbol) → Known f → length ts ≤ f
-    → rest turtle (Within (opening env n t)) ts ≡ followed (statements_at f) (triples_at env n (t ∷ ts) >>= dotted env)
+    → rest turtle (Within (opening env n t)) ts ≡ followed (statements_at f) (triples_at env n (t ∷ ts) and_then dotted env)
 triples_rest f env n t ts again h =
     within ts (opening env n t) ∙ ap concluded (opening_run env n t ts)
     ∙ triples_told f env n (t ∷ ts) again (omega arith) (triples_at env n (t ∷ ts)) (triples_covered env n (t ∷ ts))

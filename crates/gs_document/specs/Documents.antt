@@ -27,7 +27,8 @@ pub data IsStatement (env : TurtleContext) (n : Numbers) : List Symbol → List 
   prefix_word : {next : TurtleContext} (p i : List ℕ) (end : ℕ) → with_prefix env p i ≡ Some next
       → IsStatement env n (PrefixWord ∷ AWord (Namespace p) ∷ AWord (Reference i end) ∷ []) (stated end []) next n
   -- [5s] sparqlBase
-  base_word : {next : TurtleContext} (i : List ℕ) (end : ℕ) → with_base env i ≡ Some next → IsStatement env n (BaseWord ∷ AWord (Reference i end) ∷ []) (stated end []) next n
+  base_word : {next : TurtleContext} (i : List ℕ) (end : ℕ) → with_base env i ≡ Some next
+      → IsStatement env n (BaseWord ∷ AWord (Reference i end) ∷ []) (stated end []) next n
   triples : {k : Numbers} {xs : List Symbol} {T : List RdfTriple} (end : ℕ) → AreTriples env n xs T k
       → IsStatement env n (xs ++ Dot end ∷ []) (stated end T) env k
 

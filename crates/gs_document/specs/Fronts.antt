@@ -9,7 +9,8 @@ use Rattle.gs_document.specs.Documents.{IsStatement, AreStatements, start}
 
 -- no statement begins these tokens, in this context and with these numbers
 abbrev pub NoStatement : TurtleContext → Numbers → List Symbol → Type 0
-NoStatement env n ts = (xs ys : List Symbol) (S : List Statement) (next : TurtleContext) (k : Numbers) → ts ≡ xs ++ ys → IsStatement env n xs S next k → ⊥
+NoStatement env n ts =
+    (xs ys : List Symbol) (S : List Statement) (next : TurtleContext) (k : Numbers) → ts ≡ xs ++ ys → IsStatement env n xs S next k → ⊥
 
 -- These are the statements of a front of the tokens. No statement begins after it, in the context that it leaves, and so
 -- no longer front is whole statements.
@@ -21,7 +22,8 @@ pub record AreLongest (env : TurtleContext) (n : Numbers) (ts : List Symbol) (S 
   pub numbers : Numbers
   pub whole : AreStatements env n front S last numbers
   pub stops : NoStatement last numbers after
-  pub longest : (xs ys : List Symbol) (R : List Statement) (next : TurtleContext) (k : Numbers) → ts ≡ xs ++ ys → AreStatements env n xs R next k → length xs ≤ length front
+  pub longest : (xs ys : List Symbol) (R : List Statement) (next : TurtleContext) (k : Numbers)
+      → ts ≡ xs ++ ys → AreStatements env n xs R next k → length xs ≤ length front
 
 -- a text's tokens, under this base and in this request: the statements of the longest front that has any
 abbrev pub AreBeforeFault : List ℕ → ℕ → List Lexeme → List Statement → Type 0

@@ -34,7 +34,8 @@ over t (Ends env P n) = conclude t env P n
 
 -- one symbol more
 unfoldable pub step : State → Symbol → Turn
-step (Between env n) (At x) = quiet (if bytes_eq x (codes "@prefix") then InPrefix true env n else if bytes_eq x (codes "@base") then InBase true env n else lost Syntax)
+step (Between env n) (At x) =
+    quiet (if bytes_eq x (codes "@prefix") then InPrefix true env n else if bytes_eq x (codes "@base") then InBase true env n else lost Syntax)
 step (Between env n) PrefixWord = quiet (InPrefix false env n)
 step (Between env n) BaseWord = quiet (InBase false env n)
 step (Between env n) t = quiet (Within (opening env n t))

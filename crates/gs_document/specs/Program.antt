@@ -7,7 +7,7 @@ use Rattle.gs_body.specs.Bodies.{Meaning, Statement, Whole, Faulty}
 use Rattle.gs_model.specs.Terms.{Term}
 use Rattle.gs_triples.specs.Symbols.{Reference, Namespace, Symbol, AWord, At, Dot, PrefixWord, BaseWord, symbols_of}
 use Rattle.gs_triples.specs.Meanings.{Fault, Syntax}
-use Rattle.gs_triples.specs.Reading.{Got, ◌>>=◌}
+use Rattle.gs_triples.specs.Reading.{Got, ◌and_then◌}
 use Rattle.gs_triples.specs.Program.{triples_at}
 use Rattle.gs_document.specs.Contexts.{TurtleContext}
 use Rattle.gs_document.specs.Directives.{with_prefix, with_base}
@@ -46,12 +46,13 @@ base_at env n _ = Err Syntax
 
 -- [2] statement
 unfoldable pub statement_at : TurtleContext → Numbers → List Symbol → Result Told Fault
-statement_at env n (At x ∷ ts) = if bytes_eq x (codes "@prefix") then prefix_at env n ts else if bytes_eq x (codes "@base") then base_at env n ts else Err Syntax
+statement_at env n (At x ∷ ts) =
+    if bytes_eq x (codes "@prefix") then prefix_at env n ts else if bytes_eq x (codes "@base") then base_at env n ts else Err Syntax
 statement_at env n (PrefixWord ∷ AWord (Namespace p) ∷ AWord (Reference i e) ∷ ts) = told (stated e []) n ts (with_prefix env p i)
 statement_at env n (PrefixWord ∷ _) = Err Syntax
 statement_at env n (BaseWord ∷ AWord (Reference i e) ∷ ts) = told (stated e []) n ts (with_base env i)
 statement_at env n (BaseWord ∷ _) = Err Syntax
-statement_at env n ts = triples_at env n ts >>= dotted env
+statement_at env n ts = triples_at env n ts and_then dotted env
 
 -- what a statement states, before what the rest says
 abbrev pub followed : (TurtleContext → Numbers → List Symbol → Meaning) → Result Told Fault → Meaning

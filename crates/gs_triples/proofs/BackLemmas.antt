@@ -9,7 +9,7 @@ use Rattle.gs_triples.specs.Meanings.{Fault, Syntax, Context, blank, rdf_value}
 use Rattle.gs_triples.specs.Goals.{Goal, Object, Inside, Verbs, After, Semis, Begun, Items, may_open, may_open_node, next_number, first_is, rest_is}
 use Rattle.gs_triples.specs.Rules as rule
 use Rattle.gs_triples.specs.Rules.{Covers}
-use Rattle.gs_triples.specs.Reading.{Got, ◌>>=◌, with_front, bare, literal, one_token, close, closes, parse}
+use Rattle.gs_triples.specs.Reading.{Got, ◌and_then◌, with_front, bare, literal, one_token, close, closes, parse}
 
 -- some tokens, then those of an object and of another goal
 joins : (pre ts xs ys a b : List Symbol) → ts ≡ xs ++ a → a ≡ ys ++ b → pre ++ ts ≡ (pre ++ (xs ++ ys)) ++ b
@@ -41,7 +41,7 @@ module _ {Value Triple : Type 0} where
   covered_then : (env : Context Value Triple) (f d : ℕ) (m n : Numbers) (g then : Goal Value) (pre ts : List Symbol) (X : Value → List Triple) → Rule env d g then m n pre X
       → ((k : Numbers) (us : List Symbol) → Covered env then k us (parse env f then k us))
       → (r : Result (Got Value Triple) Fault) → Covered env (Object d) n ts r
-      → Covered env g m (pre ++ ts) (r >>= then_goal env f then X)
+      → Covered env g m (pre ++ ts) (r and_then then_goal env f then X)
   covered_then env f d m n g then pre ts X rule ih (Err e) h = tt
   covered_then env f d m n g then pre ts X rule ih (Ok o) (xs, e, c) = go (parse env f then o.numbers o.rest) (ih o.numbers o.rest)
     where
@@ -90,14 +90,14 @@ module _ {Value Triple : Type 0} where
   covered_close env d m n ts xs (t ∷ us) w T k e c = tt
 
   covered_closes : (env : Context Value Triple) (d m : ℕ) (n : Numbers) (ts : List Symbol) (r : Result (Got Value Triple) Fault) → Covered env (Verbs d (blank env m)) n ts r
-      → Covered env (Inside d m) n ts (r >>= closes (blank env m))
+      → Covered env (Inside d m) n ts (r and_then closes (blank env m))
   covered_closes env d m n ts (Err e) h = tt
   covered_closes env d m n ts (Ok g) (xs, e, c) = covered_close env d m n ts xs g.rest g.value g.triples g.numbers e c
 
   covered_verbs : (env : Context Value Triple) (f d : ℕ) (s : Value) (n : Numbers) (t : Symbol) (ts : List Symbol) (q : Result Value Fault) → meaning.verb env t ≡ q
       → ((p : Value) (k : Numbers) (us : List Symbol) → Covered env (After d s p) k us (parse env f (After d s p) k us))
       → Covered env (Object d) n ts (parse env f (Object d) n ts)
-      → Covered env (Verbs d s) n (t ∷ ts) (q >>= λ p. parse env f (Object d) n ts >>= then_goal env f (After d s p) (λ o. env.language.triple s p o ∷ []))
+      → Covered env (Verbs d s) n (t ∷ ts) (q and_then λ p. parse env f (Object d) n ts and_then then_goal env f (After d s p) (λ o. env.language.triple s p o ∷ []))
   covered_verbs env f d s n t ts (Err e) h ih c = tt
   covered_verbs env f d s n t ts (Ok p) h ih c =
       covered_then env f d n n (Verbs d s) (After d s p) (t ∷ []) ts (λ o. env.language.triple s p o ∷ []) (λ xs ys o w T U k l a b. rule.verbs t h a b) (ih p) (parse env f (Object d) n ts) c
@@ -115,14 +115,14 @@ module _ {Value Triple : Type 0} where
 
   -- a collection that is not empty
   covered_begun : (env : Context Value Triple) (f d : ℕ) (n : Numbers) (ts : List Symbol) → Known env f
-      → Covered env (Begun d) n ts (cond env.language.nodes (parse env f (Object d) (one_more n) ts >>= then_goal env f (Items d (next_number n) (next_number n)) (first_of env (next_number n))) (Err Syntax))
+      → Covered env (Begun d) n ts (cond env.language.nodes (parse env f (Object d) (one_more n) ts and_then then_goal env f (Items d (next_number n) (next_number n)) (first_of env (next_number n))) (Err Syntax))
   covered_begun env f d n ts ih =
-      covered_when env (Begun d) n ts env.language.nodes (parse env f (Object d) (one_more n) ts >>= then_goal env f (Items d (next_number n) (next_number n)) (first_of env (next_number n))) (λ q.
+      covered_when env (Begun d) n ts env.language.nodes (parse env f (Object d) (one_more n) ts and_then then_goal env f (Items d (next_number n) (next_number n)) (first_of env (next_number n))) (λ q.
       covered_then env f d n (one_more n) (Begun d) (Items d (next_number n) (next_number n)) [] ts (first_of env (next_number n)) (λ xs ys o w T U k l a b. rule.begun q a b) (ih (Items d (next_number n) (next_number n))) (parse env f (Object d) (one_more n) ts) (ih (Object d) (one_more n) ts))
 
   -- a cell more
   covered_items : (env : Context Value Triple) (f d h m : ℕ) (n : Numbers) (ts : List Symbol) → Known env f
-      → Covered env (Items d h m) n ts (parse env f (Object d) (one_more n) ts >>= then_goal env f (Items d h (next_number n)) (cell_of env (next_number n) m))
+      → Covered env (Items d h m) n ts (parse env f (Object d) (one_more n) ts and_then then_goal env f (Items d h (next_number n)) (cell_of env (next_number n) m))
   covered_items env f d h m n ts ih =
       covered_then env f d n (one_more n) (Items d h m) (Items d h (next_number n)) [] ts (cell_of env (next_number n) m) (λ xs ys o w T U k l a b. rule.item a b) (ih (Items d h (next_number n))) (parse env f (Object d) (one_more n) ts) (ih (Object d) (one_more n) ts)
 

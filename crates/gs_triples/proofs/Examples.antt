@@ -19,8 +19,8 @@ use Rattle.gs_triples.specs.Languages.{Language, of_terms, triple}
 use Rattle.gs_triples.specs.Meanings.{Fault, Syntax, Context, word, iri, made_of, typed, rdf}
 use Rattle.gs_triples.specs.Reading.{Got, parse}
 use Rattle.gs_triples.specs.Program.{triples_at}
-use Rattle.gs_triples.specs.Machine.{opening, step, ended}
-use Rattle.gs_triples.specs.Runs.{Done, run}
+use Rattle.gs_triples.specs.Machine.{opening, step}
+use Rattle.gs_triples.specs.Runs.{run}
 
 -- a term, or what a variable stands for
 data Pattern : Type 0 where

@@ -1,16 +1,15 @@
 -- What the rules cover, the program reads.
 use Rattle.std.proofs.Common.{◌≡◌, ℕ, zero, suc, ◌+◌, ◌*◌, ◌<◌, Bool, true, cond, List, [], ◌∷◌, ◌++◌, length, refl, sym, ap, ◌∙◌, append_assoc, arith, length-append}
 use Rattle.std.specs.Prelude.{Result, Ok, Err}
-use Rattle.gs_model.specs.Terms.{Term}
 use Rattle.gs_blank.specs.Numbers.{Numbers, one_more}
-use Rattle.gs_triples.specs.Symbols.{Symbol, AWord, At, Carets, A, Close, Semicolon, Comma}
+use Rattle.gs_triples.specs.Symbols.{Symbol, AWord, A, Close, Semicolon, Comma}
 use Rattle.gs_triples.specs.Meanings as meaning
 use Rattle.gs_triples.specs.Meanings.{Fault, Syntax, Context, blank, rdf_value}
-use Rattle.gs_triples.specs.Goals.{Goal, Object, Inside, Verbs, After, Semis, Begun, Items, may_open, may_open_node, next_number, first_is, rest_is}
+use Rattle.gs_triples.specs.Goals.{Goal, Object, Inside, Verbs, After, Semis, Begun, Items, may_open, may_open_node, next_number}
 use Rattle.gs_triples.specs.Triples.{EndsVerbs}
 use Rattle.gs_triples.specs.Rules as rule
 use Rattle.gs_triples.specs.Rules.{Covers}
-use Rattle.gs_triples.specs.Reading.{Got, ◌>>=◌, with_front, bare, one_token, closes, begins_verb, parse}
+use Rattle.gs_triples.specs.Reading.{Got, ◌and_then◌, with_front, bare, one_token, closes, begins_verb, parse}
 use Rattle.gs_triples.proofs.BackLemmas.{first_of, cell_of, then_goal}
 use Rattle.gs_triples.proofs.FollowLemmas.{Follows, behind_object, behind_cell, literal-simple}
 
@@ -52,15 +51,15 @@ module _ {Value Triple : Type 0} where
   -- an object, and then another goal
   reads_then : (env : Context Value Triple) (f d : ℕ) (n k l : Numbers) (g : Goal Value) (xs ys rest : List Symbol) (o w : Value) (T U : List Triple) (X : Value → List Triple)
       → parse env f (Object d) n (xs ++ (ys ++ rest)) ≡ got o T k (ys ++ rest) → parse env f g k (ys ++ rest) ≡ got w U l rest
-      → (parse env f (Object d) n ((xs ++ ys) ++ rest) >>= then_goal env f g X) ≡ got w ((T ++ X o) ++ U) l rest
+      → (parse env f (Object d) n ((xs ++ ys) ++ rest) and_then then_goal env f g X) ≡ got w ((T ++ X o) ++ U) l rest
   reads_then env f d n k l g xs ys rest o w T U X one two =
-      ap (λ z. parse env f (Object d) n z >>= then_goal env f g X) (append_assoc xs ys rest)
-      ∙ ap (λ z. z >>= then_goal env f g X) one
+      ap (λ z. parse env f (Object d) n z and_then then_goal env f g X) (append_assoc xs ys rest)
+      ∙ ap (λ z. z and_then then_goal env f g X) one
       ∙ ap (with_front (T ++ X o)) two
 
   -- a collection that is not empty begins with an object
   begun_goes : {env : Context Value Triple} {d : ℕ} {n k : Numbers} {xs : List Symbol} {o : Value} {T : List Triple} (f : ℕ) (m : Numbers) → Covers env (Object d) n xs o T k → (z : List Symbol)
-      → parse env (suc f) (Begun d) m (xs ++ z) ≡ cond env.language.nodes (parse env f (Object d) (one_more m) (xs ++ z) >>= then_goal env f (Items d (next_number m) (next_number m)) (first_of env (next_number m))) (Err Syntax)
+      → parse env (suc f) (Begun d) m (xs ++ z) ≡ cond env.language.nodes (parse env f (Object d) (one_more m) (xs ++ z) and_then then_goal env f (Items d (next_number m) (next_number m)) (first_of env (next_number m))) (Err Syntax)
   unfolding parse
   begun_goes f m (rule.word w h) z = refl
   begun_goes f m (rule.simple x h) z = refl
@@ -71,7 +70,7 @@ module _ {Value Triple : Type 0} where
 
   -- and so does a cell more
   items_goes : {env : Context Value Triple} {d : ℕ} {n k : Numbers} {xs : List Symbol} {o : Value} {T : List Triple} (f a b : ℕ) (m : Numbers) → Covers env (Object d) n xs o T k → (z : List Symbol)
-      → parse env (suc f) (Items d a b) m (xs ++ z) ≡ (parse env f (Object d) (one_more m) (xs ++ z) >>= then_goal env f (Items d a (next_number m)) (cell_of env (next_number m) b))
+      → parse env (suc f) (Items d a b) m (xs ++ z) ≡ (parse env f (Object d) (one_more m) (xs ++ z) and_then then_goal env f (Items d a (next_number m)) (cell_of env (next_number m) b))
   unfolding parse
   items_goes f a b m (rule.word w h) z = refl
   items_goes f a b m (rule.simple x h) z = refl
@@ -88,7 +87,7 @@ module _ {Value Triple : Type 0} where
 
   -- after a '[', where a verb stands
   inside_by : (env : Context Value Triple) (f e m : ℕ) (i : Numbers) (t : Symbol) (ts : List Symbol) (p : Value) → meaning.verb env t ≡ Ok p
-      → parse env (suc f) (Inside e m) i (t ∷ ts) ≡ (parse env f (Verbs e (blank env m)) i (t ∷ ts) >>= closes (blank env m))
+      → parse env (suc f) (Inside e m) i (t ∷ ts) ≡ (parse env f (Verbs e (blank env m)) i (t ∷ ts) and_then closes (blank env m))
   unfolding parse
   inside_by env f e m i Close ts p h = absurd (cc)
   inside_by env f e m i t ts p h = refl
@@ -103,7 +102,7 @@ module _ {Value Triple : Type 0} where
 
   -- a list of verbs and objects after a '['
   inside_goes : {env : Context Value Triple} {d : ℕ} {s v : Value} {n k : Numbers} {xs : List Symbol} {T : List Triple} (f e m : ℕ) (i : Numbers) → Covers env (Verbs d s) n xs v T k → (z : List Symbol)
-      → parse env (suc f) (Inside e m) i (xs ++ z) ≡ (parse env f (Verbs e (blank env m)) i (xs ++ z) >>= closes (blank env m))
+      → parse env (suc f) (Inside e m) i (xs ++ z) ≡ (parse env f (Verbs e (blank env m)) i (xs ++ z) and_then closes (blank env m))
   inside_goes {env = env} f e m i (rule.verbs {p = p} t {xs = xs} {ys = ys} h a b) z = inside_by env f e m i t ((xs ++ ys) ++ z) p h
 
   -- and after a ';'
@@ -148,10 +147,10 @@ module _ {Value Triple : Type 0} where
       let one : parse env f (Verbs d (blank env m)) n (xs ++ Close ∷ rest) ≡ got w T k (Close ∷ rest) = reads env f c (Close ∷ rest) (simp length-append (omega arith)) tt in
       ap (parse env (suc f) (Inside d m) n) (append_assoc xs (Close ∷ []) rest)
       ∙ inside_goes f d m n c (Close ∷ rest)
-      ∙ ap (λ z. z >>= closes (blank env m)) one
+      ∙ ap (λ z. z and_then closes (blank env m)) one
   reads env (suc f) (rule.verbs {d = d} {s = s} {p = p} {o = o} {w = w} {n = n} {k = k} {l = l} t {xs = xs} {ys = ys} {T = T} {U = U} q a b) rest h e =
       let size = simp length-append at h in
-      ap (λ z. z >>= λ p. parse env f (Object d) n ((xs ++ ys) ++ rest) >>= then_goal env f (After d s p) (λ o. env.language.triple s p o ∷ [])) q
+      ap (λ z. z and_then λ p. parse env f (Object d) n ((xs ++ ys) ++ rest) and_then then_goal env f (After d s p) (λ o. env.language.triple s p o ∷ [])) q
       ∙ reads_then env f d n k l (After d s p) xs ys rest o w T U (λ o. env.language.triple s p o ∷ []) (reads env f a (ys ++ rest) (simp length-append (omega arith)) (behind_object b rest e)) (reads env f b rest (simp length-append (omega arith)) e)
   reads env (suc f) (rule.comma {d = d} {s = s} {p = p} {o = o} {w = w} {n = n} {k = k} {l = l} {xs = xs} {ys = ys} {T = T} {U = U} a b) rest h e =
       let size = simp length-append at h in
@@ -160,12 +159,12 @@ module _ {Value Triple : Type 0} where
       let size = simp length-append at h in
       let some : 0 < length xs = takes a in
       ap (parse env (suc f) (Begun d) n) (append_assoc xs ys rest) ∙ begun_goes f n a (ys ++ rest)
-      ∙ ap (λ z. cond z (parse env f (Object d) (one_more n) (xs ++ (ys ++ rest)) >>= then_goal env f (Items d (next_number n) (next_number n)) (first_of env (next_number n))) (Err Syntax)) q
-      ∙ ap (λ z. parse env f (Object d) (one_more n) z >>= then_goal env f (Items d (next_number n) (next_number n)) (first_of env (next_number n))) (sym (append_assoc xs ys rest))
+      ∙ ap (λ z. cond z (parse env f (Object d) (one_more n) (xs ++ (ys ++ rest)) and_then then_goal env f (Items d (next_number n) (next_number n)) (first_of env (next_number n))) (Err Syntax)) q
+      ∙ ap (λ z. parse env f (Object d) (one_more n) z and_then then_goal env f (Items d (next_number n) (next_number n)) (first_of env (next_number n))) (sym (append_assoc xs ys rest))
       ∙ reads_then env f d (one_more n) k l (Items d (next_number n) (next_number n)) xs ys rest o w T U (first_of env (next_number n)) (reads env f a (ys ++ rest) (simp length-append (omega arith)) (behind_cell b rest)) (reads env f b rest (simp length-append (omega arith)) tt)
   reads env (suc f) (rule.item {d = d} {h = i} {m = m} {n = n} {k = k} {l = l} {xs = xs} {ys = ys} {o = o} {w = w} {T = T} {U = U} a b) rest h e =
       let size = simp length-append at h in
       let some : 0 < length xs = takes a in
       ap (parse env (suc f) (Items d i m) n) (append_assoc xs ys rest) ∙ items_goes f i m n a (ys ++ rest)
-      ∙ ap (λ z. parse env f (Object d) (one_more n) z >>= then_goal env f (Items d i (next_number n)) (cell_of env (next_number n) m)) (sym (append_assoc xs ys rest))
+      ∙ ap (λ z. parse env f (Object d) (one_more n) z and_then then_goal env f (Items d i (next_number n)) (cell_of env (next_number n) m)) (sym (append_assoc xs ys rest))
       ∙ reads_then env f d (one_more n) k l (Items d i (next_number n)) xs ys rest o w T U (cell_of env (next_number n) m) (reads env f a (ys ++ rest) (simp length-append (omega arith)) (behind_cell b rest)) (reads env f b rest (simp length-append (omega arith)) tt)

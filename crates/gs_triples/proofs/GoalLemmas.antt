@@ -1,13 +1,12 @@
 -- The machine and the program, goal by goal.
-use Rattle.std.proofs.Common.{◌≡◌, ℕ, zero, suc, ◌+◌, ◌*◌, ◌<◌, Bool, true, false, cond, List, [], ◌∷◌, ◌++◌, length, refl, sym, ap, ◌∙◌, append-nil, arith}
+use Rattle.std.proofs.Common.{◌≡◌, ℕ, zero, suc, ◌+◌, ◌*◌, ◌<◌, Bool, true, false, cond, List, [], ◌∷◌, length, refl, sym, ap, ◌∙◌, append-nil, arith}
 use Rattle.std.specs.Prelude.{Result, Ok, Err, codes}
-use Rattle.gs_model.specs.Terms.{Term}
 use Rattle.gs_blank.specs.Numbers.{Numbers, one_more}
 use Rattle.gs_triples.specs.Symbols.{Symbol, AWord, Text, A, Open, Close, OpenList, CloseList, Semicolon, Comma}
 use Rattle.gs_triples.specs.Meanings as meaning
 use Rattle.gs_triples.specs.Meanings.{Fault, Syntax, Context, blank, rdf_value}
-use Rattle.gs_triples.specs.Goals.{Goal, Object, Inside, Verbs, After, Semis, Begun, Items, may_open, may_open_node, next_number, first_is, rest_is}
-use Rattle.gs_triples.specs.Reading.{Got, ◌>>=◌, with_front, parse}
+use Rattle.gs_triples.specs.Goals.{Goal, Object, Inside, Verbs, After, Semis, Begun, Items, may_open, may_open_node, next_number}
+use Rattle.gs_triples.specs.Reading.{Got, ◌and_then◌, parse}
 use Rattle.gs_triples.specs.States.{Frame, ToObject, ToClose, ToFirst, ToItem, State, Heading, Lost}
 use Rattle.gs_triples.specs.Machine.{give, object, leave, after_verb, step, ended}
 use Rattle.gs_triples.specs.Runs.{Done, run}
@@ -46,8 +45,8 @@ module _ {Value Triple : Type 0} where
 
   -- the object of a verb
   verb_run : (env : Context Value Triple) (f d : ℕ) (s : Value) (fs : List (Frame Value)) (P : List Triple) (n : Numbers) (ts : List Symbol) (q : Result Value Fault)
-      → ((p : Value) → run ts (Heading (Object d) (ToObject d s p ∷ fs) env P n) ≡ continue (Verbs d s) fs env P (parse env f (Object d) n ts >>= then_goal env f (After d s p) (λ o. env.language.triple s p o ∷ [])))
-      → run ts (after_verb d s fs env P n q) ≡ continue (Verbs d s) fs env P (q >>= λ p. parse env f (Object d) n ts >>= then_goal env f (After d s p) (λ o. env.language.triple s p o ∷ []))
+      → ((p : Value) → run ts (Heading (Object d) (ToObject d s p ∷ fs) env P n) ≡ continue (Verbs d s) fs env P (parse env f (Object d) n ts and_then then_goal env f (After d s p) (λ o. env.language.triple s p o ∷ [])))
+      → run ts (after_verb d s fs env P n q) ≡ continue (Verbs d s) fs env P (q and_then λ p. parse env f (Object d) n ts and_then then_goal env f (After d s p) (λ o. env.language.triple s p o ∷ []))
   verb_run env f d s fs P n ts (Err e) h = lost_run e ts
   verb_run env f d s fs P n ts (Ok p) h = h p
 
@@ -83,7 +82,7 @@ module _ {Value Triple : Type 0} where
       verb_run env f d s fs P n ts (meaning.verb env t) (λ p.
       walk env f (Object d) n ts (ToObject d s p ∷ fs) P (omega arith)
       ∙ continue_then env f d n (ToObject d s p) fs P (λ o. env.language.triple s p o ∷ []) (After d s p) (length ts) (λ v Q l. refl) (λ l us Q e. walk env f (After d s p) l us fs Q (omega arith)) ts (omega arith) (parse env f (Object d) n ts) (covered env f (Object d) n ts)
-      ∙ as_verbs env d s p fs P (parse env f (Object d) n ts >>= then_goal env f (After d s p) (λ o. env.language.triple s p o ∷ [])))
+      ∙ as_verbs env d s p fs P (parse env f (Object d) n ts and_then then_goal env f (After d s p) (λ o. env.language.triple s p o ∷ [])))
   walk env (suc f) (After d s p) n [] fs P h = refl
   walk env (suc f) (After d s p) n (Comma ∷ ts) fs P h =
       walk env f (Object d) n ts (ToObject d s p ∷ fs) P (omega arith)
@@ -98,10 +97,10 @@ module _ {Value Triple : Type 0} where
   walk env (suc f) (Begun d) n [] fs P h = stop_begun env f d n fs P
   walk env (suc f) (Begun d) n (CloseList ∷ ts) fs P h = ap (λ z. run ts (give env (rdf_value env (codes "nil")) fs z n)) (sym (append-nil P))
   walk env (suc f) (Begun d) n (t ∷ ts) fs P h =
-      begun_run env d env.language.nodes (object d t (ToFirst d (next_number n) ∷ fs) env P (one_more n)) fs P ts (parse env f (Object d) (one_more n) (t ∷ ts) >>= then_goal env f (Items d (next_number n) (next_number n)) (first_of env (next_number n)))
+      begun_run env d env.language.nodes (object d t (ToFirst d (next_number n) ∷ fs) env P (one_more n)) fs P ts (parse env f (Object d) (one_more n) (t ∷ ts) and_then then_goal env f (Items d (next_number n) (next_number n)) (first_of env (next_number n)))
       (walk env f (Object d) (one_more n) (t ∷ ts) (ToFirst d (next_number n) ∷ fs) P (omega arith)
       ∙ continue_then env f d (one_more n) (ToFirst d (next_number n)) fs P (first_of env (next_number n)) (Items d (next_number n) (next_number n)) (suc (length ts)) (λ v Q l. refl) (λ l us Q e. walk env f (Items d (next_number n) (next_number n)) l us fs Q (omega arith)) (t ∷ ts) (omega arith) (parse env f (Object d) (one_more n) (t ∷ ts)) (covered env f (Object d) (one_more n) (t ∷ ts))
-      ∙ as_begun env d (next_number n) (next_number n) fs P (parse env f (Object d) (one_more n) (t ∷ ts) >>= then_goal env f (Items d (next_number n) (next_number n)) (first_of env (next_number n))))
+      ∙ as_begun env d (next_number n) (next_number n) fs P (parse env f (Object d) (one_more n) (t ∷ ts) and_then then_goal env f (Items d (next_number n) (next_number n)) (first_of env (next_number n))))
   walk env (suc f) (Items d a m) n [] fs P h = stop_items env f d a m n fs P
   walk env (suc f) (Items d a m) n (CloseList ∷ ts) fs P h = refl
   walk env (suc f) (Items d a m) n (t ∷ ts) fs P h =

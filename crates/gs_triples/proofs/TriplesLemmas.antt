@@ -11,7 +11,7 @@ use Rattle.gs_triples.specs.Rules as rule
 use Rattle.gs_triples.specs.Rules.{Covers}
 use Rattle.gs_triples.specs.Triples as statement
 use Rattle.gs_triples.specs.Triples.{AreTriples, EndsVerbs}
-use Rattle.gs_triples.specs.Reading.{Got, ◌>>=◌, with_front, close, closes, enough, read}
+use Rattle.gs_triples.specs.Reading.{Got, ◌and_then◌, with_front, close, closes, enough, read}
 use Rattle.gs_triples.specs.Program.{CoversTriples, CoversReadings, ReadsTriples, starts_verb, verbs_after, verbs_or_none, stands_alone, after_list, verbs_of, in_brackets, triples_at}
 use Rattle.gs_triples.proofs.BackLemmas.{Covered, covered}
 use Rattle.gs_triples.proofs.FollowLemmas.{Follows}
@@ -47,7 +47,7 @@ module _ {Value Triple : Type 0} where
 
   -- a subject of one token
   back_word : (env : Context Value Triple) (n : Numbers) (w : TermToken) (ts : List Symbol) (q : Result (Value × Numbers) Fault) → subject env n w ≡ q
-      → CoversTriples env n (AWord w ∷ ts) (q >>= verbs_of env ts)
+      → CoversTriples env n (AWord w ∷ ts) (q and_then verbs_of env ts)
   back_word env n w ts (Err e) h = tt
   back_word env n w ts (Ok p) h =
       back_bare env n p.1 p.0 (AWord w ∷ []) ts (λ xs v U l c. statement.word w h c) (read env (Verbs 0 p.0) p.1 ts) (read_covered env (Verbs 0 p.0) p.1 ts)
@@ -76,7 +76,7 @@ module _ {Value Triple : Type 0} where
 
   -- a collection that is a subject
   back_list : (env : Context Value Triple) (n : Numbers) (ts : List Symbol) (r : Result (Got Value Triple) Fault) → Covered env (Begun 1) n ts r
-      → CoversTriples env n (OpenList ∷ ts) (r >>= after_list env)
+      → CoversTriples env n (OpenList ∷ ts) (r and_then after_list env)
   back_list env n ts (Err e) c = tt
   back_list env n ts (Ok g) (xs, e, c) =
       subst (λ z. CoversTriples env n (OpenList ∷ z) (after_list env g)) (sym e)
@@ -85,7 +85,7 @@ module _ {Value Triple : Type 0} where
   -- properties in brackets, up to their ']', and what stands after them
   back_close : (env : Context Value Triple) (n k : Numbers) (ts xs us : List Symbol) (v : Value) (T : List Triple) → env.language.nodes ≡ true → ts ≡ xs ++ us
       → Covers env (Verbs 1 (blank env (next_number n))) (one_more n) xs v T k
-      → CoversTriples env n (Open ∷ ts) (close (blank env (next_number n)) T k us >>= verbs_or_none env)
+      → CoversTriples env n (Open ∷ ts) (close (blank env (next_number n)) T k us and_then verbs_or_none env)
   back_close env n k ts xs [] v T q e c = tt
   back_close env n k ts xs (Close ∷ us) v T q e c =
       subst (λ z. CoversTriples env n (Open ∷ z) (verbs_or_none env (with_value (blank env (next_number n)) T k us))) (append_assoc xs (Close ∷ []) us ∙ sym e)
@@ -96,7 +96,7 @@ module _ {Value Triple : Type 0} where
   -- properties in brackets
   back_properties : (env : Context Value Triple) (n : Numbers) (ts : List Symbol) (r : Result (Got Value Triple) Fault) → env.language.nodes ≡ true
       → Covered env (Verbs 1 (blank env (next_number n))) (one_more n) ts r
-      → CoversTriples env n (Open ∷ ts) ((r >>= closes (blank env (next_number n))) >>= verbs_or_none env)
+      → CoversTriples env n (Open ∷ ts) ((r and_then closes (blank env (next_number n))) and_then verbs_or_none env)
   back_properties env n ts (Err e) q c = tt
   back_properties env n ts (Ok g) q (xs, e, c) = back_close env n g.numbers ts xs g.rest g.value g.triples q e c
 
@@ -130,12 +130,12 @@ module _ {Value Triple : Type 0} where
 
   -- the verbs of brackets that open a statement
   open_by : (env : Context Value Triple) (m : Numbers) (t : Symbol) (ts : List Symbol) (p : Value) → meaning.verb env t ≡ Ok p
-      → in_brackets env m (t ∷ ts) ≡ ((read env (Verbs 1 (blank env (next_number m))) (one_more m) (t ∷ ts) >>= closes (blank env (next_number m))) >>= verbs_or_none env)
+      → in_brackets env m (t ∷ ts) ≡ ((read env (Verbs 1 (blank env (next_number m))) (one_more m) (t ∷ ts) and_then closes (blank env (next_number m))) and_then verbs_or_none env)
   open_by env m Close ts p h = absurd (cc)
   open_by env m t ts p h = refl
 
   open_goes : {env : Context Value Triple} {d : ℕ} {s v : Value} {n k : Numbers} {xs : List Symbol} {T : List Triple} (m : Numbers) → Covers env (Verbs d s) n xs v T k → (z : List Symbol)
-      → in_brackets env m (xs ++ z) ≡ ((read env (Verbs 1 (blank env (next_number m))) (one_more m) (xs ++ z) >>= closes (blank env (next_number m))) >>= verbs_or_none env)
+      → in_brackets env m (xs ++ z) ≡ ((read env (Verbs 1 (blank env (next_number m))) (one_more m) (xs ++ z) and_then closes (blank env (next_number m))) and_then verbs_or_none env)
   open_goes {env = env} m (rule.verbs {p = p} t {xs = xs} {ys = ys} h a b) z = open_by env m t ((xs ++ ys) ++ z) p h
 
   -- properties in brackets, up to their ']'
@@ -144,7 +144,7 @@ module _ {Value Triple : Type 0} where
       → triples_at env n (Open ∷ (xs ++ Close ∷ rest)) ≡ verbs_or_none env (with_value (blank env (next_number n)) T k rest)
   brackets_read env n k xs rest v T q c =
       opens env n (xs ++ Close ∷ rest) q ∙ open_goes n c (Close ∷ rest)
-      ∙ ap (λ z. (z >>= closes (blank env (next_number n))) >>= verbs_or_none env) (read_of env (Verbs 1 (blank env (next_number n))) (one_more n) k xs (Close ∷ rest) v T c (omega arith) tt)
+      ∙ ap (λ z. (z and_then closes (blank env (next_number n))) and_then verbs_or_none env) (read_of env (Verbs 1 (blank env (next_number n))) (one_more n) k xs (Close ∷ rest) v T c (omega arith) tt)
 
   -- verbs begin with one
   verbs_start : {env : Context Value Triple} {d : ℕ} {s v : Value} {n k : Numbers} {xs : List Symbol} {T : List Triple} → Covers env (Verbs d s) n xs v T k → (z : List Symbol) → starts_verb (xs ++ z) ≡ true
@@ -160,21 +160,21 @@ module _ {Value Triple : Type 0} where
       → ReadsTriples env n (xs ++ rest) T k rest
   unfolding triples_at
   triples_read {env = env} {n = n} (statement.word {k = k} {l = l} {s = s} {v = v} w {xs = xs} {T = T} q c) rest h =
-      (v, ap (λ z. z >>= verbs_of env (xs ++ rest)) q ∙ read_of env (Verbs 0 s) k l xs rest v T c (omega arith) h)
+      (v, ap (λ z. z and_then verbs_of env (xs ++ rest)) q ∙ read_of env (Verbs 0 s) k l xs rest v T c (omega arith) h)
   triples_read {env = env} {n = n} (statement.anon {l = l} {v = v} {xs = xs} {T = T} q c) rest h =
       (v, opens env n (Close ∷ (xs ++ rest)) q ∙ read_of env (Verbs 0 (blank env (next_number n))) (one_more n) l xs rest v T c (omega arith) h)
   triples_read {env = env} {n = n} (statement.list {k = k} {l = l} {s = s} {v = v} {xs = xs} {ys = ys} {T = T} {U = U} a b) rest h =
       let G : Got Value Triple = with_value s T k (ys ++ rest) in (
         v,
-        ap (λ z. read env (Begun 1) n z >>= after_list env) (append_assoc xs ys rest)
-            ∙ ap (λ z. z >>= after_list env) (read_of env (Begun 1) n k xs (ys ++ rest) s T a (omega arith) tt)
+        ap (λ z. read env (Begun 1) n z and_then after_list env) (append_assoc xs ys rest)
+            ∙ ap (λ z. z and_then after_list env) (read_of env (Begun 1) n k xs (ys ++ rest) s T a (omega arith) tt)
             ∙ after_either (stands_alone env T) (starts_verb (ys ++ rest)) (verbs_after env G) (Ok G) (verbs_start b rest)
             ∙ ap (λ z. with_front T z) (read_of env (Verbs 0 s) k l ys rest v U b (omega arith) h),
       )
   triples_read {env = env} {n = n} (statement.lone_list {k = k} {s = s} {t = t} {xs = xs} {T = T} q c) rest h =
       let G : Got Value Triple = with_value s (t ∷ T) k rest in (
         s,
-        ap (λ z. z >>= after_list env) (read_of env (Begun 1) n k xs rest s (t ∷ T) c (omega arith) tt)
+        ap (λ z. z and_then after_list env) (read_of env (Begun 1) n k xs rest s (t ∷ T) c (omega arith) tt)
             ∙ ap (λ z. cond (z && true) (verbs_or_none env G) (verbs_after env G)) q
             ∙ ap (λ z. cond z (verbs_after env G) (Ok G)) (no_verb rest h),
       )

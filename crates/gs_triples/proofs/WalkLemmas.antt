@@ -8,7 +8,7 @@ use Rattle.gs_triples.specs.Meanings as meaning
 use Rattle.gs_triples.specs.Meanings.{Fault, Syntax, Context, blank, rdf_value}
 use Rattle.gs_triples.specs.Goals.{Goal, Object, Inside, Verbs, After, Semis, Begun, Items}
 use Rattle.gs_triples.specs.Rules.{Covers}
-use Rattle.gs_triples.specs.Reading.{Got, ◌>>=◌, with_front, bare, literal, one_token, close, closes, parse}
+use Rattle.gs_triples.specs.Reading.{Got, ◌and_then◌, with_front, bare, literal, one_token, close, closes, parse}
 use Rattle.gs_triples.specs.Program.{stands_alone}
 use Rattle.gs_triples.specs.States.{Frame, ToObject, ToClose, ToFirst, ToItem, ToVerbs, ToMore, State, Closed, Heading, Held, Lost, Turn}
 use Rattle.gs_triples.specs.Machine.{give, give_token, put, leave, go_on, step, unended, ended}
@@ -63,7 +63,7 @@ module _ {Value Triple : Type 0} where
       → ((v : Value) (Q : List Triple) (l : Numbers) → give env v (fr ∷ fs) Q l ≡ Heading then fs env (Q ++ T v) l)
       → ((l : Numbers) (us : List Symbol) (Q : List Triple) → length us + 1 ≤ k → run us (Heading then fs env Q l) ≡ continue then fs env Q (parse env f then l us))
       → (ts : List Symbol) → length ts ≤ k → (r : Result (Got Value Triple) Fault) → Covered env (Object d) n ts r
-      → continue (Object d) (fr ∷ fs) env P r ≡ continue then fs env P (r >>= then_goal env f then T)
+      → continue (Object d) (fr ∷ fs) env P r ≡ continue then fs env P (r and_then then_goal env f then T)
   continue_then env f d n fr fs P T then k e again ts h (Err x) c = refl
   continue_then env f d n fr fs P T then k e again ts h (Ok o) (xs, q, c) =
       ap (λ z. run o.rest z) (e o.value (P ++ o.triples) o.numbers)
@@ -107,7 +107,7 @@ module _ {Value Triple : Type 0} where
   close_step env d m fs P Q n (t ∷ ts) = lost_run Syntax ts
 
   pub close_then : (env : Context Value Triple) (d m : ℕ) (s : Value) (fs : List (Frame Value)) (P : List Triple) (r : Result (Got Value Triple) Fault)
-      → continue (Verbs d s) (ToClose m ∷ fs) env P r ≡ continue (Inside d m) fs env P (r >>= closes (blank env m))
+      → continue (Verbs d s) (ToClose m ∷ fs) env P r ≡ continue (Inside d m) fs env P (r and_then closes (blank env m))
   close_then env d m s fs P (Err e) = refl
   close_then env d m s fs P (Ok g) = close_step env d m fs P g.triples g.numbers g.rest
 

@@ -55,7 +55,8 @@ module _ {Value Triple : Type 0} where
   object d t fs env P n = Lost Syntax
 
   -- the object of a verb, or the verb's fault
-  abbrev pub after_verb : ℕ → Value → List (Frame Value) → Context Value Triple → List Triple → Numbers → Result Value Fault → State Value Triple
+  abbrev pub after_verb : ℕ → Value → List (Frame Value) → Context Value Triple → List Triple → Numbers → Result Value Fault
+      → State Value Triple
   after_verb d s fs env P n (Err e) = Lost e
   after_verb d s fs env P n (Ok p) = Heading (Object d) (ToObject d s p ∷ fs) env P n
 

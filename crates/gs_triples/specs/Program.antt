@@ -5,7 +5,7 @@ use Rattle.gs_triples.specs.Symbols.{Symbol, AWord, Open, Close, OpenList}
 use Rattle.gs_triples.specs.Meanings.{Fault, Syntax, Context, subject, blank}
 use Rattle.gs_triples.specs.Goals.{Verbs, Begun, next_number}
 use Rattle.gs_triples.specs.Triples.{AreTriples, EndsVerbs}
-use Rattle.gs_triples.specs.Reading.{Got, ◌>>=◌, with_front, closes, begins_verb, read}
+use Rattle.gs_triples.specs.Reading.{Got, ◌and_then◌, with_front, closes, begins_verb, read}
 
 -- a verb stands next
 abbrev pub starts_verb : List Symbol → Bool
@@ -42,13 +42,13 @@ module _ {Value Triple : Type 0} where
   abbrev pub in_brackets : Context Value Triple → Numbers → List Symbol → Result (Got Value Triple) Fault
   in_brackets env n (Close ∷ ts) = read env (Verbs 0 (blank env (next_number n))) (one_more n) ts
   in_brackets env n ts =
-      read env (Verbs 1 (blank env (next_number n))) (one_more n) ts >>= closes (blank env (next_number n)) >>= verbs_or_none env
+      read env (Verbs 1 (blank env (next_number n))) (one_more n) ts and_then closes (blank env (next_number n)) and_then verbs_or_none env
 
   -- [6] triples
   unfoldable pub triples_at : Context Value Triple → Numbers → List Symbol → Result (Got Value Triple) Fault
-  triples_at env n (AWord w ∷ ts) = subject env n w >>= verbs_of env ts
+  triples_at env n (AWord w ∷ ts) = subject env n w and_then verbs_of env ts
   triples_at env n (Open ∷ ts) = if env.language.nodes then in_brackets env n ts else Err Syntax
-  triples_at env n (OpenList ∷ ts) = read env (Begun 1) n ts >>= after_list env
+  triples_at env n (OpenList ∷ ts) = read env (Begun 1) n ts and_then after_list env
   triples_at env n _ = Err Syntax
 
   -- the program reads these triples at the front of the tokens, up to this rest

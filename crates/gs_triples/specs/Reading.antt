@@ -6,11 +6,11 @@ use Rattle.gs_triples.specs.Symbols.{Symbol, AWord, Text, At, Carets, A, Open, C
 use Rattle.gs_triples.specs.Meanings.{Fault, Syntax, Context, blank, rdf_value, verb, word, simple, tagged, typed}
 use Rattle.gs_triples.specs.Goals.{Goal, Object, Inside, Verbs, After, Semis, Begun, Items, may_open, may_open_node, next_number, first_is, rest_is}
 
-infixl 10 ◌>>=◌
+infixl 10 ◌and_then◌
 -- what comes next, where there is no fault
-abbrev pub ◌>>=◌ : {A B : Type 0} → Result A Fault → (A → Result B Fault) → Result B Fault
-(Err e) >>= f = Err e
-(Ok x) >>= f = f x
+abbrev pub ◌and_then◌ : {A B : Type 0} → Result A Fault → (A → Result B Fault) → Result B Fault
+(Err e) and_then f = Err e
+(Ok x) and_then f = f x
 
 -- what a goal gives, and the tokens after it
 pub record Got (Value Triple : Type 0) : Type 0 where
@@ -70,14 +70,14 @@ module _ {Value Triple : Type 0} where
   parse env (suc f) (Object d) n (OpenList ∷ ts) = if may_open d then parse env f (Begun (suc d)) n ts else Err Syntax
   parse env (suc f) (Object d) n _ = Err Syntax
   parse env (suc f) (Inside d m) n (Close ∷ ts) = Ok (record { value = blank env m; triples = []; numbers = n; rest = ts })
-  parse env (suc f) (Inside d m) n ts = parse env f (Verbs d (blank env m)) n ts >>= closes (blank env m)
+  parse env (suc f) (Inside d m) n ts = parse env f (Verbs d (blank env m)) n ts and_then closes (blank env m)
   parse env (suc f) (Verbs d s) n [] = Err Syntax
   parse env (suc f) (Verbs d s) n (t ∷ ts) =
-      verb env t >>= λ p.
-      parse env f (Object d) n ts >>= λ o.
+      verb env t and_then λ p.
+      parse env f (Object d) n ts and_then λ o.
       with_front (o.triples ++ env.language.triple s p o.value ∷ []) (parse env f (After d s p) o.numbers o.rest)
   parse env (suc f) (After d s p) n (Comma ∷ ts) =
-      parse env f (Object d) n ts >>= λ o.
+      parse env f (Object d) n ts and_then λ o.
       with_front (o.triples ++ env.language.triple s p o.value ∷ []) (parse env f (After d s p) o.numbers o.rest)
   parse env (suc f) (After d s p) n (Semicolon ∷ ts) = parse env f (Semis d s) n ts
   parse env (suc f) (After d s p) n ts = Ok (record { value = s; triples = []; numbers = n; rest = ts })
@@ -89,14 +89,14 @@ module _ {Value Triple : Type 0} where
       Ok (record { value = rdf_value env (codes "nil"); triples = []; numbers = n; rest = ts })
   parse env (suc f) (Begun d) n ts =
       if env.language.nodes
-      then (parse env f (Object d) (one_more n) ts >>= λ o.
+      then (parse env f (Object d) (one_more n) ts and_then λ o.
       with_front (o.triples ++ first_is env (next_number n) o.value ∷ [])
       (parse env f (Items d (next_number n) (next_number n)) o.numbers o.rest))
       else Err Syntax
   parse env (suc f) (Items d h m) n (CloseList ∷ ts) =
       Ok (record { value = blank env h; triples = rest_is env m (rdf_value env (codes "nil")) ∷ []; numbers = n; rest = ts })
   parse env (suc f) (Items d h m) n ts =
-      parse env f (Object d) (one_more n) ts >>= λ o.
+      parse env f (Object d) (one_more n) ts and_then λ o.
       with_front (o.triples ++ first_is env (next_number n) o.value ∷ rest_is env m (blank env (next_number n)) ∷ [])
       (parse env f (Items d h (next_number n)) o.numbers o.rest)
 

@@ -3,7 +3,7 @@ use Rattle.std.specs.Prelude.{◌≡◌, List, [], ◌∷◌, Result, Ok, Err}
 use Rattle.gs_blank.specs.Numbers.{Numbers}
 use Rattle.gs_triples.specs.Symbols.{Symbol}
 use Rattle.gs_triples.specs.Meanings.{Fault, Syntax, Context}
-use Rattle.gs_triples.specs.Reading.{Got, ◌>>=◌}
+use Rattle.gs_triples.specs.Reading.{Got, ◌and_then◌}
 use Rattle.gs_triples.specs.Program.{triples_at}
 use Rattle.gs_triples.specs.States.{State, Turn, Goes, Ends}
 use Rattle.gs_triples.specs.Machine.{opening, step, ended}
@@ -37,7 +37,7 @@ module _ {Value Triple : Type 0} where
 
   -- and its fault, where it has one
   abbrev pub with_next : Context Value Triple → Result (Got Value Triple) Fault → Result (Done Value Triple) Fault
-  with_next env r = r >>= done_of env
+  with_next env r = r and_then done_of env
 
   -- the machine reads of some tokens what the program reads, where a token stands after it, and else has its fault
   abbrev pub RunsAsProgram : Context Value Triple → Type 0
