@@ -7,7 +7,8 @@ use Rattle.gs_triples.specs.Meanings.{Fault, Syntax, Context, blank, rdf_value, 
 use Rattle.gs_triples.specs.Goals.{Goal, Object, Inside, Verbs, After, Semis, Begun, Items, may_open, may_open_node, next_number, first_is, rest_is}
 use Rattle.gs_triples.specs.Reading.{begins_verb}
 use Rattle.gs_triples.specs.Program.{stands_alone}
-use Rattle.gs_triples.specs.States.{Frame, ToObject, ToClose, ToFirst, ToItem, ToVerbs, ToMore, State, Opened, Closed, Heading, Held, Typing, Lost, Turn, Goes, Ends}
+use Rattle.gs_triples.specs.States.{Frame, ToObject, ToClose, ToFirst, ToItem, ToVerbs, ToMore}
+use Rattle.gs_triples.specs.States.{State, Opened, Closed, Heading, Held, Typing, Lost, Turn, Goes, Ends}
 
 -- a text that ends after a string: the string's fault, or unfinished triples
 abbrev pub unended : Result Term Fault → Fault

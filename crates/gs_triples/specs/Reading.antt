@@ -1,5 +1,6 @@
 -- A goal read at the front of a list of tokens, as a plain recursive program.
-use Rattle.std.specs.Prelude.{ℕ, zero, suc, ◌+◌, ◌*◌, Bool, true, false, if◌then◌else◌, List, [], ◌∷◌, ◌++◌, length, codes, Result, Ok, Err}
+use Rattle.std.specs.Prelude.{ℕ, zero, suc, ◌+◌, ◌*◌, Bool, true, false, if◌then◌else◌}
+use Rattle.std.specs.Prelude.{List, [], ◌∷◌, ◌++◌, length, codes, Result, Ok, Err}
 use Rattle.gs_model.specs.Terms.{Term}
 use Rattle.gs_blank.specs.Numbers.{Numbers, one_more}
 use Rattle.gs_triples.specs.Symbols.{Symbol, AWord, Text, At, Carets, A, Open, Close, OpenList, CloseList, Semicolon, Comma}
