@@ -2,7 +2,7 @@
 use Rattle.std.specs.Prelude.{◌≡◌, ℕ, List, [], ◌++◌, Option, Result, Ok, Err, string_bytes}
 use Rattle.gs_model.specs.Triples.{RdfTriple}
 use Rattle.gs_body.specs.Bodies.{triples_of, end_after}
-use Rattle.gs_triples.specs.Meanings.{Context}
+use Rattle.gs_document.specs.Contexts.{TurtleContext}
 use Rattle.gs_triple_parser.specs.Views.{symbol_at, pending_triples}
 use Rattle.gs_triple_parser.specs.declared.symbols.Symbol.{Symbol}
 use Rattle.gs_document.specs.Directives.{with_prefix}
@@ -30,7 +30,7 @@ abbrev pub turn_after : Parser → Symbol → Turn
 turn_after p t = machine.conclude (symbol_at t) (context_at p) (pending_triples p.triples) (numbers_at p)
 
 -- the context in which the directive's prefix is declared by the text of a reference
-abbrev pub declared : Parser → List ℕ → Option Context
+abbrev pub declared : Parser → List ℕ → Option TurtleContext
 declared p x = with_prefix (context_at p) (string_bytes p.prefix) x
 
 -- the parser took this turn

@@ -4,7 +4,7 @@ use Rattle.gs_model.specs.declared.faults.Fault.{Fault}
 use Rattle.gs_model.specs.declared.faults.Fault.TheVariants.{Syntax}
 use Rattle.gs_blank.specs.Numbers.{Numbers}
 use Rattle.gs_body.specs.Bodies.{Ending, Whole, Faulty}
-use Rattle.gs_triples.specs.Meanings.{Context}
+use Rattle.gs_document.specs.Contexts.{TurtleContext}
 use Rattle.gs_triple_parser.specs.Views.{triples_state, context_now, numbers_now}
 use Rattle.gs_document.specs.States as machine
 use Rattle.gs_parse.specs.declared.parser.Parser.{Parser}
@@ -12,7 +12,7 @@ use Rattle.gs_parse.specs.declared.places.Place.{Place}
 use Rattle.gs_parse.specs.declared.places.Place.TheVariants as place
 
 -- the base, the prefixes and the request of a parser
-abbrev pub context_at : Parser → Context
+abbrev pub context_at : Parser → TurtleContext
 context_at p = context_now p.triples
 
 -- the numbers of the blank nodes so far

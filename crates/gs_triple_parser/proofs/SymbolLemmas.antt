@@ -8,11 +8,11 @@ use Rattle.gs_lex.specs.Tokens.{Lexeme}
 use Rattle.gs_triples.specs.Symbols.{Foreign, symbol, symbol_of}
 
 pub symbol_of_text : (t : Lexeme) (x : List ℕ) → x ≡ t.text → IsUtf8 t.text → symbol t.kind x t.«end» ≡ symbol_of t
-symbol_of_text t x e u = ap (λ y. symbol t.kind y t.«end») e ∙ sym (ap (λ b. cond b (symbol t.kind t.text t.«end») Foreign) (is_utf8-from_IsUtf8 t.text u))
+symbol_of_text t x e u = ap (λ y. symbol t.kind y t.«end») e ∙ sym (ap (λ b. cond b (symbol t.kind t.text t.«end») (Foreign t.kind t.«end»)) (is_utf8-from_IsUtf8 t.text u))
 
-pub symbol_of_bytes : (t : Lexeme) → ¬ (IsUtf8 t.text) → Foreign ≡ symbol_of t
+pub symbol_of_bytes : (t : Lexeme) → ¬ (IsUtf8 t.text) → Foreign t.kind t.«end» ≡ symbol_of t
 symbol_of_bytes t n =
-    elim (is_utf8 t.text) as (λ b. is_utf8 t.text ≡ b → Foreign ≡ cond b (symbol t.kind t.text t.«end») Foreign) [
+    elim (is_utf8 t.text) as (λ b. is_utf8 t.text ≡ b → Foreign t.kind t.«end» ≡ cond b (symbol t.kind t.text t.«end») (Foreign t.kind t.«end»)) [
       | true ↦ λ h. absurd (n (IsUtf8-from_is_utf8 t.text h))
       | false ↦ λ h. refl
     ] refl

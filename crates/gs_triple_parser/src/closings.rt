@@ -27,7 +27,10 @@ impl TripleParser {
                 return self.give_subject(Subject { term });
             }
             Frame::ToMore(number) => match self.stack.pop() {
-                None => self.place = Place::Closed(number),
+                None => {
+                    let term = blank(self.alloc, self.context.request, number)?;
+                    self.place = Place::Closed(Subject { term });
+                }
                 Some(_) => self.lose(Fault::Syntax),
             },
             _ => self.lose(Fault::Syntax),

@@ -1,6 +1,6 @@
 //! Where the machine stands.
 
-use crate::frames::{Goal, Slot};
+use crate::frames::{Goal, Slot, Subject};
 use gs_model::Fault;
 
 /// Within triples, or at a fault.
@@ -8,8 +8,8 @@ use gs_model::Fault;
 pub enum Place {
     /// After a `[` that opens the triples.
     Opened,
-    /// After its `]`.
-    Closed(u64),
+    /// After its `]`: this blank node may stand alone.
+    Closed(Subject),
     Heading(Goal),
     /// After a string that is an object.
     Held(String, Slot),

@@ -42,24 +42,25 @@ impl TripleParser {
 
     /// A symbol after the properties that open triples.
     #[tactic(auto, unfolding(gs_triples::specs::Machine::step))]
-    fn closed(&mut self, number: u64, symbol: Symbol) -> Result<Turn, AllocError>
-        ensures { Turned result self.new (step_of self.old (Place.Closed number) symbol.entry) }
+    fn closed(&mut self, subject: Subject, symbol: Symbol) -> Result<Turn, AllocError>
+        ensures { Turned result self.new (step_of self.old (Place.Closed subject) symbol.entry) }
     {
         if !begins_verb(symbol) {
             return Ok(Turn::Over);
         }
         self.stack.clear();
-        let term = blank(self.alloc, self.context.request, number)?;
-        self.at_verb(0, Subject { term }, symbol)?;
+        self.at_verb(0, subject, symbol)?;
         Ok(Turn::Taken)
     }
 
     /// A symbol after the string that was an object.
+    #[tactic(auto, unfolding(gs_triples::specs::Machine::step))]
     fn go_on(&mut self, symbol: Symbol) -> Result<Turn, AllocError>
         ensures { Turned result self.new (next_of (triples_state self.old) symbol.entry) }
     {
         match mem::replace(&mut self.place, Place::Lost(Fault::Syntax)) {
             Place::Heading(goal) => self.head(goal, symbol),
+            Place::Closed(subject) => self.closed(subject, symbol),
             Place::Lost(fault) => {
                 self.lose(fault);
                 Ok(Turn::Taken)
@@ -113,7 +114,7 @@ impl TripleParser {
     {
         match mem::replace(&mut self.place, Place::Lost(Fault::Syntax)) {
             Place::Opened => self.opened(symbol)?,
-            Place::Closed(number) => return self.closed(number, symbol),
+            Place::Closed(subject) => return self.closed(subject, symbol),
             Place::Heading(goal) => return self.head(goal, symbol),
             Place::Held(text, slot) => return self.held(text, slot, symbol),
             Place::Typing(text, slot) => self.typing(text, slot, symbol)?,

@@ -1,7 +1,7 @@
 //! What the grammar sees of a token.
 ghost use Rattle.std.specs.Prelude.{◌≡◌};
 ghost use Rattle.gs_lex.specs.Lexemes.{lexeme_of};
-ghost use Rattle.gs_triples.specs.Symbols.{symbol as kind_symbol, symbol_of};
+ghost use Rattle.gs_triples.specs.Symbols.{symbol as kind_symbol, symbol_of, after_mark};
 ghost use Rattle.gs_triple_parser.specs.Views.{symbol_at};
 
 use crate::vocabulary::{XSD_BOOLEAN, XSD_DECIMAL, XSD_DOUBLE, XSD_INTEGER};
@@ -17,6 +17,8 @@ pub enum Word<'a> {
     Label(&'a str),
     /// A number or a boolean, with its datatype.
     Plain(&'a str, &'a str),
+    /// The name after the mark, in updates alone.
+    Variable(&'a [u8]),
 }
 
 /// A terminal, with what it leaves open.
@@ -39,8 +41,18 @@ pub enum Symbol<'a> {
     Dot(u64),
     Prefix,
     Base,
-    /// What stands in updates alone.
-    Foreign,
+    /// What stands in updates alone, or is no text, with the number of bytes up to its end.
+    Foreign(TokenKind, u64),
+}
+
+/// The text after its first byte.
+fn after_mark(text: &[u8]) -> &[u8]
+    ensures { result.now ≡ after_mark text.now }
+{
+    match text {
+        [] => text,
+        [_, rest @ ..] => rest,
+    }
 }
 
 fn symbol_of_kind(kind: TokenKind, text: &str, end: u64) -> Symbol<'_>
@@ -70,9 +82,10 @@ fn symbol_of_kind(kind: TokenKind, text: &str, end: u64) -> Symbol<'_>
         TokenKind::Semicolon => Symbol::Semicolon,
         TokenKind::Comma => Symbol::Comma,
         TokenKind::Dot => Symbol::Dot(end),
+        TokenKind::Var => Symbol::Word(Word::Variable(after_mark(text.as_bytes()))),
         TokenKind::Prefix => Symbol::Prefix,
         TokenKind::Base => Symbol::Base,
-        _ => Symbol::Foreign,
+        _ => Symbol::Foreign(kind, end),
     }
 }
 
@@ -82,6 +95,6 @@ pub fn symbol_of_token(token: &Token) -> Symbol<'_>
 {
     match str::from_utf8(token.text.as_slice()) {
         Ok(text) => symbol_of_kind(token.kind, text, token.end),
-        Err(_) => Symbol::Foreign,
+        Err(_) => Symbol::Foreign(token.kind, token.end),
     }
 }

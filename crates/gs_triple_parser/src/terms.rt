@@ -149,6 +149,7 @@ pub fn typed(
 }
 
 /// A verb.
+#[tactic(auto, using(crate::proofs::TermLemmas::verb_is))]
 pub fn verb(
     alloc: Global,
     context: &Context,
@@ -184,7 +185,7 @@ fn labelled(
 }
 
 /// The term of one token.
-#[tactic(auto, unfolding(gs_triples::specs::Meanings::word, gs_triples::specs::Meanings::made_of, gs_triples::specs::Meanings::iri))]
+#[tactic(auto, unfolding(gs_triples::specs::Meanings::word, gs_triples::specs::Meanings::made_of, gs_triples::specs::Meanings::iri), using(crate::proofs::TermLemmas::value_is))]
 pub fn word(
     alloc: Global,
     context: &Context,
@@ -201,7 +202,7 @@ pub fn word(
 }
 
 /// The subject of one token.
-#[tactic(auto, unfolding(gs_triples::specs::Meanings::word))]
+#[tactic(auto, unfolding(gs_triples::specs::Meanings::word, gs_triples::specs::Meanings::made_of, gs_triples::specs::Meanings::iri), using(crate::proofs::TermLemmas::value_is))]
 pub fn subject(
     alloc: Global,
     context: &Context,
