@@ -4,7 +4,7 @@ use Rattle.gs_model.specs.Terms.{Term}
 use Rattle.gs_model.specs.Triples.{RdfTriple}
 use Rattle.gs_blank.specs.Numbers.{Numbers}
 use Rattle.gs_triples.specs.Symbols.{Symbol}
-use Rattle.gs_triple_parser.specs.Views.{TermContext}
+use Rattle.gs_triple_parser.specs.Contexts.{TermContext}
 use Rattle.gs_triples.specs.States.{Frame, Goes, Ends}
 use Rattle.gs_triples.specs.Machine.{leave, shut}
 

@@ -4,7 +4,13 @@ use Rattle.std.specs.FinMap as finite
 use Rattle.gs_iri.specs.Resolving.{resolved}
 use Rattle.gs_escape.specs.Tokens.{iri_of}
 use Rattle.gs_triples.specs.Languages.{of_terms}
-use Rattle.gs_triple_parser.specs.Views.{TermContext}
+use Rattle.gs_model.specs.Terms.{Term}
+use Rattle.gs_model.specs.Triples.{RdfTriple}
+use Rattle.gs_triples.specs.Meanings.{Context}
+
+-- what earlier statements leave, where triples are made of terms
+abbrev pub TermContext : Type 0
+TermContext = Context Term RdfTriple
 
 -- a call that has not failed answers this text, or none
 abbrev pub IsText : {Y E : Type 0} → Result (Option (String Y)) E → Option (List ℕ) → Type 0

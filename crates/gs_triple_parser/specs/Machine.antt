@@ -6,8 +6,8 @@ use Rattle.gs_triples.specs.Goals.{Verbs}
 use Rattle.gs_triples.specs.States.{Heading, Goes}
 use Rattle.gs_triples.specs.Machine as machine
 use Rattle.gs_triple_parser.specs.Frames.{goal_of, slot_of, frame_of, frames_at, stack_of}
-use Rattle.gs_triple_parser.specs.Views.{TermContext, TermState, TermTurn, symbol_at, context_of, triples_state, triples_state_at, triples_turn, context_now, numbers_now}
-use Rattle.gs_triple_parser.specs.Contexts.{Changes}
+use Rattle.gs_triple_parser.specs.Views.{TermState, TermTurn, symbol_at, context_of, triples_state, triples_state_at, triples_turn, context_now, numbers_now}
+use Rattle.gs_triple_parser.specs.Contexts.{TermContext, Changes}
 use Rattle.gs_triple_parser.specs.declared.frames.Frame.{Frame}
 use Rattle.gs_triple_parser.specs.declared.frames.Goal.{Goal}
 use Rattle.gs_triple_parser.specs.declared.frames.Slot.{Slot}

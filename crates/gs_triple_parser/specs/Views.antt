@@ -5,8 +5,8 @@ use Rattle.gs_model.specs.Triples.{RdfTriple}
 use Rattle.gs_blank.specs.Numbers.{Numbers}
 use Rattle.gs_triples.specs.Symbols as grammar
 use Rattle.gs_triples.specs.Languages.{of_terms}
-use Rattle.gs_triples.specs.Meanings as meaning
 use Rattle.gs_triples.specs.States as machine
+use Rattle.gs_triple_parser.specs.Contexts.{TermContext}
 use Rattle.gs_triple_parser.specs.Frames.{goal_of, slot_of, frames_at, stack_of}
 use Rattle.gs_triple_parser.specs.declared.contexts.Context.{Context}
 use Rattle.gs_triple_parser.specs.declared.places.Place.{Place}
@@ -45,10 +45,6 @@ symbol_at (symbol.Dot n) = grammar.Dot n
 symbol_at symbol.Prefix = grammar.PrefixWord
 symbol_at symbol.Base = grammar.BaseWord
 symbol_at (symbol.Foreign k e) = grammar.Foreign k e
-
--- what earlier statements leave, where triples are made of terms
-abbrev pub TermContext : Type 0
-TermContext = meaning.Context Term RdfTriple
 
 -- the base, the prefixes and the request of a context
 abbrev pub context_of : Context → TermContext
