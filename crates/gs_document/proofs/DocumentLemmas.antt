@@ -7,54 +7,56 @@ use Rattle.gs_model.specs.Triples.{RdfTriple}
 use Rattle.gs_lex.specs.Tokens.{Lexeme}
 use Rattle.gs_blank.specs.Numbers.{Numbers, no_numbers}
 use Rattle.gs_body.specs.Bodies.{Meaning, Statement, Whole, Faulty}
+use Rattle.gs_model.specs.Terms.{Term}
 use Rattle.gs_triples.specs.Symbols.{Reference, Namespace, Symbol, AWord, At, Dot, PrefixWord, BaseWord, symbol_of, symbols_of}
-use Rattle.gs_triples.specs.Meanings.{Fault, Syntax, Context}
+use Rattle.gs_triples.specs.Meanings.{Fault, Syntax}
 use Rattle.gs_triples.specs.Triples as triples
 use Rattle.gs_triples.specs.Triples.{AreTriples}
 use Rattle.gs_triples.specs.Program.{triples_at, CoversTriples}
+use Rattle.gs_document.specs.Contexts.{TurtleContext}
 use Rattle.gs_document.specs.Directives.{with_prefix, with_base}
 use Rattle.gs_document.specs.Documents as statement
 use Rattle.gs_document.specs.Documents.{IsStatement, AreStatements, IsDocument, stated, start}
-use Rattle.gs_triples.specs.Reading.{Got, ◌>>=◌}
+use Rattle.gs_triples.specs.Reading.{Got, ◌and_then◌}
 use Rattle.gs_document.specs.Program.{Told, told, ends_at, dotted, prefix_at, base_at, statement_at, followed, statements_at, document}
 use Rattle.gs_triples.proofs.TriplesLemmas.{triples_covered, triples_read}
 
-abbrev pub CoveredStatement : Context → Numbers → List Symbol → Result Told Fault → Type 0
+abbrev pub CoveredStatement : TurtleContext → Numbers → List Symbol → Result Told Fault → Type 0
 CoveredStatement env n ts (Err e) = Unit {0}
 CoveredStatement env n ts (Ok r) = (front : List Symbol) × (ts ≡ front ++ r.rest) × IsStatement env n front r.stated r.context r.numbers
 
 -- a directive of some tokens
-back_told : (env : Context) (n : Numbers) (S : List Statement) (front rest : List Symbol) (m q : Option Context) → m ≡ q
-    → ((next : Context) → m ≡ Some next → IsStatement env n front S next n) → CoveredStatement env n (front ++ rest) (told S n rest q)
+back_told : (env : TurtleContext) (n : Numbers) (S : List Statement) (front rest : List Symbol) (m q : Option TurtleContext) → m ≡ q
+    → ((next : TurtleContext) → m ≡ Some next → IsStatement env n front S next n) → CoveredStatement env n (front ++ rest) (told S n rest q)
 back_told env n S front rest m None h rule = tt
 back_told env n S front rest m (Some next) h rule = (front, refl, rule next h)
 
-back_prefix : (env : Context) (n : Numbers) (x : List ℕ) (ts : List Symbol) → x ≡ codes "@prefix" → CoveredStatement env n (At x ∷ ts) (prefix_at env n ts)
+back_prefix : (env : TurtleContext) (n : Numbers) (x : List ℕ) (ts : List Symbol) → x ≡ codes "@prefix" → CoveredStatement env n (At x ∷ ts) (prefix_at env n ts)
 back_prefix env n x (AWord (Namespace p) ∷ AWord (Reference i k) ∷ Dot e ∷ ts) h =
     back_told env n (stated e []) (At x ∷ AWord (Namespace p) ∷ AWord (Reference i k) ∷ Dot e ∷ []) ts (with_prefix env p i) _ refl (λ c q. statement.prefix x p i k e h q)
 back_prefix env n x _ h = tt
 
-back_base : (env : Context) (n : Numbers) (x : List ℕ) (ts : List Symbol) → x ≡ codes "@base" → CoveredStatement env n (At x ∷ ts) (base_at env n ts)
+back_base : (env : TurtleContext) (n : Numbers) (x : List ℕ) (ts : List Symbol) → x ≡ codes "@base" → CoveredStatement env n (At x ∷ ts) (base_at env n ts)
 back_base env n x (AWord (Reference i k) ∷ Dot e ∷ ts) h =
     back_told env n (stated e []) (At x ∷ AWord (Reference i k) ∷ Dot e ∷ []) ts (with_base env i) _ refl (λ c q. statement.base x i k e h q)
 back_base env n x _ h = tt
 
-back_at : (env : Context) (n : Numbers) (x : List ℕ) (ts : List Symbol) (b c : Bool) → bytes_eq x (codes "@prefix") ≡ b → bytes_eq x (codes "@base") ≡ c
+back_at : (env : TurtleContext) (n : Numbers) (x : List ℕ) (ts : List Symbol) (b c : Bool) → bytes_eq x (codes "@prefix") ≡ b → bytes_eq x (codes "@base") ≡ c
     → CoveredStatement env n (At x ∷ ts) (cond b (prefix_at env n ts) (cond c (base_at env n ts) (Err Syntax)))
 back_at env n x ts true c h k = back_prefix env n x ts ((bytes_eq-Decides x (codes "@prefix")).0 h)
 back_at env n x ts false true h k = back_base env n x ts ((bytes_eq-Decides x (codes "@base")).0 k)
 back_at env n x ts false false h k = tt
 
-back_dot : (env : Context) (n k : Numbers) (ts xs us : List Symbol) (T : List RdfTriple) → ts ≡ xs ++ us → AreTriples env n xs T k → CoveredStatement env n ts (ends_at env T k us)
+back_dot : (env : TurtleContext) (n k : Numbers) (ts xs us : List Symbol) (T : List RdfTriple) → ts ≡ xs ++ us → AreTriples env n xs T k → CoveredStatement env n ts (ends_at env T k us)
 back_dot env n k ts xs [] T e c = tt
 back_dot env n k ts xs (Dot z ∷ us) T e c = (xs ++ Dot z ∷ [], e ∙ sym (append_assoc xs (Dot z ∷ []) us), statement.triples z c)
 back_dot env n k ts xs (t ∷ us) T e c = tt
 
-back_triples : (env : Context) (n : Numbers) (ts : List Symbol) (r : Result Got Fault) → CoversTriples env n ts r → CoveredStatement env n ts (r >>= dotted env)
+back_triples : (env : TurtleContext) (n : Numbers) (ts : List Symbol) (r : Result (Got Term RdfTriple) Fault) → CoversTriples env n ts r → CoveredStatement env n ts (r and_then dotted env)
 back_triples env n ts (Err e) c = tt
 back_triples env n ts (Ok g) (xs, e, c) = back_dot env n g.numbers ts xs g.rest g.triples e c
 
-pub statement_covered : (env : Context) (n : Numbers) (ts : List Symbol) → CoveredStatement env n ts (statement_at env n ts)
+pub statement_covered : (env : TurtleContext) (n : Numbers) (ts : List Symbol) → CoveredStatement env n ts (statement_at env n ts)
 unfolding statement_at
 statement_covered env n (At x ∷ ts) = back_at env n x ts (bytes_eq x (codes "@prefix")) (bytes_eq x (codes "@base")) refl refl
 statement_covered env n (PrefixWord ∷ AWord (Namespace p) ∷ AWord (Reference i e) ∷ ts) =
@@ -66,19 +68,20 @@ statement_covered env n (BaseWord ∷ _) = tt
 statement_covered env n ts = back_triples env n ts (triples_at env n ts) (triples_covered env n ts)
 
 -- a statement is read by its rule
-abbrev pub as_told : List Statement → Context → Numbers → List Symbol → Result Told Fault
+abbrev pub as_told : List Statement → TurtleContext → Numbers → List Symbol → Result Told Fault
 as_told S env n rest = Ok (record { stated = S; context = env; numbers = n; rest = rest })
 
-triples_go : {env : Context} {n k : Numbers} {xs : List Symbol} {T : List RdfTriple} → AreTriples env n xs T k → (z : List Symbol)
-    → statement_at env n (xs ++ z) ≡ (triples_at env n (xs ++ z) >>= dotted env)
+triples_go : {env : TurtleContext} {n k : Numbers} {xs : List Symbol} {T : List RdfTriple} → AreTriples env n xs T k → (z : List Symbol)
+    → statement_at env n (xs ++ z) ≡ (triples_at env n (xs ++ z) and_then dotted env)
 unfolding statement_at
 triples_go (triples.word w q c) z = refl
-triples_go (triples.anon c) z = refl
+triples_go (triples.anon q c) z = refl
 triples_go (triples.list a b) z = refl
-triples_go (triples.properties c) z = refl
-triples_go (triples.properties_and a c) z = refl
+triples_go (triples.lone_list q c) z = refl
+triples_go (triples.properties q c) z = refl
+triples_go (triples.properties_and q a c) z = refl
 
-pub statement_read : {env next : Context} {n k : Numbers} {xs : List Symbol} {S : List Statement} → IsStatement env n xs S next k → (rest : List Symbol)
+pub statement_read : {env next : TurtleContext} {n k : Numbers} {xs : List Symbol} {S : List Statement} → IsStatement env n xs S next k → (rest : List Symbol)
     → statement_at env n (xs ++ rest) ≡ as_told S next k rest
 unfolding statement_at
 statement_read {env = env} {n = n} (statement.prefix x p i k e h q) rest =
@@ -90,18 +93,18 @@ statement_read {env = env} {n = n} (statement.base x i k e h q) rest =
 statement_read {n = n} (statement.prefix_word p i e q) rest = ap (told (stated e []) n rest) q
 statement_read {n = n} (statement.base_word i e q) rest = ap (told (stated e []) n rest) q
 statement_read {env = env} {n = n} (statement.triples {xs = xs} e c) rest =
-    ap (statement_at env n) (append_assoc xs (Dot e ∷ []) rest) ∙ triples_go c (Dot e ∷ rest) ∙ ap (λ z. z >>= dotted env) (triples_read c (Dot e ∷ rest) tt).1
+    ap (statement_at env n) (append_assoc xs (Dot e ∷ []) rest) ∙ triples_go c (Dot e ∷ rest) ∙ ap (λ z. z and_then dotted env) (triples_read c (Dot e ∷ rest) tt).1
 
 -- these tokens are these statements, whatever they leave
-abbrev Are : Context → Numbers → List Symbol → List Statement → Type 0
-Are env n ts S = (last : Context) × (l : Numbers) × AreStatements env n ts S last l
+abbrev Are : TurtleContext → Numbers → List Symbol → List Statement → Type 0
+Are env n ts S = (last : TurtleContext) × (l : Numbers) × AreStatements env n ts S last l
 
 -- no fault is the end of a document
 no_end : (e : Fault) → Faulty e ≡ Whole → ⊥
 no_end e h = cc
 
-back_followed : (env : Context) (n : Numbers) (ts : List Symbol) (f : ℕ) (S : List Statement) (r : Result Told Fault)
-    → ((e : Context) (k : Numbers) (us : List Symbol) (R : List Statement) → statements_at f e k us ≡ (R, Whole) → Are e k us R)
+back_followed : (env : TurtleContext) (n : Numbers) (ts : List Symbol) (f : ℕ) (S : List Statement) (r : Result Told Fault)
+    → ((e : TurtleContext) (k : Numbers) (us : List Symbol) (R : List Statement) → statements_at f e k us ≡ (R, Whole) → Are e k us R)
     → CoveredStatement env n ts r → followed (statements_at f) r ≡ (S, Whole) → Are env n ts S
 back_followed env n ts f S (Err e) ih c h = absurd (no_end e (ap (λ z. z.1) h))
 back_followed env n ts f S (Ok r) ih (xs, e, c) h =
@@ -112,7 +115,7 @@ back_followed env n ts f S (Ok r) ih (xs, e, c) h =
     subst (λ z. Are env n z S) (sym e)
     (subst (λ z. Are env n (xs ++ r.rest) z) (ap (λ z. z.0) h) (all.0, all.1, statement.statement c all.2))
 
-statements_covered : (f : ℕ) (env : Context) (n : Numbers) (ts : List Symbol) (S : List Statement) → statements_at f env n ts ≡ (S, Whole) → Are env n ts S
+statements_covered : (f : ℕ) (env : TurtleContext) (n : Numbers) (ts : List Symbol) (S : List Statement) → statements_at f env n ts ≡ (S, Whole) → Are env n ts S
 unfolding statements_at
 statements_covered f env n [] S h = subst (Are env n []) (ap (λ z. z.0) h) (env, n, statement.nothing env n)
 statements_covered zero env n (t ∷ ts) S h = let k : Faulty Syntax ≡ Whole = ap (λ z. z.1) h in absurd (cc)
@@ -120,7 +123,7 @@ statements_covered (suc f) env n (t ∷ ts) S h =
     back_followed env n (t ∷ ts) f S (statement_at env n (t ∷ ts)) (statements_covered f) (statement_covered env n (t ∷ ts)) h
 
 -- a statement takes a token
-pub statement_takes : {env next : Context} {n k : Numbers} {xs : List Symbol} {S : List Statement} → IsStatement env n xs S next k → 0 < length xs
+pub statement_takes : {env next : TurtleContext} {n k : Numbers} {xs : List Symbol} {S : List Statement} → IsStatement env n xs S next k → 0 < length xs
 statement_takes (statement.prefix x p i k e h q) = omega arith
 statement_takes (statement.base x i k e h q) = omega arith
 statement_takes (statement.prefix_word p i e q) = omega arith
@@ -128,17 +131,17 @@ statement_takes (statement.base_word i e q) = omega arith
 statement_takes (statement.triples {xs = xs} e c) = simp length-append (omega arith)
 
 -- one step of the program, where tokens are left
-statements_step : (f : ℕ) (env : Context) (n : Numbers) (ts : List Symbol) → 0 < length ts → statements_at (suc f) env n ts ≡ followed (statements_at f) (statement_at env n ts)
+statements_step : (f : ℕ) (env : TurtleContext) (n : Numbers) (ts : List Symbol) → 0 < length ts → statements_at (suc f) env n ts ≡ followed (statements_at f) (statement_at env n ts)
 unfolding statements_at
 statements_step f env n [] h = absurd (omega arith)
 statements_step f env n (t ∷ ts) h = refl
 
-pub statements_nil : (f : ℕ) (env : Context) (n : Numbers) → statements_at f env n [] ≡ ([], Whole)
+pub statements_nil : (f : ℕ) (env : TurtleContext) (n : Numbers) → statements_at f env n [] ≡ ([], Whole)
 unfolding statements_at
 statements_nil zero env n = refl
 statements_nil (suc f) env n = refl
 
-statements_read : (f : ℕ) {env last : Context} {n l : Numbers} {ts : List Symbol} {S : List Statement} → AreStatements env n ts S last l → length ts ≤ f → statements_at f env n ts ≡ (S, Whole)
+statements_read : (f : ℕ) {env last : TurtleContext} {n l : Numbers} {ts : List Symbol} {S : List Statement} → AreStatements env n ts S last l → length ts ≤ f → statements_at f env n ts ≡ (S, Whole)
 statements_read f (statement.nothing env n) h = statements_nil f env n
 statements_read zero (statement.statement {xs = xs} {ys = ys} a b) h = absurd (omega (arith, statement_takes a, length-append xs ys))
 statements_read (suc f) (statement.statement {env = env} {next = next} {n = n} {k = k} {xs = xs} {ys = ys} {S = S} {R = R} a b) h =

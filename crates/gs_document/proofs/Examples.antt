@@ -17,10 +17,12 @@ use Rattle.gs_escape.specs.Meanings.{unescaped, stands_local}
 use Rattle.gs_escape.specs.Tokens.{between, iri_of}
 use Rattle.gs_blank.specs.Numbers.{Numbers, no_numbers}
 use Rattle.gs_body.specs.Bodies.{Statement, Whole}
+use Rattle.gs_triples.specs.Languages.{of_terms}
 use Rattle.gs_triples.specs.Symbols.{Reference, Name, Plain, A, xsd}
 use Rattle.gs_triples.specs.Meanings as meaning
-use Rattle.gs_triples.specs.Meanings.{Fault, Context, Prefixes, made_of, name_text, iri, rdf, with_numbers}
+use Rattle.gs_triples.specs.Meanings.{Fault, Prefixes, made_of, name_text, iri, rdf, value_of, with_numbers}
 use Rattle.gs_triples.specs.Goals.{triple}
+use Rattle.gs_document.specs.Contexts.{TurtleContext}
 use Rattle.gs_document.specs.Directives.{with_prefix}
 use Rattle.gs_triples.specs.Rules as rule
 use Rattle.gs_triples.specs.Triples as triples_of
@@ -61,8 +63,8 @@ abbrev prefixes : Prefixes
 prefixes = finite.insert finite.empty (codes "ex") (codes "http://e/")
 
 -- the context after the first statement
-abbrev context : Context
-context = record { base = graph; prefixes = prefixes; request = 1 }
+abbrev context : TurtleContext
+context = record { base = graph; prefixes = prefixes; request = 1; language = of_terms }
 
 declared : with_prefix (start graph 1) (codes "ex:") (codes "<http://e/>") ≡ Some context
 unfolding with_prefix iri_of between unescaped is_utf8 chars encode resolved resolved_parts parts_of before from behind is_scheme has_scheme scheme_of behind_scheme behind_slashes authority_of behind_authority path_of behind_path query_of behind_query fragment_of dots segments_of closed is_dots is_dot is_dot_dot moved output_of text_of_segments scheme_text marked parts_text
@@ -81,7 +83,7 @@ spelled = ap (λ o. option_and_then (λ i. option_map (λ l. i ++ l) (Some (code
 
 named : meaning.word context no_numbers (Name (codes "ex:a.b")) ≡ Ok (Iri (codes "http://e/a.b"), no_numbers)
 unfolding meaning.word iri made_of
-named = ap (λ o. with_numbers no_numbers (made_of (option_map Iri o))) spelled
+named = ap (λ o. with_numbers no_numbers (value_of context (made_of (option_map Iri o)))) spelled
 
 abbrev numbers : ℕ → Numbers
 numbers k = (no_numbers.0, k)
@@ -111,7 +113,7 @@ by_rules = (
       (rule.verbs A refl (rule.word (Name (codes "ex:a.b")) named)
       (rule.comma
       (rule.list refl
-      (rule.begun (rule.word (Plain (codes "1") (xsd (codes "integer"))) one)
+      (rule.begun refl (rule.word (Plain (codes "1") (xsd (codes "integer"))) one)
       (rule.item (rule.word (Plain (codes ".5") (xsd (codes "decimal"))) half) (rule.ended 1 2 (numbers 2)))))
       (rule.no_more (Iri graph) (rdf (codes "type")) (numbers 2))))))
       (statement.nothing context (numbers 2))),

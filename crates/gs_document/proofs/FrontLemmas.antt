@@ -6,7 +6,8 @@ use Rattle.gs_lex.specs.Tokens.{Lexeme}
 use Rattle.gs_blank.specs.Numbers.{Numbers, no_numbers}
 use Rattle.gs_body.specs.Bodies.{Meaning, Statement, Whole, Faulty}
 use Rattle.gs_triples.specs.Symbols.{Symbol, symbol_of, symbols_of}
-use Rattle.gs_triples.specs.Meanings.{Fault, Context}
+use Rattle.gs_triples.specs.Meanings.{Fault}
+use Rattle.gs_document.specs.Contexts.{TurtleContext}
 use Rattle.gs_document.specs.Documents as statement
 use Rattle.gs_document.specs.Documents.{IsStatement, AreStatements, start}
 use Rattle.gs_document.specs.Fronts.{NoStatement, AreLongest, AreBeforeFault}
@@ -14,19 +15,19 @@ use Rattle.gs_document.specs.Program.{Told, statement_at, followed, statements_a
 use Rattle.gs_document.proofs.DocumentLemmas.{CoveredStatement, statement_covered, as_told, statement_read, statement_takes}
 
 -- where the program refuses a statement, none begins
-no_statement : (env : Context) (n : Numbers) (ts : List Symbol) (e : Fault) → statement_at env n ts ≡ Err e → NoStatement env n ts
+no_statement : (env : TurtleContext) (n : Numbers) (ts : List Symbol) (e : Fault) → statement_at env n ts ≡ Err e → NoStatement env n ts
 no_statement env n ts e h xs ys S next k p s =
     let both : Err e ≡ as_told S next k ys = sym h ∙ ap (statement_at env n) p ∙ statement_read s ys in absurd (cc)
 
 -- where none begins, a front of whole statements is empty
-no_front : (env : Context) (n : Numbers) (ts : List Symbol) → NoStatement env n ts → (ys : List Symbol) {xs : List Symbol} {R : List Statement} {next : Context} {k : Numbers}
+no_front : (env : TurtleContext) (n : Numbers) (ts : List Symbol) → NoStatement env n ts → (ys : List Symbol) {xs : List Symbol} {R : List Statement} {next : TurtleContext} {k : Numbers}
     → AreStatements env n xs R next k → ts ≡ xs ++ ys → length xs ≤ 0
 no_front env n ts none ys (statement.nothing _ _) p = omega arith
 no_front env n ts none ys (statement.statement {next = next} {k = k} {xs = xs} {ys = zs} {S = S} a b) p =
     absurd (none xs (zs ++ ys) S next k (p ∙ append_assoc xs zs ys) a)
 
 -- no front at all
-none_before : (env : Context) (n : Numbers) (ts : List Symbol) → NoStatement env n ts → AreLongest env n ts []
+none_before : (env : TurtleContext) (n : Numbers) (ts : List Symbol) → NoStatement env n ts → AreLongest env n ts []
 none_before env n ts none = record {
   front = [];
   after = ts;
@@ -43,8 +44,8 @@ told_or d (Ok r) = r
 told_or d (Err e) = d
 
 -- a front of whole statements begins with the statement that the program reads
-longest_with : (env : Context) (n : Numbers) (ts front : List Symbol) (r : Told) → statement_at env n ts ≡ Ok r → ts ≡ front ++ r.rest
-    → {S : List Statement} (a : AreLongest r.context r.numbers r.rest S) (ys : List Symbol) {xs : List Symbol} {R : List Statement} {next : Context} {k : Numbers}
+longest_with : (env : TurtleContext) (n : Numbers) (ts front : List Symbol) (r : Told) → statement_at env n ts ≡ Ok r → ts ≡ front ++ r.rest
+    → {S : List Statement} (a : AreLongest r.context r.numbers r.rest S) (ys : List Symbol) {xs : List Symbol} {R : List Statement} {next : TurtleContext} {k : Numbers}
     → AreStatements env n xs R next k → ts ≡ xs ++ ys → length xs ≤ length (front ++ a.front)
 longest_with env n ts front r h e a ys (statement.nothing _ _) p = omega arith
 longest_with env n ts front r h e a ys (statement.statement {next = m} {last = last} {k = k} {l = l} {xs = xs} {ys = zs} {S = S} {R = R} s b) p =
@@ -52,12 +53,12 @@ longest_with env n ts front r h e a ys (statement.statement {next = m} {last = l
     let same : r ≡ record { stated = S; context = m; numbers = k; rest = zs ++ ys } = ap (told_or r) both in
     let left : r.rest ≡ zs ++ ys = ap (λ (z : Told). z.rest) same in
     let moved : AreStatements m r.numbers zs R last l = subst (λ (z : Numbers). AreStatements m z zs R last l) (sym (ap (λ (z : Told). z.numbers) same)) b in
-    let here : AreStatements r.context r.numbers zs R last l = subst (λ (z : Context). AreStatements z r.numbers zs R last l) (sym (ap (λ (z : Told). z.context) same)) moved in
+    let here : AreStatements r.context r.numbers zs R last l = subst (λ (z : TurtleContext). AreStatements z r.numbers zs R last l) (sym (ap (λ (z : Told). z.context) same)) moved in
     let shorter : length zs ≤ length a.front = a.longest zs ys R last l left here in
     omega (arith, shorter, ap length e, ap length p, ap length left, length-append front r.rest, length-append (xs ++ zs) ys, length-append xs zs, length-append zs ys, length-append front a.front)
 
 -- one statement before others
-one_before : (env : Context) (n : Numbers) (ts : List Symbol) (r : Told) → statement_at env n ts ≡ Ok r → CoveredStatement env n ts (Ok r)
+one_before : (env : TurtleContext) (n : Numbers) (ts : List Symbol) (r : Told) → statement_at env n ts ≡ Ok r → CoveredStatement env n ts (Ok r)
     → (S : List Statement) → AreLongest r.context r.numbers r.rest S → AreLongest env n ts (r.stated ++ S)
 one_before env n ts r h (front, e, c) S a = record {
   front = front ++ a.front;
@@ -71,11 +72,11 @@ one_before env n ts r h (front, e, c) S a = record {
 }
 
 -- a statement's tokens are not all that is left of a list
-told_shorter : (env : Context) (n : Numbers) (ts : List Symbol) (r : Told) → CoveredStatement env n ts (Ok r) → length r.rest < length ts
+told_shorter : (env : TurtleContext) (n : Numbers) (ts : List Symbol) (r : Told) → CoveredStatement env n ts (Ok r) → length r.rest < length ts
 told_shorter env n ts r (front, e, c) = omega (arith, statement_takes c, ap length e, length-append front r.rest)
 
-front_of : (f : ℕ) (env : Context) (n : Numbers) (ts : List Symbol) (S : List Statement) (x : Fault) → length ts ≤ suc f
-    → ((c : Context) (k : Numbers) (us : List Symbol) (R : List Statement) → length us ≤ f → statements_at f c k us ≡ (R, Faulty x) → AreLongest c k us R)
+front_of : (f : ℕ) (env : TurtleContext) (n : Numbers) (ts : List Symbol) (S : List Statement) (x : Fault) → length ts ≤ suc f
+    → ((c : TurtleContext) (k : Numbers) (us : List Symbol) (R : List Statement) → length us ≤ f → statements_at f c k us ≡ (R, Faulty x) → AreLongest c k us R)
     → (r : Result Told Fault) → statement_at env n ts ≡ r → CoveredStatement env n ts r → followed (statements_at f) r ≡ (S, Faulty x) → AreLongest env n ts S
 front_of f env n ts S x size ih (Err e) q c h = subst (AreLongest env n ts) (ap (λ z. z.0) h) (none_before env n ts (no_statement env n ts e q))
 front_of f env n ts S x size ih (Ok r) q c h =
@@ -85,7 +86,7 @@ front_of f env n ts S x size ih (Ok r) q c h =
     subst (AreLongest env n ts) (ap (λ z. z.0) h)
     (one_before env n ts r q c rest.0 (ih r.context r.numbers r.rest rest.0 (omega (arith, told_shorter env n ts r c)) same))
 
-fronts : (f : ℕ) (env : Context) (n : Numbers) (ts : List Symbol) (S : List Statement) (x : Fault) → length ts ≤ f → statements_at f env n ts ≡ (S, Faulty x) → AreLongest env n ts S
+fronts : (f : ℕ) (env : TurtleContext) (n : Numbers) (ts : List Symbol) (S : List Statement) (x : Fault) → length ts ≤ f → statements_at f env n ts ≡ (S, Faulty x) → AreLongest env n ts S
 unfolding statements_at
 fronts f env n [] S x size h = let k : Whole ≡ Faulty x = ap (λ z. z.1) h in absurd (cc)
 fronts zero env n (t ∷ ts) S x size h = absurd (omega arith)

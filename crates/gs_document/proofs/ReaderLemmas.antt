@@ -9,15 +9,17 @@ use Rattle.gs_machine.specs.Machines.{joined, rest}
 use Rattle.gs_blank.specs.Numbers.{Numbers, no_numbers}
 use Rattle.gs_body.specs.Bodies.{Meaning, Faulty}
 use Rattle.gs_triples.specs.Symbols.{Reference, Namespace, Symbol, AWord, At, Dot, PrefixWord, BaseWord, symbol_of, symbols_of}
-use Rattle.gs_triples.specs.Meanings.{Fault, Syntax, Context}
-use Rattle.gs_triples.specs.Reading.{Got, ◌>>=◌}
+use Rattle.gs_triples.specs.Meanings.{Fault, Syntax}
+use Rattle.gs_triples.specs.Reading.{Got, ◌and_then◌}
 use Rattle.gs_triples.specs.Program.{triples_at, CoversTriples}
 use Rattle.gs_triples.specs.States as triples
 use Rattle.gs_triples.specs.States.{Lost, Goes, Ends}
 use Rattle.gs_triples.specs.Machine as triples_machine
-use Rattle.gs_triples.specs.Machine.{opening, Done, taken, run, goes_on}
+use Rattle.gs_triples.specs.Machine.{opening}
+use Rattle.gs_triples.specs.Runs.{Done, taken, run, done_of}
 use Rattle.gs_triples.proofs.TriplesLemmas.{triples_covered}
 use Rattle.gs_triples.proofs.MachineLemmas.{opening_run}
+use Rattle.gs_document.specs.Contexts.{TurtleContext}
 use Rattle.gs_document.specs.Directives.{with_prefix, with_base}
 use Rattle.gs_document.specs.Documents.{stated, start}
 use Rattle.gs_document.specs.Program.{told as told_by}
@@ -37,71 +39,71 @@ lost_rest e (t ∷ ts) = lost_rest e ts
 
 -- what is reported of shorter texts is known
 abbrev Known : ℕ → Type 0
-Known f = (env : Context) (n : Numbers) (us : List Symbol) → length us ≤ f → rest turtle (Between env n) us ≡ statements_at f env n us
+Known f = (env : TurtleContext) (n : Numbers) (us : List Symbol) → length us ≤ f → rest turtle (Between env n) us ≡ statements_at f env n us
 
 -- what is reported after triples
-abbrev told_after : Context → List RdfTriple → Numbers → List Symbol → Meaning
+abbrev told_after : TurtleContext → List RdfTriple → Numbers → List Symbol → Meaning
 told_after env T n [] = ([], Faulty Syntax)
 told_after env T n (t ∷ ts) = told (conclude t env T n) ts
 
 -- and where they have a fault
-abbrev concluded : Result Done Fault → Meaning
+abbrev concluded : Result (Done Term RdfTriple) Fault → Meaning
 concluded (Err e) = ([], Faulty e)
 concluded (Ok d) = told_after d.context d.triples d.numbers d.rest
 
 -- within triples the machine reports what theirs reads
-within_turn : (t : Symbol) (ts : List Symbol) (u : triples.Turn) → ((s : triples.State) → rest turtle (Within s) ts ≡ concluded (run ts s))
+within_turn : (t : Symbol) (ts : List Symbol) (u : triples.Turn Term RdfTriple) → ((s : triples.State Term RdfTriple) → rest turtle (Within s) ts ≡ concluded (run ts s))
     → told (over t u) ts ≡ concluded (taken (run ts) (t ∷ ts) u)
 within_turn t ts (Goes s) again = again s
 within_turn t ts (Ends env T n) again = refl
 
-within : (ts : List Symbol) (s : triples.State) → rest turtle (Within s) ts ≡ concluded (run ts s)
+within : (ts : List Symbol) (s : triples.State Term RdfTriple) → rest turtle (Within s) ts ≡ concluded (run ts s)
 unfolding rest run step ended
 within [] s = refl
 within (t ∷ ts) s = within_turn t ts (triples_machine.step s t) (within ts)
 
 -- a statement of triples
-dot_told : (f : ℕ) (env : Context) (v : Term) (T : List RdfTriple) (n : Numbers) (us : List Symbol) → Known f → length us ≤ suc f
-    → concluded (goes_on env (record { value = v; triples = T; numbers = n; rest = us })) ≡ followed (statements_at f) (dotted env (record { value = v; triples = T; numbers = n; rest = us }))
+dot_told : (f : ℕ) (env : TurtleContext) (v : Term) (T : List RdfTriple) (n : Numbers) (us : List Symbol) → Known f → length us ≤ suc f
+    → concluded (done_of env (record { value = v; triples = T; numbers = n; rest = us })) ≡ followed (statements_at f) (dotted env (record { value = v; triples = T; numbers = n; rest = us }))
 dot_told f env v T n [] again h = refl
 dot_told f env v T n (Dot e ∷ us) again h = ap (joined (stated e T)) (again env n us (omega arith))
 dot_told f env v T n (t ∷ us) again h = lost_rest Syntax us
 
-triples_told : (f : ℕ) (env : Context) (n : Numbers) (ts : List Symbol) → Known f → length ts ≤ suc f → (r : Result Got Fault) → CoversTriples env n ts r
-    → concluded (r >>= goes_on env) ≡ followed (statements_at f) (r >>= dotted env)
+triples_told : (f : ℕ) (env : TurtleContext) (n : Numbers) (ts : List Symbol) → Known f → length ts ≤ suc f → (r : Result (Got Term RdfTriple) Fault) → CoversTriples env n ts r
+    → concluded (r and_then done_of env) ≡ followed (statements_at f) (r and_then dotted env)
 triples_told f env n ts again h (Err e) c = refl
 triples_told f env n ts again h (Ok g) (xs, e, c) = dot_told f env g.value g.triples g.numbers g.rest again (omega (arith, ap length e, length-append xs g.rest))
 
-triples_rest : (f : ℕ) (env : Context) (n : Numbers) (t : Symbol) (ts : List Symbol) → Known f → length ts ≤ f
-    → rest turtle (Within (opening env n t)) ts ≡ followed (statements_at f) (triples_at env n (t ∷ ts) >>= dotted env)
+triples_rest : (f : ℕ) (env : TurtleContext) (n : Numbers) (t : Symbol) (ts : List Symbol) → Known f → length ts ≤ f
+    → rest turtle (Within (opening env n t)) ts ≡ followed (statements_at f) (triples_at env n (t ∷ ts) and_then dotted env)
 triples_rest f env n t ts again h =
     within ts (opening env n t) ∙ ap concluded (opening_run env n t ts)
     ∙ triples_told f env n (t ∷ ts) again (omega arith) (triples_at env n (t ∷ ts)) (triples_covered env n (t ∷ ts))
 
 -- the turn of a directive's IRI, where the text ends, where a dot stands, where something else does, and where it ends there
-set_ends : (k : ℕ) (n : Numbers) (q : Option Context) → told (set true k n q) [] ≡ ([], Faulty Syntax)
+set_ends : (k : ℕ) (n : Numbers) (q : Option TurtleContext) → told (set true k n q) [] ≡ ([], Faulty Syntax)
 unfolding rest ended triples_machine.ended
 set_ends k n None = refl
 set_ends k n (Some env) = refl
 
-set_dot : (f k : ℕ) (n : Numbers) (e : ℕ) (us : List Symbol) → Known f → length us ≤ f → (q : Option Context)
+set_dot : (f k : ℕ) (n : Numbers) (e : ℕ) (us : List Symbol) → Known f → length us ≤ f → (q : Option TurtleContext)
     → told (set true k n q) (Dot e ∷ us) ≡ followed (statements_at f) (told_by (stated e []) n us q)
 unfolding rest step triples_machine.step
 set_dot f k n e us again h None = lost_rest Syntax us
 set_dot f k n e us again h (Some env) = ap (joined (stated e [])) (again env n us h)
 
-set_other : (k : ℕ) (n : Numbers) (t : Symbol) (us : List Symbol) (q : Option Context) → ((env : Context) → step (AtDot env n) t ≡ quiet (lost Syntax))
+set_other : (k : ℕ) (n : Numbers) (t : Symbol) (us : List Symbol) (q : Option TurtleContext) → ((env : TurtleContext) → step (AtDot env n) t ≡ quiet (lost Syntax))
     → told (set true k n q) (t ∷ us) ≡ ([], Faulty Syntax)
 unfolding rest
 set_other k n t us None s = lost_rest Syntax (t ∷ us)
 set_other k n t us (Some env) s = ap (λ z. told z us) (s env) ∙ lost_rest Syntax us
 
-set_word : (f e : ℕ) (n : Numbers) (us : List Symbol) → Known f → length us ≤ f → (q : Option Context)
+set_word : (f e : ℕ) (n : Numbers) (us : List Symbol) → Known f → length us ≤ f → (q : Option TurtleContext)
     → told (set false e n q) us ≡ followed (statements_at f) (told_by (stated e []) n us q)
 set_word f e n us again h None = lost_rest Syntax us
 set_word f e n us again h (Some env) = ap (joined (stated e [])) (again env n us h)
 
-iri_dot : (f : ℕ) (p : List ℕ) (env : Context) (n : Numbers) (ts : List Symbol) → Known f → length ts ≤ f
+iri_dot : (f : ℕ) (p : List ℕ) (env : TurtleContext) (n : Numbers) (ts : List Symbol) → Known f → length ts ≤ f
     → rest turtle (InPrefixIri true p env n) ts ≡ followed (statements_at f) (prefix_at env n (AWord (Namespace p) ∷ ts))
 unfolding rest step ended triples_machine.step triples_machine.ended
 iri_dot f p env n [] again h = refl
@@ -111,7 +113,7 @@ iri_dot f p env n (AWord (Reference i k) ∷ t ∷ us) again h = set_other k n t
 iri_dot f p env n (AWord w ∷ ts) again h = lost_rest Syntax ts
 iri_dot f p env n (t ∷ ts) again h = lost_rest Syntax ts
 
-prefix_dot : (f : ℕ) (env : Context) (n : Numbers) (ts : List Symbol) → Known f → length ts ≤ f
+prefix_dot : (f : ℕ) (env : TurtleContext) (n : Numbers) (ts : List Symbol) → Known f → length ts ≤ f
     → rest turtle (InPrefix true env n) ts ≡ followed (statements_at f) (prefix_at env n ts)
 unfolding rest step ended triples_machine.step triples_machine.ended
 prefix_dot f env n [] again h = refl
@@ -119,7 +121,7 @@ prefix_dot f env n (AWord (Namespace p) ∷ ts) again h = iri_dot f p env n ts a
 prefix_dot f env n (AWord w ∷ ts) again h = lost_rest Syntax ts
 prefix_dot f env n (t ∷ ts) again h = lost_rest Syntax ts
 
-base_dot : (f : ℕ) (env : Context) (n : Numbers) (ts : List Symbol) → Known f → length ts ≤ f
+base_dot : (f : ℕ) (env : TurtleContext) (n : Numbers) (ts : List Symbol) → Known f → length ts ≤ f
     → rest turtle (InBase true env n) ts ≡ followed (statements_at f) (base_at env n ts)
 unfolding rest step ended triples_machine.step triples_machine.ended
 base_dot f env n [] again h = refl
@@ -130,14 +132,14 @@ base_dot f env n (AWord w ∷ ts) again h = lost_rest Syntax ts
 base_dot f env n (t ∷ ts) again h = lost_rest Syntax ts
 
 -- an at-word
-at_rest : (f : ℕ) (env : Context) (n : Numbers) (ts : List Symbol) → Known f → length ts ≤ f → (b c : Bool)
+at_rest : (f : ℕ) (env : TurtleContext) (n : Numbers) (ts : List Symbol) → Known f → length ts ≤ f → (b c : Bool)
     → rest turtle (cond b (InPrefix true env n) (cond c (InBase true env n) (lost Syntax))) ts
     ≡ followed (statements_at f) (cond b (prefix_at env n ts) (cond c (base_at env n ts) (Err Syntax)))
 at_rest f env n ts again h true c = prefix_dot f env n ts again h
 at_rest f env n ts again h false true = base_dot f env n ts again h
 at_rest f env n ts again h false false = lost_rest Syntax ts
 
-iri_word : (f : ℕ) (p : List ℕ) (env : Context) (n : Numbers) (ts : List Symbol) → Known f → length ts ≤ f
+iri_word : (f : ℕ) (p : List ℕ) (env : TurtleContext) (n : Numbers) (ts : List Symbol) → Known f → length ts ≤ f
     → rest turtle (InPrefixIri false p env n) ts ≡ followed (statements_at f) (statement_at env n (PrefixWord ∷ AWord (Namespace p) ∷ ts))
 unfolding rest step ended statement_at triples_machine.step triples_machine.ended
 iri_word f p env n [] again h = refl
@@ -145,7 +147,7 @@ iri_word f p env n (AWord (Reference i e) ∷ ts) again h = set_word f e n ts ag
 iri_word f p env n (AWord w ∷ ts) again h = lost_rest Syntax ts
 iri_word f p env n (t ∷ ts) again h = lost_rest Syntax ts
 
-prefix_word : (f : ℕ) (env : Context) (n : Numbers) (ts : List Symbol) → Known f → length ts ≤ f
+prefix_word : (f : ℕ) (env : TurtleContext) (n : Numbers) (ts : List Symbol) → Known f → length ts ≤ f
     → rest turtle (InPrefix false env n) ts ≡ followed (statements_at f) (statement_at env n (PrefixWord ∷ ts))
 unfolding rest step ended statement_at triples_machine.step triples_machine.ended
 prefix_word f env n [] again h = refl
@@ -153,7 +155,7 @@ prefix_word f env n (AWord (Namespace p) ∷ ts) again h = iri_word f p env n ts
 prefix_word f env n (AWord w ∷ ts) again h = lost_rest Syntax ts
 prefix_word f env n (t ∷ ts) again h = lost_rest Syntax ts
 
-base_word : (f : ℕ) (env : Context) (n : Numbers) (ts : List Symbol) → Known f → length ts ≤ f
+base_word : (f : ℕ) (env : TurtleContext) (n : Numbers) (ts : List Symbol) → Known f → length ts ≤ f
     → rest turtle (InBase false env n) ts ≡ followed (statements_at f) (statement_at env n (BaseWord ∷ ts))
 unfolding rest step ended statement_at triples_machine.step triples_machine.ended
 base_word f env n [] again h = refl
@@ -162,7 +164,7 @@ base_word f env n (AWord w ∷ ts) again h = lost_rest Syntax ts
 base_word f env n (t ∷ ts) again h = lost_rest Syntax ts
 
 -- between two statements
-pub between : (f : ℕ) (env : Context) (n : Numbers) (ts : List Symbol) → length ts ≤ f → rest turtle (Between env n) ts ≡ statements_at f env n ts
+pub between : (f : ℕ) (env : TurtleContext) (n : Numbers) (ts : List Symbol) → length ts ≤ f → rest turtle (Between env n) ts ≡ statements_at f env n ts
 unfolding rest step ended statements_at statement_at
 between f env n [] h = sym (statements_nil f env n)
 between zero env n (t ∷ ts) h = absurd (omega arith)

@@ -4,24 +4,26 @@ use Rattle.gs_lex.specs.Tokens.{Lexeme}
 use Rattle.gs_blank.specs.Numbers.{Numbers, no_numbers}
 use Rattle.gs_body.specs.Bodies.{Statement}
 use Rattle.gs_triples.specs.Symbols.{Symbol, symbols_of}
-use Rattle.gs_triples.specs.Meanings.{Context}
+use Rattle.gs_document.specs.Contexts.{TurtleContext}
 use Rattle.gs_document.specs.Documents.{IsStatement, AreStatements, start}
 
 -- no statement begins these tokens, in this context and with these numbers
-abbrev pub NoStatement : Context → Numbers → List Symbol → Type 0
-NoStatement env n ts = (xs ys : List Symbol) (S : List Statement) (next : Context) (k : Numbers) → ts ≡ xs ++ ys → IsStatement env n xs S next k → ⊥
+abbrev pub NoStatement : TurtleContext → Numbers → List Symbol → Type 0
+NoStatement env n ts =
+    (xs ys : List Symbol) (S : List Statement) (next : TurtleContext) (k : Numbers) → ts ≡ xs ++ ys → IsStatement env n xs S next k → ⊥
 
 -- These are the statements of a front of the tokens. No statement begins after it, in the context that it leaves, and so
 -- no longer front is whole statements.
-pub record AreLongest (env : Context) (n : Numbers) (ts : List Symbol) (S : List Statement) : Type 0 where
+pub record AreLongest (env : TurtleContext) (n : Numbers) (ts : List Symbol) (S : List Statement) : Type 0 where
   pub front : List Symbol
   pub after : List Symbol
   pub parts : ts ≡ front ++ after
-  pub last : Context
+  pub last : TurtleContext
   pub numbers : Numbers
   pub whole : AreStatements env n front S last numbers
   pub stops : NoStatement last numbers after
-  pub longest : (xs ys : List Symbol) (R : List Statement) (next : Context) (k : Numbers) → ts ≡ xs ++ ys → AreStatements env n xs R next k → length xs ≤ length front
+  pub longest : (xs ys : List Symbol) (R : List Statement) (next : TurtleContext) (k : Numbers)
+      → ts ≡ xs ++ ys → AreStatements env n xs R next k → length xs ≤ length front
 
 -- a text's tokens, under this base and in this request: the statements of the longest front that has any
 abbrev pub AreBeforeFault : List ℕ → ℕ → List Lexeme → List Statement → Type 0

@@ -1,5 +1,1 @@
-pub mod PrefixLemmas
-pub mod SymbolLemmas
-pub mod ContextLemmas
-pub mod StackLemmas
-pub mod StatedLemmas
+pub mod StepLemmas

@@ -1,3 +1,2 @@
-pub mod Prefixes
-pub mod Frames
 pub mod Views
+pub mod Steps

@@ -1,56 +1,67 @@
-//! Directives, and the datatype of a string.
-ghost use Rattle.std.specs.Prelude.{◌≡◌, ◌∷◌, OnOk, Some};
-ghost use Rattle.gs_body.specs.Bodies.{end_after};
+//! What begins a statement, and the rest of a directive.
+ghost use Rattle.std.specs.Prelude.{◌≡◌, OnOk, Some};
 
-use crate::frames::Slot;
 use crate::parser::Parser;
 use crate::places::Place;
-use crate::symbols::{Symbol, Word};
-use crate::terms;
-use gs_model::Fault;
+use gs_triple_parser::{Symbol, Word, parts};
 use std::alloc::AllocError;
 
 impl Parser {
-    ghost use Rattle.gs_triples.specs.States.{Typing};
-    ghost use Rattle.gs_document.specs.States as state;
-    ghost use Rattle.gs_document.specs.Machine as machine;
-    ghost use Rattle.gs_parse.specs.Views.{state_of, context_of, symbol_at};
-    ghost use Rattle.gs_parse.specs.Frames.{slot_of, stack_of};
+    ghost use Rattle.gs_triples.specs.Symbols.{At};
+    ghost use Rattle.gs_triple_parser.specs.Contexts.{Changes};
+    ghost use Rattle.gs_document.specs.Machine.{step, set};
+    ghost use Rattle.gs_parse.specs.Views.{state_at, context_at, numbers_at};
+    ghost use Rattle.gs_parse.specs.Steps.{turn, declared, Turns};
 
-    /// The datatype of a string.
-    #[tactic(auto, unfolding(gs_document::specs::Machine::step, gs_triples::specs::Machine::step))]
-    pub(crate) fn typing(
-        &mut self,
-        text: &str,
-        slot: Slot,
-        symbol: Symbol,
-    ) -> Result<(), AllocError>
-        ensures state { OnOk result (state_of self.new ≡ (machine.step (state.Within (Typing text.now (slot_of slot ∷ stack_of self.old.stack) (context_of self.old.context) self.old.waiting.items self.old.numbering)) (symbol_at symbol.entry)).0) }
-        ensures last { self.new.last ≡ self.old.last }
+    /// `@prefix` or `@base`.
+    #[tactic(auto, unfolding(gs_document::specs::Machine::step))]
+    fn begin_at(&mut self, text: &str)
+        ensures { Turns self.old self.new (step (state_at self.old Place.Between) (At text.now)) }
     {
-        let made = terms::typed(self.alloc, &self.context, text, symbol)?;
-        self.put(slot, made)
+        if text == "@prefix" {
+            self.place = Place::InPrefix(true);
+        } else if text == "@base" {
+            self.place = Place::InBase(true);
+        } else {
+            self.lose();
+        }
+    }
+
+    /// A symbol between two statements.
+    #[tactic(auto, unfolding(gs_document::specs::Machine::step))]
+    pub(crate) fn begin(&mut self, symbol: Symbol) -> Result<(), AllocError>
+        ensures { OnOk result (Turns self.old self.new (turn self.old Place.Between symbol.entry)) }
+    {
+        match symbol {
+            Symbol::At(text) => self.begin_at(text),
+            Symbol::Prefix => self.place = Place::InPrefix(false),
+            Symbol::Base => self.place = Place::InBase(false),
+            _ => {
+                self.triples.open(symbol)?;
+                self.place = Place::Within;
+            }
+        }
+        Ok(())
     }
 
     /// The prefix that a directive declares.
     #[tactic(auto, unfolding(gs_document::specs::Machine::step))]
     pub(crate) fn prefix(&mut self, dot: bool, symbol: Symbol) -> Result<(), AllocError>
-        ensures state { OnOk result (state_of self.new ≡ (machine.step (state.InPrefix dot (context_of self.old.context) self.old.numbering) (symbol_at symbol.entry)).0) }
-        ensures last { self.new.last ≡ self.old.last }
+        ensures { OnOk result (Turns self.old self.new (turn self.old (Place.InPrefix dot) symbol.entry)) }
     {
         match symbol {
             Symbol::Word(Word::Namespace(prefix)) => {
-                self.place = Place::InPrefixIri(dot, String::from_str(self.alloc, prefix)?);
+                self.prefix = String::from_str(self.alloc, prefix)?;
+                self.place = Place::InPrefixIri(dot);
             }
-            _ => self.lose(Fault::Syntax),
+            _ => self.lose(),
         }
         Ok(())
     }
 
     /// After the IRI of a directive, which ends there where no dot is to come.
     fn set(&mut self, dot: bool, end: u64)
-        ensures state { state_of self.new ≡ (machine.set dot end self.old.numbering (Some (context_of self.old.context))).0 }
-        ensures last { self.new.last ≡ end_after self.old.last (machine.set dot end self.old.numbering (Some (context_of self.old.context))).1 }
+        ensures { Turns self.old self.new (set dot end (numbers_at self.old) (Some (context_at self.old))) }
     {
         if dot {
             self.place = Place::AtDot;
@@ -59,45 +70,51 @@ impl Parser {
         }
     }
 
+    /// Declares the prefix that a directive has. Whether it and this are a prefix and an IRI.
+    #[tactic(auto, unfolding(gs_document::specs::Directives::with_prefix))]
+    fn declare(&mut self, text: &str) -> Result<bool, AllocError>
+        ensures context { Changes result (context_at self.new) (declared self.old text.now) }
+        ensures numbers { numbers_at self.new ≡ numbers_at self.old }
+        ensures last { self.new.last ≡ self.old.last }
+    {
+        match parts(self.prefix.as_str()) {
+            None => Ok(false),
+            Some((prefix, _)) => self.triples.set_prefix(prefix, text),
+        }
+    }
+
     /// The IRI that a prefix stands for.
     #[tactic(auto, unfolding(gs_document::specs::Machine::step))]
-    pub(crate) fn prefix_iri(
-        &mut self,
-        dot: bool,
-        prefix: &str,
-        symbol: Symbol,
-    ) -> Result<(), AllocError>
-        ensures state { OnOk result (state_of self.new ≡ (machine.step (state.InPrefixIri dot prefix.now (context_of self.old.context) self.old.numbering) (symbol_at symbol.entry)).0) }
-        ensures last { OnOk result (self.new.last ≡ end_after self.old.last (machine.step (state.InPrefixIri dot prefix.now (context_of self.old.context) self.old.numbering) (symbol_at symbol.entry)).1) }
+    pub(crate) fn prefix_iri(&mut self, dot: bool, symbol: Symbol) -> Result<(), AllocError>
+        ensures { OnOk result (Turns self.old self.new (turn self.old (Place.InPrefixIri dot) symbol.entry)) }
     {
         match symbol {
             Symbol::Word(Word::Reference(text, end)) => {
-                if self.context.declare(prefix, text)? {
+                if self.declare(text)? {
                     self.set(dot, end);
                 } else {
-                    self.lose(Fault::Syntax);
+                    self.lose();
                 }
             }
-            _ => self.lose(Fault::Syntax),
+            _ => self.lose(),
         }
         Ok(())
     }
 
     /// The IRI of a base.
-    #[tactic(auto, unfolding(gs_document::specs::Machine::step))]
+    #[tactic(auto, unfolding(gs_document::specs::Machine::step, gs_document::specs::Directives::with_base))]
     pub(crate) fn base(&mut self, dot: bool, symbol: Symbol) -> Result<(), AllocError>
-        ensures state { OnOk result (state_of self.new ≡ (machine.step (state.InBase dot (context_of self.old.context) self.old.numbering) (symbol_at symbol.entry)).0) }
-        ensures last { OnOk result (self.new.last ≡ end_after self.old.last (machine.step (state.InBase dot (context_of self.old.context) self.old.numbering) (symbol_at symbol.entry)).1) }
+        ensures { OnOk result (Turns self.old self.new (turn self.old (Place.InBase dot) symbol.entry)) }
     {
         match symbol {
             Symbol::Word(Word::Reference(text, end)) => {
-                if self.context.set_base(text)? {
+                if self.triples.set_base(text)? {
                     self.set(dot, end);
                 } else {
-                    self.lose(Fault::Syntax);
+                    self.lose();
                 }
             }
-            _ => self.lose(Fault::Syntax),
+            _ => self.lose(),
         }
         Ok(())
     }
@@ -105,12 +122,11 @@ impl Parser {
     /// The dot of a directive.
     #[tactic(auto, unfolding(gs_document::specs::Machine::step))]
     pub(crate) fn dot(&mut self, symbol: Symbol)
-        ensures state { state_of self.new ≡ (machine.step (state.AtDot (context_of self.old.context) self.old.numbering) (symbol_at symbol.entry)).0 }
-        ensures last { self.new.last ≡ end_after self.old.last (machine.step (state.AtDot (context_of self.old.context) self.old.numbering) (symbol_at symbol.entry)).1 }
+        ensures { Turns self.old self.new (turn self.old Place.AtDot symbol.entry) }
     {
         match symbol {
             Symbol::Dot(end) => self.between(end),
-            _ => self.lose(Fault::Syntax),
+            _ => self.lose(),
         }
     }
 }

@@ -4,7 +4,6 @@ ghost use Rattle.gs_model.specs.declared.faults.Fault.{Fault};
 
 use crate::parser::Parser;
 use crate::places::Place;
-use crate::terms;
 use gs_model::Fault;
 use std::alloc::AllocError;
 
@@ -19,7 +18,8 @@ impl Parser {
         ensures none { IfNone result ((f : Fault) → state_of self.now ≢ lost f) }
     {
         match self.place {
-            Place::Lost(fault) => Some(fault),
+            Place::Within => self.triples.fault(),
+            Place::Lost => Some(Fault::Syntax),
             _ => None,
         }
     }
@@ -29,13 +29,9 @@ impl Parser {
     pub fn end(&self) -> Result<Result<(), Fault>, AllocError>
         ensures { IfOk result (λ r. ending_at r ≡ ended (state_of self.now)) }
     {
-        match &self.place {
+        match self.place {
             Place::Between => Ok(Ok(())),
-            Place::Held(text, _) => match terms::simple(self.alloc, text.as_str())? {
-                Ok(_) => Ok(Err(Fault::Syntax)),
-                Err(fault) => Ok(Err(fault)),
-            },
-            Place::Lost(fault) => Ok(Err(*fault)),
+            Place::Within => Ok(Err(self.triples.end()?)),
             _ => Ok(Err(Fault::Syntax)),
         }
     }

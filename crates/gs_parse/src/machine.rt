@@ -3,25 +3,22 @@ ghost use Rattle.std.specs.Prelude.{◌≡◌, ◌++◌, true, OnOk, OnErr, IfOk
 ghost use Rattle.gs_model.specs.Iris.{is_absolute};
 ghost use Rattle.gs_blank.specs.Numbers.{no_numbers};
 
-use crate::contexts::Context;
 use crate::parser::Parser;
 use crate::places::Place;
-use crate::stacks::Stack;
-use crate::symbols::{Symbol, symbol_of_token};
-use gs_blank::Numbering;
 use gs_lex::Token;
 use gs_term::Triple;
+use gs_triple_parser::{Symbol, TripleParser, Turn, symbol_of_token};
 use std::alloc::{AllocError, Global};
-use std::mem;
 
 impl Parser {
     ghost use Rattle.gs_body.specs.Bodies.{triples_of, end_after};
     ghost use Rattle.gs_lex.specs.Lexemes.{lexeme_of};
     ghost use Rattle.gs_triples.specs.Symbols.{symbol_of};
     ghost use Rattle.gs_document.specs.Documents.{start};
-    ghost use Rattle.gs_document.specs.States.{Between};
     ghost use Rattle.gs_document.specs.Machine as machine;
-    ghost use Rattle.gs_parse.specs.Views.{state_of, symbol_at};
+    ghost use Rattle.gs_document.specs.States.{Between};
+    ghost use Rattle.gs_parse.specs.Views.{state_of};
+    ghost use Rattle.gs_parse.specs.Steps.{turn_here, turn_within, turn_after, Moves, Gives};
 
     /// At the start of a document under an absolute base, in the request of this number.
     pub fn new(alloc: Global, base: &str, request: u64) -> Result<Parser, AllocError>
@@ -31,42 +28,59 @@ impl Parser {
     {
         Ok(Parser {
             alloc,
-            context: Context::new(alloc, base, request)?,
-            numbering: Numbering::new(alloc),
-            stack: Stack::new(alloc),
-            waiting: Vec::new(alloc),
+            triples: TripleParser::new(alloc, base, request)?,
             place: Place::Between,
+            prefix: String::new(alloc),
             last: 0,
         })
     }
 
-    /// One symbol more.
-    #[tactic(auto, unfolding(gs_document::specs::Machine::step, gs_triples::specs::Machine::step))]
-    fn take(&mut self, symbol: Symbol, triples: &mut Vec<Triple>) -> Result<(), AllocError>
-        ensures state { OnOk result (state_of self.new ≡ (machine.step (state_of self.old) (symbol_at symbol.entry)).0) }
-        ensures given { OnOk result (triples.new.items ≡ triples.old.items ++ triples_of (machine.step (state_of self.old) (symbol_at symbol.entry)).1) }
-        ensures last { OnOk result (self.new.last ≡ end_after self.old.last (machine.step (state_of self.old) (symbol_at symbol.entry)).1) }
-        ensures err { OnErr result (triples.new.items ≡ triples.old.items) }
+    /// The symbol after the triples of a statement, which is to be their dot.
+    #[tactic(auto, using(crate::proofs::StepLemmas::given_stated))]
+    fn conclude(&mut self, symbol: Symbol, triples: &mut Vec<Triple>) -> Result<(), AllocError>
+        ensures moves { OnOk result (Moves self.old self.new (turn_after self.old symbol.entry)) }
+        ensures given { Gives result triples.old.items triples.new.items (turn_after self.old symbol.entry) }
     {
-        match mem::replace(&mut self.place, Place::Between) {
-            Place::Between => self.begin(symbol),
-            Place::InPrefix(dot) => self.prefix(dot, symbol),
-            Place::InPrefixIri(dot, prefix) => self.prefix_iri(dot, prefix.as_str(), symbol),
-            Place::InBase(dot) => self.base(dot, symbol),
-            Place::AtDot => {
-                self.dot(symbol);
-                Ok(())
-            }
-            Place::Opened => self.opened(symbol),
-            Place::Closed(number) => self.closed(number, symbol, triples),
-            Place::Heading(goal) => self.head(goal, symbol, triples),
-            Place::Held(text, slot) => self.held(text, slot, symbol, triples),
-            Place::Typing(text, slot) => self.typing(text.as_str(), slot, symbol),
-            Place::Lost(fault) => {
-                self.lose(fault);
+        let Symbol::Dot(end) = symbol else {
+            self.lose();
+            return Ok(());
+        };
+        self.triples.append_to(triples)?;
+        self.between(end);
+        Ok(())
+    }
+
+    /// A symbol within the triples of a statement, or after them.
+    #[tactic(auto, unfolding(gs_document::specs::Machine::step))]
+    fn within(&mut self, symbol: Symbol, triples: &mut Vec<Triple>) -> Result<(), AllocError>
+        ensures moves { OnOk result (Moves self.old self.new (turn_within self.old symbol.entry)) }
+        ensures given { Gives result triples.old.items triples.new.items (turn_within self.old symbol.entry) }
+    {
+        match self.triples.step(symbol)? {
+            Turn::Over => self.conclude(symbol, triples),
+            Turn::Taken => {
+                self.place = Place::Within;
                 Ok(())
             }
         }
+    }
+
+    /// One symbol more.
+    #[tactic(auto, using(crate::proofs::StepLemmas::quiet_moves, crate::proofs::StepLemmas::quiet_given), unfolding(gs_document::specs::Machine::step, gs_triples::specs::Machine::step))]
+    fn take(&mut self, symbol: Symbol, triples: &mut Vec<Triple>) -> Result<(), AllocError>
+        ensures moves { OnOk result (Moves self.old self.new (turn_here self.old symbol.entry)) }
+        ensures given { Gives result triples.old.items triples.new.items (turn_here self.old symbol.entry) }
+    {
+        match self.place {
+            Place::Within => return self.within(symbol, triples),
+            Place::Between => self.begin(symbol)?,
+            Place::InPrefix(dot) => self.prefix(dot, symbol)?,
+            Place::InPrefixIri(dot) => self.prefix_iri(dot, symbol)?,
+            Place::InBase(dot) => self.base(dot, symbol)?,
+            Place::AtDot => self.dot(symbol),
+            Place::Lost => self.lose(),
+        }
+        Ok(())
     }
 
     /// One token more: the triples of the statement that it ends are added to the list. After a

@@ -1,25 +1,16 @@
-//! Where the machine stands.
+//! Where a parser stands.
 
-use crate::frames::{Goal, Slot};
-use gs_model::Fault;
-
-/// Between two statements, within a directive, or within the triples of a statement.
-#[derive(Drop)]
+/// Between two statements, within a directive, within the triples of a statement, or at a fault of
+/// the grammar outside them.
+#[derive(Clone, Copy)]
 pub enum Place {
     Between,
     /// After `@prefix`, and then a dot ends the directive, or after `PREFIX`.
     InPrefix(bool),
-    InPrefixIri(bool, String),
+    /// After the prefix.
+    InPrefixIri(bool),
     InBase(bool),
     AtDot,
-    /// After a `[` that opens a statement.
-    Opened,
-    /// After its `]`.
-    Closed(u64),
-    Heading(Goal),
-    /// After a string that is an object.
-    Held(String, Slot),
-    /// After its `^^`.
-    Typing(String, Slot),
-    Lost(Fault),
+    Within,
+    Lost,
 }

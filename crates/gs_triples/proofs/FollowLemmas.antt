@@ -1,11 +1,9 @@
--- What may stand after a goal, so that it ends there.
+-- What may follow the tokens of a goal, so that it ends there.
 use Rattle.std.proofs.Common.{◌≡◌, ℕ, List, [], ◌∷◌, ◌++◌, refl, sym, append_assoc, subst}
-use Rattle.gs_model.specs.Terms.{Term}
-use Rattle.gs_model.specs.Triples.{RdfTriple}
 use Rattle.gs_blank.specs.Numbers.{Numbers}
-use Rattle.gs_triples.specs.Symbols.{Symbol, At, Carets, Close, Dot}
+use Rattle.gs_triples.specs.Symbols.{Symbol, At, Carets}
 use Rattle.gs_triples.specs.Meanings as meaning
-use Rattle.gs_triples.specs.Meanings.{Fault, Syntax, Context}
+use Rattle.gs_triples.specs.Meanings.{Context}
 use Rattle.gs_triples.specs.Goals.{Goal, Object, Verbs, After, Semis, Items}
 use Rattle.gs_triples.specs.Triples.{EndsVerbs}
 use Rattle.gs_triples.specs.Rules as rule
@@ -18,43 +16,50 @@ NoSuffix (At y ∷ ts) = ⊥
 NoSuffix (Carets ∷ ts) = ⊥
 NoSuffix ts = Unit {0}
 
-abbrev pub Follows : Goal → List Symbol → Type 0
-Follows (Object d) ts = NoSuffix ts
-Follows (Verbs d s) ts = EndsVerbs ts
-Follows (After d s p) ts = EndsVerbs ts
-Follows (Semis d s) ts = EndsVerbs ts
-Follows g ts = Unit {0}
-
+-- where verbs end, no suffix stands
 pub no_suffix : (ts : List Symbol) → EndsVerbs ts → NoSuffix ts
 no_suffix [] h = tt
-no_suffix (Close ∷ ts) h = tt
-no_suffix (Dot e ∷ ts) h = tt
-no_suffix (t ∷ ts) h = elim h [ ]
+no_suffix (At x ∷ ts) h = elim h [ ]
+no_suffix (Carets ∷ ts) h = elim h [ ]
+no_suffix (t ∷ ts) h = tt
 
--- after an object, where verbs and objects go on or end
-pub behind_object : {env : Context} {d : ℕ} {s p v : Term} {n k : Numbers} {ys : List Symbol} {T : List RdfTriple} → Covers env (After d s p) n ys v T k
-    → (rest : List Symbol) → EndsVerbs rest → NoSuffix (ys ++ rest)
-behind_object (rule.no_more s p n) rest h = no_suffix rest h
-behind_object (rule.comma a b) rest h = tt
-behind_object (rule.semicolon a) rest h = tt
+module _ {Value : Type 0} where
+  -- the tokens after a goal, so that it ends there
+  abbrev pub Follows : Goal Value → List Symbol → Type 0
+  Follows (Object d) ts = NoSuffix ts
+  Follows (Verbs d s) ts = EndsVerbs ts
+  Follows (After d s p) ts = EndsVerbs ts
+  Follows (Semis d s) ts = EndsVerbs ts
+  Follows g ts = Unit {0}
 
-object_begins : {env : Context} {d : ℕ} {v : Term} {n k : Numbers} {xs : List Symbol} {T : List RdfTriple} → Covers env (Object d) n xs v T k
-    → (rest : List Symbol) → NoSuffix (xs ++ rest)
-object_begins (rule.word w h) rest = tt
-object_begins (rule.simple x h) rest = tt
-object_begins (rule.tagged x y h) rest = tt
-object_begins (rule.typed x t h) rest = tt
-object_begins (rule.brackets h c) rest = tt
-object_begins (rule.list h c) rest = tt
+module _ {Value Triple : Type 0} where
+  -- after an object, where verbs and objects go on or end
+  pub behind_object : {env : Context Value Triple} {d : ℕ} {s p v : Value} {n k : Numbers} {ys : List Symbol} {T : List Triple}
+      → Covers env (After d s p) n ys v T k → (rest : List Symbol) → EndsVerbs rest → NoSuffix (ys ++ rest)
+  behind_object (rule.no_more s p n) rest h = no_suffix rest h
+  behind_object (rule.comma a b) rest h = tt
+  behind_object (rule.semicolon a) rest h = tt
 
-pub behind_cell : {env : Context} {d h m : ℕ} {v : Term} {n k : Numbers} {ys : List Symbol} {T : List RdfTriple} → Covers env (Items d h m) n ys v T k
-    → (rest : List Symbol) → NoSuffix (ys ++ rest)
-behind_cell (rule.ended h m n) rest = tt
-behind_cell (rule.item {xs = xs} {ys = ys} a b) rest = subst NoSuffix (sym (append_assoc xs ys rest)) (object_begins a (ys ++ rest))
+  -- an object begins with no suffix
+  object_begins : {env : Context Value Triple} {d : ℕ} {v : Value} {n k : Numbers} {xs : List Symbol} {T : List Triple}
+      → Covers env (Object d) n xs v T k → (rest : List Symbol) → NoSuffix (xs ++ rest)
+  object_begins (rule.word w h) rest = tt
+  object_begins (rule.simple x h) rest = tt
+  object_begins (rule.tagged x y h) rest = tt
+  object_begins (rule.typed x t h) rest = tt
+  object_begins (rule.brackets h c) rest = tt
+  object_begins (rule.list h c) rest = tt
 
--- a string alone
-pub literal-simple : (env : Context) (n : Numbers) (x : List ℕ) (ts : List Symbol) → NoSuffix ts → literal env n x ts ≡ bare n ts (meaning.simple x)
-literal-simple env n x [] h = refl
-literal-simple env n x (At y ∷ ts) h = elim h [ ]
-literal-simple env n x (Carets ∷ ts) h = elim h [ ]
-literal-simple env n x (t ∷ ts) h = refl
+  -- after an object of a collection
+  pub behind_cell : {env : Context Value Triple} {d h m : ℕ} {v : Value} {n k : Numbers} {ys : List Symbol} {T : List Triple}
+      → Covers env (Items d h m) n ys v T k → (rest : List Symbol) → NoSuffix (ys ++ rest)
+  behind_cell (rule.ended h m n) rest = tt
+  behind_cell (rule.item {xs = xs} {ys = ys} a b) rest = subst NoSuffix (sym (append_assoc xs ys rest)) (object_begins a (ys ++ rest))
+
+  -- a string alone
+  pub literal-simple : (env : Context Value Triple) (n : Numbers) (x : List ℕ) (ts : List Symbol) → NoSuffix ts
+      → literal env n x ts ≡ bare env n ts (meaning.simple x)
+  literal-simple env n x [] h = refl
+  literal-simple env n x (At y ∷ ts) h = elim h [ ]
+  literal-simple env n x (Carets ∷ ts) h = elim h [ ]
+  literal-simple env n x (t ∷ ts) h = refl

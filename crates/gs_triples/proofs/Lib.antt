@@ -5,3 +5,4 @@ pub mod TriplesLemmas
 pub mod WalkLemmas
 pub mod GoalLemmas
 pub mod MachineLemmas
+mod Examples

@@ -1,10 +1,11 @@
 -- The tokens of a portion, one after another.
 use Rattle.std.proofs.Common.{◌≡◌, ◌≢◌, ℕ, ◌+◌, ◌<◌, List, [], ◌∷◌, ◌++◌, length, take, get_or, refl, sym, ap, subst, ◌∙◌, append_assoc, append-nil}
+use Rattle.std.specs.Prelude.{Result, Ok, Err, OnErr}
 use Rattle.std.proofs.lemmas.List.{map-append, take_more}
 use Rattle.gs_model.specs.Triples.{RdfTriple}
 use Rattle.gs_model.specs.declared.refusals.Refusal.{Refusal}
 use Rattle.gs_model.specs.declared.refusals.Refusal.TheVariants as refusal
-use Rattle.gs_machine.specs.Machines.{joined, steps, rest}
+use Rattle.gs_machine.specs.Machines.{Begins, joined, steps, rest}
 use Rattle.gs_machine.proofs.MachineLemmas.{steps-append, steps-one, rest-append}
 use Rattle.gs_lex.specs.Tokens as lexer
 use Rattle.gs_lex.specs.Tokens.{Lexeme}
@@ -27,6 +28,11 @@ use Rattle.gs_turtle.specs.Portions.{turn_of, end_of, Takes, Concludes, refusal_
 pub takes-none : (p : Parser) (before : List RdfTriple) → Takes p p [] before before
 unfolding steps
 takes-none p before = record { state = refl; given = sym (append-nil before); last = refl }
+
+-- after a call that left the list, it begins with what was there before the tokens
+pub begins-taken : {X E : Type 0} (r : Result X E) (a b : Parser) (ts : List Lexeme) (before after last : List RdfTriple) → Takes a b ts before after → last ≡ after → OnErr r (Begins last before)
+begins-taken (Ok x) a b ts before after last h e = tt
+begins-taken (Err x) a b ts before after last h e = (triples_of (turn_of a ts).1, e ∙ h.given)
 
 -- the state after tokens and more tokens
 turn-append : (p : Parser) (s : State) (ts us : List Lexeme) → s ≡ (turn_of p ts).0 → turn_of p (ts ++ us) ≡ ((steps turtle s (symbols_of us)).0, (turn_of p ts).1 ++ (steps turtle s (symbols_of us)).1)

@@ -3,6 +3,8 @@ use Rattle.std.proofs.Common.{◌≡◌, ℕ, Bool, true, false, List, [], ◌�
 use Rattle.std.specs.Prelude.{if◌then◌else◌}
 use Rattle.std.specs.Str.{is_utf8}
 use Rattle.gs_machine.specs.Machines.{rest}
+use Rattle.gs_model.specs.Terms.{Term}
+use Rattle.gs_model.specs.Triples.{RdfTriple}
 use Rattle.gs_lex.specs.Tokens.{Lexeme, has_text}
 use Rattle.gs_lex.specs.Lexers.{AreQuiet}
 use Rattle.gs_lex.specs.declared.kinds.TokenKind.{TokenKind}
@@ -10,10 +12,10 @@ use Rattle.gs_lex.specs.declared.kinds.TokenKind.TheVariants as kind
 use Rattle.gs_blank.specs.Numbers.{Numbers}
 use Rattle.gs_body.specs.Bodies.{triples_of}
 use Rattle.gs_triples.specs.Symbols.{Symbol, AWord, At, Reference, Namespace, Dot, Foreign, symbol, symbol_of, symbols_of}
-use Rattle.gs_triples.specs.Meanings.{Context}
 use Rattle.gs_triples.specs.States as triples
 use Rattle.gs_triples.specs.States.{Goes, Ends}
 use Rattle.gs_triples.specs.Machine as triples_machine
+use Rattle.gs_document.specs.Contexts.{TurtleContext}
 use Rattle.gs_document.specs.Directives.{with_prefix, with_base}
 use Rattle.gs_document.specs.States.{State, Between, InPrefix, InPrefixIri, InBase, AtDot, Within}
 use Rattle.gs_document.specs.Machine.{set, over, step, turtle}
@@ -24,13 +26,13 @@ IsNoDot (Dot e) = ⊥
 IsNoDot _ = Unit {0}
 
 -- a token that triples take, or the one after them
-over_quiet : (t : Symbol) (u : triples.Turn) → IsNoDot t → triples_of (over t u).1 ≡ []
+over_quiet : (t : Symbol) (u : triples.Turn Term RdfTriple) → IsNoDot t → triples_of (over t u).1 ≡ []
 over_quiet t (Goes s) h = refl
 over_quiet (Dot e) (Ends env P n) h = absurd h
 over_quiet t (Ends env P n) h = refl
 
 -- the IRI of a directive
-set_quiet : (dot : Bool) (e : ℕ) (n : Numbers) (env : Option Context) → triples_of (set dot e n env).1 ≡ []
+set_quiet : (dot : Bool) (e : ℕ) (n : Numbers) (env : Option TurtleContext) → triples_of (set dot e n env).1 ≡ []
 set_quiet dot e n None = refl
 set_quiet true e n (Some env) = refl
 set_quiet false e n (Some env) = refl
@@ -58,14 +60,14 @@ kind_quiet : (k : TokenKind) (x : List ℕ) (n : ℕ) → has_text k ≡ true �
 kind_quiet kind.Dot x n h = absurd (Prim.cc)
 kind_quiet k x n h = tt
 
-either_quiet : (b : Bool) (s : Symbol) → IsNoDot s → IsNoDot (if b then s else Foreign)
-either_quiet true s h = h
-either_quiet false s h = tt
+either_quiet : (b : Bool) (s : Symbol) (k : TokenKind) (e : ℕ) → IsNoDot s → IsNoDot (if b then s else Foreign k e)
+either_quiet true s k e h = h
+either_quiet false s k e h = tt
 
 -- tokens that are quiet give no triples
 pub quiet_end : (s : State) (ts : List Lexeme) → AreQuiet ts → triples_of (rest turtle s (symbols_of ts)).0 ≡ []
 unfolding rest
 quiet_end s [] h = refl
 quiet_end s (t ∷ []) h =
-    ap triples_of (append-nil (step s (symbol_of t)).1) ∙ step_quiet s (symbol_of t) (either_quiet (is_utf8 t.text) (symbol t.kind t.text t.«end») (kind_quiet t.kind t.text t.«end» h))
+    ap triples_of (append-nil (step s (symbol_of t)).1) ∙ step_quiet s (symbol_of t) (either_quiet (is_utf8 t.text) (symbol t.kind t.text t.«end») t.kind t.«end» (kind_quiet t.kind t.text t.«end» h))
 quiet_end s (t ∷ (u ∷ ts)) h = absurd h

@@ -2,4 +2,4 @@ use Rattle.gs_triples.proofs.MachineLemmas.{opening_run}
 use Rattle.gs_triples.proofs.laws.machine_reads_triples.Goals as goal
 
 pub returns : goal.returns
-returns c = opening_run
+returns g c = opening_run

@@ -1,0 +1,6 @@
+pub mod PrefixLemmas
+pub mod SymbolLemmas
+pub mod ContextLemmas
+pub mod StackLemmas
+pub mod LeaveLemmas
+pub mod TermLemmas

@@ -1,0 +1,28 @@
+-- The symbol of a token whose text is UTF-8, or is not.
+use Rattle.std.proofs.Common.{◌≡◌, ◌≤◌, ℕ, true, false, cond, ◌<◌, arith, List, ap, refl, sym, ◌∙◌, length, take, subst}
+use Rattle.std.specs.Prelude.{◌==◌, ◌-◌, slice_range}
+use Rattle.std.specs.Str.{IsUtf8, IsCharBoundary, is_utf8}
+use Rattle.std.proofs.lemmas.Bool.{eqb-true}
+use Rattle.std.proofs.lemmas.Str.{is_utf8-from_IsUtf8, IsUtf8-from_is_utf8, IsCharBoundary-from_take}
+use Rattle.gs_lex.specs.Tokens.{Lexeme}
+use Rattle.gs_triples.specs.Symbols.{Foreign, symbol, symbol_of}
+
+pub symbol_of_text : (t : Lexeme) (x : List ℕ) → x ≡ t.text → IsUtf8 t.text → symbol t.kind x t.«end» ≡ symbol_of t
+symbol_of_text t x e u = ap (λ y. symbol t.kind y t.«end») e ∙ sym (ap (λ b. cond b (symbol t.kind t.text t.«end») (Foreign t.kind t.«end»)) (is_utf8-from_IsUtf8 t.text u))
+
+pub symbol_of_bytes : (t : Lexeme) → ¬ (IsUtf8 t.text) → Foreign t.kind t.«end» ≡ symbol_of t
+symbol_of_bytes t n =
+    elim (is_utf8 t.text) as (λ b. is_utf8 t.text ≡ b → Foreign t.kind t.«end» ≡ cond b (symbol t.kind t.text t.«end») (Foreign t.kind t.«end»)) [
+      | true ↦ λ h. absurd (n (IsUtf8-from_is_utf8 t.text h))
+      | false ↦ λ h. refl
+    ] refl
+
+-- a text may be cut after a front that is text
+pub boundary_behind : (front x : List ℕ) → IsUtf8 x → IsUtf8 front → length front ≤ length x → take (length front) x ≡ front → IsCharBoundary x (length front)
+boundary_behind front x u f l e = IsCharBoundary-from_take x (length front) u l (subst IsUtf8 (sym e) f)
+
+pub colon_low : (c : ℕ) → (c == 58) ≡ true → c < 128
+colon_low c h = let e : c ≡ 58 = eqb-true c 58 h in omega (arith, e)
+
+pub slice_front : (n : ℕ) (x : List ℕ) → slice_range x 0 n ≡ take n x
+slice_front n x = let e : n - 0 ≡ n = omega arith in ap (λ m. take m x) e

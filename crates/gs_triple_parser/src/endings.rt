@@ -1,0 +1,53 @@
+//! Where triples are over, have a fault, or are not finished.
+ghost use Rattle.std.specs.Prelude.{◌≡◌, ◌≢◌, ◌++◌, OnOk, OnErr, IfOk, IfSome, IfNone};
+ghost use Rattle.gs_model.specs.declared.faults.Fault.{Fault};
+
+use crate::parser::TripleParser;
+use crate::places::Place;
+use crate::terms;
+use gs_model::Fault;
+use gs_term::Triple;
+use std::alloc::AllocError;
+
+impl TripleParser {
+    ghost use Rattle.gs_triples.specs.States.{Lost};
+    ghost use Rattle.gs_triples.specs.Machine as machine;
+    ghost use Rattle.gs_triple_parser.specs.Views.{triples_state, context_now, numbers_now, pending_triples};
+
+    /// Hands the triples on, once they are over: they move to the end of the list. After a refusal
+    /// the list is as it was.
+    pub fn append_to(&mut self, triples: &mut Vec<Triple>) -> Result<(), AllocError>
+        ensures given { OnOk result (triples.new.items ≡ triples.old.items ++ pending_triples self.old) }
+        ensures context { context_now self.new ≡ context_now self.old }
+        ensures numbers { numbers_now self.new ≡ numbers_now self.old }
+        ensures err { OnErr result (triples.new.items ≡ triples.old.items) }
+    {
+        triples.append(&mut self.pending)
+    }
+
+    /// The fault after which nothing is read.
+    pub fn fault(&self) -> Option<Fault>
+        ensures some { IfSome result (λ f. triples_state self.now ≡ Lost f) }
+        ensures none { IfNone result ((f : Fault) → triples_state self.now ≢ Lost f) }
+    {
+        match self.place {
+            Place::Lost(fault) => Some(fault),
+            _ => None,
+        }
+    }
+
+    /// The fault of a text that ends here, within triples.
+    #[tactic(auto, unfolding(gs_triples::specs::Machine::ended))]
+    pub fn end(&self) -> Result<Fault, AllocError>
+        ensures { IfOk result (λ f. f ≡ machine.ended (triples_state self.now)) }
+    {
+        match &self.place {
+            Place::Held(text, _) => match terms::simple(self.alloc, text.as_str())? {
+                Ok(_) => Ok(Fault::Syntax),
+                Err(fault) => Ok(fault),
+            },
+            Place::Lost(fault) => Ok(*fault),
+            _ => Ok(Fault::Syntax),
+        }
+    }
+}

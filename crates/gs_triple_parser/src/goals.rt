@@ -1,0 +1,150 @@
+//! One symbol at a goal within triples.
+ghost use Rattle.std.specs.Prelude.{◌≡◌, OnOk, IfOk};
+ghost use Rattle.gs_triples.specs.Reading.{begins_verb as begins_verb_of};
+ghost use Rattle.gs_triple_parser.specs.Views.{symbol_at};
+
+use crate::frames::{Frame, Goal, Name, Slot, Subject};
+use crate::parser::{TripleParser, Turn};
+use crate::pending::put_rest;
+use crate::places::Place;
+use crate::symbols::Symbol;
+use crate::terms::blank;
+use crate::vocabulary::rdf_nil;
+use std::alloc::AllocError;
+
+/// Whether a verb may begin with it: a word or `a`.
+pub fn begins_verb(symbol: Symbol) -> bool
+    ensures { result ≡ begins_verb_of (symbol_at symbol.entry) }
+{
+    matches!(symbol, Symbol::Word(_) | Symbol::A)
+}
+
+impl TripleParser {
+    ghost use Rattle.gs_triples.specs.States.{Goes};
+    ghost use Rattle.gs_triple_parser.specs.Views.{triples_state, triples_turn};
+    ghost use Rattle.gs_triple_parser.specs.Machine.{IsTaken, Turned, head_of};
+
+    /// A symbol after the `[` of an object.
+    fn inside(&mut self, depth: usize, number: u64, symbol: Symbol) -> Result<(), AllocError>
+        ensures { IsTaken result self.new (head_of self.old (Goal.Inside depth number) symbol.entry) }
+    {
+        let term = blank(self.alloc, self.context.request, number)?;
+        match symbol {
+            Symbol::Close => self.give_subject(Subject { term }),
+            _ => {
+                self.stack.push(Frame::ToClose(number))?;
+                self.at_verb(depth, Subject { term }, symbol)
+            }
+        }
+    }
+
+    /// A symbol after the `(` of a collection.
+    fn begun(&mut self, depth: usize, symbol: Symbol) -> Result<(), AllocError>
+        ensures { IsTaken result self.new (head_of self.old (Goal.Begun depth) symbol.entry) }
+    {
+        match symbol {
+            Symbol::CloseList => {
+                let term = rdf_nil(self.alloc)?;
+                self.give_subject(Subject { term })
+            }
+            _ => {
+                let Ok(number) = self.numbering.fresh() else {
+                    return Err(AllocError);
+                };
+                self.object(depth, Slot::ToFirst(depth, number), symbol)
+            }
+        }
+    }
+
+    /// The `)` of a collection that has a cell.
+    fn end_list(&mut self, depth: usize, first: u64, cell: u64) -> Result<(), AllocError>
+        ensures { IsTaken result self.new (head_of self.old (Goal.Items depth first cell) Symbol.CloseList) }
+    {
+        let nil = rdf_nil(self.alloc)?;
+        put_rest(self.alloc, &self.context, &mut self.pending, cell, nil)?;
+        let term = blank(self.alloc, self.context.request, first)?;
+        self.give_subject(Subject { term })
+    }
+
+    /// A symbol after an object of a collection.
+    fn items(
+        &mut self,
+        depth: usize,
+        first: u64,
+        cell: u64,
+        symbol: Symbol,
+    ) -> Result<(), AllocError>
+        ensures { IsTaken result self.new (head_of self.old (Goal.Items depth first cell) symbol.entry) }
+    {
+        match symbol {
+            Symbol::CloseList => self.end_list(depth, first, cell),
+            _ => {
+                let Ok(number) = self.numbering.fresh() else {
+                    return Err(AllocError);
+                };
+                let slot = Slot::ToItem(depth, first, cell, number);
+                self.object(depth, slot, symbol)
+            }
+        }
+    }
+
+    /// A symbol after an object of a verb.
+    fn after(
+        &mut self,
+        depth: usize,
+        subject: Subject,
+        verb: Name,
+        symbol: Symbol,
+    ) -> Result<Turn, AllocError>
+        ensures { Turned result self.new (head_of self.old (Goal.After depth subject verb) symbol.entry) }
+    {
+        match symbol {
+            Symbol::Comma => {
+                self.place = Place::Heading(Goal::Object(depth, subject, verb));
+                Ok(Turn::Taken)
+            }
+            Symbol::Semicolon => {
+                self.place = Place::Heading(Goal::Semis(depth, subject));
+                Ok(Turn::Taken)
+            }
+            _ => self.leave(symbol),
+        }
+    }
+
+    /// A symbol after a `;`.
+    fn semis(&mut self, depth: usize, subject: Subject, symbol: Symbol) -> Result<Turn, AllocError>
+        ensures { Turned result self.new (head_of self.old (Goal.Semis depth subject) symbol.entry) }
+    {
+        match symbol {
+            Symbol::Semicolon => {
+                self.place = Place::Heading(Goal::Semis(depth, subject));
+                Ok(Turn::Taken)
+            }
+            Symbol::Word(_) | Symbol::A => {
+                self.at_verb(depth, subject, symbol)?;
+                Ok(Turn::Taken)
+            }
+            _ => self.leave(symbol),
+        }
+    }
+
+    /// One symbol at a goal.
+    pub(crate) fn head(&mut self, goal: Goal, symbol: Symbol) -> Result<Turn, AllocError>
+        ensures { Turned result self.new (head_of self.old goal symbol.entry) }
+    {
+        match goal {
+            Goal::Object(depth, subject, verb) => {
+                self.object(depth, Slot::ToObject(depth, subject, verb), symbol)?;
+            }
+            Goal::Inside(depth, number) => self.inside(depth, number, symbol)?,
+            Goal::Verbs(depth, subject) => self.at_verb(depth, subject, symbol)?,
+            Goal::After(depth, subject, verb) => {
+                return self.after(depth, subject, verb, symbol);
+            }
+            Goal::Semis(depth, subject) => return self.semis(depth, subject, symbol),
+            Goal::Begun(depth) => self.begun(depth, symbol)?,
+            Goal::Items(depth, first, cell) => self.items(depth, first, cell, symbol)?,
+        }
+        Ok(Turn::Taken)
+    }
+}

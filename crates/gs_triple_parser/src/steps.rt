@@ -1,0 +1,125 @@
+//! One symbol more.
+ghost use Rattle.std.specs.Prelude.{◌≡◌, OnOk, IfOk};
+
+use crate::frames::{Frame, Slot, Subject};
+use crate::goals::begins_verb;
+use crate::parser::{TripleParser, Turn};
+use crate::places::Place;
+use crate::symbols::Symbol;
+use crate::terms::{self, blank};
+use gs_model::Fault;
+use std::alloc::AllocError;
+use std::mem;
+
+impl TripleParser {
+    ghost use Rattle.gs_triples.specs.States.{Goes};
+    ghost use Rattle.gs_triples.specs.Machine as machine;
+    ghost use Rattle.gs_triple_parser.specs.Views.{triples_state, triples_turn, symbol_at};
+    ghost use Rattle.gs_triple_parser.specs.Machine.{IsTaken, Turned, simple_of, step_of, next_of};
+
+    /// A symbol after a `[` that opens triples.
+    #[tactic(auto, unfolding(gs_triples::specs::Machine::step))]
+    fn opened(&mut self, symbol: Symbol) -> Result<(), AllocError>
+        ensures { IsTaken result self.new (step_of self.old Place.Opened symbol.entry) }
+    {
+        let Ok(number) = self.numbering.fresh() else {
+            return Err(AllocError);
+        };
+        let term = blank(self.alloc, self.context.request, number)?;
+        match symbol {
+            Symbol::Close => {
+                self.begin(Subject { term });
+                Ok(())
+            }
+            _ => {
+                self.stack.clear();
+                self.pending.clear();
+                self.stack.push(Frame::ToMore(number))?;
+                self.at_verb(1, Subject { term }, symbol)
+            }
+        }
+    }
+
+    /// A symbol after the properties that open triples.
+    #[tactic(auto, unfolding(gs_triples::specs::Machine::step))]
+    fn closed(&mut self, subject: Subject, symbol: Symbol) -> Result<Turn, AllocError>
+        ensures { Turned result self.new (step_of self.old (Place.Closed subject) symbol.entry) }
+    {
+        if !begins_verb(symbol) {
+            return Ok(Turn::Over);
+        }
+        self.stack.clear();
+        self.at_verb(0, subject, symbol)?;
+        Ok(Turn::Taken)
+    }
+
+    /// A symbol after the string that was an object.
+    #[tactic(auto, unfolding(gs_triples::specs::Machine::step))]
+    fn go_on(&mut self, symbol: Symbol) -> Result<Turn, AllocError>
+        ensures { Turned result self.new (next_of (triples_state self.old) symbol.entry) }
+    {
+        match mem::replace(&mut self.place, Place::Lost(Fault::Syntax)) {
+            Place::Heading(goal) => self.head(goal, symbol),
+            Place::Closed(subject) => self.closed(subject, symbol),
+            Place::Lost(fault) => {
+                self.lose(fault);
+                Ok(Turn::Taken)
+            }
+            _ => Ok(Turn::Taken),
+        }
+    }
+
+    /// A symbol after a string that has no suffix.
+    fn simple(&mut self, text: String, slot: Slot, symbol: Symbol) -> Result<Turn, AllocError>
+        ensures { Turned result self.new (next_of (simple_of self.old slot text) symbol.entry) }
+    {
+        let made = terms::simple(self.alloc, text.as_str())?;
+        self.put(slot, made)?;
+        self.go_on(symbol)
+    }
+
+    /// A symbol after a string.
+    #[tactic(auto, unfolding(gs_triples::specs::Machine::step))]
+    fn held(&mut self, text: String, slot: Slot, symbol: Symbol) -> Result<Turn, AllocError>
+        ensures { Turned result self.new (step_of self.old (Place.Held text slot) symbol.entry) }
+    {
+        match symbol {
+            Symbol::At(tag) => {
+                let made = terms::tagged(self.alloc, text.as_str(), tag)?;
+                self.put(slot, made)?;
+                Ok(Turn::Taken)
+            }
+            Symbol::Carets => {
+                self.place = Place::Typing(text, slot);
+                Ok(Turn::Taken)
+            }
+            _ => self.simple(text, slot, symbol),
+        }
+    }
+
+    /// The datatype of a string.
+    #[tactic(auto, unfolding(gs_triples::specs::Machine::step))]
+    fn typing(&mut self, text: String, slot: Slot, symbol: Symbol) -> Result<(), AllocError>
+        ensures { IsTaken result self.new (step_of self.old (Place.Typing text slot) symbol.entry) }
+    {
+        let made = terms::typed(self.alloc, &self.context, text.as_str(), symbol)?;
+        self.put(slot, made)
+    }
+
+    /// One symbol more: it is taken, or the triples are over before it. After a refusal the parser
+    /// is of no more use.
+    #[tactic(auto, unfolding(gs_triples::specs::Machine::step))]
+    pub fn step(&mut self, symbol: Symbol) -> Result<Turn, AllocError>
+        ensures { Turned result self.new (machine.step (triples_state self.old) (symbol_at symbol.entry)) }
+    {
+        match mem::replace(&mut self.place, Place::Lost(Fault::Syntax)) {
+            Place::Opened => self.opened(symbol)?,
+            Place::Closed(subject) => return self.closed(subject, symbol),
+            Place::Heading(goal) => return self.head(goal, symbol),
+            Place::Held(text, slot) => return self.held(text, slot, symbol),
+            Place::Typing(text, slot) => self.typing(text, slot, symbol)?,
+            Place::Lost(fault) => self.lose(fault),
+        }
+        Ok(Turn::Taken)
+    }
+}
