@@ -3,9 +3,11 @@ use Rattle.std.specs.Prelude.{◌≡◌, ℕ, ◌+◌, ◌-◌, ◌<◌, ◌≤�
 use Rattle.std.specs.declared.alloc.AllocError.{AllocError}
 use Rattle.gs_dict.specs.declared.chains.Entry.{Entry}
 
+-- an entry for a place where there is none
 abbrev pub no_entry : Entry
 no_entry = record { end = 0; next = 0; hash = 0 }
 
+-- the entry of a number
 abbrev pub entry_at : List Entry → ℕ → Entry
 entry_at es i = slice_index_or es i no_entry
 
@@ -36,6 +38,7 @@ pub record IsChained (n : ℕ) (bucket next head : ℕ → ℕ) : Type 0 where
 abbrev pub bucket_at : ℕ → List Entry → ℕ → ℕ
 bucket_at buckets es i = bucket_of buckets (entry_at es i).hash
 
+-- the link from an entry to the next one of its chain
 abbrev pub link_after : List Entry → ℕ → ℕ
 link_after es i = (entry_at es i).next
 
@@ -49,6 +52,7 @@ pub record IsSpanned (arena : List ℕ) (es : List Entry) : Type 0 where
   pub inside : (i : ℕ) → i < length es → (entry_at es i).end ≤ length arena
   pub whole : start_at es (length es) ≡ length arena
 
+-- the arena, the entries and the first links of the buckets belong together
 pub record IsTable (arena : List ℕ) (es : List Entry) (heads : List ℕ) : Type 0 where
   pub linked : IsLinked (length es) es heads
   pub spanned : IsSpanned arena es

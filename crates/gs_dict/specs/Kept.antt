@@ -13,6 +13,7 @@ use Rattle.gs_dict.specs.Numbering.{last_term}
 unfoldable pub hash_of : FoldHasher → List ℕ → ℕ
 hash_of seeded x = bit_and (folding.finish (folding.write seeded x)) 0xFFFF_FFFF
 
+-- the term whose text a number has
 abbrev pub term_at : List ℕ → List Entry → ℕ → Term
 term_at arena es i = term_of (text_at arena es i)
 

@@ -55,27 +55,31 @@ is_whole AsideTree = true
 is_whole RetiredNode = false
 is_whole RetiredTree = true
 
--- the states of a node set aside and of a retired one, alone or with all below it
+-- the state of a node set aside, alone or with all below it
 abbrev pub aside_state : Bool → State
 aside_state whole = if whole then AsideTree else AsideNode
 
+-- the state of a retired node, alone or with all below it
 abbrev pub retired_state : Bool → State
 retired_state whole = if whole then RetiredTree else RetiredNode
 
--- the node of a place, where it is not free, and its mark
+-- the node of a place, where it is not free
 abbrev pub node_of : Place → Option Node
 node_of s = node_in s.state (content_of s)
 
+-- the mark of a place
 abbrev pub mark_of : Place → NodeMark
 mark_of s = mark_in s.state s.death
 
--- the places of each list
+-- the place is free
 abbrev pub is_free_place : Place → Bool
 is_free_place s = is_none (node_of s)
 
+-- its node is set aside
 abbrev pub is_aside_place : Place → Bool
 is_aside_place s = is_aside (mark_of s)
 
+-- its node is retired
 abbrev pub is_retired_place : Place → Bool
 is_retired_place s = is_retired (mark_of s)
 

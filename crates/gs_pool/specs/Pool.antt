@@ -34,22 +34,25 @@ is_aside plain = false
 is_aside (aside death whole) = true
 is_aside (retired death whole) = false
 
+-- the node is retired
 abbrev pub is_retired : NodeMark → Bool
 is_retired plain = false
 is_retired (aside death whole) = false
 is_retired (retired death whole) = true
 
--- how many numbers are free, and how many are in use
+-- how many numbers are free
 abbrev pub free_count : Nodes → ℕ
 free_count p = count_by is_none p.nodes
 
+-- how many numbers are in use
 abbrev pub in_use : Nodes → ℕ
 in_use p = count_by is_some p.nodes
 
--- how many nodes are set aside, and how many are retired
+-- how many nodes are set aside
 abbrev pub aside_count : Nodes → ℕ
 aside_count p = count_by is_aside p.marks
 
+-- how many nodes are retired
 abbrev pub retired_count : Nodes → ℕ
 retired_count p = count_by is_retired p.marks
 
