@@ -1,5 +1,7 @@
--- Read in this order: datasets and the abstract store, names that it makes up, phases, views, waste, one
+-- Read in this order: solutions of patterns, updates, datasets and the abstract store, names that it makes up, phases, views, waste, one
 -- step, runs, histories. The verdicts stand by themselves, on the abstract store.
+pub mod Solutions
+pub mod Updates
 pub mod Datasets
 pub mod Names
 pub mod Phases
