@@ -1,13 +1,14 @@
 //! The store, and the headline as the contract of its run.
-ghost use Rattle.std.specs.Prelude.{◌≡◌, ◌++◌, ◌≤◌, [], true, IfOk, IfErr, OnErr, length};
+ghost use Rattle.std.specs.Prelude.{◌≡◌, ◌≤◌, [], true, IfOk, IfErr, OnErr, length};
 ghost use Rattle.gs_model.specs.Bases.{is_base};
 ghost use Rattle.gs_model.specs.Limits.{last_number, max_seats};
 ghost use Rattle.gs_event.specs.Datasets.{triples_in};
 ghost use Rattle.gs_event.specs.Steps.{Steps};
 ghost use Rattle.gs_event.specs.Runs.{Runs};
-ghost use Rattle.gs_event.specs.Histories.{Start, History, IsLegal, history_of, view_of, pinned_of};
+ghost use Rattle.gs_event.specs.Histories.{start_with, ShowsStart, HasStartPins};
+ghost use Rattle.gs_event.specs.Continuing.{KeepsLegal, ShowsHistory, HasItsPins};
 ghost use Rattle.gs_event.specs.Waste.{nodes_in};
-ghost use Rattle.gs_core.specs.Settings.{setting_of};
+ghost use Rattle.gs_core.specs.Settings.{start_at};
 
 use crate::limits::{MAX_NAMES, MAX_TRIPLES};
 use gs_event::{Answer, Event, Limits};
@@ -43,8 +44,8 @@ impl Store {
         requires some { 1 ≤ seats }
         requires few { seats ≤ max_seats }
         requires base { is_base base.now ≡ true }
-        ensures view { IfOk result (λ store. store.view ≡ view_of (record { seats = seats; setting = setting_of base.now; request = 0; commit = 0 }) []) }
-        ensures pinned { IfOk result (λ store. store.pinned ≡ pinned_of (record { seats = seats; setting = setting_of base.now; request = 0; commit = 0 }) []) }
+        ensures view { IfOk result (ShowsStart (start_at seats base.now 0 0)) }
+        ensures pinned { IfOk result (HasStartPins (start_at seats base.now 0 0)) }
         ensures waste { IfOk result (λ store. store.waste ≡ []) }
         ensures refused { IfErr result (λ refusal. refusal ≡ Refusal.NoMemory) }
     {
@@ -64,8 +65,8 @@ impl Store {
         requires base { is_base base.now ≡ true }
         requires last_commit { commit ≤ last_number }
         requires last_request { request ≤ last_number }
-        ensures view { IfOk result (λ store. store.view ≡ view_of (record { seats = seats; setting = setting_of base.now; request = request; commit = commit }) []) }
-        ensures pinned { IfOk result (λ store. store.pinned ≡ pinned_of (record { seats = seats; setting = setting_of base.now; request = request; commit = commit }) []) }
+        ensures view { IfOk result (ShowsStart (start_at seats base.now request commit)) }
+        ensures pinned { IfOk result (HasStartPins (start_at seats base.now request commit)) }
         ensures waste { IfOk result (λ store. store.waste ≡ []) }
         ensures refused { IfErr result (λ refusal. refusal ≡ Refusal.NoMemory) }
     {
@@ -86,8 +87,8 @@ impl Store {
         request: u64,
     ) -> Result<Store, Refusal>
         requires { is_base base.now ≡ true }
-        ensures view { IfOk result (λ store. store.view ≡ view_of (record { seats = seats; setting = record { base = base.now; limits = limits }; request = request; commit = commit }) []) }
-        ensures pinned { IfOk result (λ store. store.pinned ≡ pinned_of (record { seats = seats; setting = record { base = base.now; limits = limits }; request = request; commit = commit }) []) }
+        ensures view { IfOk result (ShowsStart (start_with seats base.now limits request commit)) }
+        ensures pinned { IfOk result (HasStartPins (start_with seats base.now limits request commit)) }
         ensures waste { IfOk result (λ store. store.waste ≡ []) }
         ensures refused { IfErr result (λ refusal. refusal ≡ Refusal.NoMemory) }
     {
@@ -110,10 +111,10 @@ impl Store {
     /// event is one `step`, which says what becomes of the waste and what a Reclaim answers. Room
     /// for all answers is made before the first event, so `NoMemory` changes nothing.
     pub fn run(&mut self, events: &[Event]) -> Result<Vec<Answer>, Refusal>
-        ensures legal { IfOk result (λ answers. (start : Start) (before : History) → IsLegal start before → self.old.view ≡ view_of start before → IsLegal start (history_of events.now answers.items ++ before)) }
+        ensures legal { IfOk result (λ answers. KeepsLegal self.old events.now answers.items) }
         ensures answered { IfOk result (λ answers. length answers.items ≡ length events.now) }
-        ensures view { IfOk result (λ answers. (start : Start) (before : History) → IsLegal start before → self.old.view ≡ view_of start before → self.new.view ≡ view_of start (history_of events.now answers.items ++ before)) }
-        ensures pinned { IfOk result (λ answers. (start : Start) (before : History) → IsLegal start before → self.old.view ≡ view_of start before → self.old.pinned ≡ pinned_of start before → self.new.pinned ≡ pinned_of start (history_of events.now answers.items ++ before)) }
+        ensures view { IfOk result (λ answers. ShowsHistory self.old events.now answers.items self.new) }
+        ensures pinned { IfOk result (λ answers. HasItsPins self.old events.now answers.items self.new) }
         ensures ran { IfOk result (λ answers. Runs Steps self.old events.now answers.items self.new) }
         ensures refused { IfErr result (λ refusal. refusal ≡ Refusal.NoMemory) }
         ensures kept { OnErr result (self.new ≡ self.old) }

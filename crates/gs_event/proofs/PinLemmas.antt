@@ -7,17 +7,18 @@ use Rattle.gs_term.specs.declared.names.Target.{Target}
 use Rattle.gs_model.specs.declared.refusals.Refusal.{Refusal}
 use Rattle.gs_model.specs.declared.refusals.Refusal.TheVariants.{BadSeat}
 use Rattle.gs_event.specs.declared.events.Action.{Action}
-use Rattle.gs_event.specs.declared.events.Action.TheVariants.{Open, Stage, Commit, Pin, Piece, Cancel}
+use Rattle.gs_event.specs.declared.events.Action.TheVariants.{Open, OpenPatch, Stage, Commit, CommitPatch, Pin, Piece, Cancel}
 use Rattle.gs_event.specs.declared.events.Event.{Event}
 use Rattle.gs_event.specs.declared.events.Event.TheVariants.{Seat as At, Reclaim}
 use Rattle.gs_event.specs.declared.answers.Answer.{Answer}
 use Rattle.gs_event.specs.declared.answers.Answer.TheVariants.{Opened, Staged, Status, Pinned, Lines, Cancelled, Refused}
 use Rattle.gs_event.specs.Datasets.{Setting}
-use Rattle.gs_event.specs.Phases.{Phase, Idle, Writing, Reading}
+use Rattle.gs_event.specs.Phases.{Phase, Idle, Writing, Patching, Reading}
 use Rattle.gs_event.specs.Views.{View, Totals, SeatView, Fits, FitsSeat}
 use Rattle.gs_event.specs.Waste.{Shown}
 use Rattle.gs_event.specs.Steps.{pin_after, next_pinned}
-use Rattle.gs_event.specs.Histories.{History, Read, phase_of, phase_by, seat_view, Start, view_of, commit_after, pin_of, pinned_of}
+use Rattle.gs_event.specs.Histories.{History, OpenRead, phase_of, phase_by, seat_view, Start, view_of, commit_after, pin_of, pinned_of}
+use Rattle.gs_event.specs.Continuing.{PinsGoOn}
 use Rattle.gs_event.proofs.HistoryLemmas.{later, refused_phase, same_after, changed_at, at_place}
 
 -- a read begins where the test says so
@@ -26,13 +27,14 @@ pin_begins start h t true = refl
 pin_begins start h t false = refl
 
 -- a read ends where the test says so, and else goes on with its pin
-pin_ends : (start : Start) (r : Read) (n : ℕ) (b : Bool) → pin_of start (cond b Idle (Reading (record { target = r.target; before = r.before; told = r.told + n }))) ≡ cond b None (Some (commit_after start r.before))
+pin_ends : (start : Start) (r : OpenRead) (n : ℕ) (b : Bool) → pin_of start (cond b Idle (Reading (record { target = r.target; before = r.before; told = r.told + n }))) ≡ cond b None (Some (commit_after start r.before))
 pin_ends start r n true = refl
 pin_ends start r n false = refl
 
 -- a seat's pin by its phase goes on as the table of pins says
-pin_next : (start : Start) (h : History) (v : Totals) (w : Setting) (p : Phase Read) (action : Action) (a : Answer) → FitsSeat v (seat_view w p) action a → pin_of start (later h p action a) ≡ pin_after (commit_after start h) (pin_of start p) action a
+pin_next : (start : Start) (h : History) (v : Totals) (w : Setting) (p : Phase OpenRead) (action : Action) (a : Answer) → FitsSeat v (seat_view w p) action a → pin_of start (later h p action a) ≡ pin_after (commit_after start h) (pin_of start p) action a
 pin_next start h v w Idle (Open k) (Opened r) fits = refl
+pin_next start h v w Idle (OpenPatch t) (Opened r) fits = refl
 pin_next start h v w Idle (Pin t) (Pinned s) fits = pin_begins start h t (nat_eq s 200)
 pin_next start h v w Idle (Piece n) (Lines b end) fits = absurd fits
 pin_next start h v w Idle Cancel Cancelled fits = refl
@@ -41,6 +43,10 @@ pin_next start h v w (Writing k r g) Commit (Status s name) fits = refl
 pin_next start h v w (Writing k r g) Cancel Cancelled fits = refl
 pin_next start h v w (Writing k r g) (Pin t) (Pinned s) fits = absurd fits
 pin_next start h v w (Writing k r g) (Piece n) (Lines b end) fits = absurd fits
+pin_next start h v w (Patching t r) (CommitPatch ops) (Status s name) fits = refl
+pin_next start h v w (Patching t r) Cancel Cancelled fits = refl
+pin_next start h v w (Patching t r) (Pin u) (Pinned s) fits = absurd fits
+pin_next start h v w (Patching t r) (Piece n) (Lines b end) fits = absurd fits
 pin_next start h v w (Reading x) (Pin t) (Pinned s) fits = absurd fits
 pin_next start h v w (Reading x) (Piece n) (Lines b end) fits = pin_ends start x n end
 pin_next start h v w (Reading x) Cancel Cancelled fits = refl
@@ -99,7 +105,7 @@ next_pins start h s action a (Some p) is fits =
     changed_at (λ k. pin_of start (phase_of h k)) (λ k. pin_of start (phase_by h k (phase_of h k) (At s action) a)) 0 start.seats s _ (ap (λ k. pin_of start (phase_by h k (phase_of h k) (At s action) a)) (zero-add s) ∙ own) (λ k ne. other_pin start h s k action a (λ e. ne (e ∙ sym (zero-add s))))
 
 -- the pins after one more answer that fits
-pub pinned_of-cons : (start : Start) (h : History) (s : Shown) (e : Event) (a : Answer) → s.view ≡ view_of start h → s.pinned ≡ pinned_of start h → Fits s.view e a → pinned_of start ((e, a) ∷ h) ≡ next_pinned s e a
+pub pinned_of-cons : (start : Start) (h : History) (s : Shown) → PinsGoOn start h s
 pinned_of-cons start h s (Reclaim n) a view pins fits = sym pins
 pinned_of-cons start h s (At k action) a view pins fits =
     let fit : Fits (view_of start h) (At k action) a = subst (λ v. Fits v (At k action) a) view fits in

@@ -9,6 +9,7 @@ use Rattle.gs_event.specs.Waste.{Shown}
 use Rattle.gs_event.specs.Steps.{Steps}
 use Rattle.gs_event.specs.Runs.{Runs}
 use Rattle.gs_event.specs.Histories.{History, Start, IsLegal, view_of, pinned_of, history_of, HasRun}
+use Rattle.gs_event.specs.Continuing.{StepsGoOn}
 use Rattle.gs_event.proofs.HistoryLemmas.{view_of-cons}
 use Rattle.gs_event.proofs.PinLemmas.{pinned_of-cons}
 
@@ -58,9 +59,9 @@ run_pins start before (e ∷ events) (a ∷ answers) s t run view pins =
     subst (λ h. t.pinned ≡ pinned_of start h) (history_of-cons e a events answers before)
     (run_pins start ((e, a) ∷ before) events answers run.0 t run.1.1 next then)
 
--- a run of steps from what a legal history says
-pub has_run : (start : Start) (before : History) (events : List Event) (answers : List Answer) (s t : Shown) → IsLegal start before → s.view ≡ view_of start before → s.pinned ≡ pinned_of start before → Runs Steps s events answers t → HasRun start before events answers t
-has_run start before events answers s t legal view pins run =
+-- a run of steps from what a legal history says, with its pins
+pub has_run : (start : Start) (before : History) (s t : Shown) → StepsGoOn start before s t
+has_run start before s t events answers legal view pins run =
     let views = run_views start before events answers s t run legal view in
     record {
       answered = runs_answered Steps s t events answers run;

@@ -10,14 +10,14 @@ use Rattle.gs_term.specs.declared.names.Target.TheVariants.{Default, Named}
 use Rattle.gs_event.specs.declared.events.UploadKind.{UploadKind}
 use Rattle.gs_event.specs.declared.events.UploadKind.TheVariants.{Put, Post, New}
 use Rattle.gs_event.specs.Datasets.{name_cmp, Setting}
-use Rattle.gs_event.specs.Phases.{Idle, Writing, Reading}
+use Rattle.gs_event.specs.Phases.{Idle, Writing, Patching, Reading}
 use Rattle.gs_event.specs.Views.{View, SeatView}
 use Rattle.gs_event.specs.Waste.{Lifetime, Shown}
 
 -- the name of a target; the default graph has none
-abbrev pub name_of : Target → Option (List ℕ)
-name_of Default = None
-name_of (Named n) = Some n
+abbrev pub target_name : Target → Option (List ℕ)
+target_name Default = None
+target_name (Named n) = Some n
 
 -- the target of this name, or the default graph where there is none
 abbrev pub target_from : Option (List ℕ) → Target
@@ -25,35 +25,35 @@ target_from None = Default
 target_from (Some n) = Named n
 
 -- the target made of a target's name is that target
-abbrev pub target_back : (t : Target) → target_from (name_of t) ≡ t
+abbrev pub target_back : (t : Target) → target_from (target_name t) ≡ t
 target_back Default = refl
 target_back (Named n) = refl
 
 -- how a target is stored: by its name, if it has one
 abbrev pub target_code : Coded Target
-target_code = code_by (Option (List ℕ)) (coded_option text_code) name_of target_from target_back
+target_code = code_by (Option (List ℕ)) (coded_option text_code) target_name target_from target_back
 
 -- a PUT's target or a POST's target, or neither
-abbrev pub kind_parts : UploadKind → Option (Target ⊎ Target)
-kind_parts (Put t) = Some (inl t)
-kind_parts (Post t) = Some (inr t)
-kind_parts New = None
+abbrev pub upload_parts : UploadKind → Option (Target ⊎ Target)
+upload_parts (Put t) = Some (inl t)
+upload_parts (Post t) = Some (inr t)
+upload_parts New = None
 
 -- a PUT or a POST with this target, or the kind that has none
-abbrev pub kind_from : Option (Target ⊎ Target) → UploadKind
-kind_from (Some (inl t)) = Put t
-kind_from (Some (inr t)) = Post t
-kind_from None = New
+abbrev pub upload_from : Option (Target ⊎ Target) → UploadKind
+upload_from (Some (inl t)) = Put t
+upload_from (Some (inr t)) = Post t
+upload_from None = New
 
 -- the kind made of a kind's parts is that kind
-abbrev pub kind_back : (k : UploadKind) → kind_from (kind_parts k) ≡ k
-kind_back (Put t) = refl
-kind_back (Post t) = refl
-kind_back New = refl
+abbrev pub upload_back : (k : UploadKind) → upload_from (upload_parts k) ≡ k
+upload_back (Put t) = refl
+upload_back (Post t) = refl
+upload_back New = refl
 
 -- how a kind of upload is stored: a PUT's target or a POST's target, or neither
 abbrev pub kind_code : Coded UploadKind
-kind_code = code_by (Option (Target ⊎ Target)) (coded_option (coded⊎ target_code target_code)) kind_parts kind_from kind_back
+kind_code = code_by (Option (Target ⊎ Target)) (coded_option (coded⊎ target_code target_code)) upload_parts upload_from upload_back
 
 -- how a setting is stored: its base, and its limits of triples and of names
 abbrev pub setting_code : Coded Setting
@@ -63,31 +63,36 @@ setting_code =
     (λ p. record { base = p.0; limits = record { triples = p.1.0; names = p.1.1 } })
     (λ _. refl)
 
--- an upload's kind, request and graph, or the lines that are left of a read, or neither
-abbrev pub Parts : Type 0
-Parts = Option ((UploadKind × (ℕ × Graph)) ⊎ List (List ℕ))
+-- an upload's kind, request and graph, a patch's target and request, or the lines that are left of a read, or none of them
+abbrev pub SeatParts : Type 0
+SeatParts = Option ((UploadKind × (ℕ × Graph)) ⊎ ((Target × ℕ) ⊎ List (List ℕ)))
 
 -- the parts of a seat; an idle one has none
-abbrev pub seat_parts : SeatView → Parts
+abbrev pub seat_parts : SeatView → SeatParts
 seat_parts Idle = None
 seat_parts (Writing k r g) = Some (inl (k, (r, g)))
-seat_parts (Reading left) = Some (inr left)
+seat_parts (Patching t r) = Some (inr (inl (t, r)))
+seat_parts (Reading left) = Some (inr (inr left))
 
 -- the seat of these parts
-abbrev pub seat_from : Parts → SeatView
+abbrev pub seat_from : SeatParts → SeatView
 seat_from None = Idle
 seat_from (Some (inl p)) = Writing p.0 p.1.0 p.1.1
-seat_from (Some (inr left)) = Reading left
+seat_from (Some (inr (inl p))) = Patching p.0 p.1
+seat_from (Some (inr (inr left))) = Reading left
 
 -- the seat made of a seat's parts is that seat
 abbrev pub seat_back : (s : SeatView) → seat_from (seat_parts s) ≡ s
 seat_back Idle = refl
 seat_back (Writing k r g) = refl
+seat_back (Patching t r) = refl
 seat_back (Reading left) = refl
 
 -- how a seat is stored: by its parts
 abbrev pub seat_code : Coded SeatView
-seat_code = code_by Parts (coded_option (coded⊎ (coded× kind_code (coded× coded_ℕ graph_code)) (coded_list text_code))) seat_parts seat_from seat_back
+seat_code =
+    code_by SeatParts (coded_option (coded⊎ (coded× kind_code (coded× coded_ℕ graph_code)) (coded⊎ (coded× target_code coded_ℕ) (coded_list text_code))))
+    seat_parts seat_from seat_back
 
 -- the setting, the default graph, the named graphs, the last request, the last commit, and the seats
 abbrev pub ViewParts : Type 0

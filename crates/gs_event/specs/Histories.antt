@@ -5,8 +5,9 @@ use Rattle.gs_term.specs.declared.names.Target.{Target}
 use Rattle.gs_event.specs.declared.events.Event.{Event}
 use Rattle.gs_event.specs.declared.events.Event.TheVariants.{Seat as At, Reclaim}
 use Rattle.gs_event.specs.declared.answers.Answer.{Answer}
+use Rattle.gs_event.specs.declared.limits.Limits.{Limits}
 use Rattle.gs_event.specs.Datasets.{Dataset, Setting, Operation, lines_at, after_all}
-use Rattle.gs_event.specs.Phases.{Phase, Idle, Writing, Reading, phase_after, operation_of}
+use Rattle.gs_event.specs.Phases.{Phase, Idle, Writing, Patching, Reading, phase_after, operation_of}
 use Rattle.gs_event.specs.Views.{View, SeatView, Fits, is_opened, is_written}
 use Rattle.gs_event.specs.Waste.{Shown}
 
@@ -14,14 +15,14 @@ use Rattle.gs_event.specs.Waste.{Shown}
 abbrev pub History : Type 0
 History = List (Event × Answer)
 
--- a read: its target, the history before its pin, and how many of its lines were given since
-pub record Read : Type 0 where
+-- an open read: its target, the history before its pin, and how many of its lines were given since
+pub record OpenRead : Type 0 where
   pub target : Target
   pub before : History
   pub told : ℕ
 
 -- what the phase of a seat becomes by one more event and its answer
-abbrev pub phase_by : History → ℕ → Phase Read → Event → Answer → Phase Read
+abbrev pub phase_by : History → ℕ → Phase OpenRead → Event → Answer → Phase OpenRead
 phase_by before seat p (Reclaim n) a = p
 phase_by before seat p (At s action) a =
     cond (nat_eq s seat)
@@ -29,7 +30,7 @@ phase_by before seat p (At s action) a =
     p
 
 -- the phase of a seat, from its events and their answers alone
-abbrev pub phase_of : History → ℕ → Phase Read
+abbrev pub phase_of : History → ℕ → Phase OpenRead
 phase_of [] seat = Idle
 phase_of (x ∷ before) seat = phase_by before seat (phase_of before seat) x.0 x.1
 
@@ -48,13 +49,14 @@ abbrev pub dataset_after : Setting → History → Dataset
 dataset_after w h = after_all w (points_of h)
 
 -- the lines left of a read: its graph's at the pin, without those that were given
-abbrev pub lines_left : Setting → Read → List (List ℕ)
+abbrev pub lines_left : Setting → OpenRead → List (List ℕ)
 lines_left w r = drop r.told (lines_at (dataset_after w r.before) r.target)
 
 -- a phase as it is seen
-abbrev pub seat_view : Setting → Phase Read → SeatView
+abbrev pub seat_view : Setting → Phase OpenRead → SeatView
 seat_view w Idle = Idle
 seat_view w (Writing k r g) = Writing k r g
+seat_view w (Patching t r) = Patching t r
 seat_view w (Reading r) = Reading (lines_left w r)
 
 -- where a store begins
@@ -63,6 +65,11 @@ pub record Start : Type 0 where
   pub setting : Setting
   pub request : ℕ
   pub commit : ℕ
+
+-- so many seats, this base and these limits, and these last request and commit numbers
+abbrev pub start_with : ℕ → List ℕ → Limits → ℕ → ℕ → Start
+start_with seats base limits request commit =
+    record { seats = seats; setting = record { base = base; limits = limits }; request = request; commit = commit }
 
 -- the last commit number after a history
 abbrev pub commit_after : Start → History → ℕ
@@ -81,14 +88,23 @@ view_of start h = record {
 }
 
 -- the commit number at the pin of a read
-abbrev pub pin_of : Start → Phase Read → Option ℕ
+abbrev pub pin_of : Start → Phase OpenRead → Option ℕ
 pin_of start Idle = None
 pin_of start (Writing k r g) = None
+pin_of start (Patching t r) = None
 pin_of start (Reading r) = Some (commit_after start r.before)
 
 -- the commit numbers at the pins of all reads, by seat
 abbrev pub pinned_of : Start → History → List (Option ℕ)
 pinned_of start h = map (λ s. pin_of start (phase_of h s)) (range_with_len 0 start.seats)
+
+-- a store that begins so shows what the empty history says
+abbrev pub ShowsStart : Start → Shown → Type 0
+ShowsStart start s = s.view ≡ view_of start []
+
+-- and has its pins, which are none
+abbrev pub HasStartPins : Start → Shown → Type 0
+HasStartPins start s = s.pinned ≡ pinned_of start []
 
 -- a legal history: each answer fits what the history before it shows
 abbrev pub IsLegal : Start → History → Type 0

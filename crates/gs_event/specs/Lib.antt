@@ -1,5 +1,6 @@
--- Read in this order: solutions of patterns, updates, datasets and the abstract store, names that it makes up, phases, views, waste, one
--- step, runs, histories. The verdicts stand by themselves, on the abstract store.
+-- Read in this order: solutions of patterns, what updates make of a graph, datasets and the abstract store, names that it
+-- makes up, phases, views, waste, one step, runs, histories, and how these go on. The verdicts stand by themselves, on
+-- the abstract store.
 pub mod Solutions
 pub mod Updates
 pub mod Datasets
@@ -10,5 +11,6 @@ pub mod Waste
 pub mod Steps
 pub mod Runs
 pub mod Histories
+pub mod Continuing
 pub mod Codes
 pub mod Verdicts

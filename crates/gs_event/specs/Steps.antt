@@ -1,13 +1,15 @@
 -- One step of a store: what an event that was answered so makes of what it shows, its pins and its waste.
 use Rattle.std.specs.Prelude.{◌≡◌, ◌≢◌, ◌⊎◌, ◌↔◌, ℕ, ◌+◌, Bool, true, false, if◌then◌else◌, nat_eq, min, IsTrue, List, [], length, Option, Some, None}
-use Rattle.std.specs.List.{sum_by, slice_index_or, slice_set, All}
+use Rattle.std.specs.List.{sum_by, slice_get, slice_index_or, slice_set, All}
 use Rattle.gs_event.specs.declared.events.Action.{Action}
-use Rattle.gs_event.specs.declared.events.Action.TheVariants.{Commit, Delete, Pin, Piece, Cancel}
+use Rattle.gs_event.specs.declared.events.Action.TheVariants.{Commit, CommitPatch, Delete, Pin, Piece, Cancel}
 use Rattle.gs_event.specs.declared.events.Event.{Event}
 use Rattle.gs_event.specs.declared.events.Event.TheVariants.{Seat as At, Reclaim}
 use Rattle.gs_event.specs.declared.answers.Answer.{Answer}
 use Rattle.gs_event.specs.declared.answers.Answer.TheVariants.{Status, Pinned, Lines, Cancelled, Reclaimed}
-use Rattle.gs_event.specs.Views.{Fits, next_view, is_written}
+use Rattle.gs_event.specs.Datasets.{is_success}
+use Rattle.gs_event.specs.Phases.{Writing}
+use Rattle.gs_event.specs.Views.{SeatView, Fits, next_view}
 use Rattle.gs_event.specs.Waste.{Lifetime, Shown, is_needed, unneeded}
 
 -- a seat's pin after an answer, at the last commit number: a read begins with one and ends without
@@ -23,15 +25,40 @@ next_pinned old (Reclaim n) a = old.pinned
 next_pinned old (At s action) a =
     slice_set old.pinned s (pin_after old.view.totals.commit (slice_index_or old.pinned s None) action a)
 
--- the node ends with the commit that the answer speaks of, or no version has it
-abbrev pub EndsNow : ℕ → Answer → Lifetime → Type 0
-EndsNow commit a l = (l.death ≡ 0) ⊎ ((is_written a ≡ true) × (l.death ≡ commit + 1))
-
--- nodes are added to the waste, and none is taken out; its order means nothing
-pub record Adds (commit : ℕ) (a : Answer) (old new : List Lifetime) : Type 0 where
+-- nodes join the waste, each with such a lifetime, and none is taken out; its order means nothing
+pub record Joins (Has : Lifetime → Type 0) (old new : List Lifetime) : Type 0 where
   pub more : List Lifetime
   pub same : (f : Lifetime → ℕ) → sum_by f new ≡ sum_by f old + sum_by f more
-  pub ended : All (EndsNow commit a) more
+  pub ended : All Has more
+
+-- no version reached the node
+abbrev pub IsUnreached : Lifetime → Type 0
+IsUnreached l = l.death ≡ 0
+
+-- the commit of this number took the node out
+abbrev pub EndsAt : ℕ → Lifetime → Type 0
+EndsAt commit l = l.death ≡ commit
+
+-- What a commit with this status makes of the waste, where the last number was this: nodes of its upload that no version
+-- reached join it, as all may where the upload is given up, and nodes that the commit took out, where it took effect.
+abbrev pub WastesCommit : ℕ → ℕ → List Lifetime → List Lifetime → Type 0
+WastesCommit last status old new = Joins (λ l. IsUnreached l ⊎ ((is_success status ≡ true) × EndsAt (last + 1) l)) old new
+
+-- What a patch makes of the waste: where it took effect, nodes that it took out join it, and nodes that only lived between
+-- its operations; and else none.
+abbrev pub WastesPatch : ℕ → Bool → List Lifetime → List Lifetime → Type 0
+WastesPatch last true old new = Joins (λ l. IsUnreached l ⊎ EndsAt (last + 1) l) old new
+WastesPatch last false old new = new ≡ old
+
+-- What a Delete makes of the waste: nodes that it took out join it, where there was a graph, and else none.
+abbrev pub WastesDelete : ℕ → Bool → List Lifetime → List Lifetime → Type 0
+WastesDelete last true old new = Joins (EndsAt (last + 1)) old new
+WastesDelete last false old new = new ≡ old
+
+-- What a Cancel makes of the waste, by the phase of its seat: nodes of an upload join it, and none of a read.
+abbrev pub WastesCancel : Option SeatView → List Lifetime → List Lifetime → Type 0
+WastesCancel (Some (Writing k r g)) old new = Joins IsUnreached old new
+WastesCancel p old new = new ≡ old
 
 -- as many nodes as may be are taken out of the waste, none that a pinned version has, and nothing else;
 -- its order means nothing
@@ -43,12 +70,13 @@ pub record Frees (pins : List (Option ℕ)) (n freed : ℕ) (left : Bool) (old n
   pub none_needed : All (λ l. is_needed pins l ≡ false) gone
   pub left_is : IsTrue left ↔ (new ≢ [])
 
--- what an event that was answered so makes of the waste
+-- what an event that was answered so makes of the waste: a refused one nothing
 abbrev pub Wastes : Shown → Event → Answer → List Lifetime → Type 0
 Wastes old (Reclaim n) (Reclaimed freed left) new = Frees old.pinned n freed left old.waste new
-Wastes old (At s Commit) (Status status name) new = Adds old.view.totals.commit (Status status name) old.waste new
-Wastes old (At s (Delete t)) (Status status name) new = Adds old.view.totals.commit (Status status name) old.waste new
-Wastes old (At s Cancel) Cancelled new = Adds old.view.totals.commit Cancelled old.waste new
+Wastes old (At s Commit) (Status status name) new = WastesCommit old.view.totals.commit status old.waste new
+Wastes old (At s (CommitPatch ops)) (Status status name) new = WastesPatch old.view.totals.commit (is_success status) old.waste new
+Wastes old (At s (Delete t)) (Status status name) new = WastesDelete old.view.totals.commit (is_success status) old.waste new
+Wastes old (At s Cancel) Cancelled new = WastesCancel (slice_get old.view.seats s) old.waste new
 Wastes old (At s action) a new = new ≡ old.waste
 Wastes old (Reclaim n) a new = ⊥
 

@@ -1,8 +1,8 @@
 -- What an update makes of a graph (SPARQL 1.1 Update, 21 March 2013, sections 3.1.1, 3.1.2 and 3.1.3.3).
-use Rattle.std.specs.Prelude.{not, List, [], ◌∷◌}
+use Rattle.std.specs.Prelude.{not, List, [], ◌∷◌, Option, Some, None}
 use Rattle.std.specs.List.{filter}
 use Rattle.gs_model.specs.Triples.{RdfTriple}
-use Rattle.gs_model.specs.Graphs.{Graph, graph_of, triples_of, with_triples}
+use Rattle.gs_model.specs.Graphs.{Graph, empty_graph, graph_of, triples_of, with_triples}
 use Rattle.gs_event.specs.declared.updates.Op.{Op}
 use Rattle.gs_event.specs.declared.updates.Op.TheVariants.{Insert, DeleteData, DeleteWhere}
 use Rattle.gs_event.specs.Solutions.{is_among, instances_of}
@@ -22,3 +22,8 @@ operated g (DeleteWhere ps) = without_triples g (instances_of g ps.items)
 abbrev pub updated : Graph → List Op → Graph
 updated g [] = g
 updated g (op ∷ ops) = updated (operated g op) ops
+
+-- the same of a graph that may be missing: an empty one then
+abbrev pub patched : Option Graph → List Op → Graph
+patched None ops = empty_graph
+patched (Some g) ops = updated g ops

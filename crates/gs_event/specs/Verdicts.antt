@@ -1,6 +1,6 @@
 -- What becomes of a write, by counts alone, and what that says of the abstract store (SPARQL 1.1 Graph Store
 -- HTTP Protocol, section 5): 404 comes before 507, and 507 before want of a commit number.
-use Rattle.std.specs.Prelude.{◌≡◌, ◌<◌, ◌≤◌, ℕ, ◌+◌, ◌-◌, Bool, true, false, ◌||◌, ◌&&◌, nat_le, nat_lt, if◌then◌else◌, length, Option, Some, None}
+use Rattle.std.specs.Prelude.{IfSome, ◌≡◌, ◌<◌, ◌≤◌, ℕ, ◌+◌, ◌-◌, Bool, true, false, ◌||◌, ◌&&◌, nat_le, nat_lt, if◌then◌else◌, length, Option, Some, None}
 use Rattle.gs_model.specs.Limits.{last_number}
 use Rattle.gs_model.specs.Graphs.{Graph, size_of}
 use Rattle.gs_term.specs.declared.names.Target.{Target}
@@ -11,7 +11,8 @@ use Rattle.gs_event.specs.declared.verdicts.Change.{Change}
 use Rattle.gs_event.specs.declared.verdicts.Change.TheVariants.{Stores, Removes}
 use Rattle.gs_event.specs.declared.verdicts.Verdict.{Verdict}
 use Rattle.gs_event.specs.declared.verdicts.Verdict.TheVariants.{Missing, Full, LastNumber, Granted}
-use Rattle.gs_event.specs.Datasets.{Dataset, Setting, Operation, Puts, Posts, Creates, Deletes, Looks, Reads, graph_at, is_there, lines_at, with_graph, without_graph, triples_in, names_in, is_within, united, new_name, after, status_of, is_success}
+use Rattle.gs_event.specs.Updates.{patched}
+use Rattle.gs_event.specs.Datasets.{Dataset, Setting, Operation, Puts, Posts, Creates, Patches, Deletes, Looks, Reads, graph_at, is_there, lines_at, with_graph, without_graph, triples_in, names_in, is_within, united, new_name, after, status_of, is_success}
 
 -- a commit number is left for the write, or none is
 abbrev pub granted_of : ℕ → ℕ → ℕ → ℕ → Verdict
@@ -37,32 +38,34 @@ verdict_of h p Removes =
     else Missing
 
 -- whether the target is a named graph
-abbrev pub is_name : Target → Bool
-is_name Default = false
-is_name (Named n) = true
+abbrev pub is_named : Target → Bool
+is_named Default = false
+is_named (Named n) = true
 
 -- what a store with this dataset holds, at its last commit number
 abbrev pub holdings_of : Setting → Dataset → ℕ → Holdings
 holdings_of w m commit = record { triples = triples_in m; names = names_in m; commit = commit; limits = w.limits }
 
 -- a target in this dataset
-abbrev pub place_of : Dataset → Target → Place
-place_of m t = record { is_name = is_name t; is_there = is_there m t; triples = length (lines_at m t) }
+abbrev pub place_in : Dataset → Target → Place
+place_in m t = record { is_name = is_named t; is_there = is_there m t; triples = length (lines_at m t) }
 
 -- the target of an operation: a new graph's is the name that is made up for it
-abbrev pub target_of : Setting → Dataset → Operation → Target
-target_of w m (Puts t g) = t
-target_of w m (Posts t g) = t
-target_of w m (Creates r g) = Named (new_name w.base m r)
-target_of w m (Deletes t) = t
-target_of w m (Looks t) = t
-target_of w m (Reads t) = t
+abbrev pub operation_target : Setting → Dataset → Operation → Target
+operation_target w m (Puts t g) = t
+operation_target w m (Posts t g) = t
+operation_target w m (Creates r g) = Named (new_name w.base m r)
+operation_target w m (Patches t ops) = t
+operation_target w m (Deletes t) = t
+operation_target w m (Looks t) = t
+operation_target w m (Reads t) = t
 
 -- what an operation does to its target, where it is a write
 abbrev pub change_of : Dataset → Operation → Option Change
 change_of m (Puts t g) = Some (Stores (size_of g) true)
 change_of m (Posts t g) = Some (Stores (size_of (united (graph_at m t) g)) true)
 change_of m (Creates r g) = Some (Stores (size_of g) true)
+change_of m (Patches t ops) = Some (Stores (size_of (patched (graph_at m t) ops)) false)
 change_of m (Deletes t) = Some Removes
 change_of m (Looks t) = None
 change_of m (Reads t) = None
@@ -87,6 +90,11 @@ DecidesStore w m commit t g (Granted status triples names) =
     × (triples ≡ triples_in (with_graph m t g))
     × (names ≡ names_in (with_graph m t g))
 
+-- the same of a write that makes g the target's graph, where it has one
+abbrev pub DecidesChange : Setting → Dataset → ℕ → Target → Graph → Verdict → Type 0
+DecidesChange w m commit t g Missing = is_there m t ≡ false
+DecidesChange w m commit t g v = (is_there m t ≡ true) × DecidesStore w m commit t g v
+
 -- the same of a write that takes the target's graph away
 abbrev pub DecidesRemoval : Dataset → ℕ → Target → Verdict → Type 0
 DecidesRemoval m commit t Missing = is_there m t ≡ false
@@ -98,3 +106,8 @@ DecidesRemoval m commit t (Granted status triples names) =
     × (commit < last_number)
     × (triples ≡ triples_in (without_graph m t))
     × (names ≡ names_in (without_graph m t))
+
+-- where the operation is a write, its verdict by the counts says of it what the abstract store says
+abbrev pub IsDecided : Setting → Dataset → ℕ → Operation → Type 0
+IsDecided w m commit q =
+    IfSome (change_of m q) (λ x. Decides w m commit q (verdict_of (holdings_of w m commit) (place_in m (operation_target w m q)) x))

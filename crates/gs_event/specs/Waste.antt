@@ -3,10 +3,11 @@ use Rattle.std.specs.Prelude.{ℕ, ◌+◌, Bool, false, ◌&&◌, nat_le, nat_l
 use Rattle.std.specs.List.{sum_by, list_any}
 use Rattle.gs_model.specs.Graphs.{size_of}
 use Rattle.gs_event.specs.Datasets.{triples_in}
-use Rattle.gs_event.specs.Phases.{Phase, Idle, Writing, Reading}
+use Rattle.gs_event.specs.Phases.{Phase, Idle, Writing, Patching, Reading}
 use Rattle.gs_event.specs.Views.{View, SeatView}
 
--- a node that no current graph and no open upload has: no versions but those v with birth ≤ v < death have it
+-- The lifetime of a node that no current graph and no open upload has: the versions v with birth ≤ v < death. No other
+-- version has the node. Its death is the number of the commit that took it out, 0 where no version reached it.
 pub record Lifetime : Type 0 where
   pub birth : ℕ
   pub death : ℕ
@@ -21,6 +22,7 @@ pub record Shown : Type 0 where
 abbrev pub staged_at : {R : Type 0} → Phase R → ℕ
 staged_at Idle = 0
 staged_at (Writing k r g) = size_of g
+staged_at (Patching t r) = 0
 staged_at (Reading left) = 0
 
 -- how many triples all open uploads have
@@ -31,14 +33,14 @@ staged_in seats = sum_by (λ p. staged_at p) seats
 abbrev pub nodes_in : Shown → ℕ
 nodes_in s = triples_in s.view.totals.dataset + staged_in s.view.seats + length s.waste
 
--- whether the pinned version, if there is one, has the node
-abbrev pub holds : Lifetime → Option ℕ → Bool
-holds l None = false
-holds l (Some v) = nat_le l.birth v && nat_lt v l.death
+-- whether the pinned version, if there is one, is of the lifetime
+abbrev pub lives_at : Lifetime → Option ℕ → Bool
+lives_at l None = false
+lives_at l (Some v) = nat_le l.birth v && nat_lt v l.death
 
 -- whether a pinned version has the node
 abbrev pub is_needed : List (Option ℕ) → Lifetime → Bool
-is_needed pins l = list_any (λ p. holds l p) pins
+is_needed pins l = list_any (λ p. lives_at l p) pins
 
 -- how many of these nodes no pinned version has
 abbrev pub unneeded : List (Option ℕ) → List Lifetime → ℕ

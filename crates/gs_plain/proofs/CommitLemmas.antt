@@ -14,7 +14,9 @@ use Rattle.gs_event.specs.Views.{next_totals}
 use Rattle.gs_event.proofs.DatasetLemmas.{triples_in-without_graph}
 use Rattle.gs_plain.specs.declared.books.Books.{Books}
 use Rattle.gs_plain.specs.declared.books.Seat.TheVariants.{Writing}
-use Rattle.gs_plain.specs.Books.{dataset_of, most_nodes, totals_of, IsReady, KeepsBooks, Acts}
+use Rattle.gs_plain.specs.Books.{dataset_of, most_nodes, totals_of}
+use Rattle.gs_plain.specs.Versions.{KeepsBooks}
+use Rattle.gs_plain.specs.Actions.{IsReady, Acts}
 use Rattle.gs_plain.proofs.WriteLemmas.{same_rows, stored_well}
 
 -- at the last commit number a new graph is refused, and nothing changes

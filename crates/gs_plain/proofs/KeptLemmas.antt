@@ -24,7 +24,8 @@ use Rattle.gs_plain.specs.declared.books.Books.{Books}
 use Rattle.gs_plain.specs.declared.books.Seat.{Seat}
 use Rattle.gs_plain.specs.declared.books.Seat.TheVariants.{Idle, Writing, Reading}
 use Rattle.gs_plain.specs.declared.stores.PlainStore.TheInside.{Inside}
-use Rattle.gs_plain.specs.Books.{staged_by, dataset_of, totals_of, seat_shown, is_writing, IsKnown, KeepsRows, Acts, HasRoom, KeepsRoom}
+use Rattle.gs_plain.specs.Books.{staged_by, dataset_of, totals_of, seat_shown, is_writing, IsKnown, KeepsRows}
+use Rattle.gs_plain.specs.Actions.{Acts, HasRoom, KeepsRoom}
 use Rattle.gs_plain.specs.Kept.{shown_of, IsKept}
 
 -- what a store's fields show, without the waste

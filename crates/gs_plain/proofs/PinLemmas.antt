@@ -15,7 +15,8 @@ use Rattle.gs_event.proofs.PinLemmas.{refused_pin}
 use Rattle.gs_plain.specs.declared.books.Seat.{Seat}
 use Rattle.gs_plain.specs.declared.books.Seat.TheVariants.{Idle}
 use Rattle.gs_plain.specs.declared.stores.PlainStore.TheInside.{Inside}
-use Rattle.gs_plain.specs.Books.{seat_pin, Acts}
+use Rattle.gs_plain.specs.Books.{seat_pin}
+use Rattle.gs_plain.specs.Actions.{Acts}
 use Rattle.gs_plain.specs.Kept.{shown_of}
 
 abbrev no_pin : ℕ → Option ℕ

@@ -1,5 +1,5 @@
 -- A store whose waste is empty before and after an event takes a step.
-use Rattle.std.proofs.Common.{◌≡◌, ◌≢◌, ℕ, ◌+◌, min, true, false, List, [], ◌∷◌, refl, sym, ap, ◌∙◌, arith, length, IsTrue, ◌↔◌}
+use Rattle.std.proofs.Common.{◌≡◌, ◌≢◌, ℕ, ◌+◌, min, Bool, true, false, Option, Some, None, List, [], ◌∷◌, refl, sym, ap, ◌∙◌, arith, length, IsTrue, ◌↔◌}
 use Rattle.std.specs.List.{sum_by, All}
 use Rattle.gs_event.specs.declared.events.Action.{Action}
 use Rattle.gs_event.specs.declared.events.Action.TheVariants.{Open, Stage, Commit, Delete, Head, Pin, Piece, Cancel}
@@ -7,20 +7,32 @@ use Rattle.gs_event.specs.declared.events.Event.TheVariants.{Seat as At, Reclaim
 use Rattle.gs_event.specs.declared.answers.Answer.{Answer}
 use Rattle.gs_event.specs.declared.answers.Answer.TheVariants.{Opened, Staged, Status, Pinned, Lines, Cancelled, Reclaimed, Refused}
 use Rattle.gs_event.specs.Waste.{Lifetime, Shown}
-use Rattle.gs_event.specs.Steps.{EndsNow, Adds, Frees, Wastes}
+use Rattle.gs_event.specs.Phases.{Idle, Writing, Reading}
+use Rattle.gs_event.specs.Views.{SeatView}
+use Rattle.gs_event.specs.Steps.{Joins, Frees, WastesDelete, WastesCancel, Wastes}
 
-none_added : (commit : ℕ) (a : Answer) (old new : List Lifetime) → old ≡ [] → new ≡ [] → Adds commit a old new
-none_added commit a old new before after = record {
+none_joined : (Has : Lifetime → Type 0) (old new : List Lifetime) → old ≡ [] → new ≡ [] → Joins Has old new
+none_joined Has old new before after = record {
   more = [];
   same = λ f. ap (sum_by f) after ∙ sym (ap (λ ls. sum_by f ls + 0) before);
   ended = λ k d lt. absurd (omega arith);
 }
 
+none_deleted : (last : ℕ) (done : Bool) (old new : List Lifetime) → old ≡ [] → new ≡ [] → WastesDelete last done old new
+none_deleted last true old new before after = none_joined _ old new before after
+none_deleted last false old new before after = after ∙ sym before
+
+none_cancelled : (p : Option SeatView) (old new : List Lifetime) → old ≡ [] → new ≡ [] → WastesCancel p old new
+none_cancelled (Some (Writing k r g)) old new before after = none_joined _ old new before after
+none_cancelled (Some Idle) old new before after = after ∙ sym before
+none_cancelled (Some (Reading left)) old new before after = after ∙ sym before
+none_cancelled None old new before after = after ∙ sym before
+
 -- a seat's action
 pub none_wasted : (old : Shown) (s : ℕ) (action : Action) (a : Answer) (new : List Lifetime) → old.waste ≡ [] → new ≡ [] → Wastes old (At s action) a new
-none_wasted old s Commit (Status status name) new before after = none_added _ _ _ _ before after
-none_wasted old s (Delete t) (Status status name) new before after = none_added _ _ _ _ before after
-none_wasted old s Cancel Cancelled new before after = none_added _ _ _ _ before after
+none_wasted old s Commit (Status status name) new before after = none_joined _ _ _ before after
+none_wasted old s (Delete t) (Status status name) new before after = none_deleted _ _ _ _ before after
+none_wasted old s Cancel Cancelled new before after = none_cancelled _ _ _ before after
 none_wasted old s action a new before after = after ∙ sym before
 
 -- there is nothing to free

@@ -10,7 +10,8 @@ use Rattle.gs_event.specs.declared.limits.Limits.{Limits}
 use Rattle.gs_event.specs.Datasets.{Dataset, empty_dataset, with_graph, without_graph, graph_at, is_there, is_within, names_in, Setting, stored_status, is_success}
 use Rattle.gs_event.proofs.DatasetLemmas.{names_in-with_graph, names_in-without_name, names_in-some}
 use Rattle.gs_plain.specs.declared.books.Row.{Row}
-use Rattle.gs_plain.specs.Books.{after_row, dataset_of, lines_of_row, ended_row, is_default, KeepsRows}
+use Rattle.gs_plain.specs.Books.{after_row, dataset_of, lines_of_row, is_default, KeepsRows}
+use Rattle.gs_plain.specs.Versions.{ended_row}
 use Rattle.gs_plain.specs.Newest.{target_eq, AreOthers, IsLast}
 use Rattle.gs_plain.proofs.RowLemmas.{graph_at-without_graph, graph_at-after_row, at_row, same_dataset, target_eq-true}
 

@@ -1,6 +1,7 @@
 //! What a seat's action does to the books and to the seat. A refused action changes neither.
 ghost use Rattle.std.specs.Prelude.{◌≡◌, ◌<◌, ℕ, IsTrue, vec_len, vec_capacity};
-ghost use Rattle.gs_plain.specs.Books.{is_writing, IsReady, Acts, KeepsRoom, HoldsRoom};
+ghost use Rattle.gs_plain.specs.Books.{is_writing};
+ghost use Rattle.gs_plain.specs.Actions.{IsReady, Acts, KeepsRoom, HoldsRoom};
 
 use crate::books::{self, Books, Seat};
 use crate::graphs::SortedGraph;

@@ -2,7 +2,8 @@
 ghost use Rattle.std.specs.Prelude.{◌≡◌, ◌<◌, length, vec_len, vec_capacity};
 ghost use Rattle.gs_model.specs.Limits.{last_number};
 ghost use Rattle.gs_event.specs.Datasets.{is_there as is_there_of, lines_at, with_graph, without_graph, triples_in, names_in};
-ghost use Rattle.gs_plain.specs.Books.{dataset_of, IsCounted, PutsVersion, EndsVersion, EndsRow};
+ghost use Rattle.gs_plain.specs.Books.{dataset_of, IsCounted};
+ghost use Rattle.gs_plain.specs.Versions.{PutsVersion, EndsVersion, EndsRow};
 ghost use Rattle.gs_plain.specs.Newest.{NewestRow};
 
 use crate::graphs::SortedGraph;

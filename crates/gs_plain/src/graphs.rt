@@ -152,7 +152,7 @@ fn lines_between(
     start: usize,
     count: usize,
 ) -> Result<Vec<u8>, AllocError>
-    ensures { IfOk result (λ bytes. bytes.items ≡ concat (take count (drop start (map line_of triples.now)))) }
+    ensures { IfOk result (λ out. out.items ≡ concat (take count (drop start (map line_of triples.now)))) }
 {
     let from = start.min(triples.len());
     let shown = &triples[from..from + count.min(triples.len() - from)];

@@ -1,8 +1,8 @@
 //! Names that the store makes up.
 ghost use Rattle.std.specs.Prelude.{◌≡◌, true, IfOk, string_bytes};
 ghost use Rattle.gs_model.specs.Bases.{is_base};
-ghost use Rattle.gs_event.specs.Datasets.{made_name as made_name_of, new_name as new_name_of};
-ghost use Rattle.gs_plain.specs.Books.{dataset_of, IsCounted};
+ghost use Rattle.gs_event.specs.Datasets.{made_name as made_name_of};
+ghost use Rattle.gs_plain.specs.Books.{name_for, IsCounted};
 
 use crate::books::{self, Books};
 use gs_model::Refusal;
@@ -13,7 +13,7 @@ use std::alloc::{AllocError, Global};
 /// The first of the names for this request that is not in the store.
 fn new_name(books: &Books, alloc: Global, request: u64) -> Result<GraphName, AllocError>
     requires { IsCounted books.now }
-    ensures { IfOk result (λ name. name ≡ new_name_of (string_bytes books.now.base) (dataset_of books.now.rows.items) request) }
+    ensures { IfOk result (λ name. name ≡ name_for books.now request) }
 {
     let base = books.base.as_str();
     for number in 0..books.names {
@@ -32,7 +32,7 @@ pub fn new_name_twice(
     request: u64,
 ) -> Result<(GraphName, GraphName), AllocError>
     requires { IsCounted books.now }
-    ensures { IfOk result (λ r. (r.0 ≡ new_name_of (string_bytes books.now.base) (dataset_of books.now.rows.items) request) × (r.1 ≡ new_name_of (string_bytes books.now.base) (dataset_of books.now.rows.items) request)) }
+    ensures { IfOk result (λ r. (r.0 ≡ name_for books.now request) × (r.1 ≡ name_for books.now request)) }
 {
     let name = new_name(books, alloc, request)?;
     let told = name.clone()?;

@@ -2,7 +2,8 @@
 ghost use Rattle.std.specs.Prelude.{◌≡◌, ◌+◌, ◌<◌, ◌^◌, ℕ, IfSome, IfOk, length, take, drop};
 ghost use Rattle.std.specs.List.{concat};
 ghost use Rattle.gs_event.specs.declared.events.Action.TheVariants.{Head, Pin, Piece};
-ghost use Rattle.gs_plain.specs.Books.{row_lines, IsReady, Acts, HoldsRoom};
+ghost use Rattle.gs_plain.specs.Books.{row_lines};
+ghost use Rattle.gs_plain.specs.Actions.{IsReady, Acts, HoldsRoom};
 
 use crate::books::{self, Books, Row, Seat};
 use gs_event::Answer;

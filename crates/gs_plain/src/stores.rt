@@ -4,7 +4,7 @@ ghost use Rattle.gs_model.specs.Bases.{is_base};
 ghost use Rattle.gs_event.specs.Datasets.{triples_in};
 ghost use Rattle.gs_event.specs.Views.{Fits, next_view};
 ghost use Rattle.gs_event.specs.Steps.{Steps, next_pinned};
-ghost use Rattle.gs_event.specs.Histories.{view_of, pinned_of};
+ghost use Rattle.gs_event.specs.Histories.{start_with, ShowsStart, HasStartPins};
 ghost use Rattle.gs_event.specs.Waste.{nodes_in};
 
 use crate::actions;
@@ -51,8 +51,8 @@ impl PlainStore {
         request: u64,
     ) -> Result<PlainStore, Refusal>
         requires { is_base base.now ≡ true }
-        ensures view { IfOk result (λ store. store.view ≡ view_of (record { seats = seats; setting = record { base = base.now; limits = limits }; request = request; commit = commit }) []) }
-        ensures pinned { IfOk result (λ store. store.pinned ≡ pinned_of (record { seats = seats; setting = record { base = base.now; limits = limits }; request = request; commit = commit }) []) }
+        ensures view { IfOk result (ShowsStart (start_with seats base.now limits request commit)) }
+        ensures pinned { IfOk result (HasStartPins (start_with seats base.now limits request commit)) }
         ensures waste { IfOk result (λ store. store.waste ≡ []) }
         ensures refused { IfErr result (λ refusal. refusal ≡ Refusal.NoMemory) }
     {

@@ -1,7 +1,7 @@
 //! What becomes of a write, by the books alone.
 ghost use Rattle.std.specs.Prelude.{◌≡◌};
-ghost use Rattle.gs_event.specs.Verdicts.{DecidesRemoval, DecidesStore, holdings_of, place_of};
-ghost use Rattle.gs_plain.specs.Books.{dataset_of, setting_of, IsCounted};
+ghost use Rattle.gs_event.specs.Verdicts.{DecidesRemoval, place_in};
+ghost use Rattle.gs_plain.specs.Books.{dataset_of, held_by, DecidesBy, IsCounted};
 
 use crate::books::{self, Books};
 use crate::graphs::SortedGraph;
@@ -10,7 +10,7 @@ use gs_term::Target;
 
 fn holdings(books: &Books) -> Holdings
     requires { IsCounted books.now }
-    ensures { result ≡ holdings_of (setting_of books.now) (dataset_of books.now.rows.items) books.now.commit }
+    ensures { result ≡ held_by books.now }
 {
     Holdings {
         triples: books.triples,
@@ -21,7 +21,7 @@ fn holdings(books: &Books) -> Holdings
 }
 
 fn place(books: &Books, target: &Target) -> Place
-    ensures { result ≡ place_of (dataset_of books.now.rows.items) target.now }
+    ensures { result ≡ place_in (dataset_of books.now.rows.items) target.now }
 {
     let rows = books.rows.as_slice();
     Place {
@@ -34,7 +34,7 @@ fn place(books: &Books, target: &Target) -> Place
 /// What becomes of a write that makes the graph its target's, and may create it.
 pub fn verdict_on_store(books: &Books, target: &Target, graph: &SortedGraph) -> Verdict
     requires { IsCounted books.now }
-    ensures { DecidesStore (setting_of books.now) (dataset_of books.now.rows.items) books.now.commit target.now graph.now result }
+    ensures { DecidesBy books.now target.now graph.now result }
 {
     let held = holdings(books);
     let place = place(books, target);

@@ -1,9 +1,12 @@
 //! Writes: the commits of uploads, and deletes.
 ghost use Rattle.std.specs.Prelude.{◌≡◌, ◌<◌, ◌≤◌, ◌+◌, IsTrue, IfOk, length, vec_len, vec_capacity};
 ghost use Rattle.gs_model.specs.Graphs.{size_of};
-ghost use Rattle.gs_event.specs.Datasets.{graph_at, united, lines_at};
+ghost use Rattle.gs_event.specs.Datasets.{united};
 ghost use Rattle.gs_event.specs.declared.events.Action.TheVariants.{Commit, Delete};
-ghost use Rattle.gs_plain.specs.Books.{dataset_of, is_writing, IsReady, Acts, HoldsRoom};
+ghost use Rattle.gs_event.specs.declared.events.UploadKind.TheVariants.{Put, Post, New};
+ghost use Rattle.gs_plain.specs.declared.books.Seat.TheVariants.{Writing};
+ghost use Rattle.gs_plain.specs.Books.{graph_now, size_now, is_writing};
+ghost use Rattle.gs_plain.specs.Actions.{IsReady, Acts, HoldsRoom};
 
 use crate::books::{self, Books, Seat};
 use crate::graphs::SortedGraph;
@@ -43,15 +46,15 @@ fn commit_put(
     request: u64,
     upload: SortedGraph,
 ) -> Answer
-    requires ready { IsReady books.old (Seat.Writing (UploadKind.Put target) request upload) }
+    requires ready { IsReady books.old (Writing (Put target) request upload) }
     requires room { vec_len books.old.rows < vec_capacity books.old.rows }
     requires idle { seat.old ≡ Seat.Idle }
-    ensures acts { Acts books.old books.new (Seat.Writing (UploadKind.Put target) request upload) seat.new Commit result }
-    ensures room { HoldsRoom books.old books.new (Seat.Writing (UploadKind.Put target) request upload) seat.new }
+    ensures acts { Acts books.old books.new (Writing (Put target) request upload) seat.new Commit result }
+    ensures room { HoldsRoom books.old books.new (Writing (Put target) request upload) seat.new }
 {
     let staged = upload.len() as u64;
     match verdict_on_store(books, &target, &upload) {
-        Verdict::Missing => Answer::Status(404, None),
+        Verdict::Missing => unreachable!(),
         Verdict::Full => {
             books.staged -= staged;
             Answer::Status(507, None)
@@ -75,8 +78,8 @@ fn posted(
     target: &Target,
     upload: &SortedGraph,
 ) -> Result<SortedGraph, AllocError>
-    ensures value { IfOk result (λ g. g ≡ united (graph_at (dataset_of books.now.rows.items) target.now) upload.now) }
-    ensures size { IfOk result (λ g. size_of g ≤ length (lines_at (dataset_of books.now.rows.items) target.now) + size_of upload.now) }
+    ensures value { IfOk result (λ g. g ≡ united (graph_now books.now target.now) upload.now) }
+    ensures size { IfOk result (λ g. size_of g ≤ size_now books.now target.now + size_of upload.now) }
 {
     match books::newest(books.rows.as_slice(), target) {
         None => upload.copied(alloc),
@@ -93,11 +96,11 @@ fn commit_post(
     request: u64,
     upload: SortedGraph,
 ) -> Answer
-    requires ready { IsReady books.old (Seat.Writing (UploadKind.Post target) request upload) }
+    requires ready { IsReady books.old (Writing (Post target) request upload) }
     requires room { vec_len books.old.rows < vec_capacity books.old.rows }
     requires idle { seat.old ≡ Seat.Idle }
-    ensures acts { Acts books.old books.new (Seat.Writing (UploadKind.Post target) request upload) seat.new Commit result }
-    ensures room { HoldsRoom books.old books.new (Seat.Writing (UploadKind.Post target) request upload) seat.new }
+    ensures acts { Acts books.old books.new (Writing (Post target) request upload) seat.new Commit result }
+    ensures room { HoldsRoom books.old books.new (Writing (Post target) request upload) seat.new }
 {
     let Ok(graph) = posted(books, alloc, &target, &upload) else {
         *seat = Seat::Writing(UploadKind::Post(target), request, upload);
@@ -105,7 +108,7 @@ fn commit_post(
     };
     let staged = upload.len() as u64;
     match verdict_on_store(books, &target, &graph) {
-        Verdict::Missing => Answer::Status(404, None),
+        Verdict::Missing => unreachable!(),
         Verdict::Full => {
             books.staged -= staged;
             Answer::Status(507, None)
@@ -130,11 +133,11 @@ fn commit_new(
     request: u64,
     upload: SortedGraph,
 ) -> Answer
-    requires ready { IsReady books.old (Seat.Writing UploadKind.New request upload) }
+    requires ready { IsReady books.old (Writing New request upload) }
     requires room { vec_len books.old.rows < vec_capacity books.old.rows }
     requires idle { seat.old ≡ Seat.Idle }
-    ensures acts { Acts books.old books.new (Seat.Writing UploadKind.New request upload) seat.new Commit result }
-    ensures room { HoldsRoom books.old books.new (Seat.Writing UploadKind.New request upload) seat.new }
+    ensures acts { Acts books.old books.new (Writing New request upload) seat.new Commit result }
+    ensures room { HoldsRoom books.old books.new (Writing New request upload) seat.new }
 {
     let Ok((name, location)) = names::new_name_twice(books, alloc, request) else {
         *seat = Seat::Writing(UploadKind::New, request, upload);
@@ -143,7 +146,7 @@ fn commit_new(
     let target = Target::Named(name);
     let staged = upload.len() as u64;
     match verdict_on_store(books, &target, &upload) {
-        Verdict::Missing => Answer::Status(404, None),
+        Verdict::Missing => unreachable!(),
         Verdict::Full => {
             books.staged -= staged;
             Answer::Status(507, None)
@@ -171,7 +174,7 @@ pub fn delete(books: &mut Books, seat: &mut Seat, target: &Target) -> Answer
     };
     match verdict_on_removal(books, target) {
         Verdict::Missing => Answer::Status(404, None),
-        Verdict::Full => Answer::Status(507, None),
+        Verdict::Full => unreachable!(),
         Verdict::LastNumber => Answer::Refused(Refusal::LastNumber),
         Verdict::Granted(status, triples, names) => {
             books::end_version(books, target, triples, names);

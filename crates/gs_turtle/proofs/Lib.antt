@@ -4,3 +4,5 @@ pub mod SaidLemmas
 pub mod HistoryLemmas
 pub mod PieceLemmas
 pub mod BodyLemmas
+pub mod PlaceLemmas
+pub mod FaultLemmas

@@ -2,12 +2,12 @@ use Rattle.std.proofs.Common.{sym, ap, ◌∙◌, subst}
 use Rattle.gs_event.specs.declared.verdicts.Change.TheVariants.{Removes}
 use Rattle.gs_event.specs.Verdicts.{verdict_of, holdings_of, DecidesRemoval}
 use Rattle.gs_event.proofs.VerdictLemmas.{removal_decided}
-use Rattle.gs_plain.specs.Books.{dataset_of, setting_of}
+use Rattle.gs_plain.specs.Books.{dataset_of, books_setting}
 use Rattle.gs_plain.proofs.verdicts.verdict_on_removal.Goals as goal
 
 pub returns : goal.returns
 returns c =
-    let w = setting_of c.args.books.now in
+    let w = books_setting c.args.books.now in
     let m = dataset_of c.args.books.now.rows.items in
     let commit = c.args.books.now.commit in
     let same = c.verdict_on.ensures

@@ -1,7 +1,7 @@
 use Rattle.std.proofs.Common.{◌≡◌, ◌<◌, length, arith, refl, ap, subst}
 use Rattle.std.specs.Vec.{with_item}
 use Rattle.gs_plain.specs.declared.stores.PlainStore.TheInside.{Inside}
-use Rattle.gs_plain.specs.Books.{KeepsRoom}
+use Rattle.gs_plain.specs.Actions.{KeepsRoom}
 use Rattle.gs_event.specs.Waste.{Shown}
 use Rattle.gs_plain.proofs.KeptLemmas.{kept_after, fits_after, next_after}
 use Rattle.gs_plain.proofs.PinLemmas.{pins_after, pins_kept}

@@ -1,0 +1,38 @@
+-- What an action makes of the books and of its seat. No public clause cites this module.
+use Rattle.std.specs.Prelude.{◌≡◌, ℕ, ◌<◌, ◌+◌, ◌≤◌, if◌then◌else◌, vec_len, vec_capacity}
+use Rattle.gs_event.specs.declared.events.Action.{Action}
+use Rattle.gs_event.specs.declared.answers.Answer.{Answer}
+use Rattle.gs_event.specs.Views.{FitsSeat, next_totals, next_phase}
+use Rattle.gs_event.specs.Steps.{pin_after}
+use Rattle.gs_plain.specs.declared.books.Books.{Books}
+use Rattle.gs_plain.specs.declared.books.Seat.{Seat}
+use Rattle.gs_plain.specs.Books.{seat_shown, totals_of, is_writing, staged_by, seat_pin, IsKnown, KeepsRows, IsCounted}
+
+-- books and one of their seats, before an action
+pub record IsReady (b : Books) (s : Seat) : Type 0 where
+  pub known : IsKnown b.rows.items s
+  pub counted : IsCounted b
+  pub staged : staged_by s ≤ b.staged
+
+-- what an action that was answered so made of the books and of its seat
+pub record Acts (old new : Books) (was now : Seat) (action : Action) (answer : Answer) : Type 0 where
+  pub fits : FitsSeat (totals_of old) (seat_shown old.rows.items was) action answer
+  pub totals : totals_of new ≡ next_totals (totals_of old) (seat_shown old.rows.items was) action answer
+  pub seat : seat_shown new.rows.items now ≡ next_phase (totals_of old) (seat_shown old.rows.items was) action answer
+  pub pin : seat_pin now ≡ pin_after old.commit (seat_pin was) action answer
+  pub known : IsKnown new.rows.items now
+  pub rows : KeepsRows old.rows.items new.rows.items
+  pub counted : IsCounted new
+  pub staged : new.staged + staged_by was ≡ old.staged + staged_by now
+
+-- there is room for the row of each upload, `others` of them at other seats
+abbrev pub HasRoom : Books → ℕ → Seat → Type 0
+HasRoom b others s = vec_len b.rows + (others + (if is_writing s then 1 else 0)) ≤ vec_capacity b.rows
+
+-- at a store of so many seats there is still room
+pub record KeepsRoom (seats : ℕ) (old new : Books) (was now : Seat) : Type 0 where
+  pub kept : (others : ℕ) → others < seats → HasRoom old others was → HasRoom new others now
+
+-- there is still room, however many seats there are
+pub record HoldsRoom (old new : Books) (was now : Seat) : Type 0 where
+  pub held : (seats : ℕ) → KeepsRoom seats old new was now
