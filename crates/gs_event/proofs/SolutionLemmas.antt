@@ -43,7 +43,7 @@ triple_is : (t : RdfTriple) → eq_by_cmp triple_cmp t t ≡ true
 triple_is t = (eq_by_cmp_equiv triple_total).refl t
 
 -- the assignment has the terms of the bindings
-abbrev Agrees : Assignment → Bindings → Type 0
+abbrev pub Agrees : Assignment → Bindings → Type 0
 Agrees a b = (x : List ℕ) (t : Term) → term_for b x ≡ Some t → a x ≡ t
 
 some_is : (t u : Term) → Some t ≡ Some u → t ≡ u
@@ -100,7 +100,7 @@ bind_found a b (TheTerm u) t agrees is = (b, ap (λ r. cond r (Some b) None) (te
 bind_found a b (Variable x) t agrees is = with_found a b x t (term_for b x) refl agrees is
 
 -- the same of a pattern
-abbrev BindsTriple : Bindings → Pattern → RdfTriple → Bindings → Type 0
+abbrev pub BindsTriple : Bindings → Pattern → RdfTriple → Bindings → Type 0
 BindsTriple b p t c = (a : Assignment) → Agrees a c → Agrees a b × (instance_of a p ≡ t)
 
 alike : (s : RdfTriple) (x y z : Term) → x ≡ s.subject → y ≡ s.predicate → z ≡ s.object → record { subject = x; predicate = y; object = z } ≡ s
@@ -123,7 +123,7 @@ first_sound : (b k : Bindings) (p : Pattern) (t : RdfTriple) (o : Option Binding
 first_sound b k p t None e g = absurd (cc)
 first_sound b k p t (Some c) e g = second_sound b c k p t (bind c p.predicate t.predicate) e refl g
 
-triple_sound : (b k : Bindings) (p : Pattern) (t : RdfTriple) → bind_triple b p t ≡ Some k → BindsTriple b p t k
+pub triple_sound : (b k : Bindings) (p : Pattern) (t : RdfTriple) → bind_triple b p t ≡ Some k → BindsTriple b p t k
 triple_sound b k p t e = first_sound b k p t (bind b p.subject t.subject) refl e
 
 triple_found : (a : Assignment) (b : Bindings) (p : Pattern) (t : RdfTriple) → Agrees a b → instance_of a p ≡ t → Found a (bind_triple b p t)
@@ -138,7 +138,7 @@ triple_found a b p t agrees is =
     )
 
 -- what holds of each element of a list
-abbrev Each : {X : Type 0} → (X → Type 0) → List X → Type 0
+abbrev pub Each : {X : Type 0} → (X → Type 0) → List X → Type 0
 Each P [] = Unit {0}
 Each P (x ∷ xs) = P x × Each P xs
 
@@ -155,11 +155,11 @@ each_map P Q f [] h = tt
 each_map P Q f (x ∷ xs) h = (f x h.0, each_map P Q f xs h.1)
 
 -- a pattern has one instance under all assignments that agree with the bindings, and it is among the triples
-abbrev Fixes : List RdfTriple → Bindings → Pattern → Type 0
+abbrev pub Fixes : List RdfTriple → Bindings → Pattern → Type 0
 Fixes ts c p = (t : RdfTriple) × (is_among ts t ≡ true) × ((a : Assignment) → Agrees a c → instance_of a p ≡ t)
 
 -- bindings that are found from others, for these patterns
-abbrev Solves : List RdfTriple → List Pattern → Bindings → Bindings → Type 0
+abbrev pub Solves : List RdfTriple → List Pattern → Bindings → Bindings → Type 0
 Solves ts ps b c = ((a : Assignment) → Agrees a c → Agrees a b) × Each (Fixes ts c) ps
 
 solved_then : (ts : List RdfTriple) (p : Pattern) (ps : List Pattern) (b k : Bindings) (t : RdfTriple) → is_among ts t ≡ true → BindsTriple b p t k → (c : Bindings) → Solves ts ps k c → Solves ts (p ∷ ps) b c
@@ -222,7 +222,7 @@ solutions_complete ts a (p ∷ ps) b agrees h =
     (subst (λ o. Reaches a (all_if (solutions ts ps) o)) (sym found.1) (solutions_complete ts a ps found.0 found.2 parts.1))
 
 -- the assignment that bindings give agrees with them
-given_agrees : (b : Bindings) → Agrees (assignment_of b) b
+pub given_agrees : (b : Bindings) → Agrees (assignment_of b) b
 given_agrees b x t e = ap or_any e
 
 -- under two assignments that agree with what fixes the patterns, they have the same instances

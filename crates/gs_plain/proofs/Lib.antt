@@ -1,9 +1,12 @@
 pub mod CommitLemmas
 pub mod KeptLemmas
 pub mod LineRuns
+pub mod LookupLemmas
 pub mod NameLemmas
 pub mod PinLemmas
 pub mod PostLemmas
 pub mod RowLemmas
+pub mod SolvingLemmas
+pub mod UpdateLemmas
 pub mod WasteLemmas
 pub mod WriteLemmas

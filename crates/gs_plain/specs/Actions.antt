@@ -6,7 +6,7 @@ use Rattle.gs_event.specs.Views.{FitsSeat, next_totals, next_phase}
 use Rattle.gs_event.specs.Steps.{pin_after}
 use Rattle.gs_plain.specs.declared.books.Books.{Books}
 use Rattle.gs_plain.specs.declared.books.Seat.{Seat}
-use Rattle.gs_plain.specs.Books.{seat_shown, totals_of, is_writing, staged_by, seat_pin, IsKnown, KeepsRows, IsCounted}
+use Rattle.gs_plain.specs.Books.{seat_shown, totals_of, will_commit, staged_by, seat_pin, IsKnown, KeepsRows, IsCounted}
 
 -- books and one of their seats, before an action
 pub record IsReady (b : Books) (s : Seat) : Type 0 where
@@ -25,9 +25,9 @@ pub record Acts (old new : Books) (was now : Seat) (action : Action) (answer : A
   pub counted : IsCounted new
   pub staged : new.staged + staged_by was ≡ old.staged + staged_by now
 
--- there is room for the row of each upload, `others` of them at other seats
+-- there is room for the row of each upload and patch, `others` of them at other seats
 abbrev pub HasRoom : Books → ℕ → Seat → Type 0
-HasRoom b others s = vec_len b.rows + (others + (if is_writing s then 1 else 0)) ≤ vec_capacity b.rows
+HasRoom b others s = vec_len b.rows + (others + (if will_commit s then 1 else 0)) ≤ vec_capacity b.rows
 
 -- at a store of so many seats there is still room
 pub record KeepsRoom (seats : ℕ) (old new : Books) (was now : Seat) : Type 0 where

@@ -1,7 +1,7 @@
 //! What becomes of a write, by the books alone.
 ghost use Rattle.std.specs.Prelude.{◌≡◌};
 ghost use Rattle.gs_event.specs.Verdicts.{DecidesRemoval, place_in};
-ghost use Rattle.gs_plain.specs.Books.{dataset_of, held_by, DecidesBy, IsCounted};
+ghost use Rattle.gs_plain.specs.Books.{dataset_of, held_by, ChangesBy, DecidesBy, IsCounted};
 
 use crate::books::{self, Books};
 use crate::graphs::SortedGraph;
@@ -39,6 +39,16 @@ pub fn verdict_on_store(books: &Books, target: &Target, graph: &SortedGraph) -> 
     let held = holdings(books);
     let place = place(books, target);
     verdict_on(&held, &place, Change::Stores(graph.len() as u64, true))
+}
+
+/// What becomes of a write that makes the graph its target's, where it has one.
+pub fn verdict_on_change(books: &Books, target: &Target, graph: &SortedGraph) -> Verdict
+    requires { IsCounted books.now }
+    ensures { ChangesBy books.now target.now graph.now result }
+{
+    let held = holdings(books);
+    let place = place(books, target);
+    verdict_on(&held, &place, Change::Stores(graph.len() as u64, false))
 }
 
 /// What becomes of a write that takes the target's graph away.
