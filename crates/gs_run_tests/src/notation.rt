@@ -3,11 +3,16 @@ use gs_core::{Op, Part, Pattern, Refusal, VariableName};
 use gs_term::{TermText, Triple};
 use std::alloc::{AllocError, Global};
 
+const TYPE: &str = "http://www.w3.org/1999/02/22-rdf-syntax-ns#type";
+
 const INTEGER: &str = "http://www.w3.org/2001/XMLSchema#integer";
 
 /// `<x>`, which is `<http://e/x>` where it has no colon; `_k`, the blank node k of request 1; `"x"`;
-/// or an integer.
+/// an integer; or `a`, as in Turtle. No word has a dot or a semicolon in it.
 fn term(alloc: Global, word: &str) -> Result<TermText, Refusal> {
+    if word == "a" {
+        return TermText::iri(alloc, TYPE);
+    }
     if let Some(name) = word.strip_prefix('<') {
         let name = name.trim_end_matches('>');
         if name.contains(':') {
@@ -86,10 +91,7 @@ fn operation(alloc: Global, text: &str) -> Result<Op, Refusal> {
     if let Some(rest) = text.strip_prefix("delete") {
         return Ok(Op::DeleteData(triples(alloc, rest)?));
     }
-    Ok(Op::DeleteWhere(patterns(
-        alloc,
-        text.trim_start_matches("where"),
-    )?))
+    Ok(Op::DeleteWhere(patterns(alloc, text.trim_start_matches("where"))?))
 }
 
 /// Operations, with a semicolon between two.
