@@ -7,6 +7,5 @@ pub mod PinLemmas
 pub mod PostLemmas
 pub mod RowLemmas
 pub mod SolvingLemmas
-pub mod UpdateLemmas
 pub mod WasteLemmas
 pub mod WriteLemmas

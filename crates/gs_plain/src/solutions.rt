@@ -27,7 +27,13 @@ pub fn instances(
     let mut found = Vec::new(alloc);
     let mut bound = Vec::new(alloc);
     let mut chosen = Vec::new(alloc);
-    search(&mut found, &mut bound, &mut chosen, graph.as_slice(), patterns)?;
+    search(
+        &mut found,
+        &mut bound,
+        &mut chosen,
+        graph.as_slice(),
+        patterns,
+    )?;
     Ok(found)
 }
 

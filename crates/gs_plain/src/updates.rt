@@ -12,8 +12,10 @@ use std::alloc::{AllocError, Global};
 pub fn update(graph: &mut SortedGraph, alloc: Global, operations: &[Op]) -> Result<(), AllocError>
     ensures { OnOk result (graph.new ≡ updated graph.old operations.now) }
 {
-    for operation in operations {
+    let mut left = operations;
+    while let Some((operation, rest)) = left.split_first() {
         operate(graph, alloc, operation)?;
+        left = rest;
     }
     Ok(())
 }
