@@ -1,20 +1,18 @@
 -- What commits rest on: room for a graph's triples, and the last commit number.
-use Rattle.std.proofs.Common.{◌≡◌, ℕ, ◌+◌, ◌≤◌, Bool, true, false, cond, List, Some, length, refl, sym, ap, ◌∙◌, subst, arith, add-zero, string_bytes}
-use Rattle.gs_model.specs.Graphs.{Graph, size_of}
-use Rattle.gs_model.specs.Limits.{last_node, last_number}
+use Rattle.std.proofs.Common.{◌≡◌, ℕ, ◌+◌, ◌≤◌, Bool, true, false, cond, List, Some, refl, sym, ap, ◌∙◌, subst, add-zero, string_bytes}
+use Rattle.gs_model.specs.Graphs.{Graph}
+use Rattle.gs_model.specs.Limits.{last_number}
 use Rattle.gs_model.specs.declared.refusals.Refusal.TheVariants.{LastNumber}
-use Rattle.gs_term.specs.declared.names.Target.{Target}
 use Rattle.gs_term.specs.declared.names.Target.TheVariants.{Named}
-use Rattle.gs_event.specs.declared.events.UploadKind.TheVariants.{Post, New}
+use Rattle.gs_event.specs.declared.events.UploadKind.TheVariants.{New}
 use Rattle.gs_event.specs.declared.events.Action.TheVariants.{Commit}
 use Rattle.gs_event.specs.declared.answers.Answer.TheVariants.{Refused, Status}
-use Rattle.gs_event.specs.Datasets.{Dataset, lines_at, triples_in, with_graph, is_there, is_within, is_success, new_name}
+use Rattle.gs_event.specs.Datasets.{with_graph, is_there, is_within, is_success, new_name}
 use Rattle.gs_event.specs.Phases as phase
 use Rattle.gs_event.specs.Views.{next_totals}
-use Rattle.gs_event.proofs.DatasetLemmas.{triples_in-without_graph}
 use Rattle.gs_plain.specs.declared.books.Books.{Books}
 use Rattle.gs_plain.specs.declared.books.Seat.TheVariants.{Writing}
-use Rattle.gs_plain.specs.Books.{dataset_of, most_nodes, totals_of}
+use Rattle.gs_plain.specs.Books.{dataset_of, totals_of}
 use Rattle.gs_plain.specs.Versions.{KeepsBooks}
 use Rattle.gs_plain.specs.Actions.{IsReady, Acts}
 use Rattle.gs_plain.proofs.WriteLemmas.{same_rows, stored_well}

@@ -1,5 +1,5 @@
 -- What a seat's action keeps of the whole store.
-use Rattle.std.proofs.Common.{zero, suc, drop, ◌≡◌, ℕ, ◌+◌, ◌<◌, ◌≤◌, true, false, cond, List, [], ◌∷◌, map, length, get_or, Some, None, MatchOption, refl, sym, ap, ◌∙◌, subst, arith, vec_len, vec_capacity, string_bytes, ◌^◌, option_map, replicate, add-zero}
+use Rattle.std.proofs.Common.{zero, suc, drop, ◌≡◌, ℕ, ◌+◌, ◌<◌, ◌≤◌, true, false, cond, List, [], ◌∷◌, map, length, get_or, Some, None, MatchOption, refl, sym, ap, ◌∙◌, subst, arith, vec_len, vec_capacity, string_bytes, option_map, replicate, add-zero}
 use Rattle.std.specs.List.{slice_get, slice_set, count_by, sum_by, All, range_with_len}
 use Rattle.gs_event.specs.Datasets.{empty_dataset, triples_in, names_in}
 use Rattle.gs_event.specs.Histories.{view_of}

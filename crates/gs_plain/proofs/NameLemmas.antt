@@ -1,6 +1,6 @@
 -- Names that the store makes up: they are names of graphs, and the first free one is found in turn.
 use Rattle.std.proofs.lemmas.Bool.{and_parts}
-use Rattle.std.proofs.Common.{◌≡◌, ℕ, suc, ◌+◌, ◌-◌, ◌<◌, ◌≤◌, ◌^◌, Bool, true, false, cond, ◌&&◌, ◌==◌, nat_le, nat_eq, List, [], ◌∷◌, ◌++◌, length, drop, map, Result, Ok, Err, IfOk, refl, sym, ap, ◌∙◌, arith, length-append, append_assoc, codes}
+use Rattle.std.proofs.Common.{◌≡◌, ℕ, suc, ◌+◌, ◌-◌, ◌<◌, ◌≤◌, ◌^◌, true, false, cond, ◌&&◌, ◌==◌, nat_le, nat_eq, List, [], ◌∷◌, ◌++◌, length, drop, map, Result, Ok, Err, IfOk, refl, sym, ap, ◌∙◌, arith, length-append, append_assoc, codes}
 use Rattle.std.specs.List.{list_all, starts_with}
 use Rattle.std.proofs.lemmas.Bool.Decides.{nat_tests}
 use Rattle.std.proofs.lemmas.Slice.Eq.{starts_is}

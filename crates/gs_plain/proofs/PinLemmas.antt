@@ -2,7 +2,6 @@
 use Rattle.std.proofs.Common.{◌≡◌, ℕ, zero, suc, ◌+◌, ◌<◌, List, [], ◌∷◌, map, length, get_or, replicate, Option, None, refl, sym, ap, ◌∙◌, arith}
 use Rattle.std.specs.List.{slice_set, range_with_len}
 use Rattle.std.proofs.lemmas.List.{map-set, set-get_or}
-use Rattle.gs_model.specs.declared.refusals.Refusal.{Refusal}
 use Rattle.gs_model.specs.declared.refusals.Refusal.TheVariants.{BadSeat}
 use Rattle.gs_event.specs.declared.events.Action.{Action}
 use Rattle.gs_event.specs.declared.events.Event.TheVariants.{Seat as At}
@@ -16,7 +15,6 @@ use Rattle.gs_plain.specs.declared.books.Seat.{Seat}
 use Rattle.gs_plain.specs.declared.books.Seat.TheVariants.{Idle}
 use Rattle.gs_plain.specs.declared.stores.PlainStore.TheInside.{Inside}
 use Rattle.gs_plain.specs.Books.{seat_pin}
-use Rattle.gs_plain.specs.Actions.{Acts}
 use Rattle.gs_plain.specs.Kept.{shown_of}
 
 abbrev no_pin : ℕ → Option ℕ

@@ -1,14 +1,13 @@
 -- The search for the instances of patterns finds those under each solution, in their order.
 use Rattle.std.proofs.Common.{◌≡◌, List, [], ◌∷◌, ◌++◌, map, Option, Some, None, refl, sym, ap, ◌∙◌, append_assoc, append-nil}
-use Rattle.std.specs.List.{fold, flat_map}
+use Rattle.std.specs.List.{flat_map}
 use Rattle.std.proofs.lemmas.List.Sums.{fold-append}
 use Rattle.std.proofs.lemmas.Grind.{flat_map-append}
-use Rattle.gs_model.specs.Terms.{Term}
 use Rattle.gs_model.specs.Triples.{RdfTriple}
 use Rattle.gs_model.specs.Graphs.{Graph, triples_of}
 use Rattle.gs_term.specs.declared.patterns.Pattern.{Pattern}
 use Rattle.gs_event.specs.Solutions.{Bindings, instance_of, bind_triple, all_if, solutions, assignment_of, instances_of}
-use Rattle.gs_event.proofs.SolutionLemmas.{Each, Agrees, Solves, triple_sound, solutions_sound, given_agrees}
+use Rattle.gs_event.proofs.SolutionLemmas.{Each, Solves, triple_sound, solutions_sound, given_agrees}
 use Rattle.gs_plain.specs.declared.solutions.Binding.{Binding}
 use Rattle.gs_plain.specs.Solving.{bindings_of, found_if, found_from}
 

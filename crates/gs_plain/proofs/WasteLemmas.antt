@@ -1,15 +1,15 @@
 -- A store whose waste is empty before and after an event takes a step.
-use Rattle.std.proofs.Common.{◌≡◌, ◌≢◌, ℕ, ◌+◌, min, Bool, true, false, Option, Some, None, List, [], ◌∷◌, refl, sym, ap, ◌∙◌, arith, length, IsTrue, ◌↔◌}
-use Rattle.std.specs.List.{sum_by, All}
+use Rattle.std.proofs.Common.{◌≡◌, ℕ, ◌+◌, Bool, true, false, Option, Some, None, List, [], refl, sym, ap, ◌∙◌, arith}
+use Rattle.std.specs.List.{sum_by}
 use Rattle.gs_event.specs.declared.events.Action.{Action}
-use Rattle.gs_event.specs.declared.events.Action.TheVariants.{Open, Stage, Commit, CommitPatch, Delete, Head, Pin, Piece, Cancel}
+use Rattle.gs_event.specs.declared.events.Action.TheVariants.{Commit, CommitPatch, Delete, Cancel}
 use Rattle.gs_event.specs.declared.events.Event.TheVariants.{Seat as At, Reclaim}
 use Rattle.gs_event.specs.declared.answers.Answer.{Answer}
-use Rattle.gs_event.specs.declared.answers.Answer.TheVariants.{Opened, Staged, Status, Pinned, Lines, Cancelled, Reclaimed, Refused}
+use Rattle.gs_event.specs.declared.answers.Answer.TheVariants.{Status, Cancelled, Reclaimed}
 use Rattle.gs_event.specs.Waste.{Lifetime, Shown}
 use Rattle.gs_event.specs.Phases.{Idle, Writing, Patching, Reading}
 use Rattle.gs_event.specs.Views.{SeatView}
-use Rattle.gs_event.specs.Steps.{Joins, Frees, WastesPatch, WastesDelete, WastesCancel, Wastes}
+use Rattle.gs_event.specs.Steps.{Joins, WastesPatch, WastesDelete, WastesCancel, Wastes}
 
 none_joined : (Has : Lifetime → Type 0) (old new : List Lifetime) → old ≡ [] → new ≡ [] → Joins Has old new
 none_joined Has old new before after = record {

@@ -1,16 +1,12 @@
 -- What a write makes of the rows and the counts.
-use Rattle.std.proofs.Common.{◌≡◌, ℕ, zero, suc, ◌+◌, ◌-◌, ◌<◌, ◌≤◌, Bool, true, false, cond, ◌&&◌, nat_le, nat_lt, List, [], ◌∷◌, ◌++◌, length, Option, Some, refl, sym, ap, ◌∙◌, subst, arith, length-append}
+use Rattle.std.proofs.Common.{◌≡◌, ℕ, zero, suc, ◌<◌, Bool, true, false, cond, List, [], ◌∷◌, ◌++◌, length, Option, Some, refl, sym, ap, ◌∙◌, subst, arith, length-append}
 use Rattle.std.specs.List.{slice_get, slice_set, fold}
-use Rattle.std.proofs.lemmas.Bool.Decides.{nat_tests}
 use Rattle.std.proofs.lemmas.List.Sums.{fold-append}
 use Rattle.gs_model.specs.Graphs.{Graph}
 use Rattle.gs_term.specs.declared.names.Target.{Target}
-use Rattle.gs_term.specs.declared.names.Target.TheVariants.{Default, Named}
-use Rattle.gs_event.specs.declared.limits.Limits.{Limits}
-use Rattle.gs_event.specs.Datasets.{Dataset, empty_dataset, with_graph, without_graph, graph_at, is_there, is_within, names_in, Setting, stored_status, is_success}
-use Rattle.gs_event.proofs.DatasetLemmas.{names_in-with_graph, names_in-without_name, names_in-some}
+use Rattle.gs_event.specs.Datasets.{Dataset, empty_dataset, with_graph, without_graph, graph_at, is_there, is_within, Setting, stored_status, is_success}
 use Rattle.gs_plain.specs.declared.books.Row.{Row}
-use Rattle.gs_plain.specs.Books.{after_row, dataset_of, lines_of_row, is_default, KeepsRows}
+use Rattle.gs_plain.specs.Books.{after_row, dataset_of, lines_of_row, KeepsRows}
 use Rattle.gs_plain.specs.Versions.{ended_row}
 use Rattle.gs_plain.specs.Newest.{target_eq, AreOthers, IsLast}
 use Rattle.gs_plain.proofs.RowLemmas.{graph_at-without_graph, graph_at-after_row, at_row, same_dataset, target_eq-true}

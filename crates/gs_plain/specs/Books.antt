@@ -7,11 +7,12 @@ use Rattle.gs_model.specs.Limits.{last_node}
 use Rattle.gs_term.specs.declared.names.Target.{Target}
 use Rattle.gs_term.specs.declared.names.Target.TheVariants.{Default, Named}
 use Rattle.gs_event.specs.declared.verdicts.Holdings.{Holdings}
+use Rattle.gs_event.specs.declared.verdicts.Change.{Change}
 use Rattle.gs_event.specs.declared.verdicts.Verdict.{Verdict}
 use Rattle.gs_event.specs.Datasets.{Dataset, Setting, empty_dataset, graph_at, new_name, with_graph, without_graph, lines_at, triples_in, names_in}
 use Rattle.gs_event.specs.Phases as phase
 use Rattle.gs_event.specs.Views.{Totals, SeatView}
-use Rattle.gs_event.specs.Verdicts.{DecidesStore, DecidesChange, holdings_of}
+use Rattle.gs_event.specs.Verdicts.{DecidesStore, DecidesChange, holdings_of, place_in, verdict_of}
 use Rattle.gs_plain.specs.declared.books.Row.{Row}
 use Rattle.gs_plain.specs.declared.books.Books.{Books}
 use Rattle.gs_plain.specs.declared.books.Seat.{Seat}
@@ -71,6 +72,10 @@ name_for b request = new_name (string_bytes b.base) (dataset_of b.rows.items) re
 abbrev pub held_by : Books → Holdings
 held_by b = holdings_of (books_setting b) (dataset_of b.rows.items) b.commit
 
+-- what becomes of a write that changes its target so
+abbrev pub verdict_by : Books → Target → Change → Verdict
+verdict_by b t x = verdict_of (held_by b) (place_in (dataset_of b.rows.items) t) x
+
 -- this becomes of a write that makes g the target's graph, and may create it
 abbrev pub DecidesBy : Books → Target → Graph → Verdict → Type 0
 DecidesBy b t g verdict = DecidesStore (books_setting b) (dataset_of b.rows.items) b.commit t g verdict
@@ -115,6 +120,10 @@ is_default (Named n) = false
 -- the most nodes: their numbers begin at 0
 abbrev pub most_nodes : ℕ
 most_nodes = last_node + 1
+
+-- a node's number is left for each triple, with g in the place of the target's graph
+abbrev pub HasNodesFor : Books → Target → Graph → Type 0
+HasNodesFor b t g = b.triples + b.staged + size_of g ≤ size_now b t + most_nodes
 
 -- the counts are right and leave a node's number for each triple, and the base is one
 pub record IsCounted (b : Books) : Type 0 where

@@ -1,12 +1,11 @@
 //! Patches: the opening of one, and its commit.
-ghost use Rattle.std.specs.Prelude.{◌≡◌, ◌<◌, ◌≤◌, ◌+◌, IsTrue, IfOk, true, vec_len, vec_capacity};
-ghost use Rattle.gs_model.specs.Graphs.{size_of};
+ghost use Rattle.std.specs.Prelude.{◌≡◌, ◌<◌, IsTrue, IfOk, true, vec_len, vec_capacity};
 ghost use Rattle.gs_event.specs.Datasets.{is_there as is_there_of};
 ghost use Rattle.gs_event.specs.Updates.{patched as patched_of};
 ghost use Rattle.gs_event.specs.declared.events.Action.TheVariants.{OpenPatch, CommitPatch};
 ghost use Rattle.gs_plain.specs.declared.books.Seat.TheVariants.{Patching};
-ghost use Rattle.gs_plain.specs.Books.{dataset_of, graph_now, size_now, will_commit, most_nodes, IsCounted};
-ghost use Rattle.gs_plain.specs.Actions.{IsReady, Acts, KeepsRoom, HoldsRoom};
+ghost use Rattle.gs_plain.specs.Books.{dataset_of, graph_now, will_commit, HasNodesFor, IsCounted};
+ghost use Rattle.gs_plain.specs.Actions.{IsReady, Acts, CommitsPatch, KeepsRoom, HoldsRoom};
 
 use crate::actions::MAX_NODES;
 use crate::books::{self, Books, Seat};
@@ -72,7 +71,7 @@ fn commit_at(
     requires ready { IsReady books.old (Patching target request) }
     requires room { vec_len books.old.rows < vec_capacity books.old.rows }
     requires idle { seat.old ≡ Seat.Idle }
-    ensures acts { Acts books.old books.new (Patching target request) seat.new (CommitPatch operations.now) result }
+    ensures acts { CommitsPatch books.old books.new target request seat.new operations.now result }
     ensures room { HoldsRoom books.old books.new (Patching target request) seat.new }
 {
     if !books::is_there(books.rows.as_slice(), &target) {
@@ -107,7 +106,7 @@ fn patched(
     requires counted { IsCounted books.now }
     requires there { is_there_of (dataset_of books.now.rows.items) target.now ≡ true }
     ensures value { IfOk result (λ g. g ≡ patched_of (graph_now books.now target.now) operations.now) }
-    ensures few { IfOk result (λ g. books.now.triples + books.now.staged + size_of g ≤ size_now books.now target.now + most_nodes) }
+    ensures few { IfOk result (λ g. HasNodesFor books.now target.now g) }
 {
     let rows = books.rows.as_slice();
     let before = books::size_at(rows, target);

@@ -4,7 +4,7 @@ use Rattle.gs_plain.specs.declared.stores.PlainStore.TheInside.{Inside}
 use Rattle.gs_plain.specs.Actions.{KeepsRoom}
 use Rattle.gs_event.specs.Waste.{Shown}
 use Rattle.gs_plain.proofs.KeptLemmas.{kept_after, fits_after, next_after}
-use Rattle.gs_plain.proofs.PinLemmas.{pins_after, pins_kept}
+use Rattle.gs_plain.proofs.PinLemmas.{pins_after}
 use Rattle.gs_plain.proofs.stores.PlainStore.act.Goals as goal
 
 pub invariant_of-self : goal.invariant_of-self

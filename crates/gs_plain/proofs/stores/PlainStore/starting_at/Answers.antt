@@ -1,4 +1,4 @@
-use Rattle.std.proofs.Common.{refl, ap, ◌∙◌, [], arith}
+use Rattle.std.proofs.Common.{refl, ap, ◌∙◌, []}
 use Rattle.gs_event.specs.Histories.{view_of}
 use Rattle.gs_plain.specs.declared.stores.PlainStore.TheInside.{Inside}
 use Rattle.gs_plain.proofs.KeptLemmas.{fresh_view, fresh_kept}
