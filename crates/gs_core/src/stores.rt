@@ -150,7 +150,7 @@ impl EventStore for Store {
 #[cfg(test)]
 mod tests {
     use super::*;
-    use gs_event::{Action, UploadKind};
+    use gs_event::{Action, Op, UploadKind};
     use gs_term::{GraphName, Target, TermText, Triple};
     use std::process::Abort;
     use std::test::Fail;
@@ -246,5 +246,37 @@ mod tests {
         let _ = store.step(&Event::Seat(0, Action::Delete(named(alloc, "http://e/g")?)));
         let then = UploadKind::Put(named(alloc, "http://e/h")?);
         expect(&rt, alloc, &mut store, then, &["2"], (201, 2))
+    }
+
+    /// The status of a patch of the target that adds these triples, and 0 where the seat is not idle
+    /// before it.
+    fn patched(
+        alloc: Global,
+        store: &mut Store,
+        target: Target,
+        objects: &[&str],
+    ) -> Result<u16, Refusal> {
+        let mut operations = Vec::new(alloc);
+        operations.push(Op::Insert(triples(alloc, objects)?))?;
+        let _ = store.step(&Event::Seat(0, Action::OpenPatch(target)));
+        match store.step(&Event::Seat(0, Action::CommitPatch(operations))) {
+            Answer::Status(status, _) => Ok(status),
+            _ => Ok(0),
+        }
+    }
+
+    #[test]
+    fn a_patch_over_the_limits_ends_and_changes_nothing(rt: HostRuntime) -> Result<(), Fail> {
+        let alloc = rt.alloc();
+        let mut store = small(alloc)?;
+        let put = UploadKind::Put(Target::Default);
+        expect(&rt, alloc, &mut store, put, &SIX, (204, 6))?;
+        assert_eq!(rt; patched(alloc, &mut store, Target::Default, &["7"])?, 507);
+        assert_eq!(rt; store.triples_now(), 6);
+        assert_eq!(rt; patched(alloc, &mut store, Target::Default, &["6"])?, 204);
+        let missing = named(alloc, "http://e/g")?;
+        assert_eq!(rt; patched(alloc, &mut store, missing, &["6"])?, 404);
+        assert_eq!(rt; store.triples_now(), 6);
+        Ok(())
     }
 }

@@ -9,13 +9,13 @@ use Rattle.gs_term.specs.declared.names.Target.{Target}
 use Rattle.gs_model.specs.declared.refusals.Refusal.{Refusal}
 use Rattle.gs_model.specs.declared.refusals.Refusal.TheVariants.{BadSeat}
 use Rattle.gs_event.specs.declared.events.Action.{Action}
-use Rattle.gs_event.specs.declared.events.Action.TheVariants.{Open, Stage, Commit, Delete, Head, Pin, Piece, Cancel}
+use Rattle.gs_event.specs.declared.events.Action.TheVariants.{Open, OpenPatch, Stage, Commit, CommitPatch, Delete, Head, Pin, Piece, Cancel}
 use Rattle.gs_event.specs.declared.events.Event.{Event}
 use Rattle.gs_event.specs.declared.events.Event.TheVariants.{Seat as At, Reclaim}
 use Rattle.gs_event.specs.declared.answers.Answer.{Answer}
 use Rattle.gs_event.specs.declared.answers.Answer.TheVariants.{Opened, Staged, Status, Pinned, Lines, Cancelled, Reclaimed, Refused}
 use Rattle.gs_event.specs.Datasets.{Setting, Operation, lines_at, after_all}
-use Rattle.gs_event.specs.Phases.{Phase, Idle, Writing, Reading, phase_after, operation_of}
+use Rattle.gs_event.specs.Phases.{Phase, Idle, Writing, Patching, Reading, phase_after, operation_of}
 use Rattle.gs_event.specs.Views.{SeatView, Fits, FitsSeat, is_opened, is_written, after_asked, next_view, next_at, next_if}
 use Rattle.gs_event.specs.Histories.{History, OpenRead, phase_of, phase_by, points_of, dataset_after, lines_left, seat_view, Start, view_of}
 
@@ -28,6 +28,7 @@ same_operation w Idle (Delete t) (Status s name) = refl
 same_operation w Idle (Head t) (Status s name) = refl
 same_operation w Idle (Pin t) (Pinned s) = refl
 same_operation w (Writing t r g) Commit (Status s name) = refl
+same_operation w (Patching t r) (CommitPatch ops) (Status s name) = refl
 same_operation w p action a = refl
 
 pinned_view : (w : Setting) (b : Bool) (h : History) (t : Target) → seat_view w (cond b (Reading (record { target = t; before = h; told = 0 })) Idle) ≡ cond b (Reading (lines_at (dataset_after w h) t)) Idle
@@ -41,10 +42,13 @@ told_view w false r n = ap Reading (sym (drop-drop n r.told _))
 -- the table of phases says the same of a history and of what is seen
 pub same_phase : (w : Setting) (h : History) (p : Phase OpenRead) (action : Action) (a : Answer) → seat_view w (later h p action a) ≡ phase_after (lines_at (dataset_after w h)) (λ left n. drop n left) (seat_view w p) action a
 same_phase w h Idle (Open k) (Opened r) = refl
+same_phase w h Idle (OpenPatch t) (Opened r) = refl
 same_phase w h Idle (Pin t) (Pinned s) = pinned_view w (nat_eq s 200) h t
 same_phase w h (Writing t r g) (Stage ts) Staged = refl
 same_phase w h (Writing t r g) Commit (Status s name) = refl
 same_phase w h (Writing t r g) Cancel Cancelled = refl
+same_phase w h (Patching t r) (CommitPatch ops) (Status s name) = refl
+same_phase w h (Patching t r) Cancel Cancelled = refl
 same_phase w h (Reading x) (Piece n) (Lines b end) = told_view w end x n
 same_phase w h (Reading x) Cancel Cancelled = refl
 same_phase w h p action a = refl
@@ -94,10 +98,13 @@ own_seat w h s action a =
 
 pub refused_phase : {R : Type 0} (f : Target → R) (g : R → ℕ → R) (p : Phase R) (action : Action) (r : Refusal) → phase_after f g p action (Refused r) ≡ p
 refused_phase f g Idle (Open k) r = refl
+refused_phase f g Idle (OpenPatch t) r = refl
 refused_phase f g Idle (Pin t) r = refl
 refused_phase f g (Writing t n x) (Stage ts) r = refl
 refused_phase f g (Writing t n x) Commit r = refl
 refused_phase f g (Writing t n x) Cancel r = refl
+refused_phase f g (Patching t n) (CommitPatch ops) r = refl
+refused_phase f g (Patching t n) Cancel r = refl
 refused_phase f g (Reading x) (Piece n) r = refl
 refused_phase f g (Reading x) Cancel r = refl
 refused_phase f g p action r = refl
@@ -107,6 +114,7 @@ refused_operation Idle (Delete t) r = refl
 refused_operation Idle (Head t) r = refl
 refused_operation Idle (Pin t) r = refl
 refused_operation (Writing t n x) Commit r = refl
+refused_operation (Patching t n) (CommitPatch ops) r = refl
 refused_operation p action r = refl
 
 counted : (test : Answer → Bool) (n : ℕ) (h : History) (e : Event) (a : Answer) → n + count_by (λ x. test x.1) ((e, a) ∷ h) ≡ n + count_by (λ x. test x.1) h + cond (test a) 1 0

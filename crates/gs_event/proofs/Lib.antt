@@ -4,3 +4,4 @@ pub mod NameLemmas
 pub mod PinLemmas
 pub mod RunLemmas
 pub mod VerdictLemmas
+pub mod SolutionLemmas

@@ -7,12 +7,13 @@ use Rattle.gs_term.specs.declared.names.Target.{Target}
 use Rattle.gs_model.specs.declared.refusals.Refusal.{Refusal}
 use Rattle.gs_model.specs.declared.refusals.Refusal.TheVariants.{BadSeat}
 use Rattle.gs_event.specs.declared.events.Action.{Action}
-use Rattle.gs_event.specs.declared.events.Action.TheVariants.{Open, Stage, Commit, Pin, Piece, Cancel}
+use Rattle.gs_event.specs.declared.events.Action.TheVariants.{Open, OpenPatch, Stage, Commit, CommitPatch, Pin, Piece, Cancel}
+use Rattle.gs_event.specs.declared.events.Event.{Event}
 use Rattle.gs_event.specs.declared.events.Event.TheVariants.{Seat as At, Reclaim}
 use Rattle.gs_event.specs.declared.answers.Answer.{Answer}
 use Rattle.gs_event.specs.declared.answers.Answer.TheVariants.{Opened, Staged, Status, Pinned, Lines, Cancelled, Refused}
 use Rattle.gs_event.specs.Datasets.{Setting}
-use Rattle.gs_event.specs.Phases.{Phase, Idle, Writing, Reading}
+use Rattle.gs_event.specs.Phases.{Phase, Idle, Writing, Patching, Reading}
 use Rattle.gs_event.specs.Views.{View, Totals, SeatView, Fits, FitsSeat}
 use Rattle.gs_event.specs.Waste.{Shown}
 use Rattle.gs_event.specs.Steps.{pin_after}
@@ -33,6 +34,7 @@ pin_ends start r n false = refl
 -- a seat's pin by its phase goes on as the table of pins says
 pin_next : (start : Start) (h : History) (v : Totals) (w : Setting) (p : Phase OpenRead) (action : Action) (a : Answer) → FitsSeat v (seat_view w p) action a → pin_of start (later h p action a) ≡ pin_after (commit_after start h) (pin_of start p) action a
 pin_next start h v w Idle (Open k) (Opened r) fits = refl
+pin_next start h v w Idle (OpenPatch t) (Opened r) fits = refl
 pin_next start h v w Idle (Pin t) (Pinned s) fits = pin_begins start h t (nat_eq s 200)
 pin_next start h v w Idle (Piece n) (Lines b end) fits = absurd fits
 pin_next start h v w Idle Cancel Cancelled fits = refl
@@ -41,6 +43,10 @@ pin_next start h v w (Writing k r g) Commit (Status s name) fits = refl
 pin_next start h v w (Writing k r g) Cancel Cancelled fits = refl
 pin_next start h v w (Writing k r g) (Pin t) (Pinned s) fits = absurd fits
 pin_next start h v w (Writing k r g) (Piece n) (Lines b end) fits = absurd fits
+pin_next start h v w (Patching t r) (CommitPatch ops) (Status s name) fits = refl
+pin_next start h v w (Patching t r) Cancel Cancelled fits = refl
+pin_next start h v w (Patching t r) (Pin u) (Pinned s) fits = absurd fits
+pin_next start h v w (Patching t r) (Piece n) (Lines b end) fits = absurd fits
 pin_next start h v w (Reading x) (Pin t) (Pinned s) fits = absurd fits
 pin_next start h v w (Reading x) (Piece n) (Lines b end) fits = pin_ends start x n end
 pin_next start h v w (Reading x) Cancel Cancelled fits = refl

@@ -8,8 +8,9 @@ use Rattle.gs_term.specs.declared.names.Target.TheVariants.{Default, Named}
 use Rattle.gs_event.specs.declared.verdicts.Change.TheVariants.{Stores, Removes}
 use Rattle.gs_event.specs.declared.verdicts.Verdict.{Verdict}
 use Rattle.gs_event.specs.declared.verdicts.Verdict.TheVariants.{Missing, Full, LastNumber, Granted}
-use Rattle.gs_event.specs.Datasets.{Dataset, Setting, Operation, Puts, Posts, Creates, Deletes, Looks, Reads, graph_at, is_there, lines_at, with_graph, without_graph, triples_in, names_in, is_within, united, new_name, stored, stored_status, after, status_of, is_success}
-use Rattle.gs_event.specs.Verdicts.{verdict_of, granted_of, stored_of, holdings_of, place_in, is_named, Decides, IsDecided, DecidesStore, DecidesRemoval}
+use Rattle.gs_event.specs.Updates.{patched}
+use Rattle.gs_event.specs.Datasets.{Dataset, Setting, Operation, Puts, Posts, Creates, Patches, Deletes, Looks, Reads, graph_at, is_there, lines_at, with_graph, without_graph, triples_in, names_in, is_within, united, new_name, stored, stored_status, after, status_of, is_success}
+use Rattle.gs_event.specs.Verdicts.{verdict_of, granted_of, stored_of, holdings_of, place_in, operation_target, change_of, is_named, Decides, IsDecided, DecidesStore, DecidesChange, DecidesRemoval}
 use Rattle.gs_event.proofs.DatasetLemmas.{triples_in-with_graph, triples_in-without_graph, names_in-with_graph, names_in-without_name}
 
 below : (a b : ℕ) → nat_lt a b ≡ true → a < b
@@ -51,6 +52,21 @@ store_may w m c t g =
       | false ↦ store_decided w m c t g
     ]
 
+with_graph_there : (w : Setting) (m : Dataset) (c : ℕ) (t : Target) (g : Graph) (v : Verdict) → is_there m t ≡ true → DecidesStore w m c t g v → DecidesChange w m c t g v
+with_graph_there w m c t g Missing there h = absurd h
+with_graph_there w m c t g Full there h = (there, h)
+with_graph_there w m c t g LastNumber there h = (there, h)
+with_graph_there w m c t g (Granted s n k) there h = (there, h)
+
+must_by : (w : Setting) (m : Dataset) (c : ℕ) (t : Target) (g : Graph) (b : Bool) → is_there m t ≡ b
+    → DecidesChange w m c t g (cond (b || false) (stored_of (holdings_of w m c) (place_in m t) (size_of g)) Missing)
+must_by w m c t g true there = with_graph_there w m c t g (stored_of (holdings_of w m c) (place_in m t) (size_of g)) there (store_decided w m c t g)
+must_by w m c t g false there = there
+
+-- it may not create
+pub store_must : (w : Setting) (m : Dataset) (c : ℕ) (t : Target) (g : Graph) → DecidesChange w m c t g (verdict_of (holdings_of w m c) (place_in m t) (Stores (size_of g) false))
+store_must w m c t g = must_by w m c t g (is_there m t) refl
+
 made_well : (b : Bool) → is_success (cond b 204 201) ≡ true
 made_well true = refl
 made_well false = refl
@@ -64,6 +80,19 @@ stores_so w m c t g q (Granted s n k) status next h =
     let now : status_of w m q ≡ s = status ∙ ap (λ b. cond b (cond (is_there m t) 204 201) 507) h.0 ∙ sym h.1 in
     let dataset : after w m q ≡ with_graph m t g = next ∙ ap (λ b. cond b (with_graph m t g) m) h.0 in
     (now, ap is_success h.1 ∙ made_well (is_there m t), h.2, h.3 ∙ sym (ap triples_in dataset), h.4 ∙ sym (ap names_in dataset))
+
+there_so : (w : Setting) (m : Dataset) (c : ℕ) (t : Target) (g : Graph) (q : Operation) (v : Verdict) → status_of w m q ≡ cond (is_there m t) (stored_status w m t g) 404
+    → after w m q ≡ cond (is_there m t) (stored w m t g) m → is_there m t ≡ true → DecidesStore w m c t g v → Decides w m c q v
+there_so w m c t g q v status next there h =
+    stores_so w m c t g q v (status ∙ ap (λ b. cond b (stored_status w m t g) 404) there) (next ∙ ap (λ b. cond b (stored w m t g) m) there) h
+
+-- and of an operation which stores g where there is a graph, and else is 404
+changes_so : (w : Setting) (m : Dataset) (c : ℕ) (t : Target) (g : Graph) (q : Operation) (v : Verdict) → status_of w m q ≡ cond (is_there m t) (stored_status w m t g) 404
+    → after w m q ≡ cond (is_there m t) (stored w m t g) m → DecidesChange w m c t g v → Decides w m c q v
+changes_so w m c t g q Missing status next h = status ∙ ap (λ b. cond b (stored_status w m t g) 404) h
+changes_so w m c t g q Full status next h = there_so w m c t g q Full status next h.0 h.1
+changes_so w m c t g q LastNumber status next h = there_so w m c t g q LastNumber status next h.0 h.1
+changes_so w m c t g q (Granted s n k) status next h = there_so w m c t g q (Granted s n k) status next h.0 h.1
 
 names_gone : (m : Dataset) (t : Target) → is_there m t ≡ true → names_in m - cond (is_named t) 1 0 ≡ names_in (without_graph m t)
 names_gone m Default there = omega arith
@@ -93,6 +122,7 @@ pub decided : (w : Setting) (m : Dataset) (c : ℕ) (q : Operation) → IsDecide
 decided w m c (Puts t g) = stores_so w m c t g (Puts t g) _ refl refl (store_may w m c t g)
 decided w m c (Posts t g) = stores_so w m c t (united (graph_at m t) g) (Posts t g) _ refl refl (store_may w m c t (united (graph_at m t) g))
 decided w m c (Creates r g) = stores_so w m c (Named (new_name w.base m r)) g (Creates r g) _ refl refl (store_may w m c (Named (new_name w.base m r)) g)
+decided w m c (Patches t ops) = changes_so w m c t (patched (graph_at m t) ops) (Patches t ops) _ refl refl (store_must w m c t (patched (graph_at m t) ops))
 decided w m c (Deletes t) = removal_so w m c t _ (removal_decided w m c t)
 decided w m c (Looks t) = tt
 decided w m c (Reads t) = tt

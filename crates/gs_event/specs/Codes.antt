@@ -10,7 +10,7 @@ use Rattle.gs_term.specs.declared.names.Target.TheVariants.{Default, Named}
 use Rattle.gs_event.specs.declared.events.UploadKind.{UploadKind}
 use Rattle.gs_event.specs.declared.events.UploadKind.TheVariants.{Put, Post, New}
 use Rattle.gs_event.specs.Datasets.{name_cmp, Setting}
-use Rattle.gs_event.specs.Phases.{Idle, Writing, Reading}
+use Rattle.gs_event.specs.Phases.{Idle, Writing, Patching, Reading}
 use Rattle.gs_event.specs.Views.{View, SeatView}
 use Rattle.gs_event.specs.Waste.{Lifetime, Shown}
 
@@ -63,31 +63,36 @@ setting_code =
     (λ p. record { base = p.0; limits = record { triples = p.1.0; names = p.1.1 } })
     (λ _. refl)
 
--- an upload's kind, request and graph, or the lines that are left of a read, or neither
+-- an upload's kind, request and graph, a patch's target and request, or the lines that are left of a read, or none of them
 abbrev pub SeatParts : Type 0
-SeatParts = Option ((UploadKind × (ℕ × Graph)) ⊎ List (List ℕ))
+SeatParts = Option ((UploadKind × (ℕ × Graph)) ⊎ ((Target × ℕ) ⊎ List (List ℕ)))
 
 -- the parts of a seat; an idle one has none
 abbrev pub seat_parts : SeatView → SeatParts
 seat_parts Idle = None
 seat_parts (Writing k r g) = Some (inl (k, (r, g)))
-seat_parts (Reading left) = Some (inr left)
+seat_parts (Patching t r) = Some (inr (inl (t, r)))
+seat_parts (Reading left) = Some (inr (inr left))
 
 -- the seat of these parts
 abbrev pub seat_from : SeatParts → SeatView
 seat_from None = Idle
 seat_from (Some (inl p)) = Writing p.0 p.1.0 p.1.1
-seat_from (Some (inr left)) = Reading left
+seat_from (Some (inr (inl p))) = Patching p.0 p.1
+seat_from (Some (inr (inr left))) = Reading left
 
 -- the seat made of a seat's parts is that seat
 abbrev pub seat_back : (s : SeatView) → seat_from (seat_parts s) ≡ s
 seat_back Idle = refl
 seat_back (Writing k r g) = refl
+seat_back (Patching t r) = refl
 seat_back (Reading left) = refl
 
 -- how a seat is stored: by its parts
 abbrev pub seat_code : Coded SeatView
-seat_code = code_by SeatParts (coded_option (coded⊎ (coded× kind_code (coded× coded_ℕ graph_code)) (coded_list text_code))) seat_parts seat_from seat_back
+seat_code =
+    code_by SeatParts (coded_option (coded⊎ (coded× kind_code (coded× coded_ℕ graph_code)) (coded⊎ (coded× target_code coded_ℕ) (coded_list text_code))))
+    seat_parts seat_from seat_back
 
 -- the setting, the default graph, the named graphs, the last request, the last commit, and the seats
 abbrev pub ViewParts : Type 0

@@ -9,6 +9,8 @@ use Rattle.std.specs.FinMap as map
 use Rattle.gs_model.specs.Terms.{numeral}
 use Rattle.gs_model.specs.Graphs.{Graph, empty_graph, with_triples, triples_of, lines_of, size_of}
 use Rattle.gs_event.specs.declared.limits.Limits.{Limits}
+use Rattle.gs_event.specs.declared.updates.Op.{Op}
+use Rattle.gs_event.specs.Updates.{patched}
 use Rattle.gs_term.specs.declared.names.Target.{Target}
 use Rattle.gs_term.specs.declared.names.Target.TheVariants.{Default, Named}
 
@@ -94,6 +96,7 @@ pub data Operation : Type 0 where
   Puts : (target : Target) (graph : Graph) → Operation
   Posts : (target : Target) (graph : Graph) → Operation
   Creates : (request : ℕ) (graph : Graph) → Operation
+  Patches : (target : Target) (operations : List Op) → Operation
   Deletes : (target : Target) → Operation
   Looks : (target : Target) → Operation
   Reads : (target : Target) → Operation
@@ -111,6 +114,7 @@ abbrev pub after : Setting → Dataset → Operation → Dataset
 after w m (Puts t g) = stored w m t g
 after w m (Posts t g) = stored w m t (united (graph_at m t) g)
 after w m (Creates r g) = stored w m (Named (new_name w.base m r)) g
+after w m (Patches t ops) = if is_there m t then stored w m t (patched (graph_at m t) ops) else m
 after w m (Deletes t) = if is_there m t then without_graph m t else m
 after w m (Looks t) = m
 after w m (Reads t) = m
@@ -120,6 +124,7 @@ abbrev pub status_of : Setting → Dataset → Operation → ℕ
 status_of w m (Puts t g) = stored_status w m t g
 status_of w m (Posts t g) = stored_status w m t (united (graph_at m t) g)
 status_of w m (Creates r g) = stored_status w m (Named (new_name w.base m r)) g
+status_of w m (Patches t ops) = if is_there m t then stored_status w m t (patched (graph_at m t) ops) else 404
 status_of w m (Deletes t) = if is_there m t then 204 else 404
 status_of w m (Looks t) = if is_there m t then 200 else 404
 status_of w m (Reads t) = if is_there m t then 200 else 404
@@ -138,6 +143,7 @@ abbrev pub wants_memory : Dataset → Operation → Bool
 wants_memory m (Puts t g) = not (is_there m t)
 wants_memory m (Posts t g) = true
 wants_memory m (Creates r g) = true
+wants_memory m (Patches t ops) = is_there m t
 wants_memory m (Deletes t) = false
 wants_memory m (Looks t) = false
 wants_memory m (Reads t) = false

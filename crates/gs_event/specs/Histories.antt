@@ -7,7 +7,7 @@ use Rattle.gs_event.specs.declared.events.Event.TheVariants.{Seat as At, Reclaim
 use Rattle.gs_event.specs.declared.answers.Answer.{Answer}
 use Rattle.gs_event.specs.declared.limits.Limits.{Limits}
 use Rattle.gs_event.specs.Datasets.{Dataset, Setting, Operation, lines_at, after_all}
-use Rattle.gs_event.specs.Phases.{Phase, Idle, Writing, Reading, phase_after, operation_of}
+use Rattle.gs_event.specs.Phases.{Phase, Idle, Writing, Patching, Reading, phase_after, operation_of}
 use Rattle.gs_event.specs.Views.{View, SeatView, Fits, is_opened, is_written}
 use Rattle.gs_event.specs.Waste.{Shown}
 
@@ -56,6 +56,7 @@ lines_left w r = drop r.told (lines_at (dataset_after w r.before) r.target)
 abbrev pub seat_view : Setting → Phase OpenRead → SeatView
 seat_view w Idle = Idle
 seat_view w (Writing k r g) = Writing k r g
+seat_view w (Patching t r) = Patching t r
 seat_view w (Reading r) = Reading (lines_left w r)
 
 -- where a store begins
@@ -90,6 +91,7 @@ view_of start h = record {
 abbrev pub pin_of : Start → Phase OpenRead → Option ℕ
 pin_of start Idle = None
 pin_of start (Writing k r g) = None
+pin_of start (Patching t r) = None
 pin_of start (Reading r) = Some (commit_after start r.before)
 
 -- the commit numbers at the pins of all reads, by seat

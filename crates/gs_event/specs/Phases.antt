@@ -5,26 +5,31 @@ use Rattle.gs_term.specs.declared.names.Target.{Target}
 use Rattle.gs_event.specs.declared.events.UploadKind.{UploadKind}
 use Rattle.gs_event.specs.declared.events.UploadKind.TheVariants.{Put, Post, New}
 use Rattle.gs_event.specs.declared.events.Action.{Action}
-use Rattle.gs_event.specs.declared.events.Action.TheVariants.{Open, Stage, Commit, Delete, Head, Pin, Piece, Cancel}
+use Rattle.gs_event.specs.declared.events.Action.TheVariants.{Open, OpenPatch, Stage, Commit, CommitPatch, Delete, Head, Pin, Piece, Cancel}
 use Rattle.gs_event.specs.declared.answers.Answer.{Answer}
 use Rattle.gs_event.specs.declared.answers.Answer.TheVariants.{Opened, Staged, Status, Pinned, Lines, Cancelled}
-use Rattle.gs_event.specs.Datasets.{Operation, Puts, Posts, Creates, Deletes, Looks, Reads}
+use Rattle.gs_event.specs.Datasets.{Operation, Puts, Posts, Creates, Patches, Deletes, Looks, Reads}
 
--- idle; writing, with the request's number and what was staged; reading, where R says what is left
+-- idle; writing, with the request's number and what was staged; patching, with the request's number; reading, where R
+-- says what is left
 pub data Phase (R : Type 0) : Type 0 where
   Idle : Phase R
   Writing : (kind : UploadKind) (request : ℕ) (graph : Graph) → Phase R
+  Patching : (target : Target) (request : ℕ) → Phase R
   Reading : (left : R) → Phase R
 
 -- whether the phase allows the action
 abbrev pub allows : {R : Type 0} → Phase R → Action → Bool
 allows Idle (Open k) = true
+allows Idle (OpenPatch t) = true
 allows Idle (Delete t) = true
 allows Idle (Head t) = true
 allows Idle (Pin t) = true
 allows (Writing k r g) (Stage ts) = true
 allows (Writing k r g) Commit = true
 allows (Writing k r g) Cancel = true
+allows (Patching t r) (CommitPatch ops) = true
+allows (Patching t r) Cancel = true
 allows (Reading left) (Piece n) = nat_lt 0 n
 allows (Reading left) Cancel = true
 allows p action = false
@@ -33,10 +38,13 @@ allows p action = false
 -- `told left n` what is left after n lines more
 abbrev pub phase_after : {R : Type 0} → (Target → R) → (R → ℕ → R) → Phase R → Action → Answer → Phase R
 phase_after pinned told Idle (Open k) (Opened r) = Writing k r empty_graph
+phase_after pinned told Idle (OpenPatch t) (Opened r) = Patching t r
 phase_after pinned told Idle (Pin t) (Pinned s) = cond (nat_eq s 200) (Reading (pinned t)) Idle
 phase_after pinned told (Writing k r g) (Stage ts) Staged = Writing k r (with_triples g ts.items)
 phase_after pinned told (Writing k r g) Commit (Status s name) = Idle
 phase_after pinned told (Writing k r g) Cancel Cancelled = Idle
+phase_after pinned told (Patching t r) (CommitPatch ops) (Status s name) = Idle
+phase_after pinned told (Patching t r) Cancel Cancelled = Idle
 phase_after pinned told (Reading left) (Piece n) (Lines b end) = cond end Idle (Reading (told left n))
 phase_after pinned told (Reading left) Cancel Cancelled = Idle
 phase_after pinned told p action a = p
@@ -53,4 +61,5 @@ operation_of Idle (Delete t) (Status s name) = Some (Deletes t)
 operation_of Idle (Head t) (Status s name) = Some (Looks t)
 operation_of Idle (Pin t) (Pinned s) = Some (Reads t)
 operation_of (Writing k r g) Commit (Status s name) = Some (write_of k r g)
+operation_of (Patching t r) (CommitPatch ops) (Status s name) = Some (Patches t ops.items)
 operation_of p action a = None

@@ -2,7 +2,7 @@
 use Rattle.std.specs.Prelude.{◌≡◌, ◌≢◌, ◌⊎◌, ◌↔◌, ℕ, ◌+◌, Bool, true, false, if◌then◌else◌, nat_eq, min, IsTrue, List, [], length, Option, Some, None}
 use Rattle.std.specs.List.{sum_by, slice_get, slice_index_or, slice_set, All}
 use Rattle.gs_event.specs.declared.events.Action.{Action}
-use Rattle.gs_event.specs.declared.events.Action.TheVariants.{Commit, Delete, Pin, Piece, Cancel}
+use Rattle.gs_event.specs.declared.events.Action.TheVariants.{Commit, CommitPatch, Delete, Pin, Piece, Cancel}
 use Rattle.gs_event.specs.declared.events.Event.{Event}
 use Rattle.gs_event.specs.declared.events.Event.TheVariants.{Seat as At, Reclaim}
 use Rattle.gs_event.specs.declared.answers.Answer.{Answer}
@@ -44,6 +44,12 @@ EndsAt commit l = l.death ≡ commit
 abbrev pub WastesCommit : ℕ → ℕ → List Lifetime → List Lifetime → Type 0
 WastesCommit last status old new = Joins (λ l. IsUnreached l ⊎ ((is_success status ≡ true) × EndsAt (last + 1) l)) old new
 
+-- What a patch makes of the waste: where it took effect, nodes that it took out join it, and nodes that only lived between
+-- its operations; and else none.
+abbrev pub WastesPatch : ℕ → Bool → List Lifetime → List Lifetime → Type 0
+WastesPatch last true old new = Joins (λ l. IsUnreached l ⊎ EndsAt (last + 1) l) old new
+WastesPatch last false old new = new ≡ old
+
 -- What a Delete makes of the waste: nodes that it took out join it, where there was a graph, and else none.
 abbrev pub WastesDelete : ℕ → Bool → List Lifetime → List Lifetime → Type 0
 WastesDelete last true old new = Joins (EndsAt (last + 1)) old new
@@ -68,6 +74,7 @@ pub record Frees (pins : List (Option ℕ)) (n freed : ℕ) (left : Bool) (old n
 abbrev pub Wastes : Shown → Event → Answer → List Lifetime → Type 0
 Wastes old (Reclaim n) (Reclaimed freed left) new = Frees old.pinned n freed left old.waste new
 Wastes old (At s Commit) (Status status name) new = WastesCommit old.view.totals.commit status old.waste new
+Wastes old (At s (CommitPatch ops)) (Status status name) new = WastesPatch old.view.totals.commit (is_success status) old.waste new
 Wastes old (At s (Delete t)) (Status status name) new = WastesDelete old.view.totals.commit (is_success status) old.waste new
 Wastes old (At s Cancel) Cancelled new = WastesCancel (slice_get old.view.seats s) old.waste new
 Wastes old (At s action) a new = new ≡ old.waste

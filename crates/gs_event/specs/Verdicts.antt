@@ -11,7 +11,8 @@ use Rattle.gs_event.specs.declared.verdicts.Change.{Change}
 use Rattle.gs_event.specs.declared.verdicts.Change.TheVariants.{Stores, Removes}
 use Rattle.gs_event.specs.declared.verdicts.Verdict.{Verdict}
 use Rattle.gs_event.specs.declared.verdicts.Verdict.TheVariants.{Missing, Full, LastNumber, Granted}
-use Rattle.gs_event.specs.Datasets.{Dataset, Setting, Operation, Puts, Posts, Creates, Deletes, Looks, Reads, graph_at, is_there, lines_at, with_graph, without_graph, triples_in, names_in, is_within, united, new_name, after, status_of, is_success}
+use Rattle.gs_event.specs.Updates.{patched}
+use Rattle.gs_event.specs.Datasets.{Dataset, Setting, Operation, Puts, Posts, Creates, Patches, Deletes, Looks, Reads, graph_at, is_there, lines_at, with_graph, without_graph, triples_in, names_in, is_within, united, new_name, after, status_of, is_success}
 
 -- a commit number is left for the write, or none is
 abbrev pub granted_of : ℕ → ℕ → ℕ → ℕ → Verdict
@@ -54,6 +55,7 @@ abbrev pub operation_target : Setting → Dataset → Operation → Target
 operation_target w m (Puts t g) = t
 operation_target w m (Posts t g) = t
 operation_target w m (Creates r g) = Named (new_name w.base m r)
+operation_target w m (Patches t ops) = t
 operation_target w m (Deletes t) = t
 operation_target w m (Looks t) = t
 operation_target w m (Reads t) = t
@@ -63,6 +65,7 @@ abbrev pub change_of : Dataset → Operation → Option Change
 change_of m (Puts t g) = Some (Stores (size_of g) true)
 change_of m (Posts t g) = Some (Stores (size_of (united (graph_at m t) g)) true)
 change_of m (Creates r g) = Some (Stores (size_of g) true)
+change_of m (Patches t ops) = Some (Stores (size_of (patched (graph_at m t) ops)) false)
 change_of m (Deletes t) = Some Removes
 change_of m (Looks t) = None
 change_of m (Reads t) = None
@@ -86,6 +89,11 @@ DecidesStore w m commit t g (Granted status triples names) =
     × (commit < last_number)
     × (triples ≡ triples_in (with_graph m t g))
     × (names ≡ names_in (with_graph m t g))
+
+-- the same of a write that makes g the target's graph, where it has one
+abbrev pub DecidesChange : Setting → Dataset → ℕ → Target → Graph → Verdict → Type 0
+DecidesChange w m commit t g Missing = is_there m t ≡ false
+DecidesChange w m commit t g v = (is_there m t ≡ true) × DecidesStore w m commit t g v
 
 -- the same of a write that takes the target's graph away
 abbrev pub DecidesRemoval : Dataset → ℕ → Target → Verdict → Type 0

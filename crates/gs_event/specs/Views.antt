@@ -4,13 +4,13 @@ use Rattle.std.specs.List.{slice_get, slice_set, concat}
 use Rattle.gs_model.specs.Limits.{last_number}
 use Rattle.gs_model.specs.declared.refusals.Refusal.TheVariants.{NoMemory, WrongPhase, BadSeat, LastNumber}
 use Rattle.gs_event.specs.declared.events.Action.{Action}
-use Rattle.gs_event.specs.declared.events.Action.TheVariants.{Open, Stage, Commit, Delete, Head, Pin, Piece, Cancel}
+use Rattle.gs_event.specs.declared.events.Action.TheVariants.{Open, OpenPatch, Stage, Commit, CommitPatch, Delete, Head, Pin, Piece, Cancel}
 use Rattle.gs_event.specs.declared.events.Event.{Event}
 use Rattle.gs_event.specs.declared.events.Event.TheVariants.{Seat as At, Reclaim}
 use Rattle.gs_event.specs.declared.answers.Answer.{Answer}
 use Rattle.gs_event.specs.declared.answers.Answer.TheVariants.{Opened, Staged, Status, Pinned, Lines, Cancelled, Reclaimed, Refused}
-use Rattle.gs_event.specs.Datasets.{Dataset, Setting, Operation, Deletes, Looks, Reads, lines_at, after, status_of, location_of, is_success, wants_memory}
-use Rattle.gs_event.specs.Phases.{Phase, Idle, Writing, Reading, allows, phase_after, write_of, operation_of}
+use Rattle.gs_event.specs.Datasets.{Dataset, Setting, Operation, Patches, Deletes, Looks, Reads, lines_at, after, status_of, location_of, is_success, wants_memory}
+use Rattle.gs_event.specs.Phases.{Phase, Idle, Writing, Patching, Reading, allows, phase_after, write_of, operation_of}
 
 -- a seat as it is seen: a read is the lines that are left of it
 abbrev pub SeatView : Type 0
@@ -41,6 +41,9 @@ abbrev pub FitsSeat : Totals → SeatView → Action → Answer → Type 0
 FitsSeat v Idle (Open k) (Opened r) = (v.request < last_number) × (r ≡ v.request + 1)
 FitsSeat v Idle (Open k) (Refused LastNumber) = last_number ≤ v.request
 FitsSeat v Idle (Open k) (Refused NoMemory) = v.request < last_number
+FitsSeat v Idle (OpenPatch t) (Opened r) = (v.request < last_number) × (r ≡ v.request + 1)
+FitsSeat v Idle (OpenPatch t) (Refused LastNumber) = last_number ≤ v.request
+FitsSeat v Idle (OpenPatch t) (Refused NoMemory) = v.request < last_number
 FitsSeat v Idle (Delete t) (Status s name) = FitsWrite v (Deletes t) (Status s name)
 FitsSeat v Idle (Delete t) (Refused LastNumber) = FitsWrite v (Deletes t) (Refused LastNumber)
 FitsSeat v Idle (Head t) (Status s name) = (s ≡ status_of v.setting v.dataset (Looks t)) × (name ≡ None)
@@ -51,6 +54,10 @@ FitsSeat v (Writing k r g) Commit (Status s name) = FitsWrite v (write_of k r g)
 FitsSeat v (Writing k r g) Commit (Refused LastNumber) = FitsWrite v (write_of k r g) (Refused LastNumber)
 FitsSeat v (Writing k r g) Commit (Refused NoMemory) = FitsWrite v (write_of k r g) (Refused NoMemory)
 FitsSeat v (Writing k r g) Cancel Cancelled = Unit {0}
+FitsSeat v (Patching t r) (CommitPatch ops) (Status s name) = FitsWrite v (Patches t ops.items) (Status s name)
+FitsSeat v (Patching t r) (CommitPatch ops) (Refused LastNumber) = FitsWrite v (Patches t ops.items) (Refused LastNumber)
+FitsSeat v (Patching t r) (CommitPatch ops) (Refused NoMemory) = FitsWrite v (Patches t ops.items) (Refused NoMemory)
+FitsSeat v (Patching t r) Cancel Cancelled = Unit {0}
 FitsSeat v (Reading left) (Piece n) (Lines b end) = (0 < n) × (b.items ≡ concat (take n left)) × (end ≡ nat_le (length left) n)
 FitsSeat v (Reading left) (Piece n) (Refused NoMemory) = 0 < n
 FitsSeat v (Reading left) Cancel Cancelled = Unit {0}
@@ -63,7 +70,7 @@ Fits v (Reclaim n) (Reclaimed freed left) = Unit {0}
 Fits v (Reclaim n) a = ⊥
 Fits v (At s action) a = MatchOption (slice_get v.seats s) (a ≡ Refused BadSeat) (λ p. FitsSeat v.totals p action a)
 
--- whether an upload was opened
+-- whether an upload or a patch was opened
 abbrev pub is_opened : Answer → Bool
 is_opened (Opened r) = true
 is_opened a = false

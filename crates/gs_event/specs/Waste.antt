@@ -3,7 +3,7 @@ use Rattle.std.specs.Prelude.{ℕ, ◌+◌, Bool, false, ◌&&◌, nat_le, nat_l
 use Rattle.std.specs.List.{sum_by, list_any}
 use Rattle.gs_model.specs.Graphs.{size_of}
 use Rattle.gs_event.specs.Datasets.{triples_in}
-use Rattle.gs_event.specs.Phases.{Phase, Idle, Writing, Reading}
+use Rattle.gs_event.specs.Phases.{Phase, Idle, Writing, Patching, Reading}
 use Rattle.gs_event.specs.Views.{View, SeatView}
 
 -- The lifetime of a node that no current graph and no open upload has: the versions v with birth ≤ v < death. No other
@@ -22,6 +22,7 @@ pub record Shown : Type 0 where
 abbrev pub staged_at : {R : Type 0} → Phase R → ℕ
 staged_at Idle = 0
 staged_at (Writing k r g) = size_of g
+staged_at (Patching t r) = 0
 staged_at (Reading left) = 0
 
 -- how many triples all open uploads have

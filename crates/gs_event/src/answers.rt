@@ -5,7 +5,7 @@ use gs_term::GraphName;
 /// What a store answers to an event.
 #[derive(Debug, Drop)]
 pub enum Answer {
-    /// The upload is open, under this request number.
+    /// The upload or the patch is open, under this request number.
     Opened(u64),
     /// The triples are in the seat's upload.
     Staged,
@@ -15,7 +15,7 @@ pub enum Answer {
     Pinned(u16),
     /// The next lines, and whether no line is left after them.
     Lines(Vec<u8>, bool),
-    /// The seat's upload or read is given up.
+    /// The seat's upload, patch or read is given up.
     Cancelled,
     /// How many nodes were freed, and whether any are left that no current graph and no open
     /// upload holds.

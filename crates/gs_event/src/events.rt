@@ -1,4 +1,5 @@
 //! What a store is asked.
+use crate::updates::Op;
 use gs_term::{Target, Triple};
 
 /// What an upload will do to its target when it is committed.
@@ -12,15 +13,20 @@ pub enum UploadKind {
     New,
 }
 
-/// What a seat does. A seat holds at most one upload or one read at a time.
+/// What a seat does. A seat holds at most one upload, patch or read at a time.
 #[derive(Debug, Drop)]
 pub enum Action {
     /// Opens an upload.
     Open(UploadKind),
+    /// Opens a patch of a graph.
+    OpenPatch(Target),
     /// Adds triples to the seat's upload.
     Stage(Vec<Triple>),
     /// Makes the seat's upload take effect, whole.
     Commit,
+    /// Makes these operations take effect on the graph of the seat's patch, whole, in their order
+    /// (section 5.7).
+    CommitPatch(Vec<Op>),
     /// Takes a named graph out, or empties the default graph (section 5.4).
     Delete(Target),
     /// Asks whether there is such a graph (section 5.6).
@@ -29,7 +35,7 @@ pub enum Action {
     Pin(Target),
     /// Takes the next lines of the seat's read: so many, at least one, or as many as are left.
     Piece(u32),
-    /// Gives up the seat's upload or read.
+    /// Gives up the seat's upload, patch or read.
     Cancel,
 }
 

@@ -1,5 +1,9 @@
 //! Laws of histories, proved: the body is empty, and the contract is the law.
-ghost use Rattle.std.specs.Prelude.{ℕ, List};
+ghost use Rattle.std.specs.Prelude.{◌≡◌, ◌↔◌, ℕ, true, List};
+ghost use Rattle.gs_model.specs.Triples.{RdfTriple};
+ghost use Rattle.gs_model.specs.Graphs.{Graph};
+ghost use Rattle.gs_term.specs.declared.patterns.Pattern.{Pattern as APattern};
+ghost use Rattle.gs_event.specs.Solutions.{is_among, IsInstance, instances_of};
 ghost use Rattle.gs_event.specs.Datasets.{Dataset, Operation, Setting, new_name};
 ghost use Rattle.gs_event.specs.Verdicts.{IsDecided};
 ghost use Rattle.gs_event.specs.Names.{IsLeastFree};
@@ -32,4 +36,10 @@ pub fn new_name_is_free()
 /// says of it: its status, and the counts after it.
 pub fn verdict_is_the_stores()
     ensures { (w : Setting) (m : Dataset) (commit : ℕ) (q : Operation) → IsDecided w m commit q }
+{}
+
+/// The instances that are found of some patterns in a graph are those under their solutions, and no
+/// others.
+pub fn instances_are_found()
+    ensures { (g : Graph) (patterns : List APattern) (t : RdfTriple) → (is_among (instances_of g patterns) t ≡ true) ↔ IsInstance g patterns t }
 {}

@@ -5,12 +5,15 @@ mod answers;
 mod events;
 mod laws;
 mod limits;
+mod updates;
 mod verdicts;
 
 pub use answers::Answer;
 pub use events::{Action, Event, UploadKind};
 pub use laws::{
-    new_name_is_free, pinned_goes_on, steps_are_legal, verdict_is_the_stores, view_goes_on,
+    instances_are_found, new_name_is_free, pinned_goes_on, steps_are_legal, verdict_is_the_stores,
+    view_goes_on,
 };
 pub use limits::Limits;
+pub use updates::Op;
 pub use verdicts::{Change, Holdings, Place, Verdict, verdict_on};

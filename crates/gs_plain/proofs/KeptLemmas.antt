@@ -22,9 +22,9 @@ use Rattle.gs_event.specs.Views.{View, SeatView, FitsSeat, next_phase, next_at, 
 use Rattle.gs_plain.specs.declared.books.Row.{Row}
 use Rattle.gs_plain.specs.declared.books.Books.{Books}
 use Rattle.gs_plain.specs.declared.books.Seat.{Seat}
-use Rattle.gs_plain.specs.declared.books.Seat.TheVariants.{Idle, Writing, Reading}
+use Rattle.gs_plain.specs.declared.books.Seat.TheVariants.{Idle, Writing, Patching, Reading}
 use Rattle.gs_plain.specs.declared.stores.PlainStore.TheInside.{Inside}
-use Rattle.gs_plain.specs.Books.{staged_by, dataset_of, totals_of, seat_shown, is_writing, IsKnown, KeepsRows}
+use Rattle.gs_plain.specs.Books.{staged_by, dataset_of, totals_of, seat_shown, will_commit, IsKnown, KeepsRows}
 use Rattle.gs_plain.specs.Actions.{Acts, HasRoom, KeepsRoom}
 use Rattle.gs_plain.specs.Kept.{shown_of, IsKept}
 
@@ -36,12 +36,14 @@ view_of_fields a = (shown_of a).view
 same_shown : (old new : List Row) (s : Seat) → KeepsRows old new → IsKnown old s → seat_shown new s ≡ seat_shown old s
 same_shown old new Idle keeps h = refl
 same_shown old new (Writing k r g) keeps h = refl
+same_shown old new (Patching t r) keeps h = refl
 same_shown old new (Reading None given pin) keeps h = refl
 same_shown old new (Reading (Some i) given pin) keeps h = ap (λ lines. phase.Reading (drop given lines)) (keeps.same i h)
 
 still_known : (old new : List Row) (s : Seat) → KeepsRows old new → IsKnown old s → IsKnown new s
 still_known old new Idle keeps h = h
 still_known old new (Writing k r g) keeps h = h
+still_known old new (Patching t r) keeps h = h
 still_known old new (Reading None given pin) keeps h = h
 still_known old new (Reading (Some i) given pin) keeps h = omega (arith, keeps.grows)
 
@@ -52,13 +54,13 @@ all_same_shown old new (s ∷ seats) keeps h =
     let rest = all_same_shown old new seats keeps h.1 in
     λ i. here i ∷ rest i
 
-others_few : (seats : List Seat) (i : ℕ) → i < length seats → count_by is_writing (slice_set seats i Idle) < length seats
+others_few : (seats : List Seat) (i : ℕ) → i < length seats → count_by will_commit (slice_set seats i Idle) < length seats
 others_few [] i h = absurd (omega arith)
-others_few (s ∷ seats) zero h = omega (arith, sum_by-cons (λ x. cond (is_writing x) 1 0) Idle seats, count_by-le-length is_writing seats)
+others_few (s ∷ seats) zero h = omega (arith, sum_by-cons (λ x. cond (will_commit x) 1 0) Idle seats, count_by-le-length will_commit seats)
 others_few (s ∷ seats) (suc i) h =
-    elim (is_writing s) as (λ b. is_writing s ≡ b → count_by is_writing (s ∷ slice_set seats i Idle) < suc (length seats)) [
-      | true ↦ λ e. rw (sum_by-cons (λ x. cond (is_writing x) 1 0) s (slice_set seats i Idle), e) (omega (arith, others_few seats i (omega arith)))
-      | false ↦ λ e. rw (sum_by-cons (λ x. cond (is_writing x) 1 0) s (slice_set seats i Idle), e) (omega (arith, others_few seats i (omega arith)))
+    elim (will_commit s) as (λ b. will_commit s ≡ b → count_by will_commit (s ∷ slice_set seats i Idle) < suc (length seats)) [
+      | true ↦ λ e. rw (sum_by-cons (λ x. cond (will_commit x) 1 0) s (slice_set seats i Idle), e) (omega (arith, others_few seats i (omega arith)))
+      | false ↦ λ e. rw (sum_by-cons (λ x. cond (will_commit x) 1 0) s (slice_set seats i Idle), e) (omega (arith, others_few seats i (omega arith)))
     ] refl
 
 had_room : (len others w wd count cap : ℕ) → others + wd ≡ count + 0 → w ≡ wd → len + count ≤ cap → len + (others + w) ≤ cap
@@ -76,16 +78,16 @@ kept_after a b i was now action answer within is seats acts room kept =
     let xs = a.seats.items in
     let old_rows = a.books.rows.items in
     let known : All (IsKnown b.books.rows.items) xs = λ k d lt. still_known old_rows b.books.rows.items (get_or xs k d) acts.rows (kept.known k d lt) in
-    let others = count_by is_writing (slice_set xs i Idle) in
-    let idle : others + cond (is_writing (get_or xs i was)) 1 0 ≡ count_by is_writing xs + 0 = sum_by-set (λ x. cond (is_writing x) 1 0) xs i Idle was within in
-    let after : count_by is_writing (slice_set xs i now) + cond (is_writing (get_or xs i was)) 1 0 ≡ count_by is_writing xs + cond (is_writing now) 1 0 = sum_by-set (λ x. cond (is_writing x) 1 0) xs i now was within in
-    let same : cond {A = ℕ} (is_writing was) 1 0 ≡ cond {A = ℕ} (is_writing (get_or xs i was)) 1 0 = ap (λ (s : Seat). cond {A = ℕ} (is_writing s) 1 0) is in
-    let before : HasRoom a.books others was = had_room (vec_len a.books.rows) others (cond {A = ℕ} (is_writing was) 1 0) (cond {A = ℕ} (is_writing (get_or xs i was)) 1 0) (count_by is_writing xs) (vec_capacity a.books.rows) idle same kept.room in
+    let others = count_by will_commit (slice_set xs i Idle) in
+    let idle : others + cond (will_commit (get_or xs i was)) 1 0 ≡ count_by will_commit xs + 0 = sum_by-set (λ x. cond (will_commit x) 1 0) xs i Idle was within in
+    let after : count_by will_commit (slice_set xs i now) + cond (will_commit (get_or xs i was)) 1 0 ≡ count_by will_commit xs + cond (will_commit now) 1 0 = sum_by-set (λ x. cond (will_commit x) 1 0) xs i now was within in
+    let same : cond {A = ℕ} (will_commit was) 1 0 ≡ cond {A = ℕ} (will_commit (get_or xs i was)) 1 0 = ap (λ (s : Seat). cond {A = ℕ} (will_commit s) 1 0) is in
+    let before : HasRoom a.books others was = had_room (vec_len a.books.rows) others (cond {A = ℕ} (will_commit was) 1 0) (cond {A = ℕ} (will_commit (get_or xs i was)) 1 0) (count_by will_commit xs) (vec_capacity a.books.rows) idle same kept.room in
     let later : HasRoom b.books others now = room.kept others (others_few xs i within) before in
     let total : sum_by staged_by (slice_set xs i now) + staged_by (get_or xs i was) ≡ sum_by staged_by xs + staged_by now = sum_by-set staged_by xs i now was within in
     record {
       known = rw seats (All-set (IsKnown b.books.rows.items) xs i now acts.known known);
-      room = rw seats (has_room (vec_len b.books.rows) others (cond {A = ℕ} (is_writing (get_or xs i was)) 1 0) (cond {A = ℕ} (is_writing now) 1 0) (count_by is_writing xs) (count_by is_writing (slice_set xs i now)) (vec_capacity b.books.rows) idle after later);
+      room = rw seats (has_room (vec_len b.books.rows) others (cond {A = ℕ} (will_commit (get_or xs i was)) 1 0) (cond {A = ℕ} (will_commit now) 1 0) (count_by will_commit xs) (count_by will_commit (slice_set xs i now)) (vec_capacity b.books.rows) idle after later);
       counted = acts.counted;
       staged = rw seats (moved a.books.staged b.books.staged (sum_by staged_by xs) (sum_by staged_by (slice_set xs i now)) (staged_by was) (staged_by now) (staged_by (get_or xs i was)) acts.staged kept.staged total (ap staged_by is));
     }
@@ -126,8 +128,8 @@ fresh_view a seats rows idle =
     let shown : map (seat_shown a.books.rows.items) a.seats.items ≡ map idle_view (range_with_len 0 seats) = rw (rows, idle) (idle_shown 0 seats) in
     λ i. record { totals = record { setting = record { base = string_bytes a.books.base; limits = a.books.limits }; dataset = dataset i; request = sym (add-zero a.books.request) i; commit = sym (add-zero a.books.commit) i }; seats = shown i }
 
-none_writing : (n : ℕ) → count_by is_writing (replicate n Idle) ≡ 0
-none_writing n = let e : count_by is_writing (replicate n Idle) ≡ n * 0 = sum_by-replicate (λ (s : Seat). cond (is_writing s) 1 0) n Idle in omega (arith, e)
+none_writing : (n : ℕ) → count_by will_commit (replicate n Idle) ≡ 0
+none_writing n = let e : count_by will_commit (replicate n Idle) ≡ n * 0 = sum_by-replicate (λ (s : Seat). cond (will_commit s) 1 0) n Idle in omega (arith, e)
 
 none_staged : (n : ℕ) → sum_by staged_by (replicate n Idle) ≡ 0
 none_staged n = let e : sum_by staged_by (replicate n Idle) ≡ n * 0 = sum_by-replicate staged_by n Idle in omega (arith, e)
@@ -153,6 +155,7 @@ fresh_kept a seats rows len idle triples names staged base = record {
 staged_shown : (rows : List Row) (s : Seat) → staged_at (seat_shown rows s) ≡ staged_by s
 staged_shown rows Idle = refl
 staged_shown rows (Writing k r g) = refl
+staged_shown rows (Patching t r) = refl
 staged_shown rows (Reading row given pin) = refl
 
 all_staged_shown : (rows : List Row) (seats : List Seat) → staged_in (map (seat_shown rows) seats) ≡ sum_by staged_by seats

@@ -1,9 +1,11 @@
 pub mod CommitLemmas
 pub mod KeptLemmas
 pub mod LineRuns
+pub mod LookupLemmas
 pub mod NameLemmas
 pub mod PinLemmas
 pub mod PostLemmas
 pub mod RowLemmas
+pub mod SolvingLemmas
 pub mod WasteLemmas
 pub mod WriteLemmas

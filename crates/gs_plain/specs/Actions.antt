@@ -1,12 +1,18 @@
 -- What an action makes of the books and of its seat. No public clause cites this module.
 use Rattle.std.specs.Prelude.{◌≡◌, ℕ, ◌<◌, ◌+◌, ◌≤◌, if◌then◌else◌, vec_len, vec_capacity}
+use Rattle.std.specs.declared.alloc.Global.{Global}
+use Rattle.std.specs.declared.vec.Vec.{Vec}
+use Rattle.gs_term.specs.declared.names.Target.{Target}
+use Rattle.gs_event.specs.declared.updates.Op.{Op}
 use Rattle.gs_event.specs.declared.events.Action.{Action}
+use Rattle.gs_event.specs.declared.events.Action.TheVariants.{CommitPatch}
 use Rattle.gs_event.specs.declared.answers.Answer.{Answer}
 use Rattle.gs_event.specs.Views.{FitsSeat, next_totals, next_phase}
 use Rattle.gs_event.specs.Steps.{pin_after}
 use Rattle.gs_plain.specs.declared.books.Books.{Books}
 use Rattle.gs_plain.specs.declared.books.Seat.{Seat}
-use Rattle.gs_plain.specs.Books.{seat_shown, totals_of, is_writing, staged_by, seat_pin, IsKnown, KeepsRows, IsCounted}
+use Rattle.gs_plain.specs.declared.books.Seat.TheVariants.{Patching}
+use Rattle.gs_plain.specs.Books.{seat_shown, totals_of, will_commit, staged_by, seat_pin, IsKnown, KeepsRows, IsCounted}
 
 -- books and one of their seats, before an action
 pub record IsReady (b : Books) (s : Seat) : Type 0 where
@@ -25,9 +31,13 @@ pub record Acts (old new : Books) (was now : Seat) (action : Action) (answer : A
   pub counted : IsCounted new
   pub staged : new.staged + staged_by was ≡ old.staged + staged_by now
 
--- there is room for the row of each upload, `others` of them at other seats
+-- what the commit of a patch of t, opened as request r, made of the books and of its seat
+abbrev pub CommitsPatch : Books → Books → Target → ℕ → Seat → Vec Op Global → Answer → Type 0
+CommitsPatch old new t r now ops answer = Acts old new (Patching t r) now (CommitPatch ops) answer
+
+-- there is room for the row of each upload and patch, `others` of them at other seats
 abbrev pub HasRoom : Books → ℕ → Seat → Type 0
-HasRoom b others s = vec_len b.rows + (others + (if is_writing s then 1 else 0)) ≤ vec_capacity b.rows
+HasRoom b others s = vec_len b.rows + (others + (if will_commit s then 1 else 0)) ≤ vec_capacity b.rows
 
 -- at a store of so many seats there is still room
 pub record KeepsRoom (seats : ℕ) (old new : Books) (was now : Seat) : Type 0 where

@@ -7,15 +7,16 @@ use Rattle.gs_model.specs.Limits.{last_node}
 use Rattle.gs_term.specs.declared.names.Target.{Target}
 use Rattle.gs_term.specs.declared.names.Target.TheVariants.{Default, Named}
 use Rattle.gs_event.specs.declared.verdicts.Holdings.{Holdings}
+use Rattle.gs_event.specs.declared.verdicts.Change.{Change}
 use Rattle.gs_event.specs.declared.verdicts.Verdict.{Verdict}
 use Rattle.gs_event.specs.Datasets.{Dataset, Setting, empty_dataset, graph_at, new_name, with_graph, without_graph, lines_at, triples_in, names_in}
 use Rattle.gs_event.specs.Phases as phase
 use Rattle.gs_event.specs.Views.{Totals, SeatView}
-use Rattle.gs_event.specs.Verdicts.{DecidesStore, holdings_of}
+use Rattle.gs_event.specs.Verdicts.{DecidesStore, DecidesChange, holdings_of, place_in, verdict_of}
 use Rattle.gs_plain.specs.declared.books.Row.{Row}
 use Rattle.gs_plain.specs.declared.books.Books.{Books}
 use Rattle.gs_plain.specs.declared.books.Seat.{Seat}
-use Rattle.gs_plain.specs.declared.books.Seat.TheVariants.{Idle, Writing, Reading}
+use Rattle.gs_plain.specs.declared.books.Seat.TheVariants.{Idle, Writing, Patching, Reading}
 
 -- each row is a write, and an ended one a removal: the newest row of a target is its graph
 abbrev pub after_row : Dataset → Row → Dataset
@@ -39,6 +40,7 @@ row_lines rows (Some i) = lines_of_row (slice_get rows i)
 abbrev pub seat_shown : List Row → Seat → SeatView
 seat_shown rows Idle = phase.Idle
 seat_shown rows (Writing k r g) = phase.Writing k r g
+seat_shown rows (Patching t r) = phase.Patching t r
 seat_shown rows (Reading row given pin) = phase.Reading (drop given (row_lines rows row))
 
 -- the base and the limits of the books
@@ -70,19 +72,29 @@ name_for b request = new_name (string_bytes b.base) (dataset_of b.rows.items) re
 abbrev pub held_by : Books → Holdings
 held_by b = holdings_of (books_setting b) (dataset_of b.rows.items) b.commit
 
+-- what becomes of a write that changes its target so
+abbrev pub verdict_by : Books → Target → Change → Verdict
+verdict_by b t x = verdict_of (held_by b) (place_in (dataset_of b.rows.items) t) x
+
 -- this becomes of a write that makes g the target's graph, and may create it
 abbrev pub DecidesBy : Books → Target → Graph → Verdict → Type 0
 DecidesBy b t g verdict = DecidesStore (books_setting b) (dataset_of b.rows.items) b.commit t g verdict
 
--- whether the seat has an open upload
-abbrev pub is_writing : Seat → Bool
-is_writing (Writing k r g) = true
-is_writing s = false
+-- this becomes of a write that makes g the target's graph, where it has one
+abbrev pub ChangesBy : Books → Target → Graph → Verdict → Type 0
+ChangesBy b t g verdict = DecidesChange (books_setting b) (dataset_of b.rows.items) b.commit t g verdict
+
+-- whether the seat has an open upload or an open patch, whose commit may make a row
+abbrev pub will_commit : Seat → Bool
+will_commit (Writing k r g) = true
+will_commit (Patching t r) = true
+will_commit s = false
 
 -- how many triples the seat's open upload has
 abbrev pub staged_by : Seat → ℕ
 staged_by Idle = 0
 staged_by (Writing k r g) = size_of g
+staged_by (Patching t r) = 0
 staged_by (Reading row given pin) = 0
 
 -- the last commit number at the pin of the seat's read
@@ -108,6 +120,10 @@ is_default (Named n) = false
 -- the most nodes: their numbers begin at 0
 abbrev pub most_nodes : ℕ
 most_nodes = last_node + 1
+
+-- a node's number is left for each triple, with g in the place of the target's graph
+abbrev pub HasNodesFor : Books → Target → Graph → Type 0
+HasNodesFor b t g = b.triples + b.staged + size_of g ≤ size_now b t + most_nodes
 
 -- the counts are right and leave a node's number for each triple, and the base is one
 pub record IsCounted (b : Books) : Type 0 where

@@ -3,7 +3,7 @@ use Rattle.std.specs.Prelude.{◌≡◌, ◌+◌, ◌≤◌, [], map, vec_len, v
 use Rattle.std.specs.List.{count_by, All, sum_by}
 use Rattle.gs_event.specs.Waste.{Shown}
 use Rattle.gs_plain.specs.declared.stores.PlainStore.TheInside.{Inside}
-use Rattle.gs_plain.specs.Books.{totals_of, seat_shown, seat_pin, is_writing, staged_by, IsKnown, IsCounted}
+use Rattle.gs_plain.specs.Books.{totals_of, seat_shown, seat_pin, will_commit, staged_by, IsKnown, IsCounted}
 
 -- a node there is a triple of a current graph or of an upload, so there is no waste
 abbrev pub shown_of : Inside → Shown
@@ -13,9 +13,9 @@ shown_of a = record {
   waste = [];
 }
 
--- each read's row is there, there is room for the row of each upload, and the counts are right
+-- each read's row is there, there is room for the row of each upload and patch, and the counts are right
 pub record IsKept (a : Inside) : Type 0 where
   pub known : All (IsKnown a.books.rows.items) a.seats.items
-  pub room : vec_len a.books.rows + count_by is_writing a.seats.items ≤ vec_capacity a.books.rows
+  pub room : vec_len a.books.rows + count_by will_commit a.seats.items ≤ vec_capacity a.books.rows
   pub counted : IsCounted a.books
   pub staged : a.books.staged ≡ sum_by staged_by a.seats.items

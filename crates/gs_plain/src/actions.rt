@@ -1,18 +1,18 @@
 //! What a seat's action does to the books and to the seat. A refused action changes neither.
 ghost use Rattle.std.specs.Prelude.{◌≡◌, ◌<◌, ℕ, IsTrue, vec_len, vec_capacity};
-ghost use Rattle.gs_plain.specs.Books.{is_writing};
+ghost use Rattle.gs_plain.specs.Books.{will_commit};
 ghost use Rattle.gs_plain.specs.Actions.{IsReady, Acts, KeepsRoom, HoldsRoom};
 
 use crate::books::{self, Books, Seat};
 use crate::graphs::SortedGraph;
-use crate::{reads, writes};
+use crate::{patches, reads, writes};
 use gs_event::{Action, Answer, UploadKind};
 use gs_model::{LAST_NODE, LAST_NUMBER, Refusal};
 use gs_term::{Target, Triple};
 use std::alloc::Global;
 
 /// The most nodes, of current graphs and open uploads: their numbers begin at 0.
-const MAX_NODES: u64 = LAST_NODE + 1;
+pub const MAX_NODES: u64 = LAST_NODE + 1;
 
 /// Any action, at a store of so many seats.
 pub fn act(
@@ -23,14 +23,16 @@ pub fn act(
     action: &Action,
 ) -> Answer
     requires ready { IsReady books.old seat.old }
-    requires room { IsTrue (is_writing seat.old) → vec_len books.old.rows < vec_capacity books.old.rows }
+    requires room { IsTrue (will_commit seat.old) → vec_len books.old.rows < vec_capacity books.old.rows }
     ensures acts { Acts books.old books.new seat.old seat.new action.now result }
     ensures room { KeepsRoom seats books.old books.new seat.old seat.new }
 {
     match action {
         Action::Open(kind) => open(books, seat, seats, alloc, kind),
+        Action::OpenPatch(target) => patches::open(books, seat, seats, target),
         Action::Stage(triples) => stage(books, seat, alloc, triples),
         Action::Commit => writes::commit(books, seat, alloc),
+        Action::CommitPatch(operations) => patches::commit(books, seat, alloc, operations),
         Action::Delete(target) => writes::delete(books, seat, target),
         Action::Head(target) => reads::head(books, seat, target),
         Action::Pin(target) => reads::pin(books, seat, target),
@@ -97,7 +99,7 @@ fn cancel(books: &mut Books, seat: &mut Seat) -> Answer
     match seat {
         Seat::Idle => return Answer::Refused(Refusal::WrongPhase),
         Seat::Writing(_, _, graph) => books.staged -= graph.len() as u64,
-        Seat::Reading(_, _, _) => {}
+        Seat::Patching(_, _) | Seat::Reading(_, _, _) => {}
     }
     *seat = Seat::Idle;
     Answer::Cancelled

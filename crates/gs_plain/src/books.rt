@@ -25,6 +25,8 @@ pub enum Seat {
     Idle,
     /// An upload: what it will do, its request number, and what was staged.
     Writing(UploadKind, u64, SortedGraph),
+    /// A patch of this target's graph, and its request number.
+    Patching(Target, u64),
     /// A read: the row that it reads (none for an empty default graph), how many lines were given,
     /// and the last commit number at its pin.
     Reading(Option<usize>, usize, u64),

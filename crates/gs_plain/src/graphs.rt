@@ -1,9 +1,11 @@
 //! A graph as a sorted list of triples.
-ghost use Rattle.std.specs.Prelude.{◌≡◌, ◌++◌, ◌+◌, ◌≤◌, OnOk, OnErr, IfOk, take, drop, length, map};
-ghost use Rattle.std.specs.List.{concat};
-ghost use Rattle.std.specs.List.Sorted.{IsStrictlySortedBy};
+ghost use Rattle.std.specs.Prelude.{◌≡◌, ◌++◌, ◌+◌, ◌≤◌, OnOk, OnErr, IfOk, not, take, drop, length, map};
+ghost use Rattle.std.specs.List.{concat, filter};
+ghost use Rattle.std.specs.List.Sorted.{IsSorted, IsStrictlySortedBy};
 ghost use Rattle.gs_model.specs.Triples.{line_of, triple_cmp};
 ghost use Rattle.gs_model.specs.Graphs.{empty_graph, with_triples, graph_of, triples_of, lines_of, size_of};
+ghost use Rattle.gs_event.specs.Solutions.{is_among};
+ghost use Rattle.gs_event.specs.Updates.{without_triples};
 
 use gs_ntwrite::line;
 use gs_term::Triple;
@@ -85,6 +87,18 @@ impl SortedGraph {
         Ok(())
     }
 
+    /// Takes triples away, in any order and with repeats; those that it does not have count for
+    /// nothing. Sorts a copy of them, and looks each of its own up in it.
+    pub fn remove_all(&mut self, alloc: Global, triples: &[Triple]) -> Result<(), AllocError>
+        ensures ok { OnOk result (self.new ≡ without_triples self.old triples.now) }
+        ensures kept { OnErr result (self.new ≡ self.old) }
+    {
+        let mut gone = copies_of(alloc, triples)?;
+        gone.sort_unstable();
+        remove_sorted(&mut self.triples, gone.as_slice());
+        Ok(())
+    }
+
     /// A copy.
     pub fn copied(&self, alloc: Global) -> Result<SortedGraph, AllocError>
         ensures { IfOk result (λ copy. copy ≡ self.now) }
@@ -144,6 +158,22 @@ fn append_sorted(triples: &mut Vec<Triple>, new: &mut Vec<Triple>) -> Result<(),
     triples.sort_unstable();
     triples.dedup();
     Ok(())
+}
+
+/// Keeps the triples that are not among these, which are sorted.
+fn remove_sorted(triples: &mut Vec<Triple>, gone: &[Triple])
+    requires { IsSorted triple_cmp gone.now }
+    ensures { triples.new.items ≡ filter (λ t. not (is_among gone.now t)) triples.old.items }
+{
+    triples.retain(|triple| !is_in(gone, triple));
+}
+
+/// Whether the triple is among these, which are sorted.
+fn is_in(sorted: &[Triple], triple: &Triple) -> bool
+    requires { IsSorted triple_cmp sorted.now }
+    ensures { result ≡ is_among sorted.now triple.now }
+{
+    sorted.binary_search(triple).is_ok()
 }
 
 fn lines_between(

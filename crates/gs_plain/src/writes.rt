@@ -5,7 +5,7 @@ ghost use Rattle.gs_event.specs.Datasets.{united};
 ghost use Rattle.gs_event.specs.declared.events.Action.TheVariants.{Commit, Delete};
 ghost use Rattle.gs_event.specs.declared.events.UploadKind.TheVariants.{Put, Post, New};
 ghost use Rattle.gs_plain.specs.declared.books.Seat.TheVariants.{Writing};
-ghost use Rattle.gs_plain.specs.Books.{graph_now, size_now, is_writing};
+ghost use Rattle.gs_plain.specs.Books.{graph_now, size_now, will_commit};
 ghost use Rattle.gs_plain.specs.Actions.{IsReady, Acts, HoldsRoom};
 
 use crate::books::{self, Books, Seat};
@@ -21,7 +21,7 @@ use std::mem;
 /// Commits the seat's open upload, by its kind.
 pub fn commit(books: &mut Books, seat: &mut Seat, alloc: Global) -> Answer
     requires ready { IsReady books.old seat.old }
-    requires room { IsTrue (is_writing seat.old) → vec_len books.old.rows < vec_capacity books.old.rows }
+    requires room { IsTrue (will_commit seat.old) → vec_len books.old.rows < vec_capacity books.old.rows }
     ensures acts { Acts books.old books.new seat.old seat.new Commit result }
     ensures room { HoldsRoom books.old books.new seat.old seat.new }
 {

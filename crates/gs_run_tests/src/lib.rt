@@ -2,4 +2,10 @@
 #![tactic(auto)]
 
 #[cfg(test)]
+mod notation;
+#[cfg(test)]
+mod patches;
+#[cfg(test)]
+mod removals;
+#[cfg(test)]
 mod runs;

@@ -1,10 +1,11 @@
 //! The events of the worked schedules, given whole to `Store::run`, and to `run` over a plain store.
+use crate::notation::{operations, triples};
 use gs_core::{Action, Answer, Event, MAX_NAMES, MAX_TRIPLES, Refusal, Store, UploadKind};
 use gs_event::Limits;
 use gs_plain::PlainStore;
 use gs_run::run;
 use gs_schedules::ROWS;
-use gs_term::{GraphName, Target, TermText, Triple};
+use gs_term::{GraphName, Target};
 use std::alloc::{AllocError, Global};
 use std::test::Fail;
 
@@ -17,17 +18,6 @@ fn target(alloc: Global, word: &str) -> Result<Target, Refusal> {
     }
     let name = word.trim_start_matches('<').trim_end_matches('>');
     Ok(Target::Named(GraphName::new(alloc, name)?))
-}
-
-/// The triple whose object is this text.
-fn triple(alloc: Global, object: &str) -> Result<Triple, Refusal> {
-    let subject = TermText::iri(alloc, "http://e/s")?;
-    let predicate = TermText::iri(alloc, "http://e/p")?;
-    let object = TermText::literal(alloc, object, None, None)?;
-    if !subject.is_subject() || !predicate.is_iri() {
-        return Err(Refusal::Syntax(0));
-    }
-    Ok(Triple::new(subject, predicate, object))
 }
 
 fn kind(alloc: Global, word: &str, name: &str) -> Result<UploadKind, Refusal> {
@@ -44,13 +34,8 @@ fn action(alloc: Global, words: &[&str]) -> Result<Action, Refusal> {
     let next = words.get(1).copied().unwrap_or_default();
     let last = words.get(2).copied().unwrap_or_default();
     match word {
+        "open" if next == "patch" => Ok(Action::OpenPatch(target(alloc, last)?)),
         "open" => Ok(Action::Open(kind(alloc, next, last)?)),
-        "stage" => {
-            let object = words.get(3).copied().unwrap_or_default();
-            let mut triples = Vec::new(alloc);
-            triples.push(triple(alloc, object.trim_matches('"'))?)?;
-            Ok(Action::Stage(triples))
-        }
         "commit" => Ok(Action::Commit),
         "delete" => Ok(Action::Delete(target(alloc, next)?)),
         "head" => Ok(Action::Head(target(alloc, next)?)),
@@ -61,6 +46,15 @@ fn action(alloc: Global, words: &[&str]) -> Result<Action, Refusal> {
 }
 
 fn event(alloc: Global, line: &str) -> Result<Event, Refusal> {
+    if let Some((seat, text)) = line.split_once(" stage ") {
+        let seat = seat.parse::<u16>().unwrap_or_default();
+        return Ok(Event::Seat(seat, Action::Stage(triples(alloc, text)?)));
+    }
+    if let Some((seat, text)) = line.split_once(" patch:") {
+        let seat = seat.parse::<u16>().unwrap_or_default();
+        let operations = operations(alloc, text)?;
+        return Ok(Event::Seat(seat, Action::CommitPatch(operations)));
+    }
     let mut words = Vec::new(alloc);
     for word in line.split(' ') {
         words.push(word)?;
@@ -78,7 +72,7 @@ fn event(alloc: Global, line: &str) -> Result<Event, Refusal> {
 }
 
 /// The store of a schedule: that of its first line, where this says one.
-fn store(alloc: Global, input: &str) -> Result<Store, Refusal> {
+pub fn store(alloc: Global, input: &str) -> Result<Store, Refusal> {
     match input {
         _ if input.starts_with("store 4 999999999999999999 999999999999999998") => {
             Store::starting_at(
@@ -88,6 +82,9 @@ fn store(alloc: Global, input: &str) -> Result<Store, Refusal> {
                 999_999_999_999_999_999,
                 999_999_999_999_999_998,
             )
+        }
+        _ if input.starts_with("store 4 999999999999999998 0") => {
+            Store::starting_at(alloc, 4, BASE, 999_999_999_999_999_998, 0)
         }
         _ if input.starts_with("store 4 999999999999999999 0") => {
             Store::starting_at(alloc, 4, BASE, 999_999_999_999_999_999, 0)
@@ -118,7 +115,7 @@ fn numbers(input: &str) -> (u16, u64, u64) {
 }
 
 /// The same store, as a plain one.
-fn plain_store(alloc: Global, input: &str) -> Result<PlainStore, Refusal> {
+pub fn plain_store(alloc: Global, input: &str) -> Result<PlainStore, Refusal> {
     let limits = Limits {
         triples: MAX_TRIPLES,
         names: MAX_NAMES,
@@ -179,7 +176,7 @@ fn answered(alloc: Global, printed: &str) -> Result<String, AllocError> {
 }
 
 /// What answers print.
-fn printed(alloc: Global, answers: &[Answer]) -> Result<String, AllocError> {
+pub fn printed(alloc: Global, answers: &[Answer]) -> Result<String, AllocError> {
     let mut text = String::new(alloc);
     for answer in answers {
         text.push_str(words(alloc, answer)?.as_str())?;
@@ -188,14 +185,14 @@ fn printed(alloc: Global, answers: &[Answer]) -> Result<String, AllocError> {
 }
 
 /// The answers to a schedule's events.
-fn answers(alloc: Global, input: &str) -> Result<Vec<Answer>, Refusal> {
+pub fn answers(alloc: Global, input: &str) -> Result<Vec<Answer>, Refusal> {
     let events = events(alloc, input)?;
     let mut store = store(alloc, input)?;
     store.run(events.as_slice())
 }
 
 /// The answers of a plain store.
-fn plain_answers(alloc: Global, input: &str) -> Result<Vec<Answer>, Refusal> {
+pub fn plain_answers(alloc: Global, input: &str) -> Result<Vec<Answer>, Refusal> {
     let events = events(alloc, input)?;
     let mut store = plain_store(alloc, input)?;
     run(alloc, &mut store, events.as_slice())

@@ -3,9 +3,11 @@
 
 mod literals;
 mod names;
+mod patterns;
 mod terms;
 mod triples;
 
 pub use names::{GraphName, Target};
+pub use patterns::{Part, Pattern, VariableName};
 pub use terms::TermText;
 pub use triples::Triple;

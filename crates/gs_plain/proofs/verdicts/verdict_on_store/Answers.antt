@@ -1,8 +1,8 @@
 use Rattle.std.proofs.Common.{true, sym, ap, ◌∙◌, subst}
 use Rattle.gs_event.specs.declared.verdicts.Change.TheVariants.{Stores}
-use Rattle.gs_event.specs.Verdicts.{verdict_of, holdings_of, place_in, DecidesStore}
+use Rattle.gs_event.specs.Verdicts.{DecidesStore}
 use Rattle.gs_event.proofs.VerdictLemmas.{store_may}
-use Rattle.gs_plain.specs.Books.{dataset_of, books_setting}
+use Rattle.gs_plain.specs.Books.{dataset_of, books_setting, verdict_by}
 use Rattle.gs_plain.proofs.verdicts.verdict_on_store.Goals as goal
 
 pub returns : goal.returns
@@ -10,8 +10,5 @@ returns c =
     let w = books_setting c.args.books.now in
     let m = dataset_of c.args.books.now.rows.items in
     let commit = c.args.books.now.commit in
-    let same = c.verdict_on.ensures
-    ∙ ap (λ h. verdict_of h c.place-place.result (Stores c.len.result true)) c.holdings-held.ensures
-    ∙ ap (λ p. verdict_of (holdings_of w m commit) p (Stores c.len.result true)) c.place-place.ensures
-    ∙ ap (λ n. verdict_of (holdings_of w m commit) (place_in m c.args.target.now) (Stores n true)) c.len.ensures in
+    let same = c.verdict.ensures ∙ ap (λ n. verdict_by c.args.books.now c.args.target.now (Stores n true)) c.len.ensures in
     subst (DecidesStore w m commit c.args.target.now c.args.graph.now) (sym same) (store_may w m commit c.args.target.now c.args.graph.now)

@@ -1,0 +1,136 @@
+//! A short notation of terms, triples, patterns and operations.
+use gs_core::{Op, Part, Pattern, Refusal, VariableName};
+use gs_term::{TermText, Triple};
+use std::alloc::{AllocError, Global};
+
+const TYPE: &str = "http://www.w3.org/1999/02/22-rdf-syntax-ns#type";
+
+const INTEGER: &str = "http://www.w3.org/2001/XMLSchema#integer";
+
+/// `<x>`, which is `<http://e/x>` where it has no colon; `_k`, the blank node k of request 1; `"x"`;
+/// an integer; or `a`, as in Turtle. No word has a dot or a semicolon in it.
+fn term(alloc: Global, word: &str) -> Result<TermText, Refusal> {
+    if word == "a" {
+        return TermText::iri(alloc, TYPE);
+    }
+    if let Some(name) = word.strip_prefix('<') {
+        let name = name.trim_end_matches('>');
+        if name.contains(':') {
+            return TermText::iri(alloc, name);
+        }
+        let iri = format!(in alloc; "http://e/{name}")?;
+        return TermText::iri(alloc, iri.as_str());
+    }
+    if let Some(number) = word.strip_prefix('_') {
+        return TermText::blank(alloc, 1, number.parse::<u64>().unwrap_or_default());
+    }
+    if word.starts_with('"') {
+        return TermText::literal(alloc, word.trim_matches('"'), None, None);
+    }
+    TermText::literal(alloc, word, Some(INTEGER), None)
+}
+
+/// A term, or `?x`, a variable.
+fn part(alloc: Global, word: &str) -> Result<Part, Refusal> {
+    match word.strip_prefix('?') {
+        Some(name) => Ok(Part::Variable(VariableName::new(alloc, name)?)),
+        None => Ok(Part::Term(term(alloc, word)?)),
+    }
+}
+
+/// Three words.
+fn triple(alloc: Global, text: &str) -> Result<Triple, Refusal> {
+    let mut words = text.split(' ');
+    let subject = term(alloc, words.next().unwrap_or_default())?;
+    let predicate = term(alloc, words.next().unwrap_or_default())?;
+    let object = term(alloc, words.next().unwrap_or_default())?;
+    if !subject.is_subject() || !predicate.is_iri() {
+        return Err(Refusal::Syntax(0));
+    }
+    Ok(Triple::new(subject, predicate, object))
+}
+
+fn pattern(alloc: Global, text: &str) -> Result<Pattern, Refusal> {
+    let mut words = text.split(' ');
+    Ok(Pattern {
+        subject: part(alloc, words.next().unwrap_or_default())?,
+        predicate: part(alloc, words.next().unwrap_or_default())?,
+        object: part(alloc, words.next().unwrap_or_default())?,
+    })
+}
+
+/// Triples with a dot after each, which the last need not have.
+pub fn triples(alloc: Global, text: &str) -> Result<Vec<Triple>, Refusal> {
+    let mut list = Vec::new(alloc);
+    for piece in text.split('.') {
+        let piece = piece.trim();
+        if !piece.is_empty() {
+            list.push(triple(alloc, piece)?)?;
+        }
+    }
+    Ok(list)
+}
+
+/// The same of patterns.
+pub fn patterns(alloc: Global, text: &str) -> Result<Vec<Pattern>, Refusal> {
+    let mut list = Vec::new(alloc);
+    for piece in text.split('.') {
+        let piece = piece.trim();
+        if !piece.is_empty() {
+            list.push(pattern(alloc, piece)?)?;
+        }
+    }
+    Ok(list)
+}
+
+/// `insert` or `delete` and triples, or `where` and patterns.
+fn operation(alloc: Global, text: &str) -> Result<Op, Refusal> {
+    if let Some(rest) = text.strip_prefix("insert") {
+        return Ok(Op::Insert(triples(alloc, rest)?));
+    }
+    if let Some(rest) = text.strip_prefix("delete") {
+        return Ok(Op::DeleteData(triples(alloc, rest)?));
+    }
+    Ok(Op::DeleteWhere(patterns(alloc, text.trim_start_matches("where"))?))
+}
+
+/// Operations, with a semicolon between two.
+pub fn operations(alloc: Global, text: &str) -> Result<Vec<Op>, Refusal> {
+    let mut list = Vec::new(alloc);
+    for piece in text.split(';') {
+        let piece = piece.trim();
+        if !piece.is_empty() {
+            list.push(operation(alloc, piece)?)?;
+        }
+    }
+    Ok(list)
+}
+
+/// The text of a word's term.
+fn push_word(line: &mut String, word: &str) -> Result<(), AllocError> {
+    if let Some(name) = word.strip_prefix('<') {
+        line.push_str("<http://e/")?;
+        return line.push_str(name);
+    }
+    if let Some(number) = word.strip_prefix('_') {
+        line.push_str("_:b1_")?;
+        return line.push_str(number);
+    }
+    line.push_str(word)
+}
+
+/// The lines of triples, in the order in which they are written.
+pub fn lines(alloc: Global, text: &str) -> Result<String, AllocError> {
+    let mut lines = String::new(alloc);
+    for piece in text.split('.') {
+        let piece = piece.trim();
+        if !piece.is_empty() {
+            for word in piece.split(' ') {
+                push_word(&mut lines, word)?;
+                lines.push(' ')?;
+            }
+            lines.push_str(".\n")?;
+        }
+    }
+    Ok(lines)
+}
