@@ -14,7 +14,7 @@ use Rattle.gs_triples.specs.Triples as triples
 use Rattle.gs_triples.specs.Triples.{AreTriples}
 use Rattle.gs_triples.specs.Program.{triples_at, CoversTriples}
 use Rattle.gs_document.specs.Contexts.{TurtleContext}
-use Rattle.gs_document.specs.Directives.{with_prefix, with_base}
+use Rattle.gs_triples.specs.Directives.{with_prefix, with_base}
 use Rattle.gs_document.specs.Documents as statement
 use Rattle.gs_document.specs.Documents.{IsStatement, AreStatements, IsDocument, stated, start}
 use Rattle.gs_triples.specs.Reading.{Got, ◌and_then◌}

@@ -23,7 +23,7 @@ use Rattle.gs_triples.specs.Meanings as meaning
 use Rattle.gs_triples.specs.Meanings.{Fault, Prefixes, made_of, name_text, iri, rdf, value_of, with_numbers}
 use Rattle.gs_triples.specs.Goals.{triple}
 use Rattle.gs_document.specs.Contexts.{TurtleContext}
-use Rattle.gs_document.specs.Directives.{with_prefix}
+use Rattle.gs_triples.specs.Directives.{with_prefix}
 use Rattle.gs_triples.specs.Rules as rule
 use Rattle.gs_triples.specs.Triples as triples_of
 use Rattle.gs_document.specs.Documents as statement

@@ -15,7 +15,7 @@ use Rattle.gs_body.specs.Bodies.{Whole, Faulty}
 use Rattle.gs_triples.specs.Symbols.{Symbol, AWord, Text, At, Carets, A, Open, Close, Semicolon, Comma, Dot, BaseWord, Reference, Plain, xsd}
 use Rattle.gs_triples.specs.Meanings.{Syntax, word, iri, made_of, simple, tagged, typed, rdf}
 use Rattle.gs_triples.specs.Goals.{triple}
-use Rattle.gs_document.specs.Directives.{with_base}
+use Rattle.gs_triples.specs.Directives.{with_base}
 use Rattle.gs_document.specs.Documents.{start, stated}
 use Rattle.gs_triples.specs.Reading.{parse}
 use Rattle.gs_triples.specs.Program.{triples_at}

@@ -20,7 +20,7 @@ use Rattle.gs_triples.specs.Runs.{Done, taken, run, done_of}
 use Rattle.gs_triples.proofs.TriplesLemmas.{triples_covered}
 use Rattle.gs_triples.proofs.MachineLemmas.{opening_run}
 use Rattle.gs_document.specs.Contexts.{TurtleContext}
-use Rattle.gs_document.specs.Directives.{with_prefix, with_base}
+use Rattle.gs_triples.specs.Directives.{with_prefix, with_base}
 use Rattle.gs_document.specs.Documents.{stated, start}
 use Rattle.gs_document.specs.Program.{told as told_by}
 use Rattle.gs_document.specs.Program.{dotted, prefix_at, base_at, statement_at, followed, statements_at, document}

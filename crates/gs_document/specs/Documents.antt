@@ -1,6 +1,5 @@
 -- Turtle's statements and documents (25 February 2014, section 6.5), each with just the tokens that it spans.
 use Rattle.std.specs.Prelude.{◌≡◌, ℕ, List, [], ◌∷◌, ◌++◌, codes, Some}
-use Rattle.std.specs.FinMap as finite
 use Rattle.gs_model.specs.Triples.{RdfTriple}
 use Rattle.gs_lex.specs.Tokens.{Lexeme}
 use Rattle.gs_blank.specs.Numbers.{Numbers, no_numbers}
@@ -9,7 +8,7 @@ use Rattle.gs_triples.specs.Languages.{of_terms}
 use Rattle.gs_triples.specs.Symbols.{Reference, Namespace, Symbol, AWord, At, Dot, PrefixWord, BaseWord, symbols_of}
 use Rattle.gs_triples.specs.Triples.{AreTriples}
 use Rattle.gs_document.specs.Contexts.{TurtleContext}
-use Rattle.gs_document.specs.Directives.{with_prefix, with_base}
+use Rattle.gs_triples.specs.Directives.{without_prefixes, with_prefix, with_base}
 
 -- a statement that ends there, with its triples; a directive has none
 abbrev pub stated : ℕ → List RdfTriple → List Statement
@@ -41,7 +40,7 @@ pub data AreStatements : TurtleContext → Numbers → List Symbol → List Stat
 
 -- no prefix is declared; triples are made of terms
 abbrev pub start : List ℕ → ℕ → TurtleContext
-start b r = record { base = b; prefixes = finite.empty; request = r; language = of_terms }
+start b r = without_prefixes of_terms b r
 
 -- the tokens of a document, and the statements that it has under this base and in this request
 abbrev pub IsDocument : List ℕ → ℕ → List Lexeme → List Statement → Type 0

@@ -12,7 +12,7 @@ use Rattle.gs_triples.specs.States.{Lost, Goes, Ends}
 use Rattle.gs_triples.specs.Machine as triples_machine
 use Rattle.gs_triples.specs.Machine.{opening}
 use Rattle.gs_document.specs.Contexts.{TurtleContext}
-use Rattle.gs_document.specs.Directives.{with_prefix, with_base}
+use Rattle.gs_triples.specs.Directives.{with_prefix, with_base}
 use Rattle.gs_document.specs.Documents.{stated}
 use Rattle.gs_document.specs.States.{State, Between, InPrefix, InPrefixIri, InBase, AtDot, Within, lost, Turn, quiet}
 

@@ -10,7 +10,7 @@ use Rattle.gs_triples.specs.Meanings.{Fault, Syntax}
 use Rattle.gs_triples.specs.Reading.{Got, ◌and_then◌}
 use Rattle.gs_triples.specs.Program.{triples_at}
 use Rattle.gs_document.specs.Contexts.{TurtleContext}
-use Rattle.gs_document.specs.Directives.{with_prefix, with_base}
+use Rattle.gs_triples.specs.Directives.{with_prefix, with_base}
 use Rattle.gs_document.specs.Documents.{stated, start}
 
 -- what a statement states, what it leaves, and the tokens after it

@@ -5,6 +5,7 @@ pub mod Prefixes
 pub mod Languages
 pub mod Meanings
 pub mod Goals
+pub mod Directives
 pub mod Rules
 pub mod Triples
 pub mod Reading

@@ -1,0 +1,4 @@
+pub mod LeadLemmas
+pub mod GrowthLemmas
+pub mod BlockLemmas
+pub mod FoundLemmas

@@ -1,0 +1,9 @@
+-- Read in this order: what a request says, the languages of its operations, the rules of the grammar, the machine that
+-- reads by them, first within a block, and what the laws say of it.
+pub mod Requests
+pub mod Operations
+pub mod Grammar
+pub mod Blocks
+pub mod States
+pub mod Machine
+pub mod Readings

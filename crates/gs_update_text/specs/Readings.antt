@@ -1,0 +1,14 @@
+-- What the machine reads of a request, beside the rules.
+use Rattle.std.specs.Prelude.{◌≡◌, ◌↔◌, ℕ, List, None}
+use Rattle.gs_lex.specs.Tokens.{Lexeme}
+use Rattle.gs_update_text.specs.Requests.{Written}
+use Rattle.gs_update_text.specs.Grammar.{IsUpdate}
+use Rattle.gs_update_text.specs.Machine.{request_of}
+
+-- the machine finds just the updates that the rules give
+abbrev pub FindsUpdates : List ℕ → ℕ → List Lexeme → Type 0
+FindsUpdates b r ts = (os : List Written) → (IsUpdate b r ts os ↔ (request_of b r ts ≡ (os, None)))
+
+-- the rules give these tokens at most one list of operations
+abbrev pub HasOneMeaning : List ℕ → ℕ → List Lexeme → Type 0
+HasOneMeaning b r ts = (os us : List Written) → IsUpdate b r ts os → IsUpdate b r ts us → os ≡ us

@@ -1,0 +1,31 @@
+-- What the text of an update says (SPARQL 1.1 Update, 21 March 2013, sections 3.1.1, 3.1.2 and 3.1.3.3).
+use Rattle.std.specs.Prelude.{ℕ, List, [], ◌∷◌, Option}
+use Rattle.gs_model.specs.Triples.{RdfTriple}
+use Rattle.gs_term.specs.declared.patterns.Pattern.{Pattern}
+use Rattle.gs_triples.specs.Meanings.{Fault}
+
+-- an operation, with the triples that are to be in the graph or not, or with patterns of those that are not to be
+pub data Operation : Type 0 where
+  Inserts : List RdfTriple → Operation
+  DeletesData : List RdfTriple → Operation
+  DeletesWhere : List Pattern → Operation
+
+-- an operation of a request, and the number of bytes up to the end of its closing brace
+pub record Written : Type 0 where
+  pub operation : Operation
+  pub end : ℕ
+
+-- why a text is no update that is served: it breaks the grammar or has a term that is too long; or its first departure
+-- from what is served is an update's all the same
+pub data Rejection : Type 0 where
+  Broken : (fault : Fault) → Rejection
+  OutOfProfile : Rejection
+
+-- the operations before the first departure, and that departure, where there is one
+abbrev pub Request : Type 0
+Request = List Written × Option Rejection
+
+-- the end of the last operation, where one that ends after n bytes stands before
+abbrev pub last_end : ℕ → List Written → ℕ
+last_end n [] = n
+last_end n (o ∷ os) = last_end o.end os

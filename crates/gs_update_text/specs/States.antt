@@ -1,0 +1,49 @@
+-- The states of the machine that reads updates.
+use Rattle.std.specs.Prelude.{ℕ, List, []}
+use Rattle.gs_model.specs.Terms.{Term}
+use Rattle.gs_model.specs.Triples.{RdfTriple}
+use Rattle.gs_term.specs.declared.patterns.Part.{Part}
+use Rattle.gs_term.specs.declared.patterns.Pattern.{Pattern}
+use Rattle.gs_blank.specs.Numbers.{Numbers}
+use Rattle.gs_update_text.specs.Requests.{Rejection, Written}
+use Rattle.gs_update_text.specs.Operations.{Scope, Block, inserted, deleted, sought, in_language, insert_block, delete_block, where_block}
+use Rattle.gs_update_text.specs.Blocks.{BlockState, AtTriples}
+
+-- the forms of operations that are served
+pub data Form : Type 0 where
+  InsertData : Form
+  DeleteData : Form
+  DeleteWhere : Form
+
+-- within a request
+pub data State : Type 0 where
+  -- where an update may begin, in its prologue too, or the text may end
+  Between : Scope → Numbers → State
+  InPrefix : Scope → Numbers → State
+  InPrefixIri : (prefix : List ℕ) → Scope → Numbers → State
+  InBase : Scope → Numbers → State
+  -- after INSERT, and after DELETE
+  AfterInsert : Scope → Numbers → State
+  AfterDelete : Scope → Numbers → State
+  -- before the opening brace
+  AtBrace : Form → Scope → Numbers → State
+  InData : Block Term RdfTriple → Scope → BlockState Term RdfTriple → State
+  InWhere : Block Part Pattern → Scope → BlockState Part Pattern → State
+  -- after an operation: a ';' may come, or the text may end
+  After : Scope → Numbers → State
+  -- after a departure, from which nothing leads away
+  Rejected : Rejection → State
+
+-- the start of a block
+abbrev pub block_of : Form → Scope → Numbers → State
+block_of InsertData env n = InData (insert_block n) env (AtTriples (in_language inserted env) [] n)
+block_of DeleteData env n = InData delete_block env (AtTriples (in_language deleted env) [] n)
+block_of DeleteWhere env n = InWhere where_block env (AtTriples (in_language sought env) [] n)
+
+-- the state after a symbol, and the operation that it ends
+abbrev pub Turn : Type 0
+Turn = State × List Written
+
+-- no operation ends
+abbrev pub quiet : State → Turn
+quiet s = (s, [])

@@ -1,0 +1,6 @@
+//! Updates: what the text of a request means.
+#![tactic(auto)]
+
+mod laws;
+
+pub use laws::{update_has_one_meaning, update_is_read};
