@@ -13,11 +13,11 @@ use Rattle.gs_triples.specs.States as triples
 use Rattle.gs_triples.specs.States.{Opened, Closed, Heading, Held, Typing, Lost, Goes, Ends}
 use Rattle.gs_triples.specs.Machine as triples_machine
 use Rattle.gs_triples.specs.Machine.{opening}
-use Rattle.gs_update_text.specs.Requests.{Operation, Rejection}
+use Rattle.gs_update_text.specs.Requests.{UpdateOperation, Rejection, OutOfProfile}
 use Rattle.gs_update_text.specs.Operations.{Block}
 use Rattle.gs_update_text.specs.Grammar.{IsTemplate}
 use Rattle.gs_update_text.specs.Grammar as rule
-use Rattle.gs_update_text.specs.Blocks.{BlockState, AtTriples, WithinTriples, BlockTurn, Takes, Shuts, Stops, Shut, triples_in, counted, entered, shut, parted, followed, within, barred, at_triples, moved, block_step, block_taken, block_run}
+use Rattle.gs_update_text.specs.Blocks.{BlockState, AtTriples, WithinTriples, BlockTurn, Takes, Shuts, Stops, Shut, triples_so_far, counted, entered, shut, parted, followed, within, barred, at_triples, moved, block_step, block_taken, block_run}
 use Rattle.gs_update_text.proofs.LeadLemmas.{Leads, stay, go, LeadTriples, triples_lead, lead_triples}
 use Rattle.gs_update_text.proofs.GrowthLemmas.{Extends, NotLost, leads_grow}
 
@@ -36,15 +36,18 @@ module _ {Value Triple : Type 0} where
   abbrev pub block_told : Block Value Triple → List Symbol → BlockTurn Value Triple → Result Shut Rejection
   block_told b ts u = block_taken (block_run b ts) ts u
 
+  few_takes : (b : Block Value Triple) (P : List Triple) (s : triples.State Value Triple) → b.too_many (P ++ triples_so_far s) ≡ false → counted b P s ≡ Takes (WithinTriples P s)
+  few_takes b P s q = ap (λ z. cond z (Stops OutOfProfile) (Takes (WithinTriples P s))) q
+
   -- a state of triples that are not too many, and without a fault
-  enter : (b : Block Value Triple) (P : List Triple) (s : triples.State Value Triple) → NotLost s → b.too_many (P ++ triples_in s) ≡ false
+  enter : (b : Block Value Triple) (P : List Triple) (s : triples.State Value Triple) → NotLost s → b.too_many (P ++ triples_so_far s) ≡ false
       → entered b P s ≡ Takes (WithinTriples P s)
   enter b P (Lost e) h q = elim h [ ]
-  enter b P (Opened env n) h q = ap (λ z. cond z _ _) q
-  enter b P (Closed v env T n) h q = ap (λ z. cond z _ _) q
-  enter b P (Heading g fs env T n) h q = ap (λ z. cond z _ _) q
-  enter b P (Held x fs env T n) h q = ap (λ z. cond z _ _) q
-  enter b P (Typing x fs env T n) h q = ap (λ z. cond z _ _) q
+  enter b P (Opened env n) h q = few_takes b P (Opened env n) q
+  enter b P (Closed v env T n) h q = few_takes b P (Closed v env T n) q
+  enter b P (Heading g fs env T n) h q = few_takes b P (Heading g fs env T n) q
+  enter b P (Held x fs env T n) h q = few_takes b P (Held x fs env T n) q
+  enter b P (Typing x fs env T n) h q = few_takes b P (Typing x fs env T n) q
 
   few_before : (b : Block Value Triple) → Bounds b → (P A T : List Triple) → Extends A T → b.too_many (P ++ T) ≡ false → b.too_many (P ++ A) ≡ false
   few_before b bounds P A T (V, p) q = bounds (P ++ A) V (ap b.too_many (append_assoc P A V ∙ ap (λ z. P ++ z) (sym p)) ∙ q)
@@ -54,25 +57,25 @@ module _ {Value Triple : Type 0} where
   stands b s t h = ap (λ z. cond z (barred (moved b s t)) (moved b s t)) h
 
   -- from one state of triples to the state that the token after them ends
-  block_leads : (b : Block Value Triple) → Bounds b → (P : List Triple) {s u : triples.State Value Triple} {xs : List Symbol} {env : Context Value Triple} {T : List Triple} {n : Numbers}
+  block_leads : {s u : triples.State Value Triple} {xs : List Symbol} {env : Context Value Triple} {T : List Triple} {n : Numbers} (b : Block Value Triple) → Bounds b → (P : List Triple)
       (t : Symbol) (us : List Symbol) → Leads s xs u → triples_machine.step u t ≡ Ends env T n → list_any b.bars xs ≡ false → b.too_many (P ++ T) ≡ false
       → block_run b (xs ++ t ∷ us) (WithinTriples P s) ≡ block_run b (t ∷ us) (WithinTriples P u)
   unfolding block_run
   block_leads b bounds P t us (stay s) q new few = refl
-  block_leads b bounds P {s = s} {T = T} t us (go {u = v} {ts = ts} x p l) q new few =
+  block_leads {s = s} {T = T} b bounds P t us (go {u = v} {ts = ts} x p l) q new few =
       let (here, later) : (b.bars x ≡ false) × (list_any b.bars ts ≡ false) = or_parts (b.bars x) (list_any b.bars ts) new in
-      let (goes, more) : NotLost v × Extends (triples_in v) T = leads_grow t l q in
+      let (goes, more) : NotLost v × Extends (triples_so_far v) T = leads_grow t l q in
       ap (block_told b (ts ++ t ∷ us))
-      (stands b (WithinTriples P s) x here ∙ ap (within b x P) p ∙ enter b P v goes (few_before b bounds P (triples_in v) T more few))
+      (stands b (WithinTriples P s) x here ∙ ap (within b x P) p ∙ enter b P v goes (few_before b bounds P (triples_so_far v) T more few))
       ∙ block_leads b bounds P t us l q later few
 
   -- the token after triples
-  block_ends : (b : Block Value Triple) (P : List Triple) {u : triples.State Value Triple} {env : Context Value Triple} {T : List Triple} {n : Numbers}
+  block_ends : {env : Context Value Triple} {T : List Triple} {n : Numbers} (b : Block Value Triple) (P : List Triple) (u : triples.State Value Triple)
       (t : Symbol) (us : List Symbol) → triples_machine.step u t ≡ Ends env T n → b.bars t ≡ false → b.too_many (P ++ T) ≡ false
       → block_run b (t ∷ us) (WithinTriples P u) ≡ block_told b us (parted b t env (P ++ T) n)
   unfolding block_run
-  block_ends b P {u = u} {env = env} {T = T} {n = n} t us q new few =
-      ap (block_told b us) (stands b (WithinTriples P u) t new ∙ ap (within b t P) q ∙ ap (λ z. cond z _ (parted b t env (P ++ T) n)) few)
+  block_ends {env = env} {T = T} {n = n} b P u t us q new few =
+      ap (block_told b us) (stands b (WithinTriples P u) t new ∙ ap (within b t P) q ∙ ap (λ z. cond z (Stops OutOfProfile) (parted b t env (P ++ T) n)) few)
 
   -- the first symbol of triples is none that a block itself takes
   first_enters : (b : Block Value Triple) (P : List Triple) (env : Context Value Triple) (n : Numbers) (t : Symbol) → NotLost (opening env n t)
@@ -81,32 +84,32 @@ module _ {Value Triple : Type 0} where
   first_enters b P env n t h = refl
 
   -- triples and the token after them, from where they begin
-  block_triples : (b : Block Value Triple) → Bounds b → (P : List Triple) {env : Context Value Triple} {n k : Numbers} {ts : List Symbol} {T : List Triple} (t : Symbol) (us : List Symbol)
+  block_triples : {env : Context Value Triple} {n k : Numbers} {ts : List Symbol} {T : List Triple} (b : Block Value Triple) → Bounds b → (P : List Triple) (t : Symbol) (us : List Symbol)
       → LeadTriples env n ts t T k → list_any b.bars ts ≡ false → b.bars t ≡ false → b.too_many (P ++ T) ≡ false
       → block_run b (ts ++ t ∷ us) (AtTriples env P n) ≡ block_told b us (parted b t env (P ++ T) k)
   unfolding block_run
-  block_triples b bounds P {env = env} {n = n} {k = k} {T = T} t us r new free few =
+  block_triples {env = env} {n = n} {k = k} {T = T} b bounds P t us r new free few =
       let w : Symbol = r.first in
       let xs : List Symbol = r.others in
       let (here, later) : (b.bars w ≡ false) × (list_any b.bars xs ≡ false) = or_parts (b.bars w) (list_any b.bars xs) (ap (list_any b.bars) (sym r.parts) ∙ new) in
-      let (goes, more) : NotLost (opening env n w) × Extends (triples_in (opening env n w)) T = leads_grow t r.leads r.ends in
+      let (goes, more) : NotLost (opening env n w) × Extends (triples_so_far (opening env n w)) T = leads_grow t r.leads r.ends in
       ap (λ z. block_run b (z ++ t ∷ us) (AtTriples env P n)) r.parts
       ∙ ap (block_told b (xs ++ t ∷ us))
-      (stands b (AtTriples env P n) w here ∙ first_enters b P env n w goes ∙ enter b P (opening env n w) goes (few_before b bounds P (triples_in (opening env n w)) T more few))
+      (stands b (AtTriples env P n) w here ∙ first_enters b P env n w goes ∙ enter b P (opening env n w) goes (few_before b bounds P (triples_so_far (opening env n w)) T more few))
       ∙ block_leads b bounds P t us r.leads r.ends later few
-      ∙ block_ends b P t us r.ends free few
+      ∙ block_ends b P r.state t us r.ends free few
 
   -- the tokens of a block's triples, and its closing brace
-  pub template_run : (b : Block Value Triple) → Bounds b → (P : List Triple) {env : Context Value Triple} {n k : Numbers} {xs : List Symbol} {T : List Triple} (e : ℕ) (us : List Symbol)
+  pub template_run : {env : Context Value Triple} {n k : Numbers} {xs : List Symbol} {T : List Triple} (b : Block Value Triple) → Bounds b → (P : List Triple) (e : ℕ) (us : List Symbol)
       → IsTemplate env n xs T k → list_any b.bars xs ≡ false → ((t : Symbol) → Parts t → b.bars t ≡ false) → b.too_many (P ++ T) ≡ false
       → block_run b (xs ++ Foreign kind.CloseBrace e ∷ us) (AtTriples env P n) ≡ block_told b us (shut (b.operation (P ++ T)) k e)
   unfolding block_run
-  template_run b bounds P {env = env} e us (rule.nothing n) new free few =
+  template_run {env = env} b bounds P e us (rule.nothing n) new free few =
       ap (block_told b us) (stands b (AtTriples env P n) (Foreign kind.CloseBrace e) (free (Foreign kind.CloseBrace e) tt))
       ∙ ap (λ z. block_told b us (shut (b.operation z) n e)) (sym (append-nil P))
   template_run b bounds P e us (rule.last a) new free few =
       block_triples b bounds P (Foreign kind.CloseBrace e) us (triples_lead a (Foreign kind.CloseBrace e) tt) new (free (Foreign kind.CloseBrace e) tt) few
-  template_run b bounds P {env = env} {n = n} e us (rule.more {k = k} {l = l} {xs = xs} {ys = ys} {T = T} {U = U} i a r) new free few =
+  template_run {env = env} {n = n} b bounds P e us (rule.more {k = k} {l = l} {xs = xs} {ys = ys} {T = T} {U = U} i a r) new free few =
       let (here, later) : (list_any b.bars xs ≡ false) × ((b.bars (Dot i) || list_any b.bars ys) ≡ false) =
           or_parts (list_any b.bars xs) (b.bars (Dot i) || list_any b.bars ys) (sym (list_any-append b.bars xs (Dot i ∷ ys)) ∙ new) in
       let there : list_any b.bars ys ≡ false = (or_parts (b.bars (Dot i)) (list_any b.bars ys) later).1 in

@@ -12,13 +12,18 @@ use Rattle.gs_triples.specs.States as triples
 use Rattle.gs_triples.specs.States.{Opened, Closed, Heading, Held, Typing, Lost, Goes, Ends}
 use Rattle.gs_triples.specs.Machine as triples_machine
 use Rattle.gs_triples.specs.Machine.{opening}
-use Rattle.gs_update_text.specs.Requests.{Operation, Rejection}
+use Rattle.gs_update_text.specs.Requests.{UpdateOperation, Rejection, OutOfProfile}
 use Rattle.gs_update_text.specs.Operations.{Block}
 use Rattle.gs_update_text.specs.Grammar.{IsTemplate}
 use Rattle.gs_update_text.specs.Grammar as rule
-use Rattle.gs_update_text.specs.Blocks.{BlockState, AtTriples, WithinTriples, BlockTurn, Takes, Shuts, Stops, Shut, triples_in, counted, entered, shut, parted, followed, within, barred, at_triples, moved, block_step, block_taken, block_run}
+use Rattle.gs_update_text.specs.Blocks.{BlockState, AtTriples, WithinTriples, BlockTurn, Takes, Shuts, Stops, Shut, triples_so_far, counted, entered, shut, parted, followed, within, barred, at_triples, moved, block_step, block_taken, block_run}
 use Rattle.gs_update_text.proofs.LeadLemmas.{Leads, stay, go, lead_triples}
 use Rattle.gs_update_text.proofs.BlockLemmas.{block_told}
+
+-- the block that was read, or this one
+abbrev shut_or : Shut → Result Shut Rejection → Shut
+shut_or d (Ok r) = r
+shut_or d (Err e) = d
 
 module _ {Value Triple : Type 0} where
   -- the tokens up to the one that ends the triples, where the block ends as d
@@ -50,15 +55,19 @@ module _ {Value Triple : Type 0} where
   few_if b ts d m r false h = (refl, h)
   few_if b ts d m r true h = absurd (cc)
 
+  counted_on : (b : Block Value Triple) (P : List Triple) (ts : List Symbol) (d : Shut) (s : triples.State Value Triple) → block_told b ts (counted b P s) ≡ Ok d
+      → block_run b ts (WithinTriples P s) ≡ Ok d
+  counted_on b P ts d s h = (few_if b ts d (Takes (WithinTriples P s)) OutOfProfile (b.too_many (P ++ triples_so_far s)) h).1
+
   -- triples go on
   entered_on : (b : Block Value Triple) (P : List Triple) (ts : List Symbol) (d : Shut) (s : triples.State Value Triple) → block_told b ts (entered b P s) ≡ Ok d
       → block_run b ts (WithinTriples P s) ≡ Ok d
   entered_on b P ts d (Lost e) h = absurd (cc)
-  entered_on b P ts d (Opened env n) h = (few_if b ts d _ _ _ h).1
-  entered_on b P ts d (Closed v env T n) h = (few_if b ts d _ _ _ h).1
-  entered_on b P ts d (Heading g fs env T n) h = (few_if b ts d _ _ _ h).1
-  entered_on b P ts d (Held x fs env T n) h = (few_if b ts d _ _ _ h).1
-  entered_on b P ts d (Typing x fs env T n) h = (few_if b ts d _ _ _ h).1
+  entered_on b P ts d (Opened env n) h = counted_on b P ts d (Opened env n) h
+  entered_on b P ts d (Closed v env T n) h = counted_on b P ts d (Closed v env T n) h
+  entered_on b P ts d (Heading g fs env T n) h = counted_on b P ts d (Heading g fs env T n) h
+  entered_on b P ts d (Held x fs env T n) h = counted_on b P ts d (Held x fs env T n) h
+  entered_on b P ts d (Typing x fs env T n) h = counted_on b P ts d (Typing x fs env T n) h
 
   through_one : (b : Block Value Triple) (P : List Triple) (t : Symbol) (ts : List Symbol) (s v : triples.State Value Triple) (d : Shut) → b.bars t ≡ false
       → triples_machine.step s t ≡ Goes v → Through b P ts v d → Through b P (t ∷ ts) s d
@@ -94,15 +103,15 @@ module _ {Value Triple : Type 0} where
     leads = stay s;
     ends = q;
     new = refl;
-    few = (few_if b ts d _ _ (b.too_many (P ++ T)) h).0;
-    goes = (few_if b ts d _ _ (b.too_many (P ++ T)) h).1;
+    few = (few_if b ts d (parted b t env (P ++ T) n) OutOfProfile (b.too_many (P ++ T)) h).0;
+    goes = (few_if b ts d (parted b t env (P ++ T) n) OutOfProfile (b.too_many (P ++ T)) h).1;
   }
 
   through : (b : Block Value Triple) (P : List Triple) (ts : List Symbol) (s : triples.State Value Triple) (d : Shut) → block_run b ts (WithinTriples P s) ≡ Ok d → Through b P ts s d
   unfolding block_run
   through b P [] s d h = absurd (cc)
   through b P (t ∷ ts) s d h =
-      let (free, k) : (b.bars t ≡ false) × (block_told b ts (within b t P (triples_machine.step s t)) ≡ Ok d) = unbarred b ts d _ (b.bars t) h in
+      let (free, k) : (b.bars t ≡ false) × (block_told b ts (within b t P (triples_machine.step s t)) ≡ Ok d) = unbarred b ts d (moved b (WithinTriples P s) t) (b.bars t) h in
       through_turn b P t ts s d (triples_machine.step s t) free refl (λ v. through b P ts v d) k
 
   -- a block's triples, its closing brace, and what it makes of them
@@ -115,12 +124,8 @@ module _ {Value Triple : Type 0} where
     pub few : b.too_many (P ++ triples) ≡ false
     pub made : b.operation (P ++ triples) ≡ Some d.operation
 
-  abbrev shut_or : Shut → Result Shut Rejection → Shut
-  shut_or d (Ok r) = r
-  shut_or d (Err e) = d
-
   -- a closing brace after these triples
-  shut_found : (b : Block Value Triple) (env : Context Value Triple) (P T : List Triple) (n k : Numbers) (xs us : List Symbol) (e : ℕ) (d : Shut) (o : Option Operation)
+  shut_found : (b : Block Value Triple) (env : Context Value Triple) (P T : List Triple) (n k : Numbers) (xs us : List Symbol) (e : ℕ) (d : Shut) (o : Option UpdateOperation)
       → b.operation (P ++ T) ≡ o → IsTemplate env n xs T k → list_any b.bars xs ≡ false → b.too_many (P ++ T) ≡ false
       → block_told b us (shut o k e) ≡ Ok d → Found b env P n (xs ++ Foreign kind.CloseBrace e ∷ us) d
   shut_found b env P T n k xs us e d None q a new few h = absurd (cc)
@@ -179,5 +184,5 @@ module _ {Value Triple : Type 0} where
   template_found f b env d free P n [] size few h = absurd (cc)
   template_found zero b env d free P n (t ∷ ts) size few h = absurd (omega arith)
   template_found (suc f) b env d free P n (t ∷ ts) size few h =
-      let (here, k) : (b.bars t ≡ false) × (block_told b ts (at_triples b t env P n) ≡ Ok d) = unbarred b ts d _ (b.bars t) h in
+      let (here, k) : (b.bars t ≡ false) × (block_told b ts (at_triples b t env P n) ≡ Ok d) = unbarred b ts d (moved b (AtTriples env P n) t) (b.bars t) h in
       at_found f b env P n t ts d (template_found f b env d free) free here (omega arith) few k

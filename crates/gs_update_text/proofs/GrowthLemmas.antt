@@ -1,6 +1,6 @@
 -- The triples that the machine of triples has read stay, symbol by symbol.
 use Rattle.std.proofs.Common.{◌≡◌, ℕ, Bool, true, false, cond, List, [], ◌∷◌, ◌++◌, refl, sym, ap, ◌∙◌, append_assoc, append-nil, subst}
-use Rattle.std.specs.Prelude.{Result, Ok, Err}
+use Rattle.std.specs.Prelude.{codes, Result, Ok, Err}
 use Rattle.gs_model.specs.Terms.{Term}
 use Rattle.gs_blank.specs.Numbers.{Numbers, one_more}
 use Rattle.gs_triples.specs.Symbols.{Symbol, AWord, Text, At, Carets, Open, Close, OpenList, CloseList, Semicolon, Comma}
@@ -11,7 +11,7 @@ use Rattle.gs_triples.specs.Reading.{begins_verb}
 use Rattle.gs_triples.specs.Program.{stands_alone}
 use Rattle.gs_triples.specs.States.{Frame, ToObject, ToClose, ToFirst, ToItem, ToVerbs, ToMore, State, Opened, Closed, Heading, Held, Typing, Lost, Turn, Goes, Ends}
 use Rattle.gs_triples.specs.Machine.{give, shut, leave, give_token, put, object, after_verb, at_verb, first_object, head, after_alone, go_on, step}
-use Rattle.gs_update_text.specs.Blocks.{triples_in}
+use Rattle.gs_update_text.specs.Blocks.{triples_so_far}
 use Rattle.gs_update_text.proofs.LeadLemmas.{Leads, stay, go}
 
 -- a list, and more after it
@@ -108,24 +108,24 @@ module _ {Value Triple : Type 0} where
   head_grows (After d s p) t fs env P n = leave_grows t fs env P n
   head_grows (Semis d s) Semicolon fs env P n = all P
   head_grows (Semis d s) t fs env P n =
-      either P (begins_verb t) _ _ (verb_grows d s fs env P n (meaning.verb env t)) (leave_grows t fs env P n)
+      either P (begins_verb t) (Goes (at_verb d s t fs env P n)) (leave t fs env P n) (verb_grows d s fs env P n (meaning.verb env t)) (leave_grows t fs env P n)
   head_grows (Begun d) CloseList fs env P n = give_grows env _ fs P n
   head_grows (Begun d) t fs env P n = first_grows d t fs env P n
-  head_grows (Items d h l) CloseList fs env P n = grown_further P _ _ (_, refl) (give_grows env (blank env h) fs _ n)
+  head_grows (Items d h l) CloseList fs env P n = grown_further P (P ++ rest_is env l (rdf_value env (codes "nil")) ∷ []) (give env (blank env h) fs (P ++ rest_is env l (rdf_value env (codes "nil")) ∷ []) n) (rest_is env l (rdf_value env (codes "nil")) ∷ [], refl) (give_grows env (blank env h) fs (P ++ rest_is env l (rdf_value env (codes "nil")) ∷ []) n)
   head_grows (Items d h l) t fs env P n = object_grows d t (ToItem d h l (next_number n) ∷ fs) env P (one_more n)
 
   alone_grows : (v : Value) (t : Symbol) (env : Context Value Triple) (P : List Triple) (n : Numbers) → Grows P (after_alone v t env P n)
-  alone_grows v t env P n = either P (begins_verb t) _ _ (verb_grows 0 v [] env P n (meaning.verb env t)) (leave_grows t [] env P n)
+  alone_grows v t env P n = either P (begins_verb t) (Goes (at_verb 0 v t [] env P n)) (leave t [] env P n) (verb_grows 0 v [] env P n (meaning.verb env t)) (leave_grows t [] env P n)
 
   on_grows : (P : List Triple) (t : Symbol) (s : State Value Triple) → Grown P s → Grows P (go_on t s)
   on_grows P t (Heading g fs env Q n) h = grows_further P Q (head g t fs env Q n) h (head_grows g t fs env Q n)
   on_grows P t (Closed v env Q n) h = grows_further P Q (after_alone v t env Q n) h (alone_grows v t env Q n)
   on_grows P t s h = tt
 
-  step_grows : (s : State Value Triple) (t : Symbol) → Grows (triples_in s) (step s t)
+  step_grows : (s : State Value Triple) (t : Symbol) → Grows (triples_so_far s) (step s t)
   unfolding step
   step_grows (Opened env n) Close = all []
-  step_grows (Opened env n) t = verb_grows 1 _ _ env [] (one_more n) (meaning.verb env t)
+  step_grows (Opened env n) t = verb_grows 1 (blank env (next_number n)) (ToMore (next_number n) ∷ []) env [] (one_more n) (meaning.verb env t)
   step_grows (Closed v env P n) t = alone_grows v t env P n
   step_grows (Heading g fs env P n) t = head_grows g t fs env P n
   step_grows (Held x fs env P n) (At y) = put_grows fs env P n (tagged x y)
@@ -139,7 +139,7 @@ module _ {Value Triple : Type 0} where
   NotLost (Lost e) = ⊥
   NotLost s = Unit {0}
 
-  grown_all : (P : List Triple) (s : State Value Triple) → NotLost s → Grown P s → Extends P (triples_in s)
+  grown_all : (P : List Triple) (s : State Value Triple) → NotLost s → Grown P s → Extends P (triples_so_far s)
   grown_all P (Lost e) h g = elim h [ ]
   grown_all P (Opened env n) h g = g
   grown_all P (Closed v env Q n) h g = g
@@ -172,8 +172,8 @@ module _ {Value Triple : Type 0} where
 
   -- up to the token that ends them, triples only join
   pub leads_grow : {s u : State Value Triple} {xs : List Symbol} {env : Context Value Triple} {T : List Triple} {n : Numbers} (t : Symbol)
-      → Leads s xs u → step u t ≡ Ends env T n → NotLost s × Extends (triples_in s) T
-  leads_grow {env = env} {T = T} {n = n} t (stay s) q = (end_goes s t env T n q, subst (Grows (triples_in s)) q (step_grows s t))
+      → Leads s xs u → step u t ≡ Ends env T n → NotLost s × Extends (triples_so_far s) T
+  leads_grow {env = env} {T = T} {n = n} t (stay s) q = (end_goes s t env T n q, subst (Grows (triples_so_far s)) q (step_grows s t))
   leads_grow {s = s} {T = T} t (go {u = u} x p l) q =
-      let (goes, more) : NotLost u × Extends (triples_in u) T = leads_grow t l q in
-      (turn_goes s u x p goes, further (triples_in s) (triples_in u) T (grown_all (triples_in s) u goes (subst (Grows (triples_in s)) p (step_grows s x))) more)
+      let (goes, more) : NotLost u × Extends (triples_so_far u) T = leads_grow t l q in
+      (turn_goes s u x p goes, further (triples_so_far s) (triples_so_far u) T (grown_all (triples_so_far s) u goes (subst (Grows (triples_so_far s)) p (step_grows s x))) more)

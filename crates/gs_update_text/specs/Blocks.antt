@@ -9,7 +9,7 @@ use Rattle.gs_triples.specs.States as triples
 use Rattle.gs_triples.specs.States.{Opened, Closed, Heading, Held, Typing, Lost, Goes, Ends}
 use Rattle.gs_triples.specs.Machine as triples_machine
 use Rattle.gs_triples.specs.Machine.{opening, put}
-use Rattle.gs_update_text.specs.Requests.{Operation, Rejection, Broken, OutOfProfile}
+use Rattle.gs_update_text.specs.Requests.{UpdateOperation, Rejection, Broken, OutOfProfile}
 use Rattle.gs_update_text.specs.Operations.{Block}
 
 -- within a block, with the triples before: where triples may begin, or within some
@@ -20,29 +20,29 @@ pub data BlockState (Value Triple : Type 0) : Type 0 where
 -- what a symbol does in a block: it is taken, it closes the block, or it is the first departure
 pub data BlockTurn (Value Triple : Type 0) : Type 0 where
   Takes : BlockState Value Triple → BlockTurn Value Triple
-  Shuts : Operation → Numbers → (end : ℕ) → BlockTurn Value Triple
+  Shuts : UpdateOperation → Numbers → (end : ℕ) → BlockTurn Value Triple
   Stops : Rejection → BlockTurn Value Triple
 
 -- a closed block: its operation, the numbers after it, its end and the tokens after it
 pub record Shut : Type 0 where
-  pub operation : Operation
+  pub operation : UpdateOperation
   pub numbers : Numbers
   pub end : ℕ
   pub rest : List Symbol
 
 module _ {Value Triple : Type 0} where
   -- the triples that a state of their machine has
-  abbrev pub triples_in : triples.State Value Triple → List Triple
-  triples_in (Opened env n) = []
-  triples_in (Closed v env P n) = P
-  triples_in (Heading g fs env P n) = P
-  triples_in (Held x fs env P n) = P
-  triples_in (Typing x fs env P n) = P
-  triples_in (Lost e) = []
+  abbrev pub triples_so_far : triples.State Value Triple → List Triple
+  triples_so_far (Opened env n) = []
+  triples_so_far (Closed v env P n) = P
+  triples_so_far (Heading g fs env P n) = P
+  triples_so_far (Held x fs env P n) = P
+  triples_so_far (Typing x fs env P n) = P
+  triples_so_far (Lost e) = []
 
   -- within triples, after others, where there are not too many
   abbrev pub counted : Block Value Triple → List Triple → triples.State Value Triple → BlockTurn Value Triple
-  counted b P s = if b.too_many (P ++ triples_in s) then Stops OutOfProfile else Takes (WithinTriples P s)
+  counted b P s = if b.too_many (P ++ triples_so_far s) then Stops OutOfProfile else Takes (WithinTriples P s)
 
   -- and where they have no fault
   abbrev pub entered : Block Value Triple → List Triple → triples.State Value Triple → BlockTurn Value Triple
@@ -50,7 +50,7 @@ module _ {Value Triple : Type 0} where
   entered b P s = counted b P s
 
   -- the closing brace, after these triples
-  abbrev pub shut : Option Operation → Numbers → ℕ → BlockTurn Value Triple
+  abbrev pub shut : Option UpdateOperation → Numbers → ℕ → BlockTurn Value Triple
   shut None n e = Stops OutOfProfile
   shut (Some o) n e = Shuts o n e
 

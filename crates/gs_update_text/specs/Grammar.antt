@@ -12,7 +12,7 @@ use Rattle.gs_triples.specs.Languages.{of_terms}
 use Rattle.gs_triples.specs.Meanings.{Context}
 use Rattle.gs_triples.specs.Directives.{without_prefixes, with_prefix, with_base}
 use Rattle.gs_triples.specs.Triples.{AreTriples}
-use Rattle.gs_update_text.specs.Requests.{Operation, Inserts, DeletesData, DeletesWhere, Written}
+use Rattle.gs_update_text.specs.Requests.{UpdateOperation, Inserts, DeletesData, DeletesWhere, Written}
 use Rattle.gs_update_text.specs.Operations.{Scope, inserted, deleted, sought, in_language, max_patterns, is_old}
 
 module _ {Value Triple : Type 0} where

@@ -19,13 +19,13 @@ use Rattle.gs_update_text.specs.Blocks.{BlockState, BlockTurn, Takes, Shuts, Sto
 use Rattle.gs_update_text.specs.States.{Form, InsertData, DeleteData, DeleteWhere, State, Between, InPrefix, InPrefixIri, InBase, AfterInsert, AfterDelete, AtBrace, InData, InWhere, After, Rejected, block_of, Turn, quiet}
 
 -- a broken grammar
-abbrev pub broken : State
-broken = Rejected (Broken Syntax)
+abbrev pub syntax_fault : State
+syntax_fault = Rejected (Broken Syntax)
 
 -- the context that a directive leaves
-abbrev pub declared : Numbers → Option Scope → State
-declared n None = broken
-declared n (Some env) = Between env n
+abbrev pub prefaced : Numbers → Option Scope → State
+prefaced n None = syntax_fault
+prefaced n (Some env) = Between env n
 
 -- a word where an operation may begin; the operations of other forms are not served
 abbrev pub begun : TokenKind → Scope → Numbers → State
@@ -39,25 +39,25 @@ begun kind.Add env n = Rejected OutOfProfile
 begun kind.Move env n = Rejected OutOfProfile
 begun kind.Copy env n = Rejected OutOfProfile
 begun kind.With env n = Rejected OutOfProfile
-begun k env n = broken
+begun k env n = syntax_fault
 
 -- after INSERT; templates are not served
 abbrev pub inserting : TokenKind → Scope → Numbers → State
 inserting kind.Data env n = AtBrace InsertData env n
 inserting kind.OpenBrace env n = Rejected OutOfProfile
-inserting k env n = broken
+inserting k env n = syntax_fault
 
 -- after DELETE
 abbrev pub deleting : TokenKind → Scope → Numbers → State
 deleting kind.Data env n = AtBrace DeleteData env n
 deleting kind.Where env n = AtBrace DeleteWhere env n
 deleting kind.OpenBrace env n = Rejected OutOfProfile
-deleting k env n = broken
+deleting k env n = syntax_fault
 
 -- the opening brace
 abbrev pub opened : Form → TokenKind → Scope → Numbers → State
 opened f kind.OpenBrace env n = block_of f env n
-opened f k env n = broken
+opened f k env n = syntax_fault
 
 module _ {Value Triple : Type 0} where
   -- a symbol in a block
@@ -71,23 +71,23 @@ unfoldable pub step : State → Symbol → Turn
 step (Between env n) PrefixWord = quiet (InPrefix env n)
 step (Between env n) BaseWord = quiet (InBase env n)
 step (Between env n) (Foreign k e) = quiet (begun k env n)
-step (Between env n) t = quiet broken
+step (Between env n) t = quiet syntax_fault
 step (InPrefix env n) (AWord (Namespace p)) = quiet (InPrefixIri p env n)
-step (InPrefix env n) t = quiet broken
-step (InPrefixIri p env n) (AWord (Reference i e)) = quiet (declared n (with_prefix env p i))
-step (InPrefixIri p env n) t = quiet broken
-step (InBase env n) (AWord (Reference i e)) = quiet (declared n (with_base env i))
-step (InBase env n) t = quiet broken
+step (InPrefix env n) t = quiet syntax_fault
+step (InPrefixIri p env n) (AWord (Reference i e)) = quiet (prefaced n (with_prefix env p i))
+step (InPrefixIri p env n) t = quiet syntax_fault
+step (InBase env n) (AWord (Reference i e)) = quiet (prefaced n (with_base env i))
+step (InBase env n) t = quiet syntax_fault
 step (AfterInsert env n) (Foreign k e) = quiet (inserting k env n)
-step (AfterInsert env n) t = quiet broken
+step (AfterInsert env n) t = quiet syntax_fault
 step (AfterDelete env n) (Foreign k e) = quiet (deleting k env n)
-step (AfterDelete env n) t = quiet broken
+step (AfterDelete env n) t = quiet syntax_fault
 step (AtBrace f env n) (Foreign k e) = quiet (opened f k env n)
-step (AtBrace f env n) t = quiet broken
+step (AtBrace f env n) t = quiet syntax_fault
 step (InData b env s) t = blocked (InData b env) env (block_step b s t)
 step (InWhere b env s) t = blocked (InWhere b env) env (block_step b s t)
 step (After env n) Semicolon = quiet (Between env n)
-step (After env n) t = quiet broken
+step (After env n) t = quiet syntax_fault
 step (Rejected r) t = quiet (Rejected r)
 
 -- the departure of a text that ends there, if it is no update

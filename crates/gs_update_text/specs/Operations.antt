@@ -12,7 +12,7 @@ use Rattle.gs_blank.specs.Numbers.{Numbers, known}
 use Rattle.gs_triples.specs.Symbols.{Symbol, AWord, Label}
 use Rattle.gs_triples.specs.Languages.{Language, of_terms}
 use Rattle.gs_triples.specs.Meanings.{Context}
-use Rattle.gs_update_text.specs.Requests.{Operation, Inserts, DeletesData, DeletesWhere}
+use Rattle.gs_update_text.specs.Requests.{UpdateOperation, Inserts, DeletesData, DeletesWhere}
 
 -- the context between operations
 abbrev pub Scope : Type 0
@@ -57,10 +57,10 @@ pub record Block (Value Triple : Type 0) : Type 0 where
   pub language : Language Value Triple
   pub bars : Symbol → Bool
   pub too_many : List Triple → Bool
-  pub operation : List Triple → Option Operation
+  pub operation : List Triple → Option UpdateOperation
 
 -- one pattern or more
-abbrev pub some_patterns : List Pattern → Option Operation
+abbrev pub some_patterns : List Pattern → Option UpdateOperation
 some_patterns [] = None
 some_patterns (p ∷ P) = Some (DeletesWhere (p ∷ P))
 

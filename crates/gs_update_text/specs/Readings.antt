@@ -10,5 +10,5 @@ abbrev pub FindsUpdates : List ℕ → ℕ → List Lexeme → Type 0
 FindsUpdates b r ts = (os : List Written) → (IsUpdate b r ts os ↔ (request_of b r ts ≡ (os, None)))
 
 -- the rules give these tokens at most one list of operations
-abbrev pub HasOneMeaning : List ℕ → ℕ → List Lexeme → Type 0
-HasOneMeaning b r ts = (os us : List Written) → IsUpdate b r ts os → IsUpdate b r ts us → os ≡ us
+abbrev pub HasOneReading : List ℕ → ℕ → List Lexeme → Type 0
+HasOneReading b r ts = (os us : List Written) → IsUpdate b r ts os → IsUpdate b r ts us → os ≡ us

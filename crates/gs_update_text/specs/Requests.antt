@@ -5,14 +5,14 @@ use Rattle.gs_term.specs.declared.patterns.Pattern.{Pattern}
 use Rattle.gs_triples.specs.Meanings.{Fault}
 
 -- an operation, with the triples that are to be in the graph or not, or with patterns of those that are not to be
-pub data Operation : Type 0 where
-  Inserts : List RdfTriple → Operation
-  DeletesData : List RdfTriple → Operation
-  DeletesWhere : List Pattern → Operation
+pub data UpdateOperation : Type 0 where
+  Inserts : List RdfTriple → UpdateOperation
+  DeletesData : List RdfTriple → UpdateOperation
+  DeletesWhere : List Pattern → UpdateOperation
 
 -- an operation of a request, and the number of bytes up to the end of its closing brace
 pub record Written : Type 0 where
-  pub operation : Operation
+  pub operation : UpdateOperation
   pub end : ℕ
 
 -- why a text is no update that is served: it breaks the grammar or has a term that is too long; or its first departure
@@ -26,6 +26,6 @@ abbrev pub Request : Type 0
 Request = List Written × Option Rejection
 
 -- the end of the last operation, where one that ends after n bytes stands before
-abbrev pub last_end : ℕ → List Written → ℕ
-last_end n [] = n
-last_end n (o ∷ os) = last_end o.end os
+abbrev pub end_of_last : ℕ → List Written → ℕ
+end_of_last n [] = n
+end_of_last n (o ∷ os) = end_of_last o.end os
