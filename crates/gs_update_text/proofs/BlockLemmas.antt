@@ -53,7 +53,7 @@ module _ {Value Triple : Type 0} where
   few_before b bounds P A T (V, p) q = bounds (P ++ A) V (ap b.too_many (append_assoc P A V ∙ ap (λ z. P ++ z) (sym p)) ∙ q)
 
   -- a token that may stand
-  stands : (b : Block Value Triple) (s : BlockState Value Triple) (t : Symbol) → b.bars t ≡ false → block_step b s t ≡ moved b s t
+  pub stands : (b : Block Value Triple) (s : BlockState Value Triple) (t : Symbol) → b.bars t ≡ false → block_step b s t ≡ moved b s t
   stands b s t h = ap (λ z. cond z (barred (moved b s t)) (moved b s t)) h
 
   -- from one state of triples to the state that the token after them ends
@@ -78,13 +78,13 @@ module _ {Value Triple : Type 0} where
       ap (block_told b us) (stands b (WithinTriples P u) t new ∙ ap (within b t P) q ∙ ap (λ z. cond z (Stops OutOfProfile) (parted b t env (P ++ T) n)) few)
 
   -- the first symbol of triples is none that a block itself takes
-  first_enters : (b : Block Value Triple) (P : List Triple) (env : Context Value Triple) (n : Numbers) (t : Symbol) → NotLost (opening env n t)
+  pub first_enters : (b : Block Value Triple) (P : List Triple) (env : Context Value Triple) (n : Numbers) (t : Symbol) → NotLost (opening env n t)
       → at_triples b t env P n ≡ entered b P (opening env n t)
   first_enters b P env n (Foreign k e) h = elim h [ ]
   first_enters b P env n t h = refl
 
   -- triples and the token after them, from where they begin
-  block_triples : {env : Context Value Triple} {n k : Numbers} {ts : List Symbol} {T : List Triple} (b : Block Value Triple) → Bounds b → (P : List Triple) (t : Symbol) (us : List Symbol)
+  pub block_triples : {env : Context Value Triple} {n k : Numbers} {ts : List Symbol} {T : List Triple} (b : Block Value Triple) → Bounds b → (P : List Triple) (t : Symbol) (us : List Symbol)
       → LeadTriples env n ts t T k → list_any b.bars ts ≡ false → b.bars t ≡ false → b.too_many (P ++ T) ≡ false
       → block_run b (ts ++ t ∷ us) (AtTriples env P n) ≡ block_told b us (parted b t env (P ++ T) k)
   unfolding block_run

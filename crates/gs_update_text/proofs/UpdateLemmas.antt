@@ -89,12 +89,12 @@ none_barred [] = refl
 none_barred (t ∷ ts) = none_barred ts
 
 -- dots and braces are no labels
-parts_insert : (n : Numbers) (t : Symbol) → Parts t → (insert_block n).bars t ≡ false
+pub parts_insert : (n : Numbers) (t : Symbol) → Parts t → (insert_block n).bars t ≡ false
 parts_insert n (Dot e) h = refl
 parts_insert n (Foreign k e) h = refl
 parts_insert n t h = elim h [ ]
 
-parts_plain : (t : Symbol) → Parts t → false ≡ false
+pub parts_plain : (t : Symbol) → Parts t → false ≡ false
 parts_plain t h = refl
 
 -- what is said of a block by its rule
@@ -114,7 +114,7 @@ patterns_made [] h = absurd (omega arith)
 patterns_made (p ∷ T) h = refl
 
 -- a prologue
-prologue_read : {env next : Scope} {xs : List Symbol} (n : Numbers) (us : List Symbol) → IsPrologue env xs next
+pub prologue_read : {env next : Scope} {xs : List Symbol} (n : Numbers) (us : List Symbol) → IsPrologue env xs next
     → rest updates (Between env n) (xs ++ us) ≡ rest updates (Between next n) us
 unfolding rest step
 prologue_read n us (rule.nothing env) = refl
@@ -122,7 +122,7 @@ prologue_read n us (rule.base {xs = xs} i e q p) = ap (λ z. rest updates (prefa
 prologue_read n us (rule.prefix {xs = xs} x i e q p) = ap (λ z. rest updates (prefaced n z) (xs ++ us)) q ∙ prologue_read n us p
 
 -- an operation
-operation_read : {env : Scope} {n k : Numbers} {ys : List Symbol} {o : Written} (us : List Symbol) → IsOperation env n ys o k
+pub operation_read : {env : Scope} {n k : Numbers} {ys : List Symbol} {o : Written} (us : List Symbol) → IsOperation env n ys o k
     → rest updates (Between env n) (ys ++ us) ≡ joined (o ∷ []) (rest updates (After env k) us)
 unfolding rest step
 operation_read {env = env} {n = n} us (rule.insert_data a b c e new t) =

@@ -1,8 +1,9 @@
 -- What the machine reads of a request, beside the rules.
-use Rattle.std.specs.Prelude.{◌≡◌, ◌↔◌, ℕ, List, None}
+use Rattle.std.specs.Prelude.{◌≡◌, ◌↔◌, ℕ, List, Some, None}
 use Rattle.gs_lex.specs.Tokens.{Lexeme}
-use Rattle.gs_update_text.specs.Requests.{Written}
+use Rattle.gs_update_text.specs.Requests.{OutOfProfile, Written}
 use Rattle.gs_update_text.specs.Grammar.{IsUpdate}
+use Rattle.gs_update_text.specs.Profile.{LeavesProfile}
 use Rattle.gs_update_text.specs.Machine.{request_of}
 
 -- the machine finds just the updates that the rules give
@@ -12,3 +13,11 @@ FindsUpdates b r ts = (os : List Written) → (IsUpdate b r ts os ↔ (request_o
 -- the rules give these tokens at most one list of operations
 abbrev pub HasOneReading : List ℕ → ℕ → List Lexeme → Type 0
 HasOneReading b r ts = (os us : List Written) → IsUpdate b r ts os → IsUpdate b r ts us → os ≡ us
+
+-- where the tokens leave what is served, the machine refuses them so, after some operations
+abbrev pub RefusesDepartures : List ℕ → ℕ → List Lexeme → Type 0
+RefusesDepartures b r ts = LeavesProfile b r ts → (os : List Written) × (request_of b r ts ≡ (os, Some OutOfProfile))
+
+-- and they are no update
+abbrev pub KeepsApart : List ℕ → ℕ → List Lexeme → Type 0
+KeepsApart b r ts = (os : List Written) → IsUpdate b r ts os → LeavesProfile b r ts → ⊥

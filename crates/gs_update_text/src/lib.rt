@@ -3,4 +3,4 @@
 
 mod laws;
 
-pub use laws::{update_has_one_meaning, update_is_read};
+pub use laws::{departure_is_refused, update_has_one_meaning, update_is_read};

@@ -1,0 +1,100 @@
+-- The machine refuses what the rules say is not served.
+use Rattle.std.proofs.Common.{◌≡◌, ℕ, ◌+◌, ◌<◌, ◌≤◌, Bool, true, false, List, [], ◌∷◌, ◌++◌, length, refl, sym, ap, ◌∙◌, append_assoc, arith}
+use Rattle.std.specs.Prelude.{nat_lt, Result, Ok, Err, Option, Some, None}
+use Rattle.std.specs.List.{list_any}
+use Rattle.std.proofs.lemmas.Bool.{le-ltb, lt-ltb}
+use Rattle.gs_model.specs.Terms.{Term}
+use Rattle.gs_model.specs.Triples.{RdfTriple}
+use Rattle.gs_term.specs.declared.patterns.Part.{Part}
+use Rattle.gs_term.specs.declared.patterns.Pattern.{Pattern}
+use Rattle.gs_lex.specs.Tokens.{Lexeme}
+use Rattle.gs_lex.specs.declared.kinds.TokenKind.{TokenKind}
+use Rattle.gs_lex.specs.declared.kinds.TokenKind.TheVariants as kind
+use Rattle.gs_machine.specs.Machines.{joined, rest}
+use Rattle.gs_blank.specs.Numbers.{Numbers, no_numbers}
+use Rattle.gs_triples.specs.Symbols.{Symbol, Semicolon, Foreign, symbols_of}
+use Rattle.gs_triples.specs.Meanings.{Context}
+use Rattle.gs_update_text.specs.Requests.{Rejection, OutOfProfile, Written, Request}
+use Rattle.gs_update_text.specs.Operations.{Scope, Block, in_language, max_patterns, insert_block, delete_block, where_block}
+use Rattle.gs_update_text.specs.Grammar.{IsUpdate, first_scope}
+use Rattle.gs_update_text.specs.Profile as profile
+use Rattle.gs_update_text.specs.Profile.{BeginsOther, AreDotted, Expects, Departs, Leaves, LeavesProfile}
+use Rattle.gs_update_text.specs.Blocks.{BlockState, AtTriples, block_run}
+use Rattle.gs_update_text.specs.States.{State, Between, InData, InWhere}
+use Rattle.gs_update_text.specs.Machine.{begun, step, updates, request_of}
+use Rattle.gs_update_text.proofs.BlockLemmas.{Bounds, Parts, block_told, stands}
+use Rattle.gs_update_text.proofs.ExcessLemmas.{template_excess, dotted_run}
+use Rattle.gs_update_text.proofs.UpdateLemmas.{rejected_rest, after_block, Holds, block_rest, holds_data, holds_where, bounds_insert, bounds_delete, bounds_where, none_barred, parts_insert, parts_plain, prologue_read, operation_read}
+use Rattle.gs_update_text.proofs.ReadLemmas.{update_read}
+
+-- operations that are said before those of the rest
+abbrev Precedes : Scope → Numbers → List Symbol → Scope → Numbers → Type 0
+Precedes env n xs next k = (os : List Written) × ((us : List Symbol) → rest updates (Between env n) (xs ++ us) ≡ joined os (rest updates (Between next k) us))
+
+-- a front of an update, after which an operation is expected
+expects_read : {env next : Scope} {n k : Numbers} {xs : List Symbol} → Expects env n xs next k → Precedes env n xs next k
+unfolding rest step
+expects_read {n = n} (profile.first p) = ([], λ us. prologue_read n us p)
+expects_read {env = env} {n = n} (profile.later {next = next} {last = last} {k = k} {l = l} {xs = xs} {ys = ys} {zs = zs} {o = o} p a r) =
+    let more : Precedes next k zs last l = expects_read r in (
+      o ∷ more.0,
+      λ us. ap (rest updates (Between env n)) (append_assoc (xs ++ ys) (Semicolon ∷ zs) us ∙ append_assoc xs ys (Semicolon ∷ (zs ++ us)))
+          ∙ prologue_read n (ys ++ Semicolon ∷ (zs ++ us)) p ∙ operation_read (Semicolon ∷ (zs ++ us)) a ∙ ap (joined (o ∷ [])) (more.1 us),
+    )
+
+-- an operation of another form
+other_read : (k : TokenKind) → BeginsOther k → (env : Scope) (n : Numbers) (ts : List Symbol) → rest updates (begun k env n) ts ≡ ([], Some OutOfProfile)
+other_read kind.Load h env n ts = rejected_rest OutOfProfile ts
+other_read kind.Clear h env n ts = rejected_rest OutOfProfile ts
+other_read kind.Drop h env n ts = rejected_rest OutOfProfile ts
+other_read kind.Create h env n ts = rejected_rest OutOfProfile ts
+other_read kind.Add h env n ts = rejected_rest OutOfProfile ts
+other_read kind.Move h env n ts = rejected_rest OutOfProfile ts
+other_read kind.Copy h env n ts = rejected_rest OutOfProfile ts
+other_read kind.With h env n ts = rejected_rest OutOfProfile ts
+other_read k h env n ts = elim h [ ]
+
+module _ {Value Triple : Type 0} where
+  graph_stops : (b : Block Value Triple) (env : Context Value Triple) (P : List Triple) (n : Numbers) (e : ℕ) (ts : List Symbol) → b.bars (Foreign kind.Graph e) ≡ false
+      → block_run b (Foreign kind.Graph e ∷ ts) (AtTriples env P n) ≡ Err OutOfProfile
+  unfolding block_run
+  graph_stops b env P n e ts free = ap (block_told b ts) (stands b (AtTriples env P n) (Foreign kind.Graph e) free)
+
+  -- a graph where triples may begin
+  graph_read : {env : Scope} {n k : Numbers} {xs : List Symbol} {T : List Triple} (inside : BlockState Value Triple → State) (b : Block Value Triple) (e : ℕ) (ts : List Symbol)
+      → Holds inside b env → Bounds b → AreDotted (in_language b.language env) n xs T k → list_any b.bars xs ≡ false → ((t : Symbol) → Parts t → b.bars t ≡ false)
+      → b.bars (Foreign kind.Graph e) ≡ false → b.too_many T ≡ false
+      → rest updates (inside (AtTriples (in_language b.language env) [] n)) (xs ++ Foreign kind.Graph e ∷ ts) ≡ ([], Some OutOfProfile)
+  graph_read {env = env} {n = n} {k = k} {xs = xs} {T = T} inside b e ts h bounds a new free graph few =
+      block_rest inside b env h (xs ++ Foreign kind.Graph e ∷ ts) (AtTriples (in_language b.language env) [] n)
+      ∙ ap (after_block env) (dotted_run b bounds [] (Foreign kind.Graph e ∷ ts) a new free few ∙ graph_stops b (in_language b.language env) T k e ts graph)
+
+-- an operation that is not served
+departs_read : {env : Scope} {n : Numbers} {ts : List Symbol} → Departs env n ts → rest updates (Between env n) ts ≡ ([], Some OutOfProfile)
+unfolding rest step
+departs_read {env = env} {n = n} (profile.other_form k e ts h) = other_read k h env n ts
+departs_read (profile.insert_template a b ts) = rejected_rest OutOfProfile ts
+departs_read (profile.delete_template a b ts) = rejected_rest OutOfProfile ts
+departs_read {env = env} {n = n} (profile.insert_graph a b c e ts new d) =
+    graph_read (InData (insert_block n) env) (insert_block n) e ts (holds_data (insert_block n) env) (bounds_insert n) d new (parts_insert n) refl refl
+departs_read {env = env} (profile.delete_graph {xs = xs} a b c e ts d) =
+    graph_read (InData delete_block env) delete_block e ts (holds_data delete_block env) bounds_delete d (none_barred xs) parts_plain refl refl
+departs_read {env = env} (profile.where_graph {xs = xs} {T = T} a b c e ts d few) =
+    graph_read (InWhere where_block env) where_block e ts (holds_where where_block env) bounds_where d (none_barred xs) parts_plain refl (le-ltb max_patterns (length T) few)
+departs_read {env = env} {n = n} (profile.fifth_pattern {xs = xs} {T = T} a b c ts t five h) =
+    block_rest (InWhere where_block env) where_block env (holds_where where_block env) (xs ++ ts) (AtTriples (in_language where_block.language env) [] n)
+    ∙ ap (after_block env) (template_excess where_block bounds_where (λ t. refl) [] ts t refl (lt-ltb max_patterns (length T) (omega (arith, five))) h)
+departs_read (profile.no_pattern a b c e ts) = rejected_rest OutOfProfile ts
+
+-- tokens that leave what is served
+leaves_read : {env : Scope} {n : Numbers} {ts : List Symbol} → Leaves env n ts → (os : List Written) × (rest updates (Between env n) ts ≡ (os, Some OutOfProfile))
+leaves_read {env = env} {n = n} (profile.leaves {next = next} {k = k} {xs = xs} {ys = ys} e d) =
+    let more : Precedes env n xs next k = expects_read e in (more.0 ++ [], more.1 ys ∙ ap (joined more.0) (departs_read d))
+
+pub departure_read : (b : List ℕ) (r : ℕ) (ts : List Lexeme) → LeavesProfile b r ts → (os : List Written) × (request_of b r ts ≡ (os, Some OutOfProfile))
+departure_read b r ts h = leaves_read h
+
+pub departure_apart : (b : List ℕ) (r : ℕ) (ts : List Lexeme) (os : List Written) → IsUpdate b r ts os → LeavesProfile b r ts → ⊥
+departure_apart b r ts os u h =
+    let (us, said) : (us : List Written) × (request_of b r ts ≡ (us, Some OutOfProfile)) = departure_read b r ts h in
+    let both : None ≡ Some OutOfProfile = ap (λ (z : Request). z.1) (sym (update_read b r ts os u) ∙ said) in absurd (cc)
