@@ -8,7 +8,6 @@ use Rattle.gs_model.specs.declared.refusals.Refusal.{Refusal}
 use Rattle.gs_model.specs.declared.refusals.Refusal.TheVariants.{BadSeat}
 use Rattle.gs_event.specs.declared.events.Action.{Action}
 use Rattle.gs_event.specs.declared.events.Action.TheVariants.{Open, OpenPatch, Stage, Commit, CommitPatch, Pin, Piece, Cancel}
-use Rattle.gs_event.specs.declared.events.Event.{Event}
 use Rattle.gs_event.specs.declared.events.Event.TheVariants.{Seat as At, Reclaim}
 use Rattle.gs_event.specs.declared.answers.Answer.{Answer}
 use Rattle.gs_event.specs.declared.answers.Answer.TheVariants.{Opened, Staged, Status, Pinned, Lines, Cancelled, Refused}
@@ -16,7 +15,7 @@ use Rattle.gs_event.specs.Datasets.{Setting}
 use Rattle.gs_event.specs.Phases.{Phase, Idle, Writing, Patching, Reading}
 use Rattle.gs_event.specs.Views.{View, Totals, SeatView, Fits, FitsSeat}
 use Rattle.gs_event.specs.Waste.{Shown}
-use Rattle.gs_event.specs.Steps.{pin_after, next_pinned}
+use Rattle.gs_event.specs.Steps.{pin_after}
 use Rattle.gs_event.specs.Histories.{History, OpenRead, phase_of, phase_by, seat_view, Start, view_of, commit_after, pin_of, pinned_of}
 use Rattle.gs_event.specs.Continuing.{PinsGoOn}
 use Rattle.gs_event.proofs.HistoryLemmas.{later, refused_phase, same_after, changed_at, at_place}

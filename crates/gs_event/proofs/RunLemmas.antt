@@ -8,7 +8,7 @@ use Rattle.gs_event.specs.Views.{Fits, next_view}
 use Rattle.gs_event.specs.Waste.{Shown}
 use Rattle.gs_event.specs.Steps.{Steps}
 use Rattle.gs_event.specs.Runs.{Runs}
-use Rattle.gs_event.specs.Histories.{History, Start, IsLegal, view_of, pinned_of, history_of, HasRun}
+use Rattle.gs_event.specs.Histories.{History, Start, IsLegal, view_of, pinned_of, history_of}
 use Rattle.gs_event.specs.Continuing.{StepsGoOn}
 use Rattle.gs_event.proofs.HistoryLemmas.{view_of-cons}
 use Rattle.gs_event.proofs.PinLemmas.{pinned_of-cons}

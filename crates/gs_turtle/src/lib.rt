@@ -7,5 +7,5 @@ mod readers;
 #[cfg(test)]
 mod tests;
 
-pub use laws::{body_is_read, fault_ends_the_longest_front};
+pub use laws::{body_is_read, faulty_body_is_read};
 pub use readers::TurtleReader;

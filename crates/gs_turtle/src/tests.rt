@@ -1,7 +1,7 @@
 //! Each public call once.
 ghost use Rattle.std.specs.Prelude.{◌<◌};
 
-use crate::{TurtleReader, body_is_read};
+use crate::{TurtleReader, body_is_read, faulty_body_is_read};
 use gs_body::BodyReader;
 use gs_model::Refusal;
 use gs_term::Triple;
@@ -122,6 +122,7 @@ fn a_refused_call_leaves_the_list(rt: HostRuntime) -> Result<(), Fail> {
     assert_eq!(rt; triples.len(), 1);
     assert_eq!(rt; reader.finish(&mut triples), Err(Refusal::Closed));
     body_is_read();
+    faulty_body_is_read();
     Ok(())
 }
 
