@@ -10,7 +10,7 @@ use Rattle.gs_event.specs.declared.verdicts.Verdict.{Verdict}
 use Rattle.gs_event.specs.declared.verdicts.Verdict.TheVariants.{Missing, Full, LastNumber, Granted}
 use Rattle.gs_event.specs.Updates.{patched}
 use Rattle.gs_event.specs.Datasets.{Dataset, Setting, Operation, Puts, Posts, Creates, Patches, Deletes, Looks, Reads, graph_at, is_there, lines_at, with_graph, without_graph, triples_in, names_in, is_within, united, new_name, stored, stored_status, after, status_of, is_success}
-use Rattle.gs_event.specs.Verdicts.{verdict_of, granted_of, stored_of, holdings_of, place_in, operation_target, change_of, is_named, Decides, IsDecided, DecidesStore, DecidesChange, DecidesRemoval}
+use Rattle.gs_event.specs.Verdicts.{verdict_of, granted_of, stored_of, holdings_of, place_in, is_named, Decides, IsDecided, DecidesStore, DecidesChange, DecidesRemoval}
 use Rattle.gs_event.proofs.DatasetLemmas.{triples_in-with_graph, triples_in-without_graph, names_in-with_graph, names_in-without_name}
 
 below : (a b : ℕ) → nat_lt a b ≡ true → a < b

@@ -26,8 +26,8 @@ found_from ts [] b chosen = chosen
 found_from ts (p ∷ ps) b chosen = flat_map (λ t. found_if (λ c. found_from ts ps c (chosen ++ t ∷ [])) (bind_triple b p t)) ts
 
 -- what is found for the patterns that are left comes after what was found before
-abbrev pub Finds : {X Y Z : Type 0} → List RdfTriple → List Pattern → Vec Binding X → Vec (Bor RdfTriple) Y → Vec RdfTriple Z → Vec RdfTriple Z → Type 0
-Finds ts ps bound chosen old new = new.items ≡ old.items ++ found_from ts ps (bindings_of bound.items) (map (λ t. t.now) chosen.items)
+abbrev pub FindsMore : {X Y Z : Type 0} → List RdfTriple → List Pattern → Vec Binding X → Vec (Bor RdfTriple) Y → Vec RdfTriple Z → Vec RdfTriple Z → Type 0
+FindsMore ts ps bound chosen old new = new.items ≡ old.items ++ found_from ts ps (bindings_of bound.items) (map (λ t. t.now) chosen.items)
 
 -- more are bound, after those that were
 pub record BindsMore (old new : List Binding) : Type 0 where

@@ -1,7 +1,7 @@
 //! The instances of patterns in a graph, found by trying each triple for each pattern.
 ghost use Rattle.std.specs.Prelude.{◌≡◌, ◌++◌, map, IfOk, OnOk, option_map};
 ghost use Rattle.gs_event.specs.Solutions.{instances_of, term_for as term_for_of};
-ghost use Rattle.gs_plain.specs.Solving.{bindings_of, Finds, Binds, BindsTriple};
+ghost use Rattle.gs_plain.specs.Solving.{bindings_of, FindsMore, Binds, BindsTriple};
 
 use crate::graphs::SortedGraph;
 use gs_term::{Part, Pattern, TermText, Triple, VariableName};
@@ -46,7 +46,7 @@ fn search<'a>(
     triples: &'a [Triple],
     patterns: &'a [Pattern],
 ) -> Result<(), AllocError>
-    ensures found { OnOk result (Finds triples.now patterns.now bound.old chosen.old found.old found.new) }
+    ensures found { OnOk result (FindsMore triples.now patterns.now bound.old chosen.old found.old found.new) }
     ensures bound { OnOk result (bound.new.items ≡ bound.old.items) }
     ensures chosen { OnOk result (chosen.new.items ≡ chosen.old.items) }
 {
