@@ -12,7 +12,7 @@ use Rattle.gs_body.specs.Bodies.{Whole, Faulty, Meaning, Statement, IsBroken, en
 use Rattle.gs_model.specs.declared.faults.Fault.{Fault}
 use Rattle.gs_model.specs.declared.faults.Fault.TheVariants as fault
 use Rattle.gs_triples.specs.Symbols.{Symbol, symbols_of}
-use Rattle.gs_triples.specs.Meanings.{Context}
+use Rattle.gs_document.specs.Contexts.{TurtleContext}
 use Rattle.gs_document.specs.Documents.{AreStatements, IsDocument, start}
 use Rattle.gs_document.specs.Fronts.{NoStatement, AreLongest, AreBeforeFault}
 use Rattle.gs_document.specs.Program.{document}
@@ -26,12 +26,12 @@ use Rattle.gs_turtle.proofs.BodyLemmas.{body-read}
 use Rattle.gs_turtle.proofs.PlaceLemmas.{halves, statements_end, Rises, cut_rises, cut_within, cut_fault, rest_after, front_before}
 
 -- no statement has no token
-none_left : (env : Context) (n : Numbers) → NoStatement env n []
+none_left : (env : TurtleContext) (n : Numbers) → NoStatement env n []
 none_left env n [] ys S next k p s = absurd (omega (arith, statement_takes s))
 none_left env n (x ∷ xs) ys S next k p s = absurd (cc)
 
 -- whole statements are their own longest front
-whole_longest : (env : Context) (n : Numbers) (ts : List Symbol) (S : List Statement) (last : Context) (k : Numbers) → AreStatements env n ts S last k → AreLongest env n ts S
+whole_longest : (env : TurtleContext) (n : Numbers) (ts : List Symbol) (S : List Statement) (last : TurtleContext) (k : Numbers) → AreStatements env n ts S last k → AreLongest env n ts S
 whole_longest env n ts S last k a = record {
   front = ts;
   after = [];

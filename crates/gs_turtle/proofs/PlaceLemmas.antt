@@ -2,14 +2,14 @@
 use Rattle.std.proofs.Common.{◌≡◌, ℕ, ◌+◌, ◌^◌, ◌≤◌, ◌<◌, Bool, true, false, List, [], ◌∷◌, ◌++◌, length, refl, sym, ap, ◌∙◌, arith, if◌then◌else◌, encode_utf8, encode_utf8_all, length-append}
 use Rattle.std.specs.List.{AllByRecursion}
 use Rattle.std.specs.Str.{is_utf8}
-use Rattle.gs_lex.specs.Tokens.{Lexeme, Cut, Mode, Between, InComment, CutEnd, AtFault, place_after, ended, space, hash, comment, line_end, bad_comment, token, no_kind, no_token}
+use Rattle.gs_lex.specs.Tokens.{Lexeme, Cut, Gap, Between, InComment, CutEnd, AtFault, place_after, ended, space, hash, comment, line_end, bad_comment, token, no_kind, no_token}
 use Rattle.gs_lex.specs.declared.kinds.TokenKind.{TokenKind}
 use Rattle.gs_lex.specs.declared.kinds.TokenKind.TheVariants as kind
 use Rattle.gs_blank.specs.Numbers.{Numbers}
 use Rattle.gs_body.specs.Bodies.{Statement, end_after}
 use Rattle.gs_body.proofs.LeadingLemmas.{end_after-append}
 use Rattle.gs_triples.specs.Symbols.{Reference, Namespace, Symbol, AWord, At, Dot, PrefixWord, BaseWord, Foreign, symbol, symbol_of, symbols_of}
-use Rattle.gs_triples.specs.Meanings.{Context}
+use Rattle.gs_document.specs.Contexts.{TurtleContext}
 use Rattle.gs_document.specs.Documents as statement
 use Rattle.gs_document.specs.Documents.{IsStatement, AreStatements}
 use Rattle.gs_turtle.specs.Faults.{last_end}
@@ -26,7 +26,7 @@ kind_end kind.Dot x n = refl
 kind_end k x n = refl
 
 token_end : (t : Lexeme) → own_end t.«end» (symbol_of t) ≡ t.«end»
-token_end t = elim (is_utf8 t.text) as (λ b. own_end t.«end» (if b then symbol t.kind t.text t.«end» else Foreign) ≡ t.«end») [
+token_end t = elim (is_utf8 t.text) as (λ b. own_end t.«end» (if b then symbol t.kind t.text t.«end» else Foreign t.kind t.«end») ≡ t.«end») [
   | true ↦ kind_end t.kind t.text t.«end»
   | false ↦ refl
 ]
@@ -73,7 +73,7 @@ last_end-append c [] ws = refl
 last_end-append c (v ∷ vs) ws = last_end-append v.«end» vs ws
 
 -- a statement ends where its last token does
-statement_end : {env next : Context} {n k : Numbers} {xs : List Symbol} {S : List Statement} → IsStatement env n xs S next k → (us : List Lexeme) (c : ℕ) → symbols_of us ≡ xs → end_after c S ≡ last_end c us
+statement_end : {env next : TurtleContext} {n k : Numbers} {xs : List Symbol} {S : List Statement} → IsStatement env n xs S next k → (us : List Lexeme) (c : ℕ) → symbols_of us ≡ xs → end_after c S ≡ last_end c us
 statement_end (statement.prefix x p i e end h q) us c same = sym (last_is us (At x ∷ AWord (Namespace p) ∷ AWord (Reference i e) ∷ []) (Dot end) end c same (λ d. refl))
 statement_end (statement.base x i e end h q) us c same = sym (last_is us (At x ∷ AWord (Reference i e) ∷ []) (Dot end) end c same (λ d. refl))
 statement_end (statement.prefix_word p i end q) us c same = sym (last_is us (PrefixWord ∷ AWord (Namespace p) ∷ []) (AWord (Reference i end)) end c same (λ d. refl))
@@ -81,7 +81,7 @@ statement_end (statement.base_word i end q) us c same = sym (last_is us (BaseWor
 statement_end (statement.triples {xs = xs} end h) us c same = sym (last_is us xs (Dot end) end c same (λ d. refl))
 
 -- so do statements
-pub statements_end : {env last : Context} {n k : Numbers} {xs : List Symbol} {S : List Statement} → AreStatements env n xs S last k → (us : List Lexeme) (c : ℕ) → symbols_of us ≡ xs → end_after c S ≡ last_end c us
+pub statements_end : {env last : TurtleContext} {n k : Numbers} {xs : List Symbol} {S : List Statement} → AreStatements env n xs S last k → (us : List Lexeme) (c : ℕ) → symbols_of us ≡ xs → end_after c S ≡ last_end c us
 statements_end (statement.nothing _ _) [] c same = refl
 statements_end (statement.nothing _ _) (t ∷ us) c same = absurd (cc)
 statements_end (statement.statement {xs = xs} {ys = ys} {S = S} {R = R} a b) us c same =
@@ -97,7 +97,7 @@ abbrev pub Rises : ℕ → List Lexeme → Type 0
 Rises n [] = Unit {0}
 Rises n (t ∷ ts) = (n ≤ t.start) × (t.start ≤ t.«end») × Rises t.«end» ts
 
-pub cut_rises : (u : Bool) (m : Mode) (n l : ℕ) (x : List ℕ) (ts : List Lexeme) (e : CutEnd) → l ≤ n → n < 2 ^ 64 → Cut u m n l x ts e → Rises l ts
+pub cut_rises : (u : Bool) (m : Gap) (n l : ℕ) (x : List ℕ) (ts : List Lexeme) (e : CutEnd) → l ≤ n → n < 2 ^ 64 → Cut u m n l x ts e → Rises l ts
 cut_rises u _ n l x _ _ h k (ended q) = tt
 cut_rises u _ n l x ts e h k (space c r q i d) = cut_rises u Between (place_after n 1) l r ts e (omega arith) (omega arith) d
 cut_rises u _ n l x ts e h k (hash r q d) = cut_rises u InComment (place_after n 1) l r ts e (omega arith) (omega arith) d
@@ -111,7 +111,7 @@ cut_rises u _ n l x _ _ h k (no_kind t w r g i) = tt
 cut_rises u _ n l x _ _ h k (no_token c r q i j a) = tt
 
 -- the last token ends within the text
-pub cut_within : (u : Bool) (m : Mode) (n l : ℕ) (x : List ℕ) (ts : List Lexeme) (e : CutEnd) → l ≤ n → n < 2 ^ 64 → Cut u m n l x ts e → last_end l ts ≤ n + length x
+pub cut_within : (u : Bool) (m : Gap) (n l : ℕ) (x : List ℕ) (ts : List Lexeme) (e : CutEnd) → l ≤ n → n < 2 ^ 64 → Cut u m n l x ts e → last_end l ts ≤ n + length x
 cut_within u _ n l x _ _ h k (ended q) = omega arith
 cut_within u _ n l x ts e h k (space c r q i d) = omega (arith, cut_within u Between (place_after n 1) l r ts e (omega arith) (omega arith) d, ap length q)
 cut_within u _ n l x ts e h k (hash r q d) = omega (arith, cut_within u InComment (place_after n 1) l r ts e (omega arith) (omega arith) d, ap length q)
@@ -129,7 +129,7 @@ fault_is : (l k : ℕ) → AtFault l ≡ AtFault k → k ≡ l
 fault_is l k p = cc
 
 -- a fault of the lexer stands after the last token
-pub cut_fault : (u : Bool) (m : Mode) (n l : ℕ) (x : List ℕ) (ts : List Lexeme) (e : CutEnd) (k : ℕ) → Cut u m n l x ts e → e ≡ AtFault k → k ≡ last_end l ts
+pub cut_fault : (u : Bool) (m : Gap) (n l : ℕ) (x : List ℕ) (ts : List Lexeme) (e : CutEnd) (k : ℕ) → Cut u m n l x ts e → e ≡ AtFault k → k ≡ last_end l ts
 cut_fault u _ n l x _ _ k (ended q) p = absurd (cc)
 cut_fault u _ n l x ts e k (space c r q i d) p = cut_fault u Between (place_after n 1) l r ts e k d p
 cut_fault u _ n l x ts e k (hash r q d) p = cut_fault u InComment (place_after n 1) l r ts e k d p
