@@ -6,6 +6,7 @@ use Rattle.std.proofs.lemmas.List.FromFn.{length-map-range_with_len, get_or-map-
 use Rattle.std.specs.List.{range_with_len, slice_get}
 use Rattle.std.specs.Option.{option_map}
 use Rattle.std.specs.declared.hash.FoldHasher.{FoldHasher}
+use Rattle.gs_model.specs.Limits.{last_term}
 use Rattle.gs_model.specs.Terms.{Term, Iri, text_of, IsTerm}
 use Rattle.gs_model.specs.Texts.{term_of, IsCanonical}
 use Rattle.std.proofs.lemmas.Bool.Decides.{nat_tests}
@@ -13,7 +14,7 @@ use Rattle.std.specs.Bool.{Decides}
 use Rattle.gs_model.proofs.TextLemmas.{term_of-text_of, text_of-injective}
 use Rattle.gs_dict.specs.declared.chains.Entry.{Entry}
 use Rattle.gs_dict.specs.Chains.{IsTable, Has, Meets, KeepsTexts, entry_at, text_at, start_at}
-use Rattle.gs_dict.specs.Numbering.{IsNumberOf, IsNew, IsDistinct, Joins, last_term}
+use Rattle.gs_dict.specs.Numbering.{IsNumberOf, IsNew, IsDistinct, Joins}
 use Rattle.gs_dict.specs.Kept.{IsDict, hash_of, term_at, terms_of}
 
 -- as many terms as entries

@@ -3,11 +3,11 @@ use Rattle.std.specs.Prelude.{◌≡◌, ℕ, ◌+◌, ◌<◌, ◌≤◌, List,
 use Rattle.std.specs.List.{range_with_len}
 use Rattle.std.specs.Hash.FoldHasher as folding
 use Rattle.std.specs.declared.hash.FoldHasher.{FoldHasher}
+use Rattle.gs_model.specs.Limits.{last_term}
 use Rattle.gs_model.specs.Terms.{Term}
 use Rattle.gs_model.specs.Texts.{term_of, IsCanonical}
 use Rattle.gs_dict.specs.declared.chains.Entry.{Entry}
 use Rattle.gs_dict.specs.Chains.{IsTable, entry_at, text_at}
-use Rattle.gs_dict.specs.Numbering.{last_term}
 
 -- the hash of a text, from a hasher that has been given the seed
 unfoldable pub hash_of : FoldHasher → List ℕ → ℕ

@@ -5,10 +5,6 @@ use Rattle.gs_model.specs.declared.refusals.Refusal.{Refusal}
 use Rattle.gs_model.specs.declared.refusals.Refusal.TheVariants.{NoMemory}
 use Rattle.gs_dict.specs.declared.numbers.TermId.{TermId}
 
--- the greatest number of a term
-abbrev pub last_term : ℕ
-last_term = 4_294_967_294
-
 -- this number is the term's
 abbrev pub IsNumberOf : List Term → ℕ → Term → Type 0
 IsNumberOf ts n t = slice_get ts n ≡ Some t

@@ -3,19 +3,17 @@ ghost use Rattle.std.specs.Prelude.{◌≡◌, ◌+◌, ◌<◌, ◌≤◌, [], 
 ghost use Rattle.std.specs.Bool.{Decides};
 ghost use Rattle.std.specs.Option.{option_map};
 ghost use Rattle.gs_model.specs.Terms.{Term, text_of, IsTerm};
-ghost use Rattle.gs_dict.specs.Numbering.{last_term, IsNumberOf, IsDistinct, LooksUp, Interns};
+ghost use Rattle.gs_model.specs.Limits.{last_term};
+ghost use Rattle.gs_dict.specs.Numbering.{IsNumberOf, IsDistinct, LooksUp, Interns};
 ghost use Rattle.gs_dict.specs.Kept.{hash_of as hash_of_text};
 
 use crate::chains::{self, Entry};
 use crate::numbers::TermId;
-use gs_model::Refusal;
+use gs_model::{LAST_TERM, Refusal};
 use gs_term::TermText;
 use std::alloc::Global;
 use std::hash::{FoldHasher, Hasher};
 use std::marker::Model;
-
-/// The greatest number of a term.
-const LAST_TERM: u32 = 4_294_967_294;
 
 /// The buckets of a dictionary without terms. They are doubled as terms are added.
 const FIRST_BUCKETS: usize = 1024;

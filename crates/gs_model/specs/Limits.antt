@@ -32,3 +32,11 @@ max_names = 65_536
 -- the greatest number of a node: numbering begins at 0
 abbrev pub last_node : ℕ
 last_node = 4_294_967_294
+
+-- the greatest number of a term: numbering begins at 0
+abbrev pub last_term : ℕ
+last_term = 4_294_967_294
+
+-- the most patterns of a DELETE WHERE
+abbrev pub max_patterns : ℕ
+max_patterns = 4

@@ -17,3 +17,9 @@ pub const MAX_SEATS: u16 = 512;
 
 /// The greatest number of a node: numbering begins at 0.
 pub const LAST_NODE: u64 = 4_294_967_294;
+
+/// The greatest number of a term: numbering begins at 0.
+pub const LAST_TERM: u32 = 4_294_967_294;
+
+/// The most patterns of a DELETE WHERE.
+pub const MAX_PATTERNS: usize = 4;

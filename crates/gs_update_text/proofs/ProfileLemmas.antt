@@ -15,7 +15,8 @@ use Rattle.gs_blank.specs.Numbers.{Numbers, no_numbers}
 use Rattle.gs_triples.specs.Symbols.{Symbol, Semicolon, Foreign, symbols_of}
 use Rattle.gs_triples.specs.Meanings.{Context}
 use Rattle.gs_update_text.specs.Requests.{Rejection, OutOfProfile, Written, Request}
-use Rattle.gs_update_text.specs.Operations.{Scope, Block, in_language, max_patterns, insert_block, delete_block, where_block}
+use Rattle.gs_model.specs.Limits.{max_patterns}
+use Rattle.gs_update_text.specs.Operations.{Scope, Block, in_language, insert_block, delete_block, where_block}
 use Rattle.gs_update_text.specs.Grammar.{IsUpdate, first_scope}
 use Rattle.gs_update_text.specs.Profile as profile
 use Rattle.gs_update_text.specs.Profile.{BeginsOther, AreDotted, Expects, Departs, Leaves, LeavesProfile}

@@ -15,7 +15,8 @@ use Rattle.gs_triples.specs.Symbols.{Symbol, AWord, Reference, Namespace, Dot, S
 use Rattle.gs_triples.specs.Meanings.{Syntax}
 use Rattle.gs_triples.specs.Directives.{with_prefix, with_base}
 use Rattle.gs_update_text.specs.Requests.{UpdateOperation, Inserts, DeletesData, DeletesWhere, Rejection, Broken, OutOfProfile, Written, Request}
-use Rattle.gs_update_text.specs.Operations.{Scope, Block, inserted, deleted, sought, in_language, max_patterns, insert_block, delete_block, where_block, some_patterns}
+use Rattle.gs_model.specs.Limits.{max_patterns}
+use Rattle.gs_update_text.specs.Operations.{Scope, Block, inserted, deleted, sought, in_language, insert_block, delete_block, where_block, some_patterns}
 use Rattle.gs_update_text.specs.Grammar as rule
 use Rattle.gs_update_text.specs.Grammar.{IsTemplate, IsPrologue, IsOperation, AreOperations, IsUpdate, braced, first_scope}
 use Rattle.gs_update_text.specs.Blocks.{BlockState, AtTriples, Shut, block_run}

@@ -13,7 +13,8 @@ use Rattle.gs_blank.specs.Numbers.{Numbers}
 use Rattle.gs_triples.specs.Symbols.{Symbol, AWord, Reference, Namespace, Dot, Semicolon, PrefixWord, BaseWord, Foreign}
 use Rattle.gs_triples.specs.Directives.{with_prefix, with_base}
 use Rattle.gs_update_text.specs.Requests.{UpdateOperation, DeletesWhere, Rejection, Written, Request}
-use Rattle.gs_update_text.specs.Operations.{Scope, Block, inserted, deleted, sought, in_language, max_patterns, insert_block, delete_block, where_block, some_patterns}
+use Rattle.gs_model.specs.Limits.{max_patterns}
+use Rattle.gs_update_text.specs.Operations.{Scope, Block, inserted, deleted, sought, in_language, insert_block, delete_block, where_block, some_patterns}
 use Rattle.gs_update_text.specs.Grammar as rule
 use Rattle.gs_update_text.specs.Grammar.{IsTemplate, IsPrologue, IsOperation, AreOperations, AreNew}
 use Rattle.gs_update_text.specs.Blocks.{BlockState, AtTriples, BlockTurn, Takes, Shuts, Stops, Shut, shut, block_step, block_ended, block_run}

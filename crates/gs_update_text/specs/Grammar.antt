@@ -13,7 +13,8 @@ use Rattle.gs_triples.specs.Meanings.{Context}
 use Rattle.gs_triples.specs.Directives.{without_prefixes, with_prefix, with_base}
 use Rattle.gs_triples.specs.Triples.{AreTriples}
 use Rattle.gs_update_text.specs.Requests.{UpdateOperation, Inserts, DeletesData, DeletesWhere, Written}
-use Rattle.gs_update_text.specs.Operations.{Scope, inserted, deleted, sought, in_language, max_patterns, is_old}
+use Rattle.gs_model.specs.Limits.{max_patterns}
+use Rattle.gs_update_text.specs.Operations.{Scope, inserted, deleted, sought, in_language, is_old}
 
 module _ {Value Triple : Type 0} where
   -- [52] TriplesTemplate, or nothing: triples parted by dots, with a dot after the last of them or none; and the numbers

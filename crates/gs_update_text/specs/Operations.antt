@@ -2,6 +2,7 @@
 -- a language of triples for each, the labels that may not stand again, and how many triples there may be.
 use Rattle.std.specs.Prelude.{ℕ, Bool, true, false, not, List, [], ◌∷◌, length, nat_lt, codes, Option, Some, None, option_map, is_some, option_and_then}
 use Rattle.std.specs.List.{list_any}
+use Rattle.gs_model.specs.Limits.{max_patterns}
 use Rattle.gs_model.specs.Terms.{Term}
 use Rattle.gs_model.specs.Triples.{RdfTriple}
 use Rattle.gs_term.specs.declared.patterns.Part.{Part}
@@ -37,10 +38,6 @@ sought = record { of_term = TheTerm; variable = λ x. Some (Variable x); triple 
 -- the base and the prefixes, for triples of a language
 abbrev pub in_language : {Value Triple : Type 0} → Language Value Triple → Scope → Context Value Triple
 in_language l env = record { base = env.base; prefixes = env.prefixes; request = env.request; language = l }
-
--- most patterns of a DELETE WHERE
-abbrev pub max_patterns : ℕ
-max_patterns = 4
 
 -- a label that has a number already
 abbrev pub has_number : Numbers → Option (List ℕ) → Bool

@@ -11,7 +11,8 @@ use Rattle.gs_triples.specs.Symbols.{Symbol, Text, At, Carets, Dot, Semicolon, F
 use Rattle.gs_triples.specs.Meanings.{Context}
 use Rattle.gs_triples.specs.Triples.{AreTriples}
 use Rattle.gs_update_text.specs.Requests.{Written}
-use Rattle.gs_update_text.specs.Operations.{Scope, inserted, deleted, sought, in_language, max_patterns}
+use Rattle.gs_model.specs.Limits.{max_patterns}
+use Rattle.gs_update_text.specs.Operations.{Scope, inserted, deleted, sought, in_language}
 use Rattle.gs_update_text.specs.Grammar.{IsTemplate, IsPrologue, IsOperation, AreNew, first_scope}
 
 -- [31] Load, [32] Clear, [33] Drop, [34] Create, [35] Add, [36] Move, [37] Copy, and [41] Modify with a graph: their first words
