@@ -1,5 +1,5 @@
 //! A document that ends too early, at each of its bytes.
-use crate::examples::{lines_of, read};
+use crate::readings::{lines_of, read};
 use gs_model::Refusal;
 use std::test::Fail;
 
@@ -64,7 +64,7 @@ fn a_text_says_what_stands_before_its_end(rt: HostRuntime) -> Result<(), Fail> {
             let got = lines_of(rt.alloc(), triples.as_slice())?;
             assert_eq!(rt; got.len(), want.len(), "at {length}, {size}");
             for (line, wanted) in got.iter().zip(want) {
-                assert_eq!(rt; line.as_str(), *wanted, "at {length}, {size}");
+                assert_eq!(rt; line.as_slice(), wanted.as_bytes(), "at {length}, {size}");
             }
         }
     }

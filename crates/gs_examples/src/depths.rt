@@ -1,5 +1,5 @@
 //! Brackets and collections within one another, up to the most that may be.
-use crate::examples::read;
+use crate::readings::read;
 use gs_model::Refusal;
 use std::alloc::{AllocError, Global};
 use std::process::Abort;

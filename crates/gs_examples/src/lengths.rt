@@ -1,5 +1,5 @@
 //! Long terms, of which the longest that may be has 65,535 bytes, and long documents.
-use crate::examples::{lines_of, read};
+use crate::readings::{lines_of, read};
 use gs_model::Refusal;
 use std::alloc::{AllocError, Global};
 use std::process::Abort;
@@ -125,7 +125,7 @@ fn a_long_document_keeps_its_labels(rt: HostRuntime) -> Result<(), Fail> {
     ];
     assert_eq!(rt; lines.len(), wanted.len());
     for (line, want) in lines.iter().zip(wanted) {
-        assert_eq!(rt; line.as_str(), want);
+        assert_eq!(rt; line.as_slice(), want.as_bytes());
     }
     Ok(())
 }

@@ -1,7 +1,7 @@
 //! A text read in pieces of any size.
 ghost use Rattle.std.specs.Prelude.{◌<◌};
 
-use gs_lex::{Lexer, Token, TokenKind};
+use gs_lex::{Lexer, Token};
 use gs_model::Refusal;
 use std::alloc::Global;
 use std::process::Abort;
@@ -17,19 +17,21 @@ fn cut(lexer: &mut Lexer, text: &[u8], size: usize, tokens: &mut Vec<Token>) -> 
     lexer.finish(tokens)
 }
 
-/// The kinds of a text's tokens.
-fn kinds_of(
-    alloc: Global,
-    updates: bool,
-    text: &[u8],
-    size: usize,
-) -> Result<Vec<TokenKind>, Refusal>
+/// The kinds of a text's tokens, by name, with a space between two.
+fn kinds_of(alloc: Global, updates: bool, text: &[u8], size: usize) -> Result<String, Refusal>
     requires { 0 < size }
 {
     let mut lexer = Lexer::new(alloc, updates);
     let mut tokens = Vec::new(alloc);
     cut(&mut lexer, text, size, &mut tokens)?;
-    Ok(tokens.iter().map(|token| token.kind).collect(alloc)?)
+    let mut names = String::new(alloc);
+    for token in &tokens {
+        if !names.is_empty() {
+            names.push(' ')?;
+        }
+        names.push_str(format!(in alloc; "{:?}", token.kind)?.as_str())?;
+    }
+    Ok(names)
 }
 
 /// Asserts that a text in pieces of so many bytes has these tokens.
@@ -39,12 +41,12 @@ fn expect_in(
     updates: bool,
     text: &str,
     size: usize,
-    want: &[TokenKind],
+    want: &str,
 ) -> Result<(), Fail>
     requires { 0 < size }
 {
     let kinds = kinds_of(alloc, updates, text.as_bytes(), size)?;
-    assert_eq!(rt; kinds.as_slice(), want, "at {text}");
+    assert_eq!(rt; kinds.as_str(), want, "at {text}");
     Ok(())
 }
 
@@ -54,7 +56,7 @@ pub fn expect(
     alloc: Global,
     updates: bool,
     text: &str,
-    want: &[TokenKind],
+    want: &str,
 ) -> Result<(), Fail> {
     expect_in(rt, alloc, updates, text, 1000, want)?;
     expect_in(rt, alloc, updates, text, 1, want)?;

@@ -1,0 +1,62 @@
+//! The reading of a document, whole or in pieces.
+use gs_body::BodyReader;
+use gs_iri::is_absolute;
+use gs_model::Refusal;
+use gs_ntwrite::line;
+use gs_term::Triple;
+use gs_turtle::TurtleReader;
+use std::alloc::Global;
+
+/// Feeds a document in pieces of so many bytes, at least 1, and ends it.
+fn feed(
+    reader: &mut TurtleReader,
+    text: &[u8],
+    size: usize,
+    triples: &mut Vec<Triple>,
+) -> Result<(), Refusal> {
+    for piece in text.chunks(size.max(1)) {
+        reader.feed(piece, triples)?;
+    }
+    reader.finish(triples)
+}
+
+/// Reads a document of request 1 under a base, in pieces of so many bytes.
+pub fn read(
+    alloc: Global,
+    base: &str,
+    text: &[u8],
+    size: usize,
+    triples: &mut Vec<Triple>,
+) -> Result<(), Refusal> {
+    if !is_absolute(base) {
+        return Err(Refusal::Syntax(0));
+    }
+    let mut reader = TurtleReader::new(alloc, 1, base)?;
+    feed(&mut reader, text, size, triples)
+}
+
+/// The canonical lines of triples without their line feeds, sorted, each once.
+pub fn lines_of(alloc: Global, triples: &[Triple]) -> Result<Vec<Vec<u8>>, Refusal> {
+    let mut lines = Vec::new(alloc);
+    for triple in triples {
+        let mut bytes = Vec::new(alloc);
+        line(triple, &mut bytes)?;
+        bytes.pop();
+        lines.push(bytes)?;
+    }
+    lines.sort_unstable();
+    lines.dedup();
+    Ok(lines)
+}
+
+/// The lines of a document's triples, or the text's fault.
+pub fn lines_as_read(
+    alloc: Global,
+    base: &str,
+    text: &[u8],
+    size: usize,
+) -> Result<Vec<Vec<u8>>, Refusal> {
+    let mut triples = Vec::new(alloc);
+    read(alloc, base, text, size, &mut triples)?;
+    lines_of(alloc, triples.as_slice())
+}
