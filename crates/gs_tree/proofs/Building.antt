@@ -9,7 +9,8 @@ use Rattle.gs_pool.specs.declared.nodes.Key.{Key}
 use Rattle.gs_pool.specs.declared.nodes.Node.{Node}
 use Rattle.gs_pool.specs.Pool.{Nodes, plain, node_at, in_use, aside_count, room, Fills, KeepsMarks}
 use Rattle.gs_tree.specs.Tree.{Tree, leaf, fork, root_of, height, keys, held, Stands, IsBalanced, BirthAtMost, Descends, height_at, tree_at, DifferByAtMost}
-use Rattle.gs_tree.specs.Steps.{plain01, one, SameTotal, Step, IsOwned, IsMine, Links, Built}
+use Rattle.gs_tree.specs.Steps.{plain01, one, SameTotal, Step, IsOwned, IsMine, Links}
+use Rattle.gs_tree.specs.Merging.{Built}
 use Rattle.gs_tree.proofs.TreeLemmas.{one_cases, plain01_none, plain01_some, plain01_same, plain01_most, Stands-step, Step-then, Step-beside, Linked, birth_same}
 use Rattle.gs_tree.proofs.Rotations.{root_in, height_in, tree_in, linked_in, mine_kept}
 

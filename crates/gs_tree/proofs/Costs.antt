@@ -2,7 +2,7 @@
 use Rattle.std.proofs.Common.{◌≡◌, ◌⊎◌, ℕ, ◌+◌, ◌<◌, ◌≤◌, true, false, cond, ltb, refl, ap, inl, inr, arith}
 use Rattle.std.proofs.lemmas.Bool.{lt-ltb}
 use Rattle.gs_tree.specs.Tree.{DifferByAtMost}
-use Rattle.gs_tree.specs.Steps.{copies, joins}
+use Rattle.gs_tree.specs.Joining.{copies, joins}
 
 pub copies_zero : (since n : ℕ) → since ≡ 0 → copies since n ≡ 0
 copies_zero since n e = ap (λ s. copies s n) e

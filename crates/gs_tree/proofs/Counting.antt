@@ -5,7 +5,7 @@ use Rattle.std.proofs.lemmas.List.Sums.{sum_by-cons}
 use Rattle.gs_tree.specs.Tree.{Tree, leaf, fork, held, Stands, height, IsBalanced}
 use Rattle.gs_tree.specs.Steps.{plain01, one}
 use Rattle.gs_tree.proofs.TreeLemmas.{one_cases, one_same, plain01_most, plain_found}
-use Rattle.gs_tree.proofs.Balance.{size, height_digits}
+use Rattle.gs_tree.proofs.Heights.{size, height_digits}
 
 -- the sum of f at the numbers below n
 abbrev pub below : (ℕ → ℕ) → ℕ → ℕ

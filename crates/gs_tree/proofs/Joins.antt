@@ -4,7 +4,8 @@ use Rattle.gs_pool.specs.declared.nodes.Key.{Key}
 use Rattle.gs_pool.specs.declared.nodes.Node.{Node}
 use Rattle.gs_pool.specs.Pool.{Nodes, plain, node_at, mark_at}
 use Rattle.gs_tree.specs.Tree.{Tree, fork, height, keys, held, IsBalanced, BirthAtMost, Descends, height_at, tree_at, DifferByAtMost}
-use Rattle.gs_tree.specs.Steps.{plain01, one, Owns, CanSettle, CanJoin, Settled, copies, joins}
+use Rattle.gs_tree.specs.Steps.{plain01, one, Owns}
+use Rattle.gs_tree.specs.Joining.{CanSettle, CanJoin, Settled, copies, joins}
 use Rattle.gs_pool.specs.Pool.{room}
 use Rattle.gs_tree.proofs.TreeLemmas.{one_same, plain01_most, Step-then, Step-beside, BirthAtMost-later}
 use Rattle.gs_tree.proofs.Rotations.{height_in, tree_in, regroup}

@@ -4,7 +4,8 @@ use Rattle.std.proofs.lemmas.Bool.{cases_lt}
 use Rattle.gs_pool.specs.declared.nodes.Node.{Node}
 use Rattle.gs_pool.specs.Pool.{Nodes, plain, node_at, mark_at}
 use Rattle.gs_tree.specs.Tree.{Tree, leaf, fork, root_of, held, top_node, Stands}
-use Rattle.gs_tree.specs.Steps.{plain01, one, Step, IsMine, Owns, IsHeightAfter}
+use Rattle.gs_tree.specs.Steps.{plain01, one, Step, IsMine, Owns}
+use Rattle.gs_tree.specs.Joining.{IsHeightAfter}
 use Rattle.gs_tree.proofs.TreeLemmas.{one_same, plain01_most, plain_found, Stands-step, Step-then, Step-beside, Owns-step}
 
 -- the top of a tree that a root names

@@ -6,14 +6,17 @@ use Rattle.std.specs.declared.cmp.Ordering.TheVariants.{Less, Equal, Greater}
 use Rattle.std.specs.Cmp.{IsTotalOrder}
 use Rattle.gs_tree.specs.Keys.{IsRising, HasKey, remove_key}
 use Rattle.gs_tree.proofs.Order.{rising_front, rising_back}
-use Rattle.gs_tree.proofs.RemovalOrder.{remove_left, remove_right, remove_here, has_left, has_right, rising_remove}
-use Rattle.gs_tree.proofs.Balance.{size, height_digits}
+use Rattle.gs_tree.proofs.RemovalOrder.{remove_left, remove_right, remove_here, has_left, has_right, rising_remove, length_remove}
+use Rattle.gs_tree.proofs.Heights.{size, height_digits}
 use Rattle.gs_pool.specs.declared.nodes.Key.{Key}
 use Rattle.gs_pool.specs.declared.nodes.Node.{Node}
 use Rattle.gs_pool.specs.Pool.{Nodes, plain, replaced, node_at, mark_at, in_use, room, Updates, Marks, KeepsMarks}
 use Rattle.gs_tree.specs.Tree.{Tree, leaf, fork, root_of, height, keys, held, Stands, IsBalanced, BirthAtMost, Descends, height_at, tree_at, DifferByAtMost}
-use Rattle.gs_tree.specs.Steps.{plain01, plain_mark, one, Step, IsOlder, Owns, CanSettle, Settled, CanShrink, Shrinks, Discards, copies, insert_cost, IsHeightAfter, IsSet}
-use Rattle.gs_tree.proofs.TreeLemmas.{Stands-same, plain01_none, plain01_some, plain01_same, plain01_mark, one_cases, plain01_most, Stands-step, Step-then, Step-beside, BirthAtMost-later, birth_same}
+use Rattle.gs_tree.specs.Steps.{plain01, plain_mark, one, Step, IsOlder, Owns}
+use Rattle.gs_tree.specs.Joining.{CanSettle, Settled, copies, IsHeightAfter}
+use Rattle.gs_tree.specs.Shrinking.{CanShrink, Shrinks, Discards, remove_cost}
+use Rattle.gs_tree.specs.Sets.{IsSet, Removes}
+use Rattle.gs_tree.proofs.TreeLemmas.{Stands-same, plain01_none, plain01_some, plain01_same, plain01_mark, one_cases, plain01_most, Stands-step, Step-then, Step-beside, BirthAtMost-later, birth_same, tree_at-is}
 use Rattle.gs_tree.proofs.Rotations.{height_in, tree_in}
 use Rattle.gs_tree.proofs.Levels.{Opened, opened, ChildDone, child_done, side_off, top_stays, top_plain, root_plain}
 use Rattle.gs_tree.proofs.Costs.{copies_some, copies_add, copies_mono, joins_near}
@@ -102,7 +105,7 @@ module _ (since birth : ℕ) (p : Nodes) (root : Option ℕ) (t : Tree) (can : C
   pub right_is : tree_at p node.right ≡ o.r
   right_is = tree_in p node.right o.r o.right_is o.sr
 
-  side_room : (h : ℕ) → h + 1 ≤ height t → insert_cost since h + copies since 3 ≤ room p
+  side_room : (h : ℕ) → h + 1 ≤ height t → remove_cost since h + copies since 3 ≤ room p
   side_room h le =
       let add : copies since (3 * h + 3) ≡ copies since (3 * h) + copies since 3 = copies_add since (3 * h) 3 in
       let mono : copies since (3 * h + 3) ≤ copies since (3 * height t) = copies_mono since _ _ (omega arith) in
@@ -338,7 +341,7 @@ size-keys : (t : Tree) → Rattle.std.proofs.Common.length (keys t) ≡ size t
 size-keys leaf = refl
 size-keys (fork id birth l k r) = omega (arith, Rattle.std.proofs.Common.length-append (keys l) (k ∷ keys r), size-keys l, size-keys r)
 
-pub remove_can : (cmp : Key → Key → Ordering) (since : ℕ) (p q : Nodes) (root : Option ℕ) (t : Tree) → IsSet cmp p root t → q.nodes ≡ p.nodes → q.marks ≡ p.marks → height t < 2 ^ 29 → insert_cost since (height t) ≤ room q → (tree_at q root ≡ t) × CanShrink since q root (tree_at q root)
+pub remove_can : (cmp : Key → Key → Ordering) (since : ℕ) (p q : Nodes) (root : Option ℕ) (t : Tree) → IsSet cmp p root t → q.nodes ≡ p.nodes → q.marks ≡ p.marks → height t < 2 ^ 29 → remove_cost since (height t) ≤ room q → (tree_at q root ≡ t) × CanShrink since q root (tree_at q root)
 remove_can cmp since p q root t s same drop fits enough =
     let alike : (x : ℕ) → plain01 q x ≡ plain01 p x = λ x. plain01_same p q x (ap (λ xs. Rattle.std.proofs.Common.get_or xs x None) same) (ap (λ ms. Rattle.std.proofs.Common.get_or ms x plain) drop) in
     let stands = Stands-same p q t (λ x n h e. ap (λ xs. Rattle.std.proofs.Common.get_or xs x None) same ∙ e) s.stands in
@@ -346,19 +349,20 @@ remove_can cmp since p q root t s same drop fits enough =
     (is, subst (CanShrink since q root) (sym is) (record { root_is = s.root_is; stands = stands; balanced = s.balanced; apart = λ x. omega (arith, s.apart x, alike x); fits = fits; has_room = enough }))
 
 -- the same removal, seen from the pool before room was made
-pub record Removes (cmp : Key → Key → Ordering) (since : ℕ) (p q : Nodes) (to : Option ℕ) (t new : Tree) : Type 0 where
-  pub set : IsSet cmp q to new
-  pub step : Step since p q (held t) (held new)
-  pub cost : (d : ℕ) → Rattle.std.proofs.Common.length (keys t) < 2 ^ d → in_use q ≤ in_use p + 8 * d + 4
-
-pub removed : (cmp : Key → Key → Ordering) (total : IsTotalOrder cmp) (since birth : ℕ) (p0 p q : Nodes) (root to : Option ℕ) (key : Key) (t u new : Tree) → IsSet cmp p0 root t → p.nodes ≡ p0.nodes → p.marks ≡ p0.marks → u ≡ t → Shrinks since birth p q to u new → keys new ≡ remove_key cmp key (keys u) → Removes cmp since p0 q to t new
-removed cmp total since birth p0 p q root to key t u new s same drop e0 i0 k0 =
+pub removed : (cmp : Key → Key → Ordering) (total : IsTotalOrder cmp) (since birth : ℕ) (p0 p q : Nodes) (root to : Option ℕ) (key : Key) (t u new : Tree) → IsSet cmp p0 root t → p.nodes ≡ p0.nodes → p.marks ≡ p0.marks → u ≡ t → Shrinks since birth p q to u new → HasKey cmp key (keys t) → keys new ≡ remove_key cmp key (keys u) → Removes cmp since birth p0 q to key t new
+removed cmp total since birth p0 p q root to key t u new s same drop e0 i0 has k0 =
     let i : Shrinks since birth p q to t new = subst (λ v. Shrinks since birth p q to v new) e0 i0 in
     let k : keys new ≡ remove_key cmp key (keys t) = k0 ∙ ap (λ v. remove_key cmp key (keys v)) e0 in
     let at : (x : ℕ) → node_at p0 x ≡ node_at p x = λ x. ap (λ xs. Rattle.std.proofs.Common.get_or xs x None) (sym same) in
     let mark : (x : ℕ) → mark_at p0 x ≡ mark_at p x = λ x. ap (λ ms. Rattle.std.proofs.Common.get_or ms x plain) (sym drop) in
     let alike : (x : ℕ) → plain01 p0 x ≡ plain01 p x = λ x. plain01_same p p0 x (at x) (mark x) in
     let uses : in_use p ≡ in_use p0 = ap (λ xs. Rattle.std.specs.Prelude.count_by is_some xs) same in
+    let step : Step since p0 q (held t) (held new) = record {
+      kept = λ x n e h. i.step.kept x n (sym (at x) ∙ e) h;
+      balance = λ x. omega (arith, i.step.balance x, alike x);
+      older = λ x n e h. at x ∙ i.step.older x n e h;
+      marks = λ x. elim (i.step.marks x) [ inl kept ↦ inl (kept ∙ sym (mark x)) | inr old ↦ inr ((old.0.0, at x ∙ old.0.1, old.0.2), mark x ∙ old.1, old.2) ];
+    } in
     record {
       set = record {
         root_is = i.root;
@@ -367,12 +371,11 @@ removed cmp total since birth p0 p q root to key t u new s same drop e0 i0 k0 =
         rising = subst (IsRising cmp) (sym k) (rising_remove cmp total key (keys t) s.rising);
         apart = λ x. omega (arith, i.step.balance x, alike x, s.apart x);
       };
-      step = record {
-        kept = λ x n e h. i.step.kept x n (sym (at x) ∙ e) h;
-        balance = λ x. omega (arith, i.step.balance x, alike x);
-        older = λ x n e h. at x ∙ i.step.older x n e h;
-        marks = λ x. elim (i.step.marks x) [ inl kept ↦ inl (kept ∙ sym (mark x)) | inr old ↦ inr ((old.0.0, at x ∙ old.0.1, old.0.2), mark x ∙ old.1, old.2) ];
-      };
+      keys_are = k;
+      counted = omega (arith, ap Rattle.std.proofs.Common.length k, length_remove cmp total key (keys t) s.rising has);
+      births = i.births;
+      step = step;
+      others = λ other there away. let stays = Stands-same p0 q other (λ x n h e. step.kept x n e (away x n h e)) there in (stays, tree_at-is q other stays ∙ sym (tree_at-is p0 other there));
       cost = λ d small. omega (arith, i.few, uses, copies_most since (3 * height t), height_digits t d s.balanced (omega (arith, size-keys t)));
     }
   where

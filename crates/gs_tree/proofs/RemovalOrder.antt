@@ -1,5 +1,5 @@
 -- Lists of keys that rise, without a key.
-use Rattle.std.proofs.Common.{◌≡◌, List, [], ◌∷◌, ◌++◌, refl, sym, ap, ◌∙◌, inl, inr}
+use Rattle.std.proofs.Common.{◌≡◌, ◌≢◌, ◌+◌, length, arith, List, [], ◌∷◌, ◌++◌, refl, sym, ap, ◌∙◌, inl, inr}
 use Rattle.std.specs.declared.cmp.Ordering.{Ordering}
 use Rattle.std.specs.declared.cmp.Ordering.TheVariants.{Less, Equal, Greater}
 use Rattle.std.specs.Cmp.{IsTotalOrder}
@@ -74,3 +74,16 @@ module _ (cmp : Key → Key → Ordering) (total : IsTotalOrder cmp) where
       by_answer Less rest = s
       by_answer Equal rest = s.1
       by_answer Greater rest = (all_remove (λ z. cmp y z ≡ Less) x t s.0, rest)
+
+  -- a key that is there is taken out once
+  pub length_remove : (x : Key) (t : List Key) → IsRising cmp t → HasKey cmp x t → length (remove_key cmp x t) + 1 ≡ length t
+  length_remove x [] s p = absurd p
+  length_remove x (y ∷ t) s p = by_answer (cmp x y) refl (length_remove x t s.1)
+    where
+      later : cmp x y ≢ Equal → HasKey cmp x t
+      later ne = elim p [ inl e ↦ absurd (ne e) | inr q ↦ q ]
+
+      by_answer : (o : Ordering) → cmp x y ≡ o → (HasKey cmp x t → length (remove_key cmp x t) + 1 ≡ length t) → length (remove_by o y t (remove_key cmp x t)) + 1 ≡ length (y ∷ t)
+      by_answer Less e below_it = absurd (none_above x y t e s.0 (later (λ f. let bad : Less ≡ Equal = sym e ∙ f in cc)))
+      by_answer Equal e below_it = omega arith
+      by_answer Greater e below_it = omega (arith, below_it (later (λ f. let bad : Greater ≡ Equal = sym e ∙ f in cc)))

@@ -4,7 +4,8 @@ use Rattle.gs_pool.specs.declared.nodes.Key.{Key}
 use Rattle.gs_pool.specs.declared.nodes.Node.{Node}
 use Rattle.gs_pool.specs.Pool.{Nodes, node_at, in_use, aside_count}
 use Rattle.gs_tree.specs.Tree.{Tree, leaf, fork, root_of, height, keys, held, top_node, Stands, IsBalanced, BirthAtMost, Descends}
-use Rattle.gs_tree.specs.Steps.{plain01, one, SameTotal, Step, IsMine, Owns, Links, CanSettle, Settled, copies}
+use Rattle.gs_tree.specs.Steps.{plain01, one, SameTotal, Step, IsMine, Owns, Links}
+use Rattle.gs_tree.specs.Joining.{CanSettle, Settled, copies}
 use Rattle.gs_pool.specs.Pool.{room}
 use Rattle.gs_tree.proofs.Costs.{joins_two}
 use Rattle.gs_tree.proofs.TreeLemmas.{one_same, plain01_most, Stands-step, Step-then, Step-beside, Owns-step, Linked, BirthAtMost-later}
