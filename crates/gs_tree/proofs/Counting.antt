@@ -1,10 +1,12 @@
 -- How many nodes are in use, by what accounts for each.
-use Rattle.std.proofs.Common.{◌∙◌, get_or, IsSome, subst, sym, true≢false, ◌-◌, ◌≡◌, ◌≢◌, ℕ, zero, suc, ◌+◌, ◌^◌, ◌<◌, ◌≤◌, cond, length, take, None, is_some, count_by, refl, ap, inl, inr, arith, max, [], ◌∷◌, List}
+use Rattle.std.proofs.Common.{◌∙◌, get_or, IsSome, subst, sym, true≢false, ◌≡◌, ◌≢◌, ℕ, zero, suc, ◌+◌, ◌^◌, ◌<◌, ◌≤◌, cond, length, None, is_some, count_by, refl, ap, inl, inr, arith, [], ◌∷◌, List}
 use Rattle.gs_pool.specs.Pool.{Nodes, NodeMark, plain, is_aside, node_at}
+use Rattle.std.proofs.lemmas.Bool.{cases_lt}
+use Rattle.std.proofs.lemmas.List.{get_or_past}
 use Rattle.std.proofs.lemmas.List.Sums.{sum_by-cons}
 use Rattle.gs_tree.specs.Tree.{Tree, leaf, fork, held, Stands, height, IsBalanced}
 use Rattle.gs_tree.specs.Steps.{plain01, one}
-use Rattle.gs_tree.proofs.TreeLemmas.{one_cases, one_same, plain01_most, plain_found}
+use Rattle.gs_tree.proofs.TreeLemmas.{one_cases, one_same, plain01_most}
 use Rattle.gs_tree.proofs.Heights.{size, height_digits}
 
 -- the sum of f at the numbers below n
@@ -50,12 +52,31 @@ below_most : (f : ℕ → ℕ) (n : ℕ) → ((x : ℕ) → f x ≤ 1) → below
 below_most f zero h = omega arith
 below_most f (suc n) h = omega (arith, below_most f n h, h n)
 
--- a tree has no more nodes than the pool has places
+-- each node of a tree is in use
+pub held_used : (p : Nodes) (t : Tree) → Stands p t → (x : ℕ) → 0 < held t x → IsSome (node_at p x)
+held_used p leaf s x h = absurd (omega arith)
+held_used p (fork id birth l k r) s x h = elim (one_cases id x) [
+  | inl here ↦ subst (λ y. IsSome (node_at p y)) here.0 (ap is_some s.0)
+  | inr other ↦ elim (cases_lt 0 (held l x)) [
+    | inl left ↦ held_used p l s.1 x left
+    | inr none ↦ held_used p r s.2 x (omega (arith, other.1))
+  ]
+]
+
+-- a number in use is a place of the pool
+used_within : (p : Nodes) (x : ℕ) → IsSome (node_at p x) → x < length p.nodes
+used_within p x u = elim (cases_lt x (length p.nodes)) [
+  | inl l ↦ l
+  | inr past ↦ absurd (let none : node_at p x ≡ None = get_or_past p.nodes x None past in true≢false (sym (subst IsSome none u)))
+]
+
+-- a tree that has each of its nodes once has no more of them than the pool has places
+pub tree_size : (p : Nodes) (t : Tree) → Stands p t → ((x : ℕ) → held t x ≤ 1) → size t ≤ length p.nodes
+tree_size p t s once = omega (arith, below_held t (length p.nodes) (λ x h. used_within p x (held_used p t s x h)), below_most (held t) (length p.nodes) once)
+
+-- a tree of plain nodes has no more of them than the pool has places
 pub low_size : (p : Nodes) (t : Tree) → Stands p t → ((x : ℕ) → held t x ≤ plain01 p x) → length p.nodes < 2 ^ 32 → size t < 2 ^ 32
-low_size p t s apart small = omega (arith, below_held t (length p.nodes) (λ x h. within x (plain_found p x (omega (arith, apart x))).0), below_most (held t) (length p.nodes) (λ x. omega (arith, apart x, plain01_most p x)))
-  where
-    within : (x : ℕ) → IsSome (node_at p x) → x < length p.nodes
-    within x u = elim (Rattle.std.proofs.lemmas.Bool.cases_lt x (length p.nodes)) [ inl l ↦ l | inr past ↦ absurd (let none : node_at p x ≡ None = Rattle.std.proofs.lemmas.List.get_or_past p.nodes x None past in true≢false (sym (subst IsSome none u))) ]
+low_size p t s apart small = omega (arith, tree_size p t s (λ x. omega (arith, apart x, plain01_most p x)))
 
 -- a balanced tree in a pool of fewer than 2 ^ 32 places is no higher than 64
 pub low_height : (p : Nodes) (t : Tree) → Stands p t → ((x : ℕ) → held t x ≤ plain01 p x) → IsBalanced t → length p.nodes < 2 ^ 32 → height t ≤ 64

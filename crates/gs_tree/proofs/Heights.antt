@@ -1,11 +1,16 @@
 -- How high a balanced tree is.
-use Rattle.std.proofs.Common.{◌≡◌, ◌⊎◌, ℕ, zero, suc, ◌+◌, ◌*◌, ◌^◌, ◌<◌, ◌≤◌, max, refl, ap, arith, inl, inr}
+use Rattle.std.proofs.Common.{◌≡◌, ◌⊎◌, ℕ, zero, suc, ◌+◌, ◌*◌, ◌^◌, ◌<◌, ◌≤◌, max, refl, ap, arith, inl, inr, ◌∷◌, length, length-append}
 use native.Mathlib.Numerals.{unary_clauses}
-use Rattle.gs_tree.specs.Tree.{Tree, leaf, fork, height, IsBalanced}
+use Rattle.gs_tree.specs.Tree.{Tree, leaf, fork, height, keys, IsBalanced}
 
 abbrev pub size : Tree → ℕ
 size leaf = 0
 size (fork id birth l k r) = size l + size r + 1
+
+-- a tree has as many keys as nodes
+pub size-keys : (t : Tree) → length (keys t) ≡ size t
+size-keys leaf = refl
+size-keys (fork id birth l k r) = omega (arith, length-append (keys l) (k ∷ keys r), size-keys l, size-keys r)
 
 -- the least number of nodes at a height
 abbrev pub least : ℕ → ℕ

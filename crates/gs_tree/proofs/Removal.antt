@@ -7,7 +7,7 @@ use Rattle.std.specs.Cmp.{IsTotalOrder}
 use Rattle.gs_tree.specs.Keys.{IsRising, HasKey, remove_key}
 use Rattle.gs_tree.proofs.Order.{rising_front, rising_back}
 use Rattle.gs_tree.proofs.RemovalOrder.{remove_left, remove_right, remove_here, has_left, has_right, rising_remove, length_remove}
-use Rattle.gs_tree.proofs.Heights.{size, height_digits}
+use Rattle.gs_tree.proofs.Heights.{height_digits, size-keys}
 use Rattle.gs_pool.specs.declared.nodes.Key.{Key}
 use Rattle.gs_pool.specs.declared.nodes.Node.{Node}
 use Rattle.gs_pool.specs.Pool.{Nodes, plain, replaced, node_at, mark_at, in_use, room, Updates, Marks, KeepsMarks}
@@ -337,10 +337,6 @@ module _ (since birth : ℕ) (p : Nodes) (root : Option ℕ) (t : Tree) (can : C
         append_nil (x ∷ xs) = ap (λ ys. x ∷ ys) (append_nil xs)
 
 -- the whole of a removal
-size-keys : (t : Tree) → Rattle.std.proofs.Common.length (keys t) ≡ size t
-size-keys leaf = refl
-size-keys (fork id birth l k r) = omega (arith, Rattle.std.proofs.Common.length-append (keys l) (k ∷ keys r), size-keys l, size-keys r)
-
 pub remove_can : (cmp : Key → Key → Ordering) (since : ℕ) (p q : Nodes) (root : Option ℕ) (t : Tree) → IsSet cmp p root t → q.nodes ≡ p.nodes → q.marks ≡ p.marks → height t < 2 ^ 29 → remove_cost since (height t) ≤ room q → (tree_at q root ≡ t) × CanShrink since q root (tree_at q root)
 remove_can cmp since p q root t s same drop fits enough =
     let alike : (x : ℕ) → plain01 q x ≡ plain01 p x = λ x. plain01_same p q x (ap (λ xs. Rattle.std.proofs.Common.get_or xs x None) same) (ap (λ ms. Rattle.std.proofs.Common.get_or ms x plain) drop) in

@@ -1,5 +1,5 @@
 -- What rotations do.
-use Rattle.std.proofs.Common.{true≢false, ◌≡◌, ◌⊎◌, ℕ, zero, suc, ◌+◌, ◌<◌, ◌≤◌, max, true, false, cond, ltb, List, ◌∷◌, ◌++◌, Option, Some, None, is_some, IsSome, refl, sym, ap, subst, ◌∙◌, inl, inr, arith, append_assoc, length}
+use Rattle.std.proofs.Common.{true≢false, ◌≡◌, ℕ, ◌+◌, ◌<◌, ◌≤◌, max, true, false, cond, ltb, List, ◌∷◌, ◌++◌, Option, Some, None, is_some, IsSome, refl, sym, ap, subst, ◌∙◌, inl, arith, append_assoc}
 use Rattle.gs_pool.specs.declared.nodes.Key.{Key}
 use Rattle.gs_pool.specs.declared.nodes.Node.{Node}
 use Rattle.gs_pool.specs.Pool.{Nodes, node_at, in_use, aside_count}
@@ -8,7 +8,7 @@ use Rattle.gs_tree.specs.Steps.{plain01, one, SameTotal, Step, IsMine, Owns, Lin
 use Rattle.gs_tree.specs.Joining.{CanSettle, Settled, copies}
 use Rattle.gs_pool.specs.Pool.{room}
 use Rattle.gs_tree.proofs.Costs.{joins_two}
-use Rattle.gs_tree.proofs.TreeLemmas.{one_same, one_cases, plain01_most, Stands-step, height_at-is, IsRoot-is, tree_at-is, Step-then, Step-beside, Owns-step, Linked, linked, BirthAtMost-later}
+use Rattle.gs_tree.proofs.TreeLemmas.{one_same, plain01_most, Stands-step, height_at-is, IsRoot-is, tree_at-is, Step-then, Step-beside, Owns-step, Linked, linked, BirthAtMost-later}
 
 pub root_in : (p : Nodes) (root : Option ℕ) (t : Tree) → root ≡ root_of t → Stands p t → IsRoot p root
 root_in p root t e s = subst (IsRoot p) (sym e) (IsRoot-is p t s)

@@ -3,7 +3,7 @@ use Rattle.std.proofs.Common.{◌≡◌, ◌≢◌, ◌⊎◌, ℕ, zero, suc, �
 use Rattle.std.proofs.lemmas.Bool.{eq-eqb, ne_eqb, cases_eq}
 use Rattle.gs_pool.specs.declared.nodes.Key.{Key}
 use Rattle.gs_pool.specs.declared.nodes.Node.{Node}
-use Rattle.gs_pool.specs.Pool.{Nodes, NodeMark, plain, aside, replaced, retired, node_at, mark_at, in_use}
+use Rattle.gs_pool.specs.Pool.{Nodes, NodeMark, plain, aside, replaced, retired, node_at, mark_at}
 use Rattle.gs_tree.specs.Tree.{Tree, leaf, fork, root_of, height, held, top_node, Stands, height_at, IsRoot, grow, grow_node, tree_at, node_height, BirthAtMost, Descends}
 use Rattle.gs_tree.specs.Steps.{plain01, plain_node, plain_mark, one, Step, IsOwned, IsOlder, Owns, Links}
 

@@ -20,7 +20,7 @@ use Rattle.gs_tree.proofs.Rotations.{height_in, tree_in}
 use Rattle.gs_tree.proofs.Order.{rising_front, rising_back}
 use Rattle.gs_tree.proofs.Costs.{copies_some, copies_zero, copies_most, copies_add, copies_mono}
 use Rattle.gs_tree.proofs.Levels.{Opened, opened}
-use Rattle.gs_tree.proofs.Heights.{size, height_digits}
+use Rattle.gs_tree.proofs.Heights.{size, height_digits, size-keys}
 use Rattle.gs_tree.proofs.Merging.{Cut, cut_length, cut_rising, merge_node, merge_none, rising_merge}
 
 -- the costs of a union, at one level
@@ -60,10 +60,6 @@ both_grew l r l' r' n a b c d h =
       | inl more ↦ omega arith
       | inr same ↦ let e = h.2 (omega arith, omega arith) in omega arith
     ]
-
-pub size-keys : (t : Tree) → length (keys t) ≡ size t
-size-keys leaf = refl
-size-keys (fork id birth l k r) = omega (arith, length-append (keys l) (k ∷ keys r), size-keys l, size-keys r)
 
 height_size : (t : Tree) → height t ≤ size t
 height_size leaf = omega arith

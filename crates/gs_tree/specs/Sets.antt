@@ -7,6 +7,7 @@ use Rattle.gs_pool.specs.Pool.{Nodes, node_at, in_use, aside_count}
 use Rattle.gs_tree.specs.declared.unions.Merged.{Merged}
 use Rattle.gs_tree.specs.Keys.{IsRising, insert_key, remove_key, merge_keys}
 use Rattle.gs_tree.specs.Tree.{Tree, root_of, height, keys, held, Stands, IsBalanced, BirthAtMost, Descends, tree_at}
+use Rattle.gs_tree.specs.Reading.{keys_at}
 use Rattle.gs_tree.specs.Steps.{plain01, Step}
 use Rattle.gs_tree.specs.Joining.{copies}
 
@@ -17,12 +18,6 @@ pub record IsSet (cmp : Key → Key → Ordering) (p : Nodes) (root : Option ℕ
   pub balanced : IsBalanced t
   pub rising : IsRising cmp (keys t)
   pub apart : (x : ℕ) → held t x ≤ plain01 p x
-
--- a root means keys in order, whatever its nodes are marked as
-pub record IsReadable (cmp : Key → Key → Ordering) (p : Nodes) (root : Option ℕ) (t : Tree) : Type 0 where
-  pub root_is : root ≡ root_of t
-  pub stands : Stands p t
-  pub rising : IsRising cmp (keys t)
 
 -- each node of the tree is no node of t, or older than `since`
 abbrev pub IsElsewhere : ℕ → Nodes → Tree → Tree → Type 0
@@ -54,14 +49,6 @@ pub record Unites (cmp : Key → Key → Ordering) (since birth : ℕ) (p q : No
 -- a root means a set that can be changed
 abbrev pub IsSetAt : (Key → Key → Ordering) → Nodes → Option ℕ → Type 0
 IsSetAt cmp p root = IsSet cmp p root (tree_at p root)
-
--- a root means a set that can be read
-abbrev pub IsReadableAt : (Key → Key → Ordering) → Nodes → Option ℕ → Type 0
-IsReadableAt cmp p root = IsReadable cmp p root (tree_at p root)
-
--- the keys that a root means
-abbrev pub keys_at : Nodes → Option ℕ → List Key
-keys_at p root = keys (tree_at p root)
 
 -- the set that a root meant became that of the new root, which has the keys of the run too
 abbrev pub UnitesAt : (Key → Key → Ordering) → ℕ → ℕ → Nodes → Nodes → Option ℕ → List Key → Merged → Type 0

@@ -1,11 +1,13 @@
-//! Balanced trees over a pool of nodes: sets of keys, written in place where a node is young, copied where it is older.
+//! Sets of keys as balanced trees over a pool: young nodes are written in place, older ones copied.
 #![tactic(auto)]
 
 mod balance;
 mod orders;
+mod reading;
 mod removals;
 mod unions;
 
 pub use orders::KeyOrder;
+pub use reading::{after, contains, count, next_keys};
 pub use removals::remove;
 pub use unions::{Merged, insert, union};

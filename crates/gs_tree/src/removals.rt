@@ -3,7 +3,8 @@ ghost use Rattle.std.specs.Prelude.{◌≡◌, ℕ, ◌<◌, ◌≤◌, ◌∷�
 ghost use Rattle.gs_pool.specs.Pool.{node_at, mark_at, plain};
 ghost use Rattle.gs_tree.specs.Keys.{IsRising, HasKey, remove_key};
 ghost use Rattle.gs_tree.specs.Shrinking.{CanShrinkAt, ShrinksAt, Discards};
-ghost use Rattle.gs_tree.specs.Sets.{IsSetAt, RemovesAt, keys_at};
+ghost use Rattle.gs_tree.specs.Reading.{keys_at};
+ghost use Rattle.gs_tree.specs.Sets.{IsSetAt, RemovesAt};
 
 use crate::balance::{height_of, own, settle};
 use crate::orders::KeyOrder;

@@ -3,7 +3,8 @@ ghost use Rattle.std.specs.Prelude.{◌≡◌, ℕ, ◌<◌, ◌≤◌, [], ◌�
 ghost use Rattle.gs_pool.specs.Pool.{room};
 ghost use Rattle.gs_tree.specs.Keys.{IsRising, Places};
 ghost use Rattle.gs_tree.specs.Merging.{BuiltAt, CanMergeAt, MergesAt};
-ghost use Rattle.gs_tree.specs.Sets.{IsSetAt, UnitesAt, GainsKey, IsCheap, keys_at};
+ghost use Rattle.gs_tree.specs.Reading.{keys_at};
+ghost use Rattle.gs_tree.specs.Sets.{IsSetAt, UnitesAt, GainsKey, IsCheap};
 
 use crate::balance::{height_of, join, link, own};
 use crate::orders::KeyOrder;

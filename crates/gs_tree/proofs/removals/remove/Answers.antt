@@ -1,4 +1,4 @@
-use Rattle.std.proofs.Common.{◌≤◌, ◌*◌, sym, ap, subst, ◌∙◌, arith, length}
+use Rattle.std.proofs.Common.{◌≤◌, ◌*◌, sym, ap, subst, arith, length}
 use Rattle.gs_tree.specs.Tree.{tree_at, height, keys}
 use Rattle.gs_tree.specs.Shrinking.{remove_cost}
 use Rattle.gs_pool.specs.Pool.{room}
