@@ -64,6 +64,8 @@ impl Pool {
         ensures value { result ≡ in_use self.now }
         ensures parted { result + free_count self.now ≡ length self.now.nodes }
         ensures unmarked { IsParted self.now }
+        ensures fits { length self.now.nodes + self.now.spare ≤ self.now.limit }
+        ensures small { self.now.limit ≤ last_node + 1 }
     {
         (self.places.len() - self.free) as u64
     }
@@ -86,15 +88,18 @@ impl Pool {
         self.places[id as usize].node()
     }
 
-    /// Makes room for `more` nodes. Only where too few are free does the pool grow.
+    /// Makes room for `more` nodes. Where there is room already, nothing changes; memory is asked for
+    /// only where too few are free or reserved, and numbers are left.
     pub fn reserve(&mut self, more: usize) -> Result<(), AllocError>
         ensures ok { OnOk result (more ≤ room self.new) }
+        ensures had_room { more ≤ room self.old → IsOk result × (self.new ≡ self.old) }
+        ensures kept { OnErr result (self.new ≡ self.old) }
+        ensures room { room self.old ≤ room self.new }
         ensures nodes { self.new.nodes ≡ self.old.nodes }
         ensures marks { self.new.marks ≡ self.old.marks }
         ensures limit { self.new.limit ≡ self.old.limit }
-        ensures fits { length self.new.nodes ≤ self.new.limit }
+        ensures fits { length self.new.nodes + self.new.spare ≤ self.new.limit }
         ensures small { self.new.limit ≤ last_node + 1 }
-        ensures free { more ≤ free_count self.old → IsOk result }
     {
         if more <= self.free {
             return Ok(());
@@ -103,16 +108,20 @@ impl Pool {
         if self.limit - self.places.len() < missing {
             return Err(AllocError);
         }
+        if missing <= self.places.capacity() - self.places.len() {
+            return Ok(());
+        }
         self.places.reserve(missing)
     }
 
-    /// Stores a node under a number that was free. The pool grows only where none is.
+    /// Stores a node under a number that was free. The pool grows only where none is, and wants
+    /// memory only where none is reserved either.
     pub fn alloc(&mut self, node: Node) -> Result<u32, AllocError>
         ensures ok { IfOk result (λ id. Fills self.old self.new id node) }
-        ensures kept { OnErr result (self.new.nodes ≡ self.old.nodes) }
-        ensures marks { OnErr result (self.new.marks ≡ self.old.marks) }
+        ensures succeeds { 0 < room self.old → IsOk result }
+        ensures kept { OnErr result (self.new ≡ self.old) }
+        ensures room { 0 < room self.old → room self.new + 1 ≡ room self.old }
         ensures limit { self.new.limit ≡ self.old.limit }
-        ensures free { 0 < free_count self.old → IsOk result }
     {
         self.reserve(1)?;
         Ok(self.alloc_reserved(node))
@@ -162,6 +171,7 @@ impl Pool {
         ensures updates { Updates self.old self.new id None }
         ensures marks { KeepsMarks self.old self.new }
         ensures numbers { length self.new.nodes ≡ length self.old.nodes }
+        ensures free { free_count self.new ≡ free_count self.old + 1 }
         ensures room { room self.new ≡ room self.old + 1 }
         ensures in_use { in_use self.new + 1 ≡ in_use self.old }
         ensures limit { self.new.limit ≡ self.old.limit }

@@ -56,3 +56,12 @@ returns-clause-in_use c =
 
 pub returns-clause-numbers : goal.returns-clause-numbers
 returns-clause-numbers c = rw (← c.self.view_is) (numbers_kept c.self.inside.places.items c.args.id c.with_state.result)
+
+pub returns-clause-free : goal.returns-clause-free
+returns-clause-free c =
+    let s = c.with_state.result in
+    let d = c.index-place.result.now in
+    let u = is_used c.self.inside.places.items c.args.id d c.index-place.ensures (rw (← c.self.view_is) at c.requires.used) in
+    let w = writes c.self.inside.places.items c.args.id s d u.within c.index-place.ensures in
+    let more = rw (u.not_free, ap (λ k. is_none (node_in k (content_of s))) c.with_state.ensures.state) at w.free in
+    rw (← c.self.view_is) (omega (arith, more))

@@ -1,0 +1,109 @@
+-- How many nodes are in use, by what accounts for each.
+use Rattle.std.proofs.Common.{◌∙◌, get_or, IsSome, subst, sym, true≢false, ◌≡◌, ◌≢◌, ℕ, zero, suc, ◌+◌, ◌^◌, ◌<◌, ◌≤◌, cond, length, None, is_some, count_by, refl, ap, inl, inr, arith, [], ◌∷◌, List}
+use Rattle.gs_pool.specs.Pool.{Nodes, NodeMark, plain, is_aside, node_at}
+use Rattle.std.proofs.lemmas.Bool.{cases_lt}
+use Rattle.std.proofs.lemmas.List.{get_or_past}
+use Rattle.std.proofs.lemmas.List.Sums.{sum_by-cons}
+use Rattle.gs_tree.specs.Tree.{Tree, leaf, fork, held, Stands, height, IsBalanced}
+use Rattle.gs_tree.specs.Steps.{plain01, one}
+use Rattle.gs_tree.proofs.TreeLemmas.{one_cases, one_same, plain01_most}
+use Rattle.gs_tree.proofs.Heights.{size, height_digits}
+
+-- the sum of f at the numbers below n
+abbrev pub below : (ℕ → ℕ) → ℕ → ℕ
+below f zero = 0
+below f (suc n) = below f n + f n
+
+pub below_add : (f g : ℕ → ℕ) (n : ℕ) → below (λ x. f x + g x) n ≡ below f n + below g n
+below_add f g zero = refl
+below_add f g (suc n) = omega (arith, below_add f g n)
+
+pub below_same : (f g : ℕ → ℕ) (n : ℕ) → ((x : ℕ) → x < n → f x ≡ g x) → below f n ≡ below g n
+below_same f g zero h = refl
+below_same f g (suc n) h = omega (arith, below_same f g n (λ x l. h x (omega arith)), h n (omega arith))
+
+pub below_none : (n : ℕ) → below (λ x. 0) n ≡ 0
+below_none zero = refl
+below_none (suc n) = omega (arith, below_none n)
+
+pub below_past : (id n : ℕ) → n ≤ id → below (one id) n ≡ 0
+below_past id zero h = refl
+below_past id (suc n) h = elim (one_cases id n) [ inl e ↦ absurd (omega arith) | inr ne ↦ omega (arith, below_past id n (omega arith), ne.1) ]
+
+pub below_one : (id n : ℕ) → id < n → below (one id) n ≡ 1
+below_one id zero h = absurd (omega arith)
+below_one id (suc n) h = elim (one_cases id n) [
+  | inl e ↦ let q : id ≡ n = e.0 in omega (arith, below_past id n (omega arith), e.1)
+  | inr ne ↦ omega (arith, below_one id n (lower ne.0), ne.1)
+]
+  where
+    lower : id ≢ n → id < n
+    lower ne = omega arith
+
+-- a tree's nodes are as many as its keys
+pub below_held : (t : Tree) (n : ℕ) → ((x : ℕ) → 0 < held t x → x < n) → below (held t) n ≡ size t
+below_held leaf n h = below_none n
+below_held (fork id birth l k r) n h =
+    let a = below_add (λ x. one id x + held l x) (held r) n in
+    let b = below_add (one id) (held l) n in
+    omega (arith, a, b, below_one id n (h id (omega (arith, one_same id))), below_held l n (λ x g. h x (omega arith)), below_held r n (λ x g. h x (omega arith)))
+
+below_most : (f : ℕ → ℕ) (n : ℕ) → ((x : ℕ) → f x ≤ 1) → below f n ≤ n
+below_most f zero h = omega arith
+below_most f (suc n) h = omega (arith, below_most f n h, h n)
+
+-- each node of a tree is in use
+pub held_used : (p : Nodes) (t : Tree) → Stands p t → (x : ℕ) → 0 < held t x → IsSome (node_at p x)
+held_used p leaf s x h = absurd (omega arith)
+held_used p (fork id birth l k r) s x h = elim (one_cases id x) [
+  | inl here ↦ subst (λ y. IsSome (node_at p y)) here.0 (ap is_some s.0)
+  | inr other ↦ elim (cases_lt 0 (held l x)) [
+    | inl left ↦ held_used p l s.1 x left
+    | inr none ↦ held_used p r s.2 x (omega (arith, other.1))
+  ]
+]
+
+-- a number in use is a place of the pool
+used_within : (p : Nodes) (x : ℕ) → IsSome (node_at p x) → x < length p.nodes
+used_within p x u = elim (cases_lt x (length p.nodes)) [
+  | inl l ↦ l
+  | inr past ↦ absurd (let none : node_at p x ≡ None = get_or_past p.nodes x None past in true≢false (sym (subst IsSome none u)))
+]
+
+-- a tree that has each of its nodes once has no more of them than the pool has places
+pub tree_size : (p : Nodes) (t : Tree) → Stands p t → ((x : ℕ) → held t x ≤ 1) → size t ≤ length p.nodes
+tree_size p t s once = omega (arith, below_held t (length p.nodes) (λ x h. used_within p x (held_used p t s x h)), below_most (held t) (length p.nodes) once)
+
+-- a tree of plain nodes has no more of them than the pool has places
+pub low_size : (p : Nodes) (t : Tree) → Stands p t → ((x : ℕ) → held t x ≤ plain01 p x) → length p.nodes < 2 ^ 32 → size t < 2 ^ 32
+low_size p t s apart small = omega (arith, tree_size p t s (λ x. omega (arith, apart x, plain01_most p x)))
+
+-- a balanced tree in a pool of fewer than 2 ^ 32 places is no higher than 64
+pub low_height : (p : Nodes) (t : Tree) → Stands p t → ((x : ℕ) → held t x ≤ plain01 p x) → IsBalanced t → length p.nodes < 2 ^ 32 → height t ≤ 64
+low_height p t s apart balanced small = height_digits t 32 balanced (low_size p t s apart small)
+
+-- 1 for a replaced mark
+abbrev weight : NodeMark → ℕ
+weight m = cond (is_aside m) 1 0
+
+-- two lists that have the same mark at each place have equally many replaced ones
+pub same_marks : (a b : List NodeMark) → ((x : ℕ) → get_or a x plain ≡ get_or b x plain) → count_by is_aside a ≡ count_by is_aside b
+same_marks [] [] h = refl
+same_marks [] (m ∷ b) h =
+    let few : count_by is_aside (m ∷ b) ≡ weight m + count_by is_aside b = sum_by-cons (λ o. cond (is_aside o) 1 0) m b in
+    let none : weight m ≡ 0 = ap weight (sym (h 0)) in
+    let tail : count_by is_aside b ≡ 0 = sym (same_marks [] b (λ x. h (suc x))) in
+    let rest : 0 + count_by is_aside b ≡ 0 = omega (arith, tail) in
+    sym (few ∙ ap (λ n. n + count_by is_aside b) none ∙ rest)
+same_marks (m ∷ a) [] h =
+    let few : count_by is_aside (m ∷ a) ≡ weight m + count_by is_aside a = sum_by-cons (λ o. cond (is_aside o) 1 0) m a in
+    let none : weight m ≡ 0 = ap weight (h 0) in
+    let tail : count_by is_aside a ≡ 0 = same_marks a [] (λ x. h (suc x)) in
+    let rest : 0 + count_by is_aside a ≡ 0 = omega (arith, tail) in
+    few ∙ ap (λ n. n + count_by is_aside a) none ∙ rest
+same_marks (m ∷ a) (n ∷ b) h =
+    let few : count_by is_aside (m ∷ a) ≡ weight m + count_by is_aside a = sum_by-cons (λ o. cond (is_aside o) 1 0) m a in
+    let more : count_by is_aside (n ∷ b) ≡ weight n + count_by is_aside b = sum_by-cons (λ o. cond (is_aside o) 1 0) n b in
+    let one : weight m ≡ weight n = ap weight (h 0) in
+    let rest : count_by is_aside a ≡ count_by is_aside b = same_marks a b (λ x. h (suc x)) in
+    few ∙ ap (λ k. k + count_by is_aside a) one ∙ ap (λ k. weight n + k) rest ∙ sym more

@@ -1,0 +1,383 @@
+-- One level of a removal.
+use Rattle.std.proofs.Common.{◌≡◌, ◌≢◌, ◌⊎◌, ℕ, zero, suc, ◌+◌, ◌-◌, ◌*◌, ◌<◌, ◌≤◌, ◌^◌, max, Bool, true, false, cond, List, [], ◌∷◌, ◌++◌, Option, Some, None, is_some, IsSome, refl, sym, ap, subst, ◌∙◌, inl, inr, arith}
+use Rattle.std.proofs.lemmas.Bool.{cases_lt, cases_eq}
+use Rattle.std.specs.declared.cmp.Ordering.{Ordering}
+use Rattle.std.specs.declared.cmp.Ordering.TheVariants.{Less, Equal, Greater}
+use Rattle.std.specs.Cmp.{IsTotalOrder}
+use Rattle.gs_tree.specs.Keys.{IsRising, HasKey, remove_key}
+use Rattle.gs_tree.proofs.Order.{rising_front, rising_back}
+use Rattle.gs_tree.proofs.RemovalOrder.{remove_left, remove_right, remove_here, has_left, has_right, rising_remove, length_remove}
+use Rattle.gs_tree.proofs.Heights.{height_digits, size-keys}
+use Rattle.gs_pool.specs.declared.nodes.Key.{Key}
+use Rattle.gs_pool.specs.declared.nodes.Node.{Node}
+use Rattle.gs_pool.specs.Pool.{Nodes, plain, replaced, node_at, mark_at, in_use, room, Updates, Marks, KeepsMarks}
+use Rattle.gs_tree.specs.Tree.{Tree, leaf, fork, root_of, height, keys, held, Stands, IsBalanced, BirthAtMost, Descends, height_at, tree_at, DifferByAtMost}
+use Rattle.gs_tree.specs.Steps.{plain01, plain_mark, one, Step, IsOlder, Owns}
+use Rattle.gs_tree.specs.Joining.{CanSettle, Settled, copies, IsHeightAfter}
+use Rattle.gs_tree.specs.Shrinking.{CanShrink, Shrinks, Discards, remove_cost}
+use Rattle.gs_tree.specs.Sets.{IsSet, Removes}
+use Rattle.gs_tree.proofs.TreeLemmas.{Stands-same, plain01_none, plain01_some, plain01_same, plain01_mark, one_cases, plain01_most, Stands-step, Step-then, Step-beside, BirthAtMost-later, birth_same, tree_at-is}
+use Rattle.gs_tree.proofs.Rotations.{height_in, tree_in}
+use Rattle.gs_tree.proofs.Levels.{Opened, opened, ChildDone, child_done, side_off, top_stays, top_plain, root_plain}
+use Rattle.gs_tree.proofs.Costs.{copies_some, copies_add, copies_mono, joins_near}
+
+-- a tree whose side fell by one level at most is one lower at most
+shrunk : (l l' r n : ℕ) → l ≤ r + 1 → r ≤ l + 1 → l' ≤ l → l ≤ l' + 1 → IsHeightAfter l' r n → (n ≤ max l r + 1) × (max l r ≤ n)
+shrunk l l' r n a b c d h =
+    let h0 : max l' r ≤ n = h.0 in
+    let h1 : n ≤ max l' r + 1 = h.1 in
+    elim (cases_lt r l) [
+      | inl high ↦ elim (cases_lt r l') [
+        | inl still ↦ (omega arith, omega arith)
+        | inr fell ↦ let e = h.2 (omega arith, omega arith) in (omega arith, omega arith)
+      ]
+      | inr low ↦ (omega arith, omega arith)
+    ]
+
+no_root_leaf : (t : Tree) → root_of t ≡ None → t ≡ leaf
+no_root_leaf leaf e = refl
+no_root_leaf (fork id birth l k r) e = absurd (cc)
+
+-- a number goes on the list
+pub drop_discards : (since : ℕ) (p q : Nodes) (id : ℕ) (n : Node) → node_at p id ≡ Some n → n.birth < since → mark_at p id ≡ plain → Marks p q id replaced → Discards since p q id
+drop_discards since p q id n found old was m =
+    let at : (x : ℕ) → node_at q x ≡ node_at p x = λ x. ap (λ s. Rattle.std.proofs.Common.get_or s x None) m.nodes in
+    let free = ap (λ s. Rattle.std.specs.Prelude.count_by Rattle.std.specs.Prelude.is_none s) m.nodes in
+    let used = ap (λ s. Rattle.std.specs.Prelude.count_by is_some s) m.nodes in
+    record {
+      step = record {
+        kept = λ x k e h. at x ∙ e;
+        balance = λ x. elim (one_cases id x) [
+          | inl here ↦ omega (arith, here.1, subst (λ i. plain01 p i ≡ 1) here.0 (plain01_some p id n found was), subst (λ i. plain01 q i ≡ 0) here.0 (plain01_mark q id (ap is_some (at id ∙ found)) ∙ ap plain_mark m.changed))
+          | inr ne ↦ omega (arith, ne.1, plain01_same p q x (at x) (m.others x (λ f. ne.0 (sym f))))
+        ];
+        older = λ x k e h. sym (at x) ∙ e;
+        marks = λ x. elim (cases_eq x id) [
+          | inl here ↦ inr (subst (λ i. IsOlder since p i × (mark_at p i ≡ plain) × (mark_at q i ≡ replaced)) (sym here) ((n, found, old), was, m.changed))
+          | inr ne ↦ inl (m.others x ne)
+        ];
+      };
+      total = omega (arith, free, used, m.spare);
+      few = omega (arith, used);
+    }
+
+-- a number is free again
+pub free_discards : (since : ℕ) (p q : Nodes) (id : ℕ) (n : Node) → node_at p id ≡ Some n → since ≤ n.birth → mark_at p id ≡ plain → Updates p q id None → KeepsMarks p q → room q ≡ room p + 1 → in_use q + 1 ≡ in_use p → Discards since p q id
+free_discards since p q id n found young was up marks rooms used = record {
+  step = record {
+    kept = λ x m e h. elim (one_cases id x) [
+      | inl here ↦ elim h [
+        | inl none ↦ absurd (omega (arith, here.1))
+        | inr old ↦ absurd (let f : node_at p id ≡ Some m = subst (λ y. node_at p y ≡ Some m) (sym here.0) e in let g = birth_same _ _ (sym found ∙ f) in omega arith)
+      ]
+      | inr ne ↦ up.others x (λ f. ne.0 (sym f)) ∙ e
+    ];
+    balance = λ x. elim (one_cases id x) [
+      | inl here ↦ omega (arith, here.1, subst (λ y. plain01 p y ≡ 1) here.0 (plain01_some p id n found was), subst (λ y. plain01 q y ≡ 0) here.0 (plain01_none q id up.changed))
+      | inr ne ↦ omega (arith, ne.1, plain01_same p q x (up.others x (λ f. ne.0 (sym f))) (marks x))
+    ];
+    older = λ x m e h. elim (cases_eq x id) [
+      | inl here ↦ absurd (let f : node_at q id ≡ Some m = subst (λ y. node_at q y ≡ Some m) here e in let bad : None ≡ Some m = sym up.changed ∙ f in cc)
+      | inr ne ↦ sym (up.others x ne) ∙ e
+    ];
+    marks = λ x. inl (marks x);
+  };
+  total = omega (arith, rooms, used);
+  few = omega arith;
+}
+
+module _ (since birth : ℕ) (p : Nodes) (root : Option ℕ) (t : Tree) (can : CanShrink since p root t) (id : ℕ) (node : Node) (is : root ≡ Some id) (found : node_at p id ≡ Some node) where
+  pub o : Opened p id node t
+  o = opened p root id node t can.root_is can.stands is found
+
+  apart_in : (i : ℕ) → one id i + held o.l i + held o.r i ≤ plain01 p i
+  apart_in i = omega (arith, can.apart i, ap (λ u. held u i) o.is)
+
+  heights : height t ≡ max (height o.l) (height o.r) + 1
+  heights = ap height o.is
+
+  near : IsBalanced (fork id o.birth o.l node.key o.r)
+  near = subst IsBalanced o.is can.balanced
+
+  pub left_is : tree_at p node.left ≡ o.l
+  left_is = tree_in p node.left o.l o.left_is o.sl
+
+  pub right_is : tree_at p node.right ≡ o.r
+  right_is = tree_in p node.right o.r o.right_is o.sr
+
+  side_room : (h : ℕ) → h + 1 ≤ height t → remove_cost since h + copies since 3 ≤ room p
+  side_room h le =
+      let add : copies since (3 * h + 3) ≡ copies since (3 * h) + copies since 3 = copies_add since (3 * h) 3 in
+      let mono : copies since (3 * h + 3) ≤ copies since (3 * height t) = copies_mono since _ _ (omega arith) in
+      omega (arith, can.has_room, add, mono)
+
+  side_cost : (h : ℕ) → h + 1 ≤ height t → copies since (3 * h) + copies since 1 + copies since 2 ≤ copies since (3 * height t)
+  side_cost h le = omega (arith, copies_add since (3 * h) 3, copies_add since 1 2, copies_mono since (3 * h + 3) (3 * height t) (omega arith))
+
+  pub left_can : CanShrink since p node.left (tree_at p node.left)
+  left_can = subst (CanShrink since p node.left) (sym left_is) (record { root_is = o.left_is; stands = o.sl; balanced = near.1; apart = λ i. omega (arith, apart_in i); fits = omega (arith, heights, can.fits); has_room = omega (arith, side_room (height o.l) (omega (arith, heights))) })
+
+  pub right_can : CanShrink since p node.right (tree_at p node.right)
+  right_can = subst (CanShrink since p node.right) (sym right_is) (record { root_is = o.right_is; stands = o.sr; balanced = near.2; apart = λ i. omega (arith, apart_in i); fits = omega (arith, heights, can.fits); has_room = omega (arith, side_room (height o.r) (omega (arith, heights))) })
+
+  pub left_falls : height_at p node.left < height_at p root
+  left_falls = omega (arith, height_in p node.left o.l o.left_is o.sl, height_in p root t can.root_is can.stands, heights)
+
+  pub right_falls : height_at p node.right < height_at p root
+  right_falls = omega (arith, height_in p node.right o.r o.right_is o.sr, height_in p root t can.root_is can.stands, heights)
+
+  pub here_plain : mark_at p id ≡ plain
+  here_plain = root_plain p root id node t can.root_is can.stands is found can.apart
+
+  pub room_left : 0 < room p
+  room_left = omega (arith, can.has_room)
+
+  -- the top goes, and one side is empty
+  top_goes : (q : Nodes) (side : Option ℕ) (a : Tree) → Discards since p q id → side ≡ root_of a → Stands p a → IsBalanced a → ((x : ℕ) → held t x ≡ one id x + held a x) → height t ≡ height a + 1 → (Descends t → BirthAtMost birth t → Descends a × BirthAtMost birth a) → Shrinks since birth p q side t (tree_at q side)
+  top_goes q side a d side_is sa ba has high births =
+      let stands = Stands-step since p q (one id) (λ x. 0) a d.step (λ x h. omega (arith, can.apart x, has x, plain01_most p x)) sa in
+      subst (Shrinks since birth p q side t) (sym (tree_in q side a side_is stands)) (record {
+        root = side_is;
+        stands = stands;
+        balanced = ba;
+        births = births;
+        not_higher = omega (arith, high);
+        one_lower = omega (arith, high);
+        step = Step-beside since p q (one id) (λ x. 0) (held t) (held a) d.step (λ x. omega (arith, has x)) (λ x. omega (arith, has x));
+        total = d.total;
+        few = omega (arith, d.few);
+      })
+
+  pub no_left : (q : Nodes) → Discards since p q id → node.left ≡ None → (Shrinks since birth p q node.right t (tree_at q node.right)) × (keys t ≡ node.key ∷ keys (tree_at q node.right))
+  no_left q d none =
+      let empty : o.l ≡ leaf = no_root_leaf o.l (sym o.left_is ∙ none) in (
+        top_goes q node.right o.r d o.right_is o.sr near.2
+            (λ x. omega (arith, ap (λ u. held u x) o.is, ap (λ u. held u x) empty))
+            (omega (arith, heights, ap height empty))
+            (λ e b. let f : Descends (fork id o.birth o.l node.key o.r) = subst Descends o.is e in let g : o.birth ≤ birth = subst (BirthAtMost birth) o.is b in (f.3, BirthAtMost-later o.birth birth o.r g f.1)),
+        ap keys o.is ∙ ap (λ u. keys u ++ node.key ∷ keys o.r) empty ∙ ap (λ u. node.key ∷ keys u) (sym (tree_in q node.right o.r o.right_is (Stands-step since p q (one id) (λ x. 0) o.r d.step (λ x h. omega (arith, apart_in x, plain01_most p x)) o.sr))),
+      )
+
+  pub no_right : (q : Nodes) → Discards since p q id → node.right ≡ None → (Shrinks since birth p q node.left t (tree_at q node.left)) × (o.r ≡ leaf)
+  no_right q d none =
+      let empty : o.r ≡ leaf = no_root_leaf o.r (sym o.right_is ∙ none) in (
+        top_goes q node.left o.l d o.left_is o.sl near.1
+            (λ x. omega (arith, ap (λ u. held u x) o.is, ap (λ u. held u x) empty))
+            (omega (arith, heights, ap height empty))
+            (λ e b. let f : Descends (fork id o.birth o.l node.key o.r) = subst Descends o.is e in let g : o.birth ≤ birth = subst (BirthAtMost birth) o.is b in (f.2, BirthAtMost-later o.birth birth o.l g f.0)),
+        empty,
+      )
+
+  module _ (p1 : Nodes) (left : Option ℕ) (i0 : Shrinks since birth p p1 left (tree_at p node.left) (tree_at p1 left)) where
+    i : Shrinks since birth p p1 left o.l (tree_at p1 left)
+    i = subst (λ u. Shrinks since birth p p1 left u (tree_at p1 left)) left_is i0
+
+    pub left_used : IsSome (node_at p1 id)
+    left_used = top_stays since p p1 id node (held o.l) (held (tree_at p1 left)) found (side_off p id node t o can.apart).0 i.step
+
+    pub left_plain : mark_at p1 id ≡ plain
+    left_plain = top_plain since p p1 id (held o.l) (held (tree_at p1 left)) (held o.r) i.step (λ x. omega (arith, apart_in x))
+
+    pub left_room : 0 < since → 3 ≤ room p1
+    left_room h = omega (arith, side_room (height o.l) (omega (arith, heights)), copies_some since 3 h, i.total, i.few)
+
+    module _ (p2 : Nodes) (top : ℕ) (w : Owns p1 p2 since id top) where
+      after : ChildDone since p p2 id top (held o.l) (tree_at p1 left) o.r
+      after = child_done since p p1 p2 id top (held o.l) (tree_at p1 left) o.r o.sr (λ j. apart_in j) i.stands i.step w
+
+      left_now : tree_at p2 left ≡ tree_at p1 left
+      left_now = tree_in p2 left (tree_at p1 left) i.root after.child
+
+      right_now : tree_at p2 node.right ≡ o.r
+      right_now = tree_in p2 node.right o.r o.right_is after.other
+
+      pub left_settle : CanSettle since p2 top left (tree_at p2 left) node.right (tree_at p2 node.right)
+      left_settle =
+          let c : CanSettle since p2 top left (tree_at p1 left) node.right o.r = record {
+            left_root = i.root;
+            right_root = o.right_is;
+            left_stands = after.child;
+            right_stands = after.other;
+            left_balanced = i.balanced;
+            right_balanced = near.2;
+            apart = after.apart;
+            mine = after.mine;
+            left_fits = omega (arith, heights, can.fits, i.not_higher);
+            right_fits = omega (arith, heights, can.fits);
+            has_room = λ h. omega (arith, left_room h, w.total, w.few, copies_some since 1 h);
+          } in
+          subst (λ u. CanSettle since p2 top left (tree_at p2 left) node.right u) (sym right_now) (subst (λ u. CanSettle since p2 top left u node.right o.r) (sym left_now) c)
+
+      pub left_near : DifferByAtMost 2 (height (tree_at p2 left)) (height (tree_at p2 node.right))
+      left_near =
+          let n0 : height o.l ≤ height o.r + 1 = near.0.0 in
+          let n1 : height o.r ≤ height o.l + 1 = near.0.1 in
+          (omega (arith, ap height left_now, ap height right_now, i.not_higher, i.one_lower), omega (arith, ap height left_now, ap height right_now, i.not_higher, i.one_lower))
+
+      pub left_done : (p3 : Nodes) (result : ℕ) (key : Key) (new : Tree) → Settled since birth p2 p3 top result key (tree_at p2 left) (tree_at p2 node.right) new → (Shrinks since birth p p3 (Some result) t new) × (keys new ≡ keys (tree_at p1 left) ++ key ∷ keys o.r)
+      left_done p3 result key new s0 =
+          let s : Settled since birth p2 p3 top result key (tree_at p1 left) o.r new =
+          subst (λ u. Settled since birth p2 p3 top result key (tree_at p1 left) u new) right_now (subst (λ u. Settled since birth p2 p3 top result key u (tree_at p2 node.right) new) left_now s0) in
+          let low = shrunk (height o.l) (height (tree_at p1 left)) (height o.r) (height new) near.0.0 near.0.1 i.not_higher i.one_lower s.height_is in (
+            record {
+              root = sym s.root;
+              stands = s.stands;
+              balanced = s.balanced;
+              births = λ e b. let f : Descends (fork id o.birth o.l node.key o.r) = subst Descends o.is e in let g : o.birth ≤ birth = subst (BirthAtMost birth) o.is b in
+                  let ch = i.births f.2 (BirthAtMost-later o.birth birth o.l g f.0) in s.births ch.0 f.3 ch.1 (BirthAtMost-later o.birth birth o.r g f.1);
+              not_higher = omega (arith, heights, low.0);
+              one_lower = omega (arith, heights, low.1);
+              step = Step-beside since p p3 _ _ _ _ (Step-then since p p2 p3 _ _ _ after.step s.step) (λ j. omega (arith, ap (λ u. held u j) o.is)) (λ j. omega (arith, ap (λ u. held u j) o.is));
+              total = omega (arith, i.total, w.total, s.total);
+              few = omega (arith, i.few, w.few, s.few, side_cost (height o.l) (omega (arith, heights)), joins_near since (height (tree_at p1 left)) (height o.r) (omega (arith, near.0.0, near.0.1, i.not_higher, i.one_lower), omega (arith, near.0.0, near.0.1, i.not_higher, i.one_lower)));
+            },
+            s.keys_are,
+          )
+
+  module _ (p1 : Nodes) (right : Option ℕ) (i0 : Shrinks since birth p p1 right (tree_at p node.right) (tree_at p1 right)) where
+    k : Shrinks since birth p p1 right o.r (tree_at p1 right)
+    k = subst (λ u. Shrinks since birth p p1 right u (tree_at p1 right)) right_is i0
+
+    pub right_used : IsSome (node_at p1 id)
+    right_used = top_stays since p p1 id node (held o.r) (held (tree_at p1 right)) found (side_off p id node t o can.apart).1 k.step
+
+    pub right_plain : mark_at p1 id ≡ plain
+    right_plain = top_plain since p p1 id (held o.r) (held (tree_at p1 right)) (held o.l) k.step (λ x. omega (arith, apart_in x))
+
+    pub right_room : 0 < since → 3 ≤ room p1
+    right_room h = omega (arith, side_room (height o.r) (omega (arith, heights)), copies_some since 3 h, k.total, k.few)
+
+    module _ (p2 : Nodes) (top : ℕ) (w : Owns p1 p2 since id top) where
+      behind : ChildDone since p p2 id top (held o.r) (tree_at p1 right) o.l
+      behind = child_done since p p1 p2 id top (held o.r) (tree_at p1 right) o.l o.sl (λ j. omega (arith, apart_in j)) k.stands k.step w
+
+      fallen_now : tree_at p2 right ≡ tree_at p1 right
+      fallen_now = tree_in p2 right (tree_at p1 right) k.root behind.child
+
+      other_now : tree_at p2 node.left ≡ o.l
+      other_now = tree_in p2 node.left o.l o.left_is behind.other
+
+      pub right_settle : CanSettle since p2 top node.left (tree_at p2 node.left) right (tree_at p2 right)
+      right_settle =
+          let c : CanSettle since p2 top node.left o.l right (tree_at p1 right) = record {
+            left_root = o.left_is;
+            right_root = k.root;
+            left_stands = behind.other;
+            right_stands = behind.child;
+            left_balanced = near.1;
+            right_balanced = k.balanced;
+            apart = λ j. omega (arith, behind.apart j);
+            mine = behind.mine;
+            left_fits = omega (arith, heights, can.fits);
+            right_fits = omega (arith, heights, can.fits, k.not_higher);
+            has_room = λ h. omega (arith, right_room h, w.total, w.few, copies_some since 1 h);
+          } in
+          subst (λ u. CanSettle since p2 top node.left u right (tree_at p2 right)) (sym other_now) (subst (λ u. CanSettle since p2 top node.left o.l right u) (sym fallen_now) c)
+
+      pub right_near : DifferByAtMost 2 (height (tree_at p2 node.left)) (height (tree_at p2 right))
+      right_near =
+          let n0 : height o.l ≤ height o.r + 1 = near.0.0 in
+          let n1 : height o.r ≤ height o.l + 1 = near.0.1 in
+          (omega (arith, ap height fallen_now, ap height other_now, k.not_higher, k.one_lower), omega (arith, ap height fallen_now, ap height other_now, k.not_higher, k.one_lower))
+
+      pub right_done : (p3 : Nodes) (result : ℕ) (key : Key) (new : Tree) → Settled since birth p2 p3 top result key (tree_at p2 node.left) (tree_at p2 right) new → (Shrinks since birth p p3 (Some result) t new) × (keys new ≡ keys o.l ++ key ∷ keys (tree_at p1 right))
+      right_done p3 result key new s0 =
+          let s : Settled since birth p2 p3 top result key o.l (tree_at p1 right) new =
+          subst (λ u. Settled since birth p2 p3 top result key o.l u new) fallen_now (subst (λ u. Settled since birth p2 p3 top result key u (tree_at p2 right) new) other_now s0) in
+          let h0 : max (height o.l) (height (tree_at p1 right)) ≤ height new = s.height_is.0 in
+          let h1 : height new ≤ max (height o.l) (height (tree_at p1 right)) + 1 = s.height_is.1 in
+          let low = shrunk (height o.r) (height (tree_at p1 right)) (height o.l) (height new) near.0.1 near.0.0 k.not_higher k.one_lower (omega arith, omega arith, λ e. omega (arith, s.height_is.2 (e.1, e.0))) in (
+            record {
+              root = sym s.root;
+              stands = s.stands;
+              balanced = s.balanced;
+              births = λ e b. let f : Descends (fork id o.birth o.l node.key o.r) = subst Descends o.is e in let g : o.birth ≤ birth = subst (BirthAtMost birth) o.is b in
+                  let ch = k.births f.3 (BirthAtMost-later o.birth birth o.r g f.1) in s.births f.2 ch.0 (BirthAtMost-later o.birth birth o.l g f.0) ch.1;
+              not_higher = omega (arith, heights, low.0);
+              one_lower = omega (arith, heights, low.1);
+              step = Step-beside since p p3 _ _ _ _ (Step-then since p p2 p3 _ _ _ behind.step (Step-beside since p2 p3 (λ j. one top j + held o.l j + held (tree_at p1 right) j) (held new) (λ j. one top j + held (tree_at p1 right) j + held o.l j) (held new) s.step (λ j. omega arith) (λ j. omega arith))) (λ j. omega (arith, ap (λ u. held u j) o.is)) (λ j. omega (arith, ap (λ u. held u j) o.is));
+              total = omega (arith, k.total, w.total, s.total);
+              few = omega (arith, k.few, w.few, s.few, side_cost (height o.r) (omega (arith, heights)), joins_near since (height o.l) (height (tree_at p1 right)) (omega (arith, near.0.0, near.0.1, k.not_higher, k.one_lower), omega (arith, near.0.0, near.0.1, k.not_higher, k.one_lower)));
+            },
+            s.keys_are,
+          )
+
+  -- the keys, by the answer of the comparison
+  module _ (cmp : Key → Key → Ordering) (total : IsTotalOrder cmp) (key : Key) (rising : IsRising cmp (keys t)) (has : HasKey cmp key (keys t)) where
+    rises : IsRising cmp (keys o.l ++ node.key ∷ keys o.r)
+    rises = subst (λ u. IsRising cmp (keys u)) o.is rising
+
+    in_keys : HasKey cmp key (keys o.l ++ node.key ∷ keys o.r)
+    in_keys = subst (λ u. HasKey cmp key (keys u)) o.is has
+
+    pub less_can : cmp key node.key ≡ Less → IsRising cmp (keys (tree_at p node.left)) × HasKey cmp key (keys (tree_at p node.left))
+    less_can h = (subst (λ u. IsRising cmp (keys u)) (sym left_is) (rising_front cmp total _ _ rises), subst (λ u. HasKey cmp key (keys u)) (sym left_is) (has_left cmp total key node.key (keys o.l) (keys o.r) h rises in_keys))
+
+    pub greater_can : cmp key node.key ≡ Greater → IsRising cmp (keys (tree_at p node.right)) × HasKey cmp key (keys (tree_at p node.right))
+    greater_can h = (subst (λ u. IsRising cmp (keys u)) (sym right_is) (rising_back cmp total _ _ _ rises), subst (λ u. HasKey cmp key (keys u)) (sym right_is) (has_right cmp total key node.key (keys o.l) (keys o.r) h rises in_keys))
+
+    pub less_keys : (ks new : List Key) → cmp key node.key ≡ Less → ks ≡ remove_key cmp key (keys (tree_at p node.left)) → new ≡ ks ++ node.key ∷ keys o.r → new ≡ remove_key cmp key (keys t)
+    less_keys ks new h e f = f ∙ ap (λ xs. xs ++ node.key ∷ keys o.r) (e ∙ ap (λ u. remove_key cmp key (keys u)) left_is) ∙ sym (remove_left cmp total key node.key (keys o.l) (keys o.r) h) ∙ ap (λ u. remove_key cmp key (keys u)) (sym o.is)
+
+    pub greater_keys : (ks new : List Key) → cmp key node.key ≡ Greater → ks ≡ remove_key cmp key (keys (tree_at p node.right)) → new ≡ keys o.l ++ node.key ∷ ks → new ≡ remove_key cmp key (keys t)
+    greater_keys ks new h e f = f ∙ ap (λ xs. keys o.l ++ node.key ∷ xs) (e ∙ ap (λ u. remove_key cmp key (keys u)) right_is) ∙ sym (remove_right cmp total key node.key (keys o.l) (keys o.r) h rises) ∙ ap (λ u. remove_key cmp key (keys u)) (sym o.is)
+
+    pub equal_keys : (least : Key) (ks new : List Key) → cmp key node.key ≡ Equal → keys (tree_at p node.right) ≡ least ∷ ks → new ≡ keys o.l ++ least ∷ ks → new ≡ remove_key cmp key (keys t)
+    equal_keys least ks new h e f = f ∙ ap (λ xs. keys o.l ++ xs) (sym e ∙ ap keys right_is) ∙ sym (remove_here cmp total key node.key (keys o.l) (keys o.r) h rises) ∙ ap (λ u. remove_key cmp key (keys u)) (sym o.is)
+
+    pub last_keys : (q : Nodes) → Discards since p q id → node.right ≡ None → cmp key node.key ≡ Equal → keys (tree_at q node.left) ≡ remove_key cmp key (keys t)
+    last_keys q d none h =
+        let empty = (no_right q d none).1 in
+        ap keys (tree_in q node.left o.l o.left_is (Stands-step since p q (one id) (λ x. 0) o.l d.step (λ x g. omega (arith, apart_in x, plain01_most p x)) o.sl))
+        ∙ sym (append_nil (keys o.l)) ∙ ap (λ u. keys o.l ++ keys u) (sym empty)
+        ∙ sym (remove_here cmp total key node.key (keys o.l) (keys o.r) h rises) ∙ ap (λ u. remove_key cmp key (keys u)) (sym o.is)
+      where
+        append_nil : (xs : List Key) → xs ++ [] ≡ xs
+        append_nil [] = refl
+        append_nil (x ∷ xs) = ap (λ ys. x ∷ ys) (append_nil xs)
+
+-- the whole of a removal
+pub remove_can : (cmp : Key → Key → Ordering) (since : ℕ) (p q : Nodes) (root : Option ℕ) (t : Tree) → IsSet cmp p root t → q.nodes ≡ p.nodes → q.marks ≡ p.marks → height t < 2 ^ 29 → remove_cost since (height t) ≤ room q → (tree_at q root ≡ t) × CanShrink since q root (tree_at q root)
+remove_can cmp since p q root t s same drop fits enough =
+    let alike : (x : ℕ) → plain01 q x ≡ plain01 p x = λ x. plain01_same p q x (ap (λ xs. Rattle.std.proofs.Common.get_or xs x None) same) (ap (λ ms. Rattle.std.proofs.Common.get_or ms x plain) drop) in
+    let stands = Stands-same p q t (λ x n h e. ap (λ xs. Rattle.std.proofs.Common.get_or xs x None) same ∙ e) s.stands in
+    let is = tree_in q root t s.root_is stands in
+    (is, subst (CanShrink since q root) (sym is) (record { root_is = s.root_is; stands = stands; balanced = s.balanced; apart = λ x. omega (arith, s.apart x, alike x); fits = fits; has_room = enough }))
+
+-- the same removal, seen from the pool before room was made
+pub removed : (cmp : Key → Key → Ordering) (total : IsTotalOrder cmp) (since birth : ℕ) (p0 p q : Nodes) (root to : Option ℕ) (key : Key) (t u new : Tree) → IsSet cmp p0 root t → p.nodes ≡ p0.nodes → p.marks ≡ p0.marks → u ≡ t → Shrinks since birth p q to u new → HasKey cmp key (keys t) → keys new ≡ remove_key cmp key (keys u) → Removes cmp since birth p0 q to key t new
+removed cmp total since birth p0 p q root to key t u new s same drop e0 i0 has k0 =
+    let i : Shrinks since birth p q to t new = subst (λ v. Shrinks since birth p q to v new) e0 i0 in
+    let k : keys new ≡ remove_key cmp key (keys t) = k0 ∙ ap (λ v. remove_key cmp key (keys v)) e0 in
+    let at : (x : ℕ) → node_at p0 x ≡ node_at p x = λ x. ap (λ xs. Rattle.std.proofs.Common.get_or xs x None) (sym same) in
+    let mark : (x : ℕ) → mark_at p0 x ≡ mark_at p x = λ x. ap (λ ms. Rattle.std.proofs.Common.get_or ms x plain) (sym drop) in
+    let alike : (x : ℕ) → plain01 p0 x ≡ plain01 p x = λ x. plain01_same p p0 x (at x) (mark x) in
+    let uses : in_use p ≡ in_use p0 = ap (λ xs. Rattle.std.specs.Prelude.count_by is_some xs) same in
+    let step : Step since p0 q (held t) (held new) = record {
+      kept = λ x n e h. i.step.kept x n (sym (at x) ∙ e) h;
+      balance = λ x. omega (arith, i.step.balance x, alike x);
+      older = λ x n e h. at x ∙ i.step.older x n e h;
+      marks = λ x. elim (i.step.marks x) [ inl kept ↦ inl (kept ∙ sym (mark x)) | inr old ↦ inr ((old.0.0, at x ∙ old.0.1, old.0.2), mark x ∙ old.1, old.2) ];
+    } in
+    record {
+      set = record {
+        root_is = i.root;
+        stands = i.stands;
+        balanced = i.balanced;
+        rising = subst (IsRising cmp) (sym k) (rising_remove cmp total key (keys t) s.rising);
+        apart = λ x. omega (arith, i.step.balance x, alike x, s.apart x);
+      };
+      keys_are = k;
+      counted = omega (arith, ap Rattle.std.proofs.Common.length k, length_remove cmp total key (keys t) s.rising has);
+      births = i.births;
+      step = step;
+      others = λ other there away. let stays = Stands-same p0 q other (λ x n h e. step.kept x n e (away x n h e)) there in (stays, tree_at-is q other stays ∙ sym (tree_at-is p0 other there));
+      cost = λ d small. omega (arith, i.few, uses, copies_most since (3 * height t), height_digits t d s.balanced (omega (arith, size-keys t)));
+    }
+  where
+    zero_or : (n : ℕ) → (n ≡ 0) ⊎ (0 < n)
+    zero_or zero = inl refl
+    zero_or (suc n) = inr (omega arith)
+
+    copies_most : (since n : ℕ) → copies since n ≤ n
+    copies_most since n = elim (Rattle.std.proofs.Common.ltb 0 since) as (λ b. cond b n 0 ≤ n) [ true ↦ omega arith | false ↦ omega arith ]

@@ -1,0 +1,371 @@
+-- One level of a union.
+use Rattle.std.proofs.Common.{◌≡◌, ◌≢◌, ◌⊎◌, ℕ, zero, suc, ◌+◌, ◌-◌, ◌*◌, ◌<◌, ◌≤◌, ◌^◌, max, true, false, cond, ltb, List, [], ◌∷◌, ◌++◌, length, Option, Some, None, is_some, IsSome, refl, sym, ap, subst, ◌∙◌, inl, inr, arith, length-append}
+use Rattle.std.proofs.Math.Nat.{add-mul, mul-add}
+use Rattle.std.proofs.lemmas.Bool.{cases_lt}
+use Rattle.std.proofs.lemmas.Nat.{mul-le}
+use Rattle.std.specs.declared.cmp.Ordering.{Ordering}
+use Rattle.std.specs.Cmp.{IsTotalOrder}
+use Rattle.gs_pool.specs.declared.nodes.Key.{Key}
+use Rattle.gs_pool.specs.declared.nodes.Node.{Node}
+use Rattle.gs_pool.specs.Pool.{Nodes, plain, is_aside, node_at, mark_at, in_use, room}
+use Rattle.gs_tree.specs.Keys.{IsRising, merge_keys}
+use Rattle.gs_tree.specs.Tree.{Tree, leaf, fork, root_of, height, keys, held, Stands, IsBalanced, BirthAtMost, Descends, height_at, tree_at}
+use Rattle.gs_tree.specs.Sets.{Unites, IsSet, union_cost}
+use Rattle.gs_tree.specs.Steps.{plain01, one, Step, Owns}
+use Rattle.gs_tree.specs.Joining.{CanJoin, Settled, copies, joins, IsHeightAfter}
+use Rattle.gs_tree.specs.Merging.{Built, CanMerge, Merges}
+use Rattle.gs_tree.proofs.Counting.{low_size, same_marks}
+use Rattle.gs_tree.proofs.TreeLemmas.{Stands-same, tree_at-is, one_same, plain01_most, plain01_same, plain_found, Stands-step, Step-then, Step-beside, Owns-step, BirthAtMost-later}
+use Rattle.gs_tree.proofs.Rotations.{height_in, tree_in}
+use Rattle.gs_tree.proofs.Order.{rising_front, rising_back}
+use Rattle.gs_tree.proofs.Costs.{copies_some, copies_zero, copies_most, copies_add, copies_mono}
+use Rattle.gs_tree.proofs.Levels.{Opened, opened}
+use Rattle.gs_tree.proofs.Heights.{size, height_digits, size-keys}
+use Rattle.gs_tree.proofs.Merging.{Cut, cut_length, cut_rising, merge_node, merge_none, rising_merge}
+
+-- the costs of a union, at one level
+pub cost_side : (since h n k m : ℕ) → h ≤ k → n ≤ m → union_cost since h n ≤ union_cost since k m
+cost_side since h n k m a b = omega (arith, mul-le n (copies since (4 * h)) m (copies since (4 * k)) b (copies_mono since (4 * h) (4 * k) (omega arith)))
+
+pub cost_sides : (since a b h m n k : ℕ) → a ≤ h → b ≤ h → m + n ≤ k → union_cost since a m + union_cost since b n ≤ union_cost since h k
+cost_sides since a b h m n k ha hb le =
+    let c = copies since (4 * h) in
+    let x : m * copies since (4 * a) ≤ m * c = mul-le m (copies since (4 * a)) m c (omega arith) (copies_mono since (4 * a) (4 * h) (omega arith)) in
+    let y : n * copies since (4 * b) ≤ n * c = mul-le n (copies since (4 * b)) n c (omega arith) (copies_mono since (4 * b) (4 * h) (omega arith)) in
+    let z : (m + n) * c ≤ k * c = mul-le (m + n) c k c le (omega arith) in
+    omega (arith, add-mul m n c)
+
+-- The copies of one level: its node, and a join of trees whose heights differ by the sides' growth and one. Four a key pay for it.
+pub cost_level : (since a b h m n k : ℕ) → a + 1 ≤ h → b + 1 ≤ h → m + n ≤ k → 1 ≤ m + n → union_cost since a m + union_cost since b n + copies since 1 + copies since (3 * (m + n)) ≤ union_cost since h k
+cost_level since a b h m n k ha hb le some = elim (ltb 0 since) as (λ t. (m + m * cond t (4 * a) 0) + (n + n * cond t (4 * b) 0) + cond t 1 0 + cond t (3 * (m + n)) 0 ≤ k + k * cond t (4 * h) 0) [
+  | true ↦
+      let x : m * (4 * a + 4) ≤ m * (4 * h) = mul-le m (4 * a + 4) m (4 * h) (omega arith) (omega arith) in
+      let y : n * (4 * b + 4) ≤ n * (4 * h) = mul-le n (4 * b + 4) n (4 * h) (omega arith) (omega arith) in
+      let z : (m + n) * (4 * h) ≤ k * (4 * h) = mul-le (m + n) (4 * h) k (4 * h) le (omega arith) in
+      omega (arith, add-mul m n (4 * h), mul-add m (4 * a) 4, mul-add n (4 * b) 4)
+  | false ↦ omega arith
+]
+
+pub joins_grown : (since l r l' r' m n : ℕ) → l ≤ r + 1 → r ≤ l + 1 → l ≤ l' → l' ≤ l + m → r ≤ r' → r' ≤ r + n → 1 ≤ m + n → copies since (joins l' r') ≤ copies since (3 * (m + n))
+joins_grown since l r l' r' m n a b c d e f some = copies_mono since _ _ (few l r l' r' m n a b c d e f some)
+  where
+    few : (l r l' r' m n : ℕ) → l ≤ r + 1 → r ≤ l + 1 → l ≤ l' → l' ≤ l + m → r ≤ r' → r' ≤ r + n → 1 ≤ m + n → joins l' r' ≤ 3 * (m + n)
+    few l r l' r' m n a b c d e f some = omega arith
+
+-- a tree whose sides grew is no lower
+both_grew : (l r l' r' n : ℕ) → l ≤ r + 1 → r ≤ l + 1 → l ≤ l' → r ≤ r' → IsHeightAfter l' r' n → max l r + 1 ≤ n
+both_grew l r l' r' n a b c d h =
+    let h0 : max l' r' ≤ n = h.0 in
+    elim (cases_lt (max l r) (max l' r')) [
+      | inl more ↦ omega arith
+      | inr same ↦ let e = h.2 (omega arith, omega arith) in omega arith
+    ]
+
+height_size : (t : Tree) → height t ≤ size t
+height_size leaf = omega arith
+height_size (fork id birth l k r) = omega (arith, height_size l, height_size r)
+
+-- a tree of few keys is low
+pub fits : (t : Tree) → IsBalanced t → length (keys t) < 2 ^ 65 → height t < 2 ^ 30
+fits t b small = omega (arith, height_digits t 65 b (omega (arith, size-keys t)))
+
+same_step : (since : ℕ) (p : Nodes) (f : ℕ → ℕ) → Step since p p f f
+same_step since p f = record {
+  kept = λ x n e h. e;
+  balance = λ x. refl;
+  older = λ x n e h. e;
+  marks = λ x. inl refl;
+}
+
+-- nothing is added
+pub merges_same : (cmp : Key → Key → Ordering) (since birth : ℕ) (p : Nodes) (root : Option ℕ) (t : Tree) (run : List Key) → IsSet cmp p root t → keys t ≡ merge_keys cmp run (keys t) → Merges cmp since birth p p root 0 t run t
+merges_same cmp since birth p root t run s e = record {
+  root = s.root_is;
+  stands = s.stands;
+  balanced = s.balanced;
+  keys_are = e;
+  births = λ d b. (d, b);
+  not_lower = omega arith;
+  growth = omega arith;
+  step = same_step since p (held t);
+  total = omega arith;
+  few = omega arith;
+  exact = omega arith;
+  counted = omega arith;
+  at_most = omega arith;
+  still = λ z. (refl, refl);
+}
+
+pub merges_none : (cmp : Key → Key → Ordering) (since birth : ℕ) (p : Nodes) (root : Option ℕ) (t : Tree) (run : List Key) → IsSet cmp p root t → length run ≡ 0 → Merges cmp since birth p p root 0 t run t
+merges_none cmp since birth p root t [] s e = merges_same cmp since birth p root t [] s refl
+merges_none cmp since birth p root t (x ∷ run) s e = absurd (omega arith)
+
+-- the tree was empty
+pub merges_built : (cmp : Key → Key → Ordering) → IsTotalOrder cmp → (since birth : ℕ) (p q : Nodes) (root result : Option ℕ) (run : List Key) (new : Tree) → since ≤ birth → root ≡ None → IsRising cmp run → 0 < length run → Built birth p q result run new → Merges cmp since birth p q result (length run) (tree_at p root) run new
+merges_built cmp total since birth p q root result run new young none rising some b = subst (λ u. Merges cmp since birth p q result (length run) u run new) (sym (ap (tree_at p) none)) (record {
+  root = b.root;
+  stands = b.stands;
+  balanced = b.balanced;
+  keys_are = b.keys_are ∙ sym (merge_none cmp total run rising);
+  births = λ d e. (b.descends, b.born);
+  not_lower = omega arith;
+  growth = omega (arith, height_size new, size-keys new, ap length b.keys_are);
+  step = b.step since young;
+  total = b.total;
+  few = omega (arith, b.exact);
+  exact = omega (arith, b.exact, b.replaced);
+  counted = omega (arith, ap length b.keys_are);
+  at_most = omega arith;
+  still = λ z. absurd (omega arith);
+})
+
+module _ (cmp : Key → Key → Ordering) (total : IsTotalOrder cmp) (since birth : ℕ) (p : Nodes) (root : Option ℕ) (t : Tree) (run : List Key) (can : CanMerge cmp since p root t run) (id : ℕ) (node : Node) (is : root ≡ Some id) (found : node_at p id ≡ Some node) (low high : List Key) (cut : Cut cmp node.key run low high) where
+  o : Opened p id node t
+  o = opened p root id node t can.set.root_is can.set.stands is found
+
+  heights : height t ≡ max (height o.l) (height o.r) + 1
+  heights = ap height o.is
+
+  near : IsBalanced (fork id o.birth o.l node.key o.r)
+  near = subst IsBalanced o.is can.set.balanced
+
+  rises : IsRising cmp (keys o.l ++ node.key ∷ keys o.r)
+  rises = subst (λ u. IsRising cmp (keys u)) o.is can.set.rising
+
+  apart_in : (i : ℕ) → one id i + held o.l i + held o.r i ≤ plain01 p i
+  apart_in i = omega (arith, can.set.apart i, ap (λ u. held u i) o.is)
+
+  within : (i : ℕ) → one id i + held o.l i + held o.r i ≤ plain01 p i
+  within = apart_in
+
+  counts : length (keys t) ≡ length (keys o.l) + length (keys o.r) + 1
+  counts = omega (arith, ap (λ u. length (keys u)) o.is, length-append (keys o.l) (node.key ∷ keys o.r))
+
+  few_in : length low + length high ≤ length run
+  few_in = cut_length cmp node.key run low high cut
+
+  both_cost : union_cost since (height o.l) (length low) + union_cost since (height o.r) (length high) ≤ union_cost since (height t) (length run)
+  both_cost = cost_sides since (height o.l) (height o.r) (height t) (length low) (length high) (length run) (omega (arith, heights)) (omega (arith, heights)) few_in
+
+  left_is : tree_at p node.left ≡ o.l
+  left_is = tree_in p node.left o.l o.left_is o.sl
+
+  run_parts : IsRising cmp low × IsRising cmp high
+  run_parts = cut_rising cmp total node.key run low high cut can.run_rising
+
+  pub left_falls : height_at p node.left < height_at p root
+  left_falls = omega (arith, height_in p node.left o.l o.left_is o.sl, height_in p root t can.set.root_is can.set.stands, heights)
+
+  pub left_can : CanMerge cmp since p node.left (tree_at p node.left) low
+  left_can = subst (λ u. CanMerge cmp since p node.left u low) (sym left_is) (record {
+    set = record { root_is = o.left_is; stands = o.sl; balanced = near.1; rising = rising_front cmp total _ _ rises; apart = λ i. omega (arith, apart_in i) };
+    run_rising = run_parts.0;
+    small = omega (arith, can.small, counts, few_in);
+    has_room = omega (arith, can.has_room, both_cost);
+  })
+
+  module _ (p1 : Nodes) (left : Option ℕ) (c : ℕ) (i0 : Merges cmp since birth p p1 left c (tree_at p node.left) low (tree_at p1 left)) where
+    i : Merges cmp since birth p p1 left c o.l low (tree_at p1 left)
+    i = subst (λ u. Merges cmp since birth p p1 left c u low (tree_at p1 left)) left_is i0
+
+    step1 : Step since p p1 (λ x. one id x + held o.l x + held o.r x) (λ x. one id x + held (tree_at p1 left) x + held o.r x)
+    step1 = Step-beside since p p1 (held o.l) (held (tree_at p1 left)) _ _ i.step (λ x. omega arith) (λ x. omega arith)
+
+    apart1 : (x : ℕ) → one id x + held (tree_at p1 left) x + held o.r x ≤ 1
+    apart1 x = omega (arith, step1.balance x, within x, plain01_most p1 x)
+
+    right_there : Stands p1 o.r
+    right_there = Stands-step since p p1 (held o.l) (held (tree_at p1 left)) o.r i.step (λ x h. omega (arith, apart_in x, plain01_most p x)) o.sr
+
+    right_is : tree_at p1 node.right ≡ o.r
+    right_is = tree_in p1 node.right o.r o.right_is right_there
+
+    pub right_falls : height_at p1 node.right < height_at p root
+    right_falls = omega (arith, height_in p1 node.right o.r o.right_is right_there, height_in p root t can.set.root_is can.set.stands, heights)
+
+    pub right_can : CanMerge cmp since p1 node.right (tree_at p1 node.right) high
+    right_can = subst (λ u. CanMerge cmp since p1 node.right u high) (sym right_is) (record {
+      set = record { root_is = o.right_is; stands = right_there; balanced = near.2; rising = rising_back cmp total _ _ _ rises; apart = λ x. omega (arith, step1.balance x, apart_in x) };
+      run_rising = run_parts.1;
+      small = omega (arith, can.small, counts, few_in);
+      has_room = omega (arith, can.has_room, both_cost, i.total, i.few);
+    })
+
+    module _ (p2 : Nodes) (right : Option ℕ) (d : ℕ) (k0 : Merges cmp since birth p1 p2 right d (tree_at p1 node.right) high (tree_at p2 right)) where
+      k : Merges cmp since birth p1 p2 right d o.r high (tree_at p2 right)
+      k = subst (λ u. Merges cmp since birth p1 p2 right d u high (tree_at p2 right)) right_is k0
+
+      step2 : Step since p p2 (λ x. one id x + held o.l x + held o.r x) (λ x. one id x + held (tree_at p1 left) x + held (tree_at p2 right) x)
+      step2 = Step-then since p p1 p2 _ _ _ step1 (Step-beside since p1 p2 (held o.r) (held (tree_at p2 right)) _ _ k.step (λ x. omega arith) (λ x. omega arith))
+
+      apart2 : (x : ℕ) → one id x + held (tree_at p1 left) x + held (tree_at p2 right) x ≤ 1
+      apart2 x = omega (arith, step2.balance x, within x, plain01_most p2 x)
+
+      left_there : Stands p2 (tree_at p1 left)
+      left_there = Stands-step since p1 p2 (held o.r) (held (tree_at p2 right)) (tree_at p1 left) k.step (λ x h. omega (arith, apart1 x)) i.stands
+
+      merged : merge_keys cmp run (keys t) ≡ keys (tree_at p1 left) ++ node.key ∷ keys (tree_at p2 right)
+      merged = ap (λ u. merge_keys cmp run (keys u)) o.is ∙ merge_node cmp total run low high node.key (keys o.l) (keys o.r) cut rises
+          ∙ ap (λ ks. ks ++ node.key ∷ merge_keys cmp high (keys o.r)) (sym i.keys_are) ∙ ap (λ ks. keys (tree_at p1 left) ++ node.key ∷ ks) (sym k.keys_are)
+
+      pub sum_fits : c + d ≤ length run
+      sum_fits = omega (arith, i.at_most, k.at_most, few_in)
+
+      pub same_done : c + d ≡ 0 → Merges cmp since birth p p2 root 0 t run (tree_at p2 root)
+      same_done none =
+          let a = i.still (omega arith) in
+          let b = k.still (omega arith) in
+          let pools : p2 ≡ p = b.0 ∙ a.0 in
+          let e : keys t ≡ merge_keys cmp run (keys t) = ap keys o.is ∙ ap (λ u. keys u ++ node.key ∷ keys o.r) (sym a.1) ∙ ap (λ u. keys (tree_at p1 left) ++ node.key ∷ keys u) (sym b.1) ∙ sym merged in
+          let m = merges_same cmp since birth p root t run can.set e in
+          subst (λ q. Merges cmp since birth p q root 0 t run (tree_at q root)) (sym pools) (subst (Merges cmp since birth p p root 0 t run) (sym (tree_in p root t can.set.root_is can.set.stands)) m)
+
+      pub top_used : IsSome (node_at p2 id)
+      top_used =
+          let at1 = i.step.kept id node found (inl (omega (arith, apart_in id, one_same id, plain01_most p id))) in
+          ap is_some (k.step.kept id node at1 (inl (omega (arith, apart1 id, one_same id))))
+
+      pub union_plain : mark_at p2 id ≡ plain
+      union_plain = (plain_found p2 id (omega (arith, step2.balance id, within id, one_same id))).1
+
+      module _ (grew : 0 < c + d) where
+        cost : union_cost since (height o.l) (length low) + union_cost since (height o.r) (length high) + copies since 1 + copies since (3 * (length low + length high)) ≤ union_cost since (height t) (length run)
+        cost = cost_level since (height o.l) (height o.r) (height t) (length low) (length high) (length run) (omega (arith, heights)) (omega (arith, heights)) few_in (omega (arith, i.at_most, k.at_most))
+
+        join_cost : copies since (joins (height (tree_at p1 left)) (height (tree_at p2 right))) ≤ copies since (3 * (length low + length high))
+        join_cost = joins_grown since (height o.l) (height o.r) (height (tree_at p1 left)) (height (tree_at p2 right)) (length low) (length high) near.0.0 near.0.1 i.not_lower i.growth k.not_lower k.growth (omega (arith, i.at_most, k.at_most))
+
+        left_over : copies since 1 + copies since (joins (height (tree_at p1 left)) (height (tree_at p2 right)) + 2) ≤ room p2
+        left_over = omega (arith, can.has_room, cost, join_cost, i.total, i.few, k.total, k.few, copies_add since (joins (height (tree_at p1 left)) (height (tree_at p2 right))) 2)
+
+        pub top_room : 0 < since → 0 < room p2
+        top_room h = omega (arith, left_over, copies_some since 1 h)
+
+        module _ (p3 : Nodes) (top : ℕ) (w : Owns p2 p3 since id top) where
+          own : Step since p2 p3 (one id) (one top)
+          own = Owns-step since p2 p3 id top w
+
+          step3 : Step since p p3 (λ x. one id x + held o.l x + held o.r x) (λ x. one top x + held (tree_at p1 left) x + held (tree_at p2 right) x)
+          step3 = Step-then since p p2 p3 _ _ _ step2 (Step-beside since p2 p3 (one id) (one top) _ _ own (λ x. omega arith) (λ x. omega arith))
+
+          left_stays : Stands p3 (tree_at p1 left)
+          left_stays = Stands-step since p2 p3 (one id) (one top) (tree_at p1 left) own (λ x h. omega (arith, apart2 x)) left_there
+
+          right_stays : Stands p3 (tree_at p2 right)
+          right_stays = Stands-step since p2 p3 (one id) (one top) (tree_at p2 right) own (λ x h. omega (arith, apart2 x)) k.stands
+
+          left_now : tree_at p3 left ≡ tree_at p1 left
+          left_now = tree_in p3 left (tree_at p1 left) i.root left_stays
+
+          right_now : tree_at p3 right ≡ tree_at p2 right
+          right_now = tree_in p3 right (tree_at p2 right) k.root right_stays
+
+          pub join_can : CanJoin since p3 top left (tree_at p3 left) right (tree_at p3 right)
+          join_can =
+              let j : CanJoin since p3 top left (tree_at p1 left) right (tree_at p2 right) = record {
+                can = record {
+                  left_root = i.root;
+                  right_root = k.root;
+                  left_stands = left_stays;
+                  right_stands = right_stays;
+                  left_balanced = i.balanced;
+                  right_balanced = k.balanced;
+                  apart = λ x. omega (arith, step3.balance x, within x);
+                  mine = record { used = w.used; owned = w.owned };
+                  left_fits = fits (tree_at p1 left) i.balanced (omega (arith, i.counted, i.at_most, can.small, counts, few_in));
+                  right_fits = fits (tree_at p2 right) k.balanced (omega (arith, k.counted, k.at_most, can.small, counts, few_in));
+                  has_room = λ h. omega (arith, left_over, w.total, w.few, copies_some since 1 h, copies_some since 2 h, copies_add since (joins (height (tree_at p1 left)) (height (tree_at p2 right))) 2);
+                };
+                enough = omega (arith, left_over, w.total, w.few);
+              } in
+              subst (λ u. CanJoin since p3 top left (tree_at p3 left) right u) (sym right_now) (subst (λ u. CanJoin since p3 top left u right (tree_at p2 right)) (sym left_now) j)
+
+          pub join_done : (p4 : Nodes) (result : ℕ) (new : Tree) → Settled since birth p3 p4 top result node.key (tree_at p3 left) (tree_at p3 right) new → Merges cmp since birth p p4 (Some result) (c + d) t run new
+          join_done p4 result new s0 =
+              let s : Settled since birth p3 p4 top result node.key (tree_at p1 left) (tree_at p2 right) new =
+              subst (λ u. Settled since birth p3 p4 top result node.key (tree_at p1 left) u new) right_now (subst (λ u. Settled since birth p3 p4 top result node.key u (tree_at p3 right) new) left_now s0) in
+              let h1 : height new ≤ max (height (tree_at p1 left)) (height (tree_at p2 right)) + 1 = s.height_is.1 in
+              record {
+                root = sym s.root;
+                stands = s.stands;
+                balanced = s.balanced;
+                keys_are = s.keys_are ∙ sym merged;
+                births = λ dt bt. let e : Descends (fork id o.birth o.l node.key o.r) = subst Descends o.is dt in let f : o.birth ≤ birth = subst (BirthAtMost birth) o.is bt in
+                    let a = i.births e.2 (BirthAtMost-later o.birth birth o.l f e.0) in let b = k.births e.3 (BirthAtMost-later o.birth birth o.r f e.1) in s.births a.0 b.0 a.1 b.1;
+                not_lower = omega (arith, heights, both_grew (height o.l) (height o.r) (height (tree_at p1 left)) (height (tree_at p2 right)) (height new) near.0.0 near.0.1 i.not_lower k.not_lower s.height_is);
+                growth = omega (arith, heights, h1, i.growth, k.growth, few_in);
+                step = Step-beside since p p4 _ _ _ _ (Step-then since p p3 p4 _ _ _ step3 s.step) (λ x. omega (arith, ap (λ u. held u x) o.is)) (λ x. omega (arith, ap (λ u. held u x) o.is));
+                total = omega (arith, i.total, k.total, w.total, s.total);
+                few = omega (arith, i.few, k.few, w.few, s.few, cost, join_cost);
+                exact = omega (arith, i.exact, k.exact, w.exact, s.exact);
+                counted = omega (arith, ap length s.keys_are, length-append (keys (tree_at p1 left)) (node.key ∷ keys (tree_at p2 right)), i.counted, k.counted, counts);
+                at_most = sum_fits;
+                still = λ z. absurd (omega arith);
+              }
+
+-- the whole of a union
+pub union_can : (cmp : Key → Key → Ordering) (since : ℕ) (p q : Nodes) (root : Option ℕ) (t : Tree) (run : List Key) → IsSet cmp p root t → IsRising cmp run → q.nodes ≡ p.nodes → q.marks ≡ p.marks → length q.nodes < 2 ^ 32 → length run < 2 ^ 64 → union_cost since (height t) (length run) + copies since 2 ≤ room q → (tree_at q root ≡ t) × CanMerge cmp since q root (tree_at q root) run
+union_can cmp since p q root t run s rising same drop small short enough =
+    let alike : (x : ℕ) → plain01 q x ≡ plain01 p x = λ x. plain01_same p q x (ap (λ xs. Rattle.std.proofs.Common.get_or xs x None) same) (ap (λ ms. Rattle.std.proofs.Common.get_or ms x plain) drop) in
+    let stands = Stands-same p q t (λ x n h e. ap (λ xs. Rattle.std.proofs.Common.get_or xs x None) same ∙ e) s.stands in
+    let is = tree_in q root t s.root_is stands in (
+      is,
+      subst (λ u. CanMerge cmp since q root u run) (sym is) (record {
+        set = record { root_is = s.root_is; stands = stands; balanced = s.balanced; rising = s.rising; apart = λ x. omega (arith, s.apart x, alike x) };
+        run_rising = rising;
+        small = omega (arith, size-keys t, low_size q t stands (λ x. omega (arith, s.apart x, alike x)) small);
+        has_room = enough;
+      }),
+    )
+
+-- the same union, seen from the pool before room was made
+pub united : (cmp : Key → Key → Ordering) (total : IsTotalOrder cmp) (since birth : ℕ) (p0 p q : Nodes) (root to : Option ℕ) (added : ℕ) (t u : Tree) (run : List Key) (new : Tree) → IsSet cmp p0 root t → p.nodes ≡ p0.nodes → p.marks ≡ p0.marks → length p.nodes < 2 ^ 32 → u ≡ t → Merges cmp since birth p q to added u run new → Unites cmp since birth p0 q to added t run new
+united cmp total since birth p0 p q root to added t u run new s same drop small e0 i0 =
+    let i : Merges cmp since birth p q to added t run new = subst (λ v. Merges cmp since birth p q to added v run new) e0 i0 in
+    let at : (x : ℕ) → node_at p0 x ≡ node_at p x = λ x. ap (λ xs. Rattle.std.proofs.Common.get_or xs x None) (sym same) in
+    let mark : (x : ℕ) → mark_at p0 x ≡ mark_at p x = λ x. ap (λ ms. Rattle.std.proofs.Common.get_or ms x plain) (sym drop) in
+    let alike : (x : ℕ) → plain01 p0 x ≡ plain01 p x = λ x. plain01_same p p0 x (at x) (mark x) in
+    let uses : in_use p ≡ in_use p0 = ap (λ xs. Rattle.std.specs.Prelude.count_by is_some xs) same in
+    let step : Step since p0 q (held t) (held new) = record {
+      kept = λ x n e h. i.step.kept x n (sym (at x) ∙ e) h;
+      balance = λ x. omega (arith, i.step.balance x, alike x);
+      older = λ x n e h. at x ∙ i.step.older x n e h;
+      marks = λ x. elim (i.step.marks x) [ inl kept ↦ inl (kept ∙ sym (mark x)) | inr old ↦ inr ((old.0.0, at x ∙ old.0.1, old.0.2), mark x ∙ old.1, old.2) ];
+    } in
+    record {
+      set = record {
+        root_is = i.root;
+        stands = i.stands;
+        balanced = i.balanced;
+        rising = subst (IsRising cmp) (sym i.keys_are) (rising_merge cmp total run (keys t) s.rising);
+        apart = λ x. omega (arith, i.step.balance x, alike x, s.apart x);
+      };
+      keys_are = i.keys_are;
+      counted = i.counted;
+      still = λ z. let f = i.still z in (i.root ∙ ap root_of f.1, ap (λ (n : Nodes). n.nodes) f.0 ∙ same, ap (λ (n : Nodes). n.marks) f.0 ∙ drop);
+      births = i.births;
+      step = step;
+      others = λ other there away. let stays = Stands-same p0 q other (λ x n h e. step.kept x n e (away x n h e)) there in (stays, tree_at-is q other stays ∙ sym (tree_at-is p0 other there));
+      exact = omega (arith, i.exact, uses, ap (Rattle.std.specs.Prelude.count_by is_aside) drop);
+      owned = λ z. omega (arith, i.exact, uses, same_marks q.marks p.marks (λ x. elim (i.step.marks x) [ inl kept ↦ kept | inr old ↦ absurd (omega (arith, old.0.2)) ]));
+      cost = omega (arith, i.few, uses);
+      digits = λ d le. omega (arith, i.few, uses, per_key (height t) (8 * d) (omega (arith, height_digits t d s.balanced (omega (arith, size-keys t)))), mul-add (length run) (8 * d) 1);
+      few = omega (arith, i.few, uses, per_key (height t) 256 (omega (arith, height_digits t 32 s.balanced (omega (arith, low_size p0 t s.stands s.apart (omega (arith, ap length same, small)))))), mul-add (length run) 256 1);
+    }
+  where
+    zero_or : (n : ℕ) → (n ≡ 0) ⊎ (0 < n)
+    zero_or zero = inl refl
+    zero_or (suc n) = inr (omega arith)
+
+    per_key : (h k : ℕ) → 4 * h ≤ k → length run * copies since (4 * h) ≤ length run * k
+    per_key h k le = mul-le (length run) (copies since (4 * h)) (length run) k (omega arith) (omega (arith, copies_most since (4 * h)))
+
+-- the room that was made is enough
+pub enough_copied : (since h n each spare : ℕ) → 0 < since → each ≡ 1 + 4 * h → spare ≡ 2 → union_cost since h n + copies since 2 ≤ n * each + spare
+enough_copied since h n each spare pos e f = omega (arith, copies_most since 2, ap (λ k. n * k) e, ap (λ k. n * k) (copies_some since (4 * h) pos), mul-add n 1 (4 * h))
+
+pub enough_owned : (since h n each spare : ℕ) → since ≡ 0 → each ≡ 1 → union_cost since h n + copies since 2 ≤ n * each + spare
+enough_owned since h n each spare none e = omega (arith, copies_zero since 2 none, ap (λ k. n * k) e, ap (λ k. n * k) (copies_zero since (4 * h) none))
+
+pub short_run : (n each : ℕ) → 1 ≤ each → n * each < 2 ^ 64 → n < 2 ^ 64
+short_run n each some h = omega (arith, mul-le n 1 n each (omega arith) some)

@@ -1,0 +1,62 @@
+-- How two trees and a key become one balanced tree.
+use Rattle.std.specs.Prelude.{◌≡◌, ℕ, ◌+◌, ◌-◌, ◌*◌, ◌^◌, ◌<◌, ◌≤◌, max, ◌∷◌, ◌++◌, Option, Some, if◌then◌else◌}
+use Rattle.gs_pool.specs.declared.nodes.Key.{Key}
+use Rattle.gs_pool.specs.Pool.{Nodes, in_use, aside_count, room}
+use Rattle.gs_tree.specs.Tree.{Tree, root_of, height, keys, held, Stands, IsBalanced, DifferByAtMost, BirthAtMost, Descends, tree_at}
+use Rattle.gs_tree.specs.Steps.{plain01, one, SameTotal, Step, IsMine}
+
+-- two balanced trees that stand apart from each other and from the node `top`
+pub record CanSettle (since : ℕ) (p : Nodes) (top : ℕ) (left : Option ℕ) (l : Tree) (right : Option ℕ) (r : Tree) : Type 0 where
+  pub left_root : left ≡ root_of l
+  pub right_root : right ≡ root_of r
+  pub left_stands : Stands p l
+  pub right_stands : Stands p r
+  pub left_balanced : IsBalanced l
+  pub right_balanced : IsBalanced r
+  pub apart : (x : ℕ) → one top x + held l x + held r x ≤ plain01 p x
+  pub mine : IsMine since p top
+  pub left_fits : height l < 2 ^ 30
+  pub right_fits : height r < 2 ^ 30
+  pub has_room : 0 < since → 2 ≤ room p
+
+-- the height h that trees of these heights settle to
+abbrev pub IsHeightAfter : ℕ → ℕ → ℕ → Type 0
+IsHeightAfter l r h = (max l r ≤ h) × (h ≤ max l r + 1) × (DifferByAtMost 1 l r → h ≡ max l r + 1)
+
+-- how many copies at most
+abbrev pub copies : ℕ → ℕ → ℕ
+copies since n = if Rattle.std.specs.Prelude.nat_lt 0 since then n else 0
+
+-- how many copies a join of trees of these heights takes at most
+abbrev pub joins : ℕ → ℕ → ℕ
+joins l r = 3 * ((l - r) + (r - l)) - 4
+
+-- the two trees and the key are one balanced tree t
+pub record Settled (since birth : ℕ) (p q : Nodes) (top result : ℕ) (key : Key) (l r t : Tree) : Type 0 where
+  pub root : root_of t ≡ Some result
+  pub stands : Stands q t
+  pub balanced : IsBalanced t
+  pub keys_are : keys t ≡ keys l ++ key ∷ keys r
+  pub births : Descends l → Descends r → BirthAtMost birth l → BirthAtMost birth r → Descends t × BirthAtMost birth t
+  pub height_is : IsHeightAfter (height l) (height r) (height t)
+  pub step : Step since p q (λ x. one top x + held l x + held r x) (held t)
+  pub total : SameTotal p q
+  pub few : in_use q ≤ in_use p + copies since (joins (height l) (height r))
+  pub exact : in_use q + aside_count p ≡ in_use p + aside_count q
+
+-- two trees that can be joined at the node `top`, whatever their heights
+pub record CanJoin (since : ℕ) (p : Nodes) (top : ℕ) (left : Option ℕ) (l : Tree) (right : Option ℕ) (r : Tree) : Type 0 where
+  pub can : CanSettle since p top left l right r
+  pub enough : copies since (joins (height l) (height r) + 2) ≤ room p
+
+-- the trees that two roots mean can be balanced at the node `top`
+abbrev pub CanSettleAt : ℕ → Nodes → ℕ → Option ℕ → Option ℕ → Type 0
+CanSettleAt since p top left right = CanSettle since p top left (tree_at p left) right (tree_at p right)
+
+-- they can be joined there, whatever their heights
+abbrev pub CanJoinAt : ℕ → Nodes → ℕ → Option ℕ → Option ℕ → Type 0
+CanJoinAt since p top left right = CanJoin since p top left (tree_at p left) right (tree_at p right)
+
+-- the trees that they meant and the key are what the new root means
+abbrev pub SettledAt : ℕ → ℕ → Nodes → Nodes → ℕ → Option ℕ → Key → Option ℕ → ℕ → Type 0
+SettledAt since birth p q top left key right new = Settled since birth p q top new key (tree_at p left) (tree_at p right) (tree_at q (Some new))

@@ -1,0 +1,57 @@
+-- What is read from a set: whether it has a key, how many it has, and the keys from a place on.
+use Rattle.std.specs.Prelude.{◌≡◌, ℕ, ◌-◌, ◌≤◌, ◌++◌, Bool, true, false, List, [], ◌∷◌, length, take, Option, Some, None}
+use Rattle.std.specs.List.{filter}
+use Rattle.std.specs.declared.cmp.Ordering.{Ordering}
+use Rattle.std.specs.declared.cmp.Ordering.TheVariants.{Less, Equal, Greater}
+use Rattle.gs_pool.specs.declared.nodes.Key.{Key}
+use Rattle.gs_pool.specs.Pool.{Nodes}
+use Rattle.gs_tree.specs.Keys.{IsRising}
+use Rattle.gs_tree.specs.Tree.{Tree, root_of, keys, held, Stands, tree_at}
+
+-- a root means a tree that has each of its nodes once
+pub record IsTree (p : Nodes) (root : Option ℕ) (t : Tree) : Type 0 where
+  pub root_is : root ≡ root_of t
+  pub stands : Stands p t
+  pub once : (x : ℕ) → held t x ≤ 1
+
+-- a root means keys in order, whatever its nodes are marked as
+pub record IsReadable (cmp : Key → Key → Ordering) (p : Nodes) (root : Option ℕ) (t : Tree) : Type 0 where
+  pub root_is : root ≡ root_of t
+  pub stands : Stands p t
+  pub rising : IsRising cmp (keys t)
+
+-- the same of the tree that the pool has for the root
+abbrev pub IsTreeAt : Nodes → Option ℕ → Type 0
+IsTreeAt p root = IsTree p root (tree_at p root)
+
+-- the same of the tree that the pool has for the root
+abbrev pub IsReadableAt : (Key → Key → Ordering) → Nodes → Option ℕ → Type 0
+IsReadableAt cmp p root = IsReadable cmp p root (tree_at p root)
+
+-- the keys that a root means
+abbrev pub keys_at : Nodes → Option ℕ → List Key
+keys_at p root = keys (tree_at p root)
+
+-- an order's answer says that the first is the lesser
+abbrev pub is_less : Ordering → Bool
+is_less Less = true
+is_less Equal = false
+is_less Greater = false
+
+-- whether a key is above the one given, where one is
+abbrev pub is_past : (Key → Key → Ordering) → Option Key → Key → Bool
+is_past cmp None y = true
+is_past cmp (Some x) y = is_less (cmp x y)
+
+-- the keys above the one given, and all where none is
+abbrev pub keys_from : (Key → Key → Ordering) → Option Key → List Key → List Key
+keys_from cmp from ks = filter (is_past cmp from) ks
+
+-- the first of these keys
+abbrev pub first_of : List Key → Option Key
+first_of [] = None
+first_of (x ∷ xs) = Some x
+
+-- the keys xs, and then those of ys for which there is room up to so many in all
+abbrev pub filled_up : ℕ → List Key → List Key → List Key
+filled_up end xs ys = xs ++ take (end - length xs) ys

@@ -1,0 +1,77 @@
+-- Sets of keys: what a root means to readers, and what adding and removing keys does.
+use Rattle.std.specs.Prelude.{◌≡◌, ◌⊎◌, ℕ, ◌+◌, ◌*◌, ◌^◌, ◌<◌, ◌≤◌, List, length, Option, Some}
+use Rattle.std.specs.declared.cmp.Ordering.{Ordering}
+use Rattle.gs_pool.specs.declared.nodes.Key.{Key}
+use Rattle.gs_pool.specs.declared.nodes.Node.{Node}
+use Rattle.gs_pool.specs.Pool.{Nodes, node_at, in_use, aside_count}
+use Rattle.gs_tree.specs.declared.unions.Merged.{Merged}
+use Rattle.gs_tree.specs.Keys.{IsRising, insert_key, remove_key, merge_keys}
+use Rattle.gs_tree.specs.Tree.{Tree, root_of, height, keys, held, Stands, IsBalanced, BirthAtMost, Descends, tree_at}
+use Rattle.gs_tree.specs.Reading.{keys_at}
+use Rattle.gs_tree.specs.Steps.{plain01, Step}
+use Rattle.gs_tree.specs.Joining.{copies}
+
+-- a root means a balanced tree in order
+pub record IsSet (cmp : Key → Key → Ordering) (p : Nodes) (root : Option ℕ) (t : Tree) : Type 0 where
+  pub root_is : root ≡ root_of t
+  pub stands : Stands p t
+  pub balanced : IsBalanced t
+  pub rising : IsRising cmp (keys t)
+  pub apart : (x : ℕ) → held t x ≤ plain01 p x
+
+-- each node of the tree is no node of t, or older than `since`
+abbrev pub IsElsewhere : ℕ → Nodes → Tree → Tree → Type 0
+IsElsewhere since p t other = (x : ℕ) (n : Node) → 0 < held other x → node_at p x ≡ Some n → (held t x ≡ 0) ⊎ (n.birth < since)
+
+-- every tree that is apart from t, or older, stands as it stood
+abbrev pub KeepsOthers : ℕ → Nodes → Nodes → Tree → Type 0
+KeepsOthers since p q t = (other : Tree) → Stands p other → IsElsewhere since p t other → Stands q other × (Rattle.gs_tree.specs.Tree.tree_at q (root_of other) ≡ Rattle.gs_tree.specs.Tree.tree_at p (root_of other))
+
+-- how many nodes the union of a tree of height h with n keys takes at most: n (4 h + 1), and n where nothing is copied
+abbrev pub union_cost : ℕ → ℕ → ℕ → ℕ
+union_cost since h n = n + n * copies since (4 * h)
+
+-- The set t became the set new, which has the keys of the run too; it lacked `added` of them. A key costs at most 8 d + 1 nodes, where the set's size has d digits, and 257 in any pool.
+pub record Unites (cmp : Key → Key → Ordering) (since birth : ℕ) (p q : Nodes) (result : Option ℕ) (added : ℕ) (t : Tree) (run : List Key) (new : Tree) : Type 0 where
+  pub set : IsSet cmp q result new
+  pub keys_are : keys new ≡ merge_keys cmp run (keys t)
+  pub counted : length (keys new) ≡ length (keys t) + added
+  pub still : added ≡ 0 → (result ≡ root_of t) × (q.nodes ≡ p.nodes) × (q.marks ≡ p.marks)
+  pub births : Descends t → BirthAtMost birth t → Descends new × BirthAtMost birth new
+  pub step : Step since p q (held t) (held new)
+  pub others : KeepsOthers since p q t
+  pub exact : in_use q + aside_count p ≡ in_use p + aside_count q + added
+  pub owned : since ≡ 0 → in_use q ≡ in_use p + added
+  pub cost : in_use q ≤ in_use p + union_cost since (height t) (length run)
+  pub digits : (d : ℕ) → length (keys t) < 2 ^ d → in_use q ≤ in_use p + length run * (8 * d + 1)
+  pub few : in_use q ≤ in_use p + 257 * length run
+
+-- a root means a set that can be changed
+abbrev pub IsSetAt : (Key → Key → Ordering) → Nodes → Option ℕ → Type 0
+IsSetAt cmp p root = IsSet cmp p root (tree_at p root)
+
+-- the set that a root meant became that of the new root, which has the keys of the run too
+abbrev pub UnitesAt : (Key → Key → Ordering) → ℕ → ℕ → Nodes → Nodes → Option ℕ → List Key → Merged → Type 0
+UnitesAt cmp since birth p q root run m = Unites cmp since birth p q m.root m.added (tree_at p root) run (tree_at q m.root)
+
+-- the keys that the new root means are those of the old one with this key in its place
+abbrev pub GainsKey : (Key → Key → Ordering) → Nodes → Nodes → Option ℕ → Key → Merged → Type 0
+GainsKey cmp p q root key m = keys_at q m.root ≡ insert_key cmp key (keys_at p root)
+
+-- at most 8 d + 4 nodes more are in use, where a set of this size has d binary digits
+abbrev pub IsCheap : ℕ → Nodes → Nodes → Type 0
+IsCheap size p q = (d : ℕ) → size < 2 ^ d → in_use q ≤ in_use p + 8 * d + 4
+
+-- The set t became the set new, which lacks the key. At most 8 d + 4 nodes more are in use, where the set's size has d binary digits.
+pub record Removes (cmp : Key → Key → Ordering) (since birth : ℕ) (p q : Nodes) (to : Option ℕ) (key : Key) (t new : Tree) : Type 0 where
+  pub set : IsSet cmp q to new
+  pub keys_are : keys new ≡ remove_key cmp key (keys t)
+  pub counted : length (keys new) + 1 ≡ length (keys t)
+  pub births : Descends t → BirthAtMost birth t → Descends new × BirthAtMost birth new
+  pub step : Step since p q (held t) (held new)
+  pub others : KeepsOthers since p q t
+  pub cost : IsCheap (length (keys t)) p q
+
+-- the set that a root meant became that of the new root, which lacks the key
+abbrev pub RemovesAt : (Key → Key → Ordering) → ℕ → ℕ → Nodes → Nodes → Option ℕ → Key → Option ℕ → Type 0
+RemovesAt cmp since birth p q root key to = Removes cmp since birth p q to key (tree_at p root) (tree_at q to)

@@ -1,0 +1,143 @@
+//! What is read from a set. Nothing here asks what a node is marked as, so a set that was replaced
+//! or retired can be read as long as its nodes are in use.
+ghost use Rattle.std.specs.Prelude.{◌≡◌, ◌+◌, ◌<◌, ◌≤◌, ◌^◌, ◌++◌, [], ◌∷◌, Some, Option, length, take, vec_len, vec_capacity, IsOk, OnOk, OnErr};
+ghost use Rattle.std.specs.Bool.{Decides};
+ghost use Rattle.gs_tree.specs.Keys.{HasKey};
+ghost use Rattle.gs_tree.specs.Reading.{IsTreeAt, IsReadableAt, keys_at, is_past as is_past_in, keys_from, first_of, filled_up};
+
+use crate::orders::KeyOrder;
+use gs_pool::{Key, Pool};
+use std::alloc::AllocError;
+use std::cmp::Ordering;
+
+/// Whether a set has a key.
+pub fn contains<O: KeyOrder>(pool: &Pool, order: &O, root: Option<u32>, key: Key) -> bool
+    requires { IsReadableAt (O.compare order.now) pool.now root }
+    ensures { Decides result (HasKey (O.compare order.now) key (keys_at pool.now root)) }
+{
+    let Some(id) = root else {
+        return false;
+    };
+    let node = pool.get(id);
+    match order.compare(key, node.key) {
+        Ordering::Less => contains(pool, order, node.left, key),
+        Ordering::Equal => true,
+        Ordering::Greater => contains(pool, order, node.right, key),
+    }
+}
+
+/// The least key of a set that is above this one, whether the set has this one or not.
+pub fn after<O: KeyOrder>(pool: &Pool, order: &O, root: Option<u32>, key: Key) -> Option<Key>
+    requires { IsReadableAt (O.compare order.now) pool.now root }
+    ensures { result ≡ first_of (keys_from (O.compare order.now) (Some key) (keys_at pool.now root)) }
+{
+    let Some(id) = root else {
+        return None;
+    };
+    let node = pool.get(id);
+    match order.compare(key, node.key) {
+        Ordering::Less => {
+            let Some(found) = after(pool, order, node.left, key) else {
+                return Some(node.key);
+            };
+            Some(found)
+        }
+        Ordering::Equal => after(pool, order, node.right, key),
+        Ordering::Greater => after(pool, order, node.right, key),
+    }
+}
+
+// Whether a key is above the one given, where one is.
+fn is_past<O: KeyOrder>(order: &O, from: Option<Key>, key: Key) -> bool
+    ensures { result ≡ is_past_in (O.compare order.now) from key }
+{
+    match from {
+        None => true,
+        Some(x) => matches!(order.compare(x, key), Ordering::Less),
+    }
+}
+
+// Appends the keys above the one given, in order, until there are `end` of them. Takes no memory.
+fn walk<O: KeyOrder>(
+    pool: &Pool,
+    order: &O,
+    root: Option<u32>,
+    from: Option<Key>,
+    end: usize,
+    keys: &mut Vec<Key>,
+)
+    requires set { IsReadableAt (O.compare order.now) pool.now root }
+    requires room { end ≤ vec_capacity keys.old }
+    ensures keys { keys.new.items ≡ filled_up end keys.old.items (keys_from (O.compare order.now) from (keys_at pool.now root)) }
+    ensures capacity { vec_capacity keys.new ≡ vec_capacity keys.old }
+{
+    let Some(id) = root else {
+        return;
+    };
+    if keys.len() >= end {
+        return;
+    }
+    let node = pool.get(id);
+    if !is_past(order, from, node.key) {
+        walk(pool, order, node.right, from, end, keys);
+        return;
+    }
+    walk(pool, order, node.left, from, end, keys);
+    push_below(end, node.key, keys);
+    walk(pool, order, node.right, None, end, keys);
+}
+
+// Appends a key where there are fewer than `end`.
+fn push_below(end: usize, key: Key, keys: &mut Vec<Key>)
+    requires { end ≤ vec_capacity keys.old }
+    ensures keys { keys.new.items ≡ filled_up end keys.old.items (key ∷ []) }
+    ensures capacity { vec_capacity keys.new ≡ vec_capacity keys.old }
+{
+    if keys.len() < end {
+        keys.push_reserved(key);
+    }
+}
+
+/// Appends the keys of a set that are above `from`, or all where it is `None`: in order, by one
+/// walk, and `most` of them at most. Memory is wanted for their room alone, before the first.
+pub fn next_keys<O: KeyOrder>(
+    pool: &Pool,
+    order: &O,
+    root: Option<u32>,
+    from: Option<Key>,
+    most: usize,
+    keys: &mut Vec<Key>,
+) -> Result<(), AllocError>
+    requires { IsReadableAt (O.compare order.now) pool.now root }
+    ensures ok { OnOk result (keys.new.items ≡ keys.old.items ++ take most (keys_from (O.compare order.now) from (keys_at pool.now root))) }
+    ensures kept { OnErr result (keys.new.items ≡ keys.old.items) }
+    ensures had_room { vec_len keys.old + most ≤ vec_capacity keys.old → IsOk result }
+{
+    keys.reserve(most)?;
+    let end = keys.len() + most;
+    walk(pool, order, root, from, end, keys);
+    Ok(())
+}
+
+// How many keys a tree has, in a pool that bounds their number.
+fn count_below(pool: &Pool, root: Option<u32>) -> usize
+    requires tree { IsTreeAt pool.now root }
+    requires few { length pool.now.nodes < 2 ^ 32 }
+    ensures { result ≡ length (keys_at pool.now root) }
+{
+    let Some(id) = root else {
+        return 0;
+    };
+    let node = pool.get(id);
+    count_below(pool, node.left) + count_below(pool, node.right) + 1
+}
+
+/// How many keys a tree has, by a walk over all of them.
+pub fn count(pool: &Pool, root: Option<u32>) -> usize
+    requires { IsTreeAt pool.now root }
+    ensures { result ≡ length (keys_at pool.now root) }
+{
+    // A set has no more keys than nodes are in use, which are fewer than 2^32.
+    let _most = pool.nodes_in_use();
+    count_below(pool, root)
+}

@@ -1,0 +1,201 @@
+//! Keys into a set: a run of keys as one union, and a key as the union of one.
+ghost use Rattle.std.specs.Prelude.{◌≡◌, ℕ, ◌<◌, ◌≤◌, [], ◌∷◌, length, Option, IfOk, OnOk, OnErr};
+ghost use Rattle.gs_pool.specs.Pool.{room};
+ghost use Rattle.gs_tree.specs.Keys.{IsRising, Places};
+ghost use Rattle.gs_tree.specs.Merging.{BuiltAt, CanMergeAt, MergesAt};
+ghost use Rattle.gs_tree.specs.Reading.{keys_at};
+ghost use Rattle.gs_tree.specs.Sets.{IsSetAt, UnitesAt, GainsKey, IsCheap};
+
+use crate::balance::{height_of, join, link, own};
+use crate::orders::KeyOrder;
+use gs_pool::{Key, Node, Pool};
+use std::alloc::AllocError;
+use std::cmp::Ordering;
+
+// Where a key stands in a run: the keys before `before` are below it, those from `behind` on above it.
+#[derive(Clone, Copy)]
+struct Place {
+    before: usize,
+    behind: usize,
+}
+
+// A key's place in a run: the last and the first key are tried, and then the halves.
+fn find_place<O: KeyOrder>(order: &O, run: &[Key], key: Key) -> Place
+    requires rising { IsRising (O.compare order.now) run.now }
+    requires some { 0 < length run.now }
+    ensures { Places (O.compare order.now) key run.now result.before result.behind }
+{
+    let last = run.len() - 1;
+    match order.compare(run[last], key) {
+        Ordering::Less => {
+            return Place {
+                before: last + 1,
+                behind: last + 1,
+            };
+        }
+        Ordering::Equal => {
+            return Place {
+                before: last,
+                behind: last + 1,
+            };
+        }
+        Ordering::Greater => {}
+    }
+    match order.compare(run[0], key) {
+        Ordering::Greater => {
+            return Place {
+                before: 0,
+                behind: 0,
+            };
+        }
+        Ordering::Equal => {
+            return Place {
+                before: 0,
+                behind: 1,
+            };
+        }
+        Ordering::Less => {}
+    }
+    let mut from = 0;
+    let mut to = last;
+    'halves: while from < to {
+        let middle = from + (to - from) / 2;
+        match order.compare(run[middle], key) {
+            Ordering::Less => from = middle + 1,
+            Ordering::Equal => {
+                return Place {
+                    before: middle,
+                    behind: middle + 1,
+                };
+            }
+            Ordering::Greater => to = middle,
+        }
+    }
+    Place {
+        before: from,
+        behind: from,
+    }
+}
+
+// Makes a tree of a run by halves. It takes no memory.
+fn build(pool: &mut Pool, run: &[Key], birth: u64) -> Option<u32>
+    requires { length run.now ≤ room pool.old }
+    ensures { BuiltAt birth pool.old pool.new run.now result }
+{
+    if run.is_empty() {
+        return None;
+    }
+    let (low, rest) = run.split_at(run.len() / 2);
+    let (_, high) = rest.split_at(1);
+    let key = rest[0];
+    let left = build(pool, low, birth);
+    let top = pool.alloc_reserved(Node {
+        key,
+        left: None,
+        right: None,
+        height: 1,
+        birth,
+    });
+    let right = build(pool, high, birth);
+    link(pool, top, left, key, right, birth);
+    Some(top)
+}
+
+/// A set after a run of keys went into it, and how many of them it lacked.
+#[derive(Clone, Copy)]
+pub struct Merged {
+    pub root: Option<u32>,
+    pub added: usize,
+}
+
+// The union of a tree with a run. Where nothing is added, nothing is copied.
+fn union_at<O: KeyOrder>(
+    pool: &mut Pool,
+    order: &O,
+    root: Option<u32>,
+    run: &[Key],
+    since: u64,
+    birth: u64,
+) -> Merged
+    requires can { CanMergeAt (O.compare order.now) since pool.old root run.now }
+    requires birth { since ≤ birth }
+    ensures { MergesAt (O.compare order.now) since birth pool.old pool.new root run.now result }
+{
+    if run.is_empty() {
+        return Merged { root, added: 0 };
+    }
+    let Some(id) = root else {
+        let made = build(pool, run, birth);
+        return Merged {
+            root: made,
+            added: run.len(),
+        };
+    };
+    let node = pool.get(id);
+    let at = find_place(order, run, node.key);
+    let (low, _) = run.split_at(at.before);
+    let (_, high) = run.split_at(at.behind);
+    let left = union_at(pool, order, node.left, low, since, birth);
+    let right = union_at(pool, order, node.right, high, since, birth);
+    let added = left.added + right.added;
+    if added == 0 {
+        return Merged { root, added: 0 };
+    }
+    let top = own(pool, id, since, birth);
+    let joined = join(pool, left.root, top, node.key, right.root, since, birth);
+    Merged {
+        root: Some(joined),
+        added,
+    }
+}
+
+/// Adds a run of keys to a set; those that the set has already stay as they are. Nodes older than
+/// `since` stay, so every older root means what it meant. Where memory is refused, nothing changes.
+pub fn union<O: KeyOrder>(
+    pool: &mut Pool,
+    order: &O,
+    root: Option<u32>,
+    run: &[Key],
+    since: u64,
+    birth: u64,
+) -> Result<Merged, AllocError>
+    requires set { IsSetAt (O.compare order.now) pool.old root }
+    requires rising { IsRising (O.compare order.now) run.now }
+    requires birth { since ≤ birth }
+    ensures ok { IfOk result (UnitesAt (O.compare order.now) since birth pool.old pool.new root run.now) }
+    ensures kept { OnErr result (pool.new ≡ pool.old) }
+{
+    let mut each = 1usize;
+    let mut spare = 0usize;
+    if since > 0 {
+        each += 4 * height_of(pool, root) as usize;
+        spare = 2;
+    }
+    let Some(most) = run.len().checked_mul(each) else {
+        return Err(AllocError);
+    };
+    let Some(room) = most.checked_add(spare) else {
+        return Err(AllocError);
+    };
+    pool.reserve(room)?;
+    Ok(union_at(pool, order, root, run, since, birth))
+}
+
+/// Adds a key to a set. It makes at most 8 d + 4 nodes, where the set's size has d binary digits.
+pub fn insert<O: KeyOrder>(
+    pool: &mut Pool,
+    order: &O,
+    root: Option<u32>,
+    key: Key,
+    since: u64,
+    birth: u64,
+) -> Result<Merged, AllocError>
+    requires set { IsSetAt (O.compare order.now) pool.old root }
+    requires birth { since ≤ birth }
+    ensures ok { IfOk result (UnitesAt (O.compare order.now) since birth pool.old pool.new root (key ∷ [])) }
+    ensures keys { IfOk result (GainsKey (O.compare order.now) pool.old pool.new root key) }
+    ensures cost { OnOk result (IsCheap (length (keys_at pool.old root)) pool.old pool.new) }
+    ensures kept { OnErr result (pool.new ≡ pool.old) }
+{
+    union(pool, order, root, &[key], since, birth)
+}
