@@ -62,9 +62,9 @@ none_cancelled None old new before after = after ∙ sym before
 
 -- a seat's action
 pub none_wasted : (old : Shown) (s : ℕ) (action : Action) (a : Answer) (new : List Lifetime) → old.waste ≡ [] → new ≡ [] → Wastes old (At s action) a new
-none_wasted old s Commit (Status status name) new before after = none_committed _ _ _ _ _ before after
+none_wasted old s Commit (Status status name) new before after = none_committed old.view.totals _ _ _ _ before after
 none_wasted old s (CommitPatch ops) (Status status name) new before after = none_patched _ _ _ _ before after
-none_wasted old s (Delete t) (Status status name) new before after = none_deleted _ t _ _ _ before after
+none_wasted old s (Delete t) (Status status name) new before after = none_deleted old.view.totals t _ _ _ before after
 none_wasted old s Cancel Cancelled new before after = none_cancelled _ _ _ before after
 none_wasted old s action a new before after = after ∙ sym before
 

@@ -1,6 +1,6 @@
 -- What a write makes of the books: a new version of its target, or an end to the newest. No public clause cites this
 -- module.
-use Rattle.std.specs.Prelude.{◌≡◌, ℕ, ◌+◌, ◌≤◌, true, List, Some, length, vec_len, vec_capacity, string_bytes}
+use Rattle.std.specs.Prelude.{◌≡◌, ℕ, ◌+◌, ◌≤◌, true, List, Some, vec_len, vec_capacity, string_bytes}
 use Rattle.std.specs.List.{slice_get, slice_set}
 use Rattle.gs_model.specs.Graphs.{Graph, size_of}
 use Rattle.gs_term.specs.declared.names.Target.{Target}

@@ -16,7 +16,7 @@ struct Binding<'a> {
 
 /// The instances of all patterns under each solution: of the first solution that of the first
 /// pattern, of the second, and so on. For p patterns in a graph of n triples it takes up to the
-/// p-th power of n tries.
+/// p-th power of n tries, and its calls go p deep: whoever makes an `Op::DeleteWhere` bounds p.
 pub fn instances(
     alloc: Global,
     graph: &SortedGraph,
@@ -39,6 +39,7 @@ pub fn instances(
 
 /// Tries each triple for the first of the patterns that are left, and goes on to the rest where it
 /// is the pattern's instance under what is bound. `chosen` has the triples of the patterns before.
+/// Calls itself once more deeply for each pattern that is left.
 fn search<'a>(
     found: &mut Vec<Triple>,
     bound: &mut Vec<Binding<'a>>,
