@@ -146,7 +146,11 @@ fn a_run_leaves_what_every_assignment_leaves(rt: HostRuntime) -> Result<(), Fail
         let got = printed(alloc, answers(alloc, events.as_slice())?.as_slice())?;
         assert_eq!(rt; got.as_str(), want.as_str(), "{removed}in {before}");
         let plain = printed(alloc, plain_answers(alloc, events.as_slice())?.as_slice())?;
-        assert_eq!(rt; plain.as_str(), want.as_str(), "{removed}in {before}, over a plain store");
+        assert_eq!(rt;
+            plain.as_str(),
+            want.as_str(),
+            "{removed}in {before}, over a plain store"
+        );
     }
     Ok(())
 }

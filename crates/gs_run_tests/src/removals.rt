@@ -128,7 +128,11 @@ fn a_run_removes_the_instances_under_all_solutions(rt: HostRuntime) -> Result<()
         let got = printed(alloc, answers(alloc, events.as_slice())?.as_slice())?;
         assert_eq!(rt; got.as_str(), want.as_str(), "at {name}");
         let plain = printed(alloc, plain_answers(alloc, events.as_slice())?.as_slice())?;
-        assert_eq!(rt; plain.as_str(), want.as_str(), "at {name}, over a plain store");
+        assert_eq!(rt;
+            plain.as_str(),
+            want.as_str(),
+            "at {name}, over a plain store"
+        );
     }
     Ok(())
 }
