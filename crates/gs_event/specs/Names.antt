@@ -6,7 +6,7 @@ use Rattle.gs_event.specs.Datasets.{Dataset, is_there, names_in}
 
 -- the k-th name for request r: `<base>/graphs/n<r>-<k>`
 abbrev pub made_name : List ℕ → ℕ → ℕ → List ℕ
-made_name base r k = base ++ codes "/graphs/n" ++ numeral r ++ 45 ∷ numeral k
+made_name base r k = base ++ codes "/graphs/n" ++ numeral r ++ (codes "-" ++ numeral k)
 
 -- the first of these n numbers from k on whose name is not in the store, and else the next
 abbrev pub first_free : Dataset → List ℕ → ℕ → ℕ → ℕ → ℕ

@@ -45,13 +45,13 @@ fn search<'a>(
     bound: &mut Vec<Binding<'a>>,
     chosen: &mut Vec<&'a Triple>,
     triples: &'a [Triple],
-    patterns: &'a [Pattern],
+    left: &'a [Pattern],
 ) -> Result<(), AllocError>
-    ensures found { OnOk result (FindsMore triples.now patterns.now bound.old chosen.old found.old found.new) }
+    ensures found { OnOk result (FindsMore triples.now left.now bound.old chosen.old found.old found.new) }
     ensures bound { OnOk result (bound.new.items ≡ bound.old.items) }
     ensures chosen { OnOk result (chosen.new.items ≡ chosen.old.items) }
 {
-    let Some((first, rest)) = patterns.split_first() else {
+    let Some((first, rest)) = left.split_first() else {
         return push_copies(found, chosen.as_slice());
     };
     let depth = bound.len();
