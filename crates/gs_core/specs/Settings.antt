@@ -1,6 +1,6 @@
 -- How a store begins: the base of the names that it makes up, how much it may hold, and the numbers before its first.
 use Rattle.std.specs.Prelude.{ℕ, List}
-use Rattle.gs_event.specs.Datasets.{Setting}
+use Rattle.gs_event.specs.Operations.{Setting}
 use Rattle.gs_event.specs.Histories.{Start}
 use Rattle.gs_model.specs.Limits.{max_triples, max_names}
 

@@ -265,6 +265,28 @@ mod tests {
         }
     }
 
+    /// Asserts that the default graph has the triples with these objects, in this order.
+    fn expect_lines(
+        rt: &impl Abort,
+        alloc: Global,
+        store: &mut Store,
+        objects: &[&str],
+    ) -> Result<(), Fail> {
+        let mut want = String::new(alloc);
+        for object in objects {
+            let line = format!(in alloc; "<http://e/s> <http://e/p> \"{object}\" .\n")?;
+            want.push_str(line.as_str())?;
+        }
+        let _ = store.step(&Event::Seat(1, Action::Pin(Target::Default)));
+        let got = match store.step(&Event::Seat(1, Action::Piece(99))) {
+            Answer::Lines(lines, true) => lines,
+            _ => Vec::new(alloc),
+        };
+        let got = str::from_utf8(got.as_slice()).unwrap_or_default();
+        assert_eq!(rt; got, want.as_str());
+        Ok(())
+    }
+
     #[test]
     fn a_patch_over_the_limits_ends_and_changes_nothing(rt: HostRuntime) -> Result<(), Fail> {
         let alloc = rt.alloc();
@@ -273,6 +295,7 @@ mod tests {
         expect(&rt, alloc, &mut store, put, &SIX, (204, 6))?;
         assert_eq!(rt; patched(alloc, &mut store, Target::Default, &["7"])?, 507);
         assert_eq!(rt; store.triples_now(), 6);
+        expect_lines(&rt, alloc, &mut store, &SIX)?;
         assert_eq!(rt; patched(alloc, &mut store, Target::Default, &["6"])?, 204);
         let missing = named(alloc, "http://e/g")?;
         assert_eq!(rt; patched(alloc, &mut store, missing, &["6"])?, 404);

@@ -14,7 +14,8 @@ use Rattle.gs_event.specs.declared.events.Event.{Event}
 use Rattle.gs_event.specs.declared.events.Event.TheVariants.{Seat as At, Reclaim}
 use Rattle.gs_event.specs.declared.answers.Answer.{Answer}
 use Rattle.gs_event.specs.declared.answers.Answer.TheVariants.{Opened, Staged, Status, Pinned, Lines, Cancelled, Reclaimed, Refused}
-use Rattle.gs_event.specs.Datasets.{Setting, Operation, lines_at, after_all}
+use Rattle.gs_event.specs.Datasets.{lines_at}
+use Rattle.gs_event.specs.Operations.{Setting, Operation, after_all}
 use Rattle.gs_event.specs.Phases.{Phase, Idle, Writing, Patching, Reading, phase_after, operation_of}
 use Rattle.gs_event.specs.Views.{SeatView, Fits, FitsSeat, is_opened, is_written, after_asked, next_view, next_at, next_if}
 use Rattle.gs_event.specs.Histories.{History, OpenRead, phase_of, phase_by, points_of, dataset_after, lines_left, seat_view, Start, view_of}

@@ -11,8 +11,8 @@ use Rattle.gs_model.specs.Terms.{numeral}
 use Rattle.gs_model.specs.Texts.{number_of}
 use Rattle.gs_model.proofs.TextLemmas.{number_of-numeral}
 use Rattle.gs_term.specs.declared.names.Target.TheVariants.{Named}
-use Rattle.gs_event.specs.Datasets.{Dataset, name_cmp, is_there, names_in, without_graph, made_name, first_free, new_name}
-use Rattle.gs_event.specs.Names.{IsLeastFree}
+use Rattle.gs_event.specs.Datasets.{Dataset, name_cmp, is_there, names_in, without_graph}
+use Rattle.gs_event.specs.Names.{made_name, first_free, new_name, IsLeastFree}
 use Rattle.gs_event.proofs.DatasetLemmas.{names_in-without_name, names_in-some}
 
 differs : (x y : ℕ) → (x == y) ≡ false → x ≢ y

@@ -11,7 +11,7 @@ use Rattle.gs_event.specs.declared.events.Action.TheVariants.{Open, OpenPatch, S
 use Rattle.gs_event.specs.declared.events.Event.TheVariants.{Seat as At, Reclaim}
 use Rattle.gs_event.specs.declared.answers.Answer.{Answer}
 use Rattle.gs_event.specs.declared.answers.Answer.TheVariants.{Opened, Staged, Status, Pinned, Lines, Cancelled, Refused}
-use Rattle.gs_event.specs.Datasets.{Setting}
+use Rattle.gs_event.specs.Operations.{Setting}
 use Rattle.gs_event.specs.Phases.{Phase, Idle, Writing, Patching, Reading}
 use Rattle.gs_event.specs.Views.{View, Totals, SeatView, Fits, FitsSeat}
 use Rattle.gs_event.specs.Waste.{Shown}

@@ -1,15 +1,12 @@
 -- Solutions of patterns: what is found is an instance under a solution, and each of these is found.
-use Rattle.std.specs.Prelude.{◌↔◌}
 use Rattle.std.proofs.Common.{◌≡◌, subst, ℕ, Bool, true, false, cond, ◌||◌, ◌&&◌, List, [], ◌∷◌, ◌++◌, map, Option, Some, None, refl, sym, ap, ◌∙◌, append_assoc}
-use Rattle.std.specs.Bool.{Decides}
-use Rattle.std.specs.List.{list_any, list_all, flat_map}
+use Rattle.std.specs.List.{list_all, flat_map}
 use Rattle.std.specs.Option.{option_and_then}
 use Rattle.std.specs.Ordering.{eq_by_cmp, is_eq}
 use Rattle.std.specs.declared.cmp.Ordering.{Ordering}
 use Rattle.std.specs.declared.cmp.Ordering.TheVariants.{Less, Equal, Greater}
 use Rattle.std.specs.Str.{bytes_eq}
 use Rattle.std.proofs.lemmas.Cmp.{eq_by_cmp_equiv}
-use Rattle.std.proofs.lemmas.Grind.{flat_map-append}
 use Rattle.std.proofs.lemmas.List.Folds.{list_any-append}
 use Rattle.std.proofs.lemmas.Slice.Eq.{bytes_eq-Decides}
 use Rattle.gs_model.specs.Terms.{Term, text_of}
@@ -18,7 +15,7 @@ use Rattle.gs_model.specs.Graphs.{Graph, triples_of}
 use Rattle.gs_term.specs.declared.patterns.Part.{Part}
 use Rattle.gs_term.specs.declared.patterns.Part.TheVariants.{Term as TheTerm, Variable}
 use Rattle.gs_term.specs.declared.patterns.Pattern.{Pattern}
-use Rattle.gs_event.specs.Solutions.{Assignment, value_of, instance_of, is_among, IsInstance, IsSolution, Bindings, term_for, with_term, bind, bind_triple, all_if, solutions, or_any, assignment_of, instances_of}
+use Rattle.gs_event.specs.Solutions.{Assignment, value_of, instance_of, is_among, IsInstance, ListsInstances, Bindings, term_for, with_term, bind, bind_triple, all_if, solutions, or_any, assignment_of, instances_of}
 use Rattle.gs_model.proofs.TextLemmas.{text_of-injective}
 use Rattle.gs_model.proofs.GraphLemmas.{triple_total, triple_exact}
 
@@ -282,5 +279,8 @@ found_instance g ps t (a, solves, there) = go (solutions_complete (triples_of g)
         ap (λ bs. is_among (flat_map f bs) t) e ∙ among_flat f t front c after (sym (ap (λ us. is_among us t) same) ∙ there)
 
 -- just the instances under solutions are found
-pub instances_are : (g : Graph) (ps : List Pattern) (t : RdfTriple) → (is_among (instances_of g ps) t ≡ true) ↔ IsInstance g ps t
-instances_are g ps t = (instance_found g ps t (solutions (triples_of g) ps []) (solutions_sound (triples_of g) ps []), found_instance g ps t)
+pub instances_are : (g : Graph) (ps : List Pattern) → ListsInstances g ps (instances_of g ps)
+instances_are g ps = record {
+  sound = λ t. instance_found g ps t (solutions (triples_of g) ps []) (solutions_sound (triples_of g) ps []);
+  complete = found_instance g ps;
+}

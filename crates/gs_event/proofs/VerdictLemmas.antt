@@ -9,7 +9,9 @@ use Rattle.gs_event.specs.declared.verdicts.Change.TheVariants.{Stores, Removes}
 use Rattle.gs_event.specs.declared.verdicts.Verdict.{Verdict}
 use Rattle.gs_event.specs.declared.verdicts.Verdict.TheVariants.{Missing, Full, LastNumber, Granted}
 use Rattle.gs_event.specs.Updates.{patched}
-use Rattle.gs_event.specs.Datasets.{Dataset, Setting, Operation, Puts, Posts, Creates, Patches, Deletes, Looks, Reads, graph_at, is_there, lines_at, with_graph, without_graph, triples_in, names_in, is_within, united, new_name, stored, stored_status, after, status_of, is_success}
+use Rattle.gs_event.specs.Datasets.{Dataset, graph_at, is_there, lines_at, with_graph, without_graph, triples_in, names_in}
+use Rattle.gs_event.specs.Names.{new_name}
+use Rattle.gs_event.specs.Operations.{Setting, Operation, Puts, Posts, Creates, Patches, Deletes, Looks, Reads, is_within, united, stored, stored_status, after, status_of, is_success}
 use Rattle.gs_event.specs.Verdicts.{verdict_of, granted_of, stored_of, holdings_of, place_in, is_named, Decides, IsDecided, DecidesStore, DecidesChange, DecidesRemoval}
 use Rattle.gs_event.proofs.DatasetLemmas.{triples_in-with_graph, triples_in-without_graph, names_in-with_graph, names_in-without_name}
 

@@ -6,7 +6,8 @@ use Rattle.gs_event.specs.declared.events.Event.{Event}
 use Rattle.gs_event.specs.declared.events.Event.TheVariants.{Seat as At, Reclaim}
 use Rattle.gs_event.specs.declared.answers.Answer.{Answer}
 use Rattle.gs_event.specs.declared.limits.Limits.{Limits}
-use Rattle.gs_event.specs.Datasets.{Dataset, Setting, Operation, lines_at, after_all}
+use Rattle.gs_event.specs.Datasets.{Dataset, lines_at}
+use Rattle.gs_event.specs.Operations.{Setting, Operation, after_all}
 use Rattle.gs_event.specs.Phases.{Phase, Idle, Writing, Patching, Reading, phase_after, operation_of}
 use Rattle.gs_event.specs.Views.{View, SeatView, Fits, is_opened, is_written}
 use Rattle.gs_event.specs.Waste.{Shown}

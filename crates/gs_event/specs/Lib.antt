@@ -1,10 +1,11 @@
--- Read in this order: solutions of patterns, what updates make of a graph, datasets and the abstract store, names that it
--- makes up, phases, views, waste, one step, runs, histories, and how these go on. The verdicts stand by themselves, on
--- the abstract store.
+-- Read in this order: solutions of patterns, what updates make of a graph, datasets, names that are made up, the
+-- abstract store, phases, views, waste, one step, runs, histories, and how these go on. The verdicts stand by
+-- themselves, on the abstract store.
 pub mod Solutions
 pub mod Updates
 pub mod Datasets
 pub mod Names
+pub mod Operations
 pub mod Phases
 pub mod Views
 pub mod Waste

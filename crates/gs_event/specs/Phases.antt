@@ -8,7 +8,7 @@ use Rattle.gs_event.specs.declared.events.Action.{Action}
 use Rattle.gs_event.specs.declared.events.Action.TheVariants.{Open, OpenPatch, Stage, Commit, CommitPatch, Delete, Head, Pin, Piece, Cancel}
 use Rattle.gs_event.specs.declared.answers.Answer.{Answer}
 use Rattle.gs_event.specs.declared.answers.Answer.TheVariants.{Opened, Staged, Status, Pinned, Lines, Cancelled}
-use Rattle.gs_event.specs.Datasets.{Operation, Puts, Posts, Creates, Patches, Deletes, Looks, Reads}
+use Rattle.gs_event.specs.Operations.{Operation, Puts, Posts, Creates, Patches, Deletes, Looks, Reads}
 
 -- idle; writing, with the request's number and what was staged; patching, with the request's number; reading, where R
 -- says what is left

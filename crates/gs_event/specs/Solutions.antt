@@ -36,6 +36,11 @@ IsSolution g ps a = list_all (λ p. is_among (triples_of g) (instance_of a p)) p
 abbrev pub IsInstance : Graph → List Pattern → RdfTriple → Type 0
 IsInstance g ps t = (a : Assignment) × IsSolution g ps a × (is_among (map (instance_of a) ps) t ≡ true)
 
+-- all instances of the patterns in the graph are among these, and no other triples
+pub record ListsInstances (g : Graph) (ps : List Pattern) (found : List RdfTriple) : Type 0 where
+  pub sound : (t : RdfTriple) → is_among found t ≡ true → IsInstance g ps t
+  pub complete : (t : RdfTriple) → IsInstance g ps t → is_among found t ≡ true
+
 -- some variables, each with its term
 abbrev pub Bindings : Type 0
 Bindings = List (List ℕ × Term)

@@ -1,15 +1,20 @@
 -- One step of a store: what an event that was answered so makes of what it shows, its pins and its waste.
-use Rattle.std.specs.Prelude.{◌≡◌, ◌≢◌, ◌⊎◌, ◌↔◌, ℕ, ◌+◌, Bool, true, false, if◌then◌else◌, nat_eq, min, IsTrue, List, [], length, Option, Some, None}
+use Rattle.std.specs.Prelude.{◌≡◌, ◌≢◌, ◌<◌, ◌≤◌, ◌⊎◌, ◌↔◌, ℕ, ◌+◌, ◌*◌, Bool, true, false, if◌then◌else◌, nat_eq, min, IsTrue, List, [], length, Option, Some, None}
 use Rattle.std.specs.List.{sum_by, slice_get, slice_index_or, slice_set, All}
+use Rattle.gs_model.specs.Graphs.{Graph, size_of}
+use Rattle.gs_term.specs.declared.names.Target.{Target}
+use Rattle.gs_event.specs.declared.events.UploadKind.{UploadKind}
+use Rattle.gs_event.specs.declared.events.UploadKind.TheVariants.{Put, Post, New}
 use Rattle.gs_event.specs.declared.events.Action.{Action}
 use Rattle.gs_event.specs.declared.events.Action.TheVariants.{Commit, CommitPatch, Delete, Pin, Piece, Cancel}
 use Rattle.gs_event.specs.declared.events.Event.{Event}
 use Rattle.gs_event.specs.declared.events.Event.TheVariants.{Seat as At, Reclaim}
 use Rattle.gs_event.specs.declared.answers.Answer.{Answer}
 use Rattle.gs_event.specs.declared.answers.Answer.TheVariants.{Status, Pinned, Lines, Cancelled, Reclaimed}
-use Rattle.gs_event.specs.Datasets.{is_success}
+use Rattle.gs_event.specs.Datasets.{size_at}
+use Rattle.gs_event.specs.Operations.{is_success}
 use Rattle.gs_event.specs.Phases.{Writing}
-use Rattle.gs_event.specs.Views.{SeatView, Fits, next_view}
+use Rattle.gs_event.specs.Views.{Totals, SeatView, Fits, next_view}
 use Rattle.gs_event.specs.Waste.{Lifetime, Shown, is_needed, unneeded}
 
 -- a seat's pin after an answer, at the last commit number: a read begins with one and ends without
@@ -25,9 +30,10 @@ next_pinned old (Reclaim n) a = old.pinned
 next_pinned old (At s action) a =
     slice_set old.pinned s (pin_after old.view.totals.commit (slice_index_or old.pinned s None) action a)
 
--- nodes join the waste, each with such a lifetime, and none is taken out; its order means nothing
-pub record Joins (Has : Lifetime → Type 0) (old new : List Lifetime) : Type 0 where
+-- at most so many nodes join the waste, each with such a lifetime, and none is taken out; its order means nothing
+pub record Joins (Has : Lifetime → Type 0) (most : ℕ) (old new : List Lifetime) : Type 0 where
   pub more : List Lifetime
+  pub few : length more ≤ most
   pub same : (f : Lifetime → ℕ) → sum_by f new ≡ sum_by f old + sum_by f more
   pub ended : All Has more
 
@@ -35,29 +41,48 @@ pub record Joins (Has : Lifetime → Type 0) (old new : List Lifetime) : Type 0 
 abbrev pub IsUnreached : Lifetime → Type 0
 IsUnreached l = l.death ≡ 0
 
--- the commit of this number took the node out
+-- a version before had the node, and the commit of this number took it out
 abbrev pub EndsAt : ℕ → Lifetime → Type 0
-EndsAt commit l = l.death ≡ commit
+EndsAt commit l = (l.birth < commit) × (l.death ≡ commit)
 
--- What a commit with this status makes of the waste, where the last number was this: nodes of its upload that no version
--- reached join it, as all may where the upload is given up, and nodes that the commit took out, where it took effect.
-abbrev pub WastesCommit : ℕ → ℕ → List Lifetime → List Lifetime → Type 0
-WastesCommit last status old new = Joins (λ l. IsUnreached l ⊎ ((is_success status ≡ true) × EndsAt (last + 1) l)) old new
+-- the most nodes that one triple may replace, where it comes to a graph
+abbrev pub max_replaced : ℕ
+max_replaced = 260
+
+-- an upload of so many triples was copied into a graph: its own nodes join, and nodes that the copies replaced, where
+-- the last commit number was this
+pub record JoinsCopied (last size : ℕ) (old new : List Lifetime) : Type 0 where
+  pub between : List Lifetime
+  pub staged : Joins IsUnreached size old between
+  pub replaced : Joins (EndsAt (last + 1)) (max_replaced * size) between new
+
+-- What a commit of an upload of g makes of the waste, by its kind and whether it took effect. The nodes of a PUT become
+-- the graph's, so the nodes that the graph had join; those of an upload without effect join themselves.
+abbrev pub WastesUpload : Totals → UploadKind → Graph → Bool → List Lifetime → List Lifetime → Type 0
+WastesUpload v (Put t) g true old new = Joins (EndsAt (v.commit + 1)) (size_at v.dataset t) old new
+WastesUpload v (Post t) g true old new = JoinsCopied v.commit (size_of g) old new
+WastesUpload v New g true old new = JoinsCopied v.commit (size_of g) old new
+WastesUpload v k g false old new = Joins IsUnreached (size_of g) old new
+
+-- what a Commit makes of the waste, by the phase of its seat
+abbrev pub WastesCommit : Totals → Option SeatView → Bool → List Lifetime → List Lifetime → Type 0
+WastesCommit v (Some (Writing k r g)) done old new = WastesUpload v k g done old new
+WastesCommit v p done old new = new ≡ old
 
 -- What a patch makes of the waste: where it took effect, nodes that it took out join it, and nodes that only lived between
--- its operations; and else none.
+-- its operations, however many; and else none.
 abbrev pub WastesPatch : ℕ → Bool → List Lifetime → List Lifetime → Type 0
-WastesPatch last true old new = Joins (λ l. IsUnreached l ⊎ EndsAt (last + 1) l) old new
+WastesPatch last true old new = (most : ℕ) × Joins (λ l. IsUnreached l ⊎ EndsAt (last + 1) l) most old new
 WastesPatch last false old new = new ≡ old
 
--- What a Delete makes of the waste: nodes that it took out join it, where there was a graph, and else none.
-abbrev pub WastesDelete : ℕ → Bool → List Lifetime → List Lifetime → Type 0
-WastesDelete last true old new = Joins (EndsAt (last + 1)) old new
-WastesDelete last false old new = new ≡ old
+-- what a Delete of t makes of the waste: the nodes that its graph had join it, where it had one, and else none
+abbrev pub WastesDelete : Totals → Target → Bool → List Lifetime → List Lifetime → Type 0
+WastesDelete v t true old new = Joins (EndsAt (v.commit + 1)) (size_at v.dataset t) old new
+WastesDelete v t false old new = new ≡ old
 
--- What a Cancel makes of the waste, by the phase of its seat: nodes of an upload join it, and none of a read.
+-- what a Cancel makes of the waste, by the phase of its seat: the nodes of an upload join it, and none else
 abbrev pub WastesCancel : Option SeatView → List Lifetime → List Lifetime → Type 0
-WastesCancel (Some (Writing k r g)) old new = Joins IsUnreached old new
+WastesCancel (Some (Writing k r g)) old new = Joins IsUnreached (size_of g) old new
 WastesCancel p old new = new ≡ old
 
 -- as many nodes as may be are taken out of the waste, none that a pinned version has, and nothing else;
@@ -73,9 +98,12 @@ pub record Frees (pins : List (Option ℕ)) (n freed : ℕ) (left : Bool) (old n
 -- what an event that was answered so makes of the waste: a refused one nothing
 abbrev pub Wastes : Shown → Event → Answer → List Lifetime → Type 0
 Wastes old (Reclaim n) (Reclaimed freed left) new = Frees old.pinned n freed left old.waste new
-Wastes old (At s Commit) (Status status name) new = WastesCommit old.view.totals.commit status old.waste new
-Wastes old (At s (CommitPatch ops)) (Status status name) new = WastesPatch old.view.totals.commit (is_success status) old.waste new
-Wastes old (At s (Delete t)) (Status status name) new = WastesDelete old.view.totals.commit (is_success status) old.waste new
+Wastes old (At s Commit) (Status status name) new =
+    WastesCommit old.view.totals (slice_get old.view.seats s) (is_success status) old.waste new
+Wastes old (At s (CommitPatch ops)) (Status status name) new =
+    WastesPatch old.view.totals.commit (is_success status) old.waste new
+Wastes old (At s (Delete t)) (Status status name) new =
+    WastesDelete old.view.totals t (is_success status) old.waste new
 Wastes old (At s Cancel) Cancelled new = WastesCancel (slice_get old.view.seats s) old.waste new
 Wastes old (At s action) a new = new ≡ old.waste
 Wastes old (Reclaim n) a new = ⊥

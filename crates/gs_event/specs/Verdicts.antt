@@ -1,6 +1,6 @@
 -- What becomes of a write, by counts alone, and what that says of the abstract store (SPARQL 1.1 Graph Store
 -- HTTP Protocol, section 5): 404 comes before 507, and 507 before want of a commit number.
-use Rattle.std.specs.Prelude.{IfSome, ◌≡◌, ◌<◌, ◌≤◌, ℕ, ◌+◌, ◌-◌, Bool, true, false, ◌||◌, ◌&&◌, nat_le, nat_lt, if◌then◌else◌, length, Option, Some, None}
+use Rattle.std.specs.Prelude.{IfSome, ◌≡◌, ◌<◌, ◌≤◌, ℕ, ◌+◌, ◌-◌, Bool, true, false, ◌||◌, ◌&&◌, nat_le, nat_lt, if◌then◌else◌, Option, Some, None}
 use Rattle.gs_model.specs.Limits.{last_number}
 use Rattle.gs_model.specs.Graphs.{Graph, size_of}
 use Rattle.gs_term.specs.declared.names.Target.{Target}
@@ -12,7 +12,9 @@ use Rattle.gs_event.specs.declared.verdicts.Change.TheVariants.{Stores, Removes}
 use Rattle.gs_event.specs.declared.verdicts.Verdict.{Verdict}
 use Rattle.gs_event.specs.declared.verdicts.Verdict.TheVariants.{Missing, Full, LastNumber, Granted}
 use Rattle.gs_event.specs.Updates.{patched}
-use Rattle.gs_event.specs.Datasets.{Dataset, Setting, Operation, Puts, Posts, Creates, Patches, Deletes, Looks, Reads, graph_at, is_there, lines_at, with_graph, without_graph, triples_in, names_in, is_within, united, new_name, after, status_of, is_success}
+use Rattle.gs_event.specs.Datasets.{Dataset, graph_at, is_there, size_at, with_graph, without_graph, triples_in, names_in}
+use Rattle.gs_event.specs.Names.{new_name}
+use Rattle.gs_event.specs.Operations.{Setting, Operation, Puts, Posts, Creates, Patches, Deletes, Looks, Reads, is_within, united, after, status_of, is_success}
 
 -- a commit number is left for the write, or none is
 abbrev pub granted_of : ℕ → ℕ → ℕ → ℕ → Verdict
@@ -48,7 +50,7 @@ holdings_of w m commit = record { triples = triples_in m; names = names_in m; co
 
 -- a target in this dataset
 abbrev pub place_in : Dataset → Target → Place
-place_in m t = record { is_name = is_named t; is_there = is_there m t; triples = length (lines_at m t) }
+place_in m t = record { is_name = is_named t; is_there = is_there m t; triples = size_at m t }
 
 -- the target of an operation: a new graph's is the name that is made up for it
 abbrev pub operation_target : Setting → Dataset → Operation → Target

@@ -9,7 +9,8 @@ use Rattle.gs_event.specs.declared.events.Event.{Event}
 use Rattle.gs_event.specs.declared.events.Event.TheVariants.{Seat as At, Reclaim}
 use Rattle.gs_event.specs.declared.answers.Answer.{Answer}
 use Rattle.gs_event.specs.declared.answers.Answer.TheVariants.{Opened, Staged, Status, Pinned, Lines, Cancelled, Reclaimed, Refused}
-use Rattle.gs_event.specs.Datasets.{Dataset, Setting, Operation, Patches, Deletes, Looks, Reads, lines_at, after, status_of, location_of, is_success, wants_memory}
+use Rattle.gs_event.specs.Datasets.{Dataset, lines_at}
+use Rattle.gs_event.specs.Operations.{Setting, Operation, Patches, Deletes, Looks, Reads, after, status_of, location_of, is_success, wants_memory}
 use Rattle.gs_event.specs.Phases.{Phase, Idle, Writing, Patching, Reading, allows, phase_after, write_of, operation_of}
 
 -- a seat as it is seen: a read is the lines that are left of it

@@ -1,12 +1,12 @@
 //! Laws of histories, proved: the body is empty, and the contract is the law.
-ghost use Rattle.std.specs.Prelude.{◌≡◌, ◌↔◌, ℕ, true, List};
-ghost use Rattle.gs_model.specs.Triples.{RdfTriple};
+ghost use Rattle.std.specs.Prelude.{ℕ, List};
 ghost use Rattle.gs_model.specs.Graphs.{Graph};
 ghost use Rattle.gs_term.specs.declared.patterns.Pattern.{Pattern as APattern};
-ghost use Rattle.gs_event.specs.Solutions.{is_among, IsInstance, instances_of};
-ghost use Rattle.gs_event.specs.Datasets.{Dataset, Operation, Setting, new_name};
+ghost use Rattle.gs_event.specs.Solutions.{instances_of, ListsInstances};
+ghost use Rattle.gs_event.specs.Datasets.{Dataset};
+ghost use Rattle.gs_event.specs.Names.{new_name, IsLeastFree};
+ghost use Rattle.gs_event.specs.Operations.{Operation, Setting};
 ghost use Rattle.gs_event.specs.Verdicts.{IsDecided};
-ghost use Rattle.gs_event.specs.Names.{IsLeastFree};
 ghost use Rattle.gs_event.specs.Waste.{Shown};
 ghost use Rattle.gs_event.specs.Histories.{Start, History};
 ghost use Rattle.gs_event.specs.Continuing.{ViewGoesOn, PinsGoOn, StepsGoOn};
@@ -32,8 +32,8 @@ pub fn new_name_is_free()
     ensures { (base : List ℕ) (m : Dataset) (r : ℕ) → IsLeastFree base m r (new_name base m r) }
 {}
 
-/// What the counts decide of a PUT, a POST, a new graph or a DELETE is what the abstract store
-/// says of it: its status, and the counts after it.
+/// What the counts decide of a PUT, a POST, a new graph, a PATCH or a DELETE is what the abstract
+/// store says of it: its status, and the counts after it.
 pub fn verdict_is_the_stores()
     ensures { (w : Setting) (m : Dataset) (commit : ℕ) (q : Operation) → IsDecided w m commit q }
 {}
@@ -41,5 +41,5 @@ pub fn verdict_is_the_stores()
 /// The instances that are found of some patterns in a graph are those under their solutions, and no
 /// others.
 pub fn instances_are_found()
-    ensures { (g : Graph) (patterns : List APattern) (t : RdfTriple) → (is_among (instances_of g patterns) t ≡ true) ↔ IsInstance g patterns t }
+    ensures { (g : Graph) (patterns : List APattern) → ListsInstances g patterns (instances_of g patterns) }
 {}

@@ -7,7 +7,9 @@ use Rattle.gs_term.specs.declared.names.Target.TheVariants.{Named}
 use Rattle.gs_event.specs.declared.events.UploadKind.TheVariants.{New}
 use Rattle.gs_event.specs.declared.events.Action.TheVariants.{Commit}
 use Rattle.gs_event.specs.declared.answers.Answer.TheVariants.{Refused, Status}
-use Rattle.gs_event.specs.Datasets.{with_graph, is_there, is_within, is_success, new_name}
+use Rattle.gs_event.specs.Datasets.{with_graph, is_there}
+use Rattle.gs_event.specs.Names.{new_name}
+use Rattle.gs_event.specs.Operations.{is_within, is_success}
 use Rattle.gs_event.specs.Phases as phase
 use Rattle.gs_event.specs.Views.{next_totals}
 use Rattle.gs_plain.specs.declared.books.Books.{Books}

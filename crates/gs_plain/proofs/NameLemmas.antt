@@ -17,7 +17,8 @@ use Rattle.gs_model.specs.Bases.{is_base, is_base_char}
 use Rattle.gs_term.specs.Making.{Names}
 use Rattle.gs_term.proofs.MakingLemmas.{length-numeral}
 use Rattle.gs_term.specs.declared.names.Target.TheVariants.{Named}
-use Rattle.gs_event.specs.Datasets.{Dataset, is_there, names_in, made_name, first_free, new_name}
+use Rattle.gs_event.specs.Datasets.{Dataset, is_there, names_in}
+use Rattle.gs_event.specs.Names.{made_name, first_free, new_name}
 
 -- a character of a base may stand in an IRI
 base_char : (c : ℕ) → is_base_char c ≡ true → is_iri_char c ≡ true

@@ -4,7 +4,8 @@ use Rattle.std.specs.List.{slice_get, slice_set, fold}
 use Rattle.std.proofs.lemmas.List.Sums.{fold-append}
 use Rattle.gs_model.specs.Graphs.{Graph}
 use Rattle.gs_term.specs.declared.names.Target.{Target}
-use Rattle.gs_event.specs.Datasets.{Dataset, empty_dataset, with_graph, without_graph, graph_at, is_there, is_within, Setting, stored_status, is_success}
+use Rattle.gs_event.specs.Datasets.{Dataset, empty_dataset, with_graph, without_graph, graph_at, is_there}
+use Rattle.gs_event.specs.Operations.{is_within, Setting, stored_status, is_success}
 use Rattle.gs_plain.specs.declared.books.Row.{Row}
 use Rattle.gs_plain.specs.Books.{after_row, dataset_of, lines_of_row, KeepsRows}
 use Rattle.gs_plain.specs.Versions.{ended_row}

@@ -9,7 +9,9 @@ use Rattle.gs_term.specs.declared.names.Target.TheVariants.{Default, Named}
 use Rattle.gs_event.specs.declared.verdicts.Holdings.{Holdings}
 use Rattle.gs_event.specs.declared.verdicts.Change.{Change}
 use Rattle.gs_event.specs.declared.verdicts.Verdict.{Verdict}
-use Rattle.gs_event.specs.Datasets.{Dataset, Setting, empty_dataset, graph_at, new_name, with_graph, without_graph, lines_at, triples_in, names_in}
+use Rattle.gs_event.specs.Datasets.{Dataset, empty_dataset, graph_at, with_graph, without_graph, size_at, triples_in, names_in}
+use Rattle.gs_event.specs.Names.{new_name}
+use Rattle.gs_event.specs.Operations.{Setting}
 use Rattle.gs_event.specs.Phases as phase
 use Rattle.gs_event.specs.Views.{Totals, SeatView}
 use Rattle.gs_event.specs.Verdicts.{DecidesStore, DecidesChange, holdings_of, place_in, verdict_of}
@@ -62,7 +64,7 @@ graph_now b t = graph_at (dataset_of b.rows.items) t
 
 -- how many triples a target's graph has, none where it is missing
 abbrev pub size_now : Books → Target → ℕ
-size_now b t = length (lines_at (dataset_of b.rows.items) t)
+size_now b t = size_at (dataset_of b.rows.items) t
 
 -- the name that is made up for the request of this number
 abbrev pub name_for : Books → ℕ → List ℕ

@@ -1,10 +1,10 @@
 -- What a write makes of the books: a new version of its target, or an end to the newest. No public clause cites this
 -- module.
-use Rattle.std.specs.Prelude.{◌≡◌, ℕ, ◌+◌, ◌≤◌, true, List, Some, length, vec_len, vec_capacity, string_bytes}
+use Rattle.std.specs.Prelude.{◌≡◌, ℕ, ◌+◌, ◌≤◌, true, List, Some, vec_len, vec_capacity, string_bytes}
 use Rattle.std.specs.List.{slice_get, slice_set}
 use Rattle.gs_model.specs.Graphs.{Graph, size_of}
 use Rattle.gs_term.specs.declared.names.Target.{Target}
-use Rattle.gs_event.specs.Datasets.{with_graph, without_graph, lines_at, triples_in, names_in}
+use Rattle.gs_event.specs.Datasets.{with_graph, without_graph, size_at, triples_in, names_in}
 use Rattle.gs_plain.specs.declared.books.Row.{Row}
 use Rattle.gs_plain.specs.declared.books.Books.{Books}
 use Rattle.gs_plain.specs.Books.{dataset_of, KeepsRows}
@@ -24,7 +24,7 @@ pub record PutsVersion (old new : Books) (t : Target) (g : Graph) : Type 0 where
   pub dataset : dataset_of new.rows.items ≡ with_graph (dataset_of old.rows.items) t g
   pub kept : KeepsBooks old new
   pub triples : new.triples ≡ triples_in (dataset_of new.rows.items)
-  pub moved : new.triples + length (lines_at (dataset_of old.rows.items) t) ≡ old.triples + size_of g
+  pub moved : new.triples + size_at (dataset_of old.rows.items) t ≡ old.triples + size_of g
   pub names : new.names ≡ names_in (dataset_of new.rows.items)
   pub one_more : vec_len new.rows ≡ vec_len old.rows + 1
 

@@ -1,7 +1,7 @@
 //! What a plain store keeps besides its seats: the numbers given out, the counts, and the rows.
 ghost use Rattle.std.specs.Prelude.{◌≡◌, ◌<◌, length, vec_len, vec_capacity};
 ghost use Rattle.gs_model.specs.Limits.{last_number};
-ghost use Rattle.gs_event.specs.Datasets.{is_there as is_there_of, lines_at, with_graph, without_graph, triples_in, names_in};
+ghost use Rattle.gs_event.specs.Datasets.{is_there as is_there_of, size_at as size_at_of, with_graph, without_graph, triples_in, names_in};
 ghost use Rattle.gs_plain.specs.Books.{dataset_of, IsCounted};
 ghost use Rattle.gs_plain.specs.Versions.{PutsVersion, EndsVersion, EndsRow};
 ghost use Rattle.gs_plain.specs.Newest.{NewestRow};
@@ -74,7 +74,7 @@ pub fn is_there(rows: &[Row], target: &Target) -> bool
 
 /// How many triples the target's graph has.
 pub fn size_at(rows: &[Row], target: &Target) -> u64
-    ensures { result ≡ length (lines_at (dataset_of rows.now) target.now) }
+    ensures { result ≡ size_at_of (dataset_of rows.now) target.now }
 {
     match newest(rows, target) {
         None => 0,

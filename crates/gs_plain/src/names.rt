@@ -1,7 +1,7 @@
 //! Names that the store makes up.
 ghost use Rattle.std.specs.Prelude.{◌≡◌, true, IfOk, string_bytes};
 ghost use Rattle.gs_model.specs.Bases.{is_base};
-ghost use Rattle.gs_event.specs.Datasets.{made_name as made_name_of};
+ghost use Rattle.gs_event.specs.Names.{made_name as made_name_of};
 ghost use Rattle.gs_plain.specs.Books.{name_for, IsCounted};
 
 use crate::books::{self, Books};

@@ -16,7 +16,7 @@ struct Binding<'a> {
 
 /// The instances of all patterns under each solution: of the first solution that of the first
 /// pattern, of the second, and so on. For p patterns in a graph of n triples it takes up to the
-/// p-th power of n tries.
+/// p-th power of n tries, and its calls go p deep: whoever makes an `Op::DeleteWhere` bounds p.
 pub fn instances(
     alloc: Global,
     graph: &SortedGraph,
@@ -39,18 +39,19 @@ pub fn instances(
 
 /// Tries each triple for the first of the patterns that are left, and goes on to the rest where it
 /// is the pattern's instance under what is bound. `chosen` has the triples of the patterns before.
+/// Calls itself once more deeply for each pattern that is left.
 fn search<'a>(
     found: &mut Vec<Triple>,
     bound: &mut Vec<Binding<'a>>,
     chosen: &mut Vec<&'a Triple>,
     triples: &'a [Triple],
-    patterns: &'a [Pattern],
+    left: &'a [Pattern],
 ) -> Result<(), AllocError>
-    ensures found { OnOk result (FindsMore triples.now patterns.now bound.old chosen.old found.old found.new) }
+    ensures found { OnOk result (FindsMore triples.now left.now bound.old chosen.old found.old found.new) }
     ensures bound { OnOk result (bound.new.items ≡ bound.old.items) }
     ensures chosen { OnOk result (chosen.new.items ≡ chosen.old.items) }
 {
-    let Some((first, rest)) = patterns.split_first() else {
+    let Some((first, rest)) = left.split_first() else {
         return push_copies(found, chosen.as_slice());
     };
     let depth = bound.len();

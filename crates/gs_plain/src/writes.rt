@@ -1,7 +1,7 @@
 //! Writes: the commits of uploads, and deletes.
 ghost use Rattle.std.specs.Prelude.{◌≡◌, ◌<◌, ◌≤◌, ◌+◌, IsTrue, IfOk, length, vec_len, vec_capacity};
 ghost use Rattle.gs_model.specs.Graphs.{size_of};
-ghost use Rattle.gs_event.specs.Datasets.{united};
+ghost use Rattle.gs_event.specs.Operations.{united};
 ghost use Rattle.gs_event.specs.declared.events.Action.TheVariants.{Commit, Delete};
 ghost use Rattle.gs_event.specs.declared.events.UploadKind.TheVariants.{Put, Post, New};
 ghost use Rattle.gs_plain.specs.declared.books.Seat.TheVariants.{Writing};

@@ -80,7 +80,7 @@ all solutions count, and not the first alone | <a> <p> <b> . <a> <q> "1" . <c> <
 "#;
 
 /// A graph is put, patched and read.
-fn events(alloc: Global, graph: &str, removed: &str) -> Result<Vec<Event>, Refusal> {
+pub fn events(alloc: Global, graph: &str, removed: &str) -> Result<Vec<Event>, Refusal> {
     let mut operations = Vec::new(alloc);
     operations.push(Op::DeleteWhere(patterns(alloc, removed)?))?;
     let mut events = Vec::new(alloc);
@@ -95,18 +95,18 @@ fn events(alloc: Global, graph: &str, removed: &str) -> Result<Vec<Event>, Refus
 }
 
 /// What these events print, where these lines are left.
-fn wanted(alloc: Global, left: &str) -> Result<String, AllocError> {
+pub fn wanted(alloc: Global, left: &str) -> Result<String, AllocError> {
     let lines = lines(alloc, left)?;
     let lines = lines.as_str();
     format!(in alloc; "opened 1\nstaged\n204\nopened 2\n204\n200\n{lines}end\n")
 }
 
-fn answers(alloc: Global, events: &[Event]) -> Result<Vec<Answer>, Refusal> {
+pub fn answers(alloc: Global, events: &[Event]) -> Result<Vec<Answer>, Refusal> {
     let mut store = store(alloc, "")?;
     store.run(events)
 }
 
-fn plain_answers(alloc: Global, events: &[Event]) -> Result<Vec<Answer>, Refusal> {
+pub fn plain_answers(alloc: Global, events: &[Event]) -> Result<Vec<Answer>, Refusal> {
     let mut store = plain_store(alloc, "")?;
     run(alloc, &mut store, events)
 }
@@ -128,7 +128,11 @@ fn a_run_removes_the_instances_under_all_solutions(rt: HostRuntime) -> Result<()
         let got = printed(alloc, answers(alloc, events.as_slice())?.as_slice())?;
         assert_eq!(rt; got.as_str(), want.as_str(), "at {name}");
         let plain = printed(alloc, plain_answers(alloc, events.as_slice())?.as_slice())?;
-        assert_eq!(rt; plain.as_str(), want.as_str(), "at {name}, over a plain store");
+        assert_eq!(rt;
+            plain.as_str(),
+            want.as_str(),
+            "at {name}, over a plain store"
+        );
     }
     Ok(())
 }

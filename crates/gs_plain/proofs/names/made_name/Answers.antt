@@ -1,5 +1,5 @@
 use Rattle.std.proofs.Common.{◌≡◌, ◌∙◌}
-use Rattle.gs_event.specs.Datasets.{made_name}
+use Rattle.gs_event.specs.Names.{made_name}
 use Rattle.gs_plain.proofs.NameLemmas.{made_absolute, made_short, never_refused}
 use Rattle.gs_plain.proofs.names.made_name.Goals as goal
 

@@ -1,6 +1,7 @@
 use Rattle.std.proofs.Common.{◌≡◌, true, false, string_bytes, sym, arith, ap, ◌∙◌}
 use Rattle.gs_term.specs.declared.names.Target.TheVariants.{Named}
-use Rattle.gs_event.specs.Datasets.{is_there, made_name, first_free}
+use Rattle.gs_event.specs.Datasets.{is_there}
+use Rattle.gs_event.specs.Names.{made_name, first_free}
 use Rattle.gs_plain.specs.Books.{dataset_of}
 use Rattle.gs_plain.proofs.NameLemmas.{free_more, free_here, free_end, named_so}
 use Rattle.gs_plain.proofs.names.new_name.Goals as goal

@@ -1,6 +1,6 @@
 -- the first free number is still ahead
 use Rattle.std.proofs.Common.{◌≡◌, ◌-◌, string_bytes}
-use Rattle.gs_event.specs.Datasets.{first_free}
+use Rattle.gs_event.specs.Names.{first_free}
 use Rattle.gs_plain.specs.Books.{dataset_of}
 use Rattle.gs_plain.proofs.names.new_name.Given as goal
 

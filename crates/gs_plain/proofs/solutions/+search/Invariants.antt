@@ -6,7 +6,7 @@ use Rattle.gs_plain.specs.Solving.{bindings_of, found_if, found_from}
 use Rattle.gs_plain.proofs.solutions.+search.Given as goal
 
 abbrev pub decreases-search : goal.decreases-search
-decreases-search l = length l.patterns.now
+decreases-search l = length l.left.now
 
 abbrev pub invariant-loop-triple : goal.invariant-loop-triple
 invariant-loop-triple l =

@@ -1,0 +1,173 @@
+//! Small graphs and patterns that are drawn, and a plain solver for them, apart from the store: it
+//! tries every term for every variable (SPARQL 1.1 Query, section 18.3). What it leaves of a graph
+//! is what a DELETE WHERE with the patterns must leave.
+ghost use Rattle.std.specs.Prelude.{◌<◌};
+
+use crate::removals::{answers, events, plain_answers, wanted};
+use crate::runs::printed;
+use std::alloc::{AllocError, Global};
+use std::test::Fail;
+
+/// Four terms, in the order of their texts, and three variables.
+const WORDS: [&str; 7] = ["\"x\"", "<a>", "<b>", "_1", "?x", "?y", "?z"];
+
+/// Which triples a graph has, by their numbers, which have their order: 16 s + 4 p + o of the
+/// numbers of their terms.
+type Graph = [bool; 64];
+
+/// The numbers of the words at the three places of a pattern.
+type Places = [usize; 3];
+
+/// A number below this one, which is not 0, and the next state.
+fn draw(state: &mut u64, below: u64) -> usize {
+    *state = state
+        .wrapping_mul(6_364_136_223_846_793_005)
+        .wrapping_add(1_442_695_040_888_963_407);
+    let number = (*state >> 33).checked_rem(below).unwrap_or_default();
+    usize::try_from(number).unwrap_or_default()
+}
+
+/// Each triple whose subject is no literal and whose predicate is an IRI, at one chance of two.
+fn drawn_graph(state: &mut u64) -> Graph {
+    let mut graph = [false; 64];
+    for number in 16..64 {
+        let predicate = number / 4 % 4;
+        if predicate == 1 || predicate == 2 {
+            graph[number] = draw(state, 2) == 0;
+        }
+    }
+    graph
+}
+
+/// A variable, at four chances of five, or a term.
+fn drawn_place(state: &mut u64) -> usize {
+    match draw(state, 5) {
+        0 => draw(state, 4),
+        _ => draw(state, 3).saturating_add(4),
+    }
+}
+
+/// One to four patterns.
+fn drawn_patterns(alloc: Global, state: &mut u64) -> Result<Vec<Places>, AllocError> {
+    let mut patterns = Vec::new(alloc);
+    for _ in 0..=draw(state, 4) {
+        patterns.push([drawn_place(state), drawn_place(state), drawn_place(state)])?;
+    }
+    Ok(patterns)
+}
+
+/// The term at a place, where the variables' terms are the digits of `assigned` to the base 4.
+fn term_at(assigned: usize, place: usize) -> usize
+    ensures { result < 4 }
+{
+    match place {
+        4 => assigned % 4,
+        5 => assigned / 4 % 4,
+        6 => assigned / 16 % 4,
+        term => term % 4,
+    }
+}
+
+/// The number of a pattern's instance.
+fn instance(assigned: usize, places: &Places) -> usize
+    ensures { result < 64 }
+{
+    let subject = term_at(assigned, places[0]);
+    let predicate = term_at(assigned, places[1]);
+    16 * subject + 4 * predicate + term_at(assigned, places[2])
+}
+
+/// Whether the graph has the instance of each pattern.
+fn is_solution(graph: &Graph, patterns: &[Places], assigned: usize) -> bool {
+    for places in patterns {
+        if !graph[instance(assigned, places)] {
+            return false;
+        }
+    }
+    true
+}
+
+fn take_out(graph: &mut Graph, patterns: &[Places], assigned: usize) {
+    for places in patterns {
+        graph[instance(assigned, places)] = false;
+    }
+}
+
+/// The graph without the instances of the patterns under all solutions.
+fn without_instances(graph: &Graph, patterns: &[Places]) -> Graph {
+    let mut left = *graph;
+    for assigned in 0..64 {
+        if is_solution(graph, patterns, assigned) {
+            take_out(&mut left, patterns, assigned);
+        }
+    }
+    left
+}
+
+/// The words at three places, and a dot.
+fn push_places(text: &mut String, places: &Places) -> Result<(), AllocError> {
+    for place in places {
+        text.push_str(WORDS.get(*place).copied().unwrap_or_default())?;
+        text.push(' ')?;
+    }
+    text.push_str(". ")
+}
+
+fn graph_text(alloc: Global, graph: &Graph) -> Result<String, AllocError> {
+    let mut text = String::new(alloc);
+    for number in 0..64 {
+        if graph[number] {
+            push_places(&mut text, &[number / 16, number / 4 % 4, number % 4])?;
+        }
+    }
+    Ok(text)
+}
+
+fn patterns_text(alloc: Global, patterns: &[Places]) -> Result<String, AllocError> {
+    let mut text = String::new(alloc);
+    for places in patterns {
+        push_places(&mut text, places)?;
+    }
+    Ok(text)
+}
+
+#[test]
+fn a_run_leaves_what_every_assignment_leaves(rt: HostRuntime) -> Result<(), Fail> {
+    let alloc = rt.alloc();
+    let mut state = 1;
+    for _ in 0..300 {
+        let graph = drawn_graph(&mut state);
+        let patterns = drawn_patterns(alloc, &mut state)?;
+        let left = graph_text(alloc, &without_instances(&graph, patterns.as_slice()))?;
+        let want = wanted(alloc, left.as_str())?;
+        let before = graph_text(alloc, &graph)?;
+        let removed = patterns_text(alloc, patterns.as_slice())?;
+        let events = events(alloc, before.as_str(), removed.as_str())?;
+        let got = printed(alloc, answers(alloc, events.as_slice())?.as_slice())?;
+        assert_eq!(rt; got.as_str(), want.as_str(), "{removed}in {before}");
+        let plain = printed(alloc, plain_answers(alloc, events.as_slice())?.as_slice())?;
+        assert_eq!(rt;
+            plain.as_str(),
+            want.as_str(),
+            "{removed}in {before}, over a plain store"
+        );
+    }
+    Ok(())
+}
+
+#[test]
+fn many_draws_take_out_some_triples_and_leave_some(rt: HostRuntime) -> Result<(), Fail> {
+    let alloc = rt.alloc();
+    let mut state = 1;
+    let mut parted = 0;
+    for _ in 0..300u32 {
+        let graph = drawn_graph(&mut state);
+        let patterns = drawn_patterns(alloc, &mut state)?;
+        let left = without_instances(&graph, patterns.as_slice());
+        if left != graph && left != [false; 64] {
+            parted += 1u32;
+        }
+    }
+    assert!(rt; parted >= 100);
+    Ok(())
+}
