@@ -14,8 +14,12 @@ use Rattle.std.specs.Bool.{Decides}
 use Rattle.gs_model.proofs.TextLemmas.{term_of-text_of, text_of-injective}
 use Rattle.gs_dict.specs.declared.chains.Entry.{Entry}
 use Rattle.gs_dict.specs.Chains.{IsTable, Has, Meets, KeepsTexts, entry_at, text_at, start_at}
-use Rattle.gs_dict.specs.Numbering.{IsNumberOf, IsNew, IsDistinct, Joins}
+use Rattle.gs_dict.specs.Numbering.{Numbered, IsNumberOf, IsNew, IsDistinct, Joins}
 use Rattle.gs_dict.specs.Kept.{IsDict, hash_of, term_at, terms_of}
+
+-- what a dictionary of these parts shows
+abbrev pub shown : List ℕ → List Entry → ℕ → Numbered
+shown arena es last = record { terms = terms_of arena es; last = last }
 
 -- as many terms as entries
 pub length-terms_of : (arena : List ℕ) (es : List Entry) → length (terms_of arena es) ≡ length es
@@ -73,7 +77,7 @@ terms_distinct arena es heads s last d m n t at_m at_n =
 -- there are no more terms than numbers
 pub terms_fit :
     (arena : List ℕ) (es : List Entry) (heads : List ℕ) (s : FoldHasher) (last : ℕ) → IsDict arena es heads s last
-    → length (terms_of arena es) ≤ last_term + 1
+    → length (terms_of arena es) ≤ last + 1
 terms_fit arena es heads s last d = omega (arith, length-terms_of arena es, d.few)
 
 -- a term whose text is not along the chain of its hash is new
@@ -183,7 +187,7 @@ dict_more arena later es fs heads links s last x d table kept count has canonica
                   d.apart i j i_inside j_inside (sym (kept.text_same i i_inside) ∙ (e ∙ kept.text_same j j_inside))
             ]
       ];
-      few = omega (arith, d.bounded);
+      few = omega (arith, room);
       bounded = d.bounded;
     }
 
@@ -244,13 +248,22 @@ number_decides ts n t x r given d = (
 pub no_number : (ts : List Term) (n : ℕ) (t : Term) → nat_lt n (length ts) ≡ false → IsNumberOf ts n t → ⊥
 no_number ts n t past number = let inside : n < length ts = slice_get_within ts n t number in grind (arith, nat_tests)
 
+not_less : (m n : ℕ) → nat_lt m n ≡ false → n ≤ m
+not_less m n h = grind (arith, nat_tests)
+
+-- where not all numbers are given, one is left
+pub some_left : (arena : List ℕ) (es : List Entry) (last : ℕ) (d : Numbered) (full : Bool) → shown arena es last ≡ d → full ≡ nat_lt d.last (length d.terms) → full ≡ false → length es ≤ last
+some_left arena es last d full is decides not =
+    let short : length d.terms ≤ d.last = not_less d.last (length d.terms) (sym decides ∙ not) in
+    omega (arith, short, ap (λ (e : Numbered). length e.terms) is, ap (λ (e : Numbered). e.last) is, length-terms_of arena es)
+
 -- a new term, with the entry that was added for it
 pub joined :
     (arena later : List ℕ) (es fs : List Entry) (heads links : List ℕ) (s : FoldHasher) (last : ℕ) (t : Term) (x : List ℕ) (h i : ℕ)
     → IsDict arena es heads s last → IsTerm t → x ≡ text_of t → h ≡ hash_of s x → Meets arena es (hash_of s (text_of t)) (text_of t) None
     → length es ≤ last → IsTable later fs links → KeepsTexts arena es later fs
     → (i ≡ length es) × (length fs ≡ length es + 1) × Has later fs (length es) h x
-    → IsDict later fs links s last × Joins (terms_of arena es) t i (terms_of later fs)
+    → IsDict later fs links s last × Joins (shown arena es last) t i (shown later fs last)
 joined arena later es fs heads links s last t x h i d valid text hash none room table kept added =
     let H : ℕ → Type 0 = λ k. Has later fs (length es) k x in
     let X : List ℕ → Type 0 = λ z. Has later fs (length es) (hash_of s z) z in
@@ -259,6 +272,7 @@ joined arena later es fs heads links s last t x h i d valid text hash none room 
       record {
         absent = new_term arena es heads s last t d none;
         next = added.0 ∙ sym (length-terms_of arena es);
-        more = terms_more arena later es fs t kept added.1 has.1;
+        within = omega (arith, added.0, room);
+        more = ap (λ ts. record { terms = ts; last = last }) (terms_more arena later es fs t kept added.1 has.1);
       },
     )

@@ -27,5 +27,5 @@ pub record IsDict (arena : List ℕ) (es : List Entry) (heads : List ℕ) (seede
   pub canonical : (i : ℕ) → i < length es → IsCanonical (text_at arena es i)
   pub hashed : (i : ℕ) → i < length es → (entry_at es i).hash ≡ hash_of seeded (text_at arena es i)
   pub apart : (i j : ℕ) → i < length es → j < length es → text_at arena es i ≡ text_at arena es j → i ≡ j
-  pub few : length es ≤ last_term + 1
+  pub few : length es ≤ last + 1
   pub bounded : last ≤ last_term

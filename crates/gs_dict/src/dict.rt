@@ -1,10 +1,10 @@
 //! The dictionary.
-ghost use Rattle.std.specs.Prelude.{◌≡◌, ◌+◌, ◌<◌, ◌≤◌, [], length, nat_lt, slice_get, Some, MatchResult, ℕ};
+ghost use Rattle.std.specs.Prelude.{◌≡◌, ◌+◌, ◌<◌, ◌≤◌, length, min, nat_lt, slice_get, Some, MatchResult, ℕ};
 ghost use Rattle.std.specs.Bool.{Decides};
 ghost use Rattle.std.specs.Option.{option_map};
 ghost use Rattle.gs_model.specs.Terms.{Term, text_of, IsTerm};
 ghost use Rattle.gs_model.specs.Limits.{last_term};
-ghost use Rattle.gs_dict.specs.Numbering.{IsNumberOf, IsDistinct, LooksUp, Interns};
+ghost use Rattle.gs_dict.specs.Numbering.{IsNumberOf, IsDistinct, LooksUp, Interns, none_numbered};
 ghost use Rattle.gs_dict.specs.Kept.{hash_of as hash_of_text};
 
 use crate::chains::{self, Entry};
@@ -20,7 +20,7 @@ const FIRST_BUCKETS: usize = 1024;
 
 /// Terms by number. Each text stands once, in one arena; a number is found by the hash of its
 /// text, which a seed keeps from strangers. A contract sees the terms, in the order of their
-/// numbers.
+/// numbers, and the greatest number that may be given.
 #[derive(Drop)]
 pub struct Dict {
     arena: Vec<u8>,
@@ -33,18 +33,15 @@ pub struct Dict {
 }
 
 impl Model for Dict {
-    ghost use Rattle.std.specs.Prelude.{List};
-    ghost use Rattle.std.specs.Coded.{coded_list};
-    ghost use Rattle.gs_model.specs.Terms.{Term};
-    ghost use Rattle.gs_model.specs.Codes.{term_code};
+    ghost use Rattle.gs_dict.specs.Numbering.{Numbered, numbered_code};
 
-    ghost Value = { List Term };
+    ghost Value = { Numbered };
 
-    ghost coded = { coded_list term_code };
+    ghost coded = { numbered_code };
 
     ghost use Rattle.gs_dict.specs.Kept.{terms_of, IsDict};
 
-    ghost view = { λ d. terms_of d.arena.items d.entries.items };
+    ghost view = { λ d. record { terms = terms_of d.arena.items d.entries.items; last = d.last } };
 
     ghost invariant = { λ d. IsDict d.arena.items d.entries.items d.heads.items d.seeded d.last };
 }
@@ -63,7 +60,7 @@ impl Dict {
     /// the first number of a `RandomState`. No number is greater than `last`, nor than
     /// 4,294,967,294.
     pub fn new(alloc: Global, seed: u64, last: u32) -> Result<Dict, Refusal>
-        ensures { MatchResult result (λ d. d ≡ []) (λ e. e ≡ Refusal.NoMemory) }
+        ensures { MatchResult result (λ d. d ≡ none_numbered (min last last_term)) (λ e. e ≡ Refusal.NoMemory) }
     {
         let mut seeded = FoldHasher::default();
         seeded.write_u64(seed);
@@ -79,32 +76,40 @@ impl Dict {
 
     /// How many terms there are.
     pub fn len(&self) -> usize
-        ensures value { result ≡ length self.now }
-        ensures fits { length self.now ≤ last_term + 1 }
-        ensures distinct { IsDistinct self.now }
+        ensures value { result ≡ length self.now.terms }
+        ensures fits { length self.now.terms ≤ self.now.last + 1 }
+        ensures small { self.now.last ≤ last_term }
+        ensures distinct { IsDistinct self.now.terms }
     {
         self.entries.len()
     }
 
+    /// Whether all numbers are given, so that a new term gets none.
+    pub fn is_full(&self) -> bool
+        ensures { result ≡ nat_lt self.now.last (length self.now.terms) }
+    {
+        self.len() > self.last as usize
+    }
+
     /// Whether this number was given.
     pub fn has(&self, id: TermId) -> bool
-        ensures { result ≡ nat_lt id.number (length self.now) }
+        ensures { result ≡ nat_lt id.number (length self.now.terms) }
     {
         (id.number as usize) < self.len()
     }
 
     /// The canonical text of a number that was given.
     pub fn text(&self, id: TermId) -> &[u8]
-        requires { id.number < length self.now }
-        ensures value { option_map text_of (slice_get self.now id.number) ≡ Some result.now }
-        ensures valid { (t : Term) → IsNumberOf self.now id.number t → IsTerm t }
+        requires { id.number < length self.now.terms }
+        ensures value { option_map text_of (slice_get self.now.terms id.number) ≡ Some result.now }
+        ensures valid { (t : Term) → IsNumberOf self.now.terms id.number t → IsTerm t }
     {
         chains::text_at(&self.arena, &self.entries, id.number as usize)
     }
 
     /// Whether this number is the term's: one comparison of texts, and no hash.
     pub fn is_number_of(&self, id: TermId, term: &TermText) -> bool
-        ensures { Decides result (IsNumberOf self.now id.number term.now) }
+        ensures { Decides result (IsNumberOf self.now.terms id.number term.now) }
     {
         if !self.has(id) {
             return false;
@@ -114,7 +119,7 @@ impl Dict {
 
     /// The number of a term that has one.
     pub fn find(&self, term: &TermText) -> Option<TermId>
-        ensures { LooksUp self.now term.now result }
+        ensures { LooksUp self.now.terms term.now result }
     {
         let text = term.as_bytes();
         let hash = hash_of(self.seeded, text);
@@ -126,15 +131,16 @@ impl Dict {
     /// alone; that the numbers are used up counts as want of memory.
     pub fn intern(&mut self, term: &TermText) -> Result<TermId, Refusal>
         ensures value { Interns self.old term.now result self.new }
-        ensures distinct { IsDistinct self.new }
-        ensures fits { length self.new ≤ last_term + 1 }
+        ensures distinct { IsDistinct self.new.terms }
+        ensures fits { length self.new.terms ≤ self.new.last + 1 }
+        ensures small { self.new.last ≤ last_term }
     {
         let text = term.as_bytes();
         let hash = hash_of(self.seeded, text);
         if let Some(number) = chains::find(&self.arena, &self.entries, &self.heads, text, hash) {
             return Ok(TermId { number });
         }
-        if self.entries.len() > self.last as usize {
+        if self.is_full() {
             return Err(Refusal::NoMemory);
         }
         let number = chains::add(

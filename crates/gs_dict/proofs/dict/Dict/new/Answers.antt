@@ -1,4 +1,5 @@
-use Rattle.std.proofs.Common.{◌∙◌, ap, arith, []}
+use Rattle.std.proofs.Common.{◌≡◌, ◌∙◌, ap, arith, []}
+use Rattle.gs_dict.specs.Numbering.{none_numbered}
 use Rattle.gs_dict.specs.Kept.{terms_of}
 use Rattle.gs_dict.proofs.TermLemmas.{dict_empty, terms_none}
 use Rattle.gs_dict.proofs.dict.Dict.new.Goals as goal
@@ -9,4 +10,6 @@ invariant_of-result c =
     (dict_empty c.in_ok-heads.heads.items _ _ c.in_ok-heads.ensures.empty (omega (arith, c.in_ok-heads.ensures.count)) (omega arith))
 
 pub returns : goal.returns
-returns c = ap (λ xs. terms_of xs c.new-2.result.items) c.new.ensures.items ∙ (ap (terms_of []) c.new-2.ensures.items ∙ terms_none)
+returns c =
+    let none : terms_of c.new.result.items c.new-2.result.items ≡ [] = ap (λ xs. terms_of xs c.new-2.result.items) c.new.ensures.items ∙ (ap (terms_of []) c.new-2.ensures.items ∙ terms_none) in
+    ap (λ ts. record { terms = ts; last = c.min.result }) none ∙ ap none_numbered c.min.ensures
