@@ -6,7 +6,7 @@ use Rattle.gs_model.specs.Terms.{numeral}
 use Rattle.gs_model.specs.Texts.{split_first, number_of}
 use Rattle.gs_model.proofs.TextLemmas.{number_of-numeral, split_first-other, other-numeral}
 use Rattle.gs_event.specs.declared.events.Action.{Action}
-use Rattle.gs_event.specs.declared.events.Action.TheVariants.{Open, Stage, Commit, Delete, Head, Pin, Piece, Cancel}
+use Rattle.gs_event.specs.declared.events.Action.TheVariants.{Open, OpenPatch, Stage, Commit, CommitPatch, Delete, Head, Pin, Piece, Cancel}
 use Rattle.gs_commands.specs.Found.{Finds, SaysNumber}
 use Rattle.gs_commands.specs.Commands.{SaysAfter, SaysAction, SaysStart}
 
@@ -37,8 +37,10 @@ numeral_some n h =
 
 action_some : (a : Action) (x : List ℕ) → SaysAction a x → ¬ (x ≡ [])
 action_some (Open k) x says h = let e = says.parts in cc
+action_some (OpenPatch t) x says h = says
 action_some (Stage ts) x says h = let e = says.parts in cc
 action_some Commit x says h = cc
+action_some (CommitPatch ops) x says h = says
 action_some (Delete t) x says h = let e = says.parts in cc
 action_some (Head t) x says h = let e = says.parts in cc
 action_some (Pin t) x says h = let e = says.parts in cc

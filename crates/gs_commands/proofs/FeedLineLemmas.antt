@@ -5,7 +5,7 @@ use Rattle.gs_model.specs.Terms.{numeral}
 use Rattle.gs_model.specs.Texts.{split_first, number_of}
 use Rattle.gs_model.proofs.TextLemmas.{number_of-numeral}
 use Rattle.gs_event.specs.declared.events.Action.{Action}
-use Rattle.gs_event.specs.declared.events.Action.TheVariants.{Open, Stage, Commit, Delete, Head, Pin, Piece, Cancel}
+use Rattle.gs_event.specs.declared.events.Action.TheVariants.{Open, OpenPatch, Stage, Commit, CommitPatch, Delete, Head, Pin, Piece, Cancel}
 use Rattle.gs_event.specs.declared.events.Event.TheVariants.{Seat as At}
 use Rattle.gs_upload.specs.declared.languages.Language.{Language}
 use Rattle.gs_upload.specs.declared.languages.Language.TheVariants.{NTriples, Turtle}
@@ -74,8 +74,10 @@ words_first Turtle rest = (codes "eed ttl " ++ rest, refl)
 
 no_action : (a : Action) (x z : List ℕ) → x ≡ 102 ∷ z → ¬ SaysAction a x
 no_action (Open k) x z e says = first_differs 102 111 z (codes "pen " ++ says.rest) refl (sym e ∙ says.parts)
+no_action (OpenPatch t) x z e says = says
 no_action (Stage ts) x z e says = first_differs 102 115 z (codes "tage " ++ says.rest) refl (sym e ∙ says.parts)
 no_action Commit x z e says = first_differs 102 99 z (codes "ommit") refl (sym e ∙ says)
+no_action (CommitPatch ops) x z e says = says
 no_action (Delete t) x z e says = first_differs 102 100 z (codes "elete " ++ says.rest) refl (sym e ∙ says.parts)
 no_action (Head t) x z e says = first_differs 102 104 z (codes "ead " ++ says.rest) refl (sym e ∙ says.parts)
 no_action (Pin t) x z e says = first_differs 102 112 z (codes "in " ++ says.rest) refl (sym e ∙ says.parts)

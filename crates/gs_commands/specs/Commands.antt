@@ -11,7 +11,7 @@ use Rattle.gs_term.specs.declared.names.Target.TheVariants.{Default, Named}
 use Rattle.gs_event.specs.declared.events.UploadKind.{UploadKind}
 use Rattle.gs_event.specs.declared.events.UploadKind.TheVariants.{Put, Post, New}
 use Rattle.gs_event.specs.declared.events.Action.{Action}
-use Rattle.gs_event.specs.declared.events.Action.TheVariants.{Open, Stage, Commit, Delete, Head, Pin, Piece, Cancel}
+use Rattle.gs_event.specs.declared.events.Action.TheVariants.{Open, OpenPatch, Stage, Commit, CommitPatch, Delete, Head, Pin, Piece, Cancel}
 use Rattle.gs_event.specs.declared.events.Event.{Event}
 use Rattle.gs_event.specs.declared.events.Event.TheVariants.{Seat as At, Reclaim}
 use Rattle.gs_commands.specs.declared.commands.Command.{Command}
@@ -69,11 +69,13 @@ SaysTriples [] x = ⊥
 SaysTriples (t ∷ []) x = SaysTriple t x
 SaysTriples (t ∷ u ∷ ts) x = ⊥
 
--- the action of a seat
+-- the action of a seat; no line says one of a patch
 abbrev pub SaysAction : Action → List ℕ → Type 0
 SaysAction (Open k) x = SaysAfter (codes "open ") (SaysKind k) x
+SaysAction (OpenPatch t) x = ⊥
 SaysAction (Stage ts) x = SaysAfter (codes "stage ") (SaysTriples ts.items) x
 SaysAction Commit x = x ≡ codes "commit"
+SaysAction (CommitPatch ops) x = ⊥
 SaysAction (Delete t) x = SaysAfter (codes "delete ") (SaysTarget t) x
 SaysAction (Head t) x = SaysAfter (codes "head ") (SaysTarget t) x
 SaysAction (Pin t) x = SaysAfter (codes "pin ") (SaysTarget t) x

@@ -5,12 +5,12 @@ use Rattle.std.proofs.lemmas.List.{map-set, length-set}
 use Rattle.std.proofs.lemmas.Option.{slice_get-map}
 use Rattle.gs_model.specs.declared.refusals.Refusal.TheVariants.{BadSeat}
 use Rattle.gs_event.specs.declared.events.Action.{Action}
-use Rattle.gs_event.specs.declared.events.Action.TheVariants.{Open, Commit, Pin, Piece, Cancel}
+use Rattle.gs_event.specs.declared.events.Action.TheVariants.{Open, OpenPatch, Commit, CommitPatch, Pin, Piece, Cancel}
 use Rattle.gs_event.specs.declared.events.Event.{Event}
 use Rattle.gs_event.specs.declared.events.Event.TheVariants.{Seat as At, Reclaim}
 use Rattle.gs_event.specs.declared.answers.Answer.{Answer}
 use Rattle.gs_event.specs.declared.answers.Answer.TheVariants.{Opened, Status, Pinned, Lines, Cancelled, Refused}
-use Rattle.gs_event.specs.Phases.{Idle, Writing, Reading}
+use Rattle.gs_event.specs.Phases.{Idle, Writing, Patching, Reading}
 use Rattle.gs_event.specs.Views.{View, SeatView, Totals, Fits, FitsSeat, next_view, next_phase, next_if}
 use Rattle.gs_event.specs.Waste.{Shown}
 use Rattle.gs_event.specs.Steps.{Steps}
@@ -27,7 +27,7 @@ use Rattle.gs_drill.proofs.SeatLemmas.{set_same, AreFed-unfed}
 
 -- the opening of a seat after an answer
 opening_after : Option Opening → Action → Answer → Option Opening
-opening_after o action (Opened r) = Some (opened_by action r)
+opening_after o action (Opened r) = opened_by action r
 opening_after o action (Status s name) = None
 opening_after o action Cancelled = None
 opening_after o action a = o
@@ -44,9 +44,13 @@ told_none false left = refl
 opening_next : (t : Totals) (p : SeatView) (action : Action) (a : Answer) → FitsSeat t p action a → opening_after (opening_of p) action a ≡ opening_of (next_phase t p action a)
 unfolding opening_after
 opening_next t Idle (Open k) (Opened r) fits = refl
+opening_next t Idle (OpenPatch x) (Opened r) fits = refl
 opening_next t Idle action (Opened r) fits = absurd fits
 opening_next t (Writing k r g) Commit (Opened q) fits = absurd fits
 opening_next t (Writing k r g) action (Opened q) fits = absurd fits
+opening_next t (Patching x r) (CommitPatch ops) (Opened q) fits = absurd fits
+opening_next t (Patching x r) Cancel (Opened q) fits = absurd fits
+opening_next t (Patching x r) action (Opened q) fits = absurd fits
 opening_next t (Reading left) Cancel (Opened r) fits = absurd fits
 opening_next t (Reading left) action (Opened r) fits = absurd fits
 opening_next t (Writing k r g) Commit (Status s name) fits = refl
@@ -91,7 +95,7 @@ texts_length true bs s = length-set bs s seat_text.Unfed
 texts_length false bs s = refl
 
 reset_length : (os : List (Option Opening)) (s : ℕ) (action : Action) (a : Answer) → length (openings_reset os s action a) ≡ length os
-reset_length os s action (Opened r) = length-set os s (Some (opened_by action r))
+reset_length os s action (Opened r) = length-set os s (opened_by action r)
 reset_length os s action (Status status name) = length-set os s None
 reset_length os s action Cancelled = length-set os s None
 reset_length os s action a = refl

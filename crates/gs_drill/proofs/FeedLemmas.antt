@@ -9,7 +9,7 @@ use Rattle.gs_event.specs.declared.events.Action.TheVariants.{Stage, Commit}
 use Rattle.gs_event.specs.declared.events.Event.TheVariants.{Seat as At}
 use Rattle.gs_event.specs.declared.answers.Answer.{Answer}
 use Rattle.gs_event.specs.declared.answers.Answer.TheVariants.{Staged}
-use Rattle.gs_event.specs.Phases.{Idle, Writing, Reading}
+use Rattle.gs_event.specs.Phases.{Idle, Writing, Patching, Reading}
 use Rattle.gs_event.specs.Views.{SeatView}
 use Rattle.gs_event.specs.Waste.{Shown}
 use Rattle.gs_feeding.specs.declared.texts.SeatText.{SeatText}
@@ -73,6 +73,7 @@ by_phase : (q : Option SeatView) (n : ℕ) (d : Desk) (s : ℕ) (l : Language) (
 by_phase None n d s l y text e h = h
 by_phase (Some Idle) n d s l y text e h = h
 by_phase (Some (Writing k r g)) n d s l y text e h = h
+by_phase (Some (Patching t r)) n d s l y text e h = h
 by_phase (Some (Reading left)) n d s l y text e h = h
 
 pub feeds_by : (n : ℕ) (shown : Shown) (u : Uploads) (st : Standing shown u) (s : ℕ) (l : Language) (y text : List ℕ) (e : Desk) (o : Option (Option Opening)) → slice_get u.openings.items s ≡ o → FeedsRow o n (desk_of st) s l y text e → DoesFeed n (desk_of st) s l y text e

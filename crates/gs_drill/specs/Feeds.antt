@@ -10,7 +10,7 @@ use Rattle.gs_event.specs.declared.events.Event.{Event}
 use Rattle.gs_event.specs.declared.events.Event.TheVariants.{Seat as At, Reclaim}
 use Rattle.gs_event.specs.declared.answers.Answer.{Answer}
 use Rattle.gs_event.specs.declared.answers.Answer.TheVariants.{Opened, Staged, Status, Cancelled, Refused}
-use Rattle.gs_event.specs.Phases.{Idle, Writing, Reading}
+use Rattle.gs_event.specs.Phases.{Idle, Writing, Patching, Reading}
 use Rattle.gs_event.specs.Views.{SeatView}
 use Rattle.gs_event.specs.Waste.{Shown}
 use Rattle.gs_event.specs.Steps.{Steps}
@@ -33,7 +33,7 @@ with_fed fed s f n = if nat_eq n s then f else fed n
 abbrev pub desk_with : Desk → ℕ → Fed → Desk
 desk_with d s f = record { shown = d.shown; fed = with_fed d.fed s f }
 
--- the answer says that an upload, or a read, begins anew or ends
+-- the answer says that an upload, a patch or a read begins anew or ends
 abbrev pub is_boundary : Answer → Bool
 is_boundary (Opened r) = true
 is_boundary (Status s name) = true
@@ -78,10 +78,11 @@ pub record FeedsUpload (n : ℕ) (c : TextContext) (d : Desk) (s : ℕ) (y text 
 abbrev pub RefusesFeed : Refusal → Desk → List ℕ → Desk → Type 0
 RefusesFeed refusal d text e = (text ≡ answer_text (Refused refusal)) × (e ≡ d)
 
--- the same by what the seat is doing
+-- the same by what the seat is doing: one that has no upload has no text to feed
 abbrev pub FeedsSeat : SeatView → ℕ → Desk → ℕ → Language → List ℕ → List ℕ → Desk → Type 0
 FeedsSeat Idle n d s l y text e = RefusesFeed WrongPhase d text e
 FeedsSeat (Writing k r g) n d s l y text e = FeedsUpload n (record { language = l; base = first_base k; request = r }) d s y text e
+FeedsSeat (Patching t r) n d s l y text e = RefusesFeed WrongPhase d text e
 FeedsSeat (Reading left) n d s l y text e = RefusesFeed WrongPhase d text e
 
 -- y, in language l, is fed in pieces of n bytes to seat s, which prints the text

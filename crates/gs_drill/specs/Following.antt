@@ -14,7 +14,7 @@ use Rattle.gs_drill.specs.Feeds.{is_boundary}
 
 -- the openings of all seats after an answer to seat s
 abbrev pub openings_reset : List (Option Opening) → ℕ → Action → Answer → List (Option Opening)
-openings_reset os s action (Opened r) = slice_set os s (Some (opened_by action r))
+openings_reset os s action (Opened r) = slice_set os s (opened_by action r)
 openings_reset os s action (Status status name) = slice_set os s None
 openings_reset os s action Cancelled = slice_set os s None
 openings_reset os s action a = os

@@ -3,7 +3,7 @@ use Rattle.std.specs.Prelude.{◌≡◌, ◌<◌, ℕ, Bool, List, length, map, 
 use Rattle.std.specs.List.{slice_get}
 use Rattle.gs_model.specs.Triples.{RdfTriple}
 use Rattle.gs_upload.specs.declared.languages.Language.{Language}
-use Rattle.gs_event.specs.Phases.{Idle, Writing, Reading}
+use Rattle.gs_event.specs.Phases.{Idle, Writing, Patching, Reading}
 use Rattle.gs_event.specs.Views.{SeatView}
 use Rattle.gs_event.specs.Waste.{Shown}
 use Rattle.gs_event.specs.Histories.{Start}
@@ -20,6 +20,7 @@ use Rattle.gs_drill.specs.Drills.{RunState, new_state}
 abbrev pub opening_of : SeatView → Option Opening
 opening_of Idle = None
 opening_of (Writing k r g) = Some (record { request = r; target = target_name k })
+opening_of (Patching t r) = None
 opening_of (Reading left) = None
 
 -- what was fed to each seat; nothing was fed to a seat that is not there

@@ -94,7 +94,7 @@ impl Uploads {
             return;
         };
         match answer {
-            Answer::Opened(request) => self.reset(seat, Some(Opening::by(action, *request))),
+            Answer::Opened(request) => self.reset(seat, Opening::by(action, *request)),
             Answer::Status(_, _) => self.reset(seat, None),
             Answer::Cancelled => self.reset(seat, None),
             _ => {}

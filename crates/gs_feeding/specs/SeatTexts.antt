@@ -16,10 +16,10 @@ use Rattle.gs_feeding.specs.declared.openings.Opening.{Opening}
 use Rattle.gs_feeding.specs.Languages.{base_under, target_name}
 use Rattle.gs_feeding.specs.Receiving.{Fed, Unfed, InPart, Faulted, Finished, IsFaulty, Receives, Closes}
 
--- what an action opened, by the number of its request
-abbrev pub opened_by : Action → ℕ → Opening
-opened_by (Open k) r = record { request = r; target = target_name k }
-opened_by action r = record { request = r; target = None }
+-- the upload that an action opened, by the number of its request; no other action opened one
+abbrev pub opened_by : Action → ℕ → Option Opening
+opened_by (Open k) r = Some (record { request = r; target = target_name k })
+opened_by action r = None
 
 -- how the first text of an upload is read
 abbrev pub first_context : Language → Opening → TextContext

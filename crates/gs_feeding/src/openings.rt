@@ -39,15 +39,18 @@ fn target_of(kind: UploadKind) -> Option<GraphName>
 }
 
 impl Opening {
-    /// What an action opened, by the number that the store gave to it. Takes no memory.
-    pub fn by(action: Action, request: u64) -> Opening
+    /// The upload that an action opened, by the number that the store gave to it; no other action
+    /// opened one. Takes no memory.
+    pub fn by(action: Action, request: u64) -> Option<Opening>
         ensures { result ≡ opened_by action request }
     {
-        let target = match action {
-            Action::Open(kind) => target_of(kind),
+        match action {
+            Action::Open(kind) => Some(Opening {
+                request,
+                target: target_of(kind),
+            }),
             _other => None,
-        };
-        Opening { request, target }
+        }
     }
 
     /// The base of the text that is fed to the upload.
