@@ -159,13 +159,13 @@ fn a_run_leaves_what_every_assignment_leaves(rt: HostRuntime) -> Result<(), Fail
 fn many_draws_take_out_some_triples_and_leave_some(rt: HostRuntime) -> Result<(), Fail> {
     let alloc = rt.alloc();
     let mut state = 1;
-    let mut parted = 0;
-    for _ in 0..300u32 {
+    let mut parted: u32 = 0;
+    for _ in 0..300 {
         let graph = drawn_graph(&mut state);
         let patterns = drawn_patterns(alloc, &mut state)?;
         let left = without_instances(&graph, patterns.as_slice());
         if left != graph && left != [false; 64] {
-            parted += 1u32;
+            parted = parted.saturating_add(1);
         }
     }
     assert!(rt; parted >= 100);
