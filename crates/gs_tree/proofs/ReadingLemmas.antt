@@ -71,8 +71,8 @@ module _ (cmp : Key → Key → Ordering) (total : IsTotalOrder cmp) (p : Nodes)
   top_not_past from h = rw s.keys_are (from_not_past cmp total from node.key _ _ h s.rises)
 
   -- the first key above one
-  pub after_left : (key : Key) (found : Option Key) → cmp key node.key ≡ Less → found ≡ first_of (keys_from cmp (Some key) (keys_at p node.left)) → or_else found node.key ≡ first_of (keys_from cmp (Some key) (keys_at p root))
-  after_left key found less is = rw (top_past (Some key) (ap is_less less), is) (sym (first_append _ node.key _))
+  pub after_left : (key : Key) (found : Option Key) → is_less (cmp key node.key) ≡ true → found ≡ first_of (keys_from cmp (Some key) (keys_at p node.left)) → or_else found node.key ≡ first_of (keys_from cmp (Some key) (keys_at p root))
+  after_left key found less is = rw (top_past (Some key) less, is) (sym (first_append _ node.key _))
 
   pub after_right : (key : Key) (found : Option Key) → is_less (cmp key node.key) ≡ false → found ≡ first_of (keys_from cmp (Some key) (keys_at p node.right)) → found ≡ first_of (keys_from cmp (Some key) (keys_at p root))
   after_right key found not_less is = rw (top_not_past (Some key) not_less) is

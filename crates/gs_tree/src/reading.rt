@@ -26,6 +26,16 @@ pub fn contains<O: KeyOrder>(pool: &Pool, order: &O, root: Option<u32>, key: Key
     }
 }
 
+// Whether a key is above the one given, where one is.
+fn is_past<O: KeyOrder>(order: &O, from: Option<Key>, key: Key) -> bool
+    ensures { result ≡ is_past_in (O.compare order.now) from key }
+{
+    match from {
+        None => true,
+        Some(x) => matches!(order.compare(x, key), Ordering::Less),
+    }
+}
+
 /// The least key of a set that is above this one, whether the set has this one or not.
 pub fn after<O: KeyOrder>(pool: &Pool, order: &O, root: Option<u32>, key: Key) -> Option<Key>
     requires { IsReadableAt (O.compare order.now) pool.now root }
@@ -35,26 +45,13 @@ pub fn after<O: KeyOrder>(pool: &Pool, order: &O, root: Option<u32>, key: Key) -
         return None;
     };
     let node = pool.get(id);
-    match order.compare(key, node.key) {
-        Ordering::Less => {
-            let Some(found) = after(pool, order, node.left, key) else {
-                return Some(node.key);
-            };
-            Some(found)
-        }
-        Ordering::Equal => after(pool, order, node.right, key),
-        Ordering::Greater => after(pool, order, node.right, key),
+    if !is_past(order, Some(key), node.key) {
+        return after(pool, order, node.right, key);
     }
-}
-
-// Whether a key is above the one given, where one is.
-fn is_past<O: KeyOrder>(order: &O, from: Option<Key>, key: Key) -> bool
-    ensures { result ≡ is_past_in (O.compare order.now) from key }
-{
-    match from {
-        None => true,
-        Some(x) => matches!(order.compare(x, key), Ordering::Less),
-    }
+    let Some(found) = after(pool, order, node.left, key) else {
+        return Some(node.key);
+    };
+    Some(found)
 }
 
 // Appends the keys above the one given, in order, until there are `end` of them. Takes no memory.

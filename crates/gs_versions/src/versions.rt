@@ -59,7 +59,7 @@ impl Versions {
         requires { seat < length self.now.seats }
         ensures { slice_get self.now.seats seat ≡ Some result }
     {
-        self.pins[seat as usize]
+        self.pins[usize::from(seat)]
     }
 
     /// Pins the current version for a seat, in place of what it had pinned.

@@ -1,0 +1,12 @@
+//! Tests of sets of keys, as trees over a pool, beside a plain table of what is there.
+#![tactic(auto)]
+
+#[cfg(test)]
+mod draws;
+mod number_sets;
+#[cfg(test)]
+mod orders;
+#[cfg(test)]
+mod steps;
+
+pub use number_sets::{ByObject, NumberSet};
