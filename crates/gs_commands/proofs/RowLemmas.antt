@@ -10,8 +10,7 @@ use Rattle.gs_event.specs.declared.events.Event.TheVariants.{Seat as At, Reclaim
 use Rattle.gs_commands.specs.declared.commands.Command.{Command}
 use Rattle.gs_commands.specs.declared.commands.Command.TheVariants.{Nothing, Begin, Ask, Count, Feed, Cut}
 use Rattle.gs_commands.specs.Found.{Finds, SaysNumber}
-use Rattle.gs_upload.specs.declared.languages.Language.{Language}
-use Rattle.gs_commands.specs.Commands.{Says, SaysFeed, SaysNothingAt, SaysStart, is_skipped}
+use Rattle.gs_commands.specs.Commands.{Says, SaysNothingAt, SaysStart, is_skipped}
 use Rattle.gs_commands.proofs.WordLemmas.{first_differs}
 
 tail_same : (c : ℕ) (xs ys : List ℕ) → c ∷ xs ≡ c ∷ ys → xs ≡ ys

@@ -1,5 +1,5 @@
 -- What was fed to a seat, as its text begins, goes on and ends.
-use Rattle.std.proofs.Common.{◌≡◌, ◌≢◌, ℕ, Bool, true, false, cond, List, [], ◌++◌, refl, sym, ap, ◌∙◌, subst, is_some, Option, Some, None, Result, Ok}
+use Rattle.std.proofs.Common.{◌≡◌, ◌≢◌, ℕ, true, false, cond, List, [], ◌++◌, refl, sym, ap, ◌∙◌, subst, is_some, Option, Some, None, Result, Ok}
 use Rattle.std.specs.declared.alloc.AllocError.{AllocError}
 use Rattle.gs_model.specs.Triples.{RdfTriple}
 use Rattle.gs_model.specs.declared.refusals.Refusal.{Refusal}
@@ -17,7 +17,7 @@ use Rattle.gs_feeding.specs.declared.texts.SeatText.{SeatText}
 use Rattle.gs_feeding.specs.declared.texts.SeatText.TheVariants as seat_text
 use Rattle.gs_feeding.specs.declared.openings.Opening.{Opening}
 use Rattle.gs_feeding.specs.Receiving.{Fed, Unfed, InPart, Faulted, Finished, Receives, IsFaulty}
-use Rattle.gs_feeding.specs.SeatTexts.{WasFed, IsBegun, FedInPieces, FeedsText, GoesOnText, EndsText, Ended, first_context}
+use Rattle.gs_feeding.specs.SeatTexts.{WasFed, FedInPieces, FeedsText, GoesOnText, EndsText, Ended, first_context}
 
 -- a body with a fault has no meaning
 fault_faulty : (e : Refusal) (m : Meaning) → HasFault e m → m.1 ≢ Whole

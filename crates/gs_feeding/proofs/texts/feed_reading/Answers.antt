@@ -1,4 +1,4 @@
-use Rattle.std.proofs.Common.{List, [], cond, sym, ap, ◌∙◌, Bool}
+use Rattle.std.proofs.Common.{[], cond, sym, ap, ◌∙◌, Bool}
 use Rattle.gs_feeding.proofs.TextLemmas.{fed_pieces}
 use Rattle.gs_feeding.proofs.texts.feed_reading.Goals as goal
 

@@ -1,4 +1,4 @@
-use Rattle.std.proofs.Common.{Option, Some, None, Ok, ap, ◌∙◌, subst}
+use Rattle.std.proofs.Common.{Option, Ok, ap, ◌∙◌, subst}
 use Rattle.gs_model.specs.declared.refusals.Refusal.{Refusal}
 use Rattle.gs_upload.specs.Readings.{EndsReading}
 use Rattle.gs_upload.specs.Readers.{meaning_of_text, LeadsText, is_closed_text}
