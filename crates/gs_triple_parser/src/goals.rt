@@ -124,7 +124,12 @@ impl<L: Language> TripleParser<L> {
     }
 
     /// A symbol after a `;`.
-    fn semis(&mut self, depth: usize, subject: L::Subject, symbol: Symbol) -> Result<Turn, AllocError>
+    fn semis(
+        &mut self,
+        depth: usize,
+        subject: L::Subject,
+        symbol: Symbol,
+    ) -> Result<Turn, AllocError>
         ensures { Turned L.language result self.new (head_of L.language self.old (Goal.Semis depth subject) symbol.entry) }
     {
         match symbol {

@@ -15,6 +15,7 @@ pub trait Language {
     type Verb: Drop;
     /// What may be the object.
     type Value: Drop;
+
     type Triple: Drop;
 
     // The language of the grammar, and what subjects and verbs stand for in it.

@@ -14,9 +14,7 @@ fn copied(alloc: Global, part: &Part) -> Result<Part, AllocError>
 {
     match part {
         Part::Term(term) => Ok(Part::Term(term.clone()?)),
-        Part::Variable(name) => {
-            Ok(Part::Variable(VariableName::new(alloc, name.as_str())?))
-        }
+        Part::Variable(name) => { Ok(Part::Variable(VariableName::new(alloc, name.as_str())?)) }
     }
 }
 
@@ -24,8 +22,11 @@ impl Language for Patterns {
     ghost use Rattle.gs_triple_parser.specs.Typed.{patterns};
 
     type Subject = Part;
+
     type Verb = Part;
+
     type Value = Part;
+
     type Triple = Pattern;
 
     ghost language = { patterns };

@@ -11,8 +11,11 @@ impl Language for Terms {
     ghost use Rattle.gs_triple_parser.specs.Typed.{terms};
 
     type Subject = Subject;
+
     type Verb = Verb;
+
     type Value = TermText;
+
     type Triple = Triple;
 
     ghost language = { terms };
