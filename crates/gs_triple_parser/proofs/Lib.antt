@@ -3,4 +3,5 @@ pub mod SymbolLemmas
 pub mod ContextLemmas
 pub mod StackLemmas
 pub mod LeaveLemmas
-pub mod TermLemmas
+pub mod LanguageLemmas
+pub mod ValueLemmas
