@@ -1,7 +1,7 @@
 -- A seat's line and a store's line have one reading.
 use Rattle.std.proofs.Common.{◌≡◌, ℕ, ◌≤◌, true, false, cond, ◌==◌, List, [], ◌∷◌, ◌++◌, refl, sym, ap, ◌∙◌, subst, append_assoc, arith, Option, Some, None, ◌⊎◌, inl, inr}
 use Rattle.std.proofs.lemmas.Bool.{eqb-true}
-use Rattle.gs_model.specs.Limits.{last_number}
+use Rattle.gs_model.specs.Limits.{last_number, max_seats}
 use Rattle.gs_model.specs.Terms.{numeral}
 use Rattle.gs_model.specs.Texts.{split_first, number_of}
 use Rattle.gs_model.proofs.TextLemmas.{number_of-numeral, split_first-other, other-numeral}
@@ -84,7 +84,7 @@ pub record IsCut (x seats rest commit request : List ℕ) : Type 0 where
   pub commit_is : commit ≡ (split_first 32 rest).0
   pub request_is : request ≡ (split_first 32 rest).1
 
-pub start_says : (x seats rest commit request : List ℕ) (a b c : ℕ) → IsCut x seats rest commit request → SaysNumber 512 a seats → SaysNumber last_number b commit → SaysNumber last_number c request → ¬ (a ≡ 0) → SaysStart a b c x
+pub start_says : (x seats rest commit request : List ℕ) (a b c : ℕ) → IsCut x seats rest commit request → SaysNumber max_seats a seats → SaysNumber last_number b commit → SaysNumber last_number c request → ¬ (a ≡ 0) → SaysStart a b c x
 start_says x seats rest commit request a b c cut p q r some =
     let filled : ¬ ((split_first 32 rest).1 ≡ []) = λ h. numeral_some c (sym r.0 ∙ cut.request_is ∙ h) in
     let second : rest ≡ numeral b ++ 32 ∷ numeral c = split_first-some 32 rest filled ∙ ap (λ z. z ++ 32 ∷ (split_first 32 rest).1) (sym cut.commit_is ∙ q.0) ∙ ap (λ z. numeral b ++ 32 ∷ z) (sym cut.request_is ∙ r.0) in
@@ -105,7 +105,7 @@ start_cut x seats rest commit request cut a b c says =
 
 -- each number of the line
 pub start_none : (x seats rest commit request : List ℕ) → IsCut x seats rest commit request
-    → (((n : ℕ) → ¬ SaysNumber 512 n seats) ⊎ (((n : ℕ) → ¬ SaysNumber last_number n commit) ⊎ ((n : ℕ) → ¬ SaysNumber last_number n request)))
+    → (((n : ℕ) → ¬ SaysNumber max_seats n seats) ⊎ (((n : ℕ) → ¬ SaysNumber last_number n commit) ⊎ ((n : ℕ) → ¬ SaysNumber last_number n request)))
     → (p : ℕ × ℕ × ℕ) → ¬ SaysStart p.0 p.1 p.2 x
 start_none x seats rest commit request cut (inl none) p says = none p.0 ((start_cut x seats rest commit request cut p.0 p.1 p.2 says).0, says.most)
 start_none x seats rest commit request cut (inr (inl none)) p says = none p.1 ((start_cut x seats rest commit request cut p.0 p.1 p.2 says).1, says.commit_left)

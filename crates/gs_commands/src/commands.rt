@@ -210,7 +210,7 @@ fn read_start(text: &[u8]) -> Option<(u16, u64, u64)>
 {
     let (seats, rest) = split(text, b' ');
     let (commit, request) = split(rest, b' ');
-    let Some(seats) = number(seats, 512) else {
+    let Some(seats) = number(seats, u64::from(MAX_SEATS)) else {
         return None;
     };
     let Some(commit) = number(commit, LAST_NUMBER) else {
