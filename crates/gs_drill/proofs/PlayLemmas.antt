@@ -7,8 +7,8 @@ use Rattle.gs_event.specs.declared.events.Event.{Event}
 use Rattle.gs_event.specs.declared.events.Event.TheVariants.{Seat as At}
 use Rattle.gs_event.specs.declared.events.Action.TheVariants.{Commit}
 use Rattle.gs_commands.specs.declared.commands.Command.{Command}
-use Rattle.gs_drill.specs.declared.drills.Stop.{Stop}
-use Rattle.gs_drill.specs.declared.drills.Stop.TheVariants.{NoCommand, NoMemory, Failed}
+use Rattle.gs_drill.specs.declared.stops.Stop.{Stop}
+use Rattle.gs_drill.specs.declared.stops.Stop.TheVariants.{NoCommand, NoMemory, Failed}
 use Rattle.gs_commands.specs.Commands.{Says, lines_in}
 use Rattle.gs_drill.specs.Feeds.{Desk}
 use Rattle.gs_drill.specs.Commits.{Asks, DoesEvent}

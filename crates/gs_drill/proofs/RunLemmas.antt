@@ -2,8 +2,8 @@
 use Rattle.std.proofs.Common.{◌≡◌, inl, inr, ℕ, List, [], ◌∷◌, ◌++◌, Option, Some, None, Result, Ok, Err, refl, sym, ap, ◌∙◌, subst, append-nil}
 use Rattle.std.specs.Prelude.{IfSome}
 use Rattle.std.specs.Io.KnownBytes.{Appends, Keeps}
-use Rattle.gs_drill.specs.declared.drills.Stop.{Stop}
-use Rattle.gs_drill.specs.declared.drills.Stop.TheVariants.{NoCommand, NoMemory, Failed}
+use Rattle.gs_drill.specs.declared.stops.Stop.{Stop}
+use Rattle.gs_drill.specs.declared.stops.Stop.TheVariants.{NoCommand, NoMemory, Failed}
 use Rattle.gs_commands.specs.Commands.{lines_in}
 use Rattle.gs_drill.specs.Printing.{WritesFront, no_command_text}
 use Rattle.gs_drill.specs.Drills.{IsInput, FinishesRun, SaysStop, Halts, BreaksOff, FailsRun, first_state}

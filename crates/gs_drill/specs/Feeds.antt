@@ -16,7 +16,7 @@ use Rattle.gs_event.specs.Waste.{Shown}
 use Rattle.gs_event.specs.Steps.{Steps}
 use Rattle.gs_upload.specs.declared.languages.Language.{Language}
 use Rattle.gs_upload.specs.Languages.{TextContext}
-use Rattle.gs_feeding.specs.Languages.{first_base}
+use Rattle.gs_feeding.specs.Bases.{first_base}
 use Rattle.gs_feeding.specs.Receiving.{Fed, Unfed, Receives}
 use Rattle.gs_drill.specs.Printing.{answer_text, fed_text}
 

@@ -9,7 +9,7 @@ use Rattle.gs_event.specs.Waste.{Shown}
 use Rattle.gs_event.specs.Histories.{Start}
 use Rattle.gs_feeding.specs.declared.texts.SeatText.{SeatText}
 use Rattle.gs_feeding.specs.declared.openings.Opening.{Opening}
-use Rattle.gs_feeding.specs.Languages.{target_name}
+use Rattle.gs_feeding.specs.Bases.{target_name}
 use Rattle.gs_feeding.specs.Receiving.{Fed, Unfed, Receives, Closes}
 use Rattle.gs_feeding.specs.SeatTexts.{WasFed, first_context}
 use Rattle.gs_drill.specs.declared.uploads.Uploads.{Uploads}

@@ -5,8 +5,8 @@ use Rattle.gs_model.specs.Limits.{last_number, max_seats}
 use Rattle.gs_event.specs.Waste.{Shown}
 use Rattle.gs_commands.specs.declared.commands.Command.{Command}
 use Rattle.gs_commands.specs.declared.commands.Command.TheVariants.{Nothing, Begin, Ask, Count, Feed, Cut}
-use Rattle.gs_drill.specs.declared.drills.Stop.{Stop}
-use Rattle.gs_drill.specs.declared.drills.Stop.TheVariants.{NoCommand, NoMemory, Failed}
+use Rattle.gs_drill.specs.declared.stops.Stop.{Stop}
+use Rattle.gs_drill.specs.declared.stops.Stop.TheVariants.{NoCommand, NoMemory, Failed}
 use Rattle.gs_drill.specs.declared.uploads.Uploads.{Uploads}
 use Rattle.gs_drill.specs.Printing.{Writes, WritesFront, no_command_text, no_memory_text}
 use Rattle.gs_drill.specs.Feeds.{Desk}

@@ -1,20 +1,19 @@
 //! The run of a schedule: each line in turn, and what it prints.
-ghost use Rattle.std.specs.Prelude.{◌≡◌, ◌≢◌, ◌≤◌, ℕ, IfOk, IfErr, OnOk, MatchOption, Some, [], true};
+ghost use Rattle.std.specs.Prelude.{◌≡◌, ◌≢◌, ◌≤◌, ℕ, IfOk, IfErr, OnOk, MatchOption, Some, []};
 ghost use Rattle.std.specs.Io.KnownBytes.{Appends, IsAtEnd};
 ghost use Rattle.gs_model.specs.Limits.{last_number, max_seats};
 ghost use Rattle.gs_event.specs.Datasets.{triples_in};
 ghost use Rattle.gs_event.specs.Waste.{nodes_in};
-ghost use Rattle.gs_drill.specs.Printing.{Writes, WritesFront, reply_text, counts_text, no_command_text, no_memory_text};
+ghost use Rattle.gs_drill.specs.Printing.{reply_text, counts_text, no_memory_text};
 ghost use Rattle.gs_drill.specs.Drills.{drill_start, new_store as new_store_of, FinishesRun, SaysStop, Halts, BreaksOff, FailsRun};
-ghost use Rattle.gs_drill.specs.Taking.{IsInRange, Prints, RepliesText, RepliesFrom, DoesCommand, TakesLine, EndsRun, stop_text};
+ghost use Rattle.gs_drill.specs.Taking.{IsInRange, Prints, RepliesText, RepliesFrom, DoesCommand, TakesLine, EndsRun};
 ghost use Rattle.gs_drill.specs.Feeds.{DoesFeed};
 ghost use Rattle.gs_drill.specs.Commits.{Asks, DoesEvent};
 ghost use Rattle.gs_drill.specs.Standing.{Standing, desk_of, run_state, BeginsStore};
 
 use crate::feeds::{answer, commit, feed};
-use crate::printing::{
-    Reply, print_answer, print_counts, print_no_command, print_no_memory, print_reply,
-};
+use crate::printing::{Reply, print_answer, print_counts, print_reply};
+use crate::stops::{Stop, report};
 use crate::uploads::Uploads;
 use gs_commands::{Command, read_command, split};
 use gs_core::Store;
@@ -25,17 +24,6 @@ use std::io::{self, ErrorKind, Read, Write};
 
 /// The base of the store of a schedule.
 const BASE: &str = "http://localhost";
-
-/// Why a run ends before its last line.
-#[derive(Debug, Drop)]
-pub enum Stop {
-    /// A line is no command where it stands.
-    NoCommand,
-    /// Memory was wanted and not given.
-    NoMemory,
-    /// A write failed.
-    Failed,
-}
 
 /// A store of so many seats, where the last commit number and the last request number were these.
 fn new_store(alloc: Global, seats: u16, commit: u64, request: u64) -> Result<Store, Stop>
@@ -271,51 +259,6 @@ fn read_and_play<R: Read, W: Write>(
                 Err((Stop::Failed, 0))
             }
         }
-    }
-}
-
-/// Says why a run ended early. Of a failed read or write nothing is said.
-fn say<E: Write>(err: &mut E, stop: &Stop, line: u64) -> io::Result<()>
-    ensures { Writes (E.contents err.old) (E.contents err.new) (stop_text stop.now line) result }
-{
-    match stop {
-        Stop::NoCommand => print_no_command(err, line),
-        Stop::NoMemory => print_no_memory(err),
-        Stop::Failed => Ok(()),
-    }
-}
-
-/// Says it, and flushes what was said: whether all of it was written.
-fn say_whole<E: Write>(err: &mut E, stop: &Stop, line: u64) -> bool
-    ensures front { WritesFront (E.contents err.old) (E.contents err.new) (stop_text stop.now line) }
-    ensures whole { result ≡ true
-        → Appends (E.contents err.old) (E.contents err.new) (stop_text stop.now line) }
-{
-    let said = say(err, stop, line);
-    let flushed = err.flush();
-    match (said, flushed) {
-        (Ok(()), Ok(())) => true,
-        _ => false,
-    }
-}
-
-/// Says why a run ended early, and gives its status.
-fn report<E: Write>(err: &mut E, stop: Stop, line: u64) -> u8
-    ensures no_command { result ≡ 2 → (stop ≡ Stop.NoCommand)
-        × Appends (E.contents err.old) (E.contents err.new) (no_command_text line) }
-    ensures no_memory { result ≡ 3 → (stop ≡ Stop.NoMemory)
-        × Appends (E.contents err.old) (E.contents err.new) no_memory_text }
-    ensures failed { result ≡ 1
-        → WritesFront (E.contents err.old) (E.contents err.new) (stop_text stop line) }
-    ensures status { (1 ≤ result) × (result ≤ 3) }
-{
-    if !say_whole(err, &stop, line) {
-        return 1;
-    }
-    match stop {
-        Stop::NoCommand => 2,
-        Stop::NoMemory => 3,
-        Stop::Failed => 1,
     }
 }
 

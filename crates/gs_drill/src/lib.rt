@@ -4,6 +4,7 @@
 mod drills;
 mod feeds;
 mod printing;
+mod stops;
 mod uploads;
 
 pub use drills::drill;

@@ -13,7 +13,7 @@ use Rattle.gs_upload.specs.Readers.{meaning_of_text, LeadsText, is_closed_text, 
 use Rattle.gs_feeding.specs.declared.texts.SeatText.{SeatText}
 use Rattle.gs_feeding.specs.declared.texts.SeatText.TheVariants as seat_text
 use Rattle.gs_feeding.specs.declared.openings.Opening.{Opening}
-use Rattle.gs_feeding.specs.Languages.{base_under, target_name}
+use Rattle.gs_feeding.specs.Bases.{base_under, target_name}
 use Rattle.gs_feeding.specs.Receiving.{Fed, Unfed, InPart, Faulted, Finished, IsFaulty, Receives, Closes}
 
 -- the upload that an action opened, by the number of its request; no other action opened one

@@ -1,7 +1,7 @@
 //! What an upload was opened with.
 ghost use Rattle.std.specs.Prelude.{◌≡◌, true};
 ghost use Rattle.gs_model.specs.Iris.{is_absolute};
-ghost use Rattle.gs_feeding.specs.Languages.{base_under, name_in as name_of, target_name};
+ghost use Rattle.gs_feeding.specs.Bases.{base_under, name_in as name_of, target_name};
 ghost use Rattle.gs_feeding.specs.SeatTexts.{opened_by};
 
 use gs_event::{Action, UploadKind};
