@@ -4,17 +4,18 @@ use Rattle.std.specs.declared.cmp.Ordering.{Ordering}
 use Rattle.std.specs.declared.cmp.Ordering.TheVariants.{Less, Equal, Greater}
 use Rattle.gs_pool.specs.declared.nodes.Key.{Key}
 
+-- each of the keys has this property
 abbrev pub AllKeys : (Key → Type 0) → List Key → Type 0
 AllKeys P [] = Unit {0}
 AllKeys P (x ∷ xs) = P x × AllKeys P xs
 
--- a key's place before another
+-- a key put before, in place of, or after the first of a list
 abbrev pub insert_by : Ordering → Key → Key → List Key → List Key → List Key
 insert_by Less x y ys rest = x ∷ y ∷ ys
 insert_by Equal x y ys rest = y ∷ ys
 insert_by Greater x y ys rest = y ∷ rest
 
--- the keys behind a key's place, without it
+-- a list without its first key, where that is the one asked for
 abbrev pub remove_by : Ordering → Key → List Key → List Key → List Key
 remove_by Less y ys rest = y ∷ ys
 remove_by Equal y ys rest = ys
@@ -44,9 +45,6 @@ module _ (cmp : Key → Key → Ordering) where
   abbrev pub remove_key : Key → List Key → List Key
   remove_key x [] = []
   remove_key x (y ∷ ys) = remove_by (cmp x y) y ys (remove_key x ys)
-
-  abbrev pub IsUsable : Key → Type 0
-  IsUsable x = cmp x x ≡ Equal
 
   -- the keys with each of the run in its place
   abbrev pub merge_keys : List Key → List Key → List Key

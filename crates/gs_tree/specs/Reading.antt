@@ -55,3 +55,11 @@ first_of (x ∷ xs) = Some x
 -- the keys xs, and then those of ys for which there is room up to so many in all
 abbrev pub filled_up : ℕ → List Key → List Key → List Key
 filled_up end xs ys = xs ++ take (end - length xs) ys
+
+-- the keys of a set from a place on were filled up to so many in all
+abbrev pub FillsUp : (Key → Key → Ordering) → Nodes → Option ℕ → Option Key → ℕ → List Key → List Key → Type 0
+FillsUp cmp p root from end xs ys = ys ≡ filled_up end xs (keys_from cmp from (keys_at p root))
+
+-- the keys of a set from a place on were appended, so many of them at most
+abbrev pub Appends : (Key → Key → Ordering) → Nodes → Option ℕ → Option Key → ℕ → List Key → List Key → Type 0
+Appends cmp p root from most xs ys = ys ≡ xs ++ take most (keys_from cmp from (keys_at p root))

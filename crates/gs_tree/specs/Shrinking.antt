@@ -17,6 +17,7 @@ pub record Shrinks (since birth : ℕ) (p q : Nodes) (result : Option ℕ) (t ne
   pub total : room p + in_use p ≤ room q + in_use q + 1
   pub few : in_use q ≤ in_use p + copies since (3 * height t)
 
+-- a node is out of use: an older one is set aside, a young one is free
 pub record Discards (since : ℕ) (p q : Nodes) (id : ℕ) : Type 0 where
   pub step : Step since p q (one id) (λ x. 0)
   pub total : room p + in_use p ≤ room q + in_use q + 1

@@ -11,6 +11,7 @@ plain_mark plain = 1
 plain_mark (aside death whole) = 0
 plain_mark (retired death whole) = 0
 
+-- 1 for a node that is there and plain
 abbrev pub plain_node : Option Node → NodeMark → ℕ
 plain_node None m = 0
 plain_node (Some n) m = plain_mark m

@@ -89,6 +89,7 @@ pub fn lean_left(
     middle
 }
 
+/// The same, where the right tree is two levels higher than the left one.
 pub fn lean_right(
     pool: &mut Pool,
     top: u32,

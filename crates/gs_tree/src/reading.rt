@@ -1,9 +1,9 @@
 //! What is read from a set. Nothing here asks what a node is marked as, so a set that was replaced
 //! or retired can be read as long as its nodes are in use.
-ghost use Rattle.std.specs.Prelude.{◌≡◌, ◌+◌, ◌<◌, ◌≤◌, ◌^◌, ◌++◌, [], ◌∷◌, Some, Option, length, take, vec_len, vec_capacity, IsOk, OnOk, OnErr};
+ghost use Rattle.std.specs.Prelude.{◌≡◌, ◌+◌, ◌<◌, ◌≤◌, ◌^◌, [], ◌∷◌, Some, Option, length, vec_len, vec_capacity, IsOk, OnOk, OnErr};
 ghost use Rattle.std.specs.Bool.{Decides};
 ghost use Rattle.gs_tree.specs.Keys.{HasKey};
-ghost use Rattle.gs_tree.specs.Reading.{IsTreeAt, IsReadableAt, keys_at, is_past as is_past_in, keys_from, first_of, filled_up};
+ghost use Rattle.gs_tree.specs.Reading.{IsTreeAt, IsReadableAt, keys_at, is_past as is_past_in, keys_from, first_of, filled_up, FillsUp, Appends};
 
 use crate::orders::KeyOrder;
 use gs_pool::{Key, Pool};
@@ -61,37 +61,37 @@ fn walk<O: KeyOrder>(
     root: Option<u32>,
     from: Option<Key>,
     end: usize,
-    keys: &mut Vec<Key>,
+    to: &mut Vec<Key>,
 )
     requires set { IsReadableAt (O.compare order.now) pool.now root }
-    requires room { end ≤ vec_capacity keys.old }
-    ensures keys { keys.new.items ≡ filled_up end keys.old.items (keys_from (O.compare order.now) from (keys_at pool.now root)) }
-    ensures capacity { vec_capacity keys.new ≡ vec_capacity keys.old }
+    requires room { end ≤ vec_capacity to.old }
+    ensures keys { FillsUp (O.compare order.now) pool.now root from end to.old.items to.new.items }
+    ensures capacity { vec_capacity to.new ≡ vec_capacity to.old }
 {
     let Some(id) = root else {
         return;
     };
-    if keys.len() >= end {
+    if to.len() >= end {
         return;
     }
     let node = pool.get(id);
     if !is_past(order, from, node.key) {
-        walk(pool, order, node.right, from, end, keys);
+        walk(pool, order, node.right, from, end, to);
         return;
     }
-    walk(pool, order, node.left, from, end, keys);
-    push_below(end, node.key, keys);
-    walk(pool, order, node.right, None, end, keys);
+    walk(pool, order, node.left, from, end, to);
+    push_below(end, node.key, to);
+    walk(pool, order, node.right, None, end, to);
 }
 
 // Appends a key where there are fewer than `end`.
-fn push_below(end: usize, key: Key, keys: &mut Vec<Key>)
-    requires { end ≤ vec_capacity keys.old }
-    ensures keys { keys.new.items ≡ filled_up end keys.old.items (key ∷ []) }
-    ensures capacity { vec_capacity keys.new ≡ vec_capacity keys.old }
+fn push_below(end: usize, key: Key, to: &mut Vec<Key>)
+    requires { end ≤ vec_capacity to.old }
+    ensures keys { to.new.items ≡ filled_up end to.old.items (key ∷ []) }
+    ensures capacity { vec_capacity to.new ≡ vec_capacity to.old }
 {
-    if keys.len() < end {
-        keys.push_reserved(key);
+    if to.len() < end {
+        to.push_reserved(key);
     }
 }
 
@@ -103,16 +103,16 @@ pub fn next_keys<O: KeyOrder>(
     root: Option<u32>,
     from: Option<Key>,
     most: usize,
-    keys: &mut Vec<Key>,
+    to: &mut Vec<Key>,
 ) -> Result<(), AllocError>
     requires { IsReadableAt (O.compare order.now) pool.now root }
-    ensures ok { OnOk result (keys.new.items ≡ keys.old.items ++ take most (keys_from (O.compare order.now) from (keys_at pool.now root))) }
-    ensures kept { OnErr result (keys.new.items ≡ keys.old.items) }
-    ensures had_room { vec_len keys.old + most ≤ vec_capacity keys.old → IsOk result }
+    ensures ok { OnOk result (Appends (O.compare order.now) pool.now root from most to.old.items to.new.items) }
+    ensures kept { OnErr result (to.new.items ≡ to.old.items) }
+    ensures had_room { vec_len to.old + most ≤ vec_capacity to.old → IsOk result }
 {
-    keys.reserve(most)?;
-    let end = keys.len() + most;
-    walk(pool, order, root, from, end, keys);
+    to.reserve(most)?;
+    let end = to.len() + most;
+    walk(pool, order, root, from, end, to);
     Ok(())
 }
 

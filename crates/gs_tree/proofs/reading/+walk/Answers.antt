@@ -12,7 +12,7 @@ walk-requires g t c κs within =
 pub returns-then-not-is_past-clause-keys : goal.returns-then-not-is_past-clause-keys
 returns-then-not-is_past-clause-keys g t c =
     let s = parts (g.O.KeyOrder.compare c.args.order.now) (g.met.O.KeyOrder.total c.args.order.now) c.args.pool.now c.args.root c.in-Some.id c.get-node.result c.requires.set c.in-Some.is c.get-node.ensures in
-    c.walk.ensures.keys ∙ ap (filled_up c.args.end c.args.keys.now.items) (sym (top_not_past (g.O.KeyOrder.compare c.args.order.now) (g.met.O.KeyOrder.total c.args.order.now) c.args.pool.now c.args.root c.get-node.result s c.args.from (sym c.is_past.ensures ∙ c.if-not-is_past.true)))
+    c.walk.ensures.keys ∙ ap (filled_up c.args.end c.args.to.now.items) (sym (top_not_past (g.O.KeyOrder.compare c.args.order.now) (g.met.O.KeyOrder.total c.args.order.now) c.args.pool.now c.args.root c.get-node.result s c.args.from (sym c.is_past.ensures ∙ c.if-not-is_past.true)))
 
 pub walk-requires-2 : goal.walk-requires-2
 walk-requires-2 g t c κs within =
@@ -28,7 +28,7 @@ pub returns-clause-keys : goal.returns-clause-keys
 returns-clause-keys g t c =
     let s = parts (g.O.KeyOrder.compare c.args.order.now) (g.met.O.KeyOrder.total c.args.order.now) c.args.pool.now c.args.root c.in-Some.id c.get-node.result c.requires.set c.in-Some.is c.get-node.ensures in
     let cmp = g.O.KeyOrder.compare c.args.order.now in
-    let xs = c.args.keys.now.items in
+    let xs = c.args.to.now.items in
     let low = keys_from cmp c.args.from (keys_at c.args.pool.now c.get-node.result.left) in
     let high = keys_from cmp None (keys_at c.args.pool.now c.get-node.result.right) in
     let top = c.get-node.result.key in
