@@ -1,5 +1,5 @@
 -- A line that says a late command says no other command that is not late.
-use Rattle.std.proofs.Common.{◌≡◌, ℕ, true, false, ◌==◌, List, [], ◌∷◌, ◌++◌, refl, sym, ap, ◌∙◌, subst}
+use Rattle.std.proofs.Common.{◌≡◌, ℕ, true, false, ◌==◌, List, ◌∷◌, ◌++◌, refl, sym, ap, ◌∙◌, subst}
 use Rattle.std.specs.Prelude.{codes}
 use Rattle.gs_model.specs.Terms.{numeral}
 use Rattle.gs_model.proofs.TextLemmas.{AllOther, other-numeral}

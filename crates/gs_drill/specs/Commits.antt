@@ -1,5 +1,5 @@
 -- What an event does, and what a commit does to an upload to which texts were fed.
-use Rattle.std.specs.Prelude.{◌≡◌, ℕ, List, [], ◌++◌, Option, Some, None}
+use Rattle.std.specs.Prelude.{◌≡◌, ℕ, List, Option, Some, None}
 use Rattle.gs_model.specs.Triples.{RdfTriple}
 use Rattle.gs_event.specs.declared.events.Action.TheVariants.{Commit, Cancel}
 use Rattle.gs_event.specs.declared.events.Event.{Event}
