@@ -8,7 +8,7 @@ use Rattle.gs_lex.specs.declared.kinds.TokenKind.TheVariants as kind
 use Rattle.gs_blank.specs.Numbers.{Numbers}
 use Rattle.gs_body.specs.Bodies.{Statement, end_after}
 use Rattle.gs_body.proofs.LeadingLemmas.{end_after-append}
-use Rattle.gs_triples.specs.Symbols.{Reference, Namespace, Variable, Symbol, AWord, At, Dot, PrefixWord, BaseWord, Foreign, symbol, symbol_of, symbols_of, after_mark}
+use Rattle.gs_triples.specs.Symbols.{Reference, Namespace, Symbol, AWord, At, Dot, PrefixWord, BaseWord, Foreign, symbol, symbol_of, symbols_of}
 use Rattle.gs_document.specs.Contexts.{TurtleContext}
 use Rattle.gs_document.specs.Documents as statement
 use Rattle.gs_document.specs.Documents.{IsStatement, AreStatements}
@@ -23,10 +23,6 @@ own_end n s = n
 kind_end : (k : TokenKind) (x : List ℕ) (n : ℕ) → own_end n (symbol k x n) ≡ n
 kind_end kind.IriRef x n = refl
 kind_end kind.Dot x n = refl
-kind_end kind.Var x n = elim (is_utf8 (after_mark x)) as (λ b. own_end n (if b then AWord (Variable (after_mark x)) else Foreign kind.Var n) ≡ n) [
-  | true ↦ refl
-  | false ↦ refl
-]
 kind_end k x n = refl
 
 token_end : (t : Lexeme) → own_end t.«end» (symbol_of t) ≡ t.«end»

@@ -11,7 +11,7 @@ use Rattle.gs_lex.specs.declared.kinds.TokenKind.{TokenKind}
 use Rattle.gs_lex.specs.declared.kinds.TokenKind.TheVariants as kind
 use Rattle.gs_blank.specs.Numbers.{Numbers}
 use Rattle.gs_body.specs.Bodies.{triples_of}
-use Rattle.gs_triples.specs.Symbols.{Symbol, AWord, At, Reference, Namespace, Variable, Dot, Foreign, symbol, symbol_of, symbols_of, after_mark}
+use Rattle.gs_triples.specs.Symbols.{Symbol, AWord, At, Reference, Namespace, Dot, Foreign, symbol, symbol_of, symbols_of}
 use Rattle.gs_triples.specs.States as triples
 use Rattle.gs_triples.specs.States.{Goes, Ends}
 use Rattle.gs_triples.specs.Machine as triples_machine
@@ -55,16 +55,14 @@ step_quiet (AtDot env n) (Dot e) h = refl
 step_quiet (AtDot env n) t h = refl
 step_quiet (Within s) t h = over_quiet t (triples_machine.step s t) h
 
--- a symbol that is no dot, or one that is foreign
-either_quiet : (b : Bool) (s : Symbol) (k : TokenKind) (e : ℕ) → IsNoDot s → IsNoDot (if b then s else Foreign k e)
-either_quiet true s k e h = h
-either_quiet false s k e h = tt
-
 -- a kind that has a text is no dot
 kind_quiet : (k : TokenKind) (x : List ℕ) (n : ℕ) → has_text k ≡ true → IsNoDot (symbol k x n)
 kind_quiet kind.Dot x n h = absurd (Prim.cc)
-kind_quiet kind.Var x n h = either_quiet (is_utf8 (after_mark x)) (AWord (Variable (after_mark x))) kind.Var n tt
 kind_quiet k x n h = tt
+
+either_quiet : (b : Bool) (s : Symbol) (k : TokenKind) (e : ℕ) → IsNoDot s → IsNoDot (if b then s else Foreign k e)
+either_quiet true s k e h = h
+either_quiet false s k e h = tt
 
 -- tokens that are quiet give no triples
 pub quiet_end : (s : State) (ts : List Lexeme) → AreQuiet ts → triples_of (rest turtle s (symbols_of ts)).0 ≡ []
