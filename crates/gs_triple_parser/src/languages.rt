@@ -36,11 +36,11 @@ pub trait Language {
         ensures { language.verb result ≡ language.grammar.of_term term };
 
     /// A variable of this name, where variables may stand.
-    fn variable(alloc: Global, name: &str) -> Result<Option<Self::Subject>, AllocError>
+    fn variable(alloc: Global, name: &[u8]) -> Result<Option<Self::Subject>, AllocError>
         ensures { IfOk result (λ o. option_map language.subject o ≡ language.grammar.variable name.now) };
 
     /// The same, as a verb.
-    fn verb_variable(alloc: Global, name: &str) -> Result<Option<Self::Verb>, AllocError>
+    fn verb_variable(alloc: Global, name: &[u8]) -> Result<Option<Self::Verb>, AllocError>
         ensures { IfOk result (λ o. option_map language.verb o ≡ language.grammar.variable name.now) };
 
     /// What is a subject, as an object.

@@ -32,11 +32,11 @@ impl Language for Terms {
         Verb { term }
     }
 
-    fn variable(_alloc: Global, _name: &str) -> Result<Option<Subject>, AllocError> {
+    fn variable(_alloc: Global, _name: &[u8]) -> Result<Option<Subject>, AllocError> {
         Ok(None)
     }
 
-    fn verb_variable(_alloc: Global, _name: &str) -> Result<Option<Verb>, AllocError> {
+    fn verb_variable(_alloc: Global, _name: &[u8]) -> Result<Option<Verb>, AllocError> {
         Ok(None)
     }
 

@@ -21,7 +21,7 @@ use std::alloc::{AllocError, Global};
 /// A variable as a verb, where one may stand.
 fn variable_verb<L: Language>(
     alloc: Global,
-    name: &str,
+    name: &[u8],
 ) -> Result<Result<L::Verb, Fault>, AllocError>
     ensures { Stands L.language.verb result (standing (L.language.grammar.variable name.now)) }
 {
@@ -115,7 +115,7 @@ fn label<L: Language>(
 /// A variable as a subject, where one may stand.
 fn variable_subject<L: Language>(
     alloc: Global,
-    name: &str,
+    name: &[u8],
 ) -> Result<Result<L::Subject, Fault>, AllocError>
     ensures { Stands L.language.subject result (standing (L.language.grammar.variable name.now)) }
 {
