@@ -7,7 +7,7 @@ use std::alloc::{AllocError, Global};
 
 /// What triples are made of in a language: the types of their parts, and what tokens give.
 pub trait Language {
-    ghost use Rattle.gs_triple_parser.specs.Languages.{TypedLanguage};
+    ghost use Rattle.gs_triple_parser.specs.Languages.{TypedLanguage, triple_in};
 
     /// What may be the subject of a triple.
     type Subject: Drop;
@@ -49,7 +49,7 @@ pub trait Language {
 
     /// A triple of these parts.
     fn triple(subject: Self::Subject, verb: Self::Verb, object: Self::Value) -> Self::Triple
-        ensures { result ≡ language.grammar.triple (language.subject subject) (language.verb verb) object };
+        ensures { result ≡ triple_in language subject verb object };
 
     /// A triple of a subject and a verb that stay.
     fn next_triple(
@@ -58,5 +58,5 @@ pub trait Language {
         verb: &Self::Verb,
         object: Self::Value,
     ) -> Result<Self::Triple, AllocError>
-        ensures { IfOk result (λ t. t ≡ language.grammar.triple (language.subject subject.now) (language.verb verb.now) object) };
+        ensures { IfOk result (λ t. t ≡ triple_in language subject.now verb.now object) };
 }
