@@ -19,7 +19,7 @@ use Rattle.gs_model.specs.Limits.{max_patterns}
 use Rattle.gs_update_text.specs.Operations.{Scope, Block, in_language, insert_block, delete_block, where_block}
 use Rattle.gs_update_text.specs.Grammar.{IsUpdate, first_scope}
 use Rattle.gs_update_text.specs.Profile as profile
-use Rattle.gs_update_text.specs.Profile.{BeginsOther, AreDotted, Expects, Departs, Leaves, LeavesProfile}
+use Rattle.gs_update_text.specs.Profile.{BeginsOther, AreDotted, Expects, Departs, Departure, LeavesProfile}
 use Rattle.gs_update_text.specs.Blocks.{BlockState, AtTriples, block_run}
 use Rattle.gs_update_text.specs.States.{State, Between, InData, InWhere}
 use Rattle.gs_update_text.specs.Machine.{begun, step, updates, request_of}
@@ -88,12 +88,12 @@ departs_read {env = env} {n = n} (profile.fifth_pattern {xs = xs} {T = T} a b c 
 departs_read (profile.no_pattern a b c e ts) = rejected_rest OutOfProfile ts
 
 -- tokens that leave what is served
-leaves_read : {env : Scope} {n : Numbers} {ts : List Symbol} → Leaves env n ts → (os : List Written) × (rest updates (Between env n) ts ≡ (os, Some OutOfProfile))
-leaves_read {env = env} {n = n} (profile.leaves {next = next} {k = k} {xs = xs} {ys = ys} e d) =
+departure_told : {env : Scope} {n : Numbers} {ts : List Symbol} → Departure env n ts → (os : List Written) × (rest updates (Between env n) ts ≡ (os, Some OutOfProfile))
+departure_told {env = env} {n = n} (profile.departure {next = next} {k = k} {xs = xs} {ys = ys} e d) =
     let more : Precedes env n xs next k = expects_read e in (more.0 ++ [], more.1 ys ∙ ap (joined more.0) (departs_read d))
 
 pub departure_read : (b : List ℕ) (r : ℕ) (ts : List Lexeme) → LeavesProfile b r ts → (os : List Written) × (request_of b r ts ≡ (os, Some OutOfProfile))
-departure_read b r ts h = leaves_read h
+departure_read b r ts h = departure_told h
 
 pub departure_apart : (b : List ℕ) (r : ℕ) (ts : List Lexeme) (os : List Written) → IsUpdate b r ts os → LeavesProfile b r ts → ⊥
 departure_apart b r ts os u h =

@@ -83,9 +83,9 @@ pub data Departs (env : Scope) (n : Numbers) : List Symbol → Type 0 where
       → Departs env n (Foreign kind.Delete a ∷ Foreign kind.Where b ∷ Foreign kind.OpenBrace c ∷ Foreign kind.CloseBrace e ∷ ts)
 
 -- the tokens begin as an update does, up to an operation that is not served
-pub data Leaves (env : Scope) (n : Numbers) : List Symbol → Type 0 where
-  leaves : {next : Scope} {k : Numbers} {xs ys : List Symbol} → Expects env n xs next k → Departs next k ys → Leaves env n (xs ++ ys)
+pub data Departure (env : Scope) (n : Numbers) : List Symbol → Type 0 where
+  departure : {next : Scope} {k : Numbers} {xs ys : List Symbol} → Expects env n xs next k → Departs next k ys → Departure env n (xs ++ ys)
 
 -- the tokens of a text leave what is served, under this base and in this request
 abbrev pub LeavesProfile : List ℕ → ℕ → List Lexeme → Type 0
-LeavesProfile b r ts = Leaves (first_scope b r) no_numbers (symbols_of ts)
+LeavesProfile b r ts = Departure (first_scope b r) no_numbers (symbols_of ts)
