@@ -1,7 +1,9 @@
 pub mod LeadLemmas
 pub mod GrowthLemmas
+pub mod FlatLemmas
 pub mod HeldLemmas
 pub mod BlockLemmas
+pub mod StopLemmas
 pub mod FoundLemmas
 pub mod ExcessLemmas
 pub mod UpdateLemmas

@@ -1,0 +1,319 @@
+-- Where the machine of a block refuses it as out of the profile, the rules say why.
+use Rattle.std.proofs.Common.{◌≡◌, ℕ, zero, suc, ◌≤◌, Bool, true, false, cond, List, [], ◌∷◌, ◌++◌, length, refl, sym, ap, ◌∙◌, append_assoc, append-nil, subst, arith, length-append}
+use Rattle.std.specs.Prelude.{◌||◌, Result, Ok, Err, Option, Some, None}
+use Rattle.std.specs.List.{list_any}
+use Rattle.std.proofs.lemmas.List.Folds.{list_any-append}
+use Rattle.gs_model.specs.Terms.{Term}
+use Rattle.gs_blank.specs.Numbers.{Numbers}
+use Rattle.gs_lex.specs.declared.kinds.TokenKind.TheVariants as kind
+use Rattle.gs_triples.specs.Symbols.{Symbol, AWord, Open, OpenList, At, Carets, Dot, Foreign}
+use Rattle.gs_triples.specs.Meanings.{Fault, Syntax, Context, subject, simple}
+use Rattle.gs_triples.specs.Triples.{AreTriples}
+use Rattle.gs_triples.specs.States as triples
+use Rattle.gs_triples.specs.States.{Frame, ToObject, Opened, Closed, Heading, Held, Typing, Lost, Goes, Ends}
+use Rattle.gs_triples.specs.Goals.{After}
+use Rattle.gs_triples.specs.Machine as triples_machine
+use Rattle.gs_triples.specs.Machine.{begin, opening, put, go_on}
+use Rattle.gs_update_text.specs.Requests.{UpdateOperation, Rejection, Broken, OutOfProfile}
+use Rattle.gs_update_text.specs.Operations.{Block}
+use Rattle.gs_update_text.specs.Grammar.{IsTemplate}
+use Rattle.gs_update_text.specs.Grammar as rule
+use Rattle.gs_update_text.specs.Profile.{EndsString, is_string, ends_in_string, AreDotted}
+use Rattle.gs_update_text.specs.Profile as profile
+use Rattle.gs_update_text.specs.Blocks.{BlockState, AtTriples, WithinTriples, BlockTurn, Takes, Shuts, Stops, Shut, triples_so_far, counted, entered, shut, parted, followed, within, barred, at_triples, moved, settled, departure, block_ended, block_step, block_taken, block_run}
+use Rattle.gs_update_text.proofs.LeadLemmas.{Leads, stay, go, lead_triples}
+use Rattle.gs_update_text.proofs.GrowthLemmas.{NotLost}
+use Rattle.gs_update_text.proofs.BlockLemmas.{block_told}
+use Rattle.gs_update_text.proofs.FlatLemmas.{IsPlain, Flat, Moves, same, astray, over, one, string_on, string_over, flat_moves, flat_next, opening_flat}
+use Rattle.gs_update_text.proofs.FlatLemmas as flat
+
+-- the closing brace
+abbrev brace : ℕ → Symbol
+brace e = Foreign kind.CloseBrace e
+
+-- where these tokens end with a string, whatever stands before them, nothing goes on with it
+abbrev pub Clear : List Symbol → List Symbol → Type 0
+Clear xs us = (z : List Symbol) → ends_in_string (z ++ xs) ≡ true → EndsString us
+
+last_of : (z : List Symbol) (t : Symbol) → ends_in_string (z ++ t ∷ []) ≡ is_string t
+last_of [] t = refl
+last_of (x ∷ []) t = refl
+last_of (x ∷ y ∷ z) t = last_of (y ∷ z) t
+
+-- a token that is no string
+clear_last : (t : Symbol) (us : List Symbol) → is_string t ≡ false → Clear (t ∷ []) us
+clear_last t us q z h = let both : true ≡ false = sym h ∙ last_of z t ∙ q in absurd (cc)
+
+clear_more : (t : Symbol) (xs us : List Symbol) → Clear xs us → Clear (t ∷ xs) us
+clear_more t xs us c z h = c (z ++ t ∷ []) (ap ends_in_string (append_assoc z (t ∷ []) xs) ∙ h)
+
+clear_front : (ys xs us : List Symbol) → Clear xs us → Clear (ys ++ xs) us
+clear_front ys xs us c z h = c (z ++ ys) (ap ends_in_string (append_assoc z ys xs) ∙ h)
+
+-- no token stands after the last
+ends_here : (t : Symbol) (ts : List Symbol) → EndsString (t ∷ []) → EndsString (t ∷ ts)
+ends_here (At x) ts h = elim h [ ]
+ends_here Carets ts h = elim h [ ]
+ends_here t ts h = tt
+
+-- the departure of a block, or this one
+abbrev rejection_or : Rejection → Result Shut Rejection → Rejection
+rejection_or r (Ok d) = r
+rejection_or r (Err e) = e
+
+module _ {Value Triple : Type 0} where
+  -- what a block needs, so that it counts triples without blank nodes alone, and refuses no token that it bars otherwise
+  pub record Guards (b : Block Value Triple) (env : Context Value Triple) : Type 0 where
+    pub plain : (T : List Triple) → b.too_many T ≡ true → IsPlain env
+    pub dots : (e : ℕ) → b.bars (Dot e) ≡ false
+    pub bars : (s : BlockState Value Triple) (t : Symbol) → b.bars t ≡ true → moved b s t ≡ Stops OutOfProfile → ⊥
+
+  -- triples that are one too many
+  pub record IsExcess (b : Block Value Triple) (T : List Triple) : Type 0 where
+    pub before : List Triple
+    pub extra : Triple
+    pub parts : T ≡ before ++ extra ∷ []
+    pub few : b.too_many before ≡ false
+    pub many : b.too_many T ≡ true
+
+  -- within triples: the tokens up to the one that ends them, after which the block is refused, or up to a triple too many
+  pub data StopsWithin (b : Block Value Triple) (P : List Triple) : List Symbol → triples.State Value Triple → Type 0 where
+    passes : {s u : triples.State Value Triple} {xs : List Symbol} {env : Context Value Triple} {T : List Triple} {k : Numbers} (t : Symbol) (us : List Symbol) → Leads s xs u → triples_machine.step u t ≡ Ends env T k
+        → list_any b.bars xs ≡ false → b.too_many (P ++ T) ≡ false → block_told b us (parted b t env (P ++ T) k) ≡ Err OutOfProfile → StopsWithin b P (xs ++ t ∷ us) s
+    exceeds : {s u : triples.State Value Triple} {xs : List Symbol} {env : Context Value Triple} {T : List Triple} {k : Numbers} (us : List Symbol) → Leads s xs u → triples_machine.step u (brace 0) ≡ Ends env T k
+        → IsExcess b (P ++ T) → Clear xs us → StopsWithin b P (xs ++ us) s
+
+  goes_within : (b : Block Value Triple) (P : List Triple) (t : Symbol) (s v : triples.State Value Triple) (ts : List Symbol) → triples_machine.step s t ≡ Goes v → b.bars t ≡ false
+      → StopsWithin b P ts v → StopsWithin b P (t ∷ ts) s
+  goes_within b P t s v ts q free (passes {xs = xs} y us l e new few told) = passes y us (go t q l) e (ap (λ z. z || list_any b.bars xs) free ∙ new) few told
+  goes_within b P t s v ts q free (exceeds {xs = xs} us l e x c) = exceeds us (go t q l) e x (clear_more t xs us c)
+
+  -- a turn that refuses is one of a token that may stand
+  unbarred : (b : Block Value Triple) (ts : List Symbol) (m : BlockTurn Value Triple) (c : Bool) → (c ≡ true → m ≡ Stops OutOfProfile → ⊥) → block_told b ts (cond c (barred m) m) ≡ Err OutOfProfile
+      → (c ≡ false) × (block_told b ts m ≡ Err OutOfProfile)
+  unbarred b ts m false never h = (refl, h)
+  unbarred b ts (Takes s) true never h = absurd (cc)
+  unbarred b ts (Shuts o n e) true never h = absurd (cc)
+  unbarred b ts (Stops (Broken e)) true never h = absurd (cc)
+  unbarred b ts (Stops OutOfProfile) true never h = absurd (never refl refl)
+
+  free_token : (b : Block Value Triple) (env : Context Value Triple) → Guards b env → (s : BlockState Value Triple) (t : Symbol) (ts : List Symbol) → block_told b ts (block_step b s t) ≡ Err OutOfProfile
+      → (b.bars t ≡ false) × (block_told b ts (moved b s t) ≡ Err OutOfProfile)
+  free_token b env g s t ts h = unbarred b ts (moved b s t) (b.bars t) (g.bars s t) h
+
+  -- a state that is entered, or that has too many triples
+  data Entry (b : Block Value Triple) (P : List Triple) (ts : List Symbol) (s : triples.State Value Triple) : Type 0 where
+    goes_in : b.too_many (P ++ triples_so_far s) ≡ false → block_run b ts (WithinTriples P s) ≡ Err OutOfProfile → Entry b P ts s
+    too_full : NotLost s → b.too_many (P ++ triples_so_far s) ≡ true → Entry b P ts s
+
+  counted_entry : (b : Block Value Triple) (P : List Triple) (ts : List Symbol) (s : triples.State Value Triple) (c : Bool) → NotLost s → b.too_many (P ++ triples_so_far s) ≡ c
+      → block_told b ts (cond c (Stops OutOfProfile) (Takes (WithinTriples P s))) ≡ Err OutOfProfile → Entry b P ts s
+  counted_entry b P ts s true n q h = too_full n q
+  counted_entry b P ts s false n q h = goes_in q h
+
+  entry : (b : Block Value Triple) (P : List Triple) (ts : List Symbol) (s : triples.State Value Triple) → block_told b ts (entered b P s) ≡ Err OutOfProfile → Entry b P ts s
+  entry b P ts (Lost e) h = absurd (cc)
+  entry b P ts (Opened env n) h = counted_entry b P ts (Opened env n) (b.too_many (P ++ [])) tt refl h
+  entry b P ts (Closed v env T n) h = counted_entry b P ts (Closed v env T n) (b.too_many (P ++ T)) tt refl h
+  entry b P ts (Heading g fs env T n) h = counted_entry b P ts (Heading g fs env T n) (b.too_many (P ++ T)) tt refl h
+  entry b P ts (Held x fs env T n) h = counted_entry b P ts (Held x fs env T n) (b.too_many (P ++ T)) tt refl h
+  entry b P ts (Typing x fs env T n) h = counted_entry b P ts (Typing x fs env T n) (b.too_many (P ++ T)) tt refl h
+
+  excess_of : (b : Block Value Triple) (P T : List Triple) (o : Triple) → b.too_many (P ++ T) ≡ false → b.too_many (P ++ (T ++ o ∷ [])) ≡ true → IsExcess b (P ++ (T ++ o ∷ []))
+  excess_of b P T o few many = record { before = P ++ T; extra = o; parts = sym (append_assoc P T (o ∷ [])); few = few; many = many }
+
+  both_ways : (b : Block Value Triple) (T U : List Triple) → T ≡ U → b.too_many U ≡ false → b.too_many T ≡ true → ⊥
+  both_ways b T U q few many = let both : false ≡ true = sym few ∙ ap b.too_many (sym q) ∙ many in cc
+
+  -- a string that ends a triple too many
+  string_exceeds : (b : Block Value Triple) (P : List Triple) (env : Context Value Triple) (x : List ℕ) (d : ℕ) (w p : Value) (T : List Triple) (n : Numbers) (l : Term) (us : List Symbol) → simple x ≡ Ok l → EndsString us
+      → b.too_many (P ++ T) ≡ false → b.too_many (P ++ (T ++ env.language.triple w p (env.language.of_term l) ∷ [])) ≡ true → StopsWithin b P us (Held x (ToObject d w p ∷ []) env T n)
+  unfolding triples_machine.step
+  string_exceeds b P env x d w p T n l us q h few many =
+      exceeds us (stay (Held x (ToObject d w p ∷ []) env T n)) (ap (λ z. go_on (brace 0) (put (ToObject d w p ∷ []) env T n z)) q)
+      (excess_of b P T (env.language.triple w p (env.language.of_term l)) few many) (λ z e. h)
+
+  abbrev state_or : triples.State Value Triple → triples.Turn Value Triple → triples.State Value Triple
+  state_or s (Goes u) = u
+  state_or s (Ends env T n) = s
+
+  abbrev triples_or : List Triple → triples.Turn Value Triple → List Triple
+  triples_or P (Goes u) = P
+  triples_or P (Ends env T n) = T
+
+  -- a token after which there are too many triples
+  full_turn : (b : Block Value Triple) (P : List Triple) (env : Context Value Triple) (t : Symbol) (ts : List Symbol) {s : triples.State Value Triple} {m : triples.Turn Value Triple} → Moves env t s m → (v : triples.State Value Triple) → m ≡ Goes v
+      → triples_machine.step s t ≡ Goes v → NotLost v → b.too_many (P ++ triples_so_far s) ≡ false → b.too_many (P ++ triples_so_far v) ≡ true → StopsWithin b P (t ∷ ts) s
+  unfolding triples_machine.step
+  full_turn b P env t ts (same s u f k) v e q n few many =
+      absurd (both_ways b (P ++ triples_so_far v) (P ++ triples_so_far s) (ap (λ z. P ++ z) (ap triples_so_far (sym (ap (state_or s) e)) ∙ k)) few many)
+  full_turn b P env t ts (astray s f) v e q n few many = absurd (subst NotLost (sym (ap (state_or s) e)) n)
+  full_turn b P env t ts (over s n) v e q m few many = absurd (cc)
+  full_turn b P env t ts (one s d w p n o h) v e q m few many =
+      let same : Heading (After d w p) [] env (triples_so_far s ++ o ∷ []) n ≡ v = ap (state_or s) e in
+      exceeds ts (go t (q ∙ ap Goes (sym same)) (stay (Heading (After d w p) [] env (triples_so_far s ++ o ∷ []) n))) refl
+      (excess_of b P (triples_so_far s) o few (ap (λ z. b.too_many (P ++ triples_so_far z)) same ∙ many)) (clear_last t ts h)
+  full_turn b P env t ts (string_on x d w p Q n l u k h f j) v e q m few many =
+      string_exceeds b P env x d w p Q n l (t ∷ ts) k (ends_here t ts h) few
+      (ap (λ z. b.too_many (P ++ z)) (sym j ∙ ap triples_so_far (ap (state_or u) e)) ∙ many)
+  full_turn b P env t ts (string_over x d w p Q n k l e h) v q s m few many = absurd (cc)
+
+  -- a token before which there are too many triples
+  full_end : (b : Block Value Triple) (P : List Triple) (env : Context Value Triple) (t : Symbol) (ts : List Symbol) {s : triples.State Value Triple} {m : triples.Turn Value Triple} → Moves env t s m
+      → (c : Context Value Triple) (T : List Triple) (k : Numbers) → m ≡ Ends c T k → b.too_many (P ++ triples_so_far s) ≡ false → b.too_many (P ++ T) ≡ true → StopsWithin b P (t ∷ ts) s
+  full_end b P env t ts (same s u f k) c T l e few many = absurd (cc)
+  full_end b P env t ts (astray s f) c T l e few many = absurd (cc)
+  full_end b P env t ts (over s n) c T l e few many =
+      absurd (both_ways b (P ++ T) (P ++ triples_so_far s) (ap (λ z. P ++ z) (sym (ap (triples_or T) e))) few many)
+  full_end b P env t ts (one s d w p n o h) c T l e few many = absurd (cc)
+  full_end b P env t ts (string_on x d w p Q n l u k h f j) c T i e few many = absurd (cc)
+  full_end b P env t ts (string_over x d w p Q n k l q h) c T i e few many =
+      string_exceeds b P env x d w p Q n l (t ∷ ts) q (ends_here t ts h) few (ap (λ z. b.too_many (P ++ z)) (ap (triples_or T) e) ∙ many)
+
+  few_departure : (b : Block Value Triple) (P : List Triple) (s : triples.State Value Triple) → b.too_many (P ++ triples_so_far s) ≡ false → departure (counted b P s) ≡ OutOfProfile → ⊥
+  few_departure b P s few h =
+      let both : Broken Syntax ≡ OutOfProfile = sym (ap (λ z. departure (cond z (Stops OutOfProfile) (Takes (WithinTriples P s)))) few) ∙ h in cc
+
+  -- a text that ends within triples
+  not_full : (b : Block Value Triple) (P : List Triple) (s : triples.State Value Triple) → b.too_many (P ++ triples_so_far s) ≡ false → departure (entered b P s) ≡ OutOfProfile → ⊥
+  not_full b P (Lost e) few h = cc
+  not_full b P (Opened env n) few h = few_departure b P (Opened env n) few h
+  not_full b P (Closed v env T n) few h = few_departure b P (Closed v env T n) few h
+  not_full b P (Heading g fs env T n) few h = few_departure b P (Heading g fs env T n) few h
+  not_full b P (Held x fs env T n) few h = few_departure b P (Held x fs env T n) few h
+  not_full b P (Typing x fs env T n) few h = few_departure b P (Typing x fs env T n) few h
+
+  string_end : (b : Block Value Triple) (P : List Triple) (env : Context Value Triple) (x : List ℕ) (d : ℕ) (w p : Value) (T : List Triple) (n : Numbers) (r : Result Term Fault) → simple x ≡ r → b.too_many (P ++ T) ≡ false
+      → b.too_many (P ++ triples_so_far (put (ToObject d w p ∷ []) env T n r)) ≡ true → departure (entered b P (put (ToObject d w p ∷ []) env T n r)) ≡ OutOfProfile → StopsWithin b P [] (Held x (ToObject d w p ∷ []) env T n)
+  string_end b P env x d w p T n (Err e) q few many h = absurd (cc)
+  string_end b P env x d w p T n (Ok l) q few many h = string_exceeds b P env x d w p T n l [] q tt few many
+
+  flat_end : (b : Block Value Triple) (P : List Triple) (env c : Context Value Triple) (x : List ℕ) (fs : List (Frame Value)) (T : List Triple) (n : Numbers) → Flat env (Held x fs c T n) → b.too_many (P ++ T) ≡ false
+      → b.too_many (P ++ triples_so_far (put fs c T n (simple x))) ≡ true → departure (entered b P (put fs c T n (simple x))) ≡ OutOfProfile → StopsWithin b P [] (Held x fs c T n)
+  flat_end b P env _ x _ T n (flat.held _ d w p _ _) few many h = string_end b P env x d w p T n (simple x) refl few many h
+
+  held_end : (b : Block Value Triple) (P : List Triple) (env c : Context Value Triple) → Guards b env → (x : List ℕ) (fs : List (Frame Value)) (T : List Triple) (n : Numbers) → (IsPlain env → Flat env (Held x fs c T n))
+      → b.too_many (P ++ T) ≡ false → departure (entered b P (put fs c T n (simple x))) ≡ OutOfProfile → (m : Bool) → b.too_many (P ++ triples_so_far (put fs c T n (simple x))) ≡ m → StopsWithin b P [] (Held x fs c T n)
+  held_end b P env c g x fs T n f few h true q = flat_end b P env c x fs T n (f (g.plain (P ++ triples_so_far (put fs c T n (simple x))) q)) few q h
+  held_end b P env c g x fs T n f few h false q = absurd (not_full b P (put fs c T n (simple x)) q h)
+
+  text_end : (b : Block Value Triple) (P : List Triple) (env : Context Value Triple) → Guards b env → (s : triples.State Value Triple) → (IsPlain env → Flat env s)
+      → b.too_many (P ++ triples_so_far s) ≡ false → departure (entered b P (settled s)) ≡ OutOfProfile → StopsWithin b P [] s
+  text_end b P env g (Held x fs c T n) f few h = held_end b P env c g x fs T n f few h (b.too_many (P ++ triples_so_far (put fs c T n (simple x)))) refl
+  text_end b P env g s f few h = absurd (not_full b P s few h)
+
+  abbrev Again : Block Value Triple → List Triple → Context Value Triple → List Symbol → Type 0
+  Again b P env ts =
+      (v : triples.State Value Triple) → (IsPlain env → Flat env v) → b.too_many (P ++ triples_so_far v) ≡ false → block_run b ts (WithinTriples P v) ≡ Err OutOfProfile → StopsWithin b P ts v
+
+  goes_stop : (b : Block Value Triple) (P : List Triple) (env : Context Value Triple) → Guards b env → (t : Symbol) (ts : List Symbol) (s v : triples.State Value Triple) → (IsPlain env → Flat env s)
+      → b.too_many (P ++ triples_so_far s) ≡ false → b.bars t ≡ false → triples_machine.step s t ≡ Goes v → Again b P env ts → Entry b P ts v → StopsWithin b P (t ∷ ts) s
+  goes_stop b P env g t ts s v f few free q again (goes_in less run) = goes_within b P t s v ts q free (again v (λ r. flat_next t r (f r) q) less run)
+  goes_stop b P env g t ts s v f few free q again (too_full n many) =
+      let plain : IsPlain env = g.plain (P ++ triples_so_far v) many in
+      full_turn b P env t ts (flat_moves t plain (f plain)) v q q n few many
+
+  ends_stop : (b : Block Value Triple) (P : List Triple) (env : Context Value Triple) → Guards b env → (t : Symbol) (ts : List Symbol) (s : triples.State Value Triple) (c : Context Value Triple) (T : List Triple) (k : Numbers) → (IsPlain env → Flat env s)
+      → b.too_many (P ++ triples_so_far s) ≡ false → triples_machine.step s t ≡ Ends c T k → (m : Bool) → b.too_many (P ++ T) ≡ m
+      → block_told b ts (cond m (Stops OutOfProfile) (parted b t c (P ++ T) k)) ≡ Err OutOfProfile → StopsWithin b P (t ∷ ts) s
+  ends_stop b P env g t ts s c T k f few q false less h = passes t ts (stay s) q refl less h
+  ends_stop b P env g t ts s c T k f few q true many h =
+      let plain : IsPlain env = g.plain (P ++ T) many in
+      full_end b P env t ts (flat_moves t plain (f plain)) c T k q few many
+
+  turn_stop : (b : Block Value Triple) (P : List Triple) (env : Context Value Triple) → Guards b env → (t : Symbol) (ts : List Symbol) (s : triples.State Value Triple) → (IsPlain env → Flat env s)
+      → b.too_many (P ++ triples_so_far s) ≡ false → b.bars t ≡ false → Again b P env ts → (u : triples.Turn Value Triple) → triples_machine.step s t ≡ u
+      → block_told b ts (within b t P u) ≡ Err OutOfProfile → StopsWithin b P (t ∷ ts) s
+  turn_stop b P env g t ts s f few free again (Goes v) q h = goes_stop b P env g t ts s v f few free q again (entry b P ts v h)
+  turn_stop b P env g t ts s f few free again (Ends c T k) q h = ends_stop b P env g t ts s c T k f few q (b.too_many (P ++ T)) refl h
+
+  -- a block that is refused within triples
+  stops_within : (b : Block Value Triple) (P : List Triple) (env : Context Value Triple) → Guards b env → (ts : List Symbol) → Again b P env ts
+  unfolding block_run
+  stops_within b P env g [] s f few h = text_end b P env g s f few (ap (rejection_or OutOfProfile) h)
+  stops_within b P env g (t ∷ ts) s f few h =
+      let (free, k) : (b.bars t ≡ false) × (block_told b ts (within b t P (triples_machine.step s t)) ≡ Err OutOfProfile) = free_token b env g (WithinTriples P s) t ts h in
+      turn_stop b P env g t ts s f few free (stops_within b P env g ts) (triples_machine.step s t) refl k
+
+  -- where triples may begin: a graph, a triple too many, or the end of a block with too few
+  pub data StopsAt (b : Block Value Triple) (env : Context Value Triple) (P : List Triple) (n : Numbers) : List Symbol → Type 0 where
+    at_graph : {k : Numbers} {xs : List Symbol} {T : List Triple} (e : ℕ) (us : List Symbol) → AreDotted env n xs T k → list_any b.bars xs ≡ false → b.too_many (P ++ T) ≡ false
+        → StopsAt b env P n (xs ++ Foreign kind.Graph e ∷ us)
+    at_excess : {k : Numbers} {xs : List Symbol} {T : List Triple} (us : List Symbol) → IsTemplate env n xs T k → IsExcess b (P ++ T) → Clear xs us → StopsAt b env P n (xs ++ us)
+    at_end : {k : Numbers} {xs : List Symbol} {T : List Triple} (e : ℕ) (us : List Symbol) → IsTemplate env n xs T k → b.operation (P ++ T) ≡ None
+        → StopsAt b env P n (xs ++ Foreign kind.CloseBrace e ∷ us)
+
+  -- triples and a dot before it
+  after_dot : {b : Block Value Triple} {env : Context Value Triple} {P T : List Triple} {n k : Numbers} {xs us : List Symbol} (e : ℕ) → AreTriples env n xs T k → list_any b.bars xs ≡ false → b.bars (Dot e) ≡ false
+      → StopsAt b env (P ++ T) k us → StopsAt b env P n (xs ++ Dot e ∷ us)
+  after_dot {b = b} {env = env} {P = P} {T = T} {n = n} {xs = xs} e a new free (at_graph {xs = ys} {T = U} i vs d later few) =
+      subst (StopsAt b env P n) (append_assoc xs (Dot e ∷ ys) (Foreign kind.Graph i ∷ vs))
+      (at_graph i vs (profile.more e a d) (list_any-append b.bars xs (Dot e ∷ ys) ∙ ap (λ z. z || (b.bars (Dot e) || list_any b.bars ys)) new ∙ ap (λ z. z || list_any b.bars ys) free ∙ later)
+      (ap b.too_many (sym (append_assoc P T U)) ∙ few))
+  after_dot {b = b} {env = env} {P = P} {T = T} {n = n} {xs = xs} e a new free (at_excess {xs = ys} {T = U} vs t x c) =
+      subst (StopsAt b env P n) (append_assoc xs (Dot e ∷ ys) vs)
+      (at_excess vs (rule.more e a t) (subst (IsExcess b) (append_assoc P T U) x) (clear_front xs (Dot e ∷ ys) vs (clear_more (Dot e) ys vs c)))
+  after_dot {b = b} {env = env} {P = P} {T = T} {n = n} {xs = xs} e a new free (at_end {xs = ys} {T = U} i vs t none) =
+      subst (StopsAt b env P n) (append_assoc xs (Dot e ∷ ys) (brace i ∷ vs))
+      (at_end i vs (rule.more e a t) (ap b.operation (sym (append_assoc P T U)) ∙ none))
+
+  abbrev StopsLater : ℕ → Block Value Triple → Context Value Triple → Type 0
+  StopsLater f b env = (P : List Triple) (n : Numbers) (ts : List Symbol) → length ts ≤ f → b.too_many P ≡ false → block_run b ts (AtTriples env P n) ≡ Err OutOfProfile → StopsAt b env P n ts
+
+  shut_stop : (b : Block Value Triple) (env : Context Value Triple) (P T : List Triple) (n k : Numbers) (xs us : List Symbol) (e : ℕ) → IsTemplate env n xs T k → (o : Option UpdateOperation) → b.operation (P ++ T) ≡ o
+      → block_told b us (shut o k e) ≡ Err OutOfProfile → StopsAt b env P n (xs ++ brace e ∷ us)
+  shut_stop b env P T n k xs us e t None q h = at_end e us t q
+  shut_stop b env P T n k xs us e t (Some o) q h = absurd (cc)
+
+  -- the token after triples
+  parted_stop : (f : ℕ) (b : Block Value Triple) (env : Context Value Triple) (P T : List Triple) (n k : Numbers) (xs us : List Symbol) (t : Symbol) → Guards b env → StopsLater f b env → AreTriples env n xs T k
+      → list_any b.bars xs ≡ false → b.too_many (P ++ T) ≡ false → length us ≤ f → block_told b us (parted b t env (P ++ T) k) ≡ Err OutOfProfile → StopsAt b env P n (xs ++ t ∷ us)
+  parted_stop f b env P T n k xs us (Dot e) g again a new few size h = after_dot e a new (g.dots e) (again (P ++ T) k us size few h)
+  parted_stop f b env P T n k xs us (Foreign kind.CloseBrace e) g again a new few size h = shut_stop b env P T n k xs us e (rule.last a) (b.operation (P ++ T)) refl h
+  parted_stop f b env P T n k xs us t g again a new few size h = absurd (cc)
+
+  -- triples from their first symbol on
+  triples_stop : (f : ℕ) (b : Block Value Triple) (env : Context Value Triple) (P : List Triple) (n : Numbers) (w : Symbol) (ts : List Symbol) → Guards b env → StopsLater f b env → b.bars w ≡ false → length ts ≤ f
+      → StopsWithin b P ts (opening env n w) → StopsAt b env P n (w ∷ ts)
+  triples_stop f b env P n w ts g again free size (exceeds {xs = xs} us l e x c) = at_excess us (rule.last (lead_triples w (brace 0) l e).1) x (clear_more w xs us c)
+  triples_stop f b env P n w ts g again free size (passes {xs = xs} {env = c} {T = T} {k = k} t us l e new few told) =
+      let (alike, a) : (env ≡ c) × AreTriples env n (w ∷ xs) T k = lead_triples w t l e in
+      parted_stop f b env P T n k (w ∷ xs) us t g again a (ap (λ z. z || list_any b.bars xs) free ∙ new) few (omega (arith, size, length-append xs (t ∷ us)))
+      (ap (λ z. block_told b us (parted b t z (P ++ T) k)) alike ∙ told)
+
+  begin_none : (env : Context Value Triple) (r : Result (Value × Numbers) Fault) → triples_so_far (begin env r) ≡ []
+  begin_none env (Err e) = refl
+  begin_none env (Ok p) = refl
+
+  none_or : (env : Context Value Triple) (n : Numbers) (c : Bool) → triples_so_far (cond c (Opened env n) (Lost Syntax)) ≡ []
+  none_or env n true = refl
+  none_or env n false = refl
+
+  opening_none : (env : Context Value Triple) (n : Numbers) (t : Symbol) → triples_so_far (opening env n t) ≡ []
+  opening_none env n (AWord w) = begin_none env (subject env n w)
+  opening_none env n Open = none_or env n env.language.nodes
+  opening_none env n OpenList = refl
+  opening_none env n t = refl
+
+  first_stop : (f : ℕ) (b : Block Value Triple) (env : Context Value Triple) (P : List Triple) (n : Numbers) (w : Symbol) (ts : List Symbol) → Guards b env → StopsLater f b env → b.bars w ≡ false → b.too_many P ≡ false → length ts ≤ f
+      → Entry b P ts (opening env n w) → StopsAt b env P n (w ∷ ts)
+  first_stop f b env P n w ts g again free few size (goes_in less run) =
+      triples_stop f b env P n w ts g again free size (stops_within b P env g ts (opening env n w) (λ r. opening_flat env n w r) less run)
+  first_stop f b env P n w ts g again free few size (too_full m many) =
+      absurd (both_ways b (P ++ triples_so_far (opening env n w)) P (ap (λ z. P ++ z) (opening_none env n w) ∙ append-nil P) few many)
+
+  at_stop : (f : ℕ) (b : Block Value Triple) (env : Context Value Triple) (P : List Triple) (n : Numbers) (t : Symbol) (ts : List Symbol) → Guards b env → StopsLater f b env → b.bars t ≡ false → b.too_many P ≡ false → length ts ≤ f
+      → block_told b ts (at_triples b t env P n) ≡ Err OutOfProfile → StopsAt b env P n (t ∷ ts)
+  at_stop f b env P n (Foreign kind.CloseBrace e) ts g again free few size h =
+      shut_stop b env P [] n n [] ts e (rule.nothing n) (b.operation (P ++ [])) refl (ap (λ z. block_told b ts (shut (b.operation z) n e)) (append-nil P) ∙ h)
+  at_stop f b env P n (Foreign kind.Graph e) ts g again free few size h = at_graph e ts (profile.nothing n) refl (ap b.too_many (append-nil P) ∙ few)
+  at_stop f b env P n t ts g again free few size h = first_stop f b env P n t ts g again free few size (entry b P ts (opening env n t) h)
+
+  -- a block that is refused
+  pub block_stops : (f : ℕ) (b : Block Value Triple) (env : Context Value Triple) → Guards b env → StopsLater f b env
+  unfolding block_run
+  block_stops f b env g P n [] size few h = absurd (cc)
+  block_stops zero b env g P n (t ∷ ts) size few h = absurd (omega arith)
+  block_stops (suc f) b env g P n (t ∷ ts) size few h =
+      let (free, k) : (b.bars t ≡ false) × (block_told b ts (at_triples b t env P n) ≡ Err OutOfProfile) = free_token b env g (AtTriples env P n) t ts h in
+      at_stop f b env P n t ts g (block_stops f b env g) free few (omega arith) k
