@@ -7,6 +7,8 @@ pub mod StopLemmas
 pub mod FoundLemmas
 pub mod ExcessLemmas
 pub mod UpdateLemmas
+pub mod DepartLemmas
+pub mod WalkLemmas
 pub mod ReadLemmas
 pub mod ProfileLemmas
 mod Examples

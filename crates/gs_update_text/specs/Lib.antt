@@ -3,6 +3,7 @@
 pub mod Requests
 pub mod Operations
 pub mod Grammar
+pub mod Fronts
 pub mod Profile
 pub mod Blocks
 pub mod States
