@@ -1,11 +1,10 @@
 -- Where the block of an operation is refused as out of the profile, the operation departs from it by the rules.
-use Rattle.std.proofs.Common.{◌≡◌, ℕ, ◌+◌, ◌<◌, ◌≤◌, Bool, true, false, cond, List, [], ◌∷◌, ◌++◌, length, refl, sym, ap, ◌∙◌, subst, arith, length-append}
-use Rattle.std.specs.Prelude.{nat_lt, Option, Some, None}
+use Rattle.std.proofs.Common.{◌≡◌, ℕ, ◌+◌, ◌≤◌, true, false, cond, List, [], ◌∷◌, ◌++◌, length, refl, sym, ap, ◌∙◌, subst, arith, length-append}
+use Rattle.std.specs.Prelude.{None}
 use Rattle.std.proofs.lemmas.Bool.{ltb-true, ltb-false}
 use Rattle.gs_model.specs.Limits.{max_patterns}
 use Rattle.gs_model.specs.Terms.{Term}
 use Rattle.gs_model.specs.Triples.{RdfTriple}
-use Rattle.gs_term.specs.declared.patterns.Part.{Part}
 use Rattle.gs_term.specs.declared.patterns.Pattern.{Pattern}
 use Rattle.gs_lex.specs.declared.kinds.TokenKind.TheVariants as kind
 use Rattle.gs_blank.specs.Numbers.{Numbers}
@@ -26,8 +25,9 @@ use Rattle.gs_update_text.specs.Grammar.{IsTemplate}
 use Rattle.gs_update_text.specs.Grammar as rule
 use Rattle.gs_update_text.specs.Profile.{Departs, ends_in_string, EndsString}
 use Rattle.gs_update_text.specs.Profile as profile
-use Rattle.gs_update_text.specs.Blocks.{BlockState, AtTriples, WithinTriples, BlockTurn, Takes, Stops, triples_so_far, counted, entered, within, parted, at_triples, moved}
-use Rattle.gs_update_text.proofs.StopLemmas.{Clear, Guards, IsExcess, StopsAt, at_graph, at_excess, at_end}
+use Rattle.gs_update_text.specs.Blocks.{BlockState, AtTriples, WithinTriples, Takes, Stops, triples_so_far, counted, entered, within, parted, moved}
+use Rattle.gs_update_text.proofs.StopLemmas.{Guards, IsExcess}
+use Rattle.gs_update_text.proofs.RefusalLemmas.{StopsAt, at_graph, at_excess, at_end}
 
 false_true : false ≡ true → ⊥
 false_true h = cc

@@ -1,5 +1,5 @@
 -- A block with too many triples stops, at the last token of the first that is one too many.
-use Rattle.std.proofs.Common.{◌≡◌, ℕ, Bool, true, false, cond, List, [], ◌∷◌, ◌++◌, refl, sym, ap, ◌∙◌, append_assoc, append-nil, subst}
+use Rattle.std.proofs.Common.{◌≡◌, ℕ, Bool, true, false, cond, List, [], ◌∷◌, ◌++◌, refl, sym, ap, ◌∙◌, append_assoc, append-nil}
 use Rattle.std.specs.Prelude.{◌||◌, Result, Ok, Err}
 use Rattle.std.specs.List.{list_any}
 use Rattle.std.proofs.lemmas.Bool.{or_parts}
@@ -22,9 +22,9 @@ use Rattle.gs_update_text.specs.Grammar.{IsTemplate}
 use Rattle.gs_update_text.specs.Grammar as rule
 use Rattle.gs_update_text.specs.Profile.{EndsString, ends_in_string, AreDotted}
 use Rattle.gs_update_text.specs.Profile as profile
-use Rattle.gs_update_text.specs.Blocks.{BlockState, AtTriples, WithinTriples, BlockTurn, Takes, Stops, Shut, triples_so_far, counted, entered, within, parted, followed, barred, at_triples, moved, block_step, departure, settled, block_ended, block_taken, block_run}
+use Rattle.gs_update_text.specs.Blocks.{AtTriples, WithinTriples, Takes, Stops, Shut, triples_so_far, counted, entered, within, parted, departure, block_run}
 use Rattle.gs_update_text.proofs.LeadLemmas.{Leads, stay, go, LeadTriples, triples_lead}
-use Rattle.gs_update_text.proofs.GrowthLemmas.{Extends, NotLost, leads_grow}
+use Rattle.gs_update_text.proofs.GrowthLemmas.{NotLost, leads_grow}
 use Rattle.gs_update_text.proofs.HeldLemmas.{IsHeld, held_last, dot_ends}
 use Rattle.gs_update_text.proofs.BlockLemmas.{Bounds, block_told, stands, first_enters, block_triples, Parts}
 
@@ -182,7 +182,7 @@ module _ {Value Triple : Type 0} where
   dotted_run {env = env} b bounds P us (profile.nothing n) new free few = ap (λ z. block_run b us (AtTriples env z n)) (sym (append-nil P))
   dotted_run {env = env} {n = n} b bounds P us (profile.more {l = l} {xs = xs} {ys = ys} {T = T} {U = U} e a r) new free few =
       let (here, later) : (list_any b.bars xs ≡ false) × ((b.bars (Dot e) || list_any b.bars ys) ≡ false) =
-          or_parts (list_any b.bars xs) (b.bars (Dot e) || list_any b.bars ys) (sym (list_any-append b.bars xs (Dot e ∷ ys)) ∙ new) in
+      or_parts (list_any b.bars xs) (b.bars (Dot e) || list_any b.bars ys) (sym (list_any-append b.bars xs (Dot e ∷ ys)) ∙ new) in
       let there : list_any b.bars ys ≡ false = (or_parts (b.bars (Dot e)) (list_any b.bars ys) later).1 in
       let both : b.too_many ((P ++ T) ++ U) ≡ false = ap b.too_many (append_assoc P T U) ∙ few in
       ap (λ z. block_run b z (AtTriples env P n)) (append_assoc xs (Dot e ∷ ys) us)

@@ -1,20 +1,19 @@
 -- Triples without blank nodes and without lone collections, as their machine reads them: its stack has at most one frame,
 -- and a token ends at most one triple.
-use Rattle.std.proofs.Common.{◌≡◌, ℕ, Bool, true, false, cond, List, [], ◌∷◌, ◌++◌, refl, sym, ap, ◌∙◌, subst}
+use Rattle.std.proofs.Common.{◌≡◌, ℕ, Bool, true, false, cond, List, [], ◌∷◌, ◌++◌, refl, sym, ap, subst}
 use Rattle.std.specs.Prelude.{codes, ◌&&◌, Result, Ok, Err}
 use Rattle.gs_model.specs.Terms.{Term}
-use Rattle.gs_blank.specs.Numbers.{Numbers, one_more}
-use Rattle.gs_triples.specs.Symbols.{Symbol, AWord, Text, At, Carets, Open, Close, OpenList, CloseList, Semicolon, Comma}
+use Rattle.gs_blank.specs.Numbers.{Numbers}
+use Rattle.gs_triples.specs.Symbols.{Symbol, AWord, Text, At, Carets, Open, OpenList, CloseList, Semicolon, Comma}
 use Rattle.gs_triples.specs.Meanings as meaning
 use Rattle.gs_triples.specs.Meanings.{Fault, Syntax, Context, blank, rdf_value, tagged, typed, simple}
-use Rattle.gs_triples.specs.Goals.{Goal, Object, Inside, Verbs, After, Semis, Begun, Items, may_open, may_open_node, next_number}
+use Rattle.gs_triples.specs.Goals.{Object, Verbs, After, Semis, Begun, may_open, may_open_node}
 use Rattle.gs_triples.specs.Reading.{begins_verb}
 use Rattle.gs_triples.specs.Program.{stands_alone, has_triple}
-use Rattle.gs_triples.specs.States.{Frame, ToObject, ToFirst, ToVerbs, State, Opened, Closed, Heading, Held, Typing, Lost, Turn, Goes, Ends}
-use Rattle.gs_triples.specs.Machine.{give, leave, give_token, put, object, after_verb, at_verb, first_object, head, go_on, begin, opening, step}
+use Rattle.gs_triples.specs.States.{Frame, ToObject, ToVerbs, State, Opened, Heading, Held, Typing, Lost, Turn, Goes, Ends}
+use Rattle.gs_triples.specs.Machine.{give_token, put, object, after_verb, first_object, head, go_on, begin, opening, step}
 use Rattle.gs_update_text.specs.Profile.{EndsString, is_string}
 use Rattle.gs_update_text.specs.Blocks.{triples_so_far}
-use Rattle.gs_update_text.proofs.LeadLemmas.{Leads, stay, go}
 
 module _ {Value Triple : Type 0} where
   -- no blank nodes may stand, and no collections alone

@@ -4,11 +4,14 @@ pub mod FlatLemmas
 pub mod HeldLemmas
 pub mod BlockLemmas
 pub mod StopLemmas
+pub mod RefusalLemmas
 pub mod FoundLemmas
 pub mod ExcessLemmas
 pub mod UpdateLemmas
 pub mod DepartLemmas
 pub mod WalkLemmas
 pub mod ReadLemmas
+pub mod FrontLemmas
+pub mod PlaceLemmas
 pub mod ProfileLemmas
 mod Examples

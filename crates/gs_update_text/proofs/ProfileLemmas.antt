@@ -1,12 +1,8 @@
 -- The machine refuses as out of the profile just what the rules say is not served.
-use Rattle.std.proofs.Common.{◌≡◌, ℕ, ◌+◌, ◌<◌, ◌≤◌, Bool, true, false, List, [], ◌∷◌, ◌++◌, length, refl, sym, ap, ◌∙◌, append_assoc, append-nil, subst, arith}
-use Rattle.std.specs.Prelude.{nat_lt, Result, Ok, Err, Option, Some, None}
+use Rattle.std.proofs.Common.{◌≡◌, ℕ, false, List, [], ◌∷◌, ◌++◌, length, refl, sym, ap, ◌∙◌, append_assoc, append-nil, subst, arith}
+use Rattle.std.specs.Prelude.{Err, Some, None}
 use Rattle.std.specs.List.{list_any}
 use Rattle.std.proofs.lemmas.Bool.{le-ltb, lt-ltb}
-use Rattle.gs_model.specs.Terms.{Term}
-use Rattle.gs_model.specs.Triples.{RdfTriple}
-use Rattle.gs_term.specs.declared.patterns.Part.{Part}
-use Rattle.gs_term.specs.declared.patterns.Pattern.{Pattern}
 use Rattle.gs_lex.specs.Tokens.{Lexeme}
 use Rattle.gs_lex.specs.declared.kinds.TokenKind.{TokenKind}
 use Rattle.gs_lex.specs.declared.kinds.TokenKind.TheVariants as kind

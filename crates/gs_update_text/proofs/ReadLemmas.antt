@@ -1,29 +1,19 @@
 -- Where the machine says operations of all tokens, the rules say them too.
-use Rattle.std.proofs.Common.{◌≡◌, ℕ, zero, suc, ◌≤◌, Bool, true, false, List, [], ◌∷◌, ◌++◌, length, refl, sym, ap, ◌∙◌, append_assoc, append-nil, subst, arith, length-append}
-use Rattle.std.specs.Prelude.{nat_lt, Result, Ok, Err, Option, Some, None}
-use Rattle.std.proofs.lemmas.Bool.{ltb-false}
-use Rattle.std.proofs.lemmas.List.{length-map}
-use Rattle.gs_model.specs.Terms.{Term}
-use Rattle.gs_model.specs.Triples.{RdfTriple}
-use Rattle.gs_term.specs.declared.patterns.Part.{Part}
-use Rattle.gs_term.specs.declared.patterns.Pattern.{Pattern}
+use Rattle.std.proofs.Common.{◌≡◌, ℕ, List, ◌∷◌, length, sym, ap, ◌∙◌, arith}
+use Rattle.std.specs.Prelude.{Some, None}
 use Rattle.gs_lex.specs.Tokens.{Lexeme}
-use Rattle.gs_lex.specs.declared.kinds.TokenKind.TheVariants as kind
-use Rattle.gs_machine.specs.Machines.{joined, rest}
-use Rattle.gs_blank.specs.Numbers.{Numbers, no_numbers}
-use Rattle.gs_triples.specs.Symbols.{Symbol, AWord, Reference, Namespace, Dot, Semicolon, PrefixWord, BaseWord, Foreign, symbol_of, symbols_of}
-use Rattle.gs_triples.specs.Meanings.{Syntax}
+use Rattle.gs_machine.specs.Machines.{rest}
+use Rattle.gs_blank.specs.Numbers.{Numbers}
+use Rattle.gs_triples.specs.Symbols.{Symbol, AWord, Reference, Namespace, PrefixWord, BaseWord}
 use Rattle.gs_triples.specs.Directives.{with_prefix, with_base}
-use Rattle.gs_update_text.specs.Requests.{UpdateOperation, Inserts, DeletesData, DeletesWhere, Rejection, Broken, OutOfProfile, Written, Request}
-use Rattle.gs_model.specs.Limits.{max_patterns}
-use Rattle.gs_update_text.specs.Operations.{Scope, Block, inserted, deleted, sought, in_language, insert_block, delete_block, where_block, some_patterns}
+use Rattle.gs_update_text.specs.Requests.{Rejection, Written, Request}
+use Rattle.gs_update_text.specs.Operations.{Scope}
 use Rattle.gs_update_text.specs.Grammar as rule
 use Rattle.gs_update_text.specs.Grammar.{IsTemplate, IsPrologue, IsOperation, AreOperations, IsUpdate, braced, first_scope}
-use Rattle.gs_update_text.specs.Blocks.{BlockState, AtTriples, Shut, block_run}
-use Rattle.gs_update_text.specs.States.{Form, InsertData, DeleteData, DeleteWhere, State, Between, InPrefix, InPrefixIri, InBase, AfterInsert, AfterDelete, AtBrace, InData, InWhere, After, Rejected, block_of}
-use Rattle.gs_update_text.specs.Machine.{syntax_fault, prefaced, begun, inserting, deleting, opened, step, ended, updates, request_of}
+use Rattle.gs_update_text.specs.States.{Between}
+use Rattle.gs_update_text.specs.Machine.{updates, request_of}
 use Rattle.gs_update_text.proofs.WalkLemmas.{Reads, walk}
-use Rattle.gs_update_text.proofs.UpdateLemmas.{rejected_rest, written, after_block, Holds, block_rest, holds_data, holds_where, operations_read}
+use Rattle.gs_update_text.proofs.UpdateLemmas.{operations_read}
 
 no_departure : {r : Rejection} → Some r ≡ None → ⊥
 no_departure h = cc
@@ -40,7 +30,6 @@ prefix_first : {env next : Scope} {n : Numbers} {us : List Symbol} {os : List Wr
 prefix_first x i e q (rule.prologue p) = rule.prologue (rule.prefix x i e q p)
 prefix_first x i e q (rule.operation p o) = rule.operation (rule.prefix x i e q p) o
 prefix_first x i e q (rule.more p o r) = rule.more (rule.prefix x i e q p) o r
-
 
 whole : Reads None AreOperations
 whole = record {

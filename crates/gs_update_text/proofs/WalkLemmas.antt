@@ -1,21 +1,16 @@
 -- What the machine says of a list of tokens, whatever it ends with, the rules say too.
-use Rattle.std.proofs.Common.{◌≡◌, ℕ, zero, suc, ◌≤◌, Bool, true, false, List, [], ◌∷◌, ◌++◌, length, refl, sym, ap, ◌∙◌, append_assoc, append-nil, subst, arith, length-append}
-use Rattle.std.specs.Prelude.{nat_lt, Result, Ok, Err, Option, Some, None}
+use Rattle.std.proofs.Common.{◌≡◌, ℕ, zero, suc, ◌≤◌, false, List, [], ◌∷◌, ◌++◌, length, refl, sym, ap, ◌∙◌, append_assoc, append-nil, subst, arith, length-append}
+use Rattle.std.specs.Prelude.{Result, Ok, Err, Option, Some, None}
 use Rattle.std.proofs.lemmas.Bool.{ltb-false}
-use Rattle.std.proofs.lemmas.List.{length-map}
-use Rattle.gs_model.specs.Terms.{Term}
-use Rattle.gs_model.specs.Triples.{RdfTriple}
-use Rattle.gs_term.specs.declared.patterns.Part.{Part}
 use Rattle.gs_term.specs.declared.patterns.Pattern.{Pattern}
-use Rattle.gs_lex.specs.Tokens.{Lexeme}
 use Rattle.gs_lex.specs.declared.kinds.TokenKind.{TokenKind}
 use Rattle.gs_lex.specs.declared.kinds.TokenKind.TheVariants as kind
 use Rattle.gs_machine.specs.Machines.{joined, rest}
-use Rattle.gs_blank.specs.Numbers.{Numbers, no_numbers}
-use Rattle.gs_triples.specs.Symbols.{Symbol, AWord, Reference, Namespace, Dot, Semicolon, PrefixWord, BaseWord, Foreign, symbol_of, symbols_of}
+use Rattle.gs_blank.specs.Numbers.{Numbers}
+use Rattle.gs_triples.specs.Symbols.{Symbol, AWord, Reference, Namespace, Dot, Semicolon, PrefixWord, BaseWord, Foreign}
 use Rattle.gs_triples.specs.Meanings.{Syntax}
 use Rattle.gs_triples.specs.Directives.{with_prefix, with_base}
-use Rattle.gs_update_text.specs.Requests.{UpdateOperation, Inserts, DeletesData, DeletesWhere, Rejection, Broken, OutOfProfile, Written, Request}
+use Rattle.gs_update_text.specs.Requests.{UpdateOperation, DeletesWhere, Rejection, Broken, OutOfProfile, Written, Request}
 use Rattle.gs_model.specs.Limits.{max_patterns}
 use Rattle.gs_update_text.specs.Operations.{Scope, Block, inserted, deleted, sought, in_language, insert_block, delete_block, where_block, some_patterns}
 use Rattle.gs_update_text.specs.Grammar as rule
@@ -24,11 +19,11 @@ use Rattle.gs_update_text.specs.Profile as profile
 use Rattle.gs_update_text.specs.Profile.{BeginsOther, Departs}
 use Rattle.gs_update_text.specs.Blocks.{BlockState, AtTriples, Shut, block_run}
 use Rattle.gs_update_text.specs.States.{Form, InsertData, DeleteData, DeleteWhere, State, Between, InPrefix, InPrefixIri, InBase, AfterInsert, AfterDelete, AtBrace, InData, InWhere, After, Rejected, block_of}
-use Rattle.gs_update_text.specs.Machine.{syntax_fault, prefaced, begun, inserting, deleting, opened, step, ended, updates, request_of}
-use Rattle.gs_update_text.proofs.StopLemmas.{block_stops}
+use Rattle.gs_update_text.specs.Machine.{prefaced, step, ended, updates}
+use Rattle.gs_update_text.proofs.RefusalLemmas.{block_stops}
 use Rattle.gs_update_text.proofs.DepartLemmas.{insert_guards, delete_guards, where_guards, insert_departs, delete_departs, where_departs}
 use Rattle.gs_update_text.proofs.FoundLemmas.{Found, template_found}
-use Rattle.gs_update_text.proofs.UpdateLemmas.{rejected_rest, written, after_block, Holds, block_rest, holds_data, holds_where, operations_read}
+use Rattle.gs_update_text.proofs.UpdateLemmas.{rejected_rest, written, after_block, Holds, block_rest, holds_data, holds_where}
 
 -- the tokens from where an operation is expected, which the machine refuses so: those out of the profile by the rules
 abbrev pub Stopped : Scope → Numbers → List Symbol → Rejection → Type 0

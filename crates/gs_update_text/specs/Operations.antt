@@ -1,7 +1,6 @@
 -- What may stand in the blocks of an update's operations (SPARQL 1.1 Query, 21 March 2013, section 19.8, notes 8 to 10):
 -- a language of triples for each, the labels that may not stand again, and how many triples there may be.
-use Rattle.std.specs.Prelude.{ℕ, Bool, true, false, not, List, [], ◌∷◌, length, nat_lt, codes, Option, Some, None, option_map, is_some, option_and_then}
-use Rattle.std.specs.List.{list_any}
+use Rattle.std.specs.Prelude.{ℕ, Bool, true, false, List, [], ◌∷◌, length, nat_lt, codes, Option, Some, None, is_some, option_and_then}
 use Rattle.gs_model.specs.Limits.{max_patterns}
 use Rattle.gs_model.specs.Terms.{Term}
 use Rattle.gs_model.specs.Triples.{RdfTriple}

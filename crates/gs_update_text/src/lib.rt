@@ -3,4 +3,6 @@
 
 mod laws;
 
-pub use laws::{departure_is_refused, update_has_one_meaning, update_is_read};
+pub use laws::{
+    departure_ends_the_longest_front, departure_is_refused, update_has_one_meaning, update_is_read,
+};
