@@ -14,4 +14,5 @@ pub mod ReadLemmas
 pub mod FrontLemmas
 pub mod PlaceLemmas
 pub mod ProfileLemmas
+pub mod TextLemmas
 mod Examples

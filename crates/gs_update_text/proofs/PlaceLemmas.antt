@@ -91,7 +91,7 @@ operation_end (rule.insert_data a b i e new t) c = block_end c i e t
 operation_end (rule.delete_data a b i e t) c = block_end c i e t
 operation_end (rule.delete_where a b i e t some few) c = block_end c i e t
 
-operations_end : {env : Scope} {n : Numbers} {xs : List Symbol} {os : List Written} → AreOperations env n xs os → (c : ℕ) → last_brace c xs ≡ end_of_last c os
+pub operations_end : {env : Scope} {n : Numbers} {xs : List Symbol} {os : List Written} → AreOperations env n xs os → (c : ℕ) → last_brace c xs ≡ end_of_last c os
 operations_end (rule.prologue p) c = prologue_none p c
 operations_end (rule.operation {xs = xs} {ys = ys} p o) c = last_brace-append c xs ys ∙ operation_end o (last_brace c xs)
 operations_end (rule.more {xs = xs} {ys = ys} {zs = zs} {o = o} p a r) c =
