@@ -28,54 +28,54 @@ use Rattle.gs_update_text.specs.Machine.{updates, step, ended}
 use Rattle.gs_update_text.proofs.UpdateLemmas.{written}
 
 -- what these symbols say
-abbrev says : List Symbol → Request
+abbrev pub says : List Symbol → Request
 says ts = rest updates (Between (first_scope (codes "http://e/g") 1) no_numbers) ts
 
 -- a word or a brace that ends there
-abbrev mark : TokenKind → ℕ → Symbol
+abbrev pub mark : TokenKind → ℕ → Symbol
 mark k e = Foreign k e
 
-abbrev insert_data : List Symbol → ℕ → List Symbol
+abbrev pub insert_data : List Symbol → ℕ → List Symbol
 insert_data ts e = mark kind.Insert 6 ∷ mark kind.Data 11 ∷ mark kind.OpenBrace 13 ∷ ts ++ mark kind.CloseBrace e ∷ []
 
-abbrev delete_data : List Symbol → ℕ → List Symbol
+abbrev pub delete_data : List Symbol → ℕ → List Symbol
 delete_data ts e = mark kind.Delete 6 ∷ mark kind.Data 11 ∷ mark kind.OpenBrace 13 ∷ ts ++ mark kind.CloseBrace e ∷ []
 
-abbrev delete_where : List Symbol → ℕ → List Symbol
+abbrev pub delete_where : List Symbol → ℕ → List Symbol
 delete_where ts e = mark kind.Delete 6 ∷ mark kind.Where 12 ∷ mark kind.OpenBrace 14 ∷ ts ++ mark kind.CloseBrace e ∷ []
 
 -- `<http://e/a>`, `<http://e/p>`, a number, and variables
-abbrev a : Symbol
+abbrev pub a : Symbol
 a = AWord (Reference (codes "<http://e/a>") 0)
 
-abbrev p : Symbol
+abbrev pub p : Symbol
 p = AWord (Reference (codes "<http://e/p>") 0)
 
-abbrev one : Symbol
+abbrev pub one : Symbol
 one = AWord (Plain (codes "1") (xsd (codes "integer")))
 
-abbrev v : List ℕ → Symbol
+abbrev pub v : List ℕ → Symbol
 v x = AWord (Variable x)
 
 -- their terms
-abbrev ta : Term
+abbrev pub ta : Term
 ta = Iri (codes "http://e/a")
 
-abbrev tp : Term
+abbrev pub tp : Term
 tp = Iri (codes "http://e/p")
 
-abbrev integer : List ℕ → Term
+abbrev pub integer : List ℕ → Term
 integer x = Literal x (Typed (xsd (codes "integer")))
 
-abbrev rdf_type : Term
+abbrev pub rdf_type : Term
 rdf_type = rdf (codes "type")
 
 -- `?s ?p ?o`
-abbrev spo : List Symbol
+abbrev pub spo : List Symbol
 spo = v (codes "s") ∷ v (codes "p") ∷ v (codes "o") ∷ []
 
 -- `DELETE WHERE { ?s ?p ?o }` that ends after 20 bytes
-abbrev any : Written
+abbrev pub any : Written
 any = written (DeletesWhere (pattern (Unknown (codes "s")) (Unknown (codes "p")) (Unknown (codes "o")) ∷ [])) 20
 
 -- an empty text is an update without operations

@@ -15,4 +15,7 @@ pub mod FrontLemmas
 pub mod PlaceLemmas
 pub mod ProfileLemmas
 pub mod TextLemmas
-mod Examples
+pub mod Examples
+mod MoreExamples
+mod LabelExamples
+mod TextExamples

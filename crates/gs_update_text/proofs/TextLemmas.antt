@@ -1,5 +1,5 @@
 -- What a text says, by the tokens that it is cut into.
-use Rattle.std.proofs.Common.{◌≡◌, ℕ, ◌≤◌, true, List, [], ◌∷◌, ◌++◌, length, refl, sym, ap, ◌∙◌, subst, arith, take}
+use Rattle.std.proofs.Common.{◌≡◌, ℕ, true, List, ◌++◌, length, refl, sym, ap, ◌∙◌, subst, arith, take}
 use Rattle.std.specs.Prelude.{Option, Some, None}
 use Rattle.std.proofs.Math.Seq.{take-append_seam}
 use Rattle.gs_lex.specs.Tokens as lexer
@@ -13,8 +13,7 @@ use Rattle.gs_triples.specs.Symbols.{Symbol}
 use Rattle.gs_triples.specs.Meanings.{Fault, Syntax}
 use Rattle.gs_update_text.specs.Requests.{Rejection, Broken, OutOfProfile, Written, Request, IsBroken}
 use Rattle.gs_update_text.specs.Operations.{Scope}
-use Rattle.gs_update_text.specs.Grammar.{AreOperations}
-use Rattle.gs_update_text.specs.Fronts.{AreLongest, AreBeforeFault, last_brace}
+use Rattle.gs_update_text.specs.Fronts.{AreLongest, AreBeforeFault}
 use Rattle.gs_update_text.specs.States.{Between}
 use Rattle.gs_update_text.specs.Machine.{updates, request_of}
 use Rattle.gs_update_text.specs.Texts.{ended_by, request_by, SaysBroken, IsUpdateText, LeavesText, IsBrokenAfter, BreaksAfter}
@@ -118,8 +117,8 @@ pub broken_covered : (b : List ℕ) (r : ℕ) (x : List ℕ) (os : List Written)
 broken_covered b r x os h =
     let said : Request = request_by b r x in
     let same : said.0 ≡ os =
-        ap (λ (z : Request). z.0) (text_cut b r x h.lexemes h.ending h.cut) ∙ ended_says h.ending (request_of b r h.lexemes)
-        ∙ longest_once _ _ _ (request_of b r h.lexemes).0 os (longest_said b r h.lexemes) h.longest in
+    ap (λ (z : Request). z.0) (text_cut b r x h.lexemes h.ending h.cut) ∙ ended_says h.ending (request_of b r h.lexemes)
+    ∙ longest_once _ _ _ (request_of b r h.lexemes).0 os (longest_said b r h.lexemes) h.longest in
     by_ending b r x os h said.1 (ap (λ z. let p : Request = (z, said.1) in p) same)
 
 pub broken_placed : (b : List ℕ) (r : ℕ) (x : List ℕ) (at : ℕ) → IsBroken (request_by b r x) at → BreaksAfter b r x at

@@ -1,11 +1,11 @@
 -- What the text of an update says (SPARQL 1.1 Update, 21 March 2013, by the rules of SPARQL 1.1 Query, section 19.8): the
 -- operations of its tokens, up to the first departure.
-use Rattle.std.specs.Prelude.{◌≡◌, ℕ, true, List, Option, Some, None}
+use Rattle.std.specs.Prelude.{◌≡◌, ℕ, true, List, Some, None}
 use Rattle.gs_lex.specs.Tokens as lexer
 use Rattle.gs_lex.specs.Tokens.{IsCut, Lexeme}
 use Rattle.gs_lex.specs.Cuts.{cut_of}
 use Rattle.gs_triples.specs.Meanings.{Fault, Syntax}
-use Rattle.gs_update_text.specs.Requests.{Rejection, Broken, OutOfProfile, Written, Request, end_of_last}
+use Rattle.gs_update_text.specs.Requests.{Broken, Written, Request, end_of_last}
 use Rattle.gs_update_text.specs.Grammar.{IsUpdate}
 use Rattle.gs_update_text.specs.Fronts.{AreBeforeFault, last_brace}
 use Rattle.gs_update_text.specs.Profile.{LeavesProfile}
