@@ -3,4 +3,3 @@ pub mod SymbolLemmas
 pub mod ContextLemmas
 pub mod StackLemmas
 pub mod LeaveLemmas
-pub mod TermLemmas

@@ -1,36 +1,37 @@
 -- What values of the code stand for.
 use Rattle.std.specs.Prelude.{List, ◌∷◌, string_bytes}
-use Rattle.gs_model.specs.Terms.{Term}
-use Rattle.gs_model.specs.Triples.{RdfTriple}
 use Rattle.gs_blank.specs.Numbers.{Numbers}
 use Rattle.gs_triples.specs.Symbols as grammar
-use Rattle.gs_triples.specs.Languages.{of_terms}
+use Rattle.gs_triples.specs.Languages.{Language, of_terms}
+use Rattle.gs_triples.specs.Meanings.{Context}
 use Rattle.gs_triples.specs.States as machine
+use Rattle.gs_triple_parser.specs.Languages.{TypedLanguage, language_of}
 use Rattle.gs_triple_parser.specs.Contexts.{TermContext}
 use Rattle.gs_triple_parser.specs.Frames.{goal_of, slot_of, frames_at, stack_of}
-use Rattle.gs_triple_parser.specs.declared.contexts.Context.{Context}
+use Rattle.gs_triple_parser.specs.declared.contexts.Context.{Context as Known}
+use Rattle.gs_triple_parser.specs.declared.scopes.Scope.{Scope}
 use Rattle.gs_triple_parser.specs.declared.places.Place.{Place}
 use Rattle.gs_triple_parser.specs.declared.places.Place.TheVariants as place
 use Rattle.gs_triple_parser.specs.declared.parser.TripleParser.{TripleParser}
 use Rattle.gs_triple_parser.specs.declared.parser.Turn.{Turn}
 use Rattle.gs_triple_parser.specs.declared.parser.Turn.TheVariants as turn
-use Rattle.gs_triple_parser.specs.declared.symbols.Word.{Word}
-use Rattle.gs_triple_parser.specs.declared.symbols.Word.TheVariants as word
+use Rattle.gs_triple_parser.specs.declared.symbols.TermToken.{TermToken}
+use Rattle.gs_triple_parser.specs.declared.symbols.TermToken.TheVariants as token
 use Rattle.gs_triple_parser.specs.declared.symbols.Symbol.{Symbol}
 use Rattle.gs_triple_parser.specs.declared.symbols.Symbol.TheVariants as symbol
 
--- a word of the code, as one of the grammar
-abbrev pub word_at : Word → grammar.TermToken
-word_at (word.Reference x e) = grammar.Reference x.now e
-word_at (word.Namespace x) = grammar.Namespace x.now
-word_at (word.Name x) = grammar.Name x.now
-word_at (word.Label x) = grammar.Label x.now
-word_at (word.Plain x d) = grammar.Plain x.now d.now
-word_at (word.Variable x) = grammar.Variable x.now
+-- a token that is a term by itself, as the grammar has it
+abbrev pub token_at : TermToken → grammar.TermToken
+token_at (token.Reference x e) = grammar.Reference x.now e
+token_at (token.Namespace x) = grammar.Namespace x.now
+token_at (token.Name x) = grammar.Name x.now
+token_at (token.Label x) = grammar.Label x.now
+token_at (token.Plain x d) = grammar.Plain x.now d.now
+token_at (token.Variable x) = grammar.Variable x.now
 
 -- a symbol of the code, as one of the grammar
 abbrev pub symbol_at : Symbol → grammar.Symbol
-symbol_at (symbol.Word w) = grammar.AWord (word_at w)
+symbol_at (symbol.Word w) = grammar.AWord (token_at w)
 symbol_at (symbol.Text x) = grammar.Text x.now
 symbol_at (symbol.At x) = grammar.At x.now
 symbol_at symbol.Carets = grammar.Carets
@@ -46,48 +47,55 @@ symbol_at symbol.Prefix = grammar.PrefixWord
 symbol_at symbol.Base = grammar.BaseWord
 symbol_at (symbol.Foreign k e) = grammar.Foreign k e
 
--- the base, the prefixes and the request of a context
-abbrev pub context_of : Context → TermContext
-context_of c = record { base = string_bytes c.base; prefixes = c.prefixes; request = c.request; language = of_terms }
+-- the base, the prefixes and the request of a context of the code, for triples of a language
+abbrev pub context_in : {Value Triple : Type 0} → Language Value Triple → Known → Context Value Triple
+context_in l c = record { base = string_bytes c.base; prefixes = c.prefixes; request = c.request; language = l }
 
--- a state of the machine, where triples are made of terms
-abbrev pub TermState : Type 0
-TermState = machine.State Term RdfTriple
+-- and for triples of terms
+abbrev pub context_of : Known → TermContext
+context_of c = context_in of_terms c
 
--- what a symbol does there
-abbrev pub TermTurn : Type 0
-TermTurn = machine.Turn Term RdfTriple
-
--- what a place stands for, with the other fields: each place has only some of them
-abbrev pub state_at : Place → TermContext → List (machine.Frame Term) → List RdfTriple → Numbers → TermState
-state_at place.Opened env fs P n = machine.Opened env n
-state_at (place.Closed s) env fs P n = machine.Closed s.term env P n
-state_at (place.Heading g) env fs P n = machine.Heading (goal_of g) (frames_at g fs) env P n
-state_at (place.Held x s) env fs P n = machine.Held (string_bytes x) (slot_of s ∷ fs) env P n
-state_at (place.Typing x s) env fs P n = machine.Typing (string_bytes x) (slot_of s ∷ fs) env P n
-state_at (place.Lost e) env fs P n = machine.Lost e
-
--- the state of a parser, were it at this place
-abbrev pub triples_state_at : TripleParser → Place → TermState
-triples_state_at p l = state_at l (context_of p.context) (stack_of p.stack) p.pending.items p.numbering
-
--- the state of a parser
-abbrev pub triples_state : TripleParser → TermState
-triples_state p = triples_state_at p p.place
-
--- the base, the prefixes and the request of a parser
-abbrev pub context_now : TripleParser → TermContext
-context_now p = context_of p.context
-
--- the triples so far
-abbrev pub pending_triples : TripleParser → List RdfTriple
-pending_triples p = p.pending.items
+-- the base, the prefixes and the request of a scope
+abbrev pub scope_context : Scope → TermContext
+scope_context s = context_of s.context
 
 -- the numbers of the blank nodes so far
-abbrev pub numbers_now : TripleParser → Numbers
-numbers_now p = p.numbering
+abbrev pub scope_numbers : Scope → Numbers
+scope_numbers s = s.numbering
 
--- a turn that left a parser so
-abbrev pub triples_turn : TripleParser → Turn → TermTurn
-triples_turn p turn.Taken = machine.Goes (triples_state p)
-triples_turn p turn.Over = machine.Ends (context_now p) (pending_triples p) (numbers_now p)
+module _ {L S V X T : Type 0} where
+  -- the triples so far
+  abbrev pub pending_triples : TripleParser L S V X T → List T
+  pending_triples p = p.pending.items
+
+  -- the numbers of the blank nodes so far
+  abbrev pub numbers_now : TripleParser L S V X T → Numbers
+  numbers_now p = scope_numbers p.scope
+
+-- in a language of the code
+module _ {L S V X T : Type 0} (l : TypedLanguage S V X T) where
+  -- what a place stands for, with the other fields: each place has only some of them
+  abbrev pub state_at : Place L S V X T → Context X T → List (machine.Frame X) → List T → Numbers → machine.State X T
+  state_at place.Opened env fs P n = machine.Opened env n
+  state_at (place.Closed s) env fs P n = machine.Closed (l.subject s) env P n
+  state_at (place.Heading g) env fs P n = machine.Heading (goal_of l g) (frames_at l g fs) env P n
+  state_at (place.Held x s) env fs P n = machine.Held (string_bytes x) (slot_of l s ∷ fs) env P n
+  state_at (place.Typing x s) env fs P n = machine.Typing (string_bytes x) (slot_of l s ∷ fs) env P n
+  state_at (place.Lost e) env fs P n = machine.Lost e
+
+  -- the base, the prefixes and the request of a parser, with what its triples are made of and what may stand in them
+  abbrev pub context_now : TripleParser L S V X T → Context X T
+  context_now p = context_in (language_of l p.allowed) p.scope.context
+
+  -- the state of a parser, were it at this place
+  abbrev pub triples_state_at : TripleParser L S V X T → Place L S V X T → machine.State X T
+  triples_state_at p h = state_at h (context_now p) (stack_of l p.stack) (pending_triples p) (numbers_now p)
+
+  -- the state of a parser
+  abbrev pub triples_state : TripleParser L S V X T → machine.State X T
+  triples_state p = triples_state_at p p.place
+
+  -- a turn that left a parser so
+  abbrev pub triples_turn : TripleParser L S V X T → Turn → machine.Turn X T
+  triples_turn p turn.Taken = machine.Goes (triples_state p)
+  triples_turn p turn.Over = machine.Ends (context_now p) (pending_triples p) (numbers_now p)

@@ -1,7 +1,8 @@
 //! What ends after a list of verbs: brackets, and the triples.
 ghost use Rattle.std.specs.Prelude.{◌≡◌, OnOk, IfOk};
 
-use crate::frames::{Frame, Subject};
+use crate::frames::Frame;
+use crate::languages::Language;
 use crate::parser::{TripleParser, Turn};
 use crate::places::Place;
 use crate::symbols::Symbol;
@@ -9,13 +10,13 @@ use crate::terms::blank;
 use gs_model::Fault;
 use std::alloc::AllocError;
 
-impl TripleParser {
+impl<L: Language> TripleParser<L> {
     ghost use Rattle.gs_triple_parser.specs.Views.{triples_state, triples_turn};
     ghost use Rattle.gs_triple_parser.specs.Machine.{Reaches, Turned, shut_of, leave_of};
 
     /// A symbol where this frame is open after a list of verbs and objects.
-    fn shut(&mut self, frame: Frame, symbol: Symbol) -> Result<(), AllocError>
-        ensures { Reaches result self.new (shut_of self.old frame symbol.entry) }
+    fn shut(&mut self, frame: Frame<L>, symbol: Symbol) -> Result<(), AllocError>
+        ensures { Reaches L.language result self.new (shut_of L.language self.old frame symbol.entry) }
     {
         let Symbol::Close = symbol else {
             self.lose(Fault::Syntax);
@@ -23,13 +24,13 @@ impl TripleParser {
         };
         match frame {
             Frame::ToClose(number) => {
-                let term = blank(self.alloc, self.context.request, number)?;
-                return self.give_subject(Subject { term });
+                let node = blank(self.alloc, self.scope.context.request, number)?;
+                return self.give_subject(L::subject(node));
             }
             Frame::ToMore(number) => match self.stack.pop() {
                 None => {
-                    let term = blank(self.alloc, self.context.request, number)?;
-                    self.place = Place::Closed(Subject { term });
+                    let node = blank(self.alloc, self.scope.context.request, number)?;
+                    self.place = Place::Closed(L::subject(node));
                 }
                 Some(_) => self.lose(Fault::Syntax),
             },
@@ -41,7 +42,7 @@ impl TripleParser {
     /// A symbol after a list of verbs and objects, which are all where no frame is open.
     #[tactic(auto, using(crate::proofs::LeaveLemmas::left_none, crate::proofs::LeaveLemmas::left_some))]
     pub(crate) fn leave(&mut self, symbol: Symbol) -> Result<Turn, AllocError>
-        ensures { Turned result self.new (leave_of self.old symbol.entry) }
+        ensures { Turned L.language result self.new (leave_of L.language self.old symbol.entry) }
     {
         match self.stack.pop() {
             None => Ok(Turn::Over),

@@ -6,7 +6,7 @@ ghost use Rattle.gs_escape.specs.Tokens.{iri_of, parts_of};
 ghost use Rattle.gs_triple_parser.specs.Contexts.{IsText};
 
 use crate::prefixes::Prefixes;
-use crate::symbols::Word;
+use crate::symbols::TermToken;
 use gs_model::memory_apart;
 use std::alloc::{AllocError, Global};
 
@@ -28,7 +28,7 @@ fn colon(text: &[u8]) -> Option<usize>
 }
 
 /// The prefix and the local part of a name, without the first colon between them.
-pub fn parts(text: &str) -> Option<(&str, &str)>
+fn parts(text: &str) -> Option<(&str, &str)>
     ensures { option_map (λ p. (p.0.now, p.1.now)) result ≡ parts_of text.now }
 {
     match colon(text.as_bytes()) {
@@ -49,14 +49,16 @@ fn reference(alloc: Global, text: &str) -> Result<Option<String>, AllocError>
 }
 
 impl Context {
+    ghost use Rattle.gs_triples.specs.Languages.{of_terms};
+    ghost use Rattle.gs_triples.specs.Directives.{without_prefixes, with_prefix, with_base};
     ghost use Rattle.gs_triples.specs.Meanings.{name_text, iri_text};
-    ghost use Rattle.gs_triple_parser.specs.Views.{word_at, context_of};
-    ghost use Rattle.gs_triple_parser.specs.Contexts.{no_prefix, based, prefixed, Changes};
+    ghost use Rattle.gs_triple_parser.specs.Views.{token_at, context_of};
+    ghost use Rattle.gs_triple_parser.specs.Contexts.{Changes};
 
     /// Under an absolute base, with no prefix.
     pub fn new(alloc: Global, base: &str, request: u64) -> Result<Context, AllocError>
         requires { is_absolute base.now ≡ true }
-        ensures { IfOk result (λ c. context_of c ≡ no_prefix base.now request) }
+        ensures { IfOk result (λ c. context_of c ≡ without_prefixes of_terms base.now request) }
     {
         let base = String::from_str(alloc, base)?;
         Ok(Context {
@@ -101,21 +103,26 @@ impl Context {
         }
     }
 
-    /// The IRI that a word means, if it means one.
-    pub fn iri(&self, word: Word) -> Result<Option<String>, AllocError>
-        ensures { IsText result (iri_text (context_of self.now) (word_at word.entry)) }
+    /// The IRI that a token means, if it means one.
+    pub fn iri(&self, token: TermToken) -> Result<Option<String>, AllocError>
+        ensures { IsText result (iri_text (context_of self.now) (token_at token.entry)) }
     {
-        match word {
-            Word::Reference(text, _) => self.resolve(text),
-            Word::Namespace(text) | Word::Name(text) => self.name(text),
+        match token {
+            TermToken::Reference(text, _) => self.resolve(text),
+            TermToken::Namespace(text) | TermToken::Name(text) => self.name(text),
             _ => Ok(None),
         }
     }
 
-    /// Declares a prefix by the text of a reference. Whether that is one.
+    /// Declares a prefix, whose text ends in its colon, by the text of a reference. Whether these
+    /// are a prefix and a reference.
+    #[tactic(auto, unfolding(gs_triples::specs::Directives::with_prefix))]
     pub fn set_prefix(&mut self, prefix: &str, text: &str) -> Result<bool, AllocError>
-        ensures { Changes result (context_of self.new) (prefixed (context_of self.old) prefix.now text.now) }
+        ensures { Changes result (context_of self.old) (context_of self.new) (with_prefix (context_of self.old) prefix.now text.now) }
     {
+        let Some((prefix, _)) = parts(prefix) else {
+            return Ok(false);
+        };
         let Some(iri) = self.resolve(text)? else {
             return Ok(false);
         };
@@ -124,8 +131,9 @@ impl Context {
     }
 
     /// Sets the base by the text of a reference. Whether that is one.
+    #[tactic(auto, unfolding(gs_triples::specs::Directives::with_base))]
     pub fn set_base(&mut self, text: &str) -> Result<bool, AllocError>
-        ensures { Changes result (context_of self.new) (based (context_of self.old) text.now) }
+        ensures { Changes result (context_of self.old) (context_of self.new) (with_base (context_of self.old) text.now) }
     {
         let Some(base) = self.resolve(text)? else {
             return Ok(false);

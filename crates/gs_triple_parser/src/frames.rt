@@ -1,47 +1,31 @@
 //! The stack of the machine.
-ghost use Rattle.std.specs.Prelude.{◌≡◌, true};
-ghost use Rattle.gs_model.specs.Triples.{is_iri, is_subject};
 
-use gs_term::TermText;
-
-/// An IRI.
-#[derive(Drop)]
-pub struct Name {
-    pub term: TermText,
-    ghost iri: { is_iri term ≡ true },
-}
-
-/// An IRI or a blank node.
-#[derive(Drop)]
-pub struct Subject {
-    pub term: TermText,
-    ghost kind: { is_subject term ≡ true },
-}
+use crate::languages::Language;
 
 /// What stands next within a statement, in so many brackets.
 #[derive(Drop)]
-pub enum Goal {
+pub enum Goal<L: Language> {
     /// An object of this subject and verb.
-    Object(usize, Subject, Name),
+    Object(usize, L::Subject, L::Verb),
     /// After the `[` of a blank node of this number.
     Inside(usize, u64),
     /// A verb of this subject.
-    Verbs(usize, Subject),
+    Verbs(usize, L::Subject),
     /// After an object of this subject and verb.
-    After(usize, Subject, Name),
+    After(usize, L::Subject, L::Verb),
     /// After a `;`.
-    Semis(usize, Subject),
+    Semis(usize, L::Subject),
     /// After the `(` of a collection.
     Begun(usize),
     /// After an object of a collection, with the numbers of its first cell and of this one.
     Items(usize, u64, u64),
 }
 
-/// What is done with an object, which may be any term, once it is read.
+/// What is done with an object, which may be any value, once it is read.
 #[derive(Drop)]
-pub enum Slot {
+pub enum Slot<L: Language> {
     /// The object of this subject and verb.
-    ToObject(usize, Subject, Name),
+    ToObject(usize, L::Subject, L::Verb),
     /// The object of the first cell of a collection, which has this number.
     ToFirst(usize, u64),
     /// The object of a further cell: the numbers of the first cell, of the one before, and of
@@ -51,9 +35,9 @@ pub enum Slot {
 
 /// What is done with a blank node or a collection, or with a list of verbs, once it ends.
 #[derive(Drop)]
-pub enum Frame {
+pub enum Frame<L: Language> {
     /// An object that is written in brackets or parentheses.
-    ToSlot(Slot),
+    ToSlot(Slot<L>),
     /// The properties of a blank node that is an object.
     ToClose(u64),
     /// A collection that is a subject.

@@ -3,13 +3,15 @@ ghost use Rattle.std.specs.Prelude.{◌≡◌, OnOk, IfOk};
 ghost use Rattle.gs_triples.specs.Reading.{begins_verb as begins_verb_of};
 ghost use Rattle.gs_triple_parser.specs.Views.{symbol_at};
 
-use crate::frames::{Frame, Goal, Name, Slot, Subject};
+use crate::frames::{Frame, Goal, Slot};
+use crate::languages::Language;
 use crate::parser::{TripleParser, Turn};
 use crate::pending::put_rest;
 use crate::places::Place;
 use crate::symbols::Symbol;
 use crate::terms::blank;
 use crate::vocabulary::rdf_nil;
+use gs_model::Fault;
 use std::alloc::AllocError;
 
 /// Whether a verb may begin with it: a word or `a`.
@@ -19,51 +21,61 @@ pub fn begins_verb(symbol: Symbol) -> bool
     matches!(symbol, Symbol::Word(_) | Symbol::A)
 }
 
-impl TripleParser {
+impl<L: Language> TripleParser<L> {
     ghost use Rattle.gs_triples.specs.States.{Goes};
     ghost use Rattle.gs_triple_parser.specs.Views.{triples_state, triples_turn};
-    ghost use Rattle.gs_triple_parser.specs.Machine.{IsTaken, Turned, head_of};
+    ghost use Rattle.gs_triple_parser.specs.Machine.{Reaches, IsTaken, Turned, head_of, first_object_of};
 
     /// A symbol after the `[` of an object.
     fn inside(&mut self, depth: usize, number: u64, symbol: Symbol) -> Result<(), AllocError>
-        ensures { IsTaken result self.new (head_of self.old (Goal.Inside depth number) symbol.entry) }
+        ensures { IsTaken L.language result self.new (head_of L.language self.old (Goal.Inside depth number) symbol.entry) }
     {
-        let term = blank(self.alloc, self.context.request, number)?;
+        let node = L::subject(blank(self.alloc, self.scope.context.request, number)?);
         match symbol {
-            Symbol::Close => self.give_subject(Subject { term }),
+            Symbol::Close => self.give_subject(node),
             _ => {
                 self.stack.push(Frame::ToClose(number))?;
-                self.at_verb(depth, Subject { term }, symbol)
+                self.at_verb(depth, node, symbol)
             }
         }
     }
 
+    /// The first symbol in a collection that is not empty, where one may stand.
+    fn first_object(&mut self, depth: usize, symbol: Symbol) -> Result<(), AllocError>
+        ensures { Reaches L.language result self.new (first_object_of L.language self.old depth symbol.entry) }
+    {
+        if !self.allowed.nodes {
+            self.lose(Fault::Syntax);
+            return Ok(());
+        }
+        let Ok(number) = self.scope.numbering.fresh() else {
+            return Err(AllocError);
+        };
+        self.object(depth, Slot::ToFirst(depth, number), symbol)
+    }
+
     /// A symbol after the `(` of a collection.
     fn begun(&mut self, depth: usize, symbol: Symbol) -> Result<(), AllocError>
-        ensures { IsTaken result self.new (head_of self.old (Goal.Begun depth) symbol.entry) }
+        ensures { IsTaken L.language result self.new (head_of L.language self.old (Goal.Begun depth) symbol.entry) }
     {
         match symbol {
             Symbol::CloseList => {
-                let term = rdf_nil(self.alloc)?;
-                self.give_subject(Subject { term })
+                let nil = rdf_nil(self.alloc)?;
+                self.give_subject(L::subject(nil))
             }
-            _ => {
-                let Ok(number) = self.numbering.fresh() else {
-                    return Err(AllocError);
-                };
-                self.object(depth, Slot::ToFirst(depth, number), symbol)
-            }
+            _ => self.first_object(depth, symbol),
         }
     }
 
     /// The `)` of a collection that has a cell.
     fn end_list(&mut self, depth: usize, first: u64, cell: u64) -> Result<(), AllocError>
-        ensures { IsTaken result self.new (head_of self.old (Goal.Items depth first cell) Symbol.CloseList) }
+        ensures { IsTaken L.language result self.new (head_of L.language self.old (Goal.Items depth first cell) Symbol.CloseList) }
     {
-        let nil = rdf_nil(self.alloc)?;
-        put_rest(self.alloc, &self.context, &mut self.pending, cell, nil)?;
-        let term = blank(self.alloc, self.context.request, first)?;
-        self.give_subject(Subject { term })
+        let context = &self.scope.context;
+        let nil = L::value(rdf_nil(self.alloc)?);
+        put_rest::<L>(self.alloc, context, &mut self.pending, cell, nil)?;
+        let node = blank(self.alloc, context.request, first)?;
+        self.give_subject(L::subject(node))
     }
 
     /// A symbol after an object of a collection.
@@ -74,12 +86,12 @@ impl TripleParser {
         cell: u64,
         symbol: Symbol,
     ) -> Result<(), AllocError>
-        ensures { IsTaken result self.new (head_of self.old (Goal.Items depth first cell) symbol.entry) }
+        ensures { IsTaken L.language result self.new (head_of L.language self.old (Goal.Items depth first cell) symbol.entry) }
     {
         match symbol {
             Symbol::CloseList => self.end_list(depth, first, cell),
             _ => {
-                let Ok(number) = self.numbering.fresh() else {
+                let Ok(number) = self.scope.numbering.fresh() else {
                     return Err(AllocError);
                 };
                 let slot = Slot::ToItem(depth, first, cell, number);
@@ -92,11 +104,11 @@ impl TripleParser {
     fn after(
         &mut self,
         depth: usize,
-        subject: Subject,
-        verb: Name,
+        subject: L::Subject,
+        verb: L::Verb,
         symbol: Symbol,
     ) -> Result<Turn, AllocError>
-        ensures { Turned result self.new (head_of self.old (Goal.After depth subject verb) symbol.entry) }
+        ensures { Turned L.language result self.new (head_of L.language self.old (Goal.After depth subject verb) symbol.entry) }
     {
         match symbol {
             Symbol::Comma => {
@@ -112,8 +124,8 @@ impl TripleParser {
     }
 
     /// A symbol after a `;`.
-    fn semis(&mut self, depth: usize, subject: Subject, symbol: Symbol) -> Result<Turn, AllocError>
-        ensures { Turned result self.new (head_of self.old (Goal.Semis depth subject) symbol.entry) }
+    fn semis(&mut self, depth: usize, subject: L::Subject, symbol: Symbol) -> Result<Turn, AllocError>
+        ensures { Turned L.language result self.new (head_of L.language self.old (Goal.Semis depth subject) symbol.entry) }
     {
         match symbol {
             Symbol::Semicolon => {
@@ -129,8 +141,8 @@ impl TripleParser {
     }
 
     /// One symbol at a goal.
-    pub(crate) fn head(&mut self, goal: Goal, symbol: Symbol) -> Result<Turn, AllocError>
-        ensures { Turned result self.new (head_of self.old goal symbol.entry) }
+    pub(crate) fn head(&mut self, goal: Goal<L>, symbol: Symbol) -> Result<Turn, AllocError>
+        ensures { Turned L.language result self.new (head_of L.language self.old goal symbol.entry) }
     {
         match goal {
             Goal::Object(depth, subject, verb) => {

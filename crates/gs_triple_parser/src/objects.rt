@@ -1,27 +1,28 @@
 //! The first symbol of an object, and the symbol of a verb.
 ghost use Rattle.std.specs.Prelude.{◌≡◌, OnOk};
 
-use crate::frames::{Frame, Goal, Name, Slot, Subject};
+use crate::frames::{Frame, Goal, Slot};
+use crate::languages::Language;
 use crate::parser::TripleParser;
 use crate::places::Place;
-use crate::symbols::Symbol;
-use crate::terms;
+use crate::symbols::{Symbol, TermToken};
+use crate::values;
 use gs_model::{Fault, MAX_NESTING};
 use std::alloc::AllocError;
 
-impl TripleParser {
+impl<L: Language> TripleParser<L> {
     ghost use Rattle.gs_triple_parser.specs.Views.{triples_state};
-    ghost use Rattle.gs_triple_parser.specs.Machine.{Reaches, object_of, verb_of};
+    ghost use Rattle.gs_triple_parser.specs.Machine.{Reaches, word_of, object_of, verb_of};
 
     /// A blank node for a slot, whose properties stand in brackets.
-    fn open_brackets(&mut self, depth: usize, slot: Slot) -> Result<(), AllocError>
-        ensures { Reaches result self.new (object_of self.old depth slot Symbol.Open) }
+    fn open_brackets_in(&mut self, depth: usize, slot: Slot<L>) -> Result<(), AllocError>
+        ensures { Reaches L.language result self.new (object_of L.language self.old depth slot Symbol.Open) }
     {
-        if depth >= MAX_NESTING {
+        if !self.allowed.nodes || depth >= MAX_NESTING {
             self.lose(Fault::Syntax);
             return Ok(());
         }
-        let Ok(number) = self.numbering.fresh() else {
+        let Ok(number) = self.scope.numbering.fresh() else {
             return Err(AllocError);
         };
         self.stack.push(Frame::ToSlot(slot))?;
@@ -30,8 +31,8 @@ impl TripleParser {
     }
 
     /// A collection for a slot.
-    fn open_list(&mut self, depth: usize, slot: Slot) -> Result<(), AllocError>
-        ensures { Reaches result self.new (object_of self.old depth slot Symbol.OpenList) }
+    fn open_list_in(&mut self, depth: usize, slot: Slot<L>) -> Result<(), AllocError>
+        ensures { Reaches L.language result self.new (object_of L.language self.old depth slot Symbol.OpenList) }
     {
         if depth >= MAX_NESTING {
             self.lose(Fault::Syntax);
@@ -42,26 +43,43 @@ impl TripleParser {
         Ok(())
     }
 
+    /// A token that is a term or a variable, for a slot.
+    fn object_word(&mut self, slot: Slot<L>, token: TermToken) -> Result<(), AllocError>
+        ensures { Reaches L.language result self.new (word_of L.language self.old slot token.entry) }
+    {
+        let scope = &mut self.scope;
+        match values::word::<L>(
+            self.alloc,
+            &scope.context,
+            self.allowed,
+            &mut scope.numbering,
+            token,
+        )? {
+            Ok(value) => self.give(slot, value),
+            Err(fault) => {
+                self.lose(fault);
+                Ok(())
+            }
+        }
+    }
+
     /// The first symbol of an object.
     pub(crate) fn object(
         &mut self,
         depth: usize,
-        slot: Slot,
+        slot: Slot<L>,
         symbol: Symbol,
     ) -> Result<(), AllocError>
-        ensures { Reaches result self.new (object_of self.old depth slot symbol.entry) }
+        ensures { Reaches L.language result self.new (object_of L.language self.old depth slot symbol.entry) }
     {
         match symbol {
-            Symbol::Word(word) => {
-                let made = terms::word(self.alloc, &self.context, &mut self.numbering, word)?;
-                return self.put(slot, made);
-            }
+            Symbol::Word(token) => return self.object_word(slot, token),
             Symbol::Text(text) => {
                 let text = String::from_str(self.alloc, text)?;
                 self.place = Place::Held(text, slot);
             }
-            Symbol::Open => return self.open_brackets(depth, slot),
-            Symbol::OpenList => return self.open_list(depth, slot),
+            Symbol::Open => return self.open_brackets_in(depth, slot),
+            Symbol::OpenList => return self.open_list_in(depth, slot),
             _ => self.lose(Fault::Syntax),
         }
         Ok(())
@@ -71,17 +89,15 @@ impl TripleParser {
     pub(crate) fn at_verb(
         &mut self,
         depth: usize,
-        subject: Subject,
+        subject: L::Subject,
         symbol: Symbol,
     ) -> Result<(), AllocError>
-        ensures { Reaches result self.new (verb_of self.old depth subject.term symbol.entry) }
+        ensures { Reaches L.language result self.new
+            (verb_of L.language self.old depth (L.language.subject subject) symbol.entry) }
     {
-        match terms::verb(self.alloc, &self.context, symbol)? {
+        match values::verb::<L>(self.alloc, &self.scope.context, symbol)? {
             Err(fault) => self.lose(fault),
-            Ok(term) => {
-                let verb = Name { term };
-                self.place = Place::Heading(Goal::Object(depth, subject, verb));
-            }
+            Ok(verb) => self.place = Place::Heading(Goal::Object(depth, subject, verb)),
         }
         Ok(())
     }

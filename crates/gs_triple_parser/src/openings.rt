@@ -1,58 +1,76 @@
 //! What stands before triples, and their first symbol.
-ghost use Rattle.std.specs.Prelude.{◌≡◌, true, IfOk};
-ghost use Rattle.gs_model.specs.Iris.{is_absolute};
-ghost use Rattle.gs_blank.specs.Numbers.{no_numbers};
+ghost use Rattle.std.specs.Prelude.{◌≡◌, []};
 
-use crate::contexts::Context;
-use crate::frames::{Frame, Goal, Subject};
+use crate::allowed::Allowed;
+use crate::frames::{Frame, Goal};
+use crate::languages::Language;
 use crate::parser::TripleParser;
 use crate::places::Place;
+use crate::scopes::Scope;
 use crate::stacks::Stack;
-use crate::symbols::{Symbol, Word};
-use crate::terms;
-use gs_blank::Numbering;
+use crate::symbols::{Symbol, TermToken};
+use crate::values;
 use gs_model::Fault;
-use std::alloc::{AllocError, Global};
+use std::alloc::AllocError;
 
-impl TripleParser {
-    ghost use Rattle.gs_triple_parser.specs.Views.{triples_state, context_now, numbers_now};
-    ghost use Rattle.gs_triple_parser.specs.Contexts.{no_prefix, based, prefixed};
+impl<L: Language> TripleParser<L> {
+    ghost use Rattle.gs_model.specs.declared.faults.Fault.TheVariants.{Syntax};
+    ghost use Rattle.gs_triples.specs.States.{Lost};
+    ghost use Rattle.gs_triples.specs.Languages.{of_terms};
+    ghost use Rattle.gs_triples.specs.Meanings.{in_language};
+    ghost use Rattle.gs_triples.specs.Directives.{with_prefix, with_base};
+    ghost use Rattle.gs_triple_parser.specs.Languages.{language_of};
+    ghost use Rattle.gs_triple_parser.specs.Views.{scope_context, scope_numbers};
+    ghost use Rattle.gs_triple_parser.specs.Views.{triples_state, context_now, numbers_now, pending_triples};
     ghost use Rattle.gs_triple_parser.specs.Machine.{Declares, Reaches, first_verb, opening_of};
 
-    /// Before any triples, under an absolute base, in the request of this number. Until triples
-    /// open, a symbol is a fault of the grammar.
-    pub fn new(alloc: Global, base: &str, request: u64) -> Result<TripleParser, AllocError>
-        requires { is_absolute base.now ≡ true }
-        ensures context { IfOk result (λ p. context_now p ≡ no_prefix base.now request) }
-        ensures numbers { IfOk result (λ p. numbers_now p ≡ no_numbers) }
+    /// Before any triples, in a scope, where these may stand. Until triples open, a symbol is a
+    /// fault of the grammar.
+    pub fn within(scope: Scope, allowed: Allowed) -> TripleParser<L>
+        ensures context { context_now L.language result ≡ in_language (language_of L.language allowed) (scope_context scope) }
+        ensures numbers { numbers_now result ≡ scope_numbers scope }
+        ensures pending { pending_triples result ≡ [] }
+        ensures state { triples_state L.language result ≡ Lost Syntax }
     {
-        Ok(TripleParser {
+        let alloc = scope.alloc;
+        TripleParser {
             alloc,
-            context: Context::new(alloc, base, request)?,
-            numbering: Numbering::new(alloc),
+            scope,
+            allowed,
             stack: Stack::new(alloc),
             pending: Vec::new(alloc),
             place: Place::Lost(Fault::Syntax),
-        })
+        }
     }
 
-    /// Declares a prefix by the text of a reference. Whether that is one.
-    pub fn set_prefix(&mut self, prefix: &str, text: &str) -> Result<bool, AllocError>
-        ensures { Declares result self.old self.new (prefixed (context_now self.old) prefix.now text.now) }
+    /// What stays of the parser for the next block of triples.
+    pub fn into_scope(self) -> Scope
+        ensures context { scope_context result ≡ in_language of_terms (context_now L.language self) }
+        ensures numbers { scope_numbers result ≡ numbers_now self }
     {
-        self.context.set_prefix(prefix, text)
+        self.scope
+    }
+
+    /// Declares a prefix, whose text ends in its colon, by the text of a reference. Whether these
+    /// are a prefix and a reference.
+    pub fn set_prefix(&mut self, prefix: &str, text: &str) -> Result<bool, AllocError>
+        ensures { Declares L.language result self.old self.new
+            (with_prefix (context_now L.language self.old) prefix.now text.now) }
+    {
+        self.scope.set_prefix(prefix, text)
     }
 
     /// Sets the base by the text of a reference. Whether that is one.
     pub fn set_base(&mut self, text: &str) -> Result<bool, AllocError>
-        ensures { Declares result self.old self.new (based (context_now self.old) text.now) }
+        ensures { Declares L.language result self.old self.new
+            (with_base (context_now L.language self.old) text.now) }
     {
-        self.context.set_base(text)
+        self.scope.set_base(text)
     }
 
     /// A subject, whose verbs come next.
-    pub(crate) fn begin(&mut self, subject: Subject)
-        ensures { triples_state self.new ≡ first_verb self.old subject.term }
+    pub(crate) fn begin(&mut self, subject: L::Subject)
+        ensures { triples_state L.language self.new ≡ first_verb L.language self.old (L.language.subject subject) }
     {
         self.stack.clear();
         self.pending.clear();
@@ -60,8 +78,8 @@ impl TripleParser {
     }
 
     /// A collection opens triples.
-    fn open_subject(&mut self) -> Result<(), AllocError>
-        ensures { Reaches result self.new (opening_of self.old Symbol.OpenList) }
+    fn open_list(&mut self) -> Result<(), AllocError>
+        ensures { Reaches L.language result self.new (opening_of L.language self.old Symbol.OpenList) }
     {
         self.stack.clear();
         self.pending.clear();
@@ -70,12 +88,30 @@ impl TripleParser {
         Ok(())
     }
 
-    /// A word opens triples.
-    fn open_word(&mut self, word: Word) -> Result<(), AllocError>
-        ensures { Reaches result self.new (opening_of self.old (Symbol.Word word.entry)) }
+    /// Brackets open triples.
+    fn open_brackets(&mut self)
+        ensures { triples_state L.language self.new ≡ opening_of L.language self.old Symbol.Open }
     {
-        match terms::subject(self.alloc, &self.context, &mut self.numbering, word)? {
-            Ok(term) => self.begin(Subject { term }),
+        if self.allowed.nodes {
+            self.place = Place::Opened;
+        } else {
+            self.lose(Fault::Syntax);
+        }
+    }
+
+    /// A token that is a term or a variable opens triples.
+    fn open_word(&mut self, token: TermToken) -> Result<(), AllocError>
+        ensures { Reaches L.language result self.new (opening_of L.language self.old (Symbol.Word token.entry)) }
+    {
+        let scope = &mut self.scope;
+        match values::subject::<L>(
+            self.alloc,
+            &scope.context,
+            self.allowed,
+            &mut scope.numbering,
+            token,
+        )? {
+            Ok(subject) => self.begin(subject),
             Err(fault) => self.lose(fault),
         }
         Ok(())
@@ -83,12 +119,12 @@ impl TripleParser {
 
     /// The first symbol of triples. After a refusal the parser is of no more use.
     pub fn open(&mut self, symbol: Symbol) -> Result<(), AllocError>
-        ensures { Reaches result self.new (opening_of self.old symbol.entry) }
+        ensures { Reaches L.language result self.new (opening_of L.language self.old symbol.entry) }
     {
         match symbol {
-            Symbol::Word(word) => return self.open_word(word),
-            Symbol::Open => self.place = Place::Opened,
-            Symbol::OpenList => return self.open_subject(),
+            Symbol::Word(token) => return self.open_word(token),
+            Symbol::Open => self.open_brackets(),
+            Symbol::OpenList => return self.open_list(),
             _ => self.lose(Fault::Syntax),
         }
         Ok(())

@@ -1,16 +1,16 @@
 //! The parser, and what is done with a term once it is read.
-ghost use Rattle.std.specs.Prelude.{◌≡◌, OnOk, IfOk, [], true};
-ghost use Rattle.gs_model.specs.Iris.{is_absolute};
+ghost use Rattle.std.specs.Prelude.{◌≡◌};
 
-use crate::contexts::Context;
-use crate::frames::{Frame, Goal, Slot, Subject};
+use crate::allowed::Allowed;
+use crate::frames::{Frame, Goal, Slot};
+use crate::languages::Language;
 use crate::pending::{put, put_first, put_rest};
 use crate::places::Place;
+use crate::scopes::Scope;
 use crate::stacks::Stack;
 use crate::terms::blank;
-use gs_blank::Numbering;
 use gs_model::Fault;
-use gs_term::{TermText, Triple};
+use gs_term::TermText;
 use std::alloc::{AllocError, Global};
 
 /// What a symbol does: it is taken, or the triples are over before it.
@@ -20,91 +20,107 @@ pub enum Turn {
     Over,
 }
 
-/// A parser of triples, which takes their symbols in their order, under a base and prefixes.
+/// A parser of the triples of a language, which takes their symbols in their order, under a base
+/// and prefixes.
 #[derive(Drop)]
-pub struct TripleParser {
+pub struct TripleParser<L: Language> {
     pub(crate) alloc: Global,
-    pub(crate) context: Context,
-    pub(crate) numbering: Numbering,
-    pub(crate) stack: Stack,
+    pub(crate) scope: Scope,
+    pub(crate) allowed: Allowed,
+    pub(crate) stack: Stack<L>,
     /// The triples so far, which are handed on once they are over.
-    pub(crate) pending: Vec<Triple>,
-    pub(crate) place: Place,
+    pub(crate) pending: Vec<L::Triple>,
+    pub(crate) place: Place<L>,
 }
 
-impl TripleParser {
+impl<L: Language> TripleParser<L> {
     ghost use Rattle.gs_triples.specs.States.{Lost};
     ghost use Rattle.gs_triple_parser.specs.Views.{triples_state};
-    ghost use Rattle.gs_triple_parser.specs.Machine.{Reaches, given_slot, given_top, put_slot};
+    ghost use Rattle.gs_triple_parser.specs.Machine.{Reaches, given_slot, given_top, given_opening, put_slot};
 
     /// After this fault nothing is read until triples open.
     pub(crate) fn lose(&mut self, fault: Fault)
-        ensures { triples_state self.new ≡ Lost fault }
+        ensures { triples_state L.language self.new ≡ Lost fault }
     {
         self.place = Place::Lost(fault);
     }
 
-    /// A term after another one of a collection.
+    /// A value after another one of a collection.
     fn give_item(
         &mut self,
         depth: usize,
         first: u64,
         cell: u64,
         number: u64,
-        term: TermText,
+        value: L::Value,
     ) -> Result<(), AllocError>
-        ensures { Reaches result self.new (given_slot self.old (Slot.ToItem depth first cell number) term) }
+        ensures { Reaches L.language result self.new
+            (given_slot L.language self.old (Slot.ToItem depth first cell number) value) }
     {
-        put_first(self.alloc, &self.context, &mut self.pending, number, term)?;
-        let next = blank(self.alloc, self.context.request, number)?;
-        put_rest(self.alloc, &self.context, &mut self.pending, cell, next)?;
+        let context = &self.scope.context;
+        put_first::<L>(self.alloc, context, &mut self.pending, number, value)?;
+        let next = L::value(blank(self.alloc, context.request, number)?);
+        put_rest::<L>(self.alloc, context, &mut self.pending, cell, next)?;
         self.place = Place::Heading(Goal::Items(depth, first, number));
         Ok(())
     }
 
-    /// A term for a slot.
-    pub(crate) fn give(&mut self, slot: Slot, term: TermText) -> Result<(), AllocError>
-        ensures { Reaches result self.new (given_slot self.old slot term) }
+    /// A value for a slot.
+    pub(crate) fn give(&mut self, slot: Slot<L>, value: L::Value) -> Result<(), AllocError>
+        ensures { Reaches L.language result self.new (given_slot L.language self.old slot value) }
     {
         match slot {
             Slot::ToObject(depth, subject, verb) => {
-                put(&mut self.pending, &subject, &verb, term)?;
+                put::<L>(self.alloc, &mut self.pending, &subject, &verb, value)?;
                 self.place = Place::Heading(Goal::After(depth, subject, verb));
                 Ok(())
             }
             Slot::ToFirst(depth, number) => {
-                put_first(self.alloc, &self.context, &mut self.pending, number, term)?;
+                let context = &self.scope.context;
+                put_first::<L>(self.alloc, context, &mut self.pending, number, value)?;
                 self.place = Place::Heading(Goal::Items(depth, number, number));
                 Ok(())
             }
             Slot::ToItem(depth, first, cell, number) => {
-                self.give_item(depth, first, cell, number, term)
+                self.give_item(depth, first, cell, number, value)
             }
         }
     }
 
+    /// A collection that opens triples is over.
+    fn give_opening(&mut self, subject: L::Subject)
+        ensures { triples_state L.language self.new ≡ given_opening L.language self.old subject }
+    {
+        if self.allowed.lone_lists && !self.pending.is_empty() {
+            self.place = Place::Closed(subject);
+        } else {
+            self.place = Place::Heading(Goal::Verbs(0, subject));
+        }
+    }
+
     /// A blank node or a collection, for what stands on top of the stack.
-    pub(crate) fn give_subject(&mut self, subject: Subject) -> Result<(), AllocError>
-        ensures { Reaches result self.new (given_top self.old subject.term) }
+    pub(crate) fn give_subject(&mut self, subject: L::Subject) -> Result<(), AllocError>
+        ensures { Reaches L.language result self.new
+            (given_top L.language self.old (L.language.subject subject)) }
     {
         match self.stack.pop() {
-            Some(Frame::ToSlot(slot)) => return self.give(slot, subject.term),
-            Some(Frame::ToVerbs) => self.place = Place::Heading(Goal::Verbs(0, subject)),
+            Some(Frame::ToSlot(slot)) => return self.give(slot, L::subject_value(subject)),
+            Some(Frame::ToVerbs) => self.give_opening(subject),
             _ => self.lose(Fault::Syntax),
         }
         Ok(())
     }
 
-    /// A term for a slot, or its fault.
+    /// A literal for a slot, or its fault.
     pub(crate) fn put(
         &mut self,
-        slot: Slot,
+        slot: Slot<L>,
         made: Result<TermText, Fault>,
     ) -> Result<(), AllocError>
-        ensures { Reaches result self.new (put_slot self.old slot made) }
+        ensures { Reaches L.language result self.new (put_slot L.language self.old slot made) }
     {
         match made {
-            Ok(term) => self.give(slot, term),
+            Ok(term) => self.give(slot, L::value(term)),
             Err(fault) => {
                 self.lose(fault);
                 Ok(())

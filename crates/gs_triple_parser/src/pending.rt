@@ -1,57 +1,56 @@
 //! The triples so far, which wait for what ends them.
-ghost use Rattle.gs_triples.specs.Goals.{triple};
 ghost use Rattle.gs_triple_parser.specs.Terms.{Adds, first_of, rest_of};
 
 use crate::contexts::Context;
-use crate::frames::{Name, Subject};
+use crate::languages::Language;
 use crate::terms::blank;
 use crate::vocabulary::{rdf_first, rdf_rest};
-use gs_term::{TermText, Triple};
 use std::alloc::{AllocError, Global};
 
 /// A triple of a subject and a verb that stay.
-pub fn put(
-    pending: &mut Vec<Triple>,
-    subject: &Subject,
-    verb: &Name,
-    object: TermText,
+pub fn put<L: Language>(
+    alloc: Global,
+    pending: &mut Vec<L::Triple>,
+    subject: &L::Subject,
+    verb: &L::Verb,
+    object: L::Value,
 ) -> Result<(), AllocError>
-    ensures { Adds result pending.old.items pending.new.items (triple subject.now.term verb.now.term object) }
+    ensures { Adds result pending.old.items pending.new.items
+        (L.language.grammar.triple (L.language.subject subject.now) (L.language.verb verb.now) object) }
 {
-    let subject = subject.term.clone()?;
-    let verb = verb.term.clone()?;
-    pending.push(Triple::new(subject, verb, object))?;
+    let triple = L::next_triple(alloc, subject, verb, object)?;
+    pending.push(triple)?;
     Ok(())
 }
 
 /// The object of a cell.
-pub fn put_first(
+pub fn put_first<L: Language>(
     alloc: Global,
     context: &Context,
-    pending: &mut Vec<Triple>,
+    pending: &mut Vec<L::Triple>,
     cell: u64,
-    object: TermText,
+    object: L::Value,
 ) -> Result<(), AllocError>
-    ensures { Adds result pending.old.items pending.new.items (first_of context.now cell object) }
+    ensures { Adds result pending.old.items pending.new.items (first_of L.language context.now cell object) }
 {
-    let cell = blank(alloc, context.request, cell)?;
-    let verb = rdf_first(alloc)?;
-    pending.push(Triple::new(cell, verb, object))?;
+    let cell = L::subject(blank(alloc, context.request, cell)?);
+    let verb = L::verb(rdf_first(alloc)?);
+    pending.push(L::triple(cell, verb, object))?;
     Ok(())
 }
 
 /// What stands after a cell.
-pub fn put_rest(
+pub fn put_rest<L: Language>(
     alloc: Global,
     context: &Context,
-    pending: &mut Vec<Triple>,
+    pending: &mut Vec<L::Triple>,
     cell: u64,
-    object: TermText,
+    object: L::Value,
 ) -> Result<(), AllocError>
-    ensures { Adds result pending.old.items pending.new.items (rest_of context.now cell object) }
+    ensures { Adds result pending.old.items pending.new.items (rest_of L.language context.now cell object) }
 {
-    let cell = blank(alloc, context.request, cell)?;
-    let verb = rdf_rest(alloc)?;
-    pending.push(Triple::new(cell, verb, object))?;
+    let cell = L::subject(blank(alloc, context.request, cell)?);
+    let verb = L::verb(rdf_rest(alloc)?);
+    pending.push(L::triple(cell, verb, object))?;
     Ok(())
 }

@@ -1,19 +1,20 @@
 //! Where the machine stands.
 
-use crate::frames::{Goal, Slot, Subject};
+use crate::frames::{Goal, Slot};
+use crate::languages::Language;
 use gs_model::Fault;
 
 /// Within triples, or at a fault.
 #[derive(Drop)]
-pub enum Place {
+pub enum Place<L: Language> {
     /// After a `[` that opens the triples.
     Opened,
-    /// After its `]`: this blank node may stand alone.
-    Closed(Subject),
-    Heading(Goal),
+    /// After a subject with triples of its own, which may stand alone.
+    Closed(L::Subject),
+    Heading(Goal<L>),
     /// After a string that is an object.
-    Held(String, Slot),
+    Held(String, Slot<L>),
     /// After its `^^`.
-    Typing(String, Slot),
+    Typing(String, Slot<L>),
     Lost(Fault),
 }

@@ -1,8 +1,9 @@
 //! One symbol more.
 ghost use Rattle.std.specs.Prelude.{◌≡◌, OnOk, IfOk};
 
-use crate::frames::{Frame, Slot, Subject};
+use crate::frames::{Frame, Slot};
 use crate::goals::begins_verb;
+use crate::languages::Language;
 use crate::parser::{TripleParser, Turn};
 use crate::places::Place;
 use crate::symbols::Symbol;
@@ -11,7 +12,7 @@ use gs_model::Fault;
 use std::alloc::AllocError;
 use std::mem;
 
-impl TripleParser {
+impl<L: Language> TripleParser<L> {
     ghost use Rattle.gs_triples.specs.States.{Goes};
     ghost use Rattle.gs_triples.specs.Machine as machine;
     ghost use Rattle.gs_triple_parser.specs.Views.{triples_state, triples_turn, symbol_at};
@@ -20,30 +21,30 @@ impl TripleParser {
     /// A symbol after a `[` that opens triples.
     #[tactic(auto, unfolding(gs_triples::specs::Machine::step))]
     fn opened(&mut self, symbol: Symbol) -> Result<(), AllocError>
-        ensures { IsTaken result self.new (step_of self.old Place.Opened symbol.entry) }
+        ensures { IsTaken L.language result self.new (step_of L.language self.old Place.Opened symbol.entry) }
     {
-        let Ok(number) = self.numbering.fresh() else {
+        let Ok(number) = self.scope.numbering.fresh() else {
             return Err(AllocError);
         };
-        let term = blank(self.alloc, self.context.request, number)?;
+        let node = L::subject(blank(self.alloc, self.scope.context.request, number)?);
         match symbol {
             Symbol::Close => {
-                self.begin(Subject { term });
+                self.begin(node);
                 Ok(())
             }
             _ => {
                 self.stack.clear();
                 self.pending.clear();
                 self.stack.push(Frame::ToMore(number))?;
-                self.at_verb(1, Subject { term }, symbol)
+                self.at_verb(1, node, symbol)
             }
         }
     }
 
     /// A symbol after the properties that open triples.
     #[tactic(auto, unfolding(gs_triples::specs::Machine::step))]
-    fn closed(&mut self, subject: Subject, symbol: Symbol) -> Result<Turn, AllocError>
-        ensures { Turned result self.new (step_of self.old (Place.Closed subject) symbol.entry) }
+    fn closed(&mut self, subject: L::Subject, symbol: Symbol) -> Result<Turn, AllocError>
+        ensures { Turned L.language result self.new (step_of L.language self.old (Place.Closed subject) symbol.entry) }
     {
         if !begins_verb(symbol) {
             return Ok(Turn::Over);
@@ -56,7 +57,7 @@ impl TripleParser {
     /// A symbol after the string that was an object.
     #[tactic(auto, unfolding(gs_triples::specs::Machine::step))]
     fn go_on(&mut self, symbol: Symbol) -> Result<Turn, AllocError>
-        ensures { Turned result self.new (next_of (triples_state self.old) symbol.entry) }
+        ensures { Turned L.language result self.new (next_of (triples_state L.language self.old) symbol.entry) }
     {
         match mem::replace(&mut self.place, Place::Lost(Fault::Syntax)) {
             Place::Heading(goal) => self.head(goal, symbol),
@@ -70,8 +71,8 @@ impl TripleParser {
     }
 
     /// A symbol after a string that has no suffix.
-    fn simple(&mut self, text: String, slot: Slot, symbol: Symbol) -> Result<Turn, AllocError>
-        ensures { Turned result self.new (next_of (simple_of self.old slot text) symbol.entry) }
+    fn simple(&mut self, text: String, slot: Slot<L>, symbol: Symbol) -> Result<Turn, AllocError>
+        ensures { Turned L.language result self.new (next_of (simple_of L.language self.old slot text) symbol.entry) }
     {
         let made = terms::simple(self.alloc, text.as_str())?;
         self.put(slot, made)?;
@@ -80,8 +81,8 @@ impl TripleParser {
 
     /// A symbol after a string.
     #[tactic(auto, unfolding(gs_triples::specs::Machine::step))]
-    fn held(&mut self, text: String, slot: Slot, symbol: Symbol) -> Result<Turn, AllocError>
-        ensures { Turned result self.new (step_of self.old (Place.Held text slot) symbol.entry) }
+    fn held(&mut self, text: String, slot: Slot<L>, symbol: Symbol) -> Result<Turn, AllocError>
+        ensures { Turned L.language result self.new (step_of L.language self.old (Place.Held text slot) symbol.entry) }
     {
         match symbol {
             Symbol::At(tag) => {
@@ -99,10 +100,10 @@ impl TripleParser {
 
     /// The datatype of a string.
     #[tactic(auto, unfolding(gs_triples::specs::Machine::step))]
-    fn typing(&mut self, text: String, slot: Slot, symbol: Symbol) -> Result<(), AllocError>
-        ensures { IsTaken result self.new (step_of self.old (Place.Typing text slot) symbol.entry) }
+    fn typing(&mut self, text: String, slot: Slot<L>, symbol: Symbol) -> Result<(), AllocError>
+        ensures { IsTaken L.language result self.new (step_of L.language self.old (Place.Typing text slot) symbol.entry) }
     {
-        let made = terms::typed(self.alloc, &self.context, text.as_str(), symbol)?;
+        let made = terms::typed(self.alloc, &self.scope.context, text.as_str(), symbol)?;
         self.put(slot, made)
     }
 
@@ -110,7 +111,7 @@ impl TripleParser {
     /// is of no more use.
     #[tactic(auto, unfolding(gs_triples::specs::Machine::step))]
     pub fn step(&mut self, symbol: Symbol) -> Result<Turn, AllocError>
-        ensures { Turned result self.new (machine.step (triples_state self.old) (symbol_at symbol.entry)) }
+        ensures { Turned L.language result self.new (machine.step (triples_state L.language self.old) (symbol_at symbol.entry)) }
     {
         match mem::replace(&mut self.place, Place::Lost(Fault::Syntax)) {
             Place::Opened => self.opened(symbol)?,

@@ -1,15 +1,15 @@
 //! What the grammar sees of a token.
 ghost use Rattle.std.specs.Prelude.{◌≡◌};
 ghost use Rattle.gs_lex.specs.Lexemes.{lexeme_of};
-ghost use Rattle.gs_triples.specs.Symbols.{symbol as kind_symbol, symbol_of, after_mark};
+ghost use Rattle.gs_triples.specs.Symbols.{symbol as kind_symbol, symbol_of, after_mark, variable_symbol};
 ghost use Rattle.gs_triple_parser.specs.Views.{symbol_at};
 
 use crate::vocabulary::{XSD_BOOLEAN, XSD_DECIMAL, XSD_DOUBLE, XSD_INTEGER};
 use gs_lex::{Token, TokenKind};
 
-/// A token that is a term by itself, by the names of the grammar.
+/// A token that is a term by itself, or a variable, by the names of the grammar.
 #[derive(Clone, Copy)]
-pub enum Word<'a> {
+pub enum TermToken<'a> {
     /// With the number of bytes up to its end, since it may end a directive.
     Reference(&'a str, u64),
     Namespace(&'a str),
@@ -18,13 +18,13 @@ pub enum Word<'a> {
     /// A number or a boolean, with its datatype.
     Plain(&'a str, &'a str),
     /// The name after the mark, in updates alone.
-    Variable(&'a [u8]),
+    Variable(&'a str),
 }
 
 /// A terminal, with what it leaves open.
 #[derive(Clone, Copy)]
 pub enum Symbol<'a> {
-    Word(Word<'a>),
+    Word(TermToken<'a>),
     Text(&'a str),
     /// A language tag, `@prefix` or `@base`.
     At(&'a str),
@@ -55,19 +55,29 @@ fn after_mark(text: &[u8]) -> &[u8]
     }
 }
 
+/// A variable, whose name is text too.
+fn variable(text: &str, end: u64) -> Symbol<'_>
+    ensures { symbol_at result ≡ variable_symbol text.now end }
+{
+    match str::from_utf8(after_mark(text.as_bytes())) {
+        Ok(name) => Symbol::Word(TermToken::Variable(name)),
+        Err(_) => Symbol::Foreign(TokenKind::Var, end),
+    }
+}
+
 fn symbol_of_kind(kind: TokenKind, text: &str, end: u64) -> Symbol<'_>
     ensures { symbol_at result ≡ kind_symbol kind text.now end }
 {
     match kind {
-        TokenKind::IriRef => Symbol::Word(Word::Reference(text, end)),
-        TokenKind::PnameNs => Symbol::Word(Word::Namespace(text)),
-        TokenKind::PnameLn => Symbol::Word(Word::Name(text)),
-        TokenKind::BlankNodeLabel => Symbol::Word(Word::Label(text)),
-        TokenKind::Integer => Symbol::Word(Word::Plain(text, XSD_INTEGER)),
-        TokenKind::Decimal => Symbol::Word(Word::Plain(text, XSD_DECIMAL)),
-        TokenKind::Double => Symbol::Word(Word::Plain(text, XSD_DOUBLE)),
-        TokenKind::True => Symbol::Word(Word::Plain("true", XSD_BOOLEAN)),
-        TokenKind::False => Symbol::Word(Word::Plain("false", XSD_BOOLEAN)),
+        TokenKind::IriRef => Symbol::Word(TermToken::Reference(text, end)),
+        TokenKind::PnameNs => Symbol::Word(TermToken::Namespace(text)),
+        TokenKind::PnameLn => Symbol::Word(TermToken::Name(text)),
+        TokenKind::BlankNodeLabel => Symbol::Word(TermToken::Label(text)),
+        TokenKind::Integer => Symbol::Word(TermToken::Plain(text, XSD_INTEGER)),
+        TokenKind::Decimal => Symbol::Word(TermToken::Plain(text, XSD_DECIMAL)),
+        TokenKind::Double => Symbol::Word(TermToken::Plain(text, XSD_DOUBLE)),
+        TokenKind::True => Symbol::Word(TermToken::Plain("true", XSD_BOOLEAN)),
+        TokenKind::False => Symbol::Word(TermToken::Plain("false", XSD_BOOLEAN)),
         TokenKind::StringLiteralQuote
         | TokenKind::StringLiteralSingleQuote
         | TokenKind::StringLiteralLongQuote
@@ -82,7 +92,7 @@ fn symbol_of_kind(kind: TokenKind, text: &str, end: u64) -> Symbol<'_>
         TokenKind::Semicolon => Symbol::Semicolon,
         TokenKind::Comma => Symbol::Comma,
         TokenKind::Dot => Symbol::Dot(end),
-        TokenKind::Var => Symbol::Word(Word::Variable(after_mark(text.as_bytes()))),
+        TokenKind::Var => variable(text, end),
         TokenKind::Prefix => Symbol::Prefix,
         TokenKind::Base => Symbol::Base,
         _ => Symbol::Foreign(kind, end),

@@ -1,19 +1,18 @@
 //! The terms of tokens.
-ghost use Rattle.std.specs.Prelude.{◌≡◌, true, Some, IfOk, option_map, option_copied, string_bytes};
+ghost use Rattle.std.specs.Prelude.{◌≡◌, true, Some, IfOk, option_copied};
 ghost use Rattle.gs_model.specs.Terms.{Term, Iri, Blank, Literal, Typed};
-ghost use Rattle.gs_model.specs.Triples.{is_iri, is_subject};
+ghost use Rattle.gs_model.specs.Triples.{is_iri};
 ghost use Rattle.gs_term.specs.Making.{Makes};
 ghost use Rattle.gs_escape.specs.Tokens.{behind, string_of};
 ghost use Rattle.gs_triples.specs.Meanings as meaning;
 ghost use Rattle.gs_triples.specs.Meanings.{made_of};
-ghost use Rattle.gs_triple_parser.specs.Views.{word_at, symbol_at, context_of};
+ghost use Rattle.gs_triple_parser.specs.Views.{token_at, context_of};
 ghost use Rattle.gs_triple_parser.specs.Contexts.{IsText};
-ghost use Rattle.gs_triple_parser.specs.Terms.{IsNumbered, labelled_of, word_of, subject_of, typed_of};
+ghost use Rattle.gs_triple_parser.specs.Terms.{typed_of};
 
 use crate::contexts::Context;
-use crate::symbols::{Symbol, Word};
-use crate::vocabulary::{XSD_STRING, rdf_type};
-use gs_blank::Numbering;
+use crate::symbols::{Symbol, TermToken};
+use crate::vocabulary::XSD_STRING;
 use gs_model::{Fault, Refusal, memory_apart};
 use gs_term::TermText;
 use std::alloc::{AllocError, Global};
@@ -44,7 +43,7 @@ fn made_iri(alloc: Global, text: &str) -> Result<Result<TermText, Fault>, AllocE
 }
 
 /// A literal of a datatype.
-fn made_literal(
+pub fn made_literal(
     alloc: Global,
     form: &str,
     datatype: &str,
@@ -55,7 +54,7 @@ fn made_literal(
 }
 
 /// What stands after the front of a text.
-fn after<'a>(text: &'a str, front: &str) -> Option<&'a str>
+pub fn after<'a>(text: &'a str, front: &str) -> Option<&'a str>
     ensures { option_copied result ≡ behind front.now text.now }
 {
     match text.as_bytes().strip_prefix(front.as_bytes()) {
@@ -90,12 +89,12 @@ fn lexical(alloc: Global, text: &str) -> Result<Option<String>, AllocError>
 pub fn iri(
     alloc: Global,
     context: &Context,
-    word: Word,
+    token: TermToken,
 ) -> Result<Result<TermText, Fault>, AllocError>
-    ensures value { IfOk result (λ m. m ≡ meaning.iri (context_of context.now) (word_at word.entry)) }
+    ensures value { IfOk result (λ m. m ≡ meaning.iri (context_of context.now) (token_at token.entry)) }
     ensures kind { IfOk result (λ m. IfOk m (λ t. is_iri t ≡ true)) }
 {
-    match context.iri(word)? {
+    match context.iri(token)? {
         None => Ok(Err(Fault::Syntax)),
         Some(text) => made_iri(alloc, text.as_str()),
     }
@@ -136,85 +135,14 @@ pub fn typed(
 ) -> Result<Result<TermText, Fault>, AllocError>
     ensures { IfOk result (λ m. m ≡ typed_of context.now text.now datatype.entry) }
 {
-    let Symbol::Word(word) = datatype else {
+    let Symbol::Word(token) = datatype else {
         return Ok(Err(Fault::Syntax));
     };
     let Some(form) = lexical(alloc, text)? else {
         return Ok(Err(Fault::Syntax));
     };
-    match context.iri(word)? {
+    match context.iri(token)? {
         None => Ok(Err(Fault::Syntax)),
         Some(iri) => made_literal(alloc, form.as_str(), iri.as_str()),
-    }
-}
-
-/// A verb.
-#[tactic(auto, using(crate::proofs::TermLemmas::verb_is))]
-pub fn verb(
-    alloc: Global,
-    context: &Context,
-    symbol: Symbol,
-) -> Result<Result<TermText, Fault>, AllocError>
-    ensures value { IfOk result (λ m. m ≡ meaning.verb (context_of context.now) (symbol_at symbol.entry)) }
-    ensures kind { IfOk result (λ m. IfOk m (λ t. is_iri t ≡ true)) }
-{
-    match symbol {
-        Symbol::Word(word) => iri(alloc, context, word),
-        Symbol::A => Ok(Ok(rdf_type(alloc)?)),
-        _ => Ok(Err(Fault::Syntax)),
-    }
-}
-
-/// The blank node of a label.
-fn labelled(
-    alloc: Global,
-    context: &Context,
-    numbering: &mut Numbering,
-    label: &str,
-) -> Result<Result<TermText, Fault>, AllocError>
-    ensures value { IsNumbered result numbering.new (labelled_of context.now numbering.old label.now) }
-    ensures kind { IfOk result (λ m. IfOk m (λ t. is_subject t ≡ true)) }
-{
-    let Some(label) = after(label, "_:") else {
-        return Ok(Err(Fault::Syntax));
-    };
-    let Ok(number) = numbering.of_label(label) else {
-        return Err(AllocError);
-    };
-    Ok(Ok(blank(alloc, context.request, number)?))
-}
-
-/// The term of one token.
-#[tactic(auto, unfolding(gs_triples::specs::Meanings::word, gs_triples::specs::Meanings::made_of, gs_triples::specs::Meanings::iri), using(crate::proofs::TermLemmas::value_is))]
-pub fn word(
-    alloc: Global,
-    context: &Context,
-    numbering: &mut Numbering,
-    word: Word,
-) -> Result<Result<TermText, Fault>, AllocError>
-    ensures { IsNumbered result numbering.new (word_of context.now numbering.old word.entry) }
-{
-    match word {
-        Word::Label(label) => labelled(alloc, context, numbering, label),
-        Word::Plain(text, datatype) => made_literal(alloc, text, datatype),
-        _ => iri(alloc, context, word),
-    }
-}
-
-/// The subject of one token.
-#[tactic(auto, unfolding(gs_triples::specs::Meanings::word, gs_triples::specs::Meanings::made_of, gs_triples::specs::Meanings::iri), using(crate::proofs::TermLemmas::value_is))]
-pub fn subject(
-    alloc: Global,
-    context: &Context,
-    numbering: &mut Numbering,
-    word: Word,
-) -> Result<Result<TermText, Fault>, AllocError>
-    ensures value { IsNumbered result numbering.new (subject_of context.now numbering.old word.entry) }
-    ensures kind { IfOk result (λ m. IfOk m (λ t. is_subject t ≡ true)) }
-{
-    match word {
-        Word::Label(label) => labelled(alloc, context, numbering, label),
-        Word::Plain(_, _) => Ok(Err(Fault::Syntax)),
-        _ => iri(alloc, context, word),
     }
 }

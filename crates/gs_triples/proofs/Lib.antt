@@ -5,4 +5,5 @@ pub mod TriplesLemmas
 pub mod WalkLemmas
 pub mod GoalLemmas
 pub mod MachineLemmas
+pub mod LanguageLemmas
 mod Examples

@@ -1,8 +1,11 @@
 -- What a grammar makes of Turtle's triples, and what may stand in them: Turtle (25 February 2014), and the operations of
 -- SPARQL 1.1 Update (21 March 2013) that give or match triples.
-use Rattle.std.specs.Prelude.{ℕ, Bool, true, false, List, Option, None}
+use Rattle.std.specs.Prelude.{ℕ, Bool, true, false, List, Option, Some, None}
 use Rattle.gs_model.specs.Terms.{Term}
 use Rattle.gs_model.specs.Triples.{RdfTriple}
+use Rattle.gs_term.specs.declared.patterns.Part.{Part}
+use Rattle.gs_term.specs.declared.patterns.Part.TheVariants.{Term as TheTerm, Variable}
+use Rattle.gs_term.specs.declared.patterns.Pattern.{Pattern}
 
 -- what triples are made of, and what may stand in them
 pub record Language (Value Triple : Type 0) : Type 0 where
@@ -24,3 +27,11 @@ triple s p o = record { subject = s; predicate = p; object = o }
 -- Turtle's: the terms and the triples of RDF, without variables
 abbrev pub of_terms : Language Term RdfTriple
 of_terms = record { of_term = λ t. t; variable = λ x. None; triple = triple; nodes = true; lone_lists = false }
+
+-- SPARQL 1.1 Query (21 March 2013), section 18.1.5: subject, predicate and object, of which each may be a variable
+abbrev pub pattern : Part → Part → Part → Pattern
+pattern s p o = record { subject = s; predicate = p; object = o }
+
+-- those of a query's groups (section 19.8): terms, and variables at every place
+abbrev pub of_patterns : Language Part Pattern
+of_patterns = record { of_term = TheTerm; variable = λ x. Some (Variable x); triple = pattern; nodes = true; lone_lists = true }

@@ -21,6 +21,10 @@ pub record Context (Value Triple : Type 0) : Type 0 where
   pub request : ℕ
   pub language : Language Value Triple
 
+-- the same base, prefixes and request, for triples of another language
+abbrev pub in_language : {Value Triple V T : Type 0} → Language Value Triple → Context V T → Context Value Triple
+in_language l env = record { base = env.base; prefixes = env.prefixes; request = env.request; language = l }
+
 -- a name of the RDF vocabulary
 abbrev pub rdf : List ℕ → Term
 rdf name = Iri (codes "http://www.w3.org/1999/02/22-rdf-syntax-ns#" ++ name)
