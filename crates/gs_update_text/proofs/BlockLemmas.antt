@@ -16,7 +16,8 @@ use Rattle.gs_update_text.specs.Requests.{Rejection, OutOfProfile}
 use Rattle.gs_update_text.specs.Operations.{Block}
 use Rattle.gs_update_text.specs.Grammar.{IsTemplate}
 use Rattle.gs_update_text.specs.Grammar as rule
-use Rattle.gs_update_text.specs.Blocks.{BlockState, AtTriples, WithinTriples, BlockTurn, Takes, Stops, Shut, triples_so_far, counted, entered, shut, parted, within, barred, at_triples, moved, block_step, block_taken, block_run}
+use Rattle.gs_triples.specs.States.{triples_so_far}
+use Rattle.gs_update_text.specs.Blocks.{BlockState, AtTriples, WithinTriples, BlockTurn, Takes, Stops, Shut, counted, entered, shut, parted, within, barred, at_triples, moved, block_step, block_taken, block_run}
 use Rattle.gs_update_text.proofs.LeadLemmas.{Leads, stay, go, LeadTriples, triples_lead}
 use Rattle.gs_update_text.proofs.GrowthLemmas.{Extends, NotLost, leads_grow}
 

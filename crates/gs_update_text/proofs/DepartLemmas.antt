@@ -25,7 +25,8 @@ use Rattle.gs_update_text.specs.Grammar.{IsTemplate}
 use Rattle.gs_update_text.specs.Grammar as rule
 use Rattle.gs_update_text.specs.Profile.{Departs, ends_in_string, EndsString}
 use Rattle.gs_update_text.specs.Profile as profile
-use Rattle.gs_update_text.specs.Blocks.{BlockState, AtTriples, WithinTriples, Takes, Stops, triples_so_far, counted, entered, within, parted, moved}
+use Rattle.gs_triples.specs.States.{triples_so_far}
+use Rattle.gs_update_text.specs.Blocks.{BlockState, AtTriples, WithinTriples, Takes, Stops, counted, entered, within, parted, moved}
 use Rattle.gs_update_text.proofs.StopLemmas.{Guards, IsExcess}
 use Rattle.gs_update_text.proofs.RefusalLemmas.{StopsAt, at_graph, at_excess, at_end}
 
@@ -72,7 +73,7 @@ module _ {Value Triple : Type 0} where
   told_label b few P w (Ends env T n) h =
       let both : Stops (Broken Syntax) ≡ Stops OutOfProfile = sym (ap (λ z. cond z (Stops OutOfProfile) (parted b (AWord w) env (P ++ T) n)) (few (P ++ T))) ∙ h in cc
 
-old_label : (n : Numbers) (s : BlockState Term RdfTriple) (t : Symbol) → is_old n t ≡ true → moved (insert_block n) s t ≡ Stops OutOfProfile → ⊥
+old_label : (n : Numbers) (s : BlockState Term RdfTriple) (t : Symbol) → is_old n.1 n t ≡ true → moved (insert_block n) s t ≡ Stops OutOfProfile → ⊥
 old_label n (AtTriples env P k) (AWord w) h q = label_entered (insert_block n) (λ T. refl) P (opening env k (AWord w)) q
 old_label n (WithinTriples P s) (AWord w) h q = told_label (insert_block n) (λ T. refl) P w (triples_machine.step s (AWord w)) q
 old_label n s t h q = cc

@@ -13,7 +13,7 @@ use Rattle.gs_triples.specs.Program.{stands_alone, has_triple}
 use Rattle.gs_triples.specs.States.{Frame, ToObject, ToVerbs, State, Opened, Heading, Held, Typing, Lost, Turn, Goes, Ends}
 use Rattle.gs_triples.specs.Machine.{give_token, put, object, after_verb, first_object, head, go_on, begin, opening, step}
 use Rattle.gs_update_text.specs.Profile.{EndsString, is_string}
-use Rattle.gs_update_text.specs.Blocks.{triples_so_far}
+use Rattle.gs_triples.specs.States.{triples_so_far}
 
 module _ {Value Triple : Type 0} where
   -- no blank nodes may stand, and no collections alone

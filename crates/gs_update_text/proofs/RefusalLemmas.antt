@@ -16,7 +16,8 @@ use Rattle.gs_update_text.specs.Grammar.{IsTemplate}
 use Rattle.gs_update_text.specs.Grammar as rule
 use Rattle.gs_update_text.specs.Profile.{EndsString, is_string, ends_in_string, AreDotted}
 use Rattle.gs_update_text.specs.Profile as profile
-use Rattle.gs_update_text.specs.Blocks.{AtTriples, triples_so_far, shut, parted, at_triples, block_run}
+use Rattle.gs_triples.specs.States.{triples_so_far}
+use Rattle.gs_update_text.specs.Blocks.{AtTriples, shut, parted, at_triples, block_run}
 use Rattle.gs_update_text.proofs.LeadLemmas.{lead_triples}
 use Rattle.gs_update_text.proofs.BlockLemmas.{block_told}
 use Rattle.gs_update_text.proofs.FlatLemmas.{opening_flat}

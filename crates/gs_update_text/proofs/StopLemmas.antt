@@ -15,7 +15,8 @@ use Rattle.gs_triples.specs.Machine.{begin, opening, put, go_on}
 use Rattle.gs_update_text.specs.Requests.{Rejection, Broken, OutOfProfile}
 use Rattle.gs_update_text.specs.Operations.{Block}
 use Rattle.gs_update_text.specs.Profile.{EndsString, is_string, ends_in_string}
-use Rattle.gs_update_text.specs.Blocks.{BlockState, WithinTriples, BlockTurn, Takes, Shuts, Stops, Shut, triples_so_far, counted, entered, parted, within, barred, moved, settled, departure, block_step, block_run}
+use Rattle.gs_triples.specs.States.{triples_so_far}
+use Rattle.gs_update_text.specs.Blocks.{BlockState, WithinTriples, BlockTurn, Takes, Shuts, Stops, Shut, counted, entered, parted, within, barred, moved, ended_within, block_step, block_run}
 use Rattle.gs_update_text.proofs.LeadLemmas.{Leads, stay, go}
 use Rattle.gs_update_text.proofs.GrowthLemmas.{NotLost}
 use Rattle.gs_update_text.proofs.BlockLemmas.{block_told}
@@ -55,6 +56,10 @@ ends_here t ts h = tt
 abbrev rejection_or : Rejection → Result Shut Rejection → Rejection
 rejection_or r (Ok d) = r
 rejection_or r (Err e) = e
+
+not_full : (c : Bool) → cond c OutOfProfile (Broken Syntax) ≡ OutOfProfile → c ≡ true
+not_full true h = refl
+not_full false h = absurd (cc)
 
 module _ {Value Triple : Type 0} where
   -- what a block needs, so that it counts triples without blank nodes alone, and refuses no token that it bars otherwise
@@ -165,37 +170,26 @@ module _ {Value Triple : Type 0} where
   full_end b P env t ts (string_over x d w p Q n k l q h) c T i e few many =
       string_exceeds b P env x d w p Q n l (t ∷ ts) q (ends_here t ts h) few (ap (λ z. b.too_many (P ++ z)) (ap (triples_or T) e) ∙ many)
 
-  few_departure : (b : Block Value Triple) (P : List Triple) (s : triples.State Value Triple) → b.too_many (P ++ triples_so_far s) ≡ false → departure (counted b P s) ≡ OutOfProfile → ⊥
-  few_departure b P s few h =
-      let both : Broken Syntax ≡ OutOfProfile = sym (ap (λ z. departure (cond z (Stops OutOfProfile) (Takes (WithinTriples P s)))) few) ∙ h in cc
+  -- a text that ends within triples that are too many
+  full_text : (b : Block Value Triple) (P : List Triple) (env : Context Value Triple) {t : Symbol} {s : triples.State Value Triple} {m : triples.Turn Value Triple} → Moves env t s m
+      → (c : Context Value Triple) (T : List Triple) (k : Numbers) → m ≡ Ends c T k → b.too_many (P ++ triples_so_far s) ≡ false → b.too_many (P ++ T) ≡ true → StopsWithin b P [] s
+  full_text b P env (same s u f k) c T l e few many = absurd (cc)
+  full_text b P env (astray s f) c T l e few many = absurd (cc)
+  full_text b P env (over s n) c T l e few many =
+      absurd (both_ways b (P ++ T) (P ++ triples_so_far s) (ap (λ z. P ++ z) (sym (ap (triples_or T) e))) few many)
+  full_text b P env (one s d w p n o h) c T l e few many = absurd (cc)
+  full_text b P env (string_on x d w p Q n l u k h f j) c T i e few many = absurd (cc)
+  full_text b P env (string_over x d w p Q n k l q h) c T i e few many =
+      string_exceeds b P env x d w p Q n l [] q tt few (ap (λ z. b.too_many (P ++ z)) (ap (triples_or T) e) ∙ many)
 
-  -- a text that ends within triples
-  not_full : (b : Block Value Triple) (P : List Triple) (s : triples.State Value Triple) → b.too_many (P ++ triples_so_far s) ≡ false → departure (entered b P s) ≡ OutOfProfile → ⊥
-  not_full b P (Lost e) few h = cc
-  not_full b P (Opened env n) few h = few_departure b P (Opened env n) few h
-  not_full b P (Closed v env T n) few h = few_departure b P (Closed v env T n) few h
-  not_full b P (Heading g fs env T n) few h = few_departure b P (Heading g fs env T n) few h
-  not_full b P (Held x fs env T n) few h = few_departure b P (Held x fs env T n) few h
-  not_full b P (Typing x fs env T n) few h = few_departure b P (Typing x fs env T n) few h
-
-  string_end : (b : Block Value Triple) (P : List Triple) (env : Context Value Triple) (x : List ℕ) (d : ℕ) (w p : Value) (T : List Triple) (n : Numbers) (r : Result Term Fault) → simple x ≡ r → b.too_many (P ++ T) ≡ false
-      → b.too_many (P ++ triples_so_far (put (ToObject d w p ∷ []) env T n r)) ≡ true → departure (entered b P (put (ToObject d w p ∷ []) env T n r)) ≡ OutOfProfile → StopsWithin b P [] (Held x (ToObject d w p ∷ []) env T n)
-  string_end b P env x d w p T n (Err e) q few many h = absurd (cc)
-  string_end b P env x d w p T n (Ok l) q few many h = string_exceeds b P env x d w p T n l [] q tt few many
-
-  flat_end : (b : Block Value Triple) (P : List Triple) (env c : Context Value Triple) (x : List ℕ) (fs : List (Frame Value)) (T : List Triple) (n : Numbers) → Flat env (Held x fs c T n) → b.too_many (P ++ T) ≡ false
-      → b.too_many (P ++ triples_so_far (put fs c T n (simple x))) ≡ true → departure (entered b P (put fs c T n (simple x))) ≡ OutOfProfile → StopsWithin b P [] (Held x fs c T n)
-  flat_end b P env _ x _ T n (flat.held _ d w p _ _) few many h = string_end b P env x d w p T n (simple x) refl few many h
-
-  held_end : (b : Block Value Triple) (P : List Triple) (env c : Context Value Triple) → Guards b env → (x : List ℕ) (fs : List (Frame Value)) (T : List Triple) (n : Numbers) → (IsPlain env → Flat env (Held x fs c T n))
-      → b.too_many (P ++ T) ≡ false → departure (entered b P (put fs c T n (simple x))) ≡ OutOfProfile → (m : Bool) → b.too_many (P ++ triples_so_far (put fs c T n (simple x))) ≡ m → StopsWithin b P [] (Held x fs c T n)
-  held_end b P env c g x fs T n f few h true q = flat_end b P env c x fs T n (f (g.plain (P ++ triples_so_far (put fs c T n (simple x))) q)) few q h
-  held_end b P env c g x fs T n f few h false q = absurd (not_full b P (put fs c T n (simple x)) q h)
-
-  text_end : (b : Block Value Triple) (P : List Triple) (env : Context Value Triple) → Guards b env → (s : triples.State Value Triple) → (IsPlain env → Flat env s)
-      → b.too_many (P ++ triples_so_far s) ≡ false → departure (entered b P (settled s)) ≡ OutOfProfile → StopsWithin b P [] s
-  text_end b P env g (Held x fs c T n) f few h = held_end b P env c g x fs T n f few h (b.too_many (P ++ triples_so_far (put fs c T n (simple x)))) refl
-  text_end b P env g s f few h = absurd (not_full b P s few h)
+  end_turn : (b : Block Value Triple) (P : List Triple) (env : Context Value Triple) → Guards b env → (s : triples.State Value Triple) → (IsPlain env → Flat env s)
+      → b.too_many (P ++ triples_so_far s) ≡ false → (u : triples.Turn Value Triple) → triples_machine.step s (brace 0) ≡ u → ended_within b P u ≡ OutOfProfile → StopsWithin b P [] s
+  end_turn b P env g s f few (Goes (Lost e)) q h = absurd (cc)
+  end_turn b P env g s f few (Goes v) q h = absurd (cc)
+  end_turn b P env g s f few (Ends c T k) q h =
+      let many : b.too_many (P ++ T) ≡ true = not_full (b.too_many (P ++ T)) h in
+      let plain : IsPlain env = g.plain (P ++ T) many in
+      full_text b P env (flat_moves (brace 0) plain (f plain)) c T k q few many
 
   abbrev Again : Block Value Triple → List Triple → Context Value Triple → List Symbol → Type 0
   Again b P env ts =
@@ -225,7 +219,7 @@ module _ {Value Triple : Type 0} where
   -- a block that is refused within triples
   pub stops_within : (b : Block Value Triple) (P : List Triple) (env : Context Value Triple) → Guards b env → (ts : List Symbol) → Again b P env ts
   unfolding block_run
-  stops_within b P env g [] s f few h = text_end b P env g s f few (ap (rejection_or OutOfProfile) h)
+  stops_within b P env g [] s f few h = end_turn b P env g s f few (triples_machine.step s (brace 0)) refl (ap (rejection_or OutOfProfile) h)
   stops_within b P env g (t ∷ ts) s f few h =
       let (free, k) : (b.bars t ≡ false) × (block_told b ts (within b t P (triples_machine.step s t)) ≡ Err OutOfProfile) = free_token b env g (WithinTriples P s) t ts h in
       turn_stop b P env g t ts s f few free (stops_within b P env g ts) (triples_machine.step s t) refl k

@@ -39,9 +39,9 @@ pub data IsPrologue : Scope → List Symbol → Scope → Type 0 where
 abbrev pub braced : ℕ → List Symbol → ℕ → List Symbol
 braced a xs e = Foreign kind.OpenBrace a ∷ xs ++ Foreign kind.CloseBrace e ∷ []
 
--- no token is a label that has a number already
+-- no token is a label that has one of the numbers given so far
 abbrev pub AreNew : Numbers → List Symbol → Type 0
-AreNew n xs = list_any (is_old n) xs ≡ false
+AreNew n xs = list_any (is_old n.1 n) xs ≡ false
 
 -- [30] Update1, as far as it is served: an operation, and the numbers after it
 pub data IsOperation (env : Scope) (n : Numbers) : List Symbol → Written → Numbers → Type 0 where
