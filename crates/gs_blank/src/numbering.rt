@@ -1,6 +1,6 @@
 //! The labels of a body and their numbers.
 ghost use Rattle.std.specs.Prelude.{◌≡◌, ◌+◌, OnOk, OnErr, IfOk, IfErr};
-ghost use Rattle.gs_blank.specs.Numbers.{no_numbers, number_of, one_more};
+ghost use Rattle.gs_blank.specs.Numbers.{no_numbers, known, number_of, one_more};
 
 use gs_model::Refusal;
 use std::alloc::Global;
@@ -40,6 +40,20 @@ impl Numbering {
             labels: BTreeMap::new(alloc),
             last: 0,
         }
+    }
+
+    /// The number that a label has, if it has one. Logarithmic in the number of labels.
+    pub fn number(&self, label: &str) -> Option<u64>
+        ensures { result ≡ known self.now label.now }
+    {
+        self.labels.get(label).copied()
+    }
+
+    /// The last number that was given, 0 where there is none.
+    pub fn last(&self) -> u64
+        ensures { result ≡ self.now.1 }
+    {
+        self.last
     }
 
     /// The number of a label: the one that it has, or else the next. After `NoMemory` nothing has

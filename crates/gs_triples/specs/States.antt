@@ -1,5 +1,5 @@
 -- The states of the machine that reads triples, and its stack.
-use Rattle.std.specs.Prelude.{ℕ, List}
+use Rattle.std.specs.Prelude.{ℕ, List, []}
 use Rattle.gs_blank.specs.Numbers.{Numbers}
 use Rattle.gs_triples.specs.Meanings.{Fault, Context}
 use Rattle.gs_triples.specs.Goals.{Goal}
@@ -33,3 +33,13 @@ pub data State (Value Triple : Type 0) : Type 0 where
 pub data Turn (Value Triple : Type 0) : Type 0 where
   Goes : State Value Triple → Turn Value Triple
   Ends : Context Value Triple → List Triple → Numbers → Turn Value Triple
+
+module _ {Value Triple : Type 0} where
+  -- the triples that a state has
+  abbrev pub triples_so_far : State Value Triple → List Triple
+  triples_so_far (Opened env n) = []
+  triples_so_far (Closed v env P n) = P
+  triples_so_far (Heading g fs env P n) = P
+  triples_so_far (Held x fs env P n) = P
+  triples_so_far (Typing x fs env P n) = P
+  triples_so_far (Lost e) = []

@@ -1,6 +1,6 @@
 -- The machine of a block over triples, up to the token that ends them, and back.
-use Rattle.std.proofs.Common.{◌≡◌, ℕ, zero, suc, ◌≤◌, Bool, true, false, cond, List, [], ◌∷◌, ◌++◌, length, refl, sym, ap, ◌∙◌, append_assoc, append-nil, subst, arith, length-append}
-use Rattle.std.specs.Prelude.{◌||◌, Result, Ok, Err, Option, Some, None}
+use Rattle.std.proofs.Common.{◌≡◌, ℕ, false, cond, List, ◌∷◌, ◌++◌, refl, sym, ap, ◌∙◌, append_assoc, append-nil}
+use Rattle.std.specs.Prelude.{◌||◌, Result}
 use Rattle.std.specs.List.{list_any}
 use Rattle.std.proofs.lemmas.Bool.{or_parts}
 use Rattle.std.proofs.lemmas.List.Folds.{list_any-append}
@@ -8,17 +8,17 @@ use Rattle.gs_blank.specs.Numbers.{Numbers}
 use Rattle.gs_lex.specs.declared.kinds.TokenKind.TheVariants as kind
 use Rattle.gs_triples.specs.Symbols.{Symbol, Dot, Foreign}
 use Rattle.gs_triples.specs.Meanings.{Context}
-use Rattle.gs_triples.specs.Triples.{AreTriples, EndsVerbs}
 use Rattle.gs_triples.specs.States as triples
 use Rattle.gs_triples.specs.States.{Opened, Closed, Heading, Held, Typing, Lost, Goes, Ends}
 use Rattle.gs_triples.specs.Machine as triples_machine
 use Rattle.gs_triples.specs.Machine.{opening}
-use Rattle.gs_update_text.specs.Requests.{UpdateOperation, Rejection, OutOfProfile}
+use Rattle.gs_update_text.specs.Requests.{Rejection, OutOfProfile}
 use Rattle.gs_update_text.specs.Operations.{Block}
 use Rattle.gs_update_text.specs.Grammar.{IsTemplate}
 use Rattle.gs_update_text.specs.Grammar as rule
-use Rattle.gs_update_text.specs.Blocks.{BlockState, AtTriples, WithinTriples, BlockTurn, Takes, Shuts, Stops, Shut, triples_so_far, counted, entered, shut, parted, followed, within, barred, at_triples, moved, block_step, block_taken, block_run}
-use Rattle.gs_update_text.proofs.LeadLemmas.{Leads, stay, go, LeadTriples, triples_lead, lead_triples}
+use Rattle.gs_triples.specs.States.{triples_so_far}
+use Rattle.gs_update_text.specs.Blocks.{BlockState, AtTriples, WithinTriples, BlockTurn, Takes, Stops, Shut, counted, entered, shut, parted, within, barred, at_triples, moved, block_step, block_taken, block_run}
+use Rattle.gs_update_text.proofs.LeadLemmas.{Leads, stay, go, LeadTriples, triples_lead}
 use Rattle.gs_update_text.proofs.GrowthLemmas.{Extends, NotLost, leads_grow}
 
 -- a token that parts or ends the triples of a block
@@ -111,7 +111,7 @@ module _ {Value Triple : Type 0} where
       block_triples b bounds P (Foreign kind.CloseBrace e) us (triples_lead a (Foreign kind.CloseBrace e) tt) new (free (Foreign kind.CloseBrace e) tt) few
   template_run {env = env} {n = n} b bounds P e us (rule.more {k = k} {l = l} {xs = xs} {ys = ys} {T = T} {U = U} i a r) new free few =
       let (here, later) : (list_any b.bars xs ≡ false) × ((b.bars (Dot i) || list_any b.bars ys) ≡ false) =
-          or_parts (list_any b.bars xs) (b.bars (Dot i) || list_any b.bars ys) (sym (list_any-append b.bars xs (Dot i ∷ ys)) ∙ new) in
+      or_parts (list_any b.bars xs) (b.bars (Dot i) || list_any b.bars ys) (sym (list_any-append b.bars xs (Dot i ∷ ys)) ∙ new) in
       let there : list_any b.bars ys ≡ false = (or_parts (b.bars (Dot i)) (list_any b.bars ys) later).1 in
       let both : b.too_many ((P ++ T) ++ U) ≡ false = ap b.too_many (append_assoc P T U) ∙ few in
       ap (λ z. block_run b z (AtTriples env P n)) (append_assoc xs (Dot i ∷ ys) (Foreign kind.CloseBrace e ∷ us))

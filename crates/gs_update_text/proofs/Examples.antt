@@ -4,7 +4,6 @@ use Rattle.std.specs.Prelude.{codes, Some, None}
 use Rattle.std.specs.Str.{is_utf8, chars}
 use lib.Utf8.{encode}
 use Rattle.gs_model.specs.Terms.{Term, Iri, Blank, Literal, Typed, suffix}
-use Rattle.gs_model.specs.Triples.{RdfTriple}
 use Rattle.gs_term.specs.declared.patterns.Part.TheVariants.{Term as TheTerm, Variable as Unknown}
 use Rattle.gs_lex.specs.declared.kinds.TokenKind.{TokenKind}
 use Rattle.gs_lex.specs.declared.kinds.TokenKind.TheVariants as kind
@@ -15,7 +14,7 @@ use Rattle.gs_iri.specs.Resolving.{scheme_text, marked, parts_text, through_last
 use Rattle.gs_escape.specs.Meanings.{unescaped, stands_short}
 use Rattle.gs_escape.specs.Tokens.{between, quoted, iri_of, string_of}
 use Rattle.gs_blank.specs.Numbers.{no_numbers}
-use Rattle.gs_triples.specs.Symbols.{Symbol, AWord, Text, At, A, OpenList, CloseList, Comma, Semicolon, Dot, PrefixWord, BaseWord, Foreign, Reference, Namespace, Label, Plain, Variable, xsd}
+use Rattle.gs_triples.specs.Symbols.{Symbol, AWord, Text, At, A, OpenList, CloseList, Comma, Semicolon, Dot, BaseWord, Foreign, Reference, Label, Plain, Variable, xsd}
 use Rattle.gs_triples.specs.Languages.{triple}
 use Rattle.gs_triples.specs.Meanings.{Syntax, word, iri, made_of, simple, tagged, rdf}
 use Rattle.gs_triples.specs.Directives.{with_base}
@@ -29,54 +28,54 @@ use Rattle.gs_update_text.specs.Machine.{updates, step, ended}
 use Rattle.gs_update_text.proofs.UpdateLemmas.{written}
 
 -- what these symbols say
-abbrev says : List Symbol → Request
+abbrev pub says : List Symbol → Request
 says ts = rest updates (Between (first_scope (codes "http://e/g") 1) no_numbers) ts
 
 -- a word or a brace that ends there
-abbrev mark : TokenKind → ℕ → Symbol
+abbrev pub mark : TokenKind → ℕ → Symbol
 mark k e = Foreign k e
 
-abbrev insert_data : List Symbol → ℕ → List Symbol
+abbrev pub insert_data : List Symbol → ℕ → List Symbol
 insert_data ts e = mark kind.Insert 6 ∷ mark kind.Data 11 ∷ mark kind.OpenBrace 13 ∷ ts ++ mark kind.CloseBrace e ∷ []
 
-abbrev delete_data : List Symbol → ℕ → List Symbol
+abbrev pub delete_data : List Symbol → ℕ → List Symbol
 delete_data ts e = mark kind.Delete 6 ∷ mark kind.Data 11 ∷ mark kind.OpenBrace 13 ∷ ts ++ mark kind.CloseBrace e ∷ []
 
-abbrev delete_where : List Symbol → ℕ → List Symbol
+abbrev pub delete_where : List Symbol → ℕ → List Symbol
 delete_where ts e = mark kind.Delete 6 ∷ mark kind.Where 12 ∷ mark kind.OpenBrace 14 ∷ ts ++ mark kind.CloseBrace e ∷ []
 
 -- `<http://e/a>`, `<http://e/p>`, a number, and variables
-abbrev a : Symbol
+abbrev pub a : Symbol
 a = AWord (Reference (codes "<http://e/a>") 0)
 
-abbrev p : Symbol
+abbrev pub p : Symbol
 p = AWord (Reference (codes "<http://e/p>") 0)
 
-abbrev one : Symbol
+abbrev pub one : Symbol
 one = AWord (Plain (codes "1") (xsd (codes "integer")))
 
-abbrev v : List ℕ → Symbol
+abbrev pub v : List ℕ → Symbol
 v x = AWord (Variable x)
 
 -- their terms
-abbrev ta : Term
+abbrev pub ta : Term
 ta = Iri (codes "http://e/a")
 
-abbrev tp : Term
+abbrev pub tp : Term
 tp = Iri (codes "http://e/p")
 
-abbrev integer : List ℕ → Term
+abbrev pub integer : List ℕ → Term
 integer x = Literal x (Typed (xsd (codes "integer")))
 
-abbrev rdf_type : Term
+abbrev pub rdf_type : Term
 rdf_type = rdf (codes "type")
 
 -- `?s ?p ?o`
-abbrev spo : List Symbol
+abbrev pub spo : List Symbol
 spo = v (codes "s") ∷ v (codes "p") ∷ v (codes "o") ∷ []
 
 -- `DELETE WHERE { ?s ?p ?o }` that ends after 20 bytes
-abbrev any : Written
+abbrev pub any : Written
 any = written (DeletesWhere (pattern (Unknown (codes "s")) (Unknown (codes "p")) (Unknown (codes "o")) ∷ [])) 20
 
 -- an empty text is an update without operations
@@ -198,4 +197,3 @@ fifth_string = refl
 fifth_tag : says (mark kind.Delete 6 ∷ mark kind.Where 12 ∷ mark kind.OpenBrace 14 ∷ spo ++ Dot 1 ∷ v (codes "s") ∷ v (codes "p") ∷ v (codes "o") ∷ Comma ∷ v (codes "o") ∷ Semicolon ∷ v (codes "p") ∷ v (codes "o") ∷ Comma ∷ Text (34 ∷ codes "x" ++ 34 ∷ []) ∷ At (codes "-") ∷ []) ≡ ([], Some (Broken Syntax))
 unfolding rest step ended block_run triples_machine.step triples_machine.ended word iri made_of simple tagged with_base suffix iri_of string_of quoted between unescaped stands_short is_utf8 chars encode resolved resolved_parts parts_of before from behind is_scheme has_scheme scheme_of behind_scheme behind_slashes authority_of behind_authority path_of behind_path query_of behind_query fragment_of dots segments_of closed is_dots is_dot is_dot_dot moved output_of text_of_segments scheme_text marked parts_text through_last directory_of front_text
 fifth_tag = refl
-

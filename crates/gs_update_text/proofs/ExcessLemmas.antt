@@ -1,5 +1,5 @@
 -- A block with too many triples stops, at the last token of the first that is one too many.
-use Rattle.std.proofs.Common.{◌≡◌, ℕ, Bool, true, false, cond, List, [], ◌∷◌, ◌++◌, refl, sym, ap, ◌∙◌, append_assoc, append-nil, subst}
+use Rattle.std.proofs.Common.{◌≡◌, ℕ, Bool, true, false, cond, List, [], ◌∷◌, ◌++◌, refl, sym, ap, ◌∙◌, append_assoc, append-nil}
 use Rattle.std.specs.Prelude.{◌||◌, Result, Ok, Err}
 use Rattle.std.specs.List.{list_any}
 use Rattle.std.proofs.lemmas.Bool.{or_parts}
@@ -8,7 +8,7 @@ use Rattle.gs_model.specs.Terms.{Term}
 use Rattle.gs_blank.specs.Numbers.{Numbers}
 use Rattle.gs_lex.specs.declared.kinds.TokenKind.TheVariants as kind
 use Rattle.gs_triples.specs.Symbols.{Symbol, At, Carets, Semicolon, Comma, Dot, Foreign}
-use Rattle.gs_triples.specs.Meanings.{Fault, Context, simple}
+use Rattle.gs_triples.specs.Meanings.{Syntax, Fault, Context, simple}
 use Rattle.gs_triples.specs.Goals.{Goal, Object, Inside, Verbs, After, Semis, Begun, Items}
 use Rattle.gs_triples.specs.Program.{stands_alone}
 use Rattle.gs_triples.specs.Triples.{AreTriples}
@@ -16,15 +16,16 @@ use Rattle.gs_triples.specs.States as triples
 use Rattle.gs_triples.specs.States.{Frame, ToObject, ToClose, ToFirst, ToItem, ToVerbs, ToMore, Opened, Closed, Heading, Held, Typing, Lost, Goes, Ends}
 use Rattle.gs_triples.specs.Machine as triples_machine
 use Rattle.gs_triples.specs.Machine.{opening, head, leave, go_on, put, give}
-use Rattle.gs_update_text.specs.Requests.{Rejection, OutOfProfile}
+use Rattle.gs_update_text.specs.Requests.{Rejection, Broken, OutOfProfile}
 use Rattle.gs_update_text.specs.Operations.{Block}
 use Rattle.gs_update_text.specs.Grammar.{IsTemplate}
 use Rattle.gs_update_text.specs.Grammar as rule
 use Rattle.gs_update_text.specs.Profile.{EndsString, ends_in_string, AreDotted}
 use Rattle.gs_update_text.specs.Profile as profile
-use Rattle.gs_update_text.specs.Blocks.{BlockState, AtTriples, WithinTriples, BlockTurn, Takes, Stops, Shut, triples_so_far, counted, entered, within, parted, followed, barred, at_triples, moved, block_step, departure, settled, block_ended, block_taken, block_run}
+use Rattle.gs_triples.specs.States.{triples_so_far}
+use Rattle.gs_update_text.specs.Blocks.{AtTriples, WithinTriples, Takes, Stops, Shut, counted, entered, within, parted, ended_within, block_run}
 use Rattle.gs_update_text.proofs.LeadLemmas.{Leads, stay, go, LeadTriples, triples_lead}
-use Rattle.gs_update_text.proofs.GrowthLemmas.{Extends, NotLost, leads_grow}
+use Rattle.gs_update_text.proofs.GrowthLemmas.{NotLost, leads_grow}
 use Rattle.gs_update_text.proofs.HeldLemmas.{IsHeld, held_last, dot_ends}
 use Rattle.gs_update_text.proofs.BlockLemmas.{Bounds, block_told, stands, first_enters, block_triples, Parts}
 
@@ -117,9 +118,9 @@ module _ {Value Triple : Type 0} where
   ready_excess b free P T u us (has _ q) few many h =
       let both : false ≡ true = sym few ∙ ap (λ z. b.too_many (P ++ z)) q ∙ many in absurd (cc)
   ready_excess b free P T u [] (lacks x d s p env Q n t e q) few many h =
-      ap (λ z. let r : Result Shut Rejection = Err (departure (entered b P (put (ToObject d s p ∷ []) env Q n z))) in r) e
-      ∙ ap (λ z. let r : Result Shut Rejection = Err (departure z) in r)
-      (excess b P (Heading (After d s p) [] env (Q ++ env.language.triple s p (env.language.of_term t) ∷ []) n) (ap (λ z. b.too_many (P ++ z)) q ∙ many))
+      ap (λ z. let r : Result Shut Rejection = Err (ended_within b P z) in r)
+      (held_step x (ToObject d s p ∷ []) env Q n (brace 0) [] tt ∙ ap (λ z. go_on (brace 0) (put (ToObject d s p ∷ []) env Q n z)) e)
+      ∙ ap (λ z. let r : Result Shut Rejection = Err (cond z OutOfProfile (Broken Syntax)) in r) (ap (λ z. b.too_many (P ++ z)) q ∙ many)
   ready_excess b free P T u (y ∷ us) (lacks x d s p env Q n t e q) few many h =
       ap (block_told b us)
       (stands b (WithinTriples P (Held x (ToObject d s p ∷ []) env Q n)) y (free y)
@@ -182,7 +183,7 @@ module _ {Value Triple : Type 0} where
   dotted_run {env = env} b bounds P us (profile.nothing n) new free few = ap (λ z. block_run b us (AtTriples env z n)) (sym (append-nil P))
   dotted_run {env = env} {n = n} b bounds P us (profile.more {l = l} {xs = xs} {ys = ys} {T = T} {U = U} e a r) new free few =
       let (here, later) : (list_any b.bars xs ≡ false) × ((b.bars (Dot e) || list_any b.bars ys) ≡ false) =
-          or_parts (list_any b.bars xs) (b.bars (Dot e) || list_any b.bars ys) (sym (list_any-append b.bars xs (Dot e ∷ ys)) ∙ new) in
+      or_parts (list_any b.bars xs) (b.bars (Dot e) || list_any b.bars ys) (sym (list_any-append b.bars xs (Dot e ∷ ys)) ∙ new) in
       let there : list_any b.bars ys ≡ false = (or_parts (b.bars (Dot e)) (list_any b.bars ys) later).1 in
       let both : b.too_many ((P ++ T) ++ U) ≡ false = ap b.too_many (append_assoc P T U) ∙ few in
       ap (λ z. block_run b z (AtTriples env P n)) (append_assoc xs (Dot e ∷ ys) us)

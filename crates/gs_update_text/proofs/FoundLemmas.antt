@@ -16,7 +16,8 @@ use Rattle.gs_update_text.specs.Requests.{UpdateOperation, Rejection, OutOfProfi
 use Rattle.gs_update_text.specs.Operations.{Block}
 use Rattle.gs_update_text.specs.Grammar.{IsTemplate}
 use Rattle.gs_update_text.specs.Grammar as rule
-use Rattle.gs_update_text.specs.Blocks.{BlockState, AtTriples, WithinTriples, BlockTurn, Takes, Shuts, Stops, Shut, triples_so_far, counted, entered, shut, parted, followed, within, barred, at_triples, moved, block_step, block_taken, block_run}
+use Rattle.gs_triples.specs.States.{triples_so_far}
+use Rattle.gs_update_text.specs.Blocks.{AtTriples, WithinTriples, BlockTurn, Takes, Shuts, Stops, Shut, counted, entered, shut, parted, within, barred, at_triples, moved, block_run}
 use Rattle.gs_update_text.proofs.LeadLemmas.{Leads, stay, go, lead_triples}
 use Rattle.gs_update_text.proofs.BlockLemmas.{block_told}
 

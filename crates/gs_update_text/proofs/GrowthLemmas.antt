@@ -6,12 +6,12 @@ use Rattle.gs_blank.specs.Numbers.{Numbers, one_more}
 use Rattle.gs_triples.specs.Symbols.{Symbol, AWord, Text, At, Carets, Open, Close, OpenList, CloseList, Semicolon, Comma}
 use Rattle.gs_triples.specs.Meanings as meaning
 use Rattle.gs_triples.specs.Meanings.{Fault, Context, blank, rdf_value, tagged, typed, simple}
-use Rattle.gs_triples.specs.Goals.{Goal, Object, Inside, Verbs, After, Semis, Begun, Items, may_open, may_open_node, next_number, first_is, rest_is}
+use Rattle.gs_triples.specs.Goals.{Goal, Object, Inside, Verbs, After, Semis, Begun, Items, may_open, may_open_node, next_number, rest_is}
 use Rattle.gs_triples.specs.Reading.{begins_verb}
 use Rattle.gs_triples.specs.Program.{stands_alone}
 use Rattle.gs_triples.specs.States.{Frame, ToObject, ToClose, ToFirst, ToItem, ToVerbs, ToMore, State, Opened, Closed, Heading, Held, Typing, Lost, Turn, Goes, Ends}
 use Rattle.gs_triples.specs.Machine.{give, shut, leave, give_token, put, object, after_verb, at_verb, first_object, head, after_alone, go_on, step}
-use Rattle.gs_update_text.specs.Blocks.{triples_so_far}
+use Rattle.gs_triples.specs.States.{triples_so_far}
 use Rattle.gs_update_text.proofs.LeadLemmas.{Leads, stay, go}
 
 -- a list, and more after it

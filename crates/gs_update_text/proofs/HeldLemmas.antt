@@ -10,7 +10,7 @@ use Rattle.gs_triples.specs.Goals.{Goal, Object, Inside, Verbs, After, Semis, Be
 use Rattle.gs_triples.specs.Reading.{begins_verb}
 use Rattle.gs_triples.specs.Program.{stands_alone}
 use Rattle.gs_triples.specs.States.{Frame, ToObject, ToClose, ToFirst, ToItem, ToVerbs, ToMore, State, Opened, Closed, Heading, Held, Typing, Lost, Turn, Goes, Ends}
-use Rattle.gs_triples.specs.Machine.{give, shut, leave, give_token, put, object, after_verb, at_verb, first_object, head, after_alone, go_on, begin, opening, step}
+use Rattle.gs_triples.specs.Machine.{give, shut, leave, give_token, put, object, after_verb, at_verb, head, after_alone, go_on, begin, opening, step}
 use Rattle.gs_update_text.specs.Profile.{is_string, ends_in_string}
 use Rattle.gs_update_text.proofs.LeadLemmas.{Leads, stay, go}
 

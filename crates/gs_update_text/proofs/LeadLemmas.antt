@@ -4,13 +4,13 @@ use Rattle.std.specs.Prelude.{Result, Ok, Err}
 use Rattle.std.proofs.lemmas.List.{append_cancel_right}
 use Rattle.gs_blank.specs.Numbers.{Numbers}
 use Rattle.gs_triples.specs.Symbols.{Symbol}
-use Rattle.gs_triples.specs.Meanings.{Fault, Syntax, Context}
+use Rattle.gs_triples.specs.Meanings.{Fault, Context}
 use Rattle.gs_triples.specs.Reading.{Got}
 use Rattle.gs_triples.specs.Triples.{AreTriples, EndsVerbs}
 use Rattle.gs_triples.specs.Program.{triples_at, CoversTriples}
-use Rattle.gs_triples.specs.States.{State, Turn, Goes, Ends, Lost}
-use Rattle.gs_triples.specs.Machine.{opening, step, ended}
-use Rattle.gs_triples.specs.Runs.{Done, taken, run, done_before, done_of, with_next}
+use Rattle.gs_triples.specs.States.{State, Turn, Goes, Ends}
+use Rattle.gs_triples.specs.Machine.{opening, step}
+use Rattle.gs_triples.specs.Runs.{Done, taken, run, done_before, with_next}
 use Rattle.gs_triples.proofs.TriplesLemmas.{triples_covered, triples_read}
 use Rattle.gs_triples.proofs.MachineLemmas.{opening_run}
 

@@ -1,47 +1,40 @@
--- The machine refuses what the rules say is not served.
-use Rattle.std.proofs.Common.{◌≡◌, ℕ, ◌+◌, ◌<◌, ◌≤◌, Bool, true, false, List, [], ◌∷◌, ◌++◌, length, refl, sym, ap, ◌∙◌, append_assoc, arith}
-use Rattle.std.specs.Prelude.{nat_lt, Result, Ok, Err, Option, Some, None}
+-- The machine refuses as out of the profile just what the rules say is not served.
+use Rattle.std.proofs.Common.{◌≡◌, ℕ, false, List, [], ◌∷◌, ◌++◌, length, refl, sym, ap, ◌∙◌, append_assoc, append-nil, subst, arith}
+use Rattle.std.specs.Prelude.{Err, Some, None}
 use Rattle.std.specs.List.{list_any}
 use Rattle.std.proofs.lemmas.Bool.{le-ltb, lt-ltb}
-use Rattle.gs_model.specs.Terms.{Term}
-use Rattle.gs_model.specs.Triples.{RdfTriple}
-use Rattle.gs_term.specs.declared.patterns.Part.{Part}
-use Rattle.gs_term.specs.declared.patterns.Pattern.{Pattern}
 use Rattle.gs_lex.specs.Tokens.{Lexeme}
 use Rattle.gs_lex.specs.declared.kinds.TokenKind.{TokenKind}
 use Rattle.gs_lex.specs.declared.kinds.TokenKind.TheVariants as kind
 use Rattle.gs_machine.specs.Machines.{joined, rest}
 use Rattle.gs_blank.specs.Numbers.{Numbers, no_numbers}
-use Rattle.gs_triples.specs.Symbols.{Symbol, Semicolon, Foreign, symbols_of}
-use Rattle.gs_triples.specs.Meanings.{Context}
-use Rattle.gs_update_text.specs.Requests.{Rejection, OutOfProfile, Written, Request}
+use Rattle.gs_triples.specs.Symbols.{Symbol, AWord, Reference, Namespace, Semicolon, PrefixWord, BaseWord, Foreign, symbols_of}
+use Rattle.gs_triples.specs.Meanings.{Fault, Context}
+use Rattle.gs_triples.specs.Directives.{with_prefix, with_base}
+use Rattle.gs_update_text.specs.Requests.{Rejection, Broken, OutOfProfile, Written, Request}
 use Rattle.gs_model.specs.Limits.{max_patterns}
 use Rattle.gs_update_text.specs.Operations.{Scope, Block, in_language, insert_block, delete_block, where_block}
-use Rattle.gs_update_text.specs.Grammar.{IsUpdate, first_scope}
+use Rattle.gs_update_text.specs.Grammar as rule
+use Rattle.gs_update_text.specs.Grammar.{IsOperation, IsUpdate, first_scope}
 use Rattle.gs_update_text.specs.Profile as profile
-use Rattle.gs_update_text.specs.Profile.{BeginsOther, AreDotted, Expects, Departs, Leaves, LeavesProfile}
+use Rattle.gs_update_text.specs.Profile.{BeginsOther, AreDotted, Expects, Departs, Departure, LeavesProfile}
 use Rattle.gs_update_text.specs.Blocks.{BlockState, AtTriples, block_run}
 use Rattle.gs_update_text.specs.States.{State, Between, InData, InWhere}
 use Rattle.gs_update_text.specs.Machine.{begun, step, updates, request_of}
 use Rattle.gs_update_text.proofs.BlockLemmas.{Bounds, Parts, block_told, stands}
 use Rattle.gs_update_text.proofs.ExcessLemmas.{template_excess, dotted_run}
 use Rattle.gs_update_text.proofs.UpdateLemmas.{rejected_rest, after_block, Holds, block_rest, holds_data, holds_where, bounds_insert, bounds_delete, bounds_where, none_barred, parts_insert, parts_plain, prologue_read, operation_read}
+use Rattle.gs_update_text.proofs.WalkLemmas.{Stopped, Reads, walk}
 use Rattle.gs_update_text.proofs.ReadLemmas.{update_read}
 
--- operations that are said before those of the rest
-abbrev Precedes : Scope → Numbers → List Symbol → Scope → Numbers → Type 0
-Precedes env n xs next k = (os : List Written) × ((us : List Symbol) → rest updates (Between env n) (xs ++ us) ≡ joined os (rest updates (Between next k) us))
-
 -- a front of an update, after which an operation is expected
-expects_read : {env next : Scope} {n k : Numbers} {xs : List Symbol} → Expects env n xs next k → Precedes env n xs next k
+expects_read : {env next : Scope} {n k : Numbers} {xs : List Symbol} {os : List Written} → Expects env n xs os next k → (us : List Symbol)
+    → rest updates (Between env n) (xs ++ us) ≡ joined os (rest updates (Between next k) us)
 unfolding rest step
-expects_read {n = n} (profile.first p) = ([], λ us. prologue_read n us p)
-expects_read {env = env} {n = n} (profile.later {next = next} {last = last} {k = k} {l = l} {xs = xs} {ys = ys} {zs = zs} {o = o} p a r) =
-    let more : Precedes next k zs last l = expects_read r in (
-      o ∷ more.0,
-      λ us. ap (rest updates (Between env n)) (append_assoc (xs ++ ys) (Semicolon ∷ zs) us ∙ append_assoc xs ys (Semicolon ∷ (zs ++ us)))
-          ∙ prologue_read n (ys ++ Semicolon ∷ (zs ++ us)) p ∙ operation_read (Semicolon ∷ (zs ++ us)) a ∙ ap (joined (o ∷ [])) (more.1 us),
-    )
+expects_read {n = n} (profile.first p) us = prologue_read n us p
+expects_read {env = env} {n = n} (profile.later {xs = xs} {ys = ys} {zs = zs} {o = o} p a r) us =
+    ap (rest updates (Between env n)) (append_assoc (xs ++ ys) (Semicolon ∷ zs) us ∙ append_assoc xs ys (Semicolon ∷ (zs ++ us)))
+    ∙ prologue_read n (ys ++ Semicolon ∷ (zs ++ us)) p ∙ operation_read (Semicolon ∷ (zs ++ us)) a ∙ ap (joined (o ∷ [])) (expects_read r us)
 
 -- an operation of another form
 other_read : (k : TokenKind) → BeginsOther k → (env : Scope) (n : Numbers) (ts : List Symbol) → rest updates (begun k env n) ts ≡ ([], Some OutOfProfile)
@@ -88,14 +81,63 @@ departs_read {env = env} {n = n} (profile.fifth_pattern {xs = xs} {T = T} a b c 
 departs_read (profile.no_pattern a b c e ts) = rejected_rest OutOfProfile ts
 
 -- tokens that leave what is served
-leaves_read : {env : Scope} {n : Numbers} {ts : List Symbol} → Leaves env n ts → (os : List Written) × (rest updates (Between env n) ts ≡ (os, Some OutOfProfile))
-leaves_read {env = env} {n = n} (profile.leaves {next = next} {k = k} {xs = xs} {ys = ys} e d) =
-    let more : Precedes env n xs next k = expects_read e in (more.0 ++ [], more.1 ys ∙ ap (joined more.0) (departs_read d))
+departure_told : {env : Scope} {n : Numbers} {ts : List Symbol} {os : List Written} → Departure env n ts os → rest updates (Between env n) ts ≡ (os, Some OutOfProfile)
+departure_told {os = os} (profile.departure {ys = ys} e d) =
+    expects_read e ys ∙ ap (joined os) (departs_read d) ∙ ap (λ z. let p : Request = (z, Some OutOfProfile) in p) (append-nil os)
 
-pub departure_read : (b : List ℕ) (r : ℕ) (ts : List Lexeme) → LeavesProfile b r ts → (os : List Written) × (request_of b r ts ≡ (os, Some OutOfProfile))
-departure_read b r ts h = leaves_read h
+-- a directive before them
+base_expects : {env next last : Scope} {n k : Numbers} {xs : List Symbol} {os : List Written} (i : List ℕ) (a : ℕ) → with_base env i ≡ Some next → Expects next n xs os last k
+    → Expects env n (BaseWord ∷ AWord (Reference i a) ∷ xs) os last k
+base_expects i a q (profile.first p) = profile.first (rule.base i a q p)
+base_expects i a q (profile.later p o r) = profile.later (rule.base i a q p) o r
 
-pub departure_apart : (b : List ℕ) (r : ℕ) (ts : List Lexeme) (os : List Written) → IsUpdate b r ts os → LeavesProfile b r ts → ⊥
-departure_apart b r ts os u h =
-    let (us, said) : (us : List Written) × (request_of b r ts ≡ (us, Some OutOfProfile)) = departure_read b r ts h in
-    let both : None ≡ Some OutOfProfile = ap (λ (z : Request). z.1) (sym (update_read b r ts os u) ∙ said) in absurd (cc)
+prefix_expects : {env next last : Scope} {n k : Numbers} {xs : List Symbol} {os : List Written} (x i : List ℕ) (a : ℕ) → with_prefix env x i ≡ Some next → Expects next n xs os last k
+    → Expects env n (PrefixWord ∷ AWord (Namespace x) ∷ AWord (Reference i a) ∷ xs) os last k
+prefix_expects x i a q (profile.first p) = profile.first (rule.prefix x i a q p)
+prefix_expects x i a q (profile.later p o r) = profile.later (rule.prefix x i a q p) o r
+
+base_before : {env next : Scope} {n : Numbers} {us : List Symbol} {os : List Written} (i : List ℕ) (a : ℕ) → with_base env i ≡ Some next → Departure next n us os
+    → Departure env n (BaseWord ∷ AWord (Reference i a) ∷ us) os
+base_before i a q (profile.departure e d) = profile.departure (base_expects i a q e) d
+
+prefix_before : {env next : Scope} {n : Numbers} {us : List Symbol} {os : List Written} (x i : List ℕ) (a : ℕ) → with_prefix env x i ≡ Some next → Departure next n us os
+    → Departure env n (PrefixWord ∷ AWord (Namespace x) ∷ AWord (Reference i a) ∷ us) os
+prefix_before x i a q (profile.departure e d) = profile.departure (prefix_expects x i a q e) d
+
+-- an operation before them
+operation_before : {env : Scope} {n k : Numbers} {ys zs : List Symbol} {o : Written} {os : List Written} → IsOperation env n ys o k → Departure env k zs os → Departure env n (ys ++ Semicolon ∷ zs) (o ∷ os)
+operation_before {env = env} {n = n} {ys = ys} {o = o} {os = os} a (profile.departure {xs = xs} {ys = vs} e d) =
+    subst (λ z. Departure env n z (o ∷ os)) (append_assoc ys (Semicolon ∷ xs) vs) (profile.departure (profile.later (rule.nothing env) a e) d)
+
+no_end : None ≡ Some OutOfProfile → ⊥
+no_end h = cc
+
+not_broken : {f : Fault} → Some (Broken f) ≡ Some OutOfProfile → ⊥
+not_broken h = cc
+
+stops_so : (env : Scope) (n : Numbers) (ts : List Symbol) (r : Rejection) → Some r ≡ Some OutOfProfile → Stopped env n ts r → Departure env n ts []
+stops_so env n ts (Broken f) q s = absurd (not_broken q)
+stops_so env n ts OutOfProfile q s = profile.departure (profile.first (rule.nothing env)) s
+
+leaving : Reads (Some OutOfProfile) Departure
+leaving = record {
+  base = base_before;
+  prefix = prefix_before;
+  ends = λ env n q. absurd (no_end q);
+  last = λ a q. absurd (no_end q);
+  more = operation_before;
+  unparted = λ t us a q. absurd (not_broken q);
+  stops = stops_so;
+}
+
+pub departure_read : (b : List ℕ) (r : ℕ) (ts : List Lexeme) (os : List Written) → LeavesProfile b r ts os → request_of b r ts ≡ (os, Some OutOfProfile)
+departure_read b r ts os h = departure_told h
+
+-- and what is refused so leaves it
+pub departure_covered : (b : List ℕ) (r : ℕ) (ts : List Lexeme) (os : List Written) → request_of b r ts ≡ (os, Some OutOfProfile) → LeavesProfile b r ts os
+departure_covered b r ts os h =
+    walk (Some OutOfProfile) Departure leaving (length (symbols_of ts)) (first_scope b r) no_numbers (symbols_of ts) os (omega arith) h
+
+pub departure_apart : (b : List ℕ) (r : ℕ) (ts : List Lexeme) (os us : List Written) → IsUpdate b r ts os → LeavesProfile b r ts us → ⊥
+departure_apart b r ts os us u h =
+    let both : None ≡ Some OutOfProfile = ap (λ (z : Request). z.1) (sym (update_read b r ts os u) ∙ departure_read b r ts us h) in absurd (cc)

@@ -1,6 +1,6 @@
 -- The machine reads what the rules say of a list of tokens, operation by operation.
-use Rattle.std.proofs.Common.{◌≡◌, ℕ, ◌≤◌, Bool, true, false, cond, List, [], ◌∷◌, ◌++◌, length, refl, sym, ap, ◌∙◌, append_assoc, append-nil, arith, length-append}
-use Rattle.std.specs.Prelude.{nat_lt, Result, Ok, Err, Option, Some, None}
+use Rattle.std.proofs.Common.{◌≡◌, ℕ, ◌≤◌, false, List, [], ◌∷◌, ◌++◌, length, refl, sym, ap, ◌∙◌, append_assoc, append-nil, arith, length-append}
+use Rattle.std.specs.Prelude.{Result, Ok, Err, Some, None}
 use Rattle.std.specs.List.{list_any}
 use Rattle.std.proofs.lemmas.Bool.{le-ltb, ltb-false}
 use Rattle.gs_model.specs.Terms.{Term}
@@ -10,15 +10,14 @@ use Rattle.gs_term.specs.declared.patterns.Pattern.{Pattern}
 use Rattle.gs_lex.specs.declared.kinds.TokenKind.TheVariants as kind
 use Rattle.gs_machine.specs.Machines.{joined, rest}
 use Rattle.gs_blank.specs.Numbers.{Numbers}
-use Rattle.gs_triples.specs.Symbols.{Symbol, AWord, Reference, Namespace, Dot, Semicolon, PrefixWord, BaseWord, Foreign}
-use Rattle.gs_triples.specs.Directives.{with_prefix, with_base}
+use Rattle.gs_triples.specs.Symbols.{Symbol, Dot, Semicolon, Foreign}
 use Rattle.gs_update_text.specs.Requests.{UpdateOperation, DeletesWhere, Rejection, Written, Request}
 use Rattle.gs_model.specs.Limits.{max_patterns}
-use Rattle.gs_update_text.specs.Operations.{Scope, Block, inserted, deleted, sought, in_language, insert_block, delete_block, where_block, some_patterns}
+use Rattle.gs_update_text.specs.Operations.{Scope, Block, in_language, insert_block, delete_block, where_block, some_patterns}
 use Rattle.gs_update_text.specs.Grammar as rule
 use Rattle.gs_update_text.specs.Grammar.{IsTemplate, IsPrologue, IsOperation, AreOperations, AreNew}
 use Rattle.gs_update_text.specs.Blocks.{BlockState, AtTriples, BlockTurn, Takes, Shuts, Stops, Shut, shut, block_step, block_ended, block_run}
-use Rattle.gs_update_text.specs.States.{State, Between, InData, InWhere, After, Rejected, Turn, quiet}
+use Rattle.gs_update_text.specs.States.{State, Between, InData, InWhere, After, Rejected, Turn}
 use Rattle.gs_update_text.specs.Machine.{prefaced, blocked, step, ended, updates}
 use Rattle.gs_update_text.proofs.BlockLemmas.{Bounds, Parts, block_told, template_run}
 

@@ -1,14 +1,14 @@
 -- The block of an update's operation as a machine that takes symbol by symbol, over the machine of triples. It stops at
 -- the first departure from what is served.
-use Rattle.std.specs.Prelude.{ℕ, Bool, true, false, if◌then◌else◌, List, [], ◌∷◌, ◌++◌, Option, Some, None, Result, Ok, Err}
+use Rattle.std.specs.Prelude.{ℕ, if◌then◌else◌, List, [], ◌∷◌, ◌++◌, Option, Some, None, Result, Ok, Err}
 use Rattle.gs_lex.specs.declared.kinds.TokenKind.TheVariants as kind
 use Rattle.gs_blank.specs.Numbers.{Numbers}
 use Rattle.gs_triples.specs.Symbols.{Symbol, Dot, Foreign}
-use Rattle.gs_triples.specs.Meanings.{Syntax, Context, simple}
+use Rattle.gs_triples.specs.Meanings.{Syntax, Context}
 use Rattle.gs_triples.specs.States as triples
-use Rattle.gs_triples.specs.States.{Opened, Closed, Heading, Held, Typing, Lost, Goes, Ends}
+use Rattle.gs_triples.specs.States.{Lost, Goes, Ends, triples_so_far}
 use Rattle.gs_triples.specs.Machine as triples_machine
-use Rattle.gs_triples.specs.Machine.{opening, put}
+use Rattle.gs_triples.specs.Machine.{opening}
 use Rattle.gs_update_text.specs.Requests.{UpdateOperation, Rejection, Broken, OutOfProfile}
 use Rattle.gs_update_text.specs.Operations.{Block}
 
@@ -31,15 +31,6 @@ pub record Shut : Type 0 where
   pub rest : List Symbol
 
 module _ {Value Triple : Type 0} where
-  -- the triples that a state of their machine has
-  abbrev pub triples_so_far : triples.State Value Triple → List Triple
-  triples_so_far (Opened env n) = []
-  triples_so_far (Closed v env P n) = P
-  triples_so_far (Heading g fs env P n) = P
-  triples_so_far (Held x fs env P n) = P
-  triples_so_far (Typing x fs env P n) = P
-  triples_so_far (Lost e) = []
-
   -- within triples, after others, where there are not too many
   abbrev pub counted : Block Value Triple → List Triple → triples.State Value Triple → BlockTurn Value Triple
   counted b P s = if b.too_many (P ++ triples_so_far s) then Stops OutOfProfile else Takes (WithinTriples P s)
@@ -89,20 +80,17 @@ module _ {Value Triple : Type 0} where
   abbrev pub block_step : Block Value Triple → BlockState Value Triple → Symbol → BlockTurn Value Triple
   block_step b s t = if b.bars t then barred (moved b s t) else moved b s t
 
-  -- the state of triples that end there: a string is a literal
-  abbrev pub settled : triples.State Value Triple → triples.State Value Triple
-  settled (Held x fs env P n) = put fs env P n (simple x)
-  settled s = s
-
-  -- the departure of a turn after which the text ends
-  abbrev pub departure : BlockTurn Value Triple → Rejection
-  departure (Stops r) = r
-  departure _ = Broken Syntax
+  -- the departure of a text that ends within triples, by what their machine makes of a brace there: a fault, triples that
+  -- are too many, or triples that no brace follows
+  abbrev pub ended_within : Block Value Triple → List Triple → triples.Turn Value Triple → Rejection
+  ended_within b P (Goes (Lost e)) = Broken e
+  ended_within b P (Goes s) = Broken Syntax
+  ended_within b P (Ends env T n) = if b.too_many (P ++ T) then OutOfProfile else Broken Syntax
 
   -- the departure of a text that ends within a block
   abbrev pub block_ended : Block Value Triple → BlockState Value Triple → Rejection
   block_ended b (AtTriples env P n) = Broken Syntax
-  block_ended b (WithinTriples P s) = departure (entered b P (settled s))
+  block_ended b (WithinTriples P s) = ended_within b P (triples_machine.step s (Foreign kind.CloseBrace 0))
 
   -- what a turn leads to on the tokens after its own
   abbrev pub block_taken : (BlockState Value Triple → Result Shut Rejection) → List Symbol → BlockTurn Value Triple → Result Shut Rejection

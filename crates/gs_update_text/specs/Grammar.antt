@@ -1,6 +1,6 @@
 -- The rules of updates (SPARQL 1.1 Query, 21 March 2013, section 19.8), as far as they are served, each with just the
 -- tokens that it spans.
-use Rattle.std.specs.Prelude.{◌≡◌, ℕ, ◌≤◌, true, false, List, [], ◌∷◌, ◌++◌, length, Some}
+use Rattle.std.specs.Prelude.{◌≡◌, ℕ, ◌≤◌, false, List, [], ◌∷◌, ◌++◌, length, Some}
 use Rattle.std.specs.List.{list_any}
 use Rattle.gs_model.specs.Triples.{RdfTriple}
 use Rattle.gs_term.specs.declared.patterns.Pattern.{Pattern}
@@ -12,7 +12,7 @@ use Rattle.gs_triples.specs.Languages.{of_terms}
 use Rattle.gs_triples.specs.Meanings.{Context}
 use Rattle.gs_triples.specs.Directives.{without_prefixes, with_prefix, with_base}
 use Rattle.gs_triples.specs.Triples.{AreTriples}
-use Rattle.gs_update_text.specs.Requests.{UpdateOperation, Inserts, DeletesData, DeletesWhere, Written}
+use Rattle.gs_update_text.specs.Requests.{Inserts, DeletesData, DeletesWhere, Written}
 use Rattle.gs_model.specs.Limits.{max_patterns}
 use Rattle.gs_update_text.specs.Operations.{Scope, inserted, deleted, sought, in_language, is_old}
 
@@ -39,9 +39,9 @@ pub data IsPrologue : Scope → List Symbol → Scope → Type 0 where
 abbrev pub braced : ℕ → List Symbol → ℕ → List Symbol
 braced a xs e = Foreign kind.OpenBrace a ∷ xs ++ Foreign kind.CloseBrace e ∷ []
 
--- no token is a label that has a number already
+-- no token is a label that has one of the numbers given so far
 abbrev pub AreNew : Numbers → List Symbol → Type 0
-AreNew n xs = list_any (is_old n) xs ≡ false
+AreNew n xs = list_any (is_old n.1 n) xs ≡ false
 
 -- [30] Update1, as far as it is served: an operation, and the numbers after it
 pub data IsOperation (env : Scope) (n : Numbers) : List Symbol → Written → Numbers → Type 0 where

@@ -1,10 +1,6 @@
 -- The reader of updates as a machine that takes symbol by symbol.
 use Rattle.std.specs.Prelude.{ℕ, List, [], ◌∷◌, Option, Some, None}
 use Rattle.gs_machine.specs.Machines.{Machine, rest}
-use Rattle.gs_model.specs.Terms.{Term}
-use Rattle.gs_model.specs.Triples.{RdfTriple}
-use Rattle.gs_term.specs.declared.patterns.Part.{Part}
-use Rattle.gs_term.specs.declared.patterns.Pattern.{Pattern}
 use Rattle.gs_lex.specs.Tokens.{Lexeme}
 use Rattle.gs_lex.specs.declared.kinds.TokenKind.{TokenKind}
 use Rattle.gs_lex.specs.declared.kinds.TokenKind.TheVariants as kind
@@ -13,7 +9,7 @@ use Rattle.gs_triples.specs.Symbols.{Symbol, AWord, Reference, Namespace, Semico
 use Rattle.gs_triples.specs.Meanings.{Syntax}
 use Rattle.gs_triples.specs.Directives.{with_prefix, with_base}
 use Rattle.gs_update_text.specs.Requests.{Rejection, Broken, OutOfProfile, Written, Request}
-use Rattle.gs_update_text.specs.Operations.{Scope, Block}
+use Rattle.gs_update_text.specs.Operations.{Scope}
 use Rattle.gs_update_text.specs.Grammar.{first_scope}
 use Rattle.gs_update_text.specs.Blocks.{BlockState, BlockTurn, Takes, Shuts, Stops, block_step, block_ended}
 use Rattle.gs_update_text.specs.States.{Form, InsertData, DeleteData, DeleteWhere, State, Between, InPrefix, InPrefixIri, InBase, AfterInsert, AfterDelete, AtBrace, InData, InWhere, After, Rejected, block_of, Turn, quiet}

@@ -1,18 +1,18 @@
 -- What may stand in the blocks of an update's operations (SPARQL 1.1 Query, 21 March 2013, section 19.8, notes 8 to 10):
 -- a language of triples for each, the labels that may not stand again, and how many triples there may be.
-use Rattle.std.specs.Prelude.{ℕ, Bool, true, false, not, List, [], ◌∷◌, length, nat_lt, codes, Option, Some, None, option_map, is_some, option_and_then}
-use Rattle.std.specs.List.{list_any}
+use Rattle.std.specs.Prelude.{ℕ, Bool, true, false, not, List, [], ◌∷◌, length, nat_lt, codes, Option, Some, None, option_and_then}
 use Rattle.gs_model.specs.Limits.{max_patterns}
 use Rattle.gs_model.specs.Terms.{Term}
 use Rattle.gs_model.specs.Triples.{RdfTriple}
 use Rattle.gs_term.specs.declared.patterns.Part.{Part}
-use Rattle.gs_term.specs.declared.patterns.Part.TheVariants.{Term as TheTerm, Variable}
 use Rattle.gs_term.specs.declared.patterns.Pattern.{Pattern}
 use Rattle.gs_escape.specs.Tokens.{behind}
 use Rattle.gs_blank.specs.Numbers.{Numbers, known}
 use Rattle.gs_triples.specs.Symbols.{Symbol, AWord, Label}
-use Rattle.gs_triples.specs.Languages.{Language, of_terms}
+use Rattle.gs_triples.specs.Languages.{Language, of_terms, of_patterns}
 use Rattle.gs_triples.specs.Meanings.{Context}
+pub use Rattle.gs_triples.specs.Meanings.{in_language}
+pub use Rattle.gs_triples.specs.Languages.{pattern}
 use Rattle.gs_update_text.specs.Requests.{UpdateOperation, Inserts, DeletesData, DeletesWhere}
 
 -- the context between operations
@@ -27,26 +27,19 @@ inserted = record of_terms { lone_lists = true }
 abbrev pub deleted : Language Term RdfTriple
 deleted = record of_terms { nodes = false }
 
--- subject, predicate and object
-abbrev pub pattern : Part → Part → Part → Pattern
-pattern s p o = record { subject = s; predicate = p; object = o }
-
 -- DELETE WHERE: terms and variables, without blank nodes
 abbrev pub sought : Language Part Pattern
-sought = record { of_term = TheTerm; variable = λ x. Some (Variable x); triple = pattern; nodes = false; lone_lists = false }
+sought = record of_patterns { nodes = false; lone_lists = false }
 
--- the base and the prefixes, for triples of a language
-abbrev pub in_language : {Value Triple : Type 0} → Language Value Triple → Scope → Context Value Triple
-in_language l env = record { base = env.base; prefixes = env.prefixes; request = env.request; language = l }
+-- a number that is among the first k
+abbrev pub is_among_first : ℕ → Option ℕ → Bool
+is_among_first k None = false
+is_among_first k (Some m) = not (nat_lt k m)
 
--- a label that has a number already
-abbrev pub has_number : Numbers → Option (List ℕ) → Bool
-has_number n label = is_some (option_and_then (known n) label)
-
--- a token that is such a label
-abbrev pub is_old : Numbers → Symbol → Bool
-is_old n (AWord (Label x)) = has_number n (behind (codes "_:") x)
-is_old n _ = false
+-- a token that is a label with one of the first k numbers
+abbrev pub is_old : ℕ → Numbers → Symbol → Bool
+is_old k n (AWord (Label x)) = is_among_first k (option_and_then (known n) (behind (codes "_:") x))
+is_old k n _ = false
 
 -- how an operation's block is read: its triples' language, the tokens that may not stand, how many triples are too many,
 -- and the operation of a block's triples
@@ -61,9 +54,9 @@ abbrev pub some_patterns : List Pattern → Option UpdateOperation
 some_patterns [] = None
 some_patterns (p ∷ P) = Some (DeletesWhere (p ∷ P))
 
--- INSERT DATA: no label that an earlier operation has
+-- INSERT DATA: no label that an earlier operation has, and so one of the numbers that are given before
 abbrev pub insert_block : Numbers → Block Term RdfTriple
-insert_block n = record { language = inserted; bars = is_old n; too_many = λ T. false; operation = λ T. Some (Inserts T) }
+insert_block n = record { language = inserted; bars = is_old n.1 n; too_many = λ T. false; operation = λ T. Some (Inserts T) }
 
 -- DELETE DATA
 abbrev pub delete_block : Block Term RdfTriple

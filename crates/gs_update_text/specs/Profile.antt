@@ -51,11 +51,11 @@ module _ {Value Triple : Type 0} where
     more : {n k l : Numbers} {xs ys : List Symbol} {T U : List Triple} (e : ℕ) → AreTriples env n xs T k
         → AreDotted env k ys U l → AreDotted env n (xs ++ Dot e ∷ ys) (T ++ U) l
 
--- a front of an update, after which an operation is expected
-pub data Expects : Scope → Numbers → List Symbol → Scope → Numbers → Type 0 where
-  first : {env next : Scope} {n : Numbers} {xs : List Symbol} → IsPrologue env xs next → Expects env n xs next n
-  later : {env next last : Scope} {n k l : Numbers} {xs ys zs : List Symbol} {o : Written} → IsPrologue env xs next
-      → IsOperation next n ys o k → Expects next k zs last l → Expects env n (xs ++ ys ++ Semicolon ∷ zs) last l
+-- a front of an update with these operations, after which an operation is expected
+pub data Expects : Scope → Numbers → List Symbol → List Written → Scope → Numbers → Type 0 where
+  first : {env next : Scope} {n : Numbers} {xs : List Symbol} → IsPrologue env xs next → Expects env n xs [] next n
+  later : {env next last : Scope} {n k l : Numbers} {xs ys zs : List Symbol} {o : Written} {os : List Written} → IsPrologue env xs next
+      → IsOperation next n ys o k → Expects next k zs os last l → Expects env n (xs ++ ys ++ Semicolon ∷ zs) (o ∷ os) last l
 
 -- the tokens from where an operation is expected: an operation that departs from what is served
 pub data Departs (env : Scope) (n : Numbers) : List Symbol → Type 0 where
@@ -82,10 +82,11 @@ pub data Departs (env : Scope) (n : Numbers) : List Symbol → Type 0 where
   no_pattern : (a b c e : ℕ) (ts : List Symbol)
       → Departs env n (Foreign kind.Delete a ∷ Foreign kind.Where b ∷ Foreign kind.OpenBrace c ∷ Foreign kind.CloseBrace e ∷ ts)
 
--- the tokens begin as an update does, up to an operation that is not served
-pub data Leaves (env : Scope) (n : Numbers) : List Symbol → Type 0 where
-  leaves : {next : Scope} {k : Numbers} {xs ys : List Symbol} → Expects env n xs next k → Departs next k ys → Leaves env n (xs ++ ys)
+-- the tokens begin as an update with these operations does, up to an operation that is not served
+pub data Departure (env : Scope) (n : Numbers) : List Symbol → List Written → Type 0 where
+  departure : {next : Scope} {k : Numbers} {xs ys : List Symbol} {os : List Written} → Expects env n xs os next k → Departs next k ys
+      → Departure env n (xs ++ ys) os
 
--- the tokens of a text leave what is served, under this base and in this request
-abbrev pub LeavesProfile : List ℕ → ℕ → List Lexeme → Type 0
-LeavesProfile b r ts = Leaves (first_scope b r) no_numbers (symbols_of ts)
+-- the tokens of a text leave what is served after these operations, under this base and in this request
+abbrev pub LeavesProfile : List ℕ → ℕ → List Lexeme → List Written → Type 0
+LeavesProfile b r ts os = Departure (first_scope b r) no_numbers (symbols_of ts) os

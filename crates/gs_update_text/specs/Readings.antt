@@ -1,9 +1,10 @@
 -- What the machine reads of a request, beside the rules.
 use Rattle.std.specs.Prelude.{◌≡◌, ◌↔◌, ℕ, List, Some, None}
 use Rattle.gs_lex.specs.Tokens.{Lexeme}
-use Rattle.gs_update_text.specs.Requests.{OutOfProfile, Written}
+use Rattle.gs_update_text.specs.Requests.{OutOfProfile, Written, IsBroken}
 use Rattle.gs_update_text.specs.Grammar.{IsUpdate}
 use Rattle.gs_update_text.specs.Profile.{LeavesProfile}
+use Rattle.gs_update_text.specs.Fronts.{AreBeforeFault, last_brace}
 use Rattle.gs_update_text.specs.Machine.{request_of}
 
 -- the machine finds just the updates that the rules give
@@ -14,10 +15,19 @@ FindsUpdates b r ts = (os : List Written) → (IsUpdate b r ts os ↔ (request_o
 abbrev pub HasOneReading : List ℕ → ℕ → List Lexeme → Type 0
 HasOneReading b r ts = (os us : List Written) → IsUpdate b r ts os → IsUpdate b r ts us → os ≡ us
 
--- where the tokens leave what is served, the machine refuses them so, after some operations
+-- the machine refuses as out of the profile just the tokens that leave what is served, after the operations before
 abbrev pub RefusesDepartures : List ℕ → ℕ → List Lexeme → Type 0
-RefusesDepartures b r ts = LeavesProfile b r ts → (os : List Written) × (request_of b r ts ≡ (os, Some OutOfProfile))
+RefusesDepartures b r ts = (os : List Written) → (LeavesProfile b r ts os ↔ (request_of b r ts ≡ (os, Some OutOfProfile)))
 
--- and they are no update
+-- these are no update
 abbrev pub KeepsApart : List ℕ → ℕ → List Lexeme → Type 0
-KeepsApart b r ts = (os : List Written) → IsUpdate b r ts os → LeavesProfile b r ts → ⊥
+KeepsApart b r ts = (os us : List Written) → IsUpdate b r ts os → LeavesProfile b r ts us → ⊥
+
+-- it says the operations of the longest front that is an update, those before a departure too
+abbrev pub SaysLongest : List ℕ → ℕ → List Lexeme → Type 0
+SaysLongest b r ts = AreBeforeFault b r ts (request_of b r ts).0
+
+-- a broken text's fault is placed where the last closing brace of that front ends, or at 0
+abbrev pub PlacesFault : List ℕ → ℕ → List Lexeme → Type 0
+PlacesFault b r ts =
+    (at : ℕ) → IsBroken (request_of b r ts) at → (f : AreBeforeFault b r ts (request_of b r ts).0) → at ≡ last_brace 0 f.front

@@ -1,8 +1,8 @@
 -- What the text of an update says (SPARQL 1.1 Update, 21 March 2013, sections 3.1.1, 3.1.2 and 3.1.3.3).
-use Rattle.std.specs.Prelude.{ℕ, List, [], ◌∷◌, Option}
+use Rattle.std.specs.Prelude.{◌≡◌, ℕ, List, [], ◌∷◌, Option, Some}
 use Rattle.gs_model.specs.Triples.{RdfTriple}
 use Rattle.gs_term.specs.declared.patterns.Pattern.{Pattern}
-use Rattle.gs_triples.specs.Meanings.{Fault}
+use Rattle.gs_triples.specs.Meanings.{Fault, Syntax}
 
 -- an operation, with the triples that are to be in the graph or not, or with patterns of those that are not to be
 pub data UpdateOperation : Type 0 where
@@ -29,3 +29,8 @@ Request = List Written × Option Rejection
 abbrev pub end_of_last : ℕ → List Written → ℕ
 end_of_last n [] = n
 end_of_last n (o ∷ os) = end_of_last o.end os
+
+-- The text breaks the grammar, first after an operation that ends after so many bytes, or after none and 0.
+pub record IsBroken (r : Request) (at : ℕ) : Type 0 where
+  pub broken : r.1 ≡ Some (Broken Syntax)
+  pub place : at ≡ end_of_last 0 r.0
