@@ -1,5 +1,5 @@
 //! Keys into a set: a run of keys as one union, and a key as the union of one.
-ghost use Rattle.std.specs.Prelude.{◌≡◌, ℕ, ◌<◌, ◌≤◌, [], ◌∷◌, length, Option, IfOk, OnOk, OnErr};
+ghost use Rattle.std.specs.Prelude.{◌≡◌, ℕ, ◌+◌, ◌^◌, ◌<◌, ◌≤◌, [], ◌∷◌, length, Option, IfOk, OnOk, OnErr};
 ghost use Rattle.gs_pool.specs.Pool.{room};
 ghost use Rattle.gs_tree.specs.Keys.{IsRising, Places};
 ghost use Rattle.gs_tree.specs.Merging.{BuiltAt, CanMergeAt, MergesAt};
@@ -108,6 +108,14 @@ pub struct Merged {
     pub added: usize,
 }
 
+// How many keys of a run both sides lacked.
+fn lacked(left: usize, right: usize) -> usize
+    requires { left + right < 2 ^ 64 }
+    ensures { result ≡ left + right }
+{
+    left + right
+}
+
 // The union of a tree with a run. Where nothing is added, nothing is copied.
 fn union_at<O: KeyOrder>(
     pool: &mut Pool,
@@ -137,7 +145,7 @@ fn union_at<O: KeyOrder>(
     let (_, high) = run.split_at(at.behind);
     let left = union_at(pool, order, node.left, low, since, birth);
     let right = union_at(pool, order, node.right, high, since, birth);
-    let added = left.added + right.added;
+    let added = lacked(left.added, right.added);
     if added == 0 {
         return Merged { root, added: 0 };
     }
