@@ -1,4 +1,4 @@
--- Patterns of triples and their solutions (SPARQL 1.1 Query, 21 March 2013, sections 18.1.7 and 18.3), and the triples
+-- Patterns of triples and their solutions (SPARQL 1.1 Query, 21 March 2013, sections 18.1.5 and 18.3), and the triples
 -- that DELETE WHERE removes (SPARQL 1.1 Update, 21 March 2013, section 3.1.3.3).
 use Rattle.std.specs.Prelude.{◌≡◌, ℕ, Bool, true, if◌then◌else◌, List, [], ◌∷◌, map, Option, Some, None, option_and_then}
 use Rattle.std.specs.List.{list_any, list_all, flat_map}

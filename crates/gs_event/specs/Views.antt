@@ -30,7 +30,7 @@ pub record View : Type 0 where
   pub seats : List SeatView
 
 -- The answers that fit a write: its status and location, and a commit number that is left for it.
--- Want of memory may take the place of any but a 404.
+-- Want of memory may take the place of the answer where `wants_memory` says so.
 abbrev pub FitsWrite : Totals → Operation → Answer → Type 0
 FitsWrite v q (Status s name) = (s ≡ status_of v.setting v.dataset q) × (name ≡ location_of v.setting v.dataset q) × (is_success s ≡ true → v.commit < last_number)
 FitsWrite v q (Refused LastNumber) = (is_success (status_of v.setting v.dataset q) ≡ true) × (last_number ≤ v.commit)

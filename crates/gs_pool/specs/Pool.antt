@@ -28,7 +28,7 @@ node_at p id = slice_index_or p.nodes id None
 abbrev pub mark_at : Nodes → ℕ → NodeMark
 mark_at p id = slice_index_or p.marks id plain
 
--- whether a mark is that of a node set aside, and that of a retired one
+-- whether a mark is that of a node set aside
 abbrev pub is_aside : NodeMark → Bool
 is_aside plain = false
 is_aside (aside death whole) = true

@@ -43,7 +43,7 @@ pub enum Part {
     Variable(VariableName),
 }
 
-/// A triple that may have variables (SPARQL 1.1 Query, section 18.1.7).
+/// A triple that may have variables (SPARQL 1.1 Query, section 18.1.5).
 #[derive(Debug, Drop)]
 pub struct Pattern {
     pub subject: Part,

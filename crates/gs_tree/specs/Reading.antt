@@ -20,11 +20,11 @@ pub record IsReadable (cmp : Key → Key → Ordering) (p : Nodes) (root : Optio
   pub stands : Stands p t
   pub rising : IsRising cmp (keys t)
 
--- the same of the tree that the pool has for the root
+-- what `IsTree` says, of the tree that the pool has for the root
 abbrev pub IsTreeAt : Nodes → Option ℕ → Type 0
 IsTreeAt p root = IsTree p root (tree_at p root)
 
--- the same of the tree that the pool has for the root
+-- what `IsReadable` says, of that tree
 abbrev pub IsReadableAt : (Key → Key → Ordering) → Nodes → Option ℕ → Type 0
 IsReadableAt cmp p root = IsReadable cmp p root (tree_at p root)
 

@@ -1,5 +1,5 @@
--- Read in this order: what the languages of the code stand for, declared prefixes, contexts, the stack, what a parser stands
--- for, the terms of tokens, and what a call does.
+-- Read in this order: declared prefixes, the languages of the code and what they stand for, the stack, contexts, what a
+-- parser stands for, the terms of tokens, and what a call does.
 pub mod Prefixes
 pub mod Languages
 pub mod Typed

@@ -1,5 +1,6 @@
--- Read in this order: what a request says, the languages of its operations, the rules of the grammar, the machine that
--- reads by them, first within a block, what the laws say of it, and what a text says.
+-- Read in this order: what a request says, the languages of its operations, the rules of the grammar, the longest front
+-- that they take, what is not served, the machine that reads by the rules, first within a block, what the laws say of it,
+-- and what a text says.
 pub mod Requests
 pub mod Operations
 pub mod Grammar
