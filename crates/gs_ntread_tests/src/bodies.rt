@@ -2,38 +2,50 @@
 use gs_body::BodyReader;
 use gs_model::Refusal;
 use gs_ntread::{NTriplesReader, read_by_characters};
+use gs_ntwrite::line;
 use std::alloc::Global;
 use std::test::Fail;
 
+/// The lines of the triples of a text of request 3 that comes in these pieces, in their order.
+fn lines_of(alloc: Global, pieces: &[&[u8]]) -> Result<Vec<u8>, Fail> {
+    let mut reader = NTriplesReader::new(alloc, 3);
+    let mut triples = Vec::new(alloc);
+    for piece in pieces {
+        reader.feed(piece, &mut triples)?;
+    }
+    reader.finish(&mut triples)?;
+    let mut lines = Vec::new(alloc);
+    for triple in &triples {
+        line(triple, &mut lines)?;
+    }
+    Ok(lines)
+}
+
 #[test]
 fn a_body_in_two_pieces_gives_its_triples(rt: HostRuntime) -> Result<(), Fail> {
-    let mut reader = NTriplesReader::new(rt.alloc(), 3);
-    let mut triples = Vec::new(rt.alloc());
-    reader.feed(
-        b"_:x.y <http://e/p> \"a\\u00E9\\\"\"@EN . # comment\n<http://e/s> <http://e",
-        &mut triples,
-    )?;
-    reader.feed(b"/p> _:x.y.\n", &mut triples)?;
-    reader.finish(&mut triples)?;
-    assert_eq!(rt; triples.len(), 2);
-    assert_eq!(rt; triples[0].subject().as_bytes(), b"_:b3_1".as_slice());
-    assert_eq!(rt;
-        triples[0].object().as_bytes(),
-        b"\"a\xC3\xA9\\\"\"@en".as_slice()
-    );
-    assert_eq!(rt; triples[1].object().as_bytes(), b"_:b3_1".as_slice());
+    let pieces = [
+        b"_:x.y <http://e/p> \"a\\u00E9\\\"\"@EN . # comment\n<http://e/s> <http://e".as_slice(),
+        b"/p> _:x.y.\n".as_slice(),
+    ];
+    let wanted = "_:b3_1 <http://e/p> \"a\u{E9}\\\"\"@en .\n<http://e/s> <http://e/p> _:b3_1 .\n";
+    let lines = lines_of(rt.alloc(), &pieces)?;
+    assert_eq!(rt; lines.as_slice(), wanted.as_bytes());
     read_by_characters();
     Ok(())
 }
 
+/// What a text reports as it is fed, and then as it ends.
+fn reports(alloc: Global, text: &[u8]) -> (Result<(), Refusal>, Result<(), Refusal>) {
+    let mut reader = NTriplesReader::new(alloc, 1);
+    let mut triples = Vec::new(alloc);
+    let fed = reader.feed(text, &mut triples);
+    (fed, reader.finish(&mut triples))
+}
+
 #[test]
-fn a_relative_iri_is_a_fault(rt: HostRuntime) -> Result<(), Fail> {
-    let mut reader = NTriplesReader::new(rt.alloc(), 1);
-    let mut triples = Vec::new(rt.alloc());
-    let fed = reader.feed(b"<http://e/s> <p> ", &mut triples);
-    assert_eq!(rt; fed, Err(Refusal::Syntax(0)));
-    assert_eq!(rt; reader.finish(&mut triples), Err(Refusal::Closed));
-    Ok(())
+fn a_relative_iri_is_a_fault(rt: HostRuntime) {
+    let told = reports(rt.alloc(), b"<http://e/s> <p> ");
+    assert_eq!(rt; told, (Err(Refusal::Syntax(0)), Err(Refusal::Closed)));
 }
 
 /// The fault of a text of three parts.
@@ -144,20 +156,19 @@ fn what_begins_no_suffix_breaks_the_grammar_after_a_string(rt: HostRuntime) -> R
 #[test]
 fn long_labels_that_differ_in_their_last_byte_are_two_nodes(rt: HostRuntime) -> Result<(), Fail> {
     let letters = vec![in rt.alloc(); b'a'; 69_999]?;
-    let mut reader = NTriplesReader::new(rt.alloc(), 1);
-    let mut triples = Vec::new(rt.alloc());
-    reader.feed(b"_:", &mut triples)?;
-    reader.feed(&letters, &mut triples)?;
-    reader.feed(b"b <a:p> _:", &mut triples)?;
-    reader.feed(&letters, &mut triples)?;
-    reader.feed(b"c .\n_:", &mut triples)?;
-    reader.feed(&letters, &mut triples)?;
-    reader.feed(b"b <a:p> <a:o> .", &mut triples)?;
-    reader.finish(&mut triples)?;
-    assert_eq!(rt; triples.len(), 2);
-    assert_eq!(rt; triples[0].subject().as_bytes(), b"_:b1_1".as_slice());
-    assert_eq!(rt; triples[0].object().as_bytes(), b"_:b1_2".as_slice());
-    assert_eq!(rt; triples[1].subject().as_bytes(), b"_:b1_1".as_slice());
+    let long = letters.as_slice();
+    let pieces = [
+        b"_:".as_slice(),
+        long,
+        b"b <a:p> _:".as_slice(),
+        long,
+        b"c .\n_:".as_slice(),
+        long,
+        b"b <a:p> <a:o> .".as_slice(),
+    ];
+    let lines = lines_of(rt.alloc(), &pieces)?;
+    let wanted = b"_:b3_1 <a:p> _:b3_2 .\n_:b3_1 <a:p> <a:o> .\n";
+    assert_eq!(rt; lines.as_slice(), wanted.as_slice());
     Ok(())
 }
 
@@ -169,14 +180,19 @@ fn a_byte_order_mark_is_a_fault(rt: HostRuntime) -> Result<(), Fail> {
     Ok(())
 }
 
+/// How many triples are given of a text before it ends.
+fn given(alloc: Global, text: &[u8]) -> Result<usize, Fail> {
+    let mut reader = NTriplesReader::new(alloc, 1);
+    let mut triples = Vec::new(alloc);
+    reader.feed(text, &mut triples)?;
+    Ok(triples.len())
+}
+
 #[test]
 fn a_cut_character_keeps_no_statement_back(rt: HostRuntime) -> Result<(), Fail> {
-    let mut reader = NTriplesReader::new(rt.alloc(), 1);
-    let mut triples = Vec::new(rt.alloc());
-    reader.feed(b"<a:s> <a:p> <a:o> .\n# \xC3", &mut triples)?;
-    assert_eq!(rt; triples.len(), 1);
-    reader.feed(b"\xA9\n", &mut triples)?;
-    reader.finish(&mut triples)?;
-    assert_eq!(rt; triples.len(), 1);
+    let text = b"<a:s> <a:p> <a:o> .\n# \xC3";
+    assert_eq!(rt; given(rt.alloc(), text)?, 1);
+    let lines = lines_of(rt.alloc(), &[text.as_slice(), b"\xA9\n".as_slice()])?;
+    assert_eq!(rt; lines.as_slice(), b"<a:s> <a:p> <a:o> .\n".as_slice());
     Ok(())
 }
