@@ -60,10 +60,16 @@ fn terms_have_the_numbers_of_a_list(rt: HostRuntime) -> Result<(), Refusal> {
     Ok(())
 }
 
-/// The first ten bits of a term's hash, under the seed: what chooses among 1,024 buckets.
-fn bucket(seed: u64, term: &TermText) -> u64 {
+/// A hasher that has been given the seed.
+fn seeded(seed: u64) -> FoldHasher {
     let mut hasher = FoldHasher::default();
     hasher.write_u64(seed);
+    hasher
+}
+
+/// The first ten bits of a term's hash: what chooses among 1,024 buckets.
+fn bucket(seeded: FoldHasher, term: &TermText) -> u64 {
+    let mut hasher = seeded;
     hasher.write(term.as_bytes());
     hasher.finish() & 1_023
 }
@@ -73,10 +79,11 @@ fn crafted_terms_of_one_bucket_keep_apart(rt: HostRuntime) -> Result<(), Refusal
     let alloc = rt.alloc();
     let seed = 7;
     let mut dict = Dict::new(alloc, seed, u32::MAX)?;
+    let hasher = seeded(seed);
     let mut terms: Vec<TermText> = Vec::new(alloc);
     for drawn in 0..16_000u64 {
         let candidate = term(alloc, drawn)?;
-        if bucket(seed, &candidate) == 5 {
+        if bucket(hasher, &candidate) == 5 {
             dict.intern(&candidate)?;
             terms.push(candidate)?;
         }
