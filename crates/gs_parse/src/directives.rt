@@ -72,7 +72,8 @@ impl Parser {
 
     /// Declares the prefix that a directive has. Whether it and this are a prefix and an IRI.
     fn declare(&mut self, text: &str) -> Result<bool, AllocError>
-        ensures context { Changes result (context_at self.old) (context_at self.new) (declared self.old text.now) }
+        ensures context { Changes result (context_at self.old) (context_at self.new)
+            (declared self.old text.now) }
         ensures numbers { numbers_at self.new ≡ numbers_at self.old }
         ensures last { self.new.last ≡ self.old.last }
     {

@@ -18,8 +18,8 @@ abbrev pub stood : {S X : Type 0} → (S → X) → Result S Fault → Result X 
 stood f m = result_map_both f (λ e. e) m
 
 -- it answers what stands for this value, or its fault
-abbrev pub Stands : {S X E : Type 0} → (S → X) → Result (Result S Fault) E → Result X Fault → Type 0
-Stands f r x = IfOk r (λ m. stood f m ≡ x)
+abbrev pub StandsFor : {S X E : Type 0} → (S → X) → Result (Result S Fault) E → Result X Fault → Type 0
+StandsFor f r x = IfOk r (λ m. stood f m ≡ x)
 
 -- it answers this value, or its fault, and leaves these numbers
 abbrev pub IsNumbered : {X E : Type 0} → Result (Result X Fault) E → Numbers → Result (X × Numbers) Fault → Type 0

@@ -3,7 +3,7 @@ ghost use Rattle.std.specs.Prelude.{◌≡◌, Some, IfOk, option_map, codes};
 ghost use Rattle.gs_model.specs.Terms.{Literal, Typed};
 ghost use Rattle.gs_escape.specs.Tokens.{behind};
 ghost use Rattle.gs_blank.specs.Numbers.{Numbers, number_of};
-ghost use Rattle.gs_triple_parser.specs.Terms.{stood, Stands, StandsNumbered, IsNumbered};
+ghost use Rattle.gs_triple_parser.specs.Terms.{stood, StandsFor, StandsNumbered, IsNumbered};
 ghost use Rattle.gs_triple_parser.specs.Terms.{iri_value, verb_value, word_value, subject_value};
 ghost use Rattle.gs_triples.specs.Meanings.{standing, made_of, with_numbers};
 ghost use Rattle.gs_triple_parser.specs.declared.allowed.Allowed.{Allowed as Flags};
@@ -23,7 +23,7 @@ fn variable_verb<L: Language>(
     alloc: Global,
     name: &[u8],
 ) -> Result<Result<L::Verb, Fault>, AllocError>
-    ensures { Stands L.language.verb result (standing (L.language.grammar.variable name.now)) }
+    ensures { StandsFor L.language.verb result (standing (L.language.grammar.variable name.now)) }
 {
     match L::verb_variable(alloc, name)? {
         None => Ok(Err(Fault::Syntax)),
@@ -38,7 +38,7 @@ fn iri_verb<L: Language>(
     context: &Context,
     token: TermToken,
 ) -> Result<Result<L::Verb, Fault>, AllocError>
-    ensures { (a : Flags) → Stands L.language.verb result (iri_value L.language context.now a token.entry) }
+    ensures { (a : Flags) → StandsFor L.language.verb result (iri_value L.language context.now a token.entry) }
 {
     match iri(alloc, context, token)? {
         Ok(term) => Ok(Ok(L::verb(term))),
@@ -52,7 +52,7 @@ fn verb_word<L: Language>(
     context: &Context,
     token: TermToken,
 ) -> Result<Result<L::Verb, Fault>, AllocError>
-    ensures { (a : Flags) → Stands L.language.verb result
+    ensures { (a : Flags) → StandsFor L.language.verb result
         (verb_value L.language context.now a (Symbol.Word token.entry)) }
 {
     match token {
@@ -67,7 +67,7 @@ pub fn verb<L: Language>(
     context: &Context,
     symbol: Symbol,
 ) -> Result<Result<L::Verb, Fault>, AllocError>
-    ensures { (a : Flags) → Stands L.language.verb result (verb_value L.language context.now a symbol.entry) }
+    ensures { (a : Flags) → StandsFor L.language.verb result (verb_value L.language context.now a symbol.entry) }
 {
     match symbol {
         Symbol::Word(token) => verb_word::<L>(alloc, context, token),
@@ -119,7 +119,7 @@ fn variable_subject<L: Language>(
     alloc: Global,
     name: &[u8],
 ) -> Result<Result<L::Subject, Fault>, AllocError>
-    ensures { Stands L.language.subject result (standing (L.language.grammar.variable name.now)) }
+    ensures { StandsFor L.language.subject result (standing (L.language.grammar.variable name.now)) }
 {
     match L::variable(alloc, name)? {
         None => Ok(Err(Fault::Syntax)),

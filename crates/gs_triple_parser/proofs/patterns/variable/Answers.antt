@@ -1,4 +1,4 @@
-use Rattle.std.proofs.Common.{◌≡◌, ◌∙◌}
+use Rattle.std.proofs.Common.{◌∙◌}
 use Rattle.gs_triple_parser.proofs.PatternLemmas.{named, unnamed}
 use Rattle.gs_triple_parser.proofs.patterns.variable.Goals as goal
 
