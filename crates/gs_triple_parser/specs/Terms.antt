@@ -47,6 +47,10 @@ module _ {S V X T : Type 0} (l : TypedLanguage S V X T) where
   abbrev pub rest_of : Context → ℕ → X → T
   rest_of env m o = rest_is (context_in l.grammar env) m o
 
+  -- the value of an IRI
+  abbrev pub iri_value : Context → Allowed → TermToken → Result X Fault
+  iri_value env a w = meaning.value_of (context_in (language_of l a) env) (meaning.iri (context_in (language_of l a) env) (token_at w))
+
   -- the value of a verb
   abbrev pub verb_value : Context → Allowed → Symbol → Result X Fault
   verb_value env a t = meaning.verb (context_in (language_of l a) env) (symbol_at t)

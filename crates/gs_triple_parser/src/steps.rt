@@ -99,7 +99,7 @@ impl<L: Language> TripleParser<L> {
     }
 
     /// The datatype of a string.
-    #[tactic(auto, unfolding(gs_triples::specs::Machine::step))]
+    #[tactic(auto, unfolding(gs_triples::specs::Machine::step), using(crate::proofs::LanguageLemmas::typed_in))]
     fn typing(&mut self, text: String, slot: Slot<L>, symbol: Symbol) -> Result<(), AllocError>
         ensures { IsTaken L.language result self.new (step_of L.language self.old (Place.Typing text slot) symbol.entry) }
     {

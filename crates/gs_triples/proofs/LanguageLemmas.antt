@@ -2,12 +2,12 @@
 use Rattle.std.proofs.Common.{◌≡◌, ℕ, List, refl, ap}
 use Rattle.std.specs.Prelude.{Option, Some, None, option_map, option_and_then}
 use Rattle.std.specs.FinMap as finite
-use Rattle.gs_model.specs.Terms.{Literal, Typed}
+use Rattle.gs_model.specs.Terms.{Iri, Literal, Typed}
 use Rattle.gs_iri.specs.Resolving.{resolved}
 use Rattle.gs_escape.specs.Tokens.{iri_of, string_of, parts_of}
 use Rattle.gs_triples.specs.Languages.{Language}
 use Rattle.gs_triples.specs.Symbols.{TermToken, Reference, Namespace, Name, Label, Plain, Variable, Symbol, AWord}
-use Rattle.gs_triples.specs.Meanings.{Context, in_language, made_of, name_text, iri_text, typed}
+use Rattle.gs_triples.specs.Meanings.{Context, in_language, made_of, name_text, iri_text, iri, typed}
 use Rattle.gs_triples.specs.Directives.{with_prefix, with_base}
 
 module _ {Value Triple V T : Type 0} (l : Language Value Triple) (env : Context V T) where
@@ -20,6 +20,11 @@ module _ {Value Triple V T : Type 0} (l : Language Value Triple) (env : Context 
   iri_text-in_language (Label x) = refl
   iri_text-in_language (Plain x d) = refl
   iri_text-in_language (Variable x) = refl
+
+  -- and so the same term
+  pub iri-in_language : (w : TermToken) → iri (in_language l env) w ≡ iri env w
+  unfolding iri
+  iri-in_language w = ap (λ o. made_of (option_map Iri o)) (iri_text-in_language w)
 
   -- a string with a datatype is the same literal
   pub typed-in_language : (x : List ℕ) (t : Symbol) → typed (in_language l env) x t ≡ typed env x t
