@@ -1,0 +1,198 @@
+-- The machine of triples gives numbers one after another, and a number stays with its label.
+use Rattle.std.proofs.Common.{◌≡◌, ℕ, suc, ◌+◌, ◌≤◌, ◌<◌, Bool, true, false, cond, List, [], ◌∷◌, ◌++◌, refl, sym, ap, ◌∙◌, subst, arith}
+use Rattle.std.specs.Prelude.{codes, not, nat_lt, Option, Some, None, option_and_then, Result, Ok, Err}
+use Rattle.std.specs.Ordering.{nat_cmp, eq_by_cmp}
+use Rattle.std.specs.Cmp.Lexicographic.{slice_cmp, nat_list_cmp_total}
+use Rattle.std.specs.FinMap.{get-insert, slice_cmp-IsAntisymmetric, nat_cmp-IsAntisymmetric}
+use Rattle.std.specs.Cmp.{Equal-is}
+use Rattle.std.proofs.lemmas.Bool.{lt-ltb}
+use Rattle.gs_model.specs.Terms.{Term}
+use Rattle.gs_escape.specs.Tokens.{behind}
+use Rattle.gs_blank.specs.Numbers.{Numbers, known, one_more, with_label, numbered, number_of}
+use Rattle.gs_triples.specs.Symbols.{Symbol, TermToken, AWord, Text, At, Carets, Open, Close, OpenList, CloseList, Semicolon, Comma, Plain, Label, Variable}
+use Rattle.gs_triples.specs.Meanings as meaning
+use Rattle.gs_triples.specs.Meanings.{Fault, Syntax, Context, blank, rdf_value, tagged, typed, simple, with_numbers, standing, labelled, value_of, iri, made_of}
+use Rattle.gs_triples.specs.Goals.{Goal, Object, Inside, Verbs, After, Semis, Begun, Items, may_open, may_open_node, next_number, rest_is}
+use Rattle.gs_triples.specs.Reading.{begins_verb}
+use Rattle.gs_triples.specs.Program.{stands_alone}
+use Rattle.gs_triples.specs.States.{Frame, ToObject, ToClose, ToFirst, ToItem, ToVerbs, ToMore, State, Opened, Closed, Heading, Held, Typing, Lost, Turn, Goes, Ends}
+use Rattle.gs_triples.specs.Machine.{give, shut, leave, give_token, put, object, after_verb, at_verb, first_object, head, after_alone, go_on, begin, opening, step}
+use Rattle.gs_update_text.specs.Operations.{is_among_first}
+
+-- the first k numbers are given, and to the same labels as before
+abbrev pub Keeps : ℕ → Numbers → Numbers → Type 0
+Keeps k m n = (k ≤ n.1) × ((o : Option (List ℕ)) → is_among_first k (option_and_then (known n) o) ≡ is_among_first k (option_and_then (known m) o))
+
+pub keeps_all : (k : ℕ) (m : Numbers) → k ≤ m.1 → Keeps k m m
+keeps_all k m h = (h, λ o. refl)
+
+pub keeps_then : (k : ℕ) (m n l : Numbers) → Keeps k m n → Keeps k n l → Keeps k m l
+keeps_then k m n l g h = (h.0, λ o. h.1 o ∙ g.1 o)
+
+keeps_one : (k : ℕ) (m n : Numbers) → Keeps k m n → Keeps k m (one_more n)
+keeps_one k m n h = (omega (arith, h.0), h.1)
+
+later_number : (k j : ℕ) → k ≤ j → is_among_first k (Some (j + 1)) ≡ false
+later_number k j h = ap not (lt-ltb k (j + 1) (omega (arith, h)))
+
+-- a label that is not the new one, or is, which had no number
+new_label : (k : ℕ) (n : Numbers) (l x : List ℕ) (b : Bool) → eq_by_cmp (slice_cmp nat_cmp) x l ≡ b → known n l ≡ None → k ≤ n.1
+    → is_among_first k (cond b (Some (n.1 + 1)) (known n x)) ≡ is_among_first k (known n x)
+new_label k n l x false e q h = refl
+new_label k n l x true e q h =
+    let same : x ≡ l = slice_cmp-IsAntisymmetric nat_cmp-IsAntisymmetric x l ((Equal-is (slice_cmp nat_cmp x l)).0 e) in
+    later_number k n.1 h ∙ sym (ap (λ z. is_among_first k (known n z)) same ∙ ap (is_among_first k) q)
+
+keeps_new : (k : ℕ) (n : Numbers) (l : List ℕ) → known n l ≡ None → k ≤ n.1 → (o : Option (List ℕ))
+    → is_among_first k (option_and_then (known (with_label n l)) o) ≡ is_among_first k (option_and_then (known n) o)
+keeps_new k n l q h None = refl
+keeps_new k n l q h (Some x) = ap (is_among_first k) (get-insert nat_list_cmp_total n.0 l (n.1 + 1) x) ∙ new_label k n l x (eq_by_cmp (slice_cmp nat_cmp) x l) refl q h
+
+keeps_numbered : (k : ℕ) (m n : Numbers) (l : List ℕ) (o : Option ℕ) → known n l ≡ o → Keeps k m n → Keeps k m (numbered n l o).1
+keeps_numbered k m n l None q h = (omega (arith, h.0), λ o. keeps_new k n l q h.0 o ∙ h.1 o)
+keeps_numbered k m n l (Some j) q h = h
+
+-- a label gets its number
+keeps_label : (k : ℕ) (m n : Numbers) (l : List ℕ) → Keeps k m n → Keeps k m (number_of n l).1
+keeps_label k m n l h = keeps_numbered k m n l (known n l) refl h
+
+module _ {Value : Type 0} where
+  -- a value that keeps them, unless it is a fault
+  abbrev KeptValue : ℕ → Numbers → Result (Value × Numbers) Fault → Type 0
+  KeptValue k m (Err e) = Unit {0}
+  KeptValue k m (Ok p) = Keeps k m p.1
+
+  with_keeps : (k : ℕ) (m n : Numbers) (r : Result Value Fault) → Keeps k m n → KeptValue k m (with_numbers n r)
+  with_keeps k m n (Err e) h = tt
+  with_keeps k m n (Ok v) h = h
+
+  if_keeps : (k : ℕ) (m : Numbers) (b : Bool) (r : Result (Value × Numbers) Fault) → KeptValue k m r → KeptValue k m (cond b r (Err Syntax))
+  if_keeps k m true r h = h
+  if_keeps k m false r h = tt
+
+module _ {Value Triple : Type 0} where
+  -- a state or a turn that keeps them, unless after a fault
+  abbrev pub Kept : ℕ → Numbers → State Value Triple → Type 0
+  Kept k m (Lost e) = Unit {0}
+  Kept k m (Opened env n) = Keeps k m n
+  Kept k m (Closed v env P n) = Keeps k m n
+  Kept k m (Heading g fs env P n) = Keeps k m n
+  Kept k m (Held x fs env P n) = Keeps k m n
+  Kept k m (Typing x fs env P n) = Keeps k m n
+
+  abbrev pub KeptBy : ℕ → Numbers → Turn Value Triple → Type 0
+  KeptBy k m (Goes s) = Kept k m s
+  KeptBy k m (Ends env P n) = Keeps k m n
+
+  one_of : (k : ℕ) (m : Numbers) (b : Bool) (s u : State Value Triple) → Kept k m s → Kept k m u → Kept k m (cond b s u)
+  one_of k m true s u g h = g
+  one_of k m false s u g h = h
+
+  either : (k : ℕ) (m : Numbers) (b : Bool) (s u : Turn Value Triple) → KeptBy k m s → KeptBy k m u → KeptBy k m (cond b s u)
+  either k m true s u g h = g
+  either k m false s u g h = h
+
+  give_keeps : (k : ℕ) (m : Numbers) (env : Context Value Triple) (v : Value) (fs : List (Frame Value)) (P : List Triple) (n : Numbers) → Keeps k m n → Kept k m (give env v fs P n)
+  give_keeps k m env v [] P n h = tt
+  give_keeps k m env v (ToObject d s p ∷ fs) P n h = h
+  give_keeps k m env v (ToFirst d i ∷ fs) P n h = h
+  give_keeps k m env v (ToItem d i l j ∷ fs) P n h = h
+  give_keeps k m env v (ToVerbs ∷ fs) P n h = one_of k m (stands_alone env P) (Closed v env P n) (Heading (Verbs 0 v) fs env P n) h h
+  give_keeps k m env v (ToClose i ∷ fs) P n h = tt
+  give_keeps k m env v (ToMore i ∷ fs) P n h = tt
+
+  shut_keeps : (k : ℕ) (m : Numbers) (t : Symbol) (f : Frame Value) (fs : List (Frame Value)) (env : Context Value Triple) (P : List Triple) (n : Numbers) → Keeps k m n → Kept k m (shut t f fs env P n)
+  shut_keeps k m Close (ToClose i) fs env P n h = give_keeps k m env (blank env i) fs P n h
+  shut_keeps k m Close (ToMore i) [] env P n h = h
+  shut_keeps k m t f fs env P n h = tt
+
+  leave_keeps : (k : ℕ) (m : Numbers) (t : Symbol) (fs : List (Frame Value)) (env : Context Value Triple) (P : List Triple) (n : Numbers) → Keeps k m n → KeptBy k m (leave t fs env P n)
+  leave_keeps k m t [] env P n h = h
+  leave_keeps k m t (f ∷ fs) env P n h = shut_keeps k m t f fs env P n h
+
+  labelled_keeps : (k : ℕ) (m : Numbers) (env : Context Value Triple) (n : Numbers) (l : Option (List ℕ)) → Keeps k m n → KeptValue k m (labelled env n l)
+  labelled_keeps k m env n None h = tt
+  labelled_keeps k m env n (Some l) h = keeps_label k m n l h
+
+  word_keeps : (k : ℕ) (m : Numbers) (env : Context Value Triple) (n : Numbers) (w : TermToken) → Keeps k m n → KeptValue k m (meaning.word env n w)
+  unfolding meaning.word
+  word_keeps k m env n (Label x) h = if_keeps k m env.language.nodes (labelled env n (behind (codes "_:") x)) (labelled_keeps k m env n (behind (codes "_:") x) h)
+  word_keeps k m env n (Plain x d) h = with_keeps k m n _ h
+  word_keeps k m env n (Variable x) h = with_keeps k m n _ h
+  word_keeps k m env n w h = with_keeps k m n _ h
+
+  subject_keeps : (k : ℕ) (m : Numbers) (env : Context Value Triple) (n : Numbers) (w : TermToken) → Keeps k m n → KeptValue k m (meaning.subject env n w)
+  subject_keeps k m env n (Plain x d) h = tt
+  subject_keeps k m env n w h = word_keeps k m env n w h
+
+  token_keeps : (k : ℕ) (m : Numbers) (fs : List (Frame Value)) (env : Context Value Triple) (P : List Triple) (r : Result (Value × Numbers) Fault) → KeptValue k m r → Kept k m (give_token fs env P r)
+  token_keeps k m fs env P (Err e) h = tt
+  token_keeps k m fs env P (Ok p) h = give_keeps k m env p.0 fs P p.1 h
+
+  put_keeps : (k : ℕ) (m : Numbers) (fs : List (Frame Value)) (env : Context Value Triple) (P : List Triple) (n : Numbers) (r : Result Term Fault) → Keeps k m n → Kept k m (put fs env P n r)
+  put_keeps k m fs env P n (Err e) h = tt
+  put_keeps k m fs env P n (Ok t) h = give_keeps k m env (env.language.of_term t) fs P n h
+
+  object_keeps : (k : ℕ) (m : Numbers) (d : ℕ) (t : Symbol) (fs : List (Frame Value)) (env : Context Value Triple) (P : List Triple) (n : Numbers) → Keeps k m n → Kept k m (object d t fs env P n)
+  object_keeps k m d (AWord w) fs env P n h = token_keeps k m fs env P (meaning.word env n w) (word_keeps k m env n w h)
+  object_keeps k m d (Text x) fs env P n h = h
+  object_keeps k m d Open fs env P n h = one_of k m (may_open_node env d) (Heading (Inside (suc d) (next_number n)) fs env P (one_more n)) (Lost Syntax) (keeps_one k m n h) tt
+  object_keeps k m d OpenList fs env P n h = one_of k m (may_open d) (Heading (Begun (suc d)) fs env P n) (Lost Syntax) h tt
+  object_keeps k m d t fs env P n h = tt
+
+  verb_keeps : (k : ℕ) (m : Numbers) (d : ℕ) (s : Value) (fs : List (Frame Value)) (env : Context Value Triple) (P : List Triple) (n : Numbers) (r : Result Value Fault) → Keeps k m n → Kept k m (after_verb d s fs env P n r)
+  verb_keeps k m d s fs env P n (Err e) h = tt
+  verb_keeps k m d s fs env P n (Ok p) h = h
+
+  first_keeps : (k : ℕ) (m : Numbers) (d : ℕ) (t : Symbol) (fs : List (Frame Value)) (env : Context Value Triple) (P : List Triple) (n : Numbers) → Keeps k m n → Kept k m (first_object d t fs env P n)
+  first_keeps k m d t fs env P n h =
+      one_of k m env.language.nodes (object d t (ToFirst d (next_number n) ∷ fs) env P (one_more n)) (Lost Syntax) (object_keeps k m d t (ToFirst d (next_number n) ∷ fs) env P (one_more n) (keeps_one k m n h)) tt
+
+  head_keeps : (k : ℕ) (m : Numbers) (g : Goal Value) (t : Symbol) (fs : List (Frame Value)) (env : Context Value Triple) (P : List Triple) (n : Numbers) → Keeps k m n → KeptBy k m (head g t fs env P n)
+  head_keeps k m (Object d) t fs env P n h = object_keeps k m d t fs env P n h
+  head_keeps k m (Inside d i) Close fs env P n h = give_keeps k m env (blank env i) fs P n h
+  head_keeps k m (Inside d i) t fs env P n h = verb_keeps k m d (blank env i) (ToClose i ∷ fs) env P n (meaning.verb env t) h
+  head_keeps k m (Verbs d s) t fs env P n h = verb_keeps k m d s fs env P n (meaning.verb env t) h
+  head_keeps k m (After d s p) Comma fs env P n h = h
+  head_keeps k m (After d s p) Semicolon fs env P n h = h
+  head_keeps k m (After d s p) t fs env P n h = leave_keeps k m t fs env P n h
+  head_keeps k m (Semis d s) Semicolon fs env P n h = h
+  head_keeps k m (Semis d s) t fs env P n h =
+      either k m (begins_verb t) (Goes (at_verb d s t fs env P n)) (leave t fs env P n) (verb_keeps k m d s fs env P n (meaning.verb env t) h) (leave_keeps k m t fs env P n h)
+  head_keeps k m (Begun d) CloseList fs env P n h = give_keeps k m env (rdf_value env (codes "nil")) fs P n h
+  head_keeps k m (Begun d) t fs env P n h = first_keeps k m d t fs env P n h
+  head_keeps k m (Items d i l) CloseList fs env P n h = give_keeps k m env (blank env i) fs _ n h
+  head_keeps k m (Items d i l) t fs env P n h = object_keeps k m d t (ToItem d i l (next_number n) ∷ fs) env P (one_more n) (keeps_one k m n h)
+
+  alone_keeps : (k : ℕ) (m : Numbers) (v : Value) (t : Symbol) (env : Context Value Triple) (P : List Triple) (n : Numbers) → Keeps k m n → KeptBy k m (after_alone v t env P n)
+  alone_keeps k m v t env P n h =
+      either k m (begins_verb t) (Goes (at_verb 0 v t [] env P n)) (leave t [] env P n) (verb_keeps k m 0 v [] env P n (meaning.verb env t) h) (leave_keeps k m t [] env P n h)
+
+  on_keeps : (k : ℕ) (m : Numbers) (t : Symbol) (s : State Value Triple) → Kept k m s → KeptBy k m (go_on t s)
+  on_keeps k m t (Heading g fs env P n) h = head_keeps k m g t fs env P n h
+  on_keeps k m t (Closed v env P n) h = alone_keeps k m v t env P n h
+  on_keeps k m t s h = tt
+
+  -- one symbol more
+  pub step_keeps : (k : ℕ) (m : Numbers) (s : State Value Triple) (t : Symbol) → Kept k m s → KeptBy k m (step s t)
+  unfolding step
+  step_keeps k m (Opened env n) Close h = keeps_one k m n h
+  step_keeps k m (Opened env n) t h = verb_keeps k m 1 (blank env (next_number n)) (ToMore (next_number n) ∷ []) env [] (one_more n) (meaning.verb env t) (keeps_one k m n h)
+  step_keeps k m (Closed v env P n) t h = alone_keeps k m v t env P n h
+  step_keeps k m (Heading g fs env P n) t h = head_keeps k m g t fs env P n h
+  step_keeps k m (Held x fs env P n) (At y) h = put_keeps k m fs env P n (tagged x y) h
+  step_keeps k m (Held x fs env P n) Carets h = h
+  step_keeps k m (Held x fs env P n) t h = on_keeps k m t (put fs env P n (simple x)) (put_keeps k m fs env P n (simple x) h)
+  step_keeps k m (Typing x fs env P n) t h = put_keeps k m fs env P n (typed env x t) h
+  step_keeps k m (Lost e) t h = tt
+
+  begin_keeps : (k : ℕ) (m : Numbers) (env : Context Value Triple) (r : Result (Value × Numbers) Fault) → KeptValue k m r → Kept k m (begin env r)
+  begin_keeps k m env (Err e) h = tt
+  begin_keeps k m env (Ok p) h = h
+
+  -- the first symbol of triples
+  pub opening_keeps : (k : ℕ) (m : Numbers) (env : Context Value Triple) (n : Numbers) (t : Symbol) → Keeps k m n → Kept k m (opening env n t)
+  opening_keeps k m env n (AWord w) h = begin_keeps k m env (meaning.subject env n w) (subject_keeps k m env n w h)
+  opening_keeps k m env n Open h = one_of k m env.language.nodes (Opened env n) (Lost Syntax) h tt
+  opening_keeps k m env n OpenList h = h
+  opening_keeps k m env n t h = tt
