@@ -1,0 +1,81 @@
+//! The prologue: what may stand where an update begins, and its directives.
+ghost use Rattle.std.specs.Prelude.{◌≡◌, IfOk};
+
+use crate::places::Place;
+use crate::rejections::Rejection;
+use gs_lex::TokenKind;
+use gs_model::Fault;
+use gs_triple_parser::{Scope, Symbol, TermToken};
+use std::alloc::{AllocError, Global};
+
+/// The text breaks the grammar here.
+pub fn broken() -> Place {
+    Place::Rejected(Rejection::Broken(Fault::Syntax))
+}
+
+/// A word where an operation may begin; the operations of other forms are not served.
+fn begun(kind: TokenKind, scope: Scope) -> Place {
+    match kind {
+        TokenKind::Insert => Place::AfterInsert(scope),
+        TokenKind::Delete => Place::AfterDelete(scope),
+        TokenKind::Load
+        | TokenKind::Clear
+        | TokenKind::Drop
+        | TokenKind::Create
+        | TokenKind::Add
+        | TokenKind::Move
+        | TokenKind::Copy
+        | TokenKind::With => Place::Rejected(Rejection::OutOfProfile),
+        _ => broken(),
+    }
+}
+
+/// A symbol where an update may begin.
+pub fn between(scope: Scope, symbol: Symbol) -> Place {
+    match symbol {
+        Symbol::Prefix => Place::InPrefix(scope),
+        Symbol::Base => Place::InBase(scope),
+        Symbol::Foreign(kind, _) => begun(kind, scope),
+        _ => broken(),
+    }
+}
+
+/// The prefix that is declared.
+pub fn prefix(alloc: Global, scope: Scope, symbol: Symbol) -> Result<Place, AllocError> {
+    match symbol {
+        Symbol::Word(TermToken::Namespace(prefix)) => {
+            Ok(Place::InPrefixIri(scope, String::from_str(alloc, prefix)?))
+        }
+        _ => Ok(broken()),
+    }
+}
+
+/// The IRI that the prefix stands for.
+pub fn prefix_iri(scope: Scope, prefix: String, symbol: Symbol) -> Result<Place, AllocError> {
+    let mut scope = scope;
+    match symbol {
+        Symbol::Word(TermToken::Reference(text, _)) => {
+            if scope.set_prefix(prefix.as_str(), text)? {
+                Ok(Place::Between(scope))
+            } else {
+                Ok(broken())
+            }
+        }
+        _ => Ok(broken()),
+    }
+}
+
+/// The IRI of a base.
+pub fn base(scope: Scope, symbol: Symbol) -> Result<Place, AllocError> {
+    let mut scope = scope;
+    match symbol {
+        Symbol::Word(TermToken::Reference(text, _)) => {
+            if scope.set_base(text)? {
+                Ok(Place::Between(scope))
+            } else {
+                Ok(broken())
+            }
+        }
+        _ => Ok(broken()),
+    }
+}
