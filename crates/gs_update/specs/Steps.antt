@@ -1,21 +1,17 @@
 -- What a symbol does to a parser of updates.
-use Rattle.std.specs.Prelude.{◌≡◌, ℕ, List, [], ◌++◌, map, Option, Result, IfOk}
-use Rattle.gs_blank.specs.Numbers.{Numbers}
-use Rattle.gs_triples.specs.Symbols as grammar
+use Rattle.std.specs.Prelude.{◌≡◌, ℕ, List, [], ◌∷◌, ◌++◌, map, Option}
 use Rattle.gs_triple_parser.specs.Languages.{TypedLanguage}
-use Rattle.gs_triple_parser.specs.Views.{symbol_at, triples_state, context_now, numbers_now}
+use Rattle.gs_triple_parser.specs.Views.{symbol_at, scope_context, scope_numbers, context_now, numbers_now}
 use Rattle.gs_triple_parser.specs.declared.scopes.Scope.{Scope}
 use Rattle.gs_triple_parser.specs.declared.symbols.Symbol.{Symbol}
 use Rattle.gs_update_text.specs.Requests.{UpdateOperation, Written, Rejection, end_of_last}
-use Rattle.gs_update_text.specs.Operations.{Block}
 use Rattle.gs_update_text.specs.Blocks as blocks
 use Rattle.gs_update_text.specs.States as machine
 use Rattle.gs_update_text.specs.Machine.{step}
-use Rattle.gs_update.specs.Views.{rejection_at, block_state, rules_of, state_at, state_of, operations_of}
-use Rattle.gs_update.specs.declared.blocks.Block as code
-use Rattle.gs_update.specs.declared.blocks.BlockTurn as code
+use Rattle.gs_update.specs.Views.{rejection_at, HasGiven, IsSound, block_state, rules_of, state_at, state_of, operations_of}
+use Rattle.gs_update.specs.declared.blocks.Block.{Block as CodeBlock}
+use Rattle.gs_update.specs.declared.blocks.BlockTurn.{BlockTurn as CodeTurn}
 use Rattle.gs_update.specs.declared.blocks.BlockTurn.TheVariants as turn
-use Rattle.gs_update.specs.declared.rejections.Rejection as code
 use Rattle.gs_update.specs.declared.places.Place.{Place}
 use Rattle.gs_update.specs.declared.parser.UpdateParser.{UpdateParser}
 
@@ -24,33 +20,51 @@ abbrev pub Making : Type 0 → Type 0
 Making T = List T → Option UpdateOperation
 
 -- a place that a symbol leads to, and no operation ends
-abbrev pub LeadsTo : Place → machine.Turn → Type 0
-LeadsTo p t = machine.quiet (state_at p) ≡ t
+pub record LeadsTo (p : Place) (t : machine.Turn) : Type 0 where
+  pub state : machine.quiet (state_at p) ≡ t
+  pub sound : IsSound p
+
+-- the machine's turn by a symbol at a place
+abbrev pub turn_at_place : Place → Symbol → machine.Turn
+turn_at_place p t = step (state_at p) (symbol_at t)
+
+-- at the start of a text
+pub record Starts (p : UpdateParser) (s : machine.State) : Type 0 where
+  pub state : state_of p ≡ s
+  pub operations : p.operations.items ≡ []
+  pub last : p.last ≡ 0
+  pub sound : IsSound p.place
+
+-- after an operation that ends there
+abbrev pub concluded : Scope → UpdateOperation → ℕ → machine.Turn
+concluded s o e = (machine.After (scope_context s) (scope_numbers s), record { operation = o; end = e } ∷ [])
 
 -- a parser took this turn
 pub record Moves (old new : UpdateParser) (t : machine.Turn) : Type 0 where
   pub state : state_of new ≡ t.0
   pub operations : operations_of new.operations.items ≡ operations_of old.operations.items ++ map (λ (w : Written). w.operation) t.1
   pub last : new.last ≡ end_of_last old.last t.1
+  pub sound : IsSound new.place
 
 -- in a language of the code
 module _ {L S V X T : Type 0} (l : TypedLanguage S V X T) where
   -- a turn that left a block so
-  abbrev pub turn_at : Making T → code.Block L S V X T → code.BlockTurn → blocks.BlockTurn X T
+  abbrev pub turn_at : Making T → CodeBlock L S V X T → CodeTurn → blocks.BlockTurn X T
   turn_at made b turn.Takes = blocks.Takes (block_state l b)
   turn_at made b (turn.Shuts e) = blocks.shut (made b.triples.items) (numbers_now b.parser) e
   turn_at made b (turn.Stops r) = blocks.Stops (rejection_at r)
 
   -- a block took the turn that its rules give, whatever operation they make
-  abbrev pub Turned : code.Block L S V X T → code.BlockTurn → (Making T → blocks.BlockTurn X T) → Type 0
+  abbrev pub Turned : CodeBlock L S V X T → CodeTurn → (Making T → blocks.BlockTurn X T) → Type 0
   Turned b u t = (made : Making T) → turn_at made b u ≡ t made
 
   -- context and rules stay
-  pub record Stays (old new : code.Block L S V X T) : Type 0 where
+  pub record Stays (old new : CodeBlock L S V X T) : Type 0 where
     pub context : context_now l new.parser ≡ context_now l old.parser
     pub rules : (made : Making T) → rules_of l made new ≡ rules_of l made old
+    pub given : HasGiven new.since (numbers_now new.parser)
 
   -- unless the block is refused
-  abbrev pub StaysUnless : code.Block L S V X T → code.Block L S V X T → code.BlockTurn → Type 0
+  abbrev pub StaysUnless : CodeBlock L S V X T → CodeBlock L S V X T → CodeTurn → Type 0
   StaysUnless old new (turn.Stops r) = Unit {0}
   StaysUnless old new u = Stays old new

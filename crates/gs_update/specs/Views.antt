@@ -1,5 +1,5 @@
 -- What a parser of updates stands for.
-use Rattle.std.specs.Prelude.{ℕ, Bool, false, if◌then◌else◌, List, length, nat_lt, map, Option, Some, None, string_bytes}
+use Rattle.std.specs.Prelude.{ℕ, ◌≤◌, Bool, false, if◌then◌else◌, List, length, nat_lt, map, Option, Some, None, string_bytes}
 use Rattle.gs_event.specs.declared.updates.Op.{Op}
 use Rattle.gs_event.specs.declared.updates.Op.TheVariants as op
 use Rattle.gs_blank.specs.Numbers.{Numbers}
@@ -13,22 +13,22 @@ use Rattle.gs_update_text.specs.Requests.{UpdateOperation, Inserts, DeletesData,
 use Rattle.gs_update_text.specs.Operations.{Scope, Block, is_old, some_patterns}
 use Rattle.gs_update_text.specs.Blocks.{BlockState, AtTriples, WithinTriples}
 use Rattle.gs_update_text.specs.States as machine
-use Rattle.gs_update.specs.declared.rejections.Rejection as code
+use Rattle.gs_update.specs.declared.rejections.Rejection.{Rejection as CodeRejection}
 use Rattle.gs_update.specs.declared.rejections.Rejection.TheVariants as rejection
-use Rattle.gs_update.specs.declared.places.Form as code
+use Rattle.gs_update.specs.declared.places.Form.{Form as CodeForm}
 use Rattle.gs_update.specs.declared.places.Form.TheVariants as form
 use Rattle.gs_update.specs.declared.places.Place.{Place}
 use Rattle.gs_update.specs.declared.places.Place.TheVariants as place
-use Rattle.gs_update.specs.declared.blocks.Block as code
+use Rattle.gs_update.specs.declared.blocks.Block.{Block as CodeBlock}
 use Rattle.gs_update.specs.declared.parser.UpdateParser.{UpdateParser}
 
 -- why a text is no update, as the grammar has it
-abbrev pub rejection_at : code.Rejection → Rejection
+abbrev pub rejection_at : CodeRejection → Rejection
 rejection_at (rejection.Broken f) = Broken f
 rejection_at rejection.OutOfProfile = OutOfProfile
 
 -- the form of an operation
-abbrev pub form_at : code.Form → machine.Form
+abbrev pub form_at : CodeForm → machine.Form
 form_at form.InsertData = machine.InsertData
 form_at form.DeleteData = machine.DeleteData
 form_at form.DeleteWhere = machine.DeleteWhere
@@ -43,16 +43,21 @@ abbrev pub more_than : {T : Type 0} → Option ℕ → List T → Bool
 more_than None P = false
 more_than (Some k) P = nat_lt k (length P)
 
+-- as many numbers are given, where there is such a bound
+abbrev pub HasGiven : Option ℕ → Numbers → Type 0
+HasGiven None n = Unit {0}
+HasGiven (Some k) n = k ≤ n.1
+
 -- in a language of the code
 module _ {L S V X T : Type 0} (l : TypedLanguage S V X T) where
   -- the state of a block
-  abbrev pub block_state : code.Block L S V X T → BlockState X T
+  abbrev pub block_state : CodeBlock L S V X T → BlockState X T
   block_state b =
       if b.within then WithinTriples b.triples.items (triples_state l b.parser)
       else AtTriples (context_now l b.parser) b.triples.items (numbers_now b.parser)
 
   -- how it is read, where its triples make this operation
-  abbrev pub rules_of : (List T → Option UpdateOperation) → code.Block L S V X T → Block X T
+  abbrev pub rules_of : (List T → Option UpdateOperation) → CodeBlock L S V X T → Block X T
   rules_of made b = record {
     language = (context_now l b.parser).language;
     bars = bars_since b.since (numbers_now b.parser);
@@ -61,7 +66,7 @@ module _ {L S V X T : Type 0} (l : TypedLanguage S V X T) where
   }
 
   -- the context between operations
-  abbrev pub scope_of : code.Block L S V X T → Scope
+  abbrev pub scope_of : CodeBlock L S V X T → Scope
   scope_of b = in_language of_terms (context_now l b.parser)
 
 -- the state of a parser at a place
@@ -78,6 +83,13 @@ state_at (place.Deleting b) = machine.InData (rules_of terms (λ T. Some (Delete
 state_at (place.Seeking b) = machine.InWhere (rules_of patterns some_patterns b) (scope_of patterns b) (block_state patterns b)
 state_at (place.After s) = machine.After (scope_context s) (scope_numbers s)
 state_at (place.Rejected r) = machine.Rejected (rejection_at r)
+
+-- the numbers that bound the labels of a block are given
+abbrev pub IsSound : Place → Type 0
+IsSound (place.Inserting b) = HasGiven b.since (numbers_now b.parser)
+IsSound (place.Deleting b) = HasGiven b.since (numbers_now b.parser)
+IsSound (place.Seeking b) = HasGiven b.since (numbers_now b.parser)
+IsSound other = Unit {0}
 
 -- the state of a parser
 abbrev pub state_of : UpdateParser → machine.State

@@ -32,11 +32,12 @@ pub struct Block<L: Language> {
 
 impl<L: Language> Block<L> {
     ghost use Rattle.gs_triples.specs.States.{triples_so_far};
-    ghost use Rattle.gs_triple_parser.specs.Languages.{language_of};
+    ghost use Rattle.gs_triples.specs.Languages.{of_terms};
+    ghost use Rattle.gs_triples.specs.Meanings.{in_language};
     ghost use Rattle.gs_triple_parser.specs.Views.{symbol_at, scope_context, scope_numbers, triples_state, context_now, numbers_now, pending_triples};
     ghost use Rattle.gs_update_text.specs.Blocks as blocks;
-    ghost use Rattle.gs_update.specs.Views.{block_state, rules_of, more_than};
-    ghost use Rattle.gs_update.specs.Steps.{Turned, StaysUnless};
+    ghost use Rattle.gs_update.specs.Views.{rejection_at, HasGiven, block_state, rules_of, bars_since, more_than};
+    ghost use Rattle.gs_update.specs.Steps.{Making, Turned, StaysUnless};
 
     /// Whether the triples are too many, with those that are being read.
     fn has_too_many(&self) -> bool
@@ -52,7 +53,13 @@ impl<L: Language> Block<L> {
     }
 
     /// After a symbol that triples took.
-    fn entered(&mut self) -> BlockTurn {
+    fn entered(&mut self) -> BlockTurn
+        ensures turn { Turned L.language self.new result (λ made. blocks.entered (rules_of L.language made self.old) self.old.triples.items (triples_state L.language self.old.parser)) }
+        ensures parser { self.new.parser ≡ self.old.parser }
+        ensures triples { self.new.triples ≡ self.old.triples }
+        ensures since { self.new.since ≡ self.old.since }
+        ensures most { self.new.most ≡ self.old.most }
+    {
         if let Some(fault) = self.parser.fault() {
             return BlockTurn::Stops(Rejection::Broken(fault));
         }
@@ -64,7 +71,14 @@ impl<L: Language> Block<L> {
     }
 
     /// Triples are over: they join those before. Whether they are too many.
-    fn gather(&mut self) -> Result<bool, AllocError> {
+    fn gather(&mut self) -> Result<bool, AllocError>
+        ensures many { IfOk result (λ b. b ≡ more_than self.old.most (self.old.triples.items ++ pending_triples self.old.parser)) }
+        ensures triples { OnOk result (self.new.triples.items ≡ self.old.triples.items ++ pending_triples self.old.parser) }
+        ensures context { context_now L.language self.new.parser ≡ context_now L.language self.old.parser }
+        ensures numbers { numbers_now self.new.parser ≡ numbers_now self.old.parser }
+        ensures since { self.new.since ≡ self.old.since }
+        ensures most { self.new.most ≡ self.old.most }
+    {
         self.parser.append_to(&mut self.triples)?;
         match self.most {
             None => Ok(false),
@@ -73,7 +87,12 @@ impl<L: Language> Block<L> {
     }
 
     /// The symbol after triples: a dot, or the closing brace.
-    fn parted(&mut self, symbol: Symbol) -> BlockTurn {
+    fn parted(&mut self, symbol: Symbol) -> BlockTurn
+        ensures turn { Turned L.language self.new result (λ made. blocks.parted (rules_of L.language made self.old) (symbol_at symbol.entry) (context_now L.language self.old.parser) self.old.triples.items (numbers_now self.old.parser)) }
+        ensures parser { self.new.parser ≡ self.old.parser }
+        ensures since { self.new.since ≡ self.old.since }
+        ensures most { self.new.most ≡ self.old.most }
+    {
         match symbol {
             Symbol::Dot(_) => {
                 self.within = false;
@@ -85,7 +104,13 @@ impl<L: Language> Block<L> {
     }
 
     /// A symbol that ends triples.
-    fn followed(&mut self, symbol: Symbol) -> Result<BlockTurn, AllocError> {
+    fn followed(&mut self, symbol: Symbol) -> Result<BlockTurn, AllocError>
+        ensures turn { IfOk result (λ u. Turned L.language self.new u (λ made. blocks.followed (rules_of L.language made self.old) (symbol_at symbol.entry) (context_now L.language self.old.parser) (self.old.triples.items ++ pending_triples self.old.parser) (numbers_now self.old.parser))) }
+        ensures context { context_now L.language self.new.parser ≡ context_now L.language self.old.parser }
+        ensures numbers { numbers_now self.new.parser ≡ numbers_now self.old.parser }
+        ensures since { self.new.since ≡ self.old.since }
+        ensures most { self.new.most ≡ self.old.most }
+    {
         if self.gather()? {
             return Ok(BlockTurn::Stops(Rejection::OutOfProfile));
         }
@@ -93,7 +118,11 @@ impl<L: Language> Block<L> {
     }
 
     /// A symbol where triples may begin.
-    fn at_triples(&mut self, symbol: Symbol) -> Result<BlockTurn, AllocError> {
+    fn at_triples(&mut self, symbol: Symbol) -> Result<BlockTurn, AllocError>
+        requires { HasGiven self.old.since (numbers_now self.old.parser) }
+        ensures turn { IfOk result (λ u. Turned L.language self.new u (λ made. blocks.at_triples (rules_of L.language made self.old) (symbol_at symbol.entry) (context_now L.language self.old.parser) self.old.triples.items (numbers_now self.old.parser))) }
+        ensures stays { IfOk result (λ u. StaysUnless L.language self.old self.new u) }
+    {
         match symbol {
             Symbol::Foreign(TokenKind::CloseBrace, end) => Ok(BlockTurn::Shuts(end)),
             Symbol::Foreign(TokenKind::Graph, _) => Ok(BlockTurn::Stops(Rejection::OutOfProfile)),
@@ -105,7 +134,11 @@ impl<L: Language> Block<L> {
     }
 
     /// A symbol, where any may stand.
-    fn moved(&mut self, symbol: Symbol) -> Result<BlockTurn, AllocError> {
+    fn moved(&mut self, symbol: Symbol) -> Result<BlockTurn, AllocError>
+        requires { HasGiven self.old.since (numbers_now self.old.parser) }
+        ensures turn { IfOk result (λ u. Turned L.language self.new u (λ made. blocks.moved (rules_of L.language made self.old) (block_state L.language self.old) (symbol_at symbol.entry))) }
+        ensures stays { IfOk result (λ u. StaysUnless L.language self.old self.new u) }
+    {
         if !self.within {
             return self.at_triples(symbol);
         }
@@ -116,7 +149,9 @@ impl<L: Language> Block<L> {
     }
 
     /// Whether a symbol is a label that may not stand.
-    fn bars(&self, symbol: Symbol) -> bool {
+    fn bars(&self, symbol: Symbol) -> bool
+        ensures { result ≡ bars_since self.now.since (numbers_now self.now.parser) (symbol_at symbol.entry) }
+    {
         let Some(since) = self.since else {
             return false;
         };
@@ -130,7 +165,11 @@ impl<L: Language> Block<L> {
     }
 
     /// One symbol more. After a refusal the block is of no more use.
-    pub fn step(&mut self, symbol: Symbol) -> Result<BlockTurn, AllocError> {
+    pub fn step(&mut self, symbol: Symbol) -> Result<BlockTurn, AllocError>
+        requires { HasGiven self.old.since (numbers_now self.old.parser) }
+        ensures turn { IfOk result (λ u. Turned L.language self.new u (λ made. blocks.block_step (rules_of L.language made self.old) (block_state L.language self.old) (symbol_at symbol.entry))) }
+        ensures stays { IfOk result (λ u. StaysUnless L.language self.old self.new u) }
+    {
         let barred = self.bars(symbol);
         let turn = self.moved(symbol)?;
         if !barred {
@@ -143,7 +182,9 @@ impl<L: Language> Block<L> {
     }
 
     /// Why a text that ends here is no update.
-    pub fn end(&mut self) -> Result<Rejection, AllocError> {
+    pub fn end(&mut self) -> Result<Rejection, AllocError>
+        ensures { IfOk result (λ r. (made : Making L.Triple) → rejection_at r ≡ blocks.block_ended (rules_of L.language made self.old) (block_state L.language self.old)) }
+    {
         if !self.within {
             return Ok(Rejection::Broken(Fault::Syntax));
         }
@@ -163,13 +204,24 @@ impl<L: Language> Block<L> {
     }
 
     /// What stays for the next operation, and the triples of this one.
-    pub fn into_parts(self) -> (Scope, Vec<L::Triple>) {
+    pub fn into_parts(self) -> (Scope, Vec<L::Triple>)
+        ensures context { scope_context result.0 ≡ in_language of_terms (context_now L.language self.parser) }
+        ensures numbers { scope_numbers result.0 ≡ numbers_now self.parser }
+        ensures triples { result.1 ≡ self.triples }
+    {
         (self.parser.into_scope(), self.triples)
     }
 }
 
+ghost use Rattle.gs_triple_parser.specs.Views.{scope_context, scope_numbers};
+ghost use Rattle.gs_update_text.specs.States.{InsertData, DeleteData, DeleteWhere, block_of, quiet};
+ghost use Rattle.gs_update.specs.declared.places.Place.TheVariants as place;
+ghost use Rattle.gs_update.specs.Steps.{LeadsTo};
+
 /// INSERT DATA: no label that an earlier operation has.
-pub fn inserting(alloc: Global, scope: Scope) -> Block<Terms> {
+pub fn inserting(alloc: Global, scope: Scope) -> Block<Terms>
+    ensures { LeadsTo (place.Inserting result) (quiet (block_of InsertData (scope_context scope) (scope_numbers scope))) }
+{
     let allowed = Allowed {
         nodes: true,
         lone_lists: true,
@@ -186,7 +238,9 @@ pub fn inserting(alloc: Global, scope: Scope) -> Block<Terms> {
 }
 
 /// DELETE DATA: no blank nodes.
-pub fn deleting(alloc: Global, scope: Scope) -> Block<Terms> {
+pub fn deleting(alloc: Global, scope: Scope) -> Block<Terms>
+    ensures { LeadsTo (place.Deleting result) (quiet (block_of DeleteData (scope_context scope) (scope_numbers scope))) }
+{
     let allowed = Allowed {
         nodes: false,
         lone_lists: false,
@@ -201,7 +255,9 @@ pub fn deleting(alloc: Global, scope: Scope) -> Block<Terms> {
 }
 
 /// DELETE WHERE: no blank nodes, and not too many patterns.
-pub fn seeking(alloc: Global, scope: Scope) -> Block<Patterns> {
+pub fn seeking(alloc: Global, scope: Scope) -> Block<Patterns>
+    ensures { LeadsTo (place.Seeking result) (quiet (block_of DeleteWhere (scope_context scope) (scope_numbers scope))) }
+{
     let allowed = Allowed {
         nodes: false,
         lone_lists: false,

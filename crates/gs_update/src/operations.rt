@@ -1,4 +1,9 @@
 //! The words of an operation, its opening brace, and what follows it.
+ghost use Rattle.gs_triple_parser.specs.Views.{scope_context, scope_numbers};
+ghost use Rattle.gs_update_text.specs.States.{quiet, block_of};
+ghost use Rattle.gs_update.specs.Views.{form_at};
+ghost use Rattle.gs_update.specs.Steps.{LeadsTo, turn_at_place};
+
 use crate::blocks::{deleting, inserting, seeking};
 use crate::places::{Form, Place};
 use crate::prologues::broken;
@@ -8,7 +13,10 @@ use gs_triple_parser::{Scope, Symbol};
 use std::alloc::Global;
 
 /// After INSERT; templates are not served.
-pub fn after_insert(scope: Scope, symbol: Symbol) -> Place {
+#[tactic(auto, unfolding(gs_update_text::specs::Machine::step))]
+pub fn after_insert(scope: Scope, symbol: Symbol) -> Place
+    ensures { LeadsTo result (turn_at_place (Place.AfterInsert scope) symbol.entry) }
+{
     match symbol {
         Symbol::Foreign(TokenKind::Data, _) => Place::AtBrace(Form::InsertData, scope),
         Symbol::Foreign(TokenKind::OpenBrace, _) => Place::Rejected(Rejection::OutOfProfile),
@@ -17,7 +25,10 @@ pub fn after_insert(scope: Scope, symbol: Symbol) -> Place {
 }
 
 /// After DELETE.
-pub fn after_delete(scope: Scope, symbol: Symbol) -> Place {
+#[tactic(auto, unfolding(gs_update_text::specs::Machine::step))]
+pub fn after_delete(scope: Scope, symbol: Symbol) -> Place
+    ensures { LeadsTo result (turn_at_place (Place.AfterDelete scope) symbol.entry) }
+{
     match symbol {
         Symbol::Foreign(TokenKind::Data, _) => Place::AtBrace(Form::DeleteData, scope),
         Symbol::Foreign(TokenKind::Where, _) => Place::AtBrace(Form::DeleteWhere, scope),
@@ -27,7 +38,9 @@ pub fn after_delete(scope: Scope, symbol: Symbol) -> Place {
 }
 
 /// The start of a block.
-fn opened(alloc: Global, form: Form, scope: Scope) -> Place {
+fn opened(alloc: Global, form: Form, scope: Scope) -> Place
+    ensures { LeadsTo result (quiet (block_of (form_at form) (scope_context scope) (scope_numbers scope))) }
+{
     match form {
         Form::InsertData => Place::Inserting(inserting(alloc, scope)),
         Form::DeleteData => Place::Deleting(deleting(alloc, scope)),
@@ -36,7 +49,10 @@ fn opened(alloc: Global, form: Form, scope: Scope) -> Place {
 }
 
 /// The opening brace.
-pub fn at_brace(alloc: Global, form: Form, scope: Scope, symbol: Symbol) -> Place {
+#[tactic(auto, unfolding(gs_update_text::specs::Machine::step))]
+pub fn at_brace(alloc: Global, form: Form, scope: Scope, symbol: Symbol) -> Place
+    ensures { LeadsTo result (turn_at_place (Place.AtBrace form scope) symbol.entry) }
+{
     match symbol {
         Symbol::Foreign(TokenKind::OpenBrace, _) => opened(alloc, form, scope),
         _ => broken(),
@@ -44,7 +60,10 @@ pub fn at_brace(alloc: Global, form: Form, scope: Scope, symbol: Symbol) -> Plac
 }
 
 /// After an operation.
-pub fn after(scope: Scope, symbol: Symbol) -> Place {
+#[tactic(auto, unfolding(gs_update_text::specs::Machine::step))]
+pub fn after(scope: Scope, symbol: Symbol) -> Place
+    ensures { LeadsTo result (turn_at_place (Place.After scope) symbol.entry) }
+{
     match symbol {
         Symbol::Semicolon => Place::Between(scope),
         _ => broken(),

@@ -1,5 +1,5 @@
 //! The parser.
-ghost use Rattle.std.specs.Prelude.{◌≡◌, [], OnOk, IfOk};
+ghost use Rattle.std.specs.Prelude.{◌≡◌, ◌≢◌, [], ◌∷◌, option_map, OnOk, IfOk, IfSome, IfNone};
 ghost use Rattle.gs_model.specs.Iris.{is_absolute};
 
 use crate::blocks::{Block, BlockTurn};
@@ -25,9 +25,20 @@ pub struct UpdateParser {
 }
 
 impl UpdateParser {
+    ghost use Rattle.gs_blank.specs.Numbers.{no_numbers};
+    ghost use Rattle.gs_triple_parser.specs.Views.{symbol_at, scope_context, scope_numbers, numbers_now};
+    ghost use Rattle.gs_update_text.specs.Requests.{Written};
+    ghost use Rattle.gs_update_text.specs.Grammar.{first_scope};
+    ghost use Rattle.gs_update_text.specs.States.{Between, After, Rejected};
+    ghost use Rattle.gs_update_text.specs.Machine as machine;
+    ghost use Rattle.gs_update.specs.declared.rejections.Rejection.{Rejection as Code};
+    ghost use Rattle.gs_update.specs.Views.{HasGiven, IsSound, rejection_at, state_of, operation_of};
+    ghost use Rattle.gs_update.specs.Steps.{Starts, Moves, concluded, turn_at_place};
+
     /// At the start of an update under an absolute base, in the request of this number.
     pub fn new(alloc: Global, base: &str, request: u64) -> Result<UpdateParser, AllocError>
         requires { is_absolute base.now ≡ true }
+        ensures { IfOk result (λ p. Starts p (Between (first_scope base.now request) no_numbers)) }
     {
         Ok(UpdateParser {
             alloc,
@@ -38,7 +49,9 @@ impl UpdateParser {
     }
 
     /// An operation ends there.
-    fn conclude(&mut self, scope: Scope, operation: Op, end: u64) -> Result<(), AllocError> {
+    fn conclude(&mut self, scope: Scope, operation: Op, end: u64) -> Result<(), AllocError>
+        ensures { OnOk result (Moves self.old self.new (concluded scope (operation_of operation) end)) }
+    {
         self.operations.push(operation)?;
         self.last = end;
         self.place = Place::After(scope);
@@ -46,7 +59,11 @@ impl UpdateParser {
     }
 
     /// A symbol in the block of INSERT DATA.
-    fn insert(&mut self, block: Block<Terms>, symbol: Symbol) -> Result<(), AllocError> {
+    #[tactic(auto, unfolding(gs_update_text::specs::Machine::step))]
+    fn insert(&mut self, block: Block<Terms>, symbol: Symbol) -> Result<(), AllocError>
+        requires { HasGiven block.since (numbers_now block.parser) }
+        ensures { OnOk result (Moves self.old self.new (turn_at_place (Place.Inserting block) symbol.entry)) }
+    {
         let mut block = block;
         match block.step(symbol)? {
             BlockTurn::Takes => self.place = Place::Inserting(block),
@@ -60,7 +77,11 @@ impl UpdateParser {
     }
 
     /// A symbol in the block of DELETE DATA.
-    fn delete(&mut self, block: Block<Terms>, symbol: Symbol) -> Result<(), AllocError> {
+    #[tactic(auto, unfolding(gs_update_text::specs::Machine::step))]
+    fn delete(&mut self, block: Block<Terms>, symbol: Symbol) -> Result<(), AllocError>
+        requires { HasGiven block.since (numbers_now block.parser) }
+        ensures { OnOk result (Moves self.old self.new (turn_at_place (Place.Deleting block) symbol.entry)) }
+    {
         let mut block = block;
         match block.step(symbol)? {
             BlockTurn::Takes => self.place = Place::Deleting(block),
@@ -74,7 +95,11 @@ impl UpdateParser {
     }
 
     /// A symbol in the block of DELETE WHERE.
-    fn seek(&mut self, block: Block<Patterns>, symbol: Symbol) -> Result<(), AllocError> {
+    #[tactic(auto, unfolding(gs_update_text::specs::Machine::step))]
+    fn seek(&mut self, block: Block<Patterns>, symbol: Symbol) -> Result<(), AllocError>
+        requires { HasGiven block.since (numbers_now block.parser) }
+        ensures { OnOk result (Moves self.old self.new (turn_at_place (Place.Seeking block) symbol.entry)) }
+    {
         let mut block = block;
         match block.step(symbol)? {
             BlockTurn::Takes => self.place = Place::Seeking(block),
@@ -92,7 +117,11 @@ impl UpdateParser {
     }
 
     /// One symbol more. After a refusal the parser is of no more use.
-    pub fn step(&mut self, symbol: Symbol) -> Result<(), AllocError> {
+    #[tactic(auto, unfolding(gs_update_text::specs::Machine::step))]
+    pub fn step(&mut self, symbol: Symbol) -> Result<(), AllocError>
+        requires { IsSound self.old.place }
+        ensures { OnOk result (Moves self.old self.new (machine.step (state_of self.old) (symbol_at symbol.entry))) }
+    {
         let lost = Place::Rejected(Rejection::Broken(Fault::Syntax));
         match mem::replace(&mut self.place, lost) {
             Place::Between(scope) => self.place = between(scope, symbol),
@@ -112,7 +141,10 @@ impl UpdateParser {
     }
 
     /// The departure after which nothing is read.
-    pub fn rejection(&self) -> Option<Rejection> {
+    pub fn rejection(&self) -> Option<Rejection>
+        ensures some { IfSome result (λ r. state_of self.now ≡ Rejected (rejection_at r)) }
+        ensures none { IfNone result ((r : Code) → state_of self.now ≢ Rejected (rejection_at r)) }
+    {
         match self.place {
             Place::Rejected(rejection) => Some(rejection),
             _ => None,
@@ -120,7 +152,10 @@ impl UpdateParser {
     }
 
     /// The departure of a text that ends here, if it is no update.
-    pub fn end(&mut self) -> Result<Option<Rejection>, AllocError> {
+    #[tactic(auto, unfolding(gs_update_text::specs::Machine::ended))]
+    pub fn end(&mut self) -> Result<Option<Rejection>, AllocError>
+        ensures { IfOk result (λ o. option_map rejection_at o ≡ machine.ended (state_of self.old)) }
+    {
         match &mut self.place {
             Place::Between(_) | Place::After(_) => Ok(None),
             Place::Inserting(block) => Ok(Some(block.end()?)),

@@ -1,8 +1,9 @@
 //! The reader.
-ghost use Rattle.std.specs.Prelude.{◌≡◌, true};
+ghost use Rattle.std.specs.Prelude.{◌≡◌, [], true, OnOk, IfOk, IfErr};
 ghost use Rattle.gs_model.specs.Iris.{is_absolute};
 ghost use Rattle.gs_update_text.specs.Texts.{request_by};
 ghost use Rattle.gs_update.specs.Answers.{Answers};
+ghost use Rattle.gs_update.specs.Views.{IsSound};
 
 use crate::parser::UpdateParser;
 use crate::portions::{break_off, conclude, go_on};
@@ -17,16 +18,20 @@ const PORTION: usize = 4096;
 
 /// Reads one text.
 #[derive(Drop)]
-struct UpdateReader {
-    lexer: Lexer,
-    tokens: Vec<Token>,
-    parser: UpdateParser,
+pub struct UpdateReader {
+    pub(crate) lexer: Lexer,
+    pub(crate) tokens: Vec<Token>,
+    pub(crate) parser: UpdateParser,
 }
 
 impl UpdateReader {
+    ghost use Rattle.gs_update.specs.Readers.{LeadsTo, Goes, IsRefused, Finishes, IsRefusedAtEnd};
+
     /// At the start of a text.
     fn new(alloc: Global, request: u64, base: &str) -> Result<UpdateReader, AllocError>
         requires { is_absolute base.now ≡ true }
+        ensures fresh { IfOk result (λ r. LeadsTo base.now request r []) }
+        ensures sound { IfOk result (λ r. IsSound r.parser.place) }
     {
         Ok(UpdateReader {
             lexer: Lexer::new(alloc, true),
@@ -36,7 +41,12 @@ impl UpdateReader {
     }
 
     /// The next portion, and its fault.
-    fn take_portion(&mut self, portion: &[u8]) -> Result<(), Refusal> {
+    fn take_portion(&mut self, portion: &[u8]) -> Result<(), Refusal>
+        requires { IsSound self.old.parser.place }
+        ensures ok { OnOk result (Goes self.old self.new portion.now) }
+        ensures sound { OnOk result (IsSound self.new.parser.place) }
+        ensures fault { IfErr result (IsRefused self.old portion.now) }
+    {
         self.tokens.clear();
         match self.lexer.feed(portion, &mut self.tokens) {
             Ok(()) => go_on(&mut self.parser, &self.tokens),
@@ -47,7 +57,12 @@ impl UpdateReader {
     }
 
     /// The whole text, and its fault.
-    fn take_text(&mut self, text: &[u8]) -> Result<(), Refusal> {
+    fn take_text(&mut self, text: &[u8]) -> Result<(), Refusal>
+        requires { IsSound self.old.parser.place }
+        ensures ok { OnOk result (Goes self.old self.new text.now) }
+        ensures sound { OnOk result (IsSound self.new.parser.place) }
+        ensures fault { IfErr result (IsRefused self.old text.now) }
+    {
         let mut rest = text;
         while rest.len() > PORTION {
             let (portion, behind) = rest.split_at(PORTION);
@@ -58,7 +73,11 @@ impl UpdateReader {
     }
 
     /// The text ends.
-    fn take_end(&mut self) -> Result<(), Refusal> {
+    fn take_end(&mut self) -> Result<(), Refusal>
+        requires { IsSound self.old.parser.place }
+        ensures ok { OnOk result (Finishes self.old self.new) }
+        ensures fault { IfErr result (IsRefusedAtEnd self.old) }
+    {
         self.tokens.clear();
         match self.lexer.finish(&mut self.tokens) {
             Ok(()) => conclude(&mut self.parser, &self.tokens),
