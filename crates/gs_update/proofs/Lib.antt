@@ -1,0 +1,4 @@
+pub mod PortionLemmas
+pub mod HistoryLemmas
+pub mod PieceLemmas
+pub mod BlockLemmas

@@ -7,7 +7,7 @@ use Rattle.gs_triple_parser.specs.declared.symbols.Symbol.{Symbol}
 use Rattle.gs_update_text.specs.Requests.{UpdateOperation, Written, Rejection, end_of_last}
 use Rattle.gs_update_text.specs.Blocks as blocks
 use Rattle.gs_update_text.specs.States as machine
-use Rattle.gs_update_text.specs.Machine.{step}
+use Rattle.gs_update_text.specs.Machine.{step, ended}
 use Rattle.gs_update.specs.Views.{rejection_at, HasGiven, IsSound, block_state, rules_of, state_at, state_of, operations_of}
 use Rattle.gs_update.specs.declared.blocks.Block.{Block as CodeBlock}
 use Rattle.gs_update.specs.declared.blocks.BlockTurn.{BlockTurn as CodeTurn}
@@ -45,6 +45,12 @@ pub record Moves (old new : UpdateParser) (t : machine.Turn) : Type 0 where
   pub operations : operations_of new.operations.items ≡ operations_of old.operations.items ++ map (λ (w : Written). w.operation) t.1
   pub last : new.last ≡ end_of_last old.last t.1
   pub sound : IsSound new.place
+
+-- a parser says how a text ends that ends there, and keeps its operations
+pub record Ends (old new : UpdateParser) (r : Option Rejection) : Type 0 where
+  pub said : r ≡ ended (state_of old)
+  pub operations : new.operations ≡ old.operations
+  pub last : new.last ≡ old.last
 
 -- in a language of the code
 module _ {L S V X T : Type 0} (l : TypedLanguage S V X T) where

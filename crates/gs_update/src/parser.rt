@@ -33,7 +33,7 @@ impl UpdateParser {
     ghost use Rattle.gs_update_text.specs.Machine as machine;
     ghost use Rattle.gs_update.specs.declared.rejections.Rejection.{Rejection as Code};
     ghost use Rattle.gs_update.specs.Views.{HasGiven, IsSound, rejection_at, state_of, operation_of};
-    ghost use Rattle.gs_update.specs.Steps.{Starts, Moves, concluded, turn_at_place};
+    ghost use Rattle.gs_update.specs.Steps.{Starts, Moves, Ends, concluded, turn_at_place};
 
     /// At the start of an update under an absolute base, in the request of this number.
     pub fn new(alloc: Global, base: &str, request: u64) -> Result<UpdateParser, AllocError>
@@ -154,7 +154,7 @@ impl UpdateParser {
     /// The departure of a text that ends here, if it is no update.
     #[tactic(auto, unfolding(gs_update_text::specs::Machine::ended))]
     pub fn end(&mut self) -> Result<Option<Rejection>, AllocError>
-        ensures { IfOk result (λ o. option_map rejection_at o ≡ machine.ended (state_of self.old)) }
+        ensures { IfOk result (λ o. Ends self.old self.new (option_map rejection_at o)) }
     {
         match &mut self.place {
             Place::Between(_) | Place::After(_) => Ok(None),
