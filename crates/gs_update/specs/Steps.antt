@@ -1,7 +1,7 @@
 -- What a symbol does to a parser of updates.
 use Rattle.std.specs.Prelude.{◌≡◌, ℕ, List, [], ◌∷◌, ◌++◌, map, Option}
 use Rattle.gs_triple_parser.specs.Languages.{TypedLanguage}
-use Rattle.gs_triple_parser.specs.Views.{symbol_at, scope_context, scope_numbers, context_now, numbers_now}
+use Rattle.gs_triple_parser.specs.Views.{symbol_at, scope_context, scope_numbers, triples_state, context_now, numbers_now, pending_triples}
 use Rattle.gs_triple_parser.specs.declared.scopes.Scope.{Scope}
 use Rattle.gs_triple_parser.specs.declared.symbols.Symbol.{Symbol}
 use Rattle.gs_update_text.specs.Requests.{UpdateOperation, Written, Rejection, end_of_last}
@@ -52,6 +52,15 @@ pub record Ends (old new : UpdateParser) (r : Option Rejection) : Type 0 where
   pub operations : new.operations ≡ old.operations
   pub last : new.last ≡ old.last
 
+-- a block's triples, with those that are read and handed on
+abbrev pub all_triples : {L S V X T : Type 0} → CodeBlock L S V X T → List T
+all_triples b = b.triples.items ++ pending_triples b.parser
+
+-- what bounds a block stays
+pub record KeepsBounds {L S V X T : Type 0} (old new : CodeBlock L S V X T) : Type 0 where
+  pub since : new.since ≡ old.since
+  pub most : new.most ≡ old.most
+
 -- in a language of the code
 module _ {L S V X T : Type 0} (l : TypedLanguage S V X T) where
   -- a turn that left a block so
@@ -63,6 +72,32 @@ module _ {L S V X T : Type 0} (l : TypedLanguage S V X T) where
   -- a block took the turn that its rules give, whatever operation they make
   abbrev pub Turned : CodeBlock L S V X T → CodeTurn → (Making T → blocks.BlockTurn X T) → Type 0
   Turned b u t = (made : Making T) → turn_at made b u ≡ t made
+
+  -- the turn of the rules by a state of triples that took a symbol
+  abbrev pub entered_turn : CodeBlock L S V X T → Making T → blocks.BlockTurn X T
+  entered_turn b made = blocks.entered (rules_of l made b) b.triples.items (triples_state l b.parser)
+
+  -- by a symbol after triples, which have joined the others or are to join them
+  abbrev pub parted_turn : CodeBlock L S V X T → Symbol → Making T → blocks.BlockTurn X T
+  parted_turn b t made = blocks.parted (rules_of l made b) (symbol_at t) (context_now l b.parser) b.triples.items (numbers_now b.parser)
+
+  abbrev pub followed_turn : CodeBlock L S V X T → Symbol → Making T → blocks.BlockTurn X T
+  followed_turn b t made = blocks.followed (rules_of l made b) (symbol_at t) (context_now l b.parser) (all_triples b) (numbers_now b.parser)
+
+  -- by a symbol where triples may begin
+  abbrev pub opening_turn : CodeBlock L S V X T → Symbol → Making T → blocks.BlockTurn X T
+  opening_turn b t made = blocks.at_triples (rules_of l made b) (symbol_at t) (context_now l b.parser) b.triples.items (numbers_now b.parser)
+
+  -- by a symbol where any may stand, and by any symbol
+  abbrev pub moved_turn : CodeBlock L S V X T → Symbol → Making T → blocks.BlockTurn X T
+  moved_turn b t made = blocks.moved (rules_of l made b) (block_state l b) (symbol_at t)
+
+  abbrev pub block_turn : CodeBlock L S V X T → Symbol → Making T → blocks.BlockTurn X T
+  block_turn b t made = blocks.block_step (rules_of l made b) (block_state l b) (symbol_at t)
+
+  -- the departure of a text that ends there
+  abbrev pub end_turn : CodeBlock L S V X T → Making T → Rejection
+  end_turn b made = blocks.block_ended (rules_of l made b) (block_state l b)
 
   -- context and rules stay
   pub record Stays (old new : CodeBlock L S V X T) : Type 0 where

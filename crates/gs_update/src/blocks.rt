@@ -34,10 +34,10 @@ impl<L: Language> Block<L> {
     ghost use Rattle.gs_triples.specs.States.{triples_so_far};
     ghost use Rattle.gs_triples.specs.Languages.{of_terms};
     ghost use Rattle.gs_triples.specs.Meanings.{in_language};
-    ghost use Rattle.gs_triple_parser.specs.Views.{symbol_at, scope_context, scope_numbers, triples_state, context_now, numbers_now, pending_triples};
-    ghost use Rattle.gs_update_text.specs.Blocks as blocks;
-    ghost use Rattle.gs_update.specs.Views.{rejection_at, HasGiven, block_state, rules_of, bars_since, more_than};
-    ghost use Rattle.gs_update.specs.Steps.{Making, Turned, StaysUnless};
+    ghost use Rattle.gs_triple_parser.specs.Views.{symbol_at, scope_context, scope_numbers, triples_state, context_now, numbers_now};
+    ghost use Rattle.gs_update.specs.Views.{rejection_at, HasGiven, bars_since, more_than};
+    ghost use Rattle.gs_update.specs.Steps.{entered_turn, parted_turn, followed_turn, opening_turn, moved_turn, block_turn, end_turn};
+    ghost use Rattle.gs_update.specs.Steps.{Making, Turned, StaysUnless, KeepsBounds, all_triples};
 
     /// Whether the triples are too many, with those that are being read.
     fn has_too_many(&self) -> bool
@@ -54,11 +54,10 @@ impl<L: Language> Block<L> {
 
     /// After a symbol that triples took.
     fn entered(&mut self) -> BlockTurn
-        ensures turn { Turned L.language self.new result (λ made. blocks.entered (rules_of L.language made self.old) self.old.triples.items (triples_state L.language self.old.parser)) }
+        ensures turn { Turned L.language self.new result (entered_turn L.language self.old) }
         ensures parser { self.new.parser ≡ self.old.parser }
         ensures triples { self.new.triples ≡ self.old.triples }
-        ensures since { self.new.since ≡ self.old.since }
-        ensures most { self.new.most ≡ self.old.most }
+        ensures bounds { KeepsBounds self.old self.new }
     {
         if let Some(fault) = self.parser.fault() {
             return BlockTurn::Stops(Rejection::Broken(fault));
@@ -72,12 +71,11 @@ impl<L: Language> Block<L> {
 
     /// Triples are over: they join those before. Whether they are too many.
     fn gather(&mut self) -> Result<bool, AllocError>
-        ensures many { IfOk result (λ b. b ≡ more_than self.old.most (self.old.triples.items ++ pending_triples self.old.parser)) }
-        ensures triples { OnOk result (self.new.triples.items ≡ self.old.triples.items ++ pending_triples self.old.parser) }
+        ensures many { IfOk result (λ b. b ≡ more_than self.old.most (all_triples self.old)) }
+        ensures triples { OnOk result (self.new.triples.items ≡ all_triples self.old) }
         ensures context { context_now L.language self.new.parser ≡ context_now L.language self.old.parser }
         ensures numbers { numbers_now self.new.parser ≡ numbers_now self.old.parser }
-        ensures since { self.new.since ≡ self.old.since }
-        ensures most { self.new.most ≡ self.old.most }
+        ensures bounds { KeepsBounds self.old self.new }
     {
         self.parser.append_to(&mut self.triples)?;
         match self.most {
@@ -88,10 +86,9 @@ impl<L: Language> Block<L> {
 
     /// The symbol after triples: a dot, or the closing brace.
     fn parted(&mut self, symbol: Symbol) -> BlockTurn
-        ensures turn { Turned L.language self.new result (λ made. blocks.parted (rules_of L.language made self.old) (symbol_at symbol.entry) (context_now L.language self.old.parser) self.old.triples.items (numbers_now self.old.parser)) }
+        ensures turn { Turned L.language self.new result (parted_turn L.language self.old symbol.entry) }
         ensures parser { self.new.parser ≡ self.old.parser }
-        ensures since { self.new.since ≡ self.old.since }
-        ensures most { self.new.most ≡ self.old.most }
+        ensures bounds { KeepsBounds self.old self.new }
     {
         match symbol {
             Symbol::Dot(_) => {
@@ -105,11 +102,10 @@ impl<L: Language> Block<L> {
 
     /// A symbol that ends triples.
     fn followed(&mut self, symbol: Symbol) -> Result<BlockTurn, AllocError>
-        ensures turn { IfOk result (λ u. Turned L.language self.new u (λ made. blocks.followed (rules_of L.language made self.old) (symbol_at symbol.entry) (context_now L.language self.old.parser) (self.old.triples.items ++ pending_triples self.old.parser) (numbers_now self.old.parser))) }
+        ensures turn { IfOk result (λ u. Turned L.language self.new u (followed_turn L.language self.old symbol.entry)) }
         ensures context { context_now L.language self.new.parser ≡ context_now L.language self.old.parser }
         ensures numbers { numbers_now self.new.parser ≡ numbers_now self.old.parser }
-        ensures since { self.new.since ≡ self.old.since }
-        ensures most { self.new.most ≡ self.old.most }
+        ensures bounds { KeepsBounds self.old self.new }
     {
         if self.gather()? {
             return Ok(BlockTurn::Stops(Rejection::OutOfProfile));
@@ -120,7 +116,7 @@ impl<L: Language> Block<L> {
     /// A symbol where triples may begin.
     fn at_triples(&mut self, symbol: Symbol) -> Result<BlockTurn, AllocError>
         requires { HasGiven self.old.since (numbers_now self.old.parser) }
-        ensures turn { IfOk result (λ u. Turned L.language self.new u (λ made. blocks.at_triples (rules_of L.language made self.old) (symbol_at symbol.entry) (context_now L.language self.old.parser) self.old.triples.items (numbers_now self.old.parser))) }
+        ensures turn { IfOk result (λ u. Turned L.language self.new u (opening_turn L.language self.old symbol.entry)) }
         ensures stays { IfOk result (λ u. StaysUnless L.language self.old self.new u) }
     {
         match symbol {
@@ -136,7 +132,7 @@ impl<L: Language> Block<L> {
     /// A symbol, where any may stand.
     fn moved(&mut self, symbol: Symbol) -> Result<BlockTurn, AllocError>
         requires { HasGiven self.old.since (numbers_now self.old.parser) }
-        ensures turn { IfOk result (λ u. Turned L.language self.new u (λ made. blocks.moved (rules_of L.language made self.old) (block_state L.language self.old) (symbol_at symbol.entry))) }
+        ensures turn { IfOk result (λ u. Turned L.language self.new u (moved_turn L.language self.old symbol.entry)) }
         ensures stays { IfOk result (λ u. StaysUnless L.language self.old self.new u) }
     {
         if !self.within {
@@ -167,7 +163,7 @@ impl<L: Language> Block<L> {
     /// One symbol more. After a refusal the block is of no more use.
     pub fn step(&mut self, symbol: Symbol) -> Result<BlockTurn, AllocError>
         requires { HasGiven self.old.since (numbers_now self.old.parser) }
-        ensures turn { IfOk result (λ u. Turned L.language self.new u (λ made. blocks.block_step (rules_of L.language made self.old) (block_state L.language self.old) (symbol_at symbol.entry))) }
+        ensures turn { IfOk result (λ u. Turned L.language self.new u (block_turn L.language self.old symbol.entry)) }
         ensures stays { IfOk result (λ u. StaysUnless L.language self.old self.new u) }
     {
         let barred = self.bars(symbol);
@@ -183,7 +179,7 @@ impl<L: Language> Block<L> {
 
     /// Why a text that ends here is no update.
     pub fn end(&mut self) -> Result<Rejection, AllocError>
-        ensures { IfOk result (λ r. (made : Making L.Triple) → rejection_at r ≡ blocks.block_ended (rules_of L.language made self.old) (block_state L.language self.old)) }
+        ensures { IfOk result (λ r. (made : Making L.Triple) → rejection_at r ≡ end_turn L.language self.old made) }
     {
         if !self.within {
             return Ok(Rejection::Broken(Fault::Syntax));
