@@ -5,6 +5,7 @@ use Rattle.gs_model.specs.declared.faults.Fault.TheVariants.{Syntax}
 use Rattle.gs_blank.specs.Numbers.{Numbers}
 use Rattle.gs_body.specs.Bodies.{Ending, Whole, Faulty}
 use Rattle.gs_document.specs.Contexts.{TurtleContext}
+use Rattle.gs_triple_parser.specs.Typed.{terms}
 use Rattle.gs_triple_parser.specs.Views.{triples_state, context_now, numbers_now}
 use Rattle.gs_document.specs.States as machine
 use Rattle.gs_parse.specs.declared.parser.Parser.{Parser}
@@ -13,7 +14,7 @@ use Rattle.gs_parse.specs.declared.places.Place.TheVariants as place
 
 -- the base, the prefixes and the request of a parser
 abbrev pub context_at : Parser → TurtleContext
-context_at p = context_now p.triples
+context_at p = context_now terms p.triples
 
 -- the numbers of the blank nodes so far
 abbrev pub numbers_at : Parser → Numbers
@@ -26,7 +27,7 @@ state_at p (place.InPrefix dot) = machine.InPrefix dot (context_at p) (numbers_a
 state_at p (place.InPrefixIri dot) = machine.InPrefixIri dot (string_bytes p.prefix) (context_at p) (numbers_at p)
 state_at p (place.InBase dot) = machine.InBase dot (context_at p) (numbers_at p)
 state_at p place.AtDot = machine.AtDot (context_at p) (numbers_at p)
-state_at p place.Within = machine.Within (triples_state p.triples)
+state_at p place.Within = machine.Within (triples_state terms p.triples)
 state_at p place.Lost = machine.lost Syntax
 
 -- the state of a parser

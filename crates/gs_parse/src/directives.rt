@@ -3,7 +3,7 @@ ghost use Rattle.std.specs.Prelude.{◌≡◌, OnOk, Some};
 
 use crate::parser::Parser;
 use crate::places::Place;
-use gs_triple_parser::{Symbol, Word, parts};
+use gs_triple_parser::{Symbol, TermToken};
 use std::alloc::AllocError;
 
 impl Parser {
@@ -50,7 +50,7 @@ impl Parser {
         ensures { OnOk result (Turns self.old self.new (turn self.old (Place.InPrefix dot) symbol.entry)) }
     {
         match symbol {
-            Symbol::Word(Word::Namespace(prefix)) => {
+            Symbol::Word(TermToken::Namespace(prefix)) => {
                 self.prefix = String::from_str(self.alloc, prefix)?;
                 self.place = Place::InPrefixIri(dot);
             }
@@ -71,16 +71,12 @@ impl Parser {
     }
 
     /// Declares the prefix that a directive has. Whether it and this are a prefix and an IRI.
-    #[tactic(auto, unfolding(gs_document::specs::Directives::with_prefix))]
     fn declare(&mut self, text: &str) -> Result<bool, AllocError>
-        ensures context { Changes result (context_at self.new) (declared self.old text.now) }
+        ensures context { Changes result (context_at self.old) (context_at self.new) (declared self.old text.now) }
         ensures numbers { numbers_at self.new ≡ numbers_at self.old }
         ensures last { self.new.last ≡ self.old.last }
     {
-        match parts(self.prefix.as_str()) {
-            None => Ok(false),
-            Some((prefix, _)) => self.triples.set_prefix(prefix, text),
-        }
+        self.triples.set_prefix(self.prefix.as_str(), text)
     }
 
     /// The IRI that a prefix stands for.
@@ -89,7 +85,7 @@ impl Parser {
         ensures { OnOk result (Turns self.old self.new (turn self.old (Place.InPrefixIri dot) symbol.entry)) }
     {
         match symbol {
-            Symbol::Word(Word::Reference(text, end)) => {
+            Symbol::Word(TermToken::Reference(text, end)) => {
                 if self.declare(text)? {
                     self.set(dot, end);
                 } else {
@@ -107,7 +103,7 @@ impl Parser {
         ensures { OnOk result (Turns self.old self.new (turn self.old (Place.InBase dot) symbol.entry)) }
     {
         match symbol {
-            Symbol::Word(Word::Reference(text, end)) => {
+            Symbol::Word(TermToken::Reference(text, end)) => {
                 if self.triples.set_base(text)? {
                     self.set(dot, end);
                 } else {

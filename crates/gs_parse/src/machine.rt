@@ -7,7 +7,7 @@ use crate::parser::Parser;
 use crate::places::Place;
 use gs_lex::Token;
 use gs_term::Triple;
-use gs_triple_parser::{Symbol, TripleParser, Turn, symbol_of_token};
+use gs_triple_parser::{Allowed, Scope, Symbol, TripleParser, Turn, symbol_of_token};
 use std::alloc::{AllocError, Global};
 
 impl Parser {
@@ -26,9 +26,14 @@ impl Parser {
         ensures state { IfOk result (λ p. state_of p ≡ Between (start base.now request) no_numbers) }
         ensures last { IfOk result (λ p. p.last ≡ 0) }
     {
+        let scope = Scope::new(alloc, base, request)?;
+        let allowed = Allowed {
+            nodes: true,
+            lone_lists: false,
+        };
         Ok(Parser {
             alloc,
-            triples: TripleParser::new(alloc, base, request)?,
+            triples: TripleParser::within(scope, allowed),
             place: Place::Between,
             prefix: String::new(alloc),
             last: 0,

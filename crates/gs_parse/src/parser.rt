@@ -2,14 +2,14 @@
 ghost use Rattle.std.specs.Prelude.{◌≡◌};
 
 use crate::places::Place;
-use gs_triple_parser::TripleParser;
+use gs_triple_parser::{Terms, TripleParser};
 use std::alloc::Global;
 
 /// A parser of one document, which takes its tokens in their order.
 #[derive(Drop)]
 pub struct Parser {
     pub(crate) alloc: Global,
-    pub(crate) triples: TripleParser,
+    pub(crate) triples: TripleParser<Terms>,
     pub(crate) place: Place,
     /// The text of the prefix that a directive declares.
     pub(crate) prefix: String,

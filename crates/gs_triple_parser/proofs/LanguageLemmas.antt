@@ -50,10 +50,12 @@ module _ {L S V X T : Type 0} (l : TypedLanguage S V X T) (p : TripleParser L S 
       let c = Changes-in_language (language_of l p.allowed) (Ok b) (scope_context p.scope) (scope_context s) o h in
       record { context = c; state = λ f. moved (context_now l p) (c.kept f) (scope_numbers p.scope) n; numbers = n; pending = refl }
 
+  -- a base is set
   pub base_declared : {E : Type 0} (x : List ℕ) (r : Result Bool E) → Changes r (scope_context p.scope) (scope_context s) (with_base (scope_context p.scope) x) → scope_numbers s ≡ scope_numbers p.scope
       → Declares l r p (record p { scope = s }) (with_base (context_now l p) x)
   base_declared x r h n = subst (λ o. Declares l r p (record p { scope = s }) o) (sym (with_base-in_language (language_of l p.allowed) (scope_context p.scope) x)) (declared r _ h n)
 
+  -- a prefix is declared
   pub prefix_declared : {E : Type 0} (q x : List ℕ) (r : Result Bool E) → Changes r (scope_context p.scope) (scope_context s) (with_prefix (scope_context p.scope) q x) → scope_numbers s ≡ scope_numbers p.scope
       → Declares l r p (record p { scope = s }) (with_prefix (context_now l p) q x)
   prefix_declared q x r h n = subst (λ o. Declares l r p (record p { scope = s }) o) (sym (with_prefix-in_language (language_of l p.allowed) (scope_context p.scope) q x)) (declared r _ h n)

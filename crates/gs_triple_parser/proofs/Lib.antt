@@ -5,3 +5,4 @@ pub mod StackLemmas
 pub mod LeaveLemmas
 pub mod LanguageLemmas
 pub mod ValueLemmas
+pub mod PatternLemmas

@@ -5,8 +5,7 @@ use Rattle.std.specs.Str.{IsUtf8, IsCharBoundary, is_utf8}
 use Rattle.std.proofs.lemmas.Bool.{eqb-true}
 use Rattle.std.proofs.lemmas.Str.{is_utf8-from_IsUtf8, IsUtf8-from_is_utf8, IsCharBoundary-from_take}
 use Rattle.gs_lex.specs.Tokens.{Lexeme}
-use Rattle.gs_lex.specs.declared.kinds.TokenKind.TheVariants as kind
-use Rattle.gs_triples.specs.Symbols.{AWord, Variable, Foreign, symbol, symbol_of, after_mark, variable_symbol}
+use Rattle.gs_triples.specs.Symbols.{Foreign, symbol, symbol_of}
 
 pub symbol_of_text : (t : Lexeme) (x : List ℕ) → x ≡ t.text → IsUtf8 t.text → symbol t.kind x t.«end» ≡ symbol_of t
 symbol_of_text t x e u = ap (λ y. symbol t.kind y t.«end») e ∙ sym (ap (λ b. cond b (symbol t.kind t.text t.«end») (Foreign t.kind t.«end»)) (is_utf8-from_IsUtf8 t.text u))
@@ -27,15 +26,3 @@ colon_low c h = let e : c ≡ 58 = eqb-true c 58 h in omega (arith, e)
 
 pub slice_front : (n : ℕ) (x : List ℕ) → slice_range x 0 n ≡ take n x
 slice_front n x = let e : n - 0 ≡ n = omega arith in ap (λ m. take m x) e
-
--- a variable's name that is text, or is not
-pub variable_of_text : (x y : List ℕ) (n : ℕ) → y ≡ after_mark x → IsUtf8 (after_mark x) → AWord (Variable y) ≡ variable_symbol x n
-variable_of_text x y n e u =
-    ap (λ z. AWord (Variable z)) e ∙ sym (ap (λ b. cond b (AWord (Variable (after_mark x))) (Foreign kind.Var n)) (is_utf8-from_IsUtf8 (after_mark x) u))
-
-pub variable_of_bytes : (x : List ℕ) (n : ℕ) → ¬ (IsUtf8 (after_mark x)) → Foreign kind.Var n ≡ variable_symbol x n
-variable_of_bytes x n h =
-    elim (is_utf8 (after_mark x)) as (λ b. is_utf8 (after_mark x) ≡ b → Foreign kind.Var n ≡ cond b (AWord (Variable (after_mark x))) (Foreign kind.Var n)) [
-      | true ↦ λ u. absurd (h (IsUtf8-from_is_utf8 (after_mark x) u))
-      | false ↦ λ u. refl
-    ] refl

@@ -9,5 +9,11 @@ pub record TypedLanguage (Subject Verb Value Triple : Type 0) : Type 0 where
   pub verb : Verb → Value
 
 -- with what may stand
-abbrev pub language_of : {Subject Verb Value Triple : Type 0} → TypedLanguage Subject Verb Value Triple → Allowed → Language Value Triple
+abbrev pub language_of : {Subject Verb Value Triple : Type 0} → TypedLanguage Subject Verb Value Triple → Allowed
+    → Language Value Triple
 language_of l a = record l.grammar { nodes = a.nodes; lone_lists = a.lone_lists }
+
+-- the triple of a subject, a verb and an object
+abbrev pub triple_in : {Subject Verb Value Triple : Type 0} → TypedLanguage Subject Verb Value Triple → Subject → Verb → Value
+    → Triple
+triple_in l s v o = l.grammar.triple (l.subject s) (l.verb v) o

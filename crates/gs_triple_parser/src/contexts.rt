@@ -118,7 +118,8 @@ impl Context {
     /// are a prefix and a reference.
     #[tactic(auto, unfolding(gs_triples::specs::Directives::with_prefix))]
     pub fn set_prefix(&mut self, prefix: &str, text: &str) -> Result<bool, AllocError>
-        ensures { Changes result (context_of self.old) (context_of self.new) (with_prefix (context_of self.old) prefix.now text.now) }
+        ensures { Changes result (context_of self.old) (context_of self.new)
+            (with_prefix (context_of self.old) prefix.now text.now) }
     {
         let Some((prefix, _)) = parts(prefix) else {
             return Ok(false);
@@ -133,7 +134,8 @@ impl Context {
     /// Sets the base by the text of a reference. Whether that is one.
     #[tactic(auto, unfolding(gs_triples::specs::Directives::with_base))]
     pub fn set_base(&mut self, text: &str) -> Result<bool, AllocError>
-        ensures { Changes result (context_of self.old) (context_of self.new) (with_base (context_of self.old) text.now) }
+        ensures { Changes result (context_of self.old) (context_of self.new)
+            (with_base (context_of self.old) text.now) }
     {
         let Some(base) = self.resolve(text)? else {
             return Ok(false);

@@ -28,7 +28,8 @@ impl<L: Language> TripleParser<L> {
 
     /// A symbol after the `[` of an object.
     fn inside(&mut self, depth: usize, number: u64, symbol: Symbol) -> Result<(), AllocError>
-        ensures { IsTaken L.language result self.new (head_of L.language self.old (Goal.Inside depth number) symbol.entry) }
+        ensures { IsTaken L.language result self.new
+            (head_of L.language self.old (Goal.Inside depth number) symbol.entry) }
     {
         let node = L::subject(blank(self.alloc, self.scope.context.request, number)?);
         match symbol {
@@ -42,7 +43,8 @@ impl<L: Language> TripleParser<L> {
 
     /// The first symbol in a collection that is not empty, where one may stand.
     fn first_object(&mut self, depth: usize, symbol: Symbol) -> Result<(), AllocError>
-        ensures { Reaches L.language result self.new (first_object_of L.language self.old depth symbol.entry) }
+        ensures { Reaches L.language result self.new
+            (first_object_of L.language self.old depth symbol.entry) }
     {
         if !self.allowed.nodes {
             self.lose(Fault::Syntax);
@@ -56,7 +58,8 @@ impl<L: Language> TripleParser<L> {
 
     /// A symbol after the `(` of a collection.
     fn begun(&mut self, depth: usize, symbol: Symbol) -> Result<(), AllocError>
-        ensures { IsTaken L.language result self.new (head_of L.language self.old (Goal.Begun depth) symbol.entry) }
+        ensures { IsTaken L.language result self.new
+            (head_of L.language self.old (Goal.Begun depth) symbol.entry) }
     {
         match symbol {
             Symbol::CloseList => {
@@ -69,7 +72,8 @@ impl<L: Language> TripleParser<L> {
 
     /// The `)` of a collection that has a cell.
     fn end_list(&mut self, depth: usize, first: u64, cell: u64) -> Result<(), AllocError>
-        ensures { IsTaken L.language result self.new (head_of L.language self.old (Goal.Items depth first cell) Symbol.CloseList) }
+        ensures { IsTaken L.language result self.new
+            (head_of L.language self.old (Goal.Items depth first cell) Symbol.CloseList) }
     {
         let context = &self.scope.context;
         let nil = L::value(rdf_nil(self.alloc)?);
@@ -86,7 +90,8 @@ impl<L: Language> TripleParser<L> {
         cell: u64,
         symbol: Symbol,
     ) -> Result<(), AllocError>
-        ensures { IsTaken L.language result self.new (head_of L.language self.old (Goal.Items depth first cell) symbol.entry) }
+        ensures { IsTaken L.language result self.new
+            (head_of L.language self.old (Goal.Items depth first cell) symbol.entry) }
     {
         match symbol {
             Symbol::CloseList => self.end_list(depth, first, cell),
@@ -108,7 +113,8 @@ impl<L: Language> TripleParser<L> {
         verb: L::Verb,
         symbol: Symbol,
     ) -> Result<Turn, AllocError>
-        ensures { Turned L.language result self.new (head_of L.language self.old (Goal.After depth subject verb) symbol.entry) }
+        ensures { Turned L.language result self.new
+            (head_of L.language self.old (Goal.After depth subject verb) symbol.entry) }
     {
         match symbol {
             Symbol::Comma => {
@@ -124,8 +130,14 @@ impl<L: Language> TripleParser<L> {
     }
 
     /// A symbol after a `;`.
-    fn semis(&mut self, depth: usize, subject: L::Subject, symbol: Symbol) -> Result<Turn, AllocError>
-        ensures { Turned L.language result self.new (head_of L.language self.old (Goal.Semis depth subject) symbol.entry) }
+    fn semis(
+        &mut self,
+        depth: usize,
+        subject: L::Subject,
+        symbol: Symbol,
+    ) -> Result<Turn, AllocError>
+        ensures { Turned L.language result self.new
+            (head_of L.language self.old (Goal.Semis depth subject) symbol.entry) }
     {
         match symbol {
             Symbol::Semicolon => {

@@ -7,7 +7,7 @@ use std::alloc::{AllocError, Global};
 
 /// What triples are made of in a language: the types of their parts, and what tokens give.
 pub trait Language {
-    ghost use Rattle.gs_triple_parser.specs.Languages.{TypedLanguage};
+    ghost use Rattle.gs_triple_parser.specs.Languages.{TypedLanguage, triple_in};
 
     /// What may be the subject of a triple.
     type Subject: Drop;
@@ -15,6 +15,7 @@ pub trait Language {
     type Verb: Drop;
     /// What may be the object.
     type Value: Drop;
+
     type Triple: Drop;
 
     // The language of the grammar, and what subjects and verbs stand for in it.
@@ -35,11 +36,11 @@ pub trait Language {
         ensures { language.verb result ≡ language.grammar.of_term term };
 
     /// A variable of this name, where variables may stand.
-    fn variable(alloc: Global, name: &str) -> Result<Option<Self::Subject>, AllocError>
+    fn variable(alloc: Global, name: &[u8]) -> Result<Option<Self::Subject>, AllocError>
         ensures { IfOk result (λ o. option_map language.subject o ≡ language.grammar.variable name.now) };
 
     /// The same, as a verb.
-    fn verb_variable(alloc: Global, name: &str) -> Result<Option<Self::Verb>, AllocError>
+    fn verb_variable(alloc: Global, name: &[u8]) -> Result<Option<Self::Verb>, AllocError>
         ensures { IfOk result (λ o. option_map language.verb o ≡ language.grammar.variable name.now) };
 
     /// What is a subject, as an object.
@@ -48,7 +49,7 @@ pub trait Language {
 
     /// A triple of these parts.
     fn triple(subject: Self::Subject, verb: Self::Verb, object: Self::Value) -> Self::Triple
-        ensures { result ≡ language.grammar.triple (language.subject subject) (language.verb verb) object };
+        ensures { result ≡ triple_in language subject verb object };
 
     /// A triple of a subject and a verb that stay.
     fn next_triple(
@@ -57,5 +58,5 @@ pub trait Language {
         verb: &Self::Verb,
         object: Self::Value,
     ) -> Result<Self::Triple, AllocError>
-        ensures { IfOk result (λ t. t ≡ language.grammar.triple (language.subject subject.now) (language.verb verb.now) object) };
+        ensures { IfOk result (λ t. t ≡ triple_in language subject.now verb.now object) };
 }

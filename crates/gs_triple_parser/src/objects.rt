@@ -32,7 +32,8 @@ impl<L: Language> TripleParser<L> {
 
     /// A collection for a slot.
     fn open_list_in(&mut self, depth: usize, slot: Slot<L>) -> Result<(), AllocError>
-        ensures { Reaches L.language result self.new (object_of L.language self.old depth slot Symbol.OpenList) }
+        ensures { Reaches L.language result self.new
+            (object_of L.language self.old depth slot Symbol.OpenList) }
     {
         if depth >= MAX_NESTING {
             self.lose(Fault::Syntax);

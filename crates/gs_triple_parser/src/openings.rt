@@ -27,7 +27,8 @@ impl<L: Language> TripleParser<L> {
     /// Before any triples, in a scope, where these may stand. Until triples open, a symbol is a
     /// fault of the grammar.
     pub fn within(scope: Scope, allowed: Allowed) -> TripleParser<L>
-        ensures context { context_now L.language result ≡ in_language (language_of L.language allowed) (scope_context scope) }
+        ensures context { context_now L.language result
+            ≡ in_language (language_of L.language allowed) (scope_context scope) }
         ensures numbers { numbers_now result ≡ scope_numbers scope }
         ensures pending { pending_triples result ≡ [] }
         ensures state { triples_state L.language result ≡ Lost Syntax }
@@ -48,7 +49,8 @@ impl<L: Language> TripleParser<L> {
         ensures context { scope_context result ≡ in_language of_terms (context_now L.language self) }
         ensures numbers { scope_numbers result ≡ numbers_now self }
     {
-        self.scope
+        let TripleParser { scope, .. } = self;
+        scope
     }
 
     /// Declares a prefix, whose text ends in its colon, by the text of a reference. Whether these
@@ -70,7 +72,8 @@ impl<L: Language> TripleParser<L> {
 
     /// A subject, whose verbs come next.
     pub(crate) fn begin(&mut self, subject: L::Subject)
-        ensures { triples_state L.language self.new ≡ first_verb L.language self.old (L.language.subject subject) }
+        ensures { triples_state L.language self.new
+            ≡ first_verb L.language self.old (L.language.subject subject) }
     {
         self.stack.clear();
         self.pending.clear();
@@ -101,7 +104,8 @@ impl<L: Language> TripleParser<L> {
 
     /// A token that is a term or a variable opens triples.
     fn open_word(&mut self, token: TermToken) -> Result<(), AllocError>
-        ensures { Reaches L.language result self.new (opening_of L.language self.old (Symbol.Word token.entry)) }
+        ensures { Reaches L.language result self.new
+            (opening_of L.language self.old (Symbol.Word token.entry)) }
     {
         let scope = &mut self.scope;
         match values::subject::<L>(

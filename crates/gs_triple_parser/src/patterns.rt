@@ -1,5 +1,6 @@
 //! The language of patterns.
 ghost use Rattle.std.specs.Prelude.{◌≡◌, IfOk};
+ghost use Rattle.gs_triples.specs.Languages.{of_patterns};
 
 use crate::languages::Language;
 use gs_term::{Part, Pattern, TermText, VariableName};
@@ -14,9 +15,17 @@ fn copied(alloc: Global, part: &Part) -> Result<Part, AllocError>
 {
     match part {
         Part::Term(term) => Ok(Part::Term(term.clone()?)),
-        Part::Variable(name) => {
-            Ok(Part::Variable(VariableName::new(alloc, name.as_str())?))
-        }
+        Part::Variable(name) => { Ok(Part::Variable(VariableName::new(alloc, name.as_str())?)) }
+    }
+}
+
+/// A variable of this name, where the name is text.
+fn variable(alloc: Global, name: &[u8]) -> Result<Option<Part>, AllocError>
+    ensures { IfOk result (λ o. o ≡ of_patterns.variable name.now) }
+{
+    match str::from_utf8(name) {
+        Ok(text) => Ok(Some(Part::Variable(VariableName::new(alloc, text)?))),
+        Err(_) => Ok(None),
     }
 }
 
@@ -24,8 +33,11 @@ impl Language for Patterns {
     ghost use Rattle.gs_triple_parser.specs.Typed.{patterns};
 
     type Subject = Part;
+
     type Verb = Part;
+
     type Value = Part;
+
     type Triple = Pattern;
 
     ghost language = { patterns };
@@ -42,12 +54,12 @@ impl Language for Patterns {
         Part::Term(term)
     }
 
-    fn variable(alloc: Global, name: &str) -> Result<Option<Part>, AllocError> {
-        Ok(Some(Part::Variable(VariableName::new(alloc, name)?)))
+    fn variable(alloc: Global, name: &[u8]) -> Result<Option<Part>, AllocError> {
+        variable(alloc, name)
     }
 
-    fn verb_variable(alloc: Global, name: &str) -> Result<Option<Part>, AllocError> {
-        Ok(Some(Part::Variable(VariableName::new(alloc, name)?)))
+    fn verb_variable(alloc: Global, name: &[u8]) -> Result<Option<Part>, AllocError> {
+        variable(alloc, name)
     }
 
     fn subject_value(subject: Part) -> Part {

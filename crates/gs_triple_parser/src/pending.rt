@@ -1,4 +1,5 @@
 //! The triples so far, which wait for what ends them.
+ghost use Rattle.gs_triple_parser.specs.Languages.{triple_in};
 ghost use Rattle.gs_triple_parser.specs.Terms.{Adds, first_of, rest_of};
 
 use crate::contexts::Context;
@@ -16,7 +17,7 @@ pub fn put<L: Language>(
     object: L::Value,
 ) -> Result<(), AllocError>
     ensures { Adds result pending.old.items pending.new.items
-        (L.language.grammar.triple (L.language.subject subject.now) (L.language.verb verb.now) object) }
+        (triple_in L.language subject.now verb.now object) }
 {
     let triple = L::next_triple(alloc, subject, verb, object)?;
     pending.push(triple)?;

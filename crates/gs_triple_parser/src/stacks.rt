@@ -26,7 +26,8 @@ impl<L: Language> Stack<L> {
 
     #[tactic(auto, using(crate::proofs::StackLemmas::stack_push))]
     pub fn push(&mut self, frame: Frame<L>) -> Result<(), AllocError>
-        ensures { OnOk result (stack_of L.language self.new ≡ frame_of L.language frame ∷ stack_of L.language self.old) }
+        ensures { OnOk result (stack_of L.language self.new
+            ≡ frame_of L.language frame ∷ stack_of L.language self.old) }
     {
         self.frames.push(frame)?;
         Ok(())
@@ -34,7 +35,8 @@ impl<L: Language> Stack<L> {
 
     #[tactic(auto, using(crate::proofs::StackLemmas::stack_push))]
     pub fn pop(&mut self) -> Option<Frame<L>>
-        ensures some { IfSome result (λ f. stack_of L.language self.old ≡ frame_of L.language f ∷ stack_of L.language self.new) }
+        ensures some { IfSome result (λ f. stack_of L.language self.old
+            ≡ frame_of L.language f ∷ stack_of L.language self.new) }
         ensures none { IfNone result (stack_of L.language self.old ≡ []) }
     {
         match self.frames.pop() {

@@ -44,7 +44,8 @@ impl<L: Language> TripleParser<L> {
     /// A symbol after the properties that open triples.
     #[tactic(auto, unfolding(gs_triples::specs::Machine::step))]
     fn closed(&mut self, subject: L::Subject, symbol: Symbol) -> Result<Turn, AllocError>
-        ensures { Turned L.language result self.new (step_of L.language self.old (Place.Closed subject) symbol.entry) }
+        ensures { Turned L.language result self.new
+            (step_of L.language self.old (Place.Closed subject) symbol.entry) }
     {
         if !begins_verb(symbol) {
             return Ok(Turn::Over);
@@ -57,7 +58,8 @@ impl<L: Language> TripleParser<L> {
     /// A symbol after the string that was an object.
     #[tactic(auto, unfolding(gs_triples::specs::Machine::step))]
     fn go_on(&mut self, symbol: Symbol) -> Result<Turn, AllocError>
-        ensures { Turned L.language result self.new (next_of (triples_state L.language self.old) symbol.entry) }
+        ensures { Turned L.language result self.new
+            (next_of (triples_state L.language self.old) symbol.entry) }
     {
         match mem::replace(&mut self.place, Place::Lost(Fault::Syntax)) {
             Place::Heading(goal) => self.head(goal, symbol),
@@ -72,7 +74,8 @@ impl<L: Language> TripleParser<L> {
 
     /// A symbol after a string that has no suffix.
     fn simple(&mut self, text: String, slot: Slot<L>, symbol: Symbol) -> Result<Turn, AllocError>
-        ensures { Turned L.language result self.new (next_of (simple_of L.language self.old slot text) symbol.entry) }
+        ensures { Turned L.language result self.new
+            (next_of (simple_of L.language self.old slot text) symbol.entry) }
     {
         let made = terms::simple(self.alloc, text.as_str())?;
         self.put(slot, made)?;
@@ -82,7 +85,8 @@ impl<L: Language> TripleParser<L> {
     /// A symbol after a string.
     #[tactic(auto, unfolding(gs_triples::specs::Machine::step))]
     fn held(&mut self, text: String, slot: Slot<L>, symbol: Symbol) -> Result<Turn, AllocError>
-        ensures { Turned L.language result self.new (step_of L.language self.old (Place.Held text slot) symbol.entry) }
+        ensures { Turned L.language result self.new
+            (step_of L.language self.old (Place.Held text slot) symbol.entry) }
     {
         match symbol {
             Symbol::At(tag) => {
@@ -101,7 +105,8 @@ impl<L: Language> TripleParser<L> {
     /// The datatype of a string.
     #[tactic(auto, unfolding(gs_triples::specs::Machine::step), using(crate::proofs::LanguageLemmas::typed_in))]
     fn typing(&mut self, text: String, slot: Slot<L>, symbol: Symbol) -> Result<(), AllocError>
-        ensures { IsTaken L.language result self.new (step_of L.language self.old (Place.Typing text slot) symbol.entry) }
+        ensures { IsTaken L.language result self.new
+            (step_of L.language self.old (Place.Typing text slot) symbol.entry) }
     {
         let made = terms::typed(self.alloc, &self.scope.context, text.as_str(), symbol)?;
         self.put(slot, made)
@@ -111,7 +116,8 @@ impl<L: Language> TripleParser<L> {
     /// is of no more use.
     #[tactic(auto, unfolding(gs_triples::specs::Machine::step))]
     pub fn step(&mut self, symbol: Symbol) -> Result<Turn, AllocError>
-        ensures { Turned L.language result self.new (machine.step (triples_state L.language self.old) (symbol_at symbol.entry)) }
+        ensures { Turned L.language result self.new
+            (machine.step (triples_state L.language self.old) (symbol_at symbol.entry)) }
     {
         match mem::replace(&mut self.place, Place::Lost(Fault::Syntax)) {
             Place::Opened => self.opened(symbol)?,

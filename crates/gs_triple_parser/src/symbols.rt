@@ -1,7 +1,7 @@
 //! What the grammar sees of a token.
 ghost use Rattle.std.specs.Prelude.{◌≡◌};
 ghost use Rattle.gs_lex.specs.Lexemes.{lexeme_of};
-ghost use Rattle.gs_triples.specs.Symbols.{symbol as kind_symbol, symbol_of, after_mark, variable_symbol};
+ghost use Rattle.gs_triples.specs.Symbols.{symbol as kind_symbol, symbol_of, after_mark};
 ghost use Rattle.gs_triple_parser.specs.Views.{symbol_at};
 
 use crate::vocabulary::{XSD_BOOLEAN, XSD_DECIMAL, XSD_DOUBLE, XSD_INTEGER};
@@ -18,7 +18,7 @@ pub enum TermToken<'a> {
     /// A number or a boolean, with its datatype.
     Plain(&'a str, &'a str),
     /// The name after the mark, in updates alone.
-    Variable(&'a str),
+    Variable(&'a [u8]),
 }
 
 /// A terminal, with what it leaves open.
@@ -55,16 +55,6 @@ fn after_mark(text: &[u8]) -> &[u8]
     }
 }
 
-/// A variable, whose name is text too.
-fn variable(text: &str, end: u64) -> Symbol<'_>
-    ensures { symbol_at result ≡ variable_symbol text.now end }
-{
-    match str::from_utf8(after_mark(text.as_bytes())) {
-        Ok(name) => Symbol::Word(TermToken::Variable(name)),
-        Err(_) => Symbol::Foreign(TokenKind::Var, end),
-    }
-}
-
 fn symbol_of_kind(kind: TokenKind, text: &str, end: u64) -> Symbol<'_>
     ensures { symbol_at result ≡ kind_symbol kind text.now end }
 {
@@ -92,7 +82,7 @@ fn symbol_of_kind(kind: TokenKind, text: &str, end: u64) -> Symbol<'_>
         TokenKind::Semicolon => Symbol::Semicolon,
         TokenKind::Comma => Symbol::Comma,
         TokenKind::Dot => Symbol::Dot(end),
-        TokenKind::Var => variable(text, end),
+        TokenKind::Var => Symbol::Word(TermToken::Variable(after_mark(text.as_bytes()))),
         TokenKind::Prefix => Symbol::Prefix,
         TokenKind::Base => Symbol::Base,
         _ => Symbol::Foreign(kind, end),

@@ -11,8 +11,11 @@ impl Language for Terms {
     ghost use Rattle.gs_triple_parser.specs.Typed.{terms};
 
     type Subject = Subject;
+
     type Verb = Verb;
+
     type Value = TermText;
+
     type Triple = Triple;
 
     ghost language = { terms };
@@ -29,11 +32,11 @@ impl Language for Terms {
         Verb { term }
     }
 
-    fn variable(_alloc: Global, _name: &str) -> Result<Option<Subject>, AllocError> {
+    fn variable(_alloc: Global, _name: &[u8]) -> Result<Option<Subject>, AllocError> {
         Ok(None)
     }
 
-    fn verb_variable(_alloc: Global, _name: &str) -> Result<Option<Verb>, AllocError> {
+    fn verb_variable(_alloc: Global, _name: &[u8]) -> Result<Option<Verb>, AllocError> {
         Ok(None)
     }
 

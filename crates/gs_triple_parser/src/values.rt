@@ -21,7 +21,7 @@ use std::alloc::{AllocError, Global};
 /// A variable as a verb, where one may stand.
 fn variable_verb<L: Language>(
     alloc: Global,
-    name: &str,
+    name: &[u8],
 ) -> Result<Result<L::Verb, Fault>, AllocError>
     ensures { Stands L.language.verb result (standing (L.language.grammar.variable name.now)) }
 {
@@ -52,7 +52,8 @@ fn verb_word<L: Language>(
     context: &Context,
     token: TermToken,
 ) -> Result<Result<L::Verb, Fault>, AllocError>
-    ensures { (a : Flags) → Stands L.language.verb result (verb_value L.language context.now a (Symbol.Word token.entry)) }
+    ensures { (a : Flags) → Stands L.language.verb result
+        (verb_value L.language context.now a (Symbol.Word token.entry)) }
 {
     match token {
         TermToken::Variable(name) => variable_verb::<L>(alloc, name),
@@ -77,7 +78,8 @@ pub fn verb<L: Language>(
 
 /// The number of a label, which stands after its mark.
 fn labelled(numbering: &mut Numbering, label: &str) -> Result<Option<u64>, AllocError>
-    ensures { IfOk result (λ o. option_map (λ k. (k, numbering.new)) o ≡ option_map (number_of numbering.old) (behind (codes "_:") label.now)) }
+    ensures { IfOk result (λ o. option_map (λ k. (k, numbering.new)) o
+        ≡ option_map (number_of numbering.old) (behind (codes "_:") label.now)) }
 {
     let Some(label) = after(label, "_:") else {
         return Ok(None);
@@ -115,7 +117,7 @@ fn label<L: Language>(
 /// A variable as a subject, where one may stand.
 fn variable_subject<L: Language>(
     alloc: Global,
-    name: &str,
+    name: &[u8],
 ) -> Result<Result<L::Subject, Fault>, AllocError>
     ensures { Stands L.language.subject result (standing (L.language.grammar.variable name.now)) }
 {
@@ -168,7 +170,8 @@ fn plain<L: Language>(
     text: &str,
     datatype: &str,
 ) -> Result<Result<L::Value, Fault>, AllocError>
-    ensures { IfOk result (λ m. m ≡ stood L.language.grammar.of_term (made_of (Some (Literal text.now (Typed datatype.now))))) }
+    ensures { IfOk result (λ m. m
+        ≡ stood L.language.grammar.of_term (made_of (Some (Literal text.now (Typed datatype.now))))) }
 {
     match made_literal(alloc, text, datatype)? {
         Ok(term) => Ok(Ok(L::value(term))),
@@ -184,7 +187,8 @@ fn node<L: Language>(
     numbering: &mut Numbering,
     token: TermToken,
 ) -> Result<Result<L::Value, Fault>, AllocError>
-    ensures { IsNumbered result numbering.new (subject_value L.language context.now allowed numbering.old token.entry) }
+    ensures { IsNumbered result numbering.new
+        (subject_value L.language context.now allowed numbering.old token.entry) }
 {
     match subject::<L>(alloc, context, allowed, numbering, token)? {
         Ok(subject) => Ok(Ok(L::subject_value(subject))),
@@ -201,7 +205,8 @@ pub fn word<L: Language>(
     numbering: &mut Numbering,
     token: TermToken,
 ) -> Result<Result<L::Value, Fault>, AllocError>
-    ensures { IsNumbered result numbering.new (word_value L.language context.now allowed numbering.old token.entry) }
+    ensures { IsNumbered result numbering.new
+        (word_value L.language context.now allowed numbering.old token.entry) }
 {
     match token {
         TermToken::Plain(text, datatype) => plain::<L>(alloc, text, datatype),

@@ -59,11 +59,9 @@ end = Foreign kind.CloseBrace 20
 
 -- `?s` is the variable s, and so is `$s`
 mark : symbol kind.Var (codes "?s") 2 ≡ variable (codes "s")
-unfolding is_utf8 chars encode
 mark = refl
 
 other_mark : symbol kind.Var (codes "$s") 2 ≡ variable (codes "s")
-unfolding is_utf8 chars encode
 other_mark = refl
 
 -- `?s <a> ?o }` is one triple, by the program

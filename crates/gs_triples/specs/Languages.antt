@@ -1,6 +1,7 @@
 -- What a grammar makes of Turtle's triples, and what may stand in them: Turtle (25 February 2014), and the operations of
 -- SPARQL 1.1 Update (21 March 2013) that give or match triples.
-use Rattle.std.specs.Prelude.{ℕ, Bool, true, false, List, Option, Some, None}
+use Rattle.std.specs.Prelude.{ℕ, Bool, true, false, if◌then◌else◌, List, Option, Some, None}
+use Rattle.std.specs.Str.{is_utf8}
 use Rattle.gs_model.specs.Terms.{Term}
 use Rattle.gs_model.specs.Triples.{RdfTriple}
 use Rattle.gs_term.specs.declared.patterns.Part.{Part}
@@ -32,6 +33,10 @@ of_terms = record { of_term = λ t. t; variable = λ x. None; triple = triple; n
 abbrev pub pattern : Part → Part → Part → Pattern
 pattern s p o = record { subject = s; predicate = p; object = o }
 
+-- a variable of this name, which is text
+abbrev pub part_named : List ℕ → Option Part
+part_named x = if is_utf8 x then Some (Variable x) else None
+
 -- those of a query's groups (section 19.8): terms, and variables at every place
 abbrev pub of_patterns : Language Part Pattern
-of_patterns = record { of_term = TheTerm; variable = λ x. Some (Variable x); triple = pattern; nodes = true; lone_lists = true }
+of_patterns = record { of_term = TheTerm; variable = part_named; triple = pattern; nodes = true; lone_lists = true }

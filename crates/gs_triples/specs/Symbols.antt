@@ -49,10 +49,6 @@ abbrev pub after_mark : List ℕ → List ℕ
 after_mark [] = []
 after_mark (mark ∷ x) = x
 
--- a variable, whose name is text too
-abbrev pub variable_symbol : List ℕ → ℕ → Symbol
-variable_symbol x n = if is_utf8 (after_mark x) then AWord (Variable (after_mark x)) else Foreign kind.Var n
-
 -- 2.5.2, 2.5.3: numbers and booleans have the lexical form that is written
 abbrev pub symbol : TokenKind → List ℕ → ℕ → Symbol
 symbol kind.IriRef x n = AWord (Reference x n)
@@ -78,7 +74,7 @@ symbol kind.CloseParenthesis x n = CloseList
 symbol kind.Semicolon x n = Semicolon
 symbol kind.Comma x n = Comma
 symbol kind.Dot x n = Dot n
-symbol kind.Var x n = variable_symbol x n
+symbol kind.Var x n = AWord (Variable (after_mark x))
 symbol kind.Prefix x n = PrefixWord
 symbol kind.Base x n = BaseWord
 symbol k x n = Foreign k n

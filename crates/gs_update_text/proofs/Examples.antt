@@ -100,12 +100,12 @@ inserted_and_deleted = refl
 
 -- between two operations a `;` stands
 no_semicolon : says (delete_where spo 20 ++ delete_where spo 40) ≡ (any ∷ [], Some (Broken Syntax))
-unfolding rest step ended block_run triples_machine.step word made_of suffix
+unfolding rest step ended block_run triples_machine.step word made_of suffix is_utf8 chars encode
 no_semicolon = refl
 
 -- and no second one
 two_semicolons : says (delete_where spo 20 ++ Semicolon ∷ Semicolon ∷ []) ≡ (any ∷ [], Some (Broken Syntax))
-unfolding rest step ended block_run triples_machine.step word made_of suffix
+unfolding rest step ended block_run triples_machine.step word made_of suffix is_utf8 chars encode
 two_semicolons = refl
 
 -- `INSERT DATA { ( 1 ) }`
@@ -125,7 +125,7 @@ nothing_inserted = refl
 
 -- `DELETE DATA { ?s a 1 }`
 deleted_variable : says (delete_data (v (codes "s") ∷ A ∷ one ∷ []) 40) ≡ ([], Some (Broken Syntax))
-unfolding rest step ended block_run triples_machine.step word made_of suffix
+unfolding rest step ended block_run triples_machine.step word made_of suffix is_utf8 chars encode
 deleted_variable = refl
 
 -- `DELETE DATA { _:x a 1 }`
@@ -150,7 +150,7 @@ graph = refl
 
 -- `DELETE WHERE { ?s ?p ?o GRAPH ..`: a dot is to come
 graph_before_dot : says (mark kind.Delete 6 ∷ mark kind.Where 12 ∷ mark kind.OpenBrace 14 ∷ spo ++ mark kind.Graph 30 ∷ []) ≡ ([], Some (Broken Syntax))
-unfolding rest step ended block_run triples_machine.step word made_of suffix
+unfolding rest step ended block_run triples_machine.step word made_of suffix is_utf8 chars encode
 graph_before_dot = refl
 
 -- `CLEAR ..`
@@ -160,7 +160,7 @@ cleared = refl
 
 -- and after an operation
 cleared_after : says (delete_where spo 20 ++ Semicolon ∷ mark kind.Clear 30 ∷ []) ≡ (any ∷ [], Some OutOfProfile)
-unfolding rest step ended block_run triples_machine.step word made_of suffix
+unfolding rest step ended block_run triples_machine.step word made_of suffix is_utf8 chars encode
 cleared_after = refl
 
 -- `INSERT { ..`
@@ -180,12 +180,12 @@ insert_where = refl
 
 -- `DELETE WHERE { ?s ?p ?o . ?s ?p ?o , ?o ; ?p ?o . }`
 four_patterns : says (delete_where (spo ++ Dot 1 ∷ v (codes "s") ∷ v (codes "p") ∷ v (codes "o") ∷ Comma ∷ v (codes "o") ∷ Semicolon ∷ v (codes "p") ∷ v (codes "o") ∷ Dot 2 ∷ []) 40) ≡ (written (DeletesWhere (pattern (Unknown (codes "s")) (Unknown (codes "p")) (Unknown (codes "o")) ∷ pattern (Unknown (codes "s")) (Unknown (codes "p")) (Unknown (codes "o")) ∷ pattern (Unknown (codes "s")) (Unknown (codes "p")) (Unknown (codes "o")) ∷ pattern (Unknown (codes "s")) (Unknown (codes "p")) (Unknown (codes "o")) ∷ [])) 40 ∷ [], None)
-unfolding rest step ended block_run triples_machine.step word made_of suffix
+unfolding rest step ended block_run triples_machine.step word made_of suffix is_utf8 chars encode
 four_patterns = refl
 
 -- a fifth pattern, whatever comes after it
 fifth_pattern : says (mark kind.Delete 6 ∷ mark kind.Where 12 ∷ mark kind.OpenBrace 14 ∷ spo ++ Dot 1 ∷ v (codes "s") ∷ v (codes "p") ∷ v (codes "o") ∷ Comma ∷ v (codes "o") ∷ Semicolon ∷ v (codes "p") ∷ v (codes "o") ∷ Comma ∷ v (codes "o") ∷ mark kind.Load 50 ∷ []) ≡ ([], Some OutOfProfile)
-unfolding rest step ended block_run triples_machine.step word made_of suffix
+unfolding rest step ended block_run triples_machine.step word made_of suffix is_utf8 chars encode
 fifth_pattern = refl
 
 -- a fifth pattern that ends with a string, at the end of the text

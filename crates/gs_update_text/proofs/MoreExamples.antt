@@ -58,7 +58,7 @@ base_between = refl
 
 -- a `;` where an operation may begin
 no_prologue : says (Semicolon ∷ delete_where spo 20) ≡ ([], Some (Broken Syntax))
-unfolding rest step ended block_run triples_machine.step word made_of suffix
+unfolding rest step ended block_run triples_machine.step word made_of suffix is_utf8 chars encode
 no_prologue = refl
 
 -- `DELETE DATA { GRAPH ..`
@@ -68,7 +68,7 @@ delete_graph = refl
 
 -- `DELETE WHERE { ?s ?p ?o . GRAPH ..`
 where_graph : says (within_where (spo ++ Dot 20 ∷ mark kind.Graph 26 ∷ [])) ≡ ([], Some OutOfProfile)
-unfolding rest step ended block_run triples_machine.step word made_of suffix
+unfolding rest step ended block_run triples_machine.step word made_of suffix is_utf8 chars encode
 where_graph = refl
 
 -- `LOAD ..`
@@ -113,7 +113,7 @@ where_first = refl
 
 -- a fifth pattern and its dot
 fifth_dotted : says (within_where (four ++ v (codes "o") ∷ Dot 40 ∷ [])) ≡ ([], Some OutOfProfile)
-unfolding rest step ended block_run triples_machine.step word made_of suffix
+unfolding rest step ended block_run triples_machine.step word made_of suffix is_utf8 chars encode
 fifth_dotted = refl
 
 -- a fifth pattern that ends with a string and its language tag
@@ -128,7 +128,7 @@ string_dotted = refl
 
 -- where a fifth pattern is to end with a blank node, the fault comes first
 fifth_open : says (within_where (four ++ AWord (Label (codes "_:x")) ∷ [])) ≡ ([], Some (Broken Syntax))
-unfolding rest step ended block_run triples_machine.step word made_of suffix
+unfolding rest step ended block_run triples_machine.step word made_of suffix is_utf8 chars encode
 fifth_open = refl
 
 -- `DELETE WHERE { ( ) }`
@@ -138,27 +138,27 @@ lone_where = refl
 
 -- `DELETE WHERE { ( ) ?p ?o }`: the empty collection is an IRI
 nil_sought : says (delete_where (OpenList ∷ CloseList ∷ v (codes "p") ∷ v (codes "o") ∷ []) 40) ≡ (written (DeletesWhere (pattern (TheTerm (rdf (codes "nil"))) (Unknown (codes "p")) (Unknown (codes "o")) ∷ [])) 40 ∷ [], None)
-unfolding rest step ended block_run triples_machine.step word made_of suffix
+unfolding rest step ended block_run triples_machine.step word made_of suffix is_utf8 chars encode
 nil_sought = refl
 
 -- `DELETE WHERE { ( 1 ) ?p ?o }`
 list_sought : says (delete_where (OpenList ∷ one ∷ CloseList ∷ v (codes "p") ∷ v (codes "o") ∷ []) 40) ≡ ([], Some (Broken Syntax))
-unfolding rest step ended block_run triples_machine.step word made_of suffix
+unfolding rest step ended block_run triples_machine.step word made_of suffix is_utf8 chars encode
 list_sought = refl
 
 -- `INSERT DATA { ?s a 1 }`
 inserted_variable : says (insert_data (v (codes "s") ∷ A ∷ one ∷ []) 40) ≡ ([], Some (Broken Syntax))
-unfolding rest step ended block_run triples_machine.step word made_of suffix
+unfolding rest step ended block_run triples_machine.step word made_of suffix is_utf8 chars encode
 inserted_variable = refl
 
 -- `DELETE DATA { ?s GRAPH ..`: the fault comes first
 fault_first : says (mark kind.Delete 6 ∷ mark kind.Data 11 ∷ mark kind.OpenBrace 13 ∷ v (codes "s") ∷ mark kind.Graph 22 ∷ []) ≡ ([], Some (Broken Syntax))
-unfolding rest step ended block_run triples_machine.step word made_of suffix
+unfolding rest step ended block_run triples_machine.step word made_of suffix is_utf8 chars encode
 fault_first = refl
 
 -- `DELETE WHERE { ?s ?p ?o } ; CLEAR } {`: the departure comes first
 departure_first : says (delete_where spo 20 ++ Semicolon ∷ mark kind.Clear 30 ∷ mark kind.CloseBrace 32 ∷ mark kind.OpenBrace 34 ∷ []) ≡ (any ∷ [], Some OutOfProfile)
-unfolding rest step ended block_run triples_machine.step word made_of suffix
+unfolding rest step ended block_run triples_machine.step word made_of suffix is_utf8 chars encode
 departure_first = refl
 
 -- `INSERT DATA { <http://e/a> a 1`
