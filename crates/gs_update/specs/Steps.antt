@@ -1,5 +1,6 @@
 -- What a symbol does to a parser of updates.
-use Rattle.std.specs.Prelude.{◌≡◌, ℕ, List, [], ◌∷◌, ◌++◌, map, Option}
+use Rattle.std.specs.Prelude.{◌≡◌, ℕ, List, [], ◌∷◌, ◌++◌, map, Option, Result, IfOk}
+use Rattle.gs_triples.specs.States.{triples_so_far}
 use Rattle.gs_triple_parser.specs.Languages.{TypedLanguage}
 use Rattle.gs_triple_parser.specs.Views.{symbol_at, scope_context, scope_numbers, triples_state, context_now, numbers_now, pending_triples}
 use Rattle.gs_triple_parser.specs.declared.scopes.Scope.{Scope}
@@ -35,6 +36,10 @@ pub record Starts (p : UpdateParser) (s : machine.State) : Type 0 where
   pub last : p.last ≡ 0
   pub sound : IsSound p.place
 
+-- at the start of the block of an operation of this form
+abbrev pub start_of : machine.Form → Scope → machine.Turn
+start_of f s = machine.quiet (machine.block_of f (scope_context s) (scope_numbers s))
+
 -- after an operation that ends there
 abbrev pub concluded : Scope → UpdateOperation → ℕ → machine.Turn
 concluded s o e = (machine.After (scope_context s) (scope_numbers s), record { operation = o; end = e } ∷ [])
@@ -63,6 +68,10 @@ pub record KeepsBounds {L S V X T : Type 0} (old new : CodeBlock L S V X T) : Ty
 
 -- in a language of the code
 module _ {L S V X T : Type 0} (l : TypedLanguage S V X T) where
+  -- a block's triples, with those that are being read
+  abbrev pub triples_now : CodeBlock L S V X T → List T
+  triples_now b = b.triples.items ++ triples_so_far (triples_state l b.parser)
+
   -- a turn that left a block so
   abbrev pub turn_at : Making T → CodeBlock L S V X T → CodeTurn → blocks.BlockTurn X T
   turn_at made b turn.Takes = blocks.Takes (block_state l b)
@@ -72,6 +81,10 @@ module _ {L S V X T : Type 0} (l : TypedLanguage S V X T) where
   -- a block took the turn that its rules give, whatever operation they make
   abbrev pub Turned : CodeBlock L S V X T → CodeTurn → (Making T → blocks.BlockTurn X T) → Type 0
   Turned b u t = (made : Making T) → turn_at made b u ≡ t made
+
+  -- a call that has not failed reports that turn
+  abbrev pub TurnsTo : {E : Type 0} → Result CodeTurn E → CodeBlock L S V X T → (Making T → blocks.BlockTurn X T) → Type 0
+  TurnsTo r b t = IfOk r (λ u. Turned b u t)
 
   -- the turn of the rules by a state of triples that took a symbol
   abbrev pub entered_turn : CodeBlock L S V X T → Making T → blocks.BlockTurn X T
@@ -109,3 +122,7 @@ module _ {L S V X T : Type 0} (l : TypedLanguage S V X T) where
   abbrev pub StaysUnless : CodeBlock L S V X T → CodeBlock L S V X T → CodeTurn → Type 0
   StaysUnless old new (turn.Stops r) = Unit {0}
   StaysUnless old new u = Stays old new
+
+  -- a call that has not failed leaves them so
+  abbrev pub StaysIf : {E : Type 0} → Result CodeTurn E → CodeBlock L S V X T → CodeBlock L S V X T → Type 0
+  StaysIf r old new = IfOk r (λ u. StaysUnless old new u)

@@ -31,17 +31,16 @@ pub struct Block<L: Language> {
 }
 
 impl<L: Language> Block<L> {
-    ghost use Rattle.gs_triples.specs.States.{triples_so_far};
     ghost use Rattle.gs_triples.specs.Languages.{of_terms};
     ghost use Rattle.gs_triples.specs.Meanings.{in_language};
     ghost use Rattle.gs_triple_parser.specs.Views.{symbol_at, scope_context, scope_numbers, triples_state, context_now, numbers_now};
     ghost use Rattle.gs_update.specs.Views.{rejection_at, HasGiven, bars_since, more_than};
-    ghost use Rattle.gs_update.specs.Steps.{entered_turn, parted_turn, followed_turn, opening_turn, moved_turn, block_turn, end_turn};
-    ghost use Rattle.gs_update.specs.Steps.{Making, Turned, StaysUnless, KeepsBounds, all_triples};
+    ghost use Rattle.gs_update.specs.Steps.{triples_now, entered_turn, parted_turn, followed_turn, opening_turn, moved_turn, block_turn, end_turn};
+    ghost use Rattle.gs_update.specs.Steps.{Making, Turned, TurnsTo, StaysIf, KeepsBounds, all_triples};
 
     /// Whether the triples are too many, with those that are being read.
     fn has_too_many(&self) -> bool
-        ensures { result ≡ more_than self.now.most (self.now.triples.items ++ triples_so_far (triples_state L.language self.now.parser)) }
+        ensures { result ≡ more_than self.now.most (triples_now L.language self.now) }
     {
         let Some(most) = self.most else {
             return false;
@@ -102,7 +101,7 @@ impl<L: Language> Block<L> {
 
     /// A symbol that ends triples.
     fn followed(&mut self, symbol: Symbol) -> Result<BlockTurn, AllocError>
-        ensures turn { IfOk result (λ u. Turned L.language self.new u (followed_turn L.language self.old symbol.entry)) }
+        ensures turn { TurnsTo L.language result self.new (followed_turn L.language self.old symbol.entry) }
         ensures context { context_now L.language self.new.parser ≡ context_now L.language self.old.parser }
         ensures numbers { numbers_now self.new.parser ≡ numbers_now self.old.parser }
         ensures bounds { KeepsBounds self.old self.new }
@@ -116,8 +115,8 @@ impl<L: Language> Block<L> {
     /// A symbol where triples may begin.
     fn at_triples(&mut self, symbol: Symbol) -> Result<BlockTurn, AllocError>
         requires { HasGiven self.old.since (numbers_now self.old.parser) }
-        ensures turn { IfOk result (λ u. Turned L.language self.new u (opening_turn L.language self.old symbol.entry)) }
-        ensures stays { IfOk result (λ u. StaysUnless L.language self.old self.new u) }
+        ensures turn { TurnsTo L.language result self.new (opening_turn L.language self.old symbol.entry) }
+        ensures stays { StaysIf L.language result self.old self.new }
     {
         match symbol {
             Symbol::Foreign(TokenKind::CloseBrace, end) => Ok(BlockTurn::Shuts(end)),
@@ -132,8 +131,8 @@ impl<L: Language> Block<L> {
     /// A symbol, where any may stand.
     fn moved(&mut self, symbol: Symbol) -> Result<BlockTurn, AllocError>
         requires { HasGiven self.old.since (numbers_now self.old.parser) }
-        ensures turn { IfOk result (λ u. Turned L.language self.new u (moved_turn L.language self.old symbol.entry)) }
-        ensures stays { IfOk result (λ u. StaysUnless L.language self.old self.new u) }
+        ensures turn { TurnsTo L.language result self.new (moved_turn L.language self.old symbol.entry) }
+        ensures stays { StaysIf L.language result self.old self.new }
     {
         if !self.within {
             return self.at_triples(symbol);
@@ -163,8 +162,8 @@ impl<L: Language> Block<L> {
     /// One symbol more. After a refusal the block is of no more use.
     pub fn step(&mut self, symbol: Symbol) -> Result<BlockTurn, AllocError>
         requires { HasGiven self.old.since (numbers_now self.old.parser) }
-        ensures turn { IfOk result (λ u. Turned L.language self.new u (block_turn L.language self.old symbol.entry)) }
-        ensures stays { IfOk result (λ u. StaysUnless L.language self.old self.new u) }
+        ensures turn { TurnsTo L.language result self.new (block_turn L.language self.old symbol.entry) }
+        ensures stays { StaysIf L.language result self.old self.new }
     {
         let barred = self.bars(symbol);
         let turn = self.moved(symbol)?;
@@ -209,14 +208,13 @@ impl<L: Language> Block<L> {
     }
 }
 
-ghost use Rattle.gs_triple_parser.specs.Views.{scope_context, scope_numbers};
-ghost use Rattle.gs_update_text.specs.States.{InsertData, DeleteData, DeleteWhere, block_of, quiet};
+ghost use Rattle.gs_update_text.specs.States.{InsertData, DeleteData, DeleteWhere};
 ghost use Rattle.gs_update.specs.declared.places.Place.TheVariants as place;
-ghost use Rattle.gs_update.specs.Steps.{LeadsTo};
+ghost use Rattle.gs_update.specs.Steps.{LeadsTo, start_of};
 
 /// INSERT DATA: no label that an earlier operation has.
 pub fn inserting(alloc: Global, scope: Scope) -> Block<Terms>
-    ensures { LeadsTo (place.Inserting result) (quiet (block_of InsertData (scope_context scope) (scope_numbers scope))) }
+    ensures { LeadsTo (place.Inserting result) (start_of InsertData scope) }
 {
     let allowed = Allowed {
         nodes: true,
@@ -235,7 +233,7 @@ pub fn inserting(alloc: Global, scope: Scope) -> Block<Terms>
 
 /// DELETE DATA: no blank nodes.
 pub fn deleting(alloc: Global, scope: Scope) -> Block<Terms>
-    ensures { LeadsTo (place.Deleting result) (quiet (block_of DeleteData (scope_context scope) (scope_numbers scope))) }
+    ensures { LeadsTo (place.Deleting result) (start_of DeleteData scope) }
 {
     let allowed = Allowed {
         nodes: false,
@@ -252,7 +250,7 @@ pub fn deleting(alloc: Global, scope: Scope) -> Block<Terms>
 
 /// DELETE WHERE: no blank nodes, and not too many patterns.
 pub fn seeking(alloc: Global, scope: Scope) -> Block<Patterns>
-    ensures { LeadsTo (place.Seeking result) (quiet (block_of DeleteWhere (scope_context scope) (scope_numbers scope))) }
+    ensures { LeadsTo (place.Seeking result) (start_of DeleteWhere scope) }
 {
     let allowed = Allowed {
         nodes: false,

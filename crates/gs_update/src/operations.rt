@@ -1,8 +1,6 @@
 //! The words of an operation, its opening brace, and what follows it.
-ghost use Rattle.gs_triple_parser.specs.Views.{scope_context, scope_numbers};
-ghost use Rattle.gs_update_text.specs.States.{quiet, block_of};
 ghost use Rattle.gs_update.specs.Views.{form_at};
-ghost use Rattle.gs_update.specs.Steps.{LeadsTo, turn_at_place};
+ghost use Rattle.gs_update.specs.Steps.{LeadsTo, start_of, turn_at_place};
 
 use crate::blocks::{deleting, inserting, seeking};
 use crate::places::{Form, Place};
@@ -39,7 +37,7 @@ pub fn after_delete(scope: Scope, symbol: Symbol) -> Place
 
 /// The start of a block.
 fn opened(alloc: Global, form: Form, scope: Scope) -> Place
-    ensures { LeadsTo result (quiet (block_of (form_at form) (scope_context scope) (scope_numbers scope))) }
+    ensures { LeadsTo result (start_of (form_at form) scope) }
 {
     match form {
         Form::InsertData => Place::Inserting(inserting(alloc, scope)),
