@@ -204,7 +204,10 @@ impl<L: Language> Block<L> {
         ensures numbers { scope_numbers result.0 ≡ numbers_now self.parser }
         ensures triples { result.1 ≡ self.triples }
     {
-        (self.parser.into_scope(), self.triples)
+        let Block {
+            parser, triples, ..
+        } = self;
+        (parser.into_scope(), triples)
     }
 }
 
