@@ -22,6 +22,7 @@ use Rattle.gs_update_text.specs.Texts.{ended_by, request_by}
 use Rattle.gs_update_text.proofs.TextLemmas.{text_cut}
 use Rattle.gs_update.specs.Views.{state_of, operations_of}
 use Rattle.gs_update.specs.Answers.{AreOperationsOf, Refuses}
+use Rattle.gs_update.specs.Steps.{Starts}
 use Rattle.gs_update.specs.Portions.{operations_in, turn_of, end_of, Takes, Concludes, TellsBehind}
 use Rattle.gs_update.specs.Readers.{start, IsLed, LeadsTo, Goes, IsRefused, Finishes, IsRefusedAtEnd}
 use Rattle.gs_update.specs.declared.parser.UpdateParser.{UpdateParser}
@@ -58,6 +59,16 @@ tells_joined refusal.WrongPhase last os q s p w h = h
 tells_joined refusal.BadSeat last os q s p w h = h
 tells_joined refusal.LastNumber last os q s p w h = h
 tells_joined refusal.StoreFull last os q s p w h = h
+
+-- no tokens
+pub led_start : (b : List ℕ) (r : ℕ) (p : UpdateParser) → Starts p (start b r) → IsLed b r p []
+unfolding steps
+led_start b r p h = record {
+  written = [];
+  state = ap (λ (s : State). let t : State × List Written = (s, []) in t) (sym h.state);
+  operations = ap operations_of h.operations;
+  last = h.last;
+}
 
 -- tokens more
 led_on : (b : List ℕ) (r : ℕ) (p q : UpdateParser) (ts us : List Lexeme) → IsLed b r p ts → Takes p q us → IsLed b r q (ts ++ us)
