@@ -4,6 +4,7 @@
 mod allowed;
 mod closings;
 mod contexts;
+mod counts;
 mod endings;
 mod frames;
 mod goals;

@@ -125,7 +125,7 @@ nothing_inserted = refl
 
 -- `DELETE DATA { ?s a 1 }`
 deleted_variable : says (delete_data (v (codes "s") ∷ A ∷ one ∷ []) 40) ≡ ([], Some (Broken Syntax))
-unfolding rest step ended block_run triples_machine.step word made_of suffix
+unfolding rest step ended block_run triples_machine.step word made_of suffix is_utf8 chars encode
 deleted_variable = refl
 
 -- `DELETE DATA { _:x a 1 }`

@@ -13,6 +13,7 @@ pub mod WalkLemmas
 pub mod ReadLemmas
 pub mod FrontLemmas
 pub mod PlaceLemmas
+pub mod NumberLemmas
 pub mod ProfileLemmas
 pub mod TextLemmas
 pub mod Examples

@@ -58,7 +58,7 @@ base_between = refl
 
 -- a `;` where an operation may begin
 no_prologue : says (Semicolon ∷ delete_where spo 20) ≡ ([], Some (Broken Syntax))
-unfolding rest step ended block_run triples_machine.step word made_of suffix
+unfolding rest step ended block_run triples_machine.step word made_of suffix is_utf8 chars encode
 no_prologue = refl
 
 -- `DELETE DATA { GRAPH ..`
@@ -143,17 +143,17 @@ nil_sought = refl
 
 -- `DELETE WHERE { ( 1 ) ?p ?o }`
 list_sought : says (delete_where (OpenList ∷ one ∷ CloseList ∷ v (codes "p") ∷ v (codes "o") ∷ []) 40) ≡ ([], Some (Broken Syntax))
-unfolding rest step ended block_run triples_machine.step word made_of suffix
+unfolding rest step ended block_run triples_machine.step word made_of suffix is_utf8 chars encode
 list_sought = refl
 
 -- `INSERT DATA { ?s a 1 }`
 inserted_variable : says (insert_data (v (codes "s") ∷ A ∷ one ∷ []) 40) ≡ ([], Some (Broken Syntax))
-unfolding rest step ended block_run triples_machine.step word made_of suffix
+unfolding rest step ended block_run triples_machine.step word made_of suffix is_utf8 chars encode
 inserted_variable = refl
 
 -- `DELETE DATA { ?s GRAPH ..`: the fault comes first
 fault_first : says (mark kind.Delete 6 ∷ mark kind.Data 11 ∷ mark kind.OpenBrace 13 ∷ v (codes "s") ∷ mark kind.Graph 22 ∷ []) ≡ ([], Some (Broken Syntax))
-unfolding rest step ended block_run triples_machine.step word made_of suffix
+unfolding rest step ended block_run triples_machine.step word made_of suffix is_utf8 chars encode
 fault_first = refl
 
 -- `DELETE WHERE { ?s ?p ?o } ; CLEAR } {`: the departure comes first

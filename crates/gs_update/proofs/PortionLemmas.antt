@@ -1,0 +1,123 @@
+-- The tokens of a portion, one after another.
+use Rattle.std.proofs.Common.{◌≡◌, ℕ, ◌+◌, ◌<◌, List, [], ◌∷◌, ◌++◌, length, take, get_or, refl, sym, ap, subst, ◌∙◌, append_assoc, append-nil}
+use Rattle.std.specs.Prelude.{map, Option, Some, None}
+use Rattle.std.proofs.lemmas.List.{map-append, take_more}
+use Rattle.gs_model.specs.declared.refusals.Refusal.{Refusal}
+use Rattle.gs_model.specs.declared.refusals.Refusal.TheVariants as refusal
+use Rattle.gs_model.specs.declared.faults.Fault.TheVariants as fault
+use Rattle.gs_machine.specs.Machines.{joined, steps, rest}
+use Rattle.gs_machine.proofs.MachineLemmas.{steps-append, steps-one, rest-append}
+use Rattle.gs_lex.specs.Tokens as lexer
+use Rattle.gs_lex.specs.Tokens.{Lexeme}
+use Rattle.gs_lex.specs.Lexemes.{lexeme_of, lexemes_of}
+use Rattle.gs_lex.specs.declared.tokens.Token.{Token}
+use Rattle.gs_triples.specs.Symbols.{symbol_of, symbols_of}
+use Rattle.gs_update_text.specs.Requests.{Written, Rejection, Broken, OutOfProfile, Request, end_of_last}
+use Rattle.gs_update_text.specs.States as machine
+use Rattle.gs_update_text.specs.States.{State, Rejected}
+use Rattle.gs_update_text.specs.Machine.{step, ended, updates}
+use Rattle.gs_update_text.specs.Texts.{ended_by}
+use Rattle.gs_update_text.proofs.UpdateLemmas.{rejected_rest}
+use Rattle.gs_update.specs.Views.{state_of, operations_of, IsSound}
+use Rattle.gs_update.specs.Steps.{Moves}
+use Rattle.gs_update.specs.Portions.{operations_in, turn_of, end_of, Takes, Concludes, refusal_of, TellsBehind}
+use Rattle.gs_update.specs.declared.parser.UpdateParser.{UpdateParser}
+
+pub operations_in-append : (os us : List Written) → operations_in (os ++ us) ≡ operations_in os ++ operations_in us
+operations_in-append os us = map-append (λ (w : Written). w.operation) os us
+
+pub end_of_last-append : (n : ℕ) (os us : List Written) → end_of_last n (os ++ us) ≡ end_of_last (end_of_last n os) us
+end_of_last-append n [] us = refl
+end_of_last-append n (o ∷ os) us = end_of_last-append o.end os us
+
+-- no tokens
+pub takes_none : (p : UpdateParser) → IsSound p.place → Takes p p []
+unfolding steps
+takes_none p s = record { state = refl; operations = sym (append-nil (operations_of p.operations.items)); last = refl; sound = s }
+
+-- the state after tokens and more tokens
+turn-append : (p : UpdateParser) (s : State) (ts us : List Lexeme) → s ≡ (turn_of p ts).0 → turn_of p (ts ++ us) ≡ ((steps updates s (symbols_of us)).0, (turn_of p ts).1 ++ (steps updates s (symbols_of us)).1)
+turn-append p s ts us e =
+    ap (steps updates (state_of p)) (map-append symbol_of ts us) ∙ steps-append updates (state_of p) (symbols_of ts) (symbols_of us)
+    ∙ ap (λ (z : State). ((steps updates z (symbols_of us)).0, (turn_of p ts).1 ++ (steps updates z (symbols_of us)).1)) (sym e)
+
+-- one token more
+takes_more : (a b c : UpdateParser) (ts : List Lexeme) (t : Lexeme) → Takes a b ts → Moves b c (step (state_of b) (symbol_of t)) → Takes a c (ts ++ t ∷ [])
+takes_more a b c ts t h m =
+    let u = step (state_of b) (symbol_of t) in
+    let old = (turn_of a ts).1 in
+    let e : turn_of a (ts ++ t ∷ []) ≡ (u.0, old ++ u.1) =
+        turn-append a (state_of b) ts (t ∷ []) h.state ∙ ap (λ (z : State × List Written). (z.0, old ++ z.1)) (steps-one updates (state_of b) (symbol_of t)) in
+    record {
+      state = m.state ∙ ap (λ (z : State × List Written). z.0) (sym e);
+      operations = m.operations ∙ ap (λ z. z ++ operations_in u.1) h.operations ∙ append_assoc (operations_of a.operations.items) (operations_in old) (operations_in u.1)
+          ∙ ap (λ z. operations_of a.operations.items ++ z) (sym (operations_in-append old u.1)) ∙ ap (λ (z : State × List Written). operations_of a.operations.items ++ operations_in z.1) (sym e);
+      last = m.last ∙ ap (λ z. end_of_last z u.1) h.last ∙ sym (end_of_last-append a.last old u.1) ∙ ap (λ (z : State × List Written). end_of_last a.last z.1) (sym e);
+      sound = m.sound;
+    }
+
+-- the next token of a list
+pub takes_next : (a b c : UpdateParser) (xs : List Token) (n : ℕ) (t : Token) → n < length xs → t ≡ get_or xs n t → Takes a b (lexemes_of (take n xs)) → Moves b c (step (state_of b) (symbol_of (lexeme_of t)))
+    → Takes a c (lexemes_of (take (n + 1) xs))
+takes_next a b c xs n t l i h m =
+    let e : lexemes_of (take (n + 1) xs) ≡ lexemes_of (take n xs) ++ lexeme_of t ∷ [] =
+        ap lexemes_of (take_more xs n t l) ∙ map-append lexeme_of (take n xs) (get_or xs n t ∷ []) ∙ ap (λ (z : Token). lexemes_of (take n xs) ++ lexeme_of z ∷ []) (sym i) in
+    subst (Takes a c) (sym e) (takes_more a b c (lexemes_of (take n xs)) (lexeme_of t) h m)
+
+-- a departure by its refusal
+tells : (r : Rejection) (last n : ℕ) (q : Request) → q.1 ≡ Some r → n ≡ end_of_last last q.0 → TellsBehind last (refusal_of n r) q
+tells (Broken fault.Syntax) last n q p e = (p, e)
+tells (Broken fault.TermTooLong) last n q p e = p
+tells OutOfProfile last n q p e = p
+
+-- after a departure whatever follows says nothing more
+pub rejected_tells : (a b : UpdateParser) (ts us : List Lexeme) (r : Rejection) → Takes a b ts → state_of b ≡ Rejected r → TellsBehind a.last (refusal_of b.last r) (end_of a (ts ++ us))
+rejected_tells a b ts us r h e =
+    let old = (turn_of a ts).1 in
+    let all : end_of a (ts ++ us) ≡ (old, Some r) =
+        ap (rest updates (state_of a)) (map-append symbol_of ts us) ∙ rest-append updates (state_of a) (symbols_of ts) (symbols_of us)
+        ∙ ap (λ (z : State). joined old (rest updates z (symbols_of us))) (sym h.state ∙ e) ∙ ap (joined old) (rejected_rest r (symbols_of us)) ∙ ap (λ z. let p : Request = (z, Some r) in p) (append-nil old) in
+    tells r a.last b.last (end_of a (ts ++ us)) (ap (λ (z : Request). z.1) all) (h.last ∙ ap (λ (z : Request). end_of_last a.last z.0) (sym all))
+
+-- the text ends there
+end_is : (a b : UpdateParser) (ts : List Lexeme) → Takes a b ts → end_of a ts ≡ ((turn_of a ts).1, ended (state_of b))
+unfolding rest
+end_is a b ts h =
+    let old = (turn_of a ts).1 in
+    ap (rest updates (state_of a)) (sym (append-nil (symbols_of ts))) ∙ rest-append updates (state_of a) (symbols_of ts) []
+    ∙ ap (λ (z : State). joined old (rest updates z [])) (sym h.state) ∙ ap (λ z. let p : Request = (z, ended (state_of b)) in p) (append-nil old)
+
+-- without a departure, whatever else of the parser its end changed
+pub concludes : (a b c : UpdateParser) (ts : List Lexeme) → Takes a b ts → None ≡ ended (state_of b) → c.operations ≡ b.operations → c.last ≡ b.last → Concludes a c ts
+concludes a b c ts h e o l =
+    let all = end_is a b ts h in
+    record {
+      whole = ap (λ (z : Request). z.1) all ∙ sym e;
+      operations = ap (λ z. operations_of z.items) o ∙ h.operations ∙ ap (λ (z : Request). operations_of a.operations.items ++ operations_in z.0) (sym all);
+      last = l ∙ h.last ∙ ap (λ (z : Request). end_of_last a.last z.0) (sym all);
+    }
+
+-- with one
+pub ends_rejected : (a b : UpdateParser) (n : ℕ) (ts : List Lexeme) (r : Rejection) → Takes a b ts → Some r ≡ ended (state_of b) → n ≡ b.last → TellsBehind a.last (refusal_of n r) (end_of a ts)
+ends_rejected a b n ts r h e l =
+    let all = end_is a b ts h in
+    tells r a.last n (end_of a ts) (ap (λ (z : Request). z.1) all ∙ sym e) (l ∙ h.last ∙ ap (λ (z : Request). end_of_last a.last z.0) (sym all))
+
+-- the first departure of all is that of the tokens, where they have one
+pub tells_ended : (e : Refusal) (last : ℕ) (end : lexer.CutEnd) (q : Request) → TellsBehind last e q → TellsBehind last e (ended_by end q)
+tells_ended e last lexer.AtEnd q h = h
+tells_ended e last (lexer.AtFault n) (os, Some f) h = h
+tells_ended (refusal.Syntax at) last (lexer.AtFault n) (os, None) h = absurd (Prim.cc (h.0))
+tells_ended refusal.TermTooLong last (lexer.AtFault n) (os, None) h = absurd (Prim.cc h)
+tells_ended refusal.NotInProfile last (lexer.AtFault n) (os, None) h = absurd (Prim.cc h)
+tells_ended refusal.NoMemory last (lexer.AtFault n) (os, None) h = h
+tells_ended refusal.WrongPhase last (lexer.AtFault n) (os, None) h = h
+tells_ended refusal.BadSeat last (lexer.AtFault n) (os, None) h = h
+tells_ended refusal.LastNumber last (lexer.AtFault n) (os, None) h = h
+tells_ended refusal.StoreFull last (lexer.AtFault n) (os, None) h = h
+tells_ended refusal.Closed last (lexer.AtFault n) (os, None) h = h
+
+-- and else that after them
+pub tells_broken : (last m n : ℕ) (q : Request) → q.1 ≡ None → m ≡ end_of_last last q.0 → TellsBehind last (refusal.Syntax m) (ended_by (lexer.AtFault n) q)
+tells_broken last m n (os, None) p e = (refl, e)
+tells_broken last m n (os, Some f) p e = absurd (Prim.cc p)

@@ -1,0 +1,52 @@
+-- What the tokens of a portion do to a parser of updates.
+use Rattle.std.specs.Prelude.{◌≡◌, ℕ, List, ◌++◌, map, Some, None}
+use Rattle.gs_model.specs.declared.faults.Fault.TheVariants as fault
+use Rattle.gs_model.specs.declared.refusals.Refusal.{Refusal}
+use Rattle.gs_model.specs.declared.refusals.Refusal.TheVariants as refusal
+use Rattle.gs_machine.specs.Machines.{steps, rest}
+use Rattle.gs_lex.specs.Tokens.{Lexeme}
+use Rattle.gs_triples.specs.Symbols.{symbols_of}
+use Rattle.gs_update_text.specs.Requests.{UpdateOperation, Written, Rejection, Broken, OutOfProfile, Request, end_of_last}
+use Rattle.gs_update_text.specs.States.{State}
+use Rattle.gs_update_text.specs.Machine.{updates}
+use Rattle.gs_update.specs.Views.{state_of, operations_of, IsSound}
+use Rattle.gs_update.specs.declared.parser.UpdateParser.{UpdateParser}
+
+-- the operations of some that are written
+abbrev pub operations_in : List Written → List UpdateOperation
+operations_in os = map (λ (w : Written). w.operation) os
+
+-- the state after some tokens, and the operations that they end
+abbrev pub turn_of : UpdateParser → List Lexeme → State × List Written
+turn_of p ts = steps updates (state_of p) (symbols_of ts)
+
+-- what the last tokens of a text say
+abbrev pub end_of : UpdateParser → List Lexeme → Request
+end_of p ts = rest updates (state_of p) (symbols_of ts)
+
+-- the parser took these tokens
+pub record Takes (old new : UpdateParser) (ts : List Lexeme) : Type 0 where
+  pub state : state_of new ≡ (turn_of old ts).0
+  pub operations : operations_of new.operations.items ≡ operations_of old.operations.items ++ operations_in (turn_of old ts).1
+  pub last : new.last ≡ end_of_last old.last (turn_of old ts).1
+  pub sound : IsSound new.place
+
+-- the text ends after these tokens without a departure
+pub record Concludes (old new : UpdateParser) (ts : List Lexeme) : Type 0 where
+  pub whole : (end_of old ts).1 ≡ None
+  pub operations : operations_of new.operations.items ≡ operations_of old.operations.items ++ operations_in (end_of old ts).0
+  pub last : new.last ≡ end_of_last old.last (end_of old ts).0
+
+-- the refusal that reports a departure, where the last operation ends after so many bytes
+abbrev pub refusal_of : ℕ → Rejection → Refusal
+refusal_of last (Broken fault.Syntax) = refusal.Syntax last
+refusal_of last (Broken fault.TermTooLong) = refusal.TermTooLong
+refusal_of last OutOfProfile = refusal.NotInProfile
+
+-- what a refusal reports of the rest of a text, where the last operation before it ends after so many bytes
+abbrev pub TellsBehind : ℕ → Refusal → Request → Type 0
+TellsBehind last (refusal.Syntax at) q = (q.1 ≡ Some (Broken fault.Syntax)) × (at ≡ end_of_last last q.0)
+TellsBehind last refusal.TermTooLong q = q.1 ≡ Some (Broken fault.TermTooLong)
+TellsBehind last refusal.NotInProfile q = q.1 ≡ Some OutOfProfile
+TellsBehind last refusal.NoMemory q = Unit {0}
+TellsBehind last other q = ⊥
