@@ -8,17 +8,17 @@ use Rattle.std.proofs.lemmas.Bool.{cases_lt, cases_eq}
 use Rattle.gs_pool.specs.declared.nodes.Key.{Key}
 use Rattle.gs_pool.specs.declared.nodes.Node.{Node}
 use Rattle.gs_pool.specs.Pool.{Nodes, plain, node_at, in_use, aside_count, room, Fills, KeepsMarks}
-use Rattle.gs_tree.specs.Tree.{Tree, leaf, fork, root_of, height, keys, held, Stands, IsBalanced, BirthAtMost, Descends, height_at, tree_at, DifferByAtMost}
-use Rattle.gs_tree.specs.Steps.{plain01, one, SameTotal, Step, IsOwned, IsMine, Links}
+use Rattle.gs_tree.specs.Tree.{Tree, leaf, fork, root_of, height, keys, occurrences, Stands, IsBalanced, BirthAtMost, Descends, height_at, tree_at, DifferByAtMost}
+use Rattle.gs_tree.specs.Steps.{plain_count, one, SameTotal, Step, IsRecent, IsWritable, Links}
 use Rattle.gs_tree.specs.Merging.{Built}
-use Rattle.gs_tree.proofs.TreeLemmas.{one_cases, plain01_none, plain01_some, plain01_same, plain01_most, Stands-step, Step-then, Step-beside, Linked, birth_same}
-use Rattle.gs_tree.proofs.Rotations.{root_in, height_in, tree_in, linked_in, mine_kept}
+use Rattle.gs_tree.proofs.TreeLemmas.{one_cases, plain_count_none, plain_count_some, plain_count_same, plain_count_most, Stands-step, Step-then, Step-beside, Linked, birth_same}
+use Rattle.gs_tree.proofs.Rotations.{root_in, height_in, tree_in, linked_in, writable_kept}
 
 -- a number in use anew
 pub record Made (birth : ℕ) (p q : Nodes) (id : ℕ) : Type 0 where
-  pub step : (since : ℕ) → since ≤ birth → Step since p q (λ x. 0) (one id)
+  pub step : (since : ℕ) → since ≤ birth → Step since birth p q (λ x. 0) (one id)
   pub used : IsSome (node_at q id)
-  pub owned : (since : ℕ) → since ≤ birth → IsOwned since q id
+  pub recent : (since : ℕ) → since ≤ birth → IsRecent since q id
   pub total : SameTotal p q
   pub few : in_use q ≡ in_use p + 1
   pub marks : KeepsMarks p q
@@ -33,20 +33,24 @@ made birth p q id n young f rooms = record {
       | inl here ↦ absurd (let k : node_at q id ≡ Some m = subst (λ i. node_at q i ≡ Some m) here e in let g = birth_same _ _ (sym f.updates.changed ∙ k) in omega arith)
       | inr ne ↦ sym (f.updates.others x ne) ∙ e
     ];
+    born = λ x m e. elim (cases_eq x id) [
+      | inl here ↦ inr (let k : node_at q id ≡ Some m = subst (λ i. node_at q i ≡ Some m) here e in sym (birth_same _ _ (sym f.updates.changed ∙ k)) ∙ young)
+      | inr ne ↦ inl (sym (f.updates.others x ne) ∙ e)
+    ];
     marks = λ x. inl (f.marks x);
   };
   used = ap is_some f.updates.changed;
-  owned = λ since le m e. let g = birth_same _ _ (sym f.updates.changed ∙ e) in omega arith;
+  recent = λ since le m e. let g = birth_same _ _ (sym f.updates.changed ∙ e) in omega arith;
   total = omega (arith, f.in_use);
   few = f.in_use;
   marks = f.marks;
   replaced = f.aside;
 }
   where
-    counts : (x : ℕ) → one id x + plain01 p x ≡ plain01 q x
+    counts : (x : ℕ) → one id x + plain_count p x ≡ plain_count q x
     counts x = elim (one_cases id x) [
-      | inl here ↦ omega (arith, here.1, subst (λ i. plain01 q i ≡ 1) here.0 (plain01_some q id n f.updates.changed f.plain_now), subst (λ i. plain01 p i ≡ 0) here.0 (plain01_none p id f.was_free))
-      | inr ne ↦ omega (arith, ne.1, plain01_same p q x (f.updates.others x (λ e. ne.0 (sym e))) (f.marks x))
+      | inl here ↦ omega (arith, here.1, subst (λ i. plain_count q i ≡ 1) here.0 (plain_count_some q id n f.updates.changed f.plain_now), subst (λ i. plain_count p i ≡ 0) here.0 (plain_count_none p id f.was_free))
+      | inr ne ↦ omega (arith, ne.1, plain_count_same p q x (f.updates.others x (λ e. ne.0 (sym e))) (f.marks x))
     ]
 
 twice : (n : ℕ) → 2 ^ suc n ≡ 2 * 2 ^ n
@@ -81,20 +85,20 @@ half_parts run low rest high n el er eh some =
     sym (take-append-drop n run) ∙ ap (λ xs. xs ++ drop n run) (sym el) ∙ ap (λ xs. low ++ xs) (sym er ∙ drop_more rest 0 no_key some ∙ ap (λ xs. get_or rest 0 no_key ∷ xs) (sym eh))
 
 module _ (birth : ℕ) (p p1 p2 p3 : Nodes) (left right : Option ℕ) (top : ℕ) (key : Key) (run low high : List Key) (l r : Tree) (run_is : run ≡ low ++ key ∷ high) (le : length high ≤ length low) (ge : length low ≤ length high + 1) (a : Built birth p p1 left low l) (m : Made birth p1 p2 top) (b : Built birth p2 p3 right high r) where
-  steps : (since : ℕ) → since ≤ birth → Step since p p3 (λ x. 0) (λ x. one top x + held l x + held r x)
+  steps : (since : ℕ) → since ≤ birth → Step since birth p p3 (λ x. 0) (λ x. one top x + occurrences l x + occurrences r x)
   steps since young =
-      Step-then since p p1 p3 _ _ _ (a.step since young)
-      (Step-then since p1 p2 p3 _ _ _ (Step-beside since p1 p2 (λ x. 0) (one top) (held l) (λ x. one top x + held l x) (m.step since young) (λ x. omega arith) (λ x. omega arith))
-      (Step-beside since p2 p3 (λ x. 0) (held r) (λ x. one top x + held l x) (λ x. one top x + held l x + held r x) (b.step since young) (λ x. omega arith) (λ x. omega arith)))
+      Step-then since birth p p1 p3 _ _ _ (a.step since young)
+      (Step-then since birth p1 p2 p3 _ _ _ (Step-beside since birth p1 p2 (λ x. 0) (one top) (occurrences l) (λ x. one top x + occurrences l x) (m.step since young) (λ x. omega arith) (λ x. omega arith))
+      (Step-beside since birth p2 p3 (λ x. 0) (occurrences r) (λ x. one top x + occurrences l x) (λ x. one top x + occurrences l x + occurrences r x) (b.step since young) (λ x. omega arith) (λ x. omega arith)))
 
-  apart : (x : ℕ) → one top x + held l x + held r x ≤ 1
-  apart x = omega (arith, (steps birth (omega arith)).balance x, plain01_most p3 x)
+  apart : (x : ℕ) → one top x + occurrences l x + occurrences r x ≤ 1
+  apart x = omega (arith, (steps birth (omega arith)).balance x, plain_count_most p3 x)
 
   left_there : Stands p3 l
-  left_there = Stands-step birth p2 p3 (λ x. 0) (held r) l (b.step birth (omega arith)) (λ x h. refl) (Stands-step birth p1 p2 (λ x. 0) (one top) l (m.step birth (omega arith)) (λ x h. refl) a.stands)
+  left_there = Stands-step birth birth p2 p3 (λ x. 0) (occurrences r) l (b.step birth (omega arith)) (λ x h. refl) (Stands-step birth birth p1 p2 (λ x. 0) (one top) l (m.step birth (omega arith)) (λ x h. refl) a.stands)
 
-  top_mine : IsMine birth p3 top
-  top_mine = mine_kept birth p2 p3 (λ x. 0) (held r) top (b.step birth (omega arith)) refl (record { used = m.used; owned = m.owned birth (omega arith) })
+  top_writable : IsWritable birth p3 top
+  top_writable = writable_kept birth birth p2 p3 (λ x. 0) (occurrences r) top (b.step birth (omega arith)) refl (record { used = m.used; recent = m.recent birth (omega arith) })
 
   lengths : length run ≡ length low + length high + 1
   lengths = omega (arith, ap length run_is, length-append low (key ∷ high))
@@ -103,7 +107,7 @@ module _ (birth : ℕ) (p p1 p2 p3 : Nodes) (left right : Option ℕ) (top : ℕ
   near = halves (length low) (length high) (height l) (height r) le ge a.low a.high b.low b.high
 
   pub built_used : IsSome (node_at p3 top)
-  built_used = top_mine.used
+  built_used = top_writable.used
 
   pub built_left : length run < 2 ^ 64 → (Rattle.gs_tree.specs.Tree.IsRoot p3 left) × (height_at p3 left < 2 ^ 31)
   built_left small = (root_in p3 left l a.root left_there, omega (arith, height_in p3 left l a.root left_there, low_digits (height l) (length low) (omega (arith, lengths)) a.high))
@@ -114,7 +118,7 @@ module _ (birth : ℕ) (p p1 p2 p3 : Nodes) (left right : Option ℕ) (top : ℕ
   pub built : (p4 : Nodes) → Links p3 p4 top left key right birth → Built birth p p4 (Some top) run (tree_at p4 (Some top))
   built p4 link =
       let t = fork top birth l key r in
-      let k : Linked birth p3 p4 top birth l key r = linked_in birth p3 p4 top birth l key r left right link a.root b.root top_mine (omega arith) left_there b.stands apart in
+      let k : Linked birth p3 p4 top birth l key r = linked_in birth p3 p4 top birth l key r left right link a.root b.root top_writable (omega arith) left_there b.stands apart in
       let d = digits (length low) (length high) (height l) le ge a.low a.high in
       let h : height t ≡ suc (height l) = omega (arith, near.0) in
       subst (Built birth p p4 (Some top) run) (sym (tree_in p4 (Some top) t refl k.stands)) (record {
@@ -125,8 +129,8 @@ module _ (birth : ℕ) (p p1 p2 p3 : Nodes) (left right : Option ℕ) (top : ℕ
         descends = (a.born, b.born, a.descends, b.descends);
         born = omega arith;
         step = λ since young.
-            let n : Linked since p3 p4 top birth l key r = linked_in since p3 p4 top birth l key r left right link a.root b.root (record { used = top_mine.used; owned = λ x e. omega (arith, top_mine.owned x e) }) young left_there b.stands apart in
-            Step-then since p p3 p4 _ _ _ (steps since young) (Step-beside since p3 p4 (one top) (one top) (λ x. one top x + held l x + held r x) (held t) n.step (λ x. omega arith) (λ x. omega arith));
+            let n : Linked since p3 p4 top birth l key r = linked_in since p3 p4 top birth l key r left right link a.root b.root (record { used = top_writable.used; recent = λ x e. omega (arith, top_writable.recent x e) }) young left_there b.stands apart in
+            Step-then since birth p p3 p4 _ _ _ (steps since young) (Step-beside since birth p3 p4 (one top) (one top) (λ x. one top x + occurrences l x + occurrences r x) (occurrences t) n.step (λ x. omega arith) (λ x. omega arith));
         total = omega (arith, a.total, m.total, b.total, link.total, link.same);
         exact = omega (arith, a.exact, m.few, b.exact, link.same, lengths);
         marks = λ x. ap (λ ms. get_or ms x plain) link.marks ∙ b.marks x ∙ m.marks x ∙ a.marks x;
@@ -147,6 +151,7 @@ built_none birth p [] e = record {
     kept = λ x n e h. e;
     balance = λ x. refl;
     older = λ x n e h. e;
+    born = λ x n e. inl e;
     marks = λ x. inl refl;
   };
   total = omega arith;

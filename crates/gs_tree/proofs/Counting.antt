@@ -4,9 +4,9 @@ use Rattle.gs_pool.specs.Pool.{Nodes, NodeMark, plain, is_aside, node_at}
 use Rattle.std.proofs.lemmas.Bool.{cases_lt}
 use Rattle.std.proofs.lemmas.List.{get_or_past}
 use Rattle.std.proofs.lemmas.List.Sums.{sum_by-cons}
-use Rattle.gs_tree.specs.Tree.{Tree, leaf, fork, held, Stands, height, IsBalanced}
-use Rattle.gs_tree.specs.Steps.{plain01, one}
-use Rattle.gs_tree.proofs.TreeLemmas.{one_cases, one_same, plain01_most}
+use Rattle.gs_tree.specs.Tree.{Tree, leaf, fork, occurrences, Stands, height, IsBalanced}
+use Rattle.gs_tree.specs.Steps.{plain_count, one}
+use Rattle.gs_tree.proofs.TreeLemmas.{one_cases, one_same, plain_count_most}
 use Rattle.gs_tree.proofs.Heights.{size, height_digits}
 
 -- the sum of f at the numbers below n
@@ -41,25 +41,25 @@ below_one id (suc n) h = elim (one_cases id n) [
     lower ne = omega arith
 
 -- a tree's nodes are as many as its keys
-pub below_held : (t : Tree) (n : ℕ) → ((x : ℕ) → 0 < held t x → x < n) → below (held t) n ≡ size t
-below_held leaf n h = below_none n
-below_held (fork id birth l k r) n h =
-    let a = below_add (λ x. one id x + held l x) (held r) n in
-    let b = below_add (one id) (held l) n in
-    omega (arith, a, b, below_one id n (h id (omega (arith, one_same id))), below_held l n (λ x g. h x (omega arith)), below_held r n (λ x g. h x (omega arith)))
+pub below_occurrences : (t : Tree) (n : ℕ) → ((x : ℕ) → 0 < occurrences t x → x < n) → below (occurrences t) n ≡ size t
+below_occurrences leaf n h = below_none n
+below_occurrences (fork id birth l k r) n h =
+    let a = below_add (λ x. one id x + occurrences l x) (occurrences r) n in
+    let b = below_add (one id) (occurrences l) n in
+    omega (arith, a, b, below_one id n (h id (omega (arith, one_same id))), below_occurrences l n (λ x g. h x (omega arith)), below_occurrences r n (λ x g. h x (omega arith)))
 
 below_most : (f : ℕ → ℕ) (n : ℕ) → ((x : ℕ) → f x ≤ 1) → below f n ≤ n
 below_most f zero h = omega arith
 below_most f (suc n) h = omega (arith, below_most f n h, h n)
 
 -- each node of a tree is in use
-pub held_used : (p : Nodes) (t : Tree) → Stands p t → (x : ℕ) → 0 < held t x → IsSome (node_at p x)
-held_used p leaf s x h = absurd (omega arith)
-held_used p (fork id birth l k r) s x h = elim (one_cases id x) [
+pub occurrences_used : (p : Nodes) (t : Tree) → Stands p t → (x : ℕ) → 0 < occurrences t x → IsSome (node_at p x)
+occurrences_used p leaf s x h = absurd (omega arith)
+occurrences_used p (fork id birth l k r) s x h = elim (one_cases id x) [
   | inl here ↦ subst (λ y. IsSome (node_at p y)) here.0 (ap is_some s.0)
-  | inr other ↦ elim (cases_lt 0 (held l x)) [
-    | inl left ↦ held_used p l s.1 x left
-    | inr none ↦ held_used p r s.2 x (omega (arith, other.1))
+  | inr other ↦ elim (cases_lt 0 (occurrences l x)) [
+    | inl left ↦ occurrences_used p l s.1 x left
+    | inr none ↦ occurrences_used p r s.2 x (omega (arith, other.1))
   ]
 ]
 
@@ -71,15 +71,15 @@ used_within p x u = elim (cases_lt x (length p.nodes)) [
 ]
 
 -- a tree that has each of its nodes once has no more of them than the pool has places
-pub tree_size : (p : Nodes) (t : Tree) → Stands p t → ((x : ℕ) → held t x ≤ 1) → size t ≤ length p.nodes
-tree_size p t s once = omega (arith, below_held t (length p.nodes) (λ x h. used_within p x (held_used p t s x h)), below_most (held t) (length p.nodes) once)
+pub tree_size : (p : Nodes) (t : Tree) → Stands p t → ((x : ℕ) → occurrences t x ≤ 1) → size t ≤ length p.nodes
+tree_size p t s once = omega (arith, below_occurrences t (length p.nodes) (λ x h. used_within p x (occurrences_used p t s x h)), below_most (occurrences t) (length p.nodes) once)
 
 -- a tree of plain nodes has no more of them than the pool has places
-pub low_size : (p : Nodes) (t : Tree) → Stands p t → ((x : ℕ) → held t x ≤ plain01 p x) → length p.nodes < 2 ^ 32 → size t < 2 ^ 32
-low_size p t s apart small = omega (arith, tree_size p t s (λ x. omega (arith, apart x, plain01_most p x)))
+pub low_size : (p : Nodes) (t : Tree) → Stands p t → ((x : ℕ) → occurrences t x ≤ plain_count p x) → length p.nodes < 2 ^ 32 → size t < 2 ^ 32
+low_size p t s apart small = omega (arith, tree_size p t s (λ x. omega (arith, apart x, plain_count_most p x)))
 
 -- a balanced tree in a pool of fewer than 2 ^ 32 places is no higher than 64
-pub low_height : (p : Nodes) (t : Tree) → Stands p t → ((x : ℕ) → held t x ≤ plain01 p x) → IsBalanced t → length p.nodes < 2 ^ 32 → height t ≤ 64
+pub low_height : (p : Nodes) (t : Tree) → Stands p t → ((x : ℕ) → occurrences t x ≤ plain_count p x) → IsBalanced t → length p.nodes < 2 ^ 32 → height t ≤ 64
 low_height p t s apart balanced small = height_digits t 32 balanced (low_size p t s apart small)
 
 -- 1 for a replaced mark

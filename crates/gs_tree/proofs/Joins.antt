@@ -3,11 +3,11 @@ use Rattle.std.proofs.Common.{◌≡◌, ℕ, ◌+◌, ◌-◌, ◌<◌, ◌≤�
 use Rattle.gs_pool.specs.declared.nodes.Key.{Key}
 use Rattle.gs_pool.specs.declared.nodes.Node.{Node}
 use Rattle.gs_pool.specs.Pool.{Nodes, plain, node_at, mark_at}
-use Rattle.gs_tree.specs.Tree.{Tree, fork, height, keys, held, IsBalanced, BirthAtMost, Descends, height_at, tree_at, DifferByAtMost}
-use Rattle.gs_tree.specs.Steps.{plain01, one, Owns}
+use Rattle.gs_tree.specs.Tree.{Tree, fork, height, keys, occurrences, IsBalanced, BirthAtMost, Descends, height_at, tree_at, DifferByAtMost}
+use Rattle.gs_tree.specs.Steps.{plain_count, one, CopiesIfOlder}
 use Rattle.gs_tree.specs.Joining.{CanSettle, CanJoin, Settled, copies, joins}
 use Rattle.gs_pool.specs.Pool.{room}
-use Rattle.gs_tree.proofs.TreeLemmas.{one_same, plain01_most, Step-then, Step-beside, BirthAtMost-later}
+use Rattle.gs_tree.proofs.TreeLemmas.{one_same, plain_count_most, Step-then, Step-beside, BirthAtMost-later}
 use Rattle.gs_tree.proofs.Rotations.{height_in, tree_in, regroup}
 use Rattle.gs_tree.proofs.Costs.{copies_some, copies_add, copies_mono, joins_near, joins_level, joins_flip}
 use Rattle.gs_tree.proofs.Levels.{Opened, opened, ChildDone, child_done, settled_low, top_stays, top_plain}
@@ -23,8 +23,8 @@ module _ (since birth : ℕ) (p : Nodes) (top : ℕ) (key : Key) (left : Option 
   near : IsBalanced (fork id o.birth o.l node.key o.r)
   near = subst IsBalanced o.is can.can.left_balanced
 
-  apart_in : (i : ℕ) → one top i + one id i + held o.l i + held o.r i + held r i ≤ plain01 p i
-  apart_in i = omega (arith, can.can.apart i, ap (λ u. held u i) o.is)
+  apart_in : (i : ℕ) → one top i + one id i + occurrences o.l i + occurrences o.r i + occurrences r i ≤ plain_count p i
+  apart_in i = omega (arith, can.can.apart i, ap (λ u. occurrences u i) o.is)
 
   inner_is : tree_at p node.right ≡ o.r
   inner_is = tree_in p node.right o.r o.right_is o.sr
@@ -51,7 +51,7 @@ module _ (since birth : ℕ) (p : Nodes) (top : ℕ) (key : Key) (left : Option 
       left_balanced = near.2;
       right_balanced = can.can.right_balanced;
       apart = λ i. omega (arith, apart_in i);
-      mine = can.can.mine;
+      writable = can.can.writable;
       left_fits = omega (arith, heights, can.can.left_fits);
       right_fits = can.can.right_fits;
       has_room = can.can.has_room;
@@ -64,10 +64,10 @@ module _ (since birth : ℕ) (p : Nodes) (top : ℕ) (key : Key) (left : Option 
     i = subst (λ u. Settled since birth p p1 top inner key u r (tree_at p1 (Some inner))) inner_is i0
 
     pub right_used : IsSome (node_at p1 id)
-    right_used = top_stays since p p1 id node (λ x. one top x + held o.r x + held r x) (held (tree_at p1 (Some inner))) found (omega (arith, apart_in id, one_same id, plain01_most p id)) i.step
+    right_used = top_stays since birth p p1 id node (λ x. one top x + occurrences o.r x + occurrences r x) (occurrences (tree_at p1 (Some inner))) found (omega (arith, apart_in id, one_same id, plain_count_most p id)) i.step
 
     pub right_plain : mark_at p1 id ≡ plain
-    right_plain = top_plain since p p1 id (λ x. one top x + held o.r x + held r x) (held (tree_at p1 (Some inner))) (held o.l) i.step (λ x. omega (arith, apart_in x))
+    right_plain = top_plain since birth p p1 id (λ x. one top x + occurrences o.r x + occurrences r x) (occurrences (tree_at p1 (Some inner))) (occurrences o.l) i.step (λ x. omega (arith, apart_in x))
 
     right_left : copies since 1 + copies since 2 ≤ room p1
     right_left = omega (arith, spare, i.total, i.few, copies_mono since (joins (height o.r) (height r)) (joins (height o.r) (height r) + 2) (omega arith))
@@ -75,9 +75,9 @@ module _ (since birth : ℕ) (p : Nodes) (top : ℕ) (key : Key) (left : Option 
     pub right_room : 0 < since → 0 < room p1
     right_room h = omega (arith, right_left, copies_some since 1 h)
 
-    module _ (p2 : Nodes) (turned : ℕ) (w : Owns p1 p2 since id turned) where
-      after : ChildDone since p p2 id turned (λ x. one top x + held o.r x + held r x) (tree_at p1 (Some inner)) o.l
-      after = child_done since p p1 p2 id turned (λ x. one top x + held o.r x + held r x) (tree_at p1 (Some inner)) o.l o.sl
+    module _ (p2 : Nodes) (turned : ℕ) (w : CopiesIfOlder since birth p1 p2 id turned) where
+      after : ChildDone since birth p p2 id turned (λ x. one top x + occurrences o.r x + occurrences r x) (tree_at p1 (Some inner)) o.l
+      after = child_done since birth p p1 p2 id turned (λ x. one top x + occurrences o.r x + occurrences r x) (tree_at p1 (Some inner)) o.l o.sl
           (λ x. omega (arith, apart_in x))
           i.stands i.step w
 
@@ -105,7 +105,7 @@ module _ (since birth : ℕ) (p : Nodes) (top : ℕ) (key : Key) (left : Option 
             left_balanced = near.1;
             right_balanced = i.balanced;
             apart = λ j. omega (arith, after.apart j);
-            mine = after.mine;
+            writable = after.writable;
             left_fits = omega (arith, heights, can.can.left_fits);
             right_fits = omega (arith, heights, can.can.left_fits, i.height_is.1, low.0, high);
             has_room = λ h. omega (arith, right_left, w.total, w.few, copies_some since 1 h, copies_some since 2 h);
@@ -136,7 +136,7 @@ module _ (since birth : ℕ) (p : Nodes) (top : ℕ) (key : Key) (left : Option 
             births = λ dl dr bl br. let e : Descends (fork id o.birth o.l node.key o.r) = subst Descends o.is dl in let f : o.birth ≤ birth = subst (BirthAtMost birth) o.is bl in
                 let ch = i.births e.3 dr (BirthAtMost-later o.birth birth o.r f e.1) br in s.births e.2 ch.0 (BirthAtMost-later o.birth birth o.l f e.0) ch.1;
             height_is = (omega (arith, heights, up), omega (arith, heights, low.1), λ e. absurd (let g : height l ≤ height r + 1 = e.0 in omega arith));
-            step = Step-beside since p p3 _ _ _ _ (Step-then since p p2 p3 _ _ _ after.step (Step-beside since p2 p3 (λ x. one turned x + held o.l x + held j x) (held new) (λ x. one turned x + held j x + held o.l x) (held new) s.step (λ x. omega arith) (λ x. omega arith))) (λ x. omega (arith, ap (λ u. held u x) o.is)) (λ x. omega (arith, ap (λ u. held u x) o.is));
+            step = Step-beside since birth p p3 _ _ _ _ (Step-then since birth p p2 p3 _ _ _ after.step (Step-beside since birth p2 p3 (λ x. one turned x + occurrences o.l x + occurrences j x) (occurrences new) (λ x. one turned x + occurrences j x + occurrences o.l x) (occurrences new) s.step (λ x. omega arith) (λ x. omega arith))) (λ x. omega (arith, ap (λ u. occurrences u x) o.is)) (λ x. omega (arith, ap (λ u. occurrences u x) o.is));
             total = omega (arith, i.total, w.total, s.total);
             few = omega (arith, i.few, w.few, s.few, cost, joins_near since (height o.l) (height j) within);
             exact = omega (arith, i.exact, w.exact, s.exact);
@@ -153,8 +153,8 @@ module _ (since birth : ℕ) (p : Nodes) (top : ℕ) (key : Key) (left : Option 
   r_near : IsBalanced (fork id ro.birth ro.l node.key ro.r)
   r_near = subst IsBalanced ro.is can.can.right_balanced
 
-  r_apart_in : (i : ℕ) → one top i + one id i + held ro.l i + held ro.r i + held l i ≤ plain01 p i
-  r_apart_in i = omega (arith, can.can.apart i, ap (λ u. held u i) ro.is)
+  r_apart_in : (i : ℕ) → one top i + one id i + occurrences ro.l i + occurrences ro.r i + occurrences l i ≤ plain_count p i
+  r_apart_in i = omega (arith, can.can.apart i, ap (λ u. occurrences u i) ro.is)
 
   r_inner_is : tree_at p node.left ≡ ro.l
   r_inner_is = tree_in p node.left ro.l ro.left_is ro.sl
@@ -181,7 +181,7 @@ module _ (since birth : ℕ) (p : Nodes) (top : ℕ) (key : Key) (left : Option 
       left_balanced = can.can.left_balanced;
       right_balanced = r_near.1;
       apart = λ i. omega (arith, r_apart_in i);
-      mine = can.can.mine;
+      writable = can.can.writable;
       left_fits = can.can.left_fits;
       right_fits = omega (arith, r_heights, can.can.right_fits);
       has_room = can.can.has_room;
@@ -194,10 +194,10 @@ module _ (since birth : ℕ) (p : Nodes) (top : ℕ) (key : Key) (left : Option 
     k = subst (λ u. Settled since birth p p1 top inner key l u (tree_at p1 (Some inner))) r_inner_is i0
 
     pub left_used : IsSome (node_at p1 id)
-    left_used = top_stays since p p1 id node (λ x. one top x + held l x + held ro.l x) (held (tree_at p1 (Some inner))) found (omega (arith, r_apart_in id, one_same id, plain01_most p id)) k.step
+    left_used = top_stays since birth p p1 id node (λ x. one top x + occurrences l x + occurrences ro.l x) (occurrences (tree_at p1 (Some inner))) found (omega (arith, r_apart_in id, one_same id, plain_count_most p id)) k.step
 
     pub left_plain : mark_at p1 id ≡ plain
-    left_plain = top_plain since p p1 id (λ x. one top x + held l x + held ro.l x) (held (tree_at p1 (Some inner))) (held ro.r) k.step (λ x. omega (arith, r_apart_in x))
+    left_plain = top_plain since birth p p1 id (λ x. one top x + occurrences l x + occurrences ro.l x) (occurrences (tree_at p1 (Some inner))) (occurrences ro.r) k.step (λ x. omega (arith, r_apart_in x))
 
     left_left : copies since 1 + copies since 2 ≤ room p1
     left_left = omega (arith, r_spare, k.total, k.few, copies_mono since (joins (height l) (height ro.l)) (joins (height l) (height ro.l) + 2) (omega arith))
@@ -205,9 +205,9 @@ module _ (since birth : ℕ) (p : Nodes) (top : ℕ) (key : Key) (left : Option 
     pub left_room : 0 < since → 0 < room p1
     left_room h = omega (arith, left_left, copies_some since 1 h)
 
-    module _ (p2 : Nodes) (turned : ℕ) (w : Owns p1 p2 since id turned) where
-      r_after : ChildDone since p p2 id turned (λ x. one top x + held l x + held ro.l x) (tree_at p1 (Some inner)) ro.r
-      r_after = child_done since p p1 p2 id turned (λ x. one top x + held l x + held ro.l x) (tree_at p1 (Some inner)) ro.r ro.sr
+    module _ (p2 : Nodes) (turned : ℕ) (w : CopiesIfOlder since birth p1 p2 id turned) where
+      r_after : ChildDone since birth p p2 id turned (λ x. one top x + occurrences l x + occurrences ro.l x) (tree_at p1 (Some inner)) ro.r
+      r_after = child_done since birth p p1 p2 id turned (λ x. one top x + occurrences l x + occurrences ro.l x) (tree_at p1 (Some inner)) ro.r ro.sr
           (λ x. omega (arith, r_apart_in x))
           k.stands k.step w
 
@@ -235,7 +235,7 @@ module _ (since birth : ℕ) (p : Nodes) (top : ℕ) (key : Key) (left : Option 
             left_balanced = k.balanced;
             right_balanced = r_near.2;
             apart = r_after.apart;
-            mine = r_after.mine;
+            writable = r_after.writable;
             left_fits = omega (arith, r_heights, can.can.right_fits, k.height_is.1, r_low.0, high);
             right_fits = omega (arith, r_heights, can.can.right_fits);
             has_room = λ h. omega (arith, left_left, w.total, w.few, copies_some since 1 h, copies_some since 2 h);
@@ -266,7 +266,7 @@ module _ (since birth : ℕ) (p : Nodes) (top : ℕ) (key : Key) (left : Option 
             births = λ dl dr bl br. let e : Descends (fork id ro.birth ro.l node.key ro.r) = subst Descends ro.is dr in let f : ro.birth ≤ birth = subst (BirthAtMost birth) ro.is br in
                 let ch = k.births dl e.2 bl (BirthAtMost-later ro.birth birth ro.l f e.0) in s.births ch.0 e.3 ch.1 (BirthAtMost-later ro.birth birth ro.r f e.1);
             height_is = (omega (arith, r_heights, up), omega (arith, r_heights, r_low.1), λ e. absurd (let g : height r ≤ height l + 1 = e.1 in omega arith));
-            step = Step-beside since p p3 _ _ _ _ (Step-then since p p2 p3 _ _ _ r_after.step s.step) (λ x. omega (arith, ap (λ u. held u x) ro.is)) (λ x. omega (arith, ap (λ u. held u x) ro.is));
+            step = Step-beside since birth p p3 _ _ _ _ (Step-then since birth p p2 p3 _ _ _ r_after.step s.step) (λ x. omega (arith, ap (λ u. occurrences u x) ro.is)) (λ x. omega (arith, ap (λ u. occurrences u x) ro.is));
             total = omega (arith, k.total, w.total, s.total);
             few = omega (arith, k.few, w.few, s.few, r_cost, joins_near since (height j) (height ro.r) r_within);
             exact = omega (arith, k.exact, w.exact, s.exact);

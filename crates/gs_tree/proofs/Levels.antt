@@ -3,10 +3,10 @@ use Rattle.std.proofs.Common.{◌≡◌, ℕ, ◌+◌, ◌≤◌, max, Option, S
 use Rattle.std.proofs.lemmas.Bool.{cases_lt}
 use Rattle.gs_pool.specs.declared.nodes.Node.{Node}
 use Rattle.gs_pool.specs.Pool.{Nodes, plain, node_at, mark_at}
-use Rattle.gs_tree.specs.Tree.{Tree, leaf, fork, root_of, held, top_node, Stands}
-use Rattle.gs_tree.specs.Steps.{plain01, one, Step, IsMine, Owns}
+use Rattle.gs_tree.specs.Tree.{Tree, leaf, fork, root_of, occurrences, top_node, Stands}
+use Rattle.gs_tree.specs.Steps.{plain_count, one, Step, IsWritable, CopiesIfOlder}
 use Rattle.gs_tree.specs.Joining.{IsHeightAfter}
-use Rattle.gs_tree.proofs.TreeLemmas.{one_same, plain01_most, plain_found, Stands-step, Step-then, Step-beside, Owns-step}
+use Rattle.gs_tree.proofs.TreeLemmas.{one_same, plain_count_most, plain_found, Stands-step, Step-then, Step-beside, CopiesIfOlder-step}
 
 -- the top of a tree that a root names
 pub record Opened (p : Nodes) (id : ℕ) (node : Node) (t : Tree) : Type 0 where
@@ -39,43 +39,43 @@ opened p root id node (fork i birth l k r) e s is found =
     }
 
 -- the top of a tree of plain nodes is plain
-pub root_plain : (p : Nodes) (root : Option ℕ) (id : ℕ) (node : Node) (t : Tree) → root ≡ root_of t → Stands p t → root ≡ Some id → node_at p id ≡ Some node → ((x : ℕ) → held t x ≤ plain01 p x) → mark_at p id ≡ plain
+pub root_plain : (p : Nodes) (root : Option ℕ) (id : ℕ) (node : Node) (t : Tree) → root ≡ root_of t → Stands p t → root ≡ Some id → node_at p id ≡ Some node → ((x : ℕ) → occurrences t x ≤ plain_count p x) → mark_at p id ≡ plain
 root_plain p root id node t e s is found apart =
     let o = opened p root id node t e s is found in
-    (plain_found p id (omega (arith, apart id, ap (λ u. held u id) o.is, one_same id))).1
+    (plain_found p id (omega (arith, apart id, ap (λ u. occurrences u id) o.is, one_same id))).1
 
 -- the top stays plain while a side changes
-pub top_plain : (since : ℕ) (p q : Nodes) (id : ℕ) (a b c : ℕ → ℕ) → Step since p q a b → ((x : ℕ) → one id x + a x + c x ≤ plain01 p x) → mark_at q id ≡ plain
-top_plain since p q id a b c s within = (plain_found q id (omega (arith, s.balance id, within id, one_same id))).1
+pub top_plain : (since birth : ℕ) (p q : Nodes) (id : ℕ) (a b c : ℕ → ℕ) → Step since birth p q a b → ((x : ℕ) → one id x + a x + c x ≤ plain_count p x) → mark_at q id ≡ plain
+top_plain since birth p q id a b c s within = (plain_found q id (omega (arith, s.balance id, within id, one_same id))).1
 
 -- the sides do not have the top
-pub side_off : (p : Nodes) (id : ℕ) (node : Node) (t : Tree) (o : Opened p id node t) → ((x : ℕ) → held t x ≤ plain01 p x) → (held o.l id ≡ 0) × (held o.r id ≡ 0)
-side_off p id node t o apart = let a = apart id in let e = ap (λ u. held u id) o.is in let s = one_same id in let m = plain01_most p id in (omega arith, omega arith)
+pub side_off : (p : Nodes) (id : ℕ) (node : Node) (t : Tree) (o : Opened p id node t) → ((x : ℕ) → occurrences t x ≤ plain_count p x) → (occurrences o.l id ≡ 0) × (occurrences o.r id ≡ 0)
+side_off p id node t o apart = let a = apart id in let e = ap (λ u. occurrences u id) o.is in let s = one_same id in let m = plain_count_most p id in (omega arith, omega arith)
 
 -- the top stays in use while a side changes
-pub top_stays : (since : ℕ) (p q : Nodes) (id : ℕ) (node : Node) (a b : ℕ → ℕ) → node_at p id ≡ Some node → a id ≡ 0 → Step since p q a b → IsSome (node_at q id)
-top_stays since p q id node a b found off s = ap is_some (s.kept id node found (inl off))
+pub top_stays : (since birth : ℕ) (p q : Nodes) (id : ℕ) (node : Node) (a b : ℕ → ℕ) → node_at p id ≡ Some node → a id ≡ 0 → Step since birth p q a b → IsSome (node_at q id)
+top_stays since birth p q id node a b found off s = ap is_some (s.kept id node found (inl off))
 
--- what a side held became the tree a', and the node above it is one's own
-pub record ChildDone (since : ℕ) (p q : Nodes) (id top : ℕ) (a : ℕ → ℕ) (a' b : Tree) : Type 0 where
+-- a side became the tree a', and the node above it may be written
+pub record ChildDone (since birth : ℕ) (p q : Nodes) (id top : ℕ) (a : ℕ → ℕ) (a' b : Tree) : Type 0 where
   pub child : Stands q a'
   pub other : Stands q b
-  pub mine : IsMine since q top
-  pub apart : (i : ℕ) → one top i + held a' i + held b i ≤ plain01 q i
-  pub step : Step since p q (λ i. one id i + a i + held b i) (λ i. one top i + held a' i + held b i)
+  pub writable : IsWritable since q top
+  pub apart : (i : ℕ) → one top i + occurrences a' i + occurrences b i ≤ plain_count q i
+  pub step : Step since birth p q (λ i. one id i + a i + occurrences b i) (λ i. one top i + occurrences a' i + occurrences b i)
 
-pub child_done : (since : ℕ) (p p1 p2 : Nodes) (id top : ℕ) (a : ℕ → ℕ) (a' b : Tree) → Stands p b → ((i : ℕ) → one id i + a i + held b i ≤ plain01 p i) → Stands p1 a' → Step since p p1 a (held a') → Owns p1 p2 since id top → ChildDone since p p2 id top a a' b
-child_done since p p1 p2 id top a a' b sb within sa' s o =
-    let own = Owns-step since p1 p2 id top o in
-    let apart1 : (i : ℕ) → one id i + held a' i + held b i ≤ 1 = λ i. omega (arith, s.balance i, within i, plain01_most p1 i) in
-    let s1 : Step since p p1 (λ i. one id i + a i + held b i) (λ i. one id i + held a' i + held b i) = Step-beside since p p1 a (held a') _ _ s (λ i. omega arith) (λ i. omega arith) in
-    let s2 : Step since p1 p2 (λ i. one id i + held a' i + held b i) (λ i. one top i + held a' i + held b i) = Step-beside since p1 p2 (one id) (one top) _ _ own (λ i. omega arith) (λ i. omega arith) in
-    let both = Step-then since p p1 p2 _ _ _ s1 s2 in
-    let sb1 : Stands p1 b = Stands-step since p p1 a (held a') b s (λ i h. omega (arith, within i, plain01_most p i)) sb in
+pub child_done : (since birth : ℕ) (p p1 p2 : Nodes) (id top : ℕ) (a : ℕ → ℕ) (a' b : Tree) → Stands p b → ((i : ℕ) → one id i + a i + occurrences b i ≤ plain_count p i) → Stands p1 a' → Step since birth p p1 a (occurrences a') → CopiesIfOlder since birth p1 p2 id top → ChildDone since birth p p2 id top a a' b
+child_done since birth p p1 p2 id top a a' b sb within sa' s o =
+    let copied = CopiesIfOlder-step since birth p1 p2 id top o in
+    let apart1 : (i : ℕ) → one id i + occurrences a' i + occurrences b i ≤ 1 = λ i. omega (arith, s.balance i, within i, plain_count_most p1 i) in
+    let s1 : Step since birth p p1 (λ i. one id i + a i + occurrences b i) (λ i. one id i + occurrences a' i + occurrences b i) = Step-beside since birth p p1 a (occurrences a') _ _ s (λ i. omega arith) (λ i. omega arith) in
+    let s2 : Step since birth p1 p2 (λ i. one id i + occurrences a' i + occurrences b i) (λ i. one top i + occurrences a' i + occurrences b i) = Step-beside since birth p1 p2 (one id) (one top) _ _ copied (λ i. omega arith) (λ i. omega arith) in
+    let both = Step-then since birth p p1 p2 _ _ _ s1 s2 in
+    let sb1 : Stands p1 b = Stands-step since birth p p1 a (occurrences a') b s (λ i h. omega (arith, within i, plain_count_most p i)) sb in
     record {
-      child = Stands-step since p1 p2 (one id) (one top) a' own (λ i h. omega (arith, apart1 i)) sa';
-      other = Stands-step since p1 p2 (one id) (one top) b own (λ i h. omega (arith, apart1 i)) sb1;
-      mine = record { used = o.used; owned = o.owned };
+      child = Stands-step since birth p1 p2 (one id) (one top) a' copied (λ i h. omega (arith, apart1 i)) sa';
+      other = Stands-step since birth p1 p2 (one id) (one top) b copied (λ i h. omega (arith, apart1 i)) sb1;
+      writable = record { used = o.used; recent = o.recent };
       apart = λ i. omega (arith, both.balance i, within i);
       step = both;
     }

@@ -35,8 +35,8 @@ cut_length cmp key run low high c = elim c.parts [
   | inr e ↦ omega (arith, ap length e.1, length-append low (e.0 ∷ high))
 ]
 
-pub cut_of : (cmp : Key → Key → Ordering) (key : Key) (run low high : List Key) (before behind : ℕ) → Places cmp key run before behind → low ≡ take before run → high ≡ drop behind run → Cut cmp key run low high
-cut_of cmp key run low high before behind p el eh = record {
+pub cut_of : (cmp : Key → Key → Ordering) (key : Key) (run low high : List Key) (before after : ℕ) → Places cmp key run before after → low ≡ take before run → high ≡ drop after run → Cut cmp key run low high
+cut_of cmp key run low high before after p el eh = record {
   below = subst (AllKeys (λ x. cmp x key ≡ Less)) (sym el) p.below;
   above = subst (AllKeys (λ x. cmp key x ≡ Less)) (sym eh) p.above;
   parts = elim p.here [

@@ -7,11 +7,11 @@ use Rattle.std.specs.Cmp.{IsTotalOrder}
 use Rattle.gs_pool.specs.declared.nodes.Key.{Key}
 use Rattle.gs_pool.specs.declared.nodes.Node.{Node}
 use Rattle.gs_pool.specs.Pool.{Nodes, node_at}
-use Rattle.gs_tree.specs.Tree.{height, held, keys, height_at, tree_at}
+use Rattle.gs_tree.specs.Tree.{height, occurrences, keys, height_at, tree_at}
 use Rattle.gs_tree.specs.Keys.{IsRising, HasKey}
 use Rattle.gs_tree.specs.Reading.{IsReadableAt, IsTreeAt, keys_at, is_less, is_past, keys_from, first_of}
 use Rattle.gs_tree.specs.Sets.{IsSetAt}
-use Rattle.gs_tree.proofs.TreeLemmas.{plain01_most}
+use Rattle.gs_tree.proofs.TreeLemmas.{plain_count_most}
 use Rattle.gs_tree.proofs.Order.{rising_front, rising_back}
 use Rattle.gs_tree.proofs.RemovalOrder.{has_left, has_right}
 use Rattle.gs_tree.proofs.FromLemmas.{or_else, first_append, from_past, from_not_past, has_front, has_back, has_after}
@@ -93,8 +93,8 @@ counted p root id node c is found =
     let right_is : tree_at p node.right ≡ o.r = tree_in p node.right o.r o.right_is o.sr in
     let high : height_at p root ≡ height (tree_at p root) = height_in p root (tree_at p root) c.root_is c.stands in
     record {
-      left_tree = record { root_is = rw left_is o.left_is; stands = rw left_is o.sl; once = rw left_is (λ x. omega (arith, c.once x, ap (λ u. held u x) o.is)) };
-      right_tree = record { root_is = rw right_is o.right_is; stands = rw right_is o.sr; once = rw right_is (λ x. omega (arith, c.once x, ap (λ u. held u x) o.is)) };
+      left_tree = record { root_is = rw left_is o.left_is; stands = rw left_is o.sl; once = rw left_is (λ x. omega (arith, c.once x, ap (λ u. occurrences u x) o.is)) };
+      right_tree = record { root_is = rw right_is o.right_is; stands = rw right_is o.sr; once = rw right_is (λ x. omega (arith, c.once x, ap (λ u. occurrences u x) o.is)) };
       left_falls = omega (arith, height_in p node.left o.l o.left_is o.sl, high, ap height o.is);
       right_falls = omega (arith, height_in p node.right o.r o.right_is o.sr, high, ap height o.is);
       count = rw (left_is, right_is) (omega (arith, ap (λ u. length (keys u)) o.is, length-append (keys o.l) (node.key ∷ keys o.r)));
@@ -107,7 +107,7 @@ set_readable cmp p root s = record { root_is = s.root_is; stands = s.stands; ris
 
 -- it has each of its nodes once
 pub set_tree : (cmp : Key → Key → Ordering) (p : Nodes) (root : Option ℕ) → IsSetAt cmp p root → IsTreeAt p root
-set_tree cmp p root s = record { root_is = s.root_is; stands = s.stands; once = λ x. omega (arith, s.apart x, plain01_most p x) }
+set_tree cmp p root s = record { root_is = s.root_is; stands = s.stands; once = λ x. omega (arith, s.apart x, plain_count_most p x) }
 
 -- no root means the empty set
 pub empty_set : (cmp : Key → Key → Ordering) (p : Nodes) → IsSetAt cmp p None

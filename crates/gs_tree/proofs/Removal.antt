@@ -10,16 +10,17 @@ use Rattle.gs_tree.proofs.RemovalOrder.{remove_left, remove_right, remove_here, 
 use Rattle.gs_tree.proofs.Heights.{height_digits, size-keys}
 use Rattle.gs_pool.specs.declared.nodes.Key.{Key}
 use Rattle.gs_pool.specs.declared.nodes.Node.{Node}
-use Rattle.gs_pool.specs.Pool.{Nodes, plain, replaced, node_at, mark_at, in_use, room, Updates, Marks, KeepsMarks}
-use Rattle.gs_tree.specs.Tree.{Tree, leaf, fork, root_of, height, keys, held, Stands, IsBalanced, BirthAtMost, Descends, height_at, tree_at, DifferByAtMost}
-use Rattle.gs_tree.specs.Steps.{plain01, plain_mark, one, Step, IsOlder, Owns}
+use Rattle.gs_pool.specs.Pool.{Nodes, plain, replaced, is_aside, node_at, mark_at, in_use, aside_count, room, Updates, Marks, KeepsMarks}
+use Rattle.gs_tree.specs.Tree.{Tree, leaf, fork, root_of, height, keys, occurrences, Stands, IsBalanced, BirthAtMost, Descends, height_at, tree_at, DifferByAtMost}
+use Rattle.gs_tree.specs.Steps.{plain_count, plain_mark, one, Step, IsOlder, CopiesIfOlder}
 use Rattle.gs_tree.specs.Joining.{CanSettle, Settled, copies, IsHeightAfter}
 use Rattle.gs_tree.specs.Shrinking.{CanShrink, Shrinks, Discards, remove_cost}
 use Rattle.gs_tree.specs.Sets.{IsSet, Removes}
-use Rattle.gs_tree.proofs.TreeLemmas.{Stands-same, plain01_none, plain01_some, plain01_same, plain01_mark, one_cases, plain01_most, Stands-step, Step-then, Step-beside, BirthAtMost-later, birth_same, tree_at-is}
+use Rattle.gs_tree.proofs.TreeLemmas.{Stands-same, plain_count_none, plain_count_some, plain_count_same, plain_count_mark, one_cases, plain_count_most, Stands-step, Step-then, Step-beside, BirthAtMost-later, birth_same, tree_at-is}
 use Rattle.gs_tree.proofs.Rotations.{height_in, tree_in}
 use Rattle.gs_tree.proofs.Levels.{Opened, opened, ChildDone, child_done, side_off, top_stays, top_plain, root_plain}
-use Rattle.gs_tree.proofs.Costs.{copies_some, copies_add, copies_mono, joins_near}
+use Rattle.gs_tree.proofs.Costs.{copies_some, copies_most, copies_add, copies_mono, joins_near}
+use Rattle.gs_tree.proofs.Counting.{same_marks}
 
 -- a tree whose side fell by one level at most is one lower at most
 shrunk : (l l' r n : ℕ) → l ≤ r + 1 → r ≤ l + 1 → l' ≤ l → l ≤ l' + 1 → IsHeightAfter l' r n → (n ≤ max l r + 1) × (max l r ≤ n)
@@ -39,32 +40,34 @@ no_root_leaf leaf e = refl
 no_root_leaf (fork id birth l k r) e = absurd (cc)
 
 -- a number goes on the list
-pub drop_discards : (since : ℕ) (p q : Nodes) (id : ℕ) (n : Node) → node_at p id ≡ Some n → n.birth < since → mark_at p id ≡ plain → Marks p q id replaced → Discards since p q id
-drop_discards since p q id n found old was m =
+pub drop_discards : (since : ℕ) (p q : Nodes) (id : ℕ) (n : Node) → node_at p id ≡ Some n → n.birth < since → mark_at p id ≡ plain → Marks p q id replaced → aside_count q ≡ aside_count p + 1 → Discards since p q id
+drop_discards since p q id n found old was m more =
     let at : (x : ℕ) → node_at q x ≡ node_at p x = λ x. ap (λ s. Rattle.std.proofs.Common.get_or s x None) m.nodes in
     let free = ap (λ s. Rattle.std.specs.Prelude.count_by Rattle.std.specs.Prelude.is_none s) m.nodes in
     let used = ap (λ s. Rattle.std.specs.Prelude.count_by is_some s) m.nodes in
     record {
-      step = record {
+      step = λ birth. record {
         kept = λ x k e h. at x ∙ e;
         balance = λ x. elim (one_cases id x) [
-          | inl here ↦ omega (arith, here.1, subst (λ i. plain01 p i ≡ 1) here.0 (plain01_some p id n found was), subst (λ i. plain01 q i ≡ 0) here.0 (plain01_mark q id (ap is_some (at id ∙ found)) ∙ ap plain_mark m.changed))
-          | inr ne ↦ omega (arith, ne.1, plain01_same p q x (at x) (m.others x (λ f. ne.0 (sym f))))
+          | inl here ↦ omega (arith, here.1, subst (λ i. plain_count p i ≡ 1) here.0 (plain_count_some p id n found was), subst (λ i. plain_count q i ≡ 0) here.0 (plain_count_mark q id (ap is_some (at id ∙ found)) ∙ ap plain_mark m.changed))
+          | inr ne ↦ omega (arith, ne.1, plain_count_same p q x (at x) (m.others x (λ f. ne.0 (sym f))))
         ];
         older = λ x k e h. sym (at x) ∙ e;
+        born = λ x k e. inl (sym (at x) ∙ e);
         marks = λ x. elim (cases_eq x id) [
           | inl here ↦ inr (subst (λ i. IsOlder since p i × (mark_at p i ≡ plain) × (mark_at q i ≡ replaced)) (sym here) ((n, found, old), was, m.changed))
           | inr ne ↦ inl (m.others x ne)
         ];
       };
       total = omega (arith, free, used, m.spare);
+      exact = omega (arith, used, more);
       few = omega (arith, used);
     }
 
 -- a number is free again
 pub free_discards : (since : ℕ) (p q : Nodes) (id : ℕ) (n : Node) → node_at p id ≡ Some n → since ≤ n.birth → mark_at p id ≡ plain → Updates p q id None → KeepsMarks p q → room q ≡ room p + 1 → in_use q + 1 ≡ in_use p → Discards since p q id
 free_discards since p q id n found young was up marks rooms used = record {
-  step = record {
+  step = λ birth. record {
     kept = λ x m e h. elim (one_cases id x) [
       | inl here ↦ elim h [
         | inl none ↦ absurd (omega (arith, here.1))
@@ -73,16 +76,21 @@ free_discards since p q id n found young was up marks rooms used = record {
       | inr ne ↦ up.others x (λ f. ne.0 (sym f)) ∙ e
     ];
     balance = λ x. elim (one_cases id x) [
-      | inl here ↦ omega (arith, here.1, subst (λ y. plain01 p y ≡ 1) here.0 (plain01_some p id n found was), subst (λ y. plain01 q y ≡ 0) here.0 (plain01_none q id up.changed))
-      | inr ne ↦ omega (arith, ne.1, plain01_same p q x (up.others x (λ f. ne.0 (sym f))) (marks x))
+      | inl here ↦ omega (arith, here.1, subst (λ y. plain_count p y ≡ 1) here.0 (plain_count_some p id n found was), subst (λ y. plain_count q y ≡ 0) here.0 (plain_count_none q id up.changed))
+      | inr ne ↦ omega (arith, ne.1, plain_count_same p q x (up.others x (λ f. ne.0 (sym f))) (marks x))
     ];
     older = λ x m e h. elim (cases_eq x id) [
       | inl here ↦ absurd (let f : node_at q id ≡ Some m = subst (λ y. node_at q y ≡ Some m) here e in let bad : None ≡ Some m = sym up.changed ∙ f in cc)
       | inr ne ↦ sym (up.others x ne) ∙ e
     ];
+    born = λ x m e. elim (cases_eq x id) [
+      | inl here ↦ absurd (let f : node_at q id ≡ Some m = subst (λ y. node_at q y ≡ Some m) here e in let bad : None ≡ Some m = sym up.changed ∙ f in cc)
+      | inr ne ↦ inl (sym (up.others x ne) ∙ e)
+    ];
     marks = λ x. inl (marks x);
   };
   total = omega (arith, rooms, used);
+  exact = omega (arith, used, same_marks q.marks p.marks (λ x. marks x));
   few = omega arith;
 }
 
@@ -90,8 +98,8 @@ module _ (since birth : ℕ) (p : Nodes) (root : Option ℕ) (t : Tree) (can : C
   pub o : Opened p id node t
   o = opened p root id node t can.root_is can.stands is found
 
-  apart_in : (i : ℕ) → one id i + held o.l i + held o.r i ≤ plain01 p i
-  apart_in i = omega (arith, can.apart i, ap (λ u. held u i) o.is)
+  apart_in : (i : ℕ) → one id i + occurrences o.l i + occurrences o.r i ≤ plain_count p i
+  apart_in i = omega (arith, can.apart i, ap (λ u. occurrences u i) o.is)
 
   heights : height t ≡ max (height o.l) (height o.r) + 1
   heights = ap height o.is
@@ -129,13 +137,10 @@ module _ (since birth : ℕ) (p : Nodes) (root : Option ℕ) (t : Tree) (can : C
   pub here_plain : mark_at p id ≡ plain
   here_plain = root_plain p root id node t can.root_is can.stands is found can.apart
 
-  pub room_left : 0 < room p
-  room_left = omega (arith, can.has_room)
-
   -- the top goes, and one side is empty
-  top_goes : (q : Nodes) (side : Option ℕ) (a : Tree) → Discards since p q id → side ≡ root_of a → Stands p a → IsBalanced a → ((x : ℕ) → held t x ≡ one id x + held a x) → height t ≡ height a + 1 → (Descends t → BirthAtMost birth t → Descends a × BirthAtMost birth a) → Shrinks since birth p q side t (tree_at q side)
+  top_goes : (q : Nodes) (side : Option ℕ) (a : Tree) → Discards since p q id → side ≡ root_of a → Stands p a → IsBalanced a → ((x : ℕ) → occurrences t x ≡ one id x + occurrences a x) → height t ≡ height a + 1 → (Descends t → BirthAtMost birth t → Descends a × BirthAtMost birth a) → Shrinks since birth p q side t (tree_at q side)
   top_goes q side a d side_is sa ba has high births =
-      let stands = Stands-step since p q (one id) (λ x. 0) a d.step (λ x h. omega (arith, can.apart x, has x, plain01_most p x)) sa in
+      let stands = Stands-step since birth p q (one id) (λ x. 0) a (d.step birth) (λ x h. omega (arith, can.apart x, has x, plain_count_most p x)) sa in
       subst (Shrinks since birth p q side t) (sym (tree_in q side a side_is stands)) (record {
         root = side_is;
         stands = stands;
@@ -143,26 +148,27 @@ module _ (since birth : ℕ) (p : Nodes) (root : Option ℕ) (t : Tree) (can : C
         births = births;
         not_higher = omega (arith, high);
         one_lower = omega (arith, high);
-        step = Step-beside since p q (one id) (λ x. 0) (held t) (held a) d.step (λ x. omega (arith, has x)) (λ x. omega (arith, has x));
+        step = Step-beside since birth p q (one id) (λ x. 0) (occurrences t) (occurrences a) (d.step birth) (λ x. omega (arith, has x)) (λ x. omega (arith, has x));
         total = d.total;
         few = omega (arith, d.few);
+        exact = d.exact;
       })
 
   pub no_left : (q : Nodes) → Discards since p q id → node.left ≡ None → (Shrinks since birth p q node.right t (tree_at q node.right)) × (keys t ≡ node.key ∷ keys (tree_at q node.right))
   no_left q d none =
       let empty : o.l ≡ leaf = no_root_leaf o.l (sym o.left_is ∙ none) in (
         top_goes q node.right o.r d o.right_is o.sr near.2
-            (λ x. omega (arith, ap (λ u. held u x) o.is, ap (λ u. held u x) empty))
+            (λ x. omega (arith, ap (λ u. occurrences u x) o.is, ap (λ u. occurrences u x) empty))
             (omega (arith, heights, ap height empty))
             (λ e b. let f : Descends (fork id o.birth o.l node.key o.r) = subst Descends o.is e in let g : o.birth ≤ birth = subst (BirthAtMost birth) o.is b in (f.3, BirthAtMost-later o.birth birth o.r g f.1)),
-        ap keys o.is ∙ ap (λ u. keys u ++ node.key ∷ keys o.r) empty ∙ ap (λ u. node.key ∷ keys u) (sym (tree_in q node.right o.r o.right_is (Stands-step since p q (one id) (λ x. 0) o.r d.step (λ x h. omega (arith, apart_in x, plain01_most p x)) o.sr))),
+        ap keys o.is ∙ ap (λ u. keys u ++ node.key ∷ keys o.r) empty ∙ ap (λ u. node.key ∷ keys u) (sym (tree_in q node.right o.r o.right_is (Stands-step since birth p q (one id) (λ x. 0) o.r (d.step birth) (λ x h. omega (arith, apart_in x, plain_count_most p x)) o.sr))),
       )
 
   pub no_right : (q : Nodes) → Discards since p q id → node.right ≡ None → (Shrinks since birth p q node.left t (tree_at q node.left)) × (o.r ≡ leaf)
   no_right q d none =
       let empty : o.r ≡ leaf = no_root_leaf o.r (sym o.right_is ∙ none) in (
         top_goes q node.left o.l d o.left_is o.sl near.1
-            (λ x. omega (arith, ap (λ u. held u x) o.is, ap (λ u. held u x) empty))
+            (λ x. omega (arith, ap (λ u. occurrences u x) o.is, ap (λ u. occurrences u x) empty))
             (omega (arith, heights, ap height empty))
             (λ e b. let f : Descends (fork id o.birth o.l node.key o.r) = subst Descends o.is e in let g : o.birth ≤ birth = subst (BirthAtMost birth) o.is b in (f.2, BirthAtMost-later o.birth birth o.l g f.0)),
         empty,
@@ -173,17 +179,17 @@ module _ (since birth : ℕ) (p : Nodes) (root : Option ℕ) (t : Tree) (can : C
     i = subst (λ u. Shrinks since birth p p1 left u (tree_at p1 left)) left_is i0
 
     pub left_used : IsSome (node_at p1 id)
-    left_used = top_stays since p p1 id node (held o.l) (held (tree_at p1 left)) found (side_off p id node t o can.apart).0 i.step
+    left_used = top_stays since birth p p1 id node (occurrences o.l) (occurrences (tree_at p1 left)) found (side_off p id node t o can.apart).0 i.step
 
     pub left_plain : mark_at p1 id ≡ plain
-    left_plain = top_plain since p p1 id (held o.l) (held (tree_at p1 left)) (held o.r) i.step (λ x. omega (arith, apart_in x))
+    left_plain = top_plain since birth p p1 id (occurrences o.l) (occurrences (tree_at p1 left)) (occurrences o.r) i.step (λ x. omega (arith, apart_in x))
 
     pub left_room : 0 < since → 3 ≤ room p1
     left_room h = omega (arith, side_room (height o.l) (omega (arith, heights)), copies_some since 3 h, i.total, i.few)
 
-    module _ (p2 : Nodes) (top : ℕ) (w : Owns p1 p2 since id top) where
-      after : ChildDone since p p2 id top (held o.l) (tree_at p1 left) o.r
-      after = child_done since p p1 p2 id top (held o.l) (tree_at p1 left) o.r o.sr (λ j. apart_in j) i.stands i.step w
+    module _ (p2 : Nodes) (top : ℕ) (w : CopiesIfOlder since birth p1 p2 id top) where
+      after : ChildDone since birth p p2 id top (occurrences o.l) (tree_at p1 left) o.r
+      after = child_done since birth p p1 p2 id top (occurrences o.l) (tree_at p1 left) o.r o.sr (λ j. apart_in j) i.stands i.step w
 
       left_now : tree_at p2 left ≡ tree_at p1 left
       left_now = tree_in p2 left (tree_at p1 left) i.root after.child
@@ -201,7 +207,7 @@ module _ (since birth : ℕ) (p : Nodes) (root : Option ℕ) (t : Tree) (can : C
             left_balanced = i.balanced;
             right_balanced = near.2;
             apart = after.apart;
-            mine = after.mine;
+            writable = after.writable;
             left_fits = omega (arith, heights, can.fits, i.not_higher);
             right_fits = omega (arith, heights, can.fits);
             has_room = λ h. omega (arith, left_room h, w.total, w.few, copies_some since 1 h);
@@ -227,8 +233,9 @@ module _ (since birth : ℕ) (p : Nodes) (root : Option ℕ) (t : Tree) (can : C
                   let ch = i.births f.2 (BirthAtMost-later o.birth birth o.l g f.0) in s.births ch.0 f.3 ch.1 (BirthAtMost-later o.birth birth o.r g f.1);
               not_higher = omega (arith, heights, low.0);
               one_lower = omega (arith, heights, low.1);
-              step = Step-beside since p p3 _ _ _ _ (Step-then since p p2 p3 _ _ _ after.step s.step) (λ j. omega (arith, ap (λ u. held u j) o.is)) (λ j. omega (arith, ap (λ u. held u j) o.is));
+              step = Step-beside since birth p p3 _ _ _ _ (Step-then since birth p p2 p3 _ _ _ after.step s.step) (λ j. omega (arith, ap (λ u. occurrences u j) o.is)) (λ j. omega (arith, ap (λ u. occurrences u j) o.is));
               total = omega (arith, i.total, w.total, s.total);
+              exact = omega (arith, i.exact, w.exact, s.exact);
               few = omega (arith, i.few, w.few, s.few, side_cost (height o.l) (omega (arith, heights)), joins_near since (height (tree_at p1 left)) (height o.r) (omega (arith, near.0.0, near.0.1, i.not_higher, i.one_lower), omega (arith, near.0.0, near.0.1, i.not_higher, i.one_lower)));
             },
             s.keys_are,
@@ -239,35 +246,35 @@ module _ (since birth : ℕ) (p : Nodes) (root : Option ℕ) (t : Tree) (can : C
     k = subst (λ u. Shrinks since birth p p1 right u (tree_at p1 right)) right_is i0
 
     pub right_used : IsSome (node_at p1 id)
-    right_used = top_stays since p p1 id node (held o.r) (held (tree_at p1 right)) found (side_off p id node t o can.apart).1 k.step
+    right_used = top_stays since birth p p1 id node (occurrences o.r) (occurrences (tree_at p1 right)) found (side_off p id node t o can.apart).1 k.step
 
     pub right_plain : mark_at p1 id ≡ plain
-    right_plain = top_plain since p p1 id (held o.r) (held (tree_at p1 right)) (held o.l) k.step (λ x. omega (arith, apart_in x))
+    right_plain = top_plain since birth p p1 id (occurrences o.r) (occurrences (tree_at p1 right)) (occurrences o.l) k.step (λ x. omega (arith, apart_in x))
 
     pub right_room : 0 < since → 3 ≤ room p1
     right_room h = omega (arith, side_room (height o.r) (omega (arith, heights)), copies_some since 3 h, k.total, k.few)
 
-    module _ (p2 : Nodes) (top : ℕ) (w : Owns p1 p2 since id top) where
-      behind : ChildDone since p p2 id top (held o.r) (tree_at p1 right) o.l
-      behind = child_done since p p1 p2 id top (held o.r) (tree_at p1 right) o.l o.sl (λ j. omega (arith, apart_in j)) k.stands k.step w
+    module _ (p2 : Nodes) (top : ℕ) (w : CopiesIfOlder since birth p1 p2 id top) where
+      after_right : ChildDone since birth p p2 id top (occurrences o.r) (tree_at p1 right) o.l
+      after_right = child_done since birth p p1 p2 id top (occurrences o.r) (tree_at p1 right) o.l o.sl (λ j. omega (arith, apart_in j)) k.stands k.step w
 
       fallen_now : tree_at p2 right ≡ tree_at p1 right
-      fallen_now = tree_in p2 right (tree_at p1 right) k.root behind.child
+      fallen_now = tree_in p2 right (tree_at p1 right) k.root after_right.child
 
       other_now : tree_at p2 node.left ≡ o.l
-      other_now = tree_in p2 node.left o.l o.left_is behind.other
+      other_now = tree_in p2 node.left o.l o.left_is after_right.other
 
       pub right_settle : CanSettle since p2 top node.left (tree_at p2 node.left) right (tree_at p2 right)
       right_settle =
           let c : CanSettle since p2 top node.left o.l right (tree_at p1 right) = record {
             left_root = o.left_is;
             right_root = k.root;
-            left_stands = behind.other;
-            right_stands = behind.child;
+            left_stands = after_right.other;
+            right_stands = after_right.child;
             left_balanced = near.1;
             right_balanced = k.balanced;
-            apart = λ j. omega (arith, behind.apart j);
-            mine = behind.mine;
+            apart = λ j. omega (arith, after_right.apart j);
+            writable = after_right.writable;
             left_fits = omega (arith, heights, can.fits);
             right_fits = omega (arith, heights, can.fits, k.not_higher);
             has_room = λ h. omega (arith, right_room h, w.total, w.few, copies_some since 1 h);
@@ -295,8 +302,9 @@ module _ (since birth : ℕ) (p : Nodes) (root : Option ℕ) (t : Tree) (can : C
                   let ch = k.births f.3 (BirthAtMost-later o.birth birth o.r g f.1) in s.births f.2 ch.0 (BirthAtMost-later o.birth birth o.l g f.0) ch.1;
               not_higher = omega (arith, heights, low.0);
               one_lower = omega (arith, heights, low.1);
-              step = Step-beside since p p3 _ _ _ _ (Step-then since p p2 p3 _ _ _ behind.step (Step-beside since p2 p3 (λ j. one top j + held o.l j + held (tree_at p1 right) j) (held new) (λ j. one top j + held (tree_at p1 right) j + held o.l j) (held new) s.step (λ j. omega arith) (λ j. omega arith))) (λ j. omega (arith, ap (λ u. held u j) o.is)) (λ j. omega (arith, ap (λ u. held u j) o.is));
+              step = Step-beside since birth p p3 _ _ _ _ (Step-then since birth p p2 p3 _ _ _ after_right.step (Step-beside since birth p2 p3 (λ j. one top j + occurrences o.l j + occurrences (tree_at p1 right) j) (occurrences new) (λ j. one top j + occurrences (tree_at p1 right) j + occurrences o.l j) (occurrences new) s.step (λ j. omega arith) (λ j. omega arith))) (λ j. omega (arith, ap (λ u. occurrences u j) o.is)) (λ j. omega (arith, ap (λ u. occurrences u j) o.is));
               total = omega (arith, k.total, w.total, s.total);
+              exact = omega (arith, k.exact, w.exact, s.exact);
               few = omega (arith, k.few, w.few, s.few, side_cost (height o.r) (omega (arith, heights)), joins_near since (height o.l) (height (tree_at p1 right)) (omega (arith, near.0.0, near.0.1, k.not_higher, k.one_lower), omega (arith, near.0.0, near.0.1, k.not_higher, k.one_lower)));
             },
             s.keys_are,
@@ -328,7 +336,7 @@ module _ (since birth : ℕ) (p : Nodes) (root : Option ℕ) (t : Tree) (can : C
     pub last_keys : (q : Nodes) → Discards since p q id → node.right ≡ None → cmp key node.key ≡ Equal → keys (tree_at q node.left) ≡ remove_key cmp key (keys t)
     last_keys q d none h =
         let empty = (no_right q d none).1 in
-        ap keys (tree_in q node.left o.l o.left_is (Stands-step since p q (one id) (λ x. 0) o.l d.step (λ x g. omega (arith, apart_in x, plain01_most p x)) o.sl))
+        ap keys (tree_in q node.left o.l o.left_is (Stands-step since birth p q (one id) (λ x. 0) o.l (d.step birth) (λ x g. omega (arith, apart_in x, plain_count_most p x)) o.sl))
         ∙ sym (append_nil (keys o.l)) ∙ ap (λ u. keys o.l ++ keys u) (sym empty)
         ∙ sym (remove_here cmp total key node.key (keys o.l) (keys o.r) h rises) ∙ ap (λ u. remove_key cmp key (keys u)) (sym o.is)
       where
@@ -339,7 +347,7 @@ module _ (since birth : ℕ) (p : Nodes) (root : Option ℕ) (t : Tree) (can : C
 -- the whole of a removal
 pub remove_can : (cmp : Key → Key → Ordering) (since : ℕ) (p q : Nodes) (root : Option ℕ) (t : Tree) → IsSet cmp p root t → q.nodes ≡ p.nodes → q.marks ≡ p.marks → height t < 2 ^ 29 → remove_cost since (height t) ≤ room q → (tree_at q root ≡ t) × CanShrink since q root (tree_at q root)
 remove_can cmp since p q root t s same drop fits enough =
-    let alike : (x : ℕ) → plain01 q x ≡ plain01 p x = λ x. plain01_same p q x (ap (λ xs. Rattle.std.proofs.Common.get_or xs x None) same) (ap (λ ms. Rattle.std.proofs.Common.get_or ms x plain) drop) in
+    let alike : (x : ℕ) → plain_count q x ≡ plain_count p x = λ x. plain_count_same p q x (ap (λ xs. Rattle.std.proofs.Common.get_or xs x None) same) (ap (λ ms. Rattle.std.proofs.Common.get_or ms x plain) drop) in
     let stands = Stands-same p q t (λ x n h e. ap (λ xs. Rattle.std.proofs.Common.get_or xs x None) same ∙ e) s.stands in
     let is = tree_in q root t s.root_is stands in
     (is, subst (CanShrink since q root) (sym is) (record { root_is = s.root_is; stands = stands; balanced = s.balanced; apart = λ x. omega (arith, s.apart x, alike x); fits = fits; has_room = enough }))
@@ -351,12 +359,13 @@ removed cmp total since birth p0 p q root to key t u new s same drop e0 i0 has k
     let k : keys new ≡ remove_key cmp key (keys t) = k0 ∙ ap (λ v. remove_key cmp key (keys v)) e0 in
     let at : (x : ℕ) → node_at p0 x ≡ node_at p x = λ x. ap (λ xs. Rattle.std.proofs.Common.get_or xs x None) (sym same) in
     let mark : (x : ℕ) → mark_at p0 x ≡ mark_at p x = λ x. ap (λ ms. Rattle.std.proofs.Common.get_or ms x plain) (sym drop) in
-    let alike : (x : ℕ) → plain01 p0 x ≡ plain01 p x = λ x. plain01_same p p0 x (at x) (mark x) in
+    let alike : (x : ℕ) → plain_count p0 x ≡ plain_count p x = λ x. plain_count_same p p0 x (at x) (mark x) in
     let uses : in_use p ≡ in_use p0 = ap (λ xs. Rattle.std.specs.Prelude.count_by is_some xs) same in
-    let step : Step since p0 q (held t) (held new) = record {
+    let step : Step since birth p0 q (occurrences t) (occurrences new) = record {
       kept = λ x n e h. i.step.kept x n (sym (at x) ∙ e) h;
       balance = λ x. omega (arith, i.step.balance x, alike x);
       older = λ x n e h. at x ∙ i.step.older x n e h;
+      born = λ x n e. elim (i.step.born x n e) [ inl was ↦ inl (at x ∙ was) | inr new ↦ inr new ];
       marks = λ x. elim (i.step.marks x) [ inl kept ↦ inl (kept ∙ sym (mark x)) | inr old ↦ inr ((old.0.0, at x ∙ old.0.1, old.0.2), mark x ∙ old.1, old.2) ];
     } in
     record {
@@ -372,12 +381,8 @@ removed cmp total since birth p0 p q root to key t u new s same drop e0 i0 has k
       births = i.births;
       step = step;
       others = λ other there away. let stays = Stands-same p0 q other (λ x n h e. step.kept x n e (away x n h e)) there in (stays, tree_at-is q other stays ∙ sym (tree_at-is p0 other there));
-      cost = λ d small. omega (arith, i.few, uses, copies_most since (3 * height t), height_digits t d s.balanced (omega (arith, size-keys t)));
+      exact = omega (arith, i.exact, uses, ap (Rattle.std.specs.Prelude.count_by is_aside) drop);
+      in_place = λ z. omega (arith, i.exact, uses, same_marks q.marks p.marks (λ x. elim (i.step.marks x) [ inl kept ↦ kept | inr old ↦ absurd (omega (arith, old.0.2)) ]));
+      cost = omega (arith, i.few, uses);
+      digits = λ d small. omega (arith, i.few, uses, copies_most since (3 * height t), height_digits t d s.balanced (omega (arith, size-keys t)));
     }
-  where
-    zero_or : (n : ℕ) → (n ≡ 0) ⊎ (0 < n)
-    zero_or zero = inl refl
-    zero_or (suc n) = inr (omega arith)
-
-    copies_most : (since n : ℕ) → copies since n ≤ n
-    copies_most since n = elim (Rattle.std.proofs.Common.ltb 0 since) as (λ b. cond b n 0 ≤ n) [ true ↦ omega arith | false ↦ omega arith ]

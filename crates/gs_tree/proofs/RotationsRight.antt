@@ -3,16 +3,16 @@ use Rattle.std.proofs.Common.{◌≡◌, ℕ, ◌+◌, ◌<◌, ◌≤◌, max, 
 use Rattle.gs_pool.specs.declared.nodes.Key.{Key}
 use Rattle.gs_pool.specs.declared.nodes.Node.{Node}
 use Rattle.gs_pool.specs.Pool.{Nodes, node_at, in_use, aside_count}
-use Rattle.gs_tree.specs.Tree.{Tree, leaf, fork, root_of, height, keys, held, top_node, Stands, IsBalanced, BirthAtMost, Descends}
-use Rattle.gs_tree.specs.Steps.{plain01, one, SameTotal, Step, IsMine, Owns, Links}
+use Rattle.gs_tree.specs.Tree.{Tree, leaf, fork, root_of, height, keys, occurrences, top_node, Stands, IsBalanced, BirthAtMost, Descends}
+use Rattle.gs_tree.specs.Steps.{plain_count, one, SameTotal, Step, IsWritable, CopiesIfOlder, Links}
 use Rattle.gs_tree.specs.Joining.{CanSettle, Settled, copies}
 use Rattle.gs_pool.specs.Pool.{room}
 use Rattle.gs_tree.proofs.Costs.{joins_two}
-use Rattle.gs_tree.proofs.TreeLemmas.{one_same, plain01_most, Stands-step, Step-then, Step-beside, Owns-step, Linked, BirthAtMost-later}
-use Rattle.gs_tree.proofs.Rotations.{linked_in, mine_kept, regroup}
+use Rattle.gs_tree.proofs.TreeLemmas.{one_same, plain_count_most, Stands-step, Step-then, Step-beside, CopiesIfOlder-step, Linked, BirthAtMost-later}
+use Rattle.gs_tree.proofs.Rotations.{linked_in, writable_kept, regroup}
 
--- the left tree, taken apart, with its top one's own
-pub record Turned (since : ℕ) (p q : Nodes) (top left turned : ℕ) (below : Node) (l r : Tree) (right : Option ℕ) : Type 0 where
+-- the left tree, taken apart, with a top that may be written
+pub record Turned (since birth : ℕ) (p q : Nodes) (top left turned : ℕ) (below : Node) (l r : Tree) (right : Option ℕ) : Type 0 where
   pub bl : ℕ
   pub x : Tree
   pub y : Tree
@@ -23,29 +23,29 @@ pub record Turned (since : ℕ) (p q : Nodes) (top left turned : ℕ) (below : N
   pub sx : Stands q x
   pub sy : Stands q y
   pub sr : Stands q r
-  pub top_mine : IsMine since q top
-  pub turned_mine : IsMine since q turned
-  pub apart : (i : ℕ) → one top i + one turned i + held x i + held y i + held r i ≤ plain01 q i
-  pub step : Step since p q (λ i. one top i + held l i + held r i) (λ i. one top i + one turned i + held x i + held y i + held r i)
+  pub top_writable : IsWritable since q top
+  pub turned_writable : IsWritable since q turned
+  pub apart : (i : ℕ) → one top i + one turned i + occurrences x i + occurrences y i + occurrences r i ≤ plain_count q i
+  pub step : Step since birth p q (λ i. one top i + occurrences l i + occurrences r i) (λ i. one top i + one turned i + occurrences x i + occurrences y i + occurrences r i)
   pub total : SameTotal p q
   pub few : in_use q ≤ in_use p + copies since 1
   pub exact : in_use q + aside_count p ≡ in_use p + aside_count q
   pub has_room : 0 < since → 1 ≤ room q
 
-module _ (since : ℕ) (p q : Nodes) (top left turned : ℕ) (below : Node) (l r : Tree) (right : Option ℕ) where
-  pub turn : CanSettle since p top right r (Some left) l → node_at p left ≡ Some below → Owns p q since left turned → Turned since p q top left turned below l r right
+module _ (since birth : ℕ) (p q : Nodes) (top left turned : ℕ) (below : Node) (l r : Tree) (right : Option ℕ) where
+  pub turn : CanSettle since p top right r (Some left) l → node_at p left ≡ Some below → CopiesIfOlder since birth p q left turned → Turned since birth p q top left turned below l r right
   turn can found o = by_tree l can.right_root can.right_stands (λ i. omega (arith, can.apart i))
     where
-      by_tree : (t : Tree) → Some left ≡ root_of t → Stands p t → ((i : ℕ) → one top i + held t i + held r i ≤ plain01 p i) → Turned since p q top left turned below t r right
+      by_tree : (t : Tree) → Some left ≡ root_of t → Stands p t → ((i : ℕ) → one top i + occurrences t i + occurrences r i ≤ plain_count p i) → Turned since birth p q top left turned below t r right
       by_tree leaf e s apart = absurd (cc)
       by_tree (fork id bl y j x) e s apart =
           let same : id ≡ left = cc in
           let here : node_at p left ≡ Some (top_node bl y j x) = subst (λ i. node_at p i ≡ Some (top_node bl y j x)) same s.0 in
           let is : top_node bl y j x ≡ below = cc in
-          let own = Owns-step since p q left turned o in
-          let at : (i : ℕ) → one top i + one left i + held x i + held y i + held r i ≤ 1 = λ i. omega (arith, apart i, plain01_most p i, ap (λ a. one a i) same) in
-          let big : Step since p q (λ i. one top i + one id i + held x i + held y i + held r i) (λ i. one top i + one turned i + held x i + held y i + held r i) =
-          Step-beside since p q (one left) (one turned) _ _ own (λ i. omega (arith, ap (λ a. one a i) same)) (λ i. omega (arith, ap (λ a. one a i) same)) in
+          let copied = CopiesIfOlder-step since birth p q left turned o in
+          let at : (i : ℕ) → one top i + one left i + occurrences x i + occurrences y i + occurrences r i ≤ 1 = λ i. omega (arith, apart i, plain_count_most p i, ap (λ a. one a i) same) in
+          let big : Step since birth p q (λ i. one top i + one id i + occurrences x i + occurrences y i + occurrences r i) (λ i. one top i + one turned i + occurrences x i + occurrences y i + occurrences r i) =
+          Step-beside since birth p q (one left) (one turned) _ _ copied (λ i. omega (arith, ap (λ a. one a i) same)) (λ i. omega (arith, ap (λ a. one a i) same)) in
           record {
             bl = bl;
             x = x;
@@ -54,13 +54,13 @@ module _ (since : ℕ) (p q : Nodes) (top left turned : ℕ) (below : Node) (l r
             left_is = sym (ap (λ (n : Node). n.right) is);
             right_is = sym (ap (λ (n : Node). n.left) is);
             far_is = can.left_root;
-            sx = Stands-step since p q _ _ x own (λ i h. omega (arith, at i)) s.2;
-            sy = Stands-step since p q _ _ y own (λ i h. omega (arith, at i)) s.1;
-            sr = Stands-step since p q _ _ r own (λ i h. omega (arith, at i)) can.left_stands;
-            top_mine = mine_kept since p q _ _ top own (omega (arith, at top, one_same top)) can.mine;
-            turned_mine = record { used = o.used; owned = o.owned };
+            sx = Stands-step since birth p q _ _ x copied (λ i h. omega (arith, at i)) s.2;
+            sy = Stands-step since birth p q _ _ y copied (λ i h. omega (arith, at i)) s.1;
+            sr = Stands-step since birth p q _ _ r copied (λ i h. omega (arith, at i)) can.left_stands;
+            top_writable = writable_kept since birth p q _ _ top copied (omega (arith, at top, one_same top)) can.writable;
+            turned_writable = record { used = o.used; recent = o.recent };
             apart = λ i. omega (arith, big.balance i, apart i);
-            step = Step-beside since p q _ _ _ _ big (λ i. omega arith) (λ i. omega arith);
+            step = Step-beside since birth p q _ _ _ _ big (λ i. omega arith) (λ i. omega arith);
             total = o.total;
             few = o.few;
             exact = o.exact;
@@ -71,24 +71,24 @@ module _ (since : ℕ) (p q : Nodes) (top left turned : ℕ) (below : Node) (l r
           one_copy n h = rw (Rattle.std.proofs.lemmas.Bool.lt-ltb 0 n h)
 
 -- after the first link of a single rotation
-pub record Low (since : ℕ) (p q : Nodes) (id turned : ℕ) (x t : Tree) : Type 0 where
+pub record Low (since birth : ℕ) (p q : Nodes) (id turned : ℕ) (x t : Tree) : Type 0 where
   pub low : Stands q t
   pub high : Stands q x
-  pub id_mine : IsMine since q id
-  pub turned_mine : IsMine since q turned
-  pub step : Step since p q (one id) (one id)
+  pub id_writable : IsWritable since q id
+  pub turned_writable : IsWritable since q turned
+  pub step : Step since birth p q (one id) (one id)
   pub total : SameTotal p q
   pub same : in_use q ≡ in_use p
 
-module _ (since birth : ℕ) (p p1 : Nodes) (top left turned : ℕ) (below : Node) (key : Key) (l r : Tree) (right : Option ℕ) (young : since ≤ birth) (can : CanSettle since p top right r (Some left) l) (higher : height l ≡ height r + 2) (a : Turned since p p1 top left turned below l r right) where
-  pub single_low : (p2 : Nodes) → Links p1 p2 top right key below.left birth → Low since p1 p2 top turned a.x (fork top birth r key a.y)
+module _ (since birth : ℕ) (p p1 : Nodes) (top left turned : ℕ) (below : Node) (key : Key) (l r : Tree) (right : Option ℕ) (young : since ≤ birth) (can : CanSettle since p top right r (Some left) l) (higher : height l ≡ height r + 2) (a : Turned since birth p p1 top left turned below l r right) where
+  pub single_low : (p2 : Nodes) → Links p1 p2 top right key below.left birth → Low since birth p1 p2 top turned a.x (fork top birth r key a.y)
   single_low p2 link =
-      let k = linked_in since p1 p2 top birth r key a.y right below.left link a.far_is a.right_is a.top_mine young a.sr a.sy (λ i. omega (arith, a.apart i, plain01_most p1 i)) in
+      let k = linked_in since p1 p2 top birth r key a.y right below.left link a.far_is a.right_is a.top_writable young a.sr a.sy (λ i. omega (arith, a.apart i, plain_count_most p1 i)) in
       record {
         low = k.stands;
-        high = Stands-step since p1 p2 _ _ a.x k.step (λ i h. omega (arith, a.apart i, plain01_most p1 i)) a.sx;
-        id_mine = record { used = ap is_some k.stands.0; owned = k.owned };
-        turned_mine = mine_kept since p1 p2 _ _ turned k.step (omega (arith, a.apart turned, plain01_most p1 turned, one_same turned)) a.turned_mine;
+        high = Stands-step since birth p1 p2 _ _ a.x k.step (λ i h. omega (arith, a.apart i, plain_count_most p1 i)) a.sx;
+        id_writable = record { used = ap is_some k.stands.0; recent = k.recent };
+        turned_writable = writable_kept since birth p1 p2 _ _ turned k.step (omega (arith, a.apart turned, plain_count_most p1 turned, one_same turned)) a.turned_writable;
         step = k.step;
         total = omega (arith, link.total, link.same);
         same = link.same;
@@ -98,7 +98,7 @@ module _ (since birth : ℕ) (p p1 : Nodes) (top left turned : ℕ) (below : Nod
   single p2 p3 link lower link2 =
       let b = single_low p2 link in
       let t = fork top birth r key a.y in
-      let k = linked_in since p2 p3 turned birth t below.key a.x (Some top) below.right link2 refl a.left_is b.turned_mine young b.low b.high (λ i. omega (arith, a.apart i, plain01_most p1 i)) in
+      let k = linked_in since p2 p3 turned birth t below.key a.x (Some top) below.right link2 refl a.left_is b.turned_writable young b.low b.high (λ i. omega (arith, a.apart i, plain_count_most p1 i)) in
       let lb : IsBalanced (fork left a.bl a.y below.key a.x) = subst IsBalanced a.is can.right_balanced in
       let hl : height l ≡ max (height a.x) (height a.y) + 1 = omega (arith, ap height a.is) in
       let rb = can.left_balanced in
@@ -113,7 +113,7 @@ module _ (since birth : ℕ) (p p1 : Nodes) (top left turned : ℕ) (below : Nod
         births = λ dr dl br bl. let il : Descends (fork left a.bl a.y below.key a.x) = subst Descends a.is dl in let jl : a.bl ≤ birth = subst (BirthAtMost birth) a.is bl in
             ((omega arith, BirthAtMost-later a.bl birth a.x jl il.1, (br, BirthAtMost-later a.bl birth a.y jl il.0, dr, il.2), il.3), omega arith);
         height_is = (omega arith, omega arith, λ d. omega (arith, d.0, d.1));
-        step = Step-beside since p p3 (λ i. one top i + held l i + held r i) (held (fork turned birth (fork top birth r key a.y) below.key a.x)) _ _ (Step-then since p p1 p3 _ _ _ a.step (Step-beside since p1 p3 _ _ _ _ (Step-then since p1 p2 p3 _ _ _ (Step-beside since p1 p2 _ _ (λ i. one top i + one turned i) (λ i. one top i + one turned i) b.step (λ i. omega arith) (λ i. omega arith)) (Step-beside since p2 p3 _ _ (λ i. one top i + one turned i) (λ i. one top i + one turned i) k.step (λ i. omega arith) (λ i. omega arith))) (λ i. omega arith) (λ i. omega arith))) (λ i. omega arith) (λ i. omega arith);
+        step = Step-beside since birth p p3 (λ i. one top i + occurrences l i + occurrences r i) (occurrences (fork turned birth (fork top birth r key a.y) below.key a.x)) _ _ (Step-then since birth p p1 p3 _ _ _ a.step (Step-beside since birth p1 p3 _ _ _ _ (Step-then since birth p1 p2 p3 _ _ _ (Step-beside since birth p1 p2 _ _ (λ i. one top i + one turned i) (λ i. one top i + one turned i) b.step (λ i. omega arith) (λ i. omega arith)) (Step-beside since birth p2 p3 _ _ (λ i. one top i + one turned i) (λ i. one top i + one turned i) k.step (λ i. omega arith) (λ i. omega arith))) (λ i. omega arith) (λ i. omega arith))) (λ i. omega arith) (λ i. omega arith);
         total = omega (arith, a.total, b.total, link2.total, link2.same);
         few = omega (arith, a.few, b.same, link2.same, more_copies since, joins_two since (height r) (height l) (inr higher));
         exact = omega (arith, a.exact, link.same, ap (Rattle.std.specs.Prelude.count_by Rattle.gs_pool.specs.Pool.is_aside) link.marks, link2.same, ap (Rattle.std.specs.Prelude.count_by Rattle.gs_pool.specs.Pool.is_aside) link2.marks);
@@ -122,8 +122,8 @@ module _ (since birth : ℕ) (p p1 : Nodes) (top left turned : ℕ) (below : Nod
       more_copies : (n : ℕ) → copies n 1 ≤ copies n 2
       more_copies n = elim (ltb 0 n) as (λ b. cond b 1 0 ≤ cond b 2 0) [ true ↦ omega arith | false ↦ omega arith ]
 
--- the inner tree, taken apart, with its top one's own
-pub record Turned2 (since : ℕ) (p q : Nodes) (top turned inner middle : ℕ) (node : Node) (x y r : Tree) : Type 0 where
+-- the inner tree, taken apart, with a top that may be written
+pub record Turned2 (since birth : ℕ) (p q : Nodes) (top turned inner middle : ℕ) (node : Node) (x y r : Tree) : Type 0 where
   pub bm : ℕ
   pub u : Tree
   pub v : Tree
@@ -134,29 +134,29 @@ pub record Turned2 (since : ℕ) (p q : Nodes) (top turned inner middle : ℕ) (
   pub su : Stands q u
   pub sv : Stands q v
   pub sr : Stands q r
-  pub top_mine : IsMine since q top
-  pub turned_mine : IsMine since q turned
-  pub middle_mine : IsMine since q middle
-  pub apart : (i : ℕ) → one top i + one turned i + one middle i + held x i + held u i + held v i + held r i ≤ plain01 q i
-  pub step : Step since p q (λ i. one top i + one turned i + held x i + held y i + held r i) (λ i. one top i + one turned i + one middle i + held x i + held u i + held v i + held r i)
+  pub top_writable : IsWritable since q top
+  pub turned_writable : IsWritable since q turned
+  pub middle_writable : IsWritable since q middle
+  pub apart : (i : ℕ) → one top i + one turned i + one middle i + occurrences x i + occurrences u i + occurrences v i + occurrences r i ≤ plain_count q i
+  pub step : Step since birth p q (λ i. one top i + one turned i + occurrences x i + occurrences y i + occurrences r i) (λ i. one top i + one turned i + one middle i + occurrences x i + occurrences u i + occurrences v i + occurrences r i)
   pub total : SameTotal p q
   pub few : in_use q ≤ in_use p + copies since 1
   pub exact : in_use q + aside_count p ≡ in_use p + aside_count q
 
-module _ (since birth : ℕ) (p p1 : Nodes) (top left turned : ℕ) (below : Node) (key : Key) (l r : Tree) (right : Option ℕ) (young : since ≤ birth) (can : CanSettle since p top right r (Some left) l) (higher : height l ≡ height r + 2) (a : Turned since p p1 top left turned below l r right) where
-  pub turn2 : (p2 : Nodes) (inner middle : ℕ) (node : Node) → below.left ≡ Some inner → node_at p1 inner ≡ Some node → Owns p1 p2 since inner middle → Turned2 since p1 p2 top turned inner middle node a.x a.y r
+module _ (since birth : ℕ) (p p1 : Nodes) (top left turned : ℕ) (below : Node) (key : Key) (l r : Tree) (right : Option ℕ) (young : since ≤ birth) (can : CanSettle since p top right r (Some left) l) (higher : height l ≡ height r + 2) (a : Turned since birth p p1 top left turned below l r right) where
+  pub turn2 : (p2 : Nodes) (inner middle : ℕ) (node : Node) → below.left ≡ Some inner → node_at p1 inner ≡ Some node → CopiesIfOlder since birth p1 p2 inner middle → Turned2 since birth p1 p2 top turned inner middle node a.x a.y r
   turn2 p2 inner middle node is found o = by_tree a.y (sym is ∙ a.right_is) a.sy a.apart
     where
-      by_tree : (t : Tree) → Some inner ≡ root_of t → Stands p1 t → ((i : ℕ) → one top i + one turned i + held a.x i + held t i + held r i ≤ plain01 p1 i) → Turned2 since p1 p2 top turned inner middle node a.x t r
+      by_tree : (t : Tree) → Some inner ≡ root_of t → Stands p1 t → ((i : ℕ) → one top i + one turned i + occurrences a.x i + occurrences t i + occurrences r i ≤ plain_count p1 i) → Turned2 since birth p1 p2 top turned inner middle node a.x t r
       by_tree leaf e s apart = absurd (cc)
       by_tree (fork id bm v j u) e s apart =
           let same : id ≡ inner = cc in
           let here : node_at p1 inner ≡ Some (top_node bm v j u) = subst (λ i. node_at p1 i ≡ Some (top_node bm v j u)) same s.0 in
           let is : top_node bm v j u ≡ node = cc in
-          let own = Owns-step since p1 p2 inner middle o in
-          let at : (i : ℕ) → one top i + one turned i + one inner i + held a.x i + held u i + held v i + held r i ≤ 1 = λ i. omega (arith, apart i, plain01_most p1 i, ap (λ a. one a i) same) in
-          let big : Step since p1 p2 (λ i. one top i + one turned i + held a.x i + held (fork id bm v j u) i + held r i) (λ i. one top i + one turned i + one middle i + held a.x i + held u i + held v i + held r i) =
-          Step-beside since p1 p2 (one inner) (one middle) _ _ own (λ i. omega (arith, ap (λ a. one a i) same)) (λ i. omega (arith, ap (λ a. one a i) same)) in
+          let copied = CopiesIfOlder-step since birth p1 p2 inner middle o in
+          let at : (i : ℕ) → one top i + one turned i + one inner i + occurrences a.x i + occurrences u i + occurrences v i + occurrences r i ≤ 1 = λ i. omega (arith, apart i, plain_count_most p1 i, ap (λ a. one a i) same) in
+          let big : Step since birth p1 p2 (λ i. one top i + one turned i + occurrences a.x i + occurrences (fork id bm v j u) i + occurrences r i) (λ i. one top i + one turned i + one middle i + occurrences a.x i + occurrences u i + occurrences v i + occurrences r i) =
+          Step-beside since birth p1 p2 (one inner) (one middle) _ _ copied (λ i. omega (arith, ap (λ a. one a i) same)) (λ i. omega (arith, ap (λ a. one a i) same)) in
           record {
             bm = bm;
             u = u;
@@ -164,13 +164,13 @@ module _ (since birth : ℕ) (p p1 : Nodes) (top left turned : ℕ) (below : Nod
             is = ap (λ a. fork a bm v j u) same ∙ ap (λ (n : Node). fork inner bm v n.key u) is;
             left_is = sym (ap (λ (n : Node). n.right) is);
             right_is = sym (ap (λ (n : Node). n.left) is);
-            sx = Stands-step since p1 p2 _ _ a.x own (λ i h. omega (arith, at i)) a.sx;
-            su = Stands-step since p1 p2 _ _ u own (λ i h. omega (arith, at i)) s.2;
-            sv = Stands-step since p1 p2 _ _ v own (λ i h. omega (arith, at i)) s.1;
-            sr = Stands-step since p1 p2 _ _ r own (λ i h. omega (arith, at i)) a.sr;
-            top_mine = mine_kept since p1 p2 _ _ top own (omega (arith, at top, one_same top)) a.top_mine;
-            turned_mine = mine_kept since p1 p2 _ _ turned own (omega (arith, at turned, one_same turned)) a.turned_mine;
-            middle_mine = record { used = o.used; owned = o.owned };
+            sx = Stands-step since birth p1 p2 _ _ a.x copied (λ i h. omega (arith, at i)) a.sx;
+            su = Stands-step since birth p1 p2 _ _ u copied (λ i h. omega (arith, at i)) s.2;
+            sv = Stands-step since birth p1 p2 _ _ v copied (λ i h. omega (arith, at i)) s.1;
+            sr = Stands-step since birth p1 p2 _ _ r copied (λ i h. omega (arith, at i)) a.sr;
+            top_writable = writable_kept since birth p1 p2 _ _ top copied (omega (arith, at top, one_same top)) a.top_writable;
+            turned_writable = writable_kept since birth p1 p2 _ _ turned copied (omega (arith, at turned, one_same turned)) a.turned_writable;
+            middle_writable = record { used = o.used; recent = o.recent };
             apart = λ i. omega (arith, big.balance i, apart i);
             step = big;
             total = o.total;
@@ -178,31 +178,31 @@ module _ (since birth : ℕ) (p p1 : Nodes) (top left turned : ℕ) (below : Nod
             exact = o.exact;
           }
 
-  module _ (p2 : Nodes) (inner middle : ℕ) (node : Node) (b : Turned2 since p1 p2 top turned inner middle node a.x a.y r) where
+  module _ (p2 : Nodes) (inner middle : ℕ) (node : Node) (b : Turned2 since birth p1 p2 top turned inner middle node a.x a.y r) where
     pub double_low : (p3 : Nodes) → Links p2 p3 turned node.right below.key below.right birth → Linked since p2 p3 turned birth b.u below.key a.x
-    double_low p3 link = linked_in since p2 p3 turned birth b.u below.key a.x node.right below.right link b.left_is a.left_is b.turned_mine young b.su b.sx (λ i. omega (arith, b.apart i, plain01_most p2 i))
+    double_low p3 link = linked_in since p2 p3 turned birth b.u below.key a.x node.right below.right link b.left_is a.left_is b.turned_writable young b.su b.sx (λ i. omega (arith, b.apart i, plain_count_most p2 i))
 
-    pub double_far : (p3 : Nodes) → Links p2 p3 turned node.right below.key below.right birth → Stands p3 b.v × Stands p3 r × IsMine since p3 top × IsMine since p3 middle
+    pub double_far : (p3 : Nodes) → Links p2 p3 turned node.right below.key below.right birth → Stands p3 b.v × Stands p3 r × IsWritable since p3 top × IsWritable since p3 middle
     double_far p3 link =
         let k = double_low p3 link in (
-          Stands-step since p2 p3 _ _ b.v k.step (λ i h. omega (arith, b.apart i, plain01_most p2 i)) b.sv,
-          Stands-step since p2 p3 _ _ r k.step (λ i h. omega (arith, b.apart i, plain01_most p2 i)) b.sr,
-          mine_kept since p2 p3 _ _ top k.step (omega (arith, b.apart top, plain01_most p2 top, one_same top)) b.top_mine,
-          mine_kept since p2 p3 _ _ middle k.step (omega (arith, b.apart middle, plain01_most p2 middle, one_same middle)) b.middle_mine,
+          Stands-step since birth p2 p3 _ _ b.v k.step (λ i h. omega (arith, b.apart i, plain_count_most p2 i)) b.sv,
+          Stands-step since birth p2 p3 _ _ r k.step (λ i h. omega (arith, b.apart i, plain_count_most p2 i)) b.sr,
+          writable_kept since birth p2 p3 _ _ top k.step (omega (arith, b.apart top, plain_count_most p2 top, one_same top)) b.top_writable,
+          writable_kept since birth p2 p3 _ _ middle k.step (omega (arith, b.apart middle, plain_count_most p2 middle, one_same middle)) b.middle_writable,
         )
 
     pub double_high : (p3 p4 : Nodes) → Links p2 p3 turned node.right below.key below.right birth → Links p3 p4 top right key node.left birth → Linked since p3 p4 top birth r key b.v
     double_high p3 p4 link link2 =
         let f = double_far p3 link in
-        linked_in since p3 p4 top birth r key b.v right node.left link2 a.far_is b.right_is f.2 young f.1 f.0 (λ i. omega (arith, b.apart i, plain01_most p2 i))
+        linked_in since p3 p4 top birth r key b.v right node.left link2 a.far_is b.right_is f.2 young f.1 f.0 (λ i. omega (arith, b.apart i, plain_count_most p2 i))
 
-    pub double_sides : (p3 p4 : Nodes) → Links p2 p3 turned node.right below.key below.right birth → Links p3 p4 top right key node.left birth → Stands p4 (fork turned birth b.u below.key a.x) × IsMine since p4 middle
+    pub double_sides : (p3 p4 : Nodes) → Links p2 p3 turned node.right below.key below.right birth → Links p3 p4 top right key node.left birth → Stands p4 (fork turned birth b.u below.key a.x) × IsWritable since p4 middle
     double_sides p3 p4 link link2 =
         let f = double_far p3 link in
         let k = double_low p3 link in
         let h = double_high p3 p4 link link2 in (
-          Stands-step since p3 p4 _ _ (fork turned birth b.u below.key a.x) h.step (λ i held_here. omega (arith, b.apart i, plain01_most p2 i)) k.stands,
-          mine_kept since p3 p4 _ _ middle h.step (omega (arith, b.apart middle, plain01_most p2 middle, one_same middle)) f.3,
+          Stands-step since birth p3 p4 _ _ (fork turned birth b.u below.key a.x) h.step (λ i here. omega (arith, b.apart i, plain_count_most p2 i)) k.stands,
+          writable_kept since birth p3 p4 _ _ middle h.step (omega (arith, b.apart middle, plain_count_most p2 middle, one_same middle)) f.3,
         )
 
     pub double : (p3 p4 p5 : Nodes) → Links p2 p3 turned node.right below.key below.right birth → Links p3 p4 top right key node.left birth → height a.x < height a.y → Links p4 p5 middle (Some top) node.key (Some turned) birth → Settled since birth p p5 top middle key r l (fork middle birth (fork top birth r key b.v) node.key (fork turned birth b.u below.key a.x))
@@ -210,7 +210,7 @@ module _ (since birth : ℕ) (p p1 : Nodes) (top left turned : ℕ) (below : Nod
         let k = double_low p3 link in
         let h = double_high p3 p4 link link2 in
         let s = double_sides p3 p4 link link2 in
-        let m = linked_in since p4 p5 middle birth (fork top birth r key b.v) node.key (fork turned birth b.u below.key a.x) (Some top) (Some turned) link3 refl refl s.1 young h.stands s.0 (λ i. omega (arith, b.apart i, plain01_most p2 i)) in
+        let m = linked_in since p4 p5 middle birth (fork top birth r key b.v) node.key (fork turned birth b.u below.key a.x) (Some top) (Some turned) link3 refl refl s.1 young h.stands s.0 (λ i. omega (arith, b.apart i, plain_count_most p2 i)) in
         let lb : IsBalanced (fork left a.bl a.y below.key a.x) = subst IsBalanced a.is can.right_balanced in
         let yb : IsBalanced (fork inner b.bm b.v node.key b.u) = subst IsBalanced b.is lb.1 in
         let hl : height l ≡ max (height a.x) (height a.y) + 1 = omega (arith, ap height a.is) in
@@ -233,10 +233,10 @@ module _ (since birth : ℕ) (p p1 : Nodes) (top left turned : ℕ) (below : Nod
               let ir : Descends (fork inner b.bm b.v node.key b.u) = subst Descends b.is il.2 in let jr : b.bm ≤ a.bl = subst (BirthAtMost a.bl) b.is il.0 in let kr : b.bm ≤ birth = omega arith in
               ((omega arith, omega arith, (br, BirthAtMost-later b.bm birth b.v kr ir.0, dr, ir.2), (BirthAtMost-later b.bm birth b.u kr ir.1, BirthAtMost-later a.bl birth a.x jl il.1, ir.3, il.3)), omega arith);
           height_is = (omega arith, omega arith, λ d. omega (arith, d.0, d.1));
-          step = Step-beside since p p5 (λ i. one top i + held l i + held r i) (held (fork middle birth (fork top birth r key b.v) node.key (fork turned birth b.u below.key a.x))) _ _ (Step-then since p p1 p5 _ _ _ a.step (Step-then since p1 p2 p5 _ _ _ b.step
-              (Step-then since p2 p3 p5 _ (λ i. one top i + one turned i + one middle i + held a.x i + held b.u i + held b.v i + held r i) _ (Step-beside since p2 p3 _ _ _ _ k.step (λ i. omega arith) (λ i. omega arith))
-              (Step-then since p3 p4 p5 _ (λ i. one top i + one turned i + one middle i + held a.x i + held b.u i + held b.v i + held r i) _ (Step-beside since p3 p4 _ _ _ _ h.step (λ i. omega arith) (λ i. omega arith))
-              (Step-beside since p4 p5 _ _ _ _ m.step (λ i. omega arith) (λ i. omega arith)))))) (λ i. omega arith) (λ i. omega arith);
+          step = Step-beside since birth p p5 (λ i. one top i + occurrences l i + occurrences r i) (occurrences (fork middle birth (fork top birth r key b.v) node.key (fork turned birth b.u below.key a.x))) _ _ (Step-then since birth p p1 p5 _ _ _ a.step (Step-then since birth p1 p2 p5 _ _ _ b.step
+              (Step-then since birth p2 p3 p5 _ (λ i. one top i + one turned i + one middle i + occurrences a.x i + occurrences b.u i + occurrences b.v i + occurrences r i) _ (Step-beside since birth p2 p3 _ _ _ _ k.step (λ i. omega arith) (λ i. omega arith))
+              (Step-then since birth p3 p4 p5 _ (λ i. one top i + one turned i + one middle i + occurrences a.x i + occurrences b.u i + occurrences b.v i + occurrences r i) _ (Step-beside since birth p3 p4 _ _ _ _ h.step (λ i. omega arith) (λ i. omega arith))
+              (Step-beside since birth p4 p5 _ _ _ _ m.step (λ i. omega arith) (λ i. omega arith)))))) (λ i. omega arith) (λ i. omega arith);
           total = omega (arith, a.total, b.total, link.total, link.same, link2.total, link2.same, link3.total, link3.same);
           few = omega (arith, a.few, b.few, link.same, link2.same, link3.same, twice since, joins_two since (height r) (height l) (inr higher));
           exact = omega (arith, a.exact, b.exact, link.same, ap (Rattle.std.specs.Prelude.count_by Rattle.gs_pool.specs.Pool.is_aside) link.marks, link2.same, ap (Rattle.std.specs.Prelude.count_by Rattle.gs_pool.specs.Pool.is_aside) link2.marks, link3.same, ap (Rattle.std.specs.Prelude.count_by Rattle.gs_pool.specs.Pool.is_aside) link3.marks);

@@ -4,8 +4,8 @@ use Rattle.std.proofs.lemmas.Bool.{eq-eqb, ne_eqb, cases_eq}
 use Rattle.gs_pool.specs.declared.nodes.Key.{Key}
 use Rattle.gs_pool.specs.declared.nodes.Node.{Node}
 use Rattle.gs_pool.specs.Pool.{Nodes, NodeMark, plain, aside, replaced, retired, node_at, mark_at}
-use Rattle.gs_tree.specs.Tree.{Tree, leaf, fork, root_of, height, held, top_node, Stands, height_at, IsRoot, grow, grow_node, tree_at, node_height, BirthAtMost, Descends}
-use Rattle.gs_tree.specs.Steps.{plain01, plain_node, plain_mark, one, Step, IsOwned, IsOlder, Owns, Links}
+use Rattle.gs_tree.specs.Tree.{Tree, leaf, fork, root_of, height, occurrences, top_node, Stands, height_at, IsRoot, grow, grow_node, tree_at, node_height, BirthAtMost, Descends}
+use Rattle.gs_tree.specs.Steps.{plain_count, plain_node, plain_mark, one, Step, IsRecent, IsOlder, CopiesIfOlder, Links}
 
 pub one_same : (x : ℕ) → one x x ≡ 1
 one_same x = rw (eq-eqb x x refl)
@@ -18,11 +18,11 @@ pub one_cases : (i x : ℕ) → ((i ≡ x) × (one i x ≡ 1)) ⊎ ((i ≢ x) ×
 one_cases i x = elim (cases_eq i x) [ inl e ↦ inl (e, subst (λ y. one i y ≡ 1) e (one_same i)) | inr ne ↦ inr (ne, one_other i x ne) ]
 
 -- a plain node in use counts 1, and a free number 0
-pub plain01_some : (p : Nodes) (x : ℕ) (n : Node) → node_at p x ≡ Some n → mark_at p x ≡ plain → plain01 p x ≡ 1
-plain01_some p x n e f = ap (λ o. plain_node o (mark_at p x)) e ∙ ap plain_mark f
+pub plain_count_some : (p : Nodes) (x : ℕ) (n : Node) → node_at p x ≡ Some n → mark_at p x ≡ plain → plain_count p x ≡ 1
+plain_count_some p x n e f = ap (λ o. plain_node o (mark_at p x)) e ∙ ap plain_mark f
 
-pub plain01_none : (p : Nodes) (x : ℕ) → node_at p x ≡ None → plain01 p x ≡ 0
-plain01_none p x e = ap (λ o. plain_node o (mark_at p x)) e
+pub plain_count_none : (p : Nodes) (x : ℕ) → node_at p x ≡ None → plain_count p x ≡ 0
+plain_count_none p x e = ap (λ o. plain_node o (mark_at p x)) e
 
 plain_mark_most : (m : NodeMark) → plain_mark m ≤ 1
 plain_mark_most plain = omega arith
@@ -33,16 +33,16 @@ plain_node_most : (o : Option Node) (m : NodeMark) → plain_node o m ≤ 1
 plain_node_most None m = omega arith
 plain_node_most (Some n) m = plain_mark_most m
 
-pub plain01_most : (p : Nodes) (x : ℕ) → plain01 p x ≤ 1
-plain01_most p x = plain_node_most (node_at p x) (mark_at p x)
+pub plain_count_most : (p : Nodes) (x : ℕ) → plain_count p x ≤ 1
+plain_count_most p x = plain_node_most (node_at p x) (mark_at p x)
 
 -- what is counted depends on the node and the mark alone
-pub plain01_same : (p q : Nodes) (x : ℕ) → node_at q x ≡ node_at p x → mark_at q x ≡ mark_at p x → plain01 q x ≡ plain01 p x
-plain01_same p q x e f = ap (λ o. plain_node o (mark_at q x)) e ∙ ap (plain_node (node_at p x)) f
+pub plain_count_same : (p q : Nodes) (x : ℕ) → node_at q x ≡ node_at p x → mark_at q x ≡ mark_at p x → plain_count q x ≡ plain_count p x
+plain_count_same p q x e f = ap (λ o. plain_node o (mark_at q x)) e ∙ ap (plain_node (node_at p x)) f
 
 -- a node in use counts by its mark
-pub plain01_mark : (p : Nodes) (x : ℕ) → IsSome (node_at p x) → plain01 p x ≡ plain_mark (mark_at p x)
-plain01_mark p x used = by_node (node_at p x) used
+pub plain_count_mark : (p : Nodes) (x : ℕ) → IsSome (node_at p x) → plain_count p x ≡ plain_mark (mark_at p x)
+plain_count_mark p x used = by_node (node_at p x) used
   where
     by_node : (o : Option Node) → IsSome o → plain_node o (mark_at p x) ≡ plain_mark (mark_at p x)
     by_node None h = absurd (true≢false (sym h))
@@ -54,7 +54,7 @@ mark_cases (aside death whole) = inr refl
 mark_cases (retired death whole) = inr refl
 
 -- what is counted is a plain node
-pub plain_found : (p : Nodes) (x : ℕ) → 0 < plain01 p x → IsSome (node_at p x) × (mark_at p x ≡ plain)
+pub plain_found : (p : Nodes) (x : ℕ) → 0 < plain_count p x → IsSome (node_at p x) × (mark_at p x ≡ plain)
 plain_found p x h = by_node (node_at p x) h
   where
     by_node : (o : Option Node) → 0 < plain_node o (mark_at p x) → IsSome o × (mark_at p x ≡ plain)
@@ -62,7 +62,7 @@ plain_found p x h = by_node (node_at p x) h
     by_node (Some n) h = elim (mark_cases (mark_at p x)) [ inl is ↦ (refl, is) | inr not ↦ absurd (omega arith) ]
 
 -- a tree stands where each of its nodes is as it was
-pub Stands-same : (p q : Nodes) (t : Tree) → ((x : ℕ) (n : Node) → 0 < held t x → node_at p x ≡ Some n → node_at q x ≡ Some n) → Stands p t → Stands q t
+pub Stands-same : (p q : Nodes) (t : Tree) → ((x : ℕ) (n : Node) → 0 < occurrences t x → node_at p x ≡ Some n → node_at q x ≡ Some n) → Stands p t → Stands q t
 Stands-same p q leaf same s = tt
 Stands-same p q (fork id birth l k r) same s = (
   same id _ (omega (arith, one_same id)) s.0,
@@ -71,8 +71,8 @@ Stands-same p q (fork id birth l k r) same s = (
 )
 
 -- a tree that a step does not hold stays, and so does what is older
-pub Stands-step : (since : ℕ) (p q : Nodes) (before after : ℕ → ℕ) (t : Tree) → Step since p q before after → ((x : ℕ) → 0 < held t x → before x ≡ 0) → Stands p t → Stands q t
-Stands-step since p q before after t step off s = Stands-same p q t (λ x n h e. step.kept x n e (inl (off x h))) s
+pub Stands-step : (since birth : ℕ) (p q : Nodes) (before after : ℕ → ℕ) (t : Tree) → Step since birth p q before after → ((x : ℕ) → 0 < occurrences t x → before x ≡ 0) → Stands p t → Stands q t
+Stands-step since birth p q before after t step off s = Stands-same p q t (λ x n h e. step.kept x n e (inl (off x h))) s
 
 pub height_at-is : (p : Nodes) (t : Tree) → Stands p t → height_at p (root_of t) ≡ height t
 height_at-is p leaf s = refl
@@ -95,14 +95,14 @@ grow-is (suc n) p (fork id birth l k r) h s =
 pub tree_at-is : (p : Nodes) (t : Tree) → Stands p t → tree_at p (root_of t) ≡ t
 tree_at-is p t s = grow-is (height_at p (root_of t)) p t (omega (arith, height_at-is p t s)) s
 
--- a node in use that is not held does not get held
-off_stays : (since : ℕ) (p q : Nodes) (a b : ℕ → ℕ) (x : ℕ) (n : Node) → Step since p q a b → node_at p x ≡ Some n → a x ≡ 0 → b x ≡ 0
-off_stays since p q a b x n s e off =
+-- a node in use that is in none of the trees that change stays in none
+off_stays : (since birth : ℕ) (p q : Nodes) (a b : ℕ → ℕ) (x : ℕ) (n : Node) → Step since birth p q a b → node_at p x ≡ Some n → a x ≡ 0 → b x ≡ 0
+off_stays since birth p q a b x n s e off =
     let now : node_at q x ≡ Some n = s.kept x n e (inl off) in
-    let before : plain01 p x ≡ plain_mark (mark_at p x) = plain01_mark p x (ap is_some e) in
-    let after : plain01 q x ≡ plain_mark (mark_at q x) = plain01_mark q x (ap is_some now) in
+    let before : plain_count p x ≡ plain_mark (mark_at p x) = plain_count_mark p x (ap is_some e) in
+    let after : plain_count q x ≡ plain_mark (mark_at q x) = plain_count_mark q x (ap is_some now) in
     elim (mark_cases (mark_at p x)) [
-      | inl is ↦ omega (arith, s.balance x, before, ap plain_mark is, plain01_most q x)
+      | inl is ↦ omega (arith, s.balance x, before, ap plain_mark is, plain_count_most q x)
       | inr not ↦ elim (s.marks x) [
         | inl same ↦ omega (arith, s.balance x, before, after, ap plain_mark same)
         | inr changed ↦ absurd (omega (arith, ap plain_mark changed.1))
@@ -110,14 +110,15 @@ off_stays since p q a b x n s e off =
     ]
 
 -- two steps are one
-pub Step-then : (since : ℕ) (p q r : Nodes) (a b c : ℕ → ℕ) → Step since p q a b → Step since q r b c → Step since p r a c
-Step-then since p q r a b c s t = record {
+pub Step-then : (since birth : ℕ) (p q r : Nodes) (a b c : ℕ → ℕ) → Step since birth p q a b → Step since birth q r b c → Step since birth p r a c
+Step-then since birth p q r a b c s t = record {
   kept = λ x n e h. t.kept x n (s.kept x n e h) (elim h [
-    | inl none ↦ inl (off_stays since p q a b x n s e none)
+    | inl none ↦ inl (off_stays since birth p q a b x n s e none)
     | inr old ↦ inr old
   ]);
   balance = λ x. omega (arith, s.balance x, t.balance x);
   older = λ x n e h. s.older x n (t.older x n e h) h;
+  born = λ x n e. elim (t.born x n e) [ inl was ↦ s.born x n was | inr new ↦ inr new ];
   marks = λ x. elim (t.marks x) [
     | inl same ↦ elim (s.marks x) [ inl same2 ↦ inl (same ∙ same2) | inr old ↦ inr (old.0, old.1, same ∙ old.2) ]
     | inr new ↦ elim (s.marks x) [
@@ -127,51 +128,57 @@ Step-then since p q r a b c s t = record {
   ];
 }
 
--- a step beside what else is held
-pub Step-beside : (since : ℕ) (p q : Nodes) (a b c d : ℕ → ℕ) → Step since p q a b → ((x : ℕ) → c x + b x ≡ a x + d x) → ((x : ℕ) → a x ≤ c x) → Step since p q c d
-Step-beside since p q a b c d s e le = record {
+-- a step, seen among more trees, which stay
+pub Step-beside : (since birth : ℕ) (p q : Nodes) (a b c d : ℕ → ℕ) → Step since birth p q a b → ((x : ℕ) → c x + b x ≡ a x + d x) → ((x : ℕ) → a x ≤ c x) → Step since birth p q c d
+Step-beside since birth p q a b c d s e le = record {
   kept = λ x n f h. s.kept x n f (elim h [ inl none ↦ inl (omega (arith, le x)) | inr old ↦ inr old ]);
   balance = λ x. omega (arith, s.balance x, e x, le x);
   older = s.older;
+  born = s.born;
   marks = s.marks;
 }
 
--- making a node one's own
-pub Owns-step : (since : ℕ) (p q : Nodes) (id own : ℕ) → Owns p q since id own → Step since p q (one id) (one own)
-Owns-step since p q id own o = elim o.cases [
+-- a node is no older than `since`, or is copied
+pub CopiesIfOlder-step : (since birth : ℕ) (p q : Nodes) (id copy : ℕ) → CopiesIfOlder since birth p q id copy → Step since birth p q (one id) (one copy)
+CopiesIfOlder-step since birth p q id copy o = elim o.cases [
   | inl same ↦ record {
-    kept = λ x n e h. same.1 x ∙ e;
-    balance = λ x. omega (arith, ap (λ i. one i x) same.0, plain01_same p q x (same.1 x) (same.2 x));
-    older = λ x n e h. sym (same.1 x) ∙ e;
-    marks = λ x. inl (same.2 x);
+    kept = λ x n e h. same.nodes x ∙ e;
+    balance = λ x. omega (arith, ap (λ i. one i x) same.same, plain_count_same p q x (same.nodes x) (same.marks x));
+    older = λ x n e h. sym (same.nodes x) ∙ e;
+    born = λ x n e. inl (sym (same.nodes x) ∙ e);
+    marks = λ x. inl (same.marks x);
   }
   | inr new ↦
-      let old : IsOlder since p id = new.3 in
-      let apart : own ≢ id = λ f. let g : node_at p id ≡ None = subst (λ i. node_at p i ≡ None) f new.0 in let bad : Some old.0 ≡ None = sym old.1 ∙ g in cc in
-      let there : node_at q id ≡ Some old.0 = new.1 id (λ f. apart (sym f)) ∙ old.1 in
-      let was : plain01 p id ≡ 1 = plain01_some p id old.0 old.1 new.2.0 in
-      let gone : plain01 q id ≡ 0 = plain01_mark q id (ap is_some there) ∙ ap plain_mark new.2.1 in
-      let free : plain01 p own ≡ 0 = plain01_none p own new.0 in
-      let made : plain01 q own ≡ 1 = plain01_mark q own o.used ∙ ap plain_mark new.2.2 in
+      let old : IsOlder since p id = new.older in
+      let apart : copy ≢ id = λ f. let g : node_at p id ≡ None = subst (λ i. node_at p i ≡ None) f new.was_free in let bad : Some old.0 ≡ None = sym old.1 ∙ g in cc in
+      let there : node_at q id ≡ Some old.0 = new.others id (λ f. apart (sym f)) ∙ old.1 in
+      let was : plain_count p id ≡ 1 = plain_count_some p id old.0 old.1 new.was_plain in
+      let gone : plain_count q id ≡ 0 = plain_count_mark q id (ap is_some there) ∙ ap plain_mark new.set_aside in
+      let free : plain_count p copy ≡ 0 = plain_count_none p copy new.was_free in
+      let made : plain_count q copy ≡ 1 = plain_count_mark q copy o.used ∙ ap plain_mark new.plain_now in
       record {
-        kept = λ x n e h. let ne : x ≢ own = λ f. let g : node_at p x ≡ None = subst (λ i. node_at p i ≡ None) (sym f) new.0 in let bad : Some n ≡ None = sym e ∙ g in absurd (cc) in new.1 x ne ∙ e;
-        balance = λ x. elim (one_cases own x) [
+        kept = λ x n e h. let ne : x ≢ copy = λ f. let g : node_at p x ≡ None = subst (λ i. node_at p i ≡ None) (sym f) new.was_free in let bad : Some n ≡ None = sym e ∙ g in absurd (cc) in new.others x ne ∙ e;
+        balance = λ x. elim (one_cases copy x) [
           | inl here ↦ elim (one_cases id x) [
             | inl same ↦ absurd (apart (here.0 ∙ sym same.0))
-            | inr ne ↦ omega (arith, here.1, ne.1, subst (λ i. plain01 p i ≡ 0) here.0 free, subst (λ i. plain01 q i ≡ 1) here.0 made)
+            | inr ne ↦ omega (arith, here.1, ne.1, subst (λ i. plain_count p i ≡ 0) here.0 free, subst (λ i. plain_count q i ≡ 1) here.0 made)
           ]
           | inr off ↦ elim (one_cases id x) [
-            | inl same ↦ omega (arith, off.1, same.1, subst (λ i. plain01 p i ≡ 1) same.0 was, subst (λ i. plain01 q i ≡ 0) same.0 gone)
-            | inr ne ↦ omega (arith, off.1, ne.1, plain01_same p q x (new.1 x (λ f. off.0 (sym f))) (new.4 x (λ f. ne.0 (sym f))))
+            | inl same ↦ omega (arith, off.1, same.1, subst (λ i. plain_count p i ≡ 1) same.0 was, subst (λ i. plain_count q i ≡ 0) same.0 gone)
+            | inr ne ↦ omega (arith, off.1, ne.1, plain_count_same p q x (new.others x (λ f. off.0 (sym f))) (new.marks x (λ f. ne.0 (sym f))))
           ]
         ];
-        older = λ x n e h. elim (cases_eq x own) [
-          | inl here ↦ absurd (omega (arith, o.owned n (subst (λ i. node_at q i ≡ Some n) here e)))
-          | inr ne ↦ sym (new.1 x ne) ∙ e
+        older = λ x n e h. elim (cases_eq x copy) [
+          | inl here ↦ absurd (omega (arith, o.recent n (subst (λ i. node_at q i ≡ Some n) here e)))
+          | inr ne ↦ sym (new.others x ne) ∙ e
+        ];
+        born = λ x n e. elim (cases_eq x copy) [
+          | inl here ↦ inr (new.born n (subst (λ i. node_at q i ≡ Some n) here e))
+          | inr ne ↦ inl (sym (new.others x ne) ∙ e)
         ];
         marks = λ x. elim (cases_eq x id) [
-          | inl here ↦ inr (subst (λ i. IsOlder since p i × (mark_at p i ≡ plain) × (mark_at q i ≡ replaced)) (sym here) (old, new.2.0, new.2.1))
-          | inr ne ↦ inl (new.4 x ne)
+          | inl here ↦ inr (subst (λ i. IsOlder since p i × (mark_at p i ≡ plain) × (mark_at q i ≡ replaced)) (sym here) (old, new.was_plain, new.set_aside))
+          | inr ne ↦ inl (new.marks x ne)
         ];
       }
 ]
@@ -179,14 +186,14 @@ Owns-step since p q id own o = elim o.cases [
 -- a node that is made the parent of two trees
 pub record Linked (since : ℕ) (p q : Nodes) (id birth : ℕ) (l : Tree) (k : Key) (r : Tree) : Type 0 where
   pub stands : Stands q (fork id birth l k r)
-  pub step : Step since p q (one id) (one id)
-  pub owned : IsOwned since q id
+  pub step : Step since birth p q (one id) (one id)
+  pub recent : IsRecent since q id
 
-pub linked : (since : ℕ) (p q : Nodes) (id birth : ℕ) (l : Tree) (k : Key) (r : Tree) → Links p q id (root_of l) k (root_of r) birth → IsSome (node_at p id) → IsOwned since p id → since ≤ birth → Stands p l → Stands p r → held l id ≡ 0 → held r id ≡ 0 → Linked since p q id birth l k r
-linked since p q id birth l k r link used owned young sl sr offl offr =
-    let step : Step since p q (one id) (one id) = record {
+pub linked : (since : ℕ) (p q : Nodes) (id birth : ℕ) (l : Tree) (k : Key) (r : Tree) → Links p q id (root_of l) k (root_of r) birth → IsSome (node_at p id) → IsRecent since p id → since ≤ birth → Stands p l → Stands p r → occurrences l id ≡ 0 → occurrences r id ≡ 0 → Linked since p q id birth l k r
+linked since p q id birth l k r link used recent young sl sr offl offr =
+    let step : Step since birth p q (one id) (one id) = record {
       kept = λ x n e h. elim (one_cases id x) [
-        | inl here ↦ elim h [ inl none ↦ absurd (omega (arith, here.1)) | inr old ↦ absurd (omega (arith, owned n (subst (λ i. node_at p i ≡ Some n) (sym here.0) e))) ]
+        | inl here ↦ elim h [ inl none ↦ absurd (omega (arith, here.1)) | inr old ↦ absurd (omega (arith, recent n (subst (λ i. node_at p i ≡ Some n) (sym here.0) e))) ]
         | inr ne ↦ link.others x (λ f. ne.0 (sym f)) ∙ e
       ];
       balance = λ x. omega (arith, same_used x);
@@ -194,24 +201,28 @@ linked since p q id birth l k r link used owned young sl sr offl offr =
         | inl here ↦ absurd (let f : node_at q id ≡ Some n = subst (λ i. node_at q i ≡ Some n) here e in let g = same_birth _ _ (sym link.node ∙ f) in omega arith)
         | inr ne ↦ sym (link.others x ne) ∙ e
       ];
+      born = λ x n e. elim (cases_eq x id) [
+        | inl here ↦ inr (let f : node_at q id ≡ Some n = subst (λ i. node_at q i ≡ Some n) here e in sym (same_birth _ _ (sym link.node ∙ f)))
+        | inr ne ↦ inl (sym (link.others x ne) ∙ e)
+      ];
       marks = λ x. inl (ap (λ ms. Rattle.std.proofs.Common.get_or ms x plain) link.marks);
     } in
     record {
       stands = (
         link.node ∙ ap (λ h. Some (let n : Node = record { key = k; left = root_of l; right = root_of r; height = h; birth = birth } in n)) (ap (λ h. h + 1) (ap (λ a. max a (height_at p (root_of r))) (height_at-is p l sl) ∙ ap (max (height l)) (height_at-is p r sr))),
-        Stands-step since p q (one id) (one id) l step (λ x h. elim (one_cases id x) [ inl here ↦ absurd (omega (arith, subst (λ i. held l i ≡ 0) here.0 offl)) | inr ne ↦ ne.1 ]) sl,
-        Stands-step since p q (one id) (one id) r step (λ x h. elim (one_cases id x) [ inl here ↦ absurd (omega (arith, subst (λ i. held r i ≡ 0) here.0 offr)) | inr ne ↦ ne.1 ]) sr,
+        Stands-step since birth p q (one id) (one id) l step (λ x h. elim (one_cases id x) [ inl here ↦ absurd (omega (arith, subst (λ i. occurrences l i ≡ 0) here.0 offl)) | inr ne ↦ ne.1 ]) sl,
+        Stands-step since birth p q (one id) (one id) r step (λ x h. elim (one_cases id x) [ inl here ↦ absurd (omega (arith, subst (λ i. occurrences r i ≡ 0) here.0 offr)) | inr ne ↦ ne.1 ]) sr,
       );
       step = step;
-      owned = λ n e. let f = link.node in let g = same_birth _ _ (sym f ∙ e) in omega arith;
+      recent = λ n e. let f = link.node in let g = same_birth _ _ (sym f ∙ e) in omega arith;
     }
   where
-    same_used : (x : ℕ) → plain01 p x ≡ plain01 q x
+    same_used : (x : ℕ) → plain_count p x ≡ plain_count q x
     same_used x =
         let mark : mark_at q x ≡ mark_at p x = ap (λ ms. Rattle.std.proofs.Common.get_or ms x plain) link.marks in
         elim (one_cases id x) [
-          | inl here ↦ omega (arith, plain01_mark p x (subst (λ i. IsSome (node_at p i)) here.0 used), plain01_mark q x (subst (λ i. IsSome (node_at q i)) here.0 (ap is_some link.node)), ap plain_mark mark)
-          | inr ne ↦ omega (arith, plain01_same p q x (link.others x (λ f. ne.0 (sym f))) mark)
+          | inl here ↦ omega (arith, plain_count_mark p x (subst (λ i. IsSome (node_at p i)) here.0 used), plain_count_mark q x (subst (λ i. IsSome (node_at q i)) here.0 (ap is_some link.node)), ap plain_mark mark)
+          | inr ne ↦ omega (arith, plain_count_same p q x (link.others x (λ f. ne.0 (sym f))) mark)
         ]
 
     same_birth : (m n : Node) → Some m ≡ Some n → m.birth ≡ n.birth
@@ -225,13 +236,13 @@ pub birth_same : (m n : Node) → Some m ≡ Some n → m.birth ≡ n.birth
 birth_same m n e = cc
 
 -- each node of a tree whose births descend is no younger than its root's bound
-pub born_at : (p : Nodes) (v : ℕ) (t : Tree) (x : ℕ) (n : Node) → Stands p t → Descends t → BirthAtMost v t → 0 < held t x → node_at p x ≡ Some n → n.birth ≤ v
+pub born_at : (p : Nodes) (v : ℕ) (t : Tree) (x : ℕ) (n : Node) → Stands p t → Descends t → BirthAtMost v t → 0 < occurrences t x → node_at p x ≡ Some n → n.birth ≤ v
 born_at p v leaf x n s d b h e = absurd (omega arith)
 born_at p v (fork id birth l k r) x n s d b h e =
     let low : birth ≤ v = b in
     elim (one_cases id x) [
       | inl here ↦ let found : node_at p x ≡ Some (top_node birth l k r) = subst (λ y. node_at p y ≡ Some (top_node birth l k r)) here.0 s.0 in omega (arith, birth_same _ _ (sym found ∙ e))
-      | inr ne ↦ elim (zero_or (held l x)) [
+      | inr ne ↦ elim (zero_or (occurrences l x)) [
         | inl none ↦ omega (arith, born_at p birth r x n s.2 d.3 d.1 (omega (arith, ne.1)) e)
         | inr some ↦ omega (arith, born_at p birth l x n s.1 d.2 d.0 some e)
       ]

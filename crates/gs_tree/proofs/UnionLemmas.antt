@@ -9,13 +9,13 @@ use Rattle.gs_pool.specs.declared.nodes.Key.{Key}
 use Rattle.gs_pool.specs.declared.nodes.Node.{Node}
 use Rattle.gs_pool.specs.Pool.{Nodes, plain, is_aside, node_at, mark_at, in_use, room}
 use Rattle.gs_tree.specs.Keys.{IsRising, merge_keys}
-use Rattle.gs_tree.specs.Tree.{Tree, leaf, fork, root_of, height, keys, held, Stands, IsBalanced, BirthAtMost, Descends, height_at, tree_at}
+use Rattle.gs_tree.specs.Tree.{Tree, leaf, fork, root_of, height, keys, occurrences, Stands, IsBalanced, BirthAtMost, Descends, height_at, tree_at}
 use Rattle.gs_tree.specs.Sets.{Unites, IsSet, union_cost}
-use Rattle.gs_tree.specs.Steps.{plain01, one, Step, Owns}
+use Rattle.gs_tree.specs.Steps.{plain_count, one, Step, CopiesIfOlder}
 use Rattle.gs_tree.specs.Joining.{CanJoin, Settled, copies, joins, IsHeightAfter}
 use Rattle.gs_tree.specs.Merging.{Built, CanMerge, Merges}
 use Rattle.gs_tree.proofs.Counting.{low_size, same_marks}
-use Rattle.gs_tree.proofs.TreeLemmas.{Stands-same, tree_at-is, one_same, plain01_most, plain01_same, plain_found, Stands-step, Step-then, Step-beside, Owns-step, BirthAtMost-later}
+use Rattle.gs_tree.proofs.TreeLemmas.{Stands-same, tree_at-is, one_same, plain_count_most, plain_count_same, plain_found, Stands-step, Step-then, Step-beside, CopiesIfOlder-step, BirthAtMost-later}
 use Rattle.gs_tree.proofs.Rotations.{height_in, tree_in}
 use Rattle.gs_tree.proofs.Order.{rising_front, rising_back}
 use Rattle.gs_tree.proofs.Costs.{copies_some, copies_zero, copies_most, copies_add, copies_mono}
@@ -69,11 +69,12 @@ height_size (fork id birth l k r) = omega (arith, height_size l, height_size r)
 pub fits : (t : Tree) → IsBalanced t → length (keys t) < 2 ^ 65 → height t < 2 ^ 30
 fits t b small = omega (arith, height_digits t 65 b (omega (arith, size-keys t)))
 
-same_step : (since : ℕ) (p : Nodes) (f : ℕ → ℕ) → Step since p p f f
-same_step since p f = record {
+same_step : (since birth : ℕ) (p : Nodes) (f : ℕ → ℕ) → Step since birth p p f f
+same_step since birth p f = record {
   kept = λ x n e h. e;
   balance = λ x. refl;
   older = λ x n e h. e;
+  born = λ x n e. inl e;
   marks = λ x. inl refl;
 }
 
@@ -87,7 +88,7 @@ merges_same cmp since birth p root t run s e = record {
   births = λ d b. (d, b);
   not_lower = omega arith;
   growth = omega arith;
-  step = same_step since p (held t);
+  step = same_step since birth p (occurrences t);
   total = omega arith;
   few = omega arith;
   exact = omega arith;
@@ -132,10 +133,10 @@ module _ (cmp : Key → Key → Ordering) (total : IsTotalOrder cmp) (since birt
   rises : IsRising cmp (keys o.l ++ node.key ∷ keys o.r)
   rises = subst (λ u. IsRising cmp (keys u)) o.is can.set.rising
 
-  apart_in : (i : ℕ) → one id i + held o.l i + held o.r i ≤ plain01 p i
-  apart_in i = omega (arith, can.set.apart i, ap (λ u. held u i) o.is)
+  apart_in : (i : ℕ) → one id i + occurrences o.l i + occurrences o.r i ≤ plain_count p i
+  apart_in i = omega (arith, can.set.apart i, ap (λ u. occurrences u i) o.is)
 
-  within : (i : ℕ) → one id i + held o.l i + held o.r i ≤ plain01 p i
+  within : (i : ℕ) → one id i + occurrences o.l i + occurrences o.r i ≤ plain_count p i
   within = apart_in
 
   counts : length (keys t) ≡ length (keys o.l) + length (keys o.r) + 1
@@ -168,14 +169,14 @@ module _ (cmp : Key → Key → Ordering) (total : IsTotalOrder cmp) (since birt
     i : Merges cmp since birth p p1 left c o.l low (tree_at p1 left)
     i = subst (λ u. Merges cmp since birth p p1 left c u low (tree_at p1 left)) left_is i0
 
-    step1 : Step since p p1 (λ x. one id x + held o.l x + held o.r x) (λ x. one id x + held (tree_at p1 left) x + held o.r x)
-    step1 = Step-beside since p p1 (held o.l) (held (tree_at p1 left)) _ _ i.step (λ x. omega arith) (λ x. omega arith)
+    step1 : Step since birth p p1 (λ x. one id x + occurrences o.l x + occurrences o.r x) (λ x. one id x + occurrences (tree_at p1 left) x + occurrences o.r x)
+    step1 = Step-beside since birth p p1 (occurrences o.l) (occurrences (tree_at p1 left)) _ _ i.step (λ x. omega arith) (λ x. omega arith)
 
-    apart1 : (x : ℕ) → one id x + held (tree_at p1 left) x + held o.r x ≤ 1
-    apart1 x = omega (arith, step1.balance x, within x, plain01_most p1 x)
+    apart1 : (x : ℕ) → one id x + occurrences (tree_at p1 left) x + occurrences o.r x ≤ 1
+    apart1 x = omega (arith, step1.balance x, within x, plain_count_most p1 x)
 
     right_there : Stands p1 o.r
-    right_there = Stands-step since p p1 (held o.l) (held (tree_at p1 left)) o.r i.step (λ x h. omega (arith, apart_in x, plain01_most p x)) o.sr
+    right_there = Stands-step since birth p p1 (occurrences o.l) (occurrences (tree_at p1 left)) o.r i.step (λ x h. omega (arith, apart_in x, plain_count_most p x)) o.sr
 
     right_is : tree_at p1 node.right ≡ o.r
     right_is = tree_in p1 node.right o.r o.right_is right_there
@@ -195,14 +196,14 @@ module _ (cmp : Key → Key → Ordering) (total : IsTotalOrder cmp) (since birt
       k : Merges cmp since birth p1 p2 right d o.r high (tree_at p2 right)
       k = subst (λ u. Merges cmp since birth p1 p2 right d u high (tree_at p2 right)) right_is k0
 
-      step2 : Step since p p2 (λ x. one id x + held o.l x + held o.r x) (λ x. one id x + held (tree_at p1 left) x + held (tree_at p2 right) x)
-      step2 = Step-then since p p1 p2 _ _ _ step1 (Step-beside since p1 p2 (held o.r) (held (tree_at p2 right)) _ _ k.step (λ x. omega arith) (λ x. omega arith))
+      step2 : Step since birth p p2 (λ x. one id x + occurrences o.l x + occurrences o.r x) (λ x. one id x + occurrences (tree_at p1 left) x + occurrences (tree_at p2 right) x)
+      step2 = Step-then since birth p p1 p2 _ _ _ step1 (Step-beside since birth p1 p2 (occurrences o.r) (occurrences (tree_at p2 right)) _ _ k.step (λ x. omega arith) (λ x. omega arith))
 
-      apart2 : (x : ℕ) → one id x + held (tree_at p1 left) x + held (tree_at p2 right) x ≤ 1
-      apart2 x = omega (arith, step2.balance x, within x, plain01_most p2 x)
+      apart2 : (x : ℕ) → one id x + occurrences (tree_at p1 left) x + occurrences (tree_at p2 right) x ≤ 1
+      apart2 x = omega (arith, step2.balance x, within x, plain_count_most p2 x)
 
       left_there : Stands p2 (tree_at p1 left)
-      left_there = Stands-step since p1 p2 (held o.r) (held (tree_at p2 right)) (tree_at p1 left) k.step (λ x h. omega (arith, apart1 x)) i.stands
+      left_there = Stands-step since birth p1 p2 (occurrences o.r) (occurrences (tree_at p2 right)) (tree_at p1 left) k.step (λ x h. omega (arith, apart1 x)) i.stands
 
       merged : merge_keys cmp run (keys t) ≡ keys (tree_at p1 left) ++ node.key ∷ keys (tree_at p2 right)
       merged = ap (λ u. merge_keys cmp run (keys u)) o.is ∙ merge_node cmp total run low high node.key (keys o.l) (keys o.r) cut rises
@@ -222,7 +223,7 @@ module _ (cmp : Key → Key → Ordering) (total : IsTotalOrder cmp) (since birt
 
       pub top_used : IsSome (node_at p2 id)
       top_used =
-          let at1 = i.step.kept id node found (inl (omega (arith, apart_in id, one_same id, plain01_most p id))) in
+          let at1 = i.step.kept id node found (inl (omega (arith, apart_in id, one_same id, plain_count_most p id))) in
           ap is_some (k.step.kept id node at1 (inl (omega (arith, apart1 id, one_same id))))
 
       pub union_plain : mark_at p2 id ≡ plain
@@ -241,18 +242,18 @@ module _ (cmp : Key → Key → Ordering) (total : IsTotalOrder cmp) (since birt
         pub top_room : 0 < since → 0 < room p2
         top_room h = omega (arith, left_over, copies_some since 1 h)
 
-        module _ (p3 : Nodes) (top : ℕ) (w : Owns p2 p3 since id top) where
-          own : Step since p2 p3 (one id) (one top)
-          own = Owns-step since p2 p3 id top w
+        module _ (p3 : Nodes) (top : ℕ) (w : CopiesIfOlder since birth p2 p3 id top) where
+          copied : Step since birth p2 p3 (one id) (one top)
+          copied = CopiesIfOlder-step since birth p2 p3 id top w
 
-          step3 : Step since p p3 (λ x. one id x + held o.l x + held o.r x) (λ x. one top x + held (tree_at p1 left) x + held (tree_at p2 right) x)
-          step3 = Step-then since p p2 p3 _ _ _ step2 (Step-beside since p2 p3 (one id) (one top) _ _ own (λ x. omega arith) (λ x. omega arith))
+          step3 : Step since birth p p3 (λ x. one id x + occurrences o.l x + occurrences o.r x) (λ x. one top x + occurrences (tree_at p1 left) x + occurrences (tree_at p2 right) x)
+          step3 = Step-then since birth p p2 p3 _ _ _ step2 (Step-beside since birth p2 p3 (one id) (one top) _ _ copied (λ x. omega arith) (λ x. omega arith))
 
           left_stays : Stands p3 (tree_at p1 left)
-          left_stays = Stands-step since p2 p3 (one id) (one top) (tree_at p1 left) own (λ x h. omega (arith, apart2 x)) left_there
+          left_stays = Stands-step since birth p2 p3 (one id) (one top) (tree_at p1 left) copied (λ x h. omega (arith, apart2 x)) left_there
 
           right_stays : Stands p3 (tree_at p2 right)
-          right_stays = Stands-step since p2 p3 (one id) (one top) (tree_at p2 right) own (λ x h. omega (arith, apart2 x)) k.stands
+          right_stays = Stands-step since birth p2 p3 (one id) (one top) (tree_at p2 right) copied (λ x h. omega (arith, apart2 x)) k.stands
 
           left_now : tree_at p3 left ≡ tree_at p1 left
           left_now = tree_in p3 left (tree_at p1 left) i.root left_stays
@@ -271,7 +272,7 @@ module _ (cmp : Key → Key → Ordering) (total : IsTotalOrder cmp) (since birt
                   left_balanced = i.balanced;
                   right_balanced = k.balanced;
                   apart = λ x. omega (arith, step3.balance x, within x);
-                  mine = record { used = w.used; owned = w.owned };
+                  writable = record { used = w.used; recent = w.recent };
                   left_fits = fits (tree_at p1 left) i.balanced (omega (arith, i.counted, i.at_most, can.small, counts, few_in));
                   right_fits = fits (tree_at p2 right) k.balanced (omega (arith, k.counted, k.at_most, can.small, counts, few_in));
                   has_room = λ h. omega (arith, left_over, w.total, w.few, copies_some since 1 h, copies_some since 2 h, copies_add since (joins (height (tree_at p1 left)) (height (tree_at p2 right))) 2);
@@ -294,7 +295,7 @@ module _ (cmp : Key → Key → Ordering) (total : IsTotalOrder cmp) (since birt
                     let a = i.births e.2 (BirthAtMost-later o.birth birth o.l f e.0) in let b = k.births e.3 (BirthAtMost-later o.birth birth o.r f e.1) in s.births a.0 b.0 a.1 b.1;
                 not_lower = omega (arith, heights, both_grew (height o.l) (height o.r) (height (tree_at p1 left)) (height (tree_at p2 right)) (height new) near.0.0 near.0.1 i.not_lower k.not_lower s.height_is);
                 growth = omega (arith, heights, h1, i.growth, k.growth, few_in);
-                step = Step-beside since p p4 _ _ _ _ (Step-then since p p3 p4 _ _ _ step3 s.step) (λ x. omega (arith, ap (λ u. held u x) o.is)) (λ x. omega (arith, ap (λ u. held u x) o.is));
+                step = Step-beside since birth p p4 _ _ _ _ (Step-then since birth p p3 p4 _ _ _ step3 s.step) (λ x. omega (arith, ap (λ u. occurrences u x) o.is)) (λ x. omega (arith, ap (λ u. occurrences u x) o.is));
                 total = omega (arith, i.total, k.total, w.total, s.total);
                 few = omega (arith, i.few, k.few, w.few, s.few, cost, join_cost);
                 exact = omega (arith, i.exact, k.exact, w.exact, s.exact);
@@ -306,7 +307,7 @@ module _ (cmp : Key → Key → Ordering) (total : IsTotalOrder cmp) (since birt
 -- the whole of a union
 pub union_can : (cmp : Key → Key → Ordering) (since : ℕ) (p q : Nodes) (root : Option ℕ) (t : Tree) (run : List Key) → IsSet cmp p root t → IsRising cmp run → q.nodes ≡ p.nodes → q.marks ≡ p.marks → length q.nodes < 2 ^ 32 → length run < 2 ^ 64 → union_cost since (height t) (length run) + copies since 2 ≤ room q → (tree_at q root ≡ t) × CanMerge cmp since q root (tree_at q root) run
 union_can cmp since p q root t run s rising same drop small short enough =
-    let alike : (x : ℕ) → plain01 q x ≡ plain01 p x = λ x. plain01_same p q x (ap (λ xs. Rattle.std.proofs.Common.get_or xs x None) same) (ap (λ ms. Rattle.std.proofs.Common.get_or ms x plain) drop) in
+    let alike : (x : ℕ) → plain_count q x ≡ plain_count p x = λ x. plain_count_same p q x (ap (λ xs. Rattle.std.proofs.Common.get_or xs x None) same) (ap (λ ms. Rattle.std.proofs.Common.get_or ms x plain) drop) in
     let stands = Stands-same p q t (λ x n h e. ap (λ xs. Rattle.std.proofs.Common.get_or xs x None) same ∙ e) s.stands in
     let is = tree_in q root t s.root_is stands in (
       is,
@@ -324,12 +325,13 @@ united cmp total since birth p0 p q root to added t u run new s same drop small 
     let i : Merges cmp since birth p q to added t run new = subst (λ v. Merges cmp since birth p q to added v run new) e0 i0 in
     let at : (x : ℕ) → node_at p0 x ≡ node_at p x = λ x. ap (λ xs. Rattle.std.proofs.Common.get_or xs x None) (sym same) in
     let mark : (x : ℕ) → mark_at p0 x ≡ mark_at p x = λ x. ap (λ ms. Rattle.std.proofs.Common.get_or ms x plain) (sym drop) in
-    let alike : (x : ℕ) → plain01 p0 x ≡ plain01 p x = λ x. plain01_same p p0 x (at x) (mark x) in
+    let alike : (x : ℕ) → plain_count p0 x ≡ plain_count p x = λ x. plain_count_same p p0 x (at x) (mark x) in
     let uses : in_use p ≡ in_use p0 = ap (λ xs. Rattle.std.specs.Prelude.count_by is_some xs) same in
-    let step : Step since p0 q (held t) (held new) = record {
+    let step : Step since birth p0 q (occurrences t) (occurrences new) = record {
       kept = λ x n e h. i.step.kept x n (sym (at x) ∙ e) h;
       balance = λ x. omega (arith, i.step.balance x, alike x);
       older = λ x n e h. at x ∙ i.step.older x n e h;
+      born = λ x n e. elim (i.step.born x n e) [ inl was ↦ inl (at x ∙ was) | inr new ↦ inr new ];
       marks = λ x. elim (i.step.marks x) [ inl kept ↦ inl (kept ∙ sym (mark x)) | inr old ↦ inr ((old.0.0, at x ∙ old.0.1, old.0.2), mark x ∙ old.1, old.2) ];
     } in
     record {
@@ -347,7 +349,7 @@ united cmp total since birth p0 p q root to added t u run new s same drop small 
       step = step;
       others = λ other there away. let stays = Stands-same p0 q other (λ x n h e. step.kept x n e (away x n h e)) there in (stays, tree_at-is q other stays ∙ sym (tree_at-is p0 other there));
       exact = omega (arith, i.exact, uses, ap (Rattle.std.specs.Prelude.count_by is_aside) drop);
-      owned = λ z. omega (arith, i.exact, uses, same_marks q.marks p.marks (λ x. elim (i.step.marks x) [ inl kept ↦ kept | inr old ↦ absurd (omega (arith, old.0.2)) ]));
+      in_place = λ z. omega (arith, i.exact, uses, same_marks q.marks p.marks (λ x. elim (i.step.marks x) [ inl kept ↦ kept | inr old ↦ absurd (omega (arith, old.0.2)) ]));
       cost = omega (arith, i.few, uses);
       digits = λ d le. omega (arith, i.few, uses, per_key (height t) (8 * d) (omega (arith, height_digits t d s.balanced (omega (arith, size-keys t)))), mul-add (length run) (8 * d) 1);
       few = omega (arith, i.few, uses, per_key (height t) 256 (omega (arith, height_digits t 32 s.balanced (omega (arith, low_size p0 t s.stands s.apart (omega (arith, ap length same, small)))))), mul-add (length run) 256 1);
@@ -364,8 +366,8 @@ united cmp total since birth p0 p q root to added t u run new s same drop small 
 pub enough_copied : (since h n each spare : ℕ) → 0 < since → each ≡ 1 + 4 * h → spare ≡ 2 → union_cost since h n + copies since 2 ≤ n * each + spare
 enough_copied since h n each spare pos e f = omega (arith, copies_most since 2, ap (λ k. n * k) e, ap (λ k. n * k) (copies_some since (4 * h) pos), mul-add n 1 (4 * h))
 
-pub enough_owned : (since h n each spare : ℕ) → since ≡ 0 → each ≡ 1 → union_cost since h n + copies since 2 ≤ n * each + spare
-enough_owned since h n each spare none e = omega (arith, copies_zero since 2 none, ap (λ k. n * k) e, ap (λ k. n * k) (copies_zero since (4 * h) none))
+pub enough_in_place : (since h n each spare : ℕ) → since ≡ 0 → each ≡ 1 → union_cost since h n + copies since 2 ≤ n * each + spare
+enough_in_place since h n each spare none e = omega (arith, copies_zero since 2 none, ap (λ k. n * k) e, ap (λ k. n * k) (copies_zero since (4 * h) none))
 
 pub short_run : (n each : ℕ) → 1 ≤ each → n * each < 2 ^ 64 → n < 2 ^ 64
 short_run n each some h = omega (arith, mul-le n 1 n each (omega arith) some)

@@ -2,8 +2,8 @@
 use Rattle.std.specs.Prelude.{◌≡◌, ℕ, ◌+◌, ◌-◌, ◌*◌, ◌^◌, ◌<◌, ◌≤◌, max, ◌∷◌, ◌++◌, Option, Some, if◌then◌else◌}
 use Rattle.gs_pool.specs.declared.nodes.Key.{Key}
 use Rattle.gs_pool.specs.Pool.{Nodes, in_use, aside_count, room}
-use Rattle.gs_tree.specs.Tree.{Tree, root_of, height, keys, held, Stands, IsBalanced, DifferByAtMost, BirthAtMost, Descends, tree_at}
-use Rattle.gs_tree.specs.Steps.{plain01, one, SameTotal, Step, IsMine}
+use Rattle.gs_tree.specs.Tree.{Tree, root_of, height, keys, occurrences, Stands, IsBalanced, DifferByAtMost, BirthAtMost, Descends, tree_at}
+use Rattle.gs_tree.specs.Steps.{plain_count, one, SameTotal, Step, IsWritable}
 
 -- two balanced trees that stand apart from each other and from the node `top`
 pub record CanSettle (since : ℕ) (p : Nodes) (top : ℕ) (left : Option ℕ) (l : Tree) (right : Option ℕ) (r : Tree) : Type 0 where
@@ -13,8 +13,8 @@ pub record CanSettle (since : ℕ) (p : Nodes) (top : ℕ) (left : Option ℕ) (
   pub right_stands : Stands p r
   pub left_balanced : IsBalanced l
   pub right_balanced : IsBalanced r
-  pub apart : (x : ℕ) → one top x + held l x + held r x ≤ plain01 p x
-  pub mine : IsMine since p top
+  pub apart : (x : ℕ) → one top x + occurrences l x + occurrences r x ≤ plain_count p x
+  pub writable : IsWritable since p top
   pub left_fits : height l < 2 ^ 30
   pub right_fits : height r < 2 ^ 30
   pub has_room : 0 < since → 2 ≤ room p
@@ -39,7 +39,7 @@ pub record Settled (since birth : ℕ) (p q : Nodes) (top result : ℕ) (key : K
   pub keys_are : keys t ≡ keys l ++ key ∷ keys r
   pub births : Descends l → Descends r → BirthAtMost birth l → BirthAtMost birth r → Descends t × BirthAtMost birth t
   pub height_is : IsHeightAfter (height l) (height r) (height t)
-  pub step : Step since p q (λ x. one top x + held l x + held r x) (held t)
+  pub step : Step since birth p q (λ x. one top x + occurrences l x + occurrences r x) (occurrences t)
   pub total : SameTotal p q
   pub few : in_use q ≤ in_use p + copies since (joins (height l) (height r))
   pub exact : in_use q + aside_count p ≡ in_use p + aside_count q

@@ -50,10 +50,10 @@ module _ (cmp : Key → Key → Ordering) where
   abbrev pub merge_keys : List Key → List Key → List Key
   merge_keys run ys = fold (λ ks x. insert_key x ks) ys run
 
-  -- where a key stands in a run: the keys before `before` are below it, those from `behind` on are above it, and one between is equal to it
-  pub record Places (key : Key) (run : List Key) (before behind : ℕ) : Type 0 where
-    pub low : before ≤ behind
-    pub within : behind ≤ length run
+  -- where a key stands in a run: the keys before `before` are below it, those from `after` on are above it, and one between is equal to it
+  pub record Places (key : Key) (run : List Key) (before after : ℕ) : Type 0 where
+    pub low : before ≤ after
+    pub within : after ≤ length run
     pub below : AllKeys (λ x. cmp x key ≡ Less) (take before run)
-    pub above : AllKeys (λ x. cmp key x ≡ Less) (drop behind run)
-    pub here : (before ≡ behind) ⊎ ((x : Key) × (drop before run ≡ x ∷ drop behind run) × (cmp x key ≡ Equal))
+    pub above : AllKeys (λ x. cmp key x ≡ Less) (drop after run)
+    pub here : (before ≡ after) ⊎ ((x : Key) × (drop before run ≡ x ∷ drop after run) × (cmp x key ≡ Equal))

@@ -5,7 +5,7 @@ use Rattle.gs_pool.specs.declared.nodes.Key.{Key}
 use Rattle.gs_pool.specs.Pool.{Nodes, mark_at, in_use, aside_count, room}
 use Rattle.gs_tree.specs.declared.unions.Merged.{Merged}
 use Rattle.gs_tree.specs.Keys.{IsRising, merge_keys}
-use Rattle.gs_tree.specs.Tree.{Tree, root_of, height, keys, held, Stands, IsBalanced, BirthAtMost, Descends, tree_at}
+use Rattle.gs_tree.specs.Tree.{Tree, root_of, height, keys, occurrences, Stands, IsBalanced, BirthAtMost, Descends, tree_at}
 use Rattle.gs_tree.specs.Steps.{SameTotal, Step}
 use Rattle.gs_tree.specs.Joining.{copies}
 use Rattle.gs_tree.specs.Sets.{IsSet, union_cost}
@@ -18,7 +18,7 @@ pub record Built (birth : ℕ) (p q : Nodes) (result : Option ℕ) (run : List K
   pub keys_are : keys new ≡ run
   pub descends : Descends new
   pub born : BirthAtMost birth new
-  pub step : (since : ℕ) → since ≤ birth → Step since p q (λ x. 0) (held new)
+  pub step : (since : ℕ) → since ≤ birth → Step since birth p q (λ x. 0) (occurrences new)
   pub total : SameTotal p q
   pub exact : in_use q ≡ in_use p + length run
   pub marks : (x : ℕ) → mark_at q x ≡ mark_at p x
@@ -42,7 +42,7 @@ pub record Merges (cmp : Key → Key → Ordering) (since birth : ℕ) (p q : No
   pub births : Descends t → BirthAtMost birth t → Descends new × BirthAtMost birth new
   pub not_lower : height t ≤ height new
   pub growth : height new ≤ height t + length run
-  pub step : Step since p q (held t) (held new)
+  pub step : Step since birth p q (occurrences t) (occurrences new)
   pub total : SameTotal p q
   pub few : in_use q ≤ in_use p + union_cost since (height t) (length run)
   pub exact : in_use q + aside_count p ≡ in_use p + aside_count q + added

@@ -6,13 +6,13 @@ use Rattle.std.specs.declared.cmp.Ordering.TheVariants.{Less, Equal, Greater}
 use Rattle.gs_pool.specs.declared.nodes.Key.{Key}
 use Rattle.gs_pool.specs.Pool.{Nodes}
 use Rattle.gs_tree.specs.Keys.{IsRising}
-use Rattle.gs_tree.specs.Tree.{Tree, root_of, keys, held, Stands, tree_at}
+use Rattle.gs_tree.specs.Tree.{Tree, root_of, keys, occurrences, Stands, tree_at}
 
 -- a root means a tree that has each of its nodes once
 pub record IsTree (p : Nodes) (root : Option ℕ) (t : Tree) : Type 0 where
   pub root_is : root ≡ root_of t
   pub stands : Stands p t
-  pub once : (x : ℕ) → held t x ≤ 1
+  pub once : (x : ℕ) → occurrences t x ≤ 1
 
 -- a root means keys in order, whatever its nodes are marked as
 pub record IsReadable (cmp : Key → Key → Ordering) (p : Nodes) (root : Option ℕ) (t : Tree) : Type 0 where

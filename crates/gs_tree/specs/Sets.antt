@@ -6,9 +6,9 @@ use Rattle.gs_pool.specs.declared.nodes.Node.{Node}
 use Rattle.gs_pool.specs.Pool.{Nodes, node_at, in_use, aside_count}
 use Rattle.gs_tree.specs.declared.unions.Merged.{Merged}
 use Rattle.gs_tree.specs.Keys.{IsRising, insert_key, remove_key, merge_keys}
-use Rattle.gs_tree.specs.Tree.{Tree, root_of, height, keys, held, Stands, IsBalanced, BirthAtMost, Descends, tree_at}
+use Rattle.gs_tree.specs.Tree.{Tree, root_of, height, keys, occurrences, Stands, IsBalanced, BirthAtMost, Descends, tree_at}
 use Rattle.gs_tree.specs.Reading.{keys_at}
-use Rattle.gs_tree.specs.Steps.{plain01, Step}
+use Rattle.gs_tree.specs.Steps.{plain_count, Step}
 use Rattle.gs_tree.specs.Joining.{copies}
 
 -- a root means a balanced tree in order
@@ -17,11 +17,11 @@ pub record IsSet (cmp : Key → Key → Ordering) (p : Nodes) (root : Option ℕ
   pub stands : Stands p t
   pub balanced : IsBalanced t
   pub rising : IsRising cmp (keys t)
-  pub apart : (x : ℕ) → held t x ≤ plain01 p x
+  pub apart : (x : ℕ) → occurrences t x ≤ plain_count p x
 
 -- each node of the tree is no node of t, or older than `since`
 abbrev pub IsElsewhere : ℕ → Nodes → Tree → Tree → Type 0
-IsElsewhere since p t other = (x : ℕ) (n : Node) → 0 < held other x → node_at p x ≡ Some n → (held t x ≡ 0) ⊎ (n.birth < since)
+IsElsewhere since p t other = (x : ℕ) (n : Node) → 0 < occurrences other x → node_at p x ≡ Some n → (occurrences t x ≡ 0) ⊎ (n.birth < since)
 
 -- every tree that is apart from t, or older, stands as it stood
 abbrev pub KeepsOthers : ℕ → Nodes → Nodes → Tree → Type 0
@@ -38,10 +38,10 @@ pub record Unites (cmp : Key → Key → Ordering) (since birth : ℕ) (p q : No
   pub counted : length (keys new) ≡ length (keys t) + added
   pub still : added ≡ 0 → (result ≡ root_of t) × (q.nodes ≡ p.nodes) × (q.marks ≡ p.marks)
   pub births : Descends t → BirthAtMost birth t → Descends new × BirthAtMost birth new
-  pub step : Step since p q (held t) (held new)
+  pub step : Step since birth p q (occurrences t) (occurrences new)
   pub others : KeepsOthers since p q t
   pub exact : in_use q + aside_count p ≡ in_use p + aside_count q + added
-  pub owned : since ≡ 0 → in_use q ≡ in_use p + added
+  pub in_place : since ≡ 0 → in_use q ≡ in_use p + added
   pub cost : in_use q ≤ in_use p + union_cost since (height t) (length run)
   pub digits : (d : ℕ) → length (keys t) < 2 ^ d → in_use q ≤ in_use p + length run * (8 * d + 1)
   pub few : in_use q ≤ in_use p + 257 * length run
@@ -58,19 +58,22 @@ UnitesAt cmp since birth p q root run m = Unites cmp since birth p q m.root m.ad
 abbrev pub GainsKey : (Key → Key → Ordering) → Nodes → Nodes → Option ℕ → Key → Merged → Type 0
 GainsKey cmp p q root key m = keys_at q m.root ≡ insert_key cmp key (keys_at p root)
 
--- at most 8 d + 4 nodes more are in use, where a set of this size has d binary digits
+-- at most 8 d + 1 nodes more are in use, where a set of this size has d binary digits
 abbrev pub IsCheap : ℕ → Nodes → Nodes → Type 0
-IsCheap size p q = (d : ℕ) → size < 2 ^ d → in_use q ≤ in_use p + 8 * d + 4
+IsCheap size p q = (d : ℕ) → size < 2 ^ d → in_use q ≤ in_use p + 8 * d + 1
 
--- The set t became the set new, which lacks the key. At most 8 d + 4 nodes more are in use, where the set's size has d binary digits.
+-- The set t became the set new, which lacks the key. At most 6 d nodes more are in use, where the set's size has d binary digits.
 pub record Removes (cmp : Key → Key → Ordering) (since birth : ℕ) (p q : Nodes) (to : Option ℕ) (key : Key) (t new : Tree) : Type 0 where
   pub set : IsSet cmp q to new
   pub keys_are : keys new ≡ remove_key cmp key (keys t)
   pub counted : length (keys new) + 1 ≡ length (keys t)
   pub births : Descends t → BirthAtMost birth t → Descends new × BirthAtMost birth new
-  pub step : Step since p q (held t) (held new)
+  pub step : Step since birth p q (occurrences t) (occurrences new)
   pub others : KeepsOthers since p q t
-  pub cost : IsCheap (length (keys t)) p q
+  pub exact : in_use q + aside_count p + 1 ≡ in_use p + aside_count q
+  pub in_place : since ≡ 0 → in_use q + 1 ≡ in_use p
+  pub cost : in_use q ≤ in_use p + copies since (3 * height t)
+  pub digits : (d : ℕ) → length (keys t) < 2 ^ d → in_use q ≤ in_use p + 6 * d
 
 -- the set that a root meant became that of the new root, which lacks the key
 abbrev pub RemovesAt : (Key → Key → Ordering) → ℕ → ℕ → Nodes → Nodes → Option ℕ → Key → Option ℕ → Type 0

@@ -17,8 +17,8 @@ plain_node None m = 0
 plain_node (Some n) m = plain_mark m
 
 -- 1 at a number in use that is plain
-abbrev pub plain01 : Nodes → ℕ → ℕ
-plain01 p x = plain_node (node_at p x) (mark_at p x)
+abbrev pub plain_count : Nodes → ℕ → ℕ
+plain_count p x = plain_node (node_at p x) (mark_at p x)
 
 -- the room falls by no more than the nodes in use rise
 abbrev pub SameTotal : Nodes → Nodes → Type 0
@@ -28,11 +28,16 @@ SameTotal p q = room p + in_use p ≤ room q + in_use q
 abbrev pub IsOlder : ℕ → Nodes → ℕ → Type 0
 IsOlder since p x = (n : Node) × (node_at p x ≡ Some n) × (n.birth < since)
 
--- a pool goes from p to q, and what was held as `before` is held as `after`: whatever else was in use is kept, and so is what is older than `since`; what is held anew was free
-pub record Step (since : ℕ) (p q : Nodes) (before after : ℕ → ℕ) : Type 0 where
+-- every node of q is one that p has under the same number, or is born at `birth`
+abbrev pub BornAt : ℕ → Nodes → Nodes → Type 0
+BornAt birth p q = (x : ℕ) (n : Node) → node_at q x ≡ Some n → (node_at p x ≡ Some n) ⊎ (n.birth ≡ birth)
+
+-- A pool goes from p to q. `before` and `after` say how often each number occurs in the trees that change. What does not occur in them stays, and so does what is older than `since`; a number that occurs anew was free; what is new or changed is born at `birth`.
+pub record Step (since birth : ℕ) (p q : Nodes) (before after : ℕ → ℕ) : Type 0 where
   pub kept : (x : ℕ) (n : Node) → node_at p x ≡ Some n → (before x ≡ 0) ⊎ (n.birth < since) → node_at q x ≡ Some n
-  pub balance : (x : ℕ) → after x + plain01 p x ≡ before x + plain01 q x
+  pub balance : (x : ℕ) → after x + plain_count p x ≡ before x + plain_count q x
   pub older : (x : ℕ) (n : Node) → node_at q x ≡ Some n → n.birth < since → node_at p x ≡ Some n
+  pub born : BornAt birth p q
   pub marks : (x : ℕ) → (mark_at q x ≡ mark_at p x) ⊎ (IsOlder since p x × (mark_at p x ≡ plain) × (mark_at q x ≡ replaced))
 
 -- 1 at one number
@@ -40,14 +45,31 @@ abbrev pub one : ℕ → ℕ → ℕ
 one id x = if id == x then 1 else 0
 
 -- the node of a number is no older than `since`
-abbrev pub IsOwned : ℕ → Nodes → ℕ → Type 0
-IsOwned since p id = (n : Node) → node_at p id ≡ Some n → since ≤ n.birth
+abbrev pub IsRecent : ℕ → Nodes → ℕ → Type 0
+IsRecent since p id = (n : Node) → node_at p id ≡ Some n → since ≤ n.birth
 
--- `id` is owned, or it was copied to `own`
-pub record Owns (p q : Nodes) (since id own : ℕ) : Type 0 where
-  pub cases : ((own ≡ id) × ((x : ℕ) → node_at q x ≡ node_at p x) × ((x : ℕ) → mark_at q x ≡ mark_at p x)) ⊎ ((node_at p own ≡ None) × ((x : ℕ) → x ≢ own → node_at q x ≡ node_at p x) × ((mark_at p id ≡ plain) × (mark_at q id ≡ replaced) × (mark_at q own ≡ plain)) × IsOlder since p id × ((x : ℕ) → x ≢ id → mark_at q x ≡ mark_at p x))
-  pub used : IsSome (node_at q own)
-  pub owned : IsOwned since q own
+-- nothing changed, and `copy` is the node `id` itself
+pub record IsSame (p q : Nodes) (id copy : ℕ) : Type 0 where
+  pub same : copy ≡ id
+  pub nodes : (x : ℕ) → node_at q x ≡ node_at p x
+  pub marks : (x : ℕ) → mark_at q x ≡ mark_at p x
+
+-- the node `id` is older than `since` and set aside, and `copy`, which was free, has a copy of it that is born at `birth`
+pub record IsCopied (since birth : ℕ) (p q : Nodes) (id copy : ℕ) : Type 0 where
+  pub was_free : node_at p copy ≡ None
+  pub others : (x : ℕ) → x ≢ copy → node_at q x ≡ node_at p x
+  pub was_plain : mark_at p id ≡ plain
+  pub set_aside : mark_at q id ≡ replaced
+  pub plain_now : mark_at q copy ≡ plain
+  pub older : IsOlder since p id
+  pub marks : (x : ℕ) → x ≢ id → mark_at q x ≡ mark_at p x
+  pub born : (n : Node) → node_at q copy ≡ Some n → n.birth ≡ birth
+
+-- the node `id` is no older than `since`, or was copied
+pub record CopiesIfOlder (since birth : ℕ) (p q : Nodes) (id copy : ℕ) : Type 0 where
+  pub cases : IsSame p q id copy ⊎ IsCopied since birth p q id copy
+  pub used : IsSome (node_at q copy)
+  pub recent : IsRecent since q copy
   pub total : SameTotal p q
   pub few : in_use q ≤ in_use p + (if Rattle.std.specs.Prelude.nat_lt 0 since then 1 else 0)
   pub exact : in_use q + aside_count p ≡ in_use p + aside_count q
@@ -61,6 +83,6 @@ pub record Links (p q : Nodes) (id : ℕ) (left : Option ℕ) (key : Key) (right
   pub same : in_use q ≡ in_use p
 
 -- a node in use that a change may write
-pub record IsMine (since : ℕ) (p : Nodes) (id : ℕ) : Type 0 where
+pub record IsWritable (since : ℕ) (p : Nodes) (id : ℕ) : Type 0 where
   pub used : IsSome (node_at p id)
-  pub owned : IsOwned since p id
+  pub recent : IsRecent since p id

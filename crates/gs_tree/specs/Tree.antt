@@ -25,9 +25,9 @@ keys leaf = []
 keys (fork id birth l k r) = keys l ++ k ∷ keys r
 
 -- how often a number is in a tree
-abbrev pub held : Tree → ℕ → ℕ
-held leaf x = 0
-held (fork id birth l k r) x = (if id == x then 1 else 0) + held l x + held r x
+abbrev pub occurrences : Tree → ℕ → ℕ
+occurrences leaf x = 0
+occurrences (fork id birth l k r) x = (if id == x then 1 else 0) + occurrences l x + occurrences r x
 
 -- the node of a number, in a tree
 abbrev pub top_node : ℕ → Tree → Key → Tree → Node

@@ -1,8 +1,8 @@
-//! A node of one's own, rotations, and the join of two trees.
+//! A node that may be written, rotations, and the join of two trees.
 ghost use Rattle.std.specs.Prelude.{◌≡◌, ℕ, ◌+◌, ◌<◌, ◌≤◌, ◌^◌, Some, None, IsSome, Option};
 ghost use Rattle.gs_pool.specs.Pool.{node_at, mark_at, plain, room};
 ghost use Rattle.gs_tree.specs.Tree.{height_at, IsRoot, tree_at, height, DifferByAtMost};
-ghost use Rattle.gs_tree.specs.Steps.{Owns, Links};
+ghost use Rattle.gs_tree.specs.Steps.{CopiesIfOlder, Links};
 ghost use Rattle.gs_tree.specs.Joining.{CanSettleAt, CanJoinAt, SettledAt};
 
 use gs_pool::{Key, Node, Pool};
@@ -19,12 +19,12 @@ pub fn height_of(pool: &Pool, root: Option<u32>) -> u32
 }
 
 /// The node itself where it is no older than `since`, and else a copy of it.
-pub fn own(pool: &mut Pool, id: u32, since: u64, birth: u64) -> u32
+pub fn copy_if_older(pool: &mut Pool, id: u32, since: u64, birth: u64) -> u32
     requires used { IsSome (node_at pool.old id) }
     requires unlisted { mark_at pool.old id ≡ plain }
     requires room { 0 < since → 0 < room pool.old }
     requires birth { since ≤ birth }
-    ensures { Owns pool.old pool.new since id result }
+    ensures { CopiesIfOlder since birth pool.old pool.new id result }
 {
     let node = pool.get(id);
     if node.birth >= since {
@@ -72,7 +72,7 @@ pub fn lean_left(
     ensures { SettledAt since birth pool.old pool.new top (Some left) key right result }
 {
     let below = pool.get(left);
-    let turned = own(pool, left, since, birth);
+    let turned = copy_if_older(pool, left, since, birth);
     if height_of(pool, below.left) >= height_of(pool, below.right) {
         link(pool, top, below.right, key, right, birth);
         link(pool, turned, below.left, below.key, Some(top), birth);
@@ -82,7 +82,7 @@ pub fn lean_left(
         unreachable!()
     };
     let node = pool.get(inner);
-    let middle = own(pool, inner, since, birth);
+    let middle = copy_if_older(pool, inner, since, birth);
     link(pool, turned, below.left, below.key, node.left, birth);
     link(pool, top, node.right, key, right, birth);
     link(pool, middle, Some(turned), node.key, Some(top), birth);
@@ -105,7 +105,7 @@ pub fn lean_right(
     ensures { SettledAt since birth pool.old pool.new top left key (Some right) result }
 {
     let below = pool.get(right);
-    let turned = own(pool, right, since, birth);
+    let turned = copy_if_older(pool, right, since, birth);
     if height_of(pool, below.right) >= height_of(pool, below.left) {
         link(pool, top, left, key, below.left, birth);
         link(pool, turned, Some(top), below.key, below.right, birth);
@@ -115,7 +115,7 @@ pub fn lean_right(
         unreachable!()
     };
     let node = pool.get(inner);
-    let middle = own(pool, inner, since, birth);
+    let middle = copy_if_older(pool, inner, since, birth);
     link(pool, turned, node.right, below.key, below.right, birth);
     link(pool, top, left, key, node.left, birth);
     link(pool, middle, Some(top), node.key, Some(turned), birth);
@@ -171,14 +171,14 @@ pub fn join(
         let Some(id) = left else { unreachable!() };
         let node = pool.get(id);
         let inner = join(pool, node.right, top, key, right, since, birth);
-        let turned = own(pool, id, since, birth);
+        let turned = copy_if_older(pool, id, since, birth);
         return settle(pool, turned, node.left, node.key, Some(inner), since, birth);
     }
     if right_height > left_height + 2 {
         let Some(id) = right else { unreachable!() };
         let node = pool.get(id);
         let inner = join(pool, left, top, key, node.left, since, birth);
-        let turned = own(pool, id, since, birth);
+        let turned = copy_if_older(pool, id, since, birth);
         return settle(
             pool,
             turned,

@@ -6,7 +6,7 @@ ghost use Rattle.gs_tree.specs.Shrinking.{CanShrinkAt, ShrinksAt, Discards};
 ghost use Rattle.gs_tree.specs.Reading.{keys_at};
 ghost use Rattle.gs_tree.specs.Sets.{IsSetAt, RemovesAt};
 
-use crate::balance::{height_of, own, settle};
+use crate::balance::{copy_if_older, height_of, settle};
 use crate::orders::KeyOrder;
 use gs_pool::{Key, Pool};
 use std::alloc::AllocError;
@@ -48,7 +48,7 @@ fn take_least(pool: &mut Pool, id: u32, since: u64, birth: u64) -> Least
         };
     };
     let least = take_least(pool, below, since, birth);
-    let top = own(pool, id, since, birth);
+    let top = copy_if_older(pool, id, since, birth);
     let root = settle(pool, top, least.rest, node.key, node.right, since, birth);
     Least {
         key: least.key,
@@ -77,12 +77,12 @@ fn remove_at<O: KeyOrder>(
     match order.compare(key, node.key) {
         Ordering::Less => {
             let left = remove_at(pool, order, node.left, key, since, birth);
-            let top = own(pool, id, since, birth);
+            let top = copy_if_older(pool, id, since, birth);
             Some(settle(pool, top, left, node.key, node.right, since, birth))
         }
         Ordering::Greater => {
             let right = remove_at(pool, order, node.right, key, since, birth);
-            let top = own(pool, id, since, birth);
+            let top = copy_if_older(pool, id, since, birth);
             Some(settle(pool, top, node.left, node.key, right, since, birth))
         }
         Ordering::Equal => {
@@ -91,14 +91,14 @@ fn remove_at<O: KeyOrder>(
                 return node.left;
             };
             let least = take_least(pool, above, since, birth);
-            let top = own(pool, id, since, birth);
+            let top = copy_if_older(pool, id, since, birth);
             Some(settle(pool, top, node.left, least.key, least.rest, since, birth))
         }
     }
 }
 
 /// Takes a key out that the set has. Nodes older than `since` stay as they are. It makes at most
-/// 8 d + 4 nodes, where the set's size has d binary digits.
+/// 6 d nodes, where the set's size has d binary digits.
 pub fn remove<O: KeyOrder>(
     pool: &mut Pool,
     order: &O,
@@ -113,9 +113,9 @@ pub fn remove<O: KeyOrder>(
     ensures ok { IfOk result (RemovesAt (O.compare order.now) since birth pool.old pool.new root key) }
     ensures kept { OnErr result (pool.new ≡ pool.old) }
 {
-    let mut cost = 1usize;
+    let mut cost = 0usize;
     if since > 0 {
-        cost += 3 * height_of(pool, root) as usize;
+        cost = 3 * height_of(pool, root) as usize;
     }
     pool.reserve(cost)?;
     Ok(remove_at(pool, order, root, key, since, birth))

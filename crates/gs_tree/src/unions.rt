@@ -6,37 +6,37 @@ ghost use Rattle.gs_tree.specs.Merging.{BuiltAt, CanMergeAt, MergesAt};
 ghost use Rattle.gs_tree.specs.Reading.{keys_at};
 ghost use Rattle.gs_tree.specs.Sets.{IsSetAt, UnitesAt, GainsKey, IsCheap};
 
-use crate::balance::{height_of, join, link, own};
+use crate::balance::{copy_if_older, height_of, join, link};
 use crate::orders::KeyOrder;
 use gs_pool::{Key, Node, Pool};
 use std::alloc::AllocError;
 use std::cmp::Ordering;
 
-// Where a key stands in a run: the keys before `before` are below it, those from `behind` on above it.
+// Where a key stands in a run: the keys before `before` are below it, those from `after` on above it.
 #[derive(Clone, Copy)]
 struct Place {
     before: usize,
-    behind: usize,
+    after: usize,
 }
 
 // A key's place in a run: the last and the first key are tried, and then the halves.
 fn find_place<O: KeyOrder>(order: &O, run: &[Key], key: Key) -> Place
     requires rising { IsRising (O.compare order.now) run.now }
     requires some { 0 < length run.now }
-    ensures { Places (O.compare order.now) key run.now result.before result.behind }
+    ensures { Places (O.compare order.now) key run.now result.before result.after }
 {
     let last = run.len() - 1;
     match order.compare(run[last], key) {
         Ordering::Less => {
             return Place {
                 before: last + 1,
-                behind: last + 1,
+                after: last + 1,
             };
         }
         Ordering::Equal => {
             return Place {
                 before: last,
-                behind: last + 1,
+                after: last + 1,
             };
         }
         Ordering::Greater => {}
@@ -45,13 +45,13 @@ fn find_place<O: KeyOrder>(order: &O, run: &[Key], key: Key) -> Place
         Ordering::Greater => {
             return Place {
                 before: 0,
-                behind: 0,
+                after: 0,
             };
         }
         Ordering::Equal => {
             return Place {
                 before: 0,
-                behind: 1,
+                after: 1,
             };
         }
         Ordering::Less => {}
@@ -65,7 +65,7 @@ fn find_place<O: KeyOrder>(order: &O, run: &[Key], key: Key) -> Place
             Ordering::Equal => {
                 return Place {
                     before: middle,
-                    behind: middle + 1,
+                    after: middle + 1,
                 };
             }
             Ordering::Greater => to = middle,
@@ -73,7 +73,7 @@ fn find_place<O: KeyOrder>(order: &O, run: &[Key], key: Key) -> Place
     }
     Place {
         before: from,
-        behind: from,
+        after: from,
     }
 }
 
@@ -142,14 +142,14 @@ fn union_at<O: KeyOrder>(
     let node = pool.get(id);
     let at = find_place(order, run, node.key);
     let (low, _) = run.split_at(at.before);
-    let (_, high) = run.split_at(at.behind);
+    let (_, high) = run.split_at(at.after);
     let left = union_at(pool, order, node.left, low, since, birth);
     let right = union_at(pool, order, node.right, high, since, birth);
     let added = lacked(left.added, right.added);
     if added == 0 {
         return Merged { root, added: 0 };
     }
-    let top = own(pool, id, since, birth);
+    let top = copy_if_older(pool, id, since, birth);
     let joined = join(pool, left.root, top, node.key, right.root, since, birth);
     Merged {
         root: Some(joined),
@@ -189,7 +189,7 @@ pub fn union<O: KeyOrder>(
     Ok(union_at(pool, order, root, run, since, birth))
 }
 
-/// Adds a key to a set. It makes at most 8 d + 4 nodes, where the set's size has d binary digits.
+/// Adds a key to a set. It makes at most 8 d + 1 nodes, where the set's size has d binary digits.
 pub fn insert<O: KeyOrder>(
     pool: &mut Pool,
     order: &O,

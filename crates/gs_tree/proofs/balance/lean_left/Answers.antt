@@ -6,111 +6,111 @@ use Rattle.gs_tree.proofs.balance.lean_left.Goals as goal
 
 pub height_of-requires : goal.height_of-requires
 height_of-requires c =
-    let a = turn c.args.since c.args.pool.now c.own-turned.new.pool c.args.top c.args.left c.own-turned.result c.get-below.result (tree_at c.args.pool.now (Some c.args.left)) (tree_at c.args.pool.now c.args.right) c.args.right c.requires.can c.get-below.ensures c.own-turned.ensures in
-    root_in c.own-turned.new.pool c.get-below.result.left a.x a.left_is a.sx
+    let a = turn c.args.since c.args.birth c.args.pool.now c.copy_if_older-turned.new.pool c.args.top c.args.left c.copy_if_older-turned.result c.get-below.result (tree_at c.args.pool.now (Some c.args.left)) (tree_at c.args.pool.now c.args.right) c.args.right c.requires.can c.get-below.ensures c.copy_if_older-turned.ensures in
+    root_in c.copy_if_older-turned.new.pool c.get-below.result.left a.x a.left_is a.sx
 
 pub height_of-requires-2 : goal.height_of-requires-2
 height_of-requires-2 c =
-    let a = turn c.args.since c.args.pool.now c.own-turned.new.pool c.args.top c.args.left c.own-turned.result c.get-below.result (tree_at c.args.pool.now (Some c.args.left)) (tree_at c.args.pool.now c.args.right) c.args.right c.requires.can c.get-below.ensures c.own-turned.ensures in
-    root_in c.own-turned.new.pool c.get-below.result.right a.y a.right_is a.sy
+    let a = turn c.args.since c.args.birth c.args.pool.now c.copy_if_older-turned.new.pool c.args.top c.args.left c.copy_if_older-turned.result c.get-below.result (tree_at c.args.pool.now (Some c.args.left)) (tree_at c.args.pool.now c.args.right) c.args.right c.requires.can c.get-below.ensures c.copy_if_older-turned.ensures in
+    root_in c.copy_if_older-turned.new.pool c.get-below.result.right a.y a.right_is a.sy
 
 pub link-requires-clause-left : goal.link-requires-clause-left
 link-requires-clause-left c =
-    let a = turn c.args.since c.args.pool.now c.own-turned.new.pool c.args.top c.args.left c.own-turned.result c.get-below.result (tree_at c.args.pool.now (Some c.args.left)) (tree_at c.args.pool.now c.args.right) c.args.right c.requires.can c.get-below.ensures c.own-turned.ensures in
-    root_in c.own-turned.new.pool c.get-below.result.right a.y a.right_is a.sy
+    let a = turn c.args.since c.args.birth c.args.pool.now c.copy_if_older-turned.new.pool c.args.top c.args.left c.copy_if_older-turned.result c.get-below.result (tree_at c.args.pool.now (Some c.args.left)) (tree_at c.args.pool.now c.args.right) c.args.right c.requires.can c.get-below.ensures c.copy_if_older-turned.ensures in
+    root_in c.copy_if_older-turned.new.pool c.get-below.result.right a.y a.right_is a.sy
 
 pub link-requires-clause-left_fits : goal.link-requires-clause-left_fits
 link-requires-clause-left_fits c =
-    let a = turn c.args.since c.args.pool.now c.own-turned.new.pool c.args.top c.args.left c.own-turned.result c.get-below.result (tree_at c.args.pool.now (Some c.args.left)) (tree_at c.args.pool.now c.args.right) c.args.right c.requires.can c.get-below.ensures c.own-turned.ensures in
-    omega (arith, height_in c.own-turned.new.pool c.get-below.result.right a.y a.right_is a.sy, c.requires.can.left_fits, ap height a.is)
+    let a = turn c.args.since c.args.birth c.args.pool.now c.copy_if_older-turned.new.pool c.args.top c.args.left c.copy_if_older-turned.result c.get-below.result (tree_at c.args.pool.now (Some c.args.left)) (tree_at c.args.pool.now c.args.right) c.args.right c.requires.can c.get-below.ensures c.copy_if_older-turned.ensures in
+    omega (arith, height_in c.copy_if_older-turned.new.pool c.get-below.result.right a.y a.right_is a.sy, c.requires.can.left_fits, ap height a.is)
 
 pub link-requires-then-height_of-clause-left : goal.link-requires-then-height_of-clause-left
 link-requires-then-height_of-clause-left c =
-    let a = turn c.args.since c.args.pool.now c.own-turned.new.pool c.args.top c.args.left c.own-turned.result c.get-below.result (tree_at c.args.pool.now (Some c.args.left)) (tree_at c.args.pool.now c.args.right) c.args.right c.requires.can c.get-below.ensures c.own-turned.ensures in
-    let s = single_low c.args.since c.args.birth c.args.pool.now c.own-turned.new.pool c.args.top c.args.left c.own-turned.result c.get-below.result c.args.key (tree_at c.args.pool.now (Some c.args.left)) (tree_at c.args.pool.now c.args.right) c.args.right c.requires.birth c.requires.can c.requires.higher a c.link.new.pool c.link.ensures in root_in c.link.new.pool c.get-below.result.left a.x a.left_is s.high
+    let a = turn c.args.since c.args.birth c.args.pool.now c.copy_if_older-turned.new.pool c.args.top c.args.left c.copy_if_older-turned.result c.get-below.result (tree_at c.args.pool.now (Some c.args.left)) (tree_at c.args.pool.now c.args.right) c.args.right c.requires.can c.get-below.ensures c.copy_if_older-turned.ensures in
+    let s = single_low c.args.since c.args.birth c.args.pool.now c.copy_if_older-turned.new.pool c.args.top c.args.left c.copy_if_older-turned.result c.get-below.result c.args.key (tree_at c.args.pool.now (Some c.args.left)) (tree_at c.args.pool.now c.args.right) c.args.right c.requires.birth c.requires.can c.requires.higher a c.link.new.pool c.link.ensures in root_in c.link.new.pool c.get-below.result.left a.x a.left_is s.high
 
 pub link-requires-then-height_of-clause-left_fits : goal.link-requires-then-height_of-clause-left_fits
 link-requires-then-height_of-clause-left_fits c =
-    let a = turn c.args.since c.args.pool.now c.own-turned.new.pool c.args.top c.args.left c.own-turned.result c.get-below.result (tree_at c.args.pool.now (Some c.args.left)) (tree_at c.args.pool.now c.args.right) c.args.right c.requires.can c.get-below.ensures c.own-turned.ensures in
-    let s = single_low c.args.since c.args.birth c.args.pool.now c.own-turned.new.pool c.args.top c.args.left c.own-turned.result c.get-below.result c.args.key (tree_at c.args.pool.now (Some c.args.left)) (tree_at c.args.pool.now c.args.right) c.args.right c.requires.birth c.requires.can c.requires.higher a c.link.new.pool c.link.ensures in omega (arith, height_in c.link.new.pool c.get-below.result.left a.x a.left_is s.high, c.requires.can.left_fits, ap height a.is)
+    let a = turn c.args.since c.args.birth c.args.pool.now c.copy_if_older-turned.new.pool c.args.top c.args.left c.copy_if_older-turned.result c.get-below.result (tree_at c.args.pool.now (Some c.args.left)) (tree_at c.args.pool.now c.args.right) c.args.right c.requires.can c.get-below.ensures c.copy_if_older-turned.ensures in
+    let s = single_low c.args.since c.args.birth c.args.pool.now c.copy_if_older-turned.new.pool c.args.top c.args.left c.copy_if_older-turned.result c.get-below.result c.args.key (tree_at c.args.pool.now (Some c.args.left)) (tree_at c.args.pool.now c.args.right) c.args.right c.requires.birth c.requires.can c.requires.higher a c.link.new.pool c.link.ensures in omega (arith, height_in c.link.new.pool c.get-below.result.left a.x a.left_is s.high, c.requires.can.left_fits, ap height a.is)
 
 pub link-requires-then-height_of-clause-right_fits : goal.link-requires-then-height_of-clause-right_fits
 link-requires-then-height_of-clause-right_fits c =
-    let a = turn c.args.since c.args.pool.now c.own-turned.new.pool c.args.top c.args.left c.own-turned.result c.get-below.result (tree_at c.args.pool.now (Some c.args.left)) (tree_at c.args.pool.now c.args.right) c.args.right c.requires.can c.get-below.ensures c.own-turned.ensures in
-    let s = single_low c.args.since c.args.birth c.args.pool.now c.own-turned.new.pool c.args.top c.args.left c.own-turned.result c.get-below.result c.args.key (tree_at c.args.pool.now (Some c.args.left)) (tree_at c.args.pool.now c.args.right) c.args.right c.requires.birth c.requires.can c.requires.higher a c.link.new.pool c.link.ensures in omega (arith, height_in c.link.new.pool (Some c.args.top) (fork c.args.top c.args.birth a.y c.args.key (tree_at c.args.pool.now c.args.right)) refl s.low, c.requires.can.left_fits, ap height a.is, c.requires.can.right_fits)
+    let a = turn c.args.since c.args.birth c.args.pool.now c.copy_if_older-turned.new.pool c.args.top c.args.left c.copy_if_older-turned.result c.get-below.result (tree_at c.args.pool.now (Some c.args.left)) (tree_at c.args.pool.now c.args.right) c.args.right c.requires.can c.get-below.ensures c.copy_if_older-turned.ensures in
+    let s = single_low c.args.since c.args.birth c.args.pool.now c.copy_if_older-turned.new.pool c.args.top c.args.left c.copy_if_older-turned.result c.get-below.result c.args.key (tree_at c.args.pool.now (Some c.args.left)) (tree_at c.args.pool.now c.args.right) c.args.right c.requires.birth c.requires.can c.requires.higher a c.link.new.pool c.link.ensures in omega (arith, height_in c.link.new.pool (Some c.args.top) (fork c.args.top c.args.birth a.y c.args.key (tree_at c.args.pool.now c.args.right)) refl s.low, c.requires.can.left_fits, ap height a.is, c.requires.can.right_fits)
 
 pub returns-then-height_of : goal.returns-then-height_of
 returns-then-height_of c =
-    let a = turn c.args.since c.args.pool.now c.own-turned.new.pool c.args.top c.args.left c.own-turned.result c.get-below.result (tree_at c.args.pool.now (Some c.args.left)) (tree_at c.args.pool.now c.args.right) c.args.right c.requires.can c.get-below.ensures c.own-turned.ensures in
-    let lower : height a.y ≤ height a.x = omega (arith, c.if-height_of.true, c.height_of.ensures, c.height_of-2.ensures, height_in c.own-turned.new.pool c.get-below.result.left a.x a.left_is a.sx, height_in c.own-turned.new.pool c.get-below.result.right a.y a.right_is a.sy) in settled_at (single c.args.since c.args.birth c.args.pool.now c.own-turned.new.pool c.args.top c.args.left c.own-turned.result c.get-below.result c.args.key (tree_at c.args.pool.now (Some c.args.left)) (tree_at c.args.pool.now c.args.right) c.args.right c.requires.birth c.requires.can c.requires.higher a c.link.new.pool c.link-then-height_of.new.pool c.link.ensures lower c.link-then-height_of.ensures)
+    let a = turn c.args.since c.args.birth c.args.pool.now c.copy_if_older-turned.new.pool c.args.top c.args.left c.copy_if_older-turned.result c.get-below.result (tree_at c.args.pool.now (Some c.args.left)) (tree_at c.args.pool.now c.args.right) c.args.right c.requires.can c.get-below.ensures c.copy_if_older-turned.ensures in
+    let lower : height a.y ≤ height a.x = omega (arith, c.if-height_of.true, c.height_of.ensures, c.height_of-2.ensures, height_in c.copy_if_older-turned.new.pool c.get-below.result.left a.x a.left_is a.sx, height_in c.copy_if_older-turned.new.pool c.get-below.result.right a.y a.right_is a.sy) in settled_at (single c.args.since c.args.birth c.args.pool.now c.copy_if_older-turned.new.pool c.args.top c.args.left c.copy_if_older-turned.result c.get-below.result c.args.key (tree_at c.args.pool.now (Some c.args.left)) (tree_at c.args.pool.now c.args.right) c.args.right c.requires.birth c.requires.can c.requires.higher a c.link.new.pool c.link-then-height_of.new.pool c.link.ensures lower c.link-then-height_of.ensures)
 
 pub link-requires-2-clause-left : goal.link-requires-2-clause-left
 link-requires-2-clause-left c =
-    let a = turn c.args.since c.args.pool.now c.own-turned.new.pool c.args.top c.args.left c.own-turned.result c.get-below.result (tree_at c.args.pool.now (Some c.args.left)) (tree_at c.args.pool.now c.args.right) c.args.right c.requires.can c.get-below.ensures c.own-turned.ensures in
-    let b = turn2 c.args.since c.args.birth c.args.pool.now c.own-turned.new.pool c.args.top c.args.left c.own-turned.result c.get-below.result c.args.key (tree_at c.args.pool.now (Some c.args.left)) (tree_at c.args.pool.now c.args.right) c.args.right c.requires.birth c.requires.can c.requires.higher a c.own-middle.new.pool c.in-Some.inner c.own-middle.result c.get-node.result c.in-Some.is c.get-node.ensures c.own-middle.ensures in
-    root_in c.own-middle.new.pool c.get-below.result.left a.x a.left_is b.sx
+    let a = turn c.args.since c.args.birth c.args.pool.now c.copy_if_older-turned.new.pool c.args.top c.args.left c.copy_if_older-turned.result c.get-below.result (tree_at c.args.pool.now (Some c.args.left)) (tree_at c.args.pool.now c.args.right) c.args.right c.requires.can c.get-below.ensures c.copy_if_older-turned.ensures in
+    let b = turn2 c.args.since c.args.birth c.args.pool.now c.copy_if_older-turned.new.pool c.args.top c.args.left c.copy_if_older-turned.result c.get-below.result c.args.key (tree_at c.args.pool.now (Some c.args.left)) (tree_at c.args.pool.now c.args.right) c.args.right c.requires.birth c.requires.can c.requires.higher a c.copy_if_older-middle.new.pool c.in-Some.inner c.copy_if_older-middle.result c.get-node.result c.in-Some.is c.get-node.ensures c.copy_if_older-middle.ensures in
+    root_in c.copy_if_older-middle.new.pool c.get-below.result.left a.x a.left_is b.sx
 
 pub link-requires-2-clause-right : goal.link-requires-2-clause-right
 link-requires-2-clause-right c =
-    let a = turn c.args.since c.args.pool.now c.own-turned.new.pool c.args.top c.args.left c.own-turned.result c.get-below.result (tree_at c.args.pool.now (Some c.args.left)) (tree_at c.args.pool.now c.args.right) c.args.right c.requires.can c.get-below.ensures c.own-turned.ensures in
-    let b = turn2 c.args.since c.args.birth c.args.pool.now c.own-turned.new.pool c.args.top c.args.left c.own-turned.result c.get-below.result c.args.key (tree_at c.args.pool.now (Some c.args.left)) (tree_at c.args.pool.now c.args.right) c.args.right c.requires.birth c.requires.can c.requires.higher a c.own-middle.new.pool c.in-Some.inner c.own-middle.result c.get-node.result c.in-Some.is c.get-node.ensures c.own-middle.ensures in
-    root_in c.own-middle.new.pool c.get-node.result.left b.u b.left_is b.su
+    let a = turn c.args.since c.args.birth c.args.pool.now c.copy_if_older-turned.new.pool c.args.top c.args.left c.copy_if_older-turned.result c.get-below.result (tree_at c.args.pool.now (Some c.args.left)) (tree_at c.args.pool.now c.args.right) c.args.right c.requires.can c.get-below.ensures c.copy_if_older-turned.ensures in
+    let b = turn2 c.args.since c.args.birth c.args.pool.now c.copy_if_older-turned.new.pool c.args.top c.args.left c.copy_if_older-turned.result c.get-below.result c.args.key (tree_at c.args.pool.now (Some c.args.left)) (tree_at c.args.pool.now c.args.right) c.args.right c.requires.birth c.requires.can c.requires.higher a c.copy_if_older-middle.new.pool c.in-Some.inner c.copy_if_older-middle.result c.get-node.result c.in-Some.is c.get-node.ensures c.copy_if_older-middle.ensures in
+    root_in c.copy_if_older-middle.new.pool c.get-node.result.left b.u b.left_is b.su
 
 pub link-requires-2-clause-left_fits : goal.link-requires-2-clause-left_fits
 link-requires-2-clause-left_fits c =
-    let a = turn c.args.since c.args.pool.now c.own-turned.new.pool c.args.top c.args.left c.own-turned.result c.get-below.result (tree_at c.args.pool.now (Some c.args.left)) (tree_at c.args.pool.now c.args.right) c.args.right c.requires.can c.get-below.ensures c.own-turned.ensures in
-    let b = turn2 c.args.since c.args.birth c.args.pool.now c.own-turned.new.pool c.args.top c.args.left c.own-turned.result c.get-below.result c.args.key (tree_at c.args.pool.now (Some c.args.left)) (tree_at c.args.pool.now c.args.right) c.args.right c.requires.birth c.requires.can c.requires.higher a c.own-middle.new.pool c.in-Some.inner c.own-middle.result c.get-node.result c.in-Some.is c.get-node.ensures c.own-middle.ensures in
-    omega (arith, height_in c.own-middle.new.pool c.get-below.result.left a.x a.left_is b.sx, c.requires.can.left_fits, ap height a.is, ap height b.is)
+    let a = turn c.args.since c.args.birth c.args.pool.now c.copy_if_older-turned.new.pool c.args.top c.args.left c.copy_if_older-turned.result c.get-below.result (tree_at c.args.pool.now (Some c.args.left)) (tree_at c.args.pool.now c.args.right) c.args.right c.requires.can c.get-below.ensures c.copy_if_older-turned.ensures in
+    let b = turn2 c.args.since c.args.birth c.args.pool.now c.copy_if_older-turned.new.pool c.args.top c.args.left c.copy_if_older-turned.result c.get-below.result c.args.key (tree_at c.args.pool.now (Some c.args.left)) (tree_at c.args.pool.now c.args.right) c.args.right c.requires.birth c.requires.can c.requires.higher a c.copy_if_older-middle.new.pool c.in-Some.inner c.copy_if_older-middle.result c.get-node.result c.in-Some.is c.get-node.ensures c.copy_if_older-middle.ensures in
+    omega (arith, height_in c.copy_if_older-middle.new.pool c.get-below.result.left a.x a.left_is b.sx, c.requires.can.left_fits, ap height a.is, ap height b.is)
 
 pub link-requires-2-clause-right_fits : goal.link-requires-2-clause-right_fits
 link-requires-2-clause-right_fits c =
-    let a = turn c.args.since c.args.pool.now c.own-turned.new.pool c.args.top c.args.left c.own-turned.result c.get-below.result (tree_at c.args.pool.now (Some c.args.left)) (tree_at c.args.pool.now c.args.right) c.args.right c.requires.can c.get-below.ensures c.own-turned.ensures in
-    let b = turn2 c.args.since c.args.birth c.args.pool.now c.own-turned.new.pool c.args.top c.args.left c.own-turned.result c.get-below.result c.args.key (tree_at c.args.pool.now (Some c.args.left)) (tree_at c.args.pool.now c.args.right) c.args.right c.requires.birth c.requires.can c.requires.higher a c.own-middle.new.pool c.in-Some.inner c.own-middle.result c.get-node.result c.in-Some.is c.get-node.ensures c.own-middle.ensures in
-    omega (arith, height_in c.own-middle.new.pool c.get-node.result.left b.u b.left_is b.su, c.requires.can.left_fits, ap height a.is, ap height b.is)
+    let a = turn c.args.since c.args.birth c.args.pool.now c.copy_if_older-turned.new.pool c.args.top c.args.left c.copy_if_older-turned.result c.get-below.result (tree_at c.args.pool.now (Some c.args.left)) (tree_at c.args.pool.now c.args.right) c.args.right c.requires.can c.get-below.ensures c.copy_if_older-turned.ensures in
+    let b = turn2 c.args.since c.args.birth c.args.pool.now c.copy_if_older-turned.new.pool c.args.top c.args.left c.copy_if_older-turned.result c.get-below.result c.args.key (tree_at c.args.pool.now (Some c.args.left)) (tree_at c.args.pool.now c.args.right) c.args.right c.requires.birth c.requires.can c.requires.higher a c.copy_if_older-middle.new.pool c.in-Some.inner c.copy_if_older-middle.result c.get-node.result c.in-Some.is c.get-node.ensures c.copy_if_older-middle.ensures in
+    omega (arith, height_in c.copy_if_older-middle.new.pool c.get-node.result.left b.u b.left_is b.su, c.requires.can.left_fits, ap height a.is, ap height b.is)
 
 pub link-requires-3-clause-left : goal.link-requires-3-clause-left
 link-requires-3-clause-left c =
-    let a = turn c.args.since c.args.pool.now c.own-turned.new.pool c.args.top c.args.left c.own-turned.result c.get-below.result (tree_at c.args.pool.now (Some c.args.left)) (tree_at c.args.pool.now c.args.right) c.args.right c.requires.can c.get-below.ensures c.own-turned.ensures in
-    let b = turn2 c.args.since c.args.birth c.args.pool.now c.own-turned.new.pool c.args.top c.args.left c.own-turned.result c.get-below.result c.args.key (tree_at c.args.pool.now (Some c.args.left)) (tree_at c.args.pool.now c.args.right) c.args.right c.requires.birth c.requires.can c.requires.higher a c.own-middle.new.pool c.in-Some.inner c.own-middle.result c.get-node.result c.in-Some.is c.get-node.ensures c.own-middle.ensures in
-    let f = double_far c.args.since c.args.birth c.args.pool.now c.own-turned.new.pool c.args.top c.args.left c.own-turned.result c.get-below.result c.args.key (tree_at c.args.pool.now (Some c.args.left)) (tree_at c.args.pool.now c.args.right) c.args.right c.requires.birth c.requires.can c.requires.higher a c.own-middle.new.pool c.in-Some.inner c.own-middle.result c.get-node.result b c.link-2.new.pool c.link-2.ensures in
+    let a = turn c.args.since c.args.birth c.args.pool.now c.copy_if_older-turned.new.pool c.args.top c.args.left c.copy_if_older-turned.result c.get-below.result (tree_at c.args.pool.now (Some c.args.left)) (tree_at c.args.pool.now c.args.right) c.args.right c.requires.can c.get-below.ensures c.copy_if_older-turned.ensures in
+    let b = turn2 c.args.since c.args.birth c.args.pool.now c.copy_if_older-turned.new.pool c.args.top c.args.left c.copy_if_older-turned.result c.get-below.result c.args.key (tree_at c.args.pool.now (Some c.args.left)) (tree_at c.args.pool.now c.args.right) c.args.right c.requires.birth c.requires.can c.requires.higher a c.copy_if_older-middle.new.pool c.in-Some.inner c.copy_if_older-middle.result c.get-node.result c.in-Some.is c.get-node.ensures c.copy_if_older-middle.ensures in
+    let f = double_far c.args.since c.args.birth c.args.pool.now c.copy_if_older-turned.new.pool c.args.top c.args.left c.copy_if_older-turned.result c.get-below.result c.args.key (tree_at c.args.pool.now (Some c.args.left)) (tree_at c.args.pool.now c.args.right) c.args.right c.requires.birth c.requires.can c.requires.higher a c.copy_if_older-middle.new.pool c.in-Some.inner c.copy_if_older-middle.result c.get-node.result b c.link-2.new.pool c.link-2.ensures in
     root_in c.link-2.new.pool c.get-node.result.right b.v b.right_is f.0
 
 pub link-requires-3-clause-left_fits : goal.link-requires-3-clause-left_fits
 link-requires-3-clause-left_fits c =
-    let a = turn c.args.since c.args.pool.now c.own-turned.new.pool c.args.top c.args.left c.own-turned.result c.get-below.result (tree_at c.args.pool.now (Some c.args.left)) (tree_at c.args.pool.now c.args.right) c.args.right c.requires.can c.get-below.ensures c.own-turned.ensures in
-    let b = turn2 c.args.since c.args.birth c.args.pool.now c.own-turned.new.pool c.args.top c.args.left c.own-turned.result c.get-below.result c.args.key (tree_at c.args.pool.now (Some c.args.left)) (tree_at c.args.pool.now c.args.right) c.args.right c.requires.birth c.requires.can c.requires.higher a c.own-middle.new.pool c.in-Some.inner c.own-middle.result c.get-node.result c.in-Some.is c.get-node.ensures c.own-middle.ensures in
-    let f = double_far c.args.since c.args.birth c.args.pool.now c.own-turned.new.pool c.args.top c.args.left c.own-turned.result c.get-below.result c.args.key (tree_at c.args.pool.now (Some c.args.left)) (tree_at c.args.pool.now c.args.right) c.args.right c.requires.birth c.requires.can c.requires.higher a c.own-middle.new.pool c.in-Some.inner c.own-middle.result c.get-node.result b c.link-2.new.pool c.link-2.ensures in
+    let a = turn c.args.since c.args.birth c.args.pool.now c.copy_if_older-turned.new.pool c.args.top c.args.left c.copy_if_older-turned.result c.get-below.result (tree_at c.args.pool.now (Some c.args.left)) (tree_at c.args.pool.now c.args.right) c.args.right c.requires.can c.get-below.ensures c.copy_if_older-turned.ensures in
+    let b = turn2 c.args.since c.args.birth c.args.pool.now c.copy_if_older-turned.new.pool c.args.top c.args.left c.copy_if_older-turned.result c.get-below.result c.args.key (tree_at c.args.pool.now (Some c.args.left)) (tree_at c.args.pool.now c.args.right) c.args.right c.requires.birth c.requires.can c.requires.higher a c.copy_if_older-middle.new.pool c.in-Some.inner c.copy_if_older-middle.result c.get-node.result c.in-Some.is c.get-node.ensures c.copy_if_older-middle.ensures in
+    let f = double_far c.args.since c.args.birth c.args.pool.now c.copy_if_older-turned.new.pool c.args.top c.args.left c.copy_if_older-turned.result c.get-below.result c.args.key (tree_at c.args.pool.now (Some c.args.left)) (tree_at c.args.pool.now c.args.right) c.args.right c.requires.birth c.requires.can c.requires.higher a c.copy_if_older-middle.new.pool c.in-Some.inner c.copy_if_older-middle.result c.get-node.result b c.link-2.new.pool c.link-2.ensures in
     omega (arith, height_in c.link-2.new.pool c.get-node.result.right b.v b.right_is f.0, c.requires.can.left_fits, ap height a.is, ap height b.is)
 
 pub link-requires-4-clause-left_fits : goal.link-requires-4-clause-left_fits
 link-requires-4-clause-left_fits c =
-    let a = turn c.args.since c.args.pool.now c.own-turned.new.pool c.args.top c.args.left c.own-turned.result c.get-below.result (tree_at c.args.pool.now (Some c.args.left)) (tree_at c.args.pool.now c.args.right) c.args.right c.requires.can c.get-below.ensures c.own-turned.ensures in
-    let b = turn2 c.args.since c.args.birth c.args.pool.now c.own-turned.new.pool c.args.top c.args.left c.own-turned.result c.get-below.result c.args.key (tree_at c.args.pool.now (Some c.args.left)) (tree_at c.args.pool.now c.args.right) c.args.right c.requires.birth c.requires.can c.requires.higher a c.own-middle.new.pool c.in-Some.inner c.own-middle.result c.get-node.result c.in-Some.is c.get-node.ensures c.own-middle.ensures in
-    let s = double_sides c.args.since c.args.birth c.args.pool.now c.own-turned.new.pool c.args.top c.args.left c.own-turned.result c.get-below.result c.args.key (tree_at c.args.pool.now (Some c.args.left)) (tree_at c.args.pool.now c.args.right) c.args.right c.requires.birth c.requires.can c.requires.higher a c.own-middle.new.pool c.in-Some.inner c.own-middle.result c.get-node.result b c.link-2.new.pool c.link-3.new.pool c.link-2.ensures c.link-3.ensures in omega (arith, height_in c.link-3.new.pool (Some c.own-turned.result) (fork c.own-turned.result c.args.birth a.x c.get-below.result.key b.u) refl s.0, c.requires.can.left_fits, ap height a.is, ap height b.is)
+    let a = turn c.args.since c.args.birth c.args.pool.now c.copy_if_older-turned.new.pool c.args.top c.args.left c.copy_if_older-turned.result c.get-below.result (tree_at c.args.pool.now (Some c.args.left)) (tree_at c.args.pool.now c.args.right) c.args.right c.requires.can c.get-below.ensures c.copy_if_older-turned.ensures in
+    let b = turn2 c.args.since c.args.birth c.args.pool.now c.copy_if_older-turned.new.pool c.args.top c.args.left c.copy_if_older-turned.result c.get-below.result c.args.key (tree_at c.args.pool.now (Some c.args.left)) (tree_at c.args.pool.now c.args.right) c.args.right c.requires.birth c.requires.can c.requires.higher a c.copy_if_older-middle.new.pool c.in-Some.inner c.copy_if_older-middle.result c.get-node.result c.in-Some.is c.get-node.ensures c.copy_if_older-middle.ensures in
+    let s = double_sides c.args.since c.args.birth c.args.pool.now c.copy_if_older-turned.new.pool c.args.top c.args.left c.copy_if_older-turned.result c.get-below.result c.args.key (tree_at c.args.pool.now (Some c.args.left)) (tree_at c.args.pool.now c.args.right) c.args.right c.requires.birth c.requires.can c.requires.higher a c.copy_if_older-middle.new.pool c.in-Some.inner c.copy_if_older-middle.result c.get-node.result b c.link-2.new.pool c.link-3.new.pool c.link-2.ensures c.link-3.ensures in omega (arith, height_in c.link-3.new.pool (Some c.copy_if_older-turned.result) (fork c.copy_if_older-turned.result c.args.birth a.x c.get-below.result.key b.u) refl s.0, c.requires.can.left_fits, ap height a.is, ap height b.is)
 
 pub link-requires-4-clause-right_fits : goal.link-requires-4-clause-right_fits
 link-requires-4-clause-right_fits c =
-    let a = turn c.args.since c.args.pool.now c.own-turned.new.pool c.args.top c.args.left c.own-turned.result c.get-below.result (tree_at c.args.pool.now (Some c.args.left)) (tree_at c.args.pool.now c.args.right) c.args.right c.requires.can c.get-below.ensures c.own-turned.ensures in
-    let b = turn2 c.args.since c.args.birth c.args.pool.now c.own-turned.new.pool c.args.top c.args.left c.own-turned.result c.get-below.result c.args.key (tree_at c.args.pool.now (Some c.args.left)) (tree_at c.args.pool.now c.args.right) c.args.right c.requires.birth c.requires.can c.requires.higher a c.own-middle.new.pool c.in-Some.inner c.own-middle.result c.get-node.result c.in-Some.is c.get-node.ensures c.own-middle.ensures in
-    let s = double_high c.args.since c.args.birth c.args.pool.now c.own-turned.new.pool c.args.top c.args.left c.own-turned.result c.get-below.result c.args.key (tree_at c.args.pool.now (Some c.args.left)) (tree_at c.args.pool.now c.args.right) c.args.right c.requires.birth c.requires.can c.requires.higher a c.own-middle.new.pool c.in-Some.inner c.own-middle.result c.get-node.result b c.link-2.new.pool c.link-3.new.pool c.link-2.ensures c.link-3.ensures in omega (arith, height_in c.link-3.new.pool (Some c.args.top) (fork c.args.top c.args.birth b.v c.args.key (tree_at c.args.pool.now c.args.right)) refl s.stands, c.requires.can.left_fits, ap height a.is, ap height b.is, c.requires.can.right_fits)
+    let a = turn c.args.since c.args.birth c.args.pool.now c.copy_if_older-turned.new.pool c.args.top c.args.left c.copy_if_older-turned.result c.get-below.result (tree_at c.args.pool.now (Some c.args.left)) (tree_at c.args.pool.now c.args.right) c.args.right c.requires.can c.get-below.ensures c.copy_if_older-turned.ensures in
+    let b = turn2 c.args.since c.args.birth c.args.pool.now c.copy_if_older-turned.new.pool c.args.top c.args.left c.copy_if_older-turned.result c.get-below.result c.args.key (tree_at c.args.pool.now (Some c.args.left)) (tree_at c.args.pool.now c.args.right) c.args.right c.requires.birth c.requires.can c.requires.higher a c.copy_if_older-middle.new.pool c.in-Some.inner c.copy_if_older-middle.result c.get-node.result c.in-Some.is c.get-node.ensures c.copy_if_older-middle.ensures in
+    let s = double_high c.args.since c.args.birth c.args.pool.now c.copy_if_older-turned.new.pool c.args.top c.args.left c.copy_if_older-turned.result c.get-below.result c.args.key (tree_at c.args.pool.now (Some c.args.left)) (tree_at c.args.pool.now c.args.right) c.args.right c.requires.birth c.requires.can c.requires.higher a c.copy_if_older-middle.new.pool c.in-Some.inner c.copy_if_older-middle.result c.get-node.result b c.link-2.new.pool c.link-3.new.pool c.link-2.ensures c.link-3.ensures in omega (arith, height_in c.link-3.new.pool (Some c.args.top) (fork c.args.top c.args.birth b.v c.args.key (tree_at c.args.pool.now c.args.right)) refl s.stands, c.requires.can.left_fits, ap height a.is, ap height b.is, c.requires.can.right_fits)
 
 pub returns : goal.returns
 returns c =
-    let a = turn c.args.since c.args.pool.now c.own-turned.new.pool c.args.top c.args.left c.own-turned.result c.get-below.result (tree_at c.args.pool.now (Some c.args.left)) (tree_at c.args.pool.now c.args.right) c.args.right c.requires.can c.get-below.ensures c.own-turned.ensures in
-    let b = turn2 c.args.since c.args.birth c.args.pool.now c.own-turned.new.pool c.args.top c.args.left c.own-turned.result c.get-below.result c.args.key (tree_at c.args.pool.now (Some c.args.left)) (tree_at c.args.pool.now c.args.right) c.args.right c.requires.birth c.requires.can c.requires.higher a c.own-middle.new.pool c.in-Some.inner c.own-middle.result c.get-node.result c.in-Some.is c.get-node.ensures c.own-middle.ensures in
-    let lower : height a.x < height a.y = omega (arith, c.if-height_of.false, c.height_of.ensures, c.height_of-2.ensures, height_in c.own-turned.new.pool c.get-below.result.left a.x a.left_is a.sx, height_in c.own-turned.new.pool c.get-below.result.right a.y a.right_is a.sy) in settled_at (double c.args.since c.args.birth c.args.pool.now c.own-turned.new.pool c.args.top c.args.left c.own-turned.result c.get-below.result c.args.key (tree_at c.args.pool.now (Some c.args.left)) (tree_at c.args.pool.now c.args.right) c.args.right c.requires.birth c.requires.can c.requires.higher a c.own-middle.new.pool c.in-Some.inner c.own-middle.result c.get-node.result b c.link-2.new.pool c.link-3.new.pool c.link-4.new.pool c.link-2.ensures c.link-3.ensures lower c.link-4.ensures)
+    let a = turn c.args.since c.args.birth c.args.pool.now c.copy_if_older-turned.new.pool c.args.top c.args.left c.copy_if_older-turned.result c.get-below.result (tree_at c.args.pool.now (Some c.args.left)) (tree_at c.args.pool.now c.args.right) c.args.right c.requires.can c.get-below.ensures c.copy_if_older-turned.ensures in
+    let b = turn2 c.args.since c.args.birth c.args.pool.now c.copy_if_older-turned.new.pool c.args.top c.args.left c.copy_if_older-turned.result c.get-below.result c.args.key (tree_at c.args.pool.now (Some c.args.left)) (tree_at c.args.pool.now c.args.right) c.args.right c.requires.birth c.requires.can c.requires.higher a c.copy_if_older-middle.new.pool c.in-Some.inner c.copy_if_older-middle.result c.get-node.result c.in-Some.is c.get-node.ensures c.copy_if_older-middle.ensures in
+    let lower : height a.x < height a.y = omega (arith, c.if-height_of.false, c.height_of.ensures, c.height_of-2.ensures, height_in c.copy_if_older-turned.new.pool c.get-below.result.left a.x a.left_is a.sx, height_in c.copy_if_older-turned.new.pool c.get-below.result.right a.y a.right_is a.sy) in settled_at (double c.args.since c.args.birth c.args.pool.now c.copy_if_older-turned.new.pool c.args.top c.args.left c.copy_if_older-turned.result c.get-below.result c.args.key (tree_at c.args.pool.now (Some c.args.left)) (tree_at c.args.pool.now c.args.right) c.args.right c.requires.birth c.requires.can c.requires.higher a c.copy_if_older-middle.new.pool c.in-Some.inner c.copy_if_older-middle.result c.get-node.result b c.link-2.new.pool c.link-3.new.pool c.link-4.new.pool c.link-2.ensures c.link-3.ensures lower c.link-4.ensures)
 
-pub own-turned-requires-clause-unlisted : goal.own-turned-requires-clause-unlisted
-own-turned-requires-clause-unlisted c = root_plain c.args.pool.now (Some c.args.left) c.args.left c.get-below.result (tree_at c.args.pool.now (Some c.args.left)) c.requires.can.left_root c.requires.can.left_stands refl c.get-below.ensures (λ x. omega (arith, c.requires.can.apart x))
+pub copy_if_older-turned-requires-clause-unlisted : goal.copy_if_older-turned-requires-clause-unlisted
+copy_if_older-turned-requires-clause-unlisted c = root_plain c.args.pool.now (Some c.args.left) c.args.left c.get-below.result (tree_at c.args.pool.now (Some c.args.left)) c.requires.can.left_root c.requires.can.left_stands refl c.get-below.ensures (λ x. omega (arith, c.requires.can.apart x))
 
-pub own-middle-requires-clause-unlisted : goal.own-middle-requires-clause-unlisted
-own-middle-requires-clause-unlisted c =
-    let a = turn c.args.since c.args.pool.now c.own-turned.new.pool c.args.top c.args.left c.own-turned.result c.get-below.result (tree_at c.args.pool.now (Some c.args.left)) (tree_at c.args.pool.now c.args.right) c.args.right c.requires.can c.get-below.ensures c.own-turned.ensures in
-    root_plain c.own-turned.new.pool c.get-below.result.right c.in-Some.inner c.get-node.result a.y a.right_is a.sy c.in-Some.is c.get-node.ensures (λ x. omega (arith, a.apart x))
+pub copy_if_older-middle-requires-clause-unlisted : goal.copy_if_older-middle-requires-clause-unlisted
+copy_if_older-middle-requires-clause-unlisted c =
+    let a = turn c.args.since c.args.birth c.args.pool.now c.copy_if_older-turned.new.pool c.args.top c.args.left c.copy_if_older-turned.result c.get-below.result (tree_at c.args.pool.now (Some c.args.left)) (tree_at c.args.pool.now c.args.right) c.args.right c.requires.can c.get-below.ensures c.copy_if_older-turned.ensures in
+    root_plain c.copy_if_older-turned.new.pool c.get-below.result.right c.in-Some.inner c.get-node.result a.y a.right_is a.sy c.in-Some.is c.get-node.ensures (λ x. omega (arith, a.apart x))
 
 pub link-requires-3-clause-right_fits : goal.link-requires-3-clause-right_fits
 link-requires-3-clause-right_fits c =
-    let a = turn c.args.since c.args.pool.now c.own-turned.new.pool c.args.top c.args.left c.own-turned.result c.get-below.result (tree_at c.args.pool.now (Some c.args.left)) (tree_at c.args.pool.now c.args.right) c.args.right c.requires.can c.get-below.ensures c.own-turned.ensures in
-    let b = turn2 c.args.since c.args.birth c.args.pool.now c.own-turned.new.pool c.args.top c.args.left c.own-turned.result c.get-below.result c.args.key (tree_at c.args.pool.now (Some c.args.left)) (tree_at c.args.pool.now c.args.right) c.args.right c.requires.birth c.requires.can c.requires.higher a c.own-middle.new.pool c.in-Some.inner c.own-middle.result c.get-node.result c.in-Some.is c.get-node.ensures c.own-middle.ensures in
-    let f = double_far c.args.since c.args.birth c.args.pool.now c.own-turned.new.pool c.args.top c.args.left c.own-turned.result c.get-below.result c.args.key (tree_at c.args.pool.now (Some c.args.left)) (tree_at c.args.pool.now c.args.right) c.args.right c.requires.birth c.requires.can c.requires.higher a c.own-middle.new.pool c.in-Some.inner c.own-middle.result c.get-node.result b c.link-2.new.pool c.link-2.ensures in
+    let a = turn c.args.since c.args.birth c.args.pool.now c.copy_if_older-turned.new.pool c.args.top c.args.left c.copy_if_older-turned.result c.get-below.result (tree_at c.args.pool.now (Some c.args.left)) (tree_at c.args.pool.now c.args.right) c.args.right c.requires.can c.get-below.ensures c.copy_if_older-turned.ensures in
+    let b = turn2 c.args.since c.args.birth c.args.pool.now c.copy_if_older-turned.new.pool c.args.top c.args.left c.copy_if_older-turned.result c.get-below.result c.args.key (tree_at c.args.pool.now (Some c.args.left)) (tree_at c.args.pool.now c.args.right) c.args.right c.requires.birth c.requires.can c.requires.higher a c.copy_if_older-middle.new.pool c.in-Some.inner c.copy_if_older-middle.result c.get-node.result c.in-Some.is c.get-node.ensures c.copy_if_older-middle.ensures in
+    let f = double_far c.args.since c.args.birth c.args.pool.now c.copy_if_older-turned.new.pool c.args.top c.args.left c.copy_if_older-turned.result c.get-below.result c.args.key (tree_at c.args.pool.now (Some c.args.left)) (tree_at c.args.pool.now c.args.right) c.args.right c.requires.birth c.requires.can c.requires.higher a c.copy_if_older-middle.new.pool c.in-Some.inner c.copy_if_older-middle.result c.get-node.result b c.link-2.new.pool c.link-2.ensures in
     omega (arith, height_in c.link-2.new.pool c.args.right (tree_at c.args.pool.now c.args.right) a.far_is f.1, c.requires.can.right_fits)

@@ -1,7 +1,7 @@
 use Rattle.std.proofs.Common.{is_some, sym, ap, ◌∙◌, inr, arith}
 use Rattle.gs_tree.proofs.TreeLemmas.{birth_same}
 use Rattle.gs_tree.proofs.Costs.{copies_some}
-use Rattle.gs_tree.proofs.balance.own.Goals as goal
+use Rattle.gs_tree.proofs.balance.copy_if_older.Goals as goal
 
 pub replace-requires-clause-room : goal.replace-requires-clause-room
 replace-requires-clause-room c = let more = c.requires.room (omega arith) in omega arith
@@ -10,9 +10,18 @@ pub returns-else-node-since : goal.returns-else-node-since
 returns-else-node-since c =
     let r = c.replace.ensures.replaces in
     record {
-      cases = inr (r.was_free, r.updates.others, (c.requires.unlisted, r.changed, r.plain_now), (c.get-node.result, c.get-node.ensures, omega arith), r.others);
+      cases = inr (record {
+        was_free = r.was_free;
+        others = r.updates.others;
+        was_plain = c.requires.unlisted;
+        set_aside = r.changed;
+        plain_now = r.plain_now;
+        older = (c.get-node.result, c.get-node.ensures, omega arith);
+        marks = r.others;
+        born = λ n e. sym (birth_same _ _ (sym r.updates.changed ∙ e));
+      });
       used = ap is_some r.updates.changed;
-      owned = λ n e. omega (arith, birth_same _ _ (sym r.updates.changed ∙ e));
+      recent = λ n e. omega (arith, birth_same _ _ (sym r.updates.changed ∙ e));
       total = omega (arith, r.in_use, c.replace.ensures.room);
       few = omega (arith, r.in_use, copies_some c.args.since 1 (omega arith));
       exact = omega (arith, r.in_use, r.aside_more);
