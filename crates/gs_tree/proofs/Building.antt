@@ -11,7 +11,7 @@ use Rattle.gs_pool.specs.Pool.{Nodes, plain, node_at, in_use, aside_count, room,
 use Rattle.gs_tree.specs.Tree.{Tree, leaf, fork, root_of, height, keys, occurrences, Stands, IsBalanced, BirthAtMost, Descends, height_at, tree_at, DifferByAtMost}
 use Rattle.gs_tree.specs.Steps.{plain_count, one, SameTotal, Step, IsRecent, IsWritable, Links}
 use Rattle.gs_tree.specs.Merging.{Built}
-use Rattle.gs_tree.proofs.TreeLemmas.{one_cases, plain_count_none, plain_count_some, plain_count_same, plain_count_most, Stands-step, Step-then, Step-beside, Linked, birth_same}
+use Rattle.gs_tree.proofs.TreeLemmas.{one_cases, plain_count_none, plain_count_some, plain_count_same, plain_count_most, Stands-step, Step-then, Step-beside, Linked, birth_same, young_birth}
 use Rattle.gs_tree.proofs.Rotations.{root_in, height_in, tree_in, linked_in, writable_kept}
 
 -- a number in use anew
@@ -133,6 +133,7 @@ module _ (birth : ℕ) (p p1 p2 p3 : Nodes) (left right : Option ℕ) (top : ℕ
             Step-then since birth p p3 p4 _ _ _ (steps since young) (Step-beside since birth p3 p4 (one top) (one top) (λ x. one top x + occurrences l x + occurrences r x) (occurrences t) n.step (λ x. omega arith) (λ x. omega arith));
         total = omega (arith, a.total, m.total, b.total, link.total, link.same);
         exact = omega (arith, a.exact, m.few, b.exact, link.same, lengths);
+        none_older = λ since young. omega (arith, young_birth since birth young, a.none_older since young, b.none_older since young);
         marks = λ x. ap (λ ms. get_or ms x plain) link.marks ∙ b.marks x ∙ m.marks x ∙ a.marks x;
         replaced = ap (Rattle.std.specs.Prelude.count_by Rattle.gs_pool.specs.Pool.is_aside) link.marks ∙ b.replaced ∙ m.replaced ∙ a.replaced;
         low = omega (arith, d.0, ap (λ n. 2 ^ n) h, lengths);
@@ -156,6 +157,7 @@ built_none birth p [] e = record {
   };
   total = omega arith;
   exact = omega arith;
+  none_older = λ since young. refl;
   marks = λ x. refl;
   replaced = refl;
   low = omega arith;

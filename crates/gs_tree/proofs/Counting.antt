@@ -1,6 +1,7 @@
 -- How many nodes are in use, by what accounts for each.
-use Rattle.std.proofs.Common.{◌∙◌, get_or, IsSome, subst, sym, true≢false, ◌≡◌, ◌≢◌, ℕ, zero, suc, ◌+◌, ◌^◌, ◌<◌, ◌≤◌, cond, length, None, is_some, count_by, refl, ap, inl, inr, arith, [], ◌∷◌, List}
-use Rattle.gs_pool.specs.Pool.{Nodes, NodeMark, plain, is_aside, node_at}
+use Rattle.std.proofs.Common.{◌∙◌, get_or, IsSome, subst, sym, true≢false, ◌≡◌, ◌≢◌, ℕ, zero, suc, ◌+◌, ◌^◌, ◌<◌, ◌≤◌, cond, length, Option, Some, None, is_some, count_by, refl, ap, inl, inr, arith, [], ◌∷◌, List}
+use Rattle.gs_pool.specs.declared.nodes.Node.{Node}
+use Rattle.gs_pool.specs.Pool.{Nodes, NodeMark, plain, is_aside, node_at, in_use}
 use Rattle.std.proofs.lemmas.Bool.{cases_lt}
 use Rattle.std.proofs.lemmas.List.{get_or_past}
 use Rattle.std.proofs.lemmas.List.Sums.{sum_by-cons}
@@ -107,3 +108,37 @@ same_marks (m ∷ a) (n ∷ b) h =
     let one : weight m ≡ weight n = ap weight (h 0) in
     let rest : count_by is_aside a ≡ count_by is_aside b = same_marks a b (λ x. h (suc x)) in
     few ∙ ap (λ k. k + count_by is_aside a) one ∙ ap (λ k. weight n + k) rest ∙ sym more
+
+-- a sum, with its first number apart
+below_first : (f : ℕ → ℕ) (n : ℕ) → below f (suc n) ≡ f 0 + below (λ x. f (suc x)) n
+below_first f zero = omega arith
+below_first f (suc n) = omega (arith, below_first f n)
+
+-- 1 where a node is
+abbrev there : Option Node → ℕ
+there o = cond (is_some o) 1 0
+
+there_some : (o : Option Node) → IsSome o → there o ≡ 1
+there_some None h = absurd (true≢false (sym h))
+there_some (Some n) h = refl
+
+-- a list has as many nodes as its places say
+below_there : (xs : List (Option Node)) → below (λ x. there (get_or xs x None)) (length xs) ≡ count_by is_some xs
+below_there [] = refl
+below_there (o ∷ xs) =
+    let few : count_by is_some (o ∷ xs) ≡ there o + count_by is_some xs = sum_by-cons (λ m. cond (is_some m) 1 0) o xs in
+    omega (arith, below_first (λ x. there (get_or (o ∷ xs) x None)) (length xs), below_there xs, few)
+
+below_le : (f g : ℕ → ℕ) (n : ℕ) → ((x : ℕ) → f x ≤ g x) → below f n ≤ below g n
+below_le f g zero h = omega arith
+below_le f g (suc n) h = omega (arith, below_le f g n h, h n)
+
+-- a tree that has each of its nodes once has no more of them than are in use
+pub tree_used : (p : Nodes) (t : Tree) → Stands p t → ((x : ℕ) → occurrences t x ≤ 1) → size t ≤ in_use p
+tree_used p t s once = omega (arith, below_occurrences t (length p.nodes) (λ x h. used_within p x (occurrences_used p t s x h)), below_le (occurrences t) (λ x. there (get_or p.nodes x None)) (length p.nodes) each, below_there p.nodes)
+  where
+    each : (x : ℕ) → occurrences t x ≤ there (get_or p.nodes x None)
+    each x = elim (cases_lt 0 (occurrences t x)) [
+      | inl some ↦ omega (arith, once x, there_some (get_or p.nodes x None) (occurrences_used p t s x some))
+      | inr none ↦ omega arith
+    ]

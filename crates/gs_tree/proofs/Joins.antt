@@ -1,16 +1,16 @@
 -- One level of a join.
-use Rattle.std.proofs.Common.{◌≡◌, ℕ, ◌+◌, ◌-◌, ◌<◌, ◌≤◌, max, ◌∷◌, ◌++◌, Option, Some, IsSome, sym, ap, subst, ◌∙◌, arith}
+use Rattle.std.proofs.Common.{◌≡◌, ℕ, ◌+◌, ◌-◌, ◌<◌, ◌≤◌, max, min, ◌∷◌, ◌++◌, Option, Some, IsSome, sym, ap, subst, ◌∙◌, arith}
 use Rattle.gs_pool.specs.declared.nodes.Key.{Key}
 use Rattle.gs_pool.specs.declared.nodes.Node.{Node}
 use Rattle.gs_pool.specs.Pool.{Nodes, plain, node_at, mark_at}
-use Rattle.gs_tree.specs.Tree.{Tree, fork, height, keys, occurrences, IsBalanced, BirthAtMost, Descends, height_at, tree_at, DifferByAtMost}
-use Rattle.gs_tree.specs.Steps.{plain_count, one, CopiesIfOlder}
+use Rattle.gs_tree.specs.Tree.{Tree, fork, height, keys, occurrences, IsBalanced, BirthAtMost, Descends, height_at, tree_at, DifferByAtMost, older_birth, older_count}
+use Rattle.gs_tree.specs.Steps.{plain_count, one, IsOlder, CopiesIfOlder}
 use Rattle.gs_tree.specs.Joining.{CanSettle, CanJoin, Settled, copies, joins}
 use Rattle.gs_pool.specs.Pool.{room}
 use Rattle.gs_tree.proofs.TreeLemmas.{one_same, plain_count_most, Step-then, Step-beside, BirthAtMost-later}
 use Rattle.gs_tree.proofs.Rotations.{height_in, tree_in, regroup}
 use Rattle.gs_tree.proofs.Costs.{copies_some, copies_add, copies_mono, joins_near, joins_level, joins_flip}
-use Rattle.gs_tree.proofs.Levels.{Opened, opened, ChildDone, child_done, settled_low, top_stays, top_plain}
+use Rattle.gs_tree.proofs.Levels.{Opened, opened, ChildDone, child_done, settled_low, top_stays, top_same, top_plain, opened_older, older_counts}
 
 -- the left tree is the higher one
 module _ (since birth : ℕ) (p : Nodes) (top : ℕ) (key : Key) (left : Option ℕ) (l : Tree) (right : Option ℕ) (r : Tree) (can : CanJoin since p top left l right r) (id : ℕ) (node : Node) (is : left ≡ Some id) (found : node_at p id ≡ Some node) (high : height r + 2 < height l) where
@@ -35,7 +35,10 @@ module _ (since birth : ℕ) (p : Nodes) (top : ℕ) (key : Key) (left : Option 
   cost : copies since (joins (height o.r) (height r)) + copies since 1 + copies since 2 ≤ copies since (joins (height l) (height r))
   cost = joins_level since (height l) (height o.r) (height r) high low.0 low.1
 
-  spare : copies since (joins (height o.r) (height r) + 2) + copies since 1 + copies since 2 ≤ room p
+  older : older_count since l ≡ older_birth since node.birth + older_count since o.l + older_count since o.r
+  older = opened_older since p id node l o
+
+  spare : min (copies since (joins (height o.r) (height r) + 2) + copies since 1 + copies since 2) (older_count since l + older_count since r) ≤ room p
   spare = omega (arith, can.enough, cost, copies_add since (joins (height o.r) (height r)) 2, copies_add since (joins (height l) (height r)) 2)
 
   pub right_falls : (height_at p node.right - height_at p right) + (height_at p right - height_at p node.right) < (height_at p left - height_at p right) + (height_at p right - height_at p left)
@@ -54,9 +57,9 @@ module _ (since birth : ℕ) (p : Nodes) (top : ℕ) (key : Key) (left : Option 
       writable = can.can.writable;
       left_fits = omega (arith, heights, can.can.left_fits);
       right_fits = can.can.right_fits;
-      has_room = can.can.has_room;
+      has_room = omega (arith, can.can.has_room, older);
     };
-    enough = omega (arith, spare);
+    enough = omega (arith, spare, older);
   })
 
   module _ (p1 : Nodes) (inner : ℕ) (i0 : Settled since birth p p1 top inner key (tree_at p node.right) r (tree_at p1 (Some inner))) where
@@ -69,11 +72,14 @@ module _ (since birth : ℕ) (p : Nodes) (top : ℕ) (key : Key) (left : Option 
     pub right_plain : mark_at p1 id ≡ plain
     right_plain = top_plain since birth p p1 id (λ x. one top x + occurrences o.r x + occurrences r x) (occurrences (tree_at p1 (Some inner))) (occurrences o.l) i.step (λ x. omega (arith, apart_in x))
 
-    right_left : copies since 1 + copies since 2 ≤ room p1
-    right_left = omega (arith, spare, i.total, i.few, copies_mono since (joins (height o.r) (height r)) (joins (height o.r) (height r) + 2) (omega arith))
+    right_left : min (copies since 1 + copies since 2) (older_birth since node.birth + older_count since o.l + older_count since (tree_at p1 (Some inner))) ≤ room p1
+    right_left = omega (arith, spare, older, i.total, i.few, i.copied, copies_mono since (joins (height o.r) (height r)) (joins (height o.r) (height r) + 2) (omega arith))
 
-    pub right_room : 0 < since → 0 < room p1
-    right_room h = omega (arith, right_left, copies_some since 1 h)
+    right_there : node_at p1 id ≡ Some node
+    right_there = top_same since birth p p1 id node (λ x. one top x + occurrences o.r x + occurrences r x) (occurrences (tree_at p1 (Some inner))) found (omega (arith, apart_in id, one_same id, plain_count_most p id)) i.step
+
+    pub right_room : IsOlder since p1 id → 0 < room p1
+    right_room h = let c = older_counts since p1 id node right_there h in omega (arith, right_left, c.0, copies_some since 1 c.1)
 
     module _ (p2 : Nodes) (turned : ℕ) (w : CopiesIfOlder since birth p1 p2 id turned) where
       after : ChildDone since birth p p2 id turned (λ x. one top x + occurrences o.r x + occurrences r x) (tree_at p1 (Some inner)) o.l
@@ -108,7 +114,7 @@ module _ (since birth : ℕ) (p : Nodes) (top : ℕ) (key : Key) (left : Option 
             writable = after.writable;
             left_fits = omega (arith, heights, can.can.left_fits);
             right_fits = omega (arith, heights, can.can.left_fits, i.height_is.1, low.0, high);
-            has_room = λ h. omega (arith, right_left, w.total, w.few, copies_some since 1 h, copies_some since 2 h);
+            has_room = omega (arith, right_left, w.total, w.few, w.copied node right_there);
           } in
           subst (λ u. CanSettle since p2 turned node.left u (Some inner) (tree_at p2 (Some inner))) (sym other_now)
           (subst (λ u. CanSettle since p2 turned node.left o.l (Some inner) u) (sym inner_now) c)
@@ -139,6 +145,7 @@ module _ (since birth : ℕ) (p : Nodes) (top : ℕ) (key : Key) (left : Option 
             step = Step-beside since birth p p3 _ _ _ _ (Step-then since birth p p2 p3 _ _ _ after.step (Step-beside since birth p2 p3 (λ x. one turned x + occurrences o.l x + occurrences j x) (occurrences new) (λ x. one turned x + occurrences j x + occurrences o.l x) (occurrences new) s.step (λ x. omega arith) (λ x. omega arith))) (λ x. omega (arith, ap (λ u. occurrences u x) o.is)) (λ x. omega (arith, ap (λ u. occurrences u x) o.is));
             total = omega (arith, i.total, w.total, s.total);
             few = omega (arith, i.few, w.few, s.few, cost, joins_near since (height o.l) (height j) within);
+            copied = omega (arith, older, i.copied, w.copied node right_there, s.copied);
             exact = omega (arith, i.exact, w.exact, s.exact);
           }
 
@@ -165,7 +172,10 @@ module _ (since birth : ℕ) (p : Nodes) (top : ℕ) (key : Key) (left : Option 
   r_cost : copies since (joins (height l) (height ro.l)) + copies since 1 + copies since 2 ≤ copies since (joins (height l) (height r))
   r_cost = omega (arith, joins_level since (height r) (height ro.l) (height l) high r_low.0 r_low.1, ap (copies since) (joins_flip (height l) (height ro.l)), ap (copies since) (joins_flip (height l) (height r)))
 
-  r_spare : copies since (joins (height l) (height ro.l) + 2) + copies since 1 + copies since 2 ≤ room p
+  r_older : older_count since r ≡ older_birth since node.birth + older_count since ro.l + older_count since ro.r
+  r_older = opened_older since p id node r ro
+
+  r_spare : min (copies since (joins (height l) (height ro.l) + 2) + copies since 1 + copies since 2) (older_count since l + older_count since r) ≤ room p
   r_spare = omega (arith, can.enough, r_cost, copies_add since (joins (height l) (height ro.l)) 2, copies_add since (joins (height l) (height r)) 2)
 
   pub left_falls : (height_at p left - height_at p node.left) + (height_at p node.left - height_at p left) < (height_at p left - height_at p right) + (height_at p right - height_at p left)
@@ -184,9 +194,9 @@ module _ (since birth : ℕ) (p : Nodes) (top : ℕ) (key : Key) (left : Option 
       writable = can.can.writable;
       left_fits = can.can.left_fits;
       right_fits = omega (arith, r_heights, can.can.right_fits);
-      has_room = can.can.has_room;
+      has_room = omega (arith, can.can.has_room, r_older);
     };
-    enough = omega (arith, r_spare);
+    enough = omega (arith, r_spare, r_older);
   })
 
   module _ (p1 : Nodes) (inner : ℕ) (i0 : Settled since birth p p1 top inner key l (tree_at p node.left) (tree_at p1 (Some inner))) where
@@ -199,11 +209,14 @@ module _ (since birth : ℕ) (p : Nodes) (top : ℕ) (key : Key) (left : Option 
     pub left_plain : mark_at p1 id ≡ plain
     left_plain = top_plain since birth p p1 id (λ x. one top x + occurrences l x + occurrences ro.l x) (occurrences (tree_at p1 (Some inner))) (occurrences ro.r) k.step (λ x. omega (arith, r_apart_in x))
 
-    left_left : copies since 1 + copies since 2 ≤ room p1
-    left_left = omega (arith, r_spare, k.total, k.few, copies_mono since (joins (height l) (height ro.l)) (joins (height l) (height ro.l) + 2) (omega arith))
+    left_left : min (copies since 1 + copies since 2) (older_birth since node.birth + older_count since ro.r + older_count since (tree_at p1 (Some inner))) ≤ room p1
+    left_left = omega (arith, r_spare, r_older, k.total, k.few, k.copied, copies_mono since (joins (height l) (height ro.l)) (joins (height l) (height ro.l) + 2) (omega arith))
 
-    pub left_room : 0 < since → 0 < room p1
-    left_room h = omega (arith, left_left, copies_some since 1 h)
+    left_there : node_at p1 id ≡ Some node
+    left_there = top_same since birth p p1 id node (λ x. one top x + occurrences l x + occurrences ro.l x) (occurrences (tree_at p1 (Some inner))) found (omega (arith, r_apart_in id, one_same id, plain_count_most p id)) k.step
+
+    pub left_room : IsOlder since p1 id → 0 < room p1
+    left_room h = let c = older_counts since p1 id node left_there h in omega (arith, left_left, c.0, copies_some since 1 c.1)
 
     module _ (p2 : Nodes) (turned : ℕ) (w : CopiesIfOlder since birth p1 p2 id turned) where
       r_after : ChildDone since birth p p2 id turned (λ x. one top x + occurrences l x + occurrences ro.l x) (tree_at p1 (Some inner)) ro.r
@@ -238,7 +251,7 @@ module _ (since birth : ℕ) (p : Nodes) (top : ℕ) (key : Key) (left : Option 
             writable = r_after.writable;
             left_fits = omega (arith, r_heights, can.can.right_fits, k.height_is.1, r_low.0, high);
             right_fits = omega (arith, r_heights, can.can.right_fits);
-            has_room = λ h. omega (arith, left_left, w.total, w.few, copies_some since 1 h, copies_some since 2 h);
+            has_room = omega (arith, left_left, w.total, w.few, w.copied node left_there);
           } in
           subst (λ u. CanSettle since p2 turned (Some inner) (tree_at p2 (Some inner)) node.right u) (sym r_other_now)
           (subst (λ u. CanSettle since p2 turned (Some inner) u node.right ro.r) (sym r_inner_now) c)
@@ -269,6 +282,7 @@ module _ (since birth : ℕ) (p : Nodes) (top : ℕ) (key : Key) (left : Option 
             step = Step-beside since birth p p3 _ _ _ _ (Step-then since birth p p2 p3 _ _ _ r_after.step s.step) (λ x. omega (arith, ap (λ u. occurrences u x) ro.is)) (λ x. omega (arith, ap (λ u. occurrences u x) ro.is));
             total = omega (arith, k.total, w.total, s.total);
             few = omega (arith, k.few, w.few, s.few, r_cost, joins_near since (height j) (height ro.r) r_within);
+            copied = omega (arith, r_older, k.copied, w.copied node left_there, s.copied);
             exact = omega (arith, k.exact, w.exact, s.exact);
           }
 

@@ -1,16 +1,17 @@
 -- One level of a tree.
-use Rattle.std.proofs.Common.{◌≡◌, ℕ, ◌+◌, ◌≤◌, max, Option, Some, is_some, IsSome, sym, ap, subst, ◌∙◌, inl, inr, arith}
+use Rattle.std.proofs.Common.{◌≡◌, ℕ, ◌+◌, ◌<◌, ◌≤◌, max, Option, Some, is_some, IsSome, sym, ap, subst, ◌∙◌, inl, inr, arith}
 use Rattle.std.proofs.lemmas.Bool.{cases_lt}
 use Rattle.gs_pool.specs.declared.nodes.Node.{Node}
 use Rattle.gs_pool.specs.Pool.{Nodes, plain, node_at, mark_at}
-use Rattle.gs_tree.specs.Tree.{Tree, leaf, fork, root_of, occurrences, top_node, Stands}
-use Rattle.gs_tree.specs.Steps.{plain_count, one, Step, IsWritable, CopiesIfOlder}
+use Rattle.gs_tree.specs.Tree.{Tree, leaf, fork, root_of, occurrences, top_node, Stands, older_birth, older_count}
+use Rattle.gs_tree.specs.Steps.{plain_count, one, Step, IsOlder, IsWritable, CopiesIfOlder}
 use Rattle.gs_tree.specs.Joining.{IsHeightAfter}
-use Rattle.gs_tree.proofs.TreeLemmas.{one_same, plain_count_most, plain_found, Stands-step, Step-then, Step-beside, CopiesIfOlder-step}
+use Rattle.gs_tree.proofs.TreeLemmas.{one_same, plain_count_most, plain_found, Stands-step, Step-then, Step-beside, CopiesIfOlder-step, birth_same, old_birth}
 
 -- the top of a tree that a root names
 pub record Opened (p : Nodes) (id : ℕ) (node : Node) (t : Tree) : Type 0 where
   pub birth : ℕ
+  pub birth_is : birth ≡ node.birth
   pub l : Tree
   pub r : Tree
   pub is : t ≡ fork id birth l node.key r
@@ -28,6 +29,7 @@ opened p root id node (fork i birth l k r) e s is found =
     let n : top_node birth l k r ≡ node = cc in
     record {
       birth = birth;
+      birth_is = ap (λ (m : Node). m.birth) n;
       l = l;
       r = r;
       is = ap (λ a. fork a birth l k r) same ∙ ap (λ (m : Node). fork id birth l m.key r) n;
@@ -37,6 +39,23 @@ opened p root id node (fork i birth l k r) e s is found =
       sr = s.2;
       used = ap is_some found;
     }
+
+-- how many nodes are older, by the top and the sides
+pub opened_older : (since : ℕ) (p : Nodes) (id : ℕ) (node : Node) (t : Tree) (o : Opened p id node t) → older_count since t ≡ older_birth since node.birth + older_count since o.l + older_count since o.r
+opened_older since p id node t o = ap (older_count since) o.is ∙ ap (λ b. older_birth since b + older_count since o.l + older_count since o.r) o.birth_is
+
+-- an older node counts
+pub older_counts : (since : ℕ) (p : Nodes) (id : ℕ) (node : Node) → node_at p id ≡ Some node → IsOlder since p id → (older_birth since node.birth ≡ 1) × (0 < since)
+older_counts since p id node found old =
+    let same : old.0.birth ≡ node.birth = birth_same _ _ (sym old.1 ∙ found) in
+    (old_birth since node.birth (omega (arith, old.2)), omega (arith, old.2))
+
+-- a tree whose top is older has an older node
+pub older_root : (since : ℕ) (p : Nodes) (root : Option ℕ) (id : ℕ) (node : Node) (t : Tree) → root ≡ root_of t → Stands p t → root ≡ Some id → node_at p id ≡ Some node → IsOlder since p id → (1 ≤ older_count since t) × (0 < since)
+older_root since p root id node t e s is found old =
+    let o = opened p root id node t e s is found in
+    let c = older_counts since p id node found old in
+    (omega (arith, opened_older since p id node t o, c.0), c.1)
 
 -- the top of a tree of plain nodes is plain
 pub root_plain : (p : Nodes) (root : Option ℕ) (id : ℕ) (node : Node) (t : Tree) → root ≡ root_of t → Stands p t → root ≡ Some id → node_at p id ≡ Some node → ((x : ℕ) → occurrences t x ≤ plain_count p x) → mark_at p id ≡ plain
@@ -51,6 +70,10 @@ top_plain since birth p q id a b c s within = (plain_found q id (omega (arith, s
 -- the sides do not have the top
 pub side_off : (p : Nodes) (id : ℕ) (node : Node) (t : Tree) (o : Opened p id node t) → ((x : ℕ) → occurrences t x ≤ plain_count p x) → (occurrences o.l id ≡ 0) × (occurrences o.r id ≡ 0)
 side_off p id node t o apart = let a = apart id in let e = ap (λ u. occurrences u id) o.is in let s = one_same id in let m = plain_count_most p id in (omega arith, omega arith)
+
+-- the top stays as it is while a side changes
+pub top_same : (since birth : ℕ) (p q : Nodes) (id : ℕ) (node : Node) (a b : ℕ → ℕ) → node_at p id ≡ Some node → a id ≡ 0 → Step since birth p q a b → node_at q id ≡ Some node
+top_same since birth p q id node a b found off s = s.kept id node found (inl off)
 
 -- the top stays in use while a side changes
 pub top_stays : (since birth : ℕ) (p q : Nodes) (id : ℕ) (node : Node) (a b : ℕ → ℕ) → node_at p id ≡ Some node → a id ≡ 0 → Step since birth p q a b → IsSome (node_at q id)

@@ -1,5 +1,5 @@
 -- One level of a removal.
-use Rattle.std.proofs.Common.{◌≡◌, ◌≢◌, ◌⊎◌, ℕ, zero, suc, ◌+◌, ◌-◌, ◌*◌, ◌<◌, ◌≤◌, ◌^◌, max, Bool, true, false, cond, List, [], ◌∷◌, ◌++◌, Option, Some, None, is_some, IsSome, refl, sym, ap, subst, ◌∙◌, inl, inr, arith}
+use Rattle.std.proofs.Common.{◌≡◌, ◌≢◌, ◌⊎◌, ℕ, zero, suc, ◌+◌, ◌-◌, ◌*◌, ◌<◌, ◌≤◌, ◌^◌, max, min, Bool, true, false, cond, List, [], ◌∷◌, ◌++◌, Option, Some, None, is_some, IsSome, refl, sym, ap, subst, ◌∙◌, inl, inr, arith}
 use Rattle.std.proofs.lemmas.Bool.{cases_lt, cases_eq}
 use Rattle.std.specs.declared.cmp.Ordering.{Ordering}
 use Rattle.std.specs.declared.cmp.Ordering.TheVariants.{Less, Equal, Greater}
@@ -11,14 +11,14 @@ use Rattle.gs_tree.proofs.Heights.{height_digits, size-keys}
 use Rattle.gs_pool.specs.declared.nodes.Key.{Key}
 use Rattle.gs_pool.specs.declared.nodes.Node.{Node}
 use Rattle.gs_pool.specs.Pool.{Nodes, plain, replaced, is_aside, node_at, mark_at, in_use, aside_count, room, Updates, Marks, KeepsMarks}
-use Rattle.gs_tree.specs.Tree.{Tree, leaf, fork, root_of, height, keys, occurrences, Stands, IsBalanced, BirthAtMost, Descends, height_at, tree_at, DifferByAtMost}
+use Rattle.gs_tree.specs.Tree.{Tree, leaf, fork, root_of, height, keys, occurrences, Stands, IsBalanced, BirthAtMost, Descends, height_at, tree_at, DifferByAtMost, older_birth, older_count}
 use Rattle.gs_tree.specs.Steps.{plain_count, plain_mark, one, Step, IsOlder, CopiesIfOlder}
 use Rattle.gs_tree.specs.Joining.{CanSettle, Settled, copies, IsHeightAfter}
 use Rattle.gs_tree.specs.Shrinking.{CanShrink, Shrinks, Discards, remove_cost}
 use Rattle.gs_tree.specs.Sets.{IsSet, Removes}
-use Rattle.gs_tree.proofs.TreeLemmas.{Stands-same, plain_count_none, plain_count_some, plain_count_same, plain_count_mark, one_cases, plain_count_most, Stands-step, Step-then, Step-beside, BirthAtMost-later, birth_same, tree_at-is}
+use Rattle.gs_tree.proofs.TreeLemmas.{Stands-same, plain_count_none, plain_count_some, plain_count_same, plain_count_mark, one_cases, plain_count_most, Stands-step, Step-then, Step-beside, BirthAtMost-later, birth_same, tree_at-is, old_birth, young_birth}
 use Rattle.gs_tree.proofs.Rotations.{height_in, tree_in}
-use Rattle.gs_tree.proofs.Levels.{Opened, opened, ChildDone, child_done, side_off, top_stays, top_plain, root_plain}
+use Rattle.gs_tree.proofs.Levels.{Opened, opened, ChildDone, child_done, side_off, top_stays, top_same, top_plain, root_plain, opened_older, older_counts}
 use Rattle.gs_tree.proofs.Costs.{copies_some, copies_most, copies_add, copies_mono, joins_near}
 use Rattle.gs_tree.proofs.Counting.{same_marks}
 
@@ -60,6 +60,7 @@ drop_discards since p q id n found old was m more =
         ];
       };
       total = omega (arith, free, used, m.spare);
+      copied = λ m e. let same = birth_same _ _ (sym found ∙ e) in omega (arith, used, old_birth since m.birth (omega arith));
       exact = omega (arith, used, more);
       few = omega (arith, used);
     }
@@ -90,6 +91,7 @@ free_discards since p q id n found young was up marks rooms used = record {
     marks = λ x. inl (marks x);
   };
   total = omega (arith, rooms, used);
+  copied = λ m e. let same = birth_same _ _ (sym found ∙ e) in omega (arith, used, young_birth since m.birth (omega arith));
   exact = omega (arith, used, same_marks q.marks p.marks (λ x. marks x));
   few = omega arith;
 }
@@ -113,7 +115,10 @@ module _ (since birth : ℕ) (p : Nodes) (root : Option ℕ) (t : Tree) (can : C
   pub right_is : tree_at p node.right ≡ o.r
   right_is = tree_in p node.right o.r o.right_is o.sr
 
-  side_room : (h : ℕ) → h + 1 ≤ height t → remove_cost since h + copies since 3 ≤ room p
+  older : older_count since t ≡ older_birth since node.birth + older_count since o.l + older_count since o.r
+  older = opened_older since p id node t o
+
+  side_room : (h : ℕ) → h + 1 ≤ height t → min (remove_cost since h + copies since 3) (older_count since t) ≤ room p
   side_room h le =
       let add : copies since (3 * h + 3) ≡ copies since (3 * h) + copies since 3 = copies_add since (3 * h) 3 in
       let mono : copies since (3 * h + 3) ≤ copies since (3 * height t) = copies_mono since _ _ (omega arith) in
@@ -123,10 +128,10 @@ module _ (since birth : ℕ) (p : Nodes) (root : Option ℕ) (t : Tree) (can : C
   side_cost h le = omega (arith, copies_add since (3 * h) 3, copies_add since 1 2, copies_mono since (3 * h + 3) (3 * height t) (omega arith))
 
   pub left_can : CanShrink since p node.left (tree_at p node.left)
-  left_can = subst (CanShrink since p node.left) (sym left_is) (record { root_is = o.left_is; stands = o.sl; balanced = near.1; apart = λ i. omega (arith, apart_in i); fits = omega (arith, heights, can.fits); has_room = omega (arith, side_room (height o.l) (omega (arith, heights))) })
+  left_can = subst (CanShrink since p node.left) (sym left_is) (record { root_is = o.left_is; stands = o.sl; balanced = near.1; apart = λ i. omega (arith, apart_in i); fits = omega (arith, heights, can.fits); has_room = omega (arith, older, side_room (height o.l) (omega (arith, heights))) })
 
   pub right_can : CanShrink since p node.right (tree_at p node.right)
-  right_can = subst (CanShrink since p node.right) (sym right_is) (record { root_is = o.right_is; stands = o.sr; balanced = near.2; apart = λ i. omega (arith, apart_in i); fits = omega (arith, heights, can.fits); has_room = omega (arith, side_room (height o.r) (omega (arith, heights))) })
+  right_can = subst (CanShrink since p node.right) (sym right_is) (record { root_is = o.right_is; stands = o.sr; balanced = near.2; apart = λ i. omega (arith, apart_in i); fits = omega (arith, heights, can.fits); has_room = omega (arith, older, side_room (height o.r) (omega (arith, heights))) })
 
   pub left_falls : height_at p node.left < height_at p root
   left_falls = omega (arith, height_in p node.left o.l o.left_is o.sl, height_in p root t can.root_is can.stands, heights)
@@ -138,8 +143,8 @@ module _ (since birth : ℕ) (p : Nodes) (root : Option ℕ) (t : Tree) (can : C
   here_plain = root_plain p root id node t can.root_is can.stands is found can.apart
 
   -- the top goes, and one side is empty
-  top_goes : (q : Nodes) (side : Option ℕ) (a : Tree) → Discards since p q id → side ≡ root_of a → Stands p a → IsBalanced a → ((x : ℕ) → occurrences t x ≡ one id x + occurrences a x) → height t ≡ height a + 1 → (Descends t → BirthAtMost birth t → Descends a × BirthAtMost birth a) → Shrinks since birth p q side t (tree_at q side)
-  top_goes q side a d side_is sa ba has high births =
+  top_goes : (q : Nodes) (side : Option ℕ) (a : Tree) → older_count since t ≡ older_birth since node.birth + older_count since a → Discards since p q id → side ≡ root_of a → Stands p a → IsBalanced a → ((x : ℕ) → occurrences t x ≡ one id x + occurrences a x) → height t ≡ height a + 1 → (Descends t → BirthAtMost birth t → Descends a × BirthAtMost birth a) → Shrinks since birth p q side t (tree_at q side)
+  top_goes q side a counts d side_is sa ba has high births =
       let stands = Stands-step since birth p q (one id) (λ x. 0) a (d.step birth) (λ x h. omega (arith, can.apart x, has x, plain_count_most p x)) sa in
       subst (Shrinks since birth p q side t) (sym (tree_in q side a side_is stands)) (record {
         root = side_is;
@@ -151,13 +156,14 @@ module _ (since birth : ℕ) (p : Nodes) (root : Option ℕ) (t : Tree) (can : C
         step = Step-beside since birth p q (one id) (λ x. 0) (occurrences t) (occurrences a) (d.step birth) (λ x. omega (arith, has x)) (λ x. omega (arith, has x));
         total = d.total;
         few = omega (arith, d.few);
+        copied = omega (arith, d.copied node found, counts);
         exact = d.exact;
       })
 
   pub no_left : (q : Nodes) → Discards since p q id → node.left ≡ None → (Shrinks since birth p q node.right t (tree_at q node.right)) × (keys t ≡ node.key ∷ keys (tree_at q node.right))
   no_left q d none =
       let empty : o.l ≡ leaf = no_root_leaf o.l (sym o.left_is ∙ none) in (
-        top_goes q node.right o.r d o.right_is o.sr near.2
+        top_goes q node.right o.r (omega (arith, older, ap (older_count since) empty)) d o.right_is o.sr near.2
             (λ x. omega (arith, ap (λ u. occurrences u x) o.is, ap (λ u. occurrences u x) empty))
             (omega (arith, heights, ap height empty))
             (λ e b. let f : Descends (fork id o.birth o.l node.key o.r) = subst Descends o.is e in let g : o.birth ≤ birth = subst (BirthAtMost birth) o.is b in (f.3, BirthAtMost-later o.birth birth o.r g f.1)),
@@ -167,7 +173,7 @@ module _ (since birth : ℕ) (p : Nodes) (root : Option ℕ) (t : Tree) (can : C
   pub no_right : (q : Nodes) → Discards since p q id → node.right ≡ None → (Shrinks since birth p q node.left t (tree_at q node.left)) × (o.r ≡ leaf)
   no_right q d none =
       let empty : o.r ≡ leaf = no_root_leaf o.r (sym o.right_is ∙ none) in (
-        top_goes q node.left o.l d o.left_is o.sl near.1
+        top_goes q node.left o.l (omega (arith, older, ap (older_count since) empty)) d o.left_is o.sl near.1
             (λ x. omega (arith, ap (λ u. occurrences u x) o.is, ap (λ u. occurrences u x) empty))
             (omega (arith, heights, ap height empty))
             (λ e b. let f : Descends (fork id o.birth o.l node.key o.r) = subst Descends o.is e in let g : o.birth ≤ birth = subst (BirthAtMost birth) o.is b in (f.2, BirthAtMost-later o.birth birth o.l g f.0)),
@@ -184,8 +190,14 @@ module _ (since birth : ℕ) (p : Nodes) (root : Option ℕ) (t : Tree) (can : C
     pub left_plain : mark_at p1 id ≡ plain
     left_plain = top_plain since birth p p1 id (occurrences o.l) (occurrences (tree_at p1 left)) (occurrences o.r) i.step (λ x. omega (arith, apart_in x))
 
-    pub left_room : 0 < since → 3 ≤ room p1
-    left_room h = omega (arith, side_room (height o.l) (omega (arith, heights)), copies_some since 3 h, i.total, i.few)
+    left_there : node_at p1 id ≡ Some node
+    left_there = top_same since birth p p1 id node (occurrences o.l) (occurrences (tree_at p1 left)) found (side_off p id node t o can.apart).0 i.step
+
+    left_over : min (copies since 1 + copies since 2) (older_birth since node.birth + older_count since (tree_at p1 left) + older_count since o.r) ≤ room p1
+    left_over = omega (arith, side_room (height o.l) (omega (arith, heights)), copies_add since 1 2, older, i.total, i.few, i.copied)
+
+    pub left_room : IsOlder since p1 id → 0 < room p1
+    left_room h = let c = older_counts since p1 id node left_there h in omega (arith, left_over, c.0, copies_some since 1 c.1)
 
     module _ (p2 : Nodes) (top : ℕ) (w : CopiesIfOlder since birth p1 p2 id top) where
       after : ChildDone since birth p p2 id top (occurrences o.l) (tree_at p1 left) o.r
@@ -210,7 +222,7 @@ module _ (since birth : ℕ) (p : Nodes) (root : Option ℕ) (t : Tree) (can : C
             writable = after.writable;
             left_fits = omega (arith, heights, can.fits, i.not_higher);
             right_fits = omega (arith, heights, can.fits);
-            has_room = λ h. omega (arith, left_room h, w.total, w.few, copies_some since 1 h);
+            has_room = omega (arith, left_over, w.total, w.few, w.copied node left_there);
           } in
           subst (λ u. CanSettle since p2 top left (tree_at p2 left) node.right u) (sym right_now) (subst (λ u. CanSettle since p2 top left u node.right o.r) (sym left_now) c)
 
@@ -235,6 +247,7 @@ module _ (since birth : ℕ) (p : Nodes) (root : Option ℕ) (t : Tree) (can : C
               one_lower = omega (arith, heights, low.1);
               step = Step-beside since birth p p3 _ _ _ _ (Step-then since birth p p2 p3 _ _ _ after.step s.step) (λ j. omega (arith, ap (λ u. occurrences u j) o.is)) (λ j. omega (arith, ap (λ u. occurrences u j) o.is));
               total = omega (arith, i.total, w.total, s.total);
+              copied = omega (arith, older, i.copied, w.copied node left_there, s.copied);
               exact = omega (arith, i.exact, w.exact, s.exact);
               few = omega (arith, i.few, w.few, s.few, side_cost (height o.l) (omega (arith, heights)), joins_near since (height (tree_at p1 left)) (height o.r) (omega (arith, near.0.0, near.0.1, i.not_higher, i.one_lower), omega (arith, near.0.0, near.0.1, i.not_higher, i.one_lower)));
             },
@@ -251,8 +264,14 @@ module _ (since birth : ℕ) (p : Nodes) (root : Option ℕ) (t : Tree) (can : C
     pub right_plain : mark_at p1 id ≡ plain
     right_plain = top_plain since birth p p1 id (occurrences o.r) (occurrences (tree_at p1 right)) (occurrences o.l) k.step (λ x. omega (arith, apart_in x))
 
-    pub right_room : 0 < since → 3 ≤ room p1
-    right_room h = omega (arith, side_room (height o.r) (omega (arith, heights)), copies_some since 3 h, k.total, k.few)
+    right_there : node_at p1 id ≡ Some node
+    right_there = top_same since birth p p1 id node (occurrences o.r) (occurrences (tree_at p1 right)) found (side_off p id node t o can.apart).1 k.step
+
+    right_over : min (copies since 1 + copies since 2) (older_birth since node.birth + older_count since o.l + older_count since (tree_at p1 right)) ≤ room p1
+    right_over = omega (arith, side_room (height o.r) (omega (arith, heights)), copies_add since 1 2, older, k.total, k.few, k.copied)
+
+    pub right_room : IsOlder since p1 id → 0 < room p1
+    right_room h = let c = older_counts since p1 id node right_there h in omega (arith, right_over, c.0, copies_some since 1 c.1)
 
     module _ (p2 : Nodes) (top : ℕ) (w : CopiesIfOlder since birth p1 p2 id top) where
       after_right : ChildDone since birth p p2 id top (occurrences o.r) (tree_at p1 right) o.l
@@ -277,7 +296,7 @@ module _ (since birth : ℕ) (p : Nodes) (root : Option ℕ) (t : Tree) (can : C
             writable = after_right.writable;
             left_fits = omega (arith, heights, can.fits);
             right_fits = omega (arith, heights, can.fits, k.not_higher);
-            has_room = λ h. omega (arith, right_room h, w.total, w.few, copies_some since 1 h);
+            has_room = omega (arith, right_over, w.total, w.few, w.copied node right_there);
           } in
           subst (λ u. CanSettle since p2 top node.left u right (tree_at p2 right)) (sym other_now) (subst (λ u. CanSettle since p2 top node.left o.l right u) (sym fallen_now) c)
 
@@ -304,6 +323,7 @@ module _ (since birth : ℕ) (p : Nodes) (root : Option ℕ) (t : Tree) (can : C
               one_lower = omega (arith, heights, low.1);
               step = Step-beside since birth p p3 _ _ _ _ (Step-then since birth p p2 p3 _ _ _ after_right.step (Step-beside since birth p2 p3 (λ j. one top j + occurrences o.l j + occurrences (tree_at p1 right) j) (occurrences new) (λ j. one top j + occurrences (tree_at p1 right) j + occurrences o.l j) (occurrences new) s.step (λ j. omega arith) (λ j. omega arith))) (λ j. omega (arith, ap (λ u. occurrences u j) o.is)) (λ j. omega (arith, ap (λ u. occurrences u j) o.is));
               total = omega (arith, k.total, w.total, s.total);
+              copied = omega (arith, older, k.copied, w.copied node right_there, s.copied);
               exact = omega (arith, k.exact, w.exact, s.exact);
               few = omega (arith, k.few, w.few, s.few, side_cost (height o.r) (omega (arith, heights)), joins_near since (height o.l) (height (tree_at p1 right)) (omega (arith, near.0.0, near.0.1, k.not_higher, k.one_lower), omega (arith, near.0.0, near.0.1, k.not_higher, k.one_lower)));
             },
@@ -345,7 +365,7 @@ module _ (since birth : ℕ) (p : Nodes) (root : Option ℕ) (t : Tree) (can : C
         append_nil (x ∷ xs) = ap (λ ys. x ∷ ys) (append_nil xs)
 
 -- the whole of a removal
-pub remove_can : (cmp : Key → Key → Ordering) (since : ℕ) (p q : Nodes) (root : Option ℕ) (t : Tree) → IsSet cmp p root t → q.nodes ≡ p.nodes → q.marks ≡ p.marks → height t < 2 ^ 29 → remove_cost since (height t) ≤ room q → (tree_at q root ≡ t) × CanShrink since q root (tree_at q root)
+pub remove_can : (cmp : Key → Key → Ordering) (since : ℕ) (p q : Nodes) (root : Option ℕ) (t : Tree) → IsSet cmp p root t → q.nodes ≡ p.nodes → q.marks ≡ p.marks → height t < 2 ^ 29 → min (remove_cost since (height t)) (older_count since t) ≤ room q → (tree_at q root ≡ t) × CanShrink since q root (tree_at q root)
 remove_can cmp since p q root t s same drop fits enough =
     let alike : (x : ℕ) → plain_count q x ≡ plain_count p x = λ x. plain_count_same p q x (ap (λ xs. Rattle.std.proofs.Common.get_or xs x None) same) (ap (λ ms. Rattle.std.proofs.Common.get_or ms x plain) drop) in
     let stands = Stands-same p q t (λ x n h e. ap (λ xs. Rattle.std.proofs.Common.get_or xs x None) same ∙ e) s.stands in
@@ -381,6 +401,7 @@ removed cmp total since birth p0 p q root to key t u new s same drop e0 i0 has k
       births = i.births;
       step = step;
       others = λ other there away. let stays = Stands-same p0 q other (λ x n h e. step.kept x n e (away x n h e)) there in (stays, tree_at-is q other stays ∙ sym (tree_at-is p0 other there));
+      copied = omega (arith, i.copied, uses);
       exact = omega (arith, i.exact, uses, ap (Rattle.std.specs.Prelude.count_by is_aside) drop);
       in_place = λ z. omega (arith, i.exact, uses, same_marks q.marks p.marks (λ x. elim (i.step.marks x) [ inl kept ↦ kept | inr old ↦ absurd (omega (arith, old.0.2)) ]));
       cost = omega (arith, i.few, uses);

@@ -1,14 +1,14 @@
 -- What rotations to the left do, where the right tree is higher.
-use Rattle.std.proofs.Common.{◌≡◌, ℕ, ◌+◌, ◌<◌, ◌≤◌, max, true, false, cond, ltb, List, ◌∷◌, ◌++◌, Option, Some, is_some, refl, sym, ap, subst, ◌∙◌, inr, arith, append_assoc}
+use Rattle.std.proofs.Common.{◌≡◌, ℕ, ◌+◌, ◌<◌, ◌≤◌, max, min, true, false, cond, ltb, List, ◌∷◌, ◌++◌, Option, Some, is_some, refl, sym, ap, subst, ◌∙◌, inr, arith, append_assoc}
 use Rattle.gs_pool.specs.declared.nodes.Key.{Key}
 use Rattle.gs_pool.specs.declared.nodes.Node.{Node}
 use Rattle.gs_pool.specs.Pool.{Nodes, node_at, in_use, aside_count}
-use Rattle.gs_tree.specs.Tree.{Tree, leaf, fork, root_of, height, keys, occurrences, top_node, Stands, IsBalanced, BirthAtMost, Descends}
+use Rattle.gs_tree.specs.Tree.{Tree, leaf, fork, root_of, height, keys, occurrences, top_node, Stands, IsBalanced, BirthAtMost, Descends, older_birth, older_count}
 use Rattle.gs_tree.specs.Steps.{plain_count, one, SameTotal, Step, IsWritable, CopiesIfOlder, Links}
 use Rattle.gs_tree.specs.Joining.{CanSettle, Settled, copies}
 use Rattle.gs_pool.specs.Pool.{room}
-use Rattle.gs_tree.proofs.Costs.{joins_two}
-use Rattle.gs_tree.proofs.TreeLemmas.{one_same, plain_count_most, Stands-step, Step-then, Step-beside, CopiesIfOlder-step, Linked, BirthAtMost-later}
+use Rattle.gs_tree.proofs.Costs.{joins_two, copies_add}
+use Rattle.gs_tree.proofs.TreeLemmas.{one_same, plain_count_most, Stands-step, Step-then, Step-beside, CopiesIfOlder-step, Linked, BirthAtMost-later, young_birth}
 use Rattle.gs_tree.proofs.Rotations.{linked_in, writable_kept, regroup}
 
 -- the left tree, taken apart, with a top that may be written
@@ -29,19 +29,21 @@ pub record Turned (since birth : ℕ) (p q : Nodes) (top left turned : ℕ) (bel
   pub step : Step since birth p q (λ i. one top i + occurrences l i + occurrences r i) (λ i. one top i + one turned i + occurrences x i + occurrences y i + occurrences r i)
   pub total : SameTotal p q
   pub few : in_use q ≤ in_use p + copies since 1
+  pub copied : in_use q + (older_count since x + older_count since y) ≡ in_use p + older_count since l
   pub exact : in_use q + aside_count p ≡ in_use p + aside_count q
-  pub has_room : 0 < since → 1 ≤ room q
+  pub has_room : min (copies since 1) (older_count since x + older_count since y + older_count since r) ≤ room q
 
 module _ (since birth : ℕ) (p q : Nodes) (top left turned : ℕ) (below : Node) (l r : Tree) (right : Option ℕ) where
   pub turn : CanSettle since p top right r (Some left) l → node_at p left ≡ Some below → CopiesIfOlder since birth p q left turned → Turned since birth p q top left turned below l r right
-  turn can found o = by_tree l can.right_root can.right_stands (λ i. omega (arith, can.apart i))
+  turn can found o = by_tree l can.right_root can.right_stands (λ i. omega (arith, can.apart i)) (omega (arith, can.has_room))
     where
-      by_tree : (t : Tree) → Some left ≡ root_of t → Stands p t → ((i : ℕ) → one top i + occurrences t i + occurrences r i ≤ plain_count p i) → Turned since birth p q top left turned below t r right
-      by_tree leaf e s apart = absurd (cc)
-      by_tree (fork id bl y j x) e s apart =
+      by_tree : (t : Tree) → Some left ≡ root_of t → Stands p t → ((i : ℕ) → one top i + occurrences t i + occurrences r i ≤ plain_count p i) → min (copies since 2) (older_count since t + older_count since r) ≤ room p → Turned since birth p q top left turned below t r right
+      by_tree leaf e s apart room_for = absurd (cc)
+      by_tree (fork id bl y j x) e s apart room_for =
           let same : id ≡ left = cc in
           let here : node_at p left ≡ Some (top_node bl y j x) = subst (λ i. node_at p i ≡ Some (top_node bl y j x)) same s.0 in
           let is : top_node bl y j x ≡ below = cc in
+          let spent : in_use q ≡ in_use p + older_birth since bl = o.copied below found ∙ ap (λ (n : Node). in_use p + older_birth since n.birth) (sym is) in
           let copied = CopiesIfOlder-step since birth p q left turned o in
           let at : (i : ℕ) → one top i + one left i + occurrences x i + occurrences y i + occurrences r i ≤ 1 = λ i. omega (arith, apart i, plain_count_most p i, ap (λ a. one a i) same) in
           let big : Step since birth p q (λ i. one top i + one id i + occurrences x i + occurrences y i + occurrences r i) (λ i. one top i + one turned i + occurrences x i + occurrences y i + occurrences r i) =
@@ -63,12 +65,10 @@ module _ (since birth : ℕ) (p q : Nodes) (top left turned : ℕ) (below : Node
             step = Step-beside since birth p q _ _ _ _ big (λ i. omega arith) (λ i. omega arith);
             total = o.total;
             few = o.few;
+            copied = omega (arith, spent);
             exact = o.exact;
-            has_room = λ h. omega (arith, can.has_room h, o.total, o.few, one_copy since h);
+            has_room = omega (arith, room_for, o.total, o.few, spent, copies_add since 1 1);
           }
-        where
-          one_copy : (n : ℕ) → 0 < n → copies n 1 ≡ 1
-          one_copy n h = rw (Rattle.std.proofs.lemmas.Bool.lt-ltb 0 n h)
 
 -- after the first link of a single rotation
 pub record Low (since birth : ℕ) (p q : Nodes) (id turned : ℕ) (x t : Tree) : Type 0 where
@@ -116,6 +116,7 @@ module _ (since birth : ℕ) (p p1 : Nodes) (top left turned : ℕ) (below : Nod
         step = Step-beside since birth p p3 (λ i. one top i + occurrences l i + occurrences r i) (occurrences (fork turned birth (fork top birth r key a.y) below.key a.x)) _ _ (Step-then since birth p p1 p3 _ _ _ a.step (Step-beside since birth p1 p3 _ _ _ _ (Step-then since birth p1 p2 p3 _ _ _ (Step-beside since birth p1 p2 _ _ (λ i. one top i + one turned i) (λ i. one top i + one turned i) b.step (λ i. omega arith) (λ i. omega arith)) (Step-beside since birth p2 p3 _ _ (λ i. one top i + one turned i) (λ i. one top i + one turned i) k.step (λ i. omega arith) (λ i. omega arith))) (λ i. omega arith) (λ i. omega arith))) (λ i. omega arith) (λ i. omega arith);
         total = omega (arith, a.total, b.total, link2.total, link2.same);
         few = omega (arith, a.few, b.same, link2.same, more_copies since, joins_two since (height r) (height l) (inr higher));
+        copied = omega (arith, a.copied, link.same, link2.same, young_birth since birth young);
         exact = omega (arith, a.exact, link.same, ap (Rattle.std.specs.Prelude.count_by Rattle.gs_pool.specs.Pool.is_aside) link.marks, link2.same, ap (Rattle.std.specs.Prelude.count_by Rattle.gs_pool.specs.Pool.is_aside) link2.marks);
       }
     where
@@ -141,6 +142,7 @@ pub record Turned2 (since birth : ℕ) (p q : Nodes) (top turned inner middle : 
   pub step : Step since birth p q (λ i. one top i + one turned i + occurrences x i + occurrences y i + occurrences r i) (λ i. one top i + one turned i + one middle i + occurrences x i + occurrences u i + occurrences v i + occurrences r i)
   pub total : SameTotal p q
   pub few : in_use q ≤ in_use p + copies since 1
+  pub copied : in_use q + (older_count since u + older_count since v) ≡ in_use p + older_count since y
   pub exact : in_use q + aside_count p ≡ in_use p + aside_count q
 
 module _ (since birth : ℕ) (p p1 : Nodes) (top left turned : ℕ) (below : Node) (key : Key) (l r : Tree) (right : Option ℕ) (young : since ≤ birth) (can : CanSettle since p top right r (Some left) l) (higher : height l ≡ height r + 2) (a : Turned since birth p p1 top left turned below l r right) where
@@ -153,6 +155,7 @@ module _ (since birth : ℕ) (p p1 : Nodes) (top left turned : ℕ) (below : Nod
           let same : id ≡ inner = cc in
           let here : node_at p1 inner ≡ Some (top_node bm v j u) = subst (λ i. node_at p1 i ≡ Some (top_node bm v j u)) same s.0 in
           let is : top_node bm v j u ≡ node = cc in
+          let spent : in_use p2 ≡ in_use p1 + older_birth since bm = o.copied node found ∙ ap (λ (n : Node). in_use p1 + older_birth since n.birth) (sym is) in
           let copied = CopiesIfOlder-step since birth p1 p2 inner middle o in
           let at : (i : ℕ) → one top i + one turned i + one inner i + occurrences a.x i + occurrences u i + occurrences v i + occurrences r i ≤ 1 = λ i. omega (arith, apart i, plain_count_most p1 i, ap (λ a. one a i) same) in
           let big : Step since birth p1 p2 (λ i. one top i + one turned i + occurrences a.x i + occurrences (fork id bm v j u) i + occurrences r i) (λ i. one top i + one turned i + one middle i + occurrences a.x i + occurrences u i + occurrences v i + occurrences r i) =
@@ -175,6 +178,7 @@ module _ (since birth : ℕ) (p p1 : Nodes) (top left turned : ℕ) (below : Nod
             step = big;
             total = o.total;
             few = o.few;
+            copied = omega (arith, spent);
             exact = o.exact;
           }
 
@@ -239,6 +243,7 @@ module _ (since birth : ℕ) (p p1 : Nodes) (top left turned : ℕ) (below : Nod
               (Step-beside since birth p4 p5 _ _ _ _ m.step (λ i. omega arith) (λ i. omega arith)))))) (λ i. omega arith) (λ i. omega arith);
           total = omega (arith, a.total, b.total, link.total, link.same, link2.total, link2.same, link3.total, link3.same);
           few = omega (arith, a.few, b.few, link.same, link2.same, link3.same, twice since, joins_two since (height r) (height l) (inr higher));
+          copied = omega (arith, a.copied, b.copied, link.same, link2.same, link3.same, young_birth since birth young);
           exact = omega (arith, a.exact, b.exact, link.same, ap (Rattle.std.specs.Prelude.count_by Rattle.gs_pool.specs.Pool.is_aside) link.marks, link2.same, ap (Rattle.std.specs.Prelude.count_by Rattle.gs_pool.specs.Pool.is_aside) link2.marks, link3.same, ap (Rattle.std.specs.Prelude.count_by Rattle.gs_pool.specs.Pool.is_aside) link3.marks);
         }
       where

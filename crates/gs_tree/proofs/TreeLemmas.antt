@@ -1,10 +1,10 @@
 -- What a change of a pool does to the trees in it.
 use Rattle.std.proofs.Common.{◌≡◌, ◌≢◌, ◌⊎◌, ℕ, zero, suc, ◌+◌, ◌-◌, ◌<◌, ◌≤◌, max, Bool, true, false, cond, eqb, List, [], ◌∷◌, ◌++◌, Option, Some, None, is_some, IsSome, refl, sym, ap, subst, ◌∙◌, inl, inr, arith, true≢false}
-use Rattle.std.proofs.lemmas.Bool.{eq-eqb, ne_eqb, cases_eq}
+use Rattle.std.proofs.lemmas.Bool.{eq-eqb, ne_eqb, cases_eq, lt-ltb, le-ltb}
 use Rattle.gs_pool.specs.declared.nodes.Key.{Key}
 use Rattle.gs_pool.specs.declared.nodes.Node.{Node}
 use Rattle.gs_pool.specs.Pool.{Nodes, NodeMark, plain, aside, replaced, retired, node_at, mark_at}
-use Rattle.gs_tree.specs.Tree.{Tree, leaf, fork, root_of, height, occurrences, top_node, Stands, height_at, IsRoot, grow, grow_node, tree_at, node_height, BirthAtMost, Descends}
+use Rattle.gs_tree.specs.Tree.{Tree, leaf, fork, root_of, height, occurrences, top_node, Stands, height_at, IsRoot, grow, grow_node, tree_at, node_height, BirthAtMost, Descends, older_birth}
 use Rattle.gs_tree.specs.Steps.{plain_count, plain_node, plain_mark, one, Step, IsRecent, IsOlder, CopiesIfOlder, Links}
 
 pub one_same : (x : ℕ) → one x x ≡ 1
@@ -251,3 +251,11 @@ born_at p v (fork id birth l k r) x n s d b h e =
     zero_or : (n : ℕ) → (n ≡ 0) ⊎ (0 < n)
     zero_or zero = inl refl
     zero_or (suc n) = inr (omega arith)
+
+-- what is born at `since` or later is not older
+pub young_birth : (since birth : ℕ) → since ≤ birth → older_birth since birth ≡ 0
+young_birth since birth young = rw (le-ltb birth since young)
+
+-- what is born before is
+pub old_birth : (since birth : ℕ) → birth < since → older_birth since birth ≡ 1
+old_birth since birth old = rw (lt-ltb birth since old)

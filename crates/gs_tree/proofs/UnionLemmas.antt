@@ -1,5 +1,5 @@
 -- One level of a union.
-use Rattle.std.proofs.Common.{◌≡◌, ◌≢◌, ◌⊎◌, ℕ, zero, suc, ◌+◌, ◌-◌, ◌*◌, ◌<◌, ◌≤◌, ◌^◌, max, true, false, cond, ltb, List, [], ◌∷◌, ◌++◌, length, Option, Some, None, is_some, IsSome, refl, sym, ap, subst, ◌∙◌, inl, inr, arith, length-append}
+use Rattle.std.proofs.Common.{◌≡◌, ◌≢◌, ◌⊎◌, ℕ, zero, suc, ◌+◌, ◌-◌, ◌*◌, ◌<◌, ◌≤◌, ◌^◌, max, min, true, false, cond, ltb, List, [], ◌∷◌, ◌++◌, length, Option, Some, None, is_some, IsSome, refl, sym, ap, subst, ◌∙◌, inl, inr, arith, length-append}
 use Rattle.std.proofs.Math.Nat.{add-mul, mul-add}
 use Rattle.std.proofs.lemmas.Bool.{cases_lt}
 use Rattle.std.proofs.lemmas.Nat.{mul-le}
@@ -9,17 +9,17 @@ use Rattle.gs_pool.specs.declared.nodes.Key.{Key}
 use Rattle.gs_pool.specs.declared.nodes.Node.{Node}
 use Rattle.gs_pool.specs.Pool.{Nodes, plain, is_aside, node_at, mark_at, in_use, room}
 use Rattle.gs_tree.specs.Keys.{IsRising, merge_keys}
-use Rattle.gs_tree.specs.Tree.{Tree, leaf, fork, root_of, height, keys, occurrences, Stands, IsBalanced, BirthAtMost, Descends, height_at, tree_at}
+use Rattle.gs_tree.specs.Tree.{Tree, leaf, fork, root_of, height, keys, occurrences, Stands, IsBalanced, BirthAtMost, Descends, height_at, tree_at, older_birth, older_count}
 use Rattle.gs_tree.specs.Sets.{Unites, IsSet, union_cost}
-use Rattle.gs_tree.specs.Steps.{plain_count, one, Step, CopiesIfOlder}
+use Rattle.gs_tree.specs.Steps.{plain_count, one, Step, IsOlder, CopiesIfOlder}
 use Rattle.gs_tree.specs.Joining.{CanJoin, Settled, copies, joins, IsHeightAfter}
 use Rattle.gs_tree.specs.Merging.{Built, CanMerge, Merges}
 use Rattle.gs_tree.proofs.Counting.{low_size, same_marks}
 use Rattle.gs_tree.proofs.TreeLemmas.{Stands-same, tree_at-is, one_same, plain_count_most, plain_count_same, plain_found, Stands-step, Step-then, Step-beside, CopiesIfOlder-step, BirthAtMost-later}
 use Rattle.gs_tree.proofs.Rotations.{height_in, tree_in}
 use Rattle.gs_tree.proofs.Order.{rising_front, rising_back}
-use Rattle.gs_tree.proofs.Costs.{copies_some, copies_zero, copies_most, copies_add, copies_mono}
-use Rattle.gs_tree.proofs.Levels.{Opened, opened}
+use Rattle.gs_tree.proofs.Costs.{copies_some, copies_most, copies_add, copies_mono}
+use Rattle.gs_tree.proofs.Levels.{Opened, opened, opened_older, older_counts}
 use Rattle.gs_tree.proofs.Heights.{size, height_digits, size-keys}
 use Rattle.gs_tree.proofs.Merging.{Cut, cut_length, cut_rising, merge_node, merge_none, rising_merge}
 
@@ -91,6 +91,7 @@ merges_same cmp since birth p root t run s e = record {
   step = same_step since birth p (occurrences t);
   total = omega arith;
   few = omega arith;
+  copied = omega arith;
   exact = omega arith;
   counted = omega arith;
   at_most = omega arith;
@@ -114,6 +115,7 @@ merges_built cmp total since birth p q root result run new young none rising som
   step = b.step since young;
   total = b.total;
   few = omega (arith, b.exact);
+  copied = omega (arith, b.exact, b.none_older since young);
   exact = omega (arith, b.exact, b.replaced);
   counted = omega (arith, ap length b.keys_are);
   at_most = omega arith;
@@ -148,6 +150,9 @@ module _ (cmp : Key → Key → Ordering) (total : IsTotalOrder cmp) (since birt
   both_cost : union_cost since (height o.l) (length low) + union_cost since (height o.r) (length high) ≤ union_cost since (height t) (length run)
   both_cost = cost_sides since (height o.l) (height o.r) (height t) (length low) (length high) (length run) (omega (arith, heights)) (omega (arith, heights)) few_in
 
+  older : older_count since t ≡ older_birth since node.birth + older_count since o.l + older_count since o.r
+  older = opened_older since p id node t o
+
   left_is : tree_at p node.left ≡ o.l
   left_is = tree_in p node.left o.l o.left_is o.sl
 
@@ -162,7 +167,7 @@ module _ (cmp : Key → Key → Ordering) (total : IsTotalOrder cmp) (since birt
     set = record { root_is = o.left_is; stands = o.sl; balanced = near.1; rising = rising_front cmp total _ _ rises; apart = λ i. omega (arith, apart_in i) };
     run_rising = run_parts.0;
     small = omega (arith, can.small, counts, few_in);
-    has_room = omega (arith, can.has_room, both_cost);
+    has_room = omega (arith, can.has_room, both_cost, few_in, older);
   })
 
   module _ (p1 : Nodes) (left : Option ℕ) (c : ℕ) (i0 : Merges cmp since birth p p1 left c (tree_at p node.left) low (tree_at p1 left)) where
@@ -189,7 +194,7 @@ module _ (cmp : Key → Key → Ordering) (total : IsTotalOrder cmp) (since birt
       set = record { root_is = o.right_is; stands = right_there; balanced = near.2; rising = rising_back cmp total _ _ _ rises; apart = λ x. omega (arith, step1.balance x, apart_in x) };
       run_rising = run_parts.1;
       small = omega (arith, can.small, counts, few_in);
-      has_room = omega (arith, can.has_room, both_cost, i.total, i.few);
+      has_room = omega (arith, can.has_room, both_cost, few_in, older, i.total, i.few, i.copied, i.at_most);
     })
 
     module _ (p2 : Nodes) (right : Option ℕ) (d : ℕ) (k0 : Merges cmp since birth p1 p2 right d (tree_at p1 node.right) high (tree_at p2 right)) where
@@ -221,10 +226,13 @@ module _ (cmp : Key → Key → Ordering) (total : IsTotalOrder cmp) (since birt
           let m = merges_same cmp since birth p root t run can.set e in
           subst (λ q. Merges cmp since birth p q root 0 t run (tree_at q root)) (sym pools) (subst (Merges cmp since birth p p root 0 t run) (sym (tree_in p root t can.set.root_is can.set.stands)) m)
 
-      pub top_used : IsSome (node_at p2 id)
-      top_used =
+      top_there : node_at p2 id ≡ Some node
+      top_there =
           let at1 = i.step.kept id node found (inl (omega (arith, apart_in id, one_same id, plain_count_most p id))) in
-          ap is_some (k.step.kept id node at1 (inl (omega (arith, apart1 id, one_same id))))
+          k.step.kept id node at1 (inl (omega (arith, apart1 id, one_same id)))
+
+      pub top_used : IsSome (node_at p2 id)
+      top_used = ap is_some top_there
 
       pub union_plain : mark_at p2 id ≡ plain
       union_plain = (plain_found p2 id (omega (arith, step2.balance id, within id, one_same id))).1
@@ -236,11 +244,11 @@ module _ (cmp : Key → Key → Ordering) (total : IsTotalOrder cmp) (since birt
         join_cost : copies since (joins (height (tree_at p1 left)) (height (tree_at p2 right))) ≤ copies since (3 * (length low + length high))
         join_cost = joins_grown since (height o.l) (height o.r) (height (tree_at p1 left)) (height (tree_at p2 right)) (length low) (length high) near.0.0 near.0.1 i.not_lower i.growth k.not_lower k.growth (omega (arith, i.at_most, k.at_most))
 
-        left_over : copies since 1 + copies since (joins (height (tree_at p1 left)) (height (tree_at p2 right)) + 2) ≤ room p2
-        left_over = omega (arith, can.has_room, cost, join_cost, i.total, i.few, k.total, k.few, copies_add since (joins (height (tree_at p1 left)) (height (tree_at p2 right))) 2)
+        left_over : min (copies since 1 + copies since (joins (height (tree_at p1 left)) (height (tree_at p2 right)) + 2)) (older_birth since node.birth + older_count since (tree_at p1 left) + older_count since (tree_at p2 right)) ≤ room p2
+        left_over = omega (arith, can.has_room, cost, join_cost, few_in, older, i.total, i.few, i.copied, i.at_most, k.total, k.few, k.copied, k.at_most, copies_add since (joins (height (tree_at p1 left)) (height (tree_at p2 right))) 2)
 
-        pub top_room : 0 < since → 0 < room p2
-        top_room h = omega (arith, left_over, copies_some since 1 h)
+        pub top_room : IsOlder since p2 id → 0 < room p2
+        top_room h = let c = older_counts since p2 id node top_there h in omega (arith, left_over, c.0, copies_some since 1 c.1)
 
         module _ (p3 : Nodes) (top : ℕ) (w : CopiesIfOlder since birth p2 p3 id top) where
           copied : Step since birth p2 p3 (one id) (one top)
@@ -275,9 +283,9 @@ module _ (cmp : Key → Key → Ordering) (total : IsTotalOrder cmp) (since birt
                   writable = record { used = w.used; recent = w.recent };
                   left_fits = fits (tree_at p1 left) i.balanced (omega (arith, i.counted, i.at_most, can.small, counts, few_in));
                   right_fits = fits (tree_at p2 right) k.balanced (omega (arith, k.counted, k.at_most, can.small, counts, few_in));
-                  has_room = λ h. omega (arith, left_over, w.total, w.few, copies_some since 1 h, copies_some since 2 h, copies_add since (joins (height (tree_at p1 left)) (height (tree_at p2 right))) 2);
+                  has_room = omega (arith, left_over, w.total, w.few, w.copied node top_there, copies_add since (joins (height (tree_at p1 left)) (height (tree_at p2 right))) 2);
                 };
-                enough = omega (arith, left_over, w.total, w.few);
+                enough = omega (arith, left_over, w.total, w.few, w.copied node top_there);
               } in
               subst (λ u. CanJoin since p3 top left (tree_at p3 left) right u) (sym right_now) (subst (λ u. CanJoin since p3 top left u right (tree_at p2 right)) (sym left_now) j)
 
@@ -298,6 +306,7 @@ module _ (cmp : Key → Key → Ordering) (total : IsTotalOrder cmp) (since birt
                 step = Step-beside since birth p p4 _ _ _ _ (Step-then since birth p p3 p4 _ _ _ step3 s.step) (λ x. omega (arith, ap (λ u. occurrences u x) o.is)) (λ x. omega (arith, ap (λ u. occurrences u x) o.is));
                 total = omega (arith, i.total, k.total, w.total, s.total);
                 few = omega (arith, i.few, k.few, w.few, s.few, cost, join_cost);
+                copied = omega (arith, older, i.copied, k.copied, w.copied node top_there, s.copied);
                 exact = omega (arith, i.exact, k.exact, w.exact, s.exact);
                 counted = omega (arith, ap length s.keys_are, length-append (keys (tree_at p1 left)) (node.key ∷ keys (tree_at p2 right)), i.counted, k.counted, counts);
                 at_most = sum_fits;
@@ -305,7 +314,7 @@ module _ (cmp : Key → Key → Ordering) (total : IsTotalOrder cmp) (since birt
               }
 
 -- the whole of a union
-pub union_can : (cmp : Key → Key → Ordering) (since : ℕ) (p q : Nodes) (root : Option ℕ) (t : Tree) (run : List Key) → IsSet cmp p root t → IsRising cmp run → q.nodes ≡ p.nodes → q.marks ≡ p.marks → length q.nodes < 2 ^ 32 → length run < 2 ^ 64 → union_cost since (height t) (length run) + copies since 2 ≤ room q → (tree_at q root ≡ t) × CanMerge cmp since q root (tree_at q root) run
+pub union_can : (cmp : Key → Key → Ordering) (since : ℕ) (p q : Nodes) (root : Option ℕ) (t : Tree) (run : List Key) → IsSet cmp p root t → IsRising cmp run → q.nodes ≡ p.nodes → q.marks ≡ p.marks → length q.nodes < 2 ^ 32 → length run < 2 ^ 64 → length run + min (length run * copies since (4 * height t) + copies since 2) (older_count since t) ≤ room q → (tree_at q root ≡ t) × CanMerge cmp since q root (tree_at q root) run
 union_can cmp since p q root t run s rising same drop small short enough =
     let alike : (x : ℕ) → plain_count q x ≡ plain_count p x = λ x. plain_count_same p q x (ap (λ xs. Rattle.std.proofs.Common.get_or xs x None) same) (ap (λ ms. Rattle.std.proofs.Common.get_or ms x plain) drop) in
     let stands = Stands-same p q t (λ x n h e. ap (λ xs. Rattle.std.proofs.Common.get_or xs x None) same ∙ e) s.stands in
@@ -348,6 +357,7 @@ united cmp total since birth p0 p q root to added t u run new s same drop small 
       births = i.births;
       step = step;
       others = λ other there away. let stays = Stands-same p0 q other (λ x n h e. step.kept x n e (away x n h e)) there in (stays, tree_at-is q other stays ∙ sym (tree_at-is p0 other there));
+      copied = omega (arith, i.copied, uses);
       exact = omega (arith, i.exact, uses, ap (Rattle.std.specs.Prelude.count_by is_aside) drop);
       in_place = λ z. omega (arith, i.exact, uses, same_marks q.marks p.marks (λ x. elim (i.step.marks x) [ inl kept ↦ kept | inr old ↦ absurd (omega (arith, old.0.2)) ]));
       cost = omega (arith, i.few, uses);
@@ -361,13 +371,3 @@ united cmp total since birth p0 p q root to added t u run new s same drop small 
 
     per_key : (h k : ℕ) → 4 * h ≤ k → length run * copies since (4 * h) ≤ length run * k
     per_key h k le = mul-le (length run) (copies since (4 * h)) (length run) k (omega arith) (omega (arith, copies_most since (4 * h)))
-
--- the room that was made is enough
-pub enough_copied : (since h n each spare : ℕ) → 0 < since → each ≡ 1 + 4 * h → spare ≡ 2 → union_cost since h n + copies since 2 ≤ n * each + spare
-enough_copied since h n each spare pos e f = omega (arith, copies_most since 2, ap (λ k. n * k) e, ap (λ k. n * k) (copies_some since (4 * h) pos), mul-add n 1 (4 * h))
-
-pub enough_in_place : (since h n each spare : ℕ) → since ≡ 0 → each ≡ 1 → union_cost since h n + copies since 2 ≤ n * each + spare
-enough_in_place since h n each spare none e = omega (arith, copies_zero since 2 none, ap (λ k. n * k) e, ap (λ k. n * k) (copies_zero since (4 * h) none))
-
-pub short_run : (n each : ℕ) → 1 ≤ each → n * each < 2 ^ 64 → n < 2 ^ 64
-short_run n each some h = omega (arith, mul-le n 1 n each (omega arith) some)

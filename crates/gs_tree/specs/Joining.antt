@@ -1,9 +1,13 @@
 -- How two trees and a key become one balanced tree.
-use Rattle.std.specs.Prelude.{◌≡◌, ℕ, ◌+◌, ◌-◌, ◌*◌, ◌^◌, ◌<◌, ◌≤◌, max, ◌∷◌, ◌++◌, Option, Some, if◌then◌else◌}
+use Rattle.std.specs.Prelude.{◌≡◌, ℕ, ◌+◌, ◌-◌, ◌*◌, ◌^◌, ◌<◌, ◌≤◌, max, min, ◌∷◌, ◌++◌, Option, Some, if◌then◌else◌}
 use Rattle.gs_pool.specs.declared.nodes.Key.{Key}
 use Rattle.gs_pool.specs.Pool.{Nodes, in_use, aside_count, room}
-use Rattle.gs_tree.specs.Tree.{Tree, root_of, height, keys, occurrences, Stands, IsBalanced, DifferByAtMost, BirthAtMost, Descends, tree_at}
+use Rattle.gs_tree.specs.Tree.{Tree, root_of, height, keys, occurrences, Stands, IsBalanced, DifferByAtMost, BirthAtMost, Descends, tree_at, older_count}
 use Rattle.gs_tree.specs.Steps.{plain_count, one, SameTotal, Step, IsWritable}
+
+-- so many copies at most, and none where no node is older than `since`
+abbrev pub copies : ℕ → ℕ → ℕ
+copies since n = if Rattle.std.specs.Prelude.nat_lt 0 since then n else 0
 
 -- two balanced trees that stand apart from each other and from the node `top`
 pub record CanSettle (since : ℕ) (p : Nodes) (top : ℕ) (left : Option ℕ) (l : Tree) (right : Option ℕ) (r : Tree) : Type 0 where
@@ -17,15 +21,11 @@ pub record CanSettle (since : ℕ) (p : Nodes) (top : ℕ) (left : Option ℕ) (
   pub writable : IsWritable since p top
   pub left_fits : height l < 2 ^ 30
   pub right_fits : height r < 2 ^ 30
-  pub has_room : 0 < since → 2 ≤ room p
+  pub has_room : min (copies since 2) (older_count since l + older_count since r) ≤ room p
 
 -- the height h that trees of these heights settle to
 abbrev pub IsHeightAfter : ℕ → ℕ → ℕ → Type 0
 IsHeightAfter l r h = (max l r ≤ h) × (h ≤ max l r + 1) × (DifferByAtMost 1 l r → h ≡ max l r + 1)
-
--- how many copies at most
-abbrev pub copies : ℕ → ℕ → ℕ
-copies since n = if Rattle.std.specs.Prelude.nat_lt 0 since then n else 0
 
 -- how many copies a join of trees of these heights takes at most
 abbrev pub joins : ℕ → ℕ → ℕ
@@ -42,12 +42,13 @@ pub record Settled (since birth : ℕ) (p q : Nodes) (top result : ℕ) (key : K
   pub step : Step since birth p q (λ x. one top x + occurrences l x + occurrences r x) (occurrences t)
   pub total : SameTotal p q
   pub few : in_use q ≤ in_use p + copies since (joins (height l) (height r))
+  pub copied : in_use q + older_count since t ≡ in_use p + older_count since l + older_count since r
   pub exact : in_use q + aside_count p ≡ in_use p + aside_count q
 
 -- two trees that can be joined at the node `top`, whatever their heights
 pub record CanJoin (since : ℕ) (p : Nodes) (top : ℕ) (left : Option ℕ) (l : Tree) (right : Option ℕ) (r : Tree) : Type 0 where
   pub can : CanSettle since p top left l right r
-  pub enough : copies since (joins (height l) (height r) + 2) ≤ room p
+  pub enough : min (copies since (joins (height l) (height r) + 2)) (older_count since l + older_count since r) ≤ room p
 
 -- the trees that two roots mean can be balanced at the node `top`
 abbrev pub CanSettleAt : ℕ → Nodes → ℕ → Option ℕ → Option ℕ → Type 0

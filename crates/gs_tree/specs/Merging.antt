@@ -1,11 +1,11 @@
 -- How a run of keys becomes a tree, and goes into one.
-use Rattle.std.specs.Prelude.{◌≡◌, ℕ, ◌+◌, ◌*◌, ◌^◌, ◌<◌, ◌≤◌, List, length, Option}
+use Rattle.std.specs.Prelude.{◌≡◌, ℕ, ◌+◌, ◌*◌, ◌^◌, ◌<◌, ◌≤◌, min, List, length, Option}
 use Rattle.std.specs.declared.cmp.Ordering.{Ordering}
 use Rattle.gs_pool.specs.declared.nodes.Key.{Key}
 use Rattle.gs_pool.specs.Pool.{Nodes, mark_at, in_use, aside_count, room}
 use Rattle.gs_tree.specs.declared.unions.Merged.{Merged}
 use Rattle.gs_tree.specs.Keys.{IsRising, merge_keys}
-use Rattle.gs_tree.specs.Tree.{Tree, root_of, height, keys, occurrences, Stands, IsBalanced, BirthAtMost, Descends, tree_at}
+use Rattle.gs_tree.specs.Tree.{Tree, root_of, height, keys, occurrences, Stands, IsBalanced, BirthAtMost, Descends, tree_at, older_count}
 use Rattle.gs_tree.specs.Steps.{SameTotal, Step}
 use Rattle.gs_tree.specs.Joining.{copies}
 use Rattle.gs_tree.specs.Sets.{IsSet, union_cost}
@@ -21,6 +21,7 @@ pub record Built (birth : ℕ) (p q : Nodes) (result : Option ℕ) (run : List K
   pub step : (since : ℕ) → since ≤ birth → Step since birth p q (λ x. 0) (occurrences new)
   pub total : SameTotal p q
   pub exact : in_use q ≡ in_use p + length run
+  pub none_older : (since : ℕ) → since ≤ birth → older_count since new ≡ 0
   pub marks : (x : ℕ) → mark_at q x ≡ mark_at p x
   pub replaced : aside_count q ≡ aside_count p
   pub low : length run < 2 ^ height new
@@ -31,7 +32,7 @@ pub record CanMerge (cmp : Key → Key → Ordering) (since : ℕ) (p : Nodes) (
   pub set : IsSet cmp p root t
   pub run_rising : IsRising cmp run
   pub small : length (keys t) + length run < 2 ^ 65
-  pub has_room : union_cost since (height t) (length run) + copies since 2 ≤ room p
+  pub has_room : length run + min (length run * copies since (4 * height t) + copies since 2) (older_count since t) ≤ room p
 
 -- the new tree has the keys of the run too, of which it lacked `added`
 pub record Merges (cmp : Key → Key → Ordering) (since birth : ℕ) (p q : Nodes) (result : Option ℕ) (added : ℕ) (t : Tree) (run : List Key) (new : Tree) : Type 0 where
@@ -45,6 +46,7 @@ pub record Merges (cmp : Key → Key → Ordering) (since birth : ℕ) (p q : No
   pub step : Step since birth p q (occurrences t) (occurrences new)
   pub total : SameTotal p q
   pub few : in_use q ≤ in_use p + union_cost since (height t) (length run)
+  pub copied : in_use q + older_count since new ≡ in_use p + older_count since t + added
   pub exact : in_use q + aside_count p ≡ in_use p + aside_count q + added
   pub counted : length (keys new) ≡ length (keys t) + added
   pub at_most : added ≤ length run

@@ -1,12 +1,12 @@
 -- Sets of keys: what a root means to readers, and what adding and removing keys does.
-use Rattle.std.specs.Prelude.{◌≡◌, ◌⊎◌, ℕ, ◌+◌, ◌*◌, ◌^◌, ◌<◌, ◌≤◌, List, length, Option, Some}
+use Rattle.std.specs.Prelude.{◌≡◌, ◌⊎◌, ℕ, ◌+◌, ◌-◌, ◌*◌, ◌^◌, ◌<◌, ◌≤◌, min, List, length, Option, Some}
 use Rattle.std.specs.declared.cmp.Ordering.{Ordering}
 use Rattle.gs_pool.specs.declared.nodes.Key.{Key}
 use Rattle.gs_pool.specs.declared.nodes.Node.{Node}
-use Rattle.gs_pool.specs.Pool.{Nodes, node_at, in_use, aside_count}
+use Rattle.gs_pool.specs.Pool.{Nodes, node_at, in_use, aside_count, room}
 use Rattle.gs_tree.specs.declared.unions.Merged.{Merged}
 use Rattle.gs_tree.specs.Keys.{IsRising, insert_key, remove_key, merge_keys}
-use Rattle.gs_tree.specs.Tree.{Tree, root_of, height, keys, occurrences, Stands, IsBalanced, BirthAtMost, Descends, tree_at}
+use Rattle.gs_tree.specs.Tree.{Tree, root_of, height, keys, occurrences, Stands, IsBalanced, BirthAtMost, Descends, tree_at, older_count}
 use Rattle.gs_tree.specs.Reading.{keys_at}
 use Rattle.gs_tree.specs.Steps.{plain_count, Step}
 use Rattle.gs_tree.specs.Joining.{copies}
@@ -31,6 +31,18 @@ KeepsOthers since p q t = (other : Tree) → Stands p other → IsElsewhere sinc
 abbrev pub union_cost : ℕ → ℕ → ℕ → ℕ
 union_cost since h n = n + n * copies since (4 * h)
 
+-- how many nodes are copied at most, where `most` of a tree of height h would be: no more than such a tree has, nor than are in use
+abbrev pub copied_most : ℕ → ℕ → ℕ → ℕ → ℕ
+copied_most since most h used = copies since (min most (min used (2 ^ h - 1)))
+
+-- the room that the union of a tree of height h with n keys asks for
+abbrev pub union_room : ℕ → ℕ → ℕ → ℕ → ℕ
+union_room since h n used = n + copied_most since (n * (4 * h) + 2) h used
+
+-- the room that the removal of a key from a tree of height h asks for
+abbrev pub remove_room : ℕ → ℕ → ℕ → ℕ
+remove_room since h used = copied_most since (3 * h) h used
+
 -- The set t became the set new, which has the keys of the run too; it lacked `added` of them. A key costs at most 8 d + 1 nodes, where the set's size has d digits, and 257 in any pool.
 pub record Unites (cmp : Key → Key → Ordering) (since birth : ℕ) (p q : Nodes) (result : Option ℕ) (added : ℕ) (t : Tree) (run : List Key) (new : Tree) : Type 0 where
   pub set : IsSet cmp q result new
@@ -40,6 +52,7 @@ pub record Unites (cmp : Key → Key → Ordering) (since birth : ℕ) (p q : No
   pub births : Descends t → BirthAtMost birth t → Descends new × BirthAtMost birth new
   pub step : Step since birth p q (occurrences t) (occurrences new)
   pub others : KeepsOthers since p q t
+  pub copied : in_use q + older_count since new ≡ in_use p + older_count since t + added
   pub exact : in_use q + aside_count p ≡ in_use p + aside_count q + added
   pub in_place : since ≡ 0 → in_use q ≡ in_use p + added
   pub cost : in_use q ≤ in_use p + union_cost since (height t) (length run)
@@ -70,6 +83,7 @@ pub record Removes (cmp : Key → Key → Ordering) (since birth : ℕ) (p q : N
   pub births : Descends t → BirthAtMost birth t → Descends new × BirthAtMost birth new
   pub step : Step since birth p q (occurrences t) (occurrences new)
   pub others : KeepsOthers since p q t
+  pub copied : in_use q + older_count since new + 1 ≡ in_use p + older_count since t
   pub exact : in_use q + aside_count p + 1 ≡ in_use p + aside_count q
   pub in_place : since ≡ 0 → in_use q + 1 ≡ in_use p
   pub cost : in_use q ≤ in_use p + copies since (3 * height t)
@@ -78,3 +92,11 @@ pub record Removes (cmp : Key → Key → Ordering) (since birth : ℕ) (p q : N
 -- the set that a root meant became that of the new root, which lacks the key
 abbrev pub RemovesAt : (Key → Key → Ordering) → ℕ → ℕ → Nodes → Nodes → Option ℕ → Key → Option ℕ → Type 0
 RemovesAt cmp since birth p q root key to = Removes cmp since birth p q to key (tree_at p root) (tree_at q to)
+
+-- the pool has the room that the union of the set that a root means with n keys asks for
+abbrev pub HasUnionRoom : ℕ → Nodes → Option ℕ → ℕ → Type 0
+HasUnionRoom since p root n = union_room since (height (tree_at p root)) n (in_use p) ≤ room p
+
+-- it has the room that a removal asks for
+abbrev pub HasRemoveRoom : ℕ → Nodes → Option ℕ → Type 0
+HasRemoveRoom since p root = remove_room since (height (tree_at p root)) (in_use p) ≤ room p

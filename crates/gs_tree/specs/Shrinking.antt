@@ -1,7 +1,8 @@
 -- How a tree loses a key.
-use Rattle.std.specs.Prelude.{◌≡◌, ℕ, ◌+◌, ◌*◌, ◌^◌, ◌<◌, ◌≤◌, Option}
-use Rattle.gs_pool.specs.Pool.{Nodes, in_use, aside_count, room}
-use Rattle.gs_tree.specs.Tree.{Tree, root_of, height, occurrences, Stands, IsBalanced, BirthAtMost, Descends, tree_at}
+use Rattle.std.specs.Prelude.{◌≡◌, ℕ, ◌+◌, ◌*◌, ◌^◌, ◌<◌, ◌≤◌, min, Option, Some}
+use Rattle.gs_pool.specs.declared.nodes.Node.{Node}
+use Rattle.gs_pool.specs.Pool.{Nodes, node_at, in_use, aside_count, room}
+use Rattle.gs_tree.specs.Tree.{Tree, root_of, height, occurrences, Stands, IsBalanced, BirthAtMost, Descends, tree_at, older_birth, older_count}
 use Rattle.gs_tree.specs.Steps.{plain_count, one, SameTotal, Step}
 use Rattle.gs_tree.specs.Joining.{copies}
 
@@ -16,6 +17,7 @@ pub record Shrinks (since birth : ℕ) (p q : Nodes) (result : Option ℕ) (t ne
   pub step : Step since birth p q (occurrences t) (occurrences new)
   pub total : SameTotal p q
   pub few : in_use q ≤ in_use p + copies since (3 * height t)
+  pub copied : in_use q + older_count since new + 1 ≡ in_use p + older_count since t
   pub exact : in_use q + aside_count p + 1 ≡ in_use p + aside_count q
 
 -- a node is out of use: an older one is set aside, a young one is free
@@ -24,6 +26,7 @@ pub record Discards (since : ℕ) (p q : Nodes) (id : ℕ) : Type 0 where
   pub total : SameTotal p q
   pub exact : in_use q + aside_count p + 1 ≡ in_use p + aside_count q
   pub few : in_use q ≤ in_use p
+  pub copied : (n : Node) → node_at p id ≡ Some n → in_use q + 1 ≡ in_use p + older_birth since n.birth
 
 -- how many nodes a removal takes at most
 abbrev pub remove_cost : ℕ → ℕ → ℕ
@@ -36,7 +39,7 @@ pub record CanShrink (since : ℕ) (p : Nodes) (root : Option ℕ) (t : Tree) : 
   pub balanced : IsBalanced t
   pub apart : (x : ℕ) → occurrences t x ≤ plain_count p x
   pub fits : height t < 2 ^ 29
-  pub has_room : remove_cost since (height t) ≤ room p
+  pub has_room : min (remove_cost since (height t)) (older_count since t) ≤ room p
 
 -- the tree that a root means can lose a key
 abbrev pub CanShrinkAt : ℕ → Nodes → Option ℕ → Type 0

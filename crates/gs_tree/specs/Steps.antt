@@ -3,7 +3,7 @@ use Rattle.std.specs.Prelude.{◌≡◌, ◌≢◌, ◌⊎◌, ℕ, ◌+◌, ◌
 use Rattle.gs_pool.specs.declared.nodes.Key.{Key}
 use Rattle.gs_pool.specs.declared.nodes.Node.{Node}
 use Rattle.gs_pool.specs.Pool.{Nodes, NodeMark, plain, aside, replaced, retired, node_at, mark_at, in_use, aside_count, room}
-use Rattle.gs_tree.specs.Tree.{height_at}
+use Rattle.gs_tree.specs.Tree.{height_at, older_birth}
 
 -- 1 for a node in use that is plain
 abbrev pub plain_mark : NodeMark → ℕ
@@ -72,6 +72,7 @@ pub record CopiesIfOlder (since birth : ℕ) (p q : Nodes) (id copy : ℕ) : Typ
   pub recent : IsRecent since q copy
   pub total : SameTotal p q
   pub few : in_use q ≤ in_use p + (if Rattle.std.specs.Prelude.nat_lt 0 since then 1 else 0)
+  pub copied : (n : Node) → node_at p id ≡ Some n → in_use q ≡ in_use p + older_birth since n.birth
   pub exact : in_use q + aside_count p ≡ in_use p + aside_count q
 
 -- the node `id` has these sides and this key, and no other node changes

@@ -90,3 +90,12 @@ BirthAtMost b (fork id birth l k r) = birth ≤ b
 abbrev pub Descends : Tree → Type 0
 Descends leaf = Unit {0}
 Descends (fork id birth l k r) = BirthAtMost birth l × BirthAtMost birth r × Descends l × Descends r
+
+-- 1 for a birth before `since`
+abbrev pub older_birth : ℕ → ℕ → ℕ
+older_birth since birth = if Rattle.std.specs.Prelude.nat_lt birth since then 1 else 0
+
+-- how many nodes of a tree are older than `since`
+abbrev pub older_count : ℕ → Tree → ℕ
+older_count since leaf = 0
+older_count since (fork id birth l k r) = older_birth since birth + older_count since l + older_count since r

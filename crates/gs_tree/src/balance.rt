@@ -2,7 +2,7 @@
 ghost use Rattle.std.specs.Prelude.{◌≡◌, ℕ, ◌+◌, ◌<◌, ◌≤◌, ◌^◌, Some, None, IsSome, Option};
 ghost use Rattle.gs_pool.specs.Pool.{node_at, mark_at, plain, room};
 ghost use Rattle.gs_tree.specs.Tree.{height_at, IsRoot, tree_at, height, DifferByAtMost};
-ghost use Rattle.gs_tree.specs.Steps.{CopiesIfOlder, Links};
+ghost use Rattle.gs_tree.specs.Steps.{CopiesIfOlder, IsOlder, Links};
 ghost use Rattle.gs_tree.specs.Joining.{CanSettleAt, CanJoinAt, SettledAt};
 
 use gs_pool::{Key, Node, Pool};
@@ -22,7 +22,7 @@ pub fn height_of(pool: &Pool, root: Option<u32>) -> u32
 pub fn copy_if_older(pool: &mut Pool, id: u32, since: u64, birth: u64) -> u32
     requires used { IsSome (node_at pool.old id) }
     requires unlisted { mark_at pool.old id ≡ plain }
-    requires room { 0 < since → 0 < room pool.old }
+    requires room { IsOlder since pool.old id → 0 < room pool.old }
     requires birth { since ≤ birth }
     ensures { CopiesIfOlder since birth pool.old pool.new id result }
 {

@@ -5,6 +5,7 @@ mod balance;
 mod orders;
 mod reading;
 mod removals;
+mod room;
 mod unions;
 
 pub use orders::KeyOrder;

@@ -1,13 +1,14 @@
 //! A key out of a set.
-ghost use Rattle.std.specs.Prelude.{◌≡◌, ℕ, ◌<◌, ◌≤◌, ◌∷◌, length, Some, IsSome, Option, IfOk, OnErr};
+ghost use Rattle.std.specs.Prelude.{◌≡◌, ℕ, ◌<◌, ◌≤◌, ◌∷◌, length, Some, IsSome, Option, IsOk, IfOk, OnErr};
 ghost use Rattle.gs_pool.specs.Pool.{node_at, mark_at, plain};
 ghost use Rattle.gs_tree.specs.Keys.{IsRising, HasKey, remove_key};
 ghost use Rattle.gs_tree.specs.Shrinking.{CanShrinkAt, ShrinksAt, Discards};
 ghost use Rattle.gs_tree.specs.Reading.{keys_at};
-ghost use Rattle.gs_tree.specs.Sets.{IsSetAt, RemovesAt};
+ghost use Rattle.gs_tree.specs.Sets.{IsSetAt, RemovesAt, HasRemoveRoom};
 
 use crate::balance::{copy_if_older, height_of, settle};
 use crate::orders::KeyOrder;
+use crate::room::copy_bound;
 use gs_pool::{Key, Pool};
 use std::alloc::AllocError;
 use std::cmp::Ordering;
@@ -111,12 +112,11 @@ pub fn remove<O: KeyOrder>(
     requires has { HasKey (O.compare order.now) key (keys_at pool.old root) }
     requires birth { since ≤ birth }
     ensures ok { IfOk result (RemovesAt (O.compare order.now) since birth pool.old pool.new root key) }
+    ensures had_room { HasRemoveRoom since pool.old root → IsOk result }
     ensures kept { OnErr result (pool.new ≡ pool.old) }
 {
-    let mut cost = 0usize;
-    if since > 0 {
-        cost = 3 * height_of(pool, root) as usize;
-    }
-    pool.reserve(cost)?;
+    let most = 3 * height_of(pool, root) as usize;
+    let copies = copy_bound(pool, root, since, most);
+    pool.reserve(copies)?;
     Ok(remove_at(pool, order, root, key, since, birth))
 }

@@ -1,13 +1,14 @@
 //! Keys into a set: a run of keys as one union, and a key as the union of one.
-ghost use Rattle.std.specs.Prelude.{◌≡◌, ℕ, ◌+◌, ◌^◌, ◌<◌, ◌≤◌, [], ◌∷◌, length, Option, IfOk, OnOk, OnErr};
+ghost use Rattle.std.specs.Prelude.{◌≡◌, ℕ, ◌+◌, ◌^◌, ◌<◌, ◌≤◌, [], ◌∷◌, length, Option, IsOk, IfOk, OnOk, OnErr};
 ghost use Rattle.gs_pool.specs.Pool.{room};
 ghost use Rattle.gs_tree.specs.Keys.{IsRising, Places};
 ghost use Rattle.gs_tree.specs.Merging.{BuiltAt, CanMergeAt, MergesAt};
 ghost use Rattle.gs_tree.specs.Reading.{keys_at};
-ghost use Rattle.gs_tree.specs.Sets.{IsSetAt, UnitesAt, GainsKey, IsCheap};
+ghost use Rattle.gs_tree.specs.Sets.{IsSetAt, UnitesAt, GainsKey, IsCheap, HasUnionRoom};
 
 use crate::balance::{copy_if_older, height_of, join, link};
 use crate::orders::KeyOrder;
+use crate::room::copy_bound;
 use gs_pool::{Key, Node, Pool};
 use std::alloc::AllocError;
 use std::cmp::Ordering;
@@ -171,21 +172,15 @@ pub fn union<O: KeyOrder>(
     requires rising { IsRising (O.compare order.now) run.now }
     requires birth { since ≤ birth }
     ensures ok { IfOk result (UnitesAt (O.compare order.now) since birth pool.old pool.new root run.now) }
+    ensures had_room { HasUnionRoom since pool.old root (length run.now) → IsOk result }
     ensures kept { OnErr result (pool.new ≡ pool.old) }
 {
-    let mut each = 1usize;
-    let mut spare = 0usize;
-    if since > 0 {
-        each += 4 * height_of(pool, root) as usize;
-        spare = 2;
-    }
-    let Some(most) = run.len().checked_mul(each) else {
-        return Err(AllocError);
-    };
-    let Some(room) = most.checked_add(spare) else {
-        return Err(AllocError);
-    };
-    pool.reserve(room)?;
+    let most = run
+        .len()
+        .saturating_mul(4 * height_of(pool, root) as usize)
+        .saturating_add(2);
+    let copies = copy_bound(pool, root, since, most);
+    pool.reserve(run.len().saturating_add(copies))?;
     Ok(union_at(pool, order, root, run, since, birth))
 }
 
@@ -203,6 +198,7 @@ pub fn insert<O: KeyOrder>(
     ensures ok { IfOk result (UnitesAt (O.compare order.now) since birth pool.old pool.new root (key ∷ [])) }
     ensures keys { IfOk result (GainsKey (O.compare order.now) pool.old pool.new root key) }
     ensures cost { OnOk result (IsCheap (length (keys_at pool.old root)) pool.old pool.new) }
+    ensures had_room { HasUnionRoom since pool.old root 1 → IsOk result }
     ensures kept { OnErr result (pool.new ≡ pool.old) }
 {
     union(pool, order, root, &[key], since, birth)

@@ -1,10 +1,10 @@
 use Rattle.std.proofs.Common.{is_some, sym, ap, ◌∙◌, inr, arith}
-use Rattle.gs_tree.proofs.TreeLemmas.{birth_same}
+use Rattle.gs_tree.proofs.TreeLemmas.{birth_same, old_birth}
 use Rattle.gs_tree.proofs.Costs.{copies_some}
 use Rattle.gs_tree.proofs.balance.copy_if_older.Goals as goal
 
 pub replace-requires-clause-room : goal.replace-requires-clause-room
-replace-requires-clause-room c = let more = c.requires.room (omega arith) in omega arith
+replace-requires-clause-room c = c.requires.room (c.get-node.result, c.get-node.ensures, omega arith)
 
 pub returns-else-node-since : goal.returns-else-node-since
 returns-else-node-since c =
@@ -24,5 +24,6 @@ returns-else-node-since c =
       recent = λ n e. omega (arith, birth_same _ _ (sym r.updates.changed ∙ e));
       total = omega (arith, r.in_use, c.replace.ensures.room);
       few = omega (arith, r.in_use, copies_some c.args.since 1 (omega arith));
+      copied = λ n e. let same = birth_same _ _ (sym c.get-node.ensures ∙ e) in omega (arith, r.in_use, old_birth c.args.since n.birth (omega arith));
       exact = omega (arith, r.in_use, r.aside_more);
     }

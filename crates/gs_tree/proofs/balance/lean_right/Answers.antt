@@ -2,7 +2,8 @@ use Rattle.std.proofs.Common.{◌<◌, ◌≤◌, Some, refl, ap, arith}
 use Rattle.gs_tree.specs.Tree.{fork, height, tree_at}
 use Rattle.gs_tree.proofs.Rotations.{root_in, height_in, settled_at}
 use Rattle.gs_tree.proofs.RotationsRight.{turn, single_low, single, turn2, double_far, double_high, double_sides, double}
-use Rattle.gs_tree.proofs.Levels.{root_plain}
+use Rattle.gs_tree.proofs.Levels.{root_plain, older_root}
+use Rattle.gs_tree.proofs.Costs.{copies_some}
 use Rattle.gs_tree.proofs.balance.lean_right.Goals as goal
 
 pub height_of-requires : goal.height_of-requires
@@ -115,3 +116,14 @@ link-requires-3-clause-left_fits c =
     let b = turn2 c.args.since c.args.birth c.args.pool.now c.copy_if_older-turned.new.pool c.args.top c.args.right c.copy_if_older-turned.result c.get-below.result c.args.key (tree_at c.args.pool.now (Some c.args.right)) (tree_at c.args.pool.now c.args.left) c.args.left c.requires.birth c.requires.can c.requires.higher a c.copy_if_older-middle.new.pool c.in-Some.inner c.copy_if_older-middle.result c.get-node.result c.in-Some.is c.get-node.ensures c.copy_if_older-middle.ensures in
     let f = double_far c.args.since c.args.birth c.args.pool.now c.copy_if_older-turned.new.pool c.args.top c.args.right c.copy_if_older-turned.result c.get-below.result c.args.key (tree_at c.args.pool.now (Some c.args.right)) (tree_at c.args.pool.now c.args.left) c.args.left c.requires.birth c.requires.can c.requires.higher a c.copy_if_older-middle.new.pool c.in-Some.inner c.copy_if_older-middle.result c.get-node.result b c.link-2.new.pool c.link-2.ensures in
     omega (arith, height_in c.link-2.new.pool c.args.left (tree_at c.args.pool.now c.args.left) a.far_is f.1, c.requires.can.left_fits)
+
+pub copy_if_older-turned-requires-clause-room : goal.copy_if_older-turned-requires-clause-room
+copy_if_older-turned-requires-clause-room c = λ old.
+    let r = older_root c.args.since c.args.pool.now (Some c.args.right) c.args.right c.get-below.result (tree_at c.args.pool.now (Some c.args.right)) c.requires.can.right_root c.requires.can.right_stands refl c.get-below.ensures old in
+    omega (arith, c.requires.can.has_room, r.0, copies_some c.args.since 2 r.1)
+
+pub copy_if_older-middle-requires-clause-room : goal.copy_if_older-middle-requires-clause-room
+copy_if_older-middle-requires-clause-room c = λ old.
+    let a = turn c.args.since c.args.birth c.args.pool.now c.copy_if_older-turned.new.pool c.args.top c.args.right c.copy_if_older-turned.result c.get-below.result (tree_at c.args.pool.now (Some c.args.right)) (tree_at c.args.pool.now c.args.left) c.args.left c.requires.can c.get-below.ensures c.copy_if_older-turned.ensures in
+    let r = older_root c.args.since c.copy_if_older-turned.new.pool c.get-below.result.left c.in-Some.inner c.get-node.result a.y a.right_is a.sy c.in-Some.is c.get-node.ensures old in
+    omega (arith, a.has_room, r.0, copies_some c.args.since 1 r.1)

@@ -20,7 +20,7 @@ pub copy_if_older-top-requires-clause-used : goal.copy_if_older-top-requires-cla
 copy_if_older-top-requires-clause-used g t c = left_used c.args.since c.args.birth c.args.pool.now c.args.root (tree_at c.args.pool.now c.args.root) c.requires.can c.in-Some.id c.get-node.result c.in-Some.is c.get-node.ensures c.remove_at-left.new.pool c.remove_at-left.result c.remove_at-left.ensures.shrinks
 
 pub copy_if_older-top-requires-clause-room : goal.copy_if_older-top-requires-clause-room
-copy_if_older-top-requires-clause-room g t c = λ h. omega (arith, left_room c.args.since c.args.birth c.args.pool.now c.args.root (tree_at c.args.pool.now c.args.root) c.requires.can c.in-Some.id c.get-node.result c.in-Some.is c.get-node.ensures c.remove_at-left.new.pool c.remove_at-left.result c.remove_at-left.ensures.shrinks h)
+copy_if_older-top-requires-clause-room g t c = left_room c.args.since c.args.birth c.args.pool.now c.args.root (tree_at c.args.pool.now c.args.root) c.requires.can c.in-Some.id c.get-node.result c.in-Some.is c.get-node.ensures c.remove_at-left.new.pool c.remove_at-left.result c.remove_at-left.ensures.shrinks
 
 pub settle-requires-clause-can : goal.settle-requires-clause-can
 settle-requires-clause-can g t c = left_settle c.args.since c.args.birth c.args.pool.now c.args.root (tree_at c.args.pool.now c.args.root) c.requires.can c.in-Some.id c.get-node.result c.in-Some.is c.get-node.ensures c.remove_at-left.new.pool c.remove_at-left.result c.remove_at-left.ensures.shrinks c.copy_if_older-top.new.pool c.copy_if_older-top.result c.copy_if_older-top.ensures
@@ -38,7 +38,7 @@ pub copy_if_older-top-requires-in-Greater-clause-used : goal.copy_if_older-top-r
 copy_if_older-top-requires-in-Greater-clause-used g t c = right_used c.args.since c.args.birth c.args.pool.now c.args.root (tree_at c.args.pool.now c.args.root) c.requires.can c.in-Some.id c.get-node.result c.in-Some.is c.get-node.ensures c.remove_at-right.new.pool c.remove_at-right.result c.remove_at-right.ensures.shrinks
 
 pub copy_if_older-top-requires-in-Greater-clause-room : goal.copy_if_older-top-requires-in-Greater-clause-room
-copy_if_older-top-requires-in-Greater-clause-room g t c = λ h. omega (arith, right_room c.args.since c.args.birth c.args.pool.now c.args.root (tree_at c.args.pool.now c.args.root) c.requires.can c.in-Some.id c.get-node.result c.in-Some.is c.get-node.ensures c.remove_at-right.new.pool c.remove_at-right.result c.remove_at-right.ensures.shrinks h)
+copy_if_older-top-requires-in-Greater-clause-room g t c = right_room c.args.since c.args.birth c.args.pool.now c.args.root (tree_at c.args.pool.now c.args.root) c.requires.can c.in-Some.id c.get-node.result c.in-Some.is c.get-node.ensures c.remove_at-right.new.pool c.remove_at-right.result c.remove_at-right.ensures.shrinks
 
 pub settle-requires-in-Greater-clause-can : goal.settle-requires-in-Greater-clause-can
 settle-requires-in-Greater-clause-can g t c = right_settle c.args.since c.args.birth c.args.pool.now c.args.root (tree_at c.args.pool.now c.args.root) c.requires.can c.in-Some.id c.get-node.result c.in-Some.is c.get-node.ensures c.remove_at-right.new.pool c.remove_at-right.result c.remove_at-right.ensures.shrinks c.copy_if_older-top-in-Greater.new.pool c.copy_if_older-top-in-Greater.result c.copy_if_older-top-in-Greater.ensures
@@ -65,7 +65,7 @@ pub copy_if_older-top-requires-in-Equal-clause-used : goal.copy_if_older-top-req
 copy_if_older-top-requires-in-Equal-clause-used g t c = right_used c.args.since c.args.birth c.args.pool.now c.args.root (tree_at c.args.pool.now c.args.root) c.requires.can c.in-Some.id c.get-node.result c.in-Some.is c.get-node.ensures c.take_least-least.new.pool c.take_least-least.result.rest (subst (λ o. Shrinks c.args.since c.args.birth c.args.pool.now c.take_least-least.new.pool c.take_least-least.result.rest (tree_at c.args.pool.now o) (tree_at c.take_least-least.new.pool c.take_least-least.result.rest)) (sym c.in-Some-right.is) c.take_least-least.ensures.shrinks)
 
 pub copy_if_older-top-requires-in-Equal-clause-room : goal.copy_if_older-top-requires-in-Equal-clause-room
-copy_if_older-top-requires-in-Equal-clause-room g t c = λ h. omega (arith, right_room c.args.since c.args.birth c.args.pool.now c.args.root (tree_at c.args.pool.now c.args.root) c.requires.can c.in-Some.id c.get-node.result c.in-Some.is c.get-node.ensures c.take_least-least.new.pool c.take_least-least.result.rest (subst (λ o. Shrinks c.args.since c.args.birth c.args.pool.now c.take_least-least.new.pool c.take_least-least.result.rest (tree_at c.args.pool.now o) (tree_at c.take_least-least.new.pool c.take_least-least.result.rest)) (sym c.in-Some-right.is) c.take_least-least.ensures.shrinks) h)
+copy_if_older-top-requires-in-Equal-clause-room g t c = right_room c.args.since c.args.birth c.args.pool.now c.args.root (tree_at c.args.pool.now c.args.root) c.requires.can c.in-Some.id c.get-node.result c.in-Some.is c.get-node.ensures c.take_least-least.new.pool c.take_least-least.result.rest (subst (λ o. Shrinks c.args.since c.args.birth c.args.pool.now c.take_least-least.new.pool c.take_least-least.result.rest (tree_at c.args.pool.now o) (tree_at c.take_least-least.new.pool c.take_least-least.result.rest)) (sym c.in-Some-right.is) c.take_least-least.ensures.shrinks)
 
 pub settle-requires-in-Equal-clause-can : goal.settle-requires-in-Equal-clause-can
 settle-requires-in-Equal-clause-can g t c = right_settle c.args.since c.args.birth c.args.pool.now c.args.root (tree_at c.args.pool.now c.args.root) c.requires.can c.in-Some.id c.get-node.result c.in-Some.is c.get-node.ensures c.take_least-least.new.pool c.take_least-least.result.rest (subst (λ o. Shrinks c.args.since c.args.birth c.args.pool.now c.take_least-least.new.pool c.take_least-least.result.rest (tree_at c.args.pool.now o) (tree_at c.take_least-least.new.pool c.take_least-least.result.rest)) (sym c.in-Some-right.is) c.take_least-least.ensures.shrinks) c.copy_if_older-top-in-Equal.new.pool c.copy_if_older-top-in-Equal.result c.copy_if_older-top-in-Equal.ensures

@@ -19,7 +19,7 @@ pub copy_if_older-top-requires-clause-used : goal.copy_if_older-top-requires-cla
 copy_if_older-top-requires-clause-used t c = left_used c.args.since c.args.birth c.args.pool.now (Some c.args.id) (tree_at c.args.pool.now (Some c.args.id)) c.requires.can c.args.id c.get-node.result refl c.get-node.ensures c.take_least-least.new.pool c.take_least-least.result.rest (subst (λ o. Shrinks c.args.since c.args.birth c.args.pool.now c.take_least-least.new.pool c.take_least-least.result.rest (tree_at c.args.pool.now o) (tree_at c.take_least-least.new.pool c.take_least-least.result.rest)) (sym c.in-Some.is) c.take_least-least.ensures.shrinks)
 
 pub copy_if_older-top-requires-clause-room : goal.copy_if_older-top-requires-clause-room
-copy_if_older-top-requires-clause-room t c = λ h. omega (arith, left_room c.args.since c.args.birth c.args.pool.now (Some c.args.id) (tree_at c.args.pool.now (Some c.args.id)) c.requires.can c.args.id c.get-node.result refl c.get-node.ensures c.take_least-least.new.pool c.take_least-least.result.rest (subst (λ o. Shrinks c.args.since c.args.birth c.args.pool.now c.take_least-least.new.pool c.take_least-least.result.rest (tree_at c.args.pool.now o) (tree_at c.take_least-least.new.pool c.take_least-least.result.rest)) (sym c.in-Some.is) c.take_least-least.ensures.shrinks) h)
+copy_if_older-top-requires-clause-room t c = left_room c.args.since c.args.birth c.args.pool.now (Some c.args.id) (tree_at c.args.pool.now (Some c.args.id)) c.requires.can c.args.id c.get-node.result refl c.get-node.ensures c.take_least-least.new.pool c.take_least-least.result.rest (subst (λ o. Shrinks c.args.since c.args.birth c.args.pool.now c.take_least-least.new.pool c.take_least-least.result.rest (tree_at c.args.pool.now o) (tree_at c.take_least-least.new.pool c.take_least-least.result.rest)) (sym c.in-Some.is) c.take_least-least.ensures.shrinks)
 
 pub settle-root-requires-clause-can : goal.settle-root-requires-clause-can
 settle-root-requires-clause-can t c = left_settle c.args.since c.args.birth c.args.pool.now (Some c.args.id) (tree_at c.args.pool.now (Some c.args.id)) c.requires.can c.args.id c.get-node.result refl c.get-node.ensures c.take_least-least.new.pool c.take_least-least.result.rest (subst (λ o. Shrinks c.args.since c.args.birth c.args.pool.now c.take_least-least.new.pool c.take_least-least.result.rest (tree_at c.args.pool.now o) (tree_at c.take_least-least.new.pool c.take_least-least.result.rest)) (sym c.in-Some.is) c.take_least-least.ensures.shrinks) c.copy_if_older-top.new.pool c.copy_if_older-top.result c.copy_if_older-top.ensures
