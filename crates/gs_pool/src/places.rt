@@ -1,5 +1,5 @@
 //! How a node lies in memory: 48 bytes.
-ghost use Rattle.std.specs.Prelude.{◌≡◌, Some, None, IsSome};
+ghost use Rattle.std.specs.Prelude.{◌≡◌, Some, None, IsSome, is_some};
 ghost use Rattle.gs_pool.specs.Pool.{plain};
 ghost use Rattle.gs_pool.specs.Places.{node_of, mark_of, next_of, content_of, is_plain, is_whole, aside_state, retired_state, number_if};
 
@@ -110,6 +110,13 @@ impl Place {
         ensures { result ≡ is_plain self.now.state }
     {
         matches!(self.state, State::Plain)
+    }
+
+    /// Whether the place has a node, whatever its mark.
+    pub fn is_used(&self) -> bool
+        ensures { result ≡ is_some (node_of self.now) }
+    {
+        !matches!(self.state, State::Free)
     }
 
     /// Whether the place stands for all nodes below it too.

@@ -80,6 +80,16 @@ impl Pool {
         }
     }
 
+    /// Whether a number's node is in use, whatever its mark.
+    pub fn is_in_use(&self, id: u32) -> bool
+        ensures { Decides result (IsSome (node_at self.now id)) }
+    {
+        let Some(place) = self.places.get(id as usize) else {
+            return false;
+        };
+        place.is_used()
+    }
+
     /// The node of a number, whatever its mark.
     pub fn get(&self, id: u32) -> Node
         requires { IsSome (node_at self.now id) }

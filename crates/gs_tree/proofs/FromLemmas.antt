@@ -1,5 +1,5 @@
 -- The keys from a place on, in a list cut at one of its keys.
-use Rattle.std.proofs.Common.{◌≡◌, ℕ, ◌+◌, ◌-◌, true, false, List, [], ◌∷◌, ◌++◌, length, take, Option, Some, None, refl, sym, ap, ◌∙◌, inl, inr, arith, append_assoc, length-append, true≢false}
+use Rattle.std.proofs.Common.{◌≡◌, ℕ, ◌+◌, ◌-◌, min, true, false, List, [], ◌∷◌, ◌++◌, length, take, Option, Some, None, refl, sym, ap, ◌∙◌, inl, inr, arith, append_assoc, length-append, true≢false}
 use Rattle.std.specs.List.{filter}
 use Rattle.std.proofs.lemmas.Bool.{cases_lt}
 use Rattle.std.proofs.lemmas.List.{length-take-le, take-append-le, take_all, append-nil}
@@ -13,7 +13,7 @@ use Rattle.gs_tree.specs.Keys.{AllKeys, IsRising, HasKey}
 use Rattle.gs_tree.specs.Reading.{is_less, is_past, keys_from, first_of, filled_up}
 use Rattle.gs_tree.proofs.Order.{all_middle}
 
-less_is : (o : Ordering) → is_less o ≡ true → o ≡ Less
+pub less_is : (o : Ordering) → is_less o ≡ true → o ≡ Less
 less_is Less h = refl
 less_is Equal h = absurd (true≢false (sym h))
 less_is Greater h = absurd (true≢false (sym h))
@@ -86,4 +86,11 @@ filled_twice end xs ys zs = elim (cases_lt (length ys) (end - length xs)) [
       let more : end - length xs ≡ length ys + rest = omega arith in
       let left : end - length (xs ++ ys) ≡ rest = omega (arith, length-append xs ys) in
       rw (whole, left) (append_assoc xs ys (take rest zs) ∙ ap (λ us. xs ++ us) (sym (take-append-add ys zs rest) ∙ ap (λ n. take n (ys ++ zs)) (sym more)))
+]
+
+-- no more are taken than there are
+pub take_min : (n : ℕ) (xs : List Key) → take (min n (length xs)) xs ≡ take n xs
+take_min n xs = elim (cases_lt n (length xs)) [
+  | inl few ↦ ap (λ m. take m xs) (omega arith)
+  | inr all ↦ take_all (min n (length xs)) xs (omega arith) ∙ sym (take_all n xs all)
 ]

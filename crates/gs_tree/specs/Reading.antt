@@ -1,5 +1,5 @@
 -- What is read from a set: whether it has a key, how many it has, and the keys from a place on.
-use Rattle.std.specs.Prelude.{◌≡◌, ℕ, ◌-◌, ◌≤◌, ◌++◌, Bool, true, false, List, [], ◌∷◌, length, take, Option, Some, None}
+use Rattle.std.specs.Prelude.{◌≡◌, ℕ, ◌-◌, ◌≤◌, ◌++◌, min, Bool, true, false, List, [], ◌∷◌, length, take, Option, Some, None}
 use Rattle.std.specs.List.{filter}
 use Rattle.std.specs.declared.cmp.Ordering.{Ordering}
 use Rattle.std.specs.declared.cmp.Ordering.TheVariants.{Less, Equal, Greater}
@@ -63,3 +63,11 @@ FillsUp cmp p root from end xs ys = ys ≡ filled_up end xs (keys_from cmp from 
 -- the keys of a set from a place on were appended, so many of them at most
 abbrev pub Appends : (Key → Key → Ordering) → Nodes → Option ℕ → Option Key → ℕ → List Key → List Key → Type 0
 Appends cmp p root from most xs ys = ys ≡ xs ++ take most (keys_from cmp from (keys_at p root))
+
+-- the first n keys are the first `most` keys
+abbrev pub IsEnough : List Key → ℕ → ℕ → Type 0
+IsEnough ks most n = take n ks ≡ take most ks
+
+-- how many keys will be appended, where `most` are asked for
+abbrev pub key_count : (Key → Key → Ordering) → Nodes → Option ℕ → Option Key → ℕ → ℕ
+key_count cmp p root from most = min most (length (keys_from cmp from (keys_at p root)))

@@ -8,7 +8,7 @@ mod removals;
 mod room;
 mod unions;
 
-pub use orders::KeyOrder;
+pub use orders::{KeyOrder, is_rising};
 pub use reading::{after, contains, count, next_keys};
 pub use removals::remove;
 pub use unions::{Merged, insert, union};

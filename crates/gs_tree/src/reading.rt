@@ -1,9 +1,9 @@
 //! What is read from a set. Nothing here asks what a node is marked as, so a set that was replaced
 //! or retired can be read as long as its nodes are in use.
-ghost use Rattle.std.specs.Prelude.{◌≡◌, ◌+◌, ◌<◌, ◌≤◌, ◌^◌, [], ◌∷◌, Some, Option, length, vec_len, vec_capacity, IsOk, OnOk, OnErr};
+ghost use Rattle.std.specs.Prelude.{◌≡◌, ◌+◌, ◌<◌, ◌≤◌, ◌^◌, [], ◌∷◌, Some, Option, length, max, vec_len, vec_capacity, IsOk, OnOk, OnErr};
 ghost use Rattle.std.specs.Bool.{Decides};
 ghost use Rattle.gs_tree.specs.Keys.{HasKey};
-ghost use Rattle.gs_tree.specs.Reading.{IsTreeAt, IsReadableAt, keys_at, is_past as is_past_in, keys_from, first_of, filled_up, FillsUp, Appends};
+ghost use Rattle.gs_tree.specs.Reading.{IsTreeAt, IsReadableAt, keys_at, is_past as is_past_in, keys_from, first_of, filled_up, FillsUp, Appends, IsEnough, key_count};
 
 use crate::orders::KeyOrder;
 use gs_pool::{Key, Pool};
@@ -95,8 +95,56 @@ fn push_below(end: usize, key: Key, to: &mut Vec<Key>)
     }
 }
 
+// How many keys are above the one given, where they are no more than `most`, and else `most`.
+fn count_from<O: KeyOrder>(
+    pool: &Pool,
+    order: &O,
+    root: Option<u32>,
+    from: Option<Key>,
+    most: usize,
+) -> usize
+    requires { IsReadableAt (O.compare order.now) pool.now root }
+    ensures { result ≡ key_count (O.compare order.now) pool.now root from most }
+{
+    let Some(id) = root else {
+        return 0;
+    };
+    if most == 0 {
+        return 0;
+    }
+    let node = pool.get(id);
+    if !is_past(order, from, node.key) {
+        return count_from(pool, order, node.right, from, most);
+    }
+    let low = count_from(pool, order, node.left, from, most);
+    if low == most {
+        return most;
+    }
+    low + 1 + count_from(pool, order, node.right, None, most - low - 1)
+}
+
+// How many keys to make room for: those that will come are only counted where `spare` may be too few.
+fn keys_wanted<O: KeyOrder>(
+    pool: &Pool,
+    order: &O,
+    root: Option<u32>,
+    from: Option<Key>,
+    most: usize,
+    spare: usize,
+) -> usize
+    requires { IsReadableAt (O.compare order.now) pool.now root }
+    ensures all { IsEnough (keys_from (O.compare order.now) from (keys_at pool.now root)) most result }
+    ensures fits { result ≤ max spare (key_count (O.compare order.now) pool.now root from most) }
+{
+    if most <= spare {
+        return most;
+    }
+    count_from(pool, order, root, from, most)
+}
+
 /// Appends the keys of a set that are above `from`, or all where it is `None`: in order, by one
-/// walk, and `most` of them at most. Memory is wanted for their room alone, before the first.
+/// walk, and `most` of them at most. Memory is wanted for the room of those that are there, before
+/// the first; where `most` keys may not fit, they are counted first.
 pub fn next_keys<O: KeyOrder>(
     pool: &Pool,
     order: &O,
@@ -108,10 +156,13 @@ pub fn next_keys<O: KeyOrder>(
     requires { IsReadableAt (O.compare order.now) pool.now root }
     ensures ok { OnOk result (Appends (O.compare order.now) pool.now root from most to.old.items to.new.items) }
     ensures kept { OnErr result (to.new.items ≡ to.old.items) }
-    ensures had_room { vec_len to.old + most ≤ vec_capacity to.old → IsOk result }
+    ensures had_room { vec_len to.old + key_count (O.compare order.now) pool.now root from most
+        ≤ vec_capacity to.old → IsOk result }
 {
-    to.reserve(most)?;
-    let end = to.len() + most;
+    let spare = to.capacity() - to.len();
+    let more = keys_wanted(pool, order, root, from, most, spare);
+    to.reserve(more)?;
+    let end = to.len() + more;
     walk(pool, order, root, from, end, to);
     Ok(())
 }
