@@ -44,6 +44,7 @@ module _ (cmp : Key → Key → Ordering) (total : IsTotalOrder cmp) where
 
   -- in a run that rises each key is below the next
   rising_next : (run : List Key) (m : ℕ) (d : Key) → suc m < length run → IsRising cmp run → cmp (get_or run m d) (get_or run (suc m) d) ≡ Less
+  rising_next [] m d within s = absurd (omega arith)
   rising_next (x ∷ []) m d within s = absurd (omega arith)
   rising_next (x ∷ y ∷ run) zero d within s = s.0.0
   rising_next (x ∷ y ∷ run) (suc m) d within s = rising_next (y ∷ run) m d (omega arith) s.1

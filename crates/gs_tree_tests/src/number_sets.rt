@@ -4,7 +4,7 @@ ghost use Rattle.gs_tree_tests.specs.ObjectOrder.{by_object};
 
 use gs_model::Refusal;
 use gs_pool::{Key, Pool};
-use gs_tree::{KeyOrder, after, contains, count, insert, next_keys, remove};
+use gs_tree::{KeyOrder, after, contains, count, insert, is_rising, next_keys, remove, union};
 use std::alloc::Global;
 use std::cmp::Ordering;
 use std::marker::Model;
@@ -30,7 +30,7 @@ impl KeyOrder for ByObject {
 }
 
 /// The key of a number.
-fn key(number: u32) -> Key {
+pub fn key(number: u32) -> Key {
     Key {
         subject: 1,
         predicate: 2,
@@ -117,6 +117,17 @@ impl NumberSet {
         )?;
         self.root = merged.root;
         Ok(merged.added == 1)
+    }
+
+    /// Adds a run of keys by one union, by the commit of this number, and says how many of them the
+    /// set lacked. `None` says that the run does not rise; then nothing is added.
+    pub fn add_run(&mut self, run: &[Key], commit: u64) -> Result<Option<usize>, Refusal> {
+        if !is_rising(&ByObject, run) {
+            return Ok(None);
+        }
+        let merged = union(&mut self.pool, &ByObject, self.root, run, commit, commit)?;
+        self.root = merged.root;
+        Ok(Some(merged.added))
     }
 
     /// Takes a number out, by the commit of this number, and says whether the set had it.
