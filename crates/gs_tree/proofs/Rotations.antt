@@ -130,8 +130,7 @@ module _ (since birth : ℕ) (p p1 : Nodes) (top left turned : ℕ) (below : Nod
       let hl : height l ≡ max (height a.x) (height a.y) + 1 = ap height a.is in
       let rb = can.right_balanced in
       let near : (height a.x ≤ height a.y + 1) × (height a.y ≤ height a.x + 1) = lb.0 in
-      let n0 = near.0 in
-      let n1 = near.1 in
+      let n0 = near.0 in let n1 = near.1 in
       record {
         root = refl;
         stands = k.stands;
@@ -238,8 +237,7 @@ module _ (since birth : ℕ) (p p1 : Nodes) (top left turned : ℕ) (below : Nod
 
     pub double : (p3 p4 p5 : Nodes) → Links p2 p3 turned below.left below.key node.left birth → Links p3 p4 top node.right key right birth → height a.x < height a.y → Links p4 p5 middle (Some turned) node.key (Some top) birth → Settled since birth p p5 top middle key l r (fork middle birth (fork turned birth a.x below.key b.u) node.key (fork top birth b.v key r))
     double p3 p4 p5 link link2 lower link3 =
-        let k = double_low p3 link in
-        let h = double_high p3 p4 link link2 in
+        let k = double_low p3 link in let h = double_high p3 p4 link link2 in
         let s = double_sides p3 p4 link link2 in
         let m = linked_in since p4 p5 middle birth (fork turned birth a.x below.key b.u) node.key (fork top birth b.v key r) (Some turned) (Some top) link3 refl refl s.1 young s.0 h.stands (λ i. omega (arith, b.apart i, plain_count_most p2 i)) in
         let lb : IsBalanced (fork left a.bl a.x below.key a.y) = subst IsBalanced a.is can.left_balanced in
@@ -247,11 +245,8 @@ module _ (since birth : ℕ) (p p1 : Nodes) (top left turned : ℕ) (below : Nod
         let hl : height l ≡ max (height a.x) (height a.y) + 1 = ap height a.is in
         let hy : height a.y ≡ max (height b.u) (height b.v) + 1 = ap height b.is in
         let rb = can.right_balanced in
-        let n0 : height a.x ≤ height a.y + 1 = lb.0.0 in
-        let n1 : height a.y ≤ height a.x + 1 = lb.0.1 in
-        let m0 : height b.u ≤ height b.v + 1 = yb.0.0 in
-        let m1 : height b.v ≤ height b.u + 1 = yb.0.1 in
-        let three : ℕ → ℕ = λ i. one top i + one turned i + one middle i in
+        let n0 : height a.x ≤ height a.y + 1 = lb.0.0 in let n1 : height a.y ≤ height a.x + 1 = lb.0.1 in
+        let m0 : height b.u ≤ height b.v + 1 = yb.0.0 in let m1 : height b.v ≤ height b.u + 1 = yb.0.1 in
         record {
           root = refl;
           stands = m.stands;

@@ -224,7 +224,6 @@ module _ (since birth : ℕ) (p p1 : Nodes) (top left turned : ℕ) (below : Nod
         let n1 : height a.y ≤ height a.x + 1 = lb.0.0 in
         let m0 : height b.u ≤ height b.v + 1 = yb.0.1 in
         let m1 : height b.v ≤ height b.u + 1 = yb.0.0 in
-        let three : ℕ → ℕ = λ i. one top i + one turned i + one middle i in
         record {
           root = refl;
           stands = m.stands;
