@@ -12,7 +12,7 @@ use Rattle.gs_model.specs.Triples.{RdfTriple, triple_cmp}
 use Rattle.gs_model.proofs.GraphLemmas.{triple_total}
 use Rattle.gs_term.specs.declared.patterns.Pattern.{Pattern}
 use Rattle.gs_event.specs.Solutions.{is_among}
-use Rattle.gs_plain.specs.Solving.{triple_at, found_from, marked_by, AreMarked}
+use Rattle.gs_plain.specs.Solving.{numbered, found_from, marked_by, AreMarked}
 use Rattle.gs_plain.proofs.SearchLemmas.{chosen_by}
 
 -- one triple more, which this one is not
@@ -60,7 +60,7 @@ none_wanted ts ps marks is none = subst (λ qs. AreMarked ts marks (found_from t
 
 -- one mark more
 pub mark_one : (ts : List RdfTriple) (marks : List Bool) (found : List RdfTriple) (i : ℕ) → IsStrictlySortedBy triple_cmp ts → i < length ts → AreMarked ts marks found
-    → AreMarked ts (slice_set marks i true) (found ++ triple_at ts i ∷ [])
+    → AreMarked ts (slice_set marks i true) (found ++ numbered ts i ∷ [])
 mark_one ts marks found i sorted lt h = ap (λ ms. slice_set ms i true) h ∙ set_one found ts i _ sorted lt
 
 -- the marks of the triples that were chosen
@@ -68,17 +68,17 @@ pub mark_each : (ts : List RdfTriple) (marks : List Bool) (found : List RdfTripl
     → AreMarked ts (marked_by is marks) (chosen_by ts found is)
 mark_each ts marks found [] sorted within h = h
 mark_each ts marks found (i ∷ is) sorted within h =
-    mark_each ts (slice_set marks i true) (found ++ triple_at ts i ∷ []) is sorted (λ k d lt. within (suc k) d (omega arith)) (mark_one ts marks found i sorted (within 0 0 (omega arith)) h)
+    mark_each ts (slice_set marks i true) (found ++ numbered ts i ∷ []) is sorted (λ k d lt. within (suc k) d (omega arith)) (mark_one ts marks found i sorted (within 0 0 (omega arith)) h)
 
 -- what was chosen comes after what was found
 pub chosen_after : (ts xs ys : List RdfTriple) (is : List ℕ) → chosen_by ts (xs ++ ys) is ≡ xs ++ chosen_by ts ys is
 chosen_after ts xs ys [] = refl
-chosen_after ts xs ys (i ∷ is) = ap (λ zs. chosen_by ts zs is) (append_assoc xs ys (triple_at ts i ∷ [])) ∙ chosen_after ts xs (ys ++ triple_at ts i ∷ []) is
+chosen_after ts xs ys (i ∷ is) = ap (λ zs. chosen_by ts zs is) (append_assoc xs ys (numbered ts i ∷ [])) ∙ chosen_after ts xs (ys ++ numbered ts i ∷ []) is
 
 -- the triples that were chosen and one more are marked
 pub mark_found : (ts : List RdfTriple) (marks : List Bool) (found : List RdfTriple) (is : List ℕ) (i : ℕ) → IsStrictlySortedBy triple_cmp ts → All (λ j. j < length ts) is → i < length ts → AreMarked ts marks found
-    → AreMarked ts (slice_set (marked_by is marks) i true) (found ++ (chosen_by ts [] is ++ triple_at ts i ∷ []))
+    → AreMarked ts (slice_set (marked_by is marks) i true) (found ++ (chosen_by ts [] is ++ numbered ts i ∷ []))
 mark_found ts marks found is i sorted within lt h =
-    let both : chosen_by ts found is ++ triple_at ts i ∷ [] ≡ found ++ (chosen_by ts [] is ++ triple_at ts i ∷ []) =
-    ap (λ zs. zs ++ triple_at ts i ∷ []) (ap (λ zs. chosen_by ts zs is) (sym (append-nil found)) ∙ chosen_after ts found [] is) ∙ append_assoc found (chosen_by ts [] is) (triple_at ts i ∷ []) in
+    let both : chosen_by ts found is ++ numbered ts i ∷ [] ≡ found ++ (chosen_by ts [] is ++ numbered ts i ∷ []) =
+    ap (λ zs. zs ++ numbered ts i ∷ []) (ap (λ zs. chosen_by ts zs is) (sym (append-nil found)) ∙ chosen_after ts found [] is) ∙ append_assoc found (chosen_by ts [] is) (numbered ts i ∷ []) in
     subst (AreMarked ts (slice_set (marked_by is marks) i true)) both (mark_one ts (marked_by is marks) (chosen_by ts found is) i sorted lt (mark_each ts marks found is sorted within h))

@@ -11,7 +11,7 @@ use Rattle.gs_term.specs.declared.patterns.Pattern.{Pattern}
 use Rattle.gs_event.specs.Solutions.{Bindings, bind_triple}
 use Rattle.gs_plain.specs.declared.solutions.Binding.{Binding}
 use Rattle.gs_plain.specs.declared.solutions.Place.{Place}
-use Rattle.gs_plain.specs.Solving.{bindings_of, Chooses, found_if, found_from, found_among, triple_at, or_bound, with_first, bound_by, left_at, left_from, work, work_at, work_from, marked_by, AreMarked, IsPlace, StepsOn}
+use Rattle.gs_plain.specs.Solving.{bindings_of, Chooses, found_if, found_from, found_among, numbered, or_bound, with_first, bound_by, left_at, left_from, work, work_at, work_from, marked_by, AreMarked, IsPlace, StepsOn}
 use Rattle.gs_plain.proofs.SearchLemmas.{patterns_after, chosen_by, left-moved, left-chosen, left-given_up, work-moved, work-chosen, work-given_up, bound-more, after-more}
 use Rattle.gs_plain.proofs.MarkLemmas.{mark_found}
 
@@ -28,7 +28,7 @@ pub after_first : (ps : List Pattern) (is : List ℕ) (p : Pattern) → length i
 after_first ps is p few at = after_is ps is ∙ drop_more ps (length is) p few ∙ ap (λ q. q ∷ drop (length is + 1) ps) (sym at)
 
 -- the triple of this number
-pub triple_is : (ts : List RdfTriple) (i : ℕ) (t : RdfTriple) → i < length ts → t ≡ get_or ts i t → triple_at ts i ≡ t
+pub triple_is : (ts : List RdfTriple) (i : ℕ) (t : RdfTriple) → i < length ts → t ≡ get_or ts i t → numbered ts i ≡ t
 triple_is ts i t lt at = get_or_default ts i _ t lt ∙ sym at
 
 -- the first of the triples to be tried
@@ -119,7 +119,7 @@ pub chosen_on : (ts ps : _) (old new : Place) (p : Pattern) (t : RdfTriple) (mar
 chosen_on ts ps old new p t marks h few choices bound next =
     let is : List ℕ = old.choices.items in
     let qs : List Pattern = drop (length is + 1) ps in
-    let u : RdfTriple = triple_at ts old.next in
+    let u : RdfTriple = numbered ts old.next in
     let k : Bindings = bindings_of new.bound.items in
     let B : Bindings = bound_at ts ps old in
     let C : List RdfTriple = chosen_at ts old in
@@ -183,11 +183,11 @@ bind_next ts ps choices i old new p t r within few chosen pattern triple chooses
     let is : List ℕ = take i choices in
     let long : length is ≡ i = length-take-le i choices (omega arith) in
     let left : patterns_after ps is ≡ p ∷ drop (length is + 1) ps = after_first ps is p (omega arith) (pattern ∙ ap (λ n. get_or ps n p) (sym long)) in
-    let same : triple_at ts (get_or choices i 0) ≡ t = triple_is ts (get_or choices i 0) t (chosen i 0 within) triple in
+    let same : numbered ts (get_or choices i 0) ≡ t = triple_is ts (get_or choices i 0) t (chosen i 0 within) triple in
     bound_then old new p t r chooses
     ∙ ap (λ b. or_bound b (bind_triple b p t)) before
     ∙ sym (ap (λ v. or_bound (bound_by ts ps [] is) (bind_triple (bound_by ts ps [] is) p v)) same)
-    ∙ sym (ap (λ rs. with_first (bound_by ts ps [] is) rs (triple_at ts (get_or choices i 0))) left)
+    ∙ sym (ap (λ rs. with_first (bound_by ts ps [] is) rs (numbered ts (get_or choices i 0))) left)
     ∙ sym (bound-more ts ps [] is (get_or choices i 0))
     ∙ ap (bound_by ts ps []) (sym (take_more choices i 0 within))
   where
@@ -219,7 +219,7 @@ marked_on ts ps old new p t bound before after h sorted last chooses choices cut
     let more : List RdfTriple = chosen_by ts [] is ++ t ∷ [] in
     let here : found_here ts ps old p t ≡ more =
     ap (found_if (λ c. found_from ts (drop (length is + 1) ps) c more)) chooses.1 ∙ ap (λ qs. found_from ts qs (bindings_of bound) more) (drop_all (length is + 1) ps last) in
-    let same : triple_at ts old.next ≡ t = triple_is ts old.next t h.within h.triple in
+    let same : numbered ts old.next ≡ t = triple_is ts old.next t h.within h.triple in
     let kept : take (length old.bound.items) bound ≡ old.bound.items = ap (take (length old.bound.items)) chooses.0.parts ∙ take-append_seam old.bound.items chooses.0.more in
     moved_on ts ps old new p t more before after h choices (cut ∙ kept) next here
     (λ found m. subst (λ ms. AreMarked ts ms (found ++ more)) (sym marks) (subst (λ u. AreMarked ts (slice_set (marked_by is before) old.next true) (found ++ (chosen_by ts [] is ++ u ∷ []))) same (mark_found ts before found is old.next sorted h.place.chosen h.within m)))

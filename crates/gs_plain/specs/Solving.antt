@@ -1,7 +1,8 @@
 -- The search for the instances of patterns: what is bound, and what is found from there. No public clause cites this
 -- module.
-use Rattle.std.specs.Prelude.{◌≡◌, ◌<◌, ◌+◌, ℕ, Bool, true, false, List, [], ◌∷◌, ◌++◌, map, drop, length, Option, Some, None, Result, Ok, Err}
-use Rattle.std.specs.List.{fold, flat_map, sum_by, slice_index_or, slice_set, All}
+use Rattle.std.specs.Prelude.{◌≡◌, ◌<◌, ◌+◌, ℕ, Bool, true, false, List, [], ◌∷◌, ◌++◌, map, drop, length, Option, Some, None, Result, Ok, Err, IfOk}
+use Rattle.std.specs.declared.vec.Vec.{Vec}
+use Rattle.std.specs.List.{filter, fold, flat_map, sum_by, slice_index_or, slice_set, All}
 use Rattle.gs_model.specs.Terms.{Term, Iri}
 use Rattle.gs_model.specs.Triples.{RdfTriple}
 use Rattle.gs_term.specs.declared.patterns.Part.{Part}
@@ -24,14 +25,18 @@ abbrev pub found_from : List RdfTriple → List Pattern → Bindings → List Rd
 found_from ts [] b chosen = chosen
 found_from ts (p ∷ ps) b chosen = flat_map (λ t. found_if (λ c. found_from ts ps c (chosen ++ t ∷ [])) (bind_triple b p t)) ts
 
+-- what is found for these patterns, with nothing bound and chosen
+abbrev pub found_in : List RdfTriple → List Pattern → List RdfTriple
+found_in ts ps = found_from ts ps [] []
+
 -- what is found of these triples for the first of the patterns that are left
 abbrev pub found_among : List RdfTriple → List Pattern → Bindings → List RdfTriple → List RdfTriple → List RdfTriple
 found_among ts [] b chosen us = []
 found_among ts (p ∷ ps) b chosen us = flat_map (λ t. found_if (λ c. found_from ts ps c (chosen ++ t ∷ [])) (bind_triple b p t)) us
 
 -- the triple of this number, and past the end any
-abbrev pub triple_at : List RdfTriple → ℕ → RdfTriple
-triple_at ts i = slice_index_or ts i (record { subject = Iri []; predicate = Iri []; object = Iri [] })
+abbrev pub numbered : List RdfTriple → ℕ → RdfTriple
+numbered ts i = slice_index_or ts i (record { subject = Iri []; predicate = Iri []; object = Iri [] })
 
 -- these bindings, where there are any, and else those that were there
 abbrev pub or_bound : Bindings → Option Bindings → Bindings
@@ -46,13 +51,13 @@ with_first b (p ∷ ps) t = or_bound b (bind_triple b p t)
 -- with the first patterns bound to the triples of these numbers
 abbrev pub bound_by : List RdfTriple → List Pattern → Bindings → List ℕ → Bindings
 bound_by ts ps b [] = b
-bound_by ts ps b (i ∷ is) = bound_by ts (drop 1 ps) (with_first b ps (triple_at ts i)) is
+bound_by ts ps b (i ∷ is) = bound_by ts (drop 1 ps) (with_first b ps (numbered ts i)) is
 
 -- what is left to be found where the triples of these numbers are chosen for the first patterns, and this one is tried next
 abbrev pub left_at : List RdfTriple → List Pattern → Bindings → List RdfTriple → List ℕ → ℕ → List RdfTriple
 left_at ts ps b chosen [] next = found_among ts ps b chosen (drop next ts)
 left_at ts ps b chosen (i ∷ is) next =
-    left_at ts (drop 1 ps) (with_first b ps (triple_at ts i)) (chosen ++ triple_at ts i ∷ []) is next
+    left_at ts (drop 1 ps) (with_first b ps (numbered ts i)) (chosen ++ numbered ts i ∷ []) is next
     ++ found_among ts ps b chosen (drop (i + 1) ts)
 
 -- how many steps it takes at most to try these triples for the first of the patterns that are left, and to go back
@@ -83,6 +88,10 @@ pub record IsPlace (ts : List RdfTriple) (ps : List Pattern) (s : Place) : Type 
 abbrev pub AreMarked : List RdfTriple → List Bool → List RdfTriple → Type 0
 AreMarked ts marks found = marks ≡ map (is_among found) ts
 
+-- copies of the triples that are marked, where the marks are those of a test
+abbrev pub CopiesMarked : {X E : Type 0} → List RdfTriple → List Bool → Result (Vec RdfTriple X) E → Type 0
+CopiesMarked ts marks r = (test : RdfTriple → Bool) → marks ≡ map test ts → IfOk r (λ found. found.items ≡ filter test ts)
+
 -- the marks with those of these numbers
 abbrev pub marked_by : List ℕ → List Bool → List Bool
 marked_by is marks = fold (λ ms i. slice_set ms i true) marks is
@@ -96,13 +105,13 @@ pub record StepsOn (ts : List RdfTriple) (ps : List Pattern) (old new : Place) (
   pub marks : (found : List RdfTriple) → AreMarked ts before found → AreMarked ts after (found ++ more)
 
 -- a step, or the end
-abbrev pub GoesOn : List RdfTriple → List Pattern → Place → Place → List Bool → List Bool → Bool → Type 0
-GoesOn ts ps old new before after true = StepsOn ts ps old new before after
-GoesOn ts ps old new before after false = (left_from ts ps old ≡ []) × (after ≡ before)
+abbrev pub Advances : List RdfTriple → List Pattern → Place → Place → List Bool → List Bool → Bool → Type 0
+Advances ts ps old new before after true = StepsOn ts ps old new before after
+Advances ts ps old new before after false = (left_from ts ps old ≡ []) × (after ≡ before)
 
 -- the same, without a mark
 abbrev pub GoesBack : List RdfTriple → List Pattern → Place → Place → Bool → Type 0
-GoesBack ts ps old new more = (marks : List Bool) → GoesOn ts ps old new marks marks more
+GoesBack ts ps old new more = (marks : List Bool) → Advances ts ps old new marks marks more
 
 -- more are bound, after those that were
 pub record BindsMore (old new : List Binding) : Type 0 where

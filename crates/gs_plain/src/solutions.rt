@@ -1,10 +1,10 @@
 //! The instances of patterns in a graph, found by trying each triple for each pattern.
-ghost use Rattle.std.specs.Prelude.{◌≡◌, ◌<◌, ◌≤◌, Bool, [], map, length, IfOk, OnOk, option_map};
-ghost use Rattle.std.specs.List.{All, filter};
+ghost use Rattle.std.specs.Prelude.{◌≡◌, ◌<◌, ◌≤◌, [], length, IfOk, OnOk, option_map};
+ghost use Rattle.std.specs.List.{All};
 ghost use Rattle.std.specs.List.Sorted.{IsStrictlySortedBy};
-ghost use Rattle.gs_model.specs.Triples.{RdfTriple, triple_cmp};
+ghost use Rattle.gs_model.specs.Triples.{triple_cmp};
 ghost use Rattle.gs_event.specs.Solutions.{ListsInstances, term_for as term_for_of};
-ghost use Rattle.gs_plain.specs.Solving.{bindings_of, found_from, bound_by, marked_by, AreMarked, IsPlace, GoesOn, StepsOn, GoesBack, Chooses, Binds, BindsTriple};
+ghost use Rattle.gs_plain.specs.Solving.{bindings_of, found_in, bound_by, marked_by, AreMarked, CopiesMarked, IsPlace, Advances, StepsOn, GoesBack, Chooses, Binds, BindsTriple};
 
 use crate::graphs::SortedGraph;
 use gs_term::{Part, Pattern, TermText, Triple, VariableName};
@@ -47,7 +47,7 @@ pub fn instances(
 /// A mark for each triple that is an instance.
 fn marks_of(alloc: Global, triples: &[Triple], patterns: &[Pattern]) -> Result<Vec<bool>, AllocError>
     requires { IsStrictlySortedBy triple_cmp triples.now }
-    ensures { IfOk result (λ marks. AreMarked triples.now marks.items (found_from triples.now patterns.now [] [])) }
+    ensures { IfOk result (λ marks. AreMarked triples.now marks.items (found_in triples.now patterns.now)) }
 {
     let mut marks = vec![in alloc; false; triples.len()]?;
     if patterns.is_empty() {
@@ -75,7 +75,7 @@ fn advance<'a>(
     requires sorted { IsStrictlySortedBy triple_cmp triples.now }
     requires place { IsPlace triples.now patterns.now place.old }
     requires marks { length marks.old ≡ length triples.now }
-    ensures { IfOk result (GoesOn triples.now patterns.now place.old place.new marks.old marks.new) }
+    ensures { IfOk result (Advances triples.now patterns.now place.old place.new marks.old marks.new) }
 {
     if place.next < triples.len() {
         try_next(place, marks, triples, patterns)?;
@@ -167,7 +167,7 @@ fn mark(marks: &mut [bool], choices: &[usize])
 /// Copies of the triples that are marked.
 fn marked(alloc: Global, triples: &[Triple], marks: &[bool]) -> Result<Vec<Triple>, AllocError>
     requires { length marks.now ≡ length triples.now }
-    ensures { (test : RdfTriple → Bool) → marks.now ≡ map test triples.now → IfOk result (λ found. found.items ≡ filter test triples.now) }
+    ensures { CopiesMarked triples.now marks.now result }
 {
     let mut found = Vec::new(alloc);
     for (i, triple) in triples.iter().enumerate() {
