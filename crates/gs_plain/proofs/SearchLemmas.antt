@@ -1,12 +1,9 @@
 -- The steps of a search: what is left to be found, and how much work, after a triple was tried, chosen or given up.
-use Rattle.std.proofs.Common.{◌≡◌, ◌<◌, ◌≤◌, ◌+◌, ℕ, List, [], ◌∷◌, ◌++◌, drop, length, refl, sym, ap, ◌∙◌, arith, append_assoc, subst}
-use Rattle.std.specs.List.{sum_by}
-use Rattle.std.proofs.lemmas.List.Sums.{sum_by-cons}
-use Rattle.std.proofs.lemmas.List.{drop_more, get_or_default}
+use Rattle.std.proofs.Common.{◌≡◌, ◌<◌, ◌+◌, ℕ, List, [], ◌∷◌, ◌++◌, drop, refl, ap, ◌∙◌, arith, append_assoc}
 use Rattle.gs_model.specs.Triples.{RdfTriple}
 use Rattle.gs_term.specs.declared.patterns.Pattern.{Pattern}
-use Rattle.gs_event.specs.Solutions.{Bindings, bind_triple}
-use Rattle.gs_plain.specs.Solving.{found_if, found_from, found_among, numbered, with_first, bound_by, left_at, work, work_at}
+use Rattle.gs_event.specs.Solutions.{Bindings}
+use Rattle.gs_plain.specs.Solving.{found_among, numbered, with_first, bound_by, left_at, work, work_at}
 
 -- the patterns that are left after those of the choices
 abbrev pub patterns_after : List Pattern → List ℕ → List Pattern

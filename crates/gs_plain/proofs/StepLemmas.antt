@@ -1,6 +1,6 @@
 -- The steps of a search, from place to place.
-use Rattle.std.proofs.Common.{◌≡◌, ◌≢◌, ◌<◌, ◌≤◌, ◌+◌, ℕ, zero, suc, Bool, true, false, nat_eq, List, [], ◌∷◌, ◌++◌, drop, take, length, get_or, Option, Some, None, refl, sym, ap, ◌∙◌, arith, subst, append-nil, length-append, length-drop, length-take-le}
-use Rattle.std.specs.List.{slice_set, All, sum_by}
+use Rattle.std.proofs.Common.{◌≡◌, ◌<◌, ◌≤◌, ◌+◌, ℕ, zero, suc, Bool, true, false, nat_eq, List, [], ◌∷◌, ◌++◌, drop, take, length, get_or, Some, refl, sym, ap, ◌∙◌, arith, subst, append-nil, length-append, length-drop, length-take-le}
+use Rattle.std.specs.List.{slice_set, All}
 use Rattle.std.specs.List.Sorted.{IsStrictlySortedBy}
 use Rattle.std.proofs.lemmas.Bool.Decides.{nat_tests}
 use Rattle.std.proofs.Math.Seq.{drop-nil, take-append_seam}
@@ -11,8 +11,8 @@ use Rattle.gs_term.specs.declared.patterns.Pattern.{Pattern}
 use Rattle.gs_event.specs.Solutions.{Bindings, bind_triple}
 use Rattle.gs_plain.specs.declared.solutions.Binding.{Binding}
 use Rattle.gs_plain.specs.declared.solutions.Place.{Place}
-use Rattle.gs_plain.specs.Solving.{bindings_of, Chooses, found_if, found_from, found_among, numbered, or_bound, with_first, bound_by, left_at, left_from, work, work_at, work_from, marked_by, AreMarked, IsPlace, StepsOn}
-use Rattle.gs_plain.proofs.SearchLemmas.{patterns_after, chosen_by, left-moved, left-chosen, left-given_up, work-moved, work-chosen, work-given_up, bound-more, after-more}
+use Rattle.gs_plain.specs.Solving.{bindings_of, Chooses, found_if, found_from, found_among, numbered, or_bound, with_first, bound_by, left_at, left_from, work, marked_by, AreMarked, IsPlace, StepsOn}
+use Rattle.gs_plain.proofs.SearchLemmas.{patterns_after, chosen_by, left-moved, left-chosen, left-given_up, work-moved, work-chosen, work-given_up, bound-more}
 use Rattle.gs_plain.proofs.MarkLemmas.{mark_found}
 
 drop_next : (ps : List Pattern) (n : ℕ) → drop n (drop 1 ps) ≡ drop (suc n) ps

@@ -45,7 +45,11 @@ pub fn instances(
 }
 
 /// A mark for each triple that is an instance.
-fn marks_of(alloc: Global, triples: &[Triple], patterns: &[Pattern]) -> Result<Vec<bool>, AllocError>
+fn marks_of(
+    alloc: Global,
+    triples: &[Triple],
+    patterns: &[Pattern],
+) -> Result<Vec<bool>, AllocError>
     requires { IsStrictlySortedBy triple_cmp triples.now }
     ensures { IfOk result (λ marks. AreMarked triples.now marks.items (found_in triples.now patterns.now)) }
 {
@@ -131,7 +135,12 @@ fn go_back<'a>(
         return Ok(false);
     };
     place.bound.clear();
-    bind_all(&mut place.bound, place.choices.as_slice(), triples, patterns)?;
+    bind_all(
+        &mut place.bound,
+        place.choices.as_slice(),
+        triples,
+        patterns,
+    )?;
     place.next = last + 1;
     Ok(true)
 }

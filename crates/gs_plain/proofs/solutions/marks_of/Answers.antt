@@ -1,4 +1,4 @@
-use Rattle.std.proofs.Common.{◌≡◌, ◌<◌, false, [], refl, sym, ap, ◌∙◌, subst, length}
+use Rattle.std.proofs.Common.{◌≡◌, ◌<◌, false, [], refl, ap, ◌∙◌, length}
 use Rattle.std.proofs.lemmas.List.{length-replicate}
 use Rattle.gs_plain.specs.declared.solutions.Place.{Place}
 use Rattle.gs_plain.proofs.MarkLemmas.{none_marked, none_wanted}

@@ -1,4 +1,4 @@
-use Rattle.std.proofs.Common.{◌≡◌, ◌+◌, false, true, refl, ap, ◌∙◌, subst, length, take, arith}
+use Rattle.std.proofs.Common.{◌≡◌, ◌+◌, true, refl, ap, ◌∙◌, subst, length, take, arith}
 use Rattle.std.specs.List.{slice_set, slice_index_or}
 use Rattle.gs_plain.specs.declared.solutions.Place.{Place}
 use Rattle.gs_plain.specs.Solving.{Chooses, marked_by}
