@@ -119,7 +119,8 @@ impl SortedGraph {
 
     /// Its triples, each once, in their order.
     pub fn as_slice(&self) -> &[Triple]
-        ensures { result.now ≡ triples_of self.now }
+        ensures value { result.now ≡ triples_of self.now }
+        ensures sorted { IsStrictlySortedBy triple_cmp result.now }
     {
         self.triples.as_slice()
     }
