@@ -1,8 +1,7 @@
 //! Brackets and collections within one another, up to the most that may be.
-use crate::readings::read;
+use crate::readings::{SIZES, wrong_count};
 use gs_model::Refusal;
 use std::alloc::{AllocError, Global};
-use std::process::Abort;
 use std::test::Fail;
 
 /// What is repeated around a text's core: its front, what opens, the core, what closes, and its
@@ -29,22 +28,6 @@ fn text_of(alloc: Global, row: &Nested, depth: usize) -> Result<String, AllocErr
     }
     text.push_str(row.end)?;
     Ok(text)
-}
-
-/// Asserts how many triples a text has, or its fault.
-fn expect_count(
-    rt: &impl Abort,
-    alloc: Global,
-    text: &str,
-    want: Result<usize, Refusal>,
-) -> Result<(), Fail> {
-    for size in [usize::MAX, 1, 2, 3] {
-        let mut triples = Vec::new(alloc);
-        let told = read(alloc, "http://e/", text.as_bytes(), size, &mut triples);
-        let got = told.map(|()| triples.len());
-        assert_eq!(rt; got, want, "at {text}, {size}");
-    }
-    Ok(())
 }
 
 const ROWS: [Nested; 9] = [
@@ -131,22 +114,25 @@ const ROWS: [Nested; 9] = [
     },
 ];
 
-#[test]
-fn sixty_four_may_stand_in_one_another(rt: HostRuntime) -> Result<(), Fail> {
-    let alloc = rt.alloc();
-    for row in ROWS.as_slice() {
+/// The number of the first row that does not have its triples at the most repetitions, or with one
+/// more its fault, and the length of pieces.
+fn wrong_row(alloc: Global) -> Result<Option<(usize, usize)>, AllocError> {
+    for (i, row) in ROWS.iter().enumerate() {
         let text = text_of(alloc, row, row.most)?;
-        expect_count(&rt, alloc, text.as_str(), Ok(row.triples))?;
+        if let Some(size) = wrong_count(alloc, &SIZES, text.as_str(), Ok(row.triples)) {
+            return Ok(Some((i, size)));
+        }
+        let text = text_of(alloc, row, row.most.saturating_add(1))?;
+        let fault = Err(Refusal::Syntax(0));
+        if let Some(size) = wrong_count(alloc, &SIZES, text.as_str(), fault) {
+            return Ok(Some((i, size)));
+        }
     }
-    Ok(())
+    Ok(None)
 }
 
 #[test]
-fn one_more_is_a_fault(rt: HostRuntime) -> Result<(), Fail> {
-    let alloc = rt.alloc();
-    for row in ROWS.as_slice() {
-        let text = text_of(alloc, row, row.most.saturating_add(1))?;
-        expect_count(&rt, alloc, text.as_str(), Err(Refusal::Syntax(0)))?;
-    }
+fn sixty_four_may_stand_in_one_another_and_one_more_is_a_fault(rt: HostRuntime) -> Result<(), Fail> {
+    assert_eq!(rt; wrong_row(rt.alloc())?, None);
     Ok(())
 }
