@@ -1,7 +1,7 @@
 //! Graphs, patterns, and what a DELETE WHERE with these patterns leaves of them, worked by hand from
 //! SPARQL 1.1 Query, section 18.3, and Update, section 3.1.3.3.
 use crate::notation::{lines, patterns, triples};
-use crate::runs::{Wrong, plain_store, printed_by, printed_by_plain, store};
+use crate::runs::{plain_store, printed_by, printed_by_plain, store};
 use gs_core::{Action, Event, Op, Refusal, UploadKind};
 use gs_term::Target;
 use std::alloc::{AllocError, Global};
@@ -102,43 +102,35 @@ fn wanted(alloc: Global, left: &str) -> Result<String, AllocError> {
 
 /// Whether a patch with these patterns leaves just these triples of a graph, over each of two
 /// stores.
-pub fn leaves(
-    alloc: Global,
-    graph: &str,
-    removed: &str,
-    left: &str,
-) -> Result<(bool, bool), Refusal> {
+pub fn leaves(alloc: Global, graph: &str, removed: &str, left: &str) -> Result<bool, Refusal> {
     let events = events(alloc, graph, removed)?;
     let want = wanted(alloc, left)?;
     let got = printed_by(alloc, store(alloc, "")?, events.as_slice())?;
     let plain = printed_by_plain(alloc, plain_store(alloc, "")?, events.as_slice())?;
-    Ok((got == want, plain == want))
+    Ok(got.as_str() == want.as_str() && plain.as_str() == want.as_str())
 }
 
 /// The next column of a row; `-` stands for nothing.
-fn column(text: Option<&'static str>) -> &'static str {
+fn column(text: Option<&str>) -> &str {
     let text = text.unwrap_or_default().trim();
     if text == "-" { "" } else { text }
 }
 
-/// The name of a row, and over which of the two stores it is right.
-fn checked(alloc: Global, row: &'static str) -> Result<Wrong, Refusal> {
+/// Whether a row is right.
+fn is_so(alloc: Global, row: &str) -> Result<bool, Refusal> {
     let mut columns = row.split('|');
-    let name = column(columns.next());
+    let _name = columns.next();
     let graph = column(columns.next());
     let removed = column(columns.next());
     let left = column(columns.next());
-    Ok((name, leaves(alloc, graph, removed, left)?))
+    leaves(alloc, graph, removed, left)
 }
 
 /// The first row that is wrong.
-fn wrong_removal(alloc: Global) -> Result<Option<Wrong>, Refusal> {
+fn wrong_removal(alloc: Global) -> Result<Option<&'static str>, Refusal> {
     for row in ROWS.lines() {
-        if row.contains('|') {
-            let (name, so) = checked(alloc, row)?;
-            if so != (true, true) {
-                return Ok(Some((name, so)));
-            }
+        if row.contains('|') && !is_so(alloc, row)? {
+            return Ok(Some(row));
         }
     }
     Ok(None)

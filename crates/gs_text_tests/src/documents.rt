@@ -100,11 +100,11 @@ fn wrong_size(alloc: Global, document: &str) -> Result<Option<usize>, Refusal> {
     Ok(None)
 }
 
-/// The first wrong document, and the length of its pieces.
-fn wrong_document(alloc: Global) -> Result<Option<(&'static str, usize)>, Refusal> {
+/// The first document that is wrong in pieces of some length.
+fn wrong_document(alloc: Global) -> Result<Option<&'static str>, Refusal> {
     for document in &DOCUMENTS {
-        if let Some(size) = wrong_size(alloc, document)? {
-            return Ok(Some((document, size)));
+        if wrong_size(alloc, document)?.is_some() {
+            return Ok(Some(document));
         }
     }
     Ok(None)
@@ -127,17 +127,19 @@ fn without(alloc: Global, text: &str, left_out: usize) -> Result<String, AllocEr
     Ok(rest)
 }
 
-/// The number of the first character that is wrong to leave out, or before which it is wrong to
-/// end, and the length of the pieces.
-fn wrong_damage(alloc: Global) -> Result<Option<(usize, usize)>, Refusal> {
+/// Whether both readers say the same of the text without its character of this number.
+fn are_same_without(alloc: Global, left_out: usize) -> Result<bool, Refusal> {
+    let rest = without(alloc, WHOLE, left_out)?;
+    Ok(wrong_size(alloc, rest.as_str())?.is_none())
+}
+
+/// The number of the first character without which the text is wrong, or before which it is wrong
+/// as it ends.
+fn wrong_damage(alloc: Global) -> Result<Option<usize>, Refusal> {
     let mut front = String::new(alloc);
     for (i, c) in WHOLE.chars().enumerate() {
-        let rest = without(alloc, WHOLE, i)?;
-        if let Some(size) = wrong_size(alloc, front.as_str())? {
-            return Ok(Some((i, size)));
-        }
-        if let Some(size) = wrong_size(alloc, rest.as_str())? {
-            return Ok(Some((i, size)));
+        if !are_same_without(alloc, i)? || wrong_size(alloc, front.as_str())?.is_some() {
+            return Ok(Some(i));
         }
         front.push(c)?;
     }

@@ -114,18 +114,25 @@ const ROWS: [Nested; 9] = [
     },
 ];
 
+/// Whether the text with so many repetitions has so many triples, or its fault.
+fn is_so(
+    alloc: Global,
+    row: &Nested,
+    depth: usize,
+    want: Result<usize, Refusal>,
+) -> Result<bool, AllocError> {
+    let text = text_of(alloc, row, depth)?;
+    Ok(wrong_count(alloc, &SIZES, text.as_str(), want).is_none())
+}
+
 /// The number of the first row that does not have its triples at the most repetitions, or with one
-/// more its fault, and the length of pieces.
-fn wrong_row(alloc: Global) -> Result<Option<(usize, usize)>, AllocError> {
+/// more its fault.
+fn wrong_row(alloc: Global) -> Result<Option<usize>, AllocError> {
     for (i, row) in ROWS.iter().enumerate() {
-        let text = text_of(alloc, row, row.most)?;
-        if let Some(size) = wrong_count(alloc, &SIZES, text.as_str(), Ok(row.triples)) {
-            return Ok(Some((i, size)));
-        }
-        let text = text_of(alloc, row, row.most.saturating_add(1))?;
-        let fault = Err(Refusal::Syntax(0));
-        if let Some(size) = wrong_count(alloc, &SIZES, text.as_str(), fault) {
-            return Ok(Some((i, size)));
+        let deeper = row.most.saturating_add(1);
+        let has_triples = is_so(alloc, row, row.most, Ok(row.triples))?;
+        if !has_triples || !is_so(alloc, row, deeper, Err(Refusal::Syntax(0)))? {
+            return Ok(Some(i));
         }
     }
     Ok(None)
