@@ -78,7 +78,8 @@ fn two_blocks(
 }
 
 /// The lines of the two blocks below, in their order.
-const TRIPLES: &str = "_:b7_1 <http://www.w3.org/1999/02/22-rdf-syntax-ns#first> \"1\"^^<http://www.w3.org/2001/XMLSchema#integer> .
+const TRIPLES: &str =
+    "_:b7_1 <http://www.w3.org/1999/02/22-rdf-syntax-ns#first> \"1\"^^<http://www.w3.org/2001/XMLSchema#integer> .
 _:b7_1 <http://www.w3.org/1999/02/22-rdf-syntax-ns#rest> <http://www.w3.org/1999/02/22-rdf-syntax-ns#nil> .
 _:b7_2 <http://e/v#p> _:b7_3 .
 _:b7_2 <http://e/v#p> _:b7_4 .
@@ -103,11 +104,7 @@ const ROWS: [(&str, bool, &str); 9] = [
     ("a label as an object", false, "<s> <p> _:x ."),
     ("brackets", false, "[] <p> <o> ."),
     ("brackets as an object", false, "<s> <p> [] ."),
-    (
-        "a collection with an object",
-        false,
-        "<s> <p> ( 1 ) .",
-    ),
+    ("a collection with an object", false, "<s> <p> ( 1 ) ."),
     ("a variable", true, "?s <p> <o> ."),
     ("a variable as a verb", true, "<s> ?p <o> ."),
     ("a variable as an object", true, "<s> <p> $o ."),

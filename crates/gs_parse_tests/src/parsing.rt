@@ -51,7 +51,8 @@ fn parsed(alloc: Global, text: &[u8]) -> Result<Parsed, Fail> {
 const TEXT: &str = "@prefix v: <v#> . <s> a v:T ; v:of ( 1 _:x ) , \"b\"@EN .";
 
 /// Its lines, in their order.
-const TRIPLES: &str = "<http://e/s> <http://www.w3.org/1999/02/22-rdf-syntax-ns#type> <http://e/v#T> .
+const TRIPLES: &str =
+    "<http://e/s> <http://www.w3.org/1999/02/22-rdf-syntax-ns#type> <http://e/v#T> .
 _:b7_1 <http://www.w3.org/1999/02/22-rdf-syntax-ns#first> \"1\"^^<http://www.w3.org/2001/XMLSchema#integer> .
 _:b7_2 <http://www.w3.org/1999/02/22-rdf-syntax-ns#first> _:b7_3 .
 _:b7_1 <http://www.w3.org/1999/02/22-rdf-syntax-ns#rest> _:b7_2 .

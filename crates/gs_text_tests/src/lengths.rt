@@ -41,8 +41,14 @@ fn a_label_may_be_longer_than_a_term(rt: HostRuntime) -> Result<(), Fail> {
     let alloc = rt.alloc();
     let text = long_labels(alloc)?;
     let want = "_:b1_1 <a:b> _:b1_2 .\n_:b1_2 <a:b> _:b1_1 .\n";
-    assert_eq!(rt; wrong_size(alloc, Language::Turtle, text.as_str(), want)?, None);
-    assert_eq!(rt; wrong_size(alloc, Language::NTriples, text.as_str(), want)?, None);
+    assert_eq!(rt;
+        wrong_size(alloc, Language::Turtle, text.as_str(), want)?,
+        None
+    );
+    assert_eq!(rt;
+        wrong_size(alloc, Language::NTriples, text.as_str(), want)?,
+        None
+    );
     Ok(())
 }
 

@@ -11,7 +11,8 @@ e:s a e:T.x ; e:p \"a\\u00E9\"@EN, 5.# comment
 ";
 
 /// The lines of the document, in their order.
-const STATED: &str = "<http://e/s> <http://www.w3.org/1999/02/22-rdf-syntax-ns#type> <http://e/T.x> .
+const STATED: &str =
+    "<http://e/s> <http://www.w3.org/1999/02/22-rdf-syntax-ns#type> <http://e/T.x> .
 <http://e/s> <http://e/p> \"a\u{E9}\"@en .
 <http://e/s> <http://e/p> \"5\"^^<http://www.w3.org/2001/XMLSchema#integer> .
 _:b3_1 <http://e/p> \"true\"^^<http://www.w3.org/2001/XMLSchema#boolean> .

@@ -12,14 +12,8 @@ const DOCUMENTS: [(&str, &[&str]); 8] = [
         "# <a> <b> <c> .\r\n\t<s>#one\r<p>\r\n\r\n # two \"\n\t<o#1>\n#<o#2>\n.#three",
         &["<http://e/s> <http://e/p> <http://e/o#1> ."],
     ),
-    (
-        " \t\r\n\n",
-        &[],
-    ),
-    (
-        "#\n  # one\r\n# <a> <b> <c> .\r\t#",
-        &[],
-    ),
+    (" \t\r\n\n", &[]),
+    ("#\n  # one\r\n# <a> <b> <c> .\r\t#", &[]),
     (
         r#"<s> <p> "\t\b\n\r\f\"\'\\" , '\t\b\n\r\f\"\'\\' , """\t\b\n\r\f\"\'\\""" , '''\t\b\n\r\f\"\'\\''' ."#,
         &["<http://e/s> <http://e/p> \"\t\u{8}\\n\\r\u{C}\\\"'\\\\\" ."],

@@ -139,7 +139,9 @@ fn wrong_row(alloc: Global) -> Result<Option<usize>, AllocError> {
 }
 
 #[test]
-fn sixty_four_may_stand_in_one_another_and_one_more_is_a_fault(rt: HostRuntime) -> Result<(), Fail> {
+fn sixty_four_may_stand_in_one_another_and_one_more_is_a_fault(
+    rt: HostRuntime,
+) -> Result<(), Fail> {
     assert_eq!(rt; wrong_row(rt.alloc())?, None);
     Ok(())
 }
