@@ -152,8 +152,8 @@ fn drawn(alloc: Global, state: &mut u64) -> Result<Drawn, AllocError> {
 
 /// Whether both stores leave what must be left.
 fn is_so(alloc: Global, drawn: &Drawn) -> Result<bool, Refusal> {
-    let (graph, removed) = (drawn.graph.as_str(), drawn.removed.as_str());
-    leaves(alloc, graph, removed, drawn.left.as_str())
+    let graph = drawn.graph.as_str();
+    leaves(alloc, graph, drawn.removed.as_str(), drawn.left.as_str())
 }
 
 /// The graph, with a bar after it the patterns, of the first of 300 draws of which a store leaves

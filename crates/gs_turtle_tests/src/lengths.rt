@@ -46,8 +46,8 @@ fn is_so(
     more: usize,
     want: Result<usize, Refusal>,
 ) -> Result<bool, AllocError> {
-    let (front, unit, count, end) = *row;
-    let text = repeated(alloc, front, unit, count.saturating_add(more), end)?;
+    let count = row.2.saturating_add(more);
+    let text = repeated(alloc, row.0, row.1, count, row.3)?;
     Ok(wrong_count(alloc, &LENGTHS, text.as_str(), want).is_none())
 }
 
@@ -129,8 +129,8 @@ _:b3_3 <http://e/p> _:b3_1 .
 #[test]
 fn a_long_document_keeps_its_labels(rt: HostRuntime) -> Result<(), Fail> {
     let alloc = rt.alloc();
-    let (front, unit, end) = ("_:x <p> 0 .", "_:x <p> _:y . ", "_:z <p> _:x .");
-    let text = repeated(alloc, front, unit, 2_000, end)?;
+    let front = "_:x <p> 0 .";
+    let text = repeated(alloc, front, "_:x <p> _:y . ", 2_000, "_:z <p> _:x .")?;
     let whole = [usize::MAX];
     assert_eq!(rt; wrong_count(alloc, &whole, text.as_str(), Ok(2_002)), None);
     let graph = graph_of(alloc, "http://e/", text.as_bytes(), usize::MAX)?;
