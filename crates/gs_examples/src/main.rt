@@ -3,17 +3,7 @@
 #![tactic(auto)]
 
 mod cases;
-#[cfg(test)]
-mod cuts;
-#[cfg(test)]
-mod depths;
-#[cfg(test)]
-mod faults;
-#[cfg(test)]
-mod lengths;
 mod readings;
-#[cfg(test)]
-mod refusals;
 
 use crate::cases::{Case, Expected};
 use crate::readings::lines_as_read;

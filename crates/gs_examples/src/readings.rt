@@ -21,7 +21,7 @@ fn feed(
 }
 
 /// Reads a document of request 1 under a base, in pieces of so many bytes.
-pub fn read(
+fn read(
     alloc: Global,
     base: &str,
     text: &[u8],
@@ -36,7 +36,7 @@ pub fn read(
 }
 
 /// The canonical lines of triples without their line feeds, sorted, each once.
-pub fn lines_of(alloc: Global, triples: &[Triple]) -> Result<Vec<Vec<u8>>, Refusal> {
+fn lines_of(alloc: Global, triples: &[Triple]) -> Result<Vec<Vec<u8>>, Refusal> {
     let mut lines = Vec::new(alloc);
     for triple in triples {
         let mut bytes = Vec::new(alloc);

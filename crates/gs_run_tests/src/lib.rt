@@ -4,6 +4,8 @@
 #[cfg(test)]
 mod draws;
 #[cfg(test)]
+mod limits;
+#[cfg(test)]
 mod notation;
 #[cfg(test)]
 mod patches;

@@ -1,8 +1,8 @@
-//! Worked schedules for tests, and the run of a schedule, kept.
+//! Worked schedules for tests, and whether the run of a schedule prints what it must.
 #![tactic(auto)]
 
 mod replays;
 mod rows;
 
-pub use replays::{Played, replay};
+pub use replays::{Stop, prints, unstopped_line, wrong_row};
 pub use rows::{ROWS, Row};

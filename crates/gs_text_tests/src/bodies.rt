@@ -3,6 +3,7 @@ use gs_body::BodyReader;
 use gs_iri::is_absolute;
 use gs_model::Refusal;
 use gs_ntread::NTriplesReader;
+use gs_ntwrite::line;
 use gs_term::Triple;
 use gs_turtle::TurtleReader;
 use std::alloc::Global;
@@ -13,8 +14,6 @@ pub enum Language {
     NTriples,
     Turtle,
 }
-
-pub const LANGUAGES: [Language; 2] = [Language::Turtle, Language::NTriples];
 
 /// The lengths of pieces in bytes; the first is whole.
 pub const SIZES: [usize; 4] = [usize::MAX, 1, 2, 3];
@@ -54,4 +53,25 @@ pub fn read(
             feed(&mut reader, text, size, triples)
         }
     }
+}
+
+/// The lines of triples, one after another.
+pub fn lines_of(alloc: Global, triples: &[Triple]) -> Result<Vec<u8>, Refusal> {
+    let mut lines = Vec::new(alloc);
+    for triple in triples {
+        line(triple, &mut lines)?;
+    }
+    Ok(lines)
+}
+
+/// The lines of a text's triples, or its fault.
+pub fn lines_as_read(
+    alloc: Global,
+    language: Language,
+    text: &[u8],
+    size: usize,
+) -> Result<Vec<u8>, Refusal> {
+    let mut triples = Vec::new(alloc);
+    read(alloc, language, text, size, &mut triples)?;
+    lines_of(alloc, triples.as_slice())
 }

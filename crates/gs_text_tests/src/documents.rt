@@ -1,14 +1,11 @@
 //! Documents of N-Triples: the reader in pieces says what the plain reader says of the whole text.
-ghost use Rattle.std.specs.Prelude.{◌<◌};
-
+use crate::bodies::{SIZES, lines_of};
 use crate::plain::{Meaning, meaning_of};
 use gs_body::BodyReader;
 use gs_model::Refusal;
 use gs_ntread::NTriplesReader;
-use gs_ntwrite::line;
 use gs_term::Triple;
 use std::alloc::{AllocError, Global};
-use std::process::Abort;
 use std::test::Fail;
 
 /// Documents and texts that are none.
@@ -64,82 +61,58 @@ const DOCUMENTS: [&str; 44] = [
 const WHOLE: &str =
     "_:a <c:d> \"\\u00e9\\n\"@en-GB .#x\n<a:b><c:d>_:a.b.\n<a:b> <c:d> \"\"^^<e:f>.";
 
-fn lines_of(alloc: Global, triples: &[Triple]) -> Result<Vec<String>, Fail> {
-    let mut lines = Vec::new(alloc);
-    for triple in triples {
-        let mut bytes = Vec::new(alloc);
-        line(triple, &mut bytes)?;
-        lines.push(String::from_str(alloc, str::from_utf8(bytes.as_slice())?)?)?;
-    }
-    Ok(lines)
-}
-
-/// Feeds a document in pieces of so many bytes.
+/// Feeds a document in pieces of so many bytes, at least 1.
 fn feed_pieces(
     reader: &mut NTriplesReader,
     document: &str,
     size: usize,
     triples: &mut Vec<Triple>,
-) -> Result<(), Refusal>
-    requires { 0 < size }
-{
-    for piece in document.as_bytes().chunks(size) {
+) -> Result<(), Refusal> {
+    for piece in document.as_bytes().chunks(size.max(1)) {
         reader.feed(piece, triples)?;
     }
     reader.finish(triples)
 }
 
-/// What the reader in pieces says.
-fn read(alloc: Global, document: &str, size: usize) -> Result<Meaning, Fail>
-    requires { 0 < size }
-{
+/// Whether the reader in pieces says this of a document. Of a text with a fault that is where the
+/// fault is.
+fn agrees(alloc: Global, document: &str, size: usize, want: &Meaning) -> Result<bool, Refusal> {
     let mut reader = NTriplesReader::new(alloc, 1);
     let mut triples = Vec::new(alloc);
-    let fault = match feed_pieces(&mut reader, document, size, &mut triples) {
-        Ok(()) => None,
-        Err(Refusal::Syntax(at)) => Some(at),
-        Err(refusal) => return Err(refusal.into()),
-    };
-    let lines = lines_of(alloc, triples.as_slice())?;
-    Ok(Meaning { lines, fault })
-}
-
-/// Asserts that both readers say the same of a document, whatever the pieces. Of a text with a
-/// fault that is where the fault is.
-fn expect(rt: &impl Abort, alloc: Global, document: &str) -> Result<(), Fail> {
-    let want = meaning_of(alloc, document)?;
-    expect_pieces(rt, alloc, document, 1, &want)?;
-    expect_pieces(rt, alloc, document, 2, &want)?;
-    expect_pieces(rt, alloc, document, 3, &want)?;
-    expect_pieces(rt, alloc, document, 1000, &want)
-}
-
-fn expect_pieces(
-    rt: &impl Abort,
-    alloc: Global,
-    document: &str,
-    size: usize,
-    want: &Meaning,
-) -> Result<(), Fail>
-    requires { 0 < size }
-{
-    let got = read(alloc, document, size)?;
-    assert_eq!(rt; got.fault, want.fault, "at {document}");
-    if want.fault.is_none() {
-        assert_eq!(rt;
-            got.lines.as_slice(),
-            want.lines.as_slice(),
-            "at {document}"
-        );
+    let told = feed_pieces(&mut reader, document, size, &mut triples);
+    if let Some(at) = want.fault {
+        return Ok(told == Err(Refusal::Syntax(at)));
     }
-    Ok(())
+    told?;
+    let lines = lines_of(alloc, triples.as_slice())?;
+    Ok(lines.as_slice() == want.lines.as_bytes())
+}
+
+/// The first length of pieces in which the reader does not say of a document what the plain reader
+/// says.
+fn wrong_size(alloc: Global, document: &str) -> Result<Option<usize>, Refusal> {
+    let want = meaning_of(alloc, document)?;
+    for size in &SIZES {
+        if !agrees(alloc, document, *size, &want)? {
+            return Ok(Some(*size));
+        }
+    }
+    Ok(None)
+}
+
+/// The first document that is wrong in pieces of some length.
+fn wrong_document(alloc: Global) -> Result<Option<&'static str>, Refusal> {
+    for document in &DOCUMENTS {
+        if wrong_size(alloc, document)?.is_some() {
+            return Ok(Some(document));
+        }
+    }
+    Ok(None)
 }
 
 #[test]
 fn both_readers_say_the_same(rt: HostRuntime) -> Result<(), Fail> {
-    for document in DOCUMENTS {
-        expect(&rt, rt.alloc(), document)?;
-    }
+    assert_eq!(rt; wrong_document(rt.alloc())?, None);
     Ok(())
 }
 
@@ -154,14 +127,28 @@ fn without(alloc: Global, text: &str, left_out: usize) -> Result<String, AllocEr
     Ok(rest)
 }
 
-#[test]
-fn both_readers_say_the_same_of_damaged_documents(rt: HostRuntime) -> Result<(), Fail> {
-    let alloc = rt.alloc();
+/// Whether both readers say the same of the text without its character of this number.
+fn are_same_without(alloc: Global, left_out: usize) -> Result<bool, Refusal> {
+    let rest = without(alloc, WHOLE, left_out)?;
+    Ok(wrong_size(alloc, rest.as_str())?.is_none())
+}
+
+/// The number of the first character without which the text is wrong, or before which it is wrong
+/// as it ends.
+fn wrong_damage(alloc: Global) -> Result<Option<usize>, Refusal> {
     let mut front = String::new(alloc);
     for (i, c) in WHOLE.chars().enumerate() {
-        expect(&rt, alloc, front.as_str())?;
-        expect(&rt, alloc, without(alloc, WHOLE, i)?.as_str())?;
+        if !are_same_without(alloc, i)? || wrong_size(alloc, front.as_str())?.is_some() {
+            return Ok(Some(i));
+        }
         front.push(c)?;
     }
-    expect(&rt, alloc, WHOLE)
+    Ok(None)
+}
+
+#[test]
+fn both_readers_say_the_same_of_damaged_documents(rt: HostRuntime) -> Result<(), Fail> {
+    assert_eq!(rt; wrong_damage(rt.alloc())?, None);
+    assert_eq!(rt; wrong_size(rt.alloc(), WHOLE)?, None);
+    Ok(())
 }

@@ -11,11 +11,11 @@ struct Text {
     at: usize,
 }
 
-/// What a document says: its lines in the order of its statements, and the number of bytes before
-/// its first fault, if it has one.
+/// What a document says: its lines in the order of its statements, each with its line feed, and the
+/// number of bytes before its first fault, if it has one.
 #[derive(Drop)]
 pub struct Meaning {
-    pub lines: Vec<String>,
+    pub lines: String,
     pub fault: Option<u64>,
 }
 
@@ -304,7 +304,7 @@ pub fn meaning_of(alloc: Global, document: &str) -> Result<Meaning, AllocError> 
     }
     let mut text = Text { chars, at: 0 };
     let mut labels = Vec::new(alloc);
-    let mut lines = Vec::new(alloc);
+    let mut lines = String::new(alloc);
     let mut last = 0u64;
     for _ in 0..text.chars.len() {
         text.blanks();
@@ -321,7 +321,7 @@ pub fn meaning_of(alloc: Global, document: &str) -> Result<Meaning, AllocError> 
                 fault: Some(last),
             });
         };
-        lines.push(line)?;
+        lines.push_str(line.as_str())?;
         last = text.place();
         text.blanks();
         text.comment();

@@ -4,8 +4,6 @@
 mod laws;
 mod portions;
 mod readers;
-#[cfg(test)]
-mod tests;
 
 pub use laws::{body_is_read, faulty_body_is_read};
 pub use readers::TurtleReader;

@@ -1,8 +1,7 @@
 //! Brackets and collections within one another, up to the most that may be.
-use crate::readings::read;
+use crate::readings::{SIZES, wrong_count};
 use gs_model::Refusal;
 use std::alloc::{AllocError, Global};
-use std::process::Abort;
 use std::test::Fail;
 
 /// What is repeated around a text's core: its front, what opens, the core, what closes, and its
@@ -29,22 +28,6 @@ fn text_of(alloc: Global, row: &Nested, depth: usize) -> Result<String, AllocErr
     }
     text.push_str(row.end)?;
     Ok(text)
-}
-
-/// Asserts how many triples a text has, or its fault.
-fn expect_count(
-    rt: &impl Abort,
-    alloc: Global,
-    text: &str,
-    want: Result<usize, Refusal>,
-) -> Result<(), Fail> {
-    for size in [usize::MAX, 1, 2, 3] {
-        let mut triples = Vec::new(alloc);
-        let told = read(alloc, "http://e/", text.as_bytes(), size, &mut triples);
-        let got = told.map(|()| triples.len());
-        assert_eq!(rt; got, want, "at {text}, {size}");
-    }
-    Ok(())
 }
 
 const ROWS: [Nested; 9] = [
@@ -131,22 +114,34 @@ const ROWS: [Nested; 9] = [
     },
 ];
 
-#[test]
-fn sixty_four_may_stand_in_one_another(rt: HostRuntime) -> Result<(), Fail> {
-    let alloc = rt.alloc();
-    for row in ROWS.as_slice() {
-        let text = text_of(alloc, row, row.most)?;
-        expect_count(&rt, alloc, text.as_str(), Ok(row.triples))?;
+/// Whether the text with so many repetitions has so many triples, or its fault.
+fn is_so(
+    alloc: Global,
+    row: &Nested,
+    depth: usize,
+    want: Result<usize, Refusal>,
+) -> Result<bool, AllocError> {
+    let text = text_of(alloc, row, depth)?;
+    Ok(wrong_count(alloc, &SIZES, text.as_str(), want).is_none())
+}
+
+/// The number of the first row that does not have its triples at the most repetitions, or with one
+/// more its fault.
+fn wrong_row(alloc: Global) -> Result<Option<usize>, AllocError> {
+    for (i, row) in ROWS.iter().enumerate() {
+        let deeper = row.most.saturating_add(1);
+        let has_triples = is_so(alloc, row, row.most, Ok(row.triples))?;
+        if !has_triples || !is_so(alloc, row, deeper, Err(Refusal::Syntax(0)))? {
+            return Ok(Some(i));
+        }
     }
-    Ok(())
+    Ok(None)
 }
 
 #[test]
-fn one_more_is_a_fault(rt: HostRuntime) -> Result<(), Fail> {
-    let alloc = rt.alloc();
-    for row in ROWS.as_slice() {
-        let text = text_of(alloc, row, row.most.saturating_add(1))?;
-        expect_count(&rt, alloc, text.as_str(), Err(Refusal::Syntax(0)))?;
-    }
+fn sixty_four_may_stand_in_one_another_and_one_more_is_a_fault(
+    rt: HostRuntime,
+) -> Result<(), Fail> {
+    assert_eq!(rt; wrong_row(rt.alloc())?, None);
     Ok(())
 }

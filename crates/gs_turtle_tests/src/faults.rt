@@ -1,0 +1,59 @@
+//! Texts with a fault, and what a refused call leaves.
+use crate::readings::{SIZES, fault_of, reader};
+use gs_body::BodyReader;
+use gs_model::Refusal;
+use std::alloc::Global;
+use std::test::Fail;
+
+/// Texts with a fault.
+const FAULTS: [(&str, Refusal); 11] = [
+    ("<s> <p> <o> . <s> <p> .", Refusal::Syntax(13)),
+    ("<s> <p> <o> . <s> <p> ~", Refusal::Syntax(13)),
+    ("<s> <p> <o> . <s> <p> <o>", Refusal::Syntax(13)),
+    ("<s> <p> <o> . e:s ~ <o>", Refusal::Syntax(13)),
+    ("<s> <p> <o> . <s> . ~", Refusal::Syntax(13)),
+    ("<s> <p> \"", Refusal::Syntax(0)),
+    ("@prefix p: <d/> . p:s ~ <o>", Refusal::Syntax(17)),
+    ("<s> <p> <o> . BASE <d/> <s> .", Refusal::Syntax(23)),
+    // A byte order mark is a character that may begin a prefix; before anything else it is a word
+    // that the grammar does not have.
+    ("\u{FEFF}<s> <p> <o> .", Refusal::Syntax(0)),
+    ("\u{FEFF}@prefix e: <d/> .", Refusal::Syntax(0)),
+    ("\u{FEFF}e:s <p> <o> .", Refusal::Syntax(0)),
+];
+
+/// The first of these texts that does not have its fault, in pieces of so many bytes.
+fn wrong_fault(alloc: Global, size: usize) -> Option<&'static str> {
+    for (text, fault) in &FAULTS {
+        if fault_of(alloc, "http://b/", text.as_bytes(), size) != Some(*fault) {
+            return Some(text);
+        }
+    }
+    None
+}
+
+#[test]
+fn the_first_fault_of_a_text_is_reported(rt: HostRuntime) {
+    for size in &SIZES {
+        assert_eq!(rt; wrong_fault(rt.alloc(), *size), None);
+    }
+}
+
+/// Whether a fault in the second piece is reported, leaves the list, and closes the reader.
+fn fault_leaves(alloc: Global) -> Result<bool, Refusal> {
+    let mut reader = reader(alloc, "http://b/")?;
+    let mut triples = Vec::new(alloc);
+    reader.feed(b"<s> <p> <o> .\n", &mut triples)?;
+    let before = triples.len();
+    let fed = reader.feed(b"<s> <p> <n> . <s> .\n", &mut triples);
+    let after = triples.len();
+    let ended = reader.finish(&mut triples);
+    let is_told = fed == Err(Refusal::Syntax(27)) && ended == Err(Refusal::Closed);
+    Ok(is_told && before == 1 && after == 1 && triples.len() == 1)
+}
+
+#[test]
+fn a_refused_call_leaves_the_list(rt: HostRuntime) -> Result<(), Fail> {
+    assert!(rt; fault_leaves(rt.alloc())?);
+    Ok(())
+}

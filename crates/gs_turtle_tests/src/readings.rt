@@ -1,0 +1,100 @@
+//! A text read in pieces of any size. These functions have no contract, so that the proof of a test that calls them has
+//! little to carry.
+use gs_body::BodyReader;
+use gs_iri::is_absolute;
+use gs_model::Refusal;
+use gs_ntwrite::line;
+use gs_term::Triple;
+use gs_turtle::TurtleReader;
+use std::alloc::Global;
+
+/// The lengths of pieces in bytes; the last is whole.
+pub const SIZES: [usize; 4] = [1, 2, 3, usize::MAX];
+
+/// A reader under a base in request 3.
+pub fn reader(alloc: Global, base: &str) -> Result<TurtleReader, Refusal> {
+    if !is_absolute(base) {
+        return Err(Refusal::Syntax(0));
+    }
+    Ok(TurtleReader::new(alloc, 3, base)?)
+}
+
+/// Feeds a text in pieces of so many bytes, at least 1, and ends it.
+fn feed(
+    reader: &mut TurtleReader,
+    text: &[u8],
+    size: usize,
+    triples: &mut Vec<Triple>,
+) -> Result<(), Refusal> {
+    for piece in text.chunks(size.max(1)) {
+        reader.feed(piece, triples)?;
+    }
+    reader.finish(triples)
+}
+
+/// The triples of a text, in the order in which they are given.
+fn read(alloc: Global, base: &str, text: &[u8], size: usize) -> Result<Vec<Triple>, Refusal> {
+    let mut reader = reader(alloc, base)?;
+    let mut triples = Vec::new(alloc);
+    feed(&mut reader, text, size, &mut triples)?;
+    Ok(triples)
+}
+
+/// How many they are.
+pub fn count_of(alloc: Global, base: &str, text: &[u8], size: usize) -> Result<usize, Refusal> {
+    Ok(read(alloc, base, text, size)?.len())
+}
+
+/// Their lines, each with its line feed, in their order.
+pub fn lines_of(alloc: Global, base: &str, text: &[u8], size: usize) -> Result<Vec<u8>, Refusal> {
+    let triples = read(alloc, base, text, size)?;
+    let mut lines = Vec::new(alloc);
+    for triple in &triples {
+        line(triple, &mut lines)?;
+    }
+    Ok(lines)
+}
+
+/// The line of each triple.
+fn each_line(alloc: Global, triples: &[Triple]) -> Result<Vec<Vec<u8>>, Refusal> {
+    let mut lines = Vec::new(alloc);
+    for triple in triples {
+        let mut bytes = Vec::new(alloc);
+        line(triple, &mut bytes)?;
+        lines.push(bytes)?;
+    }
+    Ok(lines)
+}
+
+/// The lines of a text's graph, each with its line feed, in the order of their bytes.
+pub fn graph_of(alloc: Global, base: &str, text: &[u8], size: usize) -> Result<Vec<u8>, Refusal> {
+    let triples = read(alloc, base, text, size)?;
+    let mut lines = each_line(alloc, triples.as_slice())?;
+    lines.sort_unstable();
+    lines.dedup();
+    let mut graph = Vec::new(alloc);
+    for line in &lines {
+        graph.extend_from_slice(line.as_slice())?;
+    }
+    Ok(graph)
+}
+
+/// The fault of a text.
+pub fn fault_of(alloc: Global, base: &str, text: &[u8], size: usize) -> Option<Refusal> {
+    count_of(alloc, base, text, size).err()
+}
+
+/// The first of these lengths of pieces in which a text does not have so many triples, or its fault.
+pub fn wrong_count(
+    alloc: Global,
+    sizes: &[usize],
+    text: &str,
+    want: Result<usize, Refusal>,
+) -> Option<usize> {
+    for size in sizes {
+        if count_of(alloc, "http://e/", text.as_bytes(), *size) != want {
+            return Some(*size);
+        }
+    }
+    None
+}
