@@ -1,19 +1,21 @@
 """Compares the table of gs_update_examples with a plain reader of updates, written apart, and then the program with that
 reader, on each text of the table ended after each of its bytes. Prints what does not agree, and ends with status 1 if
-anything is wrong. Its argument is the built program; without one only the table is compared."""
+anything is wrong. Its argument is the built program, or `try` for `rt try`; without one only the table is compared."""
 
 import os
 import re
 import subprocess
 import sys
+import tempfile
 
 import update_oracle
 
 HERE = os.path.dirname(os.path.abspath(__file__))
 CRATE = os.path.join(HERE, "..", "crates", "gs_update_examples")
 FORMS = ("insert", "delete", "where")
-# longer texts are ended at fewer places
+# longer texts are ended only near their ends and where the reader begins a portion, and not at all under `rt try`
 SHORT = 400
+PORTION = 4_096
 CASES_A_RUN = 2_000
 
 
@@ -30,12 +32,14 @@ def expanded(text):
 
 
 def shown(data):
-    """A text of the table that stands for these bytes."""
-    text = ""
-    for it in data.decode("utf-8", "surrogateescape"):
-        is_plain = it.isprintable() and it not in "«»‹›"
-        text += it if is_plain else "".join(f"‹{byte:02X}›" for byte in it.encode("utf-8", "surrogateescape"))
-    return text
+    """A text of the table that stands for these bytes: long runs as repeats, and bytes that a line cannot show."""
+    text = data.decode("utf-8", "surrogateescape")
+    text = re.sub("[«»‹›\\x00-\\x1f\\x7f-\\xa0\\u2028\\u2029\\udc80-\\udcff]", hidden, text)
+    return re.sub(r"(‹..›|[^«»‹›*])\1{99,}", lambda it: f"«{it[1]}*{len(it[0]) // len(it[1])}»", text)
+
+
+def hidden(it):
+    return "".join(f"‹{byte:02X}›" for byte in it[0].encode("utf-8", "surrogateescape"))
 
 
 def taken(case, line):
@@ -77,13 +81,14 @@ def settled(operations):
 def agrees(found, wanted):
     if found[0] != "update" or wanted[0] != "update":
         return found == wanted
-    if len(found[1]) != len(wanted[1]):
-        return False
-    counted = zip(settled(found[1]), wanted[1])
-    return all(
-        one[0] == other[0] and (len(one[1]) if isinstance(other[1], int) else one[1]) == (other[1] if isinstance(other[1], int) else sorted(other[1]))
-        for one, other in counted
-    )
+    return len(found[1]) == len(wanted[1]) and all(map(is_as_wanted, settled(found[1]), wanted[1]))
+
+
+def is_as_wanted(found, wanted):
+    """Whether an operation has the form and the lines that are wanted, or as many lines."""
+    if isinstance(wanted[1], int):
+        return found[0] == wanted[0] and len(found[1]) == wanted[1]
+    return found == (wanted[0], sorted(wanted[1]))
 
 
 def lines_of(name, base, data, outcome):
@@ -100,16 +105,67 @@ def ends(data):
     """The lengths at which a text is ended."""
     if len(data) <= SHORT:
         return range(len(data))
-    near = range(4_096 - 3, len(data), 4_096)
-    return sorted({*range(150), *range(len(data) - 100, len(data)), *(it + more for it in near for more in range(6) if it + more < len(data))})
+    near = {at + more for at in (PORTION, 2 * PORTION) for more in (-1, 0, 1)}
+    return sorted(it for it in {*range(len(data) - 12, len(data)), *near} if it < len(data))
 
 
-def ask(program, batch):
-    """What the program says of the cases of a batch."""
-    text = "".join(line + "\n" for lines in batch for line in lines)
-    done = subprocess.run([program], input=text.encode("utf-8"), capture_output=True, check=True)
-    said = done.stdout.decode("utf-8").splitlines()
-    return said[:-1], said[-1]
+def batches(table):
+    """Each text ended at each place, with what the plain reader says of it, so many cases in each batch."""
+    batch, count = [], 0
+    for _, base, data, _ in table:
+        for length in [*ends(data), len(data)]:
+            piece = data[:length]
+            batch.append(lines_of(f"{count}", base, piece, update_oracle.read(piece, base)))
+            count += 1
+            if len(batch) >= CASES_A_RUN or length > SHORT:
+                yield batch
+                batch = []
+    if batch:
+        yield batch
+
+
+def written(batch):
+    return "".join(line + "\n" for lines in batch for line in lines).encode("utf-8")
+
+
+def outputs_of(program, inputs):
+    """What a built program writes for each input."""
+    return [subprocess.run([program], input=it, capture_output=True, check=True).stdout for it in inputs]
+
+
+def outputs_of_try(inputs):
+    """What the program writes for each input as `rt try` runs it."""
+    with tempfile.TemporaryDirectory() as room:
+        for at, it in enumerate(inputs):
+            with open(os.path.join(room, f"{at:06}"), "wb") as file:
+                file.write(it)
+        command = ["rt", "try", "--seconds", "600", "--cases", room]
+        done = subprocess.run(command, cwd=CRATE, capture_output=True, check=False)
+    found = re.split(rb"(?m)^== [0-9]{6}\n", done.stdout)[1:]
+    if len(found) != len(inputs):
+        sys.exit(done.stdout.decode("utf-8") + done.stderr.decode("utf-8"))
+    return found
+
+
+def compare_cuts(program, table):
+    """Ends each text at each place, and compares the program with the plain reader."""
+    is_short = lambda case: program != "try" or len(case[2]) <= SHORT
+    parts = list(batches(filter(is_short, table)))
+    inputs = [written(it) for it in parts]
+    outputs = outputs_of_try(inputs) if program == "try" else outputs_of(os.path.abspath(program), inputs)
+    wrong = count = 0
+    for batch, output in zip(parts, outputs):
+        said = re.findall("(?m)^([0-9]+): not so$", output.decode("utf-8"))
+        ended = re.search("(?m)^([0-9]+) updates, ([0-9]+) texts that are none$", output.decode("utf-8"))
+        if not ended or int(ended[1]) + int(ended[2]) != len(batch):
+            sys.exit(f"the program wrote {output[:400]}")
+        count += len(batch)
+        wrong += len(said)
+        for lines in batch:
+            if lines[0][2:] in said:
+                print("not so: " + " / ".join(it[:200] for it in lines))
+    print(f"{count} texts cut short or whole, {wrong} on which the program does not agree")
+    return wrong
 
 
 def main():
@@ -125,30 +181,8 @@ def main():
             print(f"{name[:200]}: the table wants {str(wanted)[:400]}, the plain reader finds {str(found)[:400]}")
     print(f"{len(table)} texts of the table, {wrong} on which the plain reader does not agree")
     if len(sys.argv) > 1:
-        wrong += compare_cuts(os.path.abspath(sys.argv[1]), table)
+        wrong += compare_cuts(sys.argv[1], table)
     sys.exit(1 if wrong else 0)
-
-
-def compare_cuts(program, table):
-    """Ends each text at each place, and compares the program with the plain reader."""
-    batch, count, wrong, size = [], 0, 0, 0
-    for name, base, data, _ in [*table, ("", "", b"", None)]:
-        lengths = [*ends(data), len(data)] if base else []
-        for length in lengths:
-            piece = data[:length]
-            lines = lines_of(f"{count}", base, piece, update_oracle.read(piece, base))
-            batch.append(lines)
-            count += 1
-            size += sum(map(len, lines))
-        if batch and (not base or len(batch) >= CASES_A_RUN or size > 10_000_000):
-            said, last = ask(program, batch)
-            wrong += len(said)
-            for line in said:
-                lines = next((it for it in batch if f"= {line.removesuffix(': not so')}" == it[0]), [line])
-                print("not so: " + " / ".join(it[:200] for it in lines))
-            batch, size = [], 0
-    print(f"{count} texts cut short or whole, {wrong} on which the program does not agree")
-    return wrong
 
 
 if __name__ == "__main__":
