@@ -16,7 +16,7 @@ FORMS = ("insert", "delete", "where")
 # longer texts are ended only near their ends and where the reader begins a portion, and not at all under `rt try`
 SHORT = 400
 PORTION = 4_096
-CASES_A_RUN = 2_000
+CASES_A_RUN = 600
 
 
 class Case:
@@ -111,10 +111,14 @@ def ends(data):
 
 def batches(table):
     """Each text ended at each place, with what the plain reader says of it, so many cases in each batch."""
-    batch, count = [], 0
+    batch, count, known = [], 0, set()
     for _, base, data, _ in table:
         for length in [*ends(data), len(data)]:
             piece = data[:length]
+            if (base, piece) in known:
+                continue
+            if length <= SHORT:
+                known.add((base, piece))
             batch.append(lines_of(f"{count}", base, piece, update_oracle.read(piece, base)))
             count += 1
             if len(batch) >= CASES_A_RUN or length > SHORT:
@@ -139,7 +143,7 @@ def outputs_of_try(inputs):
         for at, it in enumerate(inputs):
             with open(os.path.join(room, f"{at:06}"), "wb") as file:
                 file.write(it)
-        command = ["rt", "try", "--seconds", "600", "--cases", room]
+        command = ["rt", "try", "--seconds", "900", "--cases", room]
         done = subprocess.run(command, cwd=CRATE, capture_output=True, check=False)
     found = re.split(rb"(?m)^== [0-9]{6}\n", done.stdout)[1:]
     if len(found) != len(inputs):
