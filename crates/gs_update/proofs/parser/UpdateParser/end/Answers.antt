@@ -7,25 +7,25 @@ use Rattle.gs_update.specs.Views.{state_at}
 use Rattle.gs_update.specs.declared.places.Place.{Place}
 use Rattle.gs_update.proofs.parser.UpdateParser.end.Goals as goal
 
-pub returns-in-Inserting : goal.returns-in-Inserting
+pub returns-in_ok-end-in-Inserting : goal.returns-in_ok-end-in-Inserting
 unfolding ended
-returns-in-Inserting c = record {
-  said = ap Some (c.in_ok-end.ensures (λ P. Some (Inserts P))) ∙ ap (λ (p : Place). ended (state_at p)) (sym c.in-Inserting.is);
+returns-in_ok-end-in-Inserting c = record {
+  said = ap Some (c.in_ok-end-in-Inserting.ensures (λ P. Some (Inserts P))) ∙ ap (λ (p : Place). ended (state_at p)) (sym c.in-Inserting.is);
   operations = refl;
   last = refl;
 }
 
-pub returns-in-Deleting : goal.returns-in-Deleting
+pub returns-in_ok-end-in-Deleting : goal.returns-in_ok-end-in-Deleting
 unfolding ended
-returns-in-Deleting c = record {
+returns-in_ok-end-in-Deleting c = record {
   said = ap Some (c.in_ok-end-in-Deleting.ensures (λ P. Some (DeletesData P))) ∙ ap (λ (p : Place). ended (state_at p)) (sym c.in-Deleting.is);
   operations = refl;
   last = refl;
 }
 
-pub returns-in-Seeking : goal.returns-in-Seeking
+pub returns-in_ok-end-in-Seeking : goal.returns-in_ok-end-in-Seeking
 unfolding ended
-returns-in-Seeking c = record {
+returns-in_ok-end-in-Seeking c = record {
   said = ap Some (c.in_ok-end-in-Seeking.ensures some_patterns) ∙ ap (λ (p : Place). ended (state_at p)) (sym c.in-Seeking.is);
   operations = refl;
   last = refl;
