@@ -17,7 +17,7 @@ use Rattle.gs_upload.specs.declared.languages.Language.{Language}
 use Rattle.gs_feeding.specs.declared.openings.Opening.{Opening}
 use Rattle.gs_drill.specs.declared.uploads.Uploads.{Uploads}
 use Rattle.gs_drill.specs.Printing.{answer_text, fed_text}
-use Rattle.gs_drill.specs.Feeds.{Desk, Answers, Stages, FeedsUpload, FeedsSeat, RefusesFeed, DoesFeed, with_fed, feed_text}
+use Rattle.gs_drill.specs.Feeds.{Desk, Answers, Stages, FeedsUpload, FeedsSeat, RefusesText, DoesFeed, with_fed, feed_text}
 use Rattle.gs_drill.specs.Commits.{Commits, CommitsBy, Completes, CommitsStaged}
 use Rattle.gs_drill.specs.Standing.{AreFed, Standing, FeedsAt, desk_of, opening_of}
 use Rattle.gs_feeding.specs.Receiving.{Fed, Closes}
@@ -65,11 +65,11 @@ refusal_text a other = refl
 
 -- the rows of a feed by what opened the upload of the seat
 abbrev pub FeedsRow : Option (Option Opening) → ℕ → Desk → ℕ → Language → List ℕ → List ℕ → Desk → Type 0
-FeedsRow None n d s l y text e = RefusesFeed BadSeat d text e
-FeedsRow (Some None) n d s l y text e = RefusesFeed WrongPhase d text e
+FeedsRow None n d s l y text e = RefusesText BadSeat d text e
+FeedsRow (Some None) n d s l y text e = RefusesText WrongPhase d text e
 FeedsRow (Some (Some o)) n d s l y text e = FeedsUpload n (first_context l o) d s y text e
 
-by_phase : (q : Option SeatView) (n : ℕ) (d : Desk) (s : ℕ) (l : Language) (y text : List ℕ) (e : Desk) → FeedsRow (option_map opening_of q) n d s l y text e → MatchOption q (RefusesFeed BadSeat d text e) (λ p. FeedsSeat p n d s l y text e)
+by_phase : (q : Option SeatView) (n : ℕ) (d : Desk) (s : ℕ) (l : Language) (y text : List ℕ) (e : Desk) → FeedsRow (option_map opening_of q) n d s l y text e → MatchOption q (RefusesText BadSeat d text e) (λ p. FeedsSeat p n d s l y text e)
 by_phase None n d s l y text e h = h
 by_phase (Some Idle) n d s l y text e h = h
 by_phase (Some (Writing k r g)) n d s l y text e h = h
