@@ -1,5 +1,5 @@
 -- Where a reader of updates stands in a text, and what its steps do.
-use Rattle.std.specs.Prelude.{◌≡◌, ℕ, true, List, ◌++◌}
+use Rattle.std.specs.Prelude.{◌≡◌, ℕ, true, List, [], ◌++◌}
 use Rattle.gs_model.specs.declared.refusals.Refusal.{Refusal}
 use Rattle.gs_machine.specs.Machines.{steps}
 use Rattle.gs_blank.specs.Numbers.{no_numbers}
@@ -49,3 +49,11 @@ Finishes old new = (b : List ℕ) (r : ℕ) (x : List ℕ) → LeadsTo b r old x
 -- the text ends and has this fault
 abbrev pub IsRefusedAtEnd : UpdateReader → Refusal → Type 0
 IsRefusedAtEnd old e = (b : List ℕ) (r : ℕ) (x : List ℕ) → LeadsTo b r old x → Refuses e (request_by b r x)
+
+-- all of a text was read from its start, and these are its operations
+abbrev pub Reads : UpdateReader → UpdateReader → List ℕ → Type 0
+Reads old new x = (b : List ℕ) (r : ℕ) → LeadsTo b r old [] → AreOperationsOf new.parser.operations.items (request_by b r x)
+
+-- or it has this fault
+abbrev pub IsRefusedWhole : UpdateReader → List ℕ → Refusal → Type 0
+IsRefusedWhole old x e = (b : List ℕ) (r : ℕ) → LeadsTo b r old [] → Refuses e (request_by b r x)

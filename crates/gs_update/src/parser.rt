@@ -165,4 +165,11 @@ impl UpdateParser {
             _ => Ok(Some(Rejection::Broken(Fault::Syntax))),
         }
     }
+    /// The operations.
+    pub fn into_operations(self) -> Vec<Op>
+        ensures { result ≡ self.operations }
+    {
+        let UpdateParser { operations, .. } = self;
+        operations
+    }
 }

@@ -25,7 +25,7 @@ pub struct UpdateReader {
 }
 
 impl UpdateReader {
-    ghost use Rattle.gs_update.specs.Readers.{LeadsTo, Goes, IsRefused, Finishes, IsRefusedAtEnd};
+    ghost use Rattle.gs_update.specs.Readers.{LeadsTo, Goes, IsRefused, Finishes, IsRefusedAtEnd, Reads, IsRefusedWhole};
 
     /// At the start of a text.
     fn new(alloc: Global, request: u64, base: &str) -> Result<UpdateReader, AllocError>
@@ -85,6 +85,24 @@ impl UpdateReader {
             Err(_) => Err(Refusal::NoMemory),
         }
     }
+
+    /// A whole text, from its start to its end.
+    fn take_all(&mut self, text: &[u8]) -> Result<(), Refusal>
+        requires { IsSound self.old.parser.place }
+        ensures ok { OnOk result (Reads self.old self.new text.now) }
+        ensures fault { IfErr result (IsRefusedWhole self.old text.now) }
+    {
+        self.take_text(text)?;
+        self.take_end()
+    }
+
+    /// The operations.
+    fn into_operations(self) -> Vec<Op>
+        ensures { result ≡ self.parser.operations }
+    {
+        let UpdateReader { parser, .. } = self;
+        parser.into_operations()
+    }
 }
 
 /// The operations of the text of an update, under an absolute base, in the request of this number.
@@ -107,9 +125,6 @@ pub fn read_update(
     ensures { Answers result (request_by base.now request text.now) }
 {
     let mut reader = UpdateReader::new(alloc, request, base)?;
-    reader.take_text(text)?;
-    reader.take_end()?;
-    let UpdateReader { parser, .. } = reader;
-    let UpdateParser { operations, .. } = parser;
-    Ok(operations)
+    reader.take_all(text)?;
+    Ok(reader.into_operations())
 }

@@ -2,9 +2,8 @@
 use crate::read_update;
 use gs_event::Op;
 use gs_model::Refusal;
-use gs_term::{Part, Pattern, Triple};
+use gs_term::Part;
 use std::alloc::Global;
-use std::process::Abort;
 use std::test::Fail;
 
 /// Texts that are no update that is served.
@@ -46,7 +45,8 @@ fn read(alloc: Global, text: &str) -> Result<Vec<Op>, Refusal> {
 }
 
 #[test]
-fn texts_are_refused(rt: impl Abort, alloc: Global) -> Result<(), Fail> {
+fn texts_are_refused(rt: HostRuntime) -> Result<(), Fail> {
+    let alloc = rt.alloc();
     for (text, expected) in REFUSED {
         match read(alloc, text) {
             Ok(_) => assert!(rt; false, "{text}"),
@@ -56,51 +56,82 @@ fn texts_are_refused(rt: impl Abort, alloc: Global) -> Result<(), Fail> {
     Ok(())
 }
 
-/// The texts of a triple's terms.
-fn is_triple(triple: &Triple, subject: &str, predicate: &str, object: &str) -> bool {
-    triple.subject().as_str() == subject
-        && triple.predicate().as_str() == predicate
-        && triple.object().as_str() == object
+/// The form of an operation.
+fn form(operation: &Op) -> &str {
+    match operation {
+        Op::Insert(_) => "INSERT DATA",
+        Op::DeleteData(_) => "DELETE DATA",
+        Op::DeleteWhere(_) => "DELETE WHERE",
+    }
+}
+
+/// The text of a term, or a variable's name.
+fn text_of(part: &Part) -> &[u8] {
+    match part {
+        Part::Term(term) => term.as_bytes(),
+        Part::Variable(name) => name.as_str().as_bytes(),
+    }
+}
+
+/// The texts of the first triple or pattern of an operation.
+fn first_row(operation: &Op) -> Option<[&[u8]; 3]> {
+    match operation {
+        Op::Insert(triples) | Op::DeleteData(triples) => {
+            let triple = triples.first()?;
+            Some([
+                triple.subject().as_bytes(),
+                triple.predicate().as_bytes(),
+                triple.object().as_bytes(),
+            ])
+        }
+        Op::DeleteWhere(patterns) => {
+            let pattern = patterns.first()?;
+            Some([
+                text_of(&pattern.subject),
+                text_of(&pattern.predicate),
+                text_of(&pattern.object),
+            ])
+        }
+    }
 }
 
 #[test]
-fn operations_stand_in_their_order(rt: impl Abort, alloc: Global) -> Result<(), Fail> {
+fn operations_stand_in_their_order(rt: HostRuntime) -> Result<(), Fail> {
     let text = "INSERT DATA { _:x <p> 1 } ; PREFIX e: <http://e/>
         DELETE WHERE { ?s e:p $s } ; delete data { <http://e/a> a 01 } ;";
-    let operations = read(alloc, text)?;
-    assert_eq!(rt; operations.len(), 3);
-    let Op::Insert(inserted) = &operations[0] else {
-        return Err(Fail::new());
-    };
-    assert!(rt; is_triple(
-        &inserted[0],
-        "_:b1_1",
-        "<http://e/p>",
-        "\"1\"^^<http://www.w3.org/2001/XMLSchema#integer>",
-    ));
-    let Op::DeleteWhere(patterns) = &operations[1] else {
-        return Err(Fail::new());
-    };
-    let Pattern { subject, object, .. } = &patterns[0];
-    let (Part::Variable(first), Part::Variable(second)) = (subject, object) else {
-        return Err(Fail::new());
-    };
-    assert_eq!(rt; first.as_str(), "s");
-    assert_eq!(rt; second.as_str(), "s");
-    let Op::DeleteData(deleted) = &operations[2] else {
-        return Err(Fail::new());
-    };
-    assert!(rt; is_triple(
-        &deleted[0],
-        "<http://e/a>",
-        "<http://www.w3.org/1999/02/22-rdf-syntax-ns#type>",
-        "\"01\"^^<http://www.w3.org/2001/XMLSchema#integer>",
-    ));
+    let rows = [
+        (
+            "INSERT DATA",
+            [
+                "_:b1_1",
+                "<http://e/p>",
+                "\"1\"^^<http://www.w3.org/2001/XMLSchema#integer>",
+            ],
+        ),
+        ("DELETE WHERE", ["s", "<http://e/p>", "s"]),
+        (
+            "DELETE DATA",
+            [
+                "<http://e/a>",
+                "<http://www.w3.org/1999/02/22-rdf-syntax-ns#type>",
+                "\"01\"^^<http://www.w3.org/2001/XMLSchema#integer>",
+            ],
+        ),
+    ];
+    let operations = read(rt.alloc(), text)?;
+    assert_eq!(rt; operations.len(), rows.len());
+    for (operation, (name, row)) in operations.iter().zip(rows) {
+        assert_eq!(rt; form(operation), name);
+        let [subject, predicate, object] = row;
+        let expected = [subject.as_bytes(), predicate.as_bytes(), object.as_bytes()];
+        assert_eq!(rt; first_row(operation), Some(expected), "{name}");
+    }
     Ok(())
 }
 
 #[test]
-fn nothing_is_an_update(rt: impl Abort, alloc: Global) -> Result<(), Fail> {
+fn nothing_is_an_update(rt: HostRuntime) -> Result<(), Fail> {
+    let alloc = rt.alloc();
     for text in ["", "# nothing", "BASE <http://b/>", "prefix e: <b>"] {
         assert_eq!(rt; read(alloc, text)?.len(), 0, "{text}");
     }
