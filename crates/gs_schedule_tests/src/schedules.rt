@@ -1,16 +1,27 @@
 //! Schedules through `drill`, each with what it must print.
-use gs_schedules::{ROWS, replay};
+use gs_schedules::{PATCHES, ROWS, Row, replay};
+use std::process::Abort;
 use std::test::Fail;
 
-#[test]
-fn worked_schedules_print_what_they_must(rt: HostRuntime) -> Result<(), Fail> {
-    for (name, input, want) in ROWS {
+/// Each of these schedules prints what it must, and ends well.
+fn play_all(rt: &(impl Abort + AllocGlobal), rows: &[Row]) -> Result<(), Fail> {
+    for (name, input, want) in rows {
         let got = replay(rt.alloc(), input);
-        assert_eq!(rt; str::from_utf8(got.out.as_slice())?, want, "at {name}");
+        assert_eq!(rt; str::from_utf8(got.out.as_slice())?, *want, "at {name}");
         assert_eq!(rt; got.err.len(), 0, "at {name}");
         assert_eq!(rt; got.status, 0, "at {name}");
     }
     Ok(())
+}
+
+#[test]
+fn worked_schedules_print_what_they_must(rt: HostRuntime) -> Result<(), Fail> {
+    play_all(&rt, &ROWS)
+}
+
+#[test]
+fn worked_patches_print_what_they_must(rt: HostRuntime) -> Result<(), Fail> {
+    play_all(&rt, &PATCHES)
 }
 
 #[test]
@@ -55,7 +66,7 @@ fn the_last_commit_is_the_graph(rt: HostRuntime) -> Result<(), Fail> {
 }
 
 /// Lines that are no command, each as the third line of a schedule.
-const NO_COMMANDS: [&str; 33] = [
+const NO_COMMANDS: [&str; 44] = [
     "0",
     "0 ",
     "pin default",
@@ -75,7 +86,18 @@ const NO_COMMANDS: [&str; 33] = [
     "0 Commit",
     "0 open",
     "0 open put",
-    "0 open patch default",
+    "0 open patch",
+    "0 open patch ",
+    "0 open patch graph",
+    "0 open patch <e>",
+    "0 open patch default ",
+    "0 open patches default",
+    "0 patchX",
+    "0 patches",
+    "0 Patch",
+    "00 patch",
+    "65536 patch",
+    "patch",
     "0 open post",
     "0 open new default",
     "0 open news",

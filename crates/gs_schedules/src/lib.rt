@@ -1,8 +1,10 @@
 //! Worked schedules for tests, and the run of a schedule, kept.
 #![tactic(auto)]
 
+mod patches;
 mod replays;
 mod rows;
 
+pub use patches::PATCHES;
 pub use replays::{Played, replay};
 pub use rows::{ROWS, Row};
