@@ -1,7 +1,6 @@
 -- A patch's line has one reading.
-use Rattle.std.proofs.Common.{◌≡◌, ◌⊎◌, inl, inr, ℕ, List, [], ◌∷◌, ◌++◌, refl, sym, ap, ◌∙◌, subst, append_assoc}
+use Rattle.std.proofs.Common.{◌≡◌, inl, inr, ℕ, List, [], ◌∷◌, ◌++◌, refl, sym, ap, ◌∙◌, subst, append_assoc}
 use Rattle.std.specs.Prelude.{codes}
-use Rattle.std.specs.Str.{IsUtf8}
 use Rattle.gs_model.specs.Terms.{numeral}
 use Rattle.gs_model.specs.Texts.{split_first}
 use Rattle.gs_upload.specs.declared.languages.Language.{Language}
@@ -43,18 +42,6 @@ patch_says x word action y s before after seat says =
         says = says;
       },
     )
-
--- a text that neither is the word alone nor begins with it and a space
-pub update_none : (x : List ℕ) → ¬ (x ≡ codes "patch") → ((rest : List ℕ) → ¬ (x ≡ codes "patch " ++ rest)) → (y : List ℕ) → ¬ SaysUpdate y x
-update_none x alone word y (inl says) = alone says.0
-update_none x alone word y (inr says) = word y says.0
-
--- a text whose rest is no text of characters
-pub update_bytes_none : (x rest : List ℕ) → ¬ (x ≡ codes "patch") → x ≡ codes "patch " ++ rest → ¬ IsUtf8 rest → (y : List ℕ) → ¬ SaysUpdate y x
-update_bytes_none x rest alone parts other y (inl says) = alone says.0
-update_bytes_none x rest alone parts other y (inr says) =
-    let same : y ≡ rest = let e = sym says.0 ∙ parts in cc in
-    other (subst IsUtf8 same says.1)
 
 -- a feed is no patch
 pub feed_no_patch : (x : List ℕ) (s t : ℕ) (l : Language) (y z : List ℕ) → SaysFeed s l y x → ¬ SaysPatch t z x
