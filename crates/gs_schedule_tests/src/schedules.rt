@@ -1,4 +1,5 @@
 //! Schedules through `drill`, each with what it must print.
+use gs_drill::drill;
 use gs_schedules::{PATCHES, ROWS, Row, replay};
 use std::process::Abort;
 use std::test::Fail;
@@ -62,6 +63,36 @@ fn the_last_commit_is_the_graph(rt: HostRuntime) -> Result<(), Fail> {
     let got = replay(rt.alloc(), input);
     assert_eq!(rt; str::from_utf8(got.out.as_slice())?, want);
     assert_eq!(rt; got.status, 0);
+    Ok(())
+}
+
+/// A literal's text has its quotes, and at most 65,535 bytes.
+#[test]
+fn a_patch_with_a_term_that_is_too_long_has_a_fault(rt: HostRuntime) -> Result<(), Fail> {
+    let alloc = rt.alloc();
+    for (length, want) in [(65_533, "opened 1\n204\n"), (65_534, "opened 1\nfault 400\n")] {
+        let mut lexical = String::new(alloc);
+        for _ in 0..length {
+            lexical.push('x')?;
+        }
+        let input =
+            format!(in alloc; "0 open patch default\n0 patch INSERT DATA {{ <http://e/a> a \"{lexical}\" }}\n")?;
+        let got = replay(alloc, input.as_str());
+        assert_eq!(rt; str::from_utf8(got.out.as_slice())?, want, "at {length}");
+        assert_eq!(rt; got.status, 0, "at {length}");
+    }
+    Ok(())
+}
+
+#[test]
+fn a_patch_that_is_not_utf8_is_no_command(rt: HostRuntime) -> Result<(), Fail> {
+    let mut reader = b"0 open patch default\n0 patch \xff\n".as_slice();
+    let mut out = Vec::new(rt.alloc());
+    let mut err = Vec::new(rt.alloc());
+    let status = drill(rt.alloc(), &mut reader, &mut out, &mut err);
+    assert_eq!(rt; str::from_utf8(out.as_slice())?, "opened 1\n");
+    assert_eq!(rt; str::from_utf8(err.as_slice())?, "gsdrill: line 2 is no command\n");
+    assert_eq!(rt; status, 2);
     Ok(())
 }
 
