@@ -46,7 +46,7 @@ told_none false left = refl
 
 -- the phase that is next has the opening that the answer leaves
 opening_next : Leads opening_of opened_by
-unfolding held_next, Leads
+unfolding held_next Leads
 opening_next t Idle (Open k) (Opened r) fits = refl
 opening_next t Idle (OpenPatch x) (Opened r) fits = refl
 opening_next t Idle action (Opened r) fits = absurd fits
@@ -75,7 +75,7 @@ no_patch_told false left = refl
 
 -- the phase that is next has the patch that the answer leaves
 patch_next : Leads patch_of patch_opened_by
-unfolding held_next, Leads
+unfolding held_next Leads
 patch_next t Idle (Open k) (Opened r) fits = refl
 patch_next t Idle (OpenPatch x) (Opened r) fits = refl
 patch_next t Idle action (Opened r) fits = absurd fits

@@ -1,7 +1,7 @@
 -- Patches, from what the store and the reader of updates do.
-use Rattle.std.proofs.Common.{◌≡◌, ◌≢◌, ℕ, List, map, Option, Some, None, MatchOption, option_map, Vec, Global, sym, ap, ◌∙◌, subst}
+use Rattle.std.proofs.Common.{◌≡◌, ◌≢◌, ◌<◌, ◌≤◌, ℕ, List, length, get_or, map, Option, Some, None, MatchOption, option_map, Vec, Global, refl, sym, ap, ◌∙◌, subst}
 use Rattle.std.specs.List.{slice_get}
-use Rattle.std.proofs.lemmas.Option.{slice_get-map}
+use Rattle.std.proofs.lemmas.Option.{slice_get-map, slice_get_past, slice_get_read}
 use Rattle.gs_model.specs.declared.refusals.Refusal.{Refusal}
 use Rattle.gs_model.specs.declared.refusals.Refusal.TheVariants as refusal
 use Rattle.gs_event.specs.declared.updates.Op.{Op}
@@ -65,3 +65,17 @@ patches_by shown u st s y text e o is row =
     let P : Option (Option Opening) → Type 0 = λ z. PatchesRow z (desk_of st) s y text e in
     let same : o ≡ option_map patch_of (slice_get shown.view.seats s) = sym is ∙ ap (λ z. slice_get z s) st.patches ∙ slice_get-map patch_of shown.view.seats s in
     by_phase (slice_get shown.view.seats s) (desk_of st) s y text e (subst P same row)
+
+-- nothing is read past the end of a list
+pub none_there : {X : Type 0} (xs ys : List X) (i j : ℕ) → xs ≡ ys → i ≡ j → length xs ≤ i → slice_get ys j ≡ None
+none_there {X} xs ys i j same place past =
+    let P : List X → Type 0 = λ z. slice_get z j ≡ None in
+    let Q : ℕ → Type 0 = λ n. slice_get xs n ≡ None in
+    subst P same (subst Q place (slice_get_past xs i past))
+
+-- what is read at a place of a list
+pub some_there : {X : Type 0} (xs ys : List X) (i j : ℕ) (x y : X) → xs ≡ ys → i ≡ j → i < length xs → x ≡ get_or xs i x → x ≡ y → slice_get ys j ≡ Some y
+some_there {X} xs ys i j x y same place within read is =
+    let P : List X → Type 0 = λ z. slice_get z j ≡ Some x in
+    let Q : ℕ → Type 0 = λ n. slice_get xs n ≡ Some x in
+    subst P same (subst Q place (slice_get_read xs (length xs) i x refl within read)) ∙ ap Some is

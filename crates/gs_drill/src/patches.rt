@@ -1,7 +1,7 @@
 //! Patches: the text of an update is read, and what it says is committed.
 ghost use Rattle.std.specs.Prelude.{◌≡◌, IfOk};
 ghost use Rattle.gs_update_text.specs.Requests.{Request};
-ghost use Rattle.gs_update.specs.Answers.{Answers as ReadsUpdate};
+ghost use Rattle.gs_update.specs.Answers.{Answers as ReadsUpdate, Refuses};
 ghost use Rattle.gs_drill.specs.Printing.{reply_text};
 ghost use Rattle.gs_drill.specs.Patches.{Concludes, DoesPatch};
 ghost use Rattle.gs_drill.specs.Standing.{MovesDesk};
@@ -14,6 +14,25 @@ use gs_event::{Action, Answer, Event, Op};
 use gs_model::Refusal;
 use gs_update::read_update;
 use std::alloc::{AllocError, Global};
+
+/// Gives the patch of a seat up, where its text was refused for a fault.
+fn reject(
+    store: &mut Store,
+    uploads: &mut Uploads,
+    seat: u16,
+    refusal: Refusal,
+) -> Result<Reply, AllocError>
+    ensures does { IfOk result (λ reply. (q : Request) → Refuses refusal q
+        → MovesDesk store.old uploads.old store.new uploads.new
+        (λ d e. Concludes q d seat (reply_text reply) e)) }
+    ensures cut { uploads.new.cut ≡ uploads.old.cut }
+{
+    match refusal {
+        Refusal::NoMemory => Err(AllocError),
+        Refusal::NotInProfile => Ok(give_up(store, uploads, seat, Reply::Outside)),
+        _ => Ok(give_up(store, uploads, seat, Reply::Fault)),
+    }
+}
 
 /// What a text says is committed by one event; the patch of a text with a fault is given up.
 fn conclude(
@@ -32,9 +51,7 @@ fn conclude(
             let event = Event::Seat(seat, Action::CommitPatch(operations));
             Ok(Reply::Answered(answer(store, uploads, event)))
         }
-        Err(Refusal::NoMemory) => Err(AllocError),
-        Err(Refusal::NotInProfile) => Ok(give_up(store, uploads, seat, Reply::Outside)),
-        Err(_) => Ok(give_up(store, uploads, seat, Reply::Fault)),
+        Err(refusal) => reject(store, uploads, seat, refusal),
     }
 }
 

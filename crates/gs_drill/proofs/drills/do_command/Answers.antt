@@ -77,7 +77,7 @@ returns-in-Patch g c = λ st.
     let X : List ℕ → Type 0 = λ y. Replies {T = Standing does.new.store does.new.uploads} desk_of (DoesPatch s.desk seat y) (held c.args.out.now) (held does.new.out) does.result in
     subst P (sym c.in-Patch.is)
     (does_by {T = Standing does.new.store does.new.uploads} desk_of s (Patch seat c.in-Patch.text) done (DoesPatch s.desk seat c.in-Patch.text.items) (held c.args.out.now) (held does.new.out) does.result
-    (λ text d made. (refl, does.ensures.cut, made)) (subst X c.as_slice-2.ensures.value (does.ensures.does st)))
+    (λ text d made. (refl, does.ensures.cut, made)) (subst X c.as_slice-in-Patch.ensures.value (does.ensures.does st)))
 
 pub returns-in-Cut : goal.returns-in-Cut
 returns-in-Cut g c = λ st.
