@@ -21,36 +21,36 @@ use Rattle.gs_drill.specs.declared.uploads.Uploads.{Uploads}
 use Rattle.gs_drill.specs.Printing.{answer_text, fault_text, outside_text}
 use Rattle.gs_drill.specs.Feeds.{Desk, Answers, RefusesText}
 use Rattle.gs_drill.specs.Commits.{GivesUp}
-use Rattle.gs_drill.specs.Patches.{ConcludesBy, Concludes, PatchesSeat, DoesPatch}
+use Rattle.gs_drill.specs.Patches.{SettlesBy, SettlesPatch, PatchesSeat, DoesPatch}
 use Rattle.gs_drill.specs.Standing.{Standing, MovesDesk, desk_of, patch_of}
 
 -- the operations of a text are committed
-pub concludes_whole : (q : Request) (d e : Desk) (s : ℕ) (ops : Vec Op Global) (a : Answer) → AreOperationsOf ops.items q → Answers d (At s (CommitPatch ops)) a e → Concludes q d s (answer_text a) e
-concludes_whole q d e s ops a are answers =
-    let P : Option Rejection → Type 0 = λ z. ConcludesBy z q d s (answer_text a) e in
+pub settles_whole : (q : Request) (d e : Desk) (s : ℕ) (ops : Vec Op Global) (a : Answer) → AreOperationsOf ops.items q → Answers d (At s (CommitPatch ops)) a e → SettlesPatch q d s (answer_text a) e
+settles_whole q d e s ops a are answers =
+    let P : Option Rejection → Type 0 = λ z. SettlesBy z q d s (answer_text a) e in
     subst P (sym are.0) (record { action = CommitPatch ops; is = are; asks = record { answer = a; answers = answers; told = refl } })
 
 -- a text breaks the grammar, or has a term that is too long
-concludes_broken : (q : Request) (d e : Desk) (s : ℕ) (text : List ℕ) (r : Rejection) → q.1 ≡ Some r → ConcludesBy (Some r) q d s text e → Concludes q d s text e
-concludes_broken q d e s text r is by = let P : Option Rejection → Type 0 = λ z. ConcludesBy z q d s text e in subst P (sym is) by
+settles_broken : (q : Request) (d e : Desk) (s : ℕ) (text : List ℕ) (r : Rejection) → q.1 ≡ Some r → SettlesBy (Some r) q d s text e → SettlesPatch q d s text e
+settles_broken q d e s text r is by = let P : Option Rejection → Type 0 = λ z. SettlesBy z q d s text e in subst P (sym is) by
 
 -- a text is outside what is served
-pub concludes_outside : (q : Request) (d e : Desk) (s : ℕ) (text : List ℕ) → Refuses refusal.NotInProfile q → GivesUp outside_text d s text e → Concludes q d s text e
-concludes_outside q d e s text refuses up = concludes_broken q d e s text OutOfProfile refuses up
+pub settles_outside : (q : Request) (d e : Desk) (s : ℕ) (text : List ℕ) → Refuses refusal.NotInProfile q → GivesUp outside_text d s text e → SettlesPatch q d s text e
+settles_outside q d e s text refuses up = settles_broken q d e s text OutOfProfile refuses up
 
 -- any other refusal of a text but want of memory says that it has a fault
-pub concludes_fault : (q : Request) (d e : Desk) (s : ℕ) (text : List ℕ) (r : Refusal) → Refuses r q → r ≢ refusal.NoMemory → r ≢ refusal.NotInProfile → GivesUp fault_text d s text e → Concludes q d s text e
-concludes_fault q d e s text (refusal.Syntax at) refuses memory profile up = concludes_broken q d e s text (Broken Syntax) refuses.broken up
-concludes_fault q d e s text refusal.TermTooLong refuses memory profile up = concludes_broken q d e s text (Broken TermTooLong) refuses up
-concludes_fault q d e s text refusal.NotInProfile refuses memory profile up = absurd (profile refl)
-concludes_fault q d e s text refusal.NoMemory refuses memory profile up = absurd (memory refl)
-concludes_fault q d e s text r refuses memory profile up = absurd refuses
+pub settles_fault : (q : Request) (d e : Desk) (s : ℕ) (text : List ℕ) (r : Refusal) → Refuses r q → r ≢ refusal.NoMemory → r ≢ refusal.NotInProfile → GivesUp fault_text d s text e → SettlesPatch q d s text e
+settles_fault q d e s text (refusal.Syntax at) refuses memory profile up = settles_broken q d e s text (Broken Syntax) refuses.broken up
+settles_fault q d e s text refusal.TermTooLong refuses memory profile up = settles_broken q d e s text (Broken TermTooLong) refuses up
+settles_fault q d e s text refusal.NotInProfile refuses memory profile up = absurd (profile refl)
+settles_fault q d e s text refusal.NoMemory refuses memory profile up = absurd (memory refl)
+settles_fault q d e s text r refuses memory profile up = absurd refuses
 
 -- the rows of a patch by what opened the patch of the seat
 abbrev pub PatchesRow : Option (Option Opening) → Desk → ℕ → List ℕ → List ℕ → Desk → Type 0
 PatchesRow None d s y text e = RefusesText refusal.BadSeat d text e
 PatchesRow (Some None) d s y text e = RefusesText refusal.WrongPhase d text e
-PatchesRow (Some (Some o)) d s y text e = Concludes (request_by (base_under o.target) o.request y) d s text e
+PatchesRow (Some (Some o)) d s y text e = SettlesPatch (request_by (base_under o.target) o.request y) d s text e
 
 by_phase : (q : Option SeatView) (d : Desk) (s : ℕ) (y text : List ℕ) (e : Desk) → PatchesRow (option_map patch_of q) d s y text e → MatchOption q (RefusesText refusal.BadSeat d text e) (λ p. PatchesSeat p d s y text e)
 by_phase None d s y text e h = h

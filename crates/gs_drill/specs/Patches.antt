@@ -22,26 +22,26 @@ IsPatch q (CommitPatch ops) = AreOperationsOf ops.items q
 IsPatch q action = ⊥
 
 -- the operations of the text are committed by one event
-pub record CommitsPatch (q : Request) (d : Desk) (s : ℕ) (text : List ℕ) (e : Desk) : Type 0 where
+pub record PatchesWhole (q : Request) (d : Desk) (s : ℕ) (text : List ℕ) (e : Desk) : Type 0 where
   pub action : Action
   pub is : IsPatch q action
   pub asks : Asks d (At s action) text e
 
 -- by the fault of the text, if it has one: the patch of a text with a fault is given up
-abbrev pub ConcludesBy : Option Rejection → Request → Desk → ℕ → List ℕ → Desk → Type 0
-ConcludesBy None q d s text e = CommitsPatch q d s text e
-ConcludesBy (Some (Broken f)) q d s text e = GivesUp fault_text d s text e
-ConcludesBy (Some OutOfProfile) q d s text e = GivesUp outside_text d s text e
+abbrev pub SettlesBy : Option Rejection → Request → Desk → ℕ → List ℕ → Desk → Type 0
+SettlesBy None q d s text e = PatchesWhole q d s text e
+SettlesBy (Some (Broken f)) q d s text e = GivesUp fault_text d s text e
+SettlesBy (Some OutOfProfile) q d s text e = GivesUp outside_text d s text e
 
 -- what the text says is committed, or its patch is given up
-abbrev pub Concludes : Request → Desk → ℕ → List ℕ → Desk → Type 0
-Concludes q d s text e = ConcludesBy q.1 q d s text e
+abbrev pub SettlesPatch : Request → Desk → ℕ → List ℕ → Desk → Type 0
+SettlesPatch q d s text e = SettlesBy q.1 q d s text e
 
 -- y is read for the patch of seat s, by what the seat is doing: one that has no patch has no text to read
 abbrev pub PatchesSeat : SeatView → Desk → ℕ → List ℕ → List ℕ → Desk → Type 0
 PatchesSeat Idle d s y text e = RefusesText WrongPhase d text e
 PatchesSeat (Writing k r g) d s y text e = RefusesText WrongPhase d text e
-PatchesSeat (Patching t r) d s y text e = Concludes (request_by (base_under (name_in t)) r y) d s text e
+PatchesSeat (Patching t r) d s y text e = SettlesPatch (request_by (base_under (name_in t)) r y) d s text e
 PatchesSeat (Reading left) d s y text e = RefusesText WrongPhase d text e
 
 -- y, the text of an update, is given to seat s, which prints the text

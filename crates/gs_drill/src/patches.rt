@@ -3,7 +3,7 @@ ghost use Rattle.std.specs.Prelude.{◌≡◌, IfOk};
 ghost use Rattle.gs_update_text.specs.Requests.{Request};
 ghost use Rattle.gs_update.specs.Answers.{Answers as ReadsUpdate, Refuses};
 ghost use Rattle.gs_drill.specs.Printing.{reply_text};
-ghost use Rattle.gs_drill.specs.Patches.{Concludes, DoesPatch};
+ghost use Rattle.gs_drill.specs.Patches.{SettlesPatch, DoesPatch};
 ghost use Rattle.gs_drill.specs.Standing.{MovesDesk};
 
 use crate::feeds::{answer, give_up};
@@ -24,7 +24,7 @@ fn reject(
 ) -> Result<Reply, AllocError>
     ensures does { IfOk result (λ reply. (q : Request) → Refuses refusal q
         → MovesDesk store.old uploads.old store.new uploads.new
-        (λ d e. Concludes q d seat (reply_text reply) e)) }
+        (λ d e. SettlesPatch q d seat (reply_text reply) e)) }
     ensures cut { uploads.new.cut ≡ uploads.old.cut }
 {
     match refusal {
@@ -43,7 +43,7 @@ fn conclude(
 ) -> Result<Reply, AllocError>
     ensures does { IfOk result (λ reply. (q : Request) → ReadsUpdate read q
         → MovesDesk store.old uploads.old store.new uploads.new
-        (λ d e. Concludes q d seat (reply_text reply) e)) }
+        (λ d e. SettlesPatch q d seat (reply_text reply) e)) }
     ensures cut { uploads.new.cut ≡ uploads.old.cut }
 {
     match read {

@@ -70,13 +70,17 @@ fn the_last_commit_is_the_graph(rt: HostRuntime) -> Result<(), Fail> {
 #[test]
 fn a_patch_with_a_term_that_is_too_long_has_a_fault(rt: HostRuntime) -> Result<(), Fail> {
     let alloc = rt.alloc();
-    for (length, want) in [(65_533, "opened 1\n204\n"), (65_534, "opened 1\nfault 400\n")] {
+    for (length, want) in [
+        (65_533, "opened 1\n204\n"),
+        (65_534, "opened 1\nfault 400\n"),
+    ] {
         let mut lexical = String::new(alloc);
         for _ in 0..length {
             lexical.push('x')?;
         }
-        let input =
-            format!(in alloc; "0 open patch default\n0 patch INSERT DATA {{ <http://e/a> a \"{lexical}\" }}\n")?;
+        let input = format!(in alloc;
+            "0 open patch default\n0 patch INSERT DATA {{ <http://e/a> a \"{lexical}\" }}\n"
+        )?;
         let got = replay(alloc, input.as_str());
         assert_eq!(rt; str::from_utf8(got.out.as_slice())?, want, "at {length}");
         assert_eq!(rt; got.status, 0, "at {length}");
@@ -91,7 +95,10 @@ fn a_patch_that_is_not_utf8_is_no_command(rt: HostRuntime) -> Result<(), Fail> {
     let mut err = Vec::new(rt.alloc());
     let status = drill(rt.alloc(), &mut reader, &mut out, &mut err);
     assert_eq!(rt; str::from_utf8(out.as_slice())?, "opened 1\n");
-    assert_eq!(rt; str::from_utf8(err.as_slice())?, "gsdrill: line 2 is no command\n");
+    assert_eq!(rt;
+        str::from_utf8(err.as_slice())?,
+        "gsdrill: line 2 is no command\n"
+    );
     assert_eq!(rt; status, 2);
     Ok(())
 }
