@@ -3,6 +3,7 @@
 
 mod commands;
 mod lines;
+mod patches;
 mod words;
 
 pub use commands::{Command, read_command};

@@ -3,6 +3,7 @@
 
 mod drills;
 mod feeds;
+mod patches;
 mod printing;
 mod stops;
 mod uploads;

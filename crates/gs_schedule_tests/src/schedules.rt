@@ -1,10 +1,16 @@
 //! Schedules through `drill`, each with what it must print.
-use gs_schedules::{ROWS, Row, Stop, prints, unstopped_line, wrong_row};
+use gs_schedules::{PATCHES, ROWS, Row, Stop, prints, unstopped_line, wrong_row};
+use std::alloc::{AllocError, Global};
 use std::test::Fail;
 
 #[test]
 fn worked_schedules_print_what_they_must(rt: HostRuntime) {
     assert_eq!(rt; wrong_row(rt.alloc(), &ROWS), None);
+}
+
+#[test]
+fn worked_patches_print_what_they_must(rt: HostRuntime) {
+    assert_eq!(rt; wrong_row(rt.alloc(), &PATCHES), None);
 }
 
 /// Schedules that are not among the worked ones.
@@ -35,8 +41,35 @@ fn a_bad_line_stops_the_run(rt: HostRuntime) {
     assert!(rt; prints(rt.alloc(), input, "refused WrongPhase\n", said, 2));
 }
 
+/// Whether a patch with a literal of so many letters prints this.
+fn prints_long(alloc: Global, letters: usize, want: &str) -> Result<bool, AllocError> {
+    let mut lexical = String::new(alloc);
+    for _ in 0..letters {
+        lexical.push('x')?;
+    }
+    let input = format!(in alloc;
+        "0 open patch default\n0 patch INSERT DATA {{ <http://e/a> a \"{lexical}\" }}\n"
+    )?;
+    Ok(prints(alloc, input.as_bytes(), want, "", 0))
+}
+
+/// A literal's text has its quotes, and at most 65,535 bytes.
+#[test]
+fn a_patch_with_a_term_that_is_too_long_has_a_fault(rt: HostRuntime) -> Result<(), Fail> {
+    assert!(rt; prints_long(rt.alloc(), 65_533, "opened 1\n204\n")?);
+    assert!(rt; prints_long(rt.alloc(), 65_534, "opened 1\nfault 400\n")?);
+    Ok(())
+}
+
+#[test]
+fn a_patch_that_is_not_utf8_is_no_command(rt: HostRuntime) {
+    let input = b"0 open patch default\n0 patch \xff\n";
+    let said = "gsdrill: line 2 is no command\n";
+    assert!(rt; prints(rt.alloc(), input, "opened 1\n", said, 2));
+}
+
 /// Lines that are no command, each as the third line of a schedule.
-const NO_COMMANDS: [&str; 33] = [
+const NO_COMMANDS: [&str; 44] = [
     "0",
     "0 ",
     "pin default",
@@ -56,7 +89,18 @@ const NO_COMMANDS: [&str; 33] = [
     "0 Commit",
     "0 open",
     "0 open put",
-    "0 open patch default",
+    "0 open patch",
+    "0 open patch ",
+    "0 open patch graph",
+    "0 open patch <e>",
+    "0 open patch default ",
+    "0 open patches default",
+    "0 patchX",
+    "0 patches",
+    "0 Patch",
+    "00 patch",
+    "65536 patch",
+    "patch",
     "0 open post",
     "0 open new default",
     "0 open news",

@@ -1,8 +1,10 @@
 //! Worked schedules for tests, and whether the run of a schedule prints what it must.
 #![tactic(auto)]
 
+mod patches;
 mod replays;
 mod rows;
 
+pub use patches::PATCHES;
 pub use replays::{Stop, prints, unstopped_line, wrong_row};
 pub use rows::{ROWS, Row};

@@ -1,0 +1,100 @@
+//! Schedules of patches, worked by hand.
+use crate::rows::Row;
+
+pub const PATCHES: [Row; 19] = [
+    (
+        "an operation takes effect on what the ones before it left",
+        "0 open patch default\n0 patch INSERT DATA { _:x <http://e/p> 1 } ; DELETE WHERE { ?s <http://e/p> 1 } ; INSERT DATA { <http://e/a> a 01 }\n0 pin default\n0 piece 9\n",
+        "opened 1\n204\n200\n<http://e/a> <http://www.w3.org/1999/02/22-rdf-syntax-ns#type> \"01\"^^<http://www.w3.org/2001/XMLSchema#integer> .\nend\n",
+    ),
+    (
+        "patterns take out all their instances together",
+        "0 open put default\n0 stage <http://e/1> <http://e/p> <http://e/2> .\n0 stage <http://e/2> <http://e/q> \"z\" .\n0 stage <http://e/3> <http://e/p> <http://e/4> .\n0 stage <http://e/5> <http://e/q> \"y\" .\n0 commit\n0 open patch default\n0 patch DELETE WHERE { ?s <http://e/p> ?o . ?o <http://e/q> ?z }\n0 pin default\n0 piece 9\n0 open patch default\n0 patch CLEAR ALL\n0 open patch default\n0 patch DELETE DATA { _:x <http://e/p> 1 }\n0 open patch <http://e/g>\n0 patch\n",
+        "opened 1\nstaged\nstaged\nstaged\nstaged\n204\nopened 2\n204\n200\n<http://e/3> <http://e/p> <http://e/4> .\n<http://e/5> <http://e/q> \"y\" .\nend\nopened 3\nfault 422\nopened 4\nfault 400\nopened 5\n404\n",
+    ),
+    (
+        "texts with a fault, and a collection that stands alone",
+        "0 open patch default\n0 patch DELETE WHERE { }\n0 open patch default\n0 patch INSERT DATA { GRAPH <http://e/g> { } }\n0 open patch default\n0 patch INSERT DATA { <http://e/a> a _:x } ; INSERT DATA { _:x a 1 }\n0 open patch default\n0 patch DELETE DATA { ?s a 1 }\n0 open patch default\n0 patch INSERT DATA { ( 1 2 ) }\n0 open patch default\n0 patch INSERT DATA { ( ) }\ncounts\n",
+        "opened 1\nfault 422\nopened 2\nfault 422\nopened 3\nfault 400\nopened 4\nfault 400\nopened 5\n204\nopened 6\nfault 400\nnodes 4 triples 4\n",
+    ),
+    (
+        "a patch on a seat that has none",
+        "0 patch\n4 patch\n65535 patch CLEAR ALL\n0 open put default\n0 patch INSERT DATA { <http://e/a> a 1 }\n0 commit\n0 pin default\n0 patch\n0 piece 1\n0 patch\n0 pin default\n0 piece 1\n",
+        "refused WrongPhase\nrefused BadSeat\nrefused BadSeat\nopened 1\nrefused WrongPhase\n204\n200\nrefused WrongPhase\nend\nrefused WrongPhase\n200\nend\n",
+    ),
+    (
+        "an update without an operation",
+        "0 open patch default\n0 patch\n0 open patch default\n0 patch \n0 open patch default\n0 patch  \n0 open patch default\n0 patch PREFIX e: <http://e/> BASE <x> # no more\n0 pin default\n0 piece 1\ncounts\n",
+        "opened 1\n204\nopened 2\n204\nopened 3\n204\nopened 4\n204\n200\nend\nnodes 0 triples 0\n",
+    ),
+    (
+        "a patch of a missing graph makes none, and one that is made after the opening is patched",
+        "0 open patch <http://e/g>\n0 patch INSERT DATA { <http://e/s> <http://e/p> \"1\" }\n0 head <http://e/g>\n0 patch\n0 open patch <http://e/g>\n0 patch CLEAR ALL\n0 open patch <http://e/g>\n1 open put <http://e/g>\n1 commit\n0 patch INSERT DATA { <a> <http://e/p> \"1\" }\n0 pin <http://e/g>\n0 piece 9\n",
+        "opened 1\n404\n404\nrefused WrongPhase\nopened 2\nfault 422\nopened 3\nopened 4\n201\n204\n200\n<http://e/a> <http://e/p> \"1\" .\nend\n",
+    ),
+    (
+        "a graph that is deleted after the opening is missing",
+        "0 open put <http://e/g>\n0 commit\n0 open patch <http://e/g>\n1 delete <http://e/g>\n0 patch\n0 head <http://e/g>\n",
+        "opened 1\n201\nopened 2\n204\n404\n404\n",
+    ),
+    (
+        "the default graph has the base of the store",
+        "0 open patch default\n0 patch INSERT DATA { <x> <#p> <../y> }\n0 pin default\n0 piece 9\n",
+        "opened 1\n204\n200\n<http://localhost/x> <http://localhost/store#p> <http://localhost/y> .\nend\n",
+    ),
+    (
+        "each seat's text is read under its own graph's name",
+        "0 open put <http://e/f/g>\n0 commit\n0 open put <http://d/h>\n0 commit\n0 open patch <http://e/f/g>\n1 open patch <http://d/h>\n1 patch INSERT DATA { <i> <j> \"1\" }\n0 patch INSERT DATA { <i> <j> \"1\" }\n2 pin <http://e/f/g>\n2 piece 9\n2 pin <http://d/h>\n2 piece 9\n",
+        "opened 1\n201\nopened 2\n201\nopened 3\nopened 4\n204\n204\n200\n<http://e/f/i> <http://e/f/j> \"1\" .\nend\n200\n<http://d/i> <http://d/j> \"1\" .\nend\n",
+    ),
+    (
+        "blank nodes have the number of their patch's request",
+        "0 open new\n0 commit\n0 open patch <http://localhost/graphs/n1-0>\n1 open put default\n0 patch INSERT DATA { _:x <http://e/p> _:y . [] <http://e/p> _:x }\n0 pin <http://localhost/graphs/n1-0>\n0 piece 9\n",
+        "opened 1\n201 http://localhost/graphs/n1-0\nopened 2\nopened 3\n204\n200\n_:b2_1 <http://e/p> _:b2_2 .\n_:b2_3 <http://e/p> _:b2_1 .\nend\n",
+    ),
+    (
+        "a cancelled patch leaves no change and keeps its number",
+        "0 open patch default\n0 cancel\n0 patch\n0 open patch default\n0 patch INSERT DATA { <http://e/s> <http://e/p> \"1\" }\n0 pin default\n0 piece 9\n",
+        "opened 1\ncancelled\nrefused WrongPhase\nopened 2\n204\n200\n<http://e/s> <http://e/p> \"1\" .\nend\n",
+    ),
+    (
+        "a read keeps its lines while the graph is patched",
+        "0 open put default\n0 stage <http://e/s> <http://e/p> \"1\" .\n0 stage <http://e/s> <http://e/p> \"2\" .\n0 commit\n1 pin default\n1 piece 1\n0 open patch default\n0 patch DELETE DATA { <http://e/s> <http://e/p> \"1\" , \"2\" } ; INSERT DATA { <http://e/s> <http://e/p> \"3\" }\n1 piece 1\n1 pin default\n1 piece 9\n",
+        "opened 1\nstaged\nstaged\n204\n200\n<http://e/s> <http://e/p> \"1\" .\nmore\nopened 2\n204\n<http://e/s> <http://e/p> \"2\" .\nend\n200\n<http://e/s> <http://e/p> \"3\" .\nend\n",
+    ),
+    (
+        "two seats patch a graph in the order of their texts",
+        "0 open patch default\n1 open patch default\n1 patch INSERT DATA { <http://e/s> <http://e/p> \"1\" , \"2\" }\n0 patch DELETE DATA { <http://e/s> <http://e/p> \"1\" } ; INSERT DATA { _:x <http://e/p> \"0\" }\n2 pin default\n2 piece 9\ncounts\n",
+        "opened 1\nopened 2\n204\n204\n200\n<http://e/s> <http://e/p> \"2\" .\n_:b1_1 <http://e/p> \"0\" .\nend\nnodes 2 triples 2\n",
+    ),
+    (
+        "a seat that patches takes nothing but its patch",
+        "0 open patch default\n0 feed nt <http://e/s> <http://e/p> \"1\" .\n0 feed ttl \n0 stage <http://e/s> <http://e/p> \"1\" .\n0 commit\n0 open put default\n0 open patch default\n0 pin default\n0 piece 1\n0 delete default\n0 head default\n0 patch\ncounts\n",
+        "opened 1\nrefused WrongPhase\nrefused WrongPhase\nrefused WrongPhase\nrefused WrongPhase\nrefused WrongPhase\nrefused WrongPhase\nrefused WrongPhase\nrefused WrongPhase\nrefused WrongPhase\nrefused WrongPhase\n204\nnodes 0 triples 0\n",
+    ),
+    (
+        "a patch in the middle of an upload is refused, and the upload goes on",
+        "0 open post default\n0 feed ttl <a> <b>\n0 patch INSERT DATA { <http://e/s> <http://e/p> \"1\" }\n0 feed ttl \"1\" .\n0 commit\n0 pin default\n0 piece 9\n",
+        "opened 1\nfed\nrefused WrongPhase\nfed\n204\n200\n<http://localhost/a> <http://localhost/b> \"1\" .\nend\n",
+    ),
+    (
+        "an upload after a patch is a new text",
+        "0 open patch default\n0 patch INSERT DATA { _:x <http://e/p> \"1\" }\n0 open post default\n0 feed nt _:y <http://e/p> \"1\" .\n0 commit\n0 open patch default\n0 patch DELETE WHERE { ?s <http://e/p> \"2\" } ; INSERT DATA { _:x <http://e/p> \"2\" }\n0 pin default\n0 piece 9\n",
+        "opened 1\n204\nopened 2\nfed\n204\nopened 3\n204\n200\n_:b1_1 <http://e/p> \"1\" .\n_:b2_1 <http://e/p> \"1\" .\n_:b3_1 <http://e/p> \"2\" .\nend\n",
+    ),
+    (
+        "the operations before a fault have no effect",
+        "0 open patch default\n0 patch INSERT DATA { <http://e/s> <http://e/p> \"1\" } ; INSERT DATA { <s> }\n0 patch\n0 open patch default\n0 patch INSERT DATA { <http://e/s> <http://e/p> \"1\" } ; LOAD <http://e/x>\n0 pin default\n0 piece 1\n",
+        "opened 1\nfault 400\nrefused WrongPhase\nopened 2\nfault 422\n200\nend\n",
+    ),
+    (
+        "no patch takes effect after the last commit, and it stays open",
+        "store 4 999999999999999999 0\n0 open patch default\n0 patch\n1 open patch <http://e/g>\n1 patch\n0 patch CLEAR ALL\n0 patch\n",
+        "opened 1\nrefused LastNumber\nopened 2\n404\nfault 422\nrefused WrongPhase\n",
+    ),
+    (
+        "no patch is opened after the last request",
+        "store 4 0 999999999999999999\n0 open patch default\n0 patch\n",
+        "refused LastNumber\nrefused WrongPhase\n",
+    ),
+];
