@@ -75,7 +75,7 @@ module _ {L S V X T : Type 0} (l : TypedLanguage S V X T) (inside : Block X T �
       → quiet (inside (rules_of l made b) (scope_of l b) (block_state l b)) ≡ turn_in a t
   takes_in a b t h s =
       let same : quiet (inside (rules_of l made b) (scope_of l b) (block_state l b)) ≡ quiet (inside (rules_of l made a) (scope_of l a) (block_state l b)) =
-          λ i. quiet (inside (s.rules made i) (in_language of_terms (s.context i)) (block_state l b)) in
+      λ i. quiet (inside (s.rules made i) (in_language of_terms (s.context i)) (block_state l b)) in
       same ∙ ap (blocked (inside (rules_of l made a) (scope_of l a)) (scope_of l a)) (h made)
 
   -- a departure
@@ -88,7 +88,7 @@ module _ {L S V X T : Type 0} (l : TypedLanguage S V X T) (inside : Block X T �
   shuts_in a b t e s o h k c n m =
       let ended : Written = record { operation = o; end = e } in
       let same : concluded s o e ≡ (After (scope_of l a) (numbers_now b.parser), ended ∷ []) =
-          λ i. (After ((c ∙ ap (in_language of_terms) k.context) i) (n i), ended ∷ []) in
+      λ i. (After ((c ∙ ap (in_language of_terms) k.context) i) (n i), ended ∷ []) in
       same
       ∙ ap (λ z. blocked (inside (rules_of l made a) (scope_of l a)) (scope_of l a) (blocks.shut z (numbers_now b.parser) e)) m
       ∙ ap (blocked (inside (rules_of l made a) (scope_of l a)) (scope_of l a)) (h made)
@@ -112,7 +112,7 @@ module _ {L S V X T : Type 0} (l : TypedLanguage S V X T) (b : CodeBlock L S V X
   -- is at its start for the machine
   pub begun_in : (inside : Block X T → Scope → BlockState X T → State) (made : Making T) (since most : Option ℕ) → Begins since most
       → quiet (inside (rules_of l made b) (scope_of l b) (block_state l b))
-          ≡ quiet (inside (record { language = env.language; bars = bars_since since n; too_many = more_than most; operation = made }) (in_language of_terms env) (blocks.AtTriples env [] n))
+      ≡ quiet (inside (record { language = env.language; bars = bars_since since n; too_many = more_than most; operation = made }) (in_language of_terms env) (blocks.AtTriples env [] n))
   begun_in inside made since most h = λ i. quiet (inside
       (record { language = (h.context i).language; bars = bars_since (h.since i) (h.numbers i); too_many = more_than (h.most i); operation = made })
       (in_language of_terms (h.context i))

@@ -9,7 +9,10 @@ use std::test::Fail;
 /// Texts that are no update that is served.
 const REFUSED: [(&str, Refusal); 20] = [
     ("DELETE WHERE { }", Refusal::NotInProfile),
-    ("INSERT DATA { GRAPH <http://e/g> { } }", Refusal::NotInProfile),
+    (
+        "INSERT DATA { GRAPH <http://e/g> { } }",
+        Refusal::NotInProfile,
+    ),
     ("INSERT DATA { <s> a 1 . GRAPH", Refusal::NotInProfile),
     ("CLEAR ALL", Refusal::NotInProfile),
     ("INSERT { <s> a 1 } WHERE { }", Refusal::NotInProfile),
@@ -36,7 +39,10 @@ const REFUSED: [(&str, Refusal); 20] = [
         Refusal::Syntax(25),
     ),
     ("INSERT DATA {", Refusal::Syntax(0)),
-    ("INSERT DATA { <s> a 1 . } ; DELETE WHERE {", Refusal::Syntax(25)),
+    (
+        "INSERT DATA { <s> a 1 . } ; DELETE WHERE {",
+        Refusal::Syntax(25),
+    ),
 ];
 
 /// The operations of a text in the graph `http://e/g`, in request 1.
