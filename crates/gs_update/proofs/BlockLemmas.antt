@@ -1,5 +1,5 @@
 -- What a symbol of triples leaves of a block: its context, and the labels that it bars.
-use Rattle.std.proofs.Common.{◌≡◌, ◌≢◌, ℕ, ◌≤◌, Bool, true, false, cond, List, [], ◌∷◌, ◌++◌, refl, sym, ap, ◌∙◌, subst, arith}
+use Rattle.std.proofs.Common.{◌≡◌, ◌≢◌, ℕ, ◌≤◌, List, refl, sym, ap, ◌∙◌, subst, arith}
 use Rattle.std.specs.Prelude.{codes, Option, Some, None}
 use Rattle.gs_blank.specs.Numbers.{Numbers}
 use Rattle.gs_escape.specs.Tokens.{behind}
@@ -17,7 +17,7 @@ use Rattle.gs_triple_parser.specs.declared.places.Place.TheVariants as place
 use Rattle.gs_update_text.specs.Operations.{is_old}
 use Rattle.gs_update_text.proofs.GrowthLemmas.{NotLost}
 use Rattle.gs_update_text.proofs.NumberLemmas.{Keeps, keeps_all, Kept, KeptBy, Stays, stays_one, stays_label, step_stays, opening_stays}
-use Rattle.gs_update.specs.Views.{HasGiven, bars_since, more_than, rules_of}
+use Rattle.gs_update.specs.Views.{HasGiven, bars_since, more_than}
 use Rattle.gs_update.specs.Steps as steps
 use Rattle.gs_update.specs.Steps.{Making}
 use Rattle.gs_update.specs.declared.blocks.Block.{Block as CodeBlock}
@@ -104,7 +104,7 @@ module _ {L S V X T : Type 0} (l : TypedLanguage S V X T) where
       let C : context_now l b.parser ≡ context_now l a.parser = (f 0 (omega arith)).0 in
       let keeps : (k : ℕ) → k ≤ (numbers_now a.parser).1 → Keeps k (numbers_now a.parser) (numbers_now b.parser) = λ k h. (f k h).1 in
       let B : bars_since b.since (numbers_now b.parser) ≡ bars_since a.since (numbers_now a.parser) =
-          ap (λ z. bars_since z (numbers_now b.parser)) s ∙ bars_same a.since (numbers_now a.parser) (numbers_now b.parser) keeps g in
+      ap (λ z. bars_since z (numbers_now b.parser)) s ∙ bars_same a.since (numbers_now a.parser) (numbers_now b.parser) keeps g in
       record {
         context = C;
         rules = λ made i. record { language = (C i).language; bars = B i; too_many = more_than (m i); operation = made };
@@ -134,5 +134,5 @@ module _ {L S V X T : Type 0} (l : TypedLanguage S V X T) where
       → numbers_now c.parser ≡ numbers_now b.parser → HasGiven a.since (numbers_now a.parser) → ((k : ℕ) → k ≤ (numbers_now a.parser).1 → Told a.parser b.parser k) → steps.StaysUnless l a c u
   followed_stays a b c u s m k e n h f =
       let told : (k : ℕ) → k ≤ (numbers_now a.parser).1 → Told a.parser c.parser k =
-          λ k g. (e ∙ (f k g).0, subst (Keeps k (numbers_now a.parser)) (sym n) (f k g).1) in
+      λ k g. (e ∙ (f k g).0, subst (Keeps k (numbers_now a.parser)) (sym n) (f k g).1) in
       stays_unless a c u (block_stays a c (k.since ∙ s) (k.most ∙ m) h told)

@@ -17,7 +17,7 @@ use Rattle.gs_triple_parser.specs.declared.triple_terms.Terms.{Terms}
 use Rattle.gs_triple_parser.specs.declared.patterns.Patterns.{Patterns}
 use Rattle.gs_triple_parser.specs.Typed.{terms, patterns}
 use Rattle.gs_triple_parser.specs.Languages.{TypedLanguage}
-use Rattle.gs_triple_parser.specs.Views.{symbol_at, scope_context, scope_numbers, triples_state, context_now, numbers_now}
+use Rattle.gs_triple_parser.specs.Views.{scope_context, scope_numbers, triples_state, context_now, numbers_now}
 use Rattle.gs_triple_parser.specs.declared.scopes.Scope.{Scope as CodeScope}
 use Rattle.gs_triple_parser.specs.declared.symbols.Symbol.{Symbol}
 use Rattle.gs_update_text.specs.Requests.{UpdateOperation, Inserts, DeletesData, DeletesWhere, Written, OutOfProfile}
@@ -26,7 +26,7 @@ use Rattle.gs_update_text.specs.Blocks as blocks
 use Rattle.gs_update_text.specs.Blocks.{BlockState}
 use Rattle.gs_update_text.specs.States.{InsertData, DeleteData, DeleteWhere, State, InData, InWhere, Turn, After, Rejected, quiet}
 use Rattle.gs_update_text.specs.Machine.{blocked, step}
-use Rattle.gs_update.specs.Views.{rejection_at, HasGiven, IsSound, block_state, rules_of, scope_of, more_than, bars_since, state_at}
+use Rattle.gs_update.specs.Views.{rejection_at, HasGiven, block_state, rules_of, scope_of, more_than, bars_since, state_at}
 use Rattle.gs_update.specs.Steps.{Making, Turned, block_turn, Stays, LeadsTo, start_of, turn_at_place, concluded, Moves}
 use Rattle.gs_update.specs.declared.blocks.Block.{Block as CodeBlock}
 use Rattle.gs_update.specs.declared.blocks.BlockTurn.TheVariants as turn
@@ -75,7 +75,7 @@ module _ {L S V X T : Type 0} (l : TypedLanguage S V X T) (inside : Block X T �
       → quiet (inside (rules_of l made b) (scope_of l b) (block_state l b)) ≡ turn_in a t
   takes_in a b t h s =
       let same : quiet (inside (rules_of l made b) (scope_of l b) (block_state l b)) ≡ quiet (inside (rules_of l made a) (scope_of l a) (block_state l b)) =
-          λ i. quiet (inside (s.rules made i) (in_language of_terms (s.context i)) (block_state l b)) in
+      λ i. quiet (inside (s.rules made i) (in_language of_terms (s.context i)) (block_state l b)) in
       same ∙ ap (blocked (inside (rules_of l made a) (scope_of l a)) (scope_of l a)) (h made)
 
   -- a departure
@@ -88,7 +88,7 @@ module _ {L S V X T : Type 0} (l : TypedLanguage S V X T) (inside : Block X T �
   shuts_in a b t e s o h k c n m =
       let ended : Written = record { operation = o; end = e } in
       let same : concluded s o e ≡ (After (scope_of l a) (numbers_now b.parser), ended ∷ []) =
-          λ i. (After ((c ∙ ap (in_language of_terms) k.context) i) (n i), ended ∷ []) in
+      λ i. (After ((c ∙ ap (in_language of_terms) k.context) i) (n i), ended ∷ []) in
       same
       ∙ ap (λ z. blocked (inside (rules_of l made a) (scope_of l a)) (scope_of l a) (blocks.shut z (numbers_now b.parser) e)) m
       ∙ ap (blocked (inside (rules_of l made a) (scope_of l a)) (scope_of l a)) (h made)
@@ -112,7 +112,7 @@ module _ {L S V X T : Type 0} (l : TypedLanguage S V X T) (b : CodeBlock L S V X
   -- is at its start for the machine
   pub begun_in : (inside : Block X T → Scope → BlockState X T → State) (made : Making T) (since most : Option ℕ) → Begins since most
       → quiet (inside (rules_of l made b) (scope_of l b) (block_state l b))
-          ≡ quiet (inside (record { language = env.language; bars = bars_since since n; too_many = more_than most; operation = made }) (in_language of_terms env) (blocks.AtTriples env [] n))
+      ≡ quiet (inside (record { language = env.language; bars = bars_since since n; too_many = more_than most; operation = made }) (in_language of_terms env) (blocks.AtTriples env [] n))
   begun_in inside made since most h = λ i. quiet (inside
       (record { language = (h.context i).language; bars = bars_since (h.since i) (h.numbers i); too_many = more_than (h.most i); operation = made })
       (in_language of_terms (h.context i))

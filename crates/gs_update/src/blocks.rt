@@ -4,7 +4,9 @@ ghost use Rattle.std.specs.Prelude.{◌≡◌, ◌≤◌, ◌++◌, [], true, fa
 use crate::rejections::Rejection;
 use gs_lex::TokenKind;
 use gs_model::{Fault, MAX_PATTERNS};
-use gs_triple_parser::{Allowed, Language, Patterns, Scope, Symbol, TermToken, Terms, TripleParser, Turn};
+use gs_triple_parser::{
+    Allowed, Language, Patterns, Scope, Symbol, TermToken, Terms, TripleParser, Turn,
+};
 use std::alloc::{AllocError, Global};
 
 /// What a symbol does in a block: it is taken, it closes the block with this end, or it is the
@@ -216,7 +218,9 @@ impl<L: Language> Block<L> {
         ensures triples { result.1.items ≡ self.triples.items }
     {
         let Block {
-            parser, triples, ..
+            parser,
+            triples,
+            ..
         } = self;
         (parser.into_scope(), triples)
     }
