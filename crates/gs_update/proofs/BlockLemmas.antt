@@ -1,5 +1,5 @@
 -- What a symbol of triples leaves of a block: its context, and the labels that it bars.
-use Rattle.std.proofs.Common.{◌≡◌, ◌≢◌, ℕ, ◌≤◌, Bool, true, false, cond, List, [], ◌∷◌, ◌++◌, refl, sym, ap, ◌∙◌, subst, arith}
+use Rattle.std.proofs.Common.{◌≡◌, ◌≢◌, ℕ, ◌≤◌, List, refl, sym, ap, ◌∙◌, subst, arith}
 use Rattle.std.specs.Prelude.{codes, Option, Some, None}
 use Rattle.gs_blank.specs.Numbers.{Numbers}
 use Rattle.gs_escape.specs.Tokens.{behind}
@@ -17,7 +17,7 @@ use Rattle.gs_triple_parser.specs.declared.places.Place.TheVariants as place
 use Rattle.gs_update_text.specs.Operations.{is_old}
 use Rattle.gs_update_text.proofs.GrowthLemmas.{NotLost}
 use Rattle.gs_update_text.proofs.NumberLemmas.{Keeps, keeps_all, Kept, KeptBy, Stays, stays_one, stays_label, step_stays, opening_stays}
-use Rattle.gs_update.specs.Views.{HasGiven, bars_since, more_than, rules_of}
+use Rattle.gs_update.specs.Views.{HasGiven, bars_since, more_than}
 use Rattle.gs_update.specs.Steps as steps
 use Rattle.gs_update.specs.Steps.{Making}
 use Rattle.gs_update.specs.declared.blocks.Block.{Block as CodeBlock}

@@ -17,7 +17,7 @@ use Rattle.gs_triple_parser.specs.declared.triple_terms.Terms.{Terms}
 use Rattle.gs_triple_parser.specs.declared.patterns.Patterns.{Patterns}
 use Rattle.gs_triple_parser.specs.Typed.{terms, patterns}
 use Rattle.gs_triple_parser.specs.Languages.{TypedLanguage}
-use Rattle.gs_triple_parser.specs.Views.{symbol_at, scope_context, scope_numbers, triples_state, context_now, numbers_now}
+use Rattle.gs_triple_parser.specs.Views.{scope_context, scope_numbers, triples_state, context_now, numbers_now}
 use Rattle.gs_triple_parser.specs.declared.scopes.Scope.{Scope as CodeScope}
 use Rattle.gs_triple_parser.specs.declared.symbols.Symbol.{Symbol}
 use Rattle.gs_update_text.specs.Requests.{UpdateOperation, Inserts, DeletesData, DeletesWhere, Written, OutOfProfile}
@@ -26,7 +26,7 @@ use Rattle.gs_update_text.specs.Blocks as blocks
 use Rattle.gs_update_text.specs.Blocks.{BlockState}
 use Rattle.gs_update_text.specs.States.{InsertData, DeleteData, DeleteWhere, State, InData, InWhere, Turn, After, Rejected, quiet}
 use Rattle.gs_update_text.specs.Machine.{blocked, step}
-use Rattle.gs_update.specs.Views.{rejection_at, HasGiven, IsSound, block_state, rules_of, scope_of, more_than, bars_since, state_at}
+use Rattle.gs_update.specs.Views.{rejection_at, HasGiven, block_state, rules_of, scope_of, more_than, bars_since, state_at}
 use Rattle.gs_update.specs.Steps.{Making, Turned, block_turn, Stays, LeadsTo, start_of, turn_at_place, concluded, Moves}
 use Rattle.gs_update.specs.declared.blocks.Block.{Block as CodeBlock}
 use Rattle.gs_update.specs.declared.blocks.BlockTurn.TheVariants as turn

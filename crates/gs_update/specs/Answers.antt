@@ -1,11 +1,10 @@
 -- What the reader of updates answers.
-use Rattle.std.specs.Prelude.{◌≡◌, ℕ, List, map, Some, None, Result, Ok, Err, Vec}
+use Rattle.std.specs.Prelude.{◌≡◌, List, map, Some, None, Result, Ok, Err, Vec}
 use Rattle.gs_event.specs.declared.updates.Op.{Op}
 use Rattle.gs_model.specs.declared.refusals.Refusal.{Refusal}
 use Rattle.gs_model.specs.declared.refusals.Refusal.TheVariants as refusal
 use Rattle.gs_triples.specs.Meanings.{TermTooLong}
 use Rattle.gs_update_text.specs.Requests.{Written, Broken, OutOfProfile, Request, IsBroken}
-use Rattle.gs_update_text.specs.Texts.{request_by}
 use Rattle.gs_update.specs.Views.{operations_of}
 
 -- the text is an update, and these are its operations in their order

@@ -2,8 +2,8 @@
 use crate::read_update;
 use gs_event::Op;
 use gs_model::Refusal;
-use gs_term::Part;
-use std::alloc::Global;
+use gs_term::{Part, Pattern, Triple};
+use std::alloc::{AllocError, Global};
 use std::test::Fail;
 
 /// Texts that are no update that is served.
@@ -62,15 +62,6 @@ fn texts_are_refused(rt: HostRuntime) -> Result<(), Fail> {
     Ok(())
 }
 
-/// The form of an operation.
-fn form(operation: &Op) -> &str {
-    match operation {
-        Op::Insert(_) => "INSERT DATA",
-        Op::DeleteData(_) => "DELETE DATA",
-        Op::DeleteWhere(_) => "DELETE WHERE",
-    }
-}
-
 /// The text of a term, or a variable's name.
 fn text_of(part: &Part) -> &[u8] {
     match part {
@@ -79,59 +70,69 @@ fn text_of(part: &Part) -> &[u8] {
     }
 }
 
-/// The texts of the first triple or pattern of an operation.
-fn first_row(operation: &Op) -> Option<[&[u8]; 3]> {
+/// A word of a row.
+fn put(row: &mut Vec<u8>, word: &[u8]) -> Result<(), AllocError> {
+    row.extend_from_slice(word)?;
+    row.push(b' ')?;
+    Ok(())
+}
+
+fn put_triples(row: &mut Vec<u8>, triples: &[Triple]) -> Result<(), AllocError> {
+    for triple in triples {
+        put(row, triple.subject().as_bytes())?;
+        put(row, triple.predicate().as_bytes())?;
+        put(row, triple.object().as_bytes())?;
+    }
+    Ok(())
+}
+
+fn put_patterns(row: &mut Vec<u8>, patterns: &[Pattern]) -> Result<(), AllocError> {
+    for pattern in patterns {
+        put(row, text_of(&pattern.subject))?;
+        put(row, text_of(&pattern.predicate))?;
+        put(row, text_of(&pattern.object))?;
+    }
+    Ok(())
+}
+
+/// The form of an operation, and the words of its triples or patterns.
+fn put_operation(row: &mut Vec<u8>, operation: &Op) -> Result<(), AllocError> {
     match operation {
-        Op::Insert(triples) | Op::DeleteData(triples) => {
-            let triple = triples.first()?;
-            Some([
-                triple.subject().as_bytes(),
-                triple.predicate().as_bytes(),
-                triple.object().as_bytes(),
-            ])
+        Op::Insert(triples) => {
+            put(row, b"INSERT")?;
+            put_triples(row, triples)
+        }
+        Op::DeleteData(triples) => {
+            put(row, b"DELETE")?;
+            put_triples(row, triples)
         }
         Op::DeleteWhere(patterns) => {
-            let pattern = patterns.first()?;
-            Some([
-                text_of(&pattern.subject),
-                text_of(&pattern.predicate),
-                text_of(&pattern.object),
-            ])
+            put(row, b"WHERE")?;
+            put_patterns(row, patterns)
         }
     }
 }
 
+/// Two triples, a pattern, and another triple.
+const WRITTEN: &str = "PREFIX e: <http://e/> INSERT DATA { _:x <p> 1 ; a e:c } ; BASE <http://b/>
+    DELETE WHERE { ?s e:p $s } ; delete data { <http://e/a> a 01 } ;";
+
+/// The operations that it says.
+const SAID: &str = "INSERT _:b1_1 <http://e/p> \"1\"^^<http://www.w3.org/2001/XMLSchema#integer> \
+    _:b1_1 <http://www.w3.org/1999/02/22-rdf-syntax-ns#type> <http://e/c> \
+    WHERE s <http://e/p> s \
+    DELETE <http://e/a> <http://www.w3.org/1999/02/22-rdf-syntax-ns#type> \
+    \"01\"^^<http://www.w3.org/2001/XMLSchema#integer> ";
+
 #[test]
 fn operations_stand_in_their_order(rt: HostRuntime) -> Result<(), Fail> {
-    let text = "INSERT DATA { _:x <p> 1 } ; PREFIX e: <http://e/>
-        DELETE WHERE { ?s e:p $s } ; delete data { <http://e/a> a 01 } ;";
-    let rows = [
-        (
-            "INSERT DATA",
-            [
-                "_:b1_1",
-                "<http://e/p>",
-                "\"1\"^^<http://www.w3.org/2001/XMLSchema#integer>",
-            ],
-        ),
-        ("DELETE WHERE", ["s", "<http://e/p>", "s"]),
-        (
-            "DELETE DATA",
-            [
-                "<http://e/a>",
-                "<http://www.w3.org/1999/02/22-rdf-syntax-ns#type>",
-                "\"01\"^^<http://www.w3.org/2001/XMLSchema#integer>",
-            ],
-        ),
-    ];
-    let operations = read(rt.alloc(), text)?;
-    assert_eq!(rt; operations.len(), rows.len());
-    for (operation, (name, row)) in operations.iter().zip(rows) {
-        assert_eq!(rt; form(operation), name);
-        let [subject, predicate, object] = row;
-        let expected = [subject.as_bytes(), predicate.as_bytes(), object.as_bytes()];
-        assert_eq!(rt; first_row(operation), Some(expected), "{name}");
+    let operations = read(rt.alloc(), WRITTEN)?;
+    assert_eq!(rt; operations.len(), 3);
+    let mut row = Vec::new(rt.alloc());
+    for operation in &operations {
+        put_operation(&mut row, operation)?;
     }
+    assert_eq!(rt; row.as_slice(), SAID.as_bytes());
     Ok(())
 }
 
