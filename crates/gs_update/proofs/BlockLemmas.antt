@@ -14,25 +14,17 @@ use Rattle.gs_triple_parser.specs.Views.{triples_state, triples_state_at, contex
 use Rattle.gs_triple_parser.specs.declared.parser.TripleParser.{TripleParser}
 use Rattle.gs_triple_parser.specs.declared.places.Place as code
 use Rattle.gs_triple_parser.specs.declared.places.Place.TheVariants as place
-use Rattle.gs_update_text.specs.Operations.{Block, is_old}
-use Rattle.gs_update_text.specs.Blocks.{counted, entered}
+use Rattle.gs_update_text.specs.Operations.{is_old}
 use Rattle.gs_update_text.proofs.GrowthLemmas.{NotLost}
 use Rattle.gs_update_text.proofs.NumberLemmas.{Keeps, keeps_all, Kept, KeptBy, Stays, stays_one, stays_label, step_stays, opening_stays}
 use Rattle.gs_update.specs.Views.{HasGiven, bars_since, more_than, rules_of}
 use Rattle.gs_update.specs.Steps as steps
 use Rattle.gs_update.specs.Steps.{Making}
 use Rattle.gs_update.specs.declared.blocks.Block.{Block as CodeBlock}
+use Rattle.gs_update.specs.declared.blocks.BlockTurn.{BlockTurn as CodeTurn}
+use Rattle.gs_update.specs.declared.blocks.BlockTurn.TheVariants as turn
 
 module _ {Value Triple : Type 0} where
-  -- a state that is not lost is counted
-  pub entered_counted : (b : Block Value Triple) (P : List Triple) (s : triples.State Value Triple) → ((f : Fault) → s ≢ Lost f) → entered b P s ≡ counted b P s
-  entered_counted b P (Lost e) h = absurd (h e refl)
-  entered_counted b P (Opened env n) h = refl
-  entered_counted b P (Closed v env T n) h = refl
-  entered_counted b P (Heading g fs env T n) h = refl
-  entered_counted b P (Held x fs env T n) h = refl
-  entered_counted b P (Typing x fs env T n) h = refl
-
   -- a state that is not lost
   pub goes_on : (s : triples.State Value Triple) → ((f : Fault) → s ≢ Lost f) → NotLost s
   goes_on (Lost e) h = h e refl
@@ -118,3 +110,29 @@ module _ {L S V X T : Type 0} (l : TypedLanguage S V X T) where
         rules = λ made i. record { language = (C i).language; bars = B i; too_many = more_than (m i); operation = made };
         given = subst (λ z. HasGiven z (numbers_now b.parser)) (sym s) (given_same a.since (numbers_now a.parser) (numbers_now b.parser) keeps g);
       }
+
+  -- they stay whatever the turn is
+  pub stays_unless : (a b : CodeBlock L S V X T) (u : CodeTurn) → steps.Stays l a b → steps.StaysUnless l a b u
+  stays_unless a b turn.Takes h = h
+  stays_unless a b (turn.Shuts e) h = h
+  stays_unless a b (turn.Stops r) h = tt
+
+  -- nothing changes
+  pub nothing_stays : (a : CodeBlock L S V X T) (u : CodeTurn) → HasGiven a.since (numbers_now a.parser) → steps.StaysUnless l a a u
+  nothing_stays a u g = stays_unless a a u (record { context = refl; rules = λ made. refl; given = g })
+
+  -- after a symbol that triples took, unless they have a fault
+  pub entered_stays : (a b c : CodeBlock L S V X T) (u : CodeTurn) → steps.GoesOn l b u → b.since ≡ a.since → b.most ≡ a.most → c.parser ≡ b.parser → steps.KeepsBounds b c
+      → HasGiven a.since (numbers_now a.parser) → (NotLost (triples_state l b.parser) → (k : ℕ) → k ≤ (numbers_now a.parser).1 → Told a.parser b.parser k) → steps.StaysUnless l a c u
+  entered_stays a b c turn.Takes g s m p k h f =
+      block_stays a c (k.since ∙ s) (k.most ∙ m) h (subst (λ z. (k : ℕ) → k ≤ (numbers_now a.parser).1 → Told a.parser z k) (sym p) (f (goes_on (triples_state l b.parser) g)))
+  entered_stays a b c (turn.Shuts e) g s m p k h f = absurd g
+  entered_stays a b c (turn.Stops r) g s m p k h f = tt
+
+  -- after one that ends them
+  pub followed_stays : (a b c : CodeBlock L S V X T) (u : CodeTurn) → b.since ≡ a.since → b.most ≡ a.most → steps.KeepsBounds b c → context_now l c.parser ≡ context_now l b.parser
+      → numbers_now c.parser ≡ numbers_now b.parser → HasGiven a.since (numbers_now a.parser) → ((k : ℕ) → k ≤ (numbers_now a.parser).1 → Told a.parser b.parser k) → steps.StaysUnless l a c u
+  followed_stays a b c u s m k e n h f =
+      let told : (k : ℕ) → k ≤ (numbers_now a.parser).1 → Told a.parser c.parser k =
+          λ k g. (e ∙ (f k g).0, subst (Keeps k (numbers_now a.parser)) (sym n) (f k g).1) in
+      stays_unless a c u (block_stays a c (k.since ∙ s) (k.most ∙ m) h told)

@@ -1,8 +1,7 @@
 -- What the steps of a reader tell of its history.
-use Rattle.std.proofs.Common.{◌≡◌, ℕ, Bool, true, List, [], ◌++◌, sym, ap, subst, ◌∙◌, append_assoc}
-use Rattle.std.specs.Prelude.{Option, Some, None}
+use Rattle.std.proofs.Common.{◌≡◌, ℕ, Bool, true, List, [], ◌++◌, refl, sym, ap, subst, ◌∙◌, append_assoc}
+use Rattle.std.specs.Prelude.{Some, None}
 use Rattle.std.proofs.lemmas.List.{map-append}
-use Rattle.gs_model.specs.declared.faults.Fault.TheVariants as fault
 use Rattle.gs_model.specs.declared.refusals.Refusal.{Refusal}
 use Rattle.gs_model.specs.declared.refusals.Refusal.TheVariants as refusal
 use Rattle.gs_machine.specs.Machines.{joined, steps, rest}
@@ -15,13 +14,13 @@ use Rattle.gs_lex.specs.Lexers.{Leads, Breaks}
 use Rattle.gs_lex.specs.declared.tokens.Token.{Token}
 use Rattle.gs_lex.proofs.CutLemmas.{leads-goes-on}
 use Rattle.gs_triples.specs.Symbols.{symbol_of, symbols_of}
-use Rattle.gs_update_text.specs.Requests.{Written, Request, IsBroken, end_of_last}
+use Rattle.gs_update_text.specs.Requests.{Written, Request, end_of_last}
 use Rattle.gs_update_text.specs.States.{State}
-use Rattle.gs_update_text.specs.Machine.{updates, request_of}
+use Rattle.gs_update_text.specs.Machine.{updates}
 use Rattle.gs_update_text.specs.Texts.{ended_by, request_by}
 use Rattle.gs_update_text.proofs.TextLemmas.{text_cut}
-use Rattle.gs_update.specs.Views.{state_of, operations_of}
-use Rattle.gs_update.specs.Answers.{AreOperationsOf, Refuses}
+use Rattle.gs_update.specs.Views.{operations_of}
+use Rattle.gs_update.specs.Answers.{Refuses}
 use Rattle.gs_update.specs.Steps.{Starts}
 use Rattle.gs_update.specs.Portions.{operations_in, turn_of, end_of, Takes, Concludes, TellsBehind}
 use Rattle.gs_update.specs.Readers.{start, IsLed, LeadsTo, Goes, IsRefused, Finishes, IsRefusedAtEnd}
@@ -109,7 +108,7 @@ refused_portion e a b piece old new n f h = λ base r x l y.
     let g = leads-goes-on true b.lexer (x ++ piece) (l.lexemes ++ fed.added) fed.leads y in
     let us = lexemes_of new ++ g.0 in
     let cut : IsCut true ((x ++ piece) ++ y) (l.lexemes ++ us) g.1 =
-        subst (λ z. IsCut true ((x ++ piece) ++ y) z g.1) (append_assoc l.lexemes fed.added g.0 ∙ ap (λ z. l.lexemes ++ (z ++ g.0)) (same_added old new fed.added n fed.given)) g.2 in
+    subst (λ z. IsCut true ((x ++ piece) ++ y) z g.1) (append_assoc l.lexemes fed.added g.0 ∙ ap (λ z. l.lexemes ++ (z ++ g.0)) (same_added old new fed.added n fed.given)) g.2 in
     tells_joined e a.parser.last l.parsed.written (ended_by g.1 (end_of a.parser us)) (request_by base r ((x ++ piece) ++ y)) l.parsed.last
     (said_on base r a x l ((x ++ piece) ++ y) us g.1 cut) (tells_ended e a.parser.last g.1 (end_of a.parser us) (h g.0))
 
@@ -121,7 +120,7 @@ broken_portion e a piece old new at n f h = λ base r x l y.
     let g = f true x l.lexemes l.lexed in
     let us = lexemes_of new in
     let cut : IsCut true ((x ++ piece) ++ y) (l.lexemes ++ us) (lexer.AtFault at) =
-        subst (λ z. IsCut true ((x ++ piece) ++ y) (l.lexemes ++ z) (lexer.AtFault at)) (same_added old new g.added n g.given) (g.fault y) in
+    subst (λ z. IsCut true ((x ++ piece) ++ y) (l.lexemes ++ z) (lexer.AtFault at)) (same_added old new g.added n g.given) (g.fault y) in
     tells_joined e a.parser.last l.parsed.written (ended_by (lexer.AtFault at) (end_of a.parser us)) (request_by base r ((x ++ piece) ++ y)) l.parsed.last
     (said_on base r a x l ((x ++ piece) ++ y) us (lexer.AtFault at) cut) (h at)
 

@@ -3,3 +3,4 @@ pub mod HistoryLemmas
 pub mod PieceLemmas
 pub mod BlockLemmas
 pub mod TurnLemmas
+pub mod PlaceLemmas

@@ -5,7 +5,7 @@ use Rattle.gs_model.specs.declared.refusals.Refusal.{Refusal}
 use Rattle.gs_update_text.specs.Texts.{request_by}
 use Rattle.gs_update.specs.Views.{IsSound}
 use Rattle.gs_update.specs.Answers.{Refuses}
-use Rattle.gs_update.specs.Readers.{LeadsTo, Goes, IsRefused}
+use Rattle.gs_update.specs.Readers.{LeadsTo, Goes, IsRefused, Finishes, IsRefusedAtEnd, Reads, IsRefusedWhole}
 use Rattle.gs_update.specs.declared.readers.UpdateReader.{UpdateReader}
 
 -- a text is cut in two
@@ -48,7 +48,7 @@ parted x f p b y = simp append_assoc
 pub walks_refused : (e : Refusal) (a b : UpdateReader) (text rest portion behind : List ℕ) → Walks a b text rest → rest ≡ portion ++ behind → IsRefused b portion e → IsRefused a text e
 walks_refused e a b text rest portion behind w p h = λ base r x l y.
     let all : ((x ++ w.front) ++ portion) ++ (behind ++ y) ≡ (x ++ text) ++ y =
-        parted x w.front portion behind y ∙ ap (λ z. (x ++ z) ++ y) (sym (w.parts ∙ ap (λ z. w.front ++ z) p)) in
+    parted x w.front portion behind y ∙ ap (λ z. (x ++ z) ++ y) (sym (w.parts ∙ ap (λ z. w.front ++ z) p)) in
     subst (λ z. Refuses e (request_by base r z)) all (h base r (x ++ w.front) (w.goes base r x l) (behind ++ y))
 
 -- so is it at its last portion
@@ -56,5 +56,13 @@ pub walks_last_refused : (e : Refusal) (a b : UpdateReader) (text rest : List �
 walks_last_refused e a b text rest w h = walks_refused e a b text rest rest [] w (sym (append-nil rest)) h
 
 -- a text that is refused, as it stands
-pub refused_whole : (e : Refusal) (a b : UpdateReader) (base : List ℕ) (r : ℕ) (text : List ℕ) → LeadsTo base r a [] → IsRefused a text e → Refuses e (request_by base r text)
-refused_whole e a b base r text l h = subst (λ z. Refuses e (request_by base r z)) (append-nil text) (h base r [] l [])
+pub refused_whole : (e : Refusal) (a : UpdateReader) (text : List ℕ) → IsRefused a text e → IsRefusedWhole a text e
+refused_whole e a text h = λ base r l. subst (λ z. Refuses e (request_by base r z)) (append-nil text) (h base r [] l [])
+
+-- a text that was read, and ends
+pub reads_whole : (a b c : UpdateReader) (text : List ℕ) → Goes a b text → Finishes b c → Reads a c text
+reads_whole a b c text g f = λ base r l. f base r text (g base r [] l)
+
+-- one that is refused where it ends
+pub refused_at_its_end : (e : Refusal) (a b : UpdateReader) (text : List ℕ) → Goes a b text → IsRefusedAtEnd b e → IsRefusedWhole a text e
+refused_at_its_end e a b text g h = λ base r l. h base r text (g base r [] l)

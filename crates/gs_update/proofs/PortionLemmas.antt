@@ -1,6 +1,6 @@
 -- The tokens of a portion, one after another.
 use Rattle.std.proofs.Common.{◌≡◌, ℕ, ◌+◌, ◌<◌, List, [], ◌∷◌, ◌++◌, length, take, get_or, refl, sym, ap, subst, ◌∙◌, append_assoc, append-nil}
-use Rattle.std.specs.Prelude.{map, Option, Some, None}
+use Rattle.std.specs.Prelude.{Some, None}
 use Rattle.std.proofs.lemmas.List.{map-append, take_more}
 use Rattle.gs_model.specs.declared.refusals.Refusal.{Refusal}
 use Rattle.gs_model.specs.declared.refusals.Refusal.TheVariants as refusal
@@ -13,7 +13,6 @@ use Rattle.gs_lex.specs.Lexemes.{lexeme_of, lexemes_of}
 use Rattle.gs_lex.specs.declared.tokens.Token.{Token}
 use Rattle.gs_triples.specs.Symbols.{symbol_of, symbols_of}
 use Rattle.gs_update_text.specs.Requests.{Written, Rejection, Broken, OutOfProfile, Request, end_of_last}
-use Rattle.gs_update_text.specs.States as machine
 use Rattle.gs_update_text.specs.States.{State, Rejected}
 use Rattle.gs_update_text.specs.Machine.{step, ended, updates}
 use Rattle.gs_update_text.specs.Texts.{ended_by}
@@ -23,9 +22,11 @@ use Rattle.gs_update.specs.Steps.{Moves}
 use Rattle.gs_update.specs.Portions.{operations_in, turn_of, end_of, Takes, Concludes, refusal_of, TellsBehind}
 use Rattle.gs_update.specs.declared.parser.UpdateParser.{UpdateParser}
 
+-- the operations of one list after another
 pub operations_in-append : (os us : List Written) → operations_in (os ++ us) ≡ operations_in os ++ operations_in us
 operations_in-append os us = map-append (λ (w : Written). w.operation) os us
 
+-- the end of the last of both
 pub end_of_last-append : (n : ℕ) (os us : List Written) → end_of_last n (os ++ us) ≡ end_of_last (end_of_last n os) us
 end_of_last-append n [] us = refl
 end_of_last-append n (o ∷ os) us = end_of_last-append o.end os us
@@ -47,7 +48,7 @@ takes_more a b c ts t h m =
     let u = step (state_of b) (symbol_of t) in
     let old = (turn_of a ts).1 in
     let e : turn_of a (ts ++ t ∷ []) ≡ (u.0, old ++ u.1) =
-        turn-append a (state_of b) ts (t ∷ []) h.state ∙ ap (λ (z : State × List Written). (z.0, old ++ z.1)) (steps-one updates (state_of b) (symbol_of t)) in
+    turn-append a (state_of b) ts (t ∷ []) h.state ∙ ap (λ (z : State × List Written). (z.0, old ++ z.1)) (steps-one updates (state_of b) (symbol_of t)) in
     record {
       state = m.state ∙ ap (λ (z : State × List Written). z.0) (sym e);
       operations = m.operations ∙ ap (λ z. z ++ operations_in u.1) h.operations ∙ append_assoc (operations_of a.operations.items) (operations_in old) (operations_in u.1)
@@ -61,7 +62,7 @@ pub takes_next : (a b c : UpdateParser) (xs : List Token) (n : ℕ) (t : Token) 
     → Takes a c (lexemes_of (take (n + 1) xs))
 takes_next a b c xs n t l i h m =
     let e : lexemes_of (take (n + 1) xs) ≡ lexemes_of (take n xs) ++ lexeme_of t ∷ [] =
-        ap lexemes_of (take_more xs n t l) ∙ map-append lexeme_of (take n xs) (get_or xs n t ∷ []) ∙ ap (λ (z : Token). lexemes_of (take n xs) ++ lexeme_of z ∷ []) (sym i) in
+    ap lexemes_of (take_more xs n t l) ∙ map-append lexeme_of (take n xs) (get_or xs n t ∷ []) ∙ ap (λ (z : Token). lexemes_of (take n xs) ++ lexeme_of z ∷ []) (sym i) in
     subst (Takes a c) (sym e) (takes_more a b c (lexemes_of (take n xs)) (lexeme_of t) h m)
 
 -- a departure by its refusal
@@ -75,8 +76,8 @@ pub rejected_tells : (a b : UpdateParser) (ts us : List Lexeme) (r : Rejection) 
 rejected_tells a b ts us r h e =
     let old = (turn_of a ts).1 in
     let all : end_of a (ts ++ us) ≡ (old, Some r) =
-        ap (rest updates (state_of a)) (map-append symbol_of ts us) ∙ rest-append updates (state_of a) (symbols_of ts) (symbols_of us)
-        ∙ ap (λ (z : State). joined old (rest updates z (symbols_of us))) (sym h.state ∙ e) ∙ ap (joined old) (rejected_rest r (symbols_of us)) ∙ ap (λ z. let p : Request = (z, Some r) in p) (append-nil old) in
+    ap (rest updates (state_of a)) (map-append symbol_of ts us) ∙ rest-append updates (state_of a) (symbols_of ts) (symbols_of us)
+    ∙ ap (λ (z : State). joined old (rest updates z (symbols_of us))) (sym h.state ∙ e) ∙ ap (joined old) (rejected_rest r (symbols_of us)) ∙ ap (λ z. let p : Request = (z, Some r) in p) (append-nil old) in
     tells r a.last b.last (end_of a (ts ++ us)) (ap (λ (z : Request). z.1) all) (h.last ∙ ap (λ (z : Request). end_of_last a.last z.0) (sym all))
 
 -- the text ends there

@@ -1,6 +1,7 @@
 -- What a symbol does to a parser of updates.
-use Rattle.std.specs.Prelude.{◌≡◌, ℕ, List, [], ◌∷◌, ◌++◌, map, Option, Result, IfOk}
-use Rattle.gs_triples.specs.States.{triples_so_far}
+use Rattle.std.specs.Prelude.{◌≡◌, ◌≢◌, ℕ, List, [], ◌∷◌, ◌++◌, map, Option, Result, IfOk}
+use Rattle.gs_triples.specs.Meanings.{Fault}
+use Rattle.gs_triples.specs.States.{Lost, triples_so_far}
 use Rattle.gs_triple_parser.specs.Languages.{TypedLanguage}
 use Rattle.gs_triple_parser.specs.Views.{symbol_at, scope_context, scope_numbers, triples_state, context_now, numbers_now, pending_triples}
 use Rattle.gs_triple_parser.specs.declared.scopes.Scope.{Scope}
@@ -85,6 +86,12 @@ module _ {L S V X T : Type 0} (l : TypedLanguage S V X T) where
   -- a call that has not failed reports that turn
   abbrev pub TurnsTo : {E : Type 0} → Result CodeTurn E → CodeBlock L S V X T → (Making T → blocks.BlockTurn X T) → Type 0
   TurnsTo r b t = IfOk r (λ u. Turned b u t)
+
+  -- where triples took a symbol and the block goes on, they have no fault
+  abbrev pub GoesOn : CodeBlock L S V X T → CodeTurn → Type 0
+  GoesOn b turn.Takes = (f : Fault) → triples_state l b.parser ≢ Lost f
+  GoesOn b (turn.Shuts e) = ⊥
+  GoesOn b (turn.Stops r) = Unit {0}
 
   -- the turn of the rules by a state of triples that took a symbol
   abbrev pub entered_turn : CodeBlock L S V X T → Making T → blocks.BlockTurn X T

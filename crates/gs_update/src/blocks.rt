@@ -36,7 +36,7 @@ impl<L: Language> Block<L> {
     ghost use Rattle.gs_triple_parser.specs.Views.{symbol_at, scope_context, scope_numbers, triples_state, context_now, numbers_now};
     ghost use Rattle.gs_update.specs.Views.{rejection_at, HasGiven, bars_since, more_than};
     ghost use Rattle.gs_update.specs.Steps.{triples_now, entered_turn, parted_turn, followed_turn, opening_turn, moved_turn, block_turn, end_turn};
-    ghost use Rattle.gs_update.specs.Steps.{Making, Turned, TurnsTo, StaysIf, KeepsBounds, all_triples};
+    ghost use Rattle.gs_update.specs.Steps.{Making, Turned, TurnsTo, GoesOn, StaysIf, KeepsBounds, all_triples};
 
     /// Whether the triples are too many, with those that are being read.
     fn has_too_many(&self) -> bool
@@ -57,6 +57,7 @@ impl<L: Language> Block<L> {
         ensures parser { self.new.parser ≡ self.old.parser }
         ensures triples { self.new.triples ≡ self.old.triples }
         ensures bounds { KeepsBounds self.old self.new }
+        ensures goes_on { GoesOn L.language self.old result }
     {
         if let Some(fault) = self.parser.fault() {
             return BlockTurn::Stops(Rejection::Broken(fault));
@@ -112,6 +113,17 @@ impl<L: Language> Block<L> {
         Ok(self.parted(symbol))
     }
 
+    /// A token of updates alone where triples may begin.
+    fn at_foreign(&self, kind: TokenKind, end: u64) -> BlockTurn
+        ensures { Turned L.language self.now result (opening_turn L.language self.now (Symbol.Foreign kind end)) }
+    {
+        match kind {
+            TokenKind::CloseBrace => BlockTurn::Shuts(end),
+            TokenKind::Graph => BlockTurn::Stops(Rejection::OutOfProfile),
+            _ => BlockTurn::Stops(Rejection::Broken(Fault::Syntax)),
+        }
+    }
+
     /// A symbol where triples may begin.
     fn at_triples(&mut self, symbol: Symbol) -> Result<BlockTurn, AllocError>
         requires { HasGiven self.old.since (numbers_now self.old.parser) }
@@ -119,8 +131,7 @@ impl<L: Language> Block<L> {
         ensures stays { StaysIf L.language result self.old self.new }
     {
         match symbol {
-            Symbol::Foreign(TokenKind::CloseBrace, end) => Ok(BlockTurn::Shuts(end)),
-            Symbol::Foreign(TokenKind::Graph, _) => Ok(BlockTurn::Stops(Rejection::OutOfProfile)),
+            Symbol::Foreign(kind, end) => Ok(self.at_foreign(kind, end)),
             _ => {
                 self.parser.open(symbol)?;
                 Ok(self.entered())
@@ -165,11 +176,10 @@ impl<L: Language> Block<L> {
         ensures turn { TurnsTo L.language result self.new (block_turn L.language self.old symbol.entry) }
         ensures stays { StaysIf L.language result self.old self.new }
     {
-        let barred = self.bars(symbol);
-        let turn = self.moved(symbol)?;
-        if !barred {
-            return Ok(turn);
+        if !self.bars(symbol) {
+            return self.moved(symbol);
         }
+        let turn = self.moved(symbol)?;
         match turn {
             BlockTurn::Stops(rejection) => Ok(BlockTurn::Stops(rejection)),
             _ => Ok(BlockTurn::Stops(Rejection::Broken(Fault::Syntax))),
@@ -189,7 +199,8 @@ impl<L: Language> Block<L> {
                 Some(fault) => Ok(Rejection::Broken(fault)),
             },
             Turn::Over => {
-                if self.gather()? {
+                let many = self.gather()?;
+                if many {
                     Ok(Rejection::OutOfProfile)
                 } else {
                     Ok(Rejection::Broken(Fault::Syntax))
@@ -202,7 +213,7 @@ impl<L: Language> Block<L> {
     pub fn into_parts(self) -> (Scope, Vec<L::Triple>)
         ensures context { scope_context result.0 ≡ in_language of_terms (context_now L.language self.parser) }
         ensures numbers { scope_numbers result.0 ≡ numbers_now self.parser }
-        ensures triples { result.1 ≡ self.triples }
+        ensures triples { result.1.items ≡ self.triples.items }
     {
         let Block {
             parser, triples, ..

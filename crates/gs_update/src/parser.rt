@@ -1,5 +1,5 @@
 //! The parser.
-ghost use Rattle.std.specs.Prelude.{◌≡◌, ◌≢◌, [], ◌∷◌, option_map, OnOk, IfOk, IfSome, IfNone};
+ghost use Rattle.std.specs.Prelude.{◌≡◌, ◌≢◌, true, option_map, OnOk, IfOk, IfSome, IfNone};
 ghost use Rattle.gs_model.specs.Iris.{is_absolute};
 
 use crate::blocks::{Block, BlockTurn};
@@ -26,13 +26,12 @@ pub struct UpdateParser {
 
 impl UpdateParser {
     ghost use Rattle.gs_blank.specs.Numbers.{no_numbers};
-    ghost use Rattle.gs_triple_parser.specs.Views.{symbol_at, scope_context, scope_numbers, numbers_now};
-    ghost use Rattle.gs_update_text.specs.Requests.{Written};
+    ghost use Rattle.gs_triple_parser.specs.Views.{symbol_at, numbers_now};
     ghost use Rattle.gs_update_text.specs.Grammar.{first_scope};
-    ghost use Rattle.gs_update_text.specs.States.{Between, After, Rejected};
+    ghost use Rattle.gs_update_text.specs.States.{Between, Rejected, quiet};
     ghost use Rattle.gs_update_text.specs.Machine as machine;
     ghost use Rattle.gs_update.specs.declared.rejections.Rejection.{Rejection as Code};
-    ghost use Rattle.gs_update.specs.Views.{HasGiven, IsSound, rejection_at, state_of, operation_of};
+    ghost use Rattle.gs_update.specs.Views.{HasGiven, IsSound, rejection_at, state_at, state_of, operation_of};
     ghost use Rattle.gs_update.specs.Steps.{Starts, Moves, Ends, concluded, turn_at_place};
 
     /// At the start of an update under an absolute base, in the request of this number.
@@ -46,6 +45,15 @@ impl UpdateParser {
             operations: Vec::new(alloc),
             last: 0,
         })
+    }
+
+    /// At another place, where no operation ends.
+    fn stand(&mut self, place: Place) -> Result<(), AllocError>
+        requires { IsSound place }
+        ensures { OnOk result (Moves self.old self.new (quiet (state_at place))) }
+    {
+        self.place = place;
+        Ok(())
     }
 
     /// An operation ends there.
@@ -66,14 +74,13 @@ impl UpdateParser {
     {
         let mut block = block;
         match block.step(symbol)? {
-            BlockTurn::Takes => self.place = Place::Inserting(block),
+            BlockTurn::Takes => self.stand(Place::Inserting(block)),
             BlockTurn::Shuts(end) => {
                 let (scope, triples) = block.into_parts();
-                return self.conclude(scope, Op::Insert(triples), end);
+                self.conclude(scope, Op::Insert(triples), end)
             }
-            BlockTurn::Stops(rejection) => self.place = Place::Rejected(rejection),
+            BlockTurn::Stops(rejection) => self.stand(Place::Rejected(rejection)),
         }
-        Ok(())
     }
 
     /// A symbol in the block of DELETE DATA.
@@ -84,14 +91,13 @@ impl UpdateParser {
     {
         let mut block = block;
         match block.step(symbol)? {
-            BlockTurn::Takes => self.place = Place::Deleting(block),
+            BlockTurn::Takes => self.stand(Place::Deleting(block)),
             BlockTurn::Shuts(end) => {
                 let (scope, triples) = block.into_parts();
-                return self.conclude(scope, Op::DeleteData(triples), end);
+                self.conclude(scope, Op::DeleteData(triples), end)
             }
-            BlockTurn::Stops(rejection) => self.place = Place::Rejected(rejection),
+            BlockTurn::Stops(rejection) => self.stand(Place::Rejected(rejection)),
         }
-        Ok(())
     }
 
     /// A symbol in the block of DELETE WHERE.
@@ -102,18 +108,16 @@ impl UpdateParser {
     {
         let mut block = block;
         match block.step(symbol)? {
-            BlockTurn::Takes => self.place = Place::Seeking(block),
+            BlockTurn::Takes => self.stand(Place::Seeking(block)),
             BlockTurn::Shuts(end) => {
                 let (scope, patterns) = block.into_parts();
                 if patterns.is_empty() {
-                    self.place = Place::Rejected(Rejection::OutOfProfile);
-                    return Ok(());
+                    return self.stand(Place::Rejected(Rejection::OutOfProfile));
                 }
-                return self.conclude(scope, Op::DeleteWhere(patterns), end);
+                self.conclude(scope, Op::DeleteWhere(patterns), end)
             }
-            BlockTurn::Stops(rejection) => self.place = Place::Rejected(rejection),
+            BlockTurn::Stops(rejection) => self.stand(Place::Rejected(rejection)),
         }
-        Ok(())
     }
 
     /// One symbol more. After a refusal the parser is of no more use.
@@ -124,20 +128,25 @@ impl UpdateParser {
     {
         let lost = Place::Rejected(Rejection::Broken(Fault::Syntax));
         match mem::replace(&mut self.place, lost) {
-            Place::Between(scope) => self.place = between(scope, symbol),
-            Place::InPrefix(scope) => self.place = prefix(self.alloc, scope, symbol)?,
-            Place::InPrefixIri(scope, text) => self.place = prefix_iri(scope, text, symbol)?,
-            Place::InBase(scope) => self.place = base(scope, symbol)?,
-            Place::AfterInsert(scope) => self.place = after_insert(scope, symbol),
-            Place::AfterDelete(scope) => self.place = after_delete(scope, symbol),
-            Place::AtBrace(form, scope) => self.place = at_brace(self.alloc, form, scope, symbol),
-            Place::Inserting(block) => return self.insert(block, symbol),
-            Place::Deleting(block) => return self.delete(block, symbol),
-            Place::Seeking(block) => return self.seek(block, symbol),
-            Place::After(scope) => self.place = after(scope, symbol),
-            Place::Rejected(rejection) => self.place = Place::Rejected(rejection),
+            Place::Between(scope) => self.stand(between(scope, symbol)),
+            Place::InPrefix(scope) => {
+                let place = prefix(self.alloc, scope, symbol)?;
+                self.stand(place)
+            }
+            Place::InPrefixIri(scope, text) => self.stand(prefix_iri(scope, text, symbol)?),
+            Place::InBase(scope) => self.stand(base(scope, symbol)?),
+            Place::AfterInsert(scope) => self.stand(after_insert(scope, symbol)),
+            Place::AfterDelete(scope) => self.stand(after_delete(scope, symbol)),
+            Place::AtBrace(form, scope) => {
+                let place = at_brace(self.alloc, form, scope, symbol);
+                self.stand(place)
+            }
+            Place::Inserting(block) => self.insert(block, symbol),
+            Place::Deleting(block) => self.delete(block, symbol),
+            Place::Seeking(block) => self.seek(block, symbol),
+            Place::After(scope) => self.stand(after(scope, symbol)),
+            Place::Rejected(rejection) => self.stand(Place::Rejected(rejection)),
         }
-        Ok(())
     }
 
     /// The departure after which nothing is read.

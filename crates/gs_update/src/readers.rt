@@ -115,12 +115,7 @@ impl UpdateReader {
 /// - `TermTooLong`: a term's canonical text is too long.
 /// - `NotInProfile`: the text's first departure from what is served is an update's.
 /// - `NoMemory`: memory was wanted and not given.
-pub fn read_update(
-    alloc: Global,
-    request: u64,
-    base: &str,
-    text: &[u8],
-) -> Result<Vec<Op>, Refusal>
+pub fn read_update(alloc: Global, request: u64, base: &str, text: &[u8]) -> Result<Vec<Op>, Refusal>
     requires { is_absolute base.now ≡ true }
     ensures { Answers result (request_by base.now request text.now) }
 {

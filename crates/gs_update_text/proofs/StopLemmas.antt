@@ -6,7 +6,7 @@ use Rattle.gs_model.specs.Terms.{Term}
 use Rattle.gs_blank.specs.Numbers.{Numbers}
 use Rattle.gs_lex.specs.declared.kinds.TokenKind.TheVariants as kind
 use Rattle.gs_triples.specs.Symbols.{Symbol, At, Carets, Dot, Foreign}
-use Rattle.gs_triples.specs.Meanings.{Fault, Syntax, Context, simple}
+use Rattle.gs_triples.specs.Meanings.{Syntax, Context, simple}
 use Rattle.gs_triples.specs.States as triples
 use Rattle.gs_triples.specs.States.{Frame, ToObject, Opened, Closed, Heading, Held, Typing, Lost, Goes, Ends}
 use Rattle.gs_triples.specs.Goals.{After}
@@ -16,12 +16,11 @@ use Rattle.gs_update_text.specs.Requests.{Rejection, Broken, OutOfProfile}
 use Rattle.gs_update_text.specs.Operations.{Block}
 use Rattle.gs_update_text.specs.Profile.{EndsString, is_string, ends_in_string}
 use Rattle.gs_triples.specs.States.{triples_so_far}
-use Rattle.gs_update_text.specs.Blocks.{BlockState, WithinTriples, BlockTurn, Takes, Shuts, Stops, Shut, counted, entered, parted, within, barred, moved, ended_within, block_step, block_run}
+use Rattle.gs_update_text.specs.Blocks.{BlockState, WithinTriples, BlockTurn, Takes, Shuts, Stops, Shut, entered, parted, within, barred, moved, ended_within, block_step, block_run}
 use Rattle.gs_update_text.proofs.LeadLemmas.{Leads, stay, go}
 use Rattle.gs_update_text.proofs.GrowthLemmas.{NotLost}
 use Rattle.gs_update_text.proofs.BlockLemmas.{block_told}
-use Rattle.gs_update_text.proofs.FlatLemmas.{IsPlain, Flat, Moves, same, astray, over, one, string_on, string_over, flat_moves, flat_next, opening_flat}
-use Rattle.gs_update_text.proofs.FlatLemmas as flat
+use Rattle.gs_update_text.proofs.FlatLemmas.{IsPlain, Flat, Moves, same, astray, over, one, string_on, string_over, flat_moves, flat_next}
 
 -- the closing brace
 abbrev pub brace : ℕ → Symbol

@@ -1,5 +1,3 @@
-use Rattle.std.proofs.Common.{List, refl}
-use Rattle.std.proofs.lemmas.Result.{IfErr-weaker}
 use Rattle.gs_lex.specs.Tokens as lexer
 use Rattle.gs_lex.specs.Lexemes.{lexemes_of}
 use Rattle.gs_update.specs.Portions.{end_of}

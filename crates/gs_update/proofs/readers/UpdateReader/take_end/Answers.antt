@@ -13,7 +13,7 @@ pub returns-in-Ok-clause-ok : goal.returns-in-Ok-clause-ok
 returns-in-Ok-clause-ok c =
     let a = c.args.self.now in
     on_ok_weaker c.conclude.result
-    (λ done. ends_whole a _ c.clear.new.self.items c.finish.new.tokens.items c.clear.ensures.items
+    (λ done. ends_whole a (record a { parser = c.conclude.new.parser }) c.clear.new.self.items c.finish.new.tokens.items c.clear.ensures.items
     (λ x ts l. (c.in-Ok.ensures.ok true x ts l).0)
     (subst (λ (z : List Token). Concludes a.parser c.conclude.new.parser (lexemes_of z)) c.deref.ensures.value done))
     c.conclude.ensures.ok
