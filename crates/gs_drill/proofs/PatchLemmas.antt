@@ -1,11 +1,11 @@
 -- Patches, from what the store and the reader of updates do.
-use Rattle.std.proofs.Common.{◌≡◌, ◌≢◌, ◌<◌, ◌≤◌, ℕ, List, length, get_or, map, Option, Some, None, MatchOption, option_map, Vec, Global, refl, sym, ap, ◌∙◌, subst}
+use Rattle.std.proofs.Common.{◌≡◌, ◌≢◌, ◌<◌, ◌≤◌, ℕ, List, length, get_or, Option, Some, None, MatchOption, option_map, Vec, Global, refl, sym, ap, ◌∙◌, subst}
 use Rattle.std.specs.List.{slice_get}
 use Rattle.std.proofs.lemmas.Option.{slice_get-map, slice_get_past, slice_get_read}
 use Rattle.gs_model.specs.declared.refusals.Refusal.{Refusal}
 use Rattle.gs_model.specs.declared.refusals.Refusal.TheVariants as refusal
 use Rattle.gs_event.specs.declared.updates.Op.{Op}
-use Rattle.gs_event.specs.declared.events.Action.TheVariants.{CommitPatch, Cancel}
+use Rattle.gs_event.specs.declared.events.Action.TheVariants.{CommitPatch}
 use Rattle.gs_event.specs.declared.events.Event.TheVariants.{Seat as At}
 use Rattle.gs_event.specs.declared.answers.Answer.{Answer}
 use Rattle.gs_event.specs.Phases.{Idle, Writing, Patching, Reading}
@@ -22,7 +22,7 @@ use Rattle.gs_drill.specs.Printing.{answer_text, fault_text, outside_text}
 use Rattle.gs_drill.specs.Feeds.{Desk, Answers, RefusesText}
 use Rattle.gs_drill.specs.Commits.{GivesUp}
 use Rattle.gs_drill.specs.Patches.{SettlesBy, SettlesPatch, PatchesSeat, DoesPatch}
-use Rattle.gs_drill.specs.Standing.{Standing, MovesDesk, desk_of, patch_of}
+use Rattle.gs_drill.specs.Standing.{Standing, desk_of, patch_of}
 
 -- the operations of a text are committed
 pub settles_whole : (q : Request) (d e : Desk) (s : ℕ) (ops : Vec Op Global) (a : Answer) → AreOperationsOf ops.items q → Answers d (At s (CommitPatch ops)) a e → SettlesPatch q d s (answer_text a) e

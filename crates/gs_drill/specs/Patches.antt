@@ -1,6 +1,6 @@
 -- What a patch does: the text of an update is read under the base of the patch's graph, by what it means
 -- (`request_by` of gs_update_text), and its operations are committed.
-use Rattle.std.specs.Prelude.{◌≡◌, ℕ, List, Option, Some, None, MatchOption}
+use Rattle.std.specs.Prelude.{ℕ, List, Option, Some, None, MatchOption}
 use Rattle.std.specs.List.{slice_get}
 use Rattle.gs_model.specs.declared.refusals.Refusal.TheVariants.{BadSeat, WrongPhase}
 use Rattle.gs_event.specs.declared.events.Action.{Action}
