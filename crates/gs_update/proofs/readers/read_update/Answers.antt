@@ -1,7 +1,5 @@
 use Rattle.std.proofs.Common.{sym, subst}
-use Rattle.std.specs.Prelude.{Vec}
 use Rattle.std.proofs.lemmas.Result.{err_from_is_err_and}
-use Rattle.gs_event.specs.declared.updates.Op.{Op}
 use Rattle.gs_update_text.specs.Texts.{request_by}
 use Rattle.gs_update.specs.Answers.{AreOperationsOf}
 use Rattle.gs_update.proofs.readers.read_update.Goals as goal
