@@ -61,10 +61,6 @@ module _ {Value Triple : Type 0} where
   counts_open true r s = refl
   counts_open false r s = refl
 
-  stops_open : (x : Bool) (r q : Rejection) → is_shut (cond x (blocks.Stops r) (blocks.Stops q)) ≡ false
-  stops_open true r q = refl
-  stops_open false r q = refl
-
   entered_open : (b : Block Value Triple) (P : List Triple) (s : triples.State Value Triple) → is_shut (blocks.entered b P s) ≡ false
   entered_open b P (Lost f) = refl
   entered_open b P (Opened env n) = counts_open (b.too_many (P ++ triples_so_far (Opened env n))) OutOfProfile (blocks.WithinTriples P (Opened env n))
@@ -76,7 +72,9 @@ module _ {Value Triple : Type 0} where
   -- no word closes one
   within_open : (b : Block Value Triple) (P : List Triple) (w : grammar.TermToken) (t : triples.Turn Value Triple) → is_shut (blocks.within b (grammar.AWord w) P t) ≡ false
   within_open b P w (Goes s) = entered_open b P s
-  within_open b P w (Ends env T n) = stops_open (b.too_many (P ++ T)) OutOfProfile (Broken Syntax)
+  within_open b P w (Ends env T n) =
+      let over : Bool → blocks.BlockTurn Value Triple = λ x. cond x (blocks.Stops OutOfProfile) (blocks.Stops (Broken Syntax)) in
+      elim (b.too_many (P ++ T)) as (λ x. is_shut (over x) ≡ false) [ true ↦ refl | false ↦ refl ]
 
   word_open : (b : Block Value Triple) (s : blocks.BlockState Value Triple) (w : grammar.TermToken) → is_shut (blocks.moved b s (grammar.AWord w)) ≡ false
   word_open b (blocks.AtTriples env P n) w = entered_open b P (opening env n (grammar.AWord w))

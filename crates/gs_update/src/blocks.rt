@@ -199,7 +199,8 @@ impl<L: Language> Block<L> {
                 Some(fault) => Ok(Rejection::Broken(fault)),
             },
             Turn::Over => {
-                if self.gather()? {
+                let many = self.gather()?;
+                if many {
                     Ok(Rejection::OutOfProfile)
                 } else {
                     Ok(Rejection::Broken(Fault::Syntax))

@@ -6,10 +6,10 @@ use Rattle.gs_update.proofs.blocks.inserting.Goals as goal
 
 pub returns : goal.returns
 returns c = inserting_starts c.args.scope _ (record {
-  context = c.within.ensures.context;
-  numbers = c.within.ensures.numbers;
+  context = c.within-parser.ensures.context;
+  numbers = c.within-parser.ensures.numbers;
   triples = c.new.ensures.items;
   within = refl;
-  since = ap Some (c.last_number.ensures ∙ ap (λ (z : Numbers). z.1) c.within.ensures.numbers);
+  since = ap Some (c.last_number.ensures ∙ ap (λ (z : Numbers). z.1) c.within-parser.ensures.numbers);
   most = refl;
 })

@@ -14,15 +14,15 @@ returns-in-Foreign-clause-turn g c =
 pub returns-in-Foreign-clause-stays : goal.returns-in-Foreign-clause-stays
 returns-in-Foreign-clause-stays g c = nothing_stays g.L.Language.language c.args.self.now c.at_foreign.result c.requires
 
-pub returns-in_default-clause-turn : goal.returns-in_default-clause-turn
-returns-in_default-clause-turn g c =
+pub returns-in_ok-open-in_default-clause-turn : goal.returns-in_ok-open-in_default-clause-turn
+returns-in_ok-open-in_default-clause-turn g c =
     let a = c.args.self.now in
     entered_opening g.L.Language.language a (record a { parser = c.open.new.self }) c.entered.new.self c.args.symbol c.entered.result c.in_default.not-Foreign
-    c.in_ok-open.ensures refl refl c.entered.ensures.turn
+    c.in_ok-open-in_default.ensures refl refl c.entered.ensures.turn
 
-pub returns-in_default-clause-stays : goal.returns-in_default-clause-stays
-returns-in_default-clause-stays g c =
+pub returns-in_ok-open-in_default-clause-stays : goal.returns-in_ok-open-in_default-clause-stays
+returns-in_ok-open-in_default-clause-stays g c =
     let l = g.L.Language.language in
     let a = c.args.self.now in
     entered_stays l a (record a { parser = c.open.new.self }) c.entered.new.self c.entered.result c.entered.ensures.goes_on refl refl c.entered.ensures.parser c.entered.ensures.bounds c.requires
-    (opened_keeps l a.parser c.open.new.self (symbol_at c.args.symbol) c.in_ok-open.ensures)
+    (opened_keeps l a.parser c.open.new.self (symbol_at c.args.symbol) c.in_ok-open-in_default.ensures)

@@ -26,9 +26,9 @@ unfolding step
 returns-in-Shuts c =
     on_ok_weaker c.conclude.result
     (subst (Moves c.args.self.now c.conclude.new.self) (shuts_in terms InData (λ P. Some (DeletesData P)) c.args.block c.step.new.self c.args.symbol c.in-Shuts.end
-    c.into_parts.result.0 (DeletesData c.into_parts.result.1.items)
+    c.into_parts-scope.result.0 (DeletesData c.into_parts-scope.result.1.items)
     (subst (λ u. Turned terms c.step.new.self u (block_turn terms c.args.block c.args.symbol)) c.in-Shuts.is c.in_ok-step.ensures.turn) (subst (StaysUnless terms c.args.block c.step.new.self) c.in-Shuts.is c.in_ok-step.ensures.stays)
-    c.into_parts.ensures.context c.into_parts.ensures.numbers (ap (λ (P : List RdfTriple). Some (DeletesData P)) c.into_parts.ensures.triples)))
+    c.into_parts-scope.ensures.context c.into_parts-scope.ensures.numbers (ap (λ (P : List RdfTriple). Some (DeletesData P)) c.into_parts-scope.ensures.triples)))
     c.conclude.ensures
 
 pub returns-in-Stops : goal.returns-in-Stops

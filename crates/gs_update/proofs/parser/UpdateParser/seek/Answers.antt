@@ -1,6 +1,5 @@
-use Rattle.std.proofs.Common.{List, ap, subst, ◌∙◌}
-use Rattle.std.specs.Prelude.{Some}
-use Rattle.gs_term.specs.declared.patterns.Pattern.{Pattern}
+use Rattle.std.proofs.Common.{ℕ, sym, ap, subst, ◌∙◌}
+use Rattle.std.specs.Prelude.{◌==◌}
 use Rattle.std.proofs.lemmas.Result.{on_ok_weaker}
 use Rattle.gs_triple_parser.specs.Typed.{patterns}
 use Rattle.gs_update_text.specs.Requests.{DeletesWhere}
@@ -27,7 +26,7 @@ unfolding step
 returns-then-is_empty c =
     on_ok_weaker c.stand-then-is_empty.result
     (subst (Moves c.args.self.now c.stand-then-is_empty.new.self) (none_in patterns InWhere some_patterns c.args.block c.step.new.self c.args.symbol c.in-Shuts.end
-    (subst (λ u. Turned patterns c.step.new.self u (block_turn patterns c.args.block c.args.symbol)) c.in-Shuts.is c.in_ok-step.ensures.turn) (are_none c.into_parts.result.1.items c.if-is_empty.ensures ∙ ap some_patterns c.into_parts.ensures.triples)))
+    (subst (λ u. Turned patterns c.step.new.self u (block_turn patterns c.args.block c.args.symbol)) c.in-Shuts.is c.in_ok-step.ensures.turn) (are_none c.into_parts-scope.result.1.items (sym (c.is_empty.ensures ∙ ap (λ (n : ℕ). n == 0) c.into_parts-scope.result.1.ok.0) ∙ c.if-is_empty.true) ∙ ap some_patterns c.into_parts-scope.ensures.triples)))
     c.stand-then-is_empty.ensures
 
 pub returns-else-is_empty : goal.returns-else-is_empty
@@ -35,9 +34,9 @@ unfolding step
 returns-else-is_empty c =
     on_ok_weaker c.conclude.result
     (subst (Moves c.args.self.now c.conclude.new.self) (shuts_in patterns InWhere some_patterns c.args.block c.step.new.self c.args.symbol c.in-Shuts.end
-    c.into_parts.result.0 (DeletesWhere c.into_parts.result.1.items)
+    c.into_parts-scope.result.0 (DeletesWhere c.into_parts-scope.result.1.items)
     (subst (λ u. Turned patterns c.step.new.self u (block_turn patterns c.args.block c.args.symbol)) c.in-Shuts.is c.in_ok-step.ensures.turn) (subst (StaysUnless patterns c.args.block c.step.new.self) c.in-Shuts.is c.in_ok-step.ensures.stays)
-    c.into_parts.ensures.context c.into_parts.ensures.numbers (are_some c.into_parts.result.1.items c.if-is_empty.ensures ∙ ap some_patterns c.into_parts.ensures.triples)))
+    c.into_parts-scope.ensures.context c.into_parts-scope.ensures.numbers (are_some c.into_parts-scope.result.1.items (sym (c.is_empty.ensures ∙ ap (λ (n : ℕ). n == 0) c.into_parts-scope.result.1.ok.0) ∙ c.if-is_empty.false) ∙ ap some_patterns c.into_parts-scope.ensures.triples)))
     c.conclude.ensures
 
 pub returns-in-Stops : goal.returns-in-Stops
