@@ -117,7 +117,8 @@ impl<L: Language> Block<L> {
 
     /// A token of updates alone where triples may begin.
     fn at_foreign(&self, kind: TokenKind, end: u64) -> BlockTurn
-        ensures { Turned L.language self.now result (opening_turn L.language self.now (Symbol.Foreign kind end)) }
+        ensures { Turned L.language self.now result
+            (opening_turn L.language self.now (Symbol.Foreign kind end)) }
     {
         match kind {
             TokenKind::CloseBrace => BlockTurn::Shuts(end),
@@ -190,7 +191,8 @@ impl<L: Language> Block<L> {
 
     /// Why a text that ends here is no update.
     pub fn end(&mut self) -> Result<Rejection, AllocError>
-        ensures { IfOk result (λ r. (made : Making L.Triple) → rejection_at r ≡ end_turn L.language self.old made) }
+        ensures { IfOk result (λ r. (made : Making L.Triple) →
+            rejection_at r ≡ end_turn L.language self.old made) }
     {
         if !self.within {
             return Ok(Rejection::Broken(Fault::Syntax));

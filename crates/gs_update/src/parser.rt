@@ -124,7 +124,8 @@ impl UpdateParser {
     #[tactic(auto, unfolding(gs_update_text::specs::Machine::step))]
     pub fn step(&mut self, symbol: Symbol) -> Result<(), AllocError>
         requires { IsSound self.old.place }
-        ensures { OnOk result (Moves self.old self.new (machine.step (state_of self.old) (symbol_at symbol.entry))) }
+        ensures { OnOk result (Moves self.old self.new
+            (machine.step (state_of self.old) (symbol_at symbol.entry))) }
     {
         let lost = Place::Rejected(Rejection::Broken(Fault::Syntax));
         match mem::replace(&mut self.place, lost) {
