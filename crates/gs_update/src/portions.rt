@@ -40,7 +40,8 @@ fn refusal(parser: &UpdateParser, rejection: Rejection) -> Refusal
 pub fn go_on(parser: &mut UpdateParser, tokens: &[Token]) -> Result<(), Refusal>
     requires { IsSound parser.old.place }
     ensures ok { OnOk result (Takes parser.old parser.new (lexemes_of tokens.now)) }
-    ensures fault { IfErr result (λ e. (us : List Lexeme) → TellsBehind parser.old.last e (end_of parser.old (lexemes_of tokens.now ++ us))) }
+    ensures fault { IfErr result (λ e. (us : List Lexeme)
+        → TellsBehind parser.old.last e (end_of parser.old (lexemes_of tokens.now ++ us))) }
 {
     take_tokens(parser, tokens)?;
     match parser.rejection() {
@@ -53,7 +54,8 @@ pub fn go_on(parser: &mut UpdateParser, tokens: &[Token]) -> Result<(), Refusal>
 pub fn conclude(parser: &mut UpdateParser, tokens: &[Token]) -> Result<(), Refusal>
     requires { IsSound parser.old.place }
     ensures ok { OnOk result (Concludes parser.old parser.new (lexemes_of tokens.now)) }
-    ensures fault { IfErr result (λ e. TellsBehind parser.old.last e (end_of parser.old (lexemes_of tokens.now))) }
+    ensures fault { IfErr result
+        (λ e. TellsBehind parser.old.last e (end_of parser.old (lexemes_of tokens.now))) }
 {
     take_tokens(parser, tokens)?;
     match parser.end()? {
@@ -65,7 +67,8 @@ pub fn conclude(parser: &mut UpdateParser, tokens: &[Token]) -> Result<(), Refus
 /// Tokens after which stands something that is none: the first fault of all.
 pub fn break_off(parser: &mut UpdateParser, tokens: &[Token]) -> Refusal
     requires { IsSound parser.old.place }
-    ensures { (n : ℕ) → TellsBehind parser.old.last result (ended_by (lexer.AtFault n) (end_of parser.old (lexemes_of tokens.now))) }
+    ensures { (n : ℕ) → TellsBehind parser.old.last result
+        (ended_by (lexer.AtFault n) (end_of parser.old (lexemes_of tokens.now))) }
 {
     match conclude(parser, tokens) {
         Ok(()) => Refusal::Syntax(parser.last),
