@@ -29,8 +29,8 @@ struct Place<'a> {
 }
 
 /// The triples of a graph that are instances of the patterns under a solution of all of them, in
-/// the graph's order and each once. For p patterns in a graph of n triples it takes up to the p-th
-/// power of n tries, a byte a triple, and some words a pattern.
+/// the graph's order and each once. For p patterns in a graph of n triples it takes up to
+/// n + n² + .. + nᵖ tries, and beside its result a byte a triple and some words a pattern.
 pub fn instances(
     alloc: Global,
     graph: &SortedGraph,

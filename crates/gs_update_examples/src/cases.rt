@@ -28,6 +28,7 @@ pub struct Case {
 }
 
 impl Case {
+    /// A case of which nothing is known yet.
     pub fn new(alloc: Global) -> Result<Case, AllocError> {
         Ok(Case {
             alloc,
