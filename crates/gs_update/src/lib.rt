@@ -9,7 +9,5 @@ mod portions;
 mod prologues;
 mod readers;
 mod rejections;
-#[cfg(test)]
-mod tests;
 
 pub use readers::read_update;
