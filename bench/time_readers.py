@@ -1,5 +1,5 @@
 #!/usr/bin/env python3
-"""The median time of five runs of each reader: time_readers.py PROGRAM FILE TRIPLES [turtle|tokens|update TURTLE]."""
+"""The median time of five runs of each reader: time_readers.py PROGRAM FILE TRIPLES [turtle|tokens]."""
 import os
 import shutil
 import subprocess
@@ -51,19 +51,9 @@ def report(name, command, stdin, size, count):
     return seconds
 
 
-def beside_turtle(program, file, count, turtle):
-    """An update beside a document of Turtle with the same triples."""
-    ours = report("gs_bench update", [program, "update"], file, os.path.getsize(file), count)
-    theirs = report("gs_bench turtle", [program, "turtle", "65536"], turtle, os.path.getsize(turtle), count)
-    print(f"ratio: {theirs / ours:.2f} times the triples a second of gs_bench turtle")
-
-
 def main():
     program, file, count = sys.argv[1], sys.argv[2], int(sys.argv[3])
     mode = sys.argv[4:]
-    if mode[:1] == ["update"]:
-        beside_turtle(program, file, count, mode[1])
-        return
     size = os.path.getsize(file)
     ours = report("gs_bench", [program] + mode + ["65536"], file, size, count)
     if shutil.which("serdi") is None:

@@ -5,7 +5,6 @@ import subprocess
 import sys
 
 from turtle_text import statements as turtle_statements
-from update_text import operations, patched
 
 LAST_NUMBER = 999_999_999_999_999_999
 NO_MEMORY = "refused NoMemory"
@@ -100,7 +99,6 @@ class Store:
             "stage": phase[0] == "writing",
             "commit": phase[0] == "writing" and not (phase[1] == "put" and phase[2] in self.graphs),
             "piece": phase[0] == "reading" and words[2:] != ["0"],
-            "patch": phase[0] == "patching" and phase[1] in self.graphs,
         }.get(words[1], False)
 
     def new_name(self, request):
@@ -149,21 +147,6 @@ class Store:
         self.graphs[target] = upload | self.graphs.get(target, set()) if kind == "post" else upload
         return f"{status} {target[1:-1]}" if kind == "new" else status
 
-    def patch(self, seat, text):
-        """What the text of an update prints to a seat that patches."""
-        _, target, request = self.phases[seat]
-        done = operations(text, target[1:-1] if target.startswith("<") else "http://localhost/store", request)
-        if isinstance(done, list) and target in self.graphs and self.commit == LAST_NUMBER:
-            return "refused LastNumber"
-        self.phases[seat] = ("idle",)
-        if not isinstance(done, list):
-            return done
-        if target not in self.graphs:
-            return "404"
-        self.commit += 1
-        self.graphs[target] = patched(self.graphs[target], done)
-        return "204"
-
     def delete(self, target):
         if target not in self.graphs:
             return "404"
@@ -181,17 +164,14 @@ class Store:
         phase, action = self.phases.get(seat, ("idle",)), words[1]
         if seat >= self.seats:
             return ["refused BadSeat"]
-        idle, writing, patching, reading = ["idle"], ["writing"], ["patching"], ["reading"]
-        needed = {"open": idle, "pin": idle, "head": idle, "delete": idle, "stage": writing, "commit": writing, "patch": patching, "piece": reading}
-        if phase[0] not in needed.get(action, ["writing", "patching", "reading"]) or words[1:] == ["piece", "0"]:
+        idle, writing, reading = ["idle"], ["writing"], ["reading"]
+        needed = {"open": idle, "pin": idle, "head": idle, "delete": idle, "stage": writing, "commit": writing, "piece": reading}
+        if phase[0] not in needed.get(action, ["writing", "reading"]) or words[1:] == ["piece", "0"]:
             return ["refused WrongPhase"]
         if action == "open":
             if self.request == LAST_NUMBER:
                 return ["refused LastNumber"]
             self.request += 1
-            if words[2] == "patch":
-                self.phases[seat] = ("patching", words[3], self.request)
-                return [f"opened {self.request}"]
             self.phases[seat] = ("writing", words[2], (words + [""])[3], self.request, set())
             return [f"opened {self.request}"]
         if action == "stage":
@@ -209,8 +189,6 @@ class Store:
                 self.phases[seat] = ("idle",)
                 self.fed.pop(seat, None)
             return [told]
-        if action == "patch":
-            return [self.patch(seat, "".join(line.split(" ", 2)[2:]))]
         if action == "delete":
             return [self.delete(words[2])]
         if action == "head":
@@ -281,7 +259,7 @@ def check(program, schedule, room, refused, later):
 
 def main(program, crates, room):
     total = 0
-    tables = [("gs_schedules/src/rows.rt", "ROWS"), ("gs_schedules/src/patches.rt", "PATCHES"), ("gs_feed_tests/src/feeds.rt", "FEEDS"), ("gs_feed_tests/src/turtle.rt", "FEEDS")]
+    tables = [("gs_schedules/src/rows.rt", "ROWS"), ("gs_feed_tests/src/feeds.rt", "FEEDS"), ("gs_feed_tests/src/turtle.rt", "FEEDS")]
     rows = [row for file, table in tables for row in worked_schedules(f"{crates}/{file}", table)]
     for name, schedule, want in rows:
         assert run(program, schedule, room, 0) == (0, want, ""), name

@@ -12,7 +12,7 @@ TOKEN = re.compile(
     r"|(?P<string>(?!'''|\"\"\")(?:'[^'\\\n\r]*'|\"[^\"\\\n\r]*\"))"
     rf"|(?P<label>_:{NAME})|(?P<at>@[A-Za-z]+(?:-[A-Za-z0-9]+)*)"
     r"|(?P<double>[+-]?(?:\d+\.?\d*|\.\d+)[eE][+-]?\d+)|(?P<decimal>[+-]?\d*\.\d+)|(?P<integer>[+-]?\d+)"
-    rf"|(?P<name>(?:[A-Za-z](?:[\w.-]*[\w-])?)?:(?:[\w:](?:[\w.:-]*[\w:-])?)?)|(?P<variable>[?$]\w+)|(?P<word>[A-Za-z]+)|(?P<mark>\^\^|[.;,\[\](){{}}])"
+    rf"|(?P<name>(?:[A-Za-z](?:[\w.-]*[\w-])?)?:(?:[\w:](?:[\w.:-]*[\w:-])?)?)|(?P<word>[A-Za-z]+)|(?P<mark>\^\^|[.;,\[\]()])"
 )
 
 
@@ -140,7 +140,7 @@ class Reader:
                 return
             while self.peek()[1] == ";":
                 self.next()
-            if self.peek()[1] in (".", "]", "}"):
+            if self.peek()[1] in (".", "]"):
                 return
 
     def directive(self, word, has_dot):

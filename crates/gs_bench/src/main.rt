@@ -1,23 +1,17 @@
 //! Reads a document from standard input in pieces, and prints how many triples of N-Triples or of
-//! Turtle, or how many tokens of Turtle, it has; or reads the text of an update, and prints how many
-//! triples and patterns its operations have.
+//! Turtle, or how many tokens of Turtle, it has.
 #![tactic(auto)]
 
 use gs_body::BodyReader;
-use gs_event::Op;
 use gs_iri::is_absolute;
 use gs_lex::Lexer;
 use gs_model::Refusal;
 use gs_ntread::NTriplesReader;
 use gs_turtle::TurtleReader;
-use gs_update::read_update;
 use std::alloc::Global;
 use std::env;
 use std::io::{self, Read};
 use std::rt::Env;
-
-/// The base of a document, and of an update.
-const BASE: &str = "http://example.org/base/";
 
 /// The bytes of a piece, where no argument says so.
 const PIECE: usize = 65_536;
@@ -36,7 +30,6 @@ enum Mode {
     NTriples,
     Turtle,
     Tokens,
-    Update,
 }
 
 /// What the first argument asks for: the triples of N-Triples, where it is none of the words.
@@ -47,7 +40,6 @@ fn wanted(rt: &(impl Env + AllocGlobal)) -> io::Result<Mode> {
     match text.as_str() {
         "turtle" => Ok(Mode::Turtle),
         "tokens" => Ok(Mode::Tokens),
-        "update" => Ok(Mode::Update),
         _ => Ok(Mode::NTriples),
     }
 }
@@ -85,10 +77,11 @@ fn count_turtle<R: Read>(
     input: &mut R,
     size: usize,
 ) -> io::Result<Result<u64, Refusal>> {
-    if !is_absolute(BASE) {
+    let base = "http://example.org/base/";
+    if !is_absolute(base) {
         return Ok(Err(Refusal::Syntax(0)));
     }
-    let reader = TurtleReader::new(alloc, 1, BASE)?;
+    let reader = TurtleReader::new(alloc, 1, base)?;
     count(alloc, reader, input, size)
 }
 
@@ -119,32 +112,6 @@ fn count_tokens<R: Read>(
     Ok(Ok(counted.saturating_add(tokens.len() as u64)))
 }
 
-/// How many triples and patterns the operations have.
-fn operands(operations: &[Op]) -> u64 {
-    let mut counted = 0u64;
-    for operation in operations {
-        let more = match operation {
-            Op::Insert(triples) | Op::DeleteData(triples) => triples.len(),
-            Op::DeleteWhere(patterns) => patterns.len(),
-        };
-        counted = counted.saturating_add(more as u64);
-    }
-    counted
-}
-
-/// How many triples and patterns the update of the text has, which is read whole, or its fault.
-fn count_update<R: Read>(alloc: Global, input: &mut R) -> io::Result<Result<u64, Refusal>> {
-    if !is_absolute(BASE) {
-        return Ok(Err(Refusal::Syntax(0)));
-    }
-    let mut text = Vec::new(alloc);
-    input.read_to_end(&mut text)?;
-    match read_update(alloc, 1, BASE, text.as_slice()) {
-        Ok(operations) => Ok(Ok(operands(operations.as_slice()))),
-        Err(refusal) => Ok(Err(refusal)),
-    }
-}
-
 fn main(rt: HostRuntime) -> io::Result<()> {
     let alloc = rt.alloc();
     let told = match wanted(&rt)? {
@@ -160,7 +127,6 @@ fn main(rt: HostRuntime) -> io::Result<()> {
             let size = piece_size(&rt, 2)?;
             count_tokens(alloc, &mut rt.reader(), size)?
         }
-        Mode::Update => count_update(alloc, &mut rt.reader())?,
     };
     match told {
         Ok(counted) => println!(rt; "{counted}"),

@@ -37,7 +37,7 @@ numeral_some n h =
 
 action_some : (a : Action) (x : List ℕ) → SaysAction a x → ¬ (x ≡ [])
 action_some (Open k) x says h = let e = says.parts in cc
-action_some (OpenPatch t) x says h = let e = says.parts in cc
+action_some (OpenPatch t) x says h = says
 action_some (Stage ts) x says h = let e = says.parts in cc
 action_some Commit x says h = cc
 action_some (CommitPatch ops) x says h = says

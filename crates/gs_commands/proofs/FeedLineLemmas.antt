@@ -14,7 +14,7 @@ use Rattle.gs_commands.specs.Commands.{SaysAfter, SaysText, SaysFeed, SaysAction
 use Rattle.gs_commands.proofs.WordLemmas.{first_differs}
 use Rattle.gs_commands.proofs.CommandLemmas.{split_first-some, number_cut, seat_cut}
 
-pub feed_cut : (x : List ℕ) (s : ℕ) (l : Language) (y : List ℕ) (says : SaysFeed s l y x) → split_first 32 x ≡ (numeral s, says.1.rest)
+feed_cut : (x : List ℕ) (s : ℕ) (l : Language) (y : List ℕ) (says : SaysFeed s l y x) → split_first 32 x ≡ (numeral s, says.1.rest)
 feed_cut x s l y says = number_cut x says.1.rest s (says.1.parts ∙ append_assoc (numeral s) (32 ∷ []) says.1.rest)
 
 pub feed_seat_none : (x word : List ℕ) → word ≡ (split_first 32 x).0 → ((n : ℕ) → ¬ SaysNumber 65535 n word) → (s : ℕ) (l : Language) (y : List ℕ) → ¬ SaysFeed s l y x
@@ -68,13 +68,13 @@ feed_one x s t l k y z says other =
     (seat, (words_apart l k says.1.says.rest other.1.says.rest rest).0)
 
 -- the words of a feed begin no action
-pub words_first : (l : Language) (rest : List ℕ) → (z : List ℕ) × (feed_words l ++ rest ≡ 102 ∷ z)
+words_first : (l : Language) (rest : List ℕ) → (z : List ℕ) × (feed_words l ++ rest ≡ 102 ∷ z)
 words_first NTriples rest = (codes "eed nt " ++ rest, refl)
 words_first Turtle rest = (codes "eed ttl " ++ rest, refl)
 
 no_action : (a : Action) (x z : List ℕ) → x ≡ 102 ∷ z → ¬ SaysAction a x
 no_action (Open k) x z e says = first_differs 102 111 z (codes "pen " ++ says.rest) refl (sym e ∙ says.parts)
-no_action (OpenPatch t) x z e says = first_differs 102 111 z (codes "pen patch " ++ says.rest) refl (sym e ∙ says.parts)
+no_action (OpenPatch t) x z e says = says
 no_action (Stage ts) x z e says = first_differs 102 115 z (codes "tage " ++ says.rest) refl (sym e ∙ says.parts)
 no_action Commit x z e says = first_differs 102 99 z (codes "ommit") refl (sym e ∙ says)
 no_action (CommitPatch ops) x z e says = says

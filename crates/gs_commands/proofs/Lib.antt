@@ -2,6 +2,5 @@ pub mod LineReaderLemmas
 pub mod WordLemmas
 pub mod CommandLemmas
 pub mod FeedLineLemmas
-pub mod PatchLineLemmas
 pub mod RowLemmas
 pub mod LinesLemmas

@@ -8,7 +8,7 @@ use Rattle.gs_model.specs.Terms.{numeral}
 use Rattle.gs_model.proofs.TextLemmas.{AllOther, other-numeral}
 use Rattle.gs_event.specs.declared.events.Event.TheVariants.{Seat as At, Reclaim}
 use Rattle.gs_commands.specs.declared.commands.Command.{Command}
-use Rattle.gs_commands.specs.declared.commands.Command.TheVariants.{Nothing, Begin, Ask, Count, Feed, Patch, Cut}
+use Rattle.gs_commands.specs.declared.commands.Command.TheVariants.{Nothing, Begin, Ask, Count, Feed, Cut}
 use Rattle.gs_commands.specs.Found.{Finds, SaysNumber}
 use Rattle.gs_commands.specs.Commands.{Says, SaysNothingAt, SaysStart, is_skipped}
 use Rattle.gs_commands.proofs.WordLemmas.{first_differs}
@@ -41,7 +41,6 @@ skipped_none x skipped other (Ask (At s action)) says = skipped_digit (numeral s
 skipped_none x skipped other (Ask (Reclaim n)) says = let clash : true ≡ false = skipped ∙ ap is_skipped says.parts in cc
 skipped_none x skipped other Count says = let clash : true ≡ false = skipped ∙ ap is_skipped says in cc
 skipped_none x skipped other (Feed s l y) says = skipped_digit (numeral s) x says.1.rest (other-numeral 35 refl s) (sym skipped) says.1.parts
-skipped_none x skipped other (Patch s y) says = skipped_digit (numeral s) x says.1.rest (other-numeral 35 refl s) (sym skipped) says.1.parts
 skipped_none x skipped other (Cut n) says = let clash : true ≡ false = skipped ∙ ap is_skipped says.parts in cc
 
 pub store_none : (x rest : List ℕ) → x ≡ codes "store " ++ rest → false ≡ is_skipped x → ((p : ℕ × ℕ × ℕ) → ¬ SaysStart p.0 p.1 p.2 rest) → (c : Command) → ¬ Says c x
@@ -54,7 +53,6 @@ store_none x rest e plain none (Ask (At s action)) says = other_first 115 (numer
 store_none x rest e plain none (Ask (Reclaim n)) says = first_differs 115 114 (codes "tore " ++ rest) (codes "eclaim " ++ says.rest) refl (sym e ∙ says.parts)
 store_none x rest e plain none Count says = first_differs 115 99 (codes "tore " ++ rest) (codes "ounts") refl (sym e ∙ says)
 store_none x rest e plain none (Feed s l y) says = other_first 115 (numeral s) (codes "tore " ++ rest) says.1.rest (other-numeral 115 refl s) refl (sym e ∙ says.1.parts)
-store_none x rest e plain none (Patch s y) says = other_first 115 (numeral s) (codes "tore " ++ rest) says.1.rest (other-numeral 115 refl s) refl (sym e ∙ says.1.parts)
 store_none x rest e plain none (Cut n) says = first_differs 115 99 (codes "tore " ++ rest) (codes "ut " ++ says.rest) refl (sym e ∙ says.parts)
 
 pub reclaim_none : (x rest : List ℕ) → x ≡ codes "reclaim " ++ rest → false ≡ is_skipped x → ((n : ℕ) → ¬ SaysNumber (2 ^ 64 - 1) n rest) → (c : Command) → ¬ Says c x
@@ -67,7 +65,6 @@ reclaim_none x rest e plain none (Ask (Reclaim n)) says =
     none n (subst P same says.says)
 reclaim_none x rest e plain none Count says = first_differs 114 99 (codes "eclaim " ++ rest) (codes "ounts") refl (sym e ∙ says)
 reclaim_none x rest e plain none (Feed s l y) says = other_first 114 (numeral s) (codes "eclaim " ++ rest) says.1.rest (other-numeral 114 refl s) refl (sym e ∙ says.1.parts)
-reclaim_none x rest e plain none (Patch s y) says = other_first 114 (numeral s) (codes "eclaim " ++ rest) says.1.rest (other-numeral 114 refl s) refl (sym e ∙ says.1.parts)
 reclaim_none x rest e plain none (Cut n) says = first_differs 114 99 (codes "eclaim " ++ rest) (codes "ut " ++ says.rest) refl (sym e ∙ says.parts)
 
 pub cut_none : (x rest : List ℕ) → x ≡ codes "cut " ++ rest → false ≡ is_skipped x → ((n : ℕ) → ¬ SaysNumber (2 ^ 64 - 1) n rest) → (c : Command) → ¬ Says c x
@@ -77,7 +74,6 @@ cut_none x rest e plain none (Ask (At s action)) says = other_first 99 (numeral 
 cut_none x rest e plain none (Ask (Reclaim n)) says = first_differs 99 114 (codes "ut " ++ rest) (codes "eclaim " ++ says.rest) refl (sym e ∙ says.parts)
 cut_none x rest e plain none Count says = first_differs 117 111 (codes "t " ++ rest) (codes "unts") refl (tail_same 99 (codes "ut " ++ rest) (codes "ounts") (sym e ∙ says))
 cut_none x rest e plain none (Feed s l y) says = other_first 99 (numeral s) (codes "ut " ++ rest) says.1.rest (other-numeral 99 refl s) refl (sym e ∙ says.1.parts)
-cut_none x rest e plain none (Patch s y) says = other_first 99 (numeral s) (codes "ut " ++ rest) says.1.rest (other-numeral 99 refl s) refl (sym e ∙ says.1.parts)
 cut_none x rest e plain none (Cut n) says =
     let P : List ℕ → Type 0 = λ y. SaysNumber (2 ^ 64 - 1) n y in
     let same : says.rest ≡ rest = let f = says.parts in cc in
@@ -103,7 +99,6 @@ other_none x is none (Ask (At s action)) says = none.no_event s action says
 other_none x is none (Ask (Reclaim n)) says = is.no_reclaim says.rest says.parts
 other_none x is none Count says = is.no_counts says
 other_none x is none (Feed s l y) says = none.no_feed s l y.items says
-other_none x is none (Patch s y) says = none.no_patch s y.items says
 other_none x is none (Cut n) says = is.no_cut says.rest says.parts
 
 -- what a line says that begins with a seat's number

@@ -1,5 +1,5 @@
 -- What a line of a schedule says. Words are parted by one space.
-use Rattle.std.specs.Prelude.{◌≡◌, ◌⊎◌, ℕ, ◌≤◌, Bool, true, ◌==◌, List, [], ◌∷◌, ◌++◌, codes, if◌then◌else◌, Option, MatchOption}
+use Rattle.std.specs.Prelude.{◌≡◌, ℕ, ◌≤◌, Bool, true, ◌==◌, List, [], ◌∷◌, ◌++◌, codes, if◌then◌else◌, Option, MatchOption}
 use Rattle.std.specs.Str.{IsUtf8}
 use Rattle.gs_model.specs.Characters.{line_feed, space, number_sign, less_than, greater_than}
 use Rattle.gs_model.specs.Limits.{last_number, max_seats}
@@ -15,7 +15,7 @@ use Rattle.gs_event.specs.declared.events.Action.TheVariants.{Open, OpenPatch, S
 use Rattle.gs_event.specs.declared.events.Event.{Event}
 use Rattle.gs_event.specs.declared.events.Event.TheVariants.{Seat as At, Reclaim}
 use Rattle.gs_commands.specs.declared.commands.Command.{Command}
-use Rattle.gs_commands.specs.declared.commands.Command.TheVariants.{Nothing, Begin, Ask, Count, Feed, Patch, Cut}
+use Rattle.gs_commands.specs.declared.commands.Command.TheVariants.{Nothing, Begin, Ask, Count, Feed, Cut}
 use Rattle.gs_upload.specs.declared.languages.Language.{Language}
 use Rattle.gs_upload.specs.declared.languages.Language.TheVariants.{NTriples, Turtle}
 use Rattle.gs_commands.specs.Found.{SaysNumber, last_u16, last_u32, last_u64}
@@ -69,10 +69,10 @@ SaysTriples [] x = ⊥
 SaysTriples (t ∷ []) x = SaysTriple t x
 SaysTriples (t ∷ u ∷ ts) x = ⊥
 
--- the action of a seat; no line says a patch's commit, which comes of a text
+-- the action of a seat; no line says one of a patch
 abbrev pub SaysAction : Action → List ℕ → Type 0
 SaysAction (Open k) x = SaysAfter (codes "open ") (SaysKind k) x
-SaysAction (OpenPatch t) x = SaysAfter (codes "open patch ") (SaysTarget t) x
+SaysAction (OpenPatch t) x = ⊥
 SaysAction (Stage ts) x = SaysAfter (codes "stage ") (SaysTriples ts.items) x
 SaysAction Commit x = x ≡ codes "commit"
 SaysAction (CommitPatch ops) x = ⊥
@@ -100,14 +100,6 @@ feed_words Turtle = codes "feed ttl "
 abbrev pub SaysFeed : ℕ → Language → List ℕ → List ℕ → Type 0
 SaysFeed s l y x = (s ≤ last_u16) × SaysAfter (numeral s ++ space ∷ []) (SaysAfter (feed_words l) (SaysText y)) x
 
--- the text of an update: the rest of the line as it is; an empty one may be left out with its space
-abbrev pub SaysUpdate : List ℕ → List ℕ → Type 0
-SaysUpdate y x = ((x ≡ codes "patch") × (y ≡ [])) ⊎ ((x ≡ codes "patch " ++ y) × IsUtf8 y)
-
--- a seat's number, and the text of an update
-abbrev pub SaysPatch : ℕ → List ℕ → List ℕ → Type 0
-SaysPatch s y x = (s ≤ last_u16) × SaysAfter (numeral s ++ space ∷ []) (SaysUpdate y) x
-
 -- what stands after `stage ` is a triple, and the action stages it; there is none only where it is none
 abbrev pub FindsStage : List ℕ → Option Action → Type 0
 FindsStage x found = MatchOption found ((t : RdfTriple) → ¬ SaysTriple t x) (λ action. SaysAction action (codes "stage " ++ x))
@@ -116,11 +108,10 @@ FindsStage x found = MatchOption found ((t : RdfTriple) → ¬ SaysTriple t x) (
 abbrev pub FindsSeat : List ℕ → Option Event → Type 0
 FindsSeat x found = MatchOption found ((s : ℕ) (action : Action) → ¬ SaysEvent (At s action) x) (λ event. SaysEvent event x)
 
--- the line is no seat's event, no feed and no patch
+-- the line is neither a seat's event nor a feed
 pub record SaysNothingAt (x : List ℕ) : Type 0 where
   pub no_event : (s : ℕ) (action : Action) → ¬ SaysEvent (At s action) x
   pub no_feed : (s : ℕ) (l : Language) (y : List ℕ) → ¬ SaysFeed s l y x
-  pub no_patch : (s : ℕ) (y : List ℕ) → ¬ SaysPatch s y x
 
 -- how many seats, and the numbers of the last commit and of the last request
 pub record SaysStart (seats commit request : ℕ) (x : List ℕ) : Type 0 where
@@ -142,5 +133,4 @@ Says (Begin seats commit request) x = SaysAfter (codes "store ") (SaysStart seat
 Says (Ask event) x = SaysEvent event x
 Says Count x = x ≡ codes "counts"
 Says (Feed s l y) x = SaysFeed s l y.items x
-Says (Patch s y) x = SaysPatch s y.items x
 Says (Cut n) x = SaysAfter (codes "cut ") (SaysNumber last_u64 n) x

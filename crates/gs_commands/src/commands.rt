@@ -5,7 +5,6 @@ ghost use Rattle.gs_commands.specs.Commands.{SaysName, SaysTarget, SaysKind, Say
 ghost use Rattle.gs_upload.specs.declared.languages.Language.{Language as ALanguage};
 
 use crate::lines::read_line;
-use crate::patches::read_patch;
 use crate::words::{after, number, split};
 use gs_event::{Action, Event, UploadKind};
 use gs_model::{LAST_NUMBER, MAX_SEATS, Refusal};
@@ -26,8 +25,6 @@ pub enum Command {
     Count,
     /// A text in a language for the upload of a seat: the rest of the line, and a line feed.
     Feed(u16, Language, Vec<u8>),
-    /// The text of an update for the patch of a seat: the rest of the line.
-    Patch(u16, Vec<u8>),
     /// Texts are fed in pieces of so many bytes from here on; 0 is whole.
     Cut(u64),
 }
@@ -125,9 +122,6 @@ fn read_action(alloc: Global, text: &[u8]) -> Result<Option<Action>, AllocError>
     }
     if text == b"cancel".as_slice() {
         return Ok(Some(Action::Cancel));
-    }
-    if let Some(target) = after(text, b"open patch ") {
-        return Ok(read_target(alloc, target)?.map(Action::OpenPatch));
     }
     if let Some(kind) = after(text, b"open ") {
         return Ok(read_kind(alloc, kind)?.map(Action::Open));
@@ -272,9 +266,6 @@ fn read_at_seat(alloc: Global, line: &[u8]) -> Result<Option<Command>, AllocErro
 {
     if let Some((seat, language, text)) = read_feed(alloc, line)? {
         return Ok(Some(Command::Feed(seat, language, text)));
-    }
-    if let Some((seat, text)) = read_patch(alloc, line)? {
-        return Ok(Some(Command::Patch(seat, text)));
     }
     match read_seat(alloc, line)? {
         Some(event) => Ok(Some(Command::Ask(event))),

@@ -3,7 +3,6 @@
 
 mod commands;
 mod lines;
-mod patches;
 mod words;
 
 pub use commands::{Command, read_command};

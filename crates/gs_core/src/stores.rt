@@ -146,3 +146,160 @@ impl EventStore for Store {
         self.step(event)
     }
 }
+
+#[cfg(test)]
+mod tests {
+    use super::*;
+    use gs_event::{Action, Op, UploadKind};
+    use gs_term::{GraphName, Target, TermText, Triple};
+    use std::process::Abort;
+    use std::test::Fail;
+
+    /// A store that holds six triples and two names.
+    fn small(alloc: Global) -> Result<Store, Refusal> {
+        let limits = Limits {
+            triples: 6,
+            names: 2,
+        };
+        Store::limited(alloc, 4, "http://localhost", limits, 0, 0)
+    }
+
+    fn named(alloc: Global, name: &str) -> Result<Target, Refusal> {
+        Ok(Target::Named(GraphName::new(alloc, name)?))
+    }
+
+    /// The triples whose objects are these texts.
+    fn triples(alloc: Global, objects: &[&str]) -> Result<Vec<Triple>, Refusal> {
+        let mut list = Vec::new(alloc);
+        for object in objects {
+            let subject = TermText::iri(alloc, "http://e/s")?;
+            let predicate = TermText::iri(alloc, "http://e/p")?;
+            let object = TermText::literal(alloc, object, None, None)?;
+            if !subject.is_subject() || !predicate.is_iri() {
+                return Err(Refusal::Syntax(0));
+            }
+            list.push(Triple::new(subject, predicate, object))?;
+        }
+        Ok(list)
+    }
+
+    /// The status of an upload of these triples, whole.
+    fn uploaded(
+        alloc: Global,
+        store: &mut Store,
+        kind: UploadKind,
+        objects: &[&str],
+    ) -> Result<u16, Refusal> {
+        let list = triples(alloc, objects)?;
+        let _ = store.step(&Event::Seat(0, Action::Open(kind)));
+        let _ = store.step(&Event::Seat(0, Action::Stage(list)));
+        match store.step(&Event::Seat(0, Action::Commit)) {
+            Answer::Status(status, _) => Ok(status),
+            _ => Ok(0),
+        }
+    }
+
+    /// Asserts the status of an upload, and how many triples there are then.
+    fn expect(
+        rt: &impl Abort,
+        alloc: Global,
+        store: &mut Store,
+        kind: UploadKind,
+        objects: &[&str],
+        want: (u16, u64),
+    ) -> Result<(), Fail> {
+        let status = uploaded(alloc, store, kind, objects)?;
+        assert_eq!(rt; status, want.0);
+        assert_eq!(rt; store.triples_now(), want.1);
+        Ok(())
+    }
+
+    const SIX: [&str; 6] = ["1", "2", "3", "4", "5", "6"];
+
+    #[test]
+    fn the_limits_are_on_the_result_alone(rt: HostRuntime) -> Result<(), Fail> {
+        let alloc = rt.alloc();
+        let mut store = small(alloc)?;
+        let put = UploadKind::Put(named(alloc, "http://e/g")?);
+        expect(&rt, alloc, &mut store, put, &SIX, (201, 6))?;
+        let again = UploadKind::Put(named(alloc, "http://e/g")?);
+        let others = ["7", "8", "9", "10", "11", "12"];
+        expect(&rt, alloc, &mut store, again, &others, (204, 6))?;
+        let known = UploadKind::Post(named(alloc, "http://e/g")?);
+        expect(&rt, alloc, &mut store, known, &["12", "7"], (204, 6))?;
+        let seventh = UploadKind::Post(named(alloc, "http://e/g")?);
+        expect(&rt, alloc, &mut store, seventh, &["13"], (507, 6))?;
+        let elsewhere = UploadKind::Put(Target::Default);
+        expect(&rt, alloc, &mut store, elsewhere, &["1"], (507, 6))
+    }
+
+    #[test]
+    fn a_third_name_is_too_many(rt: HostRuntime) -> Result<(), Fail> {
+        let alloc = rt.alloc();
+        let mut store = small(alloc)?;
+        let first = UploadKind::Post(named(alloc, "http://e/g")?);
+        expect(&rt, alloc, &mut store, first, &[], (201, 0))?;
+        expect(&rt, alloc, &mut store, UploadKind::New, &["1"], (201, 1))?;
+        expect(&rt, alloc, &mut store, UploadKind::New, &["1"], (507, 1))?;
+        let third = UploadKind::Put(named(alloc, "http://e/h")?);
+        expect(&rt, alloc, &mut store, third, &[], (507, 1))?;
+        let _ = store.step(&Event::Seat(0, Action::Delete(named(alloc, "http://e/g")?)));
+        let then = UploadKind::Put(named(alloc, "http://e/h")?);
+        expect(&rt, alloc, &mut store, then, &["2"], (201, 2))
+    }
+
+    /// The status of a patch of the target that adds these triples, and 0 where the seat is not idle
+    /// before it.
+    fn patched(
+        alloc: Global,
+        store: &mut Store,
+        target: Target,
+        objects: &[&str],
+    ) -> Result<u16, Refusal> {
+        let mut operations = Vec::new(alloc);
+        operations.push(Op::Insert(triples(alloc, objects)?))?;
+        let _ = store.step(&Event::Seat(0, Action::OpenPatch(target)));
+        match store.step(&Event::Seat(0, Action::CommitPatch(operations))) {
+            Answer::Status(status, _) => Ok(status),
+            _ => Ok(0),
+        }
+    }
+
+    /// Asserts that the default graph has the triples with these objects, in this order.
+    fn expect_lines(
+        rt: &impl Abort,
+        alloc: Global,
+        store: &mut Store,
+        objects: &[&str],
+    ) -> Result<(), Fail> {
+        let mut want = String::new(alloc);
+        for object in objects {
+            let line = format!(in alloc; "<http://e/s> <http://e/p> \"{object}\" .\n")?;
+            want.push_str(line.as_str())?;
+        }
+        let _ = store.step(&Event::Seat(1, Action::Pin(Target::Default)));
+        let got = match store.step(&Event::Seat(1, Action::Piece(99))) {
+            Answer::Lines(lines, true) => lines,
+            _ => Vec::new(alloc),
+        };
+        let got = str::from_utf8(got.as_slice()).unwrap_or_default();
+        assert_eq!(rt; got, want.as_str());
+        Ok(())
+    }
+
+    #[test]
+    fn a_patch_over_the_limits_ends_and_changes_nothing(rt: HostRuntime) -> Result<(), Fail> {
+        let alloc = rt.alloc();
+        let mut store = small(alloc)?;
+        let put = UploadKind::Put(Target::Default);
+        expect(&rt, alloc, &mut store, put, &SIX, (204, 6))?;
+        assert_eq!(rt; patched(alloc, &mut store, Target::Default, &["7"])?, 507);
+        assert_eq!(rt; store.triples_now(), 6);
+        expect_lines(&rt, alloc, &mut store, &SIX)?;
+        assert_eq!(rt; patched(alloc, &mut store, Target::Default, &["6"])?, 204);
+        let missing = named(alloc, "http://e/g")?;
+        assert_eq!(rt; patched(alloc, &mut store, missing, &["6"])?, 404);
+        assert_eq!(rt; store.triples_now(), 6);
+        Ok(())
+    }
+}

@@ -1,7 +1,7 @@
 -- A run of lines, line by line.
 use Rattle.std.proofs.Common.{ℕ, List, [], ◌∷◌, ◌++◌, refl, sym, ap, ◌∙◌, subst, append_assoc, append-nil}
 use Rattle.gs_commands.specs.declared.commands.Command.{Command}
-use Rattle.gs_commands.specs.declared.commands.Command.TheVariants.{Nothing, Begin, Ask, Count, Feed, Patch, Cut}
+use Rattle.gs_commands.specs.declared.commands.Command.TheVariants.{Nothing, Begin, Ask, Count, Feed, Cut}
 use Rattle.gs_commands.specs.Commands.{Says}
 use Rattle.gs_drill.specs.Drills.{RunState, DoesLine, Plays}
 use Rattle.gs_drill.specs.Taking.{IsInRange}
@@ -13,7 +13,6 @@ says_in_range (Begin a b c) x says = (says.says.some, says.says.most, says.says.
 says_in_range (Ask event) x says = tt
 says_in_range Count x says = tt
 says_in_range (Feed seat l y) x says = tt
-says_in_range (Patch seat y) x says = tt
 says_in_range (Cut n) x says = tt
 
 -- one line more

@@ -17,7 +17,7 @@ use Rattle.gs_upload.specs.declared.languages.Language.{Language}
 use Rattle.gs_feeding.specs.declared.openings.Opening.{Opening}
 use Rattle.gs_drill.specs.declared.uploads.Uploads.{Uploads}
 use Rattle.gs_drill.specs.Printing.{answer_text, fed_text}
-use Rattle.gs_drill.specs.Feeds.{Desk, Answers, Stages, FeedsUpload, FeedsSeat, RefusesText, DoesFeed, with_fed, feed_text}
+use Rattle.gs_drill.specs.Feeds.{Desk, Answers, Stages, FeedsUpload, FeedsSeat, RefusesFeed, DoesFeed, with_fed, feed_text}
 use Rattle.gs_drill.specs.Commits.{Commits, CommitsBy, Completes, CommitsStaged}
 use Rattle.gs_drill.specs.Standing.{AreFed, Standing, FeedsAt, desk_of, opening_of}
 use Rattle.gs_feeding.specs.Receiving.{Fed, Closes}
@@ -36,25 +36,24 @@ pub stages_some : (d e : Desk) (s : ℕ) (v : Vec Triple Global) (a : Answer) �
 stages_some d e s v a some answers = stages_by d e s v a v.items refl some answers
 
 -- the uploads, once a text was fed to a seat
-abbrev fed_standing : (shown : Shown) (u w : Uploads) (st : Standing shown u) (s : ℕ) (f : Fed) → w.openings.items ≡ u.openings.items → w.patches.items ≡ u.patches.items → length w.texts.items ≡ length u.texts.items → AreFed w.texts.items (with_fed st.fed s f) → Standing shown w
-fed_standing shown u w st s f openings patches lengths all = record {
+abbrev fed_standing : (shown : Shown) (u w : Uploads) (st : Standing shown u) (s : ℕ) (f : Fed) → w.openings.items ≡ u.openings.items → length w.texts.items ≡ length u.texts.items → AreFed w.texts.items (with_fed st.fed s f) → Standing shown w
+fed_standing shown u w st s f openings lengths all = record {
   fed = with_fed st.fed s f;
   openings = openings ∙ st.openings;
-  patches = patches ∙ st.patches;
   texts = all;
   even = lengths ∙ st.even ∙ ap length (sym openings);
 }
 
 -- a text is fed to an upload
 pub feeds_upload : (n : ℕ) (old new : Shown) (u m w : Uploads) (l : Language) (s : ℕ) (y : List ℕ) (given : List RdfTriple) (a : Answer) (text : List ℕ)
-    → m.openings.items ≡ u.openings.items → m.patches.items ≡ u.patches.items → length m.texts.items ≡ length u.texts.items
+    → m.openings.items ≡ u.openings.items → length m.texts.items ≡ length u.texts.items
     → FeedsAt n l s y u.openings.items u.texts.items m.texts.items given
     → ((st : Standing old m) → (en : Standing new w) × Stages (desk_of st) s given a (desk_of en)) → text ≡ feed_text a
     → (o : Opening) → slice_get u.openings.items s ≡ Some (Some o) → (st : Standing old u) → (en : Standing new w) × FeedsUpload n (first_context l o) (desk_of st) s y text (desk_of en)
-feeds_upload n old new u m w l s y given a text openings patches lengths feeds stages told o there st =
+feeds_upload n old new u m w l s y given a text openings lengths feeds stages told o there st =
     let P : ℕ → Type 0 = λ k. s < k in
     let f = feeds o there st.fed st.texts (subst P (sym st.even) (slice_get_within u.openings.items s (Some o) there)) in
-    let en = stages (fed_standing old u m st s f.0 openings patches lengths f.1) in
+    let en = stages (fed_standing old u m st s f.0 openings lengths f.1) in
     (en.0, record { given = given; fed = f.0; receives = f.2; answer = a; staged = en.1; told = told })
 
 pub staged_text : (a : Answer) → a ≡ Staged → fed_text ≡ feed_text a
@@ -66,11 +65,11 @@ refusal_text a other = refl
 
 -- the rows of a feed by what opened the upload of the seat
 abbrev pub FeedsRow : Option (Option Opening) → ℕ → Desk → ℕ → Language → List ℕ → List ℕ → Desk → Type 0
-FeedsRow None n d s l y text e = RefusesText BadSeat d text e
-FeedsRow (Some None) n d s l y text e = RefusesText WrongPhase d text e
+FeedsRow None n d s l y text e = RefusesFeed BadSeat d text e
+FeedsRow (Some None) n d s l y text e = RefusesFeed WrongPhase d text e
 FeedsRow (Some (Some o)) n d s l y text e = FeedsUpload n (first_context l o) d s y text e
 
-by_phase : (q : Option SeatView) (n : ℕ) (d : Desk) (s : ℕ) (l : Language) (y text : List ℕ) (e : Desk) → FeedsRow (option_map opening_of q) n d s l y text e → MatchOption q (RefusesText BadSeat d text e) (λ p. FeedsSeat p n d s l y text e)
+by_phase : (q : Option SeatView) (n : ℕ) (d : Desk) (s : ℕ) (l : Language) (y text : List ℕ) (e : Desk) → FeedsRow (option_map opening_of q) n d s l y text e → MatchOption q (RefusesFeed BadSeat d text e) (λ p. FeedsSeat p n d s l y text e)
 by_phase None n d s l y text e h = h
 by_phase (Some Idle) n d s l y text e h = h
 by_phase (Some (Writing k r g)) n d s l y text e h = h
@@ -129,11 +128,11 @@ ends_by old new s m given is ends fed all =
     (f.0, f.1, subst P is f.2)
 
 -- the text that was fed ends, and the upload is committed or given up
-pub commits : (old new : Shown) (u m w : Uploads) (s : ℕ) (given : Option (List RdfTriple)) (text : List ℕ) → m.openings.items ≡ u.openings.items → m.patches.items ≡ u.patches.items → length m.texts.items ≡ length u.texts.items
+pub commits : (old new : Shown) (u m w : Uploads) (s : ℕ) (given : Option (List RdfTriple)) (text : List ℕ) → m.openings.items ≡ u.openings.items → length m.texts.items ≡ length u.texts.items
     → ((fed : ℕ → Fed) → AreFed u.texts.items fed → (f : Fed) × AreFed m.texts.items (with_fed fed s f) × Closes (fed s) given f)
     → ((st : Standing old m) → (en : Standing new w) × CommitsBy given (desk_of st) s text (desk_of en))
     → (st : Standing old u) → (en : Standing new w) × Commits (desk_of st) s text (desk_of en)
-commits old new u m w s given text openings patches lengths ends by st =
+commits old new u m w s given text openings lengths ends by st =
     let f = ends st.fed st.texts in
-    let en = by (fed_standing old u m st s f.0 openings patches lengths f.1) in
+    let en = by (fed_standing old u m st s f.0 openings lengths f.1) in
     (en.0, record { given = given; fed = f.0; closes = f.2; commits = en.1 })

@@ -6,11 +6,10 @@ use Rattle.gs_model.proofs.TextLemmas.{AllOther, other-numeral}
 use Rattle.gs_event.specs.declared.events.Event.TheVariants.{Seat as At, Reclaim}
 use Rattle.gs_upload.specs.declared.languages.Language.{Language}
 use Rattle.gs_commands.specs.declared.commands.Command.{Command}
-use Rattle.gs_commands.specs.declared.commands.Command.TheVariants.{Nothing, Begin, Ask, Count, Feed, Patch, Cut}
+use Rattle.gs_commands.specs.declared.commands.Command.TheVariants.{Nothing, Begin, Ask, Count, Feed, Cut}
 use Rattle.gs_commands.specs.Commands.{Says, SaysFeed, is_skipped}
 use Rattle.gs_commands.proofs.WordLemmas.{first_differs}
 use Rattle.gs_commands.proofs.FeedLineLemmas.{feed_one, feed_no_event}
-use Rattle.gs_commands.proofs.PatchLineLemmas.{feed_no_patch}
 use Rattle.gs_commands.proofs.RowLemmas.{other_first, skipped_digit}
 use Rattle.gs_feeding.specs.Receiving.{IsIn}
 use Rattle.gs_drill.specs.Drills.{RunState, IsLate}
@@ -23,7 +22,6 @@ late_line s x rest e begun (Ask (At seat action)) says = other_first 115 (numera
 late_line s x rest e begun (Ask (Reclaim n)) says = first_differs 115 114 (codes "tore " ++ rest) (codes "eclaim " ++ says.rest) refl (sym e ∙ says.parts)
 late_line s x rest e begun Count says = first_differs 115 99 (codes "tore " ++ rest) (codes "ounts") refl (sym e ∙ says)
 late_line s x rest e begun (Feed seat l y) says = absurd (other_first 115 (numeral seat) (codes "tore " ++ rest) says.1.rest (other-numeral 115 refl seat) refl (sym e ∙ says.1.parts))
-late_line s x rest e begun (Patch seat y) says = absurd (other_first 115 (numeral seat) (codes "tore " ++ rest) says.1.rest (other-numeral 115 refl seat) refl (sym e ∙ says.1.parts))
 late_line s x rest e begun (Cut n) says = first_differs 115 99 (codes "tore " ++ rest) (codes "ut " ++ says.rest) refl (sym e ∙ says.parts)
 
 -- a seat's line says no other command than a seat's
@@ -42,7 +40,6 @@ late_feed s x seat l y feed late (Feed t k z) says =
     let P : ℕ → Type 0 = λ n. ¬ IsIn l (s.desk.fed n) in
     let Q : Language → Type 0 = λ m. ¬ IsIn m (s.desk.fed t) in
     subst Q one.1 (subst P one.0 late)
-late_feed s x seat l y feed late (Patch t z) says = feed_no_patch x seat t l y z.items feed says
 late_feed s x seat l y feed late (Cut n) says = feed_first 99 x y (codes "ut " ++ says.rest) seat l refl (other-numeral 99 refl seat) says.parts feed
 
 -- of a late command's line every command is late
@@ -52,5 +49,4 @@ late_none s (Begin a b k) x says late d other = late_line s x says.rest says.par
 late_none s (Ask event) x says late d other = absurd late
 late_none s Count x says late d other = absurd late
 late_none s (Feed seat l y) x says late d other = late_feed s x seat l y.items says late d other
-late_none s (Patch seat y) x says late d other = absurd late
 late_none s (Cut n) x says late d other = absurd late

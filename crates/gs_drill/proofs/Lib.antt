@@ -6,5 +6,4 @@ pub mod RunLemmas
 pub mod SeatLemmas
 pub mod DeskLemmas
 pub mod FeedLemmas
-pub mod PatchLemmas
 pub mod BeginLemmas

@@ -16,11 +16,11 @@ pub record Asks (d : Desk) (event : Event) (text : List ℕ) (e : Desk) : Type 0
   pub answers : Answers d event answer e
   pub told : text ≡ answer_text answer
 
--- the upload or the patch is given up, and its fault is printed in the place of the answer
-pub record GivesUp (fault : List ℕ) (d : Desk) (s : ℕ) (text : List ℕ) (e : Desk) : Type 0 where
+-- the upload is given up, and the fault is printed in the place of the answer
+pub record GivesUp (d : Desk) (s : ℕ) (text : List ℕ) (e : Desk) : Type 0 where
   pub answer : Answer
   pub answers : Answers d (At s Cancel) answer e
-  pub told : text ≡ fault
+  pub told : text ≡ fault_text
 
 -- where the last triples are staged the upload is committed, and else the refusal is printed
 abbrev pub CommitsStaged : Answer → Desk → ℕ → List ℕ → Desk → Type 0
@@ -36,7 +36,7 @@ pub record Completes (given : List RdfTriple) (d : Desk) (s : ℕ) (text : List 
 
 -- the same by what the text gives as it ends
 abbrev pub CommitsBy : Option (List RdfTriple) → Desk → ℕ → List ℕ → Desk → Type 0
-CommitsBy None d s text e = GivesUp fault_text d s text e
+CommitsBy None d s text e = GivesUp d s text e
 CommitsBy (Some given) d s text e = Completes given d s text e
 
 -- a commit of seat s: the text that was fed ends, and the upload is committed or given up

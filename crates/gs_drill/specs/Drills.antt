@@ -6,12 +6,11 @@ use Rattle.gs_event.specs.Histories.{Start, view_of, pinned_of}
 use Rattle.gs_event.specs.Waste.{Shown, nodes_in}
 use Rattle.gs_core.specs.Settings.{setting_of}
 use Rattle.gs_commands.specs.declared.commands.Command.{Command}
-use Rattle.gs_commands.specs.declared.commands.Command.TheVariants.{Nothing, Begin, Ask, Count, Feed, Patch, Cut}
+use Rattle.gs_commands.specs.declared.commands.Command.TheVariants.{Nothing, Begin, Ask, Count, Feed, Cut}
 use Rattle.gs_commands.specs.Commands.{Says, lines_in}
 use Rattle.gs_drill.specs.Printing.{counts_text, no_command_text, no_memory_text, WritesFront}
 use Rattle.gs_drill.specs.Feeds.{Desk, DoesFeed}
 use Rattle.gs_drill.specs.Commits.{DoesEvent}
-use Rattle.gs_drill.specs.Patches.{DoesPatch}
 use Rattle.gs_feeding.specs.Receiving.{Unfed, IsIn}
 
 -- between two lines: whether a command came before, in pieces of how many bytes texts are fed (0 is whole), what
@@ -45,7 +44,6 @@ Does s (Begin seats commit request) text t = (s.begun ≡ false) × (text ≡ []
 Does s (Ask event) text t = (t.begun ≡ true) × (t.cut ≡ s.cut) × DoesEvent s.desk event text t.desk
 Does s Count text t = (t.begun ≡ true) × (t.cut ≡ s.cut) × (t.desk ≡ s.desk) × (text ≡ counts_text (nodes_in s.desk.shown) (triples_in s.desk.shown.view.totals.dataset))
 Does s (Feed seat l y) text t = IsIn l (s.desk.fed seat) × (t.begun ≡ true) × (t.cut ≡ s.cut) × DoesFeed s.cut s.desk seat l y.items text t.desk
-Does s (Patch seat y) text t = (t.begun ≡ true) × (t.cut ≡ s.cut) × DoesPatch s.desk seat y.items text t.desk
 Does s (Cut n) text t = (text ≡ []) × (t ≡ record { begun = true; cut = n; desk = s.desk })
 
 -- a line says a command, which is done
@@ -67,7 +65,6 @@ IsLate s (Begin seats commit request) = s.begun ≡ true
 IsLate s (Ask event) = ⊥
 IsLate s Count = ⊥
 IsLate s (Feed seat l y) = ¬ IsIn l (s.desk.fed seat)
-IsLate s (Patch seat y) = ⊥
 IsLate s (Cut n) = ⊥
 
 -- each command that the line says, if it says one, is late in this state

@@ -75,16 +75,16 @@ pub record FeedsUpload (n : ℕ) (c : TextContext) (d : Desk) (s : ℕ) (y text 
   pub told : text ≡ feed_text answer
 
 -- no event is made
-abbrev pub RefusesText : Refusal → Desk → List ℕ → Desk → Type 0
-RefusesText refusal d text e = (text ≡ answer_text (Refused refusal)) × (e ≡ d)
+abbrev pub RefusesFeed : Refusal → Desk → List ℕ → Desk → Type 0
+RefusesFeed refusal d text e = (text ≡ answer_text (Refused refusal)) × (e ≡ d)
 
 -- the same by what the seat is doing: one that has no upload has no text to feed
 abbrev pub FeedsSeat : SeatView → ℕ → Desk → ℕ → Language → List ℕ → List ℕ → Desk → Type 0
-FeedsSeat Idle n d s l y text e = RefusesText WrongPhase d text e
+FeedsSeat Idle n d s l y text e = RefusesFeed WrongPhase d text e
 FeedsSeat (Writing k r g) n d s l y text e = FeedsUpload n (record { language = l; base = first_base k; request = r }) d s y text e
-FeedsSeat (Patching t r) n d s l y text e = RefusesText WrongPhase d text e
-FeedsSeat (Reading left) n d s l y text e = RefusesText WrongPhase d text e
+FeedsSeat (Patching t r) n d s l y text e = RefusesFeed WrongPhase d text e
+FeedsSeat (Reading left) n d s l y text e = RefusesFeed WrongPhase d text e
 
 -- y, in language l, is fed in pieces of n bytes to seat s, which prints the text
 abbrev pub DoesFeed : ℕ → Desk → ℕ → Language → List ℕ → List ℕ → Desk → Type 0
-DoesFeed n d s l y text e = MatchOption (slice_get d.shown.view.seats s) (RefusesText BadSeat d text e) (λ p. FeedsSeat p n d s l y text e)
+DoesFeed n d s l y text e = MatchOption (slice_get d.shown.view.seats s) (RefusesFeed BadSeat d text e) (λ p. FeedsSeat p n d s l y text e)

@@ -7,7 +7,7 @@ use Rattle.gs_model.specs.Refusals.{name_of}
 use Rattle.gs_event.specs.declared.answers.Answer.{Answer}
 use Rattle.gs_event.specs.declared.answers.Answer.TheVariants.{Opened, Staged, Status, Pinned, Lines, Cancelled, Reclaimed, Refused}
 use Rattle.gs_drill.specs.declared.printing.Reply.{Reply}
-use Rattle.gs_drill.specs.declared.printing.Reply.TheVariants.{Answered, Taken, Fault, Outside}
+use Rattle.gs_drill.specs.declared.printing.Reply.TheVariants.{Answered, Taken, Fault}
 
 -- what stands after a status: a space and the name of the graph that was made up, if one was
 abbrev pub location_text : Option (List ℕ) → List ℕ
@@ -29,20 +29,15 @@ answer_text (Refused refusal) = codes "refused " ++ name_of refusal ++ line_feed
 abbrev pub fed_text : List ℕ
 fed_text = codes "fed" ++ line_feed ∷ []
 
--- what the commit of a text with a fault prints, and a patch whose text has one
+-- what the commit of a text with a fault prints
 abbrev pub fault_text : List ℕ
 fault_text = codes "fault 400" ++ line_feed ∷ []
-
--- what a patch prints whose text is outside what is served
-abbrev pub outside_text : List ℕ
-outside_text = codes "fault 422" ++ line_feed ∷ []
 
 -- what a line prints
 abbrev pub reply_text : Reply → List ℕ
 reply_text (Answered a) = answer_text a
 reply_text Taken = fed_text
 reply_text Fault = fault_text
-reply_text Outside = outside_text
 
 -- the nodes in use, and the triples of all graphs
 abbrev pub counts_text : ℕ → ℕ → List ℕ

@@ -1,5 +1,4 @@
--- Where the code stands in a run: the store, and for each seat what opened its upload or patch and the reader of its
--- text.
+-- Where the code stands in a run: the store, and for each seat what opened its upload and the reader of its text.
 use Rattle.std.specs.Prelude.{◌≡◌, ◌<◌, ℕ, Bool, List, length, map, Option, None, Some, MatchOption}
 use Rattle.std.specs.List.{slice_get}
 use Rattle.gs_model.specs.Triples.{RdfTriple}
@@ -12,7 +11,7 @@ use Rattle.gs_feeding.specs.declared.texts.SeatText.{SeatText}
 use Rattle.gs_feeding.specs.declared.openings.Opening.{Opening}
 use Rattle.gs_feeding.specs.Bases.{target_name}
 use Rattle.gs_feeding.specs.Receiving.{Fed, Unfed, Receives, Closes}
-use Rattle.gs_feeding.specs.SeatTexts.{WasFed, first_context, patch_opening}
+use Rattle.gs_feeding.specs.SeatTexts.{WasFed, first_context}
 use Rattle.gs_drill.specs.declared.uploads.Uploads.{Uploads}
 use Rattle.gs_drill.specs.Feeds.{Desk, with_fed}
 use Rattle.gs_drill.specs.Drills.{RunState, new_state}
@@ -23,13 +22,6 @@ opening_of Idle = None
 opening_of (Writing k r g) = Some (record { request = r; target = target_name k })
 opening_of (Patching t r) = None
 opening_of (Reading left) = None
-
--- what opened the patch that the seat has
-abbrev pub patch_of : SeatView → Option Opening
-patch_of Idle = None
-patch_of (Writing k r g) = None
-patch_of (Patching t r) = Some (patch_opening t r)
-patch_of (Reading left) = None
 
 -- what was fed to each seat; nothing was fed to a seat that is not there
 abbrev pub AreFed : List SeatText → (ℕ → Fed) → Type 0
@@ -48,7 +40,6 @@ EndsAt s old new given = (fed : ℕ → Fed) → AreFed old fed → (f : Fed) ×
 pub record Standing (shown : Shown) (u : Uploads) : Type 0 where
   pub fed : ℕ → Fed
   pub openings : u.openings.items ≡ map opening_of shown.view.seats
-  pub patches : u.patches.items ≡ map patch_of shown.view.seats
   pub texts : AreFed u.texts.items fed
   pub even : length u.texts.items ≡ length u.openings.items
 

@@ -4,7 +4,7 @@ use Rattle.std.specs.Io.KnownBytes.{Appends}
 use Rattle.gs_model.specs.Limits.{last_number, max_seats}
 use Rattle.gs_event.specs.Waste.{Shown}
 use Rattle.gs_commands.specs.declared.commands.Command.{Command}
-use Rattle.gs_commands.specs.declared.commands.Command.TheVariants.{Nothing, Begin, Ask, Count, Feed, Patch, Cut}
+use Rattle.gs_commands.specs.declared.commands.Command.TheVariants.{Nothing, Begin, Ask, Count, Feed, Cut}
 use Rattle.gs_drill.specs.declared.stops.Stop.{Stop}
 use Rattle.gs_drill.specs.declared.stops.Stop.TheVariants.{NoCommand, NoMemory, Failed}
 use Rattle.gs_drill.specs.declared.uploads.Uploads.{Uploads}
@@ -20,7 +20,6 @@ IsInRange (Begin seats commit request) = (1 ≤ seats) × (seats ≤ max_seats) 
 IsInRange (Ask event) = Unit {0}
 IsInRange Count = Unit {0}
 IsInRange (Feed seat l y) = Unit {0}
-IsInRange (Patch seat y) = Unit {0}
 IsInRange (Cut n) = Unit {0}
 
 -- a text is made and written

@@ -9,11 +9,9 @@ ghost use Rattle.gs_drill.specs.Drills.{drill_start, new_store as new_store_of, 
 ghost use Rattle.gs_drill.specs.Taking.{IsInRange, Prints, RepliesText, RepliesFrom, DoesCommand, TakesLine, EndsRun};
 ghost use Rattle.gs_drill.specs.Feeds.{DoesFeed};
 ghost use Rattle.gs_drill.specs.Commits.{Asks, DoesEvent};
-ghost use Rattle.gs_drill.specs.Patches.{DoesPatch};
 ghost use Rattle.gs_drill.specs.Standing.{Standing, desk_of, run_state, BeginsStore};
 
 use crate::feeds::{answer, commit, feed};
-use crate::patches::patch;
 use crate::printing::{Reply, print_answer, print_counts, print_reply};
 use crate::stops::{Stop, report};
 use crate::uploads::Uploads;
@@ -140,25 +138,6 @@ fn do_feed<W: Write>(
     }
 }
 
-/// Gives the text of an update to a patch, and prints what that answers.
-fn do_patch<W: Write>(
-    alloc: Global,
-    store: &mut Store,
-    uploads: &mut Uploads,
-    seat: u16,
-    text: &[u8],
-    out: &mut W,
-) -> Result<(), Stop>
-    ensures does { RepliesFrom store.old uploads.old store.new uploads.new
-        (λ d. DoesPatch d seat text.now) (W.contents out.old) (W.contents out.new) result }
-    ensures cut { uploads.new.cut ≡ uploads.old.cut }
-{
-    match patch(alloc, store, uploads, seat, text) {
-        Ok(reply) => tell(&reply, out),
-        Err(_) => Err(Stop::NoMemory),
-    }
-}
-
 /// Prints the two counts.
 fn do_count<W: Write>(store: &Store, out: &mut W) -> Result<(), Stop>
     ensures { RepliesText (counts_text (nodes_in store.now) (triples_in store.now.view.totals.dataset))
@@ -210,10 +189,6 @@ fn do_command<W: Write>(
                 return Err(Stop::NoCommand);
             }
             do_feed(alloc, store, uploads, seat, language, text.as_slice(), out)
-        }
-        Command::Patch(seat, text) => {
-            *begun = true;
-            do_patch(alloc, store, uploads, seat, text.as_slice(), out)
         }
         Command::Cut(length) => {
             *begun = true;

@@ -81,14 +81,14 @@ pub fn feed(
     }
 }
 
-/// Gives the upload or the patch of a seat up, whose text has this fault.
-pub fn give_up(store: &mut Store, uploads: &mut Uploads, seat: u16, fault: Reply) -> Reply
+/// Gives the upload of a seat up, whose text has a fault.
+fn give_up(store: &mut Store, uploads: &mut Uploads, seat: u16) -> Reply
     ensures does { MovesDesk store.old uploads.old store.new uploads.new
-        (λ d e. GivesUp (reply_text fault) d seat (reply_text result) e) }
+        (λ d e. GivesUp d seat (reply_text result) e) }
     ensures cut { uploads.new.cut ≡ uploads.old.cut }
 {
     let _ = answer(store, uploads, Event::Seat(seat, Action::Cancel));
-    fault
+    Reply::Fault
 }
 
 /// Stages the last triples of a seat's upload, and commits it.
@@ -118,6 +118,6 @@ pub fn commit(
 {
     match uploads.finish(alloc, seat)? {
         Some(given) => Ok(complete(store, uploads, seat, given)),
-        None => Ok(give_up(store, uploads, seat, Reply::Fault)),
+        None => Ok(give_up(store, uploads, seat)),
     }
 }

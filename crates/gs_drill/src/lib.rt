@@ -3,7 +3,6 @@
 
 mod drills;
 mod feeds;
-mod patches;
 mod printing;
 mod stops;
 mod uploads;

@@ -16,10 +16,8 @@ pub enum Reply {
     Answered(Answer),
     /// A text was fed.
     Taken,
-    /// A text had a fault, and its upload or its patch was given up.
+    /// A text had a fault, and its upload was given up.
     Fault,
-    /// The text of an update is outside what is served, and its patch was given up.
-    Outside,
 }
 
 /// Writes some bytes. Where that fails, a front of them is written.
@@ -129,7 +127,6 @@ pub fn print_reply<W: Write>(out: &mut W, reply: &Reply) -> io::Result<()>
         Reply::Answered(answer) => print_answer(out, answer),
         Reply::Taken => put_pair(out, b"fed", b""),
         Reply::Fault => put_pair(out, b"fault 400", b""),
-        Reply::Outside => put_pair(out, b"fault 422", b""),
     }
 }
 

@@ -1,50 +1,44 @@
-//! The uploads and the patches of all seats, and what was fed to each upload.
+//! The uploads of all seats, and what was fed to each.
 ghost use Rattle.std.specs.Prelude.{◌≡◌, length, [], ℕ, List, true, false, is_some, None, Some, option_map, MatchOption, IfOk, replicate};
 ghost use Rattle.std.specs.List.{slice_get, slice_set};
 ghost use Rattle.gs_feeding.specs.declared.openings.Opening.{Opening as AnOpening};
 ghost use Rattle.gs_drill.specs.Standing.{AreFed, FeedsAt, EndsAt};
-ghost use Rattle.gs_drill.specs.Following.{openings_after, patches_after, patch_opened_by, texts_after};
+ghost use Rattle.gs_drill.specs.Following.{openings_after, texts_after};
 ghost use Rattle.gs_feeding.specs.Receiving.{Fed, IsIn};
-ghost use Rattle.gs_feeding.specs.SeatTexts.{FeedsText, first_context, opened_by};
+ghost use Rattle.gs_feeding.specs.SeatTexts.{FeedsText, first_context};
 
-use gs_event::{Action, Answer, Event};
+use gs_event::{Answer, Event};
 use gs_feeding::{Opening, SeatText};
 use gs_term::Triple;
 use gs_upload::Language;
 use std::alloc::{AllocError, Global};
 use std::mem;
 
-/// For each seat of a store what opened the upload that it has, what opened the patch that it has,
-/// and what was fed to the upload.
+/// For each seat of a store what opened the upload that it has, and what was fed to that.
 #[derive(Drop)]
 pub struct Uploads {
     /// Texts are fed in pieces of so many bytes; 0 is whole.
     pub cut: u64,
     pub openings: Vec<Option<Opening>>,
-    pub patches: Vec<Option<Opening>>,
     pub texts: Vec<SeatText>,
 }
 
 impl Uploads {
-    /// So many seats without an upload and without a patch.
+    /// So many seats without an upload.
     pub fn new(alloc: Global, seats: u16) -> Result<Uploads, AllocError>
         ensures cut { IfOk result (λ u. u.cut ≡ 0) }
         ensures openings { IfOk result (λ u. u.openings.items ≡ replicate seats None) }
-        ensures patches { IfOk result (λ u. u.patches.items ≡ replicate seats None) }
         ensures texts { IfOk result (λ u. u.texts.items ≡ replicate seats SeatText.Unfed) }
     {
         let mut openings = Vec::with_capacity(alloc, usize::from(seats))?;
-        let mut patches = Vec::with_capacity(alloc, usize::from(seats))?;
         let mut texts = Vec::with_capacity(alloc, usize::from(seats))?;
         for _ in 0..seats {
             openings.push(None)?;
-            patches.push(None)?;
             texts.push(SeatText::Unfed)?;
         }
         Ok(Uploads {
             cut: 0,
             openings,
-            patches,
             texts,
         })
     }
@@ -75,10 +69,9 @@ impl Uploads {
         }
     }
 
-    /// An upload or a patch begins or ends.
-    fn reset(&mut self, seat: u16, opening: Option<Opening>, patch: Option<Opening>)
+    /// An upload begins or ends.
+    fn reset(&mut self, seat: u16, opening: Option<Opening>)
         ensures openings { self.new.openings.items ≡ slice_set self.old.openings.items seat opening }
-        ensures patches { self.new.patches.items ≡ slice_set self.old.patches.items seat patch }
         ensures texts { self.new.texts.items ≡ slice_set self.old.texts.items seat SeatText.Unfed }
         ensures cut { self.new.cut ≡ self.old.cut }
     {
@@ -86,35 +79,14 @@ impl Uploads {
         if seat < self.openings.len() {
             self.openings[seat] = opening;
         }
-        if seat < self.patches.len() {
-            self.patches[seat] = patch;
-        }
         if seat < self.texts.len() {
             self.texts[seat] = SeatText::Unfed;
-        }
-    }
-
-    /// An action opened an upload or a patch, under this request.
-    fn begin(&mut self, seat: u16, action: Action, request: u64)
-        ensures openings { self.new.openings.items
-            ≡ slice_set self.old.openings.items seat (opened_by action request) }
-        ensures patches { self.new.patches.items
-            ≡ slice_set self.old.patches.items seat (patch_opened_by action request) }
-        ensures texts { self.new.texts.items ≡ slice_set self.old.texts.items seat SeatText.Unfed }
-        ensures cut { self.new.cut ≡ self.old.cut }
-    {
-        match action {
-            Action::OpenPatch(target) => {
-                self.reset(seat, None, Some(Opening::of_patch(target, request)));
-            }
-            other => self.reset(seat, Opening::by(other, request), None),
         }
     }
 
     /// Follows what a store answered. Takes no memory: an opening takes its name out of the event.
     pub fn follow(&mut self, event: Event, answer: &Answer)
         ensures openings { self.new.openings.items ≡ openings_after self.old.openings.items event answer.now }
-        ensures patches { self.new.patches.items ≡ patches_after self.old.patches.items event answer.now }
         ensures texts { self.new.texts.items ≡ texts_after self.old.texts.items event answer.now }
         ensures cut { self.new.cut ≡ self.old.cut }
     {
@@ -122,9 +94,9 @@ impl Uploads {
             return;
         };
         match answer {
-            Answer::Opened(request) => self.begin(seat, action, *request),
-            Answer::Status(_, _) => self.reset(seat, None, None),
-            Answer::Cancelled => self.reset(seat, None, None),
+            Answer::Opened(request) => self.reset(seat, Opening::by(action, *request)),
+            Answer::Status(_, _) => self.reset(seat, None),
+            Answer::Cancelled => self.reset(seat, None),
             _ => {}
         }
     }
@@ -134,7 +106,6 @@ impl Uploads {
         ensures taken { MatchOption (slice_get self.old.texts.items seat) (result ≡ SeatText.Unfed)
             (λ b. result ≡ b) }
         ensures openings { self.new.openings.items ≡ self.old.openings.items }
-        ensures patches { self.new.patches.items ≡ self.old.patches.items }
         ensures texts { self.new.texts.items ≡ slice_set self.old.texts.items seat SeatText.Unfed }
         ensures cut { self.new.cut ≡ self.old.cut }
     {
@@ -148,7 +119,6 @@ impl Uploads {
 
     fn put(&mut self, seat: u16, text: SeatText)
         ensures openings { self.new.openings.items ≡ self.old.openings.items }
-        ensures patches { self.new.patches.items ≡ self.old.patches.items }
         ensures texts { self.new.texts.items ≡ slice_set self.old.texts.items seat text }
         ensures cut { self.new.cut ≡ self.old.cut }
     {
@@ -188,7 +158,6 @@ impl Uploads {
         ensures given { IfOk result (λ given. FeedsAt self.old.cut language seat text.now
             self.old.openings.items self.old.texts.items self.new.texts.items given.items) }
         ensures openings { IfOk result (λ given. self.new.openings.items ≡ self.old.openings.items) }
-        ensures patches { self.new.patches.items ≡ self.old.patches.items }
         ensures even { IfOk result (λ given. length self.new.texts.items ≡ length self.old.texts.items) }
         ensures cut { self.new.cut ≡ self.old.cut }
     {
@@ -203,7 +172,6 @@ impl Uploads {
         ensures given { IfOk result (λ given. EndsAt seat self.old.texts.items self.new.texts.items
             (option_map (λ ts. ts.items) given)) }
         ensures openings { IfOk result (λ given. self.new.openings.items ≡ self.old.openings.items) }
-        ensures patches { self.new.patches.items ≡ self.old.patches.items }
         ensures even { IfOk result (λ given. length self.new.texts.items ≡ length self.old.texts.items) }
         ensures cut { self.new.cut ≡ self.old.cut }
     {

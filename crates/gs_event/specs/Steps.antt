@@ -11,11 +11,9 @@ use Rattle.gs_event.specs.declared.events.Event.{Event}
 use Rattle.gs_event.specs.declared.events.Event.TheVariants.{Seat as At, Reclaim}
 use Rattle.gs_event.specs.declared.answers.Answer.{Answer}
 use Rattle.gs_event.specs.declared.answers.Answer.TheVariants.{Status, Pinned, Lines, Cancelled, Reclaimed}
-use Rattle.gs_event.specs.declared.updates.Op.{Op}
-use Rattle.gs_event.specs.Updates.{inserted_by, removed_by}
-use Rattle.gs_event.specs.Datasets.{graph_at, size_at}
+use Rattle.gs_event.specs.Datasets.{size_at}
 use Rattle.gs_event.specs.Operations.{is_success}
-use Rattle.gs_event.specs.Phases.{Writing, Patching}
+use Rattle.gs_event.specs.Phases.{Writing}
 use Rattle.gs_event.specs.Views.{Totals, SeatView, Fits, next_view}
 use Rattle.gs_event.specs.Waste.{Lifetime, Shown, is_needed, unneeded}
 
@@ -47,22 +45,16 @@ IsUnreached l = l.death ≡ 0
 abbrev pub EndsAt : ℕ → Lifetime → Type 0
 EndsAt commit l = (l.birth < commit) × (l.death ≡ commit)
 
--- The most nodes that one triple may replace where it comes to a graph: at most 260 are made for it, and one of these
--- is the triple's own.
-abbrev pub most_for_new : ℕ
-most_for_new = 259
-
--- The most nodes that one triple may replace where it goes from a graph: at most 260 are made for the others, and its own
--- goes too.
-abbrev pub most_for_gone : ℕ
-most_for_gone = 261
+-- the most nodes that one triple may replace, where it comes to a graph
+abbrev pub max_replaced : ℕ
+max_replaced = 260
 
 -- an upload of so many triples was copied into a graph: its own nodes join, and nodes that the copies replaced, where
 -- the last commit number was this
 pub record JoinsCopied (last size : ℕ) (old new : List Lifetime) : Type 0 where
   pub between : List Lifetime
   pub staged : Joins IsUnreached size old between
-  pub replaced : Joins (EndsAt (last + 1)) (most_for_new * size) between new
+  pub replaced : Joins (EndsAt (last + 1)) (max_replaced * size) between new
 
 -- What a commit of an upload of g makes of the waste, by its kind and whether it took effect. The nodes of a PUT become
 -- the graph's, so the nodes that the graph had join; those of an upload without effect join themselves.
@@ -77,22 +69,11 @@ abbrev pub WastesCommit : Totals → Option SeatView → Bool → List Lifetime 
 WastesCommit v (Some (Writing k r g)) done old new = WastesUpload v k g done old new
 WastesCommit v p done old new = new ≡ old
 
--- the most nodes that these operations may replace in a graph, by the triples that come to it and go from it on the way
-abbrev pub most_patched : Option Graph → List Op → ℕ
-most_patched None ops = 0
-most_patched (Some g) ops = most_for_new * inserted_by g ops + most_for_gone * removed_by g ops
-
--- what operations on the graph of t make of the waste: where they took effect, nodes that they took out join it, and nodes
--- that only lived between them; and else none
-abbrev pub WastesOperations : Totals → Target → List Op → Bool → List Lifetime → List Lifetime → Type 0
-WastesOperations v t ops true old new =
-    Joins (λ l. IsUnreached l ⊎ EndsAt (v.commit + 1) l) (most_patched (graph_at v.dataset t) ops) old new
-WastesOperations v t ops false old new = new ≡ old
-
--- what a CommitPatch makes of the waste, by the phase of its seat
-abbrev pub WastesPatch : Totals → Option SeatView → List Op → Bool → List Lifetime → List Lifetime → Type 0
-WastesPatch v (Some (Patching t r)) ops done old new = WastesOperations v t ops done old new
-WastesPatch v p ops done old new = new ≡ old
+-- What a patch makes of the waste: where it took effect, nodes that it took out join it, and nodes that only lived between
+-- its operations, however many; and else none.
+abbrev pub WastesPatch : ℕ → Bool → List Lifetime → List Lifetime → Type 0
+WastesPatch last true old new = (most : ℕ) × Joins (λ l. IsUnreached l ⊎ EndsAt (last + 1) l) most old new
+WastesPatch last false old new = new ≡ old
 
 -- what a Delete of t makes of the waste: the nodes that its graph had join it, where it had one, and else none
 abbrev pub WastesDelete : Totals → Target → Bool → List Lifetime → List Lifetime → Type 0
@@ -120,7 +101,7 @@ Wastes old (Reclaim n) (Reclaimed freed left) new = Frees old.pinned n freed lef
 Wastes old (At s Commit) (Status status name) new =
     WastesCommit old.view.totals (slice_get old.view.seats s) (is_success status) old.waste new
 Wastes old (At s (CommitPatch ops)) (Status status name) new =
-    WastesPatch old.view.totals (slice_get old.view.seats s) ops.items (is_success status) old.waste new
+    WastesPatch old.view.totals.commit (is_success status) old.waste new
 Wastes old (At s (Delete t)) (Status status name) new =
     WastesDelete old.view.totals t (is_success status) old.waste new
 Wastes old (At s Cancel) Cancelled new = WastesCancel (slice_get old.view.seats s) old.waste new

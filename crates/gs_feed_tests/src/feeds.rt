@@ -1,6 +1,5 @@
 //! Texts of N-Triples that are fed to uploads, whole and in pieces.
-use crate::cuts::{wrong_cut, wrong_row_in};
-use gs_schedules::{Row, Stop, prints, unstopped_line, wrong_row};
+use gs_schedules::{Row, replay};
 use std::alloc::{AllocError, Global};
 use std::test::Fail;
 
@@ -112,8 +111,27 @@ const FEEDS: [Row; 20] = [
 
 #[test]
 fn feeds_print_the_same_in_any_pieces(rt: HostRuntime) -> Result<(), Fail> {
-    assert_eq!(rt; wrong_row_in(rt.alloc(), &CUTS, &FEEDS)?, None);
-    assert_eq!(rt; wrong_row(rt.alloc(), &FEEDS), None);
+    let alloc = rt.alloc();
+    for (name, input, want) in FEEDS {
+        for cut in CUTS {
+            let input = format!(in alloc; "cut {cut}\n{input}")?;
+            let got = replay(alloc, input.as_str());
+            assert_eq!(rt;
+                str::from_utf8(got.out.as_slice())?,
+                want,
+                "at {name}, {cut}"
+            );
+            assert_eq!(rt; got.err.len(), 0, "at {name}, {cut}");
+            assert_eq!(rt; got.status, 0, "at {name}, {cut}");
+        }
+        let got = replay(alloc, input);
+        assert_eq!(rt;
+            str::from_utf8(got.out.as_slice())?,
+            want,
+            "at {name}, uncut"
+        );
+        assert_eq!(rt; got.status, 0, "at {name}, uncut");
+    }
     Ok(())
 }
 
@@ -126,50 +144,56 @@ fn letters(alloc: Global, count: usize) -> Result<String, AllocError> {
     Ok(text)
 }
 
-/// The first length of pieces under which an upload of a literal with so many letters does not
-/// print this.
-fn wrong_cut_of_letters(
-    alloc: Global,
-    count: usize,
-    want: &str,
-) -> Result<Option<u64>, AllocError> {
-    let text = letters(alloc, count)?;
-    let input = format!(in alloc;
-        "0 open put default\n0 feed nt <http://e/s> <http://e/p> \"{text}\" .\n0 commit\ncounts\n"
-    )?;
-    wrong_cut(alloc, &[0, 1, 7, 4_096], input.as_str(), want)
-}
-
 /// A term has at most 65,535 bytes, two of which are a literal's quotes.
 #[test]
 fn the_longest_literal_is_fed(rt: HostRuntime) -> Result<(), Fail> {
-    let fed = "opened 1\nfed\n204\nnodes 1 triples 1\n";
-    assert_eq!(rt; wrong_cut_of_letters(rt.alloc(), 65_533, fed)?, None);
-    let refused = "opened 1\nfed\nfault 400\nnodes 0 triples 0\n";
-    assert_eq!(rt; wrong_cut_of_letters(rt.alloc(), 65_534, refused)?, None);
+    let alloc = rt.alloc();
+    for (count, want) in [
+        (65_533, "opened 1\nfed\n204\nnodes 1 triples 1\n"),
+        (65_534, "opened 1\nfed\nfault 400\nnodes 0 triples 0\n"),
+    ] {
+        let text = letters(alloc, count)?;
+        for cut in [0, 1, 7, 4_096] {
+            let input = format!(in alloc;
+                "cut {cut}\n0 open put default\n0 feed nt <http://e/s> <http://e/p> \"{text}\" .\n0 commit\ncounts\n"
+            )?;
+            let got = replay(alloc, input.as_str());
+            assert_eq!(rt;
+                str::from_utf8(got.out.as_slice())?,
+                want,
+                "at {count}, {cut}"
+            );
+            assert_eq!(rt; got.status, 0, "at {count}, {cut}");
+        }
+    }
     Ok(())
 }
 
-/// Schedules that change the length of pieces, or begin a store.
-const OTHERS: [Row; 2] = [
-    // The length of pieces may change within an upload and within a statement.
-    (
-        "pieces change their length",
-        "0 open put default\ncut 1\n0 feed nt _:x <http://e/p> \"1\" .\ncut 0\n0 feed nt _:x <http://e/p> \"2\" .\ncut 5\n0 feed nt _:y <http://e/p> \"3\" .\n0 commit\n0 pin default\n0 piece 9\n",
-        "opened 1\nfed\nfed\nfed\n204\n200\n_:b1_1 <http://e/p> \"1\" .\n_:b1_1 <http://e/p> \"2\" .\n_:b1_2 <http://e/p> \"3\" .\nend\n",
-    ),
-    // A commit that the store refuses ends the text: a feed after it is dropped, and what it says
-    // is no part of the upload.
-    (
-        "a refused commit ends the text",
-        "store 1 999999999999999999 0\n0 open put default\n0 feed nt <http://e/s> <http://e/p> \"1\" .\n0 commit\n0 feed nt !\ncounts\n0 commit\n0 cancel\n",
-        "opened 1\nfed\nrefused LastNumber\nfed\nnodes 1 triples 0\nrefused LastNumber\ncancelled\n",
-    ),
-];
-
+/// The length of pieces may change within an upload and within a statement.
 #[test]
-fn other_schedules_with_feeds_print_what_they_must(rt: HostRuntime) {
-    assert_eq!(rt; wrong_row(rt.alloc(), &OTHERS), None);
+fn pieces_may_change_their_length(rt: HostRuntime) -> Result<(), Fail> {
+    let input =
+        "0 open put default\ncut 1\n0 feed nt _:x <http://e/p> \"1\" .\ncut 0\n0 feed nt _:x <http://e/p> \"2\" .\ncut 5\n0 feed nt _:y <http://e/p> \"3\" .\n0 commit\n0 pin default\n0 piece 9\n";
+    let want =
+        "opened 1\nfed\nfed\nfed\n204\n200\n_:b1_1 <http://e/p> \"1\" .\n_:b1_1 <http://e/p> \"2\" .\n_:b1_2 <http://e/p> \"3\" .\nend\n";
+    let got = replay(rt.alloc(), input);
+    assert_eq!(rt; str::from_utf8(got.out.as_slice())?, want);
+    assert_eq!(rt; got.status, 0);
+    Ok(())
+}
+
+/// A commit that the store refuses ends the text: a feed after it is dropped, and what it says is
+/// no part of the upload.
+#[test]
+fn a_refused_commit_ends_the_text(rt: HostRuntime) -> Result<(), Fail> {
+    let input =
+        "store 1 999999999999999999 0\n0 open put default\n0 feed nt <http://e/s> <http://e/p> \"1\" .\n0 commit\n0 feed nt !\ncounts\n0 commit\n0 cancel\n";
+    let want =
+        "opened 1\nfed\nrefused LastNumber\nfed\nnodes 1 triples 0\nrefused LastNumber\ncancelled\n";
+    let got = replay(rt.alloc(), input);
+    assert_eq!(rt; str::from_utf8(got.out.as_slice())?, want);
+    assert_eq!(rt; got.status, 0);
+    Ok(())
 }
 
 /// Lines that are near a feed or a cut and are no command.
@@ -191,34 +215,48 @@ const NO_COMMANDS: [&str; 15] = [
     "0 cut 1",
 ];
 
-/// Where such a line stands.
-pub const AFTER_AN_OPEN: Stop = Stop {
-    front: "0 open put default\n",
-    back: "\n0 cancel\n",
-    out: "opened 1\n",
-    err: "gsdrill: line 2 is no command\n",
-};
-
 #[test]
 fn lines_near_a_feed_end_the_run(rt: HostRuntime) -> Result<(), Fail> {
-    let going_on = unstopped_line(rt.alloc(), &NO_COMMANDS, &AFTER_AN_OPEN)?;
-    assert_eq!(rt; going_on, None);
+    let alloc = rt.alloc();
+    for line in NO_COMMANDS {
+        let input = format!(in alloc; "0 open put default\n{line}\n0 cancel\n")?;
+        let got = replay(alloc, input.as_str());
+        assert_eq!(rt;
+            str::from_utf8(got.out.as_slice())?,
+            "opened 1\n",
+            "at {line}"
+        );
+        assert_eq!(rt;
+            str::from_utf8(got.err.as_slice())?,
+            "gsdrill: line 2 is no command\n",
+            "at {line}"
+        );
+        assert_eq!(rt; got.status, 2, "at {line}");
+    }
     Ok(())
 }
 
 /// A cut and a refused feed are commands: no store begins after them.
 #[test]
-fn no_store_begins_after_a_feed(rt: HostRuntime) {
-    let said = "gsdrill: line 2 is no command\n";
-    assert!(rt; prints(rt.alloc(), b"cut 3\nstore 4 0 0\n", "", said, 2));
-    let fed = b"0 feed nt \nstore 4 0 0\n";
-    assert!(rt; prints(rt.alloc(), fed, "refused WrongPhase\n", said, 2));
+fn no_store_begins_after_a_feed(rt: HostRuntime) -> Result<(), Fail> {
+    let alloc = rt.alloc();
+    for (line, want) in [("cut 3", ""), ("0 feed nt ", "refused WrongPhase\n")] {
+        let input = format!(in alloc; "{line}\nstore 4 0 0\n")?;
+        let got = replay(alloc, input.as_str());
+        assert_eq!(rt; str::from_utf8(got.out.as_slice())?, want, "at {line}");
+        assert_eq!(rt; got.status, 2, "at {line}");
+    }
+    Ok(())
 }
 
 /// A line that is not UTF-8 is no command.
 #[test]
-fn a_feed_of_other_bytes_ends_the_run(rt: HostRuntime) {
-    let input = b"0 open put default\n0 feed nt # \xFF\n";
-    let said = "gsdrill: line 2 is no command\n";
-    assert!(rt; prints(rt.alloc(), input, "opened 1\n", said, 2));
+fn a_feed_of_other_bytes_ends_the_run(rt: HostRuntime) -> Result<(), Fail> {
+    let mut input: &[u8] = b"0 open put default\n0 feed nt # \xFF\n";
+    let mut out = Vec::new(rt.alloc());
+    let mut err = Vec::new(rt.alloc());
+    let status = gs_drill::drill(rt.alloc(), &mut input, &mut out, &mut err);
+    assert_eq!(rt; out.as_slice(), b"opened 1\n".as_slice());
+    assert_eq!(rt; status, 2);
+    Ok(())
 }

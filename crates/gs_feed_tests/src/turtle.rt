@@ -1,8 +1,7 @@
 //! Texts of Turtle that are fed to uploads, whole and in pieces.
-use crate::cuts::{wrong_cut, wrong_row_in};
-use crate::feeds::AFTER_AN_OPEN;
-use gs_schedules::{Row, Stop, unstopped_line};
+use gs_schedules::{Row, replay};
 use std::alloc::{AllocError, Global};
+use std::process::Abort;
 use std::test::Fail;
 
 /// Each is run in pieces of all these lengths in bytes; 0 is whole.
@@ -101,9 +100,27 @@ const FEEDS: [Row; 18] = [
     ),
 ];
 
+/// Asserts what a schedule prints under each length of pieces.
+fn expect(rt: &impl Abort, alloc: Global, name: &str, input: &str, want: &str) -> Result<(), Fail> {
+    for cut in CUTS {
+        let input = format!(in alloc; "cut {cut}\n{input}")?;
+        let got = replay(alloc, input.as_str());
+        assert_eq!(rt;
+            str::from_utf8(got.out.as_slice())?,
+            want,
+            "at {name}, {cut}"
+        );
+        assert_eq!(rt; got.err.len(), 0, "at {name}, {cut}");
+        assert_eq!(rt; got.status, 0, "at {name}, {cut}");
+    }
+    Ok(())
+}
+
 #[test]
 fn turtle_prints_the_same_in_any_pieces(rt: HostRuntime) -> Result<(), Fail> {
-    assert_eq!(rt; wrong_row_in(rt.alloc(), &CUTS, &FEEDS)?, None);
+    for (name, input, want) in FEEDS {
+        expect(&rt, rt.alloc(), name, input, want)?;
+    }
     Ok(())
 }
 
@@ -120,23 +137,20 @@ fn nested(alloc: Global, depth: usize) -> Result<String, AllocError> {
     Ok(text)
 }
 
-/// The first length of pieces under which an upload of so many collections within one another does
-/// not print this.
-fn wrong_cut_of_nested(alloc: Global, depth: usize, want: &str) -> Result<Option<u64>, AllocError> {
-    let text = nested(alloc, depth)?;
-    let input = format!(in alloc;
-        "0 open put <http://e/g>\n0 feed ttl {text}\n0 commit\ncounts\n"
-    )?;
-    wrong_cut(alloc, &CUTS, input.as_str(), want)
-}
-
 /// Of 64 collections all but the innermost have a cell, which has two triples.
 #[test]
 fn sixty_four_collections_may_stand_in_one_another(rt: HostRuntime) -> Result<(), Fail> {
-    let fed = "opened 1\nfed\n201\nnodes 127 triples 127\n";
-    assert_eq!(rt; wrong_cut_of_nested(rt.alloc(), 64, fed)?, None);
-    let refused = "opened 1\nfed\nfault 400\nnodes 0 triples 0\n";
-    assert_eq!(rt; wrong_cut_of_nested(rt.alloc(), 65, refused)?, None);
+    let alloc = rt.alloc();
+    for (depth, want) in [
+        (64, "opened 1\nfed\n201\nnodes 127 triples 127\n"),
+        (65, "opened 1\nfed\nfault 400\nnodes 0 triples 0\n"),
+    ] {
+        let text = nested(alloc, depth)?;
+        let input = format!(in alloc;
+            "0 open put <http://e/g>\n0 feed ttl {text}\n0 commit\ncounts\n"
+        )?;
+        expect(&rt, alloc, "nested collections", input.as_str(), want)?;
+    }
     Ok(())
 }
 
@@ -149,18 +163,24 @@ const MIXED: [&str; 5] = [
     "0 feed nt !\n0 feed ttl \n",
 ];
 
-/// Where they stand.
-const IN_AN_UPLOAD: Stop = Stop {
-    front: "0 open put default\n",
-    back: "0 commit\n",
-    out: "opened 1\nfed\n",
-    err: "gsdrill: line 3 is no command\n",
-};
-
 #[test]
 fn an_upload_has_one_language(rt: HostRuntime) -> Result<(), Fail> {
-    let going_on = unstopped_line(rt.alloc(), &MIXED, &IN_AN_UPLOAD)?;
-    assert_eq!(rt; going_on, None);
+    let alloc = rt.alloc();
+    for lines in MIXED {
+        let input = format!(in alloc; "0 open put default\n{lines}0 commit\n")?;
+        let got = replay(alloc, input.as_str());
+        assert_eq!(rt;
+            str::from_utf8(got.out.as_slice())?,
+            "opened 1\nfed\n",
+            "at {lines}"
+        );
+        assert_eq!(rt;
+            str::from_utf8(got.err.as_slice())?,
+            "gsdrill: line 3 is no command\n",
+            "at {lines}"
+        );
+        assert_eq!(rt; got.status, 2, "at {lines}");
+    }
     Ok(())
 }
 
@@ -178,7 +198,21 @@ const NO_COMMANDS: [&str; 8] = [
 
 #[test]
 fn lines_near_a_feed_of_turtle_end_the_run(rt: HostRuntime) -> Result<(), Fail> {
-    let going_on = unstopped_line(rt.alloc(), &NO_COMMANDS, &AFTER_AN_OPEN)?;
-    assert_eq!(rt; going_on, None);
+    let alloc = rt.alloc();
+    for line in NO_COMMANDS {
+        let input = format!(in alloc; "0 open put default\n{line}\n0 cancel\n")?;
+        let got = replay(alloc, input.as_str());
+        assert_eq!(rt;
+            str::from_utf8(got.out.as_slice())?,
+            "opened 1\n",
+            "at {line}"
+        );
+        assert_eq!(rt;
+            str::from_utf8(got.err.as_slice())?,
+            "gsdrill: line 2 is no command\n",
+            "at {line}"
+        );
+        assert_eq!(rt; got.status, 2, "at {line}");
+    }
     Ok(())
 }

@@ -1,9 +1,7 @@
--- What the code keeps of an upload: what opened it, and the reader of its text; and of a patch what opened it. No
--- clause of a schedule's run cites this.
+-- What the code keeps of an upload: what opened it, and the reader of its text. No clause of a schedule's run cites this.
 use Rattle.std.specs.Prelude.{◌≡◌, ℕ, true, List, [], ◌++◌, is_some, if◌then◌else◌, Option, None, Some}
 use Rattle.gs_model.specs.Triples.{RdfTriple}
 use Rattle.gs_body.specs.Bodies.{Meaning}
-use Rattle.gs_term.specs.declared.names.Target.{Target}
 use Rattle.gs_event.specs.declared.events.Action.{Action}
 use Rattle.gs_event.specs.declared.events.Action.TheVariants.{Open}
 use Rattle.gs_upload.specs.declared.languages.Language.{Language}
@@ -15,17 +13,13 @@ use Rattle.gs_upload.specs.Readers.{meaning_of_text, LeadsText, is_closed_text, 
 use Rattle.gs_feeding.specs.declared.texts.SeatText.{SeatText}
 use Rattle.gs_feeding.specs.declared.texts.SeatText.TheVariants as seat_text
 use Rattle.gs_feeding.specs.declared.openings.Opening.{Opening}
-use Rattle.gs_feeding.specs.Bases.{base_under, name_in, target_name}
+use Rattle.gs_feeding.specs.Bases.{base_under, target_name}
 use Rattle.gs_feeding.specs.Receiving.{Fed, Unfed, InPart, Faulted, Finished, IsFaulty, Receives, Closes}
 
 -- the upload that an action opened, by the number of its request; no other action opened one
 abbrev pub opened_by : Action → ℕ → Option Opening
 opened_by (Open k) r = Some (record { request = r; target = target_name k })
 opened_by action r = None
-
--- the patch of a target, by the number of its request
-abbrev pub patch_opening : Target → ℕ → Opening
-patch_opening t r = record { request = r; target = name_in t }
 
 -- how the first text of an upload is read
 abbrev pub first_context : Language → Opening → TextContext

@@ -1,8 +1,8 @@
-//! What an upload or a patch was opened with.
+//! What an upload was opened with.
 ghost use Rattle.std.specs.Prelude.{◌≡◌, true};
 ghost use Rattle.gs_model.specs.Iris.{is_absolute};
 ghost use Rattle.gs_feeding.specs.Bases.{base_under, name_in as name_of, target_name};
-ghost use Rattle.gs_feeding.specs.SeatTexts.{opened_by, patch_opening};
+ghost use Rattle.gs_feeding.specs.SeatTexts.{opened_by};
 
 use gs_event::{Action, UploadKind};
 use gs_term::{GraphName, Target};
@@ -10,8 +10,7 @@ use gs_term::{GraphName, Target};
 /// The base of a text for the default graph, and of one for a graph that has no name yet.
 const STORE: &str = "http://localhost/store";
 
-/// The number of the request that opened an upload or a patch, and the name of the graph that it
-/// is for, if it has one.
+/// The number of the request that opened an upload, and the name of the graph that it is for, if it has one.
 #[derive(Drop)]
 pub struct Opening {
     pub request: u64,
@@ -54,17 +53,7 @@ impl Opening {
         }
     }
 
-    /// The patch of a target, by the number that the store gave to it. Takes no memory.
-    pub fn of_patch(target: Target, request: u64) -> Opening
-        ensures { result ≡ patch_opening target request }
-    {
-        Opening {
-            request,
-            target: name_in(target),
-        }
-    }
-
-    /// The base of the text that is fed to the upload, or given to the patch.
+    /// The base of the text that is fed to the upload.
     pub fn base(&self) -> &str
         ensures value { result.now ≡ base_under self.now.target }
         ensures absolute { is_absolute result.now ≡ true }

@@ -1,7 +1,5 @@
-//! Tests of the parsers of Turtle and of triples, on the tokens of a text.
+//! Tests of the parser of Turtle, on the tokens of a text.
 #![tactic(auto)]
 
-#[cfg(test)]
-mod blocks;
 #[cfg(test)]
 mod parsing;

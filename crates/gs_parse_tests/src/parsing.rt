@@ -1,116 +1,104 @@
-//! Each public call of the parser of Turtle once, on the tokens of a text.
-use gs_lex::{Lexer, Token};
+//! Each public call once, on the tokens of a text.
+use gs_lex::Lexer;
 use gs_model::Fault;
-use gs_ntwrite::line;
 use gs_parse::Parser;
+use gs_term::Triple;
 use std::alloc::Global;
 use std::test::Fail;
 
-/// The tokens of a text.
-fn tokens_of(alloc: Global, text: &[u8]) -> Result<Vec<Token>, Fail> {
+/// The parser after a text under the base `http://e/`, in request 7.
+fn parsed(alloc: Global, text: &[u8], triples: &mut Vec<Triple>) -> Result<Parser, Fail> {
     let mut lexer = Lexer::new(alloc, false);
     let mut tokens = Vec::new(alloc);
     lexer.feed(text, &mut tokens)?;
     lexer.finish(&mut tokens)?;
-    Ok(tokens)
-}
-
-/// What a parser gives of a text: the lines of its triples, its last place, its fault, and its fault
-/// at the end.
-#[derive(Drop)]
-struct Parsed {
-    lines: Vec<u8>,
-    last: u64,
-    fault: Option<Fault>,
-    end: Result<(), Fault>,
-}
-
-/// What is given of a text under the base `http://e/`, in request 7.
-fn parsed(alloc: Global, text: &[u8]) -> Result<Parsed, Fail> {
-    let tokens = tokens_of(alloc, text)?;
     let mut parser = Parser::new(alloc, "http://e/", 7)?;
-    let mut triples = Vec::new(alloc);
     for token in &tokens {
-        parser.step(token, &mut triples)?;
+        parser.step(token, triples)?;
     }
-    let mut lines = Vec::new(alloc);
-    for triple in &triples {
-        line(triple, &mut lines)?;
-    }
-    let (last, fault) = (parser.last, parser.fault());
-    let end = parser.end()?;
-    Ok(Parsed {
-        lines,
-        last,
-        fault,
-        end,
-    })
+    Ok(parser)
 }
-
-/// The text of `TRIPLES`.
-const TEXT: &str = "@prefix v: <v#> . <s> a v:T ; v:of ( 1 _:x ) , \"b\"@EN .";
-
-/// Its lines, in their order.
-const TRIPLES: &str =
-    "<http://e/s> <http://www.w3.org/1999/02/22-rdf-syntax-ns#type> <http://e/v#T> .
-_:b7_1 <http://www.w3.org/1999/02/22-rdf-syntax-ns#first> \"1\"^^<http://www.w3.org/2001/XMLSchema#integer> .
-_:b7_2 <http://www.w3.org/1999/02/22-rdf-syntax-ns#first> _:b7_3 .
-_:b7_1 <http://www.w3.org/1999/02/22-rdf-syntax-ns#rest> _:b7_2 .
-_:b7_2 <http://www.w3.org/1999/02/22-rdf-syntax-ns#rest> <http://www.w3.org/1999/02/22-rdf-syntax-ns#nil> .
-<http://e/s> <http://e/v#of> _:b7_1 .
-<http://e/s> <http://e/v#of> \"b\"@en .
-";
 
 #[test]
 fn a_prefix_and_a_collection_give_their_triples(rt: HostRuntime) -> Result<(), Fail> {
-    let got = parsed(rt.alloc(), TEXT.as_bytes())?;
-    assert!(rt; got.lines.as_slice() == TRIPLES.as_bytes());
-    assert_eq!(rt; got.last, TEXT.len() as u64);
-    assert_eq!(rt; got.fault, None);
-    assert_eq!(rt; got.end, Ok(()));
+    let text = b"@prefix v: <v#> . <s> a v:T ; v:of ( 1 _:x ) , \"b\"@EN .".as_slice();
+    let mut triples = Vec::new(rt.alloc());
+    let parser = parsed(rt.alloc(), text, &mut triples)?;
+    let rows = [
+        [
+            "<http://e/s>",
+            "<http://www.w3.org/1999/02/22-rdf-syntax-ns#type>",
+            "<http://e/v#T>",
+        ],
+        [
+            "_:b7_1",
+            "<http://www.w3.org/1999/02/22-rdf-syntax-ns#first>",
+            "\"1\"^^<http://www.w3.org/2001/XMLSchema#integer>",
+        ],
+        [
+            "_:b7_2",
+            "<http://www.w3.org/1999/02/22-rdf-syntax-ns#first>",
+            "_:b7_3",
+        ],
+        [
+            "_:b7_1",
+            "<http://www.w3.org/1999/02/22-rdf-syntax-ns#rest>",
+            "_:b7_2",
+        ],
+        [
+            "_:b7_2",
+            "<http://www.w3.org/1999/02/22-rdf-syntax-ns#rest>",
+            "<http://www.w3.org/1999/02/22-rdf-syntax-ns#nil>",
+        ],
+        ["<http://e/s>", "<http://e/v#of>", "_:b7_1"],
+        ["<http://e/s>", "<http://e/v#of>", "\"b\"@en"],
+    ];
+    assert_eq!(rt; triples.len(), rows.len());
+    for (triple, row) in triples.iter().zip(rows.iter()) {
+        assert_eq!(rt; triple.subject().as_bytes(), row[0].as_bytes());
+        assert_eq!(rt; triple.predicate().as_bytes(), row[1].as_bytes());
+        assert_eq!(rt; triple.object().as_bytes(), row[2].as_bytes());
+    }
+    assert_eq!(rt; parser.last, text.len() as u64);
+    assert_eq!(rt; parser.fault(), None);
+    assert_eq!(rt; parser.end()?, Ok(()));
     Ok(())
 }
 
-/// A text, its lines, the end of its last whole statement, and its fault before the end. At the end
-/// each has a fault.
-type Row = (&'static str, &'static str, u64, Option<Fault>);
-
-const FAULTS: [Row; 5] = [
-    (
-        "<s> <p> <o> . <s> <p> . <s> <p> <o> .",
-        "<http://e/s> <http://e/p> <http://e/o> .\n",
-        13,
-        Some(Fault::Syntax),
-    ),
-    ("<s> <p> \"o\"", "", 0, None),
-    // A verb is missing after the dot of `@prefix`.
-    ("@prefix p: <http://e/> . p: .", "", 24, Some(Fault::Syntax)),
-    // A dot stands where a `PREFIX` has ended.
-    ("PREFIX p: <http://e/> .", "", 21, Some(Fault::Syntax)),
-    // A dot is missing after `@base`, and the first directive is the last statement.
-    ("BASE <a> @base <b> BASE <c>", "", 8, Some(Fault::Syntax)),
-];
-
-/// Whether a parser gives of a text what the row says.
-fn is_so(alloc: Global, row: &Row) -> Result<bool, Fail> {
-    let (text, lines, last, fault) = row;
-    let got = parsed(alloc, text.as_bytes())?;
-    let is_given = got.lines.as_slice() == lines.as_bytes();
-    Ok(is_given && got.last == *last && got.fault == *fault && got.end == Err(Fault::Syntax))
-}
-
-/// The first text of which that is not so.
-fn wrong_fault(alloc: Global) -> Result<Option<&'static str>, Fail> {
-    for row in &FAULTS {
-        if !is_so(alloc, row)? {
-            return Ok(Some(row.0));
-        }
-    }
-    Ok(None)
+#[test]
+fn a_statement_without_an_object_is_a_fault(rt: HostRuntime) -> Result<(), Fail> {
+    let mut triples = Vec::new(rt.alloc());
+    let parser = parsed(
+        rt.alloc(),
+        b"<s> <p> <o> . <s> <p> . <s> <p> <o> .",
+        &mut triples,
+    )?;
+    assert_eq!(rt; triples.len(), 1);
+    assert_eq!(rt; parser.last, 13);
+    assert_eq!(rt; parser.fault(), Some(Fault::Syntax));
+    assert_eq!(rt; parser.end()?, Err(Fault::Syntax));
+    let unended = parsed(rt.alloc(), b"<s> <p> \"o\"", &mut triples)?;
+    assert_eq!(rt; unended.fault(), None);
+    assert_eq!(rt; unended.end()?, Err(Fault::Syntax));
+    Ok(())
 }
 
 #[test]
-fn a_fault_is_reported_after_the_last_whole_statement(rt: HostRuntime) -> Result<(), Fail> {
-    assert_eq!(rt; wrong_fault(rt.alloc())?, None);
+fn a_fault_is_reported_after_a_directive(rt: HostRuntime) -> Result<(), Fail> {
+    let rows = [
+        // A verb is missing after the dot of `@prefix`.
+        (b"@prefix p: <http://e/> . p: .".as_slice(), 24),
+        // A dot stands where a `PREFIX` has ended.
+        (b"PREFIX p: <http://e/> .".as_slice(), 21),
+        // A dot is missing after `@base`, and the first directive is the last statement.
+        (b"BASE <a> @base <b> BASE <c>".as_slice(), 8),
+    ];
+    for (text, last) in rows.iter() {
+        let mut triples = Vec::new(rt.alloc());
+        let parser = parsed(rt.alloc(), text, &mut triples)?;
+        assert_eq!(rt; parser.fault(), Some(Fault::Syntax));
+        assert_eq!(rt; parser.last, *last);
+        assert_eq!(rt; triples.len(), 0);
+    }
     Ok(())
 }

@@ -1,19 +1,13 @@
 -- The search for the instances of patterns finds those under each solution, in their order.
-use Rattle.std.proofs.Common.{◌≡◌, Bool, true, false, not, ◌&&◌, ◌||◌, List, [], ◌∷◌, ◌++◌, map, Option, Some, None, refl, sym, ap, ◌∙◌, append_assoc, append-nil}
-use Rattle.std.specs.List.{flat_map, filter, list_all}
-use Rattle.std.specs.Ordering.{eq_by_cmp, is_eq}
-use Rattle.std.specs.declared.cmp.Ordering.{Ordering}
-use Rattle.std.specs.declared.cmp.Ordering.TheVariants.{Less, Equal, Greater}
-use Rattle.std.proofs.lemmas.Map.Views.{any-filter_same}
+use Rattle.std.proofs.Common.{◌≡◌, List, [], ◌∷◌, ◌++◌, map, Option, Some, None, refl, sym, ap, ◌∙◌, append_assoc, append-nil}
+use Rattle.std.specs.List.{flat_map}
 use Rattle.std.proofs.lemmas.List.Sums.{fold-append}
 use Rattle.std.proofs.lemmas.Grind.{flat_map-append}
-use Rattle.gs_model.specs.Triples.{RdfTriple, triple_cmp}
-use Rattle.gs_model.specs.Graphs.{Graph, graph_of, triples_of}
-use Rattle.gs_model.proofs.GraphLemmas.{triple_exact}
+use Rattle.gs_model.specs.Triples.{RdfTriple}
+use Rattle.gs_model.specs.Graphs.{Graph, triples_of}
 use Rattle.gs_term.specs.declared.patterns.Pattern.{Pattern}
-use Rattle.gs_event.specs.Updates.{without_triples}
-use Rattle.gs_event.specs.Solutions.{Assignment, is_among, ListsInstances, Bindings, instance_of, bind_triple, all_if, solutions, assignment_of, instances_of}
-use Rattle.gs_event.proofs.SolutionLemmas.{Each, Solves, triple_sound, solutions_sound, given_agrees, instances_are}
+use Rattle.gs_event.specs.Solutions.{Bindings, instance_of, bind_triple, all_if, solutions, assignment_of, instances_of}
+use Rattle.gs_event.proofs.SolutionLemmas.{Each, Solves, triple_sound, solutions_sound, given_agrees}
 use Rattle.gs_plain.specs.declared.solutions.Binding.{Binding}
 use Rattle.gs_plain.specs.Solving.{bindings_of, found_if, found_from}
 
@@ -56,54 +50,3 @@ found_so ts (p ∷ ps) b chosen = found_each ts p ps b chosen (found_so ts ps) t
 -- with nothing bound and chosen, the instances of a graph
 pub all_found : (g : Graph) (ps : List Pattern) → found_from (triples_of g) ps [] [] ≡ instances_of g ps
 all_found g ps = found_so (triples_of g) ps [] []
-
-order_is : (o : Ordering) → is_eq o ≡ true → o ≡ Equal
-order_is Less h = absurd (cc)
-order_is Equal h = refl
-order_is Greater h = absurd (cc)
-
--- equal triples are the same
-same_triple : (t u : RdfTriple) → eq_by_cmp triple_cmp t u ≡ true → t ≡ u
-same_triple t u h = triple_exact t u (order_is (triple_cmp t u) h)
-
-both : (r s : Bool) → (r && s) ≡ true → (r ≡ true) × (s ≡ true)
-both true true h = (refl, refl)
-both true false h = absurd (cc)
-both false s h = absurd (cc)
-
--- a triple that is one of some instances, of which each is among these triples
-instance_among : (ts : List RdfTriple) (a : Assignment) (ps : List Pattern) (t : RdfTriple) → list_all (λ p. is_among ts (instance_of a p)) ps ≡ true → is_among (map (instance_of a) ps) t ≡ true → is_among ts t ≡ true
-instance_among ts a [] t h there = absurd (cc)
-instance_among ts a (p ∷ ps) t h there =
-    let parts = both (is_among ts (instance_of a p)) (list_all (λ q. is_among ts (instance_of a q)) ps) h in
-    by_first (eq_by_cmp triple_cmp t (instance_of a p)) refl parts.0 (instance_among ts a ps t parts.1)
-  where
-    by_first : (r : Bool) → eq_by_cmp triple_cmp t (instance_of a p) ≡ r → is_among ts (instance_of a p) ≡ true → (is_among (map (instance_of a) ps) t ≡ true → is_among ts t ≡ true) → is_among ts t ≡ true
-    by_first true e here again = ap (is_among ts) (same_triple t (instance_of a p) e) ∙ here
-    by_first false e here again = again (sym (ap (λ r. r || is_among (map (instance_of a) ps) t) e) ∙ there)
-
--- the triples that pass a test of triples
-passing : (xs ts : List RdfTriple) (t : RdfTriple) → is_among (filter (is_among xs) ts) t ≡ (is_among xs t && is_among ts t)
-passing xs ts t = any-filter_same (eq_by_cmp triple_cmp t) (is_among xs) (is_among xs t) (λ k e. ap (is_among xs) (sym (same_triple t k e))) ts
-
--- the triples of a graph that are among the instances found are all instances
-pub listed : (g : Graph) (ps : List Pattern) (found : List RdfTriple) → found ≡ filter (is_among (instances_of g ps)) (triples_of g) → ListsInstances g ps found
-listed g ps found is = record {
-  sound = λ t h. (instances_are g ps).sound t (both (is_among (instances_of g ps) t) (is_among (triples_of g) t) (sym (ap (λ xs. is_among xs t) is ∙ passing (instances_of g ps) (triples_of g) t) ∙ h)).0;
-  complete = λ t h.
-      ap (λ xs. is_among xs t) is ∙ passing (instances_of g ps) (triples_of g) t ∙ ap (λ r. r && is_among (triples_of g) t) ((instances_are g ps).complete t h)
-      ∙ instance_among (triples_of g) h.0 ps t h.1 h.2;
-}
-
--- two lists of all instances have the same triples
-pub same_lists : (g : Graph) (ps : List Pattern) (xs ys : List RdfTriple) → ListsInstances g ps xs → ListsInstances g ps ys → (t : RdfTriple) → is_among xs t ≡ is_among ys t
-same_lists g ps xs ys h k t = alike (is_among xs t) (is_among ys t) (λ e. k.complete t (h.sound t e)) (λ e. h.complete t (k.sound t e))
-  where
-    alike : (r s : Bool) → (r ≡ true → s ≡ true) → (s ≡ true → r ≡ true) → r ≡ s
-    alike true s f h = sym (f refl)
-    alike false true f h = h refl
-    alike false false f h = refl
-
--- a graph without its instances
-pub without_instances : (g : Graph) (ps : List Pattern) (found : List RdfTriple) → ListsInstances g ps found → without_triples g found ≡ without_triples g (instances_of g ps)
-without_instances g ps found h = λ i. graph_of (filter (λ t. not (same_lists g ps found (instances_of g ps) h (instances_are g ps) t i)) (triples_of g))

@@ -3,7 +3,6 @@ use Rattle.std.proofs.Common.{◌≡◌, ℕ, ◌+◌, Bool, true, false, Option
 use Rattle.std.specs.List.{sum_by}
 use Rattle.gs_model.specs.Graphs.{Graph}
 use Rattle.gs_term.specs.declared.names.Target.{Target}
-use Rattle.gs_event.specs.declared.updates.Op.{Op}
 use Rattle.gs_event.specs.declared.events.UploadKind.{UploadKind}
 use Rattle.gs_event.specs.declared.events.UploadKind.TheVariants.{Put, Post, New}
 use Rattle.gs_event.specs.declared.events.Action.{Action}
@@ -14,7 +13,7 @@ use Rattle.gs_event.specs.declared.answers.Answer.TheVariants.{Status, Cancelled
 use Rattle.gs_event.specs.Waste.{Lifetime, Shown}
 use Rattle.gs_event.specs.Phases.{Idle, Writing, Patching, Reading}
 use Rattle.gs_event.specs.Views.{Totals, SeatView}
-use Rattle.gs_event.specs.Steps.{Joins, JoinsCopied, WastesUpload, WastesCommit, WastesOperations, WastesPatch, WastesDelete, WastesCancel, Wastes}
+use Rattle.gs_event.specs.Steps.{Joins, JoinsCopied, WastesUpload, WastesCommit, WastesPatch, WastesDelete, WastesCancel, Wastes}
 
 none_joined : (Has : Lifetime → Type 0) (most : ℕ) (old new : List Lifetime) → old ≡ [] → new ≡ [] → Joins Has most old new
 none_joined Has most old new before after = record {
@@ -46,16 +45,9 @@ none_committed v (Some (Patching t r)) done old new before after = after ∙ sym
 none_committed v (Some (Reading left)) done old new before after = after ∙ sym before
 none_committed v None done old new before after = after ∙ sym before
 
-none_operated : (v : Totals) (t : Target) (ops : List Op) (done : Bool) (old new : List Lifetime) → old ≡ [] → new ≡ [] → WastesOperations v t ops done old new
-none_operated v t ops true old new before after = none_joined _ _ old new before after
-none_operated v t ops false old new before after = after ∙ sym before
-
-none_patched : (v : Totals) (p : Option SeatView) (ops : List Op) (done : Bool) (old new : List Lifetime) → old ≡ [] → new ≡ [] → WastesPatch v p ops done old new
-none_patched v (Some (Patching t r)) ops done old new before after = none_operated v t ops done old new before after
-none_patched v (Some Idle) ops done old new before after = after ∙ sym before
-none_patched v (Some (Writing k r g)) ops done old new before after = after ∙ sym before
-none_patched v (Some (Reading left)) ops done old new before after = after ∙ sym before
-none_patched v None ops done old new before after = after ∙ sym before
+none_patched : (last : ℕ) (done : Bool) (old new : List Lifetime) → old ≡ [] → new ≡ [] → WastesPatch last done old new
+none_patched last true old new before after = (0, none_joined _ 0 old new before after)
+none_patched last false old new before after = after ∙ sym before
 
 none_deleted : (v : Totals) (t : Target) (done : Bool) (old new : List Lifetime) → old ≡ [] → new ≡ [] → WastesDelete v t done old new
 none_deleted v t true old new before after = none_joined _ _ old new before after
@@ -71,7 +63,7 @@ none_cancelled None old new before after = after ∙ sym before
 -- a seat's action
 pub none_wasted : (old : Shown) (s : ℕ) (action : Action) (a : Answer) (new : List Lifetime) → old.waste ≡ [] → new ≡ [] → Wastes old (At s action) a new
 none_wasted old s Commit (Status status name) new before after = none_committed old.view.totals _ _ _ _ before after
-none_wasted old s (CommitPatch ops) (Status status name) new before after = none_patched old.view.totals _ ops.items _ _ _ before after
+none_wasted old s (CommitPatch ops) (Status status name) new before after = none_patched _ _ _ _ before after
 none_wasted old s (Delete t) (Status status name) new before after = none_deleted old.view.totals t _ _ _ before after
 none_wasted old s Cancel Cancelled new before after = none_cancelled _ _ _ before after
 none_wasted old s action a new before after = after ∙ sym before

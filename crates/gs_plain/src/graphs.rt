@@ -119,8 +119,7 @@ impl SortedGraph {
 
     /// Its triples, each once, in their order.
     pub fn as_slice(&self) -> &[Triple]
-        ensures value { result.now ≡ triples_of self.now }
-        ensures sorted { IsStrictlySortedBy triple_cmp result.now }
+        ensures { result.now ≡ triples_of self.now }
     {
         self.triples.as_slice()
     }

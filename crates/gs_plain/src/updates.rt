@@ -20,7 +20,6 @@ pub fn update(graph: &mut SortedGraph, alloc: Global, operations: &[Op]) -> Resu
     Ok(())
 }
 
-#[tactic(auto, using(crate::proofs::SolvingLemmas::without_instances))]
 fn operate(graph: &mut SortedGraph, alloc: Global, operation: &Op) -> Result<(), AllocError>
     ensures { OnOk result (graph.new ≡ operated graph.old operation.now) }
 {

@@ -3,8 +3,8 @@
 //! is what a DELETE WHERE with the patterns must leave.
 ghost use Rattle.std.specs.Prelude.{◌<◌};
 
-use crate::removals::leaves;
-use gs_core::Refusal;
+use crate::removals::{answers, events, plain_answers, wanted};
+use crate::runs::printed;
 use std::alloc::{AllocError, Global};
 use std::test::Fail;
 
@@ -131,67 +131,43 @@ fn patterns_text(alloc: Global, patterns: &[Places]) -> Result<String, AllocErro
     Ok(text)
 }
 
-/// A drawn graph, drawn patterns, and what these leave of it, as texts.
-#[derive(Drop)]
-struct Drawn {
-    graph: String,
-    removed: String,
-    left: String,
-}
-
-fn drawn(alloc: Global, state: &mut u64) -> Result<Drawn, AllocError> {
-    let graph = drawn_graph(state);
-    let patterns = drawn_patterns(alloc, state)?;
-    let left = without_instances(&graph, patterns.as_slice());
-    Ok(Drawn {
-        graph: graph_text(alloc, &graph)?,
-        removed: patterns_text(alloc, patterns.as_slice())?,
-        left: graph_text(alloc, &left)?,
-    })
-}
-
-/// Whether both stores leave what must be left.
-fn is_so(alloc: Global, drawn: &Drawn) -> Result<bool, Refusal> {
-    let graph = drawn.graph.as_str();
-    leaves(alloc, graph, drawn.removed.as_str(), drawn.left.as_str())
-}
-
-/// The graph, with a bar after it the patterns, of the first of 300 draws of which a store leaves
-/// something else.
-fn wrong_draw(alloc: Global) -> Result<Option<String>, Refusal> {
-    let mut state = 1;
-    for _ in 0..300 {
-        let mut drawn = drawn(alloc, &mut state)?;
-        if !is_so(alloc, &drawn)? {
-            drawn.graph.push_str("| ")?;
-            drawn.graph.push_str(drawn.removed.as_str())?;
-            return Ok(Some(drawn.graph));
-        }
-    }
-    Ok(None)
-}
-
 #[test]
 fn a_run_leaves_what_every_assignment_leaves(rt: HostRuntime) -> Result<(), Fail> {
-    assert_eq!(rt; wrong_draw(rt.alloc())?, None);
-    Ok(())
-}
-
-/// How many of 300 draws take out some triples and leave some.
-fn count_of_parted(alloc: Global) -> Result<u32, AllocError> {
+    let alloc = rt.alloc();
     let mut state = 1;
-    let mut parted: u32 = 0;
     for _ in 0..300 {
-        let drawn = drawn(alloc, &mut state)?;
-        if drawn.left != drawn.graph && !drawn.left.is_empty() {
-            parted = parted.saturating_add(1);
-        }
+        let graph = drawn_graph(&mut state);
+        let patterns = drawn_patterns(alloc, &mut state)?;
+        let left = graph_text(alloc, &without_instances(&graph, patterns.as_slice()))?;
+        let want = wanted(alloc, left.as_str())?;
+        let before = graph_text(alloc, &graph)?;
+        let removed = patterns_text(alloc, patterns.as_slice())?;
+        let events = events(alloc, before.as_str(), removed.as_str())?;
+        let got = printed(alloc, answers(alloc, events.as_slice())?.as_slice())?;
+        assert_eq!(rt; got.as_str(), want.as_str(), "{removed}in {before}");
+        let plain = printed(alloc, plain_answers(alloc, events.as_slice())?.as_slice())?;
+        assert_eq!(rt;
+            plain.as_str(),
+            want.as_str(),
+            "{removed}in {before}, over a plain store"
+        );
     }
-    Ok(parted)
+    Ok(())
 }
 
 #[test]
 fn many_draws_take_out_some_triples_and_leave_some(rt: HostRuntime) -> Result<(), Fail> {
-    assert!(rt; count_of_parted(rt.alloc())? >= 100);
+    let alloc = rt.alloc();
+    let mut state = 1;
+    let mut parted: u32 = 0;
+    for _ in 0..300 {
+        let graph = drawn_graph(&mut state);
+        let patterns = drawn_patterns(alloc, &mut state)?;
+        let left = without_instances(&graph, patterns.as_slice());
+        if left != graph && left != [false; 64] {
+            parted = parted.saturating_add(1);
+        }
+    }
+    assert!(rt; parted >= 100);
     Ok(())
 }

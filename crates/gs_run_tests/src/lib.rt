@@ -4,8 +4,6 @@
 #[cfg(test)]
 mod draws;
 #[cfg(test)]
-mod limits;
-#[cfg(test)]
 mod notation;
 #[cfg(test)]
 mod patches;

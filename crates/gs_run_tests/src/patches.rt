@@ -1,7 +1,9 @@
 //! Schedules of patches, worked by hand, with their operations in the notation of these tests.
-use crate::runs::wrong_row;
-use gs_schedules::Row;
+use crate::runs::{answers, plain_answers, printed};
 use std::test::Fail;
+
+/// A schedule: its name, its lines and what they print.
+type Row = (&'static str, &'static str, &'static str);
 
 const ROWS: [Row; 16] = [
     (
@@ -87,7 +89,21 @@ const ROWS: [Row; 16] = [
 ];
 
 #[test]
-fn a_run_over_each_store_takes_patches_whole(rt: HostRuntime) -> Result<(), Fail> {
-    assert_eq!(rt; wrong_row(rt.alloc(), &ROWS)?, None);
+fn a_run_takes_patches_whole(rt: HostRuntime) -> Result<(), Fail> {
+    let alloc = rt.alloc();
+    for (name, input, want) in ROWS {
+        let got = printed(alloc, answers(alloc, input)?.as_slice())?;
+        assert_eq!(rt; got.as_str(), want, "at {name}");
+    }
+    Ok(())
+}
+
+#[test]
+fn a_run_over_a_plain_store_takes_the_same_patches(rt: HostRuntime) -> Result<(), Fail> {
+    let alloc = rt.alloc();
+    for (name, input, want) in ROWS {
+        let got = printed(alloc, plain_answers(alloc, input)?.as_slice())?;
+        assert_eq!(rt; got.as_str(), want, "at {name}");
+    }
     Ok(())
 }

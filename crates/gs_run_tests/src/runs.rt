@@ -4,13 +4,13 @@ use gs_core::{Action, Answer, Event, MAX_NAMES, MAX_TRIPLES, Refusal, Store, Upl
 use gs_event::Limits;
 use gs_plain::PlainStore;
 use gs_run::run;
-use gs_schedules::{ROWS, Row};
+use gs_schedules::ROWS;
 use gs_term::{GraphName, Target};
 use std::alloc::{AllocError, Global};
 use std::test::Fail;
 
 /// The base of a schedule's store.
-pub const BASE: &str = "http://localhost";
+const BASE: &str = "http://localhost";
 
 fn target(alloc: Global, word: &str) -> Result<Target, Refusal> {
     if word == "default" {
@@ -45,7 +45,7 @@ fn action(alloc: Global, words: &[&str]) -> Result<Action, Refusal> {
     }
 }
 
-pub fn event(alloc: Global, line: &str) -> Result<Event, Refusal> {
+fn event(alloc: Global, line: &str) -> Result<Event, Refusal> {
     if let Some((seat, text)) = line.split_once(" stage ") {
         let seat = seat.parse::<u16>().unwrap_or_default();
         return Ok(Event::Seat(seat, Action::Stage(triples(alloc, text)?)));
@@ -125,7 +125,7 @@ pub fn plain_store(alloc: Global, input: &str) -> Result<PlainStore, Refusal> {
 }
 
 /// An answer in the words of a schedule.
-pub fn words(alloc: Global, answer: &Answer) -> Result<String, AllocError> {
+fn words(alloc: Global, answer: &Answer) -> Result<String, AllocError> {
     match answer {
         Answer::Opened(number) => format!(in alloc; "opened {number}\n"),
         Answer::Staged => format!(in alloc; "staged\n"),
@@ -176,7 +176,7 @@ fn answered(alloc: Global, printed: &str) -> Result<String, AllocError> {
 }
 
 /// What answers print.
-fn printed(alloc: Global, answers: &[Answer]) -> Result<String, AllocError> {
+pub fn printed(alloc: Global, answers: &[Answer]) -> Result<String, AllocError> {
     let mut text = String::new(alloc);
     for answer in answers {
         text.push_str(words(alloc, answer)?.as_str())?;
@@ -184,44 +184,36 @@ fn printed(alloc: Global, answers: &[Answer]) -> Result<String, AllocError> {
     Ok(text)
 }
 
-/// What events print over a store.
-pub fn printed_by(alloc: Global, mut store: Store, events: &[Event]) -> Result<String, Refusal> {
-    let answers = store.run(events)?;
-    Ok(printed(alloc, answers.as_slice())?)
-}
-
-/// The same over a plain store.
-pub fn printed_by_plain(
-    alloc: Global,
-    mut store: PlainStore,
-    events: &[Event],
-) -> Result<String, Refusal> {
-    let answers = run(alloc, &mut store, events)?;
-    Ok(printed(alloc, answers.as_slice())?)
-}
-
-/// Whether the events of a schedule print this over its store, and over a plain one.
-fn prints(alloc: Global, input: &str, want: &str) -> Result<bool, Refusal> {
+/// The answers to a schedule's events.
+pub fn answers(alloc: Global, input: &str) -> Result<Vec<Answer>, Refusal> {
     let events = events(alloc, input)?;
-    let got = printed_by(alloc, store(alloc, input)?, events.as_slice())?;
-    let plain = printed_by_plain(alloc, plain_store(alloc, input)?, events.as_slice())?;
-    Ok(got.as_str() == want && plain.as_str() == want)
+    let mut store = store(alloc, input)?;
+    store.run(events.as_slice())
 }
 
-/// The first of these schedules that does not print what it must, but for the counts, over one of
-/// the two stores.
-pub fn wrong_row(alloc: Global, rows: &[Row]) -> Result<Option<&'static str>, Refusal> {
-    for (name, input, want) in rows {
-        let want = answered(alloc, want)?;
-        if !prints(alloc, input, want.as_str())? {
-            return Ok(Some(name));
-        }
-    }
-    Ok(None)
+/// The answers of a plain store.
+pub fn plain_answers(alloc: Global, input: &str) -> Result<Vec<Answer>, Refusal> {
+    let events = events(alloc, input)?;
+    let mut store = plain_store(alloc, input)?;
+    run(alloc, &mut store, events.as_slice())
 }
 
 #[test]
-fn a_run_over_each_store_answers_as_the_schedule_does(rt: HostRuntime) -> Result<(), Fail> {
-    assert_eq!(rt; wrong_row(rt.alloc(), &ROWS)?, None);
+fn a_run_answers_as_the_schedule_does(rt: HostRuntime) -> Result<(), Fail> {
+    let alloc = rt.alloc();
+    for (name, input, want) in ROWS {
+        let got = printed(alloc, answers(alloc, input)?.as_slice())?;
+        assert_eq!(rt; got.as_str(), answered(alloc, want)?.as_str(), "at {name}");
+    }
+    Ok(())
+}
+
+#[test]
+fn a_run_over_a_plain_store_answers_the_same(rt: HostRuntime) -> Result<(), Fail> {
+    let alloc = rt.alloc();
+    for (name, input, want) in ROWS {
+        let got = printed(alloc, plain_answers(alloc, input)?.as_slice())?;
+        assert_eq!(rt; got.as_str(), answered(alloc, want)?.as_str(), "at {name}");
+    }
     Ok(())
 }

@@ -60,8 +60,8 @@ impl Write for BrokenWriter {
     }
 }
 
-/// Whether the schedule's run from a reader that fails there ends so, with nothing said of its end.
-fn ends_at_read(alloc: Global, fails_at: usize) -> bool {
+/// The status of the schedule's run from such a reader, and how much it prints of its end.
+fn status_of_read(alloc: Global, fails_at: usize) -> (u8, usize) {
     let mut reader = BrokenReader {
         left: INPUT.as_bytes(),
         given: 0,
@@ -70,57 +70,14 @@ fn ends_at_read(alloc: Global, fails_at: usize) -> bool {
     let mut out = Vec::new(alloc);
     let mut err = Vec::new(alloc);
     let status = drill(alloc, &mut reader, &mut out, &mut err);
-    status == 1 && err.is_empty()
+    (status, err.len())
 }
 
-/// The first of these places at which a failed read does not end the run.
-fn wrong_read(alloc: Global, places: &[usize]) -> Option<usize> {
-    for place in places {
-        if !ends_at_read(alloc, *place) {
-            return Some(*place);
-        }
-    }
-    None
-}
-
-#[test]
-fn a_failed_read_ends_the_run(rt: HostRuntime) {
-    let places = [0, 1, 30, INPUT.len() - 1, INPUT.len()];
-    assert_eq!(rt; wrong_read(rt.alloc(), &places), None);
-}
-
-/// A writer that takes so many bytes, and whether a flush of it fails.
-fn writer(alloc: Global, fails_at: usize, flush_fails: bool) -> BrokenWriter {
-    BrokenWriter {
-        taken: Vec::new(alloc),
-        fails_at,
-        flush_fails,
-    }
-}
-
-/// Whether an input's run to such a writer ends with this status, and just this is taken.
-fn takes(alloc: Global, input: &str, mut out: BrokenWriter, status: u8, want: &[u8]) -> bool {
+/// The status of an input's run to such a writer.
+fn status_of_write(alloc: Global, input: &str, out: &mut BrokenWriter) -> u8 {
     let mut reader = input.as_bytes();
     let mut err = Vec::new(alloc);
-    let ended = drill(alloc, &mut reader, &mut out, &mut err);
-    ended == status && out.taken.as_slice() == want
-}
-
-/// The first of these places at which a failed write does not end the run with just so many bytes.
-fn wrong_write(alloc: Global, places: &[usize]) -> Option<usize> {
-    for place in places {
-        let want = OUTPUT.as_bytes().get(..*place).unwrap_or_default();
-        if want.len() != *place || !takes(alloc, INPUT, writer(alloc, *place, false), 1, want) {
-            return Some(*place);
-        }
-    }
-    None
-}
-
-#[test]
-fn a_failed_write_ends_the_run_and_keeps_a_front(rt: HostRuntime) {
-    let places = [0, 1, 8, 9, 20, OUTPUT.len() - 1];
-    assert_eq!(rt; wrong_write(rt.alloc(), &places), None);
+    drill(alloc, &mut reader, out, &mut err)
 }
 
 /// A schedule that ends at its second line, and what is said of that.
@@ -128,48 +85,76 @@ const STOPPED: &str = "0 pin default\nno command\n";
 
 const SAID: &str = "gsdrill: line 2 is no command\n";
 
-/// Schedules, and what they print before their flush fails.
-const UNFLUSHED: [(&str, &str); 3] = [(INPUT, OUTPUT), ("", ""), (STOPPED, "200\n")];
-
-/// The first of them that does not end so.
-fn wrong_flush(alloc: Global) -> Option<&'static str> {
-    for (input, want) in &UNFLUSHED {
-        let out = writer(alloc, usize::MAX, true);
-        if !takes(alloc, input, out, 1, want.as_bytes()) {
-            return Some(input);
-        }
+#[test]
+fn a_failed_read_ends_the_run(rt: HostRuntime) {
+    for fails_at in [0, 1, 30, INPUT.len() - 1, INPUT.len()] {
+        let ended = status_of_read(rt.alloc(), fails_at);
+        assert_eq!(rt; ended, (1, 0), "at {fails_at}");
     }
-    None
+}
+
+#[test]
+fn a_failed_write_ends_the_run_and_keeps_a_front(rt: HostRuntime) {
+    for fails_at in [0, 1, 8, 9, 20, OUTPUT.len() - 1] {
+        let mut out = BrokenWriter {
+            taken: Vec::new(rt.alloc()),
+            fails_at,
+            flush_fails: false,
+        };
+        let status = status_of_write(rt.alloc(), INPUT, &mut out);
+        assert_eq!(rt; status, 1, "at {fails_at}");
+        assert!(rt;
+            OUTPUT.as_bytes().starts_with(out.taken.as_slice()),
+            "at {fails_at}"
+        );
+        assert_eq!(rt; out.taken.len(), fails_at);
+    }
 }
 
 /// Also where the last line is no command, and where nothing was written.
 #[test]
 fn a_failed_flush_ends_the_run(rt: HostRuntime) {
-    assert_eq!(rt; wrong_flush(rt.alloc()), None);
-}
-
-/// Whether a run that stops ends with status 1 where such a writer gets what is said of that: it
-/// takes just this.
-fn says(alloc: Global, mut err: BrokenWriter, want: &[u8]) -> bool {
-    let mut reader = STOPPED.as_bytes();
-    let mut out = Vec::new(alloc);
-    let status = drill(alloc, &mut reader, &mut out, &mut err);
-    status == 1 && out.as_slice() == b"200\n".as_slice() && err.taken.as_slice() == want
+    for (input, want) in [(INPUT, OUTPUT), ("", ""), (STOPPED, "200\n")] {
+        let mut out = BrokenWriter {
+            taken: Vec::new(rt.alloc()),
+            fails_at: usize::MAX,
+            flush_fails: true,
+        };
+        assert_eq!(rt;
+            status_of_write(rt.alloc(), input, &mut out),
+            1,
+            "at {input}"
+        );
+        assert_eq!(rt; out.taken.as_slice(), want.as_bytes(), "at {input}");
+    }
 }
 
 /// What is said of an early end is flushed too. The writer takes a front of it, or all of it.
 #[test]
 fn a_failed_flush_or_write_of_err_ends_the_run(rt: HostRuntime) {
-    let alloc = rt.alloc();
-    let said = SAID.as_bytes();
-    assert!(rt; says(alloc, writer(alloc, usize::MAX, true), said));
-    assert!(rt; says(alloc, writer(alloc, 0, false), b""));
-    let front = &said[..SAID.len() - 1];
-    assert!(rt; says(alloc, writer(alloc, SAID.len() - 1, false), front));
+    for (fails_at, flush_fails) in [(usize::MAX, true), (0, false), (SAID.len() - 1, false)] {
+        let mut reader = STOPPED.as_bytes();
+        let mut out = Vec::new(rt.alloc());
+        let mut err = BrokenWriter {
+            taken: Vec::new(rt.alloc()),
+            fails_at,
+            flush_fails,
+        };
+        let status = drill(rt.alloc(), &mut reader, &mut out, &mut err);
+        assert_eq!(rt; status, 1, "at {fails_at}");
+        assert_eq!(rt; out.as_slice(), b"200\n".as_slice(), "at {fails_at}");
+        let want = &SAID.as_bytes()[..SAID.len().min(fails_at)];
+        assert_eq!(rt; err.taken.as_slice(), want, "at {fails_at}");
+    }
 }
 
 #[test]
 fn a_writer_of_one_byte_a_call_gets_the_same(rt: HostRuntime) {
-    let out = writer(rt.alloc(), usize::MAX, false);
-    assert!(rt; takes(rt.alloc(), INPUT, out, 0, OUTPUT.as_bytes()));
+    let mut out = BrokenWriter {
+        taken: Vec::new(rt.alloc()),
+        fails_at: usize::MAX,
+        flush_fails: false,
+    };
+    assert_eq!(rt; status_of_write(rt.alloc(), INPUT, &mut out), 0);
+    assert_eq!(rt; out.taken.as_slice(), OUTPUT.as_bytes());
 }

@@ -1,75 +1,61 @@
 //! Schedules through `drill`, each with what it must print.
-use gs_schedules::{PATCHES, ROWS, Row, Stop, prints, unstopped_line, wrong_row};
-use std::alloc::{AllocError, Global};
+use gs_schedules::{ROWS, replay};
 use std::test::Fail;
 
 #[test]
-fn worked_schedules_print_what_they_must(rt: HostRuntime) {
-    assert_eq!(rt; wrong_row(rt.alloc(), &ROWS), None);
-}
-
-#[test]
-fn worked_patches_print_what_they_must(rt: HostRuntime) {
-    assert_eq!(rt; wrong_row(rt.alloc(), &PATCHES), None);
-}
-
-/// Schedules that are not among the worked ones.
-const OTHERS: [Row; 2] = [
-    (
-        "the last line feed may be missing",
-        "0 open put default\n0 commit\n0 pin default\n0 piece 1",
-        "opened 1\n204\n200\nend\n",
-    ),
-    // Two seats write one triple each: the second in the order of commits is the graph. Comments
-    // and empty lines are skipped, repeats are one triple, and the last line feed may be missing.
-    (
-        "the last commit is the graph",
-        "# two uploads\n\n0 open put default\n1 open put default\n0 stage <http://e/s> <http://e/p> \"0\" .\n0 stage <http://e/s> <http://e/p> \"0\" .\n1 stage _:b1_1 <http://e/p> \"x\\ny\"@en-us .\ncounts\n1 commit\n0 commit\n2 pin default\n2 piece 2",
-        "opened 1\nopened 2\nstaged\nstaged\nstaged\nnodes 2 triples 0\n204\n204\n200\n<http://e/s> <http://e/p> \"0\" .\nend\n",
-    ),
-];
-
-#[test]
-fn other_schedules_print_what_they_must(rt: HostRuntime) {
-    assert_eq!(rt; wrong_row(rt.alloc(), &OTHERS), None);
-}
-
-#[test]
-fn a_bad_line_stops_the_run(rt: HostRuntime) {
-    let input = b"# first\n0 commit\n0 destroy default\n";
-    let said = "gsdrill: line 3 is no command\n";
-    assert!(rt; prints(rt.alloc(), input, "refused WrongPhase\n", said, 2));
-}
-
-/// Whether a patch with a literal of so many letters prints this.
-fn prints_long(alloc: Global, letters: usize, want: &str) -> Result<bool, AllocError> {
-    let mut lexical = String::new(alloc);
-    for _ in 0..letters {
-        lexical.push('x')?;
+fn worked_schedules_print_what_they_must(rt: HostRuntime) -> Result<(), Fail> {
+    for (name, input, want) in ROWS {
+        let got = replay(rt.alloc(), input);
+        assert_eq!(rt; str::from_utf8(got.out.as_slice())?, want, "at {name}");
+        assert_eq!(rt; got.err.len(), 0, "at {name}");
+        assert_eq!(rt; got.status, 0, "at {name}");
     }
-    let input = format!(in alloc;
-        "0 open patch default\n0 patch INSERT DATA {{ <http://e/a> a \"{lexical}\" }}\n"
-    )?;
-    Ok(prints(alloc, input.as_bytes(), want, "", 0))
-}
-
-/// A literal's text has its quotes, and at most 65,535 bytes.
-#[test]
-fn a_patch_with_a_term_that_is_too_long_has_a_fault(rt: HostRuntime) -> Result<(), Fail> {
-    assert!(rt; prints_long(rt.alloc(), 65_533, "opened 1\n204\n")?);
-    assert!(rt; prints_long(rt.alloc(), 65_534, "opened 1\nfault 400\n")?);
     Ok(())
 }
 
 #[test]
-fn a_patch_that_is_not_utf8_is_no_command(rt: HostRuntime) {
-    let input = b"0 open patch default\n0 patch \xff\n";
-    let said = "gsdrill: line 2 is no command\n";
-    assert!(rt; prints(rt.alloc(), input, "opened 1\n", said, 2));
+fn a_schedule_prints_its_answers(rt: HostRuntime) -> Result<(), Fail> {
+    let got = replay(
+        rt.alloc(),
+        "0 open put default\n0 commit\n0 pin default\n0 piece 1",
+    );
+    assert_eq!(rt;
+        str::from_utf8(got.out.as_slice())?,
+        "opened 1\n204\n200\nend\n"
+    );
+    assert_eq!(rt; got.err.len(), 0);
+    assert_eq!(rt; got.status, 0);
+    Ok(())
+}
+
+#[test]
+fn a_bad_line_stops_the_run(rt: HostRuntime) -> Result<(), Fail> {
+    let got = replay(rt.alloc(), "# first\n0 commit\n0 destroy default\n");
+    assert_eq!(rt; str::from_utf8(got.out.as_slice())?, "refused WrongPhase\n");
+    assert_eq!(rt;
+        str::from_utf8(got.err.as_slice())?,
+        "gsdrill: line 3 is no command\n"
+    );
+    assert_eq!(rt; got.status, 2);
+    Ok(())
+}
+
+/// Two seats write one triple each: the second in the order of commits is the graph. Comments and
+/// empty lines are skipped, repeats are one triple, and the last line feed may be missing.
+#[test]
+fn the_last_commit_is_the_graph(rt: HostRuntime) -> Result<(), Fail> {
+    let input =
+        "# two uploads\n\n0 open put default\n1 open put default\n0 stage <http://e/s> <http://e/p> \"0\" .\n0 stage <http://e/s> <http://e/p> \"0\" .\n1 stage _:b1_1 <http://e/p> \"x\\ny\"@en-us .\ncounts\n1 commit\n0 commit\n2 pin default\n2 piece 2";
+    let want =
+        "opened 1\nopened 2\nstaged\nstaged\nstaged\nnodes 2 triples 0\n204\n204\n200\n<http://e/s> <http://e/p> \"0\" .\nend\n";
+    let got = replay(rt.alloc(), input);
+    assert_eq!(rt; str::from_utf8(got.out.as_slice())?, want);
+    assert_eq!(rt; got.status, 0);
+    Ok(())
 }
 
 /// Lines that are no command, each as the third line of a schedule.
-const NO_COMMANDS: [&str; 44] = [
+const NO_COMMANDS: [&str; 33] = [
     "0",
     "0 ",
     "pin default",
@@ -89,18 +75,7 @@ const NO_COMMANDS: [&str; 44] = [
     "0 Commit",
     "0 open",
     "0 open put",
-    "0 open patch",
-    "0 open patch ",
-    "0 open patch graph",
-    "0 open patch <e>",
-    "0 open patch default ",
-    "0 open patches default",
-    "0 patchX",
-    "0 patches",
-    "0 Patch",
-    "00 patch",
-    "65536 patch",
-    "patch",
+    "0 open patch default",
     "0 open post",
     "0 open new default",
     "0 open news",
@@ -116,17 +91,20 @@ const NO_COMMANDS: [&str; 44] = [
     "counts all",
 ];
 
-/// Where they stand.
-const THIRD: Stop = Stop {
-    front: "# three lines\n0 pin default\n",
-    back: "\n0 cancel\n",
-    out: "200\n",
-    err: "gsdrill: line 3 is no command\n",
-};
-
 #[test]
 fn a_line_that_is_no_command_ends_the_run(rt: HostRuntime) -> Result<(), Fail> {
-    assert_eq!(rt; unstopped_line(rt.alloc(), &NO_COMMANDS, &THIRD)?, None);
+    let alloc = rt.alloc();
+    for line in NO_COMMANDS {
+        let input = format!(in alloc; "# three lines\n0 pin default\n{line}\n0 cancel\n")?;
+        let got = replay(alloc, input.as_str());
+        assert_eq!(rt; str::from_utf8(got.out.as_slice())?, "200\n", "at {line}");
+        assert_eq!(rt;
+            str::from_utf8(got.err.as_slice())?,
+            "gsdrill: line 3 is no command\n",
+            "at {line}"
+        );
+        assert_eq!(rt; got.status, 2, "at {line}");
+    }
     Ok(())
 }
 
@@ -140,16 +118,17 @@ const NO_STORES: [&str; 6] = [
     "store 4 0 0 0",
 ];
 
-/// Where they stand: alone.
-const FIRST: Stop = Stop {
-    front: "",
-    back: "",
-    out: "",
-    err: "gsdrill: line 1 is no command\n",
-};
-
 #[test]
 fn a_store_outside_its_conditions_is_no_command(rt: HostRuntime) -> Result<(), Fail> {
-    assert_eq!(rt; unstopped_line(rt.alloc(), &NO_STORES, &FIRST)?, None);
+    for line in NO_STORES {
+        let got = replay(rt.alloc(), line);
+        assert_eq!(rt; got.out.len(), 0, "at {line}");
+        assert_eq!(rt;
+            str::from_utf8(got.err.as_slice())?,
+            "gsdrill: line 1 is no command\n",
+            "at {line}"
+        );
+        assert_eq!(rt; got.status, 2, "at {line}");
+    }
     Ok(())
 }

@@ -1,10 +1,8 @@
-//! Worked schedules for tests, and whether the run of a schedule prints what it must.
+//! Worked schedules for tests, and the run of a schedule, kept.
 #![tactic(auto)]
 
-mod patches;
 mod replays;
 mod rows;
 
-pub use patches::PATCHES;
-pub use replays::{Stop, prints, unstopped_line, wrong_row};
+pub use replays::{Played, replay};
 pub use rows::{ROWS, Row};

@@ -2,11 +2,10 @@ use Rattle.std.proofs.Common.{◌≡◌, ℕ, List, [], true, false, refl, rules
 use Rattle.gs_event.specs.Datasets.{triples_in}
 use Rattle.gs_event.specs.Waste.{nodes_in}
 use Rattle.gs_commands.specs.declared.commands.Command.{Command}
-use Rattle.gs_commands.specs.declared.commands.Command.TheVariants.{Ask, Count, Feed, Patch}
+use Rattle.gs_commands.specs.declared.commands.Command.TheVariants.{Ask, Count, Feed}
 use Rattle.gs_drill.specs.Printing.{counts_text}
 use Rattle.gs_drill.specs.Feeds.{Desk, DoesFeed}
 use Rattle.gs_drill.specs.Commits.{DoesEvent}
-use Rattle.gs_drill.specs.Patches.{DoesPatch}
 use Rattle.gs_drill.specs.Drills.{RunState, Does}
 use Rattle.gs_drill.specs.Taking.{Replies, DoesCommand}
 use Rattle.gs_drill.specs.Standing.{Standing, desk_of, run_state}
@@ -66,26 +65,13 @@ returns-else-not-takes g c = λ st.
     (does_by {T = Standing does.new.store does.new.uploads} desk_of s (Feed seat language c.in-Feed.text) done (DoesFeed s.cut s.desk seat language c.in-Feed.text.items) (held c.args.out.now) (held does.new.out) does.result
     (λ text d made. (within, refl, does.ensures.cut, made)) (subst X c.as_slice.ensures.value (does.ensures.does st)))
 
-pub returns-in-Patch : goal.returns-in-Patch
-returns-in-Patch g c = λ st.
-    let held = g.W.Write.contents in
-    let s = run_state c.args.begun.now st in
-    let does = c.do_patch in
-    let seat = c.in-Patch.seat in
-    let done : Desk → RunState = λ d. record { begun = true; cut = does.new.uploads.cut; desk = d } in
-    let P : Command → Type 0 = λ k. DoesCommand s k {T = Standing does.new.store does.new.uploads} (run_state true) (held c.args.out.now) (held does.new.out) does.result in
-    let X : List ℕ → Type 0 = λ y. Replies {T = Standing does.new.store does.new.uploads} desk_of (DoesPatch s.desk seat y) (held c.args.out.now) (held does.new.out) does.result in
-    subst P (sym c.in-Patch.is)
-    (does_by {T = Standing does.new.store does.new.uploads} desk_of s (Patch seat c.in-Patch.text) done (DoesPatch s.desk seat c.in-Patch.text.items) (held c.args.out.now) (held does.new.out) does.result
-    (λ text d made. (refl, does.ensures.cut, made)) (subst X c.as_slice-in-Patch.ensures.value (does.ensures.does st)))
-
 pub returns-in-Cut : goal.returns-in-Cut
 returns-in-Cut g c = λ st.
     let s = run_state c.args.begun.now st in
     let P : Command → Type 0 = λ k. Does s k [] (record { begun = true; cut = c.in-Cut.length; desk = s.desk }) in
     record {
       text = [];
-      last = record { fed = st.fed; openings = st.openings; patches = st.patches; texts = st.texts; even = st.even };
+      last = record { fed = st.fed; openings = st.openings; texts = st.texts; even = st.even };
       makes = subst P (sym c.in-Cut.is) (refl, refl);
       written = Appends-none (g.W.Write.contents c.args.out.now);
     }

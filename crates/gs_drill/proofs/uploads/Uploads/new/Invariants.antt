@@ -3,4 +3,4 @@ use Rattle.gs_feeding.specs.declared.texts.SeatText.TheVariants.{Unfed}
 use Rattle.gs_drill.proofs.uploads.Uploads.new.Given as goal
 
 abbrev pub invariant-loop : goal.invariant-loop
-invariant-loop l = (l.openings.items ≡ replicate l.counter None) × (l.patches.items ≡ replicate l.counter None) × (l.texts.items ≡ replicate l.counter Unfed)
+invariant-loop l = (l.openings.items ≡ replicate l.counter None) × (l.texts.items ≡ replicate l.counter Unfed)
