@@ -10,6 +10,7 @@ pub struct Case<'a> {
 }
 
 impl<'a> Case<'a> {
+    /// A case without a line.
     pub fn new(alloc: Global) -> Case<'a> {
         Case {
             name: "",

@@ -1,9 +1,9 @@
 -- The path of a target is text, and the test of a name decides what a name is.
-use Rattle.std.proofs.Common.{◌≡◌, ℕ, zero, suc, Bool, true, false, cond, List, [], ◌∷◌, length, drop, take, arith, codes, ◌&&◌}
+use Rattle.std.proofs.Common.{◌≡◌, ℕ, zero, suc, Bool, true, false, cond, List, [], ◌∷◌, length, drop, take, arith, inl, inr, codes, ◌&&◌}
 use Rattle.std.specs.Prelude.{nat_eq, nat_le}
 use Rattle.std.specs.List.{list_all, starts_with}
 use Rattle.std.specs.Str.{IsUtf8, IsAscii, is_utf8}
-use Rattle.std.proofs.lemmas.Bool.{and_parts, leb-true, le-leb}
+use Rattle.std.proofs.lemmas.Bool.{cases_Bool, and_parts, leb-true, le-leb}
 use Rattle.std.proofs.lemmas.Str.{IsUtf8-from_ascii, IsAscii-take, IsAscii-drop, IsUtf8-from_is_utf8, is_utf8-from_IsUtf8}
 use Rattle.std.specs.Bool.{Decides}
 use Rattle.std.proofs.lemmas.Bool.Decides.{Decides-and, Decides-like}
@@ -43,3 +43,7 @@ IsName-Decides n =
 -- both ways
 pub tested_name_is_a_name : TestedNameIsAName
 tested_name_is_a_name n = IsName-Decides n
+
+-- bytes that are no text
+pub is_utf8-fails : (bs : List ℕ) → (IsUtf8 bs → ⊥) → is_utf8 bs ≡ false
+is_utf8-fails bs f = elim (cases_Bool (is_utf8 bs)) [ inl t ↦ absurd (f (IsUtf8-from_is_utf8 bs t)) | inr n ↦ n ]

@@ -1,5 +1,6 @@
 -- What the target of a request names (Graph Store Protocol, sections 4.1 and 4.2; RFC 9112, section 3.2).
-use Rattle.std.specs.Prelude.{◌≡◌, ℕ, ◌+◌, ◌↔◌, Bool, true, not, ◌&&◌, ◌||◌, List, ◌++◌, length, take, drop, codes, if◌then◌else◌, Option, Some, None, nat_eq, nat_le, nat_lt, ◌==◌}
+use Rattle.std.specs.Prelude.{◌≡◌, ℕ, ◌+◌, ◌↔◌, Bool, true, false, not, ◌&&◌, ◌||◌, List, ◌++◌, length, take, drop, codes, if◌then◌else◌, Option, Some, None, nat_eq, nat_le, nat_lt, ◌==◌}
+use Rattle.std.specs.Borrow.{Bor}
 use Rattle.std.specs.List.{starts_with, list_all, list_any}
 use Rattle.std.specs.Str.{bytes_eq, is_utf8}
 use Rattle.percent_encoding.specs.Percent.{percent_decode}
@@ -32,15 +33,23 @@ abbrev pub query_of : List ℕ → Option (List ℕ)
 query_of t =
     if nat_lt (position_of question_mark t) (length t) then Some (drop (position_of question_mark t + 1) t) else None
 
+-- an absolute IRI that is not too long, among texts
+abbrev pub is_short_iri : List ℕ → Bool
+is_short_iri n = is_absolute n && nat_le (length n) max_name_bytes
+
 -- the bytes are the name of a graph
 abbrev pub is_name : List ℕ → Bool
-is_name n = is_utf8 n && (is_absolute n && nat_le (length n) max_name_bytes)
+is_name n = is_utf8 n && is_short_iri n
 
 -- The test is the definition of a name.
 abbrev pub TestedNameIsAName : Type 0
 TestedNameIsAName = (n : List ℕ) → (is_name n ≡ true) ↔ IsName n
 
--- the graph of this name
+-- the graph that a text names
+abbrev pub named_text : List ℕ → Goal
+named_text n = if is_short_iri n then Graph (Named n) else Malformed
+
+-- the graph that bytes name
 abbrev pub named_by : List ℕ → Goal
 named_by n = if is_name n then Graph (Named n) else Malformed
 
@@ -64,3 +73,8 @@ target_of base t =
     if list_all is_target_byte t && starts_with nat_eq (rest_of base t) (codes "/")
     then placed base (rest_of base t) (place_of (path_of (rest_of base t)))
     else Malformed
+
+-- the text that bytes are, if they are UTF-8
+abbrev pub IsTextOf : Option (Bor (List ℕ)) → List ℕ → Type 0
+IsTextOf None b = is_utf8 b ≡ false
+IsTextOf (Some t) b = (t.now ≡ b) × (is_utf8 b ≡ true)

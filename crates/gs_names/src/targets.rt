@@ -5,12 +5,13 @@ ghost use Rattle.std.specs.Str.{IsUtf8, bytes_eq};
 ghost use Rattle.percent_encoding.specs.Percent.{percent_decode};
 ghost use Rattle.gs_names.specs.declared.routes.Place.TheVariants.{Graphs};
 ghost use Rattle.gs_names.specs.Places.{place_of};
-ghost use Rattle.gs_names.specs.Targets.{is_target_byte, rest_of, named_by, queried, placed, target_of};
+ghost use Rattle.gs_names.specs.Targets.{is_target_byte, rest_of, IsTextOf, is_short_iri, named_text, named_by, queried, placed, target_of};
 
 use crate::places::Places;
 use crate::routes::Place;
 use crate::words::position;
-use gs_model::Refusal;
+use gs_iri::is_absolute;
+use gs_model::MAX_NAME_BYTES;
 use gs_term::{GraphName, Target};
 use percent_encoding::percent_decode;
 use std::alloc::{AllocError, Global};
@@ -54,17 +55,42 @@ fn rest<'a>(base: &[u8], target: &'a [u8]) -> &'a [u8]
     }
 }
 
-/// The graph of this name, where these bytes are one.
+/// The text that these bytes are.
+fn text_of(bytes: &[u8]) -> Option<&str>
+    ensures { IsTextOf result bytes.now }
+{
+    match str::from_utf8(bytes) {
+        Ok(text) => Some(text),
+        Err(_) => None,
+    }
+}
+
+fn is_short_iri(text: &str) -> bool
+    ensures { result ≡ is_short_iri text.now }
+{
+    is_absolute(text) && text.len() <= MAX_NAME_BYTES
+}
+
+/// The graph that a text names. Such a text is refused for want of memory alone.
+fn named_text(alloc: Global, text: &str) -> Result<Goal, AllocError>
+    ensures { IfOk result (λ r. r ≡ named_text text.now) }
+{
+    if !is_short_iri(text) {
+        return Ok(Goal::Malformed);
+    }
+    match GraphName::new(alloc, text) {
+        Ok(name) => Ok(Goal::Graph(Target::Named(name))),
+        Err(_) => Err(AllocError),
+    }
+}
+
+/// The graph that these bytes name.
 fn named(alloc: Global, name: &[u8]) -> Result<Goal, AllocError>
     ensures { IfOk result (λ r. r ≡ named_by name.now) }
 {
-    let Ok(text) = str::from_utf8(name) else {
-        return Ok(Goal::Malformed);
-    };
-    match GraphName::new(alloc, text) {
-        Ok(name) => Ok(Goal::Graph(Target::Named(name))),
-        Err(Refusal::NoMemory) => Err(AllocError),
-        Err(_) => Ok(Goal::Malformed),
+    match text_of(name) {
+        None => Ok(Goal::Malformed),
+        Some(text) => named_text(alloc, text),
     }
 }
 

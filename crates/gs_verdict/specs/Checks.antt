@@ -8,7 +8,7 @@ use Rattle.gs_term.specs.declared.names.Target.{Target}
 use Rattle.gs_names.specs.declared.targets.Goal.{Goal}
 use Rattle.gs_names.specs.declared.targets.Goal.TheVariants as goal
 use Rattle.gs_names.specs.declared.media.Media.{Media}
-use Rattle.gs_names.specs.declared.media.Media.TheVariants.{NTriples, Turtle, Update}
+use Rattle.gs_names.specs.declared.media.Media.TheVariants.{NTriples, Update}
 use Rattle.gs_names.specs.declared.media.BodyType.{BodyType}
 use Rattle.gs_names.specs.declared.media.BodyType.TheVariants.{Absent, Known, Refused}
 use Rattle.gs_verdict.specs.declared.methods.Method.{Method}
@@ -53,10 +53,15 @@ takes_type Post b f = is_document_type b f
 takes_type Patch b f = is_update_type b
 takes_type m b f = true
 
+-- a type was chosen
+abbrev pub is_chosen : Option Media → Bool
+is_chosen None = false
+is_chosen (Some m) = true
+
 -- a reply with lines has a type that is accepted
 abbrev pub takes_reply : Method → Option Media → Bool
-takes_reply Get None = false
-takes_reply Head None = false
+takes_reply Get reply = is_chosen reply
+takes_reply Head reply = is_chosen reply
 takes_reply m reply = true
 
 -- the most bytes of the method's body
@@ -69,18 +74,28 @@ abbrev pub is_over : ℕ → Framing → Bool
 is_over limit (framing.Bytes n) = nat_lt limit n
 is_over limit f = false
 
--- the type of a body: N-Triples where none is given
-abbrev pub media_of_body : Method → BodyType → Media
-media_of_body Put (Known m) = m
-media_of_body Post (Known m) = m
-media_of_body Patch (Known m) = m
-media_of_body m other = NTriples
+-- a known type, or N-Triples
+abbrev pub known_or_plain : BodyType → Media
+known_or_plain (Known m) = m
+known_or_plain other = NTriples
 
--- the type of a reply: N-Triples where it has no lines
+-- the type of a body that is read as a document or an update: N-Triples where none is given
+abbrev pub media_of_body : Method → BodyType → Media
+media_of_body Put b = known_or_plain b
+media_of_body Post b = known_or_plain b
+media_of_body Patch b = known_or_plain b
+media_of_body m b = NTriples
+
+-- the chosen type, or N-Triples
+abbrev pub chosen_or_plain : Option Media → Media
+chosen_or_plain None = NTriples
+chosen_or_plain (Some m) = m
+
+-- the type of a reply with lines: N-Triples where it has none
 abbrev pub media_of_reply : Method → Option Media → Media
-media_of_reply Get (Some m) = m
-media_of_reply Head (Some m) = m
-media_of_reply m other = NTriples
+media_of_reply Get reply = chosen_or_plain reply
+media_of_reply Head reply = chosen_or_plain reply
+media_of_reply m reply = NTriples
 
 -- the graph, or none for the store itself
 abbrev pub graph_of_goal : Goal → Option Target

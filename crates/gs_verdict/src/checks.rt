@@ -3,7 +3,6 @@ ghost use Rattle.std.specs.Prelude.{◌≡◌, codes};
 ghost use Rattle.gs_http.specs.Fields.{kept_under};
 ghost use Rattle.gs_names.specs.Media.{body_type_of};
 ghost use Rattle.gs_names.specs.Accepts.{reply_type_of};
-ghost use Rattle.gs_verdict.specs.declared.methods.Method.TheVariants.{Get, Put};
 ghost use Rattle.gs_verdict.specs.Checks as spec;
 
 use crate::methods::Method;
@@ -18,24 +17,28 @@ const MAX_BODY_BYTES: u64 = 67_108_864;
 /// The most bytes of the body of a PATCH.
 const MAX_PATCH_BYTES: u64 = 1_048_576;
 
+/// Whether the body is framed in a way that says two things or nothing.
 pub fn is_malformed(framing: Framing) -> bool
     ensures { result ≡ spec.is_malformed framing }
 {
     matches!(framing, Framing::Malformed)
 }
 
+/// Whether the body has a coding that is not read.
 pub fn is_unknown(framing: Framing) -> bool
     ensures { result ≡ spec.is_unknown framing }
 {
     matches!(framing, Framing::Unknown)
 }
 
+/// Whether the target is not of a form that is served.
 pub fn is_malformed_goal(goal: &Goal) -> bool
     ensures { result ≡ spec.is_malformed_goal goal.now }
 {
     matches!(goal, Goal::Malformed)
 }
 
+/// Whether nothing has the path.
 pub fn is_missing(goal: &Goal) -> bool
     ensures { result ≡ spec.is_missing goal.now }
 {
@@ -61,7 +64,8 @@ fn is_update_type(body: BodyType) -> bool
 
 /// Whether the body may have its type.
 pub fn takes_type(kept: &HeaderMap<&[u8]>, method: Method, framing: Framing) -> bool
-    ensures { result ≡ spec.takes_type method (body_type_of (kept_under kept.now (codes "content-type"))) framing }
+    ensures { result
+        ≡ spec.takes_type method (body_type_of (kept_under kept.now (codes "content-type"))) framing }
 {
     match method {
         Method::Put => is_document_type(body_type(kept), framing),
@@ -71,13 +75,22 @@ pub fn takes_type(kept: &HeaderMap<&[u8]>, method: Method, framing: Framing) -> 
     }
 }
 
+fn is_chosen(reply: Option<Media>) -> bool
+    ensures { result ≡ spec.is_chosen reply }
+{
+    match reply {
+        Some(_) => true,
+        None => false,
+    }
+}
+
 /// Whether the reply has a type that is accepted.
 pub fn takes_reply(kept: &HeaderMap<&[u8]>, method: Method) -> bool
     ensures { result ≡ spec.takes_reply method (reply_type_of (kept_under kept.now (codes "accept"))) }
 {
     match method {
-        Method::Get => reply_type(kept).is_some(),
-        Method::Head => reply_type(kept).is_some(),
+        Method::Get => is_chosen(reply_type(kept)),
+        Method::Head => is_chosen(reply_type(kept)),
         _ => true,
     }
 }
@@ -102,7 +115,7 @@ pub fn is_over(method: Method, framing: Framing) -> bool
 }
 
 fn known_or_plain(body: BodyType) -> Media
-    ensures { result ≡ spec.media_of_body Put body }
+    ensures { result ≡ spec.known_or_plain body }
 {
     match body {
         BodyType::Known(media) => media,
@@ -123,7 +136,7 @@ pub fn media_of_body(kept: &HeaderMap<&[u8]>, method: Method) -> Media
 }
 
 fn chosen_or_plain(reply: Option<Media>) -> Media
-    ensures { result ≡ spec.media_of_reply Get reply }
+    ensures { result ≡ spec.chosen_or_plain reply }
 {
     match reply {
         Some(media) => media,
