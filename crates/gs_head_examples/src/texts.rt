@@ -58,7 +58,11 @@ fn body_text(alloc: Global, framing: Framing) -> Result<String, AllocError> {
 }
 
 fn asked_text(alloc: Global, asked: &Asked) -> Result<String, AllocError> {
-    let awaits = if asked.awaits_continue { " continue" } else { "" };
+    let awaits = if asked.awaits_continue {
+        " continue"
+    } else {
+        ""
+    };
     let framing = body_text(alloc, asked.framing)?;
     format!(in alloc;
         "{} {} body {} {framing} reply {}{awaits}{}",
