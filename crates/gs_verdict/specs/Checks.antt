@@ -12,7 +12,7 @@ use Rattle.gs_names.specs.declared.media.Media.TheVariants.{NTriples, Update}
 use Rattle.gs_names.specs.declared.media.BodyType.{BodyType}
 use Rattle.gs_names.specs.declared.media.BodyType.TheVariants.{Absent, Known, Refused}
 use Rattle.gs_verdict.specs.declared.methods.Method.{Method}
-use Rattle.gs_verdict.specs.declared.methods.Method.TheVariants.{Get, Head, Put, Post, Delete, Patch}
+use Rattle.gs_verdict.specs.declared.methods.Method.TheVariants.{Get, Head, Put, Post, Patch}
 
 -- Transfer-Encoding and Content-Length, or a Content-Length that is not one number
 abbrev pub is_malformed : Framing → Bool
