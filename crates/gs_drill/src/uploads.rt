@@ -75,6 +75,32 @@ impl Uploads {
         }
     }
 
+    /// What opened the upload of a seat is this.
+    fn set_opening(&mut self, seat: u16, opening: Option<Opening>)
+        ensures openings { self.new.openings.items ≡ slice_set self.old.openings.items seat opening }
+        ensures patches { self.new.patches.items ≡ self.old.patches.items }
+        ensures texts { self.new.texts.items ≡ self.old.texts.items }
+        ensures cut { self.new.cut ≡ self.old.cut }
+    {
+        let seat = usize::from(seat);
+        if seat < self.openings.len() {
+            self.openings[seat] = opening;
+        }
+    }
+
+    /// What opened the patch of a seat is this.
+    fn set_patch(&mut self, seat: u16, patch: Option<Opening>)
+        ensures openings { self.new.openings.items ≡ self.old.openings.items }
+        ensures patches { self.new.patches.items ≡ slice_set self.old.patches.items seat patch }
+        ensures texts { self.new.texts.items ≡ self.old.texts.items }
+        ensures cut { self.new.cut ≡ self.old.cut }
+    {
+        let seat = usize::from(seat);
+        if seat < self.patches.len() {
+            self.patches[seat] = patch;
+        }
+    }
+
     /// An upload or a patch begins or ends.
     fn reset(&mut self, seat: u16, opening: Option<Opening>, patch: Option<Opening>)
         ensures openings { self.new.openings.items ≡ slice_set self.old.openings.items seat opening }
@@ -82,16 +108,9 @@ impl Uploads {
         ensures texts { self.new.texts.items ≡ slice_set self.old.texts.items seat SeatText.Unfed }
         ensures cut { self.new.cut ≡ self.old.cut }
     {
-        let seat = usize::from(seat);
-        if seat < self.openings.len() {
-            self.openings[seat] = opening;
-        }
-        if seat < self.patches.len() {
-            self.patches[seat] = patch;
-        }
-        if seat < self.texts.len() {
-            self.texts[seat] = SeatText::Unfed;
-        }
+        self.set_opening(seat, opening);
+        self.set_patch(seat, patch);
+        self.put(seat, SeatText::Unfed);
     }
 
     /// An action opened an upload or a patch, under this request.
