@@ -26,7 +26,7 @@ struct Parsed {
 }
 
 /// What is given of a text under the base `http://e/`, in request 7.
-fn parsed(alloc: Global, text: &[u8]) -> Result<Parsed, Fail> {
+fn parse_text(alloc: Global, text: &[u8]) -> Result<Parsed, Fail> {
     let tokens = tokens_of(alloc, text)?;
     let mut parser = Parser::new(alloc, "http://e/", 7)?;
     let mut triples = Vec::new(alloc);
@@ -63,7 +63,7 @@ _:b7_2 <http://www.w3.org/1999/02/22-rdf-syntax-ns#rest> <http://www.w3.org/1999
 
 #[test]
 fn a_prefix_and_a_collection_give_their_triples(rt: HostRuntime) -> Result<(), Fail> {
-    let got = parsed(rt.alloc(), TEXT.as_bytes())?;
+    let got = parse_text(rt.alloc(), TEXT.as_bytes())?;
     assert!(rt; got.lines.as_slice() == TRIPLES.as_bytes());
     assert_eq!(rt; got.last, TEXT.len() as u64);
     assert_eq!(rt; got.fault, None);
@@ -94,7 +94,7 @@ const FAULTS: [Row; 5] = [
 /// Whether a parser gives of a text what the row says.
 fn is_so(alloc: Global, row: &Row) -> Result<bool, Fail> {
     let (text, lines, last, fault) = row;
-    let got = parsed(alloc, text.as_bytes())?;
+    let got = parse_text(alloc, text.as_bytes())?;
     let is_given = got.lines.as_slice() == lines.as_bytes();
     Ok(is_given && got.last == *last && got.fault == *fault && got.end == Err(Fault::Syntax))
 }
