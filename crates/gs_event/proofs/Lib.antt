@@ -1,6 +1,7 @@
 pub mod DatasetLemmas
 pub mod HistoryLemmas
 pub mod NameLemmas
+pub mod NodeLemmas
 pub mod PinLemmas
 pub mod RunLemmas
 pub mod VerdictLemmas

@@ -3,11 +3,15 @@ ghost use Rattle.std.specs.Prelude.{ℕ, List};
 ghost use Rattle.gs_model.specs.Graphs.{Graph};
 ghost use Rattle.gs_term.specs.declared.patterns.Pattern.{Pattern as APattern};
 ghost use Rattle.gs_event.specs.Solutions.{instances_of, ListsInstances};
+ghost use Rattle.gs_event.specs.declared.events.Event.{Event as AnEvent};
+ghost use Rattle.gs_event.specs.declared.answers.Answer.{Answer as AnAnswer};
+ghost use Rattle.gs_event.specs.declared.updates.Op.{Op as AnOp};
 ghost use Rattle.gs_event.specs.Datasets.{Dataset};
 ghost use Rattle.gs_event.specs.Names.{new_name, IsLeastFree};
 ghost use Rattle.gs_event.specs.Operations.{Operation, Setting};
 ghost use Rattle.gs_event.specs.Verdicts.{IsDecided};
 ghost use Rattle.gs_event.specs.Waste.{Shown};
+ghost use Rattle.gs_event.specs.NodesInUse.{AddsUp, TakesFew};
 ghost use Rattle.gs_event.specs.Histories.{Start, History};
 ghost use Rattle.gs_event.specs.Continuing.{ViewGoesOn, PinsGoOn, StepsGoOn};
 
@@ -42,4 +46,17 @@ pub fn verdict_is_the_stores()
 /// others.
 pub fn instances_are_found()
     ensures { (g : Graph) (patterns : List APattern) → ListsInstances g patterns (instances_of g patterns) }
+{}
+
+/// The triples that a graph has after an update and those that went are those that it had and those
+/// that came.
+pub fn updates_add_up()
+    ensures { (g : Graph) (ops : List AnOp) → AddsUp g ops }
+{}
+
+/// A PUT takes no node into use, a POST and a new graph at most 260 for each triple of the upload,
+/// a PATCH at most 260 for each triple that comes or goes, and any other step none but one for each
+/// triple that is staged.
+pub fn steps_take_few()
+    ensures { (old : Shown) (e : AnEvent) (a : AnAnswer) (new : Shown) → TakesFew old e a new }
 {}
