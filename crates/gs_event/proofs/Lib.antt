@@ -5,4 +5,5 @@ pub mod NodeLemmas
 pub mod PinLemmas
 pub mod RunLemmas
 pub mod VerdictLemmas
+pub mod SizeLemmas
 pub mod SolutionLemmas

@@ -1,15 +1,14 @@
 -- How many nodes a step takes into use, at most.
-use Rattle.std.proofs.Common.{◌≡◌, ℕ, ◌+◌, ◌*◌, ◌-◌, ◌≤◌, Bool, true, false, cond, nat_eq, List, [], ◌∷◌, ◌++◌, length, drop, get_or, Option, Some, None, MatchOption, is_some, refl, sym, ap, ◌∙◌, subst, arith}
+use Rattle.std.proofs.Common.{◌≡◌, ℕ, ◌+◌, ◌≤◌, Bool, true, false, cond, nat_eq, List, [], ◌∷◌, length, drop, get_or, Option, Some, None, MatchOption, is_some, refl, sym, ap, ◌∙◌, subst, arith}
 use Rattle.std.specs.List.{sum_by, slice_get, slice_set}
-use Rattle.std.specs.FinMap as fin
 use Rattle.std.proofs.lemmas.List.{length-map}
 use Rattle.std.proofs.lemmas.List.Sums.{sum_by-cons, sum_by-set}
 use Rattle.std.proofs.lemmas.Option.{slice_get_within, get_or_from_slice_get}
-use Rattle.gs_model.specs.Triples.{RdfTriple, line_of}
-use Rattle.gs_model.specs.Graphs.{Graph, graph_of, triples_of, with_triples, size_of}
+use Rattle.gs_model.specs.Triples.{line_of}
+use Rattle.gs_model.specs.Graphs.{Graph, triples_of, size_of}
 use Rattle.gs_model.specs.declared.refusals.Refusal.{Refusal}
 use Rattle.gs_model.specs.declared.refusals.Refusal.TheVariants.{BadSeat}
-use Rattle.gs_model.proofs.GraphLemmas.{triple_total, empty_has_none, triples_of-empty, graph_of-triples_of}
+use Rattle.gs_model.proofs.GraphLemmas.{empty_has_none}
 use Rattle.gs_term.specs.declared.names.Target.{Target}
 use Rattle.gs_term.specs.declared.names.Target.TheVariants.{Named}
 use Rattle.gs_event.specs.declared.events.UploadKind.{UploadKind}
@@ -21,49 +20,18 @@ use Rattle.gs_event.specs.declared.events.Event.TheVariants.{Seat as At, Reclaim
 use Rattle.gs_event.specs.declared.answers.Answer.{Answer}
 use Rattle.gs_event.specs.declared.answers.Answer.TheVariants.{Opened, Staged, Status, Pinned, Lines, Cancelled, Reclaimed, Refused}
 use Rattle.gs_event.specs.declared.updates.Op.{Op}
-use Rattle.gs_event.specs.Updates.{operated, inserted, removed, updated, inserted_by, removed_by, patched}
+use Rattle.gs_event.specs.Updates.{updated, patched}
 use Rattle.gs_event.specs.Datasets.{Dataset, graph_at, is_there, lines_if, lines_at, with_graph, without_graph, triples_in}
 use Rattle.gs_event.specs.Names.{new_name}
-use Rattle.gs_event.specs.Operations.{Setting, Deletes, is_within, united, stored, stored_status, after, status_of, is_success}
-use Rattle.gs_event.specs.Phases.{Phase, Idle, Writing, Patching, Reading, write_of}
-use Rattle.gs_event.specs.Views.{Totals, View, SeatView, Fits, FitsSeat, next_totals, next_phase, next_if}
+use Rattle.gs_event.specs.Operations.{Setting, is_within, united, stored, stored_status, after, status_of, is_success}
+use Rattle.gs_event.specs.Phases.{Idle, Writing, Patching, Reading, write_of}
+use Rattle.gs_event.specs.Views.{Totals, View, SeatView, FitsSeat, next_totals, next_phase, next_if}
 use Rattle.gs_event.specs.Waste.{Lifetime, Shown, staged_at, staged_in, nodes_in}
-use Rattle.gs_event.specs.Steps.{Joins, IsUnreached, JoinsCopied, WastesUpload, WastesCommit, WastesOperations, most_patched, WastesPatch, WastesDelete, WastesCancel, Frees, Wastes, Steps}
-use Rattle.gs_event.specs.NodesInUse.{AddsUp, most_for_upload, most_for_update, most_taken_at, most_taken_if, TakesFew}
+use Rattle.gs_event.specs.Steps.{Joins, WastesUpload, WastesCommit, WastesOperations, most_patched, WastesPatch, WastesDelete, WastesCancel, Frees, Wastes}
+use Rattle.gs_event.specs.NodesInUse.{most_for_upload, most_for_update, most_taken_at, most_taken_if, TakesFew, GivesBack}
 use Rattle.gs_event.proofs.DatasetLemmas.{triples_in-with_graph, triples_in-without_graph}
+use Rattle.gs_event.proofs.SizeLemmas.{adds_up, graph_few, listed_few, united_few}
 use Rattle.gs_event.proofs.VerdictLemmas.{made_well}
-
--- one operation
-adds_up_one : (g : Graph) (op : Op) → size_of (operated g op) + removed g op ≡ size_of g + inserted g op
-adds_up_one g op = omega arith
-
--- the triples that came and went account for the size of what an update leaves
-pub adds_up : (g : Graph) (ops : List Op) → AddsUp g ops
-adds_up g [] = refl
-adds_up g (op ∷ ops) = omega (arith, adds_up_one g op, adds_up (operated g op) ops)
-
--- one triple more adds one at most
-one_more : (g : Graph) (t : RdfTriple) → size_of (fin.insert g t tt) ≤ size_of g + 1
-one_more g t =
-    let many : fin.len (fin.insert g t tt) ≤ fin.len g + 1 = rw (fin.len-insert triple_total g t tt) (elim (fin.contains_key g t) as (λ b. cond b (fin.len g) (fin.len g + 1) ≤ fin.len g + 1) [ true ↦ omega arith | false ↦ omega arith ]) in
-    let before : size_of g ≡ fin.len g = length-map (fin.entries g) (λ e. e.0) ∙ sym (fin.len-entries g) in
-    let now : size_of (fin.insert g t tt) ≡ fin.len (fin.insert g t tt) = length-map (fin.entries (fin.insert g t tt)) (λ e. e.0) ∙ sym (fin.len-entries (fin.insert g t tt)) in
-    omega (arith, many, before, now)
-
--- triples that are added to others add no more than they are
-graph_few : (xs ts : List RdfTriple) → size_of (graph_of (xs ++ ts)) ≤ length xs + size_of (graph_of ts)
-graph_few [] ts = omega arith
-graph_few (x ∷ xs) ts = omega (arith, one_more (graph_of (xs ++ ts)) x, graph_few xs ts)
-
--- a list makes no more triples than it has
-listed_few : (ts : List RdfTriple) → size_of (graph_of ts) ≤ length ts
-listed_few [] = omega (arith, empty_has_none)
-listed_few (t ∷ ts) = omega (arith, one_more (graph_of ts) t, listed_few ts)
-
--- a graph united with another has no more triples than both
-united_few : (o : Option Graph) (g : Graph) → size_of (united o g) ≤ length (lines_if o) + size_of g
-united_few None g = omega arith
-united_few (Some old) g = omega (arith, graph_few (triples_of old) (triples_of g), ap size_of (graph_of-triples_of g), length-map (triples_of old) line_of)
 
 ones : (xs : List Lifetime) → sum_by (λ l. 1) xs ≡ length xs
 ones [] = refl
@@ -217,11 +185,14 @@ taken_if old s action a new (Some p) is fits w view =
     let uploads : staged_in new.view.seats ≡ staged_in (slice_set old.view.seats s next) = ap (λ (v : View). staged_in v.seats) view in
     omega (arith, seats, here, graphs, uploads, taken_at old.view.totals p action a old.waste new.waste fits w)
 
+-- what is freed is no more in use
+pub gives_back : (old : Shown) (n freed : ℕ) (left : Bool) (new : Shown) → GivesBack old n freed left new
+gives_back old n freed left new step =
+    let w : Frees old.pinned n freed left old.waste new.waste = step.waste in
+    omega (arith, w.same (λ l. 1), ones new.waste, ones old.waste, ones w.gone, w.many, ap (λ (v : View). triples_in v.totals.dataset) step.view, ap (λ (v : View). staged_in v.seats) step.view)
+
 -- each event
 pub takes_few : (old : Shown) (e : Event) (a : Answer) (new : Shown) → TakesFew old e a new
-takes_few old (Reclaim n) (Reclaimed freed left) new step =
-    let w : Frees old.pinned n freed left old.waste new.waste = step.waste in
-    let less = w.same (λ l. 1) in
-    omega (arith, less, ones new.waste, ones old.waste, ap (λ (v : View). triples_in v.totals.dataset) step.view, ap (λ (v : View). staged_in v.seats) step.view)
+takes_few old (Reclaim n) (Reclaimed freed left) new step = omega (arith, gives_back old n freed left new step)
 takes_few old (Reclaim n) a new step = absurd step.waste
 takes_few old (At s action) a new step = taken_if old s action a new (slice_get old.view.seats s) refl step.fits (wasted old s action a new.waste step.waste) step.view
