@@ -174,6 +174,9 @@ module _ (cmp : Key → Key → Ordering) (total : IsTotalOrder cmp) (since birt
     i : Merges cmp since birth p p1 left c o.l low (tree_at p1 left)
     i = subst (λ u. Merges cmp since birth p p1 left c u low (tree_at p1 left)) left_is i0
 
+    low_cost : union_cost since (height o.l) c ≤ union_cost since (height o.l) (length low)
+    low_cost = cost_side since (height o.l) c (height o.l) (length low) (omega arith) i.at_most
+
     step1 : Step since birth p p1 (λ x. one id x + occurrences o.l x + occurrences o.r x) (λ x. one id x + occurrences (tree_at p1 left) x + occurrences o.r x)
     step1 = Step-beside since birth p p1 (occurrences o.l) (occurrences (tree_at p1 left)) _ _ i.step (λ x. omega arith) (λ x. omega arith)
 
@@ -194,7 +197,7 @@ module _ (cmp : Key → Key → Ordering) (total : IsTotalOrder cmp) (since birt
       set = record { root_is = o.right_is; stands = right_there; balanced = near.2; rising = rising_back cmp total _ _ _ rises; apart = λ x. omega (arith, step1.balance x, apart_in x) };
       run_rising = run_parts.1;
       small = omega (arith, can.small, counts, few_in);
-      has_room = omega (arith, can.has_room, both_cost, few_in, older, i.total, i.few, i.copied, i.at_most);
+      has_room = omega (arith, can.has_room, both_cost, few_in, older, i.total, i.few, low_cost, i.copied, i.at_most);
     })
 
     module _ (p2 : Nodes) (right : Option ℕ) (d : ℕ) (k0 : Merges cmp since birth p1 p2 right d (tree_at p1 node.right) high (tree_at p2 right)) where
@@ -238,14 +241,17 @@ module _ (cmp : Key → Key → Ordering) (total : IsTotalOrder cmp) (since birt
       union_plain = (plain_found p2 id (omega (arith, step2.balance id, within id, one_same id))).1
 
       module _ (grew : 0 < c + d) where
-        cost : union_cost since (height o.l) (length low) + union_cost since (height o.r) (length high) + copies since 1 + copies since (3 * (length low + length high)) ≤ union_cost since (height t) (length run)
-        cost = cost_level since (height o.l) (height o.r) (height t) (length low) (length high) (length run) (omega (arith, heights)) (omega (arith, heights)) few_in (omega (arith, i.at_most, k.at_most))
+        cost : union_cost since (height o.l) c + union_cost since (height o.r) d + copies since 1 + copies since (3 * (c + d)) ≤ union_cost since (height t) (c + d)
+        cost = cost_level since (height o.l) (height o.r) (height t) c d (c + d) (omega (arith, heights)) (omega (arith, heights)) (omega arith) grew
 
-        join_cost : copies since (joins (height (tree_at p1 left)) (height (tree_at p2 right))) ≤ copies since (3 * (length low + length high))
-        join_cost = joins_grown since (height o.l) (height o.r) (height (tree_at p1 left)) (height (tree_at p2 right)) (length low) (length high) near.0.0 near.0.1 i.not_lower i.growth k.not_lower k.growth (omega (arith, i.at_most, k.at_most))
+        whole_cost : union_cost since (height t) (c + d) ≤ union_cost since (height t) (length run)
+        whole_cost = cost_side since (height t) (c + d) (height t) (length run) (omega arith) sum_fits
+
+        join_cost : copies since (joins (height (tree_at p1 left)) (height (tree_at p2 right))) ≤ copies since (3 * (c + d))
+        join_cost = joins_grown since (height o.l) (height o.r) (height (tree_at p1 left)) (height (tree_at p2 right)) c d near.0.0 near.0.1 i.not_lower i.growth k.not_lower k.growth grew
 
         left_over : min (copies since 1 + copies since (joins (height (tree_at p1 left)) (height (tree_at p2 right)) + 2)) (older_birth since node.birth + older_count since (tree_at p1 left) + older_count since (tree_at p2 right)) ≤ room p2
-        left_over = omega (arith, can.has_room, cost, join_cost, few_in, older, i.total, i.few, i.copied, i.at_most, k.total, k.few, k.copied, k.at_most, copies_add since (joins (height (tree_at p1 left)) (height (tree_at p2 right))) 2)
+        left_over = omega (arith, can.has_room, cost, whole_cost, join_cost, few_in, older, i.total, i.few, i.copied, i.at_most, k.total, k.few, k.copied, k.at_most, copies_add since (joins (height (tree_at p1 left)) (height (tree_at p2 right))) 2)
 
         pub top_room : IsOlder since p2 id → 0 < room p2
         top_room h = let c = older_counts since p2 id node top_there h in omega (arith, left_over, c.0, copies_some since 1 c.1)
@@ -302,7 +308,7 @@ module _ (cmp : Key → Key → Ordering) (total : IsTotalOrder cmp) (since birt
                 births = λ dt bt. let e : Descends (fork id o.birth o.l node.key o.r) = subst Descends o.is dt in let f : o.birth ≤ birth = subst (BirthAtMost birth) o.is bt in
                     let a = i.births e.2 (BirthAtMost-later o.birth birth o.l f e.0) in let b = k.births e.3 (BirthAtMost-later o.birth birth o.r f e.1) in s.births a.0 b.0 a.1 b.1;
                 not_lower = omega (arith, heights, both_grew (height o.l) (height o.r) (height (tree_at p1 left)) (height (tree_at p2 right)) (height new) near.0.0 near.0.1 i.not_lower k.not_lower s.height_is);
-                growth = omega (arith, heights, h1, i.growth, k.growth, few_in);
+                growth = omega (arith, heights, h1, i.growth, k.growth, grew);
                 step = Step-beside since birth p p4 _ _ _ _ (Step-then since birth p p3 p4 _ _ _ step3 s.step) (λ x. omega (arith, ap (λ u. occurrences u x) o.is)) (λ x. omega (arith, ap (λ u. occurrences u x) o.is));
                 total = omega (arith, i.total, k.total, w.total, s.total);
                 few = omega (arith, i.few, k.few, w.few, s.few, cost, join_cost);
@@ -361,13 +367,13 @@ united cmp total since birth p0 p q root to added t u run new s same drop small 
       exact = omega (arith, i.exact, uses, ap (Rattle.std.specs.Prelude.count_by is_aside) drop);
       in_place = λ z. omega (arith, i.exact, uses, same_marks q.marks p.marks (λ x. elim (i.step.marks x) [ inl kept ↦ kept | inr old ↦ absurd (omega (arith, old.0.2)) ]));
       cost = omega (arith, i.few, uses);
-      digits = λ d le. omega (arith, i.few, uses, per_key (height t) (8 * d) (omega (arith, height_digits t d s.balanced (omega (arith, size-keys t)))), mul-add (length run) (8 * d) 1);
-      few = omega (arith, i.few, uses, per_key (height t) 256 (omega (arith, height_digits t 32 s.balanced (omega (arith, low_size p0 t s.stands s.apart (omega (arith, ap length same, small)))))), mul-add (length run) 256 1);
+      digits = λ d le. omega (arith, i.few, uses, per_key (height t) (8 * d) (omega (arith, height_digits t d s.balanced (omega (arith, size-keys t)))), mul-add added (8 * d) 1);
+      few = omega (arith, i.few, uses, per_key (height t) 256 (omega (arith, height_digits t 32 s.balanced (omega (arith, low_size p0 t s.stands s.apart (omega (arith, ap length same, small)))))), mul-add added 256 1);
     }
   where
     zero_or : (n : ℕ) → (n ≡ 0) ⊎ (0 < n)
     zero_or zero = inl refl
     zero_or (suc n) = inr (omega arith)
 
-    per_key : (h k : ℕ) → 4 * h ≤ k → length run * copies since (4 * h) ≤ length run * k
-    per_key h k le = mul-le (length run) (copies since (4 * h)) (length run) k (omega arith) (omega (arith, copies_most since (4 * h)))
+    per_key : (h k : ℕ) → 4 * h ≤ k → added * copies since (4 * h) ≤ added * k
+    per_key h k le = mul-le added (copies since (4 * h)) added k (omega arith) (omega (arith, copies_most since (4 * h)))

@@ -53,4 +53,4 @@ returns-clause-ok g c =
     let enough = remove_made c.args.since c.args.pool.now c.args.root t s.root_is s.stands s.apart few (3 * c.height_of.result) (3 * c.height_of.result) c.copy_bound-copies.result (room c.reserve.new.self) refl c.copy_bound-copies.ensures (ap (λ k. 3 * k) c.height_of.ensures) r.ok in
     let low : height t ≤ 64 = low_height c.args.pool.now t s.stands s.apart s.balanced (omega (arith, ap (λ xs. length xs) r.nodes, short)) in
     let can = remove_can (g.O.KeyOrder.compare c.args.order.now) c.args.since c.args.pool.now c.reserve.new.self c.args.root t s r.nodes r.marks (omega arith) enough in
-    removed (g.O.KeyOrder.compare c.args.order.now) (g.met.O.KeyOrder.total c.args.order.now) c.args.since c.args.birth c.args.pool.now c.reserve.new.self c.remove_at.new.pool c.args.root c.remove_at.result c.args.key t (tree_at c.reserve.new.self c.args.root) (tree_at c.remove_at.new.pool c.remove_at.result) s r.nodes r.marks can.0 c.remove_at.ensures.shrinks c.requires.has c.remove_at.ensures.keys
+    removed (g.O.KeyOrder.compare c.args.order.now) (g.met.O.KeyOrder.total c.args.order.now) c.args.since c.args.birth c.args.pool.now c.reserve.new.self c.remove_at.new.pool c.args.root c.remove_at.result c.args.key t (tree_at c.reserve.new.self c.args.root) (tree_at c.remove_at.new.pool c.remove_at.result) s r.nodes r.marks low can.0 c.remove_at.ensures.shrinks c.requires.has c.remove_at.ensures.keys
