@@ -2,7 +2,7 @@ use Rattle.std.proofs.Common.{◌≤◌, ◌<◌, ◌+◌, ◌*◌, ◌^◌, len
 use Rattle.gs_pool.specs.Pool.{room}
 use Rattle.gs_tree.specs.Tree.{tree_at}
 use Rattle.gs_tree.proofs.RoomLemmas.{few_used, few_rooms, union_made}
-use Rattle.gs_tree.proofs.UnionLemmas.{union_can, united}
+use Rattle.gs_tree.proofs.WholeUnions.{union_can, united}
 use Rattle.gs_tree.proofs.unions.union.Goals as goal
 
 pub union_at-requires-clause-can : goal.union_at-requires-clause-can
