@@ -9,7 +9,7 @@ use Rattle.gs_triples.specs.States as triples
 use Rattle.gs_triples.specs.States.{Opened, Closed, Heading, Held, Typing, Lost, Goes, Ends}
 use Rattle.gs_triples.specs.Machine as triples_machine
 use Rattle.gs_triples.specs.Machine.{opening}
-use Rattle.gs_triple_parser.specs.Languages.{TypedLanguage}
+use Rattle.gs_triple_values.specs.Languages.{TypedLanguage}
 use Rattle.gs_triple_parser.specs.Views.{triples_state, triples_state_at, context_now, numbers_now}
 use Rattle.gs_triple_parser.specs.declared.parser.TripleParser.{TripleParser}
 use Rattle.gs_triple_parser.specs.declared.places.Place as code

@@ -11,15 +11,15 @@ use Rattle.gs_model.specs.Terms.{Term}
 use Rattle.gs_model.specs.Triples.{RdfTriple}
 use Rattle.gs_term.specs.declared.patterns.Part.{Part}
 use Rattle.gs_term.specs.declared.patterns.Pattern.{Pattern}
-use Rattle.gs_triple_parser.specs.declared.kinds.Subject.{Subject}
-use Rattle.gs_triple_parser.specs.declared.kinds.Verb.{Verb}
-use Rattle.gs_triple_parser.specs.declared.triple_terms.Terms.{Terms}
-use Rattle.gs_triple_parser.specs.declared.patterns.Patterns.{Patterns}
-use Rattle.gs_triple_parser.specs.Typed.{terms, patterns}
-use Rattle.gs_triple_parser.specs.Languages.{TypedLanguage}
+use Rattle.gs_triple_values.specs.declared.kinds.Subject.{Subject}
+use Rattle.gs_triple_values.specs.declared.kinds.Verb.{Verb}
+use Rattle.gs_triple_values.specs.declared.triple_terms.Terms.{Terms}
+use Rattle.gs_triple_values.specs.declared.patterns.Patterns.{Patterns}
+use Rattle.gs_triple_values.specs.Typed.{terms, patterns}
+use Rattle.gs_triple_values.specs.Languages.{TypedLanguage}
 use Rattle.gs_triple_parser.specs.Views.{scope_context, scope_numbers, triples_state, context_now, numbers_now}
 use Rattle.gs_triple_parser.specs.declared.scopes.Scope.{Scope as CodeScope}
-use Rattle.gs_triple_parser.specs.declared.symbols.Symbol.{Symbol}
+use Rattle.gs_triple_values.specs.declared.symbols.Symbol.{Symbol}
 use Rattle.gs_update_text.specs.Requests.{UpdateOperation, Inserts, DeletesData, DeletesWhere, Written, OutOfProfile}
 use Rattle.gs_update_text.specs.Operations.{Scope, Block, inserted, deleted, sought, some_patterns}
 use Rattle.gs_update_text.specs.Blocks as blocks

@@ -2,10 +2,11 @@
 use Rattle.std.specs.Prelude.{◌≡◌, ◌≢◌, ℕ, List, [], ◌∷◌, ◌++◌, map, Option, Result, IfOk}
 use Rattle.gs_triples.specs.Meanings.{Fault}
 use Rattle.gs_triples.specs.States.{Lost, triples_so_far}
-use Rattle.gs_triple_parser.specs.Languages.{TypedLanguage}
-use Rattle.gs_triple_parser.specs.Views.{symbol_at, scope_context, scope_numbers, triples_state, context_now, numbers_now, pending_triples}
+use Rattle.gs_triple_values.specs.Languages.{TypedLanguage}
+use Rattle.gs_triple_values.specs.Views.{symbol_at}
+use Rattle.gs_triple_parser.specs.Views.{scope_context, scope_numbers, triples_state, context_now, numbers_now, pending_triples}
 use Rattle.gs_triple_parser.specs.declared.scopes.Scope.{Scope}
-use Rattle.gs_triple_parser.specs.declared.symbols.Symbol.{Symbol}
+use Rattle.gs_triple_values.specs.declared.symbols.Symbol.{Symbol}
 use Rattle.gs_update_text.specs.Requests.{UpdateOperation, Written, Rejection, end_of_last}
 use Rattle.gs_update_text.specs.Blocks as blocks
 use Rattle.gs_update_text.specs.States as machine

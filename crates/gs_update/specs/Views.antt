@@ -6,8 +6,8 @@ use Rattle.gs_blank.specs.Numbers.{Numbers}
 use Rattle.gs_triples.specs.Symbols.{Symbol}
 use Rattle.gs_triples.specs.Languages.{of_terms}
 use Rattle.gs_triples.specs.Meanings.{in_language}
-use Rattle.gs_triple_parser.specs.Languages.{TypedLanguage}
-use Rattle.gs_triple_parser.specs.Typed.{terms, patterns}
+use Rattle.gs_triple_values.specs.Languages.{TypedLanguage}
+use Rattle.gs_triple_values.specs.Typed.{terms, patterns}
 use Rattle.gs_triple_parser.specs.Views.{scope_context, scope_numbers, triples_state, context_now, numbers_now}
 use Rattle.gs_update_text.specs.Requests.{UpdateOperation, Inserts, DeletesData, DeletesWhere, Rejection, Broken, OutOfProfile}
 use Rattle.gs_update_text.specs.Operations.{Scope, Block, is_old, some_patterns}

@@ -4,9 +4,8 @@ ghost use Rattle.std.specs.Prelude.{◌≡◌, ◌≤◌, ◌++◌, [], true, fa
 use crate::rejections::Rejection;
 use gs_lex::TokenKind;
 use gs_model::{Fault, MAX_PATTERNS};
-use gs_triple_parser::{
-    Allowed, Language, Patterns, Scope, Symbol, TermToken, Terms, TripleParser, Turn,
-};
+use gs_triple_parser::{Scope, TripleParser, Turn};
+use gs_triple_values::{Allowed, Language, Patterns, Symbol, TermToken, Terms};
 use std::alloc::{AllocError, Global};
 
 /// What a symbol does in a block: it is taken, it closes the block with this end, or it is the
@@ -35,7 +34,8 @@ pub struct Block<L: Language> {
 impl<L: Language> Block<L> {
     ghost use Rattle.gs_triples.specs.Languages.{of_terms};
     ghost use Rattle.gs_triples.specs.Meanings.{in_language};
-    ghost use Rattle.gs_triple_parser.specs.Views.{symbol_at, scope_context, scope_numbers, triples_state, context_now, numbers_now};
+    ghost use Rattle.gs_triple_values.specs.Views.{symbol_at};
+    ghost use Rattle.gs_triple_parser.specs.Views.{scope_context, scope_numbers, triples_state, context_now, numbers_now};
     ghost use Rattle.gs_update.specs.Views.{rejection_at, HasGiven, bars_since, more_than};
     ghost use Rattle.gs_update.specs.Steps.{triples_now, entered_turn, parted_turn, followed_turn, opening_turn, moved_turn, block_turn, end_turn};
     ghost use Rattle.gs_update.specs.Steps.{Making, Turned, TurnsTo, GoesOn, StaysIf, KeepsBounds, all_triples};

@@ -7,7 +7,8 @@ use crate::places::{Form, Place};
 use crate::prologues::broken;
 use crate::rejections::Rejection;
 use gs_lex::TokenKind;
-use gs_triple_parser::{Scope, Symbol};
+use gs_triple_parser::Scope;
+use gs_triple_values::Symbol;
 use std::alloc::Global;
 
 /// After INSERT; templates are not served.

@@ -9,7 +9,8 @@ use crate::prologues::{base, between, prefix, prefix_iri};
 use crate::rejections::Rejection;
 use gs_event::Op;
 use gs_model::Fault;
-use gs_triple_parser::{Patterns, Scope, Symbol, Terms};
+use gs_triple_parser::Scope;
+use gs_triple_values::{Patterns, Symbol, Terms};
 use std::alloc::{AllocError, Global};
 use std::mem;
 
@@ -26,7 +27,8 @@ pub struct UpdateParser {
 
 impl UpdateParser {
     ghost use Rattle.gs_blank.specs.Numbers.{no_numbers};
-    ghost use Rattle.gs_triple_parser.specs.Views.{symbol_at, numbers_now};
+    ghost use Rattle.gs_triple_values.specs.Views.{symbol_at};
+    ghost use Rattle.gs_triple_parser.specs.Views.{numbers_now};
     ghost use Rattle.gs_update_text.specs.Grammar.{first_scope};
     ghost use Rattle.gs_update_text.specs.States.{Between, Rejected, quiet};
     ghost use Rattle.gs_update_text.specs.Machine as machine;

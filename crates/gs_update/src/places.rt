@@ -1,7 +1,8 @@
 //! Where a parser of updates stands.
 use crate::blocks::Block;
 use crate::rejections::Rejection;
-use gs_triple_parser::{Patterns, Scope, Terms};
+use gs_triple_parser::Scope;
+use gs_triple_values::{Patterns, Terms};
 
 /// The forms of operations that are served.
 #[derive(Clone, Copy)]

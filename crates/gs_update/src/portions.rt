@@ -11,7 +11,7 @@ use crate::parser::UpdateParser;
 use crate::rejections::Rejection;
 use gs_lex::Token;
 use gs_model::{Fault, Refusal};
-use gs_triple_parser::symbol_of_token;
+use gs_triple_values::symbol_of_token;
 use std::alloc::AllocError;
 
 /// Token by token.

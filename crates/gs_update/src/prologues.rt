@@ -10,7 +10,8 @@ use crate::places::Place;
 use crate::rejections::Rejection;
 use gs_lex::TokenKind;
 use gs_model::Fault;
-use gs_triple_parser::{Scope, Symbol, TermToken};
+use gs_triple_parser::Scope;
+use gs_triple_values::{Symbol, TermToken};
 use std::alloc::{AllocError, Global};
 
 /// The text breaks the grammar here.

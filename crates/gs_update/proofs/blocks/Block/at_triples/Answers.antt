@@ -1,5 +1,5 @@
 use Rattle.std.proofs.Common.{refl, sym, subst}
-use Rattle.gs_triple_parser.specs.Views.{symbol_at}
+use Rattle.gs_triple_values.specs.Views.{symbol_at}
 use Rattle.gs_update.specs.Steps.{Turned, opening_turn}
 use Rattle.gs_update.proofs.BlockLemmas.{nothing_stays, entered_stays, opened_keeps}
 use Rattle.gs_update.proofs.TurnLemmas.{entered_opening}

@@ -1,7 +1,8 @@
 use Rattle.std.proofs.Common.{◌≡◌, refl, subst}
 use Rattle.std.proofs.lemmas.Result.{IfOk-weaker}
 use Rattle.gs_triples.specs.Machine as machine
-use Rattle.gs_triple_parser.specs.Views.{symbol_at, triples_state, triples_turn, pending_triples}
+use Rattle.gs_triple_values.specs.Views.{symbol_at}
+use Rattle.gs_triple_parser.specs.Views.{triples_state, triples_turn, pending_triples}
 use Rattle.gs_update.specs.Steps.{Turned, StaysUnless, opening_turn, followed_turn, moved_turn}
 use Rattle.gs_update.proofs.BlockLemmas.{entered_stays, followed_stays, taken_keeps, over_keeps}
 use Rattle.gs_update.proofs.TurnLemmas.{opening_moved, taken_moved, over_moved}

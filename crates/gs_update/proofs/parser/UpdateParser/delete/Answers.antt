@@ -2,7 +2,7 @@ use Rattle.std.proofs.Common.{List, ap, subst}
 use Rattle.std.specs.Prelude.{Some}
 use Rattle.std.proofs.lemmas.Result.{on_ok_weaker}
 use Rattle.gs_model.specs.Triples.{RdfTriple}
-use Rattle.gs_triple_parser.specs.Typed.{terms}
+use Rattle.gs_triple_values.specs.Typed.{terms}
 use Rattle.gs_update_text.specs.Requests.{DeletesData}
 use Rattle.gs_update_text.specs.States.{InData}
 use Rattle.gs_update_text.specs.Machine.{step}

@@ -1,7 +1,7 @@
 use Rattle.std.proofs.Common.{ℕ, sym, ap, subst, ◌∙◌}
 use Rattle.std.specs.Prelude.{◌==◌}
 use Rattle.std.proofs.lemmas.Result.{on_ok_weaker}
-use Rattle.gs_triple_parser.specs.Typed.{patterns}
+use Rattle.gs_triple_values.specs.Typed.{patterns}
 use Rattle.gs_update_text.specs.Requests.{DeletesWhere}
 use Rattle.gs_update_text.specs.Operations.{some_patterns}
 use Rattle.gs_update_text.specs.States.{InWhere}
