@@ -2,15 +2,13 @@
 ghost use Rattle.std.specs.Prelude.{◌≡◌, ◌≢◌, true, option_map, OnOk, IfOk, IfSome, IfNone};
 ghost use Rattle.gs_model.specs.Iris.{is_absolute};
 
-use crate::blocks::{Block, BlockTurn};
-use crate::operations::{after, after_delete, after_insert, at_brace};
-use crate::places::Place;
-use crate::prologues::{base, between, prefix, prefix_iri};
-use crate::rejections::Rejection;
 use gs_event::Op;
 use gs_model::Fault;
 use gs_triple_parser::Scope;
 use gs_triple_values::{Patterns, Symbol, Terms};
+use gs_update_places::operations::{after, after_delete, after_insert, at_brace};
+use gs_update_places::prologues::{base, between, prefix, prefix_iri};
+use gs_update_places::{Block, BlockTurn, Place, Rejection};
 use std::alloc::{AllocError, Global};
 use std::mem;
 
@@ -32,9 +30,11 @@ impl UpdateParser {
     ghost use Rattle.gs_update_text.specs.Grammar.{first_scope};
     ghost use Rattle.gs_update_text.specs.States.{Between, Rejected, quiet};
     ghost use Rattle.gs_update_text.specs.Machine as machine;
-    ghost use Rattle.gs_update.specs.declared.rejections.Rejection.{Rejection as Code};
-    ghost use Rattle.gs_update.specs.Views.{HasGiven, IsSound, rejection_at, state_at, state_of, operation_of};
-    ghost use Rattle.gs_update.specs.Steps.{Starts, Moves, Ends, concluded, turn_at_place};
+    ghost use Rattle.gs_update_places.specs.declared.rejections.Rejection.{Rejection as Code};
+    ghost use Rattle.gs_update_places.specs.Views.{HasGiven, IsSound, rejection_at, state_at};
+    ghost use Rattle.gs_update.specs.Views.{state_of, operation_of};
+    ghost use Rattle.gs_update_places.specs.Steps.{turn_at_place};
+    ghost use Rattle.gs_update.specs.Steps.{Starts, Moves, Ends, concluded};
 
     /// At the start of an update under an absolute base, in the request of this number.
     pub fn new(alloc: Global, base: &str, request: u64) -> Result<UpdateParser, AllocError>

@@ -3,7 +3,7 @@ ghost use Rattle.std.specs.Prelude.{◌≡◌, [], true, OnOk, IfOk, IfErr};
 ghost use Rattle.gs_model.specs.Iris.{is_absolute};
 ghost use Rattle.gs_update_text.specs.Texts.{request_by};
 ghost use Rattle.gs_update.specs.Answers.{Answers};
-ghost use Rattle.gs_update.specs.Views.{IsSound};
+ghost use Rattle.gs_update_places.specs.Views.{IsSound};
 
 use crate::parser::UpdateParser;
 use crate::portions::{break_off, conclude, go_on};

@@ -6,7 +6,8 @@ use Rattle.gs_triple_values.specs.Typed.{terms}
 use Rattle.gs_update_text.specs.Requests.{Inserts}
 use Rattle.gs_update_text.specs.States.{InData}
 use Rattle.gs_update_text.specs.Machine.{step}
-use Rattle.gs_update.specs.Steps.{Turned, block_turn, StaysUnless, Moves}
+use Rattle.gs_update_places.specs.Steps.{Turned, block_turn, StaysUnless}
+use Rattle.gs_update.specs.Steps.{Moves}
 use Rattle.gs_update.proofs.PlaceLemmas.{takes_in, stops_in, shuts_in}
 use Rattle.gs_update.proofs.parser.UpdateParser.insert.Goals as goal
 

@@ -1,5 +1,5 @@
 use Rattle.std.proofs.lemmas.Result.{on_ok_weaker}
-use Rattle.gs_update.specs.declared.places.Place.TheVariants as place
+use Rattle.gs_update_places.specs.declared.places.Place.TheVariants as place
 use Rattle.gs_update.proofs.PlaceLemmas.{stands_on, hands_on, stays_rejected}
 use Rattle.gs_update.proofs.parser.UpdateParser.step.Goals as goal
 

@@ -1,6 +1,6 @@
 use Rattle.std.proofs.Common.{refl}
-use Rattle.gs_update.proofs.PlaceLemmas.{seeking_starts}
-use Rattle.gs_update.proofs.blocks.seeking.Goals as goal
+use Rattle.gs_update_places.proofs.StartLemmas.{seeking_starts}
+use Rattle.gs_update_places.proofs.blocks.seeking.Goals as goal
 
 pub returns : goal.returns
 returns c = seeking_starts c.args.scope _ (record {

@@ -3,10 +3,10 @@ use Rattle.std.proofs.lemmas.Result.{IfOk-weaker}
 use Rattle.gs_triples.specs.Machine as machine
 use Rattle.gs_triple_values.specs.Views.{symbol_at}
 use Rattle.gs_triple_parser.specs.Views.{triples_state, triples_turn, pending_triples}
-use Rattle.gs_update.specs.Steps.{Turned, StaysUnless, opening_turn, followed_turn, moved_turn}
-use Rattle.gs_update.proofs.BlockLemmas.{entered_stays, followed_stays, taken_keeps, over_keeps}
-use Rattle.gs_update.proofs.TurnLemmas.{opening_moved, taken_moved, over_moved}
-use Rattle.gs_update.proofs.blocks.Block.moved.Goals as goal
+use Rattle.gs_update_places.specs.Steps.{Turned, StaysUnless, opening_turn, followed_turn, moved_turn}
+use Rattle.gs_update_places.proofs.BlockLemmas.{entered_stays, followed_stays, taken_keeps, over_keeps}
+use Rattle.gs_update_places.proofs.TurnLemmas.{opening_moved, taken_moved, over_moved}
+use Rattle.gs_update_places.proofs.blocks.Block.moved.Goals as goal
 
 pub returns-then-not-self-clause-turn : goal.returns-then-not-self-clause-turn
 returns-then-not-self-clause-turn g c =

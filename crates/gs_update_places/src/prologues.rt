@@ -4,7 +4,7 @@ ghost use Rattle.gs_triple_parser.specs.Views.{scope_context, scope_numbers};
 ghost use Rattle.gs_update_text.specs.States.{quiet};
 ghost use Rattle.gs_update_text.specs.Machine as machine;
 ghost use Rattle.gs_update_text.specs.Machine.{syntax_fault};
-ghost use Rattle.gs_update.specs.Steps.{LeadsTo, turn_at_place};
+ghost use Rattle.gs_update_places.specs.Steps.{LeadsTo, turn_at_place};
 
 use crate::places::Place;
 use crate::rejections::Rejection;
@@ -15,7 +15,7 @@ use gs_triple_values::{Symbol, TermToken};
 use std::alloc::{AllocError, Global};
 
 /// The text breaks the grammar here.
-pub fn broken() -> Place
+pub(crate) fn broken() -> Place
     ensures { LeadsTo result (quiet syntax_fault) }
 {
     Place::Rejected(Rejection::Broken(Fault::Syntax))

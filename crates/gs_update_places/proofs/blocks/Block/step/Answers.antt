@@ -1,8 +1,8 @@
 use Rattle.std.proofs.Common.{sym, subst, ◌∙◌}
 use Rattle.std.proofs.lemmas.Result.{IfOk-weaker}
-use Rattle.gs_update.specs.Steps.{Turned, moved_turn, block_turn}
-use Rattle.gs_update.proofs.TurnLemmas.{free_step, stopped_step, barred_step}
-use Rattle.gs_update.proofs.blocks.Block.step.Goals as goal
+use Rattle.gs_update_places.specs.Steps.{Turned, moved_turn, block_turn}
+use Rattle.gs_update_places.proofs.TurnLemmas.{free_step, stopped_step, barred_step}
+use Rattle.gs_update_places.proofs.blocks.Block.step.Goals as goal
 
 pub returns-then-not-bars-clause-turn : goal.returns-then-not-bars-clause-turn
 returns-then-not-bars-clause-turn g c =

@@ -1,8 +1,8 @@
 use Rattle.std.proofs.Common.{refl, ap, ◌∙◌}
 use Rattle.std.specs.Prelude.{Some}
 use Rattle.gs_blank.specs.Numbers.{Numbers}
-use Rattle.gs_update.proofs.PlaceLemmas.{inserting_starts}
-use Rattle.gs_update.proofs.blocks.inserting.Goals as goal
+use Rattle.gs_update_places.proofs.StartLemmas.{inserting_starts}
+use Rattle.gs_update_places.proofs.blocks.inserting.Goals as goal
 
 pub returns : goal.returns
 returns c = inserting_starts c.args.scope _ (record {

@@ -36,9 +36,9 @@ impl<L: Language> Block<L> {
     ghost use Rattle.gs_triples.specs.Meanings.{in_language};
     ghost use Rattle.gs_triple_values.specs.Views.{symbol_at};
     ghost use Rattle.gs_triple_parser.specs.Views.{scope_context, scope_numbers, triples_state, context_now, numbers_now};
-    ghost use Rattle.gs_update.specs.Views.{rejection_at, HasGiven, bars_since, more_than};
-    ghost use Rattle.gs_update.specs.Steps.{triples_now, entered_turn, parted_turn, followed_turn, opening_turn, moved_turn, block_turn, end_turn};
-    ghost use Rattle.gs_update.specs.Steps.{Making, Turned, TurnsTo, GoesOn, StaysIf, KeepsBounds, all_triples};
+    ghost use Rattle.gs_update_places.specs.Views.{rejection_at, HasGiven, bars_since, more_than};
+    ghost use Rattle.gs_update_places.specs.Steps.{triples_now, entered_turn, parted_turn, followed_turn, opening_turn, moved_turn, block_turn, end_turn};
+    ghost use Rattle.gs_update_places.specs.Steps.{Making, Turned, TurnsTo, GoesOn, StaysIf, KeepsBounds, all_triples};
 
     /// Whether the triples are too many, with those that are being read.
     fn has_too_many(&self) -> bool
@@ -229,11 +229,11 @@ impl<L: Language> Block<L> {
 }
 
 ghost use Rattle.gs_update_text.specs.States.{InsertData, DeleteData, DeleteWhere};
-ghost use Rattle.gs_update.specs.declared.places.Place.TheVariants as place;
-ghost use Rattle.gs_update.specs.Steps.{LeadsTo, start_of};
+ghost use Rattle.gs_update_places.specs.declared.places.Place.TheVariants as place;
+ghost use Rattle.gs_update_places.specs.Steps.{LeadsTo, start_of};
 
 /// INSERT DATA: no label that an earlier operation has.
-pub fn inserting(alloc: Global, scope: Scope) -> Block<Terms>
+pub(crate) fn inserting(alloc: Global, scope: Scope) -> Block<Terms>
     ensures { LeadsTo (place.Inserting result) (start_of InsertData scope) }
 {
     let allowed = Allowed {
@@ -252,7 +252,7 @@ pub fn inserting(alloc: Global, scope: Scope) -> Block<Terms>
 }
 
 /// DELETE DATA: no blank nodes.
-pub fn deleting(alloc: Global, scope: Scope) -> Block<Terms>
+pub(crate) fn deleting(alloc: Global, scope: Scope) -> Block<Terms>
     ensures { LeadsTo (place.Deleting result) (start_of DeleteData scope) }
 {
     let allowed = Allowed {
@@ -269,7 +269,7 @@ pub fn deleting(alloc: Global, scope: Scope) -> Block<Terms>
 }
 
 /// DELETE WHERE: no blank nodes, and not too many patterns.
-pub fn seeking(alloc: Global, scope: Scope) -> Block<Patterns>
+pub(crate) fn seeking(alloc: Global, scope: Scope) -> Block<Patterns>
     ensures { LeadsTo (place.Seeking result) (start_of DeleteWhere scope) }
 {
     let allowed = Allowed {

@@ -3,8 +3,8 @@ use Rattle.gs_triples.specs.Symbols.{Foreign}
 use Rattle.gs_lex.specs.declared.kinds.TokenKind.TheVariants as kind
 use Rattle.gs_triples.specs.Machine as machine
 use Rattle.gs_triple_parser.specs.Views.{triples_state, triples_turn, context_now, numbers_now, pending_triples}
-use Rattle.gs_update.proofs.TurnLemmas.{end_between, end_unfinished, end_lost, end_over}
-use Rattle.gs_update.proofs.blocks.Block.end.Goals as goal
+use Rattle.gs_update_places.proofs.TurnLemmas.{end_between, end_unfinished, end_lost, end_over}
+use Rattle.gs_update_places.proofs.blocks.Block.end.Goals as goal
 
 pub returns-then-not-self : goal.returns-then-not-self
 returns-then-not-self g c = λ made. end_between g.L.Language.language c.args.self.now made c.if-not-self.true

@@ -1,9 +1,9 @@
 use Rattle.std.proofs.Common.{refl, sym, subst}
 use Rattle.gs_triple_values.specs.Views.{symbol_at}
-use Rattle.gs_update.specs.Steps.{Turned, opening_turn}
-use Rattle.gs_update.proofs.BlockLemmas.{nothing_stays, entered_stays, opened_keeps}
-use Rattle.gs_update.proofs.TurnLemmas.{entered_opening}
-use Rattle.gs_update.proofs.blocks.Block.at_triples.Goals as goal
+use Rattle.gs_update_places.specs.Steps.{Turned, opening_turn}
+use Rattle.gs_update_places.proofs.BlockLemmas.{nothing_stays, entered_stays, opened_keeps}
+use Rattle.gs_update_places.proofs.TurnLemmas.{entered_opening}
+use Rattle.gs_update_places.proofs.blocks.Block.at_triples.Goals as goal
 
 pub returns-in-Foreign-clause-turn : goal.returns-in-Foreign-clause-turn
 returns-in-Foreign-clause-turn g c =

@@ -19,13 +19,13 @@ use Rattle.gs_triple_values.specs.declared.symbols.Symbol.TheVariants as symbol
 use Rattle.gs_update_text.specs.Requests.{Inserts, Rejection, Broken, OutOfProfile}
 use Rattle.gs_update_text.specs.Operations.{Block}
 use Rattle.gs_update_text.specs.Blocks as blocks
-use Rattle.gs_update.specs.Views.{block_state, rules_of, more_than, bars_since}
-use Rattle.gs_update.specs.Steps.{Making, Turned, entered_turn, followed_turn, opening_turn, moved_turn, block_turn, end_turn}
-use Rattle.gs_update.specs.declared.blocks.Block.{Block as CodeBlock}
-use Rattle.gs_update.specs.declared.blocks.BlockTurn.{BlockTurn as CodeTurn}
-use Rattle.gs_update.specs.declared.blocks.BlockTurn.TheVariants as turn
-use Rattle.gs_update.specs.declared.rejections.Rejection.{Rejection as CodeRejection}
-use Rattle.gs_update.specs.declared.rejections.Rejection.TheVariants as rejection
+use Rattle.gs_update_places.specs.Views.{block_state, rules_of, more_than, bars_since}
+use Rattle.gs_update_places.specs.Steps.{Making, Turned, entered_turn, followed_turn, opening_turn, moved_turn, block_turn, end_turn}
+use Rattle.gs_update_places.specs.declared.blocks.Block.{Block as CodeBlock}
+use Rattle.gs_update_places.specs.declared.blocks.BlockTurn.{BlockTurn as CodeTurn}
+use Rattle.gs_update_places.specs.declared.blocks.BlockTurn.TheVariants as turn
+use Rattle.gs_update_places.specs.declared.rejections.Rejection.{Rejection as CodeRejection}
+use Rattle.gs_update_places.specs.declared.rejections.Rejection.TheVariants as rejection
 
 module _ {Value Triple : Type 0} where
   -- rules that count alike

@@ -1,6 +1,6 @@
 //! The words of an operation, its opening brace, and what follows it.
-ghost use Rattle.gs_update.specs.Views.{form_at};
-ghost use Rattle.gs_update.specs.Steps.{LeadsTo, start_of, turn_at_place};
+ghost use Rattle.gs_update_places.specs.Views.{form_at};
+ghost use Rattle.gs_update_places.specs.Steps.{LeadsTo, start_of, turn_at_place};
 
 use crate::blocks::{deleting, inserting, seeking};
 use crate::places::{Form, Place};

@@ -1,6 +1,6 @@
 use Rattle.std.proofs.Common.{refl}
-use Rattle.gs_update.proofs.PlaceLemmas.{deleting_starts}
-use Rattle.gs_update.proofs.blocks.deleting.Goals as goal
+use Rattle.gs_update_places.proofs.StartLemmas.{deleting_starts}
+use Rattle.gs_update_places.proofs.blocks.deleting.Goals as goal
 
 pub returns : goal.returns
 returns c = deleting_starts c.args.scope _ (record {

@@ -17,12 +17,11 @@ use Rattle.gs_triple_parser.specs.declared.places.Place.TheVariants as place
 use Rattle.gs_update_text.specs.Operations.{is_old}
 use Rattle.gs_update_text.proofs.GrowthLemmas.{NotLost}
 use Rattle.gs_update_text.proofs.NumberLemmas.{Keeps, keeps_all, Kept, KeptBy, Stays, stays_one, stays_label, step_stays, opening_stays}
-use Rattle.gs_update.specs.Views.{HasGiven, bars_since, more_than}
-use Rattle.gs_update.specs.Steps as steps
-use Rattle.gs_update.specs.Steps.{Making}
-use Rattle.gs_update.specs.declared.blocks.Block.{Block as CodeBlock}
-use Rattle.gs_update.specs.declared.blocks.BlockTurn.{BlockTurn as CodeTurn}
-use Rattle.gs_update.specs.declared.blocks.BlockTurn.TheVariants as turn
+use Rattle.gs_update_places.specs.Views.{HasGiven, bars_since, more_than}
+use Rattle.gs_update_places.specs.Steps as steps
+use Rattle.gs_update_places.specs.declared.blocks.Block.{Block as CodeBlock}
+use Rattle.gs_update_places.specs.declared.blocks.BlockTurn.{BlockTurn as CodeTurn}
+use Rattle.gs_update_places.specs.declared.blocks.BlockTurn.TheVariants as turn
 
 module _ {Value Triple : Type 0} where
   -- a state that is not lost
