@@ -1,5 +1,5 @@
 //! The parser.
-ghost use Rattle.std.specs.Prelude.{◌≡◌, ◌≢◌, true, option_map, OnOk, IfOk, IfSome, IfNone};
+ghost use Rattle.std.specs.Prelude.{◌≡◌, ◌≢◌, ◌++◌, ◌∷◌, [], true, option_map, OnOk, IfOk, IfSome, IfNone};
 ghost use Rattle.gs_model.specs.Iris.{is_absolute};
 
 use gs_event::Op;
@@ -58,14 +58,23 @@ impl UpdateParser {
         Ok(())
     }
 
+    /// One operation more, which ends there.
+    fn add(&mut self, operation: Op, end: u64) -> Result<(), AllocError>
+        ensures operations { OnOk result (self.new.operations.items
+            ≡ self.old.operations.items ++ operation ∷ []) }
+        ensures last { OnOk result (self.new.last ≡ end) }
+    {
+        self.operations.push(operation)?;
+        self.last = end;
+        Ok(())
+    }
+
     /// An operation ends there.
     fn conclude(&mut self, scope: Scope, operation: Op, end: u64) -> Result<(), AllocError>
         ensures { OnOk result (Moves self.old self.new (concluded scope (operation_of operation) end)) }
     {
-        self.operations.push(operation)?;
-        self.last = end;
-        self.place = Place::After(scope);
-        Ok(())
+        self.add(operation, end)?;
+        self.stand(Place::After(scope))
     }
 
     /// A symbol in the block of INSERT DATA.
