@@ -1,12 +1,13 @@
 -- The turns of a parser of updates, from those of the block that it is in.
-use Rattle.std.proofs.Common.{◌≡◌, ℕ, true, false, List, [], ◌∷◌, length, refl, sym, ap, ◌∙◌, subst}
+use Rattle.std.proofs.Common.{◌++◌, append-nil, ◌≡◌, ℕ, true, false, List, [], ◌∷◌, length, refl, sym, ap, ◌∙◌, subst}
 use Rattle.std.specs.Prelude.{◌==◌, Some, None}
 use Rattle.std.proofs.lemmas.Bool.{false≢true}
 use Rattle.std.proofs.Math.Dec.{eqb-suc-zero}
+use Rattle.std.proofs.lemmas.List.{map-append}
+use Rattle.gs_event.specs.declared.updates.Op.{Op}
 use Rattle.gs_triples.specs.Languages.{of_terms}
 use Rattle.gs_triples.specs.Meanings.{in_language}
 use Rattle.gs_term.specs.declared.patterns.Pattern.{Pattern}
-use Rattle.gs_triple_values.specs.Typed.{patterns}
 use Rattle.gs_triple_values.specs.Languages.{TypedLanguage}
 use Rattle.gs_triple_parser.specs.Views.{scope_context, scope_numbers, numbers_now}
 use Rattle.gs_triple_parser.specs.declared.scopes.Scope.{Scope as CodeScope}
@@ -19,6 +20,7 @@ use Rattle.gs_update_text.specs.States.{State, Turn, After, Rejected, quiet}
 use Rattle.gs_update_text.specs.Machine.{blocked, step}
 use Rattle.gs_update_places.specs.Views.{rejection_at, block_state, rules_of, scope_of, state_at}
 use Rattle.gs_update_places.specs.Steps.{Making, Turned, block_turn, Stays, LeadsTo, turn_at_place}
+use Rattle.gs_update.specs.Views.{operation_of, operations_of}
 use Rattle.gs_update.specs.Steps.{concluded, Moves}
 use Rattle.gs_update_places.specs.declared.blocks.Block.{Block as CodeBlock}
 use Rattle.gs_update_places.specs.declared.blocks.BlockTurn.TheVariants as turn
@@ -32,6 +34,16 @@ pub moves_from : (p : UpdateParser) (z : Place) (q : UpdateParser) (t u : Turn) 
 moves_from p z q t u e h =
     let moved : Moves p q t = record { state = h.state; operations = h.operations; last = h.last; sound = h.sound } in
     subst (Moves p q) e moved
+
+-- an operation more, and then the place after it
+pub adds_on : (p a q : UpdateParser) (s : CodeScope) (o : Op) (e : ℕ) → a.operations.items ≡ p.operations.items ++ o ∷ [] → a.last ≡ e → Moves a q (quiet (state_at (place.After s)))
+    → Moves p q (concluded s (operation_of o) e)
+adds_on p a q s o e os l m = record {
+  state = m.state;
+  operations = m.operations ∙ append-nil (operations_of a.operations.items) ∙ ap operations_of os ∙ map-append operation_of p.operations.items (o ∷ []);
+  last = m.last ∙ l;
+  sound = m.sound;
+}
 
 -- the turn that leads from a place to another one
 pub stands_on : (p : UpdateParser) (z o : Place) (q : UpdateParser) (h : Place) (t : Symbol) → o ≡ p.place → LeadsTo h (turn_at_place o t) → Moves (record p { place = z }) q (quiet (state_at h))

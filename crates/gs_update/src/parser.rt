@@ -90,8 +90,7 @@ impl UpdateParser {
         ensures { OnOk result (Moves self.old self.new (concluded scope (operation_of operation) end)) }
     {
         self.add(operation, end)?;
-        self.place = Place::After(scope);
-        Ok(())
+        self.stand(Place::After(scope))
     }
 
     /// The block that the parser is in ends there: its operation is one more.
@@ -137,7 +136,8 @@ impl UpdateParser {
     /// A symbol outside a block.
     #[tactic(auto, unfolding(gs_update_text::specs::Machine::step))]
     fn pass(&mut self, symbol: Symbol) -> Result<(), AllocError>
-        ensures { IsPassage self.old.place → OnOk result (Moves self.old self.new
+        requires { IsPassage self.old.place }
+        ensures { OnOk result (Moves self.old self.new
             (machine.step (state_of self.old) (symbol_at symbol.entry))) }
     {
         let lost = Place::Rejected(Rejection::Broken(Fault::Syntax));
