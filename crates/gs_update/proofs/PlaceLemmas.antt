@@ -50,10 +50,6 @@ pub stands_on : (p : UpdateParser) (z o : Place) (q : UpdateParser) (h : Place) 
     → Moves p q (turn_at_place p.place t)
 stands_on p z o q h t e l m = moves_from p z q (quiet (state_at h)) (turn_at_place p.place t) (l.state ∙ ap (λ (x : Place). turn_at_place x t) e) m
 
--- a turn in a block
-pub hands_on : (p : UpdateParser) (z o : Place) (q : UpdateParser) (t : Symbol) → o ≡ p.place → Moves (record p { place = z }) q (turn_at_place o t) → Moves p q (turn_at_place p.place t)
-hands_on p z o q t e m = moves_from p z q (turn_at_place o t) (turn_at_place p.place t) (ap (λ (x : Place). turn_at_place x t) e) m
-
 -- nothing leads away from a departure
 pub stays_rejected : (r : CodeRejection) (t : Symbol) → LeadsTo (place.Rejected r) (turn_at_place (place.Rejected r) t)
 unfolding step

@@ -1,5 +1,5 @@
 -- The turns of a parser of updates whose block stays in its place.
-use Rattle.std.proofs.Common.{◌≡◌, ℕ, List, [], refl, sym, ap, ◌∙◌, subst, append-nil}
+use Rattle.std.proofs.Common.{◌≡◌, ◌≢◌, ℕ, List, refl, sym, ap, ◌∙◌, subst, append-nil}
 use Rattle.std.specs.Prelude.{Some, None}
 use Rattle.gs_model.specs.Terms.{Term}
 use Rattle.gs_model.specs.Triples.{RdfTriple}
@@ -20,6 +20,7 @@ use Rattle.gs_update_text.specs.Machine.{step}
 use Rattle.gs_update_places.specs.Views.{rejection_at, scope_of, state_at}
 use Rattle.gs_update_places.specs.Steps.{Stays, LeadsTo, turn_at_place}
 use Rattle.gs_update_places.specs.declared.blocks.Block.{Block as CodeBlock}
+use Rattle.gs_update_places.specs.declared.blocks.BlockTurn.{BlockTurn as CodeTurn}
 use Rattle.gs_update_places.specs.declared.blocks.BlockTurn.TheVariants as turn
 use Rattle.gs_update_places.specs.declared.rejections.Rejection.{Rejection as CodeRejection}
 use Rattle.gs_update_places.specs.declared.places.Place.{Place}
@@ -99,3 +100,11 @@ unfolding step
 shuts_none p q b t e is h m =
     let f : StepsFrom patterns place.Seeking p t (turn.Shuts e) b = subst (StepsBlock p t (turn.Shuts e)) (sym is) h in
     none_in patterns InWhere some_patterns f.block b t e f.turn m ∙ ap (λ (x : Place). turn_at_place x t) (sym f.was)
+
+-- a place that is in none
+pub in_no_block : {X : Type 0} (p q : Place) (t : Symbol) (u : CodeTurn) → ((b : CodeBlock Terms Subject Verb Term RdfTriple) → q ≢ place.Inserting b)
+    → ((b : CodeBlock Terms Subject Verb Term RdfTriple) → q ≢ place.Deleting b) → ((b : CodeBlock Patterns Part Part Part Pattern) → q ≢ place.Seeking b) → StepsBlock p t u q → X
+in_no_block p (place.Inserting b) t u i d s h = absurd (i b refl)
+in_no_block p (place.Deleting b) t u i d s h = absurd (d b refl)
+in_no_block p (place.Seeking b) t u i d s h = absurd (s b refl)
+in_no_block p q t u i d s h = absurd h

@@ -198,6 +198,7 @@ impl UpdateParser {
             _ => Ok(Some(Rejection::Broken(Fault::Syntax))),
         }
     }
+
     /// The operations.
     pub fn into_operations(self) -> Vec<Op>
         ensures { result ≡ self.operations }

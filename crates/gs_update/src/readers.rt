@@ -106,7 +106,8 @@ impl UpdateReader {
 }
 
 /// The operations of the text of an update, under an absolute base, in the request of this number.
-/// `gs_iri::is_absolute` tests a base. Linear in the length of the text.
+/// `gs_iri::is_absolute` tests a base. Linear in the length of the text, but that each relative
+/// reference also reads the base in force, and each prefixed name the IRI of its prefix.
 ///
 /// # Errors
 ///

@@ -9,20 +9,20 @@ returns-in-Between c =
     (stands_on c.args.self.now c.replace.new.dest (place.Between c.in-Between.scope) c.stand.new.self c.between.result c.args.symbol c.in-Between.ensures.value c.between.ensures)
     c.stand.ensures
 
-pub returns-in_ok-place-in-InPrefix : goal.returns-in_ok-place-in-InPrefix
-returns-in_ok-place-in-InPrefix c =
+pub returns-in-InPrefix : goal.returns-in-InPrefix
+returns-in-InPrefix c =
     on_ok_weaker c.stand-in-InPrefix.result
     (stands_on c.args.self.now c.replace.new.dest (place.InPrefix c.in-InPrefix.scope) c.stand-in-InPrefix.new.self c.in_ok-place-in-InPrefix.place c.args.symbol c.in-InPrefix.ensures.value c.in_ok-place-in-InPrefix.ensures)
     c.stand-in-InPrefix.ensures
 
-pub returns-in_ok-prefix_iri-in-InPrefixIri : goal.returns-in_ok-prefix_iri-in-InPrefixIri
-returns-in_ok-prefix_iri-in-InPrefixIri c =
+pub returns-in-InPrefixIri : goal.returns-in-InPrefixIri
+returns-in-InPrefixIri c =
     on_ok_weaker c.stand-in-InPrefixIri.result
     (stands_on c.args.self.now c.replace.new.dest (place.InPrefixIri c.in-InPrefixIri.scope c.in-InPrefixIri.text) c.stand-in-InPrefixIri.new.self c.in_ok-prefix_iri-in-InPrefixIri.field-0 c.args.symbol c.in-InPrefixIri.ensures.value c.in_ok-prefix_iri-in-InPrefixIri.ensures)
     c.stand-in-InPrefixIri.ensures
 
-pub returns-in_ok-base-in-InBase : goal.returns-in_ok-base-in-InBase
-returns-in_ok-base-in-InBase c =
+pub returns-in-InBase : goal.returns-in-InBase
+returns-in-InBase c =
     on_ok_weaker c.stand-in-InBase.result
     (stands_on c.args.self.now c.replace.new.dest (place.InBase c.in-InBase.scope) c.stand-in-InBase.new.self c.in_ok-base-in-InBase.field-0 c.args.symbol c.in-InBase.ensures.value c.in_ok-base-in-InBase.ensures)
     c.stand-in-InBase.ensures
