@@ -7,7 +7,8 @@ use crate::parser::Parser;
 use crate::places::Place;
 use gs_lex::Token;
 use gs_term::Triple;
-use gs_triple_parser::{Allowed, Scope, Symbol, TripleParser, Turn, symbol_of_token};
+use gs_triple_parser::{Scope, TripleParser, Turn};
+use gs_triple_values::{Allowed, Symbol, symbol_of_token};
 use std::alloc::{AllocError, Global};
 
 impl Parser {
