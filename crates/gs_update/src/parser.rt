@@ -16,6 +16,7 @@ use std::mem;
 
 /// What the block of a place makes of a symbol, where the place is in one. The block stays where it
 /// is, since it is large and most symbols stand in one.
+#[inline]
 fn step_block(place: &mut Place, symbol: Symbol) -> Result<Option<BlockTurn>, AllocError>
     requires { IsSound place.old }
     ensures { IfOk result (λ o. StepsBlockIf place.old symbol.entry o place.new) }
@@ -122,6 +123,7 @@ impl UpdateParser {
 
     /// After the turn of the block that the parser is in.
     #[tactic(auto, unfolding(gs_update_text::specs::Machine::step))]
+    #[inline]
     fn follow(&mut self, turn: BlockTurn) -> Result<(), AllocError>
         ensures { (from : Place) (t : ASymbol) → StepsBlock from t turn self.old.place
             → OnOk result (Moves self.old self.new (turn_at_place from t)) }
@@ -162,6 +164,7 @@ impl UpdateParser {
     }
 
     /// One symbol more. After a refusal the parser is of no more use.
+    #[inline]
     pub fn step(&mut self, symbol: Symbol) -> Result<(), AllocError>
         requires { IsSound self.old.place }
         ensures { OnOk result (Moves self.old self.new

@@ -41,6 +41,7 @@ impl<L: Language> Block<L> {
     ghost use Rattle.gs_update_places.specs.Steps.{Making, Turned, TurnsTo, GoesOn, StaysIf, KeepsBounds, all_triples};
 
     /// Whether the triples are too many, with those that are being read.
+    #[inline]
     fn has_too_many(&self) -> bool
         ensures { result ≡ more_than self.now.most (triples_now L.language self.now) }
     {
@@ -54,6 +55,7 @@ impl<L: Language> Block<L> {
     }
 
     /// After a symbol that triples took.
+    #[inline]
     fn entered(&mut self) -> BlockTurn
         ensures turn { Turned L.language self.new result (entered_turn L.language self.old) }
         ensures parser { self.new.parser ≡ self.old.parser }
@@ -143,6 +145,7 @@ impl<L: Language> Block<L> {
     }
 
     /// A symbol, where any may stand.
+    #[inline(always)]
     fn moved(&mut self, symbol: Symbol) -> Result<BlockTurn, AllocError>
         requires { HasGiven self.old.since (numbers_now self.old.parser) }
         ensures turn { TurnsTo L.language result self.new (moved_turn L.language self.old symbol.entry) }
@@ -158,6 +161,7 @@ impl<L: Language> Block<L> {
     }
 
     /// Whether a symbol is a label that may not stand.
+    #[inline]
     fn bars(&self, symbol: Symbol) -> bool
         ensures { result ≡ bars_since self.now.since (numbers_now self.now.parser) (symbol_at symbol.entry) }
     {
@@ -174,6 +178,7 @@ impl<L: Language> Block<L> {
     }
 
     /// One symbol more. After a refusal the block is of no more use.
+    #[inline]
     pub fn step(&mut self, symbol: Symbol) -> Result<BlockTurn, AllocError>
         requires { HasGiven self.old.since (numbers_now self.old.parser) }
         ensures turn { TurnsTo L.language result self.new (block_turn L.language self.old symbol.entry) }
