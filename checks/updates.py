@@ -2,6 +2,7 @@
 reader, on each text of the table ended after each of its bytes. Prints what does not agree, and ends with status 1 if
 anything is wrong. Its argument is the built program, or `try` for `rt try`; without one only the table is compared."""
 
+import hashlib
 import os
 import re
 import subprocess
@@ -13,8 +14,12 @@ import update_oracle
 HERE = os.path.dirname(os.path.abspath(__file__))
 CRATE = os.path.join(HERE, "..", "crates", "gs_update_examples")
 FORMS = ("insert", "delete", "where")
-# longer texts are ended only near their ends and where the reader begins a portion, and not at all under `rt try`
-SHORT = 400
+# longer texts are ended near both ends, where the reader begins a portion, and at so many places between; under `rt try`
+# those that are longer than the second number are not ended at all
+SHORT = 9_000
+TRIED = 400
+NEAR = 12
+BETWEEN = 40
 PORTION = 4_096
 CASES_A_RUN = 600
 
@@ -106,7 +111,9 @@ def ends(data):
     if len(data) <= SHORT:
         return range(len(data))
     near = {at + more for at in (PORTION, 2 * PORTION) for more in (-1, 0, 1)}
-    return sorted(it for it in {*range(len(data) - 12, len(data)), *near} if it < len(data))
+    near |= {*range(5 * NEAR), *range(len(data) - NEAR, len(data))}
+    near |= {len(data) * place // BETWEEN for place in range(BETWEEN)}
+    return sorted(it for it in near if it < len(data))
 
 
 def batches(table):
@@ -115,10 +122,11 @@ def batches(table):
     for _, base, data, _ in table:
         for length in [*ends(data), len(data)]:
             piece = data[:length]
-            if (base, piece) in known:
-                continue
             if length <= SHORT:
-                known.add((base, piece))
+                key = hashlib.sha256(base.encode("utf-8") + b"\0" + piece).digest()
+                if key in known:
+                    continue
+                known.add(key)
             batch.append(lines_of(f"{count}", base, piece, update_oracle.read(piece, base)))
             count += 1
             if len(batch) >= CASES_A_RUN or length > SHORT:
@@ -153,7 +161,7 @@ def outputs_of_try(inputs):
 
 def compare_cuts(program, table):
     """Ends each text at each place, and compares the program with the plain reader."""
-    is_short = lambda case: program != "try" or len(case[2]) <= SHORT
+    is_short = lambda case: program != "try" or len(case[2]) <= TRIED
     parts = list(batches(filter(is_short, table)))
     inputs = [written(it) for it in parts]
     outputs = outputs_of_try(inputs) if program == "try" else outputs_of(os.path.abspath(program), inputs)

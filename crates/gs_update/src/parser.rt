@@ -16,7 +16,7 @@ use std::mem;
 
 /// What the block of a place makes of a symbol, where the place is in one. The block stays where it
 /// is, since it is large and most symbols stand in one.
-#[inline]
+#[inline(always)]
 fn step_block(place: &mut Place, symbol: Symbol) -> Result<Option<BlockTurn>, AllocError>
     requires { IsSound place.old }
     ensures { IfOk result (λ o. StepsBlockIf place.old symbol.entry o place.new) }
@@ -123,7 +123,7 @@ impl UpdateParser {
 
     /// After the turn of the block that the parser is in.
     #[tactic(auto, unfolding(gs_update_text::specs::Machine::step))]
-    #[inline]
+    #[inline(always)]
     fn follow(&mut self, turn: BlockTurn) -> Result<(), AllocError>
         ensures { (from : Place) (t : ASymbol) → StepsBlock from t turn self.old.place
             → OnOk result (Moves self.old self.new (turn_at_place from t)) }
@@ -164,7 +164,7 @@ impl UpdateParser {
     }
 
     /// One symbol more. After a refusal the parser is of no more use.
-    #[inline]
+    #[inline(always)]
     pub fn step(&mut self, symbol: Symbol) -> Result<(), AllocError>
         requires { IsSound self.old.place }
         ensures { OnOk result (Moves self.old self.new

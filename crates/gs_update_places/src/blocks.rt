@@ -178,7 +178,7 @@ impl<L: Language> Block<L> {
     }
 
     /// One symbol more. After a refusal the block is of no more use.
-    #[inline]
+    #[inline(always)]
     pub fn step(&mut self, symbol: Symbol) -> Result<BlockTurn, AllocError>
         requires { HasGiven self.old.since (numbers_now self.old.parser) }
         ensures turn { TurnsTo L.language result self.new (block_turn L.language self.old symbol.entry) }
