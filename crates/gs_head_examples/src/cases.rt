@@ -1,0 +1,47 @@
+//! A case: a head, and what it asks for.
+use std::alloc::{AllocError, Global};
+
+/// A head under a name, and what it asks for, once all its lines were taken.
+#[derive(Drop)]
+pub struct Case<'a> {
+    pub name: &'a str,
+    pub head: String,
+    pub wanted: Option<&'a str>,
+}
+
+impl<'a> Case<'a> {
+    /// A case without a line.
+    pub fn new(alloc: Global) -> Case<'a> {
+        Case {
+            name: "",
+            head: String::new(alloc),
+            wanted: None,
+        }
+    }
+
+    /// A line of the head, with its end. The first line names the case, unless it has a name.
+    fn add(&mut self, line: &'a str, end: &str) -> Result<(), AllocError> {
+        if self.name.is_empty() {
+            self.name = line;
+        }
+        self.head.push_str(line)?;
+        self.head.push_str(end)?;
+        Ok(())
+    }
+
+    /// The next line of the input, without its line feed.
+    pub fn take(&mut self, line: &'a str) -> Result<(), AllocError> {
+        if let Some(name) = line.strip_prefix("= ") {
+            self.name = name;
+        } else if let Some(text) = line.strip_prefix("|") {
+            self.add(text, "\r\n")?;
+        } else if let Some(text) = line.strip_prefix("\\") {
+            self.add(text, "\n")?;
+        } else if let Some(text) = line.strip_prefix("+") {
+            self.add(text, "")?;
+        } else if let Some(wanted) = line.strip_prefix("> ") {
+            self.wanted = Some(wanted);
+        }
+        Ok(())
+    }
+}
