@@ -1,11 +1,13 @@
-//! A case: a head, and what it asks for.
+//! A case: a head, and what it asks for, or the size line of a chunk, and its size.
 use std::alloc::{AllocError, Global};
 
-/// A head under a name, and what it asks for, once all its lines were taken.
+/// A head or a size line under a name, and what is said of it, once all its lines were taken.
 #[derive(Drop)]
 pub struct Case<'a> {
     pub name: &'a str,
     pub head: String,
+    /// The bytes are a size line, and no head.
+    pub is_size_line: bool,
     pub wanted: Option<&'a str>,
 }
 
@@ -15,6 +17,7 @@ impl<'a> Case<'a> {
         Case {
             name: "",
             head: String::new(alloc),
+            is_size_line: false,
             wanted: None,
         }
     }
@@ -39,6 +42,8 @@ impl<'a> Case<'a> {
             self.add(text, "\n")?;
         } else if let Some(text) = line.strip_prefix("+") {
             self.add(text, "")?;
+        } else if line == "~" {
+            self.is_size_line = true;
         } else if let Some(wanted) = line.strip_prefix("> ") {
             self.wanted = Some(wanted);
         }

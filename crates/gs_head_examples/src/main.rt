@@ -1,12 +1,13 @@
-//! Reads heads of requests from standard input, with what each asks for, and prints of which it is
-//! not so, and how many there were.
+//! Reads heads of requests and size lines of chunks from standard input, with what is said of each,
+//! and prints of which it is not so, and how many there were.
 #![tactic(auto)]
 
 mod cases;
 mod texts;
 
 use crate::cases::Case;
-use crate::texts::text_of;
+use crate::texts::{size_text, text_of};
+use gs_http::read_chunk_size;
 use gs_names::Places;
 use gs_verdict::read_verdict;
 use std::alloc::{AllocError, Global};
@@ -26,24 +27,33 @@ fn told(alloc: Global, places: &Places, head: &[u8]) -> Result<String, AllocErro
     text_of(alloc, &verdict)
 }
 
+/// What is said of a case, as text.
+fn said(alloc: Global, places: &Places, case: &Case<'_>) -> Result<String, AllocError> {
+    let bytes = case.head.as_bytes();
+    if case.is_size_line {
+        return size_text(alloc, read_chunk_size(bytes));
+    }
+    told(alloc, places, bytes)
+}
+
 /// Checks each case of the input.
 fn check_all<W: Write>(alloc: Global, input: &str, out: &mut W) -> io::Result<()> {
     let places = Places::new(alloc)?;
     let mut case = Case::new(alloc);
-    let mut heads = 0u64;
+    let mut cases = 0u64;
     for line in input.split('\n') {
         case.take(line)?;
         let Some(wanted) = case.wanted else {
             continue;
         };
-        let is = told(alloc, &places, case.head.as_bytes())?;
+        let is = said(alloc, &places, &case)?;
         if is.as_str() != wanted {
             writeln!(out, "{}: {is}", case.name)?;
         }
-        heads = heads.saturating_add(1);
+        cases = cases.saturating_add(1);
         case = Case::new(alloc);
     }
-    writeln!(out, "{heads} heads")
+    writeln!(out, "{cases} cases")
 }
 
 fn main(rt: HostRuntime) -> io::Result<()> {

@@ -1,4 +1,4 @@
-//! What a head asks for, as text.
+//! What a head asks for, and the size that a line writes, as text.
 use gs_http::Framing;
 use gs_names::Media;
 use gs_term::Target;
@@ -72,6 +72,14 @@ fn asked_text(alloc: Global, asked: &Asked) -> Result<String, AllocError> {
         media_name(asked.reply),
         close_word(asked.closes)
     )
+}
+
+/// The size that a line writes, as a case of the input says it.
+pub fn size_text(alloc: Global, size: Option<u64>) -> Result<String, AllocError> {
+    match size {
+        Some(size) => format!(in alloc; "size {size}"),
+        None => String::from_str(alloc, "no size"),
+    }
 }
 
 /// What a head asks for, as a case of the input says it.
