@@ -8,7 +8,8 @@ use gs_term::Triple;
 
 /// A reader of a body that comes in pieces, cut anywhere, also inside a character or a token.
 ///
-/// After a refusal the list is as it was before the call, and every later call answers `Closed`.
+/// After a refusal the list is as it was before the call. Each call after a refusal, or after the
+/// text has ended, answers `Closed`.
 /// Where no call was refused for memory, a fault is reported by `finish` at the latest, with the
 /// kind and the place of the first fault of the whole text, for every cutting.
 pub trait BodyReader {

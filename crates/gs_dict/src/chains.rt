@@ -118,7 +118,8 @@ pub fn add(
     requires few { length entries.old.items + 1 < 2 ^ 32 }
     ensures table { IsTable arena.new.items entries.new.items heads.new.items }
     ensures kept { KeepsTexts arena.old.items entries.old.items arena.new.items entries.new.items }
-    ensures value { AddsText (length entries.old.items) arena.new.items entries.new.items hash text.now result }
+    ensures value { AddsText (length entries.old.items) arena.new.items entries.new.items hash text.now
+        result }
 {
     grow(entries, heads)?;
     entries.reserve(1)?;

@@ -60,7 +60,8 @@ impl Dict {
     /// the first number of a `RandomState`. No number is greater than `last`, nor than
     /// 4,294,967,294.
     pub fn new(alloc: Global, seed: u64, last: u32) -> Result<Dict, Refusal>
-        ensures { MatchResult result (λ d. d ≡ none_numbered (min last last_term)) (λ e. e ≡ Refusal.NoMemory) }
+        ensures { MatchResult result (λ d. d ≡ none_numbered (min last last_term))
+            (λ e. e ≡ Refusal.NoMemory) }
     {
         let mut seeded = FoldHasher::default();
         seeded.write_u64(seed);

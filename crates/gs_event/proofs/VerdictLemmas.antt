@@ -69,7 +69,8 @@ must_by w m c t g false there = there
 pub store_must : (w : Setting) (m : Dataset) (c : ℕ) (t : Target) (g : Graph) → DecidesChange w m c t g (verdict_of (holdings_of w m c) (place_in m t) (Stores (size_of g) false))
 store_must w m c t g = must_by w m c t g (is_there m t) refl
 
-made_well : (b : Bool) → is_success (cond b 204 201) ≡ true
+-- over a graph or in a new one, a write took effect
+pub made_well : (b : Bool) → is_success (cond b 204 201) ≡ true
 made_well true = refl
 made_well false = refl
 

@@ -1,13 +1,17 @@
 //! Laws of histories, proved: the body is empty, and the contract is the law.
-ghost use Rattle.std.specs.Prelude.{ℕ, List};
+ghost use Rattle.std.specs.Prelude.{ℕ, Bool, List};
 ghost use Rattle.gs_model.specs.Graphs.{Graph};
 ghost use Rattle.gs_term.specs.declared.patterns.Pattern.{Pattern as APattern};
 ghost use Rattle.gs_event.specs.Solutions.{instances_of, ListsInstances};
+ghost use Rattle.gs_event.specs.declared.events.Event.{Event as AnEvent};
+ghost use Rattle.gs_event.specs.declared.answers.Answer.{Answer as AnAnswer};
+ghost use Rattle.gs_event.specs.declared.updates.Op.{Op as AnOp};
 ghost use Rattle.gs_event.specs.Datasets.{Dataset};
 ghost use Rattle.gs_event.specs.Names.{new_name, IsLeastFree};
 ghost use Rattle.gs_event.specs.Operations.{Operation, Setting};
 ghost use Rattle.gs_event.specs.Verdicts.{IsDecided};
 ghost use Rattle.gs_event.specs.Waste.{Shown};
+ghost use Rattle.gs_event.specs.NodesInUse.{AddsUp, GoesOneWay, TakesFew, GivesBack};
 ghost use Rattle.gs_event.specs.Histories.{Start, History};
 ghost use Rattle.gs_event.specs.Continuing.{ViewGoesOn, PinsGoOn, StepsGoOn};
 
@@ -42,4 +46,20 @@ pub fn verdict_is_the_stores()
 /// others.
 pub fn instances_are_found()
     ensures { (g : Graph) (patterns : List APattern) → ListsInstances g patterns (instances_of g patterns) }
+{}
+
+/// The triples that a graph had and those that came are those that it has after an update and those
+/// that went; an INSERT DATA takes none out, and a DELETE adds none.
+pub fn updates_add_up()
+    ensures sum { (g : Graph) (ops : List AnOp) → AddsUp g ops }
+    ensures one_way { (g : Graph) (op : AnOp) → GoesOneWay g op }
+{}
+
+/// How many nodes a step takes into use: a PUT that took effect none, a POST and a new graph at most
+/// 260 for each triple of the upload, a PATCH at most 260 for each triple that comes or goes, a stage
+/// at most one for each of its triples, and any other event none. What a Reclaim frees is no more in
+/// use.
+pub fn steps_take_few()
+    ensures few { (old : Shown) (e : AnEvent) (a : AnAnswer) (new : Shown) → TakesFew old e a new }
+    ensures back { (old : Shown) (n freed : ℕ) (left : Bool) (new : Shown) → GivesBack old n freed left new }
 {}

@@ -11,8 +11,8 @@ mod verdicts;
 pub use answers::Answer;
 pub use events::{Action, Event, UploadKind};
 pub use laws::{
-    instances_are_found, new_name_is_free, pinned_goes_on, steps_are_legal, verdict_is_the_stores,
-    view_goes_on,
+    instances_are_found, new_name_is_free, pinned_goes_on, steps_are_legal, steps_take_few,
+    updates_add_up, verdict_is_the_stores, view_goes_on,
 };
 pub use limits::Limits;
 pub use updates::Op;

@@ -1,22 +1,13 @@
 -- The longest front of a text that ends between two characters, and the decoder there.
 use Rattle.std.proofs.Common.{◌≡◌, ℕ, Bool, true, false, List, [], ◌∷◌, ◌++◌, refl, sym, ap, subst, ◌∙◌, ◌⊎◌, inl, inr, arith, append_assoc, append-nil, length, length-append}
-use Rattle.std.specs.Prelude.{◌&&◌}
 use Rattle.std.specs.Str.{IsUtf8, StartsWithNoChar}
 use lib.Utf8.{encode, encodes, scalar, scalars}
+use Rattle.std.proofs.lemmas.Bool.{and_parts}
 use Rattle.std.proofs.lemmas.Str.{IsUtf8-append, IsUtf8-encode, IsUtf8-nil, IsUtf8-past_char}
 use Rattle.gs_machine.specs.Machines.{Machine, steps, rest, composed}
 use Rattle.gs_machine.specs.Utf8.{bad, Spells, nothing, char, fault, Decoding, Ready, Within, Lost, decode_end, utf8, symbols, IsLongestFront}
 use Rattle.gs_machine.proofs.MachineLemmas.{rest-append, steps-append, steps-composed}
 use Rattle.gs_machine.proofs.Utf8Lemmas.{lost, some_encode, spelt, one_spelling}
-
--- of a test of two parts each part
-and_first : (a b : Bool) → (a && b) ≡ true → a ≡ true
-and_first true b h = refl
-and_first false b h = h
-
-and_second : (a b : Bool) → (a && b) ≡ true → b ≡ true
-and_second true b h = h
-and_second false b h = absurd (Prim.cc)
 
 -- of two fronts of a text one begins the other
 pub one_begins : (a ra b rb : List ℕ) → a ++ ra ≡ b ++ rb
@@ -35,7 +26,7 @@ one_begins (c ∷ a) ra (d ∷ b) rb e =
 pub none_of_characters : (more others : List ℕ) → IsUtf8 more → StartsWithNoChar (more ++ others) → more ≡ []
 none_of_characters more others ([], (s, e)) h = sym e
 none_of_characters more others (c ∷ cs, (s, e)) h =
-    absurd (h c (encodes cs ++ others) (and_first (scalar c) (scalars cs) s) (ap (λ z. z ++ others) (sym e) ∙ append_assoc (encode c) (encodes cs) others))
+    absurd (h c (encodes cs ++ others) (and_parts (scalar c) (scalars cs) s).0 (ap (λ z. z ++ others) (sym e) ∙ append_assoc (encode c) (encodes cs) others))
 
 -- what comes after characters in a text of characters is characters
 pub IsUtf8-past : (front more : List ℕ) → IsUtf8 front → IsUtf8 (front ++ more) → IsUtf8 more
@@ -43,7 +34,7 @@ IsUtf8-past front more (cs, (s, e)) u = past cs s (subst (λ z. IsUtf8 (z ++ mor
   where
     past : (ds : List ℕ) → scalars ds ≡ true → IsUtf8 (encodes ds ++ more) → IsUtf8 more
     past [] k v = v
-    past (d ∷ ds) k v = past ds (and_second (scalar d) (scalars ds) k)
+    past (d ∷ ds) k v = past ds (and_parts (scalar d) (scalars ds) k).1
         (IsUtf8-past_char (encodes (d ∷ ds) ++ more) (encodes ds ++ more) d v (append_assoc (encode d) (encodes ds) more))
 
 -- characters, and then bytes that begin no character
@@ -86,7 +77,7 @@ one_front x a b h k = elim (one_begins a h.after b k.after (sym h.parts ∙ k.pa
 spells_after : (cs : List ℕ) → scalars cs ≡ true → (y ds : List ℕ) → Spells y ds → Spells (encodes cs ++ y) (cs ++ ds)
 spells_after [] h y ds k = k
 spells_after (c ∷ cs) h y ds k =
-    char c (encodes cs ++ y) (cs ++ ds) (and_first (scalar c) (scalars cs) h) (append_assoc (encode c) (encodes cs) y) (spells_after cs (and_second (scalar c) (scalars cs) h) y ds k)
+    char c (encodes cs ++ y) (cs ++ ds) (and_parts (scalar c) (scalars cs) h).0 (append_assoc (encode c) (encodes cs) y) (spells_after cs (and_parts (scalar c) (scalars cs) h).1 y ds k)
 
 -- the letter A
 letter : Spells (65 ∷ []) (65 ∷ [])
@@ -96,7 +87,7 @@ letter = char 65 [] [] refl refl nothing
 -- the mark is no character
 no_mark : (os : List ℕ) → scalars (os ++ bad ∷ []) ≡ true → ⊥
 no_mark [] h = Prim.cc
-no_mark (c ∷ os) h = no_mark os (and_second (scalar c) (scalars (os ++ bad ∷ [])) h)
+no_mark (c ∷ os) h = no_mark os (and_parts (scalar c) (scalars (os ++ bad ∷ [])) h).1
 
 -- nothing comes after the mark
 mark_is_last : (x : List ℕ) (d : ℕ) (ds : List ℕ) → Spells x (bad ∷ d ∷ ds) → ⊥

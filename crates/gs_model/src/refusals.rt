@@ -25,7 +25,7 @@ pub enum Refusal {
     StoreFull,
     /// The update is outside the part of SPARQL Update that is served.
     NotInProfile,
-    /// An earlier call was refused, and with it every later one.
+    /// An earlier call was refused or ended the text, and with that every later one is refused.
     Closed,
 }
 
@@ -62,7 +62,7 @@ impl Refusal {
             Refusal::TermTooLong => "a term or a name is too long",
             Refusal::StoreFull => "the store would hold too much",
             Refusal::NotInProfile => "the update is outside what is served",
-            Refusal::Closed => "an earlier call was refused",
+            Refusal::Closed => "an earlier call was refused or ended the text",
         }
     }
 }

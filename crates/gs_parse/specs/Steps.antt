@@ -3,8 +3,9 @@ use Rattle.std.specs.Prelude.{◌≡◌, ℕ, List, [], ◌++◌, Option, Result
 use Rattle.gs_model.specs.Triples.{RdfTriple}
 use Rattle.gs_body.specs.Bodies.{triples_of, end_after}
 use Rattle.gs_document.specs.Contexts.{TurtleContext}
-use Rattle.gs_triple_parser.specs.Views.{symbol_at, pending_triples}
-use Rattle.gs_triple_parser.specs.declared.symbols.Symbol.{Symbol}
+use Rattle.gs_triple_values.specs.Views.{symbol_at}
+use Rattle.gs_triple_parser.specs.Views.{pending_triples}
+use Rattle.gs_triple_values.specs.declared.symbols.Symbol.{Symbol}
 use Rattle.gs_document.specs.Directives.{with_prefix}
 use Rattle.gs_document.specs.States.{Turn}
 use Rattle.gs_document.specs.Machine as machine

@@ -5,7 +5,7 @@ use Rattle.gs_model.specs.declared.faults.Fault.TheVariants.{Syntax}
 use Rattle.gs_blank.specs.Numbers.{Numbers}
 use Rattle.gs_body.specs.Bodies.{Ending, Whole, Faulty}
 use Rattle.gs_document.specs.Contexts.{TurtleContext}
-use Rattle.gs_triple_parser.specs.Typed.{terms}
+use Rattle.gs_triple_values.specs.Typed.{terms}
 use Rattle.gs_triple_parser.specs.Views.{triples_state, context_now, numbers_now}
 use Rattle.gs_document.specs.States as machine
 use Rattle.gs_parse.specs.declared.parser.Parser.{Parser}

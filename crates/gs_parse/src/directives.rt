@@ -3,12 +3,12 @@ ghost use Rattle.std.specs.Prelude.{◌≡◌, OnOk, Some};
 
 use crate::parser::Parser;
 use crate::places::Place;
-use gs_triple_parser::{Symbol, TermToken};
+use gs_triple_values::{Symbol, TermToken};
 use std::alloc::AllocError;
 
 impl Parser {
     ghost use Rattle.gs_triples.specs.Symbols.{At};
-    ghost use Rattle.gs_triple_parser.specs.Contexts.{Changes};
+    ghost use Rattle.gs_triple_values.specs.Contexts.{Changes};
     ghost use Rattle.gs_document.specs.Machine.{step, set};
     ghost use Rattle.gs_parse.specs.Views.{state_at, context_at, numbers_at};
     ghost use Rattle.gs_parse.specs.Steps.{turn, declared, Turns};

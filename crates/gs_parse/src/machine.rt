@@ -7,7 +7,8 @@ use crate::parser::Parser;
 use crate::places::Place;
 use gs_lex::Token;
 use gs_term::Triple;
-use gs_triple_parser::{Allowed, Scope, Symbol, TripleParser, Turn, symbol_of_token};
+use gs_triple_parser::{Scope, TripleParser, Turn};
+use gs_triple_values::{Allowed, Symbol, symbol_of_token};
 use std::alloc::{AllocError, Global};
 
 impl Parser {
@@ -91,9 +92,12 @@ impl Parser {
     /// One token more: the triples of the statement that it ends are added to the list. After a
     /// refusal the list is as it was, and the parser is of no more use.
     pub fn step(&mut self, token: &Token, triples: &mut Vec<Triple>) -> Result<(), AllocError>
-        ensures state { OnOk result (state_of self.new ≡ (machine.step (state_of self.old) (symbol_of (lexeme_of token.now))).0) }
-        ensures given { OnOk result (triples.new.items ≡ triples.old.items ++ triples_of (machine.step (state_of self.old) (symbol_of (lexeme_of token.now))).1) }
-        ensures last { OnOk result (self.new.last ≡ end_after self.old.last (machine.step (state_of self.old) (symbol_of (lexeme_of token.now))).1) }
+        ensures state { OnOk result (state_of self.new
+            ≡ (machine.step (state_of self.old) (symbol_of (lexeme_of token.now))).0) }
+        ensures given { OnOk result (triples.new.items ≡ triples.old.items
+            ++ triples_of (machine.step (state_of self.old) (symbol_of (lexeme_of token.now))).1) }
+        ensures last { OnOk result (self.new.last
+            ≡ end_after self.old.last (machine.step (state_of self.old) (symbol_of (lexeme_of token.now))).1) }
         ensures err { OnErr result (triples.new.items ≡ triples.old.items) }
     {
         self.take(symbol_of_token(token), triples)

@@ -2,7 +2,8 @@
 ghost use Rattle.std.specs.Prelude.{◌≡◌};
 
 use crate::places::Place;
-use gs_triple_parser::{Terms, TripleParser};
+use gs_triple_parser::TripleParser;
+use gs_triple_values::Terms;
 use std::alloc::Global;
 
 /// A parser of one document, which takes its tokens in their order.

@@ -3,9 +3,8 @@ use gs_lex::{Lexer, Token};
 use gs_model::Fault;
 use gs_ntwrite::line;
 use gs_term::{Part, Pattern, Triple};
-use gs_triple_parser::{
-    Allowed, Language, Patterns, Scope, Terms, TripleParser, Turn, symbol_of_token,
-};
+use gs_triple_parser::{Scope, TripleParser, Turn};
+use gs_triple_values::{Allowed, Language, Patterns, Terms, symbol_of_token};
 use std::alloc::Global;
 use std::test::Fail;
 

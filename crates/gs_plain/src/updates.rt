@@ -8,7 +8,7 @@ use gs_event::Op;
 use std::alloc::{AllocError, Global};
 
 /// Takes the operations in their order, each on what the one before it left. Where memory is
-/// wanted, the graph is what the operations before that left.
+/// wanted, the graph is of no more use.
 pub fn update(graph: &mut SortedGraph, alloc: Global, operations: &[Op]) -> Result<(), AllocError>
     ensures { OnOk result (graph.new ≡ updated graph.old operations.now) }
 {

@@ -139,7 +139,8 @@ struct Drawn {
     left: String,
 }
 
-fn drawn(alloc: Global, state: &mut u64) -> Result<Drawn, AllocError> {
+/// The next draw.
+fn next_draw(alloc: Global, state: &mut u64) -> Result<Drawn, AllocError> {
     let graph = drawn_graph(state);
     let patterns = drawn_patterns(alloc, state)?;
     let left = without_instances(&graph, patterns.as_slice());
@@ -161,7 +162,7 @@ fn is_so(alloc: Global, drawn: &Drawn) -> Result<bool, Refusal> {
 fn wrong_draw(alloc: Global) -> Result<Option<String>, Refusal> {
     let mut state = 1;
     for _ in 0..300 {
-        let mut drawn = drawn(alloc, &mut state)?;
+        let mut drawn = next_draw(alloc, &mut state)?;
         if !is_so(alloc, &drawn)? {
             drawn.graph.push_str("| ")?;
             drawn.graph.push_str(drawn.removed.as_str())?;
@@ -182,7 +183,7 @@ fn count_of_parted(alloc: Global) -> Result<u32, AllocError> {
     let mut state = 1;
     let mut parted: u32 = 0;
     for _ in 0..300 {
-        let drawn = drawn(alloc, &mut state)?;
+        let drawn = next_draw(alloc, &mut state)?;
         if drawn.left != drawn.graph && !drawn.left.is_empty() {
             parted = parted.saturating_add(1);
         }

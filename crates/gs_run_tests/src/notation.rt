@@ -5,13 +5,41 @@ use std::alloc::{AllocError, Global};
 
 const TYPE: &str = "http://www.w3.org/1999/02/22-rdf-syntax-ns#type";
 
+const FIRST: &str = "http://www.w3.org/1999/02/22-rdf-syntax-ns#first";
+
+const REST: &str = "http://www.w3.org/1999/02/22-rdf-syntax-ns#rest";
+
+const NIL: &str = "http://www.w3.org/1999/02/22-rdf-syntax-ns#nil";
+
 const INTEGER: &str = "http://www.w3.org/2001/XMLSchema#integer";
 
-/// `<x>`, which is `<http://e/x>` where it has no colon; `_k`, the blank node k of request 1; `"x"`;
-/// an integer; or `a`, as in Turtle. No word has a dot or a semicolon in it.
+/// The IRI of a word that is short for one of RDF's own.
+fn own_name(word: &str) -> Option<&'static str> {
+    match word {
+        "a" => Some(TYPE),
+        "first" => Some(FIRST),
+        "rest" => Some(REST),
+        "nil" => Some(NIL),
+        _ => None,
+    }
+}
+
+/// The blank node k of request 1, of the text `k`; or of request r, of `r_k`.
+fn blank(alloc: Global, text: &str) -> Result<TermText, Refusal> {
+    let (request, number) = text.split_once("_").unwrap_or(("1", text));
+    TermText::blank(
+        alloc,
+        request.parse::<u64>().unwrap_or_default(),
+        number.parse::<u64>().unwrap_or_default(),
+    )
+}
+
+/// `<x>`, which is `<http://e/x>` where it has no colon; `_k` or `_r_k`, a blank node; `"x"`; an
+/// integer; `a`, as in Turtle; or `first`, `rest` or `nil` of RDF's lists. No word has a dot or a
+/// semicolon in it.
 fn term(alloc: Global, word: &str) -> Result<TermText, Refusal> {
-    if word == "a" {
-        return TermText::iri(alloc, TYPE);
+    if let Some(iri) = own_name(word) {
+        return TermText::iri(alloc, iri);
     }
     if let Some(name) = word.strip_prefix('<') {
         let name = name.trim_end_matches('>');
@@ -22,7 +50,7 @@ fn term(alloc: Global, word: &str) -> Result<TermText, Refusal> {
         return TermText::iri(alloc, iri.as_str());
     }
     if let Some(number) = word.strip_prefix('_') {
-        return TermText::blank(alloc, 1, number.parse::<u64>().unwrap_or_default());
+        return blank(alloc, number);
     }
     if word.starts_with('"') {
         return TermText::literal(alloc, word.trim_matches('"'), None, None);

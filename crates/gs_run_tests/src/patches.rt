@@ -1,6 +1,7 @@
 //! Schedules of patches, worked by hand, with their operations in the notation of these tests.
-use crate::runs::wrong_row;
+use crate::runs::{prints, wrong_row};
 use gs_schedules::Row;
+use std::alloc::{AllocError, Global};
 use std::test::Fail;
 
 const ROWS: [Row; 16] = [
@@ -20,9 +21,9 @@ const ROWS: [Row; 16] = [
         "opened 1\n204\n200\n_:b1_1 <http://e/p> \"1\"^^<http://www.w3.org/2001/XMLSchema#integer> .\nend\n",
     ),
     (
-        "a collection of two",
-        "0 open patch default\n0 patch: insert _1 <first> 1 . _1 <rest> _2 . _2 <first> 2 . _2 <rest> <nil>\n0 pin default\n0 piece 1\n0 cancel\n",
-        "opened 1\n204\n200\n_:b1_1 <http://e/first> \"1\"^^<http://www.w3.org/2001/XMLSchema#integer> .\nmore\ncancelled\n",
+        "a collection of two, between patches that are given up",
+        "0 open patch default\n0 cancel\n0 open patch default\n0 cancel\n0 open patch default\n0 cancel\n0 open patch default\n0 cancel\n0 open patch default\n0 patch: insert _5_1 first 1 . _5_1 rest _5_2 . _5_2 first 2 . _5_2 rest nil\n0 open patch default\n0 cancel\n0 pin default\n0 piece 9\n",
+        "opened 1\ncancelled\nopened 2\ncancelled\nopened 3\ncancelled\nopened 4\ncancelled\nopened 5\n204\nopened 6\ncancelled\n200\n_:b5_1 <http://www.w3.org/1999/02/22-rdf-syntax-ns#first> \"1\"^^<http://www.w3.org/2001/XMLSchema#integer> .\n_:b5_1 <http://www.w3.org/1999/02/22-rdf-syntax-ns#rest> _:b5_2 .\n_:b5_2 <http://www.w3.org/1999/02/22-rdf-syntax-ns#first> \"2\"^^<http://www.w3.org/2001/XMLSchema#integer> .\n_:b5_2 <http://www.w3.org/1999/02/22-rdf-syntax-ns#rest> <http://www.w3.org/1999/02/22-rdf-syntax-ns#nil> .\nend\n",
     ),
     (
         "what is deleted and inserted again is there",
@@ -89,5 +90,34 @@ const ROWS: [Row; 16] = [
 #[test]
 fn a_run_over_each_store_takes_patches_whole(rt: HostRuntime) -> Result<(), Fail> {
     assert_eq!(rt; wrong_row(rt.alloc(), &ROWS)?, None);
+    Ok(())
+}
+
+/// A patch of a hundred operations: an insertion of a thousand triples, and then by turns a triple
+/// that comes, one that goes, and the instances of a pattern.
+fn long_patch(alloc: Global) -> Result<String, AllocError> {
+    let mut input = String::new(alloc);
+    input.push_str("0 open patch default\n0 patch: insert ")?;
+    for number in 0..1000u64 {
+        input.push_str(format!(in alloc; "<a> <p> {number} . ")?.as_str())?;
+    }
+    for number in 0..33u64 {
+        let more = format!(in alloc;
+            "; insert <b> <q> {number} ; delete <a> <p> {number} ; where <b> <q> ?o "
+        )?;
+        input.push_str(more.as_str())?;
+    }
+    input.push_str(
+        "\n0 pin default\n0 piece 2\n0 cancel\n0 open patch default\n0 patch: where ?s <p> ?o\n0 pin default\n0 piece 9\n",
+    )?;
+    Ok(input)
+}
+
+#[test]
+fn a_patch_may_be_long(rt: HostRuntime) -> Result<(), Fail> {
+    let alloc = rt.alloc();
+    let want =
+        "opened 1\n204\n200\n<http://e/a> <http://e/p> \"100\"^^<http://www.w3.org/2001/XMLSchema#integer> .\n<http://e/a> <http://e/p> \"101\"^^<http://www.w3.org/2001/XMLSchema#integer> .\nmore\ncancelled\nopened 2\n204\n200\nend\n";
+    assert!(rt; prints(alloc, long_patch(alloc)?.as_str(), want)?);
     Ok(())
 }

@@ -201,7 +201,7 @@ pub fn printed_by_plain(
 }
 
 /// Whether the events of a schedule print this over its store, and over a plain one.
-fn prints(alloc: Global, input: &str, want: &str) -> Result<bool, Refusal> {
+pub fn prints(alloc: Global, input: &str, want: &str) -> Result<bool, Refusal> {
     let events = events(alloc, input)?;
     let got = printed_by(alloc, store(alloc, input)?, events.as_slice())?;
     let plain = printed_by_plain(alloc, plain_store(alloc, input)?, events.as_slice())?;

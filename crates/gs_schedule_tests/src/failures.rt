@@ -9,18 +9,19 @@ const INPUT: &str =
 
 const OUTPUT: &str = "opened 1\nstaged\n204\n200\n<http://e/s> <http://e/p> \"1\" .\nend\n";
 
-/// A reader that gives a byte a call, and fails once so many are given.
+/// A reader that gives a byte a call, and fails so once so many are given.
 #[derive(Drop)]
 struct BrokenReader<'a> {
     left: &'a [u8],
     given: usize,
     fails_at: usize,
+    kind: ErrorKind,
 }
 
 impl Read for BrokenReader<'_> {
     fn read(&mut self, buffer: &mut [u8]) -> io::Result<usize> {
         if self.given >= self.fails_at {
-            return Err(Error::from(ErrorKind::BrokenPipe));
+            return Err(Error::from(self.kind));
         }
         if buffer.is_empty() || self.left.is_empty() {
             return Ok(0);
@@ -60,23 +61,32 @@ impl Write for BrokenWriter {
     }
 }
 
-/// Whether the schedule's run from a reader that fails there ends so, with nothing said of its end.
-fn ends_at_read(alloc: Global, fails_at: usize) -> bool {
+/// How a run ends from a reader that fails so: its status, and what is said of it.
+type End = (ErrorKind, u8, &'static str);
+
+const BROKEN: End = (ErrorKind::BrokenPipe, 1, "");
+
+/// A reader's request for memory is refused.
+const NO_MEMORY: End = (ErrorKind::OutOfMemory, 3, "gsdrill: no memory\n");
+
+/// Whether the schedule's run from a reader that fails there ends so, with nothing printed.
+fn ends_at_read(alloc: Global, fails_at: usize, end: &End) -> bool {
     let mut reader = BrokenReader {
         left: INPUT.as_bytes(),
         given: 0,
         fails_at,
+        kind: end.0,
     };
     let mut out = Vec::new(alloc);
     let mut err = Vec::new(alloc);
     let status = drill(alloc, &mut reader, &mut out, &mut err);
-    status == 1 && err.is_empty()
+    status == end.1 && out.is_empty() && err.as_slice() == end.2.as_bytes()
 }
 
-/// The first of these places at which a failed read does not end the run.
-fn wrong_read(alloc: Global, places: &[usize]) -> Option<usize> {
+/// The first of these places at which a failed read does not end the run so.
+fn wrong_read(alloc: Global, places: &[usize], end: &End) -> Option<usize> {
     for place in places {
-        if !ends_at_read(alloc, *place) {
+        if !ends_at_read(alloc, *place, end) {
             return Some(*place);
         }
     }
@@ -86,7 +96,14 @@ fn wrong_read(alloc: Global, places: &[usize]) -> Option<usize> {
 #[test]
 fn a_failed_read_ends_the_run(rt: HostRuntime) {
     let places = [0, 1, 30, INPUT.len() - 1, INPUT.len()];
-    assert_eq!(rt; wrong_read(rt.alloc(), &places), None);
+    assert_eq!(rt; wrong_read(rt.alloc(), &places, &BROKEN), None);
+}
+
+/// Want of memory outside an event has a status of its own.
+#[test]
+fn a_refused_request_ends_the_run(rt: HostRuntime) {
+    let places = [0, 1, 30, INPUT.len() - 1, INPUT.len()];
+    assert_eq!(rt; wrong_read(rt.alloc(), &places, &NO_MEMORY), None);
 }
 
 /// A writer that takes so many bytes, and whether a flush of it fails.

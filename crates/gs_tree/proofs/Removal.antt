@@ -373,8 +373,8 @@ remove_can cmp since p q root t s same drop fits enough =
     (is, subst (CanShrink since q root) (sym is) (record { root_is = s.root_is; stands = stands; balanced = s.balanced; apart = λ x. omega (arith, s.apart x, alike x); fits = fits; has_room = enough }))
 
 -- the same removal, seen from the pool before room was made
-pub removed : (cmp : Key → Key → Ordering) (total : IsTotalOrder cmp) (since birth : ℕ) (p0 p q : Nodes) (root to : Option ℕ) (key : Key) (t u new : Tree) → IsSet cmp p0 root t → p.nodes ≡ p0.nodes → p.marks ≡ p0.marks → u ≡ t → Shrinks since birth p q to u new → HasKey cmp key (keys t) → keys new ≡ remove_key cmp key (keys u) → Removes cmp since birth p0 q to key t new
-removed cmp total since birth p0 p q root to key t u new s same drop e0 i0 has k0 =
+pub removed : (cmp : Key → Key → Ordering) (total : IsTotalOrder cmp) (since birth : ℕ) (p0 p q : Nodes) (root to : Option ℕ) (key : Key) (t u new : Tree) → IsSet cmp p0 root t → p.nodes ≡ p0.nodes → p.marks ≡ p0.marks → height t ≤ 64 → u ≡ t → Shrinks since birth p q to u new → HasKey cmp key (keys t) → keys new ≡ remove_key cmp key (keys u) → Removes cmp since birth p0 q to key t new
+removed cmp total since birth p0 p q root to key t u new s same drop low e0 i0 has k0 =
     let i : Shrinks since birth p q to t new = subst (λ v. Shrinks since birth p q to v new) e0 i0 in
     let k : keys new ≡ remove_key cmp key (keys t) = k0 ∙ ap (λ v. remove_key cmp key (keys v)) e0 in
     let at : (x : ℕ) → node_at p0 x ≡ node_at p x = λ x. ap (λ xs. Rattle.std.proofs.Common.get_or xs x None) (sym same) in
@@ -406,4 +406,5 @@ removed cmp total since birth p0 p q root to key t u new s same drop e0 i0 has k
       in_place = λ z. omega (arith, i.exact, uses, same_marks q.marks p.marks (λ x. elim (i.step.marks x) [ inl kept ↦ kept | inr old ↦ absurd (omega (arith, old.0.2)) ]));
       cost = omega (arith, i.few, uses);
       digits = λ d small. omega (arith, i.few, uses, copies_most since (3 * height t), height_digits t d s.balanced (omega (arith, size-keys t)));
+      few = omega (arith, i.few, uses, copies_most since (3 * height t), low);
     }

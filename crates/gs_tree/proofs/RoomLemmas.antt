@@ -11,7 +11,7 @@ use Rattle.gs_tree.specs.Joining.{copies}
 use Rattle.gs_tree.specs.Shrinking.{remove_cost}
 use Rattle.gs_tree.specs.Sets.{copied_most, union_room, remove_room}
 use Rattle.gs_tree.proofs.TreeLemmas.{plain_count_most, young_birth}
-use Rattle.gs_tree.proofs.Costs.{copies_some, copies_zero}
+use Rattle.gs_tree.proofs.Costs.{copies_some, copies_zero, copies_most}
 use Rattle.gs_tree.proofs.Counting.{tree_used}
 use Rattle.gs_tree.proofs.Heights.{size}
 use Rattle.gs_tree.proofs.Rotations.{height_in}
@@ -44,6 +44,10 @@ enough since p t most s apart = elim (cases_lt 0 since) [
   | inr none ↦ omega (arith, older_none since t (omega arith))
   | inl some ↦ omega (arith, copies_some since most some, copies_some since (min most (min (in_use p) (2 ^ height t - 1))) some, older_size since t, size_height t, tree_used p t s (λ x. omega (arith, apart x, plain_count_most p x)))
 ]
+
+-- no more is copied at most than is asked for
+pub copied_within : (since most h used : ℕ) → copied_most since most h used ≤ most
+copied_within since most h used = omega (arith, copies_most since (min most (min used (2 ^ h - 1))))
 
 -- the room for a union is enough
 pub union_enough : (since : ℕ) (p : Nodes) (t : Tree) (n : ℕ) → Stands p t → ((x : ℕ) → occurrences t x ≤ plain_count p x) → n + min (n * copies since (4 * height t) + copies since 2) (older_count since t) ≤ union_room since (height t) n (in_use p)

@@ -1,5 +1,5 @@
 -- One level of a union.
-use Rattle.std.proofs.Common.{◌≡◌, ◌≢◌, ◌⊎◌, ℕ, zero, suc, ◌+◌, ◌-◌, ◌*◌, ◌<◌, ◌≤◌, ◌^◌, max, min, true, false, cond, ltb, List, [], ◌∷◌, ◌++◌, length, Option, Some, None, is_some, IsSome, refl, sym, ap, subst, ◌∙◌, inl, inr, arith, length-append}
+use Rattle.std.proofs.Common.{◌≡◌, ℕ, ◌+◌, ◌*◌, ◌<◌, ◌≤◌, ◌^◌, max, min, true, false, cond, ltb, List, [], ◌∷◌, ◌++◌, length, Option, Some, None, is_some, IsSome, refl, sym, ap, subst, ◌∙◌, inl, inr, arith, length-append}
 use Rattle.std.proofs.Math.Nat.{add-mul, mul-add}
 use Rattle.std.proofs.lemmas.Bool.{cases_lt}
 use Rattle.std.proofs.lemmas.Nat.{mul-le}
@@ -7,21 +7,20 @@ use Rattle.std.specs.declared.cmp.Ordering.{Ordering}
 use Rattle.std.specs.Cmp.{IsTotalOrder}
 use Rattle.gs_pool.specs.declared.nodes.Key.{Key}
 use Rattle.gs_pool.specs.declared.nodes.Node.{Node}
-use Rattle.gs_pool.specs.Pool.{Nodes, plain, is_aside, node_at, mark_at, in_use, room}
+use Rattle.gs_pool.specs.Pool.{Nodes, plain, node_at, mark_at, room}
 use Rattle.gs_tree.specs.Keys.{IsRising, merge_keys}
-use Rattle.gs_tree.specs.Tree.{Tree, leaf, fork, root_of, height, keys, occurrences, Stands, IsBalanced, BirthAtMost, Descends, height_at, tree_at, older_birth, older_count}
-use Rattle.gs_tree.specs.Sets.{Unites, IsSet, union_cost}
+use Rattle.gs_tree.specs.Tree.{Tree, leaf, fork, height, keys, occurrences, Stands, IsBalanced, BirthAtMost, Descends, height_at, tree_at, older_birth, older_count}
+use Rattle.gs_tree.specs.Sets.{IsSet, union_cost}
 use Rattle.gs_tree.specs.Steps.{plain_count, one, Step, IsOlder, CopiesIfOlder}
 use Rattle.gs_tree.specs.Joining.{CanJoin, Settled, copies, joins, IsHeightAfter}
 use Rattle.gs_tree.specs.Merging.{Built, CanMerge, Merges}
-use Rattle.gs_tree.proofs.Counting.{low_size, same_marks}
-use Rattle.gs_tree.proofs.TreeLemmas.{Stands-same, tree_at-is, one_same, plain_count_most, plain_count_same, plain_found, Stands-step, Step-then, Step-beside, CopiesIfOlder-step, BirthAtMost-later}
+use Rattle.gs_tree.proofs.TreeLemmas.{one_same, plain_count_most, plain_found, Stands-step, Step-then, Step-beside, CopiesIfOlder-step, BirthAtMost-later}
 use Rattle.gs_tree.proofs.Rotations.{height_in, tree_in}
 use Rattle.gs_tree.proofs.Order.{rising_front, rising_back}
-use Rattle.gs_tree.proofs.Costs.{copies_some, copies_most, copies_add, copies_mono}
+use Rattle.gs_tree.proofs.Costs.{copies_some, copies_add, copies_mono}
 use Rattle.gs_tree.proofs.Levels.{Opened, opened, opened_older, older_counts}
 use Rattle.gs_tree.proofs.Heights.{size, height_digits, size-keys}
-use Rattle.gs_tree.proofs.Merging.{Cut, cut_length, cut_rising, merge_node, merge_none, rising_merge}
+use Rattle.gs_tree.proofs.Merging.{Cut, cut_length, cut_rising, merge_node, merge_none}
 
 -- the costs of a union, at one level
 pub cost_side : (since h n k m : ℕ) → h ≤ k → n ≤ m → union_cost since h n ≤ union_cost since k m
@@ -174,6 +173,9 @@ module _ (cmp : Key → Key → Ordering) (total : IsTotalOrder cmp) (since birt
     i : Merges cmp since birth p p1 left c o.l low (tree_at p1 left)
     i = subst (λ u. Merges cmp since birth p p1 left c u low (tree_at p1 left)) left_is i0
 
+    low_cost : union_cost since (height o.l) c ≤ union_cost since (height o.l) (length low)
+    low_cost = cost_side since (height o.l) c (height o.l) (length low) (omega arith) i.at_most
+
     step1 : Step since birth p p1 (λ x. one id x + occurrences o.l x + occurrences o.r x) (λ x. one id x + occurrences (tree_at p1 left) x + occurrences o.r x)
     step1 = Step-beside since birth p p1 (occurrences o.l) (occurrences (tree_at p1 left)) _ _ i.step (λ x. omega arith) (λ x. omega arith)
 
@@ -194,7 +196,7 @@ module _ (cmp : Key → Key → Ordering) (total : IsTotalOrder cmp) (since birt
       set = record { root_is = o.right_is; stands = right_there; balanced = near.2; rising = rising_back cmp total _ _ _ rises; apart = λ x. omega (arith, step1.balance x, apart_in x) };
       run_rising = run_parts.1;
       small = omega (arith, can.small, counts, few_in);
-      has_room = omega (arith, can.has_room, both_cost, few_in, older, i.total, i.few, i.copied, i.at_most);
+      has_room = omega (arith, can.has_room, both_cost, few_in, older, i.total, i.few, low_cost, i.copied, i.at_most);
     })
 
     module _ (p2 : Nodes) (right : Option ℕ) (d : ℕ) (k0 : Merges cmp since birth p1 p2 right d (tree_at p1 node.right) high (tree_at p2 right)) where
@@ -238,14 +240,17 @@ module _ (cmp : Key → Key → Ordering) (total : IsTotalOrder cmp) (since birt
       union_plain = (plain_found p2 id (omega (arith, step2.balance id, within id, one_same id))).1
 
       module _ (grew : 0 < c + d) where
-        cost : union_cost since (height o.l) (length low) + union_cost since (height o.r) (length high) + copies since 1 + copies since (3 * (length low + length high)) ≤ union_cost since (height t) (length run)
-        cost = cost_level since (height o.l) (height o.r) (height t) (length low) (length high) (length run) (omega (arith, heights)) (omega (arith, heights)) few_in (omega (arith, i.at_most, k.at_most))
+        cost : union_cost since (height o.l) c + union_cost since (height o.r) d + copies since 1 + copies since (3 * (c + d)) ≤ union_cost since (height t) (c + d)
+        cost = cost_level since (height o.l) (height o.r) (height t) c d (c + d) (omega (arith, heights)) (omega (arith, heights)) (omega arith) grew
 
-        join_cost : copies since (joins (height (tree_at p1 left)) (height (tree_at p2 right))) ≤ copies since (3 * (length low + length high))
-        join_cost = joins_grown since (height o.l) (height o.r) (height (tree_at p1 left)) (height (tree_at p2 right)) (length low) (length high) near.0.0 near.0.1 i.not_lower i.growth k.not_lower k.growth (omega (arith, i.at_most, k.at_most))
+        whole_cost : union_cost since (height t) (c + d) ≤ union_cost since (height t) (length run)
+        whole_cost = cost_side since (height t) (c + d) (height t) (length run) (omega arith) sum_fits
+
+        join_cost : copies since (joins (height (tree_at p1 left)) (height (tree_at p2 right))) ≤ copies since (3 * (c + d))
+        join_cost = joins_grown since (height o.l) (height o.r) (height (tree_at p1 left)) (height (tree_at p2 right)) c d near.0.0 near.0.1 i.not_lower i.growth k.not_lower k.growth grew
 
         left_over : min (copies since 1 + copies since (joins (height (tree_at p1 left)) (height (tree_at p2 right)) + 2)) (older_birth since node.birth + older_count since (tree_at p1 left) + older_count since (tree_at p2 right)) ≤ room p2
-        left_over = omega (arith, can.has_room, cost, join_cost, few_in, older, i.total, i.few, i.copied, i.at_most, k.total, k.few, k.copied, k.at_most, copies_add since (joins (height (tree_at p1 left)) (height (tree_at p2 right))) 2)
+        left_over = omega (arith, can.has_room, cost, whole_cost, join_cost, few_in, older, i.total, i.few, i.copied, i.at_most, k.total, k.few, k.copied, k.at_most, copies_add since (joins (height (tree_at p1 left)) (height (tree_at p2 right))) 2)
 
         pub top_room : IsOlder since p2 id → 0 < room p2
         top_room h = let c = older_counts since p2 id node top_there h in omega (arith, left_over, c.0, copies_some since 1 c.1)
@@ -302,7 +307,7 @@ module _ (cmp : Key → Key → Ordering) (total : IsTotalOrder cmp) (since birt
                 births = λ dt bt. let e : Descends (fork id o.birth o.l node.key o.r) = subst Descends o.is dt in let f : o.birth ≤ birth = subst (BirthAtMost birth) o.is bt in
                     let a = i.births e.2 (BirthAtMost-later o.birth birth o.l f e.0) in let b = k.births e.3 (BirthAtMost-later o.birth birth o.r f e.1) in s.births a.0 b.0 a.1 b.1;
                 not_lower = omega (arith, heights, both_grew (height o.l) (height o.r) (height (tree_at p1 left)) (height (tree_at p2 right)) (height new) near.0.0 near.0.1 i.not_lower k.not_lower s.height_is);
-                growth = omega (arith, heights, h1, i.growth, k.growth, few_in);
+                growth = omega (arith, heights, h1, i.growth, k.growth, grew);
                 step = Step-beside since birth p p4 _ _ _ _ (Step-then since birth p p3 p4 _ _ _ step3 s.step) (λ x. omega (arith, ap (λ u. occurrences u x) o.is)) (λ x. omega (arith, ap (λ u. occurrences u x) o.is));
                 total = omega (arith, i.total, k.total, w.total, s.total);
                 few = omega (arith, i.few, k.few, w.few, s.few, cost, join_cost);
@@ -312,62 +317,3 @@ module _ (cmp : Key → Key → Ordering) (total : IsTotalOrder cmp) (since birt
                 at_most = sum_fits;
                 still = λ z. absurd (omega arith);
               }
-
--- the whole of a union
-pub union_can : (cmp : Key → Key → Ordering) (since : ℕ) (p q : Nodes) (root : Option ℕ) (t : Tree) (run : List Key) → IsSet cmp p root t → IsRising cmp run → q.nodes ≡ p.nodes → q.marks ≡ p.marks → length q.nodes < 2 ^ 32 → length run < 2 ^ 64 → length run + min (length run * copies since (4 * height t) + copies since 2) (older_count since t) ≤ room q → (tree_at q root ≡ t) × CanMerge cmp since q root (tree_at q root) run
-union_can cmp since p q root t run s rising same drop small short enough =
-    let alike : (x : ℕ) → plain_count q x ≡ plain_count p x = λ x. plain_count_same p q x (ap (λ xs. Rattle.std.proofs.Common.get_or xs x None) same) (ap (λ ms. Rattle.std.proofs.Common.get_or ms x plain) drop) in
-    let stands = Stands-same p q t (λ x n h e. ap (λ xs. Rattle.std.proofs.Common.get_or xs x None) same ∙ e) s.stands in
-    let is = tree_in q root t s.root_is stands in (
-      is,
-      subst (λ u. CanMerge cmp since q root u run) (sym is) (record {
-        set = record { root_is = s.root_is; stands = stands; balanced = s.balanced; rising = s.rising; apart = λ x. omega (arith, s.apart x, alike x) };
-        run_rising = rising;
-        small = omega (arith, size-keys t, low_size q t stands (λ x. omega (arith, s.apart x, alike x)) small);
-        has_room = enough;
-      }),
-    )
-
--- the same union, seen from the pool before room was made
-pub united : (cmp : Key → Key → Ordering) (total : IsTotalOrder cmp) (since birth : ℕ) (p0 p q : Nodes) (root to : Option ℕ) (added : ℕ) (t u : Tree) (run : List Key) (new : Tree) → IsSet cmp p0 root t → p.nodes ≡ p0.nodes → p.marks ≡ p0.marks → length p.nodes < 2 ^ 32 → u ≡ t → Merges cmp since birth p q to added u run new → Unites cmp since birth p0 q to added t run new
-united cmp total since birth p0 p q root to added t u run new s same drop small e0 i0 =
-    let i : Merges cmp since birth p q to added t run new = subst (λ v. Merges cmp since birth p q to added v run new) e0 i0 in
-    let at : (x : ℕ) → node_at p0 x ≡ node_at p x = λ x. ap (λ xs. Rattle.std.proofs.Common.get_or xs x None) (sym same) in
-    let mark : (x : ℕ) → mark_at p0 x ≡ mark_at p x = λ x. ap (λ ms. Rattle.std.proofs.Common.get_or ms x plain) (sym drop) in
-    let alike : (x : ℕ) → plain_count p0 x ≡ plain_count p x = λ x. plain_count_same p p0 x (at x) (mark x) in
-    let uses : in_use p ≡ in_use p0 = ap (λ xs. Rattle.std.specs.Prelude.count_by is_some xs) same in
-    let step : Step since birth p0 q (occurrences t) (occurrences new) = record {
-      kept = λ x n e h. i.step.kept x n (sym (at x) ∙ e) h;
-      balance = λ x. omega (arith, i.step.balance x, alike x);
-      older = λ x n e h. at x ∙ i.step.older x n e h;
-      born = λ x n e. elim (i.step.born x n e) [ inl was ↦ inl (at x ∙ was) | inr new ↦ inr new ];
-      marks = λ x. elim (i.step.marks x) [ inl kept ↦ inl (kept ∙ sym (mark x)) | inr old ↦ inr ((old.0.0, at x ∙ old.0.1, old.0.2), mark x ∙ old.1, old.2) ];
-    } in
-    record {
-      set = record {
-        root_is = i.root;
-        stands = i.stands;
-        balanced = i.balanced;
-        rising = subst (IsRising cmp) (sym i.keys_are) (rising_merge cmp total run (keys t) s.rising);
-        apart = λ x. omega (arith, i.step.balance x, alike x, s.apart x);
-      };
-      keys_are = i.keys_are;
-      counted = i.counted;
-      still = λ z. let f = i.still z in (i.root ∙ ap root_of f.1, ap (λ (n : Nodes). n.nodes) f.0 ∙ same, ap (λ (n : Nodes). n.marks) f.0 ∙ drop);
-      births = i.births;
-      step = step;
-      others = λ other there away. let stays = Stands-same p0 q other (λ x n h e. step.kept x n e (away x n h e)) there in (stays, tree_at-is q other stays ∙ sym (tree_at-is p0 other there));
-      copied = omega (arith, i.copied, uses);
-      exact = omega (arith, i.exact, uses, ap (Rattle.std.specs.Prelude.count_by is_aside) drop);
-      in_place = λ z. omega (arith, i.exact, uses, same_marks q.marks p.marks (λ x. elim (i.step.marks x) [ inl kept ↦ kept | inr old ↦ absurd (omega (arith, old.0.2)) ]));
-      cost = omega (arith, i.few, uses);
-      digits = λ d le. omega (arith, i.few, uses, per_key (height t) (8 * d) (omega (arith, height_digits t d s.balanced (omega (arith, size-keys t)))), mul-add (length run) (8 * d) 1);
-      few = omega (arith, i.few, uses, per_key (height t) 256 (omega (arith, height_digits t 32 s.balanced (omega (arith, low_size p0 t s.stands s.apart (omega (arith, ap length same, small)))))), mul-add (length run) 256 1);
-    }
-  where
-    zero_or : (n : ℕ) → (n ≡ 0) ⊎ (0 < n)
-    zero_or zero = inl refl
-    zero_or (suc n) = inr (omega arith)
-
-    per_key : (h k : ℕ) → 4 * h ≤ k → length run * copies since (4 * h) ≤ length run * k
-    per_key h k le = mul-le (length run) (copies since (4 * h)) (length run) k (omega arith) (omega (arith, copies_most since (4 * h)))

@@ -42,10 +42,10 @@ pub record Merges (cmp : Key → Key → Ordering) (since birth : ℕ) (p q : No
   pub keys_are : keys new ≡ merge_keys cmp run (keys t)
   pub births : Descends t → BirthAtMost birth t → Descends new × BirthAtMost birth new
   pub not_lower : height t ≤ height new
-  pub growth : height new ≤ height t + length run
+  pub growth : height new ≤ height t + added
   pub step : Step since birth p q (occurrences t) (occurrences new)
   pub total : SameTotal p q
-  pub few : in_use q ≤ in_use p + union_cost since (height t) (length run)
+  pub few : in_use q ≤ in_use p + union_cost since (height t) added
   pub copied : in_use q + older_count since new ≡ in_use p + older_count since t + added
   pub exact : in_use q + aside_count p ≡ in_use p + aside_count q + added
   pub counted : length (keys new) ≡ length (keys t) + added

@@ -27,7 +27,7 @@ IsElsewhere since p t other = (x : ℕ) (n : Node) → 0 < occurrences other x �
 abbrev pub KeepsOthers : ℕ → Nodes → Nodes → Tree → Type 0
 KeepsOthers since p q t = (other : Tree) → Stands p other → IsElsewhere since p t other → Stands q other × (Rattle.gs_tree.specs.Tree.tree_at q (root_of other) ≡ Rattle.gs_tree.specs.Tree.tree_at p (root_of other))
 
--- how many nodes the union of a tree of height h with n keys takes at most: n (4 h + 1), and n where nothing is copied
+-- how many nodes a union that adds n keys to a tree of height h takes at most: n (4 h + 1), and n where nothing is copied
 abbrev pub union_cost : ℕ → ℕ → ℕ → ℕ
 union_cost since h n = n + n * copies since (4 * h)
 
@@ -43,7 +43,7 @@ union_room since h n used = n + copied_most since (n * (4 * h) + 2) h used
 abbrev pub remove_room : ℕ → ℕ → ℕ → ℕ
 remove_room since h used = copied_most since (3 * h) h used
 
--- The set t became the set new, which has the keys of the run too; it lacked `added` of them. A key costs at most 8 d + 1 nodes, where the set's size has d digits, and 257 in any pool.
+-- The set t became the set new, which has the keys of the run too; it lacked `added` of them. A key that it lacked costs at most 8 d + 1 nodes, where the set's size has d digits, and 257 in any pool; a key that it has costs nothing.
 pub record Unites (cmp : Key → Key → Ordering) (since birth : ℕ) (p q : Nodes) (result : Option ℕ) (added : ℕ) (t : Tree) (run : List Key) (new : Tree) : Type 0 where
   pub set : IsSet cmp q result new
   pub keys_are : keys new ≡ merge_keys cmp run (keys t)
@@ -55,9 +55,9 @@ pub record Unites (cmp : Key → Key → Ordering) (since birth : ℕ) (p q : No
   pub copied : in_use q + older_count since new ≡ in_use p + older_count since t + added
   pub exact : in_use q + aside_count p ≡ in_use p + aside_count q + added
   pub in_place : since ≡ 0 → in_use q ≡ in_use p + added
-  pub cost : in_use q ≤ in_use p + union_cost since (height t) (length run)
-  pub digits : (d : ℕ) → length (keys t) < 2 ^ d → in_use q ≤ in_use p + length run * (8 * d + 1)
-  pub few : in_use q ≤ in_use p + 257 * length run
+  pub cost : in_use q ≤ in_use p + union_cost since (height t) added
+  pub digits : (d : ℕ) → length (keys t) < 2 ^ d → in_use q ≤ in_use p + added * (8 * d + 1)
+  pub few : in_use q ≤ in_use p + 257 * added
 
 -- a root means a set that can be changed
 abbrev pub IsSetAt : (Key → Key → Ordering) → Nodes → Option ℕ → Type 0
@@ -75,7 +75,7 @@ GainsKey cmp p q root key m = keys_at q m.root ≡ insert_key cmp key (keys_at p
 abbrev pub IsCheap : ℕ → Nodes → Nodes → Type 0
 IsCheap size p q = (d : ℕ) → size < 2 ^ d → in_use q ≤ in_use p + 8 * d + 1
 
--- The set t became the set new, which lacks the key. At most 6 d nodes more are in use, where the set's size has d binary digits.
+-- The set t became the set new, which lacks the key. At most 6 d nodes more are in use, where the set's size has d binary digits, and 192 in any pool.
 pub record Removes (cmp : Key → Key → Ordering) (since birth : ℕ) (p q : Nodes) (to : Option ℕ) (key : Key) (t new : Tree) : Type 0 where
   pub set : IsSet cmp q to new
   pub keys_are : keys new ≡ remove_key cmp key (keys t)
@@ -88,6 +88,7 @@ pub record Removes (cmp : Key → Key → Ordering) (since birth : ℕ) (p q : N
   pub in_place : since ≡ 0 → in_use q + 1 ≡ in_use p
   pub cost : in_use q ≤ in_use p + copies since (3 * height t)
   pub digits : (d : ℕ) → length (keys t) < 2 ^ d → in_use q ≤ in_use p + 6 * d
+  pub few : in_use q ≤ in_use p + 192
 
 -- the set that a root meant became that of the new root, which lacks the key
 abbrev pub RemovesAt : (Key → Key → Ordering) → ℕ → ℕ → Nodes → Nodes → Option ℕ → Key → Option ℕ → Type 0

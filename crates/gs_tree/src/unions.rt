@@ -184,7 +184,8 @@ pub fn union<O: KeyOrder>(
     Ok(union_at(pool, order, root, run, since, birth))
 }
 
-/// Adds a key to a set. It makes at most 8 d + 1 nodes, where the set's size has d binary digits.
+/// Adds a key to a set. It makes at most 8 d + 1 nodes, where the set's size has d binary digits,
+/// and none where the set has the key.
 pub fn insert<O: KeyOrder>(
     pool: &mut Pool,
     order: &O,

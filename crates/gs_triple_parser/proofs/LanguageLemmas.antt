@@ -9,12 +9,13 @@ use Rattle.gs_triples.specs.Meanings.{Context, Fault, in_language, typed}
 use Rattle.gs_triples.specs.Symbols.{Symbol}
 use Rattle.gs_triples.specs.Directives.{with_prefix, with_base}
 use Rattle.gs_triples.proofs.LanguageLemmas.{typed-in_language, with_prefix-in_language, with_base-in_language}
-use Rattle.gs_triple_parser.specs.Languages.{TypedLanguage, language_of}
-use Rattle.gs_triple_parser.specs.Contexts.{Changes}
+use Rattle.gs_triple_values.specs.Languages.{TypedLanguage, language_of}
+use Rattle.gs_triple_values.specs.Contexts.{Changes}
 use Rattle.gs_triple_parser.specs.Frames.{stack_of}
-use Rattle.gs_triple_parser.specs.Views.{context_in, context_of, scope_context, scope_numbers, context_now, state_at, triples_state}
+use Rattle.gs_triple_values.specs.Views.{context_in, context_of}
+use Rattle.gs_triple_parser.specs.Views.{scope_context, scope_numbers, context_now, state_at, triples_state}
 use Rattle.gs_triple_parser.specs.Machine.{Declares}
-use Rattle.gs_triple_parser.specs.declared.contexts.Context.{Context as Known}
+use Rattle.gs_triple_values.specs.declared.contexts.Context.{Context as Known}
 use Rattle.gs_triple_parser.specs.declared.scopes.Scope.{Scope}
 use Rattle.gs_triple_parser.specs.declared.parser.TripleParser.{TripleParser}
 

@@ -2,7 +2,7 @@
 use Rattle.std.proofs.Common.{◌≡◌, List, [], ◌∷◌, ◌++◌, map, ap, refl, ℕ, ◌-◌, take, arith, ◌∙◌}
 use Rattle.std.specs.Prelude.{reverse}
 use Rattle.std.proofs.lemmas.List.{reverse-append, map-append, append-nil}
-use Rattle.gs_triple_parser.specs.Languages.{TypedLanguage}
+use Rattle.gs_triple_values.specs.Languages.{TypedLanguage}
 use Rattle.gs_triple_parser.specs.Frames.{frame_of, stack_of}
 use Rattle.gs_triple_parser.specs.declared.frames.Frame.{Frame}
 use Rattle.gs_triple_parser.specs.declared.stacks.Stack.{Stack}

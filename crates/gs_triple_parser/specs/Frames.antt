@@ -2,7 +2,7 @@
 use Rattle.std.specs.Prelude.{List, ◌∷◌, map, reverse}
 use Rattle.gs_triples.specs.Goals as rule
 use Rattle.gs_triples.specs.States as machine
-use Rattle.gs_triple_parser.specs.Languages.{TypedLanguage}
+use Rattle.gs_triple_values.specs.Languages.{TypedLanguage}
 use Rattle.gs_triple_parser.specs.declared.frames.Goal.{Goal}
 use Rattle.gs_triple_parser.specs.declared.frames.Goal.TheVariants as goal
 use Rattle.gs_triple_parser.specs.declared.frames.Slot.{Slot}

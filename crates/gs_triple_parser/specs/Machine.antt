@@ -5,16 +5,17 @@ use Rattle.gs_triples.specs.Meanings.{Context, Fault, simple, word}
 use Rattle.gs_triples.specs.Goals.{Verbs}
 use Rattle.gs_triples.specs.States.{ToVerbs, State, Turn, Heading, Goes}
 use Rattle.gs_triples.specs.Machine as machine
-use Rattle.gs_triple_parser.specs.Languages.{TypedLanguage}
+use Rattle.gs_triple_values.specs.Languages.{TypedLanguage}
 use Rattle.gs_triple_parser.specs.Frames.{goal_of, slot_of, frame_of, frames_at, stack_of}
-use Rattle.gs_triple_parser.specs.Views.{token_at, symbol_at, triples_state, triples_state_at, triples_turn, context_now, pending_triples, numbers_now}
-use Rattle.gs_triple_parser.specs.Contexts.{Changes}
+use Rattle.gs_triple_values.specs.Views.{token_at, symbol_at}
+use Rattle.gs_triple_parser.specs.Views.{triples_state, triples_state_at, triples_turn, context_now, pending_triples, numbers_now}
+use Rattle.gs_triple_values.specs.Contexts.{Changes}
 use Rattle.gs_triple_parser.specs.declared.frames.Frame.{Frame}
 use Rattle.gs_triple_parser.specs.declared.frames.Goal.{Goal}
 use Rattle.gs_triple_parser.specs.declared.frames.Slot.{Slot}
 use Rattle.gs_triple_parser.specs.declared.places.Place.{Place}
-use Rattle.gs_triple_parser.specs.declared.symbols.Symbol.{Symbol}
-use Rattle.gs_triple_parser.specs.declared.symbols.TermToken.{TermToken}
+use Rattle.gs_triple_values.specs.declared.symbols.Symbol.{Symbol}
+use Rattle.gs_triple_values.specs.declared.symbols.TermToken.{TermToken}
 use Rattle.gs_triple_parser.specs.declared.parser.TripleParser.{TripleParser}
 use Rattle.gs_triple_parser.specs.declared.parser.Turn as code
 

@@ -2,12 +2,11 @@
 ghost use Rattle.std.specs.Prelude.{◌≡◌, OnOk, IfOk};
 
 use crate::frames::Frame;
-use crate::languages::Language;
 use crate::parser::{TripleParser, Turn};
 use crate::places::Place;
-use crate::symbols::Symbol;
-use crate::terms::blank;
 use gs_model::Fault;
+use gs_triple_values::terms::blank;
+use gs_triple_values::{Language, Symbol};
 use std::alloc::AllocError;
 
 impl<L: Language> TripleParser<L> {

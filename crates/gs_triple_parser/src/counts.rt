@@ -3,10 +3,10 @@ ghost use Rattle.std.specs.Prelude.{◌≡◌, length, codes, option_and_then};
 ghost use Rattle.gs_escape.specs.Tokens.{behind};
 ghost use Rattle.gs_blank.specs.Numbers.{known};
 
-use crate::languages::Language;
 use crate::parser::TripleParser;
 use crate::places::Place;
-use crate::terms::after;
+use gs_triple_values::Language;
+use gs_triple_values::terms::after;
 
 impl<L: Language> TripleParser<L> {
     ghost use Rattle.gs_triples.specs.States.{triples_so_far};

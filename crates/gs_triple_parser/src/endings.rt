@@ -2,11 +2,10 @@
 ghost use Rattle.std.specs.Prelude.{◌≡◌, ◌≢◌, ◌++◌, [], OnOk, OnErr, IfOk, IfSome, IfNone};
 ghost use Rattle.gs_model.specs.declared.faults.Fault.{Fault};
 
-use crate::languages::Language;
 use crate::parser::TripleParser;
 use crate::places::Place;
-use crate::terms;
 use gs_model::Fault;
+use gs_triple_values::{Language, terms};
 use std::alloc::AllocError;
 
 impl<L: Language> TripleParser<L> {

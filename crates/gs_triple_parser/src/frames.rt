@@ -1,7 +1,6 @@
 //! The stack of the machine.
 
-use crate::languages::Language;
-
+use gs_triple_values::Language;
 /// What stands next within a statement, in so many brackets.
 #[derive(Drop)]
 pub enum Goal<L: Language> {

@@ -1,17 +1,14 @@
 //! One symbol at a goal within triples.
 ghost use Rattle.std.specs.Prelude.{◌≡◌, OnOk, IfOk};
 ghost use Rattle.gs_triples.specs.Reading.{begins_verb as begins_verb_of};
-ghost use Rattle.gs_triple_parser.specs.Views.{symbol_at};
+ghost use Rattle.gs_triple_values.specs.Views.{symbol_at};
 
 use crate::frames::{Frame, Goal, Slot};
-use crate::languages::Language;
 use crate::parser::{TripleParser, Turn};
-use crate::pending::put_rest;
 use crate::places::Place;
-use crate::symbols::Symbol;
-use crate::terms::blank;
-use crate::vocabulary::rdf_nil;
 use gs_model::Fault;
+use gs_triple_values::terms::blank;
+use gs_triple_values::{Language, Symbol, put_rest, rdf_nil};
 use std::alloc::AllocError;
 
 /// Whether a verb may begin with it: a word or `a`.

@@ -2,12 +2,10 @@
 ghost use Rattle.std.specs.Prelude.{◌≡◌, OnOk};
 
 use crate::frames::{Frame, Goal, Slot};
-use crate::languages::Language;
 use crate::parser::TripleParser;
 use crate::places::Place;
-use crate::symbols::{Symbol, TermToken};
-use crate::values;
 use gs_model::{Fault, MAX_NESTING};
+use gs_triple_values::{Language, Symbol, TermToken, values};
 use std::alloc::AllocError;
 
 impl<L: Language> TripleParser<L> {

@@ -1,16 +1,13 @@
 //! What stands before triples, and their first symbol.
 ghost use Rattle.std.specs.Prelude.{◌≡◌, []};
 
-use crate::allowed::Allowed;
 use crate::frames::{Frame, Goal};
-use crate::languages::Language;
 use crate::parser::TripleParser;
 use crate::places::Place;
 use crate::scopes::Scope;
 use crate::stacks::Stack;
-use crate::symbols::{Symbol, TermToken};
-use crate::values;
 use gs_model::Fault;
+use gs_triple_values::{Allowed, Language, Symbol, TermToken, values};
 use std::alloc::AllocError;
 
 impl<L: Language> TripleParser<L> {
@@ -19,7 +16,7 @@ impl<L: Language> TripleParser<L> {
     ghost use Rattle.gs_triples.specs.Languages.{of_terms};
     ghost use Rattle.gs_triples.specs.Meanings.{in_language};
     ghost use Rattle.gs_triples.specs.Directives.{with_prefix, with_base};
-    ghost use Rattle.gs_triple_parser.specs.Languages.{language_of};
+    ghost use Rattle.gs_triple_values.specs.Languages.{language_of};
     ghost use Rattle.gs_triple_parser.specs.Views.{scope_context, scope_numbers};
     ghost use Rattle.gs_triple_parser.specs.Views.{triples_state, context_now, numbers_now, pending_triples};
     ghost use Rattle.gs_triple_parser.specs.Machine.{Declares, Reaches, first_verb, opening_of};

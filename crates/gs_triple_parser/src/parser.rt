@@ -1,16 +1,14 @@
 //! The parser, and what is done with a term once it is read.
 ghost use Rattle.std.specs.Prelude.{◌≡◌};
 
-use crate::allowed::Allowed;
 use crate::frames::{Frame, Goal, Slot};
-use crate::languages::Language;
-use crate::pending::{put, put_first, put_rest};
 use crate::places::Place;
 use crate::scopes::Scope;
 use crate::stacks::Stack;
-use crate::terms::blank;
 use gs_model::Fault;
 use gs_term::TermText;
+use gs_triple_values::terms::blank;
+use gs_triple_values::{Allowed, Language, put, put_first, put_rest};
 use std::alloc::{AllocError, Global};
 
 /// What a symbol does: it is taken, or the triples are over before it.

@@ -1,8 +1,8 @@
 //! Where the machine stands.
 
 use crate::frames::{Goal, Slot};
-use crate::languages::Language;
 use gs_model::Fault;
+use gs_triple_values::Language;
 
 /// Within triples, or at a fault.
 #[derive(Drop)]

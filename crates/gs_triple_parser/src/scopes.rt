@@ -3,8 +3,8 @@ ghost use Rattle.std.specs.Prelude.{◌≡◌, true, IfOk};
 ghost use Rattle.gs_model.specs.Iris.{is_absolute};
 ghost use Rattle.gs_blank.specs.Numbers.{no_numbers};
 
-use crate::contexts::Context;
 use gs_blank::Numbering;
+use gs_triple_values::Context;
 use std::alloc::{AllocError, Global};
 
 /// The base and the prefixes in force, the request, and the numbers of its blank nodes so far.
@@ -19,7 +19,7 @@ impl Scope {
     ghost use Rattle.gs_triples.specs.Languages.{of_terms};
     ghost use Rattle.gs_triples.specs.Directives.{without_prefixes, with_prefix, with_base};
     ghost use Rattle.gs_triple_parser.specs.Views.{scope_context, scope_numbers};
-    ghost use Rattle.gs_triple_parser.specs.Contexts.{Changes};
+    ghost use Rattle.gs_triple_values.specs.Contexts.{Changes};
 
     /// Under an absolute base, with no prefix and no blank node, in the request of this number.
     /// `gs_iri::is_absolute` tests a base.

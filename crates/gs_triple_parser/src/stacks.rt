@@ -2,7 +2,7 @@
 ghost use Rattle.std.specs.Prelude.{◌≡◌, ◌∷◌, [], OnOk, IfSome, IfNone};
 
 use crate::frames::Frame;
-use crate::languages::Language;
+use gs_triple_values::Language;
 use std::alloc::{AllocError, Global};
 
 /// Frames, of which the last one that was pushed is on top.

@@ -3,19 +3,19 @@ ghost use Rattle.std.specs.Prelude.{◌≡◌, OnOk, IfOk};
 
 use crate::frames::{Frame, Slot};
 use crate::goals::begins_verb;
-use crate::languages::Language;
 use crate::parser::{TripleParser, Turn};
 use crate::places::Place;
-use crate::symbols::Symbol;
-use crate::terms::{self, blank};
 use gs_model::Fault;
+use gs_triple_values::terms::{self, blank};
+use gs_triple_values::{Language, Symbol};
 use std::alloc::AllocError;
 use std::mem;
 
 impl<L: Language> TripleParser<L> {
     ghost use Rattle.gs_triples.specs.States.{Goes};
     ghost use Rattle.gs_triples.specs.Machine as machine;
-    ghost use Rattle.gs_triple_parser.specs.Views.{triples_state, triples_turn, symbol_at};
+    ghost use Rattle.gs_triple_values.specs.Views.{symbol_at};
+    ghost use Rattle.gs_triple_parser.specs.Views.{triples_state, triples_turn};
     ghost use Rattle.gs_triple_parser.specs.Machine.{IsTaken, Turned, simple_of, step_of, next_of};
 
     /// A symbol after a `[` that opens triples.

@@ -19,7 +19,8 @@ fn take_tokens(
     tokens: &[Token],
     triples: &mut Vec<Triple>,
 ) -> Result<(), AllocError>
-    ensures ok { OnOk result (Takes parser.old parser.new (lexemes_of tokens.now) triples.old.items triples.new.items) }
+    ensures ok { OnOk result (Takes parser.old parser.new (lexemes_of tokens.now)
+        triples.old.items triples.new.items) }
     ensures err { OnErr result (Begins triples.new.items triples.old.items) }
 {
     for token in tokens {
@@ -44,9 +45,11 @@ pub fn go_on(
     tokens: &[Token],
     triples: &mut Vec<Triple>,
 ) -> Result<(), Refusal>
-    ensures ok { OnOk result (Takes parser.old parser.new (lexemes_of tokens.now) triples.old.items triples.new.items) }
+    ensures ok { OnOk result (Takes parser.old parser.new (lexemes_of tokens.now)
+        triples.old.items triples.new.items) }
     ensures err { OnErr result (Begins triples.new.items triples.old.items) }
-    ensures fault { IfErr result (λ e. (us : List Lexeme) → TellsBehind parser.old.last e (end_of parser.old (lexemes_of tokens.now ++ us))) }
+    ensures fault { IfErr result (λ e. (us : List Lexeme)
+        → TellsBehind parser.old.last e (end_of parser.old (lexemes_of tokens.now ++ us))) }
 {
     take_tokens(parser, tokens, triples)?;
     match parser.fault() {
@@ -61,9 +64,11 @@ pub fn conclude(
     tokens: &[Token],
     triples: &mut Vec<Triple>,
 ) -> Result<(), Refusal>
-    ensures ok { OnOk result (Concludes parser.old parser.new (lexemes_of tokens.now) triples.old.items triples.new.items) }
+    ensures ok { OnOk result (Concludes parser.old parser.new (lexemes_of tokens.now)
+        triples.old.items triples.new.items) }
     ensures err { OnErr result (Begins triples.new.items triples.old.items) }
-    ensures fault { IfErr result (λ e. TellsBehind parser.old.last e (end_of parser.old (lexemes_of tokens.now))) }
+    ensures fault { IfErr result (λ e. TellsBehind parser.old.last e
+        (end_of parser.old (lexemes_of tokens.now))) }
 {
     take_tokens(parser, tokens, triples)?;
     match parser.end()? {
@@ -75,7 +80,8 @@ pub fn conclude(
 /// Tokens after which stands something that is none: the first fault of all.
 pub fn break_off(parser: &mut Parser, tokens: &[Token], triples: &mut Vec<Triple>) -> Refusal
     ensures kept { Begins triples.new.items triples.old.items }
-    ensures fault { (n : ℕ) → TellsBehind parser.old.last result (ended_by (lexer.AtFault n) (end_of parser.old (lexemes_of tokens.now))) }
+    ensures fault { (n : ℕ) → TellsBehind parser.old.last result
+        (ended_by (lexer.AtFault n) (end_of parser.old (lexemes_of tokens.now))) }
 {
     match conclude(parser, tokens, triples) {
         Ok(()) => Refusal::Syntax(parser.last),

@@ -36,7 +36,8 @@ impl TurtleReader {
         requires { is_absolute base.now ≡ true }
         ensures fresh { IfOk result (λ r. ⟦<TurtleReader as BodyReader>⟧.Leads r [] []) }
         ensures unread { IfOk result (λ r. ⟦<TurtleReader as BodyReader>⟧.is_closed r ≡ false) }
-        ensures meaning_of { IfOk result (λ r. (x : List ℕ) → ⟦<TurtleReader as BodyReader>⟧.meaning_of r x ≡ meaning_by base.now request x) }
+        ensures meaning_of { IfOk result (λ r. (x : List ℕ)
+            → ⟦<TurtleReader as BodyReader>⟧.meaning_of r x ≡ meaning_by base.now request x) }
     {
         Ok(TurtleReader {
             request,

@@ -1,5 +1,6 @@
 //! Bodies with their triples.
-use crate::readings::{SIZES, lines_of};
+use crate::readings::{SIZES, lines_of, reader};
+use gs_body::BodyReader;
 use gs_model::Refusal;
 use gs_turtle::{body_is_read, faulty_body_is_read};
 use std::alloc::{AllocError, Global};
@@ -62,5 +63,19 @@ fn after_spaces(alloc: Global, count: usize) -> Result<Vec<u8>, AllocError> {
 fn a_piece_longer_than_a_portion_is_read(rt: HostRuntime) -> Result<(), Fail> {
     let text = after_spaces(rt.alloc(), 10_000)?;
     assert!(rt; states(rt.alloc(), text.as_slice(), usize::MAX, STATED)?);
+    Ok(())
+}
+
+/// How many triples are given of a text before it ends.
+fn given(alloc: Global, text: &[u8]) -> Result<usize, Refusal> {
+    let mut reader = reader(alloc, "http://b/")?;
+    let mut triples = Vec::new(alloc);
+    reader.feed(text, &mut triples)?;
+    Ok(triples.len())
+}
+
+#[test]
+fn a_cut_character_keeps_no_statement_back(rt: HostRuntime) -> Result<(), Fail> {
+    assert_eq!(rt; given(rt.alloc(), b"<s> <p> <o> . # \xC3")?, 1);
     Ok(())
 }

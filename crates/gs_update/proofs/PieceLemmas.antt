@@ -3,7 +3,7 @@ use Rattle.std.proofs.Common.{◌≡◌, ℕ, List, [], ◌++◌, refl, sym, ap,
 use Rattle.std.proofs.lemmas.List.{take-append-drop}
 use Rattle.gs_model.specs.declared.refusals.Refusal.{Refusal}
 use Rattle.gs_update_text.specs.Texts.{request_by}
-use Rattle.gs_update.specs.Views.{IsSound}
+use Rattle.gs_update_places.specs.Views.{IsSound}
 use Rattle.gs_update.specs.Answers.{Refuses}
 use Rattle.gs_update.specs.Readers.{LeadsTo, Goes, IsRefused, Finishes, IsRefusedAtEnd, Reads, IsRefusedWhole}
 use Rattle.gs_update.specs.declared.readers.UpdateReader.{UpdateReader}

@@ -1,38 +1,32 @@
 -- The turns of a parser of updates, from those of the block that it is in.
-use Rattle.std.proofs.Common.{◌≡◌, ℕ, ◌≤◌, true, false, cond, List, [], ◌∷◌, length, refl, sym, ap, ◌∙◌, subst, arith}
-use Rattle.std.specs.Prelude.{◌==◌, Option, Some, None}
+use Rattle.std.proofs.Common.{◌++◌, append-nil, ◌≡◌, ℕ, true, false, List, [], ◌∷◌, length, refl, sym, ap, ◌∙◌, subst}
+use Rattle.std.specs.Prelude.{◌==◌, Some, None}
 use Rattle.std.proofs.lemmas.Bool.{false≢true}
 use Rattle.std.proofs.Math.Dec.{eqb-suc-zero}
-use Rattle.gs_blank.specs.Numbers.{Numbers}
+use Rattle.std.proofs.lemmas.List.{map-append}
+use Rattle.gs_event.specs.declared.updates.Op.{Op}
 use Rattle.gs_triples.specs.Languages.{of_terms}
-use Rattle.gs_triples.specs.Meanings.{Context, in_language}
-use Rattle.gs_model.specs.Limits.{max_patterns}
-use Rattle.gs_model.specs.Terms.{Term}
-use Rattle.gs_model.specs.Triples.{RdfTriple}
-use Rattle.gs_term.specs.declared.patterns.Part.{Part}
+use Rattle.gs_triples.specs.Meanings.{in_language}
 use Rattle.gs_term.specs.declared.patterns.Pattern.{Pattern}
-use Rattle.gs_triple_parser.specs.declared.kinds.Subject.{Subject}
-use Rattle.gs_triple_parser.specs.declared.kinds.Verb.{Verb}
-use Rattle.gs_triple_parser.specs.declared.triple_terms.Terms.{Terms}
-use Rattle.gs_triple_parser.specs.declared.patterns.Patterns.{Patterns}
-use Rattle.gs_triple_parser.specs.Typed.{terms, patterns}
-use Rattle.gs_triple_parser.specs.Languages.{TypedLanguage}
-use Rattle.gs_triple_parser.specs.Views.{scope_context, scope_numbers, triples_state, context_now, numbers_now}
+use Rattle.gs_triple_values.specs.Languages.{TypedLanguage}
+use Rattle.gs_triple_parser.specs.Views.{scope_context, scope_numbers, numbers_now}
 use Rattle.gs_triple_parser.specs.declared.scopes.Scope.{Scope as CodeScope}
-use Rattle.gs_triple_parser.specs.declared.symbols.Symbol.{Symbol}
-use Rattle.gs_update_text.specs.Requests.{UpdateOperation, Inserts, DeletesData, DeletesWhere, Written, OutOfProfile}
-use Rattle.gs_update_text.specs.Operations.{Scope, Block, inserted, deleted, sought, some_patterns}
+use Rattle.gs_triple_values.specs.declared.symbols.Symbol.{Symbol}
+use Rattle.gs_update_text.specs.Requests.{UpdateOperation, DeletesWhere, Written, OutOfProfile}
+use Rattle.gs_update_text.specs.Operations.{Scope, Block, some_patterns}
 use Rattle.gs_update_text.specs.Blocks as blocks
 use Rattle.gs_update_text.specs.Blocks.{BlockState}
-use Rattle.gs_update_text.specs.States.{InsertData, DeleteData, DeleteWhere, State, InData, InWhere, Turn, After, Rejected, quiet}
+use Rattle.gs_update_text.specs.States.{State, Turn, After, Rejected, quiet}
 use Rattle.gs_update_text.specs.Machine.{blocked, step}
-use Rattle.gs_update.specs.Views.{rejection_at, HasGiven, block_state, rules_of, scope_of, more_than, bars_since, state_at}
-use Rattle.gs_update.specs.Steps.{Making, Turned, block_turn, Stays, LeadsTo, start_of, turn_at_place, concluded, Moves}
-use Rattle.gs_update.specs.declared.blocks.Block.{Block as CodeBlock}
-use Rattle.gs_update.specs.declared.blocks.BlockTurn.TheVariants as turn
-use Rattle.gs_update.specs.declared.rejections.Rejection.{Rejection as CodeRejection}
-use Rattle.gs_update.specs.declared.places.Place.{Place}
-use Rattle.gs_update.specs.declared.places.Place.TheVariants as place
+use Rattle.gs_update_places.specs.Views.{rejection_at, block_state, rules_of, scope_of, state_at}
+use Rattle.gs_update_places.specs.Steps.{Making, Turned, block_turn, Stays, LeadsTo, turn_at_place}
+use Rattle.gs_update.specs.Views.{operation_of, operations_of}
+use Rattle.gs_update.specs.Steps.{concluded, Moves}
+use Rattle.gs_update_places.specs.declared.blocks.Block.{Block as CodeBlock}
+use Rattle.gs_update_places.specs.declared.blocks.BlockTurn.TheVariants as turn
+use Rattle.gs_update_places.specs.declared.rejections.Rejection.{Rejection as CodeRejection}
+use Rattle.gs_update_places.specs.declared.places.Place.{Place}
+use Rattle.gs_update_places.specs.declared.places.Place.TheVariants as place
 use Rattle.gs_update.specs.declared.parser.UpdateParser.{UpdateParser}
 
 -- a turn by another name, from a parser that differs in its place
@@ -41,14 +35,20 @@ moves_from p z q t u e h =
     let moved : Moves p q t = record { state = h.state; operations = h.operations; last = h.last; sound = h.sound } in
     subst (Moves p q) e moved
 
+-- an operation more, and then the place after it
+pub adds_on : (p a q : UpdateParser) (s : CodeScope) (o : Op) (e : ℕ) → a.operations.items ≡ p.operations.items ++ o ∷ [] → a.last ≡ e → Moves a q (quiet (state_at (place.After s)))
+    → Moves p q (concluded s (operation_of o) e)
+adds_on p a q s o e os l m = record {
+  state = m.state;
+  operations = m.operations ∙ append-nil (operations_of a.operations.items) ∙ ap operations_of os ∙ map-append operation_of p.operations.items (o ∷ []);
+  last = m.last ∙ l;
+  sound = m.sound;
+}
+
 -- the turn that leads from a place to another one
 pub stands_on : (p : UpdateParser) (z o : Place) (q : UpdateParser) (h : Place) (t : Symbol) → o ≡ p.place → LeadsTo h (turn_at_place o t) → Moves (record p { place = z }) q (quiet (state_at h))
     → Moves p q (turn_at_place p.place t)
 stands_on p z o q h t e l m = moves_from p z q (quiet (state_at h)) (turn_at_place p.place t) (l.state ∙ ap (λ (x : Place). turn_at_place x t) e) m
-
--- a turn in a block
-pub hands_on : (p : UpdateParser) (z o : Place) (q : UpdateParser) (t : Symbol) → o ≡ p.place → Moves (record p { place = z }) q (turn_at_place o t) → Moves p q (turn_at_place p.place t)
-hands_on p z o q t e m = moves_from p z q (turn_at_place o t) (turn_at_place p.place t) (ap (λ (x : Place). turn_at_place x t) e) m
 
 -- nothing leads away from a departure
 pub stays_rejected : (r : CodeRejection) (t : Symbol) → LeadsTo (place.Rejected r) (turn_at_place (place.Rejected r) t)
@@ -98,65 +98,3 @@ module _ {L S V X T : Type 0} (l : TypedLanguage S V X T) (inside : Block X T �
   none_in a b t e h m =
       ap (λ z. blocked (inside (rules_of l made a) (scope_of l a)) (scope_of l a) (blocks.shut z (numbers_now b.parser) e)) m
       ∙ ap (blocked (inside (rules_of l made a) (scope_of l a)) (scope_of l a)) (h made)
-
-module _ {L S V X T : Type 0} (l : TypedLanguage S V X T) (b : CodeBlock L S V X T) (env : Context X T) (n : Numbers) where
-  -- a block that begins
-  pub record Begins (old most_of : Option ℕ) : Type 0 where
-    pub context : context_now l b.parser ≡ env
-    pub numbers : numbers_now b.parser ≡ n
-    pub triples : b.triples.items ≡ []
-    pub within : b.within ≡ false
-    pub since : b.since ≡ old
-    pub most : b.most ≡ most_of
-
-  -- is at its start for the machine
-  pub begun_in : (inside : Block X T → Scope → BlockState X T → State) (made : Making T) (since most : Option ℕ) → Begins since most
-      → quiet (inside (rules_of l made b) (scope_of l b) (block_state l b))
-      ≡ quiet (inside (record { language = env.language; bars = bars_since since n; too_many = more_than most; operation = made }) (in_language of_terms env) (blocks.AtTriples env [] n))
-  begun_in inside made since most h = λ i. quiet (inside
-      (record { language = (h.context i).language; bars = bars_since (h.since i) (h.numbers i); too_many = more_than (h.most i); operation = made })
-      (in_language of_terms (h.context i))
-      (cond (h.within i) (blocks.WithinTriples b.triples.items (triples_state l b.parser)) (blocks.AtTriples (h.context i) (h.triples i) (h.numbers i))))
-
-  -- and the numbers before it bound its labels
-  pub begun_sound : (most : Option ℕ) → Begins (Some n.1) most → HasGiven b.since (numbers_now b.parser)
-  begun_sound most h =
-      let given : n.1 ≤ (numbers_now b.parser).1 = subst (λ (z : Numbers). n.1 ≤ z.1) (sym h.numbers) (omega arith) in
-      subst (λ z. HasGiven z (numbers_now b.parser)) (sym h.since) given
-
-  -- where none bound them
-  pub begun_free : (most : Option ℕ) → Begins None most → HasGiven b.since (numbers_now b.parser)
-  begun_free most h = subst (λ z. HasGiven z (numbers_now b.parser)) (sym h.since) tt
-
--- the start of the block of INSERT DATA
-pub inserting_starts : (s : CodeScope) (b : CodeBlock Terms Subject Verb Term RdfTriple)
-    → Begins terms b (in_language inserted (scope_context s)) (scope_numbers s) (Some (scope_numbers s).1) None → LeadsTo (place.Inserting b) (start_of InsertData s)
-inserting_starts s b h =
-    let env = in_language inserted (scope_context s) in
-    let n = scope_numbers s in
-    record {
-      state = begun_in terms b env n InData (λ P. Some (Inserts P)) (Some n.1) None h;
-      sound = begun_sound terms b env n None h;
-    }
-
--- of DELETE DATA
-pub deleting_starts : (s : CodeScope) (b : CodeBlock Terms Subject Verb Term RdfTriple)
-    → Begins terms b (in_language deleted (scope_context s)) (scope_numbers s) None None → LeadsTo (place.Deleting b) (start_of DeleteData s)
-deleting_starts s b h =
-    let env = in_language deleted (scope_context s) in
-    let n = scope_numbers s in
-    record {
-      state = begun_in terms b env n InData (λ P. Some (DeletesData P)) None None h;
-      sound = begun_free terms b env n None h;
-    }
-
--- of DELETE WHERE
-pub seeking_starts : (s : CodeScope) (b : CodeBlock Patterns Part Part Part Pattern)
-    → Begins patterns b (in_language sought (scope_context s)) (scope_numbers s) None (Some max_patterns) → LeadsTo (place.Seeking b) (start_of DeleteWhere s)
-seeking_starts s b h =
-    let env = in_language sought (scope_context s) in
-    let n = scope_numbers s in
-    record {
-      state = begun_in patterns b env n InWhere some_patterns None (Some max_patterns) h;
-      sound = begun_free patterns b env n (Some max_patterns) h;
-    }

@@ -17,7 +17,8 @@ use Rattle.gs_update_text.specs.States.{State, Rejected}
 use Rattle.gs_update_text.specs.Machine.{step, ended, updates}
 use Rattle.gs_update_text.specs.Texts.{ended_by}
 use Rattle.gs_update_text.proofs.UpdateLemmas.{rejected_rest}
-use Rattle.gs_update.specs.Views.{state_of, operations_of, IsSound}
+use Rattle.gs_update_places.specs.Views.{IsSound}
+use Rattle.gs_update.specs.Views.{state_of, operations_of}
 use Rattle.gs_update.specs.Steps.{Moves}
 use Rattle.gs_update.specs.Portions.{operations_in, turn_of, end_of, Takes, Concludes, refusal_of, TellsBehind}
 use Rattle.gs_update.specs.declared.parser.UpdateParser.{UpdateParser}

@@ -9,7 +9,8 @@ use Rattle.gs_triples.specs.Symbols.{symbols_of}
 use Rattle.gs_update_text.specs.Requests.{UpdateOperation, Written, Rejection, Broken, OutOfProfile, Request, end_of_last}
 use Rattle.gs_update_text.specs.States.{State}
 use Rattle.gs_update_text.specs.Machine.{updates}
-use Rattle.gs_update.specs.Views.{state_of, operations_of, IsSound}
+use Rattle.gs_update_places.specs.Views.{IsSound}
+use Rattle.gs_update.specs.Views.{state_of, operations_of}
 use Rattle.gs_update.specs.declared.parser.UpdateParser.{UpdateParser}
 
 -- the operations of some that are written

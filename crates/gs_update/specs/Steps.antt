@@ -1,34 +1,21 @@
 -- What a symbol does to a parser of updates.
-use Rattle.std.specs.Prelude.{◌≡◌, ◌≢◌, ℕ, List, [], ◌∷◌, ◌++◌, map, Option, Result, IfOk}
-use Rattle.gs_triples.specs.Meanings.{Fault}
-use Rattle.gs_triples.specs.States.{Lost, triples_so_far}
-use Rattle.gs_triple_parser.specs.Languages.{TypedLanguage}
-use Rattle.gs_triple_parser.specs.Views.{symbol_at, scope_context, scope_numbers, triples_state, context_now, numbers_now, pending_triples}
+use Rattle.std.specs.Prelude.{◌≡◌, ℕ, [], ◌∷◌, ◌++◌, map, Option, Some, None}
+use Rattle.gs_triple_values.specs.Languages.{TypedLanguage}
+use Rattle.gs_triple_values.specs.Typed.{terms, patterns}
+use Rattle.gs_triple_values.specs.declared.symbols.Symbol.{Symbol}
+use Rattle.gs_triple_parser.specs.Views.{scope_context, scope_numbers}
 use Rattle.gs_triple_parser.specs.declared.scopes.Scope.{Scope}
-use Rattle.gs_triple_parser.specs.declared.symbols.Symbol.{Symbol}
 use Rattle.gs_update_text.specs.Requests.{UpdateOperation, Written, Rejection, end_of_last}
-use Rattle.gs_update_text.specs.Blocks as blocks
 use Rattle.gs_update_text.specs.States as machine
-use Rattle.gs_update_text.specs.Machine.{step, ended}
-use Rattle.gs_update.specs.Views.{rejection_at, HasGiven, IsSound, block_state, rules_of, state_at, state_of, operations_of}
-use Rattle.gs_update.specs.declared.blocks.Block.{Block as CodeBlock}
-use Rattle.gs_update.specs.declared.blocks.BlockTurn.{BlockTurn as CodeTurn}
-use Rattle.gs_update.specs.declared.blocks.BlockTurn.TheVariants as turn
-use Rattle.gs_update.specs.declared.places.Place.{Place}
+use Rattle.gs_update_text.specs.Machine.{ended}
+use Rattle.gs_update_places.specs.Views.{IsSound}
+use Rattle.gs_update_places.specs.Steps.{Turned, block_turn, StaysUnless}
+use Rattle.gs_update_places.specs.declared.blocks.Block.{Block as CodeBlock}
+use Rattle.gs_update_places.specs.declared.blocks.BlockTurn.{BlockTurn as CodeTurn}
+use Rattle.gs_update_places.specs.declared.places.Place.{Place}
+use Rattle.gs_update_places.specs.declared.places.Place.TheVariants as place
+use Rattle.gs_update.specs.Views.{state_of, operations_of}
 use Rattle.gs_update.specs.declared.parser.UpdateParser.{UpdateParser}
-
--- what makes an operation of a block's triples
-abbrev pub Making : Type 0 → Type 0
-Making T = List T → Option UpdateOperation
-
--- a place that a symbol leads to, and no operation ends
-pub record LeadsTo (p : Place) (t : machine.Turn) : Type 0 where
-  pub state : machine.quiet (state_at p) ≡ t
-  pub sound : IsSound p
-
--- the machine's turn by a symbol at a place
-abbrev pub turn_at_place : Place → Symbol → machine.Turn
-turn_at_place p t = step (state_at p) (symbol_at t)
 
 -- at the start of a text
 pub record Starts (p : UpdateParser) (s : machine.State) : Type 0 where
@@ -37,9 +24,31 @@ pub record Starts (p : UpdateParser) (s : machine.State) : Type 0 where
   pub last : p.last ≡ 0
   pub sound : IsSound p.place
 
--- at the start of the block of an operation of this form
-abbrev pub start_of : machine.Form → Scope → machine.Turn
-start_of f s = machine.quiet (machine.block_of f (scope_context s) (scope_numbers s))
+-- in a language of the code, a block b took this symbol with this turn, where the place was this before
+pub record StepsFrom {L S V X T : Type 0} (l : TypedLanguage S V X T) (within : CodeBlock L S V X T → Place) (from : Place) (t : Symbol) (u : CodeTurn) (b : CodeBlock L S V X T) : Type 0 where
+  pub block : CodeBlock L S V X T
+  pub was : from ≡ within block
+  pub turn : Turned l b u (block_turn l block t)
+  pub stays : StaysUnless l block b u
+
+-- the block of a place took this symbol with this turn: the place before and after
+abbrev pub StepsBlock : Place → Symbol → CodeTurn → Place → Type 0
+StepsBlock from t u (place.Inserting b) = StepsFrom terms place.Inserting from t u b
+StepsBlock from t u (place.Deleting b) = StepsFrom terms place.Deleting from t u b
+StepsBlock from t u (place.Seeking b) = StepsFrom patterns place.Seeking from t u b
+StepsBlock from t u other = ⊥
+
+-- a place outside a block
+abbrev pub IsPassage : Place → Type 0
+IsPassage (place.Inserting b) = ⊥
+IsPassage (place.Deleting b) = ⊥
+IsPassage (place.Seeking b) = ⊥
+IsPassage other = Unit {0}
+
+-- the block of a place took this symbol with the turn that is said, or the place is in none and stays
+abbrev pub StepsBlockIf : Place → Symbol → Option CodeTurn → Place → Type 0
+StepsBlockIf from t None p = IsPassage from × (p ≡ from)
+StepsBlockIf from t (Some u) p = StepsBlock from t u p
 
 -- after an operation that ends there
 abbrev pub concluded : Scope → UpdateOperation → ℕ → machine.Turn
@@ -57,79 +66,3 @@ pub record Ends (old new : UpdateParser) (r : Option Rejection) : Type 0 where
   pub said : r ≡ ended (state_of old)
   pub operations : new.operations ≡ old.operations
   pub last : new.last ≡ old.last
-
--- a block's triples, with those that are read and handed on
-abbrev pub all_triples : {L S V X T : Type 0} → CodeBlock L S V X T → List T
-all_triples b = b.triples.items ++ pending_triples b.parser
-
--- what bounds a block stays
-pub record KeepsBounds {L S V X T : Type 0} (old new : CodeBlock L S V X T) : Type 0 where
-  pub since : new.since ≡ old.since
-  pub most : new.most ≡ old.most
-
--- in a language of the code
-module _ {L S V X T : Type 0} (l : TypedLanguage S V X T) where
-  -- a block's triples, with those that are being read
-  abbrev pub triples_now : CodeBlock L S V X T → List T
-  triples_now b = b.triples.items ++ triples_so_far (triples_state l b.parser)
-
-  -- a turn that left a block so
-  abbrev pub turn_at : Making T → CodeBlock L S V X T → CodeTurn → blocks.BlockTurn X T
-  turn_at made b turn.Takes = blocks.Takes (block_state l b)
-  turn_at made b (turn.Shuts e) = blocks.shut (made b.triples.items) (numbers_now b.parser) e
-  turn_at made b (turn.Stops r) = blocks.Stops (rejection_at r)
-
-  -- a block took the turn that its rules give, whatever operation they make
-  abbrev pub Turned : CodeBlock L S V X T → CodeTurn → (Making T → blocks.BlockTurn X T) → Type 0
-  Turned b u t = (made : Making T) → turn_at made b u ≡ t made
-
-  -- a call that has not failed reports that turn
-  abbrev pub TurnsTo : {E : Type 0} → Result CodeTurn E → CodeBlock L S V X T → (Making T → blocks.BlockTurn X T) → Type 0
-  TurnsTo r b t = IfOk r (λ u. Turned b u t)
-
-  -- where triples took a symbol and the block goes on, they have no fault
-  abbrev pub GoesOn : CodeBlock L S V X T → CodeTurn → Type 0
-  GoesOn b turn.Takes = (f : Fault) → triples_state l b.parser ≢ Lost f
-  GoesOn b (turn.Shuts e) = ⊥
-  GoesOn b (turn.Stops r) = Unit {0}
-
-  -- the turn of the rules by a state of triples that took a symbol
-  abbrev pub entered_turn : CodeBlock L S V X T → Making T → blocks.BlockTurn X T
-  entered_turn b made = blocks.entered (rules_of l made b) b.triples.items (triples_state l b.parser)
-
-  -- by a symbol after triples, which have joined the others or are to join them
-  abbrev pub parted_turn : CodeBlock L S V X T → Symbol → Making T → blocks.BlockTurn X T
-  parted_turn b t made = blocks.parted (rules_of l made b) (symbol_at t) (context_now l b.parser) b.triples.items (numbers_now b.parser)
-
-  abbrev pub followed_turn : CodeBlock L S V X T → Symbol → Making T → blocks.BlockTurn X T
-  followed_turn b t made = blocks.followed (rules_of l made b) (symbol_at t) (context_now l b.parser) (all_triples b) (numbers_now b.parser)
-
-  -- by a symbol where triples may begin
-  abbrev pub opening_turn : CodeBlock L S V X T → Symbol → Making T → blocks.BlockTurn X T
-  opening_turn b t made = blocks.at_triples (rules_of l made b) (symbol_at t) (context_now l b.parser) b.triples.items (numbers_now b.parser)
-
-  -- by a symbol where any may stand, and by any symbol
-  abbrev pub moved_turn : CodeBlock L S V X T → Symbol → Making T → blocks.BlockTurn X T
-  moved_turn b t made = blocks.moved (rules_of l made b) (block_state l b) (symbol_at t)
-
-  abbrev pub block_turn : CodeBlock L S V X T → Symbol → Making T → blocks.BlockTurn X T
-  block_turn b t made = blocks.block_step (rules_of l made b) (block_state l b) (symbol_at t)
-
-  -- the departure of a text that ends there
-  abbrev pub end_turn : CodeBlock L S V X T → Making T → Rejection
-  end_turn b made = blocks.block_ended (rules_of l made b) (block_state l b)
-
-  -- context and rules stay
-  pub record Stays (old new : CodeBlock L S V X T) : Type 0 where
-    pub context : context_now l new.parser ≡ context_now l old.parser
-    pub rules : (made : Making T) → rules_of l made new ≡ rules_of l made old
-    pub given : HasGiven new.since (numbers_now new.parser)
-
-  -- unless the block is refused
-  abbrev pub StaysUnless : CodeBlock L S V X T → CodeBlock L S V X T → CodeTurn → Type 0
-  StaysUnless old new (turn.Stops r) = Unit {0}
-  StaysUnless old new u = Stays old new
-
-  -- a call that has not failed leaves them so
-  abbrev pub StaysIf : {E : Type 0} → Result CodeTurn E → CodeBlock L S V X T → CodeBlock L S V X T → Type 0
-  StaysIf r old new = IfOk r (λ u. StaysUnless old new u)

@@ -1,95 +1,11 @@
 -- What a parser of updates stands for.
-use Rattle.std.specs.Prelude.{ℕ, ◌≤◌, Bool, false, if◌then◌else◌, List, length, nat_lt, map, Option, Some, None, string_bytes}
+use Rattle.std.specs.Prelude.{List, map}
 use Rattle.gs_event.specs.declared.updates.Op.{Op}
 use Rattle.gs_event.specs.declared.updates.Op.TheVariants as op
-use Rattle.gs_blank.specs.Numbers.{Numbers}
-use Rattle.gs_triples.specs.Symbols.{Symbol}
-use Rattle.gs_triples.specs.Languages.{of_terms}
-use Rattle.gs_triples.specs.Meanings.{in_language}
-use Rattle.gs_triple_parser.specs.Languages.{TypedLanguage}
-use Rattle.gs_triple_parser.specs.Typed.{terms, patterns}
-use Rattle.gs_triple_parser.specs.Views.{scope_context, scope_numbers, triples_state, context_now, numbers_now}
-use Rattle.gs_update_text.specs.Requests.{UpdateOperation, Inserts, DeletesData, DeletesWhere, Rejection, Broken, OutOfProfile}
-use Rattle.gs_update_text.specs.Operations.{Scope, Block, is_old, some_patterns}
-use Rattle.gs_update_text.specs.Blocks.{BlockState, AtTriples, WithinTriples}
+use Rattle.gs_update_text.specs.Requests.{UpdateOperation, Inserts, DeletesData, DeletesWhere}
 use Rattle.gs_update_text.specs.States as machine
-use Rattle.gs_update.specs.declared.rejections.Rejection.{Rejection as CodeRejection}
-use Rattle.gs_update.specs.declared.rejections.Rejection.TheVariants as rejection
-use Rattle.gs_update.specs.declared.places.Form.{Form as CodeForm}
-use Rattle.gs_update.specs.declared.places.Form.TheVariants as form
-use Rattle.gs_update.specs.declared.places.Place.{Place}
-use Rattle.gs_update.specs.declared.places.Place.TheVariants as place
-use Rattle.gs_update.specs.declared.blocks.Block.{Block as CodeBlock}
+use Rattle.gs_update_places.specs.Views.{state_at}
 use Rattle.gs_update.specs.declared.parser.UpdateParser.{UpdateParser}
-
--- why a text is no update, as the grammar has it
-abbrev pub rejection_at : CodeRejection → Rejection
-rejection_at (rejection.Broken f) = Broken f
-rejection_at rejection.OutOfProfile = OutOfProfile
-
--- the form of an operation
-abbrev pub form_at : CodeForm → machine.Form
-form_at form.InsertData = machine.InsertData
-form_at form.DeleteData = machine.DeleteData
-form_at form.DeleteWhere = machine.DeleteWhere
-
--- a label with one of the first so many numbers, where there is such a bound
-abbrev pub bars_since : Option ℕ → Numbers → Symbol → Bool
-bars_since None n t = false
-bars_since (Some k) n t = is_old k n t
-
--- more than so many, where there is such a bound
-abbrev pub more_than : {T : Type 0} → Option ℕ → List T → Bool
-more_than None P = false
-more_than (Some k) P = nat_lt k (length P)
-
--- as many numbers are given, where there is such a bound
-abbrev pub HasGiven : Option ℕ → Numbers → Type 0
-HasGiven None n = Unit {0}
-HasGiven (Some k) n = k ≤ n.1
-
--- in a language of the code
-module _ {L S V X T : Type 0} (l : TypedLanguage S V X T) where
-  -- the state of a block
-  abbrev pub block_state : CodeBlock L S V X T → BlockState X T
-  block_state b =
-      if b.within then WithinTriples b.triples.items (triples_state l b.parser)
-      else AtTriples (context_now l b.parser) b.triples.items (numbers_now b.parser)
-
-  -- how it is read, where its triples make this operation
-  abbrev pub rules_of : (List T → Option UpdateOperation) → CodeBlock L S V X T → Block X T
-  rules_of made b = record {
-    language = (context_now l b.parser).language;
-    bars = bars_since b.since (numbers_now b.parser);
-    too_many = more_than b.most;
-    operation = made;
-  }
-
-  -- the context between operations
-  abbrev pub scope_of : CodeBlock L S V X T → Scope
-  scope_of b = in_language of_terms (context_now l b.parser)
-
--- the state of a parser at a place
-abbrev pub state_at : Place → machine.State
-state_at (place.Between s) = machine.Between (scope_context s) (scope_numbers s)
-state_at (place.InPrefix s) = machine.InPrefix (scope_context s) (scope_numbers s)
-state_at (place.InPrefixIri s x) = machine.InPrefixIri (string_bytes x) (scope_context s) (scope_numbers s)
-state_at (place.InBase s) = machine.InBase (scope_context s) (scope_numbers s)
-state_at (place.AfterInsert s) = machine.AfterInsert (scope_context s) (scope_numbers s)
-state_at (place.AfterDelete s) = machine.AfterDelete (scope_context s) (scope_numbers s)
-state_at (place.AtBrace f s) = machine.AtBrace (form_at f) (scope_context s) (scope_numbers s)
-state_at (place.Inserting b) = machine.InData (rules_of terms (λ T. Some (Inserts T)) b) (scope_of terms b) (block_state terms b)
-state_at (place.Deleting b) = machine.InData (rules_of terms (λ T. Some (DeletesData T)) b) (scope_of terms b) (block_state terms b)
-state_at (place.Seeking b) = machine.InWhere (rules_of patterns some_patterns b) (scope_of patterns b) (block_state patterns b)
-state_at (place.After s) = machine.After (scope_context s) (scope_numbers s)
-state_at (place.Rejected r) = machine.Rejected (rejection_at r)
-
--- the numbers that bound the labels of a block are given
-abbrev pub IsSound : Place → Type 0
-IsSound (place.Inserting b) = HasGiven b.since (numbers_now b.parser)
-IsSound (place.Deleting b) = HasGiven b.since (numbers_now b.parser)
-IsSound (place.Seeking b) = HasGiven b.since (numbers_now b.parser)
-IsSound other = Unit {0}
 
 -- the state of a parser
 abbrev pub state_of : UpdateParser → machine.State

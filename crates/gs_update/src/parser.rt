@@ -1,17 +1,33 @@
 //! The parser.
-ghost use Rattle.std.specs.Prelude.{◌≡◌, ◌≢◌, true, option_map, OnOk, IfOk, IfSome, IfNone};
+ghost use Rattle.std.specs.Prelude.{◌≡◌, ◌≢◌, ◌++◌, ◌∷◌, [], true, option_map, OnOk, IfOk, IfSome, IfNone};
 ghost use Rattle.gs_model.specs.Iris.{is_absolute};
+ghost use Rattle.gs_update_places.specs.Views.{IsSound};
+ghost use Rattle.gs_update.specs.Steps.{StepsBlockIf};
 
-use crate::blocks::{Block, BlockTurn};
-use crate::operations::{after, after_delete, after_insert, at_brace};
-use crate::places::Place;
-use crate::prologues::{base, between, prefix, prefix_iri};
-use crate::rejections::Rejection;
 use gs_event::Op;
 use gs_model::Fault;
-use gs_triple_parser::{Patterns, Scope, Symbol, Terms};
+use gs_triple_parser::Scope;
+use gs_triple_values::Symbol;
+use gs_update_places::operations::{after, after_delete, after_insert, at_brace};
+use gs_update_places::prologues::{base, between, prefix, prefix_iri};
+use gs_update_places::{BlockTurn, Place, Rejection};
 use std::alloc::{AllocError, Global};
 use std::mem;
+
+/// What the block of a place makes of a symbol, where the place is in one. The block stays where it
+/// is, since it is large and most symbols stand in one.
+#[inline]
+fn step_block(place: &mut Place, symbol: Symbol) -> Result<Option<BlockTurn>, AllocError>
+    requires { IsSound place.old }
+    ensures { IfOk result (λ o. StepsBlockIf place.old symbol.entry o place.new) }
+{
+    match place {
+        Place::Inserting(block) => Ok(Some(block.step(symbol)?)),
+        Place::Deleting(block) => Ok(Some(block.step(symbol)?)),
+        Place::Seeking(block) => Ok(Some(block.step(symbol)?)),
+        _ => Ok(None),
+    }
+}
 
 /// A parser of one update, which takes its symbols in their order.
 #[derive(Drop)]
@@ -26,13 +42,16 @@ pub struct UpdateParser {
 
 impl UpdateParser {
     ghost use Rattle.gs_blank.specs.Numbers.{no_numbers};
-    ghost use Rattle.gs_triple_parser.specs.Views.{symbol_at, numbers_now};
+    ghost use Rattle.gs_triple_values.specs.Views.{symbol_at};
     ghost use Rattle.gs_update_text.specs.Grammar.{first_scope};
     ghost use Rattle.gs_update_text.specs.States.{Between, Rejected, quiet};
     ghost use Rattle.gs_update_text.specs.Machine as machine;
-    ghost use Rattle.gs_update.specs.declared.rejections.Rejection.{Rejection as Code};
-    ghost use Rattle.gs_update.specs.Views.{HasGiven, IsSound, rejection_at, state_at, state_of, operation_of};
-    ghost use Rattle.gs_update.specs.Steps.{Starts, Moves, Ends, concluded, turn_at_place};
+    ghost use Rattle.gs_update_places.specs.declared.rejections.Rejection.{Rejection as Code};
+    ghost use Rattle.gs_triple_values.specs.declared.symbols.Symbol.{Symbol as ASymbol};
+    ghost use Rattle.gs_update_places.specs.Views.{rejection_at, state_at};
+    ghost use Rattle.gs_update.specs.Views.{state_of, operation_of};
+    ghost use Rattle.gs_update_places.specs.Steps.{turn_at_place};
+    ghost use Rattle.gs_update.specs.Steps.{Starts, Moves, Ends, concluded, StepsBlock, IsPassage};
 
     /// At the start of an update under an absolute base, in the request of this number.
     pub fn new(alloc: Global, base: &str, request: u64) -> Result<UpdateParser, AllocError>
@@ -56,74 +75,70 @@ impl UpdateParser {
         Ok(())
     }
 
+    /// One operation more, which ends there.
+    fn add(&mut self, operation: Op, end: u64) -> Result<(), AllocError>
+        ensures operations { OnOk result (self.new.operations.items
+            ≡ self.old.operations.items ++ operation ∷ []) }
+        ensures last { OnOk result (self.new.last ≡ end) }
+    {
+        self.operations.push(operation)?;
+        self.last = end;
+        Ok(())
+    }
+
     /// An operation ends there.
     fn conclude(&mut self, scope: Scope, operation: Op, end: u64) -> Result<(), AllocError>
         ensures { OnOk result (Moves self.old self.new (concluded scope (operation_of operation) end)) }
     {
-        self.operations.push(operation)?;
-        self.last = end;
-        self.place = Place::After(scope);
-        Ok(())
+        self.add(operation, end)?;
+        self.stand(Place::After(scope))
     }
 
-    /// A symbol in the block of INSERT DATA.
+    /// The block that the parser is in ends there: its operation is one more.
     #[tactic(auto, unfolding(gs_update_text::specs::Machine::step))]
-    fn insert(&mut self, block: Block<Terms>, symbol: Symbol) -> Result<(), AllocError>
-        requires { HasGiven block.since (numbers_now block.parser) }
-        ensures { OnOk result (Moves self.old self.new (turn_at_place (Place.Inserting block) symbol.entry)) }
+    fn shut(&mut self, end: u64) -> Result<(), AllocError>
+        ensures { (from : Place) (t : ASymbol) → StepsBlock from t (BlockTurn.Shuts end) self.old.place
+            → OnOk result (Moves self.old self.new (turn_at_place from t)) }
     {
-        let mut block = block;
-        match block.step(symbol)? {
-            BlockTurn::Takes => self.stand(Place::Inserting(block)),
-            BlockTurn::Shuts(end) => {
+        let lost = Place::Rejected(Rejection::Broken(Fault::Syntax));
+        match mem::replace(&mut self.place, lost) {
+            Place::Inserting(block) => {
                 let (scope, triples) = block.into_parts();
                 self.conclude(scope, Op::Insert(triples), end)
             }
-            BlockTurn::Stops(rejection) => self.stand(Place::Rejected(rejection)),
-        }
-    }
-
-    /// A symbol in the block of DELETE DATA.
-    #[tactic(auto, unfolding(gs_update_text::specs::Machine::step))]
-    fn delete(&mut self, block: Block<Terms>, symbol: Symbol) -> Result<(), AllocError>
-        requires { HasGiven block.since (numbers_now block.parser) }
-        ensures { OnOk result (Moves self.old self.new (turn_at_place (Place.Deleting block) symbol.entry)) }
-    {
-        let mut block = block;
-        match block.step(symbol)? {
-            BlockTurn::Takes => self.stand(Place::Deleting(block)),
-            BlockTurn::Shuts(end) => {
+            Place::Deleting(block) => {
                 let (scope, triples) = block.into_parts();
                 self.conclude(scope, Op::DeleteData(triples), end)
             }
-            BlockTurn::Stops(rejection) => self.stand(Place::Rejected(rejection)),
-        }
-    }
-
-    /// A symbol in the block of DELETE WHERE.
-    #[tactic(auto, unfolding(gs_update_text::specs::Machine::step))]
-    fn seek(&mut self, block: Block<Patterns>, symbol: Symbol) -> Result<(), AllocError>
-        requires { HasGiven block.since (numbers_now block.parser) }
-        ensures { OnOk result (Moves self.old self.new (turn_at_place (Place.Seeking block) symbol.entry)) }
-    {
-        let mut block = block;
-        match block.step(symbol)? {
-            BlockTurn::Takes => self.stand(Place::Seeking(block)),
-            BlockTurn::Shuts(end) => {
+            Place::Seeking(block) => {
                 let (scope, patterns) = block.into_parts();
                 if patterns.is_empty() {
                     return self.stand(Place::Rejected(Rejection::OutOfProfile));
                 }
                 self.conclude(scope, Op::DeleteWhere(patterns), end)
             }
+            _ => Ok(()),
+        }
+    }
+
+    /// After the turn of the block that the parser is in.
+    #[tactic(auto, unfolding(gs_update_text::specs::Machine::step))]
+    #[inline]
+    fn follow(&mut self, turn: BlockTurn) -> Result<(), AllocError>
+        ensures { (from : Place) (t : ASymbol) → StepsBlock from t turn self.old.place
+            → OnOk result (Moves self.old self.new (turn_at_place from t)) }
+    {
+        match turn {
+            BlockTurn::Takes => Ok(()),
+            BlockTurn::Shuts(end) => self.shut(end),
             BlockTurn::Stops(rejection) => self.stand(Place::Rejected(rejection)),
         }
     }
 
-    /// One symbol more. After a refusal the parser is of no more use.
+    /// A symbol outside a block.
     #[tactic(auto, unfolding(gs_update_text::specs::Machine::step))]
-    pub fn step(&mut self, symbol: Symbol) -> Result<(), AllocError>
-        requires { IsSound self.old.place }
+    fn pass(&mut self, symbol: Symbol) -> Result<(), AllocError>
+        requires { IsPassage self.old.place }
         ensures { OnOk result (Moves self.old self.new
             (machine.step (state_of self.old) (symbol_at symbol.entry))) }
     {
@@ -142,11 +157,22 @@ impl UpdateParser {
                 let place = at_brace(self.alloc, form, scope, symbol);
                 self.stand(place)
             }
-            Place::Inserting(block) => self.insert(block, symbol),
-            Place::Deleting(block) => self.delete(block, symbol),
-            Place::Seeking(block) => self.seek(block, symbol),
             Place::After(scope) => self.stand(after(scope, symbol)),
             Place::Rejected(rejection) => self.stand(Place::Rejected(rejection)),
+            Place::Inserting(_) | Place::Deleting(_) | Place::Seeking(_) => Ok(()),
+        }
+    }
+
+    /// One symbol more. After a refusal the parser is of no more use.
+    #[inline]
+    pub fn step(&mut self, symbol: Symbol) -> Result<(), AllocError>
+        requires { IsSound self.old.place }
+        ensures { OnOk result (Moves self.old self.new
+            (machine.step (state_of self.old) (symbol_at symbol.entry))) }
+    {
+        match step_block(&mut self.place, symbol)? {
+            Some(turn) => self.follow(turn),
+            None => self.pass(symbol),
         }
     }
 
@@ -175,6 +201,7 @@ impl UpdateParser {
             _ => Ok(Some(Rejection::Broken(Fault::Syntax))),
         }
     }
+
     /// The operations.
     pub fn into_operations(self) -> Vec<Op>
         ensures { result ≡ self.operations }

@@ -4,14 +4,14 @@ ghost use Rattle.gs_lex.specs.Tokens.{Lexeme};
 ghost use Rattle.gs_lex.specs.Tokens as lexer;
 ghost use Rattle.gs_lex.specs.Lexemes.{lexemes_of};
 ghost use Rattle.gs_update_text.specs.Texts.{ended_by};
-ghost use Rattle.gs_update.specs.Views.{IsSound, rejection_at};
+ghost use Rattle.gs_update_places.specs.Views.{IsSound, rejection_at};
 ghost use Rattle.gs_update.specs.Portions.{Takes, Concludes, TellsBehind, refusal_of, end_of};
 
 use crate::parser::UpdateParser;
-use crate::rejections::Rejection;
 use gs_lex::Token;
 use gs_model::{Fault, Refusal};
-use gs_triple_parser::symbol_of_token;
+use gs_triple_values::symbol_of_token;
+use gs_update_places::Rejection;
 use std::alloc::AllocError;
 
 /// Token by token.

@@ -3,7 +3,7 @@ ghost use Rattle.std.specs.Prelude.{◌≡◌, [], true, OnOk, IfOk, IfErr};
 ghost use Rattle.gs_model.specs.Iris.{is_absolute};
 ghost use Rattle.gs_update_text.specs.Texts.{request_by};
 ghost use Rattle.gs_update.specs.Answers.{Answers};
-ghost use Rattle.gs_update.specs.Views.{IsSound};
+ghost use Rattle.gs_update_places.specs.Views.{IsSound};
 
 use crate::parser::UpdateParser;
 use crate::portions::{break_off, conclude, go_on};
@@ -106,7 +106,8 @@ impl UpdateReader {
 }
 
 /// The operations of the text of an update, under an absolute base, in the request of this number.
-/// `gs_iri::is_absolute` tests a base. Linear in the length of the text.
+/// `gs_iri::is_absolute` tests a base. Linear in the length of the text, but that each relative
+/// reference also reads the base in force, and each prefixed name the IRI of its prefix.
 ///
 /// # Errors
 ///

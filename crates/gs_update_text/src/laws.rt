@@ -33,13 +33,15 @@ pub fn departure_ends_the_longest_front()
 /// A text says these operations and has no departure exactly where its tokens, each the longest at
 /// its place, are those of an update that has them.
 pub fn update_text_is_read()
-    ensures { (b x : List ℕ) (r : ℕ) (os : List Written) → ((request_by b r x ≡ (os, None)) ↔ IsUpdateText b r x os) }
+    ensures { (b x : List ℕ) (r : ℕ) (os : List Written)
+        → ((request_by b r x ≡ (os, None)) ↔ IsUpdateText b r x os) }
 {}
 
 /// A text is refused as out of the profile, after these operations, exactly where its tokens leave
 /// what is served after them.
 pub fn departing_text_is_refused()
-    ensures { (b x : List ℕ) (r : ℕ) (os : List Written) → ((request_by b r x ≡ (os, Some OutOfProfile)) ↔ LeavesText b r x os) }
+    ensures { (b x : List ℕ) (r : ℕ) (os : List Written)
+        → ((request_by b r x ≡ (os, Some OutOfProfile)) ↔ LeavesText b r x os) }
 {}
 
 /// A text is broken, in its tokens or in the grammar, and says these operations before the fault,
@@ -47,6 +49,7 @@ pub fn departing_text_is_refused()
 /// of the longest front of its tokens that is an update. A fault of the grammar is placed where the
 /// last of these ends.
 pub fn broken_text_is_refused()
-    ensures front { (b x : List ℕ) (r : ℕ) (os : List Written) → (SaysBroken b r x os ↔ IsBrokenAfter b r x os) }
+    ensures front { (b x : List ℕ) (r : ℕ) (os : List Written)
+        → (SaysBroken b r x os ↔ IsBrokenAfter b r x os) }
     ensures place { (b x : List ℕ) (r at : ℕ) → IsBroken (request_by b r x) at → BreaksAfter b r x at }
 {}

@@ -1,4 +1,4 @@
-use Rattle.std.proofs.Common.{◌≡◌, ◌+◌, ◌∷◌, min, None, length, length-append, sym, ap, ◌∙◌, arith}
+use Rattle.std.proofs.Common.{◌∷◌, min, None, length, length-append, sym, ap, ◌∙◌, arith}
 use Rattle.gs_tree.specs.Reading.{keys_at, keys_from}
 use Rattle.gs_tree.proofs.ReadingLemmas.{parts, top_past, top_not_past}
 use Rattle.gs_tree.proofs.reading.+count_from.Goals as goal

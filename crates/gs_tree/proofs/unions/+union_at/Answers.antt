@@ -34,7 +34,8 @@ pub join-joined-requires-clause-can : goal.join-joined-requires-clause-can
 join-joined-requires-clause-can g t c = join_can (g.O.KeyOrder.compare c.args.order.now) (g.met.O.KeyOrder.total c.args.order.now) c.args.since c.args.birth c.args.pool.now c.args.root (tree_at c.args.pool.now c.args.root) c.args.run.now c.requires.can c.in-Some.id c.get-node.result c.in-Some.is c.get-node.ensures c.split_at.result.0.now c.split_at-2.result.1.now (cut_of (g.O.KeyOrder.compare c.args.order.now) c.get-node.result.key c.args.run.now c.split_at.result.0.now c.split_at-2.result.1.now _ _ c.find_place-at.ensures c.split_at.ensures.front c.split_at-2.ensures.back) c.union_at-left.new.pool c.union_at-left.result.root c.union_at-left.result.added c.union_at-left.ensures c.union_at-right.new.pool c.union_at-right.result.root c.union_at-right.result.added c.union_at-right.ensures (omega (arith, c.if-added-eq0.false)) c.copy_if_older-top.new.pool c.copy_if_older-top.result c.copy_if_older-top.ensures
 
 pub returns : goal.returns
-returns g t c = rw c.lacked-added.ensures (join_done (g.O.KeyOrder.compare c.args.order.now) (g.met.O.KeyOrder.total c.args.order.now) c.args.since c.args.birth c.args.pool.now c.args.root (tree_at c.args.pool.now c.args.root) c.args.run.now c.requires.can c.in-Some.id c.get-node.result c.in-Some.is c.get-node.ensures c.split_at.result.0.now c.split_at-2.result.1.now (cut_of (g.O.KeyOrder.compare c.args.order.now) c.get-node.result.key c.args.run.now c.split_at.result.0.now c.split_at-2.result.1.now _ _ c.find_place-at.ensures c.split_at.ensures.front c.split_at-2.ensures.back) c.union_at-left.new.pool c.union_at-left.result.root c.union_at-left.result.added c.union_at-left.ensures c.union_at-right.new.pool c.union_at-right.result.root c.union_at-right.result.added c.union_at-right.ensures (omega (arith, c.if-added-eq0.false)) c.copy_if_older-top.new.pool c.copy_if_older-top.result c.copy_if_older-top.ensures c.join-joined.new.pool c.join-joined.result (tree_at c.join-joined.new.pool (Some c.join-joined.result)) c.join-joined.ensures)
+returns g t c =
+    subst (λ n. Merges (g.O.KeyOrder.compare c.args.order.now) c.args.since c.args.birth c.args.pool.now c.join-joined.new.pool (Some c.join-joined.result) n (tree_at c.args.pool.now c.args.root) c.args.run.now (tree_at c.join-joined.new.pool (Some c.join-joined.result))) (omega (arith, c.lacked-added.ensures)) (join_done (g.O.KeyOrder.compare c.args.order.now) (g.met.O.KeyOrder.total c.args.order.now) c.args.since c.args.birth c.args.pool.now c.args.root (tree_at c.args.pool.now c.args.root) c.args.run.now c.requires.can c.in-Some.id c.get-node.result c.in-Some.is c.get-node.ensures c.split_at.result.0.now c.split_at-2.result.1.now (cut_of (g.O.KeyOrder.compare c.args.order.now) c.get-node.result.key c.args.run.now c.split_at.result.0.now c.split_at-2.result.1.now _ _ c.find_place-at.ensures c.split_at.ensures.front c.split_at-2.ensures.back) c.union_at-left.new.pool c.union_at-left.result.root c.union_at-left.result.added c.union_at-left.ensures c.union_at-right.new.pool c.union_at-right.result.root c.union_at-right.result.added c.union_at-right.ensures (omega (arith, c.if-added-eq0.false)) c.copy_if_older-top.new.pool c.copy_if_older-top.result c.copy_if_older-top.ensures c.join-joined.new.pool c.join-joined.result (tree_at c.join-joined.new.pool (Some c.join-joined.result)) c.join-joined.ensures)
 
 pub copy_if_older-top-requires-clause-unlisted : goal.copy_if_older-top-requires-clause-unlisted
 copy_if_older-top-requires-clause-unlisted g t c = union_plain (g.O.KeyOrder.compare c.args.order.now) (g.met.O.KeyOrder.total c.args.order.now) c.args.since c.args.birth c.args.pool.now c.args.root (tree_at c.args.pool.now c.args.root) c.args.run.now c.requires.can c.in-Some.id c.get-node.result c.in-Some.is c.get-node.ensures c.split_at.result.0.now c.split_at-2.result.1.now (cut_of (g.O.KeyOrder.compare c.args.order.now) c.get-node.result.key c.args.run.now c.split_at.result.0.now c.split_at-2.result.1.now _ _ c.find_place-at.ensures c.split_at.ensures.front c.split_at-2.ensures.back) c.union_at-left.new.pool c.union_at-left.result.root c.union_at-left.result.added c.union_at-left.ensures c.union_at-right.new.pool c.union_at-right.result.root c.union_at-right.result.added c.union_at-right.ensures

@@ -2,7 +2,7 @@ use Rattle.std.proofs.Common.{sym, ap, subst, ◌∙◌}
 use Rattle.std.specs.Prelude.{option_map}
 use Rattle.gs_model.specs.declared.refusals.Refusal.{Refusal}
 use Rattle.gs_lex.specs.Lexemes.{lexemes_of}
-use Rattle.gs_update.specs.Views.{rejection_at}
+use Rattle.gs_update_places.specs.Views.{rejection_at}
 use Rattle.gs_update.specs.Portions.{end_of, TellsBehind}
 use Rattle.gs_update.proofs.PortionLemmas.{concludes, ends_rejected}
 use Rattle.gs_update.proofs.portions.conclude.Goals as goal

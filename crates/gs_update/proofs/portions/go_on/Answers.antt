@@ -1,7 +1,7 @@
 use Rattle.std.proofs.Common.{◌++◌, sym, subst}
 use Rattle.gs_model.specs.declared.refusals.Refusal.{Refusal}
 use Rattle.gs_lex.specs.Lexemes.{lexemes_of}
-use Rattle.gs_update.specs.Views.{rejection_at}
+use Rattle.gs_update_places.specs.Views.{rejection_at}
 use Rattle.gs_update.specs.Portions.{end_of, TellsBehind}
 use Rattle.gs_update.proofs.PortionLemmas.{rejected_tells}
 use Rattle.gs_update.proofs.portions.go_on.Goals as goal

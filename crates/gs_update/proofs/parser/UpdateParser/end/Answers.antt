@@ -3,8 +3,8 @@ use Rattle.std.specs.Prelude.{Some}
 use Rattle.gs_update_text.specs.Requests.{Inserts, DeletesData}
 use Rattle.gs_update_text.specs.Operations.{some_patterns}
 use Rattle.gs_update_text.specs.Machine.{ended}
-use Rattle.gs_update.specs.Views.{state_at}
-use Rattle.gs_update.specs.declared.places.Place.{Place}
+use Rattle.gs_update_places.specs.Views.{state_at}
+use Rattle.gs_update_places.specs.declared.places.Place.{Place}
 use Rattle.gs_update.proofs.parser.UpdateParser.end.Goals as goal
 
 pub returns-in_ok-end-in-Inserting : goal.returns-in_ok-end-in-Inserting

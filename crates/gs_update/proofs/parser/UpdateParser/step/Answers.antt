@@ -1,77 +1,15 @@
+use Rattle.std.proofs.Common.{refl, subst}
 use Rattle.std.proofs.lemmas.Result.{on_ok_weaker}
-use Rattle.gs_update.specs.declared.places.Place.TheVariants as place
-use Rattle.gs_update.proofs.PlaceLemmas.{stands_on, hands_on, stays_rejected}
+use Rattle.gs_update_places.specs.Steps.{turn_at_place}
+use Rattle.gs_update.specs.Steps.{StepsBlockIf}
+use Rattle.gs_update.proofs.PlaceLemmas.{moves_from}
 use Rattle.gs_update.proofs.parser.UpdateParser.step.Goals as goal
 
-pub returns-in-Between : goal.returns-in-Between
-returns-in-Between c =
-    on_ok_weaker c.stand.result
-    (stands_on c.args.self.now c.replace.new.dest (place.Between c.in-Between.scope) c.stand.new.self c.between.result c.args.symbol c.in-Between.ensures.value c.between.ensures)
-    c.stand.ensures
-
-pub returns-in_ok-place-in-InPrefix : goal.returns-in_ok-place-in-InPrefix
-returns-in_ok-place-in-InPrefix c =
-    on_ok_weaker c.stand-in-InPrefix.result
-    (stands_on c.args.self.now c.replace.new.dest (place.InPrefix c.in-InPrefix.scope) c.stand-in-InPrefix.new.self c.in_ok-place-in-InPrefix.place c.args.symbol c.in-InPrefix.ensures.value c.in_ok-place-in-InPrefix.ensures)
-    c.stand-in-InPrefix.ensures
-
-pub returns-in_ok-prefix_iri-in-InPrefixIri : goal.returns-in_ok-prefix_iri-in-InPrefixIri
-returns-in_ok-prefix_iri-in-InPrefixIri c =
-    on_ok_weaker c.stand-in-InPrefixIri.result
-    (stands_on c.args.self.now c.replace.new.dest (place.InPrefixIri c.in-InPrefixIri.scope c.in-InPrefixIri.text) c.stand-in-InPrefixIri.new.self c.in_ok-prefix_iri-in-InPrefixIri.field-0 c.args.symbol c.in-InPrefixIri.ensures.value c.in_ok-prefix_iri-in-InPrefixIri.ensures)
-    c.stand-in-InPrefixIri.ensures
-
-pub returns-in_ok-base-in-InBase : goal.returns-in_ok-base-in-InBase
-returns-in_ok-base-in-InBase c =
-    on_ok_weaker c.stand-in-InBase.result
-    (stands_on c.args.self.now c.replace.new.dest (place.InBase c.in-InBase.scope) c.stand-in-InBase.new.self c.in_ok-base-in-InBase.field-0 c.args.symbol c.in-InBase.ensures.value c.in_ok-base-in-InBase.ensures)
-    c.stand-in-InBase.ensures
-
-pub returns-in-AfterInsert : goal.returns-in-AfterInsert
-returns-in-AfterInsert c =
-    on_ok_weaker c.stand-in-AfterInsert.result
-    (stands_on c.args.self.now c.replace.new.dest (place.AfterInsert c.in-AfterInsert.scope) c.stand-in-AfterInsert.new.self c.after_insert.result c.args.symbol c.in-AfterInsert.ensures.value c.after_insert.ensures)
-    c.stand-in-AfterInsert.ensures
-
-pub returns-in-AfterDelete : goal.returns-in-AfterDelete
-returns-in-AfterDelete c =
-    on_ok_weaker c.stand-in-AfterDelete.result
-    (stands_on c.args.self.now c.replace.new.dest (place.AfterDelete c.in-AfterDelete.scope) c.stand-in-AfterDelete.new.self c.after_delete.result c.args.symbol c.in-AfterDelete.ensures.value c.after_delete.ensures)
-    c.stand-in-AfterDelete.ensures
-
-pub returns-in-AtBrace : goal.returns-in-AtBrace
-returns-in-AtBrace c =
-    on_ok_weaker c.stand-in-AtBrace.result
-    (stands_on c.args.self.now c.replace.new.dest (place.AtBrace c.in-AtBrace.form c.in-AtBrace.scope) c.stand-in-AtBrace.new.self c.at_brace-place.result c.args.symbol c.in-AtBrace.ensures.value c.at_brace-place.ensures)
-    c.stand-in-AtBrace.ensures
-
-pub returns-in-After : goal.returns-in-After
-returns-in-After c =
-    on_ok_weaker c.stand-in-After.result
-    (stands_on c.args.self.now c.replace.new.dest (place.After c.in-After.scope) c.stand-in-After.new.self c.after.result c.args.symbol c.in-After.ensures.value c.after.ensures)
-    c.stand-in-After.ensures
-
-pub returns-in-Inserting : goal.returns-in-Inserting
-returns-in-Inserting c =
-    on_ok_weaker c.insert.result
-    (hands_on c.args.self.now c.replace.new.dest (place.Inserting c.in-Inserting.block) c.insert.new.self c.args.symbol c.in-Inserting.ensures.value)
-    c.insert.ensures
-
-pub returns-in-Deleting : goal.returns-in-Deleting
-returns-in-Deleting c =
-    on_ok_weaker c.delete.result
-    (hands_on c.args.self.now c.replace.new.dest (place.Deleting c.in-Deleting.block) c.delete.new.self c.args.symbol c.in-Deleting.ensures.value)
-    c.delete.ensures
-
-pub returns-in-Seeking : goal.returns-in-Seeking
-returns-in-Seeking c =
-    on_ok_weaker c.seek.result
-    (hands_on c.args.self.now c.replace.new.dest (place.Seeking c.in-Seeking.block) c.seek.new.self c.args.symbol c.in-Seeking.ensures.value)
-    c.seek.ensures
-
-pub returns-in-Rejected : goal.returns-in-Rejected
-returns-in-Rejected c =
-    on_ok_weaker c.stand-in-Rejected.result
-    (stands_on c.args.self.now c.replace.new.dest (place.Rejected c.in-Rejected.rejection) c.stand-in-Rejected.new.self (place.Rejected c.in-Rejected.rejection) c.args.symbol c.in-Rejected.ensures.value
-    (stays_rejected c.in-Rejected.rejection c.args.symbol))
-    c.stand-in-Rejected.ensures
+pub returns-in-Some : goal.returns-in-Some
+returns-in-Some c =
+    let from = c.args.self.now.place in
+    let t = c.args.symbol in
+    let stepped = subst (λ o. StepsBlockIf from t o c.step_block.new.place) c.in-Some.is c.in_ok-turn.ensures in
+    on_ok_weaker c.follow.result
+    (moves_from c.args.self.now c.step_block.new.place c.follow.new.self (turn_at_place from t) (turn_at_place from t) refl)
+    (c.follow.ensures from t stepped)

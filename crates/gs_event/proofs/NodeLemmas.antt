@@ -1,0 +1,198 @@
+-- How many nodes a step takes into use, at most.
+use Rattle.std.proofs.Common.{◌≡◌, ℕ, ◌+◌, ◌≤◌, Bool, true, false, cond, nat_eq, List, [], ◌∷◌, length, drop, get_or, Option, Some, None, MatchOption, is_some, refl, sym, ap, ◌∙◌, subst, arith}
+use Rattle.std.specs.List.{sum_by, slice_get, slice_set}
+use Rattle.std.proofs.lemmas.List.{length-map}
+use Rattle.std.proofs.lemmas.List.Sums.{sum_by-cons, sum_by-set}
+use Rattle.std.proofs.lemmas.Option.{slice_get_within, get_or_from_slice_get}
+use Rattle.gs_model.specs.Triples.{line_of}
+use Rattle.gs_model.specs.Graphs.{Graph, triples_of, size_of}
+use Rattle.gs_model.specs.declared.refusals.Refusal.{Refusal}
+use Rattle.gs_model.specs.declared.refusals.Refusal.TheVariants.{BadSeat}
+use Rattle.gs_model.proofs.GraphLemmas.{empty_has_none}
+use Rattle.gs_term.specs.declared.names.Target.{Target}
+use Rattle.gs_term.specs.declared.names.Target.TheVariants.{Named}
+use Rattle.gs_event.specs.declared.events.UploadKind.{UploadKind}
+use Rattle.gs_event.specs.declared.events.UploadKind.TheVariants.{Put, Post, New}
+use Rattle.gs_event.specs.declared.events.Action.{Action}
+use Rattle.gs_event.specs.declared.events.Action.TheVariants.{Open, OpenPatch, Stage, Commit, CommitPatch, Delete, Head, Pin, Piece, Cancel}
+use Rattle.gs_event.specs.declared.events.Event.{Event}
+use Rattle.gs_event.specs.declared.events.Event.TheVariants.{Seat as At, Reclaim}
+use Rattle.gs_event.specs.declared.answers.Answer.{Answer}
+use Rattle.gs_event.specs.declared.answers.Answer.TheVariants.{Opened, Staged, Status, Pinned, Lines, Cancelled, Reclaimed, Refused}
+use Rattle.gs_event.specs.declared.updates.Op.{Op}
+use Rattle.gs_event.specs.Updates.{updated, patched}
+use Rattle.gs_event.specs.Datasets.{Dataset, graph_at, is_there, lines_if, lines_at, with_graph, without_graph, triples_in}
+use Rattle.gs_event.specs.Names.{new_name}
+use Rattle.gs_event.specs.Operations.{Setting, is_within, united, stored, stored_status, after, status_of, is_success}
+use Rattle.gs_event.specs.Phases.{Idle, Writing, Patching, Reading, write_of}
+use Rattle.gs_event.specs.Views.{Totals, View, SeatView, FitsSeat, next_totals, next_phase, next_if}
+use Rattle.gs_event.specs.Waste.{Lifetime, Shown, staged_at, staged_in, nodes_in}
+use Rattle.gs_event.specs.Steps.{Joins, WastesUpload, WastesCommit, WastesOperations, most_patched, WastesPatch, WastesDelete, WastesCancel, Frees, Wastes}
+use Rattle.gs_event.specs.NodesInUse.{most_for_upload, most_for_update, most_taken_at, most_taken_if, TakesFew, GivesBack}
+use Rattle.gs_event.proofs.DatasetLemmas.{triples_in-with_graph, triples_in-without_graph}
+use Rattle.gs_event.proofs.SizeLemmas.{adds_up, graph_few, listed_few, united_few}
+use Rattle.gs_event.proofs.VerdictLemmas.{made_well}
+
+ones : (xs : List Lifetime) → sum_by (λ l. 1) xs ≡ length xs
+ones [] = refl
+ones (x ∷ xs) = omega (arith, sum_by-cons (λ (l : Lifetime). 1) x xs, ones xs)
+
+-- the waste grows by no more than joins it
+joined : (Has : Lifetime → Type 0) (most : ℕ) (old new : List Lifetime) → Joins Has most old new → length new ≤ length old + most
+joined Has most old new joins = omega (arith, ones new, ones old, ones joins.more, joins.same (λ l. 1), joins.few)
+
+-- what a status of success says of a write that stores g
+stored_well : (w : Setting) (m : Dataset) (t : Target) (g : Graph) (s : ℕ) → is_success s ≡ true → s ≡ stored_status w m t g → stored w m t g ≡ with_graph m t g
+stored_well w m t g s well status =
+    elim (is_within w.limits (with_graph m t g)) as (λ b. s ≡ cond b (cond (is_there m t) 204 201) 507 → cond b (with_graph m t g) m ≡ with_graph m t g) [
+      | true ↦ λ is. refl
+      | false ↦ λ is. absurd (let no : false ≡ true = sym (ap is_success is) ∙ well in cc)
+    ] status
+
+-- and what another status says
+stored_not : (w : Setting) (m : Dataset) (t : Target) (g : Graph) (s : ℕ) → is_success s ≡ false → s ≡ stored_status w m t g → stored w m t g ≡ m
+stored_not w m t g s fails status =
+    elim (is_within w.limits (with_graph m t g)) as (λ b. s ≡ cond b (cond (is_there m t) 204 201) 507 → cond b (with_graph m t g) m ≡ m) [
+      | true ↦ λ is. absurd (let no : false ≡ true = sym fails ∙ ap is_success is ∙ made_well (is_there m t) in cc)
+      | false ↦ λ is. refl
+    ] status
+
+-- an upload with effect: its nodes become the graph's, or are copied
+uploaded : (v : Totals) (k : UploadKind) (r : ℕ) (g : Graph) (s : ℕ) (done : Bool) (old new : List Lifetime) → is_success s ≡ done → s ≡ status_of v.setting v.dataset (write_of k r g) → WastesUpload v k g done old new
+    → triples_in (after v.setting v.dataset (write_of k r g)) + 0 + length new ≤ triples_in v.dataset + size_of g + length old + cond done (most_for_upload k g) 0
+uploaded v (Put t) r g s true old new well status w =
+    let now = ap triples_in (stored_well v.setting v.dataset t g s well status) in
+    omega (arith, now, triples_in-with_graph v.dataset t g, joined _ _ old new w)
+uploaded v (Post t) r g s true old new well status w =
+    let both = united (graph_at v.dataset t) g in
+    let now = ap triples_in (stored_well v.setting v.dataset t both s well status) in
+    omega (arith, now, triples_in-with_graph v.dataset t both, united_few (graph_at v.dataset t) g, joined _ _ old w.between w.staged, joined _ _ w.between new w.replaced)
+uploaded v New r g s true old new well status w =
+    let t = Named (new_name v.setting.base v.dataset r) in
+    let now = ap triples_in (stored_well v.setting v.dataset t g s well status) in
+    omega (arith, now, triples_in-with_graph v.dataset t g, joined _ _ old w.between w.staged, joined _ _ w.between new w.replaced)
+uploaded v (Put t) r g s false old new fails status w =
+    omega (arith, ap triples_in (stored_not v.setting v.dataset t g s fails status), joined _ _ old new w)
+uploaded v (Post t) r g s false old new fails status w =
+    omega (arith, ap triples_in (stored_not v.setting v.dataset t (united (graph_at v.dataset t) g) s fails status), joined _ _ old new w)
+uploaded v New r g s false old new fails status w =
+    omega (arith, ap triples_in (stored_not v.setting v.dataset (Named (new_name v.setting.base v.dataset r)) g s fails status), joined _ _ old new w)
+
+-- an update with effect, by the graph that was there
+patched_well : (v : Totals) (t : Target) (ops : List Op) (s : ℕ) (Has : Lifetime → Type 0) (old new : List Lifetime) (o : Option Graph) → graph_at v.dataset t ≡ o → is_success s ≡ true
+    → s ≡ cond (is_some o) (stored_status v.setting v.dataset t (patched o ops)) 404 → Joins Has (most_patched o ops) old new
+    → triples_in (cond (is_some o) (stored v.setting v.dataset t (patched o ops)) v.dataset) + 0 + length new ≤ triples_in v.dataset + 0 + length old + most_for_update o ops
+patched_well v t ops s Has old new None is well status joins = absurd (let no : false ≡ true = sym (ap is_success status) ∙ well in cc)
+patched_well v t ops s Has old new (Some g) is well status joins =
+    let now = ap triples_in (stored_well v.setting v.dataset t (updated g ops) s well status) in
+    let size : length (lines_at v.dataset t) ≡ size_of g = ap (λ o. length (lines_if o)) is ∙ length-map (triples_of g) line_of in
+    omega (arith, now, size, triples_in-with_graph v.dataset t (updated g ops), adds_up g ops, joined Has _ old new joins)
+
+-- an update without effect
+patched_not : (v : Totals) (t : Target) (g : Graph) (s : ℕ) (there : Bool) → is_success s ≡ false → s ≡ cond there (stored_status v.setting v.dataset t g) 404 → cond there (stored v.setting v.dataset t g) v.dataset ≡ v.dataset
+patched_not v t g s true fails status = stored_not v.setting v.dataset t g s fails status
+patched_not v t g s false fails status = refl
+
+updated_few : (v : Totals) (t : Target) (ops : List Op) (s : ℕ) (done : Bool) (old new : List Lifetime) → is_success s ≡ done → s ≡ cond (is_there v.dataset t) (stored_status v.setting v.dataset t (patched (graph_at v.dataset t) ops)) 404
+    → WastesOperations v t ops done old new
+    → triples_in (cond (is_there v.dataset t) (stored v.setting v.dataset t (patched (graph_at v.dataset t) ops)) v.dataset) + 0 + length new ≤ triples_in v.dataset + 0 + length old + cond done (most_for_update (graph_at v.dataset t) ops) 0
+updated_few v t ops s true old new well status w = patched_well v t ops s _ old new (graph_at v.dataset t) refl well status w
+updated_few v t ops s false old new fails status w =
+    omega (arith, ap triples_in (patched_not v t (patched (graph_at v.dataset t) ops) s (is_there v.dataset t) fails status), ap length w)
+
+-- a DELETE, by whether there was a graph and whether it took effect
+deleted : (v : Totals) (t : Target) (s : ℕ) (there done : Bool) (old new : List Lifetime) → is_success s ≡ done → s ≡ cond there 204 404 → WastesDelete v t done old new
+    → triples_in (cond there (without_graph v.dataset t) v.dataset) + 0 + length new ≤ triples_in v.dataset + 0 + length old + 0
+deleted v t s true true old new well status w = omega (arith, triples_in-without_graph v.dataset t, joined _ _ old new w)
+deleted v t s true false old new fails status w = absurd (let no : false ≡ true = sym fails ∙ ap is_success status in cc)
+deleted v t s false true old new well status w = absurd (let no : false ≡ true = sym (ap is_success status) ∙ well in cc)
+deleted v t s false false old new fails status w = omega (arith, ap length w)
+
+-- what an action makes of the waste, by the phase of its seat
+abbrev Wasted : Totals → Option SeatView → Action → Answer → List Lifetime → List Lifetime → Type 0
+Wasted v o Commit (Status s name) old new = WastesCommit v o (is_success s) old new
+Wasted v o (CommitPatch ops) (Status s name) old new = WastesPatch v o ops.items (is_success s) old new
+Wasted v o (Delete t) (Status s name) old new = WastesDelete v t (is_success s) old new
+Wasted v o Cancel Cancelled old new = WastesCancel o old new
+Wasted v o action a old new = new ≡ old
+
+wasted : (old : Shown) (s : ℕ) (action : Action) (a : Answer) (new : List Lifetime) → Wastes old (At s action) a new → Wasted old.view.totals (slice_get old.view.seats s) action a old.waste new
+wasted old s Commit (Status status name) new w = w
+wasted old s (CommitPatch ops) (Status status name) new w = w
+wasted old s (Delete t) (Status status name) new w = w
+wasted old s Cancel Cancelled new w = w
+wasted old s action a new w = w
+
+unchanged : (n : ℕ) (old new : List Lifetime) → new ≡ old → n + length new ≤ n + length old + 0
+unchanged n old new w = omega (arith, ap length w)
+
+-- a phase in which nothing is staged
+pin_stages : (b : Bool) (left : List (List ℕ)) → staged_at (cond b (Reading left) Idle) ≡ 0
+pin_stages true left = refl
+pin_stages false left = refl
+
+piece_stages : (b : Bool) (left : List (List ℕ)) → staged_at (cond b Idle (Reading left)) ≡ 0
+piece_stages true left = refl
+piece_stages false left = refl
+
+-- the current graphs, the seat's upload and the waste have no more nodes together
+taken_at : (v : Totals) (p : SeatView) (action : Action) (a : Answer) (old new : List Lifetime) → FitsSeat v p action a → Wasted v (Some p) action a old new
+    → triples_in (next_totals v p action a).dataset + staged_at (next_phase v p action a) + length new ≤ triples_in v.dataset + staged_at p + length old + most_taken_at v.dataset p action a
+taken_at v Idle (Open k) (Opened r) old new fits w = omega (arith, empty_has_none, ap length w)
+taken_at v Idle (OpenPatch t) (Opened r) old new fits w = unchanged (triples_in v.dataset + 0) old new w
+taken_at v Idle (Delete t) (Status s name) old new fits w = deleted v t s (is_there v.dataset t) (is_success s) old new refl fits.0 w
+taken_at v Idle (Head t) (Status s name) old new fits w = unchanged (triples_in v.dataset + 0) old new w
+taken_at v Idle (Pin t) (Pinned s) old new fits w = omega (arith, pin_stages (nat_eq s 200) (lines_at v.dataset t), ap length w)
+taken_at v Idle Commit (Status s name) old new fits w = absurd fits
+taken_at v Idle (CommitPatch ops) (Status s name) old new fits w = absurd fits
+taken_at v Idle Cancel Cancelled old new fits w = absurd fits
+taken_at v (Writing k r g) (Stage ts) Staged old new fits w =
+    omega (arith, graph_few (triples_of g) ts.items, listed_few ts.items, ap length w)
+taken_at v (Writing k r g) Commit (Status s name) old new fits w = uploaded v k r g s (is_success s) old new refl fits.0 w
+taken_at v (Writing k r g) Cancel Cancelled old new fits w = omega (arith, joined _ _ old new w)
+taken_at v (Writing k r g) (Delete t) (Status s name) old new fits w = absurd fits
+taken_at v (Writing k r g) (CommitPatch ops) (Status s name) old new fits w = absurd fits
+taken_at v (Patching t r) (CommitPatch ops) (Status s name) old new fits w = updated_few v t ops.items s (is_success s) old new refl fits.0 w
+taken_at v (Patching t r) (Delete u) (Status s name) old new fits w = absurd fits
+taken_at v (Patching t r) Commit (Status s name) old new fits w = absurd fits
+taken_at v (Patching t r) Cancel Cancelled old new fits w = unchanged (triples_in v.dataset + 0) old new w
+taken_at v (Reading left) (Piece n) (Lines b end) old new fits w = omega (arith, piece_stages end (drop n left), ap length w)
+taken_at v (Reading left) (Delete t) (Status s name) old new fits w = absurd fits
+taken_at v (Reading left) Commit (Status s name) old new fits w = absurd fits
+taken_at v (Reading left) (CommitPatch ops) (Status s name) old new fits w = absurd fits
+taken_at v (Reading left) Cancel Cancelled old new fits w = unchanged (triples_in v.dataset + 0) old new w
+taken_at v p action a old new fits w = unchanged (triples_in v.dataset + staged_at p) old new w
+
+refused_waste : (v : Totals) (action : Action) (r : Refusal) (old new : List Lifetime) → Wasted v None action (Refused r) old new → new ≡ old
+refused_waste v Commit r old new w = w
+refused_waste v (CommitPatch ops) r old new w = w
+refused_waste v (Delete t) r old new w = w
+refused_waste v Cancel r old new w = w
+refused_waste v action r old new w = w
+
+-- whether or not there is such a seat
+taken_if : (old : Shown) (s : ℕ) (action : Action) (a : Answer) (new : Shown) (o : Option SeatView) → slice_get old.view.seats s ≡ o → MatchOption o (a ≡ Refused BadSeat) (λ p. FitsSeat old.view.totals p action a)
+    → Wasted old.view.totals o action a old.waste new.waste → new.view ≡ next_if old.view s o action a → nodes_in new ≤ nodes_in old + most_taken_if old.view.totals.dataset o action a
+taken_if old s action a new None is fits w view =
+    let same = refused_waste old.view.totals action BadSeat old.waste new.waste (subst (λ r. Wasted old.view.totals None action r old.waste new.waste) fits w) in
+    omega (arith, ap length same, ap (λ (v : View). triples_in v.totals.dataset) view, ap (λ (v : View). staged_in v.seats) view)
+taken_if old s action a new (Some p) is fits w view =
+    let next = next_phase old.view.totals p action a in
+    let seats : sum_by (λ (q : SeatView). staged_at q) (slice_set old.view.seats s next) + staged_at (get_or old.view.seats s p) ≡ staged_in old.view.seats + staged_at next =
+    sum_by-set (λ (q : SeatView). staged_at q) old.view.seats s next p (slice_get_within old.view.seats s p is) in
+    let here : staged_at (get_or old.view.seats s p) ≡ staged_at p = ap (λ (q : SeatView). staged_at q) (get_or_from_slice_get old.view.seats s p p is) in
+    let graphs : triples_in new.view.totals.dataset ≡ triples_in (next_totals old.view.totals p action a).dataset = ap (λ (v : View). triples_in v.totals.dataset) view in
+    let uploads : staged_in new.view.seats ≡ staged_in (slice_set old.view.seats s next) = ap (λ (v : View). staged_in v.seats) view in
+    omega (arith, seats, here, graphs, uploads, taken_at old.view.totals p action a old.waste new.waste fits w)
+
+-- what is freed is no more in use
+pub gives_back : (old : Shown) (n freed : ℕ) (left : Bool) (new : Shown) → GivesBack old n freed left new
+gives_back old n freed left new step =
+    let w : Frees old.pinned n freed left old.waste new.waste = step.waste in
+    omega (arith, w.same (λ l. 1), ones new.waste, ones old.waste, ones w.gone, w.many, ap (λ (v : View). triples_in v.totals.dataset) step.view, ap (λ (v : View). staged_in v.seats) step.view)
+
+-- each event
+pub takes_few : (old : Shown) (e : Event) (a : Answer) (new : Shown) → TakesFew old e a new
+takes_few old (Reclaim n) (Reclaimed freed left) new step = omega (arith, gives_back old n freed left new step)
+takes_few old (Reclaim n) a new step = absurd step.waste
+takes_few old (At s action) a new step = taken_if old s action a new (slice_get old.view.seats s) refl step.fits (wasted old s action a new.waste step.waste) step.view

@@ -1,0 +1,19 @@
+use Rattle.std.proofs.Common.{ap, sym, ◌∙◌, Some}
+use Rattle.std.specs.Prelude.{option_map, option_copied, string_bytes}
+use Rattle.std.specs.FinMap as finite
+use Rattle.gs_triples.specs.Prefixes.{Prefixes}
+use Rattle.gs_triple_values.proofs.PrefixLemmas.{get-texts}
+use Rattle.gs_triple_values.proofs.prefixes.Prefixes.get.Goals as goal
+
+pub returns-in-None : goal.returns-in-None
+returns-in-None c =
+    ap (λ o. option_map string_bytes (option_copied o)) (sym c.in-None.is) ∙ ap (option_map string_bytes) c.get.ensures.value
+    ∙ sym (get-texts c.self.inside.iris c.args.prefix.now)
+    ∙ ap (λ (u : Prefixes). finite.get u c.args.prefix.now) c.self.view_is
+
+pub returns-in-Some : goal.returns-in-Some
+returns-in-Some c =
+    ap Some c.as_str.ensures.value
+    ∙ ap (λ o. option_map string_bytes (option_copied o)) (sym c.in-Some.is) ∙ ap (option_map string_bytes) c.get.ensures.value
+    ∙ sym (get-texts c.self.inside.iris c.args.prefix.now)
+    ∙ ap (λ (u : Prefixes). finite.get u c.args.prefix.now) c.self.view_is

@@ -1,0 +1,62 @@
+//! What triples are made of.
+ghost use Rattle.std.specs.Prelude.{◌≡◌, true, IfOk, option_map};
+ghost use Rattle.gs_model.specs.Triples.{is_iri, is_subject};
+
+use gs_term::TermText;
+use std::alloc::{AllocError, Global};
+
+/// What triples are made of in a language: the types of their parts, and what tokens give.
+pub trait Language {
+    ghost use Rattle.gs_triple_values.specs.Languages.{TypedLanguage, triple_in};
+
+    /// What may be the subject of a triple.
+    type Subject: Drop;
+    /// What may be the verb.
+    type Verb: Drop;
+    /// What may be the object.
+    type Value: Drop;
+
+    type Triple: Drop;
+
+    // The language of the grammar, and what subjects and verbs stand for in it.
+    ghost language: { TypedLanguage Self.Subject Self.Verb Self.Value Self.Triple };
+
+    /// A term.
+    fn value(term: TermText) -> Self::Value
+        ensures { result ≡ language.grammar.of_term term };
+
+    /// An IRI or a blank node.
+    fn subject(term: TermText) -> Self::Subject
+        requires { is_subject term ≡ true }
+        ensures { language.subject result ≡ language.grammar.of_term term };
+
+    /// An IRI.
+    fn verb(term: TermText) -> Self::Verb
+        requires { is_iri term ≡ true }
+        ensures { language.verb result ≡ language.grammar.of_term term };
+
+    /// A variable of this name, where variables may stand.
+    fn variable(alloc: Global, name: &[u8]) -> Result<Option<Self::Subject>, AllocError>
+        ensures { IfOk result (λ o. option_map language.subject o ≡ language.grammar.variable name.now) };
+
+    /// The same, as a verb.
+    fn verb_variable(alloc: Global, name: &[u8]) -> Result<Option<Self::Verb>, AllocError>
+        ensures { IfOk result (λ o. option_map language.verb o ≡ language.grammar.variable name.now) };
+
+    /// What is a subject, as an object.
+    fn subject_value(subject: Self::Subject) -> Self::Value
+        ensures { result ≡ language.subject subject };
+
+    /// A triple of these parts.
+    fn triple(subject: Self::Subject, verb: Self::Verb, object: Self::Value) -> Self::Triple
+        ensures { result ≡ triple_in language subject verb object };
+
+    /// A triple of a subject and a verb that stay.
+    fn next_triple(
+        alloc: Global,
+        subject: &Self::Subject,
+        verb: &Self::Verb,
+        object: Self::Value,
+    ) -> Result<Self::Triple, AllocError>
+        ensures { IfOk result (λ t. t ≡ triple_in language subject.now verb.now object) };
+}

@@ -1,0 +1,25 @@
+//! What the triples of any language are made of: the values of tokens, under a base and prefixes.
+#![tactic(auto)]
+
+mod allowed;
+mod contexts;
+mod kinds;
+mod languages;
+mod patterns;
+mod pending;
+mod prefixes;
+mod symbols;
+pub mod terms;
+mod triple_terms;
+pub mod values;
+mod vocabulary;
+
+pub use allowed::Allowed;
+pub use contexts::Context;
+pub use kinds::{Subject, Verb};
+pub use languages::Language;
+pub use patterns::Patterns;
+pub use pending::{put, put_first, put_rest};
+pub use symbols::{Symbol, TermToken, symbol_of_token};
+pub use triple_terms::Terms;
+pub use vocabulary::rdf_nil;

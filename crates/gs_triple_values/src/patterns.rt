@@ -1,0 +1,91 @@
+//! The language of patterns.
+ghost use Rattle.std.specs.Prelude.{◌≡◌, IfOk};
+ghost use Rattle.gs_triples.specs.Languages.{of_patterns};
+
+use crate::languages::Language;
+use gs_term::{Part, Pattern, TermText, VariableName};
+use std::alloc::{AllocError, Global};
+
+/// Terms and variables, as in the patterns of SPARQL.
+pub struct Patterns;
+
+/// The same term or variable once more.
+fn copied(alloc: Global, part: &Part) -> Result<Part, AllocError>
+    ensures { IfOk result (λ p. p ≡ part.now) }
+{
+    match part {
+        Part::Term(term) => Ok(Part::Term(term.clone()?)),
+        Part::Variable(name) => { Ok(Part::Variable(VariableName::new(alloc, name.as_str())?)) }
+    }
+}
+
+/// A variable of this name, where the name is text.
+fn variable(alloc: Global, name: &[u8]) -> Result<Option<Part>, AllocError>
+    ensures { IfOk result (λ o. o ≡ of_patterns.variable name.now) }
+{
+    match str::from_utf8(name) {
+        Ok(text) => Ok(Some(Part::Variable(VariableName::new(alloc, text)?))),
+        Err(_) => Ok(None),
+    }
+}
+
+impl Language for Patterns {
+    ghost use Rattle.gs_triple_values.specs.Typed.{patterns};
+
+    type Subject = Part;
+
+    type Verb = Part;
+
+    type Value = Part;
+
+    type Triple = Pattern;
+
+    ghost language = { patterns };
+
+    fn value(term: TermText) -> Part {
+        Part::Term(term)
+    }
+
+    fn subject(term: TermText) -> Part {
+        Part::Term(term)
+    }
+
+    fn verb(term: TermText) -> Part {
+        Part::Term(term)
+    }
+
+    fn variable(alloc: Global, name: &[u8]) -> Result<Option<Part>, AllocError> {
+        variable(alloc, name)
+    }
+
+    fn verb_variable(alloc: Global, name: &[u8]) -> Result<Option<Part>, AllocError> {
+        variable(alloc, name)
+    }
+
+    fn subject_value(subject: Part) -> Part {
+        subject
+    }
+
+    fn triple(subject: Part, verb: Part, object: Part) -> Pattern {
+        Pattern {
+            subject,
+            predicate: verb,
+            object,
+        }
+    }
+
+    fn next_triple(
+        alloc: Global,
+        subject: &Part,
+        verb: &Part,
+        object: Part,
+    ) -> Result<Pattern, AllocError> {
+        let subject = copied(alloc, subject)?;
+        let predicate = copied(alloc, verb)?;
+        Ok(Pattern {
+            subject,
+            predicate,
+            object,
+        })
+    }
+}

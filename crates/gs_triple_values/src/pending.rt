@@ -1,0 +1,57 @@
+//! The triples so far, which wait for what ends them.
+ghost use Rattle.gs_triple_values.specs.Languages.{triple_in};
+ghost use Rattle.gs_triple_values.specs.Terms.{Adds, first_of, rest_of};
+
+use crate::contexts::Context;
+use crate::languages::Language;
+use crate::terms::blank;
+use crate::vocabulary::{rdf_first, rdf_rest};
+use std::alloc::{AllocError, Global};
+
+/// A triple of a subject and a verb that stay.
+pub fn put<L: Language>(
+    alloc: Global,
+    pending: &mut Vec<L::Triple>,
+    subject: &L::Subject,
+    verb: &L::Verb,
+    object: L::Value,
+) -> Result<(), AllocError>
+    ensures { Adds result pending.old.items pending.new.items
+        (triple_in L.language subject.now verb.now object) }
+{
+    let triple = L::next_triple(alloc, subject, verb, object)?;
+    pending.push(triple)?;
+    Ok(())
+}
+
+/// The object of a cell.
+pub fn put_first<L: Language>(
+    alloc: Global,
+    context: &Context,
+    pending: &mut Vec<L::Triple>,
+    cell: u64,
+    object: L::Value,
+) -> Result<(), AllocError>
+    ensures { Adds result pending.old.items pending.new.items (first_of L.language context.now cell object) }
+{
+    let cell = L::subject(blank(alloc, context.request, cell)?);
+    let verb = L::verb(rdf_first(alloc)?);
+    pending.push(L::triple(cell, verb, object))?;
+    Ok(())
+}
+
+/// What stands after a cell.
+pub fn put_rest<L: Language>(
+    alloc: Global,
+    context: &Context,
+    pending: &mut Vec<L::Triple>,
+    cell: u64,
+    object: L::Value,
+) -> Result<(), AllocError>
+    ensures { Adds result pending.old.items pending.new.items (rest_of L.language context.now cell object) }
+{
+    let cell = L::subject(blank(alloc, context.request, cell)?);
+    let verb = L::verb(rdf_rest(alloc)?);
+    pending.push(L::triple(cell, verb, object))?;
+    Ok(())
+}

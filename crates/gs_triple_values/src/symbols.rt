@@ -1,0 +1,100 @@
+//! What the grammar sees of a token.
+ghost use Rattle.std.specs.Prelude.{◌≡◌};
+ghost use Rattle.gs_lex.specs.Lexemes.{lexeme_of};
+ghost use Rattle.gs_triples.specs.Symbols.{symbol as kind_symbol, symbol_of, after_mark};
+ghost use Rattle.gs_triple_values.specs.Views.{symbol_at};
+
+use crate::vocabulary::{XSD_BOOLEAN, XSD_DECIMAL, XSD_DOUBLE, XSD_INTEGER};
+use gs_lex::{Token, TokenKind};
+
+/// A token that is a term by itself, or a variable, by the names of the grammar.
+#[derive(Clone, Copy)]
+pub enum TermToken<'a> {
+    /// With the number of bytes up to its end, since it may end a directive.
+    Reference(&'a str, u64),
+    Namespace(&'a str),
+    Name(&'a str),
+    Label(&'a str),
+    /// A number or a boolean, with its datatype.
+    Plain(&'a str, &'a str),
+    /// The name after the mark, in updates alone.
+    Variable(&'a [u8]),
+}
+
+/// A terminal, with what it leaves open.
+#[derive(Clone, Copy)]
+pub enum Symbol<'a> {
+    Word(TermToken<'a>),
+    Text(&'a str),
+    /// A language tag, `@prefix` or `@base`.
+    At(&'a str),
+    Carets,
+    /// The word `a`.
+    A,
+    Open,
+    Close,
+    OpenList,
+    CloseList,
+    Semicolon,
+    Comma,
+    /// A dot, with the number of bytes up to its end.
+    Dot(u64),
+    Prefix,
+    Base,
+    /// What stands in updates alone, or is no text, with the number of bytes up to its end.
+    Foreign(TokenKind, u64),
+}
+
+/// The text after its first byte.
+fn after_mark(text: &[u8]) -> &[u8]
+    ensures { result.now ≡ after_mark text.now }
+{
+    match text {
+        [] => text,
+        [_, rest @ ..] => rest,
+    }
+}
+
+fn symbol_of_kind(kind: TokenKind, text: &str, end: u64) -> Symbol<'_>
+    ensures { symbol_at result ≡ kind_symbol kind text.now end }
+{
+    match kind {
+        TokenKind::IriRef => Symbol::Word(TermToken::Reference(text, end)),
+        TokenKind::PnameNs => Symbol::Word(TermToken::Namespace(text)),
+        TokenKind::PnameLn => Symbol::Word(TermToken::Name(text)),
+        TokenKind::BlankNodeLabel => Symbol::Word(TermToken::Label(text)),
+        TokenKind::Integer => Symbol::Word(TermToken::Plain(text, XSD_INTEGER)),
+        TokenKind::Decimal => Symbol::Word(TermToken::Plain(text, XSD_DECIMAL)),
+        TokenKind::Double => Symbol::Word(TermToken::Plain(text, XSD_DOUBLE)),
+        TokenKind::True => Symbol::Word(TermToken::Plain("true", XSD_BOOLEAN)),
+        TokenKind::False => Symbol::Word(TermToken::Plain("false", XSD_BOOLEAN)),
+        TokenKind::StringLiteralQuote
+        | TokenKind::StringLiteralSingleQuote
+        | TokenKind::StringLiteralLongQuote
+        | TokenKind::StringLiteralLongSingleQuote => Symbol::Text(text),
+        TokenKind::LangTag => Symbol::At(text),
+        TokenKind::Carets => Symbol::Carets,
+        TokenKind::A => Symbol::A,
+        TokenKind::OpenBracket => Symbol::Open,
+        TokenKind::CloseBracket => Symbol::Close,
+        TokenKind::OpenParenthesis => Symbol::OpenList,
+        TokenKind::CloseParenthesis => Symbol::CloseList,
+        TokenKind::Semicolon => Symbol::Semicolon,
+        TokenKind::Comma => Symbol::Comma,
+        TokenKind::Dot => Symbol::Dot(end),
+        TokenKind::Var => Symbol::Word(TermToken::Variable(after_mark(text.as_bytes()))),
+        TokenKind::Prefix => Symbol::Prefix,
+        TokenKind::Base => Symbol::Base,
+        _ => Symbol::Foreign(kind, end),
+    }
+}
+
+/// The symbol of a token.
+pub fn symbol_of_token(token: &Token) -> Symbol<'_>
+    ensures { symbol_at result ≡ symbol_of (lexeme_of token.now) }
+{
+    match str::from_utf8(token.text.as_slice()) {
+        Ok(text) => symbol_of_kind(token.kind, text, token.end),
+        Err(_) => Symbol::Foreign(token.kind, token.end),
+    }
+}

@@ -1,0 +1,61 @@
+//! The language of terms.
+use crate::kinds::{Subject, Verb};
+use crate::languages::Language;
+use gs_term::{TermText, Triple};
+use std::alloc::{AllocError, Global};
+
+/// The terms and the triples of RDF, without variables: Turtle, and the data of updates.
+pub struct Terms;
+
+impl Language for Terms {
+    ghost use Rattle.gs_triple_values.specs.Typed.{terms};
+
+    type Subject = Subject;
+
+    type Verb = Verb;
+
+    type Value = TermText;
+
+    type Triple = Triple;
+
+    ghost language = { terms };
+
+    fn value(term: TermText) -> TermText {
+        term
+    }
+
+    fn subject(term: TermText) -> Subject {
+        Subject { term }
+    }
+
+    fn verb(term: TermText) -> Verb {
+        Verb { term }
+    }
+
+    fn variable(_alloc: Global, _name: &[u8]) -> Result<Option<Subject>, AllocError> {
+        Ok(None)
+    }
+
+    fn verb_variable(_alloc: Global, _name: &[u8]) -> Result<Option<Verb>, AllocError> {
+        Ok(None)
+    }
+
+    fn subject_value(subject: Subject) -> TermText {
+        subject.term
+    }
+
+    fn triple(subject: Subject, verb: Verb, object: TermText) -> Triple {
+        Triple::new(subject.term, verb.term, object)
+    }
+
+    fn next_triple(
+        _alloc: Global,
+        subject: &Subject,
+        verb: &Verb,
+        object: TermText,
+    ) -> Result<Triple, AllocError> {
+        let subject = subject.term.clone()?;
+        let verb = verb.term.clone()?;
+        Ok(Triple::new(subject, verb, object))
+    }
+}
