@@ -9,4 +9,4 @@ mod resolving;
 
 pub use absolute::is_absolute;
 pub use laws::{absolute_by_characters, absolute_is, parts_rejoin, resolved_is_absolute};
-pub use resolving::resolve;
+pub use resolving::{resolve, resolve_under};

@@ -1,7 +1,8 @@
 //! A reference resolved against a base.
-ghost use Rattle.std.specs.Prelude.{◌≡◌, OnOk, OnErr};
+ghost use Rattle.std.specs.Prelude.{◌≡◌, true, OnOk, OnErr};
 ghost use Rattle.std.specs.Option.{option_copied};
 ghost use Rattle.std.specs.String.{string_bytes};
+ghost use Rattle.gs_model.specs.Iris.{is_absolute as is_absolute_text};
 ghost use Rattle.gs_iri.specs.Resolving.{scheme_text, front_text, directory_of, through_last, resolved as resolved_text, Reports};
 ghost use Rattle.gs_iri.specs.Appending.{Appends, AppendsHead, AppendsPart, AppendsRemoved, AppendsTail, KeepsAll, text_with};
 
@@ -117,11 +118,11 @@ fn append_resolved(base: &str, reference: &str, resolved: &mut String) -> Result
     ensures ok { OnOk result (Appends resolved.old resolved.new (resolved_text base.now reference.now)) }
     ensures front { KeepsAll resolved.old resolved.new }
 {
-    let b = cut_parts(base);
     let r = cut_parts(reference);
     if r.scheme.is_some() {
         return append_removed(&r, None, resolved);
     }
+    let b = cut_parts(base);
     if r.authority.is_some() {
         let target = Parts {
             scheme: b.scheme,
@@ -155,17 +156,15 @@ fn append_resolved(base: &str, reference: &str, resolved: &mut String) -> Result
     append_removed(&target, front_of(b.authority, b.path), resolved)
 }
 
-/// Appends the IRI that a reference means under a base (RFC 3986, section 5.2, strict) to
-/// `resolved`, after what stands there. `Syntax(0)` where the base is not absolute or the
-/// reference has a character that no IRI has; `NoMemory` where the string could not grow. After
-/// a refusal the string is as it was. Linear in the bytes of both, with no allocation but the
-/// string's own growth.
-pub fn resolve(base: &str, reference: &str, resolved: &mut String) -> Result<(), Refusal>
+/// Appends the IRI that a reference means under an absolute base, as `resolve` does. Linear in the
+/// bytes of the reference, and in those of the base where the reference has no scheme.
+pub fn resolve_under(base: &str, reference: &str, resolved: &mut String) -> Result<(), Refusal>
+    requires { is_absolute_text base.now ≡ true }
     ensures value { OnOk result (Appends resolved.old resolved.new (resolved_text base.now reference.now)) }
     ensures refused { Reports base.now reference.now result }
     ensures kept { OnErr result (string_bytes resolved.new ≡ string_bytes resolved.old) }
 {
-    if !is_absolute(base) || !are_iri_bytes(reference.as_bytes()) {
+    if !are_iri_bytes(reference.as_bytes()) {
         return Err(Refusal::Syntax(0));
     }
     let before = resolved.len();
@@ -176,4 +175,20 @@ pub fn resolve(base: &str, reference: &str, resolved: &mut String) -> Result<(),
             Err(Refusal::NoMemory)
         }
     }
+}
+
+/// Appends the IRI that a reference means under a base (RFC 3986, section 5.2, strict) to
+/// `resolved`, after what stands there. `Syntax(0)` where the base is not absolute or the
+/// reference has a character that no IRI has; `NoMemory` where the string could not grow. After
+/// a refusal the string is as it was. Linear in the bytes of both, with no allocation but the
+/// string's own growth.
+pub fn resolve(base: &str, reference: &str, resolved: &mut String) -> Result<(), Refusal>
+    ensures value { OnOk result (Appends resolved.old resolved.new (resolved_text base.now reference.now)) }
+    ensures refused { Reports base.now reference.now result }
+    ensures kept { OnErr result (string_bytes resolved.new ≡ string_bytes resolved.old) }
+{
+    if !is_absolute(base) {
+        return Err(Refusal::Syntax(0));
+    }
+    resolve_under(base, reference, resolved)
 }

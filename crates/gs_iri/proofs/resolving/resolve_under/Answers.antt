@@ -2,7 +2,7 @@ use Rattle.std.proofs.Common.{◌≡◌, ◌≤◌, length, arith}
 use Rattle.std.specs.String.{string_bytes}
 use Rattle.std.proofs.lemmas.Str.{IsUtf8-string_bytes}
 use Rattle.gs_iri.proofs.TextLemmas.{boundary_of_old}
-use Rattle.gs_iri.proofs.resolving.resolve.Goals as goal
+use Rattle.gs_iri.proofs.resolving.resolve_under.Goals as goal
 
 pub truncate-requires : goal.truncate-requires
 truncate-requires c =
