@@ -25,11 +25,15 @@ fn is_iri_byte(b: u8) -> bool
     !matches!(b, 0..=b' ' | b'"' | b'<' | b'>' | b'\\' | b'^' | b'`' | b'{'..=b'}')
 }
 
-/// Whether all are bytes of IRI characters.
+/// Whether all are bytes of IRI characters. It looks at all of them, several at once.
 pub fn are_iri_bytes(bytes: &[u8]) -> bool
     ensures { result ≡ list_all is_iri_char bytes.now }
 {
-    bytes.iter().all(|b| is_iri_byte(*b))
+    let mut are = true;
+    for b in bytes {
+        are &= is_iri_byte(*b);
+    }
+    are
 }
 
 /// Whether all may go on with a scheme.

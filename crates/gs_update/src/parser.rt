@@ -121,6 +121,13 @@ impl UpdateParser {
         }
     }
 
+    /// At the first departure. It stands alone, so that a symbol that is taken makes no place.
+    fn stop(&mut self, rejection: Rejection) -> Result<(), AllocError>
+        ensures { OnOk result (Moves self.old self.new (quiet (Rejected (rejection_at rejection)))) }
+    {
+        self.stand(Place::Rejected(rejection))
+    }
+
     /// After the turn of the block that the parser is in.
     #[tactic(auto, unfolding(gs_update_text::specs::Machine::step))]
     #[inline(always)]
@@ -131,7 +138,7 @@ impl UpdateParser {
         match turn {
             BlockTurn::Takes => Ok(()),
             BlockTurn::Shuts(end) => self.shut(end),
-            BlockTurn::Stops(rejection) => self.stand(Place::Rejected(rejection)),
+            BlockTurn::Stops(rejection) => self.stop(rejection),
         }
     }
 

@@ -12,9 +12,9 @@ use gs_lex::{Lexer, Token};
 use gs_model::Refusal;
 use std::alloc::{AllocError, Global};
 
-/// The most bytes of a text that are cut into tokens at once, so that the tokens of a long text
-/// never stand in memory together.
-const PORTION: usize = 4096;
+/// The most bytes of a text that are cut into tokens at once: so few that the memory of their tokens
+/// is soon used again.
+const PORTION: usize = 256;
 
 /// Reads one text.
 #[derive(Drop)]
