@@ -194,7 +194,7 @@ impl<L: Language> Block<L> {
         }
     }
 
-    /// Why a text that ends here is no update.
+    /// Why a text that ends here is no update. After it the block is of no more use.
     pub fn end(&mut self) -> Result<Rejection, AllocError>
         ensures { IfOk result (λ r. (made : Making L.Triple) →
             rejection_at r ≡ end_turn L.language self.old made) }
