@@ -14,6 +14,6 @@ returns-in-Shuts c = λ from t h. c.shut.ensures from t (subst (λ u. StepsBlock
 
 pub returns-in-Stops : goal.returns-in-Stops
 returns-in-Stops c = λ from t h.
-    on_ok_weaker c.stand.result
-    (subst (Moves c.args.self.now c.stand.new.self) (stops_there from c.args.self.now.place t c.in-Stops.rejection (subst (λ u. StepsBlock from t u c.args.self.now.place) c.in-Stops.is h)))
-    c.stand.ensures
+    on_ok_weaker c.stop.result
+    (subst (Moves c.args.self.now c.stop.new.self) (stops_there from c.args.self.now.place t c.in-Stops.rejection (subst (λ u. StepsBlock from t u c.args.self.now.place) c.in-Stops.is h)))
+    c.stop.ensures
