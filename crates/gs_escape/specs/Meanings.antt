@@ -3,7 +3,7 @@
 use Rattle.std.specs.Prelude.{ℕ, zero, suc, Bool, true, false, not, ◌||◌, ◌==◌, if◌then◌else◌, List, [], ◌∷◌, ◌++◌, Option, Some, None, option_map, option_and_then, encode_utf8}
 use Rattle.std.specs.Str.{is_utf8}
 use Rattle.gs_model.specs.Characters.{quote, backslash, is_iri_char}
-use Rattle.gs_model.specs.Ascii.{apostrophe}
+use Rattle.gs_model.specs.Punctuation.{apostrophe}
 use Rattle.gs_model.specs.Escapes.{is_string_char}
 use Rattle.gs_escape.specs.declared.forms.Form.{Form}
 use Rattle.gs_escape.specs.declared.forms.Form.TheVariants as form

@@ -3,7 +3,7 @@ use Rattle.std.specs.Prelude.{◌≡◌, ℕ, ◌+◌, ◌-◌, true, ◌==◌, 
 use Rattle.std.specs.Option.{is_some, option_or}
 use Rattle.std.specs.Str.{bytes_eq}
 use Rattle.gs_model.specs.Characters.{quote, colon}
-use Rattle.gs_model.specs.Ascii.{apostrophe}
+use Rattle.gs_model.specs.Punctuation.{apostrophe}
 use Rattle.gs_model.specs.declared.refusals.Refusal.{Refusal}
 use Rattle.gs_model.specs.declared.refusals.Refusal.TheVariants.{NoMemory, Syntax}
 use Rattle.gs_escape.specs.declared.forms.Form.{Form}

@@ -2,7 +2,7 @@
 use Rattle.std.specs.Prelude.{ℕ, Bool, if◌then◌else◌, ◌||◌, ◌==◌, List, [], ◌∷◌, ◌++◌, drop, fold, codes, Option, Some, None}
 use Rattle.std.specs.List.{slice_split}
 use Rattle.std.specs.Str.{bytes_eq}
-use Rattle.gs_model.specs.Ascii.{slash}
+use Rattle.gs_model.specs.Punctuation.{slash}
 
 -- the segments (3.3): what stands between the slashes of a path
 unfoldable pub segments_of : List ℕ → List (List ℕ)

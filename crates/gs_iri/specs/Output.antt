@@ -2,7 +2,7 @@
 use Rattle.std.specs.Prelude.{◌≡◌, ℕ, ◌+◌, ◌<◌, String, length, take, drop, fold, slice_index, Bool, true, false, if◌then◌else◌, ◌==◌, List, [], ◌∷◌, ◌++◌}
 use Rattle.std.specs.List.{list_any}
 use Rattle.std.specs.String.{string_bytes}
-use Rattle.gs_model.specs.Ascii.{slash}
+use Rattle.gs_model.specs.Punctuation.{slash}
 use Rattle.gs_iri.specs.Dots.{segments_of, closed, is_dot, is_dot_dot, is_dots}
 
 -- some byte is a '/'

@@ -5,7 +5,7 @@ use Rattle.std.specs.Option.{is_some, unwrap_or, option_map, option_and_then}
 use Rattle.std.specs.List.{list_all, list_any}
 use Rattle.gs_model.specs.Characters.{colon, number_sign}
 use Rattle.gs_model.specs.Iris.{is_letter, is_scheme_char}
-use Rattle.gs_model.specs.Ascii.{slash, question_mark}
+use Rattle.gs_model.specs.Punctuation.{slash, question_mark}
 
 -- a part that is undefined is `None`, which is not the same as empty; the path is always defined
 pub record Reference : Type 0 where

@@ -6,7 +6,7 @@ use Rattle.gs_model.specs.Characters.{is_iri_char}
 use Rattle.gs_model.specs.Iris.{is_absolute}
 use Rattle.gs_model.specs.declared.refusals.Refusal.{Refusal}
 use Rattle.gs_model.specs.declared.refusals.Refusal.TheVariants.{NoMemory, Syntax}
-use Rattle.gs_model.specs.Ascii.{slash}
+use Rattle.gs_model.specs.Punctuation.{slash}
 use Rattle.gs_iri.specs.References.{Reference, behind, parts_of}
 use Rattle.gs_iri.specs.Dots.{dots}
 use Rattle.gs_iri.specs.Output.{has_slash}

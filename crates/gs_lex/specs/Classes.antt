@@ -2,7 +2,8 @@
 use Rattle.std.specs.Prelude.{ℕ, Bool, ◌==◌, ◌||◌}
 use Rattle.gs_model.specs.Characters.{line_feed, carriage_return, space, quote, number_sign, plus, hyphen, dot, colon, at_sign, backslash, underscore, letter_n, letter_r, is_upper, is_lower, in_range, in_ranges, pn_chars_base, pn_chars_u, pn_chars}
 pub use Rattle.gs_model.specs.Characters.{is_digit}
-use Rattle.gs_model.specs.Ascii.{tab, exclamation_mark, dollar, percent, ampersand, apostrophe, left_parenthesis, right_parenthesis, asterisk, comma, slash, semicolon, equals_sign, question_mark, letter_large_e, letter_b, letter_e, letter_f, letter_t, tilde}
+use Rattle.gs_model.specs.Ascii.{tab, letter_large_e, letter_b, letter_e, letter_f, letter_t}
+use Rattle.gs_model.specs.Punctuation.{exclamation_mark, dollar, percent, ampersand, apostrophe, left_parenthesis, right_parenthesis, asterisk, comma, slash, semicolon, equals_sign, question_mark, tilde}
 
 -- [161s] WS
 abbrev pub is_ws : ℕ → Bool

@@ -1,7 +1,8 @@
 -- The moves of the automaton that several of its states share.
 use Rattle.std.specs.Prelude.{ℕ, Bool, true, false, ◌==◌, ◌||◌, if◌then◌else◌, Option, Some, None}
 use Rattle.gs_model.specs.Characters.{quote, dot, colon, less_than, greater_than, at_sign, left_bracket, right_bracket, backslash, caret, underscore, is_iri_char}
-use Rattle.gs_model.specs.Ascii.{dollar, percent, apostrophe, left_parenthesis, right_parenthesis, comma, semicolon, question_mark, big_u, small_u, left_brace, right_brace}
+use Rattle.gs_model.specs.Ascii.{big_u, small_u}
+use Rattle.gs_model.specs.Punctuation.{dollar, percent, apostrophe, left_parenthesis, right_parenthesis, comma, semicolon, question_mark, left_brace, right_brace}
 use Rattle.gs_lex.specs.Classes as is
 use Rattle.gs_lex.specs.declared.kinds.Terminal.{Terminal}
 use Rattle.gs_lex.specs.declared.kinds.Terminal.TheVariants as kind

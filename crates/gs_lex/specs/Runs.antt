@@ -1,7 +1,7 @@
 -- Runs of plain characters: bytes of ASCII over which the automaton stays where it is.
 use Rattle.std.specs.Prelude.{◌≡◌, ℕ, ◌≤◌, ◌<◌, Bool, true, not, ◌==◌, ◌&&◌, ◌||◌, nat_lt, List, get_or, if◌then◌else◌}
 use Rattle.gs_model.specs.Characters.{quote, hyphen, backslash, underscore, is_iri_char}
-use Rattle.gs_model.specs.Ascii.{apostrophe}
+use Rattle.gs_model.specs.Punctuation.{apostrophe}
 use Rattle.gs_lex.specs.Classes.{is_alphanumeric, is_line_end}
 use Rattle.gs_lex.specs.Scans.{best_after}
 use Rattle.gs_lex.specs.States.{accepts}

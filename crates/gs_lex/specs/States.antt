@@ -1,7 +1,7 @@
 -- The automaton that finds the tokens.
 use Rattle.std.specs.Prelude.{ℕ, Bool, true, false, ◌==◌, if◌then◌else◌, Option, Some, None}
 use Rattle.gs_model.specs.Characters.{hyphen, dot, colon, backslash, caret}
-use Rattle.gs_model.specs.Ascii.{percent}
+use Rattle.gs_model.specs.Punctuation.{percent}
 use Rattle.gs_lex.specs.Classes as is
 use Rattle.gs_lex.specs.Automata.{Automaton}
 use Rattle.gs_lex.specs.declared.kinds.Terminal.{Terminal}

@@ -1,5 +1,6 @@
 -- The classes of characters, as ranges of their numbers (Turtle, 25 February 2014, section 6.5; N-Triples, section 7).
-pub use Rattle.gs_model.specs.Ascii.{line_feed, carriage_return, space, quote, number_sign, plus, hyphen, dot, colon, less_than, greater_than, at_sign, left_bracket, right_bracket, backslash, caret, underscore, letter_n, letter_r}
+pub use Rattle.gs_model.specs.Ascii.{line_feed, carriage_return, space, letter_n, letter_r}
+pub use Rattle.gs_model.specs.Punctuation.{quote, number_sign, plus, hyphen, dot, colon, less_than, greater_than, at_sign, left_bracket, right_bracket, backslash, caret, underscore}
 use Rattle.std.specs.Prelude.{ℕ, Bool, false, not, ◌||◌, ◌&&◌, nat_le, List, [], ◌∷◌, ◌++◌}
 
 -- 'A' to 'Z'

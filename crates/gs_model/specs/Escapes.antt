@@ -3,7 +3,8 @@
 use Rattle.std.specs.Prelude.{ℕ, ◌+◌, ◌*◌, Bool, not, ◌&&◌, ◌||◌, ◌==◌, if◌then◌else◌, nat_le, List, Option, Some, None, fold}
 use Rattle.std.specs.Char.{digit_value}
 use lib.Utf8.{scalar}
-use Rattle.gs_model.specs.Ascii.{backspace, tab, form_feed, apostrophe, letter_b, letter_f, letter_t}
+use Rattle.gs_model.specs.Ascii.{backspace, tab, form_feed, letter_b, letter_f, letter_t}
+use Rattle.gs_model.specs.Punctuation.{apostrophe}
 use Rattle.gs_model.specs.Characters.{line_feed, carriage_return, quote, backslash, letter_n, letter_r, is_digit}
 
 -- a line feed or a carriage return: [7] EOL of N-Triples, the end of a comment, and what no string of one line has

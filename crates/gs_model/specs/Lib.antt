@@ -3,6 +3,7 @@ pub mod Limits
 pub mod Refusals
 pub mod Faults
 pub mod Ascii
+pub mod Punctuation
 pub mod Characters
 pub mod Escapes
 pub mod Iris

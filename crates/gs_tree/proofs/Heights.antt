@@ -1,7 +1,9 @@
 -- How high a balanced tree is.
 use Rattle.std.proofs.Common.{◌≡◌, ◌⊎◌, ℕ, zero, suc, ◌+◌, ◌*◌, ◌^◌, ◌<◌, ◌≤◌, max, refl, ap, arith, inl, inr, ◌∷◌, length, length-append}
 use native.Mathlib.Numerals.{unary_clauses}
+use Rattle.std.proofs.lemmas.Bool.{cases_lt}
 use Rattle.gs_tree.specs.Tree.{Tree, leaf, fork, height, keys, IsBalanced}
+use Rattle.gs_tree.specs.Joining.{IsHeightAfter}
 
 abbrev pub size : Tree → ℕ
 size leaf = 0
@@ -69,3 +71,16 @@ height_digits t d b h = elim (Rattle.std.proofs.lemmas.Bool.cases_lt (d + d) (he
         pos : (m : ℕ) → 1 ≤ least (suc m)
         pos zero = omega arith
         pos (suc m) = omega arith
+
+-- a tree whose side fell by one level at most is one lower at most
+pub shrunk : (l l' r n : ℕ) → l ≤ r + 1 → r ≤ l + 1 → l' ≤ l → l ≤ l' + 1 → IsHeightAfter l' r n → (n ≤ max l r + 1) × (max l r ≤ n)
+shrunk l l' r n a b c d h =
+    let h0 : max l' r ≤ n = h.0 in
+    let h1 : n ≤ max l' r + 1 = h.1 in
+    elim (cases_lt r l) [
+      | inl high ↦ elim (cases_lt r l') [
+        | inl still ↦ (omega arith, omega arith)
+        | inr fell ↦ let e = h.2 (omega arith, omega arith) in (omega arith, omega arith)
+      ]
+      | inr low ↦ (omega arith, omega arith)
+    ]

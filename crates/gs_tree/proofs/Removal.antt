@@ -1,100 +1,23 @@
 -- One level of a removal.
-use Rattle.std.proofs.Common.{◌≡◌, ◌≢◌, ◌⊎◌, ℕ, zero, suc, ◌+◌, ◌-◌, ◌*◌, ◌<◌, ◌≤◌, ◌^◌, max, min, Bool, true, false, cond, List, [], ◌∷◌, ◌++◌, Option, Some, None, is_some, IsSome, refl, sym, ap, subst, ◌∙◌, inl, inr, arith}
-use Rattle.std.proofs.lemmas.Bool.{cases_lt, cases_eq}
+use Rattle.std.proofs.Common.{◌≡◌, ℕ, ◌+◌, ◌*◌, ◌<◌, ◌≤◌, max, min, List, [], ◌∷◌, ◌++◌, Option, Some, None, IsSome, refl, sym, ap, subst, ◌∙◌, arith}
 use Rattle.std.specs.declared.cmp.Ordering.{Ordering}
 use Rattle.std.specs.declared.cmp.Ordering.TheVariants.{Less, Equal, Greater}
 use Rattle.std.specs.Cmp.{IsTotalOrder}
 use Rattle.gs_tree.specs.Keys.{IsRising, HasKey, remove_key}
 use Rattle.gs_tree.proofs.Order.{rising_front, rising_back}
-use Rattle.gs_tree.proofs.RemovalOrder.{remove_left, remove_right, remove_here, has_left, has_right, rising_remove, length_remove}
-use Rattle.gs_tree.proofs.Heights.{height_digits, size-keys}
+use Rattle.gs_tree.proofs.RemovalOrder.{remove_left, remove_right, remove_here, has_left, has_right}
 use Rattle.gs_pool.specs.declared.nodes.Key.{Key}
 use Rattle.gs_pool.specs.declared.nodes.Node.{Node}
-use Rattle.gs_pool.specs.Pool.{Nodes, plain, replaced, is_aside, node_at, mark_at, in_use, aside_count, room, Updates, Marks, KeepsMarks}
+use Rattle.gs_pool.specs.Pool.{Nodes, plain, node_at, mark_at, room}
 use Rattle.gs_tree.specs.Tree.{Tree, leaf, fork, root_of, height, keys, occurrences, Stands, IsBalanced, BirthAtMost, Descends, height_at, tree_at, DifferByAtMost, older_birth, older_count}
-use Rattle.gs_tree.specs.Steps.{plain_count, plain_mark, one, Step, IsOlder, CopiesIfOlder}
-use Rattle.gs_tree.specs.Joining.{CanSettle, Settled, copies, IsHeightAfter}
+use Rattle.gs_tree.specs.Steps.{plain_count, one, IsOlder, CopiesIfOlder}
+use Rattle.gs_tree.specs.Joining.{CanSettle, Settled, copies}
 use Rattle.gs_tree.specs.Shrinking.{CanShrink, Shrinks, Discards, remove_cost}
-use Rattle.gs_tree.specs.Sets.{IsSet, Removes}
-use Rattle.gs_tree.proofs.TreeLemmas.{Stands-same, plain_count_none, plain_count_some, plain_count_same, plain_count_mark, one_cases, plain_count_most, Stands-step, Step-then, Step-beside, BirthAtMost-later, birth_same, tree_at-is, old_birth, young_birth}
+use Rattle.gs_tree.proofs.TreeLemmas.{plain_count_most, Stands-step, Step-then, Step-beside, BirthAtMost-later, no_root_leaf}
 use Rattle.gs_tree.proofs.Rotations.{height_in, tree_in}
 use Rattle.gs_tree.proofs.Levels.{Opened, opened, ChildDone, child_done, side_off, top_stays, top_same, top_plain, root_plain, opened_older, older_counts}
-use Rattle.gs_tree.proofs.Costs.{copies_some, copies_most, copies_add, copies_mono, joins_near}
-use Rattle.gs_tree.proofs.Counting.{same_marks}
-
--- a tree whose side fell by one level at most is one lower at most
-shrunk : (l l' r n : ℕ) → l ≤ r + 1 → r ≤ l + 1 → l' ≤ l → l ≤ l' + 1 → IsHeightAfter l' r n → (n ≤ max l r + 1) × (max l r ≤ n)
-shrunk l l' r n a b c d h =
-    let h0 : max l' r ≤ n = h.0 in
-    let h1 : n ≤ max l' r + 1 = h.1 in
-    elim (cases_lt r l) [
-      | inl high ↦ elim (cases_lt r l') [
-        | inl still ↦ (omega arith, omega arith)
-        | inr fell ↦ let e = h.2 (omega arith, omega arith) in (omega arith, omega arith)
-      ]
-      | inr low ↦ (omega arith, omega arith)
-    ]
-
-no_root_leaf : (t : Tree) → root_of t ≡ None → t ≡ leaf
-no_root_leaf leaf e = refl
-no_root_leaf (fork id birth l k r) e = absurd (cc)
-
--- a number goes on the list
-pub drop_discards : (since : ℕ) (p q : Nodes) (id : ℕ) (n : Node) → node_at p id ≡ Some n → n.birth < since → mark_at p id ≡ plain → Marks p q id replaced → aside_count q ≡ aside_count p + 1 → Discards since p q id
-drop_discards since p q id n found old was m more =
-    let at : (x : ℕ) → node_at q x ≡ node_at p x = λ x. ap (λ s. Rattle.std.proofs.Common.get_or s x None) m.nodes in
-    let free = ap (λ s. Rattle.std.specs.Prelude.count_by Rattle.std.specs.Prelude.is_none s) m.nodes in
-    let used = ap (λ s. Rattle.std.specs.Prelude.count_by is_some s) m.nodes in
-    record {
-      step = λ birth. record {
-        kept = λ x k e h. at x ∙ e;
-        balance = λ x. elim (one_cases id x) [
-          | inl here ↦ omega (arith, here.1, subst (λ i. plain_count p i ≡ 1) here.0 (plain_count_some p id n found was), subst (λ i. plain_count q i ≡ 0) here.0 (plain_count_mark q id (ap is_some (at id ∙ found)) ∙ ap plain_mark m.changed))
-          | inr ne ↦ omega (arith, ne.1, plain_count_same p q x (at x) (m.others x (λ f. ne.0 (sym f))))
-        ];
-        older = λ x k e h. sym (at x) ∙ e;
-        born = λ x k e. inl (sym (at x) ∙ e);
-        marks = λ x. elim (cases_eq x id) [
-          | inl here ↦ inr (subst (λ i. IsOlder since p i × (mark_at p i ≡ plain) × (mark_at q i ≡ replaced)) (sym here) ((n, found, old), was, m.changed))
-          | inr ne ↦ inl (m.others x ne)
-        ];
-      };
-      total = omega (arith, free, used, m.spare);
-      copied = λ m e. let same = birth_same _ _ (sym found ∙ e) in omega (arith, used, old_birth since m.birth (omega arith));
-      exact = omega (arith, used, more);
-      few = omega (arith, used);
-    }
-
--- a number is free again
-pub free_discards : (since : ℕ) (p q : Nodes) (id : ℕ) (n : Node) → node_at p id ≡ Some n → since ≤ n.birth → mark_at p id ≡ plain → Updates p q id None → KeepsMarks p q → room q ≡ room p + 1 → in_use q + 1 ≡ in_use p → Discards since p q id
-free_discards since p q id n found young was up marks rooms used = record {
-  step = λ birth. record {
-    kept = λ x m e h. elim (one_cases id x) [
-      | inl here ↦ elim h [
-        | inl none ↦ absurd (omega (arith, here.1))
-        | inr old ↦ absurd (let f : node_at p id ≡ Some m = subst (λ y. node_at p y ≡ Some m) (sym here.0) e in let g = birth_same _ _ (sym found ∙ f) in omega arith)
-      ]
-      | inr ne ↦ up.others x (λ f. ne.0 (sym f)) ∙ e
-    ];
-    balance = λ x. elim (one_cases id x) [
-      | inl here ↦ omega (arith, here.1, subst (λ y. plain_count p y ≡ 1) here.0 (plain_count_some p id n found was), subst (λ y. plain_count q y ≡ 0) here.0 (plain_count_none q id up.changed))
-      | inr ne ↦ omega (arith, ne.1, plain_count_same p q x (up.others x (λ f. ne.0 (sym f))) (marks x))
-    ];
-    older = λ x m e h. elim (cases_eq x id) [
-      | inl here ↦ absurd (let f : node_at q id ≡ Some m = subst (λ y. node_at q y ≡ Some m) here e in let bad : None ≡ Some m = sym up.changed ∙ f in cc)
-      | inr ne ↦ sym (up.others x ne) ∙ e
-    ];
-    born = λ x m e. elim (cases_eq x id) [
-      | inl here ↦ absurd (let f : node_at q id ≡ Some m = subst (λ y. node_at q y ≡ Some m) here e in let bad : None ≡ Some m = sym up.changed ∙ f in cc)
-      | inr ne ↦ inl (sym (up.others x ne) ∙ e)
-    ];
-    marks = λ x. inl (marks x);
-  };
-  total = omega (arith, rooms, used);
-  copied = λ m e. let same = birth_same _ _ (sym found ∙ e) in omega (arith, used, young_birth since m.birth (omega arith));
-  exact = omega (arith, used, same_marks q.marks p.marks (λ x. marks x));
-  few = omega arith;
-}
+use Rattle.gs_tree.proofs.Costs.{copies_some, copies_add, copies_mono, joins_near}
+use Rattle.gs_tree.proofs.Heights.{shrunk}
 
 module _ (since birth : ℕ) (p : Nodes) (root : Option ℕ) (t : Tree) (can : CanShrink since p root t) (id : ℕ) (node : Node) (is : root ≡ Some id) (found : node_at p id ≡ Some node) where
   pub o : Opened p id node t
@@ -363,48 +286,3 @@ module _ (since birth : ℕ) (p : Nodes) (root : Option ℕ) (t : Tree) (can : C
         append_nil : (xs : List Key) → xs ++ [] ≡ xs
         append_nil [] = refl
         append_nil (x ∷ xs) = ap (λ ys. x ∷ ys) (append_nil xs)
-
--- the whole of a removal
-pub remove_can : (cmp : Key → Key → Ordering) (since : ℕ) (p q : Nodes) (root : Option ℕ) (t : Tree) → IsSet cmp p root t → q.nodes ≡ p.nodes → q.marks ≡ p.marks → height t < 2 ^ 29 → min (remove_cost since (height t)) (older_count since t) ≤ room q → (tree_at q root ≡ t) × CanShrink since q root (tree_at q root)
-remove_can cmp since p q root t s same drop fits enough =
-    let alike : (x : ℕ) → plain_count q x ≡ plain_count p x = λ x. plain_count_same p q x (ap (λ xs. Rattle.std.proofs.Common.get_or xs x None) same) (ap (λ ms. Rattle.std.proofs.Common.get_or ms x plain) drop) in
-    let stands = Stands-same p q t (λ x n h e. ap (λ xs. Rattle.std.proofs.Common.get_or xs x None) same ∙ e) s.stands in
-    let is = tree_in q root t s.root_is stands in
-    (is, subst (CanShrink since q root) (sym is) (record { root_is = s.root_is; stands = stands; balanced = s.balanced; apart = λ x. omega (arith, s.apart x, alike x); fits = fits; has_room = enough }))
-
--- the same removal, seen from the pool before room was made
-pub removed : (cmp : Key → Key → Ordering) (total : IsTotalOrder cmp) (since birth : ℕ) (p0 p q : Nodes) (root to : Option ℕ) (key : Key) (t u new : Tree) → IsSet cmp p0 root t → p.nodes ≡ p0.nodes → p.marks ≡ p0.marks → height t ≤ 64 → u ≡ t → Shrinks since birth p q to u new → HasKey cmp key (keys t) → keys new ≡ remove_key cmp key (keys u) → Removes cmp since birth p0 q to key t new
-removed cmp total since birth p0 p q root to key t u new s same drop low e0 i0 has k0 =
-    let i : Shrinks since birth p q to t new = subst (λ v. Shrinks since birth p q to v new) e0 i0 in
-    let k : keys new ≡ remove_key cmp key (keys t) = k0 ∙ ap (λ v. remove_key cmp key (keys v)) e0 in
-    let at : (x : ℕ) → node_at p0 x ≡ node_at p x = λ x. ap (λ xs. Rattle.std.proofs.Common.get_or xs x None) (sym same) in
-    let mark : (x : ℕ) → mark_at p0 x ≡ mark_at p x = λ x. ap (λ ms. Rattle.std.proofs.Common.get_or ms x plain) (sym drop) in
-    let alike : (x : ℕ) → plain_count p0 x ≡ plain_count p x = λ x. plain_count_same p p0 x (at x) (mark x) in
-    let uses : in_use p ≡ in_use p0 = ap (λ xs. Rattle.std.specs.Prelude.count_by is_some xs) same in
-    let step : Step since birth p0 q (occurrences t) (occurrences new) = record {
-      kept = λ x n e h. i.step.kept x n (sym (at x) ∙ e) h;
-      balance = λ x. omega (arith, i.step.balance x, alike x);
-      older = λ x n e h. at x ∙ i.step.older x n e h;
-      born = λ x n e. elim (i.step.born x n e) [ inl was ↦ inl (at x ∙ was) | inr new ↦ inr new ];
-      marks = λ x. elim (i.step.marks x) [ inl kept ↦ inl (kept ∙ sym (mark x)) | inr old ↦ inr ((old.0.0, at x ∙ old.0.1, old.0.2), mark x ∙ old.1, old.2) ];
-    } in
-    record {
-      set = record {
-        root_is = i.root;
-        stands = i.stands;
-        balanced = i.balanced;
-        rising = subst (IsRising cmp) (sym k) (rising_remove cmp total key (keys t) s.rising);
-        apart = λ x. omega (arith, i.step.balance x, alike x, s.apart x);
-      };
-      keys_are = k;
-      counted = omega (arith, ap Rattle.std.proofs.Common.length k, length_remove cmp total key (keys t) s.rising has);
-      births = i.births;
-      step = step;
-      others = λ other there away. let stays = Stands-same p0 q other (λ x n h e. step.kept x n e (away x n h e)) there in (stays, tree_at-is q other stays ∙ sym (tree_at-is p0 other there));
-      copied = omega (arith, i.copied, uses);
-      exact = omega (arith, i.exact, uses, ap (Rattle.std.specs.Prelude.count_by is_aside) drop);
-      in_place = λ z. omega (arith, i.exact, uses, same_marks q.marks p.marks (λ x. elim (i.step.marks x) [ inl kept ↦ kept | inr old ↦ absurd (omega (arith, old.0.2)) ]));
-      cost = omega (arith, i.few, uses);
-      digits = λ d small. omega (arith, i.few, uses, copies_most since (3 * height t), height_digits t d s.balanced (omega (arith, size-keys t)));
-      few = omega (arith, i.few, uses, copies_most since (3 * height t), low);
-    }

@@ -259,3 +259,8 @@ young_birth since birth young = rw (le-ltb birth since young)
 -- what is born before is
 pub old_birth : (since birth : ℕ) → birth < since → older_birth since birth ≡ 1
 old_birth since birth old = rw (lt-ltb birth since old)
+
+-- a root with no number is of the empty tree
+pub no_root_leaf : (t : Tree) → root_of t ≡ None → t ≡ leaf
+no_root_leaf leaf e = refl
+no_root_leaf (fork id birth l k r) e = absurd (cc)

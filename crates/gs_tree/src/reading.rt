@@ -154,7 +154,8 @@ pub fn next_keys<O: KeyOrder>(
     to: &mut Vec<Key>,
 ) -> Result<(), AllocError>
     requires { IsReadableAt (O.compare order.now) pool.now root }
-    ensures ok { OnOk result (Appends (O.compare order.now) pool.now root from most to.old.items to.new.items) }
+    ensures ok { OnOk result
+        (Appends (O.compare order.now) pool.now root from most to.old.items to.new.items) }
     ensures kept { OnErr result (to.new.items ≡ to.old.items) }
     ensures had_room { vec_len to.old + key_count (O.compare order.now) pool.now root from most
         ≤ vec_capacity to.old → IsOk result }

@@ -1,7 +1,8 @@
 //! Keys into a set: a run of keys as one union, and a key as the union of one.
-ghost use Rattle.std.specs.Prelude.{◌≡◌, ℕ, ◌+◌, ◌^◌, ◌<◌, ◌≤◌, [], ◌∷◌, length, Option, IsOk, IfOk, OnOk, OnErr};
+ghost use Rattle.std.specs.Prelude.{◌≡◌, ℕ, ◌+◌, ◌^◌, ◌<◌, ◌≤◌, [], ◌∷◌, length, drop, Option, IsOk, IfOk, OnOk, OnErr};
 ghost use Rattle.gs_pool.specs.Pool.{room};
-ghost use Rattle.gs_tree.specs.Keys.{IsRising, Places};
+ghost use Rattle.std.specs.declared.cmp.Ordering.TheVariants.{Less};
+ghost use Rattle.gs_tree.specs.Keys.{AllKeys, IsRising, Places};
 ghost use Rattle.gs_tree.specs.Merging.{BuiltAt, CanMergeAt, MergesAt};
 ghost use Rattle.gs_tree.specs.Reading.{keys_at};
 ghost use Rattle.gs_tree.specs.Sets.{IsSetAt, UnitesAt, GainsKey, IsCheap, HasUnionRoom};
@@ -57,8 +58,18 @@ fn find_place<O: KeyOrder>(order: &O, run: &[Key], key: Key) -> Place
         }
         Ordering::Less => {}
     }
+    find_below(order, run, key, last)
+}
+
+// A key's place in a run, by halves, where the keys from `end` on are above it.
+fn find_below<O: KeyOrder>(order: &O, run: &[Key], key: Key, end: usize) -> Place
+    requires rising { IsRising (O.compare order.now) run.now }
+    requires within { end ≤ length run.now }
+    requires above { AllKeys (λ x. O.compare order.now key x ≡ Less) (drop end run.now) }
+    ensures { Places (O.compare order.now) key run.now result.before result.after }
+{
     let mut from = 0;
-    let mut to = last;
+    let mut to = end;
     'halves: while from < to {
         let middle = from + (to - from) / 2;
         match order.compare(run[middle], key) {

@@ -38,7 +38,8 @@ fn iri_verb<L: Language>(
     context: &Context,
     token: TermToken,
 ) -> Result<Result<L::Verb, Fault>, AllocError>
-    ensures { (a : Flags) → StandsFor L.language.verb result (iri_value L.language context.now a token.entry) }
+    ensures { (a : Flags) → StandsFor L.language.verb result
+        (iri_value L.language context.now a token.entry) }
 {
     match iri(alloc, context, token)? {
         Ok(term) => Ok(Ok(L::verb(term))),
@@ -67,7 +68,8 @@ pub fn verb<L: Language>(
     context: &Context,
     symbol: Symbol,
 ) -> Result<Result<L::Verb, Fault>, AllocError>
-    ensures { (a : Flags) → StandsFor L.language.verb result (verb_value L.language context.now a symbol.entry) }
+    ensures { (a : Flags) → StandsFor L.language.verb result
+        (verb_value L.language context.now a symbol.entry) }
 {
     match symbol {
         Symbol::Word(token) => verb_word::<L>(alloc, context, token),

@@ -1,5 +1,5 @@
 use Rattle.std.proofs.Common.{arith}
-use Rattle.gs_tree.proofs.Removal.{drop_discards, free_discards}
+use Rattle.gs_tree.proofs.Discards.{drop_discards, free_discards}
 use Rattle.gs_tree.proofs.removals.discard.Goals as goal
 
 pub returns-then-get-since : goal.returns-then-get-since

@@ -3,7 +3,7 @@ use Rattle.gs_pool.specs.Pool.{in_use, room}
 use Rattle.gs_tree.specs.Tree.{tree_at, height, height_at, keys}
 use Rattle.gs_tree.specs.Keys.{IsRising, HasKey}
 use Rattle.gs_tree.proofs.RoomLemmas.{few_used, copied_within, remove_made}
-use Rattle.gs_tree.proofs.Removal.{remove_can, removed}
+use Rattle.gs_tree.proofs.WholeRemovals.{remove_can, removed}
 use Rattle.gs_tree.proofs.Counting.{low_height}
 use Rattle.gs_tree.proofs.removals.remove.Goals as goal
 

@@ -1,7 +1,7 @@
 use Rattle.std.proofs.Common.{◌≡◌, ◌-◌, ◌≤◌, length, take, drop}
 use Rattle.std.specs.declared.cmp.Ordering.TheVariants.{Less}
 use Rattle.gs_tree.specs.Keys.{AllKeys}
-use Rattle.gs_tree.proofs.unions.find_place.Given as goal
+use Rattle.gs_tree.proofs.unions.find_below.Given as goal
 
 abbrev pub invariant-halves : goal.invariant-halves
 invariant-halves g l = record {
