@@ -2,10 +2,10 @@
 use Rattle.std.proofs.Common.{◌≡◌, subst, ℕ, Bool, true, false, cond, ◌||◌, ◌&&◌, List, [], ◌∷◌, ◌++◌, map, Option, Some, None, refl, sym, ap, ◌∙◌, append_assoc}
 use Rattle.std.specs.List.{list_all, flat_map}
 use Rattle.std.specs.Option.{option_and_then}
-use Rattle.std.specs.Ordering.{eq_by_cmp, is_eq}
-use Rattle.std.specs.declared.cmp.Ordering.{Ordering}
-use Rattle.std.specs.declared.cmp.Ordering.TheVariants.{Less, Equal, Greater}
+use Rattle.std.specs.Cmp.{Equal-is}
+use Rattle.std.specs.Ordering.{eq_by_cmp}
 use Rattle.std.specs.Str.{bytes_eq}
+use Rattle.std.proofs.lemmas.Bool.{and_parts}
 use Rattle.std.proofs.lemmas.Cmp.{eq_by_cmp_equiv}
 use Rattle.std.proofs.lemmas.List.Folds.{list_any-append}
 use Rattle.std.proofs.lemmas.Slice.Eq.{bytes_eq-Decides}
@@ -27,14 +27,9 @@ same_term t u h = text_of-injective t u ((bytes_eq-Decides (text_of t) (text_of 
 term_is : (t u : Term) → t ≡ u → term_eq t u ≡ true
 term_is t u e = (bytes_eq-Decides (text_of t) (text_of u)).1 (ap text_of e)
 
-order_is : (o : Ordering) → is_eq o ≡ true → o ≡ Equal
-order_is Less h = absurd (cc)
-order_is Equal h = refl
-order_is Greater h = absurd (cc)
-
 -- equal triples are the same
-same_triple : (t u : RdfTriple) → eq_by_cmp triple_cmp t u ≡ true → t ≡ u
-same_triple t u h = triple_exact t u (order_is (triple_cmp t u) h)
+pub same_triple : (t u : RdfTriple) → eq_by_cmp triple_cmp t u ≡ true → t ≡ u
+same_triple t u h = triple_exact t u ((Equal-is (triple_cmp t u)).0 h)
 
 triple_is : (t : RdfTriple) → eq_by_cmp triple_cmp t t ≡ true
 triple_is t = (eq_by_cmp_equiv triple_total).refl t
@@ -205,15 +200,10 @@ reaches_flat a f t (u ∷ ts) there h =
     let one : Bool = eq_by_cmp triple_cmp t u in
     reaches_here a f t u (flat_map f ts) h one refl (λ no. reaches_flat a f t ts (sym (ap (λ r. r || is_among ts t) no) ∙ there) h)
 
-both : (r s : Bool) → (r && s) ≡ true → (r ≡ true) × (s ≡ true)
-both true true h = (refl, refl)
-both true false h = absurd (cc)
-both false s h = absurd (cc)
-
 pub solutions_complete : (ts : List RdfTriple) (a : Assignment) (ps : List Pattern) (b : Bindings) → Agrees a b → list_all (λ p. is_among ts (instance_of a p)) ps ≡ true → Reaches a (solutions ts ps b)
 solutions_complete ts a [] b agrees h = ([], b, [], refl, agrees)
 solutions_complete ts a (p ∷ ps) b agrees h =
-    let parts : (is_among ts (instance_of a p) ≡ true) × (list_all (λ q. is_among ts (instance_of a q)) ps ≡ true) = both (is_among ts (instance_of a p)) (list_all (λ q. is_among ts (instance_of a q)) ps) h in
+    let parts : (is_among ts (instance_of a p) ≡ true) × (list_all (λ q. is_among ts (instance_of a q)) ps ≡ true) = and_parts (is_among ts (instance_of a p)) (list_all (λ q. is_among ts (instance_of a q)) ps) h in
     let found : Found a (bind_triple b p (instance_of a p)) = triple_found a b p (instance_of a p) agrees refl in
     reaches_flat a (λ t. all_if (solutions ts ps) (bind_triple b p t)) (instance_of a p) ts parts.0
     (subst (λ o. Reaches a (all_if (solutions ts ps) o)) (sym found.1) (solutions_complete ts a ps found.0 found.2 parts.1))

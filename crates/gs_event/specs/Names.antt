@@ -1,5 +1,5 @@
 -- The names that the store makes up for new graphs (SPARQL 1.1 Graph Store HTTP Protocol, 21 March 2013, section 5.5).
-use Rattle.std.specs.Prelude.{◌≡◌, ◌<◌, ℕ, zero, suc, ◌+◌, true, false, List, ◌∷◌, ◌++◌, if◌then◌else◌, codes}
+use Rattle.std.specs.Prelude.{◌≡◌, ◌<◌, ℕ, zero, suc, ◌+◌, true, false, List, ◌++◌, if◌then◌else◌, codes}
 use Rattle.gs_model.specs.Terms.{numeral}
 use Rattle.gs_term.specs.declared.names.Target.TheVariants.{Named}
 use Rattle.gs_event.specs.Datasets.{Dataset, is_there, names_in}

@@ -1,14 +1,8 @@
 pub mod CommitLemmas
 pub mod KeptLemmas
-pub mod LineRuns
-pub mod LookupLemmas
-pub mod MarkLemmas
 pub mod NameLemmas
 pub mod PinLemmas
 pub mod PostLemmas
 pub mod RowLemmas
-pub mod SearchLemmas
-pub mod SolvingLemmas
-pub mod StepLemmas
 pub mod WasteLemmas
 pub mod WriteLemmas

@@ -4,9 +4,9 @@ ghost use Rattle.gs_plain.specs.Books.{will_commit};
 ghost use Rattle.gs_plain.specs.Actions.{IsReady, Acts, KeepsRoom, HoldsRoom};
 
 use crate::books::{self, Books, Seat};
-use crate::graphs::SortedGraph;
 use crate::{patches, reads, writes};
 use gs_event::{Action, Answer, UploadKind};
+use gs_graphs::SortedGraph;
 use gs_model::{LAST_NODE, LAST_NUMBER, Refusal};
 use gs_term::{Target, Triple};
 use std::alloc::Global;

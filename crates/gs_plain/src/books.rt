@@ -6,8 +6,8 @@ ghost use Rattle.gs_plain.specs.Books.{dataset_of, IsCounted};
 ghost use Rattle.gs_plain.specs.Versions.{PutsVersion, EndsVersion, EndsRow};
 ghost use Rattle.gs_plain.specs.Newest.{NewestRow};
 
-use crate::graphs::SortedGraph;
 use gs_event::{Limits, UploadKind};
+use gs_graphs::SortedGraph;
 use gs_term::Target;
 
 /// A version of a graph. The newest row of a target is its current one, if it is not ended.

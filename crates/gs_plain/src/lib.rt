@@ -3,13 +3,10 @@
 
 mod actions;
 mod books;
-mod graphs;
 mod names;
 mod patches;
 mod reads;
-mod solutions;
 mod stores;
-mod updates;
 mod verdicts;
 mod writes;
 

@@ -9,10 +9,9 @@ ghost use Rattle.gs_plain.specs.Actions.{IsReady, Acts, CommitsPatch, KeepsRoom,
 
 use crate::actions::MAX_NODES;
 use crate::books::{self, Books, Seat};
-use crate::graphs::SortedGraph;
-use crate::updates;
 use crate::verdicts::verdict_on_change;
 use gs_event::{Answer, Op, Verdict};
+use gs_graphs::{SortedGraph, update};
 use gs_model::{LAST_NUMBER, Refusal};
 use gs_term::Target;
 use std::alloc::{AllocError, Global};
@@ -111,7 +110,7 @@ fn patched(
     let rows = books.rows.as_slice();
     let before = books::size_at(rows, target);
     let mut graph = current(books, alloc, target)?;
-    updates::update(&mut graph, alloc, operations)?;
+    update(&mut graph, alloc, operations)?;
     let others = books.triples - before + books.staged;
     if graph.len() as u64 > MAX_NODES - others {
         return Err(AllocError);

@@ -4,8 +4,8 @@ ghost use Rattle.gs_event.specs.Verdicts.{DecidesRemoval, place_in};
 ghost use Rattle.gs_plain.specs.Books.{dataset_of, held_by, verdict_by, ChangesBy, DecidesBy, IsCounted};
 
 use crate::books::{self, Books};
-use crate::graphs::SortedGraph;
 use gs_event::{Change, Holdings, Place, Verdict, verdict_on};
+use gs_graphs::SortedGraph;
 use gs_term::Target;
 
 fn holdings(books: &Books) -> Holdings

@@ -9,10 +9,10 @@ ghost use Rattle.gs_plain.specs.Books.{graph_now, size_now, will_commit};
 ghost use Rattle.gs_plain.specs.Actions.{IsReady, Acts, HoldsRoom};
 
 use crate::books::{self, Books, Seat};
-use crate::graphs::SortedGraph;
 use crate::names;
 use crate::verdicts::{verdict_on_removal, verdict_on_store};
 use gs_event::{Answer, UploadKind, Verdict};
+use gs_graphs::SortedGraph;
 use gs_model::Refusal;
 use gs_term::Target;
 use std::alloc::{AllocError, Global};

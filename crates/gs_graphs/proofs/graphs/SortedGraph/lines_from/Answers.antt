@@ -1,0 +1,12 @@
+use Rattle.std.proofs.Common.{◌≡◌, ℕ, List, ◌∙◌, ap, sym, subst, map, take, drop, IfOk}
+use Rattle.std.specs.List.{concat}
+use Rattle.gs_model.specs.Triples.{line_of}
+use Rattle.gs_model.specs.Graphs.{lines_of}
+use Rattle.gs_model.proofs.GraphLemmas.{triples_of-graph_of}
+use Rattle.gs_graphs.proofs.graphs.SortedGraph.lines_from.Goals as goal
+
+pub returns : goal.returns
+returns c =
+    let all : map line_of c.as_slice.result.now ≡ lines_of c.args.self.now =
+    ap (map line_of) (c.as_slice.ensures.value ∙ sym (triples_of-graph_of c.self.inside.triples.items c.self.invariant)) ∙ ap lines_of c.self.view_is in
+    subst (λ (ls : List (List ℕ)). IfOk c.lines_between.result (λ bytes. bytes.items ≡ concat (take c.args.count (drop c.args.start ls)))) all c.lines_between.ensures

@@ -1,5 +1,0 @@
-use Rattle.std.proofs.Common.{◌≡◌, take}
-use Rattle.gs_plain.proofs.graphs.copies_of.Given as goal
-
-abbrev pub invariant-loop-triple : goal.invariant-loop-triple
-invariant-loop-triple l = l.copies.items ≡ take l.triple-index l.triples
