@@ -8,7 +8,7 @@ use crate::lines::read_line;
 use crate::patches::read_patch;
 use crate::words::{after, number, split};
 use gs_event::{Action, Event, UploadKind};
-use gs_model::{LAST_NUMBER, MAX_SEATS, Refusal};
+use gs_model::{LAST_NUMBER, MAX_SEATS, memory_apart};
 use gs_term::{GraphName, Target, Triple};
 use gs_upload::Language;
 use std::alloc::{AllocError, Global};
@@ -39,11 +39,7 @@ fn read_name(alloc: Global, bytes: &[u8]) -> Result<Option<GraphName>, AllocErro
     let Ok(text) = str::from_utf8(bytes) else {
         return Ok(None);
     };
-    match GraphName::new(alloc, text) {
-        Ok(name) => Ok(Some(name)),
-        Err(Refusal::NoMemory) => Err(AllocError),
-        Err(_) => Ok(None),
-    }
+    Ok(memory_apart(GraphName::new(alloc, text))?.ok())
 }
 
 /// What stands between `<` and `>`.

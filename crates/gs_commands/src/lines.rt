@@ -9,7 +9,7 @@ ghost use Rattle.gs_commands.specs.Found.{Finds, ReadsTerm};
 ghost use Rattle.gs_commands.specs.Commands.{SaysLine};
 
 use crate::words::{decoded, split};
-use gs_model::Refusal;
+use gs_model::{Refusal, memory_apart};
 use gs_ntwrite::line as push_line;
 use gs_term::{TermText, Triple};
 use std::alloc::{AllocError, Global};
@@ -44,11 +44,7 @@ fn unescaped(alloc: Global, bytes: &[u8]) -> Result<(Vec<u8>, usize), AllocError
 fn made(outcome: Result<TermText, Refusal>) -> Result<Option<TermText>, AllocError>
     ensures { (t : Term) → IsTerm t → Makes t outcome → IfOk result (λ r. r ≡ Some t) }
 {
-    match outcome {
-        Ok(term) => Ok(Some(term)),
-        Err(Refusal::NoMemory) => Err(AllocError),
-        Err(_) => Ok(None),
-    }
+    Ok(memory_apart(outcome)?.ok())
 }
 
 /// All but the last byte.

@@ -5,9 +5,10 @@ use Rattle.std.specs.List.{list_all}
 use Rattle.std.specs.Str.{is_utf8}
 use Rattle.std.proofs.lemmas.List.Folds.{list_all-append}
 use Rattle.std.proofs.Math.Bool.{and-true}
+use Rattle.std.proofs.lemmas.Bool.{and_from}
 use lib.Utf8.{encode}
 use Rattle.gs_model.specs.Characters.{is_iri_char}
-use Rattle.gs_iri.proofs.AbsoluteLemmas.{absolute_encodes, from_both}
+use Rattle.gs_iri.proofs.AbsoluteLemmas.{absolute_encodes}
 use Rattle.gs_escape.specs.declared.forms.Form.TheVariants as form
 use Rattle.gs_escape.specs.Escapes.{Escape, uchar, iri_escape}
 use Rattle.gs_escape.specs.Meanings.{meant_after, unescaped, meaning}
@@ -28,7 +29,7 @@ all_before : (u : List ℕ) (m : Option (List ℕ)) (v : List ℕ) → AllIri u 
 all_before u None v h ih e = absurd (cc)
 all_before u (Some w) v h ih e =
     let same : u ++ w ≡ v = cc in
-    subst AllIri same (list_all-append is_iri_char u w ∙ from_both h (ih w refl))
+    subst AllIri same (list_all-append is_iri_char u w ∙ and_from _ _ h (ih w refl))
 
 kept : (b : Bool) (d e : Escape) → is_iri_char d.0 ≡ b → cond b (Some d) None ≡ Some e → is_iri_char e.0 ≡ true
 kept true d e h k = ap (λ z. is_iri_char z.0) (let same : e ≡ d = cc in same) ∙ h
@@ -49,7 +50,7 @@ all_escaped cs (Some d) v h ih e = all_before (encode_utf8 d.0) (unescaped form.
 
 all_first : (c : ℕ) (cs v : List ℕ) (a b : Bool) → is_iri_char c ≡ a → ((n : ℕ) (w : List ℕ) → unescaped form.IriRef n cs ≡ Some w → AllIri w)
     → cond a (meant_after (c ∷ []) (unescaped form.IriRef 0 cs)) (cond b (option_and_then (λ e. meant_after (encode_utf8 e.0) (unescaped form.IriRef e.1 cs)) (iri_escape cs)) None) ≡ Some v → AllIri v
-all_first c cs v true b h ih e = all_before (c ∷ []) (unescaped form.IriRef 0 cs) v (from_both h refl) (ih 0) e
+all_first c cs v true b h ih e = all_before (c ∷ []) (unescaped form.IriRef 0 cs) v (and_from _ _ h refl) (ih 0) e
 all_first c cs v false true h ih e = all_escaped cs (iri_escape cs) v refl ih e
 all_first c cs v false false h ih e = absurd (cc)
 

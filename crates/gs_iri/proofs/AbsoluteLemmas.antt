@@ -2,7 +2,7 @@
 use Rattle.std.proofs.Common.{◌≡◌, ℕ, ◌+◌, ◌/◌, ◌%◌, ◌≤◌, ◌<◌, Bool, true, false, cond, ◌&&◌, ◌==◌, List, [], ◌∷◌, ◌++◌, refl, sym, ap, ◌∙◌, arith}
 use Rattle.std.specs.List.{list_all}
 use Rattle.std.proofs.lemmas.List.Folds.{list_all-append}
-use Rattle.std.proofs.lemmas.Bool.{eqb-true, and_parts}
+use Rattle.std.proofs.lemmas.Bool.{eqb-true, and_parts, and_from}
 use Rattle.std.proofs.lemmas.Bool.Decides.{nat_tests}
 use Rattle.std.proofs.lemmas.Str.{encode_ascii, length-encode, len_utf8_bounds}
 use Rattle.std.proofs.Math.Bool.{and-true}
@@ -12,9 +12,6 @@ use lib.Utf8.{encode, encodes}
 use lib.Dec.{ltb}
 use Rattle.gs_model.specs.Characters.{is_iri_char}
 use Rattle.gs_model.specs.Iris.{is_absolute, is_letter, is_scheme_char, is_scheme_rest, IsAbsolute}
-
-pub from_both : {a b : Bool} → a ≡ true → b ≡ true → (a && b) ≡ true
-from_both {a} {b} p q = cc
 
 record RestParts (text : List ℕ) : Type 0 where
   scheme : List ℕ
@@ -31,7 +28,7 @@ rest_parts (c ∷ cs) e =
       | false ↦ λ h k.
           let two = and_parts (is_scheme_char c) (is_scheme_rest cs) k in
           let p = rest_parts cs two.1 in
-          record { scheme = c ∷ p.scheme; rest = p.rest; parts = ap (λ z. c ∷ z) p.parts; goes_on = from_both two.0 p.goes_on; characters = p.characters }
+          record { scheme = c ∷ p.scheme; rest = p.rest; parts = ap (λ z. c ∷ z) p.parts; goes_on = and_from _ _ two.0 p.goes_on; characters = p.characters }
     ] refl e
 
 rest_back : (scheme rest : List ℕ) → list_all is_scheme_char scheme ≡ true → list_all is_iri_char rest ≡ true → is_scheme_rest (scheme ++ 58 ∷ rest) ≡ true
@@ -39,7 +36,7 @@ rest_back [] rest g k = k
 rest_back (c ∷ cs) rest g k =
     elim (c == 58) as (λ b. (c == 58) ≡ b → cond b (list_all is_iri_char (cs ++ 58 ∷ rest)) (is_scheme_char c && is_scheme_rest (cs ++ 58 ∷ rest)) ≡ true) [
       | true ↦ λ h. let colon : is_scheme_char 58 ≡ true = sym (ap is_scheme_char (eqb-true c 58 h)) ∙ (and_parts (is_scheme_char c) (list_all is_scheme_char cs) g).0 in absurd (cc)
-      | false ↦ λ h. let two = and_parts (is_scheme_char c) (list_all is_scheme_char cs) g in from_both two.0 (rest_back cs rest two.1 k)
+      | false ↦ λ h. let two = and_parts (is_scheme_char c) (list_all is_scheme_char cs) g in and_from _ _ two.0 (rest_back cs rest two.1 k)
     ] refl
 
 pub absolute_forth : (text : List ℕ) → is_absolute text ≡ true → IsAbsolute text
@@ -50,7 +47,7 @@ absolute_forth (c ∷ cs) e =
     record { first = c; scheme = p.scheme; rest = p.rest; parts = ap (λ z. c ∷ z) p.parts; begins = two.0; goes_on = p.goes_on; characters = p.characters }
 
 pub absolute_back : (text : List ℕ) → IsAbsolute text → is_absolute text ≡ true
-absolute_back text a = ap is_absolute a.parts ∙ from_both a.begins (rest_back a.scheme a.rest a.goes_on a.characters)
+absolute_back text a = ap is_absolute a.parts ∙ and_from _ _ a.begins (rest_back a.scheme a.rest a.goes_on a.characters)
 
 -- each byte of a character from 128 on is at least 128
 abbrev AllHigh : List ℕ → Type 0
@@ -73,7 +70,7 @@ high c h =
 
 all_high : (p : ℕ → Bool) → ((b : ℕ) → 128 ≤ b → p b ≡ true) → (bs : List ℕ) → AllHigh bs → list_all p bs ≡ true
 all_high p holds [] h = refl
-all_high p holds (b ∷ bs) h = from_both (holds b h.0) (all_high p holds bs h.1)
+all_high p holds (b ∷ bs) h = and_from _ _ (holds b h.0) (all_high p holds bs h.1)
 
 iri_high : (b : ℕ) → 128 ≤ b → is_iri_char b ≡ true
 iri_high b h = grind (arith, nat_tests)

@@ -1,12 +1,11 @@
 -- A reference of IRI characters, resolved against an absolute base, is absolute.
-use Rattle.std.proofs.lemmas.Bool.{and_parts}
+use Rattle.std.proofs.lemmas.Bool.{and_parts, and_from}
 use Rattle.std.proofs.Common.{◌≡◌, ℕ, Bool, true, false, cond, ◌&&◌, ◌==◌, List, [], ◌∷◌, ◌++◌, refl, ◌∙◌, drop}
 use Rattle.std.specs.Prelude.{Option, Some, None, codes, fold}
 use Rattle.std.specs.Option.{is_some, unwrap_or, option_map, option_and_then, option_or}
 use Rattle.std.specs.List.{list_all, onto_first}
 use Rattle.std.proofs.lemmas.List.Folds.{list_all-append}
 use Rattle.gs_model.specs.Characters.{is_iri_char}
-use Rattle.gs_iri.proofs.AbsoluteLemmas.{from_both}
 use Rattle.gs_iri.specs.References.{Reference, is_one_of, before, from, behind, has_scheme, behind_scheme, behind_slashes, authority_of, behind_authority, path_of, behind_path, query_of, behind_query, fragment_of, parts_of}
 use Rattle.gs_iri.specs.Dots.{Output, segments_of, is_dot, is_dot_dot, is_dots, last_of, closed, moved, text_of_segments, output_of, dots}
 use Rattle.gs_iri.specs.Output.{has_slash}
@@ -17,14 +16,14 @@ abbrev pub AllIri : List ℕ → Type 0
 AllIri x = list_all is_iri_char x ≡ true
 
 iri-append : (x y : List ℕ) → AllIri x → AllIri y → AllIri (x ++ y)
-iri-append x y a b = list_all-append is_iri_char x y ∙ from_both a b
+iri-append x y a b = list_all-append is_iri_char x y ∙ and_from _ _ a b
 
 iri-before : (stops x : List ℕ) → AllIri x → AllIri (before stops x)
 unfolding before
 iri-before stops [] a = refl
 iri-before stops (c ∷ cs) a =
     let two = and_parts (is_iri_char c) (list_all is_iri_char cs) a in
-    elim (is_one_of stops c) as (λ b. AllIri (cond b [] (c ∷ before stops cs))) [ true ↦ refl | false ↦ from_both two.0 (iri-before stops cs two.1) ]
+    elim (is_one_of stops c) as (λ b. AllIri (cond b [] (c ∷ before stops cs))) [ true ↦ refl | false ↦ and_from _ _ two.0 (iri-before stops cs two.1) ]
 
 iri-from : (stops x : List ℕ) → AllIri x → AllIri (from stops x)
 unfolding from
@@ -98,8 +97,8 @@ AllIris [] = Unit {0}
 AllIris (s ∷ ss) = AllIri s × AllIris ss
 
 iris-onto : (c : ℕ) (ss : List (List ℕ)) → is_iri_char c ≡ true → AllIris ss → AllIris (onto_first c ss)
-iris-onto c [] e a = (from_both e refl, tt)
-iris-onto c (s ∷ ss) e a = (from_both e a.0, a.1)
+iris-onto c [] e a = (and_from _ _ e refl, tt)
+iris-onto c (s ∷ ss) e a = (and_from _ _ e a.0, a.1)
 
 iris-segments : (x : List ℕ) → AllIri x → AllIris (segments_of x)
 unfolding segments_of
@@ -159,7 +158,7 @@ unfolding through_last
 iri-through [] a = refl
 iri-through (c ∷ cs) a =
     let two = and_parts (is_iri_char c) (list_all is_iri_char cs) a in
-    elim (has_slash (c ∷ cs)) as (λ b. AllIri (cond b (c ∷ through_last cs) [])) [ true ↦ from_both two.0 (iri-through cs two.1) | false ↦ refl ]
+    elim (has_slash (c ∷ cs)) as (λ b. AllIri (cond b (c ∷ through_last cs) [])) [ true ↦ and_from _ _ two.0 (iri-through cs two.1) | false ↦ refl ]
 
 iri-directory : (authority : Option (List ℕ)) (path : List ℕ) → AllIri path → AllIri (directory_of authority path)
 unfolding directory_of

@@ -4,11 +4,11 @@ use Rattle.std.specs.Prelude.{Option, Some, None, codes, nat_le}
 use Rattle.std.specs.Option.{is_some}
 use Rattle.std.specs.List.{list_all}
 use Rattle.std.proofs.lemmas.List.Folds.{list_all-append}
-use Rattle.std.proofs.lemmas.Bool.{eqb-true, and_parts}
+use Rattle.std.proofs.lemmas.Bool.{eqb-true, and_parts, and_from}
 use Rattle.std.proofs.lemmas.Bool.Decides.{nat_tests}
 use Rattle.gs_model.specs.Characters.{is_iri_char}
 use Rattle.gs_model.specs.Iris.{is_absolute, is_letter, is_scheme_char}
-use Rattle.gs_iri.proofs.AbsoluteLemmas.{from_both, absolute_forth, absolute_back}
+use Rattle.gs_iri.proofs.AbsoluteLemmas.{absolute_forth, absolute_back}
 use Rattle.gs_iri.proofs.CharacterLemmas.{AllIri, iri-behind_colon, iri-resolved_parts}
 use Rattle.gs_iri.specs.References.{Reference, is_one_of, before, from, behind, is_scheme, has_scheme, scheme_of, parts_of}
 use Rattle.gs_iri.specs.Resolving.{scheme_text, parts_text, is_empty, resolved_parts, resolved}
@@ -56,12 +56,12 @@ base_scheme : (x : List ℕ) → is_absolute x ≡ true → is_some (scheme_of x
 unfolding scheme_of has_scheme is_scheme behind
 base_scheme x h =
     let a = absolute_forth x h in
-    let chars = from_both (letter_goes_on a.first a.begins) a.goes_on in
+    let chars = and_from _ _ (letter_goes_on a.first a.begins) a.goes_on in
     let front = ap (before (codes ":")) a.parts ∙ before_colon (a.first ∷ a.scheme) a.rest chars in
     let back = ap (from (codes ":")) a.parts ∙ from_colon (a.first ∷ a.scheme) a.rest chars in
-    let form : is_scheme (before (codes ":") x) ≡ true = ap is_scheme front ∙ from_both a.begins a.goes_on in
+    let form : is_scheme (before (codes ":") x) ≡ true = ap is_scheme front ∙ and_from _ _ a.begins a.goes_on in
     let colon : is_some (behind 58 (from (codes ":") x)) ≡ true = ap (λ z. is_some (behind 58 z)) back in
-    ap (λ b. is_some (cond b (Some (before (codes ":") x)) None)) (from_both colon form)
+    ap (λ b. is_some (cond b (Some (before (codes ":") x)) None)) (and_from _ _ colon form)
 
 -- a scheme that is there
 abbrev pub HasScheme : Reference → Type 0
@@ -100,13 +100,13 @@ iri_scheme : (s : List ℕ) → list_all is_scheme_char s ≡ true → AllIri s
 iri_scheme [] h = refl
 iri_scheme (c ∷ cs) h =
     let two = and_parts (is_scheme_char c) (list_all is_scheme_char cs) h in
-    from_both (scheme_char_is_iri c two.0) (iri_scheme cs two.1)
+    and_from _ _ (scheme_char_is_iri c two.0) (iri_scheme cs two.1)
 
 iri_base : (x : List ℕ) → is_absolute x ≡ true → AllIri x
 iri_base x h =
     let a = absolute_forth x h in
     ap (list_all is_iri_char) a.parts ∙ list_all-append is_iri_char (a.first ∷ a.scheme) (58 ∷ a.rest)
-    ∙ from_both (iri_scheme (a.first ∷ a.scheme) (from_both (letter_goes_on a.first a.begins) a.goes_on)) a.characters
+    ∙ and_from _ _ (iri_scheme (a.first ∷ a.scheme) (and_from _ _ (letter_goes_on a.first a.begins) a.goes_on)) a.characters
 
 pub resolved_absolute : (base reference : List ℕ) → is_absolute base ≡ true → AllIri reference → is_absolute (resolved base reference) ≡ true
 unfolding resolved parts_text parts_of

@@ -1,6 +1,6 @@
 -- What a scan that went on from a word in vain reports of the words after it.
 use Rattle.std.proofs.Math.Seq.{drop-append_seam}
-use Rattle.std.proofs.lemmas.Bool.{and_parts}
+use Rattle.std.proofs.lemmas.Bool.{and_parts, and_from}
 use Rattle.std.proofs.Common.{◌≡◌, ◌≢◌, ℕ, ◌-◌, ◌<◌, ◌≤◌, max, Bool, true, false, cond, List, [], ◌∷◌, ◌++◌, refl, sym, ap, ◌∙◌, arith, subst, append_assoc, length, length-append, Option, Some, None, take, drop, encode_utf8_all, ◌⊎◌, inl, inr}
 use Rattle.std.proofs.Math.ListN.{take-append-drop}
 use Rattle.std.proofs.lemmas.Str.{encodes-append}
@@ -21,7 +21,7 @@ use Rattle.gs_lex.specs.declared.states.Mark.TheVariants as mark
 use Rattle.gs_lex.specs.declared.scans.Scan.{Scan}
 use Rattle.gs_lex.specs.declared.steps.Reading.{Reading}
 use Rattle.gs_lex.proofs.AutomatonLemmas.{run-append, none-stays, Best, best, IsSplit, longest-split}
-use Rattle.gs_lex.proofs.ScanLemmas.{scan-fresh, both_and}
+use Rattle.gs_lex.proofs.ScanLemmas.{scan-fresh}
 use Rattle.gs_lex.proofs.BecomeLemmas.{becomes-before, becomes-after, becomes-more, becomes-open}
 use Rattle.gs_lex.proofs.LongestLemmas.{within, beyond, compare, scalars-front, scalars-back, IsAll, some_bytes}
 
@@ -169,7 +169,7 @@ pub scalars-join : (v d : List ℕ) → all_scalars v ≡ true → all_scalars d
 scalars-join [] d h k = k
 scalars-join (c ∷ v) d h k =
     let b = and_parts (scalar c) (all_scalars v) h in
-    both_and (scalar c) (all_scalars (v ++ d)) b.0 (scalars-join v d b.1 k)
+    and_from (scalar c) (all_scalars (v ++ d)) b.0 (scalars-join v d b.1 k)
 
 -- from after some of the characters that were read after a word
 word_barren : (u : Bool) (cs w v d z tail : List ℕ) (q : State) → cs ≡ (w ++ v) ++ d → v ≢ [] → all_scalars cs ≡ true → run (tokens u) cs ≡ Some q → kind_at (tokens u) (run (tokens u) w) ≡ Some kind.Word

@@ -1,8 +1,8 @@
 -- What a text may become.
 use Rattle.std.proofs.Common.{◌≡◌, ◌≢◌, ℕ, Bool, true, false, List, [], ◌∷◌, ◌++◌, arith, refl, sym, ap, subst, ◌∙◌, inl, inr, append_assoc, append-nil, encode_utf8, encode_utf8_all}
+use Rattle.std.proofs.lemmas.Bool.{and_parts}
 use Rattle.std.proofs.lemmas.Str.{encode_same, IsUtf8-nil, IsUtf8-append}
 use Rattle.std.proofs.str.Laws.{one}
-use Rattle.std.specs.Prelude.{◌&&◌}
 use Rattle.std.specs.Str.{IsUtf8, StartsWithNoChar, all_scalars}
 use lib.Utf8.{scalar}
 use Rattle.gs_machine.proofs.FrontLemmas.{one_begins, none_of_characters, IsUtf8-past}
@@ -87,10 +87,6 @@ becomes-end is_end x z e (recut f a y n k v s l) = absurd (Prim.cc (sym e ∙ n)
 pub becomes-open : (x z : List ℕ) → MayBecome true x z → MayBecome false x z
 becomes-open x z m = goes_on [] (no_end []) (becomes-end true x z refl m ∙ sym (append-nil x))
 
-both_parts : (a b : Bool) → (a && b) ≡ true → a ≡ true
-both_parts true b g = refl
-both_parts false b g = g
-
 -- bytes that begin no character, whatever follows, become none that do
 pub becomes-bad : (is_end : Bool) (x z : List ℕ) → ((y : List ℕ) → StartsWithNoChar (x ++ y)) → MayBecome is_end x z → StartsWithNoChar z
 becomes-bad is_end x z h (goes_on y m k) = subst StartsWithNoChar (sym k) (h y)
@@ -99,5 +95,5 @@ becomes-bad is_end x z h (recut f a y n k v s l) = absurd (by_front v.0 v.1.0 v.
     by_front : (cs : List ℕ) → all_scalars cs ≡ true → encode_utf8_all cs ≡ f → ⊥
     by_front [] g e = h s.others s.character [] s.scalar
         (ap (λ w. w ++ s.others) (k ∙ ap (λ w. w ++ a) (sym e)) ∙ sym s.parts ∙ sym (append-nil (encode_utf8 s.character)))
-    by_front (c ∷ cs) g e = h [] c (encode_utf8_all cs ++ a) (both_parts (scalar c) (all_scalars cs) g)
+    by_front (c ∷ cs) g e = h [] c (encode_utf8_all cs ++ a) (and_parts (scalar c) (all_scalars cs) g).0
         (append-nil x ∙ k ∙ ap (λ w. w ++ a) (sym e) ∙ append_assoc (encode_utf8 c) (encode_utf8_all cs) a)

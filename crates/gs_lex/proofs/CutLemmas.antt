@@ -1,6 +1,6 @@
 -- Each text has a cut, which is read off its characters.
 use Rattle.std.proofs.Common.{◌≡◌, ◌≢◌, ℕ, zero, suc, ◌<◌, ◌≤◌, Bool, true, false, List, [], ◌∷◌, ◌++◌, refl, sym, ap, ◌∙◌, arith, inl, subst, append_assoc, length, length-append, Option, Some, None, encode_utf8, encode_utf8_all, eq-eqb, if◌then◌else◌}
-use Rattle.std.proofs.lemmas.Bool.{eqb-true, and_parts}
+use Rattle.std.proofs.lemmas.Bool.{eqb-true, and_parts, and_from}
 use Rattle.std.proofs.lemmas.Bool.Decides.{nat_tests}
 use Rattle.std.proofs.lemmas.Str.{encode_same, len_utf8_bounds, length-encode}
 use Rattle.std.proofs.str.Laws.{one}
@@ -28,8 +28,8 @@ use Rattle.gs_lex.specs.declared.states.Mark.TheVariants as mark
 use Rattle.gs_lex.specs.declared.states.Text.TheVariants as text
 use Rattle.gs_lex.proofs.AutomatonLemmas.{Best, best, IsSplit, longest-split, nonempty, shorter}
 use Rattle.gs_lex.proofs.LongestLemmas.{no_start}
-use Rattle.gs_lex.proofs.ScanLemmas.{both_and}
 use Rattle.gs_lex.proofs.TerminalLemmas.{accepted-terminal, terminal-accepted}
+use Rattle.gs_lex.proofs.StepLemmas.{space_low, line_end_low}
 
 -- no token ends with bytes that are no character
 bad_none : (u : Bool) (q : State) → kind_at (tokens u) (state_after q bad) ≡ None
@@ -65,7 +65,7 @@ one_more : (c : ℕ) (o x w r : List ℕ) → IsScalar c → x ≡ encode_utf8 c
 one_more c o x w r k e s = record {
   rest = s.rest;
   parts = e ∙ ap (λ z. encode_utf8 c ++ z) s.parts ∙ sym (append_assoc (encode_utf8 c) (encode_utf8_all w) s.rest);
-  characters = both_and (scalar c) (all_scalars w) k s.characters;
+  characters = and_from (scalar c) (all_scalars w) k s.characters;
   spells = s.spells;
 }
 
@@ -141,12 +141,6 @@ found_parted u n l x cs go (Some t) h s b i d =
     let place = place_after n (length (encode_utf8_all t.1)) in
     kind_parted u n l x t.0 t.1 k.rest t.2 go (token_kind u t.0 (encode_utf8_all t.1)) (found_longest u x cs t h b k) refl (d place k.rest t.2 k.spells (shorter s))
 
-space_low : (c : ℕ) → is_ws c ≡ true → c < 128
-space_low c h = grind (arith, nat_tests)
-
-end_low : (c : ℕ) → is_line_end c ≡ true → c < 128
-end_low c h = grind (arith, nat_tests)
-
 end_space : (c : ℕ) → is_line_end c ≡ true → is_ws c ≡ true
 end_space c h = grind (arith, nat_tests)
 
@@ -182,7 +176,7 @@ no_scalar c k e = let h : IsScalar bad = subst IsScalar (eqb-true c bad e) k in 
 -- after the end of a comment's line
 line_parted : (u : Bool) (n l : ℕ) (x : List ℕ) (c : ℕ) (o : List ℕ) (p : Parted) → x ≡ encode_utf8 c ++ o → is_line_end c ≡ true → IsParted u Between (place_after n 1) l o p → IsParted u InComment n l x p
 line_parted u n l x c o p e t d =
-    let q : x ≡ c ∷ o = e ∙ ap (λ z. z ++ o) (one c (end_low c t)) in
+    let q : x ≡ c ∷ o = e ∙ ap (λ z. z ++ o) (one c (line_end_low c t)) in
     line_end (subst EndsLine (sym q) t) (space c o q (end_space c t) d)
 
 one_byte : (x : List ℕ) (c : ℕ) (o : List ℕ) → x ≡ encode_utf8 c ++ o → c < 128 → x ≡ c ∷ o

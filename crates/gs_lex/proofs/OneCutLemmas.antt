@@ -14,6 +14,7 @@ use Rattle.gs_lex.specs.declared.kinds.Terminal.{Terminal}
 use Rattle.gs_lex.proofs.AutomatonLemmas.{none-stays}
 use Rattle.gs_lex.proofs.LongestLemmas.{Compared, within, beyond, compare, no_start}
 use Rattle.gs_lex.proofs.TerminalLemmas.{terminal-accepted}
+use Rattle.gs_lex.proofs.StepLemmas.{line_end_low}
 
 some_encode : (c : ℕ) (o : List ℕ) → encode_utf8 c ++ o ≡ [] → ⊥
 some_encode c o e =
@@ -109,9 +110,6 @@ one_longest u x t j w v r s g h =
 
 some_none : {K : Type 0} (k : K) (o : Option K) → o ≡ Some k → o ≡ None → ⊥
 some_none k o e f = Prim.cc (sym e ∙ f)
-
-line_end_low : (c : ℕ) → is_line_end c ≡ true → c < 128
-line_end_low c h = grind (arith, nat_tests)
 
 comment_ends : (x : List ℕ) (c : ℕ) (r : List ℕ) → x ≡ encode_utf8 c ++ r → is_line_end c ≡ false → EndsLine x → ⊥
 comment_ends [] c r p k h = some_encode c r (sym p)

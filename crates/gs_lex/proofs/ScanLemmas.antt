@@ -1,5 +1,5 @@
 -- Laws of reading one character more.
-use Rattle.std.proofs.lemmas.Bool.{and_parts}
+use Rattle.std.proofs.lemmas.Bool.{and_parts, and_from}
 use Rattle.std.proofs.Math.Seq.{drop-append_seam}
 use Rattle.std.proofs.Common.{◌≡◌, ◌≢◌, ℕ, ◌+◌, ◌<◌, ◌≤◌, Bool, true, false, List, [], ◌∷◌, ◌++◌, refl, sym, ap, ◌∙◌, arith, subst, append_assoc, append-nil, length, length-append, Option, Some, None, drop, length-drop, MatchBool, encode_utf8, encode_utf8_all, ◌&&◌}
 use Rattle.std.proofs.Math.ListN.{take-append-drop}
@@ -43,12 +43,9 @@ best_more : (k : Option Terminal) (cs : List ℕ) (c : ℕ) (f : Found Terminal 
 best_more None cs c f b m n h e = best_on f (c ∷ []) b m h
 best_more (Some k) cs c f b m n h e = (refl, e)
 
-pub both_and : (x y : Bool) → x ≡ true → y ≡ true → (x && y) ≡ true
-both_and x y e f = ap (λ z. z && y) e ∙ f
-
 pub scalars-snoc : (cs : List ℕ) (c : ℕ) → all_scalars cs ≡ true → IsScalar c → all_scalars (cs ++ c ∷ []) ≡ true
 scalars-snoc [] c h k = ap (λ z. z && true) k
-scalars-snoc (d ∷ cs) c h k = both_and (scalar d) (all_scalars (cs ++ c ∷ [])) (and_parts (scalar d) (all_scalars cs) h).0 (scalars-snoc cs c (and_parts (scalar d) (all_scalars cs) h).1 k)
+scalars-snoc (d ∷ cs) c h k = and_from (scalar d) (all_scalars (cs ++ c ∷ [])) (and_parts (scalar d) (all_scalars cs) h).0 (scalars-snoc cs c (and_parts (scalar d) (all_scalars cs) h).1 k)
 
 pub scan-on : (u : Bool) (x : List ℕ) (s : Scan) (c n : ℕ) (p : State) → IsScanned u x s → BeginsWith c n (drop s.len x) → state_after s.state c ≡ Some p → IsScanned u x (onward_of s p n)
 scan-on u x s c n p h b e =

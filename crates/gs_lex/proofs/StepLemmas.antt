@@ -51,7 +51,7 @@ pass-comment is_end r x c n k b h = record {
 after_nothing : (r : Reading) → r.place < 2 ^ 64 → place_after r.place 0 ≡ r.place
 after_nothing r h = omega arith
 
-line_end_low : (c : ℕ) → is_line_end c ≡ true → c < 128
+pub line_end_low : (c : ℕ) → is_line_end c ≡ true → c < 128
 line_end_low c h = grind (arith, nat_tests)
 
 -- a line ends before the character that ends it, and where the text ends

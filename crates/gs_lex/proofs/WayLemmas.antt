@@ -1,5 +1,6 @@
 -- Ways on from a token that has begun: from each state that no token has ended in, two texts lead to tokens that differ.
 use Rattle.std.proofs.Common.{◌≡◌, ℕ, ◌<◌, Bool, true, List, [], ◌∷◌, refl, ap, ◌∙◌, arith, length, Some}
+use Rattle.std.proofs.lemmas.Bool.{and_from}
 use Rattle.std.specs.Str.{all_scalars}
 use lib.Utf8.{scalar}
 use Rattle.gs_lex.specs.Automata.{run_from, kind_at}
@@ -17,7 +18,6 @@ use Rattle.gs_lex.specs.declared.states.Text.{Text}
 use Rattle.gs_lex.specs.declared.states.Text.TheVariants as text
 use Rattle.gs_lex.specs.declared.states.Left.{Left}
 use Rattle.gs_lex.specs.declared.states.Left.TheVariants as left
-use Rattle.gs_lex.proofs.ScanLemmas.{both_and}
 
 -- two texts that lead on to tokens of one kind, whose bytes a token holds, the second with more characters
 pub record Ways (q : State) : Type 0 where
@@ -61,8 +61,8 @@ ways_after q p c e s w = record {
   to_other = λ u. ap (λ o. kind_at (tokens u) (run_from (tokens u) o w.other)) e ∙ w.to_other u;
   is_kind = w.is_kind;
   holds_text = w.holds_text;
-  scalars_one = both_and (scalar c) (all_scalars w.one) s w.scalars_one;
-  scalars_other = both_and (scalar c) (all_scalars w.other) s w.scalars_other;
+  scalars_one = and_from (scalar c) (all_scalars w.one) s w.scalars_one;
+  scalars_other = and_from (scalar c) (all_scalars w.other) s w.scalars_other;
   longer = omega (arith, w.longer);
 }
 

@@ -2,16 +2,13 @@
 use Rattle.std.specs.Prelude.{ℕ, Bool, ◌==◌, ◌||◌}
 use Rattle.gs_model.specs.Characters.{line_feed, carriage_return, space, quote, number_sign, plus, hyphen, dot, colon, at_sign, backslash, underscore, letter_n, letter_r, is_upper, is_lower, in_range, in_ranges, pn_chars_base, pn_chars_u, pn_chars}
 pub use Rattle.gs_model.specs.Characters.{is_digit}
+pub use Rattle.gs_model.specs.Escapes.{is_hex, is_line_end}
 use Rattle.gs_model.specs.Ascii.{tab, letter_large_e, letter_b, letter_e, letter_f, letter_t}
 use Rattle.gs_model.specs.Punctuation.{exclamation_mark, dollar, percent, ampersand, apostrophe, left_parenthesis, right_parenthesis, asterisk, comma, slash, semicolon, equals_sign, question_mark, tilde}
 
 -- [161s] WS
 abbrev pub is_ws : ℕ → Bool
 is_ws c = c == space || c == tab || c == carriage_return || c == line_feed
-
--- where a comment or a short string ends
-abbrev pub is_line_end : ℕ → Bool
-is_line_end c = c == line_feed || c == carriage_return
 
 -- '+' or '-'
 abbrev pub is_sign : ℕ → Bool
@@ -28,10 +25,6 @@ is_alpha c = is_upper c || is_lower c
 -- one of those letters, or a digit
 abbrev pub is_alphanumeric : ℕ → Bool
 is_alphanumeric c = is_alpha c || is_digit c
-
--- [171s] HEX: a digit, 'A' to 'F', or 'a' to 'f'
-abbrev pub is_hex : ℕ → Bool
-is_hex c = is_digit c || in_range (0x41, 0x46) c || in_range (0x61, 0x66) c
 
 -- after the backslash of [159s] ECHAR
 abbrev pub is_echar : ℕ → Bool

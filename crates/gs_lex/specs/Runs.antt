@@ -1,15 +1,12 @@
 -- Runs of plain characters: bytes of ASCII over which the automaton stays where it is.
-use Rattle.std.specs.Prelude.{◌≡◌, ℕ, ◌≤◌, ◌<◌, Bool, true, not, ◌==◌, ◌&&◌, ◌||◌, nat_lt, List, get_or, if◌then◌else◌}
+use Rattle.std.specs.Prelude.{◌≡◌, ℕ, ◌≤◌, ◌<◌, Bool, true, not, ◌==◌, ◌&&◌, ◌||◌, List, get_or, if◌then◌else◌}
+use Rattle.std.specs.Char.{is_ascii}
 use Rattle.gs_model.specs.Characters.{quote, hyphen, backslash, underscore, is_iri_char}
 use Rattle.gs_model.specs.Punctuation.{apostrophe}
 use Rattle.gs_lex.specs.Classes.{is_alphanumeric, is_line_end}
 use Rattle.gs_lex.specs.Scans.{best_after}
 use Rattle.gs_lex.specs.States.{accepts}
 use Rattle.gs_lex.specs.declared.scans.Scan.{Scan}
-
--- U+0000 to U+007F
-abbrev pub is_ascii : ℕ → Bool
-is_ascii c = nat_lt c 0x80
 
 -- in an IRI
 abbrev pub plain_iri : ℕ → Bool

@@ -1,11 +1,13 @@
 -- What a run of bytes does to the machine.
 use Rattle.std.proofs.Common.{◌≡◌, ℕ, ◌+◌, ◌<◌, ◌≤◌, ◌^◌, Bool, true, false, cond, List, [], ◌∷◌, ◌++◌, length, suc, refl, sym, ap, subst, ◌∙◌, arith, append_assoc, append-nil}
 use Rattle.std.specs.Prelude.{◌==◌, ◌||◌, ◌-◌, not, nat_lt}
-use Rattle.std.specs.Char.{encode_utf8, len_utf8}
+use Rattle.std.specs.Char.{encode_utf8, len_utf8, is_ascii}
 use Rattle.std.specs.List.{list_all}
+use Rattle.std.proofs.lemmas.Bool.{and_parts, and_from}
 use Rattle.std.proofs.lemmas.Bool.Decides.{nat_tests}
 use Rattle.std.proofs.str.Laws.{one}
 use Rattle.gs_model.specs.Escapes.{is_character, is_line_end, is_string_char}
+use Rattle.gs_model.specs.Ascii.{left_brace}
 use Rattle.gs_model.specs.Characters.{quote, colon, is_iri_char, in_ranges, pn_chars}
 use Rattle.gs_machine.specs.Machines.{steps}
 use Rattle.gs_machine.specs.Utf8.{Decoding, Ready, Within, Lost, is_ready_of, decode_step}
@@ -16,9 +18,8 @@ use Rattle.gs_ntterm.specs.Marks.{counted, char_end}
 use Rattle.gs_ntterm.specs.Classes.{is_space, may_stand_in_iri, may_stand_in_string, is_label_char, may_stand_in_comment}
 use Rattle.gs_ntterm.specs.Terminals.{Plain, Escape}
 use Rattle.gs_ntterm.specs.Tokens.{Held, add}
-use Rattle.gs_ntterm.specs.Runs.{is_ascii, left_brace, runs_in_iri, runs_in_string, runs_in_label, runs_in_comment, add_each}
-use Rattle.gs_ntterm.proofs.Branches.{first_of_and, second_of_and}
-use Rattle.gs_ntterm.proofs.RunLemmas.{both, low_iri, low_string, low_label, low_comment, low_space}
+use Rattle.gs_ntterm.specs.Runs.{runs_in_iri, runs_in_string, runs_in_label, runs_in_comment, add_each}
+use Rattle.gs_ntterm.proofs.RunLemmas.{low_iri, low_string, low_label, low_comment, low_space}
 use Rattle.gs_ntread.specs.States.{LineState, Stage, AtSubject, AtPredicate, AtObject, AtSuffix, AtDatatype, AtDot, AtEnd, Between, Comment, InIri, InString, InLabel, InDots, no_triple, broken}
 use Rattle.gs_ntread.specs.Lines.{iri_closed, string_closed}
 use Rattle.gs_ntread.specs.Turns.{turn, label_turn}
@@ -43,9 +44,9 @@ runs_on : (p : ℕ → Bool) (q : Held → LineState) → ((b : ℕ) → p b ≡
     → (h : Held) (xs : List ℕ) → list_all p xs ≡ true → RunsTo (q h) xs (q (add_each h xs))
 runs_on p q low on h [] e = stays (q h)
 runs_on p q low on h (b ∷ bs) e =
-    let k : p b ≡ true = first_of_and (p b) (list_all p bs) e in
+    let k : p b ≡ true = (and_parts (p b) (list_all p bs) e).0 in
     goes (q h) (q (add h (b ∷ []))) (q (add_each (add h (b ∷ [])) bs)) b bs (low b k) (λ n. on h b n k)
-    (runs_on p q low on (add h (b ∷ [])) bs (second_of_and (p b) (list_all p bs) e))
+    (runs_on p q low on (add h (b ∷ [])) bs (and_parts (p b) (list_all p bs) e).1)
 
 -- the same where nothing changes
 runs_still : (p : ℕ → Bool) (q : LineState) → ((b : ℕ) → p b ≡ true → b < 128)
@@ -53,15 +54,15 @@ runs_still : (p : ℕ → Bool) (q : LineState) → ((b : ℕ) → p b ≡ true 
     → (xs : List ℕ) → list_all p xs ≡ true → RunsTo q xs q
 runs_still p q low on [] e = stays q
 runs_still p q low on (b ∷ bs) e =
-    let k : p b ≡ true = first_of_and (p b) (list_all p bs) e in
-    goes q q q b bs (low b k) (λ n. on b n k) (runs_still p q low on bs (second_of_and (p b) (list_all p bs) e))
+    let k : p b ≡ true = (and_parts (p b) (list_all p bs) e).0 in
+    goes q q q b bs (low b k) (λ n. on b n k) (runs_still p q low on bs (and_parts (p b) (list_all p bs) e).1)
 
 iri_goes : (g : Stage) (h : Held) (b n : ℕ) → runs_in_iri b ≡ true → turn g (InIri Plain h) b n ≡ no_triple (g, InIri Plain (add h (b ∷ [])))
 iri_goes g h b n k =
     let l : b < 128 = low_iri b k in
     let e62 : (b == 62) ≡ false = apart runs_in_iri b 62 k refl in
     let e92 : (b == 92) ≡ false = apart runs_in_iri b 92 k refl in
-    let m : may_stand_in_iri b ≡ true = both (is_iri_char b) (is_character b) (second_of_and (nat_lt b left_brace) (is_iri_char b) k) (scalar_ascii b l) in
+    let m : may_stand_in_iri b ≡ true = and_from (is_iri_char b) (is_character b) (and_parts (nat_lt b left_brace) (is_iri_char b) k).1 (scalar_ascii b l) in
     ap (λ v. no_triple (cond v (iri_closed g h) (cond (b == 92) (g, InIri Escape h) (cond (may_stand_in_iri b) (g, InIri Plain (add h (encode_utf8 b))) (broken Syntax))))) e62
     ∙ ap (λ v. no_triple (cond v (g, InIri Escape h) (cond (may_stand_in_iri b) (g, InIri Plain (add h (encode_utf8 b))) (broken Syntax)))) e92
     ∙ ap (λ v. no_triple (cond v (g, InIri Plain (add h (encode_utf8 b))) (broken Syntax))) m
@@ -75,7 +76,7 @@ string_goes g h b n k =
     let l : b < 128 = low_string b k in
     let e34 : (b == 34) ≡ false = apart runs_in_string b 34 k refl in
     let e92 : (b == 92) ≡ false = apart runs_in_string b 92 k refl in
-    let m : may_stand_in_string b ≡ true = both (is_string_char quote b) (is_character b) (second_of_and (is_ascii b) (is_string_char quote b) k) (scalar_ascii b l) in
+    let m : may_stand_in_string b ≡ true = and_from (is_string_char quote b) (is_character b) (and_parts (is_ascii b) (is_string_char quote b) k).1 (scalar_ascii b l) in
     ap (λ v. no_triple (cond v (string_closed g h) (cond (b == 92) (g, InString Escape h) (cond (may_stand_in_string b) (g, InString Plain (add h (encode_utf8 b))) (broken Syntax))))) e34
     ∙ ap (λ v. no_triple (cond v (g, InString Escape h) (cond (may_stand_in_string b) (g, InString Plain (add h (encode_utf8 b))) (broken Syntax)))) e92
     ∙ ap (λ v. no_triple (cond v (g, InString Plain (add h (encode_utf8 b))) (broken Syntax))) m
@@ -87,17 +88,17 @@ string_runs g = runs_on runs_in_string (λ h. (g, InString Plain h)) low_string 
 label_goes : (g : Stage) (t : List ℕ) (b n : ℕ) → runs_in_label b ≡ true → turn g (InLabel t) b n ≡ no_triple (g, InLabel (t ++ b ∷ []))
 label_goes g t b n k =
     let l : b < 128 = low_label b k in
-    let m : is_label_char b ≡ true = both (in_ranges pn_chars b || b == colon) (is_character b) (second_of_and (is_ascii b) (in_ranges pn_chars b || b == colon) k) (scalar_ascii b l) in
+    let m : is_label_char b ≡ true = and_from (in_ranges pn_chars b || b == colon) (is_character b) (and_parts (is_ascii b) (in_ranges pn_chars b || b == colon) k).1 (scalar_ascii b l) in
     ap (λ v. cond v (no_triple (g, InLabel (t ++ encode_utf8 b))) (cond (b == 46) (no_triple (g, InDots t n 0)) (label_turn g t b n))) m
     ∙ ap (λ x. no_triple (g, InLabel (t ++ x))) (one b l)
 
 pub label_runs : (g : Stage) (t xs : List ℕ) → list_all runs_in_label xs ≡ true → RunsTo (g, InLabel t) xs (g, InLabel (t ++ xs))
 label_runs g t [] e = subst (λ z. RunsTo (g, InLabel t) [] (g, InLabel z)) (sym (append-nil t)) (stays (g, InLabel t))
 label_runs g t (b ∷ bs) e =
-    let k : runs_in_label b ≡ true = first_of_and (runs_in_label b) (list_all runs_in_label bs) e in
+    let k : runs_in_label b ≡ true = (and_parts (runs_in_label b) (list_all runs_in_label bs) e).0 in
     goes (g, InLabel t) (g, InLabel (t ++ b ∷ [])) (g, InLabel (t ++ b ∷ bs)) b bs (low_label b k) (λ n. label_goes g t b n k)
     (subst (λ z. RunsTo (g, InLabel (t ++ b ∷ [])) bs (g, InLabel z)) (append_assoc t (b ∷ []) bs)
-    (label_runs g (t ++ b ∷ []) bs (second_of_and (runs_in_label b) (list_all runs_in_label bs) e)))
+    (label_runs g (t ++ b ∷ []) bs (and_parts (runs_in_label b) (list_all runs_in_label bs) e).1))
 
 is_not : (a : Bool) → not a ≡ true → a ≡ false
 is_not true h = Prim.cc
@@ -105,7 +106,7 @@ is_not false h = refl
 
 comment_goes : (b n : ℕ) → runs_in_comment b ≡ true → turn AtSubject Comment b n ≡ no_triple (AtSubject, Comment)
 comment_goes b n k =
-    let e : is_line_end b ≡ false = is_not (is_line_end b) (second_of_and (is_ascii b) (not (is_line_end b)) k) in
+    let e : is_line_end b ≡ false = is_not (is_line_end b) (and_parts (is_ascii b) (not (is_line_end b)) k).1 in
     let m : may_stand_in_comment b ≡ true = scalar_ascii b (low_comment b k) in
     ap (λ v. cond v (no_triple (AtSubject, Between)) (cond (may_stand_in_comment b) (no_triple (AtSubject, Comment)) (no_triple (broken Syntax)))) e
     ∙ ap (λ v. cond v (no_triple (AtSubject, Comment)) (no_triple (broken Syntax))) m

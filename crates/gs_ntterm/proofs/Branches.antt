@@ -1,6 +1,5 @@
 -- Tests that two texts share, by cases.
 use Rattle.std.proofs.Common.{◌≡◌, Bool, true, false, cond, refl}
-use Rattle.std.specs.Prelude.{◌&&◌}
 
 pub two_ways : {A B C : Type 0} (f : A → C) (g : B → C) (b : Bool) (x y : A) (u v : B) → f x ≡ g u → f y ≡ g v → f (cond b x y) ≡ g (cond b u v)
 two_ways f g true x y u v p q = p
@@ -28,11 +27,3 @@ one_way f z false x y p q = q
 pub either_way : {A : Type 0} (P : A → Type 0) (b : Bool) (x y : A) → P x → P y → P (cond b x y)
 either_way P true x y p q = p
 either_way P false x y p q = q
-
-pub first_of_and : (a b : Bool) → (a && b) ≡ true → a ≡ true
-first_of_and true b h = refl
-first_of_and false b h = h
-
-pub second_of_and : (a b : Bool) → (a && b) ≡ true → b ≡ true
-second_of_and true b h = h
-second_of_and false b h = absurd (Prim.cc)

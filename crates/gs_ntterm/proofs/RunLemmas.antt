@@ -1,6 +1,7 @@
 -- A token with a run after it, and that each byte of a run is ASCII.
 use Rattle.std.proofs.Common.{◌≡◌, ℕ, ◌+◌, ◌<◌, ◌≤◌, Bool, true, false, cond, List, [], ◌∷◌, ◌++◌, length, refl, sym, ap, ◌∙◌, arith, append_assoc, append-nil, length-append, Result, Ok, Err}
 use Rattle.std.specs.Prelude.{◌==◌, ◌&&◌, ◌||◌, not, nat_lt, nat_le, is_ok, OnOk}
+use Rattle.std.proofs.lemmas.Bool.{and_parts}
 use Rattle.std.proofs.lemmas.Bool.Decides.{nat_tests}
 use Rattle.gs_model.specs.Characters.{quote, colon, is_iri_char, in_ranges, pn_chars}
 use Rattle.gs_model.specs.Limits.{max_term_bytes}
@@ -11,13 +12,7 @@ use Rattle.gs_ntterm.specs.Forms.{form_on, form_after, form_of}
 use Rattle.gs_ntterm.specs.declared.forms.Form.{Form}
 use Rattle.gs_ntterm.specs.Views.{held}
 use Rattle.gs_ntterm.specs.Runs.{runs_in_iri, runs_in_string, runs_in_label, runs_in_comment, add_each}
-use Rattle.gs_ntterm.proofs.Branches.{first_of_and}
 use Rattle.gs_ntterm.proofs.Holding.{add-hold, add-grown}
-
-pub both : (a b : Bool) → a ≡ true → b ≡ true → (a && b) ≡ true
-both true true p q = refl
-both true false p q = q
-both false b p q = p
 
 add_each-hold : (t bs : List ℕ) → add_each (hold t) bs ≡ hold (t ++ bs)
 add_each-hold t [] = ap hold (sym (append-nil t))
@@ -54,10 +49,10 @@ add_each-fits (Ok x) false f t (b ∷ bs) u e h w =
 
 -- the bytes of each class are ASCII
 ascii : (b : ℕ) (more : Bool) → (nat_lt b 128 && more) ≡ true → b < 128
-ascii b more h = let e = first_of_and (nat_lt b 128) more h in grind (arith, nat_tests)
+ascii b more h = let e = (and_parts (nat_lt b 128) more h).0 in grind (arith, nat_tests)
 
 pub low_iri : (b : ℕ) → runs_in_iri b ≡ true → b < 128
-low_iri b k = let e = first_of_and (nat_lt b 123) (is_iri_char b) k in grind (arith, nat_tests)
+low_iri b k = let e = (and_parts (nat_lt b 123) (is_iri_char b) k).0 in grind (arith, nat_tests)
 
 pub low_string : (b : ℕ) → runs_in_string b ≡ true → b < 128
 low_string b k = ascii b (is_string_char quote b) k

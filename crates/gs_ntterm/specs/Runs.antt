@@ -1,16 +1,10 @@
 -- Runs of bytes of ASCII that go on with a token or a comment, and a token with a run after it.
 use Rattle.std.specs.Prelude.{ℕ, Bool, ◌&&◌, ◌||◌, ◌==◌, not, List, [], ◌∷◌, nat_lt}
+use Rattle.std.specs.Char.{is_ascii}
+use Rattle.gs_model.specs.Ascii.{left_brace}
 use Rattle.gs_model.specs.Characters.{quote, colon, is_iri_char, in_ranges, pn_chars}
 use Rattle.gs_model.specs.Escapes.{is_line_end, is_string_char}
 use Rattle.gs_ntterm.specs.Tokens.{Held, add}
-
--- a byte of ASCII
-abbrev pub is_ascii : ℕ → Bool
-is_ascii b = nat_lt b 128
-
--- `{`
-abbrev pub left_brace : ℕ
-left_brace = 123
 
 -- of ASCII below '{', in an IRI as it is
 abbrev pub runs_in_iri : ℕ → Bool

@@ -7,6 +7,7 @@ mod patterns;
 mod terms;
 mod triples;
 
+pub use literals::XSD_STRING;
 pub use names::{GraphName, Target};
 pub use patterns::{Part, Pattern, VariableName};
 pub use terms::TermText;

@@ -12,9 +12,8 @@ ghost use Rattle.gs_triple_values.specs.Terms.{typed_of};
 
 use crate::contexts::Context;
 use crate::symbols::{Symbol, TermToken};
-use crate::vocabulary::XSD_STRING;
 use gs_model::{Fault, Refusal, memory_apart};
-use gs_term::TermText;
+use gs_term::{TermText, XSD_STRING};
 use std::alloc::{AllocError, Global};
 
 /// The term that making one answered, or its fault.

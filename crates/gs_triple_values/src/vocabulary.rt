@@ -6,9 +6,6 @@ ghost use Rattle.gs_triples.specs.Meanings.{rdf};
 use gs_term::TermText;
 use std::alloc::{AllocError, Global};
 
-/// The datatype of a string that has no other.
-pub const XSD_STRING: &str = "http://www.w3.org/2001/XMLSchema#string";
-
 pub const XSD_INTEGER: &str = "http://www.w3.org/2001/XMLSchema#integer";
 
 pub const XSD_DECIMAL: &str = "http://www.w3.org/2001/XMLSchema#decimal";
