@@ -7,7 +7,7 @@ use Rattle.std.proofs.lemmas.Bool.{and_parts, and_from}
 use Rattle.std.proofs.lemmas.Bool.Decides.{nat_tests}
 use Rattle.std.proofs.str.Laws.{one}
 use Rattle.gs_model.specs.Escapes.{is_character, is_line_end, is_string_char}
-use Rattle.gs_model.specs.Ascii.{left_brace}
+use Rattle.gs_model.specs.Punctuation.{left_brace}
 use Rattle.gs_model.specs.Characters.{quote, colon, is_iri_char, in_ranges, pn_chars}
 use Rattle.gs_machine.specs.Machines.{steps}
 use Rattle.gs_machine.specs.Utf8.{Decoding, Ready, Within, Lost, is_ready_of, decode_step}

@@ -1,7 +1,7 @@
 -- Runs of bytes of ASCII that go on with a token or a comment, and a token with a run after it.
 use Rattle.std.specs.Prelude.{ℕ, Bool, ◌&&◌, ◌||◌, ◌==◌, not, List, [], ◌∷◌, nat_lt}
 use Rattle.std.specs.Char.{is_ascii}
-use Rattle.gs_model.specs.Ascii.{left_brace}
+use Rattle.gs_model.specs.Punctuation.{left_brace}
 use Rattle.gs_model.specs.Characters.{quote, colon, is_iri_char, in_ranges, pn_chars}
 use Rattle.gs_model.specs.Escapes.{is_line_end, is_string_char}
 use Rattle.gs_ntterm.specs.Tokens.{Held, add}
