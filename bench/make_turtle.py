@@ -36,35 +36,35 @@ def simple(seed, i):
 
 def statements(count):
     """Statements of three to nine triples, until there are `count`."""
-    seed, told, number = 12345, 0, 0
+    seed, made, number = 12345, 0, 0
     yield HEAD
-    while told < count:
+    while made < count:
         seed = draw(seed)
         number += 1
-        left = count - told
+        left = count - made
         if left < 16:
-            yield f"ex:item{number} v:property{seed % 23} {simple(seed, told)} .\n"
-            told += 1
+            yield f"ex:item{number} v:property{seed % 23} {simple(seed, made)} .\n"
+            made += 1
             continue
         kind = number % 4
         lines = [f"ex:item{number} a v:Class{seed % 7}"]
-        told += 1
+        made += 1
         for _ in range(3):
             seed = draw(seed)
-            lines.append(f"    v:property{seed % 23} {simple(seed, told)}")
-            told += 1
+            lines.append(f"    v:property{seed % 23} {simple(seed, made)}")
+            made += 1
         if kind == 1:
             seed = draw(seed)
-            lines.append(f"    v:several {seed % 100} , {simple(draw(seed), told)} , ex:item{seed % 1000}")
-            told += 3
+            lines.append(f"    v:several {seed % 100} , {simple(draw(seed), made)} , ex:item{seed % 1000}")
+            made += 3
         elif kind == 2:
             seed = draw(seed)
             lines.append(f"    v:list ( {seed % 100} ex:item{seed % 1000} \"{WORDS[seed % 12]}\" )")
-            told += 7
+            made += 7
         elif kind == 3:
             seed = draw(seed)
             lines.append(f"    v:part [ v:name \"{WORDS[seed % 12]}\" ; v:size {seed % 1000}.25 ]")
-            told += 3
+            made += 3
         yield " ;\n".join(lines) + " .\n"
 
 

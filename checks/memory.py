@@ -128,10 +128,10 @@ class Store:
         if before is None:
             return "fed"
         self.languages[seat] = language
-        told, _ = self.read(seat, before)
-        all_told, ended = self.read(seat, before + text + "\n")
+        reported, _ = self.read(seat, before)
+        all_reported, ended = self.read(seat, before + text + "\n")
         self.fed[seat] = before + text + "\n"
-        new = all_told[len(told):] if ended != "fault" else []
+        new = all_reported[len(reported):] if ended != "fault" else []
         if is_refused:
             assert new, "a feed that stages nothing"
             return NO_MEMORY
@@ -202,13 +202,13 @@ class Store:
                 self.phases[seat] = ("idle",)
                 self.fed.pop(seat)
                 return ["fault 400"]
-            told = self.commit_upload(*phase[1:])
-            if told.startswith("refused"):
+            reported = self.commit_upload(*phase[1:])
+            if reported.startswith("refused"):
                 self.fed[seat] = None
             else:
                 self.phases[seat] = ("idle",)
                 self.fed.pop(seat, None)
-            return [told]
+            return [reported]
         if action == "patch":
             return [self.patch(seat, "".join(line.split(" ", 2)[2:]))]
         if action == "delete":
@@ -221,9 +221,9 @@ class Store:
             self.phases[seat] = ("reading", sorted(self.graphs[words[2]]))
             return ["200"]
         if action == "piece":
-            told, left = phase[1][:int(words[2])], phase[1][int(words[2]):]
+            reported, left = phase[1][:int(words[2])], phase[1][int(words[2]):]
             self.phases[seat] = ("reading", left) if left else ("idle",)
-            return told + ["more" if left else "end"]
+            return reported + ["more" if left else "end"]
         self.phases[seat] = ("idle",)
         self.fed.pop(seat, None)
         return ["cancelled"]

@@ -39,7 +39,7 @@ int posix_memalign(void **place, size_t alignment, size_t size) {
     return *place ? 0 : ENOMEM;
 }
 
-__attribute__((destructor)) static void tell(void) {
+__attribute__((destructor)) static void report(void) {
     const char *name = getenv("COUNT");
     long count = requests;
     refused = 0;

@@ -1,4 +1,4 @@
--- What the history of a machine tells.
+-- What the history of a machine says.
 use Rattle.std.proofs.Common.{◌≡◌, ℕ, List, [], ◌∷◌, ◌++◌, refl, sym, ap, subst, ◌∙◌, append-nil}
 use Rattle.std.proofs.lemmas.List.Concat.{flat_map-append}
 use Rattle.gs_model.specs.Triples.{RdfTriple}

@@ -19,7 +19,7 @@ pub fn read_pieces<R: BodyReader + Drop>(
     ensures given { IfOk result (λ v. v.items ≡ triples_of (R.meaning_of reader (whole_text pieces.now)).0) }
     ensures whole { OnOk result ((R.meaning_of reader (whole_text pieces.now)).1 ≡ Whole) }
     ensures fault { IfErr result (λ e. Reports e (R.meaning_of reader (whole_text pieces.now))) }
-    ensures told { IfErr result (λ e. e ≢ Refusal.Closed) }
+    ensures reported { IfErr result (λ e. e ≢ Refusal.Closed) }
 {
     let mut triples = Vec::new(alloc);
     for piece in pieces {

@@ -30,7 +30,7 @@ feed_rest_none x action after none s l y says =
 pub feed_word_none : (x action : List ℕ) → action ≡ (split_first 32 x).1 → ((l : Language) (rest : List ℕ) → ¬ (action ≡ feed_words l ++ rest)) → (s : ℕ) (l : Language) (y : List ℕ) → ¬ SaysFeed s l y x
 feed_word_none x action after none = feed_rest_none x action after (λ l y says. none l says.rest says.parts)
 
--- the words of a feed tell its language and its text
+-- the words of a feed give its language and its text
 words_apart : (l k : Language) (rest other : List ℕ) → feed_words l ++ rest ≡ feed_words k ++ other → (l ≡ k) × (rest ≡ other)
 words_apart NTriples NTriples rest other e = (refl, cc)
 words_apart NTriples Turtle rest other e = absurd (first_differs 110 116 (codes "t " ++ rest) (codes "tl " ++ other) refl (ap (drop 5) e))

@@ -8,7 +8,7 @@ use Rattle.gs_lex.specs.Tokens.{Lexeme}
 use Rattle.gs_blank.specs.Numbers.{Numbers, no_numbers}
 use Rattle.gs_body.specs.Bodies.{Meaning, Statement, Whole, Faulty}
 use Rattle.gs_model.specs.Terms.{Term}
-use Rattle.gs_triples.specs.Symbols.{Reference, Namespace, Symbol, AWord, At, Dot, PrefixWord, BaseWord, symbol_of, symbols_of}
+use Rattle.gs_triples.specs.Symbols.{Reference, Namespace, Symbol, ATerm, At, Dot, PrefixWord, BaseWord, symbol_of, symbols_of}
 use Rattle.gs_triples.specs.Meanings.{Fault, Syntax}
 use Rattle.gs_triples.specs.Triples as triples
 use Rattle.gs_triples.specs.Triples.{AreTriples}
@@ -18,27 +18,27 @@ use Rattle.gs_triples.specs.Directives.{with_prefix, with_base}
 use Rattle.gs_document.specs.Documents as statement
 use Rattle.gs_document.specs.Documents.{IsStatement, AreStatements, IsDocument, stated, start}
 use Rattle.gs_triples.specs.Reading.{Got, ◌and_then◌}
-use Rattle.gs_document.specs.Program.{Told, told, ends_at, dotted, prefix_at, base_at, statement_at, followed, statements_at, document}
+use Rattle.gs_document.specs.Program.{ReadStatement, read_statement, ends_at, dotted, prefix_at, base_at, statement_at, followed, statements_at, document}
 use Rattle.gs_triples.proofs.TriplesLemmas.{triples_covered, triples_read}
 
-abbrev pub CoveredStatement : TurtleContext → Numbers → List Symbol → Result Told Fault → Type 0
+abbrev pub CoveredStatement : TurtleContext → Numbers → List Symbol → Result ReadStatement Fault → Type 0
 CoveredStatement env n ts (Err e) = Unit {0}
 CoveredStatement env n ts (Ok r) = (front : List Symbol) × (ts ≡ front ++ r.rest) × IsStatement env n front r.stated r.context r.numbers
 
 -- a directive of some tokens
-back_told : (env : TurtleContext) (n : Numbers) (S : List Statement) (front rest : List Symbol) (m q : Option TurtleContext) → m ≡ q
-    → ((next : TurtleContext) → m ≡ Some next → IsStatement env n front S next n) → CoveredStatement env n (front ++ rest) (told S n rest q)
-back_told env n S front rest m None h rule = tt
-back_told env n S front rest m (Some next) h rule = (front, refl, rule next h)
+back_read : (env : TurtleContext) (n : Numbers) (S : List Statement) (front rest : List Symbol) (m q : Option TurtleContext) → m ≡ q
+    → ((next : TurtleContext) → m ≡ Some next → IsStatement env n front S next n) → CoveredStatement env n (front ++ rest) (read_statement S n rest q)
+back_read env n S front rest m None h rule = tt
+back_read env n S front rest m (Some next) h rule = (front, refl, rule next h)
 
 back_prefix : (env : TurtleContext) (n : Numbers) (x : List ℕ) (ts : List Symbol) → x ≡ codes "@prefix" → CoveredStatement env n (At x ∷ ts) (prefix_at env n ts)
-back_prefix env n x (AWord (Namespace p) ∷ AWord (Reference i k) ∷ Dot e ∷ ts) h =
-    back_told env n (stated e []) (At x ∷ AWord (Namespace p) ∷ AWord (Reference i k) ∷ Dot e ∷ []) ts (with_prefix env p i) _ refl (λ c q. statement.prefix x p i k e h q)
+back_prefix env n x (ATerm (Namespace p) ∷ ATerm (Reference i k) ∷ Dot e ∷ ts) h =
+    back_read env n (stated e []) (At x ∷ ATerm (Namespace p) ∷ ATerm (Reference i k) ∷ Dot e ∷ []) ts (with_prefix env p i) _ refl (λ c q. statement.prefix x p i k e h q)
 back_prefix env n x _ h = tt
 
 back_base : (env : TurtleContext) (n : Numbers) (x : List ℕ) (ts : List Symbol) → x ≡ codes "@base" → CoveredStatement env n (At x ∷ ts) (base_at env n ts)
-back_base env n x (AWord (Reference i k) ∷ Dot e ∷ ts) h =
-    back_told env n (stated e []) (At x ∷ AWord (Reference i k) ∷ Dot e ∷ []) ts (with_base env i) _ refl (λ c q. statement.base x i k e h q)
+back_base env n x (ATerm (Reference i k) ∷ Dot e ∷ ts) h =
+    back_read env n (stated e []) (At x ∷ ATerm (Reference i k) ∷ Dot e ∷ []) ts (with_base env i) _ refl (λ c q. statement.base x i k e h q)
 back_base env n x _ h = tt
 
 back_at : (env : TurtleContext) (n : Numbers) (x : List ℕ) (ts : List Symbol) (b c : Bool) → bytes_eq x (codes "@prefix") ≡ b → bytes_eq x (codes "@base") ≡ c
@@ -59,17 +59,17 @@ back_triples env n ts (Ok g) (xs, e, c) = back_dot env n g.numbers ts xs g.rest 
 pub statement_covered : (env : TurtleContext) (n : Numbers) (ts : List Symbol) → CoveredStatement env n ts (statement_at env n ts)
 unfolding statement_at
 statement_covered env n (At x ∷ ts) = back_at env n x ts (bytes_eq x (codes "@prefix")) (bytes_eq x (codes "@base")) refl refl
-statement_covered env n (PrefixWord ∷ AWord (Namespace p) ∷ AWord (Reference i e) ∷ ts) =
-    back_told env n (stated e []) (PrefixWord ∷ AWord (Namespace p) ∷ AWord (Reference i e) ∷ []) ts (with_prefix env p i) _ refl (λ c q. statement.prefix_word p i e q)
+statement_covered env n (PrefixWord ∷ ATerm (Namespace p) ∷ ATerm (Reference i e) ∷ ts) =
+    back_read env n (stated e []) (PrefixWord ∷ ATerm (Namespace p) ∷ ATerm (Reference i e) ∷ []) ts (with_prefix env p i) _ refl (λ c q. statement.prefix_word p i e q)
 statement_covered env n (PrefixWord ∷ _) = tt
-statement_covered env n (BaseWord ∷ AWord (Reference i e) ∷ ts) =
-    back_told env n (stated e []) (BaseWord ∷ AWord (Reference i e) ∷ []) ts (with_base env i) _ refl (λ c q. statement.base_word i e q)
+statement_covered env n (BaseWord ∷ ATerm (Reference i e) ∷ ts) =
+    back_read env n (stated e []) (BaseWord ∷ ATerm (Reference i e) ∷ []) ts (with_base env i) _ refl (λ c q. statement.base_word i e q)
 statement_covered env n (BaseWord ∷ _) = tt
 statement_covered env n ts = back_triples env n ts (triples_at env n ts) (triples_covered env n ts)
 
 -- a statement is read by its rule
-abbrev pub as_told : List Statement → TurtleContext → Numbers → List Symbol → Result Told Fault
-as_told S env n rest = Ok (record { stated = S; context = env; numbers = n; rest = rest })
+abbrev pub as_read : List Statement → TurtleContext → Numbers → List Symbol → Result ReadStatement Fault
+as_read S env n rest = Ok (record { stated = S; context = env; numbers = n; rest = rest })
 
 triples_go : {env : TurtleContext} {n k : Numbers} {xs : List Symbol} {T : List RdfTriple} → AreTriples env n xs T k → (z : List Symbol)
     → statement_at env n (xs ++ z) ≡ (triples_at env n (xs ++ z) and_then dotted env)
@@ -82,16 +82,16 @@ triples_go (triples.properties q c) z = refl
 triples_go (triples.properties_and q a c) z = refl
 
 pub statement_read : {env next : TurtleContext} {n k : Numbers} {xs : List Symbol} {S : List Statement} → IsStatement env n xs S next k → (rest : List Symbol)
-    → statement_at env n (xs ++ rest) ≡ as_told S next k rest
+    → statement_at env n (xs ++ rest) ≡ as_read S next k rest
 unfolding statement_at
 statement_read {env = env} {n = n} (statement.prefix x p i k e h q) rest =
-    ap (λ z. cond (bytes_eq z (codes "@prefix")) (told (stated e []) n rest (with_prefix env p i)) (cond (bytes_eq z (codes "@base")) (base_at env n (AWord (Namespace p) ∷ AWord (Reference i k) ∷ Dot e ∷ rest)) (Err Syntax))) h
-    ∙ ap (told (stated e []) n rest) q
+    ap (λ z. cond (bytes_eq z (codes "@prefix")) (read_statement (stated e []) n rest (with_prefix env p i)) (cond (bytes_eq z (codes "@base")) (base_at env n (ATerm (Namespace p) ∷ ATerm (Reference i k) ∷ Dot e ∷ rest)) (Err Syntax))) h
+    ∙ ap (read_statement (stated e []) n rest) q
 statement_read {env = env} {n = n} (statement.base x i k e h q) rest =
-    ap (λ z. cond (bytes_eq z (codes "@prefix")) (prefix_at env n (AWord (Reference i k) ∷ Dot e ∷ rest)) (cond (bytes_eq z (codes "@base")) (told (stated e []) n rest (with_base env i)) (Err Syntax))) h
-    ∙ ap (told (stated e []) n rest) q
-statement_read {n = n} (statement.prefix_word p i e q) rest = ap (told (stated e []) n rest) q
-statement_read {n = n} (statement.base_word i e q) rest = ap (told (stated e []) n rest) q
+    ap (λ z. cond (bytes_eq z (codes "@prefix")) (prefix_at env n (ATerm (Reference i k) ∷ Dot e ∷ rest)) (cond (bytes_eq z (codes "@base")) (read_statement (stated e []) n rest (with_base env i)) (Err Syntax))) h
+    ∙ ap (read_statement (stated e []) n rest) q
+statement_read {n = n} (statement.prefix_word p i e q) rest = ap (read_statement (stated e []) n rest) q
+statement_read {n = n} (statement.base_word i e q) rest = ap (read_statement (stated e []) n rest) q
 statement_read {env = env} {n = n} (statement.triples {xs = xs} e c) rest =
     ap (statement_at env n) (append_assoc xs (Dot e ∷ []) rest) ∙ triples_go c (Dot e ∷ rest) ∙ ap (λ z. z and_then dotted env) (triples_read c (Dot e ∷ rest) tt).1
 
@@ -103,7 +103,7 @@ Are env n ts S = (last : TurtleContext) × (l : Numbers) × AreStatements env n 
 no_end : (e : Fault) → Faulty e ≡ Whole → ⊥
 no_end e h = cc
 
-back_followed : (env : TurtleContext) (n : Numbers) (ts : List Symbol) (f : ℕ) (S : List Statement) (r : Result Told Fault)
+back_followed : (env : TurtleContext) (n : Numbers) (ts : List Symbol) (f : ℕ) (S : List Statement) (r : Result ReadStatement Fault)
     → ((e : TurtleContext) (k : Numbers) (us : List Symbol) (R : List Statement) → statements_at f e k us ≡ (R, Whole) → Are e k us R)
     → CoveredStatement env n ts r → followed (statements_at f) r ≡ (S, Whole) → Are env n ts S
 back_followed env n ts f S (Err e) ih c h = absurd (no_end e (ap (λ z. z.1) h))

@@ -10,7 +10,7 @@ use Rattle.gs_model.specs.Triples.{RdfTriple}
 use Rattle.gs_lex.specs.Tokens.{Lexeme}
 use Rattle.gs_lex.specs.declared.kinds.TokenKind.{TokenKind}
 use Rattle.gs_lex.specs.declared.kinds.TokenKind.TheVariants as kind
-use Rattle.gs_iri.specs.References.{before, from, behind, is_scheme, has_scheme, scheme_of, behind_scheme, behind_slashes, authority_of, behind_authority, path_of, behind_path, query_of, behind_query, fragment_of, parts_of}
+use Rattle.gs_iri.specs.References.{before, from, rest_after, is_scheme, has_scheme, scheme_of, rest_after_scheme, rest_after_slashes, authority_of, rest_after_authority, path_of, rest_after_path, query_of, rest_after_query, fragment_of, parts_of}
 use Rattle.gs_iri.specs.Dots.{segments_of, is_dot, is_dot_dot, is_dots, closed, moved, text_of_segments, output_of, dots}
 use Rattle.gs_iri.specs.Resolving.{scheme_text, marked, parts_text, resolved_parts, resolved}
 use Rattle.gs_escape.specs.Meanings.{unescaped, stands_local}
@@ -67,11 +67,11 @@ abbrev context : TurtleContext
 context = record { base = graph; prefixes = prefixes; request = 1; language = of_terms }
 
 declared : with_prefix (start graph 1) (codes "ex:") (codes "<http://e/>") ≡ Some context
-unfolding with_prefix iri_of between unescaped is_utf8 chars encode resolved resolved_parts parts_of before from behind is_scheme has_scheme scheme_of behind_scheme behind_slashes authority_of behind_authority path_of behind_path query_of behind_query fragment_of dots segments_of closed is_dots is_dot is_dot_dot moved output_of text_of_segments scheme_text marked parts_text
+unfolding with_prefix iri_of between unescaped is_utf8 chars encode resolved resolved_parts parts_of before from rest_after is_scheme has_scheme scheme_of rest_after_scheme rest_after_slashes authority_of rest_after_authority path_of rest_after_path query_of rest_after_query fragment_of dots segments_of closed is_dots is_dot is_dot_dot moved output_of text_of_segments scheme_text marked parts_text
 declared = refl
 
 subject : meaning.subject context no_numbers (Reference (codes "<>") 28) ≡ Ok (Iri graph, no_numbers)
-unfolding meaning.word iri made_of iri_of between unescaped is_utf8 chars encode resolved resolved_parts parts_of before from behind is_scheme has_scheme scheme_of behind_scheme behind_slashes authority_of behind_authority path_of behind_path query_of behind_query fragment_of dots segments_of closed is_dots is_dot is_dot_dot moved output_of text_of_segments scheme_text marked parts_text
+unfolding meaning.word iri made_of iri_of between unescaped is_utf8 chars encode resolved resolved_parts parts_of before from rest_after is_scheme has_scheme scheme_of rest_after_scheme rest_after_slashes authority_of rest_after_authority path_of rest_after_path query_of rest_after_query fragment_of dots segments_of closed is_dots is_dot is_dot_dot moved output_of text_of_segments scheme_text marked parts_text
 subject = refl
 
 found : finite.get prefixes (codes "ex") ≡ Some (codes "http://e/")

@@ -5,7 +5,7 @@ use Rattle.gs_lex.specs.Tokens.{Lexeme}
 use Rattle.gs_blank.specs.Numbers.{Numbers, no_numbers}
 use Rattle.gs_body.specs.Bodies.{Statement}
 use Rattle.gs_triples.specs.Languages.{of_terms}
-use Rattle.gs_triples.specs.Symbols.{Reference, Namespace, Symbol, AWord, At, Dot, PrefixWord, BaseWord, symbols_of}
+use Rattle.gs_triples.specs.Symbols.{Reference, Namespace, Symbol, ATerm, At, Dot, PrefixWord, BaseWord, symbols_of}
 use Rattle.gs_triples.specs.Triples.{AreTriples}
 use Rattle.gs_document.specs.Contexts.{TurtleContext}
 use Rattle.gs_triples.specs.Directives.{without_prefixes, with_prefix, with_base}
@@ -18,16 +18,16 @@ stated end T = record { triples = T; end = end } ∷ []
 pub data IsStatement (env : TurtleContext) (n : Numbers) : List Symbol → List Statement → TurtleContext → Numbers → Type 0 where
   -- [4] prefixID
   prefix : {next : TurtleContext} (x p i : List ℕ) (e end : ℕ) → x ≡ codes "@prefix" → with_prefix env p i ≡ Some next
-      → IsStatement env n (At x ∷ AWord (Namespace p) ∷ AWord (Reference i e) ∷ Dot end ∷ []) (stated end []) next n
+      → IsStatement env n (At x ∷ ATerm (Namespace p) ∷ ATerm (Reference i e) ∷ Dot end ∷ []) (stated end []) next n
   -- [5] base
   base : {next : TurtleContext} (x i : List ℕ) (e end : ℕ) → x ≡ codes "@base" → with_base env i ≡ Some next
-      → IsStatement env n (At x ∷ AWord (Reference i e) ∷ Dot end ∷ []) (stated end []) next n
+      → IsStatement env n (At x ∷ ATerm (Reference i e) ∷ Dot end ∷ []) (stated end []) next n
   -- [6s] sparqlPrefix
   prefix_word : {next : TurtleContext} (p i : List ℕ) (end : ℕ) → with_prefix env p i ≡ Some next
-      → IsStatement env n (PrefixWord ∷ AWord (Namespace p) ∷ AWord (Reference i end) ∷ []) (stated end []) next n
+      → IsStatement env n (PrefixWord ∷ ATerm (Namespace p) ∷ ATerm (Reference i end) ∷ []) (stated end []) next n
   -- [5s] sparqlBase
   base_word : {next : TurtleContext} (i : List ℕ) (end : ℕ) → with_base env i ≡ Some next
-      → IsStatement env n (BaseWord ∷ AWord (Reference i end) ∷ []) (stated end []) next n
+      → IsStatement env n (BaseWord ∷ ATerm (Reference i end) ∷ []) (stated end []) next n
   triples : {k : Numbers} {xs : List Symbol} {T : List RdfTriple} (end : ℕ) → AreTriples env n xs T k
       → IsStatement env n (xs ++ Dot end ∷ []) (stated end T) env k
 

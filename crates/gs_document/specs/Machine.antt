@@ -5,7 +5,7 @@ use Rattle.gs_machine.specs.Machines.{Machine}
 use Rattle.gs_blank.specs.Numbers.{Numbers}
 use Rattle.gs_body.specs.Bodies.{Statement, Ending, Whole, Faulty}
 use Rattle.gs_model.specs.Terms.{Term}
-use Rattle.gs_triples.specs.Symbols.{Reference, Namespace, Symbol, AWord, At, Dot, PrefixWord, BaseWord}
+use Rattle.gs_triples.specs.Symbols.{Reference, Namespace, Symbol, ATerm, At, Dot, PrefixWord, BaseWord}
 use Rattle.gs_triples.specs.Meanings.{Syntax}
 use Rattle.gs_triples.specs.States as triples
 use Rattle.gs_triples.specs.States.{Lost, Goes, Ends}
@@ -14,36 +14,36 @@ use Rattle.gs_triples.specs.Machine.{opening}
 use Rattle.gs_document.specs.Contexts.{TurtleContext}
 use Rattle.gs_triples.specs.Directives.{with_prefix, with_base}
 use Rattle.gs_document.specs.Documents.{stated}
-use Rattle.gs_document.specs.States.{State, Between, InPrefix, InPrefixIri, InBase, AtDot, Within, lost, Turn, quiet}
+use Rattle.gs_document.specs.States.{State, Between, InPrefix, InPrefixIri, InBase, AtDot, Within, lost, Transition, quiet}
 
 -- the context of a directive, with a dot to come, or ended there
-abbrev pub set : Bool → ℕ → Numbers → Option TurtleContext → Turn
+abbrev pub set : Bool → ℕ → Numbers → Option TurtleContext → Transition
 set dot e n None = quiet (lost Syntax)
 set true e n (Some env) = quiet (AtDot env n)
 set false e n (Some env) = (Between env n, stated e [])
 
 -- the symbol after triples, which is to be their dot
-abbrev pub conclude : Symbol → TurtleContext → List RdfTriple → Numbers → Turn
+abbrev pub conclude : Symbol → TurtleContext → List RdfTriple → Numbers → Transition
 conclude (Dot e) env P n = (Between env n, stated e P)
 conclude t env P n = quiet (lost Syntax)
 
 -- a symbol that triples take, or the one after them
-abbrev pub over : Symbol → triples.Turn Term RdfTriple → Turn
+abbrev pub over : Symbol → triples.Turn Term RdfTriple → Transition
 over t (Goes s) = quiet (Within s)
 over t (Ends env P n) = conclude t env P n
 
 -- one symbol more
-unfoldable pub step : State → Symbol → Turn
+unfoldable pub step : State → Symbol → Transition
 step (Between env n) (At x) =
     quiet (if bytes_eq x (codes "@prefix") then InPrefix true env n else if bytes_eq x (codes "@base") then InBase true env n else lost Syntax)
 step (Between env n) PrefixWord = quiet (InPrefix false env n)
 step (Between env n) BaseWord = quiet (InBase false env n)
 step (Between env n) t = quiet (Within (opening env n t))
-step (InPrefix dot env n) (AWord (Namespace p)) = quiet (InPrefixIri dot p env n)
+step (InPrefix dot env n) (ATerm (Namespace p)) = quiet (InPrefixIri dot p env n)
 step (InPrefix dot env n) t = quiet (lost Syntax)
-step (InPrefixIri dot p env n) (AWord (Reference i e)) = set dot e n (with_prefix env p i)
+step (InPrefixIri dot p env n) (ATerm (Reference i e)) = set dot e n (with_prefix env p i)
 step (InPrefixIri dot p env n) t = quiet (lost Syntax)
-step (InBase dot env n) (AWord (Reference i e)) = set dot e n (with_base env i)
+step (InBase dot env n) (ATerm (Reference i e)) = set dot e n (with_base env i)
 step (InBase dot env n) t = quiet (lost Syntax)
 step (AtDot env n) (Dot e) = (Between env n, stated e [])
 step (AtDot env n) t = quiet (lost Syntax)

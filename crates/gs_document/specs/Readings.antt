@@ -21,8 +21,8 @@ abbrev pub HasOneMeaning : List ℕ → ℕ → List Lexeme → Type 0
 HasOneMeaning b r ts = (S R : List Statement) → IsDocument b r ts S → IsDocument b r ts R → S ≡ R
 
 -- the machine, symbol by symbol, reports what the program says
-abbrev pub TellsDocument : List ℕ → ℕ → List Lexeme → Type 0
-TellsDocument b r ts = rest turtle (Between (start b r) no_numbers) (symbols_of ts) ≡ document b r ts
+abbrev pub ReportsDocument : List ℕ → ℕ → List Lexeme → Type 0
+ReportsDocument b r ts = rest turtle (Between (start b r) no_numbers) (symbols_of ts) ≡ document b r ts
 
 -- before a fault stand the statements of the longest front that has any
 abbrev pub StopsAtFront : List ℕ → ℕ → List Lexeme → Type 0

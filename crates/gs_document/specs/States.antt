@@ -24,9 +24,9 @@ abbrev pub lost : Fault → State
 lost e = Within (Lost e)
 
 -- the state after a symbol, and what is stated
-abbrev pub Turn : Type 0
-Turn = State × List Statement
+abbrev pub Transition : Type 0
+Transition = State × List Statement
 
 -- nothing is stated
-abbrev pub quiet : State → Turn
+abbrev pub quiet : State → Transition
 quiet s = (s, [])

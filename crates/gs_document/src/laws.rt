@@ -1,7 +1,7 @@
 //! Laws of the definitions, proved: the body is empty, and the contract is the law.
 ghost use Rattle.std.specs.Prelude.{ℕ, List};
 ghost use Rattle.gs_lex.specs.Tokens.{Lexeme};
-ghost use Rattle.gs_document.specs.Readings.{FindsDocuments, HasOneMeaning, TellsDocument, StopsAtFront, PlacesFault};
+ghost use Rattle.gs_document.specs.Readings.{FindsDocuments, HasOneMeaning, ReportsDocument, StopsAtFront, PlacesFault};
 
 /// The plain program finds what the grammar's rules say of a list of tokens, and nothing else.
 pub fn document_is_read()
@@ -16,8 +16,8 @@ pub fn document_has_one_meaning()
 
 /// The machine that takes symbol by symbol reports of a list of tokens what the plain program says:
 /// the statements before the first fault, and which fault that is.
-pub fn machine_tells_the_document()
-    ensures { (base : List ℕ) (request : ℕ) (ts : List Lexeme) → TellsDocument base request ts }
+pub fn machine_reports_the_document()
+    ensures { (base : List ℕ) (request : ℕ) (ts : List Lexeme) → ReportsDocument base request ts }
 {}
 
 /// Where the program finds a fault, the statements before it are those of the longest front of the

@@ -5,5 +5,5 @@ mod laws;
 
 pub use laws::{
     document_has_one_meaning, document_is_read, fault_ends_the_longest_front,
-    machine_tells_the_document,
+    machine_reports_the_document,
 };

@@ -40,9 +40,9 @@ pinned_none : (b : Bool) (left : List (List ℕ)) → None ≡ opening_of (cond 
 pinned_none true left = refl
 pinned_none false left = refl
 
-told_none : (b : Bool) (left : List (List ℕ)) → None ≡ opening_of (cond b Idle (Reading left))
-told_none true left = refl
-told_none false left = refl
+given_none : (b : Bool) (left : List (List ℕ)) → None ≡ opening_of (cond b Idle (Reading left))
+given_none true left = refl
+given_none false left = refl
 
 -- the phase that is next has the opening that the answer leaves
 opening_next : Leads opening_of opened_by
@@ -62,16 +62,16 @@ opening_next t (Writing k r g) Cancel Cancelled fits = refl
 opening_next t (Writing k r g) action (Status s name) fits = absurd fits
 opening_next t (Writing k r g) action Cancelled fits = absurd fits
 opening_next t Idle (Pin x) (Pinned s) fits = pinned_none (nat_eq s 200) _
-opening_next t (Reading left) (Piece n) (Lines b end) fits = told_none end _
+opening_next t (Reading left) (Piece n) (Lines b end) fits = given_none end _
 opening_next t p action a fits = refl
 
 no_patch_pinned : (b : Bool) (left : List (List ℕ)) → None ≡ patch_of (cond b (Reading left) Idle)
 no_patch_pinned true left = refl
 no_patch_pinned false left = refl
 
-no_patch_told : (b : Bool) (left : List (List ℕ)) → None ≡ patch_of (cond b Idle (Reading left))
-no_patch_told true left = refl
-no_patch_told false left = refl
+no_patch_given : (b : Bool) (left : List (List ℕ)) → None ≡ patch_of (cond b Idle (Reading left))
+no_patch_given true left = refl
+no_patch_given false left = refl
 
 -- the phase that is next has the patch that the answer leaves
 patch_next : Leads patch_of patch_opened_by
@@ -91,7 +91,7 @@ patch_next t (Patching x r) Cancel Cancelled fits = refl
 patch_next t (Patching x r) action (Status s name) fits = absurd fits
 patch_next t (Patching x r) action Cancelled fits = absurd fits
 patch_next t Idle (Pin x) (Pinned s) fits = no_patch_pinned (nat_eq s 200) _
-patch_next t (Reading left) (Piece n) (Lines b end) fits = no_patch_told end _
+patch_next t (Reading left) (Piece n) (Lines b end) fits = no_patch_given end _
 patch_next t p action a fits = refl
 
 reset_at : (by : Action → ℕ → Option Opening) (os : List (Option Opening)) (s : ℕ) (action : Action) (a : Answer) (o : Option Opening) → slice_get os s ≡ Some o → held_reset by os s action a ≡ slice_set os s (held_next by o action a)

@@ -51,11 +51,11 @@ pub feeds_upload : (n : ℕ) (old new : Shown) (u m w : Uploads) (l : Language) 
     → FeedsAt n l s y u.openings.items u.texts.items m.texts.items given
     → ((st : Standing old m) → (en : Standing new w) × Stages (desk_of st) s given a (desk_of en)) → text ≡ feed_text a
     → (o : Opening) → slice_get u.openings.items s ≡ Some (Some o) → (st : Standing old u) → (en : Standing new w) × FeedsUpload n (first_context l o) (desk_of st) s y text (desk_of en)
-feeds_upload n old new u m w l s y given a text openings patches lengths feeds stages told o there st =
+feeds_upload n old new u m w l s y given a text openings patches lengths feeds stages printed o there st =
     let P : ℕ → Type 0 = λ k. s < k in
     let f = feeds o there st.fed st.texts (subst P (sym st.even) (slice_get_within u.openings.items s (Some o) there)) in
     let en = stages (fed_standing old u m st s f.0 openings patches lengths f.1) in
-    (en.0, record { given = given; fed = f.0; receives = f.2; answer = a; staged = en.1; told = told })
+    (en.0, record { given = given; fed = f.0; receives = f.2; answer = a; staged = en.1; printed = printed })
 
 pub staged_text : (a : Answer) → a ≡ Staged → fed_text ≡ feed_text a
 staged_text a is = ap feed_text (sym is)
@@ -117,7 +117,7 @@ completes old mid new u m w s given a b is stages commits st =
     let en = commits between.0 in
     let P : Answer → Type 0 = λ z. Stages (desk_of st) s given z (desk_of between.0) in (
       en.0,
-      record { answer = Staged; between = desk_of between.0; staged = subst P is between.1; concludes = record { answer = b; answers = en.1; told = refl } },
+      record { answer = Staged; between = desk_of between.0; staged = subst P is between.1; concludes = record { answer = b; answers = en.1; printed = refl } },
     )
 
 -- what a seat's text gives as it ends, by another name

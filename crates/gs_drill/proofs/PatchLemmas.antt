@@ -28,7 +28,7 @@ use Rattle.gs_drill.specs.Standing.{Standing, desk_of, patch_of}
 pub settles_whole : (q : Request) (d e : Desk) (s : ℕ) (ops : Vec Op Global) (a : Answer) → AreOperationsOf ops.items q → Answers d (At s (CommitPatch ops)) a e → SettlesPatch q d s (answer_text a) e
 settles_whole q d e s ops a are answers =
     let P : Option Rejection → Type 0 = λ z. SettlesBy z q d s (answer_text a) e in
-    subst P (sym are.0) (record { action = CommitPatch ops; is = are; asks = record { answer = a; answers = answers; told = refl } })
+    subst P (sym are.0) (record { action = CommitPatch ops; is = are; asks = record { answer = a; answers = answers; printed = refl } })
 
 -- a text breaks the grammar, or has a term that is too long
 settles_broken : (q : Request) (d e : Desk) (s : ℕ) (text : List ℕ) (r : Rejection) → q.1 ≡ Some r → SettlesBy (Some r) q d s text e → SettlesPatch q d s text e

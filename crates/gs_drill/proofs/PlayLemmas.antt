@@ -28,12 +28,12 @@ does_by at s command done Makes old new (Err NoMemory) does replies = replies
 does_by at s command done Makes old new (Err Failed) does replies = record { text = replies.text; last = done replies.last; makes = does replies.text replies.last replies.makes; written = replies.written }
 
 -- the same where a text is given that does not depend on the desk
-pub told_by : {T D X : Type 0} (at : T → D) (last : T) (Makes : List ℕ → D → Type 0) (told : List ℕ) (old new : Option (List ℕ)) (r : Result X Stop)
-    → Makes told (at last) → Replies (λ (d : Unit {0}). d) (λ text d. text ≡ told) old new r → Replies at Makes old new r
-told_by at last Makes told old new (Ok x) makes replies = let P : List ℕ → Type 0 = λ z. Makes z (at last) in record { text = replies.text; last = last; makes = subst P (sym replies.makes) makes; written = replies.written }
-told_by at last Makes told old new (Err NoCommand) makes replies = absurd replies
-told_by at last Makes told old new (Err NoMemory) makes replies = replies
-told_by at last Makes told old new (Err Failed) makes replies = let P : List ℕ → Type 0 = λ z. Makes z (at last) in record { text = replies.text; last = at last; makes = subst P (sym replies.makes) makes; written = replies.written }
+pub printed_by : {T D X : Type 0} (at : T → D) (last : T) (Makes : List ℕ → D → Type 0) (printed : List ℕ) (old new : Option (List ℕ)) (r : Result X Stop)
+    → Makes printed (at last) → Replies (λ (d : Unit {0}). d) (λ text d. text ≡ printed) old new r → Replies at Makes old new r
+printed_by at last Makes printed old new (Ok x) makes replies = let P : List ℕ → Type 0 = λ z. Makes z (at last) in record { text = replies.text; last = last; makes = subst P (sym replies.makes) makes; written = replies.written }
+printed_by at last Makes printed old new (Err NoCommand) makes replies = absurd replies
+printed_by at last Makes printed old new (Err NoMemory) makes replies = replies
+printed_by at last Makes printed old new (Err Failed) makes replies = let P : List ℕ → Type 0 = λ z. Makes z (at last) in record { text = replies.text; last = at last; makes = subst P (sym replies.makes) makes; written = replies.written }
 
 -- an event that is no commit is asked
 pub asks_event : (d e : Desk) (event : Event) (text : List ℕ) → ((s : ℕ) → event ≢ At s Commit) → Asks d event text e → DoesEvent d event text e
@@ -77,7 +77,7 @@ next_line input rest before parts some = parts ∙ ap (λ z. before ++ z) (lines
 
 pub Playing-more : (input rest line after : List ℕ) (n : ℕ) (s t : RunState) (old mid new : Option (List ℕ)) → Playing input rest n s old mid → ¬ (rest ≡ [])
     → line ≡ (split_first 10 rest).0 → after ≡ (split_first 10 rest).1 → PrintsAll (λ text. DoesLine s line text t) mid new → Playing input after (n + 1) t old new
-Playing-more input rest line after n s t old mid new p some line_is after_is tells =
+Playing-more input rest line after n s t old mid new p some line_is after_is reports =
     let cut : lines_in input ≡ p.before ++ line ∷ lines_in after =
     next_line input rest p.before p.parts some ∙ ap (λ z. p.before ++ z ∷ lines_in (split_first 10 rest).1) (sym line_is) ∙ ap (λ z. p.before ++ line ∷ lines_in z) (sym after_is) in
     let shorter : length (split_first 10 rest).1 < length rest = length-split rest some in
@@ -85,12 +85,12 @@ Playing-more input rest line after n s t old mid new p some line_is after_is tel
     let room = p.room in
     record {
       before = p.before ++ line ∷ [];
-      text = p.text ++ tells.text;
+      text = p.text ++ reports.text;
       parts = cut ∙ sym (append_assoc p.before (line ∷ []) (lines_in after));
       number = ap (λ k. k + 1) p.number ∙ sym (length-snoc p.before line);
       room = omega arith;
-      plays = Plays-more p.before first_state s t p.text line tells.text p.plays tells.makes;
-      written = Appends-append old mid new p.text tells.text p.written tells.written;
+      plays = Plays-more p.before first_state s t p.text line reports.text p.plays reports.makes;
+      written = Appends-append old mid new p.text reports.text p.written reports.written;
     }
 
 pub Playing-all : (input rest : List ℕ) (n : ℕ) (s : RunState) (old new : Option (List ℕ)) → Playing input rest n s old new → rest ≡ [] → FinishesRun (Some input) old new

@@ -28,35 +28,35 @@ drop-whole xs n = ap (λ k. take k (drop n xs)) (sym (length-drop n xs)) ∙ tak
 -- what is written of the next text goes on
 pub WritesFront-next : (old mid new : Option (List ℕ)) (a b : List ℕ) → Appends old mid a → WritesFront mid new b → WritesFront old new (a ++ b)
 WritesFront-next old mid new a b p w = record {
-  told = a ++ w.told;
+  printed = a ++ w.printed;
   rest = w.rest;
-  parts = ap (λ z. a ++ z) w.parts ∙ sym (append_assoc a w.told w.rest);
-  appends = Appends-append old mid new a w.told p w.appends;
+  parts = ap (λ z. a ++ z) w.parts ∙ sym (append_assoc a w.printed w.rest);
+  appends = Appends-append old mid new a w.printed p w.appends;
 }
 
 -- a front of a text is a front of what goes on
 pub WritesFront-more : (old new : Option (List ℕ)) (a b : List ℕ) → WritesFront old new a → WritesFront old new (a ++ b)
 WritesFront-more old new a b w = record {
-  told = w.told;
+  printed = w.printed;
   rest = w.rest ++ b;
-  parts = ap (λ z. z ++ b) w.parts ∙ append_assoc w.told w.rest b;
+  parts = ap (λ z. z ++ b) w.parts ∙ append_assoc w.printed w.rest b;
   appends = w.appends;
 }
 
 pub WritesFront-all : (old new : Option (List ℕ)) (a : List ℕ) → Appends old new a → WritesFront old new a
-WritesFront-all old new a p = record { told = a; rest = []; parts = sym (append-nil a); appends = p }
+WritesFront-all old new a p = record { printed = a; rest = []; parts = sym (append-nil a); appends = p }
 
 -- of no text nothing is written
 pub WritesFront-none : (old new : Option (List ℕ)) → WritesFront old new [] → Appends old new []
-WritesFront-none old new w = none w.told w.parts w.appends
+WritesFront-none old new w = none w.printed w.parts w.appends
   where
-    none : (told : List ℕ) → [] ≡ told ++ w.rest → Appends old new told → Appends old new []
+    none : (printed : List ℕ) → [] ≡ printed ++ w.rest → Appends old new printed → Appends old new []
     none [] parts appends = appends
     none (c ∷ cs) parts appends = absurd (cc)
 
 -- a flush keeps what is written
 pub WritesFront-keeps : (old mid new : Option (List ℕ)) (text : List ℕ) → WritesFront old mid text → Keeps mid new → WritesFront old new text
-WritesFront-keeps old mid new text w k = record { told = w.told; rest = w.rest; parts = w.parts; appends = Appends-keeps old mid new w.told w.appends k }
+WritesFront-keeps old mid new text w k = record { printed = w.printed; rest = w.rest; parts = w.parts; appends = Appends-keeps old mid new w.printed w.appends k }
 
 -- a text is written, or a front of it, and then flushed
 pub Writes-front : {X E : Type 0} (old mid new : Option (List ℕ)) (text : List ℕ) (r : Result X E) → Writes old mid text r → Keeps mid new → WritesFront old new text
@@ -65,30 +65,30 @@ Writes-front old mid new text (Err e) w k = WritesFront-keeps old mid new text w
 
 -- so much of a text is written, and this is left of it
 pub record Writing (old new : Option (List ℕ)) (text rest : List ℕ) : Type 0 where
-  pub told : List ℕ
-  pub parts : text ≡ told ++ rest
-  pub appends : Appends old new told
+  pub printed : List ℕ
+  pub parts : text ≡ printed ++ rest
+  pub appends : Appends old new printed
 
 pub Writing-none : (old : Option (List ℕ)) (text : List ℕ) → Writing old old text text
-Writing-none old text = record { told = []; parts = refl; appends = Appends-none old }
+Writing-none old text = record { printed = []; parts = refl; appends = Appends-none old }
 
 pub Writing-more : (old mid new : Option (List ℕ)) (text rest after : List ℕ) (n : ℕ) → Writing old mid text rest → Appends mid new (take n rest) → after ≡ drop n rest → Writing old new text after
 Writing-more old mid new text rest after n w p is = record {
-  told = w.told ++ take n rest;
-  parts = w.parts ∙ ap (λ z. w.told ++ z) (sym (take-append-drop n rest)) ∙ sym (append_assoc w.told (take n rest) (drop n rest)) ∙ ap (λ z. (w.told ++ take n rest) ++ z) (sym is);
-  appends = Appends-append old mid new w.told (take n rest) w.appends p;
+  printed = w.printed ++ take n rest;
+  parts = w.parts ∙ ap (λ z. w.printed ++ z) (sym (take-append-drop n rest)) ∙ sym (append_assoc w.printed (take n rest) (drop n rest)) ∙ ap (λ z. (w.printed ++ take n rest) ++ z) (sym is);
+  appends = Appends-append old mid new w.printed (take n rest) w.appends p;
 }
 
 pub Writing-keeps : (old mid new : Option (List ℕ)) (text rest : List ℕ) → Writing old mid text rest → Keeps mid new → Writing old new text rest
-Writing-keeps old mid new text rest w p = record { told = w.told; parts = w.parts; appends = Appends-keeps old mid new w.told w.appends p }
+Writing-keeps old mid new text rest w p = record { printed = w.printed; parts = w.parts; appends = Appends-keeps old mid new w.printed w.appends p }
 
 pub Writing-all : (old new : Option (List ℕ)) (text rest : List ℕ) → Writing old new text rest → rest ≡ [] → Appends old new text
 Writing-all old new text rest w none =
-    let same : w.told ≡ text = sym (append-nil w.told) ∙ ap (λ z. w.told ++ z) (sym none) ∙ sym w.parts in
+    let same : w.printed ≡ text = sym (append-nil w.printed) ∙ ap (λ z. w.printed ++ z) (sym none) ∙ sym w.parts in
     subst (λ (z : List ℕ). Appends old new z) same w.appends
 
 pub Writing-front : (old new : Option (List ℕ)) (text rest : List ℕ) → Writing old new text rest → WritesFront old new text
-Writing-front old new text rest w = record { told = w.told; rest = rest; parts = w.parts; appends = w.appends }
+Writing-front old new text rest w = record { printed = w.printed; rest = rest; parts = w.parts; appends = w.appends }
 
 pub Keeps-none : (old new : Option (List ℕ)) → Keeps old new → Appends old new []
 Keeps-none None new p = tt

@@ -14,13 +14,13 @@ use Rattle.gs_feeding.specs.Receiving.{Fed, Closes}
 pub record Asks (d : Desk) (event : Event) (text : List ℕ) (e : Desk) : Type 0 where
   pub answer : Answer
   pub answers : Answers d event answer e
-  pub told : text ≡ answer_text answer
+  pub printed : text ≡ answer_text answer
 
 -- the upload or the patch is given up, and its fault is printed in the place of the answer
 pub record GivesUp (fault : List ℕ) (d : Desk) (s : ℕ) (text : List ℕ) (e : Desk) : Type 0 where
   pub answer : Answer
   pub answers : Answers d (At s Cancel) answer e
-  pub told : text ≡ fault
+  pub printed : text ≡ fault
 
 -- where the last triples are staged the upload is committed, and else the refusal is printed
 abbrev pub CommitsStaged : Answer → Desk → ℕ → List ℕ → Desk → Type 0

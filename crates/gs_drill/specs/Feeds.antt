@@ -72,7 +72,7 @@ pub record FeedsUpload (n : ℕ) (c : TextContext) (d : Desk) (s : ℕ) (y text 
   pub receives : Receives n c (d.fed s) y given fed
   pub answer : Answer
   pub staged : Stages (desk_with d s fed) s given answer e
-  pub told : text ≡ feed_text answer
+  pub printed : text ≡ feed_text answer
 
 -- no event is made
 abbrev pub RefusesText : Refusal → Desk → List ℕ → Desk → Type 0

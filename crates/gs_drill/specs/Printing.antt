@@ -58,10 +58,10 @@ no_memory_text = codes "gsdrill: no memory" ++ line_feed ∷ []
 
 -- a front of the text is written
 pub record WritesFront (old new : Option (List ℕ)) (text : List ℕ) : Type 0 where
-  pub told : List ℕ
+  pub printed : List ℕ
   pub rest : List ℕ
-  pub parts : text ≡ told ++ rest
-  pub appends : Appends old new told
+  pub parts : text ≡ printed ++ rest
+  pub appends : Appends old new printed
 
 -- the text is written; where that fails, a front of it
 abbrev pub Writes : {X E : Type 0} → Option (List ℕ) → Option (List ℕ) → List ℕ → Result X E → Type 0

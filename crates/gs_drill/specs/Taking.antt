@@ -36,14 +36,14 @@ pub record Prints {X E : Type 0} (Makes : List ℕ → Type 0) (old new : Option
   pub written : Writes old new text outcome
 
 -- a text is made, and a front of it written
-pub record TellsFront {D : Type 0} (Makes : List ℕ → D → Type 0) (old new : Option (List ℕ)) : Type 0 where
+pub record PrintsFront {D : Type 0} (Makes : List ℕ → D → Type 0) (old new : Option (List ℕ)) : Type 0 where
   pub text : List ℕ
   pub last : D
   pub makes : Makes text last
   pub written : WritesFront old new text
 
 -- a text is made by what leaves one of these, and written
-pub record TellsTo {T D : Type 0} (after : T → D) (Makes : List ℕ → D → Type 0) (old new : Option (List ℕ)) : Type 0 where
+pub record PrintsTo {T D : Type 0} (after : T → D) (Makes : List ℕ → D → Type 0) (old new : Option (List ℕ)) : Type 0 where
   pub text : List ℕ
   pub last : T
   pub makes : Makes text (after last)
@@ -51,14 +51,14 @@ pub record TellsTo {T D : Type 0} (after : T → D) (Makes : List ℕ → D → 
 
 -- a text is made and written; nothing is written for want of memory; or a write fails
 abbrev pub Replies : {T D : Type 0} → (T → D) → (List ℕ → D → Type 0) → Option (List ℕ) → Option (List ℕ) → {X : Type 0} → Result X Stop → Type 0
-Replies after Makes old new (Ok x) = TellsTo after Makes old new
+Replies after Makes old new (Ok x) = PrintsTo after Makes old new
 Replies after Makes old new (Err NoCommand) = ⊥
 Replies after Makes old new (Err NoMemory) = Appends old new []
-Replies after Makes old new (Err Failed) = TellsFront Makes old new
+Replies after Makes old new (Err Failed) = PrintsFront Makes old new
 
 -- this text is written; nothing is written for want of memory; or a write fails
 abbrev pub RepliesText : List ℕ → Option (List ℕ) → Option (List ℕ) → {X : Type 0} → Result X Stop → Type 0
-RepliesText told old new outcome = Replies (λ (d : Unit {0}). d) (λ text d. text ≡ told) old new outcome
+RepliesText printed old new outcome = Replies (λ (d : Unit {0}). d) (λ text d. text ≡ printed) old new outcome
 
 -- the same of what is made at the desk where the code stands
 abbrev pub RepliesFrom : Shown → Uploads → Shown → Uploads → (Desk → List ℕ → Desk → Type 0) → Option (List ℕ) → Option (List ℕ)
@@ -67,17 +67,17 @@ RepliesFrom shown u next w Makes old new outcome = (st : Standing shown u) → R
 
 -- a command is done; it is late; nothing is written for want of memory; or a write fails
 abbrev pub DoesCommand : RunState → Command → {T : Type 0} → (T → RunState) → Option (List ℕ) → Option (List ℕ) → {X : Type 0} → Result X Stop → Type 0
-DoesCommand s command after old new (Ok x) = TellsTo after (Does s command) old new
+DoesCommand s command after old new (Ok x) = PrintsTo after (Does s command) old new
 DoesCommand s command after old new (Err NoCommand) = IsLate s command × Appends old new []
 DoesCommand s command after old new (Err NoMemory) = Appends old new []
-DoesCommand s command after old new (Err Failed) = TellsFront (Does s command) old new
+DoesCommand s command after old new (Err Failed) = PrintsFront (Does s command) old new
 
 -- the same of a line
 abbrev pub TakesLine : RunState → List ℕ → {T : Type 0} → (T → RunState) → Option (List ℕ) → Option (List ℕ) → {X : Type 0} → Result X Stop → Type 0
-TakesLine s line after old new (Ok x) = TellsTo after (DoesLine s line) old new
+TakesLine s line after old new (Ok x) = PrintsTo after (DoesLine s line) old new
 TakesLine s line after old new (Err NoCommand) = IsNoCommand s line × Appends old new []
 TakesLine s line after old new (Err NoMemory) = Appends old new []
-TakesLine s line after old new (Err Failed) = TellsFront (DoesLine s line) old new
+TakesLine s line after old new (Err Failed) = PrintsFront (DoesLine s line) old new
 
 -- what is said of a run that ended early, by the number of its line; of a failed read or write nothing is said
 abbrev pub stop_text : Stop → ℕ → List ℕ

@@ -119,17 +119,17 @@ const PARTS: [(&[u8], Option<(&[u8], &[u8])>); 5] = [
 /// What a call leaves after a text, where it is to be a meaning, and that text alone where not.
 fn check(
     rt: &impl Abort,
-    told: Result<(), Refusal>,
+    reported: Result<(), Refusal>,
     left: &str,
     wanted: Option<&str>,
 ) -> Result<(), Fail> {
     match wanted {
         Some(meaning) => {
-            assert_eq!(rt; told, Ok(()));
+            assert_eq!(rt; reported, Ok(()));
             assert_eq!(rt; left.strip_prefix("\u{e9}"), Some(meaning));
         }
         None => {
-            assert_eq!(rt; told, Err(Refusal::Syntax(0)));
+            assert_eq!(rt; reported, Err(Refusal::Syntax(0)));
             assert_eq!(rt; left, "\u{e9}");
         }
     }

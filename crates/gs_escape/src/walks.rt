@@ -20,7 +20,7 @@ fn cut_escape(form: Form, text: &str) -> Option<(char, &str)>
     ensures text { IfSome result (λ e. IsUtf8 e.1.now) }
 {
     match text.as_bytes().split_first() {
-        Some((b'\\', behind)) => match escape(form, behind) {
+        Some((b'\\', later)) => match escape(form, later) {
             None => None,
             Some((c, size)) => Some((c, &text[size + 1..])),
         },

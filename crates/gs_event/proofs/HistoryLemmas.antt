@@ -22,7 +22,7 @@ use Rattle.gs_event.specs.Histories.{History, OpenRead, phase_of, phase_by, poin
 
 -- a seat's phase by its history, with one more answer
 abbrev pub later : History → Phase OpenRead → Action → Answer → Phase OpenRead
-later before = phase_after (λ t. record { target = t; before = before; told = 0 }) (λ r n. record { target = r.target; before = r.before; told = r.told + n })
+later before = phase_after (λ t. record { target = t; before = before; given = 0 }) (λ r n. record { target = r.target; before = r.before; given = r.given + n })
 
 same_operation : (w : Setting) (p : Phase OpenRead) (action : Action) (a : Answer) → operation_of (seat_view w p) action a ≡ operation_of p action a
 same_operation w Idle (Delete t) (Status s name) = refl
@@ -32,13 +32,13 @@ same_operation w (Writing t r g) Commit (Status s name) = refl
 same_operation w (Patching t r) (CommitPatch ops) (Status s name) = refl
 same_operation w p action a = refl
 
-pinned_view : (w : Setting) (b : Bool) (h : History) (t : Target) → seat_view w (cond b (Reading (record { target = t; before = h; told = 0 })) Idle) ≡ cond b (Reading (lines_at (dataset_after w h) t)) Idle
+pinned_view : (w : Setting) (b : Bool) (h : History) (t : Target) → seat_view w (cond b (Reading (record { target = t; before = h; given = 0 })) Idle) ≡ cond b (Reading (lines_at (dataset_after w h) t)) Idle
 pinned_view w true h t = refl
 pinned_view w false h t = refl
 
-told_view : (w : Setting) (b : Bool) (r : OpenRead) (n : ℕ) → seat_view w (cond b Idle (Reading (record { target = r.target; before = r.before; told = r.told + n }))) ≡ cond b Idle (Reading (drop n (lines_left w r)))
-told_view w true r n = refl
-told_view w false r n = ap Reading (sym (drop-drop n r.told _))
+given_view : (w : Setting) (b : Bool) (r : OpenRead) (n : ℕ) → seat_view w (cond b Idle (Reading (record { target = r.target; before = r.before; given = r.given + n }))) ≡ cond b Idle (Reading (drop n (lines_left w r)))
+given_view w true r n = refl
+given_view w false r n = ap Reading (sym (drop-drop n r.given _))
 
 -- the table of phases says the same of a history and of what is seen
 pub same_phase : (w : Setting) (h : History) (p : Phase OpenRead) (action : Action) (a : Answer) → seat_view w (later h p action a) ≡ phase_after (lines_at (dataset_after w h)) (λ left n. drop n left) (seat_view w p) action a
@@ -50,7 +50,7 @@ same_phase w h (Writing t r g) Commit (Status s name) = refl
 same_phase w h (Writing t r g) Cancel Cancelled = refl
 same_phase w h (Patching t r) (CommitPatch ops) (Status s name) = refl
 same_phase w h (Patching t r) Cancel Cancelled = refl
-same_phase w h (Reading x) (Piece n) (Lines b end) = told_view w end x n
+same_phase w h (Reading x) (Piece n) (Lines b end) = given_view w end x n
 same_phase w h (Reading x) Cancel Cancelled = refl
 same_phase w h p action a = refl
 

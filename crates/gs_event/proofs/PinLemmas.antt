@@ -21,12 +21,12 @@ use Rattle.gs_event.specs.Continuing.{PinsGoOn}
 use Rattle.gs_event.proofs.HistoryLemmas.{later, refused_phase, same_after, changed_at, at_place}
 
 -- a read begins where the test says so
-pin_begins : (start : Start) (h : History) (t : Target) (b : Bool) → pin_of start (cond b (Reading (record { target = t; before = h; told = 0 })) Idle) ≡ cond b (Some (commit_after start h)) None
+pin_begins : (start : Start) (h : History) (t : Target) (b : Bool) → pin_of start (cond b (Reading (record { target = t; before = h; given = 0 })) Idle) ≡ cond b (Some (commit_after start h)) None
 pin_begins start h t true = refl
 pin_begins start h t false = refl
 
 -- a read ends where the test says so, and else goes on with its pin
-pin_ends : (start : Start) (r : OpenRead) (n : ℕ) (b : Bool) → pin_of start (cond b Idle (Reading (record { target = r.target; before = r.before; told = r.told + n }))) ≡ cond b None (Some (commit_after start r.before))
+pin_ends : (start : Start) (r : OpenRead) (n : ℕ) (b : Bool) → pin_of start (cond b Idle (Reading (record { target = r.target; before = r.before; given = r.given + n }))) ≡ cond b None (Some (commit_after start r.before))
 pin_ends start r n true = refl
 pin_ends start r n false = refl
 

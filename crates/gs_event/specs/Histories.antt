@@ -20,14 +20,14 @@ History = List (Event × Answer)
 pub record OpenRead : Type 0 where
   pub target : Target
   pub before : History
-  pub told : ℕ
+  pub given : ℕ
 
 -- what the phase of a seat becomes by one more event and its answer
 abbrev pub phase_by : History → ℕ → Phase OpenRead → Event → Answer → Phase OpenRead
 phase_by before seat p (Reclaim n) a = p
 phase_by before seat p (At s action) a =
     cond (nat_eq s seat)
-    (phase_after (λ t. record { target = t; before = before; told = 0 }) (λ r n. record { target = r.target; before = r.before; told = r.told + n }) p action a)
+    (phase_after (λ t. record { target = t; before = before; given = 0 }) (λ r n. record { target = r.target; before = r.before; given = r.given + n }) p action a)
     p
 
 -- the phase of a seat, from its events and their answers alone
@@ -51,7 +51,7 @@ dataset_after w h = after_all w (points_of h)
 
 -- the lines left of a read: its graph's at the pin, without those that were given
 abbrev pub lines_left : Setting → OpenRead → List (List ℕ)
-lines_left w r = drop r.told (lines_at (dataset_after w r.before) r.target)
+lines_left w r = drop r.given (lines_at (dataset_after w r.before) r.target)
 
 -- a phase as it is seen
 abbrev pub seat_view : Setting → Phase OpenRead → SeatView

@@ -35,19 +35,19 @@ allows (Reading left) Cancel = true
 allows p action = false
 
 -- the phase after an answer: `pinned t` is what a read of t has left when it begins,
--- `told left n` what is left after n lines more
+-- `given left n` what is left after n lines more
 abbrev pub phase_after : {R : Type 0} → (Target → R) → (R → ℕ → R) → Phase R → Action → Answer → Phase R
-phase_after pinned told Idle (Open k) (Opened r) = Writing k r empty_graph
-phase_after pinned told Idle (OpenPatch t) (Opened r) = Patching t r
-phase_after pinned told Idle (Pin t) (Pinned s) = cond (nat_eq s 200) (Reading (pinned t)) Idle
-phase_after pinned told (Writing k r g) (Stage ts) Staged = Writing k r (with_triples g ts.items)
-phase_after pinned told (Writing k r g) Commit (Status s name) = Idle
-phase_after pinned told (Writing k r g) Cancel Cancelled = Idle
-phase_after pinned told (Patching t r) (CommitPatch ops) (Status s name) = Idle
-phase_after pinned told (Patching t r) Cancel Cancelled = Idle
-phase_after pinned told (Reading left) (Piece n) (Lines b end) = cond end Idle (Reading (told left n))
-phase_after pinned told (Reading left) Cancel Cancelled = Idle
-phase_after pinned told p action a = p
+phase_after pinned given Idle (Open k) (Opened r) = Writing k r empty_graph
+phase_after pinned given Idle (OpenPatch t) (Opened r) = Patching t r
+phase_after pinned given Idle (Pin t) (Pinned s) = cond (nat_eq s 200) (Reading (pinned t)) Idle
+phase_after pinned given (Writing k r g) (Stage ts) Staged = Writing k r (with_triples g ts.items)
+phase_after pinned given (Writing k r g) Commit (Status s name) = Idle
+phase_after pinned given (Writing k r g) Cancel Cancelled = Idle
+phase_after pinned given (Patching t r) (CommitPatch ops) (Status s name) = Idle
+phase_after pinned given (Patching t r) Cancel Cancelled = Idle
+phase_after pinned given (Reading left) (Piece n) (Lines b end) = cond end Idle (Reading (given left n))
+phase_after pinned given (Reading left) Cancel Cancelled = Idle
+phase_after pinned given p action a = p
 
 -- the write that an upload is
 abbrev pub write_of : UploadKind → ℕ → Graph → Operation

@@ -6,7 +6,7 @@ use Rattle.std.specs.Option.{is_some, unwrap_or, option_map, option_and_then, op
 use Rattle.std.specs.List.{list_all, onto_first}
 use Rattle.std.proofs.lemmas.List.Folds.{list_all-append}
 use Rattle.gs_model.specs.Characters.{is_iri_char}
-use Rattle.gs_iri.specs.References.{Reference, is_one_of, before, from, behind, has_scheme, behind_scheme, behind_slashes, authority_of, behind_authority, path_of, behind_path, query_of, behind_query, fragment_of, parts_of}
+use Rattle.gs_iri.specs.References.{Reference, is_one_of, before, from, rest_after, has_scheme, rest_after_scheme, rest_after_slashes, authority_of, rest_after_authority, path_of, rest_after_path, query_of, rest_after_query, fragment_of, parts_of}
 use Rattle.gs_iri.specs.Dots.{Output, segments_of, is_dot, is_dot_dot, is_dots, last_of, closed, moved, text_of_segments, output_of, dots}
 use Rattle.gs_iri.specs.Output.{has_slash}
 use Rattle.gs_iri.specs.Resolving.{marked, is_empty, through_last, directory_of, resolved_parts}
@@ -35,10 +35,10 @@ abbrev pub IriPart : Option (List ℕ) → Type 0
 IriPart None = Unit {0}
 IriPart (Some x) = AllIri x
 
-iri-behind : (mark : ℕ) (x : List ℕ) → AllIri x → IriPart (behind mark x)
-unfolding behind
-iri-behind mark [] a = tt
-iri-behind mark (c ∷ cs) a =
+iri-rest_after : (mark : ℕ) (x : List ℕ) → AllIri x → IriPart (rest_after mark x)
+unfolding rest_after
+iri-rest_after mark [] a = tt
+iri-rest_after mark (c ∷ cs) a =
     elim (c == mark) as (λ b. IriPart (cond b (Some cs) None)) [ true ↦ (and_parts (is_iri_char c) (list_all is_iri_char cs) a).1 | false ↦ tt ]
 
 iri-map : (f : List ℕ → List ℕ) → ((x : List ℕ) → AllIri x → AllIri (f x)) → (o : Option (List ℕ)) → IriPart o → IriPart (option_map f o)
@@ -49,11 +49,11 @@ iri-or : (o : Option (List ℕ)) (x : List ℕ) → IriPart o → AllIri x → A
 iri-or None x a b = b
 iri-or (Some y) x a b = a
 
-iri-slashes : (x : List ℕ) → AllIri x → IriPart (behind_slashes x)
-unfolding behind_slashes
+iri-slashes : (x : List ℕ) → AllIri x → IriPart (rest_after_slashes x)
+unfolding rest_after_slashes
 iri-slashes x a =
-    let step : (o : Option (List ℕ)) → IriPart o → IriPart (option_and_then (behind 47) o) = λ o p. elim o as (λ q. IriPart q → IriPart (option_and_then (behind 47) q)) [ None ↦ λ _. tt | Some y ↦ λ i. iri-behind 47 y i ] p in
-    step (behind 47 x) (iri-behind 47 x a)
+    let step : (o : Option (List ℕ)) → IriPart o → IriPart (option_and_then (rest_after 47) o) = λ o p. elim o as (λ q. IriPart q → IriPart (option_and_then (rest_after 47) q)) [ None ↦ λ _. tt | Some y ↦ λ i. iri-rest_after 47 y i ] p in
+    step (rest_after 47 x) (iri-rest_after 47 x a)
 
 -- a reference whose parts have IRI characters only
 pub record IriParts (r : Reference) : Type 0 where
@@ -62,33 +62,33 @@ pub record IriParts (r : Reference) : Type 0 where
   pub query : IriPart r.query
   pub fragment : IriPart r.fragment
 
-iri-behind_scheme : (x : List ℕ) → AllIri x → AllIri (behind_scheme x)
-unfolding behind_scheme
-iri-behind_scheme x a =
-    elim (has_scheme x) as (λ b. AllIri (cond b (unwrap_or (behind 58 (from (codes ":") x)) x) x)) [
-      | true ↦ iri-or (behind 58 (from (codes ":") x)) x (iri-behind 58 (from (codes ":") x) (iri-from (codes ":") x a)) a
+iri-rest_after_scheme : (x : List ℕ) → AllIri x → AllIri (rest_after_scheme x)
+unfolding rest_after_scheme
+iri-rest_after_scheme x a =
+    elim (has_scheme x) as (λ b. AllIri (cond b (unwrap_or (rest_after 58 (from (codes ":") x)) x) x)) [
+      | true ↦ iri-or (rest_after 58 (from (codes ":") x)) x (iri-rest_after 58 (from (codes ":") x) (iri-from (codes ":") x a)) a
       | false ↦ a
     ]
 
-iri-behind_authority : (x : List ℕ) → AllIri x → AllIri (behind_authority x)
-unfolding behind_authority
-iri-behind_authority x a = iri-or _ x (iri-map (from (codes "/?#")) (iri-from (codes "/?#")) (behind_slashes x) (iri-slashes x a)) a
+iri-rest_after_authority : (x : List ℕ) → AllIri x → AllIri (rest_after_authority x)
+unfolding rest_after_authority
+iri-rest_after_authority x a = iri-or _ x (iri-map (from (codes "/?#")) (iri-from (codes "/?#")) (rest_after_slashes x) (iri-slashes x a)) a
 
-iri-behind_query : (x : List ℕ) → AllIri x → AllIri (behind_query x)
-unfolding behind_query
-iri-behind_query x a = iri-or _ x (iri-map (from (codes "#")) (iri-from (codes "#")) (behind 63 x) (iri-behind 63 x a)) a
+iri-rest_after_query : (x : List ℕ) → AllIri x → AllIri (rest_after_query x)
+unfolding rest_after_query
+iri-rest_after_query x a = iri-or _ x (iri-map (from (codes "#")) (iri-from (codes "#")) (rest_after 63 x) (iri-rest_after 63 x a)) a
 
 iri-parts : (x : List ℕ) → AllIri x → IriParts (parts_of x)
-unfolding parts_of authority_of path_of behind_path query_of fragment_of
+unfolding parts_of authority_of path_of rest_after_path query_of fragment_of
 iri-parts x a =
-    let s = iri-behind_scheme x a in
-    let p = iri-behind_authority (behind_scheme x) s in
-    let q = iri-from (codes "?#") (behind_authority (behind_scheme x)) p in
+    let s = iri-rest_after_scheme x a in
+    let p = iri-rest_after_authority (rest_after_scheme x) s in
+    let q = iri-from (codes "?#") (rest_after_authority (rest_after_scheme x)) p in
     record {
-      authority = iri-map (before (codes "/?#")) (iri-before (codes "/?#")) (behind_slashes (behind_scheme x)) (iri-slashes (behind_scheme x) s);
-      path = iri-before (codes "?#") (behind_authority (behind_scheme x)) p;
-      query = iri-map (before (codes "#")) (iri-before (codes "#")) (behind 63 (from (codes "?#") (behind_authority (behind_scheme x)))) (iri-behind 63 (from (codes "?#") (behind_authority (behind_scheme x))) q);
-      fragment = iri-behind 35 (behind_query (from (codes "?#") (behind_authority (behind_scheme x)))) (iri-behind_query (from (codes "?#") (behind_authority (behind_scheme x))) q);
+      authority = iri-map (before (codes "/?#")) (iri-before (codes "/?#")) (rest_after_slashes (rest_after_scheme x)) (iri-slashes (rest_after_scheme x) s);
+      path = iri-before (codes "?#") (rest_after_authority (rest_after_scheme x)) p;
+      query = iri-map (before (codes "#")) (iri-before (codes "#")) (rest_after 63 (from (codes "?#") (rest_after_authority (rest_after_scheme x)))) (iri-rest_after 63 (from (codes "?#") (rest_after_authority (rest_after_scheme x))) q);
+      fragment = iri-rest_after 35 (rest_after_query (from (codes "?#") (rest_after_authority (rest_after_scheme x)))) (iri-rest_after_query (from (codes "?#") (rest_after_authority (rest_after_scheme x))) q);
     }
 
 -- segments of IRI characters
@@ -179,7 +179,7 @@ iri-resolved b r i j =
     iri-cond (is_some r.scheme) _ _ (record { authority = j.authority; path = iri-dots r.path j.path; query = j.query; fragment = j.fragment })
     (iri-cond (is_some r.authority) _ _ (record { authority = j.authority; path = iri-dots r.path j.path; query = j.query; fragment = j.fragment })
     (iri-cond (is_empty r.path) _ _ (record { authority = i.authority; path = i.path; query = iri-either r.query b.query j.query i.query; fragment = j.fragment })
-    (iri-cond (is_some (behind 47 r.path)) _ _ (record { authority = i.authority; path = iri-dots r.path j.path; query = j.query; fragment = j.fragment })
+    (iri-cond (is_some (rest_after 47 r.path)) _ _ (record { authority = i.authority; path = iri-dots r.path j.path; query = j.query; fragment = j.fragment })
     (record { authority = i.authority; path = iri-dots (directory_of b.authority b.path ++ r.path) whole; query = j.query; fragment = j.fragment }))))
 
 iri-marked : (mark : List ℕ) (o : Option (List ℕ)) → AllIri mark → IriPart o → AllIri (marked mark o)
@@ -188,9 +188,9 @@ iri-marked mark None a b = refl
 iri-marked mark (Some x) a b = iri-append mark x a b
 
 -- the text after the scheme
-pub iri-behind_colon : (b r : Reference) → IriParts (resolved_parts b r)
+pub iri-rest_after_colon : (b r : Reference) → IriParts (resolved_parts b r)
     → AllIri (marked (codes "//") (resolved_parts b r).authority ++ ((resolved_parts b r).path ++ (marked (codes "?") (resolved_parts b r).query ++ marked (codes "#") (resolved_parts b r).fragment)))
-iri-behind_colon b r i =
+iri-rest_after_colon b r i =
     iri-append (marked (codes "//") (resolved_parts b r).authority) _ (iri-marked (codes "//") (resolved_parts b r).authority refl i.authority)
     (iri-append (resolved_parts b r).path _ i.path
     (iri-append (marked (codes "?") (resolved_parts b r).query) _ (iri-marked (codes "?") (resolved_parts b r).query refl i.query) (iri-marked (codes "#") (resolved_parts b r).fragment refl i.fragment)))

@@ -5,7 +5,7 @@ use Rattle.std.specs.List.{onto_first}
 use Rattle.std.proofs.lemmas.Bool.{ne_eqb}
 use Rattle.std.proofs.lemmas.Bool.Decides.{eqb_tells}
 use Rattle.std.proofs.lemmas.List.Sums.{fold-append}
-use Rattle.gs_iri.specs.References.{is_one_of, before, from, behind}
+use Rattle.gs_iri.specs.References.{is_one_of, before, from, rest_after}
 use Rattle.gs_iri.specs.Dots.{Output, segments_of, is_dot, is_dot_dot, is_dots, last_of, closed, moved, text_of_segments, output_of, dots}
 use Rattle.gs_iri.specs.Output.{has_slash, without_last, put_after, put}
 
@@ -23,11 +23,11 @@ more_segments None = []
 more_segments (Some y) = segments_of y
 
 -- the segments of a path are the text before its first '/', and those of the text after it
-pub segments-cut : (x : List ℕ) → segments_of x ≡ before (codes "/") x ∷ more_segments (behind 47 (from (codes "/") x))
-unfolding segments_of before from behind
+pub segments-cut : (x : List ℕ) → segments_of x ≡ before (codes "/") x ∷ more_segments (rest_after 47 (from (codes "/") x))
+unfolding segments_of before from rest_after
 segments-cut [] = refl
 segments-cut (c ∷ cs) =
-    elim (is_one_of (codes "/") c) as (λ b. is_one_of (codes "/") c ≡ b → cond (c == 47) ([] ∷ segments_of cs) (onto_first c (segments_of cs)) ≡ cond b [] (c ∷ before (codes "/") cs) ∷ more_segments (behind 47 (cond b (c ∷ cs) (from (codes "/") cs)))) [
+    elim (is_one_of (codes "/") c) as (λ b. is_one_of (codes "/") c ≡ b → cond (c == 47) ([] ∷ segments_of cs) (onto_first c (segments_of cs)) ≡ cond b [] (c ∷ before (codes "/") cs) ∷ more_segments (rest_after 47 (cond b (c ∷ cs) (from (codes "/") cs)))) [
       | true ↦ λ h.
           let e : (c == 47) ≡ true = sym (slash_test c) ∙ h in
           ap (λ b. cond b ([] ∷ segments_of cs) (onto_first c (segments_of cs))) e ∙ sym (ap (λ b. [] ∷ more_segments (cond b (Some cs) None)) e)
@@ -46,7 +46,7 @@ segments-append [] y = refl
 segments-append (c ∷ cs) y =
     elim (c == 47) as (λ b. cond b ([] ∷ segments_of (cs ++ 47 ∷ y)) (onto_first c (segments_of (cs ++ 47 ∷ y))) ≡ cond b ([] ∷ segments_of cs) (onto_first c (segments_of cs)) ++ segments_of y) [
       | true ↦ ap (λ z. [] ∷ z) (segments-append cs y)
-      | false ↦ ap (onto_first c) (segments-append cs y) ∙ onto_first-append c (segments_of cs) (segments_of y) (before (codes "/") cs) (more_segments (behind 47 (from (codes "/") cs))) (segments-cut cs)
+      | false ↦ ap (onto_first c) (segments-append cs y) ∙ onto_first-append c (segments_of cs) (segments_of y) (before (codes "/") cs) (more_segments (rest_after 47 (from (codes "/") cs))) (segments-cut cs)
     ]
 
 last-more : (s t : List ℕ) (xs ts : List (List ℕ)) → xs ≡ t ∷ ts → last_of (s ∷ xs) ≡ last_of xs
@@ -54,7 +54,7 @@ last-more s t xs ts e = ap (λ z. last_of (s ∷ z)) e ∙ sym (ap last_of e)
 
 -- the last segment is that of the text after the first '/'
 pub last-cut : (s y : List ℕ) → last_of (s ∷ segments_of y) ≡ last_of (segments_of y)
-last-cut s y = last-more s (before (codes "/") y) (segments_of y) (more_segments (behind 47 (from (codes "/") y))) (segments-cut y)
+last-cut s y = last-more s (before (codes "/") y) (segments_of y) (more_segments (rest_after 47 (from (codes "/") y))) (segments-cut y)
 
 pub last-append : (xs : List (List ℕ)) (y : List ℕ) → last_of (xs ++ segments_of y) ≡ last_of (segments_of y)
 last-append [] y = refl
@@ -84,14 +84,14 @@ without_last-slash [] y h = ap (λ b. cond b (47 ∷ without_last y) []) h
 without_last-slash (c ∷ cs) y h = ap (λ b. cond b (c ∷ without_last (cs ++ 47 ∷ y)) []) (slash_within cs y) ∙ ap (λ z. c ∷ z) (without_last-slash cs y h)
 
 -- what is moved: a segment after a '/', or the first of all without it
-pub record IsBehind (s : List ℕ) : Type 0 where
+pub record IsAfter (s : List ℕ) : Type 0 where
   pub text : List ℕ
   pub parts : s ≡ 47 ∷ text
   pub plain : has_slash text ≡ false
 
 abbrev pub AreMoved : List (List ℕ) → Type 0
 AreMoved [] = Unit {0}
-AreMoved (s ∷ ss) = (IsBehind s ⊎ ((ss ≡ []) × (has_slash s ≡ false))) × AreMoved ss
+AreMoved (s ∷ ss) = (IsAfter s ⊎ ((ss ≡ []) × (has_slash s ≡ false))) × AreMoved ss
 
 abbrev pub IsOutput : Output → Type 0
 IsOutput None = Unit {0}
@@ -180,18 +180,18 @@ dots-text path =
     ∙ output-shown (fold moved None (closed (segments_of path)))
 
 -- one segment more, and what is after it
-pub put_more : (o : Bool × List ℕ) (x segment back y : List ℕ) → segment ≡ before (codes "/") x → back ≡ from (codes "/") x → behind 47 back ≡ Some y
+pub put_more : (o : Bool × List ℕ) (x segment back y : List ℕ) → segment ≡ before (codes "/") x → back ≡ from (codes "/") x → rest_after 47 back ≡ Some y
     → fold put o (segments_of x) ≡ fold put (put o segment) (segments_of y)
 put_more o x segment back y s b e =
-    ap (fold put o) (segments-cut x ∙ ap (λ z. z ∷ more_segments (behind 47 (from (codes "/") x))) (sym s) ∙ ap (λ z. segment ∷ more_segments (behind 47 z)) (sym b) ∙ ap (λ z. segment ∷ more_segments z) e)
+    ap (fold put o) (segments-cut x ∙ ap (λ z. z ∷ more_segments (rest_after 47 (from (codes "/") x))) (sym s) ∙ ap (λ z. segment ∷ more_segments (rest_after 47 z)) (sym b) ∙ ap (λ z. segment ∷ more_segments z) e)
 
-pub put_last : (x segment back : List ℕ) → segment ≡ before (codes "/") x → back ≡ from (codes "/") x → behind 47 back ≡ None → segments_of x ≡ segment ∷ []
+pub put_last : (x segment back : List ℕ) → segment ≡ before (codes "/") x → back ≡ from (codes "/") x → rest_after 47 back ≡ None → segments_of x ≡ segment ∷ []
 put_last x segment back s b e =
-    segments-cut x ∙ ap (λ z. z ∷ more_segments (behind 47 (from (codes "/") x))) (sym s) ∙ ap (λ z. segment ∷ more_segments (behind 47 z)) (sym b) ∙ ap (λ z. segment ∷ more_segments z) e
+    segments-cut x ∙ ap (λ z. z ∷ more_segments (rest_after 47 (from (codes "/") x))) (sym s) ∙ ap (λ z. segment ∷ more_segments (rest_after 47 z)) (sym b) ∙ ap (λ z. segment ∷ more_segments z) e
 
-pub last_more : (x segment back y : List ℕ) → segment ≡ before (codes "/") x → back ≡ from (codes "/") x → behind 47 back ≡ Some y → last_of (segments_of x) ≡ last_of (segments_of y)
+pub last_more : (x segment back y : List ℕ) → segment ≡ before (codes "/") x → back ≡ from (codes "/") x → rest_after 47 back ≡ Some y → last_of (segments_of x) ≡ last_of (segments_of y)
 last_more x segment back y s b e =
-    ap last_of (segments-cut x ∙ ap (λ z. z ∷ more_segments (behind 47 (from (codes "/") x))) (sym s) ∙ ap (λ z. segment ∷ more_segments (behind 47 z)) (sym b) ∙ ap (λ z. segment ∷ more_segments z) e) ∙ last-cut segment y
+    ap last_of (segments-cut x ∙ ap (λ z. z ∷ more_segments (rest_after 47 (from (codes "/") x))) (sym s) ∙ ap (λ z. segment ∷ more_segments (rest_after 47 z)) (sym b) ∙ ap (λ z. segment ∷ more_segments z) e) ∙ last-cut segment y
 
 from_is_short : (x : List ℕ) → length (from (codes "/") x) ≤ length x
 unfolding from
@@ -202,17 +202,17 @@ from_is_short (c ∷ cs) =
       | false ↦ let h = from_is_short cs in omega arith
     ]
 
-behind_is_shorter : (mark : ℕ) (x y : List ℕ) → behind mark x ≡ Some y → length y < length x
-unfolding behind
-behind_is_shorter mark [] y e = absurd (cc)
-behind_is_shorter mark (c ∷ cs) y e =
+rest_after_is_shorter : (mark : ℕ) (x y : List ℕ) → rest_after mark x ≡ Some y → length y < length x
+unfolding rest_after
+rest_after_is_shorter mark [] y e = absurd (cc)
+rest_after_is_shorter mark (c ∷ cs) y e =
     elim (c == mark) as (λ b. cond b (Some cs) None ≡ Some y → length y < length (c ∷ cs)) [
       | true ↦ λ h. let same : cs ≡ y = cc in omega (arith, ap length same)
       | false ↦ λ h. absurd (cc)
     ] e
 
-pub rest_is_shorter : (x back y : List ℕ) → back ≡ from (codes "/") x → behind 47 back ≡ Some y → length y < length x
-rest_is_shorter x back y b e = omega (arith, behind_is_shorter 47 back y e, from_is_short x, ap length b)
+pub rest_is_shorter : (x back y : List ℕ) → back ≡ from (codes "/") x → rest_after 47 back ≡ Some y → length y < length x
+rest_is_shorter x back y b e = omega (arith, rest_after_is_shorter 47 back y e, from_is_short x, ap length b)
 
 -- a dot segment at the end of a path stands for itself and an empty segment
 pub closed_dots : (o : Bool × List ℕ) (ss : List (List ℕ)) (s : List ℕ) → s ≡ last_of ss → is_dots s ≡ true → fold put o (closed ss) ≡ put (fold put o ss) []
@@ -232,7 +232,7 @@ closed-append xs y =
     ∙ append_assoc xs (segments_of y) (cond (is_dots (last_of (segments_of y))) ([] ∷ []) [])
 
 -- a path after a front and a '/'
-pub dots_behind : (front path : List ℕ) → (fold put (fold put (false, []) (segments_of front)) (closed (segments_of path))).1 ≡ dots ((front ++ codes "/") ++ path)
-dots_behind front path =
+pub dots_after : (front path : List ℕ) → (fold put (fold put (false, []) (segments_of front)) (closed (segments_of path))).1 ≡ dots ((front ++ codes "/") ++ path)
+dots_after front path =
     ap (λ z. z.1) (sym (fold-append put (false, []) (segments_of front) (closed (segments_of path))) ∙ ap (fold put (false, [])) (sym (closed-append (segments_of front) path) ∙ ap closed (sym (segments-append front path))))
     ∙ dots-text (front ++ 47 ∷ path) ∙ ap dots (sym (append_assoc front (codes "/") path))

@@ -2,7 +2,7 @@
 use Rattle.std.proofs.Common.{◌≡◌, ℕ, Bool, true, ◌&&◌, List, [], ◌∷◌, refl}
 use Rattle.std.specs.Prelude.{codes}
 use Rattle.std.specs.Str.{bytes_eq}
-use Rattle.gs_iri.specs.References.{before, from, behind, is_scheme, has_scheme, scheme_of, behind_scheme, behind_slashes, authority_of, behind_authority, path_of, behind_path, query_of, behind_query, fragment_of, parts_of}
+use Rattle.gs_iri.specs.References.{before, from, rest_after, is_scheme, has_scheme, scheme_of, rest_after_scheme, rest_after_slashes, authority_of, rest_after_authority, path_of, rest_after_path, query_of, rest_after_query, fragment_of, parts_of}
 use Rattle.gs_iri.specs.Dots.{segments_of, is_dot, is_dot_dot, is_dots, closed, moved, text_of_segments, output_of, dots}
 use Rattle.gs_iri.specs.Resolving.{scheme_text, marked, parts_text, through_last, directory_of, resolved_parts, resolved}
 
@@ -50,7 +50,7 @@ normal_examples =
     ∷ []
 
 normal : all_give normal_examples ≡ true
-unfolding resolved resolved_parts parts_text scheme_text marked through_last directory_of parts_of fragment_of behind_query query_of behind_path path_of behind_authority authority_of behind_slashes behind_scheme scheme_of has_scheme is_scheme behind from before dots segments_of closed is_dots is_dot is_dot_dot moved output_of text_of_segments
+unfolding resolved resolved_parts parts_text scheme_text marked through_last directory_of parts_of fragment_of rest_after_query query_of rest_after_path path_of rest_after_authority authority_of rest_after_slashes rest_after_scheme scheme_of has_scheme is_scheme rest_after from before dots segments_of closed is_dots is_dot is_dot_dot moved output_of text_of_segments
 normal = refl
 
 abbrev abnormal_examples : List (List ℕ × List ℕ)
@@ -77,5 +77,5 @@ abnormal_examples =
     ∷ []
 
 abnormal : all_give abnormal_examples ≡ true
-unfolding resolved resolved_parts parts_text scheme_text marked through_last directory_of parts_of fragment_of behind_query query_of behind_path path_of behind_authority authority_of behind_slashes behind_scheme scheme_of has_scheme is_scheme behind from before dots segments_of closed is_dots is_dot is_dot_dot moved output_of text_of_segments
+unfolding resolved resolved_parts parts_text scheme_text marked through_last directory_of parts_of fragment_of rest_after_query query_of rest_after_path path_of rest_after_authority authority_of rest_after_slashes rest_after_scheme scheme_of has_scheme is_scheme rest_after from before dots segments_of closed is_dots is_dot is_dot_dot moved output_of text_of_segments
 abnormal = refl

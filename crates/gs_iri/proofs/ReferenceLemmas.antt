@@ -48,8 +48,8 @@ boundary_at_stop stops x n a e within = (
 )
 
 -- a text may be cut after its first byte, where that is ASCII
-pub boundary_behind_first : (x : List ℕ) (v : ℕ) → IsUtf8 x → slice_get x 0 ≡ Some v → v < 128 → IsCharBoundary x 1
-boundary_behind_first [] v u e low = absurd (cc)
-boundary_behind_first (c ∷ cs) v u e low =
+pub boundary_after_first : (x : List ℕ) (v : ℕ) → IsUtf8 x → slice_get x 0 ≡ Some v → v < 128 → IsCharBoundary x 1
+boundary_after_first [] v u e low = absurd (cc)
+boundary_after_first (c ∷ cs) v u e low =
     let same : c ≡ v = cc in
     IsCharBoundary-after_ascii (c ∷ cs) 0 u (omega arith) (omega arith)

@@ -9,8 +9,8 @@ use Rattle.std.proofs.lemmas.Bool.Decides.{nat_tests}
 use Rattle.gs_model.specs.Characters.{is_iri_char}
 use Rattle.gs_model.specs.Iris.{is_absolute, is_letter, is_scheme_char}
 use Rattle.gs_iri.proofs.AbsoluteLemmas.{absolute_forth, absolute_back}
-use Rattle.gs_iri.proofs.CharacterLemmas.{AllIri, iri-behind_colon, iri-resolved_parts}
-use Rattle.gs_iri.specs.References.{Reference, is_one_of, before, from, behind, is_scheme, has_scheme, scheme_of, parts_of}
+use Rattle.gs_iri.proofs.CharacterLemmas.{AllIri, iri-rest_after_colon, iri-resolved_parts}
+use Rattle.gs_iri.specs.References.{Reference, is_one_of, before, from, rest_after, is_scheme, has_scheme, scheme_of, parts_of}
 use Rattle.gs_iri.specs.Resolving.{scheme_text, parts_text, is_empty, resolved_parts, resolved}
 
 -- a scheme that is defined has its form
@@ -21,9 +21,9 @@ FormedScheme (Some s) = is_scheme s ≡ true
 formed : (x : List ℕ) → FormedScheme (scheme_of x)
 unfolding scheme_of has_scheme
 formed x =
-    elim (is_scheme (before (codes ":") x)) as (λ b. is_scheme (before (codes ":") x) ≡ b → FormedScheme (cond (is_some (behind 58 (from (codes ":") x)) && b) (Some (before (codes ":") x)) None)) [
-      | true ↦ λ h. elim (is_some (behind 58 (from (codes ":") x))) as (λ b. FormedScheme (cond (b && true) (Some (before (codes ":") x)) None)) [ true ↦ h | false ↦ tt ]
-      | false ↦ λ h. elim (is_some (behind 58 (from (codes ":") x))) as (λ b. FormedScheme (cond (b && false) (Some (before (codes ":") x)) None)) [ true ↦ tt | false ↦ tt ]
+    elim (is_scheme (before (codes ":") x)) as (λ b. is_scheme (before (codes ":") x) ≡ b → FormedScheme (cond (is_some (rest_after 58 (from (codes ":") x)) && b) (Some (before (codes ":") x)) None)) [
+      | true ↦ λ h. elim (is_some (rest_after 58 (from (codes ":") x))) as (λ b. FormedScheme (cond (b && true) (Some (before (codes ":") x)) None)) [ true ↦ h | false ↦ tt ]
+      | false ↦ λ h. elim (is_some (rest_after 58 (from (codes ":") x))) as (λ b. FormedScheme (cond (b && false) (Some (before (codes ":") x)) None)) [ true ↦ tt | false ↦ tt ]
     ] refl
 
 -- no scheme has a ':'
@@ -53,14 +53,14 @@ letter_goes_on c h = ap (λ b. b || (nat_le 48 c && nat_le c 57) || c == 43 || c
 
 -- an absolute text has a scheme
 base_scheme : (x : List ℕ) → is_absolute x ≡ true → is_some (scheme_of x) ≡ true
-unfolding scheme_of has_scheme is_scheme behind
+unfolding scheme_of has_scheme is_scheme rest_after
 base_scheme x h =
     let a = absolute_forth x h in
     let chars = and_from _ _ (letter_goes_on a.first a.begins) a.goes_on in
     let front = ap (before (codes ":")) a.parts ∙ before_colon (a.first ∷ a.scheme) a.rest chars in
     let back = ap (from (codes ":")) a.parts ∙ from_colon (a.first ∷ a.scheme) a.rest chars in
     let form : is_scheme (before (codes ":") x) ≡ true = ap is_scheme front ∙ and_from _ _ a.begins a.goes_on in
-    let colon : is_some (behind 58 (from (codes ":") x)) ≡ true = ap (λ z. is_some (behind 58 z)) back in
+    let colon : is_some (rest_after 58 (from (codes ":") x)) ≡ true = ap (λ z. is_some (rest_after 58 z)) back in
     ap (λ b. is_some (cond b (Some (before (codes ":") x)) None)) (and_from _ _ colon form)
 
 -- a scheme that is there
@@ -79,7 +79,7 @@ resolved_scheme : (b r : Reference) → is_some b.scheme ≡ true → FormedSche
 unfolding resolved_parts
 resolved_scheme b r d f g =
     scheme-either (is_some r.scheme) _ _ (λ h. (h, g))
-    (scheme-cond (is_some r.authority) _ _ (d, f) (scheme-cond (is_empty r.path) _ _ (d, f) (scheme-cond (is_some (behind 47 r.path)) _ _ (d, f) (d, f))))
+    (scheme-cond (is_some r.authority) _ _ (d, f) (scheme-cond (is_empty r.path) _ _ (d, f) (scheme-cond (is_some (rest_after 47 r.path)) _ _ (d, f) (d, f))))
 
 absolute_text : (s rest : List ℕ) → is_scheme s ≡ true → AllIri rest → is_absolute (s ++ 58 ∷ rest) ≡ true
 unfolding is_scheme
@@ -113,4 +113,4 @@ unfolding resolved parts_text parts_of
 resolved_absolute base reference h a =
     let scheme = resolved_scheme (parts_of base) (parts_of reference) (base_scheme base h) (formed base) (formed reference) in
     absolute_parts (resolved_parts (parts_of base) (parts_of reference)).scheme _ scheme.0 scheme.1
-    (iri-behind_colon (parts_of base) (parts_of reference) (iri-resolved_parts base reference (iri_base base h) a))
+    (iri-rest_after_colon (parts_of base) (parts_of reference) (iri-resolved_parts base reference (iri_base base h) a))

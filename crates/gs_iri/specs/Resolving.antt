@@ -7,7 +7,7 @@ use Rattle.gs_model.specs.Iris.{is_absolute}
 use Rattle.gs_model.specs.declared.refusals.Refusal.{Refusal}
 use Rattle.gs_model.specs.declared.refusals.Refusal.TheVariants.{NoMemory, Syntax}
 use Rattle.gs_model.specs.Punctuation.{slash}
-use Rattle.gs_iri.specs.References.{Reference, behind, parts_of}
+use Rattle.gs_iri.specs.References.{Reference, rest_after, parts_of}
 use Rattle.gs_iri.specs.Dots.{dots}
 use Rattle.gs_iri.specs.Output.{has_slash}
 
@@ -55,7 +55,7 @@ resolved_parts b r =
     if is_some r.scheme then record { scheme = r.scheme; authority = r.authority; path = dots r.path; query = r.query; fragment = r.fragment }
     else if is_some r.authority then record { scheme = b.scheme; authority = r.authority; path = dots r.path; query = r.query; fragment = r.fragment }
     else if is_empty r.path then record { scheme = b.scheme; authority = b.authority; path = b.path; query = option_or r.query b.query; fragment = r.fragment }
-    else if is_some (behind slash r.path) then record { scheme = b.scheme; authority = b.authority; path = dots r.path; query = r.query; fragment = r.fragment }
+    else if is_some (rest_after slash r.path) then record { scheme = b.scheme; authority = b.authority; path = dots r.path; query = r.query; fragment = r.fragment }
     else record { scheme = b.scheme; authority = b.authority; path = dots (directory_of b.authority b.path ++ r.path); query = r.query; fragment = r.fragment }
 
 -- the text of a reference resolved against a base

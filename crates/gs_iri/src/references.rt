@@ -3,7 +3,7 @@ ghost use Rattle.std.specs.Prelude.{◌≡◌, ◌≤◌, ◌<◌, true, IfSome,
 ghost use Rattle.std.specs.Option.{option_copied};
 ghost use Rattle.std.specs.List.{list_all, position_or_len};
 ghost use Rattle.std.specs.Str.{IsUtf8};
-ghost use Rattle.gs_iri.specs.References.{is_one_of, before, from, behind, is_scheme as is_scheme_of, scheme_of, behind_scheme, behind_slashes, authority_of, behind_authority, query_of, behind_query, parts_of};
+ghost use Rattle.gs_iri.specs.References.{is_one_of, before, from, rest_after, is_scheme as is_scheme_of, scheme_of, rest_after_scheme, rest_after_slashes, authority_of, rest_after_authority, query_of, rest_after_query, parts_of};
 
 use crate::absolute::{are_scheme_bytes, is_letter};
 
@@ -40,10 +40,10 @@ pub fn cut<'a>(text: &'a str, stops: &[u8]) -> (&'a str, &'a str)
 }
 
 /// What stands after an ASCII byte, where the text begins with it.
-#[tactic(auto, unfolding(crate::specs::References::behind))]
+#[tactic(auto, unfolding(crate::specs::References::rest_after))]
 pub fn after(text: &str, mark: u8) -> Option<&str>
     requires { mark < 128 }
-    ensures value { option_copied result ≡ behind mark text.now }
+    ensures value { option_copied result ≡ rest_after mark text.now }
     ensures text { IfSome result (λ rest. IsUtf8 rest.now) }
 {
     match text.as_bytes().first() {
@@ -62,10 +62,10 @@ fn is_scheme(bytes: &[u8]) -> bool
     }
 }
 
-#[tactic(auto, unfolding(crate::specs::References::scheme_of, crate::specs::References::behind_scheme, crate::specs::References::has_scheme))]
+#[tactic(auto, unfolding(crate::specs::References::scheme_of, crate::specs::References::rest_after_scheme, crate::specs::References::has_scheme))]
 fn cut_scheme(text: &str) -> (Option<&str>, &str)
     ensures front { option_copied result.0 ≡ scheme_of text.now }
-    ensures back { result.1.now ≡ behind_scheme text.now }
+    ensures back { result.1.now ≡ rest_after_scheme text.now }
 {
     let (front, back) = cut(text, b":");
     match after(back, b':') {
@@ -74,9 +74,9 @@ fn cut_scheme(text: &str) -> (Option<&str>, &str)
     }
 }
 
-#[tactic(auto, unfolding(crate::specs::References::behind_slashes))]
+#[tactic(auto, unfolding(crate::specs::References::rest_after_slashes))]
 fn after_slashes(text: &str) -> Option<&str>
-    ensures { option_copied result ≡ behind_slashes text.now }
+    ensures { option_copied result ≡ rest_after_slashes text.now }
 {
     match after(text, b'/') {
         None => None,
@@ -84,10 +84,10 @@ fn after_slashes(text: &str) -> Option<&str>
     }
 }
 
-#[tactic(auto, unfolding(crate::specs::References::authority_of, crate::specs::References::behind_authority))]
+#[tactic(auto, unfolding(crate::specs::References::authority_of, crate::specs::References::rest_after_authority))]
 fn cut_authority(text: &str) -> (Option<&str>, &str)
     ensures front { option_copied result.0 ≡ authority_of text.now }
-    ensures back { result.1.now ≡ behind_authority text.now }
+    ensures back { result.1.now ≡ rest_after_authority text.now }
 {
     match after_slashes(text) {
         None => (None, text),
@@ -98,10 +98,10 @@ fn cut_authority(text: &str) -> (Option<&str>, &str)
     }
 }
 
-#[tactic(auto, unfolding(crate::specs::References::query_of, crate::specs::References::behind_query))]
+#[tactic(auto, unfolding(crate::specs::References::query_of, crate::specs::References::rest_after_query))]
 fn cut_query(text: &str) -> (Option<&str>, &str)
     ensures front { option_copied result.0 ≡ query_of text.now }
-    ensures back { result.1.now ≡ behind_query text.now }
+    ensures back { result.1.now ≡ rest_after_query text.now }
 {
     match after(text, b'?') {
         None => (None, text),
@@ -113,7 +113,7 @@ fn cut_query(text: &str) -> (Option<&str>, &str)
 }
 
 /// Cuts a reference into its parts. Linear in the bytes of the reference.
-#[tactic(auto, unfolding(crate::specs::References::parts_of, crate::specs::References::path_of, crate::specs::References::behind_path, crate::specs::References::fragment_of))]
+#[tactic(auto, unfolding(crate::specs::References::parts_of, crate::specs::References::path_of, crate::specs::References::rest_after_path, crate::specs::References::fragment_of))]
 pub fn cut_parts(text: &str) -> Parts<'_>
     ensures scheme { option_copied result.scheme ≡ (parts_of text.now).scheme }
     ensures authority { option_copied result.authority ≡ (parts_of text.now).authority }

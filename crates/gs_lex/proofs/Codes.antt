@@ -1,4 +1,4 @@
--- Numbers tell sets of characters apart, and terminals.
+-- Numbers keep sets of characters apart, and terminals.
 use Rattle.std.proofs.Common.{◌≡◌, ℕ, true, refl, sym, ap, ◌∙◌}
 use Rattle.std.proofs.lemmas.Bool.{eqb-true}
 use Rattle.std.specs.Prelude.{◌==◌, if◌then◌else◌}

@@ -44,16 +44,16 @@ quiet (Within n v low high) b =
 quiet Lost b = silent Lost
 
 -- what is reported of a text that leads to a state
-told_at : (x y : List ℕ) (s : Decoding) (os : List ℕ) → steps utf8 Ready x ≡ (s, os) → Spells (x ++ y) (os ++ (rest utf8 s y).0)
-told_at x y s os e =
+spelled_at : (x y : List ℕ) (s : Decoding) (os : List ℕ) → steps utf8 Ready x ≡ (s, os) → Spells (x ++ y) (os ++ (rest utf8 s y).0)
+spelled_at x y s os e =
     subst (Spells (x ++ y)) (ap (λ r. r.0) (rest-append utf8 Ready x y) ∙ ap (λ t. t.1 ++ (rest utf8 t.0 y).0) e) (walk Ready [] (x ++ y) ready)
 
 ended : (s : Decoding) → (rest utf8 s []).0 ≡ decode_end s
 unfolding rest
 ended s = refl
 
-told_of : (x : List ℕ) (s : Decoding) (os : List ℕ) → steps utf8 Ready x ≡ (s, os) → Spells x (os ++ decode_end s)
-told_of x s os e = subst (λ z. Spells z (os ++ decode_end s)) (append-nil x) (subst (λ z. Spells (x ++ []) (os ++ z)) (ended s) (told_at x [] s os e))
+spelled_of : (x : List ℕ) (s : Decoding) (os : List ℕ) → steps utf8 Ready x ≡ (s, os) → Spells x (os ++ decode_end s)
+spelled_of x s os e = subst (λ z. Spells z (os ++ decode_end s)) (append-nil x) (subst (λ z. Spells (x ++ []) (os ++ z)) (ended s) (spelled_at x [] s os e))
 
 only_one : (x : List ℕ) (c : ℕ) → Spells x (c ∷ []) → IsScalar c → c ≢ bad → x ≡ encode_utf8 c
 only_one x _ (char c o _ s e nothing) k n = e ∙ append-nil (encode_utf8 c)
@@ -73,7 +73,7 @@ front-character x n s d b c e l i g k =
     record {
       scalar = k;
       within = omega arith;
-      spelled = only_one (take (n + 1) x) c (subst (λ z. Spells (take (n + 1) x) (c ∷ z)) q (told_of (take (n + 1) x) d (c ∷ []) t)) k (no_scalar c k);
+      spelled = only_one (take (n + 1) x) c (subst (λ z. Spells (take (n + 1) x) (c ∷ z)) q (spelled_of (take (n + 1) x) d (c ∷ []) t)) k (no_scalar c k);
     }
 
 no_front : (x : List ℕ) (c : ℕ) (cs : List ℕ) → Spells x (c ∷ cs) → (IsScalar c → ⊥) → StartsWithNoChar x
@@ -88,7 +88,7 @@ front-bad x n s d b c e l i g k y =
     steps-snoc utf8 Ready x n 0 l ∙ ap (λ z. ((decode_step z.0 (get_or x n 0)).0, z.1 ++ (decode_step z.0 (get_or x n 0)).1)) e
     ∙ ap (λ z. ((decode_step s z).0, (decode_step s z).1)) (sym i) ∙ sym g in
     subst StartsWithNoChar (sym (append_assoc (take (n + 1) x) (drop (n + 1) x) y) ∙ ap (λ z. z ++ y) (take-append-drop (n + 1) x))
-    (no_front (take (n + 1) x ++ (drop (n + 1) x ++ y)) c _ (told_at (take (n + 1) x) (drop (n + 1) x ++ y) d (c ∷ []) t) k)
+    (no_front (take (n + 1) x ++ (drop (n + 1) x ++ y)) c _ (spelled_at (take (n + 1) x) (drop (n + 1) x ++ y) d (c ∷ []) t) k)
 
 -- the bytes for which a decoder stands are the first of a character
 short_of : (s : Decoding) (x : List ℕ) → Stands s x → IsShort x

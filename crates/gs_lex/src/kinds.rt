@@ -53,7 +53,7 @@ pub enum TokenKind {
     With,
 }
 
-/// What the characters alone tell of a token: its production, a word, or three quotes that open a
+/// What the characters alone say of a token: its production, a word, or three quotes that open a
 /// string.
 #[derive(Clone, Copy, Debug, PartialEq, Eq)]
 pub enum Terminal {

@@ -13,8 +13,8 @@ pub fn text_has_one_term()
     ensures distinct { (t u : Term) → text_of t ≡ text_of u → t ≡ u }
 {}
 
-/// The first byte of a text tells the kind of its term.
-pub fn first_byte_tells_the_kind()
+/// The first byte of a text gives the kind of its term.
+pub fn first_byte_gives_the_kind()
     ensures { (t : Term) → slice_get (text_of t) 0 ≡ Some (kind_byte t) }
 {}
 

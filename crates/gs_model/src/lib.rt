@@ -8,7 +8,7 @@ mod refusals;
 
 pub use faults::Fault;
 pub use laws::{
-    first_byte_tells_the_kind, graph_has_one_list, line_has_one_triple, text_has_no_line_feed,
+    first_byte_gives_the_kind, graph_has_one_list, line_has_one_triple, text_has_no_line_feed,
     text_has_one_term,
 };
 pub use limits::{

@@ -16,9 +16,9 @@ use Rattle.gs_ntterm.specs.LineTerms.{LineTerm}
 use Rattle.gs_ntterm.specs.Terminals.{Plain, Escape, Digits}
 use Rattle.gs_ntterm.specs.Tokens.{Held, plain_held, tagged_held}
 use Rattle.gs_ntterm.proofs.Branches.{either_way}
-use Rattle.gs_ntread.specs.States.{LineState, LineTurn, Stage, AtSubject, AtPredicate, AtObject, AtSuffix, AtDatatype, AtDot, AtEnd, TokenMode, Between, Comment, InIri, InString, Underscore, Colon, InLabel, InDots, Caret, AtSign, InTag, Hyphen, Broken, broken, no_triple}
+use Rattle.gs_ntread.specs.States.{LineState, LineTransition, Stage, AtSubject, AtPredicate, AtObject, AtSuffix, AtDatatype, AtDot, AtEnd, TokenMode, Between, Comment, InIri, InString, Underscore, Colon, InLabel, InDots, Caret, AtSign, InTag, Hyphen, Broken, broken, no_triple}
 use Rattle.gs_ntread.specs.Lines.{end_state, after_literal}
-use Rattle.gs_ntread.specs.Turns.{turn, tag_turn}
+use Rattle.gs_ntread.specs.Transitions.{transition, tag_transition}
 use Rattle.gs_ntread.specs.Reader.{keeping, placing, ntriples, Led, nothing_read}
 use Rattle.gs_ntread.specs.Readers.{IsStopped, Sound}
 
@@ -26,58 +26,58 @@ bad_literal : (s : LineTerm) (p : Term) (r : Result Term Fault) (n : ℕ) → Is
 bad_literal s p (Ok t) n = tt
 bad_literal s p (Err e) n = tt
 
-bad_tag : (s : LineTerm) (p : Term) (l h : Held) (d : Bool) (n : ℕ) → IsStopped (turn (AtSuffix s p l) (InTag d h) bad n).0
+bad_tag : (s : LineTerm) (p : Term) (l h : Held) (d : Bool) (n : ℕ) → IsStopped (transition (AtSuffix s p l) (InTag d h) bad n).0
 bad_tag s p l h true n = bad_literal s p (tagged_held l h) n
 bad_tag s p l h false n = bad_literal s p (tagged_held l h) n
 
-bad_part : (g : Stage) (h : Held) (d : Bool) (n : ℕ) → (tag_turn g h bad n ≡ no_triple (broken Syntax)) → IsStopped (turn g (InTag d h) bad n).0
-bad_part g h true n e = subst (λ (t : LineTurn). IsStopped t.0) (sym e) tt
-bad_part g h false n e = subst (λ (t : LineTurn). IsStopped t.0) (sym e) tt
+bad_part : (g : Stage) (h : Held) (d : Bool) (n : ℕ) → (tag_transition g h bad n ≡ no_triple (broken Syntax)) → IsStopped (transition g (InTag d h) bad n).0
+bad_part g h true n e = subst (λ (t : LineTransition). IsStopped t.0) (sym e) tt
+bad_part g h false n e = subst (λ (t : LineTransition). IsStopped t.0) (sym e) tt
 
 -- the mark of ill-formed bytes breaks each state
-pub turn_bad : (g : Stage) (m : TokenMode) (n : ℕ) → IsStopped (turn g m bad n).0
+pub transition_bad : (g : Stage) (m : TokenMode) (n : ℕ) → IsStopped (transition g m bad n).0
 unfolding echar_meaning
-turn_bad AtSubject Between n = tt
-turn_bad (AtPredicate s) Between n = tt
-turn_bad (AtObject s p) Between n = tt
-turn_bad (AtSuffix s p l) Between n = bad_literal s p (plain_held l) n
-turn_bad (AtDatatype s p l) Between n = tt
-turn_bad (AtDot s p o) Between n = tt
-turn_bad AtEnd Between n = tt
-turn_bad g Comment n = tt
-turn_bad g (InIri Plain h) n = tt
-turn_bad g (InIri Escape h) n = tt
-turn_bad g (InIri (Digits l v) h) n = tt
-turn_bad g (InString Plain h) n = tt
-turn_bad g (InString Escape h) n = tt
-turn_bad g (InString (Digits l v) h) n = tt
-turn_bad g Underscore n = tt
-turn_bad g Colon n = tt
-turn_bad AtSubject (InLabel h) n = tt
-turn_bad (AtPredicate s) (InLabel h) n = tt
-turn_bad (AtObject s p) (InLabel h) n = tt
-turn_bad (AtSuffix s p l) (InLabel h) n = tt
-turn_bad (AtDatatype s p l) (InLabel h) n = tt
-turn_bad (AtDot s p o) (InLabel h) n = tt
-turn_bad AtEnd (InLabel h) n = tt
-turn_bad AtSubject (InDots h f k) n = tt
-turn_bad (AtPredicate s) (InDots h f k) n = tt
-turn_bad (AtObject s p) (InDots h f k) n = either_way IsStopped (k == 0) (end_state bad) (broken Syntax) tt tt
-turn_bad (AtSuffix s p l) (InDots h f k) n = tt
-turn_bad (AtDatatype s p l) (InDots h f k) n = tt
-turn_bad (AtDot s p o) (InDots h f k) n = tt
-turn_bad AtEnd (InDots h f k) n = tt
-turn_bad g Caret n = tt
-turn_bad g AtSign n = tt
-turn_bad AtSubject (InTag d h) n = bad_part AtSubject h d n refl
-turn_bad (AtPredicate s) (InTag d h) n = bad_part (AtPredicate s) h d n refl
-turn_bad (AtObject s p) (InTag d h) n = bad_part (AtObject s p) h d n refl
-turn_bad (AtSuffix s p l) (InTag d h) n = bad_tag s p l h d n
-turn_bad (AtDatatype s p l) (InTag d h) n = bad_part (AtDatatype s p l) h d n refl
-turn_bad (AtDot s p o) (InTag d h) n = bad_part (AtDot s p o) h d n refl
-turn_bad AtEnd (InTag d h) n = bad_part AtEnd h d n refl
-turn_bad g (Hyphen h) n = tt
-turn_bad g (Broken e) n = tt
+transition_bad AtSubject Between n = tt
+transition_bad (AtPredicate s) Between n = tt
+transition_bad (AtObject s p) Between n = tt
+transition_bad (AtSuffix s p l) Between n = bad_literal s p (plain_held l) n
+transition_bad (AtDatatype s p l) Between n = tt
+transition_bad (AtDot s p o) Between n = tt
+transition_bad AtEnd Between n = tt
+transition_bad g Comment n = tt
+transition_bad g (InIri Plain h) n = tt
+transition_bad g (InIri Escape h) n = tt
+transition_bad g (InIri (Digits l v) h) n = tt
+transition_bad g (InString Plain h) n = tt
+transition_bad g (InString Escape h) n = tt
+transition_bad g (InString (Digits l v) h) n = tt
+transition_bad g Underscore n = tt
+transition_bad g Colon n = tt
+transition_bad AtSubject (InLabel h) n = tt
+transition_bad (AtPredicate s) (InLabel h) n = tt
+transition_bad (AtObject s p) (InLabel h) n = tt
+transition_bad (AtSuffix s p l) (InLabel h) n = tt
+transition_bad (AtDatatype s p l) (InLabel h) n = tt
+transition_bad (AtDot s p o) (InLabel h) n = tt
+transition_bad AtEnd (InLabel h) n = tt
+transition_bad AtSubject (InDots h f k) n = tt
+transition_bad (AtPredicate s) (InDots h f k) n = tt
+transition_bad (AtObject s p) (InDots h f k) n = either_way IsStopped (k == 0) (end_state bad) (broken Syntax) tt tt
+transition_bad (AtSuffix s p l) (InDots h f k) n = tt
+transition_bad (AtDatatype s p l) (InDots h f k) n = tt
+transition_bad (AtDot s p o) (InDots h f k) n = tt
+transition_bad AtEnd (InDots h f k) n = tt
+transition_bad g Caret n = tt
+transition_bad g AtSign n = tt
+transition_bad AtSubject (InTag d h) n = bad_part AtSubject h d n refl
+transition_bad (AtPredicate s) (InTag d h) n = bad_part (AtPredicate s) h d n refl
+transition_bad (AtObject s p) (InTag d h) n = bad_part (AtObject s p) h d n refl
+transition_bad (AtSuffix s p l) (InTag d h) n = bad_tag s p l h d n
+transition_bad (AtDatatype s p l) (InTag d h) n = bad_part (AtDatatype s p l) h d n refl
+transition_bad (AtDot s p o) (InTag d h) n = bad_part (AtDot s p o) h d n refl
+transition_bad AtEnd (InTag d h) n = bad_part AtEnd h d n refl
+transition_bad g (Hyphen h) n = tt
+transition_bad g (Broken e) n = tt
 
 -- a decoder that gets lost marks it
 abbrev Marks : Decoding × List ℕ → Type 0
@@ -115,7 +115,7 @@ after_all r p os = (steps (placing r) p os).0.1.0
 
 after_bad : (r : ℕ) (p : ℕ × (LineState × Numbers)) → IsStopped (after_all r p (bad ∷ []))
 unfolding steps composed keeping
-after_bad r p = turn_bad p.1.0.0 p.1.0.1 (char_end p.0 bad)
+after_bad r p = transition_bad p.1.0.0 p.1.0.1 (char_end p.0 bad)
 
 lost_at : (r : ℕ) (p : ℕ × (LineState × Numbers)) (t : Decoding × List ℕ) → Marks t → t.0 ≡ Lost → IsStopped (after_all r p t.1)
 lost_at r p t m e = subst (λ (os : List ℕ). IsStopped (after_all r p os)) (sym (m e)) (after_bad r p)

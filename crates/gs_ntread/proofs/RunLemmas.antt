@@ -22,7 +22,7 @@ use Rattle.gs_ntterm.specs.Runs.{runs_in_iri, runs_in_string, runs_in_label, run
 use Rattle.gs_ntterm.proofs.RunLemmas.{low_iri, low_string, low_label, low_comment, low_space}
 use Rattle.gs_ntread.specs.States.{LineState, Stage, AtSubject, AtPredicate, AtObject, AtSuffix, AtDatatype, AtDot, AtEnd, Between, Comment, InIri, InString, InLabel, InDots, no_triple, broken}
 use Rattle.gs_ntread.specs.Lines.{iri_closed, string_closed}
-use Rattle.gs_ntread.specs.Turns.{turn, label_turn}
+use Rattle.gs_ntread.specs.Transitions.{transition, label_transition}
 use Rattle.gs_ntread.specs.Reader.{Led, ntriples}
 use Rattle.gs_ntread.specs.Runs.{RunsTo, stays, goes}
 use Rattle.gs_ntread.proofs.Whole.{Placed, byte-some, character-none}
@@ -40,7 +40,7 @@ scalar_ascii b h = grind (arith, nat_tests)
 
 -- bytes of a class, each of which goes on with a token
 runs_on : (p : ℕ → Bool) (q : Held → LineState) → ((b : ℕ) → p b ≡ true → b < 128)
-    → ((h : Held) (b n : ℕ) → p b ≡ true → turn (q h).0 (q h).1 b n ≡ no_triple (q (add h (b ∷ []))))
+    → ((h : Held) (b n : ℕ) → p b ≡ true → transition (q h).0 (q h).1 b n ≡ no_triple (q (add h (b ∷ []))))
     → (h : Held) (xs : List ℕ) → list_all p xs ≡ true → RunsTo (q h) xs (q (add_each h xs))
 runs_on p q low on h [] e = stays (q h)
 runs_on p q low on h (b ∷ bs) e =
@@ -50,14 +50,14 @@ runs_on p q low on h (b ∷ bs) e =
 
 -- the same where nothing changes
 runs_still : (p : ℕ → Bool) (q : LineState) → ((b : ℕ) → p b ≡ true → b < 128)
-    → ((b n : ℕ) → p b ≡ true → turn q.0 q.1 b n ≡ no_triple q)
+    → ((b n : ℕ) → p b ≡ true → transition q.0 q.1 b n ≡ no_triple q)
     → (xs : List ℕ) → list_all p xs ≡ true → RunsTo q xs q
 runs_still p q low on [] e = stays q
 runs_still p q low on (b ∷ bs) e =
     let k : p b ≡ true = (and_parts (p b) (list_all p bs) e).0 in
     goes q q q b bs (low b k) (λ n. on b n k) (runs_still p q low on bs (and_parts (p b) (list_all p bs) e).1)
 
-iri_goes : (g : Stage) (h : Held) (b n : ℕ) → runs_in_iri b ≡ true → turn g (InIri Plain h) b n ≡ no_triple (g, InIri Plain (add h (b ∷ [])))
+iri_goes : (g : Stage) (h : Held) (b n : ℕ) → runs_in_iri b ≡ true → transition g (InIri Plain h) b n ≡ no_triple (g, InIri Plain (add h (b ∷ [])))
 iri_goes g h b n k =
     let l : b < 128 = low_iri b k in
     let e62 : (b == 62) ≡ false = apart runs_in_iri b 62 k refl in
@@ -71,7 +71,7 @@ iri_goes g h b n k =
 pub iri_runs : (g : Stage) (h : Held) (xs : List ℕ) → list_all runs_in_iri xs ≡ true → RunsTo (g, InIri Plain h) xs (g, InIri Plain (add_each h xs))
 iri_runs g = runs_on runs_in_iri (λ h. (g, InIri Plain h)) low_iri (iri_goes g)
 
-string_goes : (g : Stage) (h : Held) (b n : ℕ) → runs_in_string b ≡ true → turn g (InString Plain h) b n ≡ no_triple (g, InString Plain (add h (b ∷ [])))
+string_goes : (g : Stage) (h : Held) (b n : ℕ) → runs_in_string b ≡ true → transition g (InString Plain h) b n ≡ no_triple (g, InString Plain (add h (b ∷ [])))
 string_goes g h b n k =
     let l : b < 128 = low_string b k in
     let e34 : (b == 34) ≡ false = apart runs_in_string b 34 k refl in
@@ -85,11 +85,11 @@ string_goes g h b n k =
 pub string_runs : (g : Stage) (h : Held) (xs : List ℕ) → list_all runs_in_string xs ≡ true → RunsTo (g, InString Plain h) xs (g, InString Plain (add_each h xs))
 string_runs g = runs_on runs_in_string (λ h. (g, InString Plain h)) low_string (string_goes g)
 
-label_goes : (g : Stage) (t : List ℕ) (b n : ℕ) → runs_in_label b ≡ true → turn g (InLabel t) b n ≡ no_triple (g, InLabel (t ++ b ∷ []))
+label_goes : (g : Stage) (t : List ℕ) (b n : ℕ) → runs_in_label b ≡ true → transition g (InLabel t) b n ≡ no_triple (g, InLabel (t ++ b ∷ []))
 label_goes g t b n k =
     let l : b < 128 = low_label b k in
     let m : is_label_char b ≡ true = and_from (in_ranges pn_chars b || b == colon) (is_character b) (and_parts (is_ascii b) (in_ranges pn_chars b || b == colon) k).1 (scalar_ascii b l) in
-    ap (λ v. cond v (no_triple (g, InLabel (t ++ encode_utf8 b))) (cond (b == 46) (no_triple (g, InDots t n 0)) (label_turn g t b n))) m
+    ap (λ v. cond v (no_triple (g, InLabel (t ++ encode_utf8 b))) (cond (b == 46) (no_triple (g, InDots t n 0)) (label_transition g t b n))) m
     ∙ ap (λ x. no_triple (g, InLabel (t ++ x))) (one b l)
 
 pub label_runs : (g : Stage) (t xs : List ℕ) → list_all runs_in_label xs ≡ true → RunsTo (g, InLabel t) xs (g, InLabel (t ++ xs))
@@ -104,7 +104,7 @@ is_not : (a : Bool) → not a ≡ true → a ≡ false
 is_not true h = Prim.cc
 is_not false h = refl
 
-comment_goes : (b n : ℕ) → runs_in_comment b ≡ true → turn AtSubject Comment b n ≡ no_triple (AtSubject, Comment)
+comment_goes : (b n : ℕ) → runs_in_comment b ≡ true → transition AtSubject Comment b n ≡ no_triple (AtSubject, Comment)
 comment_goes b n k =
     let e : is_line_end b ≡ false = is_not (is_line_end b) (and_parts (is_ascii b) (not (is_line_end b)) k).1 in
     let m : may_stand_in_comment b ≡ true = scalar_ascii b (low_comment b k) in
@@ -118,7 +118,7 @@ at_true : {A : Type 0} (v : Bool) (x y : A) → v ≡ true → cond v x y ≡ x
 at_true true x y e = refl
 at_true false x y e = absurd (Prim.cc)
 
-space_goes : (g : Stage) (b n : ℕ) → is_space b ≡ true → turn g Between b n ≡ no_triple (g, Between)
+space_goes : (g : Stage) (b n : ℕ) → is_space b ≡ true → transition g Between b n ≡ no_triple (g, Between)
 space_goes AtSubject b n k = at_true (is_space b) _ _ k
 space_goes (AtPredicate s) b n k = at_true (is_space b) _ _ k
 space_goes (AtObject s p) b n k = at_true (is_space b) _ _ k
@@ -135,7 +135,7 @@ pub at_ascii : (b : ℕ) → b < 128 → (Ready, b ∷ []) ≡ decode_step Ready
 at_ascii b l = let k : nat_lt b 128 ≡ true = grind (arith, nat_tests) in sym (at_true (is_ascii b) (Ready, b ∷ []) _ k)
 
 -- one character of ASCII between two others
-byte_goes : (r n : ℕ) (q q' : LineState) (m : Numbers) (b : ℕ) → b < 128 → turn q.0 q.1 b (char_end n b) ≡ no_triple q'
+byte_goes : (r n : ℕ) (q q' : LineState) (m : Numbers) (b : ℕ) → b < 128 → transition q.0 q.1 b (char_end n b) ≡ no_triple q'
     → (ntriples r).step (Ready, (n, (q, m))) b ≡ ((Ready, (char_end n b, (q', m))), [])
 byte_goes r n q q' m b l e =
     byte-some r Ready Ready (n, (q, m)) b b (at_ascii b l)

@@ -16,9 +16,9 @@ use Rattle.gs_ntterm.proofs.Branches.{two_ways, by_test, by_test_knowing, one_wa
 use Rattle.gs_ntread.specs.Documents.{Meant}
 use Rattle.gs_ntread.specs.States.{Stage, AtSubject, AtPredicate, AtObject, AtSuffix, AtDatatype, AtDot, AtEnd, Between, Underscore, Colon, InLabel, InDots, LineState, broken, sentence}
 use Rattle.gs_ntread.specs.Lines.{end_state}
-use Rattle.gs_ntread.specs.Turns.{label_turn, dotted_turn, turn}
+use Rattle.gs_ntread.specs.Transitions.{label_transition, dotted_transition, transition}
 use Rattle.gs_ntread.specs.Machine.{dots_end, end_of_text}
-use Rattle.gs_ntread.proofs.WalkTokens.{told, follow, Stops, at_nothing, at_feed, at_return, walk_broken, after}
+use Rattle.gs_ntread.proofs.WalkTokens.{reported, follow, Stops, at_nothing, at_feed, at_return, walk_broken, after}
 
 -- where a label leads
 abbrev pub label_closed : Stage → List ℕ → LineState
@@ -31,7 +31,7 @@ label_closed (AtDot s p o) t = broken Syntax
 label_closed AtEnd t = broken Syntax
 
 -- the character after a label
-pub closed_step : (g : Stage) (t : List ℕ) (c n : ℕ) → label_turn g t c n ≡ turn (label_closed g t).0 (label_closed g t).1 c n
+pub closed_step : (g : Stage) (t : List ℕ) (c n : ℕ) → label_transition g t c n ≡ transition (label_closed g t).0 (label_closed g t).1 c n
 closed_step AtSubject t c n = refl
 closed_step (AtObject s p) t c n = refl
 closed_step (AtPredicate s) t c n = refl
@@ -61,12 +61,12 @@ dots_more (many k0 es) k = many k0 (es ++ (46, k) ∷ [])
 
 -- a character after dots that are not the label's
 dotted_step : (g : Stage) (t : List ℕ) (n more c k : ℕ) (x ds : List Mark) → Dots more ds
-    → follow (dotted_turn g t n more c) x ≡ told (label_closed g t) ((46, n) ∷ (ds ++ (c, k) ∷ x))
+    → follow (dotted_transition g t n more c) x ≡ reported (label_closed g t) ((46, n) ∷ (ds ++ (c, k) ∷ x))
 unfolding rest
 dotted_step AtSubject t n more c k x ds d = walk_broken Syntax x ∙ sym (walk_broken Syntax (ds ++ (c, k) ∷ x))
 dotted_step (AtObject s p) t n more c k x ds d = ap (joined (sentence s p (Labelled t) n ∷ [])) (after_all more ds d)
   where
-    after_all : (more : ℕ) (ds : List Mark) → Dots more ds → told (cond (more == 0) (end_state c) (broken Syntax)) x ≡ told (AtEnd, Between) (ds ++ (c, k) ∷ x)
+    after_all : (more : ℕ) (ds : List Mark) → Dots more ds → reported (cond (more == 0) (end_state c) (broken Syntax)) x ≡ reported (AtEnd, Between) (ds ++ (c, k) ∷ x)
     after_all _ _ one = refl
     after_all _ _ (many {j} k0 es) = let e : (suc j == 0) ≡ false = grind (arith, nat_tests) in
         rw e (walk_broken Syntax x ∙ sym (walk_broken Syntax (es ++ (c, k) ∷ x)))
@@ -77,12 +77,12 @@ dotted_step (AtDot s p o) t n more c k x ds d = walk_broken Syntax x ∙ sym (wa
 dotted_step AtEnd t n more c k x ds d = walk_broken Syntax x ∙ sym (walk_broken Syntax (ds ++ (c, k) ∷ x))
 
 -- the text ends after such dots
-dotted_ended : (g : Stage) (t : List ℕ) (n more : ℕ) (ds : List Mark) → Dots more ds → dots_end g t n more ≡ told (label_closed g t) ((46, n) ∷ (ds ++ []))
+dotted_ended : (g : Stage) (t : List ℕ) (n more : ℕ) (ds : List Mark) → Dots more ds → dots_end g t n more ≡ reported (label_closed g t) ((46, n) ∷ (ds ++ []))
 unfolding rest
 dotted_ended AtSubject t n more ds d = sym (walk_broken Syntax (ds ++ []))
 dotted_ended (AtObject s p) t n more ds d = ap (joined (sentence s p (Labelled t) n ∷ [])) (after_all more ds d)
   where
-    after_all : (more : ℕ) (ds : List Mark) → Dots more ds → ([], cond (more == 0) Whole (Faulty Syntax)) ≡ told (AtEnd, Between) (ds ++ [])
+    after_all : (more : ℕ) (ds : List Mark) → Dots more ds → ([], cond (more == 0) Whole (Faulty Syntax)) ≡ reported (AtEnd, Between) (ds ++ [])
     after_all _ _ one = refl
     after_all _ _ (many {j} k0 es) = let e : (suc j == 0) ≡ false = grind (arith, nat_tests) in
         rw e (sym (walk_broken Syntax (es ++ [])))
@@ -94,12 +94,12 @@ dotted_ended AtEnd t n more ds d = sym (walk_broken Syntax (ds ++ []))
 
 -- after a label
 abbrev pub after_label : Stage → List Mark → List ℕ → List ℕ × List Mark → Meant
-after_label g tail t u = told (label_closed g (t ++ u.0)) (u.1 ++ tail)
+after_label g tail t u = reported (label_closed g (t ++ u.0)) (u.1 ++ tail)
 
 -- after dots: they belong to the label, or the label ends before them
 abbrev pub after_dotted : Stage → List Mark → List ℕ → List ℕ → ℕ → List Mark → List ℕ × List Mark → List Mark → Bool → Meant
 after_dotted g tail t w n ds u x true = after_label g tail w u
-after_dotted g tail t w n ds u x false = told (label_closed g t) ((46, n) ∷ (ds ++ x))
+after_dotted g tail t w n ds u x false = reported (label_closed g t) ((46, n) ∷ (ds ++ x))
 
 abbrev pub label_more : Mark → List Mark → List ℕ × List Mark
 label_more m ms = (encode_utf8 m.0 ++ (label_after ms).0, (label_after ms).1)
@@ -107,51 +107,51 @@ label_more m ms = (encode_utf8 m.0 ++ (label_after ms).0, (label_after ms).1)
 first_dot : (g : Stage) (tail : List Mark) (t : List ℕ) (m : Mark) (ms : List Mark) → m.0 ≡ 46 → (v : Bool)
     → after_dotted g tail t (t ++ encode_utf8 46) m.1 [] (label_after ms) (ms ++ tail) v ≡ after_label g tail t (cond v (label_more m ms) ([], m ∷ ms))
 first_dot g tail t m ms e true =
-    ap (λ z. told (label_closed g z) ((label_after ms).1 ++ tail)) (append_assoc t (encode_utf8 46) (label_after ms).0 ∙ ap (λ (c : ℕ). t ++ (encode_utf8 c ++ (label_after ms).0)) (sym e))
+    ap (λ z. reported (label_closed g z) ((label_after ms).1 ++ tail)) (append_assoc t (encode_utf8 46) (label_after ms).0 ∙ ap (λ (c : ℕ). t ++ (encode_utf8 c ++ (label_after ms).0)) (sym e))
 first_dot g tail t m ms e false =
-    ap (λ (c : ℕ). told (label_closed g t) ((c, m.1) ∷ (ms ++ tail))) (sym e) ∙ ap (λ z. told (label_closed g z) (m ∷ (ms ++ tail))) (sym (append-nil t))
+    ap (λ (c : ℕ). reported (label_closed g t) ((c, m.1) ∷ (ms ++ tail))) (sym e) ∙ ap (λ z. reported (label_closed g z) (m ∷ (ms ++ tail))) (sym (append-nil t))
 
 one_dot : (g : Stage) (tail : List Mark) (t w : List ℕ) (n : ℕ) (ds : List Mark) (m : Mark) (ms : List Mark) → m.0 ≡ 46 → (v : Bool)
     → after_dotted g tail t (w ++ encode_utf8 46) n (ds ++ (46, m.1) ∷ []) (label_after ms) (ms ++ tail) v ≡ after_dotted g tail t w n ds (cond v (label_more m ms) ([], m ∷ ms)) (m ∷ (ms ++ tail)) v
 one_dot g tail t w n ds m ms e true =
-    ap (λ z. told (label_closed g z) ((label_after ms).1 ++ tail)) (append_assoc w (encode_utf8 46) (label_after ms).0 ∙ ap (λ (c : ℕ). w ++ (encode_utf8 c ++ (label_after ms).0)) (sym e))
+    ap (λ z. reported (label_closed g z) ((label_after ms).1 ++ tail)) (append_assoc w (encode_utf8 46) (label_after ms).0 ∙ ap (λ (c : ℕ). w ++ (encode_utf8 c ++ (label_after ms).0)) (sym e))
 one_dot g tail t w n ds m ms e false =
-    ap (λ z. told (label_closed g t) ((46, n) ∷ z)) (append_assoc ds ((46, m.1) ∷ []) (ms ++ tail) ∙ ap (λ (c : ℕ). ds ++ (c, m.1) ∷ (ms ++ tail)) (sym e))
+    ap (λ z. reported (label_closed g t) ((46, n) ∷ z)) (append_assoc ds ((46, m.1) ∷ []) (ms ++ tail) ∙ ap (λ (c : ℕ). ds ++ (c, m.1) ∷ (ms ++ tail)) (sym e))
 
 pub walk_label : (g : Stage) (line tail : List Mark) → Stops tail
-    → ((t : List ℕ) → told (g, InLabel t) (line ++ tail) ≡ after_label g tail t (label_after line))
+    → ((t : List ℕ) → reported (g, InLabel t) (line ++ tail) ≡ after_label g tail t (label_after line))
     × ((t w : List ℕ) (n more : ℕ) (ds : List Mark) → Dots more ds → add_dots (t ++ encode_utf8 46) more ≡ w
-    → told (g, InDots t n more) (line ++ tail) ≡ after_dotted g tail t w n ds (label_after line) (line ++ tail) (label_goes_on line))
+    → reported (g, InDots t n more) (line ++ tail) ≡ after_dotted g tail t w n ds (label_after line) (line ++ tail) (label_goes_on line))
 unfolding rest
 walk_label g [] tail at_nothing = (
-  λ t. closed_end g t ∙ ap (λ z. told (label_closed g z) []) (sym (append-nil t)),
+  λ t. closed_end g t ∙ ap (λ z. reported (label_closed g z) []) (sym (append-nil t)),
   λ t w n more ds d e. dotted_ended g t n more ds d,
 )
 walk_label g [] tail (at_feed k ms) = (
-  λ t. ap (λ z. follow z ms) (closed_step g t 10 k) ∙ ap (λ z. told (label_closed g z) ((10, k) ∷ ms)) (sym (append-nil t)),
+  λ t. ap (λ z. follow z ms) (closed_step g t 10 k) ∙ ap (λ z. reported (label_closed g z) ((10, k) ∷ ms)) (sym (append-nil t)),
   λ t w n more ds d e. dotted_step g t n more 10 k ms ds d,
 )
 walk_label g [] tail (at_return k ms) = (
-  λ t. ap (λ z. follow z ms) (closed_step g t 13 k) ∙ ap (λ z. told (label_closed g z) ((13, k) ∷ ms)) (sym (append-nil t)),
+  λ t. ap (λ z. follow z ms) (closed_step g t 13 k) ∙ ap (λ z. reported (label_closed g z) ((13, k) ∷ ms)) (sym (append-nil t)),
   λ t w n more ds d e. dotted_step g t n more 13 k ms ds d,
 )
 walk_label g (m ∷ ms) tail s = (
   λ t. by_test (λ z. follow z (ms ++ tail)) (λ v. after_label g tail t (cond (v || (m.0 == 46 && label_goes_on ms)) (label_more m ms) ([], m ∷ ms))) (is_label_char m.0) _ _
-      ((walk_label g ms tail s).0 (t ++ encode_utf8 m.0) ∙ ap (λ z. told (label_closed g z) ((label_after ms).1 ++ tail)) (append_assoc t (encode_utf8 m.0) (label_after ms).0))
+      ((walk_label g ms tail s).0 (t ++ encode_utf8 m.0) ∙ ap (λ z. reported (label_closed g z) ((label_after ms).1 ++ tail)) (append_assoc t (encode_utf8 m.0) (label_after ms).0))
       (by_test_knowing (λ z. follow z (ms ++ tail)) (λ v. after_label g tail t (cond (v && label_goes_on ms) (label_more m ms) ([], m ∷ ms))) (m.0 == 46) _ _
       (λ e. (walk_label g ms tail s).1 t (t ++ encode_utf8 46) m.1 zero [] one refl ∙ first_dot g tail t m ms (eqb-true m.0 46 e) (label_goes_on ms))
-      (λ _. ap (λ z. follow z (ms ++ tail)) (closed_step g t m.0 m.1) ∙ ap (λ z. told (label_closed g z) (m ∷ (ms ++ tail))) (sym (append-nil t)))),
+      (λ _. ap (λ z. follow z (ms ++ tail)) (closed_step g t m.0 m.1) ∙ ap (λ z. reported (label_closed g z) (m ∷ (ms ++ tail))) (sym (append-nil t)))),
   λ t w n more ds d e. by_test (λ z. follow z (ms ++ tail)) (λ v. after_dotted g tail t w n ds (cond (v || (m.0 == 46 && label_goes_on ms)) (label_more m ms) ([], m ∷ ms)) (m ∷ (ms ++ tail)) (cond v true (cond (m.0 == 46) (label_goes_on ms) false))) (is_label_char m.0) _ _
-      (ap (λ h. told (g, InLabel (h ++ encode_utf8 m.0)) (ms ++ tail)) e ∙ (walk_label g ms tail s).0 (w ++ encode_utf8 m.0) ∙ ap (λ z. told (label_closed g z) ((label_after ms).1 ++ tail)) (append_assoc w (encode_utf8 m.0) (label_after ms).0))
+      (ap (λ h. reported (g, InLabel (h ++ encode_utf8 m.0)) (ms ++ tail)) e ∙ (walk_label g ms tail s).0 (w ++ encode_utf8 m.0) ∙ ap (λ z. reported (label_closed g z) ((label_after ms).1 ++ tail)) (append_assoc w (encode_utf8 m.0) (label_after ms).0))
       (by_test_knowing (λ z. follow z (ms ++ tail)) (λ v. after_dotted g tail t w n ds (cond (v && label_goes_on ms) (label_more m ms) ([], m ∷ ms)) (m ∷ (ms ++ tail)) (cond v (label_goes_on ms) false)) (m.0 == 46) _ _
-      (λ h. ap (λ k. told (g, InDots t n k) (ms ++ tail)) (add-one more)
+      (λ h. ap (λ k. reported (g, InDots t n k) (ms ++ tail)) (add-one more)
       ∙ (walk_label g ms tail s).1 t (w ++ encode_utf8 46) n (suc more) (ds ++ (46, m.1) ∷ []) (dots_more d m.1) (ap (λ x. x ++ encode_utf8 46) e)
       ∙ one_dot g tail t w n ds m ms (eqb-true m.0 46 h) (label_goes_on ms))
       (λ _. dotted_step g t n more m.0 m.1 (ms ++ tail) ds d)),
 )
 
 -- after the underscore of a label
-pub walk_underscore : (g : Stage) (line tail : List Mark) → Stops tail → told (g, Underscore) (line ++ tail) ≡ after (label_closed g) tail [] (label_at line)
+pub walk_underscore : (g : Stage) (line tail : List Mark) → Stops tail → reported (g, Underscore) (line ++ tail) ≡ after (label_closed g) tail [] (label_at line)
 unfolding rest
 walk_underscore g [] tail at_nothing = refl
 walk_underscore g [] tail (at_feed n ms) = walk_broken Syntax ms
@@ -159,7 +159,7 @@ walk_underscore g [] tail (at_return n ms) = walk_broken Syntax ms
 walk_underscore g (m ∷ []) tail s =
     one_way (λ z. follow z tail) ([], Faulty Syntax) (m.0 == 58) _ _ (colon tail s) (walk_broken Syntax tail)
   where
-    colon : (tail : List Mark) → Stops tail → told (g, Colon) tail ≡ ([], Faulty Syntax)
+    colon : (tail : List Mark) → Stops tail → reported (g, Colon) tail ≡ ([], Faulty Syntax)
     colon tail at_nothing = refl
     colon tail (at_feed n ms) = walk_broken Syntax ms
     colon tail (at_return n ms) = walk_broken Syntax ms

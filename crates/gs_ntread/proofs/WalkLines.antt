@@ -22,16 +22,16 @@ use Rattle.gs_ntread.specs.States.{AtSubject, AtPredicate, AtObject, AtDot, AtEn
 use Rattle.gs_ntread.specs.Lines.{predicate_next, object_next, dot_next, iri_closed, string_closed}
 use Rattle.gs_ntread.specs.Machine.{reading}
 use Rattle.gs_ntread.proofs.Keeping.{NoEnd, none, more, KeepsLine, keeps_made, keeps_iri, keeps_string, keeps_label, keeps_suffix, keeps_skip}
-use Rattle.gs_ntread.proofs.WalkTokens.{told, follow, Stops, at_nothing, at_feed, at_return, walk_broken, closes, after, walk_iri, walk_string}
+use Rattle.gs_ntread.proofs.WalkTokens.{reported, follow, Stops, at_nothing, at_feed, at_return, walk_broken, closes, after, walk_iri, walk_string}
 use Rattle.gs_ntread.proofs.WalkLabels.{label_closed, walk_underscore}
-use Rattle.gs_ntread.proofs.WalkLiterals.{literal_told, walk_suffix}
+use Rattle.gs_ntread.proofs.WalkLiterals.{literal_reported, walk_suffix}
 
 -- what the lines after one mean
 abbrev pub after_line : List Mark → Meant
 after_line [] = ([], Whole)
-after_line (m ∷ ms) = told line_start ms
+after_line (m ∷ ms) = reported line_start ms
 
-pub walk_comment : (line tail : List Mark) → NoEnd line → Stops tail → told (AtSubject, Comment) (line ++ tail) ≡ then_meant ([], comment_meant line) (after_line tail)
+pub walk_comment : (line tail : List Mark) → NoEnd line → Stops tail → reported (AtSubject, Comment) (line ++ tail) ≡ then_meant ([], comment_meant line) (after_line tail)
 unfolding rest
 walk_comment [] tail n at_nothing = refl
 walk_comment [] tail n (at_feed k ms) = refl
@@ -42,16 +42,16 @@ walk_comment (m ∷ ms) tail (more h n) s =
     (walk_comment ms tail n s)
     (walk_broken Syntax (ms ++ tail)))
 
-pub walk_end : (line tail : List Mark) → NoEnd line → Stops tail → told (AtEnd, Between) (line ++ tail) ≡ then_meant ([], rest_meant line) (after_line tail)
+pub walk_end : (line tail : List Mark) → NoEnd line → Stops tail → reported (AtEnd, Between) (line ++ tail) ≡ then_meant ([], rest_meant line) (after_line tail)
 unfolding rest
 walk_end [] tail n at_nothing = refl
 walk_end [] tail n (at_feed k ms) = refl
 walk_end [] tail n (at_return k ms) = refl
 walk_end (m ∷ ms) tail (more h n) s =
-    two_ways (λ z. told z (ms ++ tail)) (λ z. then_meant ([], z) (after_line tail)) (is_space m.0) _ _ _ _
+    two_ways (λ z. reported z (ms ++ tail)) (λ z. then_meant ([], z) (after_line tail)) (is_space m.0) _ _ _ _
     (walk_end ms tail n s)
-    (otherwise (λ z. told z (ms ++ tail)) _ (is_line_end m.0) _ _ h
-    (two_ways (λ z. told z (ms ++ tail)) (λ z. then_meant ([], z) (after_line tail)) (m.0 == 35) _ _ _ _
+    (otherwise (λ z. reported z (ms ++ tail)) _ (is_line_end m.0) _ _ h
+    (two_ways (λ z. reported z (ms ++ tail)) (λ z. then_meant ([], z) (after_line tail)) (m.0 == 35) _ _ _ _
     (walk_comment ms tail n s)
     (walk_broken Syntax (ms ++ tail))))
 
@@ -73,7 +73,7 @@ abbrev pub subject_then : LineTerm × List Mark → FrontRead LineTriple
 subject_then s = predicate_at (skip s.1) >>= predicate_then s.0
 
 pub walk_dot : (s : LineTerm) (p : Term) (o : LineTerm) (line tail : List Mark) → NoEnd line → Stops tail
-    → told (AtDot s p o, Between) (line ++ tail) ≡ meant tail (object_then s p (o, line))
+    → reported (AtDot s p o, Between) (line ++ tail) ≡ meant tail (object_then s p (o, line))
 unfolding rest
 walk_dot s p o [] tail n at_nothing = refl
 walk_dot s p o [] tail n (at_feed k ms) = walk_broken Syntax ms
@@ -86,25 +86,25 @@ walk_dot s p o (m ∷ ms) tail (more h n) t =
     (walk_broken Syntax (ms ++ tail)))
 
 -- a fault, and what is said of it
-faulty : (e : Fault) (x tail : List Mark) → told (broken e) x ≡ meant tail (Err e)
+faulty : (e : Fault) (x tail : List Mark) → reported (broken e) x ≡ meant tail (Err e)
 faulty e x tail = walk_broken e x
 
 -- after an IRI that is an object
-object_told : (s : LineTerm) (p : Term) (y tail : List Mark) (r : Result Term Fault) → Stops tail → KeepsLine (before_text y r)
-    → told (dot_next s p r) (y ++ tail) ≡ meant tail (fixed (before_text y r) >>= object_then s p)
-object_told s p y tail (Ok t) q h = walk_dot s p (Fixed t) y tail h q
-object_told s p y tail (Err e) q h = faulty e (y ++ tail) tail
+object_reported : (s : LineTerm) (p : Term) (y tail : List Mark) (r : Result Term Fault) → Stops tail → KeepsLine (before_text y r)
+    → reported (dot_next s p r) (y ++ tail) ≡ meant tail (fixed (before_text y r) >>= object_then s p)
+object_reported s p y tail (Ok t) q h = walk_dot s p (Fixed t) y tail h q
+object_reported s p y tail (Err e) q h = faulty e (y ++ tail) tail
 
 closes_object : (s : LineTerm) (p : Term) (tail : List Mark) (r : FrontRead (List ℕ)) → Stops tail → KeepsLine r
     → after (closes (iri_closed (AtObject s p))) tail [] r ≡ meant tail (fixed (iri_read r) >>= object_then s p)
 closes_object s p tail (Err e) q h = refl
 closes_object s p tail (Ok i) q h =
-    ap (λ r. told (dot_next s p r) (i.1 ++ tail)) (iri_held-hold i.0)
-    ∙ object_told s p i.1 tail (iri_made i.0) q (keeps_made i.1 (Iri i.0) h)
+    ap (λ r. reported (dot_next s p r) (i.1 ++ tail)) (iri_held-hold i.0)
+    ∙ object_reported s p i.1 tail (iri_made i.0) q (keeps_made i.1 (Iri i.0) h)
 
 -- after a literal
 literal_closed : (s : LineTerm) (p : Term) (tail : List Mark) (r : FrontRead Term) → Stops tail → KeepsLine r
-    → literal_told s p tail r ≡ meant tail (fixed r >>= object_then s p)
+    → literal_reported s p tail r ≡ meant tail (fixed r >>= object_then s p)
 literal_closed s p tail (Err e) q h = refl
 literal_closed s p tail (Ok r) q h = walk_dot s p (Fixed r.0) r.1 tail h q
 
@@ -121,7 +121,7 @@ closes_label s p tail (Err e) q h = refl
 closes_label s p tail (Ok l) q h = walk_dot s p (Labelled l.0) l.1 tail h q
 
 pub walk_object : (s : LineTerm) (p : Term) (line tail : List Mark) → NoEnd line → Stops tail
-    → told (AtObject s p, Between) (line ++ tail) ≡ meant tail (predicate_then s (p, line))
+    → reported (AtObject s p, Between) (line ++ tail) ≡ meant tail (predicate_then s (p, line))
 unfolding rest
 walk_object s p [] tail n at_nothing = refl
 walk_object s p [] tail n (at_feed k ms) = walk_broken Syntax ms
@@ -138,20 +138,20 @@ walk_object s p (m ∷ ms) tail (more h n) q =
     (walk_broken Syntax (ms ++ tail)))))
 
 -- after a predicate
-predicate_told : (s : LineTerm) (y tail : List Mark) (r : Result Term Fault) → Stops tail → KeepsLine (before_text y r)
-    → told (object_next s r) (y ++ tail) ≡ meant tail (before_text y r >>= predicate_then s)
-predicate_told s y tail (Ok t) q h = walk_object s t y tail h q
-predicate_told s y tail (Err e) q h = faulty e (y ++ tail) tail
+predicate_reported : (s : LineTerm) (y tail : List Mark) (r : Result Term Fault) → Stops tail → KeepsLine (before_text y r)
+    → reported (object_next s r) (y ++ tail) ≡ meant tail (before_text y r >>= predicate_then s)
+predicate_reported s y tail (Ok t) q h = walk_object s t y tail h q
+predicate_reported s y tail (Err e) q h = faulty e (y ++ tail) tail
 
 closes_predicate : (s : LineTerm) (tail : List Mark) (r : FrontRead (List ℕ)) → Stops tail → KeepsLine r
     → after (closes (iri_closed (AtPredicate s))) tail [] r ≡ meant tail (iri_read r >>= predicate_then s)
 closes_predicate s tail (Err e) q h = refl
 closes_predicate s tail (Ok i) q h =
-    ap (λ r. told (object_next s r) (i.1 ++ tail)) (iri_held-hold i.0)
-    ∙ predicate_told s i.1 tail (iri_made i.0) q (keeps_made i.1 (Iri i.0) h)
+    ap (λ r. reported (object_next s r) (i.1 ++ tail)) (iri_held-hold i.0)
+    ∙ predicate_reported s i.1 tail (iri_made i.0) q (keeps_made i.1 (Iri i.0) h)
 
 pub walk_predicate : (s : LineTerm) (line tail : List Mark) → NoEnd line → Stops tail
-    → told (AtPredicate s, Between) (line ++ tail) ≡ meant tail (subject_then (s, line))
+    → reported (AtPredicate s, Between) (line ++ tail) ≡ meant tail (subject_then (s, line))
 unfolding rest
 walk_predicate s [] tail n at_nothing = refl
 walk_predicate s [] tail n (at_feed k ms) = walk_broken Syntax ms
@@ -164,17 +164,17 @@ walk_predicate s (m ∷ ms) tail (more h n) q =
     (walk_broken Syntax (ms ++ tail)))
 
 -- after a subject
-subject_told : (y tail : List Mark) (r : Result Term Fault) → Stops tail → KeepsLine (before_text y r)
-    → told (predicate_next r) (y ++ tail) ≡ meant tail (fixed (before_text y r) >>= subject_then)
-subject_told y tail (Ok t) q h = walk_predicate (Fixed t) y tail h q
-subject_told y tail (Err e) q h = faulty e (y ++ tail) tail
+subject_reported : (y tail : List Mark) (r : Result Term Fault) → Stops tail → KeepsLine (before_text y r)
+    → reported (predicate_next r) (y ++ tail) ≡ meant tail (fixed (before_text y r) >>= subject_then)
+subject_reported y tail (Ok t) q h = walk_predicate (Fixed t) y tail h q
+subject_reported y tail (Err e) q h = faulty e (y ++ tail) tail
 
 closes_subject : (tail : List Mark) (r : FrontRead (List ℕ)) → Stops tail → KeepsLine r
     → after (closes (iri_closed AtSubject)) tail [] r ≡ meant tail (fixed (iri_read r) >>= subject_then)
 closes_subject tail (Err e) q h = refl
 closes_subject tail (Ok i) q h =
-    ap (λ r. told (predicate_next r) (i.1 ++ tail)) (iri_held-hold i.0)
-    ∙ subject_told i.1 tail (iri_made i.0) q (keeps_made i.1 (Iri i.0) h)
+    ap (λ r. reported (predicate_next r) (i.1 ++ tail)) (iri_held-hold i.0)
+    ∙ subject_reported i.1 tail (iri_made i.0) q (keeps_made i.1 (Iri i.0) h)
 
 -- after a label that is a subject
 closes_subject_label : (tail : List Mark) (r : FrontRead (List ℕ)) → Stops tail → KeepsLine r
@@ -183,7 +183,7 @@ closes_subject_label tail (Err e) q h = refl
 closes_subject_label tail (Ok l) q h = walk_predicate (Labelled l.0) l.1 tail h q
 
 -- a whole line
-pub walk_line : (line tail : List Mark) → NoEnd line → Stops tail → told line_start (line ++ tail) ≡ then_meant (line_meant line) (after_line tail)
+pub walk_line : (line tail : List Mark) → NoEnd line → Stops tail → reported line_start (line ++ tail) ≡ then_meant (line_meant line) (after_line tail)
 unfolding rest
 walk_line [] tail n at_nothing = refl
 walk_line [] tail n (at_feed k ms) = refl
@@ -213,12 +213,12 @@ then_nothing : (r : Meant) → then_meant r ([], Whole) ≡ r
 then_nothing (ts, Whole) = ap (λ z. (z, Whole)) (append-nil ts)
 then_nothing (ts, Faulty e) = refl
 
-walk_lines : (line x : List Mark) → NoEnd line → told line_start (line ++ x) ≡ lines_meant line x
+walk_lines : (line x : List Mark) → NoEnd line → reported line_start (line ++ x) ≡ lines_meant line x
 walk_lines line [] n = walk_line line [] n at_nothing ∙ then_nothing (line_meant line)
 walk_lines line (m ∷ ms) n =
-    by_test_knowing (λ (z : Meant). told line_start (line ++ m ∷ ms)) (λ v. cond v (then_meant (line_meant line) (lines_meant [] ms)) (lines_meant (line ++ m ∷ []) ms)) (is_line_end m.0) ([], Whole) ([], Whole)
+    by_test_knowing (λ (z : Meant). reported line_start (line ++ m ∷ ms)) (λ v. cond v (then_meant (line_meant line) (lines_meant [] ms)) (lines_meant (line ++ m ∷ []) ms)) (is_line_end m.0) ([], Whole) ([], Whole)
     (λ h. walk_line line (m ∷ ms) n (stops_at m ms _ _ refl refl h) ∙ ap (then_meant (line_meant line)) (walk_lines [] ms none))
-    (λ h. ap (told line_start) (sym (append_assoc line (m ∷ []) ms)) ∙ walk_lines (line ++ m ∷ []) ms (NoEnd-push line m n h))
+    (λ h. ap (reported line_start) (sym (append_assoc line (m ∷ []) ms)) ∙ walk_lines (line ++ m ∷ []) ms (NoEnd-push line m n h))
 
 -- what is read of a document character by character is what the grammar says
 pub read_is : (x : List Mark) → rest reading line_start x ≡ document_meant x

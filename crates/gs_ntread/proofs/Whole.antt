@@ -9,8 +9,8 @@ use Rattle.gs_blank.specs.Numbers.{Numbers, no_numbers}
 use Rattle.gs_ntterm.specs.Marks.{Mark, marks, places, char_end}
 use Rattle.gs_ntread.specs.LineTriples.{LineTriple}
 use Rattle.gs_ntread.specs.Documents.{numbering, line_stated, meaning_by}
-use Rattle.gs_ntread.specs.States.{LineState, LineTurn, Between, Comment, InIri, InString, Underscore, Colon, InLabel, InDots, Caret, AtSign, InTag, Hyphen, Broken, broken, line_start}
-use Rattle.gs_ntread.specs.Turns.{turn}
+use Rattle.gs_ntread.specs.States.{LineState, LineTransition, Between, Comment, InIri, InString, Underscore, Colon, InLabel, InDots, Caret, AtSign, InTag, Hyphen, Broken, broken, line_start}
+use Rattle.gs_ntread.specs.Transitions.{transition}
 use Rattle.gs_ntread.specs.Machine.{end_of_text, reading}
 use Rattle.gs_ntread.specs.Reader.{keeping, stating, placing, ntriples, nothing_read}
 use Rattle.gs_ntread.proofs.WalkLines.{read_is}
@@ -70,14 +70,14 @@ silence r n (g, Hyphen h) m = ([], refl)
 silence r n (g, Broken e) m = ([], refl)
 
 -- one character
-pub character-none : (r n : ℕ) (q q' : LineState) (m : Numbers) (c : ℕ) → (q', []) ≡ turn q.0 q.1 c (char_end n c) → (placing r).step (n, (q, m)) c ≡ ((char_end n c, (q', m)), [])
+pub character-none : (r n : ℕ) (q q' : LineState) (m : Numbers) (c : ℕ) → (q', []) ≡ transition q.0 q.1 c (char_end n c) → (placing r).step (n, (q, m)) c ≡ ((char_end n c, (q', m)), [])
 unfolding composed keeping steps
-character-none r n q q' m c e = ap (λ (u : LineTurn). ((char_end n c, (u.0, (steps (numbering r) m u.1).0)), (steps (numbering r) m u.1).1 ++ [])) (sym e)
+character-none r n q q' m c e = ap (λ (u : LineTransition). ((char_end n c, (u.0, (steps (numbering r) m u.1).0)), (steps (numbering r) m u.1).1 ++ [])) (sym e)
 
-pub character-some : (r n : ℕ) (q q' : LineState) (m : Numbers) (c : ℕ) (s : LineTriple) → (q', s ∷ []) ≡ turn q.0 q.1 c (char_end n c)
+pub character-some : (r n : ℕ) (q q' : LineState) (m : Numbers) (c : ℕ) (s : LineTriple) → (q', s ∷ []) ≡ transition q.0 q.1 c (char_end n c)
     → (placing r).step (n, (q, m)) c ≡ ((char_end n c, (q', (line_stated r m s).0)), (line_stated r m s).1)
 unfolding composed keeping steps
-character-some r n q q' m c s e = ap (λ (u : LineTurn). ((char_end n c, (u.0, (steps (numbering r) m u.1).0)), (steps (numbering r) m u.1).1 ++ [])) (sym e)
+character-some r n q q' m c s e = ap (λ (u : LineTransition). ((char_end n c, (u.0, (steps (numbering r) m u.1).0)), (steps (numbering r) m u.1).1 ++ [])) (sym e)
 
 -- one byte
 abbrev pub Placed : Type 0

@@ -14,10 +14,10 @@ use Rattle.gs_ntterm.specs.Views.{held_of}
 use Rattle.gs_ntterm.specs.declared.tokens.Token.{Token}
 use Rattle.gs_ntread.specs.LineTriples.{LineTriple}
 use Rattle.gs_ntread.specs.Documents.{one_statement, term_of, line_stated}
-use Rattle.gs_ntread.specs.States.{TokenMode, InLabel, InDots, InTag, Hyphen, LineState, LineTurn}
+use Rattle.gs_ntread.specs.States.{TokenMode, InLabel, InDots, InTag, Hyphen, LineState, LineTransition}
 use Rattle.gs_ntread.specs.Lines.{dot_next, iri_closed}
 use Rattle.gs_ntread.specs.Runs.{RunsTo}
-use Rattle.gs_ntread.specs.Turns.{turn, iri_numbered, string_numbered, iri_turn, string_turn, dotted_turn}
+use Rattle.gs_ntread.specs.Transitions.{transition, iri_numbered, string_numbered, iri_transition, string_transition, dotted_transition}
 use Rattle.gs_ntread.specs.Machine.{dots_end}
 use Rattle.gs_ntread.specs.Views.{shown, settled, stage_at, cursor_state, subject_of, sentence_of, sentences_of, ending_of}
 use Rattle.gs_ntread.specs.declared.cursor.Cursor.{Cursor}
@@ -28,28 +28,28 @@ use Rattle.gs_ntread.specs.declared.parts.Place.{Place}
 use Rattle.gs_ntread.specs.declared.parts.Within.{Within}
 
 -- where a cursor stands after a character, with the triple that it completes
-abbrev pub TurnsTo : Cursor → Option Parts → LineTurn → Type 0
-TurnsTo new o t = (cursor_state new, sentences_of o) ≡ t
+abbrev pub MovesTo : Cursor → Option Parts → LineTransition → Type 0
+MovesTo new o t = (cursor_state new, sentences_of o) ≡ t
 
 -- the same of a call that may want memory
-abbrev pub AnswersTurn : {E : Type 0} → Cursor → Result (Option Parts) E → LineTurn → Type 0
-AnswersTurn new answer t = IfOk answer (λ o. TurnsTo new o t)
+abbrev pub AnswersTransition : {E : Type 0} → Cursor → Result (Option Parts) E → LineTransition → Type 0
+AnswersTransition new answer t = IfOk answer (λ o. MovesTo new o t)
 
 -- a character more, where a cursor stands
-abbrev pub next_turn : Cursor → ℕ → ℕ → LineTurn
-next_turn old c n = turn (cursor_state old).0 (cursor_state old).1 c n
+abbrev pub next_transition : Cursor → ℕ → ℕ → LineTransition
+next_transition old c n = transition (cursor_state old).0 (cursor_state old).1 c n
 
 -- a character more, at the part of a line where a cursor stands, in such a mode
-abbrev pub turn_in : Cursor → TokenMode → ℕ → ℕ → LineTurn
-turn_in old m c n = turn (stage_at old) m c n
+abbrev pub transition_in : Cursor → TokenMode → ℕ → ℕ → LineTransition
+transition_in old m c n = transition (stage_at old) m c n
 
 -- a character more of an IRI, where a cursor stands
-abbrev pub iri_turn_of : Cursor → Inside → ℕ → LineState
-iri_turn_of old v c = iri_turn v (stage_at old) (held_of old.text) c
+abbrev pub iri_transition_of : Cursor → Inside → ℕ → LineState
+iri_transition_of old v c = iri_transition v (stage_at old) (held_of old.text) c
 
 -- the same of a string
-abbrev pub string_turn_of : Cursor → Inside → ℕ → LineState
-string_turn_of old v c = string_turn v (stage_at old) (held_of old.text) c
+abbrev pub string_transition_of : Cursor → Inside → ℕ → LineState
+string_transition_of old v c = string_transition v (stage_at old) (held_of old.text) c
 
 -- the whole number of an escape in an IRI, where a cursor stands
 abbrev pub iri_number_of : Cursor → ℕ → LineState
@@ -80,8 +80,8 @@ abbrev pub dots_so_far : Cursor → TokenMode
 dots_so_far old = InDots (label_of old.label) old.value old.count
 
 -- a character after a label and dots, where a cursor stands
-abbrev pub dotted_turn_of : Cursor → ℕ → LineTurn
-dotted_turn_of old c = dotted_turn (stage_at old) (label_of old.label) old.value old.count c
+abbrev pub dotted_transition_of : Cursor → ℕ → LineTransition
+dotted_transition_of old c = dotted_transition (stage_at old) (label_of old.label) old.value old.count c
 
 -- a token begins where a cursor stands
 abbrev pub opened_token : Cursor → Within → LineState

@@ -4,7 +4,7 @@ pub mod Grammar
 pub mod Documents
 pub mod States
 pub mod Lines
-pub mod Turns
+pub mod Transitions
 pub mod Machine
 pub mod Runs
 pub mod Views

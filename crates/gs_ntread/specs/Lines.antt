@@ -9,7 +9,7 @@ use Rattle.gs_ntterm.specs.Classes.{is_space}
 use Rattle.gs_ntterm.specs.LineTerms.{LineTerm, Fixed, fault_of}
 use Rattle.gs_ntterm.specs.Terminals.{Plain}
 use Rattle.gs_ntterm.specs.Tokens.{Held, Text, iri_held, typed_held, plain_held}
-use Rattle.gs_ntread.specs.States.{Stage, AtSubject, AtPredicate, AtObject, AtSuffix, AtDatatype, AtDot, AtEnd, Between, Comment, InIri, InString, Underscore, Caret, AtSign, LineState, LineTurn, broken, no_triple, sentence}
+use Rattle.gs_ntread.specs.States.{Stage, AtSubject, AtPredicate, AtObject, AtSuffix, AtDatatype, AtDot, AtEnd, Between, Comment, InIri, InString, Underscore, Caret, AtSign, LineState, LineTransition, broken, no_triple, sentence}
 
 -- after a dot, or after a line
 abbrev pub end_state : ℕ → LineState
@@ -20,14 +20,14 @@ end_state c =
     else broken Syntax
 
 -- where the dot comes
-abbrev pub at_dot : LineTerm → Term → LineTerm → ℕ → ℕ → LineTurn
+abbrev pub at_dot : LineTerm → Term → LineTerm → ℕ → ℕ → LineTransition
 at_dot s p o c n =
     if is_space c then no_triple (AtDot s p o, Between)
     else if c == dot then ((AtEnd, Between), sentence s p o n ∷ [])
     else no_triple (broken Syntax)
 
 -- the same after a literal that ended before c
-abbrev pub after_literal : LineTerm → Term → Result Term Fault → ℕ → ℕ → LineTurn
+abbrev pub after_literal : LineTerm → Term → Result Term Fault → ℕ → ℕ → LineTransition
 after_literal s p (Ok t) c n = at_dot s p (Fixed t) c n
 after_literal s p (Err e) c n = no_triple (broken e)
 
@@ -45,35 +45,35 @@ object_comes g c =
     else broken Syntax
 
 -- a character between two tokens
-abbrev pub between_turn : Stage → ℕ → ℕ → LineTurn
-between_turn AtSubject c n =
+abbrev pub between_transition : Stage → ℕ → ℕ → LineTransition
+between_transition AtSubject c n =
     if is_space c then no_triple (AtSubject, Between)
     else if is_line_end c then no_triple (AtSubject, Between)
     else if c == number_sign then no_triple (AtSubject, Comment)
     else if c == less_than then no_triple (AtSubject, InIri Plain (Text []))
     else if c == underscore then no_triple (AtSubject, Underscore)
     else no_triple (broken Syntax)
-between_turn (AtPredicate s) c n =
+between_transition (AtPredicate s) c n =
     if is_space c then no_triple (AtPredicate s, Between)
     else if c == less_than then no_triple (AtPredicate s, InIri Plain (Text []))
     else no_triple (broken Syntax)
-between_turn (AtObject s p) c n =
+between_transition (AtObject s p) c n =
     if is_space c then no_triple (AtObject s p, Between)
     else if c == less_than then no_triple (AtObject s p, InIri Plain (Text []))
     else if c == underscore then no_triple (AtObject s p, Underscore)
     else if c == quote then no_triple (AtObject s p, InString Plain (Text []))
     else no_triple (broken Syntax)
-between_turn (AtSuffix s p l) c n =
+between_transition (AtSuffix s p l) c n =
     if is_space c then no_triple (AtSuffix s p l, Between)
     else if c == caret then no_triple (AtSuffix s p l, Caret)
     else if c == at_sign then no_triple (AtSuffix s p l, AtSign)
     else after_literal s p (plain_held l) c n
-between_turn (AtDatatype s p l) c n =
+between_transition (AtDatatype s p l) c n =
     if is_space c then no_triple (AtDatatype s p l, Between)
     else if c == less_than then no_triple (AtDatatype s p l, InIri Plain (Text []))
     else no_triple (broken Syntax)
-between_turn (AtDot s p o) c n = at_dot s p o c n
-between_turn AtEnd c n = no_triple (end_state c)
+between_transition (AtDot s p o) c n = at_dot s p o c n
+between_transition AtEnd c n = no_triple (end_state c)
 
 -- the stage after a subject that was read, if it is a term
 abbrev pub predicate_next : Result Term Fault → LineState

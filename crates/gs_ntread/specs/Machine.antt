@@ -1,4 +1,4 @@
--- The machine from characters to the triples of lines: its turns, and how a text ends.
+-- The machine from characters to the triples of lines: its transitions, and how a text ends.
 use Rattle.std.specs.Prelude.{ℕ, ◌==◌, if◌then◌else◌, List, [], ◌∷◌}
 use Rattle.gs_model.specs.declared.faults.Fault.{Fault}
 use Rattle.gs_model.specs.declared.faults.Fault.TheVariants.{Syntax}
@@ -9,7 +9,7 @@ use Rattle.gs_ntterm.specs.LineTerms.{Labelled}
 use Rattle.gs_ntread.specs.LineTriples.{LineTriple}
 use Rattle.gs_ntread.specs.States.{Stage, AtSubject, AtObject, AtSuffix, AtEnd, TokenMode, Between, Comment, InDots, Caret, AtSign, InTag, Hyphen, Broken, LineState, sentence}
 use Rattle.gs_ntread.specs.Lines.{string_fault}
-use Rattle.gs_ntread.specs.Turns.{turn, tag_fault}
+use Rattle.gs_ntread.specs.Transitions.{transition, tag_fault}
 
 -- the end of the text between two tokens
 abbrev pub between_end : Stage → Ending
@@ -37,4 +37,4 @@ end_of_text g m = ([], Faulty Syntax)
 
 -- from characters to the triples of lines
 abbrev pub reading : Machine LineState Mark LineTriple Ending
-reading = record { step = λ s m. turn s.0 s.1 m.0 m.1; ended = λ s. end_of_text s.0 s.1 }
+reading = record { step = λ s m. transition s.0 s.1 m.0 m.1; ended = λ s. end_of_text s.0 s.1 }

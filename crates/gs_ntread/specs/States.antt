@@ -39,8 +39,8 @@ abbrev pub LineState : Type 0
 LineState = Stage × TokenMode
 
 -- the state after a character, and the triple that it completes
-abbrev pub LineTurn : Type 0
-LineTurn = LineState × List LineTriple
+abbrev pub LineTransition : Type 0
+LineTransition = LineState × List LineTriple
 
 -- at the front of a document
 abbrev pub line_start : LineState
@@ -51,7 +51,7 @@ abbrev pub broken : Fault → LineState
 broken e = (AtSubject, Broken e)
 
 -- no triple is complete
-abbrev pub no_triple : LineState → LineTurn
+abbrev pub no_triple : LineState → LineTransition
 no_triple s = (s, [])
 
 -- a triple that is complete

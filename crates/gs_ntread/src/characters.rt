@@ -5,7 +5,7 @@ ghost use Rattle.gs_ntterm.specs.Labels.{label_of};
 ghost use Rattle.gs_ntterm.specs.Views.{held_of};
 ghost use Rattle.gs_ntread.specs.States.{no_triple, Colon, Comment};
 ghost use Rattle.gs_ntread.specs.Views.{cursor_state};
-ghost use Rattle.gs_ntread.specs.Clauses.{AnswersTurn, digits_so_far, dots_so_far, iri_number_of, iri_turn_of, label_so_far, string_number_of, string_turn_of, turn_in};
+ghost use Rattle.gs_ntread.specs.Clauses.{AnswersTransition, digits_so_far, dots_so_far, iri_number_of, iri_transition_of, label_so_far, string_number_of, string_transition_of, transition_in};
 ghost use Rattle.gs_ntread.specs.declared.parts.Within.TheVariants as within;
 
 use crate::cursor::Cursor;
@@ -19,7 +19,7 @@ impl Cursor {
     /// A character of an IRI.
     pub fn in_iri(&mut self, c: u32) -> Result<(), AllocError>
         requires { self.old.within ≡ within.Iri }
-        ensures { OnOk result (cursor_state self.new ≡ iri_turn_of self.old Plain c) }
+        ensures { OnOk result (cursor_state self.new ≡ iri_transition_of self.old Plain c) }
     {
         if c == GREATER_THAN {
             return self.close_iri();
@@ -38,7 +38,7 @@ impl Cursor {
     /// The character after a backslash in an IRI.
     pub fn iri_escape(&mut self, c: u32)
         requires { self.old.within ≡ within.IriEscape }
-        ensures { cursor_state self.new ≡ iri_turn_of self.old Escape c }
+        ensures { cursor_state self.new ≡ iri_transition_of self.old Escape c }
     {
         self.within = Within::IriDigits;
         self.value = 0;
@@ -66,7 +66,8 @@ impl Cursor {
     /// A digit of an escape in an IRI.
     pub fn iri_digit(&mut self, c: u32) -> Result<(), AllocError>
         requires { self.old.within ≡ within.IriDigits }
-        ensures { OnOk result (cursor_state self.new ≡ iri_turn_of self.old (digits_so_far self.old) c) }
+        ensures { OnOk result
+            (cursor_state self.new ≡ iri_transition_of self.old (digits_so_far self.old) c) }
     {
         let Some(value) = with_digit(self.value, c) else {
             self.break_off();
@@ -83,7 +84,7 @@ impl Cursor {
     /// A character of a string.
     pub fn in_string(&mut self, c: u32) -> Result<(), AllocError>
         requires { self.old.within ≡ within.Quoted }
-        ensures { OnOk result (cursor_state self.new ≡ string_turn_of self.old Plain c) }
+        ensures { OnOk result (cursor_state self.new ≡ string_transition_of self.old Plain c) }
     {
         if c == QUOTE {
             self.close_string();
@@ -107,7 +108,7 @@ impl Cursor {
     /// The character after a backslash in a string.
     pub fn string_escape(&mut self, c: u32) -> Result<(), AllocError>
         requires { self.old.within ≡ within.QuotedEscape }
-        ensures { OnOk result (cursor_state self.new ≡ string_turn_of self.old Escape c) }
+        ensures { OnOk result (cursor_state self.new ≡ string_transition_of self.old Escape c) }
     {
         if c == SMALL_U || c == BIG_U {
             self.within = Within::QuotedDigits;
@@ -142,7 +143,8 @@ impl Cursor {
     /// A digit of an escape in a string.
     pub fn string_digit(&mut self, c: u32) -> Result<(), AllocError>
         requires { self.old.within ≡ within.QuotedDigits }
-        ensures { OnOk result (cursor_state self.new ≡ string_turn_of self.old (digits_so_far self.old) c) }
+        ensures { OnOk result
+            (cursor_state self.new ≡ string_transition_of self.old (digits_so_far self.old) c) }
     {
         let Some(value) = with_digit(self.value, c) else {
             self.break_off();
@@ -159,7 +161,7 @@ impl Cursor {
     /// The first character of a label.
     pub fn begin_label(&mut self, c: u32) -> Result<(), AllocError>
         requires { self.old.within ≡ within.Colon }
-        ensures { OnOk result (no_triple (cursor_state self.new) ≡ turn_in self.old Colon c 0) }
+        ensures { OnOk result (no_triple (cursor_state self.new) ≡ transition_in self.old Colon c 0) }
     {
         match char::from_u32(c) {
             Some(first) if begins_label(c) => {
@@ -174,7 +176,7 @@ impl Cursor {
     /// A character of a label, or after it, which ends after n bytes.
     pub fn in_label(&mut self, c: u32, n: u64) -> Result<Option<Parts>, AllocError>
         requires { self.old.within ≡ within.Label }
-        ensures { AnswersTurn self.new result (turn_in self.old (label_so_far self.old) c n) }
+        ensures { AnswersTransition self.new result (transition_in self.old (label_so_far self.old) c n) }
     {
         match char::from_u32(c) {
             Some(next) if is_label_char(c) => {
@@ -195,7 +197,7 @@ impl Cursor {
     /// A character after dots that may be a label's.
     pub fn in_dots(&mut self, c: u32) -> Result<Option<Parts>, AllocError>
         requires { self.old.within ≡ within.Dots }
-        ensures { AnswersTurn self.new result (turn_in self.old (dots_so_far self.old) c 0) }
+        ensures { AnswersTransition self.new result (transition_in self.old (dots_so_far self.old) c 0) }
     {
         match char::from_u32(c) {
             Some(next) if is_label_char(c) => {
@@ -217,7 +219,7 @@ impl Cursor {
     /// A character of a comment, or after it.
     pub fn in_comment(&mut self, c: u32)
         requires { self.old.within ≡ within.Comment }
-        ensures { no_triple (cursor_state self.new) ≡ turn_in self.old Comment c 0 }
+        ensures { no_triple (cursor_state self.new) ≡ transition_in self.old Comment c 0 }
     {
         if is_line_end(c) {
             self.place = Place::Subject;

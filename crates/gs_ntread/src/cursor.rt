@@ -4,7 +4,7 @@ ghost use Rattle.gs_ntterm.specs.LineTerms.{LineTerm};
 ghost use Rattle.gs_ntterm.specs.Classes.{is_space as is_space_of};
 ghost use Rattle.gs_ntterm.specs.Tokens.{Text, plain_held};
 ghost use Rattle.gs_ntread.specs.States.{line_start, broken, no_triple};
-ghost use Rattle.gs_ntread.specs.Lines.{end_state, between_turn, after_literal, iri_begins, object_comes};
+ghost use Rattle.gs_ntread.specs.Lines.{end_state, between_transition, after_literal, iri_begins, object_comes};
 
 use crate::parts::{Object, Parts, Place, Subject, Within};
 use gs_chars::is_line_end;
@@ -43,7 +43,7 @@ impl Cursor {
     ghost use Rattle.gs_ntterm.specs.Labels.{label_of};
     ghost use Rattle.gs_ntterm.specs.Views.{held_of};
     ghost use Rattle.gs_ntread.specs.Views.{cursor_state, stage_at, subject_of, IsSuffix, IsDot};
-    ghost use Rattle.gs_ntread.specs.Clauses.{AnswersTurn, TurnsTo, opened_token};
+    ghost use Rattle.gs_ntread.specs.Clauses.{AnswersTransition, MovesTo, opened_token};
     ghost use Rattle.gs_ntread.specs.declared.parts.Within.TheVariants as within;
     ghost use Rattle.gs_ntread.specs.declared.parts.Place.TheVariants as at;
 
@@ -89,7 +89,7 @@ impl Cursor {
     fn begin_line(&mut self, c: u32)
         requires between { self.old.within ≡ within.Between }
         requires place { self.old.place ≡ at.Subject }
-        ensures { no_triple (cursor_state self.new) ≡ between_turn (stage_at self.old) c 0 }
+        ensures { no_triple (cursor_state self.new) ≡ between_transition (stage_at self.old) c 0 }
     {
         if is_space(c) || is_line_end(c) {
             return;
@@ -154,7 +154,7 @@ impl Cursor {
     pub fn dot(&mut self, c: u32, n: u64) -> Option<Parts>
         requires between { self.old.within ≡ within.Between }
         requires place { IsDot self.old.place }
-        ensures { TurnsTo self.new result (between_turn (stage_at self.old) c n) }
+        ensures { MovesTo self.new result (between_transition (stage_at self.old) c n) }
     {
         if is_space(c) {
             return None;
@@ -183,7 +183,7 @@ impl Cursor {
         c: u32,
         n: u64,
     ) -> Option<Parts>
-        ensures { TurnsTo self.new result (after_literal (subject_of subject) predicate.term literal c n) }
+        ensures { MovesTo self.new result (after_literal (subject_of subject) predicate.term literal c n) }
     {
         match literal {
             Ok(term) => {
@@ -202,7 +202,7 @@ impl Cursor {
     fn suffix(&mut self, c: u32, n: u64) -> Result<Option<Parts>, AllocError>
         requires between { self.old.within ≡ within.Between }
         requires place { IsSuffix self.old.place }
-        ensures { AnswersTurn self.new result (between_turn (stage_at self.old) c n) }
+        ensures { AnswersTransition self.new result (between_transition (stage_at self.old) c n) }
     {
         if is_space(c) {
             return Ok(None);
@@ -227,7 +227,7 @@ impl Cursor {
     /// A character between two tokens.
     pub fn between(&mut self, c: u32, n: u64) -> Result<Option<Parts>, AllocError>
         requires { self.old.within ≡ within.Between }
-        ensures { AnswersTurn self.new result (between_turn (stage_at self.old) c n) }
+        ensures { AnswersTransition self.new result (between_transition (stage_at self.old) c n) }
     {
         match &self.place {
             Place::Subject => self.begin_line(c),

@@ -5,9 +5,9 @@ ghost use Rattle.gs_ntterm.specs.Labels.{label_of};
 ghost use Rattle.gs_ntterm.specs.Views.{held_of};
 ghost use Rattle.gs_ntread.specs.States.{no_triple, broken};
 ghost use Rattle.gs_ntread.specs.Lines.{end_state};
-ghost use Rattle.gs_ntread.specs.Turns.{label_turn, tag_turn, tag_ended};
+ghost use Rattle.gs_ntread.specs.Transitions.{label_transition, tag_transition, tag_ended};
 ghost use Rattle.gs_ntread.specs.Views.{cursor_state, stage_at};
-ghost use Rattle.gs_ntread.specs.Clauses.{AnswersTurn, TurnsTo, dotted_turn_of};
+ghost use Rattle.gs_ntread.specs.Clauses.{AnswersTransition, MovesTo, dotted_transition_of};
 
 use crate::cursor::Cursor;
 use crate::parts::{Object, Parts, Place, Subject, Within};
@@ -17,7 +17,7 @@ use std::mem;
 
 impl Cursor {
     fn stop(&mut self) -> Option<Parts>
-        ensures { TurnsTo self.new result (no_triple (broken Syntax)) }
+        ensures { MovesTo self.new result (no_triple (broken Syntax)) }
     {
         self.break_off();
         None
@@ -25,7 +25,8 @@ impl Cursor {
 
     /// A character after a label.
     pub fn after_label(&mut self, c: u32, n: u64) -> Result<Option<Parts>, AllocError>
-        ensures { AnswersTurn self.new result (label_turn (stage_at self.old) (label_of self.old.label) c n) }
+        ensures { AnswersTransition self.new result
+            (label_transition (stage_at self.old) (label_of self.old.label) c n) }
     {
         let label = self.label.copy(self.alloc)?;
         match mem::replace(&mut self.place, Place::End) {
@@ -58,7 +59,7 @@ impl Cursor {
 
     /// A character after a label and dots that are not the label's.
     pub fn after_dots(&mut self, c: u32) -> Result<Option<Parts>, AllocError>
-        ensures { AnswersTurn self.new result (dotted_turn_of self.old c) }
+        ensures { AnswersTransition self.new result (dotted_transition_of self.old c) }
     {
         let label = self.label.copy(self.alloc)?;
         let end = self.value;
@@ -78,7 +79,8 @@ impl Cursor {
 
     /// A character after a language tag.
     fn after_tag(&mut self, c: u32, n: u64) -> Result<Option<Parts>, AllocError>
-        ensures { AnswersTurn self.new result (tag_turn (stage_at self.old) (held_of self.old.text) c n) }
+        ensures { AnswersTransition self.new result
+            (tag_transition (stage_at self.old) (held_of self.old.text) c n) }
     {
         match mem::replace(&mut self.place, Place::End) {
             Place::Suffix(subject, predicate) => {
@@ -91,7 +93,8 @@ impl Cursor {
 
     /// A character that does not go on with a part of a language tag.
     pub fn tag_ends(&mut self, c: u32, n: u64) -> Result<Option<Parts>, AllocError>
-        ensures { AnswersTurn self.new result (tag_ended (stage_at self.old) (held_of self.old.text) c n) }
+        ensures { AnswersTransition self.new result
+            (tag_ended (stage_at self.old) (held_of self.old.text) c n) }
     {
         if c == HYPHEN {
             self.within = Within::Hyphen;

@@ -169,7 +169,7 @@ impl NTriplesReader {
     /// The refusal of a fault after the statements so far.
     fn refusal(&self, fault: Fault) -> Refusal
         ensures value { result ≡ refusal_after self.now.last fault }
-        ensures told { result ≢ Refusal.Closed }
+        ensures reported { result ≢ Refusal.Closed }
     {
         match fault {
             Fault::Syntax => Refusal::Syntax(self.last),
@@ -181,7 +181,7 @@ impl NTriplesReader {
     fn fault(&self) -> Option<Refusal>
         ensures some { IfSome result (λ e. FaultsAs e self.now.last (cursor_state self.now.cursor)) }
         ensures none { IfNone result (¬ (IsStopped (cursor_state self.now.cursor))) }
-        ensures told { IfSome result (λ e. e ≢ Refusal.Closed) }
+        ensures reported { IfSome result (λ e. e ≢ Refusal.Closed) }
     {
         match self.cursor.within {
             Within::Faulty(fault) => Some(self.refusal(fault)),
@@ -207,7 +207,7 @@ impl NTriplesReader {
     /// What the end of a text answers.
     fn conclude(&self, end: Ending) -> Result<(), Refusal>
         ensures ok { OnOk result (ending_of end ≡ Whole) }
-        ensures told { IfErr result (λ e. e ≢ Refusal.Closed) }
+        ensures reported { IfErr result (λ e. e ≢ Refusal.Closed) }
         ensures fault { IfErr result (λ e. ConcludesAs e self.now.last (ending_of end)) }
     {
         match end {
@@ -220,7 +220,7 @@ impl NTriplesReader {
     fn end_between(&mut self, triples: &mut Vec<Triple>) -> Result<(), Refusal>
         ensures ok { OnOk result (EndsWell triples.old.items triples.new.items (text_end self.old)) }
         ensures err { OnErr result (Begins triples.new.items triples.old.items) }
-        ensures told { IfErr result (λ e. e ≢ Refusal.Closed) }
+        ensures reported { IfErr result (λ e. e ≢ Refusal.Closed) }
         ensures fault { IfErr result (λ e. FaultyEnd e self.old.last (text_end self.old)) }
     {
         let (parts, end) = self.cursor.end()?;
@@ -238,7 +238,7 @@ impl NTriplesReader {
         requires { is_ready_of self.old.decoder ≡ false }
         ensures failed { IsErr result }
         ensures err { OnErr result (Begins triples.new.items triples.old.items) }
-        ensures told { IfErr result (λ e. e ≢ Refusal.Closed) }
+        ensures reported { IfErr result (λ e. e ≢ Refusal.Closed) }
         ensures fault { IfErr result (λ e. FaultsAtEnd self.old e) }
     {
         match self.fault() {
@@ -256,7 +256,7 @@ impl NTriplesReader {
     fn take_end(&mut self, triples: &mut Vec<Triple>) -> Result<(), Refusal>
         ensures ok { OnOk result (EndsWell triples.old.items triples.new.items (body_end self.old)) }
         ensures err { OnErr result (Begins triples.new.items triples.old.items) }
-        ensures told { IfErr result (λ e. e ≢ Refusal.Closed) }
+        ensures reported { IfErr result (λ e. e ≢ Refusal.Closed) }
         ensures fault { IfErr result (λ e. FaultsAtEnd self.old e) }
     {
         if self.decoder.is_ready() {

@@ -4,9 +4,9 @@ ghost use Rattle.gs_ntterm.specs.LineTerms.{fault_of as fault_of_result};
 ghost use Rattle.gs_ntterm.specs.Views.{held_of};
 ghost use Rattle.gs_ntread.specs.States.{no_triple, Caret, AtSign};
 ghost use Rattle.gs_ntread.specs.Lines.{string_fault as string_fault_of};
-ghost use Rattle.gs_ntread.specs.Turns.{tag_fault as tag_fault_of};
+ghost use Rattle.gs_ntread.specs.Transitions.{tag_fault as tag_fault_of};
 ghost use Rattle.gs_ntread.specs.Views.{cursor_state, stage_at};
-ghost use Rattle.gs_ntread.specs.Clauses.{AnswersTurn, TurnsTo, hyphen_so_far, tag_so_far, turn_in};
+ghost use Rattle.gs_ntread.specs.Clauses.{AnswersTransition, MovesTo, hyphen_so_far, tag_so_far, transition_in};
 ghost use Rattle.gs_ntread.specs.declared.parts.Within.TheVariants as within;
 
 use crate::cursor::Cursor;
@@ -54,7 +54,7 @@ impl Cursor {
     /// The character after a `^`.
     pub fn caret(&mut self, c: u32) -> Result<(), AllocError>
         requires { self.old.within ≡ within.Caret }
-        ensures { OnOk result (no_triple (cursor_state self.new) ≡ turn_in self.old Caret c 0) }
+        ensures { OnOk result (no_triple (cursor_state self.new) ≡ transition_in self.old Caret c 0) }
     {
         if c == CARET {
             self.close_caret();
@@ -68,7 +68,7 @@ impl Cursor {
     /// The character after an `@`.
     pub fn at_sign(&mut self, c: u32) -> Result<(), AllocError>
         requires { self.old.within ≡ within.AtSign }
-        ensures { OnOk result (no_triple (cursor_state self.new) ≡ turn_in self.old AtSign c 0) }
+        ensures { OnOk result (no_triple (cursor_state self.new) ≡ transition_in self.old AtSign c 0) }
     {
         match char::from_u32(c) {
             Some(first) if is_tag_char(false, c) => {
@@ -86,7 +86,7 @@ impl Cursor {
     /// A character of a tag's first part, or after it.
     pub fn in_tag(&mut self, c: u32, n: u64) -> Result<Option<Parts>, AllocError>
         requires { self.old.within ≡ within.Tag }
-        ensures { AnswersTurn self.new result (turn_in self.old (tag_so_far false self.old) c n) }
+        ensures { AnswersTransition self.new result (transition_in self.old (tag_so_far false self.old) c n) }
     {
         match char::from_u32(c) {
             Some(next) if is_tag_char(false, c) => {
@@ -100,7 +100,7 @@ impl Cursor {
     /// A character of a tag's later part, or after it.
     pub fn in_part(&mut self, c: u32, n: u64) -> Result<Option<Parts>, AllocError>
         requires { self.old.within ≡ within.TagPart }
-        ensures { AnswersTurn self.new result (turn_in self.old (tag_so_far true self.old) c n) }
+        ensures { AnswersTransition self.new result (transition_in self.old (tag_so_far true self.old) c n) }
     {
         match char::from_u32(c) {
             Some(next) if is_tag_char(true, c) => {
@@ -114,7 +114,7 @@ impl Cursor {
     /// The character after a `-` that a tag may go on after.
     pub fn hyphen(&mut self, c: u32) -> Result<(), AllocError>
         requires { self.old.within ≡ within.Hyphen }
-        ensures { OnOk result (TurnsTo self.new None (turn_in self.old (hyphen_so_far self.old) c 0)) }
+        ensures { OnOk result (MovesTo self.new None (transition_in self.old (hyphen_so_far self.old) c 0)) }
     {
         match char::from_u32(c) {
             Some(next) if is_tag_char(true, c) => {

@@ -2,7 +2,7 @@
 ghost use Rattle.std.specs.Prelude.{◌≡◌, IfOk};
 ghost use Rattle.gs_ntread.specs.States.{Underscore, no_triple};
 ghost use Rattle.gs_ntread.specs.Views.{cursor_state};
-ghost use Rattle.gs_ntread.specs.Clauses.{AnswersTurn, turn_in, next_turn};
+ghost use Rattle.gs_ntread.specs.Clauses.{AnswersTransition, transition_in, next_transition};
 ghost use Rattle.gs_ntread.specs.declared.parts.Within.TheVariants as within;
 
 use crate::cursor::Cursor;
@@ -13,7 +13,7 @@ use std::alloc::AllocError;
 impl Cursor {
     /// Takes a character that ends after n bytes, and gives the triple that it completes.
     pub fn take(&mut self, c: u32, n: u64) -> Result<Option<Parts>, AllocError>
-        ensures { AnswersTurn self.new result (next_turn self.old c n) }
+        ensures { AnswersTransition self.new result (next_transition self.old c n) }
     {
         match self.within {
             Within::Between => return self.between(c, n),
@@ -41,7 +41,7 @@ impl Cursor {
     /// The character after an underscore.
     fn underscore(&mut self, c: u32)
         requires { self.old.within ≡ within.Underscore }
-        ensures { no_triple (cursor_state self.new) ≡ turn_in self.old Underscore c 0 }
+        ensures { no_triple (cursor_state self.new) ≡ transition_in self.old Underscore c 0 }
     {
         if c == COLON {
             self.within = Within::Colon;

@@ -37,9 +37,9 @@ add-hold t more = by_fit (fits t) refl
 outgrown : (t text : List ℕ) → length t ≤ length text → fits t ≡ false → nat_le (length text) max_term_bytes ≡ false
 outgrown t text l h = grind (arith, nat_tests)
 
--- a term of a form that was told byte by byte, where its text is too long
-told_long : (t : Term) (v : Bool) → v ≡ is_term t → nat_le (length (text_of t)) max_term_bytes ≡ false → cond v (Err TermTooLong) (Err Syntax) ≡ made t
-told_long t v e h =
+-- a term of a form that was tested byte by byte, where its text is too long
+long_form : (t : Term) (v : Bool) → v ≡ is_term t → nat_le (length (text_of t)) max_term_bytes ≡ false → cond v (Err TermTooLong) (Err Syntax) ≡ made t
+long_form t v e h =
     ap (λ v. cond v (Err TermTooLong) (Err Syntax)) e
     ∙ ap (λ b. cond (is_term t) (cond b (Ok t) (Err TermTooLong)) (Err Syntax)) (sym h)
 
@@ -51,7 +51,7 @@ iri_held-hold t = by_fit (fits t) refl
   where
     by_fit : (b : Bool) → fits t ≡ b → iri_held (cond b (Text t) (Long (form_of t))) ≡ made (Iri t)
     by_fit true h = refl
-    by_fit false h = told_long (Iri t) (is_absolute_form (form_of t)) (absolute_by_form t) (outgrown t (text_of (Iri t)) (iri_length t) h)
+    by_fit false h = long_form (Iri t) (is_absolute_form (form_of t)) (absolute_by_form t) (outgrown t (text_of (Iri t)) (iri_length t) h)
 
 escape_length : (c : ℕ) → 1 ≤ length (escape_of c)
 escape_length c = one (c == 34) (c == 92) (c == 10) (c == 13)
@@ -100,7 +100,7 @@ typed_held-hold l d = by_fit (fits d) refl
   where
     by_fit : (b : Bool) → fits d ≡ b → typed_held (hold l) (cond b (Text d) (Long (form_of d))) ≡ made (Literal l (Typed d))
     by_fit true h = literal_held-hold l (Typed d)
-    by_fit false h = told_long (Literal l (Typed d)) (is_absolute_form (form_of d)) (absolute_by_form d) (outgrown d (text_of (Literal l (Typed d))) (datatype_length l d h) h)
+    by_fit false h = long_form (Literal l (Typed d)) (is_absolute_form (form_of d)) (absolute_by_form d) (outgrown d (text_of (Literal l (Typed d))) (datatype_length l d h) h)
 
 tag_length : (l t : List ℕ) → length t ≤ length (text_of (Literal l (Tagged (str_to_ascii_lowercase t))))
 tag_length l t = omega (arith, ap length (suffix_tag (str_to_ascii_lowercase t)), length-map t to_ascii_lowercase, length-append (34 ∷ escaped l) (34 ∷ suffix (Tagged (str_to_ascii_lowercase t))))
@@ -113,7 +113,7 @@ tagged_held-hold l t = by_fit (fits t) refl
 
     by_fit : (b : Bool) → fits t ≡ b → tagged_held (hold l) (cond b (Text t) (Long (form_of t))) ≡ made (Literal l k)
     by_fit true h = literal_held-hold l k
-    by_fit false h = told_long (Literal l k) (is_tag_form (form_of t)) (tag_by_form t) (outgrown t (text_of (Literal l k)) (tag_length l t) h)
+    by_fit false h = long_form (Literal l k) (is_tag_form (form_of t)) (tag_by_form t) (outgrown t (text_of (Literal l k)) (tag_length l t) h)
 
 -- a token for which no term has room any more
 pub add-grown : (long : Bool) (f : Form) (t more : List ℕ) → long ≡ false → max_term_bytes < length t + length more → Long (form_after (form_of t) more) ≡ add (held long f t) more

@@ -1,4 +1,4 @@
--- A number that is told digit by digit is as good as the whole number.
+-- A number that is read digit by digit is as good as the whole number.
 use Rattle.std.proofs.Common.{◌≡◌, ℕ, ◌+◌, ◌*◌, ◌<◌, ◌⊎◌, inl, inr, Bool, true, false, cond, List, [], ◌∷◌, refl, sym, ap, ◌∙◌, arith}
 use Rattle.std.specs.Prelude.{fold, nat_le}
 use Rattle.std.specs.Char.{digit_value}
@@ -34,10 +34,10 @@ number-alike : (v w : ℕ) → Alike v w → is_character w ≡ true → v ≡ w
 number-alike v w (inl e) k = e
 number-alike v w (inr h) k = let no = above w h.1 in absurd (Prim.cc)
 
-pub told-character : (ds : List ℕ) → is_character (fold with_digit 0 ds) ≡ is_character (hex_number ds)
+pub read-character : (ds : List ℕ) → is_character (fold with_digit 0 ds) ≡ is_character (hex_number ds)
 unfolding hex_number
-told-character ds = character-alike (fold with_digit 0 ds) (fold with_hex 0 ds) (digits-alike ds 0 0 (inl refl))
+read-character ds = character-alike (fold with_digit 0 ds) (fold with_hex 0 ds) (digits-alike ds 0 0 (inl refl))
 
-pub told-number : (ds : List ℕ) → is_character (hex_number ds) ≡ true → fold with_digit 0 ds ≡ hex_number ds
+pub read-number : (ds : List ℕ) → is_character (hex_number ds) ≡ true → fold with_digit 0 ds ≡ hex_number ds
 unfolding hex_number
-told-number ds = number-alike (fold with_digit 0 ds) (fold with_hex 0 ds) (digits-alike ds 0 0 (inl refl))
+read-number ds = number-alike (fold with_digit 0 ds) (fold with_hex 0 ds) (digits-alike ds 0 0 (inl refl))

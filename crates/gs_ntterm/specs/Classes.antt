@@ -34,10 +34,10 @@ abbrev pub is_tag_char : (digits : Bool) → ℕ → Bool
 is_tag_char digits c = is_letter c || (is_digit c && digits)
 
 -- A number with one hexadecimal digit more, where it is a character's yet: one that is above every character stays so. So a
--- number that is told digit by digit has a bound, and is a character's just where the whole number is.
+-- number that is read digit by digit has a bound, and is a character's just where the whole number is.
 abbrev pub with_digit : ℕ → ℕ → ℕ
 with_digit v c = if nat_le v last_character then with_hex v c else v
 
 -- the number of hexadecimal digits that come one by one
-abbrev pub told_number : List ℕ → ℕ
-told_number ds = fold with_digit 0 ds
+abbrev pub read_number : List ℕ → ℕ
+read_number ds = fold with_digit 0 ds

@@ -1,11 +1,11 @@
--- The list of triples after a turn: with those of a statement that ends, or as it was.
+-- The list of triples after a transition: with those of a statement that ends, or as it was.
 use Rattle.std.proofs.Common.{◌≡◌, ℕ, List, ◌++◌, ◌∙◌, sym, ap}
 use Rattle.std.proofs.lemmas.List.{append-nil}
 use Rattle.gs_model.specs.Triples.{RdfTriple}
 use Rattle.gs_body.specs.Bodies.{triples_of}
 use Rattle.gs_document.specs.Documents.{stated}
-use Rattle.gs_document.specs.States.{Turn}
-use Rattle.gs_parse.specs.Steps.{Turns, Moves}
+use Rattle.gs_document.specs.States.{Transition}
+use Rattle.gs_parse.specs.Steps.{MovesQuietly, Moves}
 use Rattle.gs_parse.specs.declared.parser.Parser.{Parser}
 
 triples_stated : (end : ℕ) (P : List RdfTriple) → triples_of (stated end P) ≡ P
@@ -15,10 +15,10 @@ triples_stated end P = append-nil P
 pub given_stated : (end : ℕ) (old new P : List RdfTriple) → new ≡ old ++ P → new ≡ old ++ triples_of (stated end P)
 given_stated end old new P h = h ∙ ap (λ Q. old ++ Q) (sym (triples_stated end P))
 
--- a turn that gives no triple
-pub quiet_moves : (old new : Parser) (t : Turn) → Turns old new t → Moves old new t
+-- a transition that gives no triple
+pub quiet_moves : (old new : Parser) (t : Transition) → MovesQuietly old new t → Moves old new t
 quiet_moves old new t h = record { state = h.state; last = h.last }
 
 -- leaves the list
-pub quiet_given : (old new : Parser) (t : Turn) (before : List RdfTriple) → Turns old new t → before ≡ before ++ triples_of t.1
+pub quiet_given : (old new : Parser) (t : Transition) (before : List RdfTriple) → MovesQuietly old new t → before ≡ before ++ triples_of t.1
 quiet_given old new t before h = sym (append-nil before) ∙ ap (λ Q. before ++ Q) (sym h.given)

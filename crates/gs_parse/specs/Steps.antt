@@ -7,45 +7,45 @@ use Rattle.gs_triple_values.specs.Views.{symbol_at}
 use Rattle.gs_triple_parser.specs.Views.{pending_triples}
 use Rattle.gs_triple_values.specs.declared.symbols.Symbol.{Symbol}
 use Rattle.gs_document.specs.Directives.{with_prefix}
-use Rattle.gs_document.specs.States.{Turn}
+use Rattle.gs_document.specs.States.{Transition}
 use Rattle.gs_document.specs.Machine as machine
 use Rattle.gs_parse.specs.Views.{state_of, state_at, context_at, numbers_at}
 use Rattle.gs_parse.specs.declared.parser.Parser.{Parser}
 use Rattle.gs_parse.specs.declared.places.Place.{Place}
 use Rattle.gs_parse.specs.declared.places.Place.TheVariants as place
 
--- the machine's turn by a symbol, were the parser at this place
-abbrev pub turn : Parser → Place → Symbol → Turn
-turn p l t = machine.step (state_at p l) (symbol_at t)
+-- the machine's transition by a symbol, were the parser at this place
+abbrev pub transition : Parser → Place → Symbol → Transition
+transition p l t = machine.step (state_at p l) (symbol_at t)
 
 -- where it is
-abbrev pub turn_here : Parser → Symbol → Turn
-turn_here p t = turn p p.place t
+abbrev pub transition_here : Parser → Symbol → Transition
+transition_here p t = transition p p.place t
 
 -- within triples
-abbrev pub turn_within : Parser → Symbol → Turn
-turn_within p t = turn p place.Within t
+abbrev pub transition_within : Parser → Symbol → Transition
+transition_within p t = transition p place.Within t
 
 -- after triples, where the symbol is to be their dot
-abbrev pub turn_after : Parser → Symbol → Turn
-turn_after p t = machine.conclude (symbol_at t) (context_at p) (pending_triples p.triples) (numbers_at p)
+abbrev pub transition_after : Parser → Symbol → Transition
+transition_after p t = machine.conclude (symbol_at t) (context_at p) (pending_triples p.triples) (numbers_at p)
 
 -- the context in which the directive's prefix is declared by the text of a reference
 abbrev pub declared : Parser → List ℕ → Option TurtleContext
 declared p x = with_prefix (context_at p) (string_bytes p.prefix) x
 
--- the parser took this turn
-pub record Moves (old new : Parser) (t : Turn) : Type 0 where
+-- the parser took this transition
+pub record Moves (old new : Parser) (t : Transition) : Type 0 where
   pub state : state_of new ≡ t.0
   pub last : new.last ≡ end_after old.last t.1
 
--- and the turn gives no triple
-pub record Turns (old new : Parser) (t : Turn) : Type 0 where
+-- and the transition gives no triple
+pub record MovesQuietly (old new : Parser) (t : Transition) : Type 0 where
   pub state : state_of new ≡ t.0
   pub given : triples_of t.1 ≡ []
   pub last : new.last ≡ end_after old.last t.1
 
--- the list grew by the triples that a turn gives, or is as it was where the call failed
-abbrev pub Gives : {E : Type 0} → Result (Unit {0}) E → List RdfTriple → List RdfTriple → Turn → Type 0
+-- the list grew by the triples that a transition gives, or is as it was where the call failed
+abbrev pub Gives : {E : Type 0} → Result (Unit {0}) E → List RdfTriple → List RdfTriple → Transition → Type 0
 Gives (Ok u) before after t = after ≡ before ++ triples_of t.1
 Gives (Err e) before after t = after ≡ before

@@ -11,12 +11,12 @@ impl Parser {
     ghost use Rattle.gs_triple_values.specs.Contexts.{Changes};
     ghost use Rattle.gs_document.specs.Machine.{step, set};
     ghost use Rattle.gs_parse.specs.Views.{state_at, context_at, numbers_at};
-    ghost use Rattle.gs_parse.specs.Steps.{turn, declared, Turns};
+    ghost use Rattle.gs_parse.specs.Steps.{transition, declared, MovesQuietly};
 
     /// `@prefix` or `@base`.
     #[tactic(auto, unfolding(gs_document::specs::Machine::step))]
     fn begin_at(&mut self, text: &str)
-        ensures { Turns self.old self.new (step (state_at self.old Place.Between) (At text.now)) }
+        ensures { MovesQuietly self.old self.new (step (state_at self.old Place.Between) (At text.now)) }
     {
         if text == "@prefix" {
             self.place = Place::InPrefix(true);
@@ -30,7 +30,8 @@ impl Parser {
     /// A symbol between two statements.
     #[tactic(auto, unfolding(gs_document::specs::Machine::step))]
     pub(crate) fn begin(&mut self, symbol: Symbol) -> Result<(), AllocError>
-        ensures { OnOk result (Turns self.old self.new (turn self.old Place.Between symbol.entry)) }
+        ensures { OnOk result
+            (MovesQuietly self.old self.new (transition self.old Place.Between symbol.entry)) }
     {
         match symbol {
             Symbol::At(text) => self.begin_at(text),
@@ -47,10 +48,11 @@ impl Parser {
     /// The prefix that a directive declares.
     #[tactic(auto, unfolding(gs_document::specs::Machine::step))]
     pub(crate) fn prefix(&mut self, dot: bool, symbol: Symbol) -> Result<(), AllocError>
-        ensures { OnOk result (Turns self.old self.new (turn self.old (Place.InPrefix dot) symbol.entry)) }
+        ensures { OnOk result
+            (MovesQuietly self.old self.new (transition self.old (Place.InPrefix dot) symbol.entry)) }
     {
         match symbol {
-            Symbol::Word(TermToken::Namespace(prefix)) => {
+            Symbol::Term(TermToken::Namespace(prefix)) => {
                 self.prefix = String::from_str(self.alloc, prefix)?;
                 self.place = Place::InPrefixIri(dot);
             }
@@ -61,7 +63,8 @@ impl Parser {
 
     /// After the IRI of a directive, which ends there where no dot is to come.
     fn set(&mut self, dot: bool, end: u64)
-        ensures { Turns self.old self.new (set dot end (numbers_at self.old) (Some (context_at self.old))) }
+        ensures { MovesQuietly self.old self.new
+            (set dot end (numbers_at self.old) (Some (context_at self.old))) }
     {
         if dot {
             self.place = Place::AtDot;
@@ -83,10 +86,11 @@ impl Parser {
     /// The IRI that a prefix stands for.
     #[tactic(auto, unfolding(gs_document::specs::Machine::step))]
     pub(crate) fn prefix_iri(&mut self, dot: bool, symbol: Symbol) -> Result<(), AllocError>
-        ensures { OnOk result (Turns self.old self.new (turn self.old (Place.InPrefixIri dot) symbol.entry)) }
+        ensures { OnOk result
+            (MovesQuietly self.old self.new (transition self.old (Place.InPrefixIri dot) symbol.entry)) }
     {
         match symbol {
-            Symbol::Word(TermToken::Reference(text, end)) => {
+            Symbol::Term(TermToken::Reference(text, end)) => {
                 if self.declare(text)? {
                     self.set(dot, end);
                 } else {
@@ -101,10 +105,11 @@ impl Parser {
     /// The IRI of a base.
     #[tactic(auto, unfolding(gs_document::specs::Machine::step, gs_document::specs::Directives::with_base))]
     pub(crate) fn base(&mut self, dot: bool, symbol: Symbol) -> Result<(), AllocError>
-        ensures { OnOk result (Turns self.old self.new (turn self.old (Place.InBase dot) symbol.entry)) }
+        ensures { OnOk result
+            (MovesQuietly self.old self.new (transition self.old (Place.InBase dot) symbol.entry)) }
     {
         match symbol {
-            Symbol::Word(TermToken::Reference(text, end)) => {
+            Symbol::Term(TermToken::Reference(text, end)) => {
                 if self.triples.set_base(text)? {
                     self.set(dot, end);
                 } else {
@@ -119,7 +124,7 @@ impl Parser {
     /// The dot of a directive.
     #[tactic(auto, unfolding(gs_document::specs::Machine::step))]
     pub(crate) fn dot(&mut self, symbol: Symbol)
-        ensures { Turns self.old self.new (turn self.old Place.AtDot symbol.entry) }
+        ensures { MovesQuietly self.old self.new (transition self.old Place.AtDot symbol.entry) }
     {
         match symbol {
             Symbol::Dot(end) => self.between(end),

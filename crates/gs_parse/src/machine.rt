@@ -19,7 +19,7 @@ impl Parser {
     ghost use Rattle.gs_document.specs.Machine as machine;
     ghost use Rattle.gs_document.specs.States.{Between};
     ghost use Rattle.gs_parse.specs.Views.{state_of};
-    ghost use Rattle.gs_parse.specs.Steps.{turn_here, turn_within, turn_after, Moves, Gives};
+    ghost use Rattle.gs_parse.specs.Steps.{transition_here, transition_within, transition_after, Moves, Gives};
 
     /// At the start of a document under an absolute base, in the request of this number.
     pub fn new(alloc: Global, base: &str, request: u64) -> Result<Parser, AllocError>
@@ -44,8 +44,9 @@ impl Parser {
     /// The symbol after the triples of a statement, which is to be their dot.
     #[tactic(auto, using(crate::proofs::StepLemmas::given_stated))]
     fn conclude(&mut self, symbol: Symbol, triples: &mut Vec<Triple>) -> Result<(), AllocError>
-        ensures moves { OnOk result (Moves self.old self.new (turn_after self.old symbol.entry)) }
-        ensures given { Gives result triples.old.items triples.new.items (turn_after self.old symbol.entry) }
+        ensures moves { OnOk result (Moves self.old self.new (transition_after self.old symbol.entry)) }
+        ensures given { Gives result triples.old.items triples.new.items
+            (transition_after self.old symbol.entry) }
     {
         let Symbol::Dot(end) = symbol else {
             self.lose();
@@ -59,8 +60,9 @@ impl Parser {
     /// A symbol within the triples of a statement, or after them.
     #[tactic(auto, unfolding(gs_document::specs::Machine::step))]
     fn within(&mut self, symbol: Symbol, triples: &mut Vec<Triple>) -> Result<(), AllocError>
-        ensures moves { OnOk result (Moves self.old self.new (turn_within self.old symbol.entry)) }
-        ensures given { Gives result triples.old.items triples.new.items (turn_within self.old symbol.entry) }
+        ensures moves { OnOk result (Moves self.old self.new (transition_within self.old symbol.entry)) }
+        ensures given { Gives result triples.old.items triples.new.items
+            (transition_within self.old symbol.entry) }
     {
         match self.triples.step(symbol)? {
             Turn::Over => self.conclude(symbol, triples),
@@ -74,8 +76,9 @@ impl Parser {
     /// One symbol more.
     #[tactic(auto, using(crate::proofs::StepLemmas::quiet_moves, crate::proofs::StepLemmas::quiet_given), unfolding(gs_document::specs::Machine::step, gs_triples::specs::Machine::step))]
     fn take(&mut self, symbol: Symbol, triples: &mut Vec<Triple>) -> Result<(), AllocError>
-        ensures moves { OnOk result (Moves self.old self.new (turn_here self.old symbol.entry)) }
-        ensures given { Gives result triples.old.items triples.new.items (turn_here self.old symbol.entry) }
+        ensures moves { OnOk result (Moves self.old self.new (transition_here self.old symbol.entry)) }
+        ensures given { Gives result triples.old.items triples.new.items
+            (transition_here self.old symbol.entry) }
     {
         match self.place {
             Place::Within => return self.within(symbol, triples),

@@ -22,11 +22,11 @@ impl Parser {
     ghost use Rattle.gs_model.specs.declared.faults.Fault.TheVariants.{Syntax};
     ghost use Rattle.gs_document.specs.States.{Between, lost, quiet};
     ghost use Rattle.gs_parse.specs.Views.{state_of, context_at, numbers_at};
-    ghost use Rattle.gs_parse.specs.Steps.{Turns};
+    ghost use Rattle.gs_parse.specs.Steps.{MovesQuietly};
 
     /// The grammar is broken outside triples: nothing is read after it.
     pub(crate) fn lose(&mut self)
-        ensures { Turns self.old self.new (quiet (lost Syntax)) }
+        ensures { MovesQuietly self.old self.new (quiet (lost Syntax)) }
     {
         self.place = Place::Lost;
     }

@@ -89,11 +89,11 @@ still_last front row t None other h = h
 still_last front row t (Some j) other h = record {
   before = h.before;
   row = h.row;
-  behind = h.behind ++ row ∷ [];
-  parts = ap (λ rs. rs ++ row ∷ []) h.parts ∙ append_assoc h.before (h.row ∷ h.behind) (row ∷ []);
+  later = h.later ++ row ∷ [];
+  parts = ap (λ rs. rs ++ row ∷ []) h.parts ∙ append_assoc h.before (h.row ∷ h.later) (row ∷ []);
   place = h.place;
   same = h.same;
-  others = others_push t h.behind row h.others other;
+  others = others_push t h.later row h.others other;
 }
 
 -- one row more
@@ -108,7 +108,7 @@ newest_more rows front row t found true at same sofar =
       | false ↦ λ is. record {
         graph = is ∙ sym (ap graph_of_row at);
         within = omega (arith, length-append front (row ∷ []));
-        last = record { before = front; row = row; behind = []; parts = refl; place = refl; same = same; others = tt };
+        last = record { before = front; row = row; later = []; parts = refl; place = refl; same = same; others = tt };
       }
     ] here
 newest_more rows front row t found false at same sofar =
@@ -136,13 +136,13 @@ row_lines_are : (o : Option Row) → lines_of_row o ≡ lines_if (graph_of_row o
 row_lines_are None = refl
 row_lines_are (Some row) = refl
 
-pub get_behind : (before : List Row) (row : Row) (behind : List Row) → slice_get (before ++ row ∷ behind) (length before) ≡ Some row
-get_behind [] row behind = refl
-get_behind (x ∷ before) row behind = get_behind before row behind
+pub get_after : (before : List Row) (row : Row) (later : List Row) → slice_get (before ++ row ∷ later) (length before) ≡ Some row
+get_after [] row later = refl
+get_after (x ∷ before) row later = get_after before row later
 
 -- the row of IsLast is at its place
 pub last_at : (rows : List Row) (t : Target) (i : ℕ) (l : IsLast rows t i) → slice_get rows i ≡ Some l.row
-last_at rows t i l = ap (λ rs. slice_get rs i) l.parts ∙ ap (slice_get (l.before ++ l.row ∷ l.behind)) l.place ∙ get_behind l.before l.row l.behind
+last_at rows t i l = ap (λ rs. slice_get rs i) l.parts ∙ ap (slice_get (l.before ++ l.row ∷ l.later)) l.place ∙ get_after l.before l.row l.later
 
 -- what is found in all rows
 pub newest_row : (rows : List Row) (t : Target) (found : Option ℕ) → IsNewest rows rows t found → NewestRow rows t found

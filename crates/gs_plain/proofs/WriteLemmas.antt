@@ -48,36 +48,36 @@ graph_at-fold : (u : Target) (m : Dataset) (rs : List Row) → graph_at (fold (�
 graph_at-fold u m [] = refl
 graph_at-fold u m (r ∷ rs) = graph_at-fold u (after_row m r) rs ∙ ap (λ o. fold_at u o rs) (graph_at-after_row m r u)
 
-graph_at-parts : (u : Target) (before : List Row) (row : Row) (behind : List Row) → graph_at (dataset_of (before ++ row ∷ behind)) u ≡ fold_at u (at_row u row (graph_at (dataset_of before) u)) behind
-graph_at-parts u before row behind = ap (λ m. graph_at m u) (fold-append (λ m (r : Row). after_row m r) empty_dataset before (row ∷ behind)) ∙ graph_at-fold u (dataset_of before) (row ∷ behind)
+graph_at-parts : (u : Target) (before : List Row) (row : Row) (later : List Row) → graph_at (dataset_of (before ++ row ∷ later)) u ≡ fold_at u (at_row u row (graph_at (dataset_of before) u)) later
+graph_at-parts u before row later = ap (λ m. graph_at m u) (fold-append (λ m (r : Row). after_row m r) empty_dataset before (row ∷ later)) ∙ graph_at-fold u (dataset_of before) (row ∷ later)
 
 past_others : (t : Target) (o : Option Graph) (rs : List Row) → AreOthers t rs → fold_at t o rs ≡ o
 past_others t o [] h = refl
 past_others t o (r ∷ rs) h = ap (λ b. fold_at t (cond b (cond r.ended (graph_at empty_dataset t) (Some r.graph)) o) rs) h.0 ∙ past_others t o rs h.1
 
-set_parts : (before : List Row) (row new : Row) (behind : List Row) → slice_set (before ++ row ∷ behind) (length before) new ≡ before ++ new ∷ behind
-set_parts [] row new behind = refl
-set_parts (r ∷ before) row new behind = ap (λ rs. r ∷ rs) (set_parts before row new behind)
+set_parts : (before : List Row) (row new : Row) (later : List Row) → slice_set (before ++ row ∷ later) (length before) new ≡ before ++ new ∷ later
+set_parts [] row new later = refl
+set_parts (r ∷ before) row new later = ap (λ rs. r ∷ rs) (set_parts before row new later)
 
 -- the newest row of a target is ended: the target's graph is gone, and every other is as it was
 pub dataset_end : (rows : List Row) (t : Target) (i : ℕ) (l : IsLast rows t i) → dataset_of (slice_set rows i (ended_row l.row)) ≡ without_graph (dataset_of rows) t
 dataset_end rows t i l =
-    let set : slice_set rows i (ended_row l.row) ≡ l.before ++ ended_row l.row ∷ l.behind =
-    ap (λ rs. slice_set rs i (ended_row l.row)) l.parts ∙ ap (λ n. slice_set (l.before ++ l.row ∷ l.behind) n (ended_row l.row)) l.place ∙ set_parts l.before l.row (ended_row l.row) l.behind in
-    same_dataset _ _ (λ u. ap (λ rs. graph_at (dataset_of rs) u) set ∙ graph_at-parts u l.before (ended_row l.row) l.behind ∙ at_target u (target_eq t u) refl ∙ sym (graph_at-without_graph (dataset_of rows) t u))
+    let set : slice_set rows i (ended_row l.row) ≡ l.before ++ ended_row l.row ∷ l.later =
+    ap (λ rs. slice_set rs i (ended_row l.row)) l.parts ∙ ap (λ n. slice_set (l.before ++ l.row ∷ l.later) n (ended_row l.row)) l.place ∙ set_parts l.before l.row (ended_row l.row) l.later in
+    same_dataset _ _ (λ u. ap (λ rs. graph_at (dataset_of rs) u) set ∙ graph_at-parts u l.before (ended_row l.row) l.later ∙ at_target u (target_eq t u) refl ∙ sym (graph_at-without_graph (dataset_of rows) t u))
   where
-    at_target : (u : Target) (b : Bool) → target_eq t u ≡ b → fold_at u (at_row u (ended_row l.row) (graph_at (dataset_of l.before) u)) l.behind ≡ cond (target_eq t u) (graph_at empty_dataset u) (graph_at (dataset_of rows) u)
+    at_target : (u : Target) (b : Bool) → target_eq t u ≡ b → fold_at u (at_row u (ended_row l.row) (graph_at (dataset_of l.before) u)) l.later ≡ cond (target_eq t u) (graph_at empty_dataset u) (graph_at (dataset_of rows) u)
     at_target u true e =
         let same = target_eq-true t u e in
         let own : target_eq l.row.target u ≡ true = subst (λ x. target_eq l.row.target x ≡ true) same l.same in
-        past_others u _ l.behind (subst (λ x. AreOthers x l.behind) same l.others)
+        past_others u _ l.later (subst (λ x. AreOthers x l.later) same l.others)
         ∙ ap (λ b. cond b (graph_at empty_dataset u) (graph_at (dataset_of l.before) u)) own
         ∙ sym (ap (λ b. cond b (graph_at empty_dataset u) (graph_at (dataset_of rows) u)) e)
     at_target u false e =
         let other : target_eq l.row.target u ≡ false = ap (λ x. target_eq x u) (target_eq-true l.row.target t l.same) ∙ e in
-        ap (λ b. fold_at u (cond b (graph_at empty_dataset u) (graph_at (dataset_of l.before) u)) l.behind) other
-        ∙ sym (ap (λ b. fold_at u (cond b (cond l.row.ended (graph_at empty_dataset u) (Some l.row.graph)) (graph_at (dataset_of l.before) u)) l.behind) other)
-        ∙ sym (graph_at-parts u l.before l.row l.behind)
+        ap (λ b. fold_at u (cond b (graph_at empty_dataset u) (graph_at (dataset_of l.before) u)) l.later) other
+        ∙ sym (ap (λ b. fold_at u (cond b (cond l.row.ended (graph_at empty_dataset u) (Some l.row.graph)) (graph_at (dataset_of l.before) u)) l.later) other)
+        ∙ sym (graph_at-parts u l.before l.row l.later)
         ∙ sym (ap (λ rs. graph_at (dataset_of rs) u) l.parts)
         ∙ sym (ap (λ b. cond b (graph_at empty_dataset u) (graph_at (dataset_of rows) u)) e)
 

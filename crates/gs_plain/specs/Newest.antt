@@ -34,11 +34,11 @@ AreOthers t (r ∷ rs) = (target_eq r.target t ≡ false) × AreOthers t rs
 pub record IsLast (rows : List Row) (t : Target) (i : ℕ) : Type 0 where
   pub before : List Row
   pub row : Row
-  pub behind : List Row
-  pub parts : rows ≡ before ++ row ∷ behind
+  pub later : List Row
+  pub parts : rows ≡ before ++ row ∷ later
   pub place : i ≡ length before
   pub same : target_eq row.target t ≡ true
-  pub others : AreOthers t behind
+  pub others : AreOthers t later
 
 -- the row of a target that says its graph, if one does
 pub record NewestRow (rows : List Row) (t : Target) (found : Option ℕ) : Type 0 where

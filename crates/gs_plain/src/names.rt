@@ -35,8 +35,8 @@ pub fn new_name_twice(
     ensures { IfOk result (λ r. (r.0 ≡ name_for books.now request) × (r.1 ≡ name_for books.now request)) }
 {
     let name = new_name(books, alloc, request)?;
-    let told = name.clone()?;
-    Ok((name, told))
+    let given = name.clone()?;
+    Ok((name, given))
 }
 
 /// `<base>/graphs/n<request>-<number>`.

@@ -19,7 +19,7 @@ use std::cmp::Ordering;
 use std::marker::Model;
 
 /// The canonical bytes of one IRI, blank node or literal, at most 65,535. A contract sees the
-/// term. Order is by the bytes; the first byte tells the kind: `<`, `_` or `"`.
+/// term. Order is by the bytes; the first byte gives the kind: `<`, `_` or `"`.
 #[derive(Debug, Drop)]
 pub struct TermText {
     bytes: Vec<u8>,

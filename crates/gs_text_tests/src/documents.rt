@@ -79,11 +79,11 @@ fn feed_pieces(
 fn agrees(alloc: Global, document: &str, size: usize, want: &Meaning) -> Result<bool, Refusal> {
     let mut reader = NTriplesReader::new(alloc, 1);
     let mut triples = Vec::new(alloc);
-    let told = feed_pieces(&mut reader, document, size, &mut triples);
+    let reported = feed_pieces(&mut reader, document, size, &mut triples);
     if let Some(at) = want.fault {
-        return Ok(told == Err(Refusal::Syntax(at)));
+        return Ok(reported == Err(Refusal::Syntax(at)));
     }
-    told?;
+    reported?;
     let lines = lines_of(alloc, triples.as_slice())?;
     Ok(lines.as_slice() == want.lines.as_bytes())
 }

@@ -118,8 +118,8 @@ const UNFINISHED: [Row; 6] = [
 /// each statement before it was given.
 fn has_fault(alloc: Global, language: Language, row: &Row, size: usize, is_counted: bool) -> bool {
     let mut triples = Vec::new(alloc);
-    let told = read(alloc, language, row.1, size, &mut triples);
-    told == Err(Refusal::Syntax(row.3)) && (!is_counted || triples.len() == row.2)
+    let reported = read(alloc, language, row.1, size, &mut triples);
+    reported == Err(Refusal::Syntax(row.3)) && (!is_counted || triples.len() == row.2)
 }
 
 /// The first text that does not have its fault in both languages, in pieces of this length.
@@ -136,7 +136,7 @@ fn wrong_row(alloc: Global, rows: &[Row], size: usize, is_counted: bool) -> Opti
 
 /// The refused call gives nothing; byte by byte each statement before the fault is given.
 #[test]
-fn a_fault_is_told_with_its_place(rt: HostRuntime) {
+fn a_fault_is_reported_with_its_place(rt: HostRuntime) {
     assert_eq!(rt; wrong_row(rt.alloc(), &FAULTS, 1, true), None);
     assert_eq!(rt; wrong_row(rt.alloc(), &FAULTS, 2, false), None);
     assert_eq!(rt; wrong_row(rt.alloc(), &FAULTS, 3, false), None);

@@ -112,7 +112,7 @@ fn an_empty_run_adds_nothing(rt: HostRuntime) -> Result<(), Refusal> {
 }
 
 #[test]
-fn a_run_that_does_not_rise_is_told(rt: HostRuntime) -> Result<(), Refusal> {
+fn a_run_that_does_not_rise_is_reported(rt: HostRuntime) -> Result<(), Refusal> {
     let mut set = NumberSet::new(rt.alloc());
     assert!(&rt; set.add_run(&[key(3), key(3)], 0)? == None);
     assert!(&rt; set.add_run(&[key(4), key(3)], 0)? == None);

@@ -1,6 +1,6 @@
 //! What a parser has so far: how many triples, and the numbers of labels.
 ghost use Rattle.std.specs.Prelude.{◌≡◌, length, codes, option_and_then};
-ghost use Rattle.gs_escape.specs.Tokens.{behind};
+ghost use Rattle.gs_escape.specs.Tokens.{rest_after};
 ghost use Rattle.gs_blank.specs.Numbers.{known};
 
 use crate::parser::TripleParser;
@@ -24,7 +24,8 @@ impl<L: Language> TripleParser<L> {
 
     /// The number of a label with its mark, if it has one.
     pub fn label_number(&self, label: &str) -> Option<u64>
-        ensures { result ≡ option_and_then (known (numbers_now self.now)) (behind (codes "_:") label.now) }
+        ensures { result ≡ option_and_then (known (numbers_now self.now))
+            (rest_after (codes "_:") label.now) }
     {
         let Some(label) = after(label, "_:") else {
             return None;

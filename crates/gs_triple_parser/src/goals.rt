@@ -15,7 +15,7 @@ use std::alloc::AllocError;
 pub fn begins_verb(symbol: Symbol) -> bool
     ensures { result ≡ begins_verb_of (symbol_at symbol.entry) }
 {
-    matches!(symbol, Symbol::Word(_) | Symbol::A)
+    matches!(symbol, Symbol::Term(_) | Symbol::A)
 }
 
 impl<L: Language> TripleParser<L> {
@@ -141,7 +141,7 @@ impl<L: Language> TripleParser<L> {
                 self.place = Place::Heading(Goal::Semis(depth, subject));
                 Ok(Turn::Taken)
             }
-            Symbol::Word(_) | Symbol::A => {
+            Symbol::Term(_) | Symbol::A => {
                 self.at_verb(depth, subject, symbol)?;
                 Ok(Turn::Taken)
             }

@@ -72,7 +72,7 @@ impl<L: Language> TripleParser<L> {
         ensures { Reaches L.language result self.new (object_of L.language self.old depth slot symbol.entry) }
     {
         match symbol {
-            Symbol::Word(token) => return self.object_word(slot, token),
+            Symbol::Term(token) => return self.object_word(slot, token),
             Symbol::Text(text) => {
                 let text = String::from_str(self.alloc, text)?;
                 self.place = Place::Held(text, slot);

@@ -102,7 +102,7 @@ impl<L: Language> TripleParser<L> {
     /// A token that is a term or a variable opens triples.
     fn open_word(&mut self, token: TermToken) -> Result<(), AllocError>
         ensures { Reaches L.language result self.new
-            (opening_of L.language self.old (Symbol.Word token.entry)) }
+            (opening_of L.language self.old (Symbol.Term token.entry)) }
     {
         let scope = &mut self.scope;
         match values::subject::<L>(
@@ -123,7 +123,7 @@ impl<L: Language> TripleParser<L> {
         ensures { Reaches L.language result self.new (opening_of L.language self.old symbol.entry) }
     {
         match symbol {
-            Symbol::Word(token) => return self.open_word(token),
+            Symbol::Term(token) => return self.open_word(token),
             Symbol::Open => self.open_brackets(),
             Symbol::OpenList => return self.open_list(),
             _ => self.lose(Fault::Syntax),

@@ -18,8 +18,8 @@ symbol_of_bytes t n =
     ] refl
 
 -- a text may be cut after a front that is text
-pub boundary_behind : (front x : List ℕ) → IsUtf8 x → IsUtf8 front → length front ≤ length x → take (length front) x ≡ front → IsCharBoundary x (length front)
-boundary_behind front x u f l e = IsCharBoundary-from_take x (length front) u l (subst IsUtf8 (sym e) f)
+pub boundary_after : (front x : List ℕ) → IsUtf8 x → IsUtf8 front → length front ≤ length x → take (length front) x ≡ front → IsCharBoundary x (length front)
+boundary_after front x u f l e = IsCharBoundary-from_take x (length front) u l (subst IsUtf8 (sym e) f)
 
 pub colon_low : (c : ℕ) → (c == 58) ≡ true → c < 128
 colon_low c h = let e : c ≡ 58 = eqb-true c 58 h in omega (arith, e)

@@ -21,7 +21,7 @@ token_at (token.Variable x) = grammar.Variable x.now
 
 -- a symbol of the code, as one of the grammar
 abbrev pub symbol_at : Symbol → grammar.Symbol
-symbol_at (symbol.Word w) = grammar.AWord (token_at w)
+symbol_at (symbol.Term w) = grammar.ATerm (token_at w)
 symbol_at (symbol.Text x) = grammar.Text x.now
 symbol_at (symbol.At x) = grammar.At x.now
 symbol_at symbol.Carets = grammar.Carets

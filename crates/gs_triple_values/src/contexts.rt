@@ -78,7 +78,11 @@ impl Context {
             return Ok(None);
         };
         let mut iri = String::new(self.alloc);
-        match memory_apart(gs_iri::resolve_under(self.base.as_str(), reference.as_str(), &mut iri))? {
+        match memory_apart(gs_iri::resolve_under(
+            self.base.as_str(),
+            reference.as_str(),
+            &mut iri,
+        ))? {
             Ok(()) => Ok(Some(iri)),
             Err(_) => Ok(None),
         }

@@ -24,7 +24,7 @@ pub enum TermToken<'a> {
 /// A terminal, with what it leaves open.
 #[derive(Clone, Copy)]
 pub enum Symbol<'a> {
-    Word(TermToken<'a>),
+    Term(TermToken<'a>),
     Text(&'a str),
     /// A language tag, `@prefix` or `@base`.
     At(&'a str),
@@ -59,15 +59,15 @@ fn symbol_of_kind(kind: TokenKind, text: &str, end: u64) -> Symbol<'_>
     ensures { symbol_at result ≡ kind_symbol kind text.now end }
 {
     match kind {
-        TokenKind::IriRef => Symbol::Word(TermToken::Reference(text, end)),
-        TokenKind::PnameNs => Symbol::Word(TermToken::Namespace(text)),
-        TokenKind::PnameLn => Symbol::Word(TermToken::Name(text)),
-        TokenKind::BlankNodeLabel => Symbol::Word(TermToken::Label(text)),
-        TokenKind::Integer => Symbol::Word(TermToken::Plain(text, XSD_INTEGER)),
-        TokenKind::Decimal => Symbol::Word(TermToken::Plain(text, XSD_DECIMAL)),
-        TokenKind::Double => Symbol::Word(TermToken::Plain(text, XSD_DOUBLE)),
-        TokenKind::True => Symbol::Word(TermToken::Plain("true", XSD_BOOLEAN)),
-        TokenKind::False => Symbol::Word(TermToken::Plain("false", XSD_BOOLEAN)),
+        TokenKind::IriRef => Symbol::Term(TermToken::Reference(text, end)),
+        TokenKind::PnameNs => Symbol::Term(TermToken::Namespace(text)),
+        TokenKind::PnameLn => Symbol::Term(TermToken::Name(text)),
+        TokenKind::BlankNodeLabel => Symbol::Term(TermToken::Label(text)),
+        TokenKind::Integer => Symbol::Term(TermToken::Plain(text, XSD_INTEGER)),
+        TokenKind::Decimal => Symbol::Term(TermToken::Plain(text, XSD_DECIMAL)),
+        TokenKind::Double => Symbol::Term(TermToken::Plain(text, XSD_DOUBLE)),
+        TokenKind::True => Symbol::Term(TermToken::Plain("true", XSD_BOOLEAN)),
+        TokenKind::False => Symbol::Term(TermToken::Plain("false", XSD_BOOLEAN)),
         TokenKind::StringLiteralQuote
         | TokenKind::StringLiteralSingleQuote
         | TokenKind::StringLiteralLongQuote
@@ -82,7 +82,7 @@ fn symbol_of_kind(kind: TokenKind, text: &str, end: u64) -> Symbol<'_>
         TokenKind::Semicolon => Symbol::Semicolon,
         TokenKind::Comma => Symbol::Comma,
         TokenKind::Dot => Symbol::Dot(end),
-        TokenKind::Var => Symbol::Word(TermToken::Variable(after_mark(text.as_bytes()))),
+        TokenKind::Var => Symbol::Term(TermToken::Variable(after_mark(text.as_bytes()))),
         TokenKind::Prefix => Symbol::Prefix,
         TokenKind::Base => Symbol::Base,
         _ => Symbol::Foreign(kind, end),

@@ -3,7 +3,7 @@ ghost use Rattle.std.specs.Prelude.{◌≡◌, true, Some, IfOk, option_copied};
 ghost use Rattle.gs_model.specs.Terms.{Term, Iri, Blank, Literal, Typed};
 ghost use Rattle.gs_model.specs.Triples.{is_iri};
 ghost use Rattle.gs_term.specs.Making.{Makes};
-ghost use Rattle.gs_escape.specs.Tokens.{behind, string_of};
+ghost use Rattle.gs_escape.specs.Tokens.{rest_after, string_of};
 ghost use Rattle.gs_triples.specs.Meanings as meaning;
 ghost use Rattle.gs_triples.specs.Meanings.{made_of};
 ghost use Rattle.gs_triple_values.specs.Views.{token_at, context_of};
@@ -54,7 +54,7 @@ pub(crate) fn made_literal(
 
 /// What stands after the front of a text.
 pub fn after<'a>(text: &'a str, front: &str) -> Option<&'a str>
-    ensures { option_copied result ≡ behind front.now text.now }
+    ensures { option_copied result ≡ rest_after front.now text.now }
 {
     match text.as_bytes().strip_prefix(front.as_bytes()) {
         None => None,
@@ -134,7 +134,7 @@ pub fn typed(
 ) -> Result<Result<TermText, Fault>, AllocError>
     ensures { IfOk result (λ m. m ≡ typed_of context.now text.now datatype.entry) }
 {
-    let Symbol::Word(token) = datatype else {
+    let Symbol::Term(token) = datatype else {
         return Ok(Err(Fault::Syntax));
     };
     let Some(form) = lexical(alloc, text)? else {

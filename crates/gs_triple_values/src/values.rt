@@ -1,7 +1,7 @@
 //! The values of tokens, in a language.
 ghost use Rattle.std.specs.Prelude.{◌≡◌, Some, IfOk, option_map, codes};
 ghost use Rattle.gs_model.specs.Terms.{Literal, Typed};
-ghost use Rattle.gs_escape.specs.Tokens.{behind};
+ghost use Rattle.gs_escape.specs.Tokens.{rest_after};
 ghost use Rattle.gs_blank.specs.Numbers.{Numbers, number_of};
 ghost use Rattle.gs_triple_values.specs.Terms.{stood, StandsFor, StandsNumbered, IsNumbered};
 ghost use Rattle.gs_triple_values.specs.Terms.{iri_value, verb_value, word_value, subject_value};
@@ -54,7 +54,7 @@ fn verb_word<L: Language>(
     token: TermToken,
 ) -> Result<Result<L::Verb, Fault>, AllocError>
     ensures { (a : Flags) → StandsFor L.language.verb result
-        (verb_value L.language context.now a (Symbol.Word token.entry)) }
+        (verb_value L.language context.now a (Symbol.Term token.entry)) }
 {
     match token {
         TermToken::Variable(name) => variable_verb::<L>(alloc, name),
@@ -72,7 +72,7 @@ pub fn verb<L: Language>(
         (verb_value L.language context.now a symbol.entry) }
 {
     match symbol {
-        Symbol::Word(token) => verb_word::<L>(alloc, context, token),
+        Symbol::Term(token) => verb_word::<L>(alloc, context, token),
         Symbol::A => Ok(Ok(L::verb(rdf_type(alloc)?))),
         _ => Ok(Err(Fault::Syntax)),
     }
@@ -81,7 +81,7 @@ pub fn verb<L: Language>(
 /// The number of a label, which stands after its mark.
 fn labelled(numbering: &mut Numbering, label: &str) -> Result<Option<u64>, AllocError>
     ensures { IfOk result (λ o. option_map (λ k. (k, numbering.new)) o
-        ≡ option_map (number_of numbering.old) (behind (codes "_:") label.now)) }
+        ≡ option_map (number_of numbering.old) (rest_after (codes "_:") label.now)) }
 {
     let Some(label) = after(label, "_:") else {
         return Ok(None);

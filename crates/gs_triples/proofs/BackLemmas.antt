@@ -3,7 +3,7 @@ use Rattle.std.proofs.Common.{◌≡◌, ℕ, zero, suc, Bool, true, false, cond
 use Rattle.std.specs.Prelude.{Result, Ok, Err}
 use Rattle.gs_model.specs.Terms.{Term}
 use Rattle.gs_blank.specs.Numbers.{Numbers, one_more}
-use Rattle.gs_triples.specs.Symbols.{TermToken, Symbol, AWord, Text, At, Carets, A, Open, Close, OpenList, CloseList, Semicolon, Comma}
+use Rattle.gs_triples.specs.Symbols.{TermToken, Symbol, ATerm, Text, At, Carets, A, Open, Close, OpenList, CloseList, Semicolon, Comma}
 use Rattle.gs_triples.specs.Meanings as meaning
 use Rattle.gs_triples.specs.Meanings.{Fault, Syntax, Context, blank, rdf_value}
 use Rattle.gs_triples.specs.Goals.{Goal, Object, Inside, Verbs, After, Semis, Begun, Items, may_open, may_open_node, next_number, first_is, rest_is}
@@ -50,11 +50,11 @@ module _ {Value Triple : Type 0} where
       go (Ok r) (ys, h, b) = (pre ++ (xs ++ ys), joins pre ts xs ys o.rest r.rest e h, rule xs ys o.value r.value o.triples r.triples o.numbers r.numbers c b)
 
   -- a goal after one token
-  covered_behind : (env : Context Value Triple) (g h : Goal Value) (m n : Numbers) (t : Symbol) (ts : List Symbol)
+  covered_after : (env : Context Value Triple) (g h : Goal Value) (m n : Numbers) (t : Symbol) (ts : List Symbol)
       → ((us : List Symbol) (v : Value) (T : List Triple) (k : Numbers) → Covers env h n us v T k → Covers env g m (t ∷ us) v T k)
       → (r : Result (Got Value Triple) Fault) → Covered env h n ts r → Covered env g m (t ∷ ts) r
-  covered_behind env g h m n t ts rule (Err e) c = tt
-  covered_behind env g h m n t ts rule (Ok r) (us, e, d) = (t ∷ us, ap (λ z. t ∷ z) e, rule us r.value r.triples r.numbers d)
+  covered_after env g h m n t ts rule (Err e) c = tt
+  covered_after env g h m n t ts rule (Ok r) (us, e, d) = (t ∷ us, ap (λ z. t ∷ z) e, rule us r.value r.triples r.numbers d)
 
   -- where a test holds, and else nothing is read
   covered_when : (env : Context Value Triple) (g : Goal Value) (n : Numbers) (ts : List Symbol) (b : Bool) (r : Result (Got Value Triple) Fault)
@@ -64,9 +64,9 @@ module _ {Value Triple : Type 0} where
 
   -- the value of one token
   covered_named : (env : Context Value Triple) (d : ℕ) (n : Numbers) (w : TermToken) (ts : List Symbol) (r : Result (Value × Numbers) Fault) → meaning.word env n w ≡ r
-      → Covered env (Object d) n (AWord w ∷ ts) (one_token ts r)
+      → Covered env (Object d) n (ATerm w ∷ ts) (one_token ts r)
   covered_named env d n w ts (Err e) h = tt
-  covered_named env d n w ts (Ok p) h = (AWord w ∷ [], refl, rule.word w h)
+  covered_named env d n w ts (Ok p) h = (ATerm w ∷ [], refl, rule.word w h)
 
   -- a literal of these tokens
   covered_bare : (env : Context Value Triple) (d : ℕ) (n : Numbers) (front ts : List Symbol) (m r : Result Term Fault) → m ≡ r
@@ -131,16 +131,16 @@ module _ {Value Triple : Type 0} where
   unfolding parse
   covered env zero g n ts = tt
   covered env (suc f) (Object d) n [] = tt
-  covered env (suc f) (Object d) n (AWord w ∷ ts) = covered_named env d n w ts _ refl
+  covered env (suc f) (Object d) n (ATerm w ∷ ts) = covered_named env d n w ts _ refl
   covered env (suc f) (Object d) n (Text x ∷ ts) = covered_literal env d n x ts
   covered env (suc f) (Object d) n (Open ∷ ts) =
       let inside : Goal Value = Inside (suc d) (next_number n) in
       covered_when env (Object d) n (Open ∷ ts) (may_open_node env d) (parse env f inside (one_more n) ts) (λ q.
-      covered_behind env (Object d) inside n (one_more n) Open ts (λ us v T k c. rule.brackets q c) (parse env f inside (one_more n) ts) (covered env f inside (one_more n) ts))
+      covered_after env (Object d) inside n (one_more n) Open ts (λ us v T k c. rule.brackets q c) (parse env f inside (one_more n) ts) (covered env f inside (one_more n) ts))
   covered env (suc f) (Object d) n (OpenList ∷ ts) =
       let begun : Goal Value = Begun (suc d) in
       covered_when env (Object d) n (OpenList ∷ ts) (may_open d) (parse env f begun n ts) (λ q.
-      covered_behind env (Object d) begun n n OpenList ts (λ us v T k c. rule.list q c) (parse env f begun n ts) (covered env f begun n ts))
+      covered_after env (Object d) begun n n OpenList ts (λ us v T k c. rule.list q c) (parse env f begun n ts) (covered env f begun n ts))
   covered env (suc f) (Object d) n (t ∷ ts) = tt
   covered env (suc f) (Inside d m) n [] = covered_closes env d m n [] (parse env f (Verbs d (blank env m)) n []) (covered env f (Verbs d (blank env m)) n [])
   covered env (suc f) (Inside d m) n (Close ∷ ts) = (Close ∷ [], refl, rule.anon m n)
@@ -150,11 +150,11 @@ module _ {Value Triple : Type 0} where
   covered env (suc f) (After d s p) n [] = ([], refl, rule.no_more s p n)
   covered env (suc f) (After d s p) n (Comma ∷ ts) =
       covered_then env f d n n (After d s p) (After d s p) (Comma ∷ []) ts (λ o. env.language.triple s p o ∷ []) (λ xs ys o w T U k l a b. rule.comma a b) (covered env f (After d s p)) (parse env f (Object d) n ts) (covered env f (Object d) n ts)
-  covered env (suc f) (After d s p) n (Semicolon ∷ ts) = covered_behind env (After d s p) (Semis d s) n n Semicolon ts (λ us v T k c. rule.semicolon c) (parse env f (Semis d s) n ts) (covered env f (Semis d s) n ts)
+  covered env (suc f) (After d s p) n (Semicolon ∷ ts) = covered_after env (After d s p) (Semis d s) n n Semicolon ts (λ us v T k c. rule.semicolon c) (parse env f (Semis d s) n ts) (covered env f (Semis d s) n ts)
   covered env (suc f) (After d s p) n (t ∷ ts) = ([], refl, rule.no_more s p n)
   covered env (suc f) (Semis d s) n [] = ([], refl, rule.none s n)
-  covered env (suc f) (Semis d s) n (Semicolon ∷ ts) = covered_behind env (Semis d s) (Semis d s) n n Semicolon ts (λ us v T k c. rule.again c) (parse env f (Semis d s) n ts) (covered env f (Semis d s) n ts)
-  covered env (suc f) (Semis d s) n (AWord w ∷ ts) = covered_as env (Semis d s) (Verbs d s) n (AWord w ∷ ts) (λ us v T k c. rule.more c) (parse env f (Verbs d s) n (AWord w ∷ ts)) (covered env f (Verbs d s) n (AWord w ∷ ts))
+  covered env (suc f) (Semis d s) n (Semicolon ∷ ts) = covered_after env (Semis d s) (Semis d s) n n Semicolon ts (λ us v T k c. rule.again c) (parse env f (Semis d s) n ts) (covered env f (Semis d s) n ts)
+  covered env (suc f) (Semis d s) n (ATerm w ∷ ts) = covered_as env (Semis d s) (Verbs d s) n (ATerm w ∷ ts) (λ us v T k c. rule.more c) (parse env f (Verbs d s) n (ATerm w ∷ ts)) (covered env f (Verbs d s) n (ATerm w ∷ ts))
   covered env (suc f) (Semis d s) n (A ∷ ts) = covered_as env (Semis d s) (Verbs d s) n (A ∷ ts) (λ us v T k c. rule.more c) (parse env f (Verbs d s) n (A ∷ ts)) (covered env f (Verbs d s) n (A ∷ ts))
   covered env (suc f) (Semis d s) n (t ∷ ts) = ([], refl, rule.none s n)
   covered env (suc f) (Begun d) n (CloseList ∷ ts) = (CloseList ∷ [], refl, rule.empty n)

@@ -8,13 +8,13 @@ use lib.Utf8.{encode}
 use Rattle.gs_model.specs.Terms.{Term, Iri, Blank}
 use Rattle.gs_model.specs.Triples.{RdfTriple}
 use Rattle.gs_lex.specs.declared.kinds.TokenKind.TheVariants as kind
-use Rattle.gs_iri.specs.References.{before, from, behind, is_scheme, has_scheme, scheme_of, behind_scheme, behind_slashes, authority_of, behind_authority, path_of, behind_path, query_of, behind_query, fragment_of, parts_of}
+use Rattle.gs_iri.specs.References.{before, from, rest_after, is_scheme, has_scheme, scheme_of, rest_after_scheme, rest_after_slashes, authority_of, rest_after_authority, path_of, rest_after_path, query_of, rest_after_query, fragment_of, parts_of}
 use Rattle.gs_iri.specs.Dots.{segments_of, is_dot, is_dot_dot, is_dots, closed, moved, text_of_segments, output_of, dots}
 use Rattle.gs_iri.specs.Resolving.{scheme_text, marked, parts_text, through_last, directory_of, resolved_parts, resolved}
 use Rattle.gs_escape.specs.Meanings.{unescaped, stands_short}
 use Rattle.gs_escape.specs.Tokens.{between, quoted, iri_of, string_of}
 use Rattle.gs_blank.specs.Numbers.{no_numbers}
-use Rattle.gs_triples.specs.Symbols.{Symbol, AWord, Text, Carets, A, Open, Close, OpenList, CloseList, Dot, Foreign, Reference, Label, Variable, symbol}
+use Rattle.gs_triples.specs.Symbols.{Symbol, ATerm, Text, Carets, A, Open, Close, OpenList, CloseList, Dot, Foreign, Reference, Label, Variable, symbol}
 use Rattle.gs_triples.specs.Languages.{Language, of_terms, triple}
 use Rattle.gs_triples.specs.Meanings.{Fault, Syntax, Context, word, iri, made_of, typed, rdf}
 use Rattle.gs_triples.specs.Reading.{Got, parse}
@@ -49,10 +49,10 @@ reads l ts = triples_at (under l) no_numbers ts
 
 -- `<a>`, a variable, and the end of a group
 abbrev a : Symbol
-a = AWord (Reference (codes "<a>") 3)
+a = ATerm (Reference (codes "<a>") 3)
 
 abbrev variable : List ℕ → Symbol
-variable x = AWord (Variable x)
+variable x = ATerm (Variable x)
 
 abbrev end : Symbol
 end = Foreign kind.CloseBrace 20
@@ -67,13 +67,13 @@ other_mark = refl
 -- `?s <a> ?o }` is one triple, by the program
 sought : reads patterns (variable (codes "s") ∷ a ∷ variable (codes "o") ∷ end ∷ [])
     ≡ Ok (record { value = Sought (codes "s"); triples = (Sought (codes "s"), Given (Iri (codes "http://e/a")), Sought (codes "o")) ∷ []; numbers = no_numbers; rest = end ∷ [] })
-unfolding triples_at parse word iri made_of iri_of between unescaped is_utf8 chars encode resolved resolved_parts parts_of before from behind is_scheme has_scheme scheme_of behind_scheme behind_slashes authority_of behind_authority path_of behind_path query_of behind_query fragment_of dots segments_of closed is_dots is_dot is_dot_dot moved output_of text_of_segments scheme_text marked parts_text through_last directory_of
+unfolding triples_at parse word iri made_of iri_of between unescaped is_utf8 chars encode resolved resolved_parts parts_of before from rest_after is_scheme has_scheme scheme_of rest_after_scheme rest_after_slashes authority_of rest_after_authority path_of rest_after_path query_of rest_after_query fragment_of dots segments_of closed is_dots is_dot is_dot_dot moved output_of text_of_segments scheme_text marked parts_text through_last directory_of
 sought = refl
 
 -- and by the machine
 sought_by_steps : run (a ∷ variable (codes "o") ∷ end ∷ []) (opening (under patterns) no_numbers (variable (codes "s")))
     ≡ Ok (record { context = under patterns; triples = (Sought (codes "s"), Given (Iri (codes "http://e/a")), Sought (codes "o")) ∷ []; numbers = no_numbers; rest = end ∷ [] })
-unfolding run step word iri made_of iri_of between unescaped is_utf8 chars encode resolved resolved_parts parts_of before from behind is_scheme has_scheme scheme_of behind_scheme behind_slashes authority_of behind_authority path_of behind_path query_of behind_query fragment_of dots segments_of closed is_dots is_dot is_dot_dot moved output_of text_of_segments scheme_text marked parts_text through_last directory_of
+unfolding run step word iri made_of iri_of between unescaped is_utf8 chars encode resolved resolved_parts parts_of before from rest_after is_scheme has_scheme scheme_of rest_after_scheme rest_after_slashes authority_of rest_after_authority path_of rest_after_path query_of rest_after_query fragment_of dots segments_of closed is_dots is_dot is_dot_dot moved output_of text_of_segments scheme_text marked parts_text through_last directory_of
 sought_by_steps = refl
 
 -- `?s ?p ?o }`: a variable is a verb too
@@ -93,7 +93,7 @@ unfolding triples_at word
 no_variable = refl
 
 -- `?s a _:b }`, `[ ] a ?o }`, `?s a [ ] }` and `?s a ( ?o ) }`: without blank nodes these are faults
-no_label : reads patterns (variable (codes "s") ∷ A ∷ AWord (Label (codes "_:b")) ∷ end ∷ []) ≡ Err Syntax
+no_label : reads patterns (variable (codes "s") ∷ A ∷ ATerm (Label (codes "_:b")) ∷ end ∷ []) ≡ Err Syntax
 unfolding triples_at parse word
 no_label = refl
 
@@ -122,13 +122,13 @@ cell = triple (Blank 1 1) (rdf (codes "first")) (Iri (codes "http://e/a")) ∷ t
 -- `( <a> ) }` alone, by the program
 lone_list : reads with_lists (OpenList ∷ a ∷ CloseList ∷ end ∷ [])
     ≡ Ok (record { value = Blank 1 1; triples = cell; numbers = (no_numbers.0, 1); rest = end ∷ [] })
-unfolding triples_at parse word iri made_of iri_of between unescaped is_utf8 chars encode resolved resolved_parts parts_of before from behind is_scheme has_scheme scheme_of behind_scheme behind_slashes authority_of behind_authority path_of behind_path query_of behind_query fragment_of dots segments_of closed is_dots is_dot is_dot_dot moved output_of text_of_segments scheme_text marked parts_text through_last directory_of
+unfolding triples_at parse word iri made_of iri_of between unescaped is_utf8 chars encode resolved resolved_parts parts_of before from rest_after is_scheme has_scheme scheme_of rest_after_scheme rest_after_slashes authority_of rest_after_authority path_of rest_after_path query_of rest_after_query fragment_of dots segments_of closed is_dots is_dot is_dot_dot moved output_of text_of_segments scheme_text marked parts_text through_last directory_of
 lone_list = refl
 
 -- and by the machine
 lone_list_by_steps : run (a ∷ CloseList ∷ end ∷ []) (opening (under with_lists) no_numbers OpenList)
     ≡ Ok (record { context = under with_lists; triples = cell; numbers = (no_numbers.0, 1); rest = end ∷ [] })
-unfolding run step word iri made_of iri_of between unescaped is_utf8 chars encode resolved resolved_parts parts_of before from behind is_scheme has_scheme scheme_of behind_scheme behind_slashes authority_of behind_authority path_of behind_path query_of behind_query fragment_of dots segments_of closed is_dots is_dot is_dot_dot moved output_of text_of_segments scheme_text marked parts_text through_last directory_of
+unfolding run step word iri made_of iri_of between unescaped is_utf8 chars encode resolved resolved_parts parts_of before from rest_after is_scheme has_scheme scheme_of rest_after_scheme rest_after_slashes authority_of rest_after_authority path_of rest_after_path query_of rest_after_query fragment_of dots segments_of closed is_dots is_dot is_dot_dot moved output_of text_of_segments scheme_text marked parts_text through_last directory_of
 lone_list_by_steps = refl
 
 -- `( ) }` alone is a fault, and in Turtle `( <a> ) .` is one too
@@ -137,5 +137,5 @@ unfolding triples_at parse
 no_lone_empty = refl
 
 no_lone_list : reads of_terms (OpenList ∷ a ∷ CloseList ∷ Dot 20 ∷ []) ≡ Err Syntax
-unfolding triples_at parse word iri made_of iri_of between unescaped is_utf8 chars encode resolved resolved_parts parts_of before from behind is_scheme has_scheme scheme_of behind_scheme behind_slashes authority_of behind_authority path_of behind_path query_of behind_query fragment_of dots segments_of closed is_dots is_dot is_dot_dot moved output_of text_of_segments scheme_text marked parts_text through_last directory_of
+unfolding triples_at parse word iri made_of iri_of between unescaped is_utf8 chars encode resolved resolved_parts parts_of before from rest_after is_scheme has_scheme scheme_of rest_after_scheme rest_after_slashes authority_of rest_after_authority path_of rest_after_path query_of rest_after_query fragment_of dots segments_of closed is_dots is_dot is_dot_dot moved output_of text_of_segments scheme_text marked parts_text through_last directory_of
 no_lone_list = refl

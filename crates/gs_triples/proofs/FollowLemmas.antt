@@ -34,11 +34,11 @@ module _ {Value : Type 0} where
 
 module _ {Value Triple : Type 0} where
   -- after an object, where verbs and objects go on or end
-  pub behind_object : {env : Context Value Triple} {d : ℕ} {s p v : Value} {n k : Numbers} {ys : List Symbol} {T : List Triple}
+  pub after_object : {env : Context Value Triple} {d : ℕ} {s p v : Value} {n k : Numbers} {ys : List Symbol} {T : List Triple}
       → Covers env (After d s p) n ys v T k → (rest : List Symbol) → EndsVerbs rest → NoSuffix (ys ++ rest)
-  behind_object (rule.no_more s p n) rest h = no_suffix rest h
-  behind_object (rule.comma a b) rest h = tt
-  behind_object (rule.semicolon a) rest h = tt
+  after_object (rule.no_more s p n) rest h = no_suffix rest h
+  after_object (rule.comma a b) rest h = tt
+  after_object (rule.semicolon a) rest h = tt
 
   -- an object begins with no suffix
   object_begins : {env : Context Value Triple} {d : ℕ} {v : Value} {n k : Numbers} {xs : List Symbol} {T : List Triple}
@@ -51,10 +51,10 @@ module _ {Value Triple : Type 0} where
   object_begins (rule.list h c) rest = tt
 
   -- after an object of a collection
-  pub behind_cell : {env : Context Value Triple} {d h m : ℕ} {v : Value} {n k : Numbers} {ys : List Symbol} {T : List Triple}
+  pub after_cell : {env : Context Value Triple} {d h m : ℕ} {v : Value} {n k : Numbers} {ys : List Symbol} {T : List Triple}
       → Covers env (Items d h m) n ys v T k → (rest : List Symbol) → NoSuffix (ys ++ rest)
-  behind_cell (rule.ended h m n) rest = tt
-  behind_cell (rule.item {xs = xs} {ys = ys} a b) rest = subst NoSuffix (sym (append_assoc xs ys rest)) (object_begins a (ys ++ rest))
+  after_cell (rule.ended h m n) rest = tt
+  after_cell (rule.item {xs = xs} {ys = ys} a b) rest = subst NoSuffix (sym (append_assoc xs ys rest)) (object_begins a (ys ++ rest))
 
   -- a string alone
   pub literal-simple : (env : Context Value Triple) (n : Numbers) (x : List ℕ) (ts : List Symbol) → NoSuffix ts

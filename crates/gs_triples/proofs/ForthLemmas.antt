@@ -2,7 +2,7 @@
 use Rattle.std.proofs.Common.{◌≡◌, ℕ, zero, suc, ◌+◌, ◌*◌, ◌<◌, Bool, true, cond, List, [], ◌∷◌, ◌++◌, length, refl, sym, ap, ◌∙◌, append_assoc, arith, length-append}
 use Rattle.std.specs.Prelude.{Result, Ok, Err}
 use Rattle.gs_blank.specs.Numbers.{Numbers, one_more}
-use Rattle.gs_triples.specs.Symbols.{Symbol, AWord, A, Close, Semicolon, Comma}
+use Rattle.gs_triples.specs.Symbols.{Symbol, ATerm, A, Close, Semicolon, Comma}
 use Rattle.gs_triples.specs.Meanings as meaning
 use Rattle.gs_triples.specs.Meanings.{Fault, Syntax, Context, blank, rdf_value}
 use Rattle.gs_triples.specs.Goals.{Goal, Object, Inside, Verbs, After, Semis, Begun, Items, may_open, may_open_node, next_number}
@@ -11,7 +11,7 @@ use Rattle.gs_triples.specs.Rules as rule
 use Rattle.gs_triples.specs.Rules.{Covers}
 use Rattle.gs_triples.specs.Reading.{Got, ◌and_then◌, with_front, bare, one_token, closes, begins_verb, parse}
 use Rattle.gs_triples.proofs.BackLemmas.{first_of, cell_of, then_goal}
-use Rattle.gs_triples.proofs.FollowLemmas.{Follows, behind_object, behind_cell, literal-simple}
+use Rattle.gs_triples.proofs.FollowLemmas.{Follows, after_object, after_cell, literal-simple}
 
 module _ {Value : Type 0} where
   -- a goal that may take a step and no token
@@ -44,7 +44,7 @@ module _ {Value Triple : Type 0} where
   unfolding parse
   ends_semis env f d s n [] h = refl
   ends_semis env f d s n (Semicolon ∷ ts) h = elim h [ ]
-  ends_semis env f d s n (AWord w ∷ ts) h = elim h [ ]
+  ends_semis env f d s n (ATerm w ∷ ts) h = elim h [ ]
   ends_semis env f d s n (A ∷ ts) h = elim h [ ]
   ends_semis env f d s n (t ∷ ts) h = refl
 
@@ -81,7 +81,7 @@ module _ {Value Triple : Type 0} where
 
   -- a verb begins with a word or `a`
   pub verb_begins : (env : Context Value Triple) (t : Symbol) (p : Value) → meaning.verb env t ≡ Ok p → begins_verb t ≡ true
-  verb_begins env (AWord w) p h = refl
+  verb_begins env (ATerm w) p h = refl
   verb_begins env A p h = refl
   verb_begins env t p h = absurd (cc)
 
@@ -96,7 +96,7 @@ module _ {Value Triple : Type 0} where
   semis_by : (env : Context Value Triple) (f d : ℕ) (s : Value) (i : Numbers) (t : Symbol) (ts : List Symbol) (p : Value) → meaning.verb env t ≡ Ok p
       → parse env (suc f) (Semis d s) i (t ∷ ts) ≡ parse env f (Verbs d s) i (t ∷ ts)
   unfolding parse
-  semis_by env f d s i (AWord w) ts p h = refl
+  semis_by env f d s i (ATerm w) ts p h = refl
   semis_by env f d s i A ts p h = refl
   semis_by env f d s i t ts p h = absurd (cc)
 
@@ -151,20 +151,20 @@ module _ {Value Triple : Type 0} where
   reads env (suc f) (rule.verbs {d = d} {s = s} {p = p} {o = o} {w = w} {n = n} {k = k} {l = l} t {xs = xs} {ys = ys} {T = T} {U = U} q a b) rest h e =
       let size = simp length-append at h in
       ap (λ z. z and_then λ p. parse env f (Object d) n ((xs ++ ys) ++ rest) and_then then_goal env f (After d s p) (λ o. env.language.triple s p o ∷ [])) q
-      ∙ reads_then env f d n k l (After d s p) xs ys rest o w T U (λ o. env.language.triple s p o ∷ []) (reads env f a (ys ++ rest) (simp length-append (omega arith)) (behind_object b rest e)) (reads env f b rest (simp length-append (omega arith)) e)
+      ∙ reads_then env f d n k l (After d s p) xs ys rest o w T U (λ o. env.language.triple s p o ∷ []) (reads env f a (ys ++ rest) (simp length-append (omega arith)) (after_object b rest e)) (reads env f b rest (simp length-append (omega arith)) e)
   reads env (suc f) (rule.comma {d = d} {s = s} {p = p} {o = o} {w = w} {n = n} {k = k} {l = l} {xs = xs} {ys = ys} {T = T} {U = U} a b) rest h e =
       let size = simp length-append at h in
-      reads_then env f d n k l (After d s p) xs ys rest o w T U (λ o. env.language.triple s p o ∷ []) (reads env f a (ys ++ rest) (simp length-append (omega arith)) (behind_object b rest e)) (reads env f b rest (simp length-append (omega arith)) e)
+      reads_then env f d n k l (After d s p) xs ys rest o w T U (λ o. env.language.triple s p o ∷ []) (reads env f a (ys ++ rest) (simp length-append (omega arith)) (after_object b rest e)) (reads env f b rest (simp length-append (omega arith)) e)
   reads env (suc f) (rule.begun {d = d} {n = n} {k = k} {l = l} {xs = xs} {ys = ys} {o = o} {w = w} {T = T} {U = U} q a b) rest h e =
       let size = simp length-append at h in
       let some : 0 < length xs = takes a in
       ap (parse env (suc f) (Begun d) n) (append_assoc xs ys rest) ∙ begun_goes f n a (ys ++ rest)
       ∙ ap (λ z. cond z (parse env f (Object d) (one_more n) (xs ++ (ys ++ rest)) and_then then_goal env f (Items d (next_number n) (next_number n)) (first_of env (next_number n))) (Err Syntax)) q
       ∙ ap (λ z. parse env f (Object d) (one_more n) z and_then then_goal env f (Items d (next_number n) (next_number n)) (first_of env (next_number n))) (sym (append_assoc xs ys rest))
-      ∙ reads_then env f d (one_more n) k l (Items d (next_number n) (next_number n)) xs ys rest o w T U (first_of env (next_number n)) (reads env f a (ys ++ rest) (simp length-append (omega arith)) (behind_cell b rest)) (reads env f b rest (simp length-append (omega arith)) tt)
+      ∙ reads_then env f d (one_more n) k l (Items d (next_number n) (next_number n)) xs ys rest o w T U (first_of env (next_number n)) (reads env f a (ys ++ rest) (simp length-append (omega arith)) (after_cell b rest)) (reads env f b rest (simp length-append (omega arith)) tt)
   reads env (suc f) (rule.item {d = d} {h = i} {m = m} {n = n} {k = k} {l = l} {xs = xs} {ys = ys} {o = o} {w = w} {T = T} {U = U} a b) rest h e =
       let size = simp length-append at h in
       let some : 0 < length xs = takes a in
       ap (parse env (suc f) (Items d i m) n) (append_assoc xs ys rest) ∙ items_goes f i m n a (ys ++ rest)
       ∙ ap (λ z. parse env f (Object d) (one_more n) z and_then then_goal env f (Items d i (next_number n)) (cell_of env (next_number n) m)) (sym (append_assoc xs ys rest))
-      ∙ reads_then env f d (one_more n) k l (Items d i (next_number n)) xs ys rest o w T U (cell_of env (next_number n) m) (reads env f a (ys ++ rest) (simp length-append (omega arith)) (behind_cell b rest)) (reads env f b rest (simp length-append (omega arith)) tt)
+      ∙ reads_then env f d (one_more n) k l (Items d i (next_number n)) xs ys rest o w T U (cell_of env (next_number n) m) (reads env f a (ys ++ rest) (simp length-append (omega arith)) (after_cell b rest)) (reads env f b rest (simp length-append (omega arith)) tt)

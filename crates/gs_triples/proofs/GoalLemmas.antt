@@ -2,7 +2,7 @@
 use Rattle.std.proofs.Common.{◌≡◌, ℕ, zero, suc, ◌+◌, ◌*◌, ◌<◌, Bool, true, false, cond, List, [], ◌∷◌, length, refl, sym, ap, ◌∙◌, append-nil, arith}
 use Rattle.std.specs.Prelude.{Result, Ok, Err, codes}
 use Rattle.gs_blank.specs.Numbers.{Numbers, one_more}
-use Rattle.gs_triples.specs.Symbols.{Symbol, AWord, Text, A, Open, Close, OpenList, CloseList, Semicolon, Comma}
+use Rattle.gs_triples.specs.Symbols.{Symbol, ATerm, Text, A, Open, Close, OpenList, CloseList, Semicolon, Comma}
 use Rattle.gs_triples.specs.Meanings as meaning
 use Rattle.gs_triples.specs.Meanings.{Fault, Syntax, Context, blank, rdf_value}
 use Rattle.gs_triples.specs.Goals.{Goal, Object, Inside, Verbs, After, Semis, Begun, Items, may_open, may_open_node, next_number}
@@ -12,7 +12,7 @@ use Rattle.gs_triples.specs.Machine.{give, object, leave, after_verb, step, ende
 use Rattle.gs_triples.specs.Runs.{Done, run}
 use Rattle.gs_triples.proofs.BackLemmas.{first_of, cell_of, then_goal, covered}
 use Rattle.gs_triples.proofs.ForthLemmas.{rank}
-use Rattle.gs_triples.proofs.WalkLemmas.{told, lost_run, leaves, continue, continue_then, as_begun, as_items, as_verbs, as_semis, as_after, as_object, list_object, close_then, given_run, held_run}
+use Rattle.gs_triples.proofs.WalkLemmas.{read_from, lost_run, leaves, continue, continue_then, as_begun, as_items, as_verbs, as_semis, as_after, as_object, list_object, close_then, given_run, held_run}
 
 module _ {Value Triple : Type 0} where
   open_run : (env : Context Value Triple) (d : ℕ) (b : Bool) (g : Goal Value) (fs : List (Frame Value)) (P : List Triple) (n : Numbers) (ts : List Symbol) (r : Result (Got Value Triple) Fault)
@@ -63,7 +63,7 @@ module _ {Value Triple : Type 0} where
   unfolding parse run step ended leaves
   walk env zero g n ts fs P h = absurd (omega arith)
   walk env (suc f) (Object d) n [] fs P h = refl
-  walk env (suc f) (Object d) n (AWord w ∷ ts) fs P h = given_run env d fs P ts (meaning.word env n w)
+  walk env (suc f) (Object d) n (ATerm w ∷ ts) fs P h = given_run env d fs P ts (meaning.word env n w)
   walk env (suc f) (Object d) n (Text x ∷ ts) fs P h = held_run env d fs P n x ts
   walk env (suc f) (Object d) n (Open ∷ ts) fs P h =
       open_run env d (may_open_node env d) (Inside (suc d) (next_number n)) fs P (one_more n) ts (parse env f (Inside (suc d) (next_number n)) (one_more n) ts)
@@ -88,12 +88,12 @@ module _ {Value Triple : Type 0} where
       walk env f (Object d) n ts (ToObject d s p ∷ fs) P (omega arith)
       ∙ continue_then env f d n (ToObject d s p) fs P (λ o. env.language.triple s p o ∷ []) (After d s p) (length ts) (λ v Q l. refl) (λ l us Q e. walk env f (After d s p) l us fs Q (omega arith)) ts (omega arith) (parse env f (Object d) n ts) (covered env f (Object d) n ts)
   walk env (suc f) (After d s p) n (Semicolon ∷ ts) fs P h = walk env f (Semis d s) n ts fs P (omega arith) ∙ as_after env d s p fs P (parse env f (Semis d s) n ts)
-  walk env (suc f) (After d s p) n (t ∷ ts) fs P h = ap (λ z. told t ts (leave t fs env z n)) (sym (append-nil P))
+  walk env (suc f) (After d s p) n (t ∷ ts) fs P h = ap (λ z. read_from t ts (leave t fs env z n)) (sym (append-nil P))
   walk env (suc f) (Semis d s) n [] fs P h = refl
   walk env (suc f) (Semis d s) n (Semicolon ∷ ts) fs P h = walk env f (Semis d s) n ts fs P (omega arith)
-  walk env (suc f) (Semis d s) n (AWord w ∷ ts) fs P h = walk env f (Verbs d s) n (AWord w ∷ ts) fs P (omega arith) ∙ as_semis env d s fs P (parse env f (Verbs d s) n (AWord w ∷ ts))
+  walk env (suc f) (Semis d s) n (ATerm w ∷ ts) fs P h = walk env f (Verbs d s) n (ATerm w ∷ ts) fs P (omega arith) ∙ as_semis env d s fs P (parse env f (Verbs d s) n (ATerm w ∷ ts))
   walk env (suc f) (Semis d s) n (A ∷ ts) fs P h = walk env f (Verbs d s) n (A ∷ ts) fs P (omega arith) ∙ as_semis env d s fs P (parse env f (Verbs d s) n (A ∷ ts))
-  walk env (suc f) (Semis d s) n (t ∷ ts) fs P h = ap (λ z. told t ts (leave t fs env z n)) (sym (append-nil P))
+  walk env (suc f) (Semis d s) n (t ∷ ts) fs P h = ap (λ z. read_from t ts (leave t fs env z n)) (sym (append-nil P))
   walk env (suc f) (Begun d) n [] fs P h = stop_begun env f d n fs P
   walk env (suc f) (Begun d) n (CloseList ∷ ts) fs P h = ap (λ z. run ts (give env (rdf_value env (codes "nil")) fs z n)) (sym (append-nil P))
   walk env (suc f) (Begun d) n (t ∷ ts) fs P h =

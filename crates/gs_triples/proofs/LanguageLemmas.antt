@@ -6,7 +6,7 @@ use Rattle.gs_model.specs.Terms.{Iri, Literal, Typed}
 use Rattle.gs_iri.specs.Resolving.{resolved}
 use Rattle.gs_escape.specs.Tokens.{iri_of, string_of, parts_of}
 use Rattle.gs_triples.specs.Languages.{Language}
-use Rattle.gs_triples.specs.Symbols.{TermToken, Reference, Namespace, Name, Label, Plain, Variable, Symbol, AWord}
+use Rattle.gs_triples.specs.Symbols.{TermToken, Reference, Namespace, Name, Label, Plain, Variable, Symbol, ATerm}
 use Rattle.gs_triples.specs.Meanings.{Context, in_language, made_of, name_text, iri_text, iri, typed}
 use Rattle.gs_triples.specs.Directives.{with_prefix, with_base}
 
@@ -29,7 +29,7 @@ module _ {Value Triple V T : Type 0} (l : Language Value Triple) (env : Context 
   -- a string with a datatype is the same literal
   pub typed-in_language : (x : List ℕ) (t : Symbol) → typed (in_language l env) x t ≡ typed env x t
   unfolding typed
-  typed-in_language x (AWord w) =
+  typed-in_language x (ATerm w) =
       ap (λ o. made_of (option_and_then (λ (s : List ℕ). option_map (λ (d : List ℕ). Literal s (Typed d)) o) (string_of x))) (iri_text-in_language w)
   typed-in_language x t = refl
 

@@ -2,7 +2,7 @@
 use Rattle.std.proofs.Common.{◌≡◌, ℕ, Bool, true, false, cond, List, [], ◌∷◌, ◌++◌, refl, ◌∙◌, arith}
 use Rattle.std.specs.Prelude.{Result, Ok, Err}
 use Rattle.gs_blank.specs.Numbers.{Numbers, one_more}
-use Rattle.gs_triples.specs.Symbols.{Symbol, AWord, Open, Close, OpenList}
+use Rattle.gs_triples.specs.Symbols.{Symbol, ATerm, Open, Close, OpenList}
 use Rattle.gs_triples.specs.Meanings.{Fault, Syntax, Context, subject, blank}
 use Rattle.gs_triples.specs.Goals.{Verbs, Begun, next_number}
 use Rattle.gs_triples.specs.Reading.{Got, ◌and_then◌, with_front, close, closes, begins_verb, enough, read}
@@ -11,7 +11,7 @@ use Rattle.gs_triples.specs.States.{ToVerbs, ToMore, Opened, Closed, Heading, Lo
 use Rattle.gs_triples.specs.Machine.{leave, at_verb, begin, step, ended}
 use Rattle.gs_triples.specs.Runs.{run, done_before, done_of, RunsAsProgram}
 use Rattle.gs_triples.proofs.ForthLemmas.{with_value}
-use Rattle.gs_triples.proofs.WalkLemmas.{told, lost_run, leaves, continue}
+use Rattle.gs_triples.proofs.WalkLemmas.{read_from, lost_run, leaves, continue}
 use Rattle.gs_triples.proofs.GoalLemmas.{walk}
 
 module _ {Value Triple : Type 0} where
@@ -49,7 +49,7 @@ module _ {Value Triple : Type 0} where
 
   -- a symbol after a subject that may stand alone: of a verb, or of something else
   closed_if : (env : Context Value Triple) (s : Value) (T : List Triple) (k : Numbers) (t : Symbol) (us : List Symbol) (b : Bool)
-      → told t us (cond b (Goes (at_verb 0 s t [] env T k)) (leave t [] env T k))
+      → read_from t us (cond b (Goes (at_verb 0 s t [] env T k)) (leave t [] env T k))
       ≡ (cond b (verbs_after env (with_value s T k (t ∷ us))) (Ok (with_value s T k (t ∷ us))) and_then done_of env)
   unfolding run step leaves
   closed_if env s T k t us true = heads_with env s T k (t ∷ us)
@@ -113,7 +113,7 @@ module _ {Value Triple : Type 0} where
   -- the machine reads what the program reads
   pub opening_run : (env : Context Value Triple) → RunsAsProgram env
   unfolding triples_at
-  opening_run env n (AWord w) ts = word_run env ts (subject env n w)
+  opening_run env n (ATerm w) ts = word_run env ts (subject env n w)
   opening_run env n Open ts = open_if env n ts env.language.nodes
   opening_run env n OpenList ts = walk env (enough ts) (Begun 1) n ts (ToVerbs ∷ []) [] (omega arith) ∙ list_run env (read env (Begun 1) n ts)
   opening_run env n t ts = lost_run Syntax ts

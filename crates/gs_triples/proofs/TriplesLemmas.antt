@@ -3,7 +3,7 @@ use Rattle.std.proofs.Common.{◌≡◌, ℕ, ◌≤◌, Bool, true, false, cond
 use Rattle.std.specs.Prelude.{◌&&◌, Result, Ok, Err}
 use Rattle.std.proofs.lemmas.Bool.{and_parts}
 use Rattle.gs_blank.specs.Numbers.{Numbers, one_more}
-use Rattle.gs_triples.specs.Symbols.{TermToken, Symbol, AWord, A, Open, Close, OpenList}
+use Rattle.gs_triples.specs.Symbols.{TermToken, Symbol, ATerm, A, Open, Close, OpenList}
 use Rattle.gs_triples.specs.Meanings as meaning
 use Rattle.gs_triples.specs.Meanings.{Fault, Syntax, Context, subject, blank}
 use Rattle.gs_triples.specs.Goals.{Goal, Verbs, Begun, next_number}
@@ -20,7 +20,7 @@ use Rattle.gs_triples.proofs.ForthLemmas.{with_value, got, reads, rank, verb_beg
 -- where triples end, no verb begins
 no_verb : (ts : List Symbol) → EndsVerbs ts → starts_verb ts ≡ false
 no_verb [] h = refl
-no_verb (AWord w ∷ ts) h = elim h [ ]
+no_verb (ATerm w ∷ ts) h = elim h [ ]
 no_verb (A ∷ ts) h = elim h [ ]
 no_verb (t ∷ ts) h = refl
 
@@ -47,10 +47,10 @@ module _ {Value Triple : Type 0} where
 
   -- a subject of one token
   back_word : (env : Context Value Triple) (n : Numbers) (w : TermToken) (ts : List Symbol) (q : Result (Value × Numbers) Fault) → subject env n w ≡ q
-      → CoversTriples env n (AWord w ∷ ts) (q and_then verbs_of env ts)
+      → CoversTriples env n (ATerm w ∷ ts) (q and_then verbs_of env ts)
   back_word env n w ts (Err e) h = tt
   back_word env n w ts (Ok p) h =
-      back_bare env n p.1 p.0 (AWord w ∷ []) ts (λ xs v U l c. statement.word w h c) (read env (Verbs 0 p.0) p.1 ts) (read_covered env (Verbs 0 p.0) p.1 ts)
+      back_bare env n p.1 p.0 (ATerm w ∷ []) ts (λ xs v U l c. statement.word w h c) (read env (Verbs 0 p.0) p.1 ts) (read_covered env (Verbs 0 p.0) p.1 ts)
 
   -- a subject that stands alone, or has verbs
   back_alone : (env : Context Value Triple) (n k : Numbers) (s : Value) (front rest : List Symbol) (T : List Triple) (b : Bool)
@@ -113,7 +113,7 @@ module _ {Value Triple : Type 0} where
   pub triples_covered : (env : Context Value Triple) → CoversReadings env
   unfolding triples_at
   triples_covered env n [] = tt
-  triples_covered env n (AWord w ∷ ts) = back_word env n w ts (subject env n w) refl
+  triples_covered env n (ATerm w ∷ ts) = back_word env n w ts (subject env n w) refl
   triples_covered env n (Open ∷ ts) = back_open env n ts env.language.nodes refl
   triples_covered env n (OpenList ∷ ts) = back_list env n ts _ (read_covered env (Begun 1) n ts)
   triples_covered env n (t ∷ ts) = tt

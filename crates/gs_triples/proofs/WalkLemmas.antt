@@ -22,8 +22,8 @@ regroup P a b c = simp append_assoc
 
 module _ {Value Triple : Type 0} where
   -- what is read from a turn that the first of these symbols made
-  abbrev pub told : Symbol → List Symbol → Turn Value Triple → Result (Done Value Triple) Fault
-  told t ts u = taken (run ts) (t ∷ ts) u
+  abbrev pub read_from : Symbol → List Symbol → Turn Value Triple → Result (Done Value Triple) Fault
+  read_from t ts u = taken (run ts) (t ∷ ts) u
 
   -- after a fault, whatever stands there
   pub lost_run : (e : Fault) (ts : List Symbol) → (let s : State Value Triple = Lost e in run ts s) ≡ Err e
@@ -34,7 +34,7 @@ module _ {Value Triple : Type 0} where
   -- what is read after a list of verbs and objects
   unfoldable pub leaves : List (Frame Value) → Context Value Triple → List Triple → Numbers → List Symbol → Result (Done Value Triple) Fault
   leaves fs env P n [] = Err Syntax
-  leaves fs env P n (t ∷ ts) = told t ts (leave t fs env P n)
+  leaves fs env P n (t ∷ ts) = read_from t ts (leave t fs env P n)
 
   -- what is read after a goal
   abbrev pub continue : Goal Value → List (Frame Value) → Context Value Triple → List Triple → Result (Got Value Triple) Fault → Result (Done Value Triple) Fault
@@ -165,12 +165,12 @@ module _ {Value Triple : Type 0} where
   simple_ends env d fs P n (Ok t) = sym (give_ends env (env.language.of_term t) fs (P ++ []) n)
 
   simple_goes : (env : Context Value Triple) (d : ℕ) (fs : List (Frame Value)) (P : List Triple) (n : Numbers) (t : Symbol) (ts : List Symbol) (r : Result Term Fault)
-      → told t ts (go_on t (put fs env P n r)) ≡ continue (Object d) fs env P (bare env n (t ∷ ts) r)
+      → read_from t ts (go_on t (put fs env P n r)) ≡ continue (Object d) fs env P (bare env n (t ∷ ts) r)
   unfolding run
   simple_goes env d fs P n t ts (Err e) = lost_run e ts
   simple_goes env d fs P n t ts (Ok x) =
       let v : Value = env.language.of_term x in
-      ap (λ z. told t ts z) (sym (give_goes env v fs P n t)) ∙ ap (λ z. run (t ∷ ts) (give env v fs z n)) (sym (append-nil P))
+      ap (λ z. read_from t ts z) (sym (give_goes env v fs P n t)) ∙ ap (λ z. run (t ∷ ts) (give env v fs z n)) (sym (append-nil P))
 
   pub held_run : (env : Context Value Triple) (d : ℕ) (fs : List (Frame Value)) (P : List Triple) (n : Numbers) (x : List ℕ) (ts : List Symbol)
       → run ts (Held x fs env P n) ≡ continue (Object d) fs env P (literal env n x ts)

@@ -2,7 +2,7 @@
 use Rattle.std.specs.Prelude.{ℕ, suc, if◌then◌else◌, List, [], ◌∷◌, ◌++◌, codes, Result, Ok, Err}
 use Rattle.gs_model.specs.Terms.{Term}
 use Rattle.gs_blank.specs.Numbers.{Numbers, one_more}
-use Rattle.gs_triples.specs.Symbols.{Symbol, AWord, Text, At, Carets, Open, Close, OpenList, CloseList, Semicolon, Comma}
+use Rattle.gs_triples.specs.Symbols.{Symbol, ATerm, Text, At, Carets, Open, Close, OpenList, CloseList, Semicolon, Comma}
 use Rattle.gs_triples.specs.Meanings.{Fault, Syntax, Context, blank, rdf_value, verb, word, subject, simple, tagged, typed}
 use Rattle.gs_triples.specs.Goals.{Goal, Object, Inside, Verbs, After, Semis, Begun, Items, may_open, may_open_node, next_number, first_is, rest_is}
 use Rattle.gs_triples.specs.Reading.{begins_verb}
@@ -49,7 +49,7 @@ module _ {Value Triple : Type 0} where
 
   -- the first symbol of an object
   abbrev pub object : ℕ → Symbol → List (Frame Value) → Context Value Triple → List Triple → Numbers → State Value Triple
-  object d (AWord w) fs env P n = give_token fs env P (word env n w)
+  object d (ATerm w) fs env P n = give_token fs env P (word env n w)
   object d (Text x) fs env P n = Held x fs env P n
   object d Open fs env P n = if may_open_node env d then Heading (Inside (suc d) (next_number n)) fs env P (one_more n) else Lost Syntax
   object d OpenList fs env P n = if may_open d then Heading (Begun (suc d)) fs env P n else Lost Syntax
@@ -103,7 +103,7 @@ module _ {Value Triple : Type 0} where
 
   -- the first symbol of triples
   abbrev pub opening : Context Value Triple → Numbers → Symbol → State Value Triple
-  opening env n (AWord w) = begin env (subject env n w)
+  opening env n (ATerm w) = begin env (subject env n w)
   opening env n Open = if env.language.nodes then Opened env n else Lost Syntax
   opening env n OpenList = Heading (Begun 1) (ToVerbs ∷ []) env [] n
   opening env n t = Lost Syntax

@@ -5,14 +5,14 @@ use Rattle.std.specs.Str.{str_to_ascii_lowercase}
 use Rattle.std.specs.FinMap as finite
 use Rattle.gs_model.specs.Terms.{Term, Iri, Blank, Literal, Typed, Tagged, xsd_string}
 use Rattle.gs_iri.specs.Resolving.{resolved}
-use Rattle.gs_escape.specs.Tokens.{behind, iri_of, string_of, local_of, parts_of}
+use Rattle.gs_escape.specs.Tokens.{rest_after, iri_of, string_of, local_of, parts_of}
 use Rattle.gs_blank.specs.Numbers.{Numbers, number_of}
 pub use Rattle.gs_model.specs.declared.faults.Fault.{Fault}
 pub use Rattle.gs_model.specs.declared.faults.Fault.TheVariants.{Syntax, TermTooLong}
 use Rattle.gs_term.specs.Making.{made}
 pub use Rattle.gs_triples.specs.Prefixes.{Prefixes}
 use Rattle.gs_triples.specs.Languages.{Language}
-use Rattle.gs_triples.specs.Symbols.{TermToken, Reference, Namespace, Name, Label, Plain, Variable, Symbol, AWord, A}
+use Rattle.gs_triples.specs.Symbols.{TermToken, Reference, Namespace, Name, Label, Plain, Variable, Symbol, ATerm, A}
 
 -- what earlier statements leave, the request whose blank nodes are numbered, and what the triples are made of
 pub record Context (Value Triple : Type 0) : Type 0 where
@@ -44,7 +44,7 @@ tagged_literal s tag = option_and_then (λ l. option_map (λ t. Literal l (Tagge
 
 -- with its language tag
 unfoldable pub tagged : List ℕ → List ℕ → Result Term Fault
-tagged x tag = made_of (tagged_literal (string_of x) (behind (codes "@") tag))
+tagged x tag = made_of (tagged_literal (string_of x) (rest_after (codes "@") tag))
 
 -- what takes no number
 abbrev pub with_numbers : {Value : Type 0} → Numbers → Result Value Fault → Result (Value × Numbers) Fault
@@ -88,8 +88,8 @@ module _ {Value Triple : Type 0} where
 
   -- [9] verb: an IRI, or 'a' for rdf:type; or a variable
   abbrev pub verb : Context Value Triple → Symbol → Result Value Fault
-  verb env (AWord (Variable x)) = standing (env.language.variable x)
-  verb env (AWord w) = value_of env (iri env w)
+  verb env (ATerm (Variable x)) = standing (env.language.variable x)
+  verb env (ATerm w) = value_of env (iri env w)
   verb env A = Ok (rdf_value env (codes "type"))
   verb env _ = Err Syntax
 
@@ -100,7 +100,7 @@ module _ {Value Triple : Type 0} where
 
   -- the value of one token; a label stands after its `_:`
   unfoldable pub word : Context Value Triple → Numbers → TermToken → Result (Value × Numbers) Fault
-  word env n (Label x) = if env.language.nodes then labelled env n (behind (codes "_:") x) else Err Syntax
+  word env n (Label x) = if env.language.nodes then labelled env n (rest_after (codes "_:") x) else Err Syntax
   word env n (Plain x d) = with_numbers n (value_of env (made_of (Some (Literal x (Typed d)))))
   word env n (Variable x) = with_numbers n (standing (env.language.variable x))
   word env n w = with_numbers n (value_of env (iri env w))
@@ -116,5 +116,5 @@ module _ {Value Triple : Type 0} where
 
   -- a string with its datatype
   unfoldable pub typed : Context Value Triple → List ℕ → Symbol → Result Term Fault
-  typed env x (AWord w) = made_of (typed_literal env x w)
+  typed env x (ATerm w) = made_of (typed_literal env x w)
   typed env x _ = Err Syntax

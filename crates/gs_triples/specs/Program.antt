@@ -1,7 +1,7 @@
 -- Triples read at the front of a list of tokens, as a plain program.
 use Rattle.std.specs.Prelude.{◌≡◌, ◌++◌, Bool, true, false, ◌&&◌, if◌then◌else◌, List, [], ◌∷◌, Result, Ok, Err}
 use Rattle.gs_blank.specs.Numbers.{Numbers, one_more}
-use Rattle.gs_triples.specs.Symbols.{Symbol, AWord, Open, Close, OpenList}
+use Rattle.gs_triples.specs.Symbols.{Symbol, ATerm, Open, Close, OpenList}
 use Rattle.gs_triples.specs.Meanings.{Fault, Syntax, Context, subject, blank}
 use Rattle.gs_triples.specs.Goals.{Verbs, Begun, next_number}
 use Rattle.gs_triples.specs.Triples.{AreTriples, EndsVerbs}
@@ -46,7 +46,7 @@ module _ {Value Triple : Type 0} where
 
   -- [6] triples
   unfoldable pub triples_at : Context Value Triple → Numbers → List Symbol → Result (Got Value Triple) Fault
-  triples_at env n (AWord w ∷ ts) = subject env n w and_then verbs_of env ts
+  triples_at env n (ATerm w ∷ ts) = subject env n w and_then verbs_of env ts
   triples_at env n (Open ∷ ts) = if env.language.nodes then in_brackets env n ts else Err Syntax
   triples_at env n (OpenList ∷ ts) = read env (Begun 1) n ts and_then after_list env
   triples_at env n _ = Err Syntax

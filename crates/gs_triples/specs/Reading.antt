@@ -3,7 +3,7 @@ use Rattle.std.specs.Prelude.{ℕ, zero, suc, ◌+◌, ◌*◌, Bool, true, fals
 use Rattle.std.specs.Prelude.{List, [], ◌∷◌, ◌++◌, length, codes, Result, Ok, Err}
 use Rattle.gs_model.specs.Terms.{Term}
 use Rattle.gs_blank.specs.Numbers.{Numbers, one_more}
-use Rattle.gs_triples.specs.Symbols.{Symbol, AWord, Text, At, Carets, A, Open, Close, OpenList, CloseList, Semicolon, Comma}
+use Rattle.gs_triples.specs.Symbols.{Symbol, ATerm, Text, At, Carets, A, Open, Close, OpenList, CloseList, Semicolon, Comma}
 use Rattle.gs_triples.specs.Meanings.{Fault, Syntax, Context, blank, rdf_value, verb, word, simple, tagged, typed}
 use Rattle.gs_triples.specs.Goals.{Goal, Object, Inside, Verbs, After, Semis, Begun, Items, may_open, may_open_node, next_number, first_is, rest_is}
 
@@ -22,7 +22,7 @@ pub record Got (Value Triple : Type 0) : Type 0 where
 
 -- a word or 'a'
 abbrev pub begins_verb : Symbol → Bool
-begins_verb (AWord w) = true
+begins_verb (ATerm w) = true
 begins_verb A = true
 begins_verb _ = false
 
@@ -65,7 +65,7 @@ module _ {Value Triple : Type 0} where
   -- A goal at the front of a list of tokens, in at most so many steps.
   unfoldable pub parse : Context Value Triple → ℕ → Goal Value → Numbers → List Symbol → Result (Got Value Triple) Fault
   parse env zero g n ts = Err Syntax
-  parse env (suc f) (Object d) n (AWord w ∷ ts) = one_token ts (word env n w)
+  parse env (suc f) (Object d) n (ATerm w ∷ ts) = one_token ts (word env n w)
   parse env (suc f) (Object d) n (Text x ∷ ts) = literal env n x ts
   parse env (suc f) (Object d) n (Open ∷ ts) = if may_open_node env d then parse env f (Inside (suc d) (next_number n)) (one_more n) ts else Err Syntax
   parse env (suc f) (Object d) n (OpenList ∷ ts) = if may_open d then parse env f (Begun (suc d)) n ts else Err Syntax

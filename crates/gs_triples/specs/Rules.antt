@@ -2,7 +2,7 @@
 use Rattle.std.specs.Prelude.{◌≡◌, ℕ, suc, true, List, [], ◌∷◌, ◌++◌, codes, Ok}
 use Rattle.gs_model.specs.Terms.{Term}
 use Rattle.gs_blank.specs.Numbers.{Numbers, one_more}
-use Rattle.gs_triples.specs.Symbols.{TermToken, Symbol, AWord, Text, At, Carets, Open, Close, OpenList, CloseList, Semicolon, Comma}
+use Rattle.gs_triples.specs.Symbols.{TermToken, Symbol, ATerm, Text, At, Carets, Open, Close, OpenList, CloseList, Semicolon, Comma}
 use Rattle.gs_triples.specs.Meanings as meaning
 use Rattle.gs_triples.specs.Meanings.{Context, blank, rdf_value}
 use Rattle.gs_triples.specs.Goals.{Goal, Object, Inside, Verbs, After, Semis, Begun, Items, may_open, may_open_node, next_number, first_is, rest_is}
@@ -13,7 +13,7 @@ module _ {Value Triple : Type 0} where
   pub data Covers (env : Context Value Triple) : Goal Value → Numbers → List Symbol → Value → List Triple → Numbers → Type 0 where
     -- an IRI, a label, a number, a boolean or a variable
     word : {d : ℕ} {n k : Numbers} {v : Value} (w : TermToken) → meaning.word env n w ≡ Ok (v, k)
-        → Covers env (Object d) n (AWord w ∷ []) v [] k
+        → Covers env (Object d) n (ATerm w ∷ []) v [] k
     -- [128s] RDFLiteral
     simple : {d : ℕ} {n : Numbers} {t : Term} (x : List ℕ) → meaning.simple x ≡ Ok t
         → Covers env (Object d) n (Text x ∷ []) (env.language.of_term t) [] n

@@ -19,7 +19,7 @@ pub data TermToken : Type 0 where
 
 -- a terminal, with what it leaves open
 pub data Symbol : Type 0 where
-  AWord : TermToken → Symbol
+  ATerm : TermToken → Symbol
   -- [17] String
   Text : (text : List ℕ) → Symbol
   -- [144s] LANGTAG, '@prefix' or '@base'
@@ -51,15 +51,15 @@ after_mark (mark ∷ x) = x
 
 -- 2.5.2, 2.5.3: numbers and booleans have the lexical form that is written
 abbrev pub symbol : TokenKind → List ℕ → ℕ → Symbol
-symbol kind.IriRef x n = AWord (Reference x n)
-symbol kind.PnameNs x n = AWord (Namespace x)
-symbol kind.PnameLn x n = AWord (Name x)
-symbol kind.BlankNodeLabel x n = AWord (Label x)
-symbol kind.Integer x n = AWord (Plain x (xsd (codes "integer")))
-symbol kind.Decimal x n = AWord (Plain x (xsd (codes "decimal")))
-symbol kind.Double x n = AWord (Plain x (xsd (codes "double")))
-symbol kind.True x n = AWord (Plain (codes "true") (xsd (codes "boolean")))
-symbol kind.False x n = AWord (Plain (codes "false") (xsd (codes "boolean")))
+symbol kind.IriRef x n = ATerm (Reference x n)
+symbol kind.PnameNs x n = ATerm (Namespace x)
+symbol kind.PnameLn x n = ATerm (Name x)
+symbol kind.BlankNodeLabel x n = ATerm (Label x)
+symbol kind.Integer x n = ATerm (Plain x (xsd (codes "integer")))
+symbol kind.Decimal x n = ATerm (Plain x (xsd (codes "decimal")))
+symbol kind.Double x n = ATerm (Plain x (xsd (codes "double")))
+symbol kind.True x n = ATerm (Plain (codes "true") (xsd (codes "boolean")))
+symbol kind.False x n = ATerm (Plain (codes "false") (xsd (codes "boolean")))
 symbol kind.StringLiteralQuote x n = Text x
 symbol kind.StringLiteralSingleQuote x n = Text x
 symbol kind.StringLiteralLongQuote x n = Text x
@@ -74,7 +74,7 @@ symbol kind.CloseParenthesis x n = CloseList
 symbol kind.Semicolon x n = Semicolon
 symbol kind.Comma x n = Comma
 symbol kind.Dot x n = Dot n
-symbol kind.Var x n = AWord (Variable (after_mark x))
+symbol kind.Var x n = ATerm (Variable (after_mark x))
 symbol kind.Prefix x n = PrefixWord
 symbol kind.Base x n = BaseWord
 symbol k x n = Foreign k n

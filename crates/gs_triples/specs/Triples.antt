@@ -1,7 +1,7 @@
 -- Turtle's triples, from their subject on (25 February 2014, section 6.5), with just the tokens that they span.
 use Rattle.std.specs.Prelude.{◌≡◌, true, List, [], ◌∷◌, ◌++◌, Ok}
 use Rattle.gs_blank.specs.Numbers.{Numbers, one_more}
-use Rattle.gs_triples.specs.Symbols.{TermToken, Symbol, AWord, At, Carets, A, Open, Close, OpenList, Semicolon, Comma}
+use Rattle.gs_triples.specs.Symbols.{TermToken, Symbol, ATerm, At, Carets, A, Open, Close, OpenList, Semicolon, Comma}
 use Rattle.gs_triples.specs.Meanings.{Context, subject, blank}
 use Rattle.gs_triples.specs.Goals.{Verbs, Begun, next_number}
 use Rattle.gs_triples.specs.Rules.{Covers}
@@ -11,7 +11,7 @@ module _ {Value Triple : Type 0} where
   pub data AreTriples (env : Context Value Triple) (n : Numbers) : List Symbol → List Triple → Numbers → Type 0 where
     -- [10] subject: an IRI, a label or a variable
     word : {k l : Numbers} {s v : Value} (w : TermToken) {xs : List Symbol} {T : List Triple} → subject env n w ≡ Ok (s, k)
-        → Covers env (Verbs 0 s) k xs v T l → AreTriples env n (AWord w ∷ xs) T l
+        → Covers env (Verbs 0 s) k xs v T l → AreTriples env n (ATerm w ∷ xs) T l
     -- [162s] ANON
     anon : {l : Numbers} {v : Value} {xs : List Symbol} {T : List Triple} → env.language.nodes ≡ true
         → Covers env (Verbs 0 (blank env (next_number n))) (one_more n) xs v T l → AreTriples env n (Open ∷ Close ∷ xs) T l
@@ -30,7 +30,7 @@ module _ {Value Triple : Type 0} where
 
 -- What may stand after triples, so that they end there: no verb, no ';' and ',', and no suffix of a string.
 abbrev pub EndsVerbs : List Symbol → Type 0
-EndsVerbs (AWord w ∷ ts) = ⊥
+EndsVerbs (ATerm w ∷ ts) = ⊥
 EndsVerbs (A ∷ ts) = ⊥
 EndsVerbs (Semicolon ∷ ts) = ⊥
 EndsVerbs (Comma ∷ ts) = ⊥

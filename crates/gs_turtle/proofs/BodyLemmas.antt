@@ -7,7 +7,7 @@ use Rattle.gs_lex.proofs.CutLemmas.{cut-from}
 use Rattle.gs_body.specs.Bodies.{Whole, Faulty, Meaning, Statement}
 use Rattle.gs_document.specs.Program.{document}
 use Rattle.gs_document.proofs.DocumentLemmas.{document_read, document_covered}
-use Rattle.gs_document.proofs.ReaderLemmas.{machine_tells}
+use Rattle.gs_document.proofs.ReaderLemmas.{machine_reports}
 use Rattle.gs_turtle.specs.Documents.{ended_by, meaning_by, IsBody}
 use Rattle.gs_turtle.proofs.SaidLemmas.{meaning_cut}
 
@@ -28,4 +28,4 @@ body-covered b r x S h =
     }
 
 pub body-read : (b : List ℕ) (r : ℕ) (x : List ℕ) (S : List Statement) → IsBody b r x S → meaning_by b r x ≡ (S, Whole)
-body-read b r x S h = meaning_cut b r x h.lexemes lexer.AtEnd h.cut ∙ machine_tells b r h.lexemes ∙ document_read b r h.lexemes S h.stated
+body-read b r x S h = meaning_cut b r x h.lexemes lexer.AtEnd h.cut ∙ machine_reports b r h.lexemes ∙ document_read b r h.lexemes S h.stated

@@ -18,7 +18,7 @@ use Rattle.gs_document.specs.Fronts.{NoStatement, AreLongest, AreBeforeFault}
 use Rattle.gs_document.specs.Program.{document}
 use Rattle.gs_document.proofs.DocumentLemmas.{document_covered, document_once, statement_takes}
 use Rattle.gs_document.proofs.FrontLemmas.{document_before_fault}
-use Rattle.gs_document.proofs.ReaderLemmas.{machine_tells}
+use Rattle.gs_document.proofs.ReaderLemmas.{machine_reports}
 use Rattle.gs_turtle.specs.Documents.{ended_by, meaning_by, IsBody}
 use Rattle.gs_turtle.specs.Faults.{last_end, bytes_before, IsFaultyAfter, SaysUpTo, BreaksAfter}
 use Rattle.gs_turtle.proofs.SaidLemmas.{meaning_cut}
@@ -124,7 +124,7 @@ pub faulty_covered : (b : List ℕ) (r : ℕ) (x : List ℕ) (S : List Statement
 faulty_covered b r x S h =
     let ts = h.front ++ h.after in
     let f = found b r x S ts h.ending (document b r ts) refl h.cut h.longest h.faulty in
-    (f.0, meaning_cut b r x ts h.ending h.cut ∙ ap (ended_by h.ending) (machine_tells b r ts) ∙ f.1)
+    (f.0, meaning_cut b r x ts h.ending h.cut ∙ ap (ended_by h.ending) (machine_reports b r ts) ∙ f.1)
 
 pub broken_read : (b : List ℕ) (r : ℕ) (x : List ℕ) (at : ℕ) → IsBroken (meaning_by b r x) at → BreaksAfter b r x at
 broken_read b r x at h = record {

@@ -1,4 +1,4 @@
--- What the steps of a reader tell of its history.
+-- What the steps of a reader say of its history.
 use Rattle.std.proofs.Common.{◌≡◌, ℕ, Bool, false, List, [], ◌++◌, sym, ap, subst, ◌∙◌, append_assoc}
 use Rattle.std.specs.Prelude.{string_bytes}
 use Rattle.std.proofs.lemmas.List.{map-append}
@@ -24,11 +24,11 @@ use Rattle.gs_document.specs.Machine.{turtle}
 use Rattle.gs_parse.specs.Views.{state_of}
 use Rattle.gs_parse.specs.declared.parser.Parser.{Parser}
 use Rattle.gs_turtle.specs.Documents.{ended_by, meaning_by}
-use Rattle.gs_turtle.specs.Portions.{turn_of, end_of, Takes, Concludes, TellsBehind}
+use Rattle.gs_turtle.specs.Portions.{transition_of, end_of, Takes, Concludes, ReportsAfter}
 use Rattle.gs_turtle.specs.Readers.{unread, LeadsTo, meaning_for, Keeps, Reads, IsRefused, IsRefusedAtEnd}
 use Rattle.gs_turtle.specs.declared.readers.TurtleReader.{TurtleReader}
-use Rattle.gs_turtle.proofs.PortionLemmas.{tells-ended}
-use Rattle.gs_turtle.proofs.SaidLemmas.{meaning_on, tells_joined, all-settled}
+use Rattle.gs_turtle.proofs.PortionLemmas.{reports-ended}
+use Rattle.gs_turtle.proofs.SaidLemmas.{meaning_on, reports_joined, all-settled}
 
 -- a step keeps what a reader says, and where it began
 pub meaning_of-same : (a b : TurtleReader) → Keeps a b → (x : List ℕ) → meaning_for b x ≡ meaning_for a x
@@ -51,18 +51,18 @@ same-added old new us e g = sym (g ∙ ap (λ z. lexemes_of z ++ us) e)
 
 -- tokens that the parser took too
 abbrev leads-to : (a b : TurtleReader) (piece : List ℕ) (old new : List Token) (o1 o2 : List RdfTriple) → old ≡ [] → Keeps a b → Lexes a b piece old new → Takes a.parser b.parser (lexemes_of new) o1 o2
-    → (x : List ℕ) (ts : List RdfTriple) → LeadsTo a x ts → LeadsTo b (x ++ piece) (ts ++ triples_of (turn_of a.parser (lexemes_of new)).1)
+    → (x : List ℕ) (ts : List RdfTriple) → LeadsTo a x ts → LeadsTo b (x ++ piece) (ts ++ triples_of (transition_of a.parser (lexemes_of new)).1)
 leads-to a b piece old new o1 o2 e k f h x ts l =
     let fed = f false x l.lexemes l.lexed in
     let us = lexemes_of new in
-    let turn = turn_of a.parser us in
-    let on = led-on turtle (unread a) (state_of a.parser) (state_of b.parser) a.parser.last b.parser.last (symbols_of l.lexemes) (symbols_of us) ts turn.1 l.parsed
-    (ap (λ (s : State). (s, turn.1)) (sym h.state)) h.last in
+    let transition = transition_of a.parser us in
+    let on = led-on turtle (unread a) (state_of a.parser) (state_of b.parser) a.parser.last b.parser.last (symbols_of l.lexemes) (symbols_of us) ts transition.1 l.parsed
+    (ap (λ (s : State). (s, transition.1)) (sym h.state)) h.last in
     record {
       lexemes = l.lexemes ++ us;
       lexed = subst (λ z. Leads false b.lexer (x ++ piece) (l.lexemes ++ z)) (same-added old new fed.added e fed.given) fed.leads;
-      parsed = subst (λ (s : State). IsLed turtle s (state_of b.parser) b.parser.last (symbols_of (l.lexemes ++ us)) (ts ++ triples_of turn.1)) (sym (unread-same a b k))
-          (subst (λ (z : List Symbol). IsLed turtle (unread a) (state_of b.parser) b.parser.last z (ts ++ triples_of turn.1)) (sym (map-append symbol_of l.lexemes us)) on);
+      parsed = subst (λ (s : State). IsLed turtle s (state_of b.parser) b.parser.last (symbols_of (l.lexemes ++ us)) (ts ++ triples_of transition.1)) (sym (unread-same a b k))
+          (subst (λ (z : List Symbol). IsLed turtle (unread a) (state_of b.parser) b.parser.last z (ts ++ triples_of transition.1)) (sym (map-append symbol_of l.lexemes us)) on);
     }
 
 -- a portion was read
@@ -70,7 +70,7 @@ pub reads-portion : (a b : TurtleReader) (piece : List ℕ) (old new : List Toke
     → Reads a b piece o1 o2
 reads-portion a b piece old new o1 o2 e k f h =
     let us = lexemes_of new in
-    let given : List RdfTriple = triples_of (turn_of a.parser us).1 in
+    let given : List RdfTriple = triples_of (transition_of a.parser us).1 in
     record {
       goes = record { given = given; grown = h.given; leads = leads-to a b piece old new o1 o2 e k f h };
       settled = λ x ts l front i.
@@ -83,26 +83,26 @@ reads-portion a b piece old new o1 o2 e k f h =
 
 -- its tokens have a fault
 pub refused-portion : (e : Refusal) (a b : TurtleReader) (piece : List ℕ) (old new : List Token) → old ≡ [] → Lexes a b piece old new
-    → ((us : List Lexeme) → TellsBehind a.parser.last e (end_of a.parser (lexemes_of new ++ us))) → IsRefused a piece e
+    → ((us : List Lexeme) → ReportsAfter a.parser.last e (end_of a.parser (lexemes_of new ++ us))) → IsRefused a piece e
 refused-portion e a b piece old new n f h = λ x ts l y.
     let fed = f false x l.lexemes l.lexed in
     let g = leads-goes-on false b.lexer (x ++ piece) (l.lexemes ++ fed.added) fed.leads y in
     let us = lexemes_of new ++ g.0 in
     let cut : IsCut false ((x ++ piece) ++ y) (l.lexemes ++ us) g.1 =
     subst (λ z. IsCut false ((x ++ piece) ++ y) z g.1) (append_assoc l.lexemes fed.added g.0 ∙ ap (λ z. l.lexemes ++ (z ++ g.0)) (same-added old new fed.added n fed.given)) g.2 in
-    tells_joined e a.parser.last l.parsed.statements (ended_by g.1 (end_of a.parser us)) (meaning_for a ((x ++ piece) ++ y)) l.parsed.place
-    (meaning_on a x ts l ((x ++ piece) ++ y) us g.1 cut) (tells-ended e a.parser.last g.1 (end_of a.parser us) (h g.0))
+    reports_joined e a.parser.last l.parsed.statements (ended_by g.1 (end_of a.parser us)) (meaning_for a ((x ++ piece) ++ y)) l.parsed.place
+    (meaning_on a x ts l ((x ++ piece) ++ y) us g.1 cut) (reports-ended e a.parser.last g.1 (end_of a.parser us) (h g.0))
 
 -- after its tokens stands something that is none
 pub broken-portion : (e : Refusal) (a : TurtleReader) (piece : List ℕ) (old new : List Token) (at : ℕ) → old ≡ []
     → ((updates : Bool) (x : List ℕ) (ts : List Lexeme) → Leads updates a.lexer x ts → Breaks updates (x ++ piece) ts at old new)
-    → ((n : ℕ) → TellsBehind a.parser.last e (ended_by (lexer.AtFault n) (end_of a.parser (lexemes_of new)))) → IsRefused a piece e
+    → ((n : ℕ) → ReportsAfter a.parser.last e (ended_by (lexer.AtFault n) (end_of a.parser (lexemes_of new)))) → IsRefused a piece e
 broken-portion e a piece old new at n f h = λ x ts l y.
     let b = f false x l.lexemes l.lexed in
     let us = lexemes_of new in
     let cut : IsCut false ((x ++ piece) ++ y) (l.lexemes ++ us) (lexer.AtFault at) =
     subst (λ z. IsCut false ((x ++ piece) ++ y) (l.lexemes ++ z) (lexer.AtFault at)) (same-added old new b.added n b.given) (b.fault y) in
-    tells_joined e a.parser.last l.parsed.statements (ended_by (lexer.AtFault at) (end_of a.parser us)) (meaning_for a ((x ++ piece) ++ y)) l.parsed.place
+    reports_joined e a.parser.last l.parsed.statements (ended_by (lexer.AtFault at) (end_of a.parser us)) (meaning_for a ((x ++ piece) ++ y)) l.parsed.place
     (meaning_on a x ts l ((x ++ piece) ++ y) us (lexer.AtFault at) cut) (h at)
 
 -- how the lexer ends a text
@@ -118,9 +118,9 @@ meaning_of-end a end old new n f x ts l =
 
 -- the text ends, and its last tokens have a fault or not
 pub refused-at-end : (e : Refusal) (a : TurtleReader) (end : lexer.CutEnd) (old new : List Token) → old ≡ [] → Ends a end old new
-    → TellsBehind a.parser.last e (ended_by end (end_of a.parser (lexemes_of new))) → IsRefusedAtEnd a e
+    → ReportsAfter a.parser.last e (ended_by end (end_of a.parser (lexemes_of new))) → IsRefusedAtEnd a e
 refused-at-end e a end old new n f h = λ x ts l.
-    tells_joined e a.parser.last l.parsed.statements (ended_by end (end_of a.parser (lexemes_of new))) (meaning_for a x) l.parsed.place (meaning_of-end a end old new n f x ts l) h
+    reports_joined e a.parser.last l.parsed.statements (ended_by end (end_of a.parser (lexemes_of new))) (meaning_for a x) l.parsed.place (meaning_of-end a end old new n f x ts l) h
 
 pub ends-whole : (a : TurtleReader) (p : Parser) (old new : List Token) (o1 o2 : List RdfTriple) → old ≡ [] → Ends a lexer.AtEnd old new → Concludes a.parser p (lexemes_of new) o1 o2
     → Finishes meaning_for LeadsTo a o1 o2

@@ -17,9 +17,9 @@ pub halves : (x front back : List ℕ) (n : ℕ) → front ≡ take n x → back
 halves x front back n p q = sym (take-append-drop n x) ∙ ap (λ z. z ++ drop n x) (sym p) ∙ ap (λ z. front ++ z) (sym q)
 
 -- a front of a piece was read
-pub record Walks (old new : TurtleReader) (piece behind : List ℕ) (before after : List RdfTriple) : Type 0 where
+pub record Walks (old new : TurtleReader) (piece later : List ℕ) (before after : List RdfTriple) : Type 0 where
   pub front : List ℕ
-  pub parts : piece ≡ front ++ behind
+  pub parts : piece ≡ front ++ later
   pub goes : Goes old new front before after
   pub kept : Keeps old new
 
@@ -33,11 +33,11 @@ goes-then a b c p q o1 o2 o3 g h = record {
 }
 
 -- one portion more
-pub walks-more : (a b c : TurtleReader) (piece rest portion behind : List ℕ) (o1 o2 o3 : List RdfTriple) → Walks a b piece rest o1 o2 → rest ≡ portion ++ behind → Reads b c portion o2 o3 → Keeps b c
-    → Walks a c piece behind o1 o3
-walks-more a b c piece rest portion behind o1 o2 o3 w e r k = record {
+pub walks-more : (a b c : TurtleReader) (piece rest portion later : List ℕ) (o1 o2 o3 : List RdfTriple) → Walks a b piece rest o1 o2 → rest ≡ portion ++ later → Reads b c portion o2 o3 → Keeps b c
+    → Walks a c piece later o1 o3
+walks-more a b c piece rest portion later o1 o2 o3 w e r k = record {
   front = w.front ++ portion;
-  parts = w.parts ∙ ap (λ z. w.front ++ z) e ∙ sym (append_assoc w.front portion behind);
+  parts = w.parts ∙ ap (λ z. w.front ++ z) e ∙ sym (append_assoc w.front portion later);
   goes = goes-then a b c w.front portion o1 o2 o3 w.goes r.goes;
   kept = keeps-then a b c w.kept k;
 }
@@ -63,13 +63,13 @@ parted : (x f p b y : List ℕ) → (((x ++ f) ++ p) ++ (b ++ y)) ≡ ((x ++ (f 
 parted x f p b y = simp append_assoc
 
 -- a portion is refused, and so is the piece
-pub walks-refused : (e : Refusal) (a b : TurtleReader) (piece rest portion behind : List ℕ) (o1 o2 : List RdfTriple) → Walks a b piece rest o1 o2 → rest ≡ portion ++ behind → IsRefused b portion e
+pub walks-refused : (e : Refusal) (a b : TurtleReader) (piece rest portion later : List ℕ) (o1 o2 : List RdfTriple) → Walks a b piece rest o1 o2 → rest ≡ portion ++ later → IsRefused b portion e
     → IsRefused a piece e
-walks-refused e a b piece rest portion behind o1 o2 w p h = λ x ts l y.
-    let all : ((x ++ w.front) ++ portion) ++ (behind ++ y) ≡ (x ++ piece) ++ y =
-    parted x w.front portion behind y ∙ ap (λ z. (x ++ z) ++ y) (sym (w.parts ∙ ap (λ z. w.front ++ z) p)) in
+walks-refused e a b piece rest portion later o1 o2 w p h = λ x ts l y.
+    let all : ((x ++ w.front) ++ portion) ++ (later ++ y) ≡ (x ++ piece) ++ y =
+    parted x w.front portion later y ∙ ap (λ z. (x ++ z) ++ y) (sym (w.parts ∙ ap (λ z. w.front ++ z) p)) in
     subst (λ z. Reports e (meaning_for a z)) all
-    (subst (Reports e) (meaning_of-same a b w.kept (((x ++ w.front) ++ portion) ++ (behind ++ y))) (h (x ++ w.front) (ts ++ w.goes.given) (w.goes.leads x ts l) (behind ++ y)))
+    (subst (Reports e) (meaning_of-same a b w.kept (((x ++ w.front) ++ portion) ++ (later ++ y))) (h (x ++ w.front) (ts ++ w.goes.given) (w.goes.leads x ts l) (later ++ y)))
 
 -- so is it at its last portion
 pub walks-last-refused : (e : Refusal) (a b : TurtleReader) (piece rest : List ℕ) (o1 o2 : List RdfTriple) → Walks a b piece rest o1 o2 → IsRefused b rest e → IsRefused a piece e

@@ -8,7 +8,7 @@ use Rattle.gs_lex.specs.declared.kinds.TokenKind.TheVariants as kind
 use Rattle.gs_blank.specs.Numbers.{Numbers}
 use Rattle.gs_body.specs.Bodies.{Statement, end_after}
 use Rattle.gs_body.proofs.LeadingLemmas.{end_after-append}
-use Rattle.gs_triples.specs.Symbols.{Reference, Namespace, Symbol, AWord, At, Dot, PrefixWord, BaseWord, Foreign, symbol, symbol_of, symbols_of}
+use Rattle.gs_triples.specs.Symbols.{Reference, Namespace, Symbol, ATerm, At, Dot, PrefixWord, BaseWord, Foreign, symbol, symbol_of, symbols_of}
 use Rattle.gs_document.specs.Contexts.{TurtleContext}
 use Rattle.gs_document.specs.Documents as statement
 use Rattle.gs_document.specs.Documents.{IsStatement, AreStatements}
@@ -17,7 +17,7 @@ use Rattle.gs_turtle.specs.Faults.{last_end}
 -- the end that a symbol has, if it has one
 abbrev own_end : ℕ → Symbol → ℕ
 own_end n (Dot e) = e
-own_end n (AWord (Reference i e)) = e
+own_end n (ATerm (Reference i e)) = e
 own_end n s = n
 
 kind_end : (k : TokenKind) (x : List ℕ) (n : ℕ) → own_end n (symbol k x n) ≡ n
@@ -74,10 +74,10 @@ last_end-append c (v ∷ vs) ws = last_end-append v.«end» vs ws
 
 -- a statement ends where its last token does
 statement_end : {env next : TurtleContext} {n k : Numbers} {xs : List Symbol} {S : List Statement} → IsStatement env n xs S next k → (us : List Lexeme) (c : ℕ) → symbols_of us ≡ xs → end_after c S ≡ last_end c us
-statement_end (statement.prefix x p i e end h q) us c same = sym (last_is us (At x ∷ AWord (Namespace p) ∷ AWord (Reference i e) ∷ []) (Dot end) end c same (λ d. refl))
-statement_end (statement.base x i e end h q) us c same = sym (last_is us (At x ∷ AWord (Reference i e) ∷ []) (Dot end) end c same (λ d. refl))
-statement_end (statement.prefix_word p i end q) us c same = sym (last_is us (PrefixWord ∷ AWord (Namespace p) ∷ []) (AWord (Reference i end)) end c same (λ d. refl))
-statement_end (statement.base_word i end q) us c same = sym (last_is us (BaseWord ∷ []) (AWord (Reference i end)) end c same (λ d. refl))
+statement_end (statement.prefix x p i e end h q) us c same = sym (last_is us (At x ∷ ATerm (Namespace p) ∷ ATerm (Reference i e) ∷ []) (Dot end) end c same (λ d. refl))
+statement_end (statement.base x i e end h q) us c same = sym (last_is us (At x ∷ ATerm (Reference i e) ∷ []) (Dot end) end c same (λ d. refl))
+statement_end (statement.prefix_word p i end q) us c same = sym (last_is us (PrefixWord ∷ ATerm (Namespace p) ∷ []) (ATerm (Reference i end)) end c same (λ d. refl))
+statement_end (statement.base_word i end q) us c same = sym (last_is us (BaseWord ∷ []) (ATerm (Reference i end)) end c same (λ d. refl))
 statement_end (statement.triples {xs = xs} end h) us c same = sym (last_is us xs (Dot end) end c same (λ d. refl))
 
 -- so do statements

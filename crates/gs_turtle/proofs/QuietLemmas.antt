@@ -11,7 +11,7 @@ use Rattle.gs_lex.specs.declared.kinds.TokenKind.{TokenKind}
 use Rattle.gs_lex.specs.declared.kinds.TokenKind.TheVariants as kind
 use Rattle.gs_blank.specs.Numbers.{Numbers}
 use Rattle.gs_body.specs.Bodies.{triples_of}
-use Rattle.gs_triples.specs.Symbols.{Symbol, AWord, At, Reference, Namespace, Dot, Foreign, symbol, symbol_of, symbols_of}
+use Rattle.gs_triples.specs.Symbols.{Symbol, ATerm, At, Reference, Namespace, Dot, Foreign, symbol, symbol_of, symbols_of}
 use Rattle.gs_triples.specs.States as triples
 use Rattle.gs_triples.specs.States.{Goes, Ends}
 use Rattle.gs_triples.specs.Machine as triples_machine
@@ -42,14 +42,14 @@ step_quiet : (s : State) (t : Symbol) → IsNoDot t → triples_of (step s t).1 
 unfolding step
 step_quiet (Between env n) (At x) h = refl
 step_quiet (Between env n) t h = refl
-step_quiet (InPrefix dot env n) (AWord (Namespace p)) h = refl
-step_quiet (InPrefix dot env n) (AWord w) h = refl
+step_quiet (InPrefix dot env n) (ATerm (Namespace p)) h = refl
+step_quiet (InPrefix dot env n) (ATerm w) h = refl
 step_quiet (InPrefix dot env n) t h = refl
-step_quiet (InPrefixIri dot p env n) (AWord (Reference i e)) h = set_quiet dot e n (with_prefix env p i)
-step_quiet (InPrefixIri dot p env n) (AWord w) h = refl
+step_quiet (InPrefixIri dot p env n) (ATerm (Reference i e)) h = set_quiet dot e n (with_prefix env p i)
+step_quiet (InPrefixIri dot p env n) (ATerm w) h = refl
 step_quiet (InPrefixIri dot p env n) t h = refl
-step_quiet (InBase dot env n) (AWord (Reference i e)) h = set_quiet dot e n (with_base env i)
-step_quiet (InBase dot env n) (AWord w) h = refl
+step_quiet (InBase dot env n) (ATerm (Reference i e)) h = set_quiet dot e n (with_base env i)
+step_quiet (InBase dot env n) (ATerm w) h = refl
 step_quiet (InBase dot env n) t h = refl
 step_quiet (AtDot env n) (Dot e) h = refl
 step_quiet (AtDot env n) t h = refl

@@ -21,10 +21,10 @@ use Rattle.gs_document.specs.Documents.{start}
 use Rattle.gs_document.specs.Program.{document}
 use Rattle.gs_document.specs.States.{Between}
 use Rattle.gs_document.specs.Machine.{turtle}
-use Rattle.gs_document.proofs.ReaderLemmas.{machine_tells}
+use Rattle.gs_document.proofs.ReaderLemmas.{machine_reports}
 use Rattle.gs_parse.specs.Views.{state_of}
 use Rattle.gs_turtle.specs.Documents.{ended_by, meaning_by}
-use Rattle.gs_turtle.specs.Portions.{end_of, TellsBehind}
+use Rattle.gs_turtle.specs.Portions.{end_of, ReportsAfter}
 use Rattle.gs_turtle.specs.Readers.{unread, LeadsTo, meaning_for}
 use Rattle.gs_turtle.specs.declared.readers.TurtleReader.{TurtleReader}
 use Rattle.gs_turtle.proofs.QuietLemmas.{quiet_end}
@@ -49,7 +49,7 @@ meaning_cut b r x ts e c =
     let same = cut-one false lexer.Between 0 0 x (cut_of false x).0 ts (cut_of false x).1 e (cut-from false lexer.Between 0 0 x) c in
     ap (λ (z : List Lexeme). ended_by (cut_of false x).1 (document b r z)) same.0
     ∙ ap (λ (z : lexer.CutEnd). ended_by z (document b r ts)) same.1
-    ∙ ap (ended_by e) (sym (machine_tells b r ts))
+    ∙ ap (ended_by e) (sym (machine_reports b r ts))
 
 -- after the tokens that a reader took
 pub meaning_on : (a : TurtleReader) (x : List ℕ) (ts : List RdfTriple) (l : LeadsTo a x ts) (z : List ℕ) (us : List Lexeme) (e : lexer.CutEnd) → IsCut false z (l.lexemes ++ us) e
@@ -61,19 +61,19 @@ meaning_on a x ts l z us e c =
     ∙ ended-joined e l.parsed.statements (end_of a.parser us)
 
 -- what a refusal reports of the rest of a text it reports of the whole
-pub tells_joined : (e : Refusal) (last : ℕ) (ss : List Statement) (t s : Meaning) → last ≡ end_after 0 ss → s ≡ joined ss t → TellsBehind last e t → Reports e s
-tells_joined (refusal.Syntax at) last ss t s p q h = record {
+pub reports_joined : (e : Refusal) (last : ℕ) (ss : List Statement) (t s : Meaning) → last ≡ end_after 0 ss → s ≡ joined ss t → ReportsAfter last e t → Reports e s
+reports_joined (refusal.Syntax at) last ss t s p q h = record {
   broken = ap (λ (u : Meaning). u.1) q ∙ h.0;
   place = h.1 ∙ ap (λ n. end_after n t.0) p ∙ sym (end_after-append 0 ss t.0) ∙ ap (λ (u : Meaning). end_after 0 u.0) (sym q);
 }
-tells_joined refusal.TermTooLong last ss t s p q h = ap (λ (u : Meaning). u.1) q ∙ h
-tells_joined refusal.NoMemory last ss t s p q h = tt
-tells_joined refusal.Closed last ss t s p q h = tt
-tells_joined refusal.WrongPhase last ss t s p q h = h
-tells_joined refusal.BadSeat last ss t s p q h = h
-tells_joined refusal.LastNumber last ss t s p q h = h
-tells_joined refusal.StoreFull last ss t s p q h = h
-tells_joined refusal.NotInProfile last ss t s p q h = h
+reports_joined refusal.TermTooLong last ss t s p q h = ap (λ (u : Meaning). u.1) q ∙ h
+reports_joined refusal.NoMemory last ss t s p q h = tt
+reports_joined refusal.Closed last ss t s p q h = tt
+reports_joined refusal.WrongPhase last ss t s p q h = h
+reports_joined refusal.BadSeat last ss t s p q h = h
+reports_joined refusal.LastNumber last ss t s p q h = h
+reports_joined refusal.StoreFull last ss t s p q h = h
+reports_joined refusal.NotInProfile last ss t s p q h = h
 
 -- what was given is a front of what is said
 pub begun : (a : TurtleReader) (x : List ℕ) (ts : List RdfTriple) → LeadsTo a x ts → (y : List ℕ) → Begins (triples_of (meaning_for a (x ++ y)).0) ts

@@ -15,8 +15,8 @@ use Rattle.gs_parse.specs.Views.{state_of}
 use Rattle.gs_parse.specs.declared.parser.Parser.{Parser}
 
 -- the state after some tokens, and what they state
-abbrev pub turn_of : Parser → List Lexeme → State × List Statement
-turn_of p ts = steps turtle (state_of p) (symbols_of ts)
+abbrev pub transition_of : Parser → List Lexeme → State × List Statement
+transition_of p ts = steps turtle (state_of p) (symbols_of ts)
 
 -- what the last tokens of a text state, and how it ends
 abbrev pub end_of : Parser → List Lexeme → Meaning
@@ -24,9 +24,9 @@ end_of p ts = rest turtle (state_of p) (symbols_of ts)
 
 -- the parser took these tokens, and the list grew by the triples that they state
 pub record Takes (old new : Parser) (ts : List Lexeme) (before after : List RdfTriple) : Type 0 where
-  pub state : state_of new ≡ (turn_of old ts).0
-  pub given : after ≡ before ++ triples_of (turn_of old ts).1
-  pub last : new.last ≡ end_after old.last (turn_of old ts).1
+  pub state : state_of new ≡ (transition_of old ts).0
+  pub given : after ≡ before ++ triples_of (transition_of old ts).1
+  pub last : new.last ≡ end_after old.last (transition_of old ts).1
 
 -- the text ends after these tokens and has no fault, and the list grew by the triples that they state
 pub record Concludes (old new : Parser) (ts : List Lexeme) (before after : List RdfTriple) : Type 0 where
@@ -40,8 +40,8 @@ refusal_of last fault.Syntax = refusal.Syntax last
 refusal_of last fault.TermTooLong = refusal.TermTooLong
 
 -- what a refusal reports of the rest of a text, where the last statement before it ends after so many bytes
-abbrev pub TellsBehind : ℕ → Refusal → Meaning → Type 0
-TellsBehind last (refusal.Syntax at) r = (r.1 ≡ Faulty fault.Syntax) × (at ≡ end_after last r.0)
-TellsBehind last refusal.TermTooLong r = r.1 ≡ Faulty fault.TermTooLong
-TellsBehind last refusal.NoMemory r = Unit {0}
-TellsBehind last other r = ⊥
+abbrev pub ReportsAfter : ℕ → Refusal → Meaning → Type 0
+ReportsAfter last (refusal.Syntax at) r = (r.1 ≡ Faulty fault.Syntax) × (at ≡ end_after last r.0)
+ReportsAfter last refusal.TermTooLong r = r.1 ≡ Faulty fault.TermTooLong
+ReportsAfter last refusal.NoMemory r = Unit {0}
+ReportsAfter last other r = ⊥

@@ -5,7 +5,7 @@ ghost use Rattle.gs_lex.specs.Tokens.{Lexeme};
 ghost use Rattle.gs_lex.specs.Tokens as lexer;
 ghost use Rattle.gs_lex.specs.Lexemes.{lexemes_of};
 ghost use Rattle.gs_turtle.specs.Documents.{ended_by};
-ghost use Rattle.gs_turtle.specs.Portions.{Takes, Concludes, TellsBehind, refusal_of, end_of};
+ghost use Rattle.gs_turtle.specs.Portions.{Takes, Concludes, ReportsAfter, refusal_of, end_of};
 
 use gs_lex::Token;
 use gs_model::{Fault, Refusal};
@@ -49,7 +49,7 @@ pub fn go_on(
         triples.old.items triples.new.items) }
     ensures err { OnErr result (Begins triples.new.items triples.old.items) }
     ensures fault { IfErr result (λ e. (us : List Lexeme)
-        → TellsBehind parser.old.last e (end_of parser.old (lexemes_of tokens.now ++ us))) }
+        → ReportsAfter parser.old.last e (end_of parser.old (lexemes_of tokens.now ++ us))) }
 {
     take_tokens(parser, tokens, triples)?;
     match parser.fault() {
@@ -67,7 +67,7 @@ pub fn conclude(
     ensures ok { OnOk result (Concludes parser.old parser.new (lexemes_of tokens.now)
         triples.old.items triples.new.items) }
     ensures err { OnErr result (Begins triples.new.items triples.old.items) }
-    ensures fault { IfErr result (λ e. TellsBehind parser.old.last e
+    ensures fault { IfErr result (λ e. ReportsAfter parser.old.last e
         (end_of parser.old (lexemes_of tokens.now))) }
 {
     take_tokens(parser, tokens, triples)?;
@@ -80,7 +80,7 @@ pub fn conclude(
 /// Tokens after which stands something that is none: the first fault of all.
 pub fn break_off(parser: &mut Parser, tokens: &[Token], triples: &mut Vec<Triple>) -> Refusal
     ensures kept { Begins triples.new.items triples.old.items }
-    ensures fault { (n : ℕ) → TellsBehind parser.old.last result
+    ensures fault { (n : ℕ) → ReportsAfter parser.old.last result
         (ended_by (lexer.AtFault n) (end_of parser.old (lexemes_of tokens.now))) }
 {
     match conclude(parser, tokens, triples) {

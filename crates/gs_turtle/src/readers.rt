@@ -54,7 +54,7 @@ impl TurtleReader {
         ensures ok { OnOk result (Reads self.old self.new portion.now triples.old.items triples.new.items) }
         ensures err { OnErr result (Begins triples.new.items triples.old.items) }
         ensures fault { IfErr result (IsRefused self.old portion.now) }
-        ensures told { IfErr result (λ e. e ≢ Refusal.Closed) }
+        ensures reported { IfErr result (λ e. e ≢ Refusal.Closed) }
         ensures kept { Keeps self.old self.new }
     {
         self.tokens.clear();
@@ -71,14 +71,14 @@ impl TurtleReader {
         ensures ok { OnOk result (Reads self.old self.new piece.now triples.old.items triples.new.items) }
         ensures err { OnErr result (Begins triples.new.items triples.old.items) }
         ensures fault { IfErr result (IsRefused self.old piece.now) }
-        ensures told { IfErr result (λ e. e ≢ Refusal.Closed) }
+        ensures reported { IfErr result (λ e. e ≢ Refusal.Closed) }
         ensures kept { Keeps self.old self.new }
     {
         let mut rest = piece;
         while rest.len() > PORTION {
-            let (portion, behind) = rest.split_at(PORTION);
+            let (portion, later) = rest.split_at(PORTION);
             self.take_portion(portion, triples)?;
-            rest = behind;
+            rest = later;
         }
         self.take_portion(rest, triples)
     }
@@ -88,7 +88,7 @@ impl TurtleReader {
         ensures ok { OnOk result (Finishes meaning_for LeadsTo self.old triples.old.items triples.new.items) }
         ensures err { OnErr result (Begins triples.new.items triples.old.items) }
         ensures fault { IfErr result (IsRefusedAtEnd self.old) }
-        ensures told { IfErr result (λ e. e ≢ Refusal.Closed) }
+        ensures reported { IfErr result (λ e. e ≢ Refusal.Closed) }
     {
         self.tokens.clear();
         match self.lexer.finish(&mut self.tokens) {

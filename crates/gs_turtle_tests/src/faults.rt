@@ -48,8 +48,8 @@ fn fault_leaves(alloc: Global) -> Result<bool, Refusal> {
     let fed = reader.feed(b"<s> <p> <n> . <s> .\n", &mut triples);
     let after = triples.len();
     let ended = reader.finish(&mut triples);
-    let is_told = fed == Err(Refusal::Syntax(27)) && ended == Err(Refusal::Closed);
-    Ok(is_told && before == 1 && after == 1 && triples.len() == 1)
+    let is_reported = fed == Err(Refusal::Syntax(27)) && ended == Err(Refusal::Closed);
+    Ok(is_reported && before == 1 && after == 1 && triples.len() == 1)
 }
 
 #[test]

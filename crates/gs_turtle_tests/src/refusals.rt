@@ -79,8 +79,8 @@ fn a_refused_request_for_memory_leaves_the_list(rt: HostRuntime) -> Result<(), F
 }
 
 /// Whether this was refused for memory or for a fault there.
-fn is_refused(told: Result<(), Refusal>, at: u64) -> bool {
-    told == Err(Refusal::NoMemory) || told == Err(Refusal::Syntax(at))
+fn is_refused(reported: Result<(), Refusal>, at: u64) -> bool {
+    reported == Err(Refusal::NoMemory) || reported == Err(Refusal::Syntax(at))
 }
 
 /// Whether a fault in the second piece leaves the list.

@@ -1,4 +1,4 @@
--- What the steps of a reader tell of its history.
+-- What the steps of a reader say of its history.
 use Rattle.std.proofs.Common.{◌≡◌, ℕ, Bool, true, List, [], ◌++◌, refl, sym, ap, subst, ◌∙◌, append_assoc}
 use Rattle.std.specs.Prelude.{Some, None}
 use Rattle.std.proofs.lemmas.List.{map-append}
@@ -22,11 +22,11 @@ use Rattle.gs_update_text.proofs.TextLemmas.{text_cut}
 use Rattle.gs_update.specs.Views.{operations_of}
 use Rattle.gs_update.specs.Answers.{Refuses}
 use Rattle.gs_update.specs.Steps.{Starts}
-use Rattle.gs_update.specs.Portions.{operations_in, turn_of, end_of, Takes, Concludes, TellsBehind}
+use Rattle.gs_update.specs.Portions.{operations_in, transition_of, end_of, Takes, Concludes, ReportsAfter}
 use Rattle.gs_update.specs.Readers.{start, IsLed, LeadsTo, Goes, IsRefused, Finishes, IsRefusedAtEnd}
 use Rattle.gs_update.specs.declared.parser.UpdateParser.{UpdateParser}
 use Rattle.gs_update.specs.declared.readers.UpdateReader.{UpdateReader}
-use Rattle.gs_update.proofs.PortionLemmas.{operations_in-append, end_of_last-append, tells_ended}
+use Rattle.gs_update.proofs.PortionLemmas.{operations_in-append, end_of_last-append, reports_ended}
 
 -- what was said before does not change how a text ends
 ended_joined : (e : lexer.CutEnd) (os : List Written) (q : Request) → ended_by e (joined os q) ≡ joined os (ended_by e q)
@@ -45,19 +45,19 @@ said_on b r a x l z us e c =
     ∙ ended_joined e l.parsed.written (end_of a.parser us)
 
 -- what a refusal reports of the rest of a text it reports of the whole
-tells_joined : (e : Refusal) (last : ℕ) (os : List Written) (q s : Request) → last ≡ end_of_last 0 os → s ≡ joined os q → TellsBehind last e q → Refuses e s
-tells_joined (refusal.Syntax at) last os q s p w h = record {
+reports_joined : (e : Refusal) (last : ℕ) (os : List Written) (q s : Request) → last ≡ end_of_last 0 os → s ≡ joined os q → ReportsAfter last e q → Refuses e s
+reports_joined (refusal.Syntax at) last os q s p w h = record {
   broken = ap (λ (u : Request). u.1) w ∙ h.0;
   place = h.1 ∙ ap (λ n. end_of_last n q.0) p ∙ sym (end_of_last-append 0 os q.0) ∙ ap (λ (u : Request). end_of_last 0 u.0) (sym w);
 }
-tells_joined refusal.TermTooLong last os q s p w h = ap (λ (u : Request). u.1) w ∙ h
-tells_joined refusal.NotInProfile last os q s p w h = ap (λ (u : Request). u.1) w ∙ h
-tells_joined refusal.NoMemory last os q s p w h = tt
-tells_joined refusal.Closed last os q s p w h = h
-tells_joined refusal.WrongPhase last os q s p w h = h
-tells_joined refusal.BadSeat last os q s p w h = h
-tells_joined refusal.LastNumber last os q s p w h = h
-tells_joined refusal.StoreFull last os q s p w h = h
+reports_joined refusal.TermTooLong last os q s p w h = ap (λ (u : Request). u.1) w ∙ h
+reports_joined refusal.NotInProfile last os q s p w h = ap (λ (u : Request). u.1) w ∙ h
+reports_joined refusal.NoMemory last os q s p w h = tt
+reports_joined refusal.Closed last os q s p w h = h
+reports_joined refusal.WrongPhase last os q s p w h = h
+reports_joined refusal.BadSeat last os q s p w h = h
+reports_joined refusal.LastNumber last os q s p w h = h
+reports_joined refusal.StoreFull last os q s p w h = h
 
 -- no tokens
 pub led_start : (b : List ℕ) (r : ℕ) (p : UpdateParser) → Starts p (start b r) → IsLed b r p []
@@ -72,14 +72,14 @@ led_start b r p h = record {
 -- tokens more
 led_on : (b : List ℕ) (r : ℕ) (p q : UpdateParser) (ts us : List Lexeme) → IsLed b r p ts → Takes p q us → IsLed b r q (ts ++ us)
 led_on b r p q ts us l h =
-    let turn : State × List Written = turn_of p us in
+    let transition : State × List Written = transition_of p us in
     record {
-      written = l.written ++ turn.1;
+      written = l.written ++ transition.1;
       state = ap (steps updates (start b r)) (map-append symbol_of ts us) ∙ steps-append updates (start b r) (symbols_of ts) (symbols_of us)
           ∙ ap (λ (z : State × List Written). ((steps updates z.0 (symbols_of us)).0, z.1 ++ (steps updates z.0 (symbols_of us)).1)) l.state
-          ∙ ap (λ (s : State). (s, l.written ++ turn.1)) (sym h.state);
-      operations = h.operations ∙ ap (λ z. z ++ operations_in turn.1) l.operations ∙ sym (operations_in-append l.written turn.1);
-      last = h.last ∙ ap (λ n. end_of_last n turn.1) l.last ∙ sym (end_of_last-append 0 l.written turn.1);
+          ∙ ap (λ (s : State). (s, l.written ++ transition.1)) (sym h.state);
+      operations = h.operations ∙ ap (λ z. z ++ operations_in transition.1) l.operations ∙ sym (operations_in-append l.written transition.1);
+      last = h.last ∙ ap (λ n. end_of_last n transition.1) l.last ∙ sym (end_of_last-append 0 l.written transition.1);
     }
 
 -- the lexer of one reader leads to that of another, and to these tokens
@@ -102,26 +102,26 @@ goes_portion a b piece old new e f h = λ base r x l.
 
 -- its tokens have a fault
 pub refused_portion : (e : Refusal) (a b : UpdateReader) (piece : List ℕ) (old new : List Token) → old ≡ [] → Lexes a b piece old new
-    → ((us : List Lexeme) → TellsBehind a.parser.last e (end_of a.parser (lexemes_of new ++ us))) → IsRefused a piece e
+    → ((us : List Lexeme) → ReportsAfter a.parser.last e (end_of a.parser (lexemes_of new ++ us))) → IsRefused a piece e
 refused_portion e a b piece old new n f h = λ base r x l y.
     let fed = f true x l.lexemes l.lexed in
     let g = leads-goes-on true b.lexer (x ++ piece) (l.lexemes ++ fed.added) fed.leads y in
     let us = lexemes_of new ++ g.0 in
     let cut : IsCut true ((x ++ piece) ++ y) (l.lexemes ++ us) g.1 =
     subst (λ z. IsCut true ((x ++ piece) ++ y) z g.1) (append_assoc l.lexemes fed.added g.0 ∙ ap (λ z. l.lexemes ++ (z ++ g.0)) (same_added old new fed.added n fed.given)) g.2 in
-    tells_joined e a.parser.last l.parsed.written (ended_by g.1 (end_of a.parser us)) (request_by base r ((x ++ piece) ++ y)) l.parsed.last
-    (said_on base r a x l ((x ++ piece) ++ y) us g.1 cut) (tells_ended e a.parser.last g.1 (end_of a.parser us) (h g.0))
+    reports_joined e a.parser.last l.parsed.written (ended_by g.1 (end_of a.parser us)) (request_by base r ((x ++ piece) ++ y)) l.parsed.last
+    (said_on base r a x l ((x ++ piece) ++ y) us g.1 cut) (reports_ended e a.parser.last g.1 (end_of a.parser us) (h g.0))
 
 -- after its tokens stands something that is none
 pub broken_portion : (e : Refusal) (a : UpdateReader) (piece : List ℕ) (old new : List Token) (at : ℕ) → old ≡ []
     → ((updates : Bool) (x : List ℕ) (ts : List Lexeme) → Leads updates a.lexer x ts → Breaks updates (x ++ piece) ts at old new)
-    → ((n : ℕ) → TellsBehind a.parser.last e (ended_by (lexer.AtFault n) (end_of a.parser (lexemes_of new)))) → IsRefused a piece e
+    → ((n : ℕ) → ReportsAfter a.parser.last e (ended_by (lexer.AtFault n) (end_of a.parser (lexemes_of new)))) → IsRefused a piece e
 broken_portion e a piece old new at n f h = λ base r x l y.
     let g = f true x l.lexemes l.lexed in
     let us = lexemes_of new in
     let cut : IsCut true ((x ++ piece) ++ y) (l.lexemes ++ us) (lexer.AtFault at) =
     subst (λ z. IsCut true ((x ++ piece) ++ y) (l.lexemes ++ z) (lexer.AtFault at)) (same_added old new g.added n g.given) (g.fault y) in
-    tells_joined e a.parser.last l.parsed.written (ended_by (lexer.AtFault at) (end_of a.parser us)) (request_by base r ((x ++ piece) ++ y)) l.parsed.last
+    reports_joined e a.parser.last l.parsed.written (ended_by (lexer.AtFault at) (end_of a.parser us)) (request_by base r ((x ++ piece) ++ y)) l.parsed.last
     (said_on base r a x l ((x ++ piece) ++ y) us (lexer.AtFault at) cut) (h at)
 
 -- how the lexer ends a text
@@ -137,9 +137,9 @@ said_at_end b r a end old new n f x l =
 
 -- the text ends, and its last tokens have a fault or not
 pub refused_at_end : (e : Refusal) (a : UpdateReader) (end : lexer.CutEnd) (old new : List Token) → old ≡ [] → Ends a end old new
-    → TellsBehind a.parser.last e (ended_by end (end_of a.parser (lexemes_of new))) → IsRefusedAtEnd a e
+    → ReportsAfter a.parser.last e (ended_by end (end_of a.parser (lexemes_of new))) → IsRefusedAtEnd a e
 refused_at_end e a end old new n f h = λ b r x l.
-    tells_joined e a.parser.last l.parsed.written (ended_by end (end_of a.parser (lexemes_of new))) (request_by b r x) l.parsed.last (said_at_end b r a end old new n f x l) h
+    reports_joined e a.parser.last l.parsed.written (ended_by end (end_of a.parser (lexemes_of new))) (request_by b r x) l.parsed.last (said_at_end b r a end old new n f x l) h
 
 pub ends_whole : (a c : UpdateReader) (old new : List Token) → old ≡ [] → Ends a lexer.AtEnd old new → Concludes a.parser c.parser (lexemes_of new) → Finishes a c
 ends_whole a c old new n f h = λ b r x l.

@@ -13,9 +13,9 @@ pub halves : (x front back : List ℕ) (n : ℕ) → front ≡ take n x → back
 halves x front back n p q = sym (take-append-drop n x) ∙ ap (λ z. z ++ drop n x) (sym p) ∙ ap (λ z. front ++ z) (sym q)
 
 -- a front of a text was read
-pub record Walks (old new : UpdateReader) (text behind : List ℕ) : Type 0 where
+pub record Walks (old new : UpdateReader) (text later : List ℕ) : Type 0 where
   pub front : List ℕ
-  pub parts : text ≡ front ++ behind
+  pub parts : text ≡ front ++ later
   pub goes : Goes old new front
   pub sound : IsSound new.parser.place
 
@@ -28,10 +28,10 @@ goes_then : (a b c : UpdateReader) (p q : List ℕ) → Goes a b p → Goes b c 
 goes_then a b c p q g h = λ base r x l. subst (LeadsTo base r c) (append_assoc x p q) (h base r (x ++ p) (g base r x l))
 
 -- one portion more
-pub walks_more : (a b c : UpdateReader) (text rest portion behind : List ℕ) → Walks a b text rest → rest ≡ portion ++ behind → Goes b c portion → IsSound c.parser.place → Walks a c text behind
-walks_more a b c text rest portion behind w e g s = record {
+pub walks_more : (a b c : UpdateReader) (text rest portion later : List ℕ) → Walks a b text rest → rest ≡ portion ++ later → Goes b c portion → IsSound c.parser.place → Walks a c text later
+walks_more a b c text rest portion later w e g s = record {
   front = w.front ++ portion;
-  parts = w.parts ∙ ap (λ z. w.front ++ z) e ∙ sym (append_assoc w.front portion behind);
+  parts = w.parts ∙ ap (λ z. w.front ++ z) e ∙ sym (append_assoc w.front portion later);
   goes = goes_then a b c w.front portion w.goes g;
   sound = s;
 }
@@ -45,11 +45,11 @@ parted : (x f p b y : List ℕ) → (((x ++ f) ++ p) ++ (b ++ y)) ≡ ((x ++ (f 
 parted x f p b y = simp append_assoc
 
 -- a portion is refused, and so is the text
-pub walks_refused : (e : Refusal) (a b : UpdateReader) (text rest portion behind : List ℕ) → Walks a b text rest → rest ≡ portion ++ behind → IsRefused b portion e → IsRefused a text e
-walks_refused e a b text rest portion behind w p h = λ base r x l y.
-    let all : ((x ++ w.front) ++ portion) ++ (behind ++ y) ≡ (x ++ text) ++ y =
-    parted x w.front portion behind y ∙ ap (λ z. (x ++ z) ++ y) (sym (w.parts ∙ ap (λ z. w.front ++ z) p)) in
-    subst (λ z. Refuses e (request_by base r z)) all (h base r (x ++ w.front) (w.goes base r x l) (behind ++ y))
+pub walks_refused : (e : Refusal) (a b : UpdateReader) (text rest portion later : List ℕ) → Walks a b text rest → rest ≡ portion ++ later → IsRefused b portion e → IsRefused a text e
+walks_refused e a b text rest portion later w p h = λ base r x l y.
+    let all : ((x ++ w.front) ++ portion) ++ (later ++ y) ≡ (x ++ text) ++ y =
+    parted x w.front portion later y ∙ ap (λ z. (x ++ z) ++ y) (sym (w.parts ∙ ap (λ z. w.front ++ z) p)) in
+    subst (λ z. Refuses e (request_by base r z)) all (h base r (x ++ w.front) (w.goes base r x l) (later ++ y))
 
 -- so is it at its last portion
 pub walks_last_refused : (e : Refusal) (a b : UpdateReader) (text rest : List ℕ) → Walks a b text rest → IsRefused b rest e → IsRefused a text e

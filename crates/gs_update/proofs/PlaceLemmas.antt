@@ -1,4 +1,4 @@
--- The turns of a parser of updates, from those of the block that it is in.
+-- The transitions of a parser of updates, from those of the block that it is in.
 use Rattle.std.proofs.Common.{◌++◌, append-nil, ◌≡◌, ℕ, true, false, List, [], ◌∷◌, length, refl, sym, ap, ◌∙◌, subst}
 use Rattle.std.specs.Prelude.{◌==◌, Some, None}
 use Rattle.std.proofs.lemmas.Bool.{false≢true}
@@ -16,10 +16,10 @@ use Rattle.gs_update_text.specs.Requests.{UpdateOperation, DeletesWhere, Written
 use Rattle.gs_update_text.specs.Operations.{Scope, Block, some_patterns}
 use Rattle.gs_update_text.specs.Blocks as blocks
 use Rattle.gs_update_text.specs.Blocks.{BlockState}
-use Rattle.gs_update_text.specs.States.{State, Turn, After, Rejected, quiet}
+use Rattle.gs_update_text.specs.States.{State, Transition, After, Rejected, quiet}
 use Rattle.gs_update_text.specs.Machine.{blocked, step}
 use Rattle.gs_update_places.specs.Views.{rejection_at, block_state, rules_of, scope_of, state_at}
-use Rattle.gs_update_places.specs.Steps.{Making, Turned, block_turn, Stays, LeadsTo, turn_at_place}
+use Rattle.gs_update_places.specs.Steps.{Making, Turned, block_turn, Stays, LeadsTo, transition_at_place}
 use Rattle.gs_update.specs.Views.{operation_of, operations_of}
 use Rattle.gs_update.specs.Steps.{concluded, Moves}
 use Rattle.gs_update_places.specs.declared.blocks.Block.{Block as CodeBlock}
@@ -29,8 +29,8 @@ use Rattle.gs_update_places.specs.declared.places.Place.{Place}
 use Rattle.gs_update_places.specs.declared.places.Place.TheVariants as place
 use Rattle.gs_update.specs.declared.parser.UpdateParser.{UpdateParser}
 
--- a turn by another name, from a parser that differs in its place
-pub moves_from : (p : UpdateParser) (z : Place) (q : UpdateParser) (t u : Turn) → t ≡ u → Moves (record p { place = z }) q t → Moves p q u
+-- a transition by another name, from a parser that differs in its place
+pub moves_from : (p : UpdateParser) (z : Place) (q : UpdateParser) (t u : Transition) → t ≡ u → Moves (record p { place = z }) q t → Moves p q u
 moves_from p z q t u e h =
     let moved : Moves p q t = record { state = h.state; operations = h.operations; last = h.last; sound = h.sound } in
     subst (Moves p q) e moved
@@ -45,13 +45,13 @@ adds_on p a q s o e os l m = record {
   sound = m.sound;
 }
 
--- the turn that leads from a place to another one
-pub stands_on : (p : UpdateParser) (z o : Place) (q : UpdateParser) (h : Place) (t : Symbol) → o ≡ p.place → LeadsTo h (turn_at_place o t) → Moves (record p { place = z }) q (quiet (state_at h))
-    → Moves p q (turn_at_place p.place t)
-stands_on p z o q h t e l m = moves_from p z q (quiet (state_at h)) (turn_at_place p.place t) (l.state ∙ ap (λ (x : Place). turn_at_place x t) e) m
+-- the transition that leads from a place to another one
+pub stands_on : (p : UpdateParser) (z o : Place) (q : UpdateParser) (h : Place) (t : Symbol) → o ≡ p.place → LeadsTo h (transition_at_place o t) → Moves (record p { place = z }) q (quiet (state_at h))
+    → Moves p q (transition_at_place p.place t)
+stands_on p z o q h t e l m = moves_from p z q (quiet (state_at h)) (transition_at_place p.place t) (l.state ∙ ap (λ (x : Place). transition_at_place x t) e) m
 
 -- nothing leads away from a departure
-pub stays_rejected : (r : CodeRejection) (t : Symbol) → LeadsTo (place.Rejected r) (turn_at_place (place.Rejected r) t)
+pub stays_rejected : (r : CodeRejection) (t : Symbol) → LeadsTo (place.Rejected r) (transition_at_place (place.Rejected r) t)
 unfolding step
 stays_rejected r t = record { state = refl; sound = tt }
 
@@ -66,8 +66,8 @@ are_none [] h = refl
 are_none (p ∷ P) h = absurd (false≢true (sym (eqb-suc-zero (length P)) ∙ h))
 
 module _ {L S V X T : Type 0} (l : TypedLanguage S V X T) (inside : Block X T → Scope → BlockState X T → State) (made : Making T) where
-  -- the machine's turn in a block
-  abbrev pub turn_in : CodeBlock L S V X T → Symbol → Turn
+  -- the machine's transition in a block
+  abbrev pub turn_in : CodeBlock L S V X T → Symbol → Transition
   turn_in a t = blocked (inside (rules_of l made a) (scope_of l a)) (scope_of l a) (block_turn l a t made)
 
   -- the block goes on

@@ -20,7 +20,7 @@ use Rattle.gs_update_text.proofs.UpdateLemmas.{rejected_rest}
 use Rattle.gs_update_places.specs.Views.{IsSound}
 use Rattle.gs_update.specs.Views.{state_of, operations_of}
 use Rattle.gs_update.specs.Steps.{Moves}
-use Rattle.gs_update.specs.Portions.{operations_in, turn_of, end_of, Takes, Concludes, refusal_of, TellsBehind}
+use Rattle.gs_update.specs.Portions.{operations_in, transition_of, end_of, Takes, Concludes, refusal_of, ReportsAfter}
 use Rattle.gs_update.specs.declared.parser.UpdateParser.{UpdateParser}
 
 -- the operations of one list after another
@@ -38,18 +38,18 @@ unfolding steps
 takes_none p s = record { state = refl; operations = sym (append-nil (operations_of p.operations.items)); last = refl; sound = s }
 
 -- the state after tokens and more tokens
-turn-append : (p : UpdateParser) (s : State) (ts us : List Lexeme) → s ≡ (turn_of p ts).0 → turn_of p (ts ++ us) ≡ ((steps updates s (symbols_of us)).0, (turn_of p ts).1 ++ (steps updates s (symbols_of us)).1)
-turn-append p s ts us e =
+transition-append : (p : UpdateParser) (s : State) (ts us : List Lexeme) → s ≡ (transition_of p ts).0 → transition_of p (ts ++ us) ≡ ((steps updates s (symbols_of us)).0, (transition_of p ts).1 ++ (steps updates s (symbols_of us)).1)
+transition-append p s ts us e =
     ap (steps updates (state_of p)) (map-append symbol_of ts us) ∙ steps-append updates (state_of p) (symbols_of ts) (symbols_of us)
-    ∙ ap (λ (z : State). ((steps updates z (symbols_of us)).0, (turn_of p ts).1 ++ (steps updates z (symbols_of us)).1)) (sym e)
+    ∙ ap (λ (z : State). ((steps updates z (symbols_of us)).0, (transition_of p ts).1 ++ (steps updates z (symbols_of us)).1)) (sym e)
 
 -- one token more
 takes_more : (a b c : UpdateParser) (ts : List Lexeme) (t : Lexeme) → Takes a b ts → Moves b c (step (state_of b) (symbol_of t)) → Takes a c (ts ++ t ∷ [])
 takes_more a b c ts t h m =
     let u = step (state_of b) (symbol_of t) in
-    let old = (turn_of a ts).1 in
-    let e : turn_of a (ts ++ t ∷ []) ≡ (u.0, old ++ u.1) =
-    turn-append a (state_of b) ts (t ∷ []) h.state ∙ ap (λ (z : State × List Written). (z.0, old ++ z.1)) (steps-one updates (state_of b) (symbol_of t)) in
+    let old = (transition_of a ts).1 in
+    let e : transition_of a (ts ++ t ∷ []) ≡ (u.0, old ++ u.1) =
+    transition-append a (state_of b) ts (t ∷ []) h.state ∙ ap (λ (z : State × List Written). (z.0, old ++ z.1)) (steps-one updates (state_of b) (symbol_of t)) in
     record {
       state = m.state ∙ ap (λ (z : State × List Written). z.0) (sym e);
       operations = m.operations ∙ ap (λ z. z ++ operations_in u.1) h.operations ∙ append_assoc (operations_of a.operations.items) (operations_in old) (operations_in u.1)
@@ -67,25 +67,25 @@ takes_next a b c xs n t l i h m =
     subst (Takes a c) (sym e) (takes_more a b c (lexemes_of (take n xs)) (lexeme_of t) h m)
 
 -- a departure by its refusal
-tells : (r : Rejection) (last n : ℕ) (q : Request) → q.1 ≡ Some r → n ≡ end_of_last last q.0 → TellsBehind last (refusal_of n r) q
-tells (Broken fault.Syntax) last n q p e = (p, e)
-tells (Broken fault.TermTooLong) last n q p e = p
-tells OutOfProfile last n q p e = p
+reports : (r : Rejection) (last n : ℕ) (q : Request) → q.1 ≡ Some r → n ≡ end_of_last last q.0 → ReportsAfter last (refusal_of n r) q
+reports (Broken fault.Syntax) last n q p e = (p, e)
+reports (Broken fault.TermTooLong) last n q p e = p
+reports OutOfProfile last n q p e = p
 
 -- after a departure whatever follows says nothing more
-pub rejected_tells : (a b : UpdateParser) (ts us : List Lexeme) (r : Rejection) → Takes a b ts → state_of b ≡ Rejected r → TellsBehind a.last (refusal_of b.last r) (end_of a (ts ++ us))
-rejected_tells a b ts us r h e =
-    let old = (turn_of a ts).1 in
+pub rejected_reports : (a b : UpdateParser) (ts us : List Lexeme) (r : Rejection) → Takes a b ts → state_of b ≡ Rejected r → ReportsAfter a.last (refusal_of b.last r) (end_of a (ts ++ us))
+rejected_reports a b ts us r h e =
+    let old = (transition_of a ts).1 in
     let all : end_of a (ts ++ us) ≡ (old, Some r) =
     ap (rest updates (state_of a)) (map-append symbol_of ts us) ∙ rest-append updates (state_of a) (symbols_of ts) (symbols_of us)
     ∙ ap (λ (z : State). joined old (rest updates z (symbols_of us))) (sym h.state ∙ e) ∙ ap (joined old) (rejected_rest r (symbols_of us)) ∙ ap (λ z. let p : Request = (z, Some r) in p) (append-nil old) in
-    tells r a.last b.last (end_of a (ts ++ us)) (ap (λ (z : Request). z.1) all) (h.last ∙ ap (λ (z : Request). end_of_last a.last z.0) (sym all))
+    reports r a.last b.last (end_of a (ts ++ us)) (ap (λ (z : Request). z.1) all) (h.last ∙ ap (λ (z : Request). end_of_last a.last z.0) (sym all))
 
 -- the text ends there
-end_is : (a b : UpdateParser) (ts : List Lexeme) → Takes a b ts → end_of a ts ≡ ((turn_of a ts).1, ended (state_of b))
+end_is : (a b : UpdateParser) (ts : List Lexeme) → Takes a b ts → end_of a ts ≡ ((transition_of a ts).1, ended (state_of b))
 unfolding rest
 end_is a b ts h =
-    let old = (turn_of a ts).1 in
+    let old = (transition_of a ts).1 in
     ap (rest updates (state_of a)) (sym (append-nil (symbols_of ts))) ∙ rest-append updates (state_of a) (symbols_of ts) []
     ∙ ap (λ (z : State). joined old (rest updates z [])) (sym h.state) ∙ ap (λ z. let p : Request = (z, ended (state_of b)) in p) (append-nil old)
 
@@ -100,26 +100,26 @@ concludes a b c ts h e o l =
     }
 
 -- with one
-pub ends_rejected : (a b : UpdateParser) (n : ℕ) (ts : List Lexeme) (r : Rejection) → Takes a b ts → Some r ≡ ended (state_of b) → n ≡ b.last → TellsBehind a.last (refusal_of n r) (end_of a ts)
+pub ends_rejected : (a b : UpdateParser) (n : ℕ) (ts : List Lexeme) (r : Rejection) → Takes a b ts → Some r ≡ ended (state_of b) → n ≡ b.last → ReportsAfter a.last (refusal_of n r) (end_of a ts)
 ends_rejected a b n ts r h e l =
     let all = end_is a b ts h in
-    tells r a.last n (end_of a ts) (ap (λ (z : Request). z.1) all ∙ sym e) (l ∙ h.last ∙ ap (λ (z : Request). end_of_last a.last z.0) (sym all))
+    reports r a.last n (end_of a ts) (ap (λ (z : Request). z.1) all ∙ sym e) (l ∙ h.last ∙ ap (λ (z : Request). end_of_last a.last z.0) (sym all))
 
 -- the first departure of all is that of the tokens, where they have one
-pub tells_ended : (e : Refusal) (last : ℕ) (end : lexer.CutEnd) (q : Request) → TellsBehind last e q → TellsBehind last e (ended_by end q)
-tells_ended e last lexer.AtEnd q h = h
-tells_ended e last (lexer.AtFault n) (os, Some f) h = h
-tells_ended (refusal.Syntax at) last (lexer.AtFault n) (os, None) h = absurd (Prim.cc (h.0))
-tells_ended refusal.TermTooLong last (lexer.AtFault n) (os, None) h = absurd (Prim.cc h)
-tells_ended refusal.NotInProfile last (lexer.AtFault n) (os, None) h = absurd (Prim.cc h)
-tells_ended refusal.NoMemory last (lexer.AtFault n) (os, None) h = h
-tells_ended refusal.WrongPhase last (lexer.AtFault n) (os, None) h = h
-tells_ended refusal.BadSeat last (lexer.AtFault n) (os, None) h = h
-tells_ended refusal.LastNumber last (lexer.AtFault n) (os, None) h = h
-tells_ended refusal.StoreFull last (lexer.AtFault n) (os, None) h = h
-tells_ended refusal.Closed last (lexer.AtFault n) (os, None) h = h
+pub reports_ended : (e : Refusal) (last : ℕ) (end : lexer.CutEnd) (q : Request) → ReportsAfter last e q → ReportsAfter last e (ended_by end q)
+reports_ended e last lexer.AtEnd q h = h
+reports_ended e last (lexer.AtFault n) (os, Some f) h = h
+reports_ended (refusal.Syntax at) last (lexer.AtFault n) (os, None) h = absurd (Prim.cc (h.0))
+reports_ended refusal.TermTooLong last (lexer.AtFault n) (os, None) h = absurd (Prim.cc h)
+reports_ended refusal.NotInProfile last (lexer.AtFault n) (os, None) h = absurd (Prim.cc h)
+reports_ended refusal.NoMemory last (lexer.AtFault n) (os, None) h = h
+reports_ended refusal.WrongPhase last (lexer.AtFault n) (os, None) h = h
+reports_ended refusal.BadSeat last (lexer.AtFault n) (os, None) h = h
+reports_ended refusal.LastNumber last (lexer.AtFault n) (os, None) h = h
+reports_ended refusal.StoreFull last (lexer.AtFault n) (os, None) h = h
+reports_ended refusal.Closed last (lexer.AtFault n) (os, None) h = h
 
 -- and else that after them
-pub tells_broken : (last m n : ℕ) (q : Request) → q.1 ≡ None → m ≡ end_of_last last q.0 → TellsBehind last (refusal.Syntax m) (ended_by (lexer.AtFault n) q)
-tells_broken last m n (os, None) p e = (refl, e)
-tells_broken last m n (os, Some f) p e = absurd (Prim.cc p)
+pub reports_broken : (last m n : ℕ) (q : Request) → q.1 ≡ None → m ≡ end_of_last last q.0 → ReportsAfter last (refusal.Syntax m) (ended_by (lexer.AtFault n) q)
+reports_broken last m n (os, None) p e = (refl, e)
+reports_broken last m n (os, Some f) p e = absurd (Prim.cc p)

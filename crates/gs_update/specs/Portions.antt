@@ -18,8 +18,8 @@ abbrev pub operations_in : List Written → List UpdateOperation
 operations_in os = map (λ (w : Written). w.operation) os
 
 -- the state after some tokens, and the operations that they end
-abbrev pub turn_of : UpdateParser → List Lexeme → State × List Written
-turn_of p ts = steps updates (state_of p) (symbols_of ts)
+abbrev pub transition_of : UpdateParser → List Lexeme → State × List Written
+transition_of p ts = steps updates (state_of p) (symbols_of ts)
 
 -- what the last tokens of a text say
 abbrev pub end_of : UpdateParser → List Lexeme → Request
@@ -27,9 +27,9 @@ end_of p ts = rest updates (state_of p) (symbols_of ts)
 
 -- the parser took these tokens
 pub record Takes (old new : UpdateParser) (ts : List Lexeme) : Type 0 where
-  pub state : state_of new ≡ (turn_of old ts).0
-  pub operations : operations_of new.operations.items ≡ operations_of old.operations.items ++ operations_in (turn_of old ts).1
-  pub last : new.last ≡ end_of_last old.last (turn_of old ts).1
+  pub state : state_of new ≡ (transition_of old ts).0
+  pub operations : operations_of new.operations.items ≡ operations_of old.operations.items ++ operations_in (transition_of old ts).1
+  pub last : new.last ≡ end_of_last old.last (transition_of old ts).1
   pub sound : IsSound new.place
 
 -- the text ends after these tokens without a departure
@@ -45,9 +45,9 @@ refusal_of last (Broken fault.TermTooLong) = refusal.TermTooLong
 refusal_of last OutOfProfile = refusal.NotInProfile
 
 -- what a refusal reports of the rest of a text, where the last operation before it ends after so many bytes
-abbrev pub TellsBehind : ℕ → Refusal → Request → Type 0
-TellsBehind last (refusal.Syntax at) q = (q.1 ≡ Some (Broken fault.Syntax)) × (at ≡ end_of_last last q.0)
-TellsBehind last refusal.TermTooLong q = q.1 ≡ Some (Broken fault.TermTooLong)
-TellsBehind last refusal.NotInProfile q = q.1 ≡ Some OutOfProfile
-TellsBehind last refusal.NoMemory q = Unit {0}
-TellsBehind last other q = ⊥
+abbrev pub ReportsAfter : ℕ → Refusal → Request → Type 0
+ReportsAfter last (refusal.Syntax at) q = (q.1 ≡ Some (Broken fault.Syntax)) × (at ≡ end_of_last last q.0)
+ReportsAfter last refusal.TermTooLong q = q.1 ≡ Some (Broken fault.TermTooLong)
+ReportsAfter last refusal.NotInProfile q = q.1 ≡ Some OutOfProfile
+ReportsAfter last refusal.NoMemory q = Unit {0}
+ReportsAfter last other q = ⊥

@@ -51,11 +51,11 @@ StepsBlockIf from t None p = IsPassage from × (p ≡ from)
 StepsBlockIf from t (Some u) p = StepsBlock from t u p
 
 -- after an operation that ends there
-abbrev pub concluded : Scope → UpdateOperation → ℕ → machine.Turn
+abbrev pub concluded : Scope → UpdateOperation → ℕ → machine.Transition
 concluded s o e = (machine.After (scope_context s) (scope_numbers s), record { operation = o; end = e } ∷ [])
 
--- a parser took this turn
-pub record Moves (old new : UpdateParser) (t : machine.Turn) : Type 0 where
+-- a parser took this transition
+pub record Moves (old new : UpdateParser) (t : machine.Transition) : Type 0 where
   pub state : state_of new ≡ t.0
   pub operations : operations_of new.operations.items ≡ operations_of old.operations.items ++ map (λ (w : Written). w.operation) t.1
   pub last : new.last ≡ end_of_last old.last t.1

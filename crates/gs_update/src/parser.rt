@@ -50,7 +50,7 @@ impl UpdateParser {
     ghost use Rattle.gs_triple_values.specs.declared.symbols.Symbol.{Symbol as ASymbol};
     ghost use Rattle.gs_update_places.specs.Views.{rejection_at, state_at};
     ghost use Rattle.gs_update.specs.Views.{state_of, operation_of};
-    ghost use Rattle.gs_update_places.specs.Steps.{turn_at_place};
+    ghost use Rattle.gs_update_places.specs.Steps.{transition_at_place};
     ghost use Rattle.gs_update.specs.Steps.{Starts, Moves, Ends, concluded, StepsBlock, IsPassage};
 
     /// At the start of an update under an absolute base, in the request of this number.
@@ -98,7 +98,7 @@ impl UpdateParser {
     #[tactic(auto, unfolding(gs_update_text::specs::Machine::step))]
     fn shut(&mut self, end: u64) -> Result<(), AllocError>
         ensures { (from : Place) (t : ASymbol) → StepsBlock from t (BlockTurn.Shuts end) self.old.place
-            → OnOk result (Moves self.old self.new (turn_at_place from t)) }
+            → OnOk result (Moves self.old self.new (transition_at_place from t)) }
     {
         let lost = Place::Rejected(Rejection::Broken(Fault::Syntax));
         match mem::replace(&mut self.place, lost) {
@@ -133,7 +133,7 @@ impl UpdateParser {
     #[inline(always)]
     fn follow(&mut self, turn: BlockTurn) -> Result<(), AllocError>
         ensures { (from : Place) (t : ASymbol) → StepsBlock from t turn self.old.place
-            → OnOk result (Moves self.old self.new (turn_at_place from t)) }
+            → OnOk result (Moves self.old self.new (transition_at_place from t)) }
     {
         match turn {
             BlockTurn::Takes => Ok(()),

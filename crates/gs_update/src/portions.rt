@@ -5,7 +5,7 @@ ghost use Rattle.gs_lex.specs.Tokens as lexer;
 ghost use Rattle.gs_lex.specs.Lexemes.{lexemes_of};
 ghost use Rattle.gs_update_text.specs.Texts.{ended_by};
 ghost use Rattle.gs_update_places.specs.Views.{IsSound, rejection_at};
-ghost use Rattle.gs_update.specs.Portions.{Takes, Concludes, TellsBehind, refusal_of, end_of};
+ghost use Rattle.gs_update.specs.Portions.{Takes, Concludes, ReportsAfter, refusal_of, end_of};
 
 use crate::parser::UpdateParser;
 use gs_lex::Token;
@@ -41,7 +41,7 @@ pub fn go_on(parser: &mut UpdateParser, tokens: &[Token]) -> Result<(), Refusal>
     requires { IsSound parser.old.place }
     ensures ok { OnOk result (Takes parser.old parser.new (lexemes_of tokens.now)) }
     ensures fault { IfErr result (λ e. (us : List Lexeme) →
-        TellsBehind parser.old.last e (end_of parser.old (lexemes_of tokens.now ++ us))) }
+        ReportsAfter parser.old.last e (end_of parser.old (lexemes_of tokens.now ++ us))) }
 {
     take_tokens(parser, tokens)?;
     match parser.rejection() {
@@ -55,7 +55,7 @@ pub fn conclude(parser: &mut UpdateParser, tokens: &[Token]) -> Result<(), Refus
     requires { IsSound parser.old.place }
     ensures ok { OnOk result (Concludes parser.old parser.new (lexemes_of tokens.now)) }
     ensures fault { IfErr result (λ e.
-        TellsBehind parser.old.last e (end_of parser.old (lexemes_of tokens.now))) }
+        ReportsAfter parser.old.last e (end_of parser.old (lexemes_of tokens.now))) }
 {
     take_tokens(parser, tokens)?;
     match parser.end()? {
@@ -67,7 +67,7 @@ pub fn conclude(parser: &mut UpdateParser, tokens: &[Token]) -> Result<(), Refus
 /// Tokens after which stands something that is none: the first fault of all.
 pub fn break_off(parser: &mut UpdateParser, tokens: &[Token]) -> Refusal
     requires { IsSound parser.old.place }
-    ensures { (n : ℕ) → TellsBehind parser.old.last result
+    ensures { (n : ℕ) → ReportsAfter parser.old.last result
         (ended_by (lexer.AtFault n) (end_of parser.old (lexemes_of tokens.now))) }
 {
     match conclude(parser, tokens) {

@@ -65,9 +65,9 @@ impl UpdateReader {
     {
         let mut rest = text;
         while rest.len() > PORTION {
-            let (portion, behind) = rest.split_at(PORTION);
+            let (portion, later) = rest.split_at(PORTION);
             self.take_portion(portion)?;
-            rest = behind;
+            rest = later;
         }
         self.take_portion(rest)
     }

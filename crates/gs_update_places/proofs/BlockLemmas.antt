@@ -2,8 +2,8 @@
 use Rattle.std.proofs.Common.{◌≡◌, ◌≢◌, ℕ, ◌≤◌, List, refl, sym, ap, ◌∙◌, subst, arith}
 use Rattle.std.specs.Prelude.{codes, Option, Some, None}
 use Rattle.gs_blank.specs.Numbers.{Numbers}
-use Rattle.gs_escape.specs.Tokens.{behind}
-use Rattle.gs_triples.specs.Symbols.{Symbol, AWord, Label}
+use Rattle.gs_escape.specs.Tokens.{rest_after}
+use Rattle.gs_triples.specs.Symbols.{Symbol, ATerm, Label}
 use Rattle.gs_triples.specs.Meanings.{Fault, Context}
 use Rattle.gs_triples.specs.States as triples
 use Rattle.gs_triples.specs.States.{Opened, Closed, Heading, Held, Typing, Lost, Goes, Ends}
@@ -35,7 +35,7 @@ module _ {Value Triple : Type 0} where
 
 -- labels with the first k numbers are the same
 old_same : (k : ℕ) (m n : Numbers) → Keeps k m n → (t : Symbol) → is_old k n t ≡ is_old k m t
-old_same k m n h (AWord (Label x)) = h.1 (behind (codes "_:") x)
+old_same k m n h (ATerm (Label x)) = h.1 (rest_after (codes "_:") x)
 old_same k m n h t = refl
 
 bars_same : (o : Option ℕ) (m n : Numbers) → ((k : ℕ) → k ≤ m.1 → Keeps k m n) → HasGiven o m → bars_since o n ≡ bars_since o m
@@ -47,9 +47,9 @@ given_same None m n f h = tt
 given_same (Some k) m n f h = (f k h).0
 
 module _ {L S V X T : Type 0} (l : TypedLanguage S V X T) where
-  -- what is told of a parser by its context and numbers
-  abbrev Told : TripleParser L S V X T → TripleParser L S V X T → ℕ → Type 0
-  Told p q k = Stays k (context_now l p) (numbers_now p) (context_now l q) (numbers_now q)
+  -- what stays of a parser, by its context and numbers
+  abbrev ParserStays : TripleParser L S V X T → TripleParser L S V X T → ℕ → Type 0
+  ParserStays p q k = Stays k (context_now l p) (numbers_now p) (context_now l q) (numbers_now q)
 
   -- a place keeps what its parser keeps
   kept_at : (k : ℕ) (c : Context X T) (m : Numbers) (q : TripleParser L S V X T) (h : code.Place L S V X T) → Stays k c m (context_now l q) (numbers_now q)
@@ -72,7 +72,7 @@ module _ {L S V X T : Type 0} (l : TypedLanguage S V X T) where
 
   -- a symbol that triples took
   pub taken_keeps : (p q : TripleParser L S V X T) (t : Symbol) → Goes (triples_state l q) ≡ triples_machine.step (triples_state l p) t → NotLost (triples_state l q)
-      → (k : ℕ) → k ≤ (numbers_now p).1 → Told p q k
+      → (k : ℕ) → k ≤ (numbers_now p).1 → ParserStays p q k
   taken_keeps p q t e n k h =
       let c = context_now l p in
       let m = numbers_now p in
@@ -81,7 +81,7 @@ module _ {L S V X T : Type 0} (l : TypedLanguage S V X T) where
 
   -- one that ends them
   pub over_keeps : (p q : TripleParser L S V X T) (t : Symbol) (P : List T) → Ends (context_now l q) P (numbers_now q) ≡ triples_machine.step (triples_state l p) t
-      → (k : ℕ) → k ≤ (numbers_now p).1 → Told p q k
+      → (k : ℕ) → k ≤ (numbers_now p).1 → ParserStays p q k
   over_keeps p q t P e k h =
       let c = context_now l p in
       let m = numbers_now p in
@@ -89,7 +89,7 @@ module _ {L S V X T : Type 0} (l : TypedLanguage S V X T) where
 
   -- and the first one
   pub opened_keeps : (p q : TripleParser L S V X T) (t : Symbol) → triples_state l q ≡ opening (context_now l p) (numbers_now p) t → NotLost (triples_state l q)
-      → (k : ℕ) → k ≤ (numbers_now p).1 → Told p q k
+      → (k : ℕ) → k ≤ (numbers_now p).1 → ParserStays p q k
   opened_keeps p q t e n k h =
       let c = context_now l p in
       let m = numbers_now p in
@@ -98,7 +98,7 @@ module _ {L S V X T : Type 0} (l : TypedLanguage S V X T) where
 
   -- so context and rules of a block stay
   pub block_stays : (a b : CodeBlock L S V X T) → b.since ≡ a.since → b.most ≡ a.most → HasGiven a.since (numbers_now a.parser)
-      → ((k : ℕ) → k ≤ (numbers_now a.parser).1 → Told a.parser b.parser k) → steps.Stays l a b
+      → ((k : ℕ) → k ≤ (numbers_now a.parser).1 → ParserStays a.parser b.parser k) → steps.Stays l a b
   block_stays a b s m g f =
       let C : context_now l b.parser ≡ context_now l a.parser = (f 0 (omega arith)).0 in
       let keeps : (k : ℕ) → k ≤ (numbers_now a.parser).1 → Keeps k (numbers_now a.parser) (numbers_now b.parser) = λ k h. (f k h).1 in
@@ -122,16 +122,16 @@ module _ {L S V X T : Type 0} (l : TypedLanguage S V X T) where
 
   -- after a symbol that triples took, unless they have a fault
   pub entered_stays : (a b c : CodeBlock L S V X T) (u : CodeTurn) → steps.GoesOn l b u → b.since ≡ a.since → b.most ≡ a.most → c.parser ≡ b.parser → steps.KeepsBounds b c
-      → HasGiven a.since (numbers_now a.parser) → (NotLost (triples_state l b.parser) → (k : ℕ) → k ≤ (numbers_now a.parser).1 → Told a.parser b.parser k) → steps.StaysUnless l a c u
+      → HasGiven a.since (numbers_now a.parser) → (NotLost (triples_state l b.parser) → (k : ℕ) → k ≤ (numbers_now a.parser).1 → ParserStays a.parser b.parser k) → steps.StaysUnless l a c u
   entered_stays a b c turn.Takes g s m p k h f =
-      block_stays a c (k.since ∙ s) (k.most ∙ m) h (subst (λ z. (k : ℕ) → k ≤ (numbers_now a.parser).1 → Told a.parser z k) (sym p) (f (goes_on (triples_state l b.parser) g)))
+      block_stays a c (k.since ∙ s) (k.most ∙ m) h (subst (λ z. (k : ℕ) → k ≤ (numbers_now a.parser).1 → ParserStays a.parser z k) (sym p) (f (goes_on (triples_state l b.parser) g)))
   entered_stays a b c (turn.Shuts e) g s m p k h f = absurd g
   entered_stays a b c (turn.Stops r) g s m p k h f = tt
 
   -- after one that ends them
   pub followed_stays : (a b c : CodeBlock L S V X T) (u : CodeTurn) → b.since ≡ a.since → b.most ≡ a.most → steps.KeepsBounds b c → context_now l c.parser ≡ context_now l b.parser
-      → numbers_now c.parser ≡ numbers_now b.parser → HasGiven a.since (numbers_now a.parser) → ((k : ℕ) → k ≤ (numbers_now a.parser).1 → Told a.parser b.parser k) → steps.StaysUnless l a c u
+      → numbers_now c.parser ≡ numbers_now b.parser → HasGiven a.since (numbers_now a.parser) → ((k : ℕ) → k ≤ (numbers_now a.parser).1 → ParserStays a.parser b.parser k) → steps.StaysUnless l a c u
   followed_stays a b c u s m k e n h f =
-      let told : (k : ℕ) → k ≤ (numbers_now a.parser).1 → Told a.parser c.parser k =
+      let parser_stays : (k : ℕ) → k ≤ (numbers_now a.parser).1 → ParserStays a.parser c.parser k =
       λ k g. (e ∙ (f k g).0, subst (Keeps k (numbers_now a.parser)) (sym n) (f k g).1) in
-      stays_unless a c u (block_stays a c (k.since ∙ s) (k.most ∙ m) h told)
+      stays_unless a c u (block_stays a c (k.since ∙ s) (k.most ∙ m) h parser_stays)

@@ -71,20 +71,20 @@ module _ {Value Triple : Type 0} where
   entered_open b P (Typing t fs env T n) = counts_open (b.too_many (P ++ T)) OutOfProfile (blocks.WithinTriples P (Typing t fs env T n))
 
   -- no word closes one
-  within_open : (b : Block Value Triple) (P : List Triple) (w : grammar.TermToken) (t : triples.Turn Value Triple) → is_shut (blocks.within b (grammar.AWord w) P t) ≡ false
+  within_open : (b : Block Value Triple) (P : List Triple) (w : grammar.TermToken) (t : triples.Turn Value Triple) → is_shut (blocks.within b (grammar.ATerm w) P t) ≡ false
   within_open b P w (Goes s) = entered_open b P s
   within_open b P w (Ends env T n) =
       let over : Bool → blocks.BlockTurn Value Triple = λ x. cond x (blocks.Stops OutOfProfile) (blocks.Stops (Broken Syntax)) in
       elim (b.too_many (P ++ T)) as (λ x. is_shut (over x) ≡ false) [ true ↦ refl | false ↦ refl ]
 
-  word_open : (b : Block Value Triple) (s : blocks.BlockState Value Triple) (w : grammar.TermToken) → is_shut (blocks.moved b s (grammar.AWord w)) ≡ false
-  word_open b (blocks.AtTriples env P n) w = entered_open b P (opening env n (grammar.AWord w))
-  word_open b (blocks.WithinTriples P s) w = within_open b P w (triples_machine.step s (grammar.AWord w))
+  word_open : (b : Block Value Triple) (s : blocks.BlockState Value Triple) (w : grammar.TermToken) → is_shut (blocks.moved b s (grammar.ATerm w)) ≡ false
+  word_open b (blocks.AtTriples env P n) w = entered_open b P (opening env n (grammar.ATerm w))
+  word_open b (blocks.WithinTriples P s) w = within_open b P w (triples_machine.step s (grammar.ATerm w))
 
   -- so no label does that may not stand
   barred_open : (o : Option ℕ) (n : Numbers) (t : grammar.Symbol) (b : Block Value Triple) (s : blocks.BlockState Value Triple) → bars_since o n t ≡ true → is_shut (blocks.moved b s t) ≡ false
   barred_open None n t b s h = absurd (false≢true h)
-  barred_open (Some k) n (grammar.AWord (grammar.Label x)) b s h = word_open b s (grammar.Label x)
+  barred_open (Some k) n (grammar.ATerm (grammar.Label x)) b s h = word_open b s (grammar.Label x)
   barred_open (Some k) n t b s h = absurd (false≢true h)
 
   -- a text that ends within triples that have no fault

@@ -22,16 +22,16 @@ abbrev pub Making : Type 0 → Type 0
 Making T = List T → Option UpdateOperation
 
 -- a place that a symbol leads to, and no operation ends
-pub record LeadsTo (p : Place) (t : machine.Turn) : Type 0 where
+pub record LeadsTo (p : Place) (t : machine.Transition) : Type 0 where
   pub state : machine.quiet (state_at p) ≡ t
   pub sound : IsSound p
 
--- the machine's turn by a symbol at a place
-abbrev pub turn_at_place : Place → Symbol → machine.Turn
-turn_at_place p t = step (state_at p) (symbol_at t)
+-- the machine's transition by a symbol at a place
+abbrev pub transition_at_place : Place → Symbol → machine.Transition
+transition_at_place p t = step (state_at p) (symbol_at t)
 
 -- at the start of the block of an operation of this form
-abbrev pub start_of : machine.Form → Scope → machine.Turn
+abbrev pub start_of : machine.Form → Scope → machine.Transition
 start_of f s = machine.quiet (machine.block_of f (scope_context s) (scope_numbers s))
 
 -- a block's triples, with those that are read and handed on

@@ -168,7 +168,7 @@ impl<L: Language> Block<L> {
         let Some(since) = self.since else {
             return false;
         };
-        let Symbol::Word(TermToken::Label(label)) = symbol else {
+        let Symbol::Term(TermToken::Label(label)) = symbol else {
             return false;
         };
         match self.parser.label_number(label) {

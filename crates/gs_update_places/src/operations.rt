@@ -1,6 +1,6 @@
 //! The words of an operation, its opening brace, and what follows it.
 ghost use Rattle.gs_update_places.specs.Views.{form_at};
-ghost use Rattle.gs_update_places.specs.Steps.{LeadsTo, start_of, turn_at_place};
+ghost use Rattle.gs_update_places.specs.Steps.{LeadsTo, start_of, transition_at_place};
 
 use crate::blocks::{deleting, inserting, seeking};
 use crate::places::{Form, Place};
@@ -14,7 +14,7 @@ use std::alloc::Global;
 /// After INSERT; templates are not served.
 #[tactic(auto, unfolding(gs_update_text::specs::Machine::step))]
 pub fn after_insert(scope: Scope, symbol: Symbol) -> Place
-    ensures { LeadsTo result (turn_at_place (Place.AfterInsert scope) symbol.entry) }
+    ensures { LeadsTo result (transition_at_place (Place.AfterInsert scope) symbol.entry) }
 {
     match symbol {
         Symbol::Foreign(TokenKind::Data, _) => Place::AtBrace(Form::InsertData, scope),
@@ -26,7 +26,7 @@ pub fn after_insert(scope: Scope, symbol: Symbol) -> Place
 /// After DELETE.
 #[tactic(auto, unfolding(gs_update_text::specs::Machine::step))]
 pub fn after_delete(scope: Scope, symbol: Symbol) -> Place
-    ensures { LeadsTo result (turn_at_place (Place.AfterDelete scope) symbol.entry) }
+    ensures { LeadsTo result (transition_at_place (Place.AfterDelete scope) symbol.entry) }
 {
     match symbol {
         Symbol::Foreign(TokenKind::Data, _) => Place::AtBrace(Form::DeleteData, scope),
@@ -50,7 +50,7 @@ fn opened(alloc: Global, form: Form, scope: Scope) -> Place
 /// The opening brace.
 #[tactic(auto, unfolding(gs_update_text::specs::Machine::step))]
 pub fn at_brace(alloc: Global, form: Form, scope: Scope, symbol: Symbol) -> Place
-    ensures { LeadsTo result (turn_at_place (Place.AtBrace form scope) symbol.entry) }
+    ensures { LeadsTo result (transition_at_place (Place.AtBrace form scope) symbol.entry) }
 {
     match symbol {
         Symbol::Foreign(TokenKind::OpenBrace, _) => opened(alloc, form, scope),
@@ -61,7 +61,7 @@ pub fn at_brace(alloc: Global, form: Form, scope: Scope, symbol: Symbol) -> Plac
 /// After an operation.
 #[tactic(auto, unfolding(gs_update_text::specs::Machine::step))]
 pub fn after(scope: Scope, symbol: Symbol) -> Place
-    ensures { LeadsTo result (turn_at_place (Place.After scope) symbol.entry) }
+    ensures { LeadsTo result (transition_at_place (Place.After scope) symbol.entry) }
 {
     match symbol {
         Symbol::Semicolon => Place::Between(scope),

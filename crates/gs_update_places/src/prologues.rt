@@ -4,7 +4,7 @@ ghost use Rattle.gs_triple_parser.specs.Views.{scope_context, scope_numbers};
 ghost use Rattle.gs_update_text.specs.States.{quiet};
 ghost use Rattle.gs_update_text.specs.Machine as machine;
 ghost use Rattle.gs_update_text.specs.Machine.{syntax_fault};
-ghost use Rattle.gs_update_places.specs.Steps.{LeadsTo, turn_at_place};
+ghost use Rattle.gs_update_places.specs.Steps.{LeadsTo, transition_at_place};
 
 use crate::places::Place;
 use crate::rejections::Rejection;
@@ -43,7 +43,7 @@ fn begun(kind: TokenKind, scope: Scope) -> Place
 /// A symbol where an update may begin.
 #[tactic(auto, unfolding(gs_update_text::specs::Machine::step))]
 pub fn between(scope: Scope, symbol: Symbol) -> Place
-    ensures { LeadsTo result (turn_at_place (Place.Between scope) symbol.entry) }
+    ensures { LeadsTo result (transition_at_place (Place.Between scope) symbol.entry) }
 {
     match symbol {
         Symbol::Prefix => Place::InPrefix(scope),
@@ -56,10 +56,10 @@ pub fn between(scope: Scope, symbol: Symbol) -> Place
 /// The prefix that is declared.
 #[tactic(auto, unfolding(gs_update_text::specs::Machine::step))]
 pub fn prefix(alloc: Global, scope: Scope, symbol: Symbol) -> Result<Place, AllocError>
-    ensures { IfOk result (λ p. LeadsTo p (turn_at_place (Place.InPrefix scope) symbol.entry)) }
+    ensures { IfOk result (λ p. LeadsTo p (transition_at_place (Place.InPrefix scope) symbol.entry)) }
 {
     match symbol {
-        Symbol::Word(TermToken::Namespace(prefix)) => {
+        Symbol::Term(TermToken::Namespace(prefix)) => {
             Ok(Place::InPrefixIri(scope, String::from_str(alloc, prefix)?))
         }
         _ => Ok(broken()),
@@ -69,11 +69,12 @@ pub fn prefix(alloc: Global, scope: Scope, symbol: Symbol) -> Result<Place, Allo
 /// The IRI that the prefix stands for.
 #[tactic(auto, unfolding(gs_update_text::specs::Machine::step))]
 pub fn prefix_iri(scope: Scope, prefix: String, symbol: Symbol) -> Result<Place, AllocError>
-    ensures { IfOk result (λ p. LeadsTo p (turn_at_place (Place.InPrefixIri scope prefix) symbol.entry)) }
+    ensures { IfOk result
+        (λ p. LeadsTo p (transition_at_place (Place.InPrefixIri scope prefix) symbol.entry)) }
 {
     let mut scope = scope;
     match symbol {
-        Symbol::Word(TermToken::Reference(text, _)) => {
+        Symbol::Term(TermToken::Reference(text, _)) => {
             if scope.set_prefix(prefix.as_str(), text)? {
                 Ok(Place::Between(scope))
             } else {
@@ -87,11 +88,11 @@ pub fn prefix_iri(scope: Scope, prefix: String, symbol: Symbol) -> Result<Place,
 /// The IRI of a base.
 #[tactic(auto, unfolding(gs_update_text::specs::Machine::step))]
 pub fn base(scope: Scope, symbol: Symbol) -> Result<Place, AllocError>
-    ensures { IfOk result (λ p. LeadsTo p (turn_at_place (Place.InBase scope) symbol.entry)) }
+    ensures { IfOk result (λ p. LeadsTo p (transition_at_place (Place.InBase scope) symbol.entry)) }
 {
     let mut scope = scope;
     match symbol {
-        Symbol::Word(TermToken::Reference(text, _)) => {
+        Symbol::Term(TermToken::Reference(text, _)) => {
             if scope.set_base(text)? {
                 Ok(Place::Between(scope))
             } else {

@@ -33,8 +33,8 @@ module _ {Value Triple : Type 0} where
   Bounds b = (P V : List Triple) → b.too_many (P ++ V) ≡ false → b.too_many P ≡ false
 
   -- what is read of a block from a turn
-  abbrev pub block_told : Block Value Triple → List Symbol → BlockTurn Value Triple → Result Shut Rejection
-  block_told b ts u = block_taken (block_run b ts) ts u
+  abbrev pub block_reported : Block Value Triple → List Symbol → BlockTurn Value Triple → Result Shut Rejection
+  block_reported b ts u = block_taken (block_run b ts) ts u
 
   few_takes : (b : Block Value Triple) (P : List Triple) (s : triples.State Value Triple) → b.too_many (P ++ triples_so_far s) ≡ false → counted b P s ≡ Takes (WithinTriples P s)
   few_takes b P s q = ap (λ z. cond z (Stops OutOfProfile) (Takes (WithinTriples P s))) q
@@ -65,17 +65,17 @@ module _ {Value Triple : Type 0} where
   block_leads {s = s} {T = T} b bounds P t us (go {u = v} {ts = ts} x p l) q new few =
       let (here, later) : (b.bars x ≡ false) × (list_any b.bars ts ≡ false) = or_parts (b.bars x) (list_any b.bars ts) new in
       let (goes, more) : NotLost v × Extends (triples_so_far v) T = leads_grow t l q in
-      ap (block_told b (ts ++ t ∷ us))
+      ap (block_reported b (ts ++ t ∷ us))
       (stands b (WithinTriples P s) x here ∙ ap (within b x P) p ∙ enter b P v goes (few_before b bounds P (triples_so_far v) T more few))
       ∙ block_leads b bounds P t us l q later few
 
   -- the token after triples
   block_ends : {env : Context Value Triple} {T : List Triple} {n : Numbers} (b : Block Value Triple) (P : List Triple) (u : triples.State Value Triple)
       (t : Symbol) (us : List Symbol) → triples_machine.step u t ≡ Ends env T n → b.bars t ≡ false → b.too_many (P ++ T) ≡ false
-      → block_run b (t ∷ us) (WithinTriples P u) ≡ block_told b us (parted b t env (P ++ T) n)
+      → block_run b (t ∷ us) (WithinTriples P u) ≡ block_reported b us (parted b t env (P ++ T) n)
   unfolding block_run
   block_ends {env = env} {T = T} {n = n} b P u t us q new few =
-      ap (block_told b us) (stands b (WithinTriples P u) t new ∙ ap (within b t P) q ∙ ap (λ z. cond z (Stops OutOfProfile) (parted b t env (P ++ T) n)) few)
+      ap (block_reported b us) (stands b (WithinTriples P u) t new ∙ ap (within b t P) q ∙ ap (λ z. cond z (Stops OutOfProfile) (parted b t env (P ++ T) n)) few)
 
   -- the first symbol of triples is none that a block itself takes
   pub first_enters : (b : Block Value Triple) (P : List Triple) (env : Context Value Triple) (n : Numbers) (t : Symbol) → NotLost (opening env n t)
@@ -86,7 +86,7 @@ module _ {Value Triple : Type 0} where
   -- triples and the token after them, from where they begin
   pub block_triples : {env : Context Value Triple} {n k : Numbers} {ts : List Symbol} {T : List Triple} (b : Block Value Triple) → Bounds b → (P : List Triple) (t : Symbol) (us : List Symbol)
       → LeadTriples env n ts t T k → list_any b.bars ts ≡ false → b.bars t ≡ false → b.too_many (P ++ T) ≡ false
-      → block_run b (ts ++ t ∷ us) (AtTriples env P n) ≡ block_told b us (parted b t env (P ++ T) k)
+      → block_run b (ts ++ t ∷ us) (AtTriples env P n) ≡ block_reported b us (parted b t env (P ++ T) k)
   unfolding block_run
   block_triples {env = env} {n = n} {k = k} {T = T} b bounds P t us r new free few =
       let w : Symbol = r.first in
@@ -94,7 +94,7 @@ module _ {Value Triple : Type 0} where
       let (here, later) : (b.bars w ≡ false) × (list_any b.bars xs ≡ false) = or_parts (b.bars w) (list_any b.bars xs) (ap (list_any b.bars) (sym r.parts) ∙ new) in
       let (goes, more) : NotLost (opening env n w) × Extends (triples_so_far (opening env n w)) T = leads_grow t r.leads r.ends in
       ap (λ z. block_run b (z ++ t ∷ us) (AtTriples env P n)) r.parts
-      ∙ ap (block_told b (xs ++ t ∷ us))
+      ∙ ap (block_reported b (xs ++ t ∷ us))
       (stands b (AtTriples env P n) w here ∙ first_enters b P env n w goes ∙ enter b P (opening env n w) goes (few_before b bounds P (triples_so_far (opening env n w)) T more few))
       ∙ block_leads b bounds P t us r.leads r.ends later few
       ∙ block_ends b P r.state t us r.ends free few
@@ -102,11 +102,11 @@ module _ {Value Triple : Type 0} where
   -- the tokens of a block's triples, and its closing brace
   pub template_run : {env : Context Value Triple} {n k : Numbers} {xs : List Symbol} {T : List Triple} (b : Block Value Triple) → Bounds b → (P : List Triple) (e : ℕ) (us : List Symbol)
       → IsTemplate env n xs T k → list_any b.bars xs ≡ false → ((t : Symbol) → Parts t → b.bars t ≡ false) → b.too_many (P ++ T) ≡ false
-      → block_run b (xs ++ Foreign kind.CloseBrace e ∷ us) (AtTriples env P n) ≡ block_told b us (shut (b.operation (P ++ T)) k e)
+      → block_run b (xs ++ Foreign kind.CloseBrace e ∷ us) (AtTriples env P n) ≡ block_reported b us (shut (b.operation (P ++ T)) k e)
   unfolding block_run
   template_run {env = env} b bounds P e us (rule.nothing n) new free few =
-      ap (block_told b us) (stands b (AtTriples env P n) (Foreign kind.CloseBrace e) (free (Foreign kind.CloseBrace e) tt))
-      ∙ ap (λ z. block_told b us (shut (b.operation z) n e)) (sym (append-nil P))
+      ap (block_reported b us) (stands b (AtTriples env P n) (Foreign kind.CloseBrace e) (free (Foreign kind.CloseBrace e) tt))
+      ∙ ap (λ z. block_reported b us (shut (b.operation z) n e)) (sym (append-nil P))
   template_run b bounds P e us (rule.last a) new free few =
       block_triples b bounds P (Foreign kind.CloseBrace e) us (triples_lead a (Foreign kind.CloseBrace e) tt) new (free (Foreign kind.CloseBrace e) tt) few
   template_run {env = env} {n = n} b bounds P e us (rule.more {k = k} {l = l} {xs = xs} {ys = ys} {T = T} {U = U} i a r) new free few =
@@ -117,4 +117,4 @@ module _ {Value Triple : Type 0} where
       ap (λ z. block_run b z (AtTriples env P n)) (append_assoc xs (Dot i ∷ ys) (Foreign kind.CloseBrace e ∷ us))
       ∙ block_triples b bounds P (Dot i) (ys ++ Foreign kind.CloseBrace e ∷ us) (triples_lead a (Dot i) tt) here (free (Dot i) tt) (bounds (P ++ T) U both)
       ∙ template_run b bounds (P ++ T) e us r there free both
-      ∙ ap (λ z. block_told b us (shut (b.operation z) l e)) (append_assoc P T U)
+      ∙ ap (λ z. block_reported b us (shut (b.operation z) l e)) (append_assoc P T U)

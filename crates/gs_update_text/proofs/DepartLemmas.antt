@@ -8,7 +8,7 @@ use Rattle.gs_model.specs.Triples.{RdfTriple}
 use Rattle.gs_term.specs.declared.patterns.Pattern.{Pattern}
 use Rattle.gs_lex.specs.declared.kinds.TokenKind.TheVariants as kind
 use Rattle.gs_blank.specs.Numbers.{Numbers}
-use Rattle.gs_triples.specs.Symbols.{TermToken, Symbol, AWord, Foreign}
+use Rattle.gs_triples.specs.Symbols.{TermToken, Symbol, ATerm, Foreign}
 use Rattle.gs_triples.specs.Meanings.{Syntax, Context}
 use Rattle.gs_triples.specs.Goals.{Verbs}
 use Rattle.gs_triples.specs.Rules.{Covers}
@@ -68,14 +68,14 @@ module _ {Value Triple : Type 0} where
 
 -- where no triples are too many, a label is refused as no departure from the profile
 module _ {Value Triple : Type 0} where
-  told_label : (b : Block Value Triple) → ((T : List Triple) → b.too_many T ≡ false) → (P : List Triple) (w : TermToken) (u : triples.Turn Value Triple) → within b (AWord w) P u ≡ Stops OutOfProfile → ⊥
-  told_label b few P w (Goes s) h = label_entered b few P s h
-  told_label b few P w (Ends env T n) h =
-      let both : Stops (Broken Syntax) ≡ Stops OutOfProfile = sym (ap (λ z. cond z (Stops OutOfProfile) (parted b (AWord w) env (P ++ T) n)) (few (P ++ T))) ∙ h in cc
+  reported_label : (b : Block Value Triple) → ((T : List Triple) → b.too_many T ≡ false) → (P : List Triple) (w : TermToken) (u : triples.Turn Value Triple) → within b (ATerm w) P u ≡ Stops OutOfProfile → ⊥
+  reported_label b few P w (Goes s) h = label_entered b few P s h
+  reported_label b few P w (Ends env T n) h =
+      let both : Stops (Broken Syntax) ≡ Stops OutOfProfile = sym (ap (λ z. cond z (Stops OutOfProfile) (parted b (ATerm w) env (P ++ T) n)) (few (P ++ T))) ∙ h in cc
 
 old_label : (n : Numbers) (s : BlockState Term RdfTriple) (t : Symbol) → is_old n.1 n t ≡ true → moved (insert_block n) s t ≡ Stops OutOfProfile → ⊥
-old_label n (AtTriples env P k) (AWord w) h q = label_entered (insert_block n) (λ T. refl) P (opening env k (AWord w)) q
-old_label n (WithinTriples P s) (AWord w) h q = told_label (insert_block n) (λ T. refl) P w (triples_machine.step s (AWord w)) q
+old_label n (AtTriples env P k) (ATerm w) h q = label_entered (insert_block n) (λ T. refl) P (opening env k (ATerm w)) q
+old_label n (WithinTriples P s) (ATerm w) h q = reported_label (insert_block n) (λ T. refl) P w (triples_machine.step s (ATerm w)) q
 old_label n s t h q = cc
 
 pub insert_guards : (n : Numbers) (env : Scope) → Guards (insert_block n) (in_language inserted env)

@@ -8,13 +8,13 @@ use Rattle.gs_term.specs.declared.patterns.Part.TheVariants.{Term as TheTerm, Va
 use Rattle.gs_lex.specs.declared.kinds.TokenKind.{TokenKind}
 use Rattle.gs_lex.specs.declared.kinds.TokenKind.TheVariants as kind
 use Rattle.gs_machine.specs.Machines.{rest}
-use Rattle.gs_iri.specs.References.{before, from, behind, is_scheme, has_scheme, scheme_of, behind_scheme, behind_slashes, authority_of, behind_authority, path_of, behind_path, query_of, behind_query, fragment_of, parts_of}
+use Rattle.gs_iri.specs.References.{before, from, rest_after, is_scheme, has_scheme, scheme_of, rest_after_scheme, rest_after_slashes, authority_of, rest_after_authority, path_of, rest_after_path, query_of, rest_after_query, fragment_of, parts_of}
 use Rattle.gs_iri.specs.Dots.{segments_of, is_dot, is_dot_dot, is_dots, closed, moved, text_of_segments, output_of, dots}
 use Rattle.gs_iri.specs.Resolving.{scheme_text, marked, parts_text, through_last, directory_of, front_text, resolved_parts, resolved}
 use Rattle.gs_escape.specs.Meanings.{unescaped, stands_short}
 use Rattle.gs_escape.specs.Tokens.{between, quoted, iri_of, string_of}
 use Rattle.gs_blank.specs.Numbers.{no_numbers}
-use Rattle.gs_triples.specs.Symbols.{Symbol, AWord, Text, At, A, OpenList, CloseList, Comma, Semicolon, Dot, BaseWord, Foreign, Reference, Label, Plain, Variable, xsd}
+use Rattle.gs_triples.specs.Symbols.{Symbol, ATerm, Text, At, A, OpenList, CloseList, Comma, Semicolon, Dot, BaseWord, Foreign, Reference, Label, Plain, Variable, xsd}
 use Rattle.gs_triples.specs.Languages.{triple}
 use Rattle.gs_triples.specs.Meanings.{Syntax, word, iri, made_of, simple, tagged, rdf}
 use Rattle.gs_triples.specs.Directives.{with_base}
@@ -46,16 +46,16 @@ delete_where ts e = mark kind.Delete 6 ∷ mark kind.Where 12 ∷ mark kind.Open
 
 -- `<http://e/a>`, `<http://e/p>`, a number, and variables
 abbrev pub a : Symbol
-a = AWord (Reference (codes "<http://e/a>") 0)
+a = ATerm (Reference (codes "<http://e/a>") 0)
 
 abbrev pub p : Symbol
-p = AWord (Reference (codes "<http://e/p>") 0)
+p = ATerm (Reference (codes "<http://e/p>") 0)
 
 abbrev pub one : Symbol
-one = AWord (Plain (codes "1") (xsd (codes "integer")))
+one = ATerm (Plain (codes "1") (xsd (codes "integer")))
 
 abbrev pub v : List ℕ → Symbol
-v x = AWord (Variable x)
+v x = ATerm (Variable x)
 
 -- their terms
 abbrev pub ta : Term
@@ -84,18 +84,18 @@ unfolding rest step ended block_run triples_machine.step word made_of suffix
 empty = refl
 
 -- and so is `BASE <http://b/>`
-prologue : says (BaseWord ∷ AWord (Reference (codes "<http://b/>") 16) ∷ []) ≡ ([], None)
-unfolding rest step ended block_run triples_machine.step triples_machine.ended word iri made_of simple tagged with_base suffix iri_of string_of quoted between unescaped stands_short is_utf8 chars encode resolved resolved_parts parts_of before from behind is_scheme has_scheme scheme_of behind_scheme behind_slashes authority_of behind_authority path_of behind_path query_of behind_query fragment_of dots segments_of closed is_dots is_dot is_dot_dot moved output_of text_of_segments scheme_text marked parts_text through_last directory_of front_text
+prologue : says (BaseWord ∷ ATerm (Reference (codes "<http://b/>") 16) ∷ []) ≡ ([], None)
+unfolding rest step ended block_run triples_machine.step triples_machine.ended word iri made_of simple tagged with_base suffix iri_of string_of quoted between unescaped stands_short is_utf8 chars encode resolved resolved_parts parts_of before from rest_after is_scheme has_scheme scheme_of rest_after_scheme rest_after_slashes authority_of rest_after_authority path_of rest_after_path query_of rest_after_query fragment_of dots segments_of closed is_dots is_dot is_dot_dot moved output_of text_of_segments scheme_text marked parts_text through_last directory_of front_text
 prologue = refl
 
 -- `BASE <http://b/> DELETE DATA { <a> a 1 }`
-rebased : says (BaseWord ∷ AWord (Reference (codes "<http://b/>") 16) ∷ delete_data (AWord (Reference (codes "<a>") 20) ∷ A ∷ one ∷ []) 40) ≡ (written (DeletesData (triple (Iri (codes "http://b/a")) rdf_type (integer (codes "1")) ∷ [])) 40 ∷ [], None)
-unfolding rest step ended block_run triples_machine.step triples_machine.ended word iri made_of simple tagged with_base suffix iri_of string_of quoted between unescaped stands_short is_utf8 chars encode resolved resolved_parts parts_of before from behind is_scheme has_scheme scheme_of behind_scheme behind_slashes authority_of behind_authority path_of behind_path query_of behind_query fragment_of dots segments_of closed is_dots is_dot is_dot_dot moved output_of text_of_segments scheme_text marked parts_text through_last directory_of front_text
+rebased : says (BaseWord ∷ ATerm (Reference (codes "<http://b/>") 16) ∷ delete_data (ATerm (Reference (codes "<a>") 20) ∷ A ∷ one ∷ []) 40) ≡ (written (DeletesData (triple (Iri (codes "http://b/a")) rdf_type (integer (codes "1")) ∷ [])) 40 ∷ [], None)
+unfolding rest step ended block_run triples_machine.step triples_machine.ended word iri made_of simple tagged with_base suffix iri_of string_of quoted between unescaped stands_short is_utf8 chars encode resolved resolved_parts parts_of before from rest_after is_scheme has_scheme scheme_of rest_after_scheme rest_after_slashes authority_of rest_after_authority path_of rest_after_path query_of rest_after_query fragment_of dots segments_of closed is_dots is_dot is_dot_dot moved output_of text_of_segments scheme_text marked parts_text through_last directory_of front_text
 rebased = refl
 
 -- `INSERT DATA { <http://e/a> a 01 } ; DELETE WHERE { ?s <http://e/p> 1 } ;`, with a `;` at its end
-inserted_and_deleted : says (insert_data (a ∷ A ∷ AWord (Plain (codes "01") (xsd (codes "integer"))) ∷ []) 40 ++ Semicolon ∷ delete_where (v (codes "s") ∷ p ∷ one ∷ []) 80 ++ Semicolon ∷ []) ≡ (written (Inserts (triple ta rdf_type (integer (codes "01")) ∷ [])) 40 ∷ written (DeletesWhere (pattern (Unknown (codes "s")) (TheTerm tp) (TheTerm (integer (codes "1"))) ∷ [])) 80 ∷ [], None)
-unfolding rest step ended block_run triples_machine.step triples_machine.ended word iri made_of simple tagged with_base suffix iri_of string_of quoted between unescaped stands_short is_utf8 chars encode resolved resolved_parts parts_of before from behind is_scheme has_scheme scheme_of behind_scheme behind_slashes authority_of behind_authority path_of behind_path query_of behind_query fragment_of dots segments_of closed is_dots is_dot is_dot_dot moved output_of text_of_segments scheme_text marked parts_text through_last directory_of front_text
+inserted_and_deleted : says (insert_data (a ∷ A ∷ ATerm (Plain (codes "01") (xsd (codes "integer"))) ∷ []) 40 ++ Semicolon ∷ delete_where (v (codes "s") ∷ p ∷ one ∷ []) 80 ++ Semicolon ∷ []) ≡ (written (Inserts (triple ta rdf_type (integer (codes "01")) ∷ [])) 40 ∷ written (DeletesWhere (pattern (Unknown (codes "s")) (TheTerm tp) (TheTerm (integer (codes "1"))) ∷ [])) 80 ∷ [], None)
+unfolding rest step ended block_run triples_machine.step triples_machine.ended word iri made_of simple tagged with_base suffix iri_of string_of quoted between unescaped stands_short is_utf8 chars encode resolved resolved_parts parts_of before from rest_after is_scheme has_scheme scheme_of rest_after_scheme rest_after_slashes authority_of rest_after_authority path_of rest_after_path query_of rest_after_query fragment_of dots segments_of closed is_dots is_dot is_dot_dot moved output_of text_of_segments scheme_text marked parts_text through_last directory_of front_text
 inserted_and_deleted = refl
 
 -- between two operations a `;` stands
@@ -129,12 +129,12 @@ unfolding rest step ended block_run triples_machine.step word made_of suffix is_
 deleted_variable = refl
 
 -- `DELETE DATA { _:x a 1 }`
-deleted_label : says (delete_data (AWord (Label (codes "_:x")) ∷ A ∷ one ∷ []) 40) ≡ ([], Some (Broken Syntax))
+deleted_label : says (delete_data (ATerm (Label (codes "_:x")) ∷ A ∷ one ∷ []) 40) ≡ ([], Some (Broken Syntax))
 unfolding rest step ended block_run triples_machine.step word made_of suffix
 deleted_label = refl
 
 -- `DELETE WHERE { _:x a 1 }`
-sought_label : says (delete_where (AWord (Label (codes "_:x")) ∷ A ∷ one ∷ []) 40) ≡ ([], Some (Broken Syntax))
+sought_label : says (delete_where (ATerm (Label (codes "_:x")) ∷ A ∷ one ∷ []) 40) ≡ ([], Some (Broken Syntax))
 unfolding rest step ended block_run triples_machine.step word made_of suffix
 sought_label = refl
 
@@ -190,10 +190,10 @@ fifth_pattern = refl
 
 -- a fifth pattern that ends with a string, at the end of the text
 fifth_string : says (mark kind.Delete 6 ∷ mark kind.Where 12 ∷ mark kind.OpenBrace 14 ∷ spo ++ Dot 1 ∷ v (codes "s") ∷ v (codes "p") ∷ v (codes "o") ∷ Comma ∷ v (codes "o") ∷ Semicolon ∷ v (codes "p") ∷ v (codes "o") ∷ Comma ∷ Text (34 ∷ codes "x" ++ 34 ∷ []) ∷ []) ≡ ([], Some OutOfProfile)
-unfolding rest step ended block_run triples_machine.step triples_machine.ended word iri made_of simple tagged with_base suffix iri_of string_of quoted between unescaped stands_short is_utf8 chars encode resolved resolved_parts parts_of before from behind is_scheme has_scheme scheme_of behind_scheme behind_slashes authority_of behind_authority path_of behind_path query_of behind_query fragment_of dots segments_of closed is_dots is_dot is_dot_dot moved output_of text_of_segments scheme_text marked parts_text through_last directory_of front_text
+unfolding rest step ended block_run triples_machine.step triples_machine.ended word iri made_of simple tagged with_base suffix iri_of string_of quoted between unescaped stands_short is_utf8 chars encode resolved resolved_parts parts_of before from rest_after is_scheme has_scheme scheme_of rest_after_scheme rest_after_slashes authority_of rest_after_authority path_of rest_after_path query_of rest_after_query fragment_of dots segments_of closed is_dots is_dot is_dot_dot moved output_of text_of_segments scheme_text marked parts_text through_last directory_of front_text
 fifth_string = refl
 
 -- and with a tag that has not its form
 fifth_tag : says (mark kind.Delete 6 ∷ mark kind.Where 12 ∷ mark kind.OpenBrace 14 ∷ spo ++ Dot 1 ∷ v (codes "s") ∷ v (codes "p") ∷ v (codes "o") ∷ Comma ∷ v (codes "o") ∷ Semicolon ∷ v (codes "p") ∷ v (codes "o") ∷ Comma ∷ Text (34 ∷ codes "x" ++ 34 ∷ []) ∷ At (codes "-") ∷ []) ≡ ([], Some (Broken Syntax))
-unfolding rest step ended block_run triples_machine.step triples_machine.ended word iri made_of simple tagged with_base suffix iri_of string_of quoted between unescaped stands_short is_utf8 chars encode resolved resolved_parts parts_of before from behind is_scheme has_scheme scheme_of behind_scheme behind_slashes authority_of behind_authority path_of behind_path query_of behind_query fragment_of dots segments_of closed is_dots is_dot is_dot_dot moved output_of text_of_segments scheme_text marked parts_text through_last directory_of front_text
+unfolding rest step ended block_run triples_machine.step triples_machine.ended word iri made_of simple tagged with_base suffix iri_of string_of quoted between unescaped stands_short is_utf8 chars encode resolved resolved_parts parts_of before from rest_after is_scheme has_scheme scheme_of rest_after_scheme rest_after_slashes authority_of rest_after_authority path_of rest_after_path query_of rest_after_query fragment_of dots segments_of closed is_dots is_dot is_dot_dot moved output_of text_of_segments scheme_text marked parts_text through_last directory_of front_text
 fifth_tag = refl

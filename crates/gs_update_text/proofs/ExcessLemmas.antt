@@ -27,7 +27,7 @@ use Rattle.gs_update_text.specs.Blocks.{AtTriples, WithinTriples, Takes, Stops, 
 use Rattle.gs_update_text.proofs.LeadLemmas.{Leads, stay, go, LeadTriples, triples_lead}
 use Rattle.gs_update_text.proofs.GrowthLemmas.{NotLost, leads_grow}
 use Rattle.gs_update_text.proofs.HeldLemmas.{IsHeld, held_last, dot_ends}
-use Rattle.gs_update_text.proofs.BlockLemmas.{Bounds, block_told, stands, first_enters, block_triples, Parts}
+use Rattle.gs_update_text.proofs.BlockLemmas.{Bounds, block_reported, stands, first_enters, block_triples, Parts}
 
 -- the closing brace
 abbrev brace : ℕ → Symbol
@@ -122,16 +122,16 @@ module _ {Value Triple : Type 0} where
       (held_step x (ToObject d s p ∷ []) env Q n (brace 0) [] tt ∙ ap (λ z. go_on (brace 0) (put (ToObject d s p ∷ []) env Q n z)) e)
       ∙ ap (λ z. let r : Result Shut Rejection = Err (cond z OutOfProfile (Broken Syntax)) in r) (ap (λ z. b.too_many (P ++ z)) q ∙ many)
   ready_excess b free P T u (y ∷ us) (lacks x d s p env Q n t e q) few many h =
-      ap (block_told b us)
+      ap (block_reported b us)
       (stands b (WithinTriples P (Held x (ToObject d s p ∷ []) env Q n)) y (free y)
       ∙ ap (within b y P) (held_step x (ToObject d s p ∷ []) env Q n y us (h tt) ∙ ap (λ z. go_on y (put (ToObject d s p ∷ []) env Q n z)) e)
       ∙ head_excess b P (Q ++ env.language.triple s p (env.language.of_term t) ∷ []) d s p env n y (ap (λ z. b.too_many (P ++ z)) q ∙ many))
 
   -- a state that triples go on from, with too many or not
   counted_if : (b : Block Value Triple) (P : List Triple) (s : triples.State Value Triple) (ts : List Symbol) (c : Bool) → b.too_many (P ++ triples_so_far s) ≡ c
-      → (b.too_many (P ++ triples_so_far s) ≡ false → block_run b ts (WithinTriples P s) ≡ Err OutOfProfile) → block_told b ts (counted b P s) ≡ Err OutOfProfile
-  counted_if b P s ts true h again = ap (block_told b ts) (excess b P s h)
-  counted_if b P s ts false h again = ap (λ z. block_told b ts (cond z (Stops OutOfProfile) (Takes (WithinTriples P s)))) h ∙ again h
+      → (b.too_many (P ++ triples_so_far s) ≡ false → block_run b ts (WithinTriples P s) ≡ Err OutOfProfile) → block_reported b ts (counted b P s) ≡ Err OutOfProfile
+  counted_if b P s ts true h again = ap (block_reported b ts) (excess b P s h)
+  counted_if b P s ts false h again = ap (λ z. block_reported b ts (cond z (Stops OutOfProfile) (Takes (WithinTriples P s)))) h ∙ again h
 
   leads_excess : {s u : triples.State Value Triple} {xs : List Symbol} {env : Context Value Triple} {T : List Triple} {n : Numbers} (b : Block Value Triple) → Free b → (P : List Triple) (e : ℕ) (us : List Symbol)
       → Leads s xs u → triples_machine.step u (brace e) ≡ Ends env T n → b.too_many (P ++ triples_so_far s) ≡ false → b.too_many (P ++ T) ≡ true → (IsHeld u → EndsString us)
@@ -140,7 +140,7 @@ module _ {Value Triple : Type 0} where
   leads_excess {env = env} {T = T} {n = n} b free P e us (stay s) q few many h = ready_excess b free P T s us (ready s env T n e q) few many h
   leads_excess {s = s} b free P e us (go {u = v} {ts = ts} x p l) q few many h =
       let goes : NotLost v = (leads_grow (brace e) l q).0 in
-      ap (block_told b (ts ++ us)) (stands b (WithinTriples P s) x (free x) ∙ ap (within b x P) p ∙ is_counted b P v goes)
+      ap (block_reported b (ts ++ us)) (stands b (WithinTriples P s) x (free x) ∙ ap (within b x P) p ∙ is_counted b P v goes)
       ∙ counted_if b P v (ts ++ us) (b.too_many (P ++ triples_so_far v)) refl (λ less. leads_excess b free P e us l q less many h)
 
   triples_excess : {env : Context Value Triple} {n k : Numbers} {xs : List Symbol} {T : List Triple} (b : Block Value Triple) → Free b → (P : List Triple) (us : List Symbol)
@@ -149,7 +149,7 @@ module _ {Value Triple : Type 0} where
   triples_excess {env = env} {n = n} b free P us r many h =
       let goes : NotLost (opening env n r.first) = (leads_grow (brace 0) r.leads r.ends).0 in
       ap (λ z. block_run b (z ++ us) (AtTriples env P n)) r.parts
-      ∙ ap (block_told b (r.others ++ us)) (stands b (AtTriples env P n) r.first (free r.first) ∙ first_enters b P env n r.first goes ∙ is_counted b P (opening env n r.first) goes)
+      ∙ ap (block_reported b (r.others ++ us)) (stands b (AtTriples env P n) r.first (free r.first) ∙ first_enters b P env n r.first goes ∙ is_counted b P (opening env n r.first) goes)
       ∙ counted_if b P (opening env n r.first) (r.others ++ us) (b.too_many (P ++ triples_so_far (opening env n r.first))) refl (λ less. leads_excess b free P 0 us r.leads r.ends less many (λ i. h (ap ends_in_string r.parts ∙ held_last env n r.first r.leads i)))
 
   none_of : (b : Block Value Triple) → Free b → (xs : List Symbol) → list_any b.bars xs ≡ false

@@ -4,7 +4,7 @@ use Rattle.std.proofs.Common.{◌≡◌, ℕ, Bool, true, false, cond, List, [],
 use Rattle.std.specs.Prelude.{codes, ◌&&◌, Result, Ok, Err}
 use Rattle.gs_model.specs.Terms.{Term}
 use Rattle.gs_blank.specs.Numbers.{Numbers}
-use Rattle.gs_triples.specs.Symbols.{Symbol, AWord, Text, At, Carets, Open, OpenList, CloseList, Semicolon, Comma}
+use Rattle.gs_triples.specs.Symbols.{Symbol, ATerm, Text, At, Carets, Open, OpenList, CloseList, Semicolon, Comma}
 use Rattle.gs_triples.specs.Meanings as meaning
 use Rattle.gs_triples.specs.Meanings.{Fault, Syntax, Context, blank, rdf_value, tagged, typed, simple}
 use Rattle.gs_triples.specs.Goals.{Object, Verbs, After, Semis, Begun, may_open, may_open_node}
@@ -76,7 +76,7 @@ module _ {Value Triple : Type 0} where
 
   object_moves : (env : Context Value Triple) → IsPlain env → (c d : ℕ) (w p : Value) (P : List Triple) (n : Numbers) (t : Symbol)
       → Moves env t (Heading (Object c) (ToObject d w p ∷ []) env P n) (Goes (object c t (ToObject d w p ∷ []) env P n))
-  object_moves env r c d w p P n (AWord x) = token_moves env (AWord x) (Heading (Object c) (ToObject d w p ∷ []) env P n) d w p (meaning.word env n x) refl
+  object_moves env r c d w p P n (ATerm x) = token_moves env (ATerm x) (Heading (Object c) (ToObject d w p ∷ []) env P n) d w p (meaning.word env n x) refl
   object_moves env r c d w p P n (Text x) = same _ _ (held x d w p P n) refl
   object_moves env r c d w p P n Open = by_false env Open _ (may_open_node env c) _ _ (no_node env c r) (astray _ Syntax)
   object_moves env r c d w p P n OpenList = either_state env OpenList _ (may_open c) _ _ (same _ _ (begun _ d w p P n) refl) (astray _ Syntax)
@@ -125,7 +125,7 @@ module _ {Value Triple : Type 0} where
   typing_moves : (env : Context Value Triple) (x : List ℕ) (d : ℕ) (w p : Value) (P : List Triple) (n : Numbers) (t : Symbol)
       → Moves env t (Typing x (ToObject d w p ∷ []) env P n) (Goes (put (ToObject d w p ∷ []) env P n (typed env x t)))
   unfolding typed
-  typing_moves env x d w p P n (AWord y) = put_moves env (AWord y) (Typing x (ToObject d w p ∷ []) env P n) d w p n (typed env x (AWord y)) refl
+  typing_moves env x d w p P n (ATerm y) = put_moves env (ATerm y) (Typing x (ToObject d w p ∷ []) env P n) d w p n (typed env x (ATerm y)) refl
   typing_moves env x d w p P n t = astray _ Syntax
 
   pub flat_moves : {env : Context Value Triple} {s : State Value Triple} (t : Symbol) → IsPlain env → Flat env s → Moves env t s (step s t)
@@ -162,7 +162,7 @@ module _ {Value Triple : Type 0} where
   begin_flat env (Ok p) = verbs 0 p.0 [] p.1
 
   pub opening_flat : (env : Context Value Triple) (n : Numbers) (t : Symbol) → IsPlain env → Flat env (opening env n t)
-  opening_flat env n (AWord w) r = begin_flat env (meaning.subject env n w)
+  opening_flat env n (ATerm w) r = begin_flat env (meaning.subject env n w)
   opening_flat env n Open r = subst (λ z. Flat env (cond z (Opened env n) (Lost Syntax))) (sym r.0) (lost Syntax)
   opening_flat env n OpenList r = list 1 [] n
   opening_flat env n t r = lost Syntax

@@ -4,19 +4,19 @@ use Rattle.std.specs.Prelude.{Option, Some, None}
 use Rattle.gs_lex.specs.Tokens.{Lexeme}
 use Rattle.gs_machine.specs.Machines.{joined, rest}
 use Rattle.gs_blank.specs.Numbers.{Numbers, no_numbers}
-use Rattle.gs_triples.specs.Symbols.{Symbol, AWord, Reference, Namespace, Semicolon, PrefixWord, BaseWord, Foreign, symbols_of}
+use Rattle.gs_triples.specs.Symbols.{Symbol, ATerm, Reference, Namespace, Semicolon, PrefixWord, BaseWord, Foreign, symbols_of}
 use Rattle.gs_update_text.specs.Requests.{Rejection, Written, Request}
 use Rattle.gs_update_text.specs.Operations.{Scope}
 use Rattle.gs_update_text.specs.Grammar.{first_scope}
 use Rattle.gs_update_text.specs.Fronts.{AreLongest, AreBeforeFault}
 use Rattle.gs_update_text.specs.Blocks.{BlockState, BlockTurn, Takes, Shuts, Stops, block_step}
-use Rattle.gs_update_text.specs.States.{State, Between, InPrefix, InPrefixIri, InBase, AfterInsert, AfterDelete, AtBrace, InData, InWhere, After, Rejected, Turn}
+use Rattle.gs_update_text.specs.States.{State, Between, InPrefix, InPrefixIri, InBase, AfterInsert, AfterDelete, AtBrace, InData, InWhere, After, Rejected, Transition}
 use Rattle.gs_update_text.specs.Machine.{blocked, step, ended, updates, request_of}
 use Rattle.gs_update_text.proofs.UpdateLemmas.{operations_read}
 use Rattle.gs_update_text.proofs.ReadLemmas.{operations_covered}
 
--- a turn that ends no operation, or after which the text may end
-data Speaks (u : Turn) : Type 0 where
+-- a transition that ends no operation, or after which the text may end
+data Speaks (u : Transition) : Type 0 where
   silent : u.1 ≡ [] → Speaks u
   may_end : ended u.0 ≡ None → Speaks u
 
@@ -32,14 +32,14 @@ speaks (Between env n) PrefixWord = silent refl
 speaks (Between env n) BaseWord = silent refl
 speaks (Between env n) (Foreign k e) = silent refl
 speaks (Between env n) t = silent refl
-speaks (InPrefix env n) (AWord (Namespace p)) = silent refl
-speaks (InPrefix env n) (AWord w) = silent refl
+speaks (InPrefix env n) (ATerm (Namespace p)) = silent refl
+speaks (InPrefix env n) (ATerm w) = silent refl
 speaks (InPrefix env n) t = silent refl
-speaks (InPrefixIri p env n) (AWord (Reference i e)) = silent refl
-speaks (InPrefixIri p env n) (AWord w) = silent refl
+speaks (InPrefixIri p env n) (ATerm (Reference i e)) = silent refl
+speaks (InPrefixIri p env n) (ATerm w) = silent refl
 speaks (InPrefixIri p env n) t = silent refl
-speaks (InBase env n) (AWord (Reference i e)) = silent refl
-speaks (InBase env n) (AWord w) = silent refl
+speaks (InBase env n) (ATerm (Reference i e)) = silent refl
+speaks (InBase env n) (ATerm w) = silent refl
 speaks (InBase env n) t = silent refl
 speaks (AfterInsert env n) (Foreign k e) = silent refl
 speaks (AfterInsert env n) t = silent refl

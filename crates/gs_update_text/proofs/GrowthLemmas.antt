@@ -3,7 +3,7 @@ use Rattle.std.proofs.Common.{◌≡◌, ℕ, Bool, true, false, cond, List, [],
 use Rattle.std.specs.Prelude.{codes, Result, Ok, Err}
 use Rattle.gs_model.specs.Terms.{Term}
 use Rattle.gs_blank.specs.Numbers.{Numbers, one_more}
-use Rattle.gs_triples.specs.Symbols.{Symbol, AWord, Text, At, Carets, Open, Close, OpenList, CloseList, Semicolon, Comma}
+use Rattle.gs_triples.specs.Symbols.{Symbol, ATerm, Text, At, Carets, Open, Close, OpenList, CloseList, Semicolon, Comma}
 use Rattle.gs_triples.specs.Meanings as meaning
 use Rattle.gs_triples.specs.Meanings.{Fault, Context, blank, rdf_value, tagged, typed, simple}
 use Rattle.gs_triples.specs.Goals.{Goal, Object, Inside, Verbs, After, Semis, Begun, Items, may_open, may_open_node, next_number, rest_is}
@@ -85,7 +85,7 @@ module _ {Value Triple : Type 0} where
   put_grows fs env P n (Ok t) = give_grows env (env.language.of_term t) fs P n
 
   object_grows : (d : ℕ) (t : Symbol) (fs : List (Frame Value)) (env : Context Value Triple) (P : List Triple) (n : Numbers) → Grown P (object d t fs env P n)
-  object_grows d (AWord w) fs env P n = token_grows fs env P (meaning.word env n w)
+  object_grows d (ATerm w) fs env P n = token_grows fs env P (meaning.word env n w)
   object_grows d (Text x) fs env P n = all P
   object_grows d Open fs env P n = one_of P (may_open_node env d) _ _ (all P) tt
   object_grows d OpenList fs env P n = one_of P (may_open d) _ _ (all P) tt

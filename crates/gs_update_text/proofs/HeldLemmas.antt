@@ -3,7 +3,7 @@ use Rattle.std.proofs.Common.{◌≡◌, ℕ, suc, Bool, true, false, cond, List
 use Rattle.std.specs.Prelude.{Result, Ok, Err}
 use Rattle.gs_model.specs.Terms.{Term}
 use Rattle.gs_blank.specs.Numbers.{Numbers, one_more}
-use Rattle.gs_triples.specs.Symbols.{Symbol, AWord, Text, At, Carets, Open, Close, OpenList, CloseList, Semicolon, Comma, Dot}
+use Rattle.gs_triples.specs.Symbols.{Symbol, ATerm, Text, At, Carets, Open, Close, OpenList, CloseList, Semicolon, Comma, Dot}
 use Rattle.gs_triples.specs.Meanings as meaning
 use Rattle.gs_triples.specs.Meanings.{Fault, Syntax, Context, blank, tagged, typed, simple}
 use Rattle.gs_triples.specs.Goals.{Goal, Object, Inside, Verbs, After, Semis, Begun, Items, may_open, may_open_node, next_number}
@@ -62,7 +62,7 @@ module _ {Value Triple : Type 0} where
   put_holds fs env P n (Ok t) i = give_holds env (env.language.of_term t) fs P n i
 
   object_holds : (d : ℕ) (t : Symbol) (fs : List (Frame Value)) (env : Context Value Triple) (P : List Triple) (n : Numbers) → IsHeld (object d t fs env P n) → is_string t ≡ true
-  object_holds d (AWord w) fs env P n i = absurd (token_holds fs env P (meaning.word env n w) i)
+  object_holds d (ATerm w) fs env P n i = absurd (token_holds fs env P (meaning.word env n w) i)
   object_holds d (Text x) fs env P n i = refl
   object_holds d Open fs env P n i = absurd (one_of (may_open_node env d) (Heading (Inside (suc d) (next_number n)) fs env P (one_more n)) (Lost Syntax) (λ j. j) (λ j. j) i)
   object_holds d OpenList fs env P n i = absurd (one_of (may_open d) (Heading (Begun (suc d)) fs env P n) (Lost Syntax) (λ j. j) (λ j. j) i)
@@ -126,7 +126,7 @@ module _ {Value Triple : Type 0} where
   begin_holds env (Ok p) i = i
 
   opening_holds : (env : Context Value Triple) (n : Numbers) (t : Symbol) → NotHeld (opening env n t)
-  opening_holds env n (AWord w) i = begin_holds env (meaning.subject env n w) i
+  opening_holds env n (ATerm w) i = begin_holds env (meaning.subject env n w) i
   opening_holds env n Open i = one_of env.language.nodes (Opened env n) (Lost Syntax) (λ j. j) (λ j. j) i
   opening_holds env n OpenList i = i
   opening_holds env n t i = i

@@ -5,13 +5,13 @@ use Rattle.std.specs.Str.{is_utf8, chars}
 use lib.Utf8.{encode}
 use Rattle.gs_model.specs.Terms.{Blank, suffix}
 use Rattle.gs_machine.specs.Machines.{rest}
-use Rattle.gs_iri.specs.References.{before, from, behind, is_scheme, has_scheme, scheme_of, behind_scheme, behind_slashes, authority_of, behind_authority, path_of, behind_path, query_of, behind_query, fragment_of, parts_of}
+use Rattle.gs_iri.specs.References.{before, from, rest_after, is_scheme, has_scheme, scheme_of, rest_after_scheme, rest_after_slashes, authority_of, rest_after_authority, path_of, rest_after_path, query_of, rest_after_query, fragment_of, parts_of}
 use Rattle.gs_iri.specs.Dots.{segments_of, is_dot, is_dot_dot, is_dots, closed, moved, text_of_segments, output_of, dots}
 use Rattle.gs_iri.specs.Resolving.{scheme_text, marked, parts_text, through_last, directory_of, front_text, resolved_parts, resolved}
 use Rattle.gs_escape.specs.Meanings.{unescaped, stands_short}
 use Rattle.gs_escape.specs.Tokens.{between, quoted, iri_of, string_of}
 use Rattle.gs_blank.specs.Numbers.{no_numbers}
-use Rattle.gs_triples.specs.Symbols.{Symbol, AWord, A, Semicolon, Reference, Label}
+use Rattle.gs_triples.specs.Symbols.{Symbol, ATerm, A, Semicolon, Reference, Label}
 use Rattle.gs_triples.specs.Languages.{triple}
 use Rattle.gs_triples.specs.Meanings.{Syntax, word, iri, made_of, simple, tagged}
 use Rattle.gs_triples.specs.Directives.{with_base}
@@ -42,10 +42,10 @@ second : known (with_label no_numbers (codes "x")) (codes "y") ≡ None
 second = get-insert nat_list_cmp_total finite.empty (codes "x") 1 (codes "y") ∙ get-empty (slice_cmp nat_cmp) (codes "y")
 
 abbrev x : Symbol
-x = AWord (Label (codes "_:x"))
+x = ATerm (Label (codes "_:x"))
 
 abbrev y : Symbol
-y = AWord (Label (codes "_:y"))
+y = ATerm (Label (codes "_:y"))
 
 -- `INSERT DATA { _:x a _:x }`: one node
 one_node : says (insert_data (x ∷ A ∷ x ∷ []) 40) ≡ (written (Inserts (triple (Blank 1 1) rdf_type (Blank 1 1) ∷ [])) 40 ∷ [], None)
@@ -72,11 +72,11 @@ no_prefix : (x : List ℕ) → finite.get (first_scope (codes "http://e/g") 1).p
 no_prefix x = get-empty (slice_cmp nat_cmp) x
 
 -- `DELETE DATA { e:a a 1 }`
-undeclared : says (delete_data (AWord (Name (codes "e:a")) ∷ A ∷ one ∷ []) 40) ≡ ([], Some (Broken Syntax))
-unfolding rest step ended block_run triples_machine.step triples_machine.ended word iri made_of simple tagged with_base suffix iri_of string_of quoted between unescaped stands_short is_utf8 chars encode resolved resolved_parts parts_of before from behind is_scheme has_scheme scheme_of behind_scheme behind_slashes authority_of behind_authority path_of behind_path query_of behind_query fragment_of dots segments_of closed is_dots is_dot is_dot_dot moved output_of text_of_segments scheme_text marked parts_text through_last directory_of front_text name_text
+undeclared : says (delete_data (ATerm (Name (codes "e:a")) ∷ A ∷ one ∷ []) 40) ≡ ([], Some (Broken Syntax))
+unfolding rest step ended block_run triples_machine.step triples_machine.ended word iri made_of simple tagged with_base suffix iri_of string_of quoted between unescaped stands_short is_utf8 chars encode resolved resolved_parts parts_of before from rest_after is_scheme has_scheme scheme_of rest_after_scheme rest_after_slashes authority_of rest_after_authority path_of rest_after_path query_of rest_after_query fragment_of dots segments_of closed is_dots is_dot is_dot_dot moved output_of text_of_segments scheme_text marked parts_text through_last directory_of front_text name_text
 undeclared = rw no_prefix refl
 
 -- `DELETE DATA { } ; PREFIX e: <http://b/> DELETE DATA { } ; PREFIX e: <c>`
-prefixes_between : says (delete_data [] 40 ++ Semicolon ∷ PrefixWord ∷ AWord (Namespace (codes "e:")) ∷ AWord (Reference (codes "<http://b/>") 50) ∷ delete_data [] 80 ++ Semicolon ∷ PrefixWord ∷ AWord (Namespace (codes "e:")) ∷ AWord (Reference (codes "<c>") 90) ∷ []) ≡ (written (DeletesData []) 40 ∷ written (DeletesData []) 80 ∷ [], None)
-unfolding rest step ended block_run triples_machine.step triples_machine.ended word iri made_of simple tagged with_base suffix iri_of string_of quoted between unescaped stands_short is_utf8 chars encode resolved resolved_parts parts_of before from behind is_scheme has_scheme scheme_of behind_scheme behind_slashes authority_of behind_authority path_of behind_path query_of behind_query fragment_of dots segments_of closed is_dots is_dot is_dot_dot moved output_of text_of_segments scheme_text marked parts_text through_last directory_of front_text with_prefix
+prefixes_between : says (delete_data [] 40 ++ Semicolon ∷ PrefixWord ∷ ATerm (Namespace (codes "e:")) ∷ ATerm (Reference (codes "<http://b/>") 50) ∷ delete_data [] 80 ++ Semicolon ∷ PrefixWord ∷ ATerm (Namespace (codes "e:")) ∷ ATerm (Reference (codes "<c>") 90) ∷ []) ≡ (written (DeletesData []) 40 ∷ written (DeletesData []) 80 ∷ [], None)
+unfolding rest step ended block_run triples_machine.step triples_machine.ended word iri made_of simple tagged with_base suffix iri_of string_of quoted between unescaped stands_short is_utf8 chars encode resolved resolved_parts parts_of before from rest_after is_scheme has_scheme scheme_of rest_after_scheme rest_after_slashes authority_of rest_after_authority path_of rest_after_path query_of rest_after_query fragment_of dots segments_of closed is_dots is_dot is_dot_dot moved output_of text_of_segments scheme_text marked parts_text through_last directory_of front_text with_prefix
 prefixes_between = refl

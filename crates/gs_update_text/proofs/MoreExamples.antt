@@ -8,12 +8,12 @@ use Rattle.gs_model.specs.Terms.{Iri, suffix}
 use Rattle.gs_term.specs.declared.patterns.Part.TheVariants.{Term as TheTerm, Variable as Unknown}
 use Rattle.gs_lex.specs.declared.kinds.TokenKind.TheVariants as kind
 use Rattle.gs_machine.specs.Machines.{rest}
-use Rattle.gs_iri.specs.References.{before, from, behind, is_scheme, has_scheme, scheme_of, behind_scheme, behind_slashes, authority_of, behind_authority, path_of, behind_path, query_of, behind_query, fragment_of, parts_of}
+use Rattle.gs_iri.specs.References.{before, from, rest_after, is_scheme, has_scheme, scheme_of, rest_after_scheme, rest_after_slashes, authority_of, rest_after_authority, path_of, rest_after_path, query_of, rest_after_query, fragment_of, parts_of}
 use Rattle.gs_iri.specs.Dots.{segments_of, is_dot, is_dot_dot, is_dots, closed, moved, text_of_segments, output_of, dots}
 use Rattle.gs_iri.specs.Resolving.{scheme_text, marked, parts_text, through_last, directory_of, front_text, resolved_parts, resolved}
 use Rattle.gs_escape.specs.Meanings.{unescaped, stands_short}
 use Rattle.gs_escape.specs.Tokens.{between, quoted, iri_of, string_of}
-use Rattle.gs_triples.specs.Symbols.{Symbol, AWord, Text, At, A, OpenList, CloseList, Comma, Semicolon, Dot, BaseWord, Reference, Label}
+use Rattle.gs_triples.specs.Symbols.{Symbol, ATerm, Text, At, A, OpenList, CloseList, Comma, Semicolon, Dot, BaseWord, Reference, Label}
 use Rattle.gs_triples.specs.Languages.{triple}
 use Rattle.gs_triples.specs.Meanings.{Syntax, word, iri, made_of, simple, tagged, rdf}
 use Rattle.gs_triples.specs.Directives.{with_base}
@@ -43,17 +43,17 @@ within_where ts = mark kind.Delete 6 ∷ mark kind.Where 12 ∷ mark kind.OpenBr
 
 -- `DELETE WHERE { ?x <http://e/p> $x }`: one variable
 marks : says (delete_where (symbol kind.Var (codes "?x") 17 ∷ p ∷ symbol kind.Var (codes "$x") 35 ∷ []) 40) ≡ (written (DeletesWhere (pattern (Unknown (codes "x")) (TheTerm tp) (Unknown (codes "x")) ∷ [])) 40 ∷ [], None)
-unfolding rest step ended block_run triples_machine.step triples_machine.ended word iri made_of simple tagged with_base suffix iri_of string_of quoted between unescaped stands_short is_utf8 chars encode resolved resolved_parts parts_of before from behind is_scheme has_scheme scheme_of behind_scheme behind_slashes authority_of behind_authority path_of behind_path query_of behind_query fragment_of dots segments_of closed is_dots is_dot is_dot_dot moved output_of text_of_segments scheme_text marked parts_text through_last directory_of front_text
+unfolding rest step ended block_run triples_machine.step triples_machine.ended word iri made_of simple tagged with_base suffix iri_of string_of quoted between unescaped stands_short is_utf8 chars encode resolved resolved_parts parts_of before from rest_after is_scheme has_scheme scheme_of rest_after_scheme rest_after_slashes authority_of rest_after_authority path_of rest_after_path query_of rest_after_query fragment_of dots segments_of closed is_dots is_dot is_dot_dot moved output_of text_of_segments scheme_text marked parts_text through_last directory_of front_text
 marks = refl
 
 -- `DELETE WHERE { <http://e/a> ?v 1 }`
 verb_variable : says (delete_where (a ∷ v (codes "v") ∷ one ∷ []) 40) ≡ (written (DeletesWhere (pattern (TheTerm ta) (Unknown (codes "v")) (TheTerm (integer (codes "1"))) ∷ [])) 40 ∷ [], None)
-unfolding rest step ended block_run triples_machine.step triples_machine.ended word iri made_of simple tagged with_base suffix iri_of string_of quoted between unescaped stands_short is_utf8 chars encode resolved resolved_parts parts_of before from behind is_scheme has_scheme scheme_of behind_scheme behind_slashes authority_of behind_authority path_of behind_path query_of behind_query fragment_of dots segments_of closed is_dots is_dot is_dot_dot moved output_of text_of_segments scheme_text marked parts_text through_last directory_of front_text
+unfolding rest step ended block_run triples_machine.step triples_machine.ended word iri made_of simple tagged with_base suffix iri_of string_of quoted between unescaped stands_short is_utf8 chars encode resolved resolved_parts parts_of before from rest_after is_scheme has_scheme scheme_of rest_after_scheme rest_after_slashes authority_of rest_after_authority path_of rest_after_path query_of rest_after_query fragment_of dots segments_of closed is_dots is_dot is_dot_dot moved output_of text_of_segments scheme_text marked parts_text through_last directory_of front_text
 verb_variable = refl
 
 -- `DELETE DATA { <http://e/a> a 1 } ; BASE <http://b/> DELETE DATA { <a> a 1 }`
-base_between : says (delete_data a_type 40 ++ Semicolon ∷ BaseWord ∷ AWord (Reference (codes "<http://b/>") 56) ∷ delete_data (AWord (Reference (codes "<a>") 70) ∷ A ∷ one ∷ []) 80) ≡ (the_triple ∷ written (DeletesData (triple (Iri (codes "http://b/a")) rdf_type (integer (codes "1")) ∷ [])) 80 ∷ [], None)
-unfolding rest step ended block_run triples_machine.step triples_machine.ended word iri made_of simple tagged with_base suffix iri_of string_of quoted between unescaped stands_short is_utf8 chars encode resolved resolved_parts parts_of before from behind is_scheme has_scheme scheme_of behind_scheme behind_slashes authority_of behind_authority path_of behind_path query_of behind_query fragment_of dots segments_of closed is_dots is_dot is_dot_dot moved output_of text_of_segments scheme_text marked parts_text through_last directory_of front_text
+base_between : says (delete_data a_type 40 ++ Semicolon ∷ BaseWord ∷ ATerm (Reference (codes "<http://b/>") 56) ∷ delete_data (ATerm (Reference (codes "<a>") 70) ∷ A ∷ one ∷ []) 80) ≡ (the_triple ∷ written (DeletesData (triple (Iri (codes "http://b/a")) rdf_type (integer (codes "1")) ∷ [])) 80 ∷ [], None)
+unfolding rest step ended block_run triples_machine.step triples_machine.ended word iri made_of simple tagged with_base suffix iri_of string_of quoted between unescaped stands_short is_utf8 chars encode resolved resolved_parts parts_of before from rest_after is_scheme has_scheme scheme_of rest_after_scheme rest_after_slashes authority_of rest_after_authority path_of rest_after_path query_of rest_after_query fragment_of dots segments_of closed is_dots is_dot is_dot_dot moved output_of text_of_segments scheme_text marked parts_text through_last directory_of front_text
 base_between = refl
 
 -- a `;` where an operation may begin
@@ -118,16 +118,16 @@ fifth_dotted = refl
 
 -- a fifth pattern that ends with a string and its language tag
 fifth_tagged : says (within_where (four ++ Text (34 ∷ codes "x" ++ 34 ∷ []) ∷ At (codes "@en") ∷ [])) ≡ ([], Some OutOfProfile)
-unfolding rest step ended block_run triples_machine.step triples_machine.ended word iri made_of simple tagged with_base suffix iri_of string_of quoted between unescaped stands_short is_utf8 chars encode resolved resolved_parts parts_of before from behind is_scheme has_scheme scheme_of behind_scheme behind_slashes authority_of behind_authority path_of behind_path query_of behind_query fragment_of dots segments_of closed is_dots is_dot is_dot_dot moved output_of text_of_segments scheme_text marked parts_text through_last directory_of front_text
+unfolding rest step ended block_run triples_machine.step triples_machine.ended word iri made_of simple tagged with_base suffix iri_of string_of quoted between unescaped stands_short is_utf8 chars encode resolved resolved_parts parts_of before from rest_after is_scheme has_scheme scheme_of rest_after_scheme rest_after_slashes authority_of rest_after_authority path_of rest_after_path query_of rest_after_query fragment_of dots segments_of closed is_dots is_dot is_dot_dot moved output_of text_of_segments scheme_text marked parts_text through_last directory_of front_text
 fifth_tagged = refl
 
 -- with a string, and a dot after it
 string_dotted : says (within_where (four ++ Text (34 ∷ codes "x" ++ 34 ∷ []) ∷ Dot 40 ∷ [])) ≡ ([], Some OutOfProfile)
-unfolding rest step ended block_run triples_machine.step triples_machine.ended word iri made_of simple tagged with_base suffix iri_of string_of quoted between unescaped stands_short is_utf8 chars encode resolved resolved_parts parts_of before from behind is_scheme has_scheme scheme_of behind_scheme behind_slashes authority_of behind_authority path_of behind_path query_of behind_query fragment_of dots segments_of closed is_dots is_dot is_dot_dot moved output_of text_of_segments scheme_text marked parts_text through_last directory_of front_text
+unfolding rest step ended block_run triples_machine.step triples_machine.ended word iri made_of simple tagged with_base suffix iri_of string_of quoted between unescaped stands_short is_utf8 chars encode resolved resolved_parts parts_of before from rest_after is_scheme has_scheme scheme_of rest_after_scheme rest_after_slashes authority_of rest_after_authority path_of rest_after_path query_of rest_after_query fragment_of dots segments_of closed is_dots is_dot is_dot_dot moved output_of text_of_segments scheme_text marked parts_text through_last directory_of front_text
 string_dotted = refl
 
 -- where a fifth pattern is to end with a blank node, the fault comes first
-fifth_open : says (within_where (four ++ AWord (Label (codes "_:x")) ∷ [])) ≡ ([], Some (Broken Syntax))
+fifth_open : says (within_where (four ++ ATerm (Label (codes "_:x")) ∷ [])) ≡ ([], Some (Broken Syntax))
 unfolding rest step ended block_run triples_machine.step word made_of suffix is_utf8 chars encode
 fifth_open = refl
 
@@ -163,5 +163,5 @@ departure_first = refl
 
 -- `INSERT DATA { <http://e/a> a 1`
 unfinished : says (mark kind.Insert 6 ∷ mark kind.Data 11 ∷ mark kind.OpenBrace 13 ∷ a_type) ≡ ([], Some (Broken Syntax))
-unfolding rest step ended block_run triples_machine.step triples_machine.ended word iri made_of simple tagged with_base suffix iri_of string_of quoted between unescaped stands_short is_utf8 chars encode resolved resolved_parts parts_of before from behind is_scheme has_scheme scheme_of behind_scheme behind_slashes authority_of behind_authority path_of behind_path query_of behind_query fragment_of dots segments_of closed is_dots is_dot is_dot_dot moved output_of text_of_segments scheme_text marked parts_text through_last directory_of front_text
+unfolding rest step ended block_run triples_machine.step triples_machine.ended word iri made_of simple tagged with_base suffix iri_of string_of quoted between unescaped stands_short is_utf8 chars encode resolved resolved_parts parts_of before from rest_after is_scheme has_scheme scheme_of rest_after_scheme rest_after_slashes authority_of rest_after_authority path_of rest_after_path query_of rest_after_query fragment_of dots segments_of closed is_dots is_dot is_dot_dot moved output_of text_of_segments scheme_text marked parts_text through_last directory_of front_text
 unfinished = refl

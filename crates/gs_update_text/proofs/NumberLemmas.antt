@@ -7,9 +7,9 @@ use Rattle.std.specs.FinMap.{get-insert, slice_cmp-IsAntisymmetric, nat_cmp-IsAn
 use Rattle.std.specs.Cmp.{Equal-is}
 use Rattle.std.proofs.lemmas.Bool.{lt-ltb}
 use Rattle.gs_model.specs.Terms.{Term}
-use Rattle.gs_escape.specs.Tokens.{behind}
+use Rattle.gs_escape.specs.Tokens.{rest_after}
 use Rattle.gs_blank.specs.Numbers.{Numbers, known, one_more, with_label, numbered, number_of}
-use Rattle.gs_triples.specs.Symbols.{Symbol, TermToken, AWord, Text, At, Carets, Open, Close, OpenList, CloseList, Semicolon, Comma, Plain, Label, Variable}
+use Rattle.gs_triples.specs.Symbols.{Symbol, TermToken, ATerm, Text, At, Carets, Open, Close, OpenList, CloseList, Semicolon, Comma, Plain, Label, Variable}
 use Rattle.gs_triples.specs.Meanings as meaning
 use Rattle.gs_triples.specs.Meanings.{Fault, Syntax, Context, blank, rdf_value, tagged, typed, simple, with_numbers, labelled}
 use Rattle.gs_triples.specs.Goals.{Goal, Object, Inside, Verbs, After, Semis, Begun, Items, may_open, may_open_node, next_number}
@@ -133,7 +133,7 @@ module _ {Value Triple : Type 0} (R : Context Value Triple → Numbers → Type 
   -- the value of a token
   word_keeps : (env : Context Value Triple) (n : Numbers) (w : TermToken) → R env n → KeptValue env (meaning.word env n w)
   unfolding meaning.word
-  word_keeps env n (Label x) h = if_keeps env env.language.nodes (labelled env n (behind (codes "_:") x)) (labelled_keeps env n (behind (codes "_:") x) h)
+  word_keeps env n (Label x) h = if_keeps env env.language.nodes (labelled env n (rest_after (codes "_:") x)) (labelled_keeps env n (rest_after (codes "_:") x) h)
   word_keeps env n (Plain x d) h = with_keeps env n _ h
   word_keeps env n (Variable x) h = with_keeps env n _ h
   word_keeps env n w h = with_keeps env n _ h
@@ -155,7 +155,7 @@ module _ {Value Triple : Type 0} (R : Context Value Triple → Numbers → Type 
 
   -- the first symbol of an object
   object_keeps : (d : ℕ) (t : Symbol) (fs : List (Frame Value)) (env : Context Value Triple) (P : List Triple) (n : Numbers) → R env n → Kept (object d t fs env P n)
-  object_keeps d (AWord w) fs env P n h = token_keeps fs env P (meaning.word env n w) (word_keeps env n w h)
+  object_keeps d (ATerm w) fs env P n h = token_keeps fs env P (meaning.word env n w) (word_keeps env n w h)
   object_keeps d (Text x) fs env P n h = h
   object_keeps d Open fs env P n h = one_of (may_open_node env d) (Heading (Inside (suc d) (next_number n)) fs env P (one_more n)) (Lost Syntax) (one env n h) tt
   object_keeps d OpenList fs env P n h = one_of (may_open d) (Heading (Begun (suc d)) fs env P n) (Lost Syntax) h tt
@@ -219,7 +219,7 @@ module _ {Value Triple : Type 0} (R : Context Value Triple → Numbers → Type 
 
   -- the first symbol of triples
   pub opening_keeps : (env : Context Value Triple) (n : Numbers) (t : Symbol) → R env n → Kept (opening env n t)
-  opening_keeps env n (AWord w) h = begin_keeps env (meaning.subject env n w) (subject_keeps env n w h)
+  opening_keeps env n (ATerm w) h = begin_keeps env (meaning.subject env n w) (subject_keeps env n w h)
   opening_keeps env n Open h = one_of env.language.nodes (Opened env n) (Lost Syntax) h tt
   opening_keeps env n OpenList h = h
   opening_keeps env n t h = tt

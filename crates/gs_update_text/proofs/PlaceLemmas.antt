@@ -5,7 +5,7 @@ use Rattle.gs_model.specs.Terms.{Term}
 use Rattle.gs_lex.specs.Tokens.{Lexeme}
 use Rattle.gs_lex.specs.declared.kinds.TokenKind.TheVariants as kind
 use Rattle.gs_blank.specs.Numbers.{Numbers}
-use Rattle.gs_triples.specs.Symbols.{Symbol, AWord, A, Close, Semicolon, Dot, Foreign}
+use Rattle.gs_triples.specs.Symbols.{Symbol, ATerm, A, Close, Semicolon, Dot, Foreign}
 use Rattle.gs_triples.specs.Meanings.{Context, verb, typed}
 use Rattle.gs_triples.specs.Goals.{Goal}
 use Rattle.gs_triples.specs.Rules.{Covers}
@@ -33,13 +33,13 @@ both xs ys h k c = last_brace-append c xs ys ∙ ap (λ z. last_brace z ys) (h c
 
 module _ {Value Triple : Type 0} where
   verb_none : (env : Context Value Triple) (t : Symbol) {p : Value} → verb env t ≡ Ok p → HasNoBrace (t ∷ [])
-  verb_none env (AWord w) q c = refl
+  verb_none env (ATerm w) q c = refl
   verb_none env A q c = refl
   verb_none env t q c = absurd (cc)
 
   datatype_none : (env : Context Value Triple) (x : List ℕ) (t : Symbol) {l : Term} → typed env x t ≡ Ok l → HasNoBrace (t ∷ [])
   unfolding typed
-  datatype_none env x (AWord w) q c = refl
+  datatype_none env x (ATerm w) q c = refl
   datatype_none env x t q c = absurd (cc)
 
   covers_none : {env : Context Value Triple} {g : Goal Value} {n k : Numbers} {xs : List Symbol} {v : Value} {T : List Triple} → Covers env g n xs v T k → HasNoBrace xs

@@ -8,7 +8,7 @@ use Rattle.gs_lex.specs.declared.kinds.TokenKind.{TokenKind}
 use Rattle.gs_lex.specs.declared.kinds.TokenKind.TheVariants as kind
 use Rattle.gs_machine.specs.Machines.{joined, rest}
 use Rattle.gs_blank.specs.Numbers.{Numbers, no_numbers}
-use Rattle.gs_triples.specs.Symbols.{Symbol, AWord, Reference, Namespace, Semicolon, PrefixWord, BaseWord, Foreign, symbols_of}
+use Rattle.gs_triples.specs.Symbols.{Symbol, ATerm, Reference, Namespace, Semicolon, PrefixWord, BaseWord, Foreign, symbols_of}
 use Rattle.gs_triples.specs.Meanings.{Fault, Context}
 use Rattle.gs_triples.specs.Directives.{with_prefix, with_base}
 use Rattle.gs_update_text.specs.Requests.{Rejection, Broken, OutOfProfile, Written, Request}
@@ -21,7 +21,7 @@ use Rattle.gs_update_text.specs.Profile.{BeginsOther, AreDotted, Expects, Depart
 use Rattle.gs_update_text.specs.Blocks.{BlockState, AtTriples, block_run}
 use Rattle.gs_update_text.specs.States.{State, Between, InData, InWhere}
 use Rattle.gs_update_text.specs.Machine.{begun, step, updates, request_of}
-use Rattle.gs_update_text.proofs.BlockLemmas.{Bounds, Parts, block_told, stands}
+use Rattle.gs_update_text.proofs.BlockLemmas.{Bounds, Parts, block_reported, stands}
 use Rattle.gs_update_text.proofs.ExcessLemmas.{template_excess, dotted_run}
 use Rattle.gs_update_text.proofs.UpdateLemmas.{rejected_rest, after_block, Holds, block_rest, holds_data, holds_where, bounds_insert, bounds_delete, bounds_where, none_barred, parts_insert, parts_plain, prologue_read, operation_read}
 use Rattle.gs_update_text.proofs.WalkLemmas.{Stopped, Reads, walk}
@@ -52,7 +52,7 @@ module _ {Value Triple : Type 0} where
   graph_stops : (b : Block Value Triple) (env : Context Value Triple) (P : List Triple) (n : Numbers) (e : ℕ) (ts : List Symbol) → b.bars (Foreign kind.Graph e) ≡ false
       → block_run b (Foreign kind.Graph e ∷ ts) (AtTriples env P n) ≡ Err OutOfProfile
   unfolding block_run
-  graph_stops b env P n e ts free = ap (block_told b ts) (stands b (AtTriples env P n) (Foreign kind.Graph e) free)
+  graph_stops b env P n e ts free = ap (block_reported b ts) (stands b (AtTriples env P n) (Foreign kind.Graph e) free)
 
   -- a graph where triples may begin
   graph_read : {env : Scope} {n k : Numbers} {xs : List Symbol} {T : List Triple} (inside : BlockState Value Triple → State) (b : Block Value Triple) (e : ℕ) (ts : List Symbol)
@@ -81,27 +81,27 @@ departs_read {env = env} {n = n} (profile.fifth_pattern {xs = xs} {T = T} a b c 
 departs_read (profile.no_pattern a b c e ts) = rejected_rest OutOfProfile ts
 
 -- tokens that leave what is served
-departure_told : {env : Scope} {n : Numbers} {ts : List Symbol} {os : List Written} → Departure env n ts os → rest updates (Between env n) ts ≡ (os, Some OutOfProfile)
-departure_told {os = os} (profile.departure {ys = ys} e d) =
+departure_reported : {env : Scope} {n : Numbers} {ts : List Symbol} {os : List Written} → Departure env n ts os → rest updates (Between env n) ts ≡ (os, Some OutOfProfile)
+departure_reported {os = os} (profile.departure {ys = ys} e d) =
     expects_read e ys ∙ ap (joined os) (departs_read d) ∙ ap (λ z. let p : Request = (z, Some OutOfProfile) in p) (append-nil os)
 
 -- a directive before them
 base_expects : {env next last : Scope} {n k : Numbers} {xs : List Symbol} {os : List Written} (i : List ℕ) (a : ℕ) → with_base env i ≡ Some next → Expects next n xs os last k
-    → Expects env n (BaseWord ∷ AWord (Reference i a) ∷ xs) os last k
+    → Expects env n (BaseWord ∷ ATerm (Reference i a) ∷ xs) os last k
 base_expects i a q (profile.first p) = profile.first (rule.base i a q p)
 base_expects i a q (profile.later p o r) = profile.later (rule.base i a q p) o r
 
 prefix_expects : {env next last : Scope} {n k : Numbers} {xs : List Symbol} {os : List Written} (x i : List ℕ) (a : ℕ) → with_prefix env x i ≡ Some next → Expects next n xs os last k
-    → Expects env n (PrefixWord ∷ AWord (Namespace x) ∷ AWord (Reference i a) ∷ xs) os last k
+    → Expects env n (PrefixWord ∷ ATerm (Namespace x) ∷ ATerm (Reference i a) ∷ xs) os last k
 prefix_expects x i a q (profile.first p) = profile.first (rule.prefix x i a q p)
 prefix_expects x i a q (profile.later p o r) = profile.later (rule.prefix x i a q p) o r
 
 base_before : {env next : Scope} {n : Numbers} {us : List Symbol} {os : List Written} (i : List ℕ) (a : ℕ) → with_base env i ≡ Some next → Departure next n us os
-    → Departure env n (BaseWord ∷ AWord (Reference i a) ∷ us) os
+    → Departure env n (BaseWord ∷ ATerm (Reference i a) ∷ us) os
 base_before i a q (profile.departure e d) = profile.departure (base_expects i a q e) d
 
 prefix_before : {env next : Scope} {n : Numbers} {us : List Symbol} {os : List Written} (x i : List ℕ) (a : ℕ) → with_prefix env x i ≡ Some next → Departure next n us os
-    → Departure env n (PrefixWord ∷ AWord (Namespace x) ∷ AWord (Reference i a) ∷ us) os
+    → Departure env n (PrefixWord ∷ ATerm (Namespace x) ∷ ATerm (Reference i a) ∷ us) os
 prefix_before x i a q (profile.departure e d) = profile.departure (prefix_expects x i a q e) d
 
 -- an operation before them
@@ -131,7 +131,7 @@ leaving = record {
 }
 
 pub departure_read : (b : List ℕ) (r : ℕ) (ts : List Lexeme) (os : List Written) → LeavesProfile b r ts os → request_of b r ts ≡ (os, Some OutOfProfile)
-departure_read b r ts os h = departure_told h
+departure_read b r ts os h = departure_reported h
 
 -- and what is refused so leaves it
 pub departure_covered : (b : List ℕ) (r : ℕ) (ts : List Lexeme) (os : List Written) → request_of b r ts ≡ (os, Some OutOfProfile) → LeavesProfile b r ts os

@@ -4,7 +4,7 @@ use Rattle.std.specs.Prelude.{Some, None}
 use Rattle.gs_lex.specs.Tokens.{Lexeme}
 use Rattle.gs_machine.specs.Machines.{rest}
 use Rattle.gs_blank.specs.Numbers.{Numbers}
-use Rattle.gs_triples.specs.Symbols.{Symbol, AWord, Reference, Namespace, PrefixWord, BaseWord}
+use Rattle.gs_triples.specs.Symbols.{Symbol, ATerm, Reference, Namespace, PrefixWord, BaseWord}
 use Rattle.gs_triples.specs.Directives.{with_prefix, with_base}
 use Rattle.gs_update_text.specs.Requests.{Rejection, Written, Request}
 use Rattle.gs_update_text.specs.Operations.{Scope}
@@ -20,13 +20,13 @@ no_departure h = cc
 
 -- a directive before an update
 base_first : {env next : Scope} {n : Numbers} {us : List Symbol} {os : List Written} (i : List ℕ) (e : ℕ) → with_base env i ≡ Some next → AreOperations next n us os
-    → AreOperations env n (BaseWord ∷ AWord (Reference i e) ∷ us) os
+    → AreOperations env n (BaseWord ∷ ATerm (Reference i e) ∷ us) os
 base_first i e q (rule.prologue p) = rule.prologue (rule.base i e q p)
 base_first i e q (rule.operation p o) = rule.operation (rule.base i e q p) o
 base_first i e q (rule.more p o r) = rule.more (rule.base i e q p) o r
 
 prefix_first : {env next : Scope} {n : Numbers} {us : List Symbol} {os : List Written} (x i : List ℕ) (e : ℕ) → with_prefix env x i ≡ Some next → AreOperations next n us os
-    → AreOperations env n (PrefixWord ∷ AWord (Namespace x) ∷ AWord (Reference i e) ∷ us) os
+    → AreOperations env n (PrefixWord ∷ ATerm (Namespace x) ∷ ATerm (Reference i e) ∷ us) os
 prefix_first x i e q (rule.prologue p) = rule.prologue (rule.prefix x i e q p)
 prefix_first x i e q (rule.operation p o) = rule.operation (rule.prefix x i e q p) o
 prefix_first x i e q (rule.more p o r) = rule.more (rule.prefix x i e q p) o r

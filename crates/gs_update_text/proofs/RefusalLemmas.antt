@@ -5,7 +5,7 @@ use Rattle.std.specs.List.{list_any}
 use Rattle.std.proofs.lemmas.List.Folds.{list_any-append}
 use Rattle.gs_blank.specs.Numbers.{Numbers}
 use Rattle.gs_lex.specs.declared.kinds.TokenKind.TheVariants as kind
-use Rattle.gs_triples.specs.Symbols.{Symbol, AWord, Open, OpenList, Dot, Foreign}
+use Rattle.gs_triples.specs.Symbols.{Symbol, ATerm, Open, OpenList, Dot, Foreign}
 use Rattle.gs_triples.specs.Meanings.{Fault, Syntax, Context, subject}
 use Rattle.gs_triples.specs.Triples.{AreTriples}
 use Rattle.gs_triples.specs.States.{Opened, Lost}
@@ -19,7 +19,7 @@ use Rattle.gs_update_text.specs.Profile as profile
 use Rattle.gs_triples.specs.States.{triples_so_far}
 use Rattle.gs_update_text.specs.Blocks.{AtTriples, shut, parted, at_triples, block_run}
 use Rattle.gs_update_text.proofs.LeadLemmas.{lead_triples}
-use Rattle.gs_update_text.proofs.BlockLemmas.{block_told}
+use Rattle.gs_update_text.proofs.BlockLemmas.{block_reported}
 use Rattle.gs_update_text.proofs.FlatLemmas.{opening_flat}
 use Rattle.gs_update_text.proofs.StopLemmas.{Clear, clear_front, clear_more, brace, Guards, IsExcess, both_ways, free_token, Entry, goes_in, too_full, entry, StopsWithin, passes, exceeds, stops_within}
 
@@ -50,13 +50,13 @@ module _ {Value Triple : Type 0} where
   StopsLater f b env = (P : List Triple) (n : Numbers) (ts : List Symbol) → length ts ≤ f → b.too_many P ≡ false → block_run b ts (AtTriples env P n) ≡ Err OutOfProfile → StopsAt b env P n ts
 
   shut_stop : (b : Block Value Triple) (env : Context Value Triple) (P T : List Triple) (n k : Numbers) (xs us : List Symbol) (e : ℕ) → IsTemplate env n xs T k → (o : Option UpdateOperation) → b.operation (P ++ T) ≡ o
-      → block_told b us (shut o k e) ≡ Err OutOfProfile → StopsAt b env P n (xs ++ brace e ∷ us)
+      → block_reported b us (shut o k e) ≡ Err OutOfProfile → StopsAt b env P n (xs ++ brace e ∷ us)
   shut_stop b env P T n k xs us e t None q h = at_end e us t q
   shut_stop b env P T n k xs us e t (Some o) q h = absurd (cc)
 
   -- the token after triples
   parted_stop : (f : ℕ) (b : Block Value Triple) (env : Context Value Triple) (P T : List Triple) (n k : Numbers) (xs us : List Symbol) (t : Symbol) → Guards b env → StopsLater f b env → AreTriples env n xs T k
-      → list_any b.bars xs ≡ false → b.too_many (P ++ T) ≡ false → length us ≤ f → block_told b us (parted b t env (P ++ T) k) ≡ Err OutOfProfile → StopsAt b env P n (xs ++ t ∷ us)
+      → list_any b.bars xs ≡ false → b.too_many (P ++ T) ≡ false → length us ≤ f → block_reported b us (parted b t env (P ++ T) k) ≡ Err OutOfProfile → StopsAt b env P n (xs ++ t ∷ us)
   parted_stop f b env P T n k xs us (Dot e) g again a new few size h = after_dot e a new (g.dots e) (again (P ++ T) k us size few h)
   parted_stop f b env P T n k xs us (Foreign kind.CloseBrace e) g again a new few size h = shut_stop b env P T n k xs us e (rule.last a) (b.operation (P ++ T)) refl h
   parted_stop f b env P T n k xs us t g again a new few size h = absurd (cc)
@@ -65,10 +65,10 @@ module _ {Value Triple : Type 0} where
   triples_stop : (f : ℕ) (b : Block Value Triple) (env : Context Value Triple) (P : List Triple) (n : Numbers) (w : Symbol) (ts : List Symbol) → Guards b env → StopsLater f b env → b.bars w ≡ false → length ts ≤ f
       → StopsWithin b P ts (opening env n w) → StopsAt b env P n (w ∷ ts)
   triples_stop f b env P n w ts g again free size (exceeds {xs = xs} us l e x c) = at_excess us (rule.last (lead_triples w (brace 0) l e).1) x (clear_more w xs us c)
-  triples_stop f b env P n w ts g again free size (passes {xs = xs} {env = c} {T = T} {k = k} t us l e new few told) =
+  triples_stop f b env P n w ts g again free size (passes {xs = xs} {env = c} {T = T} {k = k} t us l e new few reported) =
       let (alike, a) : (env ≡ c) × AreTriples env n (w ∷ xs) T k = lead_triples w t l e in
       parted_stop f b env P T n k (w ∷ xs) us t g again a (ap (λ z. z || list_any b.bars xs) free ∙ new) few (omega (arith, size, length-append xs (t ∷ us)))
-      (ap (λ z. block_told b us (parted b t z (P ++ T) k)) alike ∙ told)
+      (ap (λ z. block_reported b us (parted b t z (P ++ T) k)) alike ∙ reported)
 
   begin_none : (env : Context Value Triple) (r : Result (Value × Numbers) Fault) → triples_so_far (begin env r) ≡ []
   begin_none env (Err e) = refl
@@ -79,7 +79,7 @@ module _ {Value Triple : Type 0} where
   none_or env n false = refl
 
   opening_none : (env : Context Value Triple) (n : Numbers) (t : Symbol) → triples_so_far (opening env n t) ≡ []
-  opening_none env n (AWord w) = begin_none env (subject env n w)
+  opening_none env n (ATerm w) = begin_none env (subject env n w)
   opening_none env n Open = none_or env n env.language.nodes
   opening_none env n OpenList = refl
   opening_none env n t = refl
@@ -92,9 +92,9 @@ module _ {Value Triple : Type 0} where
       absurd (both_ways b (P ++ triples_so_far (opening env n w)) P (ap (λ z. P ++ z) (opening_none env n w) ∙ append-nil P) few many)
 
   at_stop : (f : ℕ) (b : Block Value Triple) (env : Context Value Triple) (P : List Triple) (n : Numbers) (t : Symbol) (ts : List Symbol) → Guards b env → StopsLater f b env → b.bars t ≡ false → b.too_many P ≡ false → length ts ≤ f
-      → block_told b ts (at_triples b t env P n) ≡ Err OutOfProfile → StopsAt b env P n (t ∷ ts)
+      → block_reported b ts (at_triples b t env P n) ≡ Err OutOfProfile → StopsAt b env P n (t ∷ ts)
   at_stop f b env P n (Foreign kind.CloseBrace e) ts g again free few size h =
-      shut_stop b env P [] n n [] ts e (rule.nothing n) (b.operation (P ++ [])) refl (ap (λ z. block_told b ts (shut (b.operation z) n e)) (append-nil P) ∙ h)
+      shut_stop b env P [] n n [] ts e (rule.nothing n) (b.operation (P ++ [])) refl (ap (λ z. block_reported b ts (shut (b.operation z) n e)) (append-nil P) ∙ h)
   at_stop f b env P n (Foreign kind.Graph e) ts g again free few size h = at_graph e ts (profile.nothing n) refl (ap b.too_many (append-nil P) ∙ few)
   at_stop f b env P n t ts g again free few size h = first_stop f b env P n t ts g again free few size (entry b P ts (opening env n t) h)
 
@@ -104,5 +104,5 @@ module _ {Value Triple : Type 0} where
   block_stops f b env g P n [] size few h = absurd (cc)
   block_stops zero b env g P n (t ∷ ts) size few h = absurd (omega arith)
   block_stops (suc f) b env g P n (t ∷ ts) size few h =
-      let (free, k) : (b.bars t ≡ false) × (block_told b ts (at_triples b t env P n) ≡ Err OutOfProfile) = free_token b env g (AtTriples env P n) t ts h in
+      let (free, k) : (b.bars t ≡ false) × (block_reported b ts (at_triples b t env P n) ≡ Err OutOfProfile) = free_token b env g (AtTriples env P n) t ts h in
       at_stop f b env P n t ts g (block_stops f b env g) free few (omega arith) k

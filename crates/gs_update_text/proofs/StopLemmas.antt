@@ -19,7 +19,7 @@ use Rattle.gs_triples.specs.States.{triples_so_far}
 use Rattle.gs_update_text.specs.Blocks.{BlockState, WithinTriples, BlockTurn, Takes, Shuts, Stops, Shut, entered, parted, within, barred, moved, ended_within, block_step, block_run}
 use Rattle.gs_update_text.proofs.LeadLemmas.{Leads, stay, go}
 use Rattle.gs_update_text.proofs.GrowthLemmas.{NotLost}
-use Rattle.gs_update_text.proofs.BlockLemmas.{block_told}
+use Rattle.gs_update_text.proofs.BlockLemmas.{block_reported}
 use Rattle.gs_update_text.proofs.FlatLemmas.{IsPlain, Flat, Moves, same, astray, over, one, string_on, string_over, flat_moves, flat_next}
 
 -- the closing brace
@@ -78,26 +78,26 @@ module _ {Value Triple : Type 0} where
   -- within triples: the tokens up to the one that ends them, after which the block is refused, or up to a triple too many
   pub data StopsWithin (b : Block Value Triple) (P : List Triple) : List Symbol → triples.State Value Triple → Type 0 where
     passes : {s u : triples.State Value Triple} {xs : List Symbol} {env : Context Value Triple} {T : List Triple} {k : Numbers} (t : Symbol) (us : List Symbol) → Leads s xs u → triples_machine.step u t ≡ Ends env T k
-        → list_any b.bars xs ≡ false → b.too_many (P ++ T) ≡ false → block_told b us (parted b t env (P ++ T) k) ≡ Err OutOfProfile → StopsWithin b P (xs ++ t ∷ us) s
+        → list_any b.bars xs ≡ false → b.too_many (P ++ T) ≡ false → block_reported b us (parted b t env (P ++ T) k) ≡ Err OutOfProfile → StopsWithin b P (xs ++ t ∷ us) s
     exceeds : {s u : triples.State Value Triple} {xs : List Symbol} {env : Context Value Triple} {T : List Triple} {k : Numbers} (us : List Symbol) → Leads s xs u → triples_machine.step u (brace 0) ≡ Ends env T k
         → IsExcess b (P ++ T) → Clear xs us → StopsWithin b P (xs ++ us) s
 
   goes_within : (b : Block Value Triple) (P : List Triple) (t : Symbol) (s v : triples.State Value Triple) (ts : List Symbol) → triples_machine.step s t ≡ Goes v → b.bars t ≡ false
       → StopsWithin b P ts v → StopsWithin b P (t ∷ ts) s
-  goes_within b P t s v ts q free (passes {xs = xs} y us l e new few told) = passes y us (go t q l) e (ap (λ z. z || list_any b.bars xs) free ∙ new) few told
+  goes_within b P t s v ts q free (passes {xs = xs} y us l e new few reported) = passes y us (go t q l) e (ap (λ z. z || list_any b.bars xs) free ∙ new) few reported
   goes_within b P t s v ts q free (exceeds {xs = xs} us l e x c) = exceeds us (go t q l) e x (clear_more t xs us c)
 
   -- a turn that refuses is one of a token that may stand
-  unbarred : (b : Block Value Triple) (ts : List Symbol) (m : BlockTurn Value Triple) (c : Bool) → (c ≡ true → m ≡ Stops OutOfProfile → ⊥) → block_told b ts (cond c (barred m) m) ≡ Err OutOfProfile
-      → (c ≡ false) × (block_told b ts m ≡ Err OutOfProfile)
+  unbarred : (b : Block Value Triple) (ts : List Symbol) (m : BlockTurn Value Triple) (c : Bool) → (c ≡ true → m ≡ Stops OutOfProfile → ⊥) → block_reported b ts (cond c (barred m) m) ≡ Err OutOfProfile
+      → (c ≡ false) × (block_reported b ts m ≡ Err OutOfProfile)
   unbarred b ts m false never h = (refl, h)
   unbarred b ts (Takes s) true never h = absurd (cc)
   unbarred b ts (Shuts o n e) true never h = absurd (cc)
   unbarred b ts (Stops (Broken e)) true never h = absurd (cc)
   unbarred b ts (Stops OutOfProfile) true never h = absurd (never refl refl)
 
-  pub free_token : (b : Block Value Triple) (env : Context Value Triple) → Guards b env → (s : BlockState Value Triple) (t : Symbol) (ts : List Symbol) → block_told b ts (block_step b s t) ≡ Err OutOfProfile
-      → (b.bars t ≡ false) × (block_told b ts (moved b s t) ≡ Err OutOfProfile)
+  pub free_token : (b : Block Value Triple) (env : Context Value Triple) → Guards b env → (s : BlockState Value Triple) (t : Symbol) (ts : List Symbol) → block_reported b ts (block_step b s t) ≡ Err OutOfProfile
+      → (b.bars t ≡ false) × (block_reported b ts (moved b s t) ≡ Err OutOfProfile)
   free_token b env g s t ts h = unbarred b ts (moved b s t) (b.bars t) (g.bars s t) h
 
   -- a state that is entered, or that has too many triples
@@ -106,11 +106,11 @@ module _ {Value Triple : Type 0} where
     too_full : NotLost s → b.too_many (P ++ triples_so_far s) ≡ true → Entry b P ts s
 
   counted_entry : (b : Block Value Triple) (P : List Triple) (ts : List Symbol) (s : triples.State Value Triple) (c : Bool) → NotLost s → b.too_many (P ++ triples_so_far s) ≡ c
-      → block_told b ts (cond c (Stops OutOfProfile) (Takes (WithinTriples P s))) ≡ Err OutOfProfile → Entry b P ts s
+      → block_reported b ts (cond c (Stops OutOfProfile) (Takes (WithinTriples P s))) ≡ Err OutOfProfile → Entry b P ts s
   counted_entry b P ts s true n q h = too_full n q
   counted_entry b P ts s false n q h = goes_in q h
 
-  pub entry : (b : Block Value Triple) (P : List Triple) (ts : List Symbol) (s : triples.State Value Triple) → block_told b ts (entered b P s) ≡ Err OutOfProfile → Entry b P ts s
+  pub entry : (b : Block Value Triple) (P : List Triple) (ts : List Symbol) (s : triples.State Value Triple) → block_reported b ts (entered b P s) ≡ Err OutOfProfile → Entry b P ts s
   entry b P ts (Lost e) h = absurd (cc)
   entry b P ts (Opened env n) h = counted_entry b P ts (Opened env n) (b.too_many (P ++ [])) tt refl h
   entry b P ts (Closed v env T n) h = counted_entry b P ts (Closed v env T n) (b.too_many (P ++ T)) tt refl h
@@ -203,7 +203,7 @@ module _ {Value Triple : Type 0} where
 
   ends_stop : (b : Block Value Triple) (P : List Triple) (env : Context Value Triple) → Guards b env → (t : Symbol) (ts : List Symbol) (s : triples.State Value Triple) (c : Context Value Triple) (T : List Triple) (k : Numbers) → (IsPlain env → Flat env s)
       → b.too_many (P ++ triples_so_far s) ≡ false → triples_machine.step s t ≡ Ends c T k → (m : Bool) → b.too_many (P ++ T) ≡ m
-      → block_told b ts (cond m (Stops OutOfProfile) (parted b t c (P ++ T) k)) ≡ Err OutOfProfile → StopsWithin b P (t ∷ ts) s
+      → block_reported b ts (cond m (Stops OutOfProfile) (parted b t c (P ++ T) k)) ≡ Err OutOfProfile → StopsWithin b P (t ∷ ts) s
   ends_stop b P env g t ts s c T k f few q false less h = passes t ts (stay s) q refl less h
   ends_stop b P env g t ts s c T k f few q true many h =
       let plain : IsPlain env = g.plain (P ++ T) many in
@@ -211,7 +211,7 @@ module _ {Value Triple : Type 0} where
 
   turn_stop : (b : Block Value Triple) (P : List Triple) (env : Context Value Triple) → Guards b env → (t : Symbol) (ts : List Symbol) (s : triples.State Value Triple) → (IsPlain env → Flat env s)
       → b.too_many (P ++ triples_so_far s) ≡ false → b.bars t ≡ false → Again b P env ts → (u : triples.Turn Value Triple) → triples_machine.step s t ≡ u
-      → block_told b ts (within b t P u) ≡ Err OutOfProfile → StopsWithin b P (t ∷ ts) s
+      → block_reported b ts (within b t P u) ≡ Err OutOfProfile → StopsWithin b P (t ∷ ts) s
   turn_stop b P env g t ts s f few free again (Goes v) q h = goes_stop b P env g t ts s v f few free q again (entry b P ts v h)
   turn_stop b P env g t ts s f few free again (Ends c T k) q h = ends_stop b P env g t ts s c T k f few q (b.too_many (P ++ T)) refl h
 
@@ -220,5 +220,5 @@ module _ {Value Triple : Type 0} where
   unfolding block_run
   stops_within b P env g [] s f few h = end_turn b P env g s f few (triples_machine.step s (brace 0)) refl (ap (rejection_or OutOfProfile) h)
   stops_within b P env g (t ∷ ts) s f few h =
-      let (free, k) : (b.bars t ≡ false) × (block_told b ts (within b t P (triples_machine.step s t)) ≡ Err OutOfProfile) = free_token b env g (WithinTriples P s) t ts h in
+      let (free, k) : (b.bars t ≡ false) × (block_reported b ts (within b t P (triples_machine.step s t)) ≡ Err OutOfProfile) = free_token b env g (WithinTriples P s) t ts h in
       turn_stop b P env g t ts s f few free (stops_within b P env g ts) (triples_machine.step s t) refl k

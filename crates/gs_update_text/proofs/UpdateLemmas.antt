@@ -17,13 +17,13 @@ use Rattle.gs_update_text.specs.Operations.{Scope, Block, in_language, insert_bl
 use Rattle.gs_update_text.specs.Grammar as rule
 use Rattle.gs_update_text.specs.Grammar.{IsTemplate, IsPrologue, IsOperation, AreOperations, AreNew}
 use Rattle.gs_update_text.specs.Blocks.{BlockState, AtTriples, BlockTurn, Takes, Shuts, Stops, Shut, shut, block_step, block_ended, block_run}
-use Rattle.gs_update_text.specs.States.{State, Between, InData, InWhere, After, Rejected, Turn}
+use Rattle.gs_update_text.specs.States.{State, Between, InData, InWhere, After, Rejected, Transition}
 use Rattle.gs_update_text.specs.Machine.{prefaced, blocked, step, ended, updates}
-use Rattle.gs_update_text.proofs.BlockLemmas.{Bounds, Parts, block_told, template_run}
+use Rattle.gs_update_text.proofs.BlockLemmas.{Bounds, Parts, block_reported, template_run}
 
--- what is said from a turn on
-abbrev pub told : Turn → List Symbol → Request
-told u ts = joined u.1 (rest updates u.0 ts)
+-- what is said from a transition on
+abbrev pub reported : Transition → List Symbol → Request
+reported u ts = joined u.1 (rest updates u.0 ts)
 
 -- after a departure nothing is said
 pub rejected_rest : (r : Rejection) (ts : List Symbol) → rest updates (Rejected r) ts ≡ ([], Some r)
@@ -48,7 +48,7 @@ module _ {Value Triple : Type 0} where
 
   block_turn : (inside : BlockState Value Triple → State) (b : Block Value Triple) (env : Scope) (ts : List Symbol)
       → ((s : BlockState Value Triple) → rest updates (inside s) ts ≡ after_block env (block_run b ts s)) → (u : BlockTurn Value Triple)
-      → told (blocked inside env u) ts ≡ after_block env (block_told b ts u)
+      → reported (blocked inside env u) ts ≡ after_block env (block_reported b ts u)
   block_turn inside b env ts again (Takes s) = again s
   block_turn inside b env ts again (Shuts o n e) = refl
   block_turn inside b env ts again (Stops r) = rejected_rest r ts
@@ -59,7 +59,7 @@ module _ {Value Triple : Type 0} where
   unfolding rest block_run
   block_rest inside b env h [] s = ap (λ z. let p : Request = ([], z) in p) (h.ends s)
   block_rest inside b env h (t ∷ ts) s =
-      ap (λ z. told z ts) (h.steps s t) ∙ block_turn inside b env ts (block_rest inside b env h ts) (block_step b s t)
+      ap (λ z. reported z ts) (h.steps s t) ∙ block_turn inside b env ts (block_rest inside b env h ts) (block_step b s t)
 
 -- the blocks of the operations
 pub holds_data : (b : Block Term RdfTriple) (env : Scope) → Holds (InData b env) b env
@@ -106,7 +106,7 @@ block_read : {Value Triple : Type 0} {env : Scope} {n k : Numbers} {xs : List Sy
 block_read {env = env} {n = n} {k = k} {xs = xs} {T = T} inside b e us o h bounds a new free few made =
     ap (rest updates (inside (AtTriples (in_language b.language env) [] n))) (append_assoc xs (Foreign kind.CloseBrace e ∷ []) us)
     ∙ block_rest inside b env h (xs ++ Foreign kind.CloseBrace e ∷ us) (AtTriples (in_language b.language env) [] n)
-    ∙ ap (after_block env) (template_run b bounds [] e us a new free few ∙ ap (λ z. block_told b us (shut z k e)) made)
+    ∙ ap (after_block env) (template_run b bounds [] e us a new free few ∙ ap (λ z. block_reported b us (shut z k e)) made)
 
 -- one pattern or more
 patterns_made : (T : List Pattern) → 1 ≤ length T → some_patterns T ≡ Some (DeletesWhere T)

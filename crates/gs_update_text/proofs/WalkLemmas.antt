@@ -7,7 +7,7 @@ use Rattle.gs_lex.specs.declared.kinds.TokenKind.{TokenKind}
 use Rattle.gs_lex.specs.declared.kinds.TokenKind.TheVariants as kind
 use Rattle.gs_machine.specs.Machines.{joined, rest}
 use Rattle.gs_blank.specs.Numbers.{Numbers}
-use Rattle.gs_triples.specs.Symbols.{Symbol, AWord, Reference, Namespace, Dot, Semicolon, PrefixWord, BaseWord, Foreign}
+use Rattle.gs_triples.specs.Symbols.{Symbol, ATerm, Reference, Namespace, Dot, Semicolon, PrefixWord, BaseWord, Foreign}
 use Rattle.gs_triples.specs.Meanings.{Syntax}
 use Rattle.gs_triples.specs.Directives.{with_prefix, with_base}
 use Rattle.gs_update_text.specs.Requests.{UpdateOperation, DeletesWhere, Rejection, Broken, OutOfProfile, Written, Request}
@@ -34,9 +34,9 @@ Stopped env n ts OutOfProfile = Departs env n ts
 -- what the machine says, if it holds of each production.
 pub record Reads (e : Option Rejection) (G : Scope → Numbers → List Symbol → List Written → Type 0) : Type 0 where
   pub base : {env next : Scope} {n : Numbers} {us : List Symbol} {os : List Written} (i : List ℕ) (a : ℕ) → with_base env i ≡ Some next → G next n us os
-      → G env n (BaseWord ∷ AWord (Reference i a) ∷ us) os
+      → G env n (BaseWord ∷ ATerm (Reference i a) ∷ us) os
   pub prefix : {env next : Scope} {n : Numbers} {us : List Symbol} {os : List Written} (x i : List ℕ) (a : ℕ) → with_prefix env x i ≡ Some next → G next n us os
-      → G env n (PrefixWord ∷ AWord (Namespace x) ∷ AWord (Reference i a) ∷ us) os
+      → G env n (PrefixWord ∷ ATerm (Namespace x) ∷ ATerm (Reference i a) ∷ us) os
   pub ends : (env : Scope) (n : Numbers) → None ≡ e → G env n [] []
   pub last : {env : Scope} {n k : Numbers} {ys : List Symbol} {o : Written} → IsOperation env n ys o k → None ≡ e → G env n ys (o ∷ [])
   pub more : {env : Scope} {n k : Numbers} {ys zs : List Symbol} {o : Written} {os : List Written} → IsOperation env n ys o k → G env k zs os
@@ -194,12 +194,12 @@ module _ (e : Option Rejection) (G : Scope → Numbers → List Symbol → List 
   delete_back f env n a (t ∷ ts) os again size h = rejected env n _ ts os (Broken Syntax) tt h
 
   base_declared : (f : ℕ) (env : Scope) (n : Numbers) (i : List ℕ) (a : ℕ) (us : List Symbol) (os : List Written) (m : Option Scope) → with_base env i ≡ m → Known f → length us ≤ f
-      → rest updates (prefaced n m) us ≡ (os, e) → G env n (BaseWord ∷ AWord (Reference i a) ∷ us) os
+      → rest updates (prefaced n m) us ≡ (os, e) → G env n (BaseWord ∷ ATerm (Reference i a) ∷ us) os
   base_declared f env n i a us os None q again size h = rejected env n _ us os (Broken Syntax) tt h
   base_declared f env n i a us os (Some next) q again size h = reads.base i a q (again next n us os size h)
 
   prefix_declared : (f : ℕ) (env : Scope) (n : Numbers) (x i : List ℕ) (a : ℕ) (us : List Symbol) (os : List Written) (m : Option Scope) → with_prefix env x i ≡ m → Known f → length us ≤ f
-      → rest updates (prefaced n m) us ≡ (os, e) → G env n (PrefixWord ∷ AWord (Namespace x) ∷ AWord (Reference i a) ∷ us) os
+      → rest updates (prefaced n m) us ≡ (os, e) → G env n (PrefixWord ∷ ATerm (Namespace x) ∷ ATerm (Reference i a) ∷ us) os
   prefix_declared f env n x i a us os None q again size h = rejected env n _ us os (Broken Syntax) tt h
   prefix_declared f env n x i a us os (Some next) q again size h = reads.prefix x i a q (again next n us os size h)
 
@@ -207,24 +207,24 @@ module _ (e : Option Rejection) (G : Scope → Numbers → List Symbol → List 
       → rest updates (InBase env n) ts ≡ (os, e) → G env n (BaseWord ∷ ts) os
   unfolding rest step ended
   base_back f env n [] os again size h = stop env n _ os (Broken Syntax) tt h
-  base_back f env n (AWord (Reference i a) ∷ us) os again size h = base_declared f env n i a us os (with_base env i) refl again (omega arith) h
-  base_back f env n (AWord w ∷ us) os again size h = rejected env n _ us os (Broken Syntax) tt h
+  base_back f env n (ATerm (Reference i a) ∷ us) os again size h = base_declared f env n i a us os (with_base env i) refl again (omega arith) h
+  base_back f env n (ATerm w ∷ us) os again size h = rejected env n _ us os (Broken Syntax) tt h
   base_back f env n (t ∷ us) os again size h = rejected env n _ us os (Broken Syntax) tt h
 
   iri_back : (f : ℕ) (env : Scope) (n : Numbers) (x : List ℕ) (ts : List Symbol) (os : List Written) → Known f → length ts ≤ f
-      → rest updates (InPrefixIri x env n) ts ≡ (os, e) → G env n (PrefixWord ∷ AWord (Namespace x) ∷ ts) os
+      → rest updates (InPrefixIri x env n) ts ≡ (os, e) → G env n (PrefixWord ∷ ATerm (Namespace x) ∷ ts) os
   unfolding rest step ended
   iri_back f env n x [] os again size h = stop env n _ os (Broken Syntax) tt h
-  iri_back f env n x (AWord (Reference i a) ∷ us) os again size h = prefix_declared f env n x i a us os (with_prefix env x i) refl again (omega arith) h
-  iri_back f env n x (AWord w ∷ us) os again size h = rejected env n _ us os (Broken Syntax) tt h
+  iri_back f env n x (ATerm (Reference i a) ∷ us) os again size h = prefix_declared f env n x i a us os (with_prefix env x i) refl again (omega arith) h
+  iri_back f env n x (ATerm w ∷ us) os again size h = rejected env n _ us os (Broken Syntax) tt h
   iri_back f env n x (t ∷ us) os again size h = rejected env n _ us os (Broken Syntax) tt h
 
   prefix_back : (f : ℕ) (env : Scope) (n : Numbers) (ts : List Symbol) (os : List Written) → Known f → length ts ≤ f
       → rest updates (InPrefix env n) ts ≡ (os, e) → G env n (PrefixWord ∷ ts) os
   unfolding rest step ended
   prefix_back f env n [] os again size h = stop env n _ os (Broken Syntax) tt h
-  prefix_back f env n (AWord (Namespace x) ∷ us) os again size h = iri_back f env n x us os again (omega arith) h
-  prefix_back f env n (AWord w ∷ us) os again size h = rejected env n _ us os (Broken Syntax) tt h
+  prefix_back f env n (ATerm (Namespace x) ∷ us) os again size h = iri_back f env n x us os again (omega arith) h
+  prefix_back f env n (ATerm w ∷ us) os again size h = rejected env n _ us os (Broken Syntax) tt h
   prefix_back f env n (t ∷ us) os again size h = rejected env n _ us os (Broken Syntax) tt h
 
   -- the first word of another form

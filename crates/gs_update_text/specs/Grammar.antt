@@ -7,7 +7,7 @@ use Rattle.gs_term.specs.declared.patterns.Pattern.{Pattern}
 use Rattle.gs_lex.specs.Tokens.{Lexeme}
 use Rattle.gs_lex.specs.declared.kinds.TokenKind.TheVariants as kind
 use Rattle.gs_blank.specs.Numbers.{Numbers, no_numbers}
-use Rattle.gs_triples.specs.Symbols.{Symbol, AWord, Reference, Namespace, Dot, Semicolon, PrefixWord, BaseWord, Foreign, symbols_of}
+use Rattle.gs_triples.specs.Symbols.{Symbol, ATerm, Reference, Namespace, Dot, Semicolon, PrefixWord, BaseWord, Foreign, symbols_of}
 use Rattle.gs_triples.specs.Languages.{of_terms}
 use Rattle.gs_triples.specs.Meanings.{Context}
 use Rattle.gs_triples.specs.Directives.{without_prefixes, with_prefix, with_base}
@@ -30,10 +30,10 @@ pub data IsPrologue : Scope → List Symbol → Scope → Type 0 where
   nothing : (env : Scope) → IsPrologue env [] env
   -- [5] BaseDecl
   base : {env next last : Scope} {xs : List Symbol} (i : List ℕ) (e : ℕ) → with_base env i ≡ Some next
-      → IsPrologue next xs last → IsPrologue env (BaseWord ∷ AWord (Reference i e) ∷ xs) last
+      → IsPrologue next xs last → IsPrologue env (BaseWord ∷ ATerm (Reference i e) ∷ xs) last
   -- [6] PrefixDecl
   prefix : {env next last : Scope} {xs : List Symbol} (p i : List ℕ) (e : ℕ) → with_prefix env p i ≡ Some next
-      → IsPrologue next xs last → IsPrologue env (PrefixWord ∷ AWord (Namespace p) ∷ AWord (Reference i e) ∷ xs) last
+      → IsPrologue next xs last → IsPrologue env (PrefixWord ∷ ATerm (Namespace p) ∷ ATerm (Reference i e) ∷ xs) last
 
 -- [49] QuadData and [48] QuadPattern, of triples alone: braces around these tokens, the closing one with its end
 abbrev pub braced : ℕ → List Symbol → ℕ → List Symbol

@@ -5,14 +5,14 @@ use Rattle.gs_lex.specs.Tokens.{Lexeme}
 use Rattle.gs_lex.specs.declared.kinds.TokenKind.{TokenKind}
 use Rattle.gs_lex.specs.declared.kinds.TokenKind.TheVariants as kind
 use Rattle.gs_blank.specs.Numbers.{Numbers, no_numbers}
-use Rattle.gs_triples.specs.Symbols.{Symbol, AWord, Reference, Namespace, Semicolon, PrefixWord, BaseWord, Foreign, symbols_of}
+use Rattle.gs_triples.specs.Symbols.{Symbol, ATerm, Reference, Namespace, Semicolon, PrefixWord, BaseWord, Foreign, symbols_of}
 use Rattle.gs_triples.specs.Meanings.{Syntax}
 use Rattle.gs_triples.specs.Directives.{with_prefix, with_base}
 use Rattle.gs_update_text.specs.Requests.{Rejection, Broken, OutOfProfile, Written, Request}
 use Rattle.gs_update_text.specs.Operations.{Scope}
 use Rattle.gs_update_text.specs.Grammar.{first_scope}
 use Rattle.gs_update_text.specs.Blocks.{BlockState, BlockTurn, Takes, Shuts, Stops, block_step, block_ended}
-use Rattle.gs_update_text.specs.States.{Form, InsertData, DeleteData, DeleteWhere, State, Between, InPrefix, InPrefixIri, InBase, AfterInsert, AfterDelete, AtBrace, InData, InWhere, After, Rejected, block_of, Turn, quiet}
+use Rattle.gs_update_text.specs.States.{Form, InsertData, DeleteData, DeleteWhere, State, Between, InPrefix, InPrefixIri, InBase, AfterInsert, AfterDelete, AtBrace, InData, InWhere, After, Rejected, block_of, Transition, quiet}
 
 -- a broken grammar
 abbrev pub syntax_fault : State
@@ -57,22 +57,22 @@ opened f k env n = syntax_fault
 
 module _ {Value Triple : Type 0} where
   -- a symbol in a block
-  abbrev pub blocked : (BlockState Value Triple → State) → Scope → BlockTurn Value Triple → Turn
+  abbrev pub blocked : (BlockState Value Triple → State) → Scope → BlockTurn Value Triple → Transition
   blocked inside env (Takes s) = quiet (inside s)
   blocked inside env (Shuts o n e) = (After env n, record { operation = o; end = e } ∷ [])
   blocked inside env (Stops r) = quiet (Rejected r)
 
 -- one symbol more
-unfoldable pub step : State → Symbol → Turn
+unfoldable pub step : State → Symbol → Transition
 step (Between env n) PrefixWord = quiet (InPrefix env n)
 step (Between env n) BaseWord = quiet (InBase env n)
 step (Between env n) (Foreign k e) = quiet (begun k env n)
 step (Between env n) t = quiet syntax_fault
-step (InPrefix env n) (AWord (Namespace p)) = quiet (InPrefixIri p env n)
+step (InPrefix env n) (ATerm (Namespace p)) = quiet (InPrefixIri p env n)
 step (InPrefix env n) t = quiet syntax_fault
-step (InPrefixIri p env n) (AWord (Reference i e)) = quiet (prefaced n (with_prefix env p i))
+step (InPrefixIri p env n) (ATerm (Reference i e)) = quiet (prefaced n (with_prefix env p i))
 step (InPrefixIri p env n) t = quiet syntax_fault
-step (InBase env n) (AWord (Reference i e)) = quiet (prefaced n (with_base env i))
+step (InBase env n) (ATerm (Reference i e)) = quiet (prefaced n (with_base env i))
 step (InBase env n) t = quiet syntax_fault
 step (AfterInsert env n) (Foreign k e) = quiet (inserting k env n)
 step (AfterInsert env n) t = quiet syntax_fault

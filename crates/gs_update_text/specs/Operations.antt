@@ -6,9 +6,9 @@ use Rattle.gs_model.specs.Terms.{Term}
 use Rattle.gs_model.specs.Triples.{RdfTriple}
 use Rattle.gs_term.specs.declared.patterns.Part.{Part}
 use Rattle.gs_term.specs.declared.patterns.Pattern.{Pattern}
-use Rattle.gs_escape.specs.Tokens.{behind}
+use Rattle.gs_escape.specs.Tokens.{rest_after}
 use Rattle.gs_blank.specs.Numbers.{Numbers, known}
-use Rattle.gs_triples.specs.Symbols.{Symbol, AWord, Label}
+use Rattle.gs_triples.specs.Symbols.{Symbol, ATerm, Label}
 use Rattle.gs_triples.specs.Languages.{Language, of_terms, of_patterns}
 use Rattle.gs_triples.specs.Meanings.{Context}
 pub use Rattle.gs_triples.specs.Meanings.{in_language}
@@ -38,7 +38,7 @@ is_among_first k (Some m) = not (nat_lt k m)
 
 -- a token that is a label with one of the first k numbers
 abbrev pub is_old : ℕ → Numbers → Symbol → Bool
-is_old k n (AWord (Label x)) = is_among_first k (option_and_then (known n) (behind (codes "_:") x))
+is_old k n (ATerm (Label x)) = is_among_first k (option_and_then (known n) (rest_after (codes "_:") x))
 is_old k n _ = false
 
 -- how an operation's block is read: its triples' language, the tokens that may not stand, how many triples are too many,

@@ -41,9 +41,9 @@ block_of DeleteData env n = InData delete_block env (AtTriples (in_language dele
 block_of DeleteWhere env n = InWhere where_block env (AtTriples (in_language sought env) [] n)
 
 -- the state after a symbol, and the operation that it ends
-abbrev pub Turn : Type 0
-Turn = State × List Written
+abbrev pub Transition : Type 0
+Transition = State × List Written
 
 -- no operation ends
-abbrev pub quiet : State → Turn
+abbrev pub quiet : State → Transition
 quiet s = (s, [])

@@ -107,9 +107,9 @@ module _ {R : Type 0} (meaning_of : R → List ℕ → Meaning) (Leads : R → L
               };
           complete = λ means x ts h _ front longest.
               let r = reads_on k means x ts none h in
-              let told : (λ z. triples_of (meaning_of k.reader z).0) ≡ (λ z. triples_of (means z).0) = λ i z. triples_of (r.same z i).0 in
+              let same_triples : (λ z. triples_of (meaning_of k.reader z).0) ≡ (λ z. triples_of (means z).0) = λ i z. triples_of (r.same z i).0 in
               let Q : (List ℕ → List RdfTriple) → Type 0 = λ t. AreSettled t front (ts ++ f.given) in
-              subst Q told (f.settled x ts r.leads front longest);
+              subst Q same_triples (f.settled x ts r.leads front longest);
           latched = λ e is. absurd (let clash : None ≡ Some e = sym none ∙ is in cc);
         };
         silent = λ is. absurd (let clash : false ≡ true = ap is_some (sym still) ∙ is in cc);
@@ -122,7 +122,7 @@ module _ {R : Type 0} (meaning_of : R → List ℕ → Meaning) (Leads : R → L
       → FeedsPiece meaning_of Leads closed k new piece before after
   keeps_fault o e k new piece before after none kept stays err memory open_still reports =
       let same = on_err (after ≡ before) e err stays in
-      let tells = IfErr-at_err (λ e. (z : List ℕ) (us : List RdfTriple) → Leads k.reader z us → (w : List ℕ) → Reports e (meaning_of k.reader (z ++ piece ++ w))) err reports in
+      let is_reported = IfErr-at_err (λ e. (z : List ℕ) (us : List RdfTriple) → Leads k.reader z us → (w : List ℕ) → Reports e (meaning_of k.reader (z ++ piece ++ w))) err reports in
       let fault : (m : Meaning) → Reports e m → HasFault e m = λ m. reported_fault e m memory open_still in record {
         feeds = record {
           given = [];
@@ -134,7 +134,7 @@ module _ {R : Type 0} (meaning_of : R → List ℕ → Meaning) (Leads : R → L
                 begun = λ y. (let B : List ℕ → Type 0 = λ w. Begins (triples_of (means w).0) (ts ++ []) in
                     let Q : List RdfTriple → Type 0 = λ w. Begins (triples_of (means (x ++ (piece ++ y))).0) w in
                     subst B (sym (append_assoc x piece y)) (subst Q (sym (append-nil ts)) (h.begun (piece ++ y))));
-                stands = subst P (sym kept) (λ y. subst S (r.same (x ++ piece ++ y)) (fault (meaning_of k.reader (x ++ piece ++ y)) (tells x ts r.leads y)));
+                stands = subst P (sym kept) (λ y. subst S (r.same (x ++ piece ++ y)) (fault (meaning_of k.reader (x ++ piece ++ y)) (is_reported x ts r.leads y)));
               };
           complete = λ means x ts h gone. absurd (let clash : None ≡ Some e = sym gone ∙ kept in cc);
           latched = λ f is. absurd (let clash : None ≡ Some f = sym none ∙ is in cc);
@@ -265,9 +265,9 @@ module _ {R : Type 0} (meaning_of : R → List ℕ → Meaning) (Leads : R → L
     unchanged = on_err (after ≡ before) e err stays;
     first = λ means x ts h.
         let r = reads_on k means x ts none h in
-        let tells = IfErr-at_err (λ e. (z : List ℕ) (us : List RdfTriple) → Leads k.reader z us → Reports e (meaning_of k.reader z)) err reports in
+        let is_reported = IfErr-at_err (λ e. (z : List ℕ) (us : List RdfTriple) → Leads k.reader z us → Reports e (meaning_of k.reader z)) err reports in
         let S : Meaning → Type 0 = λ m. HasFault e m in
-        subst S (r.same x) (reported_fault e (meaning_of k.reader x) memory open_still (tells x ts r.leads));
+        subst S (r.same x) (reported_fault e (meaning_of k.reader x) memory open_still (is_reported x ts r.leads));
   }
 
   -- a text ends to a reading without a fault

@@ -11,7 +11,7 @@ use Rattle.gs_drill.specs.Drills.{RunState, Does}
 use Rattle.gs_drill.specs.Taking.{Replies, DoesCommand}
 use Rattle.gs_drill.specs.Standing.{Standing, desk_of, run_state}
 use Rattle.gs_drill.proofs.WritingLemmas.{Appends-none}
-use Rattle.gs_drill.proofs.PlayLemmas.{does_by, told_by}
+use Rattle.gs_drill.proofs.PlayLemmas.{does_by, printed_by}
 use Rattle.gs_drill.proofs.drills.do_command.Goals as goal
 
 pub returns-in-Nothing : goal.returns-in-Nothing
@@ -45,11 +45,11 @@ returns-in-Count g c = λ st.
     let s = run_state c.args.begun.now st in
     let text = counts_text (nodes_in s.desk.shown) (triples_in s.desk.shown.view.totals.dataset) in
     let done : Desk → RunState = λ d. record { begun = true; cut = c.args.uploads.now.cut; desk = d } in
-    let made : List ℕ → Desk → Type 0 = λ told d. (d ≡ s.desk) × (told ≡ text) in
+    let made : List ℕ → Desk → Type 0 = λ printed d. (d ≡ s.desk) × (printed ≡ text) in
     let P : Command → Type 0 = λ k. DoesCommand s k {T = Standing c.args.store.now c.args.uploads.now} (run_state true) (held c.args.out.now) (held c.do_count.new.out) c.do_count.result in
     subst P (sym c.in-Count.is)
     (does_by {T = Standing c.args.store.now c.args.uploads.now} desk_of s Count done made (held c.args.out.now) (held c.do_count.new.out) c.do_count.result
-    (λ told d m. (refl, refl, m.0, m.1)) (told_by desk_of st made text (held c.args.out.now) (held c.do_count.new.out) c.do_count.result (refl, refl) c.do_count.ensures))
+    (λ printed d m. (refl, refl, m.0, m.1)) (printed_by desk_of st made text (held c.args.out.now) (held c.do_count.new.out) c.do_count.result (refl, refl) c.do_count.ensures))
 
 pub returns-else-not-takes : goal.returns-else-not-takes
 returns-else-not-takes g c = λ st.

@@ -28,12 +28,12 @@ loop-rest-preserved g c =
     let held = g.W.Write.contents in
     let st = c.loop-rest.invariant.0 in
     let takes = c.take_line in
-    let told = c.in_default.ensures st in (
-      told.last,
-      Playing-more c.args.input.now c.loop-rest.rest.now c.split.result.0.now c.split.result.1.now c.loop-rest.number (run_state c.loop-rest.begun st) (run_state takes.new.begun told.last)
+    let printed = c.in_default.ensures st in (
+      printed.last,
+      Playing-more c.args.input.now c.loop-rest.rest.now c.split.result.0.now c.split.result.1.now c.loop-rest.number (run_state c.loop-rest.begun st) (run_state takes.new.begun printed.last)
           (held c.args.out.now) (held c.loop-rest.out) (held takes.new.out)
           c.loop-rest.invariant.1 (filled c.loop-rest.rest.now c.is_empty.result c.is_empty.ensures c.loop-rest-test.true) c.split.ensures.before c.split.ensures.after
-          (record { text = told.text; makes = told.makes; written = told.written }),
+          (record { text = printed.text; makes = printed.makes; written = printed.written }),
     )
 
 pub returns : goal.returns

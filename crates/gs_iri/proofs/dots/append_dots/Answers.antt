@@ -6,7 +6,7 @@ use Rattle.std.proofs.lemmas.Str.{IsUtf8-string_bytes}
 use Rattle.gs_iri.specs.Dots.{segments_of, closed, dots}
 use Rattle.gs_iri.specs.Output.{put}
 use Rattle.gs_iri.specs.Resolving.{front_text}
-use Rattle.gs_iri.proofs.DotsLemmas.{dots-text, dots_behind}
+use Rattle.gs_iri.proofs.DotsLemmas.{dots-text, dots_after}
 use Rattle.gs_iri.proofs.TextLemmas.{spelled_whole, spelled_along, drop_whole, appended, on_ok}
 use Rattle.gs_iri.proofs.dots.append_dots.Goals as goal
 
@@ -43,5 +43,5 @@ returns-in_ok-begun-in-Some-clause-ok c =
     on_ok c.put_path-in-Some.result
     (λ h. appended (string_bytes c.args.resolved.now) (string_bytes c.put_path-in-Some.new.resolved) _ c.len-start.result start (c.put_path-in-Some.ensures.front ∙ c.put_segments.ensures.front)
     (h ∙ ap (λ z. (fold put z (closed (segments_of c.args.path.now))).1) (c.in_ok-begun-in-Some.ensures.output ∙ ap (λ z. fold put (false, z) (segments_of c.in-Some.segments.now)) (drop_whole (string_bytes c.args.resolved.now) c.len-start.result start))
-    ∙ dots_behind c.in-Some.segments.now c.args.path.now ∙ ap (λ o. dots (front_text (option_copied o) ++ c.args.path.now)) (sym c.in-Some.is)))
+    ∙ dots_after c.in-Some.segments.now c.args.path.now ∙ ap (λ o. dots (front_text (option_copied o) ++ c.args.path.now)) (sym c.in-Some.is)))
     c.put_path-in-Some.ensures.output

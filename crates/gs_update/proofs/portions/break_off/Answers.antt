@@ -1,16 +1,16 @@
 use Rattle.gs_lex.specs.Tokens as lexer
 use Rattle.gs_lex.specs.Lexemes.{lexemes_of}
 use Rattle.gs_update.specs.Portions.{end_of}
-use Rattle.gs_update.proofs.PortionLemmas.{tells_ended, tells_broken}
+use Rattle.gs_update.proofs.PortionLemmas.{reports_ended, reports_broken}
 use Rattle.gs_update.proofs.portions.break_off.Goals as goal
 
 pub returns-in-Ok : goal.returns-in-Ok
 returns-in-Ok c = λ n.
     let a = c.args.parser.now in
     let done = c.in-Ok.ensures.ok in
-    tells_broken a.last c.conclude.new.parser.last n (end_of a (lexemes_of c.args.tokens.now)) done.whole done.last
+    reports_broken a.last c.conclude.new.parser.last n (end_of a (lexemes_of c.args.tokens.now)) done.whole done.last
 
 pub returns-in-Err : goal.returns-in-Err
 returns-in-Err c = λ n.
     let a = c.args.parser.now in
-    tells_ended c.in-Err.refusal a.last (lexer.AtFault n) (end_of a (lexemes_of c.args.tokens.now)) c.in-Err.ensures.fault
+    reports_ended c.in-Err.refusal a.last (lexer.AtFault n) (end_of a (lexemes_of c.args.tokens.now)) c.in-Err.ensures.fault

@@ -6,8 +6,8 @@ use Rattle.gs_lex.specs.Lexemes.{lexemes_of}
 use Rattle.gs_lex.specs.Lexers.{FeedRefused}
 use Rattle.gs_lex.specs.declared.tokens.Token.{Token}
 use Rattle.gs_turtle.specs.Documents.{ended_by}
-use Rattle.gs_turtle.specs.Portions.{end_of, Takes, TellsBehind}
-use Rattle.gs_turtle.proofs.PortionLemmas.{tells-open}
+use Rattle.gs_turtle.specs.Portions.{end_of, Takes, ReportsAfter}
+use Rattle.gs_turtle.proofs.PortionLemmas.{reports-open}
 use Rattle.gs_turtle.proofs.HistoryLemmas.{reads-portion, refused-portion, broken-portion}
 use Rattle.gs_turtle.proofs.readers.TurtleReader.take_portion.Goals as goal
 
@@ -24,14 +24,14 @@ pub returns-in-Ok-clause-fault : goal.returns-in-Ok-clause-fault
 returns-in-Ok-clause-fault c =
     let a = c.args.self.now in
     IfErr-weaker c.go_on.result _ _
-    (λ e told. refused-portion e a (record a { lexer = c.feed.new.self }) c.args.portion.now c.clear.new.self.items c.feed.new.tokens.items c.clear.ensures.items c.in-Ok.ensures.ok
-    (subst (λ (z : List Token). (us : List Lexeme) → TellsBehind a.parser.last e (end_of a.parser (lexemes_of z ++ us))) c.deref.ensures.value told))
+    (λ e reported. refused-portion e a (record a { lexer = c.feed.new.self }) c.args.portion.now c.clear.new.self.items c.feed.new.tokens.items c.clear.ensures.items c.in-Ok.ensures.ok
+    (subst (λ (z : List Token). (us : List Lexeme) → ReportsAfter a.parser.last e (end_of a.parser (lexemes_of z ++ us))) c.deref.ensures.value reported))
     c.go_on.ensures.fault
 
-pub returns-in-Ok-clause-told : goal.returns-in-Ok-clause-told
-returns-in-Ok-clause-told c =
+pub returns-in-Ok-clause-reported : goal.returns-in-Ok-clause-reported
+returns-in-Ok-clause-reported c =
     let p = c.args.self.now.parser in
-    IfErr-weaker c.go_on.result _ _ (λ e told. tells-open e p.last (end_of p (lexemes_of c.deref.result.now ++ [])) (told [])) c.go_on.ensures.fault
+    IfErr-weaker c.go_on.result _ _ (λ e reported. reports-open e p.last (end_of p (lexemes_of c.deref.result.now ++ [])) (reported [])) c.go_on.ensures.fault
 
 pub returns-in-Err-Syntax-clause-fault : goal.returns-in-Err-Syntax-clause-fault
 returns-in-Err-Syntax-clause-fault c =
@@ -40,9 +40,9 @@ returns-in-Err-Syntax-clause-fault c =
     let new = c.feed.new.tokens.items in
     broken-portion c.break_off.result a c.args.portion.now old new c.in-Err-Syntax.field-0-0 c.clear.ensures.items
     (λ u x ts l. subst (FeedRefused u (x ++ c.args.portion.now) ts old new) c.in-Err-Syntax.field-0-is (c.in-Err-Syntax.ensures.fault u x ts l))
-    (λ n. subst (λ (z : List Token). TellsBehind a.parser.last c.break_off.result (ended_by (lexer.AtFault n) (end_of a.parser (lexemes_of z)))) c.deref-in-Err-Syntax.ensures.value (c.break_off.ensures.fault n))
+    (λ n. subst (λ (z : List Token). ReportsAfter a.parser.last c.break_off.result (ended_by (lexer.AtFault n) (end_of a.parser (lexemes_of z)))) c.deref-in-Err-Syntax.ensures.value (c.break_off.ensures.fault n))
 
-pub returns-in-Err-Syntax-clause-told : goal.returns-in-Err-Syntax-clause-told
-returns-in-Err-Syntax-clause-told c =
+pub returns-in-Err-Syntax-clause-reported : goal.returns-in-Err-Syntax-clause-reported
+returns-in-Err-Syntax-clause-reported c =
     let p = c.args.self.now.parser in
-    tells-open c.break_off.result p.last (ended_by (lexer.AtFault 0) (end_of p (lexemes_of c.deref-in-Err-Syntax.result.now))) (c.break_off.ensures.fault 0)
+    reports-open c.break_off.result p.last (ended_by (lexer.AtFault 0) (end_of p (lexemes_of c.deref-in-Err-Syntax.result.now))) (c.break_off.ensures.fault 0)

@@ -1,13 +1,13 @@
 use Rattle.std.proofs.Common.{subst}
 use Rattle.std.proofs.lemmas.Result.{on_ok_weaker}
-use Rattle.gs_update_places.specs.Steps.{turn_at_place}
+use Rattle.gs_update_places.specs.Steps.{transition_at_place}
 use Rattle.gs_update.specs.Steps.{Moves, StepsBlock}
 use Rattle.gs_update.proofs.SteppingLemmas.{led_there, goes_on, stops_there}
 use Rattle.gs_update.proofs.parser.UpdateParser.follow.Goals as goal
 
 pub returns-in-Takes : goal.returns-in-Takes
 returns-in-Takes c = λ from t h.
-    led_there c.args.self.now (turn_at_place from t) (goes_on from c.args.self.now.place t (subst (λ u. StepsBlock from t u c.args.self.now.place) c.in-Takes.is h))
+    led_there c.args.self.now (transition_at_place from t) (goes_on from c.args.self.now.place t (subst (λ u. StepsBlock from t u c.args.self.now.place) c.in-Takes.is h))
 
 pub returns-in-Shuts : goal.returns-in-Shuts
 returns-in-Shuts c = λ from t h. c.shut.ensures from t (subst (λ u. StepsBlock from t u c.args.self.now.place) c.in-Shuts.is h)

@@ -5,7 +5,7 @@ use Rattle.gs_lex.specs.Lexemes.{lexemes_of}
 use Rattle.gs_lex.specs.Lexers.{FinishRefused}
 use Rattle.gs_lex.specs.declared.tokens.Token.{Token}
 use Rattle.gs_update_text.specs.Texts.{ended_by}
-use Rattle.gs_update.specs.Portions.{end_of, Concludes, TellsBehind}
+use Rattle.gs_update.specs.Portions.{end_of, Concludes, ReportsAfter}
 use Rattle.gs_update.proofs.HistoryLemmas.{ends_whole, refused_at_end}
 use Rattle.gs_update.proofs.readers.UpdateReader.take_end.Goals as goal
 
@@ -22,8 +22,8 @@ pub returns-in-Ok-clause-fault : goal.returns-in-Ok-clause-fault
 returns-in-Ok-clause-fault c =
     let a = c.args.self.now in
     IfErr-weaker c.conclude.result _ _
-    (λ e told. refused_at_end e a lexer.AtEnd c.clear.new.self.items c.finish.new.tokens.items c.clear.ensures.items (λ x ts l. (c.in-Ok.ensures.ok true x ts l).0)
-    (subst (λ (z : List Token). TellsBehind a.parser.last e (end_of a.parser (lexemes_of z))) c.deref.ensures.value told))
+    (λ e reported. refused_at_end e a lexer.AtEnd c.clear.new.self.items c.finish.new.tokens.items c.clear.ensures.items (λ x ts l. (c.in-Ok.ensures.ok true x ts l).0)
+    (subst (λ (z : List Token). ReportsAfter a.parser.last e (end_of a.parser (lexemes_of z))) c.deref.ensures.value reported))
     c.conclude.ensures.fault
 
 pub returns-in-Err-Syntax-clause-fault : goal.returns-in-Err-Syntax-clause-fault
@@ -34,4 +34,4 @@ returns-in-Err-Syntax-clause-fault c =
     let at = c.in-Err-Syntax.field-0-0 in
     refused_at_end c.break_off.result a (lexer.AtFault at) old new c.clear.ensures.items
     (λ x ts l. subst (FinishRefused true x ts old new) c.in-Err-Syntax.field-0-is (c.in-Err-Syntax.ensures.fault true x ts l))
-    (subst (λ (z : List Token). TellsBehind a.parser.last c.break_off.result (ended_by (lexer.AtFault at) (end_of a.parser (lexemes_of z)))) c.deref-in-Err-Syntax.ensures.value (c.break_off.ensures at))
+    (subst (λ (z : List Token). ReportsAfter a.parser.last c.break_off.result (ended_by (lexer.AtFault at) (end_of a.parser (lexemes_of z)))) c.deref-in-Err-Syntax.ensures.value (c.break_off.ensures at))

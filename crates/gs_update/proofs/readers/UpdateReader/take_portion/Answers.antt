@@ -6,7 +6,7 @@ use Rattle.gs_lex.specs.Lexemes.{lexemes_of}
 use Rattle.gs_lex.specs.Lexers.{FeedRefused}
 use Rattle.gs_lex.specs.declared.tokens.Token.{Token}
 use Rattle.gs_update_text.specs.Texts.{ended_by}
-use Rattle.gs_update.specs.Portions.{end_of, Takes, TellsBehind}
+use Rattle.gs_update.specs.Portions.{end_of, Takes, ReportsAfter}
 use Rattle.gs_update.proofs.HistoryLemmas.{goes_portion, refused_portion, broken_portion}
 use Rattle.gs_update.proofs.readers.UpdateReader.take_portion.Goals as goal
 
@@ -25,8 +25,8 @@ pub returns-in-Ok-clause-fault : goal.returns-in-Ok-clause-fault
 returns-in-Ok-clause-fault c =
     let a = c.args.self.now in
     IfErr-weaker c.go_on.result _ _
-    (λ e told. refused_portion e a (record a { lexer = c.feed.new.self }) c.args.portion.now c.clear.new.self.items c.feed.new.tokens.items c.clear.ensures.items c.in-Ok.ensures.ok
-    (subst (λ (z : List Token). (us : List Lexeme) → TellsBehind a.parser.last e (end_of a.parser (lexemes_of z ++ us))) c.deref.ensures.value told))
+    (λ e reported. refused_portion e a (record a { lexer = c.feed.new.self }) c.args.portion.now c.clear.new.self.items c.feed.new.tokens.items c.clear.ensures.items c.in-Ok.ensures.ok
+    (subst (λ (z : List Token). (us : List Lexeme) → ReportsAfter a.parser.last e (end_of a.parser (lexemes_of z ++ us))) c.deref.ensures.value reported))
     c.go_on.ensures.fault
 
 pub returns-in-Err-Syntax-clause-fault : goal.returns-in-Err-Syntax-clause-fault
@@ -36,4 +36,4 @@ returns-in-Err-Syntax-clause-fault c =
     let new = c.feed.new.tokens.items in
     broken_portion c.break_off.result a c.args.portion.now old new c.in-Err-Syntax.field-0-0 c.clear.ensures.items
     (λ u x ts l. subst (FeedRefused u (x ++ c.args.portion.now) ts old new) c.in-Err-Syntax.field-0-is (c.in-Err-Syntax.ensures.fault u x ts l))
-    (λ n. subst (λ (z : List Token). TellsBehind a.parser.last c.break_off.result (ended_by (lexer.AtFault n) (end_of a.parser (lexemes_of z)))) c.deref-in-Err-Syntax.ensures.value (c.break_off.ensures n))
+    (λ n. subst (λ (z : List Token). ReportsAfter a.parser.last c.break_off.result (ended_by (lexer.AtFault n) (end_of a.parser (lexemes_of z)))) c.deref-in-Err-Syntax.ensures.value (c.break_off.ensures n))
