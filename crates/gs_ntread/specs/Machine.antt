@@ -1,6 +1,5 @@
 -- The machine from characters to the triples of lines: its transitions, and how a text ends.
 use Rattle.std.specs.Prelude.{ℕ, ◌==◌, if◌then◌else◌, List, [], ◌∷◌}
-use Rattle.gs_model.specs.declared.faults.Fault.{Fault}
 use Rattle.gs_model.specs.declared.faults.Fault.TheVariants.{Syntax}
 use Rattle.gs_machine.specs.Machines.{Machine}
 use Rattle.gs_body.specs.Bodies.{Ending, Whole, Faulty}

@@ -1,6 +1,6 @@
 -- The form of a token that is too long to be held, byte by byte: whether it is an absolute IRI (RFC 3986,
 -- section 4.3), and whether it is a language tag (N-Triples, section 7, LANGTAG after its '@').
-use Rattle.std.specs.Prelude.{ℕ, Bool, true, false, if◌then◌else◌, ◌||◌, ◌&&◌, ◌==◌, nat_le, List, [], ◌∷◌}
+use Rattle.std.specs.Prelude.{ℕ, Bool, true, false, if◌then◌else◌, ◌&&◌, ◌==◌, List, [], ◌∷◌}
 use Rattle.gs_model.specs.Characters.{hyphen, colon, is_iri_char}
 use Rattle.gs_model.specs.Iris.{is_letter, is_scheme_char}
 use Rattle.gs_ntterm.specs.Classes.{is_tag_char}
