@@ -25,7 +25,8 @@ fn is_iri_byte(b: u8) -> bool
     !matches!(b, 0..=b' ' | b'"' | b'<' | b'>' | b'\\' | b'^' | b'`' | b'{'..=b'}')
 }
 
-/// Whether all are bytes of IRI characters. It looks at all of them, several at once.
+/// Whether all are bytes of IRI characters. It looks at all of them, so that a compiler may test
+/// several at once.
 pub fn are_iri_bytes(bytes: &[u8]) -> bool
     ensures { result ≡ list_all is_iri_char bytes.now }
 {

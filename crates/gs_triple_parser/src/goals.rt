@@ -11,7 +11,7 @@ use gs_triple_values::terms::blank;
 use gs_triple_values::{Language, Symbol, put_rest, rdf_nil};
 use std::alloc::AllocError;
 
-/// Whether a verb may begin with it: a word or `a`.
+/// Whether a verb may begin with it: a term or `a`.
 pub fn begins_verb(symbol: Symbol) -> bool
     ensures { result ≡ begins_verb_of (symbol_at symbol.entry) }
 {

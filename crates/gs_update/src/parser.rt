@@ -121,7 +121,8 @@ impl UpdateParser {
         }
     }
 
-    /// At the first departure. It stands alone, so that a symbol that is taken makes no place.
+    /// At the first departure. A function of its own, so that no `Place` is made where a symbol is
+    /// taken.
     fn stop(&mut self, rejection: Rejection) -> Result<(), AllocError>
         ensures { OnOk result (Moves self.old self.new (quiet (Rejected (rejection_at rejection)))) }
     {
