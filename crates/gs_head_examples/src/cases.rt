@@ -1,6 +1,20 @@
 //! A case: a head, and what it asks for, or the size line of a chunk, and its size.
 use std::alloc::{AllocError, Global};
 
+/// A line of the head and its end, where the line of the input has one.
+fn head_line(line: &str) -> Option<(&str, &'static str)> {
+    if let Some(text) = line.strip_prefix("|") {
+        return Some((text, "\r\n"));
+    }
+    if let Some(text) = line.strip_prefix("\\") {
+        return Some((text, "\n"));
+    }
+    match line.strip_prefix("+") {
+        Some(text) => Some((text, "")),
+        None => None,
+    }
+}
+
 /// A head or a size line under a name, and what is said of it, once all its lines were taken.
 #[derive(Drop)]
 pub struct Case<'a> {
@@ -34,14 +48,11 @@ impl<'a> Case<'a> {
 
     /// The next line of the input, without its line feed.
     pub fn take(&mut self, line: &'a str) -> Result<(), AllocError> {
+        if let Some((text, end)) = head_line(line) {
+            return self.add(text, end);
+        }
         if let Some(name) = line.strip_prefix("= ") {
             self.name = name;
-        } else if let Some(text) = line.strip_prefix("|") {
-            self.add(text, "\r\n")?;
-        } else if let Some(text) = line.strip_prefix("\\") {
-            self.add(text, "\n")?;
-        } else if let Some(text) = line.strip_prefix("+") {
-            self.add(text, "")?;
         } else if line == "~" {
             self.is_size_line = true;
         } else if let Some(wanted) = line.strip_prefix("> ") {
