@@ -1,0 +1,8 @@
+//! The body of a request, out of its transfer: by length, or in chunks, in pieces that are cut anywhere.
+#![tactic(auto)]
+
+mod laws;
+mod transfers;
+
+pub use laws::{chunked_is_the_grammar, settled_stays, sized_is_the_front};
+pub use transfers::{Part, Transfer};
