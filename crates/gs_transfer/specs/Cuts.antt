@@ -12,16 +12,16 @@ pub data End : Type 0 where
 
 -- the data of a body so far, and how it ends
 pub record Cut : Type 0 where
-  pub data : List ℕ
+  pub bytes : List ℕ
   pub end : End
 
 -- no data more
 abbrev pub ends : End → Cut
-ends e = record { data = []; end = e }
+ends e = record { bytes = []; end = e }
 
 -- with data before it
 abbrev pub with_data : List ℕ → Cut → Cut
-with_data d c = record { data = d ++ c.data; end = c.end }
+with_data d c = record { bytes = d ++ c.bytes; end = c.end }
 
 -- after the step that a byte makes
 abbrev pub goes_on : (State → Cut) → ℕ → Step → Cut

@@ -16,15 +16,15 @@ IsSizeLine line size = (chunk_size_of line ≡ Some size) × (length line ≤ ma
 -- a chunk: its size line and its data
 pub record Chunk : Type 0 where
   pub line : List ℕ
-  pub data : List ℕ
+  pub bytes : List ℕ
 
 -- the text of a chunk
 abbrev pub chunk_text : Chunk → List ℕ
-chunk_text c = c.line ++ c.data ++ line_end
+chunk_text c = c.line ++ c.bytes ++ line_end
 
 -- a chunk has data, as many bytes as its line says
 abbrev pub IsChunk : Chunk → Type 0
-IsChunk c = IsSizeLine c.line (length c.data) × (0 < length c.data)
+IsChunk c = IsSizeLine c.line (length c.bytes) × (0 < length c.bytes)
 
 -- the bytes of a line and its end have no end of a line but the last two
 abbrev pub IsLine : List ℕ → Type 0
@@ -42,7 +42,7 @@ pub record IsTrailer (ls : List (List ℕ)) : Type 0 where
 
 -- the data of chunks
 abbrev pub data_of : List Chunk → List ℕ
-data_of cs = flat_map (λ c. c.data) cs
+data_of cs = flat_map (λ c. c.bytes) cs
 
 -- chunked-body: chunks within the limit, the last chunk, the trailer section; and what stands after it
 pub record IsChunked (limit : ℕ) (x body rest : List ℕ) : Type 0 where
@@ -53,5 +53,5 @@ pub record IsChunked (limit : ℕ) (x body rest : List ℕ) : Type 0 where
   pub is_last : IsSizeLine last 0
   pub is_trailer : IsTrailer trailer
   pub text : x ≡ flat_map chunk_text chunks ++ last ++ trailer_text trailer ++ rest
-  pub data : body ≡ data_of chunks
+  pub bytes : body ≡ data_of chunks
   pub fits : length body ≤ limit
