@@ -1,8 +1,7 @@
 -- The body at the front of a text.
 use Rattle.std.specs.Prelude.{ℕ, zero, List, [], ◌∷◌, ◌++◌}
 use Rattle.gs_http.specs.declared.framing.Framing.{Framing}
-use Rattle.gs_http.specs.declared.framing.Framing.TheVariants.{Bytes, Chunked}
-use Rattle.gs_transfer.specs.States.{State, Left, SizeLine, Over, Step, Gives, Passes, Fails, step}
+use Rattle.gs_transfer.specs.States.{State, Left, Over, Step, Gives, Passes, Fails, step, start}
 
 -- the body is not whole yet; it has a fault, with its status; or it is whole, and this stands after it
 pub data End : Type 0 where
@@ -35,12 +34,6 @@ cut_from limit (Left zero) x = ends (Whole x)
 cut_from limit Over x = ends (Whole x)
 cut_from limit s [] = ends Open
 cut_from limit s (c ∷ cs) = goes_on (λ t. cut_from limit t cs) c (step limit s c)
-
--- where a body begins, by its framing; a framing that is refused announces none
-abbrev pub start : Framing → State
-start (Bytes n) = Left n
-start Chunked = SizeLine 0 []
-start f = Over
 
 -- the body at the front of a text, within a limit on the data of its chunks
 unfoldable pub body_at : ℕ → Framing → List ℕ → Cut

@@ -3,5 +3,7 @@ pub mod Limits
 pub mod Grammar
 pub mod States
 pub mod Cuts
+pub mod Trailers
+pub mod Places
 pub mod Views
 pub mod Laws

@@ -2,6 +2,8 @@
 use Rattle.std.specs.Prelude.{ℕ, zero, suc, ◌+◌, ◌-◌, ◌==◌, nat_lt, nat_le, if◌then◌else◌, List, [], ◌∷◌, ◌++◌, length, Option, Some, None}
 use Rattle.gs_model.specs.Ascii.{carriage_return, line_feed}
 use Rattle.gs_http.specs.Chunks.{chunk_size_of}
+use Rattle.gs_http.specs.declared.framing.Framing.{Framing}
+use Rattle.gs_http.specs.declared.framing.Framing.TheVariants.{Bytes, Chunked}
 use Rattle.gs_transfer.specs.Limits.{max_size_line_bytes, max_trailer_bytes}
 
 -- where a trailer section stands: at the start of a line, after a CR there, within a line, after a CR in it
@@ -46,12 +48,16 @@ abbrev pub data_left : ℕ → ℕ → State
 data_left sum zero = DataEnd sum
 data_left sum (suc n) = Data sum (suc n)
 
+-- within a line, after a byte that does not end it
+abbrev pub inside_place : ℕ → TrailerPlace
+inside_place c = if c == carriage_return then InsideCr else Inside
+
 -- where a trailer section stands after a byte that does not end it
 abbrev pub trailer_place : TrailerPlace → ℕ → TrailerPlace
 trailer_place Start c = if c == carriage_return then StartCr else Inside
-trailer_place StartCr c = if c == carriage_return then InsideCr else Inside
-trailer_place Inside c = if c == carriage_return then InsideCr else Inside
-trailer_place InsideCr c = if c == line_feed then Start else if c == carriage_return then InsideCr else Inside
+trailer_place StartCr c = inside_place c
+trailer_place Inside c = inside_place c
+trailer_place InsideCr c = if c == line_feed then Start else inside_place c
 
 -- one byte more of a trailer section, which may not be its last where it has too many
 abbrev pub trailer_goes : TrailerPlace → ℕ → Step
@@ -71,3 +77,9 @@ step limit (DataEnd sum) c = if c == carriage_return then Passes (DataEndCr sum)
 step limit (DataEndCr sum) c = if c == line_feed then Passes (SizeLine sum []) else Fails 400
 step limit (Trailer place count) c = trailer_byte place count c
 step limit Over c = Passes Over
+
+-- where a body begins, by its framing; a framing that is refused announces none
+abbrev pub start : Framing → State
+start (Bytes n) = Left n
+start Chunked = SizeLine 0 []
+start f = Over

@@ -2,7 +2,10 @@
 #![tactic(auto)]
 
 mod laws;
+mod places;
+mod trailers;
 mod transfers;
 
 pub use laws::{chunked_is_the_grammar, settled_stays, sized_is_the_front};
-pub use transfers::{Part, Transfer};
+pub use places::Transfer;
+pub use transfers::Part;
