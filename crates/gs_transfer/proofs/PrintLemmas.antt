@@ -18,14 +18,14 @@ use Rattle.gs_transfer.proofs.QuietLemmas.{byte-on, full-run, line-quiet}
 
 -- a class that LF is not of
 other-class : (test : ℕ → Bool) → test 10 ≡ false → (c : ℕ) → test c ≡ true → eqb c 10 ≡ false
-other-class test no c yes = false_from_ne_true (eqb c 10) (λ e. false≢true (sym no ∙ ap test (sym (eqb-true c 10 e)) ∙ yes))
+other-class test fails c holds = false_from_ne_true (eqb c 10) (λ e. false≢true (sym fails ∙ ap test (sym (eqb-true c 10 e)) ∙ holds))
 
 -- bytes of it
 other-pass : (test : ℕ → Bool) → test 10 ≡ false → (xs : List ℕ) → AllPass test xs → AllOther 10 xs
-other-pass test no [] all = tt
-other-pass test no (x ∷ xs) all =
+other-pass test fails [] all = tt
+other-pass test fails (x ∷ xs) all =
     let P : ℕ → Type 0 = λ b. IsTrue (test b) in
-    (other-class test no x (All-head P x xs all), other-pass test no xs (All-tail P x xs all))
+    (other-class test fails x (All-head P x xs all), other-pass test fails xs (All-tail P x xs all))
 
 other-append : (xs ys : List ℕ) → AllOther 10 xs → AllOther 10 ys → AllOther 10 (xs ++ ys)
 other-append [] ys a b = b
@@ -104,11 +104,11 @@ chunks-run limit sum (c ∷ cs) z all fits =
     ∙ ap (λ (b : List ℕ). record { bytes = b; end = r.end }) (sym (append_assoc c.bytes more r.bytes))
 
 -- the parts of a trailer section
-line-parts : (l f z : List ℕ) → (((l ++ line_end) ++ f) ++ line_end) ++ z ≡ l ++ 13 ∷ 10 ∷ ((f ++ line_end) ++ z)
+pub line-parts : (l f z : List ℕ) → (((l ++ line_end) ++ f) ++ line_end) ++ z ≡ l ++ 13 ∷ 10 ∷ ((f ++ line_end) ++ z)
 line-parts l f z = simp append_assoc
 
 -- how long a section is
-trailer-length : (l : List ℕ) (ls : List (List ℕ)) → length (trailer_text (l ∷ ls)) ≡ length l + 2 + length (trailer_text ls)
+pub trailer-length : (l : List ℕ) (ls : List (List ℕ)) → length (trailer_text (l ∷ ls)) ≡ length l + 2 + length (trailer_text ls)
 trailer-length l ls =
     let f : List ℕ = flat_map (λ k. k ++ line_end) ls in
     omega (arith, length-append ((l ++ line_end) ++ f) line_end, length-append (l ++ line_end) f, length-append l line_end, length-append f line_end)

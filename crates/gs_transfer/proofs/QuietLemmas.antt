@@ -1,5 +1,5 @@
 -- Lines that have no CR LF before their end, byte by byte.
-use Rattle.std.proofs.Common.{◌≡◌, ℕ, ◌+◌, ◌<◌, ◌≤◌, Bool, true, false, cond, eqb, leb, List, [], ◌∷◌, ◌++◌, length, refl, sym, ap, ◌∙◌, subst, arith, append_assoc, length-append}
+use Rattle.std.proofs.Common.{◌≡◌, ℕ, ◌+◌, ◌<◌, ◌≤◌, Bool, true, false, cond, eqb, leb, List, [], ◌∷◌, ◌++◌, length, get_or, refl, sym, ap, ◌∙◌, subst, arith, append_assoc, length-append}
 use Rattle.std.proofs.lemmas.Bool.{eqb-true, eq-eqb, lt-leb, cond-false, false_from_ne_true, false≢true}
 use Rattle.gs_transfer.specs.Grammar.{IsLine, line_end}
 use Rattle.gs_transfer.specs.States.{State, Trailer, TrailerPlace, Start, StartCr, Inside, InsideCr, Passes, inside_place, trailer_byte, trailer_goes}
@@ -100,7 +100,7 @@ quiet-tail true c l h = h.1
 
 -- after a CR comes no LF
 no-lf : (l back : List ℕ) → Quiet true l → l ++ line_end ≡ 10 ∷ back → ⊥
-no-lf [] back h e = let same : 13 ≡ 10 = cc in omega arith
+no-lf [] back h e = false≢true (ap (λ (z : List ℕ). eqb (get_or z 0 0) 10) e)
 no-lf (c ∷ l) back h e = let lf : c ≡ 10 = cc in false≢true (sym h.0 ∙ eq-eqb c 10 lf)
 
 -- such bytes are a line

@@ -83,8 +83,8 @@ lines-cons count x l y rest some q e h =
 -- a line from its first byte on
 line-first : (count c : ℕ) (x rest : List ℕ) (b : Bool) → eqb c 13 ≡ b → InLine b (count + 1) x rest → Lines count (c ∷ x) rest
 line-first count c x rest b e h =
-    let g = line-more false count c x rest (λ t. absurd (false≢true t)) (subst (λ (t : Bool). InLine t (count + 1) x rest) (sym e) h) in
-    lines-cons count (c ∷ x) (c ∷ h.0) h.1 rest (omega arith) g.2 g.3 g.4
+    lines-cons count (c ∷ x) (c ∷ h.0) h.1 rest (omega arith) (subst (λ (t : Bool). Quiet t h.0) (sym e) h.2) (ap (λ (z : List ℕ). c ∷ z) h.3)
+    (subst (λ (n : ℕ). Lines n h.1 rest) (omega arith) h.4)
 
 start-lines : (count c : ℕ) (x rest : List ℕ) (b : Bool) → count + 1 < 16384 → eqb c 13 ≡ b → Section (cond b StartCr Inside) (count + 1) x rest → Lines count (c ∷ x) rest
 start-lines count c x rest true room e (inl h) =
