@@ -3,6 +3,10 @@
 
 mod laws;
 mod places;
+#[cfg(test)]
+mod replays;
+#[cfg(test)]
+mod rows;
 mod trailers;
 mod transfers;
 
