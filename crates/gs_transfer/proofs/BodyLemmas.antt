@@ -1,14 +1,13 @@
 -- A body in chunks that is read whole is what the grammar prints.
-use Rattle.std.proofs.Common.{◌≡◌, ◌↔◌, ℕ, zero, suc, ◌+◌, ◌-◌, ◌<◌, ◌≤◌, Bool, true, false, cond, eqb, ltb, leb, List, [], ◌∷◌, ◌++◌, length, refl, sym, ap, ◌∙◌, subst, arith, append_assoc, length-append, Option, Some, None}
+use Rattle.std.proofs.Common.{◌≡◌, ℕ, zero, suc, ◌+◌, ◌<◌, ◌≤◌, true, false, cond, eqb, ltb, leb, List, [], ◌∷◌, ◌++◌, length, refl, sym, ap, ◌∙◌, subst, arith, append_assoc, length-append, Option, Some, None}
 use Rattle.std.specs.Prelude.{All}
 use Rattle.std.specs.List.{flat_map}
 use Rattle.std.proofs.lemmas.Bool.{eqb-true, leb-false, ltb-false}
 use Rattle.std.proofs.lemmas.List.Elements.{All-nil, All-cons}
-use Rattle.gs_http.specs.declared.framing.Framing.TheVariants.{Chunked}
 use Rattle.gs_http.specs.Chunks.{chunk_size_of}
-use Rattle.gs_transfer.specs.Grammar.{IsSizeLine, Chunk, chunk_text, IsChunk, IsLine, trailer_text, IsTrailer, data_of, IsChunked, line_end}
+use Rattle.gs_transfer.specs.Grammar.{IsSizeLine, Chunk, chunk_text, IsChunk, trailer_text, IsTrailer, data_of, line_end}
 use Rattle.gs_transfer.specs.States.{State, Left, SizeLine, Data, DataEnd, DataEndCr, Trailer, Over, Start, Passes, Fails, sized, data_left}
-use Rattle.gs_transfer.specs.Cuts.{Cut, End, Whole, with_data, goes_on, cut_from, body_at}
+use Rattle.gs_transfer.specs.Cuts.{Cut, End, with_data, goes_on, cut_from, body_at}
 use Rattle.gs_transfer.specs.Laws.{ChunkedIsTheGrammar}
 use Rattle.gs_transfer.proofs.SectionLemmas.{IsWhole, fault-whole, open-whole, Section, section-read}
 use Rattle.gs_transfer.proofs.PrintLemmas.{printed}
@@ -52,6 +51,7 @@ tail-last limit sum line x rest is fits h = record {
   fits = omega arith;
 }
 
+-- the parts of a chunk before others
 chunk-text : (l d f e t r : List ℕ) → l ++ (d ++ 13 ∷ 10 ∷ (f ++ e ++ t ++ r)) ≡ ((l ++ d ++ line_end) ++ f) ++ e ++ t ++ r
 chunk-text l d f e t r = simp append_assoc
 

@@ -1,11 +1,11 @@
 -- What a run of bytes makes of the rest of a body.
-use Rattle.std.proofs.Common.{◌≡◌, ℕ, zero, suc, ◌+◌, ◌-◌, ◌<◌, ◌≤◌, min, true, false, eqb, ltb, leb, List, [], ◌∷◌, ◌++◌, length, take, drop, get_or, refl, sym, ap, ◌∙◌, arith, append_assoc, append-nil, length-append, length-take, take-append-drop, Some}
-use Rattle.std.proofs.lemmas.Bool.{ne_eqb, lt-leb, le-leb, lt-ltb, le-ltb}
+use Rattle.std.proofs.Common.{◌≡◌, ℕ, zero, suc, ◌+◌, ◌-◌, ◌<◌, ◌≤◌, true, false, eqb, ltb, leb, List, [], ◌∷◌, ◌++◌, length, take, drop, get_or, refl, sym, ap, ◌∙◌, arith, append_assoc, append-nil, length-append, length-take, take-append-drop, Some}
+use Rattle.std.proofs.lemmas.Bool.{lt-leb, le-leb, le-ltb}
 use Rattle.std.proofs.lemmas.List.{drop_more, take_more}
 use Rattle.gs_model.proofs.TextLemmas.{AllOther}
 use Rattle.gs_http.specs.Chunks.{chunk_size_of}
-use Rattle.gs_transfer.specs.States.{State, Left, SizeLine, Data, DataEnd, DataEndCr, Trailer, Over, Start, Passes, Fails, sized, size_byte, data_left, step}
-use Rattle.gs_transfer.specs.Cuts.{Open, Faulty, Whole, ends, with_data, goes_on, cut_from}
+use Rattle.gs_transfer.specs.States.{State, Left, SizeLine, Data, Passes, Fails, sized, size_byte, data_left}
+use Rattle.gs_transfer.specs.Cuts.{Open, Faulty, ends, with_data, goes_on, cut_from}
 
 -- bytes of a body without chunks
 pub left-run : (limit n k : ℕ) (d y : List ℕ) → k ≡ length d + n → cut_from limit (Left k) (d ++ y) ≡ with_data d (cut_from limit (Left n) y)
@@ -95,14 +95,7 @@ cut-open limit sum x few f =
     ap (cut_from limit (SizeLine sum [])) (sym (append-nil x))
     ∙ size-run limit sum [] x [] (all-other x f) (omega arith)
 
--- a size
-pub sized-zero : (limit sum size : ℕ) → size ≡ 0 → sized limit sum (Some size) ≡ Passes (Trailer Start 0)
-sized-zero limit sum size e = ap (λ (n : ℕ). sized limit sum (Some n)) e
-
-pub sized-over : (limit sum size : ℕ) → 0 < size → limit < sum + size → sized limit sum (Some size) ≡ Fails 413
-sized-over limit sum zero some h = absurd (omega arith)
-sized-over limit sum (suc n) some h = let over : ltb limit (sum + suc n) ≡ true = lt-ltb limit (sum + suc n) h in rw over
-
+-- a size that fits under the limit
 pub sized-fits : (limit sum size : ℕ) → 0 < size → sum + size ≤ limit → sized limit sum (Some size) ≡ Passes (Data (sum + size) size)
 sized-fits limit sum zero some h = absurd (omega arith)
 sized-fits limit sum (suc n) some h = let fits : ltb limit (sum + suc n) ≡ false = le-ltb limit (sum + suc n) h in rw fits

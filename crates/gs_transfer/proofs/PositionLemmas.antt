@@ -1,5 +1,5 @@
 -- What it says that no byte passes a test.
-use Rattle.std.proofs.Common.{◌≡◌, ℕ, zero, suc, ◌+◌, ◌<◌, ◌≤◌, Bool, true, false, cond, not, List, [], ◌∷◌, length, get_or, refl, arith, Option, Some, None}
+use Rattle.std.proofs.Common.{◌≡◌, ℕ, zero, suc, ◌+◌, ◌<◌, ◌≤◌, Bool, true, false, cond, not, List, [], ◌∷◌, length, get_or, refl, arith, Some, None}
 use Rattle.std.specs.List.{position, position_or_len}
 use Rattle.std.proofs.lemmas.Bool.{ltb-false}
 
@@ -14,6 +14,7 @@ len-none p [] h k lt = absurd (omega arith)
 len-none p (c ∷ x) h zero lt = (later (p c) (length x) (position_or_len p x) h).0
 len-none p (c ∷ x) h (suc k) lt = len-none p x (later (p c) (length x) (position_or_len p x) h).1 k (omega arith)
 
+-- no place was given
 cond-none : (b : Bool) (n : ℕ) → cond b (Some n) None ≡ None → b ≡ false
 cond-none true n e = cc
 cond-none false n e = refl

@@ -1,19 +1,19 @@
 -- A body in chunks, as the grammar prints it, is read whole.
-use Rattle.std.proofs.Common.{◌≡◌, ℕ, ◌+◌, ◌<◌, ◌≤◌, Bool, true, false, cond, eqb, List, [], ◌∷◌, ◌++◌, length, refl, sym, ap, ◌∙◌, subst, arith, append_assoc, append-nil, length-append, Option, Some, None}
+use Rattle.std.proofs.Common.{◌≡◌, ℕ, ◌+◌, ◌<◌, ◌≤◌, Bool, true, false, eqb, List, [], ◌∷◌, ◌++◌, length, refl, sym, ap, ◌∙◌, arith, append_assoc, append-nil, length-append, Option, Some, None}
 use Rattle.std.specs.Prelude.{IsTrue, All, option_map}
 use Rattle.std.specs.List.{flat_map}
 use Rattle.std.specs.Char.{is_ascii_hexdigit}
-use Rattle.std.proofs.lemmas.Bool.{false≢true, false_from_ne_true, eqb-true, cond-false}
+use Rattle.std.proofs.lemmas.Bool.{false≢true, false_from_ne_true, eqb-true}
 use Rattle.std.proofs.lemmas.List.Elements.{All-head, All-tail}
 use Rattle.httparse.specs.Grammar.{ChunkLine, IsChunkLine, AllPass, IsExtension, is_ows, is_extension_byte, print_extension, print_chunk_line, chunk_size, ReadsChunkLine}
 use Rattle.gs_model.proofs.TextLemmas.{AllOther}
 use Rattle.gs_http.specs.declared.framing.Framing.TheVariants.{Chunked}
 use Rattle.gs_http.specs.Chunks.{chunk_line_of, chunk_size_of}
 use Rattle.gs_http.proofs.ChunkLemmas.{reads-chunk_line_of}
-use Rattle.gs_transfer.specs.Grammar.{IsSizeLine, Chunk, chunk_text, IsChunk, IsLine, trailer_text, IsTrailer, data_of, IsChunked, line_end}
-use Rattle.gs_transfer.specs.States.{State, SizeLine, Trailer, TrailerPlace, Start, StartCr, Inside, InsideCr, sized, inside_place, trailer_byte, trailer_goes, data_left}
+use Rattle.gs_transfer.specs.Grammar.{IsSizeLine, Chunk, chunk_text, IsChunk, IsLine, trailer_text, data_of, IsChunked, line_end}
+use Rattle.gs_transfer.specs.States.{State, SizeLine, Trailer, Start, StartCr, sized}
 use Rattle.gs_transfer.specs.Cuts.{Cut, Whole, ends, with_data, goes_on, cut_from, body_at}
-use Rattle.gs_transfer.proofs.CutLemmas.{size-run, data-run, data_left-some, sized-fits, sized-zero}
+use Rattle.gs_transfer.proofs.CutLemmas.{size-run, data-run, data_left-some, sized-fits}
 use Rattle.gs_transfer.proofs.QuietLemmas.{byte-on, full-run, line-quiet}
 
 -- a class that LF is not of
@@ -27,10 +27,12 @@ other-pass test fails (x ∷ xs) all =
     let P : ℕ → Type 0 = λ b. IsTrue (test b) in
     (other-class test fails x (All-head P x xs all), other-pass test fails xs (All-tail P x xs all))
 
+-- two runs without an LF
 other-append : (xs ys : List ℕ) → AllOther 10 xs → AllOther 10 ys → AllOther 10 (xs ++ ys)
 other-append [] ys a b = b
 other-append (x ∷ xs) ys a b = (a.0, other-append xs ys a.1 b)
 
+-- an extension has none
 other-extension : (e : Option (List ℕ)) → IsExtension e → AllOther 10 (print_extension e)
 other-extension None k = tt
 other-extension (Some text) k = (refl, other-pass is_extension_byte refl text k)
@@ -39,6 +41,7 @@ other-extension (Some text) k = (refl, other-pass is_extension_byte refl text k)
 abbrev text_of : ChunkLine → List ℕ
 text_of l = l.digits ++ l.pad ++ print_extension l.extension
 
+-- nor has a size line before its own
 front-other : (l : ChunkLine) → IsChunkLine l → AllOther 10 (text_of l ++ 13 ∷ [])
 front-other l k =
     let digits = other-pass is_ascii_hexdigit refl l.digits k.digits.2 in
@@ -46,6 +49,7 @@ front-other l k =
     let all = other-append (l.digits ++ l.pad) (print_extension l.extension) pads (other-extension l.extension k.extension) in
     other-append (text_of l) (13 ∷ []) all (refl, tt)
 
+-- a size line, at its LF
 front-end : (l : ChunkLine) → print_chunk_line l ≡ (text_of l ++ 13 ∷ []) ++ 10 ∷ []
 unfolding print_chunk_line
 front-end l = sym (append_assoc (text_of l) (13 ∷ []) (10 ∷ []))

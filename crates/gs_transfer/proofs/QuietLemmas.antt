@@ -1,5 +1,5 @@
 -- Lines that have no CR LF before their end, byte by byte.
-use Rattle.std.proofs.Common.{◌≡◌, ℕ, ◌+◌, ◌<◌, ◌≤◌, Bool, true, false, cond, eqb, leb, List, [], ◌∷◌, ◌++◌, length, get_or, refl, sym, ap, ◌∙◌, subst, arith, append_assoc, length-append}
+use Rattle.std.proofs.Common.{◌≡◌, ℕ, ◌+◌, ◌<◌, Bool, true, false, cond, eqb, leb, List, [], ◌∷◌, ◌++◌, length, get_or, refl, sym, ap, ◌∙◌, subst, arith, length-append}
 use Rattle.std.proofs.lemmas.Bool.{eqb-true, eq-eqb, lt-leb, cond-false, false_from_ne_true, false≢true}
 use Rattle.gs_transfer.specs.Grammar.{IsLine, line_end}
 use Rattle.gs_transfer.specs.States.{State, Trailer, TrailerPlace, Start, StartCr, Inside, InsideCr, Passes, inside_place, trailer_byte, trailer_goes}

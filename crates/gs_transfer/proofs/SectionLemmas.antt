@@ -1,12 +1,12 @@
 -- A trailer section that is read whole is lines as the grammar prints them.
-use Rattle.std.proofs.Common.{◌≡◌, ◌⊎◌, inl, inr, ℕ, ◌+◌, ◌<◌, ◌≤◌, Bool, true, false, cond, eqb, leb, List, [], ◌∷◌, ◌++◌, length, refl, sym, ap, ◌∙◌, subst, arith, append_assoc, length-append}
+use Rattle.std.proofs.Common.{◌≡◌, ◌⊎◌, inl, inr, ℕ, ◌+◌, ◌<◌, ◌≤◌, Bool, true, false, cond, eqb, leb, List, [], ◌∷◌, ◌++◌, length, refl, sym, ap, ◌∙◌, subst, arith}
 use Rattle.std.specs.Prelude.{All}
 use Rattle.std.specs.List.{flat_map}
-use Rattle.std.proofs.lemmas.Bool.{eqb-true, eq-eqb, leb-false, false≢true}
+use Rattle.std.proofs.lemmas.Bool.{eqb-true, leb-false, false≢true}
 use Rattle.std.proofs.lemmas.List.Elements.{All-nil, All-cons}
 use Rattle.gs_transfer.specs.Grammar.{IsLine, line_end, trailer_text}
 use Rattle.gs_transfer.specs.States.{State, Trailer, TrailerPlace, Start, StartCr, Inside, InsideCr, Over, Passes, Fails, inside_place, trailer_goes}
-use Rattle.gs_transfer.specs.Cuts.{Cut, End, Open, Faulty, Whole, ends, goes_on, cut_from}
+use Rattle.gs_transfer.specs.Cuts.{Cut, Open, Faulty, Whole, ends, goes_on, cut_from}
 use Rattle.gs_transfer.proofs.QuietLemmas.{Quiet, quiet-line}
 use Rattle.gs_transfer.proofs.PrintLemmas.{line-parts, trailer-length}
 
@@ -86,6 +86,7 @@ line-first count c x rest b e h =
     lines-cons count (c ∷ x) (c ∷ h.0) h.1 rest (omega arith) (subst (λ (t : Bool). Quiet t h.0) (sym e) h.2) (ap (λ (z : List ℕ). c ∷ z) h.3)
     (subst (λ (n : ℕ). Lines n h.1 rest) (omega arith) h.4)
 
+-- the first byte of a line, or of the end of the section
 start-lines : (count c : ℕ) (x rest : List ℕ) (b : Bool) → count + 1 < 16384 → eqb c 13 ≡ b → Section (cond b StartCr Inside) (count + 1) x rest → Lines count (c ∷ x) rest
 start-lines count c x rest true room e (inl h) =
     ([], All-nil IsLine, All-nil (λ (k : List ℕ). 0 < length k), omega arith, ap (λ (d : ℕ). d ∷ x) (eqb-true c 13 e) ∙ ap (λ (z : List ℕ). 13 ∷ z) h)

@@ -1,5 +1,5 @@
 -- What is settled stays so; a body of so many bytes is those at the front.
-use Rattle.std.proofs.Common.{◌≡◌, ℕ, zero, suc, ◌≤◌, List, [], ◌∷◌, ◌++◌, length, take, drop, refl, sym, ap, ◌∙◌, subst, arith, append-nil, length-take, take-append-drop}
+use Rattle.std.proofs.Common.{◌≡◌, ℕ, zero, List, [], ◌∷◌, ◌++◌, take, drop, refl, sym, ap, ◌∙◌, subst, arith, append-nil, length-take, take-append-drop}
 use Rattle.gs_transfer.specs.States.{State, Left, SizeLine, Over, Step, Gives, Passes, Fails, step}
 use Rattle.gs_transfer.specs.Cuts.{End, Open, Faulty, Whole, Cut, with_data, goes_on, cut_from, body_at}
 use Rattle.gs_transfer.specs.Laws.{SizedIsTheFront, StaysWhole, StaysFaulty}

@@ -2,7 +2,7 @@
 use Rattle.std.specs.Prelude.{◌≡◌, ◌↔◌, ℕ, List, ◌++◌, length, take, drop, ◌≤◌}
 use Rattle.gs_http.specs.declared.framing.Framing.TheVariants.{Bytes, Chunked}
 use Rattle.gs_transfer.specs.Grammar.{IsChunked}
-use Rattle.gs_transfer.specs.Cuts.{Cut, Open, Faulty, Whole, body_at}
+use Rattle.gs_transfer.specs.Cuts.{Faulty, Whole, body_at}
 
 -- a body in chunks is whole exactly where it stands at the front of the text by the grammar, within the limit
 abbrev pub ChunkedIsTheGrammar : Type 0

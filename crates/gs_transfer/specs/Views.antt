@@ -1,5 +1,5 @@
 -- What a transfer stands for, and what its parts say.
-use Rattle.std.specs.Prelude.{◌≡◌, ◌≤◌, ◌<◌, ℕ, List, [], ◌++◌, length, take, drop}
+use Rattle.std.specs.Prelude.{◌≡◌, ◌≤◌, ◌<◌, ℕ, List, ◌++◌, length, take, drop}
 use Rattle.gs_transfer.specs.Limits.{max_size_line_bytes}
 use Rattle.gs_transfer.specs.States.{Step, Passes, Fails}
 use Rattle.gs_transfer.specs.Cuts.{Cut, Open, Faulty, Whole, ends, with_data, cut_from}
