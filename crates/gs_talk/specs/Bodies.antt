@@ -31,3 +31,21 @@ abbrev pub rejection_of : Option Rejection → Option ℕ
 rejection_of None = None
 rejection_of (Some OutOfProfile) = Some 422
 rejection_of (Some (Broken f)) = Some 400
+
+-- the statuses of a body that is no document, or no update that is served
+abbrev pub refusal_at : List ℕ → Asked → Plan → ℕ → List ℕ → Option ℕ
+refusal_at base a (Uploads k) r body = fault_of (meaning_in (language_of a.body) base r body).1
+refusal_at base a (Patches t) r body = rejection_of (request_by base r body).1
+refusal_at base a p r body = None
+
+-- a meaning without a fault, of just these triples in their order
+abbrev pub HasTriples : Meaning → List RdfTriple → Type 0
+HasTriples m ts = (m.1 ≡ Whole) × (ts ≡ triples_of m.0)
+
+-- a document has no fault, and states just these triples
+abbrev pub States : List ℕ → Asked → ℕ → List ℕ → List RdfTriple → Type 0
+States base a r body ts = HasTriples (meaning_in (language_of a.body) base r body) ts
+
+-- an update has no fault, and is these operations in their order
+abbrev pub Orders : List ℕ → Asked → ℕ → List ℕ → List Op → Type 0
+Orders base a r body ops = AreOperationsOf ops (request_by base r body)
