@@ -147,7 +147,7 @@ fn count_update<R: Read>(alloc: Global, input: &mut R) -> io::Result<Result<u64,
 
 fn main(rt: HostRuntime) -> io::Result<()> {
     let alloc = rt.alloc();
-    let reported = match wanted(&rt)? {
+    let outcome = match wanted(&rt)? {
         Mode::NTriples => {
             let size = piece_size(&rt, 1)?;
             count(alloc, NTriplesReader::new(alloc, 1), &mut rt.reader(), size)?
@@ -162,7 +162,7 @@ fn main(rt: HostRuntime) -> io::Result<()> {
         }
         Mode::Update => count_update(alloc, &mut rt.reader())?,
     };
-    match reported {
+    match outcome {
         Ok(counted) => println!(rt; "{counted}"),
         Err(refusal) => println!(rt; "{refusal}"),
     }

@@ -139,17 +139,17 @@ meaning_of_none f x n =
       | false ↦ λ h. refl
     ] refl
 
-abbrev rest_after : List ℕ → Escape → ℕ × List ℕ
-rest_after ds e = (e.0, drop e.1 ds)
+abbrev with_rest : List ℕ → Escape → ℕ × List ℕ
+with_rest ds e = (e.0, drop e.1 ds)
 
-shorter_of : (d : ℕ) (ds : List ℕ) (o : Option Escape) (c : ℕ) (y : List ℕ) → option_map (rest_after ds) o ≡ Some (c, y) → length y < length (d ∷ ds)
+shorter_of : (d : ℕ) (ds : List ℕ) (o : Option Escape) (c : ℕ) (y : List ℕ) → option_map (with_rest ds) o ≡ Some (c, y) → length y < length (d ∷ ds)
 shorter_of d ds None c y k = absurd (cc)
 shorter_of d ds (Some e) c y k =
-    let p : rest_after ds e ≡ (c, y) = cc in
+    let p : with_rest ds e ≡ (c, y) = cc in
     let q : drop e.1 ds ≡ y = ap (λ z. z.1) p in
     omega (arith, ap length q, length-drop e.1 ds)
 
-shorter_if : (b : Bool) (d : ℕ) (ds : List ℕ) (o : Option Escape) (c : ℕ) (y : List ℕ) → cond b (option_map (rest_after ds) o) None ≡ Some (c, y) → length y < length (d ∷ ds)
+shorter_if : (b : Bool) (d : ℕ) (ds : List ℕ) (o : Option Escape) (c : ℕ) (y : List ℕ) → cond b (option_map (with_rest ds) o) None ≡ Some (c, y) → length y < length (d ∷ ds)
 shorter_if true d ds o c y k = shorter_of d ds o c y k
 shorter_if false d ds o c y k = absurd (cc)
 

@@ -14,10 +14,6 @@ use Rattle.gs_escape.specs.Meanings.{meant_after, meaning}
 abbrev pub after_front : List ℕ → List ℕ → Option (List ℕ)
 after_front front x = if bytes_eq (take (length front) x) front then Some (drop (length front) x) else None
 
--- the same, as `gs_triples` and `gs_parse` cite it
-abbrev pub rest_after : List ℕ → List ℕ → Option (List ℕ)
-rest_after front x = after_front front x
-
 -- the text before this back, where it has it
 abbrev pub before_back : List ℕ → List ℕ → Option (List ℕ)
 before_back back x =

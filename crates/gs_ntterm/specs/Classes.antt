@@ -39,5 +39,5 @@ abbrev pub with_digit : ℕ → ℕ → ℕ
 with_digit v c = if nat_le v last_character then with_hex v c else v
 
 -- the number of hexadecimal digits that come one by one
-abbrev pub read_number : List ℕ → ℕ
-read_number ds = fold with_digit 0 ds
+abbrev pub number_by_digits : List ℕ → ℕ
+number_by_digits ds = fold with_digit 0 ds

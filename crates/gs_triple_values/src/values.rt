@@ -48,7 +48,7 @@ fn iri_verb<L: Language>(
 }
 
 /// The verb of one token.
-fn verb_word<L: Language>(
+fn verb_term<L: Language>(
     alloc: Global,
     context: &Context,
     token: TermToken,
@@ -72,7 +72,7 @@ pub fn verb<L: Language>(
         (verb_value L.language context.now a symbol.entry) }
 {
     match symbol {
-        Symbol::Term(token) => verb_word::<L>(alloc, context, token),
+        Symbol::Term(token) => verb_term::<L>(alloc, context, token),
         Symbol::A => Ok(Ok(L::verb(rdf_type(alloc)?))),
         _ => Ok(Err(Fault::Syntax)),
     }

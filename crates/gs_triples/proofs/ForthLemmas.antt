@@ -79,7 +79,7 @@ module _ {Value Triple : Type 0} where
   items_goes f a b m (rule.brackets h c) z = refl
   items_goes f a b m (rule.list h c) z = refl
 
-  -- a verb begins with a word or `a`
+  -- a verb begins with a term or `a`
   pub verb_begins : (env : Context Value Triple) (t : Symbol) (p : Value) → meaning.verb env t ≡ Ok p → begins_verb t ≡ true
   verb_begins env (ATerm w) p h = refl
   verb_begins env A p h = refl

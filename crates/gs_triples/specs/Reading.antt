@@ -20,7 +20,7 @@ pub record Got (Value Triple : Type 0) : Type 0 where
   pub numbers : Numbers
   pub rest : List Symbol
 
--- a word or 'a'
+-- a term or 'a'
 abbrev pub begins_verb : Symbol → Bool
 begins_verb (ATerm w) = true
 begins_verb A = true
