@@ -1,7 +1,7 @@
 #!/bin/sh
 # Times gs_bench beside serdi on one document: bench/run.sh [TRIPLES] for N-Triples, bench/run.sh turtle [TRIPLES] for
 # Turtle, and bench/run.sh tokens [TRIPLES] for the tokens of a document of Turtle, which serdi writes as N-Triples.
-# bench/run.sh update [TRIPLES] times the text of an update, beside gs_bench on the same triples as Turtle.
+# bench/run.sh update [TRIPLES] times the text of an update, beside gs_bench on the same triples as Turtle, whole and in pieces.
 # It wants the program built: (cd crates/gs_bench && rt run < /dev/null).
 set -eu
 here=$(cd "$(dirname "$0")" && pwd)

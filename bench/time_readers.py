@@ -1,5 +1,5 @@
 #!/usr/bin/env python3
-"""The median time of five runs of each reader: time_readers.py PROGRAM FILE TRIPLES [turtle|tokens|update TURTLE]."""
+"""The median time of the runs of each reader: time_readers.py PROGRAM FILE TRIPLES [turtle|tokens|update TURTLE]."""
 import os
 import shutil
 import subprocess
@@ -43,19 +43,30 @@ def most_memory(command, stdin):
     return most
 
 
-def report(name, command, stdin, size, count):
-    runs = [run(command, stdin) for _ in range(RUNS)]
-    seconds = sorted(r[0] for r in runs)[RUNS // 2]
+def report(name, command, stdin, count, runs):
+    """Prints what the runs took, and returns the median."""
+    size = os.path.getsize(stdin)
+    seconds = sorted(r[0] for r in runs)[len(runs) // 2]
     memory = most_memory(command, stdin)
     print(f"{name}: {seconds:.3f} s, {size / seconds / 1e6:.1f} MB/s, {count / seconds:.0f} triples/s, {memory} KiB at most {runs[0][1]}")
     return seconds
 
 
+def alone(name, command, stdin, count):
+    return report(name, command, stdin, count, [run(command, stdin) for _ in range(RUNS)])
+
+
 def beside_turtle(program, file, count, turtle):
-    """An update beside a document of Turtle with the same triples."""
-    ours = report("gs_bench update", [program, "update"], file, os.path.getsize(file), count)
-    theirs = report("gs_bench turtle", [program, "turtle", "65536"], turtle, os.path.getsize(turtle), count)
-    print(f"ratio: {theirs / ours:.2f} times the triples a second of gs_bench turtle")
+    """An update beside a document of Turtle with the same triples, in turns: given whole, as an update is, and in pieces."""
+    readers = [
+        ("gs_bench update", [program, "update"], file),
+        ("gs_bench turtle-whole", [program, "turtle-whole"], turtle),
+        ("gs_bench turtle 65536", [program, "turtle", "65536"], turtle),
+    ]
+    turns = [[run(command, stdin) for _, command, stdin in readers] for _ in range(3 * RUNS)]
+    medians = [report(*reader, count, [turn[at] for turn in turns]) for at, reader in enumerate(readers)]
+    for (name, _, _), seconds in zip(readers[1:], medians[1:]):
+        print(f"ratio: {seconds / medians[0]:.2f} times the triples a second of {name}")
 
 
 def main():
@@ -64,12 +75,11 @@ def main():
     if mode[:1] == ["update"]:
         beside_turtle(program, file, count, mode[1])
         return
-    size = os.path.getsize(file)
-    ours = report("gs_bench", [program] + mode + ["65536"], file, size, count)
+    ours = alone("gs_bench", [program] + mode + ["65536"], file, count)
     if shutil.which("serdi") is None:
         print("serdi is not installed (Debian: apt-get install serdi)")
         return
-    theirs = report("serdi", ["serdi", "-i", "turtle" if mode else "ntriples", "-o", "ntriples", file], file, size, count)
+    theirs = alone("serdi", ["serdi", "-i", "turtle" if mode else "ntriples", "-o", "ntriples", file], file, count)
     print(f"ratio: {theirs / ours:.2f} times the triples a second of serdi")
 
 

@@ -35,6 +35,7 @@ fn piece_size(rt: &(impl Env + AllocGlobal), place: usize) -> io::Result<usize> 
 enum Mode {
     NTriples,
     Turtle,
+    WholeTurtle,
     Tokens,
     Update,
 }
@@ -46,6 +47,7 @@ fn wanted(rt: &(impl Env + AllocGlobal)) -> io::Result<Mode> {
     };
     match text.as_str() {
         "turtle" => Ok(Mode::Turtle),
+        "turtle-whole" => Ok(Mode::WholeTurtle),
         "tokens" => Ok(Mode::Tokens),
         "update" => Ok(Mode::Update),
         _ => Ok(Mode::NTriples),
@@ -90,6 +92,25 @@ fn count_turtle<R: Read>(
     }
     let reader = TurtleReader::new(alloc, 1, BASE)?;
     count(alloc, reader, input, size)
+}
+
+/// How many triples of Turtle the text has, which is read whole and gives all its triples at once,
+/// or its fault.
+fn count_whole_turtle<R: Read>(alloc: Global, input: &mut R) -> io::Result<Result<u64, Refusal>> {
+    if !is_absolute(BASE) {
+        return Ok(Err(Refusal::Syntax(0)));
+    }
+    let mut reader = TurtleReader::new(alloc, 1, BASE)?;
+    let mut text = Vec::new(alloc);
+    input.read_to_end(&mut text)?;
+    let mut triples = Vec::new(alloc);
+    if let Err(refusal) = reader.feed(text.as_slice(), &mut triples) {
+        return Ok(Err(refusal));
+    }
+    if let Err(refusal) = reader.finish(&mut triples) {
+        return Ok(Err(refusal));
+    }
+    Ok(Ok(triples.len() as u64))
 }
 
 /// How many tokens of Turtle the text has, or its fault.
@@ -156,6 +177,7 @@ fn main(rt: HostRuntime) -> io::Result<()> {
             let size = piece_size(&rt, 2)?;
             count_turtle(alloc, &mut rt.reader(), size)?
         }
+        Mode::WholeTurtle => count_whole_turtle(alloc, &mut rt.reader())?,
         Mode::Tokens => {
             let size = piece_size(&rt, 2)?;
             count_tokens(alloc, &mut rt.reader(), size)?

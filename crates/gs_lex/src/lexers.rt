@@ -10,7 +10,7 @@ use gs_model::Refusal;
 use std::alloc::{AllocError, Global};
 
 /// Cuts a text that comes in any pieces into tokens. Of the text it holds what is not cut yet: the
-/// front of one token.
+/// front of one token. Its memory is that of the longest piece so far.
 #[derive(Drop)]
 pub struct Lexer {
     alloc: Global,
@@ -52,18 +52,17 @@ fn without_cut(at: Reading) -> Reading
     }
 }
 
-/// Drops so many bytes from the front.
-fn drop_front(alloc: Global, held: &mut Vec<u8>, count: usize) -> Result<(), AllocError>
+/// Drops so many bytes from the front. The memory stays, for the bytes that come next.
+fn drop_front(held: &mut Vec<u8>, count: usize)
     requires { count ≤ vec_len held.old }
-    ensures ok { OnOk result (held.new.items ≡ drop count held.old.items) }
-    ensures err { OnErr result (held.new.items ≡ held.old.items) }
+    ensures { held.new.items ≡ drop count held.old.items }
 {
     if count == 0 {
-        return Ok(());
+        return;
     }
-    let rest = Vec::from_slice(alloc, &held[count..])?;
-    *held = rest;
-    Ok(())
+    let left = held.len() - count;
+    held.copy_within(count.., 0);
+    held.truncate(left);
 }
 
 impl Lexer {
@@ -90,7 +89,7 @@ impl Lexer {
         ensures kept { Grows tokens.old.items tokens.new.items }
     {
         let (at, halt) = read(self.alloc, &self.held, self.at, false, tokens)?;
-        drop_front(self.alloc, &mut self.held, at.cut)?;
+        drop_front(&mut self.held, at.cut);
         self.at = without_cut(at);
         Ok(halt)
     }

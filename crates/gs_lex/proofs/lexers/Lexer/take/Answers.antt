@@ -5,4 +5,4 @@ use Rattle.gs_lex.proofs.lexers.Lexer.take.Goals as goal
 pub returns-clause-ok : goal.returns-clause-ok
 returns-clause-ok c =
     takes-as c.args.self.now _ c.deref.result.now c.in_ok-at.at c.in_ok-at.halt c.args.tokens.now.items c.read.new.tokens.items c.deref.ensures.value (omega arith)
-    c.without_cut-self.ensures c.in_ok-drop_front.ensures.ok c.in_ok-at.ensures.ok.1
+    c.without_cut-self.ensures c.drop_front.ensures c.in_ok-at.ensures.ok.1
