@@ -1,0 +1,7 @@
+//! The door to a store: one event in, one answer out.
+#![tactic(auto)]
+
+mod doors;
+mod stores;
+
+pub use doors::Door;
