@@ -11,8 +11,8 @@ use Rattle.gs_escape.specs.declared.forms.Form.TheVariants as form
 use Rattle.gs_escape.specs.Meanings.{meant_after, meaning}
 
 -- the text after this front, where it has it
-abbrev pub after_front : List ℕ → List ℕ → Option (List ℕ)
-after_front front x = if bytes_eq (take (length front) x) front then Some (drop (length front) x) else None
+abbrev pub rest_after : List ℕ → List ℕ → Option (List ℕ)
+rest_after front x = if bytes_eq (take (length front) x) front then Some (drop (length front) x) else None
 
 -- the text before this back, where it has it
 abbrev pub before_back : List ℕ → List ℕ → Option (List ℕ)
@@ -21,7 +21,7 @@ before_back back x =
 
 -- what stands between two delimiters
 unfoldable pub between : List ℕ → List ℕ → List ℕ → Option (List ℕ)
-between front back x = option_and_then (before_back back) (after_front front x)
+between front back x = option_and_then (before_back back) (rest_after front x)
 
 -- [18] IRIREF, between its brackets
 unfoldable pub iri_of : List ℕ → Option (List ℕ)
