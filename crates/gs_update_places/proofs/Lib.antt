@@ -1,3 +1,4 @@
 pub mod BlockLemmas
 pub mod TurnLemmas
 pub mod StartLemmas
+pub mod PlaceLemmas

@@ -2,9 +2,10 @@
 #![tactic(auto)]
 
 mod blocks;
-pub mod operations;
+mod operations;
+mod passages;
 mod places;
-pub mod prologues;
+mod prologues;
 mod rejections;
 
 pub use blocks::{Block, BlockTurn};

@@ -13,7 +13,7 @@ use std::alloc::Global;
 
 /// After INSERT; templates are not served.
 #[tactic(auto, unfolding(gs_update_text::specs::Machine::step))]
-pub fn after_insert(scope: Scope, symbol: Symbol) -> Place
+pub(crate) fn after_insert(scope: Scope, symbol: Symbol) -> Place
     ensures { LeadsTo result (transition_at_place (Place.AfterInsert scope) symbol.entry) }
 {
     match symbol {
@@ -25,7 +25,7 @@ pub fn after_insert(scope: Scope, symbol: Symbol) -> Place
 
 /// After DELETE.
 #[tactic(auto, unfolding(gs_update_text::specs::Machine::step))]
-pub fn after_delete(scope: Scope, symbol: Symbol) -> Place
+pub(crate) fn after_delete(scope: Scope, symbol: Symbol) -> Place
     ensures { LeadsTo result (transition_at_place (Place.AfterDelete scope) symbol.entry) }
 {
     match symbol {
@@ -49,7 +49,7 @@ fn opened(alloc: Global, form: Form, scope: Scope) -> Place
 
 /// The opening brace.
 #[tactic(auto, unfolding(gs_update_text::specs::Machine::step))]
-pub fn at_brace(alloc: Global, form: Form, scope: Scope, symbol: Symbol) -> Place
+pub(crate) fn at_brace(alloc: Global, form: Form, scope: Scope, symbol: Symbol) -> Place
     ensures { LeadsTo result (transition_at_place (Place.AtBrace form scope) symbol.entry) }
 {
     match symbol {
@@ -60,7 +60,7 @@ pub fn at_brace(alloc: Global, form: Form, scope: Scope, symbol: Symbol) -> Plac
 
 /// After an operation.
 #[tactic(auto, unfolding(gs_update_text::specs::Machine::step))]
-pub fn after(scope: Scope, symbol: Symbol) -> Place
+pub(crate) fn after(scope: Scope, symbol: Symbol) -> Place
     ensures { LeadsTo result (transition_at_place (Place.After scope) symbol.entry) }
 {
     match symbol {

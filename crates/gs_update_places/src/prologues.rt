@@ -42,7 +42,7 @@ fn begun(kind: TokenKind, scope: Scope) -> Place
 
 /// A symbol where an update may begin.
 #[tactic(auto, unfolding(gs_update_text::specs::Machine::step))]
-pub fn between(scope: Scope, symbol: Symbol) -> Place
+pub(crate) fn between(scope: Scope, symbol: Symbol) -> Place
     ensures { LeadsTo result (transition_at_place (Place.Between scope) symbol.entry) }
 {
     match symbol {
@@ -55,7 +55,7 @@ pub fn between(scope: Scope, symbol: Symbol) -> Place
 
 /// The prefix that is declared.
 #[tactic(auto, unfolding(gs_update_text::specs::Machine::step))]
-pub fn prefix(alloc: Global, scope: Scope, symbol: Symbol) -> Result<Place, AllocError>
+pub(crate) fn prefix(alloc: Global, scope: Scope, symbol: Symbol) -> Result<Place, AllocError>
     ensures { IfOk result (λ p. LeadsTo p (transition_at_place (Place.InPrefix scope) symbol.entry)) }
 {
     match symbol {
@@ -68,7 +68,7 @@ pub fn prefix(alloc: Global, scope: Scope, symbol: Symbol) -> Result<Place, Allo
 
 /// The IRI that the prefix stands for.
 #[tactic(auto, unfolding(gs_update_text::specs::Machine::step))]
-pub fn prefix_iri(scope: Scope, prefix: String, symbol: Symbol) -> Result<Place, AllocError>
+pub(crate) fn prefix_iri(scope: Scope, prefix: String, symbol: Symbol) -> Result<Place, AllocError>
     ensures { IfOk result
         (λ p. LeadsTo p (transition_at_place (Place.InPrefixIri scope prefix) symbol.entry)) }
 {
@@ -87,7 +87,7 @@ pub fn prefix_iri(scope: Scope, prefix: String, symbol: Symbol) -> Result<Place,
 
 /// The IRI of a base.
 #[tactic(auto, unfolding(gs_update_text::specs::Machine::step))]
-pub fn base(scope: Scope, symbol: Symbol) -> Result<Place, AllocError>
+pub(crate) fn base(scope: Scope, symbol: Symbol) -> Result<Place, AllocError>
     ensures { IfOk result (λ p. LeadsTo p (transition_at_place (Place.InBase scope) symbol.entry)) }
 {
     let mut scope = scope;
