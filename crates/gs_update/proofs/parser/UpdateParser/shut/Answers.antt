@@ -5,10 +5,12 @@ use Rattle.gs_triple_values.specs.Typed.{terms, patterns}
 use Rattle.gs_triple_parser.specs.Views.{scope_context, scope_numbers, numbers_now}
 use Rattle.gs_update_text.specs.Requests.{Inserts, DeletesData, DeletesWhere}
 use Rattle.gs_update_text.specs.Operations.{some_patterns}
-use Rattle.gs_update_places.specs.Views.{scope_of}
-use Rattle.gs_update_places.specs.Places.{concluded}
+use Rattle.gs_update_text.specs.States.{quiet}
+use Rattle.gs_update_places.specs.Views.{scope_of, state_at, IsSound}
+use Rattle.gs_update_places.specs.Places.{concluded, closed_at}
+use Rattle.gs_update_places.specs.declared.places.Place.{Place}
 use Rattle.gs_update_places.specs.declared.places.Place.TheVariants as place
-use Rattle.gs_update.proofs.PlaceLemmas.{are_some, are_none, concluded_alike, closes}
+use Rattle.gs_update.proofs.PlaceLemmas.{are_some, are_none, concluded_alike, closes, closes_nothing, led_there}
 use Rattle.gs_update.proofs.parser.UpdateParser.shut.Goals as goal
 
 pub returns-in-Inserting : goal.returns-in-Inserting
@@ -56,4 +58,10 @@ returns-in-Seeking c =
     c.conclude-in-Seeking.ensures
 
 pub returns : goal.returns
-returns c = ?
+returns c =
+    let after = c.replace.ensures.after in
+    led_there c.args.self.now c.replace.new.dest (closed_at c.args.self.now.place c.args.end)
+    (record {
+      state = ap (λ (p : Place). quiet (state_at p)) after ∙ closes_nothing c.replace.result c.args.end c.in_default.not-Inserting c.in_default.not-Deleting c.in_default.not-Seeking ∙ ap (λ (p : Place). closed_at p c.args.end) c.replace.ensures.value;
+      sound = subst IsSound (sym after) tt;
+    })
