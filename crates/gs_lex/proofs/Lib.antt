@@ -23,3 +23,4 @@ pub mod OneCutLemmas
 pub mod SpanLemmas
 pub mod CutLemmas
 mod CutExamples
+pub mod TextLemmas

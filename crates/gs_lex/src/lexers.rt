@@ -23,7 +23,7 @@ pub struct Lexer {
 }
 
 /// At the start of a text.
-fn first_reading(updates: bool) -> Reading
+pub fn first_reading(updates: bool) -> Reading
     ensures { result ≡ first_of updates }
 {
     Reading {

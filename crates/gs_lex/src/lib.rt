@@ -13,10 +13,12 @@ mod scans;
 mod states;
 mod steps;
 mod symbols;
+mod texts;
 mod tokens;
 mod words;
 
 pub use kinds::TokenKind;
 pub use laws::{text_has_a_cut, text_has_one_cut, tokens_are_spans};
 pub use lexers::Lexer;
-pub use tokens::Token;
+pub use texts::{Next, TextLexer};
+pub use tokens::{BorrowedToken, Token};

@@ -17,7 +17,7 @@ pub enum Halt {
 }
 
 /// After so many bytes that are no part of a token.
-fn passed(at: Reading, count: usize, in_comment: bool) -> Reading
+pub fn passed(at: Reading, count: usize, in_comment: bool) -> Reading
     requires { at.cut + count < 2 ^ 64 }
     ensures { result ≡ passed_of at count in_comment }
 {
@@ -33,7 +33,7 @@ fn passed(at: Reading, count: usize, in_comment: bool) -> Reading
 }
 
 /// After a token of so many bytes, where so many more are barren.
-fn found(at: Reading, count: usize, barren: usize) -> Reading
+pub fn found(at: Reading, count: usize, barren: usize) -> Reading
     requires { at.cut + count < 2 ^ 64 }
     ensures { result ≡ found_of at count barren }
 {
@@ -50,7 +50,7 @@ fn found(at: Reading, count: usize, barren: usize) -> Reading
 }
 
 /// The next step, from the cut on.
-fn step_at(text: &[u8], at: Reading, is_end: bool) -> Step
+pub fn step_at(text: &[u8], at: Reading, is_end: bool) -> Step
     requires { IsWithin at text.now }
     ensures moves { StepMoves at (drop at.cut text.now) result }
     ensures fits { StepFollows is_end at (drop at.cut text.now) result }

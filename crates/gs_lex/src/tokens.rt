@@ -1,7 +1,7 @@
 //! A token of a text.
 ghost use Rattle.std.specs.Prelude.{◌≡◌, IfOk, length};
 ghost use Rattle.gs_lex.specs.Tokens.{lexeme_at, place_after};
-ghost use Rattle.gs_lex.specs.Lexemes.{lexeme_of};
+ghost use Rattle.gs_lex.specs.Lexemes.{lexeme_of, lexeme_of_borrowed};
 
 use crate::kinds::TokenKind;
 use crate::words::has_text;
@@ -18,6 +18,33 @@ pub struct Token {
     pub start: u64,
     /// The number of bytes up to its end.
     pub end: u64,
+}
+
+/// A token of a text that is at hand, with its place in that text.
+#[derive(Clone, Copy, Debug)]
+pub struct BorrowedToken<'a> {
+    pub kind: TokenKind,
+    /// Its bytes with all delimiters and escapes, where the kind leaves them open; else nothing.
+    pub text: &'a [u8],
+    /// The number of bytes before it.
+    pub start: u64,
+    /// The number of bytes up to its end.
+    pub end: u64,
+}
+
+impl Token {
+    /// The same token, borrowed.
+    #[inline]
+    pub fn as_borrowed(&self) -> BorrowedToken<'_>
+        ensures { lexeme_of_borrowed result ≡ lexeme_of self.now }
+    {
+        BorrowedToken {
+            kind: self.kind,
+            text: self.text.as_slice(),
+            start: self.start,
+            end: self.end,
+        }
+    }
 }
 
 /// The place after so many bytes more.
@@ -49,4 +76,17 @@ pub fn token_at(
         start,
         end,
     })
+}
+
+/// The token of these bytes at a place, borrowed.
+#[inline]
+pub fn borrowed_at(kind: TokenKind, start: u64, bytes: &[u8]) -> BorrowedToken<'_>
+    ensures { lexeme_of_borrowed result ≡ lexeme_at kind start bytes.now }
+{
+    BorrowedToken {
+        kind,
+        text: if has_text(kind) { bytes } else { &[] },
+        start,
+        end: later_place(start, bytes.len()),
+    }
 }

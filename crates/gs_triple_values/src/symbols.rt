@@ -1,11 +1,11 @@
 //! What the grammar sees of a token.
 ghost use Rattle.std.specs.Prelude.{◌≡◌};
-ghost use Rattle.gs_lex.specs.Lexemes.{lexeme_of};
+ghost use Rattle.gs_lex.specs.Lexemes.{lexeme_of, lexeme_of_borrowed};
 ghost use Rattle.gs_triples.specs.Symbols.{symbol as kind_symbol, symbol_of, after_mark};
 ghost use Rattle.gs_triple_values.specs.Views.{symbol_at};
 
 use crate::vocabulary::{XSD_BOOLEAN, XSD_DECIMAL, XSD_DOUBLE, XSD_INTEGER};
-use gs_lex::{Token, TokenKind};
+use gs_lex::{BorrowedToken, Token, TokenKind};
 
 /// A token that is a term by itself, or a variable, by the names of the grammar.
 #[derive(Clone, Copy)]
@@ -93,7 +93,14 @@ fn symbol_of_kind(kind: TokenKind, text: &str, end: u64) -> Symbol<'_>
 pub fn symbol_of_token(token: &Token) -> Symbol<'_>
     ensures { symbol_at result ≡ symbol_of (lexeme_of token.now) }
 {
-    match str::from_utf8(token.text.as_slice()) {
+    symbol_of_borrowed(token.as_borrowed())
+}
+
+/// The symbol of a token that borrows its text.
+pub fn symbol_of_borrowed(token: BorrowedToken<'_>) -> Symbol<'_>
+    ensures { symbol_at result ≡ symbol_of (lexeme_of_borrowed token) }
+{
+    match str::from_utf8(token.text) {
         Ok(text) => symbol_of_kind(token.kind, text, token.end),
         Err(_) => Symbol::Foreign(token.kind, token.end),
     }
