@@ -96,6 +96,7 @@ fn in_tag(state: State, c: char) -> Option<State>
 }
 
 /// In a number.
+#[inline(always)]
 fn in_number(state: State, c: char) -> Option<State>
     requires { spec.IsInNumber state }
     ensures { result ≡ spec.state_after state c }
@@ -135,6 +136,7 @@ fn in_number(state: State, c: char) -> Option<State>
 }
 
 /// In a word, or in a prefix.
+#[inline(always)]
 fn in_word(state: State, c: char) -> Option<State>
     requires { spec.IsInWord state }
     ensures { result ≡ spec.state_after state c }
@@ -164,6 +166,7 @@ fn in_word(state: State, c: char) -> Option<State>
 }
 
 /// After the first character of a local name.
+#[inline(always)]
 fn local(c: char) -> Option<State>
     ensures { result ≡ spec.local c }
 {
@@ -179,6 +182,7 @@ fn local(c: char) -> Option<State>
 }
 
 /// In a local name, after the colon of its prefix.
+#[inline(always)]
 fn in_local(state: State, c: char) -> Option<State>
     requires { spec.IsInLocal state }
     ensures { result ≡ spec.state_after state c }
@@ -197,6 +201,7 @@ fn in_local(state: State, c: char) -> Option<State>
 }
 
 /// The state after a character; none where no token goes on so.
+#[inline(always)]
 pub fn state_after(state: State, c: char) -> Option<State>
     ensures { result ≡ spec.state_after state c }
 {

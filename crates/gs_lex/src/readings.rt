@@ -17,6 +17,7 @@ pub enum Halt {
 }
 
 /// After so many bytes that are no part of a token.
+#[inline(always)]
 pub fn passed(at: Reading, count: usize, in_comment: bool) -> Reading
     requires { at.cut + count < 2 ^ 64 }
     ensures { result ≡ passed_of at count in_comment }
@@ -33,6 +34,7 @@ pub fn passed(at: Reading, count: usize, in_comment: bool) -> Reading
 }
 
 /// After a token of so many bytes, where so many more are barren.
+#[inline(always)]
 pub fn found(at: Reading, count: usize, barren: usize) -> Reading
     requires { at.cut + count < 2 ^ 64 }
     ensures { result ≡ found_of at count barren }
@@ -50,6 +52,7 @@ pub fn found(at: Reading, count: usize, barren: usize) -> Reading
 }
 
 /// The next step, from the cut on.
+#[inline(always)]
 pub fn step_at(text: &[u8], at: Reading, is_end: bool) -> Step
     requires { IsWithin at text.now }
     ensures moves { StepMoves at (drop at.cut text.now) result }

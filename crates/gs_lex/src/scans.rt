@@ -33,6 +33,7 @@ impl Scan {
     }
 
     /// After one character more, of so many bytes.
+    #[inline(always)]
     fn onward(self, state: State, size: usize) -> Self
         requires { self.len + size < 2 ^ 64 }
         ensures { result ≡ onward_of self state size }
@@ -55,6 +56,7 @@ impl Scan {
     }
 
     /// At a place after, in the same state.
+    #[inline(always)]
     fn stay(self, len: usize) -> Self
         requires best { self.best_len ≤ self.len }
         requires onward { self.len ≤ len }
@@ -83,6 +85,7 @@ impl Scan {
 }
 
 /// Over the plain characters that come next, where the state has such.
+#[inline(always)]
 fn over_run(text: &[u8], scan: Scan) -> Scan
     requires within { scan.len ≤ length text.now }
     requires best_within { scan.best_len ≤ scan.len }
@@ -106,6 +109,7 @@ fn over_run(text: &[u8], scan: Scan) -> Scan
 }
 
 /// Whether no character goes on with a token.
+#[inline(always)]
 fn is_ended(state: State) -> bool
     ensures { MatchBool result (IsEnded state) (IsOpen state) }
 {
@@ -118,6 +122,7 @@ fn is_ended(state: State) -> bool
 /// Reads on until it is known that no longer token comes (`true`), or until the text ends. After a
 /// word's dots within the barren bytes it is known at once: an earlier scan went on from there in
 /// vain.
+#[inline(always)]
 pub fn read_on(text: &[u8], from: Scan, barren: usize) -> (Scan, bool)
     requires within { from.len ≤ length text.now }
     requires best_within { from.best_len ≤ from.len }

@@ -97,6 +97,7 @@ pub fn short_of(mark: Mark) -> Terminal
 }
 
 /// What the text so far is.
+#[inline(always)]
 pub fn accepts(state: State) -> Option<Terminal>
     ensures { result ≡ spec.accepts state }
 {

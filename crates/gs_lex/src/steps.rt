@@ -75,6 +75,7 @@ fn comment_step(rest: &[u8], at: Reading, is_end: bool) -> Step
 
 /// How many bytes are barren after the longest token that a scan has found, where so many were at
 /// its start. After a word that is no prefix, so are all that were read.
+#[inline(always)]
 fn barren_after(barren: usize, scan: Scan, terminal: Terminal) -> usize
     requires { scan.best_len ≤ scan.len }
     ensures { IsBarrenAfter barren scan terminal result }
@@ -86,6 +87,7 @@ fn barren_after(barren: usize, scan: Scan, terminal: Terminal) -> usize
 }
 
 /// A step to a token's end.
+#[inline(always)]
 fn token_step(rest: &[u8], at: Reading, is_end: bool) -> Step
     requires within { at.scan.len ≤ length rest.now }
     requires best_within { at.scan.best_len ≤ at.scan.len }
@@ -114,6 +116,7 @@ fn token_step(rest: &[u8], at: Reading, is_end: bool) -> Step
 }
 
 /// What stands next.
+#[inline(always)]
 pub fn next_step(rest: &[u8], at: Reading, is_end: bool) -> Step
     requires within { at.scan.len ≤ length rest.now }
     requires best_within { at.scan.best_len ≤ at.scan.len }

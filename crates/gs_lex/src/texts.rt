@@ -48,7 +48,7 @@ fn next_from(text: &[u8], from: Reading) -> (Reading, Next<'_>)
 
 /// Cuts a text that is at hand whole into tokens, one after the other. It takes no memory: its
 /// tokens borrow from the text.
-#[derive(Debug)]
+#[derive(Debug, Drop)]
 pub struct TextLexer<'a> {
     text: &'a [u8],
     at: Reading,

@@ -81,6 +81,7 @@ fn word(updates: bool, text: &[u8]) -> Option<TokenKind>
 
 /// The kind of a token of these bytes. A word that is none of the grammar's has none, nor have
 /// three quotes whose string does not end.
+#[inline(always)]
 pub fn token_kind(updates: bool, terminal: Terminal, text: &[u8]) -> Option<TokenKind>
     ensures { result ≡ spec.token_kind updates terminal text.now }
 {

@@ -20,6 +20,6 @@ pub use kinds::{Subject, Verb};
 pub use languages::Language;
 pub use patterns::Patterns;
 pub use pending::{put, put_first, put_rest};
-pub use symbols::{Symbol, TermToken, symbol_of_token};
+pub use symbols::{Symbol, TermToken, symbol_of_borrowed, symbol_of_token};
 pub use triple_terms::Terms;
 pub use vocabulary::rdf_nil;

@@ -98,7 +98,7 @@ pub fn symbol_of_token(token: &Token) -> Symbol<'_>
 
 /// The symbol of a token that borrows its text.
 pub fn symbol_of_borrowed(token: BorrowedToken<'_>) -> Symbol<'_>
-    ensures { symbol_at result ≡ symbol_of (lexeme_of_borrowed token) }
+    ensures { symbol_at result ≡ symbol_of (lexeme_of_borrowed token.entry) }
 {
     match str::from_utf8(token.text) {
         Ok(text) => symbol_of_kind(token.kind, text, token.end),

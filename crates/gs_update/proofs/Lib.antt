@@ -1,4 +1,3 @@
-pub mod PortionLemmas
+pub mod TokenLemmas
 pub mod HistoryLemmas
-pub mod PieceLemmas
 pub mod PlaceLemmas

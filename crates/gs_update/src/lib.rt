@@ -2,7 +2,7 @@
 #![tactic(auto)]
 
 mod parser;
-mod portions;
 mod readers;
+mod tokens;
 
 pub use readers::read_update;

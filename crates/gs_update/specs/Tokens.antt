@@ -1,4 +1,4 @@
--- What the tokens of a portion do to a parser of updates.
+-- What tokens do to a parser of updates.
 use Rattle.std.specs.Prelude.{◌≡◌, ℕ, List, ◌++◌, map, Some, None}
 use Rattle.gs_model.specs.declared.faults.Fault.TheVariants as fault
 use Rattle.gs_model.specs.declared.refusals.Refusal.{Refusal}

@@ -1,7 +1,7 @@
--- The tokens of a portion, one after another.
-use Rattle.std.proofs.Common.{◌≡◌, ℕ, ◌+◌, ◌<◌, List, [], ◌∷◌, ◌++◌, length, take, get_or, refl, sym, ap, subst, ◌∙◌, append_assoc, append-nil}
+-- Tokens, one after another.
+use Rattle.std.proofs.Common.{◌≡◌, ℕ, List, [], ◌∷◌, ◌++◌, refl, sym, ap, ◌∙◌, append_assoc, append-nil}
 use Rattle.std.specs.Prelude.{Some, None}
-use Rattle.std.proofs.lemmas.List.{map-append, take_more}
+use Rattle.std.proofs.lemmas.List.{map-append}
 use Rattle.gs_model.specs.declared.refusals.Refusal.{Refusal}
 use Rattle.gs_model.specs.declared.refusals.Refusal.TheVariants as refusal
 use Rattle.gs_model.specs.declared.faults.Fault.TheVariants as fault
@@ -9,8 +9,6 @@ use Rattle.gs_machine.specs.Machines.{joined, steps, rest}
 use Rattle.gs_machine.proofs.MachineLemmas.{steps-append, steps-one, rest-append}
 use Rattle.gs_lex.specs.Tokens as lexer
 use Rattle.gs_lex.specs.Tokens.{Lexeme}
-use Rattle.gs_lex.specs.Lexemes.{lexeme_of, lexemes_of}
-use Rattle.gs_lex.specs.declared.tokens.Token.{Token}
 use Rattle.gs_triples.specs.Symbols.{symbol_of, symbols_of}
 use Rattle.gs_update_text.specs.Requests.{Written, Rejection, Broken, OutOfProfile, Request, end_of_last}
 use Rattle.gs_update_text.specs.States.{State, Rejected}
@@ -20,7 +18,7 @@ use Rattle.gs_update_text.proofs.UpdateLemmas.{rejected_rest}
 use Rattle.gs_update_places.specs.Views.{IsSound}
 use Rattle.gs_update.specs.Views.{state_of, operations_of}
 use Rattle.gs_update.specs.Steps.{Moves}
-use Rattle.gs_update.specs.Portions.{operations_in, transition_of, end_of, Takes, Concludes, refusal_of, ReportsAfter}
+use Rattle.gs_update.specs.Tokens.{operations_in, transition_of, end_of, Takes, Concludes, refusal_of, ReportsAfter}
 use Rattle.gs_update.specs.declared.parser.UpdateParser.{UpdateParser}
 
 -- the operations of one list after another
@@ -43,28 +41,31 @@ transition-append p s ts us e =
     ap (steps updates (state_of p)) (map-append symbol_of ts us) ∙ steps-append updates (state_of p) (symbols_of ts) (symbols_of us)
     ∙ ap (λ (z : State). ((steps updates z (symbols_of us)).0, (transition_of p ts).1 ++ (steps updates z (symbols_of us)).1)) (sym e)
 
--- one token more
-takes_more : (a b c : UpdateParser) (ts : List Lexeme) (t : Lexeme) → Takes a b ts → Moves b c (step (state_of b) (symbol_of t)) → Takes a c (ts ++ t ∷ [])
-takes_more a b c ts t h m =
-    let u = step (state_of b) (symbol_of t) in
+-- tokens, and then others
+pub takes_then : (a b c : UpdateParser) (ts us : List Lexeme) → Takes a b ts → Takes b c us → Takes a c (ts ++ us)
+takes_then a b c ts us g h =
     let old = (transition_of a ts).1 in
-    let e : transition_of a (ts ++ t ∷ []) ≡ (u.0, old ++ u.1) =
-    transition-append a (state_of b) ts (t ∷ []) h.state ∙ ap (λ (z : State × List Written). (z.0, old ++ z.1)) (steps-one updates (state_of b) (symbol_of t)) in
+    let more = (transition_of b us).1 in
+    let e : transition_of a (ts ++ us) ≡ ((transition_of b us).0, old ++ more) = transition-append a (state_of b) ts us g.state in
     record {
-      state = m.state ∙ ap (λ (z : State × List Written). z.0) (sym e);
-      operations = m.operations ∙ ap (λ z. z ++ operations_in u.1) h.operations ∙ append_assoc (operations_of a.operations.items) (operations_in old) (operations_in u.1)
-          ∙ ap (λ z. operations_of a.operations.items ++ z) (sym (operations_in-append old u.1)) ∙ ap (λ (z : State × List Written). operations_of a.operations.items ++ operations_in z.1) (sym e);
-      last = m.last ∙ ap (λ z. end_of_last z u.1) h.last ∙ sym (end_of_last-append a.last old u.1) ∙ ap (λ (z : State × List Written). end_of_last a.last z.1) (sym e);
-      sound = m.sound;
+      state = h.state ∙ ap (λ (z : State × List Written). z.0) (sym e);
+      operations = h.operations ∙ ap (λ z. z ++ operations_in more) g.operations ∙ append_assoc (operations_of a.operations.items) (operations_in old) (operations_in more)
+          ∙ ap (λ z. operations_of a.operations.items ++ z) (sym (operations_in-append old more)) ∙ ap (λ (z : State × List Written). operations_of a.operations.items ++ operations_in z.1) (sym e);
+      last = h.last ∙ ap (λ z. end_of_last z more) g.last ∙ sym (end_of_last-append a.last old more) ∙ ap (λ (z : State × List Written). end_of_last a.last z.1) (sym e);
+      sound = h.sound;
     }
 
--- the next token of a list
-pub takes_next : (a b c : UpdateParser) (xs : List Token) (n : ℕ) (t : Token) → n < length xs → t ≡ get_or xs n t → Takes a b (lexemes_of (take n xs)) → Moves b c (step (state_of b) (symbol_of (lexeme_of t)))
-    → Takes a c (lexemes_of (take (n + 1) xs))
-takes_next a b c xs n t l i h m =
-    let e : lexemes_of (take (n + 1) xs) ≡ lexemes_of (take n xs) ++ lexeme_of t ∷ [] =
-    ap lexemes_of (take_more xs n t l) ∙ map-append lexeme_of (take n xs) (get_or xs n t ∷ []) ∙ ap (λ (z : Token). lexemes_of (take n xs) ++ lexeme_of z ∷ []) (sym i) in
-    subst (Takes a c) (sym e) (takes_more a b c (lexemes_of (take n xs)) (lexeme_of t) h m)
+-- one token
+pub takes_one : (a b : UpdateParser) (t : Lexeme) → Moves a b (step (state_of a) (symbol_of t)) → Takes a b (t ∷ [])
+takes_one a b t m =
+    let u = step (state_of a) (symbol_of t) in
+    let e : transition_of a (t ∷ []) ≡ u = steps-one updates (state_of a) (symbol_of t) in
+    record {
+      state = m.state ∙ ap (λ (z : State × List Written). z.0) (sym e);
+      operations = m.operations ∙ ap (λ (z : State × List Written). operations_of a.operations.items ++ operations_in z.1) (sym e);
+      last = m.last ∙ ap (λ (z : State × List Written). end_of_last a.last z.1) (sym e);
+      sound = m.sound;
+    }
 
 -- a departure by its refusal
 reports : (r : Rejection) (last n : ℕ) (q : Request) → q.1 ≡ Some r → n ≡ end_of_last last q.0 → ReportsAfter last (refusal_of n r) q

@@ -1,0 +1,9 @@
+use Rattle.gs_lex.specs.Nexts.{left_of}
+use Rattle.gs_update.proofs.HistoryLemmas.{Walks}
+use Rattle.gs_update.proofs.readers.take_text.Given as goal
+
+abbrev pub invariant-tokens : goal.invariant-tokens
+invariant-tokens l = Walks l.fn.parser l.parser l.lexer l.text
+
+abbrev pub decreases-tokens : goal.decreases-tokens
+decreases-tokens l = left_of l.lexer.text.now l.lexer.at

@@ -1,0 +1,64 @@
+//! What a token does to a parser, and the end of a text.
+ghost use Rattle.std.specs.Prelude.{◌≡◌, [], ◌∷◌, OnOk, IfErr, ℕ, List};
+ghost use Rattle.gs_lex.specs.Tokens.{Lexeme};
+ghost use Rattle.gs_lex.specs.Tokens as lexer;
+ghost use Rattle.gs_lex.specs.Lexemes.{lexeme_of_borrowed};
+ghost use Rattle.gs_update_text.specs.Texts.{ended_by};
+ghost use Rattle.gs_update_places.specs.Views.{IsSound, rejection_at};
+ghost use Rattle.gs_update.specs.Tokens.{Takes, Concludes, ReportsAfter, refusal_of, end_of};
+
+use crate::parser::UpdateParser;
+use gs_lex::BorrowedToken;
+use gs_model::{Fault, Refusal};
+use gs_triple_values::symbol_of_borrowed;
+use gs_update_places::Rejection;
+
+/// The refusal that reports a departure.
+fn refusal(parser: &UpdateParser, rejection: Rejection) -> Refusal
+    ensures { result ≡ refusal_of parser.now.last (rejection_at rejection) }
+{
+    match rejection {
+        Rejection::Broken(Fault::Syntax) => Refusal::Syntax(parser.last),
+        Rejection::Broken(Fault::TermTooLong) => Refusal::TermTooLong,
+        Rejection::OutOfProfile => Refusal::NotInProfile,
+    }
+}
+
+/// One token more, and its fault.
+#[inline(always)]
+pub fn take_token(parser: &mut UpdateParser, token: BorrowedToken<'_>) -> Result<(), Refusal>
+    requires { IsSound parser.old.place }
+    ensures ok { OnOk result (Takes parser.old parser.new (lexeme_of_borrowed token.entry ∷ [])) }
+    ensures fault { IfErr result (λ e. (us : List Lexeme) →
+        ReportsAfter parser.old.last e (end_of parser.old (lexeme_of_borrowed token.entry ∷ us))) }
+{
+    parser.step(symbol_of_borrowed(token))?;
+    match parser.rejection() {
+        None => Ok(()),
+        Some(rejection) => Err(refusal(parser, rejection)),
+    }
+}
+
+/// The text ends there.
+pub fn conclude(parser: &mut UpdateParser) -> Result<(), Refusal>
+    requires { IsSound parser.old.place }
+    ensures ok { OnOk result (Concludes parser.old parser.new []) }
+    ensures fault { IfErr result (λ e. ReportsAfter parser.old.last e (end_of parser.old [])) }
+{
+    match parser.end()? {
+        None => Ok(()),
+        Some(rejection) => Err(refusal(parser, rejection)),
+    }
+}
+
+/// There stands something that is no token: the first fault of all.
+pub fn break_off(parser: &mut UpdateParser) -> Refusal
+    requires { IsSound parser.old.place }
+    ensures { (n : ℕ) → ReportsAfter parser.old.last result
+        (ended_by (lexer.AtFault n) (end_of parser.old [])) }
+{
+    match conclude(parser) {
+        Ok(()) => Refusal::Syntax(parser.last),
+        Err(refusal) => refusal,
+    }
+}
