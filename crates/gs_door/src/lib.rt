@@ -2,6 +2,8 @@
 #![tactic(auto)]
 
 mod doors;
+mod laws;
 mod stores;
 
 pub use doors::Door;
+pub use laws::store_door_takes_steps;

@@ -1,0 +1,16 @@
+//! Laws of doors, proved: the body is empty, and the contract is the law.
+ghost use Rattle.std.specs.Prelude.{◌↔◌};
+ghost use Rattle.gs_event.specs.declared.events.Event.{Event as AnEvent};
+ghost use Rattle.gs_event.specs.declared.answers.Answer.{Answer as AnAnswer};
+ghost use Rattle.gs_event.specs.Steps.{Steps};
+ghost use Rattle.gs_event.specs.Waste.{Shown};
+
+use crate::doors::Door;
+use gs_core::Store;
+
+/// The door that a store is to itself gives an answer, and leaves a state, exactly where they are
+/// those of a step of the abstract store.
+pub fn store_door_takes_steps()
+    ensures { (old : Shown) (e : AnEvent) (a : AnAnswer) (new : Shown)
+        → ⟦<Store as Door>⟧.Gives old e a new ↔ Steps old e a new }
+{}
