@@ -1,15 +1,11 @@
-//! Tests of texts: documents of N-Triples beside a plain reader, texts in both languages, and refused requests for memory.
+//! Tests of texts in both languages of bodies, and of refused requests for memory.
 #![tactic(auto)]
 
 #[cfg(test)]
 mod bodies;
 #[cfg(test)]
-mod documents;
-#[cfg(test)]
 mod faults;
 #[cfg(test)]
 mod lengths;
-#[cfg(test)]
-mod plain;
 #[cfg(test)]
 mod refusals;

@@ -1,7 +1,8 @@
 //! Bodies with their triples.
-use crate::readings::{SIZES, lines_of, reader};
 use gs_body::BodyReader;
 use gs_model::Refusal;
+use gs_readings::SIZES;
+use gs_readings::turtle::{lines_as_read, reader};
 use gs_turtle::{body_is_read, faulty_body_is_read};
 use std::alloc::{AllocError, Global};
 use std::test::Fail;
@@ -22,7 +23,7 @@ _:b3_1 <http://e/p> \"true\"^^<http://www.w3.org/2001/XMLSchema#boolean> .
 
 /// Whether a text in pieces of so many bytes states these lines.
 fn states(alloc: Global, text: &[u8], size: usize, lines: &str) -> Result<bool, Refusal> {
-    let got = lines_of(alloc, "http://b/", text, size)?;
+    let got = lines_as_read(alloc, "http://b/", text, size)?;
     Ok(got.as_slice() == lines.as_bytes())
 }
 

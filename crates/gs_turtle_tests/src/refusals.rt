@@ -1,8 +1,8 @@
 //! What a refusal leaves: the list as it was, and a closed reader. With memory these show the
 //! usual answers; `rt try --test --fail-alloc N` refuses the request of that number.
-use crate::readings::reader;
 use gs_body::BodyReader;
 use gs_model::Refusal;
+use gs_readings::turtle::reader;
 use gs_term::Triple;
 use gs_turtle::TurtleReader;
 use std::alloc::Global;

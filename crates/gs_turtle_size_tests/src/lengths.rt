@@ -1,6 +1,6 @@
 //! Long terms, of which the longest that may be has 65,535 bytes, and long documents.
-use crate::readings::{graph_of, wrong_count};
 use gs_model::Refusal;
+use gs_readings::turtle::{graph_of, wrong_count};
 use std::alloc::{AllocError, Global};
 use std::test::Fail;
 

@@ -1,6 +1,7 @@
 //! Brackets and collections within one another, up to the most that may be.
-use crate::readings::{SIZES, wrong_count};
 use gs_model::Refusal;
+use gs_readings::SIZES;
+use gs_readings::turtle::wrong_count;
 use std::alloc::{AllocError, Global};
 use std::test::Fail;
 

@@ -1,6 +1,6 @@
-//! A text read in pieces of any size. These functions have no contract, so that the proof of a test that calls them has
-//! little to carry.
-use gs_body::BodyReader;
+//! A text of Turtle read in pieces of any size.
+use crate::lines::lines_of;
+use crate::pieces::feed;
 use gs_iri::is_absolute;
 use gs_model::Refusal;
 use gs_ntwrite::line;
@@ -8,28 +8,12 @@ use gs_term::Triple;
 use gs_turtle::TurtleReader;
 use std::alloc::Global;
 
-/// The lengths of pieces in bytes; the last is whole.
-pub const SIZES: [usize; 4] = [1, 2, 3, usize::MAX];
-
 /// A reader under a base in request 3.
 pub fn reader(alloc: Global, base: &str) -> Result<TurtleReader, Refusal> {
     if !is_absolute(base) {
         return Err(Refusal::Syntax(0));
     }
     Ok(TurtleReader::new(alloc, 3, base)?)
-}
-
-/// Feeds a text in pieces of so many bytes, at least 1, and ends it.
-fn feed(
-    reader: &mut TurtleReader,
-    text: &[u8],
-    size: usize,
-    triples: &mut Vec<Triple>,
-) -> Result<(), Refusal> {
-    for piece in text.chunks(size.max(1)) {
-        reader.feed(piece, triples)?;
-    }
-    reader.finish(triples)
 }
 
 /// The triples of a text, in the order in which they are given.
@@ -46,13 +30,14 @@ pub fn count_of(alloc: Global, base: &str, text: &[u8], size: usize) -> Result<u
 }
 
 /// Their lines, each with its line feed, in their order.
-pub fn lines_of(alloc: Global, base: &str, text: &[u8], size: usize) -> Result<Vec<u8>, Refusal> {
+pub fn lines_as_read(
+    alloc: Global,
+    base: &str,
+    text: &[u8],
+    size: usize,
+) -> Result<Vec<u8>, Refusal> {
     let triples = read(alloc, base, text, size)?;
-    let mut lines = Vec::new(alloc);
-    for triple in &triples {
-        line(triple, &mut lines)?;
-    }
-    Ok(lines)
+    lines_of(alloc, triples.as_slice())
 }
 
 /// The line of each triple.

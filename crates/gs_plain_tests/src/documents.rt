@@ -1,10 +1,8 @@
 //! Documents of N-Triples: the reader in pieces says what the plain reader says of the whole text.
-use crate::bodies::{SIZES, lines_of};
 use crate::plain::{Meaning, meaning_of};
-use gs_body::BodyReader;
 use gs_model::Refusal;
 use gs_ntread::NTriplesReader;
-use gs_term::Triple;
+use gs_readings::{SIZES, feed, lines_of};
 use std::alloc::{AllocError, Global};
 use std::test::Fail;
 
@@ -61,25 +59,12 @@ const DOCUMENTS: [&str; 44] = [
 const WHOLE: &str =
     "_:a <c:d> \"\\u00e9\\n\"@en-GB .#x\n<a:b><c:d>_:a.b.\n<a:b> <c:d> \"\"^^<e:f>.";
 
-/// Feeds a document in pieces of so many bytes, at least 1.
-fn feed_pieces(
-    reader: &mut NTriplesReader,
-    document: &str,
-    size: usize,
-    triples: &mut Vec<Triple>,
-) -> Result<(), Refusal> {
-    for piece in document.as_bytes().chunks(size.max(1)) {
-        reader.feed(piece, triples)?;
-    }
-    reader.finish(triples)
-}
-
 /// Whether the reader in pieces says this of a document. Of a text with a fault that is where the
 /// fault is.
 fn agrees(alloc: Global, document: &str, size: usize, want: &Meaning) -> Result<bool, Refusal> {
     let mut reader = NTriplesReader::new(alloc, 1);
     let mut triples = Vec::new(alloc);
-    let reported = feed_pieces(&mut reader, document, size, &mut triples);
+    let reported = feed(&mut reader, document.as_bytes(), size, &mut triples);
     if let Some(at) = want.fault {
         return Ok(reported == Err(Refusal::Syntax(at)));
     }

@@ -1,6 +1,7 @@
 //! A document that ends too early, at each of its bytes.
-use crate::readings::{SIZES, fault_of, graph_of};
 use gs_model::Refusal;
+use gs_readings::SIZES;
+use gs_readings::turtle::{fault_of, graph_of};
 use std::alloc::Global;
 use std::test::Fail;
 

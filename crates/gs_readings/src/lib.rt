@@ -1,0 +1,9 @@
+//! Reading of texts for tests: a body in pieces of any size, and the lines of its triples.
+#![tactic(auto)]
+
+mod lines;
+mod pieces;
+pub mod turtle;
+
+pub use lines::lines_of;
+pub use pieces::{SIZES, feed};
