@@ -14,13 +14,12 @@ import update_oracle
 HERE = os.path.dirname(os.path.abspath(__file__))
 CRATE = os.path.join(HERE, "..", "crates", "gs_update_examples")
 FORMS = ("insert", "delete", "where")
-# longer texts are ended near both ends, where the reader begins a portion, and at so many places between; under `rt try`
+# longer texts are ended near both ends, and at so many places between; under `rt try`
 # those that are longer than the second number are not ended at all
 SHORT = 9_000
 TRIED = 400
 NEAR = 12
 BETWEEN = 40
-PORTION = 256
 CASES_A_RUN = 600
 
 
@@ -110,8 +109,7 @@ def ends(data):
     """The lengths at which a text is ended."""
     if len(data) <= SHORT:
         return range(len(data))
-    near = {at + more for at in (PORTION, 2 * PORTION) for more in (-1, 0, 1)}
-    near |= {*range(5 * NEAR), *range(len(data) - NEAR, len(data))}
+    near = {*range(5 * NEAR), *range(len(data) - NEAR, len(data))}
     near |= {len(data) * place // BETWEEN for place in range(BETWEEN)}
     return sorted(it for it in near if it < len(data))
 
