@@ -8,8 +8,8 @@ ghost use Rattle.gs_event.specs.Waste.{Shown};
 use crate::doors::Door;
 use gs_core::Store;
 
-/// The door that a store is to itself gives an answer, and leaves a state, exactly where they are
-/// those of a step of the abstract store.
+/// For the door that a store is to itself, `Gives` holds exactly where `Steps` of the abstract store
+/// does.
 pub fn store_door_takes_steps()
     ensures { (old : Shown) (e : AnEvent) (a : AnAnswer) (new : Shown)
         → ⟦<Store as Door>⟧.Gives old e a new ↔ Steps old e a new }

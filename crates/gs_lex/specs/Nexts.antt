@@ -13,11 +13,11 @@ pub record HasCut (updates : Bool) (r : Reading) (x : List ℕ) (ts : List Lexem
   pub read : HasRead true r (drop r.cut x)
   pub rest : (us : List Lexeme) (e : CutEnd) → CutFrom r (drop r.cut x) us e → IsCut updates x (ts ++ us) e
 
--- after those tokens stands this one; or the text has no more of them, and ends so
+-- After those tokens stands this one; or the text has no more of them, and ends so, and the reading stays there.
 abbrev pub Gives : Bool → List ℕ → Reading → List Lexeme → Next → Type 0
 Gives updates x r ts (next.Token t) = HasCut updates r x (ts ++ lexeme_of_borrowed t ∷ [])
-Gives updates x r ts (next.Fault n) = IsCut updates x ts (AtFault n)
-Gives updates x r ts next.End = IsCut updates x ts AtEnd
+Gives updates x r ts (next.Fault n) = HasCut updates r x ts × IsCut updates x ts (AtFault n)
+Gives updates x r ts next.End = HasCut updates r x ts × IsCut updates x ts AtEnd
 
 -- after whichever tokens stood before the cut, this stands next
 abbrev pub CutsNext : List ℕ → Reading → Reading → Next → Type 0
@@ -27,7 +27,7 @@ CutsNext x from to n = (updates : Bool) (ts : List Lexeme) → HasCut updates fr
 abbrev pub left_of : List ℕ → Reading → ℕ
 left_of x r = length x - r.cut
 
--- a token takes some of them
+-- a token takes some of them; of a fault and of the end nothing is said
 abbrev pub GoesOn : List ℕ → Reading → Reading → Next → Type 0
 GoesOn x from to (next.Token t) = left_of x to < left_of x from
 GoesOn x from to n = Unit {0}

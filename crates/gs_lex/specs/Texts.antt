@@ -9,6 +9,6 @@ use Rattle.gs_lex.specs.declared.texts.TextLexer.{TextLexer}
 abbrev pub HasGiven : Bool → TextLexer → List Lexeme → Type 0
 HasGiven updates l ts = HasCut updates l.at l.text.now ts
 
--- after the tokens that it had given a lexer gives what stands next, and goes on over it
+-- after the tokens that it had given a lexer gives what stands next; where that is a token, fewer bytes are left
 abbrev pub Continues : TextLexer → TextLexer → Next → Type 0
 Continues old new n = CutsNext old.text.now old.at new.at n × GoesOn old.text.now old.at new.at n

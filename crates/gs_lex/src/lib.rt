@@ -1,4 +1,5 @@
-//! The tokens of Turtle and of SPARQL Update, from a text that comes in any pieces.
+//! The tokens of Turtle and of SPARQL Update, from a text that comes in any pieces, or that is at
+//! hand whole.
 #![tactic(auto)]
 
 mod classes;

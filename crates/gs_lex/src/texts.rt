@@ -8,12 +8,12 @@ use crate::readings::{found, passed, step_at};
 use crate::steps::{Reading, Step};
 use crate::tokens::{BorrowedToken, borrowed_at};
 
-/// What stands next in a text.
+/// The next token of a whole text, or why there is none.
 #[derive(Clone, Copy, Debug)]
 pub enum Next<'a> {
     Token(BorrowedToken<'a>),
-    /// No token, but something that is none; and the number of bytes up to the end of the last token
-    /// before it, 0 where there is none.
+    /// Something that is no token stands there; the number of bytes up to the end of the last token,
+    /// 0 where there is none.
     Fault(u64),
     /// The end of the text.
     End,
@@ -40,7 +40,7 @@ fn next_from(text: &[u8], from: Reading) -> (Reading, Next<'_>)
             }
             Step::Fault => return (at, Next::Fault(at.last)),
             Step::End => return (at, Next::End),
-            // Of a text that is at hand whole nothing is waited for.
+            // Never, as the proof shows: of a text that is at hand whole nothing is waited for.
             Step::Wait(_) => return (at, Next::End),
         }
     }
@@ -69,8 +69,9 @@ impl<'a> TextLexer<'a> {
         }
     }
 
-    /// The next token, or what stands in its place. Linear in the bytes up to its end, and in those
-    /// after them that a longer token might have had.
+    /// The next token, or what stands in its place; after a fault or the end each later call answers
+    /// the same. Linear in the bytes up to the token's end, and in those after them that a longer
+    /// token might have had: what was read in vain is not read again.
     #[inline(always)]
     pub fn next_token(&mut self) -> Next<'a>
         ensures text { self.new.text ≡ self.old.text }

@@ -1,4 +1,4 @@
-//! A token of a text.
+//! Tokens of a text, with bytes of their own or borrowed.
 ghost use Rattle.std.specs.Prelude.{◌≡◌, IfOk, length};
 ghost use Rattle.gs_lex.specs.Tokens.{lexeme_at, place_after};
 ghost use Rattle.gs_lex.specs.Lexemes.{lexeme_of, lexeme_of_borrowed};
@@ -20,7 +20,8 @@ pub struct Token {
     pub end: u64,
 }
 
-/// A token of a text that is at hand, with its place in that text.
+/// A token that borrows its bytes, with its place in the whole text. A place is a number of bytes
+/// that stops at the greatest `u64`.
 #[derive(Clone, Copy, Debug)]
 pub struct BorrowedToken<'a> {
     pub kind: TokenKind,

@@ -109,11 +109,11 @@ stopped e a b l x end w c h =
 
 -- since something stands there that is none
 pub walks_fault : (e : Refusal) (a b : UpdateParser) (l m : TextLexer) (x : List ℕ) (n : ℕ) → Walks a b l x → Continues l m (next.Fault n) → ((k : ℕ) → ReportsAfter b.last e (ended_by (lexer.AtFault k) (end_of b []))) → IsRefused a x e
-walks_fault e a b l m x n w k h = stopped e a b l x (lexer.AtFault n) w (k.0 true w.lexemes w.given) (h n)
+walks_fault e a b l m x n w k h = stopped e a b l x (lexer.AtFault n) w (k.0 true w.lexemes w.given).1 (h n)
 
 -- or since it breaks off
 pub walks_end_refused : (e : Refusal) (a b : UpdateParser) (l m : TextLexer) (x : List ℕ) → Walks a b l x → Continues l m next.End → ReportsAfter b.last e (end_of b []) → IsRefused a x e
-walks_end_refused e a b l m x w k h = stopped e a b l x lexer.AtEnd w (k.0 true w.lexemes w.given) h
+walks_end_refused e a b l m x w k h = stopped e a b l x lexer.AtEnd w (k.0 true w.lexemes w.given).1 h
 
 -- or it ends without a departure
 pub walks_ended : (a b c : UpdateParser) (l m : TextLexer) (x : List ℕ) → Walks a b l x → Continues l m next.End → Concludes b c [] → Reads a c x
@@ -123,7 +123,7 @@ walks_ended a b c l m x w k h =
     let all : end_of a w.lexemes ≡ joined os q = ap (end_of a) (sym (append-nil w.lexemes)) ∙ said_on a b w.lexemes [] w.took in
     record {
       lexemes = w.lexemes;
-      cut = subst (λ z. IsCut true z w.lexemes lexer.AtEnd) w.text (k.0 true w.lexemes w.given);
+      cut = subst (λ z. IsCut true z w.lexemes lexer.AtEnd) w.text (k.0 true w.lexemes w.given).1;
       concluded = record {
         whole = ap (λ (z : Request). z.1) all ∙ h.whole;
         operations = h.operations ∙ ap (λ z. z ++ operations_in q.0) w.took.operations ∙ append_assoc (operations_of a.operations.items) (operations_in os) (operations_in q.0)

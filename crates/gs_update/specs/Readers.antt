@@ -6,13 +6,13 @@ use Rattle.gs_update_text.specs.Texts.{ended_by}
 use Rattle.gs_update.specs.Tokens.{end_of, Concludes, ReportsAfter}
 use Rattle.gs_update.specs.declared.parser.UpdateParser.{UpdateParser}
 
--- the text is cut into these tokens, and ends after them without a departure
+-- the text is cut into these tokens, and ends after them without a departure; the parser then has their operations
 pub record Reads (old new : UpdateParser) (x : List ℕ) : Type 0 where
   pub lexemes : List Lexeme
   pub cut : IsCut true x lexemes AtEnd
   pub concluded : Concludes old new lexemes
 
--- the text is cut so, and has this fault
+-- the text is cut so, and has this fault; of want of memory nothing is said
 pub record IsRefused (old : UpdateParser) (x : List ℕ) (e : Refusal) : Type 0 where
   pub lexemes : List Lexeme
   pub ending : CutEnd

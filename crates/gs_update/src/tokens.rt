@@ -51,7 +51,8 @@ pub fn conclude(parser: &mut UpdateParser) -> Result<(), Refusal>
     }
 }
 
-/// There stands something that is no token: the first fault of all.
+/// Something that is no token stands there: the refusal of a text that ends there, or, where it has
+/// none, a broken grammar.
 pub fn break_off(parser: &mut UpdateParser) -> Refusal
     requires { IsSound parser.old.place }
     ensures { (n : ℕ) → ReportsAfter parser.old.last result

@@ -44,12 +44,12 @@ returns-in-Found-clause-cut c updates ts g =
 pub returns-in-Fault-clause-cut : goal.returns-in-Fault-clause-cut
 returns-in-Fault-clause-cut c updates ts g =
     let here = c.steps.invariant.given updates ts g in
-    cut-fails updates c.steps.at c.args.text.now ts here (c.in-Fault.ensures.fits here.read)
+    (here, cut-fails updates c.steps.at c.args.text.now ts here (c.in-Fault.ensures.fits here.read))
 
 pub returns-in-End-clause-cut : goal.returns-in-End-clause-cut
 returns-in-End-clause-cut c updates ts g =
     let here = c.steps.invariant.given updates ts g in
-    cut-ends updates c.steps.at c.args.text.now ts _ here (c.in-End.ensures.fits here.read).1
+    (here, cut-ends updates c.steps.at c.args.text.now ts _ here (c.in-End.ensures.fits here.read).1)
 
 pub returns-in-Wait-clause-cut : goal.returns-in-Wait-clause-cut
 returns-in-Wait-clause-cut c updates ts g =
