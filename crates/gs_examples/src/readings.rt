@@ -1,24 +1,11 @@
 //! The reading of a document, whole or in pieces.
-use gs_body::BodyReader;
 use gs_iri::is_absolute;
 use gs_model::Refusal;
 use gs_ntwrite::line;
 use gs_term::Triple;
+use gs_test_readings::feed;
 use gs_turtle::TurtleReader;
 use std::alloc::Global;
-
-/// Feeds a document in pieces of so many bytes, at least 1, and ends it.
-fn feed(
-    reader: &mut TurtleReader,
-    text: &[u8],
-    size: usize,
-    triples: &mut Vec<Triple>,
-) -> Result<(), Refusal> {
-    for piece in text.chunks(size.max(1)) {
-        reader.feed(piece, triples)?;
-    }
-    reader.finish(triples)
-}
 
 /// Reads a document of request 1 under a base, in pieces of so many bytes.
 fn read(

@@ -15,5 +15,5 @@ pub mod Runs
 pub mod Lexemes
 pub mod Readings
 pub mod Lexers
-pub mod Nexts
+pub mod Cutting
 pub mod Texts

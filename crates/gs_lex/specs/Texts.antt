@@ -1,14 +1,14 @@
 -- What a lexer of a text that is at hand whole has given of it.
 use Rattle.std.specs.Prelude.{Bool, List}
 use Rattle.gs_lex.specs.Tokens.{Lexeme}
-use Rattle.gs_lex.specs.Nexts.{HasCut, CutsNext, GoesOn}
+use Rattle.gs_lex.specs.Cutting.{HasCutOff, CutsNext, TakesSome}
 use Rattle.gs_lex.specs.declared.texts.Next.{Next}
 use Rattle.gs_lex.specs.declared.texts.TextLexer.{TextLexer}
 
 -- the lexer has given these tokens of its text
 abbrev pub HasGiven : Bool → TextLexer → List Lexeme → Type 0
-HasGiven updates l ts = HasCut updates l.at l.text.now ts
+HasGiven updates l ts = HasCutOff updates l.at l.text.now ts
 
 -- after the tokens that it had given a lexer gives what stands next; where that is a token, fewer bytes are left
 abbrev pub Continues : TextLexer → TextLexer → Next → Type 0
-Continues old new n = CutsNext old.text.now old.at new.at n × GoesOn old.text.now old.at new.at n
+Continues old new n = CutsNext old.text.now old.at new.at n × TakesSome old.text.now old.at new.at n

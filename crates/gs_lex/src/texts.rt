@@ -1,7 +1,7 @@
 //! The lexer of a text that is at hand whole.
 ghost use Rattle.std.specs.Prelude.{◌≡◌, []};
 ghost use Rattle.gs_lex.specs.Readings.{IsWithin};
-ghost use Rattle.gs_lex.specs.Nexts.{CutsNext, GoesOn};
+ghost use Rattle.gs_lex.specs.Cutting.{CutsNext, TakesSome};
 
 use crate::lexers::first_reading;
 use crate::readings::{found, passed, step_at};
@@ -25,7 +25,7 @@ fn next_from(text: &[u8], from: Reading) -> (Reading, Next<'_>)
     requires { IsWithin from text.now }
     ensures within { IsWithin result.0 text.now }
     ensures cut { CutsNext text.now from result.0 result.1 }
-    ensures on { GoesOn text.now from result.0 result.1 }
+    ensures on { TakesSome text.now from result.0 result.1 }
 {
     let mut at = from;
     'steps: loop {

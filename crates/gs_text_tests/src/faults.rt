@@ -1,7 +1,7 @@
 //! Texts that are a document in no language, each with the statements before its first fault.
 use crate::bodies::{Language, read};
 use gs_model::Refusal;
-use gs_readings::SIZES;
+use gs_test_readings::SIZES;
 use std::alloc::Global;
 use std::test::Fail;
 

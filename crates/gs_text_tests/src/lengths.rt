@@ -1,7 +1,7 @@
 //! Long labels and long strings, in both languages.
 use crate::bodies::{Language, lines_as_read};
 use gs_model::Refusal;
-use gs_readings::SIZES;
+use gs_test_readings::SIZES;
 use std::alloc::{AllocError, Global};
 use std::test::Fail;
 

@@ -1,7 +1,7 @@
-//! A text read in pieces of any size.
+//! A text read in pieces of any size, and whole.
 ghost use Rattle.std.specs.Prelude.{◌<◌};
 
-use gs_lex::{Lexer, Token};
+use gs_lex::{Lexer, Next, TextLexer, Token, TokenKind};
 use gs_model::Refusal;
 use std::alloc::Global;
 use std::process::Abort;
@@ -17,6 +17,15 @@ fn cut(lexer: &mut Lexer, text: &[u8], size: usize, tokens: &mut Vec<Token>) -> 
     lexer.finish(tokens)
 }
 
+/// Writes the name of a kind, after a space where names stand before it.
+fn write_name(alloc: Global, names: &mut String, kind: TokenKind) -> Result<(), Refusal> {
+    if !names.is_empty() {
+        names.push(' ')?;
+    }
+    names.push_str(format!(in alloc; "{:?}", kind)?.as_str())?;
+    Ok(())
+}
+
 /// The kinds of a text's tokens, by name, with a space between two.
 fn kinds_of(alloc: Global, updates: bool, text: &[u8], size: usize) -> Result<String, Refusal>
     requires { 0 < size }
@@ -26,10 +35,22 @@ fn kinds_of(alloc: Global, updates: bool, text: &[u8], size: usize) -> Result<St
     cut(&mut lexer, text, size, &mut tokens)?;
     let mut names = String::new(alloc);
     for token in &tokens {
-        if !names.is_empty() {
-            names.push(' ')?;
+        write_name(alloc, &mut names, token.kind)?;
+    }
+    Ok(names)
+}
+
+/// The same of a text that is at hand whole.
+fn kinds_of_whole(alloc: Global, updates: bool, text: &[u8]) -> Result<String, Refusal> {
+    let mut lexer = TextLexer::new(text, updates);
+    let mut names = String::new(alloc);
+    // so many calls reach the end
+    for _ in 0..=text.len() {
+        match lexer.next_token() {
+            Next::Token(token) => write_name(alloc, &mut names, token.kind)?,
+            Next::Fault(at) => return Err(Refusal::Syntax(at)),
+            Next::End => break,
         }
-        names.push_str(format!(in alloc; "{:?}", token.kind)?.as_str())?;
     }
     Ok(names)
 }
@@ -50,7 +71,7 @@ fn expect_in(
     Ok(())
 }
 
-/// Asserts that a text has these tokens, whole and in pieces of 1, 2 and 3 bytes.
+/// Asserts that a text has these tokens, whole and in pieces of 1, 2, 3 and 1000 bytes.
 pub fn expect(
     rt: &impl Abort,
     alloc: Global,
@@ -58,6 +79,8 @@ pub fn expect(
     text: &str,
     want: &str,
 ) -> Result<(), Fail> {
+    let kinds = kinds_of_whole(alloc, updates, text.as_bytes())?;
+    assert_eq!(rt; kinds.as_str(), want, "at {text}");
     expect_in(rt, alloc, updates, text, 1000, want)?;
     expect_in(rt, alloc, updates, text, 1, want)?;
     expect_in(rt, alloc, updates, text, 2, want)?;
@@ -80,8 +103,8 @@ fn refuse_in(
     Ok(())
 }
 
-/// Asserts that a text of Turtle has a fault after so many bytes, whole and in pieces of 1, 2 and
-/// 3 bytes.
+/// Asserts that a text of Turtle has a fault after so many bytes, whole and in pieces of 1, 2, 3
+/// and 1000 bytes.
 pub fn refuse(
     rt: &impl Abort,
     alloc: Global,
@@ -89,6 +112,8 @@ pub fn refuse(
     text: &[u8],
     at: u64,
 ) -> Result<(), Fail> {
+    let refusal = kinds_of_whole(alloc, false, text).err();
+    assert_eq!(rt; refusal, Some(Refusal::Syntax(at)), "at {name}");
     refuse_in(rt, alloc, name, text, 1000, at)?;
     refuse_in(rt, alloc, name, text, 1, at)?;
     refuse_in(rt, alloc, name, text, 2, at)?;

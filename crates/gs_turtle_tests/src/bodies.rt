@@ -1,8 +1,8 @@
 //! Bodies with their triples.
 use gs_body::BodyReader;
 use gs_model::Refusal;
-use gs_readings::SIZES;
-use gs_readings::turtle::{lines_as_read, reader};
+use gs_test_readings::SIZES;
+use gs_test_readings::turtle::{lines_as_read, reader};
 use gs_turtle::{body_is_read, faulty_body_is_read};
 use std::alloc::{AllocError, Global};
 use std::test::Fail;

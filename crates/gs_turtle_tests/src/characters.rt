@@ -1,8 +1,8 @@
 //! Documents and faults with characters that a table of lines cannot show, and texts that are not
 //! UTF-8.
 use gs_model::Refusal;
-use gs_readings::SIZES;
-use gs_readings::turtle::{fault_of, graph_of};
+use gs_test_readings::SIZES;
+use gs_test_readings::turtle::{fault_of, graph_of};
 use std::alloc::{AllocError, Global};
 use std::test::Fail;
 

@@ -1,8 +1,8 @@
 //! Texts with a fault, and what a refused call leaves.
 use gs_body::BodyReader;
 use gs_model::Refusal;
-use gs_readings::SIZES;
-use gs_readings::turtle::{fault_of, reader};
+use gs_test_readings::SIZES;
+use gs_test_readings::turtle::{fault_of, reader};
 use std::alloc::Global;
 use std::test::Fail;
 

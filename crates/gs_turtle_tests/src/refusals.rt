@@ -2,7 +2,7 @@
 //! usual answers; `rt try --test --fail-alloc N` refuses the request of that number.
 use gs_body::BodyReader;
 use gs_model::Refusal;
-use gs_readings::turtle::reader;
+use gs_test_readings::turtle::reader;
 use gs_term::Triple;
 use gs_turtle::TurtleReader;
 use std::alloc::Global;

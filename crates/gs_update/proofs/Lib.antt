@@ -1,3 +1,3 @@
 pub mod TokenLemmas
-pub mod HistoryLemmas
+pub mod TextLemmas
 pub mod PlaceLemmas

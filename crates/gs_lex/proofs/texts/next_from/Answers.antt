@@ -2,7 +2,7 @@ use Rattle.std.proofs.Common.{◌≡◌, ◌≤◌, ◌-◌, Bool, List, ◌∷�
 use Rattle.std.proofs.lemmas.List.{take_all}
 use Rattle.gs_lex.specs.Lexemes.{lexeme_of_borrowed}
 use Rattle.gs_lex.specs.Readings.{IsWithin, found_of}
-use Rattle.gs_lex.specs.Nexts.{HasCut}
+use Rattle.gs_lex.specs.Cutting.{HasCutOff}
 use Rattle.gs_lex.specs.Tokens.{Lexeme, lexeme_at}
 use Rattle.gs_lex.specs.declared.steps.Reading.{Reading}
 use Rattle.gs_lex.proofs.ReadLemmas.{within-passed}
@@ -16,7 +16,7 @@ steps-preserved c =
     let P : Reading → Type 0 = λ r. record {
       within : IsWithin r x;
       onward : c.args.from.cut ≤ r.cut;
-      given : (updates : Bool) (ts : List Lexeme) → HasCut updates c.args.from x ts → HasCut updates r x ts;
+      given : (updates : Bool) (ts : List Lexeme) → HasCutOff updates c.args.from x ts → HasCutOff updates r x ts;
     } in
     subst P (sym c.passed-at.ensures) (record {
       within = within-passed c.steps.at x c.in-Passed.count c.in-Passed.in_comment h.within c.in-Passed.ensures.moves.0;
@@ -37,8 +37,8 @@ returns-in-Found-clause-cut c updates ts g =
     let whole : take (length x - r.cut) left ≡ left = take_all (length x - r.cut) left (omega (arith, length-drop r.cut x)) in
     let is : lexeme_of_borrowed c.borrowed_at-token.result ≡ lexeme_at k r.place (take count left) =
     c.borrowed_at-token.ensures ∙ ap (λ z. lexeme_at k r.place (take count z)) whole in
-    subst (λ (q : Reading). HasCut updates q x (ts ++ lexeme_of_borrowed c.borrowed_at-token.result ∷ [])) (sym c.found.ensures)
-    (subst (λ (t : Lexeme). HasCut updates (found_of r count c.in-Found.barren) x (ts ++ t ∷ [])) (sym is)
+    subst (λ (q : Reading). HasCutOff updates q x (ts ++ lexeme_of_borrowed c.borrowed_at-token.result ∷ [])) (sym c.found.ensures)
+    (subst (λ (t : Lexeme). HasCutOff updates (found_of r count c.in-Found.barren) x (ts ++ t ∷ [])) (sym is)
     (cut-found updates r x ts k count c.in-Found.barren here (c.in-Found.ensures.fits here.read)))
 
 pub returns-in-Fault-clause-cut : goal.returns-in-Fault-clause-cut

@@ -1,6 +1,6 @@
 use Rattle.std.proofs.Common.{Bool, List, ◌+◌, ◌-◌, ◌≤◌, length}
 use Rattle.gs_lex.specs.Readings.{IsWithin, bit}
-use Rattle.gs_lex.specs.Nexts.{HasCut}
+use Rattle.gs_lex.specs.Cutting.{HasCutOff}
 use Rattle.gs_lex.specs.Tokens.{Lexeme}
 use Rattle.gs_lex.proofs.texts.next_from.Given as goal
 
@@ -8,7 +8,7 @@ abbrev pub invariant-steps : goal.invariant-steps
 invariant-steps l = record {
   within : IsWithin l.at l.text;
   onward : l.fn.from.cut ≤ l.at.cut;
-  given : (updates : Bool) (ts : List Lexeme) → HasCut updates l.fn.from l.text ts → HasCut updates l.at l.text ts;
+  given : (updates : Bool) (ts : List Lexeme) → HasCutOff updates l.fn.from l.text ts → HasCutOff updates l.at l.text ts;
 }
 
 abbrev pub decreases-steps : goal.decreases-steps

@@ -2,7 +2,7 @@ use Rattle.std.proofs.Common.{sym, subst}
 use Rattle.std.proofs.lemmas.Result.{err_from_is_err_and}
 use Rattle.gs_update_text.specs.Texts.{request_by}
 use Rattle.gs_update.specs.Answers.{AreOperationsOf}
-use Rattle.gs_update.proofs.HistoryLemmas.{refused_whole, read_whole}
+use Rattle.gs_update.proofs.TextLemmas.{refused_whole, read_whole}
 use Rattle.gs_update.proofs.readers.read_update.Goals as goal
 
 pub returns-in_err-take_text : goal.returns-in_err-take_text

@@ -1,6 +1,6 @@
 use Rattle.std.proofs.Common.{ap}
 use Rattle.std.proofs.lemmas.Result.{err_from_is_err_and, on_ok_weaker, IfErr-weaker}
-use Rattle.gs_update.proofs.HistoryLemmas.{walks_none, walks_more, walks_refused, walks_fault, walks_end_refused, walks_ended}
+use Rattle.gs_update.proofs.TextLemmas.{walks_none, walks_more, walks_refused, walks_fault, walks_end_refused, walks_ended}
 use Rattle.gs_update.proofs.readers.take_text.Goals as goal
 
 pub tokens-init : goal.tokens-init

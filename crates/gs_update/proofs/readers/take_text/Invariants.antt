@@ -1,5 +1,5 @@
-use Rattle.gs_lex.specs.Nexts.{left_of}
-use Rattle.gs_update.proofs.HistoryLemmas.{Walks}
+use Rattle.gs_lex.specs.Cutting.{left_of}
+use Rattle.gs_update.proofs.TextLemmas.{Walks}
 use Rattle.gs_update.proofs.readers.take_text.Given as goal
 
 abbrev pub invariant-tokens : goal.invariant-tokens

@@ -1,0 +1,11 @@
+pub mod TestLemmas
+pub mod LineLemmas
+pub mod HeadCutting
+pub mod HeadLemmas
+pub mod HeadRoom
+pub mod HeadAnswers
+pub mod ChunkLemmas
+pub mod ChunkAnswers
+pub mod FieldLemmas
+pub mod NumberLemmas
+pub mod NameLemmas

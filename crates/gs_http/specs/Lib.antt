@@ -1,0 +1,10 @@
+pub mod Limits
+pub mod Lines
+pub mod Heads
+pub mod Spans
+pub mod Chunks
+pub mod Fields
+pub mod Values
+pub mod Framing
+pub mod Connections
+pub mod Opened

@@ -1,0 +1,15 @@
+//! The body of a request, out of its transfer: by length, or in chunks, in pieces that are cut anywhere.
+#![tactic(auto)]
+
+mod laws;
+mod places;
+#[cfg(test)]
+mod replays;
+#[cfg(test)]
+mod rows;
+mod trailers;
+mod transfers;
+
+pub use laws::{chunked_is_the_grammar, settled_stays, sized_is_the_front};
+pub use places::Transfer;
+pub use transfers::Part;

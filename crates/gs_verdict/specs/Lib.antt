@@ -1,0 +1,4 @@
+pub mod Methods
+pub mod Checks
+pub mod Verdicts
+pub mod Bytes
