@@ -33,7 +33,8 @@ fn is_utf8_name(word: &[u8]) -> bool
 fn is_allowed(parameter: &[u8]) -> bool
     ensures { result ≡ spec.is_allowed parameter.now }
 {
-    !is_same_word(front_word(parameter, b'='), b"charset") || is_utf8_name(back_word(parameter, b'='))
+    !is_same_word(front_word(parameter, b'='), b"charset")
+        || is_utf8_name(back_word(parameter, b'='))
 }
 
 fn all_allow(value: &[u8]) -> bool
