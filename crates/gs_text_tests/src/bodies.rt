@@ -2,8 +2,8 @@
 use gs_iri::is_absolute;
 use gs_model::Refusal;
 use gs_ntread::NTriplesReader;
-use gs_test_readings::{feed, lines_of};
 use gs_term::Triple;
+use gs_test_readings::{feed, lines_of};
 use gs_turtle::TurtleReader;
 use std::alloc::Global;
 

@@ -2,8 +2,8 @@
 //! usual answers; `rt try --test --fail-alloc N` refuses the request of that number.
 use gs_body::BodyReader;
 use gs_model::Refusal;
-use gs_test_readings::turtle::reader;
 use gs_term::Triple;
+use gs_test_readings::turtle::reader;
 use gs_turtle::TurtleReader;
 use std::alloc::Global;
 use std::test::Fail;
