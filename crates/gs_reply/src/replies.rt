@@ -1,0 +1,226 @@
+//! The texts of replies. Each call adds a text to a list; where memory is wanted the list is of no
+//! more use.
+ghost use Rattle.std.specs.Prelude.{◌≡◌, ◌++◌, OnOk};
+ghost use Rattle.gs_reply.specs.Notices.{notice_of};
+ghost use Rattle.gs_reply.specs.Replies as spec;
+
+use gs_names::Media;
+use gs_verdict::Allow;
+use http::StatusCode;
+use std::alloc::AllocError;
+use std::io::Write;
+
+/// The most bytes of a head of a reply, but for a name in it: the longest phrase has 31, and of the
+/// notes the longest is the field Allow with all six methods.
+const HEAD_BYTES: usize = 130;
+
+/// The most bytes of a chunk beside its piece: 16 digits and two line ends.
+const FRAME_BYTES: usize = 20;
+
+/// What a reply without a body says besides its status.
+#[derive(Clone, Copy, Debug)]
+pub enum Note<'a> {
+    Nothing,
+    /// The methods that the target allows.
+    Allows(Allow),
+    /// The name of the graph that was made.
+    Made(&'a [u8]),
+}
+
+/// `100 Continue`.
+#[tactic(auto, unfolding(crate::specs::Replies::continue_text, crate::specs::Replies::status_line, crate::specs::Replies::phrase_of))]
+pub fn continue_text() -> &'static [u8]
+    ensures { result.now ≡ spec.continue_text }
+{
+    b"HTTP/1.1 100 Continue\r\n\r\n"
+}
+
+/// A number that is no status is a fault of the server's own.
+fn code_of(status: u16) -> StatusCode
+    ensures { result ≡ spec.code_of status }
+{
+    match StatusCode::from_u16(status) {
+        Ok(code) => code,
+        Err(_) => StatusCode::INTERNAL_SERVER_ERROR,
+    }
+}
+
+#[tactic(auto, unfolding(crate::specs::Replies::phrase_of))]
+fn phrase(status: StatusCode) -> &'static [u8]
+    ensures { result.now ≡ spec.phrase_of status }
+{
+    status.canonical_reason().unwrap_or("").as_bytes()
+}
+
+#[tactic(auto, unfolding(crate::specs::Replies::status_line))]
+fn push_status(text: &mut Vec<u8>, status: StatusCode) -> Result<(), AllocError>
+    ensures { OnOk result (text.new.items ≡ text.old.items ++ spec.status_line status) }
+{
+    text.extend_from_slice(b"HTTP/1.1 ")?;
+    text.extend_from_slice(status.as_str().as_bytes())?;
+    text.extend_from_slice(b" ")?;
+    text.extend_from_slice(phrase(status))?;
+    text.extend_from_slice(b"\r\n")
+}
+
+#[tactic(auto, unfolding(crate::specs::Replies::field_line))]
+fn push_field(text: &mut Vec<u8>, name: &[u8], value: &[u8]) -> Result<(), AllocError>
+    ensures { OnOk result (text.new.items ≡ text.old.items ++ spec.field_line name.now value.now) }
+{
+    text.extend_from_slice(name)?;
+    text.extend_from_slice(b": ")?;
+    text.extend_from_slice(value)?;
+    text.extend_from_slice(b"\r\n")
+}
+
+fn push_close(text: &mut Vec<u8>, closes: bool) -> Result<(), AllocError>
+    ensures { OnOk result (text.new.items ≡ text.old.items ++ spec.close_line closes) }
+{
+    if closes {
+        push_field(text, b"Connection", b"close")
+    } else {
+        Ok(())
+    }
+}
+
+fn push_length(text: &mut Vec<u8>, status: StatusCode) -> Result<(), AllocError>
+    ensures { OnOk result (text.new.items ≡ text.old.items ++ spec.length_line status) }
+{
+    if status.as_u16() == 204 {
+        Ok(())
+    } else {
+        push_field(text, b"Content-Length", b"0")
+    }
+}
+
+fn push_note(text: &mut Vec<u8>, note: Note<'_>) -> Result<(), AllocError>
+    ensures { OnOk result (text.new.items ≡ text.old.items ++ spec.note_line (notice_of note.entry)) }
+{
+    match note {
+        Note::Nothing => Ok(()),
+        Note::Allows(allow) => push_field(text, b"Allow", allow.text().as_bytes()),
+        Note::Made(name) => push_field(text, b"Location", name),
+    }
+}
+
+/// The most bytes of a reply without a body that says this.
+fn room_for(note: Note<'_>) -> usize {
+    match note {
+        Note::Made(name) => name.len().saturating_add(HEAD_BYTES),
+        _ => HEAD_BYTES,
+    }
+}
+
+/// Adds a reply without a body, by the number of its status: 500 stands for a number that is none.
+/// Memory is taken once, before the first byte.
+#[tactic(auto, unfolding(crate::specs::Replies::reply_text))]
+pub fn push_reply(
+    text: &mut Vec<u8>,
+    status: u16,
+    note: Note<'_>,
+    closes: bool,
+) -> Result<(), AllocError>
+    ensures { OnOk result
+        (text.new.items ≡ text.old.items ++ spec.reply_text status (notice_of note.entry) closes) }
+{
+    let code = code_of(status);
+    text.reserve(room_for(note))?;
+    push_status(text, code)?;
+    push_length(text, code)?;
+    push_note(text, note)?;
+    push_close(text, closes)?;
+    text.extend_from_slice(b"\r\n")
+}
+
+fn media_text(media: Media) -> &'static [u8]
+    ensures { result.now ≡ spec.media_text media }
+{
+    match media {
+        Media::Turtle => b"text/turtle",
+        Media::NTriples => b"application/n-triples",
+        Media::Update => b"application/sparql-update",
+    }
+}
+
+#[tactic(auto, unfolding(crate::specs::Replies::type_line))]
+fn push_type(text: &mut Vec<u8>, media: Media) -> Result<(), AllocError>
+    ensures { OnOk result (text.new.items ≡ text.old.items ++ spec.type_line media) }
+{
+    push_field(text, b"Content-Type", media_text(media))
+}
+
+#[tactic(auto, unfolding(crate::specs::Replies::chunked_line))]
+fn push_chunked(text: &mut Vec<u8>) -> Result<(), AllocError>
+    ensures { OnOk result (text.new.items ≡ text.old.items ++ spec.chunked_line) }
+{
+    push_field(text, b"Transfer-Encoding", b"chunked")
+}
+
+/// Adds the head of a reply whose body comes in chunks. A HEAD's reply ends there. Memory is taken
+/// once, before the first byte.
+#[tactic(auto, unfolding(crate::specs::Replies::lines_head))]
+pub fn push_lines_head(text: &mut Vec<u8>, media: Media, closes: bool) -> Result<(), AllocError>
+    ensures { OnOk result (text.new.items ≡ text.old.items ++ spec.lines_head media closes) }
+{
+    text.reserve(HEAD_BYTES)?;
+    push_status(text, StatusCode::OK)?;
+    push_type(text, media)?;
+    push_chunked(text)?;
+    push_close(text, closes)?;
+    text.extend_from_slice(b"\r\n")
+}
+
+/// Adds a piece as a chunk. A piece without bytes is none, since an empty chunk would end the body.
+/// Memory is taken once, before the first byte.
+#[tactic(auto, unfolding(crate::specs::Replies::chunk))]
+pub fn push_chunk(text: &mut Vec<u8>, piece: &[u8]) -> Result<(), AllocError>
+    ensures { OnOk result (text.new.items ≡ text.old.items ++ spec.chunk piece.now) }
+{
+    if piece.is_empty() {
+        return Ok(());
+    }
+    text.reserve(piece.len().saturating_add(FRAME_BYTES))?;
+    write!(text, "{:x}\r\n", piece.len()).map_err(|_| AllocError)?;
+    text.extend_from_slice(piece)?;
+    text.extend_from_slice(b"\r\n")
+}
+
+/// Adds the last chunk.
+#[tactic(auto, unfolding(crate::specs::Replies::last_chunk))]
+pub fn push_last_chunk(text: &mut Vec<u8>) -> Result<(), AllocError>
+    ensures { OnOk result (text.new.items ≡ text.old.items ++ spec.last_chunk) }
+{
+    text.extend_from_slice(b"0\r\n\r\n")
+}
+
+#[cfg(test)]
+mod tests {
+    use super::*;
+    use std::alloc::Global;
+    use std::test::Fail;
+
+    /// Two replies without a body, then one in chunks, by hand from RFC 9112.
+    const WRITTEN: &[u8] = b"\
+HTTP/1.1 405 Method Not Allowed\r\nContent-Length: 0\r\nAllow: POST\r\n\r\n\
+HTTP/1.1 201 Created\r\nContent-Length: 0\r\nLocation: http://h/g\r\n\r\n\
+HTTP/1.1 200 OK\r\nContent-Type: text/turtle\r\nTransfer-Encoding: chunked\r\nConnection: close\r\n\r\n\
+11\r\n<a:b> <a:b> 10 .\n\r\n0\r\n\r\n";
+
+    fn written(alloc: Global) -> Result<Vec<u8>, AllocError> {
+        let mut text = Vec::new(alloc);
+        push_reply(&mut text, 405, Note::Allows(Allow::OfStore), false)?;
+        push_reply(&mut text, 201, Note::Made(b"http://h/g"), false)?;
+        push_lines_head(&mut text, Media::Turtle, true)?;
+        push_chunk(&mut text, b"<a:b> <a:b> 10 .\n")?;
+        push_chunk(&mut text, b"")?;
+        push_last_chunk(&mut text)?;
+        Ok(text)
+    }
+
+    #[test]
+    fn with_memory_each_text_is_written(rt: HostRuntime) -> Result<(), Fail> {
+        let text = written(rt.alloc())?;
+        assert_eq!(&rt; text.as_slice(), WRITTEN);
+        Ok(())
+    }
+}

@@ -1,0 +1,4 @@
+pub mod HeadLemmas
+pub mod PartLemmas
+pub mod StaysLemmas
+pub mod RequestLemmas

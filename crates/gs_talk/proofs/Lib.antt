@@ -1,0 +1,3 @@
+pub mod CourseLemmas
+pub mod KindLemmas
+pub mod LogLemmas

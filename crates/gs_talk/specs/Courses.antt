@@ -1,0 +1,58 @@
+-- The course of one request: how far it has come.
+use Rattle.std.specs.Prelude.{ℕ, Bool, List, Option}
+use Rattle.gs_model.specs.Triples.{RdfTriple}
+use Rattle.gs_term.specs.declared.names.GraphName.{GraphName}
+use Rattle.gs_event.specs.declared.events.Action.{Action}
+use Rattle.gs_event.specs.declared.answers.Answer.{Answer}
+use Rattle.gs_event.specs.declared.updates.Op.{Op}
+
+-- What happens in a session: it did an action and got an answer, or it was refused memory of its own.
+pub data Move : Type 0 where
+  Did : (action : Action) (answer : Answer) → Move
+  Short : Move
+
+-- what there was no more of
+pub data Lack : Type 0 where
+  Memory : Lack
+  Numbers : Lack
+
+-- how far a request has come
+pub data Course : Type 0 where
+  -- nothing was done
+  Fresh : Course
+  -- the Open was refused, or there was no memory for it
+  Early : (lack : Lack) → Course
+  -- an upload is open under this number, and this was staged
+  Writing : (request : ℕ) (staged : List RdfTriple) → Course
+  -- a patch is open under this number
+  Patching : (request : ℕ) → Course
+  -- refused later, where it stood so: a Cancel is due
+  Lacking : (before : Course) (lack : Lack) → Course
+  -- and was made; or a Delete was refused
+  Late : (lack : Lack) → Course
+  -- cancelled, and nothing was refused
+  Dropped : (request : ℕ) → Course
+  -- the Commit was answered
+  Wrote : (request : ℕ) (staged : List RdfTriple) (status : ℕ) (name : Option GraphName) → Course
+  -- the CommitPatch was answered
+  Patched : (request : ℕ) (operations : List Op) (status : ℕ) → Course
+  -- the Delete was answered
+  Erased : (status : ℕ) → Course
+  -- the Head was answered
+  Looked : (status : ℕ) → Course
+  -- the Pin was answered without a read
+  Missing : (status : ℕ) → Course
+  -- a read: this is out, this is due, and whether that is all
+  Held : (out due : List ℕ) (end : Bool) → Course
+  -- a read that was refused: a Cancel is due
+  Cutting : (out : List ℕ) → Course
+  -- and was made
+  Cut : (out : List ℕ) → Course
+  -- a read that was given up, since the connection was
+  Left : (out : List ℕ) → Course
+  -- there was no memory for the reply
+  Mute : Course → Course
+  -- the door gave an answer that it should not
+  Broken : Course → Course
+  -- the session did what it should not
+  Wrong : Course

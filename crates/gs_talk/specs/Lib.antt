@@ -1,0 +1,12 @@
+-- Read in this order: what a request asks of the store, what a session does for it and how far that has come, what its body says,
+-- which reply that gives, the log of a connection, what the seat does by it, and the laws.
+pub mod Plans
+pub mod Courses
+pub mod Moves
+pub mod Bodies
+pub mod Replies
+pub mod Seats
+pub mod Logs
+pub mod Following
+pub mod Points
+pub mod Laws

@@ -1,0 +1,144 @@
+-- A log of a connection: an entry for each request, in order.
+use Rattle.std.specs.Prelude.{◌≡◌, ◌≢◌, ◌≤◌, ◌⊎◌, ℕ, ◌+◌, Bool, true, cond, List, [], ◌∷◌, ◌++◌, length}
+use Rattle.std.specs.List.{flat_map}
+use Rattle.gs_event.specs.declared.events.Action.{Action}
+use Rattle.gs_event.specs.declared.events.Action.TheVariants as action
+use Rattle.gs_talk.specs.Seats.{Deeds}
+use Rattle.gs_verdict.specs.declared.verdicts.Asked.{Asked}
+use Rattle.gs_verdict.specs.declared.verdicts.Denial.{Denial}
+use Rattle.gs_stream.specs.Requests.{Request, Denied, Asks, Breaks, Waits, requests}
+use Rattle.gs_talk.specs.Plans.{Plan, Uploads, Patches, Deletes, Looks, Reads, opens, plan_of}
+use Rattle.gs_talk.specs.Courses.{Move, Did, Short, Course, Fresh, Wrong}
+use Rattle.gs_talk.specs.Moves.{course}
+use Rattle.gs_talk.specs.Replies.{BodyState, Whole, Faulty, Open, Said, denial_reply, plain, stopped, greeted, said_so_far, IsOwn, Settles, data_of}
+
+-- what was done for a request, what was said to it, and whether the connection goes on
+pub record Entry : Type 0 where
+  pub moves : List Move
+  pub text : List ℕ
+  pub goes : Bool
+
+-- an entry for each request that was answered
+abbrev pub Log : Type 0
+Log = List Entry
+
+-- a move's action with its answer, if it was one
+abbrev pub deed_of : Move → Deeds
+deed_of (Did action answer) = (action, answer) ∷ []
+deed_of Short = []
+
+-- those of some moves
+abbrev pub deeds_of : List Move → Deeds
+deeds_of ms = flat_map deed_of ms
+
+-- all that was done
+abbrev pub deeds : Log → Deeds
+deeds log = flat_map (λ e. deeds_of e.moves) log
+
+-- all that was said
+abbrev pub texts : Log → List ℕ
+texts log = flat_map (λ e. e.text) log
+
+-- an action is the plan's own: its kind and its target are the request's, and a piece has so many lines
+abbrev pub Suits : ℕ → Plan → Action → Type 0
+Suits piece p (action.Open k) = p ≡ Uploads k
+Suits piece p (action.OpenPatch t) = p ≡ Patches t
+Suits piece p (action.Delete t) = p ≡ Deletes t
+Suits piece p (action.Head t) = p ≡ Looks t
+Suits piece p (action.Pin t) = p ≡ Reads t
+Suits piece p (action.Piece n) = n ≡ piece
+Suits piece p other = Unit {0}
+
+-- all of these moves are
+abbrev pub AllSuit : ℕ → Plan → List Move → Type 0
+AllSuit piece p [] = Unit {0}
+AllSuit piece p (Short ∷ ms) = AllSuit piece p ms
+AllSuit piece p (Did act answer ∷ ms) = Suits piece p act × AllSuit piece p ms
+
+-- what serves a connection: the base of the store, and how many lines a piece has
+pub record Server : Type 0 where
+  pub base : List ℕ
+  pub piece : ℕ
+
+-- a head that is denied has its own reply; where there was no memory for it, 503, or nothing more
+abbrev pub AnswersDenied : Denial → List Move → Said → Type 0
+AnswersDenied d [] t = t ≡ denial_reply d
+AnswersDenied d (Short ∷ []) t = (t ≡ plain 503 true) ⊎ (t ≡ stopped)
+AnswersDenied d ms t = ⊥
+
+-- one, where it is a Stage
+abbrev pub stage_of : Move → ℕ
+stage_of (Did (action.Stage ts) answer) = 1
+stage_of m = 0
+
+-- how many of these moves are
+abbrev pub stages_in : List Move → ℕ
+stages_in [] = 0
+stages_in (m ∷ ms) = stage_of m + stages_in ms
+
+-- What was done for a request may be done for it: the actions are its plan's; what took effect is what it asks; and there is
+-- at most one Stage more than its body has bytes so far.
+abbrev pub AreProper : Server → Asked → BodyState → List Move → Type 0
+AreProper p a b ms = AllSuit p.piece (plan_of a) ms × IsOwn p.base a b (course a Fresh ms) × (stages_in ms ≤ length (data_of b) + 1)
+
+-- what was done for a request gives what was said to it
+abbrev pub AnswersAsk : Server → Asked → BodyState → List Move → Said → Type 0
+AnswersAsk p a b ms t = AreProper p a b ms × ((u : Said) × Settles p.base a b (course a Fresh ms) u × (t ≡ greeted a (course a Fresh ms) u))
+
+-- an entry is that of its request
+abbrev pub Answered : Server → Request → List Move → Said → Type 0
+Answered p (Denied d) ms t = AnswersDenied d ms t
+Answered p (Asks a body) ms t = AnswersAsk p a (Whole body) ms t
+Answered p (Breaks a front status) ms t = AnswersAsk p a (Faulty front status) ms t
+Answered p (Waits a front) ms t = AnswersAsk p a (Open front) ms t
+
+-- The log answers these requests in order, to the first that closes or stops, and leaves the rest.
+abbrev pub AnswersAll : Server → Log → List Request → List Request → Type 0
+AnswersAll p [] rs rest = rest ≡ rs
+AnswersAll p (e ∷ es) [] rest = ⊥
+AnswersAll p (e ∷ es) (r ∷ rs) rest = Answered p r e.moves (e.text, e.goes) × AnswersAll p es (cond e.goes rs []) rest
+
+-- nothing settled is left
+abbrev pub IsAtRest : List Request → Type 0
+IsAtRest [] = Unit {0}
+IsAtRest (Waits a front ∷ []) = Unit {0}
+IsAtRest rs = ⊥
+
+-- no move was one that may not be
+abbrev pub IsRight : Course → Type 0
+IsRight Wrong = ⊥
+IsRight c = Unit {0}
+
+-- what was done and said for the request at hand so far
+abbrev pub AskInHand : Server → Asked → BodyState → List Move → List ℕ → Type 0
+AskInHand p a b now t = AreProper p a b now × IsRight (course a Fresh now) × (t ≡ said_so_far a (course a Fresh now))
+
+-- for the first of those that are left
+abbrev pub InHand : Server → List Request → List Move → List ℕ → Type 0
+InHand p (Asks a body ∷ rs) now t = AskInHand p a (Whole body) now t
+InHand p (Breaks a front status ∷ rs) now t = AskInHand p a (Faulty front status) now t
+InHand p (Waits a front ∷ rs) now t = AskInHand p a (Open front) now t
+InHand p rs now t = (now ≡ []) × (t ≡ [])
+
+-- To the stream x, h was done, and this was to be said; these requests are left.
+pub record Talk (p : Server) (x : List ℕ) (h : Deeds) (said : List ℕ) (rest : List Request) : Type 0 where
+  pub log : Log
+  pub now : List Move
+  pub text : List ℕ
+  pub answers : AnswersAll p log (requests p.base x) rest
+  pub hand : InHand p rest now text
+  pub done : h ≡ deeds log ++ deeds_of now
+  pub written : said ≡ texts log ++ text
+
+-- an upload or a patch whose body is awaited was begun
+abbrev pub HasBegun : List Request → List Move → Type 0
+HasBegun (Waits a front ∷ rs) now = opens (plan_of a) ≡ true → now ≢ []
+HasBegun rs now = Unit {0}
+
+-- all that is to be said was said, no settled request is left, and one that is still open was begun
+abbrev pub SaysAll : Server → List ℕ → Deeds → List ℕ → Type 0
+SaysAll p x h w = (rest : List Request) × IsAtRest rest × ((k : Talk p x h w rest) × HasBegun rest k.now)
+
+-- what was written is a front of what was to be said
+abbrev pub SaysFront : Server → List ℕ → Deeds → List ℕ → Type 0
+SaysFront p x h w = (rest : List Request) × (left : List ℕ) × Talk p x h (w ++ left) rest

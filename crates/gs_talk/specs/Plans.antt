@@ -1,0 +1,38 @@
+-- What a request asks of the store (Graph Store Protocol, section 5).
+use Rattle.std.specs.Prelude.{Bool, true, false, Option, Some, None}
+use Rattle.gs_term.specs.declared.names.Target.{Target}
+use Rattle.gs_event.specs.declared.events.UploadKind.{UploadKind}
+use Rattle.gs_event.specs.declared.events.UploadKind.TheVariants as kind
+use Rattle.gs_verdict.specs.declared.methods.Method.{Method}
+use Rattle.gs_verdict.specs.declared.methods.Method.TheVariants.{Get, Head, Put, Post, Delete, Patch}
+use Rattle.gs_verdict.specs.declared.verdicts.Asked.{Asked}
+
+-- an upload, a patch, a removal, a look, or a read; or nothing, since the store itself is for POST alone
+pub data Plan : Type 0 where
+  Uploads : (what : UploadKind) → Plan
+  Patches : (target : Target) → Plan
+  Deletes : (target : Target) → Plan
+  Looks : (target : Target) → Plan
+  Reads : (target : Target) → Plan
+  Nothing : Plan
+
+-- by the method, on a graph or on the store itself
+abbrev pub plan_on : Method → Option Target → Plan
+plan_on Get (Some t) = Reads t
+plan_on Head (Some t) = Looks t
+plan_on Put (Some t) = Uploads (kind.Put t)
+plan_on Post (Some t) = Uploads (kind.Post t)
+plan_on Post None = Uploads kind.New
+plan_on Delete (Some t) = Deletes t
+plan_on Patch (Some t) = Patches t
+plan_on m None = Nothing
+
+-- of a request
+abbrev pub plan_of : Asked → Plan
+plan_of a = plan_on a.method a.graph
+
+-- the body is read as a document or as an update; else it is dropped before the event
+abbrev pub opens : Plan → Bool
+opens (Uploads k) = true
+opens (Patches t) = true
+opens p = false

@@ -1,0 +1,143 @@
+-- Which reply the course of a request gives, by what its body is.
+use Rattle.std.specs.Prelude.{◌≡◌, ◌||◌, ◌==◌, ℕ, Bool, true, false, not, cond, List, [], ◌++◌, Option, Some, None}
+use Rattle.gs_http.specs.Framing.{announces}
+use Rattle.gs_term.specs.declared.names.GraphName.{GraphName}
+use Rattle.gs_verdict.specs.declared.verdicts.Asked.{Asked}
+use Rattle.gs_verdict.specs.declared.verdicts.Denial.{Denial}
+use Rattle.gs_verdict.specs.declared.methods.Allow.{Allow}
+use Rattle.gs_reply.specs.Notices.{Notice, Nothing, Allows, Made}
+use Rattle.gs_reply.specs.Replies.{reply_text, continue_text, lines_head}
+use Rattle.gs_talk.specs.Plans.{opens, plan_of}
+use Rattle.gs_talk.specs.Courses.{Course, Fresh, Early, Late, Dropped, Wrote, Patched, Erased, Looked, Missing, Held, Cutting, Cut, Left, Mute, Broken, Memory, Numbers}
+use Rattle.gs_talk.specs.Bodies.{refusal_at, States, Orders}
+
+-- a body is whole; its transfer has a fault, after so much data; or it is open, after so much
+pub data BodyState : Type 0 where
+  Whole : (body : List ℕ) → BodyState
+  Faulty : (front : List ℕ) (status : ℕ) → BodyState
+  Open : (front : List ℕ) → BodyState
+
+-- the data so far
+abbrev pub data_of : BodyState → List ℕ
+data_of (Whole body) = body
+data_of (Faulty front status) = front
+data_of (Open front) = front
+
+-- a text, and whether the connection goes on after it
+abbrev pub Said : Type 0
+Said = List ℕ × Bool
+
+-- a reply without a body, with what it says besides its status
+abbrev pub noticed : ℕ → Notice → Bool → Said
+noticed status notice closes = (reply_text status notice closes, not closes)
+
+-- and one that says no more than that
+abbrev pub plain : ℕ → Bool → Said
+plain status closes = noticed status Nothing closes
+
+-- of a graph that the store made up a name for, that name
+abbrev pub name_notice : Option GraphName → Notice
+name_notice None = Nothing
+name_notice (Some name) = Made name
+
+-- of a method that the target does not allow, those that it does
+abbrev pub allow_notice : Option Allow → Notice
+allow_notice None = Nothing
+allow_notice (Some methods) = Allows methods
+
+-- the reply to a head that is denied
+abbrev pub denial_reply : Denial → Said
+denial_reply d = noticed d.status (allow_notice d.allow) d.closes
+
+-- `100 Continue` was due: the body is awaited, and what is to come before it has come
+abbrev pub is_greeted : Asked → Course → Bool
+is_greeted a Fresh = not (opens (plan_of a))
+is_greeted a (Early l) = false
+is_greeted a (Mute c) = is_greeted a c
+is_greeted a (Broken c) = is_greeted a c
+is_greeted a c = true
+
+-- what is said before the reply
+abbrev pub greeting : Asked → Course → List ℕ
+greeting a c = cond a.awaits_continue (cond (is_greeted a c) continue_text []) []
+
+-- the text of a read
+abbrev pub lines_out : Course → List ℕ
+lines_out (Held out due end) = out ++ due
+lines_out (Cutting out) = out
+lines_out (Cut out) = out
+lines_out (Left out) = out
+lines_out (Broken c) = lines_out c
+lines_out c = []
+
+-- what was said, or is due, while the request goes on
+abbrev pub said_so_far : Asked → Course → List ℕ
+said_so_far a c = greeting a c ++ lines_out c
+
+-- with the greeting before it
+abbrev pub greeted : Asked → Course → Said → Said
+greeted a c t = (greeting a c ++ t.0, t.1)
+
+-- nothing more, and the connection ends
+abbrev pub stopped : Said
+stopped = ([], false)
+
+-- a reply after an Open that was refused at the last number closes as the head's denials do
+abbrev pub ends_early : Asked → Bool
+ends_early a = a.closes || announces a.framing
+
+-- the body is whole, and this holds of it
+abbrev pub OfWhole : BodyState → (List ℕ → Type 0) → Type 0
+OfWhole (Whole body) Holds = Holds body
+OfWhole b Holds = ⊥
+
+-- the body is whole
+abbrev pub IsWhole : BodyState → Type 0
+IsWhole b = OfWhole b (λ body. Unit {0})
+
+-- What the store was asked, and did, is what the request asks: its body was whole, and the graph or the operations are its
+-- meaning. Where nothing was done, or only opened, it may be anything.
+abbrev pub IsOwn : List ℕ → Asked → BodyState → Course → Type 0
+IsOwn base a b (Wrote r g s name) = OfWhole b (λ body. States base a r body g)
+IsOwn base a b (Patched r ops s) = OfWhole b (λ body. Orders base a r body ops)
+IsOwn base a b (Erased s) = IsWhole b
+IsOwn base a b (Looked s) = IsWhole b
+IsOwn base a b (Missing s) = IsWhole b
+IsOwn base a b (Held out due end) = IsWhole b
+IsOwn base a b (Cutting out) = IsWhole b
+IsOwn base a b (Cut out) = IsWhole b
+IsOwn base a b (Left out) = IsWhole b
+IsOwn base a b (Mute c) = IsOwn base a b c
+IsOwn base a b (Broken c) = IsOwn base a b c
+IsOwn base a b c = Unit {0}
+
+-- A request for which nothing was done is settled where its body is dropped, and has a fault or no end.
+abbrev pub SettlesUndone : Asked → BodyState → Said → Type 0
+SettlesUndone a (Faulty front s) t = (opens (plan_of a) ≡ false) × (t ≡ plain s true)
+SettlesUndone a (Open front) t = (opens (plan_of a) ≡ false) × (t ≡ stopped)
+SettlesUndone a b t = ⊥
+
+-- An upload or a patch is given up where its body says nothing that is served, has a fault in its transfer, or has no end.
+abbrev pub SettlesDropped : List ℕ → Asked → ℕ → BodyState → Said → Type 0
+SettlesDropped base a r (Whole body) t = (s : ℕ) × (refusal_at base a (plan_of a) r body ≡ Some s) × (t ≡ plain s a.closes)
+SettlesDropped base a r (Faulty front s) t = t ≡ plain s true
+SettlesDropped base a r (Open front) t = t ≡ stopped
+
+-- The course settles the request, with this body, by this text (without the greeting).
+abbrev pub Settles : List ℕ → Asked → BodyState → Course → Said → Type 0
+Settles base a b Fresh t = SettlesUndone a b t
+Settles base a b (Early Memory) t = t ≡ plain 503 true
+Settles base a b (Early Numbers) t = t ≡ plain 507 (ends_early a)
+Settles base a b (Late Memory) t = t ≡ plain 503 true
+Settles base a b (Late Numbers) t = IsWhole b × (t ≡ plain 507 a.closes)
+Settles base a b (Dropped r) t = SettlesDropped base a r b t
+Settles base a b (Wrote r g s name) t = t ≡ noticed s (name_notice name) a.closes
+Settles base a b (Patched r ops s) t = t ≡ plain s a.closes
+Settles base a b (Erased s) t = t ≡ plain s a.closes
+Settles base a b (Looked s) t = t ≡ cond (s == 200) (lines_head a.reply a.closes, not a.closes) (plain s a.closes)
+Settles base a b (Missing s) t = t ≡ plain s a.closes
+Settles base a b (Held out due true) t = t ≡ (out ++ due, not a.closes)
+Settles base a b (Cut out) t = t ≡ (out, false)
+Settles base a b (Mute c) t = ((u : Said) × Settles base a b c u) × (t ≡ stopped)
+Settles base a b (Broken c) t = t ≡ (lines_out c, false)
+Settles base a b c t = ⊥

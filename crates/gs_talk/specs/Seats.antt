@@ -1,0 +1,29 @@
+-- The phase of the seat, and what the abstract store is asked, by what was done alone.
+use Rattle.std.specs.Prelude.{List, [], ◌∷◌}
+use Rattle.std.specs.List.{cons_option}
+use Rattle.gs_event.specs.declared.events.Action.{Action}
+use Rattle.gs_event.specs.declared.answers.Answer.{Answer}
+use Rattle.gs_event.specs.Phases.{Phase, phase_after, operation_of}
+use Rattle.gs_event.specs.Operations.{Operation}
+
+-- each action of the seat with its answer, the oldest first
+abbrev pub Deeds : Type 0
+Deeds = List (Action × Answer)
+
+-- what the seat is doing; of a read it is not said what is left
+abbrev pub SeatPhase : Type 0
+SeatPhase = Phase (Unit {0})
+
+-- after one more
+abbrev pub phase_then : SeatPhase → Action × Answer → SeatPhase
+phase_then p d = phase_after (λ t. tt) (λ left n. left) p d.0 d.1
+
+-- after these
+abbrev pub phase_in : SeatPhase → Deeds → SeatPhase
+phase_in p [] = p
+phase_in p (d ∷ ds) = phase_in (phase_then p d) ds
+
+-- what the abstract store is asked by them, in order
+abbrev pub asked_in : SeatPhase → Deeds → List Operation
+asked_in p [] = []
+asked_in p (d ∷ ds) = cons_option (operation_of p d.0 d.1) (asked_in (phase_then p d) ds)
