@@ -48,6 +48,6 @@ unfoldable pub requests_in : ℕ → List ℕ → List ℕ → List Request
 requests_in zero base x = []
 requests_in (suc n) base x = by_head base (requests_in n base) (head_at (stripped x))
 
--- Each has two bytes at least, so a stream has no more than its bytes.
+-- Each takes a byte at least, so a stream has no more than its bytes.
 unfoldable pub requests : List ℕ → List ℕ → List Request
 requests base x = requests_in (length x) base x

@@ -22,7 +22,7 @@ use Rattle.gs_verdict.specs.declared.verdicts.Asked.{Asked}
 use Rattle.gs_talk.specs.Plans.{Plan, Uploads, Patches, Deletes, Looks, Reads, plan_of}
 use Rattle.gs_talk.specs.Courses.{Lack, Move, Did, Short, Course, Fresh, Early, Writing, Patching, Lacking, Late, Dropped, Wrote, Patched, Erased, Looked, Missing, Held, Cutting, Cut, Left, Wrong}
 use Rattle.gs_talk.specs.Moves.{first, writing, patching, held, ready, after, course, at_open, at_open_patch, at_delete, at_head, at_pin, at_stage, at_commit, at_commit_patch, at_piece, at_cancel}
-use Rattle.gs_talk.specs.Seats.{Deeds, SeatPhase, phase_then, phase_in, asked_in}
+use Rattle.gs_talk.specs.Seats.{Deeds, SeatPhase, Point, numbered, phase_then, phase_in, asked_in}
 use Rattle.gs_talk.specs.Logs.{AllSuit, deed_of, deeds_of, IsRight}
 use Rattle.gs_talk.specs.Following.{phase_at, operations_at, writing_phase, read_by}
 
@@ -80,7 +80,7 @@ pinned_seat : (t : _) (out : List ℕ) (s : ℕ) (b : Bool) → cond b (phase.Re
 pinned_seat t out s true = refl
 pinned_seat t out s false = refl
 
-pinned_asked : (t : _) (out : List ℕ) (s : ℕ) (b : Bool) → operation.Reads t ∷ [] ≡ operations_at (Reads t) (cond b (Held [] out false) (Missing s))
+pinned_asked : (t : _) (out : List ℕ) (s : ℕ) (b : Bool) → (0, operation.Reads t) ∷ [] ≡ operations_at (Reads t) (cond b (Held [] out false) (Missing s))
 pinned_asked t out s true = refl
 pinned_asked t out s false = refl
 
@@ -257,15 +257,15 @@ pub phase-append : (s : SeatPhase) (d f : Deeds) → phase_in s (d ++ f) ≡ pha
 phase-append s [] f = refl
 phase-append s (d ∷ ds) f = phase-append (phase_then s d) ds f
 
-cons-append : (o : Option Operation) (xs ys : List Operation) → cons_option o (xs ++ ys) ≡ cons_option o xs ++ ys
+cons-append : (o : Option Point) (xs ys : List Point) → cons_option o (xs ++ ys) ≡ cons_option o xs ++ ys
 cons-append None xs ys = refl
 cons-append (Some q) xs ys = refl
 
 pub operations-append : (s : SeatPhase) (d f : Deeds) → asked_in s (d ++ f) ≡ asked_in s d ++ asked_in (phase_in s d) f
 operations-append s [] f = refl
 operations-append s (d ∷ ds) f =
-    ap (λ z. cons_option (operation_of s d.0 d.1) z) (operations-append (phase_then s d) ds f)
-    ∙ cons-append (operation_of s d.0 d.1) (asked_in (phase_then s d) ds) (asked_in (phase_in (phase_then s d) ds) f)
+    ap (λ z. cons_option (numbered s (operation_of s d.0 d.1)) z) (operations-append (phase_then s d) ds f)
+    ∙ cons-append (numbered s (operation_of s d.0 d.1)) (asked_in (phase_then s d) ds) (asked_in (phase_in (phase_then s d) ds) f)
 
 suits_first : (piece : ℕ) (p : Plan) (m : Move) (ms : List Move) → AllSuit piece p (m ∷ ms) → AllSuit piece p (m ∷ []) × AllSuit piece p ms
 suits_first piece p (Did action answer) ms s = ((s.0, tt), s.1)

@@ -15,7 +15,7 @@ use Rattle.gs_event.specs.Views.{Totals, SeatView, FitsSeat}
 use Rattle.gs_door.specs.Kinds.{IsOfKind}
 use Rattle.gs_verdict.specs.declared.verdicts.Asked.{Asked}
 use Rattle.gs_talk.specs.Plans.{Plan, Uploads, Patches, Deletes, Looks, Reads, plan_of}
-use Rattle.gs_talk.specs.Courses.{Move, Did, Short, Course, Fresh, Early, Writing, Patching, Lacking, Late, Dropped, Wrote, Patched, Erased, Looked, Missing, Held, Cutting, Cut, Left, Mute, Broken}
+use Rattle.gs_talk.specs.Courses.{Move, Did, Short, Course, Fresh, Early, Writing, Patching, Lacking, Late, Dropped, Wrote, Patched, Erased, Looked, Missing, Held, Cutting, Cut, Left, Mute, Misanswered}
 use Rattle.gs_talk.specs.Moves.{first, writing, patching, held, ready, after, course, at_open, at_open_patch, at_delete, at_head, at_pin, at_stage, at_commit, at_commit_patch, at_piece, at_cancel}
 use Rattle.gs_talk.specs.Seats.{Deeds}
 use Rattle.gs_talk.specs.Logs.{deed_of, deeds_of}
@@ -23,7 +23,7 @@ use Rattle.gs_talk.specs.Laws.{is_misfit, HasMisfit, AreOfKind}
 
 -- the door gave an answer that it should not
 abbrev pub IsBroken : Course → Type 0
-IsBroken (Broken c) = Unit {0}
+IsBroken (Misanswered c) = Unit {0}
 IsBroken (Mute c) = IsBroken c
 IsBroken c = ⊥
 

@@ -20,7 +20,7 @@ pub data Lack : Type 0 where
 pub data Course : Type 0 where
   -- nothing was done
   Fresh : Course
-  -- the Open was refused, or there was no memory for it
+  -- the Open was refused, or memory was wanting before any event
   Early : (lack : Lack) → Course
   -- an upload is open under this number, and this was staged
   Writing : (request : ℕ) (staged : List RdfTriple) → Course
@@ -28,7 +28,7 @@ pub data Course : Type 0 where
   Patching : (request : ℕ) → Course
   -- refused later, where it stood so: a Cancel is due
   Lacking : (before : Course) (lack : Lack) → Course
-  -- and was made; or a Delete was refused
+  -- it was refused, and the Cancel was answered; or a Delete was refused
   Late : (lack : Lack) → Course
   -- cancelled, and nothing was refused
   Dropped : (request : ℕ) → Course
@@ -42,17 +42,17 @@ pub data Course : Type 0 where
   Looked : (status : ℕ) → Course
   -- the Pin was answered without a read
   Missing : (status : ℕ) → Course
-  -- a read: this is out, this is due, and whether that is all
+  -- a read: this was said before its last move, this is due by it or was said too, and whether that is all
   Held : (out due : List ℕ) (end : Bool) → Course
-  -- a read that was refused: a Cancel is due
+  -- a read that cannot go on: a Cancel is due
   Cutting : (out : List ℕ) → Course
-  -- and was made
+  -- a read that ended without its rest: it was cancelled, or its last chunk could not be made
   Cut : (out : List ℕ) → Course
-  -- a read that was given up, since the connection was
+  -- a read that was given up with its connection; no reply follows
   Left : (out : List ℕ) → Course
   -- there was no memory for the reply
   Mute : Course → Course
   -- the door gave an answer that it should not
-  Broken : Course → Course
+  Misanswered : Course → Course
   -- the session did what it should not
   Wrong : Course

@@ -5,11 +5,10 @@ use Rattle.gs_model.specs.Graphs.{graph_of}
 use Rattle.gs_event.specs.declared.updates.Op.{Op}
 use Rattle.gs_event.specs.Phases as phase
 use Rattle.gs_event.specs.Phases.{write_of}
-use Rattle.gs_event.specs.Operations.{Operation}
 use Rattle.gs_event.specs.Operations as operation
 use Rattle.gs_talk.specs.Plans.{Plan, Uploads, Patches, Deletes, Looks, Reads}
-use Rattle.gs_talk.specs.Courses.{Course, Writing, Patching, Lacking, Wrote, Patched, Erased, Looked, Missing, Held, Cutting, Cut, Left, Mute, Broken}
-use Rattle.gs_talk.specs.Seats.{SeatPhase}
+use Rattle.gs_talk.specs.Courses.{Course, Writing, Patching, Lacking, Wrote, Patched, Erased, Looked, Missing, Held, Cutting, Cut, Left, Mute, Misanswered}
+use Rattle.gs_talk.specs.Seats.{SeatPhase, Point}
 
 -- an upload of the plan's kind
 abbrev pub writing_phase : Plan → ℕ → List RdfTriple → SeatPhase
@@ -29,38 +28,38 @@ phase_at p (Lacking c l) = phase_at p c
 phase_at p (Held out due false) = phase.Reading tt
 phase_at p (Cutting out) = phase.Reading tt
 phase_at p (Mute c) = phase_at p c
-phase_at p (Broken c) = phase_at p c
+phase_at p (Misanswered c) = phase_at p c
 phase_at p c = phase.Idle
 
 -- an upload that was committed
-abbrev pub written_by : Plan → ℕ → List RdfTriple → List Operation
-written_by (Uploads k) r g = write_of k r (graph_of g) ∷ []
+abbrev pub written_by : Plan → ℕ → List RdfTriple → List Point
+written_by (Uploads k) r g = (r, write_of k r (graph_of g)) ∷ []
 written_by p r g = []
 
 -- a patch that was
-abbrev pub patched_by : Plan → List Op → List Operation
-patched_by (Patches t) ops = operation.Patches t ops ∷ []
-patched_by p ops = []
+abbrev pub patched_by : Plan → ℕ → List Op → List Point
+patched_by (Patches t) r ops = (r, operation.Patches t ops) ∷ []
+patched_by p r ops = []
 
 -- a removal
-abbrev pub erased_by : Plan → List Operation
-erased_by (Deletes t) = operation.Deletes t ∷ []
+abbrev pub erased_by : Plan → List Point
+erased_by (Deletes t) = (0, operation.Deletes t) ∷ []
 erased_by p = []
 
 -- a look
-abbrev pub looked_by : Plan → List Operation
-looked_by (Looks t) = operation.Looks t ∷ []
+abbrev pub looked_by : Plan → List Point
+looked_by (Looks t) = (0, operation.Looks t) ∷ []
 looked_by p = []
 
 -- a read
-abbrev pub read_by : Plan → List Operation
-read_by (Reads t) = operation.Reads t ∷ []
+abbrev pub read_by : Plan → List Point
+read_by (Reads t) = (0, operation.Reads t) ∷ []
 read_by p = []
 
--- what the abstract store was asked by the end of a course
-abbrev pub operations_at : Plan → Course → List Operation
+-- what the abstract store was asked by the end of a course, with the number of the request
+abbrev pub operations_at : Plan → Course → List Point
 operations_at p (Wrote r g s name) = written_by p r g
-operations_at p (Patched r ops s) = patched_by p ops
+operations_at p (Patched r ops s) = patched_by p r ops
 operations_at p (Erased s) = erased_by p
 operations_at p (Looked s) = looked_by p
 operations_at p (Missing s) = read_by p
@@ -69,5 +68,5 @@ operations_at p (Cutting out) = read_by p
 operations_at p (Cut out) = read_by p
 operations_at p (Left out) = read_by p
 operations_at p (Mute c) = operations_at p c
-operations_at p (Broken c) = operations_at p c
+operations_at p (Misanswered c) = operations_at p c
 operations_at p c = []

@@ -13,7 +13,7 @@ use Rattle.gs_talk.specs.Points.{ArePointsOf}
 
 -- what the abstract store is asked in a conversation is asked by its requests, in their order
 abbrev pub PointsAreAsks : Type 0
-PointsAreAsks = (p : Server) (x : List ℕ) (h : Deeds) (said : List ℕ) (rest : List Request) → Talk p x h said rest
+PointsAreAsks = (p : Server) (ended : Bool) (x : List ℕ) (h : Deeds) (said : List ℕ) (rest : List Request) → Talk p ended x h said rest
     → ArePointsOf p.base (requests p.base x) (asked_in Idle h)
 
 -- an answer that no store gives to a session that has a seat for itself
@@ -38,4 +38,4 @@ IsIdle h = (phase_in Idle h ≡ Idle) ⊎ HasMisfit h
 
 -- where no request is left, the seat is idle
 abbrev pub RestsIdle : Type 0
-RestsIdle = (p : Server) (seat : ℕ) (x : List ℕ) (h : Deeds) (said : List ℕ) → AreOfKind seat h → Talk p x h said [] → IsIdle h
+RestsIdle = (p : Server) (ended : Bool) (seat : ℕ) (x : List ℕ) (h : Deeds) (said : List ℕ) → AreOfKind seat h → Talk p ended x h said [] → IsIdle h

@@ -1,5 +1,5 @@
 -- A log of a connection: an entry for each request, in order.
-use Rattle.std.specs.Prelude.{◌≡◌, ◌≢◌, ◌≤◌, ◌⊎◌, ℕ, ◌+◌, Bool, true, cond, List, [], ◌∷◌, ◌++◌, length}
+use Rattle.std.specs.Prelude.{◌≡◌, ◌≤◌, ◌⊎◌, ◌||◌, ℕ, ◌+◌, Bool, true, false, not, cond, List, [], ◌∷◌, ◌++◌, length}
 use Rattle.std.specs.List.{flat_map}
 use Rattle.gs_event.specs.declared.events.Action.{Action}
 use Rattle.gs_event.specs.declared.events.Action.TheVariants as action
@@ -8,9 +8,9 @@ use Rattle.gs_verdict.specs.declared.verdicts.Asked.{Asked}
 use Rattle.gs_verdict.specs.declared.verdicts.Denial.{Denial}
 use Rattle.gs_stream.specs.Requests.{Request, Denied, Asks, Breaks, Waits, requests}
 use Rattle.gs_talk.specs.Plans.{Plan, Uploads, Patches, Deletes, Looks, Reads, opens, plan_of}
-use Rattle.gs_talk.specs.Courses.{Move, Did, Short, Course, Fresh, Wrong}
+use Rattle.gs_talk.specs.Courses.{Move, Did, Short, Course, Fresh, Writing, Patching, Dropped, Wrong}
 use Rattle.gs_talk.specs.Moves.{course}
-use Rattle.gs_talk.specs.Replies.{BodyState, Whole, Faulty, Open, Said, denial_reply, plain, stopped, greeted, said_so_far, IsOwn, Settles, data_of}
+use Rattle.gs_talk.specs.Replies.{BodyState, Whole, Faulty, Unended, Said, denial_reply, plain, stopped, IsGreeted, said_so_far, IsOwn, Settles, data_of}
 
 -- what was done for a request, what was said to it, and whether the connection goes on
 pub record Entry : Type 0 where
@@ -83,20 +83,21 @@ AreProper p a b ms = AllSuit p.piece (plan_of a) ms × IsOwn p.base a b (course 
 
 -- what was done for a request gives what was said to it
 abbrev pub AnswersAsk : Server → Asked → BodyState → List Move → Said → Type 0
-AnswersAsk p a b ms t = AreProper p a b ms × ((u : Said) × Settles p.base a b (course a Fresh ms) u × (t ≡ greeted a (course a Fresh ms) u))
+AnswersAsk p a b ms t = AreProper p a b ms × ((u : Said) × Settles p.base a b (course a Fresh ms) u × IsGreeted a (course a Fresh ms) u t)
 
 -- an entry is that of its request
-abbrev pub Answered : Server → Request → List Move → Said → Type 0
-Answered p (Denied d) ms t = AnswersDenied d ms t
-Answered p (Asks a body) ms t = AnswersAsk p a (Whole body) ms t
-Answered p (Breaks a front status) ms t = AnswersAsk p a (Faulty front status) ms t
-Answered p (Waits a front) ms t = AnswersAsk p a (Open front) ms t
+abbrev pub Answered : Server → Bool → Request → List Move → Said → Type 0
+Answered p ended (Denied d) ms t = AnswersDenied d ms t
+Answered p ended (Asks a body) ms t = AnswersAsk p a (Whole body) ms t
+Answered p ended (Breaks a front status) ms t = AnswersAsk p a (Faulty front status) ms t
+Answered p ended (Waits a front) ms t = AnswersAsk p a (Unended front ended) ms t
 
--- The log answers these requests in order, to the first that closes or stops, and leaves the rest.
-abbrev pub AnswersAll : Server → Log → List Request → List Request → Type 0
-AnswersAll p [] rs rest = rest ≡ rs
-AnswersAll p (e ∷ es) [] rest = ⊥
-AnswersAll p (e ∷ es) (r ∷ rs) rest = Answered p r e.moves (e.text, e.goes) × AnswersAll p es (cond e.goes rs []) rest
+-- The log answers these requests in order, to the first that closes or stops, and leaves the rest. Whether the input has ended
+-- stands before it.
+abbrev pub AnswersAll : Server → Bool → Log → List Request → List Request → Type 0
+AnswersAll p ended [] rs rest = rest ≡ rs
+AnswersAll p ended (e ∷ es) [] rest = ⊥
+AnswersAll p ended (e ∷ es) (r ∷ rs) rest = Answered p ended r e.moves (e.text, e.goes) × AnswersAll p ended es (cond e.goes rs []) rest
 
 -- nothing settled is left
 abbrev pub IsAtRest : List Request → Type 0
@@ -114,31 +115,48 @@ abbrev pub AskInHand : Server → Asked → BodyState → List Move → List ℕ
 AskInHand p a b now t = AreProper p a b now × IsRight (course a Fresh now) × (t ≡ said_so_far a (course a Fresh now))
 
 -- for the first of those that are left
-abbrev pub InHand : Server → List Request → List Move → List ℕ → Type 0
-InHand p (Asks a body ∷ rs) now t = AskInHand p a (Whole body) now t
-InHand p (Breaks a front status ∷ rs) now t = AskInHand p a (Faulty front status) now t
-InHand p (Waits a front ∷ rs) now t = AskInHand p a (Open front) now t
-InHand p rs now t = (now ≡ []) × (t ≡ [])
+abbrev pub InHand : Server → Bool → List Request → List Move → List ℕ → Type 0
+InHand p ended (Asks a body ∷ rs) now t = AskInHand p a (Whole body) now t
+InHand p ended (Breaks a front status ∷ rs) now t = AskInHand p a (Faulty front status) now t
+InHand p ended (Waits a front ∷ rs) now t = AskInHand p a (Unended front ended) now t
+InHand p ended rs now t = (now ≡ []) × (t ≡ [])
 
 -- To the stream x, h was done, and this was to be said; these requests are left.
-pub record Talk (p : Server) (x : List ℕ) (h : Deeds) (said : List ℕ) (rest : List Request) : Type 0 where
+pub record Talk (p : Server) (ended : Bool) (x : List ℕ) (h : Deeds) (said : List ℕ) (rest : List Request) : Type 0 where
   pub log : Log
   pub now : List Move
   pub text : List ℕ
-  pub answers : AnswersAll p log (requests p.base x) rest
-  pub hand : InHand p rest now text
+  pub answers : AnswersAll p ended log (requests p.base x) rest
+  pub hand : InHand p ended rest now text
   pub done : h ≡ deeds log ++ deeds_of now
   pub written : said ≡ texts log ++ text
 
--- an upload or a patch whose body is awaited was begun
-abbrev pub HasBegun : List Request → List Move → Type 0
-HasBegun (Waits a front ∷ rs) now = opens (plan_of a) ≡ true → now ≢ []
-HasBegun rs now = Unit {0}
+-- nothing is due but the rest of the body: it is dropped, or what it is for was opened
+abbrev pub awaits_body : Asked → Course → Bool
+awaits_body a Fresh = not (opens (plan_of a))
+awaits_body a (Writing r g) = true
+awaits_body a (Patching r) = true
+awaits_body a (Dropped r) = true
+awaits_body a c = false
 
--- all that is to be said was said, no settled request is left, and one that is still open was begun
-abbrev pub SaysAll : Server → List ℕ → Deeds → List ℕ → Type 0
-SaysAll p x h w = (rest : List Request) × IsAtRest rest × ((k : Talk p x h w rest) × HasBegun rest k.now)
+-- the request at hand, if there is one, awaits its body
+abbrev pub AwaitsBody : List Request → List Move → Type 0
+AwaitsBody (Waits a front ∷ rs) now = awaits_body a (course a Fresh now) ≡ true
+AwaitsBody rs now = Unit {0}
+
+-- All that is to be said was said, and no settled request is left; one that is still open awaits its body.
+abbrev pub SaysAll : Server → Bool → List ℕ → Deeds → List ℕ → Type 0
+SaysAll p ended x h w = (rest : List Request) × IsAtRest rest × ((k : Talk p ended x h w rest) × AwaitsBody rest k.now)
+
+-- a reply closed, or the connection stopped
+abbrev pub is_closed : Log → Bool
+is_closed [] = false
+is_closed (e ∷ es) = not e.goes || is_closed es
+
+-- All that is to be said was said, no request is left, and the connection is over: the input ended, or a reply closed or stopped.
+abbrev pub SaysLast : Server → Bool → List ℕ → Deeds → List ℕ → Type 0
+SaysLast p ended x h w = (k : Talk p ended x h w []) × ((ended ≡ true) ⊎ (is_closed k.log ≡ true))
 
 -- what was written is a front of what was to be said
-abbrev pub SaysFront : Server → List ℕ → Deeds → List ℕ → Type 0
-SaysFront p x h w = (rest : List Request) × (left : List ℕ) × Talk p x h (w ++ left) rest
+abbrev pub SaysFront : Server → Bool → List ℕ → Deeds → List ℕ → Type 0
+SaysFront p ended x h w = (rest : List Request) × (left : List ℕ) × Talk p ended x h (w ++ left) rest

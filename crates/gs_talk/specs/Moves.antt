@@ -9,58 +9,58 @@ use Rattle.gs_event.specs.declared.updates.Op.{Op}
 use Rattle.gs_verdict.specs.declared.verdicts.Asked.{Asked}
 use Rattle.gs_reply.specs.Replies.{lines_head, chunk, last_chunk}
 use Rattle.gs_talk.specs.Plans.{Plan, Uploads, Patches, Deletes, Looks, Reads, plan_of}
-use Rattle.gs_talk.specs.Courses.{Move, Course, Did, Short, Memory, Numbers, Fresh, Early, Writing, Patching, Lacking, Late, Dropped, Wrote, Patched, Erased, Looked, Missing, Held, Cutting, Cut, Left, Mute, Broken, Wrong}
+use Rattle.gs_talk.specs.Courses.{Move, Course, Did, Short, Memory, Numbers, Fresh, Early, Writing, Patching, Lacking, Late, Dropped, Wrote, Patched, Erased, Looked, Missing, Held, Cutting, Cut, Left, Mute, Misanswered, Wrong}
 
 -- after an Open
 abbrev pub at_open : Answer → Course
 at_open (Opened r) = Writing r []
 at_open (Refused NoMemory) = Early Memory
 at_open (Refused LastNumber) = Early Numbers
-at_open other = Broken Fresh
+at_open other = Misanswered Fresh
 
 -- after the Open of a patch
 abbrev pub at_open_patch : Answer → Course
 at_open_patch (Opened r) = Patching r
 at_open_patch (Refused NoMemory) = Early Memory
 at_open_patch (Refused LastNumber) = Early Numbers
-at_open_patch other = Broken Fresh
+at_open_patch other = Misanswered Fresh
 
 -- after a Delete
 abbrev pub at_delete : Answer → Course
 at_delete (Status s name) = Erased s
 at_delete (Refused LastNumber) = Late Numbers
-at_delete other = Broken Fresh
+at_delete other = Misanswered Fresh
 
 -- after a Head
 abbrev pub at_head : Answer → Course
 at_head (Status s name) = Looked s
-at_head other = Broken Fresh
+at_head other = Misanswered Fresh
 
 -- after a Pin: the head of the reply is due, where it reads
 abbrev pub at_pin : Asked → Answer → Course
 at_pin a (Pinned s) = cond (s == 200) (Held [] (lines_head a.reply a.closes) false) (Missing s)
-at_pin a other = Broken Fresh
+at_pin a other = Misanswered Fresh
 
 -- after a Stage, which is of one triple at least
 abbrev pub at_stage : ℕ → List RdfTriple → List RdfTriple → Answer → Course
 at_stage r g [] answer = Wrong
 at_stage r g (t ∷ ts) Staged = Writing r (g ++ t ∷ ts)
 at_stage r g (t ∷ ts) (Refused NoMemory) = Lacking (Writing r g) Memory
-at_stage r g (t ∷ ts) other = Broken (Writing r g)
+at_stage r g (t ∷ ts) other = Misanswered (Writing r g)
 
 -- after a Commit
 abbrev pub at_commit : ℕ → List RdfTriple → Answer → Course
 at_commit r g (Status s name) = Wrote r g s name
 at_commit r g (Refused NoMemory) = Lacking (Writing r g) Memory
 at_commit r g (Refused LastNumber) = Lacking (Writing r g) Numbers
-at_commit r g other = Broken (Writing r g)
+at_commit r g other = Misanswered (Writing r g)
 
 -- after the commit of a patch
 abbrev pub at_commit_patch : ℕ → List Op → Answer → Course
 at_commit_patch r ops (Status s name) = Patched r ops s
 at_commit_patch r ops (Refused NoMemory) = Lacking (Patching r) Memory
 at_commit_patch r ops (Refused LastNumber) = Lacking (Patching r) Numbers
-at_commit_patch r ops other = Broken (Patching r)
+at_commit_patch r ops other = Misanswered (Patching r)
 
 -- the last chunk stands after the last piece
 abbrev pub last_if : Bool → List ℕ
@@ -70,12 +70,12 @@ last_if end = cond end last_chunk []
 abbrev pub at_piece : List ℕ → List ℕ → Answer → Course
 at_piece out due (Lines b end) = Held (out ++ due) (chunk b.items ++ last_if end) end
 at_piece out due (Refused NoMemory) = Cutting (out ++ due)
-at_piece out due other = Broken (Held out due false)
+at_piece out due other = Misanswered (Held out due false)
 
 -- a Cancel at a course, after which the other comes
 abbrev pub at_cancel : Course → Course → Answer → Course
 at_cancel c d Cancelled = d
-at_cancel c d other = Broken c
+at_cancel c d other = Misanswered c
 
 -- the first move, by the plan
 abbrev pub first : Asked → Plan → Move → Course
@@ -139,7 +139,7 @@ after a (Missing s) m = ready (Missing s) m
 after a (Cut out) m = Wrong
 after a (Left out) m = Wrong
 after a (Mute c) m = Wrong
-after a (Broken c) m = Wrong
+after a (Misanswered c) m = Wrong
 after a Wrong m = Wrong
 
 -- after these moves

@@ -14,7 +14,7 @@ pub data Plan : Type 0 where
   Deletes : (target : Target) → Plan
   Looks : (target : Target) → Plan
   Reads : (target : Target) → Plan
-  Nothing : Plan
+  NoPlan : Plan
 
 -- by the method, on a graph or on the store itself
 abbrev pub plan_on : Method → Option Target → Plan
@@ -25,7 +25,7 @@ plan_on Post (Some t) = Uploads (kind.Post t)
 plan_on Post None = Uploads kind.New
 plan_on Delete (Some t) = Deletes t
 plan_on Patch (Some t) = Patches t
-plan_on m None = Nothing
+plan_on m None = NoPlan
 
 -- of a request
 abbrev pub plan_of : Asked → Plan

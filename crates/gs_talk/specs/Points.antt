@@ -4,30 +4,30 @@ use Rattle.gs_model.specs.Triples.{RdfTriple}
 use Rattle.gs_model.specs.Graphs.{graph_of}
 use Rattle.gs_event.specs.declared.updates.Op.{Op}
 use Rattle.gs_event.specs.Phases.{write_of}
-use Rattle.gs_event.specs.Operations.{Operation}
 use Rattle.gs_event.specs.Operations as operation
 use Rattle.gs_verdict.specs.declared.verdicts.Asked.{Asked}
 use Rattle.gs_stream.specs.Requests.{Request, Asks}
 use Rattle.gs_talk.specs.Plans.{Plan, Uploads, Patches, Deletes, Looks, Reads, plan_of}
 use Rattle.gs_talk.specs.Bodies.{States, Orders}
+use Rattle.gs_talk.specs.Seats.{Point}
 
 -- What a request with this body asks of the abstract store, by its plan. The graph of an upload, and the operations of a patch,
--- are the meaning of its body under a number of its own.
-abbrev pub IsAskedBy : List ℕ → Asked → List ℕ → Plan → Operation → Type 0
-IsAskedBy base a body (Uploads k) q = (r : ℕ) × (g : List RdfTriple) × States base a r body g × (q ≡ write_of k r (graph_of g))
-IsAskedBy base a body (Patches t) q = (r : ℕ) × (ops : List Op) × Orders base a r body ops × (q ≡ operation.Patches t ops)
-IsAskedBy base a body (Deletes t) q = q ≡ operation.Deletes t
-IsAskedBy base a body (Looks t) q = q ≡ operation.Looks t
-IsAskedBy base a body (Reads t) q = q ≡ operation.Reads t
+-- are the meaning of its body under the number that the store gave to it.
+abbrev pub IsAskedBy : List ℕ → Asked → List ℕ → Plan → Point → Type 0
+IsAskedBy base a body (Uploads k) q = (g : List RdfTriple) × States base a q.0 body g × (q.1 ≡ write_of k q.0 (graph_of g))
+IsAskedBy base a body (Patches t) q = (ops : List Op) × Orders base a q.0 body ops × (q.1 ≡ operation.Patches t ops)
+IsAskedBy base a body (Deletes t) q = q.1 ≡ operation.Deletes t
+IsAskedBy base a body (Looks t) q = q.1 ≡ operation.Looks t
+IsAskedBy base a body (Reads t) q = q.1 ≡ operation.Reads t
 IsAskedBy base a body p q = ⊥
 
 -- a request whose body is whole asks it; no other asks anything
-abbrev pub IsPointOf : List ℕ → Request → Operation → Type 0
+abbrev pub IsPointOf : List ℕ → Request → Point → Type 0
 IsPointOf base (Asks a body) q = IsAskedBy base a body (plan_of a) q
 IsPointOf base r q = ⊥
 
 -- each is asked by a request of its own, in the order of the requests
-abbrev pub ArePointsOf : List ℕ → List Request → List Operation → Type 0
+abbrev pub ArePointsOf : List ℕ → List Request → List Point → Type 0
 ArePointsOf base rs [] = Unit {0}
 ArePointsOf base [] (q ∷ qs) = ⊥
 ArePointsOf base (r ∷ rs) (q ∷ qs) = (IsPointOf base r q × ArePointsOf base rs qs) ⊎ ArePointsOf base rs (q ∷ qs)

@@ -1,5 +1,5 @@
 -- Which reply the course of a request gives, by what its body is.
-use Rattle.std.specs.Prelude.{◌≡◌, ◌||◌, ◌==◌, ℕ, Bool, true, false, not, cond, List, [], ◌++◌, Option, Some, None}
+use Rattle.std.specs.Prelude.{◌≡◌, ◌⊎◌, ◌||◌, ◌==◌, ℕ, Bool, true, false, not, cond, List, [], ◌++◌, Option, Some, None}
 use Rattle.gs_http.specs.Framing.{announces}
 use Rattle.gs_term.specs.declared.names.GraphName.{GraphName}
 use Rattle.gs_verdict.specs.declared.verdicts.Asked.{Asked}
@@ -8,20 +8,20 @@ use Rattle.gs_verdict.specs.declared.methods.Allow.{Allow}
 use Rattle.gs_reply.specs.Notices.{Notice, Nothing, Allows, Made}
 use Rattle.gs_reply.specs.Replies.{reply_text, continue_text, lines_head}
 use Rattle.gs_talk.specs.Plans.{opens, plan_of}
-use Rattle.gs_talk.specs.Courses.{Course, Fresh, Early, Late, Dropped, Wrote, Patched, Erased, Looked, Missing, Held, Cutting, Cut, Left, Mute, Broken, Memory, Numbers}
+use Rattle.gs_talk.specs.Courses.{Course, Fresh, Early, Late, Dropped, Wrote, Patched, Erased, Looked, Missing, Held, Cutting, Cut, Left, Mute, Misanswered, Memory, Numbers}
 use Rattle.gs_talk.specs.Bodies.{refusal_at, States, Orders}
 
--- a body is whole; its transfer has a fault, after so much data; or it is open, after so much
+-- a body is whole; its transfer has a fault, after so much data; or its rest is awaited, after so much, unless the input has ended
 pub data BodyState : Type 0 where
   Whole : (body : List ℕ) → BodyState
   Faulty : (front : List ℕ) (status : ℕ) → BodyState
-  Open : (front : List ℕ) → BodyState
+  Unended : (front : List ℕ) (ended : Bool) → BodyState
 
 -- the data so far
 abbrev pub data_of : BodyState → List ℕ
 data_of (Whole body) = body
 data_of (Faulty front status) = front
-data_of (Open front) = front
+data_of (Unended front ended) = front
 
 -- a text, and whether the connection goes on after it
 abbrev pub Said : Type 0
@@ -54,7 +54,7 @@ abbrev pub is_greeted : Asked → Course → Bool
 is_greeted a Fresh = not (opens (plan_of a))
 is_greeted a (Early l) = false
 is_greeted a (Mute c) = is_greeted a c
-is_greeted a (Broken c) = is_greeted a c
+is_greeted a (Misanswered c) = is_greeted a c
 is_greeted a c = true
 
 -- what is said before the reply
@@ -67,7 +67,7 @@ lines_out (Held out due end) = out ++ due
 lines_out (Cutting out) = out
 lines_out (Cut out) = out
 lines_out (Left out) = out
-lines_out (Broken c) = lines_out c
+lines_out (Misanswered c) = lines_out c
 lines_out c = []
 
 -- what was said, or is due, while the request goes on
@@ -77,6 +77,16 @@ said_so_far a c = greeting a c ++ lines_out c
 -- with the greeting before it
 abbrev pub greeted : Asked → Course → Said → Said
 greeted a c t = (greeting a c ++ t.0, t.1)
+
+-- refused before any event
+abbrev pub is_early : Course → Bool
+is_early (Early l) = true
+is_early (Mute c) = is_early c
+is_early c = false
+
+-- The reply, after the greeting. Before any event memory may have been wanting for the greeting, or after it was said.
+abbrev pub IsGreeted : Asked → Course → Said → Said → Type 0
+IsGreeted a c u t = (t ≡ greeted a c u) ⊎ ((is_early c ≡ true) × (t ≡ greeted a Fresh u))
 
 -- nothing more, and the connection ends
 abbrev pub stopped : Said
@@ -108,20 +118,21 @@ IsOwn base a b (Cutting out) = IsWhole b
 IsOwn base a b (Cut out) = IsWhole b
 IsOwn base a b (Left out) = IsWhole b
 IsOwn base a b (Mute c) = IsOwn base a b c
-IsOwn base a b (Broken c) = IsOwn base a b c
+IsOwn base a b (Misanswered c) = IsOwn base a b c
 IsOwn base a b c = Unit {0}
 
--- A request for which nothing was done is settled where its body is dropped, and has a fault or no end.
+-- A request for which nothing was done is settled where its body is dropped, and has a fault, or the input ended in it.
 abbrev pub SettlesUndone : Asked → BodyState → Said → Type 0
 SettlesUndone a (Faulty front s) t = (opens (plan_of a) ≡ false) × (t ≡ plain s true)
-SettlesUndone a (Open front) t = (opens (plan_of a) ≡ false) × (t ≡ stopped)
+SettlesUndone a (Unended front ended) t = (ended ≡ true) × (opens (plan_of a) ≡ false) × (t ≡ stopped)
 SettlesUndone a b t = ⊥
 
--- An upload or a patch is given up where its body says nothing that is served, has a fault in its transfer, or has no end.
+-- An upload or a patch is given up where its body says nothing that is served, has a fault in its transfer, or is cut off by the end of
+-- the input.
 abbrev pub SettlesDropped : List ℕ → Asked → ℕ → BodyState → Said → Type 0
 SettlesDropped base a r (Whole body) t = (s : ℕ) × (refusal_at base a (plan_of a) r body ≡ Some s) × (t ≡ plain s a.closes)
 SettlesDropped base a r (Faulty front s) t = t ≡ plain s true
-SettlesDropped base a r (Open front) t = t ≡ stopped
+SettlesDropped base a r (Unended front ended) t = (ended ≡ true) × (t ≡ stopped)
 
 -- The course settles the request, with this body, by this text (without the greeting).
 abbrev pub Settles : List ℕ → Asked → BodyState → Course → Said → Type 0
@@ -129,7 +140,7 @@ Settles base a b Fresh t = SettlesUndone a b t
 Settles base a b (Early Memory) t = t ≡ plain 503 true
 Settles base a b (Early Numbers) t = t ≡ plain 507 (ends_early a)
 Settles base a b (Late Memory) t = t ≡ plain 503 true
-Settles base a b (Late Numbers) t = IsWhole b × (t ≡ plain 507 a.closes)
+Settles base a b (Late Numbers) t = OfWhole b (λ body. (r : ℕ) × (refusal_at base a (plan_of a) r body ≡ None)) × (t ≡ plain 507 a.closes)
 Settles base a b (Dropped r) t = SettlesDropped base a r b t
 Settles base a b (Wrote r g s name) t = t ≡ noticed s (name_notice name) a.closes
 Settles base a b (Patched r ops s) t = t ≡ plain s a.closes
@@ -139,5 +150,5 @@ Settles base a b (Missing s) t = t ≡ plain s a.closes
 Settles base a b (Held out due true) t = t ≡ (out ++ due, not a.closes)
 Settles base a b (Cut out) t = t ≡ (out, false)
 Settles base a b (Mute c) t = ((u : Said) × Settles base a b c u) × (t ≡ stopped)
-Settles base a b (Broken c) t = t ≡ (lines_out c, false)
+Settles base a b (Misanswered c) t = t ≡ (lines_out c, false)
 Settles base a b c t = ⊥

@@ -1,9 +1,9 @@
 -- The phase of the seat, and what the abstract store is asked, by what was done alone.
-use Rattle.std.specs.Prelude.{List, [], ◌∷◌}
+use Rattle.std.specs.Prelude.{ℕ, List, [], ◌∷◌, Option, None, Some}
 use Rattle.std.specs.List.{cons_option}
 use Rattle.gs_event.specs.declared.events.Action.{Action}
 use Rattle.gs_event.specs.declared.answers.Answer.{Answer}
-use Rattle.gs_event.specs.Phases.{Phase, phase_after, operation_of}
+use Rattle.gs_event.specs.Phases.{Phase, Writing, Patching, phase_after, operation_of}
 use Rattle.gs_event.specs.Operations.{Operation}
 
 -- each action of the seat with its answer, the oldest first
@@ -23,7 +23,22 @@ abbrev pub phase_in : SeatPhase → Deeds → SeatPhase
 phase_in p [] = p
 phase_in p (d ∷ ds) = phase_in (phase_then p d) ds
 
--- what the abstract store is asked by them, in order
-abbrev pub asked_in : SeatPhase → Deeds → List Operation
+-- what the abstract store is asked, with the number of the request that opened it, 0 where none did
+abbrev pub Point : Type 0
+Point = ℕ × Operation
+
+-- the number of the request that opened what the seat is doing
+abbrev pub number_of : SeatPhase → ℕ
+number_of (Writing k r g) = r
+number_of (Patching t r) = r
+number_of p = 0
+
+-- an operation with that number
+abbrev pub numbered : SeatPhase → Option Operation → Option Point
+numbered p None = None
+numbered p (Some q) = Some (number_of p, q)
+
+-- what the abstract store is asked by these, in order
+abbrev pub asked_in : SeatPhase → Deeds → List Point
 asked_in p [] = []
-asked_in p (d ∷ ds) = cons_option (operation_of p d.0 d.1) (asked_in (phase_then p d) ds)
+asked_in p (d ∷ ds) = cons_option (numbered p (operation_of p d.0 d.1)) (asked_in (phase_then p d) ds)

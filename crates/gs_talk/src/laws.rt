@@ -2,7 +2,7 @@
 ghost use Rattle.gs_talk.specs.Laws.{PointsAreAsks, RestsIdle};
 
 /// What the abstract store is asked in a conversation is what its requests ask, in their order, each
-/// at most once: a graph or operations that a body means, under a number of its own.
+/// at most once: a graph or operations that a body means, under the number that the store gave to it.
 pub fn points_are_asks()
     ensures { PointsAreAsks }
 {}
