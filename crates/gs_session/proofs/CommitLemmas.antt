@@ -58,18 +58,19 @@ stage_last {s} {e} a k r g v answer b x h said body l at whole few long means fu
   where
     same : said_so_far a l.trail.course ++ [] ≡ greeting a (Writing r g) ++ []
     same = append-nil (said_so_far a l.trail.course) ∙ ap (λ (c : Course). said_so_far a c) at
+
     go : (us : List RdfTriple) → v.items ≡ us → us ≢ [] → (answer : Answer) → AfterStage a Committing answer m → LeadsTo s e m.phase b x (h ++ (act.Stage v, answer) ∷ []) (said ++ m.said.items)
     go [] is full answer o = absurd (full refl)
     go (u ∷ us) is full Staged o =
         to_next m (Serving a Committing) [] b x (h ++ (act.Stage v, Staged) ∷ []) said o
         (moved a k Committing (Did (act.Stage v) Staged ∷ []) [] b b x h said l (whole_trail body (Writing r (g ++ v.items))) (λ y. sym (whole y)) (tt, tt)
-          (ap (λ (c : Course). after a c (Did (act.Stage v) Staged)) at ∙ ap (λ w. at_stage r g w Staged) is ∙ ap (λ w. Writing r (g ++ w)) (sym is)) same (λ z. omega (arith, few))
-          (r, body, g ++ v.items, refl, means, λ z. refl))
+        (ap (λ (c : Course). after a c (Did (act.Stage v) Staged)) at ∙ ap (λ w. at_stage r g w Staged) is ∙ ap (λ w. Writing r (g ++ w)) (sym is)) same (λ z. omega (arith, few))
+        (r, body, g ++ v.items, refl, means, λ z. refl))
     go (u ∷ us) is full (Refused why.NoMemory) o =
         to_next m (Serving a (Failing want.Memory)) [] b x (h ++ (act.Stage v, Refused why.NoMemory) ∷ []) said o
         (moved a k (Failing want.Memory) (Did (act.Stage v) (Refused why.NoMemory) ∷ []) [] b b x h said l (whole_trail body (Lacking (Writing r g) Memory)) (λ y. sym (whole y)) (tt, tt)
-          (ap (λ (c : Course). after a c (Did (act.Stage v) (Refused why.NoMemory))) at ∙ ap (λ w. at_stage r g w (Refused why.NoMemory)) is) same (λ z. omega (arith, few))
-          (Writing r g, refl, tt))
+        (ap (λ (c : Course). after a c (Did (act.Stage v) (Refused why.NoMemory))) at ∙ ap (λ w. at_stage r g w (Refused why.NoMemory)) is) same (λ z. omega (arith, few))
+        (Writing r g, refl, tt))
     go (u ∷ us) is full other o =
         broke a k (Did (act.Stage v) other) (Writing r g) b b x h said l (tt, tt) at (ap (λ w. at_stage r g w other) is) (λ o. tt) (λ z. omega (arith, few, long z)) m o
 
@@ -98,24 +99,27 @@ fault_leads {s} {e} a k c r st front Cancelled b x h said l at is faulty n o = g
   where
     came : after a l.trail.course (Did act.Cancel Cancelled) ≡ Dropped r
     came = ap (λ (c : Course). after a c (Did act.Cancel Cancelled)) at ∙ is.cancels Cancelled
+
     few : stages_in l.now + 0 ≤ length front + 1
     few = omega (arith, l.keeps.few (b ++ []), ap (λ (c : cut.Cut). length c.bytes) (faulty []))
+
     greets : said_so_far a l.trail.course ≡ greeting a (Dropped r)
     greets = ap (λ (c : Course). said_so_far a c) at ∙ is.greeted
+
     go : Replies n st true → LeadsTo s e n.phase b x (h ++ (act.Cancel, Cancelled) ∷ []) (said ++ n.said.items)
     go (inl y) =
         to_next n Over (reply_text st Nothing true) b x (h ++ (act.Cancel, Cancelled) ∷ []) said y
         (answers_fault a k (Did act.Cancel Cancelled ∷ []) front st (reply_text st Nothing true) (reply_text st Nothing true) b b x h said l faulty (tt, tt)
-          (subst (λ (d : Course). IsOwn s.base a (Faulty front st) d) (sym came) tt) few
-          (subst (λ (d : Course). Settles s.base a (Faulty front st) d (reply_text st Nothing true, false)) (sym came) refl)
-          (ap (λ z. z ++ reply_text st Nothing true) greets ∙ ap (λ (d : Course). greeting a d ++ reply_text st Nothing true) (sym came)))
+        (subst (λ (d : Course). IsOwn s.base a (Faulty front st) d) (sym came) tt) few
+        (subst (λ (d : Course). Settles s.base a (Faulty front st) d (reply_text st Nothing true, false)) (sym came) refl)
+        (ap (λ z. z ++ reply_text st Nothing true) greets ∙ ap (λ (d : Course). greeting a d ++ reply_text st Nothing true) (sym came)))
     go (inr y) =
         let mute : course a l.trail.course (Did act.Cancel Cancelled ∷ Short ∷ []) ≡ Mute (Dropped r) = ap (λ (d : Course). after a d Short) came in
         to_next n Over [] b x (h ++ (act.Cancel, Cancelled) ∷ []) said y
         (answers_fault a k (Did act.Cancel Cancelled ∷ Short ∷ []) front st [] [] b b x h said l faulty (tt, tt)
-          (subst (λ (d : Course). IsOwn s.base a (Faulty front st) d) (sym mute) tt) few
-          (subst (λ (d : Course). Settles s.base a (Faulty front st) d ([], false)) (sym mute) ((((reply_text st Nothing true), false), refl), refl))
-          (ap (λ z. z ++ []) greets ∙ ap (λ (d : Course). greeting a d ++ []) (sym mute)))
+        (subst (λ (d : Course). IsOwn s.base a (Faulty front st) d) (sym mute) tt) few
+        (subst (λ (d : Course). Settles s.base a (Faulty front st) d ([], false)) (sym mute) ((((reply_text st Nothing true), false), refl), refl))
+        (ap (λ z. z ++ []) greets ∙ ap (λ (d : Course). greeting a d ++ []) (sym mute)))
 fault_leads {s} a k c r st front answer b x h said l at is faulty n o =
     broke a k (Did act.Cancel answer) c b b x h said l (tt, tt) at (is.cancels answer) (is.own s.base) (no_more a k b x h said l) n o
 
@@ -127,10 +131,10 @@ leave_leads {s} a k c r front Cancelled b x h said l at is ended n y =
     let came : after a l.trail.course (Did act.Cancel Cancelled) ≡ Dropped r = ap (λ (c : Course). after a c (Did act.Cancel Cancelled)) at ∙ is.cancels Cancelled in
     to_next n Over [] b x (h ++ (act.Cancel, Cancelled) ∷ []) said y
     (ends_open a k (Did act.Cancel Cancelled ∷ []) front [] [] b b x h said l ended (tt, tt)
-      (subst (λ (d : Course). IsOwn s.base a (Unended front true) d) (sym came) tt)
-      (omega (arith, l.keeps.few (b ++ []), ap (λ (c : cut.Cut). length c.bytes) ended))
-      (subst (λ (d : Course). Settles s.base a (Unended front true) d ([], false)) (sym came) (refl, refl))
-      (ap (λ z. z ++ []) (ap (λ (c : Course). said_so_far a c) at ∙ is.greeted) ∙ ap (λ (d : Course). greeting a d ++ []) (sym came)))
+    (subst (λ (d : Course). IsOwn s.base a (Unended front true) d) (sym came) tt)
+    (omega (arith, l.keeps.few (b ++ []), ap (λ (c : cut.Cut). length c.bytes) ended))
+    (subst (λ (d : Course). Settles s.base a (Unended front true) d ([], false)) (sym came) (refl, refl))
+    (ap (λ z. z ++ []) (ap (λ (c : Course). said_so_far a c) at ∙ is.greeted) ∙ ap (λ (d : Course). greeting a d ++ []) (sym came)))
 leave_leads {s} a k c r front answer b x h said l at is ended n y =
     broke a k (Did act.Cancel answer) c b b x h said l (tt, tt) at (is.cancels answer) (is.own s.base) (no_more a k b x h said l) n y
 
@@ -140,8 +144,13 @@ pub memory_leads : {s : Server} {e : Bool} (a : Asked) (before : Course) (answer
 memory_leads a before Cancelled b x h said l at n o =
     replies_any a (Failing want.Memory) (Did act.Cancel Cancelled ∷ []) (Late Memory) (reply_text 503 Nothing true) b x h said l refl
     (λ o. record {
-      suits = (tt, tt); came = ap (λ (c : Course). after a c (Did act.Cancel Cancelled)) at; mute = refl; own = tt; settled = refl;
-      greeted = ap (λ (c : Course). said_so_far a c) at ∙ append-nil (greeting a (Late Memory)) }) n o
+      suits = (tt, tt);
+      came = ap (λ (c : Course). after a c (Did act.Cancel Cancelled)) at;
+      mute = refl;
+      own = tt;
+      settled = refl;
+      greeted = ap (λ (c : Course). said_so_far a c) at ∙ append-nil (greeting a (Late Memory));
+    }) n o
 memory_leads a before answer b x h said l at n o =
     broke a (Failing want.Memory) (Did act.Cancel answer) (Lacking before Memory) b b x h said l (tt, tt) at refl (λ o. tt) (no_more a (Failing want.Memory) b x h said l) n o
 
@@ -151,8 +160,13 @@ pub numbers_leads : {s : Server} {e : Bool} (a : Asked) (before : Course) (r : �
 numbers_leads a before r Cancelled b x h said body l at whole served n o =
     replies a (Failing want.Numbers) (Did act.Cancel Cancelled ∷ []) (Late Numbers) body (reply_text 507 Nothing a.closes) a.closes b x h said l whole (few_still a (Failing want.Numbers) b x h said l body (Did act.Cancel Cancelled ∷ []) whole refl)
     (record {
-      suits = (tt, tt); came = ap (λ (c : Course). after a c (Did act.Cancel Cancelled)) at; mute = refl; own = tt; settled = ((r, served), refl);
-      greeted = ap (λ (c : Course). said_so_far a c) at ∙ append-nil (greeting a (Late Numbers)) }) n o
+      suits = (tt, tt);
+      came = ap (λ (c : Course). after a c (Did act.Cancel Cancelled)) at;
+      mute = refl;
+      own = tt;
+      settled = ((r, served), refl);
+      greeted = ap (λ (c : Course). said_so_far a c) at ∙ append-nil (greeting a (Late Numbers));
+    }) n o
 numbers_leads a before r answer b x h said body l at whole served n o =
     broke a (Failing want.Numbers) (Did act.Cancel answer) (Lacking before Numbers) b b x h said l (tt, tt) at refl (λ o. tt) (no_more a (Failing want.Numbers) b x h said l) n o
 
@@ -163,8 +177,10 @@ cut_leads {s} {e} a answer b x h said l n y = go answer
   where
     out : List ℕ
     out = l.keeps.stands.0
+
     at : l.trail.course ≡ Cutting out
     at = l.keeps.stands.2
+
     go : (answer : Answer) → LeadsTo s e n.phase b x (h ++ (act.Cancel, answer) ∷ []) (said ++ n.said.items)
     go Cancelled =
         stops_whole a work.Cutting (Did act.Cancel Cancelled ∷ []) (Cut out) b x h said l.keeps.stands.1 l (λ y. l.keeps.stands.3 (b ++ y)) (tt, tt)

@@ -4,3 +4,4 @@ pub mod ReadLemmas
 pub mod UploadLemmas
 pub mod CommitLemmas
 pub mod HeadLemmas
+pub mod OpenLemmas

@@ -49,7 +49,7 @@ greeted_skip a before at none =
     ap (λ (c : Course). said_so_far a c) at ∙ append-nil (greeting a Fresh) ∙ ap (λ v. cond a.awaits_continue (cond (not v) continue_text []) []) none
 
 -- after a first move the course is what the move leads to
-first_is : (a : Asked) (before : Course) (p : Plan) (m : Move) → before ≡ Fresh → plan_of a ≡ p → after a before m ≡ first a p m
+pub first_is : (a : Asked) (before : Course) (p : Plan) (m : Move) → before ≡ Fresh → plan_of a ≡ p → after a before m ≡ first a p m
 first_is a before p m at is = ap (λ (c : Course). after a c m) at ∙ ap (λ (q : Plan). first a q m) is
 
 pub delete_leads : {s : Server} {e : Bool} (a : Asked) (transfer : Transfer) (t : Target) (answer : Answer) (b x : List ℕ) (h : Deeds) (said body : List ℕ) (l : LeadsTo s e (Serving a (Skipping transfer)) b x h said)
@@ -60,7 +60,9 @@ delete_leads a transfer t (Status st name) b x h said body l is whole n o =
     (record {
       suits = (is, tt);
       came = first_is a l.trail.course (Deletes t) (Did (act.Delete t) (Status st name)) l.keeps.stands.1 is;
-      mute = refl; own = tt; settled = refl;
+      mute = refl;
+      own = tt;
+      settled = refl;
       greeted = greeted_skip a l.trail.course l.keeps.stands.1 l.keeps.stands.2;
     }) n o
 delete_leads {s} a transfer t (Refused why.LastNumber) b x h said body l is whole n o =
@@ -69,7 +71,9 @@ delete_leads {s} a transfer t (Refused why.LastNumber) b x h said body l is whol
     (record {
       suits = (is, tt);
       came = first_is a l.trail.course (Deletes t) (Did (act.Delete t) (Refused why.LastNumber)) l.keeps.stands.1 is;
-      mute = refl; own = tt; settled = ((0, ap (λ (p : Plan). refusal_at s.base a p 0 body) is), refl);
+      mute = refl;
+      own = tt;
+      settled = ((0, ap (λ (p : Plan). refusal_at s.base a p 0 body) is), refl);
       greeted = greeted_skip a l.trail.course l.keeps.stands.1 l.keeps.stands.2;
     }) n o
 delete_leads a transfer t answer b x h said body l is whole n o =
@@ -95,7 +99,9 @@ look_leads a transfer t (Status st name) b x h said body l is whole n o =
     (record {
       suits = (is, tt);
       came = first_is a l.trail.course (Looks t) (Did (act.Head t) (Status st name)) l.keeps.stands.1 is;
-      mute = refl; own = tt; settled = look_settled a st (st == 200);
+      mute = refl;
+      own = tt;
+      settled = look_settled a st (st == 200);
       greeted = greeted_skip a l.trail.course l.keeps.stands.1 l.keeps.stands.2;
     }) n (look_said n a st (st == 200) o)
 look_leads a transfer t answer b x h said body l is whole n o =
@@ -148,8 +154,8 @@ pub stops_whole : {s : Server} {e : Bool} (a : Asked) (k : Work) (ms : List Move
 stops_whole {s} a k ms c b x h said body l whole suit f none own set g n y =
     to_next n Over [] b x (h ++ deeds_of ms) said y
     (answers a k ms body true (lines_out c) [] b x h said l whole suit (subst (λ (d : Course). IsOwn s.base a (Whole body) d) (sym f) own) (few_still a k b x h said l body ms whole none)
-      (subst (λ (d : Course). Settles s.base a (Whole body) d (lines_out c, false)) (sym f) set)
-      (append-nil (said_so_far a l.trail.course) ∙ g ∙ ap (λ (d : Course). greeting a d ++ lines_out c) (sym f)))
+    (subst (λ (d : Course). Settles s.base a (Whole body) d (lines_out c, false)) (sym f) set)
+    (append-nil (said_so_far a l.trail.course) ∙ g ∙ ap (λ (d : Course). greeting a d ++ lines_out c) (sym f)))
 
 -- what was said of a read goes on
 joins : (a : Asked) (before : Course) (out due u : List ℕ) → before ≡ Held out due false → said_so_far a before ++ u ≡ greeting a (Held out due false) ++ ((out ++ due) ++ u)
@@ -165,23 +171,29 @@ piece_leads {s} {e} a answer b x h said l n o = go answer o
   where
     out : List ℕ
     out = l.keeps.stands.0
+
     due : List ℕ
     due = l.keeps.stands.1
+
     body : List ℕ
     body = l.keeps.stands.2
+
     at : l.trail.course ≡ Held out due false
     at = l.keeps.stands.3
+
     whole : IsWholeAt l body
     whole y = l.keeps.stands.4 (b ++ y)
+
     is : (answer : Answer) → after a l.trail.course (Did (act.Piece s.piece) answer) ≡ at_piece out due answer
     is answer = held_is a l.trail.course (at_piece out due answer) out due (Did (act.Piece s.piece) answer) at refl
+
     go : (answer : Answer) → AfterPiece a answer n → LeadsTo s e n.phase b x (h ++ (act.Piece s.piece, answer) ∷ []) (said ++ n.said.items)
     go (Lines v true) (inl y) =
         to_next n (after_reply a.closes) (chunk v.items ++ last_if true) b x (h ++ (act.Piece s.piece, Lines v true) ∷ []) said y
         (answers a Sending (Did (act.Piece s.piece) (Lines v true) ∷ []) body a.closes ((out ++ due) ++ (chunk v.items ++ last_if true)) (chunk v.items ++ last_if true) b x h said l whole (refl, tt)
-          (subst (λ (d : Course). IsOwn s.base a (Whole body) d) (sym (is (Lines v true))) tt) (few_still a Sending b x h said l body (Did (act.Piece s.piece) (Lines v true) ∷ []) whole refl)
-          (subst (λ (d : Course). Settles s.base a (Whole body) d ((out ++ due) ++ (chunk v.items ++ last_if true), not a.closes)) (sym (is (Lines v true))) refl)
-          (joins a l.trail.course out due (chunk v.items ++ last_if true) at ∙ ap (λ (d : Course). greeting a d ++ ((out ++ due) ++ (chunk v.items ++ last_if true))) (sym (is (Lines v true)))))
+        (subst (λ (d : Course). IsOwn s.base a (Whole body) d) (sym (is (Lines v true))) tt) (few_still a Sending b x h said l body (Did (act.Piece s.piece) (Lines v true) ∷ []) whole refl)
+        (subst (λ (d : Course). Settles s.base a (Whole body) d ((out ++ due) ++ (chunk v.items ++ last_if true), not a.closes)) (sym (is (Lines v true))) refl)
+        (joins a l.trail.course out due (chunk v.items ++ last_if true) at ∙ ap (λ (d : Course). greeting a d ++ ((out ++ due) ++ (chunk v.items ++ last_if true))) (sym (is (Lines v true)))))
     go (Lines v true) (inr y) =
         stops_whole a Sending (Did (act.Piece s.piece) (Lines v true) ∷ Short ∷ []) (Cut (out ++ due)) b x h said body l whole (refl, tt) (ap (λ (d : Course). after a d Short) (is (Lines v true))) refl tt refl
         (ap (λ (c : Course). said_so_far a c) at) n y

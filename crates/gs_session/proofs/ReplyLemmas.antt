@@ -55,16 +55,16 @@ pub replies : {s : Server} {e : Bool} (a : Asked) (k : Work) (ms : List Move) (c
 replies {s} {e} a k ms c body v closes b x h said l whole few r n (inl y) =
     to_next n (after_reply closes) v b x (h ++ deeds_of ms) said y
     (answers a k ms body closes v v b x h said l whole r.suits (subst (λ (d : Course). IsOwn s.base a (Whole body) d) (sym r.came) r.own) few
-      (subst (λ (d : Course). Settles s.base a (Whole body) d (v, not closes)) (sym r.came) r.settled)
-      (ap (λ z. z ++ v) r.greeted ∙ ap (λ (d : Course). greeting a d ++ v) (sym r.came)))
+    (subst (λ (d : Course). Settles s.base a (Whole body) d (v, not closes)) (sym r.came) r.settled)
+    (ap (λ z. z ++ v) r.greeted ∙ ap (λ (d : Course). greeting a d ++ v) (sym r.came)))
 replies {s} {e} a k ms c body v closes b x h said l whole few r n (inr y) =
     let is = muted_course a l.trail.course c ms r.came r.mute in
     to_next n Over [] b x (h ++ deeds_of ms) said y
     (subst (λ (d : Deeds). LeadsTo s e Over b x (h ++ d) (said ++ [])) (short_deeds ms)
-      (answers a k (ms ++ Short ∷ []) body true [] [] b x h said l whole (short_suits s.piece (plan_of a) ms r.suits)
-        (subst (λ (d : Course). IsOwn s.base a (Whole body) d) (sym is) r.own) (subst (λ z. z ≤ length body + 1) (sym (short_stages (stages_in l.now) ms)) few)
-        (subst (λ (d : Course). Settles s.base a (Whole body) d ([], false)) (sym is) (((v, not closes), r.settled), refl))
-        (ap (λ z. z ++ []) r.greeted ∙ ap (λ (d : Course). greeting a d ++ []) (sym is))))
+    (answers a k (ms ++ Short ∷ []) body true [] [] b x h said l whole (short_suits s.piece (plan_of a) ms r.suits)
+    (subst (λ (d : Course). IsOwn s.base a (Whole body) d) (sym is) r.own) (subst (λ z. z ≤ length body + 1) (sym (short_stages (stages_in l.now) ms)) few)
+    (subst (λ (d : Course). Settles s.base a (Whole body) d ([], false)) (sym is) (((v, not closes), r.settled), refl))
+    (ap (λ z. z ++ []) r.greeted ∙ ap (λ (d : Course). greeting a d ++ []) (sym is))))
 
 -- A request is answered, whatever its body is, and the connection ends.
 pub replies_any : {s : Server} {e : Bool} (a : Asked) (k : Work) (ms : List Move) (c : Course) (v b x : List ℕ) (h : Deeds) (said : List ℕ) (l : LeadsTo s e (Serving a k) b x h said)
@@ -73,16 +73,16 @@ pub replies_any : {s : Server} {e : Bool} (a : Asked) (k : Work) (ms : List Move
 replies_any {s} {e} a k ms c v b x h said l none r n (inl y) =
     to_next n Over v b x (h ++ deeds_of ms) said y
     (ends a k ms v v b b x h said l (r (Whole [])).suits (λ o. subst (λ (d : Course). IsOwn s.base a o d) (sym (r o).came) (r o).own) (λ z. omega (arith, none, l.keeps.few z))
-      (λ o. subst (λ (d : Course). Settles s.base a o d (v, false)) (sym (r o).came) (r o).settled)
-      (ap (λ z. z ++ v) (r (Whole [])).greeted ∙ ap (λ (d : Course). greeting a d ++ v) (sym (r (Whole [])).came)))
+    (λ o. subst (λ (d : Course). Settles s.base a o d (v, false)) (sym (r o).came) (r o).settled)
+    (ap (λ z. z ++ v) (r (Whole [])).greeted ∙ ap (λ (d : Course). greeting a d ++ v) (sym (r (Whole [])).came)))
 replies_any {s} {e} a k ms c v b x h said l none r n (inr y) =
     let is = muted_course a l.trail.course c ms (r (Whole [])).came (r (Whole [])).mute in
     to_next n Over [] b x (h ++ deeds_of ms) said y
     (subst (λ (d : Deeds). LeadsTo s e Over b x (h ++ d) (said ++ [])) (short_deeds ms)
-      (ends a k (ms ++ Short ∷ []) [] [] b b x h said l (short_suits s.piece (plan_of a) ms (r (Whole [])).suits) (λ o. subst (λ (d : Course). IsOwn s.base a o d) (sym is) (r o).own)
-        (λ z. omega (arith, none, short_stages (stages_in l.now) ms, l.keeps.few z))
-        (λ o. subst (λ (d : Course). Settles s.base a o d ([], false)) (sym is) (((v, false), (r o).settled), refl))
-        (ap (λ z. z ++ []) (r (Whole [])).greeted ∙ ap (λ (d : Course). greeting a d ++ []) (sym is))))
+    (ends a k (ms ++ Short ∷ []) [] [] b b x h said l (short_suits s.piece (plan_of a) ms (r (Whole [])).suits) (λ o. subst (λ (d : Course). IsOwn s.base a o d) (sym is) (r o).own)
+    (λ z. omega (arith, none, short_stages (stages_in l.now) ms, l.keeps.few z))
+    (λ o. subst (λ (d : Course). Settles s.base a o d ([], false)) (sym is) (((v, false), (r o).settled), refl))
+    (ap (λ z. z ++ []) (r (Whole [])).greeted ∙ ap (λ (d : Course). greeting a d ++ []) (sym is))))
 
 -- The door gave an answer that it should not: the connection ends.
 pub broke : {s : Server} {e : Bool} (a : Asked) (k : Work) (m : Move) (c : Course) (b d x : List ℕ) (h : Deeds) (said : List ℕ) (l : LeadsTo s e (Serving a k) b x h said)
@@ -93,5 +93,5 @@ broke {s} {e} a k m c b d x h said l suit at f own few n y =
     let is : after a l.trail.course m ≡ Misanswered c = ap (λ (w : Course). after a w m) at ∙ f in
     to_next n Over [] d x (h ++ deeds_of (m ∷ [])) said y
     (ends a k (m ∷ []) (lines_out c) [] b d x h said l suit (λ o. subst (λ (w : Course). IsOwn s.base a o w) (sym is) (own o)) few
-      (λ o. subst (λ (w : Course). Settles s.base a o w (lines_out c, false)) (sym is) refl)
-      (append-nil (said_so_far a l.trail.course) ∙ ap (λ (w : Course). said_so_far a w) at ∙ ap (λ (w : Course). greeting a w ++ lines_out c) (sym is)))
+    (λ o. subst (λ (w : Course). Settles s.base a o w (lines_out c, false)) (sym is) refl)
+    (append-nil (said_so_far a l.trail.course) ∙ ap (λ (w : Course). said_so_far a w) at ∙ ap (λ (w : Course). greeting a w ++ lines_out c) (sym is)))

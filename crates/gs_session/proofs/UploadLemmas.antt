@@ -102,33 +102,36 @@ stage_leads {s} {e} a k k2 t t2 bytes b x n h said l p some v full r answer m o 
   where
     g : IsReading s.base a k t l.trail (stages_in l.now)
     g = l.keeps.stands
+
     same : said_so_far a l.trail.course ++ [] ≡ said_so_far a (Writing g.request (g.staged ++ v.items))
     same = append-nil (said_so_far a l.trail.course) ∙ ap (λ (c : Course). said_so_far a c) g.stands
+
     few : (z : List ℕ) → stages_in l.now + 1 ≤ length (with_data (g.done ++ bytes) (cut_of t2 z)).bytes + 1
     few z = omega (arith, g.few, longer g.done bytes (cut_of t2 z))
+
     go : (us : List RdfTriple) → v.items ≡ us → us ≢ [] → (answer : Answer) → AfterStage a (Uploading k2 t2) answer m → LeadsTo s e m.phase (drop n b) x (h ++ (act.Stage v, answer) ∷ []) (said ++ m.said.items)
     go [] is full answer o = absurd (full refl)
     go (u ∷ us) is full Staged o =
         to_next m (Serving a (Uploading k2 t2)) [] (drop n b) x (h ++ (act.Stage v, Staged) ∷ []) said o
         (moved a (Uploading k t) (Uploading k2 t2) (Did (act.Stage v) Staged ∷ []) [] b (drop n b) x h said l (part_trail (g.done ++ bytes) t2 (Writing g.request (g.staged ++ v.items)))
-          (seam l.trail g.done bytes b t t2 n g.cut p) (tt, tt)
-          (ap (λ (c : Course). after a c (Did (act.Stage v) Staged)) g.stands ∙ ap (λ w. at_stage g.request g.staged w Staged) is ∙ ap (λ w. Writing g.request (g.staged ++ w)) (sym is))
-          same few
-          (record {
-            request = g.request;
-            done = g.done ++ bytes;
-            staged = g.staged ++ v.items;
-            stands = refl;
-            fed = r (meaning_in (language_of a.body) (text_base s.base a.graph) g.request) g.done g.staged g.fed;
-            cut = λ z. refl;
-            few = omega (arith, g.few, some, length-append g.done bytes);
-          }))
+        (seam l.trail g.done bytes b t t2 n g.cut p) (tt, tt)
+        (ap (λ (c : Course). after a c (Did (act.Stage v) Staged)) g.stands ∙ ap (λ w. at_stage g.request g.staged w Staged) is ∙ ap (λ w. Writing g.request (g.staged ++ w)) (sym is))
+        same few
+        (record {
+          request = g.request;
+          done = g.done ++ bytes;
+          staged = g.staged ++ v.items;
+          stands = refl;
+          fed = r (meaning_in (language_of a.body) (text_base s.base a.graph) g.request) g.done g.staged g.fed;
+          cut = λ z. refl;
+          few = omega (arith, g.few, some, length-append g.done bytes);
+        }))
     go (u ∷ us) is full (Refused why.NoMemory) o =
         to_next m (Serving a (Failing want.Memory)) [] (drop n b) x (h ++ (act.Stage v, Refused why.NoMemory) ∷ []) said o
         (moved a (Uploading k t) (Failing want.Memory) (Did (act.Stage v) (Refused why.NoMemory) ∷ []) [] b (drop n b) x h said l (part_trail (g.done ++ bytes) t2 (Lacking (Writing g.request g.staged) Memory))
-          (seam l.trail g.done bytes b t t2 n g.cut p) (tt, tt)
-          (ap (λ (c : Course). after a c (Did (act.Stage v) (Refused why.NoMemory))) g.stands ∙ ap (λ w. at_stage g.request g.staged w (Refused why.NoMemory)) is)
-          same few (Writing g.request g.staged, refl, tt))
+        (seam l.trail g.done bytes b t t2 n g.cut p) (tt, tt)
+        (ap (λ (c : Course). after a c (Did (act.Stage v) (Refused why.NoMemory))) g.stands ∙ ap (λ w. at_stage g.request g.staged w (Refused why.NoMemory)) is)
+        same few (Writing g.request g.staged, refl, tt))
     go (u ∷ us) is full other o =
         broke a (Uploading k t) (Did (act.Stage v) other) (Writing g.request g.staged) b (drop n b) x h said l (tt, tt) g.stands (ap (λ w. at_stage g.request g.staged w other) is) (λ o. tt)
         (λ z. omega (arith, g.few, ap (λ (c : Cut). length c.bytes) (g.cut z), length-append g.done (cut_of t z).bytes)) m o

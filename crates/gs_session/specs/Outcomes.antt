@@ -1,5 +1,6 @@
 -- What an answer of the store leads to: the next phase, and what is said.
-use Rattle.std.specs.Prelude.{◌≡◌, ◌⊎◌, ◌==◌, ℕ, Bool, cond, true, false, List, [], ◌++◌, Option, Some, None}
+use Rattle.std.specs.Prelude.{◌≡◌, ◌⊎◌, ◌==◌, ℕ, Bool, cond, true, false, List, [], ◌++◌, Vec}
+use Rattle.std.specs.declared.alloc.Global.{Global}
 use Rattle.gs_model.specs.declared.refusals.Refusal.TheVariants.{NoMemory, LastNumber}
 use Rattle.gs_event.specs.declared.answers.Answer.{Answer}
 use Rattle.gs_event.specs.declared.answers.Answer.TheVariants.{Opened, Staged, Status, Pinned, Lines, Cancelled, Refused}
@@ -62,6 +63,11 @@ AfterRefusal a answer n = Stops n
 abbrev pub AfterOpen : List ℕ → Asked → List ℕ → Answer → Next → Type 0
 AfterOpen base a greeting (Opened r) n = (w : Work) × Says n (Serving a w) greeting × Receives base a r w
 AfterOpen base a greeting answer n = AfterRefusal a answer n
+
+-- the Open of a patch
+abbrev pub AfterOpenPatch : Asked → List ℕ → Answer → Next → Type 0
+AfterOpenPatch a greeting (Opened r) n = (body : Vec ℕ Global) × (t : Transfer) × Says n (Serving a (Patching r body t)) greeting × (body.items ≡ []) × IsFirstTransfer a t
+AfterOpenPatch a greeting answer n = AfterRefusal a answer n
 
 -- a Delete
 abbrev pub AfterDelete : Asked → Answer → Next → Type 0

@@ -1,14 +1,15 @@
 -- What a session's state stands for: the requests that are still to be answered, and what was done for the first of them.
-use Rattle.std.specs.Prelude.{◌≡◌, ◌≤◌, ℕ, ◌+◌, false, List, [], length, None}
+use Rattle.std.specs.Prelude.{◌≡◌, ◌≤◌, ℕ, ◌+◌, true, false, List, [], length, None}
 use Rattle.gs_model.specs.Triples.{RdfTriple}
 use Rattle.gs_upload.specs.Languages.{meaning_in}
 use Rattle.gs_upload.specs.Readers.{IsFedText}
 use Rattle.gs_upload.specs.declared.readings.Reading.{Reading}
 use Rattle.gs_upload.specs.declared.readers.TextReader.{TextReader}
-use Rattle.gs_transfer.specs.Cuts.{Cut, Whole, with_data}
+use Rattle.gs_transfer.specs.Cuts.{Cut, Whole, with_data, body_at}
 use Rattle.gs_transfer.specs.Views.{cut_of}
 use Rattle.gs_transfer.specs.declared.places.Transfer.{Transfer}
 use Rattle.gs_verdict.specs.declared.verdicts.Asked.{Asked}
+use Rattle.gs_verdict.specs.Checks.{limit_of}
 use Rattle.gs_stream.specs.Requests.{Request, by_body, requests}
 use Rattle.gs_talk.specs.Plans.{opens, plan_of}
 use Rattle.gs_talk.specs.Courses.{Move, Lack, Memory, Numbers, Course}
@@ -20,7 +21,7 @@ use Rattle.gs_talk.specs.Logs.{Server, AllSuit, stages_in}
 use Rattle.gs_session.specs.declared.phases.Want.{Want}
 use Rattle.gs_session.specs.declared.phases.Want.TheVariants as want
 use Rattle.gs_session.specs.declared.phases.Work.{Work}
-use Rattle.gs_session.specs.declared.phases.Work.TheVariants.{Skipping, Uploading, Committing, Patching, Failing, Sending, Cutting}
+use Rattle.gs_session.specs.declared.phases.Work.TheVariants.{Opening, Skipping, Uploading, Committing, Patching, Failing, Sending, Cutting}
 use Rattle.gs_session.specs.declared.phases.Phase.{Phase}
 use Rattle.gs_session.specs.declared.phases.Phase.TheVariants.{Between, Serving, Over}
 
@@ -67,6 +68,7 @@ pub record IsReading (base : List ℕ) (a : Asked) (k : Reading TextReader) (tra
 -- where the work stands
 abbrev pub Stands : List ℕ → Asked → Work → Trail → ℕ → Type 0
 Stands base a (Skipping transfer) t stages = (done : List ℕ) × (t.course ≡ at.Fresh) × (opens (plan_of a) ≡ false) × IsCutBy t done transfer
+Stands base a Opening t stages = (t.course ≡ at.Fresh) × (opens (plan_of a) ≡ true) × ((z : List ℕ) → t.cut z ≡ body_at (limit_of a.method) a.framing z) × (stages ≡ 0)
 Stands base a (Uploading k transfer) t stages = IsReading base a k transfer t stages
 Stands base a Committing t stages = (r : ℕ) × (body : List ℕ) × (staged : List RdfTriple) × (t.course ≡ at.Writing r staged) × States base a r body staged × IsWholeBody t body
 Stands base a (Patching r body transfer) t stages = (t.course ≡ at.Patching r) × IsCutBy t body.items transfer

@@ -13,6 +13,8 @@ pub enum Want {
 /// Where the serving of a request stands.
 #[derive(Drop)]
 pub enum Work {
+    /// The Open is due.
+    Opening,
     /// A body that says nothing is dropped; then comes the Delete, the Head or the Pin.
     Skipping(Transfer),
     /// The body of an upload is read.

@@ -134,7 +134,7 @@ impl Session {
                 self.deny(denial);
                 Step::Silent
             }
-            Ok(Verdict::Ask(asked)) => self.begin(asked, door),
+            Ok(Verdict::Ask(asked)) => self.begin(asked),
             Err(_) => {
                 self.reply(503, Note::Nothing, true);
                 Step::Silent
@@ -150,20 +150,36 @@ impl Session {
     }
 
     /// What a head asks for is begun.
-    fn begin<D: Door>(&mut self, asked: Asked, door: &mut D) -> Step {
+    fn begin(&mut self, asked: Asked) -> Step {
         let Ok(greeting) = greeting(self.alloc, asked.awaits_continue) else {
             self.reply(503, Note::Nothing, true);
             return Step::Silent;
         };
         match asked.method {
-            Method::Put | Method::Post => self.open(asked, greeting, door),
-            Method::Patch => self.open_patch(asked, greeting, door),
+            Method::Put | Method::Post | Method::Patch => {
+                self.phase = Phase::Serving(asked, Work::Opening);
+                Step::Silent
+            }
             _ => {
                 self.due = greeting;
                 let transfer = transfer_of(&asked);
                 self.phase = Phase::Serving(asked, Work::Skipping(transfer));
                 Step::Silent
             }
+        }
+    }
+
+    /// What a body is for is opened.
+    fn open_it<D: Door>(&mut self, asked: Asked, door: &mut D) -> Step {
+        match greeting(self.alloc, asked.awaits_continue) {
+            Err(_) => {
+                self.reply(503, Note::Nothing, true);
+                Step::Silent
+            }
+            Ok(greeting) => match asked.method {
+                Method::Patch => self.open_patch(asked, greeting, door),
+                _ => self.open(asked, greeting, door),
+            },
         }
     }
 
@@ -544,6 +560,7 @@ impl Session {
 
     fn work<D: Door>(&mut self, asked: Asked, work: Work, door: &mut D) -> Step {
         match work {
+            Work::Opening => self.open_it(asked, door),
             Work::Skipping(transfer) => self.skip(asked, transfer, door),
             Work::Uploading(reading, transfer) => self.upload(asked, reading, transfer, door),
             Work::Committing => self.commit(asked, door),
@@ -596,7 +613,9 @@ fn kind_of(asked: &Asked) -> Result<UploadKind, AllocError> {
     match (asked.method, &asked.graph) {
         (Method::Put, Some(target)) => Ok(UploadKind::Put(target.clone()?)),
         (_, Some(target)) => Ok(UploadKind::Post(target.clone()?)),
-        (_, None) => Ok(UploadKind::New),
+        (Method::Post, None) => Ok(UploadKind::New),
+        // Never: the store itself is for POST alone.
+        (_, None) => Err(AllocError),
     }
 }
 
