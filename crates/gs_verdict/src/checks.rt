@@ -95,7 +95,8 @@ pub fn takes_reply(kept: &HeaderMap<&[u8]>, method: Method) -> bool
     }
 }
 
-fn limit_of(method: Method) -> u64
+/// The most bytes that the body of a request with this method may have.
+pub fn limit_of(method: Method) -> u64
     ensures { result ≡ spec.limit_of method }
 {
     match method {

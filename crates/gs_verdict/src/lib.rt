@@ -7,6 +7,7 @@ mod methods;
 mod reading;
 mod verdicts;
 
+pub use checks::limit_of;
 pub use judging::judge_head;
 pub use methods::{Allow, Method};
 pub use reading::read_verdict;

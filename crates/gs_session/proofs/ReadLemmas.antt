@@ -1,0 +1,210 @@
+-- The steps of a removal, a look and a read.
+use Rattle.std.proofs.Common.{◌≡◌, ◌⊎◌, inl, inr, ◌+◌, ◌≤◌, ◌==◌, arith, ℕ, Bool, true, false, cond, not, List, [], ◌∷◌, ◌++◌, length, refl, sym, ap, subst, ◌∙◌, append-nil, append_assoc}
+use Rattle.gs_model.specs.declared.refusals.Refusal.TheVariants as why
+use Rattle.gs_event.specs.declared.events.Action.{Action}
+use Rattle.gs_event.specs.declared.events.Action.TheVariants as act
+use Rattle.gs_event.specs.declared.answers.Answer.{Answer}
+use Rattle.gs_event.specs.declared.answers.Answer.TheVariants.{Opened, Staged, Status, Pinned, Lines, Cancelled, Refused}
+use Rattle.gs_term.specs.declared.names.Target.{Target}
+use Rattle.gs_transfer.specs.Cuts as cut
+use Rattle.gs_transfer.specs.declared.places.Transfer.{Transfer}
+use Rattle.gs_verdict.specs.declared.verdicts.Asked.{Asked}
+use Rattle.gs_reply.specs.Notices.{Nothing}
+use Rattle.gs_reply.specs.Replies.{reply_text, lines_head, chunk, continue_text}
+use Rattle.gs_talk.specs.Bodies.{refusal_at}
+use Rattle.gs_talk.specs.Plans.{Plan, Deletes, Looks, Reads, opens, plan_of}
+use Rattle.gs_talk.specs.Courses.{Move, Did, Short, Course, Fresh, Late, Numbers, Erased, Looked, Missing, Held, Cutting, Cut, Misanswered}
+use Rattle.gs_talk.specs.Moves.{first, after, course, last_if, at_piece}
+use Rattle.gs_talk.specs.Seats.{Deeds}
+use Rattle.gs_talk.specs.Replies.{BodyState, Whole, Said, IsOwn, Settles, said_so_far, greeting, lines_out}
+use Rattle.gs_talk.specs.Logs.{Server, AllSuit, deeds_of, stages_in}
+use Rattle.gs_session.specs.declared.phases.Phase.{Phase}
+use Rattle.gs_session.specs.declared.phases.Phase.TheVariants.{Between, Serving, Over}
+use Rattle.gs_session.specs.declared.phases.Work.{Work}
+use Rattle.gs_session.specs.declared.phases.Work.TheVariants.{Skipping, Sending}
+use Rattle.gs_session.specs.declared.phases.Work.TheVariants as work
+use Rattle.gs_session.specs.declared.outcomes.Next.{Next}
+use Rattle.gs_session.specs.Trails.{Trail, Stands}
+use Rattle.gs_session.specs.Leads.{LeadsTo}
+use Rattle.gs_session.specs.Outcomes.{Says, Stops, Replies, RepliesFound, Begins, after_reply, after_piece, without_piece, AfterDelete, AfterHead, AfterPin, AfterPiece}
+use Rattle.gs_session.proofs.MoveLemmas.{moved, answers}
+use Rattle.gs_session.proofs.ReplyLemmas.{Answers, replies, broke, to_next}
+
+-- the body of the request that is served is whole, and is this
+abbrev pub IsWholeAt : {s : Server} {e : Bool} {p : Phase} {b x : List ℕ} {h : Deeds} {said : List ℕ} → LeadsTo s e p b x h said → List ℕ → Type 0
+IsWholeAt {b = b} l body = (y : List ℕ) → l.trail.cut (b ++ y) ≡ record { bytes = body; end = cut.Whole (b ++ y) }
+
+-- no stage more, after which there are few
+pub few_still : {s : Server} {e : Bool} (a : Asked) (k : Work) (b x : List ℕ) (h : Deeds) (said : List ℕ) (l : LeadsTo s e (Serving a k) b x h said) (body : List ℕ) (ms : List Move)
+    → IsWholeAt l body → stages_in ms ≡ 0 → stages_in l.now + stages_in ms ≤ length body + 1
+few_still a k b x h said l body ms whole none = omega (arith, none, l.keeps.few (b ++ []), ap (λ (c : cut.Cut). length c.bytes) (whole []))
+
+-- an event that stages nothing leaves their number
+pub no_more : {s : Server} {e : Bool} (a : Asked) (k : Work) (b x : List ℕ) (h : Deeds) (said : List ℕ) (l : LeadsTo s e (Serving a k) b x h said) (z : List ℕ) → stages_in l.now + 0 ≤ length (l.trail.cut z).bytes + 1
+no_more a k b x h said l z = omega (arith, l.keeps.few z)
+
+-- while nothing was done for a request whose body is dropped, no more was said than `100 Continue`, if that is awaited
+greeted_skip : (a : Asked) (before : Course) → before ≡ Fresh → opens (plan_of a) ≡ false → said_so_far a before ≡ cond a.awaits_continue continue_text []
+greeted_skip a before at none =
+    ap (λ (c : Course). said_so_far a c) at ∙ append-nil (greeting a Fresh) ∙ ap (λ v. cond a.awaits_continue (cond (not v) continue_text []) []) none
+
+-- after a first move the course is what the move leads to
+pub first_is : (a : Asked) (before : Course) (p : Plan) (m : Move) → before ≡ Fresh → plan_of a ≡ p → after a before m ≡ first a p m
+first_is a before p m at is = ap (λ (c : Course). after a c m) at ∙ ap (λ (q : Plan). first a q m) is
+
+pub delete_leads : {s : Server} {e : Bool} (a : Asked) (transfer : Transfer) (t : Target) (answer : Answer) (b x : List ℕ) (h : Deeds) (said body : List ℕ) (l : LeadsTo s e (Serving a (Skipping transfer)) b x h said)
+    → plan_of a ≡ Deletes t → IsWholeAt l body → (n : Next) → AfterDelete a answer n → LeadsTo s e n.phase b x (h ++ (act.Delete t, answer) ∷ []) (said ++ n.said.items)
+delete_leads a transfer t (Status st name) b x h said body l is whole n o =
+    replies a (Skipping transfer) (Did (act.Delete t) (Status st name) ∷ []) (Erased st) body (reply_text st Nothing a.closes) a.closes b x h said l whole
+    (few_still a (Skipping transfer) b x h said l body (Did (act.Delete t) (Status st name) ∷ []) whole refl)
+    (record {
+      suits = (is, tt);
+      came = first_is a l.trail.course (Deletes t) (Did (act.Delete t) (Status st name)) l.keeps.stands.1 is;
+      mute = refl;
+      own = tt;
+      settled = refl;
+      greeted = greeted_skip a l.trail.course l.keeps.stands.1 l.keeps.stands.2;
+    }) n o
+delete_leads {s} a transfer t (Refused why.LastNumber) b x h said body l is whole n o =
+    replies a (Skipping transfer) (Did (act.Delete t) (Refused why.LastNumber) ∷ []) (Late Numbers) body (reply_text 507 Nothing a.closes) a.closes b x h said l whole
+    (few_still a (Skipping transfer) b x h said l body (Did (act.Delete t) (Refused why.LastNumber) ∷ []) whole refl)
+    (record {
+      suits = (is, tt);
+      came = first_is a l.trail.course (Deletes t) (Did (act.Delete t) (Refused why.LastNumber)) l.keeps.stands.1 is;
+      mute = refl;
+      own = tt;
+      settled = ((0, ap (λ (p : Plan). refusal_at s.base a p 0 body) is), refl);
+      greeted = greeted_skip a l.trail.course l.keeps.stands.1 l.keeps.stands.2;
+    }) n o
+delete_leads a transfer t answer b x h said body l is whole n o =
+    broke a (Skipping transfer) (Did (act.Delete t) answer) Fresh b b x h said l (is, tt) l.keeps.stands.1 (first_is a Fresh (Deletes t) (Did (act.Delete t) answer) refl is) (λ o. tt) (no_more a (Skipping transfer) b x h said l) n o
+
+-- a look: the head of a read, or a reply that there is no graph
+
+look_said : (n : Next) (a : Asked) (st : ℕ) (v : Bool) → cond v (RepliesFound n a) (Replies n st a.closes)
+    → Says n (after_reply a.closes) (cond v (lines_head a.reply a.closes) (reply_text st Nothing a.closes)) ⊎ Stops n
+look_said n a st true o = o
+look_said n a st false o = o
+
+look_settled : (a : Asked) (st : ℕ) (v : Bool)
+    → ◌≡◌ {A = Said} (cond v (lines_head a.reply a.closes) (reply_text st Nothing a.closes), not a.closes) (cond v (lines_head a.reply a.closes, not a.closes) (reply_text st Nothing a.closes, not a.closes))
+look_settled a st true = refl
+look_settled a st false = refl
+
+pub look_leads : {s : Server} {e : Bool} (a : Asked) (transfer : Transfer) (t : Target) (answer : Answer) (b x : List ℕ) (h : Deeds) (said body : List ℕ) (l : LeadsTo s e (Serving a (Skipping transfer)) b x h said)
+    → plan_of a ≡ Looks t → IsWholeAt l body → (n : Next) → AfterHead a answer n → LeadsTo s e n.phase b x (h ++ (act.Head t, answer) ∷ []) (said ++ n.said.items)
+look_leads a transfer t (Status st name) b x h said body l is whole n o =
+    replies a (Skipping transfer) (Did (act.Head t) (Status st name) ∷ []) (Looked st) body (cond (st == 200) (lines_head a.reply a.closes) (reply_text st Nothing a.closes)) a.closes b x h said l whole
+    (few_still a (Skipping transfer) b x h said l body (Did (act.Head t) (Status st name) ∷ []) whole refl)
+    (record {
+      suits = (is, tt);
+      came = first_is a l.trail.course (Looks t) (Did (act.Head t) (Status st name)) l.keeps.stands.1 is;
+      mute = refl;
+      own = tt;
+      settled = look_settled a st (st == 200);
+      greeted = greeted_skip a l.trail.course l.keeps.stands.1 l.keeps.stands.2;
+    }) n (look_said n a st (st == 200) o)
+look_leads a transfer t answer b x h said body l is whole n o =
+    broke a (Skipping transfer) (Did (act.Head t) answer) Fresh b b x h said l (is, tt) l.keeps.stands.1 (first_is a Fresh (Looks t) (Did (act.Head t) answer) refl is) (λ o. tt) (no_more a (Skipping transfer) b x h said l) n o
+
+-- a read
+
+-- the trail of a request whose body is whole
+abbrev pub whole_trail : List ℕ → Course → Trail
+whole_trail body c = record { cut = λ z. record { bytes = body; end = cut.Whole z }; course = c }
+
+-- moves are made and a text is said, and a request whose body is whole is served on
+pub reads_on : {s : Server} {e : Bool} (a : Asked) (k k2 : Work) (ms : List Move) (c : Course) (u b x : List ℕ) (h : Deeds) (said body : List ℕ) (l : LeadsTo s e (Serving a k) b x h said)
+    → IsWholeAt l body → AllSuit s.piece (plan_of a) ms → course a l.trail.course ms ≡ c → said_so_far a l.trail.course ++ u ≡ said_so_far a c → stages_in ms ≡ 0
+    → Stands s.base a k2 (whole_trail body c) (stages_in l.now + stages_in ms) → (n : Next) → Says n (Serving a k2) u → LeadsTo s e n.phase b x (h ++ deeds_of ms) (said ++ n.said.items)
+reads_on a k k2 ms c u b x h said body l whole suit f g none j n y =
+    to_next n (Serving a k2) u b x (h ++ deeds_of ms) said y
+    (moved a k k2 ms u b b x h said l (whole_trail body c) (λ y. sym (whole y)) suit f g (λ z. few_still a k b x h said l body ms whole none) j)
+
+begun : {s : Server} {e : Bool} (a : Asked) (transfer : Transfer) (t : Target) (st : ℕ) (b x : List ℕ) (h : Deeds) (said body : List ℕ) (l : LeadsTo s e (Serving a (Skipping transfer)) b x h said)
+    → plan_of a ≡ Reads t → IsWholeAt l body → after a l.trail.course (Did (act.Pin t) (Pinned st)) ≡ Held [] (lines_head a.reply a.closes) false → (n : Next) → Begins n a
+    → LeadsTo s e n.phase b x (h ++ (act.Pin t, Pinned st) ∷ []) (said ++ n.said.items)
+begun a transfer t st b x h said body l is whole f n (inl y) =
+    reads_on a (Skipping transfer) Sending (Did (act.Pin t) (Pinned st) ∷ []) (Held [] (lines_head a.reply a.closes) false) (lines_head a.reply a.closes) b x h said body l whole (is, tt) f
+    (ap (λ z. z ++ lines_head a.reply a.closes) (greeted_skip a l.trail.course l.keeps.stands.1 l.keeps.stands.2)) refl ([], lines_head a.reply a.closes, body, refl, λ z. refl) n y
+begun a transfer t st b x h said body l is whole f n (inr y) =
+    reads_on a (Skipping transfer) work.Cutting (Did (act.Pin t) (Pinned st) ∷ Short ∷ []) (Cutting []) [] b x h said body l whole (is, tt) (ap (λ (c : Course). after a c Short) f)
+    (ap (λ z. z ++ []) (greeted_skip a l.trail.course l.keeps.stands.1 l.keeps.stands.2)) refl ([], body, refl, λ z. refl) n y
+
+pinned : {s : Server} {e : Bool} (a : Asked) (transfer : Transfer) (t : Target) (st : ℕ) (b x : List ℕ) (h : Deeds) (said body : List ℕ) (l : LeadsTo s e (Serving a (Skipping transfer)) b x h said)
+    → plan_of a ≡ Reads t → IsWholeAt l body → (v : Bool) → after a l.trail.course (Did (act.Pin t) (Pinned st)) ≡ cond v (Held [] (lines_head a.reply a.closes) false) (Missing st)
+    → (n : Next) → cond v (Begins n a) (Replies n st a.closes) → LeadsTo s e n.phase b x (h ++ (act.Pin t, Pinned st) ∷ []) (said ++ n.said.items)
+pinned a transfer t st b x h said body l is whole true f n o = begun a transfer t st b x h said body l is whole f n o
+pinned a transfer t st b x h said body l is whole false f n o =
+    replies a (Skipping transfer) (Did (act.Pin t) (Pinned st) ∷ []) (Missing st) body (reply_text st Nothing a.closes) a.closes b x h said l whole
+    (few_still a (Skipping transfer) b x h said l body (Did (act.Pin t) (Pinned st) ∷ []) whole refl)
+    (record { suits = (is, tt); came = f; mute = refl; own = tt; settled = refl; greeted = greeted_skip a l.trail.course l.keeps.stands.1 l.keeps.stands.2 }) n o
+
+pub pin_leads : {s : Server} {e : Bool} (a : Asked) (transfer : Transfer) (t : Target) (answer : Answer) (b x : List ℕ) (h : Deeds) (said body : List ℕ) (l : LeadsTo s e (Serving a (Skipping transfer)) b x h said)
+    → plan_of a ≡ Reads t → IsWholeAt l body → (n : Next) → AfterPin a answer n → LeadsTo s e n.phase b x (h ++ (act.Pin t, answer) ∷ []) (said ++ n.said.items)
+pin_leads a transfer t (Pinned st) b x h said body l is whole n o =
+    pinned a transfer t st b x h said body l is whole (st == 200) (first_is a l.trail.course (Reads t) (Did (act.Pin t) (Pinned st)) l.keeps.stands.1 is) n o
+pin_leads a transfer t answer b x h said body l is whole n o =
+    broke a (Skipping transfer) (Did (act.Pin t) answer) Fresh b b x h said l (is, tt) l.keeps.stands.1 (first_is a Fresh (Reads t) (Did (act.Pin t) answer) refl is) (λ o. tt) (no_more a (Skipping transfer) b x h said l) n o
+
+-- A request whose body is whole is answered by what was said, and the connection ends.
+pub stops_whole : {s : Server} {e : Bool} (a : Asked) (k : Work) (ms : List Move) (c : Course) (b x : List ℕ) (h : Deeds) (said body : List ℕ) (l : LeadsTo s e (Serving a k) b x h said)
+    → IsWholeAt l body → AllSuit s.piece (plan_of a) ms → course a l.trail.course ms ≡ c → stages_in ms ≡ 0 → IsOwn s.base a (Whole body) c → Settles s.base a (Whole body) c (lines_out c, false)
+    → said_so_far a l.trail.course ≡ said_so_far a c → (n : Next) → Stops n → LeadsTo s e n.phase b x (h ++ deeds_of ms) (said ++ n.said.items)
+stops_whole {s} a k ms c b x h said body l whole suit f none own set g n y =
+    to_next n Over [] b x (h ++ deeds_of ms) said y
+    (answers a k ms body true (lines_out c) [] b x h said l whole suit (subst (λ (d : Course). IsOwn s.base a (Whole body) d) (sym f) own) (few_still a k b x h said l body ms whole none)
+    (subst (λ (d : Course). Settles s.base a (Whole body) d (lines_out c, false)) (sym f) set)
+    (append-nil (said_so_far a l.trail.course) ∙ g ∙ ap (λ (d : Course). greeting a d ++ lines_out c) (sym f)))
+
+-- what was said of a read goes on
+joins : (a : Asked) (before : Course) (out due u : List ℕ) → before ≡ Held out due false → said_so_far a before ++ u ≡ greeting a (Held out due false) ++ ((out ++ due) ++ u)
+joins a before out due u at = ap (λ (c : Course). said_so_far a c ++ u) at ∙ append_assoc (greeting a (Held out due false)) (out ++ due) u
+
+-- what the course of a read is after a move
+held_is : (a : Asked) (before c : Course) (out due : List ℕ) (m : Move) → before ≡ Held out due false → after a (Held out due false) m ≡ c → after a before m ≡ c
+held_is a before c out due m at f = ap (λ (d : Course). after a d m) at ∙ f
+
+pub piece_leads : {s : Server} {e : Bool} (a : Asked) (answer : Answer) (b x : List ℕ) (h : Deeds) (said : List ℕ) (l : LeadsTo s e (Serving a Sending) b x h said)
+    → (n : Next) → AfterPiece a answer n → LeadsTo s e n.phase b x (h ++ (act.Piece s.piece, answer) ∷ []) (said ++ n.said.items)
+piece_leads {s} {e} a answer b x h said l n o = go answer o
+  where
+    out : List ℕ
+    out = l.keeps.stands.0
+
+    due : List ℕ
+    due = l.keeps.stands.1
+
+    body : List ℕ
+    body = l.keeps.stands.2
+
+    at : l.trail.course ≡ Held out due false
+    at = l.keeps.stands.3
+
+    whole : IsWholeAt l body
+    whole y = l.keeps.stands.4 (b ++ y)
+
+    is : (answer : Answer) → after a l.trail.course (Did (act.Piece s.piece) answer) ≡ at_piece out due answer
+    is answer = held_is a l.trail.course (at_piece out due answer) out due (Did (act.Piece s.piece) answer) at refl
+
+    go : (answer : Answer) → AfterPiece a answer n → LeadsTo s e n.phase b x (h ++ (act.Piece s.piece, answer) ∷ []) (said ++ n.said.items)
+    go (Lines v true) (inl y) =
+        to_next n (after_reply a.closes) (chunk v.items ++ last_if true) b x (h ++ (act.Piece s.piece, Lines v true) ∷ []) said y
+        (answers a Sending (Did (act.Piece s.piece) (Lines v true) ∷ []) body a.closes ((out ++ due) ++ (chunk v.items ++ last_if true)) (chunk v.items ++ last_if true) b x h said l whole (refl, tt)
+        (subst (λ (d : Course). IsOwn s.base a (Whole body) d) (sym (is (Lines v true))) tt) (few_still a Sending b x h said l body (Did (act.Piece s.piece) (Lines v true) ∷ []) whole refl)
+        (subst (λ (d : Course). Settles s.base a (Whole body) d ((out ++ due) ++ (chunk v.items ++ last_if true), not a.closes)) (sym (is (Lines v true))) refl)
+        (joins a l.trail.course out due (chunk v.items ++ last_if true) at ∙ ap (λ (d : Course). greeting a d ++ ((out ++ due) ++ (chunk v.items ++ last_if true))) (sym (is (Lines v true)))))
+    go (Lines v true) (inr y) =
+        stops_whole a Sending (Did (act.Piece s.piece) (Lines v true) ∷ Short ∷ []) (Cut (out ++ due)) b x h said body l whole (refl, tt) (ap (λ (d : Course). after a d Short) (is (Lines v true))) refl tt refl
+        (ap (λ (c : Course). said_so_far a c) at) n y
+    go (Lines v false) (inl y) =
+        reads_on a Sending Sending (Did (act.Piece s.piece) (Lines v false) ∷ []) (Held (out ++ due) (chunk v.items ++ last_if false) false) (chunk v.items ++ last_if false) b x h said body l whole (refl, tt) (is (Lines v false))
+        (joins a l.trail.course out due (chunk v.items ++ last_if false) at) refl (out ++ due, chunk v.items ++ last_if false, body, refl, λ z. refl) n y
+    go (Lines v false) (inr y) =
+        reads_on a Sending work.Cutting (Did (act.Piece s.piece) (Lines v false) ∷ Short ∷ []) (Cutting (out ++ due)) [] b x h said body l whole (refl, tt) (ap (λ (d : Course). after a d Short) (is (Lines v false)))
+        (append-nil (said_so_far a l.trail.course) ∙ ap (λ (c : Course). said_so_far a c) at) refl (out ++ due, body, refl, λ z. refl) n y
+    go (Refused why.NoMemory) y =
+        reads_on a Sending work.Cutting (Did (act.Piece s.piece) (Refused why.NoMemory) ∷ []) (Cutting (out ++ due)) [] b x h said body l whole (refl, tt) (is (Refused why.NoMemory))
+        (append-nil (said_so_far a l.trail.course) ∙ ap (λ (c : Course). said_so_far a c) at) refl (out ++ due, body, refl, λ z. refl) n y
+    go other y =
+        stops_whole a Sending (Did (act.Piece s.piece) other ∷ []) (Misanswered (Held out due false)) b x h said body l whole (refl, tt) (is other) refl tt refl (ap (λ (c : Course). said_so_far a c) at) n y

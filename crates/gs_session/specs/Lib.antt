@@ -1,0 +1,9 @@
+-- Read in this order: what a request asks, as the code tells it; the histories that lead to a session's state; what an answer leads
+-- to; what a step does, and what a turn.
+pub mod Plans
+pub mod Trails
+pub mod Leads
+pub mod Outcomes
+pub mod Heads
+pub mod Steps
+pub mod Turns

@@ -1,0 +1,14 @@
+-- What a request asks of the store, as the code tells it.
+use Rattle.gs_talk.specs.Plans.{Uploads, Patches, Deletes, Looks, Reads, NoPlan}
+use Rattle.gs_talk.specs.Plans as talk
+use Rattle.gs_session.specs.declared.plans.Plan.{Plan}
+use Rattle.gs_session.specs.declared.plans.Plan.TheVariants.{Upload, Patch, Delete, Look, Read, Nothing}
+
+-- one plan for each
+abbrev pub plan_told : Plan → talk.Plan
+plan_told (Upload k) = Uploads k
+plan_told (Patch t) = Patches t
+plan_told (Delete t) = Deletes t
+plan_told (Look t) = Looks t
+plan_told (Read t) = Reads t
+plan_told Nothing = NoPlan

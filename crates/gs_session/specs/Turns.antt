@@ -1,0 +1,63 @@
+-- What a session has said and done, and what a turn adds to that.
+use Rattle.std.specs.Prelude.{◌≡◌, ◌≢◌, ◌⊎◌, ℕ, Bool, false, cond, List, [], ◌∷◌, ◌++◌}
+use Rattle.gs_event.specs.declared.events.Event.{Event}
+use Rattle.gs_event.specs.declared.events.Action.{Action}
+use Rattle.gs_event.specs.declared.answers.Answer.{Answer}
+use Rattle.gs_talk.specs.Seats.{Deeds}
+use Rattle.gs_talk.specs.Logs.{SaysAll, SaysLast, SaysFront}
+use Rattle.gs_session.specs.declared.phases.Phase.{Phase}
+use Rattle.gs_session.specs.declared.phases.Phase.TheVariants as phase
+use Rattle.gs_session.specs.declared.sessions.Session.{Session}
+use Rattle.gs_session.specs.declared.sessions.Turn.{Turn}
+use Rattle.gs_session.specs.declared.sessions.Turn.TheVariants.{NeedInput, Made, Output, Over}
+use Rattle.gs_session.specs.declared.outcomes.Next.{Next}
+use Rattle.gs_session.specs.Leads.{LeadsTo, MayCome}
+use Rattle.gs_session.specs.Steps.{Acts, server_of}
+
+-- The bytes x that came, what was done for them, and what was written, lead to this session. What is due was said and not
+-- written yet.
+abbrev pub Leads : Session → List ℕ → Deeds → List ℕ → Type 0
+Leads s x h w = LeadsTo (server_of s.host) s.ended s.phase s.input x h (w ++ s.due.items)
+
+-- each such history leads to the other session
+abbrev pub IsKept : Session → Session → Type 0
+IsKept old new = (x : List ℕ) (h : Deeds) (w : List ℕ) → Leads old x h w → Leads new x h w
+
+-- the door is as it was, and each such history leads to the session after a turn that shows nothing
+abbrev pub StaysSo : {D : Type 0} → Session → D → Session → D → Type 0
+StaysSo {D} s old next new = (new ≡ old) × IsKept s next
+
+-- A turn: one event of the session's seat, a text that is not empty, or nothing. Each history that led to the session leads,
+-- with that more, to the session after it.
+abbrev pub Turns : {D : Type 0} → (D → Event → Answer → D → Type 0) → Session → D → Turn → Session → D → Type 0
+Turns {D} gives s old Made next new = (action : Action) × (answer : Answer) × Acts gives s.host.seat old action answer new
+    × ((x : List ℕ) (h : Deeds) (w : List ℕ) → Leads s x h w → Leads next x (h ++ (action, answer) ∷ []) w)
+Turns {D} gives s old (Output b) next new = (new ≡ old) × (b.items ≢ []) × ((x : List ℕ) (h : Deeds) (w : List ℕ) → Leads s x h w → Leads next x h (w ++ b.items))
+Turns {D} gives s old turn next new = StaysSo s old next new
+
+-- where more input is wanted, it may come, and all that is to be said was written
+abbrev pub Waits : Session → Type 0
+Waits s = (s.ended ≡ false) × ((x : List ℕ) (h : Deeds) (w : List ℕ) → Leads s x h w → SaysAll (server_of s.host) false x h w)
+
+-- where the connection has ended, all that is to be said was written, and no request is left
+abbrev pub HasEnded : Session → Type 0
+HasEnded s = (x : List ℕ) (h : Deeds) (w : List ℕ) → Leads s x h w → SaysLast (server_of s.host) s.ended x h w
+
+-- what waits or has ended does so rightly
+abbrev pub RestsRightly : Turn → Session → Type 0
+RestsRightly NeedInput s = Waits s
+RestsRightly Over s = HasEnded s
+RestsRightly turn s = Unit {0}
+
+-- these bytes came, unless the input had ended
+abbrev pub joined : Bool → List ℕ → List ℕ → List ℕ
+joined ended x piece = cond ended x (x ++ piece)
+
+-- what a turn tells that showed nothing
+abbrev pub turn_at : Phase → Bool → Turn
+turn_at phase.Over ended = Over
+turn_at p ended = cond ended Over NeedInput
+
+-- what a step leads to comes next
+abbrev pub taken : Session → Next → Session
+taken s n = record { host = s.host; input = s.input; ended = s.ended; due = n.said; phase = n.phase }

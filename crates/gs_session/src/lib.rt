@@ -1,0 +1,20 @@
+//! One connection: the bytes of requests in, events and the bytes of replies out.
+#![tactic(auto)]
+
+mod bodies;
+mod buffers;
+mod cancels;
+mod heads;
+mod hosts;
+mod opens;
+mod outcomes;
+mod patches;
+mod phases;
+mod plans;
+mod sessions;
+mod sites;
+mod steps;
+mod uploads;
+mod works;
+
+pub use sessions::{Session, Turn};

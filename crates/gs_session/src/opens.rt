@@ -1,0 +1,107 @@
+//! The step that opens an upload or a patch.
+ghost use Rattle.std.specs.Prelude.{◌≡◌, ℕ, List, Bool};
+ghost use Rattle.gs_event.specs.declared.events.Action.TheVariants as act;
+ghost use Rattle.gs_talk.specs.Bodies.{language_of as language_of_type};
+ghost use Rattle.gs_session.specs.declared.phases.Phase.TheVariants.{Serving};
+ghost use Rattle.gs_session.specs.declared.phases.Work.TheVariants.{Opening};
+ghost use Rattle.gs_session.specs.Outcomes.{Receives, AfterOpen, AfterOpenPatch};
+ghost use Rattle.gs_session.specs.Steps.{Does, Steps};
+
+use crate::heads::{greeting, transfer_of};
+use crate::hosts::Host;
+use crate::outcomes::{Next, after_refusal, reply};
+use crate::phases::{Phase, Want, Work};
+use crate::plans::{Plan, plan_of};
+use crate::steps::Step;
+use gs_door::Door;
+use gs_event::{Action, Answer, UploadKind};
+use gs_names::Media;
+use gs_reply::Note;
+use gs_term::Target;
+use gs_upload::{Language, Reading};
+use gs_verdict::Asked;
+
+/// The language of a document's type.
+fn language_of(media: Media) -> Language
+    ensures { result ≡ language_of_type media }
+{
+    match media {
+        Media::Turtle => Language::Turtle,
+        _ => Language::NTriples,
+    }
+}
+
+/// The reading of an upload's body is begun.
+fn receive(host: &Host, asked: &Asked, request: u64) -> Work
+    ensures { Receives host.now.site asked.now request result }
+{
+    let base = host.site.text_base(&asked.graph);
+    match Reading::new(host.alloc, language_of(asked.body), request, base) {
+        Ok(reading) => Work::Uploading(reading, transfer_of(asked)),
+        Err(_) => Work::Failing(Want::Memory),
+    }
+}
+
+/// An upload is opened.
+fn open_upload<D: Door>(
+    host: &Host,
+    asked: Asked,
+    kind: UploadKind,
+    greeting: Vec<u8>,
+    door: &mut D,
+) -> Next
+    ensures { Does D.Gives host.now.seat door.old (act.Open kind) door.new (λ answer. AfterOpen host.now.site asked greeting.items answer result) }
+{
+    match host.act(Action::Open(kind), door) {
+        Answer::Opened(request) => {
+            let work = receive(host, &asked, request);
+            Next {
+                phase: Phase::Serving(asked, work),
+                said: greeting,
+            }
+        }
+        answer => after_refusal(host.alloc, &asked, &answer),
+    }
+}
+
+/// A patch is opened.
+fn open_patch<D: Door>(
+    host: &Host,
+    asked: Asked,
+    target: Target,
+    greeting: Vec<u8>,
+    door: &mut D,
+) -> Next
+    ensures { Does D.Gives host.now.seat door.old (act.OpenPatch target) door.new (λ answer. AfterOpenPatch asked greeting.items answer result) }
+{
+    match host.act(Action::OpenPatch(target), door) {
+        Answer::Opened(request) => {
+            let transfer = transfer_of(&asked);
+            let body = Vec::new(host.alloc);
+            Next {
+                phase: Phase::Serving(asked, Work::Patching(request, body, transfer)),
+                said: greeting,
+            }
+        }
+        answer => after_refusal(host.alloc, &asked, &answer),
+    }
+}
+
+/// What a request's body is for is opened.
+pub fn open<D: Door>(host: &Host, asked: Asked, door: &mut D) -> Step
+    ensures { (e : Bool) (b : List ℕ) → Steps D.Gives host.now e (Serving asked Opening) b door.old result b door.new }
+{
+    let Ok(greeting) = greeting(host.alloc, asked.awaits_continue) else {
+        return Step::Silent(reply(host.alloc, 503, Note::Nothing, true));
+    };
+    match plan_of(&asked) {
+        Ok(Plan::Upload(kind)) => {
+            Step::Made(open_upload(host, asked, kind, greeting, door))
+        }
+        Ok(Plan::Patch(target)) => {
+            Step::Made(open_patch(host, asked, target, greeting, door))
+        }
+        // Another plan opens nothing.
+        _ => Step::Silent(reply(host.alloc, 503, Note::Nothing, true)),
+    }
+}

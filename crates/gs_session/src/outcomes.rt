@@ -1,0 +1,262 @@
+//! What an answer of the store leads to.
+ghost use Rattle.std.specs.Prelude.{◌≡◌, ◌++◌, [], IfOk};
+ghost use Rattle.gs_reply.specs.Notices.{notice_of};
+ghost use Rattle.gs_reply.specs.Replies.{chunk, lines_head};
+ghost use Rattle.gs_talk.specs.Moves.{last_if};
+ghost use Rattle.gs_session.specs.Outcomes.{Says, Stops, RepliesBy, RepliesFound, Begins, AfterRefusal, AfterDelete, AfterHead, AfterPin, AfterPiece, AfterStage, AfterCommit, AfterOrder, AfterCancel};
+ghost use Rattle.gs_session.specs.Outcomes as spec;
+
+use crate::phases::{Phase, Want, Work};
+use gs_event::Answer;
+use gs_model::Refusal;
+use gs_reply::{Note, push_chunk, push_last_chunk, push_lines_head, push_reply};
+use gs_verdict::Asked;
+use std::alloc::{AllocError, Global};
+
+/// The next phase of a session, and what is said.
+#[derive(Drop)]
+pub struct Next {
+    pub phase: Phase,
+    pub said: Vec<u8>,
+}
+
+/// A phase, and nothing is said.
+pub fn silently(alloc: Global, phase: Phase) -> Next
+    ensures { Says result phase [] }
+{
+    Next {
+        phase,
+        said: Vec::new(alloc),
+    }
+}
+
+/// The connection ends.
+pub fn stop(alloc: Global) -> Next
+    ensures { Stops result }
+{
+    silently(alloc, Phase::Over)
+}
+
+/// What comes after a reply.
+fn after_reply(closes: bool) -> Phase
+    ensures { result ≡ spec.after_reply closes }
+{
+    if closes { Phase::Over } else { Phase::Between }
+}
+
+/// A reply without lines; where there is no memory for it, nothing is said and the connection ends.
+pub fn reply(alloc: Global, status: u16, note: Note<'_>, closes: bool) -> Next
+    ensures { RepliesBy result status (notice_of note.entry) closes }
+{
+    let mut text = Vec::new(alloc);
+    match push_reply(&mut text, status, note, closes) {
+        Ok(()) => Next {
+            phase: after_reply(closes),
+            said: text,
+        },
+        Err(_) => stop(alloc),
+    }
+}
+
+/// What an Open leads to that was not answered by a number.
+pub fn after_refusal(alloc: Global, asked: &Asked, answer: &Answer) -> Next
+    ensures { AfterRefusal asked.now answer.now result }
+{
+    match answer {
+        Answer::Refused(Refusal::NoMemory) => reply(alloc, 503, Note::Nothing, true),
+        Answer::Refused(Refusal::LastNumber) => {
+            let closes = asked.closes || asked.framing.announces();
+            reply(alloc, 507, Note::Nothing, closes)
+        }
+        _ => stop(alloc),
+    }
+}
+
+/// What a Delete leads to.
+pub fn after_delete(alloc: Global, asked: &Asked, answer: &Answer) -> Next
+    ensures { AfterDelete asked.now answer.now result }
+{
+    match answer {
+        Answer::Status(status, _) => reply(alloc, *status, Note::Nothing, asked.closes),
+        Answer::Refused(Refusal::LastNumber) => reply(alloc, 507, Note::Nothing, asked.closes),
+        _ => stop(alloc),
+    }
+}
+
+/// The head of a read.
+fn head_text(alloc: Global, asked: &Asked) -> Result<Vec<u8>, AllocError>
+    ensures { IfOk result (λ text. text.items ≡ lines_head asked.now.reply asked.now.closes) }
+{
+    let mut text = Vec::new(alloc);
+    push_lines_head(&mut text, asked.reply, asked.closes)?;
+    Ok(text)
+}
+
+/// The reply to a HEAD of a graph that is there.
+fn found(alloc: Global, asked: &Asked) -> Next
+    ensures { RepliesFound result asked.now }
+{
+    match head_text(alloc, asked) {
+        Ok(text) => Next {
+            phase: after_reply(asked.closes),
+            said: text,
+        },
+        Err(_) => stop(alloc),
+    }
+}
+
+/// What a Head leads to.
+pub fn after_head(alloc: Global, asked: &Asked, answer: &Answer) -> Next
+    ensures { AfterHead asked.now answer.now result }
+{
+    match answer {
+        Answer::Status(status, _) => {
+            if *status == 200 {
+                found(alloc, asked)
+            } else {
+                reply(alloc, *status, Note::Nothing, asked.closes)
+            }
+        }
+        _ => stop(alloc),
+    }
+}
+
+/// A read begins.
+fn begin(alloc: Global, asked: Asked) -> Next
+    ensures { Begins result asked }
+{
+    match head_text(alloc, &asked) {
+        Ok(text) => Next {
+            phase: Phase::Serving(asked, Work::Sending),
+            said: text,
+        },
+        Err(_) => silently(alloc, Phase::Serving(asked, Work::Cutting)),
+    }
+}
+
+/// What a Pin leads to.
+pub fn after_pin(alloc: Global, asked: Asked, answer: &Answer) -> Next
+    ensures { AfterPin asked answer.now result }
+{
+    match answer {
+        Answer::Pinned(status) => {
+            if *status == 200 {
+                begin(alloc, asked)
+            } else {
+                reply(alloc, *status, Note::Nothing, asked.closes)
+            }
+        }
+        _ => stop(alloc),
+    }
+}
+
+/// A piece of a read as a chunk, and after the last piece the last chunk.
+fn chunk_text(alloc: Global, bytes: &[u8], end: bool) -> Result<Vec<u8>, AllocError>
+    ensures { IfOk result (λ text. text.items ≡ chunk bytes.now ++ last_if end) }
+{
+    let mut text = Vec::new(alloc);
+    push_chunk(&mut text, bytes)?;
+    if end {
+        push_last_chunk(&mut text)?;
+    }
+    Ok(text)
+}
+
+/// What comes after a piece.
+fn after_lines(asked: Asked, end: bool) -> Phase
+    ensures { result ≡ spec.after_piece asked end }
+{
+    if end {
+        after_reply(asked.closes)
+    } else {
+        Phase::Serving(asked, Work::Sending)
+    }
+}
+
+/// What comes after a piece for whose chunk there was no memory.
+fn without_lines(asked: Asked, end: bool) -> Phase
+    ensures { result ≡ spec.without_piece asked end }
+{
+    if end {
+        Phase::Over
+    } else {
+        Phase::Serving(asked, Work::Cutting)
+    }
+}
+
+/// What a Piece leads to.
+pub fn after_piece(alloc: Global, asked: Asked, answer: &Answer) -> Next
+    ensures { AfterPiece asked answer.now result }
+{
+    match answer {
+        Answer::Lines(bytes, end) => match chunk_text(alloc, bytes.as_slice(), *end) {
+            Ok(text) => Next {
+                phase: after_lines(asked, *end),
+                said: text,
+            },
+            Err(_) => silently(alloc, without_lines(asked, *end)),
+        },
+        Answer::Refused(Refusal::NoMemory) => {
+            silently(alloc, Phase::Serving(asked, Work::Cutting))
+        }
+        _ => stop(alloc),
+    }
+}
+
+/// What a Stage leads to, after which the work goes on.
+pub fn after_stage(alloc: Global, asked: Asked, work: Work, answer: &Answer) -> Next
+    ensures { AfterStage asked work answer.now result }
+{
+    match answer {
+        Answer::Staged => silently(alloc, Phase::Serving(asked, work)),
+        Answer::Refused(Refusal::NoMemory) => {
+            silently(alloc, Phase::Serving(asked, Work::Failing(Want::Memory)))
+        }
+        _ => stop(alloc),
+    }
+}
+
+/// What a Commit leads to.
+pub fn after_commit(alloc: Global, asked: Asked, answer: &Answer) -> Next
+    ensures { AfterCommit asked answer.now result }
+{
+    match answer {
+        Answer::Status(status, None) => reply(alloc, *status, Note::Nothing, asked.closes),
+        Answer::Status(status, Some(name)) => {
+            reply(alloc, *status, Note::Made(name.as_bytes()), asked.closes)
+        }
+        Answer::Refused(Refusal::NoMemory) => {
+            silently(alloc, Phase::Serving(asked, Work::Failing(Want::Memory)))
+        }
+        Answer::Refused(Refusal::LastNumber) => {
+            silently(alloc, Phase::Serving(asked, Work::Failing(Want::Numbers)))
+        }
+        _ => stop(alloc),
+    }
+}
+
+/// What a CommitPatch leads to.
+pub fn after_order(alloc: Global, asked: Asked, answer: &Answer) -> Next
+    ensures { AfterOrder asked answer.now result }
+{
+    match answer {
+        Answer::Status(status, _) => reply(alloc, *status, Note::Nothing, asked.closes),
+        Answer::Refused(Refusal::NoMemory) => {
+            silently(alloc, Phase::Serving(asked, Work::Failing(Want::Memory)))
+        }
+        Answer::Refused(Refusal::LastNumber) => {
+            silently(alloc, Phase::Serving(asked, Work::Failing(Want::Numbers)))
+        }
+        _ => stop(alloc),
+    }
+}
+
+/// What a Cancel leads to, after which the reply says why.
+pub fn after_cancel(alloc: Global, status: u16, closes: bool, answer: &Answer) -> Next
+    ensures { AfterCancel status closes answer.now result }
+{
+    match answer {
+        Answer::Cancelled => reply(alloc, status, Note::Nothing, closes),
+        _ => stop(alloc),
+    }
+}

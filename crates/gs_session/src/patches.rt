@@ -1,0 +1,106 @@
+//! The steps of a patch: its body is kept, read once it is whole, and its operations take effect.
+ghost use Rattle.std.specs.Prelude.{◌≡◌, ◌≤◌, ◌<◌, ◌++◌, ℕ, List, Vec, Bool, length, take};
+ghost use Rattle.std.specs.declared.alloc.Global.{Global as AGlobal};
+ghost use Rattle.gs_event.specs.declared.events.Action.TheVariants as act;
+ghost use Rattle.gs_transfer.specs.Cuts as cut;
+ghost use Rattle.gs_transfer.specs.Views.{cut_of};
+ghost use Rattle.gs_transfer.specs.declared.places.Transfer.{Transfer as ATransfer};
+ghost use Rattle.gs_session.specs.declared.phases.Phase.TheVariants.{Serving};
+ghost use Rattle.gs_session.specs.declared.phases.Work.TheVariants.{Patching};
+ghost use Rattle.gs_session.specs.Outcomes.{AfterOrder};
+ghost use Rattle.gs_session.specs.Steps.{Does, Passes, Rests, Steps};
+
+use crate::buffers::Buffer;
+use crate::cancels::{cancel, leave};
+use crate::hosts::Host;
+use crate::outcomes::{Next, after_order, silently};
+use crate::phases::{Phase, Want, Work};
+use crate::steps::Step;
+use gs_door::Door;
+use gs_event::{Action, Op};
+use gs_model::Refusal;
+use gs_transfer::{Part, Transfer};
+use gs_update::read_update;
+use gs_verdict::Asked;
+
+/// So many bytes of data are kept.
+fn keep(
+    host: &Host,
+    input: &mut Buffer,
+    count: usize,
+    asked: Asked,
+    request: u64,
+    mut body: Vec<u8>,
+    transfer: Transfer,
+) -> Step
+    requires within { count ≤ length input.old }
+    ensures { (e : Bool) (t : ATransfer) → 0 < count → Passes t transfer input.old (take count input.old) count
+        → Rests host.now e (Serving asked (Patching request body t)) input.old result input.new }
+{
+    let kept = body.extend_from_slice(&input.as_slice()[..count]);
+    input.skip(count);
+    let work = match kept {
+        Ok(()) => Work::Patching(request, body, transfer),
+        Err(_) => Work::Failing(Want::Memory),
+    };
+    Step::Silent(silently(host.alloc, Phase::Serving(asked, work)))
+}
+
+/// The operations of a patch take effect.
+fn commit<D: Door>(host: &Host, asked: Asked, operations: Vec<Op>, door: &mut D) -> Next
+    ensures { Does D.Gives host.now.seat door.old (act.CommitPatch operations) door.new (λ answer. AfterOrder asked answer result) }
+{
+    let answer = host.act(Action::CommitPatch(operations), door);
+    after_order(host.alloc, asked, &answer)
+}
+
+/// The body is over: it is read, and takes effect, or it is no update that is served.
+fn order<D: Door>(host: &Host, asked: Asked, request: u64, body: &[u8], door: &mut D) -> Step
+    ensures { (e : Bool) (b : List ℕ) (t : ATransfer) (v : Vec ℕ AGlobal) → v.items ≡ body.now → ((y : List ℕ) → cut_of t (b ++ y) ≡ cut.ends (cut.Whole (b ++ y)))
+        → Steps D.Gives host.now e (Serving asked (Patching request v t)) b door.old result b door.new }
+{
+    let base = host.site.text_base(&asked.graph);
+    match read_update(host.alloc, request, base, body) {
+        Ok(operations) => Step::Made(commit(host, asked, operations, door)),
+        Err(Refusal::NoMemory) => Step::Silent(silently(
+            host.alloc,
+            Phase::Serving(asked, Work::Failing(Want::Memory)),
+        )),
+        Err(Refusal::NotInProfile) => Step::Made(cancel(host, 422, asked.closes, door)),
+        Err(_) => Step::Made(cancel(host, 400, asked.closes, door)),
+    }
+}
+
+/// The next bytes of a patch's body.
+pub fn patch<D: Door>(
+    host: &Host,
+    input: &mut Buffer,
+    ended: bool,
+    asked: Asked,
+    request: u64,
+    body: Vec<u8>,
+    mut transfer: Transfer,
+    door: &mut D,
+) -> Step
+    ensures { Steps D.Gives host.now ended (Serving asked (Patching request body transfer)) input.old door.old result input.new door.new }
+{
+    match transfer.next(input.as_slice()) {
+        Part::Data(count) => keep(host, input, count, asked, request, body, transfer),
+        Part::Passed(count) => {
+            input.skip(count);
+            Step::Silent(silently(
+                host.alloc,
+                Phase::Serving(asked, Work::Patching(request, body, transfer)),
+            ))
+        }
+        Part::End => order(host, asked, request, body.as_slice(), door),
+        Part::Fault(status) => Step::Made(cancel(host, status, true, door)),
+        Part::More => {
+            if ended {
+                Step::Made(leave(host, door))
+            } else {
+                Step::Wait(Phase::Serving(asked, Work::Patching(request, body, transfer)))
+            }
+        }
+    }
+}

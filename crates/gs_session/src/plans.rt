@@ -1,0 +1,58 @@
+//! What a request asks of the store.
+ghost use Rattle.std.specs.Prelude.{◌≡◌, Some, IfOk};
+ghost use Rattle.gs_talk.specs.Plans.{opens as opens_plan, plan_of as plan_of_asked, plan_on as plan_by};
+ghost use Rattle.gs_session.specs.Plans.{plan_told};
+
+use gs_event::UploadKind;
+use gs_term::Target;
+use gs_verdict::{Asked, Method};
+use std::alloc::AllocError;
+
+/// What a request asks of the store.
+#[derive(Drop)]
+pub enum Plan {
+    Upload(UploadKind),
+    Patch(Target),
+    Delete(Target),
+    Look(Target),
+    Read(Target),
+    /// Nothing: the store itself is for POST alone.
+    Nothing,
+}
+
+/// Whether its body is read, and not dropped.
+pub fn opens(asked: &Asked) -> bool
+    ensures { result ≡ opens_plan (plan_of_asked asked.now) }
+{
+    match (asked.method, &asked.graph) {
+        (Method::Post, _) => true,
+        (Method::Put, Some(_)) => true,
+        (Method::Patch, Some(_)) => true,
+        _ => false,
+    }
+}
+
+/// What a request asks of a graph.
+fn plan_on(method: Method, target: Target) -> Plan
+    ensures { plan_told result ≡ plan_by method (Some target) }
+{
+    match method {
+        Method::Get => Plan::Read(target),
+        Method::Head => Plan::Look(target),
+        Method::Put => Plan::Upload(UploadKind::Put(target)),
+        Method::Post => Plan::Upload(UploadKind::Post(target)),
+        Method::Delete => Plan::Delete(target),
+        Method::Patch => Plan::Patch(target),
+    }
+}
+
+/// What a request asks of the store, with a copy of its graph's name.
+pub fn plan_of(asked: &Asked) -> Result<Plan, AllocError>
+    ensures { IfOk result (λ p. plan_told p ≡ plan_of_asked asked.now) }
+{
+    match (asked.method, &asked.graph) {
+        (method, Some(target)) => Ok(plan_on(method, target.clone()?)),
+        (Method::Post, None) => Ok(Plan::Upload(UploadKind::New)),
+        (_, None) => Ok(Plan::Nothing),
+    }
+}

@@ -1,0 +1,137 @@
+//! One connection.
+ghost use Rattle.std.specs.Prelude.{◌≡◌, ℕ, List, [], true, IfOk, OnOk, OnErr};
+ghost use Rattle.gs_model.specs.Bases.{is_base};
+ghost use Rattle.gs_talk.specs.Seats.{Deeds};
+ghost use Rattle.gs_session.specs.Steps.{server_of};
+ghost use Rattle.gs_session.specs.Turns.{Leads, IsKept, Turns, RestsRightly, joined, taken, turn_at};
+
+use crate::buffers::Buffer;
+use crate::hosts::Host;
+use crate::outcomes::Next;
+use crate::phases::Phase;
+use crate::sites::Site;
+use crate::steps::Step;
+use crate::works::step;
+use gs_door::Door;
+use std::alloc::{AllocError, Global};
+use std::mem;
+
+/// What a turn did.
+#[derive(Drop)]
+pub enum Turn {
+    /// Nothing: more input is wanted.
+    NeedInput,
+    /// One event.
+    Made,
+    /// These bytes are to be written, all of them and before any others.
+    Output(Vec<u8>),
+    /// Nothing: the connection has ended.
+    Over,
+}
+
+/// A connection, from its first byte on.
+#[derive(Drop)]
+pub struct Session {
+    host: Host,
+    input: Buffer,
+    ended: bool,
+    /// What was said and not written yet.
+    due: Vec<u8>,
+    phase: Phase,
+}
+
+impl Session {
+    /// A connection that uses a seat of a store with this base, and whose reads have pieces of so many
+    /// lines. `gs_core::is_base` tests a base.
+    pub fn new(alloc: Global, seat: u16, base: &str, piece: u32) -> Result<Session, AllocError>
+        requires { is_base base.now ≡ true }
+        ensures leads { IfOk result (λ s. Leads s [] [] []) }
+        ensures server { IfOk result (λ s. server_of s.host ≡ record { base = base.now; piece = piece }) }
+        ensures seat { IfOk result (λ s. s.host.seat ≡ seat) }
+    {
+        let site = Site::new(alloc, base)?;
+        Ok(Session {
+            host: Host {
+                alloc,
+                seat,
+                piece,
+                site,
+            },
+            input: Buffer::new(alloc),
+            ended: false,
+            due: Vec::new(alloc),
+            phase: Phase::Between,
+        })
+    }
+
+    /// The next bytes come. After the end of the input they are dropped.
+    pub fn give(&mut self, piece: &[u8]) -> Result<(), AllocError>
+        ensures given { OnOk result ((x : List ℕ) (h : Deeds) (w : List ℕ) → Leads self.old x h w → Leads self.new (joined self.old.ended x piece.now) h w) }
+        ensures refused { OnErr result (self.new ≡ self.old) }
+        ensures host { self.new.host ≡ self.old.host }
+        ensures ended { self.new.ended ≡ self.old.ended }
+    {
+        if self.ended {
+            return Ok(());
+        }
+        self.input.push(piece)
+    }
+
+    /// No more bytes come.
+    pub fn end_of_input(&mut self)
+        ensures leads { IsKept self.old self.new }
+        ensures host { self.new.host ≡ self.old.host }
+        ensures ended { self.new.ended ≡ true }
+    {
+        self.ended = true;
+    }
+
+    /// What a step leads to comes next.
+    fn take(&mut self, next: Next)
+        ensures { self.new ≡ taken self.old next }
+    {
+        self.phase = next.phase;
+        self.due = next.said;
+    }
+
+    /// What a turn tells that showed nothing.
+    fn rest(&self) -> Turn
+        ensures { result ≡ turn_at self.now.phase self.now.ended }
+    {
+        match self.phase {
+            Phase::Over => Turn::Over,
+            _ => {
+                if self.ended {
+                    Turn::Over
+                } else {
+                    Turn::NeedInput
+                }
+            }
+        }
+    }
+
+    /// The next thing that the connection does: one event, a text to be written, or nothing before more
+    /// input comes. The caller writes a text before the next turn.
+    pub fn turn<D: Door>(&mut self, door: &mut D) -> Turn
+        ensures turns { Turns D.Gives self.old door.old result self.new door.new }
+        ensures rests { RestsRightly result self.new }
+        ensures host { self.new.host ≡ self.old.host }
+        ensures ended { self.new.ended ≡ self.old.ended }
+    {
+        while self.due.is_empty() {
+            let phase = mem::replace(&mut self.phase, Phase::Over);
+            match step(&self.host, &mut self.input, self.ended, phase, door) {
+                Step::Silent(next) => self.take(next),
+                Step::Made(next) => {
+                    self.take(next);
+                    return Turn::Made;
+                }
+                Step::Wait(phase) => {
+                    self.phase = phase;
+                    return self.rest();
+                }
+            }
+        }
+        Turn::Output(mem::replace(&mut self.due, Vec::new(self.host.alloc)))
+    }
+}

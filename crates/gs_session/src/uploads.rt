@@ -1,0 +1,139 @@
+//! The steps of an upload: its body is read, what it gives is staged, and it is committed.
+ghost use Rattle.std.specs.Prelude.{◌≡◌, ◌≤◌, ◌<◌, ◌++◌, ℕ, List, Bool, length, take};
+ghost use Rattle.gs_event.specs.declared.events.Action.TheVariants as act;
+ghost use Rattle.gs_transfer.specs.Cuts as cut;
+ghost use Rattle.gs_transfer.specs.Views.{cut_of};
+ghost use Rattle.gs_transfer.specs.declared.places.Transfer.{Transfer as ATransfer};
+ghost use Rattle.gs_session.specs.declared.phases.Phase.TheVariants.{Serving};
+ghost use Rattle.gs_session.specs.declared.phases.Work.TheVariants.{Uploading};
+ghost use Rattle.gs_session.specs.Outcomes.{AfterStage, AfterCommit};
+ghost use Rattle.gs_session.specs.Steps.{Does, Passes, Steps};
+
+use crate::buffers::Buffer;
+use crate::cancels::{cancel, leave};
+use crate::hosts::Host;
+use crate::outcomes::{Next, after_commit, after_stage, silently};
+use crate::phases::{Phase, Want, Work};
+use crate::steps::Step;
+use gs_door::Door;
+use gs_event::Action;
+use gs_term::Triple;
+use gs_transfer::{Part, Transfer};
+use gs_upload::{Reading, TextReader};
+use gs_verdict::Asked;
+
+/// The reading of an upload's body.
+pub type Upload = Reading<TextReader>;
+
+/// What was read is staged; then the work goes on.
+fn stage<D: Door>(
+    host: &Host,
+    asked: Asked,
+    triples: Vec<Triple>,
+    work: Work,
+    door: &mut D,
+) -> Next
+    ensures { Does D.Gives host.now.seat door.old (act.Stage triples) door.new (λ answer. AfterStage asked work answer result) }
+{
+    let answer = host.act(Action::Stage(triples), door);
+    after_stage(host.alloc, asked, work, &answer)
+}
+
+/// The upload is committed.
+pub fn commit<D: Door>(host: &Host, asked: Asked, door: &mut D) -> Next
+    ensures { Does D.Gives host.now.seat door.old act.Commit door.new (λ answer. AfterCommit asked answer result) }
+{
+    let answer = host.act(Action::Commit, door);
+    after_commit(host.alloc, asked, &answer)
+}
+
+/// So many bytes of data are read.
+fn feed<D: Door>(
+    host: &Host,
+    input: &mut Buffer,
+    count: usize,
+    asked: Asked,
+    mut reading: Upload,
+    transfer: Transfer,
+    door: &mut D,
+) -> Step
+    requires within { count ≤ length input.old }
+    ensures { (e : Bool) (t : ATransfer) → 0 < count → Passes t transfer input.old (take count input.old) count
+        → Steps D.Gives host.now e (Serving asked (Uploading reading t)) input.old door.old result input.new door.new }
+{
+    let mut triples = Vec::new(host.alloc);
+    let fed = reading.feed(&input.as_slice()[..count], &mut triples);
+    input.skip(count);
+    match fed {
+        Err(_) => Step::Silent(silently(
+            host.alloc,
+            Phase::Serving(asked, Work::Failing(Want::Memory)),
+        )),
+        Ok(()) => {
+            let work = Work::Uploading(reading, transfer);
+            if triples.is_empty() {
+                Step::Silent(silently(host.alloc, Phase::Serving(asked, work)))
+            } else {
+                Step::Made(stage(host, asked, triples, work, door))
+            }
+        }
+    }
+}
+
+/// The body is over: its last triples are staged, or the Commit is due, or the body has a fault.
+fn finish<D: Door>(host: &Host, asked: Asked, reading: Upload, door: &mut D) -> Step
+    ensures { (e : Bool) (b : List ℕ) (t : ATransfer) → ((y : List ℕ) → cut_of t (b ++ y) ≡ cut.ends (cut.Whole (b ++ y)))
+        → Steps D.Gives host.now e (Serving asked (Uploading reading t)) b door.old result b door.new }
+{
+    let mut triples = Vec::new(host.alloc);
+    match reading.finish(&mut triples) {
+        Err(_) => Step::Silent(silently(
+            host.alloc,
+            Phase::Serving(asked, Work::Failing(Want::Memory)),
+        )),
+        Ok(Some(_)) => Step::Made(cancel(host, 400, asked.closes, door)),
+        Ok(None) => {
+            if triples.is_empty() {
+                Step::Silent(silently(
+                    host.alloc,
+                    Phase::Serving(asked, Work::Committing),
+                ))
+            } else {
+                Step::Made(stage(host, asked, triples, Work::Committing, door))
+            }
+        }
+    }
+}
+
+/// The next bytes of an upload's body.
+pub fn upload<D: Door>(
+    host: &Host,
+    input: &mut Buffer,
+    ended: bool,
+    asked: Asked,
+    reading: Upload,
+    mut transfer: Transfer,
+    door: &mut D,
+) -> Step
+    ensures { Steps D.Gives host.now ended (Serving asked (Uploading reading transfer)) input.old door.old result input.new door.new }
+{
+    match transfer.next(input.as_slice()) {
+        Part::Data(count) => feed(host, input, count, asked, reading, transfer, door),
+        Part::Passed(count) => {
+            input.skip(count);
+            Step::Silent(silently(
+                host.alloc,
+                Phase::Serving(asked, Work::Uploading(reading, transfer)),
+            ))
+        }
+        Part::End => finish(host, asked, reading, door),
+        Part::Fault(status) => Step::Made(cancel(host, status, true, door)),
+        Part::More => {
+            if ended {
+                Step::Made(leave(host, door))
+            } else {
+                Step::Wait(Phase::Serving(asked, Work::Uploading(reading, transfer)))
+            }
+        }
+    }
+}
