@@ -5,4 +5,8 @@ pub mod UploadLemmas
 pub mod CommitLemmas
 pub mod HeadLemmas
 pub mod OpenLemmas
+pub mod HeadStepLemmas
+pub mod SiteLemmas
 pub mod RestLemmas
+pub mod TurnLemmas
+pub mod ServeLemmas

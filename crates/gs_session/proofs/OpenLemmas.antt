@@ -1,45 +1,54 @@
 -- The steps of an Open.
-use Rattle.std.proofs.Common.{◌≡◌, ◌⊎◌, inl, inr, ◌+◌, ◌≤◌, arith, ℕ, Bool, true, false, cond, not, ◌||◌, List, [], ◌∷◌, ◌++◌, length, refl, sym, ap, subst, ◌∙◌, append-nil}
+use Rattle.std.proofs.Common.{◌≡◌, ◌⊎◌, inl, inr, zero, suc, nat_lt, arith, ℕ, Bool, true, false, cond, not, ◌||◌, List, [], ◌∷◌, ◌++◌, refl, sym, ap, subst, ◌∙◌, append-nil, Vec, true≢false}
+use Rattle.std.proofs.lemmas.Bool.Decides.{nat_tests}
+use Rattle.std.specs.declared.alloc.Global.{Global}
 use Rattle.gs_model.specs.declared.refusals.Refusal.TheVariants as why
 use Rattle.gs_event.specs.declared.events.Action.TheVariants as act
 use Rattle.gs_event.specs.declared.events.UploadKind.{UploadKind}
 use Rattle.gs_event.specs.declared.answers.Answer.{Answer}
-use Rattle.gs_event.specs.declared.answers.Answer.TheVariants.{Opened, Staged, Status, Pinned, Lines, Cancelled, Refused}
+use Rattle.gs_event.specs.declared.answers.Answer.TheVariants.{Opened, Refused}
+use Rattle.gs_http.specs.Framing.{announces}
+use Rattle.gs_http.specs.declared.framing.Framing.{Framing}
+use Rattle.gs_http.specs.declared.framing.Framing.TheVariants as framing
 use Rattle.gs_term.specs.declared.names.Target.{Target}
 use Rattle.gs_transfer.specs.Cuts as cut
 use Rattle.gs_transfer.specs.Cuts.{with_data, body_at}
 use Rattle.gs_transfer.specs.Views.{cut_of}
+use Rattle.gs_transfer.specs.declared.places.Transfer.{Transfer}
 use Rattle.gs_verdict.specs.Checks.{limit_of}
 use Rattle.gs_verdict.specs.declared.verdicts.Asked.{Asked}
 use Rattle.gs_reply.specs.Notices.{Nothing}
 use Rattle.gs_reply.specs.Replies.{reply_text, continue_text}
-use Rattle.gs_talk.specs.Plans.{Plan, Uploads, Patches, opens, plan_of}
-use Rattle.gs_talk.specs.Courses.{Move, Did, Short, Course, Fresh, Early, Writing, Patching, Lacking, Memory, Numbers, Mute}
-use Rattle.gs_talk.specs.Moves.{first, after, course}
+use Rattle.gs_talk.specs.Plans.{Plan, Uploads, Patches, Deletes, Looks, Reads, NoPlan, opens, plan_of}
+use Rattle.gs_talk.specs.Courses.{Move, Did, Short, Course, Fresh, Early, Writing, Patching, Lacking, Memory, Numbers}
+use Rattle.gs_talk.specs.Moves.{first, after}
 use Rattle.gs_talk.specs.Seats.{Deeds}
-use Rattle.gs_talk.specs.Replies.{BodyState, Whole, Said, IsOwn, Settles, said_so_far, greeting, ends_early}
-use Rattle.gs_talk.specs.Logs.{Server, AllSuit, deeds_of, stages_in}
-use Rattle.gs_session.specs.declared.phases.Phase.{Phase}
-use Rattle.gs_session.specs.declared.phases.Phase.TheVariants.{Between, Serving, Over}
+use Rattle.gs_talk.specs.Replies.{said_so_far, greeting, ends_early}
+use Rattle.gs_talk.specs.Logs.{Server, AllSuit, deeds_of, stage_of}
+use Rattle.gs_session.specs.declared.phases.Phase.TheVariants.{Serving, Over}
 use Rattle.gs_session.specs.declared.phases.Work.{Work}
 use Rattle.gs_session.specs.declared.phases.Work.TheVariants.{Opening, Uploading, Failing}
 use Rattle.gs_session.specs.declared.phases.Work.TheVariants as work
 use Rattle.gs_session.specs.declared.phases.Want.TheVariants as want
 use Rattle.gs_session.specs.declared.outcomes.Next.{Next}
-use Rattle.gs_session.specs.Trails.{Trail, Stands}
+use Rattle.gs_session.specs.declared.hosts.Host.{Host}
+use Rattle.gs_session.specs.declared.steps.Step.TheVariants.{Silent}
+use Rattle.gs_session.specs.Trails.{Trail}
 use Rattle.gs_session.specs.Leads.{LeadsTo}
 use Rattle.gs_session.specs.Heads.{greeting_of}
-use Rattle.gs_session.specs.Outcomes.{Says, Stops, Replies, Receives, AfterRefusal, AfterOpen, AfterOpenPatch}
+use Rattle.gs_session.specs.Steps.{server_of, Makes, rank, Rests}
+use Rattle.gs_session.specs.Outcomes.{Says, Stops, Replies, Receives, IsFirstTransfer, AfterOpen, AfterOpenPatch}
 use Rattle.gs_session.proofs.MoveLemmas.{moved}
-use Rattle.gs_session.proofs.ReplyLemmas.{Answers, replies_any, broke, to_next}
+use Rattle.gs_session.proofs.ReplyLemmas.{replies, replies_any, broke, to_next}
 use Rattle.gs_session.proofs.ReadLemmas.{no_more, first_is}
 
--- before an Open nothing was said
-quiet : (v : Bool) → ◌≡◌ {A = List ℕ} (cond v [] []) []
+-- no greeting, whether it is awaited or not
+pub quiet : (v : Bool) → ◌≡◌ {A = List ℕ} (cond v [] []) []
 quiet true = refl
 quiet false = refl
 
-unsaid : (a : Asked) (before : Course) → before ≡ Fresh → opens (plan_of a) ≡ true → said_so_far a before ≡ []
+-- before an Open nothing was said
+pub unsaid : (a : Asked) (before : Course) → before ≡ Fresh → opens (plan_of a) ≡ true → said_so_far a before ≡ []
 unsaid a before at o =
     ap (λ (c : Course). said_so_far a c) at ∙ append-nil (greeting a Fresh) ∙ ap (λ v. cond a.awaits_continue (cond (not v) continue_text []) []) o ∙ quiet a.awaits_continue
 
@@ -47,7 +56,8 @@ unsaid a before at o =
 abbrev pub first_trail : Asked → Course → Trail
 first_trail a c = record { cut = λ z. body_at (limit_of a.method) a.framing z; course = c }
 
-none_of : (c : cut.Cut) → c ≡ with_data [] c
+-- no data before a body leave it as it is
+pub none_of : (c : cut.Cut) → c ≡ with_data [] c
 none_of c = refl
 
 -- An upload was opened, and its reading is begun, or there was no memory for it.
@@ -66,3 +76,125 @@ opened_so {s} a k r b x h said l is n (Failing want.Memory) y o =
     (ap (λ z. z ++ greeting_of a) (unsaid a l.trail.course l.keeps.stands.0 l.keeps.stands.1) ∙ sym (append-nil (greeting_of a))) (λ z. omega (arith, l.keeps.stands.3))
     (Writing r [], refl, tt))
 opened_so a k r b x h said l is n w y o = absurd o
+
+-- A patch was opened.
+pub opened_patch : {s : Server} {e : Bool} (a : Asked) (t : Target) (r : ℕ) (v : Vec ℕ Global) (transfer : Transfer) (b x : List ℕ) (h : Deeds) (said : List ℕ) (l : LeadsTo s e (Serving a Opening) b x h said)
+    → plan_of a ≡ Patches t → (n : Next) → Says n (Serving a (work.Patching r v transfer)) (greeting_of a) → v.items ≡ [] → IsFirstTransfer a transfer
+    → LeadsTo s e n.phase b x (h ++ (act.OpenPatch t, Opened r) ∷ []) (said ++ n.said.items)
+opened_patch {s} a t r v transfer b x h said l is n y none first =
+    to_next n (Serving a (work.Patching r v transfer)) (greeting_of a) b x (h ++ (act.OpenPatch t, Opened r) ∷ []) said y
+    (moved a Opening (work.Patching r v transfer) (Did (act.OpenPatch t) (Opened r) ∷ []) (greeting_of a) b b x h said l (first_trail a (Patching r)) (λ y. sym (l.keeps.stands.2 (b ++ y))) (is, tt)
+    (first_is a l.trail.course (Patches t) (Did (act.OpenPatch t) (Opened r)) l.keeps.stands.0 is)
+    (ap (λ z. z ++ greeting_of a) (unsaid a l.trail.course l.keeps.stands.0 l.keeps.stands.1) ∙ sym (append-nil (greeting_of a))) (λ z. omega (arith, l.keeps.stands.3))
+    (refl, λ z. sym (first z) ∙ none_of (cut_of transfer z) ∙ ap (λ d. with_data d (cut_of transfer z)) (sym none)))
+
+-- an Open that is refused
+
+-- want of memory before any event
+pub early_is : (a : Asked) (p : Plan) → first a p Short ≡ Early Memory
+early_is a (Uploads k) = refl
+early_is a (Patches t) = refl
+early_is a (Deletes t) = refl
+early_is a (Looks t) = refl
+early_is a (Reads t) = refl
+early_is a NoPlan = refl
+
+-- nothing but the reply is said
+unsaid_early : (a : Asked) (before : Course) → before ≡ Fresh → opens (plan_of a) ≡ true → said_so_far a before ≡ cond a.awaits_continue [] []
+unsaid_early a before at o = unsaid a before at o ∙ sym (quiet a.awaits_continue)
+
+-- there was no memory, at the store or at the session: 503
+early_memory : {s : Server} {e : Bool} (a : Asked) (m : Move) (b x : List ℕ) (h : Deeds) (said : List ℕ) (l : LeadsTo s e (Serving a Opening) b x h said)
+    → AllSuit s.piece (plan_of a) (m ∷ []) → stage_of m ≡ 0 → after a l.trail.course m ≡ Early Memory → (n : Next) → Replies n 503 true → LeadsTo s e n.phase b x (h ++ deeds_of (m ∷ [])) (said ++ n.said.items)
+early_memory a m b x h said l suit none is n o =
+    replies_any a Opening (m ∷ []) (Early Memory) (reply_text 503 Nothing true) b x h said l (omega (arith, none))
+    (λ o. record { suits = suit; came = is; mute = refl; own = tt; settled = refl; greeted = unsaid_early a l.trail.course l.keeps.stands.0 l.keeps.stands.1 }) n o
+
+-- a body that is not announced is empty
+unannounced : (limit : ℕ) (f : Framing) (z : List ℕ) → announces f ≡ false → body_at limit f z ≡ record { bytes = []; end = cut.Whole z }
+unfolding body_at
+unannounced limit framing.Nothing z e = refl
+unannounced limit (framing.Bytes zero) z e = refl
+unannounced limit (framing.Bytes (suc n)) z e = let some : nat_lt 0 (suc n) ≡ true = grind (arith, nat_tests) in absurd (true≢false (sym some ∙ e))
+unannounced limit framing.Chunked z e = absurd (cc)
+unannounced limit framing.Malformed z e = refl
+unannounced limit framing.Unknown z e = refl
+
+or_false : (u v : Bool) → (u || v) ≡ false → v ≡ false
+or_false true v e = absurd (cc)
+or_false false v e = e
+
+-- there was no number left: 507
+numbers_by : {s : Server} {e : Bool} (a : Asked) (m : Move) (v : Bool) (b x : List ℕ) (h : Deeds) (said : List ℕ) (l : LeadsTo s e (Serving a Opening) b x h said)
+    → AllSuit s.piece (plan_of a) (m ∷ []) → stage_of m ≡ 0 → after a l.trail.course m ≡ Early Numbers → ends_early a ≡ v → (n : Next) → Replies n 507 v → LeadsTo s e n.phase b x (h ++ deeds_of (m ∷ [])) (said ++ n.said.items)
+numbers_by a m true b x h said l suit none is ends n o =
+    replies_any a Opening (m ∷ []) (Early Numbers) (reply_text 507 Nothing true) b x h said l (omega (arith, none))
+    (λ o. record {
+      suits = suit;
+      came = is;
+      mute = refl;
+      own = tt;
+      settled = ap (λ z. (reply_text 507 Nothing z, not z)) (sym ends);
+      greeted = unsaid_early a l.trail.course l.keeps.stands.0 l.keeps.stands.1;
+    }) n o
+numbers_by a m false b x h said l suit none is ends n o =
+    let whole : (y : List ℕ) → l.trail.cut (b ++ y) ≡ record { bytes = []; end = cut.Whole (b ++ y) } =
+    λ y. l.keeps.stands.2 (b ++ y) ∙ unannounced (limit_of a.method) a.framing (b ++ y) (or_false a.closes (announces a.framing) ends) in
+    replies a Opening (m ∷ []) (Early Numbers) [] (reply_text 507 Nothing false) false b x h said l whole (omega (arith, none, l.keeps.stands.3))
+    (record {
+      suits = suit;
+      came = is;
+      mute = refl;
+      own = tt;
+      settled = ap (λ z. (reply_text 507 Nothing z, not z)) (sym ends);
+      greeted = unsaid_early a l.trail.course l.keeps.stands.0 l.keeps.stands.1;
+    }) n o
+
+early_numbers : {s : Server} {e : Bool} (a : Asked) (m : Move) (b x : List ℕ) (h : Deeds) (said : List ℕ) (l : LeadsTo s e (Serving a Opening) b x h said)
+    → AllSuit s.piece (plan_of a) (m ∷ []) → stage_of m ≡ 0 → after a l.trail.course m ≡ Early Numbers → (n : Next) → Replies n 507 (ends_early a) → LeadsTo s e n.phase b x (h ++ deeds_of (m ∷ [])) (said ++ n.said.items)
+early_numbers a m b x h said l suit none is n o = numbers_by a m (ends_early a) b x h said l suit none is refl n o
+
+-- The Open of an upload.
+pub open_leads : {s : Server} {e : Bool} (a : Asked) (k : UploadKind) (answer : Answer) (b x : List ℕ) (h : Deeds) (said : List ℕ) (l : LeadsTo s e (Serving a Opening) b x h said)
+    → plan_of a ≡ Uploads k → (n : Next) → AfterOpen s.base a (greeting_of a) answer n → LeadsTo s e n.phase b x (h ++ (act.Open k, answer) ∷ []) (said ++ n.said.items)
+open_leads a k (Opened r) b x h said l is n o = opened_so a k r b x h said l is n o.0 o.1 o.2
+open_leads a k (Refused why.NoMemory) b x h said l is n o =
+    early_memory a (Did (act.Open k) (Refused why.NoMemory)) b x h said l (is, tt) refl (first_is a l.trail.course (Uploads k) (Did (act.Open k) (Refused why.NoMemory)) l.keeps.stands.0 is) n o
+open_leads a k (Refused why.LastNumber) b x h said l is n o =
+    early_numbers a (Did (act.Open k) (Refused why.LastNumber)) b x h said l (is, tt) refl (first_is a l.trail.course (Uploads k) (Did (act.Open k) (Refused why.LastNumber)) l.keeps.stands.0 is) n o
+open_leads a k answer b x h said l is n o =
+    broke a Opening (Did (act.Open k) answer) Fresh b b x h said l (is, tt) l.keeps.stands.0 (first_is a Fresh (Uploads k) (Did (act.Open k) answer) refl is) (λ o. tt) (no_more a Opening b x h said l) n o
+
+-- The Open of a patch.
+pub open_patch_leads : {s : Server} {e : Bool} (a : Asked) (t : Target) (answer : Answer) (b x : List ℕ) (h : Deeds) (said : List ℕ) (l : LeadsTo s e (Serving a Opening) b x h said)
+    → plan_of a ≡ Patches t → (n : Next) → AfterOpenPatch a (greeting_of a) answer n → LeadsTo s e n.phase b x (h ++ (act.OpenPatch t, answer) ∷ []) (said ++ n.said.items)
+open_patch_leads a t (Opened r) b x h said l is n o = opened_patch a t r o.0 o.1 b x h said l is n o.2 o.3 o.4
+open_patch_leads a t (Refused why.NoMemory) b x h said l is n o =
+    early_memory a (Did (act.OpenPatch t) (Refused why.NoMemory)) b x h said l (is, tt) refl (first_is a l.trail.course (Patches t) (Did (act.OpenPatch t) (Refused why.NoMemory)) l.keeps.stands.0 is) n o
+open_patch_leads a t (Refused why.LastNumber) b x h said l is n o =
+    early_numbers a (Did (act.OpenPatch t) (Refused why.LastNumber)) b x h said l (is, tt) refl (first_is a l.trail.course (Patches t) (Did (act.OpenPatch t) (Refused why.LastNumber)) l.keeps.stands.0 is) n o
+open_patch_leads a t answer b x h said l is n o =
+    broke a Opening (Did (act.OpenPatch t) answer) Fresh b b x h said l (is, tt) l.keeps.stands.0 (first_is a Fresh (Patches t) (Did (act.OpenPatch t) answer) refl is) (λ o. tt) (no_more a Opening b x h said l) n o
+
+-- a reply that closes ends the connection
+pub over_next : (n : Next) (v : List ℕ) → Says n Over v ⊎ Stops n → n.phase ≡ Over
+over_next n v (inl o) = o.0
+over_next n v (inr o) = o.0
+
+-- There was no memory for the greeting, or for the plan.
+pub open_short : (host : Host) (e : Bool) (a : Asked) (b : List ℕ) (n : Next) → Replies n 503 true → Rests host e (Serving a Opening) b (Silent n) b
+open_short host e a b n o = (
+  omega (arith, ap rank (over_next n (reply_text 503 Nothing true) o)),
+  λ x h said l. subst (λ (z : Deeds). LeadsTo (server_of host) e n.phase b x z (said ++ n.said.items)) (append-nil h)
+  (early_memory a Short b x h said l tt refl (first_is a l.trail.course (plan_of a) Short l.keeps.stands.0 refl ∙ early_is a (plan_of a)) n o),
+)
+
+-- The Open of an upload, as a step.
+pub open_makes : (host : Host) (e : Bool) (a : Asked) (k : UploadKind) (answer : Answer) (b text : List ℕ) (n : Next) → Uploads k ≡ plan_of a → text ≡ greeting_of a → AfterOpen host.site a text answer n
+    → Makes (server_of host) e (Serving a Opening) b n.phase b (act.Open k) answer n.said.items
+open_makes host e a k answer b text n is f o = λ x h said l. open_leads a k answer b x h said l (sym is) n (subst (λ u. AfterOpen host.site a u answer n) f o)
+
+-- The Open of a patch, as a step.
+pub open_patch_makes : (host : Host) (e : Bool) (a : Asked) (t : Target) (answer : Answer) (b text : List ℕ) (n : Next) → Patches t ≡ plan_of a → text ≡ greeting_of a → AfterOpenPatch a text answer n
+    → Makes (server_of host) e (Serving a Opening) b n.phase b (act.OpenPatch t) answer n.said.items
+open_patch_makes host e a t answer b text n is f o = λ x h said l. open_patch_leads a t answer b x h said l (sym is) n (subst (λ u. AfterOpenPatch a u answer n) f o)

@@ -44,7 +44,7 @@ pub no_more : {s : Server} {e : Bool} (a : Asked) (k : Work) (b x : List ℕ) (h
 no_more a k b x h said l z = omega (arith, l.keeps.few z)
 
 -- while nothing was done for a request whose body is dropped, no more was said than `100 Continue`, if that is awaited
-greeted_skip : (a : Asked) (before : Course) → before ≡ Fresh → opens (plan_of a) ≡ false → said_so_far a before ≡ cond a.awaits_continue continue_text []
+pub greeted_skip : (a : Asked) (before : Course) → before ≡ Fresh → opens (plan_of a) ≡ false → said_so_far a before ≡ cond a.awaits_continue continue_text []
 greeted_skip a before at none =
     ap (λ (c : Course). said_so_far a c) at ∙ append-nil (greeting a Fresh) ∙ ap (λ v. cond a.awaits_continue (cond (not v) continue_text []) []) none
 

@@ -1,10 +1,13 @@
 -- What a session has said and done, and what a turn adds to that.
-use Rattle.std.specs.Prelude.{◌≡◌, ◌≢◌, ◌⊎◌, ℕ, Bool, false, cond, List, [], ◌∷◌, ◌++◌}
+use Rattle.std.specs.Prelude.{◌≡◌, ◌≢◌, ◌⊎◌, ℕ, Bool, true, false, cond, List, [], ◌∷◌, ◌++◌}
 use Rattle.gs_event.specs.declared.events.Event.{Event}
 use Rattle.gs_event.specs.declared.events.Action.{Action}
 use Rattle.gs_event.specs.declared.answers.Answer.{Answer}
 use Rattle.gs_talk.specs.Seats.{Deeds}
 use Rattle.gs_talk.specs.Logs.{SaysAll, SaysLast, SaysFront}
+use Rattle.gs_talk.specs.Laws.{AreOfKind, IsIdle}
+use Rattle.gs_session.specs.declared.phases.Work.{Work}
+use Rattle.gs_session.specs.declared.phases.Work.TheVariants.{Opening, Skipping}
 use Rattle.gs_session.specs.declared.phases.Phase.{Phase}
 use Rattle.gs_session.specs.declared.phases.Phase.TheVariants as phase
 use Rattle.gs_session.specs.declared.sessions.Session.{Session}
@@ -61,3 +64,25 @@ turn_at p ended = cond ended Over NeedInput
 -- what a step leads to comes next
 abbrev pub taken : Session → Next → Session
 taken s n = record { host = s.host; input = s.input; ended = s.ended; due = n.said; phase = n.phase }
+
+-- nothing comes next, in this phase
+abbrev pub waiting : Session → Phase → Session
+waiting s p = record { host = s.host; input = s.input; ended = s.ended; due = s.due; phase = p }
+
+-- the door took these actions of a seat one after another, and gave these answers
+abbrev pub Ran : {D : Type 0} → (D → Event → Answer → D → Type 0) → ℕ → D → Deeds → D → Type 0
+Ran {D} gives seat old [] new = new ≡ old
+Ran {D} gives seat old (d ∷ ds) new = (mid : D) × Acts gives seat old d.0 d.1 mid × Ran gives seat mid ds new
+
+-- something is open at the store
+abbrev pub has_opened : Work → Bool
+has_opened Opening = false
+has_opened (Skipping t) = false
+has_opened k = true
+
+-- The connection is given up. With what was cancelled, each history that led to the session was a conversation up to here, also
+-- where more bytes had come that it never took; and the seat is idle.
+abbrev pub Quits : {D : Type 0} → (D → Event → Answer → D → Type 0) → Session → D → D → Type 0
+Quits {D} gives s old new = (ds : Deeds) × Ran gives s.host.seat old ds new
+    × ((x : List ℕ) (h : Deeds) (w y : List ℕ) → Leads s x h w → MayCome s.ended y
+    → SaysFront (server_of s.host) s.ended (x ++ y) (h ++ ds) w × (AreOfKind s.host.seat (h ++ ds) → IsIdle (h ++ ds)))

@@ -11,10 +11,12 @@ mod outcomes;
 mod patches;
 mod phases;
 mod plans;
+mod serving;
 mod sessions;
 mod sites;
 mod steps;
 mod uploads;
 mod works;
 
+pub use serving::{ServeFault, serve};
 pub use sessions::{Session, Turn};

@@ -1,18 +1,19 @@
 //! One connection.
-ghost use Rattle.std.specs.Prelude.{◌≡◌, ℕ, List, [], true, IfOk, OnOk, OnErr};
+ghost use Rattle.std.specs.Prelude.{◌≡◌, ℕ, List, [], true, false, IfOk, OnOk, OnErr};
 ghost use Rattle.gs_model.specs.Bases.{is_base};
 ghost use Rattle.gs_talk.specs.Seats.{Deeds};
 ghost use Rattle.gs_session.specs.Steps.{server_of};
-ghost use Rattle.gs_session.specs.Turns.{Leads, IsKept, Turns, RestsRightly, joined, taken, turn_at};
+ghost use Rattle.gs_session.specs.Turns.{Leads, IsKept, Turns, RestsRightly, Quits, joined, taken, waiting, turn_at, has_opened as has_opened_at};
 
 use crate::buffers::Buffer;
 use crate::hosts::Host;
 use crate::outcomes::Next;
-use crate::phases::Phase;
+use crate::phases::{Phase, Work};
 use crate::sites::Site;
 use crate::steps::Step;
 use crate::works::step;
 use gs_door::Door;
+use gs_event::Action;
 use std::alloc::{AllocError, Global};
 use std::mem;
 
@@ -48,6 +49,7 @@ impl Session {
         ensures leads { IfOk result (λ s. Leads s [] [] []) }
         ensures server { IfOk result (λ s. server_of s.host ≡ record { base = base.now; piece = piece }) }
         ensures seat { IfOk result (λ s. s.host.seat ≡ seat) }
+        ensures goes { IfOk result (λ s. s.ended ≡ false) }
     {
         let site = Site::new(alloc, base)?;
         Ok(Session {
@@ -110,6 +112,15 @@ impl Session {
         }
     }
 
+    /// Nothing can be done before more comes.
+    fn wait(&mut self, phase: Phase) -> Turn
+        ensures state { self.new ≡ waiting self.old phase }
+        ensures told { result ≡ turn_at phase self.old.ended }
+    {
+        self.phase = phase;
+        self.rest()
+    }
+
     /// The next thing that the connection does: one event, a text to be written, or nothing before more
     /// input comes. The caller writes a text before the next turn.
     pub fn turn<D: Door>(&mut self, door: &mut D) -> Turn
@@ -126,12 +137,32 @@ impl Session {
                     self.take(next);
                     return Turn::Made;
                 }
-                Step::Wait(phase) => {
-                    self.phase = phase;
-                    return self.rest();
-                }
+                Step::Wait(phase) => return self.wait(phase),
             }
         }
         Turn::Output(mem::replace(&mut self.due, Vec::new(self.host.alloc)))
+    }
+
+    /// The connection is given up: what is open at the store is cancelled, and what was not written is
+    /// dropped.
+    pub fn abandon<D: Door>(&mut self, door: &mut D)
+        ensures { Quits D.Gives self.old door.old door.new }
+    {
+        if let Phase::Serving(_, work) = mem::replace(&mut self.phase, Phase::Over) {
+            if has_opened(&work) {
+                self.host.act(Action::Cancel, door);
+            }
+        }
+        self.due.clear();
+    }
+}
+
+/// Whether something is open at the store.
+fn has_opened(work: &Work) -> bool
+    ensures { result ≡ has_opened_at work.now }
+{
+    match work {
+        Work::Opening | Work::Skipping(_) => false,
+        _ => true,
     }
 }

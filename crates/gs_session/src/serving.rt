@@ -1,0 +1,133 @@
+//! One connection over a reader and a writer.
+ghost use Rattle.std.specs.Prelude.{◌≡◌, ℕ, List, Option, Bool, true, false, Ok, take, OnOk, OnErr};
+ghost use Rattle.std.specs.Io.KnownBytes.{Appends};
+ghost use Rattle.gs_model.specs.Bases.{is_base};
+ghost use Rattle.gs_talk.specs.Logs.{Server};
+ghost use Rattle.gs_session.specs.Connections.{Connection, Goes, Done, Quit, Reads, Loses};
+
+use crate::sessions::{Session, Turn};
+use gs_door::Door;
+use std::alloc::Global;
+use std::io::{Read, Write};
+
+/// Why a connection ended before its input or a reply ended it.
+#[derive(Clone, Copy, Debug, PartialEq)]
+pub enum ServeFault {
+    /// A read failed, or there were too many.
+    Read,
+    /// A write failed, or took nothing.
+    Write,
+    /// There was no memory for the session, or for what was read.
+    NoMemory,
+}
+
+/// The most bytes of one read.
+const READ_BYTES: usize = 8_192;
+
+/// Writes the text, or as much of it as the writer takes; whether that is all.
+fn put<W: Write>(writer: &mut W, text: &[u8]) -> bool
+    ensures all { result ≡ true → Appends (W.contents writer.old) (W.contents writer.new) text.now }
+    ensures front { (n : ℕ) × Appends (W.contents writer.old) (W.contents writer.new) (take n text.now) }
+{
+    let mut at = 0;
+    while at < text.len() {
+        match writer.write(&text[at..]) {
+            Ok(0) | Err(_) => return false,
+            Ok(count) => at += count,
+        }
+    }
+    true
+}
+
+/// Gives the session what a read gives.
+fn read_more<R: Read>(session: &mut Session, reader: &mut R) -> Result<(), ServeFault>
+    requires { session.old.ended ≡ false }
+    ensures ok { OnOk result (Reads session.old session.new (R.remaining reader.old) (R.remaining reader.new)) }
+    ensures err { OnErr result (Loses session.old session.new (R.remaining reader.old) (R.remaining reader.new)) }
+{
+    let mut space = [0u8; READ_BYTES];
+    match reader.read(&mut space) {
+        Ok(0) => session.end_of_input(),
+        Ok(count) => match session.give(&space[..count]) {
+            Ok(()) => {}
+            Err(_) => return Err(ServeFault::NoMemory),
+        },
+        Err(_) => return Err(ServeFault::Read),
+    }
+    Ok(())
+}
+
+/// One turn, with what it writes or reads; whether the connection has ended.
+fn round<R: Read, W: Write, D: Door>(
+    session: &mut Session,
+    reader: &mut R,
+    writer: &mut W,
+    door: &mut D,
+) -> Result<bool, ServeFault>
+    ensures goes { result ≡ Ok false → (p : Server) (seat : ℕ) (first : D) (unread held : Option (List ℕ))
+        → Connection D.Gives seat unread (R.remaining reader.old) held (W.contents writer.old) first door.old (Goes p seat session.old (R.remaining reader.old))
+        → Connection D.Gives seat unread (R.remaining reader.new) held (W.contents writer.new) first door.new (Goes p seat session.new (R.remaining reader.new)) }
+    ensures over { result ≡ Ok true → (p : Server) (seat : ℕ) (first : D) (unread held : Option (List ℕ))
+        → Connection D.Gives seat unread (R.remaining reader.old) held (W.contents writer.old) first door.old (Goes p seat session.old (R.remaining reader.old))
+        → Connection D.Gives seat unread (R.remaining reader.new) held (W.contents writer.new) first door.new (Done p (R.remaining reader.new)) }
+    ensures fault { OnErr result ((p : Server) (seat : ℕ) (first : D) (unread held : Option (List ℕ))
+        → Connection D.Gives seat unread (R.remaining reader.old) held (W.contents writer.old) first door.old (Goes p seat session.old (R.remaining reader.old))
+        → Connection D.Gives seat unread (R.remaining reader.new) held (W.contents writer.new) first door.new (Quit p (R.remaining reader.new))) }
+{
+    match session.turn(door) {
+        Turn::Over => Ok(true),
+        Turn::Made => Ok(false),
+        Turn::Output(text) => {
+            if put(writer, text.as_slice()) {
+                Ok(false)
+            } else {
+                session.abandon(door);
+                Err(ServeFault::Write)
+            }
+        }
+        Turn::NeedInput => match read_more(session, reader) {
+            Ok(()) => Ok(false),
+            Err(fault) => {
+                session.abandon(door);
+                Err(fault)
+            }
+        },
+    }
+}
+
+/// Reads requests, answers them and writes the replies, to the end of the input or to a reply that
+/// closes or stops. The seat is the connection's own, and idle; `gs_core::is_base` tests a base.
+///
+/// # Errors
+///
+/// What was written is a front of what is to be said, and what was open is cancelled.
+pub fn serve<R: Read, W: Write, D: Door>(
+    alloc: Global,
+    seat: u16,
+    base: &str,
+    piece: u32,
+    reader: &mut R,
+    writer: &mut W,
+    door: &mut D,
+) -> Result<(), ServeFault>
+    requires { is_base base.now ≡ true }
+    // All of what is to be said was written, and no request is left.
+    ensures whole { OnOk result (Connection D.Gives seat (R.remaining reader.old) (R.remaining reader.new) (W.contents writer.old) (W.contents writer.new) door.old door.new
+        (Done (record { base = base.now; piece = piece }) (R.remaining reader.new))) }
+    // What was written is a front of it.
+    ensures front { OnErr result (Connection D.Gives seat (R.remaining reader.old) (R.remaining reader.new) (W.contents writer.old) (W.contents writer.new) door.old door.new
+        (Quit (record { base = base.now; piece = piece }) (R.remaining reader.new))) }
+{
+    let Ok(mut session) = Session::new(alloc, seat, base, piece) else {
+        return Err(ServeFault::NoMemory);
+    };
+    for _ in 0..u64::MAX {
+        match round(&mut session, reader, writer, door) {
+            Ok(true) => return Ok(()),
+            Ok(false) => {}
+            Err(fault) => return Err(fault),
+        }
+    }
+    session.abandon(door);
+    Err(ServeFault::Read)
+}
