@@ -279,7 +279,7 @@ denies_long host e old new k n q f g o =
     let bare : stripped new ≡ new = ap stripped f ∙ strip-twice old ∙ sym f in (
       omega (arith, fewer old new k q, ap rank (over_next n (reply_text 431 Nothing true) o)),
       λ x h said l. denied_leads too_long new new x h said (subst (λ (b : List ℕ). LeadsTo (server_of host) e Between b x h said) (sym f) (lead_dropped old x h said l))
-      (λ y. long-requests host.site new y bare (sym g)) n o,
+          (λ y. long-requests host.site new y bare (sym g)) n o,
     )
 
 -- It is whole, and taken.
@@ -289,6 +289,6 @@ takes_head host e old b new k m n q f g within some w o =
     let bare : stripped b ≡ b = ap stripped f ∙ strip-twice old ∙ sym f in (
       omega (arith, fewer old b k q, ap length w, length-drop m b, within, some, rank-small n.phase),
       λ x h said l. subst (λ (z : List ℕ). LeadsTo (server_of host) e n.phase z x h (said ++ n.said.items)) (sym w)
-      (head_leads (verdict_of host.site (take m b)) b (drop m b) x h said (subst (λ (z : List ℕ). LeadsTo (server_of host) e Between z x h said) (sym f) (lead_dropped old x h said l))
-      (λ y. whole-requests host.site b (take m b) (drop m b) y bare (sym g)) n o),
+          (head_leads (verdict_of host.site (take m b)) b (drop m b) x h said (subst (λ (z : List ℕ). LeadsTo (server_of host) e Between z x h said) (sym f) (lead_dropped old x h said l))
+          (λ y. whole-requests host.site b (take m b) (drop m b) y bare (sym g)) n o),
     )

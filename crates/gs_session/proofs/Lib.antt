@@ -7,6 +7,13 @@ pub mod HeadLemmas
 pub mod OpenLemmas
 pub mod HeadStepLemmas
 pub mod SiteLemmas
+pub mod SkipLemmas
+pub mod PlanLemmas
+pub mod PatchLemmas
+pub mod UploadStepLemmas
+pub mod WorkLemmas
+pub mod InputLemmas
 pub mod RestLemmas
 pub mod TurnLemmas
+pub mod FrontLemmas
 pub mod ServeLemmas

@@ -186,7 +186,7 @@ pub open_short : (host : Host) (e : Bool) (a : Asked) (b : List ℕ) (n : Next) 
 open_short host e a b n o = (
   omega (arith, ap rank (over_next n (reply_text 503 Nothing true) o)),
   λ x h said l. subst (λ (z : Deeds). LeadsTo (server_of host) e n.phase b x z (said ++ n.said.items)) (append-nil h)
-  (early_memory a Short b x h said l tt refl (first_is a l.trail.course (plan_of a) Short l.keeps.stands.0 refl ∙ early_is a (plan_of a)) n o),
+      (early_memory a Short b x h said l tt refl (first_is a l.trail.course (plan_of a) Short l.keeps.stands.0 refl ∙ early_is a (plan_of a)) n o),
 )
 
 -- The Open of an upload, as a step.

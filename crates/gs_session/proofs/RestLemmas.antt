@@ -40,21 +40,30 @@ answered_now {s} {e} {p} {b} {x} l =
 -- what was done for a request whose body is awaited
 waiting : {s : Server} {e : Bool} (a : Asked) (k : Work) (b x : List ℕ) (h : Deeds) (said : List ℕ) (l : LeadsTo s e (Serving a k) b x h said) (c : Course) (front : List ℕ)
     → l.trail.course ≡ c → ((o : BodyState) → IsOwn s.base a o c) → IsRight c → awaits_body a c ≡ true → l.trail.cut b ≡ record { bytes = front; end = cut.Open } → SaysAll s e x h said
-waiting {s} {e} a k b x h said l c front at own right awaits is =
-    (Waits a front ∷ [], tt, (record {
+waiting {s} {e} a k b x h said l c front at own right awaits is = (
+  Waits a front ∷ [],
+  tt,
+  (
+    record {
       log = l.log;
       now = l.now;
       text = l.text;
       answers = subst (λ (v : Cut). AnswersAll s e l.log (requests s.base x) (by_body (requests s.base) a v)) is (answered_now l);
       hand = (
-          (l.keeps.suits, subst (λ (d : Course). IsOwn s.base a (Unended front e) d) (sym to_c) (own (Unended front e)),
-            omega (arith, l.keeps.few b, ap (λ (v : Cut). length v.bytes) is)),
-          subst IsRight (sym to_c) right,
-          l.keeps.said ∙ ap (λ (d : Course). said_so_far a d) (at ∙ sym to_c),
-        );
+        (
+          l.keeps.suits,
+          subst (λ (d : Course). IsOwn s.base a (Unended front e) d) (sym to_c) (own (Unended front e)),
+          omega (arith, l.keeps.few b, ap (λ (v : Cut). length v.bytes) is),
+        ),
+        subst IsRight (sym to_c) right,
+        l.keeps.said ∙ ap (λ (d : Course). said_so_far a d) (at ∙ sym to_c),
+      );
       done = l.done;
       written = l.written;
-    }, ap (λ (d : Course). awaits_body a d) to_c ∙ awaits))
+    },
+    ap (λ (d : Course). awaits_body a d) to_c ∙ awaits,
+  ),
+)
   where
     to_c : course a Fresh l.now ≡ c
     to_c = l.keeps.came ∙ at
@@ -63,8 +72,11 @@ open_cut : (t : Trail) (done b : List ℕ) (transfer : Transfer) → t.cut b ≡
 open_cut t done b transfer f g = f ∙ ap (λ (c : Cut). with_data done c) g
 
 pub says_all : {s : Server} {e : Bool} (p : Phase) (b x : List ℕ) (h : Deeds) (said : List ℕ) → IsStill p e b → (p ≡ Over → ⊥) → LeadsTo s e p b x h said → SaysAll s e x h said
-says_all {s} {e} Between b x h said i n l =
-    ([], tt, (record {
+says_all {s} {e} Between b x h said i n l = (
+  [],
+  tt,
+  (
+    record {
       log = l.log;
       now = l.now;
       text = l.text;
@@ -72,7 +84,10 @@ says_all {s} {e} Between b x h said i n l =
       hand = l.keeps;
       done = l.done;
       written = l.written;
-    }, tt))
+    },
+    tt,
+  ),
+)
 says_all {s} {e} (Serving a (Skipping t)) b x h said i n l =
     waiting a (Skipping t) b x h said l Fresh (l.keeps.stands.0 ++ []) l.keeps.stands.1 (λ o. tt) tt (ap not l.keeps.stands.2) (open_cut l.trail l.keeps.stands.0 b t (l.keeps.stands.3 b) i.1)
 says_all {s} {e} (Serving a (Uploading k t)) b x h said i n l =
@@ -92,16 +107,18 @@ says_last {s} {e} b x h said l = (record { log = l.log; now = l.now; text = l.te
 
 -- at the end of the input no head comes
 pub ends_between : {s : Server} (b x : List ℕ) (h : Deeds) (said : List ℕ) → head_at (stripped b) ≡ head.Open → LeadsTo s true Between b x h said → SaysLast s true x h said
-ends_between {s} b x h said i l =
-    (record {
-      log = l.log;
-      now = l.now;
-      text = l.text;
-      answers = subst (λ (rs : List Request). AnswersAll s true l.log (requests s.base x) rs) (reads-on s.base b ∙ ap (λ (c : HeadCut). by_head s.base (requests s.base) c) i) (answered_now l);
-      hand = l.keeps;
-      done = l.done;
-      written = l.written;
-    }, inl refl)
+ends_between {s} b x h said i l = (
+  record {
+    log = l.log;
+    now = l.now;
+    text = l.text;
+    answers = subst (λ (rs : List Request). AnswersAll s true l.log (requests s.base x) rs) (reads-on s.base b ∙ ap (λ (c : HeadCut). by_head s.base (requests s.base) c) i) (answered_now l);
+    hand = l.keeps;
+    done = l.done;
+    written = l.written;
+  },
+  inl refl,
+)
 
 -- while a request is served, the input has not ended where nothing can be done
 no_rest : (a : Asked) (k : Work) (b : List ℕ) → IsStill (Serving a k) true b → ⊥

@@ -80,11 +80,11 @@ after_turn gives p seat unread left held holds holds2 first old new s s2 t z f h
       written = appends_more held holds holds2 z.w (output t) z.written a;
       ran = ran_more gives seat first old new z.h m.0 z.ran (subst (λ n. Ran gives n old m.0 new) z.fact.3 m.1);
       fact = (
-          m.2 z.x z.h z.w z.fact.0,
-          λ e. z.fact.1 (sym ended ∙ e),
-          ap (λ (g : Host). server_of g) host ∙ z.fact.2,
-          ap (λ (g : Host). g.seat) host ∙ z.fact.3,
-        );
+        m.2 z.x z.h z.w z.fact.0,
+        λ e. z.fact.1 (sym ended ∙ e),
+        ap (λ (g : Host). server_of g) host ∙ z.fact.2,
+        ap (λ (g : Host). g.seat) host ∙ z.fact.3,
+      );
     }
 
 -- The connection has ended.
@@ -105,10 +105,10 @@ at_end gives p seat unread left held holds first new s z f =
 -- a front of a front
 less : (p : Server) (e : Bool) (x : List ℕ) (h : Deeds) (w t : List ℕ) (n : ℕ) → SaysFront p e x h (w ++ t) → SaysFront p e x h (w ++ take n t)
 less p e x h w t n f = (
-    f.0,
-    drop n t ++ f.1,
-    subst (λ z. Talk p e x h z f.0) (append_assoc w t f.1 ∙ ap (λ z. w ++ (z ++ f.1)) (sym (take-append-drop n t)) ∙ ap (λ z. w ++ z) (append_assoc (take n t) (drop n t) f.1) ∙ sym (append_assoc w (take n t) (drop n t ++ f.1))) f.2,
-  )
+  f.0,
+  drop n t ++ f.1,
+  subst (λ z. Talk p e x h z f.0) (append_assoc w t f.1 ∙ ap (λ z. w ++ (z ++ f.1)) (sym (take-append-drop n t)) ∙ ap (λ z. w ++ z) (append_assoc (take n t) (drop n t) f.1) ∙ sym (append_assoc w (take n t) (drop n t ++ f.1))) f.2,
+)
 
 -- The connection is given up, with what more was read.
 pub given_up : {D : Type 0} (gives : D → Event → Answer → D → Type 0) (p : Server) (seat : ℕ) (unread left left2 held holds : Option (List ℕ)) (first mid new : D) (s : Session) (more : List ℕ)
@@ -125,11 +125,11 @@ given_up gives p seat unread left left2 held holds first mid new s more z q may 
       written = z.written;
       ran = ran;
       fact = (
-          s.ended,
-          end,
-          subst (λ (v : Server). SaysFront v s.ended (z.x ++ more) (z.h ++ q.0) z.w) z.fact.2 quits.0,
-          quits.1 (subst (λ n. AreOfKind n (z.h ++ q.0)) (sym z.fact.3) (kinds_ran gives seat first new (z.h ++ q.0) ran)),
-        );
+        s.ended,
+        end,
+        subst (λ (v : Server). SaysFront v s.ended (z.x ++ more) (z.h ++ q.0) z.w) z.fact.2 quits.0,
+        quits.1 (subst (λ n. AreOfKind n (z.h ++ q.0)) (sym z.fact.3) (kinds_ran gives seat first new (z.h ++ q.0) ran)),
+      );
     }
 
 -- A turn whose text was written in part, and then the connection is given up.
@@ -149,13 +149,13 @@ cut_short gives p seat unread left held holds holds2 first old mid new s s2 t n 
       written = appends_more held holds holds2 z.w (take n (output t)) z.written a;
       ran = ran;
       fact = (
-          s2.ended,
-          λ e. z.fact.1 (sym ended ∙ e),
-          less p s2.ended z.x ((z.h ++ m.0) ++ q.0) z.w (output t) n
-          (subst (λ v. SaysFront p s2.ended v ((z.h ++ m.0) ++ q.0) (z.w ++ output t)) (append-nil z.x)
-          (subst (λ (v : Server). SaysFront v s2.ended (z.x ++ []) ((z.h ++ m.0) ++ q.0) (z.w ++ output t)) (ap (λ (g : Host). server_of g) host ∙ z.fact.2) quits.0)),
-          quits.1 (subst (λ k. AreOfKind k ((z.h ++ m.0) ++ q.0)) (sym same_seat) (kinds_ran gives seat first new ((z.h ++ m.0) ++ q.0) ran)),
-        );
+        s2.ended,
+        λ e. z.fact.1 (sym ended ∙ e),
+        less p s2.ended z.x ((z.h ++ m.0) ++ q.0) z.w (output t) n
+            (subst (λ v. SaysFront p s2.ended v ((z.h ++ m.0) ++ q.0) (z.w ++ output t)) (append-nil z.x)
+            (subst (λ (v : Server). SaysFront v s2.ended (z.x ++ []) ((z.h ++ m.0) ++ q.0) (z.w ++ output t)) (ap (λ (g : Host). server_of g) host ∙ z.fact.2) quits.0)),
+        quits.1 (subst (λ k. AreOfKind k ((z.h ++ m.0) ++ q.0)) (sym same_seat) (kinds_ran gives seat first new ((z.h ++ m.0) ++ q.0) ran)),
+      );
     }
 
 -- What was read was taken.

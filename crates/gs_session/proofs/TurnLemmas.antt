@@ -29,11 +29,11 @@ with_input s b = record { host = s.host; input = b; ended = s.ended; due = s.due
 pub turn_made : {D : Type 0} (gives : D → Event → Answer → D → Type 0) (first now : Session) (old mid new : D) (n : Next) (b : List ℕ) → IsKept first now → now.host ≡ first.host → mid ≡ old → now.due.items ≡ []
     → Steps gives now.host now.ended now.phase now.input mid (Made n) b new → Turns gives first old turn.Made (taken (with_input now b) n) new
 turn_made {D} gives first now old mid new n b kept host door empty k = (
-    k.0,
-    k.1,
-    subst (λ (t : Host). Acts gives t.seat old k.0 k.1 new) host (subst (λ (d : D). Acts gives now.host.seat d k.0 k.1 new) door k.2),
-    λ x h w l. subst (λ z. LeadsTo (server_of now.host) now.ended n.phase b x (h ++ (k.0, k.1) ∷ []) (z ++ n.said.items)) (ap (λ z. w ++ z) empty ∙ append-nil w) (k.3 x h (w ++ now.due.items) (kept x h w l)),
-  )
+  k.0,
+  k.1,
+  subst (λ (t : Host). Acts gives t.seat old k.0 k.1 new) host (subst (λ (d : D). Acts gives now.host.seat d k.0 k.1 new) door k.2),
+  λ x h w l. subst (λ z. LeadsTo (server_of now.host) now.ended n.phase b x (h ++ (k.0, k.1) ∷ []) (z ++ n.said.items)) (ap (λ z. w ++ z) empty ∙ append-nil w) (k.3 x h (w ++ now.due.items) (kept x h w l)),
+)
 
 -- a session that waits rests rightly
 pub turn_waits : (now : Session) (b : List ℕ) (p : Phase) (t : Turn) (s : Session) → now.due.items ≡ [] → IsStill p now.ended b → s ≡ waiting (with_input now b) p → t ≡ turn_at p now.ended → RestsRightly t s

@@ -60,7 +60,8 @@ part_trail done t c = record { cut = λ z. with_data done (cut_of t z); course =
 pub seam : (t : Trail) (done bytes b : List ℕ) (old new : Transfer) (n : ℕ) → IsCutBy t done old → Passes old new b bytes n → (y : List ℕ) → with_data (done ++ bytes) (cut_of new (drop n b ++ y)) ≡ t.cut (b ++ y)
 seam t done bytes b old new n is p y = with-bytes done bytes (cut_of new (drop n b ++ y)) ∙ ap (with_data done) (sym (p y)) ∙ sym (is (b ++ y))
 
-longer : (done bytes : List ℕ) (c : Cut) → length done ≤ length (with_data (done ++ bytes) c).bytes
+-- what came is a part of the body
+pub longer : (done bytes : List ℕ) (c : Cut) → length done ≤ length (with_data (done ++ bytes) c).bytes
 longer done bytes c = omega (arith, length-append (done ++ bytes) c.bytes, length-append done bytes)
 
 -- What came was read, and gave nothing.

@@ -11,7 +11,9 @@ ghost use Rattle.gs_session.specs.Steps.{Does, Steps};
 
 use crate::buffers::Buffer;
 use crate::hosts::Host;
-use crate::outcomes::{Next, after_delete, after_head, after_piece, after_pin, reply, silently, stop};
+use crate::outcomes::{
+    Next, after_delete, after_head, after_piece, after_pin, reply, silently, stop,
+};
 use crate::phases::{Phase, Work};
 use crate::plans::{Plan, plan_of};
 use crate::steps::Step;
@@ -24,7 +26,8 @@ use gs_verdict::Asked;
 
 /// A graph is removed.
 fn delete<D: Door>(host: &Host, asked: &Asked, target: Target, door: &mut D) -> Next
-    ensures { Does D.Gives host.now.seat door.old (act.Delete target) door.new (λ answer. AfterDelete asked.now answer result) }
+    ensures { Does D.Gives host.now.seat door.old (act.Delete target) door.new
+        (λ answer. AfterDelete asked.now answer result) }
 {
     let answer = host.act(Action::Delete(target), door);
     after_delete(host.alloc, asked, &answer)
@@ -32,7 +35,8 @@ fn delete<D: Door>(host: &Host, asked: &Asked, target: Target, door: &mut D) -> 
 
 /// A graph is looked at.
 fn look<D: Door>(host: &Host, asked: &Asked, target: Target, door: &mut D) -> Next
-    ensures { Does D.Gives host.now.seat door.old (act.Head target) door.new (λ answer. AfterHead asked.now answer result) }
+    ensures { Does D.Gives host.now.seat door.old (act.Head target) door.new
+        (λ answer. AfterHead asked.now answer result) }
 {
     let answer = host.act(Action::Head(target), door);
     after_head(host.alloc, asked, &answer)
@@ -40,7 +44,8 @@ fn look<D: Door>(host: &Host, asked: &Asked, target: Target, door: &mut D) -> Ne
 
 /// A read of a graph begins.
 fn pin<D: Door>(host: &Host, asked: Asked, target: Target, door: &mut D) -> Next
-    ensures { Does D.Gives host.now.seat door.old (act.Pin target) door.new (λ answer. AfterPin asked answer result) }
+    ensures { Does D.Gives host.now.seat door.old (act.Pin target) door.new
+        (λ answer. AfterPin asked answer result) }
 {
     let answer = host.act(Action::Pin(target), door);
     after_pin(host.alloc, asked, &answer)
@@ -48,7 +53,8 @@ fn pin<D: Door>(host: &Host, asked: Asked, target: Target, door: &mut D) -> Next
 
 /// The body is over: what the request asks for is asked of the store.
 fn ask<D: Door>(host: &Host, asked: Asked, door: &mut D) -> Step
-    ensures { (e : Bool) (b : List ℕ) (t : ATransfer) → ((y : List ℕ) → cut_of t (b ++ y) ≡ cut.ends (cut.Whole (b ++ y)))
+    ensures { (e : Bool) (b : List ℕ) (t : ATransfer)
+        → ((y : List ℕ) → cut_of t (b ++ y) ≡ cut.ends (cut.Whole (b ++ y)))
         → Steps D.Gives host.now e (Serving asked (Skipping t)) b door.old result b door.new }
 {
     match plan_of(&asked) {
@@ -69,15 +75,13 @@ pub fn skip<D: Door>(
     mut transfer: Transfer,
     door: &mut D,
 ) -> Step
-    ensures { Steps D.Gives host.now ended (Serving asked (Skipping transfer)) input.old door.old result input.new door.new }
+    ensures { Steps D.Gives host.now ended (Serving asked (Skipping transfer))
+        input.old door.old result input.new door.new }
 {
     match transfer.next(input.as_slice()) {
         Part::Data(count) | Part::Passed(count) => {
             input.skip(count);
-            Step::Silent(silently(
-                host.alloc,
-                Phase::Serving(asked, Work::Skipping(transfer)),
-            ))
+            Step::Silent(silently(host.alloc, Phase::Serving(asked, Work::Skipping(transfer))))
         }
         Part::End => ask(host, asked, door),
         Part::Fault(status) => Step::Silent(reply(host.alloc, status, Note::Nothing, true)),
@@ -93,7 +97,8 @@ pub fn skip<D: Door>(
 
 /// The next piece of a read.
 pub fn send<D: Door>(host: &Host, asked: Asked, door: &mut D) -> Next
-    ensures { Does D.Gives host.now.seat door.old (act.Piece host.now.piece) door.new (λ answer. AfterPiece asked answer result) }
+    ensures { Does D.Gives host.now.seat door.old (act.Piece host.now.piece) door.new
+        (λ answer. AfterPiece asked answer result) }
 {
     let answer = host.act(Action::Piece(host.piece), door);
     after_piece(host.alloc, asked, &answer)

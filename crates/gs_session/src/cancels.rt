@@ -19,7 +19,8 @@ pub fn leave<D: Door>(host: &Host, door: &mut D) -> Next
 
 /// What is open is cancelled, and the reply says why.
 pub fn cancel<D: Door>(host: &Host, status: u16, closes: bool, door: &mut D) -> Next
-    ensures { Does D.Gives host.now.seat door.old act.Cancel door.new (λ answer. AfterCancel status closes answer result) }
+    ensures { Does D.Gives host.now.seat door.old act.Cancel door.new
+        (λ answer. AfterCancel status closes answer result) }
 {
     let answer = host.act(Action::Cancel, door);
     after_cancel(host.alloc, status, closes, &answer)

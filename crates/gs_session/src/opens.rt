@@ -50,7 +50,8 @@ fn open_upload<D: Door>(
     greeting: Vec<u8>,
     door: &mut D,
 ) -> Next
-    ensures { Does D.Gives host.now.seat door.old (act.Open kind) door.new (λ answer. AfterOpen host.now.site asked greeting.items answer result) }
+    ensures { Does D.Gives host.now.seat door.old (act.Open kind) door.new
+        (λ answer. AfterOpen host.now.site asked greeting.items answer result) }
 {
     match host.act(Action::Open(kind), door) {
         Answer::Opened(request) => {
@@ -72,7 +73,8 @@ fn open_patch<D: Door>(
     greeting: Vec<u8>,
     door: &mut D,
 ) -> Next
-    ensures { Does D.Gives host.now.seat door.old (act.OpenPatch target) door.new (λ answer. AfterOpenPatch asked greeting.items answer result) }
+    ensures { Does D.Gives host.now.seat door.old (act.OpenPatch target) door.new
+        (λ answer. AfterOpenPatch asked greeting.items answer result) }
 {
     match host.act(Action::OpenPatch(target), door) {
         Answer::Opened(request) => {
@@ -89,18 +91,15 @@ fn open_patch<D: Door>(
 
 /// What a request's body is for is opened.
 pub fn open<D: Door>(host: &Host, asked: Asked, door: &mut D) -> Step
-    ensures { (e : Bool) (b : List ℕ) → Steps D.Gives host.now e (Serving asked Opening) b door.old result b door.new }
+    ensures { (e : Bool) (b : List ℕ)
+        → Steps D.Gives host.now e (Serving asked Opening) b door.old result b door.new }
 {
     let Ok(greeting) = greeting(host.alloc, asked.awaits_continue) else {
         return Step::Silent(reply(host.alloc, 503, Note::Nothing, true));
     };
     match plan_of(&asked) {
-        Ok(Plan::Upload(kind)) => {
-            Step::Made(open_upload(host, asked, kind, greeting, door))
-        }
-        Ok(Plan::Patch(target)) => {
-            Step::Made(open_patch(host, asked, target, greeting, door))
-        }
+        Ok(Plan::Upload(kind)) => { Step::Made(open_upload(host, asked, kind, greeting, door)) }
+        Ok(Plan::Patch(target)) => { Step::Made(open_patch(host, asked, target, greeting, door)) }
         // Another plan opens nothing.
         _ => Step::Silent(reply(host.alloc, 503, Note::Nothing, true)),
     }

@@ -34,7 +34,8 @@ fn keep(
     transfer: Transfer,
 ) -> Step
     requires within { count ≤ length input.old }
-    ensures { (e : Bool) (t : ATransfer) → 0 < count → Passes t transfer input.old (take count input.old) count
+    ensures { (e : Bool) (t : ATransfer) → 0 < count
+        → Passes t transfer input.old (take count input.old) count
         → Rests host.now e (Serving asked (Patching request body t)) input.old result input.new }
 {
     let kept = body.extend_from_slice(&input.as_slice()[..count]);
@@ -48,7 +49,8 @@ fn keep(
 
 /// The operations of a patch take effect.
 fn commit<D: Door>(host: &Host, asked: Asked, operations: Vec<Op>, door: &mut D) -> Next
-    ensures { Does D.Gives host.now.seat door.old (act.CommitPatch operations) door.new (λ answer. AfterOrder asked answer result) }
+    ensures { Does D.Gives host.now.seat door.old (act.CommitPatch operations) door.new
+        (λ answer. AfterOrder asked answer result) }
 {
     let answer = host.act(Action::CommitPatch(operations), door);
     after_order(host.alloc, asked, &answer)
@@ -56,18 +58,21 @@ fn commit<D: Door>(host: &Host, asked: Asked, operations: Vec<Op>, door: &mut D)
 
 /// The body is over: it is read, and takes effect, or it is no update that is served.
 fn order<D: Door>(host: &Host, asked: Asked, request: u64, body: &[u8], door: &mut D) -> Step
-    ensures { (e : Bool) (b : List ℕ) (t : ATransfer) (v : Vec ℕ AGlobal) → v.items ≡ body.now → ((y : List ℕ) → cut_of t (b ++ y) ≡ cut.ends (cut.Whole (b ++ y)))
+    ensures { (e : Bool) (b : List ℕ) (t : ATransfer) (v : Vec ℕ AGlobal) → v.items ≡ body.now
+        → ((y : List ℕ) → cut_of t (b ++ y) ≡ cut.ends (cut.Whole (b ++ y)))
         → Steps D.Gives host.now e (Serving asked (Patching request v t)) b door.old result b door.new }
 {
     let base = host.site.text_base(&asked.graph);
     match read_update(host.alloc, request, base, body) {
         Ok(operations) => Step::Made(commit(host, asked, operations, door)),
-        Err(Refusal::NoMemory) => Step::Silent(silently(
-            host.alloc,
-            Phase::Serving(asked, Work::Failing(Want::Memory)),
-        )),
-        Err(Refusal::NotInProfile) => Step::Made(cancel(host, 422, asked.closes, door)),
-        Err(_) => Step::Made(cancel(host, 400, asked.closes, door)),
+        Err(refusal) => match refusal {
+            Refusal::NoMemory => Step::Silent(silently(
+                host.alloc,
+                Phase::Serving(asked, Work::Failing(Want::Memory)),
+            )),
+            Refusal::NotInProfile => Step::Made(cancel(host, 422, asked.closes, door)),
+            _ => Step::Made(cancel(host, 400, asked.closes, door)),
+        },
     }
 }
 
@@ -82,7 +87,8 @@ pub fn patch<D: Door>(
     mut transfer: Transfer,
     door: &mut D,
 ) -> Step
-    ensures { Steps D.Gives host.now ended (Serving asked (Patching request body transfer)) input.old door.old result input.new door.new }
+    ensures { Steps D.Gives host.now ended (Serving asked (Patching request body transfer))
+        input.old door.old result input.new door.new }
 {
     match transfer.next(input.as_slice()) {
         Part::Data(count) => keep(host, input, count, asked, request, body, transfer),

@@ -42,8 +42,10 @@ fn put<W: Write>(writer: &mut W, text: &[u8]) -> bool
 /// Gives the session what a read gives.
 fn read_more<R: Read>(session: &mut Session, reader: &mut R) -> Result<(), ServeFault>
     requires { session.old.ended ≡ false }
-    ensures ok { OnOk result (Reads session.old session.new (R.remaining reader.old) (R.remaining reader.new)) }
-    ensures err { OnErr result (Loses session.old session.new (R.remaining reader.old) (R.remaining reader.new)) }
+    ensures ok { OnOk result (Reads session.old session.new (R.remaining reader.old)
+        (R.remaining reader.new)) }
+    ensures err { OnErr result (Loses session.old session.new (R.remaining reader.old)
+        (R.remaining reader.new)) }
 {
     let mut space = [0u8; READ_BYTES];
     match reader.read(&mut space) {
@@ -112,10 +114,12 @@ pub fn serve<R: Read, W: Write, D: Door>(
 ) -> Result<(), ServeFault>
     requires { is_base base.now ≡ true }
     // All of what is to be said was written, and no request is left.
-    ensures whole { OnOk result (Connection D.Gives seat (R.remaining reader.old) (R.remaining reader.new) (W.contents writer.old) (W.contents writer.new) door.old door.new
+    ensures whole { OnOk result (Connection D.Gives seat (R.remaining reader.old) (R.remaining reader.new)
+        (W.contents writer.old) (W.contents writer.new) door.old door.new
         (Done (record { base = base.now; piece = piece }) (R.remaining reader.new))) }
     // What was written is a front of it.
-    ensures front { OnErr result (Connection D.Gives seat (R.remaining reader.old) (R.remaining reader.new) (W.contents writer.old) (W.contents writer.new) door.old door.new
+    ensures front { OnErr result (Connection D.Gives seat (R.remaining reader.old) (R.remaining reader.new)
+        (W.contents writer.old) (W.contents writer.new) door.old door.new
         (Quit (record { base = base.now; piece = piece }) (R.remaining reader.new))) }
 {
     let Ok(mut session) = Session::new(alloc, seat, base, piece) else {

@@ -68,7 +68,8 @@ impl Session {
 
     /// The next bytes come. After the end of the input they are dropped.
     pub fn give(&mut self, piece: &[u8]) -> Result<(), AllocError>
-        ensures given { OnOk result ((x : List ℕ) (h : Deeds) (w : List ℕ) → Leads self.old x h w → Leads self.new (joined self.old.ended x piece.now) h w) }
+        ensures given { OnOk result ((x : List ℕ) (h : Deeds) (w : List ℕ)
+            → Leads self.old x h w → Leads self.new (joined self.old.ended x piece.now) h w) }
         ensures refused { OnErr result (self.new ≡ self.old) }
         ensures host { self.new.host ≡ self.old.host }
         ensures ended { self.new.ended ≡ self.old.ended }
@@ -148,11 +149,12 @@ impl Session {
     pub fn abandon<D: Door>(&mut self, door: &mut D)
         ensures { Quits D.Gives self.old door.old door.new }
     {
-        if let Phase::Serving(_, work) = mem::replace(&mut self.phase, Phase::Over) {
-            if has_opened(&work) {
+        if let Phase::Serving(_, work) = &self.phase {
+            if has_opened(work) {
                 self.host.act(Action::Cancel, door);
             }
         }
+        self.phase = Phase::Over;
         self.due.clear();
     }
 }

@@ -26,14 +26,9 @@ use gs_verdict::Asked;
 pub type Upload = Reading<TextReader>;
 
 /// What was read is staged; then the work goes on.
-fn stage<D: Door>(
-    host: &Host,
-    asked: Asked,
-    triples: Vec<Triple>,
-    work: Work,
-    door: &mut D,
-) -> Next
-    ensures { Does D.Gives host.now.seat door.old (act.Stage triples) door.new (λ answer. AfterStage asked work answer result) }
+fn stage<D: Door>(host: &Host, asked: Asked, triples: Vec<Triple>, work: Work, door: &mut D) -> Next
+    ensures { Does D.Gives host.now.seat door.old (act.Stage triples) door.new
+        (λ answer. AfterStage asked work answer result) }
 {
     let answer = host.act(Action::Stage(triples), door);
     after_stage(host.alloc, asked, work, &answer)
@@ -41,7 +36,8 @@ fn stage<D: Door>(
 
 /// The upload is committed.
 pub fn commit<D: Door>(host: &Host, asked: Asked, door: &mut D) -> Next
-    ensures { Does D.Gives host.now.seat door.old act.Commit door.new (λ answer. AfterCommit asked answer result) }
+    ensures { Does D.Gives host.now.seat door.old act.Commit door.new
+        (λ answer. AfterCommit asked answer result) }
 {
     let answer = host.act(Action::Commit, door);
     after_commit(host.alloc, asked, &answer)
@@ -58,7 +54,8 @@ fn feed<D: Door>(
     door: &mut D,
 ) -> Step
     requires within { count ≤ length input.old }
-    ensures { (e : Bool) (t : ATransfer) → 0 < count → Passes t transfer input.old (take count input.old) count
+    ensures { (e : Bool) (t : ATransfer) → 0 < count
+        → Passes t transfer input.old (take count input.old) count
         → Steps D.Gives host.now e (Serving asked (Uploading reading t)) input.old door.old result input.new door.new }
 {
     let mut triples = Vec::new(host.alloc);
@@ -82,7 +79,8 @@ fn feed<D: Door>(
 
 /// The body is over: its last triples are staged, or the Commit is due, or the body has a fault.
 fn finish<D: Door>(host: &Host, asked: Asked, reading: Upload, door: &mut D) -> Step
-    ensures { (e : Bool) (b : List ℕ) (t : ATransfer) → ((y : List ℕ) → cut_of t (b ++ y) ≡ cut.ends (cut.Whole (b ++ y)))
+    ensures { (e : Bool) (b : List ℕ) (t : ATransfer)
+        → ((y : List ℕ) → cut_of t (b ++ y) ≡ cut.ends (cut.Whole (b ++ y)))
         → Steps D.Gives host.now e (Serving asked (Uploading reading t)) b door.old result b door.new }
 {
     let mut triples = Vec::new(host.alloc);
@@ -94,10 +92,7 @@ fn finish<D: Door>(host: &Host, asked: Asked, reading: Upload, door: &mut D) -> 
         Ok(Some(_)) => Step::Made(cancel(host, 400, asked.closes, door)),
         Ok(None) => {
             if triples.is_empty() {
-                Step::Silent(silently(
-                    host.alloc,
-                    Phase::Serving(asked, Work::Committing),
-                ))
+                Step::Silent(silently(host.alloc, Phase::Serving(asked, Work::Committing)))
             } else {
                 Step::Made(stage(host, asked, triples, Work::Committing, door))
             }
@@ -115,7 +110,8 @@ pub fn upload<D: Door>(
     mut transfer: Transfer,
     door: &mut D,
 ) -> Step
-    ensures { Steps D.Gives host.now ended (Serving asked (Uploading reading transfer)) input.old door.old result input.new door.new }
+    ensures { Steps D.Gives host.now ended (Serving asked (Uploading reading transfer))
+        input.old door.old result input.new door.new }
 {
     match transfer.next(input.as_slice()) {
         Part::Data(count) => feed(host, input, count, asked, reading, transfer, door),

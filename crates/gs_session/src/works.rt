@@ -20,7 +20,8 @@ use gs_verdict::Asked;
 
 /// What there is no more of, the reply says, once what is open is cancelled.
 fn fail<D: Door>(host: &Host, asked: &Asked, want: Want, door: &mut D) -> Next
-    ensures { Does D.Gives host.now.seat door.old act.Cancel door.new (λ answer. AfterCancel (want_status want) (want_closes asked.now want) answer result) }
+    ensures { Does D.Gives host.now.seat door.old act.Cancel door.new
+        (λ answer. AfterCancel (want_status want) (want_closes asked.now want) answer result) }
 {
     match want {
         Want::Memory => cancel(host, 503, true, door),

@@ -21,5 +21,5 @@ loop-at-preserved g c =
     record {
       within = bounded t c.loop-at.at c.in-Ok.count c.in-Ok.ensures.bound c.loop-at.invariant.within;
       front = subst (λ z. Appends (g.W.Write.contents c.args.writer.now) (g.W.Write.contents c.write.new.self) z) (joined t c.loop-at.at c.in-Ok.count)
-        (appends_more (g.W.Write.contents c.args.writer.now) (g.W.Write.contents c.loop-at.writer) (g.W.Write.contents c.write.new.self) (take c.loop-at.at t) _ c.loop-at.invariant.front c.in-Ok.ensures.bytes);
+          (appends_more (g.W.Write.contents c.args.writer.now) (g.W.Write.contents c.loop-at.writer) (g.W.Write.contents c.write.new.self) (take c.loop-at.at t) _ c.loop-at.invariant.front c.in-Ok.ensures.bytes);
     }

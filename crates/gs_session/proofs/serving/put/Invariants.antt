@@ -4,9 +4,9 @@ use Rattle.gs_session.proofs.serving.put.Given as goal
 
 abbrev pub invariant-loop-at : goal.invariant-loop-at
 invariant-loop-at g l = record {
-    within : l.at ≤ length l.text;
-    front : Appends (g.W.Write.contents l.fn.writer) (g.W.Write.contents l.writer) (take l.at l.text);
-  }
+  within : l.at ≤ length l.text;
+  front : Appends (g.W.Write.contents l.fn.writer) (g.W.Write.contents l.writer) (take l.at l.text);
+}
 
 abbrev pub decreases-loop-at : goal.decreases-loop-at
 decreases-loop-at g l = length l.text - l.at

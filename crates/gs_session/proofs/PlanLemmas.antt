@@ -1,0 +1,136 @@
+-- Where an upload or a patch is open, the request asks for it.
+use Rattle.std.proofs.Common.{◌≡◌, ◌==◌, ℕ, Bool, true, false, cond, List, [], ◌∷◌, refl, subst}
+use Rattle.gs_model.specs.Triples.{RdfTriple}
+use Rattle.gs_model.specs.declared.refusals.Refusal.TheVariants as why
+use Rattle.gs_event.specs.declared.events.Action.TheVariants as act
+use Rattle.gs_event.specs.declared.events.UploadKind.{UploadKind}
+use Rattle.gs_event.specs.declared.answers.Answer.{Answer}
+use Rattle.gs_event.specs.declared.answers.Answer.TheVariants.{Opened, Staged, Status, Pinned, Lines, Cancelled, Refused}
+use Rattle.gs_event.specs.declared.updates.Op.{Op}
+use Rattle.gs_term.specs.declared.names.Target.{Target}
+use Rattle.gs_verdict.specs.declared.verdicts.Asked.{Asked}
+use Rattle.gs_reply.specs.Replies.{lines_head}
+use Rattle.gs_talk.specs.Plans.{Plan, Uploads, Patches, Deletes, Looks, Reads, NoPlan, plan_of}
+use Rattle.gs_talk.specs.Courses.{Move, Did, Short, Course, Fresh, Early, Writing, Patching, Lacking, Late, Dropped, Wrote, Patched, Erased, Looked, Missing, Held, Cutting, Cut as CutShort}
+use Rattle.gs_talk.specs.Moves.{first, writing, patching, held, cancelling, ready, after, course, at_delete, at_head, at_pin, at_stage, at_commit, at_commit_patch, at_piece}
+
+-- where an upload or a patch is open, the plan is one
+abbrev pub IsPlanned : Plan → Course → Type 0
+IsPlanned p (Writing r g) = (k : UploadKind) × (p ≡ Uploads k)
+IsPlanned p (Patching r) = (t : Target) × (p ≡ Patches t)
+IsPlanned p c = Unit {0}
+
+delete_so : (p : Plan) (answer : Answer) → IsPlanned p (at_delete answer)
+delete_so p (Status s name) = tt
+delete_so p (Refused why.LastNumber) = tt
+delete_so p other = tt
+
+head_so : (p : Plan) (answer : Answer) → IsPlanned p (at_head answer)
+head_so p (Status s name) = tt
+head_so p other = tt
+
+begins_so : (p : Plan) (out : List ℕ) (s : ℕ) (v : Bool) → IsPlanned p (cond v (Held [] out false) (Missing s))
+begins_so p out s true = tt
+begins_so p out s false = tt
+
+pin_so : (p : Plan) (a : Asked) (answer : Answer) → IsPlanned p (at_pin a answer)
+pin_so p a (Pinned s) = begins_so p (lines_head a.reply a.closes) s (s == 200)
+pin_so p a other = tt
+
+first_so : (a : Asked) (p : Plan) (m : Move) → IsPlanned p (first a p m)
+first_so a (Uploads k) (Did (act.Open j) (Opened r)) = (k, refl)
+first_so a (Uploads k) (Did (act.Open j) (Refused why.NoMemory)) = tt
+first_so a (Uploads k) (Did (act.Open j) (Refused why.LastNumber)) = tt
+first_so a (Uploads k) (Did (act.Open j) other) = tt
+first_so a (Patches t) (Did (act.OpenPatch u) (Opened r)) = (t, refl)
+first_so a (Patches t) (Did (act.OpenPatch u) (Refused why.NoMemory)) = tt
+first_so a (Patches t) (Did (act.OpenPatch u) (Refused why.LastNumber)) = tt
+first_so a (Patches t) (Did (act.OpenPatch u) other) = tt
+first_so a (Deletes t) (Did (act.Delete u) answer) = delete_so (Deletes t) answer
+first_so a (Looks t) (Did (act.Head u) answer) = head_so (Looks t) answer
+first_so a (Reads t) (Did (act.Pin u) answer) = pin_so (Reads t) a answer
+first_so a NoPlan Short = tt
+first_so a NoPlan (Did action answer) = tt
+first_so a p other = tt
+
+stage_so : (p : Plan) (r : ℕ) (g ts : List RdfTriple) (answer : Answer) → IsPlanned p (Writing r g) → IsPlanned p (at_stage r g ts answer)
+stage_so p r g [] answer k = tt
+stage_so p r g (t ∷ ts) Staged k = k
+stage_so p r g (t ∷ ts) (Refused why.NoMemory) k = tt
+stage_so p r g (t ∷ ts) other k = tt
+
+commit_so : (p : Plan) (r : ℕ) (g : List RdfTriple) (answer : Answer) → IsPlanned p (at_commit r g answer)
+commit_so p r g (Status s name) = tt
+commit_so p r g (Refused why.NoMemory) = tt
+commit_so p r g (Refused why.LastNumber) = tt
+commit_so p r g other = tt
+
+cancelling_so : (p : Plan) (c d : Course) (m : Move) → IsPlanned p d → IsPlanned p (cancelling c d m)
+cancelling_so p c d (Did act.Cancel Cancelled) k = k
+cancelling_so p c d (Did act.Cancel other) k = tt
+cancelling_so p c d other k = tt
+
+writing_so : (p : Plan) (r : ℕ) (g : List RdfTriple) (m : Move) → IsPlanned p (Writing r g) → IsPlanned p (writing r g m)
+writing_so p r g (Did (act.Stage ts) answer) k = stage_so p r g ts.items answer k
+writing_so p r g (Did act.Commit answer) k = commit_so p r g answer
+writing_so p r g (Did act.Cancel Cancelled) k = tt
+writing_so p r g (Did act.Cancel other) k = tt
+writing_so p r g other k = tt
+
+order_so : (p : Plan) (r : ℕ) (ops : List Op) (answer : Answer) → IsPlanned p (at_commit_patch r ops answer)
+order_so p r ops (Status s name) = tt
+order_so p r ops (Refused why.NoMemory) = tt
+order_so p r ops (Refused why.LastNumber) = tt
+order_so p r ops other = tt
+
+patching_so : (p : Plan) (r : ℕ) (m : Move) → IsPlanned p (patching r m)
+patching_so p r (Did (act.CommitPatch ops) answer) = order_so p r ops.items answer
+patching_so p r (Did act.Cancel Cancelled) = tt
+patching_so p r (Did act.Cancel other) = tt
+patching_so p r other = tt
+
+piece_so : (p : Plan) (out due : List ℕ) (answer : Answer) → IsPlanned p (at_piece out due answer)
+piece_so p out due (Lines b end) = tt
+piece_so p out due (Refused why.NoMemory) = tt
+piece_so p out due other = tt
+
+held_so : (p : Plan) (out due : List ℕ) (end : Bool) (m : Move) → IsPlanned p (held out due end m)
+held_so p out due false (Did (act.Piece n) answer) = piece_so p out due answer
+held_so p out due false (Did act.Cancel Cancelled) = tt
+held_so p out due false (Did act.Cancel other) = tt
+held_so p out due true Short = tt
+held_so p out due true (Did action answer) = tt
+held_so p out due false other = tt
+
+ready_so : (p : Plan) (c : Course) (m : Move) → IsPlanned p (ready c m)
+ready_so p c Short = tt
+ready_so p c other = tt
+
+after_so : (a : Asked) (c : Course) (m : Move) → IsPlanned (plan_of a) c → IsPlanned (plan_of a) (after a c m)
+after_so a Fresh m k = first_so a (plan_of a) m
+after_so a (Writing r g) m k = writing_so (plan_of a) r g m k
+after_so a (Patching r) m k = patching_so (plan_of a) r m
+after_so a (Lacking c l) m k = cancelling_so (plan_of a) (Lacking c l) (Late l) m tt
+after_so a (Held out due end) m k = held_so (plan_of a) out due end m
+after_so a (Cutting out) m k = cancelling_so (plan_of a) (Cutting out) (CutShort out) m tt
+after_so a (Early l) m k = ready_so (plan_of a) (Early l) m
+after_so a (Late l) m k = ready_so (plan_of a) (Late l) m
+after_so a (Dropped r) m k = ready_so (plan_of a) (Dropped r) m
+after_so a (Wrote r g s n) m k = ready_so (plan_of a) (Wrote r g s n) m
+after_so a (Patched r ops s) m k = ready_so (plan_of a) (Patched r ops s) m
+after_so a (Erased s) m k = ready_so (plan_of a) (Erased s) m
+after_so a (Looked s) m k = ready_so (plan_of a) (Looked s) m
+after_so a (Missing s) m k = ready_so (plan_of a) (Missing s) m
+after_so a other m k = tt
+
+course_so : (a : Asked) (c : Course) (ms : List Move) → IsPlanned (plan_of a) c → IsPlanned (plan_of a) (course a c ms)
+course_so a c [] k = k
+course_so a c (m ∷ ms) k = course_so a (after a c m) ms (after_so a c m k)
+
+-- moves that open a patch are those of a plan that does
+pub patch_plan : (a : Asked) (ms : List Move) (r : ℕ) → course a Fresh ms ≡ Patching r → (t : Target) × (plan_of a ≡ Patches t)
+patch_plan a ms r is = subst (λ (c : Course). IsPlanned (plan_of a) c) is (course_so a Fresh ms tt)
+
+-- and those that open an upload are those of one that uploads
+pub upload_plan : (a : Asked) (ms : List Move) (r : ℕ) (g : List RdfTriple) → course a Fresh ms ≡ Writing r g → (k : UploadKind) × (plan_of a ≡ Uploads k)
+upload_plan a ms r g is = subst (λ (c : Course). IsPlanned (plan_of a) c) is (course_so a Fresh ms tt)
