@@ -1,23 +1,22 @@
 -- The steps that end an upload or a patch: a commit, or a cancel and a reply.
-use Rattle.std.proofs.Common.{◌≡◌, ◌≢◌, ◌⊎◌, inl, inr, ◌+◌, ◌≤◌, ◌<◌, arith, ℕ, Bool, true, false, cond, not, List, [], ◌∷◌, ◌++◌, length, take, drop, Option, Some, None, refl, sym, ap, subst, ◌∙◌, append-nil, append_assoc, length-append, Vec}
+use Rattle.std.proofs.Common.{◌≡◌, ◌≢◌, inl, inr, ◌+◌, ◌≤◌, arith, ℕ, Bool, true, false, List, [], ◌∷◌, ◌++◌, length, Some, None, refl, sym, ap, subst, ◌∙◌, append-nil, Vec}
 use Rattle.std.specs.declared.alloc.Global.{Global}
 use Rattle.gs_model.specs.Triples.{RdfTriple}
 use Rattle.gs_model.specs.declared.refusals.Refusal.TheVariants as why
 use Rattle.gs_event.specs.declared.events.Action.TheVariants as act
 use Rattle.gs_event.specs.declared.answers.Answer.{Answer}
-use Rattle.gs_event.specs.declared.answers.Answer.TheVariants.{Opened, Staged, Status, Pinned, Lines, Cancelled, Refused}
+use Rattle.gs_event.specs.declared.answers.Answer.TheVariants.{Staged, Status, Cancelled, Refused}
 use Rattle.gs_transfer.specs.Cuts as cut
 use Rattle.gs_verdict.specs.declared.verdicts.Asked.{Asked}
 use Rattle.gs_reply.specs.Notices.{Nothing}
 use Rattle.gs_reply.specs.Replies.{reply_text}
 use Rattle.gs_talk.specs.Plans.{plan_of}
 use Rattle.gs_talk.specs.Bodies.{States, refusal_at}
-use Rattle.gs_talk.specs.Courses.{Move, Did, Short, Course, Writing, Lacking, Late, Dropped, Wrote, Memory, Numbers, Cutting, Cut, Misanswered, Mute}
+use Rattle.gs_talk.specs.Courses.{Did, Short, Course, Writing, Lacking, Late, Dropped, Wrote, Memory, Numbers, Cutting, Cut, Misanswered, Mute}
 use Rattle.gs_talk.specs.Moves.{after, course, at_stage, at_cancel}
 use Rattle.gs_talk.specs.Seats.{Deeds}
-use Rattle.gs_talk.specs.Replies.{BodyState, Whole, Faulty, Unended, Said, IsOwn, Settles, said_so_far, greeting, lines_out, name_notice}
-use Rattle.gs_talk.specs.Logs.{Server, AllSuit, deeds_of, stages_in}
-use Rattle.gs_session.specs.declared.phases.Phase.{Phase}
+use Rattle.gs_talk.specs.Replies.{BodyState, Faulty, Unended, IsOwn, Settles, said_so_far, greeting, lines_out, name_notice}
+use Rattle.gs_talk.specs.Logs.{Server, stages_in}
 use Rattle.gs_session.specs.declared.phases.Phase.TheVariants.{Serving, Over}
 use Rattle.gs_session.specs.declared.phases.Work.{Work}
 use Rattle.gs_session.specs.declared.phases.Work.TheVariants.{Uploading, Committing, Failing}
@@ -25,9 +24,9 @@ use Rattle.gs_session.specs.declared.phases.Work.TheVariants as work
 use Rattle.gs_session.specs.declared.phases.Want.TheVariants as want
 use Rattle.gs_session.specs.declared.outcomes.Next.{Next}
 use Rattle.gs_session.specs.Leads.{LeadsTo}
-use Rattle.gs_session.specs.Outcomes.{Says, Stops, Replies, after_reply, AfterStage, AfterCommit, AfterCancel}
+use Rattle.gs_session.specs.Outcomes.{Stops, Replies, AfterStage, AfterCommit, AfterCancel}
 use Rattle.gs_session.proofs.MoveLemmas.{moved, answers_fault, ends_open}
-use Rattle.gs_session.proofs.ReplyLemmas.{Answers, replies, replies_any, broke, to_next}
+use Rattle.gs_session.proofs.ReplyLemmas.{replies, replies_any, broke, to_next}
 use Rattle.gs_session.proofs.ReadLemmas.{IsWholeAt, few_still, no_more, whole_trail, reads_on, stops_whole}
 
 -- in an upload no more was said than the greeting

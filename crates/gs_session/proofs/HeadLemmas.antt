@@ -1,11 +1,9 @@
 -- The steps of a head: what stands before it is dropped, it is denied, or what it asks for is begun.
-use Rattle.std.proofs.Common.{◌≡◌, ◌⊎◌, inl, inr, ◌+◌, ◌≤◌, arith, ℕ, Bool, true, false, cond, not, eqb, List, [], ◌∷◌, ◌++◌, length, refl, sym, ap, subst, ◌∙◌, append-nil}
+use Rattle.std.proofs.Common.{◌≡◌, ℕ, true, false, cond, eqb, List, [], ◌∷◌, ◌++◌, refl, sym, ap, ◌∙◌}
 use Rattle.std.proofs.lemmas.Bool.{eqb-true}
-use Rattle.gs_stream.specs.Heads.{HeadCut, TooLong, stripped, head_at}
-use Rattle.gs_stream.specs.Heads as head
-use Rattle.gs_stream.specs.Requests.{Request, by_head, requests}
+use Rattle.gs_stream.specs.Heads.{stripped, head_at}
+use Rattle.gs_stream.specs.Requests.{by_head, requests}
 use Rattle.gs_stream.proofs.RequestLemmas.{reads-on}
-use Rattle.gs_stream.proofs.StaysLemmas.{heads-stay, long-stays}
 
 lf : (c : ℕ) (z : List ℕ) → c ≡ 10 → stripped z ≡ stripped (c ∷ z)
 lf c [] e = ap (λ b. cond b [] (c ∷ [])) (sym (ap (λ n. eqb n 10) e))

@@ -5,17 +5,17 @@ use Rattle.std.proofs.lemmas.List.Concat.{flat_map-append}
 use Rattle.gs_transfer.specs.Cuts.{Cut, End}
 use Rattle.gs_transfer.specs.Cuts as cut
 use Rattle.gs_verdict.specs.declared.verdicts.Asked.{Asked}
-use Rattle.gs_stream.specs.Requests.{Request, Asks, Breaks, Waits, by_body, by_end, requests}
+use Rattle.gs_stream.specs.Requests.{Request, by_body, by_end, requests}
 use Rattle.gs_talk.specs.Plans.{Plan, plan_of}
 use Rattle.gs_talk.specs.Courses.{Move, Did, Short, Course, Fresh}
 use Rattle.gs_talk.specs.Moves.{after, course}
 use Rattle.gs_talk.specs.Seats.{Deeds}
-use Rattle.gs_talk.specs.Replies.{BodyState, Whole, Faulty, Unended, Said, IsOwn, Settles, said_so_far, greeting, greeted, data_of}
-use Rattle.gs_talk.specs.Logs.{Server, Entry, Log, is_closed, AllSuit, AreProper, AnswersAsk, Answered, AnswersAll, deed_of, deeds_of, deeds, texts, stage_of, stages_in}
+use Rattle.gs_talk.specs.Replies.{BodyState, Whole, Faulty, Unended, IsOwn, Settles, said_so_far, greeting, data_of}
+use Rattle.gs_talk.specs.Logs.{Server, Entry, Log, is_closed, AllSuit, AnswersAsk, AnswersAll, deed_of, deeds_of, deeds, texts, stages_in}
 use Rattle.gs_session.specs.declared.phases.Phase.{Phase}
 use Rattle.gs_session.specs.declared.phases.Phase.TheVariants.{Between, Serving, Over}
 use Rattle.gs_session.specs.declared.phases.Work.{Work}
-use Rattle.gs_session.specs.Trails.{Trail, coming, Stands, Serves, Keeps, IsWholeBody}
+use Rattle.gs_session.specs.Trails.{Trail, coming, Stands, Keeps}
 use Rattle.gs_session.specs.Leads.{LeadsTo, MayCome, IsShut}
 
 -- moves

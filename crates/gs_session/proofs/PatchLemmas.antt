@@ -23,7 +23,7 @@ use Rattle.gs_stream.specs.Requests.{by_body, requests}
 use Rattle.gs_talk.specs.Plans.{Plan, plan_of}
 use Rattle.gs_talk.specs.Bodies.{text_base, refusal_at, rejection_status, Orders}
 use Rattle.gs_talk.specs.Courses.{Did, Short, Course, Patching, Lacking, Dropped, Patched, Memory, Numbers}
-use Rattle.gs_talk.specs.Moves.{after, course}
+use Rattle.gs_talk.specs.Moves.{after}
 use Rattle.gs_talk.specs.Seats.{Deeds}
 use Rattle.gs_talk.specs.Replies.{said_so_far, greeting}
 use Rattle.gs_talk.specs.Logs.{Server, stages_in}

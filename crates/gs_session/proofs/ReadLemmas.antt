@@ -1,10 +1,9 @@
 -- The steps of a removal, a look and a read.
 use Rattle.std.proofs.Common.{◌≡◌, ◌⊎◌, inl, inr, ◌+◌, ◌≤◌, ◌==◌, arith, ℕ, Bool, true, false, cond, not, List, [], ◌∷◌, ◌++◌, length, refl, sym, ap, subst, ◌∙◌, append-nil, append_assoc}
 use Rattle.gs_model.specs.declared.refusals.Refusal.TheVariants as why
-use Rattle.gs_event.specs.declared.events.Action.{Action}
 use Rattle.gs_event.specs.declared.events.Action.TheVariants as act
 use Rattle.gs_event.specs.declared.answers.Answer.{Answer}
-use Rattle.gs_event.specs.declared.answers.Answer.TheVariants.{Opened, Staged, Status, Pinned, Lines, Cancelled, Refused}
+use Rattle.gs_event.specs.declared.answers.Answer.TheVariants.{Status, Pinned, Lines, Refused}
 use Rattle.gs_term.specs.declared.names.Target.{Target}
 use Rattle.gs_transfer.specs.Cuts as cut
 use Rattle.gs_transfer.specs.declared.places.Transfer.{Transfer}
@@ -16,19 +15,19 @@ use Rattle.gs_talk.specs.Plans.{Plan, Deletes, Looks, Reads, opens, plan_of}
 use Rattle.gs_talk.specs.Courses.{Move, Did, Short, Course, Fresh, Late, Numbers, Erased, Looked, Missing, Held, Cutting, Cut, Misanswered}
 use Rattle.gs_talk.specs.Moves.{first, after, course, last_if, at_piece}
 use Rattle.gs_talk.specs.Seats.{Deeds}
-use Rattle.gs_talk.specs.Replies.{BodyState, Whole, Said, IsOwn, Settles, said_so_far, greeting, lines_out}
+use Rattle.gs_talk.specs.Replies.{Whole, Said, IsOwn, Settles, said_so_far, greeting, lines_out}
 use Rattle.gs_talk.specs.Logs.{Server, AllSuit, deeds_of, stages_in}
 use Rattle.gs_session.specs.declared.phases.Phase.{Phase}
-use Rattle.gs_session.specs.declared.phases.Phase.TheVariants.{Between, Serving, Over}
+use Rattle.gs_session.specs.declared.phases.Phase.TheVariants.{Serving, Over}
 use Rattle.gs_session.specs.declared.phases.Work.{Work}
 use Rattle.gs_session.specs.declared.phases.Work.TheVariants.{Skipping, Sending}
 use Rattle.gs_session.specs.declared.phases.Work.TheVariants as work
 use Rattle.gs_session.specs.declared.outcomes.Next.{Next}
 use Rattle.gs_session.specs.Trails.{Trail, Stands}
 use Rattle.gs_session.specs.Leads.{LeadsTo}
-use Rattle.gs_session.specs.Outcomes.{Says, Stops, Replies, RepliesFound, Begins, after_reply, after_piece, without_piece, AfterDelete, AfterHead, AfterPin, AfterPiece}
+use Rattle.gs_session.specs.Outcomes.{Says, Stops, Replies, RepliesFound, Begins, after_reply, AfterDelete, AfterHead, AfterPin, AfterPiece}
 use Rattle.gs_session.proofs.MoveLemmas.{moved, answers}
-use Rattle.gs_session.proofs.ReplyLemmas.{Answers, replies, broke, to_next}
+use Rattle.gs_session.proofs.ReplyLemmas.{replies, broke, to_next}
 
 -- the body of the request that is served is whole, and is this
 abbrev pub IsWholeAt : {s : Server} {e : Bool} {p : Phase} {b x : List ℕ} {h : Deeds} {said : List ℕ} → LeadsTo s e p b x h said → List ℕ → Type 0

@@ -1,21 +1,19 @@
 -- A request is answered by a reply, or by nothing for want of memory; or the door's answer ends the connection.
-use Rattle.std.proofs.Common.{◌≡◌, ◌⊎◌, inl, inr, ◌+◌, ◌≤◌, arith, ℕ, Bool, true, false, cond, not, List, [], ◌∷◌, ◌++◌, length, refl, sym, ap, subst, ◌∙◌, append-nil, append_assoc}
-use Rattle.std.specs.List.{flat_map}
+use Rattle.std.proofs.Common.{◌≡◌, ◌⊎◌, inl, inr, ◌+◌, ◌≤◌, arith, ℕ, Bool, true, false, not, List, [], ◌∷◌, ◌++◌, length, refl, sym, ap, subst, ◌∙◌, append-nil}
 use Rattle.std.proofs.lemmas.List.Concat.{flat_map-append}
 use Rattle.gs_transfer.specs.Cuts.{Cut}
 use Rattle.gs_transfer.specs.Cuts as cut
 use Rattle.gs_verdict.specs.declared.verdicts.Asked.{Asked}
 use Rattle.gs_talk.specs.Plans.{Plan, plan_of}
-use Rattle.gs_talk.specs.Courses.{Move, Did, Short, Course, Mute, Misanswered}
+use Rattle.gs_talk.specs.Courses.{Move, Short, Course, Mute, Misanswered}
 use Rattle.gs_talk.specs.Moves.{after, course}
 use Rattle.gs_talk.specs.Seats.{Deeds}
-use Rattle.gs_talk.specs.Replies.{BodyState, Whole, Said, IsOwn, Settles, said_so_far, greeting, lines_out}
+use Rattle.gs_talk.specs.Replies.{BodyState, Whole, IsOwn, Settles, said_so_far, greeting, lines_out}
 use Rattle.gs_talk.specs.Logs.{Server, AllSuit, deed_of, deeds_of, stages_in}
 use Rattle.gs_session.specs.declared.phases.Phase.{Phase}
-use Rattle.gs_session.specs.declared.phases.Phase.TheVariants.{Between, Serving, Over}
+use Rattle.gs_session.specs.declared.phases.Phase.TheVariants.{Serving, Over}
 use Rattle.gs_session.specs.declared.phases.Work.{Work}
 use Rattle.gs_session.specs.declared.outcomes.Next.{Next}
-use Rattle.gs_session.specs.Trails.{Trail, Serves}
 use Rattle.gs_session.specs.Leads.{LeadsTo}
 use Rattle.gs_session.specs.Outcomes.{Says, Stops, after_reply}
 use Rattle.gs_session.proofs.MoveLemmas.{course-append, suit-append, stages-append, ends, answers}

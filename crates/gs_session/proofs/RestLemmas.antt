@@ -1,5 +1,5 @@
 -- Where nothing can be done before more comes, all that is to be said was said.
-use Rattle.std.proofs.Common.{◌≡◌, ◌⊎◌, inl, inr, ◌+◌, ◌≤◌, arith, ℕ, Bool, true, false, cond, not, List, [], ◌∷◌, ◌++◌, length, refl, sym, ap, subst, ◌∙◌, append-nil, true≢false}
+use Rattle.std.proofs.Common.{◌≡◌, inl, inr, arith, ℕ, Bool, true, false, not, List, [], ◌∷◌, ◌++◌, length, refl, sym, ap, subst, ◌∙◌, append-nil, true≢false}
 use Rattle.gs_transfer.specs.Cuts.{Cut, with_data, ends}
 use Rattle.gs_transfer.specs.Cuts as cut
 use Rattle.gs_transfer.specs.Views.{cut_of}
@@ -9,22 +9,20 @@ use Rattle.gs_stream.specs.Heads.{HeadCut, stripped, head_at}
 use Rattle.gs_stream.specs.Heads as head
 use Rattle.gs_stream.specs.Requests.{Request, Waits, by_body, by_head, requests}
 use Rattle.gs_stream.proofs.RequestLemmas.{reads-on}
-use Rattle.gs_talk.specs.Plans.{opens, plan_of}
-use Rattle.gs_talk.specs.Courses.{Move, Course, Fresh}
+use Rattle.gs_talk.specs.Courses.{Course, Fresh}
 use Rattle.gs_talk.specs.Moves.{course}
 use Rattle.gs_talk.specs.Seats.{Deeds}
-use Rattle.gs_talk.specs.Replies.{BodyState, Unended, IsOwn, said_so_far, data_of}
-use Rattle.gs_talk.specs.Logs.{Server, Log, AnswersAll, AskInHand, InHand, IsRight, Talk, awaits_body, AwaitsBody, IsAtRest, SaysAll, SaysLast, stages_in, deeds, texts}
+use Rattle.gs_talk.specs.Replies.{BodyState, Unended, IsOwn, said_so_far}
+use Rattle.gs_talk.specs.Logs.{Server, Log, AnswersAll, IsRight, awaits_body, SaysAll, SaysLast}
 use Rattle.gs_session.specs.declared.phases.Phase.{Phase}
 use Rattle.gs_session.specs.declared.phases.Phase.TheVariants.{Between, Serving, Over}
 use Rattle.gs_session.specs.declared.phases.Work.{Work}
 use Rattle.gs_session.specs.declared.phases.Work.TheVariants.{Opening, Skipping, Uploading, Committing, Patching, Failing, Sending, Cutting}
 use Rattle.gs_session.specs.declared.sessions.Session.{Session}
-use Rattle.gs_session.specs.declared.sessions.Turn.TheVariants as turn
-use Rattle.gs_session.specs.Trails.{Trail, coming, Serves}
+use Rattle.gs_session.specs.Trails.{Trail, coming}
 use Rattle.gs_session.specs.Leads.{LeadsTo, MayCome}
-use Rattle.gs_session.specs.Steps.{IsStill, AwaitsRest, server_of}
-use Rattle.gs_session.specs.Turns.{Leads, Waits as WaitsRightly, HasEnded, RestsRightly, turn_at}
+use Rattle.gs_session.specs.Steps.{IsStill, server_of}
+use Rattle.gs_session.specs.Turns.{Leads, RestsRightly, turn_at}
 
 pub may_none : (e : Bool) → MayCome e []
 may_none true = refl

@@ -7,15 +7,15 @@ use Rattle.gs_event.specs.declared.answers.Answer.{Answer}
 use Rattle.gs_stream.specs.Requests as stream
 use Rattle.gs_talk.specs.Seats.{Deeds}
 use Rattle.gs_talk.specs.Logs.{Server, Talk, SaysLast, SaysFront}
-use Rattle.gs_talk.specs.Laws.{AreOfKind, IsIdle}
+use Rattle.gs_talk.specs.Laws.{AreOfKind}
 use Rattle.gs_talk.proofs.LogLemmas.{rests_idle}
 use Rattle.gs_session.specs.declared.sessions.Session.{Session}
 use Rattle.gs_session.specs.declared.sessions.Turn.{Turn}
 use Rattle.gs_session.specs.declared.sessions.Turn.TheVariants.{NeedInput, Made, Output, Over}
 use Rattle.gs_session.specs.declared.hosts.Host.{Host}
 use Rattle.gs_session.specs.Leads.{MayCome}
-use Rattle.gs_session.specs.Steps.{Acts, server_of}
-use Rattle.gs_session.specs.Turns.{Leads, IsKept, Turns, HasEnded, Ran, Quits}
+use Rattle.gs_session.specs.Steps.{server_of}
+use Rattle.gs_session.specs.Turns.{Leads, Turns, HasEnded, Ran, Quits}
 use Rattle.gs_session.specs.Connections.{Connection, Goes, Done, Quit, Reads, Loses}
 use Rattle.gs_session.proofs.RestLemmas.{may_none}
 

@@ -1,19 +1,18 @@
 -- A turn: what its last step does, after steps that showed nothing.
-use Rattle.std.proofs.Common.{◌≡◌, ◌==◌, ℕ, Bool, true, false, List, [], ◌∷◌, ◌++◌, length, sym, ap, subst, ◌∙◌, append-nil, refl, arith}
+use Rattle.std.proofs.Common.{◌≡◌, ◌==◌, ℕ, Bool, true, List, [], ◌∷◌, ◌++◌, length, sym, ap, subst, ◌∙◌, append-nil, refl, arith}
 use Rattle.std.proofs.lemmas.Bool.{eqb-true}
 use Rattle.gs_event.specs.declared.events.Event.{Event}
 use Rattle.gs_event.specs.declared.answers.Answer.{Answer}
-use Rattle.gs_talk.specs.Seats.{Deeds}
 use Rattle.gs_session.specs.declared.phases.Phase.{Phase}
 use Rattle.gs_session.specs.declared.hosts.Host.{Host}
 use Rattle.gs_session.specs.declared.outcomes.Next.{Next}
-use Rattle.gs_session.specs.declared.steps.Step.TheVariants.{Made, Wait}
+use Rattle.gs_session.specs.declared.steps.Step.TheVariants.{Made}
 use Rattle.gs_session.specs.declared.sessions.Session.{Session}
 use Rattle.gs_session.specs.declared.sessions.Turn.{Turn}
 use Rattle.gs_session.specs.declared.sessions.Turn.TheVariants as turn
 use Rattle.gs_session.specs.Leads.{LeadsTo}
 use Rattle.gs_session.specs.Steps.{Acts, Steps, IsStill, server_of}
-use Rattle.gs_session.specs.Turns.{Leads, IsKept, Turns, RestsRightly, taken, waiting, turn_at}
+use Rattle.gs_session.specs.Turns.{IsKept, Turns, RestsRightly, taken, waiting, turn_at}
 use Rattle.gs_session.proofs.RestLemmas.{rests_at}
 
 -- a text of which there is nothing

@@ -1,49 +1,39 @@
 -- The steps of an upload.
-use Rattle.std.proofs.Common.{◌≡◌, ◌≢◌, ◌⊎◌, inl, inr, ◌+◌, ◌≤◌, ◌<◌, arith, ℕ, Bool, true, false, cond, not, List, [], ◌∷◌, ◌++◌, length, take, drop, Option, Some, None, refl, sym, ap, subst, ◌∙◌, append-nil, append_assoc, length-append, Vec}
+use Rattle.std.proofs.Common.{◌≡◌, ◌≢◌, ◌+◌, ◌≤◌, ◌<◌, arith, ℕ, Bool, List, [], ◌∷◌, ◌++◌, length, drop, refl, sym, ap, subst, ◌∙◌, append-nil, append_assoc, length-append, Vec}
 use Rattle.std.specs.declared.alloc.Global.{Global}
 use Rattle.gs_model.specs.Triples.{RdfTriple}
-use Rattle.gs_model.specs.declared.refusals.Refusal.{Refusal}
 use Rattle.gs_model.specs.declared.refusals.Refusal.TheVariants as why
-use Rattle.gs_body.specs.Bodies.{Meaning, Ending}
-use Rattle.gs_body.specs.Bodies as body
+use Rattle.gs_body.specs.Bodies.{Meaning}
 use Rattle.gs_event.specs.declared.events.Action.TheVariants as act
 use Rattle.gs_event.specs.declared.answers.Answer.{Answer}
-use Rattle.gs_event.specs.declared.answers.Answer.TheVariants.{Opened, Staged, Status, Pinned, Lines, Cancelled, Refused}
+use Rattle.gs_event.specs.declared.answers.Answer.TheVariants.{Staged, Refused}
 use Rattle.gs_event.specs.declared.events.UploadKind.{UploadKind}
-use Rattle.gs_transfer.specs.Cuts.{Cut, End, with_data, ends}
-use Rattle.gs_transfer.specs.Cuts as cut
+use Rattle.gs_transfer.specs.Cuts.{Cut, with_data}
 use Rattle.gs_transfer.specs.Views.{cut_of}
 use Rattle.gs_transfer.specs.declared.places.Transfer.{Transfer}
 use Rattle.gs_upload.specs.declared.readings.Reading.{Reading}
 use Rattle.gs_upload.specs.declared.readers.TextReader.{TextReader}
 use Rattle.gs_upload.specs.Languages.{meaning_in}
 use Rattle.gs_upload.specs.Readers.{IsFedText}
-use Rattle.gs_upload.specs.Readings.{MeansAll}
-use Rattle.gs_upload.specs.Faults.{HasFault}
 use Rattle.gs_verdict.specs.declared.verdicts.Asked.{Asked}
-use Rattle.gs_reply.specs.Notices.{Nothing}
-use Rattle.gs_reply.specs.Replies.{reply_text}
 use Rattle.gs_stream.specs.Requests.{by_body, requests}
-use Rattle.gs_talk.specs.Plans.{Plan, Uploads, plan_of}
-use Rattle.gs_talk.specs.Bodies.{language_of, text_base, States, refusal_at}
-use Rattle.gs_talk.specs.Courses.{Move, Did, Short, Course, Writing, Lacking, Late, Dropped, Wrote, Memory, Numbers, Misanswered}
-use Rattle.gs_talk.specs.Moves.{after, course, at_stage}
+use Rattle.gs_talk.specs.Plans.{Uploads, plan_of}
+use Rattle.gs_talk.specs.Bodies.{language_of, text_base}
+use Rattle.gs_talk.specs.Courses.{Did, Course, Writing, Lacking, Memory}
+use Rattle.gs_talk.specs.Moves.{after, at_stage}
 use Rattle.gs_talk.specs.Seats.{Deeds}
-use Rattle.gs_talk.specs.Replies.{BodyState, Whole, Faulty, Said, IsOwn, Settles, said_so_far, greeting, name_notice}
-use Rattle.gs_talk.specs.Logs.{Server, AllSuit, deeds_of, stages_in}
-use Rattle.gs_session.specs.declared.phases.Phase.{Phase}
-use Rattle.gs_session.specs.declared.phases.Phase.TheVariants.{Serving, Over}
-use Rattle.gs_session.specs.declared.phases.Work.{Work}
-use Rattle.gs_session.specs.declared.phases.Work.TheVariants.{Uploading, Committing, Failing}
+use Rattle.gs_talk.specs.Replies.{said_so_far}
+use Rattle.gs_talk.specs.Logs.{Server, stages_in}
+use Rattle.gs_session.specs.declared.phases.Phase.TheVariants.{Serving}
+use Rattle.gs_session.specs.declared.phases.Work.TheVariants.{Uploading, Failing}
 use Rattle.gs_session.specs.declared.phases.Want.TheVariants as want
 use Rattle.gs_session.specs.declared.outcomes.Next.{Next}
-use Rattle.gs_session.specs.Trails.{Trail, Stands, IsReading, IsCutBy}
+use Rattle.gs_session.specs.Trails.{Trail, IsReading, IsCutBy}
 use Rattle.gs_session.specs.Leads.{LeadsTo}
 use Rattle.gs_session.specs.Steps.{Passes}
-use Rattle.gs_session.specs.Outcomes.{Says, Stops, Replies, after_reply, AfterStage, AfterCommit, AfterCancel}
-use Rattle.gs_session.proofs.MoveLemmas.{silent, moved, answers}
-use Rattle.gs_session.proofs.ReplyLemmas.{Answers, replies, replies_any, broke, to_next}
-use Rattle.gs_session.proofs.ReadLemmas.{IsWholeAt, few_still, no_more, whole_trail}
+use Rattle.gs_session.specs.Outcomes.{AfterStage}
+use Rattle.gs_session.proofs.MoveLemmas.{silent, moved}
+use Rattle.gs_session.proofs.ReplyLemmas.{broke, to_next}
 
 -- bytes were read, and gave these triples
 abbrev pub Reads : Reading TextReader → Reading TextReader → List ℕ → List RdfTriple → Type 0

@@ -26,7 +26,7 @@ use Rattle.gs_stream.specs.Requests.{by_body, requests}
 use Rattle.gs_talk.specs.Plans.{Plan}
 use Rattle.gs_talk.specs.Bodies.{language_of, text_base, fault_status, States, refusal_at}
 use Rattle.gs_talk.specs.Courses.{Short, Course, Writing, Lacking, Memory}
-use Rattle.gs_talk.specs.Moves.{first, after, course}
+use Rattle.gs_talk.specs.Moves.{first, after}
 use Rattle.gs_talk.specs.Seats.{Deeds}
 use Rattle.gs_talk.specs.Replies.{said_so_far, greeting}
 use Rattle.gs_talk.specs.Logs.{Server, stages_in}

@@ -1,5 +1,5 @@
 -- What the next head leads to.
-use Rattle.std.specs.Prelude.{◌≡◌, ◌⊎◌, ℕ, Bool, true, false, cond, List, []}
+use Rattle.std.specs.Prelude.{◌≡◌, ◌⊎◌, ℕ, true, false, cond, List, []}
 use Rattle.gs_transfer.specs.declared.places.Transfer.{Transfer}
 use Rattle.gs_verdict.specs.declared.verdicts.Asked.{Asked}
 use Rattle.gs_verdict.specs.declared.verdicts.Verdict.{Verdict}

@@ -1,5 +1,5 @@
 -- The histories that lead to a session's state, and what a turn adds to them.
-use Rattle.std.specs.Prelude.{◌≡◌, ℕ, Bool, true, false, List, [], ◌∷◌, ◌++◌}
+use Rattle.std.specs.Prelude.{◌≡◌, ℕ, Bool, true, false, List, [], ◌++◌}
 use Rattle.gs_stream.specs.Requests.{Request, requests}
 use Rattle.gs_talk.specs.Courses.{Move}
 use Rattle.gs_talk.specs.Seats.{Deeds}

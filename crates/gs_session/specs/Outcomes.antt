@@ -1,5 +1,5 @@
 -- What an answer of the store leads to: the next phase, and what is said.
-use Rattle.std.specs.Prelude.{◌≡◌, ◌⊎◌, ◌==◌, ℕ, Bool, cond, true, false, List, [], ◌++◌, Vec}
+use Rattle.std.specs.Prelude.{◌≡◌, ◌⊎◌, ◌==◌, ℕ, Bool, cond, true, List, [], ◌++◌, Vec}
 use Rattle.std.specs.declared.alloc.Global.{Global}
 use Rattle.gs_model.specs.declared.refusals.Refusal.TheVariants.{NoMemory, LastNumber}
 use Rattle.gs_event.specs.declared.answers.Answer.{Answer}
@@ -12,7 +12,7 @@ use Rattle.gs_upload.specs.Readers.{IsFedText}
 use Rattle.gs_verdict.specs.Checks.{limit_of}
 use Rattle.gs_verdict.specs.declared.verdicts.Asked.{Asked}
 use Rattle.gs_reply.specs.Notices.{Notice, Nothing}
-use Rattle.gs_reply.specs.Replies.{reply_text, lines_head, chunk, last_chunk}
+use Rattle.gs_reply.specs.Replies.{reply_text, lines_head, chunk}
 use Rattle.gs_talk.specs.Bodies.{language_of, text_base}
 use Rattle.gs_talk.specs.Moves.{last_if}
 use Rattle.gs_talk.specs.Replies.{name_notice, ends_early}

@@ -1,5 +1,5 @@
 -- What a session has said and done, and what a turn adds to that.
-use Rattle.std.specs.Prelude.{◌≡◌, ◌≢◌, ◌⊎◌, ℕ, Bool, true, false, cond, List, [], ◌∷◌, ◌++◌}
+use Rattle.std.specs.Prelude.{◌≡◌, ◌≢◌, ℕ, Bool, true, false, cond, List, [], ◌∷◌, ◌++◌}
 use Rattle.gs_event.specs.declared.events.Event.{Event}
 use Rattle.gs_event.specs.declared.events.Action.{Action}
 use Rattle.gs_event.specs.declared.answers.Answer.{Answer}

@@ -1,4 +1,4 @@
-use Rattle.std.proofs.Common.{◌≡◌, ◌+◌, ◌-◌, ◌≤◌, ◌++◌, subst, sym, ap, ◌∙◌, take, drop, length, arith, List, ℕ, take_all, length-drop, refl}
+use Rattle.std.proofs.Common.{◌≡◌, ◌+◌, ◌-◌, ◌≤◌, ◌++◌, subst, sym, ap, ◌∙◌, take, drop, length, arith, List, ℕ, take_all, length-drop}
 use Rattle.std.proofs.Math.Seq.{take-add}
 use Rattle.std.specs.Io.KnownBytes.{Appends}
 use Rattle.gs_session.proofs.ServeLemmas.{appends_more}

@@ -1,7 +1,6 @@
-use Rattle.std.proofs.Common.{refl, sym, ap, ◌∙◌, ℕ, List, [], take, subst}
+use Rattle.std.proofs.Common.{ℕ, List, take, subst}
 use Rattle.std.specs.Io.KnownBytes.{Appends}
 use Rattle.gs_session.specs.declared.sessions.Turn.TheVariants.{NeedInput, Made, Output, Over}
-use Rattle.gs_session.specs.declared.sessions.Session.{Session}
 use Rattle.gs_session.proofs.ServeLemmas.{at_end, after_turn, cut_short, after_read, failed_read, appends_none}
 use Rattle.gs_session.proofs.serving.round.Goals as goal
 

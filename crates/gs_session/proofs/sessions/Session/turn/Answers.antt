@@ -1,6 +1,6 @@
-use Rattle.std.proofs.Common.{◌==◌, subst, sym, ap, ◌∙◌, ℕ, List}
+use Rattle.std.proofs.Common.{◌==◌, subst, sym, ap, ◌∙◌}
 use Rattle.gs_session.specs.declared.phases.Phase.{Phase}
-use Rattle.gs_session.specs.declared.steps.Step.TheVariants.{Made, Wait}
+use Rattle.gs_session.specs.declared.steps.Step.TheVariants.{Made}
 use Rattle.gs_session.specs.declared.sessions.Session.{Session}
 use Rattle.gs_session.specs.declared.sessions.Turn.TheVariants as turn
 use Rattle.gs_session.specs.Steps.{Steps}

@@ -1,4 +1,4 @@
-use Rattle.std.proofs.Common.{◌≡◌, ℕ, List, Bool}
+use Rattle.std.proofs.Common.{◌≡◌}
 use Rattle.gs_session.specs.Steps.{effort}
 use Rattle.gs_session.specs.Turns.{IsKept}
 use Rattle.gs_session.proofs.sessions.Session.turn.Given as goal

@@ -1,4 +1,4 @@
-use Rattle.std.proofs.Common.{◌≡◌, ◌++◌, ap, ◌∙◌, true, codes, string_bytes}
+use Rattle.std.proofs.Common.{ap, ◌∙◌, string_bytes}
 use Rattle.gs_model.specs.Iris.{is_absolute}
 use Rattle.gs_session.proofs.SiteLemmas.{store_absolute}
 use Rattle.gs_session.proofs.sites.Site.text_base.Goals as goal
