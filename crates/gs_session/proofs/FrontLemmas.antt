@@ -58,7 +58,7 @@ hand_none s e (Waits a front ∷ rs) = (said_so_far a Fresh, begins s a (Unended
 nothing_done : {s : Server} {e : Bool} {p : Phase} {b x : List ℕ} {h : Deeds} {said : List ℕ} (l : LeadsTo s e p b x h said) → l.now ≡ [] → h ++ [] ≡ deeds l.log
 nothing_done {s} {e} {p} {b} {x} {h} l f = append-nil h ∙ l.done ∙ ap (λ (ms : List Move). deeds l.log ++ deeds_of ms) f ∙ append-nil (deeds l.log)
 
-none_front : {s : Server} {e : Bool} (p : Phase) (b x : List ℕ) (h : Deeds) (w due : List ℕ) (l : LeadsTo s e p b x h (w ++ due)) → l.now ≡ [] → l.text ≡ [] → (y : List ℕ) → MayCome e y
+pub none_front : {s : Server} {e : Bool} (p : Phase) (b x : List ℕ) (h : Deeds) (w due : List ℕ) (l : LeadsTo s e p b x h (w ++ due)) → l.now ≡ [] → l.text ≡ [] → (y : List ℕ) → MayCome e y
     → SaysFront s e (x ++ y) (h ++ []) w
 none_front {s} {e} p b x h w due l f g y may =
     let rest : List Request = coming s.base p l.trail (b ++ y) in
@@ -97,38 +97,32 @@ more_done : {s : Server} {e : Bool} {p : Phase} {b x : List ℕ} {h : Deeds} {sa
 more_done l ms =
     ap (λ z. z ++ deeds_of ms) l.done ∙ append_assoc (deeds l.log) (deeds_of l.now) (deeds_of ms) ∙ ap (λ z. deeds l.log ++ z) (sym (flat_map-append deed_of l.now ms))
 
--- a request in hand, after some more moves
-serving : {s : Server} {e : Bool} (seat : ℕ) (a : Asked) (k : Work) (b x : List ℕ) (h : Deeds) (w due : List ℕ) (l : LeadsTo s e (Serving a k) b x h (w ++ due)) (ms : List Move)
-    → AllSuit s.piece (plan_of a) ms → stages_in ms ≡ 0 → GivesUp s.base a l.trail l.trail.course (course a l.trail.course ms) → (y : List ℕ) → MayCome e y
-    → Fronts s e seat (x ++ y) (h ++ deeds_of ms) w
-serving {s} {e} seat a k b x h w due l ms suit few g y may = (
-  (
-    coming s.base (Serving a k) l.trail (b ++ y),
-    due,
-    record {
-      log = l.log;
-      now = l.now ++ ms;
-      text = l.text;
-      answers = answered_with l y may;
-      hand = hand g.own;
-      done = more_done l ms;
-      written = l.written;
-    },
-  ),
-  λ o. subst IsIdle (sym (more_done l ms))
-      (talk_idle s e seat l.log (requests s.base x) (coming s.base (Serving a k) l.trail b) a (l.now ++ ms) (subst (λ (d : Deeds). AreOfKind seat d) (more_done l ms) o) (answered_now l)
-      (suit-append s.piece (plan_of a) l.now ms l.keeps.suits suit) (subst IsRight (sym is) g.right)
-      (subst (λ (c : Course). (phase_at (plan_of a) c ≡ phase.Idle) ⊎ IsBroken c) (sym is) g.idle)),
+goes_on : {s : Server} {e : Bool} {a : Asked} {k : Work} {b x : List ℕ} {h : Deeds} {said : List ℕ} (l : LeadsTo s e (Serving a k) b x h said) (ms : List Move) → course a Fresh (l.now ++ ms) ≡ course a l.trail.course ms
+goes_on {a = a} l ms = course-append a Fresh l.now ms ∙ ap (λ (c : Course). course a c ms) l.keeps.came
+
+-- what was done for a request in hand, with some more moves, after which nothing more was said
+pub serving_front : {s : Server} {e : Bool} (a : Asked) (k : Work) (b x : List ℕ) (h : Deeds) (w due : List ℕ) (l : LeadsTo s e (Serving a k) b x h (w ++ due)) (ms : List Move)
+    → AllSuit s.piece (plan_of a) ms → stages_in ms ≡ 0 → IsRight (course a l.trail.course ms) → said_so_far a l.trail.course ≡ said_so_far a (course a l.trail.course ms)
+    → Owned s.base a l.trail (course a l.trail.course ms) → (y : List ℕ) → MayCome e y → SaysFront s e (x ++ y) (h ++ deeds_of ms) w
+serving_front {s} {e} a k b x h w due l ms suit few right said own y may = (
+  coming s.base (Serving a k) l.trail (b ++ y),
+  due,
+  record {
+    log = l.log;
+    now = l.now ++ ms;
+    text = l.text;
+    answers = answered_with l y may;
+    hand = hand own;
+    done = more_done l ms;
+    written = l.written;
+  },
 )
   where
-    is : course a Fresh (l.now ++ ms) ≡ course a l.trail.course ms
-    is = course-append a Fresh l.now ms ∙ ap (λ (c : Course). course a c ms) l.keeps.came
-
     at_now : (o : BodyState) → IsOwn s.base a o (course a l.trail.course ms) → stages_in l.now ≤ length (data_of o) + 1 → AskInHand s a o (l.now ++ ms) l.text
     at_now o q m = (
-      (suit-append s.piece (plan_of a) l.now ms l.keeps.suits suit, subst (λ (c : Course). IsOwn s.base a o c) (sym is) q, omega (arith, m, stages-append l.now ms, few)),
-      subst IsRight (sym is) g.right,
-      l.keeps.said ∙ g.said ∙ ap (λ (c : Course). said_so_far a c) (sym is),
+      (suit-append s.piece (plan_of a) l.now ms l.keeps.suits suit, subst (λ (c : Course). IsOwn s.base a o c) (sym (goes_on l ms)) q, omega (arith, m, stages-append l.now ms, few)),
+      subst IsRight (sym (goes_on l ms)) right,
+      l.keeps.said ∙ said ∙ ap (λ (c : Course). said_so_far a c) (sym (goes_on l ms)),
     )
 
     at_end : (d : List ℕ) (n : End) → stages_in l.now ≤ length d + 1 → ((o : BodyState) → IsOwn s.base a o (course a l.trail.course ms)) → InHand s e (by_end (requests s.base) a d n) (l.now ++ ms) l.text
@@ -141,6 +135,18 @@ serving {s} {e} seat a k b x h w due l ms suit few g y may = (
     hand (inr q) =
         subst (λ (v : Cut). InHand s e (by_body (requests s.base) a v) (l.now ++ ms) l.text) (sym (q.1 (b ++ y)))
         (at_now (Whole q.0) q.2 (omega (arith, l.keeps.few (b ++ y), ap (λ (v : Cut). length v.bytes) (q.1 (b ++ y)))))
+
+-- the same, where these moves give it up
+serving : {s : Server} {e : Bool} (seat : ℕ) (a : Asked) (k : Work) (b x : List ℕ) (h : Deeds) (w due : List ℕ) (l : LeadsTo s e (Serving a k) b x h (w ++ due)) (ms : List Move)
+    → AllSuit s.piece (plan_of a) ms → stages_in ms ≡ 0 → GivesUp s.base a l.trail l.trail.course (course a l.trail.course ms) → (y : List ℕ) → MayCome e y
+    → Fronts s e seat (x ++ y) (h ++ deeds_of ms) w
+serving {s} {e} seat a k b x h w due l ms suit few g y may = (
+  serving_front a k b x h w due l ms suit few g.right g.said g.own y may,
+  λ o. subst IsIdle (sym (more_done l ms))
+      (talk_idle s e seat l.log (requests s.base x) (coming s.base (Serving a k) l.trail b) a (l.now ++ ms) (subst (λ (d : Deeds). AreOfKind seat d) (more_done l ms) o) (answered_now l)
+      (suit-append s.piece (plan_of a) l.now ms l.keeps.suits suit) (subst IsRight (sym (goes_on l ms)) g.right)
+      (subst (λ (c : Course). (phase_at (plan_of a) c ≡ phase.Idle) ⊎ IsBroken c) (sym (goes_on l ms)) g.idle)),
+)
 
 -- nothing was opened
 fresh : (base : List ℕ) (a : Asked) (t : Trail) → t.course ≡ Fresh → GivesUp base a t t.course t.course
@@ -195,30 +201,32 @@ cancelled base a (work.Skipping transfer) t stages answer f j = cc
 
 -- A session that serves no request has nothing to cancel.
 pub quits_unserving : {D : Type 0} (gives : D → Event → Answer → D → Type 0) (s : Session) (old new : D) → ((a : Asked) (k : Work) → s.phase ≡ Serving a k → ⊥) → new ≡ old → Quits gives s old new
-quits_unserving gives s old new n f = ([], f, λ x h w y l may. at_phase s.phase n x h w y l may) where
-  at_phase : (p : Phase) → ((a : Asked) (k : Work) → p ≡ Serving a k → ⊥) → (x : List ℕ) (h : Deeds) (w y : List ℕ) → LeadsTo (server_of s.host) s.ended p s.input x h (w ++ s.due.items) → MayCome s.ended y
-      → Fronts (server_of s.host) s.ended s.host.seat (x ++ y) (h ++ []) w
-  at_phase Between n x h w y l may = (none_front Between s.input x h w s.due.items l l.keeps.0 l.keeps.1 y may, none_idle s.host.seat Between s.input x h (w ++ s.due.items) l l.keeps.0)
-  at_phase Over n x h w y l may = (none_front Over s.input x h w s.due.items l l.keeps.0 l.keeps.1 y may, none_idle s.host.seat Over s.input x h (w ++ s.due.items) l l.keeps.0)
+quits_unserving gives s old new n f = ([], inl refl, f, λ x h w y l may. at_phase s.phase n x h w y l may) where
+  at_phase : (p : Phase) → ((a : Asked) (k : Work) → p ≡ Serving a k → ⊥) → (x : List ℕ) (h : Deeds) (w y : List ℕ) → LeadsTo (server_of s.setup) s.ended p s.input x h (w ++ s.due.items) → MayCome s.ended y
+      → Fronts (server_of s.setup) s.ended s.setup.seat (x ++ y) (h ++ []) w
+  at_phase Between n x h w y l may = (none_front Between s.input x h w s.due.items l l.keeps.0 l.keeps.1 y may, none_idle s.setup.seat Between s.input x h (w ++ s.due.items) l l.keeps.0)
+  at_phase Over n x h w y l may = (none_front Over s.input x h w s.due.items l l.keeps.0 l.keeps.1 y may, none_idle s.setup.seat Over s.input x h (w ++ s.due.items) l l.keeps.0)
   at_phase (Serving a k) n x h w y l may = absurd (n a k refl)
 
 -- Where nothing was opened, there is nothing to be cancelled.
 pub quits_unopened : {D : Type 0} (gives : D → Event → Answer → D → Type 0) (s : Session) (old new : D) (a : Asked) (k : Work) → s.phase ≡ Serving a k → has_opened k ≡ false → new ≡ old → Quits gives s old new
 quits_unopened gives s old new a k at f g = (
   [],
+  inl refl,
   g,
   λ x h w y l may.
-      let m = subst (λ (p : Phase). LeadsTo (server_of s.host) s.ended p s.input x h (w ++ s.due.items)) at l in
-      serving s.host.seat a k s.input x h w s.due.items m [] tt refl (unopened s.host.site a k m.trail (stages_in m.now) f m.keeps.stands) y may,
+      let m = subst (λ (p : Phase). LeadsTo (server_of s.setup) s.ended p s.input x h (w ++ s.due.items)) at l in
+      serving s.setup.seat a k s.input x h w s.due.items m [] tt refl (unopened s.setup.site a k m.trail (stages_in m.now) f m.keeps.stands) y may,
 )
 
 -- What was opened is cancelled.
 pub quits_cancelled : {D : Type 0} (gives : D → Event → Answer → D → Type 0) (s : Session) (old mid new : D) (a : Asked) (k : Work) (answer : Answer) → s.phase ≡ Serving a k → has_opened k ≡ true
-    → Acts gives s.host.seat old Cancel answer mid → new ≡ mid → Quits gives s old new
+    → Acts gives s.setup.seat old Cancel answer mid → new ≡ mid → Quits gives s old new
 quits_cancelled gives s old mid new a k answer at f g i = (
   (Cancel, answer) ∷ [],
+  inr (answer, refl),
   (mid, g, i),
   λ x h w y l may.
-      let m = subst (λ (p : Phase). LeadsTo (server_of s.host) s.ended p s.input x h (w ++ s.due.items)) at l in
-      serving s.host.seat a k s.input x h w s.due.items m (Did Cancel answer ∷ []) (tt, tt) refl (cancelled s.host.site a k m.trail (stages_in m.now) answer f m.keeps.stands) y may,
+      let m = subst (λ (p : Phase). LeadsTo (server_of s.setup) s.ended p s.input x h (w ++ s.due.items)) at l in
+      serving s.setup.seat a k s.input x h w s.due.items m (Did Cancel answer ∷ []) (tt, tt) refl (cancelled s.setup.site a k m.trail (stages_in m.now) answer f m.keeps.stands) y may,
 )

@@ -31,7 +31,7 @@ use Rattle.gs_session.specs.declared.phases.Work.{Work}
 use Rattle.gs_session.specs.declared.phases.Work.TheVariants.{Opening, Skipping, Uploading, Committing, Patching, Failing, Sending}
 use Rattle.gs_session.specs.declared.phases.Work.TheVariants as work
 use Rattle.gs_session.specs.declared.outcomes.Next.{Next}
-use Rattle.gs_session.specs.declared.hosts.Host.{Host}
+use Rattle.gs_session.specs.declared.setups.Setup.{Setup}
 use Rattle.gs_session.specs.declared.steps.Step.TheVariants.{Silent, Wait}
 use Rattle.gs_session.specs.Trails.{coming, Keeps, Stands}
 use Rattle.gs_session.specs.Leads.{LeadsTo}
@@ -264,31 +264,31 @@ rank-small (Serving a Sending) = omega arith
 rank-small (Serving a work.Cutting) = omega arith
 
 -- The next head has not come whole.
-pub waits_between : (host : Host) (e : Bool) (old new : List ℕ) → new ≡ stripped old → heads.Open ≡ head_at new → Rests host e Between old (Wait Between) new
-waits_between host e old new f g = (
+pub waits_between : (setup : Setup) (e : Bool) (old new : List ℕ) → new ≡ stripped old → heads.Open ≡ head_at new → Rests setup e Between old (Wait Between) new
+waits_between setup e old new f g = (
   ap head_at (ap stripped f ∙ strip-twice old ∙ sym f) ∙ sym g,
-  λ x h said l. subst (λ (b : List ℕ). LeadsTo (server_of host) e Between b x h said) (sym f) (lead_dropped old x h said l),
+  λ x h said l. subst (λ (b : List ℕ). LeadsTo (server_of setup) e Between b x h said) (sym f) (lead_dropped old x h said l),
 )
 
 fewer : (old new : List ℕ) (n : ℕ) → new ≡ drop n old → length new ≤ length old
 fewer old new n f = omega (arith, ap length f, length-drop n old)
 
 -- It is too long.
-pub denies_long : (host : Host) (e : Bool) (old new : List ℕ) (k : ℕ) (n : Next) → new ≡ drop k old → new ≡ stripped old → TooLong ≡ head_at new → Replies n 431 true → Rests host e Between old (Silent n) new
-denies_long host e old new k n q f g o =
+pub denies_long : (setup : Setup) (e : Bool) (old new : List ℕ) (k : ℕ) (n : Next) → new ≡ drop k old → new ≡ stripped old → TooLong ≡ head_at new → Replies n 431 true → Rests setup e Between old (Silent n) new
+denies_long setup e old new k n q f g o =
     let bare : stripped new ≡ new = ap stripped f ∙ strip-twice old ∙ sym f in (
       omega (arith, fewer old new k q, ap rank (over_next n (reply_text 431 Nothing true) o)),
-      λ x h said l. denied_leads too_long new new x h said (subst (λ (b : List ℕ). LeadsTo (server_of host) e Between b x h said) (sym f) (lead_dropped old x h said l))
-          (λ y. long-requests host.site new y bare (sym g)) n o,
+      λ x h said l. denied_leads too_long new new x h said (subst (λ (b : List ℕ). LeadsTo (server_of setup) e Between b x h said) (sym f) (lead_dropped old x h said l))
+          (λ y. long-requests setup.site new y bare (sym g)) n o,
     )
 
 -- It is whole, and taken.
-pub takes_head : (host : Host) (e : Bool) (old b new : List ℕ) (k m : ℕ) (n : Next) → b ≡ drop k old → b ≡ stripped old → Whole (take m b) (drop m b) ≡ head_at b → m ≤ length b → 0 < m → new ≡ drop m b
-    → AfterHead (verdict_of host.site (take m b)) n → Rests host e Between old (Silent n) new
-takes_head host e old b new k m n q f g within some w o =
+pub takes_head : (setup : Setup) (e : Bool) (old b new : List ℕ) (k m : ℕ) (n : Next) → b ≡ drop k old → b ≡ stripped old → Whole (take m b) (drop m b) ≡ head_at b → m ≤ length b → 0 < m → new ≡ drop m b
+    → AfterHead (verdict_of setup.site (take m b)) n → Rests setup e Between old (Silent n) new
+takes_head setup e old b new k m n q f g within some w o =
     let bare : stripped b ≡ b = ap stripped f ∙ strip-twice old ∙ sym f in (
       omega (arith, fewer old b k q, ap length w, length-drop m b, within, some, rank-small n.phase),
-      λ x h said l. subst (λ (z : List ℕ). LeadsTo (server_of host) e n.phase z x h (said ++ n.said.items)) (sym w)
-          (head_leads (verdict_of host.site (take m b)) b (drop m b) x h said (subst (λ (z : List ℕ). LeadsTo (server_of host) e Between z x h said) (sym f) (lead_dropped old x h said l))
-          (λ y. whole-requests host.site b (take m b) (drop m b) y bare (sym g)) n o),
+      λ x h said l. subst (λ (z : List ℕ). LeadsTo (server_of setup) e n.phase z x h (said ++ n.said.items)) (sym w)
+          (head_leads (verdict_of setup.site (take m b)) b (drop m b) x h said (subst (λ (z : List ℕ). LeadsTo (server_of setup) e Between z x h said) (sym f) (lead_dropped old x h said l))
+          (λ y. whole-requests setup.site b (take m b) (drop m b) y bare (sym g)) n o),
     )

@@ -17,3 +17,7 @@ pub mod RestLemmas
 pub mod TurnLemmas
 pub mod FrontLemmas
 pub mod ServeLemmas
+pub mod AllowLemmas
+pub mod TalkLemmas
+pub mod StoreLemmas
+pub mod MomentLemmas

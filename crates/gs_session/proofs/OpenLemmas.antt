@@ -31,7 +31,7 @@ use Rattle.gs_session.specs.declared.phases.Work.TheVariants.{Opening, Uploading
 use Rattle.gs_session.specs.declared.phases.Work.TheVariants as work
 use Rattle.gs_session.specs.declared.phases.Want.TheVariants as want
 use Rattle.gs_session.specs.declared.outcomes.Next.{Next}
-use Rattle.gs_session.specs.declared.hosts.Host.{Host}
+use Rattle.gs_session.specs.declared.setups.Setup.{Setup}
 use Rattle.gs_session.specs.declared.steps.Step.TheVariants.{Silent}
 use Rattle.gs_session.specs.Trails.{Trail}
 use Rattle.gs_session.specs.Leads.{LeadsTo}
@@ -182,19 +182,19 @@ over_next n v (inl o) = o.0
 over_next n v (inr o) = o.0
 
 -- There was no memory for the greeting, or for the plan.
-pub open_short : (host : Host) (e : Bool) (a : Asked) (b : List ℕ) (n : Next) → Replies n 503 true → Rests host e (Serving a Opening) b (Silent n) b
-open_short host e a b n o = (
+pub open_short : (setup : Setup) (e : Bool) (a : Asked) (b : List ℕ) (n : Next) → Replies n 503 true → Rests setup e (Serving a Opening) b (Silent n) b
+open_short setup e a b n o = (
   omega (arith, ap rank (over_next n (reply_text 503 Nothing true) o)),
-  λ x h said l. subst (λ (z : Deeds). LeadsTo (server_of host) e n.phase b x z (said ++ n.said.items)) (append-nil h)
+  λ x h said l. subst (λ (z : Deeds). LeadsTo (server_of setup) e n.phase b x z (said ++ n.said.items)) (append-nil h)
       (early_memory a Short b x h said l tt refl (first_is a l.trail.course (plan_of a) Short l.keeps.stands.0 refl ∙ early_is a (plan_of a)) n o),
 )
 
 -- The Open of an upload, as a step.
-pub open_makes : (host : Host) (e : Bool) (a : Asked) (k : UploadKind) (answer : Answer) (b text : List ℕ) (n : Next) → Uploads k ≡ plan_of a → text ≡ greeting_of a → AfterOpen host.site a text answer n
-    → Makes (server_of host) e (Serving a Opening) b n.phase b (act.Open k) answer n.said.items
-open_makes host e a k answer b text n is f o = λ x h said l. open_leads a k answer b x h said l (sym is) n (subst (λ u. AfterOpen host.site a u answer n) f o)
+pub open_makes : (setup : Setup) (e : Bool) (a : Asked) (k : UploadKind) (answer : Answer) (b text : List ℕ) (n : Next) → Uploads k ≡ plan_of a → text ≡ greeting_of a → AfterOpen setup.site a text answer n
+    → Makes (server_of setup) e (Serving a Opening) b n.phase b (act.Open k) answer n.said.items
+open_makes setup e a k answer b text n is f o = λ x h said l. open_leads a k answer b x h said l (sym is) n (subst (λ u. AfterOpen setup.site a u answer n) f o)
 
 -- The Open of a patch, as a step.
-pub open_patch_makes : (host : Host) (e : Bool) (a : Asked) (t : Target) (answer : Answer) (b text : List ℕ) (n : Next) → Patches t ≡ plan_of a → text ≡ greeting_of a → AfterOpenPatch a text answer n
-    → Makes (server_of host) e (Serving a Opening) b n.phase b (act.OpenPatch t) answer n.said.items
-open_patch_makes host e a t answer b text n is f o = λ x h said l. open_patch_leads a t answer b x h said l (sym is) n (subst (λ u. AfterOpenPatch a u answer n) f o)
+pub open_patch_makes : (setup : Setup) (e : Bool) (a : Asked) (t : Target) (answer : Answer) (b text : List ℕ) (n : Next) → Patches t ≡ plan_of a → text ≡ greeting_of a → AfterOpenPatch a text answer n
+    → Makes (server_of setup) e (Serving a Opening) b n.phase b (act.OpenPatch t) answer n.said.items
+open_patch_makes setup e a t answer b text n is f o = λ x h said l. open_patch_leads a t answer b x h said l (sym is) n (subst (λ u. AfterOpenPatch a u answer n) f o)

@@ -33,13 +33,13 @@ use Rattle.gs_session.specs.declared.phases.Work.{Work}
 use Rattle.gs_session.specs.declared.phases.Work.TheVariants as work
 use Rattle.gs_session.specs.declared.phases.Work.TheVariants.{Failing}
 use Rattle.gs_session.specs.declared.phases.Want.TheVariants as want
-use Rattle.gs_session.specs.declared.hosts.Host.{Host}
+use Rattle.gs_session.specs.declared.setups.Setup.{Setup}
 use Rattle.gs_session.specs.declared.outcomes.Next.{Next}
 use Rattle.gs_session.specs.declared.steps.Step.{Step}
 use Rattle.gs_session.specs.declared.steps.Step.TheVariants.{Silent, Made, Wait}
 use Rattle.gs_session.specs.Leads.{LeadsTo}
-use Rattle.gs_session.specs.Outcomes.{Says, Stops, AfterOrder, AfterCancel}
-use Rattle.gs_session.specs.Steps.{Does, Steps, Passes, Rests, effort, server_of}
+use Rattle.gs_session.specs.Outcomes.{Says, Stops, AfterCommitPatch, AfterCancel}
+use Rattle.gs_session.specs.Steps.{Does, DoesStep, GivesData, Rests, effort, server_of}
 use Rattle.gs_session.proofs.MoveLemmas.{silent, moved}
 use Rattle.gs_session.proofs.ReplyLemmas.{replies, broke, to_next}
 use Rattle.gs_session.proofs.ReadLemmas.{IsWholeAt, few_still, no_more, reads_on}
@@ -66,7 +66,7 @@ patch_refusal {s} a k b x h said l r body why at is =
 
 -- The body is whole, and is an update: the CommitPatch is made.
 pub order_leads : {s : Server} {e : Bool} (a : Asked) (k : Work) (r : ℕ) (ops : Vec Op Global) (answer : Answer) (b x : List ℕ) (h : Deeds) (said body : List ℕ) (l : LeadsTo s e (Serving a k) b x h said)
-    → l.trail.course ≡ Patching r → IsWholeAt l body → Orders s.base a r body ops.items → (n : Next) → AfterOrder a answer n
+    → l.trail.course ≡ Patching r → IsWholeAt l body → Orders s.base a r body ops.items → (n : Next) → AfterCommitPatch a answer n
     → LeadsTo s e n.phase b x (h ++ (act.CommitPatch ops, answer) ∷ []) (said ++ n.said.items)
 order_leads a k r ops (Status st name) b x h said body l at whole orders n o =
     replies a k (Did (act.CommitPatch ops) (Status st name) ∷ []) (Patched r ops.items st) body (reply_text st Nothing a.closes) a.closes b x h said l whole
@@ -111,7 +111,7 @@ few_patch a r v t t2 bytes b x h said l z =
 
 -- More of a patch's body is kept.
 pub patch_on : {s : Server} {e : Bool} (a : Asked) (r : ℕ) (v v2 : Vec ℕ Global) (t t2 : Transfer) (bytes b x : List ℕ) (n : ℕ) (h : Deeds) (said : List ℕ) (l : LeadsTo s e (Serving a (work.Patching r v t)) b x h said)
-    → Passes t t2 b bytes n → v2.items ≡ v.items ++ bytes → LeadsTo s e (Serving a (work.Patching r v2 t2)) (drop n b) x h said
+    → GivesData t t2 b bytes n → v2.items ≡ v.items ++ bytes → LeadsTo s e (Serving a (work.Patching r v2 t2)) (drop n b) x h said
 patch_on {s} a r v v2 t t2 bytes b x n h said l p is =
     silent (Serving a (work.Patching r v t)) (Serving a (work.Patching r v2 t2)) b (drop n b) x h said l (part_trail (v.items ++ bytes) t2 (Patching r))
     (λ y. ap (λ (c : Cut). by_body (requests s.base) a c) (seam l.trail v.items bytes b t t2 n l.keeps.stands.1 p y))
@@ -124,32 +124,32 @@ patch_on {s} a r v v2 t t2 bytes b x n h said l p is =
     }) (λ i. tt)
 
 -- The next bytes of a patch's body are kept, or are none of its data.
-pub keep_rests : (host : Host) (e : Bool) (a : Asked) (r : ℕ) (v v2 : Vec ℕ Global) (t t2 : Transfer) (bytes b c : List ℕ) (count : ℕ) (n : Next)
-    → 0 < count → count ≤ length b → Passes t t2 b bytes count → v2.items ≡ v.items ++ bytes → Says n (Serving a (work.Patching r v2 t2)) [] → c ≡ drop count b
-    → Rests host e (Serving a (work.Patching r v t)) b (Silent n) c
-keep_rests host e a r v v2 t t2 bytes b c count n some within p more y is =
-    subst (λ (c : List ℕ). Rests host e (Serving a (work.Patching r v t)) b (Silent n) c) (sym is) (
+pub keep_rests : (setup : Setup) (e : Bool) (a : Asked) (r : ℕ) (v v2 : Vec ℕ Global) (t t2 : Transfer) (bytes b c : List ℕ) (count : ℕ) (n : Next)
+    → 0 < count → count ≤ length b → GivesData t t2 b bytes count → v2.items ≡ v.items ++ bytes → Says n (Serving a (work.Patching r v2 t2)) [] → c ≡ drop count b
+    → Rests setup e (Serving a (work.Patching r v t)) b (Silent n) c
+keep_rests setup e a r v v2 t t2 bytes b c count n some within p more y is =
+    subst (λ (c : List ℕ). Rests setup e (Serving a (work.Patching r v t)) b (Silent n) c) (sym is) (
       subst (λ (p : Phase). effort p (drop count b) < effort (Serving a (work.Patching r v t)) b) (sym y.0) (used_less count b 2 some within),
       λ x h said l. to_next n (Serving a (work.Patching r v2 t2)) [] (drop count b) x h said y
-          (subst (λ z. LeadsTo (server_of host) e (Serving a (work.Patching r v2 t2)) (drop count b) x h z) (sym (append-nil said)) (patch_on a r v v2 t t2 bytes b x count h said l p more)),
+          (subst (λ z. LeadsTo (server_of setup) e (Serving a (work.Patching r v2 t2)) (drop count b) x h z) (sym (append-nil said)) (patch_on a r v v2 t t2 bytes b x count h said l p more)),
     )
 
 -- There was no memory for the next bytes of a patch's body.
-pub keep_fails : (host : Host) (e : Bool) (a : Asked) (r : ℕ) (v : Vec ℕ Global) (t t2 : Transfer) (bytes b c : List ℕ) (count : ℕ) (n : Next)
-    → 0 < count → count ≤ length b → Passes t t2 b bytes count → Says n (Serving a (Failing want.Memory)) [] → c ≡ drop count b
-    → Rests host e (Serving a (work.Patching r v t)) b (Silent n) c
-keep_fails host e a r v t t2 bytes b c count n some within p y is =
-    subst (λ (c : List ℕ). Rests host e (Serving a (work.Patching r v t)) b (Silent n) c) (sym is) (
+pub keep_fails : (setup : Setup) (e : Bool) (a : Asked) (r : ℕ) (v : Vec ℕ Global) (t t2 : Transfer) (bytes b c : List ℕ) (count : ℕ) (n : Next)
+    → 0 < count → count ≤ length b → GivesData t t2 b bytes count → Says n (Serving a (Failing want.Memory)) [] → c ≡ drop count b
+    → Rests setup e (Serving a (work.Patching r v t)) b (Silent n) c
+keep_fails setup e a r v t t2 bytes b c count n some within p y is =
+    subst (λ (c : List ℕ). Rests setup e (Serving a (work.Patching r v t)) b (Silent n) c) (sym is) (
       subst (λ (p : Phase). effort p (drop count b) < effort (Serving a (work.Patching r v t)) b) (sym y.0) (omega (arith, used_less count b 2 some within)),
       λ x h said l. patch_short a (work.Patching r v t) r (λ z. with_data (v.items ++ bytes) (cut_of t2 z)) b (drop count b) x h said l l.keeps.stands.0
           (seam l.trail v.items bytes b t t2 count l.keeps.stands.1 p) (few_patch a r v t t2 bytes b x h said l) n y,
     )
 
 -- a step without an event leaves the door
-pub rests_steps : {D : Type 0} (gives : D → Event → Answer → D → Type 0) (host : Host) (e : Bool) (p : Phase) (b c : List ℕ) (old : D) (step : Step) → Rests host e p b step c → Steps gives host e p b old step c old
-rests_steps gives host e p b c old (Silent n) r = (refl, r)
-rests_steps gives host e p b c old (Wait q) r = (refl, r)
-rests_steps gives host e p b c old (Made n) r = absurd r
+pub rests_steps : {D : Type 0} (gives : D → Event → Answer → D → Type 0) (setup : Setup) (e : Bool) (p : Phase) (b c : List ℕ) (old : D) (step : Step) → Rests setup e p b step c → DoesStep gives setup e p b old step c old
+rests_steps gives setup e p b c old (Silent n) r = (refl, r)
+rests_steps gives setup e p b c old (Wait q) r = (refl, r)
+rests_steps gives setup e p b c old (Made n) r = absurd r
 
 -- the body of a patch is whole
 patch_whole : {s : Server} {e : Bool} (a : Asked) (r : ℕ) (v : Vec ℕ Global) (t : Transfer) (b x : List ℕ) (h : Deeds) (said : List ℕ) (l : LeadsTo s e (Serving a (work.Patching r v t)) b x h said) (body : List ℕ)
@@ -158,10 +158,10 @@ patch_whole a r v t b x h said l body is over y =
     l.keeps.stands.1 (b ++ y) ∙ ap (λ (c : Cut). with_data v.items c) (over y) ∙ ap (λ (z : List ℕ). record { bytes = z; end = cut.Whole (b ++ y) }) (append-nil v.items ∙ is)
 
 -- The operations of a patch take effect.
-pub order_steps : {D : Type 0} (gives : D → Event → Answer → D → Type 0) (host : Host) (e : Bool) (a : Asked) (r : ℕ) (v : Vec ℕ Global) (t : Transfer) (body b : List ℕ) (ops : Vec Op Global) (old new : D) (n : Next) (base : List ℕ)
-    → v.items ≡ body → ((y : List ℕ) → cut_of t (b ++ y) ≡ ends (cut.Whole (b ++ y))) → base ≡ text_base host.site a.graph → AreOperationsOf ops.items (request_by base r body)
-    → Does gives host.seat old (act.CommitPatch ops) new (λ answer. AfterOrder a answer n) → Steps gives host e (Serving a (work.Patching r v t)) b old (Made n) b new
-order_steps gives host e a r v t body b ops old new n base is over under orders o = (
+pub order_steps : {D : Type 0} (gives : D → Event → Answer → D → Type 0) (setup : Setup) (e : Bool) (a : Asked) (r : ℕ) (v : Vec ℕ Global) (t : Transfer) (body b : List ℕ) (ops : Vec Op Global) (old new : D) (n : Next) (base : List ℕ)
+    → v.items ≡ body → ((y : List ℕ) → cut_of t (b ++ y) ≡ ends (cut.Whole (b ++ y))) → base ≡ text_base setup.site a.graph → AreOperationsOf ops.items (request_by base r body)
+    → Does gives setup.seat old (act.CommitPatch ops) new (λ answer. AfterCommitPatch a answer n) → DoesStep gives setup e (Serving a (work.Patching r v t)) b old (Made n) b new
+order_steps gives setup e a r v t body b ops old new n base is over under orders o = (
   act.CommitPatch ops,
   o.0,
   o.1,
@@ -170,10 +170,10 @@ order_steps gives host e a r v t body b ops old new n base is over under orders 
 )
 
 -- A whole body is no update that is served: the patch is cancelled.
-pub reject_steps : {D : Type 0} (gives : D → Event → Answer → D → Type 0) (host : Host) (e : Bool) (a : Asked) (r : ℕ) (v : Vec ℕ Global) (t : Transfer) (body b : List ℕ) (why : Rejection) (st : ℕ) (old new : D) (n : Next) (base : List ℕ)
-    → v.items ≡ body → ((y : List ℕ) → cut_of t (b ++ y) ≡ ends (cut.Whole (b ++ y))) → base ≡ text_base host.site a.graph → (request_by base r body).1 ≡ Some why → rejection_status (Some why) ≡ Some st
-    → Does gives host.seat old act.Cancel new (λ answer. AfterCancel st a.closes answer n) → Steps gives host e (Serving a (work.Patching r v t)) b old (Made n) b new
-reject_steps gives host e a r v t body b why st old new n base is over under fault status o = (
+pub reject_steps : {D : Type 0} (gives : D → Event → Answer → D → Type 0) (setup : Setup) (e : Bool) (a : Asked) (r : ℕ) (v : Vec ℕ Global) (t : Transfer) (body b : List ℕ) (why : Rejection) (st : ℕ) (old new : D) (n : Next) (base : List ℕ)
+    → v.items ≡ body → ((y : List ℕ) → cut_of t (b ++ y) ≡ ends (cut.Whole (b ++ y))) → base ≡ text_base setup.site a.graph → (request_by base r body).1 ≡ Some why → rejection_status (Some why) ≡ Some st
+    → Does gives setup.seat old act.Cancel new (λ answer. AfterCancel st a.closes answer n) → DoesStep gives setup e (Serving a (work.Patching r v t)) b old (Made n) b new
+reject_steps gives setup e a r v t body b why st old new n base is over under fault status o = (
   act.Cancel,
   o.0,
   o.1,
@@ -190,17 +190,17 @@ broken why.NotInProfile q r m p = absurd (p refl)
 broken other q r m p = absurd r
 
 -- A whole body is no update: the patch is cancelled.
-pub broken_steps : {D : Type 0} (gives : D → Event → Answer → D → Type 0) (host : Host) (e : Bool) (a : Asked) (r : ℕ) (v : Vec ℕ Global) (t : Transfer) (body b : List ℕ) (f : Refusal) (old new : D) (n : Next) (base : List ℕ)
-    → v.items ≡ body → ((y : List ℕ) → cut_of t (b ++ y) ≡ ends (cut.Whole (b ++ y))) → base ≡ text_base host.site a.graph → Refuses f (request_by base r body) → f ≢ why.NoMemory → f ≢ why.NotInProfile
-    → Does gives host.seat old act.Cancel new (λ answer. AfterCancel 400 a.closes answer n) → Steps gives host e (Serving a (work.Patching r v t)) b old (Made n) b new
-broken_steps gives host e a r v t body b f old new n base is over under refused m p o =
+pub broken_steps : {D : Type 0} (gives : D → Event → Answer → D → Type 0) (setup : Setup) (e : Bool) (a : Asked) (r : ℕ) (v : Vec ℕ Global) (t : Transfer) (body b : List ℕ) (f : Refusal) (old new : D) (n : Next) (base : List ℕ)
+    → v.items ≡ body → ((y : List ℕ) → cut_of t (b ++ y) ≡ ends (cut.Whole (b ++ y))) → base ≡ text_base setup.site a.graph → Refuses f (request_by base r body) → f ≢ why.NoMemory → f ≢ why.NotInProfile
+    → Does gives setup.seat old act.Cancel new (λ answer. AfterCancel 400 a.closes answer n) → DoesStep gives setup e (Serving a (work.Patching r v t)) b old (Made n) b new
+broken_steps gives setup e a r v t body b f old new n base is over under refused m p o =
     let k = broken f (request_by base r body) refused m p in
-    reject_steps gives host e a r v t body b (Broken k.0) 400 old new n base is over under k.1 refl o
+    reject_steps gives setup e a r v t body b (Broken k.0) 400 old new n base is over under k.1 refl o
 
 -- There was no memory for the reading of a whole body.
-pub order_fails : {D : Type 0} (gives : D → Event → Answer → D → Type 0) (host : Host) (e : Bool) (a : Asked) (r : ℕ) (v : Vec ℕ Global) (t : Transfer) (b : List ℕ) (old : D) (n : Next)
-    → Says n (Serving a (Failing want.Memory)) [] → Steps gives host e (Serving a (work.Patching r v t)) b old (Silent n) b old
-order_fails gives host e a r v t b old n y = (
+pub order_fails : {D : Type 0} (gives : D → Event → Answer → D → Type 0) (setup : Setup) (e : Bool) (a : Asked) (r : ℕ) (v : Vec ℕ Global) (t : Transfer) (b : List ℕ) (old : D) (n : Next)
+    → Says n (Serving a (Failing want.Memory)) [] → DoesStep gives setup e (Serving a (work.Patching r v t)) b old (Silent n) b old
+order_fails gives setup e a r v t b old n y = (
   refl,
   (
     subst (λ (p : Phase). effort p b < effort (Serving a (work.Patching r v t)) b) (sym y.0) (omega arith),
@@ -209,10 +209,10 @@ order_fails gives host e a r v t b old n y = (
 )
 
 -- The transfer of a patch's body has a fault: the patch is cancelled.
-pub patch_fault : {D : Type 0} (gives : D → Event → Answer → D → Type 0) (host : Host) (e : Bool) (a : Asked) (r : ℕ) (v : Vec ℕ Global) (t : Transfer) (b : List ℕ) (st : ℕ) (old new : D) (n : Next)
-    → ((y : List ℕ) → cut_of t (b ++ y) ≡ ends (cut.Faulty st)) → Does gives host.seat old act.Cancel new (λ answer. AfterCancel st true answer n)
-    → Steps gives host e (Serving a (work.Patching r v t)) b old (Made n) b new
-patch_fault gives host e a r v t b st old new n faulty o = (
+pub patch_fault : {D : Type 0} (gives : D → Event → Answer → D → Type 0) (setup : Setup) (e : Bool) (a : Asked) (r : ℕ) (v : Vec ℕ Global) (t : Transfer) (b : List ℕ) (st : ℕ) (old new : D) (n : Next)
+    → ((y : List ℕ) → cut_of t (b ++ y) ≡ ends (cut.Faulty st)) → Does gives setup.seat old act.Cancel new (λ answer. AfterCancel st true answer n)
+    → DoesStep gives setup e (Serving a (work.Patching r v t)) b old (Made n) b new
+patch_fault gives setup e a r v t b st old new n faulty o = (
   act.Cancel,
   o.0,
   o.1,
@@ -221,11 +221,11 @@ patch_fault gives host e a r v t b st old new n faulty o = (
 )
 
 -- The input ended within a patch's body: the patch is cancelled.
-pub patch_ends : {D : Type 0} (gives : D → Event → Answer → D → Type 0) (host : Host) (e : Bool) (a : Asked) (r : ℕ) (v : Vec ℕ Global) (t : Transfer) (b : List ℕ) (old new : D) (n : Next)
-    → e ≡ true → cut_of t b ≡ ends cut.Open → Does gives host.seat old act.Cancel new (λ answer. Stops n)
-    → Steps gives host e (Serving a (work.Patching r v t)) b old (Made n) b new
-patch_ends gives host e a r v t b old new n at_end ended o =
-    subst (λ e. Steps gives host e (Serving a (work.Patching r v t)) b old (Made n) b new) (sym at_end) (
+pub patch_ends : {D : Type 0} (gives : D → Event → Answer → D → Type 0) (setup : Setup) (e : Bool) (a : Asked) (r : ℕ) (v : Vec ℕ Global) (t : Transfer) (b : List ℕ) (old new : D) (n : Next)
+    → e ≡ true → cut_of t b ≡ ends cut.Open → Does gives setup.seat old act.Cancel new (λ answer. Stops n)
+    → DoesStep gives setup e (Serving a (work.Patching r v t)) b old (Made n) b new
+patch_ends gives setup e a r v t b old new n at_end ended o =
+    subst (λ e. DoesStep gives setup e (Serving a (work.Patching r v t)) b old (Made n) b new) (sym at_end) (
       act.Cancel,
       o.0,
       o.1,

@@ -1,5 +1,5 @@
--- Where an upload or a patch is open, the request asks for it.
-use Rattle.std.proofs.Common.{◌≡◌, ◌==◌, ℕ, Bool, true, false, cond, List, [], ◌∷◌, refl, subst}
+-- Where an upload or a patch is open, the request asks for it, and it may be cancelled.
+use Rattle.std.proofs.Common.{◌≡◌, ◌==◌, ℕ, Bool, true, false, cond, List, [], ◌∷◌, refl, ap, subst}
 use Rattle.gs_model.specs.Triples.{RdfTriple}
 use Rattle.gs_model.specs.declared.refusals.Refusal.TheVariants as why
 use Rattle.gs_event.specs.declared.events.Action.TheVariants as act
@@ -7,17 +7,20 @@ use Rattle.gs_event.specs.declared.events.UploadKind.{UploadKind}
 use Rattle.gs_event.specs.declared.answers.Answer.{Answer}
 use Rattle.gs_event.specs.declared.answers.Answer.TheVariants.{Opened, Staged, Status, Pinned, Lines, Cancelled, Refused}
 use Rattle.gs_event.specs.declared.updates.Op.{Op}
+use Rattle.gs_event.specs.Phases.{allows}
 use Rattle.gs_term.specs.declared.names.Target.{Target}
 use Rattle.gs_verdict.specs.declared.verdicts.Asked.{Asked}
 use Rattle.gs_reply.specs.Replies.{lines_head}
 use Rattle.gs_talk.specs.Plans.{Plan, Uploads, Patches, Deletes, Looks, Reads, NoPlan, plan_of}
 use Rattle.gs_talk.specs.Courses.{Move, Did, Short, Course, Fresh, Early, Writing, Patching, Lacking, Late, Dropped, Wrote, Patched, Erased, Looked, Missing, Held, Cutting, Cut as CutShort}
 use Rattle.gs_talk.specs.Moves.{first, writing, patching, held, cancelling, ready, after, course, at_delete, at_head, at_pin, at_stage, at_commit, at_commit_patch, at_piece}
+use Rattle.gs_talk.specs.Following.{phase_at, writing_phase, patching_phase}
 
--- where an upload or a patch is open, the plan is one
+-- where an upload or a patch is open, the plan is one, and where a Cancel of it is due, the seat may be cancelled
 abbrev pub IsPlanned : Plan → Course → Type 0
 IsPlanned p (Writing r g) = (k : UploadKind) × (p ≡ Uploads k)
 IsPlanned p (Patching r) = (t : Target) × (p ≡ Patches t)
+IsPlanned p (Lacking c l) = allows (phase_at p c) act.Cancel ≡ true
 IsPlanned p c = Unit {0}
 
 delete_so : (p : Plan) (answer : Answer) → IsPlanned p (at_delete answer)
@@ -53,17 +56,23 @@ first_so a NoPlan Short = tt
 first_so a NoPlan (Did action answer) = tt
 first_so a p other = tt
 
+pub drops_upload : (p : Plan) (r : ℕ) (g : List RdfTriple) → IsPlanned p (Writing r g) → allows (writing_phase p r g) act.Cancel ≡ true
+drops_upload p r g k = ap (λ (q : Plan). allows (writing_phase q r g) act.Cancel) k.1
+
+pub drops_patch : (p : Plan) (r : ℕ) → IsPlanned p (Patching r) → allows (patching_phase p r) act.Cancel ≡ true
+drops_patch p r k = ap (λ (q : Plan). allows (patching_phase q r) act.Cancel) k.1
+
 stage_so : (p : Plan) (r : ℕ) (g ts : List RdfTriple) (answer : Answer) → IsPlanned p (Writing r g) → IsPlanned p (at_stage r g ts answer)
 stage_so p r g [] answer k = tt
 stage_so p r g (t ∷ ts) Staged k = k
-stage_so p r g (t ∷ ts) (Refused why.NoMemory) k = tt
+stage_so p r g (t ∷ ts) (Refused why.NoMemory) k = drops_upload p r g k
 stage_so p r g (t ∷ ts) other k = tt
 
-commit_so : (p : Plan) (r : ℕ) (g : List RdfTriple) (answer : Answer) → IsPlanned p (at_commit r g answer)
-commit_so p r g (Status s name) = tt
-commit_so p r g (Refused why.NoMemory) = tt
-commit_so p r g (Refused why.LastNumber) = tt
-commit_so p r g other = tt
+commit_so : (p : Plan) (r : ℕ) (g : List RdfTriple) (answer : Answer) → IsPlanned p (Writing r g) → IsPlanned p (at_commit r g answer)
+commit_so p r g (Status s name) k = tt
+commit_so p r g (Refused why.NoMemory) k = drops_upload p r g k
+commit_so p r g (Refused why.LastNumber) k = drops_upload p r g k
+commit_so p r g other k = tt
 
 cancelling_so : (p : Plan) (c d : Course) (m : Move) → IsPlanned p d → IsPlanned p (cancelling c d m)
 cancelling_so p c d (Did act.Cancel Cancelled) k = k
@@ -72,22 +81,24 @@ cancelling_so p c d other k = tt
 
 writing_so : (p : Plan) (r : ℕ) (g : List RdfTriple) (m : Move) → IsPlanned p (Writing r g) → IsPlanned p (writing r g m)
 writing_so p r g (Did (act.Stage ts) answer) k = stage_so p r g ts.items answer k
-writing_so p r g (Did act.Commit answer) k = commit_so p r g answer
+writing_so p r g (Did act.Commit answer) k = commit_so p r g answer k
 writing_so p r g (Did act.Cancel Cancelled) k = tt
 writing_so p r g (Did act.Cancel other) k = tt
+writing_so p r g Short k = drops_upload p r g k
 writing_so p r g other k = tt
 
-order_so : (p : Plan) (r : ℕ) (ops : List Op) (answer : Answer) → IsPlanned p (at_commit_patch r ops answer)
-order_so p r ops (Status s name) = tt
-order_so p r ops (Refused why.NoMemory) = tt
-order_so p r ops (Refused why.LastNumber) = tt
-order_so p r ops other = tt
+order_so : (p : Plan) (r : ℕ) (ops : List Op) (answer : Answer) → IsPlanned p (Patching r) → IsPlanned p (at_commit_patch r ops answer)
+order_so p r ops (Status s name) k = tt
+order_so p r ops (Refused why.NoMemory) k = drops_patch p r k
+order_so p r ops (Refused why.LastNumber) k = drops_patch p r k
+order_so p r ops other k = tt
 
-patching_so : (p : Plan) (r : ℕ) (m : Move) → IsPlanned p (patching r m)
-patching_so p r (Did (act.CommitPatch ops) answer) = order_so p r ops.items answer
-patching_so p r (Did act.Cancel Cancelled) = tt
-patching_so p r (Did act.Cancel other) = tt
-patching_so p r other = tt
+patching_so : (p : Plan) (r : ℕ) (m : Move) → IsPlanned p (Patching r) → IsPlanned p (patching r m)
+patching_so p r (Did (act.CommitPatch ops) answer) k = order_so p r ops.items answer k
+patching_so p r (Did act.Cancel Cancelled) k = tt
+patching_so p r (Did act.Cancel other) k = tt
+patching_so p r Short k = drops_patch p r k
+patching_so p r other k = tt
 
 piece_so : (p : Plan) (out due : List ℕ) (answer : Answer) → IsPlanned p (at_piece out due answer)
 piece_so p out due (Lines b end) = tt
@@ -106,10 +117,10 @@ ready_so : (p : Plan) (c : Course) (m : Move) → IsPlanned p (ready c m)
 ready_so p c Short = tt
 ready_so p c other = tt
 
-after_so : (a : Asked) (c : Course) (m : Move) → IsPlanned (plan_of a) c → IsPlanned (plan_of a) (after a c m)
+pub after_so : (a : Asked) (c : Course) (m : Move) → IsPlanned (plan_of a) c → IsPlanned (plan_of a) (after a c m)
 after_so a Fresh m k = first_so a (plan_of a) m
 after_so a (Writing r g) m k = writing_so (plan_of a) r g m k
-after_so a (Patching r) m k = patching_so (plan_of a) r m
+after_so a (Patching r) m k = patching_so (plan_of a) r m k
 after_so a (Lacking c l) m k = cancelling_so (plan_of a) (Lacking c l) (Late l) m tt
 after_so a (Held out due end) m k = held_so (plan_of a) out due end m
 after_so a (Cutting out) m k = cancelling_so (plan_of a) (Cutting out) (CutShort out) m tt

@@ -25,7 +25,7 @@ use Rattle.gs_session.specs.declared.phases.Work.TheVariants as work
 use Rattle.gs_session.specs.declared.outcomes.Next.{Next}
 use Rattle.gs_session.specs.Trails.{Trail, Stands}
 use Rattle.gs_session.specs.Leads.{LeadsTo}
-use Rattle.gs_session.specs.Outcomes.{Says, Stops, Replies, RepliesFound, Begins, after_reply, AfterDelete, AfterHead, AfterPin, AfterPiece}
+use Rattle.gs_session.specs.Outcomes.{Says, Stops, Replies, RepliesFound, Begins, after_reply, AfterDelete, AfterLook, AfterPin, AfterPiece}
 use Rattle.gs_session.proofs.MoveLemmas.{moved, answers}
 use Rattle.gs_session.proofs.ReplyLemmas.{replies, broke, to_next}
 
@@ -91,7 +91,7 @@ look_settled a st true = refl
 look_settled a st false = refl
 
 pub look_leads : {s : Server} {e : Bool} (a : Asked) (transfer : Transfer) (t : Target) (answer : Answer) (b x : List ℕ) (h : Deeds) (said body : List ℕ) (l : LeadsTo s e (Serving a (Skipping transfer)) b x h said)
-    → plan_of a ≡ Looks t → IsWholeAt l body → (n : Next) → AfterHead a answer n → LeadsTo s e n.phase b x (h ++ (act.Head t, answer) ∷ []) (said ++ n.said.items)
+    → plan_of a ≡ Looks t → IsWholeAt l body → (n : Next) → AfterLook a answer n → LeadsTo s e n.phase b x (h ++ (act.Head t, answer) ∷ []) (said ++ n.said.items)
 look_leads a transfer t (Status st name) b x h said body l is whole n o =
     replies a (Skipping transfer) (Did (act.Head t) (Status st name) ∷ []) (Looked st) body (cond (st == 200) (lines_head a.reply a.closes) (reply_text st Nothing a.closes)) a.closes b x h said l whole
     (few_still a (Skipping transfer) b x h said l body (Did (act.Head t) (Status st name) ∷ []) whole refl)
@@ -113,12 +113,18 @@ abbrev pub whole_trail : List ℕ → Course → Trail
 whole_trail body c = record { cut = λ z. record { bytes = body; end = cut.Whole z }; course = c }
 
 -- moves are made and a text is said, and a request whose body is whole is served on
+reads_at : {s : Server} {e : Bool} (a : Asked) (k k2 : Work) (ms : List Move) (c : Course) (u b x : List ℕ) (h : Deeds) (said body : List ℕ) (l : LeadsTo s e (Serving a k) b x h said)
+    → IsWholeAt l body → AllSuit s.piece (plan_of a) ms → course a l.trail.course ms ≡ c → said_so_far a l.trail.course ++ u ≡ said_so_far a c → stages_in ms ≡ 0
+    → Stands s.base a k2 (whole_trail body c) (stages_in l.now + stages_in ms) → LeadsTo s e (Serving a k2) b x (h ++ deeds_of ms) (said ++ u)
+reads_at a k k2 ms c u b x h said body l whole suit f g none j =
+    moved a k k2 ms u b b x h said l (whole_trail body c) (λ y. sym (whole y)) suit f g (λ z. few_still a k b x h said l body ms whole none) j
+
+-- and this is what comes next
 pub reads_on : {s : Server} {e : Bool} (a : Asked) (k k2 : Work) (ms : List Move) (c : Course) (u b x : List ℕ) (h : Deeds) (said body : List ℕ) (l : LeadsTo s e (Serving a k) b x h said)
     → IsWholeAt l body → AllSuit s.piece (plan_of a) ms → course a l.trail.course ms ≡ c → said_so_far a l.trail.course ++ u ≡ said_so_far a c → stages_in ms ≡ 0
     → Stands s.base a k2 (whole_trail body c) (stages_in l.now + stages_in ms) → (n : Next) → Says n (Serving a k2) u → LeadsTo s e n.phase b x (h ++ deeds_of ms) (said ++ n.said.items)
 reads_on a k k2 ms c u b x h said body l whole suit f g none j n y =
-    to_next n (Serving a k2) u b x (h ++ deeds_of ms) said y
-    (moved a k k2 ms u b b x h said l (whole_trail body c) (λ y. sym (whole y)) suit f g (λ z. few_still a k b x h said l body ms whole none) j)
+    to_next n (Serving a k2) u b x (h ++ deeds_of ms) said y (reads_at a k k2 ms c u b x h said body l whole suit f g none j)
 
 begun : {s : Server} {e : Bool} (a : Asked) (transfer : Transfer) (t : Target) (st : ℕ) (b x : List ℕ) (h : Deeds) (said body : List ℕ) (l : LeadsTo s e (Serving a (Skipping transfer)) b x h said)
     → plan_of a ≡ Reads t → IsWholeAt l body → after a l.trail.course (Did (act.Pin t) (Pinned st)) ≡ Held [] (lines_head a.reply a.closes) false → (n : Next) → Begins n a
@@ -147,14 +153,20 @@ pin_leads a transfer t answer b x h said body l is whole n o =
     broke a (Skipping transfer) (Did (act.Pin t) answer) Fresh b b x h said l (is, tt) l.keeps.stands.1 (first_is a Fresh (Reads t) (Did (act.Pin t) answer) refl is) (λ o. tt) (no_more a (Skipping transfer) b x h said l) n o
 
 -- A request whose body is whole is answered by what was said, and the connection ends.
+stops_at : {s : Server} {e : Bool} (a : Asked) (k : Work) (ms : List Move) (c : Course) (b x : List ℕ) (h : Deeds) (said body : List ℕ) (l : LeadsTo s e (Serving a k) b x h said)
+    → IsWholeAt l body → AllSuit s.piece (plan_of a) ms → course a l.trail.course ms ≡ c → stages_in ms ≡ 0 → IsOwn s.base a (Whole body) c → Settles s.base a (Whole body) c (lines_out c, false)
+    → said_so_far a l.trail.course ≡ said_so_far a c → LeadsTo s e Over b x (h ++ deeds_of ms) (said ++ [])
+stops_at {s} a k ms c b x h said body l whole suit f none own set g =
+    answers a k ms body true (lines_out c) [] b x h said l whole suit (subst (λ (d : Course). IsOwn s.base a (Whole body) d) (sym f) own) (few_still a k b x h said l body ms whole none)
+    (subst (λ (d : Course). Settles s.base a (Whole body) d (lines_out c, false)) (sym f) set)
+    (append-nil (said_so_far a l.trail.course) ∙ g ∙ ap (λ (d : Course). greeting a d ++ lines_out c) (sym f))
+
+-- and this is what comes next
 pub stops_whole : {s : Server} {e : Bool} (a : Asked) (k : Work) (ms : List Move) (c : Course) (b x : List ℕ) (h : Deeds) (said body : List ℕ) (l : LeadsTo s e (Serving a k) b x h said)
     → IsWholeAt l body → AllSuit s.piece (plan_of a) ms → course a l.trail.course ms ≡ c → stages_in ms ≡ 0 → IsOwn s.base a (Whole body) c → Settles s.base a (Whole body) c (lines_out c, false)
     → said_so_far a l.trail.course ≡ said_so_far a c → (n : Next) → Stops n → LeadsTo s e n.phase b x (h ++ deeds_of ms) (said ++ n.said.items)
 stops_whole {s} a k ms c b x h said body l whole suit f none own set g n y =
-    to_next n Over [] b x (h ++ deeds_of ms) said y
-    (answers a k ms body true (lines_out c) [] b x h said l whole suit (subst (λ (d : Course). IsOwn s.base a (Whole body) d) (sym f) own) (few_still a k b x h said l body ms whole none)
-    (subst (λ (d : Course). Settles s.base a (Whole body) d (lines_out c, false)) (sym f) set)
-    (append-nil (said_so_far a l.trail.course) ∙ g ∙ ap (λ (d : Course). greeting a d ++ lines_out c) (sym f)))
+    to_next n Over [] b x (h ++ deeds_of ms) said y (stops_at a k ms c b x h said body l whole suit f none own set g)
 
 -- what was said of a read goes on
 joins : (a : Asked) (before : Course) (out due u : List ℕ) → before ≡ Held out due false → said_so_far a before ++ u ≡ greeting a (Held out due false) ++ ((out ++ due) ++ u)
@@ -164,9 +176,17 @@ joins a before out due u at = ap (λ (c : Course). said_so_far a c ++ u) at ∙ 
 held_is : (a : Asked) (before c : Course) (out due : List ℕ) (m : Move) → before ≡ Held out due false → after a (Held out due false) m ≡ c → after a before m ≡ c
 held_is a before c out due m at f = ap (λ (d : Course). after a d m) at ∙ f
 
-pub piece_leads : {s : Server} {e : Bool} (a : Asked) (answer : Answer) (b x : List ℕ) (h : Deeds) (said : List ℕ) (l : LeadsTo s e (Serving a Sending) b x h said)
-    → (n : Next) → AfterPiece a answer n → LeadsTo s e n.phase b x (h ++ (act.Piece s.piece, answer) ∷ []) (said ++ n.said.items)
-piece_leads {s} {e} a answer b x h said l n o = go answer o
+-- what was due is said before a text
+after_due : {s : Server} {e : Bool} (n : Next) (p : Phase) (due u b x : List ℕ) (h : Deeds) (w : List ℕ) → Says n p (due ++ u) → LeadsTo s e p b x h ((w ++ due) ++ u) → LeadsTo s e n.phase b x h (w ++ n.said.items)
+after_due {s} {e} n p due u b x h w k l = to_next n p (due ++ u) b x h w k (subst (λ z. LeadsTo s e p b x h z) (append_assoc w due u) l)
+
+-- or before nothing
+due_alone : (n : Next) (p : Phase) (due : List ℕ) → Says n p due → Says n p (due ++ [])
+due_alone n p due k = (k.0, k.1 ∙ sym (append-nil due))
+
+pub piece_leads : {s : Server} {e : Bool} (a : Asked) (answer : Answer) (b x : List ℕ) (h : Deeds) (w held : List ℕ) (l : LeadsTo s e (Serving a Sending) b x h (w ++ held))
+    → (n : Next) → AfterPiece a held answer n → LeadsTo s e n.phase b x (h ++ (act.Piece s.piece, answer) ∷ []) (w ++ n.said.items)
+piece_leads {s} {e} a answer b x h w held l n o = go answer o
   where
     out : List ℕ
     out = l.keeps.stands.0
@@ -186,24 +206,29 @@ piece_leads {s} {e} a answer b x h said l n o = go answer o
     is : (answer : Answer) → after a l.trail.course (Did (act.Piece s.piece) answer) ≡ at_piece out due answer
     is answer = held_is a l.trail.course (at_piece out due answer) out due (Did (act.Piece s.piece) answer) at refl
 
-    go : (answer : Answer) → AfterPiece a answer n → LeadsTo s e n.phase b x (h ++ (act.Piece s.piece, answer) ∷ []) (said ++ n.said.items)
+    go : (answer : Answer) → AfterPiece a held answer n → LeadsTo s e n.phase b x (h ++ (act.Piece s.piece, answer) ∷ []) (w ++ n.said.items)
     go (Lines v true) (inl y) =
-        to_next n (after_reply a.closes) (chunk v.items ++ last_if true) b x (h ++ (act.Piece s.piece, Lines v true) ∷ []) said y
-        (answers a Sending (Did (act.Piece s.piece) (Lines v true) ∷ []) body a.closes ((out ++ due) ++ (chunk v.items ++ last_if true)) (chunk v.items ++ last_if true) b x h said l whole (refl, tt)
-        (subst (λ (d : Course). IsOwn s.base a (Whole body) d) (sym (is (Lines v true))) tt) (few_still a Sending b x h said l body (Did (act.Piece s.piece) (Lines v true) ∷ []) whole refl)
+        after_due n (after_reply a.closes) held (chunk v.items ++ last_if true) b x (h ++ (act.Piece s.piece, Lines v true) ∷ []) w y
+        (answers a Sending (Did (act.Piece s.piece) (Lines v true) ∷ []) body a.closes ((out ++ due) ++ (chunk v.items ++ last_if true)) (chunk v.items ++ last_if true) b x h (w ++ held) l whole (refl, tt)
+        (subst (λ (d : Course). IsOwn s.base a (Whole body) d) (sym (is (Lines v true))) tt) (few_still a Sending b x h (w ++ held) l body (Did (act.Piece s.piece) (Lines v true) ∷ []) whole refl)
         (subst (λ (d : Course). Settles s.base a (Whole body) d ((out ++ due) ++ (chunk v.items ++ last_if true), not a.closes)) (sym (is (Lines v true))) refl)
         (joins a l.trail.course out due (chunk v.items ++ last_if true) at ∙ ap (λ (d : Course). greeting a d ++ ((out ++ due) ++ (chunk v.items ++ last_if true))) (sym (is (Lines v true)))))
     go (Lines v true) (inr y) =
-        stops_whole a Sending (Did (act.Piece s.piece) (Lines v true) ∷ Short ∷ []) (Cut (out ++ due)) b x h said body l whole (refl, tt) (ap (λ (d : Course). after a d Short) (is (Lines v true))) refl tt refl
-        (ap (λ (c : Course). said_so_far a c) at) n y
+        after_due n Over held [] b x (h ++ (act.Piece s.piece, Lines v true) ∷ []) w (due_alone n Over held y)
+        (stops_at a Sending (Did (act.Piece s.piece) (Lines v true) ∷ Short ∷ []) (Cut (out ++ due)) b x h (w ++ held) body l whole (refl, tt) (ap (λ (d : Course). after a d Short) (is (Lines v true))) refl tt refl
+        (ap (λ (c : Course). said_so_far a c) at))
     go (Lines v false) (inl y) =
-        reads_on a Sending Sending (Did (act.Piece s.piece) (Lines v false) ∷ []) (Held (out ++ due) (chunk v.items ++ last_if false) false) (chunk v.items ++ last_if false) b x h said body l whole (refl, tt) (is (Lines v false))
-        (joins a l.trail.course out due (chunk v.items ++ last_if false) at) refl (out ++ due, chunk v.items ++ last_if false, body, refl, λ z. refl) n y
+        after_due n (Serving a Sending) held (chunk v.items ++ last_if false) b x (h ++ (act.Piece s.piece, Lines v false) ∷ []) w y
+        (reads_at a Sending Sending (Did (act.Piece s.piece) (Lines v false) ∷ []) (Held (out ++ due) (chunk v.items ++ last_if false) false) (chunk v.items ++ last_if false) b x h (w ++ held) body l whole (refl, tt) (is (Lines v false))
+        (joins a l.trail.course out due (chunk v.items ++ last_if false) at) refl (out ++ due, chunk v.items ++ last_if false, body, refl, λ z. refl))
     go (Lines v false) (inr y) =
-        reads_on a Sending work.Cutting (Did (act.Piece s.piece) (Lines v false) ∷ Short ∷ []) (Cutting (out ++ due)) [] b x h said body l whole (refl, tt) (ap (λ (d : Course). after a d Short) (is (Lines v false)))
-        (append-nil (said_so_far a l.trail.course) ∙ ap (λ (c : Course). said_so_far a c) at) refl (out ++ due, body, refl, λ z. refl) n y
+        after_due n (Serving a work.Cutting) held [] b x (h ++ (act.Piece s.piece, Lines v false) ∷ []) w (due_alone n (Serving a work.Cutting) held y)
+        (reads_at a Sending work.Cutting (Did (act.Piece s.piece) (Lines v false) ∷ Short ∷ []) (Cutting (out ++ due)) [] b x h (w ++ held) body l whole (refl, tt) (ap (λ (d : Course). after a d Short) (is (Lines v false)))
+        (append-nil (said_so_far a l.trail.course) ∙ ap (λ (c : Course). said_so_far a c) at) refl (out ++ due, body, refl, λ z. refl))
     go (Refused why.NoMemory) y =
-        reads_on a Sending work.Cutting (Did (act.Piece s.piece) (Refused why.NoMemory) ∷ []) (Cutting (out ++ due)) [] b x h said body l whole (refl, tt) (is (Refused why.NoMemory))
-        (append-nil (said_so_far a l.trail.course) ∙ ap (λ (c : Course). said_so_far a c) at) refl (out ++ due, body, refl, λ z. refl) n y
+        after_due n (Serving a work.Cutting) held [] b x (h ++ (act.Piece s.piece, Refused why.NoMemory) ∷ []) w (due_alone n (Serving a work.Cutting) held y)
+        (reads_at a Sending work.Cutting (Did (act.Piece s.piece) (Refused why.NoMemory) ∷ []) (Cutting (out ++ due)) [] b x h (w ++ held) body l whole (refl, tt) (is (Refused why.NoMemory))
+        (append-nil (said_so_far a l.trail.course) ∙ ap (λ (c : Course). said_so_far a c) at) refl (out ++ due, body, refl, λ z. refl))
     go other y =
-        stops_whole a Sending (Did (act.Piece s.piece) other ∷ []) (Misanswered (Held out due false)) b x h said body l whole (refl, tt) (is other) refl tt refl (ap (λ (c : Course). said_so_far a c) at) n y
+        after_due n Over held [] b x (h ++ (act.Piece s.piece, other) ∷ []) w (due_alone n Over held y)
+        (stops_at a Sending (Did (act.Piece s.piece) other ∷ []) (Misanswered (Held out due false)) b x h (w ++ held) body l whole (refl, tt) (is other) refl tt refl (ap (λ (c : Course). said_so_far a c) at))

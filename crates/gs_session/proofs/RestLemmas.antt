@@ -129,22 +129,22 @@ no_rest a (Failing w) b i = i
 no_rest a Sending b i = i
 no_rest a Cutting b i = i
 
-still_open : (p : Phase) (s : Session) → s.phase ≡ p → s.ended ≡ false → IsStill p false s.input → (p ≡ Over → ⊥) → s.due.items ≡ [] → (x : List ℕ) (h : Deeds) (w : List ℕ) → Leads s x h w → SaysAll (server_of s.host) false x h w
+still_open : (p : Phase) (s : Session) → s.phase ≡ p → s.ended ≡ false → IsStill p false s.input → (p ≡ Over → ⊥) → s.due.items ≡ [] → (x : List ℕ) (h : Deeds) (w : List ℕ) → Leads s x h w → SaysAll (server_of s.setup) false x h w
 still_open p s f g i n d x h w l =
-    subst (λ v. SaysAll (server_of s.host) false x h v) (ap (λ z. w ++ z) d ∙ append-nil w)
+    subst (λ v. SaysAll (server_of s.setup) false x h v) (ap (λ z. w ++ z) d ∙ append-nil w)
     (says_all p s.input x h (w ++ s.due.items) i n
-    (subst (λ b. LeadsTo (server_of s.host) b p s.input x h (w ++ s.due.items)) g (subst (λ (q : Phase). LeadsTo (server_of s.host) s.ended q s.input x h (w ++ s.due.items)) f l)))
+    (subst (λ b. LeadsTo (server_of s.setup) b p s.input x h (w ++ s.due.items)) g (subst (λ (q : Phase). LeadsTo (server_of s.setup) s.ended q s.input x h (w ++ s.due.items)) f l)))
 
 -- A session that is still rests rightly.
 pub rests_at : (p : Phase) (e : Bool) (s : Session) → s.phase ≡ p → s.ended ≡ e → IsStill p e s.input → s.due.items ≡ [] → RestsRightly (turn_at p e) s
 rests_at Over e s f g i d = λ x h w l.
-    subst (λ v. SaysLast (server_of s.host) s.ended x h v) (ap (λ z. w ++ z) d ∙ append-nil w)
-    (says_last s.input x h (w ++ s.due.items) (subst (λ (p : Phase). LeadsTo (server_of s.host) s.ended p s.input x h (w ++ s.due.items)) f l))
+    subst (λ v. SaysLast (server_of s.setup) s.ended x h v) (ap (λ z. w ++ z) d ∙ append-nil w)
+    (says_last s.input x h (w ++ s.due.items) (subst (λ (p : Phase). LeadsTo (server_of s.setup) s.ended p s.input x h (w ++ s.due.items)) f l))
 rests_at Between true s f g i d = λ x h w l.
-    subst (λ v. SaysLast (server_of s.host) s.ended x h v) (ap (λ z. w ++ z) d ∙ append-nil w)
-    (subst (λ b. SaysLast (server_of s.host) b x h (w ++ s.due.items)) (sym g)
+    subst (λ v. SaysLast (server_of s.setup) s.ended x h v) (ap (λ z. w ++ z) d ∙ append-nil w)
+    (subst (λ b. SaysLast (server_of s.setup) b x h (w ++ s.due.items)) (sym g)
     (ends_between s.input x h (w ++ s.due.items) i
-    (subst (λ b. LeadsTo (server_of s.host) b Between s.input x h (w ++ s.due.items)) g (subst (λ (p : Phase). LeadsTo (server_of s.host) s.ended p s.input x h (w ++ s.due.items)) f l))))
+    (subst (λ b. LeadsTo (server_of s.setup) b Between s.input x h (w ++ s.due.items)) g (subst (λ (p : Phase). LeadsTo (server_of s.setup) s.ended p s.input x h (w ++ s.due.items)) f l))))
 rests_at Between false s f g i d = (g, λ x h w l. still_open Between s f g i (λ q. cc) d x h w l)
 rests_at (Serving a k) true s f g i d = absurd (no_rest a k s.input i)
 rests_at (Serving a k) false s f g i d = (g, λ x h w l. still_open (Serving a k) s f g i (λ q. cc) d x h w l)

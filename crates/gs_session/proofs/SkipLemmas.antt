@@ -27,13 +27,13 @@ use Rattle.gs_session.specs.declared.phases.Phase.TheVariants.{Serving}
 use Rattle.gs_session.specs.declared.phases.Phase.TheVariants as phase
 use Rattle.gs_session.specs.declared.phases.Work.{Work}
 use Rattle.gs_session.specs.declared.phases.Work.TheVariants.{Skipping}
-use Rattle.gs_session.specs.declared.hosts.Host.{Host}
+use Rattle.gs_session.specs.declared.setups.Setup.{Setup}
 use Rattle.gs_session.specs.declared.outcomes.Next.{Next}
 use Rattle.gs_session.specs.declared.steps.Step.TheVariants.{Silent, Made, Wait}
 use Rattle.gs_session.specs.Trails.{Trail, IsCutBy}
 use Rattle.gs_session.specs.Leads.{LeadsTo}
-use Rattle.gs_session.specs.Outcomes.{Says, Stops, Replies, AfterDelete, AfterHead, AfterPin}
-use Rattle.gs_session.specs.Steps.{Does, Steps, Passes, IsStill, effort, server_of}
+use Rattle.gs_session.specs.Outcomes.{Says, Stops, Replies, AfterDelete, AfterLook, AfterPin}
+use Rattle.gs_session.specs.Steps.{Does, DoesStep, GivesData, IsStill, effort, server_of}
 use Rattle.gs_session.proofs.MoveLemmas.{silent, answered, answers_fault, ends_open, course-append, suit-append, stages-append, none}
 use Rattle.gs_session.proofs.ReplyLemmas.{to_next}
 use Rattle.gs_session.proofs.ReadLemmas.{IsWholeAt, delete_leads, look_leads, pin_leads}
@@ -121,30 +121,30 @@ skip_whole : {s : Server} {e : Bool} (a : Asked) (t : Transfer) (b x : List ℕ)
 skip_whole a t b x h said l over y = l.keeps.stands.3 (b ++ y) ∙ ap (λ (c : Cut). with_data l.keeps.stands.0 c) (over y)
 
 -- A graph is removed, once the body is over.
-pub delete_steps : {D : Type 0} (gives : D → Event → Answer → D → Type 0) (host : Host) (e : Bool) (a : Asked) (t : Transfer) (u : Target) (b : List ℕ) (old new : D) (n : Next)
-    → ((y : List ℕ) → cut_of t (b ++ y) ≡ ends (cut.Whole (b ++ y))) → plan_of a ≡ Deletes u → Does gives host.seat old (act.Delete u) new (λ answer. AfterDelete a answer n)
-    → Steps gives host e (Serving a (Skipping t)) b old (Made n) b new
-delete_steps gives host e a t u b old new n over is o =
+pub delete_steps : {D : Type 0} (gives : D → Event → Answer → D → Type 0) (setup : Setup) (e : Bool) (a : Asked) (t : Transfer) (u : Target) (b : List ℕ) (old new : D) (n : Next)
+    → ((y : List ℕ) → cut_of t (b ++ y) ≡ ends (cut.Whole (b ++ y))) → plan_of a ≡ Deletes u → Does gives setup.seat old (act.Delete u) new (λ answer. AfterDelete a answer n)
+    → DoesStep gives setup e (Serving a (Skipping t)) b old (Made n) b new
+delete_steps gives setup e a t u b old new n over is o =
     (act.Delete u, o.0, o.1, λ x h said l. delete_leads a t u o.0 b x h said (l.keeps.stands.0 ++ []) l is (skip_whole a t b x h said l over) n o.2)
 
 -- A graph is looked at.
-pub look_steps : {D : Type 0} (gives : D → Event → Answer → D → Type 0) (host : Host) (e : Bool) (a : Asked) (t : Transfer) (u : Target) (b : List ℕ) (old new : D) (n : Next)
-    → ((y : List ℕ) → cut_of t (b ++ y) ≡ ends (cut.Whole (b ++ y))) → plan_of a ≡ Looks u → Does gives host.seat old (act.Head u) new (λ answer. AfterHead a answer n)
-    → Steps gives host e (Serving a (Skipping t)) b old (Made n) b new
-look_steps gives host e a t u b old new n over is o =
+pub look_steps : {D : Type 0} (gives : D → Event → Answer → D → Type 0) (setup : Setup) (e : Bool) (a : Asked) (t : Transfer) (u : Target) (b : List ℕ) (old new : D) (n : Next)
+    → ((y : List ℕ) → cut_of t (b ++ y) ≡ ends (cut.Whole (b ++ y))) → plan_of a ≡ Looks u → Does gives setup.seat old (act.Head u) new (λ answer. AfterLook a answer n)
+    → DoesStep gives setup e (Serving a (Skipping t)) b old (Made n) b new
+look_steps gives setup e a t u b old new n over is o =
     (act.Head u, o.0, o.1, λ x h said l. look_leads a t u o.0 b x h said (l.keeps.stands.0 ++ []) l is (skip_whole a t b x h said l over) n o.2)
 
 -- A read begins.
-pub pin_steps : {D : Type 0} (gives : D → Event → Answer → D → Type 0) (host : Host) (e : Bool) (a : Asked) (t : Transfer) (u : Target) (b : List ℕ) (old new : D) (n : Next)
-    → ((y : List ℕ) → cut_of t (b ++ y) ≡ ends (cut.Whole (b ++ y))) → plan_of a ≡ Reads u → Does gives host.seat old (act.Pin u) new (λ answer. AfterPin a answer n)
-    → Steps gives host e (Serving a (Skipping t)) b old (Made n) b new
-pin_steps gives host e a t u b old new n over is o =
+pub pin_steps : {D : Type 0} (gives : D → Event → Answer → D → Type 0) (setup : Setup) (e : Bool) (a : Asked) (t : Transfer) (u : Target) (b : List ℕ) (old new : D) (n : Next)
+    → ((y : List ℕ) → cut_of t (b ++ y) ≡ ends (cut.Whole (b ++ y))) → plan_of a ≡ Reads u → Does gives setup.seat old (act.Pin u) new (λ answer. AfterPin a answer n)
+    → DoesStep gives setup e (Serving a (Skipping t)) b old (Made n) b new
+pin_steps gives setup e a t u b old new n over is o =
     (act.Pin u, o.0, o.1, λ x h said l. pin_leads a t u o.0 b x h said (l.keeps.stands.0 ++ []) l is (skip_whole a t b x h said l over) n o.2)
 
 -- There was no memory for the plan.
-pub early_steps : {D : Type 0} (gives : D → Event → Answer → D → Type 0) (host : Host) (e : Bool) (a : Asked) (t : Transfer) (b : List ℕ) (old : D) (n : Next)
-    → Replies n 503 true → Steps gives host e (Serving a (Skipping t)) b old (Silent n) b old
-early_steps gives host e a t b old n o =
+pub early_steps : {D : Type 0} (gives : D → Event → Answer → D → Type 0) (setup : Setup) (e : Bool) (a : Asked) (t : Transfer) (b : List ℕ) (old : D) (n : Next)
+    → Replies n 503 true → DoesStep gives setup e (Serving a (Skipping t)) b old (Silent n) b old
+early_steps gives setup e a t b old n o =
     (refl, (over_less n a t b (closed n (reply_text 503 Nothing true) o), λ x h said l. early_leads a (Skipping t) b x h said l l.keeps.stands.1 n o))
 
 -- a body so far has no data before its bytes
@@ -165,7 +165,7 @@ few_came t done transfer n is few =
 
 -- More of a body that is dropped was used.
 pub skip_on : {s : Server} {e : Bool} (a : Asked) (t t2 : Transfer) (bytes b x : List ℕ) (n : ℕ) (h : Deeds) (said : List ℕ) (l : LeadsTo s e (Serving a (Skipping t)) b x h said)
-    → Passes t t2 b bytes n → LeadsTo s e (Serving a (Skipping t2)) (drop n b) x h said
+    → GivesData t t2 b bytes n → LeadsTo s e (Serving a (Skipping t2)) (drop n b) x h said
 skip_on {s} a t t2 bytes b x n h said l p =
     let done : List ℕ = l.keeps.stands.0 in
     silent (Serving a (Skipping t)) (Serving a (Skipping t2)) b (drop n b) x h said l (part_trail (done ++ bytes) t2 Fresh)
@@ -183,32 +183,32 @@ pub used_less : (n : ℕ) (b : List ℕ) (r : ℕ) → 0 < n → n ≤ length b 
 used_less n b r some within = omega (arith, some, within, length-drop n b)
 
 -- The next bytes of the body are dropped.
-pub skip_steps : {D : Type 0} (gives : D → Event → Answer → D → Type 0) (host : Host) (e : Bool) (a : Asked) (t t2 : Transfer) (bytes b c : List ℕ) (count : ℕ) (old : D) (n : Next)
-    → 0 < count → count ≤ length b → Passes t t2 b bytes count → Says n (Serving a (Skipping t2)) [] → c ≡ drop count b → Steps gives host e (Serving a (Skipping t)) b old (Silent n) c old
-skip_steps gives host e a t t2 bytes b c count old n some within p y is =
-    subst (λ (c : List ℕ). Steps gives host e (Serving a (Skipping t)) b old (Silent n) c old) (sym is) (
+pub skip_steps : {D : Type 0} (gives : D → Event → Answer → D → Type 0) (setup : Setup) (e : Bool) (a : Asked) (t t2 : Transfer) (bytes b c : List ℕ) (count : ℕ) (old : D) (n : Next)
+    → 0 < count → count ≤ length b → GivesData t t2 b bytes count → Says n (Serving a (Skipping t2)) [] → c ≡ drop count b → DoesStep gives setup e (Serving a (Skipping t)) b old (Silent n) c old
+skip_steps gives setup e a t t2 bytes b c count old n some within p y is =
+    subst (λ (c : List ℕ). DoesStep gives setup e (Serving a (Skipping t)) b old (Silent n) c old) (sym is) (
       refl,
       (
         subst (λ (p : Phase). effort p (drop count b) < effort (Serving a (Skipping t)) b) (sym y.0) (used_less count b 2 some within),
         λ x h said l. to_next n (Serving a (Skipping t2)) [] (drop count b) x h said y
-            (subst (λ z. LeadsTo (server_of host) e (Serving a (Skipping t2)) (drop count b) x h z) (sym (append-nil said)) (skip_on a t t2 bytes b x count h said l p)),
+            (subst (λ z. LeadsTo (server_of setup) e (Serving a (Skipping t2)) (drop count b) x h z) (sym (append-nil said)) (skip_on a t t2 bytes b x count h said l p)),
       ),
     )
 
 -- The transfer of a body that is dropped has a fault: the reply says so.
-pub skip_fault : {D : Type 0} (gives : D → Event → Answer → D → Type 0) (host : Host) (e : Bool) (a : Asked) (t : Transfer) (b : List ℕ) (st : ℕ) (old : D) (n : Next)
-    → ((y : List ℕ) → cut_of t (b ++ y) ≡ ends (cut.Faulty st)) → Replies n st true → Steps gives host e (Serving a (Skipping t)) b old (Silent n) b old
-skip_fault gives host e a t b st old n faulty o = (refl, (over_less n a t b (closed n (reply_text st Nothing true) o), λ x h said l. go x h said l o))
+pub skip_fault : {D : Type 0} (gives : D → Event → Answer → D → Type 0) (setup : Setup) (e : Bool) (a : Asked) (t : Transfer) (b : List ℕ) (st : ℕ) (old : D) (n : Next)
+    → ((y : List ℕ) → cut_of t (b ++ y) ≡ ends (cut.Faulty st)) → Replies n st true → DoesStep gives setup e (Serving a (Skipping t)) b old (Silent n) b old
+skip_fault gives setup e a t b st old n faulty o = (refl, (over_less n a t b (closed n (reply_text st Nothing true) o), λ x h said l. go x h said l o))
   where
-    go : (x : List ℕ) (h : Deeds) (said : List ℕ) → LeadsTo (server_of host) e (Serving a (Skipping t)) b x h said → Replies n st true → LeadsTo (server_of host) e n.phase b x h (said ++ n.said.items)
+    go : (x : List ℕ) (h : Deeds) (said : List ℕ) → LeadsTo (server_of setup) e (Serving a (Skipping t)) b x h said → Replies n st true → LeadsTo (server_of setup) e n.phase b x h (said ++ n.said.items)
     go x h said l (inl y) =
         to_next n phase.Over (reply_text st Nothing true) b x h said y
-        (subst (λ (d : Deeds). LeadsTo (server_of host) e phase.Over b x d (said ++ reply_text st Nothing true)) (append-nil h)
+        (subst (λ (d : Deeds). LeadsTo (server_of setup) e phase.Over b x d (said ++ reply_text st Nothing true)) (append-nil h)
         (answers_fault a (Skipping t) [] (l.keeps.stands.0 ++ []) st (reply_text st Nothing true) (reply_text st Nothing true) b b x h said l
         (λ y. l.keeps.stands.3 (b ++ y) ∙ ap (λ (c : Cut). with_data l.keeps.stands.0 c) (faulty y)) tt
-        (subst (λ (c : Course). IsOwn host.site a (Faulty (l.keeps.stands.0 ++ []) st) c) (sym l.keeps.stands.1) tt)
+        (subst (λ (c : Course). IsOwn setup.site a (Faulty (l.keeps.stands.0 ++ []) st) c) (sym l.keeps.stands.1) tt)
         (omega (arith, few_came l.trail l.keeps.stands.0 t (stages_in l.now) l.keeps.stands.3 l.keeps.few, length-append l.keeps.stands.0 []))
-        (subst (λ (c : Course). Settles host.site a (Faulty (l.keeps.stands.0 ++ []) st) c (reply_text st Nothing true, false)) (sym l.keeps.stands.1) (l.keeps.stands.2, refl))
+        (subst (λ (c : Course). Settles setup.site a (Faulty (l.keeps.stands.0 ++ []) st) c (reply_text st Nothing true, false)) (sym l.keeps.stands.1) (l.keeps.stands.2, refl))
         (ap (λ (c : Course). said_so_far a c ++ reply_text st Nothing true) l.keeps.stands.1 ∙ ap (λ z. z ++ reply_text st Nothing true) (append-nil (greeting a Fresh))
         ∙ ap (λ (c : Course). greeting a c ++ reply_text st Nothing true) (sym l.keeps.stands.1))))
     go x h said l (inr y) = stops_early a (Skipping t) b x h said l l.keeps.stands.1 n y
@@ -227,21 +227,21 @@ skip_ends {s} a t b x h said l ended n y =
     (ap (λ (c : Course). said_so_far a c ++ []) l.keeps.stands.1 ∙ ap (λ z. z ++ []) (append-nil (greeting a Fresh)) ∙ ap (λ (c : Course). greeting a c ++ []) (sym l.keeps.stands.1))))
 
 -- The input ended within a body that is dropped: so does the connection.
-pub skip_stops : {D : Type 0} (gives : D → Event → Answer → D → Type 0) (host : Host) (e : Bool) (a : Asked) (t : Transfer) (b : List ℕ) (old : D) (n : Next)
-    → e ≡ true → cut_of t b ≡ ends cut.Open → Stops n → Steps gives host e (Serving a (Skipping t)) b old (Silent n) b old
-skip_stops gives host e a t b old n at_end ended y =
-    subst (λ e. Steps gives host e (Serving a (Skipping t)) b old (Silent n) b old) (sym at_end)
+pub skip_stops : {D : Type 0} (gives : D → Event → Answer → D → Type 0) (setup : Setup) (e : Bool) (a : Asked) (t : Transfer) (b : List ℕ) (old : D) (n : Next)
+    → e ≡ true → cut_of t b ≡ ends cut.Open → Stops n → DoesStep gives setup e (Serving a (Skipping t)) b old (Silent n) b old
+skip_stops gives setup e a t b old n at_end ended y =
+    subst (λ e. DoesStep gives setup e (Serving a (Skipping t)) b old (Silent n) b old) (sym at_end)
     (refl, (over_less n a t b y.0, λ x h said l. skip_ends a t b x h said l ended n y))
 
 -- Nothing can be done before more comes.
-pub still_steps : {D : Type 0} (gives : D → Event → Answer → D → Type 0) (host : Host) (e : Bool) (p q : Phase) (b : List ℕ) (old : D)
-    → IsStill p e b → q ≡ p → Steps gives host e p b old (Wait q) b old
-still_steps gives host e p q b old still is = subst (λ (q : Phase). Steps gives host e p b old (Wait q) b old) (sym is) (refl, (still, λ x h said l. l))
+pub still_steps : {D : Type 0} (gives : D → Event → Answer → D → Type 0) (setup : Setup) (e : Bool) (p q : Phase) (b : List ℕ) (old : D)
+    → IsStill p e b → q ≡ p → DoesStep gives setup e p b old (Wait q) b old
+still_steps gives setup e p q b old still is = subst (λ (q : Phase). DoesStep gives setup e p b old (Wait q) b old) (sym is) (refl, (still, λ x h said l. l))
 
 -- The next bytes of the body are dropped, as data or as none.
-pub skip_next : {D : Type 0} (gives : D → Event → Answer → D → Type 0) (host : Host) (e : Bool) (a : Asked) (t t2 : Transfer) (b c : List ℕ) (count : ℕ) (told : Part) (old : D) (n : Next)
-    → Parts t t2 b told → (told ≡ part.Data count) ⊎ (told ≡ part.Passed count) → Says n (Serving a (Skipping t2)) [] → c ≡ drop count b → Steps gives host e (Serving a (Skipping t)) b old (Silent n) c old
-skip_next gives host e a t t2 b c count told old n p (inl f) y is =
-    let q : Parts t t2 b (part.Data count) = subst (λ (k : Part). Parts t t2 b k) f p in skip_steps gives host e a t t2 (take count b) b c count old n q.0 q.1 q.2 y is
-skip_next gives host e a t t2 b c count told old n p (inr f) y is =
-    let q : Parts t t2 b (part.Passed count) = subst (λ (k : Part). Parts t t2 b k) f p in skip_steps gives host e a t t2 [] b c count old n q.0 q.1 q.2 y is
+pub skip_next : {D : Type 0} (gives : D → Event → Answer → D → Type 0) (setup : Setup) (e : Bool) (a : Asked) (t t2 : Transfer) (b c : List ℕ) (count : ℕ) (told : Part) (old : D) (n : Next)
+    → Parts t t2 b told → (told ≡ part.Data count) ⊎ (told ≡ part.Passed count) → Says n (Serving a (Skipping t2)) [] → c ≡ drop count b → DoesStep gives setup e (Serving a (Skipping t)) b old (Silent n) c old
+skip_next gives setup e a t t2 b c count told old n p (inl f) y is =
+    let q : Parts t t2 b (part.Data count) = subst (λ (k : Part). Parts t t2 b k) f p in skip_steps gives setup e a t t2 (take count b) b c count old n q.0 q.1 q.2 y is
+skip_next gives setup e a t t2 b c count told old n p (inr f) y is =
+    let q : Parts t t2 b (part.Passed count) = subst (λ (k : Part). Parts t t2 b k) f p in skip_steps gives setup e a t t2 [] b c count old n q.0 q.1 q.2 y is

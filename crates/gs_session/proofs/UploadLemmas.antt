@@ -30,7 +30,7 @@ use Rattle.gs_session.specs.declared.phases.Want.TheVariants as want
 use Rattle.gs_session.specs.declared.outcomes.Next.{Next}
 use Rattle.gs_session.specs.Trails.{Trail, IsReading, IsCutBy}
 use Rattle.gs_session.specs.Leads.{LeadsTo}
-use Rattle.gs_session.specs.Steps.{Passes}
+use Rattle.gs_session.specs.Steps.{GivesData}
 use Rattle.gs_session.specs.Outcomes.{AfterStage}
 use Rattle.gs_session.proofs.MoveLemmas.{silent, moved}
 use Rattle.gs_session.proofs.ReplyLemmas.{broke, to_next}
@@ -47,7 +47,7 @@ abbrev pub part_trail : List ℕ → Transfer → Course → Trail
 part_trail done t c = record { cut = λ z. with_data done (cut_of t z); course = c }
 
 -- more of a body came
-pub seam : (t : Trail) (done bytes b : List ℕ) (old new : Transfer) (n : ℕ) → IsCutBy t done old → Passes old new b bytes n → (y : List ℕ) → with_data (done ++ bytes) (cut_of new (drop n b ++ y)) ≡ t.cut (b ++ y)
+pub seam : (t : Trail) (done bytes b : List ℕ) (old new : Transfer) (n : ℕ) → IsCutBy t done old → GivesData old new b bytes n → (y : List ℕ) → with_data (done ++ bytes) (cut_of new (drop n b ++ y)) ≡ t.cut (b ++ y)
 seam t done bytes b old new n is p y = with-bytes done bytes (cut_of new (drop n b ++ y)) ∙ ap (with_data done) (sym (p y)) ∙ sym (is (b ++ y))
 
 -- what came is a part of the body
@@ -56,7 +56,7 @@ longer done bytes c = omega (arith, length-append (done ++ bytes) c.bytes, lengt
 
 -- What came was read, and gave nothing.
 pub reads_on : {s : Server} {e : Bool} (a : Asked) (k k2 : Reading TextReader) (t t2 : Transfer) (bytes b x : List ℕ) (n : ℕ) (h : Deeds) (said : List ℕ) (l : LeadsTo s e (Serving a (Uploading k t)) b x h said)
-    → Passes t t2 b bytes n → Reads k k2 bytes [] → LeadsTo s e (Serving a (Uploading k2 t2)) (drop n b) x h said
+    → GivesData t t2 b bytes n → Reads k k2 bytes [] → LeadsTo s e (Serving a (Uploading k2 t2)) (drop n b) x h said
 reads_on {s} a k k2 t t2 bytes b x n h said l p r =
     let g = l.keeps.stands in
     silent (Serving a (Uploading k t)) (Serving a (Uploading k2 t2)) b (drop n b) x h said l (part_trail (g.done ++ bytes) t2 (Writing g.request g.staged))
@@ -84,7 +84,7 @@ IsUpload a = (k : UploadKind) × (plan_of a ≡ Uploads k)
 
 -- What came was read, and what it gave was staged.
 pub stage_leads : {s : Server} {e : Bool} (a : Asked) (k k2 : Reading TextReader) (t t2 : Transfer) (bytes b x : List ℕ) (n : ℕ) (h : Deeds) (said : List ℕ) (l : LeadsTo s e (Serving a (Uploading k t)) b x h said)
-    → Passes t t2 b bytes n → 0 < length bytes → (v : Vec RdfTriple Global) → v.items ≢ [] → Reads k k2 bytes v.items
+    → GivesData t t2 b bytes n → 0 < length bytes → (v : Vec RdfTriple Global) → v.items ≢ [] → Reads k k2 bytes v.items
     → (answer : Answer) (m : Next) → AfterStage a (Uploading k2 t2) answer m → LeadsTo s e m.phase (drop n b) x (h ++ (act.Stage v, answer) ∷ []) (said ++ m.said.items)
 stage_leads {s} {e} a k k2 t t2 bytes b x n h said l p some v full r answer m o = go v.items refl full answer o
   where

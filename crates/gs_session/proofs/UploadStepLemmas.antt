@@ -30,7 +30,7 @@ use Rattle.gs_talk.specs.Moves.{first, after}
 use Rattle.gs_talk.specs.Seats.{Deeds}
 use Rattle.gs_talk.specs.Replies.{said_so_far, greeting}
 use Rattle.gs_talk.specs.Logs.{Server, stages_in}
-use Rattle.gs_session.specs.declared.hosts.Host.{Host}
+use Rattle.gs_session.specs.declared.setups.Setup.{Setup}
 use Rattle.gs_session.specs.declared.phases.Phase.{Phase}
 use Rattle.gs_session.specs.declared.phases.Phase.TheVariants.{Serving}
 use Rattle.gs_session.specs.declared.phases.Work.TheVariants.{Uploading, Committing, Failing}
@@ -39,7 +39,7 @@ use Rattle.gs_session.specs.declared.outcomes.Next.{Next}
 use Rattle.gs_session.specs.declared.steps.Step.TheVariants.{Silent, Made}
 use Rattle.gs_session.specs.Leads.{LeadsTo}
 use Rattle.gs_session.specs.Outcomes.{Says, Stops, AfterStage, AfterCancel}
-use Rattle.gs_session.specs.Steps.{Does, Passes, Steps, Rests, Makes, effort, server_of}
+use Rattle.gs_session.specs.Steps.{Does, GivesData, DoesStep, Rests, Makes, effort, server_of}
 use Rattle.gs_session.proofs.MoveLemmas.{silent, moved}
 use Rattle.gs_session.proofs.ReplyLemmas.{to_next}
 use Rattle.gs_session.proofs.ReadLemmas.{IsWholeAt, no_more, whole_trail}
@@ -71,16 +71,16 @@ filled us b is some e = true≢false (sym (is ∙ ap (λ (z : List RdfTriple). l
 -- steps
 
 -- One event was made, and what holds of its answer leads on.
-pub made_by : {D : Type 0} (gives : D → Event → Answer → D → Type 0) (host : Host) (e : Bool) (p : Phase) (b c : List ℕ) (old new : D) (action : Action) (n : Next) (Holds : Answer → Type 0)
-    → ((answer : Answer) → Holds answer → Makes (server_of host) e p b n.phase c action answer n.said.items) → Does gives host.seat old action new Holds → Steps gives host e p b old (Made n) c new
-made_by gives host e p b c old new action n Holds f d = (action, d.0, d.1, f d.0 d.2)
+pub made_by : {D : Type 0} (gives : D → Event → Answer → D → Type 0) (setup : Setup) (e : Bool) (p : Phase) (b c : List ℕ) (old new : D) (action : Action) (n : Next) (Holds : Answer → Type 0)
+    → ((answer : Answer) → Holds answer → Makes (server_of setup) e p b n.phase c action answer n.said.items) → Does gives setup.seat old action new Holds → DoesStep gives setup e p b old (Made n) c new
+made_by gives setup e p b c old new action n Holds f d = (action, d.0, d.1, f d.0 d.2)
 
 -- Nothing was done or said, and less is left to be done.
-pub passes_by : (host : Host) (e : Bool) (p q : Phase) (b c : List ℕ) (n : Next) → Says n q [] → effort q c < effort p b
-    → ((x : List ℕ) (h : Deeds) (said : List ℕ) → LeadsTo (server_of host) e p b x h said → LeadsTo (server_of host) e q c x h said) → Rests host e p b (Silent n) c
-passes_by host e p q b c n y less f = (
+pub passes_by : (setup : Setup) (e : Bool) (p q : Phase) (b c : List ℕ) (n : Next) → Says n q [] → effort q c < effort p b
+    → ((x : List ℕ) (h : Deeds) (said : List ℕ) → LeadsTo (server_of setup) e p b x h said → LeadsTo (server_of setup) e q c x h said) → Rests setup e p b (Silent n) c
+passes_by setup e p q b c n y less f = (
   subst (λ (r : Phase). effort r c < effort p b) (sym y.0) less,
-  λ x h said l. to_next n q [] c x h said y (subst (λ z. LeadsTo (server_of host) e q c x h z) (sym (append-nil said)) (f x h said l)),
+  λ x h said l. to_next n q [] c x h said y (subst (λ z. LeadsTo (server_of setup) e q c x h z) (sym (append-nil said)) (f x h said l)),
 )
 
 fewer : (n k m : ℕ) (b : List ℕ) → 0 < n → n ≤ length b → k ≤ m → 3 * length (drop n b) + k < 3 * length b + m
@@ -105,32 +105,32 @@ fed_by k k2 piece before given none f =
     λ means x ts d. subst (λ (us : List RdfTriple). IsFedText k2 means (x ++ piece) (ts ++ us)) (sym is) (f.feeds.fed means x ts d)
 
 -- There was no memory to read the bytes.
-pub fed_short : (host : Host) (e : Bool) (a : Asked) (k : Reading TextReader) (t t2 : Transfer) (bytes b : List ℕ) (n : ℕ) (m : Next) → 0 < n → n ≤ length b → Passes t t2 b bytes n
-    → Says m (Serving a (Failing want.Memory)) [] → Rests host e (Serving a (Uploading k t)) b (Silent m) (drop n b)
-fed_short host e a k t t2 bytes b n m some within p y =
-    passes_by host e (Serving a (Uploading k t)) (Serving a (Failing want.Memory)) b (drop n b) m y (fewer n 1 2 b some within (omega arith))
+pub fed_short : (setup : Setup) (e : Bool) (a : Asked) (k : Reading TextReader) (t t2 : Transfer) (bytes b : List ℕ) (n : ℕ) (m : Next) → 0 < n → n ≤ length b → GivesData t t2 b bytes n
+    → Says m (Serving a (Failing want.Memory)) [] → Rests setup e (Serving a (Uploading k t)) b (Silent m) (drop n b)
+fed_short setup e a k t t2 bytes b n m some within p y =
+    passes_by setup e (Serving a (Uploading k t)) (Serving a (Failing want.Memory)) b (drop n b) m y (fewer n 1 2 b some within (omega arith))
     (λ x h said l. short_leads a k t b (drop n b) x h said l (λ z. with_data (l.keeps.stands.done ++ bytes) (cut_of t2 z)) (seam l.trail l.keeps.stands.done bytes b t t2 n l.keeps.stands.cut p)
     (λ z. omega (arith, l.keeps.stands.few, longer l.keeps.stands.done bytes (cut_of t2 z))))
 
 -- The bytes were read, and gave nothing.
-pub fed_on : (host : Host) (e : Bool) (a : Asked) (k k2 : Reading TextReader) (t t2 : Transfer) (bytes b : List ℕ) (n : ℕ) (m : Next) → 0 < n → n ≤ length b → Passes t t2 b bytes n → Reads k k2 bytes []
-    → Says m (Serving a (Uploading k2 t2)) [] → Rests host e (Serving a (Uploading k t)) b (Silent m) (drop n b)
-fed_on host e a k k2 t t2 bytes b n m some within p r y =
-    passes_by host e (Serving a (Uploading k t)) (Serving a (Uploading k2 t2)) b (drop n b) m y (fewer n 2 2 b some within (omega arith)) (λ x h said l. reads_on a k k2 t t2 bytes b x n h said l p r)
+pub fed_on : (setup : Setup) (e : Bool) (a : Asked) (k k2 : Reading TextReader) (t t2 : Transfer) (bytes b : List ℕ) (n : ℕ) (m : Next) → 0 < n → n ≤ length b → GivesData t t2 b bytes n → Reads k k2 bytes []
+    → Says m (Serving a (Uploading k2 t2)) [] → Rests setup e (Serving a (Uploading k t)) b (Silent m) (drop n b)
+fed_on setup e a k k2 t t2 bytes b n m some within p r y =
+    passes_by setup e (Serving a (Uploading k t)) (Serving a (Uploading k2 t2)) b (drop n b) m y (fewer n 2 2 b some within (omega arith)) (λ x h said l. reads_on a k k2 t t2 bytes b x n h said l p r)
 
 -- The bytes were read, and what they gave was staged.
-pub fed_staged : {D : Type 0} (gives : D → Event → Answer → D → Type 0) (host : Host) (e : Bool) (a : Asked) (k k2 : Reading TextReader) (t t2 : Transfer) (bytes b : List ℕ) (n : ℕ) (v : Vec RdfTriple Global) (old new : D) (m : Next)
-    → Passes t t2 b bytes n → 0 < length bytes → v.items ≢ [] → Reads k k2 bytes v.items → Does gives host.seat old (act.Stage v) new (λ answer. AfterStage a (Uploading k2 t2) answer m)
-    → Steps gives host e (Serving a (Uploading k t)) b old (Made m) (drop n b) new
-fed_staged gives host e a k k2 t t2 bytes b n v old new m p some full r d =
-    made_by gives host e (Serving a (Uploading k t)) b (drop n b) old new (act.Stage v) m (λ answer. AfterStage a (Uploading k2 t2) answer m)
+pub fed_staged : {D : Type 0} (gives : D → Event → Answer → D → Type 0) (setup : Setup) (e : Bool) (a : Asked) (k k2 : Reading TextReader) (t t2 : Transfer) (bytes b : List ℕ) (n : ℕ) (v : Vec RdfTriple Global) (old new : D) (m : Next)
+    → GivesData t t2 b bytes n → 0 < length bytes → v.items ≢ [] → Reads k k2 bytes v.items → Does gives setup.seat old (act.Stage v) new (λ answer. AfterStage a (Uploading k2 t2) answer m)
+    → DoesStep gives setup e (Serving a (Uploading k t)) b old (Made m) (drop n b) new
+fed_staged gives setup e a k k2 t t2 bytes b n v old new m p some full r d =
+    made_by gives setup e (Serving a (Uploading k t)) b (drop n b) old new (act.Stage v) m (λ answer. AfterStage a (Uploading k2 t2) answer m)
     (λ answer o x h said l. stage_leads a k k2 t t2 bytes b x n h said l p some v full r answer m o) d
 
 -- The bytes are none of the body's.
-pub passed_on : (host : Host) (e : Bool) (a : Asked) (k : Reading TextReader) (t t2 : Transfer) (b : List ℕ) (n : ℕ) (m : Next) → 0 < n → n ≤ length b → ((y : List ℕ) → cut_of t (b ++ y) ≡ cut_of t2 (drop n b ++ y))
-    → Says m (Serving a (Uploading k t2)) [] → Rests host e (Serving a (Uploading k t)) b (Silent m) (drop n b)
-passed_on host e a k t t2 b n m some within p y =
-    fed_on host e a k k t t2 [] b n m some within (λ y. p y)
+pub passed_on : (setup : Setup) (e : Bool) (a : Asked) (k : Reading TextReader) (t t2 : Transfer) (b : List ℕ) (n : ℕ) (m : Next) → 0 < n → n ≤ length b → ((y : List ℕ) → cut_of t (b ++ y) ≡ cut_of t2 (drop n b ++ y))
+    → Says m (Serving a (Uploading k t2)) [] → Rests setup e (Serving a (Uploading k t)) b (Silent m) (drop n b)
+passed_on setup e a k t t2 b n m some within p y =
+    fed_on setup e a k k t t2 [] b n m some within (λ y. p y)
     (λ means x ts f. subst (λ z. IsFedText k means z (ts ++ [])) (sym (append-nil x)) (subst (λ (us : List RdfTriple). IsFedText k means x us) (sym (append-nil ts)) f)) y
 
 -- the body is over
@@ -162,67 +162,67 @@ states {s} a k t b x h said l given f =
     (all.whole, sym all.all)
 
 -- There was no memory for what the end of the body gives.
-pub end_short : (host : Host) (e : Bool) (a : Asked) (k : Reading TextReader) (t : Transfer) (b : List ℕ) (m : Next) → Says m (Serving a (Failing want.Memory)) [] → Rests host e (Serving a (Uploading k t)) b (Silent m) b
-end_short host e a k t b m y =
-    passes_by host e (Serving a (Uploading k t)) (Serving a (Failing want.Memory)) b b m y (omega arith)
+pub end_short : (setup : Setup) (e : Bool) (a : Asked) (k : Reading TextReader) (t : Transfer) (b : List ℕ) (m : Next) → Says m (Serving a (Failing want.Memory)) [] → Rests setup e (Serving a (Uploading k t)) b (Silent m) b
+end_short setup e a k t b m y =
+    passes_by setup e (Serving a (Uploading k t)) (Serving a (Failing want.Memory)) b b m y (omega arith)
     (λ x h said l. short_leads a k t b b x h said l l.trail.cut (λ y. refl) (no_more a (Uploading k t) b x h said l))
 
 -- The body is whole, and all that it gives is staged: the Commit is due.
-pub end_staged : (host : Host) (e : Bool) (a : Asked) (k : Reading TextReader) (t : Transfer) (b : List ℕ) (m : Next) → IsOver t b → GivesLast k [] → Says m (Serving a Committing) []
-    → Rests host e (Serving a (Uploading k t)) b (Silent m) b
-end_staged host e a k t b m over all y =
-    passes_by host e (Serving a (Uploading k t)) (Serving a Committing) b b m y (omega arith)
+pub end_staged : (setup : Setup) (e : Bool) (a : Asked) (k : Reading TextReader) (t : Transfer) (b : List ℕ) (m : Next) → IsOver t b → GivesLast k [] → Says m (Serving a Committing) []
+    → Rests setup e (Serving a (Uploading k t)) b (Silent m) b
+end_staged setup e a k t b m over all y =
+    passes_by setup e (Serving a (Uploading k t)) (Serving a Committing) b b m y (omega arith)
     (λ x h said l.
     let g = l.keeps.stands in
     silent (Serving a (Uploading k t)) (Serving a Committing) b b x h said l (whole_trail g.done (Writing g.request g.staged))
-    (λ y. ap (λ (c : Cut). by_body (requests host.site) a c) (sym (whole_at a k t b x h said l over y)))
+    (λ y. ap (λ (c : Cut). by_body (requests setup.site) a c) (sym (whole_at a k t b x h said l over y)))
     (record {
       suits = l.keeps.suits;
       came = l.keeps.came ∙ g.stands;
       said = l.keeps.said ∙ ap (λ (c : Course). said_so_far a c) g.stands;
       few = λ z. omega (arith, g.few);
-      stands = (g.request, g.done, g.staged, refl, subst (λ (ts : List RdfTriple). States host.site a g.request g.done ts) (append-nil g.staged) (states a k t b x h said l [] all), λ z. refl);
+      stands = (g.request, g.done, g.staged, refl, subst (λ (ts : List RdfTriple). States setup.site a g.request g.done ts) (append-nil g.staged) (states a k t b x h said l [] all), λ z. refl);
     }) (λ i. tt))
 
 -- The body is whole, and the last that it gives is staged.
-pub end_gives : {D : Type 0} (gives : D → Event → Answer → D → Type 0) (host : Host) (e : Bool) (a : Asked) (k : Reading TextReader) (t : Transfer) (b : List ℕ) (v : Vec RdfTriple Global) (old new : D) (m : Next)
-    → IsOver t b → GivesLast k v.items → v.items ≢ [] → Does gives host.seat old (act.Stage v) new (λ answer. AfterStage a Committing answer m) → Steps gives host e (Serving a (Uploading k t)) b old (Made m) b new
-end_gives gives host e a k t b v old new m over all full d =
-    made_by gives host e (Serving a (Uploading k t)) b b old new (act.Stage v) m (λ answer. AfterStage a Committing answer m)
+pub end_gives : {D : Type 0} (gives : D → Event → Answer → D → Type 0) (setup : Setup) (e : Bool) (a : Asked) (k : Reading TextReader) (t : Transfer) (b : List ℕ) (v : Vec RdfTriple Global) (old new : D) (m : Next)
+    → IsOver t b → GivesLast k v.items → v.items ≢ [] → Does gives setup.seat old (act.Stage v) new (λ answer. AfterStage a Committing answer m) → DoesStep gives setup e (Serving a (Uploading k t)) b old (Made m) b new
+end_gives gives setup e a k t b v old new m over all full d =
+    made_by gives setup e (Serving a (Uploading k t)) b b old new (act.Stage v) m (λ answer. AfterStage a Committing answer m)
     (λ answer o x h said l.
     let g = l.keeps.stands in
     stage_last a (Uploading k t) g.request g.staged v answer b x h said g.done l g.stands (whole_at a k t b x h said l over) g.few
     (λ z. omega (arith, ap (λ (c : Cut). length c.bytes) (g.cut z), length-append g.done (cut_of t z).bytes)) (states a k t b x h said l v.items all) full m o) d
 
 -- The body has a fault: the upload is cancelled, and the reply says so.
-pub end_faulty : {D : Type 0} (gives : D → Event → Answer → D → Type 0) (host : Host) (e : Bool) (a : Asked) (k : Reading TextReader) (t : Transfer) (b : List ℕ) (fault : Refusal) (old new : D) (m : Next)
+pub end_faulty : {D : Type 0} (gives : D → Event → Answer → D → Type 0) (setup : Setup) (e : Bool) (a : Asked) (k : Reading TextReader) (t : Transfer) (b : List ℕ) (fault : Refusal) (old new : D) (m : Next)
     → IsOver t b → ((means : List ℕ → Meaning) (x : List ℕ) (ts : List RdfTriple) → IsFedText k means x ts → HasFault fault (means x))
-    → Does gives host.seat old act.Cancel new (λ answer. AfterCancel 400 a.closes answer m) → Steps gives host e (Serving a (Uploading k t)) b old (Made m) b new
-end_faulty gives host e a k t b fault old new m over first d =
-    made_by gives host e (Serving a (Uploading k t)) b b old new act.Cancel m (λ answer. AfterCancel 400 a.closes answer m)
+    → Does gives setup.seat old act.Cancel new (λ answer. AfterCancel 400 a.closes answer m) → DoesStep gives setup e (Serving a (Uploading k t)) b old (Made m) b new
+end_faulty gives setup e a k t b fault old new m over first d =
+    made_by gives setup e (Serving a (Uploading k t)) b b old new act.Cancel m (λ answer. AfterCancel 400 a.closes answer m)
     (λ answer o x h said l.
     let g = l.keeps.stands in
     let is = upload_plan a l.now g.request g.staged (l.keeps.came ∙ g.stands) in
-    let means = meaning_in (language_of a.body) (text_base host.site a.graph) g.request in
+    let means = meaning_in (language_of a.body) (text_base setup.site a.graph) g.request in
     drop_leads a (Uploading k t) (Writing g.request g.staged) g.request 400 answer b x h said g.done l g.stands (open_writing a g.request g.staged) (whole_at a k t b x h said l over)
-    (ap (λ (p : Plan). refusal_at host.site a p g.request g.done) is.1 ∙ refused_body fault (means g.done) (first means g.done g.staged g.fed)) m o) d
+    (ap (λ (p : Plan). refusal_at setup.site a p g.request g.done) is.1 ∙ refused_body fault (means g.done) (first means g.done g.staged g.fed)) m o) d
 
 -- The transfer of the body has a fault: the upload is cancelled, and the reply says so.
-pub transfer_faulty : {D : Type 0} (gives : D → Event → Answer → D → Type 0) (host : Host) (e : Bool) (a : Asked) (k : Reading TextReader) (t : Transfer) (b : List ℕ) (st : ℕ) (old new : D) (m : Next)
-    → ((y : List ℕ) → cut_of t (b ++ y) ≡ ends (cut.Faulty st)) → Does gives host.seat old act.Cancel new (λ answer. AfterCancel st true answer m) → Steps gives host e (Serving a (Uploading k t)) b old (Made m) b new
-transfer_faulty gives host e a k t b st old new m faulty d =
-    made_by gives host e (Serving a (Uploading k t)) b b old new act.Cancel m (λ answer. AfterCancel st true answer m)
+pub transfer_faulty : {D : Type 0} (gives : D → Event → Answer → D → Type 0) (setup : Setup) (e : Bool) (a : Asked) (k : Reading TextReader) (t : Transfer) (b : List ℕ) (st : ℕ) (old new : D) (m : Next)
+    → ((y : List ℕ) → cut_of t (b ++ y) ≡ ends (cut.Faulty st)) → Does gives setup.seat old act.Cancel new (λ answer. AfterCancel st true answer m) → DoesStep gives setup e (Serving a (Uploading k t)) b old (Made m) b new
+transfer_faulty gives setup e a k t b st old new m faulty d =
+    made_by gives setup e (Serving a (Uploading k t)) b b old new act.Cancel m (λ answer. AfterCancel st true answer m)
     (λ answer o x h said l.
     let g = l.keeps.stands in
     fault_leads a (Uploading k t) (Writing g.request g.staged) g.request st (g.done ++ []) answer b x h said l g.stands (open_writing a g.request g.staged)
     (λ y. g.cut (b ++ y) ∙ ap (λ (c : Cut). with_data g.done c) (faulty y)) m o) d
 
 -- The input ended in the body: the upload is cancelled.
-pub input_ended : {D : Type 0} (gives : D → Event → Answer → D → Type 0) (host : Host) (e : Bool) (a : Asked) (k : Reading TextReader) (t : Transfer) (b : List ℕ) (old new : D) (m : Next)
-    → e ≡ true → cut_of t b ≡ ends cut.Open → Does gives host.seat old act.Cancel new (λ answer. Stops m) → Steps gives host e (Serving a (Uploading k t)) b old (Made m) b new
-input_ended {D} gives host e a k t b old new m f open_at d =
-    subst (λ v. Steps gives host v (Serving a (Uploading k t)) b old (Made m) b new) (sym f)
-    (made_by gives host true (Serving a (Uploading k t)) b b old new act.Cancel m (λ answer. Stops m)
+pub input_ended : {D : Type 0} (gives : D → Event → Answer → D → Type 0) (setup : Setup) (e : Bool) (a : Asked) (k : Reading TextReader) (t : Transfer) (b : List ℕ) (old new : D) (m : Next)
+    → e ≡ true → cut_of t b ≡ ends cut.Open → Does gives setup.seat old act.Cancel new (λ answer. Stops m) → DoesStep gives setup e (Serving a (Uploading k t)) b old (Made m) b new
+input_ended {D} gives setup e a k t b old new m f open_at d =
+    subst (λ v. DoesStep gives setup v (Serving a (Uploading k t)) b old (Made m) b new) (sym f)
+    (made_by gives setup true (Serving a (Uploading k t)) b b old new act.Cancel m (λ answer. Stops m)
     (λ answer o x h said l.
     let g = l.keeps.stands in
     leave_leads a (Uploading k t) (Writing g.request g.staged) g.request (g.done ++ []) answer b x h said l g.stands (open_writing a g.request g.staged)

@@ -3,7 +3,10 @@ use Rattle.std.specs.Prelude.{◌≡◌, ℕ, Bool, true, List, ◌++◌, Option
 use Rattle.std.specs.Io.KnownBytes.{Appends, Consumes, IsAtEnd}
 use Rattle.gs_event.specs.declared.events.Event.{Event}
 use Rattle.gs_event.specs.declared.answers.Answer.{Answer}
-use Rattle.gs_talk.specs.Seats.{Deeds}
+use Rattle.gs_event.specs.Phases.{Idle}
+use Rattle.gs_stream.specs.Requests.{requests}
+use Rattle.gs_talk.specs.Seats.{Deeds, asked_in}
+use Rattle.gs_talk.specs.Points.{ArePointsOf}
 use Rattle.gs_talk.specs.Logs.{Server, SaysLast, SaysFront}
 use Rattle.gs_talk.specs.Laws.{IsIdle}
 use Rattle.gs_session.specs.declared.sessions.Session.{Session}
@@ -23,20 +26,23 @@ pub record Connection {D : Type 0} (gives : D → Event → Answer → D → Typ
 
 -- it goes on in this session, whose input has ended only where the reader is at its end
 abbrev pub Goes : Server → ℕ → Session → Option (List ℕ) → List ℕ → Deeds → List ℕ → Type 0
-Goes p seat s left x h w = Leads s x h w × (s.ended ≡ true → IsAtEnd left) × (server_of s.host ≡ p) × (s.host.seat ≡ seat)
+Goes p seat s left x h w = Leads s x h w × (s.ended ≡ true → IsAtEnd left) × (server_of s.setup ≡ p) × (s.setup.seat ≡ seat)
 
--- All that is to be said was written and no request is left, since the reader is at its end, or a reply closed or stopped; and the
--- seat is idle.
+-- What was done asks of the abstract store what the requests ask, in their order, and leaves the seat idle.
+abbrev pub AsksRightly : Server → List ℕ → Deeds → Type 0
+AsksRightly p x h = ArePointsOf p.base (requests p.base x) (asked_in Idle h) × IsIdle h
+
+-- All that is to be said was written and no request is left, since the reader is at its end, or a reply closed or stopped.
 abbrev pub Done : Server → Option (List ℕ) → List ℕ → Deeds → List ℕ → Type 0
-Done p left x h w = (ended : Bool) × (ended ≡ true → IsAtEnd left) × SaysLast p ended x h w × IsIdle h
+Done p left x h w = (ended : Bool) × (ended ≡ true → IsAtEnd left) × SaysLast p ended x h w × AsksRightly p x h
 
--- what was written is a front of what is to be said, and the seat is idle
+-- what was written is a front of what is to be said
 abbrev pub Quit : Server → Option (List ℕ) → List ℕ → Deeds → List ℕ → Type 0
-Quit p left x h w = (ended : Bool) × (ended ≡ true → IsAtEnd left) × SaysFront p ended x h w × IsIdle h
+Quit p left x h w = (ended : Bool) × (ended ≡ true → IsAtEnd left) × SaysFront p ended x h w × AsksRightly p x h
 
 -- the session took what was read
 abbrev pub Reads : Session → Session → Option (List ℕ) → Option (List ℕ) → Type 0
-Reads s s2 unread left = (s2.host ≡ s.host) × (s2.ended ≡ true → IsAtEnd left)
+Reads s s2 unread left = (s2.setup ≡ s.setup) × (s2.ended ≡ true → IsAtEnd left)
     × ((x : List ℕ) (h : Deeds) (w : List ℕ) → Leads s x h w → (more : List ℕ) × Consumes unread left more × Leads s2 (x ++ more) h w)
 
 -- it did not, and is as it was

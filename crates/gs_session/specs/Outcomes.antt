@@ -81,9 +81,9 @@ abbrev pub RepliesFound : Next → Asked → Type 0
 RepliesFound n a = Says n (after_reply a.closes) (lines_head a.reply a.closes) ⊎ Stops n
 
 -- a Head
-abbrev pub AfterHead : Asked → Answer → Next → Type 0
-AfterHead a (Status s name) n = cond (s == 200) (RepliesFound n a) (Replies n s a.closes)
-AfterHead a answer n = Stops n
+abbrev pub AfterLook : Asked → Answer → Next → Type 0
+AfterLook a (Status s name) n = cond (s == 200) (RepliesFound n a) (Replies n s a.closes)
+AfterLook a answer n = Stops n
 
 -- a Pin that reads
 abbrev pub Begins : Next → Asked → Type 0
@@ -102,11 +102,11 @@ after_piece a end = cond end (after_reply a.closes) (Serving a Sending)
 abbrev pub without_piece : Asked → Bool → Phase
 without_piece a end = cond end Over (Serving a Cutting)
 
--- a Piece
-abbrev pub AfterPiece : Asked → Answer → Next → Type 0
-AfterPiece a (Lines b end) n = Says n (after_piece a end) (chunk b.items ++ last_if end) ⊎ Says n (without_piece a end) []
-AfterPiece a (Refused NoMemory) n = Says n (Serving a Cutting) []
-AfterPiece a answer n = Stops n
+-- a Piece; what was due is said before it
+abbrev pub AfterPiece : Asked → List ℕ → Answer → Next → Type 0
+AfterPiece a due (Lines b end) n = Says n (after_piece a end) (due ++ (chunk b.items ++ last_if end)) ⊎ Says n (without_piece a end) due
+AfterPiece a due (Refused NoMemory) n = Says n (Serving a Cutting) due
+AfterPiece a due answer n = Says n Over due
 
 -- a Stage, after which the work goes on
 abbrev pub AfterStage : Asked → Work → Answer → Next → Type 0
@@ -122,11 +122,11 @@ AfterCommit a (Refused LastNumber) n = Says n (Serving a (Failing Numbers)) []
 AfterCommit a answer n = Stops n
 
 -- a CommitPatch
-abbrev pub AfterOrder : Asked → Answer → Next → Type 0
-AfterOrder a (Status s name) n = Replies n s a.closes
-AfterOrder a (Refused NoMemory) n = Says n (Serving a (Failing Memory)) []
-AfterOrder a (Refused LastNumber) n = Says n (Serving a (Failing Numbers)) []
-AfterOrder a answer n = Stops n
+abbrev pub AfterCommitPatch : Asked → Answer → Next → Type 0
+AfterCommitPatch a (Status s name) n = Replies n s a.closes
+AfterCommitPatch a (Refused NoMemory) n = Says n (Serving a (Failing Memory)) []
+AfterCommitPatch a (Refused LastNumber) n = Says n (Serving a (Failing Numbers)) []
+AfterCommitPatch a answer n = Stops n
 
 -- a Cancel, after which the reply says why
 abbrev pub AfterCancel : ℕ → Bool → Answer → Next → Type 0

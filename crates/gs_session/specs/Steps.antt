@@ -16,7 +16,7 @@ use Rattle.gs_talk.specs.Logs.{Server}
 use Rattle.gs_session.specs.declared.phases.Work.TheVariants.{Skipping, Uploading, Committing, Patching, Failing}
 use Rattle.gs_session.specs.declared.phases.Phase.{Phase}
 use Rattle.gs_session.specs.declared.phases.Phase.TheVariants.{Between, Serving, Over}
-use Rattle.gs_session.specs.declared.hosts.Host.{Host}
+use Rattle.gs_session.specs.declared.setups.Setup.{Setup}
 use Rattle.gs_session.specs.declared.steps.Step.{Step}
 use Rattle.gs_session.specs.declared.steps.Step.TheVariants.{Silent, Made, Wait}
 use Rattle.gs_session.specs.Leads.{LeadsTo}
@@ -30,8 +30,8 @@ abbrev pub Does : {D : Type 0} → (D → Event → Answer → D → Type 0) →
 Does {D} gives seat old action new Holds = (answer : Answer) × Acts gives seat old action answer new × Holds answer
 
 -- what a session serves by
-abbrev pub server_of : Host → Server
-server_of host = record { base = host.site; piece = host.piece }
+abbrev pub server_of : Setup → Server
+server_of setup = record { base = setup.site; piece = setup.piece }
 
 -- each history that leads to a phase leads to the other
 abbrev pub Stays : Server → Bool → Phase → List ℕ → Phase → List ℕ → Type 0
@@ -57,8 +57,8 @@ abbrev pub effort : Phase → List ℕ → ℕ
 effort p b = 3 * length b + rank p
 
 -- the first n bytes at hand are these data of the body, and the transfer goes on after them
-abbrev pub Passes : Transfer → Transfer → List ℕ → List ℕ → ℕ → Type 0
-Passes old new b bytes n = (y : List ℕ) → cut_of old (b ++ y) ≡ with_data bytes (cut_of new (drop n b ++ y))
+abbrev pub GivesData : Transfer → Transfer → List ℕ → List ℕ → ℕ → Type 0
+GivesData old new b bytes n = (y : List ℕ) → cut_of old (b ++ y) ≡ with_data bytes (cut_of new (drop n b ++ y))
 
 -- the rest of a body has not come, and may come
 abbrev pub AwaitsRest : Bool → Transfer → List ℕ → Type 0
@@ -74,12 +74,12 @@ IsStill Over e b = Unit {0}
 IsStill p e b = ⊥
 
 -- a step without an event
-abbrev pub Rests : Host → Bool → Phase → List ℕ → Step → List ℕ → Type 0
-Rests host e p b (Silent n) c = (effort n.phase c < effort p b) × Speaks (server_of host) e p b n.phase c n.said.items
-Rests host e p b (Wait q) c = IsStill q e c × Stays (server_of host) e p b q c
-Rests host e p b (Made n) c = ⊥
+abbrev pub Rests : Setup → Bool → Phase → List ℕ → Step → List ℕ → Type 0
+Rests setup e p b (Silent n) c = (effort n.phase c < effort p b) × Speaks (server_of setup) e p b n.phase c n.said.items
+Rests setup e p b (Wait q) c = IsStill q e c × Stays (server_of setup) e p b q c
+Rests setup e p b (Made n) c = ⊥
 
 -- A step: one event, or none.
-abbrev pub Steps : {D : Type 0} → (D → Event → Answer → D → Type 0) → Host → Bool → Phase → List ℕ → D → Step → List ℕ → D → Type 0
-Steps {D} gives host e p b old (Made n) c new = (action : Action) × (answer : Answer) × Acts gives host.seat old action answer new × Makes (server_of host) e p b n.phase c action answer n.said.items
-Steps {D} gives host e p b old step c new = (new ≡ old) × Rests host e p b step c
+abbrev pub DoesStep : {D : Type 0} → (D → Event → Answer → D → Type 0) → Setup → Bool → Phase → List ℕ → D → Step → List ℕ → D → Type 0
+DoesStep {D} gives setup e p b old (Made n) c new = (action : Action) × (answer : Answer) × Acts gives setup.seat old action answer new × Makes (server_of setup) e p b n.phase c action answer n.said.items
+DoesStep {D} gives setup e p b old step c new = (new ≡ old) × Rests setup e p b step c

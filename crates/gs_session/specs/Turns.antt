@@ -1,7 +1,8 @@
 -- What a session has said and done, and what a turn adds to that.
-use Rattle.std.specs.Prelude.{◌≡◌, ◌≢◌, ℕ, Bool, true, false, cond, List, [], ◌∷◌, ◌++◌}
+use Rattle.std.specs.Prelude.{◌≡◌, ◌≢◌, ℕ, Bool, true, false, cond, List, [], ◌∷◌, ◌++◌, ◌⊎◌}
 use Rattle.gs_event.specs.declared.events.Event.{Event}
 use Rattle.gs_event.specs.declared.events.Action.{Action}
+use Rattle.gs_event.specs.declared.events.Action.TheVariants.{Cancel}
 use Rattle.gs_event.specs.declared.answers.Answer.{Answer}
 use Rattle.gs_talk.specs.Seats.{Deeds}
 use Rattle.gs_talk.specs.Logs.{SaysAll, SaysLast, SaysFront}
@@ -20,7 +21,7 @@ use Rattle.gs_session.specs.Steps.{Acts, server_of}
 -- The bytes x that came, what was done for them, and what was written, lead to this session. What is due was said and not
 -- written yet.
 abbrev pub Leads : Session → List ℕ → Deeds → List ℕ → Type 0
-Leads s x h w = LeadsTo (server_of s.host) s.ended s.phase s.input x h (w ++ s.due.items)
+Leads s x h w = LeadsTo (server_of s.setup) s.ended s.phase s.input x h (w ++ s.due.items)
 
 -- each such history leads to the other session
 abbrev pub IsKept : Session → Session → Type 0
@@ -33,18 +34,18 @@ StaysSo {D} s old next new = (new ≡ old) × IsKept s next
 -- A turn: one event of the session's seat, a text that is not empty, or nothing. Each history that led to the session leads,
 -- with that more, to the session after it.
 abbrev pub Turns : {D : Type 0} → (D → Event → Answer → D → Type 0) → Session → D → Turn → Session → D → Type 0
-Turns {D} gives s old Made next new = (action : Action) × (answer : Answer) × Acts gives s.host.seat old action answer new
+Turns {D} gives s old Made next new = (action : Action) × (answer : Answer) × Acts gives s.setup.seat old action answer new
     × ((x : List ℕ) (h : Deeds) (w : List ℕ) → Leads s x h w → Leads next x (h ++ (action, answer) ∷ []) w)
 Turns {D} gives s old (Output b) next new = (new ≡ old) × (b.items ≢ []) × ((x : List ℕ) (h : Deeds) (w : List ℕ) → Leads s x h w → Leads next x h (w ++ b.items))
 Turns {D} gives s old turn next new = StaysSo s old next new
 
 -- where more input is wanted, it may come, and all that is to be said was written
 abbrev pub Waits : Session → Type 0
-Waits s = (s.ended ≡ false) × ((x : List ℕ) (h : Deeds) (w : List ℕ) → Leads s x h w → SaysAll (server_of s.host) false x h w)
+Waits s = (s.ended ≡ false) × ((x : List ℕ) (h : Deeds) (w : List ℕ) → Leads s x h w → SaysAll (server_of s.setup) false x h w)
 
 -- where the connection has ended, all that is to be said was written, and no request is left
 abbrev pub HasEnded : Session → Type 0
-HasEnded s = (x : List ℕ) (h : Deeds) (w : List ℕ) → Leads s x h w → SaysLast (server_of s.host) s.ended x h w
+HasEnded s = (x : List ℕ) (h : Deeds) (w : List ℕ) → Leads s x h w → SaysLast (server_of s.setup) s.ended x h w
 
 -- what waits or has ended does so rightly
 abbrev pub RestsRightly : Turn → Session → Type 0
@@ -63,11 +64,11 @@ turn_at p ended = cond ended Over NeedInput
 
 -- what a step leads to comes next
 abbrev pub taken : Session → Next → Session
-taken s n = record { host = s.host; input = s.input; ended = s.ended; due = n.said; phase = n.phase }
+taken s n = record { setup = s.setup; input = s.input; ended = s.ended; due = n.said; phase = n.phase }
 
 -- nothing comes next, in this phase
 abbrev pub waiting : Session → Phase → Session
-waiting s p = record { host = s.host; input = s.input; ended = s.ended; due = s.due; phase = p }
+waiting s p = record { setup = s.setup; input = s.input; ended = s.ended; due = s.due; phase = p }
 
 -- the door took these actions of a seat one after another, and gave these answers
 abbrev pub Ran : {D : Type 0} → (D → Event → Answer → D → Type 0) → ℕ → D → Deeds → D → Type 0
@@ -80,9 +81,13 @@ has_opened Opening = false
 has_opened (Skipping t) = false
 has_opened k = true
 
+-- nothing, or one Cancel
+abbrev pub CancelsOnce : Deeds → Type 0
+CancelsOnce ds = (ds ≡ []) ⊎ ((answer : Answer) × (ds ≡ (Cancel, answer) ∷ []))
+
 -- The connection is given up. With what was cancelled, each history that led to the session was a conversation up to here, also
 -- where more bytes had come that it never took; and the seat is idle.
 abbrev pub Quits : {D : Type 0} → (D → Event → Answer → D → Type 0) → Session → D → D → Type 0
-Quits {D} gives s old new = (ds : Deeds) × Ran gives s.host.seat old ds new
+Quits {D} gives s old new = (ds : Deeds) × CancelsOnce ds × Ran gives s.setup.seat old ds new
     × ((x : List ℕ) (h : Deeds) (w y : List ℕ) → Leads s x h w → MayCome s.ended y
-    → SaysFront (server_of s.host) s.ended (x ++ y) (h ++ ds) w × (AreOfKind s.host.seat (h ++ ds) → IsIdle (h ++ ds)))
+    → SaysFront (server_of s.setup) s.ended (x ++ y) (h ++ ds) w × (AreOfKind s.setup.seat (h ++ ds) → IsIdle (h ++ ds)))

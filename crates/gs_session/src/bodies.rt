@@ -6,16 +6,16 @@ ghost use Rattle.gs_transfer.specs.Views.{cut_of};
 ghost use Rattle.gs_transfer.specs.declared.places.Transfer.{Transfer as ATransfer};
 ghost use Rattle.gs_session.specs.declared.phases.Phase.TheVariants.{Serving};
 ghost use Rattle.gs_session.specs.declared.phases.Work.TheVariants.{Skipping};
-ghost use Rattle.gs_session.specs.Outcomes.{AfterDelete, AfterHead, AfterPin, AfterPiece};
-ghost use Rattle.gs_session.specs.Steps.{Does, Steps};
+ghost use Rattle.gs_session.specs.Outcomes.{AfterDelete, AfterLook, AfterPin, AfterPiece};
+ghost use Rattle.gs_session.specs.Steps.{Does, DoesStep};
 
 use crate::buffers::Buffer;
-use crate::hosts::Host;
 use crate::outcomes::{
-    Next, after_delete, after_head, after_piece, after_pin, reply, silently, stop,
+    Next, after_delete, after_look, after_piece, after_pin, reply, silently, stop,
 };
 use crate::phases::{Phase, Work};
 use crate::plans::{Plan, plan_of};
+use crate::setups::Setup;
 use crate::steps::Step;
 use gs_door::Door;
 use gs_event::Action;
@@ -25,69 +25,69 @@ use gs_transfer::{Part, Transfer};
 use gs_verdict::Asked;
 
 /// A graph is removed.
-fn delete<D: Door>(host: &Host, asked: &Asked, target: Target, door: &mut D) -> Next
-    ensures { Does D.Gives host.now.seat door.old (act.Delete target) door.new
+fn delete<D: Door>(setup: &Setup, asked: &Asked, target: Target, door: &mut D) -> Next
+    ensures { Does D.Gives setup.now.seat door.old (act.Delete target) door.new
         (λ answer. AfterDelete asked.now answer result) }
 {
-    let answer = host.act(Action::Delete(target), door);
-    after_delete(host.alloc, asked, &answer)
+    let answer = setup.act(Action::Delete(target), door);
+    after_delete(setup.alloc, asked, &answer)
 }
 
 /// A graph is looked at.
-fn look<D: Door>(host: &Host, asked: &Asked, target: Target, door: &mut D) -> Next
-    ensures { Does D.Gives host.now.seat door.old (act.Head target) door.new
-        (λ answer. AfterHead asked.now answer result) }
+fn look<D: Door>(setup: &Setup, asked: &Asked, target: Target, door: &mut D) -> Next
+    ensures { Does D.Gives setup.now.seat door.old (act.Head target) door.new
+        (λ answer. AfterLook asked.now answer result) }
 {
-    let answer = host.act(Action::Head(target), door);
-    after_head(host.alloc, asked, &answer)
+    let answer = setup.act(Action::Head(target), door);
+    after_look(setup.alloc, asked, &answer)
 }
 
 /// A read of a graph begins.
-fn pin<D: Door>(host: &Host, asked: Asked, target: Target, door: &mut D) -> Next
-    ensures { Does D.Gives host.now.seat door.old (act.Pin target) door.new
+fn pin<D: Door>(setup: &Setup, asked: Asked, target: Target, door: &mut D) -> Next
+    ensures { Does D.Gives setup.now.seat door.old (act.Pin target) door.new
         (λ answer. AfterPin asked answer result) }
 {
-    let answer = host.act(Action::Pin(target), door);
-    after_pin(host.alloc, asked, &answer)
+    let answer = setup.act(Action::Pin(target), door);
+    after_pin(setup.alloc, asked, &answer)
 }
 
 /// The body is over: what the request asks for is asked of the store.
-fn ask<D: Door>(host: &Host, asked: Asked, door: &mut D) -> Step
+fn ask<D: Door>(setup: &Setup, asked: Asked, door: &mut D) -> Step
     ensures { (e : Bool) (b : List ℕ) (t : ATransfer)
         → ((y : List ℕ) → cut_of t (b ++ y) ≡ cut.ends (cut.Whole (b ++ y)))
-        → Steps D.Gives host.now e (Serving asked (Skipping t)) b door.old result b door.new }
+        → DoesStep D.Gives setup.now e (Serving asked (Skipping t)) b door.old result b door.new }
 {
     match plan_of(&asked) {
-        Ok(Plan::Delete(target)) => Step::Made(delete(host, &asked, target, door)),
-        Ok(Plan::Look(target)) => Step::Made(look(host, &asked, target, door)),
-        Ok(Plan::Read(target)) => Step::Made(pin(host, asked, target, door)),
+        Ok(Plan::Delete(target)) => Step::Made(delete(setup, &asked, target, door)),
+        Ok(Plan::Look(target)) => Step::Made(look(setup, &asked, target, door)),
+        Ok(Plan::Read(target)) => Step::Made(pin(setup, asked, target, door)),
         // Another plan never drops its body.
-        _ => Step::Silent(reply(host.alloc, 503, Note::Nothing, true)),
+        _ => Step::Silent(reply(setup.alloc, 503, Note::Nothing, true)),
     }
 }
 
 /// The next bytes of a body that is dropped.
 pub fn skip<D: Door>(
-    host: &Host,
+    setup: &Setup,
     input: &mut Buffer,
     ended: bool,
     asked: Asked,
     mut transfer: Transfer,
     door: &mut D,
 ) -> Step
-    ensures { Steps D.Gives host.now ended (Serving asked (Skipping transfer))
+    ensures { DoesStep D.Gives setup.now ended (Serving asked (Skipping transfer))
         input.old door.old result input.new door.new }
 {
     match transfer.next(input.as_slice()) {
         Part::Data(count) | Part::Passed(count) => {
             input.skip(count);
-            Step::Silent(silently(host.alloc, Phase::Serving(asked, Work::Skipping(transfer))))
+            Step::Silent(silently(setup.alloc, Phase::Serving(asked, Work::Skipping(transfer))))
         }
-        Part::End => ask(host, asked, door),
-        Part::Fault(status) => Step::Silent(reply(host.alloc, status, Note::Nothing, true)),
+        Part::End => ask(setup, asked, door),
+        Part::Fault(status) => Step::Silent(reply(setup.alloc, status, Note::Nothing, true)),
         Part::More => {
             if ended {
-                Step::Silent(stop(host.alloc))
+                Step::Silent(stop(setup.alloc))
             } else {
                 Step::Wait(Phase::Serving(asked, Work::Skipping(transfer)))
             }
@@ -95,11 +95,11 @@ pub fn skip<D: Door>(
     }
 }
 
-/// The next piece of a read.
-pub fn send<D: Door>(host: &Host, asked: Asked, door: &mut D) -> Next
-    ensures { Does D.Gives host.now.seat door.old (act.Piece host.now.piece) door.new
-        (λ answer. AfterPiece asked answer result) }
+/// The next piece of a read. What was due is said before it.
+pub fn send<D: Door>(setup: &Setup, asked: Asked, due: Vec<u8>, door: &mut D) -> Next
+    ensures { Does D.Gives setup.now.seat door.old (act.Piece setup.now.piece) door.new
+        (λ answer. AfterPiece asked due.items answer result) }
 {
-    let answer = host.act(Action::Piece(host.piece), door);
-    after_piece(host.alloc, asked, &answer)
+    let answer = setup.act(Action::Piece(setup.piece), door);
+    after_piece(setup.alloc, asked, due, &answer)
 }

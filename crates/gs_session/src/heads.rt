@@ -10,10 +10,10 @@ ghost use Rattle.gs_session.specs.Heads.{BeginsOpen, BeginsSkip, AfterHead};
 ghost use Rattle.gs_session.specs.Steps.{Rests};
 
 use crate::buffers::Buffer;
-use crate::hosts::Host;
 use crate::outcomes::{Next, reply, silently};
 use crate::phases::{Phase, Work};
 use crate::plans::opens;
+use crate::setups::Setup;
 use crate::steps::Step;
 use gs_reply::{Note, continue_text};
 use gs_stream::{HeadEnd, find_head, leading};
@@ -69,28 +69,28 @@ fn begin(alloc: Global, asked: Asked) -> Next
 }
 
 /// What a whole head leads to.
-fn take_head(host: &Host, head: &[u8]) -> Next
+fn take_head(setup: &Setup, head: &[u8]) -> Next
     requires { length head.now ≤ max_field_name_bytes }
-    ensures { AfterHead (verdict_of host.now.site head.now) result }
+    ensures { AfterHead (verdict_of setup.now.site head.now) result }
 {
-    match read_verdict(host.alloc, host.site.places(), host.site.base(), head) {
-        Ok(Verdict::Deny(denial)) => deny(host.alloc, denial),
-        Ok(Verdict::Ask(asked)) => begin(host.alloc, asked),
-        Err(_) => reply(host.alloc, 503, Note::Nothing, true),
+    match read_verdict(setup.alloc, setup.site.places(), setup.site.base(), head) {
+        Ok(Verdict::Deny(denial)) => deny(setup.alloc, denial),
+        Ok(Verdict::Ask(asked)) => begin(setup.alloc, asked),
+        Err(_) => reply(setup.alloc, 503, Note::Nothing, true),
     }
 }
 
 /// What the next head leads to, once it is whole. What stands before it is dropped.
-pub fn next_head(host: &Host, input: &mut Buffer) -> Step
-    ensures { (e : Bool) → Rests host.now e Between input.old result input.new }
+pub fn next_head(setup: &Setup, input: &mut Buffer) -> Step
+    ensures { (e : Bool) → Rests setup.now e Between input.old result input.new }
 {
     let lead = leading(input.as_slice());
     input.skip(lead);
     match find_head(input.as_slice()) {
         HeadEnd::Open => Step::Wait(Phase::Between),
-        HeadEnd::TooLong => Step::Silent(reply(host.alloc, 431, Note::Nothing, true)),
+        HeadEnd::TooLong => Step::Silent(reply(setup.alloc, 431, Note::Nothing, true)),
         HeadEnd::After(count) => {
-            let next = take_head(host, &input.as_slice()[..count]);
+            let next = take_head(setup, &input.as_slice()[..count]);
             input.skip(count);
             Step::Silent(next)
         }

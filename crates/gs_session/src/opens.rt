@@ -5,13 +5,13 @@ ghost use Rattle.gs_talk.specs.Bodies.{language_of as language_of_type};
 ghost use Rattle.gs_session.specs.declared.phases.Phase.TheVariants.{Serving};
 ghost use Rattle.gs_session.specs.declared.phases.Work.TheVariants.{Opening};
 ghost use Rattle.gs_session.specs.Outcomes.{Receives, AfterOpen, AfterOpenPatch};
-ghost use Rattle.gs_session.specs.Steps.{Does, Steps};
+ghost use Rattle.gs_session.specs.Steps.{Does, DoesStep};
 
 use crate::heads::{greeting, transfer_of};
-use crate::hosts::Host;
 use crate::outcomes::{Next, after_refusal, reply};
 use crate::phases::{Phase, Want, Work};
 use crate::plans::{Plan, plan_of};
+use crate::setups::Setup;
 use crate::steps::Step;
 use gs_door::Door;
 use gs_event::{Action, Answer, UploadKind};
@@ -32,11 +32,11 @@ fn language_of(media: Media) -> Language
 }
 
 /// The reading of an upload's body is begun.
-fn receive(host: &Host, asked: &Asked, request: u64) -> Work
-    ensures { Receives host.now.site asked.now request result }
+fn receive(setup: &Setup, asked: &Asked, request: u64) -> Work
+    ensures { Receives setup.now.site asked.now request result }
 {
-    let base = host.site.text_base(&asked.graph);
-    match Reading::new(host.alloc, language_of(asked.body), request, base) {
+    let base = setup.site.text_base(&asked.graph);
+    match Reading::new(setup.alloc, language_of(asked.body), request, base) {
         Ok(reading) => Work::Uploading(reading, transfer_of(asked)),
         Err(_) => Work::Failing(Want::Memory),
     }
@@ -44,63 +44,63 @@ fn receive(host: &Host, asked: &Asked, request: u64) -> Work
 
 /// An upload is opened.
 fn open_upload<D: Door>(
-    host: &Host,
+    setup: &Setup,
     asked: Asked,
     kind: UploadKind,
     greeting: Vec<u8>,
     door: &mut D,
 ) -> Next
-    ensures { Does D.Gives host.now.seat door.old (act.Open kind) door.new
-        (λ answer. AfterOpen host.now.site asked greeting.items answer result) }
+    ensures { Does D.Gives setup.now.seat door.old (act.Open kind) door.new
+        (λ answer. AfterOpen setup.now.site asked greeting.items answer result) }
 {
-    match host.act(Action::Open(kind), door) {
+    match setup.act(Action::Open(kind), door) {
         Answer::Opened(request) => {
-            let work = receive(host, &asked, request);
+            let work = receive(setup, &asked, request);
             Next {
                 phase: Phase::Serving(asked, work),
                 said: greeting,
             }
         }
-        answer => after_refusal(host.alloc, &asked, &answer),
+        answer => after_refusal(setup.alloc, &asked, &answer),
     }
 }
 
 /// A patch is opened.
 fn open_patch<D: Door>(
-    host: &Host,
+    setup: &Setup,
     asked: Asked,
     target: Target,
     greeting: Vec<u8>,
     door: &mut D,
 ) -> Next
-    ensures { Does D.Gives host.now.seat door.old (act.OpenPatch target) door.new
+    ensures { Does D.Gives setup.now.seat door.old (act.OpenPatch target) door.new
         (λ answer. AfterOpenPatch asked greeting.items answer result) }
 {
-    match host.act(Action::OpenPatch(target), door) {
+    match setup.act(Action::OpenPatch(target), door) {
         Answer::Opened(request) => {
             let transfer = transfer_of(&asked);
-            let body = Vec::new(host.alloc);
+            let body = Vec::new(setup.alloc);
             Next {
                 phase: Phase::Serving(asked, Work::Patching(request, body, transfer)),
                 said: greeting,
             }
         }
-        answer => after_refusal(host.alloc, &asked, &answer),
+        answer => after_refusal(setup.alloc, &asked, &answer),
     }
 }
 
 /// What a request's body is for is opened.
-pub fn open<D: Door>(host: &Host, asked: Asked, door: &mut D) -> Step
+pub fn open<D: Door>(setup: &Setup, asked: Asked, door: &mut D) -> Step
     ensures { (e : Bool) (b : List ℕ)
-        → Steps D.Gives host.now e (Serving asked Opening) b door.old result b door.new }
+        → DoesStep D.Gives setup.now e (Serving asked Opening) b door.old result b door.new }
 {
-    let Ok(greeting) = greeting(host.alloc, asked.awaits_continue) else {
-        return Step::Silent(reply(host.alloc, 503, Note::Nothing, true));
+    let Ok(greeting) = greeting(setup.alloc, asked.awaits_continue) else {
+        return Step::Silent(reply(setup.alloc, 503, Note::Nothing, true));
     };
     match plan_of(&asked) {
-        Ok(Plan::Upload(kind)) => { Step::Made(open_upload(host, asked, kind, greeting, door)) }
-        Ok(Plan::Patch(target)) => { Step::Made(open_patch(host, asked, target, greeting, door)) }
+        Ok(Plan::Upload(kind)) => { Step::Made(open_upload(setup, asked, kind, greeting, door)) }
+        Ok(Plan::Patch(target)) => { Step::Made(open_patch(setup, asked, target, greeting, door)) }
         // Another plan opens nothing.
-        _ => Step::Silent(reply(host.alloc, 503, Note::Nothing, true)),
+        _ => Step::Silent(reply(setup.alloc, 503, Note::Nothing, true)),
     }
 }

@@ -3,7 +3,7 @@ ghost use Rattle.std.specs.Prelude.{◌≡◌, ◌++◌, [], IfOk};
 ghost use Rattle.gs_reply.specs.Notices.{notice_of};
 ghost use Rattle.gs_reply.specs.Replies.{chunk, lines_head};
 ghost use Rattle.gs_talk.specs.Moves.{last_if};
-ghost use Rattle.gs_session.specs.Outcomes.{Says, Stops, RepliesBy, RepliesFound, Begins, AfterRefusal, AfterDelete, AfterHead, AfterPin, AfterPiece, AfterStage, AfterCommit, AfterOrder, AfterCancel};
+ghost use Rattle.gs_session.specs.Outcomes.{Says, Stops, RepliesBy, RepliesFound, Begins, AfterRefusal, AfterDelete, AfterLook, AfterPin, AfterPiece, AfterStage, AfterCommit, AfterCommitPatch, AfterCancel};
 ghost use Rattle.gs_session.specs.Outcomes as spec;
 
 use crate::phases::{Phase, Want, Work};
@@ -106,8 +106,8 @@ fn found(alloc: Global, asked: &Asked) -> Next
 }
 
 /// What a Head leads to.
-pub fn after_head(alloc: Global, asked: &Asked, answer: &Answer) -> Next
-    ensures { AfterHead asked.now answer.now result }
+pub fn after_look(alloc: Global, asked: &Asked, answer: &Answer) -> Next
+    ensures { AfterLook asked.now answer.now result }
 {
     match answer {
         Answer::Status(status, _) => {
@@ -122,7 +122,7 @@ pub fn after_head(alloc: Global, asked: &Asked, answer: &Answer) -> Next
 }
 
 /// A read begins.
-fn begin(alloc: Global, asked: Asked) -> Next
+fn begin_read(alloc: Global, asked: Asked) -> Next
     ensures { Begins result asked }
 {
     match head_text(alloc, &asked) {
@@ -141,7 +141,7 @@ pub fn after_pin(alloc: Global, asked: Asked, answer: &Answer) -> Next
     match answer {
         Answer::Pinned(status) => {
             if *status == 200 {
-                begin(alloc, asked)
+                begin_read(alloc, asked)
             } else {
                 reply(alloc, *status, Note::Nothing, asked.closes)
             }
@@ -150,11 +150,12 @@ pub fn after_pin(alloc: Global, asked: Asked, answer: &Answer) -> Next
     }
 }
 
-/// A piece of a read as a chunk, and after the last piece the last chunk.
-fn chunk_text(alloc: Global, bytes: &[u8], end: bool) -> Result<Vec<u8>, AllocError>
-    ensures { IfOk result (λ text. text.items ≡ chunk bytes.now ++ last_if end) }
+/// What was due, a piece of a read as a chunk, and after the last piece the last chunk.
+fn piece_text(alloc: Global, due: &[u8], bytes: &[u8], end: bool) -> Result<Vec<u8>, AllocError>
+    ensures { IfOk result (λ text. text.items ≡ due.now ++ (chunk bytes.now ++ last_if end)) }
 {
     let mut text = Vec::new(alloc);
+    text.extend_from_slice(due)?;
     push_chunk(&mut text, bytes)?;
     if end {
         push_last_chunk(&mut text)?;
@@ -184,22 +185,31 @@ fn without_lines(asked: Asked, end: bool) -> Phase
     }
 }
 
-/// What a Piece leads to.
-pub fn after_piece(alloc: Global, asked: Asked, answer: &Answer) -> Next
-    ensures { AfterPiece asked answer.now result }
+/// What a Piece leads to. What was due is said before it.
+pub fn after_piece(alloc: Global, asked: Asked, due: Vec<u8>, answer: &Answer) -> Next
+    ensures { AfterPiece asked due.items answer.now result }
 {
     match answer {
-        Answer::Lines(bytes, end) => match chunk_text(alloc, bytes.as_slice(), *end) {
-            Ok(text) => Next {
-                phase: after_lines(asked, *end),
-                said: text,
-            },
-            Err(_) => silently(alloc, without_lines(asked, *end)),
-        },
-        Answer::Refused(Refusal::NoMemory) => {
-            silently(alloc, Phase::Serving(asked, Work::Cutting))
+        Answer::Lines(bytes, end) => {
+            match piece_text(alloc, due.as_slice(), bytes.as_slice(), *end) {
+                Ok(text) => Next {
+                    phase: after_lines(asked, *end),
+                    said: text,
+                },
+                Err(_) => Next {
+                    phase: without_lines(asked, *end),
+                    said: due,
+                },
+            }
         }
-        _ => stop(alloc),
+        Answer::Refused(Refusal::NoMemory) => Next {
+            phase: Phase::Serving(asked, Work::Cutting),
+            said: due,
+        },
+        _ => Next {
+            phase: Phase::Over,
+            said: due,
+        },
     }
 }
 
@@ -236,8 +246,8 @@ pub fn after_commit(alloc: Global, asked: Asked, answer: &Answer) -> Next
 }
 
 /// What a CommitPatch leads to.
-pub fn after_order(alloc: Global, asked: Asked, answer: &Answer) -> Next
-    ensures { AfterOrder asked answer.now result }
+pub fn after_commit_patch(alloc: Global, asked: Asked, answer: &Answer) -> Next
+    ensures { AfterCommitPatch asked answer.now result }
 {
     match answer {
         Answer::Status(status, _) => reply(alloc, *status, Note::Nothing, asked.closes),

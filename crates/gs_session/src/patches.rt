@@ -7,14 +7,14 @@ ghost use Rattle.gs_transfer.specs.Views.{cut_of};
 ghost use Rattle.gs_transfer.specs.declared.places.Transfer.{Transfer as ATransfer};
 ghost use Rattle.gs_session.specs.declared.phases.Phase.TheVariants.{Serving};
 ghost use Rattle.gs_session.specs.declared.phases.Work.TheVariants.{Patching};
-ghost use Rattle.gs_session.specs.Outcomes.{AfterOrder};
-ghost use Rattle.gs_session.specs.Steps.{Does, Passes, Rests, Steps};
+ghost use Rattle.gs_session.specs.Outcomes.{AfterCommitPatch};
+ghost use Rattle.gs_session.specs.Steps.{Does, GivesData, Rests, DoesStep};
 
 use crate::buffers::Buffer;
 use crate::cancels::{cancel, leave};
-use crate::hosts::Host;
-use crate::outcomes::{Next, after_order, silently};
+use crate::outcomes::{Next, after_commit_patch, silently};
 use crate::phases::{Phase, Want, Work};
+use crate::setups::Setup;
 use crate::steps::Step;
 use gs_door::Door;
 use gs_event::{Action, Op};
@@ -25,7 +25,7 @@ use gs_verdict::Asked;
 
 /// So many bytes of data are kept.
 fn keep(
-    host: &Host,
+    setup: &Setup,
     input: &mut Buffer,
     count: usize,
     asked: Asked,
@@ -35,8 +35,8 @@ fn keep(
 ) -> Step
     requires within { count ≤ length input.old }
     ensures { (e : Bool) (t : ATransfer) → 0 < count
-        → Passes t transfer input.old (take count input.old) count
-        → Rests host.now e (Serving asked (Patching request body t)) input.old result input.new }
+        → GivesData t transfer input.old (take count input.old) count
+        → Rests setup.now e (Serving asked (Patching request body t)) input.old result input.new }
 {
     let kept = body.extend_from_slice(&input.as_slice()[..count]);
     input.skip(count);
@@ -44,41 +44,41 @@ fn keep(
         Ok(()) => Work::Patching(request, body, transfer),
         Err(_) => Work::Failing(Want::Memory),
     };
-    Step::Silent(silently(host.alloc, Phase::Serving(asked, work)))
+    Step::Silent(silently(setup.alloc, Phase::Serving(asked, work)))
 }
 
 /// The operations of a patch take effect.
-fn commit<D: Door>(host: &Host, asked: Asked, operations: Vec<Op>, door: &mut D) -> Next
-    ensures { Does D.Gives host.now.seat door.old (act.CommitPatch operations) door.new
-        (λ answer. AfterOrder asked answer result) }
+fn commit<D: Door>(setup: &Setup, asked: Asked, operations: Vec<Op>, door: &mut D) -> Next
+    ensures { Does D.Gives setup.now.seat door.old (act.CommitPatch operations) door.new
+        (λ answer. AfterCommitPatch asked answer result) }
 {
-    let answer = host.act(Action::CommitPatch(operations), door);
-    after_order(host.alloc, asked, &answer)
+    let answer = setup.act(Action::CommitPatch(operations), door);
+    after_commit_patch(setup.alloc, asked, &answer)
 }
 
 /// The body is over: it is read, and takes effect, or it is no update that is served.
-fn order<D: Door>(host: &Host, asked: Asked, request: u64, body: &[u8], door: &mut D) -> Step
+fn finish<D: Door>(setup: &Setup, asked: Asked, request: u64, body: &[u8], door: &mut D) -> Step
     ensures { (e : Bool) (b : List ℕ) (t : ATransfer) (v : Vec ℕ AGlobal) → v.items ≡ body.now
         → ((y : List ℕ) → cut_of t (b ++ y) ≡ cut.ends (cut.Whole (b ++ y)))
-        → Steps D.Gives host.now e (Serving asked (Patching request v t)) b door.old result b door.new }
+        → DoesStep D.Gives setup.now e (Serving asked (Patching request v t)) b door.old result b door.new }
 {
-    let base = host.site.text_base(&asked.graph);
-    match read_update(host.alloc, request, base, body) {
-        Ok(operations) => Step::Made(commit(host, asked, operations, door)),
+    let base = setup.site.text_base(&asked.graph);
+    match read_update(setup.alloc, request, base, body) {
+        Ok(operations) => Step::Made(commit(setup, asked, operations, door)),
         Err(refusal) => match refusal {
             Refusal::NoMemory => Step::Silent(silently(
-                host.alloc,
+                setup.alloc,
                 Phase::Serving(asked, Work::Failing(Want::Memory)),
             )),
-            Refusal::NotInProfile => Step::Made(cancel(host, 422, asked.closes, door)),
-            _ => Step::Made(cancel(host, 400, asked.closes, door)),
+            Refusal::NotInProfile => Step::Made(cancel(setup, 422, asked.closes, door)),
+            _ => Step::Made(cancel(setup, 400, asked.closes, door)),
         },
     }
 }
 
 /// The next bytes of a patch's body.
 pub fn patch<D: Door>(
-    host: &Host,
+    setup: &Setup,
     input: &mut Buffer,
     ended: bool,
     asked: Asked,
@@ -87,23 +87,23 @@ pub fn patch<D: Door>(
     mut transfer: Transfer,
     door: &mut D,
 ) -> Step
-    ensures { Steps D.Gives host.now ended (Serving asked (Patching request body transfer))
+    ensures { DoesStep D.Gives setup.now ended (Serving asked (Patching request body transfer))
         input.old door.old result input.new door.new }
 {
     match transfer.next(input.as_slice()) {
-        Part::Data(count) => keep(host, input, count, asked, request, body, transfer),
+        Part::Data(count) => keep(setup, input, count, asked, request, body, transfer),
         Part::Passed(count) => {
             input.skip(count);
             Step::Silent(silently(
-                host.alloc,
+                setup.alloc,
                 Phase::Serving(asked, Work::Patching(request, body, transfer)),
             ))
         }
-        Part::End => order(host, asked, request, body.as_slice(), door),
-        Part::Fault(status) => Step::Made(cancel(host, status, true, door)),
+        Part::End => finish(setup, asked, request, body.as_slice(), door),
+        Part::Fault(status) => Step::Made(cancel(setup, status, true, door)),
         Part::More => {
             if ended {
-                Step::Made(leave(host, door))
+                Step::Made(leave(setup, door))
             } else {
                 Step::Wait(Phase::Serving(asked, Work::Patching(request, body, transfer)))
             }

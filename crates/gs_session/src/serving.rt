@@ -1,21 +1,22 @@
 //! One connection over a reader and a writer.
-ghost use Rattle.std.specs.Prelude.{◌≡◌, ℕ, List, Option, Bool, true, false, Ok, take, OnOk, OnErr};
-ghost use Rattle.std.specs.Io.KnownBytes.{Appends};
+ghost use Rattle.std.specs.Prelude.{◌≡◌, ℕ, List, Option, Bool, true, false, Ok, OnOk, OnErr};
+ghost use Rattle.std.specs.Io.KnownBytes.{Keeps};
 ghost use Rattle.gs_model.specs.Bases.{is_base};
 ghost use Rattle.gs_talk.specs.Logs.{Server};
 ghost use Rattle.gs_session.specs.Connections.{Connection, Goes, Done, Quit, Reads, Loses};
 
 use crate::sessions::{Session, Turn};
+use crate::writing::write_text;
 use gs_door::Door;
 use std::alloc::Global;
-use std::io::{Read, Write};
+use std::io::{ErrorKind, Read, Write};
 
 /// Why a connection ended before its input or a reply ended it.
 #[derive(Clone, Copy, Debug, PartialEq)]
 pub enum ServeFault {
-    /// A read failed, or there were too many.
+    /// A read failed, or there were 2^64 - 1 turns and reads.
     Read,
-    /// A write failed, or took nothing.
+    /// A write or a flush failed, or a write took nothing.
     Write,
     /// There was no memory for the session, or for what was read.
     NoMemory,
@@ -24,22 +25,7 @@ pub enum ServeFault {
 /// The most bytes of one read.
 const READ_BYTES: usize = 8_192;
 
-/// Writes the text, or as much of it as the writer takes; whether that is all.
-fn put<W: Write>(writer: &mut W, text: &[u8]) -> bool
-    ensures all { result ≡ true → Appends (W.contents writer.old) (W.contents writer.new) text.now }
-    ensures front { (n : ℕ) × Appends (W.contents writer.old) (W.contents writer.new) (take n text.now) }
-{
-    let mut at = 0;
-    while at < text.len() {
-        match writer.write(&text[at..]) {
-            Ok(0) | Err(_) => return false,
-            Ok(count) => at += count,
-        }
-    }
-    true
-}
-
-/// Gives the session what a read gives.
+/// Gives the session what a read gives. One that was interrupted gives nothing.
 fn read_more<R: Read>(session: &mut Session, reader: &mut R) -> Result<(), ServeFault>
     requires { session.old.ended ≡ false }
     ensures ok { OnOk result (Reads session.old session.new (R.remaining reader.old)
@@ -54,9 +40,32 @@ fn read_more<R: Read>(session: &mut Session, reader: &mut R) -> Result<(), Serve
             Ok(()) => {}
             Err(_) => return Err(ServeFault::NoMemory),
         },
-        Err(_) => return Err(ServeFault::Read),
+        Err(error) => {
+            if error.kind() != ErrorKind::Interrupted {
+                return Err(ServeFault::Read);
+            }
+        }
     }
     Ok(())
+}
+
+/// Waits for more input. What was written is flushed first.
+fn await_input<R: Read, W: Write>(
+    session: &mut Session,
+    reader: &mut R,
+    writer: &mut W,
+) -> Result<(), ServeFault>
+    requires { session.old.ended ≡ false }
+    ensures ok { OnOk result (Reads session.old session.new (R.remaining reader.old)
+        (R.remaining reader.new)) }
+    ensures err { OnErr result (Loses session.old session.new (R.remaining reader.old)
+        (R.remaining reader.new)) }
+    ensures keeps { Keeps (W.contents writer.old) (W.contents writer.new) }
+{
+    match writer.flush() {
+        Ok(()) => read_more(session, reader),
+        Err(_) => Err(ServeFault::Write),
+    }
 }
 
 /// One turn, with what it writes or reads; whether the connection has ended.
@@ -77,17 +86,20 @@ fn round<R: Read, W: Write, D: Door>(
         → Connection D.Gives seat unread (R.remaining reader.new) held (W.contents writer.new) first door.new (Quit p (R.remaining reader.new))) }
 {
     match session.turn(door) {
-        Turn::Over => Ok(true),
+        Turn::Over => match writer.flush() {
+            Ok(()) => Ok(true),
+            Err(_) => Err(ServeFault::Write),
+        },
         Turn::Made => Ok(false),
         Turn::Output(text) => {
-            if put(writer, text.as_slice()) {
+            if write_text(writer, text.as_slice()) {
                 Ok(false)
             } else {
                 session.abandon(door);
                 Err(ServeFault::Write)
             }
         }
-        Turn::NeedInput => match read_more(session, reader) {
+        Turn::NeedInput => match await_input(session, reader, writer) {
             Ok(()) => Ok(false),
             Err(fault) => {
                 session.abandon(door);
@@ -98,11 +110,14 @@ fn round<R: Read, W: Write, D: Door>(
 }
 
 /// Reads requests, answers them and writes the replies, to the end of the input or to a reply that
-/// closes or stops. The seat is the connection's own, and idle; `gs_core::is_base` tests a base.
+/// closes or stops. The seat is the connection's own, and idle at its start; `gs_core::is_base` tests a
+/// base; a piece of a read has so many lines, at least one. What was written is flushed before each
+/// read, and at the end.
 ///
 /// # Errors
 ///
-/// What was written is a front of what is to be said, and what was open is cancelled.
+/// `Read`, `Write` or `NoMemory`, where that failed. What was written is then a front of what is to be
+/// said, and what was open is cancelled.
 pub fn serve<R: Read, W: Write, D: Door>(
     alloc: Global,
     seat: u16,

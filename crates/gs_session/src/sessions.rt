@@ -5,10 +5,11 @@ ghost use Rattle.gs_talk.specs.Seats.{Deeds};
 ghost use Rattle.gs_session.specs.Steps.{server_of};
 ghost use Rattle.gs_session.specs.Turns.{Leads, IsKept, Turns, RestsRightly, Quits, joined, taken, waiting, turn_at, has_opened as has_opened_at};
 
+use crate::bodies::send;
 use crate::buffers::Buffer;
-use crate::hosts::Host;
 use crate::outcomes::Next;
 use crate::phases::{Phase, Work};
+use crate::setups::Setup;
 use crate::sites::Site;
 use crate::steps::Step;
 use crate::works::step;
@@ -16,6 +17,9 @@ use gs_door::Door;
 use gs_event::Action;
 use std::alloc::{AllocError, Global};
 use std::mem;
+
+/// A text that is shorter waits for the next piece of its read, so that a small reply is one write.
+const SHORT_BYTES: usize = 4_096;
 
 /// What a turn did.
 #[derive(Drop)]
@@ -33,7 +37,7 @@ pub enum Turn {
 /// A connection, from its first byte on.
 #[derive(Drop)]
 pub struct Session {
-    host: Host,
+    setup: Setup,
     input: Buffer,
     ended: bool,
     /// What was said and not written yet.
@@ -47,13 +51,13 @@ impl Session {
     pub fn new(alloc: Global, seat: u16, base: &str, piece: u32) -> Result<Session, AllocError>
         requires { is_base base.now ≡ true }
         ensures leads { IfOk result (λ s. Leads s [] [] []) }
-        ensures server { IfOk result (λ s. server_of s.host ≡ record { base = base.now; piece = piece }) }
-        ensures seat { IfOk result (λ s. s.host.seat ≡ seat) }
+        ensures server { IfOk result (λ s. server_of s.setup ≡ record { base = base.now; piece = piece }) }
+        ensures seat { IfOk result (λ s. s.setup.seat ≡ seat) }
         ensures goes { IfOk result (λ s. s.ended ≡ false) }
     {
         let site = Site::new(alloc, base)?;
         Ok(Session {
-            host: Host {
+            setup: Setup {
                 alloc,
                 seat,
                 piece,
@@ -71,7 +75,7 @@ impl Session {
         ensures given { OnOk result ((x : List ℕ) (h : Deeds) (w : List ℕ)
             → Leads self.old x h w → Leads self.new (joined self.old.ended x piece.now) h w) }
         ensures refused { OnErr result (self.new ≡ self.old) }
-        ensures host { self.new.host ≡ self.old.host }
+        ensures setup { self.new.setup ≡ self.old.setup }
         ensures ended { self.new.ended ≡ self.old.ended }
     {
         if self.ended {
@@ -83,7 +87,7 @@ impl Session {
     /// No more bytes come.
     pub fn end_of_input(&mut self)
         ensures leads { IsKept self.old self.new }
-        ensures host { self.new.host ≡ self.old.host }
+        ensures setup { self.new.setup ≡ self.old.setup }
         ensures ended { self.new.ended ≡ true }
     {
         self.ended = true;
@@ -113,13 +117,47 @@ impl Session {
         }
     }
 
+    /// The phase is this.
+    fn put_back(&mut self, phase: Phase)
+        ensures { self.new ≡ waiting self.old phase }
+    {
+        self.phase = phase;
+    }
+
     /// Nothing can be done before more comes.
     fn wait(&mut self, phase: Phase) -> Turn
         ensures state { self.new ≡ waiting self.old phase }
         ensures told { result ≡ turn_at phase self.old.ended }
     {
-        self.phase = phase;
+        self.put_back(phase);
         self.rest()
+    }
+
+    /// In a read the next piece joins what is due; whether this is one.
+    fn gather<D: Door>(&mut self, door: &mut D) -> bool
+        ensures turns { result ≡ true
+            → Turns D.Gives self.old door.old Turn.Made self.new door.new }
+        ensures stays { result ≡ false → (self.new ≡ self.old) × (door.new ≡ door.old) }
+        ensures setup { self.new.setup ≡ self.old.setup }
+        ensures ended { self.new.ended ≡ self.old.ended }
+    {
+        match mem::replace(&mut self.phase, Phase::Over) {
+            Phase::Serving(asked, Work::Sending) => {
+                let due = mem::replace(&mut self.due, Vec::new(self.setup.alloc));
+                let next = send(&self.setup, asked, due, door);
+                self.take(next);
+                true
+            }
+            phase => {
+                self.put_back(phase);
+                false
+            }
+        }
+    }
+
+    /// Whether something is due, and little.
+    fn is_short(&self) -> bool {
+        !self.due.is_empty() && self.due.len() < SHORT_BYTES
     }
 
     /// The next thing that the connection does: one event, a text to be written, or nothing before more
@@ -127,12 +165,15 @@ impl Session {
     pub fn turn<D: Door>(&mut self, door: &mut D) -> Turn
         ensures turns { Turns D.Gives self.old door.old result self.new door.new }
         ensures rests { RestsRightly result self.new }
-        ensures host { self.new.host ≡ self.old.host }
+        ensures setup { self.new.setup ≡ self.old.setup }
         ensures ended { self.new.ended ≡ self.old.ended }
     {
+        if self.is_short() && self.gather(door) {
+            return Turn::Made;
+        }
         while self.due.is_empty() {
             let phase = mem::replace(&mut self.phase, Phase::Over);
-            match step(&self.host, &mut self.input, self.ended, phase, door) {
+            match step(&self.setup, &mut self.input, self.ended, phase, door) {
                 Step::Silent(next) => self.take(next),
                 Step::Made(next) => {
                     self.take(next);
@@ -141,17 +182,20 @@ impl Session {
                 Step::Wait(phase) => return self.wait(phase),
             }
         }
-        Turn::Output(mem::replace(&mut self.due, Vec::new(self.host.alloc)))
+        Turn::Output(mem::replace(&mut self.due, Vec::new(self.setup.alloc)))
     }
 
     /// The connection is given up: what is open at the store is cancelled, and what was not written is
-    /// dropped.
+    /// dropped. Afterwards the session does nothing more.
     pub fn abandon<D: Door>(&mut self, door: &mut D)
-        ensures { Quits D.Gives self.old door.old door.new }
+        ensures quits { Quits D.Gives self.old door.old door.new }
+        ensures over { self.new.phase ≡ Phase.Over }
+        ensures nothing_due { self.new.due.items ≡ [] }
+        ensures setup { self.new.setup ≡ self.old.setup }
     {
         if let Phase::Serving(_, work) = &self.phase {
             if has_opened(work) {
-                self.host.act(Action::Cancel, door);
+                self.setup.act(Action::Cancel, door);
             }
         }
         self.phase = Phase::Over;

@@ -7,13 +7,13 @@ ghost use Rattle.gs_transfer.specs.declared.places.Transfer.{Transfer as ATransf
 ghost use Rattle.gs_session.specs.declared.phases.Phase.TheVariants.{Serving};
 ghost use Rattle.gs_session.specs.declared.phases.Work.TheVariants.{Uploading};
 ghost use Rattle.gs_session.specs.Outcomes.{AfterStage, AfterCommit};
-ghost use Rattle.gs_session.specs.Steps.{Does, Passes, Steps};
+ghost use Rattle.gs_session.specs.Steps.{Does, GivesData, DoesStep};
 
 use crate::buffers::Buffer;
 use crate::cancels::{cancel, leave};
-use crate::hosts::Host;
 use crate::outcomes::{Next, after_commit, after_stage, silently};
 use crate::phases::{Phase, Want, Work};
+use crate::setups::Setup;
 use crate::steps::Step;
 use gs_door::Door;
 use gs_event::Action;
@@ -26,26 +26,32 @@ use gs_verdict::Asked;
 pub type Upload = Reading<TextReader>;
 
 /// What was read is staged; then the work goes on.
-fn stage<D: Door>(host: &Host, asked: Asked, triples: Vec<Triple>, work: Work, door: &mut D) -> Next
-    ensures { Does D.Gives host.now.seat door.old (act.Stage triples) door.new
+fn stage<D: Door>(
+    setup: &Setup,
+    asked: Asked,
+    triples: Vec<Triple>,
+    work: Work,
+    door: &mut D,
+) -> Next
+    ensures { Does D.Gives setup.now.seat door.old (act.Stage triples) door.new
         (λ answer. AfterStage asked work answer result) }
 {
-    let answer = host.act(Action::Stage(triples), door);
-    after_stage(host.alloc, asked, work, &answer)
+    let answer = setup.act(Action::Stage(triples), door);
+    after_stage(setup.alloc, asked, work, &answer)
 }
 
 /// The upload is committed.
-pub fn commit<D: Door>(host: &Host, asked: Asked, door: &mut D) -> Next
-    ensures { Does D.Gives host.now.seat door.old act.Commit door.new
+pub fn commit<D: Door>(setup: &Setup, asked: Asked, door: &mut D) -> Next
+    ensures { Does D.Gives setup.now.seat door.old act.Commit door.new
         (λ answer. AfterCommit asked answer result) }
 {
-    let answer = host.act(Action::Commit, door);
-    after_commit(host.alloc, asked, &answer)
+    let answer = setup.act(Action::Commit, door);
+    after_commit(setup.alloc, asked, &answer)
 }
 
 /// So many bytes of data are read.
 fn feed<D: Door>(
-    host: &Host,
+    setup: &Setup,
     input: &mut Buffer,
     count: usize,
     asked: Asked,
@@ -55,46 +61,46 @@ fn feed<D: Door>(
 ) -> Step
     requires within { count ≤ length input.old }
     ensures { (e : Bool) (t : ATransfer) → 0 < count
-        → Passes t transfer input.old (take count input.old) count
-        → Steps D.Gives host.now e (Serving asked (Uploading reading t)) input.old door.old result input.new door.new }
+        → GivesData t transfer input.old (take count input.old) count
+        → DoesStep D.Gives setup.now e (Serving asked (Uploading reading t)) input.old door.old result input.new door.new }
 {
-    let mut triples = Vec::new(host.alloc);
+    let mut triples = Vec::new(setup.alloc);
     let fed = reading.feed(&input.as_slice()[..count], &mut triples);
     input.skip(count);
     match fed {
         Err(_) => Step::Silent(silently(
-            host.alloc,
+            setup.alloc,
             Phase::Serving(asked, Work::Failing(Want::Memory)),
         )),
         Ok(()) => {
             let work = Work::Uploading(reading, transfer);
             if triples.is_empty() {
-                Step::Silent(silently(host.alloc, Phase::Serving(asked, work)))
+                Step::Silent(silently(setup.alloc, Phase::Serving(asked, work)))
             } else {
-                Step::Made(stage(host, asked, triples, work, door))
+                Step::Made(stage(setup, asked, triples, work, door))
             }
         }
     }
 }
 
 /// The body is over: its last triples are staged, or the Commit is due, or the body has a fault.
-fn finish<D: Door>(host: &Host, asked: Asked, reading: Upload, door: &mut D) -> Step
+fn finish<D: Door>(setup: &Setup, asked: Asked, reading: Upload, door: &mut D) -> Step
     ensures { (e : Bool) (b : List ℕ) (t : ATransfer)
         → ((y : List ℕ) → cut_of t (b ++ y) ≡ cut.ends (cut.Whole (b ++ y)))
-        → Steps D.Gives host.now e (Serving asked (Uploading reading t)) b door.old result b door.new }
+        → DoesStep D.Gives setup.now e (Serving asked (Uploading reading t)) b door.old result b door.new }
 {
-    let mut triples = Vec::new(host.alloc);
+    let mut triples = Vec::new(setup.alloc);
     match reading.finish(&mut triples) {
         Err(_) => Step::Silent(silently(
-            host.alloc,
+            setup.alloc,
             Phase::Serving(asked, Work::Failing(Want::Memory)),
         )),
-        Ok(Some(_)) => Step::Made(cancel(host, 400, asked.closes, door)),
+        Ok(Some(_)) => Step::Made(cancel(setup, 400, asked.closes, door)),
         Ok(None) => {
             if triples.is_empty() {
-                Step::Silent(silently(host.alloc, Phase::Serving(asked, Work::Committing)))
+                Step::Silent(silently(setup.alloc, Phase::Serving(asked, Work::Committing)))
             } else {
-                Step::Made(stage(host, asked, triples, Work::Committing, door))
+                Step::Made(stage(setup, asked, triples, Work::Committing, door))
             }
         }
     }
@@ -102,7 +108,7 @@ fn finish<D: Door>(host: &Host, asked: Asked, reading: Upload, door: &mut D) -> 
 
 /// The next bytes of an upload's body.
 pub fn upload<D: Door>(
-    host: &Host,
+    setup: &Setup,
     input: &mut Buffer,
     ended: bool,
     asked: Asked,
@@ -110,23 +116,23 @@ pub fn upload<D: Door>(
     mut transfer: Transfer,
     door: &mut D,
 ) -> Step
-    ensures { Steps D.Gives host.now ended (Serving asked (Uploading reading transfer))
+    ensures { DoesStep D.Gives setup.now ended (Serving asked (Uploading reading transfer))
         input.old door.old result input.new door.new }
 {
     match transfer.next(input.as_slice()) {
-        Part::Data(count) => feed(host, input, count, asked, reading, transfer, door),
+        Part::Data(count) => feed(setup, input, count, asked, reading, transfer, door),
         Part::Passed(count) => {
             input.skip(count);
             Step::Silent(silently(
-                host.alloc,
+                setup.alloc,
                 Phase::Serving(asked, Work::Uploading(reading, transfer)),
             ))
         }
-        Part::End => finish(host, asked, reading, door),
-        Part::Fault(status) => Step::Made(cancel(host, status, true, door)),
+        Part::End => finish(setup, asked, reading, door),
+        Part::Fault(status) => Step::Made(cancel(setup, status, true, door)),
         Part::More => {
             if ended {
-                Step::Made(leave(host, door))
+                Step::Made(leave(setup, door))
             } else {
                 Step::Wait(Phase::Serving(asked, Work::Uploading(reading, transfer)))
             }

@@ -14,20 +14,20 @@ take_head-next-requires c =
 
 pub returns-in-Open : goal.returns-in-Open
 returns-in-Open c = λ e.
-    waits_between c.args.host.now e c.args.input.now c.skip.new.self
+    waits_between c.args.setup.now e c.args.input.now c.skip.new.self
     (bare_by c.args.input.now c.as_slice.result.now c.skip.new.self c.leading-lead.result c.as_slice.ensures c.leading-lead.ensures.dropped c.skip.ensures)
     (subst (λ (b : List ℕ). heads.Open ≡ head_at b) c.as_slice-2.ensures c.in-Open.ensures.cut)
 
 pub returns-in-TooLong : goal.returns-in-TooLong
 returns-in-TooLong c = λ e.
-    denies_long c.args.host.now e c.args.input.now c.skip.new.self c.leading-lead.result c.reply.result c.skip.ensures
+    denies_long c.args.setup.now e c.args.input.now c.skip.new.self c.leading-lead.result c.reply.result c.skip.ensures
     (bare_by c.args.input.now c.as_slice.result.now c.skip.new.self c.leading-lead.result c.as_slice.ensures c.leading-lead.ensures.dropped c.skip.ensures)
     (subst (λ (b : List ℕ). TooLong ≡ head_at b) c.as_slice-2.ensures c.in-TooLong.ensures.cut) c.reply.ensures
 
 pub returns-in-After : goal.returns-in-After
 returns-in-After c = λ e.
-    takes_head c.args.host.now e c.args.input.now c.skip.new.self c.skip-in-After.new.self c.leading-lead.result c.in-After.count c.take_head-next.result c.skip.ensures
+    takes_head c.args.setup.now e c.args.input.now c.skip.new.self c.skip-in-After.new.self c.leading-lead.result c.in-After.count c.take_head-next.result c.skip.ensures
     (bare_by c.args.input.now c.as_slice.result.now c.skip.new.self c.leading-lead.result c.as_slice.ensures c.leading-lead.ensures.dropped c.skip.ensures)
     (subst (λ (b : List ℕ). Whole (take c.in-After.count b) (drop c.in-After.count b) ≡ head_at b) c.as_slice-2.ensures c.in-After.ensures.cut)
     (subst (λ (b : List ℕ). c.in-After.count ≤ length b) c.as_slice-2.ensures c.in-After.ensures.within.0) c.in-After.ensures.within.1 c.skip-in-After.ensures
-    (subst (λ (b : List ℕ). AfterHead (verdict_of c.args.host.now.site (take c.in-After.count b)) c.take_head-next.result) c.as_slice-in-After.ensures c.take_head-next.ensures)
+    (subst (λ (b : List ℕ). AfterHead (verdict_of c.args.setup.now.site (take c.in-After.count b)) c.take_head-next.result) c.as_slice-in-After.ensures c.take_head-next.ensures)

@@ -5,7 +5,7 @@ use Rattle.gs_session.proofs.OpenLemmas.{open_short, open_makes, open_patch_make
 use Rattle.gs_session.proofs.opens.open.Goals as goal
 
 pub returns-in_default : goal.returns-in_default
-returns-in_default g c = λ e b. (refl, open_short c.args.host.now e c.args.asked b c.reply.result c.reply.ensures)
+returns-in_default g c = λ e b. (refl, open_short c.args.setup.now e c.args.asked b c.reply.result c.reply.ensures)
 
 pub returns-in-Ok-Upload : goal.returns-in-Ok-Upload
 returns-in-Ok-Upload g c = λ e b.
@@ -14,7 +14,7 @@ returns-in-Ok-Upload g c = λ e b.
       act.Open c.in-Ok-Upload.kind,
       made.0,
       made.1,
-      open_makes c.args.host.now e c.args.asked c.in-Ok-Upload.kind made.0 b c.in-Ok.greeting.items c.open_upload.result plan c.in-Ok.ensures made.2,
+      open_makes c.args.setup.now e c.args.asked c.in-Ok-Upload.kind made.0 b c.in-Ok.greeting.items c.open_upload.result plan c.in-Ok.ensures made.2,
     )
 
 pub returns-in-Ok-Patch : goal.returns-in-Ok-Patch
@@ -24,8 +24,8 @@ returns-in-Ok-Patch g c = λ e b.
       act.OpenPatch c.in-Ok-Patch.target,
       made.0,
       made.1,
-      open_patch_makes c.args.host.now e c.args.asked c.in-Ok-Patch.target made.0 b c.in-Ok.greeting.items c.open_patch.result plan c.in-Ok.ensures made.2,
+      open_patch_makes c.args.setup.now e c.args.asked c.in-Ok-Patch.target made.0 b c.in-Ok.greeting.items c.open_patch.result plan c.in-Ok.ensures made.2,
     )
 
 pub returns-in_default-plan_of : goal.returns-in_default-plan_of
-returns-in_default-plan_of g c = λ e b. (refl, open_short c.args.host.now e c.args.asked b c.reply-in_default-plan_of.result c.reply-in_default-plan_of.ensures)
+returns-in_default-plan_of g c = λ e b. (refl, open_short c.args.setup.now e c.args.asked b c.reply-in_default-plan_of.result c.reply-in_default-plan_of.ensures)

@@ -22,4 +22,4 @@ returns-in-Err-clause-front g c =
 pub returns-clause-front : goal.returns-clause-front
 returns-clause-front g c =
     ended_here g.D.Door.Gives (record { base = c.args.base.now; piece = c.args.piece }) c.args.seat (g.R.Read.remaining c.args.reader.now) (g.R.Read.remaining c.loop.reader) (g.W.Write.contents c.args.writer.now)
-    (g.W.Write.contents c.loop.writer) c.args.door.now c.loop.door c.abandon.new.door c.loop.session c.loop.invariant c.abandon.ensures
+    (g.W.Write.contents c.loop.writer) c.args.door.now c.loop.door c.abandon.new.door c.loop.session c.loop.invariant c.abandon.ensures.quits

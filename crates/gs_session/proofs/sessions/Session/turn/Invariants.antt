@@ -6,7 +6,7 @@ use Rattle.gs_session.proofs.sessions.Session.turn.Given as goal
 abbrev pub invariant-loop-self : goal.invariant-loop-self
 invariant-loop-self g l = record {
   kept : IsKept l.fn.self l.self;
-  host : l.self.host ≡ l.fn.self.host;
+  setup : l.self.setup ≡ l.fn.self.setup;
   ended : l.self.ended ≡ l.fn.self.ended;
   door : l.door ≡ l.fn.door;
 }

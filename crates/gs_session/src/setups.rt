@@ -8,7 +8,7 @@ use std::alloc::Global;
 
 /// What stays the same for all requests of a session.
 #[derive(Drop)]
-pub struct Host {
+pub struct Setup {
     pub alloc: Global,
     pub seat: u16,
     /// How many lines a piece of a read has.
@@ -16,7 +16,7 @@ pub struct Host {
     pub site: Site,
 }
 
-impl Host {
+impl Setup {
     /// One event of the seat.
     pub fn act<D: Door>(&self, action: Action, door: &mut D) -> Answer
         ensures { Acts D.Gives self.now.seat door.old action result door.new }
