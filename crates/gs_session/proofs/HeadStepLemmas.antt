@@ -127,7 +127,7 @@ denied_by {s} {e} d q ms u goes b c x h said l f told idle g k j =
       subst (λ (z : List Move). AnswersDenied d (z ++ ms) (l.text ++ u, goes)) (sym l.keeps.0) (subst (λ (z : List ℕ). AnswersDenied d ms (z ++ u, goes)) (sym l.keeps.1) told),
       subst (λ (rs : List Request). AnswersAll s e more rs rest) (g y) w,
     ))
-    k j)
+    k l.shut j)
 
 -- where there was no memory for the reply, nothing is said
 denied_mute : {s : Server} {e : Bool} (d : Denial) (b c x : List ℕ) (h : Deeds) (said : List ℕ) (l : LeadsTo s e Between b x h said)
@@ -144,7 +144,7 @@ denied_says {s} d false b c x h said l f is n o =
     let u : List ℕ = reply_text d.status (allow_notice d.allow) false in
     to_next n Between u c x h said o
     (denied_by d Between [] u true b c x h said l f (ap (λ z. (reply_text d.status (allow_notice d.allow) z, not z)) (sym is)) refl
-    (λ y. ap (λ z. cond z [] (requests s.base (c ++ y))) (sym is)) (refl, refl) tt)
+    (λ y. ap (λ z. cond z [] (requests s.base (c ++ y))) (sym is)) (refl, refl) refl)
 
 -- A head is denied.
 pub denied_leads : {s : Server} {e : Bool} (d : Denial) (b c x : List ℕ) (h : Deeds) (said : List ℕ) (l : LeadsTo s e Between b x h said)
@@ -179,7 +179,7 @@ served {s} {e} a k u b c x h said l f g j = record {
   done = l.done ∙ ap (λ (z : List Move). deeds l.log ++ deeds_of z) l.keeps.0;
   written = ap (λ z. z ++ u) (l.written ∙ ap (λ z. texts l.log ++ z) l.keeps.1 ∙ append-nil (texts l.log));
   keeps = record { suits = tt; came = refl; said = g; few = λ z. omega arith; stands = j };
-  shut = tt;
+  shut = l.shut;
 }
 
 -- it is to be opened
@@ -215,7 +215,7 @@ unheard {s} {e} a ms v b c x h said l f by idle =
     (answered Between Over b c x h said l ms v false none
     (λ y i more rest w. subst (λ (rs : List Request). AnswersAll s e ((record { moves = l.now ++ ms; text = l.text ++ v; goes = false }) ∷ more) rs rest) (sym (f y))
     (at_end (body_at (limit_of a.method) a.framing (c ++ y)).bytes (body_at (limit_of a.method) a.framing (c ++ y)).end more rest w))
-    (refl, refl) refl)
+    (refl, refl) l.shut refl)
   where
     so : (o : BodyState) → AnswersAsk s a o (l.now ++ ms) (l.text ++ v, false)
     so o = subst (λ (z : List Move). AnswersAsk s a o (z ++ ms) (l.text ++ v, false)) (sym l.keeps.0) (subst (λ (z : List ℕ). AnswersAsk s a o ms (z ++ v, false)) (sym l.keeps.1) (by o))

@@ -25,7 +25,7 @@ starts s b said f g = record {
   done = refl;
   written = g;
   keeps = (refl, refl);
-  shut = tt;
+  shut = refl;
 }
 
 -- the end of the input

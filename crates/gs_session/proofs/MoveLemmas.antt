@@ -70,7 +70,7 @@ moved {s} {e} a k k2 ms u b c x h said l t d suit f g few j = record {
     few = λ z. subst (λ n. n ≤ length (t.cut z).bytes + 1) (sym (stages-append l.now ms)) (few z);
     stands = subst (λ n. Stands s.base a k2 t n) (sym (stages-append l.now ms)) j;
   };
-  shut = tt;
+  shut = l.shut;
 }
 
 grow : {A E : Type 0} (f : E → List A) (log : List E) (e : E) (v now u : List A) → v ≡ flat_map f log ++ now → f e ≡ now ++ u → v ++ u ≡ flat_map f (log ++ e ∷ []) ++ []
@@ -78,10 +78,10 @@ grow f log e v now u p q =
     ap (λ z. z ++ u) p ∙ append_assoc (flat_map f log) now u
     ∙ sym (append-nil (flat_map f (log ++ e ∷ [])) ∙ flat_map-append f log (e ∷ []) ∙ ap (λ z. flat_map f log ++ z) (append-nil (f e) ∙ q))
 
--- a reply after which the connection is over closes or stops
+-- a reply after which the connection is over closes or stops, and no other
 abbrev pub Closes : Phase → Bool → Type 0
 Closes Over goes = goes ≡ false
-Closes p goes = Unit {0}
+Closes p goes = goes ≡ true
 
 or_true : (b : Bool) → (b || true) ≡ true
 or_true true = refl
@@ -91,17 +91,25 @@ closed_last : (log : Log) (n : Entry) → n.goes ≡ false → is_closed (log ++
 closed_last [] n f = ap (λ b. not b || false) f
 closed_last (m ∷ log) n f = ap (λ b. not m.goes || b) (closed_last log n f) ∙ or_true (not m.goes)
 
-shut_last : (q : Phase) (log : Log) (n : Entry) → Closes q n.goes → IsShut q (log ++ n ∷ [])
-shut_last Over log n f = closed_last log n f
-shut_last Between log n f = tt
-shut_last (Serving a k) log n f = tt
+or_goes : (v a b : Bool) → (a ≡ false → b ≡ false) → (not v || a) ≡ false → (not v || b) ≡ false
+or_goes true a b f g = f g
+or_goes false a b f g = absurd (cc)
+
+open_last : (log : Log) (n : Entry) → is_closed log ≡ false → n.goes ≡ true → is_closed (log ++ n ∷ []) ≡ false
+open_last [] n g f = ap (λ b. not b || false) f
+open_last (m ∷ log) n g f = or_goes m.goes (is_closed log) (is_closed (log ++ n ∷ [])) (λ w. open_last log n w f) g
+
+shut_last : (q : Phase) (log : Log) (n : Entry) → is_closed log ≡ false → Closes q n.goes → IsShut q (log ++ n ∷ [])
+shut_last Over log n g f = closed_last log n f
+shut_last Between log n g f = open_last log n g f
+shut_last (Serving a k) log n g f = open_last log n g f
 
 -- A request is answered, after some last moves and a text.
 pub answered : {s : Server} {e : Bool} (p q : Phase) (b c x : List ℕ) (h : Deeds) (said : List ℕ) (l : LeadsTo s e p b x h said) (ms : List Move) (u : List ℕ) (goes : Bool) (t : Trail)
     → ((y : List ℕ) → MayCome e y → (more : Log) (rest : List Request) → AnswersAll s e more (coming s.base q t (c ++ y)) rest
     → AnswersAll s e ((record { moves = l.now ++ ms; text = l.text ++ u; goes = goes }) ∷ more) (coming s.base p l.trail (b ++ y)) rest)
-    → Keeps s q t [] [] → Closes q goes → LeadsTo s e q c x (h ++ deeds_of ms) (said ++ u)
-answered {s} {e} p q b c x h said l ms u goes t f k j =
+    → Keeps s q t [] [] → is_closed l.log ≡ false → Closes q goes → LeadsTo s e q c x (h ++ deeds_of ms) (said ++ u)
+answered {s} {e} p q b c x h said l ms u goes t f k open_yet j =
     let n : Entry = record { moves = l.now ++ ms; text = l.text ++ u; goes = goes } in
     record {
       trail = t;
@@ -112,7 +120,7 @@ answered {s} {e} p q b c x h said l ms u goes t f k j =
       done = grow (λ (n : Entry). deeds_of n.moves) l.log n h (deeds_of l.now) (deeds_of ms) l.done (flat_map-append deed_of l.now ms);
       written = grow (λ (n : Entry). n.text) l.log n said l.text u l.written refl;
       keeps = k;
-      shut = shut_last q l.log n j;
+      shut = shut_last q l.log n open_yet j;
     }
 
 abbrev pub none : Trail
@@ -143,7 +151,7 @@ pub ends : {s : Server} {e : Bool} (a : Asked) (k : Work) (ms : List Move) (v u 
     → ((o : BodyState) → Settles s.base a o (course a l.trail.course ms) (v, false)) → said_so_far a l.trail.course ++ u ≡ greeting a (course a l.trail.course ms) ++ v
     → LeadsTo s e Over c x (h ++ deeds_of ms) (said ++ u)
 ends {s} {e} a k ms v u b c x h said l suit own few set g =
-    answered (Serving a k) Over b c x h said l ms u false none (λ y i more rest w. go (l.trail.cut (b ++ y)) (few (b ++ y)) more rest w) (refl, refl) refl
+    answered (Serving a k) Over b c x h said l ms u false none (λ y i more rest w. go (l.trail.cut (b ++ y)) (few (b ++ y)) more rest w) (refl, refl) l.shut refl
   where
     by : (o : BodyState) → stages_in l.now + stages_in ms ≤ length (data_of o) + 1 → AnswersAsk s a o (l.now ++ ms) (l.text ++ u, false)
     by o n = settles a k ms o false v u b x h said l suit (own o) n (set o) g
@@ -172,12 +180,12 @@ answers {s} {e} a k ms body true v u b x h said l whole suit own few set g =
     answered (Serving a k) Over b b x h said l ms u false none
     (λ y i more rest w. subst (λ (c : Cut). AnswersAll s e ((record { moves = l.now ++ ms; text = l.text ++ u; goes = false }) ∷ more) (by_body (requests s.base) a c) rest) (sym (whole y))
     (settles a k ms (Whole body) false v u b x h said l suit own few set g, w))
-    (refl, refl) refl
+    (refl, refl) l.shut refl
 answers {s} {e} a k ms body false v u b x h said l whole suit own few set g =
     answered (Serving a k) Between b b x h said l ms u true none
     (λ y i more rest w. subst (λ (c : Cut). AnswersAll s e ((record { moves = l.now ++ ms; text = l.text ++ u; goes = true }) ∷ more) (by_body (requests s.base) a c) rest) (sym (whole y))
     (settles a k ms (Whole body) true v u b x h said l suit own few set g, w))
-    (refl, refl) tt
+    (refl, refl) l.shut refl
 
 -- A request whose body has a fault in its transfer is answered, and the connection ends.
 pub answers_fault : {s : Server} {e : Bool} (a : Asked) (k : Work) (ms : List Move) (front : List ℕ) (st : ℕ) (v u b c x : List ℕ) (h : Deeds) (said : List ℕ) (l : LeadsTo s e (Serving a k) b x h said)
@@ -189,7 +197,7 @@ answers_fault {s} {e} a k ms front st v u b c x h said l faulty suit own few set
     answered (Serving a k) Over b c x h said l ms u false none
     (λ y i more rest w. subst (λ (d : Cut). AnswersAll s e ((record { moves = l.now ++ ms; text = l.text ++ u; goes = false }) ∷ more) (by_body (requests s.base) a d) rest) (sym (faulty y))
     (settles a k ms (Faulty front st) false v u b x h said l suit own few set g, w))
-    (refl, refl) refl
+    (refl, refl) l.shut refl
 
 -- The input ended within the body, and so does the connection.
 pub ends_open : {s : Server} (a : Asked) (k : Work) (ms : List Move) (front v u b c x : List ℕ) (h : Deeds) (said : List ℕ) (l : LeadsTo s true (Serving a k) b x h said)
@@ -202,7 +210,7 @@ ends_open {s} a k ms front v u b c x h said l ended suit own few set g =
     (λ y i more rest w. subst (λ (d : Cut). AnswersAll s true ((record { moves = l.now ++ ms; text = l.text ++ u; goes = false }) ∷ more) (by_body (requests s.base) a d) rest)
     (sym (ap (λ z. l.trail.cut (b ++ z)) i ∙ ended))
     (settles a k ms (Unended front true) false v u b x h said l suit own few set g, w))
-    (refl, refl) refl
+    (refl, refl) l.shut refl
 
 -- what is over does not look at the bytes
 pub any_bytes : {s : Server} {e : Bool} (b c x : List ℕ) (h : Deeds) (said : List ℕ) → LeadsTo s e Over b x h said → LeadsTo s e Over c x h said

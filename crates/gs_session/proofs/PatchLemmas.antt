@@ -121,7 +121,7 @@ patch_on {s} a r v v2 t t2 bytes b x n h said l p is =
       said = l.keeps.said ∙ ap (λ (c : Course). said_so_far a c) l.keeps.stands.0;
       few = λ z. omega (arith, few_patch a r v t t2 bytes b x h said l z);
       stands = (refl, λ z. ap (λ w. with_data w (cut_of t2 z)) (sym is));
-    }) (λ i. tt)
+    }) (λ i. i)
 
 -- The next bytes of a patch's body are kept, or are none of its data.
 pub keep_rests : (setup : Setup) (e : Bool) (a : Asked) (r : ℕ) (v v2 : Vec ℕ Global) (t t2 : Transfer) (bytes b c : List ℕ) (count : ℕ) (n : Next)

@@ -60,6 +60,7 @@ waiting {s} {e} a k b x h said l c front at own right awaits is = (
       written = l.written;
     },
     ap (λ (d : Course). awaits_body a d) to_c ∙ awaits,
+    l.shut,
   ),
 )
   where
@@ -84,6 +85,7 @@ says_all {s} {e} Between b x h said i n l = (
       written = l.written;
     },
     tt,
+    l.shut,
   ),
 )
 says_all {s} {e} (Serving a (Skipping t)) b x h said i n l =

@@ -55,7 +55,7 @@ pub ends_early : {s : Server} {e : Bool} (a : Asked) (k : Work) (ms : List Move)
     → l.trail.course ≡ Fresh → AllSuit s.piece (plan_of a) ms → course a Fresh ms ≡ c → is_early c ≡ true → stages_in ms ≡ 0 → ((o : BodyState) → IsOwn s.base a o c) → ((o : BodyState) → Settles s.base a o c (v, false))
     → LeadsTo s e phase.Over b x (h ++ deeds_of ms) (said ++ v)
 ends_early {s} {e} a k ms c v b x h said l at suit came early no_stage own set =
-    answered (Serving a k) phase.Over b b x h said l ms v false none (λ y i more rest w. go (l.trail.cut (b ++ y)) (l.keeps.few (b ++ y)) more rest w) (refl, refl) refl
+    answered (Serving a k) phase.Over b b x h said l ms v false none (λ y i more rest w. go (l.trail.cut (b ++ y)) (l.keeps.few (b ++ y)) more rest w) (refl, refl) l.shut refl
   where
     is : course a Fresh (l.now ++ ms) ≡ c
     is = course-append a Fresh l.now ms ∙ ap (λ (c : Course). course a c ms) (l.keeps.came ∙ at) ∙ came
@@ -176,7 +176,7 @@ skip_on {s} a t t2 bytes b x n h said l p =
       said = l.keeps.said ∙ ap (λ (c : Course). said_so_far a c) l.keeps.stands.1;
       few = λ z. omega (arith, few_came l.trail done t (stages_in l.now) l.keeps.stands.3 l.keeps.few, length-append (done ++ bytes) (cut_of t2 z).bytes, length-append done bytes);
       stands = (done ++ bytes, refl, l.keeps.stands.2, λ z. refl);
-    }) (λ i. tt)
+    }) (λ i. i)
 
 -- bytes that were used leave less
 pub used_less : (n : ℕ) (b : List ℕ) (r : ℕ) → 0 < n → n ≤ length b → 3 * length (drop n b) + r < 3 * length b + r

@@ -76,7 +76,7 @@ reads_on {s} a k k2 t t2 bytes b x n h said l p r =
         cut = λ z. refl;
         few = omega (arith, g.few, length-append g.done bytes);
       };
-    }) (λ i. tt)
+    }) (λ i. i)
 
 -- no upload is suited by another plan
 abbrev pub IsUpload : Asked → Type 0

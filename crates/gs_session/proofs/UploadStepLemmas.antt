@@ -182,7 +182,7 @@ end_staged setup e a k t b m over all y =
       said = l.keeps.said ∙ ap (λ (c : Course). said_so_far a c) g.stands;
       few = λ z. omega (arith, g.few);
       stands = (g.request, g.done, g.staged, refl, subst (λ (ts : List RdfTriple). States setup.site a g.request g.done ts) (append-nil g.staged) (states a k t b x h said l [] all), λ z. refl);
-    }) (λ i. tt))
+    }) (λ i. i))
 
 -- The body is whole, and the last that it gives is staged.
 pub end_gives : {D : Type 0} (gives : D → Event → Answer → D → Type 0) (setup : Setup) (e : Bool) (a : Asked) (k : Reading TextReader) (t : Transfer) (b : List ℕ) (v : Vec RdfTriple Global) (old new : D) (m : Next)

@@ -28,7 +28,8 @@ pub record Connection {D : Type 0} (gives : D → Event → Answer → D → Typ
 abbrev pub Goes : Server → ℕ → Session → Option (List ℕ) → List ℕ → Deeds → List ℕ → Type 0
 Goes p seat s left x h w = Leads s x h w × (s.ended ≡ true → IsAtEnd left) × (server_of s.setup ≡ p) × (s.setup.seat ≡ seat)
 
--- What was done asks of the abstract store what the requests ask, in their order, and leaves the seat idle.
+-- What was done asks of the abstract store what the requests ask, in their order, and leaves the seat idle, unless an answer did not
+-- fit.
 abbrev pub AsksRightly : Server → List ℕ → Deeds → Type 0
 AsksRightly p x h = ArePointsOf p.base (requests p.base x) (asked_in Idle h) × IsIdle h
 

@@ -13,10 +13,10 @@ abbrev pub MayCome : Bool → List ℕ → Type 0
 MayCome true y = y ≡ []
 MayCome false y = Unit {0}
 
--- after its last request a connection has closed or stopped
+-- after its last request a connection has closed or stopped, and not before
 abbrev pub IsShut : Phase → Log → Type 0
 IsShut Over log = is_closed log ≡ true
-IsShut p log = Unit {0}
+IsShut p log = is_closed log ≡ false
 
 -- The bytes x, with or without an end, what was done for them, and what was said, lead to this phase with these bytes unused.
 pub record LeadsTo (s : Server) (ended : Bool) (p : Phase) (unused x : List ℕ) (h : Deeds) (said : List ℕ) : Type 0 where

@@ -86,7 +86,7 @@ abbrev pub CancelsOnce : Deeds → Type 0
 CancelsOnce ds = (ds ≡ []) ⊎ ((answer : Answer) × (ds ≡ (Cancel, answer) ∷ []))
 
 -- The connection is given up. With what was cancelled, each history that led to the session was a conversation up to here, also
--- where more bytes had come that it never took; and the seat is idle.
+-- where more bytes had come that it never took; and the seat is idle, unless an answer did not fit.
 abbrev pub Quits : {D : Type 0} → (D → Event → Answer → D → Type 0) → Session → D → D → Type 0
 Quits {D} gives s old new = (ds : Deeds) × CancelsOnce ds × Ran gives s.setup.seat old ds new
     × ((x : List ℕ) (h : Deeds) (w y : List ℕ) → Leads s x h w → MayCome s.ended y

@@ -27,7 +27,7 @@ pub enum Work {
     Failing(Want),
     /// A read: the next piece is due.
     Sending,
-    /// A read is to be cancelled, and nothing more is said.
+    /// A read is to be cancelled, and nothing more is said than what is due.
     Cutting,
 }
 

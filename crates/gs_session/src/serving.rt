@@ -16,7 +16,7 @@ use std::io::{ErrorKind, Read, Write};
 pub enum ServeFault {
     /// A read failed, or there were 2^64 - 1 turns and reads.
     Read,
-    /// A write or a flush failed, or a write took nothing.
+    /// A write or a flush failed, or a write took nothing, or a text took 2^64 - 1 writes.
     Write,
     /// There was no memory for the session, or for what was read.
     NoMemory,

@@ -1,5 +1,5 @@
 //! One connection.
-ghost use Rattle.std.specs.Prelude.{◌≡◌, ℕ, List, [], true, false, IfOk, OnOk, OnErr};
+ghost use Rattle.std.specs.Prelude.{◌≡◌, ◌<◌, ℕ, List, [], length, true, false, IfOk, OnOk, OnErr};
 ghost use Rattle.gs_model.specs.Bases.{is_base};
 ghost use Rattle.gs_talk.specs.Seats.{Deeds};
 ghost use Rattle.gs_session.specs.Steps.{server_of};
@@ -133,8 +133,9 @@ impl Session {
         self.rest()
     }
 
-    /// In a read the next piece joins what is due; whether this is one.
+    /// In a read the next piece joins what is due, which is little; whether this is one.
     fn gather<D: Door>(&mut self, door: &mut D) -> bool
+        requires { length self.old.due.items < 4096 }
         ensures turns { result ≡ true
             → Turns D.Gives self.old door.old Turn.Made self.new door.new }
         ensures stays { result ≡ false → (self.new ≡ self.old) × (door.new ≡ door.old) }
@@ -156,7 +157,9 @@ impl Session {
     }
 
     /// Whether something is due, and little.
-    fn is_short(&self) -> bool {
+    fn is_short(&self) -> bool
+        ensures { result ≡ true → length self.now.due.items < 4096 }
+    {
         !self.due.is_empty() && self.due.len() < SHORT_BYTES
     }
 

@@ -4,8 +4,8 @@ ghost use Rattle.std.specs.Io.KnownBytes.{Appends};
 
 use std::io::{ErrorKind, Write};
 
-/// Writes the text, or as much of it as the writer takes; whether that is all. A write that was
-/// interrupted is made again.
+/// Writes the text, or as much of it as the writer takes in 2^64 - 1 writes; whether that is all. A
+/// write that was interrupted is made again.
 pub fn write_text<W: Write>(writer: &mut W, text: &[u8]) -> bool
     ensures all { result ≡ true → Appends (W.contents writer.old) (W.contents writer.new) text.now }
     ensures front { (n : ℕ) × Appends (W.contents writer.old) (W.contents writer.new) (take n text.now) }

@@ -144,14 +144,15 @@ abbrev pub AwaitsBody : List Request → List Move → Type 0
 AwaitsBody (Waits a front ∷ rs) now = awaits_body a (course a Fresh now) ≡ true
 AwaitsBody rs now = Unit {0}
 
--- All that is to be said was said, and no settled request is left; one that is still open awaits its body.
-abbrev pub SaysAll : Server → Bool → List ℕ → Deeds → List ℕ → Type 0
-SaysAll p ended x h w = (rest : List Request) × IsAtRest rest × ((k : Talk p ended x h w rest) × AwaitsBody rest k.now)
-
 -- a reply closed, or the connection stopped
 abbrev pub is_closed : Log → Bool
 is_closed [] = false
 is_closed (e ∷ es) = not e.goes || is_closed es
+
+-- All that is to be said was said, and no settled request is left; one that is still open awaits its body. The connection goes on:
+-- no reply closed, and it did not stop.
+abbrev pub SaysAll : Server → Bool → List ℕ → Deeds → List ℕ → Type 0
+SaysAll p ended x h w = (rest : List Request) × IsAtRest rest × ((k : Talk p ended x h w rest) × AwaitsBody rest k.now × (is_closed k.log ≡ false))
 
 -- All that is to be said was said, no request is left, and the connection is over: the input ended, or a reply closed or stopped.
 abbrev pub SaysLast : Server → Bool → List ℕ → Deeds → List ℕ → Type 0
