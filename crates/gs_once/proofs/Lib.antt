@@ -1,0 +1,4 @@
+mod FaultLemmas
+mod PieceLemmas
+mod AskedLemmas
+mod RunLemmas

@@ -1,0 +1,57 @@
+//! The options of the program.
+ghost use Rattle.std.specs.Prelude.{◌≡◌, false};
+ghost use Rattle.clap.specs.Words.{rule_of};
+ghost use Rattle.gs_once.specs.Options as spec;
+
+use clap::{Arg, ArgAction};
+use std::alloc::Global;
+
+/// The text of help.
+const HELP: &str = "\
+Serves one connection of a graph store over HTTP, from standard input to standard output.
+
+Usage: gsd --once [--base URL] [--piece N]
+
+  --once      serve one connection over a new store, and end
+  --base URL  http:// and the host that made-up names of graphs have (default http://localhost)
+  --piece N   the lines of a piece of a reply, 1 to 4096 (default 256)
+  -h, --help  show this text
+";
+
+/// Serve one connection.
+pub fn once<'a>(alloc: Global) -> Arg<'a>
+    ensures rule { rule_of result ≡ spec.once }
+    ensures local { result.global ≡ false }
+{
+    Arg::new(alloc, "once")
+        .long("once")
+        .action(ArgAction::SetTrue)
+}
+
+/// What the names of graphs begin with that the store makes up.
+pub fn base<'a>(alloc: Global) -> Arg<'a>
+    ensures rule { rule_of result ≡ spec.base }
+    ensures local { result.global ≡ false }
+{
+    Arg::new(alloc, "base")
+        .long("base")
+        .default_value("http://localhost")
+}
+
+/// The lines of a piece: so many a chunk of a reply has.
+pub fn piece<'a>(alloc: Global) -> Arg<'a>
+    ensures rule { rule_of result ≡ spec.piece }
+    ensures local { result.global ≡ false }
+{
+    Arg::new(alloc, "piece")
+        .long("piece")
+        .value_parser(clap::value_parser!(u32).range(1..=4096))
+        .default_value("256")
+}
+
+/// The text that names each option.
+pub fn help() -> &'static str
+    ensures { result.now ≡ spec.help_text }
+{
+    HELP
+}

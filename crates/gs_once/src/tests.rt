@@ -1,0 +1,177 @@
+//! Command lines with what they read, write and say.
+use crate::once;
+use std::alloc::{AllocError, Global};
+use std::io::{self, Error, ErrorKind, Read, Write};
+
+const HELP: &str = "\
+Serves one connection of a graph store over HTTP, from standard input to standard output.
+
+Usage: gsd --once [--base URL] [--piece N]
+
+  --once      serve one connection over a new store, and end
+  --base URL  http:// and the host that made-up names of graphs have (default http://localhost)
+  --piece N   the lines of a piece of a reply, 1 to 4096 (default 256)
+  -h, --help  show this text
+";
+
+/// Makes a graph, of no triples.
+const MAKE: &str = "POST /store HTTP/1.1\r\nHost: a\r\nContent-Length: 0\r\n\r\n";
+
+const MADE: &str =
+    "HTTP/1.1 201 Created\r\nContent-Length: 0\r\nLocation: http://localhost/graphs/n1-0\r\n\r\n";
+
+const MADE_ELSEWHERE: &str =
+    "HTTP/1.1 201 Created\r\nContent-Length: 0\r\nLocation: http://example.org:8080/graphs/n1-0\r\n\r\n";
+
+/// Makes a graph of two triples, and asks for it.
+const TWO: &str =
+    "POST /store HTTP/1.1\r\nHost: a\r\nContent-Type: text/turtle\r\nContent-Length: 16\r\n\r\n<a:a> <a:b> 1,2.GET /graphs/n1-0 HTTP/1.1\r\nHost: a\r\n\r\n";
+
+/// Two pieces of one line each.
+const IN_PIECES: &str = "\
+HTTP/1.1 201 Created\r\nContent-Length: 0\r\nLocation: http://localhost/graphs/n1-0\r\n\r\n\
+HTTP/1.1 200 OK\r\nContent-Type: application/n-triples\r\nTransfer-Encoding: chunked\r\n\r\n\
+3e\r\n<a:a> <a:b> \"1\"^^<http://www.w3.org/2001/XMLSchema#integer> .\n\r\n\
+3e\r\n<a:a> <a:b> \"2\"^^<http://www.w3.org/2001/XMLSchema#integer> .\n\r\n0\r\n\r\n";
+
+/// Command lines that are done, with what they read and write.
+const DONE: &[(&str, &str, &str)] = &[
+    ("gsd --once", "", ""),
+    ("gsd --once", MAKE, MADE),
+    ("gsd --once --piece 1", TWO, IN_PIECES),
+    ("gsd --piece=+1 --once", TWO, IN_PIECES),
+    ("gsd --once --piece 4096", MAKE, MADE),
+    (
+        "gsd --once --base=http://example.org:8080",
+        MAKE,
+        MADE_ELSEWHERE,
+    ),
+    ("gsd --help", MAKE, HELP),
+    ("gsd -h", MAKE, HELP),
+];
+
+/// Command lines that ask for nothing.
+const BAD: &[&str] = &[
+    "",
+    "gsd",
+    "gsd --piece 7",
+    "gsd --once --once",
+    "gsd --once --piece",
+    "gsd --once --piece 0",
+    "gsd --once --piece 4097",
+    "gsd --once --piece x",
+    "gsd --once --base http://",
+    "gsd --once --base ftp://x",
+    "gsd --once --other",
+    "gsd --once more",
+];
+
+/// The words of a line.
+fn split(alloc: Global, line: &str) -> Result<Vec<&str>, AllocError> {
+    let mut words = Vec::new(alloc);
+    for word in line.split_ascii_whitespace() {
+        words.push(word)?;
+    }
+    Ok(words)
+}
+
+/// Whether a command line has this status and these texts.
+fn is_right(alloc: Global, line: &str, input: &str, status: u8, output: &str, said: &str) -> bool {
+    let Ok(words) = split(alloc, line) else {
+        return false;
+    };
+    let mut reader = input.as_bytes();
+    let mut out = Vec::new(alloc);
+    let mut err = Vec::new(alloc);
+    once(alloc, words.as_slice(), &mut reader, &mut out, &mut err) == status
+        && out.as_slice() == output.as_bytes()
+        && err.as_slice() == said.as_bytes()
+}
+
+/// The first line that is not done as its row says.
+fn wrong_done(alloc: Global) -> Option<&'static str> {
+    for (line, input, output) in DONE {
+        if !is_right(alloc, line, input, 0, output, "") {
+            return Some(line);
+        }
+    }
+    None
+}
+
+/// The first line that is not refused.
+fn wrong_bad(alloc: Global) -> Option<&'static str> {
+    for line in BAD {
+        if !is_right(alloc, line, MAKE, 2, "", "gsd: bad arguments\n") {
+            return Some(line);
+        }
+    }
+    None
+}
+
+/// What fails at each read and each write.
+#[derive(Drop)]
+struct Broken {}
+
+impl Read for Broken {
+    fn read(&mut self, _buffer: &mut [u8]) -> io::Result<usize> {
+        Err(Error::from(ErrorKind::ConnectionReset))
+    }
+}
+
+impl Write for Broken {
+    fn write(&mut self, _bytes: &[u8]) -> io::Result<usize> {
+        Err(Error::from(ErrorKind::BrokenPipe))
+    }
+
+    fn flush(&mut self) -> io::Result<()> {
+        Ok(())
+    }
+}
+
+fn says_that_a_read_failed(alloc: Global) -> bool {
+    let mut out = Vec::new(alloc);
+    let mut err = Vec::new(alloc);
+    let status = once(
+        alloc,
+        &["gsd", "--once"],
+        &mut Broken {},
+        &mut out,
+        &mut err,
+    );
+    status == 1 && out.is_empty() && err.as_slice() == b"gsd: read failed\n".as_slice()
+}
+
+fn says_that_a_write_failed(alloc: Global, words: &[&str]) -> bool {
+    let mut reader = MAKE.as_bytes();
+    let mut err = Vec::new(alloc);
+    let status = once(alloc, words, &mut reader, &mut Broken {}, &mut err);
+    status == 1 && err.as_slice() == b"gsd: write failed\n".as_slice()
+}
+
+fn status_with_nothing_said(alloc: Global, words: &[&str]) -> u8 {
+    once(alloc, words, &mut Broken {}, &mut Broken {}, &mut Broken {})
+}
+
+#[test]
+fn what_is_asked_for_is_done(rt: HostRuntime) {
+    assert_eq!(rt; wrong_done(rt.alloc()), None);
+}
+
+#[test]
+fn bad_arguments_are_refused(rt: HostRuntime) {
+    assert_eq!(rt; wrong_bad(rt.alloc()), None);
+}
+
+#[test]
+fn a_failed_read_or_write_is_said(rt: HostRuntime) {
+    assert!(rt; says_that_a_read_failed(rt.alloc()));
+    assert!(rt; says_that_a_write_failed(rt.alloc(), &["gsd", "--once"]));
+    assert!(rt; says_that_a_write_failed(rt.alloc(), &["gsd", "--help"]));
+}
+
+#[test]
+fn a_status_stays_where_nothing_can_be_said(rt: HostRuntime) {
+    assert_eq!(rt; status_with_nothing_said(rt.alloc(), &["gsd"]), 2);
+    assert_eq!(rt; status_with_nothing_said(rt.alloc(), &["gsd", "--once"]), 1);
+    assert_eq!(rt; status_with_nothing_said(rt.alloc(), &["gsd", "--help"]), 1);
+}
