@@ -1,0 +1,125 @@
+//! A conversation: what the client sends, and what is said to it.
+use crate::texts::push_bytes;
+use std::alloc::{AllocError, Global};
+
+/// Where what a client sends at once ends in its input, and where what is said to that ends in the
+/// output.
+#[derive(Clone, Copy, Drop)]
+pub struct Exchange {
+    pub sent: usize,
+    pub said: usize,
+}
+
+/// Which numbers a store has left.
+#[derive(Clone, Copy, Drop, PartialEq)]
+pub enum Numbers {
+    All,
+    NoRequest,
+    NoCommit,
+}
+
+/// A conversation under a name, once all its lines were taken.
+#[derive(Drop)]
+pub struct Case<'a> {
+    pub name: &'a str,
+    pub numbers: Numbers,
+    pub input: Vec<u8>,
+    pub output: Vec<u8>,
+    /// The exchanges before the last one.
+    pub exchanges: Vec<Exchange>,
+    /// Something is said in the last exchange.
+    is_said: bool,
+    /// The last reply closes the connection.
+    pub closes: bool,
+}
+
+impl<'a> Case<'a> {
+    /// A conversation without a line.
+    pub fn new(alloc: Global) -> Case<'a> {
+        Case {
+            name: "",
+            numbers: Numbers::All,
+            input: Vec::new(alloc),
+            output: Vec::new(alloc),
+            exchanges: Vec::new(alloc),
+            is_said: false,
+            closes: false,
+        }
+    }
+
+    /// Where the input and the output end so far.
+    pub fn end(&self) -> Exchange {
+        Exchange {
+            sent: self.input.len(),
+            said: self.output.len(),
+        }
+    }
+
+    /// The client sends this. It has waited for what was said before.
+    fn send(&mut self, line: &str) -> Result<(), AllocError> {
+        if self.is_said {
+            let end = self.end();
+            self.exchanges.push(end)?;
+            self.is_said = false;
+        }
+        push_bytes(&mut self.input, line)
+    }
+
+    /// The next line of the input, without its line feed.
+    pub fn take(&mut self, line: &'a str) -> Result<(), AllocError> {
+        if let Some(sent) = line.strip_prefix(">") {
+            return self.send(sent);
+        }
+        if let Some(said) = line.strip_prefix("<") {
+            self.is_said = true;
+            self.closes = self.closes || said == " Connection: close";
+            return push_bytes(&mut self.output, said);
+        }
+        if let Some(name) = line.strip_prefix("= ") {
+            self.name = name;
+        } else if line == "! no request number is left" {
+            self.numbers = Numbers::NoRequest;
+        } else if line == "! no commit number is left" {
+            self.numbers = Numbers::NoCommit;
+        }
+        Ok(())
+    }
+
+    /// The exchange with this number, or the end where there is none.
+    pub fn exchange(&self, number: usize) -> Exchange {
+        match self.exchanges.get(number) {
+            Some(exchange) => *exchange,
+            None => self.end(),
+        }
+    }
+
+    /// How many exchanges were sent whole with so many bytes of the input.
+    pub fn sent_within(&self, count: usize) -> usize {
+        let mut exchanges = 0usize;
+        for exchange in &self.exchanges {
+            if exchange.sent <= count {
+                exchanges = exchanges.saturating_add(1);
+            }
+        }
+        exchanges.saturating_add(usize::from(self.input.len() <= count))
+    }
+
+    /// How many exchanges were answered whole with so many bytes of the output.
+    pub fn said_within(&self, count: usize) -> usize {
+        let mut exchanges = 0usize;
+        for exchange in &self.exchanges {
+            if exchange.said <= count {
+                exchanges = exchanges.saturating_add(1);
+            }
+        }
+        exchanges.saturating_add(usize::from(self.output.len() <= count))
+    }
+
+    /// How many bytes are said in so many exchanges.
+    pub fn said_by(&self, exchanges: usize) -> usize {
+        match exchanges.checked_sub(1) {
+            Some(number) => self.exchange(number).said,
+            None => 0,
+        }
+    }
+}

@@ -1,0 +1,66 @@
+//! Stores, and what is seen of them after a conversation.
+use crate::cases::Numbers;
+use gs_core::{Action, Answer, Event, Refusal, Store};
+use gs_term::{GraphName, Target};
+use std::alloc::{AllocError, Global};
+
+pub const BASE: &str = "http://localhost";
+
+/// The last number of a request, and of a commit.
+const LAST_NUMBER: u64 = 999_999_999_999_999_999;
+
+/// A store with one seat.
+pub fn new_store(alloc: Global, numbers: Numbers) -> Result<Store, Refusal> {
+    match numbers {
+        Numbers::All => Store::new(alloc, 1, BASE),
+        Numbers::NoRequest => Store::starting_at(alloc, 1, BASE, 0, LAST_NUMBER),
+        Numbers::NoCommit => Store::starting_at(alloc, 1, BASE, LAST_NUMBER, 0),
+    }
+}
+
+/// What is seen of a store: its number of triples, and which of some graphs it has, a bit for each.
+#[derive(Clone, Copy, Drop, PartialEq)]
+pub struct State {
+    triples: u64,
+    graphs: u8,
+}
+
+/// Questions for graphs that conversations make.
+#[derive(Drop)]
+pub struct Probe {
+    heads: Vec<Event>,
+}
+
+impl Probe {
+    pub fn new(alloc: Global) -> Result<Probe, Refusal> {
+        let mut heads = Vec::new(alloc);
+        let default = Event::Seat(0, Action::Head(Target::Default));
+        heads.push(default).map_err(AllocError::from)?;
+        for name in [
+            "http://e/g",
+            "http://localhost/graphs/h",
+            "http://localhost/graphs/n1-0",
+        ] {
+            let target = Target::Named(GraphName::new(alloc, name)?);
+            let head = Event::Seat(0, Action::Head(target));
+            heads.push(head).map_err(AllocError::from)?;
+        }
+        Ok(Probe { heads })
+    }
+
+    /// The state of a store whose seat is idle, and which holds nothing but its graphs.
+    pub fn state_of(&self, store: &mut Store) -> Option<State> {
+        let triples = store.triples_now();
+        if store.nodes_in_use() != triples {
+            return None;
+        }
+        let mut graphs = 0u8;
+        for head in &self.heads {
+            let Answer::Status(status, _) = store.step(head) else {
+                return None;
+            };
+            graphs = graphs.wrapping_mul(2).wrapping_add(u8::from(status == 200));
+        }
+        Some(State { triples, graphs })
+    }
+}
