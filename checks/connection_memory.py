@@ -56,7 +56,7 @@ def ending(exchanges, status, out):
             return f"503 in the place of reply {count + 1}"
         if out == before:
             return f"{count} of {len(replies)} replies" if count < len(replies) else "whole"
-        if count < len(replies) and (before + replies[count]).startswith(out):
+        if count < len(replies) and len(out) < len(before + replies[count]) and (before + replies[count]).startswith(out):
             return f"a front of reply {count + 1}"
     raise AssertionError((status, out))
 

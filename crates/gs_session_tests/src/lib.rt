@@ -1,5 +1,0 @@
-//! Tests of the calls of a session, each once where all goes well.
-#![tactic(auto)]
-
-#[cfg(test)]
-mod calls;
