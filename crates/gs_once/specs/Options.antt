@@ -38,7 +38,7 @@ help_text =
     ++ codes "Usage: gsd --once [--base URL] [--piece N]" ++ line_feed ∷ []
     ++ line_feed ∷ []
     ++ codes "  --once      serve one connection over a new store, and end" ++ line_feed ∷ []
-    ++ codes "  --base URL  http:// and the host that made-up names of graphs have (default http://localhost)" ++ line_feed ∷ []
+    ++ codes "  --base URL  http:// and a host: what names of graphs begin with (default http://localhost)" ++ line_feed ∷ []
     ++ codes "  --piece N   the lines of a piece of a reply, 1 to 4096 (default 256)" ++ line_feed ∷ []
     ++ codes "  -h, --help  show this text" ++ line_feed ∷ []
 

@@ -21,6 +21,7 @@ pub record Traffic : Type 0 where
   pub held : Option (List ℕ)
   pub holds : Option (List ℕ)
 
+-- these four
 abbrev pub traffic : Option (List ℕ) → Option (List ℕ) → Option (List ℕ) → Option (List ℕ) → Traffic
 traffic unread left held holds = record { unread = unread; left = left; held = held; holds = holds }
 

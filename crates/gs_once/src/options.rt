@@ -13,7 +13,7 @@ Serves one connection of a graph store over HTTP, from standard input to standar
 Usage: gsd --once [--base URL] [--piece N]
 
   --once      serve one connection over a new store, and end
-  --base URL  http:// and the host that made-up names of graphs have (default http://localhost)
+  --base URL  http:// and a host: what names of graphs begin with (default http://localhost)
   --piece N   the lines of a piece of a reply, 1 to 4096 (default 256)
   -h, --help  show this text
 ";

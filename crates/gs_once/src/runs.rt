@@ -15,7 +15,8 @@ use std::io::{Read, Write};
 
 /// Writes the text of help, and flushes it.
 fn show_help<W: Write>(out: &mut W) -> Result<(), Stop>
-    ensures { (unread : Option (List ℕ)) → Performs asks_help (traffic unread unread (W.contents out.old) (W.contents out.new)) result }
+    ensures { (unread : Option (List ℕ)) → Performs asks_help
+        (traffic unread unread (W.contents out.old) (W.contents out.new)) result }
 {
     if !write_text(out, help().as_bytes()) {
         return Err(Stop::WriteFailed);

@@ -32,7 +32,8 @@ fn is_to_serve(once: &str, base: &str) -> bool
 /// What the options ask for.
 fn task_of<'a>(matches: &ArgMatches<'a>) -> Option<Task<'a>>
     requires { ReadsPiece (found_of matches.now) }
-    ensures { MatchOption result (asked_by_found (found_of matches.now) ≡ nothing) (IsTask (asked_by_found (found_of matches.now))) }
+    ensures { MatchOption result (asked_by_found (found_of matches.now) ≡ nothing)
+        (IsTask (asked_by_found (found_of matches.now))) }
 {
     let once = matches.get_str("once")?;
     let base = matches.get_str("base")?;

@@ -9,7 +9,7 @@ use Rattle.gs_event.specs.declared.events.Action.TheVariants.{Open, OpenPatch, S
 use Rattle.gs_event.specs.declared.answers.Answer.{Answer}
 use Rattle.gs_event.specs.declared.answers.Answer.TheVariants.{Opened, Staged, Status, Pinned, Lines, Cancelled, Refused}
 use Rattle.gs_event.specs.Phases.{Idle, Writing, Patching, Reading, allows}
-use Rattle.gs_event.specs.Views.{Totals, SeatView, View, FitsSeat, next_phase, next_if}
+use Rattle.gs_event.specs.Views.{Totals, SeatView, View, Fits, FitsSeat, next_phase, next_if, next_view}
 use Rattle.gs_event.specs.Waste.{Shown}
 use Rattle.gs_event.specs.Steps.{Steps}
 use Rattle.gs_event.specs.Runs.{Runs}
@@ -26,7 +26,7 @@ use Rattle.gs_session.proofs.TalkLemmas.{talk_allowed}
 -- one seat
 
 -- what a store shows of a seat, without what a read has left
-abbrev seat_phase : SeatView → SeatPhase
+abbrev pub seat_phase : SeatView → SeatPhase
 seat_phase Idle = Idle
 seat_phase (Writing k r g) = Writing k r g
 seat_phase (Patching t r) = Patching t r
@@ -85,29 +85,43 @@ fits_allowed w v action answer f k m = true≢false (sym m)
 
 -- one step
 
--- the store has the seat, in this phase
+-- a store that shows this has the seat, in this phase
+abbrev pub HasPhase : ℕ → SeatPhase → View → Type 0
+HasPhase seat p w = (v : SeatView) × (slice_get w.seats seat ≡ Some v) × (seat_phase v ≡ p)
+
 abbrev ShowsPhase : ℕ → SeatPhase → Shown → Type 0
-ShowsPhase seat p shown = (v : SeatView) × (slice_get shown.view.seats seat ≡ Some v) × (seat_phase v ≡ p)
+ShowsPhase seat p shown = HasPhase seat p shown.view
 
 set_place : {X : Type 0} (xs : List X) (i : ℕ) (x y : X) → slice_get xs i ≡ Some x → slice_get (slice_set xs i y) i ≡ Some y
 set_place [] i x y e = cc
 set_place (z ∷ zs) zero x y e = refl
 set_place (z ∷ zs) (suc i) x y e = set_place zs i x y e
 
+-- an answer to an action that the phase of its seat allows
+pub allowed_fits : (seat : ℕ) (p : SeatPhase) (w : View) (action : Action) (answer : Answer) → HasPhase seat p w → Fits w (Seat seat action) answer
+    → allows p action ≡ true → is_misfit answer ≡ true → ⊥
+allowed_fits seat p w action answer k s o =
+    fits_allowed w.totals k.0 action answer
+    (subst (λ (q : Option SeatView). MatchOption q (answer ≡ Refused why.BadSeat) (λ v. FitsSeat w.totals v action answer)) k.1 s)
+    (sym (same_allows k.0 action) ∙ ap (λ (q : SeatPhase). allows q action) k.2 ∙ o)
+
+-- the phase of a seat after an event of its own
+pub phase_follows : (seat : ℕ) (p : SeatPhase) (w : View) (action : Action) (answer : Answer) → HasPhase seat p w
+    → HasPhase seat (phase_then p (action, answer)) (next_view w (Seat seat action) answer)
+phase_follows seat p w action answer k = (
+  next_phase w.totals k.0 action answer,
+  ap (λ (q : Option SeatView). slice_get (next_if w seat q action answer).seats seat) k.1 ∙ set_place w.seats seat k.0 _ k.1,
+  same_phase w.totals k.0 action answer ∙ ap (λ (q : SeatPhase). phase_then q (action, answer)) k.2,
+)
+
 step_fits : (seat : ℕ) (p : SeatPhase) (old new : Shown) (action : Action) (answer : Answer) → ShowsPhase seat p old → Steps old (Seat seat action) answer new
     → allows p action ≡ true → is_misfit answer ≡ true → ⊥
-step_fits seat p old new action answer k s o =
-    fits_allowed old.view.totals k.0 action answer
-    (subst (λ (q : Option SeatView). MatchOption q (answer ≡ Refused why.BadSeat) (λ v. FitsSeat old.view.totals v action answer)) k.1 s.fits)
-    (sym (same_allows k.0 action) ∙ ap (λ (q : SeatPhase). allows q action) k.2 ∙ o)
+step_fits seat p old new action answer k s o = allowed_fits seat p old.view action answer k s.fits o
 
 step_shows : (seat : ℕ) (p : SeatPhase) (old new : Shown) (action : Action) (answer : Answer) → ShowsPhase seat p old → Steps old (Seat seat action) answer new
     → ShowsPhase seat (phase_then p (action, answer)) new
-step_shows seat p old new action answer k s = (
-  next_phase old.view.totals k.0 action answer,
-  ap (λ (v : View). slice_get v.seats seat) (s.view ∙ ap (λ (q : Option SeatView). next_if old.view seat q action answer) k.1) ∙ set_place old.view.seats seat k.0 _ k.1,
-  same_phase old.view.totals k.0 action answer ∙ ap (λ (q : SeatPhase). phase_then q (action, answer)) k.2,
-)
+step_shows seat p old new action answer k s =
+    subst (λ (w : View). HasPhase seat (phase_then p (action, answer)) w) (sym s.view) (phase_follows seat p old.view action answer k)
 
 -- all steps
 
@@ -137,7 +151,8 @@ talk_fits s ended seat first last x h said rest few idle ran k = ran_fits seat I
 pub stores_fit : StoresFit
 stores_fit s ended seat first last x h said rest few idle ran k = (talk_fits s ended seat first last x h said rest few idle ran k).fits
 
-idle_view : (v : SeatView) → seat_phase v ≡ Idle → v ≡ Idle
+-- a seat that is shown as idle is
+pub idle_view : (v : SeatView) → seat_phase v ≡ Idle → v ≡ Idle
 idle_view Idle e = refl
 idle_view (Writing k r g) e = cc
 idle_view (Patching t r) e = cc

@@ -1,0 +1,6 @@
+pub mod SeatLemmas
+pub mod MoveLemmas
+pub mod CallLemmas
+pub mod FreshLemmas
+pub mod StandLemmas
+pub mod RunLemmas

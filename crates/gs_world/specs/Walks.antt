@@ -1,0 +1,106 @@
+-- What the steps of a world make of it.
+use Rattle.std.specs.Prelude.{◌≡◌, ◌<◌, ℕ, true, List, [], ◌∷◌, ◌++◌, take, length, Vec, Option, Some, None, MatchOption}
+use Rattle.std.specs.List.{slice_get, slice_set}
+use Rattle.std.specs.declared.alloc.Global.{Global}
+use Rattle.gs_event.specs.declared.events.Event.TheVariants as event
+use Rattle.gs_event.specs.declared.answers.Answer.{Answer}
+use Rattle.gs_event.specs.Waste.{Shown}
+use Rattle.gs_event.specs.Steps.{Steps}
+use Rattle.gs_talk.specs.Seats.{Deeds}
+use Rattle.gs_session.specs.declared.sessions.Session.{Session}
+use Rattle.gs_session.specs.declared.sessions.Turn as turn
+use Rattle.gs_session.specs.declared.sessions.Turn.TheVariants.{Output}
+use Rattle.gs_session.specs.Turns.{Leads, IsKept, Turns, RestsRightly, Quits, joined}
+use Rattle.gs_world.specs.declared.connections.Connection.{Connection}
+use Rattle.gs_world.specs.declared.steps.WorldStep.{WorldStep}
+use Rattle.gs_world.specs.declared.steps.WorldStep.TheVariants.{Bytes, Turn, End, Drop, Reclaim}
+use Rattle.gs_world.specs.declared.worlds.World.{World}
+use Rattle.gs_world.specs.Happenings.{is_step_of}
+
+-- what a turn has to be written
+abbrev pub text_of : turn.Turn → List ℕ
+text_of (Output b) = b.items
+text_of t = []
+
+-- the session serves the same requests, of the same seat
+abbrev pub IsSame : Session → Session → Type 0
+IsSame s next = next.setup ≡ s.setup
+
+-- these bytes came to the session, unless its input had ended
+abbrev pub IsGiven : List ℕ → Session → Session → Type 0
+IsGiven b s next = ((x : List ℕ) (h : Deeds) (w : List ℕ) → Leads s x h w → Leads next (joined s.ended x b) h w)
+    × IsSame s next × (next.ended ≡ s.ended)
+
+-- no more bytes come to it
+abbrev pub IsEnded : Session → Session → Type 0
+IsEnded s next = IsKept s next × IsSame s next × (next.ended ≡ true)
+
+-- it took this turn at the store
+abbrev pub Takes : Session → Shown → turn.Turn → Session → Shown → Type 0
+Takes s old t next new = Turns Steps s old t next new × RestsRightly t next × IsSame s next × (next.ended ≡ s.ended)
+
+-- its session is now this one, and this was written
+abbrev pub Becomes : Connection → Session → List ℕ → Type 0
+Becomes k next w = (k.session ≡ Some next) × (k.written.items ≡ w)
+
+-- bytes came to a connection; to one that was given up they did not
+abbrev pub Gets : List ℕ → Connection → Connection → Type 0
+Gets b k k2 = MatchOption k.session (k2 ≡ k) (λ s. (next : Session) × Becomes k2 next k.written.items × IsGiven b s next)
+
+-- its input ended
+abbrev pub Ends : Connection → Connection → Type 0
+Ends k k2 = MatchOption k.session (k2 ≡ k) (λ s. (next : Session) × Becomes k2 next k.written.items × IsEnded s next)
+
+-- the store stays as it is
+abbrev pub Apart : (Connection → Connection → Type 0) → Connection → Shown → Connection → Shown → Type 0
+Apart Holds k old k2 new = Holds k k2 × (new ≡ old)
+
+-- one that was given up stays as it is, and so does the store
+abbrev pub IsIdleAt : Connection → Shown → Connection → Shown → Type 0
+IsIdleAt k old k2 new = (k2 ≡ k) × (new ≡ old)
+
+-- it took a turn, whose text was written
+abbrev pub Moves : Connection → Shown → Connection → Shown → Type 0
+Moves k old k2 new = MatchOption k.session (IsIdleAt k old k2 new)
+    (λ s. (t : turn.Turn) × (next : Session) × Becomes k2 next (k.written.items ++ text_of t) × Takes s old t next new)
+
+-- it took a turn, whose text could not be written
+abbrev pub Stops : Connection → Shown → Connection → Shown → Type 0
+Stops k old k2 new = (s : Session) × (k.session ≡ Some s) × (b : Vec ℕ Global) × (next : Session) × Becomes k2 next k.written.items
+    × Takes s old (Output b) next new
+
+-- it was given up
+abbrev pub Leaves : Connection → Shown → Connection → Shown → Type 0
+Leaves k old k2 new = MatchOption k.session (IsIdleAt k old k2 new)
+    (λ s. (k2.session ≡ None) × (k2.written.items ≡ k.written.items) × Quits Steps s old new)
+
+-- of the connections, this one alone may have changed, and this holds of it; one that is not there changes nothing
+abbrev pub Changes : ℕ → World → World → (Connection → Shown → Connection → Shown → Type 0) → Type 0
+Changes c old new Holds =
+    MatchOption (slice_get old.connections.items c) (new ≡ old)
+    (λ k. (k2 : Connection) × (new.connections.items ≡ slice_set old.connections.items c k2) × Holds k old.store k2 new.store)
+
+-- the store freed nodes
+abbrev pub Frees : ℕ → World → World → Type 0
+Frees n old new = (a : Answer) × Steps old.store (event.Reclaim n) a new.store × (new.connections.items ≡ old.connections.items)
+
+-- what a step makes of a world
+abbrev pub Walks : World → WorldStep → World → Type 0
+Walks old (Bytes c b) new = Changes c old new (Apart (Gets b.items))
+Walks old (Turn c) new = Changes c old new Moves
+Walks old (End c) new = Changes c old new (Apart Ends)
+Walks old (Drop c) new = Changes c old new Leaves
+Walks old (Reclaim n) new = Frees n old new
+
+-- what these steps do, one after another
+abbrev pub WalksAll : World → List WorldStep → World → Type 0
+WalksAll old [] new = new ≡ old
+WalksAll old (step ∷ steps) new = (mid : World) × Walks old step mid × WalksAll mid steps new
+
+-- the connection is there
+abbrev pub IsThere : ℕ → World → Type 0
+IsThere c w = c < length w.connections.items
+
+-- A step of this connection was refused, and the connection is given up in its place.
+abbrev pub GivesUp : World → WorldStep → World → Type 0
+GivesUp old step new = (c : ℕ) × (is_step_of c step ≡ true) × IsThere c old × Changes c old new Leaves

@@ -1,0 +1,100 @@
+-- What stands in a world after its steps, and what that says of its connections.
+use Rattle.std.specs.Prelude.{◌≡◌, ◌≤◌, ◌<◌, ◌⊎◌, ℕ, true, false, List, [], ◌∷◌, ◌++◌, length, reverse, take, Option, Some, None, MatchOption}
+use Rattle.std.specs.List.{slice_get}
+use Rattle.gs_core.specs.Settings.{start_at}
+use Rattle.gs_event.specs.Phases.{Idle}
+use Rattle.gs_event.specs.Histories.{History, Start, IsLegal, view_of, pinned_of}
+use Rattle.gs_stream.specs.Requests.{requests}
+use Rattle.gs_talk.specs.Seats.{Deeds, asked_in}
+use Rattle.gs_talk.specs.Points.{ArePointsOf}
+use Rattle.gs_talk.specs.Logs.{Server, Talk, SaysFront}
+use Rattle.gs_talk.specs.Laws.{HasMisfit, AreOfKind, IsIdle}
+use Rattle.gs_session.specs.declared.sessions.Session.{Session}
+use Rattle.gs_session.specs.Steps.{server_of}
+use Rattle.gs_session.specs.Turns.{Leads}
+use Rattle.gs_world.specs.declared.connections.Connection.{Connection}
+use Rattle.gs_world.specs.declared.steps.WorldStep.{WorldStep}
+use Rattle.gs_world.specs.declared.steps.WorldStep.TheVariants.{Drop}
+use Rattle.gs_world.specs.declared.worlds.World.{World}
+use Rattle.gs_world.specs.Happenings.{Past, Input, no_input, input_of, deeds_at, AreMadeBy, is_step_of}
+use Rattle.gs_world.specs.Walks.{WalksAll, IsThere}
+
+-- what came, was done and was written leads to the session
+pub record Serves (p : Server) (seat : ℕ) (i : Input) (h : Deeds) (w : List ℕ) (s : Session) : Type 0 where
+  pub leads : Leads s i.bytes h w
+  pub ended : s.ended ≡ i.ended
+  pub server : server_of s.setup ≡ p
+  pub seat_is : s.setup.seat ≡ seat
+  pub live : i.is_dropped ≡ false
+
+-- the connection was given up: what was written is a front of what was to be said, and its seat was left idle
+pub record HasLeft (p : Server) (seat : ℕ) (i : Input) (h : Deeds) (w : List ℕ) : Type 0 where
+  pub front : SaysFront p i.ended i.bytes h w
+  pub idle : AreOfKind seat h → IsIdle h
+  pub dropped : i.is_dropped ≡ true
+
+-- either
+abbrev pub HoldsTo : Server → ℕ → Input → Deeds → Connection → Type 0
+HoldsTo p seat i h k = MatchOption k.session (HasLeft p seat i h k.written.items) (Serves p seat i h k.written.items)
+
+-- so many connections to which nothing came yet, each at the seat of its number
+pub record AreFresh (p : Server) (count : ℕ) (ks : List Connection) : Type 0 where
+  pub many : length ks ≡ count
+  pub each : (c : ℕ) (k : Connection) → slice_get ks c ≡ Some k → HoldsTo p c no_input [] k
+
+-- how the store of a world begins
+abbrev pub start_of : Server → ℕ → Start
+start_of p count = start_at count p.base 0 0
+
+-- These steps, the newest first, and this history lead to the world: so many connections, each at the seat of its number.
+pub record Stands (p : Server) (count : ℕ) (w : World) (past : Past) (history : History) : Type 0 where
+  pub lines : 1 ≤ p.piece
+  pub many : length w.connections.items ≡ count
+  pub made : AreMadeBy past history
+  pub legal : IsLegal (start_of p count) history
+  pub view : w.store.view ≡ view_of (start_of p count) history
+  pub pinned : w.store.pinned ≡ pinned_of (start_of p count) history
+  pub each : (c : ℕ) (k : Connection) → slice_get w.connections.items c ≡ Some k → HoldsTo p c (input_of c past) (deeds_at c history) k
+
+-- what was written on a connection, nothing where there is none
+abbrev pub written_by : Option Connection → List ℕ
+written_by None = []
+written_by (Some k) = k.written.items
+
+-- what was written on the connection of this number
+abbrev pub written_on : World → ℕ → List ℕ
+written_on w c = written_by (slice_get w.connections.items c)
+
+-- To one of many connections, i came, h was done at its seat, and w was written.
+pub record IsServed (p : Server) (i : Input) (h : Deeds) (w : List ℕ) : Type 0 where
+  -- what was written is a front of what is to be said
+  pub front : SaysFront p i.ended i.bytes h w
+  -- what the abstract store was asked is what the requests ask, in their order
+  pub points : ArePointsOf p.base (requests p.base i.bytes) (asked_in Idle h)
+  -- no event was out of its phase, or at a seat that is not there
+  pub fits : HasMisfit h → ⊥
+
+-- nothing is left to be done for a connection: it was dropped, or each request was answered
+abbrev pub IsDone : Server → Input → Deeds → Type 0
+IsDone p i h = (i.is_dropped ≡ true) ⊎ ((said : List ℕ) × Talk p i.ended i.bytes h said [])
+
+-- Bytes to bytes over many connections: the events of all seats and their answers, made by the steps, are one legal history, which
+-- the store shows; each connection is served as by it alone; and a seat for which nothing is left is idle.
+pub record ServesAll (p : Server) (count : ℕ) (w : World) (past : Past) (history : History) : Type 0 where
+  pub made : AreMadeBy past history
+  pub legal : IsLegal (start_of p count) history
+  pub view : w.store.view ≡ view_of (start_of p count) history
+  pub served : (c : ℕ) → c < count → IsServed p (input_of c past) (deeds_at c history) (written_on w c)
+  pub idle : (c : ℕ) → c < count → IsDone p (input_of c past) (deeds_at c history) → slice_get w.store.view.seats c ≡ Some Idle
+
+-- A run: the steps were taken; and from each history that led to the world before, one leads on to the world after them, by
+-- which all are served.
+abbrev pub Runs : World → List WorldStep → World → Type 0
+Runs old steps new = WalksAll old steps new
+    × ((p : Server) (count : ℕ) (past : Past) (history : History) → Stands p count old past history
+    → (more : History) × Stands p count new (reverse steps ++ past) (more ++ history) × ServesAll p count new (reverse steps ++ past) (more ++ history))
+
+-- the first n steps were taken, and the connection of the next one, which is there, was then given up
+abbrev pub IsCutAt : World → List WorldStep → World → Type 0
+IsCutAt old steps new = (n : ℕ) × (c : ℕ) × (step : WorldStep) × (slice_get steps n ≡ Some step) × (is_step_of c step ≡ true) × IsThere c old
+    × Runs old (take n steps ++ Drop c ∷ []) new
