@@ -1,5 +1,5 @@
 -- What the calls of connections and of worlds give, by what sessions, lists and the store gave.
-use Rattle.std.proofs.Common.{◌≡◌, ◌≢◌, ◌≤◌, ◌<◌, arith, ℕ, zero, suc, Bool, true, false, if◌then◌else◌, List, [], ◌∷◌, ◌++◌, length, Vec, Option, Some, None, MatchOption, Result, Ok, Err, OnOk, OnErr, is_ok, refl, sym, ap, subst, ◌∙◌, append-nil}
+use Rattle.std.proofs.Common.{◌≡◌, ◌≤◌, ◌<◌, arith, ℕ, zero, suc, if◌then◌else◌, List, [], ◌∷◌, ◌++◌, length, Vec, Option, Some, None, MatchOption, Result, Ok, Err, OnOk, OnErr, is_ok, refl, sym, ap, subst, ◌∙◌, append-nil}
 use Rattle.std.specs.declared.alloc.Global.{Global}
 use Rattle.std.specs.declared.alloc.AllocError.{AllocError}
 use Rattle.std.specs.List.{slice_get, slice_set, slice_index_or}
@@ -9,7 +9,7 @@ use Rattle.gs_session.specs.declared.sessions.Turn as turn
 use Rattle.gs_session.specs.declared.sessions.Turn.TheVariants.{NeedInput, Made, Output, Over}
 use Rattle.gs_world.specs.declared.connections.Connection.{Connection}
 use Rattle.gs_world.specs.declared.worlds.World.{World}
-use Rattle.gs_world.specs.Walks.{text_of, IsGiven, IsEnded, Takes, Gets, Ends, Moves, Stops, Leaves, Changes}
+use Rattle.gs_world.specs.Walks.{text_of, IsGiven, IsEnded, Takes, Gets, Ends, Moves, Stops, Changes, Leaves, GivesUp}
 
 -- a connection that was not given up
 
@@ -80,3 +80,17 @@ changes_absent c w w2 Holds l same =
 pub on_ok : {T E P Q : Type 0} (r : Result T E) → (P → Q) → OnOk r P → OnOk r Q
 on_ok (Ok v) f h = f h
 on_ok (Err e) f h = tt
+
+pub on_err : {T E P Q : Type 0} (r : Result T E) → (P → Q) → OnErr r P → OnErr r Q
+on_err (Ok v) f h = tt
+on_err (Err e) f h = f h
+
+pub always_err : {T E P : Type 0} (r : Result T E) → P → OnErr r P
+always_err (Ok v) h = tt
+always_err (Err e) h = h
+
+-- a connection that is given up
+pub gives_up : (c : ℕ) (w w2 : World) (k k2 : Connection) (Holds : Connection → Shown → Type 0) → c < length w.connections.items
+    → k ≡ slice_index_or w.connections.items c k → w2.connections.items ≡ slice_set w.connections.items c k2 → Holds k w.store → Leaves k w.store k2 w2.store
+    → GivesUp c w w2 Holds
+gives_up c w w2 k k2 Holds l e set h leaves = (k, got w.connections.items c k l e, h, changes_there c w w2 k k2 Leaves l e set leaves)

@@ -4,3 +4,5 @@ pub mod CallLemmas
 pub mod FreshLemmas
 pub mod StandLemmas
 pub mod RunLemmas
+pub mod NodeLemmas
+pub mod NumberLemmas

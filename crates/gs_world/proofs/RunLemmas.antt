@@ -1,27 +1,24 @@
 -- What the steps of a run lead to, and that all connections are served by it.
-use Rattle.std.proofs.Common.{◌≡◌, ◌≤◌, ◌<◌, inl, inr, arith, ℕ, zero, suc, Bool, true, false, List, [], ◌∷◌, ◌++◌, length, reverse, take, Option, Some, None, MatchOption, refl, sym, ap, subst, ◌∙◌, append_assoc, true≢false}
-use Rattle.std.specs.List.{slice_get, slice_set}
+use Rattle.std.proofs.Common.{◌≡◌, ◌<◌, inl, inr, arith, ℕ, zero, suc, Bool, true, List, [], ◌∷◌, ◌++◌, length, reverse, take, Option, Some, None, MatchOption, refl, sym, ap, subst, ◌∙◌, append_assoc, true≢false, append-nil}
+use Rattle.std.specs.List.{slice_get}
 use Rattle.std.proofs.lemmas.List.{reverse-append}
 use Rattle.gs_event.specs.Phases.{Idle}
-use Rattle.gs_event.specs.Views.{View, SeatView}
-use Rattle.gs_event.specs.Waste.{Shown}
+use Rattle.gs_event.specs.Views.{View}
 use Rattle.gs_event.specs.Histories.{History, view_of}
 use Rattle.gs_talk.specs.Seats.{Deeds}
-use Rattle.gs_talk.specs.Logs.{Server, Talk, SaysFront}
-use Rattle.gs_talk.specs.Laws.{IsIdle}
+use Rattle.gs_talk.specs.Logs.{Server, SaysFront}
 use Rattle.gs_talk.proofs.LogLemmas.{talk_points, rests_idle}
 use Rattle.gs_session.specs.declared.sessions.Session.{Session}
-use Rattle.gs_session.specs.Steps.{server_of}
 use Rattle.gs_session.proofs.MomentLemmas.{says_front}
 use Rattle.gs_world.specs.declared.connections.Connection.{Connection}
 use Rattle.gs_world.specs.declared.steps.WorldStep.{WorldStep}
-use Rattle.gs_world.specs.declared.steps.WorldStep.TheVariants.{Bytes, Turn, End, Drop, Reclaim}
+use Rattle.gs_world.specs.declared.steps.WorldStep.TheVariants.{Drop}
 use Rattle.gs_world.specs.declared.worlds.World.{World}
-use Rattle.gs_world.specs.Happenings.{Past, Input, is_step_of, input_of, deeds_at}
-use Rattle.gs_world.specs.Walks.{Apart, Gets, Ends, Moves, Changes, Leaves, Walks, WalksAll, IsThere, GivesUp}
+use Rattle.gs_world.specs.Happenings.{Past, Input, input_of, deeds_at, IsMadeBy, AreMadeBy}
+use Rattle.gs_world.specs.Walks.{Walks, WalksAll, Refuses}
 use Rattle.gs_world.specs.Worlds.{Serves, HasLeft, HoldsTo, Stands, start_of, written_by, written_on, IsServed, IsDone, ServesAll, Runs, IsCutAt}
 use Rattle.gs_world.proofs.SeatLemmas.{legal_kinds, seats_fit, seats_rest}
-use Rattle.gs_world.proofs.StandLemmas.{GoesOn, walk_stands, set_length}
+use Rattle.gs_world.proofs.StandLemmas.{GoesOn, walk_stands}
 
 -- steps one after another
 
@@ -29,40 +26,37 @@ pub walks_more : (w mid w2 : World) (steps : List WorldStep) (step : WorldStep) 
 walks_more w mid w2 [] step all walk = (w2, subst (λ (v : World). Walks v step w2) all walk, refl)
 walks_more w mid w2 (s ∷ steps) step all walk = (all.0, all.1, walks_more all.0 mid w2 steps step all.2 walk)
 
-same_count : (c : ℕ) (w w2 : World) (Holds : Connection → Shown → Connection → Shown → Type 0) → Changes c w w2 Holds → length w2.connections.items ≡ length w.connections.items
-same_count c w w2 Holds walk = go (slice_get w.connections.items c) walk where
-  go : (o : Option Connection) → MatchOption o (w2 ≡ w) (λ k. (k2 : Connection) × (w2.connections.items ≡ slice_set w.connections.items c k2) × Holds k w.store k2 w2.store)
-      → length w2.connections.items ≡ length w.connections.items
-  go None e = ap (λ (v : World). length v.connections.items) e
-  go (Some k) n = ap (λ (ks : List Connection). length ks) n.1 ∙ set_length w.connections.items c n.0
+-- events of steps, and of those before them
+made_append : (past before : Past) (h g : History) → AreMadeBy past h → AreMadeBy before g → AreMadeBy (past ++ before) (h ++ g)
+made_append [] before h g m n = subst (λ (z : History). AreMadeBy before (z ++ g)) (sym m) n
+made_append (step ∷ past) before h g m n = (m.0, m.1 ++ g, ap (λ (z : History). z ++ g) m.2 ∙ append_assoc m.0 m.1 g, m.3, made_append past before m.1 g m.4 n)
 
-walk_count : (w w2 : World) (step : WorldStep) → Walks w step w2 → length w2.connections.items ≡ length w.connections.items
-walk_count w w2 (Bytes c b) walk = same_count c w w2 (Apart (Gets b.items)) walk
-walk_count w w2 (Turn c) walk = same_count c w w2 Moves walk
-walk_count w w2 (End c) walk = same_count c w w2 (Apart Ends) walk
-walk_count w w2 (Drop c) walk = same_count c w w2 Leaves walk
-walk_count w w2 (Reclaim n) walk = ap (λ (ks : List Connection). length ks) walk.2
+-- those of one step
+made_one : (step : WorldStep) (h : History) → IsMadeBy step h → AreMadeBy (step ∷ []) h
+made_one step h m = (h, [], sym (append-nil h), m, refl)
 
-pub walks_count : (w w2 : World) (steps : List WorldStep) → WalksAll w steps w2 → length w2.connections.items ≡ length w.connections.items
-walks_count w w2 [] all = ap (λ (v : World). length v.connections.items) all
-walks_count w w2 (step ∷ steps) all = walks_count all.0 w2 steps all.2 ∙ walk_count w all.0 step all.1
+-- what some steps lead on to
+abbrev LeadsOn : Server → ℕ → World → List WorldStep → Past → History → Type 0
+LeadsOn p count w steps past history = (more : History) × AreMadeBy (reverse steps) more × Stands p count w (reverse steps ++ past) (more ++ history)
 
 walks_stand : (p : Server) (count : ℕ) (w w2 : World) (steps : List WorldStep) (past : Past) (history : History) → WalksAll w steps w2 → Stands p count w past history
-    → (more : History) × Stands p count w2 (reverse steps ++ past) (more ++ history)
-walks_stand p count w w2 [] past history all st = ([], subst (λ (v : World). Stands p count v past history) (sym all) st)
+    → LeadsOn p count w2 steps past history
+walks_stand p count w w2 [] past history all st = ([], refl, subst (λ (v : World). Stands p count v past history) (sym all) st)
 walks_stand p count w w2 (step ∷ steps) past history all st = go (walk_stands p count w all.0 past history step st all.1) (λ h k. walks_stand p count all.0 w2 steps (step ∷ past) h all.2 k) where
-  joined : (m1 : History) → (more : History) × Stands p count w2 (reverse steps ++ step ∷ past) (more ++ (m1 ++ history))
-      → (more : History) × Stands p count w2 (reverse (step ∷ steps) ++ past) (more ++ history)
-  joined m1 k = (
+  turned : reverse (step ∷ steps) ≡ reverse steps ++ step ∷ []
+  turned = reverse-append (step ∷ []) steps
+
+  joined : (m1 : History) → IsMadeBy step m1 → LeadsOn p count w2 steps (step ∷ past) (m1 ++ history) → LeadsOn p count w2 (step ∷ steps) past history
+  joined m1 made k = (
     k.0 ++ m1,
+    subst (λ (q : Past). AreMadeBy q (k.0 ++ m1)) (sym turned) (made_append (reverse steps) (step ∷ []) k.0 m1 k.1 (made_one step m1 made)),
     subst (λ (h : History). Stands p count w2 (reverse (step ∷ steps) ++ past) h) (sym (append_assoc k.0 m1 history))
-        (subst (λ (q : Past). Stands p count w2 q (k.0 ++ (m1 ++ history))) (sym (append_assoc (reverse steps) (step ∷ []) past) ∙ ap (λ (q : Past). q ++ past) (sym (reverse-append (step ∷ []) steps))) k.1),
+        (subst (λ (q : Past). Stands p count w2 q (k.0 ++ (m1 ++ history))) (sym (append_assoc (reverse steps) (step ∷ []) past) ∙ ap (λ (q : Past). q ++ past) (sym turned)) k.2),
   )
 
-  go : GoesOn p count all.0 step past history
-      → ((h : History) → Stands p count all.0 (step ∷ past) h → (more : History) × Stands p count w2 (reverse steps ++ step ∷ past) (more ++ h))
-      → (more : History) × Stands p count w2 (reverse (step ∷ steps) ++ past) (more ++ history)
-  go n again = joined n.0 (again (n.0 ++ history) n.1)
+  go : GoesOn p count all.0 step past history → ((h : History) → Stands p count all.0 (step ∷ past) h → LeadsOn p count w2 steps (step ∷ past) h)
+      → LeadsOn p count w2 (step ∷ steps) past history
+  go n again = joined n.0 n.1 (again (n.0 ++ history) n.2)
 
 -- what stands in a world serves its connections
 
@@ -121,7 +115,7 @@ module _ (p : Server) (count : ℕ) (w : World) (past : Past) (history : History
       shown_idle c (seats_rest p (input_of c past).ended (start_of p count) c history (input_of c past).bytes t.0 [] st.lines l st.legal t.1
       (rests_idle p (input_of c past).ended c (input_of c past).bytes (deeds_at c history) t.0 (legal_kinds (start_of p count) c history st.legal) t.1))
 
-  serves_all : ServesAll p count w past history
+  pub serves_all : ServesAll p count w past history
   serves_all = record {
     made = st.made;
     legal = st.legal;
@@ -134,19 +128,21 @@ module _ (p : Server) (count : ℕ) (w : World) (past : Past) (history : History
 
 pub walks_run : (w w2 : World) (steps : List WorldStep) → WalksAll w steps w2 → Runs w steps w2
 walks_run w w2 steps all = (all, λ p count past history st. go p count past history (walks_stand p count w w2 steps past history all st)) where
-  go : (p : Server) (count : ℕ) (past : Past) (history : History) → (more : History) × Stands p count w2 (reverse steps ++ past) (more ++ history)
-      → (more : History) × Stands p count w2 (reverse steps ++ past) (more ++ history) × ServesAll p count w2 (reverse steps ++ past) (more ++ history)
-  go p count past history n = (n.0, n.1, serves_all p count w2 (reverse steps ++ past) (n.0 ++ history) n.1)
+  go : (p : Server) (count : ℕ) (past : Past) (history : History) → LeadsOn p count w2 steps past history
+      → (more : History) × AreMadeBy (reverse steps) more × Stands p count w2 (reverse steps ++ past) (more ++ history)
+      × ServesAll p count w2 (reverse steps ++ past) (more ++ history)
+  go p count past history n = (n.0, n.1, n.2, serves_all p count w2 (reverse steps ++ past) (n.0 ++ history) n.2)
 
 -- a run whose next step was refused
-pub cut_run : (w mid w2 : World) (steps : List WorldStep) (n : ℕ) (step : WorldStep) → WalksAll w (take n steps) mid → slice_get steps n ≡ Some step → GivesUp mid step w2
-    → IsCutAt w steps w2
+pub cut_run : (w mid w2 : World) (steps : List WorldStep) (n : ℕ) (step : WorldStep) → WalksAll w (take n steps) mid → slice_get steps n ≡ Some step
+    → (c : ℕ) × Refuses c mid step w2 → IsCutAt w steps w2
 cut_run w mid w2 steps n step all here g = (
   n,
   g.0,
   step,
+  mid,
   here,
+  all,
   g.1,
-  omega (arith, g.2, walks_count w mid (take n steps) all),
-  walks_run w w2 (take n steps ++ Drop g.0 ∷ []) (walks_more w mid w2 (take n steps) (Drop g.0) all g.3),
+  walks_run w w2 (take n steps ++ Drop g.0 ∷ []) (walks_more w mid w2 (take n steps) (Drop g.0) all g.1.1.3),
 )

@@ -1,5 +1,5 @@
 -- What a store shows of a seat follows what is done at it, whoever acts in between.
-use Rattle.std.proofs.Common.{◌≡◌, ◌≢◌, ◌≤◌, ◌<◌, inl, inr, ◌⊎◌, arith, ℕ, ◌+◌, zero, suc, nat_eq, Bool, true, false, cond, List, [], ◌∷◌, ◌++◌, map, Option, Some, None, refl, sym, ap, subst, ◌∙◌, append-nil}
+use Rattle.std.proofs.Common.{◌≡◌, ◌≢◌, ◌≤◌, ◌<◌, inl, inr, ◌⊎◌, arith, ℕ, ◌+◌, zero, suc, nat_eq, Bool, true, false, cond, List, [], ◌∷◌, ◌++◌, map, Option, Some, None, refl, sym, ap, subst, ◌∙◌}
 use Rattle.std.specs.List.{slice_get, slice_set, range_with_len}
 use Rattle.std.proofs.lemmas.Bool.{eqb-true, eqb-false}
 use Rattle.gs_event.specs.declared.events.Event.{Event}
@@ -13,11 +13,11 @@ use Rattle.gs_event.proofs.HistoryLemmas.{view_of-cons}
 use Rattle.gs_stream.specs.Requests.{Request}
 use Rattle.gs_talk.specs.Seats.{Deeds, SeatPhase, phase_then, phase_in}
 use Rattle.gs_talk.specs.Logs.{Server, Talk}
-use Rattle.gs_talk.specs.Laws.{is_misfit, HasMisfit, AreOfKind, IsIdle}
+use Rattle.gs_talk.specs.Laws.{HasMisfit, AreOfKind, IsIdle}
 use Rattle.gs_talk.proofs.CourseLemmas.{phase-append}
 use Rattle.gs_session.proofs.AllowLemmas.{AreAllowed}
 use Rattle.gs_session.proofs.TalkLemmas.{talk_allowed}
-use Rattle.gs_session.proofs.StoreLemmas.{HasPhase, seat_phase, allowed_fits, phase_follows, idle_view}
+use Rattle.gs_session.proofs.StoreLemmas.{HasPhase, allowed_fits, phase_follows, idle_view}
 use Rattle.gs_world.specs.Happenings.{deed_at, deeds_at}
 
 -- lists of deeds

@@ -1,5 +1,5 @@
 -- What leads to a world leads on, by one step, to the next one.
-use Rattle.std.proofs.Common.{◌≡◌, arith, ℕ, zero, suc, nat_eq, Bool, true, false, cond, List, [], ◌∷◌, ◌++◌, length, Vec, Option, Some, None, MatchOption, refl, sym, ap, subst, ◌∙◌, append-nil}
+use Rattle.std.proofs.Common.{◌≡◌, ℕ, zero, suc, nat_eq, Bool, true, false, cond, List, [], ◌∷◌, ◌++◌, length, Option, Some, None, MatchOption, refl, sym, ap, subst, ◌∙◌, append-nil}
 use Rattle.std.specs.List.{slice_get, slice_set}
 use Rattle.std.proofs.lemmas.Bool.{eqb-true, eqb-false, eq-eqb}
 use Rattle.gs_event.specs.declared.events.Event.{Event}
@@ -17,7 +17,7 @@ use Rattle.gs_world.specs.declared.connections.Connection.{Connection}
 use Rattle.gs_world.specs.declared.steps.WorldStep.{WorldStep}
 use Rattle.gs_world.specs.declared.steps.WorldStep.TheVariants.{Bytes, Turn, End, Drop, Reclaim}
 use Rattle.gs_world.specs.declared.worlds.World.{World}
-use Rattle.gs_world.specs.Happenings.{Past, Input, is_step_of, taken, with_step, input_of, deed_at, deeds_at, MayRest, IsMadeBy, AreMadeBy}
+use Rattle.gs_world.specs.Happenings.{Past, Input, is_step_of, taken, with_step, input_of, deeds_at, MayRest, IsMadeBy}
 use Rattle.gs_world.specs.Walks.{Apart, Gets, Ends, Moves, Leaves, Changes, Frees, Walks}
 use Rattle.gs_world.specs.Worlds.{HoldsTo, Stands, start_of}
 use Rattle.gs_world.proofs.SeatLemmas.{other_place}
@@ -74,7 +74,11 @@ few_legal start h c old new (d ∷ f ∷ ds) k s = absurd s
 
 -- what a step makes leads on to the world after it
 abbrev pub GoesOn : Server → ℕ → World → WorldStep → Past → History → Type 0
-GoesOn p count w step past history = (more : History) × Stands p count w (step ∷ past) (more ++ history)
+GoesOn p count w step past history = (more : History) × IsMadeBy step more × Stands p count w (step ∷ past) (more ++ history)
+
+-- a step that may make no event
+rests : (step : WorldStep) → MayRest step → IsMadeBy step []
+rests step m = m
 
 -- the step names this connection
 abbrev IsOne : ℕ → WorldStep → Type 0
@@ -114,7 +118,7 @@ module _ (p : Server) (count : ℕ) (w w2 : World) (past : Past) (history : Hist
 
   moved_stands : (k k2 : Connection) → slice_get w.connections.items c ≡ Some k → w2.connections.items ≡ slice_set w.connections.items c k2
       → Moved p c step (input_of c past) (deeds_at c history) w.store k2 w2.store → GoesOn p count w2 step past history
-  moved_stands k k2 here set m = (events_of c m.done, go (few_legal (start_of p count) history c w.store w2.store m.done (record { legal = st.legal; view = st.view; pinned = st.pinned }) m.few)) where
+  moved_stands k k2 here set m = (events_of c m.done, m.made, go (few_legal (start_of p count) history c w.store w2.store m.done (record { legal = st.legal; view = st.view; pinned = st.pinned }) m.few)) where
     go : LegalAt (start_of p count) (events_of c m.done ++ history) w2.store → Stands p count w2 (step ∷ past) (events_of c m.done ++ history)
     go k4 = record {
       lines = st.lines;
@@ -128,7 +132,7 @@ module _ (p : Server) (count : ℕ) (w w2 : World) (past : Past) (history : Hist
 
   -- a step for a connection that is not there
   absent_stands : MayRest step → slice_get w.connections.items c ≡ None → w2 ≡ w → GoesOn p count w2 step past history
-  absent_stands may none same = ([], subst (λ (v : World). Stands p count v (step ∷ past) history) (sym same) stays) where
+  absent_stands may none same = ([], rests step may, subst (λ (v : World). Stands p count v (step ∷ past) history) (sym same) stays) where
     each : (d : ℕ) (k : Connection) → slice_get w.connections.items d ≡ Some k → HoldsTo p d (input_of d (step ∷ past)) (deeds_at d history) k
     each d k e = go (nat_eq c d) refl where
       clash : c ≡ d → ⊥
@@ -142,14 +146,12 @@ module _ (p : Server) (count : ℕ) (w w2 : World) (past : Past) (history : Hist
     stays = record {
       lines = st.lines;
       many = st.many;
-      made = ([], history, refl, rest step may, st.made);
+      made = ([], history, refl, rests step may, st.made);
       legal = st.legal;
       view = st.view;
       pinned = st.pinned;
       each = each;
-    } where
-      rest : (step : WorldStep) → MayRest step → IsMadeBy step []
-      rest step m = m
+    }
 
   changes_stands : (Holds : Connection → Shown → Connection → Shown → Type 0) → MayRest step → Changes c w w2 Holds
       → ((k k2 : Connection) → HoldsTo p c (input_of c past) (deeds_at c history) k → Holds k w.store k2 w2.store
@@ -164,7 +166,7 @@ module _ (p : Server) (count : ℕ) (w w2 : World) (past : Past) (history : Hist
 -- freed nodes
 frees_stands : (p : Server) (count : ℕ) (w w2 : World) (past : Past) (history : History) (n : ℕ) → Stands p count w past history → Frees n w w2
     → GoesOn p count w2 (Reclaim n) past history
-frees_stands p count w w2 past history n st f = ((event.Reclaim n, f.0) ∷ [], go (step_legal (start_of p count) history w.store w2.store (event.Reclaim n) f.0 (record { legal = st.legal; view = st.view; pinned = st.pinned }) f.1)) where
+frees_stands p count w w2 past history n st f = ((event.Reclaim n, f.0) ∷ [], refl, go (step_legal (start_of p count) history w.store w2.store (event.Reclaim n) f.0 (record { legal = st.legal; view = st.view; pinned = st.pinned }) f.1)) where
   each : (d : ℕ) (k : Connection) → slice_get w2.connections.items d ≡ Some k → HoldsTo p d (input_of d past) (deeds_at d history ++ []) k
   each d k e =
       subst (λ (h : Deeds). HoldsTo p d (input_of d past) h k) (sym (append-nil (deeds_at d history)))

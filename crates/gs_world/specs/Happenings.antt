@@ -63,7 +63,7 @@ abbrev pub deeds_at : ℕ → History → Deeds
 deeds_at seat [] = []
 deeds_at seat (x ∷ before) = deeds_at seat before ++ deed_at seat x.0 x.1
 
--- a step may make this event: a Turn one of its connection's seat, a Drop the Cancel of that, and a Reclaim itself
+-- a step may make this event: a Turn one of its connection's seat, a Drop the Cancel of its connection's seat, and a Reclaim itself
 abbrev pub IsOf : WorldStep → Event → Type 0
 IsOf (Turn c) (event.Seat s action) = s ≡ c
 IsOf (Drop c) (event.Seat s Cancel) = s ≡ c

@@ -3,3 +3,4 @@
 pub mod Happenings
 pub mod Walks
 pub mod Worlds
+pub mod Nodes

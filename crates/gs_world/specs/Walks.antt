@@ -1,5 +1,5 @@
 -- What the steps of a world make of it.
-use Rattle.std.specs.Prelude.{◌≡◌, ◌<◌, ℕ, true, List, [], ◌∷◌, ◌++◌, take, length, Vec, Option, Some, None, MatchOption}
+use Rattle.std.specs.Prelude.{◌≡◌, ℕ, true, List, [], ◌∷◌, ◌++◌, Vec, Some, None, MatchOption}
 use Rattle.std.specs.List.{slice_get, slice_set}
 use Rattle.std.specs.declared.alloc.Global.{Global}
 use Rattle.gs_event.specs.declared.events.Event.TheVariants as event
@@ -22,7 +22,7 @@ abbrev pub text_of : turn.Turn → List ℕ
 text_of (Output b) = b.items
 text_of t = []
 
--- the session serves the same requests, of the same seat
+-- the seat, the base and the lines a piece are as they were
 abbrev pub IsSame : Session → Session → Type 0
 IsSame s next = next.setup ≡ s.setup
 
@@ -56,12 +56,12 @@ abbrev pub Apart : (Connection → Connection → Type 0) → Connection → Sho
 Apart Holds k old k2 new = Holds k k2 × (new ≡ old)
 
 -- one that was given up stays as it is, and so does the store
-abbrev pub IsIdleAt : Connection → Shown → Connection → Shown → Type 0
-IsIdleAt k old k2 new = (k2 ≡ k) × (new ≡ old)
+abbrev pub StaysGone : Connection → Shown → Connection → Shown → Type 0
+StaysGone k old k2 new = (k2 ≡ k) × (new ≡ old)
 
 -- it took a turn, whose text was written
 abbrev pub Moves : Connection → Shown → Connection → Shown → Type 0
-Moves k old k2 new = MatchOption k.session (IsIdleAt k old k2 new)
+Moves k old k2 new = MatchOption k.session (StaysGone k old k2 new)
     (λ s. (t : turn.Turn) × (next : Session) × Becomes k2 next (k.written.items ++ text_of t) × Takes s old t next new)
 
 -- it took a turn, whose text could not be written
@@ -71,7 +71,7 @@ Stops k old k2 new = (s : Session) × (k.session ≡ Some s) × (b : Vec ℕ Glo
 
 -- it was given up
 abbrev pub Leaves : Connection → Shown → Connection → Shown → Type 0
-Leaves k old k2 new = MatchOption k.session (IsIdleAt k old k2 new)
+Leaves k old k2 new = MatchOption k.session (StaysGone k old k2 new)
     (λ s. (k2.session ≡ None) × (k2.written.items ≡ k.written.items) × Quits Steps s old new)
 
 -- of the connections, this one alone may have changed, and this holds of it; one that is not there changes nothing
@@ -97,10 +97,24 @@ abbrev pub WalksAll : World → List WorldStep → World → Type 0
 WalksAll old [] new = new ≡ old
 WalksAll old (step ∷ steps) new = (mid : World) × Walks old step mid × WalksAll mid steps new
 
--- the connection is there
-abbrev pub IsThere : ℕ → World → Type 0
-IsThere c w = c < length w.connections.items
+-- it was not given up before
+abbrev pub IsLive : Connection → Shown → Type 0
+IsLive k shown = (s : Session) × (k.session ≡ Some s)
 
--- A step of this connection was refused, and the connection is given up in its place.
-abbrev pub GivesUp : World → WorldStep → World → Type 0
-GivesUp old step new = (c : ℕ) × (is_step_of c step ≡ true) × IsThere c old × Changes c old new Leaves
+-- its next turn has a text that could not be written
+abbrev pub HasText : Connection → Shown → Type 0
+HasText k shown = (k1 : Connection) × (mid : Shown) × Stops k shown k1 mid
+
+-- A step of the connection may be refused for want of memory: bytes for its session, or a turn whose text is to be written.
+abbrev pub MayWant : WorldStep → Connection → Shown → Type 0
+MayWant (Bytes c b) k shown = IsLive k shown
+MayWant (Turn c) k shown = HasText k shown
+MayWant step k shown = ⊥
+
+-- a connection that is there, and of which this holds, was given up
+abbrev pub GivesUp : ℕ → World → World → (Connection → Shown → Type 0) → Type 0
+GivesUp c old new Holds = (k : Connection) × (slice_get old.connections.items c ≡ Some k) × Holds k old.store × Changes c old new Leaves
+
+-- the step was refused, and its connection given up in its place
+abbrev pub Refuses : ℕ → World → WorldStep → World → Type 0
+Refuses c old step new = (is_step_of c step ≡ true) × GivesUp c old new (MayWant step)

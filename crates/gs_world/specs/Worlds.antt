@@ -16,8 +16,8 @@ use Rattle.gs_world.specs.declared.connections.Connection.{Connection}
 use Rattle.gs_world.specs.declared.steps.WorldStep.{WorldStep}
 use Rattle.gs_world.specs.declared.steps.WorldStep.TheVariants.{Drop}
 use Rattle.gs_world.specs.declared.worlds.World.{World}
-use Rattle.gs_world.specs.Happenings.{Past, Input, no_input, input_of, deeds_at, AreMadeBy, is_step_of}
-use Rattle.gs_world.specs.Walks.{WalksAll, IsThere}
+use Rattle.gs_world.specs.Happenings.{Past, Input, no_input, input_of, deeds_at, AreMadeBy}
+use Rattle.gs_world.specs.Walks.{WalksAll, Refuses}
 
 -- what came, was done and was written leads to the session
 pub record Serves (p : Server) (seat : ℕ) (i : Input) (h : Deeds) (w : List ℕ) (s : Session) : Type 0 where
@@ -65,7 +65,7 @@ written_by (Some k) = k.written.items
 abbrev pub written_on : World → ℕ → List ℕ
 written_on w c = written_by (slice_get w.connections.items c)
 
--- To one of many connections, i came, h was done at its seat, and w was written.
+-- What came to one of many connections (i), what was done at its seat (h) and what was written on it (w) go together.
 pub record IsServed (p : Server) (i : Input) (h : Deeds) (w : List ℕ) : Type 0 where
   -- what was written is a front of what is to be said
   pub front : SaysFront p i.ended i.bytes h w
@@ -79,7 +79,7 @@ abbrev pub IsDone : Server → Input → Deeds → Type 0
 IsDone p i h = (i.is_dropped ≡ true) ⊎ ((said : List ℕ) × Talk p i.ended i.bytes h said [])
 
 -- Bytes to bytes over many connections: the events of all seats and their answers, made by the steps, are one legal history, which
--- the store shows; each connection is served as by it alone; and a seat for which nothing is left is idle.
+-- the store shows; each connection is served as if it were the only one; and a seat for which nothing is left is idle.
 pub record ServesAll (p : Server) (count : ℕ) (w : World) (past : Past) (history : History) : Type 0 where
   pub made : AreMadeBy past history
   pub legal : IsLegal (start_of p count) history
@@ -87,14 +87,15 @@ pub record ServesAll (p : Server) (count : ℕ) (w : World) (past : Past) (histo
   pub served : (c : ℕ) → c < count → IsServed p (input_of c past) (deeds_at c history) (written_on w c)
   pub idle : (c : ℕ) → c < count → IsDone p (input_of c past) (deeds_at c history) → slice_get w.store.view.seats c ≡ Some Idle
 
--- A run: the steps were taken; and from each history that led to the world before, one leads on to the world after them, by
--- which all are served.
+-- A run: the steps were taken; and from each history that led to the world before, one leads on to the world after them, by events
+-- that these steps made, and by which all are served.
 abbrev pub Runs : World → List WorldStep → World → Type 0
 Runs old steps new = WalksAll old steps new
     × ((p : Server) (count : ℕ) (past : Past) (history : History) → Stands p count old past history
-    → (more : History) × Stands p count new (reverse steps ++ past) (more ++ history) × ServesAll p count new (reverse steps ++ past) (more ++ history))
+    → (more : History) × AreMadeBy (reverse steps) more × Stands p count new (reverse steps ++ past) (more ++ history)
+    × ServesAll p count new (reverse steps ++ past) (more ++ history))
 
--- the first n steps were taken, and the connection of the next one, which is there, was then given up
+-- The first n steps were taken, and the next one was refused; so it is as if its connection had been dropped in its place.
 abbrev pub IsCutAt : World → List WorldStep → World → Type 0
-IsCutAt old steps new = (n : ℕ) × (c : ℕ) × (step : WorldStep) × (slice_get steps n ≡ Some step) × (is_step_of c step ≡ true) × IsThere c old
-    × Runs old (take n steps ++ Drop c ∷ []) new
+IsCutAt old steps new = (n : ℕ) × (c : ℕ) × (step : WorldStep) × (mid : World) × (slice_get steps n ≡ Some step) × WalksAll old (take n steps) mid
+    × Refuses c mid step new × Runs old (take n steps ++ Drop c ∷ []) new

@@ -1,6 +1,7 @@
 //! One of many connections on a store.
-ghost use Rattle.std.specs.Prelude.{◌≡◌, [], true, IfOk, OnOk, OnErr};
+ghost use Rattle.std.specs.Prelude.{◌≡◌, [], true, IfOk, OnOk, OnErr, Some};
 ghost use Rattle.gs_model.specs.Bases.{is_base};
+ghost use Rattle.gs_session.specs.declared.sessions.Session.{Session as ASession};
 ghost use Rattle.gs_world.specs.Happenings.{no_input};
 ghost use Rattle.gs_world.specs.Worlds.{HoldsTo};
 ghost use Rattle.gs_world.specs.Walks.{Gets, Ends, Moves, Stops, Leaves};
@@ -41,6 +42,7 @@ impl Connection {
     pub fn give(&mut self, bytes: &[u8]) -> Result<(), AllocError>
         ensures given { OnOk result (Gets bytes.now self.old self.new) }
         ensures refused { OnErr result (self.new ≡ self.old) }
+        ensures live { OnErr result ((s : ASession) × (self.old.session ≡ Some s)) }
     {
         match &mut self.session {
             Some(session) => session.give(bytes),

@@ -1,8 +1,8 @@
 //! Many connections on one store.
-ghost use Rattle.std.specs.Prelude.{◌≡◌, ◌≤◌, true, [], IfOk, IfErr, OnOk, OnErr};
+ghost use Rattle.std.specs.Prelude.{◌≡◌, ◌≤◌, ℕ, true, [], IfOk, IfErr, OnOk, OnErr};
 ghost use Rattle.gs_model.specs.Bases.{is_base};
 ghost use Rattle.gs_model.specs.Limits.{max_seats};
-ghost use Rattle.gs_world.specs.Walks.{Apart, Changes, Gets, Ends, Moves, Leaves, Frees, Walks, IsThere, GivesUp};
+ghost use Rattle.gs_world.specs.Walks.{Apart, Changes, Gets, Ends, Moves, Leaves, Frees, Walks, IsLive, HasText, GivesUp, Refuses};
 ghost use Rattle.gs_world.specs.Worlds.{AreFresh, Stands, Runs, IsCutAt, written_on};
 
 use crate::connections::Connection;
@@ -31,6 +31,7 @@ impl World {
         requires lines { 1 ≤ piece }
         requires short { piece ≤ 4096 }
         ensures stands { IfOk result (λ w. Stands (record { base = base.now; piece = piece }) connections w [] []) }
+        ensures waste { IfOk result (λ w. w.store.waste ≡ []) }
         ensures refused { IfErr result (λ refusal. refusal ≡ Refusal.NoMemory) }
     {
         let store = Store::new(alloc, connections, base)?;
@@ -56,7 +57,7 @@ impl World {
     /// Bytes come to a connection.
     fn give(&mut self, connection: u16, bytes: &[u8]) -> Result<(), AllocError>
         ensures ok { OnOk result (Changes connection self.old self.new (Apart (Gets bytes.now))) }
-        ensures err { OnErr result (IsThere connection self.old × Changes connection self.old self.new Leaves) }
+        ensures err { OnErr result (GivesUp connection self.old self.new IsLive) }
     {
         match self.connections.get_mut(connection as usize) {
             Some(it) => match it.give(bytes) {
@@ -73,7 +74,7 @@ impl World {
     /// A connection takes its next turn.
     fn turn(&mut self, connection: u16) -> Result<(), AllocError>
         ensures ok { OnOk result (Changes connection self.old self.new Moves) }
-        ensures err { OnErr result (IsThere connection self.old × Changes connection self.old self.new Leaves) }
+        ensures err { OnErr result (GivesUp connection self.old self.new HasText) }
     {
         match self.connections.get_mut(connection as usize) {
             Some(it) => match it.turn(&mut self.store) {
@@ -115,7 +116,7 @@ impl World {
     /// One step. Where it is refused, its connection is given up.
     fn step(&mut self, step: &WorldStep) -> Result<(), AllocError>
         ensures ok { OnOk result (Walks self.old step.now self.new) }
-        ensures err { OnErr result (GivesUp self.old step.now self.new) }
+        ensures err { OnErr result ((c : ℕ) × Refuses c self.old step.now self.new) }
     {
         match step {
             WorldStep::Bytes(connection, bytes) => self.give(*connection, bytes.as_slice()),
@@ -137,7 +138,7 @@ impl World {
 
     /// Takes these steps, one after another. A step for a connection that is not there does nothing. In
     /// any order of the steps, all events and their answers are one legal history of the store, and each
-    /// connection is served as a connection alone: what was written on it is a front of what is to be said
+    /// connection is served as if it were the only one: what was written on it is a front of what is to be said
     /// to its bytes.
     ///
     /// # Errors

@@ -1,7 +1,7 @@
 use Rattle.std.proofs.Common.{refl}
-use Rattle.gs_world.specs.Walks.{Moves, Leaves}
+use Rattle.gs_world.specs.Walks.{Moves, HasText}
 use Rattle.gs_world.proofs.MoveLemmas.{stops_leaves}
-use Rattle.gs_world.proofs.CallLemmas.{changes_there, changes_absent}
+use Rattle.gs_world.proofs.CallLemmas.{changes_there, changes_absent, gives_up}
 use Rattle.gs_world.proofs.worlds.World.turn.Goals as goal
 
 pub returns-in-Ok-clause-ok : goal.returns-in-Ok-clause-ok
@@ -9,11 +9,10 @@ returns-in-Ok-clause-ok c =
     changes_there c.args.connection c.args.self.now _ c.in-Some.it.now c.turn.new.self Moves c.in-Some.ensures.item.3.0 c.in-Some.ensures.value refl c.in-Ok.ensures.moved
 
 pub returns-in-Err-clause-err : goal.returns-in-Err-clause-err
-returns-in-Err-clause-err c = (
-  c.in-Some.ensures.item.3.0,
-  changes_there c.args.connection c.args.self.now _ c.in-Some.it.now c.leave.new.self Leaves c.in-Some.ensures.item.3.0 c.in-Some.ensures.value refl
-      (stops_leaves c.in-Some.it.now c.turn.new.self c.leave.new.self c.args.self.now.store c.turn.new.store c.leave.new.store c.in-Err.ensures.refused c.leave.ensures),
-)
+returns-in-Err-clause-err c =
+    gives_up c.args.connection c.args.self.now _ c.in-Some.it.now c.leave.new.self HasText c.in-Some.ensures.item.3.0 c.in-Some.ensures.value refl
+    (c.turn.new.self, c.turn.new.store, c.in-Err.ensures.refused)
+    (stops_leaves c.in-Some.it.now c.turn.new.self c.leave.new.self c.args.self.now.store c.turn.new.store c.leave.new.store c.in-Err.ensures.refused c.leave.ensures)
 
 pub returns-in-None-clause-ok : goal.returns-in-None-clause-ok
 returns-in-None-clause-ok c = changes_absent c.args.connection c.args.self.now _ Moves c.in-None.ensures.item.3 refl

@@ -1,0 +1,77 @@
+//! What is wrong with a case.
+use crate::texts::other_line;
+use gs_core::Refusal;
+use std::alloc::{AllocError, Global};
+use std::io::{self, Write};
+
+/// What was written on a connection, and what was to be written.
+#[derive(Drop)]
+pub struct Difference {
+    connection: u16,
+    written: Vec<u8>,
+    text: Vec<u8>,
+}
+
+/// What is found first.
+#[derive(Drop)]
+pub enum Finding {
+    NoMemory,
+    /// There is no world with so many connections, or so many lines a piece.
+    NoWorld,
+    Difference(Difference),
+    /// The change was made where it could not be.
+    Change,
+    /// The change was not made where it had to be.
+    NoChange,
+    /// A connection wrote after it was dropped.
+    Later,
+}
+
+impl From<Refusal> for Finding {
+    fn from(_: Refusal) -> Finding {
+        Finding::NoMemory
+    }
+}
+
+impl From<AllocError> for Finding {
+    fn from(_: AllocError) -> Finding {
+        Finding::NoMemory
+    }
+}
+
+impl Finding {
+    /// This was written on a connection, and that was to be written.
+    pub fn of_texts(alloc: Global, connection: u16, written: &[u8], text: &[u8]) -> Finding {
+        match (
+            Vec::from_slice(alloc, written),
+            Vec::from_slice(alloc, text),
+        ) {
+            (Ok(written), Ok(text)) => Finding::Difference(Difference {
+                connection,
+                written,
+                text,
+            }),
+            _ => Finding::NoMemory,
+        }
+    }
+
+    /// Prints it.
+    pub fn report<W: Write>(&self, out: &mut W) -> io::Result<()> {
+        match self {
+            Finding::NoMemory => writeln!(out, "no memory"),
+            Finding::NoWorld => writeln!(out, "no such world"),
+            Finding::Change => writeln!(out, "the change was made"),
+            Finding::NoChange => writeln!(out, "the change was not made"),
+            Finding::Later => writeln!(out, "bytes after the drop"),
+            Finding::Difference(it) => {
+                let written = it.written.as_slice();
+                let text = it.text.as_slice();
+                write!(out, "connection {}: ", it.connection)?;
+                if text.starts_with(written) {
+                    return writeln!(out, "{} bytes of the text", written.len());
+                }
+                writeln!(out, "{}", other_line(written, text))
+            }
+        }
+    }
+}

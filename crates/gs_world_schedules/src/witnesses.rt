@@ -1,0 +1,100 @@
+//! A connection that reads all graphs between the steps of the others.
+use crate::datasets::Dataset;
+use crate::replies::{push_read, read_turns};
+use crate::requests::GRAPHS;
+use crate::rules::Rules;
+use gs_core::Refusal;
+use gs_world::{World, WorldStep};
+use std::alloc::AllocError;
+
+/// Reads of all graphs.
+const READS: &[u8] = b"GET /store?default HTTP/1.1\r\nHost: w\r\n\r\n\
+GET /graphs/a HTTP/1.1\r\nHost: w\r\n\r\n\
+GET /store?graph=http://e/b HTTP/1.1\r\nHost: w\r\n\r\n\
+GET /store?graph=http://e/c%23d HTTP/1.1\r\nHost: w\r\n\r\n";
+
+/// The witness.
+#[derive(Drop)]
+pub struct Witness {
+    seat: u16,
+    /// How many bytes of what it wrote were judged.
+    judged: usize,
+}
+
+/// What the witness saw.
+#[derive(Drop)]
+pub enum Sight {
+    /// The graphs are these.
+    Graphs(Dataset),
+    /// They are none of those that were looked for: what it wrote, and what it writes if nothing has
+    /// changed.
+    Others(Vec<u8>, Vec<u8>),
+}
+
+/// What the witness writes where the graphs are these.
+fn text_of(rules: &Rules, dataset: &Dataset) -> Result<Vec<u8>, AllocError> {
+    let mut text = Vec::new(rules.alloc);
+    for number in 0..GRAPHS {
+        push_read(&mut text, rules, dataset.graph(number), false, false)?;
+    }
+    Ok(text)
+}
+
+/// How many turns that takes.
+fn turns_of(rules: &Rules, dataset: &Dataset) -> usize {
+    let mut turns = 0usize;
+    for number in 0..GRAPHS {
+        let made = read_turns(rules, dataset.graph(number));
+        turns = turns.saturating_add(made).saturating_add(1);
+    }
+    turns
+}
+
+impl Witness {
+    /// The witness at this seat, which has read nothing.
+    pub fn new(seat: u16) -> Witness {
+        Witness { seat, judged: 0 }
+    }
+
+    /// Reads all graphs: whether they are as before, or these others.
+    pub fn look(
+        &mut self,
+        world: &mut World,
+        rules: &Rules,
+        before: &Dataset,
+        other: &Option<Dataset>,
+    ) -> Result<Sight, Refusal> {
+        let mut turns = turns_of(rules, before);
+        if let Some(dataset) = other {
+            turns = turns.max(turns_of(rules, dataset));
+        }
+        self.read(world, rules, turns)?;
+        let written = world.written(self.seat);
+        let text = written.get(self.judged..).unwrap_or_default();
+        self.judged = written.len();
+        let wanted = text_of(rules, before)?;
+        if text == wanted.as_slice() {
+            return Ok(Sight::Graphs(*before));
+        }
+        if let Some(dataset) = other {
+            if text == text_of(rules, dataset)?.as_slice() {
+                return Ok(Sight::Graphs(*dataset));
+            }
+        }
+        let mut copy = Vec::new(rules.alloc);
+        copy.extend_from_slice(text)?;
+        Ok(Sight::Others(copy, wanted))
+    }
+
+    fn read(&self, world: &mut World, rules: &Rules, turns: usize) -> Result<(), Refusal> {
+        let mut bytes = Vec::new(rules.alloc);
+        bytes.extend_from_slice(READS)?;
+        let given = [WorldStep::Bytes(self.seat, bytes)];
+        world.run(&given)?;
+        let turn = [WorldStep::Turn(self.seat)];
+        for _ in 0..turns {
+            world.run(&turn)?;
+        }
+        Ok(())
+    }
+}
