@@ -46,19 +46,26 @@ def sent(text):
     return text.replace("\n", "\r\n").replace("|", "\n").encode()
 
 
-def ending(exchanges, status, out):
+def replies_of(exchanges):
+    return [sent(reply) for _, reply in exchanges]
+
+
+def ending(replies, status, out):
     """How a conversation ended: after so many replies, with a 503 in the place of the next, or within it."""
     assert status in (0, 4), (status, out)
-    replies = [sent(reply) for _, reply in exchanges]
     for count in range(len(replies) + 1):
         before = b"".join(replies[:count])
         if out == before + sent(UNAVAILABLE) and count < len(replies):
-            return f"503 in the place of reply {count + 1}"
+            return in_place_of(count + 1)
         if out == before:
             return f"{count} of {len(replies)} replies" if count < len(replies) else "whole"
         if count < len(replies) and len(out) < len(before + replies[count]) and (before + replies[count]).startswith(out):
             return f"a front of reply {count + 1}"
     raise AssertionError((status, out))
+
+
+def in_place_of(number):
+    return f"503 in the place of reply {number}"
 
 
 def run_built(program, room, exchanges, refused, later=False):
@@ -73,22 +80,25 @@ def run_built(program, room, exchanges, refused, later=False):
 def built_endings(program, room, exchanges):
     """How often each ending is seen where each request is refused in turn, alone and with all after it."""
     status, out, requests = run_built(program, room, exchanges, 0)
-    assert ending(exchanges, status, out) == "whole", (status, out)
+    replies = replies_of(exchanges)
+    assert ending(replies, status, out) == "whole", (status, out)
     for refused in range(1, requests + 1):
         for later in (False, True):
             status, out, _ = run_built(program, room, exchanges, refused, later)
-            yield refused, later, status, ending(exchanges, status, out)
+            yield later, status, ending(replies, status, out)
 
 
 def check_built(program, room):
     for name, exchanges in CONVERSATIONS.items():
         counts = {}
-        for _, later, status, end in built_endings(program, room, exchanges):
+        for later, status, end in built_endings(program, room, exchanges):
             key = ("with all after it" if later else "alone", end, status)
             counts[key] = counts.get(key, 0) + 1
         print(f"{name}:")
         for (manner, end, status), count in sorted(counts.items()):
             print(f"  {manner}: {end}, status {status}: {count}")
+        for number in range(1, len(exchanges) + 1):
+            assert ("alone", in_place_of(number), 0) in counts, f"{name}: no {in_place_of(number)}"
 
 
 def tried(folder, cases, refused):
@@ -116,7 +126,7 @@ def check_tried(folder, room):
         assert len(runs) == len(table), refused
         for number, (name, exchanges) in enumerate(table):
             status, out = runs[number]
-            print(f"{refused}: {name}: {ending(exchanges, status, out)}, status {status}", flush=True)
+            print(f"{refused}: {name}: {ending(replies_of(exchanges), status, out)}, status {status}", flush=True)
 
 
 if __name__ == "__main__":

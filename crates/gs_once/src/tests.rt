@@ -17,6 +17,9 @@ Usage: gsd --once [--base URL] [--piece N]
 /// Makes a graph, of no triples.
 const MAKE: &str = "POST /store HTTP/1.1\r\nHost: a\r\nContent-Length: 0\r\n\r\n";
 
+/// A request whose reply closes.
+const LAST: &str = "DELETE /graphs/h HTTP/1.1\r\nHost: a\r\nConnection: close\r\n\r\n";
+
 const MADE: &str =
     "HTTP/1.1 201 Created\r\nContent-Length: 0\r\nLocation: http://localhost/graphs/n1-0\r\n\r\n";
 
@@ -66,6 +69,17 @@ const BAD: &[&str] = &[
     "gsd --once more",
 ];
 
+/// Command lines with what they read, where a writer fails.
+const BROKEN: &[(&str, &str, Broken)] = &[
+    ("gsd --once", MAKE, Broken::Writes),
+    ("gsd --help", MAKE, Broken::Writes),
+    ("gsd --once", "", Broken::Flushes),
+    ("gsd --once", MAKE, Broken::Flushes),
+    ("gsd --once", MAKE, Broken::FlushesAfterWrites),
+    ("gsd --once", LAST, Broken::FlushesAfterWrites),
+    ("gsd --help", MAKE, Broken::Flushes),
+];
+
 /// The words of a line.
 fn split(alloc: Global, line: &str) -> Result<Vec<&str>, AllocError> {
     let mut words = Vec::new(alloc);
@@ -108,9 +122,13 @@ fn wrong_bad(alloc: Global) -> Option<&'static str> {
     None
 }
 
-/// What fails at each read and each write.
-#[derive(Drop)]
-struct Broken {}
+/// What fails at each read, and at each write, each flush, or each flush after a write.
+#[derive(Clone, Copy, Drop)]
+enum Broken {
+    Writes,
+    Flushes,
+    FlushesAfterWrites,
+}
 
 impl Read for Broken {
     fn read(&mut self, _buffer: &mut [u8]) -> io::Result<usize> {
@@ -119,11 +137,18 @@ impl Read for Broken {
 }
 
 impl Write for Broken {
-    fn write(&mut self, _bytes: &[u8]) -> io::Result<usize> {
-        Err(Error::from(ErrorKind::BrokenPipe))
+    fn write(&mut self, bytes: &[u8]) -> io::Result<usize> {
+        if matches!(self, Broken::Writes) {
+            return Err(Error::from(ErrorKind::BrokenPipe));
+        }
+        *self = Broken::Flushes;
+        Ok(bytes.len())
     }
 
     fn flush(&mut self) -> io::Result<()> {
+        if matches!(self, Broken::Flushes) {
+            return Err(Error::from(ErrorKind::BrokenPipe));
+        }
         Ok(())
     }
 }
@@ -134,22 +159,52 @@ fn says_that_a_read_failed(alloc: Global) -> bool {
     let status = once(
         alloc,
         &["gsd", "--once"],
-        &mut Broken {},
+        &mut Broken::Writes,
         &mut out,
         &mut err,
     );
     status == 1 && out.is_empty() && err.as_slice() == b"gsd: read failed\n".as_slice()
 }
 
-fn says_that_a_write_failed(alloc: Global, words: &[&str]) -> bool {
-    let mut reader = MAKE.as_bytes();
+/// Whether this run, whose writer is broken, says that a write failed.
+fn says_that_a_write_failed<R: Read + Drop>(
+    alloc: Global,
+    line: &str,
+    mut reader: R,
+    mut out: Broken,
+) -> bool {
+    let Ok(words) = split(alloc, line) else {
+        return false;
+    };
     let mut err = Vec::new(alloc);
-    let status = once(alloc, words, &mut reader, &mut Broken {}, &mut err);
+    let status = once(alloc, words.as_slice(), &mut reader, &mut out, &mut err);
     status == 1 && err.as_slice() == b"gsd: write failed\n".as_slice()
 }
 
+/// The first run that does not say that a write failed.
+fn wrong_broken(alloc: Global) -> Option<&'static str> {
+    for (line, input, out) in BROKEN {
+        if !says_that_a_write_failed(alloc, line, input.as_bytes(), *out) {
+            return Some(line);
+        }
+    }
+    // What was written is flushed before a read.
+    let (line, reader, out) = ("gsd --once", Broken::Writes, Broken::Flushes);
+    if says_that_a_write_failed(alloc, line, reader, out) {
+        None
+    } else {
+        Some(line)
+    }
+}
+
 fn status_with_nothing_said(alloc: Global, words: &[&str]) -> u8 {
-    once(alloc, words, &mut Broken {}, &mut Broken {}, &mut Broken {})
+    once(
+        alloc,
+        words,
+        &mut Broken::Writes,
+        &mut Broken::Writes,
+        &mut Broken::Writes,
+    )
 }
 
 #[test]
@@ -163,10 +218,9 @@ fn bad_arguments_are_refused(rt: HostRuntime) {
 }
 
 #[test]
-fn a_failed_read_or_write_is_said(rt: HostRuntime) {
+fn a_failed_read_write_or_flush_is_said(rt: HostRuntime) {
     assert!(rt; says_that_a_read_failed(rt.alloc()));
-    assert!(rt; says_that_a_write_failed(rt.alloc(), &["gsd", "--once"]));
-    assert!(rt; says_that_a_write_failed(rt.alloc(), &["gsd", "--help"]));
+    assert_eq!(rt; wrong_broken(rt.alloc()), None);
 }
 
 #[test]

@@ -2,6 +2,9 @@
 use crate::texts::push_bytes;
 use std::alloc::{AllocError, Global};
 
+/// A reply of fewer bytes is one write.
+const GATHERED_BYTES: usize = 4_096;
+
 /// Where what a client sends at once ends in its input, and where what is said to that ends in the
 /// output.
 #[derive(Clone, Copy, Drop)]
@@ -27,6 +30,8 @@ pub struct Case<'a> {
     pub output: Vec<u8>,
     /// The exchanges before the last one.
     pub exchanges: Vec<Exchange>,
+    /// How many replies are said, with those that say to go on.
+    replies: usize,
     /// Something is said in the last exchange.
     is_said: bool,
     /// The last reply closes the connection.
@@ -42,6 +47,7 @@ impl<'a> Case<'a> {
             input: Vec::new(alloc),
             output: Vec::new(alloc),
             exchanges: Vec::new(alloc),
+            replies: 0,
             is_said: false,
             closes: false,
         }
@@ -72,6 +78,9 @@ impl<'a> Case<'a> {
         }
         if let Some(said) = line.strip_prefix("<") {
             self.is_said = true;
+            if said.starts_with(" HTTP/1.1 ") {
+                self.replies = self.replies.saturating_add(1);
+            }
             self.closes = self.closes || said == " Connection: close";
             return push_bytes(&mut self.output, said);
         }
@@ -113,6 +122,13 @@ impl<'a> Case<'a> {
             }
         }
         exchanges.saturating_add(usize::from(self.output.len() <= count))
+    }
+
+    /// The most writes of the output, where each takes all: one a reply, and one for as many bytes as
+    /// are gathered.
+    pub fn most_writes(&self) -> usize {
+        self.replies
+            .saturating_add(self.output.len() / GATHERED_BYTES)
     }
 
     /// How many bytes are said in so many exchanges.

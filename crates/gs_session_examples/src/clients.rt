@@ -16,10 +16,12 @@ pub struct Client<'a> {
     /// The number of the exchange, where the client waits.
     exchange: usize,
     pub has_failed: bool,
-    is_interrupted: bool,
+    /// How often the read that comes next was interrupted.
+    interruptions: usize,
 }
 
 impl<'a> Client<'a> {
+    /// A client of this conversation, in this manner.
     pub fn new(case: &'a Case<'a>, manner: Manner, flushed: &'a Cell<usize>) -> Client<'a> {
         Client {
             case,
@@ -29,7 +31,7 @@ impl<'a> Client<'a> {
             reads: 0,
             exchange: 0,
             has_failed: false,
-            is_interrupted: false,
+            interruptions: 0,
         }
     }
 
@@ -67,10 +69,11 @@ impl<'a> Client<'a> {
 
 impl Read for Client<'_> {
     fn read(&mut self, buffer: &mut [u8]) -> io::Result<usize> {
-        self.is_interrupted = self.manner.interrupts() && !self.is_interrupted;
-        if self.is_interrupted {
+        if self.interruptions < self.manner.interruptions() {
+            self.interruptions = self.interruptions.saturating_add(1);
             return Err(Error::from(ErrorKind::Interrupted));
         }
+        self.interruptions = 0;
         if self.fails() {
             self.has_failed = true;
             return Err(Error::from(ErrorKind::ConnectionReset));

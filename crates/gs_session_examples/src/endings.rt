@@ -18,6 +18,8 @@ pub struct Ending {
     /// How many bytes of the input have come.
     pub sent: usize,
     pub written: Vec<u8>,
+    /// How many writes there were.
+    pub writes: usize,
     /// How many of these bytes were flushed.
     pub flushed: usize,
     /// What is seen of the store, if its seat is idle.
@@ -42,6 +44,7 @@ pub fn hold(
         has_failed: client.has_failed,
         sent: client.sent,
         written: receiver.bytes,
+        writes: receiver.writes,
         flushed: flushed.get(),
         state,
     })

@@ -14,6 +14,8 @@ pub enum Finding {
     OtherText,
     /// Not all that was written was flushed.
     NotFlushed,
+    /// A small reply is more than one write.
+    ManyWrites,
     /// The store is otherwise, or its seat is not idle.
     OtherState,
 }
@@ -70,7 +72,7 @@ impl Prospect<'_> {
     }
 
     /// What is found where the whole input came.
-    fn found_whole(&self, ending: &Ending) -> Finding {
+    fn found_whole(&self, manner: Manner, ending: &Ending) -> Finding {
         if ending.result != Ok(()) {
             return Finding::OtherResult;
         }
@@ -80,6 +82,9 @@ impl Prospect<'_> {
         if ending.flushed != ending.written.len() {
             return Finding::NotFlushed;
         }
+        if manner.counts_writes() && self.case.most_writes() < ending.writes {
+            return Finding::ManyWrites;
+        }
         self.found_state(ending, self.case.exchanges.len().saturating_add(1))
     }
 
@@ -88,7 +93,7 @@ impl Prospect<'_> {
         match manner.written() {
             Some(count) => self.found_at_write(ending, count),
             None if manner.is_cut() => self.found_at_cut(ending),
-            None => self.found_whole(ending),
+            None => self.found_whole(manner, ending),
         }
     }
 }

@@ -11,7 +11,8 @@ pub enum Manner {
     Waits,
     /// A write takes one byte.
     SlowWrites,
-    /// Each read and each write is interrupted once before it is made.
+    /// Each read and each write is interrupted twice before it is made; a read gives 7 bytes, and a
+    /// write takes one.
     Interrupted,
     /// The input ends after so many bytes.
     EndsAfter(usize),
@@ -28,7 +29,7 @@ impl Manner {
     pub fn piece(self) -> usize {
         match self {
             Manner::Pieces(size) => size,
-            Manner::ReadFailsAfter(_) => 7,
+            Manner::Interrupted | Manner::ReadFailsAfter(_) => 7,
             _ => usize::MAX,
         }
     }
@@ -54,15 +55,21 @@ impl Manner {
         matches!(self, Manner::Waits)
     }
 
-    /// Reads and writes are interrupted.
-    pub fn interrupts(self) -> bool {
-        matches!(self, Manner::Interrupted)
+    /// How often a read or a write is interrupted before it is made.
+    pub fn interruptions(self) -> usize {
+        match self {
+            Manner::Interrupted => 2,
+            _ => 0,
+        }
     }
 
     /// The most bytes of a write.
     pub fn taken(self) -> usize {
         match self {
-            Manner::SlowWrites | Manner::WriteFailsAfter(_) | Manner::WriteStopsAfter(_) => 1,
+            Manner::SlowWrites
+            | Manner::Interrupted
+            | Manner::WriteFailsAfter(_)
+            | Manner::WriteStopsAfter(_) => 1,
             _ => usize::MAX,
         }
     }
@@ -73,6 +80,11 @@ impl Manner {
             Manner::WriteFailsAfter(count) | Manner::WriteStopsAfter(count) => Some(count),
             _ => None,
         }
+    }
+
+    /// The writes are counted, as each takes all that it is given.
+    pub fn counts_writes(self) -> bool {
+        matches!(self, Manner::Whole)
     }
 
     /// Not all of the input comes.

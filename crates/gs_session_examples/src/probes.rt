@@ -32,6 +32,7 @@ pub struct Probe {
 }
 
 impl Probe {
+    /// Questions for the default graph, and for those that conversations make.
     pub fn new(alloc: Global) -> Result<Probe, Refusal> {
         let mut heads = Vec::new(alloc);
         let default = Event::Seat(0, Action::Head(Target::Default));

@@ -11,26 +11,33 @@ pub struct Receiver<'a> {
     /// How many bytes were flushed, for the client.
     flushed: &'a Cell<usize>,
     pub bytes: Vec<u8>,
-    is_interrupted: bool,
+    /// How often it was called to write.
+    pub writes: usize,
+    /// How often the write that comes next was interrupted.
+    interruptions: usize,
 }
 
 impl<'a> Receiver<'a> {
+    /// A receiver to which nothing was written.
     pub fn new(alloc: Global, manner: Manner, flushed: &'a Cell<usize>) -> Receiver<'a> {
         Receiver {
             manner,
             flushed,
             bytes: Vec::new(alloc),
-            is_interrupted: false,
+            writes: 0,
+            interruptions: 0,
         }
     }
 }
 
 impl Write for Receiver<'_> {
     fn write(&mut self, bytes: &[u8]) -> io::Result<usize> {
-        self.is_interrupted = self.manner.interrupts() && !self.is_interrupted;
-        if self.is_interrupted {
+        self.writes = self.writes.saturating_add(1);
+        if self.interruptions < self.manner.interruptions() {
+            self.interruptions = self.interruptions.saturating_add(1);
             return Err(Error::from(ErrorKind::Interrupted));
         }
+        self.interruptions = 0;
         if self.manner.written() == Some(self.bytes.len()) {
             if matches!(self.manner, Manner::WriteStopsAfter(_)) {
                 return Ok(0);

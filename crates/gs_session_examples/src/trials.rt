@@ -12,9 +12,6 @@ use std::io::{self, Write};
 /// A conversation whose input is longer is not broken off.
 const MAX_BROKEN_BYTES: usize = 600;
 
-/// A conversation whose input is longer comes in larger pieces, as each looks for the end of a head.
-const MAX_SMALL_PIECES_BYTES: usize = 20_000;
-
 /// Why a trial ends: there is no memory, or in this manner this was found.
 #[derive(Drop)]
 enum Wrong {
@@ -85,12 +82,7 @@ impl<'a> Trial<'a> {
     /// All of the input comes, and all of the output is taken.
     fn check_whole(&self) -> Result<(), Wrong> {
         self.check(Manner::Whole)?;
-        let sizes = if MAX_SMALL_PIECES_BYTES < self.prospect.case.input.len() {
-            [61, 127, 509]
-        } else {
-            [1, 2, 7]
-        };
-        for size in sizes {
+        for size in [1, 2, 7] {
             self.check(Manner::Pieces(size))?;
         }
         self.check(Manner::Waits)?;
