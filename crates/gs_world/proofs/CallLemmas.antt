@@ -9,7 +9,7 @@ use Rattle.gs_session.specs.declared.sessions.Turn as turn
 use Rattle.gs_session.specs.declared.sessions.Turn.TheVariants.{NeedInput, Made, Output, Over}
 use Rattle.gs_world.specs.declared.connections.Connection.{Connection}
 use Rattle.gs_world.specs.declared.worlds.World.{World}
-use Rattle.gs_world.specs.Walks.{text_of, IsGiven, IsEnded, Takes, Gets, Ends, Moves, Stops, Changes, Leaves, GivesUp}
+use Rattle.gs_world.specs.Walks.{turn_text, IsGiven, HasInputEnded, TakesTurn, Gets, InputEnds, MovesOn, CannotWrite, ChangesOne, LeavesSeat, IsGivenUp}
 
 -- a connection that was not given up
 
@@ -19,14 +19,14 @@ if_live o s Gone Holds e h = subst (λ (q : Option Session). MatchOption q Gone 
 pub gets_live : (k : Connection) (s next : Session) (b : List ℕ) → k.session ≡ Some s → IsGiven b s next → Gets b k (record { session = Some next; written = k.written })
 gets_live k s next b e g = if_live k.session s _ _ e (next, (refl, refl), g)
 
-pub ends_live : (k : Connection) (s next : Session) → k.session ≡ Some s → IsEnded s next → Ends k (record { session = Some next; written = k.written })
+pub ends_live : (k : Connection) (s next : Session) → k.session ≡ Some s → HasInputEnded s next → InputEnds k (record { session = Some next; written = k.written })
 ends_live k s next e g = if_live k.session s _ _ e (next, (refl, refl), g)
 
-moves_live : (k : Connection) (s next : Session) (v : Vec ℕ Global) (t : turn.Turn) (first last : Shown) → k.session ≡ Some s → v.items ≡ k.written.items ++ text_of t
-    → Takes s first t next last → Moves k first (record { session = Some next; written = v }) last
+moves_live : (k : Connection) (s next : Session) (v : Vec ℕ Global) (t : turn.Turn) (first last : Shown) → k.session ≡ Some s → v.items ≡ k.written.items ++ turn_text t
+    → TakesTurn s first t next last → MovesOn k first (record { session = Some next; written = v }) last
 moves_live k s next v t first last e w g = if_live k.session s _ _ e (t, next, (refl, w), g)
 
-silent_text : (t : turn.Turn) → ((b : Vec ℕ Global) → t ≡ Output b → ⊥) → text_of t ≡ []
+silent_text : (t : turn.Turn) → ((b : Vec ℕ Global) → t ≡ Output b → ⊥) → turn_text t ≡ []
 silent_text NeedInput n = refl
 silent_text Made n = refl
 silent_text (Output b) n = absurd (n b refl)
@@ -34,21 +34,21 @@ silent_text Over n = refl
 
 -- a turn without a text
 pub moves_silent : (k : Connection) (s next : Session) (t : turn.Turn) (first last : Shown) → k.session ≡ Some s → ((b : Vec ℕ Global) → t ≡ Output b → ⊥)
-    → Takes s first t next last → Moves k first (record { session = Some next; written = k.written }) last
+    → TakesTurn s first t next last → MovesOn k first (record { session = Some next; written = k.written }) last
 moves_silent k s next t first last e n g =
     moves_live k s next k.written t first last e (sym (append-nil k.written.items) ∙ ap (λ (z : List ℕ). k.written.items ++ z) (sym (silent_text t n))) g
 
 -- one whose text is written
 pub moves_text : {U : Type 0} (r : Result U AllocError) (k : Connection) (s next : Session) (v b : Vec ℕ Global) (text : List ℕ) (first last : Shown) → k.session ≡ Some s
-    → v.items ≡ (if is_ok r then k.written.items ++ text else k.written.items) → text ≡ b.items → Takes s first (Output b) next last
-    → OnOk r (Moves k first (record { session = Some next; written = v }) last)
+    → v.items ≡ (if is_ok r then k.written.items ++ text else k.written.items) → text ≡ b.items → TakesTurn s first (Output b) next last
+    → OnOk r (MovesOn k first (record { session = Some next; written = v }) last)
 moves_text (Ok u) k s next v b text first last e w same g = moves_live k s next v (Output b) first last e (w ∙ ap (λ (z : List ℕ). k.written.items ++ z) same) g
 moves_text (Err u) k s next v b text first last e w same g = tt
 
 -- one for whose text there was no room
 pub stops_text : {U : Type 0} (r : Result U AllocError) (k : Connection) (s next : Session) (v b : Vec ℕ Global) (text : List ℕ) (first last : Shown) → k.session ≡ Some s
-    → v.items ≡ (if is_ok r then k.written.items ++ text else k.written.items) → Takes s first (Output b) next last
-    → OnErr r (Stops k first (record { session = Some next; written = v }) last)
+    → v.items ≡ (if is_ok r then k.written.items ++ text else k.written.items) → TakesTurn s first (Output b) next last
+    → OnErr r (CannotWrite k first (record { session = Some next; written = v }) last)
 stops_text (Ok u) k s next v b text first last e w g = tt
 stops_text (Err u) k s next v b text first last e w g = (s, e, b, next, (refl, w), g)
 
@@ -67,12 +67,12 @@ past_end (z ∷ zs) (suc i) l = past_end zs i (omega (arith, l))
 -- a connection that is there, and one that is not
 
 pub changes_there : (c : ℕ) (w w2 : World) (k k2 : Connection) (Holds : Connection → Shown → Connection → Shown → Type 0) → c < length w.connections.items
-    → k ≡ slice_index_or w.connections.items c k → w2.connections.items ≡ slice_set w.connections.items c k2 → Holds k w.store k2 w2.store → Changes c w w2 Holds
+    → k ≡ slice_index_or w.connections.items c k → w2.connections.items ≡ slice_set w.connections.items c k2 → Holds k w.store k2 w2.store → ChangesOne c w w2 Holds
 changes_there c w w2 k k2 Holds l e set h =
     subst (λ (o : Option Connection). MatchOption o (w2 ≡ w) (λ k. (k2 : Connection) × (w2.connections.items ≡ slice_set w.connections.items c k2) × Holds k w.store k2 w2.store))
     (sym (got w.connections.items c k l e)) (k2, set, h)
 
-pub changes_absent : (c : ℕ) (w w2 : World) (Holds : Connection → Shown → Connection → Shown → Type 0) → length w.connections.items ≤ c → w2 ≡ w → Changes c w w2 Holds
+pub changes_absent : (c : ℕ) (w w2 : World) (Holds : Connection → Shown → Connection → Shown → Type 0) → length w.connections.items ≤ c → w2 ≡ w → ChangesOne c w w2 Holds
 changes_absent c w w2 Holds l same =
     subst (λ (o : Option Connection). MatchOption o (w2 ≡ w) (λ k. (k2 : Connection) × (w2.connections.items ≡ slice_set w.connections.items c k2) × Holds k w.store k2 w2.store))
     (sym (past_end w.connections.items c l)) same
@@ -91,6 +91,6 @@ always_err (Err e) h = h
 
 -- a connection that is given up
 pub gives_up : (c : ℕ) (w w2 : World) (k k2 : Connection) (Holds : Connection → Shown → Type 0) → c < length w.connections.items
-    → k ≡ slice_index_or w.connections.items c k → w2.connections.items ≡ slice_set w.connections.items c k2 → Holds k w.store → Leaves k w.store k2 w2.store
-    → GivesUp c w w2 Holds
-gives_up c w w2 k k2 Holds l e set h leaves = (k, got w.connections.items c k l e, h, changes_there c w w2 k k2 Leaves l e set leaves)
+    → k ≡ slice_index_or w.connections.items c k → w2.connections.items ≡ slice_set w.connections.items c k2 → Holds k w.store → LeavesSeat k w.store k2 w2.store
+    → IsGivenUp c w w2 Holds
+gives_up c w w2 k k2 Holds l e set h leaves = (k, got w.connections.items c k l e, h, changes_there c w w2 k k2 LeavesSeat l e set leaves)

@@ -21,9 +21,9 @@ use Rattle.gs_session.proofs.RestLemmas.{may_none}
 use Rattle.gs_world.specs.declared.connections.Connection.{Connection}
 use Rattle.gs_world.specs.declared.steps.WorldStep.{WorldStep}
 use Rattle.gs_world.specs.declared.steps.WorldStep.TheVariants.{Bytes, Turn, End, Drop}
-use Rattle.gs_world.specs.Happenings.{Input, with_own, taken, IsMadeBy}
-use Rattle.gs_world.specs.Walks.{text_of, Becomes, IsGiven, IsEnded, Takes, Gets, Ends, Moves, Stops, Leaves}
-use Rattle.gs_world.specs.Worlds.{Serves, HasLeft, HoldsTo}
+use Rattle.gs_world.specs.Happenings.{Input, with_own, input_with, IsMadeBy}
+use Rattle.gs_world.specs.Walks.{turn_text, Becomes, IsGiven, HasInputEnded, TakesTurn, Gets, InputEnds, MovesOn, CannotWrite, LeavesSeat}
+use Rattle.gs_world.specs.Worlds.{LeadsToSession, HasLeft, HoldsTo}
 
 -- the store took these deeds of a seat, one at most
 abbrev pub DoesFew : ℕ → Shown → Deeds → Shown → Type 0
@@ -40,28 +40,28 @@ pub record Moved (p : Server) (c : ℕ) (step : WorldStep) (i : Input) (h : Deed
   pub done : Deeds
   pub few : DoesFew c old done new
   pub made : IsMadeBy step (events_of c done)
-  pub holds : HoldsTo p c (taken i step) (h ++ done) k2
+  pub holds : HoldsTo p c (input_with i step) (h ++ done) k2
 
 -- parts of a connection
 
 put_left : (p : Server) (c : ℕ) (i : Input) (h : Deeds) (k : Connection) → k.session ≡ None → HasLeft p c i h k.written.items → HoldsTo p c i h k
-put_left p c i h k e j = subst (λ (o : Option Session). MatchOption o (HasLeft p c i h k.written.items) (λ s. Serves p c i h k.written.items s)) (sym e) j
+put_left p c i h k e j = subst (λ (o : Option Session). MatchOption o (HasLeft p c i h k.written.items) (λ s. LeadsToSession p c i h k.written.items s)) (sym e) j
 
-put_serves : (p : Server) (c : ℕ) (i : Input) (h : Deeds) (w : List ℕ) (k : Connection) (s : Session) → Becomes k s w → Serves p c i h w s → HoldsTo p c i h k
+put_serves : (p : Server) (c : ℕ) (i : Input) (h : Deeds) (w : List ℕ) (k : Connection) (s : Session) → Becomes k s w → LeadsToSession p c i h w s → HoldsTo p c i h k
 put_serves p c i h w k s e j =
-    subst (λ (o : Option Session). MatchOption o (HasLeft p c i h k.written.items) (λ s. Serves p c i h k.written.items s)) (sym e.0)
-    (subst (λ (z : List ℕ). Serves p c i h z s) (sym e.1) j)
+    subst (λ (o : Option Session). MatchOption o (HasLeft p c i h k.written.items) (λ s. LeadsToSession p c i h k.written.items s)) (sym e.0)
+    (subst (λ (z : List ℕ). LeadsToSession p c i h z s) (sym e.1) j)
 
 -- one that was given up stays so
-left_taken : (p : Server) (c : ℕ) (i : Input) (h : Deeds) (w : List ℕ) (step : WorldStep) → HasLeft p c i h w → HasLeft p c (taken i step) (h ++ []) w
+left_taken : (p : Server) (c : ℕ) (i : Input) (h : Deeds) (w : List ℕ) (step : WorldStep) → HasLeft p c i h w → HasLeft p c (input_with i step) (h ++ []) w
 left_taken p c i h w step j =
-    subst (λ (d : Deeds). HasLeft p c (taken i step) d w) (sym (append-nil h))
+    subst (λ (d : Deeds). HasLeft p c (input_with i step) d w) (sym (append-nil h))
     (subst (λ (n : Input). HasLeft p c n h w) (sym (ap (λ (b : Bool). cond b i (with_own i step)) j.dropped)) j)
 
 -- one that was not takes the step
 live_taken : (p : Server) (c : ℕ) (i : Input) (h : Deeds) (w : List ℕ) (s : Session) (step : WorldStep) → i.is_dropped ≡ false
-    → Serves p c (with_own i step) h w s → Serves p c (taken i step) h w s
-live_taken p c i h w s step e j = subst (λ (n : Input). Serves p c n h w s) (sym (ap (λ (b : Bool). cond b i (with_own i step)) e)) j
+    → LeadsToSession p c (with_own i step) h w s → LeadsToSession p c (input_with i step) h w s
+live_taken p c i h w s step e j = subst (λ (n : Input). LeadsToSession p c n h w s) (sym (ap (λ (b : Bool). cond b i (with_own i step)) e)) j
 
 gone_moved : (p : Server) (c : ℕ) (step : WorldStep) (i : Input) (h : Deeds) (k k2 : Connection) (first last : Shown) → IsMadeBy step [] → k.session ≡ None
     → HasLeft p c i h k.written.items → k2 ≡ k → last ≡ first → Moved p c step i h first k2 last
@@ -69,7 +69,7 @@ gone_moved p c step i h k k2 first last m e j same stays = record {
   done = [];
   few = stays;
   made = m;
-  holds = subst (λ (k : Connection). HoldsTo p c (taken i step) (h ++ []) k) (sym same) (put_left p c (taken i step) (h ++ []) k e (left_taken p c i h k.written.items step j));
+  holds = subst (λ (k : Connection). HoldsTo p c (input_with i step) (h ++ []) k) (sym same) (put_left p c (input_with i step) (h ++ []) k e (left_taken p c i h k.written.items step j));
 }
 
 seat_same : (s next : Session) → next.setup ≡ s.setup → next.setup.seat ≡ s.setup.seat
@@ -83,13 +83,13 @@ server_same s next e = ap (λ (setup : Setup). server_of setup) e
 pub gets_moved : (p : Server) (c : ℕ) (b : Vec ℕ Global) (i : Input) (h : Deeds) (k k2 : Connection) (first last : Shown) → HoldsTo p c i h k → Gets b.items k k2
     → last ≡ first → Moved p c (Bytes c b) i h first k2 last
 gets_moved p c b i h k k2 first last j g stays = go k.session refl j g where
-  live : (s : Session) (next : Session) → Serves p c i h k.written.items s → Becomes k2 next k.written.items → IsGiven b.items s next → Moved p c (Bytes c b) i h first k2 last
+  live : (s : Session) (next : Session) → LeadsToSession p c i h k.written.items s → Becomes k2 next k.written.items → IsGiven b.items s next → Moved p c (Bytes c b) i h first k2 last
   live s next f e n = record {
     done = [];
     few = stays;
     made = tt;
     holds =
-        put_serves p c (taken i (Bytes c b)) (h ++ []) k.written.items k2 next e
+        put_serves p c (input_with i (Bytes c b)) (h ++ []) k.written.items k2 next e
         (live_taken p c i (h ++ []) k.written.items next (Bytes c b) f.live record {
           leads =
               subst (λ (d : Deeds). Leads next (joined i.ended i.bytes b.items) d k.written.items) (sym (append-nil h))
@@ -101,23 +101,23 @@ gets_moved p c b i h k k2 first last j g stays = go k.session refl j g where
         });
   }
 
-  go : (o : Option Session) → k.session ≡ o → MatchOption o (HasLeft p c i h k.written.items) (λ s. Serves p c i h k.written.items s)
+  go : (o : Option Session) → k.session ≡ o → MatchOption o (HasLeft p c i h k.written.items) (λ s. LeadsToSession p c i h k.written.items s)
       → MatchOption o (k2 ≡ k) (λ s. (next : Session) × Becomes k2 next k.written.items × IsGiven b.items s next) → Moved p c (Bytes c b) i h first k2 last
   go None e f n = gone_moved p c (Bytes c b) i h k k2 first last tt e f n stays
   go (Some s) e f n = live s n.0 f n.1 n.2
 
 -- an end
 
-pub ends_moved : (p : Server) (c : ℕ) (i : Input) (h : Deeds) (k k2 : Connection) (first last : Shown) → HoldsTo p c i h k → Ends k k2 → last ≡ first
+pub ends_moved : (p : Server) (c : ℕ) (i : Input) (h : Deeds) (k k2 : Connection) (first last : Shown) → HoldsTo p c i h k → InputEnds k k2 → last ≡ first
     → Moved p c (End c) i h first k2 last
 ends_moved p c i h k k2 first last j g stays = go k.session refl j g where
-  live : (s : Session) (next : Session) → Serves p c i h k.written.items s → Becomes k2 next k.written.items → IsEnded s next → Moved p c (End c) i h first k2 last
+  live : (s : Session) (next : Session) → LeadsToSession p c i h k.written.items s → Becomes k2 next k.written.items → HasInputEnded s next → Moved p c (End c) i h first k2 last
   live s next f e n = record {
     done = [];
     few = stays;
     made = tt;
     holds =
-        put_serves p c (taken i (End c)) (h ++ []) k.written.items k2 next e
+        put_serves p c (input_with i (End c)) (h ++ []) k.written.items k2 next e
         (live_taken p c i (h ++ []) k.written.items next (End c) f.live record {
           leads = subst (λ (d : Deeds). Leads next i.bytes d k.written.items) (sym (append-nil h)) (n.0 i.bytes h k.written.items f.leads);
           ended = n.2;
@@ -127,8 +127,8 @@ ends_moved p c i h k k2 first last j g stays = go k.session refl j g where
         });
   }
 
-  go : (o : Option Session) → k.session ≡ o → MatchOption o (HasLeft p c i h k.written.items) (λ s. Serves p c i h k.written.items s)
-      → MatchOption o (k2 ≡ k) (λ s. (next : Session) × Becomes k2 next k.written.items × IsEnded s next) → Moved p c (End c) i h first k2 last
+  go : (o : Option Session) → k.session ≡ o → MatchOption o (HasLeft p c i h k.written.items) (λ s. LeadsToSession p c i h k.written.items s)
+      → MatchOption o (k2 ≡ k) (λ s. (next : Session) × Becomes k2 next k.written.items × HasInputEnded s next) → Moved p c (End c) i h first k2 last
   go None e f n = gone_moved p c (End c) i h k k2 first last tt e f n stays
   go (Some s) e f n = live s n.0 f n.1 n.2
 
@@ -139,19 +139,19 @@ record Turned (p : Server) (c : ℕ) (i : Input) (h : Deeds) (w : List ℕ) (old
   pub done : Deeds
   pub few : DoesFew c old done new
   pub made : IsMadeBy (Turn c) (events_of c done)
-  pub leads : Leads next i.bytes (h ++ done) (w ++ text_of t)
+  pub leads : Leads next i.bytes (h ++ done) (w ++ turn_text t)
 
 nothing_turned : (p : Server) (c : ℕ) (i : Input) (h : Deeds) (w : List ℕ) (old : Shown) (next : Session) (t : turn.Turn) (new : Shown) → new ≡ old
-    → Leads next i.bytes h (w ++ text_of t) → Turned p c i h w old next t new
+    → Leads next i.bytes h (w ++ turn_text t) → Turned p c i h w old next t new
 nothing_turned p c i h w old next t new stays l = record {
   done = [];
   few = stays;
   made = tt;
-  leads = subst (λ (d : Deeds). Leads next i.bytes d (w ++ text_of t)) (sym (append-nil h)) l;
+  leads = subst (λ (d : Deeds). Leads next i.bytes d (w ++ turn_text t)) (sym (append-nil h)) l;
 }
 
 takes_turned : (p : Server) (c : ℕ) (i : Input) (h : Deeds) (w : List ℕ) (s : Session) (old : Shown) (t : turn.Turn) (next : Session) (new : Shown)
-    → Serves p c i h w s → Takes s old t next new → Turned p c i h w old next t new
+    → LeadsToSession p c i h w s → TakesTurn s old t next new → Turned p c i h w old next t new
 takes_turned p c i h w s old Made next new f k = record {
   done = (k.0.0, k.0.1) ∷ [];
   few = subst (λ (n : ℕ). Steps old (Seat n k.0.0) k.0.1 new) f.seat_is k.0.2.0;
@@ -166,18 +166,18 @@ takes_turned p c i h w s old NeedInput next new f k =
 takes_turned p c i h w s old Over next new f k =
     nothing_turned p c i h w old next Over new k.0.0 (subst (λ (z : List ℕ). Leads next i.bytes h z) (sym (append-nil w)) (k.0.1 i.bytes h w f.leads))
 
-pub turns_moved : (p : Server) (c : ℕ) (i : Input) (h : Deeds) (k k2 : Connection) (first last : Shown) → HoldsTo p c i h k → Moves k first k2 last
+pub turns_moved : (p : Server) (c : ℕ) (i : Input) (h : Deeds) (k k2 : Connection) (first last : Shown) → HoldsTo p c i h k → MovesOn k first k2 last
     → Moved p c (Turn c) i h first k2 last
 turns_moved p c i h k k2 first last j g = go k.session refl j g where
-  served : (s next : Session) (t : turn.Turn) → Serves p c i h k.written.items s → Becomes k2 next (k.written.items ++ text_of t) → Takes s first t next last
+  served : (s next : Session) (t : turn.Turn) → LeadsToSession p c i h k.written.items s → Becomes k2 next (k.written.items ++ turn_text t) → TakesTurn s first t next last
       → Turned p c i h k.written.items first next t last → Moved p c (Turn c) i h first k2 last
   served s next t f e n m = record {
     done = m.done;
     few = m.few;
     made = m.made;
     holds =
-        put_serves p c (taken i (Turn c)) (h ++ m.done) (k.written.items ++ text_of t) k2 next e
-        (live_taken p c i (h ++ m.done) (k.written.items ++ text_of t) next (Turn c) f.live record {
+        put_serves p c (input_with i (Turn c)) (h ++ m.done) (k.written.items ++ turn_text t) k2 next e
+        (live_taken p c i (h ++ m.done) (k.written.items ++ turn_text t) next (Turn c) f.live record {
           leads = m.leads;
           ended = n.3 ∙ f.ended;
           server = server_same s next n.2 ∙ f.server;
@@ -186,8 +186,8 @@ turns_moved p c i h k k2 first last j g = go k.session refl j g where
         });
   }
 
-  go : (o : Option Session) → k.session ≡ o → MatchOption o (HasLeft p c i h k.written.items) (λ s. Serves p c i h k.written.items s)
-      → MatchOption o ((k2 ≡ k) × (last ≡ first)) (λ s. (t : turn.Turn) × (next : Session) × Becomes k2 next (k.written.items ++ text_of t) × Takes s first t next last)
+  go : (o : Option Session) → k.session ≡ o → MatchOption o (HasLeft p c i h k.written.items) (λ s. LeadsToSession p c i h k.written.items s)
+      → MatchOption o ((k2 ≡ k) × (last ≡ first)) (λ s. (t : turn.Turn) × (next : Session) × Becomes k2 next (k.written.items ++ turn_text t) × TakesTurn s first t next last)
       → Moved p c (Turn c) i h first k2 last
   go None e f n = gone_moved p c (Turn c) i h k k2 first last tt e f n.0 n.1
   go (Some s) e f n = served s n.1 n.0 f n.2 n.3 (takes_turned p c i h k.written.items s first n.0 n.1 last f n.3)
@@ -201,7 +201,7 @@ record Cancelled (p : Server) (c : ℕ) (i : Input) (h : Deeds) (w : List ℕ) (
   pub made : IsMadeBy (Drop c) (events_of c done)
   pub left : HasLeft p c (record i { is_dropped = true }) (h ++ done) w
 
-quits_cancelled : (p : Server) (c : ℕ) (i : Input) (h : Deeds) (w : List ℕ) (s : Session) (old new : Shown) → Serves p c i h w s → Quits Steps s old new
+quits_cancelled : (p : Server) (c : ℕ) (i : Input) (h : Deeds) (w : List ℕ) (s : Session) (old new : Shown) → LeadsToSession p c i h w s → Quits Steps s old new
     → Cancelled p c i h w old new
 quits_cancelled p c i h w s old new f q = go q.1 q.2 (q.3 i.bytes h w [] f.leads (may_none s.ended)) where
   left : (ds : Deeds) → SaysFront (server_of s.setup) s.ended (i.bytes ++ []) (h ++ ds) w × (AreOfKind s.setup.seat (h ++ ds) → IsIdle (h ++ ds))
@@ -238,22 +238,22 @@ quits_cancelled p c i h w s old new f q = go q.1 q.2 (q.3 i.bytes h w [] f.leads
   }
   go (inr k) ran n = once k.0 q.0 k.1 ran n
 
-pub leaves_moved : (p : Server) (c : ℕ) (i : Input) (h : Deeds) (k k2 : Connection) (first last : Shown) → HoldsTo p c i h k → Leaves k first k2 last
+pub leaves_moved : (p : Server) (c : ℕ) (i : Input) (h : Deeds) (k k2 : Connection) (first last : Shown) → HoldsTo p c i h k → LeavesSeat k first k2 last
     → Moved p c (Drop c) i h first k2 last
 leaves_moved p c i h k k2 first last j g = go k.session refl j g where
-  gone : (s : Session) → Serves p c i h k.written.items s → k2.session ≡ None → k2.written.items ≡ k.written.items → Cancelled p c i h k.written.items first last
+  gone : (s : Session) → LeadsToSession p c i h k.written.items s → k2.session ≡ None → k2.written.items ≡ k.written.items → Cancelled p c i h k.written.items first last
       → Moved p c (Drop c) i h first k2 last
   gone s f e w m = record {
     done = m.done;
     few = m.few;
     made = m.made;
     holds =
-        put_left p c (taken i (Drop c)) (h ++ m.done) k2 e
-        (subst (λ (z : List ℕ). HasLeft p c (taken i (Drop c)) (h ++ m.done) z) (sym w)
+        put_left p c (input_with i (Drop c)) (h ++ m.done) k2 e
+        (subst (λ (z : List ℕ). HasLeft p c (input_with i (Drop c)) (h ++ m.done) z) (sym w)
         (subst (λ (n : Input). HasLeft p c n (h ++ m.done) k.written.items) (sym (ap (λ (b : Bool). cond b i (with_own i (Drop c))) f.live)) m.left));
   }
 
-  go : (o : Option Session) → k.session ≡ o → MatchOption o (HasLeft p c i h k.written.items) (λ s. Serves p c i h k.written.items s)
+  go : (o : Option Session) → k.session ≡ o → MatchOption o (HasLeft p c i h k.written.items) (λ s. LeadsToSession p c i h k.written.items s)
       → MatchOption o ((k2 ≡ k) × (last ≡ first)) (λ s. (k2.session ≡ None) × (k2.written.items ≡ k.written.items) × Quits Steps s first last)
       → Moved p c (Drop c) i h first k2 last
   go None e f n = gone_moved p c (Drop c) i h k k2 first last tt e f n.0 n.1
@@ -265,7 +265,7 @@ shorter_front : (p : Server) (e : Bool) (x : List ℕ) (h : Deeds) (w b : List �
 shorter_front p e x h w b f = (f.0, b ++ f.1, subst (λ (z : List ℕ). Talk p e x h z f.0) (append_assoc w b f.1) f.2)
 
 -- A connection that is given up after a turn whose text could not be written is given up before that turn.
-pub stops_leaves : (k k1 k2 : Connection) (first mid last : Shown) → Stops k first k1 mid → Leaves k1 mid k2 last → Leaves k first k2 last
+pub stops_leaves : (k k1 k2 : Connection) (first mid last : Shown) → CannotWrite k first k1 mid → LeavesSeat k1 mid k2 last → LeavesSeat k first k2 last
 stops_leaves k k1 k2 first mid last g l =
     subst (λ (o : Option Session). MatchOption o ((k2 ≡ k) × (last ≡ first)) (λ s. (k2.session ≡ None) × (k2.written.items ≡ k.written.items) × Quits Steps s first last))
     (sym g.1)

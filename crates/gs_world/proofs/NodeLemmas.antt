@@ -28,7 +28,7 @@ use Rattle.gs_talk.specs.Points.{IsAskedBy, IsPointOf, ArePointsOf}
 use Rattle.gs_talk.specs.Logs.{Server}
 use Rattle.gs_world.specs.declared.worlds.World.{World}
 use Rattle.gs_world.specs.Happenings.{Past, deeds_at}
-use Rattle.gs_world.specs.Worlds.{Stands}
+use Rattle.gs_world.specs.Worlds.{LeadsToWorld}
 use Rattle.gs_world.specs.Nodes.{BringsOwn}
 use Rattle.gs_world.proofs.RunLemmas.{serves_all}
 
@@ -89,6 +89,6 @@ points_own base (r ∷ rs) (q ∷ qs) (inl k) = All-cons (λ (q : Point). Brings
 points_own base (r ∷ rs) (q ∷ qs) (inr k) = points_own base rs (q ∷ qs) k
 
 -- So is each of what a seat of a world asks.
-pub seat_own : (p : Server) (count : ℕ) (w : World) (past : Past) (history : History) → Stands p count w past history → (c : ℕ) → c < count
+pub seat_own : (p : Server) (count : ℕ) (w : World) (past : Past) (history : History) → LeadsToWorld p count w past history → (c : ℕ) → c < count
     → All (λ (q : Point). BringsOwn q.0 q.1) (asked_in Idle (deeds_at c history))
 seat_own p count w past history st c l = points_own p.base _ _ ((serves_all p count w past history st).served c l).points

@@ -20,7 +20,7 @@ use Rattle.gs_model.specs.Graphs.{Graph}
 use Rattle.gs_talk.specs.Seats.{Deeds, SeatPhase, Point, phase_in, asked_in}
 use Rattle.gs_talk.proofs.CourseLemmas.{phase-append, operations-append}
 use Rattle.gs_world.specs.Happenings.{deed_at, deeds_at}
-use Rattle.gs_world.specs.Nodes.{brings, numbers_of, numbers_at, RiseFrom}
+use Rattle.gs_world.specs.Nodes.{brings, numbers_of, request_numbers, RiseFrom}
 
 -- numbers that rise
 
@@ -271,10 +271,10 @@ used_apart start c d r (x ∷ h) ne legal k j =
     go (inr m) (inr n) again = ne (one_seat c d x.0 m.0 n.0)
 
 -- The numbers of a seat's requests rise in a legal history.
-pub numbers_rise : (start : Start) (c : ℕ) (h : History) → IsLegal start h → RiseFrom 0 (numbers_at c h)
-numbers_rise start c h legal = just_rise 0 (last_of start h) (numbers_at c h) (rise_front 0 (last_of start h) (numbers_at c h) _ (used_rise start c h legal))
+pub numbers_rise : (start : Start) (c : ℕ) (h : History) → IsLegal start h → RiseFrom 0 (request_numbers c h)
+numbers_rise start c h legal = just_rise 0 (last_of start h) (request_numbers c h) (rise_front 0 (last_of start h) (request_numbers c h) _ (used_rise start c h legal))
 
 -- No two seats have one in common.
-pub numbers_apart : (start : Start) (c d r : ℕ) (h : History) → c ≢ d → IsLegal start h → Contains (numbers_at c h) r → Contains (numbers_at d h) r → ⊥
+pub numbers_apart : (start : Start) (c d r : ℕ) (h : History) → c ≢ d → IsLegal start h → Contains (request_numbers c h) r → Contains (request_numbers d h) r → ⊥
 numbers_apart start c d r h ne legal k j =
-    used_apart start c d r h ne legal (Contains-append_left (numbers_at c h) _ r k) (Contains-append_left (numbers_at d h) _ r j)
+    used_apart start c d r h ne legal (Contains-append_left (request_numbers c h) _ r k) (Contains-append_left (request_numbers d h) _ r j)

@@ -15,8 +15,8 @@ use Rattle.gs_world.specs.declared.steps.WorldStep.{WorldStep}
 use Rattle.gs_world.specs.declared.steps.WorldStep.TheVariants.{Drop}
 use Rattle.gs_world.specs.declared.worlds.World.{World}
 use Rattle.gs_world.specs.Happenings.{Past, Input, input_of, deeds_at, IsMadeBy, AreMadeBy}
-use Rattle.gs_world.specs.Walks.{Walks, WalksAll, Refuses}
-use Rattle.gs_world.specs.Worlds.{Serves, HasLeft, HoldsTo, Stands, start_of, written_by, written_on, IsServed, IsDone, ServesAll, Runs, IsCutAt}
+use Rattle.gs_world.specs.Walks.{Walks, WalksAll, RefusesStep}
+use Rattle.gs_world.specs.Worlds.{LeadsToSession, HasLeft, HoldsTo, LeadsToWorld, world_start, text_written, written_on, IsServed, IsDone, ServesAll, RunsSteps, IsCutAt}
 use Rattle.gs_world.proofs.SeatLemmas.{legal_kinds, seats_fit, seats_rest}
 use Rattle.gs_world.proofs.StandLemmas.{GoesOn, walk_stands}
 
@@ -37,11 +37,11 @@ made_one step h m = (h, [], sym (append-nil h), m, refl)
 
 -- what some steps lead on to
 abbrev LeadsOn : Server → ℕ → World → List WorldStep → Past → History → Type 0
-LeadsOn p count w steps past history = (more : History) × AreMadeBy (reverse steps) more × Stands p count w (reverse steps ++ past) (more ++ history)
+LeadsOn p count w steps past history = (more : History) × AreMadeBy (reverse steps) more × LeadsToWorld p count w (reverse steps ++ past) (more ++ history)
 
-walks_stand : (p : Server) (count : ℕ) (w w2 : World) (steps : List WorldStep) (past : Past) (history : History) → WalksAll w steps w2 → Stands p count w past history
+walks_stand : (p : Server) (count : ℕ) (w w2 : World) (steps : List WorldStep) (past : Past) (history : History) → WalksAll w steps w2 → LeadsToWorld p count w past history
     → LeadsOn p count w2 steps past history
-walks_stand p count w w2 [] past history all st = ([], refl, subst (λ (v : World). Stands p count v past history) (sym all) st)
+walks_stand p count w w2 [] past history all st = ([], refl, subst (λ (v : World). LeadsToWorld p count v past history) (sym all) st)
 walks_stand p count w w2 (step ∷ steps) past history all st = go (walk_stands p count w all.0 past history step st all.1) (λ h k. walks_stand p count all.0 w2 steps (step ∷ past) h all.2 k) where
   turned : reverse (step ∷ steps) ≡ reverse steps ++ step ∷ []
   turned = reverse-append (step ∷ []) steps
@@ -50,11 +50,11 @@ walks_stand p count w w2 (step ∷ steps) past history all st = go (walk_stands 
   joined m1 made k = (
     k.0 ++ m1,
     subst (λ (q : Past). AreMadeBy q (k.0 ++ m1)) (sym turned) (made_append (reverse steps) (step ∷ []) k.0 m1 k.1 (made_one step m1 made)),
-    subst (λ (h : History). Stands p count w2 (reverse (step ∷ steps) ++ past) h) (sym (append_assoc k.0 m1 history))
-        (subst (λ (q : Past). Stands p count w2 q (k.0 ++ (m1 ++ history))) (sym (append_assoc (reverse steps) (step ∷ []) past) ∙ ap (λ (q : Past). q ++ past) (sym turned)) k.2),
+    subst (λ (h : History). LeadsToWorld p count w2 (reverse (step ∷ steps) ++ past) h) (sym (append_assoc k.0 m1 history))
+        (subst (λ (q : Past). LeadsToWorld p count w2 q (k.0 ++ (m1 ++ history))) (sym (append_assoc (reverse steps) (step ∷ []) past) ∙ ap (λ (q : Past). q ++ past) (sym turned)) k.2),
   )
 
-  go : GoesOn p count all.0 step past history → ((h : History) → Stands p count all.0 (step ∷ past) h → LeadsOn p count w2 steps (step ∷ past) h)
+  go : GoesOn p count all.0 step past history → ((h : History) → LeadsToWorld p count all.0 (step ∷ past) h → LeadsOn p count w2 steps (step ∷ past) h)
       → LeadsOn p count w2 (step ∷ steps) past history
   go n again = joined n.0 n.1 (again (n.0 ++ history) n.2)
 
@@ -67,7 +67,7 @@ there (x ∷ xs) (suc i) l = there xs i (omega (arith, l))
 
 holds_front : (p : Server) (c : ℕ) (i : Input) (h : Deeds) (k : Connection) → HoldsTo p c i h k → SaysFront p i.ended i.bytes h k.written.items
 holds_front p c i h k j = go k.session j where
-  go : (o : Option Session) → MatchOption o (HasLeft p c i h k.written.items) (λ s. Serves p c i h k.written.items s) → SaysFront p i.ended i.bytes h k.written.items
+  go : (o : Option Session) → MatchOption o (HasLeft p c i h k.written.items) (λ s. LeadsToSession p c i h k.written.items s) → SaysFront p i.ended i.bytes h k.written.items
   go None f = f.front
   go (Some s) f =
       subst (λ (v : Bool). SaysFront p v i.bytes h k.written.items) f.ended
@@ -75,11 +75,11 @@ holds_front p c i h k j = go k.session j where
 
 dropped_idle : (p : Server) (c : ℕ) (i : Input) (h : Deeds) (k : Connection) → HoldsTo p c i h k → i.is_dropped ≡ true → HasLeft p c i h k.written.items
 dropped_idle p c i h k j d = go k.session j where
-  go : (o : Option Session) → MatchOption o (HasLeft p c i h k.written.items) (λ s. Serves p c i h k.written.items s) → HasLeft p c i h k.written.items
+  go : (o : Option Session) → MatchOption o (HasLeft p c i h k.written.items) (λ s. LeadsToSession p c i h k.written.items s) → HasLeft p c i h k.written.items
   go None f = f
   go (Some s) f = absurd (true≢false (sym d ∙ f.live))
 
-module _ (p : Server) (count : ℕ) (w : World) (past : Past) (history : History) (st : Stands p count w past history) where
+module _ (p : Server) (count : ℕ) (w : World) (past : Past) (history : History) (st : LeadsToWorld p count w past history) where
   abbrev HeldAt : ℕ → Type 0
   HeldAt c = (k : Connection) × (slice_get w.connections.items c ≡ Some k)
 
@@ -88,7 +88,7 @@ module _ (p : Server) (count : ℕ) (w : World) (past : Past) (history : History
 
   front_at : (c : ℕ) → HeldAt c → SaysFront p (input_of c past).ended (input_of c past).bytes (deeds_at c history) (written_on w c)
   front_at c k =
-      subst (λ (o : Option Connection). SaysFront p (input_of c past).ended (input_of c past).bytes (deeds_at c history) (written_by o)) (sym k.1)
+      subst (λ (o : Option Connection). SaysFront p (input_of c past).ended (input_of c past).bytes (deeds_at c history) (text_written o)) (sym k.1)
       (holds_front p c (input_of c past) (deeds_at c history) k.0 (st.each c k.0 k.1))
 
   served_at : (c : ℕ) → c < count → SaysFront p (input_of c past).ended (input_of c past).bytes (deeds_at c history) (written_on w c)
@@ -96,10 +96,10 @@ module _ (p : Server) (count : ℕ) (w : World) (past : Past) (history : History
   served_at c l f = record {
     front = f;
     points = talk_points p (input_of c past).ended (input_of c past).bytes (deeds_at c history) _ f.0 f.2;
-    fits = seats_fit p (input_of c past).ended (start_of p count) c history (input_of c past).bytes _ f.0 st.lines l st.legal f.2;
+    fits = seats_fit p (input_of c past).ended (world_start p count) c history (input_of c past).bytes _ f.0 st.lines l st.legal f.2;
   }
 
-  shown_idle : (c : ℕ) → slice_get (view_of (start_of p count) history).seats c ≡ Some Idle → slice_get w.store.view.seats c ≡ Some Idle
+  shown_idle : (c : ℕ) → slice_get (view_of (world_start p count) history).seats c ≡ Some Idle → slice_get w.store.view.seats c ≡ Some Idle
   shown_idle c e = ap (λ (v : View). slice_get v.seats c) st.view ∙ e
 
   idle_at : (c : ℕ) → c < count → HeldAt c → IsDone p (input_of c past) (deeds_at c history) → slice_get w.store.view.seats c ≡ Some Idle
@@ -109,11 +109,11 @@ module _ (p : Server) (count : ℕ) (w : World) (past : Past) (history : History
 
     go : SaysFront p (input_of c past).ended (input_of c past).bytes (deeds_at c history) (written_on w c) → slice_get w.store.view.seats c ≡ Some Idle
     go f =
-        shown_idle c (seats_rest p (input_of c past).ended (start_of p count) c history (input_of c past).bytes _ f.0 st.lines l st.legal f.2
-        (left.idle (legal_kinds (start_of p count) c history st.legal)))
+        shown_idle c (seats_rest p (input_of c past).ended (world_start p count) c history (input_of c past).bytes _ f.0 st.lines l st.legal f.2
+        (left.idle (legal_kinds (world_start p count) c history st.legal)))
   idle_at c l k (inr t) =
-      shown_idle c (seats_rest p (input_of c past).ended (start_of p count) c history (input_of c past).bytes t.0 [] st.lines l st.legal t.1
-      (rests_idle p (input_of c past).ended c (input_of c past).bytes (deeds_at c history) t.0 (legal_kinds (start_of p count) c history st.legal) t.1))
+      shown_idle c (seats_rest p (input_of c past).ended (world_start p count) c history (input_of c past).bytes t.0 [] st.lines l st.legal t.1
+      (rests_idle p (input_of c past).ended c (input_of c past).bytes (deeds_at c history) t.0 (legal_kinds (world_start p count) c history st.legal) t.1))
 
   pub serves_all : ServesAll p count w past history
   serves_all = record {
@@ -126,16 +126,16 @@ module _ (p : Server) (count : ℕ) (w : World) (past : Past) (history : History
 
 -- a run
 
-pub walks_run : (w w2 : World) (steps : List WorldStep) → WalksAll w steps w2 → Runs w steps w2
+pub walks_run : (w w2 : World) (steps : List WorldStep) → WalksAll w steps w2 → RunsSteps w steps w2
 walks_run w w2 steps all = (all, λ p count past history st. go p count past history (walks_stand p count w w2 steps past history all st)) where
   go : (p : Server) (count : ℕ) (past : Past) (history : History) → LeadsOn p count w2 steps past history
-      → (more : History) × AreMadeBy (reverse steps) more × Stands p count w2 (reverse steps ++ past) (more ++ history)
+      → (more : History) × AreMadeBy (reverse steps) more × LeadsToWorld p count w2 (reverse steps ++ past) (more ++ history)
       × ServesAll p count w2 (reverse steps ++ past) (more ++ history)
   go p count past history n = (n.0, n.1, n.2, serves_all p count w2 (reverse steps ++ past) (n.0 ++ history) n.2)
 
 -- a run whose next step was refused
 pub cut_run : (w mid w2 : World) (steps : List WorldStep) (n : ℕ) (step : WorldStep) → WalksAll w (take n steps) mid → slice_get steps n ≡ Some step
-    → (c : ℕ) × Refuses c mid step w2 → IsCutAt w steps w2
+    → (c : ℕ) × RefusesStep c mid step w2 → IsCutAt w steps w2
 cut_run w mid w2 steps n step all here g = (
   n,
   g.0,

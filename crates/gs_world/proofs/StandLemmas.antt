@@ -17,9 +17,9 @@ use Rattle.gs_world.specs.declared.connections.Connection.{Connection}
 use Rattle.gs_world.specs.declared.steps.WorldStep.{WorldStep}
 use Rattle.gs_world.specs.declared.steps.WorldStep.TheVariants.{Bytes, Turn, End, Drop, Reclaim}
 use Rattle.gs_world.specs.declared.worlds.World.{World}
-use Rattle.gs_world.specs.Happenings.{Past, Input, is_step_of, taken, with_step, input_of, deeds_at, MayRest, IsMadeBy}
-use Rattle.gs_world.specs.Walks.{Apart, Gets, Ends, Moves, Leaves, Changes, Frees, Walks}
-use Rattle.gs_world.specs.Worlds.{HoldsTo, Stands, start_of}
+use Rattle.gs_world.specs.Happenings.{Past, Input, is_step_of, input_with, with_step, input_of, deeds_at, MayRest, IsMadeBy}
+use Rattle.gs_world.specs.Walks.{Apart, Gets, InputEnds, MovesOn, LeavesSeat, ChangesOne, FreesNodes, Walks}
+use Rattle.gs_world.specs.Worlds.{HoldsTo, LeadsToWorld, world_start}
 use Rattle.gs_world.proofs.SeatLemmas.{other_place}
 use Rattle.gs_world.proofs.MoveLemmas.{DoesFew, events_of, Moved, gets_moved, ends_moved, turns_moved, leaves_moved}
 
@@ -74,7 +74,7 @@ few_legal start h c old new (d ∷ f ∷ ds) k s = absurd s
 
 -- what a step makes leads on to the world after it
 abbrev pub GoesOn : Server → ℕ → World → WorldStep → Past → History → Type 0
-GoesOn p count w step past history = (more : History) × IsMadeBy step more × Stands p count w (step ∷ past) (more ++ history)
+GoesOn p count w step past history = (more : History) × IsMadeBy step more × LeadsToWorld p count w (step ∷ past) (more ++ history)
 
 -- a step that may make no event
 rests : (step : WorldStep) → MayRest step → IsMadeBy step []
@@ -86,12 +86,12 @@ IsOne c step = (d : ℕ) → is_step_of d step ≡ nat_eq c d
 
 -- to another nothing came
 other_input : (c d : ℕ) (step : WorldStep) (i : Input) → IsOne c step → nat_eq c d ≡ false → with_step d i step ≡ i
-other_input c d step i one e = ap (λ (b : Bool). cond b (taken i step) i) (one d ∙ e)
+other_input c d step i one e = ap (λ (b : Bool). cond b (input_with i step) i) (one d ∙ e)
 
-own_input : (c : ℕ) (step : WorldStep) (i : Input) → IsOne c step → with_step c i step ≡ taken i step
-own_input c step i one = ap (λ (b : Bool). cond b (taken i step) i) (one c ∙ eq-eqb c c refl)
+own_input : (c : ℕ) (step : WorldStep) (i : Input) → IsOne c step → with_step c i step ≡ input_with i step
+own_input c step i one = ap (λ (b : Bool). cond b (input_with i step) i) (one c ∙ eq-eqb c c refl)
 
-module _ (p : Server) (count : ℕ) (w w2 : World) (past : Past) (history : History) (c : ℕ) (step : WorldStep) (one : IsOne c step) (st : Stands p count w past history) where
+module _ (p : Server) (count : ℕ) (w w2 : World) (past : Past) (history : History) (c : ℕ) (step : WorldStep) (one : IsOne c step) (st : LeadsToWorld p count w past history) where
   moved_each : (k k2 : Connection) → slice_get w.connections.items c ≡ Some k → w2.connections.items ≡ slice_set w.connections.items c k2
       → (m : Moved p c step (input_of c past) (deeds_at c history) w.store k2 w2.store) → (d : ℕ) (k3 : Connection) → slice_get w2.connections.items d ≡ Some k3
       → HoldsTo p d (input_of d (step ∷ past)) (deeds_at d (events_of c m.done ++ history)) k3
@@ -118,8 +118,8 @@ module _ (p : Server) (count : ℕ) (w w2 : World) (past : Past) (history : Hist
 
   moved_stands : (k k2 : Connection) → slice_get w.connections.items c ≡ Some k → w2.connections.items ≡ slice_set w.connections.items c k2
       → Moved p c step (input_of c past) (deeds_at c history) w.store k2 w2.store → GoesOn p count w2 step past history
-  moved_stands k k2 here set m = (events_of c m.done, m.made, go (few_legal (start_of p count) history c w.store w2.store m.done (record { legal = st.legal; view = st.view; pinned = st.pinned }) m.few)) where
-    go : LegalAt (start_of p count) (events_of c m.done ++ history) w2.store → Stands p count w2 (step ∷ past) (events_of c m.done ++ history)
+  moved_stands k k2 here set m = (events_of c m.done, m.made, go (few_legal (world_start p count) history c w.store w2.store m.done (record { legal = st.legal; view = st.view; pinned = st.pinned }) m.few)) where
+    go : LegalAt (world_start p count) (events_of c m.done ++ history) w2.store → LeadsToWorld p count w2 (step ∷ past) (events_of c m.done ++ history)
     go k4 = record {
       lines = st.lines;
       many = ap (λ (ks : List Connection). length ks) set ∙ set_length w.connections.items c k2 ∙ st.many;
@@ -132,7 +132,7 @@ module _ (p : Server) (count : ℕ) (w w2 : World) (past : Past) (history : Hist
 
   -- a step for a connection that is not there
   absent_stands : MayRest step → slice_get w.connections.items c ≡ None → w2 ≡ w → GoesOn p count w2 step past history
-  absent_stands may none same = ([], rests step may, subst (λ (v : World). Stands p count v (step ∷ past) history) (sym same) stays) where
+  absent_stands may none same = ([], rests step may, subst (λ (v : World). LeadsToWorld p count v (step ∷ past) history) (sym same) stays) where
     each : (d : ℕ) (k : Connection) → slice_get w.connections.items d ≡ Some k → HoldsTo p d (input_of d (step ∷ past)) (deeds_at d history) k
     each d k e = go (nat_eq c d) refl where
       clash : c ≡ d → ⊥
@@ -142,7 +142,7 @@ module _ (p : Server) (count : ℕ) (w w2 : World) (past : Past) (history : Hist
       go true r = absurd (clash (eqb-true c d r))
       go false r = subst (λ (i : Input). HoldsTo p d i (deeds_at d history) k) (sym (other_input c d step (input_of d past) one r)) (st.each d k e)
 
-    stays : Stands p count w (step ∷ past) history
+    stays : LeadsToWorld p count w (step ∷ past) history
     stays = record {
       lines = st.lines;
       many = st.many;
@@ -153,7 +153,7 @@ module _ (p : Server) (count : ℕ) (w w2 : World) (past : Past) (history : Hist
       each = each;
     }
 
-  changes_stands : (Holds : Connection → Shown → Connection → Shown → Type 0) → MayRest step → Changes c w w2 Holds
+  changes_stands : (Holds : Connection → Shown → Connection → Shown → Type 0) → MayRest step → ChangesOne c w w2 Holds
       → ((k k2 : Connection) → HoldsTo p c (input_of c past) (deeds_at c history) k → Holds k w.store k2 w2.store
       → Moved p c step (input_of c past) (deeds_at c history) w.store k2 w2.store) → GoesOn p count w2 step past history
   changes_stands Holds may walk moves = go (slice_get w.connections.items c) refl walk where
@@ -164,15 +164,15 @@ module _ (p : Server) (count : ℕ) (w w2 : World) (past : Past) (history : Hist
     go (Some k) e n = moved_stands k n.0 e n.1 (moves k n.0 (st.each c k e) n.2)
 
 -- freed nodes
-frees_stands : (p : Server) (count : ℕ) (w w2 : World) (past : Past) (history : History) (n : ℕ) → Stands p count w past history → Frees n w w2
+frees_stands : (p : Server) (count : ℕ) (w w2 : World) (past : Past) (history : History) (n : ℕ) → LeadsToWorld p count w past history → FreesNodes n w w2
     → GoesOn p count w2 (Reclaim n) past history
-frees_stands p count w w2 past history n st f = ((event.Reclaim n, f.0) ∷ [], refl, go (step_legal (start_of p count) history w.store w2.store (event.Reclaim n) f.0 (record { legal = st.legal; view = st.view; pinned = st.pinned }) f.1)) where
+frees_stands p count w w2 past history n st f = ((event.Reclaim n, f.0) ∷ [], refl, go (step_legal (world_start p count) history w.store w2.store (event.Reclaim n) f.0 (record { legal = st.legal; view = st.view; pinned = st.pinned }) f.1)) where
   each : (d : ℕ) (k : Connection) → slice_get w2.connections.items d ≡ Some k → HoldsTo p d (input_of d past) (deeds_at d history ++ []) k
   each d k e =
       subst (λ (h : Deeds). HoldsTo p d (input_of d past) h k) (sym (append-nil (deeds_at d history)))
       (st.each d k (sym (ap (λ (ks : List Connection). slice_get ks d) f.2) ∙ e))
 
-  go : LegalAt (start_of p count) ((event.Reclaim n, f.0) ∷ history) w2.store → Stands p count w2 (Reclaim n ∷ past) ((event.Reclaim n, f.0) ∷ history)
+  go : LegalAt (world_start p count) ((event.Reclaim n, f.0) ∷ history) w2.store → LeadsToWorld p count w2 (Reclaim n ∷ past) ((event.Reclaim n, f.0) ∷ history)
   go k = record {
     lines = st.lines;
     many = ap (λ (ks : List Connection). length ks) f.2 ∙ st.many;
@@ -184,18 +184,18 @@ frees_stands p count w w2 past history n st f = ((event.Reclaim n, f.0) ∷ [], 
   }
 
 -- any step
-pub walk_stands : (p : Server) (count : ℕ) (w w2 : World) (past : Past) (history : History) (step : WorldStep) → Stands p count w past history → Walks w step w2
+pub walk_stands : (p : Server) (count : ℕ) (w w2 : World) (past : Past) (history : History) (step : WorldStep) → LeadsToWorld p count w past history → Walks w step w2
     → GoesOn p count w2 step past history
 walk_stands p count w w2 past history (Bytes c b) st walk =
     changes_stands p count w w2 past history c (Bytes c b) (λ d. refl) st (Apart (Gets b.items)) tt walk
     (λ k k2 j n. gets_moved p c b (input_of c past) (deeds_at c history) k k2 w.store w2.store j n.0 n.1)
 walk_stands p count w w2 past history (Turn c) st walk =
-    changes_stands p count w w2 past history c (Turn c) (λ d. refl) st Moves tt walk
+    changes_stands p count w w2 past history c (Turn c) (λ d. refl) st MovesOn tt walk
     (λ k k2 j n. turns_moved p c (input_of c past) (deeds_at c history) k k2 w.store w2.store j n)
 walk_stands p count w w2 past history (End c) st walk =
-    changes_stands p count w w2 past history c (End c) (λ d. refl) st (Apart Ends) tt walk
+    changes_stands p count w w2 past history c (End c) (λ d. refl) st (Apart InputEnds) tt walk
     (λ k k2 j n. ends_moved p c (input_of c past) (deeds_at c history) k k2 w.store w2.store j n.0 n.1)
 walk_stands p count w w2 past history (Drop c) st walk =
-    changes_stands p count w w2 past history c (Drop c) (λ d. refl) st Leaves tt walk
+    changes_stands p count w w2 past history c (Drop c) (λ d. refl) st LeavesSeat tt walk
     (λ k k2 j n. leaves_moved p c (input_of c past) (deeds_at c history) k k2 w.store w2.store j n)
 walk_stands p count w w2 past history (Reclaim n) st walk = frees_stands p count w w2 past history n st walk

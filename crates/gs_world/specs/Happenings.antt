@@ -41,12 +41,12 @@ with_own i (Drop c) = record i { is_dropped = true }
 with_own i (Reclaim n) = i
 
 -- and after a Drop so does everything
-abbrev pub taken : Input → WorldStep → Input
-taken i step = cond i.is_dropped i (with_own i step)
+abbrev pub input_with : Input → WorldStep → Input
+input_with i step = cond i.is_dropped i (with_own i step)
 
 -- what any step makes of it
 abbrev pub with_step : ℕ → Input → WorldStep → Input
-with_step c i step = cond (is_step_of c step) (taken i step) i
+with_step c i step = cond (is_step_of c step) (input_with i step) i
 
 -- what came to the connection
 abbrev pub input_of : ℕ → Past → Input

@@ -10,7 +10,7 @@ use Rattle.gs_talk.specs.Seats.{Point, asked_in}
 use Rattle.gs_talk.specs.Logs.{Server}
 use Rattle.gs_world.specs.declared.worlds.World.{World}
 use Rattle.gs_world.specs.Happenings.{Past, deeds_at}
-use Rattle.gs_world.specs.Worlds.{Stands}
+use Rattle.gs_world.specs.Worlds.{LeadsToWorld}
 
 -- each blank node that the abstract store is given is one of this request
 abbrev pub BringsOwn : ℕ → Operation → Type 0
@@ -34,8 +34,8 @@ numbers_of [] = []
 numbers_of (q ∷ qs) = cond (brings q.1) (q.0 ∷ numbers_of qs) (numbers_of qs)
 
 -- those of a seat
-abbrev pub numbers_at : ℕ → History → List ℕ
-numbers_at seat h = numbers_of (asked_in Idle (deeds_at seat h))
+abbrev pub request_numbers : ℕ → History → List ℕ
+request_numbers seat h = numbers_of (asked_in Idle (deeds_at seat h))
 
 -- each number is above the one before it
 abbrev pub RiseFrom : ℕ → List ℕ → Type 0
@@ -46,9 +46,9 @@ RiseFrom n (m ∷ ms) = (n < m) × RiseFrom m ms
 -- seats have one in common.
 pub record ShareNone (count : ℕ) (history : History) : Type 0 where
   pub own : (c : ℕ) → c < count → All (λ q. BringsOwn q.0 q.1) (asked_in Idle (deeds_at c history))
-  pub rise : (c : ℕ) → c < count → RiseFrom 0 (numbers_at c history)
-  pub apart : (c d r : ℕ) → c < count → d < count → c ≢ d → Contains (numbers_at c history) r → Contains (numbers_at d history) r → ⊥
+  pub rise : (c : ℕ) → c < count → RiseFrom 0 (request_numbers c history)
+  pub apart : (c d r : ℕ) → c < count → d < count → c ≢ d → Contains (request_numbers c history) r → Contains (request_numbers d history) r → ⊥
 
 -- So no two requests share a blank node, whichever connections bring them.
 abbrev pub RequestsShareNoNode : Type 0
-RequestsShareNoNode = (p : Server) (count : ℕ) (w : World) (past : Past) (history : History) → Stands p count w past history → ShareNone count history
+RequestsShareNoNode = (p : Server) (count : ℕ) (w : World) (past : Past) (history : History) → LeadsToWorld p count w past history → ShareNone count history

@@ -18,26 +18,26 @@ use Rattle.gs_world.specs.declared.worlds.World.{World}
 use Rattle.gs_world.specs.Happenings.{is_step_of}
 
 -- what a turn has to be written
-abbrev pub text_of : turn.Turn → List ℕ
-text_of (Output b) = b.items
-text_of t = []
+abbrev pub turn_text : turn.Turn → List ℕ
+turn_text (Output b) = b.items
+turn_text t = []
 
 -- the seat, the base and the lines a piece are as they were
-abbrev pub IsSame : Session → Session → Type 0
-IsSame s next = next.setup ≡ s.setup
+abbrev pub HasSameSetup : Session → Session → Type 0
+HasSameSetup s next = next.setup ≡ s.setup
 
 -- these bytes came to the session, unless its input had ended
 abbrev pub IsGiven : List ℕ → Session → Session → Type 0
 IsGiven b s next = ((x : List ℕ) (h : Deeds) (w : List ℕ) → Leads s x h w → Leads next (joined s.ended x b) h w)
-    × IsSame s next × (next.ended ≡ s.ended)
+    × HasSameSetup s next × (next.ended ≡ s.ended)
 
 -- no more bytes come to it
-abbrev pub IsEnded : Session → Session → Type 0
-IsEnded s next = IsKept s next × IsSame s next × (next.ended ≡ true)
+abbrev pub HasInputEnded : Session → Session → Type 0
+HasInputEnded s next = IsKept s next × HasSameSetup s next × (next.ended ≡ true)
 
 -- it took this turn at the store
-abbrev pub Takes : Session → Shown → turn.Turn → Session → Shown → Type 0
-Takes s old t next new = Turns Steps s old t next new × RestsRightly t next × IsSame s next × (next.ended ≡ s.ended)
+abbrev pub TakesTurn : Session → Shown → turn.Turn → Session → Shown → Type 0
+TakesTurn s old t next new = Turns Steps s old t next new × RestsRightly t next × HasSameSetup s next × (next.ended ≡ s.ended)
 
 -- its session is now this one, and this was written
 abbrev pub Becomes : Connection → Session → List ℕ → Type 0
@@ -48,8 +48,8 @@ abbrev pub Gets : List ℕ → Connection → Connection → Type 0
 Gets b k k2 = MatchOption k.session (k2 ≡ k) (λ s. (next : Session) × Becomes k2 next k.written.items × IsGiven b s next)
 
 -- its input ended
-abbrev pub Ends : Connection → Connection → Type 0
-Ends k k2 = MatchOption k.session (k2 ≡ k) (λ s. (next : Session) × Becomes k2 next k.written.items × IsEnded s next)
+abbrev pub InputEnds : Connection → Connection → Type 0
+InputEnds k k2 = MatchOption k.session (k2 ≡ k) (λ s. (next : Session) × Becomes k2 next k.written.items × HasInputEnded s next)
 
 -- the store stays as it is
 abbrev pub Apart : (Connection → Connection → Type 0) → Connection → Shown → Connection → Shown → Type 0
@@ -60,37 +60,37 @@ abbrev pub StaysGone : Connection → Shown → Connection → Shown → Type 0
 StaysGone k old k2 new = (k2 ≡ k) × (new ≡ old)
 
 -- it took a turn, whose text was written
-abbrev pub Moves : Connection → Shown → Connection → Shown → Type 0
-Moves k old k2 new = MatchOption k.session (StaysGone k old k2 new)
-    (λ s. (t : turn.Turn) × (next : Session) × Becomes k2 next (k.written.items ++ text_of t) × Takes s old t next new)
+abbrev pub MovesOn : Connection → Shown → Connection → Shown → Type 0
+MovesOn k old k2 new = MatchOption k.session (StaysGone k old k2 new)
+    (λ s. (t : turn.Turn) × (next : Session) × Becomes k2 next (k.written.items ++ turn_text t) × TakesTurn s old t next new)
 
 -- it took a turn, whose text could not be written
-abbrev pub Stops : Connection → Shown → Connection → Shown → Type 0
-Stops k old k2 new = (s : Session) × (k.session ≡ Some s) × (b : Vec ℕ Global) × (next : Session) × Becomes k2 next k.written.items
-    × Takes s old (Output b) next new
+abbrev pub CannotWrite : Connection → Shown → Connection → Shown → Type 0
+CannotWrite k old k2 new = (s : Session) × (k.session ≡ Some s) × (b : Vec ℕ Global) × (next : Session) × Becomes k2 next k.written.items
+    × TakesTurn s old (Output b) next new
 
 -- it was given up
-abbrev pub Leaves : Connection → Shown → Connection → Shown → Type 0
-Leaves k old k2 new = MatchOption k.session (StaysGone k old k2 new)
+abbrev pub LeavesSeat : Connection → Shown → Connection → Shown → Type 0
+LeavesSeat k old k2 new = MatchOption k.session (StaysGone k old k2 new)
     (λ s. (k2.session ≡ None) × (k2.written.items ≡ k.written.items) × Quits Steps s old new)
 
 -- of the connections, this one alone may have changed, and this holds of it; one that is not there changes nothing
-abbrev pub Changes : ℕ → World → World → (Connection → Shown → Connection → Shown → Type 0) → Type 0
-Changes c old new Holds =
+abbrev pub ChangesOne : ℕ → World → World → (Connection → Shown → Connection → Shown → Type 0) → Type 0
+ChangesOne c old new Holds =
     MatchOption (slice_get old.connections.items c) (new ≡ old)
     (λ k. (k2 : Connection) × (new.connections.items ≡ slice_set old.connections.items c k2) × Holds k old.store k2 new.store)
 
 -- the store freed nodes
-abbrev pub Frees : ℕ → World → World → Type 0
-Frees n old new = (a : Answer) × Steps old.store (event.Reclaim n) a new.store × (new.connections.items ≡ old.connections.items)
+abbrev pub FreesNodes : ℕ → World → World → Type 0
+FreesNodes n old new = (a : Answer) × Steps old.store (event.Reclaim n) a new.store × (new.connections.items ≡ old.connections.items)
 
 -- what a step makes of a world
 abbrev pub Walks : World → WorldStep → World → Type 0
-Walks old (Bytes c b) new = Changes c old new (Apart (Gets b.items))
-Walks old (Turn c) new = Changes c old new Moves
-Walks old (End c) new = Changes c old new (Apart Ends)
-Walks old (Drop c) new = Changes c old new Leaves
-Walks old (Reclaim n) new = Frees n old new
+Walks old (Bytes c b) new = ChangesOne c old new (Apart (Gets b.items))
+Walks old (Turn c) new = ChangesOne c old new MovesOn
+Walks old (End c) new = ChangesOne c old new (Apart InputEnds)
+Walks old (Drop c) new = ChangesOne c old new LeavesSeat
+Walks old (Reclaim n) new = FreesNodes n old new
 
 -- what these steps do, one after another
 abbrev pub WalksAll : World → List WorldStep → World → Type 0
@@ -103,7 +103,7 @@ IsLive k shown = (s : Session) × (k.session ≡ Some s)
 
 -- its next turn has a text that could not be written
 abbrev pub HasText : Connection → Shown → Type 0
-HasText k shown = (k1 : Connection) × (mid : Shown) × Stops k shown k1 mid
+HasText k shown = (k1 : Connection) × (mid : Shown) × CannotWrite k shown k1 mid
 
 -- A step of the connection may be refused for want of memory: bytes for its session, or a turn whose text is to be written.
 abbrev pub MayWant : WorldStep → Connection → Shown → Type 0
@@ -112,9 +112,9 @@ MayWant (Turn c) k shown = HasText k shown
 MayWant step k shown = ⊥
 
 -- a connection that is there, and of which this holds, was given up
-abbrev pub GivesUp : ℕ → World → World → (Connection → Shown → Type 0) → Type 0
-GivesUp c old new Holds = (k : Connection) × (slice_get old.connections.items c ≡ Some k) × Holds k old.store × Changes c old new Leaves
+abbrev pub IsGivenUp : ℕ → World → World → (Connection → Shown → Type 0) → Type 0
+IsGivenUp c old new Holds = (k : Connection) × (slice_get old.connections.items c ≡ Some k) × Holds k old.store × ChangesOne c old new LeavesSeat
 
 -- the step was refused, and its connection given up in its place
-abbrev pub Refuses : ℕ → World → WorldStep → World → Type 0
-Refuses c old step new = (is_step_of c step ≡ true) × GivesUp c old new (MayWant step)
+abbrev pub RefusesStep : ℕ → World → WorldStep → World → Type 0
+RefusesStep c old step new = (is_step_of c step ≡ true) × IsGivenUp c old new (MayWant step)

@@ -17,10 +17,10 @@ use Rattle.gs_world.specs.declared.steps.WorldStep.{WorldStep}
 use Rattle.gs_world.specs.declared.steps.WorldStep.TheVariants.{Drop}
 use Rattle.gs_world.specs.declared.worlds.World.{World}
 use Rattle.gs_world.specs.Happenings.{Past, Input, no_input, input_of, deeds_at, AreMadeBy}
-use Rattle.gs_world.specs.Walks.{WalksAll, Refuses}
+use Rattle.gs_world.specs.Walks.{WalksAll, RefusesStep}
 
 -- what came, was done and was written leads to the session
-pub record Serves (p : Server) (seat : ℕ) (i : Input) (h : Deeds) (w : List ℕ) (s : Session) : Type 0 where
+pub record LeadsToSession (p : Server) (seat : ℕ) (i : Input) (h : Deeds) (w : List ℕ) (s : Session) : Type 0 where
   pub leads : Leads s i.bytes h w
   pub ended : s.ended ≡ i.ended
   pub server : server_of s.setup ≡ p
@@ -35,7 +35,7 @@ pub record HasLeft (p : Server) (seat : ℕ) (i : Input) (h : Deeds) (w : List �
 
 -- either
 abbrev pub HoldsTo : Server → ℕ → Input → Deeds → Connection → Type 0
-HoldsTo p seat i h k = MatchOption k.session (HasLeft p seat i h k.written.items) (Serves p seat i h k.written.items)
+HoldsTo p seat i h k = MatchOption k.session (HasLeft p seat i h k.written.items) (LeadsToSession p seat i h k.written.items)
 
 -- so many connections to which nothing came yet, each at the seat of its number
 pub record AreFresh (p : Server) (count : ℕ) (ks : List Connection) : Type 0 where
@@ -43,27 +43,27 @@ pub record AreFresh (p : Server) (count : ℕ) (ks : List Connection) : Type 0 w
   pub each : (c : ℕ) (k : Connection) → slice_get ks c ≡ Some k → HoldsTo p c no_input [] k
 
 -- how the store of a world begins
-abbrev pub start_of : Server → ℕ → Start
-start_of p count = start_at count p.base 0 0
+abbrev pub world_start : Server → ℕ → Start
+world_start p count = start_at count p.base 0 0
 
 -- These steps, the newest first, and this history lead to the world: so many connections, each at the seat of its number.
-pub record Stands (p : Server) (count : ℕ) (w : World) (past : Past) (history : History) : Type 0 where
+pub record LeadsToWorld (p : Server) (count : ℕ) (w : World) (past : Past) (history : History) : Type 0 where
   pub lines : 1 ≤ p.piece
   pub many : length w.connections.items ≡ count
   pub made : AreMadeBy past history
-  pub legal : IsLegal (start_of p count) history
-  pub view : w.store.view ≡ view_of (start_of p count) history
-  pub pinned : w.store.pinned ≡ pinned_of (start_of p count) history
+  pub legal : IsLegal (world_start p count) history
+  pub view : w.store.view ≡ view_of (world_start p count) history
+  pub pinned : w.store.pinned ≡ pinned_of (world_start p count) history
   pub each : (c : ℕ) (k : Connection) → slice_get w.connections.items c ≡ Some k → HoldsTo p c (input_of c past) (deeds_at c history) k
 
 -- what was written on a connection, nothing where there is none
-abbrev pub written_by : Option Connection → List ℕ
-written_by None = []
-written_by (Some k) = k.written.items
+abbrev pub text_written : Option Connection → List ℕ
+text_written None = []
+text_written (Some k) = k.written.items
 
 -- what was written on the connection of this number
 abbrev pub written_on : World → ℕ → List ℕ
-written_on w c = written_by (slice_get w.connections.items c)
+written_on w c = text_written (slice_get w.connections.items c)
 
 -- What came to one of many connections (i), what was done at its seat (h) and what was written on it (w) go together.
 pub record IsServed (p : Server) (i : Input) (h : Deeds) (w : List ℕ) : Type 0 where
@@ -82,20 +82,20 @@ IsDone p i h = (i.is_dropped ≡ true) ⊎ ((said : List ℕ) × Talk p i.ended 
 -- the store shows; each connection is served as if it were the only one; and a seat for which nothing is left is idle.
 pub record ServesAll (p : Server) (count : ℕ) (w : World) (past : Past) (history : History) : Type 0 where
   pub made : AreMadeBy past history
-  pub legal : IsLegal (start_of p count) history
-  pub view : w.store.view ≡ view_of (start_of p count) history
+  pub legal : IsLegal (world_start p count) history
+  pub view : w.store.view ≡ view_of (world_start p count) history
   pub served : (c : ℕ) → c < count → IsServed p (input_of c past) (deeds_at c history) (written_on w c)
   pub idle : (c : ℕ) → c < count → IsDone p (input_of c past) (deeds_at c history) → slice_get w.store.view.seats c ≡ Some Idle
 
 -- A run: the steps were taken; and from each history that led to the world before, one leads on to the world after them, by events
 -- that these steps made, and by which all are served.
-abbrev pub Runs : World → List WorldStep → World → Type 0
-Runs old steps new = WalksAll old steps new
-    × ((p : Server) (count : ℕ) (past : Past) (history : History) → Stands p count old past history
-    → (more : History) × AreMadeBy (reverse steps) more × Stands p count new (reverse steps ++ past) (more ++ history)
+abbrev pub RunsSteps : World → List WorldStep → World → Type 0
+RunsSteps old steps new = WalksAll old steps new
+    × ((p : Server) (count : ℕ) (past : Past) (history : History) → LeadsToWorld p count old past history
+    → (more : History) × AreMadeBy (reverse steps) more × LeadsToWorld p count new (reverse steps ++ past) (more ++ history)
     × ServesAll p count new (reverse steps ++ past) (more ++ history))
 
 -- The first n steps were taken, and the next one was refused; so it is as if its connection had been dropped in its place.
 abbrev pub IsCutAt : World → List WorldStep → World → Type 0
 IsCutAt old steps new = (n : ℕ) × (c : ℕ) × (step : WorldStep) × (mid : World) × (slice_get steps n ≡ Some step) × WalksAll old (take n steps) mid
-    × Refuses c mid step new × Runs old (take n steps ++ Drop c ∷ []) new
+    × RefusesStep c mid step new × RunsSteps old (take n steps ++ Drop c ∷ []) new

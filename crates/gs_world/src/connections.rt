@@ -4,7 +4,7 @@ ghost use Rattle.gs_model.specs.Bases.{is_base};
 ghost use Rattle.gs_session.specs.declared.sessions.Session.{Session as ASession};
 ghost use Rattle.gs_world.specs.Happenings.{no_input};
 ghost use Rattle.gs_world.specs.Worlds.{HoldsTo};
-ghost use Rattle.gs_world.specs.Walks.{Gets, Ends, Moves, Stops, Leaves};
+ghost use Rattle.gs_world.specs.Walks.{Gets, InputEnds, MovesOn, CannotWrite, LeavesSeat};
 
 use gs_core::Store;
 use gs_session::{Session, Turn};
@@ -52,7 +52,7 @@ impl Connection {
 
     /// No more bytes come.
     pub fn end(&mut self)
-        ensures { Ends self.old self.new }
+        ensures { InputEnds self.old self.new }
     {
         if let Some(session) = &mut self.session {
             session.end_of_input();
@@ -61,8 +61,8 @@ impl Connection {
 
     /// The next turn, whose text is written.
     pub fn turn(&mut self, store: &mut Store) -> Result<(), AllocError>
-        ensures moved { OnOk result (Moves self.old store.old self.new store.new) }
-        ensures refused { OnErr result (Stops self.old store.old self.new store.new) }
+        ensures moved { OnOk result (MovesOn self.old store.old self.new store.new) }
+        ensures refused { OnErr result (CannotWrite self.old store.old self.new store.new) }
     {
         match &mut self.session {
             Some(session) => match session.turn(store) {
@@ -75,7 +75,7 @@ impl Connection {
 
     /// The connection is given up.
     pub fn leave(&mut self, store: &mut Store)
-        ensures { Leaves self.old store.old self.new store.new }
+        ensures { LeavesSeat self.old store.old self.new store.new }
     {
         if let Some(session) = &mut self.session {
             session.abandon(store);

@@ -2,8 +2,8 @@
 ghost use Rattle.std.specs.Prelude.{◌≡◌, ◌≤◌, ℕ, true, [], IfOk, IfErr, OnOk, OnErr};
 ghost use Rattle.gs_model.specs.Bases.{is_base};
 ghost use Rattle.gs_model.specs.Limits.{max_seats};
-ghost use Rattle.gs_world.specs.Walks.{Apart, Changes, Gets, Ends, Moves, Leaves, Frees, Walks, IsLive, HasText, GivesUp, Refuses};
-ghost use Rattle.gs_world.specs.Worlds.{AreFresh, Stands, Runs, IsCutAt, written_on};
+ghost use Rattle.gs_world.specs.Walks.{Apart, ChangesOne, Gets, InputEnds, MovesOn, LeavesSeat, FreesNodes, Walks, IsLive, HasText, IsGivenUp, RefusesStep};
+ghost use Rattle.gs_world.specs.Worlds.{AreFresh, LeadsToWorld, RunsSteps, IsCutAt, written_on};
 
 use crate::connections::Connection;
 use crate::steps::WorldStep;
@@ -30,7 +30,7 @@ impl World {
         requires base { is_base base.now ≡ true }
         requires lines { 1 ≤ piece }
         requires short { piece ≤ 4096 }
-        ensures stands { IfOk result (λ w. Stands (record { base = base.now; piece = piece }) connections w [] []) }
+        ensures stands { IfOk result (λ w. LeadsToWorld (record { base = base.now; piece = piece }) connections w [] []) }
         ensures waste { IfOk result (λ w. w.store.waste ≡ []) }
         ensures refused { IfErr result (λ refusal. refusal ≡ Refusal.NoMemory) }
     {
@@ -56,8 +56,8 @@ impl World {
 
     /// Bytes come to a connection.
     fn give(&mut self, connection: u16, bytes: &[u8]) -> Result<(), AllocError>
-        ensures ok { OnOk result (Changes connection self.old self.new (Apart (Gets bytes.now))) }
-        ensures err { OnErr result (GivesUp connection self.old self.new IsLive) }
+        ensures ok { OnOk result (ChangesOne connection self.old self.new (Apart (Gets bytes.now))) }
+        ensures err { OnErr result (IsGivenUp connection self.old self.new IsLive) }
     {
         match self.connections.get_mut(connection as usize) {
             Some(it) => match it.give(bytes) {
@@ -73,8 +73,8 @@ impl World {
 
     /// A connection takes its next turn.
     fn turn(&mut self, connection: u16) -> Result<(), AllocError>
-        ensures ok { OnOk result (Changes connection self.old self.new Moves) }
-        ensures err { OnErr result (GivesUp connection self.old self.new HasText) }
+        ensures ok { OnOk result (ChangesOne connection self.old self.new MovesOn) }
+        ensures err { OnErr result (IsGivenUp connection self.old self.new HasText) }
     {
         match self.connections.get_mut(connection as usize) {
             Some(it) => match it.turn(&mut self.store) {
@@ -90,7 +90,7 @@ impl World {
 
     /// No more bytes come to a connection.
     fn end(&mut self, connection: u16)
-        ensures { Changes connection self.old self.new (Apart Ends) }
+        ensures { ChangesOne connection self.old self.new (Apart InputEnds) }
     {
         if let Some(it) = self.connections.get_mut(connection as usize) {
             it.end();
@@ -99,7 +99,7 @@ impl World {
 
     /// A connection is given up.
     fn leave(&mut self, connection: u16)
-        ensures { Changes connection self.old self.new Leaves }
+        ensures { ChangesOne connection self.old self.new LeavesSeat }
     {
         if let Some(it) = self.connections.get_mut(connection as usize) {
             it.leave(&mut self.store);
@@ -108,7 +108,7 @@ impl World {
 
     /// The store frees nodes.
     fn reclaim(&mut self, count: u64)
-        ensures { Frees count self.old self.new }
+        ensures { FreesNodes count self.old self.new }
     {
         self.store.step(&Event::Reclaim(count));
     }
@@ -116,7 +116,7 @@ impl World {
     /// One step. Where it is refused, its connection is given up.
     fn step(&mut self, step: &WorldStep) -> Result<(), AllocError>
         ensures ok { OnOk result (Walks self.old step.now self.new) }
-        ensures err { OnErr result ((c : ℕ) × Refuses c self.old step.now self.new) }
+        ensures err { OnErr result ((c : ℕ) × RefusesStep c self.old step.now self.new) }
     {
         match step {
             WorldStep::Bytes(connection, bytes) => self.give(*connection, bytes.as_slice()),
@@ -146,7 +146,7 @@ impl World {
     /// `NoMemory`, where there was none for bytes that came or for a text that was to be written. The
     /// steps before that one were taken, and its connection was given up, as by a Drop.
     pub fn run(&mut self, steps: &[WorldStep]) -> Result<(), Refusal>
-        ensures ok { OnOk result (Runs self.old steps.now self.new) }
+        ensures ok { OnOk result (RunsSteps self.old steps.now self.new) }
         ensures err { OnErr result (IsCutAt self.old steps.now self.new) }
         ensures refused { IfErr result (λ refusal. refusal ≡ Refusal.NoMemory) }
     {

@@ -1,12 +1,12 @@
 use Rattle.std.proofs.Common.{refl}
-use Rattle.gs_world.specs.Walks.{Moves, HasText}
+use Rattle.gs_world.specs.Walks.{MovesOn, HasText}
 use Rattle.gs_world.proofs.MoveLemmas.{stops_leaves}
 use Rattle.gs_world.proofs.CallLemmas.{changes_there, changes_absent, gives_up}
 use Rattle.gs_world.proofs.worlds.World.turn.Goals as goal
 
 pub returns-in-Ok-clause-ok : goal.returns-in-Ok-clause-ok
 returns-in-Ok-clause-ok c =
-    changes_there c.args.connection c.args.self.now _ c.in-Some.it.now c.turn.new.self Moves c.in-Some.ensures.item.3.0 c.in-Some.ensures.value refl c.in-Ok.ensures.moved
+    changes_there c.args.connection c.args.self.now _ c.in-Some.it.now c.turn.new.self MovesOn c.in-Some.ensures.item.3.0 c.in-Some.ensures.value refl c.in-Ok.ensures.moved
 
 pub returns-in-Err-clause-err : goal.returns-in-Err-clause-err
 returns-in-Err-clause-err c =
@@ -15,4 +15,4 @@ returns-in-Err-clause-err c =
     (stops_leaves c.in-Some.it.now c.turn.new.self c.leave.new.self c.args.self.now.store c.turn.new.store c.leave.new.store c.in-Err.ensures.refused c.leave.ensures)
 
 pub returns-in-None-clause-ok : goal.returns-in-None-clause-ok
-returns-in-None-clause-ok c = changes_absent c.args.connection c.args.self.now _ Moves c.in-None.ensures.item.3 refl
+returns-in-None-clause-ok c = changes_absent c.args.connection c.args.self.now _ MovesOn c.in-None.ensures.item.3 refl
