@@ -1,5 +1,5 @@
 //! A conversation: what the client sends, and what is said to it.
-use crate::texts::push_bytes;
+use gs_test_texts::push_bytes;
 use std::alloc::{AllocError, Global};
 
 /// A reply of fewer bytes is one write.

@@ -9,7 +9,6 @@ mod findings;
 mod manners;
 mod probes;
 mod receivers;
-mod texts;
 mod trials;
 
 use crate::cases::Case;

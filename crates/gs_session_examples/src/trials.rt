@@ -4,8 +4,8 @@ use crate::endings::{Ending, hold};
 use crate::findings::{Finding, Prospect};
 use crate::manners::Manner;
 use crate::probes::Probe;
-use crate::texts::other_line;
 use gs_core::Refusal;
+use gs_test_texts::other_line;
 use std::alloc::{AllocError, Global};
 use std::io::{self, Write};
 

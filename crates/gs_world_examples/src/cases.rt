@@ -1,5 +1,5 @@
 //! A case: what happens in a world, and what is written on its connections.
-use crate::texts::push_bytes;
+use gs_test_texts::push_bytes;
 use gs_world::WorldStep;
 use std::alloc::{AllocError, Global};
 

@@ -1,6 +1,6 @@
 //! What is wrong with a case.
-use crate::texts::other_line;
 use gs_core::Refusal;
+use gs_test_texts::other_line;
 use std::alloc::{AllocError, Global};
 use std::io::{self, Write};
 

@@ -6,7 +6,6 @@ mod cases;
 mod findings;
 mod plays;
 mod rounds;
-mod texts;
 mod trials;
 mod worlds;
 

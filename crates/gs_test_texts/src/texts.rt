@@ -1,4 +1,4 @@
-//! Bytes as the input writes them, and a line of what was written.
+//! Bytes as a line of an example writes them, and a line in which two texts differ.
 use std::alloc::AllocError;
 use std::str;
 
