@@ -4,8 +4,8 @@ use crate::datasets::{Dataset, Effect};
 use crate::dues::{Due, Reply};
 use crate::findings::Kind;
 use crate::replies::{push_look, push_read, read_status, read_turns};
-use crate::requests::{Deed, Request, Write};
 use crate::rules::{Lie, Rules};
+use gs_drawn_requests::{Deed, Request, Write};
 use std::alloc::{AllocError, Global};
 
 /// What was seen about a turn that wrote nothing.

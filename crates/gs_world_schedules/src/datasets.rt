@@ -1,7 +1,6 @@
 //! Four graphs, and what writes make of them.
-use crate::requests::{DEFAULT, Edit, GRAPHS, Request, Write};
 use crate::rules::{Lie, Rules};
-use crate::triples::Triples;
+use gs_drawn_requests::{DEFAULT, Edit, GRAPHS, Request, Triples, Write};
 
 /// The triples of each graph, none where there is no such graph.
 #[derive(Clone, Copy, Debug, Drop, PartialEq)]

@@ -1,8 +1,8 @@
 //! What is found of a schedule.
 use gs_core::Refusal;
+use gs_test_texts::other_line;
 use std::alloc::{AllocError, Global};
 use std::io::{self, Write};
-use std::str;
 
 /// What is wrong.
 #[derive(Clone, Copy, Debug, Drop, PartialEq)]
@@ -50,54 +50,19 @@ pub struct Finding {
     pub wanted: Vec<u8>,
 }
 
-/// How many bytes both have at their start alike.
-fn common(one: &[u8], other: &[u8]) -> usize {
-    let mut count = 0usize;
-    for (a, b) in one.iter().zip(other) {
-        if a != b {
-            return count;
-        }
-        count = count.saturating_add(1);
-    }
-    count
-}
-
-fn line_between(bytes: &[u8], start: usize, end: usize) -> &str {
-    let line = bytes.get(start..end).unwrap_or_default();
-    match str::from_utf8(line) {
-        Ok(text) => text.trim_end(),
-        Err(_) => "no text",
-    }
-}
-
-/// The line with the byte after so many.
-fn line_at(bytes: &[u8], count: usize) -> &str {
-    let mut start = 0usize;
-    for (at, byte) in bytes.iter().enumerate() {
-        if *byte == b'\n' && at < count {
-            start = at.saturating_add(1);
-        }
-        if *byte == b'\n' && count <= at {
-            return line_between(bytes, start, at);
-        }
-    }
-    line_between(bytes, start, bytes.len())
-}
-
 impl Finding {
     /// Prints it, with the first line that is otherwise.
     pub fn print<W: Write>(&self, schedule: u64, out: &mut W) -> io::Result<()> {
         let written = self.written.as_slice();
         let wanted = self.wanted.as_slice();
-        let count = common(written, wanted);
         writeln!(
             out,
             "schedule {schedule}, step {}, connection {}: {}: [{}], the model says [{}]",
             self.step,
             self.connection,
             self.kind.text(),
-            line_at(written, count),
-            line_at(wanted, count),
+            other_line(written, wanted),
+            other_line(wanted, written),
         )
     }
 }

@@ -3,11 +3,11 @@ use crate::clients::{Client, found};
 use crate::datasets::Dataset;
 use crate::dues::Due;
 use crate::findings::{Kind, Moment, Stop};
-use crate::requests::{Deed, Request, Write};
 use crate::rules::{Lie, Rules};
 use crate::totals::{Happening, Totals};
 use crate::witnesses::{Sight, Witness};
 use gs_core::Refusal;
+use gs_drawn_requests::{Deed, Request, Write};
 use gs_world::{World, WorldStep};
 use std::alloc::AllocError;
 

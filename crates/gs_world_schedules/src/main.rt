@@ -4,19 +4,13 @@
 
 mod clients;
 mod datasets;
-mod documents;
-mod draws;
 mod dues;
 mod findings;
-mod generator;
 mod judging;
-mod letters;
 mod plays;
 mod replies;
-mod requests;
 mod rules;
 mod totals;
-mod triples;
 mod wires;
 mod witnesses;
 

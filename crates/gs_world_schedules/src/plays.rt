@@ -1,11 +1,11 @@
 //! One schedule, drawn step by step.
-use crate::draws::Draws;
 use crate::findings::Stop;
 use crate::judging::Judge;
 use crate::rules::{Lie, Rules};
 use crate::totals::{Happening, Totals};
 use crate::wires::Wire;
 use gs_core::Refusal;
+use gs_drawn_requests::Draws;
 use gs_world::WorldStep;
 use std::alloc::{AllocError, Global};
 

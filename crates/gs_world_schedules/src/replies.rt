@@ -1,6 +1,6 @@
 //! The texts of replies (RFC 9110, RFC 9112), for the model.
 use crate::rules::Rules;
-use crate::triples::{POOL, Triples};
+use gs_drawn_requests::{POOL, Triples};
 use std::alloc::AllocError;
 use std::io::Write;
 

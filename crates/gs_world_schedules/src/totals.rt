@@ -1,6 +1,6 @@
 //! What was done and seen over all schedules.
 use crate::dues::Reply;
-use crate::requests::{Deed, Method, Request};
+use gs_drawn_requests::{Deed, Method, Request};
 use std::io::{self, Write};
 
 const STATUSES: usize = 12;

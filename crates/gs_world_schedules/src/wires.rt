@@ -1,7 +1,6 @@
 //! The bytes that a client sends: its requests are drawn, and come in pieces that are cut anywhere.
 use crate::clients::Client;
-use crate::draws::Draws;
-use crate::generator::drawn_request;
+use gs_drawn_requests::{Draws, drawn_request};
 use std::alloc::{AllocError, Global};
 
 /// The most bytes of a piece, where it is not all that is left of a request.

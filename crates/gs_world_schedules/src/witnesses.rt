@@ -1,9 +1,9 @@
 //! A connection that reads all graphs between the steps of the others.
 use crate::datasets::Dataset;
 use crate::replies::{push_read, read_turns};
-use crate::requests::GRAPHS;
 use crate::rules::Rules;
 use gs_core::Refusal;
+use gs_drawn_requests::GRAPHS;
 use gs_world::{World, WorldStep};
 use std::alloc::AllocError;
 
