@@ -1,0 +1,4 @@
+pub mod PhaseLemmas
+pub mod SlotLemmas
+pub mod TakeLemmas
+pub mod FreshLemmas

@@ -1,0 +1,7 @@
+-- Read in this order: how much is staged; what an event decided, and what that makes of a page; what a seat has open; what an
+-- event makes of all of this; and what is staged in a store with its page.
+pub mod Staged
+pub mod Decisions
+pub mod Slots
+pub mod Takes
+pub mod Audits

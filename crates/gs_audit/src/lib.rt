@@ -1,0 +1,8 @@
+//! A store with a page of its history, which replays to the store's dataset.
+#![tactic(auto)]
+
+mod audited;
+mod slots;
+mod takes;
+
+pub use audited::Audited;

@@ -1,0 +1,165 @@
+//! What each seat has open.
+ghost use Rattle.std.specs.Prelude.{◌≡◌, true, false};
+ghost use Rattle.gs_audit.specs.Slots.{slot_phase, slot_count, CanStage, CanTake, MayLack, NotesAction};
+
+use gs_chronicle::{Request, Upload};
+use gs_event::{Action, Answer, Event};
+use gs_term::Target;
+use std::alloc::Global;
+use std::mem;
+
+/// What a seat has open that a page will store once it is committed.
+#[derive(Debug, Drop)]
+pub enum Slot {
+    /// Nothing, or a read.
+    Empty,
+    /// An upload, with what was staged.
+    Upload(Upload),
+    /// A patch of a graph, under this request number.
+    Patch(Target, u64),
+}
+
+impl Slot {
+    /// Makes room for what the event will stage. False where that was refused.
+    pub fn make_room(&mut self, event: &Event) -> bool
+        ensures phase { slot_phase self.new ≡ slot_phase self.old }
+        ensures count { slot_count self.new ≡ slot_count self.old }
+        ensures room { result ≡ true → CanTake self.new event.now }
+        ensures refused { result ≡ false → MayLack (slot_phase self.old) event.now }
+    {
+        let Event::Seat(_, Action::Stage(list)) = event else {
+            return true;
+        };
+        let Slot::Upload(upload) = self else {
+            return true;
+        };
+        upload.make_room(list.len())
+    }
+
+    /// Takes note of an answer to an action. What the call decided, and its status, if it decided
+    /// anything.
+    pub fn note(&mut self, alloc: Global, action: Action, answer: &Answer) -> Option<(Request, u16)>
+        requires { CanStage self.old action }
+        ensures { NotesAction self.old action answer.now self.new result }
+    {
+        let (next, call) = after(mem::replace(self, Slot::Empty), alloc, action, answer);
+        *self = next;
+        call
+    }
+}
+
+/// What a slot is after an answer to an action, and what the call decided.
+fn after(
+    slot: Slot,
+    alloc: Global,
+    action: Action,
+    answer: &Answer,
+) -> (Slot, Option<(Request, u16)>)
+    requires { CanStage slot action }
+    ensures { NotesAction slot action answer.now result.0 result.1 }
+{
+    match slot {
+        Slot::Empty => after_empty(alloc, action, answer),
+        Slot::Upload(upload) => after_upload(upload, action, answer),
+        Slot::Patch(target, request) => after_patch(target, request, action, answer),
+    }
+}
+
+/// The same of an empty one.
+fn after_empty(alloc: Global, action: Action, answer: &Answer) -> (Slot, Option<(Request, u16)>)
+    ensures { NotesAction Slot.Empty action answer.now result.0 result.1 }
+{
+    match action {
+        Action::Open(kind) => match answer {
+            Answer::Opened(request) => (Slot::Upload(Upload::new(alloc, kind, *request)), None),
+            _ => (Slot::Empty, None),
+        },
+        Action::OpenPatch(target) => match answer {
+            Answer::Opened(request) => (Slot::Patch(target, *request), None),
+            _ => (Slot::Empty, None),
+        },
+        Action::Delete(target) => match answer {
+            Answer::Status(status, _) => (Slot::Empty, Some((Request::Delete(target), *status))),
+            _ => (Slot::Empty, None),
+        },
+        Action::Head(target) => match answer {
+            Answer::Status(status, _) => (Slot::Empty, Some((Request::Head(target), *status))),
+            _ => (Slot::Empty, None),
+        },
+        Action::Pin(target) => match answer {
+            Answer::Pinned(status) => (Slot::Empty, Some((Request::Pin(target), *status))),
+            _ => (Slot::Empty, None),
+        },
+        Action::Stage(_)
+        | Action::Commit
+        | Action::CommitPatch(_)
+        | Action::Piece(_)
+        | Action::Cancel => (Slot::Empty, None),
+    }
+}
+
+/// The same of one with an upload.
+fn after_upload(
+    mut upload: Upload,
+    action: Action,
+    answer: &Answer,
+) -> (Slot, Option<(Request, u16)>)
+    requires { CanStage (Slot.Upload upload) action }
+    ensures { NotesAction (Slot.Upload upload) action answer.now result.0 result.1 }
+{
+    match action {
+        Action::Stage(list) => match answer {
+            Answer::Staged => {
+                upload.stage(list);
+                (Slot::Upload(upload), None)
+            }
+            _ => (Slot::Upload(upload), None),
+        },
+        Action::Commit => match answer {
+            Answer::Status(status, _) => (Slot::Empty, Some((Request::Upload(upload), *status))),
+            _ => (Slot::Upload(upload), None),
+        },
+        Action::Cancel => match answer {
+            Answer::Cancelled => (Slot::Empty, None),
+            _ => (Slot::Upload(upload), None),
+        },
+        Action::Open(_)
+        | Action::OpenPatch(_)
+        | Action::CommitPatch(_)
+        | Action::Delete(_)
+        | Action::Head(_)
+        | Action::Pin(_)
+        | Action::Piece(_) => (Slot::Upload(upload), None),
+    }
+}
+
+/// The same of one with a patch.
+fn after_patch(
+    target: Target,
+    request: u64,
+    action: Action,
+    answer: &Answer,
+) -> (Slot, Option<(Request, u16)>)
+    ensures { NotesAction (Slot.Patch target request) action answer.now result.0 result.1 }
+{
+    match action {
+        Action::CommitPatch(ops) => match answer {
+            Answer::Status(status, _) => {
+                (Slot::Empty, Some((Request::Patch(target, ops), *status)))
+            }
+            _ => (Slot::Patch(target, request), None),
+        },
+        Action::Cancel => match answer {
+            Answer::Cancelled => (Slot::Empty, None),
+            _ => (Slot::Patch(target, request), None),
+        },
+        Action::Open(_)
+        | Action::OpenPatch(_)
+        | Action::Stage(_)
+        | Action::Commit
+        | Action::Delete(_)
+        | Action::Head(_)
+        | Action::Pin(_)
+        | Action::Piece(_) => (Slot::Patch(target, request), None),
+    }
+}

@@ -1,0 +1,100 @@
+//! Worked rows: what is done to a new store, and the page that it leaves.
+use crate::stores::{put, small};
+use gs_core::{Action, Answer, Event};
+use gs_model::Refusal;
+use gs_term::Target;
+use std::alloc::Global;
+
+/// So many Heads of the default graph, and then a PUT of each of these numbers of triples, 0 for none;
+/// the status of the last commit, 0 where there was none; and the page that is left.
+struct Row {
+    name: &'static str,
+    heads: u8,
+    puts: [u8; 2],
+    status: u16,
+    number: u64,
+    entries: usize,
+}
+
+const ROWS: [Row; 5] = [
+    Row {
+        name: "four Heads fit",
+        heads: 4,
+        puts: [0, 0],
+        status: 0,
+        number: 0,
+        entries: 4,
+    },
+    Row {
+        name: "the fifth Head turns the page",
+        heads: 5,
+        puts: [0, 0],
+        status: 0,
+        number: 1,
+        entries: 1,
+    },
+    Row {
+        name: "four triples and two fit",
+        heads: 0,
+        puts: [4, 2],
+        status: 204,
+        number: 0,
+        entries: 2,
+    },
+    Row {
+        name: "four triples and three turn the page",
+        heads: 0,
+        puts: [4, 3],
+        status: 204,
+        number: 1,
+        entries: 1,
+    },
+    Row {
+        name: "seven triples are not stored, and turn the page",
+        heads: 0,
+        puts: [7, 0],
+        status: 201,
+        number: 1,
+        entries: 0,
+    },
+];
+
+/// The status of an answer to a commit, 0 for another answer.
+fn status_in(answer: &Answer) -> u16 {
+    match answer {
+        Answer::Status(status, _) => *status,
+        _ => 0,
+    }
+}
+
+/// Whether a row leaves its page.
+fn is_right(alloc: Global, row: &Row) -> Result<bool, Refusal> {
+    let mut store = small(alloc)?;
+    for _ in 0..row.heads {
+        let _ = store.event(Event::Seat(1, Action::Head(Target::Default)));
+    }
+    let mut status = 0;
+    for count in row.puts {
+        if count > 0 {
+            status = status_in(&put(alloc, &mut store, count)?);
+        }
+    }
+    let page = store.page();
+    Ok(status == row.status && page.number() == row.number && page.entries().len() == row.entries)
+}
+
+/// The name of the first row that leaves another page.
+fn wrong_row(alloc: Global) -> Result<Option<&'static str>, Refusal> {
+    for row in &ROWS {
+        if !is_right(alloc, row)? {
+            return Ok(Some(row.name));
+        }
+    }
+    Ok(None)
+}
+
+#[test]
+fn rows_leave_their_pages(rt: HostRuntime) -> Result<(), Refusal> {
+    assert_eq!(&rt; wrong_row(rt.alloc())?, None);
+    Ok(())
+}

@@ -1,0 +1,47 @@
+//! Small stores with a page of four entries and six triples, and what is put into them.
+use gs_audit::Audited;
+use gs_core::{Action, Answer, Event, UploadKind, is_base};
+use gs_model::Refusal;
+use gs_term::{GraphName, Target, TermText, Triple};
+use std::alloc::Global;
+
+/// A store whose page takes four entries with six triples in all.
+pub type Small = Audited<4, 6>;
+
+/// A new store with two seats.
+pub fn small(alloc: Global) -> Result<Small, Refusal> {
+    let base = "http://localhost";
+    if !is_base(base) {
+        return Err(Refusal::Syntax(0));
+    }
+    Audited::new(alloc, 2, base)
+}
+
+/// So many triples, each with an object of its own.
+pub fn triples(alloc: Global, count: u8) -> Result<Vec<Triple>, Refusal> {
+    let mut list = Vec::new(alloc);
+    for number in 0..count {
+        let subject = TermText::iri(alloc, "http://e/s")?;
+        let predicate = TermText::iri(alloc, "http://e/p")?;
+        let object = TermText::blank(alloc, 1, u64::from(number))?;
+        if !subject.is_subject() || !predicate.is_iri() {
+            return Err(Refusal::Syntax(0));
+        }
+        list.push(Triple::new(subject, predicate, object))?;
+    }
+    Ok(list)
+}
+
+/// The named graph that rows write.
+pub fn cats(alloc: Global) -> Result<Target, Refusal> {
+    Ok(Target::Named(GraphName::new(alloc, "http://e/cats")?))
+}
+
+/// A PUT of so many triples by the first seat, and the answer to its commit.
+pub fn put(alloc: Global, store: &mut Small, count: u8) -> Result<Answer, Refusal> {
+    let kind = UploadKind::Put(cats(alloc)?);
+    let list = triples(alloc, count)?;
+    let _ = store.event(Event::Seat(0, Action::Open(kind)));
+    let _ = store.event(Event::Seat(0, Action::Stage(list)));
+    Ok(store.event(Event::Seat(0, Action::Commit)))
+}

@@ -1,0 +1,3 @@
+pub mod UploadLemmas
+pub mod PageLemmas
+pub mod ReplayLemmas

@@ -1,0 +1,14 @@
+-- Kinds of decided actions.
+use Rattle.gs_event.specs.Operations.{Operation, Puts, Posts, Creates, Patches, Deletes, Looks, Reads}
+use Rattle.gs_chronicle.specs.declared.kinds.ActionKind.{ActionKind}
+use Rattle.gs_chronicle.specs.declared.kinds.ActionKind.TheVariants.{Commit, CommitPatch, Delete, Head, Pin}
+
+-- the kind of action by which the abstract store is asked for this
+abbrev pub kind_of : Operation → ActionKind
+kind_of (Puts t g) = Commit
+kind_of (Posts t g) = Commit
+kind_of (Creates r g) = Commit
+kind_of (Patches t ops) = CommitPatch
+kind_of (Deletes t) = Delete
+kind_of (Looks t) = Head
+kind_of (Reads t) = Pin

@@ -1,0 +1,57 @@
+//! Entries of a page.
+ghost use Rattle.std.specs.Prelude.{◌≡◌};
+ghost use Rattle.gs_chronicle.specs.Requests.{call_of};
+ghost use Rattle.gs_chronicle.specs.Rows.{row_of};
+
+use crate::requests::Request;
+
+/// A call that a store decided, under its number in the page.
+#[derive(Debug, Drop)]
+pub struct Entry {
+    number: u64,
+    seat: u16,
+    request: Request,
+    status: u16,
+}
+
+impl Entry {
+    /// The entry of this number for this call.
+    pub(crate) fn new(number: u64, seat: u16, request: Request, status: u16) -> Entry
+        ensures { row_of result ≡ record { number = number; call = call_of seat request status } }
+    {
+        Entry {
+            number,
+            seat,
+            request,
+            status,
+        }
+    }
+
+    /// How many entries stand before it in its page.
+    pub fn number(&self) -> u64
+        ensures { result ≡ self.now.number }
+    {
+        self.number
+    }
+
+    /// The seat that made the call.
+    pub fn seat(&self) -> u16
+        ensures { result ≡ self.now.seat }
+    {
+        self.seat
+    }
+
+    /// What the store was asked.
+    pub fn request(&self) -> &Request
+        ensures { result.now ≡ self.now.request }
+    {
+        &self.request
+    }
+
+    /// The HTTP status that the store answered.
+    pub fn status(&self) -> u16
+        ensures { result ≡ self.now.status }
+    {
+        self.status
+    }
+}

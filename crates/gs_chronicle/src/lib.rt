@@ -1,0 +1,18 @@
+//! A page of history: the calls that a store decided, in their order, so that the page replays.
+#![tactic(auto)]
+
+mod entries;
+mod kinds;
+mod laws;
+mod operations;
+mod pages;
+mod requests;
+mod uploads;
+
+pub use entries::Entry;
+pub use kinds::ActionKind;
+pub use laws::page_replays_on;
+pub use operations::ops_size;
+pub use pages::Page;
+pub use requests::Request;
+pub use uploads::Upload;

@@ -1,0 +1,110 @@
+//! Pages of history.
+ghost use Rattle.std.specs.Prelude.{◌≡◌, ◌<◌, ◌≤◌, vec_len, vec_capacity};
+ghost use Rattle.gs_chronicle.specs.Pages.{stored_in, AreNumbered};
+ghost use Rattle.gs_chronicle.specs.Rows.{rows_of};
+
+use crate::entries::Entry;
+use crate::requests::Request;
+use gs_model::Refusal;
+use std::alloc::Global;
+
+/// The last calls that a store decided: at most `ENTRIES` of them, with at most `TRIPLES` triples and
+/// patterns in all. They are numbered from 0, and pages are numbered from 0 too.
+#[derive(Debug, Drop)]
+pub struct Page<const ENTRIES: usize, const TRIPLES: usize> {
+    number: u64,
+    entries: Vec<Entry>,
+    /// Triples and patterns of the entries, with repeats.
+    stored: usize,
+    ghost some: { 0 < ENTRIES },
+    ghost few: { vec_len entries ≤ ENTRIES },
+    ghost room: { ENTRIES ≤ vec_capacity entries },
+    ghost counted: { stored ≡ stored_in (rows_of entries.items) },
+    ghost small: { stored ≤ TRIPLES },
+    ghost numbered: { AreNumbered (rows_of entries.items) },
+}
+
+impl<const ENTRIES: usize, const TRIPLES: usize> Page<ENTRIES, TRIPLES> {
+    ghost use Rattle.std.specs.Prelude.{◌≡◌, ◌+◌, ◌<◌, ◌≤◌, length, IfOk, IfErr, Some};
+    ghost use Rattle.gs_chronicle.specs.Requests.{request_size, call_of};
+    ghost use Rattle.gs_chronicle.specs.Pages.{stored_in, AreNumbered, fresh_page, turned, with_row, page_after};
+    ghost use Rattle.gs_chronicle.specs.Rows.{rows_of};
+    ghost use Rattle.gs_chronicle.specs.Views.{page_of};
+
+    /// Page 0, without entries. Room for all entries is reserved here.
+    ///
+    /// # Errors
+    ///
+    /// `NoMemory`.
+    pub fn new(alloc: Global) -> Result<Page<ENTRIES, TRIPLES>, Refusal>
+        requires { 0 < ENTRIES }
+        ensures fresh { IfOk result (λ p. page_of p ≡ fresh_page) }
+        ensures refused { IfErr result (λ refusal. refusal ≡ Refusal.NoMemory) }
+    {
+        let Ok(entries) = Vec::with_capacity(alloc, ENTRIES) else {
+            return Err(Refusal::NoMemory);
+        };
+        Ok(Page {
+            number: 0,
+            entries,
+            stored: 0,
+        })
+    }
+
+    /// The number of the page: how often one was turned, or 2^64 - 1 where it was more often.
+    pub fn number(&self) -> u64
+        ensures { result ≡ (page_of self.now).number }
+    {
+        self.number
+    }
+
+    /// The entries, the oldest first.
+    pub fn entries(&self) -> &[Entry]
+        ensures rows { rows_of result.now ≡ (page_of self.now).rows }
+        ensures numbered { AreNumbered (rows_of result.now) }
+        ensures few { length result.now ≤ ENTRIES }
+        ensures small { stored_in (rows_of result.now) ≤ TRIPLES }
+    {
+        self.entries.as_slice()
+    }
+
+    /// Clears the page, which gets the next number.
+    pub fn turn_page(&mut self)
+        ensures { page_of self.new ≡ turned (page_of self.old) }
+    {
+        self.entries.clear();
+        self.stored = 0;
+        self.number = self.number.saturating_add(1);
+    }
+
+    /// Stores a call that was decided. Where the page has no room for it, it is turned first; a call with
+    /// more triples than a page holds is not stored, and turns the page. Takes no memory, and copies
+    /// nothing.
+    pub fn add(&mut self, seat: u16, request: Request, status: u16)
+        ensures { page_of self.new
+            ≡ page_after ENTRIES TRIPLES (page_of self.old) (call_of seat request status) }
+    {
+        match request.triples() {
+            Some(triples) if triples <= TRIPLES => {
+                if self.entries.len() >= ENTRIES || triples > TRIPLES - self.stored {
+                    self.turn_page();
+                }
+                self.push(seat, request, status, triples);
+            }
+            _ => self.turn_page(),
+        }
+    }
+
+    /// Stores a call of so many triples, for which there is room.
+    fn push(&mut self, seat: u16, request: Request, status: u16, triples: usize)
+        requires room { length (rows_of self.old.entries.items) < ENTRIES }
+        requires size { triples ≡ request_size request }
+        requires fits { self.old.stored + triples ≤ TRIPLES }
+        ensures { page_of self.new ≡ with_row (page_of self.old) (call_of seat request status) }
+    {
+        let number = self.entries.len() as u64;
+        self.entries
+            .push_reserved(Entry::new(number, seat, request, status));
+        self.stored += triples;
+    }
+}

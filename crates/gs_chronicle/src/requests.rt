@@ -1,0 +1,51 @@
+//! What a store was asked by a call that it decided.
+ghost use Rattle.std.specs.Prelude.{◌≡◌, ◌≤◌, ◌^◌, MatchOption};
+ghost use Rattle.gs_chronicle.specs.Kinds.{kind_of};
+ghost use Rattle.gs_chronicle.specs.Requests.{operation_in, request_size};
+
+use crate::kinds::ActionKind;
+use crate::operations::ops_size;
+use crate::uploads::Upload;
+use gs_event::Op;
+use gs_term::Target;
+
+/// What a store was asked by a call that it decided, with all that it brought.
+#[derive(Debug, Drop)]
+pub enum Request {
+    /// A commit of what was staged.
+    Upload(Upload),
+    /// A commit of these operations on a graph.
+    Patch(Target, Vec<Op>),
+    /// A deletion of a graph.
+    Delete(Target),
+    /// The question whether there is such a graph.
+    Head(Target),
+    /// The beginning of a read of a graph.
+    Pin(Target),
+}
+
+impl Request {
+    /// The kind of the action.
+    pub fn kind(&self) -> ActionKind
+        ensures { result ≡ kind_of (operation_in self.now) }
+    {
+        match self {
+            Request::Upload(_) => ActionKind::Commit,
+            Request::Patch(_, _) => ActionKind::CommitPatch,
+            Request::Delete(_) => ActionKind::Delete,
+            Request::Head(_) => ActionKind::Head,
+            Request::Pin(_) => ActionKind::Pin,
+        }
+    }
+
+    /// How many triples and patterns it has, with repeats. `None` where no `usize` holds the number.
+    pub fn triples(&self) -> Option<usize>
+        ensures { MatchOption result (2 ^ 64 ≤ request_size self.now) (λ n. n ≡ request_size self.now) }
+    {
+        match self {
+            Request::Upload(upload) => Some(upload.count()),
+            Request::Patch(_, ops) => ops_size(ops.as_slice()),
+            Request::Delete(_) | Request::Head(_) | Request::Pin(_) => Some(0),
+        }
+    }
+}
