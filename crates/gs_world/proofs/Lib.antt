@@ -1,8 +1,14 @@
 pub mod SeatLemmas
 pub mod MoveLemmas
+pub mod TurnLemmas
+pub mod LeaveLemmas
 pub mod CallLemmas
 pub mod FreshLemmas
+pub mod MadeLemmas
+pub mod MergeLemmas
 pub mod StandLemmas
 pub mod RunLemmas
+pub mod RestingLemmas
 pub mod NodeLemmas
 pub mod NumberLemmas
+pub mod SharingLemmas

@@ -1,5 +1,5 @@
 -- What the steps of a run lead to, and that all connections are served by it.
-use Rattle.std.proofs.Common.{◌≡◌, ◌<◌, inl, inr, arith, ℕ, zero, suc, Bool, true, List, [], ◌∷◌, ◌++◌, length, reverse, take, Option, Some, None, MatchOption, refl, sym, ap, subst, ◌∙◌, append_assoc, true≢false, append-nil}
+use Rattle.std.proofs.Common.{◌≡◌, ◌<◌, inl, inr, arith, ℕ, zero, suc, Bool, true, List, [], ◌∷◌, ◌++◌, length, reverse, take, Option, Some, None, MatchOption, refl, sym, ap, subst, ◌∙◌, append_assoc, true≢false}
 use Rattle.std.specs.List.{slice_get}
 use Rattle.std.proofs.lemmas.List.{reverse-append}
 use Rattle.gs_event.specs.Phases.{Idle}
@@ -14,10 +14,12 @@ use Rattle.gs_world.specs.declared.connections.Connection.{Connection}
 use Rattle.gs_world.specs.declared.steps.WorldStep.{WorldStep}
 use Rattle.gs_world.specs.declared.steps.WorldStep.TheVariants.{Drop}
 use Rattle.gs_world.specs.declared.worlds.World.{World}
-use Rattle.gs_world.specs.Happenings.{Past, Input, input_of, deeds_at, IsMadeBy, AreMadeBy}
+use Rattle.gs_world.specs.Happenings.{Past, Input, input_of, deeds_at, IsMadeBy, SparesDropped, AreMadeAfter}
 use Rattle.gs_world.specs.Walks.{Walks, WalksAll, RefusesStep}
 use Rattle.gs_world.specs.Worlds.{LeadsToSession, HasLeft, HoldsTo, LeadsToWorld, world_start, text_written, written_on, IsServed, IsDone, ServesAll, RunsSteps, IsCutAt}
 use Rattle.gs_world.proofs.SeatLemmas.{legal_kinds, seats_fit, seats_rest}
+use Rattle.gs_world.proofs.MadeLemmas.{made_append, made_one}
+use Rattle.gs_world.proofs.MergeLemmas.{history_merges}
 use Rattle.gs_world.proofs.StandLemmas.{GoesOn, walk_stands}
 
 -- steps one after another
@@ -26,18 +28,16 @@ pub walks_more : (w mid w2 : World) (steps : List WorldStep) (step : WorldStep) 
 walks_more w mid w2 [] step all walk = (w2, subst (λ (v : World). Walks v step w2) all walk, refl)
 walks_more w mid w2 (s ∷ steps) step all walk = (all.0, all.1, walks_more all.0 mid w2 steps step all.2 walk)
 
--- events of steps, and of those before them
-made_append : (past before : Past) (h g : History) → AreMadeBy past h → AreMadeBy before g → AreMadeBy (past ++ before) (h ++ g)
-made_append [] before h g m n = subst (λ (z : History). AreMadeBy before (z ++ g)) (sym m) n
-made_append (step ∷ past) before h g m n = (m.0, m.1 ++ g, ap (λ (z : History). z ++ g) m.2 ∙ append_assoc m.0 m.1 g, m.3, made_append past before m.1 g m.4 n)
-
--- those of one step
-made_one : (step : WorldStep) (h : History) → IsMadeBy step h → AreMadeBy (step ∷ []) h
-made_one step h m = (h, [], sym (append-nil h), m, refl)
+-- the last of them
+pub walks_last : (w w2 : World) (steps : List WorldStep) (step : WorldStep) → WalksAll w (steps ++ step ∷ []) w2 → (mid : World) × WalksAll w steps mid × Walks mid step w2
+walks_last w w2 [] step all = (w, refl, subst (λ (v : World). Walks w step v) (sym all.2) all.1)
+walks_last w w2 (s ∷ steps) step all = go (walks_last all.0 w2 steps step all.2) where
+  go : (mid : World) × WalksAll all.0 steps mid × Walks mid step w2 → (mid : World) × WalksAll w (s ∷ steps) mid × Walks mid step w2
+  go n = (n.0, (all.0, all.1, n.1), n.2)
 
 -- what some steps lead on to
 abbrev LeadsOn : Server → ℕ → World → List WorldStep → Past → History → Type 0
-LeadsOn p count w steps past history = (more : History) × AreMadeBy (reverse steps) more × LeadsToWorld p count w (reverse steps ++ past) (more ++ history)
+LeadsOn p count w steps past history = (more : History) × AreMadeAfter past (reverse steps) more × LeadsToWorld p count w (reverse steps ++ past) (more ++ history)
 
 walks_stand : (p : Server) (count : ℕ) (w w2 : World) (steps : List WorldStep) (past : Past) (history : History) → WalksAll w steps w2 → LeadsToWorld p count w past history
     → LeadsOn p count w2 steps past history
@@ -46,21 +46,21 @@ walks_stand p count w w2 (step ∷ steps) past history all st = go (walk_stands 
   turned : reverse (step ∷ steps) ≡ reverse steps ++ step ∷ []
   turned = reverse-append (step ∷ []) steps
 
-  joined : (m1 : History) → IsMadeBy step m1 → LeadsOn p count w2 steps (step ∷ past) (m1 ++ history) → LeadsOn p count w2 (step ∷ steps) past history
-  joined m1 made k = (
+  joined : (m1 : History) → IsMadeBy step m1 → SparesDropped past m1 → LeadsOn p count w2 steps (step ∷ past) (m1 ++ history) → LeadsOn p count w2 (step ∷ steps) past history
+  joined m1 made spares k = (
     k.0 ++ m1,
-    subst (λ (q : Past). AreMadeBy q (k.0 ++ m1)) (sym turned) (made_append (reverse steps) (step ∷ []) k.0 m1 k.1 (made_one step m1 made)),
+    subst (λ (q : Past). AreMadeAfter past q (k.0 ++ m1)) (sym turned) (made_append past (step ∷ []) (reverse steps) k.0 m1 k.1 (made_one past step m1 made spares)),
     subst (λ (h : History). LeadsToWorld p count w2 (reverse (step ∷ steps) ++ past) h) (sym (append_assoc k.0 m1 history))
         (subst (λ (q : Past). LeadsToWorld p count w2 q (k.0 ++ (m1 ++ history))) (sym (append_assoc (reverse steps) (step ∷ []) past) ∙ ap (λ (q : Past). q ++ past) (sym turned)) k.2),
   )
 
   go : GoesOn p count all.0 step past history → ((h : History) → LeadsToWorld p count all.0 (step ∷ past) h → LeadsOn p count w2 steps (step ∷ past) h)
       → LeadsOn p count w2 (step ∷ steps) past history
-  go n again = joined n.0 n.1 (again (n.0 ++ history) n.2)
+  go n again = joined n.0 n.1 n.2 (again (n.0 ++ history) n.3)
 
 -- what stands in a world serves its connections
 
-there : {X : Type 0} (xs : List X) (i : ℕ) → i < length xs → (x : X) × (slice_get xs i ≡ Some x)
+pub there : {X : Type 0} (xs : List X) (i : ℕ) → i < length xs → (x : X) × (slice_get xs i ≡ Some x)
 there [] i l = absurd (omega (arith, l))
 there (x ∷ xs) zero l = (x, refl)
 there (x ∷ xs) (suc i) l = there xs i (omega (arith, l))
@@ -120,6 +120,7 @@ module _ (p : Server) (count : ℕ) (w : World) (past : Past) (history : History
     made = st.made;
     legal = st.legal;
     view = st.view;
+    merged = history_merges (world_start p count) history st.legal;
     served = λ c l. served_at c l (front_at c (held c l));
     idle = λ c l d. idle_at c l (held c l) d;
   }
@@ -129,7 +130,7 @@ module _ (p : Server) (count : ℕ) (w : World) (past : Past) (history : History
 pub walks_run : (w w2 : World) (steps : List WorldStep) → WalksAll w steps w2 → RunsSteps w steps w2
 walks_run w w2 steps all = (all, λ p count past history st. go p count past history (walks_stand p count w w2 steps past history all st)) where
   go : (p : Server) (count : ℕ) (past : Past) (history : History) → LeadsOn p count w2 steps past history
-      → (more : History) × AreMadeBy (reverse steps) more × LeadsToWorld p count w2 (reverse steps ++ past) (more ++ history)
+      → (more : History) × AreMadeAfter past (reverse steps) more × LeadsToWorld p count w2 (reverse steps ++ past) (more ++ history)
       × ServesAll p count w2 (reverse steps ++ past) (more ++ history)
   go p count past history n = (n.0, n.1, n.2, serves_all p count w2 (reverse steps ++ past) (n.0 ++ history) n.2)
 

@@ -17,15 +17,18 @@ use Rattle.gs_world.specs.declared.connections.Connection.{Connection}
 use Rattle.gs_world.specs.declared.steps.WorldStep.{WorldStep}
 use Rattle.gs_world.specs.declared.steps.WorldStep.TheVariants.{Bytes, Turn, End, Drop, Reclaim}
 use Rattle.gs_world.specs.declared.worlds.World.{World}
-use Rattle.gs_world.specs.Happenings.{Past, Input, is_step_of, input_with, with_step, input_of, deeds_at, MayRest, IsMadeBy}
+use Rattle.gs_world.specs.Happenings.{Past, Input, is_step_of, input_with, with_step, input_of, deeds_at, MayRest, IsMadeBy, SparesDropped}
 use Rattle.gs_world.specs.Walks.{Apart, Gets, InputEnds, MovesOn, LeavesSeat, ChangesOne, FreesNodes, Walks}
 use Rattle.gs_world.specs.Worlds.{HoldsTo, LeadsToWorld, world_start}
 use Rattle.gs_world.proofs.SeatLemmas.{other_place}
-use Rattle.gs_world.proofs.MoveLemmas.{DoesFew, events_of, Moved, gets_moved, ends_moved, turns_moved, leaves_moved}
+use Rattle.gs_world.proofs.MoveLemmas.{DoesFew, events_of, Moved, gets_moved, ends_moved}
+use Rattle.gs_world.proofs.TurnLemmas.{turns_moved}
+use Rattle.gs_world.proofs.LeaveLemmas.{leaves_moved}
+use Rattle.gs_world.proofs.MadeLemmas.{made_more}
 
 -- places of a list
 
-set_here : {X : Type 0} (xs : List X) (i : ℕ) (x y : X) → slice_get xs i ≡ Some x → slice_get (slice_set xs i y) i ≡ Some y
+pub set_here : {X : Type 0} (xs : List X) (i : ℕ) (x y : X) → slice_get xs i ≡ Some x → slice_get (slice_set xs i y) i ≡ Some y
 set_here [] i x y e = cc
 set_here (z ∷ zs) zero x y e = refl
 set_here (z ∷ zs) (suc i) x y e = set_here zs i x y e
@@ -74,7 +77,7 @@ few_legal start h c old new (d ∷ f ∷ ds) k s = absurd s
 
 -- what a step makes leads on to the world after it
 abbrev pub GoesOn : Server → ℕ → World → WorldStep → Past → History → Type 0
-GoesOn p count w step past history = (more : History) × IsMadeBy step more × LeadsToWorld p count w (step ∷ past) (more ++ history)
+GoesOn p count w step past history = (more : History) × IsMadeBy step more × SparesDropped past more × LeadsToWorld p count w (step ∷ past) (more ++ history)
 
 -- a step that may make no event
 rests : (step : WorldStep) → MayRest step → IsMadeBy step []
@@ -93,46 +96,63 @@ own_input c step i one = ap (λ (b : Bool). cond b (input_with i step) i) (one c
 
 module _ (p : Server) (count : ℕ) (w w2 : World) (past : Past) (history : History) (c : ℕ) (step : WorldStep) (one : IsOne c step) (st : LeadsToWorld p count w past history) where
   moved_each : (k k2 : Connection) → slice_get w.connections.items c ≡ Some k → w2.connections.items ≡ slice_set w.connections.items c k2
-      → (m : Moved p c step (input_of c past) (deeds_at c history) w.store k2 w2.store) → (d : ℕ) (k3 : Connection) → slice_get w2.connections.items d ≡ Some k3
-      → HoldsTo p d (input_of d (step ∷ past)) (deeds_at d (events_of c m.done ++ history)) k3
-  moved_each k k2 here set m d k3 e = go (nat_eq c d) refl where
-    own : HoldsTo p c (input_of c (step ∷ past)) (deeds_at c (events_of c m.done ++ history)) k2
+      → (done : Deeds) → DoesFew c w.store done w2.store → HoldsTo p c (input_with (input_of c past) step) (deeds_at c history ++ done) k2
+      → (d : ℕ) (k3 : Connection) → slice_get w2.connections.items d ≡ Some k3 → HoldsTo p d (input_of d (step ∷ past)) (deeds_at d (events_of c done ++ history)) k3
+  moved_each k k2 here set done few holds d k3 e = go (nat_eq c d) refl where
+    own : HoldsTo p c (input_of c (step ∷ past)) (deeds_at c (events_of c done ++ history)) k2
     own =
-        subst (λ (h : Deeds). HoldsTo p c (input_of c (step ∷ past)) h k2) (sym (few_here c w.store w2.store m.done history m.few))
-        (subst (λ (i : Input). HoldsTo p c i (deeds_at c history ++ m.done) k2) (sym (own_input c step (input_of c past) one)) m.holds)
+        subst (λ (h : Deeds). HoldsTo p c (input_of c (step ∷ past)) h k2) (sym (few_here c w.store w2.store done history few))
+        (subst (λ (i : Input). HoldsTo p c i (deeds_at c history ++ done) k2) (sym (own_input c step (input_of c past) one)) holds)
 
     same : (d : ℕ) → c ≡ d → slice_get w2.connections.items d ≡ Some k3 → Some k2 ≡ Some k3
     same d r e = sym (set_here w.connections.items c k k2 here) ∙ sym (ap (λ (ks : List Connection). slice_get ks c) set) ∙ ap (λ (n : ℕ). slice_get w2.connections.items n) r ∙ e
 
-    put : (d : ℕ) → c ≡ d → k2 ≡ k3 → HoldsTo p d (input_of d (step ∷ past)) (deeds_at d (events_of c m.done ++ history)) k3
+    put : (d : ℕ) → c ≡ d → k2 ≡ k3 → HoldsTo p d (input_of d (step ∷ past)) (deeds_at d (events_of c done ++ history)) k3
     put d r q =
-        subst (λ (n : ℕ). HoldsTo p n (input_of n (step ∷ past)) (deeds_at n (events_of c m.done ++ history)) k3) r
-        (subst (λ (z : Connection). HoldsTo p c (input_of c (step ∷ past)) (deeds_at c (events_of c m.done ++ history)) z) q own)
+        subst (λ (n : ℕ). HoldsTo p n (input_of n (step ∷ past)) (deeds_at n (events_of c done ++ history)) k3) r
+        (subst (λ (z : Connection). HoldsTo p c (input_of c (step ∷ past)) (deeds_at c (events_of c done ++ history)) z) q own)
 
-    go : (b : Bool) → nat_eq c d ≡ b → HoldsTo p d (input_of d (step ∷ past)) (deeds_at d (events_of c m.done ++ history)) k3
+    go : (b : Bool) → nat_eq c d ≡ b → HoldsTo p d (input_of d (step ∷ past)) (deeds_at d (events_of c done ++ history)) k3
     go true r = put d (eqb-true c d r) (cc (same d (eqb-true c d r) e))
     go false r =
-        subst (λ (h : Deeds). HoldsTo p d (input_of d (step ∷ past)) h k3) (sym (few_there c d w.store w2.store m.done history r m.few))
+        subst (λ (h : Deeds). HoldsTo p d (input_of d (step ∷ past)) h k3) (sym (few_there c d w.store w2.store done history r few))
         (subst (λ (i : Input). HoldsTo p d i (deeds_at d history) k3) (sym (other_input c d step (input_of d past) one r))
         (st.each d k3 (sym (ap (λ (ks : List Connection). slice_get ks d) set ∙ other_place w.connections.items c d k2 (eqb-false c d r)) ∙ e)))
 
-  moved_stands : (k k2 : Connection) → slice_get w.connections.items c ≡ Some k → w2.connections.items ≡ slice_set w.connections.items c k2
-      → Moved p c step (input_of c past) (deeds_at c history) w.store k2 w2.store → GoesOn p count w2 step past history
-  moved_stands k k2 here set m = (events_of c m.done, m.made, go (few_legal (world_start p count) history c w.store w2.store m.done (record { legal = st.legal; view = st.view; pinned = st.pinned }) m.few)) where
-    go : LegalAt (world_start p count) (events_of c m.done ++ history) w2.store → LeadsToWorld p count w2 (step ∷ past) (events_of c m.done ++ history)
+  -- nothing is done at the seat of a connection that was dropped
+  moved_spares : (done : Deeds) → DoesFew c w.store done w2.store → ((input_of c past).is_dropped ≡ true → done ≡ []) → SparesDropped past (events_of c done)
+  moved_spares done few spares d dropped = go (nat_eq c d) refl where
+    go : (b : Bool) → nat_eq c d ≡ b → deeds_at d (events_of c done) ≡ []
+    go true r = ap (λ (ds : Deeds). deeds_at d (events_of c ds)) (spares (subst (λ (n : ℕ). (input_of n past).is_dropped ≡ true) (sym (eqb-true c d r)) dropped))
+    go false r = ap (λ (h : History). deeds_at d h) (sym (append-nil (events_of c done))) ∙ few_there c d w.store w2.store done [] r few
+
+  pub moved_leads : (k k2 : Connection) → slice_get w.connections.items c ≡ Some k → w2.connections.items ≡ slice_set w.connections.items c k2
+      → (done : Deeds) → DoesFew c w.store done w2.store → IsMadeBy step (events_of c done) → ((input_of c past).is_dropped ≡ true → done ≡ [])
+      → HoldsTo p c (input_with (input_of c past) step) (deeds_at c history ++ done) k2 → LeadsToWorld p count w2 (step ∷ past) (events_of c done ++ history)
+  moved_leads k k2 here set done few made spares holds = go (few_legal (world_start p count) history c w.store w2.store done (record { legal = st.legal; view = st.view; pinned = st.pinned }) few) where
+    go : LegalAt (world_start p count) (events_of c done ++ history) w2.store → LeadsToWorld p count w2 (step ∷ past) (events_of c done ++ history)
     go k4 = record {
       lines = st.lines;
       many = ap (λ (ks : List Connection). length ks) set ∙ set_length w.connections.items c k2 ∙ st.many;
-      made = (events_of c m.done, history, refl, m.made, st.made);
+      made = made_more past history step (events_of c done) made (moved_spares done few spares) st.made;
       legal = k4.legal;
       view = k4.view;
       pinned = k4.pinned;
-      each = moved_each k k2 here set m;
+      each = moved_each k k2 here set done few holds;
     }
+
+  moved_stands : (k k2 : Connection) → slice_get w.connections.items c ≡ Some k → w2.connections.items ≡ slice_set w.connections.items c k2
+      → Moved p c step (input_of c past) (deeds_at c history) w.store k2 w2.store → GoesOn p count w2 step past history
+  moved_stands k k2 here set m = (
+    events_of c m.done,
+    m.made,
+    moved_spares m.done m.few m.spares,
+    moved_leads k k2 here set m.done m.few m.made m.spares m.holds,
+  )
 
   -- a step for a connection that is not there
   absent_stands : MayRest step → slice_get w.connections.items c ≡ None → w2 ≡ w → GoesOn p count w2 step past history
-  absent_stands may none same = ([], rests step may, subst (λ (v : World). LeadsToWorld p count v (step ∷ past) history) (sym same) stays) where
+  absent_stands may none same = ([], rests step may, λ d e. refl, subst (λ (v : World). LeadsToWorld p count v (step ∷ past) history) (sym same) stays) where
     each : (d : ℕ) (k : Connection) → slice_get w.connections.items d ≡ Some k → HoldsTo p d (input_of d (step ∷ past)) (deeds_at d history) k
     each d k e = go (nat_eq c d) refl where
       clash : c ≡ d → ⊥
@@ -146,7 +166,7 @@ module _ (p : Server) (count : ℕ) (w w2 : World) (past : Past) (history : Hist
     stays = record {
       lines = st.lines;
       many = st.many;
-      made = ([], history, refl, rests step may, st.made);
+      made = made_more past history step [] (rests step may) (λ d e. refl) st.made;
       legal = st.legal;
       view = st.view;
       pinned = st.pinned;
@@ -166,7 +186,7 @@ module _ (p : Server) (count : ℕ) (w w2 : World) (past : Past) (history : Hist
 -- freed nodes
 frees_stands : (p : Server) (count : ℕ) (w w2 : World) (past : Past) (history : History) (n : ℕ) → LeadsToWorld p count w past history → FreesNodes n w w2
     → GoesOn p count w2 (Reclaim n) past history
-frees_stands p count w w2 past history n st f = ((event.Reclaim n, f.0) ∷ [], refl, go (step_legal (world_start p count) history w.store w2.store (event.Reclaim n) f.0 (record { legal = st.legal; view = st.view; pinned = st.pinned }) f.1)) where
+frees_stands p count w w2 past history n st f = ((event.Reclaim n, f.0) ∷ [], refl, λ d e. refl, go (step_legal (world_start p count) history w.store w2.store (event.Reclaim n) f.0 (record { legal = st.legal; view = st.view; pinned = st.pinned }) f.1)) where
   each : (d : ℕ) (k : Connection) → slice_get w2.connections.items d ≡ Some k → HoldsTo p d (input_of d past) (deeds_at d history ++ []) k
   each d k e =
       subst (λ (h : Deeds). HoldsTo p d (input_of d past) h k) (sym (append-nil (deeds_at d history)))
@@ -176,7 +196,7 @@ frees_stands p count w w2 past history n st f = ((event.Reclaim n, f.0) ∷ [], 
   go k = record {
     lines = st.lines;
     many = ap (λ (ks : List Connection). length ks) f.2 ∙ st.many;
-    made = ((event.Reclaim n, f.0) ∷ [], history, refl, refl, st.made);
+    made = made_more past history (Reclaim n) ((event.Reclaim n, f.0) ∷ []) refl (λ d e. refl) st.made;
     legal = k.legal;
     view = k.view;
     pinned = k.pinned;

@@ -81,7 +81,22 @@ IsMadeBy step [] = MayRest step
 IsMadeBy step (x ∷ []) = IsOf step x.0
 IsMadeBy step h = ⊥
 
--- all events are made by these steps, in their order
+-- nothing is done at the seat of a connection that these steps dropped
+abbrev pub SparesDropped : Past → History → Type 0
+SparesDropped past h = (c : ℕ) → (input_of c past).is_dropped ≡ true → deeds_at c h ≡ []
+
+-- After the earlier steps, all events are made by these, in their order, and none at the seat of a connection that was dropped by
+-- then.
+abbrev pub AreMadeAfter : Past → Past → History → Type 0
+AreMadeAfter earlier [] h = h ≡ []
+AreMadeAfter earlier (step ∷ past) h = (last : History) × (before : History) × (h ≡ last ++ before) × IsMadeBy step last
+    × SparesDropped (past ++ earlier) last × AreMadeAfter earlier past before
+
+-- all events are made so by these steps
 abbrev pub AreMadeBy : Past → History → Type 0
-AreMadeBy [] h = h ≡ []
-AreMadeBy (step ∷ past) h = (last : History) × (before : History) × (h ≡ last ++ before) × IsMadeBy step last × AreMadeBy past before
+AreMadeBy past h = AreMadeAfter [] past h
+
+-- Once a connection is dropped nothing more is done at its seat, by whichever steps.
+abbrev pub NothingFollowsADrop : Type 0
+NothingFollowsADrop = (c : ℕ) (later earlier : Past) (history : History) → AreMadeBy (later ++ earlier) history → (input_of c earlier).is_dropped ≡ true
+    → (more : History) × (before : History) × (history ≡ more ++ before) × AreMadeBy earlier before × (deeds_at c more ≡ [])

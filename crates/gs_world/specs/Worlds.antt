@@ -16,7 +16,8 @@ use Rattle.gs_world.specs.declared.connections.Connection.{Connection}
 use Rattle.gs_world.specs.declared.steps.WorldStep.{WorldStep}
 use Rattle.gs_world.specs.declared.steps.WorldStep.TheVariants.{Drop}
 use Rattle.gs_world.specs.declared.worlds.World.{World}
-use Rattle.gs_world.specs.Happenings.{Past, Input, no_input, input_of, deeds_at, AreMadeBy}
+use Rattle.gs_world.specs.Happenings.{Past, Input, no_input, input_of, deeds_at, AreMadeAfter, AreMadeBy}
+use Rattle.gs_world.specs.Merging.{IsMerged}
 use Rattle.gs_world.specs.Walks.{WalksAll, RefusesStep}
 
 -- what came, was done and was written leads to the session
@@ -79,20 +80,22 @@ abbrev pub IsDone : Server → Input → Deeds → Type 0
 IsDone p i h = (i.is_dropped ≡ true) ⊎ ((said : List ℕ) × Talk p i.ended i.bytes h said [])
 
 -- Bytes to bytes over many connections: the events of all seats and their answers, made by the steps, are one legal history, which
--- the store shows; each connection is served as if it were the only one; and a seat for which nothing is left is idle.
+-- the store shows; what it asks of the abstract store is a merging of what the seats asked; each connection is served as if it were
+-- the only one; and a seat for which nothing is left is idle.
 pub record ServesAll (p : Server) (count : ℕ) (w : World) (past : Past) (history : History) : Type 0 where
   pub made : AreMadeBy past history
   pub legal : IsLegal (world_start p count) history
   pub view : w.store.view ≡ view_of (world_start p count) history
+  pub merged : IsMerged count history
   pub served : (c : ℕ) → c < count → IsServed p (input_of c past) (deeds_at c history) (written_on w c)
   pub idle : (c : ℕ) → c < count → IsDone p (input_of c past) (deeds_at c history) → slice_get w.store.view.seats c ≡ Some Idle
 
 -- A run: the steps were taken; and from each history that led to the world before, one leads on to the world after them, by events
--- that these steps made, and by which all are served.
+-- that these steps made after those before, and by which all are served.
 abbrev pub RunsSteps : World → List WorldStep → World → Type 0
 RunsSteps old steps new = WalksAll old steps new
     × ((p : Server) (count : ℕ) (past : Past) (history : History) → LeadsToWorld p count old past history
-    → (more : History) × AreMadeBy (reverse steps) more × LeadsToWorld p count new (reverse steps ++ past) (more ++ history)
+    → (more : History) × AreMadeAfter past (reverse steps) more × LeadsToWorld p count new (reverse steps ++ past) (more ++ history)
     × ServesAll p count new (reverse steps ++ past) (more ++ history))
 
 -- The first n steps were taken, and the next one was refused; so it is as if its connection had been dropped in its place.

@@ -30,7 +30,8 @@ impl World {
         requires base { is_base base.now ≡ true }
         requires lines { 1 ≤ piece }
         requires short { piece ≤ 4096 }
-        ensures stands { IfOk result (λ w. LeadsToWorld (record { base = base.now; piece = piece }) connections w [] []) }
+        ensures stands { IfOk result
+            (λ w. LeadsToWorld (record { base = base.now; piece = piece }) connections w [] []) }
         ensures waste { IfOk result (λ w. w.store.waste ≡ []) }
         ensures refused { IfErr result (λ refusal. refusal ≡ Refusal.NoMemory) }
     {

@@ -42,6 +42,8 @@ pub struct Case<'a> {
     /// How many lines a piece of a read has.
     pub piece: u32,
     pub is_side_by_side: bool,
+    /// Whether what is written is only shown.
+    pub is_shown: bool,
     pub steps: Vec<WorldStep>,
     pub sayings: Vec<Saying>,
     /// Each of these is put after each of the steps.
@@ -95,6 +97,7 @@ impl<'a> Case<'a> {
             connections: 2,
             piece: 256,
             is_side_by_side: false,
+            is_shown: false,
             steps: Vec::new(alloc),
             sayings: Vec::new(alloc),
             insertions: Vec::new(alloc),
@@ -106,6 +109,10 @@ impl<'a> Case<'a> {
     fn set(&mut self, line: &str) -> bool {
         if line == "side by side" {
             self.is_side_by_side = true;
+            return true;
+        }
+        if line == "shown" {
+            self.is_shown = true;
             return true;
         }
         let Some((number, what)) = line.split_once(' ') else {

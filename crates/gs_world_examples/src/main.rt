@@ -6,6 +6,7 @@ mod cases;
 mod findings;
 mod plays;
 mod rounds;
+mod shows;
 mod trials;
 mod worlds;
 

@@ -3,6 +3,7 @@ use crate::cases::Case;
 use crate::findings::Finding;
 use crate::plays::{Ending, Insertion, Place, play_with};
 use crate::rounds::{Manner, Order, Talks, connection_of};
+use crate::shows::show_case;
 use gs_world::WorldStep;
 use std::alloc::AllocError;
 use std::io::{self, Write};
@@ -221,6 +222,9 @@ fn report_way<W: Write>(case: &Case<'_>, way: Way, out: &mut W) -> io::Result<()
 pub fn try_case<W: Write>(case: &Case<'_>, out: &mut W) -> io::Result<()> {
     if let Some(line) = case.bad_line {
         return writeln!(out, "{}: no line of a case: {line}", case.name);
+    }
+    if case.is_shown {
+        return show_case(case, out);
     }
     let result = if case.is_side_by_side {
         check_side_by_side(case)

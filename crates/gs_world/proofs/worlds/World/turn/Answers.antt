@@ -1,6 +1,6 @@
 use Rattle.std.proofs.Common.{refl}
 use Rattle.gs_world.specs.Walks.{MovesOn, HasText}
-use Rattle.gs_world.proofs.MoveLemmas.{stops_leaves}
+use Rattle.gs_world.proofs.LeaveLemmas.{stops_leaves}
 use Rattle.gs_world.proofs.CallLemmas.{changes_there, changes_absent, gives_up}
 use Rattle.gs_world.proofs.worlds.World.turn.Goals as goal
 
