@@ -1,0 +1,8 @@
+//! Keys of trees as triples: their order by the texts of their terms, and the graph of a root.
+#![tactic(auto)]
+
+mod laws;
+mod texts;
+
+pub use laws::graph_outlasts_new_terms;
+pub use texts::ByText;

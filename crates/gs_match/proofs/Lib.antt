@@ -1,0 +1,5 @@
+pub mod RangeLemmas
+pub mod WalkLemmas
+pub mod NumberLemmas
+pub mod FoundLemmas
+pub mod SearchLemmas

@@ -1,0 +1,120 @@
+-- The search for instances by number: what is bound, and which keys are found from there. No public clause cites this
+-- module.
+use Rattle.std.specs.Prelude.{◌≡◌, ◌==◌, if◌then◌else◌, ℕ, Bool, true, false, List, [], ◌∷◌, ◌++◌, Option, Some, None, Result, Ok, Err}
+use Rattle.std.specs.List.{fold, flat_map}
+use Rattle.std.specs.Option.{option_and_then}
+use Rattle.std.specs.Str.{bytes_eq}
+use Rattle.gs_model.specs.Terms.{Term}
+use Rattle.gs_pool.specs.declared.nodes.Key.{Key}
+use Rattle.gs_tree.specs.Keys.{merge_keys}
+use Rattle.gs_tree.specs.Reading.{keys_at}
+use Rattle.gs_tree.specs.Sets.{IsSetAt}
+use Rattle.gs_keys.specs.Texts.{key_cmp}
+use Rattle.gs_match.specs.declared.sought.Item.{Item}
+use Rattle.gs_match.specs.declared.sought.Item.TheVariants.{Number, Variable}
+use Rattle.gs_match.specs.declared.sought.Sought.{Sought}
+use Rattle.gs_match.specs.declared.bindings.Bound.{Bound}
+use Rattle.gs_match.specs.declared.found.Found.{Found}
+use Rattle.gs_match.specs.declared.ranges.Keys.{Keys}
+
+-- some variables, each with its number
+abbrev pub Numbers : Type 0
+Numbers = List (List ℕ × ℕ)
+
+-- what is bound, the last first
+abbrev pub numbers_of : List Bound → Numbers
+numbers_of bs = fold (λ known b. (b.name.now, b.number) ∷ known) [] bs
+
+-- the number that a variable is bound to
+abbrev pub number_for : Numbers → List ℕ → Option ℕ
+number_for [] x = None
+number_for (e ∷ b) x = if bytes_eq e.0 x then Some e.1 else number_for b x
+
+-- with a variable bound to a number, which is the one that it was bound to
+abbrev pub with_number : Numbers → List ℕ → ℕ → Option ℕ → Option Numbers
+with_number b x n None = Some ((x, n) ∷ b)
+with_number b x n (Some m) = if m == n then Some b else None
+
+-- with an item that stands for this number
+abbrev pub bind_number : Numbers → Item → ℕ → Option Numbers
+bind_number b (Number m) n = if m == n then Some b else None
+bind_number b (Variable x) n = with_number b x.now n (number_for b x.now)
+
+-- with a pattern whose instance is this key
+abbrev pub bind_key : Numbers → Sought → Key → Option Numbers
+bind_key b s k = option_and_then (λ c. option_and_then (λ d. bind_number d s.object k.object) (bind_number c s.predicate k.predicate)) (bind_number b s.subject k.subject)
+
+-- a number that no term has
+abbrev pub no_number : ℕ
+no_number = 4_294_967_295
+
+-- the number that is there, and else the one that no term has
+abbrev pub or_none : Option ℕ → ℕ
+or_none None = no_number
+or_none (Some n) = n
+
+-- the number that an item stands for, where it is known
+abbrev pub known_number : Numbers → Item → ℕ
+known_number b (Number m) = m
+known_number b (Variable x) = or_none (number_for b x.now)
+
+-- what is found under these bindings, where there are any
+abbrev pub keys_if : (Numbers → List Key) → Option Numbers → List Key
+keys_if again None = []
+keys_if again (Some b) = again b
+
+-- the keys that are found for the patterns that are left, from these bindings and the keys chosen for the patterns before
+abbrev pub found_keys : List Key → List Sought → Numbers → List Key → List Key
+found_keys ks [] b chosen = chosen
+found_keys ks (s ∷ ss) b chosen = flat_map (λ k. keys_if (λ c. found_keys ks ss c (chosen ++ k ∷ [])) (bind_key b s k)) ks
+
+-- what is found where this key is chosen for the first pattern
+abbrev pub found_at : List Key → Sought → List Sought → Numbers → List Key → Key → List Key
+found_at ks s ss b chosen k = keys_if (λ c. found_keys ks ss c (chosen ++ k ∷ [])) (bind_key b s k)
+
+-- more are bound, after those that were
+pub record BindsMore (old new : List Bound) : Type 0 where
+  pub more : List Bound
+  pub parts : new ≡ old ++ more
+
+-- what is bound with this, where that may be
+abbrev pub BindsTo : Option Numbers → List Bound → Bool → Type 0
+BindsTo o new true = o ≡ Some (numbers_of new)
+BindsTo o new false = o ≡ None
+
+-- whether it may stand under bindings that grow, and what is bound then
+abbrev pub Extends : {E : Type 0} → Option Numbers → List Bound → List Bound → Result Bool E → Type 0
+Extends o old new (Err e) = Unit {0}
+Extends o old new (Ok stands) = BindsMore old new × BindsTo o new stands
+
+-- whether an item stands for a number
+abbrev pub Binds : {E : Type 0} → List Bound → List Bound → Item → ℕ → Result Bool E → Type 0
+Binds old new i n r = Extends (bind_number (numbers_of old) i n) old new r
+
+-- whether a key is the instance of a pattern
+abbrev pub BindsKey : {E : Type 0} → List Bound → List Bound → Sought → Key → Result Bool E → Type 0
+BindsKey old new s k r = Extends (bind_key (numbers_of old) s k) old new r
+
+-- whether a key is the instance of a pattern, and what is bound then: as much as before where it is not
+abbrev pub Chooses : List Bound → List Bound → Sought → Key → Bool → Type 0
+Chooses old new s k true = BindsMore old new × (bind_key (numbers_of old) s k ≡ Some (numbers_of new))
+Chooses old new s k false = (new ≡ old) × (bind_key (numbers_of old) s k ≡ None)
+
+-- the keys that were found, in the order of their texts
+abbrev pub found_in : Found → List Key
+found_in f = keys_at f.pool f.root
+
+-- they are a set in the order of their texts
+abbrev pub IsFound : List Term → Found → Type 0
+IsFound terms f = IsSetAt (key_cmp terms) f.pool f.root
+
+-- some keys more are found
+pub record Gains (terms : List Term) (old new : Found) (more : List Key) : Type 0 where
+  pub set : IsFound terms new
+  pub keys_are : found_in new ≡ merge_keys (key_cmp terms) more (found_in old)
+
+-- what was to be found is found, and all else is as it was
+pub record Finds (keys : Keys) (ss : List Sought) (bound bound_after : List Bound) (chosen chosen_after : List Key) (old new : Found) : Type 0 where
+  pub bound_is : bound_after ≡ bound
+  pub chosen_is : chosen_after ≡ chosen
+  pub gains : Gains keys.order.dict.now.terms old new (found_keys (keys_at keys.pool.now keys.root) ss (numbers_of bound) chosen)

@@ -1,0 +1,60 @@
+//! The set of the keys that are found.
+ghost use Rattle.std.specs.Prelude.{◌≡◌, [], ◌∷◌, None, OnOk, IfOk};
+ghost use Rattle.gs_keys.specs.Texts.{key_cmp};
+ghost use Rattle.gs_match.specs.Numbers.{IsFound, found_in, Gains};
+
+use gs_keys::ByText;
+use gs_pool::{Key, Pool};
+use gs_tree::{count, insert, next_keys};
+use std::alloc::{AllocError, Global};
+
+/// Keys, each once, as a tree over a pool of its own.
+#[derive(Drop)]
+pub struct Found {
+    pub pool: Pool,
+    pub root: Option<u32>,
+}
+
+impl Found {
+    /// None yet.
+    pub fn new(alloc: Global) -> Found
+        ensures { result.root ≡ None }
+    {
+        Found {
+            pool: Pool::new(alloc, u32::MAX),
+            root: None,
+        }
+    }
+
+    /// Adds a key.
+    fn add(&mut self, order: &ByText, key: Key) -> Result<(), AllocError>
+        requires { IsFound order.now.dict.now.terms self.old }
+        ensures { OnOk result (Gains order.now.dict.now.terms self.old self.new (key ∷ [])) }
+    {
+        let merged = insert(&mut self.pool, order, self.root, key, 0, 0)?;
+        self.root = merged.root;
+        Ok(())
+    }
+
+    /// Adds some keys.
+    pub fn add_all(&mut self, order: &ByText, keys: &[Key]) -> Result<(), AllocError>
+        requires { IsFound order.now.dict.now.terms self.old }
+        ensures { OnOk result (Gains order.now.dict.now.terms self.old self.new keys.now) }
+    {
+        for key in keys {
+            self.add(order, *key)?;
+        }
+        Ok(())
+    }
+
+    /// The keys, in order.
+    pub fn list(&self, alloc: Global, order: &ByText) -> Result<Vec<Key>, AllocError>
+        requires { IsFound order.now.dict.now.terms self.now }
+        ensures { IfOk result (λ list. list.items ≡ found_in self.now) }
+    {
+        let mut list = Vec::new(alloc);
+        let many = count(&self.pool, self.root);
+        next_keys(&self.pool, order, self.root, None, many, &mut list)?;
+        Ok(list)
+    }
+}

@@ -1,0 +1,14 @@
+//! Tests of gs_match: what is left of a graph without the instances of patterns.
+#![tactic(auto)]
+
+#[cfg(test)]
+mod drawn;
+#[cfg(test)]
+mod draws;
+mod notation;
+#[cfg(test)]
+mod rows;
+mod trees;
+
+pub use notation::{patterns, triples};
+pub use trees::left_by;

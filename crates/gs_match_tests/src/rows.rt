@@ -1,0 +1,82 @@
+//! Graphs, patterns, and what is left of each graph, worked by hand from SPARQL 1.1 Query, section
+//! 18.3, and Update, section 3.1.3.3.
+use crate::notation::{patterns, triples};
+use crate::trees::left_by;
+use gs_model::Refusal;
+use gs_ntwrite::line;
+use std::alloc::Global;
+use std::test::Fail;
+
+/// A row has a name, the triples of a graph, patterns, and the triples that are left.
+const ROWS: &str = r#"
+an instance of one pattern alone stays | 1 p 2, 2 q z, 3 p 4, 5 q y | ?s p ?o, ?o q ?z | 3 p 4, 5 q y
+an empty graph | | ?s ?p ?o | 
+no pattern | a p b | | a p b
+every triple | a p b, _1 q "1 | ?s ?p ?o | 
+a pattern without a variable | a p b, a p c | a p b | a p c
+a pattern without a variable that is not there | a p b, b p a | a p a, ?s p b | a p b, b p a
+a term that no triple has | a p b | ?s p c | a p b
+a verb that no triple has, after a pattern that has instances | a p b, b p c | ?x p ?y, ?y r ?z | a p b, b p c
+a range by its subject | a p b, a q c, b p c, c p d | b ?p ?o | a p b, a q c, c p d
+a range by its subject and predicate | a p b, a q b, a q c, a r b, b q b | a q ?o | a p b, a r b, b q b
+a range at the front of the graph | a p b, a p c, b p c | a p ?o | b p c
+a range at the end of the graph | a p b, b p c, b p d | b p ?o | a p b
+a range by a variable that is bound | a p b, a p c, b q d, b q e, c r d | a p ?x, ?x q ?y | a p c, c r d
+a range of one key by variables that are bound | a p b, b p a, b p c | ?x p ?y, ?y p ?x | b p c
+a subject that goes on is another | a p b, aa p b, ab p b | a ?p ?o | aa p b, ab p b
+a variable as subject and object | a p a, a p b, b p b | ?x p ?x | a p b
+a variable as subject and predicate | a p b, p p b | ?x ?x b | a p b
+a variable as predicate and object | a p b, a p p | a ?x ?x | a p b
+a variable at all three places | p p a, p p p | ?x ?x ?x | p p a
+a variable of two patterns is bound once | a p b, c q d | ?x p b, ?x q d | a p b, c q d
+blank nodes are matched | a p b, _1 p b, _1 q _2, _2 q b | ?x p b, ?x q ?y | a p b, _2 q b
+a blank node is one term | _1 p _1, _1 p _2 | ?x p ?x | _1 p _2
+a literal is no IRI of its characters | a p "b, a p b | a p "b | a p b
+an instance of two solutions comes once | a p b, b q c, b q d, c p d | ?x p ?y, ?y q ?z | c p d
+an instance of two patterns comes once | a p b, c q d | ?x p ?y, ?z p ?w | c q d
+patterns that share no variable | a p b, c q d, g r h | ?x p ?y, ?z q ?w | g r h
+a chain of four | a p b, b p c, c p d, d p e, x p y | ?a p ?b, ?b p ?c, ?c p ?d, ?d p ?e | x p y
+a chain of four, from its end | a p b, b p c, c p d, d p e, x p y | ?d p ?e, ?c p ?d, ?b p ?c, ?a p ?b | x p y
+a chain that is too short | a p b, b p c, c p d | ?a p ?b, ?b p ?c, ?c p ?d, ?d p ?e | a p b, b p c, c p d
+a star of four | a p b, a q b, a r c, a s d, d p b, d q b, d r c | ?x p ?a, ?x q ?b, ?x r ?c, ?x s ?d | d p b, d q b, d r c
+"#;
+
+/// The lines of triples.
+fn lines(alloc: Global, text: &str) -> Result<Vec<u8>, Refusal> {
+    let mut bytes = Vec::new(alloc);
+    for triple in &triples(alloc, text)? {
+        line(triple, &mut bytes)?;
+    }
+    Ok(bytes)
+}
+
+/// Whether a row is right.
+fn is_so(alloc: Global, row: &str) -> Result<bool, Refusal> {
+    let mut columns = row.split('|');
+    let _name = columns.next();
+    let graph = triples(alloc, columns.next().unwrap_or_default())?;
+    let removed = patterns(alloc, columns.next().unwrap_or_default())?;
+    let wanted = lines(alloc, columns.next().unwrap_or_default())?;
+    let left = left_by(alloc, graph.as_slice(), removed.as_slice())?;
+    Ok(left.as_slice() == wanted.as_slice())
+}
+
+/// The first row that is wrong, and else how many there are.
+fn count_right(alloc: Global) -> Result<Result<usize, &'static str>, Refusal> {
+    let mut right = 0usize;
+    for row in ROWS.lines() {
+        if row.contains('|') {
+            if !is_so(alloc, row)? {
+                return Ok(Err(row));
+            }
+            right = right.saturating_add(1);
+        }
+    }
+    Ok(Ok(right))
+}
+
+#[test]
+fn the_instances_under_all_solutions_go(rt: HostRuntime) -> Result<(), Fail> {
+    assert_eq!(rt; count_right(rt.alloc())?, Ok(30));
+    Ok(())
+}

@@ -1,0 +1,113 @@
+//! A graph as a tree of keys, and what is left of it without the instances of patterns.
+ghost use Rattle.std.specs.Prelude.{◌≡◌, true, OnOk};
+ghost use Rattle.std.specs.Bool.{Decides};
+ghost use Rattle.gs_tree.specs.Keys.{AllKeys};
+ghost use Rattle.gs_keys.specs.Texts.{IsGiven};
+
+use gs_dict::{Dict, TermId};
+use gs_keys::ByText;
+use gs_match::solve;
+use gs_model::Refusal;
+use gs_ntwrite::line;
+use gs_pool::{Key, Pool};
+use gs_term::{Pattern, Triple};
+use gs_tree::{is_rising, union};
+use std::alloc::Global;
+
+/// Whether the dictionary has each number of a key.
+fn is_given(dict: &Dict, key: Key) -> bool
+    ensures { Decides result (IsGiven dict.now.terms key) }
+{
+    let subject = dict.has(TermId {
+        number: key.subject,
+    });
+    let predicate = dict.has(TermId {
+        number: key.predicate,
+    });
+    let object = dict.has(TermId { number: key.object });
+    subject && predicate && object
+}
+
+/// Whether it has each number of some keys.
+fn are_given(dict: &Dict, keys: &[Key]) -> bool
+    ensures { result ≡ true → AllKeys (IsGiven dict.now.terms) keys.now }
+{
+    let Some((key, rest)) = keys.split_first() else {
+        return true;
+    };
+    is_given(dict, *key) && are_given(dict, rest)
+}
+
+/// The key of a triple, whose terms are given numbers.
+fn key_of(dict: &mut Dict, triple: &Triple) -> Result<Key, Refusal> {
+    let object = dict.intern(triple.object())?;
+    let predicate = dict.intern(triple.predicate())?;
+    let subject = dict.intern(triple.subject())?;
+    Ok(Key {
+        subject: subject.number,
+        predicate: predicate.number,
+        object: object.number,
+    })
+}
+
+/// The keys of triples.
+fn keys_of(alloc: Global, dict: &mut Dict, triples: &[Triple]) -> Result<Vec<Key>, Refusal> {
+    let mut keys = Vec::new(alloc);
+    for triple in triples {
+        keys.push(key_of(dict, triple)?)?;
+    }
+    Ok(keys)
+}
+
+/// The keys of the instances in the graph of these keys, which rise.
+fn instances(
+    alloc: Global,
+    dict: &Dict,
+    keys: &[Key],
+    patterns: &[Pattern],
+) -> Result<Vec<Key>, Refusal> {
+    let order = ByText::new(dict);
+    if !is_rising(&order, keys) || !are_given(dict, keys) {
+        return Err(Refusal::Syntax(0));
+    }
+    let mut pool = Pool::new(alloc, u32::MAX);
+    let merged = union(&mut pool, &order, None, keys, 0, 0)?;
+    solve(alloc, &pool, merged.root, dict, patterns)
+}
+
+/// Whether a list has this key next.
+fn is_next(found: &[Key], next: usize, key: Key) -> bool {
+    match found.get(next) {
+        None => false,
+        Some(other) => {
+            other.subject == key.subject
+                && other.predicate == key.predicate
+                && other.object == key.object
+        }
+    }
+}
+
+/// The lines of the triples that are no instances of the patterns, in a graph of rising triples.
+/// The instances must come in the graph's order, and each once.
+pub fn left_by(
+    alloc: Global,
+    triples: &[Triple],
+    patterns: &[Pattern],
+) -> Result<Vec<u8>, Refusal> {
+    let mut dict = Dict::new(alloc, 1, u32::MAX)?;
+    let keys = keys_of(alloc, &mut dict, triples)?;
+    let found = instances(alloc, &dict, keys.as_slice(), patterns)?;
+    let mut bytes = Vec::new(alloc);
+    let mut next = 0usize;
+    for (triple, key) in triples.iter().zip(keys.iter()) {
+        if is_next(found.as_slice(), next, *key) {
+            next = next.saturating_add(1);
+        } else {
+            line(triple, &mut bytes)?;
+        }
+    }
+    if next < found.len() {
+        return Err(Refusal::StoreFull);
+    }
+    Ok(bytes)
+}
