@@ -1,0 +1,7 @@
+-- Read in this order: limits, kinds as numbers, what tokens know of the stamps, what a pass shows, and what stands behind it.
+pub mod Limits
+pub mod Kinds
+pub mod Stamps
+pub mod Tallies
+pub mod Claims
+pub mod Backing

@@ -1,0 +1,63 @@
+-- What a pass shows, and what an answered action makes of it.
+use Rattle.std.specs.Prelude.{◌≡◌, ℕ, ◌+◌, List, [], ◌∷◌, ◌++◌, length, min, nat_lt, MatchBool, Option, Some, None}
+use Rattle.gs_chronicle.specs.declared.kinds.ActionKind.{ActionKind}
+use Rattle.gs_chronicle.specs.declared.kinds.ActionKind.TheVariants.{Commit as CommitKind, CommitPatch as PatchKind, Delete as DeleteKind, Head as HeadKind, Pin as PinKind}
+use Rattle.gs_chronicle.specs.Sizes.{ops_size}
+use Rattle.gs_event.specs.declared.events.Action.{Action}
+use Rattle.gs_event.specs.declared.events.Action.TheVariants.{Stage, Commit, CommitPatch, Delete, Head, Pin}
+use Rattle.gs_event.specs.declared.answers.Answer.{Answer}
+use Rattle.gs_event.specs.declared.answers.Answer.TheVariants.{Staged, Status, Pinned}
+use Rattle.gs_pass.specs.declared.receipts.Receipt.{Receipt}
+use Rattle.gs_pass.specs.declared.records.Record.{Record}
+use Rattle.gs_pass.specs.Limits.{max_receipts, last_count}
+use Rattle.gs_pass.specs.Stamps.{receipt}
+
+-- what a pass shows: its receipts and both counts
+pub record Tally : Type 0 where
+  pub receipts : List Receipt
+  pub calls : ℕ
+  pub triples : ℕ
+
+-- the tally of what a pass was told
+abbrev pub tally_of : Record → Tally
+tally_of r = record { receipts = r.receipts.items; calls = r.calls; triples = r.triples }
+
+-- the tally of a pass that was told nothing
+abbrev pub IsFresh : Tally → Type 0
+IsFresh v = (v.receipts ≡ []) × (v.calls ≡ 0) × (v.triples ≡ 0)
+
+-- the kind and status of a deciding call that was not refused, from the action and its answer alone
+abbrev pub decides : Action → Answer → Option (ActionKind × ℕ)
+decides Commit (Status s name) = Some (CommitKind, s)
+decides (CommitPatch ops) (Status s name) = Some (PatchKind, s)
+decides (Delete t) (Status s name) = Some (DeleteKind, s)
+decides (Head t) (Status s name) = Some (HeadKind, s)
+decides (Pin t) (Pinned s) = Some (PinKind, s)
+decides action a = None
+
+-- how many triples an action brings that was answered so: those of a Stage, and triples and patterns of a CommitPatch
+abbrev pub brings : Action → Answer → ℕ
+brings (Stage ts) Staged = length ts.items
+brings (CommitPatch ops) (Status s name) = ops_size ops.items
+brings action a = 0
+
+-- a count goes up, and stops at its last value
+abbrev pub count_plus : ℕ → ℕ → ℕ
+count_plus n more = min (n + more) last_count
+
+-- one receipt more where there are fewer than a pass keeps, and else none
+abbrev pub AddsReceipt : List Receipt → Receipt → List Receipt → Type 0
+AddsReceipt rs r after = MatchBool (nat_lt (length rs) max_receipts) (after ≡ rs ++ r ∷ []) (after ≡ rs)
+
+-- a decided call is one call more, with its receipt
+abbrev pub Enters : Receipt → Tally → Tally → Type 0
+Enters r v w = AddsReceipt v.receipts r w.receipts × (w.calls ≡ count_plus v.calls 1) × (w.triples ≡ v.triples)
+
+-- one call more of this kind and status, entered at some number, where there was one
+abbrev pub CountsCall : Option (ActionKind × ℕ) → Tally → Tally → Type 0
+CountsCall None v w = (w.receipts ≡ v.receipts) × (w.calls ≡ v.calls)
+CountsCall (Some d) v w = (n : ℕ) × AddsReceipt v.receipts (receipt n d.0 d.1) w.receipts × (w.calls ≡ count_plus v.calls 1)
+
+-- what an answered action makes of a tally
+abbrev pub Told : Action → Answer → Tally → Tally → Type 0
+Told action a v w = CountsCall (decides action a) v w × (w.triples ≡ count_plus v.triples (brings action a))

@@ -1,0 +1,4 @@
+pub mod AskedLemmas
+pub mod DecisionLemmas
+pub mod CountLemmas
+pub mod EndLemmas

@@ -1,0 +1,8 @@
+-- Read in this order: how much a page holds, what an event makes of a tally, how passes are handed out, and what is known
+-- at the end. The others say what is kept under the lock.
+pub mod Limits
+pub mod Tells
+pub mod Seats
+pub mod Ends
+pub mod Asked
+pub mod Counts

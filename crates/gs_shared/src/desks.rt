@@ -1,0 +1,89 @@
+//! What lies under the lock.
+ghost use Rattle.std.specs.Prelude.{◌≡◌, ◌-◌, length, sum, false};
+ghost use Rattle.crossbeam_utils.specs.Seq.{cell_view};
+ghost use Rattle.gs_chronicle.specs.Views.{page_of};
+ghost use Rattle.gs_audit.specs.Audits.{staged_of};
+ghost use Rattle.gs_door.specs.Kinds.{IsOfKind};
+ghost use Rattle.gs_pass.specs.Tallies.{tally_of};
+ghost use Rattle.gs_shared.specs.Counts.{IsTied, IsCounted};
+ghost use Rattle.gs_shared.specs.Limits.{page_entries, page_triples};
+ghost use Rattle.gs_shared.specs.Seats.{IsFreshOf};
+ghost use Rattle.gs_shared.specs.Tells.{is_of_another, ToldBy};
+
+use crate::asked::Asked;
+use crate::limits::{PAGE_ENTRIES, PAGE_TRIPLES};
+use gs_audit::Audited;
+use gs_event::{Answer, Event};
+use gs_pass::{Pass, Receipt, Register, Room, Space, StampCell};
+use std::sync::Wait;
+use std::sync::ledger::{Ledger, Share};
+
+/// A store with its page, and the register that ties both to the passes.
+#[derive(Drop)]
+pub struct Desk<C: Ledger, T: Ledger, B: Room> {
+    pub(crate) audited: Audited<PAGE_ENTRIES, PAGE_TRIPLES>,
+    pub(crate) register: Register<C, T, B>,
+    ghost tied: { IsTied (page_of audited.chronicle) (cell_view register.keeper).all },
+    ghost counted: { IsCounted page_entries page_triples (page_of audited.chronicle) (sum (staged_of audited))
+        register.calls.total register.triples.total },
+}
+
+impl<C: Ledger, T: Ledger, B: Room> Desk<C, T, B> {
+    /// A pass for a seat, of a part of both ledgers.
+    pub(crate) fn issue(
+        &mut self,
+        cell: &StampCell,
+        seat: u16,
+        space: Space,
+        call_share: Share<C>,
+        triple_share: Share<T>,
+    ) -> Pass<C, T, B>
+        requires cell { cell.now.table.shared.table_id ≡ B.table }
+        requires calls { (call_share.parts ≡ 1) × (call_share.amount ≡ 0) }
+        requires triples { (triple_share.parts ≡ 1) × (triple_share.amount ≡ 0) }
+        ensures { IsFreshOf seat result.record }
+    {
+        self.register
+            .issue(cell, seat, space, call_share, triple_share)
+    }
+
+    /// Takes an event that is no action of another seat than the pass's, and tells the pass.
+    pub(crate) fn event<R: Wait>(
+        &mut self,
+        rt: &R,
+        cell: &StampCell,
+        pass: &mut Pass<C, T, B>,
+        event: Event,
+    ) -> Answer
+        requires own { is_of_another pass.old.record.seat event ≡ false }
+        requires cell { cell.now.table.shared.table_id ≡ B.table }
+        ensures told { ToldBy event result (tally_of pass.old.record) (tally_of pass.new.record) }
+        ensures kind { IsOfKind event result }
+        ensures seat { pass.new.record.seat ≡ pass.old.record.seat }
+    {
+        let asked = Asked::by(&event);
+        let answer = self.audited.event(event);
+        self.register.count(pass, asked.brought(&answer));
+        match asked.decided(&answer) {
+            None => answer,
+            Some((kind, status)) => {
+                let number = last_number(&self.audited);
+                let receipt = Receipt {
+                    number,
+                    kind,
+                    status,
+                };
+                self.register.enter(rt, cell, pass, receipt);
+                answer
+            }
+        }
+    }
+}
+
+/// The number of the last entry of the page, 0 where it has none.
+fn last_number(audited: &Audited<PAGE_ENTRIES, PAGE_TRIPLES>) -> u64
+    ensures { result ≡ length (page_of audited.now.chronicle).rows - 1 }
+{
+    let entries = audited.page().entries().len();
+    (entries as u64).saturating_sub(1)
+}

@@ -1,0 +1,55 @@
+//! A pass with its lock and a runtime, as a door.
+use crate::halls::Hall;
+use gs_door::Door;
+use gs_event::{Answer, Event};
+use gs_pass::{Pass, Room};
+use std::sync::Wait;
+use std::sync::ledger::Ledger;
+
+/// A door to a store that threads share: a lent runtime and a lent lock, with a pass.
+pub struct PassDoor<'a, C: Ledger, T: Ledger, B: Room, R: Wait> {
+    rt: &'a R,
+    hall: &'a Hall<C, T, B>,
+    pass: Pass<C, T, B>,
+}
+
+impl<'a, C: Ledger, T: Ledger, B: Room, R: Wait> PassDoor<'a, C, T, B, R> {
+    ghost use Rattle.std.specs.Prelude.{◌≡◌};
+
+    /// The door of this pass.
+    pub fn new(rt: &'a R, hall: &'a Hall<C, T, B>, pass: Pass<C, T, B>) -> PassDoor<'a, C, T, B, R>
+        ensures { result.pass ≡ pass }
+    {
+        PassDoor { rt, hall, pass }
+    }
+
+    /// The pass.
+    pub fn pass(&self) -> &Pass<C, T, B>
+        ensures { result.now ≡ self.now.pass }
+    {
+        &self.pass
+    }
+
+    /// Takes the pass out.
+    pub fn into_pass(self) -> Pass<C, T, B>
+        ensures { result ≡ self.entry.pass }
+    {
+        let PassDoor {
+            rt: _,
+            hall: _,
+            pass,
+        } = self;
+        pass
+    }
+}
+
+impl<'a, C: Ledger, T: Ledger, B: Room, R: Wait> Door for PassDoor<'a, C, T, B, R> {
+    ghost use Rattle.gs_door.specs.Kinds.{IsOfKind};
+    ghost use Rattle.gs_shared.specs.Tells.{Tells};
+
+    ghost Gives = { λ old e a new. IsOfKind e a × Tells e a old.pass.record new.pass.record };
+
+    fn event(&mut self, event: Event) -> Answer {
+        self.hall.event(self.rt, &mut self.pass, event)
+    }
+}

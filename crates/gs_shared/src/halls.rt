@@ -1,0 +1,44 @@
+//! The lock, which threads share.
+ghost use Rattle.std.specs.Prelude.{◌≡◌};
+ghost use Rattle.gs_door.specs.Kinds.{IsOfKind};
+ghost use Rattle.gs_shared.specs.Tells.{is_of_another as is_of_another_seat, Tells};
+
+use crate::desks::Desk;
+use gs_event::{Answer, Event};
+use gs_model::Refusal;
+use gs_pass::{Pass, Room, StampCell};
+use std::sync::ledger::Ledger;
+use std::sync::{Mutex, Wait};
+
+/// One Mutex over a store with its page, beside the cell of its passes. Threads share it by
+/// reference.
+#[derive(Drop)]
+pub struct Hall<C: Ledger, T: Ledger, B: Room> {
+    pub(crate) cell: StampCell,
+    pub(crate) lock: Mutex<Desk<C, T, B>>,
+    ghost table: { cell.table.shared.table_id ≡ B.table },
+}
+
+impl<C: Ledger, T: Ledger, B: Room> Hall<C, T, B> {
+    /// Takes one event, in one hold of the Mutex, and tells the pass. An action of another seat than
+    /// the pass's is refused.
+    pub fn event<R: Wait>(&self, rt: &R, pass: &mut Pass<C, T, B>, event: Event) -> Answer
+        ensures told { Tells event result pass.old.record pass.new.record }
+        ensures kind { IsOfKind event result }
+    {
+        if is_of_another(&event, pass.seat()) {
+            return Answer::Refused(Refusal::BadSeat);
+        }
+        self.lock.lock(rt).event(rt, &self.cell, pass, event)
+    }
+}
+
+/// Whether the event is an action of another seat than this one.
+fn is_of_another(event: &Event, seat: u16) -> bool
+    ensures { result ≡ is_of_another_seat seat event.now }
+{
+    match event {
+        Event::Seat(other, _) => *other != seat,
+        Event::Reclaim(_) => false,
+    }
+}

@@ -1,0 +1,238 @@
+//! The lock, with what its passes are made of.
+ghost use Rattle.std.specs.Prelude.{◌≡◌, ◌↔◌, ◌+◌, ◌<◌, ◌≤◌, [], length, map, true, vec_capacity, IfOk, IfErr, OnOk, OnErr, Err};
+ghost use Rattle.crossbeam_utils.specs.Seq.{cell_view};
+ghost use Rattle.gs_model.specs.Bases.{is_base};
+ghost use Rattle.gs_model.specs.Limits.{max_seats};
+ghost use Rattle.gs_model.specs.declared.refusals.Refusal.TheVariants.{BadSeat as IsBadSeat};
+ghost use Rattle.gs_chronicle.specs.Views.{page_of};
+ghost use Rattle.gs_door.specs.Kinds.{IsOfKind};
+ghost use Rattle.gs_pass.specs.Stamps.{keeper as keeper_of};
+ghost use Rattle.gs_shared.specs.Seats.{From, IsFreshOf};
+ghost use Rattle.gs_shared.specs.Tells.{Tells};
+ghost use Rattle.gs_shared.specs.Ends.{FitOnePage, HasAllCalls, AllStand};
+
+use crate::desks::Desk;
+use crate::endings::Ended;
+use crate::halls::Hall;
+use gs_audit::Audited;
+use gs_event::{Answer, Event};
+use gs_model::Refusal;
+use gs_pass::{Pass, Record, Register, Room, Side, Space, StampCell, Token, Whole};
+use std::alloc::{AllocError, Global};
+use std::sync::ledger::{Blank, Share};
+use std::sync::{Mutex, Wait};
+
+/// One Mutex over a store with its page, and the parts of both ledgers that no pass has yet. A room
+/// names its cell, and two sides its ledgers of calls and of triples.
+#[derive(Drop)]
+pub struct Shared<C: Side, T: Side, B: Room> {
+    hall: Hall<C, T, B>,
+    seats: u16,
+    handed: u16,
+    call_rest: Share<C>,
+    triple_rest: Share<T>,
+    whole_calls: Whole<C>,
+    whole_triples: Whole<T>,
+    alloc: Global,
+    records: Vec<Record>,
+    ghost within: { handed ≤ seats },
+    ghost call_parts: { call_rest.parts + handed ≡ C.all },
+    ghost triple_parts: { triple_rest.parts + handed ≡ T.all },
+    ghost calls_left: { seats < C.all },
+    ghost triples_left: { seats < T.all },
+    ghost no_calls: { call_rest.amount ≡ 0 },
+    ghost no_triples: { triple_rest.amount ≡ 0 },
+    ghost empty: { records.items ≡ [] },
+    ghost reserved: { seats ≤ vec_capacity records },
+}
+
+impl<C: Side, T: Side, B: Room> Shared<C, T, B> {
+    /// A new store with this base, for so many seats, 1 to 512, of which no pass is handed out yet.
+    /// `gs_core::is_base` tests a base. The cell is one of `stamp_cell`, with its token, and each
+    /// blank has more parts than there are seats.
+    ///
+    /// # Errors
+    ///
+    /// `NoMemory`.
+    pub fn new(
+        alloc: Global,
+        seats: u16,
+        base: &str,
+        cell: StampCell,
+        keeper: Token,
+        calls: Blank,
+        triples: Blank,
+    ) -> Result<Shared<C, T, B>, Refusal>
+        requires some { 1 ≤ seats }
+        requires few { seats ≤ max_seats }
+        requires base { is_base base.now ≡ true }
+        requires cell { (cell.table.shared.table_id ≡ B.table)
+            × (keeper.table_id ≡ B.table)
+            × (cell_view keeper ≡ keeper_of [] []) }
+        requires calls { (calls.name ≡ C.name)
+            × (calls.parts ≡ C.parts)
+            × (C.all ≡ C.parts)
+            × (seats < C.all) }
+        requires triples { (triples.name ≡ T.name)
+            × (triples.parts ≡ T.parts)
+            × (T.all ≡ T.parts)
+            × (seats < T.all) }
+        ensures fresh { IfOk result (λ s. (s.seats ≡ seats) × (s.handed ≡ 0)) }
+        ensures refused { IfErr result (λ refusal. refusal ≡ Refusal.NoMemory) }
+    {
+        let audited = Audited::new(alloc, seats, base)?;
+        let Ok(records) = Vec::with_capacity(alloc, usize::from(seats)) else {
+            return Err(Refusal::NoMemory);
+        };
+        let (register, call_rest, triple_rest) = Register::new(keeper, calls, triples);
+        let desk = Desk { audited, register };
+        let hall = Hall {
+            cell,
+            lock: Mutex::new(desk),
+        };
+        Ok(Shared {
+            hall,
+            seats,
+            handed: 0,
+            call_rest,
+            triple_rest,
+            whole_calls: Whole::new(),
+            whole_triples: Whole::new(),
+            alloc,
+            records,
+        })
+    }
+
+    /// The lock, which threads share.
+    pub fn hall(&self) -> &Hall<C, T, B>
+        ensures { result.now ≡ self.now.hall }
+    {
+        &self.hall
+    }
+
+    /// Takes one event, as `Hall::event` does.
+    pub fn event<R: Wait>(&self, rt: &R, pass: &mut Pass<C, T, B>, event: Event) -> Answer
+        ensures told { Tells event result pass.old.record pass.new.record }
+        ensures kind { IsOfKind event result }
+    {
+        self.hall.event(rt, pass, event)
+    }
+
+    /// A pass for each of the next `n` seats. Room for all their receipts is made before any is handed
+    /// out, so a refusal changes nothing.
+    ///
+    /// # Errors
+    ///
+    /// `BadSeat` where fewer seats are left, and `NoMemory`.
+    pub fn passes(&mut self, n: u16) -> Result<Vec<Pass<C, T, B>>, Refusal>
+        ensures bad_seat { (result ≡ Err IsBadSeat) ↔ (self.old.seats < self.old.handed + n) }
+        ensures refused { IfErr result (λ refusal.
+            self.old.handed + n ≤ self.old.seats → refusal ≡ Refusal.NoMemory) }
+        ensures passes { IfOk result (λ v.
+            (length v.items ≡ n) × From (λ seat p. IsFreshOf seat p.record) self.old.handed v.items) }
+        ensures handed { OnOk result
+            ((self.new.handed ≡ self.old.handed + n) × (self.new.seats ≡ self.old.seats)) }
+        ensures kept { OnErr result (self.new ≡ self.old) }
+    {
+        if n > self.seats - self.handed {
+            return Err(Refusal::BadSeat);
+        }
+        let Ok((spaces, passes)) = rooms(self.alloc, n) else {
+            return Err(Refusal::NoMemory);
+        };
+        Ok(self.handed_out(spaces, passes))
+    }
+
+    /// A pass in each of these spaces, for the next seats.
+    fn handed_out(&mut self, spaces: Vec<Space>, passes: Vec<Pass<C, T, B>>) -> Vec<Pass<C, T, B>>
+        requires left { self.old.handed + length spaces.items ≤ self.old.seats }
+        requires room { (passes.items ≡ []) × (length spaces.items ≤ vec_capacity passes) }
+        ensures passes { (length result.items ≡ length spaces.items)
+            × From (λ seat p. IsFreshOf seat p.record) self.old.handed result.items }
+        ensures handed { (self.new.handed ≡ self.old.handed + length spaces.items)
+            × (self.new.seats ≡ self.old.seats) }
+    {
+        let mut spaces = spaces;
+        let mut passes = passes;
+        let n = spaces.len();
+        for _ in 0..n {
+            let Some(space) = spaces.pop() else {
+                unreachable!()
+            };
+            let pass = self.next(space);
+            passes.push_reserved(pass);
+        }
+        passes
+    }
+
+    /// The pass of the next seat.
+    fn next(&mut self, space: Space) -> Pass<C, T, B>
+        requires { self.old.handed < self.old.seats }
+        ensures fresh { IsFreshOf self.old.handed result.record }
+        ensures handed { (self.new.handed ≡ self.old.handed + 1) × (self.new.seats ≡ self.old.seats) }
+    {
+        let seat = self.handed;
+        let call_share = self.call_rest.split_off(1, 0);
+        let triple_share = self.triple_rest.split_off(1, 0);
+        let pass = self
+            .hall
+            .lock
+            .get_mut()
+            .issue(&self.hall.cell, seat, space, call_share, triple_share);
+        self.handed += 1;
+        pass
+    }
+
+    /// The value that was locked, and what the passes were told, once all that were handed out are
+    /// back.
+    pub fn end<R: Wait>(self, rt: &R, passes: Vec<Pass<C, T, B>>) -> Ended
+        requires back { length passes.items ≡ self.handed }
+        ensures records { result.passes.items ≡ map (λ p. p.record) passes.items }
+        ensures turned { FitOnePage result.passes.items → (page_of result.audited.chronicle).number ≡ 0 }
+        ensures many { HasAllCalls (page_of result.audited.chronicle) result.passes.items }
+        ensures stand { AllStand (page_of result.audited.chronicle) result.passes.items }
+    {
+        let Shared {
+            hall,
+            seats: _,
+            handed: _,
+            mut call_rest,
+            mut triple_rest,
+            whole_calls: _,
+            whole_triples: _,
+            alloc: _,
+            mut records,
+        } = self;
+        let Hall { cell, lock } = hall;
+        let Desk {
+            audited,
+            mut register,
+        } = lock.into_inner();
+        register.close_all(
+            rt,
+            &cell,
+            &mut call_rest,
+            &mut triple_rest,
+            passes,
+            &mut records,
+        );
+        register.audit(&mut call_rest, &mut triple_rest);
+        Ended {
+            audited,
+            passes: records,
+        }
+    }
+}
+
+/// Room for so many passes, and for the receipts of each.
+fn rooms<P: Drop>(alloc: Global, n: u16) -> Result<(Vec<Space>, Vec<P>), AllocError>
+    ensures { IfOk result (λ r. (length r.0.items ≡ n) × (r.1.items ≡ []) × (n ≤ vec_capacity r.1)) }
+{
+    let passes = Vec::with_capacity(alloc, usize::from(n))?;
+    let mut spaces = Vec::with_capacity(alloc, usize::from(n))?;
+    for _ in 0..n {
+        let space = Space::new(alloc)?;
+        spaces.push_reserved(space);
+    }
+    Ok((spaces, passes))
+}

@@ -1,0 +1,7 @@
+//! Tests of threads that share a store.
+#![tactic(auto)]
+
+#[cfg(test)]
+mod heads;
+#[cfg(test)]
+mod lines;
