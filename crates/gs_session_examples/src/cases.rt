@@ -25,6 +25,10 @@ pub enum Numbers {
 #[derive(Drop)]
 pub struct Case<'a> {
     pub name: &'a str,
+    /// Whether a line gave the name.
+    is_named: bool,
+    /// The first line that says nothing.
+    pub bad_line: Option<&'a str>,
     pub numbers: Numbers,
     pub input: Vec<u8>,
     pub output: Vec<u8>,
@@ -42,7 +46,9 @@ impl<'a> Case<'a> {
     /// A conversation without a line.
     pub fn new(alloc: Global) -> Case<'a> {
         Case {
-            name: "",
+            name: "a conversation without a name",
+            is_named: false,
+            bad_line: None,
             numbers: Numbers::All,
             input: Vec::new(alloc),
             output: Vec::new(alloc),
@@ -61,8 +67,9 @@ impl<'a> Case<'a> {
         }
     }
 
-    /// The client sends this. It has waited for what was said before.
-    fn send(&mut self, line: &str) -> Result<(), AllocError> {
+    /// The client sends this, after the sign `>`; whether it is bytes. It has waited for what was said
+    /// before.
+    fn send(&mut self, line: &str) -> Result<bool, AllocError> {
         if self.is_said {
             let end = self.end();
             self.exchanges.push(end)?;
@@ -71,27 +78,71 @@ impl<'a> Case<'a> {
         push_bytes(&mut self.input, line)
     }
 
-    /// The next line of the input, without its line feed.
-    pub fn take(&mut self, line: &'a str) -> Result<(), AllocError> {
+    /// The client is said this, after the sign `<`; whether it is bytes.
+    fn say(&mut self, line: &str) -> Result<bool, AllocError> {
+        self.is_said = true;
+        if line.starts_with(" HTTP/1.1 ") {
+            self.replies = self.replies.saturating_add(1);
+        }
+        self.closes = self.closes || line == " Connection: close";
+        push_bytes(&mut self.output, line)
+    }
+
+    /// Takes the name; whether it is the first.
+    fn call(&mut self, name: &'a str) -> bool {
+        if self.is_named {
+            return false;
+        }
+        self.is_named = true;
+        self.name = name;
+        true
+    }
+
+    /// Takes which numbers the store has left; whether the line says such a thing.
+    fn set(&mut self, line: &str) -> bool {
+        if line == "! no request number is left" {
+            self.numbers = Numbers::NoRequest;
+            return true;
+        }
+        if line == "! no commit number is left" {
+            self.numbers = Numbers::NoCommit;
+            return true;
+        }
+        false
+    }
+
+    /// Takes a line that should say something; whether it does, which it can only after the name.
+    fn read(&mut self, line: &'a str) -> Result<bool, AllocError> {
+        if let Some(name) = line.strip_prefix("= ") {
+            return Ok(self.call(name));
+        }
+        if !self.is_named {
+            return Ok(false);
+        }
         if let Some(sent) = line.strip_prefix(">") {
             return self.send(sent);
         }
-        if let Some(said) = line.strip_prefix("<") {
-            self.is_said = true;
-            if said.starts_with(" HTTP/1.1 ") {
-                self.replies = self.replies.saturating_add(1);
-            }
-            self.closes = self.closes || said == " Connection: close";
-            return push_bytes(&mut self.output, said);
+        match line.strip_prefix("<") {
+            Some(said) => self.say(said),
+            None => Ok(self.set(line)),
         }
-        if let Some(name) = line.strip_prefix("= ") {
-            self.name = name;
-        } else if line == "! no request number is left" {
-            self.numbers = Numbers::NoRequest;
-        } else if line == "! no commit number is left" {
-            self.numbers = Numbers::NoCommit;
+    }
+
+    /// The next line of the input, without its line feed.
+    pub fn take(&mut self, line: &'a str) -> Result<(), AllocError> {
+        if line.starts_with('#') {
+            return Ok(());
+        }
+        let is_good = self.read(line)?;
+        if !is_good && self.bad_line.is_none() {
+            self.bad_line = Some(line);
         }
         Ok(())
+    }
+
+    /// Whether a line was taken that says something, or should.
+    pub fn is_begun(&self) -> bool {
+        self.is_named || self.bad_line.is_some()
     }
 
     /// The exchange with this number, or the end where there is none.

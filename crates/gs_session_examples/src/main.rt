@@ -17,7 +17,21 @@ use crate::trials::try_case;
 use std::alloc::Global;
 use std::io::{self, Read, Write};
 
-/// Tries each conversation of the input.
+/// Tries a conversation if it has a line; how many were tried.
+fn try_begun<W: Write>(
+    alloc: Global,
+    probe: &Probe,
+    case: &Case<'_>,
+    out: &mut W,
+) -> io::Result<u64> {
+    if !case.is_begun() {
+        return Ok(0);
+    }
+    try_case(alloc, probe, case, out)?;
+    Ok(1)
+}
+
+/// Tries each conversation of the input. The last one ends where the input ends.
 fn try_all<W: Write>(alloc: Global, input: &str, out: &mut W) -> io::Result<()> {
     let Ok(probe) = Probe::new(alloc) else {
         return writeln!(out, "no memory");
@@ -29,13 +43,10 @@ fn try_all<W: Write>(alloc: Global, input: &str, out: &mut W) -> io::Result<()> 
             case.take(line)?;
             continue;
         }
-        if case.name.is_empty() {
-            continue;
-        }
-        try_case(alloc, &probe, &case, out)?;
-        cases = cases.saturating_add(1);
+        cases = cases.saturating_add(try_begun(alloc, &probe, &case, out)?);
         case = Case::new(alloc);
     }
+    cases = cases.saturating_add(try_begun(alloc, &probe, &case, out)?);
     writeln!(out, "{cases} conversations")
 }
 

@@ -148,6 +148,9 @@ pub fn try_case<W: Write>(
     case: &Case<'_>,
     out: &mut W,
 ) -> io::Result<()> {
+    if let Some(line) = case.bad_line {
+        return writeln!(out, "{}: no line of a conversation: {line}", case.name);
+    }
     match check_case(alloc, probe, case) {
         Ok(()) => Ok(()),
         Err(Wrong::NoMemory) => writeln!(out, "{}: no memory", case.name),

@@ -49,21 +49,26 @@ fn push_escaped(bytes: &mut Vec<u8>, text: &str) -> Result<(), AllocError> {
     Ok(())
 }
 
-/// Adds the bytes of a number, a space, and a text with escapes: that text so many times.
-fn push_repeated(bytes: &mut Vec<u8>, line: &str) -> Result<(), AllocError> {
+/// Adds the bytes of a number, a space, and a text with escapes: that text so many times. Whether the
+/// line is such a one; where it is none, nothing is added.
+fn push_repeated(bytes: &mut Vec<u8>, line: &str) -> Result<bool, AllocError> {
     let Some((number, text)) = line.split_once(' ') else {
-        return Ok(());
+        return Ok(false);
     };
-    for _ in 0..number.parse::<u32>().unwrap_or(0) {
+    let Ok(count) = number.parse::<u32>() else {
+        return Ok(false);
+    };
+    for _ in 0..count {
         push_escaped(bytes, text)?;
     }
-    Ok(())
+    Ok(true)
 }
 
-/// Adds the bytes of a line, as its first sign says.
-pub fn push_bytes(bytes: &mut Vec<u8>, line: &str) -> Result<(), AllocError> {
+/// Adds the bytes of a line, as its first sign says; whether it says any.
+pub fn push_bytes(bytes: &mut Vec<u8>, line: &str) -> Result<bool, AllocError> {
     if let Some(text) = line.strip_prefix("+") {
-        return push_escaped(bytes, text);
+        push_escaped(bytes, text)?;
+        return Ok(true);
     }
     if let Some(repeated) = line.strip_prefix("*") {
         return push_repeated(bytes, repeated);
@@ -71,7 +76,7 @@ pub fn push_bytes(bytes: &mut Vec<u8>, line: &str) -> Result<(), AllocError> {
     let text = line.strip_prefix(" ").unwrap_or(line);
     bytes.extend_from_slice(text.as_bytes())?;
     bytes.extend_from_slice(b"\r\n")?;
-    Ok(())
+    Ok(true)
 }
 
 /// How many bytes both have at their start alike.

@@ -36,7 +36,9 @@ pub struct Change {
 pub struct Case<'a> {
     pub alloc: Global,
     pub name: &'a str,
-    /// A line that says nothing.
+    /// Whether a line gave the name.
+    is_named: bool,
+    /// The first line that says nothing.
     pub bad_line: Option<&'a str>,
     pub connections: u16,
     /// How many lines a piece of a read has.
@@ -67,7 +69,9 @@ fn step_of(alloc: Global, line: &str) -> Result<Option<WorldStep>, AllocError> {
     };
     if let Some(sent) = rest.strip_prefix(">") {
         let mut bytes = Vec::new(alloc);
-        push_bytes(&mut bytes, sent)?;
+        if !push_bytes(&mut bytes, sent)? {
+            return Ok(None);
+        }
         return Ok(Some(WorldStep::Bytes(connection, bytes)));
     }
     Ok(match rest {
@@ -92,7 +96,8 @@ impl<'a> Case<'a> {
     pub fn new(alloc: Global) -> Case<'a> {
         Case {
             alloc,
-            name: "",
+            name: "a case without a name",
+            is_named: false,
             bad_line: None,
             connections: 2,
             piece: 256,
@@ -126,8 +131,8 @@ impl<'a> Case<'a> {
         true
     }
 
-    /// Takes what is written on a connection, after the sign `<`.
-    fn say(&mut self, connection: u16, said: &str) -> Result<(), AllocError> {
+    /// Takes what is written on a connection, after the sign `<`; whether it is bytes.
+    fn say(&mut self, connection: u16, said: &str) -> Result<bool, AllocError> {
         let mut when = When::Always;
         let mut text = said;
         if let Some(rest) = said.strip_prefix("=") {
@@ -138,36 +143,53 @@ impl<'a> Case<'a> {
             text = rest;
         }
         let mut bytes = Vec::new(self.alloc);
-        push_bytes(&mut bytes, text)?;
+        if !push_bytes(&mut bytes, text)? {
+            return Ok(false);
+        }
         self.sayings.push(Saying {
             steps: self.steps.len(),
             connection,
             when,
             bytes,
         })?;
-        Ok(())
+        Ok(true)
+    }
+
+    /// Takes that the last bytes of the change have come on this connection; whether it is the first.
+    fn mark(&mut self, connection: u16) -> bool {
+        if self.change.is_some() {
+            return false;
+        }
+        self.change = Some(Change {
+            connection,
+            steps: self.steps.len(),
+        });
+        true
+    }
+
+    /// Takes so many turns, after the word; whether it is a number.
+    fn turn(&mut self, connection: u16, count: &str) -> Result<bool, AllocError> {
+        let Ok(count) = count.parse::<u16>() else {
+            return Ok(false);
+        };
+        for _ in 0..count {
+            self.steps.push(WorldStep::Turn(connection))?;
+        }
+        Ok(true)
     }
 
     /// Takes what happens on a connection and is no single step; whether it is such a thing.
     fn act(&mut self, connection: u16, line: &str) -> Result<bool, AllocError> {
         if let Some(said) = line.strip_prefix("<") {
-            self.say(connection, said)?;
-            return Ok(true);
+            return self.say(connection, said);
         }
         if line == "changes" {
-            self.change = Some(Change {
-                connection,
-                steps: self.steps.len(),
-            });
-            return Ok(true);
+            return Ok(self.mark(connection));
         }
-        let Some(count) = line.strip_prefix("turn ") else {
-            return Ok(false);
-        };
-        for _ in 0..count.parse::<u16>().unwrap_or(0) {
-            self.steps.push(WorldStep::Turn(connection))?;
+        match line.strip_prefix("turn ") {
+            Some(count) => self.turn(connection, count),
+            None => Ok(false),
         }
-        Ok(true)
     }
 
     /// Takes a line of what happens; whether it is one.
@@ -189,22 +211,44 @@ impl<'a> Case<'a> {
         }
     }
 
+    /// Takes the name; whether it is the first.
+    fn call(&mut self, name: &'a str) -> bool {
+        if self.is_named {
+            return false;
+        }
+        self.is_named = true;
+        self.name = name;
+        true
+    }
+
+    /// Takes a line that should say something; whether it does, which it can only after the name.
+    fn read(&mut self, line: &'a str) -> Result<bool, AllocError> {
+        if let Some(name) = line.strip_prefix("= ") {
+            return Ok(self.call(name));
+        }
+        if !self.is_named {
+            return Ok(false);
+        }
+        match line.strip_prefix("! ") {
+            Some(said) => Ok(self.set(said)),
+            None => self.happen(line),
+        }
+    }
+
     /// The next line of the input, without its line feed.
     pub fn take(&mut self, line: &'a str) -> Result<(), AllocError> {
         if line.starts_with('#') {
             return Ok(());
         }
-        if let Some(name) = line.strip_prefix("= ") {
-            self.name = name;
-            return Ok(());
-        }
-        let is_good = match line.strip_prefix("! ") {
-            Some(said) => self.set(said),
-            None => self.happen(line)?,
-        };
-        if !is_good {
+        let is_good = self.read(line)?;
+        if !is_good && self.bad_line.is_none() {
             self.bad_line = Some(line);
         }
         Ok(())
+    }
+
+    /// Whether a line was taken that says something, or should.
+    pub fn is_begun(&self) -> bool {
+        self.is_named || self.bad_line.is_some()
     }
 }

@@ -18,6 +18,10 @@ pub enum Finding {
     NoMemory,
     /// There is no world with so many connections, or so many lines a piece.
     NoWorld,
+    /// Something is said of a connection that is not there.
+    NoConnection(u16),
+    /// Something is said that is not asked in a case of this kind.
+    NotAsked,
     Difference(Difference),
     /// The change was made where it could not be.
     Change,
@@ -60,6 +64,11 @@ impl Finding {
         match self {
             Finding::NoMemory => writeln!(out, "no memory"),
             Finding::NoWorld => writeln!(out, "no such world"),
+            Finding::NoConnection(connection) => writeln!(
+                out,
+                "there is no connection {connection}"
+            ),
+            Finding::NotAsked => writeln!(out, "something is said that is not asked"),
             Finding::Change => writeln!(out, "the change was made"),
             Finding::NoChange => writeln!(out, "the change was not made"),
             Finding::Later => writeln!(out, "bytes after the drop"),

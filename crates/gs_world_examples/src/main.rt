@@ -15,7 +15,16 @@ use crate::trials::try_case;
 use std::alloc::Global;
 use std::io::{self, Read, Write};
 
-/// Tries each case of the input.
+/// Tries a case if it has a line; how many were tried.
+fn try_begun<W: Write>(case: &Case<'_>, out: &mut W) -> io::Result<u64> {
+    if !case.is_begun() {
+        return Ok(0);
+    }
+    try_case(case, out)?;
+    Ok(1)
+}
+
+/// Tries each case of the input. The last one ends where the input ends.
 fn try_all<W: Write>(alloc: Global, input: &str, out: &mut W) -> io::Result<()> {
     let mut case = Case::new(alloc);
     let mut cases = 0u64;
@@ -24,13 +33,10 @@ fn try_all<W: Write>(alloc: Global, input: &str, out: &mut W) -> io::Result<()> 
             case.take(line)?;
             continue;
         }
-        if case.name.is_empty() {
-            continue;
-        }
-        try_case(&case, out)?;
-        cases = cases.saturating_add(1);
+        cases = cases.saturating_add(try_begun(&case, out)?);
         case = Case::new(alloc);
     }
+    cases = cases.saturating_add(try_begun(&case, out)?);
     writeln!(out, "{cases} cases")
 }
 

@@ -1,5 +1,5 @@
 //! Each case, played in each way.
-use crate::cases::Case;
+use crate::cases::{Case, When};
 use crate::findings::Finding;
 use crate::plays::{Ending, Insertion, Place, play_with};
 use crate::rounds::{Manner, Order, Talks, connection_of};
@@ -206,6 +206,63 @@ fn check_side_by_side(case: &Case<'_>) -> Result<(), Wrong> {
     Ok(())
 }
 
+/// Whether what is said is said of connections that are there.
+fn check_connections(case: &Case<'_>) -> Result<(), Finding> {
+    for saying in &case.sayings {
+        if case.connections <= saying.connection {
+            return Err(Finding::NoConnection(saying.connection));
+        }
+    }
+    match case.change {
+        Some(change) if case.connections <= change.connection => {
+            Err(Finding::NoConnection(change.connection))
+        }
+        _ => Ok(()),
+    }
+}
+
+/// Whether all that is said is asked: a step that is put in and a change are asked in schedules alone,
+/// and nothing that is written where it is only shown.
+fn check_kind(case: &Case<'_>) -> Result<(), Finding> {
+    if !case.is_side_by_side && !case.is_shown {
+        return Ok(());
+    }
+    if case.is_side_by_side && case.is_shown {
+        return Err(Finding::NotAsked);
+    }
+    if case.change.is_some() || !case.insertions.is_empty() {
+        return Err(Finding::NotAsked);
+    }
+    for saying in &case.sayings {
+        if case.is_shown || saying.when != When::Always {
+            return Err(Finding::NotAsked);
+        }
+    }
+    Ok(())
+}
+
+/// Whether all that is said is asked, of connections that are there.
+fn check_lines(case: &Case<'_>) -> Result<(), Finding> {
+    check_kind(case)?;
+    check_connections(case)
+}
+
+/// Plays a case in each way, if it is not only shown.
+fn check_case(case: &Case<'_>) -> Result<(), Wrong> {
+    check_lines(case).map_err(|finding| Wrong {
+        way: Way::AsItStands,
+        finding,
+    })?;
+    if case.is_shown {
+        return Ok(());
+    }
+    if case.is_side_by_side {
+        check_side_by_side(case)
+    } else {
+        check_schedule(case)
+    }
+}
+
 /// Prints in which way a case was played.
 fn report_way<W: Write>(case: &Case<'_>, way: Way, out: &mut W) -> io::Result<()> {
     match way {
@@ -223,15 +280,8 @@ pub fn try_case<W: Write>(case: &Case<'_>, out: &mut W) -> io::Result<()> {
     if let Some(line) = case.bad_line {
         return writeln!(out, "{}: no line of a case: {line}", case.name);
     }
-    if case.is_shown {
-        return show_case(case, out);
-    }
-    let result = if case.is_side_by_side {
-        check_side_by_side(case)
-    } else {
-        check_schedule(case)
-    };
-    match result {
+    match check_case(case) {
+        Ok(()) if case.is_shown => show_case(case, out),
         Ok(()) => Ok(()),
         Err(wrong) => {
             write!(out, "{}: ", case.name)?;
