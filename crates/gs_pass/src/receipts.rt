@@ -7,10 +7,11 @@ use gs_chronicle::ActionKind;
 /// How many receipts a pass keeps: those of its first deciding calls.
 pub(crate) const MAX_RECEIPTS: usize = 4_096;
 
-/// That a deciding call was entered in a history page.
+/// What a pass was told of a deciding call.
 #[derive(Clone, Copy, Debug, PartialEq, Eq)]
 pub struct Receipt {
-    /// The number of the entry, counted from 0 in its page.
+    /// The number of the entry, counted from 0 in its page; 0 where the call has more triples than a
+    /// page holds, so that none stores it.
     pub number: u64,
     /// What kind of action decided.
     pub kind: ActionKind,

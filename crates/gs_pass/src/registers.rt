@@ -112,7 +112,7 @@ impl<C: Ledger, T: Ledger, B: Room> Register<C, T, B> {
         pass.record.enter(receipt);
     }
 
-    /// IsCounted triples that the pass brought.
+    /// Counts triples that the pass brought.
     pub fn count(&mut self, pass: &mut Pass<C, T, B>, triples: u64)
         ensures stamps { (cell_view self.new.keeper).all ≡ (cell_view self.old.keeper).all }
         ensures totals { (self.new.calls.total ≡ self.old.calls.total)
