@@ -1,6 +1,6 @@
 //! Worked rows: what is done to a new store, and the page that it leaves.
-use crate::stores::{put, small};
-use gs_core::{Action, Answer, Event};
+use crate::stores::{cats, put, small};
+use gs_core::{Action, Answer, Event, UploadKind};
 use gs_model::Refusal;
 use gs_term::Target;
 use std::alloc::Global;
@@ -91,6 +91,28 @@ fn wrong_row(alloc: Global) -> Result<Option<&'static str>, Refusal> {
         }
     }
     Ok(None)
+}
+
+/// The answers to a Stage of no triples and to its Commit, and how many triples the entry counts.
+fn staged_nothing(alloc: Global) -> Result<(Answer, Answer, Option<usize>), Refusal> {
+    let mut store = small(alloc)?;
+    let _ = store.event(Event::Seat(0, Action::Open(UploadKind::Put(cats(alloc)?))));
+    let stage = store.event(Event::Seat(0, Action::Stage(Vec::new(alloc))));
+    let commit = store.event(Event::Seat(0, Action::Commit));
+    let triples = match store.page().entries().last() {
+        Some(entry) => entry.request().triples(),
+        None => None,
+    };
+    Ok((stage, commit, triples))
+}
+
+#[test]
+fn an_empty_list_is_staged_and_counts_for_nothing(rt: HostRuntime) -> Result<(), Refusal> {
+    let (stage, commit, triples) = staged_nothing(rt.alloc())?;
+    assert!(&rt; matches!(stage, Answer::Staged));
+    assert_eq!(&rt; status_in(&commit), 201);
+    assert_eq!(&rt; triples, Some(0));
+    Ok(())
 }
 
 #[test]

@@ -2,16 +2,11 @@
 use Rattle.std.specs.Prelude.{◌≡◌, ℕ, List, [], ◌∷◌, ◌++◌, length, Some, slice_get, slice_index, true, false}
 use mathlib.Core.Option.{some}
 use lib.ListN.{get_elem?}
-use Rattle.atomic_table.specs.Seated.{TableId}
 use Rattle.gs_chronicle.specs.declared.kinds.ActionKind.{ActionKind}
 use Rattle.gs_pass.specs.declared.knowledge.Knowledge.{Knowledge}
 use Rattle.gs_pass.specs.declared.receipts.Receipt.{Receipt}
 use Rattle.gs_pass.specs.declared.stamps.Stamp.{Stamp}
 use Rattle.gs_pass.specs.Kinds.{kind_of_code}
-
--- the name of no cell
-abbrev pub no_table : TableId
-no_table = record { words = 0; slots = 0; views_name = 0; atom = 0; block = 0; offset = 0; slot_names = [] }
 
 -- a receipt of these parts
 abbrev pub receipt : ℕ → ActionKind → ℕ → Receipt

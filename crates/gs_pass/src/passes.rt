@@ -1,5 +1,5 @@
 //! A seat's pass.
-ghost use Rattle.std.specs.Prelude.{◌≡◌, ◌-◌, ◌^◌, ◌≤◌, [], min, true, vec_capacity};
+ghost use Rattle.std.specs.Prelude.{◌≡◌, ◌-◌, ◌^◌, ◌<◌, ◌≤◌, [], min, true, vec_capacity};
 ghost use Rattle.crossbeam_utils.specs.Seq.{cell_view};
 ghost use Rattle.gs_pass.specs.Stamps.{claimant};
 ghost use Rattle.gs_pass.specs.Claims.{receipts_of, are_of, rises};
@@ -25,6 +25,7 @@ pub struct Pass<C: Ledger, T: Ledger, B: Room> {
     ghost counts_calls: { record.calls ≡ min call_share.amount (2 ^ 64 - 1) },
     ghost counts_triples: { record.triples ≡ min triple_share.amount (2 ^ 64 - 1) },
     ghost table: { token.table_id ≡ B.table },
+    ghost seated: { record.seat < B.start.seats },
     ghost free: { token.me.1 ≡ [] },
     ghost claims: { cell_view token ≡ claimant (cell_view token).claims },
     ghost own: { are_of record.seat (cell_view token).claims ≡ true },

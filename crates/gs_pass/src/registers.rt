@@ -1,5 +1,5 @@
 //! What lies under the lock beside the store: all stamps, and the totals of both ledgers.
-ghost use Rattle.std.specs.Prelude.{◌≡◌, ◌≤◌, ◌+◌, [], ◌∷◌, ◌++◌, length, map, vec_capacity};
+ghost use Rattle.std.specs.Prelude.{◌≡◌, ◌<◌, ◌≤◌, ◌+◌, [], ◌∷◌, ◌++◌, length, map, vec_capacity};
 ghost use Rattle.std.specs.List.{sum_by, All};
 ghost use Rattle.crossbeam_utils.specs.Seq.{cell_view};
 ghost use Rattle.gs_pass.specs.Stamps.{keeper as keeper_of, stamp, stamp_of};
@@ -56,7 +56,7 @@ impl<C: Ledger, T: Ledger, B: Room> Register<C, T, B> {
         (register, call_share, triple_share)
     }
 
-    /// A pass for a seat, of a part of both ledgers.
+    /// A pass for a seat of the store, of a part of both ledgers.
     pub fn issue(
         &mut self,
         cell: &StampCell,
@@ -66,6 +66,7 @@ impl<C: Ledger, T: Ledger, B: Room> Register<C, T, B> {
         triple_share: Share<T>,
     ) -> Pass<C, T, B>
         requires cell { cell.now.table.shared.table_id ≡ B.table }
+        requires seat { seat < B.start.seats }
         requires calls { (call_share.parts ≡ 1) × (call_share.amount ≡ 0) }
         requires triples { (triple_share.parts ≡ 1) × (triple_share.amount ≡ 0) }
         ensures fresh { (result.record.seat ≡ seat) × IsFresh (tally_of result.record) }

@@ -6,8 +6,6 @@ mod draws;
 #[cfg(test)]
 mod limits;
 #[cfg(test)]
-mod notation;
-#[cfg(test)]
 mod patches;
 #[cfg(test)]
 mod removals;

@@ -1,9 +1,10 @@
 //! Schedules on a store that holds six triples and two names: the limits are on what a write leaves.
-use crate::runs::{BASE, event, words};
+use crate::runs::BASE;
 use gs_core::Refusal;
 use gs_event::Limits;
 use gs_plain::PlainStore;
 use gs_schedules::Row;
+use gs_test_events::{event, words};
 use std::alloc::Global;
 use std::test::Fail;
 

@@ -1,9 +1,9 @@
 //! Graphs, patterns, and what a DELETE WHERE with these patterns leaves of them, worked by hand from
 //! SPARQL 1.1 Query, section 18.3, and Update, section 3.1.3.3.
-use crate::notation::{lines, patterns, triples};
 use crate::runs::{plain_store, printed_by, printed_by_plain, store};
 use gs_core::{Action, Event, Op, Refusal, UploadKind};
 use gs_term::Target;
+use gs_test_events::{lines, patterns, triples};
 use std::alloc::{AllocError, Global};
 use std::test::Fail;
 

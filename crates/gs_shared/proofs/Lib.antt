@@ -1,4 +1,5 @@
 pub mod AskedLemmas
 pub mod DecisionLemmas
 pub mod CountLemmas
+pub mod StartLemmas
 pub mod EndLemmas

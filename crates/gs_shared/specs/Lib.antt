@@ -1,5 +1,5 @@
--- Read in this order: how much a page holds, what an event makes of a tally, how passes are handed out, and what is known
--- at the end. The others say what is kept under the lock.
+-- Read in this order: how much a page holds, what an event makes of a tally, how a store begins and passes are handed out,
+-- and what is known at the end. The others say what is kept under the lock.
 pub mod Limits
 pub mod Tells
 pub mod Seats

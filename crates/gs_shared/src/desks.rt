@@ -1,19 +1,21 @@
 //! What lies under the lock.
-ghost use Rattle.std.specs.Prelude.{◌≡◌, ◌-◌, length, sum, false};
+ghost use Rattle.std.specs.Prelude.{◌≡◌, ◌≢◌, ◌<◌, ◌-◌, length, sum, false};
 ghost use Rattle.crossbeam_utils.specs.Seq.{cell_view};
 ghost use Rattle.gs_chronicle.specs.Views.{page_of};
 ghost use Rattle.gs_audit.specs.Audits.{staged_of};
 ghost use Rattle.gs_door.specs.Kinds.{IsOfKind};
 ghost use Rattle.gs_pass.specs.Tallies.{tally_of};
+ghost use Rattle.gs_shared.specs.Asked.{ask_of_event, IsSmallEvent};
 ghost use Rattle.gs_shared.specs.Counts.{IsTied, IsCounted};
 ghost use Rattle.gs_shared.specs.Limits.{page_entries, page_triples};
-ghost use Rattle.gs_shared.specs.Seats.{IsFreshOf};
+ghost use Rattle.gs_shared.specs.Seats.{BeganAs, IsFreshOf};
 ghost use Rattle.gs_shared.specs.Tells.{is_of_another, ToldBy};
 
 use crate::asked::Asked;
 use crate::limits::{PAGE_ENTRIES, PAGE_TRIPLES};
 use gs_audit::Audited;
 use gs_event::{Answer, Event};
+use gs_model::Refusal;
 use gs_pass::{Pass, Receipt, Register, Room, Space, StampCell};
 use std::sync::Wait;
 use std::sync::ledger::{Ledger, Share};
@@ -23,6 +25,7 @@ use std::sync::ledger::{Ledger, Share};
 pub struct Desk<C: Ledger, T: Ledger, B: Room> {
     pub(crate) audited: Audited<PAGE_ENTRIES, PAGE_TRIPLES>,
     pub(crate) register: Register<C, T, B>,
+    ghost began: { BeganAs B.start audited.store.view },
     ghost tied: { IsTied (page_of audited.chronicle) (cell_view register.keeper).all },
     ghost counted: { IsCounted page_entries page_triples (page_of audited.chronicle) (sum (staged_of audited))
         register.calls.total register.triples.total },
@@ -39,6 +42,7 @@ impl<C: Ledger, T: Ledger, B: Room> Desk<C, T, B> {
         triple_share: Share<T>,
     ) -> Pass<C, T, B>
         requires cell { cell.now.table.shared.table_id ≡ B.table }
+        requires seat { seat < B.start.seats }
         requires calls { (call_share.parts ≡ 1) × (call_share.amount ≡ 0) }
         requires triples { (triple_share.parts ≡ 1) × (triple_share.amount ≡ 0) }
         ensures { IsFreshOf seat result.record }
@@ -47,21 +51,25 @@ impl<C: Ledger, T: Ledger, B: Room> Desk<C, T, B> {
             .issue(cell, seat, space, call_share, triple_share)
     }
 
-    /// Takes an event that is no action of another seat than the pass's, and tells the pass.
+    /// Takes an event that is no action of another seat than the pass's, and tells the pass. The caller
+    /// read off the event what it asks, so that this is not done under the lock.
     pub(crate) fn event<R: Wait>(
         &mut self,
         rt: &R,
         cell: &StampCell,
         pass: &mut Pass<C, T, B>,
         event: Event,
+        asked: Asked,
     ) -> Answer
         requires own { is_of_another pass.old.record.seat event ≡ false }
         requires cell { cell.now.table.shared.table_id ≡ B.table }
+        requires asked { asked ≡ ask_of_event event }
+        requires small { IsSmallEvent event }
         ensures told { ToldBy event result (tally_of pass.old.record) (tally_of pass.new.record) }
         ensures kind { IsOfKind event result }
+        ensures there { result ≢ Answer.Refused Refusal.BadSeat }
         ensures seat { pass.new.record.seat ≡ pass.old.record.seat }
     {
-        let asked = Asked::by(&event);
         let answer = self.audited.event(event);
         self.register.count(pass, asked.brought(&answer));
         match asked.decided(&answer) {

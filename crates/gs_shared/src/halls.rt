@@ -3,6 +3,7 @@ ghost use Rattle.std.specs.Prelude.{◌≡◌};
 ghost use Rattle.gs_door.specs.Kinds.{IsOfKind};
 ghost use Rattle.gs_shared.specs.Tells.{is_of_another as is_of_another_seat, Tells};
 
+use crate::asked::Asked;
 use crate::desks::Desk;
 use gs_event::{Answer, Event};
 use gs_model::Refusal;
@@ -21,7 +22,7 @@ pub struct Hall<C: Ledger, T: Ledger, B: Room> {
 
 impl<C: Ledger, T: Ledger, B: Room> Hall<C, T, B> {
     /// Takes one event, in one hold of the Mutex, and tells the pass. An action of another seat than
-    /// the pass's is refused.
+    /// the pass's is refused with `BadSeat`, and nothing else is.
     pub fn event<R: Wait>(&self, rt: &R, pass: &mut Pass<C, T, B>, event: Event) -> Answer
         ensures told { Tells event result pass.old.record pass.new.record }
         ensures kind { IsOfKind event result }
@@ -29,7 +30,8 @@ impl<C: Ledger, T: Ledger, B: Room> Hall<C, T, B> {
         if is_of_another(&event, pass.seat()) {
             return Answer::Refused(Refusal::BadSeat);
         }
-        self.lock.lock(rt).event(rt, &self.cell, pass, event)
+        let asked = Asked::by(&event);
+        self.lock.lock(rt).event(rt, &self.cell, pass, event, asked)
     }
 }
 

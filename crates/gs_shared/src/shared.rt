@@ -4,10 +4,11 @@ ghost use Rattle.crossbeam_utils.specs.Seq.{cell_view};
 ghost use Rattle.gs_model.specs.Bases.{is_base};
 ghost use Rattle.gs_model.specs.Limits.{max_seats};
 ghost use Rattle.gs_model.specs.declared.refusals.Refusal.TheVariants.{BadSeat as IsBadSeat};
+ghost use Rattle.gs_core.specs.Settings.{start_at};
 ghost use Rattle.gs_chronicle.specs.Views.{page_of};
 ghost use Rattle.gs_door.specs.Kinds.{IsOfKind};
 ghost use Rattle.gs_pass.specs.Stamps.{keeper as keeper_of};
-ghost use Rattle.gs_shared.specs.Seats.{From, IsFreshOf};
+ghost use Rattle.gs_shared.specs.Seats.{BeganAs, From, IsFreshOf};
 ghost use Rattle.gs_shared.specs.Tells.{Tells};
 ghost use Rattle.gs_shared.specs.Ends.{FitOnePage, HasAllCalls, AllStand};
 
@@ -35,6 +36,7 @@ pub struct Shared<C: Side, T: Side, B: Room> {
     whole_triples: Whole<T>,
     alloc: Global,
     records: Vec<Record>,
+    ghost of_start: { seats ≡ B.start.seats },
     ghost within: { handed ≤ seats },
     ghost call_parts: { call_rest.parts + handed ≡ C.all },
     ghost triple_parts: { triple_rest.parts + handed ≡ T.all },
@@ -49,7 +51,7 @@ pub struct Shared<C: Side, T: Side, B: Room> {
 impl<C: Side, T: Side, B: Room> Shared<C, T, B> {
     /// A new store with this base, for so many seats, 1 to 512, of which no pass is handed out yet.
     /// `gs_core::is_base` tests a base. The cell is one of `stamp_cell`, with its token, and each
-    /// blank has more parts than there are seats.
+    /// blank has more parts than there are seats. The room names that cell, and how this store begins.
     ///
     /// # Errors
     ///
@@ -66,6 +68,7 @@ impl<C: Side, T: Side, B: Room> Shared<C, T, B> {
         requires some { 1 ≤ seats }
         requires few { seats ≤ max_seats }
         requires base { is_base base.now ≡ true }
+        requires start { B.start ≡ start_at seats base.now 0 0 }
         requires cell { (cell.table.shared.table_id ≡ B.table)
             × (keeper.table_id ≡ B.table)
             × (cell_view keeper ≡ keeper_of [] []) }
@@ -191,6 +194,7 @@ impl<C: Side, T: Side, B: Room> Shared<C, T, B> {
         ensures turned { FitOnePage result.passes.items → (page_of result.audited.chronicle).number ≡ 0 }
         ensures many { HasAllCalls (page_of result.audited.chronicle) result.passes.items }
         ensures stand { AllStand (page_of result.audited.chronicle) result.passes.items }
+        ensures began { BeganAs B.start result.audited.store.view }
     {
         let Shared {
             hall,

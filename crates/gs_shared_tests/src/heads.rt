@@ -1,6 +1,7 @@
 //! Four threads that ask at the same time: all their calls stand on page 0.
-ghost use Rattle.std.specs.Prelude.{◌≡◌, ◌<◌, []};
+ghost use Rattle.std.specs.Prelude.{◌≡◌, ◌<◌, [], codes};
 ghost use Rattle.crossbeam_utils.specs.Seq.{cell_view};
+ghost use Rattle.gs_core.specs.Settings.{start_at};
 ghost use Rattle.gs_pass.specs.Stamps.{keeper as keeper_of};
 
 use gs_event::{Action, Event};
@@ -46,6 +47,7 @@ fn run<
     requires cell { (cell.table.shared.table_id ≡ B.table)
         × (keeper.table_id ≡ B.table)
         × (cell_view keeper ≡ keeper_of [] []) }
+    requires start { B.start ≡ start_at 4 (codes "http://localhost") 0 0 }
     requires calls { (calls.name ≡ C.name) × (calls.parts ≡ C.parts) × (C.all ≡ C.parts) × (4 < C.all) }
     requires triples { (triples.name ≡ T.name) × (triples.parts ≡ T.parts) × (T.all ≡ T.parts) × (4 < T.all) }
 {

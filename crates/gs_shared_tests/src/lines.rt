@@ -1,6 +1,7 @@
 //! One thread writes a graph, and another reads it afterwards.
-ghost use Rattle.std.specs.Prelude.{◌≡◌, ◌<◌, []};
+ghost use Rattle.std.specs.Prelude.{◌≡◌, ◌<◌, [], codes};
 ghost use Rattle.crossbeam_utils.specs.Seq.{cell_view};
+ghost use Rattle.gs_core.specs.Settings.{start_at};
 ghost use Rattle.gs_pass.specs.Stamps.{keeper as keeper_of};
 
 use gs_event::{Action, Answer, Event, UploadKind};
@@ -89,6 +90,7 @@ fn run<
     requires cell { (cell.table.shared.table_id ≡ B.table)
         × (keeper.table_id ≡ B.table)
         × (cell_view keeper ≡ keeper_of [] []) }
+    requires start { B.start ≡ start_at 2 (codes "http://localhost") 0 0 }
     requires calls { (calls.name ≡ C.name) × (calls.parts ≡ C.parts) × (C.all ≡ C.parts) × (2 < C.all) }
     requires triples { (triples.name ≡ T.name) × (triples.parts ≡ T.parts) × (T.all ≡ T.parts) × (2 < T.all) }
 {

@@ -1,8 +1,14 @@
-use Rattle.std.proofs.Common.{sym, ap, ◌∙◌}
+use Rattle.std.proofs.Common.{[], sym, ap, ◌∙◌}
+use Rattle.gs_event.specs.Histories.{view_of}
 use Rattle.gs_chronicle.specs.Pages.{PageView}
 use Rattle.gs_shared.specs.Counts.{stamps_in}
 use Rattle.gs_shared.proofs.CountLemmas.{fresh_counts}
+use Rattle.gs_shared.proofs.StartLemmas.{began_new}
 use Rattle.gs_shared.proofs.shared.Shared.new.Goals as goal
+
+pub invariant_of-desk-clause-began : goal.invariant_of-desk-clause-began
+invariant_of-desk-clause-began g c =
+    began_new _ _ (c.in_ok-audited.ensures.view ∙ ap (λ s. view_of s []) (sym c.requires.start))
 
 pub invariant_of-desk-clause-tied : goal.invariant_of-desk-clause-tied
 invariant_of-desk-clause-tied g c =
@@ -11,4 +17,4 @@ invariant_of-desk-clause-tied g c =
 pub invariant_of-desk-clause-counted : goal.invariant_of-desk-clause-counted
 invariant_of-desk-clause-counted g c =
     let none = c.new-register.ensures.none in
-    fresh_counts 65536 4000000 _ _ c.args.seats _ _ c.in_ok-audited.ensures.page c.in_ok-audited.ensures.staged none.1 none.2
+    fresh_counts 65536 4000000 _ _ _ _ _ c.in_ok-audited.ensures.page c.in_ok-audited.ensures.staged none.1 none.2

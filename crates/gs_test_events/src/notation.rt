@@ -1,6 +1,7 @@
 //! A short notation of terms, triples, patterns and operations.
-use gs_core::{Op, Part, Pattern, Refusal, VariableName};
-use gs_term::{TermText, Triple};
+use gs_event::Op;
+use gs_model::Refusal;
+use gs_term::{Part, Pattern, TermText, Triple, VariableName};
 use std::alloc::{AllocError, Global};
 
 const TYPE: &str = "http://www.w3.org/1999/02/22-rdf-syntax-ns#type";

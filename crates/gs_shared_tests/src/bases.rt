@@ -1,0 +1,68 @@
+//! A store has the base and the number of seats that it was made with.
+ghost use Rattle.std.specs.Prelude.{◌≡◌, ◌<◌, [], codes};
+ghost use Rattle.crossbeam_utils.specs.Seq.{cell_view};
+ghost use Rattle.gs_core.specs.Settings.{start_at};
+ghost use Rattle.gs_pass.specs.Stamps.{keeper as keeper_of};
+
+use gs_event::{Action, Answer, Event, UploadKind};
+use gs_shared::{Room, Shared, Side, StampCell, Token, stamp_cell};
+use std::alloc::Global;
+use std::marker::Brand;
+use std::sync::Wait;
+use std::sync::ledger::Blank;
+use std::test::Fail;
+
+/// What the one seat of a store is answered that creates a graph, once it was seen that there is no
+/// pass for a second.
+fn run<C: Side + Send + Sync, T: Side + Send + Sync, B: Room + Send + Sync, R: Wait>(
+    rt: &R,
+    alloc: Global,
+    cell: StampCell,
+    keeper: Token,
+    calls: Blank,
+    triples: Blank,
+) -> Option<Answer>
+    requires cell { (cell.table.shared.table_id ≡ B.table)
+        × (keeper.table_id ≡ B.table)
+        × (cell_view keeper ≡ keeper_of [] []) }
+    requires start { B.start ≡ start_at 1 (codes "http://h:1") 0 0 }
+    requires calls { (calls.name ≡ C.name) × (calls.parts ≡ C.parts) × (C.all ≡ C.parts) × (1 < C.all) }
+    requires triples { (triples.name ≡ T.name) × (triples.parts ≡ T.parts) × (T.all ≡ T.parts) × (1 < T.all) }
+{
+    let mut shared: Shared<C, T, B> = Shared::new(
+        alloc,
+        1,
+        "http://h:1",
+        cell,
+        keeper,
+        calls,
+        triples,
+    ).ok()?;
+    if shared.passes(2).is_ok() {
+        return None;
+    }
+    let mut passes = shared.passes(1).ok()?;
+    let mut pass = passes.pop()?;
+    let opens = Event::Seat(pass.seat(), Action::Open(UploadKind::New));
+    let _ = shared.event(rt, &mut pass, opens);
+    let commits = Event::Seat(pass.seat(), Action::Commit);
+    Some(shared.event(rt, &mut pass, commits))
+}
+
+/// The same, over a cell and ledgers of its own.
+fn created<R: Wait>(rt: &R, alloc: Global) -> Option<Answer> {
+    let (cell, keeper) = stamp_cell(alloc).ok()?;
+    let (calls, triples) = (Blank::new(2), Blank::new(2));
+    run::<Brand, Brand, Brand, R>(rt, alloc, cell, keeper, calls, triples)
+}
+
+#[test]
+fn a_store_has_its_base_and_its_seats(rt: HostRuntime) -> Result<(), Fail> {
+    let answer = created(&rt, rt.alloc()).expect(&rt, "memory, and one seat");
+    let name = match &answer {
+        Answer::Status(201, Some(name)) => name.as_bytes(),
+        _ => b"",
+    };
+    assert!(rt; name == b"http://h:1/graphs/n1-0".as_slice());
+    Ok(())
+}

@@ -1,0 +1,52 @@
+//! Answers in the words of worked schedules.
+use gs_event::Answer;
+use std::alloc::{AllocError, Global};
+
+/// An answer in the words of a schedule.
+pub fn words(alloc: Global, answer: &Answer) -> Result<String, AllocError> {
+    match answer {
+        Answer::Opened(number) => format!(in alloc; "opened {number}\n"),
+        Answer::Staged => format!(in alloc; "staged\n"),
+        Answer::Status(status, None) => format!(in alloc; "{status}\n"),
+        Answer::Status(status, Some(name)) => {
+            let text = str::from_utf8(name.as_bytes()).unwrap_or("no text");
+            format!(in alloc; "{status} {text}\n")
+        }
+        Answer::Pinned(status) => format!(in alloc; "{status}\n"),
+        Answer::Lines(lines, end) => {
+            let text = str::from_utf8(lines.as_slice()).unwrap_or("no text");
+            let last = if *end { "end" } else { "more" };
+            format!(in alloc; "{text}{last}\n")
+        }
+        Answer::Cancelled => format!(in alloc; "cancelled\n"),
+        Answer::Reclaimed(freed, left) => {
+            let rest = if *left { "more" } else { "done" };
+            format!(in alloc; "reclaimed {freed} {rest}\n")
+        }
+        Answer::Refused(refusal) => {
+            let name = refusal.name();
+            format!(in alloc; "refused {name}\n")
+        }
+    }
+}
+
+/// What the events print, in all, where the counts are left out.
+pub fn answered(alloc: Global, printed: &str) -> Result<String, AllocError> {
+    let mut text = String::new(alloc);
+    for line in printed.lines() {
+        if !line.starts_with("nodes ") {
+            text.push_str(line)?;
+            text.push('\n')?;
+        }
+    }
+    Ok(text)
+}
+
+/// What answers print.
+pub fn printed(alloc: Global, answers: &[Answer]) -> Result<String, AllocError> {
+    let mut text = String::new(alloc);
+    for answer in answers {
+        text.push_str(words(alloc, answer)?.as_str())?;
+    }
+    Ok(text)
+}

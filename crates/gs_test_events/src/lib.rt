@@ -1,0 +1,10 @@
+//! Events of worked schedules, and their answers in words, for tests of stores.
+#![tactic(auto)]
+
+mod answers;
+mod events;
+mod notation;
+
+pub use answers::{answered, printed, words};
+pub use events::{event, events};
+pub use notation::{lines, operations, patterns, triples};
