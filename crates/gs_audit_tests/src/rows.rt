@@ -1,5 +1,6 @@
 //! Worked rows: what is done to a new store, and the page that it leaves.
-use crate::stores::{cats, put, small};
+use crate::stores::{cats, put, small, triples, wide};
+use gs_chronicle::Request;
 use gs_core::{Action, Answer, Event, UploadKind};
 use gs_model::Refusal;
 use gs_term::Target;
@@ -104,6 +105,37 @@ fn staged_nothing(alloc: Global) -> Result<(Answer, Answer, Option<usize>), Refu
         None => None,
     };
     Ok((stage, commit, triples))
+}
+
+/// The status of a PUT of 300 lists of four triples, and how many lists and triples its entry has.
+fn staged_often(alloc: Global) -> Result<(u16, usize, Option<usize>), Refusal> {
+    let mut store = wide(alloc)?;
+    let _ = store.event(Event::Seat(0, Action::Open(UploadKind::Put(cats(alloc)?))));
+    for _ in 0..300u32 {
+        let list = triples(alloc, 4)?;
+        let _ = store.event(Event::Seat(0, Action::Stage(list)));
+    }
+    let status = status_in(&store.event(Event::Seat(0, Action::Commit)));
+    match store.page().entries().last() {
+        Some(entry) => match entry.request() {
+            Request::Upload(upload) => Ok((
+                status,
+                upload.lists().len(),
+                entry.request().triples(),
+            )),
+            _ => Ok((status, 0, None)),
+        },
+        None => Ok((status, 0, None)),
+    }
+}
+
+#[test]
+fn an_upload_of_many_lists_is_stored_whole(rt: HostRuntime) -> Result<(), Refusal> {
+    let (status, lists, triples) = staged_often(rt.alloc())?;
+    assert_eq!(&rt; status, 201);
+    assert_eq!(&rt; lists, 300);
+    assert_eq!(&rt; triples, Some(1_200));
+    Ok(())
 }
 
 #[test]

@@ -17,6 +17,15 @@ pub fn small(alloc: Global) -> Result<Small, Refusal> {
     Audited::new(alloc, 2, base)
 }
 
+/// A new store with two seats, whose page takes four entries with 2,000 triples in all.
+pub fn wide(alloc: Global) -> Result<Audited<4, 2_000>, Refusal> {
+    let base = "http://localhost";
+    if !is_base(base) {
+        return Err(Refusal::Syntax(0));
+    }
+    Audited::new(alloc, 2, base)
+}
+
 /// So many triples, each with an object of its own.
 pub fn triples(alloc: Global, count: u8) -> Result<Vec<Triple>, Refusal> {
     let mut list = Vec::new(alloc);

@@ -5,14 +5,39 @@ ghost use Rattle.gs_core.specs.Settings.{start_at};
 ghost use Rattle.gs_pass.specs.Stamps.{keeper as keeper_of};
 
 use gs_core::{Answer, Event, Refusal, Store};
+use gs_door::Door;
 use gs_schedules::{ROWS, Row};
-use gs_shared::{Room, Shared, Side, StampCell, Token, stamp_cell};
+use gs_shared::{Pass, PassDoor, Room, Shared, Side, StampCell, Token, stamp_cell};
 use gs_test_events::{answered, events, printed};
 use std::alloc::Global;
 use std::marker::Brand;
 use std::sync::Wait;
 use std::sync::ledger::Blank;
 use std::test::Fail;
+
+/// The schedules that are fed texts, with their triples and operations in the place of the texts.
+const FED: [Row; 4] = [
+    (
+        "nodes of two requests are different",
+        "0 open post default\n0 stage _1_1 <p> _1_1\n0 commit\n0 open post default\n0 stage _2_1 <p> _2_1\n0 commit\n0 pin default\n0 piece 9\n",
+        "opened 1\nstaged\n204\nopened 2\nstaged\n204\n200\n_:b1_1 <http://e/p> _:b1_1 .\n_:b2_1 <http://e/p> _:b2_1 .\nend\n",
+    ),
+    (
+        "patterns take out all their instances together",
+        "0 open put default\n0 stage <1> <p> <2> . <2> <q> \"z\" . <3> <p> <4> . <5> <q> \"y\"\n0 commit\n0 open patch default\n0 patch: where ?s <p> ?o . ?o <q> ?z\n0 pin default\n0 piece 9\n0 open patch default\n0 cancel\n0 open patch default\n0 cancel\n0 open patch <http://e/g>\n0 patch:\n",
+        "opened 1\nstaged\n204\nopened 2\n204\n200\n<http://e/3> <http://e/p> <http://e/4> .\n<http://e/5> <http://e/q> \"y\" .\nend\nopened 3\ncancelled\nopened 4\ncancelled\nopened 5\n404\n",
+    ),
+    (
+        "data are taken out and put in, in their order",
+        "0 open put <http://e/g>\n0 stage <1> <p> \"1\" . <1> <p> \"2\"\n0 commit\n1 open patch <http://e/g>\n1 patch: delete <1> <p> \"1\" ; insert <1> <p> \"3\" . <1> <p> \"1\" ; delete <1> <p> \"3\"\n0 pin <http://e/g>\n0 piece 9\n2 open patch <http://e/g>\n2 patch: delete <1> <p> \"1\"\n3 pin <http://e/g>\n3 piece 9\n",
+        "opened 1\nstaged\n201\nopened 2\n204\n200\n<http://e/1> <http://e/p> \"1\" .\n<http://e/1> <http://e/p> \"2\" .\nend\nopened 3\n204\n200\n<http://e/1> <http://e/p> \"2\" .\nend\n",
+    ),
+    (
+        "a text with a fault is given up",
+        "0 open put default\n0 cancel\n0 commit\n",
+        "opened 1\ncancelled\nrefused WrongPhase\n",
+    ),
+];
 
 /// The place of the pass that makes an event: that of its seat, and 0 for a Reclaim and for a seat that
 /// is not there.
@@ -23,11 +48,30 @@ fn place_of(event: &Event) -> usize {
     }
 }
 
+/// What the pass is answered, through a door or at the lock.
+fn answer<C: Side, T: Side, B: Room, R: Wait>(
+    rt: &R,
+    shared: &Shared<C, T, B>,
+    pass: Pass<C, T, B>,
+    event: Event,
+    by_door: bool,
+) -> (Pass<C, T, B>, Answer) {
+    let mut pass = pass;
+    if !by_door {
+        let answer = shared.event(rt, &mut pass, event);
+        return (pass, answer);
+    }
+    let mut door = PassDoor::new(rt, shared.hall(), pass);
+    let answer = door.event(event);
+    (door.into_pass(), answer)
+}
+
 /// What the passes of a new store of four seats are answered.
 fn answer_all<C: Side, T: Side, B: Room, R: Wait>(
     rt: &R,
     alloc: Global,
     events: Vec<Event>,
+    by_doors: bool,
     cell: StampCell,
     keeper: Token,
     calls: Blank,
@@ -52,8 +96,12 @@ fn answer_all<C: Side, T: Side, B: Room, R: Wait>(
     let mut passes = shared.passes(4)?;
     let mut answers = Vec::new(alloc);
     for event in events {
-        if let Some(pass) = passes.get_mut(place_of(&event)) {
-            answers.push(shared.event(rt, pass, event))?;
+        let place = place_of(&event);
+        if place < passes.len() {
+            let pass = passes.remove(place);
+            let (pass, answer) = answer(rt, &shared, pass, event, by_doors);
+            passes.insert(place.min(passes.len()), pass)?;
+            answers.push(answer)?;
         }
     }
     Ok(answers)
@@ -64,11 +112,12 @@ fn printed_by_passes<R: Wait>(
     rt: &R,
     alloc: Global,
     events: Vec<Event>,
+    by_doors: bool,
 ) -> Result<String, Refusal> {
     let (cell, keeper) = stamp_cell(alloc)?;
     let (calls, triples) = (Blank::new(5), Blank::new(5));
     let answers = answer_all::<Brand, Brand, Brand, R>(
-        rt, alloc, events, cell, keeper, calls, triples,
+        rt, alloc, events, by_doors, cell, keeper, calls, triples,
     )?;
     Ok(printed(alloc, answers.as_slice())?)
 }
@@ -94,15 +143,19 @@ fn is_same<R: Wait>(rt: &R, alloc: Global, row: &Row) -> Result<bool, Refusal> {
     let asked = events(alloc, longer.as_str())?;
     let mut store = Store::new(alloc, 4, "http://localhost")?;
     let by_store = printed(alloc, store.run(asked.as_slice())?.as_slice())?;
-    let by_passes = printed_by_passes(rt, alloc, asked)?;
-    let plain = printed_by_passes(rt, alloc, events(alloc, input)?)?;
+    let by_passes = printed_by_passes(rt, alloc, asked, false)?;
+    let plain = printed_by_passes(rt, alloc, events(alloc, input)?, true)?;
     let says = answered(alloc, want)?;
     Ok(by_passes.as_str() == by_store.as_str() && plain.as_str() == says.as_str())
 }
 
-/// The first schedule of a new store of four seats that is answered otherwise.
-fn other_row<R: Wait>(rt: &R, alloc: Global) -> Result<Option<&'static str>, Refusal> {
-    for row in &ROWS {
+/// The first of these schedules of a new store of four seats that is answered otherwise.
+fn other_row<R: Wait>(
+    rt: &R,
+    alloc: Global,
+    rows: &[Row],
+) -> Result<Option<&'static str>, Refusal> {
+    for row in rows {
         let (name, input, _) = row;
         if !input.starts_with("store ") && !is_same(rt, alloc, row)? {
             return Ok(Some(name));
@@ -113,6 +166,7 @@ fn other_row<R: Wait>(rt: &R, alloc: Global) -> Result<Option<&'static str>, Ref
 
 #[test]
 fn same_answers(rt: HostRuntime) -> Result<(), Fail> {
-    assert_eq!(rt; other_row(&rt, rt.alloc())?, None);
+    assert_eq!(rt; other_row(&rt, rt.alloc(), &ROWS)?, None);
+    assert_eq!(rt; other_row(&rt, rt.alloc(), &FED)?, None);
     Ok(())
 }

@@ -1,5 +1,5 @@
-//! Tests of a store that threads share: its answers are those of a store, what one thread writes another
-//! reads, and the page of four threads replays in a plain model.
+//! Tests of a store that threads share: its answers are those of a store, a graph that all write is read
+//! whole, and the page of four threads replays in a plain model.
 #![tactic(auto)]
 
 #[cfg(test)]

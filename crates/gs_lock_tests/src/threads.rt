@@ -16,8 +16,8 @@ use std::test::Fail;
 use std::thread;
 use std::thread::Threads;
 
-/// The rounds of each thread.
-const ROUNDS: u32 = 2_000;
+/// The rounds of each thread on each of its two graphs.
+const ROUNDS: u32 = 1_000;
 
 /// The graph that all write.
 const ALL: &str = "http://e/all";
@@ -150,9 +150,9 @@ fn four_threads_leave_a_page_that_replays(rt: HostRuntime) -> Result<(), Fail> {
     assert_eq!(rt; faults, 0);
     let page = ended.audited.page();
     assert_eq!(rt; page.number(), 0);
-    assert_eq!(rt; page.entries().len(), 60_000);
+    assert_eq!(rt; page.entries().len(), 30_000);
     for record in &ended.passes {
-        assert_eq!(rt; record.calls(), 15_000);
+        assert_eq!(rt; record.calls(), 7_500);
         assert_eq!(rt; record.receipts().len(), 4_096);
         assert!(rt; stands(page.entries(), record));
     }

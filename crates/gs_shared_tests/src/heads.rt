@@ -16,7 +16,7 @@ use std::thread;
 use std::thread::Threads;
 
 /// Asks so many times whether the default graph is there.
-fn ask<C: Side, T: Side, B: Room, R: Wait>(
+pub fn ask<C: Side, T: Side, B: Room, R: Wait>(
     rt: &R,
     hall: &Hall<C, T, B>,
     pass: Pass<C, T, B>,

@@ -7,3 +7,7 @@ mod bases;
 mod heads;
 #[cfg(test)]
 mod lines;
+#[cfg(test)]
+mod seats;
+#[cfg(test)]
+mod turns;

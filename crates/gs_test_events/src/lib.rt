@@ -2,9 +2,9 @@
 #![tactic(auto)]
 
 mod answers;
-mod events;
+mod commands;
 mod notation;
 
 pub use answers::{answered, printed, words};
-pub use events::{event, events};
+pub use commands::{event, events};
 pub use notation::{lines, operations, patterns, triples};
