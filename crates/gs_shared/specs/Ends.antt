@@ -2,7 +2,7 @@
 use Rattle.std.specs.Prelude.{◌≡◌, ◌≤◌, ℕ, suc, List, [], ◌∷◌, length, Some}
 use Rattle.std.specs.List.{slice_get, sum_by, All}
 use Rattle.gs_chronicle.specs.Kinds.{kind_of}
-use Rattle.gs_chronicle.specs.Pages.{Decided, Row, PageView}
+use Rattle.gs_chronicle.specs.Pages.{Decided, Row, PageView, stored_in}
 use Rattle.gs_pass.specs.declared.receipts.Receipt.{Receipt}
 use Rattle.gs_pass.specs.declared.records.Record.{Record}
 use Rattle.gs_shared.specs.Limits.{page_entries, page_triples}
@@ -35,6 +35,10 @@ ReceiptsStand rows r = StandFrom 0 rows r.seat r.receipts.items
 -- these passes counted no more deciding calls and no more triples than a page holds
 abbrev pub FitOnePage : List Record → Type 0
 FitOnePage records = (counted_calls records ≤ page_entries) × (counted_triples records ≤ page_triples)
+
+-- a page has no more rows, and no more triples, than a page holds
+abbrev pub IsWithin : PageView → Type 0
+IsWithin p = (length p.rows ≤ page_entries) × (stored_in p.rows ≤ page_triples)
 
 -- where no page was turned, the page has as many rows as these passes counted deciding calls
 abbrev pub HasAllCalls : PageView → List Record → Type 0

@@ -10,7 +10,7 @@ ghost use Rattle.gs_door.specs.Kinds.{IsOfKind};
 ghost use Rattle.gs_pass.specs.Stamps.{keeper as keeper_of};
 ghost use Rattle.gs_shared.specs.Seats.{BeganAs, From, IsFreshOf};
 ghost use Rattle.gs_shared.specs.Tells.{Tells};
-ghost use Rattle.gs_shared.specs.Ends.{FitOnePage, HasAllCalls, AllStand};
+ghost use Rattle.gs_shared.specs.Ends.{FitOnePage, IsWithin, HasAllCalls, AllStand};
 
 use crate::desks::Desk;
 use crate::endings::Ended;
@@ -192,6 +192,7 @@ impl<C: Side, T: Side, B: Room> Shared<C, T, B> {
         requires back { length passes.items ≡ self.handed }
         ensures records { result.passes.items ≡ map (λ p. p.record) passes.items }
         ensures turned { FitOnePage result.passes.items → (page_of result.audited.chronicle).number ≡ 0 }
+        ensures within { IsWithin (page_of result.audited.chronicle) }
         ensures many { HasAllCalls (page_of result.audited.chronicle) result.passes.items }
         ensures stand { AllStand (page_of result.audited.chronicle) result.passes.items }
         ensures began { BeganAs B.start result.audited.store.view }

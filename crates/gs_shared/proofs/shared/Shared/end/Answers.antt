@@ -24,6 +24,11 @@ returns-clause-turned g c = λ fit.
     let whole-triples = c.audit.ensures.triples (omega (arith, h.triples.0, s.triple_parts, c.requires, s.whole_triples.whole)) in
     zero_of _ (λ z. d.counted.1 z (omega (arith, whole-calls, h.totals.0, h.calls.1, s.no_calls, calls, calls-are, few)) (omega (arith, whole-triples, h.totals.1, h.triples.1, s.no_triples, triples, triples-are, small)))
 
+pub returns-clause-within : goal.returns-clause-within
+returns-clause-within g c =
+    let page = c.into_inner-audited.result.audited.chronicle in
+    (omega (arith, page.few, length-map page.entries.items row_of), omega (arith, page.counted, page.small))
+
 pub returns-clause-many : goal.returns-clause-many
 returns-clause-many g c = λ z.
     let h = c.close_all.ensures in
