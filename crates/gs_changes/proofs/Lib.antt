@@ -1,0 +1,9 @@
+pub mod Counts
+pub mod StepLemmas
+pub mod ChangeLemmas
+pub mod FreeLemmas
+pub mod BackLemmas
+pub mod KeyLemmas
+pub mod PruneLemmas
+pub mod AddLemmas
+pub mod AfterLemmas
