@@ -1,0 +1,15 @@
+pub mod Sums
+pub mod Frames
+pub mod Orders
+pub mod PutSteps
+pub mod PinSteps
+pub mod FreeSteps
+pub mod Balance
+pub mod Alone
+pub mod WriteSteps
+pub mod Marked
+pub mod Counts
+pub mod Staying
+pub mod Retiring
+pub mod Needing
+pub mod Wasting
