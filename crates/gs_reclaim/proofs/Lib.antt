@@ -1,0 +1,3 @@
+pub mod Freeing
+pub mod Reclaiming
+pub mod Ending

@@ -1,0 +1,8 @@
+//! Giving back the nodes that no version needs.
+#![tactic(auto)]
+
+mod reclaims;
+mod retiring;
+
+pub use reclaims::{Reclaimed, reclaim};
+pub use retiring::retire_root;
