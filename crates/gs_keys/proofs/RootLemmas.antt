@@ -37,7 +37,7 @@ pub set_graph : (terms : List Term) (p : Nodes) (root : Option ℕ) → IsSetAt 
 set_graph terms p root set given = record { set = set_readable (key_cmp terms) p root set; given = given }
 
 -- what stands in the front of a list
-slice_get_front : (xs ys : List Term) (n : ℕ) → n < length xs → slice_get (xs ++ ys) n ≡ slice_get xs n
+pub slice_get_front : (xs ys : List Term) (n : ℕ) → n < length xs → slice_get (xs ++ ys) n ≡ slice_get xs n
 slice_get_front [] ys n h = absurd (omega arith)
 slice_get_front (x ∷ xs) ys zero h = refl
 slice_get_front (x ∷ xs) ys (suc n) h = slice_get_front xs ys n (omega arith)
@@ -63,7 +63,7 @@ module _ (terms more : List Term) where
       ∙ ap (λ o. ordering_then (number_cmp terms a.subject b.subject) (ordering_then (number_cmp terms a.predicate b.predicate) o)) (number_cmp_kept a.object b.object ga.object gb.object)
 
   -- a key says what it said
-  triple_kept : (k : Key) → IsGiven terms k → triple_at (terms ++ more) k ≡ triple_at terms k
+  pub triple_kept : (k : Key) → IsGiven terms k → triple_at (terms ++ more) k ≡ triple_at terms k
   triple_kept k g =
       let s = term_kept k.subject g.subject in
       let p = term_kept k.predicate g.predicate in
@@ -71,7 +71,7 @@ module _ (terms more : List Term) where
       λ i. record { subject = s i; predicate = p i; object = o i }
 
   -- its numbers were given
-  given_kept : (k : Key) → IsGiven terms k → IsGiven (terms ++ more) k
+  pub given_kept : (k : Key) → IsGiven terms k → IsGiven (terms ++ more) k
   given_kept k g =
       let long : length (terms ++ more) ≡ length terms + length more = length-append terms more in
       record { subject = omega (arith, g.subject, long); predicate = omega (arith, g.predicate, long); object = omega (arith, g.object, long) }
@@ -87,16 +87,24 @@ module _ (terms more : List Term) where
   rising_kept (k ∷ ks) gs h = (above_kept k ks gs.0 gs.1 h.0, rising_kept ks gs.1 h.1)
 
   -- keys say what they said
-  triples_kept : (ks : List Key) → AllKeys (IsGiven terms) ks → map (triple_at (terms ++ more)) ks ≡ map (triple_at terms) ks
+  pub triples_kept : (ks : List Key) → AllKeys (IsGiven terms) ks → map (triple_at (terms ++ more)) ks ≡ map (triple_at terms) ks
   triples_kept [] gs = refl
   triples_kept (k ∷ ks) gs = ap (λ t. t ∷ map (triple_at (terms ++ more)) ks) (triple_kept k gs.0) ∙ ap (λ ts. triple_at terms k ∷ ts) (triples_kept ks gs.1)
+
+  -- keys whose numbers were given are still such keys
+  pub all_given_kept : (ks : List Key) → AllKeys (IsGiven terms) ks → AllKeys (IsGiven (terms ++ more)) ks
+  all_given_kept = AllKeys-map (IsGiven terms) (IsGiven (terms ++ more)) given_kept
+
+  -- a set of such keys is still one
+  pub set_kept : (p : Nodes) (root : Option ℕ) → IsSetAt (key_cmp terms) p root → AllKeys (IsGiven terms) (keys_at p root) → IsSetAt (key_cmp (terms ++ more)) p root
+  set_kept p root h given = record { root_is = h.root_is; stands = h.stands; balanced = h.balanced; rising = rising_kept (keys_at p root) given h.rising; apart = h.apart }
 
   -- a root stands for the same graph
   pub graph_kept : (p : Nodes) (root : Option ℕ) → IsGraphAt terms p root → IsKept terms more p root
   graph_kept p root h = record {
     graph = record {
       set = record { root_is = h.set.root_is; stands = h.set.stands; rising = rising_kept (keys_at p root) h.given h.set.rising };
-      given = AllKeys-map (IsGiven terms) (IsGiven (terms ++ more)) given_kept (keys_at p root) h.given;
+      given = all_given_kept (keys_at p root) h.given;
     };
     same = ap graph_of (triples_kept (keys_at p root) h.given);
   }

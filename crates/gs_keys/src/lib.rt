@@ -4,5 +4,5 @@
 mod laws;
 mod texts;
 
-pub use laws::graph_outlasts_new_terms;
+pub use laws::{graph_outlasts_new_terms, set_outlasts_new_terms};
 pub use texts::ByText;

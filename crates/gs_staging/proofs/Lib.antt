@@ -1,0 +1,3 @@
+pub mod KeyLemmas
+pub mod RunLemmas
+pub mod StageLemmas

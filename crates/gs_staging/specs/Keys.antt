@@ -1,0 +1,36 @@
+-- Triples by number: dictionaries that grow, the keys of a list of triples, and the same keys as a run.
+use Rattle.std.specs.Prelude.{◌≡◌, ◌&&◌, ◌==◌, Bool, List, ◌++◌, map}
+use Rattle.gs_model.specs.Terms.{Term}
+use Rattle.gs_model.specs.Triples.{RdfTriple}
+use Rattle.gs_model.specs.Graphs.{graph_of}
+use Rattle.gs_dict.specs.Numbering.{Numbered, IsNumberOf}
+use Rattle.gs_pool.specs.declared.nodes.Key.{Key}
+use Rattle.gs_tree.specs.Keys.{AllKeys, IsRising}
+use Rattle.gs_keys.specs.Texts.{triple_at, key_cmp, IsGiven}
+
+-- a dictionary has more terms, after those that it had, and the same last number
+pub record Grows (old new : Numbered) : Type 0 where
+  pub more : List Term
+  pub terms : new.terms ≡ old.terms ++ more
+  pub last : new.last ≡ old.last
+
+-- the key has the numbers of the triple's terms
+pub record IsKeyOf (terms : List Term) (t : RdfTriple) (k : Key) : Type 0 where
+  pub subject : IsNumberOf terms k.subject t.subject
+  pub predicate : IsNumberOf terms k.predicate t.predicate
+  pub object : IsNumberOf terms k.object t.object
+
+-- these are the keys of the triples, one after the other
+pub record AreKeysOf (terms : List Term) (ts : List RdfTriple) (ks : List Key) : Type 0 where
+  pub said : map (triple_at terms) ks ≡ ts
+  pub given : AllKeys (IsGiven terms) ks
+
+-- whether two keys have the same numbers
+abbrev pub is_same : Key → Key → Bool
+is_same a b = (a.subject == b.subject) && ((a.predicate == b.predicate) && (a.object == b.object))
+
+-- the run rises, and has the triples of these keys
+pub record IsRunOf (terms : List Term) (ks run : List Key) : Type 0 where
+  pub rising : IsRising (key_cmp terms) run
+  pub given : AllKeys (IsGiven terms) run
+  pub graph : graph_of (map (triple_at terms) run) ≡ graph_of (map (triple_at terms) ks)
