@@ -23,6 +23,10 @@ a range at the front of the graph | a p b, a p c, b p c | a p ?o | b p c
 a range at the end of the graph | a p b, b p c, b p d | b p ?o | a p b
 a range by a variable that is bound | a p b, a p c, b q d, b q e, c r d | a p ?x, ?x q ?y | a p c, c r d
 a range of one key by variables that are bound | a p b, b p a, b p c | ?x p ?y, ?y p ?x | b p c
+a subject that differs in its last byte is another | long1 p b, long2 p b, long3 p b | long2 ?p ?o | long1 p b, long3 p b
+a predicate that differs in its last byte is another | a long1 b, a long2 b, a long3 b | ?s long2 ?o | a long1 b, a long3 b
+an object that differs in its last byte is another | a p long1, a p long2, a p long3 | ?s ?p long2 | a p long1, a p long3
+a bound term that differs in its last byte is another | a p long1, long1 q b, long2 q b | ?x p ?y, ?y q ?z | long2 q b
 a subject that goes on is another | a p b, aa p b, ab p b | a ?p ?o | aa p b, ab p b
 a variable as subject and object | a p a, a p b, b p b | ?x p ?x | a p b
 a variable as subject and predicate | a p b, p p b | ?x ?x b | a p b
@@ -77,6 +81,22 @@ fn count_right(alloc: Global) -> Result<Result<usize, &'static str>, Refusal> {
 
 #[test]
 fn the_instances_under_all_solutions_go(rt: HostRuntime) -> Result<(), Fail> {
-    assert_eq!(rt; count_right(rt.alloc())?, Ok(30));
+    assert_eq!(rt; count_right(rt.alloc())?, Ok(34));
+    Ok(())
+}
+
+/// Whether a row is right, and right again where a request for memory was refused.
+fn is_right_again(alloc: Global) -> Result<bool, Refusal> {
+    let row =
+        "| a p b, a q b, b p c, b q c, c p d, c q d, d r a | ?x p ?y, ?x q ?y, ?y p ?z | c q d, d r a";
+    match is_so(alloc, row) {
+        Err(Refusal::NoMemory) => is_so(alloc, row),
+        other => other,
+    }
+}
+
+#[test]
+fn a_refused_search_is_reported(rt: HostRuntime) -> Result<(), Fail> {
+    assert!(rt; is_right_again(rt.alloc())?);
     Ok(())
 }

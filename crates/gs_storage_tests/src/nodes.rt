@@ -135,7 +135,7 @@ fn nodes_are_those_of_a_list(rt: HostRuntime) -> Result<(), Refusal> {
     let mut list: Vec<Slot> = Vec::new(rt.alloc());
     let mut draws = Draws::new(3);
     let mut refused = 0u32;
-    for _ in 0..6_000 {
+    for _ in 0..10_000 {
         let object = (draws.next() % 1_000_000) as u32;
         let id = (draws.next() % 64) as u32;
         match draws.next() % 8 {

@@ -22,7 +22,7 @@ fn pins_need_what_a_list_of_versions_needs(rt: HostRuntime) -> Result<(), Refusa
     let mut commit = 0u64;
     let mut draws = Draws::new(2);
     let mut needed = 0u32;
-    for _ in 0..4_000 {
+    for _ in 0..10_000 {
         let place = (draws.next() % 5) as usize;
         match draws.next() % 4 {
             0 => {
@@ -58,6 +58,6 @@ fn pins_need_what_a_list_of_versions_needs(rt: HostRuntime) -> Result<(), Refusa
             needed = needed.saturating_add(1);
         }
     }
-    assert!(&rt; needed > 400 && needed < 3_600);
+    assert!(&rt; needed > 1_000 && needed < 9_000);
     Ok(())
 }

@@ -32,7 +32,7 @@ fn terms_have_the_numbers_of_a_list(rt: HostRuntime) -> Result<(), Refusal> {
     let mut dict = Dict::new(alloc, 1, u32::MAX)?;
     let mut list: Vec<u64> = Vec::new(alloc);
     let mut draws = Draws::new(1);
-    for _ in 0..4_000 {
+    for _ in 0..10_000 {
         let drawn = draws.next() % 2_500;
         let drawn_term = term(alloc, drawn)?;
         let known = list.iter().position(|x| *x == drawn);

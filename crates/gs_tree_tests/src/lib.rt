@@ -7,6 +7,8 @@ mod number_sets;
 #[cfg(test)]
 mod orders;
 #[cfg(test)]
+mod refusals;
+#[cfg(test)]
 mod runs;
 #[cfg(test)]
 mod steps;

@@ -99,15 +99,15 @@ fn sets_of_one_and_of_two_numbers(rt: HostRuntime) -> Result<(), Refusal> {
 
 #[test]
 fn numbers_that_rise(rt: HostRuntime) -> Result<(), Refusal> {
-    turn(&rt, rt.alloc(), Way::Rising, Way::Zigzag, 4_096)
+    turn(&rt, rt.alloc(), Way::Rising, Way::Zigzag, 65_536)
 }
 
 #[test]
 fn numbers_that_fall(rt: HostRuntime) -> Result<(), Refusal> {
-    turn(&rt, rt.alloc(), Way::Falling, Way::Rising, 3_000)
+    turn(&rt, rt.alloc(), Way::Falling, Way::Rising, 65_536)
 }
 
 #[test]
 fn numbers_from_both_ends(rt: HostRuntime) -> Result<(), Refusal> {
-    turn(&rt, rt.alloc(), Way::Zigzag, Way::Falling, 3_000)
+    turn(&rt, rt.alloc(), Way::Zigzag, Way::Falling, 65_536)
 }
