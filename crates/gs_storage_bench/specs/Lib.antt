@@ -1,0 +1,2 @@
+-- Read `Stored`: what a graph of the measures always is.
+pub mod Stored

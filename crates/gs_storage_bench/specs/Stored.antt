@@ -1,0 +1,24 @@
+-- A graph that is filled: a root that means a set of keys whose numbers were given.
+use Rattle.std.specs.Prelude.{◌≡◌, ℕ, List, ◌++◌, Option}
+use Rattle.gs_model.specs.Terms.{Term}
+use Rattle.gs_dict.specs.Numbering.{Numbered}
+use Rattle.gs_pool.specs.declared.nodes.Key.{Key}
+use Rattle.gs_pool.specs.Pool.{Nodes}
+use Rattle.gs_tree.specs.Keys.{AllKeys, IsRising}
+use Rattle.gs_tree.specs.Reading.{keys_at}
+use Rattle.gs_tree.specs.Sets.{IsSetAt}
+use Rattle.gs_keys.specs.Texts.{key_cmp, IsGiven}
+
+-- a root means a set in the order of texts, whose numbers were all given
+pub record IsStored (terms : List Term) (p : Nodes) (root : Option ℕ) : Type 0 where
+  pub set : IsSetAt (key_cmp terms) p root
+  pub given : AllKeys (IsGiven terms) (keys_at p root)
+
+-- a dictionary has more terms at its end
+abbrev pub Grows : Numbered → Numbered → Type 0
+Grows d e = (more : List Term) × (e.terms ≡ d.terms ++ more)
+
+-- keys may be united with a set
+pub record MayUnite (terms : List Term) (keys : List Key) : Type 0 where
+  pub rising : IsRising (key_cmp terms) keys
+  pub given : AllKeys (IsGiven terms) keys

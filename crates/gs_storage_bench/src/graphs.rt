@@ -1,0 +1,196 @@
+//! A graph that is filled piece by piece: a dictionary, a pool and a root.
+ghost use Rattle.std.specs.Prelude.{◌≡◌, true, OnOk};
+ghost use Rattle.std.specs.Bool.{Decides};
+ghost use Rattle.gs_tree.specs.Keys.{IsRising, AllKeys};
+ghost use Rattle.gs_keys.specs.Texts.{key_cmp, IsGiven};
+ghost use Rattle.gs_storage_bench.specs.Stored.{Grows, MayUnite};
+
+use crate::document::Terms;
+use gs_dict::{Dict, TermId};
+use gs_keys::ByText;
+use gs_model::Refusal;
+use gs_pool::{Key, Pool};
+use gs_tree::{KeyOrder, is_rising, next_keys, union};
+use std::alloc::{AllocError, Global};
+use std::marker::Model;
+
+/// The seed of the dictionary's hash.
+const SEED: u64 = 20_240_229;
+
+/// A set of keys in the order of the texts of their terms, each of which has a number.
+#[derive(Drop)]
+pub struct Graph {
+    dict: Dict,
+    pool: Pool,
+    root: Option<u32>,
+    /// The number of the last subject.
+    near: TermId,
+}
+
+impl Model for Graph {
+    ghost use Rattle.gs_dict.specs.Numbering.{Numbered, numbered_code};
+
+    ghost Value = { Numbered };
+
+    ghost coded = { numbered_code };
+
+    ghost use Rattle.gs_storage_bench.specs.Stored.{IsStored};
+
+    ghost view = { λ g. g.dict };
+
+    ghost invariant = { λ g. IsStored g.dict.terms g.pool g.root };
+}
+
+/// The numbers of three terms, of which the subject's is tried first.
+fn numbers(dict: &mut Dict, near: TermId, terms: &Terms) -> Result<Key, Refusal>
+    ensures { Grows dict.old dict.new }
+{
+    let subject = dict.intern_near(near, &terms.subject)?;
+    let predicate = dict.intern(&terms.predicate)?;
+    let object = dict.intern(&terms.object)?;
+    Ok(Key {
+        subject: subject.number,
+        predicate: predicate.number,
+        object: object.number,
+    })
+}
+
+/// Whether the dictionary has each number of a key.
+fn is_given(dict: &Dict, key: Key) -> bool
+    ensures { Decides result (IsGiven dict.now.terms key) }
+{
+    let subject = dict.has(TermId {
+        number: key.subject,
+    });
+    let predicate = dict.has(TermId {
+        number: key.predicate,
+    });
+    let object = dict.has(TermId { number: key.object });
+    subject && predicate && object
+}
+
+/// Whether it has each number of some keys.
+fn are_given(dict: &Dict, keys: &[Key]) -> bool
+    ensures { result ≡ true → AllKeys (IsGiven dict.now.terms) keys.now }
+{
+    let Some((key, rest)) = keys.split_first() else {
+        return true;
+    };
+    is_given(dict, *key) && are_given(dict, rest)
+}
+
+/// Whether keys rise, and have numbers that were given.
+fn may_unite(dict: &Dict, keys: &[Key]) -> bool
+    ensures { result ≡ true → MayUnite dict.now.terms keys.now }
+{
+    is_rising(&ByText::new(dict), keys) && are_given(dict, keys)
+}
+
+/// Whether two keys are one.
+fn is_same(a: Key, b: Key) -> bool {
+    a.subject == b.subject && a.predicate == b.predicate && a.object == b.object
+}
+
+/// The text of a number, which is empty where the number was not given.
+fn text(dict: &Dict, number: u32) -> &[u8] {
+    let id = TermId { number };
+    if dict.has(id) { dict.text(id) } else { &[] }
+}
+
+/// Appends the line of a key.
+fn push_line(dict: &Dict, key: Key, bytes: &mut Vec<u8>) -> Result<(), AllocError> {
+    bytes.extend_from_slice(text(dict, key.subject))?;
+    bytes.push(b' ')?;
+    bytes.extend_from_slice(text(dict, key.predicate))?;
+    bytes.push(b' ')?;
+    bytes.extend_from_slice(text(dict, key.object))?;
+    bytes.extend_from_slice(b" .\n")
+}
+
+/// How many bytes the lines of keys have.
+fn line_bytes(dict: &Dict, keys: &[Key]) -> usize {
+    let mut bytes = 0usize;
+    for key in keys {
+        bytes = bytes
+            .saturating_add(text(dict, key.subject).len())
+            .saturating_add(text(dict, key.predicate).len())
+            .saturating_add(text(dict, key.object).len())
+            .saturating_add(5);
+    }
+    bytes
+}
+
+impl Graph {
+    /// One without triples.
+    pub fn new(alloc: Global) -> Result<Graph, Refusal> {
+        Ok(Graph {
+            dict: Dict::new(alloc, SEED, u32::MAX)?,
+            pool: Pool::new(alloc, u32::MAX),
+            root: None,
+            near: TermId { number: 0 },
+        })
+    }
+
+    /// How many terms have a number.
+    pub fn terms(&self) -> usize {
+        self.dict.len()
+    }
+
+    /// How many nodes are in use.
+    pub fn nodes(&self) -> u64 {
+        self.pool.nodes_in_use()
+    }
+
+    /// The key of three terms, which are given numbers.
+    pub fn key_of(&mut self, terms: &Terms) -> Result<Key, Refusal> {
+        let key = numbers(&mut self.dict, self.near, terms)?;
+        self.near = TermId {
+            number: key.subject,
+        };
+        Ok(key)
+    }
+
+    /// Sorts keys, and drops those that are there twice.
+    pub fn sort(&self, keys: &mut Vec<Key>) -> Result<(), AllocError> {
+        let order = ByText::new(&self.dict);
+        keys.sort_by(|a, b| order.compare(*a, *b))?;
+        keys.dedup_by(|a, b| is_same(*a, *b));
+        Ok(())
+    }
+
+    /// Whether keys rise, and have numbers that were given, as `unite` asks for.
+    pub fn may_unite(&self, keys: &[Key]) -> bool {
+        may_unite(&self.dict, keys)
+    }
+
+    /// Adds a run of keys, by the commit of this number. A commit of 0 copies no node.
+    pub fn unite(&mut self, keys: &[Key], commit: u64) -> Result<usize, Refusal> {
+        if !may_unite(&self.dict, keys) {
+            return Err(Refusal::Syntax(0));
+        }
+        let order = ByText::new(&self.dict);
+        let merged = union(&mut self.pool, &order, self.root, keys, commit, commit)?;
+        self.root = merged.root;
+        Ok(merged.added)
+    }
+
+    /// Appends the keys above `from`, or all where it is `None`, and `most` of them at most.
+    pub fn next_keys(
+        &self,
+        from: Option<Key>,
+        most: usize,
+        keys: &mut Vec<Key>,
+    ) -> Result<(), AllocError> {
+        let order = ByText::new(&self.dict);
+        next_keys(&self.pool, &order, self.root, from, most, keys)
+    }
+
+    /// Appends the lines of keys.
+    pub fn push_lines(&self, keys: &[Key], bytes: &mut Vec<u8>) -> Result<(), AllocError> {
+        bytes.reserve(line_bytes(&self.dict, keys))?;
+        for key in keys {
+            push_line(&self.dict, *key, bytes)?;
+        }
+        Ok(())
+    }
+}

@@ -1,0 +1,158 @@
+//! What is measured: a document filled piece by piece, a walk over all keys, and small unions.
+use crate::document::{Document, Terms, mixed};
+use crate::graphs::Graph;
+use gs_model::Refusal;
+use gs_pool::Key;
+use std::alloc::Global;
+
+/// The triples of a piece.
+const PIECE: u32 = 500;
+
+/// The keys that a walk takes at once.
+const STEP: usize = 256;
+
+/// How far each piece goes.
+#[derive(Clone, Copy, PartialEq, Eq, PartialOrd, Ord, Drop)]
+pub enum Phase {
+    /// Terms are made, and nothing more.
+    Make,
+    Intern,
+    Sort,
+    /// Keys are tested, as a union asks for.
+    Test,
+    Unite,
+}
+
+/// The terms of the piece that begins at a place.
+fn piece_from(alloc: Global, document: &Document, from: u32) -> Result<Vec<Terms>, Refusal> {
+    let to = from.saturating_add(PIECE).min(document.count());
+    let mut piece = Vec::with_capacity(alloc, PIECE as usize)?;
+    for at in from..to {
+        piece.push(document.terms(at)?)?;
+    }
+    Ok(piece)
+}
+
+/// Takes a piece as far as the phase goes, and says how many keys it adds.
+fn take(
+    graph: &mut Graph,
+    piece: &[Terms],
+    phase: Phase,
+    keys: &mut Vec<Key>,
+) -> Result<usize, Refusal> {
+    keys.clear();
+    for terms in piece {
+        keys.push(graph.key_of(terms)?)?;
+    }
+    if phase >= Phase::Sort {
+        graph.sort(keys)?;
+    }
+    match phase {
+        Phase::Unite => graph.unite(keys, 0),
+        Phase::Test if graph.may_unite(keys) => Ok(keys.len()),
+        _ => Ok(0),
+    }
+}
+
+/// Fills a graph with a document, as far as the phase goes, and says how many keys that adds.
+pub fn fill(
+    alloc: Global,
+    graph: &mut Graph,
+    document: &Document,
+    phase: Phase,
+) -> Result<usize, Refusal> {
+    let mut keys = Vec::new(alloc);
+    let mut added = 0usize;
+    for number in 0..document.count().div_ceil(PIECE) {
+        let piece = piece_from(alloc, document, number.saturating_mul(PIECE))?;
+        if phase >= Phase::Intern {
+            added = added.saturating_add(take(graph, &piece, phase, &mut keys)?);
+        }
+    }
+    Ok(added)
+}
+
+/// Walks all keys, and makes their lines where that is asked for: how many keys, and how many bytes
+/// of lines, there are.
+pub fn walk(alloc: Global, graph: &Graph, makes_lines: bool) -> Result<(usize, usize), Refusal> {
+    let mut keys: Vec<Key> = Vec::new(alloc);
+    let mut lines: Vec<u8> = Vec::new(alloc);
+    let mut from = None;
+    let mut walked = 0usize;
+    let mut written = 0usize;
+    for _ in 0..=graph.nodes() {
+        keys.clear();
+        lines.clear();
+        graph.next_keys(from, STEP, &mut keys)?;
+        if makes_lines {
+            graph.push_lines(&keys, &mut lines)?;
+        }
+        walked = walked.saturating_add(keys.len());
+        written = written.saturating_add(lines.len());
+        let Some(last) = keys.last() else {
+            break;
+        };
+        from = Some(*last);
+    }
+    Ok((walked, written))
+}
+
+/// Where the keys of a small run stand.
+#[derive(Clone, Copy, PartialEq, Eq, Drop)]
+pub enum Places {
+    /// They have one subject.
+    Near,
+    /// Each has a subject that is drawn.
+    Apart,
+}
+
+/// Ten keys of terms that have numbers, which the graph mostly lacks.
+fn draw(
+    graph: &mut Graph,
+    document: &Document,
+    places: Places,
+    run: u64,
+    keys: &mut Vec<Key>,
+) -> Result<(), Refusal> {
+    let count = u64::from(document.count()).max(1);
+    keys.clear();
+    for number in 0..10 {
+        let drawn = mixed(run.wrapping_mul(10).wrapping_add(number));
+        let first = match places {
+            Places::Near => mixed(run),
+            Places::Apart => mixed(drawn),
+        };
+        let subject = graph.key_of(&document.terms((first % count) as u32)?)?;
+        let object = graph.key_of(&document.terms((drawn % count) as u32)?)?;
+        keys.push(Key {
+            object: object.object,
+            ..subject
+        })?;
+    }
+    graph.sort(keys)?;
+    Ok(())
+}
+
+/// Draws runs of ten keys, and unites them with the graph in commits of their own where that is asked
+/// for: how many keys that adds.
+pub fn unite_few(
+    alloc: Global,
+    graph: &mut Graph,
+    document: &Document,
+    places: Places,
+    runs: u64,
+    unites: bool,
+) -> Result<usize, Refusal> {
+    let mut keys = Vec::new(alloc);
+    let mut added = 0usize;
+    for run in 0..runs {
+        draw(graph, document, places, run, &mut keys)?;
+        if unites {
+            let commit = run.saturating_add(1);
+            added = added.saturating_add(graph.unite(&keys, commit)?);
+        } else if graph.may_unite(&keys) {
+            added = added.saturating_add(1);
+        }
+    }
+    Ok(added)
+}
