@@ -1,4 +1,4 @@
 mod FaultLemmas
-mod PieceLemmas
+mod NumberLemmas
 mod AskedLemmas
 mod RunLemmas

@@ -9,9 +9,9 @@ use Rattle.gs_talk.specs.Seats.{Deeds}
 use Rattle.gs_talk.specs.Logs.{Server}
 use Rattle.gs_session.specs.Connections.{Connection, Done, Quit}
 use Rattle.gs_once.specs.declared.stops.Stop.{Stop}
-use Rattle.gs_once.specs.declared.stops.Stop.TheVariants.{BadArguments, NoMemory, ReadFailed, WriteFailed}
+use Rattle.gs_once.specs.declared.stops.Stop.TheVariants.{BadArguments, CannotListen, NoMemory, ReadFailed, WriteFailed}
 use Rattle.gs_once.specs.Options.{help_text}
-use Rattle.gs_once.specs.Asked.{Asked, help, connection, nothing}
+use Rattle.gs_once.specs.Asked.{Asked, help, connection, listening, nothing}
 use Rattle.gs_once.specs.Stops.{AppendsFront, said_line}
 
 -- what is left to read before and after a run, and what its output holds before and after it
@@ -46,7 +46,7 @@ pub record ServesConnection (base : List ℕ) (piece : ℕ) (t : Traffic)
   pub served : Connection Steps 0 t.unread t.left t.held t.holds first last
       (Holds (record { base = base; piece = piece }) t.left)
 
--- What a run did of what was asked, where it ended well or for this reason.
+-- What a run did of what was asked, where it ended well or for this reason. It has no network, so it listens nowhere.
 abbrev pub Performs : Asked → Traffic → Result (Unit {0}) Stop → Type 0
 Performs help t (Ok done) = IsUnread t × Appends t.held t.holds help_text
 Performs help t (Err WriteFailed) = IsUnread t × AppendsFront t.held t.holds help_text
@@ -54,8 +54,12 @@ Performs help t (Err NoMemory) = IsUntouched t
 Performs help t (Err stop) = ⊥
 Performs (connection base piece) t (Ok done) = ServesConnection base piece t Done
 Performs (connection base piece) t (Err NoMemory) = IsUntouched t ⊎ ServesConnection base piece t Quit
-Performs (connection base piece) t (Err BadArguments) = ⊥
-Performs (connection base piece) t (Err stop) = ServesConnection base piece t Quit
+Performs (connection base piece) t (Err ReadFailed) = ServesConnection base piece t Quit
+Performs (connection base piece) t (Err WriteFailed) = ServesConnection base piece t Quit
+Performs (connection base piece) t (Err stop) = ⊥
+Performs (listening address base workers piece) t (Err CannotListen) = IsUntouched t
+Performs (listening address base workers piece) t (Err NoMemory) = IsUntouched t
+Performs (listening address base workers piece) t ended = ⊥
 Performs nothing t (Err BadArguments) = IsUntouched t
 Performs nothing t (Err NoMemory) = IsUntouched t
 Performs nothing t ended = ⊥
@@ -66,8 +70,9 @@ StopsBy asked t said says stop = Performs asked t (Err stop) × AppendsFront sai
 
 -- What a run did, by its status. Where that is 0, nothing is said.
 pub record Exits (asked : Asked) (t : Traffic) (said says : Option (List ℕ)) (status : ℕ) : Type 0 where
-  pub is_one : (status ≡ 0) ⊎ ((status ≡ 1) ⊎ ((status ≡ 2) ⊎ (status ≡ 4)))
+  pub is_one : (status ≡ 0) ⊎ ((status ≡ 1) ⊎ ((status ≡ 2) ⊎ ((status ≡ 3) ⊎ (status ≡ 4))))
   pub well : status ≡ 0 → Performs asked t (Ok tt) × (says ≡ said)
   pub failed : status ≡ 1 → StopsBy asked t said says ReadFailed ⊎ StopsBy asked t said says WriteFailed
   pub bad_arguments : status ≡ 2 → StopsBy asked t said says BadArguments
+  pub cannot_listen : status ≡ 3 → StopsBy asked t said says CannotListen
   pub no_memory : status ≡ 4 → StopsBy asked t said says NoMemory

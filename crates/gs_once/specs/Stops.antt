@@ -5,11 +5,12 @@ use Rattle.gs_model.specs.Characters.{line_feed}
 use Rattle.gs_session.specs.declared.serving.ServeFault.{ServeFault}
 use Rattle.gs_session.specs.declared.serving.ServeFault.TheVariants as fault
 use Rattle.gs_once.specs.declared.stops.Stop.{Stop}
-use Rattle.gs_once.specs.declared.stops.Stop.TheVariants.{BadArguments, NoMemory, ReadFailed, WriteFailed}
+use Rattle.gs_once.specs.declared.stops.Stop.TheVariants.{BadArguments, CannotListen, NoMemory, ReadFailed, WriteFailed}
 
 -- the line that is said on standard error
 abbrev pub said_line : Stop → List ℕ
 said_line BadArguments = codes "gsd: bad arguments" ++ line_feed ∷ []
+said_line CannotListen = codes "gsd: cannot listen" ++ line_feed ∷ []
 said_line NoMemory = codes "gsd: no memory" ++ line_feed ∷ []
 said_line ReadFailed = codes "gsd: read failed" ++ line_feed ∷ []
 said_line WriteFailed = codes "gsd: write failed" ++ line_feed ∷ []
@@ -17,6 +18,7 @@ said_line WriteFailed = codes "gsd: write failed" ++ line_feed ∷ []
 -- the status
 abbrev pub exit_status : Stop → ℕ
 exit_status BadArguments = 2
+exit_status CannotListen = 3
 exit_status NoMemory = 4
 exit_status ReadFailed = 1
 exit_status WriteFailed = 1

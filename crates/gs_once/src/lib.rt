@@ -1,4 +1,4 @@
-//! One connection of a graph store over HTTP, as the words of a command line ask for it.
+//! What the words of a command line ask for, and one connection of a graph store over HTTP where they do.
 #![tactic(auto)]
 
 mod laws;
@@ -10,6 +10,7 @@ mod tasks;
 mod tests;
 mod words;
 
-pub use laws::{lines_for_help, lines_that_are_bad, lines_that_serve};
-pub use runs::once;
+pub use laws::{lines_for_help, lines_that_are_bad, lines_that_listen, lines_that_serve};
+pub use runs::{once, perform};
 pub use stops::{Stop, report};
+pub use tasks::{Task, read_task};

@@ -8,15 +8,27 @@ use std::alloc::Global;
 
 /// The text of help.
 const HELP: &str = "\
-Serves one connection of a graph store over HTTP, from standard input to standard output.
+Serves a graph store over HTTP: at an address, or one connection from standard
+input to standard output.
 
-Usage: gsd --once [--base URL] [--piece N]
+Usage: gsd --listen ADDR [--base URL] [--workers N] [--piece N]
+       gsd --once [--base URL] [--piece N]
 
-  --once      serve one connection over a new store, and end
-  --base URL  http:// and a host: what names of graphs begin with (default http://localhost)
-  --piece N   the lines of a piece of a reply, 1 to 4096 (default 256)
-  -h, --help  show this text
+  --listen ADDR  serve the connections to this address, as 127.0.0.1:8080
+  --once         serve one connection over a new store, and end
+  --base URL     http://HOST, which names begin with (default http://localhost)
+  --workers N    connections at once, 1 to 256 (default 4)
+  --piece N      lines of a piece of a reply, 1 to 4096 (default 256)
+  -h, --help     show this text
 ";
+
+/// Serve the connections to an address.
+pub fn listen<'a>(alloc: Global) -> Arg<'a>
+    ensures rule { rule_of result ≡ spec.listen }
+    ensures local { result.global ≡ false }
+{
+    Arg::new(alloc, "listen").long("listen")
+}
 
 /// Serve one connection.
 pub fn once<'a>(alloc: Global) -> Arg<'a>
@@ -36,6 +48,17 @@ pub fn base<'a>(alloc: Global) -> Arg<'a>
     Arg::new(alloc, "base")
         .long("base")
         .default_value("http://localhost")
+}
+
+/// The workers of a server: so many connections are served at once.
+pub fn workers<'a>(alloc: Global) -> Arg<'a>
+    ensures rule { rule_of result ≡ spec.workers }
+    ensures local { result.global ≡ false }
+{
+    Arg::new(alloc, "workers")
+        .long("workers")
+        .value_parser(clap::value_parser!(u16).range(1..=256))
+        .default_value("4")
 }
 
 /// The lines of a piece: so many a chunk of a reply has.

@@ -1,7 +1,7 @@
 //! One run of the program.
 ghost use Rattle.std.specs.Prelude.{◌≡◌, ◌≤◌, ℕ, List, Option, true, map};
 ghost use Rattle.gs_model.specs.Bases.{is_base};
-ghost use Rattle.gs_once.specs.Asked.{asked_by, help as asks_help, connection};
+ghost use Rattle.gs_once.specs.Asked.{asked_by, asked_for, IsAllowed, help as asks_help, connection};
 ghost use Rattle.gs_once.specs.Stops.{stop_of as stop_by};
 ghost use Rattle.gs_once.specs.Runs.{traffic, Performs, Exits};
 
@@ -60,27 +60,49 @@ fn serve_one<R: Read, W: Write>(
     }
 }
 
-/// Does what the words ask for.
+/// Does the task. What is listened at is reached through a network, of which a run has none.
 fn run<R: Read, W: Write>(
     alloc: Global,
-    words: &[&str],
+    task: Task,
     reader: &mut R,
     out: &mut W,
 ) -> Result<(), Stop>
-    ensures { Performs (asked_by (map (λ w. w.now) words.now))
+    requires { IsAllowed task }
+    ensures { Performs (asked_for task.entry)
         (traffic (R.remaining reader.old) (R.remaining reader.new) (W.contents out.old) (W.contents out.new)) result }
 {
-    match read_task(alloc, words) {
-        Ok(Task::Help) => show_help(out),
-        Ok(Task::Connection(base, piece)) => serve_one(alloc, base, piece, reader, out),
-        Err(stop) => Err(stop),
+    match task {
+        Task::Help => show_help(out),
+        Task::Connection(base, piece) => serve_one(alloc, base, piece, reader, out),
+        Task::Listen { .. } => Err(Stop::CannotListen),
     }
 }
 
-/// Does what the words ask for, of which the first is the program's name, and gives the status. It is
-/// 0 at the end of a connection that was served and after help, 1 where a read, a write or a flush failed, 2
-/// where the words ask for neither, and 4 where memory was wanted. A status that is not 0 has its
-/// line on `err`; where that cannot be written, the status is the same.
+/// Does the task, and gives the status: it is 0 at the end of a connection that was served and after
+/// help, 1 where a read, a write or a flush failed, 3 where the task is to listen, which a caller with a
+/// network does itself, and 4 where memory was wanted. A status that is not 0 has its line on `err`;
+/// where that cannot be written, the status is the same.
+pub fn perform<R: Read, W: Write, E: Write>(
+    alloc: Global,
+    task: Task,
+    reader: &mut R,
+    out: &mut W,
+    err: &mut E,
+) -> u8
+    requires { IsAllowed task }
+    ensures { Exits (asked_for task.entry)
+        (traffic (R.remaining reader.old) (R.remaining reader.new) (W.contents out.old) (W.contents out.new))
+        (E.contents err.old) (E.contents err.new) result }
+{
+    match run(alloc, task, reader, out) {
+        Ok(()) => 0,
+        Err(stop) => report(err, stop),
+    }
+}
+
+/// Does what the words ask for, of which the first is the program's name, and gives the status: that of
+/// `perform`, or 2 where the words ask for nothing, and 4 where memory was wanted to read them; these
+/// have their lines on `err` too.
 pub fn once<R: Read, W: Write, E: Write>(
     alloc: Global,
     words: &[&str],
@@ -92,8 +114,8 @@ pub fn once<R: Read, W: Write, E: Write>(
         (traffic (R.remaining reader.old) (R.remaining reader.new) (W.contents out.old) (W.contents out.new))
         (E.contents err.old) (E.contents err.new) result }
 {
-    match run(alloc, words, reader, out) {
-        Ok(()) => 0,
-        Err(stop) => report(err, stop),
+    match read_task(alloc, words) {
+        Ok(task) => perform(alloc, task, reader, out, err),
+        Err(refused) => report(err, refused),
     }
 }

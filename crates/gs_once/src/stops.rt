@@ -10,6 +10,8 @@ use std::io::Write;
 pub enum Stop {
     /// The words ask for nothing that the program does.
     BadArguments,
+    /// The address cannot be listened at.
+    CannotListen,
     /// Memory was wanted and not given.
     NoMemory,
     /// A read failed, or there were 2^64 - 1 turns and reads.
@@ -23,6 +25,7 @@ fn line(stop: Stop) -> &'static str
 {
     match stop {
         Stop::BadArguments => "gsd: bad arguments\n",
+        Stop::CannotListen => "gsd: cannot listen\n",
         Stop::NoMemory => "gsd: no memory\n",
         Stop::ReadFailed => "gsd: read failed\n",
         Stop::WriteFailed => "gsd: write failed\n",
@@ -35,6 +38,7 @@ fn status(stop: Stop) -> u8
     match stop {
         Stop::ReadFailed | Stop::WriteFailed => 1,
         Stop::BadArguments => 2,
+        Stop::CannotListen => 3,
         Stop::NoMemory => 4,
     }
 }

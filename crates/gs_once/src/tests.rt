@@ -4,14 +4,18 @@ use std::alloc::{AllocError, Global};
 use std::io::{self, Error, ErrorKind, Read, Write};
 
 const HELP: &str = "\
-Serves one connection of a graph store over HTTP, from standard input to standard output.
+Serves a graph store over HTTP: at an address, or one connection from standard
+input to standard output.
 
-Usage: gsd --once [--base URL] [--piece N]
+Usage: gsd --listen ADDR [--base URL] [--workers N] [--piece N]
+       gsd --once [--base URL] [--piece N]
 
-  --once      serve one connection over a new store, and end
-  --base URL  http:// and a host: what names of graphs begin with (default http://localhost)
-  --piece N   the lines of a piece of a reply, 1 to 4096 (default 256)
-  -h, --help  show this text
+  --listen ADDR  serve the connections to this address, as 127.0.0.1:8080
+  --once         serve one connection over a new store, and end
+  --base URL     http://HOST, which names begin with (default http://localhost)
+  --workers N    connections at once, 1 to 256 (default 4)
+  --piece N      lines of a piece of a reply, 1 to 4096 (default 256)
+  -h, --help     show this text
 ";
 
 /// Makes a graph, of no triples.
@@ -49,7 +53,10 @@ const DONE: &[(&str, &str, &str)] = &[
         MAKE,
         MADE_ELSEWHERE,
     ),
+    ("gsd --once --workers 9", MAKE, MADE),
+    ("gsd --workers=256 --once", MAKE, MADE),
     ("gsd --help", MAKE, HELP),
+    ("gsd --listen x --help", MAKE, HELP),
     ("gsd -h", MAKE, HELP),
 ];
 
@@ -67,6 +74,29 @@ const BAD: &[&str] = &[
     "gsd --once --base ftp://x",
     "gsd --once --other",
     "gsd --once more",
+    "gsd --workers 4",
+    "gsd --listen",
+    "gsd --listen 127.0.0.1:0 --once",
+    "gsd --once --listen 127.0.0.1:0",
+    "gsd --listen 127.0.0.1:0 --listen 127.0.0.1:0",
+    "gsd --listen 127.0.0.1:0 --workers 0",
+    "gsd --listen 127.0.0.1:0 --workers 257",
+    "gsd --listen 127.0.0.1:0 --workers x",
+    "gsd --listen 127.0.0.1:0 --piece 0",
+    "gsd --listen 127.0.0.1:0 --base ftp://x",
+    "gsd --once --workers 0",
+    "gsd --once --workers 257",
+    "gsd --once --workers x",
+    "gsd --once --workers",
+    "gsd --once --workers 4 --workers 4",
+];
+
+/// Command lines that ask for listening, which a run without a network cannot.
+const FOR_LISTENERS: &[&str] = &[
+    "gsd --listen 127.0.0.1:0",
+    "gsd --listen=127.0.0.1:0 --workers 256 --piece=1 --base http://example.org:8080",
+    "gsd --workers +1 --listen x",
+    "gsd --listen=",
 ];
 
 /// Command lines with what they read, where a writer fails.
@@ -112,10 +142,15 @@ fn wrong_done(alloc: Global) -> Option<&'static str> {
     None
 }
 
-/// The first line that is not refused.
-fn wrong_bad(alloc: Global) -> Option<&'static str> {
-    for line in BAD {
-        if !is_right(alloc, line, MAKE, 2, "", "gsd: bad arguments\n") {
+/// The first of these lines that is not refused so, with nothing written.
+fn wrong_refused(
+    alloc: Global,
+    lines: &[&'static str],
+    status: u8,
+    said: &str,
+) -> Option<&'static str> {
+    for line in lines {
+        if !is_right(alloc, line, MAKE, status, "", said) {
             return Some(line);
         }
     }
@@ -214,7 +249,18 @@ fn what_is_asked_for_is_done(rt: HostRuntime) {
 
 #[test]
 fn bad_arguments_are_refused(rt: HostRuntime) {
-    assert_eq!(rt; wrong_bad(rt.alloc()), None);
+    assert_eq!(rt;
+        wrong_refused(rt.alloc(), BAD, 2, "gsd: bad arguments\n"),
+        None
+    );
+}
+
+#[test]
+fn without_a_network_nothing_is_listened_at(rt: HostRuntime) {
+    assert_eq!(rt;
+        wrong_refused(rt.alloc(), FOR_LISTENERS, 3, "gsd: cannot listen\n"),
+        None
+    );
 }
 
 #[test]
@@ -226,6 +272,10 @@ fn a_failed_read_write_or_flush_is_said(rt: HostRuntime) {
 #[test]
 fn a_status_stays_where_nothing_can_be_said(rt: HostRuntime) {
     assert_eq!(rt; status_with_nothing_said(rt.alloc(), &["gsd"]), 2);
+    assert_eq!(rt;
+        status_with_nothing_said(rt.alloc(), &["gsd", "--listen", "x"]),
+        3
+    );
     assert_eq!(rt; status_with_nothing_said(rt.alloc(), &["gsd", "--once"]), 1);
     assert_eq!(rt; status_with_nothing_said(rt.alloc(), &["gsd", "--help"]), 1);
 }

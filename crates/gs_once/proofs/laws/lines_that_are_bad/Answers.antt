@@ -16,4 +16,14 @@ returns c = record {
   base_other = refl;
   unknown = refl;
   extra = refl;
+  both = refl;
+  no_address = refl;
+  listen_twice = refl;
+  workers_zero = refl;
+  workers_over = refl;
+  workers_text = refl;
+  once_zero = refl;
+  once_over = refl;
+  once_text = refl;
+  listen_base = refl;
 }

@@ -9,4 +9,5 @@ returns c = record {
   all = refl;
   least = refl;
   most = refl;
+  workers = refl;
 }

@@ -19,7 +19,7 @@ returns-in-Ok c =
 pub returns-in-DisplayHelp : goal.returns-in-DisplayHelp
 returns-in-DisplayHelp c =
     let words = map (λ w. w.now) c.args.words.now in
-    asked_at-help (fault_of gsd words) words c.in-Err.error.kind (gsd_one words) (sym c.kind.ensures ∙ c.in-DisplayHelp.is) c.in-Err.ensures.kinds
+    (asked_at-help (fault_of gsd words) words c.in-Err.error.kind (gsd_one words) (sym c.kind.ensures ∙ c.in-DisplayHelp.is) c.in-Err.ensures.kinds, tt)
 
 pub returns : goal.returns
 returns c =
