@@ -1,0 +1,3 @@
+pub mod RecordLemmas
+pub mod ServeLemmas
+pub mod SweepLemmas

@@ -1,0 +1,26 @@
+//! The accept loop.
+use crate::limits::ACCEPT_PAUSE_MILLISECONDS;
+use crossbeam_channel::Sender;
+use std::net::{OpenListener, TcpStream};
+use std::sync::Wait;
+use std::thread;
+use std::time::{Clock, Duration};
+
+/// Accepts so many times, and hands each connection to the workers. An accept that failed counts, and
+/// a rest follows, so that where none can be had the loop does not use up a processor. It waits while
+/// all workers are busy and enough connections wait. One that no worker can take is dropped.
+pub(crate) fn accept_all<L: OpenListener<Stream = TcpStream>, R: Wait + Clock>(
+    rt: &R,
+    listener: &L,
+    limit: Option<u64>,
+    to_workers: Sender<TcpStream>,
+) {
+    for _ in 0..limit.unwrap_or(u64::MAX) {
+        match listener.accept() {
+            Ok((stream, _)) => {
+                let _ = to_workers.send(rt, stream);
+            }
+            Err(_) => thread::sleep(rt, Duration::from_millis(ACCEPT_PAUSE_MILLISECONDS)),
+        }
+    }
+}

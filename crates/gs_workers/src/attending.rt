@@ -1,0 +1,28 @@
+//! One connection, whatever becomes of it.
+ghost use Rattle.std.specs.Prelude.{◌≡◌, true};
+ghost use Rattle.gs_model.specs.Bases.{is_base};
+ghost use Rattle.gs_workers.specs.Attends.{Attends};
+
+use gs_door::Door;
+use gs_session::serve;
+use std::alloc::Global;
+use std::io::{Read, Write};
+
+/// Serves one connection to its end. A fault of it is dropped with it: what was open is cancelled then,
+/// so the seat is idle for the next one.
+pub fn attend<I: Read, O: Write, D: Door>(
+    alloc: Global,
+    seat: u16,
+    base: &str,
+    piece: u32,
+    reader: &mut I,
+    writer: &mut O,
+    door: &mut D,
+)
+    requires { is_base base.now ≡ true }
+    ensures { Attends (record { base = base.now; piece = piece }) D.Gives seat
+        (I.remaining reader.old) (I.remaining reader.new) (O.contents writer.old) (O.contents writer.new)
+        door.old door.new }
+{
+    let _ = serve(alloc, seat, base, piece, reader, writer, door);
+}

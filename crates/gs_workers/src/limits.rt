@@ -1,0 +1,16 @@
+//! How long is waited, and how much is freed at once.
+
+/// The seconds that one read or one write of a connection may wait for its client.
+pub const PATIENCE_SECONDS: u64 = 30;
+
+/// The milliseconds of rest after an accept that failed.
+pub const ACCEPT_PAUSE_MILLISECONDS: u64 = 50;
+
+/// The most nodes that are freed in one hold of the lock.
+pub const RECLAIM_NODES: u64 = 4_096;
+
+/// The accepted connections that may wait for a worker. More wait in the system's own queue.
+pub(crate) const WAITING_STREAMS: usize = 16;
+
+/// The notes that may wait for the reclaimer. One that waits stands for those that find no room.
+pub(crate) const WAITING_NOTES: usize = 16;

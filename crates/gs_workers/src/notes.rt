@@ -1,0 +1,31 @@
+//! What a worker tells the reclaimer.
+use crate::endings::Awaited;
+use crossbeam_channel::Sender;
+use gs_door::Door;
+use gs_event::{Answer, Event};
+use std::sync::Wait;
+
+/// That something may be left to reclaim.
+#[derive(Clone, Copy, Debug, Drop)]
+pub(crate) struct Note;
+
+/// A door that sends a note after each event that ended an upload, a Delete or a read. It waits for no
+/// room: a note that waits stands for one that finds none.
+pub(crate) struct NoteDoor<'a, D: Door, R: Wait> {
+    pub(crate) rt: &'a R,
+    pub(crate) notes: Sender<Note>,
+    pub(crate) door: D,
+}
+
+impl<'a, D: Door, R: Wait> Door for NoteDoor<'a, D, R> {
+    ghost Gives = { λ old e a new. D.Gives old.door e a new.door };
+
+    fn event(&mut self, event: Event) -> Answer {
+        let awaited = Awaited::by(&event);
+        let answer = self.door.event(event);
+        if awaited.comes_with(&answer) {
+            let _ = self.notes.try_send(self.rt, Note);
+        }
+        answer
+    }
+}

@@ -1,0 +1,16 @@
+//! How connections are served.
+ghost use Rattle.std.specs.Prelude.{◌≡◌, true};
+ghost use Rattle.gs_model.specs.Bases.{is_base};
+
+use std::alloc::Global;
+use std::time::Duration;
+
+/// How connections are served: the base, the lines of a piece, and how long a read or a write may wait.
+#[derive(Clone, Copy)]
+pub(crate) struct Plan<'a> {
+    pub(crate) alloc: Global,
+    pub(crate) base: &'a str,
+    pub(crate) piece: u32,
+    pub(crate) patience: Duration,
+    ghost valid: { is_base base.now ≡ true },
+}

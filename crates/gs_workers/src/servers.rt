@@ -1,0 +1,238 @@
+//! A server, from its first connection to its last.
+ghost use Rattle.std.specs.Prelude.{◌≡◌, ◌+◌, ◌<◌, ◌≤◌, [], ◌∷◌, ◌++◌, length, map, true, vec_capacity, IfOk, IfErr, IfSome};
+ghost use Rattle.crossbeam_utils.specs.Seq.{cell_view};
+ghost use Rattle.gs_model.specs.Bases.{is_base};
+ghost use Rattle.gs_core.specs.Settings.{start_at};
+ghost use Rattle.gs_pass.specs.Stamps.{keeper as keeper_of};
+ghost use Rattle.gs_workers.specs.Ends.{EndsAs};
+ghost use Rattle.gs_workers.specs.Records.{IsAsBefore};
+
+use crate::accepting::accept_all;
+use crate::gates::Gate;
+use crate::limits::{PATIENCE_SECONDS, WAITING_NOTES, WAITING_STREAMS};
+use crate::notes::Note;
+use crate::plans::Plan;
+use crate::promises::{AsBefore, OfSeat};
+use crate::reclaimers::reclaim;
+use crate::workers::work;
+use crossbeam_channel::{Receiver, Sender, bounded};
+use gs_model::Refusal;
+use gs_shared::{Ended, Hall, Pass, Room, Shared, Side, StampCell, Token, stamp_cell};
+use std::alloc::{AllocError, Global};
+use std::marker::Brand;
+use std::net::TcpListener;
+use std::snapshot::Snapshot;
+use std::sync::Wait;
+use std::sync::ledger::Blank;
+use std::thread;
+use std::thread::{PromisedHandle, Threads};
+use std::time::{Clock, Duration};
+
+/// Joins the workers, in the order in which they were started. There is room for their passes.
+fn join_all<C: Side, T: Side, B: Room, R: Threads>(
+    rt: &R,
+    workers: Vec<PromisedHandle<Pass<C, T, B>, OfSeat>>,
+    back: Vec<Pass<C, T, B>>,
+) -> Vec<Pass<C, T, B>>
+    requires { (back.items ≡ []) × (length workers.items ≤ vec_capacity back) }
+    ensures { map (λ p. p.record.seat) result.items ≡ map (λ w. w.promise.seat) workers.items }
+{
+    let mut back = back;
+    for worker in workers {
+        let pass = worker.join(rt);
+        back.push_reserved(pass);
+    }
+    back
+}
+
+/// Starts a worker for each pass, and the reclaimer with the last one; accepts connections; and joins
+/// them all. The passes come back in their order. `None` where memory or a thread was wanting: what a
+/// thread waits for is dropped then too, so each one that was started ends.
+fn with_threads<
+    C: Side + Send + Sync,
+    T: Side + Send + Sync,
+    B: Room + Send + Sync,
+    G: Gate + Sync,
+    R: Threads + Wait + Clock + Sync,
+>(
+    rt: &R,
+    plan: Plan<'_>,
+    listener: &TcpListener,
+    limit: Option<u64>,
+    gate: &G,
+    hall: &Hall<C, T, B>,
+    passes: Vec<Pass<C, T, B>>,
+    last: Pass<C, T, B>,
+) -> Option<(Vec<Pass<C, T, B>>, Pass<C, T, B>)>
+    ensures seats { IfSome result (λ r.
+        map (λ p. p.record.seat) r.0.items ≡ map (λ p. p.record.seat) passes.items) }
+    ensures last { IfSome result (λ r. IsAsBefore last.record r.1.record) }
+{
+    let alloc = plan.alloc;
+    let (to_workers, streams) = bounded(alloc, WAITING_STREAMS).ok()?;
+    let (to_reclaimer, notes) = bounded(alloc, WAITING_NOTES).ok()?;
+    thread::scope(
+        thread::scope_env(),
+        rt,
+        move |scope| -> Option<(Vec<Pass<C, T, B>>, Pass<C, T, B>)>
+            ensures seats { IfSome result (λ r.
+                map (λ p. p.record.seat) r.0.items ≡ map (λ p. p.record.seat) passes.items) }
+            ensures last { IfSome result (λ r. IsAsBefore last.record r.1.record) }
+        {
+            let mut workers = Vec::with_capacity(alloc, passes.len()).ok()?;
+            let back = Vec::with_capacity(alloc, passes.len()).ok()?;
+            let before = Snapshot::of(&last);
+            let reclaimer = scope
+                .spawn_with(AsBefore { before }, move || reclaim(rt, hall, notes, last))
+                .ok()?;
+            for pass in passes {
+                let own_streams: Receiver<_> = streams.clone().ok()?;
+                let own_notes: Sender<Note> = to_reclaimer.clone().ok()?;
+                let seat = pass.seat();
+                let worker = scope
+                    .spawn_with(OfSeat { seat }, move || {
+                        work(rt, plan, hall, gate, own_streams, own_notes, pass)
+                    })
+                    .ok()?;
+                workers.push_reserved(worker);
+            }
+            drop(streams);
+            drop(to_reclaimer);
+            accept_all(rt, listener, limit, to_workers);
+            let back = join_all(rt, workers, back);
+            Some((back, reclaimer.join(rt)))
+        },
+    )
+}
+
+/// All passes, as the store is ended with.
+fn with_last<P: Drop>(passes: Vec<P>, last: P) -> Result<Vec<P>, AllocError>
+    ensures { IfOk result (λ all. all.items ≡ passes.items ++ last ∷ []) }
+{
+    let mut passes = passes;
+    passes.push(last)?;
+    Ok(passes)
+}
+
+/// As `serve_all`, over a cell and two blanks, and with as much patience.
+fn run<
+    C: Side + Send + Sync,
+    T: Side + Send + Sync,
+    B: Room + Send + Sync,
+    G: Gate + Sync,
+    R: Threads + Wait + Clock + Sync,
+>(
+    rt: &R,
+    plan: Plan<'_>,
+    listener: &TcpListener,
+    workers: u16,
+    limit: Option<u64>,
+    gate: &G,
+    cell: StampCell,
+    keeper: Token,
+    calls: Blank,
+    triples: Blank,
+) -> Result<Ended, Refusal>
+    requires some { 1 ≤ workers }
+    requires few { workers ≤ 256 }
+    requires start { B.start ≡ start_at (workers + 1) plan.base.now 0 0 }
+    requires cell { (cell.table.shared.table_id ≡ B.table)
+        × (keeper.table_id ≡ B.table)
+        × (cell_view keeper ≡ keeper_of [] []) }
+    requires calls { (calls.name ≡ C.name)
+        × (calls.parts ≡ C.parts)
+        × (C.all ≡ C.parts)
+        × (workers + 1 < C.all) }
+    requires triples { (triples.name ≡ T.name)
+        × (triples.parts ≡ T.parts)
+        × (T.all ≡ T.parts)
+        × (workers + 1 < T.all) }
+    ensures refused { IfErr result (λ r. r ≡ Refusal.NoMemory) }
+    ensures ended { IfOk result (EndsAs workers plan.entry.base.now) }
+{
+    let seats = workers + 1;
+    let mut shared: Shared<C, T, B> = Shared::new(
+        plan.alloc, seats, plan.base, cell, keeper, calls, triples,
+    )?;
+    let mut passes = shared.passes(seats)?;
+    let Some(last) = passes.pop() else {
+        unreachable!()
+    };
+    let Some((back, last)) = with_threads(
+        rt,
+        plan,
+        listener,
+        limit,
+        gate,
+        shared.hall(),
+        passes,
+        last,
+    ) else {
+        return Err(Refusal::NoMemory);
+    };
+    let Ok(all) = with_last(back, last) else {
+        return Err(Refusal::NoMemory);
+    };
+    Ok(shared.end(rt, all))
+}
+
+/// As `serve_all`, with as much patience.
+pub(crate) fn serve_within<G: Gate + Sync, R: Threads + Wait + Clock + Sync>(
+    rt: &R,
+    plan: Plan<'_>,
+    listener: &TcpListener,
+    workers: u16,
+    limit: Option<u64>,
+    gate: &G,
+) -> Result<Ended, Refusal>
+    requires some { 1 ≤ workers }
+    requires few { workers ≤ 256 }
+    ensures refused { IfErr result (λ r. r ≡ Refusal.NoMemory) }
+    ensures ended { IfOk result (EndsAs workers plan.entry.base.now) }
+{
+    let Ok((cell, keeper)) = stamp_cell(plan.alloc) else {
+        return Err(Refusal::NoMemory);
+    };
+    let parts = u64::from(workers) + 2;
+    let (calls, triples) = (Blank::new(parts), Blank::new(parts));
+    run::<Brand, Brand, Brand, G, R>(
+        rt, plan, listener, workers, limit, gate, cell, keeper, calls, triples,
+    )
+}
+
+/// Serves the connections that the listener accepts, over a new store with this base, by so many
+/// workers. Each connection is served to its end by one of them, in pieces of so many lines; each
+/// worker acts for a seat of its own, from 0 on, and one more thread, of the last seat, frees what no
+/// version needs. With a limit, that many are accepted, and once all were served the store is ended;
+/// with none, 2^64 - 1. An accept that failed counts. `gs_core::is_base` tests a base.
+///
+/// # Errors
+///
+/// `NoMemory`, where memory was wanted and not given before the first or after the last connection, or
+/// a thread could not be started.
+pub fn serve_all<G: Gate + Sync, R: Threads + Wait + Clock + Sync>(
+    rt: &R,
+    alloc: Global,
+    listener: &TcpListener,
+    base: &str,
+    workers: u16,
+    piece: u32,
+    limit: Option<u64>,
+    gate: &G,
+) -> Result<Ended, Refusal>
+    requires base { is_base base.now ≡ true }
+    requires some { 1 ≤ workers }
+    requires few { workers ≤ 256 }
+    requires lines { 1 ≤ piece }
+    requires most_lines { piece ≤ 4096 }
+    ensures refused { IfErr result (λ r. r ≡ Refusal.NoMemory) }
+    ensures ended { IfOk result (EndsAs workers base.now) }
+{
+    let plan = Plan {
+        alloc,
+        base,
+        piece,
+        patience: Duration::from_secs(PATIENCE_SECONDS),
+    };
+    serve_within(rt, plan, listener, workers, limit, gate)
+}

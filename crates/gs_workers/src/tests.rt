@@ -1,0 +1,2 @@
+//! An accept that fails.
+mod accepts;
