@@ -8,6 +8,7 @@ from connection_memory import ending
 
 NO_MEMORY = b"gsd: no memory\n"
 BAD = (2, b"", b"gsd: bad arguments\n")
+CANNOT_LISTEN = (3, b"", b"gsd: cannot listen\n")
 
 # The bytes of a body that is dropped, and the most bytes of the program's memory. It needs some four million.
 DROPPED_BYTES = 60_000_000
@@ -61,6 +62,8 @@ def main(program, folder, room):
         ([b"--once", b"--piece", b"0"], BAD),
         ([b"--once", b"more"], BAD),
         ([b"--once", b"\xff"], BAD),
+        ([b"--listen", b"127.0.0.1:0", b"--once"], BAD),
+        ([b"--listen", b"x"], CANNOT_LISTEN),
         ([], BAD),
         ([b"--help"], help_text),
     ]

@@ -1,7 +1,10 @@
-//! Serves one connection of a graph store over HTTP, from standard input to standard output.
+//! Serves a graph store over HTTP: at an address, or one connection from standard input to standard output.
 #![tactic(auto)]
 
-use gs_once::{Stop, once, report};
+mod listening;
+
+use gs_once::{Stop, Task, perform, read_task, report};
+use listening::listen;
 use std::alloc::{AllocError, Global};
 use std::env;
 use std::io::{self, ErrorKind};
@@ -31,21 +34,37 @@ fn words(rt: &HostRuntime) -> Result<Vec<String>, Stop> {
     }
 }
 
+// Where the words ask for listening, it is done here; all else is done by `perform`, which has no network.
 fn main(rt: HostRuntime) -> ExitCode {
+    let alloc = rt.alloc();
     let mut err = rt.stderr();
     let words = match words(&rt) {
         Ok(words) => words,
         Err(stop) => return ExitCode::from(report(&mut err, stop)),
     };
-    let status = match lent(rt.alloc(), words.as_slice()) {
-        Ok(texts) => once(
-            rt.alloc(),
-            texts.as_slice(),
+    let Ok(texts) = lent(alloc, words.as_slice()) else {
+        return ExitCode::from(report(&mut err, Stop::NoMemory));
+    };
+    let status = match read_task(alloc, texts.as_slice()) {
+        Ok(
+            Task::Listen {
+                address,
+                base,
+                workers,
+                piece,
+            },
+        ) => match listen(&rt, alloc, address, base, workers, piece) {
+            Ok(()) => 0,
+            Err(stop) => report(&mut err, stop),
+        },
+        Ok(task) => perform(
+            alloc,
+            task,
             &mut rt.reader(),
             &mut io::writer(&rt),
             &mut err,
         ),
-        Err(_) => report(&mut err, Stop::NoMemory),
+        Err(stop) => report(&mut err, stop),
     };
     ExitCode::from(status)
 }

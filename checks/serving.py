@@ -1,0 +1,33 @@
+"""A gsd that listens, for as long as a with block."""
+import re
+import subprocess
+
+
+class Server:
+    """Starts PROGRAM --listen on a free port, with these options more; the block's end ends it."""
+
+    def __init__(self, program, *options):
+        self.words = [program, "--listen", "127.0.0.1:0", *options]
+
+    def __enter__(self):
+        self.process = subprocess.Popen(self.words, stdin=subprocess.DEVNULL, stdout=subprocess.PIPE)
+        line = self.process.stdout.readline().decode()
+        found = re.fullmatch(r"listening 127\.0\.0\.1:([1-9][0-9]*)\n", line)
+        if not found:
+            self.__exit__()
+            raise SystemExit(f"the first line is {line!r}")
+        self.port = int(found[1])
+        self.url = f"http://127.0.0.1:{self.port}"
+        return self
+
+    def __exit__(self, *_):
+        self.process.terminate()
+        self.process.wait(timeout=20)
+        self.process.stdout.close()
+
+    def is_running(self):
+        return self.process.poll() is None
+
+    def resident_bytes(self):
+        with open(f"/proc/{self.process.pid}/status") as lines:
+            return next(int(line.split()[1]) * 1024 for line in lines if line.startswith("VmRSS:"))
