@@ -1,2 +1,7 @@
-//! An accept that fails.
+//! A server on loopback, with clients of each kind.
 mod accepts;
+mod clients;
+mod crowds;
+mod leavers;
+mod sleepers;
+mod waits;
