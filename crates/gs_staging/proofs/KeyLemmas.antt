@@ -73,10 +73,10 @@ pub number_kept : (d e : Numbered) → Grows d e → (n : ℕ) (t : Term) → Is
 number_kept d e g n t h = subst (λ ts. IsNumberOf ts n t) (sym g.terms) (slice_get_front d.terms g.more n (slice_get_within d.terms n t h) ∙ h)
 
 -- a key of a triple has given numbers, and says the triple
-key_given : (ts : List Term) (t : RdfTriple) (k : Key) → IsKeyOf ts t k → IsGiven ts k
+pub key_given : (ts : List Term) (t : RdfTriple) (k : Key) → IsKeyOf ts t k → IsGiven ts k
 key_given ts t k h = record { subject = slice_get_within ts k.subject t.subject h.subject; predicate = slice_get_within ts k.predicate t.predicate h.predicate; object = slice_get_within ts k.object t.object h.object }
 
-key_says : (ts : List Term) (t : RdfTriple) (k : Key) → IsKeyOf ts t k → triple_at ts k ≡ t
+pub key_says : (ts : List Term) (t : RdfTriple) (k : Key) → IsKeyOf ts t k → triple_at ts k ≡ t
 key_says ts t k h =
     let s : term_at ts k.subject ≡ t.subject = ap (λ o. unwrap_or o (Iri [])) h.subject in
     let p : term_at ts k.predicate ≡ t.predicate = ap (λ o. unwrap_or o (Iri [])) h.predicate in
@@ -84,7 +84,7 @@ key_says ts t k h =
     λ i. record { subject = s i; predicate = p i; object = o i }
 
 -- what holds of two lists holds of them joined
-all_append : (P : Key → Type 0) (xs ys : List Key) → AllKeys P xs → AllKeys P ys → AllKeys P (xs ++ ys)
+pub all_append : (P : Key → Type 0) (xs ys : List Key) → AllKeys P xs → AllKeys P ys → AllKeys P (xs ++ ys)
 all_append P [] ys h k = k
 all_append P (x ∷ xs) ys h k = (h.0, all_append P xs ys h.1 k)
 

@@ -14,13 +14,14 @@ use Rattle.std.proofs.lemmas.List.Kept.{IsStrictlySortedBy-dedup}
 use Rattle.std.proofs.lemmas.List.Sorted.{All-permutation, list_any-IsPermutation}
 use Rattle.gs_model.specs.Terms.{Term}
 use Rattle.gs_model.specs.Triples.{RdfTriple, triple_cmp}
+use Rattle.gs_model.specs.Graphs.{graph_of}
 use Rattle.gs_model.proofs.GraphLemmas.{same_graph}
 use Rattle.gs_dict.specs.Numbering.{IsDistinct}
 use Rattle.gs_pool.specs.declared.nodes.Key.{Key}
 use Rattle.gs_tree.specs.Keys.{AllKeys, IsRising}
 use Rattle.gs_keys.specs.Texts.{triple_at, key_cmp, key_total, IsGiven}
 use Rattle.gs_keys.proofs.KeyLemmas.{tied_keys}
-use Rattle.gs_staging.specs.Keys.{is_same, IsRunOf}
+use Rattle.gs_staging.specs.Keys.{is_same, AreKeysOf, IsRunOf, IsRunOfTriples}
 
 module _ (P : Key → Type 0) where
   -- what holds of each key, as the library says it
@@ -143,3 +144,7 @@ sorted_run terms distinct ks sorted run given moved up is =
           any_map terms (eq_by_cmp triple_cmp q) run ∙ ap (list_any p) is ∙ any_dedup is_same p same_is sorted
           ∙ sym (list_any-IsPermutation p ks sorted moved) ∙ sym (any_map terms (eq_by_cmp triple_cmp q) ks));
     }
+
+-- a run of the keys of triples is a run of the triples
+pub run_of_triples : (terms : List Term) (ts : List RdfTriple) (ks run : List Key) → AreKeysOf terms ts ks → IsRunOf terms ks run → IsRunOfTriples terms ts run
+run_of_triples terms ts ks run keys sorted = record { rising = sorted.rising; given = sorted.given; graph = sorted.graph ∙ ap graph_of keys.said }

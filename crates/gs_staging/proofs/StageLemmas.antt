@@ -17,13 +17,13 @@ use Rattle.gs_pool.specs.Pool.{Nodes}
 use Rattle.gs_tree.specs.declared.unions.Merged.{Merged}
 use Rattle.gs_tree.specs.Keys.{AllKeys, insert_key, insert_by, merge_keys}
 use Rattle.gs_tree.specs.Reading.{keys_at}
-use Rattle.gs_tree.specs.Sets.{UnitesAt}
+use Rattle.gs_tree.specs.Sets.{IsSetAt, UnitesAt}
 use Rattle.gs_keys.specs.Texts.{triple_at, key_cmp, IsGiven}
 use Rattle.gs_keys.specs.Roots.{graph_at, IsGraphAt}
 use Rattle.gs_keys.proofs.KeyLemmas.{tied_keys, triples_of_keys}
 use Rattle.gs_keys.proofs.RootLemmas.{all_insert, all_merge, all_given_kept, set_kept, set_graph, graph_kept}
 use Rattle.gs_staging.proofs.RunLemmas.{any_map}
-use Rattle.gs_staging.specs.Keys.{Grows, AreKeysOf, IsRunOf}
+use Rattle.gs_staging.specs.Keys.{Grows, IsRunOfTriples}
 use Rattle.gs_staging.specs.Staging.{IsStaged, IsStillStaged, Stages}
 
 -- the tree of an upload stands for a graph
@@ -31,7 +31,7 @@ pub staged_graph : (terms : List Term) (p : Nodes) (root : Option ℕ) → IsSta
 staged_graph terms p root h = set_graph terms p root h.set h.given
 
 -- its triples are those of its keys
-staged_triples : (terms : List Term) (p : Nodes) (root : Option ℕ) → IsStaged terms p root → triples_of (graph_at terms p root) ≡ map (triple_at terms) (keys_at p root)
+pub staged_triples : (terms : List Term) (p : Nodes) (root : Option ℕ) → IsStaged terms p root → triples_of (graph_at terms p root) ≡ map (triple_at terms) (keys_at p root)
 staged_triples terms p root h = triples_of_keys terms (keys_at p root) h.set.rising h.given
 
 -- it has as many as the tree has keys
@@ -109,29 +109,36 @@ graph_before : (xs ys zs : List RdfTriple) → graph_of ys ≡ graph_of zs → g
 graph_before [] ys zs e = e
 graph_before (x ∷ xs) ys zs e = ap (λ (g : Graph). fin.insert g x tt) (graph_before xs ys zs e)
 
--- what a union makes of a staged tree
-pub stages :
-    (birth : ℕ) (d e : Numbered) (p q : Nodes) (root : Option ℕ) (ts : List RdfTriple) (ks run : List Key) (m : Merged) → Grows d e → IsDistinct e.terms → IsStaged d.terms p root
-    → AreKeysOf e.terms ts ks → IsRunOf e.terms ks run → UnitesAt (key_cmp e.terms) 0 birth p q root run m → Stages birth d.terms e.terms p q root ts m
-stages birth d e p q root ts ks run m grows distinct old keys sorted unites =
+-- a run in a staged tree, whatever united them: the tree is staged, and its graph has the run's triples too
+pub with_run :
+    (d e : Numbered) (p q : Nodes) (root new : Option ℕ) (ts : List RdfTriple) (run : List Key) → Grows d e → IsDistinct e.terms → IsStaged d.terms p root → IsRunOfTriples e.terms ts run
+    → IsSetAt (key_cmp e.terms) q new → keys_at q new ≡ merge_keys (key_cmp e.terms) run (keys_at p root)
+    → IsStaged e.terms q new × (graph_at e.terms q new ≡ with_triples (graph_at d.terms p root) ts)
+with_run d e p q root new ts run grows distinct old is set keys_are =
     let still = staged_grown d e p root grows old in
     let same : graph_at e.terms p root ≡ graph_at d.terms p root = ap (λ terms. graph_at terms p root) grows.terms ∙ (staged_kept d.terms grows.more p root old).same in
-    let said : graph_of (map (triple_at e.terms) run) ≡ graph_of ts = sorted.graph ∙ ap graph_of keys.said in
-    let given : AllKeys (IsGiven e.terms) (keys_at q m.root) =
-    subst (AllKeys (IsGiven e.terms)) (sym unites.keys_are) (all_merge (key_cmp e.terms) (IsGiven e.terms) run (keys_at p root) sorted.given still.given) in
-    let staged : IsStaged e.terms q m.root = record { set = unites.set; given = given } in
-    let grown : graph_at e.terms q m.root ≡ with_triples (graph_at e.terms p root) ts =
-    ap (λ xs. graph_of (map (triple_at e.terms) xs)) unites.keys_are
-    ∙ merged_graph e.terms distinct run (keys_at p root) sorted.given still.given
-    ∙ graph_before (map (triple_at e.terms) (keys_at p root)) (map (triple_at e.terms) run) ts said
+    let given : AllKeys (IsGiven e.terms) (keys_at q new) =
+    subst (AllKeys (IsGiven e.terms)) (sym keys_are) (all_merge (key_cmp e.terms) (IsGiven e.terms) run (keys_at p root) is.given still.given) in
+    let grown : graph_at e.terms q new ≡ with_triples (graph_at e.terms p root) ts =
+    ap (λ xs. graph_of (map (triple_at e.terms) xs)) keys_are
+    ∙ merged_graph e.terms distinct run (keys_at p root) is.given still.given
+    ∙ graph_before (map (triple_at e.terms) (keys_at p root)) (map (triple_at e.terms) run) ts is.graph
     ∙ ap (λ xs. graph_of (xs ++ ts)) (sym (staged_triples e.terms p root still)) in
+    (record { set = set; given = given }, grown ∙ ap (λ g. with_triples g ts) same)
+
+-- what a union makes of a staged tree
+pub stages :
+    (birth : ℕ) (d e : Numbered) (p q : Nodes) (root : Option ℕ) (ts : List RdfTriple) (run : List Key) (m : Merged) → Grows d e → IsDistinct e.terms → IsStaged d.terms p root
+    → IsRunOfTriples e.terms ts run → UnitesAt (key_cmp e.terms) 0 birth p q root run m → Stages birth d.terms e.terms p q root ts m
+stages birth d e p q root ts run m grows distinct old is unites =
+    let made = with_run d e p q root m.root ts run grows distinct old is unites.set unites.keys_are in
     let before : size_of (graph_at d.terms p root) ≡ length (keys_at p root) = staged_size d.terms p root old in
-    let after : size_of (graph_at e.terms q m.root) ≡ length (keys_at q m.root) = staged_size e.terms q m.root staged in
+    let after : size_of (graph_at e.terms q m.root) ≡ length (keys_at q m.root) = staged_size e.terms q m.root made.0 in
     record {
       run = run;
-      run_graph = said;
+      run_graph = is.graph;
       unites = unites;
-      staged = staged;
-      graph = grown ∙ ap (λ g. with_triples g ts) same;
+      staged = made.0;
+      graph = made.1;
       added = after ∙ unites.counted ∙ ap (λ n. n + m.added) (sym before);
     }

@@ -34,3 +34,9 @@ pub record IsRunOf (terms : List Term) (ks run : List Key) : Type 0 where
   pub rising : IsRising (key_cmp terms) run
   pub given : AllKeys (IsGiven terms) run
   pub graph : graph_of (map (triple_at terms) run) ≡ graph_of (map (triple_at terms) ks)
+
+-- the run rises, and has the triples of this list
+pub record IsRunOfTriples (terms : List Term) (ts : List RdfTriple) (run : List Key) : Type 0 where
+  pub rising : IsRising (key_cmp terms) run
+  pub given : AllKeys (IsGiven terms) run
+  pub graph : graph_of (map (triple_at terms) run) ≡ graph_of ts

@@ -7,8 +7,7 @@ ghost use Rattle.gs_keys.specs.Texts.{key_cmp};
 ghost use Rattle.gs_staging.specs.Keys.{Grows};
 ghost use Rattle.gs_staging.specs.Staging.{IsStaged, Stages};
 
-use crate::keys::keys_of;
-use crate::orders::put_in_order;
+use crate::runs::run_of;
 use gs_dict::Dict;
 use gs_keys::ByText;
 use gs_model::Refusal;
@@ -55,10 +54,9 @@ pub fn stage(
     ensures refused { IfErr result (λ r. r ≡ NoMemory) }
     ensures kept { OnErr result (pool.new ≡ pool.old) }
 {
-    let mut keys = keys_of(alloc, dict, triples)?;
+    let keys = run_of(alloc, dict, triples)?;
     // That no term has two numbers.
     let _terms = dict.len();
     let order = ByText::new(dict);
-    put_in_order(&order, &mut keys);
     unite(pool, &order, root, keys.as_slice(), birth)
 }

@@ -1,0 +1,4 @@
+pub mod DeadLemmas
+pub mod RootLemmas
+pub mod CommitLemmas
+pub mod LawLemmas

@@ -1,0 +1,7 @@
+pub mod Values
+pub mod Parting
+pub mod Outlasting
+pub mod Sizes
+pub mod Lists
+pub mod Writing
+pub mod Keeping

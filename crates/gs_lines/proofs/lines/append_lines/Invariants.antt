@@ -1,0 +1,13 @@
+-- there is room for the lines that are left, and with them all are written
+use Rattle.std.proofs.Common.{◌≡◌, ◌+◌, ◌≤◌, ◌++◌, length, drop, vec_len, vec_capacity}
+use Rattle.gs_tree.specs.Keys.{AllKeys}
+use Rattle.gs_keys.specs.Texts.{IsGiven}
+use Rattle.gs_lines.specs.Pieces.{bytes_of}
+use Rattle.gs_lines.proofs.lines.append_lines.Given as goal
+
+abbrev pub invariant-loop-key : goal.invariant-loop-key
+invariant-loop-key l = record {
+  given : AllKeys (IsGiven l.dict.terms) (drop l.key-index l.keys);
+  room : vec_len l.bytes + length (bytes_of l.dict.terms (drop l.key-index l.keys)) ≤ vec_capacity l.bytes;
+  written : l.bytes.items ++ bytes_of l.dict.terms (drop l.key-index l.keys) ≡ l.fn.bytes.items ++ bytes_of l.dict.terms l.keys;
+}

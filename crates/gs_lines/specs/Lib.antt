@@ -1,0 +1,2 @@
+-- Read `Pieces` for the lines of a root from a place on, and for what a piece of them is.
+pub mod Pieces

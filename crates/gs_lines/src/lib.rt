@@ -1,0 +1,11 @@
+//! The next lines of a read: a piece of them from a cursor, and the cursor after it.
+#![tactic(auto)]
+
+mod laws;
+mod lines;
+mod pieces;
+#[cfg(test)]
+mod tests;
+
+pub use laws::{all_lines_are_the_graphs, lines_outlast_changes};
+pub use pieces::{Piece, next_piece};

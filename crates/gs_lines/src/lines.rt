@@ -1,0 +1,102 @@
+//! Keys as lines: how many bytes they take, and the bytes.
+ghost use Rattle.std.specs.Prelude.{◌≡◌, ◌+◌, ◌<◌, ◌≤◌, ◌++◌, ◌^◌, length, vec_len, vec_capacity, IfOk, SomeIff};
+ghost use Rattle.gs_model.specs.Terms.{text_of as text_of_term};
+ghost use Rattle.gs_tree.specs.Keys.{AllKeys};
+ghost use Rattle.gs_keys.specs.Texts.{term_at, IsGiven};
+ghost use Rattle.gs_lines.specs.Pieces.{line_at, bytes_of};
+
+use gs_dict::{Dict, TermId};
+use gs_pool::Key;
+use std::alloc::{AllocError, Global};
+
+/// What a line has beside its three texts: two spaces, and its end.
+const MARKS: usize = 5;
+
+/// The text of a number that was given.
+fn text_of(dict: &Dict, number: u32) -> &[u8]
+    requires { number < length dict.now.terms }
+    ensures { result.now ≡ text_of_term (term_at dict.now.terms number) }
+{
+    dict.text(TermId { number })
+}
+
+/// How many bytes the line of a key has, where 64 bits can say it.
+fn line_size(dict: &Dict, key: Key) -> Option<usize>
+    requires { IsGiven dict.now.terms key }
+    ensures { SomeIff result (length (line_at dict.now.terms key) < 2 ^ 64)
+        (length (line_at dict.now.terms key)) }
+{
+    let subject = text_of(dict, key.subject).len();
+    let predicate = text_of(dict, key.predicate).len();
+    let object = text_of(dict, key.object).len();
+    let two = subject.checked_add(predicate)?;
+    let three = two.checked_add(object)?;
+    three.checked_add(MARKS)
+}
+
+/// How many bytes the lines of keys have, where 64 bits can say it.
+fn lines_size(dict: &Dict, keys: &[Key]) -> Option<usize>
+    requires { AllKeys (IsGiven dict.now.terms) keys.now }
+    ensures { SomeIff result (length (bytes_of dict.now.terms keys.now) < 2 ^ 64)
+        (length (bytes_of dict.now.terms keys.now)) }
+{
+    let mut size = 0usize;
+    for key in keys {
+        let line = line_size(dict, *key)?;
+        size = size.checked_add(line)?;
+    }
+    Some(size)
+}
+
+/// Appends bytes for which there is room, so it takes no memory.
+fn append(text: &[u8], bytes: &mut Vec<u8>)
+    requires { vec_len bytes.old + length text.now ≤ vec_capacity bytes.old }
+    ensures items { bytes.new.items ≡ bytes.old.items ++ text.now }
+    ensures len { vec_len bytes.new ≡ vec_len bytes.old + length text.now }
+    ensures capacity { vec_capacity bytes.old ≤ vec_capacity bytes.new }
+{
+    let _ = bytes.extend_from_slice(text);
+}
+
+/// Appends the line of a key, for which there is room.
+fn append_line(dict: &Dict, key: Key, bytes: &mut Vec<u8>)
+    requires given { IsGiven dict.now.terms key }
+    requires room { vec_len bytes.old + length (line_at dict.now.terms key)
+        ≤ vec_capacity bytes.old }
+    ensures items { bytes.new.items ≡ bytes.old.items ++ line_at dict.now.terms key }
+    ensures len { vec_len bytes.new ≡ vec_len bytes.old + length (line_at dict.now.terms key) }
+    ensures capacity { vec_capacity bytes.old ≤ vec_capacity bytes.new }
+{
+    append(text_of(dict, key.subject), bytes);
+    bytes.push_reserved(b' ');
+    append(text_of(dict, key.predicate), bytes);
+    bytes.push_reserved(b' ');
+    append(text_of(dict, key.object), bytes);
+    append(b" .\n", bytes);
+}
+
+/// Appends the lines of keys, for which there is room.
+fn append_lines(dict: &Dict, keys: &[Key], bytes: &mut Vec<u8>)
+    requires given { AllKeys (IsGiven dict.now.terms) keys.now }
+    requires room { vec_len bytes.old + length (bytes_of dict.now.terms keys.now)
+        ≤ vec_capacity bytes.old }
+    ensures { bytes.new.items ≡ bytes.old.items ++ bytes_of dict.now.terms keys.now }
+{
+    for key in keys {
+        append_line(dict, *key, bytes);
+    }
+}
+
+/// The lines of keys, one after another. Memory is asked for once, for just these bytes; what cannot
+/// be counted is refused as well.
+pub fn lines(alloc: Global, dict: &Dict, keys: &[Key]) -> Result<Vec<u8>, AllocError>
+    requires { AllKeys (IsGiven dict.now.terms) keys.now }
+    ensures { IfOk result (λ bytes. bytes.items ≡ bytes_of dict.now.terms keys.now) }
+{
+    let Some(size) = lines_size(dict, keys) else {
+        return Err(AllocError);
+    };
+    let mut bytes = Vec::with_capacity(alloc, size)?;
+    append_lines(dict, keys, &mut bytes);
+    Ok(bytes)
+}

@@ -1,0 +1,68 @@
+//! The next lines of a read.
+ghost use Rattle.std.specs.Prelude.{◌≡◌, ◌<◌, take, IfOk};
+ghost use Rattle.gs_keys.specs.Roots.{IsGraphAt};
+ghost use Rattle.gs_lines.specs.Pieces.{keys_left, IsPiece};
+
+use crate::lines::lines;
+use gs_dict::Dict;
+use gs_keys::ByText;
+use gs_pool::{Key, Pool};
+use gs_tree::next_keys;
+use std::alloc::{AllocError, Global};
+
+/// Lines of a read, the key of the last of them, and whether none are left.
+#[derive(Drop)]
+pub struct Piece {
+    pub bytes: Vec<u8>,
+    /// Where the next piece begins. `None` where the piece has no line.
+    pub last: Option<Key>,
+    pub is_end: bool,
+}
+
+/// The keys of a root above `from`, or all where it is `None`, and `most` of them at most.
+fn find_keys(
+    alloc: Global,
+    dict: &Dict,
+    pool: &Pool,
+    root: Option<u32>,
+    from: Option<Key>,
+    most: usize,
+) -> Result<Vec<Key>, AllocError>
+    requires { IsGraphAt dict.now.terms pool.now root }
+    ensures { IfOk result (λ keys. keys.items
+        ≡ take most (keys_left dict.now.terms pool.now root from)) }
+{
+    let order = ByText::new(dict);
+    let mut keys = Vec::new(alloc);
+    next_keys(pool, &order, root, from, most, &mut keys)?;
+    Ok(keys)
+}
+
+/// The next lines of a root: those of its keys above `from`, or of all where it is `None`, and
+/// `count` of them at most. One key more is looked for, which says whether any are left. Memory is
+/// wanted for the keys that are found, 12 bytes each, and for just the bytes of the lines.
+pub fn next_piece(
+    alloc: Global,
+    dict: &Dict,
+    pool: &Pool,
+    root: Option<u32>,
+    from: Option<Key>,
+    count: u32,
+) -> Result<Piece, AllocError>
+    requires graph { IsGraphAt dict.now.terms pool.now root }
+    requires some { 0 < count }
+    ensures { IfOk result (IsPiece dict.now.terms pool.now root from count) }
+{
+    let most = count as usize;
+    let mut keys = find_keys(alloc, dict, pool, root, from, most + 1)?;
+    let is_end = keys.len() <= most;
+    keys.truncate(most);
+    let kept = keys.as_slice();
+    let last = kept.last().copied();
+    let bytes = lines(alloc, dict, kept)?;
+    Ok(Piece {
+        bytes,
+        last,
+        is_end,
+    })
+}

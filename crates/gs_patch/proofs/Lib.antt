@@ -1,0 +1,4 @@
+pub mod KnownLemmas
+pub mod OutLemmas
+pub mod OperationLemmas
+pub mod PatchLemmas

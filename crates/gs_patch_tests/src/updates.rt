@@ -1,0 +1,31 @@
+//! A short notation of updates.
+use gs_event::Op;
+use gs_match_tests::{patterns, triples};
+use gs_model::Refusal;
+use std::alloc::Global;
+
+/// `+` inserts triples, `-` deletes them, and `*` deletes the instances of patterns.
+fn operation(alloc: Global, text: &str) -> Result<Op, Refusal> {
+    if let Some(list) = text.strip_prefix('+') {
+        return Ok(Op::Insert(triples(alloc, list)?));
+    }
+    if let Some(list) = text.strip_prefix('-') {
+        return Ok(Op::DeleteData(triples(alloc, list)?));
+    }
+    let Some(list) = text.strip_prefix('*') else {
+        return Err(Refusal::Syntax(0));
+    };
+    Ok(Op::DeleteWhere(patterns(alloc, list)?))
+}
+
+/// Operations, with a semicolon between two.
+pub fn operations(alloc: Global, text: &str) -> Result<Vec<Op>, Refusal> {
+    let mut list = Vec::new(alloc);
+    for piece in text.split(';') {
+        let piece = piece.trim();
+        if !piece.is_empty() {
+            list.push(operation(alloc, piece)?)?;
+        }
+    }
+    Ok(list)
+}

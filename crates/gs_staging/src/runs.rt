@@ -1,0 +1,30 @@
+//! A list of triples as a run of keys.
+ghost use Rattle.std.specs.Prelude.{◌≡◌, IfOk, IfErr};
+ghost use Rattle.gs_model.specs.declared.refusals.Refusal.TheVariants.{NoMemory};
+ghost use Rattle.gs_staging.specs.Keys.{Grows, IsRunOfTriples};
+
+use crate::keys::keys_of;
+use crate::orders::put_in_order;
+use gs_dict::Dict;
+use gs_keys::ByText;
+use gs_model::Refusal;
+use gs_pool::Key;
+use gs_term::Triple;
+use std::alloc::Global;
+
+/// The keys of some triples in the order of their texts, each once, as `gs_tree::union` takes them.
+/// New terms are given numbers; those that were given some before a refusal keep them. Memory is
+/// wanted for a key for each triple and for the new terms; that no number is left counts as want of
+/// memory.
+pub fn run_of(alloc: Global, dict: &mut Dict, triples: &[Triple]) -> Result<Vec<Key>, Refusal>
+    ensures grows { Grows dict.old dict.new }
+    ensures ok { IfOk result (λ run. IsRunOfTriples dict.new.terms triples.now run.items) }
+    ensures refused { IfErr result (λ r. r ≡ NoMemory) }
+{
+    let mut keys = keys_of(alloc, dict, triples)?;
+    // That no term has two numbers.
+    let _terms = dict.len();
+    let order = ByText::new(dict);
+    put_in_order(&order, &mut keys);
+    Ok(keys)
+}
