@@ -1,3 +1,4 @@
+pub mod GroupLemmas
 pub mod KeyLemmas
 pub mod RunLemmas
 pub mod StageLemmas

@@ -8,5 +8,6 @@ mod runs;
 mod stages;
 
 pub use laws::{nothing_is_staged, staged_has_a_key_for_each_triple, staged_outlasts_new_terms};
+pub use orders::put_in_order;
 pub use runs::run_of;
 pub use stages::stage;

@@ -10,7 +10,8 @@ use gs_dict::{Dict, TermId};
 use gs_keys::ByText;
 use gs_model::Refusal;
 use gs_pool::{Key, Pool};
-use gs_tree::{KeyOrder, is_rising, next_keys, union};
+use gs_staging::put_in_order;
+use gs_tree::{is_rising, next_keys, union};
 use std::alloc::{AllocError, Global};
 use std::marker::Model;
 
@@ -86,11 +87,6 @@ fn may_unite(dict: &Dict, keys: &[Key]) -> bool
     is_rising(&ByText::new(dict), keys) && are_given(dict, keys)
 }
 
-/// Whether two keys are one.
-fn is_same(a: Key, b: Key) -> bool {
-    a.subject == b.subject && a.predicate == b.predicate && a.object == b.object
-}
-
 /// The text of a number, which is empty where the number was not given.
 fn text(dict: &Dict, number: u32) -> &[u8] {
     let id = TermId { number };
@@ -150,12 +146,13 @@ impl Graph {
         Ok(key)
     }
 
-    /// Sorts keys, and drops those that are there twice.
-    pub fn sort(&self, keys: &mut Vec<Key>) -> Result<(), AllocError> {
-        let order = ByText::new(&self.dict);
-        keys.sort_by(|a, b| order.compare(*a, *b))?;
-        keys.dedup_by(|a, b| is_same(*a, *b));
-        Ok(())
+    /// Puts keys in their order, each once, as those of an upload are.
+    pub fn sort(&self, keys: &mut Vec<Key>) {
+        // That no term has two numbers.
+        let _terms = self.dict.len();
+        if are_given(&self.dict, keys) {
+            put_in_order(&ByText::new(&self.dict), keys);
+        }
     }
 
     /// Whether keys rise, and have numbers that were given, as `unite` asks for.

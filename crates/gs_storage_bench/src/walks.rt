@@ -45,7 +45,7 @@ fn take(
         keys.push(graph.key_of(terms)?)?;
     }
     if phase >= Phase::Sort {
-        graph.sort(keys)?;
+        graph.sort(keys);
     }
     match phase {
         Phase::Unite => graph.unite(keys, 0),
@@ -129,7 +129,7 @@ fn draw(
             ..subject
         })?;
     }
-    graph.sort(keys)?;
+    graph.sort(keys);
     Ok(())
 }
 

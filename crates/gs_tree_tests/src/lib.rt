@@ -3,6 +3,8 @@
 
 #[cfg(test)]
 mod draws;
+#[cfg(test)]
+mod kept_roots;
 mod number_sets;
 #[cfg(test)]
 mod orders;

@@ -3,7 +3,7 @@ ghost use Rattle.std.specs.Prelude.{◌≡◌};
 ghost use Rattle.gs_tree_tests.specs.ObjectOrder.{by_object};
 
 use gs_model::Refusal;
-use gs_pool::{Key, Pool};
+use gs_pool::{Key, Node, Pool};
 use gs_tree::{KeyOrder, after, contains, count, insert, is_rising, next_keys, remove, union};
 use std::alloc::Global;
 use std::cmp::Ordering;
@@ -66,6 +66,20 @@ impl NumberSet {
         NumberSet {
             pool: Pool::new(alloc, u32::MAX),
             root: None,
+        }
+    }
+
+    /// The root of the set's tree, by which it can be walked after the set has changed.
+    pub fn root(&self) -> Option<u32> {
+        self.root
+    }
+
+    /// The node of a number that is in use, whatever trees it is in.
+    pub fn node(&self, id: u32) -> Option<Node> {
+        if self.pool.is_in_use(id) {
+            Some(self.pool.get(id))
+        } else {
+            None
         }
     }
 

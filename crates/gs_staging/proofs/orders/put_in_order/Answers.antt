@@ -1,16 +1,19 @@
-use Rattle.std.specs.Ordering.{is_lt}
-use Rattle.std.proofs.Common.{◌≡◌, rules}
-use Rattle.std.proofs.lemmas.Fn.{dedup_same, always_returns_same}
-use Rattle.std.proofs.lemmas.List.MinMax.{ranks_by}
-use Rattle.gs_keys.specs.Texts.{key_cmp, key_total}
+use Rattle.std.specs.List.{dedup}
+use Rattle.std.specs.List.Sorted.{IsPermutation}
+use Rattle.std.specs.Vec.{with_items}
+use Rattle.std.proofs.Common.{◌≡◌, ◌∙◌, ap, subst, sym, rules}
+use Rattle.std.proofs.lemmas.Fn.{dedup_same}
+use Rattle.std.proofs.lemmas.List.{with_items_is}
+use Rattle.std.proofs.lemmas.List.Sorted.{length_permutation}
 use Rattle.gs_staging.specs.Keys.{is_same}
 use Rattle.gs_staging.proofs.RunLemmas.{sorted_run}
 use Rattle.gs_staging.proofs.orders.put_in_order.Goals as goal
 
 pub returns : goal.returns
 returns c =
-    let terms = c.args.order.now.dict.now.terms in
-    sorted_run terms c.requires.distinct c.args.keys.now.items c.sort_unstable_by.new.self.items c.dedup_by.new.self.items c.requires.given c.sort_unstable_by.ensures.permutation
-    (c.sort_unstable_by.ensures.sorted (λ x y. is_lt (key_cmp terms x y)) (ranks_by (key_total terms) (λ x. x))
-    (always_returns_same _ (λ a r. is_lt r ≡ is_lt (key_cmp terms a.0.now a.1.0.now)) _ (λ a r f' k. search rules)))
-    (dedup_same _ is_same _ (λ x y b f' x' y' k. search rules) _ _ c.dedup_by.ensures.filtered)
+    let ks = c.args.keys.now in
+    let ws = c.sort.new.keys in
+    let moved = subst (λ xs. IsPermutation xs ws) c.as_mut_slice.ensures.value c.sort.ensures.permutation in
+    let same : (with_items ks ws).items ≡ ws = with_items_is ks ws (length_permutation ks.items ws moved ∙ sym ks.ok.0) in
+    let once = dedup_same _ is_same _ (λ x y b f' x' y' k. search rules) _ _ c.dedup_by.ensures.filtered in
+    sorted_run c.args.order.now.dict.now.terms c.requires.distinct ks.items ws c.dedup_by.new.self.items c.requires.given moved c.sort.ensures.sorted (once ∙ ap (dedup is_same) same)
