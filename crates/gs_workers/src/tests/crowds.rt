@@ -1,0 +1,178 @@
+//! Many clients at the same time.
+use super::clients::{ask, connected, get, put, say};
+use super::servings::{Setup, serves};
+use super::turns::comes;
+use crate::gates::{Gate, OpenGate};
+use gs_event::{Action, Event};
+use std::alloc::Global;
+use std::net::{Net, SocketAddr, TcpListener, TcpStream};
+use std::sync::Wait;
+use std::sync::atomic::{AtomicU64, Ordering};
+use std::test::*;
+use std::thread::{Threads, join};
+use std::time::{Clock, Duration};
+use std::{io, thread};
+
+/// How many clients put graphs and get them back, and how often each does.
+const OWNERS: usize = 8;
+
+const ROUNDS: u32 = 20;
+
+/// Whether this graph could be made, and just its lines came back, which are in two pieces. Both
+/// requests are made, whatever becomes of the first.
+fn put_and_get<N: Net<Stream = TcpStream>>(
+    rt: &N,
+    alloc: Global,
+    addr: SocketAddr,
+    name: &str,
+) -> io::Result<bool> {
+    let front = format!(in alloc; "<a:{name}> <a:b> \"1\" .\n<a:{name}> <a:b> \"2\" .\n")?;
+    let last = format!(in alloc; "<a:{name}> <a:b> \"3\" .\n")?;
+    let body = format!(in alloc; "{last}{front}")?;
+    let upload = put(alloc, name, body.as_str())?;
+    let read = get(alloc, name)?;
+    let made = ask(alloc, connected(rt, addr)?, upload.as_str());
+    let got = ask(alloc, connected(rt, addr)?, read.as_str())?;
+    let got = got.as_str();
+    Ok(
+        made?.as_str().starts_with("HTTP/1.1 201 ")
+            && got.starts_with("HTTP/1.1 200 ")
+            && got.contains(front.as_str())
+            && got.contains(last.as_str())
+            && got.split(" .\n").count() == 4,
+    )
+}
+
+/// In how many rounds this client got its own lines back.
+fn own<N: Net<Stream = TcpStream>>(rt: &N, alloc: Global, addr: SocketAddr, client: usize) -> u32 {
+    let mut good = 0u32;
+    for round in 0..ROUNDS {
+        let Ok(name) = format!(in alloc; "c{client}-{round}") else {
+            return good;
+        };
+        if let Ok(true) = put_and_get(rt, alloc, addr, name.as_str()) {
+            good = good.saturating_add(1);
+        }
+    }
+    good
+}
+
+/// In how many rounds of all clients, each in a thread of its own, they got their own lines back.
+fn owned<R: Net<Listener = TcpListener, Stream = TcpStream> + Threads + Sync>(
+    rt: &R,
+    alloc: Global,
+    addr: SocketAddr,
+) -> io::Result<u32> {
+    let counts = thread::map_indices(rt, alloc, OWNERS, &|client| own(rt, alloc, addr, client))?;
+    let mut good = 0u32;
+    for count in &counts {
+        good = good.saturating_add(*count);
+    }
+    Ok(good)
+}
+
+/// In how many rounds the clients of four workers got their own lines back.
+fn served<R: Net<Listener = TcpListener, Stream = TcpStream> + Threads + Wait + Clock + Sync>(
+    rt: &R,
+    alloc: Global,
+) -> io::Result<u32> {
+    let listener = TcpListener::bind(rt, "127.0.0.1:0")?;
+    let addr = listener.local_addr()?;
+    let setup = Setup {
+        workers: 4,
+        limit: 320,
+        patience: Duration::from_secs(30),
+    };
+    let (ended, good) = join(
+        rt,
+        || serves(rt, alloc, &listener, setup, &OpenGate),
+        || owned(rt, alloc, addr),
+    );
+    Ok(if ended { good? } else { 0 })
+}
+
+/// How many clients are served at the same time.
+const CROWD: u64 = 256;
+
+/// Holds each Head until as many came as there are clients. Once one waited in vain, none waits.
+#[derive(Drop)]
+struct Gather<'a, K: Clock> {
+    clock: &'a K,
+    came: AtomicU64,
+    late: AtomicU64,
+}
+
+impl<'a, K: Clock> Gate for Gather<'a, K> {
+    fn before(&self, _seat: u16, event: &Event) {
+        let Event::Seat(_, Action::Head(_)) = event else {
+            return;
+        };
+        self.came.fetch_add(1, Ordering::SeqCst);
+        let is_late = self.late.load(Ordering::SeqCst) > 0;
+        if !is_late && !comes(self.clock, &self.came, CROWD) {
+            self.late.fetch_add(1, Ordering::SeqCst);
+        }
+    }
+}
+
+/// So many clients ask whether a graph is there, before the first is answered; how many are.
+fn ask_together<N: Net<Stream = TcpStream>>(
+    rt: &N,
+    alloc: Global,
+    addr: SocketAddr,
+) -> io::Result<u64> {
+    let mut streams = Vec::new(alloc);
+    for _ in 0..CROWD {
+        let stream = connected(rt, addr)?;
+        say(
+            &stream,
+            b"HEAD /graphs/none HTTP/1.1\r\nHost: a\r\nConnection: close\r\n\r\n",
+        )?;
+        streams.push(stream)?;
+    }
+    let mut good = 0u64;
+    for stream in &streams {
+        let reply = io::read_to_string(alloc, stream)?;
+        if reply.as_str().starts_with("HTTP/1.1 404 ") {
+            good = good.saturating_add(1);
+        }
+    }
+    Ok(good)
+}
+
+/// Whether as many clients are served at the same time as there are workers.
+fn gathers<R: Net<Listener = TcpListener, Stream = TcpStream> + Threads + Wait + Clock + Sync>(
+    rt: &R,
+    alloc: Global,
+) -> io::Result<bool> {
+    let listener = TcpListener::bind(rt, "127.0.0.1:0")?;
+    let addr = listener.local_addr()?;
+    let gate = Gather {
+        clock: rt,
+        came: AtomicU64::new(0),
+        late: AtomicU64::new(0),
+    };
+    let setup = Setup {
+        workers: 256,
+        limit: CROWD,
+        patience: Duration::from_secs(30),
+    };
+    let (ended, good) = join(
+        rt,
+        || serves(rt, alloc, &listener, setup, &gate),
+        || ask_together(rt, alloc, addr),
+    );
+    Ok(ended && good? == CROWD && gate.late.load(Ordering::SeqCst) == 0)
+}
+
+#[test]
+fn many_clients(rt: HostRuntime) -> Result<(), Fail> {
+    assert_eq!(rt; served(&rt, rt.alloc())?, 160);
+    Ok(())
+}
+
+#[test]
+fn all_workers_serve_at_the_same_time(rt: HostRuntime) -> Result<(), Fail> {
+    assert!(rt; gathers(&rt, rt.alloc())?);
+    Ok(())
+}

@@ -1,0 +1,51 @@
+//! A server on loopback, to its end.
+ghost use Rattle.std.specs.Prelude.{◌≤◌};
+
+use super::clients::connected;
+use crate::gates::Gate;
+use crate::plans::Plan;
+use crate::servers::serve_within;
+use std::alloc::Global;
+use std::io;
+use std::net::{Net, TcpListener, TcpStream};
+use std::sync::Wait;
+use std::thread::Threads;
+use std::time::{Clock, Duration};
+
+/// A listener, and two connections to it, in the order in which they will be accepted.
+pub fn two_connected<R: Net<Listener = TcpListener, Stream = TcpStream>>(
+    rt: &R,
+) -> io::Result<(TcpListener, TcpStream, TcpStream)> {
+    let listener = TcpListener::bind(rt, "127.0.0.1:0")?;
+    let addr = listener.local_addr()?;
+    let first = connected(rt, addr)?;
+    let second = connected(rt, addr)?;
+    Ok((listener, first, second))
+}
+
+/// How a server is run: how many workers it has, how many connections there are, and how long a read or
+/// a write may wait.
+#[derive(Clone, Copy)]
+pub struct Setup {
+    pub workers: u16,
+    pub limit: u64,
+    pub patience: Duration,
+    ghost few: { (1 ≤ workers) × (workers ≤ 256) },
+}
+
+/// Serves to the end, in pieces of two lines; whether that ended as it must.
+pub fn serves<G: Gate + Sync, R: Threads + Wait + Clock + Sync>(
+    rt: &R,
+    alloc: Global,
+    listener: &TcpListener,
+    setup: Setup,
+    gate: &G,
+) -> bool {
+    let plan = Plan {
+        alloc,
+        base: "http://localhost",
+        piece: 2,
+        patience: setup.patience,
+    };
+    serve_within(rt, plan, listener, setup.workers, Some(setup.limit), gate).is_ok()
+}
