@@ -6,6 +6,7 @@ ghost use Rattle.std.proofs.Common.{rules};
 ghost use Rattle.std.specs.Cmp.{partial_order_from_own_ties};
 ghost use Rattle.std.specs.Cmp.Rules.{comparing};
 ghost use Rattle.gs_model.specs.Terms.{Iri, Blank, Literal, Typed, Tagged, text_of, IsTerm};
+ghost use Rattle.gs_model.specs.Texts.{term_of, IsCanonical};
 ghost use Rattle.gs_model.specs.Triples.{term_cmp, term_eq, is_iri as is_iri_of, is_subject as is_subject_of};
 ghost use Rattle.gs_term.specs.Making.{Makes, MakesLiteral};
 ghost use Rattle.gs_model.specs.Limits.{max_term_bytes};
@@ -164,6 +165,25 @@ impl TermText {
             (None, Some(tag)) => TermText::tagged(alloc, lexical, tag),
             (Some(_), Some(_)) => Err(Refusal::Syntax(0)),
         }
+    }
+}
+
+impl TermText {
+    /// The term of a text that is known to be canonical: nothing is tested, and the bytes are copied once.
+    pub fn of_canonical(alloc: Global, text: &[u8]) -> Result<TermText, AllocError>
+        requires { IsCanonical text.now }
+        ensures { IfOk result (λ t. t ≡ term_of text.now) }
+    {
+        let bytes = Vec::from_slice(alloc, text)?;
+        Ok(TermText { bytes })
+    }
+
+    /// The same, of bytes that are taken over as they are.
+    pub fn from_canonical(text: Vec<u8>) -> TermText
+        requires { IsCanonical text.items }
+        ensures { result ≡ term_of text.items }
+    {
+        TermText { bytes: text }
     }
 }
 
