@@ -195,6 +195,7 @@ impl Session {
         ensures over { self.new.phase ≡ Phase.Over }
         ensures nothing_due { self.new.due.items ≡ [] }
         ensures setup { self.new.setup ≡ self.old.setup }
+        ensures ended { self.new.ended ≡ self.old.ended }
     {
         if let Phase::Serving(_, work) = &self.phase {
             if has_opened(work) {
