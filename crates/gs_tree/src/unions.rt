@@ -43,6 +43,12 @@ fn find_place<O: KeyOrder>(order: &O, run: &[Key], key: Key) -> Place
         }
         Ordering::Greater => {}
     }
+    if last == 0 {
+        return Place {
+            before: 0,
+            after: 0,
+        };
+    }
     match order.compare(run[0], key) {
         Ordering::Greater => {
             return Place {

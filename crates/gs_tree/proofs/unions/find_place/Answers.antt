@@ -11,6 +11,9 @@ returns-in-Less g c =
 pub returns-in-Equal : goal.returns-in-Equal
 returns-in-Equal g c = place_here (g.O.KeyOrder.compare c.args.order.now) (g.met.O.KeyOrder.total c.args.order.now) c.args.run.now c.requires.rising (length c.args.run.now - 1) (omega (arith, c.requires.some)) _ no_key refl c.args.key (sym c.compare.ensures ∙ c.in-Equal.is)
 
+pub returns-then-last-eq0 : goal.returns-then-last-eq0
+returns-then-last-eq0 g c = place_first (g.O.KeyOrder.compare c.args.order.now) (g.met.O.KeyOrder.total c.args.order.now) c.args.run.now c.requires.rising (length c.args.run.now - 1) (omega (arith, c.requires.some)) _ no_key refl c.args.key (sym c.compare.ensures ∙ c.in-Greater.is) c.if-last-eq0.true
+
 pub returns-in-Greater-compare : goal.returns-in-Greater-compare
 returns-in-Greater-compare g c = place_first (g.O.KeyOrder.compare c.args.order.now) (g.met.O.KeyOrder.total c.args.order.now) c.args.run.now c.requires.rising (0) (c.requires.some) _ no_key refl c.args.key (sym c.compare-2.ensures ∙ c.in-Greater-compare.is) refl
 
