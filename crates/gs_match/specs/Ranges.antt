@@ -1,5 +1,5 @@
 -- Ranges of keys, and the keys that are left of a walk. No public clause cites this module.
-use Rattle.std.specs.Prelude.{◌≡◌, ◌≢◌, ◌==◌, ◌&&◌, ◌||◌, ℕ, Bool, false, List, [], ◌∷◌, Option, Some, None}
+use Rattle.std.specs.Prelude.{◌≡◌, ◌≢◌, ◌==◌, ◌&&◌, ◌||◌, if◌then◌else◌, ℕ, Bool, false, List, [], ◌∷◌, Option, Some, None}
 use Rattle.std.specs.List.{flat_map}
 use Rattle.std.specs.declared.cmp.Ordering.{Ordering}
 use Rattle.std.specs.declared.cmp.Ordering.TheVariants.{Greater}
@@ -9,7 +9,7 @@ use Rattle.gs_tree.specs.Reading.{keys_at, keys_from}
 use Rattle.gs_keys.specs.Texts.{key_cmp, IsGiven}
 use Rattle.gs_match.specs.declared.sought.Sought.{Sought}
 use Rattle.gs_match.specs.declared.ranges.Keys.{Keys}
-use Rattle.gs_match.specs.Numbers.{no_number, Numbers, bind_key}
+use Rattle.gs_match.specs.Numbers.{no_number, Numbers, bind_key, known_number}
 
 -- whether a number may stand at a place of a range: any where the place has the number that no term has
 abbrev pub is_at : ℕ → ℕ → Bool
@@ -23,6 +23,17 @@ in_range r k = (is_at r.subject k.subject && is_at r.predicate k.predicate) && i
 pub record IsRange (r : Key) : Type 0 where
   pub predicate : r.subject ≡ no_number → r.predicate ≡ no_number
   pub object : r.predicate ≡ no_number → r.object ≡ no_number
+
+-- what stands at a place: nothing known where nothing is at the place before it
+abbrev pub known_after : ℕ → ℕ → ℕ
+known_after before n = if before == no_number then no_number else n
+
+-- the range of a pattern: its known numbers, up to the first place that is not known
+abbrev pub range_for : Numbers → Sought → Key
+range_for b s =
+    let subject = known_number b s.subject in
+    let predicate = known_after subject (known_number b s.predicate) in
+    record { subject = subject; predicate = predicate; object = known_after predicate (known_number b s.object) }
 
 -- no key outside the range is the pattern's instance
 abbrev pub Covers : Key → Numbers → Sought → Type 0

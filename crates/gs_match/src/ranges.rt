@@ -3,7 +3,7 @@ ghost use Rattle.std.specs.Prelude.{◌≡◌, ◌≤◌, length};
 ghost use Rattle.gs_dict.specs.Numbering.{IsDistinct};
 ghost use Rattle.gs_keys.specs.Roots.{IsGraphAt};
 ghost use Rattle.gs_match.specs.Numbers.{no_number, numbers_of, known_number};
-ghost use Rattle.gs_match.specs.Ranges.{is_at as is_at_of, in_range, IsRange, Covers, StartsAt};
+ghost use Rattle.gs_match.specs.Ranges.{is_at as is_at_of, in_range, range_for, IsRange, Covers, StartsAt};
 
 use crate::bindings::{Bound, number_for};
 use crate::sought::{Item, Sought};
@@ -39,6 +39,7 @@ fn known(item: &Item, bound: &[Bound]) -> u32
 /// the subject's, and then the predicate's, and then the object's. The first that is not known, and
 /// all after it, are `NO_NUMBER`.
 pub fn range_of(sought: &Sought, bound: &[Bound]) -> Key
+    ensures value { result ≡ range_for (numbers_of bound.now) sought.now }
     ensures form { IsRange result }
     ensures covers { Covers result (numbers_of bound.now) sought.now }
 {
