@@ -1,0 +1,224 @@
+-- What the end of a commit makes of the books, beside a catalogue that is written.
+use Rattle.std.proofs.Common.{◌≡◌, ◌+◌, ◌<◌, ◌≤◌, ℕ, true, List, [], ◌∷◌, ◌++◌, length, get_or, Option, Some, None, option_map, unwrap_or, string_bytes, refl, sym, ap, subst, ◌∙◌, arith, append-nil}
+use Rattle.std.specs.List.{All}
+use Rattle.std.proofs.lemmas.List.Elements.{All-head, Contains-get_or}
+use Rattle.gs_model.specs.Terms.{Term}
+use Rattle.gs_model.specs.Bases.{is_base}
+use Rattle.gs_model.specs.Graphs.{empty_graph}
+use Rattle.gs_model.specs.Limits.{last_number}
+use Rattle.gs_term.specs.declared.names.Target.{Target}
+use Rattle.gs_term.specs.declared.names.Target.TheVariants.{Default, Named}
+use Rattle.gs_event.specs.Datasets.{with_graph, size_at}
+use Rattle.gs_event.specs.Steps.{Joins, EndsAt}
+use Rattle.gs_pool.specs.Pool.{Nodes, aside_count}
+use Rattle.gs_tree.specs.Tree.{Tree, leaf, root_of, keys, tree_at}
+use Rattle.gs_keys.specs.Roots.{graph_at}
+use Rattle.gs_catalogue.specs.declared.versions.GraphVersion.{GraphVersion}
+use Rattle.gs_catalogue.specs.Catalogues.{GraphVersions, Catalogued, empty_version, version_at, with_version, without_name, room_wanted, after_set, after_take}
+use Rattle.gs_versions.specs.Pins.{Pins, at_commit}
+use Rattle.gs_ledger.specs.Entries.{Dead}
+use Rattle.gs_ledger.specs.Marks.{dead_at, waste_at}
+use Rattle.gs_ledger.specs.Ledger.{IsLedger}
+use Rattle.gs_ledger.specs.Changes.{AreSameTrees, AreSameDead}
+use Rattle.gs_ledger.proofs.Orders.{reorder_ledger}
+use Rattle.gs_ledger.proofs.Marked.{same_trees}
+use Rattle.gs_reclaim.specs.Reclaims.{CanRetireRoot}
+use Rattle.gs_datasets.specs.Standing.{version_graph, dataset_at, all_versions, other_versions, version_tree, graph_trees, other_trees, target_tree, IsKeyed, tree_graph, IsVersion, AreSameIn}
+use Rattle.gs_datasets.specs.Writes.{SetsOne}
+use Rattle.gs_datasets.proofs.Parting.{all_target}
+use Rattle.gs_datasets.proofs.Sizes.{size_at-is}
+use Rattle.gs_datasets.proofs.Writing.{one_is_set, name_is_taken, one_is_apart}
+use Rattle.gs_commit.specs.Commits.{HandsOver, HandsOverAll}
+use Rattle.gs_commit.specs.Laws.{IsRetirable}
+use Rattle.gs_commit.proofs.DeadLemmas.{tree_at_same}
+use Rattle.gs_commit.proofs.RootLemmas.{ledger_retirable}
+use Rattle.gs_commit.proofs.LawLemmas.{leaf_upload}
+use Rattle.gs_tree_store.specs.declared.books.Books.{Books}
+use Rattle.gs_tree_store.specs.Books.{dataset_of, IsSound, HasLedger}
+use Rattle.gs_tree_store.specs.Writes.{KeepsBooks, Ends, Puts, Removes}
+
+-- the version of a target, an empty one where it is missing
+abbrev pub version_or : GraphVersions → Target → GraphVersion
+version_or g t = unwrap_or (version_at g t) empty_version
+
+tree_if : (p : Nodes) (o : Option GraphVersion) → tree_at p (unwrap_or o empty_version).root ≡ unwrap_or (option_map (version_tree p) o) leaf
+tree_if p None = refl
+tree_if p (Some v) = refl
+
+-- its root means the target's tree
+tree_of_target : (p : Nodes) (g : GraphVersions) (t : Target) → tree_at p (version_or g t).root ≡ target_tree p g t
+tree_of_target p g t = tree_if p (version_at g t)
+
+-- dead nodes are the same as themselves
+pub same_dead : (ds : List Dead) → AreSameDead ds ds
+same_dead ds = record { sums = λ f. refl; each = λ k d h. Contains-get_or ds k d h }
+
+-- the target's tree comes to the head of the graphs
+pub apart_ledger : (p : Nodes) (v : Pins) (g : GraphVersions) (t : Target) (us rs : List Tree) (ds : List Dead) → IsLedger p v (graph_trees p g) us rs ds → IsLedger p v (tree_at p (version_or g t).root ∷ other_trees p g t) us rs ds
+apart_ledger p v g t us rs ds l =
+    subst (λ x. IsLedger p v (x ∷ other_trees p g t) us rs ds) (sym (tree_of_target p g t))
+    (reorder_ledger p v (graph_trees p g) (target_tree p g t ∷ other_trees p g t) us us rs ds ds (one_is_apart p g t) (same_trees us) (same_dead ds) l)
+
+-- The versions of a catalogue, and a target.
+module _ (terms : List Term) (p : Nodes) (g : GraphVersions) (t : Target) (all : All (IsVersion terms p) (all_versions g)) where
+  root_if : (o : Option GraphVersion) → version_at g t ≡ o → root_of (tree_at p (unwrap_or o empty_version).root) ≡ (unwrap_or o empty_version).root
+  root_if None is = refl
+  root_if (Some v) is = (all_target (IsVersion terms p) g t v is all).root_is
+
+  keys_if : (o : Option GraphVersion) → version_at g t ≡ o → length (keys (tree_at p (unwrap_or o empty_version).root)) ≡ unwrap_or (option_map (λ v. v.triples) o) 0
+  keys_if None is = refl
+  keys_if (Some v) is = sym (all_target (IsVersion terms p) g t v is all).counted
+
+  -- it has as many keys as the target has triples
+  keys_of_target : length (keys (tree_at p (version_or g t).root)) ≡ size_at (dataset_at terms p g) t
+  keys_of_target = keys_if (version_at g t) refl ∙ sym (size_at-is terms p g t all)
+
+  -- its root can be retired
+  pub target_retirable : (v : Pins) (us rs : List Tree) (ds : List Dead) → IsLedger p v (graph_trees p g) us rs ds → CanRetireRoot p (version_or g t).root
+  target_retirable v us rs ds l =
+      let old = tree_at p (version_or g t).root in
+      let others = other_trees p g t in
+      let can : IsRetirable p old = All-head (IsRetirable p) old others (ledger_retirable p v (old ∷ others) us rs ds (apart_ledger p v g t us rs ds l)).current in
+      subst (CanRetireRoot p) (root_if (version_at g t) refl) can.root
+
+-- in a pool with the same nodes each root means what it meant
+pub roots_same : (p q : Nodes) → q.nodes ≡ p.nodes → (root : Option ℕ) → tree_at q root ≡ tree_at p root
+roots_same p q nodes root = tree_at_same p q (λ x. ap (λ ns. get_or ns x None) nodes) root
+
+-- a version whose tree is the same is one still
+pub still_version : (terms : List Term) (p q : Nodes) (v : GraphVersion) → version_tree q v ≡ version_tree p v → IsVersion terms p v → IsVersion terms q v
+still_version terms p q v same is = record {
+  root_is = ap root_of same ∙ is.root_is;
+  keyed = subst (IsKeyed terms) (sym same) is.keyed;
+  counted = subst (λ t. v.triples ≡ length (keys t)) (sym same) is.counted;
+}
+
+-- an empty graph has a version
+pub empty_is : (terms : List Term) (p : Nodes) → IsVersion terms p empty_version
+empty_is terms p = record { root_is = refl; keyed = record { balanced = tt; rising = tt; given = tt }; counted = refl }
+
+-- what the end of a commit makes of the books, where this was the root of a graph
+pub record EndsTree (old new : Books) (root : Option ℕ) : Type 0 where
+  pub base : string_bytes new.base ≡ string_bytes old.base
+  pub limits : new.limits ≡ old.limits
+  pub request : new.request ≡ old.request
+  pub dict : new.dict ≡ old.dict
+  pub commit : new.versions ≡ at_commit old.versions (old.versions.commit + 1)
+  pub nodes : new.pool.nodes ≡ old.pool.nodes
+  pub aside : aside_count new.pool ≡ aside_count old.pool
+  pub ledgers : HandsOverAll old.versions new.versions old.pool new.pool root
+
+-- it makes this of them, beside any catalogue
+pub tree_ended : (b : Books) (t : Target) (old : GraphVersion) (q : Nodes) (w : Pins) (c : Catalogued) → old ≡ version_or b.catalogue.graphs t → w ≡ at_commit b.versions (b.versions.commit + 1) → q.nodes ≡ b.pool.nodes → aside_count q ≡ aside_count b.pool
+    → HandsOverAll b.versions w b.pool q old.root → EndsTree b (record b { pool = q; versions = w; catalogue = c }) (version_or b.catalogue.graphs t).root
+tree_ended b t old q w c is commit nodes aside ledgers = record {
+  base = refl;
+  limits = refl;
+  request = refl;
+  dict = refl;
+  commit = commit;
+  nodes = nodes;
+  aside = aside;
+  ledgers = subst (λ (v : GraphVersion). HandsOverAll b.versions w b.pool q v.root) is ledgers;
+}
+
+-- what is kept of the books by it
+kept_books : (old new : Books) (root : Option ℕ) → EndsTree old new root → KeepsBooks old new
+kept_books old new root e = record {
+  base = e.base;
+  limits = e.limits;
+  request = e.request;
+  commit = ap (λ (v : Pins). v.commit) e.commit;
+  pins = ap (λ (v : Pins). v.seats) e.commit;
+  dict = e.dict;
+  nodes = e.nodes;
+}
+
+-- The books before a commit, and after it, where the graphs are g.
+module _ (old new : Books) (t : Target) (e : EndsTree old new (version_or old.catalogue.graphs t).root) (sound : IsSound old) (number : old.versions.commit < last_number) (g : GraphVersions) (written : new.catalogue.graphs ≡ g) where
+  others_same : AreSameIn old.pool new.pool (other_versions old.catalogue.graphs t)
+  others_same = λ k d h. roots_same old.pool new.pool e.nodes (get_or (other_versions old.catalogue.graphs t) k d).root
+
+  dataset_now : dataset_of new ≡ dataset_at old.dict.terms new.pool g
+  dataset_now = ap (λ d. dataset_at d.terms new.pool new.catalogue.graphs) e.dict ∙ ap (dataset_at old.dict.terms new.pool) written
+
+  sound_now : All (IsVersion old.dict.terms new.pool) (all_versions g) → IsSound new
+  sound_now all = record {
+    versions = subst (λ d. All (IsVersion d.terms new.pool) (all_versions new.catalogue.graphs)) (sym e.dict) (subst (λ h. All (IsVersion old.dict.terms new.pool) (all_versions h)) (sym written) all);
+    none_aside = e.aside ∙ sound.none_aside;
+    commit = omega (arith, ap (λ (v : Pins). v.commit) e.commit, number);
+    base = subst (λ x. is_base x ≡ true) (sym e.base) sound.base;
+  }
+
+  -- the tree of the upload is that of a graph now
+  ends_now : (tree : Tree) → AreSameTrees (tree ∷ other_trees old.pool old.catalogue.graphs t) (graph_trees new.pool g) → (us rs : List Tree) → HasLedger old (tree ∷ us) rs → Ends old new (size_at (dataset_of old) t) us rs
+  ends_now tree trees us rs l =
+      let p = old.pool in
+      let q = new.pool in
+      let root = (version_or old.catalogue.graphs t).root in
+      let others = other_trees p old.catalogue.graphs t in
+      let h : HandsOver old.versions new.versions p q (tree_at p root) tree others us rs = e.ledgers tree others us rs (apart_ledger p old.versions old.catalogue.graphs t (tree ∷ us) rs (dead_at p) l) in
+      record {
+        ledger = subst (λ h. IsLedger q new.versions (graph_trees q h) us rs (dead_at q)) (sym written)
+            (reorder_ledger q new.versions (tree ∷ others) (graph_trees q g) us us rs (dead_at q) (dead_at q) trees (same_trees us) (same_dead (dead_at q)) h.ledger);
+        waste = subst (λ n. Joins (EndsAt (old.versions.commit + 1)) n (waste_at p) (waste_at q)) (keys_of_target old.dict.terms p old.catalogue.graphs t sound.versions) h.waste;
+      }
+
+-- the target has the upload's version
+pub put_made : (old new : Books) (t : Target) (u : GraphVersion) → EndsTree old new (version_or old.catalogue.graphs t).root → new.catalogue ≡ after_set old.catalogue t u → IsSound old → IsVersion old.dict.terms old.pool u → room_wanted old.catalogue.graphs t ≤ old.catalogue.spare → old.versions.commit < last_number → Puts old new t u
+put_made old new t u e written sound is room number =
+    let terms = old.dict.terms in
+    let p = old.pool in
+    let q = new.pool in
+    let g = old.catalogue.graphs in
+    let h = with_version g t u in
+    let graphs : new.catalogue.graphs ≡ h = ap (λ (c : Catalogued). c.graphs) written in
+    let tree : version_tree q u ≡ version_tree p u = roots_same p q e.nodes u.root in
+    let now : IsVersion (terms ++ []) q u = subst (λ ts. IsVersion ts q u) (sym (append-nil terms)) (still_version terms p q u tree is) in
+    let sets : SetsOne terms [] p q g t u = one_is_set terms [] p q g t u sound.versions (others_same old new t e sound number h graphs) now in
+    let set_to : dataset_at terms q h ≡ with_graph (dataset_at terms p g) t (version_graph terms q u) = subst (λ ts. dataset_at ts q h ≡ with_graph (dataset_at terms p g) t (version_graph ts q u)) (append-nil terms) sets.dataset in
+    let graph : version_graph terms q u ≡ graph_at terms p u.root = ap (tree_graph terms) tree in
+    record {
+      dataset = dataset_now old new t e sound number h graphs ∙ set_to ∙ ap (with_graph (dataset_at terms p g) t) graph;
+      kept = kept_books old new (version_or g t).root e;
+      sound = sound_now old new t e sound number h graphs (subst (λ ts. All (IsVersion ts q) (all_versions h)) (append-nil terms) sets.versions);
+      ledgers = ends_now old new t e sound number h graphs (tree_at p u.root) (subst (λ x. AreSameTrees (x ∷ other_trees p g t) (graph_trees q h)) tree sets.trees);
+      room = omega (arith, ap (λ (c : Catalogued). c.spare) written, room);
+    }
+
+-- the ledger of a Delete: a leaf is no upload
+leaf_ends : (old new : Books) (size : ℕ) → ((us rs : List Tree) → HasLedger old (leaf ∷ us) rs → Ends old new size us rs) → (us rs : List Tree) → HasLedger old us rs → Ends old new size us rs
+leaf_ends old new size ends us rs l = ends us rs ((leaf_upload old.pool old.versions (graph_trees old.pool old.catalogue.graphs) us rs (dead_at old.pool)).0 l)
+
+-- the default graph is empty
+pub emptied : (old new : Books) → EndsTree old new (version_or old.catalogue.graphs Default).root → new.catalogue ≡ after_set old.catalogue Default empty_version → IsSound old → old.versions.commit < last_number → Removes old new Default
+emptied old new e written sound number =
+    let terms = old.dict.terms in
+    let none : graph_at terms old.pool None ≡ empty_graph = refl in
+    let puts = put_made old new Default empty_version e written sound (empty_is terms old.pool) (omega arith) number in
+    record {
+      dataset = puts.dataset ∙ ap (with_graph (dataset_of old) Default) none;
+      kept = puts.kept;
+      sound = puts.sound;
+      ledgers = leaf_ends old new (size_at (dataset_of old) Default) puts.ledgers;
+      room = omega (arith, puts.room);
+    }
+
+-- a name is gone
+pub taken_out : (old new : Books) (n : List ℕ) → EndsTree old new (version_or old.catalogue.graphs (Named n)).root → new.catalogue ≡ after_take old.catalogue n → IsSound old → old.versions.commit < last_number → Removes old new (Named n)
+taken_out old new n e written sound number =
+    let terms = old.dict.terms in
+    let p = old.pool in
+    let q = new.pool in
+    let g = old.catalogue.graphs in
+    let t = Named n in
+    let h = without_name g n in
+    let graphs : new.catalogue.graphs ≡ h = ap (λ (c : Catalogued). c.graphs) written in
+    let takes = name_is_taken terms p q g n sound.versions (others_same old new t e sound number h graphs) in
+    record {
+      dataset = dataset_now old new t e sound number h graphs ∙ takes.dataset;
+      kept = kept_books old new (version_or g t).root e;
+      sound = sound_now old new t e sound number h graphs takes.versions;
+      ledgers = leaf_ends old new (size_at (dataset_of old) t) (ends_now old new t e sound number h graphs leaf takes.trees);
+      room = omega (arith, ap (λ (c : Catalogued). c.spare) written);
+    }

@@ -1,0 +1,154 @@
+-- What a pin and a piece of a read make of the books and of the seat.
+use Rattle.std.proofs.Common.{◌≡◌, ℕ, ◌<◌, true, false, cond, ◌∷◌, get_or, Option, Some, None, is_some, option_map, refl, sym, ap, subst, ◌∙◌}
+use Rattle.std.proofs.lemmas.List.{set-get_or, length-set, get_or-set_same, get_or-map, length-map}
+use Rattle.std.specs.List.{Contains}
+use Rattle.gs_model.specs.Graphs.{lines_of}
+use Rattle.gs_term.specs.declared.names.Target.{Target}
+use Rattle.gs_event.specs.declared.events.Action.TheVariants.{Pin, Piece as PieceOf}
+use Rattle.gs_event.specs.declared.answers.Answer.TheVariants.{Pinned, Lines}
+use Rattle.gs_event.specs.Datasets.{is_there, lines_at, lines_if}
+use Rattle.gs_event.specs.Phases as phase
+use Rattle.gs_pool.specs.declared.nodes.Key.{Key}
+use Rattle.gs_pool.specs.Pool.{Nodes}
+use Rattle.gs_tree.specs.Tree.{leaf, root_of, tree_at}
+use Rattle.gs_tree.specs.Sets.{IsSetAt}
+use Rattle.gs_keys.specs.Texts.{key_cmp}
+use Rattle.gs_keys.specs.Roots.{IsGraphAt, graph_at}
+use Rattle.gs_keys.proofs.RootLemmas.{set_graph}
+use Rattle.gs_staging.proofs.KeyLemmas.{still_grows}
+use Rattle.gs_lines.specs.declared.pieces.Piece.{Piece}
+use Rattle.gs_lines.specs.Pieces.{lines_from, IsPiece}
+use Rattle.gs_lines.proofs.PieceLemmas.{all_lines}
+use Rattle.gs_catalogue.specs.declared.versions.GraphVersion.{GraphVersion}
+use Rattle.gs_catalogue.specs.Catalogues.{GraphVersions, version_at}
+use Rattle.gs_versions.specs.Pins.{Pins, with_pin}
+use Rattle.gs_ledger.specs.Marks.{dead_at}
+use Rattle.gs_ledger.proofs.Sums.{all_at}
+use Rattle.gs_ledger.proofs.PinSteps.{pin_ledger}
+use Rattle.gs_datasets.specs.Standing.{all_versions, graph_trees, version_tree, version_graph, IsKeyed, IsVersion}
+use Rattle.gs_datasets.proofs.Parting.{all_target}
+use Rattle.gs_datasets.proofs.Sizes.{graph_at-is, is_there-is}
+use Rattle.gs_datasets.proofs.Keeping.{ledger_has_sets}
+use Rattle.gs_tree_store.specs.declared.books.Books.{Books}
+use Rattle.gs_tree_store.specs.declared.books.Seat.{Seat}
+use Rattle.gs_tree_store.specs.declared.books.Seat.TheVariants.{Idle, Reading}
+use Rattle.gs_tree_store.specs.Books.{dataset_of, upload_tree, IsReady}
+use Rattle.gs_tree_store.specs.Actions.{Acts}
+use Rattle.gs_tree_store.proofs.SeatLemmas.{same_totals, ledger_stays, read_ends}
+
+-- the tree of a target's version is among those of the ledger
+has_tree : (p : Nodes) (g : GraphVersions) (t : Target) (v : GraphVersion) → version_at g t ≡ Some v → Contains (graph_trees p g) (tree_at p v.root)
+has_tree p g t v is =
+    let vs = all_versions g in
+    let f = version_tree p in
+    all_target (λ (w : GraphVersion). Contains (graph_trees p g) (version_tree p w)) g t v is
+    (λ k d h. (k, subst (λ n. k < n) (sym (length-map vs f)) h, get_or-map f vs k d (f (get_or vs k d)) h))
+
+-- its root can be read
+version_read : (b : Books) (s : ℕ) (seat : Seat) (t : Target) (v : GraphVersion) → version_at b.catalogue.graphs t ≡ Some v → IsReady b s seat → IsVersion b.dict.terms b.pool v × IsGraphAt b.dict.terms b.pool v.root
+version_read b s seat t v is ready =
+    let terms = b.dict.terms in
+    let p = b.pool in
+    let gs = graph_trees p b.catalogue.graphs in
+    let some = ready.ledger in
+    let version : IsVersion terms p v = all_target (IsVersion terms p) b.catalogue.graphs t v is ready.sound.versions in
+    let sets = ledger_has_sets terms p b.versions gs (upload_tree p seat ∷ some.uploads) some.reads (dead_at p) some.ledger.ledger in
+    let one : IsSetAt (key_cmp terms) p (root_of (tree_at p v.root)) =
+    all_at (λ u. IsKeyed terms u → IsSetAt (key_cmp terms) p (root_of u)) gs (tree_at p v.root) sets.current (has_tree p b.catalogue.graphs t v is) version.keyed in
+    (version, set_graph terms p v.root (subst (IsSetAt (key_cmp terms) p) version.root_is one) version.keyed.given)
+
+-- a pin of a missing graph
+missing : (b : Books) (s : ℕ) (t : Target) → version_at b.catalogue.graphs t ≡ None → IsReady b s Idle → Acts b b s Idle Idle (Pin t) (Pinned 404)
+missing b s t none ready =
+    let not_there : is_there (dataset_of b) t ≡ false = is_there-is b.dict.terms b.pool b.catalogue.graphs t ∙ ap is_some none in
+    record {
+      fits = sym (ap (λ x. cond x 200 404) not_there);
+      totals = same_totals b b refl refl refl refl;
+      seat = refl;
+      pins = sym (set-get_or b.versions.seats s None);
+      sound = ready.sound;
+      known = tt;
+      grows = still_grows b.dict b.dict refl;
+      ledgers = λ us rs l. record { ledger = ledger_stays b s Idle us rs l.read l.there l.ledger; waste = refl };
+      uses = refl;
+    }
+
+pub pin_missing : (b : Books) (s : ℕ) (seat : Seat) (t : Target) → seat ≡ Idle → version_at b.catalogue.graphs t ≡ None → IsReady b s seat → Acts b b s seat seat (Pin t) (Pinned 404)
+pin_missing b s seat t idle none = subst (λ x. IsReady b s x → Acts b b s x x (Pin t) (Pinned 404)) (sym idle) (missing b s t none)
+
+-- a pin of a graph
+pinned : (b : Books) (s : ℕ) (t : Target) (v : GraphVersion) → version_at b.catalogue.graphs t ≡ Some v → IsReady b s Idle
+    → Acts b (record b { versions = with_pin b.versions s (Some b.versions.commit) }) s Idle (Reading v.root None) (Pin t) (Pinned 200)
+pinned b s t v is ready =
+    let terms = b.dict.terms in
+    let p = b.pool in
+    let g = b.catalogue.graphs in
+    let read = version_read b s Idle t v is ready in
+    let there : is_there (dataset_of b) t ≡ true = is_there-is terms p g t ∙ ap is_some is in
+    let graph : lines_at (dataset_of b) t ≡ lines_of (graph_at terms p v.root) = ap lines_if (graph_at-is terms p g t ∙ ap (option_map (version_graph terms p)) is) in
+    let lines : lines_from terms p v.root None ≡ lines_at (dataset_of b) t = all_lines terms p v.root read.1 ∙ sym graph in
+    record {
+      fits = sym (ap (λ x. cond x 200 404) there);
+      totals = same_totals b (record b { versions = with_pin b.versions s (Some b.versions.commit) }) refl refl refl refl;
+      seat = ap (λ x. phase.Reading x) lines;
+      pins = refl;
+      sound = record { versions = ready.sound.versions; none_aside = ready.sound.none_aside; commit = ready.sound.commit; base = ready.sound.base };
+      known = record { root_is = read.0.root_is; keyed = read.0.keyed; given = tt };
+      grows = still_grows b.dict b.dict refl;
+      ledgers = λ us rs l. record {
+        ledger = record {
+          ledger = pin_ledger p b.versions (graph_trees p g) (leaf ∷ us) rs (dead_at p) s (tree_at p v.root) l.ledger ready.there l.there (has_tree p g t v is);
+          there = subst (λ n. s < n) (sym (length-set rs s (tree_at p v.root))) l.there;
+          read = get_or-set_same rs s (tree_at p v.root) leaf l.there;
+        };
+        waste = refl;
+      };
+      uses = refl;
+    }
+
+pub pin_found : (b : Books) (s : ℕ) (seat : Seat) (t : Target) (v : GraphVersion) (w : Pins) → seat ≡ Idle → version_at b.catalogue.graphs t ≡ Some v → w ≡ with_pin b.versions s (Some b.versions.commit) → IsReady b s seat
+    → Acts b (record b { versions = w }) s seat (Reading v.root None) (Pin t) (Pinned 200)
+pin_found b s seat t v w idle is pin =
+    subst (λ x. IsReady b s x → Acts b (record b { versions = w }) s x (Reading v.root None) (Pin t) (Pinned 200)) (sym idle)
+    (λ ready. subst (λ y. Acts b (record b { versions = y }) s Idle (Reading v.root None) (Pin t) (Pinned 200)) (sym pin) (pinned b s t v is ready))
+
+-- a piece after which lines are left
+more_left : (b : Books) (s : ℕ) (root : Option ℕ) (last : Option Key) (count : ℕ) (piece : Piece) → 0 < count → piece.is_end ≡ false → IsPiece b.dict.terms b.pool root last count piece → IsReady b s (Reading root last)
+    → Acts b b s (Reading root last) (Reading root piece.last) (PieceOf count) (Lines piece.bytes false)
+more_left b s root last count piece some more p ready = record {
+  fits = (some, p.bytes, sym more ∙ p.end);
+  totals = same_totals b b refl refl refl refl;
+  seat = ap (λ x. phase.Reading x) (p.rest more);
+  pins = sym (set-get_or b.versions.seats s None);
+  sound = ready.sound;
+  known = record { root_is = ready.known.root_is; keyed = ready.known.keyed; given = p.last_given };
+  grows = still_grows b.dict b.dict refl;
+  ledgers = λ us rs l. record { ledger = ledger_stays b s (Reading root piece.last) us rs l.read l.there l.ledger; waste = refl };
+  uses = refl;
+}
+
+pub piece_more : (b : Books) (s : ℕ) (seat : Seat) (root : Option ℕ) (last : Option Key) (count : ℕ) (piece : Piece) → seat ≡ Reading root last → 0 < count → piece.is_end ≡ false → IsPiece b.dict.terms b.pool root last count piece → IsReady b s seat
+    → Acts b b s seat (Reading root piece.last) (PieceOf count) (Lines piece.bytes false)
+piece_more b s seat root last count piece reads some more p =
+    subst (λ x. IsReady b s x → Acts b b s x (Reading root piece.last) (PieceOf count) (Lines piece.bytes false)) (sym reads) (more_left b s root last count piece some more p)
+
+-- the last piece
+none_left : (b : Books) (s : ℕ) (root : Option ℕ) (last : Option Key) (count : ℕ) (piece : Piece) → 0 < count → piece.is_end ≡ true → IsPiece b.dict.terms b.pool root last count piece → IsReady b s (Reading root last)
+    → Acts b (record b { versions = with_pin b.versions s None }) s (Reading root last) Idle (PieceOf count) (Lines piece.bytes true)
+none_left b s root last count piece some ends p ready = record {
+  fits = (some, p.bytes, sym ends ∙ p.end);
+  totals = same_totals b (record b { versions = with_pin b.versions s None }) refl refl refl refl;
+  seat = refl;
+  pins = refl;
+  sound = record { versions = ready.sound.versions; none_aside = ready.sound.none_aside; commit = ready.sound.commit; base = ready.sound.base };
+  known = tt;
+  grows = still_grows b.dict b.dict refl;
+  ledgers = λ us rs l. record { ledger = read_ends b s root last us rs ready.there l; waste = refl };
+  uses = refl;
+}
+
+pub piece_last : (b : Books) (s : ℕ) (seat : Seat) (root : Option ℕ) (last : Option Key) (count : ℕ) (piece : Piece) (w : Pins) → seat ≡ Reading root last → 0 < count → piece.is_end ≡ true → IsPiece b.dict.terms b.pool root last count piece
+    → w ≡ with_pin b.versions s None → IsReady b s seat → Acts b (record b { versions = w }) s seat Idle (PieceOf count) (Lines piece.bytes true)
+piece_last b s seat root last count piece w reads some ends p pin =
+    subst (λ x. IsReady b s x → Acts b (record b { versions = w }) s x Idle (PieceOf count) (Lines piece.bytes true)) (sym reads)
+    (λ ready. subst (λ y. Acts b (record b { versions = y }) s (Reading root last) Idle (PieceOf count) (Lines piece.bytes true)) (sym pin) (none_left b s root last count piece some ends p ready))

@@ -1,0 +1,89 @@
+-- What the actions of a seat share: what they show where no graph changes, and the ledger at the place of a seat.
+use Rattle.std.proofs.Common.{◌≡◌, ℕ, ◌+◌, ◌<◌, ◌≤◌, false, List, ◌∷◌, length, get_or, set, Option, Some, None, is_some, refl, sym, ap, subst, ◌∙◌, arith, add-zero}
+use Rattle.std.proofs.lemmas.List.{set-get_or, length-set, get_or-set_same}
+use Rattle.std.specs.List.{All}
+use Rattle.gs_model.specs.Limits.{last_number}
+use Rattle.gs_dict.specs.Numbering.{Numbered}
+use Rattle.gs_pool.specs.declared.nodes.Key.{Key}
+use Rattle.gs_pool.specs.Pool.{Nodes, aside_count}
+use Rattle.gs_tree.specs.Tree.{Tree, leaf}
+use Rattle.gs_staging.specs.Keys.{Grows}
+use Rattle.gs_versions.specs.Pins.{Pins, with_pin}
+use Rattle.gs_ledger.specs.Marks.{dead_at}
+use Rattle.gs_ledger.specs.Ledger.{IsReadAt}
+use Rattle.gs_ledger.proofs.PinSteps.{each_seat}
+use Rattle.gs_datasets.specs.Standing.{dataset_at, all_versions, graph_trees, IsVersion, AreSameIn}
+use Rattle.gs_datasets.proofs.Writing.{all_stay}
+use Rattle.gs_tree_store.specs.declared.books.Books.{Books}
+use Rattle.gs_tree_store.specs.declared.books.Seat.{Seat}
+use Rattle.gs_tree_store.specs.declared.books.Seat.TheVariants.{Idle, Reading}
+use Rattle.gs_tree_store.specs.Books.{books_setting, dataset_of, totals_of, upload_tree, read_tree, is_reading, IsSound, IsReady, HasLedger, HasLedgerAt}
+
+-- a pin that is none
+none_pinned : (o : Option ℕ) → is_some o ≡ false → o ≡ None
+none_pinned None h = refl
+none_pinned (Some n) h = cc
+
+-- a seat that has no pin stays so
+pub still_unpinned : (b : Books) (s : ℕ) (seat : Seat) → is_reading seat ≡ false → IsReady b s seat → b.versions.seats ≡ set b.versions.seats s None
+still_unpinned b s seat none ready =
+    sym (ap (set b.versions.seats s) (sym (none_pinned (get_or b.versions.seats s None) (ready.pinned ∙ none))) ∙ set-get_or b.versions.seats s None)
+
+-- the totals where no graph changed and no number was given out
+pub same_totals : (b c : Books) → books_setting c ≡ books_setting b → dataset_of c ≡ dataset_of b → c.request ≡ b.request → c.versions.commit ≡ b.versions.commit
+    → totals_of c ≡ record { setting = books_setting b; dataset = dataset_of b; request = b.request + 0; commit = b.versions.commit + 0 }
+same_totals b c setting dataset request commit =
+    let asked : c.request ≡ b.request + 0 = request ∙ sym (add-zero b.request) in
+    let last : c.versions.commit ≡ b.versions.commit + 0 = commit ∙ sym (add-zero b.versions.commit) in
+    λ i. record { setting = setting i; dataset = dataset i; request = asked i; commit = last i }
+
+-- the books are sound and have the dataset and the trees that they had
+pub record SameGraphs (b c : Books) : Type 0 where
+  pub dataset : dataset_of c ≡ dataset_of b
+  pub trees : graph_trees c.pool c.catalogue.graphs ≡ graph_trees b.pool b.catalogue.graphs
+  pub sound : IsSound c
+
+-- that is so where there are more terms, and each version has the tree that it had
+pub same_graphs : (b : Books) (d : Numbered) (q : Nodes) (w : Pins) → IsSound b → Grows b.dict d → AreSameIn b.pool q (all_versions b.catalogue.graphs) → aside_count q ≡ 0 → w.commit ≡ b.versions.commit
+    → SameGraphs b (record b { dict = d; pool = q; versions = w })
+same_graphs b d q w sound grows same none commit =
+    let g = b.catalogue.graphs in
+    let kept = all_stay b.dict.terms grows.more b.pool q g sound.versions same in
+    record {
+      dataset = ap (λ ts. dataset_at ts q g) grows.terms ∙ kept.dataset;
+      trees = kept.trees;
+      sound = record {
+        versions = subst (λ ts. All (IsVersion ts q) (all_versions g)) (sym grows.terms) kept.versions;
+        none_aside = none;
+        commit = subst (λ n. n ≤ last_number) (sym commit) sound.commit;
+        base = sound.base;
+      };
+    }
+
+-- the ledger at a seat's place, where the tree there is the one that the seat reads
+pub ledger_stays : (c : Books) (s : ℕ) (now : Seat) (us rs : List Tree) → get_or rs s leaf ≡ read_tree c.pool now → s < length rs → HasLedger c (upload_tree c.pool now ∷ us) rs → HasLedgerAt c s now us (set rs s (read_tree c.pool now))
+ledger_stays c s now us rs read there l =
+    let same : set rs s (read_tree c.pool now) ≡ rs = ap (set rs s) (sym read) ∙ set-get_or rs s leaf in
+    record {
+      ledger = subst (HasLedger c (upload_tree c.pool now ∷ us)) (sym same) l;
+      there = subst (λ n. s < n) (sym (ap length same)) there;
+      read = ap (λ ts. get_or ts s leaf) same ∙ read;
+    }
+
+-- the end of a read: nothing is pinned, and the tree there is a leaf
+pub read_ends : (b : Books) (s : ℕ) (root : Option ℕ) (last : Option Key) (us rs : List Tree) → s < length b.versions.seats → HasLedgerAt b s (Reading root last) us rs → HasLedgerAt (record b { versions = with_pin b.versions s None }) s Idle us (set rs s leaf)
+read_ends b s root last us rs there l =
+    let gs = graph_trees b.pool b.catalogue.graphs in
+    let k = l.ledger in
+    record {
+      ledger = record {
+        once = k.once;
+        marks = k.marks;
+        current = k.current;
+        staged = k.staged;
+        waste = k.waste;
+        read = each_seat (IsReadAt b.pool b.versions.commit gs (dead_at b.pool)) b.versions.seats rs s None leaf there l.there k.read tt;
+      };
+      there = omega (arith, length-set rs s leaf, l.there);
+      read = get_or-set_same rs s leaf leaf l.there;
+    }

@@ -1,0 +1,143 @@
+-- A seat beside others: what it shows stays where its trees stay and terms came, and it has a pin where it reads.
+use Rattle.std.proofs.Common.{◌≡◌, ℕ, Bool, true, false, cond, nat_eq, List, ◌++◌, map, length, Option, Some, None, is_some, refl, sym, ap, subst, ◌∙◌}
+use Rattle.gs_model.specs.Terms.{Term}
+use Rattle.gs_event.specs.declared.events.Action.{Action}
+use Rattle.gs_event.specs.declared.events.Action.TheVariants.{Open, OpenPatch, Stage, Commit, CommitPatch, Pin, Piece, Cancel}
+use Rattle.gs_event.specs.declared.answers.Answer.{Answer}
+use Rattle.gs_event.specs.declared.answers.Answer.TheVariants.{Opened, Staged, Status, Pinned, Lines, Cancelled}
+use Rattle.gs_event.specs.Phases as phase
+use Rattle.gs_event.specs.Views.{Totals, SeatView, FitsSeat, next_phase}
+use Rattle.gs_event.specs.Steps.{pin_after}
+use Rattle.gs_pool.specs.declared.nodes.Key.{Key}
+use Rattle.gs_pool.specs.Pool.{Nodes}
+use Rattle.gs_tree.specs.Keys.{AllKeys}
+use Rattle.gs_tree.specs.Tree.{Tree, root_of, keys, tree_at}
+use Rattle.gs_tree.specs.Reading.{keys_from}
+use Rattle.gs_keys.specs.Texts.{key_cmp, IsGiven}
+use Rattle.gs_keys.proofs.RootLemmas.{given_kept}
+use Rattle.gs_lines.specs.Pieces.{line_at, IsCursor}
+use Rattle.gs_lines.proofs.LineLemmas.{lines_kept}
+use Rattle.gs_datasets.specs.Standing.{IsKeyed, tree_graph}
+use Rattle.gs_datasets.specs.Trees.{IsMeant, IsPlainTree, Outlasts}
+use Rattle.gs_datasets.proofs.Outlasting.{keys_outlast, keys_last}
+use Rattle.gs_tree_store.specs.declared.books.Seat.{Seat}
+use Rattle.gs_tree_store.specs.declared.books.Seat.TheVariants.{Idle, Writing, Patching, Reading}
+use Rattle.gs_tree_store.specs.Books.{seat_shown, upload_tree, read_tree, is_reading, IsSeat}
+
+-- what holds among some terms holds among these too: of keyed trees, of their lines, and of places to read from
+pub record Outlives (terms now : List Term) : Type 0 where
+  pub trees : (t : Tree) → IsKeyed terms t → Outlasts terms now t
+  pub lines : (from : Option Key) (ks : List Key) → IsCursor terms from → AllKeys (IsGiven terms) ks
+      → map (line_at now) (keys_from (key_cmp now) from ks) ≡ map (line_at terms) (keys_from (key_cmp terms) from ks)
+  pub cursors : (from : Option Key) → IsCursor terms from → IsCursor now from
+
+cursor_kept : (terms more : List Term) (from : Option Key) → IsCursor terms from → IsCursor (terms ++ more) from
+cursor_kept terms more None h = tt
+cursor_kept terms more (Some k) h = given_kept terms more k h
+
+-- among more terms,
+pub outlives_more : (terms more now : List Term) → now ≡ terms ++ more → Outlives terms now
+outlives_more terms more now e = subst (Outlives terms) (sym e) (record { trees = keys_outlast terms more; lines = lines_kept terms more; cursors = cursor_kept terms more })
+
+-- and among the same
+pub outlives_same : (terms : List Term) → Outlives terms terms
+outlives_same terms = record { trees = keys_last terms; lines = λ from ks c g. refl; cursors = λ from c. c }
+
+-- the root of a seat means the same tree in both pools
+abbrev pub KeepsSeat : Nodes → Nodes → Seat → Type 0
+KeepsSeat p q (Writing k r v) = tree_at q v.root ≡ tree_at p v.root
+KeepsSeat p q (Reading root last) = tree_at q root ≡ tree_at p root
+KeepsSeat p q s = Unit {0}
+
+module _ (p q : Nodes) where
+  pub same_upload : (s : Seat) → KeepsSeat p q s → upload_tree q s ≡ upload_tree p s
+  same_upload Idle h = refl
+  same_upload (Writing k r v) h = h
+  same_upload (Patching t r) h = refl
+  same_upload (Reading root last) h = refl
+
+  pub same_read : (s : Seat) → KeepsSeat p q s → read_tree q s ≡ read_tree p s
+  same_read Idle h = refl
+  same_read (Writing k r v) h = refl
+  same_read (Patching t r) h = refl
+  same_read (Reading root last) h = h
+
+  -- so it does where its tree stands in the other pool
+  pub keeps_seat : (terms : List Term) (s : Seat) → IsSeat terms p s → IsPlainTree q (upload_tree p s) → (is_reading s ≡ true → IsMeant q (read_tree p s)) → KeepsSeat p q s
+  keeps_seat terms Idle is staged read = tt
+  keeps_seat terms (Writing k r v) is staged read = ap (tree_at q) (sym is.root_is) ∙ staged.means
+  keeps_seat terms (Patching t r) is staged read = tt
+  keeps_seat terms (Reading root last) is staged read = ap (tree_at q) (sym is.root_is) ∙ (read refl).means
+
+module _ (terms now : List Term) (more : Outlives terms now) (p q : Nodes) where
+  -- such a seat is one still,
+  pub seat_stays : (s : Seat) → IsSeat terms p s → KeepsSeat p q s → IsSeat now q s
+  seat_stays Idle is same = tt
+  seat_stays (Writing k r v) is same = record {
+    root_is = ap root_of same ∙ is.root_is;
+    keyed = subst (IsKeyed now) (sym same) (more.trees (tree_at p v.root) is.keyed).keyed;
+    counted = is.counted ∙ sym (ap (λ t. length (keys t)) same);
+  }
+  seat_stays (Patching t r) is same = tt
+  seat_stays (Reading root last) is same = record {
+    root_is = ap root_of same ∙ is.root_is;
+    keyed = subst (IsKeyed now) (sym same) (more.trees (tree_at p root) is.keyed).keyed;
+    given = more.cursors last is.given;
+  }
+
+  -- and shows what it showed
+  pub shown_stays : (s : Seat) → IsSeat terms p s → KeepsSeat p q s → seat_shown now q s ≡ seat_shown terms p s
+  shown_stays Idle is same = refl
+  shown_stays (Writing k r v) is same = ap (λ g. phase.Writing k r g) (ap (tree_graph now) same ∙ (more.trees (tree_at p v.root) is.keyed).same)
+  shown_stays (Patching t r) is same = refl
+  shown_stays (Reading root last) is same =
+      ap (λ ls. phase.Reading ls) (ap (λ t. map (line_at now) (keys_from (key_cmp now) last (keys t))) same ∙ more.lines last (keys (tree_at p root)) is.given is.keyed.given)
+
+-- whether a seat is seen to read
+abbrev reads_now : SeatView → Bool
+reads_now (phase.Reading left) = true
+reads_now p = false
+
+reads_shown : (terms : List Term) (p : Nodes) (s : Seat) → reads_now (seat_shown terms p s) ≡ is_reading s
+reads_shown terms p Idle = refl
+reads_shown terms p (Writing k r v) = refl
+reads_shown terms p (Patching t r) = refl
+reads_shown terms p (Reading root last) = refl
+
+begins : (b : Bool) (commit : ℕ) (pin : Option ℕ) (left : List (List ℕ)) → is_some pin ≡ false → is_some (cond b (Some commit) pin) ≡ reads_now (cond b (phase.Reading left) phase.Idle)
+begins true commit pin left e = refl
+begins false commit pin left e = e
+
+ends : (b : Bool) (pin : Option ℕ) (left : List (List ℕ)) → is_some pin ≡ true → is_some (cond b None pin) ≡ reads_now (cond b phase.Idle (phase.Reading left))
+ends true pin left e = refl
+ends false pin left e = e
+
+-- a pin begins and ends as a read does
+pin_follows : (v : Totals) (commit : ℕ) (pin : Option ℕ) (p : SeatView) (action : Action) (a : Answer) → FitsSeat v p action a → is_some pin ≡ reads_now p → is_some (pin_after commit pin action a) ≡ reads_now (next_phase v p action a)
+pin_follows v commit pin phase.Idle (Open k) (Opened r) fits e = e
+pin_follows v commit pin phase.Idle (OpenPatch t) (Opened r) fits e = e
+pin_follows v commit pin phase.Idle (Pin t) (Pinned s) fits e = begins (nat_eq s 200) commit pin _ e
+pin_follows v commit pin phase.Idle (Piece n) (Lines b end) fits e = absurd fits
+pin_follows v commit pin phase.Idle Cancel Cancelled fits e = absurd fits
+pin_follows v commit pin (phase.Writing k r g) (Stage ts) Staged fits e = e
+pin_follows v commit pin (phase.Writing k r g) Commit (Status s name) fits e = e
+pin_follows v commit pin (phase.Writing k r g) Cancel Cancelled fits e = refl
+pin_follows v commit pin (phase.Writing k r g) (Pin t) (Pinned s) fits e = absurd fits
+pin_follows v commit pin (phase.Writing k r g) (Piece n) (Lines b end) fits e = absurd fits
+pin_follows v commit pin (phase.Patching t r) (CommitPatch ops) (Status s name) fits e = e
+pin_follows v commit pin (phase.Patching t r) Cancel Cancelled fits e = refl
+pin_follows v commit pin (phase.Patching t r) (Pin u) (Pinned s) fits e = absurd fits
+pin_follows v commit pin (phase.Patching t r) (Piece n) (Lines b end) fits e = absurd fits
+pin_follows v commit pin (phase.Reading left) (Pin t) (Pinned s) fits e = absurd fits
+pin_follows v commit pin (phase.Reading left) (Piece n) (Lines b end) fits e = ends end pin _ e
+pin_follows v commit pin (phase.Reading left) Cancel Cancelled fits e = refl
+pin_follows v commit pin p action a fits e = e
+
+-- after an action the seat has a pin exactly where it reads
+pub pin_is : (v : Totals) (commit : ℕ) (pin : Option ℕ) (terms now : List Term) (p q : Nodes) (was s : Seat) (action : Action) (a : Answer)
+    → FitsSeat v (seat_shown terms p was) action a → is_some pin ≡ is_reading was → seat_shown now q s ≡ next_phase v (seat_shown terms p was) action a
+    → is_some (pin_after commit pin action a) ≡ is_reading s
+pin_is v commit pin terms now p q was s action a fits flag next =
+    pin_follows v commit pin (seat_shown terms p was) action a fits (flag ∙ sym (reads_shown terms p was))
+    ∙ sym (ap (λ x. reads_now x) next)
+    ∙ reads_shown now q s

@@ -1,0 +1,147 @@
+-- What a Stage makes of the books and of the seat.
+use Rattle.std.proofs.Common.{◌≡◌, ℕ, ◌+◌, ◌^◌, ◌<◌, List, ◌∷◌, length, None, refl, sym, ap, subst, ◌∙◌, arith}
+use Rattle.std.proofs.lemmas.List.{set-get_or}
+use Rattle.std.proofs.lemmas.List.Elements.{All-head}
+use Rattle.std.specs.declared.alloc.Global.{Global}
+use Rattle.std.specs.declared.vec.Vec.{Vec}
+use Rattle.gs_model.specs.Triples.{RdfTriple}
+use Rattle.gs_model.specs.Graphs.{size_of, with_triples}
+use Rattle.gs_model.specs.declared.refusals.Refusal.TheVariants.{NoMemory}
+use Rattle.gs_event.specs.declared.events.UploadKind.{UploadKind}
+use Rattle.gs_event.specs.declared.events.Action.TheVariants.{Stage}
+use Rattle.gs_event.specs.declared.answers.Answer.TheVariants.{Staged, Refused}
+use Rattle.gs_event.specs.Phases as phase
+use Rattle.gs_dict.specs.Numbering.{Numbered}
+use Rattle.gs_pool.specs.Pool.{Nodes, in_use, aside_count}
+use Rattle.gs_tree.specs.declared.unions.Merged.{Merged}
+use Rattle.gs_tree.specs.Tree.{Tree, root_of, Descends, BirthAtMost, tree_at}
+use Rattle.gs_tree.specs.Sets.{IsSetAt}
+use Rattle.gs_keys.specs.Texts.{key_cmp}
+use Rattle.gs_keys.specs.Roots.{graph_at}
+use Rattle.gs_changes.proofs.AddLemmas.{few_keys}
+use Rattle.gs_staging.specs.Keys.{Grows}
+use Rattle.gs_staging.specs.Staging.{IsStaged, Stages}
+use Rattle.gs_catalogue.specs.declared.versions.GraphVersion.{GraphVersion}
+use Rattle.gs_ledger.specs.Marks.{dead_at}
+use Rattle.gs_ledger.specs.Ledger.{IsTreeOf, IsLedger}
+use Rattle.gs_commit.specs.Laws.{GrowsUpload}
+use Rattle.gs_commit.proofs.LawLemmas.{upload_grows}
+use Rattle.gs_datasets.specs.Standing.{graph_trees, IsKeyed}
+use Rattle.gs_datasets.specs.Trees.{Outlasts}
+use Rattle.gs_datasets.proofs.Keeping.{ledger_has_sets, graphs_stay}
+use Rattle.gs_datasets.proofs.Outlasting.{keys_outlast}
+use Rattle.gs_tree_store.specs.declared.books.Books.{Books}
+use Rattle.gs_tree_store.specs.declared.books.Seat.{Seat}
+use Rattle.gs_tree_store.specs.declared.books.Seat.TheVariants.{Writing}
+use Rattle.gs_tree_store.specs.Books.{IsReady}
+use Rattle.gs_tree_store.specs.Actions.{Acts, ActsAny, IsReadyAny}
+use Rattle.gs_tree_store.proofs.SeatLemmas.{same_totals, same_graphs, ledger_stays}
+
+-- an upload has a tree that triples can go into
+staged_here : (b : Books) (s : ℕ) (k : UploadKind) (r : ℕ) (v : GraphVersion) → IsReady b s (Writing k r v) → IsStaged b.dict.terms b.pool v.root
+staged_here b s k r v ready =
+    let terms = b.dict.terms in
+    let p = b.pool in
+    let some = ready.ledger in
+    let tree = tree_at p v.root in
+    let sets = ledger_has_sets terms p b.versions (graph_trees p b.catalogue.graphs) (tree ∷ some.uploads) some.reads (dead_at p) some.ledger.ledger in
+    let one = All-head (λ (t : Tree). IsKeyed terms t → IsSetAt (key_cmp terms) p (root_of t)) tree some.uploads sets.staged ready.known.keyed in
+    record { set = subst (IsSetAt (key_cmp terms) p) ready.known.root_is one; given = ready.known.keyed.given }
+
+pub upload_staged : (b : Books) (seat : Seat) (k : UploadKind) (r : ℕ) (v : GraphVersion) → seat ≡ Writing k r v → IsReadyAny b seat → IsStaged b.dict.terms b.pool v.root
+upload_staged b seat k r v writes =
+    subst (λ x. IsReadyAny b x → IsStaged b.dict.terms b.pool v.root) (sym writes)
+    (λ (any : IsReadyAny b (Writing k r v)). staged_here b any.number k r v any.ready)
+
+-- an upload has no more triples than there are numbers of nodes
+few_here : (b : Books) (s : ℕ) (k : UploadKind) (r birth : ℕ) (v : GraphVersion) (d : Numbered) (q : Nodes) (ts : List RdfTriple) (m : Merged) → length q.nodes < 2 ^ 32 → Stages birth b.dict.terms d.terms b.pool q v.root ts m
+    → IsReady b s (Writing k r v) → v.triples + m.added < 2 ^ 32
+few_here b s k r birth v d q ts m small stages ready =
+    let few = few_keys (key_cmp d.terms) q m.root stages.unites.set small in
+    omega (arith, few, stages.unites.counted, ready.known.counted)
+
+pub few_triples : (b : Books) (seat : Seat) (k : UploadKind) (r birth : ℕ) (v : GraphVersion) (d : Numbered) (q : Nodes) (ts : List RdfTriple) (m : Merged) → seat ≡ Writing k r v → length q.nodes < 2 ^ 32 → Stages birth b.dict.terms d.terms b.pool q v.root ts m
+    → IsReadyAny b seat → v.triples + m.added < 2 ^ 32
+few_triples b seat k r birth v d q ts m writes small stages =
+    subst (λ x. IsReadyAny b x → v.triples + m.added < 2 ^ 32) (sym writes)
+    (λ (any : IsReadyAny b (Writing k r v)). few_here b any.number k r birth v d q ts m small stages any.ready)
+
+-- a piece that was refused: there may be more terms
+refused_here : (b : Books) (s : ℕ) (k : UploadKind) (r : ℕ) (v : GraphVersion) (ts : Vec RdfTriple Global) (d : Numbered) → Grows b.dict d → IsReady b s (Writing k r v)
+    → Acts b (record b { dict = d }) s (Writing k r v) (Writing k r v) (Stage ts) (Refused NoMemory)
+refused_here b s k r v ts d grows ready =
+    let terms = b.dict.terms in
+    let p = b.pool in
+    let tree = tree_at p v.root in
+    let kept = same_graphs b d p b.versions ready.sound grows (λ j w h. refl) ready.sound.none_aside refl in
+    let outlasts : Outlasts terms d.terms tree = subst (λ xs. Outlasts terms xs tree) (sym grows.terms) (keys_outlast terms grows.more tree ready.known.keyed) in
+    record {
+      fits = tt;
+      totals = same_totals b (record b { dict = d }) refl kept.dataset refl refl;
+      seat = ap (λ g. phase.Writing k r g) outlasts.same;
+      pins = sym (set-get_or b.versions.seats s None);
+      sound = kept.sound;
+      known = record { root_is = ready.known.root_is; keyed = outlasts.keyed; counted = ready.known.counted };
+      grows = grows;
+      ledgers = λ us rs l. record { ledger = ledger_stays (record b { dict = d }) s (Writing k r v) us rs l.read l.there l.ledger; waste = refl };
+      uses = refl;
+    }
+
+pub stage_refused : (b : Books) (seat : Seat) (k : UploadKind) (r : ℕ) (v : GraphVersion) (ts : Vec RdfTriple Global) (d : Numbered) (q : Nodes) → seat ≡ Writing k r v → Grows b.dict d → q ≡ b.pool
+    → ActsAny b (record b { dict = d; pool = q }) seat (Writing k r v) (Stage ts) (Refused NoMemory)
+stage_refused b seat k r v ts d q writes grows same s =
+    subst (λ x. IsReady b s x → Acts b (record b { dict = d; pool = q }) s x (Writing k r v) (Stage ts) (Refused NoMemory)) (sym writes)
+    (λ ready. subst (λ y. Acts b (record b { dict = d; pool = y }) s (Writing k r v) (Writing k r v) (Stage ts) (Refused NoMemory)) (sym same) (refused_here b s k r v ts d grows ready))
+
+-- a piece that went in
+staged : (b : Books) (s : ℕ) (k : UploadKind) (r birth : ℕ) (v : GraphVersion) (ts : Vec RdfTriple Global) (d : Numbered) (q : Nodes) (m : Merged) → birth ≡ b.versions.commit + 1 → Grows b.dict d
+    → Stages birth b.dict.terms d.terms b.pool q v.root ts.items m → IsReady b s (Writing k r v)
+    → Acts b (record b { dict = d; pool = q }) s (Writing k r v) (Writing k r (record { root = m.root; triples = v.triples + m.added })) (Stage ts) Staged
+staged b s k r birth v ts d q m born grows stages ready =
+    let p = b.pool in
+    let w = b.versions in
+    let g = b.catalogue.graphs in
+    let gs = graph_trees p g in
+    let old = tree_at p v.root in
+    let new = tree_at q m.root in
+    let u = stages.unites in
+    let some = ready.ledger in
+    let was : IsTreeOf p (w.commit + 1) old = All-head (IsTreeOf p (w.commit + 1)) old some.uploads some.ledger.ledger.staged in
+    let births = subst (λ n. Descends new × BirthAtMost n new) born (u.births was.descends (subst (λ n. BirthAtMost n old) (sym born) was.born)) in
+    let tree : IsTreeOf q (w.commit + 1) new = record { stands = u.set.stands; descends = births.0; born = births.1 } in
+    let now = record b { dict = d; pool = q } in
+    let more : (us rs : List Tree) → IsLedger p w gs (old ∷ us) rs (dead_at p) → GrowsUpload w p q new gs us rs = λ us rs l. upload_grows p q w birth old new gs us rs l u.step tree in
+    let one = more some.uploads some.reads some.ledger.ledger in
+    let stay = graphs_stay b.dict.terms p q g w (new ∷ some.uploads) some.reads (dead_at q) ready.sound.versions one.ledger in
+    let used : in_use q ≡ in_use p + m.added = u.in_place refl in
+    let none : aside_count q ≡ 0 = omega (arith, used, u.exact, ready.sound.none_aside) in
+    let kept = same_graphs b d q w ready.sound grows stay none refl in
+    let larger : size_of (with_triples (graph_at b.dict.terms p v.root) ts.items) ≡ size_of (graph_at b.dict.terms p v.root) + m.added = sym (ap size_of stages.graph) ∙ stages.added in
+    record {
+      fits = tt;
+      totals = same_totals b now refl kept.dataset refl refl;
+      seat = ap (λ x. phase.Writing k r x) stages.graph;
+      pins = sym (set-get_or w.seats s None);
+      sound = kept.sound;
+      known = record {
+        root_is = sym u.set.root_is;
+        keyed = record { balanced = u.set.balanced; rising = u.set.rising; given = stages.staged.given };
+        counted = ap (λ n. n + m.added) ready.known.counted ∙ sym u.counted;
+      };
+      grows = grows;
+      ledgers = λ us rs l.
+          let grown = more us rs l.ledger in
+          record {
+            ledger = ledger_stays now s (Writing k r (record { root = m.root; triples = v.triples + m.added })) us rs l.read l.there (subst (λ xs. IsLedger q w xs (new ∷ us) rs (dead_at q)) (sym kept.trees) grown.ledger);
+            waste = grown.waste;
+          };
+      uses = omega (arith, used, larger);
+    }
+
+pub stage_done : (b : Books) (seat : Seat) (k : UploadKind) (r birth : ℕ) (v : GraphVersion) (ts : Vec RdfTriple Global) (xs : List RdfTriple) (d : Numbered) (q : Nodes) (m : Merged) → seat ≡ Writing k r v → xs ≡ ts.items → birth ≡ b.versions.commit + 1
+    → Grows b.dict d → Stages birth b.dict.terms d.terms b.pool q v.root xs m
+    → ActsAny b (record b { dict = d; pool = q }) seat (Writing k r (record { root = m.root; triples = v.triples + m.added })) (Stage ts) Staged
+stage_done b seat k r birth v ts xs d q m writes items born grows stages s =
+    let here : Stages birth b.dict.terms d.terms b.pool q v.root ts.items m = subst (λ ys. Stages birth b.dict.terms d.terms b.pool q v.root ys m) items stages in
+    subst (λ x. IsReady b s x → Acts b (record b { dict = d; pool = q }) s x (Writing k r (record { root = m.root; triples = v.triples + m.added })) (Stage ts) Staged) (sym writes)
+    (staged b s k r birth v ts d q m born grows here)

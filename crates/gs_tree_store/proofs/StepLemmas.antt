@@ -1,0 +1,98 @@
+-- What a seat's action makes of a store is one step.
+use Rattle.std.proofs.Common.{◌≡◌, ℕ, ◌<◌, ◌≤◌, List, map, length, get_or, set, Some, None, option_map, refl, sym, ap, ◌∙◌, subst}
+use Rattle.std.specs.List.{slice_get, slice_set}
+use Rattle.std.proofs.lemmas.List.{set-get_or}
+use Rattle.std.proofs.lemmas.Option.{slice_get-map, slice_get-get_or, slice_get_past}
+use Rattle.gs_model.specs.declared.refusals.Refusal.TheVariants.{BadSeat}
+use Rattle.gs_event.specs.declared.events.Action.{Action}
+use Rattle.gs_event.specs.declared.events.Action.TheVariants.{Commit, CommitPatch, Delete, Cancel}
+use Rattle.gs_event.specs.declared.events.Event.TheVariants.{Seat as At, Reclaim}
+use Rattle.gs_event.specs.declared.answers.Answer.{Answer}
+use Rattle.gs_event.specs.declared.answers.Answer.TheVariants.{Status, Cancelled, Reclaimed, Refused}
+use Rattle.gs_event.specs.Operations.{is_success}
+use Rattle.gs_event.specs.Views.{SeatView, next_at, next_if}
+use Rattle.gs_event.specs.Waste.{Lifetime, Shown, nodes_in}
+use Rattle.gs_event.specs.Steps.{WastesCommit, WastesPatch, WastesCancel, Wastes, Steps}
+use Rattle.gs_event.proofs.PinLemmas.{refused_pin}
+use Rattle.gs_event.proofs.NodeLemmas.{gives_back}
+use Rattle.gs_pool.specs.Pool.{in_use}
+use Rattle.gs_ledger.specs.Marks.{waste_at}
+use Rattle.gs_tree_store.specs.declared.books.Seat.{Seat}
+use Rattle.gs_tree_store.specs.declared.stores.TreeStore.TheInside.{Inside}
+use Rattle.gs_tree_store.specs.Books.{seat_view}
+use Rattle.gs_tree_store.specs.Actions.{SeatWastes, SeatUses, Acts}
+use Rattle.gs_tree_store.specs.Uses.{UsesAt, UsesNodes}
+use Rattle.gs_tree_store.specs.Kept.{shown_of, IsKept}
+use Rattle.gs_tree_store.proofs.CountLemmas.{nodes_kept}
+use Rattle.gs_tree_store.proofs.KeptLemmas.{goes_on, others_shown}
+
+-- what a seat's action makes of the waste, where the seat is there
+seat_wasted : (old : Shown) (s : ℕ) (p : SeatView) (action : Action) (a : Answer) (new : List Lifetime) → slice_get old.view.seats s ≡ Some p → SeatWastes old.view.totals p action a old.waste new → Wastes old (At s action) a new
+seat_wasted old s p Commit (Status status name) new there h = subst (λ o. WastesCommit old.view.totals o (is_success status) old.waste new) (sym there) h
+seat_wasted old s p (CommitPatch ops) (Status status name) new there h = subst (λ o. WastesPatch old.view.totals o ops.items (is_success status) old.waste new) (sym there) h
+seat_wasted old s p (Delete t) (Status status name) new there h = h
+seat_wasted old s p Cancel Cancelled new there h = subst (λ o. WastesCancel o old.waste new) (sym there) h
+seat_wasted old s p action a new there h = h
+
+module _ (a b : Inside) (s : ℕ) (was now : Seat) (action : Action) (answer : Answer) (kept : IsKept a) (within : s < length a.seats.items) (is : was ≡ get_or a.seats.items s was) (seats : b.seats.items ≡ set a.seats.items s now) (acts : Acts a.books b.books s was now action answer) where
+  seat_there : slice_get (shown_of a).view.seats s ≡ Some (seat_view a.books was)
+  seat_there = slice_get-map (seat_view a.books) a.seats.items s ∙ ap (option_map (seat_view a.books)) (slice_get-get_or a.seats.items s was within ∙ ap Some (sym is))
+
+  next_shown : (shown_of b).view ≡ next_if (shown_of a).view s (slice_get (shown_of a).view.seats s) action answer
+  next_shown =
+      let seen : map (seat_view b.books) b.seats.items ≡ slice_set (map (seat_view a.books) a.seats.items) s _ = others_shown a b s was now action answer kept within is seats acts ∙ ap (slice_set (map (seat_view a.books) a.seats.items) s) acts.seat in
+      let made : (shown_of b).view ≡ next_at (shown_of a).view s (seat_view a.books was) action answer = λ j. record { totals = acts.totals j; seats = seen j } in
+      made ∙ sym (ap (λ o. next_if (shown_of a).view s o action answer) seat_there)
+
+  own_step : Steps (shown_of a) (At s action) answer (shown_of b)
+  own_step = record {
+    fits = rw seat_there acts.fits;
+    view = next_shown;
+    pinned = acts.pins;
+    waste = seat_wasted (shown_of a) s (seat_view a.books was) action answer (waste_at b.books.pool) seat_there (goes_on a b s was now action answer kept within is seats acts).waste;
+  }
+
+  -- an action of a seat that there is
+  pub steps_after : (old : Shown) → shown_of a ≡ old → Steps old (At s action) answer (shown_of b)
+  steps_after old view = subst (λ (x : Shown). Steps x (At s action) answer (shown_of b)) view own_step
+
+  own_uses : IsKept b → UsesNodes (shown_of a) (At s action) answer (shown_of b)
+  own_uses after =
+      let p = seat_view a.books was in
+      let before : SeatUses p action answer (nodes_in (shown_of a)) (in_use b.books.pool) = subst (λ n. SeatUses p action answer n (in_use b.books.pool)) (nodes_kept a kept) acts.uses in
+      let both : SeatUses p action answer (nodes_in (shown_of a)) (nodes_in (shown_of b)) = subst (λ n. SeatUses p action answer (nodes_in (shown_of a)) n) (nodes_kept b after) before in
+      subst (λ o. UsesAt o (At s action) answer (shown_of a) (shown_of b)) (sym seat_there) both
+
+  -- takes so many nodes into use
+  pub uses_after : (old : Shown) → shown_of a ≡ old → IsKept b → UsesNodes old (At s action) answer (shown_of b)
+  uses_after old view after = subst (λ (x : Shown). UsesNodes x (At s action) answer (shown_of b)) view (own_uses after)
+
+none_wasted : (s : Shown) (n : ℕ) (action : Action) → Wastes s (At n action) (Refused BadSeat) s.waste
+none_wasted s n Commit = refl
+none_wasted s n (CommitPatch ops) = refl
+none_wasted s n (Delete t) = refl
+none_wasted s n Cancel = refl
+none_wasted s n action = refl
+
+module _ (a : Inside) (s : ℕ) (action : Action) (past : length a.seats.items ≤ s) where
+  none_there : slice_get (shown_of a).view.seats s ≡ None
+  none_there = slice_get-map (seat_view a.books) a.seats.items s ∙ ap (option_map (seat_view a.books)) (slice_get_past a.seats.items s past)
+
+  own_nowhere : Steps (shown_of a) (At s action) (Refused BadSeat) (shown_of a)
+  own_nowhere =
+      let pins = a.books.versions.seats in
+      record {
+        fits = rw none_there refl;
+        view = sym (ap (λ o. next_if (shown_of a).view s o action (Refused BadSeat)) none_there);
+        pinned = sym (set-get_or pins s None) ∙ sym (ap (slice_set pins s) (refused_pin a.books.versions.commit (get_or pins s None) action BadSeat));
+        waste = none_wasted (shown_of a) s action;
+      }
+
+  -- an action of a seat that there is not
+  pub steps_nowhere : (old : Shown) → shown_of a ≡ old → Steps old (At s action) (Refused BadSeat) old
+  steps_nowhere old view = subst (λ (x : Shown). Steps x (At s action) (Refused BadSeat) x) view own_nowhere
+
+-- a Reclaim gives back what it frees
+pub reclaim_uses : (old : Shown) (n : ℕ) (answer : Answer) (new : Shown) → Steps old (Reclaim n) answer new → UsesNodes old (Reclaim n) answer new
+reclaim_uses old n (Reclaimed freed left) new step = gives_back old n freed left new step
+reclaim_uses old n answer new step = absurd step.waste

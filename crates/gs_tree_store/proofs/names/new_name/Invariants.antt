@@ -1,0 +1,11 @@
+-- the first free number is still ahead
+use Rattle.std.proofs.Common.{◌≡◌, ◌-◌, string_bytes}
+use Rattle.gs_catalogue.specs.Catalogues.{name_count}
+use Rattle.gs_event.specs.Names.{first_free}
+use Rattle.gs_tree_store.specs.Books.{dataset_of}
+use Rattle.gs_tree_store.proofs.names.new_name.Given as goal
+
+abbrev pub invariant-loop-number : goal.invariant-loop-number
+invariant-loop-number l =
+    first_free (dataset_of l.books) (string_bytes l.books.base) l.request (name_count l.books.catalogue.graphs) 0
+    ≡ first_free (dataset_of l.books) (string_bytes l.books.base) l.request (name_count l.books.catalogue.graphs - l.number) l.number

@@ -1,0 +1,29 @@
+use Rattle.std.proofs.Common.{refl, ap, ◌∙◌, []}
+use Rattle.gs_event.specs.Histories.{start_with, view_of}
+use Rattle.gs_catalogue.specs.Catalogues.{Catalogued}
+use Rattle.gs_tree_store.specs.declared.stores.TreeStore.TheInside.{Inside}
+use Rattle.gs_tree_store.proofs.FreshLemmas.{IsFresh, fresh_kept, fresh_view, fresh_pins}
+use Rattle.gs_tree_store.proofs.stores.TreeStore.starting_at.Goals as goal
+
+abbrev made : goal.After-new-4 → Inside
+made c = record { alloc = c.args.alloc; books = record { base = c.in_ok-base.base; limits = c.args.limits; request = c.args.request; dict = c.in_ok-dict.dict; pool = c.new-3.result; versions = c.in_ok-versions.versions; catalogue = c.new-4.result }; seats = c.in_ok-idle.idle }
+
+is_fresh : (c : goal.After-new-4) → IsFresh (made c) c.args.seats c.args.commit
+is_fresh c = record {
+  nodes = c.new-3.ensures.nodes;
+  marks = c.new-3.ensures.marks;
+  graphs = ap (λ (x : Catalogued). x.graphs) c.new-4.ensures;
+  versions = c.in_ok-versions.ensures;
+  idle = c.in_ok-idle.ensures;
+}
+
+pub invariant_of-result : goal.invariant_of-result
+invariant_of-result c = fresh_kept (made c) c.args.seats c.args.commit (is_fresh c) c.requires.last_commit (rw c.in_ok-base.ensures.ok c.requires.base)
+
+pub returns-clause-view : goal.returns-clause-view
+returns-clause-view c =
+    fresh_view (made c) c.args.seats c.args.commit (is_fresh c)
+    ∙ ap (λ b. view_of (start_with c.args.seats b c.args.limits c.args.request c.args.commit) []) c.in_ok-base.ensures.ok
+
+pub returns-clause-pinned : goal.returns-clause-pinned
+returns-clause-pinned c = fresh_pins (made c) c.args.seats c.args.commit (is_fresh c) (start_with c.args.seats c.args.base.now c.args.limits c.args.request c.args.commit) refl

@@ -1,0 +1,11 @@
+use Rattle.std.proofs.Common.{ap, ◌∙◌}
+use Rattle.gs_event.specs.Verdicts.{verdict_of, holdings_of}
+use Rattle.gs_tree_store.specs.Books.{books_setting, dataset_of}
+use Rattle.gs_tree_store.proofs.verdicts.verdict.Goals as goal
+
+pub returns : goal.returns
+returns c =
+    let b = c.args.books.now in
+    c.verdict_on.ensures
+    ∙ ap (λ h. verdict_of h c.place-place.result c.args.change) c.holdings-held.ensures
+    ∙ ap (λ p. verdict_of (holdings_of (books_setting b) (dataset_of b) b.versions.commit) p c.args.change) c.place-place.ensures

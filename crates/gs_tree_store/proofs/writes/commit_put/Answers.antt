@@ -1,0 +1,34 @@
+use Rattle.std.proofs.Common.{None, refl, sym, subst, ◌∙◌}
+use Rattle.gs_event.specs.declared.events.UploadKind.TheVariants.{Put}
+use Rattle.gs_event.specs.declared.events.Action.TheVariants.{Commit}
+use Rattle.gs_event.specs.declared.answers.Answer.TheVariants.{Status}
+use Rattle.gs_event.specs.Operations.{Puts}
+use Rattle.gs_tree_store.specs.declared.books.Seat.TheVariants.{Writing}
+use Rattle.gs_tree_store.specs.Books.{books_setting, dataset_of}
+use Rattle.gs_tree_store.specs.Actions.{Acts}
+use Rattle.gs_tree_store.proofs.VerdictLemmas.{is_stored, is_not_stored}
+use Rattle.gs_tree_store.proofs.WriteLemmas.{upload_graph, has_upload, upload_retirable, versions_same, same_use, commit_failed, commit_stored}
+use Rattle.gs_tree_store.proofs.writes.commit_put.Goals as goal
+
+pub drop_tree-requires : goal.drop_tree-requires
+drop_tree-requires c = upload_retirable c.args.books.now c.args.upload (has_upload c.args.books.now (Put c.args.target) c.args.request c.args.upload c.requires.ready)
+
+pub returns-in-Full-clause-acts : goal.returns-in-Full-clause-acts
+returns-in-Full-clause-acts c = λ s ready.
+    let b = c.args.books.now in
+    let t = c.args.target in
+    let g = upload_graph b c.args.upload in
+    let dropped = c.drop_tree.ensures in
+    let not = is_not_stored (books_setting b) (dataset_of b) b.versions.commit (Puts t g) t g refl refl c.in-Full.ensures in
+    subst (λ x. Acts b (record b { pool = c.drop_tree.new.pool }) s (Writing (Put t) c.args.request c.args.upload) x Commit (Status 507 None)) (sym c.requires.idle)
+    (commit_failed b c.drop_tree.new.pool s (Put t) c.args.request c.args.upload (versions_same b c.drop_tree.new.pool dropped.nodes) (dropped.aside ∙ ready.sound.none_aside) dropped.ledgers (same_use b.pool c.drop_tree.new.pool dropped.nodes) not refl ready)
+
+pub returns-in-Granted-clause-acts : goal.returns-in-Granted-clause-acts
+returns-in-Granted-clause-acts c = λ s ready.
+    let b = c.args.books.now in
+    let t = c.args.target in
+    let g = upload_graph b c.args.upload in
+    let decided = c.in-Granted.ensures in
+    let stored = is_stored (books_setting b) (dataset_of b) b.versions.commit (Puts t g) t g refl refl c.in-Granted.status c.in-Granted.field-1 c.in-Granted.field-2 decided in
+    subst (λ x. Acts b c.put_version.new.books s (Writing (Put t) c.args.request c.args.upload) x Commit (Status c.in-Granted.status None)) (sym c.requires.idle)
+    (commit_stored b c.put_version.new.books s (Put t) c.args.request c.args.upload t c.in-Granted.status None c.put_version.ensures decided.2 stored refl (λ a b j. j) ready)

@@ -1,0 +1,111 @@
+-- What the books and the seats of a store over trees show, and what is true of them. No public clause cites this module.
+use Rattle.std.specs.Prelude.{◌≡◌, ◌<◌, ◌≤◌, ℕ, Bool, true, false, List, ◌∷◌, length, Option, None, string_bytes, slice_index_or, is_some}
+use Rattle.std.specs.List.{All}
+use Rattle.gs_model.specs.Terms.{Term}
+use Rattle.gs_model.specs.Bases.{is_base}
+use Rattle.gs_model.specs.Limits.{last_number}
+use Rattle.gs_event.specs.Datasets.{Dataset}
+use Rattle.gs_event.specs.Operations.{Setting}
+use Rattle.gs_event.specs.Phases as phase
+use Rattle.gs_event.specs.Views.{Totals, SeatView}
+use Rattle.gs_pool.specs.Pool.{Nodes, aside_count}
+use Rattle.gs_tree.specs.Tree.{Tree, leaf, root_of, tree_at}
+use Rattle.gs_keys.specs.Roots.{graph_at}
+use Rattle.gs_lines.specs.Pieces.{lines_from, IsCursor}
+use Rattle.gs_ledger.specs.Marks.{dead_at}
+use Rattle.gs_ledger.specs.Ledger.{IsLedger}
+use Rattle.gs_datasets.specs.Standing.{dataset_at, all_versions, graph_trees, IsKeyed, IsVersion}
+use Rattle.gs_tree_store.specs.declared.books.Books.{Books}
+use Rattle.gs_tree_store.specs.declared.books.Seat.{Seat}
+use Rattle.gs_tree_store.specs.declared.books.Seat.TheVariants.{Idle, Writing, Patching, Reading}
+
+-- the base and the limits of the books
+abbrev pub books_setting : Books → Setting
+books_setting b = record { base = string_bytes b.base; limits = b.limits }
+
+-- the dataset that the versions of all graphs stand for
+abbrev pub dataset_of : Books → Dataset
+dataset_of b = dataset_at b.dict.terms b.pool b.catalogue.graphs
+
+-- the setting, the dataset and the numbers given out
+abbrev pub totals_of : Books → Totals
+totals_of b = record {
+  setting = books_setting b;
+  dataset = dataset_of b;
+  request = b.request;
+  commit = b.versions.commit;
+}
+
+-- a seat as it is seen: an upload is the graph of its tree, and a read the lines of its tree after the last that was given
+abbrev pub seat_shown : List Term → Nodes → Seat → SeatView
+seat_shown terms p Idle = phase.Idle
+seat_shown terms p (Writing k r v) = phase.Writing k r (graph_at terms p v.root)
+seat_shown terms p (Patching t r) = phase.Patching t r
+seat_shown terms p (Reading root last) = phase.Reading (lines_from terms p root last)
+
+-- the same, by the books
+abbrev pub seat_view : Books → Seat → SeatView
+seat_view b s = seat_shown b.dict.terms b.pool s
+
+-- the tree of the seat's upload, a leaf where it has none
+abbrev pub upload_tree : Nodes → Seat → Tree
+upload_tree p (Writing k r v) = tree_at p v.root
+upload_tree p s = leaf
+
+-- the tree that the seat reads, a leaf where it reads none
+abbrev pub read_tree : Nodes → Seat → Tree
+read_tree p (Reading root last) = tree_at p root
+read_tree p s = leaf
+
+-- whether the seat has an open upload, whose commit may want room for a name
+abbrev pub is_writing : Seat → Bool
+is_writing (Writing k r v) = true
+is_writing s = false
+
+-- whether the seat reads
+abbrev pub is_reading : Seat → Bool
+is_reading (Reading root last) = true
+is_reading s = false
+
+-- a root and the last key given of it: the root means a tree in order, and the key's numbers were given
+pub record IsRead (terms : List Term) (p : Nodes) (root : Option ℕ) (last : Option Rattle.gs_pool.specs.declared.nodes.Key.Key) : Type 0 where
+  pub root_is : root_of (tree_at p root) ≡ root
+  pub keyed : IsKeyed terms (tree_at p root)
+  pub given : IsCursor terms last
+
+-- what is true of a seat: its upload is the version of a graph, and its read one of such a tree
+abbrev pub IsSeat : List Term → Nodes → Seat → Type 0
+IsSeat terms p (Writing k r v) = IsVersion terms p v
+IsSeat terms p (Reading root last) = IsRead terms p root last
+IsSeat terms p s = Unit {0}
+
+-- what is true of the books alone
+pub record IsSound (b : Books) : Type 0 where
+  pub versions : All (IsVersion b.dict.terms b.pool) (all_versions b.catalogue.graphs)
+  pub none_aside : aside_count b.pool ≡ 0
+  pub commit : b.versions.commit ≤ last_number
+  pub base : is_base (string_bytes b.base) ≡ true
+
+-- the ledger of the books, with these trees of uploads and of reads
+abbrev pub HasLedger : Books → List Tree → List Tree → Type 0
+HasLedger b uploads reads = IsLedger b.pool b.versions (graph_trees b.pool b.catalogue.graphs) uploads reads (dead_at b.pool)
+
+-- the ledger where seat s is this one: its upload stands before those of the others
+pub record HasLedgerAt (b : Books) (s : ℕ) (seat : Seat) (uploads reads : List Tree) : Type 0 where
+  pub ledger : HasLedger b (upload_tree b.pool seat ∷ uploads) reads
+  pub there : s < length reads
+  pub read : slice_index_or reads s leaf ≡ read_tree b.pool seat
+
+-- some trees of the other seats have a ledger with the books and this seat
+pub record HasSomeLedger (b : Books) (s : ℕ) (seat : Seat) : Type 0 where
+  pub uploads : List Tree
+  pub reads : List Tree
+  pub ledger : HasLedgerAt b s seat uploads reads
+
+-- books and one of their seats, before an action
+pub record IsReady (b : Books) (s : ℕ) (seat : Seat) : Type 0 where
+  pub sound : IsSound b
+  pub known : IsSeat b.dict.terms b.pool seat
+  pub there : s < length b.versions.seats
+  pub pinned : is_some (slice_index_or b.versions.seats s None) ≡ is_reading seat
+  pub ledger : HasSomeLedger b s seat

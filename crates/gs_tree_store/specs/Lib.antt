@@ -1,0 +1,9 @@
+-- Read in this order: what books and seats show, what a write makes of the books, what an action makes of them and of a seat, how many
+-- nodes that takes, and what is true of every store.
+pub mod Books
+pub mod Writes
+pub mod Verdicts
+pub mod Drafts
+pub mod Actions
+pub mod Uses
+pub mod Kept

@@ -1,0 +1,57 @@
+-- What a write makes of the books. No public clause cites this module.
+use Rattle.std.specs.Prelude.{◌≡◌, ◌≤◌, ℕ, ◌+◌, List, ◌∷◌, string_bytes}
+use Rattle.gs_term.specs.declared.names.Target.{Target}
+use Rattle.gs_event.specs.Datasets.{with_graph, without_graph, size_at}
+use Rattle.gs_event.specs.Steps.{Joins, EndsAt}
+use Rattle.gs_keys.specs.Roots.{graph_at}
+use Rattle.gs_tree.specs.Tree.{Tree, tree_at}
+use Rattle.gs_catalogue.specs.declared.versions.GraphVersion.{GraphVersion}
+use Rattle.gs_catalogue.specs.Catalogues.{room_wanted}
+use Rattle.gs_ledger.specs.Marks.{waste_at}
+use Rattle.gs_datasets.specs.Standing.{IsVersion}
+use Rattle.gs_tree_store.specs.declared.books.Books.{Books}
+use Rattle.gs_tree_store.specs.Books.{dataset_of, IsSound, HasLedger}
+
+-- some trees of the seats have a ledger with the books
+pub record HasAny (b : Books) : Type 0 where
+  pub uploads : List Tree
+  pub reads : List Tree
+  pub ledger : HasLedger b uploads reads
+
+-- an upload is the version of a graph, and some trees of the other seats have a ledger with it
+pub record HasUpload (b : Books) (v : GraphVersion) : Type 0 where
+  pub version : IsVersion b.dict.terms b.pool v
+  pub uploads : List Tree
+  pub reads : List Tree
+  pub ledger : HasLedger b (tree_at b.pool v.root ∷ uploads) reads
+
+-- what is kept of the books by a write: all but the dataset, the nodes' marks and the commit number
+pub record KeepsBooks (old new : Books) : Type 0 where
+  pub base : string_bytes new.base ≡ string_bytes old.base
+  pub limits : new.limits ≡ old.limits
+  pub request : new.request ≡ old.request
+  pub commit : new.versions.commit ≡ old.versions.commit + 1
+  pub pins : new.versions.seats ≡ old.versions.seats
+  pub dict : new.dict ≡ old.dict
+  pub nodes : new.pool.nodes ≡ old.pool.nodes
+
+-- the ledger goes on, and at most so many nodes, which a version had, join the waste by this commit
+pub record Ends (old new : Books) (size : ℕ) (uploads reads : List Tree) : Type 0 where
+  pub ledger : HasLedger new uploads reads
+  pub waste : Joins (EndsAt (old.versions.commit + 1)) size (waste_at old.pool) (waste_at new.pool)
+
+-- the target has the upload's graph now, and the upload is no more
+pub record Puts (old new : Books) (t : Target) (v : GraphVersion) : Type 0 where
+  pub dataset : dataset_of new ≡ with_graph (dataset_of old) t (graph_at old.dict.terms old.pool v.root)
+  pub kept : KeepsBooks old new
+  pub sound : IsSound new
+  pub ledgers : (uploads reads : List Tree) → HasLedger old (tree_at old.pool v.root ∷ uploads) reads → Ends old new (size_at (dataset_of old) t) uploads reads
+  pub room : new.catalogue.spare + room_wanted old.catalogue.graphs t ≡ old.catalogue.spare
+
+-- the target has no graph now, or an empty one where it is the default graph
+pub record Removes (old new : Books) (t : Target) : Type 0 where
+  pub dataset : dataset_of new ≡ without_graph (dataset_of old) t
+  pub kept : KeepsBooks old new
+  pub sound : IsSound new
+  pub ledgers : (uploads reads : List Tree) → HasLedger old uploads reads → Ends old new (size_at (dataset_of old) t) uploads reads
+  pub room : old.catalogue.spare ≤ new.catalogue.spare

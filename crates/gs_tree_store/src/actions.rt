@@ -1,0 +1,109 @@
+//! What a seat's action does to the books and to the seat. A refused action changes neither, but that terms
+//! may have been given numbers.
+ghost use Rattle.std.specs.Prelude.{◌≡◌, ◌<◌, IsTrue};
+ghost use Rattle.gs_tree_store.specs.Books.{is_writing, IsReady};
+ghost use Rattle.gs_tree_store.specs.Actions.{Acts, ActsAny, IsReadyAny, KeepsRoom, HoldsRoom};
+
+use crate::books::{Books, Seat};
+use crate::{patches, reads, writes};
+use gs_catalogue::GraphVersion;
+use gs_commit::drop_tree;
+use gs_event::{Action, Answer, UploadKind};
+use gs_model::{LAST_NUMBER, Refusal};
+use gs_term::Triple;
+use std::alloc::Global;
+
+/// Any action of the seat of this number, at a store of so many seats.
+pub fn act(
+    books: &mut Books,
+    seat: &mut Seat,
+    number: u16,
+    seats: usize,
+    alloc: Global,
+    action: &Action,
+) -> Answer
+    requires ready { IsReady books.old number seat.old }
+    requires room { IsTrue (is_writing seat.old) → 0 < books.old.catalogue.spare }
+    ensures acts { Acts books.old books.new number seat.old seat.new action.now result }
+    ensures room { KeepsRoom seats books.old books.new seat.old seat.new }
+{
+    match action {
+        Action::Open(kind) => open(books, seat, seats, kind),
+        Action::OpenPatch(target) => patches::open(books, seat, target),
+        Action::Stage(triples) => stage(books, seat, alloc, triples),
+        Action::Commit => writes::commit(books, seat, alloc),
+        Action::CommitPatch(operations) => patches::commit(books, seat, alloc, operations),
+        Action::Delete(target) => writes::delete(books, seat, target),
+        Action::Head(target) => reads::head(books, seat, target),
+        Action::Pin(target) => reads::pin(books, seat, number, target),
+        Action::Piece(count) => reads::piece(books, seat, number, alloc, *count),
+        Action::Cancel => cancel(books, seat, number),
+    }
+}
+
+/// Makes room for the name of each seat's upload, so that a commit takes no memory for it.
+fn open(books: &mut Books, seat: &mut Seat, seats: usize, kind: &UploadKind) -> Answer
+    requires { IsReadyAny books.old seat.old }
+    ensures acts { ActsAny books.old books.new seat.old seat.new (Action.Open kind.now) result }
+    ensures room { KeepsRoom seats books.old books.new seat.old seat.new }
+{
+    let Seat::Idle = seat else {
+        return Answer::Refused(Refusal::WrongPhase);
+    };
+    if books.request >= LAST_NUMBER {
+        return Answer::Refused(Refusal::LastNumber);
+    }
+    let Ok(kept) = kind.clone() else {
+        return Answer::Refused(Refusal::NoMemory);
+    };
+    if books.catalogue.reserve(seats).is_err() {
+        return Answer::Refused(Refusal::NoMemory);
+    }
+    books.request += 1;
+    *seat = Seat::Writing(kept, books.request, GraphVersion::empty());
+    Answer::Opened(books.request)
+}
+
+/// The whole piece or nothing.
+fn stage(books: &mut Books, seat: &mut Seat, alloc: Global, triples: &Vec<Triple>) -> Answer
+    requires { IsReadyAny books.old seat.old }
+    ensures acts { ActsAny books.old books.new seat.old seat.new (Action.Stage triples.now) result }
+    ensures room { HoldsRoom books.old books.new seat.old seat.new }
+{
+    let Seat::Writing(_, _, upload) = seat else {
+        return Answer::Refused(Refusal::WrongPhase);
+    };
+    let birth = books.versions.commit() + 1;
+    let merged = gs_staging::stage(
+        alloc,
+        &mut books.dict,
+        &mut books.pool,
+        upload.root,
+        triples.as_slice(),
+        birth,
+    );
+    let Ok(merged) = merged else {
+        return Answer::Refused(Refusal::NoMemory);
+    };
+    // A tree has no more keys than nodes are in use, which are fewer than 2^32.
+    let _used = books.pool.nodes_in_use();
+    upload.root = merged.root;
+    upload.triples += merged.added as u64;
+    Answer::Staged
+}
+
+/// Gives up what the seat has open. Takes no memory.
+fn cancel(books: &mut Books, seat: &mut Seat, number: u16) -> Answer
+    requires { IsReady books.old number seat.old }
+    ensures acts { Acts books.old books.new number seat.old seat.new Action.Cancel result }
+    ensures room { HoldsRoom books.old books.new seat.old seat.new }
+{
+    match seat {
+        Seat::Idle => return Answer::Refused(Refusal::WrongPhase),
+        Seat::Writing(_, _, upload) => drop_tree(&mut books.pool, upload.root),
+        Seat::Patching(_, _) => {}
+        Seat::Reading(_, _) => books.versions.unpin(number),
+    }
+    *seat = Seat::Idle;
+    Answer::Cancelled
+}

@@ -1,0 +1,105 @@
+//! Patches: the opening of one, and its commit.
+ghost use Rattle.std.specs.Prelude.{◌≡◌};
+ghost use Rattle.gs_event.specs.declared.events.Action.TheVariants.{OpenPatch, CommitPatch};
+ghost use Rattle.gs_tree_store.specs.declared.books.Seat.TheVariants.{Patching};
+ghost use Rattle.gs_tree_store.specs.Actions.{ActsAny, IsReadyAny, HoldsRoom};
+
+use crate::books::{self, Books, Seat};
+use crate::drafts::patched;
+use crate::verdicts::{holdings, place};
+use gs_changes::take_back;
+use gs_commit::keep_draft;
+use gs_event::{Answer, Change, Op, Verdict, verdict_on};
+use gs_model::{LAST_NUMBER, Refusal};
+use gs_term::Target;
+use std::alloc::Global;
+use std::mem;
+
+/// Opens a patch of the target's graph, if the seat is idle.
+pub fn open(books: &mut Books, seat: &mut Seat, target: &Target) -> Answer
+    requires { IsReadyAny books.old seat.old }
+    ensures acts { ActsAny books.old books.new seat.old seat.new (OpenPatch target.now) result }
+    ensures room { HoldsRoom books.old books.new seat.old seat.new }
+{
+    let Seat::Idle = seat else {
+        return Answer::Refused(Refusal::WrongPhase);
+    };
+    if books.request >= LAST_NUMBER {
+        return Answer::Refused(Refusal::LastNumber);
+    }
+    let Ok(kept) = target.clone() else {
+        return Answer::Refused(Refusal::NoMemory);
+    };
+    books.request += 1;
+    *seat = Seat::Patching(kept, books.request);
+    Answer::Opened(books.request)
+}
+
+/// Commits the seat's open patch, with these operations.
+pub fn commit(books: &mut Books, seat: &mut Seat, alloc: Global, operations: &Vec<Op>) -> Answer
+    requires { IsReadyAny books.old seat.old }
+    ensures acts { ActsAny books.old books.new seat.old seat.new (CommitPatch operations.now) result }
+    ensures room { HoldsRoom books.old books.new seat.old seat.new }
+{
+    match mem::replace(seat, Seat::Idle) {
+        Seat::Patching(target, request) => {
+            commit_at(books, seat, alloc, target, request, operations)
+        }
+        other => {
+            *seat = other;
+            Answer::Refused(Refusal::WrongPhase)
+        }
+    }
+}
+
+/// Makes the operations' result the target's graph, where it has one.
+fn commit_at(
+    books: &mut Books,
+    seat: &mut Seat,
+    alloc: Global,
+    target: Target,
+    request: u64,
+    operations: &Vec<Op>,
+) -> Answer
+    requires ready { IsReadyAny books.old (Patching target request) }
+    requires idle { seat.old ≡ Seat.Idle }
+    ensures acts { ActsAny books.old books.new (Patching target request) seat.new (CommitPatch operations.now) result }
+    ensures room { HoldsRoom books.old books.new (Patching target request) seat.new }
+{
+    if !books::is_there(books, &target) {
+        return Answer::Status(404, None);
+    }
+    let held = holdings(books);
+    let place = place(books, &target);
+    let old = books::version_of(books, &target);
+    let birth = books.versions.commit() + 1;
+    let draft = patched(
+        alloc,
+        &mut books.dict,
+        &mut books.pool,
+        old,
+        operations.as_slice(),
+        birth,
+    );
+    let Ok(draft) = draft else {
+        *seat = Seat::Patching(target, request);
+        return Answer::Refused(Refusal::NoMemory);
+    };
+    match verdict_on(&held, &place, Change::Stores(draft.triples, false)) {
+        Verdict::Missing => unreachable!(),
+        Verdict::Full => {
+            take_back(&mut books.pool, draft.root, birth);
+            Answer::Status(507, None)
+        }
+        Verdict::LastNumber => {
+            take_back(&mut books.pool, draft.root, birth);
+            *seat = Seat::Patching(target, request);
+            Answer::Refused(Refusal::LastNumber)
+        }
+        Verdict::Granted(status, _, _) => {
+            keep_draft(&mut books.pool, &mut books.versions, None);
+            books.catalogue.set_reserved(target, draft);
+            Answer::Status(status, None)
+        }
+    }
+}

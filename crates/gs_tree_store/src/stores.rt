@@ -1,0 +1,158 @@
+//! The store over trees: its books and its seats.
+ghost use Rattle.std.specs.Prelude.{◌≡◌, ◌≤◌, [], true, IfOk, IfErr, replicate};
+ghost use Rattle.gs_model.specs.Bases.{is_base};
+ghost use Rattle.gs_model.specs.Limits.{last_number};
+ghost use Rattle.gs_event.specs.Datasets.{triples_in};
+ghost use Rattle.gs_event.specs.Views.{Fits, next_view};
+ghost use Rattle.gs_event.specs.Steps.{Steps, next_pinned, Wastes};
+ghost use Rattle.gs_event.specs.Histories.{start_with, ShowsStart, HasStartPins};
+ghost use Rattle.gs_event.specs.Waste.{nodes_in};
+ghost use Rattle.gs_tree_store.specs.Uses.{UsesNodes};
+
+use crate::actions;
+use crate::books::{Books, Seat};
+use crate::storage::Storage;
+use gs_catalogue::Catalogue;
+use gs_dict::Dict;
+use gs_event::{Action, Answer, Event, Limits};
+use gs_model::Refusal;
+use gs_pool::Pool;
+use gs_reclaim::reclaim;
+use gs_run::EventStore;
+use gs_versions::Versions;
+use std::alloc::{AllocError, Global};
+use std::marker::Model;
+
+/// A store that keeps all versions of all graphs as trees over one pool, which share what they have in
+/// common. A write costs what it changes, a read holds its version, and nodes that no version needs are
+/// given back by a Reclaim. A contract sees what it shows, and its waste.
+#[derive(Drop)]
+pub struct TreeStore {
+    alloc: Global,
+    books: Books,
+    seats: Vec<Seat>,
+}
+
+impl Model for TreeStore {
+    ghost use Rattle.gs_event.specs.Waste.{Shown};
+    ghost use Rattle.gs_event.specs.Codes.{shown_code};
+
+    ghost Value = { Shown };
+
+    ghost coded = { shown_code };
+
+    ghost use Rattle.gs_tree_store.specs.Kept.{shown_of, IsKept};
+
+    ghost view = { shown_of };
+
+    ghost invariant = { IsKept };
+}
+
+impl TreeStore {
+    /// A store without graphs, of so many seats, whose numbers go on from these, and which holds as much as
+    /// the limits and its storage allow. Names that it makes up begin with the base.
+    pub fn starting_at(
+        alloc: Global,
+        seats: u16,
+        base: &str,
+        limits: Limits,
+        commit: u64,
+        request: u64,
+        storage: Storage,
+    ) -> Result<TreeStore, Refusal>
+        requires base { is_base base.now ≡ true }
+        requires last_commit { commit ≤ last_number }
+        ensures view { IfOk result (ShowsStart (start_with seats base.now limits request commit)) }
+        ensures pinned { IfOk result (HasStartPins (start_with seats base.now limits request commit)) }
+        ensures waste { IfOk result (λ store. store.waste ≡ []) }
+        ensures refused { IfErr result (λ refusal. refusal ≡ Refusal.NoMemory) }
+    {
+        let idle = idle_seats(alloc, seats)?;
+        let base = String::from_str(alloc, base)?;
+        let dict = Dict::new(alloc, storage.seed, storage.last_term)?;
+        let versions = Versions::new(alloc, seats, commit)?;
+        let books = Books {
+            base,
+            limits,
+            request,
+            dict,
+            pool: Pool::new(alloc, storage.last_node),
+            versions,
+            catalogue: Catalogue::new(alloc),
+        };
+        Ok(TreeStore {
+            alloc,
+            books,
+            seats: idle,
+        })
+    }
+
+    /// Takes one event. A refused one changes nothing.
+    #[tactic(auto, using(crate::proofs::StepLemmas::reclaim_uses))]
+    pub fn step(&mut self, event: &Event) -> Answer
+        ensures steps { Steps self.old event.now result self.new }
+        ensures uses { UsesNodes self.old event.now result self.new }
+    {
+        match event {
+            Event::Reclaim(count) => self.reclaim(*count),
+            Event::Seat(seat, action) => self.act(*seat, action),
+        }
+    }
+
+    /// Nodes in use: one for each triple of a current graph or of an open upload, and the waste.
+    pub fn nodes_in_use(&self) -> u64
+        ensures { result ≡ nodes_in self.now }
+    {
+        self.books.pool.nodes_in_use()
+    }
+
+    /// Triples of the current graphs.
+    pub fn triples_now(&self) -> u64
+        ensures { result ≡ triples_in self.now.view.totals.dataset }
+    {
+        // The triples of all graphs are nodes in use, which are fewer than 2^32.
+        let _used = self.books.pool.nodes_in_use();
+        self.books.catalogue.triples() as u64
+    }
+
+    /// Frees nodes that no version needs.
+    fn reclaim(&mut self, count: u64) -> Answer
+        ensures steps { Steps self.old (Event.Reclaim count) result self.new }
+    {
+        let done = reclaim(&mut self.books.pool, &self.books.versions, count);
+        Answer::Reclaimed(done.freed, done.left)
+    }
+
+    fn act(&mut self, number: u16, action: &Action) -> Answer
+        ensures steps { Steps self.old (Event.Seat number action.now) result self.new }
+        ensures uses { UsesNodes self.old (Event.Seat number action.now) result self.new }
+    {
+        let place = number as usize;
+        if place >= self.seats.len() {
+            return Answer::Refused(Refusal::BadSeat);
+        }
+        let seats = self.seats.len();
+        let held = &mut self.seats[place];
+        actions::act(&mut self.books, held, number, seats, self.alloc, action)
+    }
+}
+
+impl EventStore for TreeStore {
+    ghost use Rattle.gs_event.specs.Steps.{Steps};
+
+    ghost Takes = { Steps };
+
+    fn step(&mut self, event: &Event) -> Answer {
+        self.step(event)
+    }
+}
+
+fn idle_seats(alloc: Global, count: u16) -> Result<Vec<Seat>, AllocError>
+    ensures { IfOk result (λ seats. seats.items ≡ replicate count Seat.Idle) }
+{
+    let mut seats = Vec::with_capacity(alloc, count as usize)?;
+    for _ in 0..count {
+        seats.push(Seat::Idle)?;
+    }
+    Ok(seats)
+}

@@ -1,0 +1,127 @@
+//! Writes: the commits of uploads, and deletes.
+ghost use Rattle.std.specs.Prelude.{◌≡◌, ◌<◌, IsTrue};
+ghost use Rattle.gs_event.specs.declared.events.Action.TheVariants.{Commit, Delete};
+ghost use Rattle.gs_event.specs.declared.events.UploadKind.TheVariants.{Put, New};
+ghost use Rattle.gs_tree_store.specs.declared.books.Seat.TheVariants.{Writing};
+ghost use Rattle.gs_tree_store.specs.Books.{is_writing};
+ghost use Rattle.gs_tree_store.specs.Actions.{ActsAny, IsReadyAny, HoldsRoom};
+
+use crate::books::{Books, Seat};
+use crate::commits::{put_version, remove_version};
+use crate::names;
+use crate::posts::commit_post;
+use crate::verdicts::{verdict_on_removal, verdict_on_upload};
+use gs_catalogue::GraphVersion;
+use gs_commit::drop_tree;
+use gs_event::{Answer, UploadKind, Verdict};
+use gs_model::Refusal;
+use gs_term::Target;
+use std::alloc::Global;
+use std::mem;
+
+/// Commits the seat's open upload, by its kind.
+pub fn commit(books: &mut Books, seat: &mut Seat, alloc: Global) -> Answer
+    requires ready { IsReadyAny books.old seat.old }
+    requires room { IsTrue (is_writing seat.old) → 0 < books.old.catalogue.spare }
+    ensures acts { ActsAny books.old books.new seat.old seat.new Commit result }
+    ensures room { HoldsRoom books.old books.new seat.old seat.new }
+{
+    match mem::replace(seat, Seat::Idle) {
+        Seat::Writing(kind, request, upload) => match kind {
+            UploadKind::Put(target) => commit_put(books, seat, target, request, upload),
+            UploadKind::Post(target) => commit_post(books, seat, alloc, target, request, upload),
+            UploadKind::New => commit_new(books, seat, alloc, request, upload),
+        },
+        other => {
+            *seat = other;
+            Answer::Refused(Refusal::WrongPhase)
+        }
+    }
+}
+
+/// Replaces the target's graph by the upload, whose tree is taken over as it is. Takes no memory.
+fn commit_put(
+    books: &mut Books,
+    seat: &mut Seat,
+    target: Target,
+    request: u64,
+    upload: GraphVersion,
+) -> Answer
+    requires ready { IsReadyAny books.old (Writing (Put target) request upload) }
+    requires room { 0 < books.old.catalogue.spare }
+    requires idle { seat.old ≡ Seat.Idle }
+    ensures acts { ActsAny books.old books.new (Writing (Put target) request upload) seat.new Commit result }
+    ensures room { HoldsRoom books.old books.new (Writing (Put target) request upload) seat.new }
+{
+    match verdict_on_upload(books, &target, upload) {
+        Verdict::Missing => unreachable!(),
+        Verdict::Full => {
+            drop_tree(&mut books.pool, upload.root);
+            Answer::Status(507, None)
+        }
+        Verdict::LastNumber => {
+            *seat = Seat::Writing(UploadKind::Put(target), request, upload);
+            Answer::Refused(Refusal::LastNumber)
+        }
+        Verdict::Granted(status, _, _) => {
+            put_version(books, target, upload);
+            Answer::Status(status, None)
+        }
+    }
+}
+
+/// Puts the upload under a name that the store makes up.
+fn commit_new(
+    books: &mut Books,
+    seat: &mut Seat,
+    alloc: Global,
+    request: u64,
+    upload: GraphVersion,
+) -> Answer
+    requires ready { IsReadyAny books.old (Writing New request upload) }
+    requires room { 0 < books.old.catalogue.spare }
+    requires idle { seat.old ≡ Seat.Idle }
+    ensures acts { ActsAny books.old books.new (Writing New request upload) seat.new Commit result }
+    ensures room { HoldsRoom books.old books.new (Writing New request upload) seat.new }
+{
+    let Ok((name, location)) = names::new_name_twice(books, alloc, request) else {
+        *seat = Seat::Writing(UploadKind::New, request, upload);
+        return Answer::Refused(Refusal::NoMemory);
+    };
+    let target = Target::Named(name);
+    match verdict_on_upload(books, &target, upload) {
+        Verdict::Missing => unreachable!(),
+        Verdict::Full => {
+            drop_tree(&mut books.pool, upload.root);
+            Answer::Status(507, None)
+        }
+        Verdict::LastNumber => {
+            *seat = Seat::Writing(UploadKind::New, request, upload);
+            Answer::Refused(Refusal::LastNumber)
+        }
+        Verdict::Granted(status, _, _) => {
+            put_version(books, target, upload);
+            Answer::Status(status, Some(location))
+        }
+    }
+}
+
+/// Takes the target's graph away. Takes no memory.
+pub fn delete(books: &mut Books, seat: &mut Seat, target: &Target) -> Answer
+    requires { IsReadyAny books.old seat.old }
+    ensures acts { ActsAny books.old books.new seat.old seat.new (Delete target.now) result }
+    ensures room { HoldsRoom books.old books.new seat.old seat.new }
+{
+    let Seat::Idle = seat else {
+        return Answer::Refused(Refusal::WrongPhase);
+    };
+    match verdict_on_removal(books, target) {
+        Verdict::Missing => Answer::Status(404, None),
+        Verdict::Full => unreachable!(),
+        Verdict::LastNumber => Answer::Refused(Refusal::LastNumber),
+        Verdict::Granted(status, _, _) => {
+            remove_version(books, target);
+            Answer::Status(status, None)
+        }
+    }
+}
