@@ -56,7 +56,32 @@ impl<const ENTRIES: usize, const TRIPLES: usize> Audited<ENTRIES, TRIPLES> {
         ensures staged { IfOk result (λ a. staged_of a ≡ replicate seats 0) }
         ensures refused { IfErr result (λ refusal. refusal ≡ Refusal.NoMemory) }
     {
-        let store = Store::new(alloc, seats, base)?;
+        Audited::seeded(alloc, seats, base, 0)
+    }
+
+    /// The same, over a store whose terms are spread by a seed (`gs_core::Store::seeded`).
+    ///
+    /// # Errors
+    ///
+    /// `NoMemory`.
+    pub fn seeded(
+        alloc: Global,
+        seats: u16,
+        base: &str,
+        seed: u64,
+    ) -> Result<Audited<ENTRIES, TRIPLES>, Refusal>
+        requires entries { 0 < ENTRIES }
+        requires some { 1 ≤ seats }
+        requires few { seats ≤ max_seats }
+        requires base { is_base base.now ≡ true }
+        ensures view { IfOk result (λ a. ShowsStart (start_at seats base.now 0 0) a.store) }
+        ensures pinned { IfOk result (λ a. HasStartPins (start_at seats base.now 0 0) a.store) }
+        ensures waste { IfOk result (λ a. a.store.waste ≡ []) }
+        ensures page { IfOk result (λ a. page_of a.chronicle ≡ fresh_page) }
+        ensures staged { IfOk result (λ a. staged_of a ≡ replicate seats 0) }
+        ensures refused { IfErr result (λ refusal. refusal ≡ Refusal.NoMemory) }
+    {
+        let store = Store::seeded(alloc, seats, base, seed)?;
         let chronicle = Page::new(alloc)?;
         let Ok(slots) = empty_slots(alloc, seats) else {
             return Err(Refusal::NoMemory);

@@ -8,6 +8,7 @@ mod stores;
 pub use bases::is_base;
 pub use gs_event::{Action, Answer, Event, Op, UploadKind};
 pub use gs_model::Refusal;
+pub use gs_plain::PlainStore;
 pub use gs_term::{Part, Pattern, VariableName};
 pub use limits::{MAX_NAMES, MAX_TRIPLES};
 pub use stores::Store;

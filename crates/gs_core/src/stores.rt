@@ -5,16 +5,17 @@ ghost use Rattle.gs_model.specs.Limits.{last_number, max_seats};
 ghost use Rattle.gs_event.specs.Datasets.{triples_in};
 ghost use Rattle.gs_event.specs.Steps.{Steps};
 ghost use Rattle.gs_event.specs.Runs.{Runs};
-ghost use Rattle.gs_event.specs.Histories.{start_with, ShowsStart, HasStartPins};
+ghost use Rattle.gs_event.specs.Histories.{ShowsStart, HasStartPins};
 ghost use Rattle.gs_event.specs.Continuing.{KeepsLegal, ShowsHistory, HasItsPins};
 ghost use Rattle.gs_event.specs.Waste.{nodes_in};
+ghost use Rattle.gs_tree_store.specs.Uses.{UsesNodes};
 ghost use Rattle.gs_core.specs.Settings.{start_at};
 
 use crate::limits::{MAX_NAMES, MAX_TRIPLES};
 use gs_event::{Answer, Event, Limits};
 use gs_model::Refusal;
-use gs_plain::PlainStore;
 use gs_run::{self, EventStore};
+use gs_tree_store::{Storage, TreeStore};
 use std::alloc::Global;
 use std::marker::Model;
 
@@ -23,7 +24,7 @@ use std::marker::Model;
 #[derive(Drop)]
 pub struct Store {
     alloc: Global,
-    plain: PlainStore,
+    trees: TreeStore,
 }
 
 impl Model for Store {
@@ -34,7 +35,7 @@ impl Model for Store {
 
     ghost coded = { shown_code };
 
-    ghost view = { λ s. s.plain };
+    ghost view = { λ s. s.trees };
 }
 
 impl Store {
@@ -49,10 +50,24 @@ impl Store {
         ensures waste { IfOk result (λ store. store.waste ≡ []) }
         ensures refused { IfErr result (λ refusal. refusal ≡ Refusal.NoMemory) }
     {
-        Store::starting_at(alloc, seats, base, 0, 0)
+        Store::seeded(alloc, seats, base, 0)
     }
 
-    /// The same, where the last commit number and the last request number were these.
+    /// The same, whose terms are spread over their table by a seed. It shows in nothing but time: where
+    /// strangers choose the terms, it is a random number that is kept from them.
+    pub fn seeded(alloc: Global, seats: u16, base: &str, seed: u64) -> Result<Store, Refusal>
+        requires some { 1 ≤ seats }
+        requires few { seats ≤ max_seats }
+        requires base { is_base base.now ≡ true }
+        ensures view { IfOk result (ShowsStart (start_at seats base.now 0 0)) }
+        ensures pinned { IfOk result (HasStartPins (start_at seats base.now 0 0)) }
+        ensures waste { IfOk result (λ store. store.waste ≡ []) }
+        ensures refused { IfErr result (λ refusal. refusal ≡ Refusal.NoMemory) }
+    {
+        Store::made(alloc, seats, base, 0, 0, Storage::of_seed(seed))
+    }
+
+    /// A store like a new one, where the last commit number and the last request number were these.
     pub fn starting_at(
         alloc: Global,
         seats: u16,
@@ -70,38 +85,67 @@ impl Store {
         ensures waste { IfOk result (λ store. store.waste ≡ []) }
         ensures refused { IfErr result (λ refusal. refusal ≡ Refusal.NoMemory) }
     {
+        Store::made(alloc, seats, base, commit, request, Storage::of_seed(0))
+    }
+
+    /// A store like a new one, whose nodes and terms have numbers from 0 to these, and at most to
+    /// 4,294,967,294. Once all are in use, what wants one more is refused for want of memory.
+    pub fn with_last(
+        alloc: Global,
+        seats: u16,
+        base: &str,
+        node: u32,
+        term: u32,
+    ) -> Result<Store, Refusal>
+        requires some { 1 ≤ seats }
+        requires few { seats ≤ max_seats }
+        requires base { is_base base.now ≡ true }
+        ensures view { IfOk result (ShowsStart (start_at seats base.now 0 0)) }
+        ensures pinned { IfOk result (HasStartPins (start_at seats base.now 0 0)) }
+        ensures waste { IfOk result (λ store. store.waste ≡ []) }
+        ensures refused { IfErr result (λ refusal. refusal ≡ Refusal.NoMemory) }
+    {
+        let storage = Storage {
+            seed: 0,
+            last_node: node,
+            last_term: term,
+        };
+        Store::made(alloc, seats, base, 0, 0, storage)
+    }
+
+    /// A store that goes on from these numbers, over this storage.
+    fn made(
+        alloc: Global,
+        seats: u16,
+        base: &str,
+        commit: u64,
+        request: u64,
+        storage: Storage,
+    ) -> Result<Store, Refusal>
+        requires base { is_base base.now ≡ true }
+        requires last_commit { commit ≤ last_number }
+        ensures view { IfOk result (ShowsStart (start_at seats base.now request commit)) }
+        ensures pinned { IfOk result (HasStartPins (start_at seats base.now request commit)) }
+        ensures waste { IfOk result (λ store. store.waste ≡ []) }
+        ensures refused { IfErr result (λ refusal. refusal ≡ Refusal.NoMemory) }
+    {
         let limits = Limits {
             triples: MAX_TRIPLES,
             names: MAX_NAMES,
         };
-        Store::limited(alloc, seats, base, limits, commit, request)
-    }
-
-    /// The same, which holds as much as these limits allow.
-    fn limited(
-        alloc: Global,
-        seats: u16,
-        base: &str,
-        limits: Limits,
-        commit: u64,
-        request: u64,
-    ) -> Result<Store, Refusal>
-        requires { is_base base.now ≡ true }
-        ensures view { IfOk result (ShowsStart (start_with seats base.now limits request commit)) }
-        ensures pinned { IfOk result (HasStartPins (start_with seats base.now limits request commit)) }
-        ensures waste { IfOk result (λ store. store.waste ≡ []) }
-        ensures refused { IfErr result (λ refusal. refusal ≡ Refusal.NoMemory) }
-    {
-        let plain = PlainStore::starting_at(alloc, seats, base, limits, commit, request)?;
-        Ok(Store { alloc, plain })
+        let trees = TreeStore::starting_at(alloc, seats, base, limits, commit, request, storage)?;
+        Ok(Store { alloc, trees })
     }
 
     /// Takes one event: the answer fits what the store shows, and the store then shows the next
-    /// view. A refused event changes nothing.
+    /// view. A refused event changes nothing. An upload's list takes a node for each triple that is
+    /// new to the upload, and every other event none, but the commits of a POST and of a patch: these
+    /// take no more than `gs_event::steps_take_few` says.
     pub fn step(&mut self, event: &Event) -> Answer
         ensures steps { Steps self.old event.now result self.new }
+        ensures uses { UsesNodes self.old event.now result self.new }
     {
-        self.plain.step(event)
+        self.trees.step(event)
     }
 
     /// Takes events in any order. On a store that shows what a legal history says, as a new store
@@ -126,14 +170,14 @@ impl Store {
     pub fn nodes_in_use(&self) -> u64
         ensures { result ≡ nodes_in self.now }
     {
-        self.plain.nodes_in_use()
+        self.trees.nodes_in_use()
     }
 
     /// Triples of the current graphs.
     pub fn triples_now(&self) -> u64
         ensures { result ≡ triples_in self.now.view.totals.dataset }
     {
-        self.plain.triples_now()
+        self.trees.triples_now()
     }
 }
 

@@ -76,7 +76,7 @@ const FEEDS: [Row; 20] = [
     (
         "feeds after a fault are dropped, and a new upload begins anew",
         "0 open put default\n0 feed nt <http://e/s> <http://e/p> \"1\" .\n0 feed nt !\n0 feed nt <http://e/s> <http://e/p> \"2\" .\ncounts\n0 commit\n0 commit\ncounts\n0 open put default\n0 feed nt <http://e/s> <http://e/p> \"3\" .\n0 commit\n0 pin default\n0 piece 9\n",
-        "opened 1\nfed\nfed\nfed\nnodes 1 triples 0\nfault 400\nrefused WrongPhase\nnodes 0 triples 0\nopened 2\nfed\n204\n200\n<http://e/s> <http://e/p> \"3\" .\nend\n",
+        "opened 1\nfed\nfed\nfed\nnodes 1 triples 0\nfault 400\nrefused WrongPhase\nnodes 1 triples 0\nopened 2\nfed\n204\n200\n<http://e/s> <http://e/p> \"3\" .\nend\n",
     ),
     (
         "a cancel drops the reader and its fault",

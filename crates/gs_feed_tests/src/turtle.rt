@@ -72,7 +72,7 @@ const FEEDS: [Row; 18] = [
     (
         "a triple before a fault in the same feed is not staged",
         "0 open put default\n0 feed ttl <s> <p> 1 .\n0 feed ttl <s> <p> 2 . <s> .\n0 feed ttl <s> <p> 3 .\ncounts\n0 commit\ncounts\n0 commit\n",
-        "opened 1\nfed\nfed\nfed\nnodes 1 triples 0\nfault 400\nnodes 0 triples 0\nrefused WrongPhase\n",
+        "opened 1\nfed\nfed\nfed\nnodes 1 triples 0\nfault 400\nnodes 1 triples 0\nrefused WrongPhase\n",
     ),
     (
         "a statement that does not end is a fault",

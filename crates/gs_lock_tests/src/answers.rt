@@ -88,6 +88,7 @@ fn answer_all<C: Side, T: Side, B: Room, R: Wait>(
         alloc,
         4,
         "http://localhost",
+        0,
         cell,
         keeper,
         calls,

@@ -65,7 +65,7 @@ pub const PATCHES: [Row; 19] = [
     (
         "two seats patch a graph in the order of their texts",
         "0 open patch default\n1 open patch default\n1 patch INSERT DATA { <http://e/s> <http://e/p> \"1\" , \"2\" }\n0 patch DELETE DATA { <http://e/s> <http://e/p> \"1\" } ; INSERT DATA { _:x <http://e/p> \"0\" }\n2 pin default\n2 piece 9\ncounts\n",
-        "opened 1\nopened 2\n204\n204\n200\n<http://e/s> <http://e/p> \"2\" .\n_:b1_1 <http://e/p> \"0\" .\nend\nnodes 2 triples 2\n",
+        "opened 1\nopened 2\n204\n204\n200\n<http://e/s> <http://e/p> \"2\" .\n_:b1_1 <http://e/p> \"0\" .\nend\nnodes 4 triples 2\n",
     ),
     (
         "a seat that patches takes nothing but its patch",

@@ -23,7 +23,7 @@ pub const ROWS: [Row; 19] = [
     (
         "a read keeps its lines while the graph is put again",
         "0 open put <http://e/g>\n0 stage <http://e/s> <http://e/p> \"1\" .\n0 stage <http://e/s> <http://e/p> \"2\" .\n0 commit\n1 pin <http://e/g>\n1 piece 1\n0 open put <http://e/g>\n0 commit\n1 piece 1\n1 pin <http://e/g>\n1 piece 1\nreclaim 7\ncounts\n",
-        "opened 1\nstaged\nstaged\n201\n200\n<http://e/s> <http://e/p> \"1\" .\nmore\nopened 2\n204\n<http://e/s> <http://e/p> \"2\" .\nend\n200\nend\nreclaimed 0 done\nnodes 0 triples 0\n",
+        "opened 1\nstaged\nstaged\n201\n200\n<http://e/s> <http://e/p> \"1\" .\nmore\nopened 2\n204\n<http://e/s> <http://e/p> \"2\" .\nend\n200\nend\nreclaimed 2 done\nnodes 0 triples 0\n",
     ),
     (
         "senseless events are refused and change nothing",
@@ -33,12 +33,12 @@ pub const ROWS: [Row; 19] = [
     (
         "a cancelled upload leaves no change and keeps its number",
         "0 open put default\n0 stage <http://e/s> <http://e/p> \"1\" .\n0 cancel\n1 pin default\n1 piece 1\n0 open put default\n0 commit\ncounts\n",
-        "opened 1\nstaged\ncancelled\n200\nend\nopened 2\n204\nnodes 0 triples 0\n",
+        "opened 1\nstaged\ncancelled\n200\nend\nopened 2\n204\nnodes 1 triples 0\n",
     ),
     (
         "three versions of four triples",
         "0 open put <http://e/g>\n0 stage <http://e/s> <http://e/p> \"1\" .\n0 stage <http://e/s> <http://e/p> \"2\" .\n0 stage <http://e/s> <http://e/p> \"3\" .\n0 stage <http://e/s> <http://e/p> \"4\" .\n0 commit\n0 open put <http://e/g>\n0 stage <http://e/s> <http://e/p> \"1\" .\n0 stage <http://e/s> <http://e/p> \"2\" .\n0 stage <http://e/s> <http://e/p> \"3\" .\n0 stage <http://e/s> <http://e/p> \"4\" .\n0 commit\n0 open put <http://e/g>\n0 stage <http://e/s> <http://e/p> \"1\" .\n0 stage <http://e/s> <http://e/p> \"2\" .\n0 stage <http://e/s> <http://e/p> \"3\" .\n0 stage <http://e/s> <http://e/p> \"4\" .\n0 commit\ncounts\nreclaim 5\nreclaim 5\ncounts\n",
-        "opened 1\nstaged\nstaged\nstaged\nstaged\n201\nopened 2\nstaged\nstaged\nstaged\nstaged\n204\nopened 3\nstaged\nstaged\nstaged\nstaged\n204\nnodes 4 triples 4\nreclaimed 0 done\nreclaimed 0 done\nnodes 4 triples 4\n",
+        "opened 1\nstaged\nstaged\nstaged\nstaged\n201\nopened 2\nstaged\nstaged\nstaged\nstaged\n204\nopened 3\nstaged\nstaged\nstaged\nstaged\n204\nnodes 12 triples 4\nreclaimed 5 more\nreclaimed 3 done\nnodes 4 triples 4\n",
     ),
     (
         "the last numbers are given out",
@@ -58,7 +58,7 @@ pub const ROWS: [Row; 19] = [
     (
         "an open upload counts, and a replaced graph does not",
         "0 open put <http://e/g>\n0 stage <http://e/s> <http://e/p> \"1\" .\n0 stage <http://e/s> <http://e/p> \"2\" .\n0 commit\n1 pin <http://e/g>\n0 open put <http://e/g>\n0 stage <http://e/s> <http://e/p> \"3\" .\n0 commit\nreclaim 1000\n2 open post default\n2 stage <http://e/s> <http://e/p> \"4\" .\n2 stage <http://e/s> <http://e/p> \"5\" .\n1 piece 1\n1 piece 9\ncounts\nreclaim 1000\ncounts\n",
-        "opened 1\nstaged\nstaged\n201\n200\nopened 2\nstaged\n204\nreclaimed 0 done\nopened 3\nstaged\nstaged\n<http://e/s> <http://e/p> \"1\" .\nmore\n<http://e/s> <http://e/p> \"2\" .\nend\nnodes 3 triples 1\nreclaimed 0 done\nnodes 3 triples 1\n",
+        "opened 1\nstaged\nstaged\n201\n200\nopened 2\nstaged\n204\nreclaimed 0 more\nopened 3\nstaged\nstaged\n<http://e/s> <http://e/p> \"1\" .\nmore\n<http://e/s> <http://e/p> \"2\" .\nend\nnodes 5 triples 1\nreclaimed 2 done\nnodes 3 triples 1\n",
     ),
     (
         "a new graph gets a name of its request",
@@ -83,12 +83,12 @@ pub const ROWS: [Row; 19] = [
     (
         "a post adds, also to a graph that it makes",
         "0 head <http://e/g>\n0 open post <http://e/g>\n0 commit\n0 head <http://e/g>\n0 open post <http://e/g>\n0 stage <http://e/s> <http://e/p> \"2\" .\n0 commit\n0 open post <http://e/g>\n0 stage <http://e/s> <http://e/p> \"1\" .\n0 stage <http://e/s> <http://e/p> \"2\" .\n0 commit\n0 pin <http://e/g>\n0 piece 9\ncounts\n",
-        "404\nopened 1\n201\n200\nopened 2\nstaged\n204\nopened 3\nstaged\nstaged\n204\n200\n<http://e/s> <http://e/p> \"1\" .\n<http://e/s> <http://e/p> \"2\" .\nend\nnodes 2 triples 2\n",
+        "404\nopened 1\n201\n200\nopened 2\nstaged\n204\nopened 3\nstaged\nstaged\n204\n200\n<http://e/s> <http://e/p> \"1\" .\n<http://e/s> <http://e/p> \"2\" .\nend\nnodes 6 triples 2\n",
     ),
     (
         "a deleted default graph is empty and still there",
         "0 open put default\n0 stage <http://e/s> <http://e/p> \"1\" .\n0 commit\n1 pin default\n0 delete default\n0 head default\n0 pin default\n0 piece 1\n1 piece 1\n0 delete default\ncounts\n",
-        "opened 1\nstaged\n204\n200\n204\n200\n200\nend\n<http://e/s> <http://e/p> \"1\" .\nend\n204\nnodes 0 triples 0\n",
+        "opened 1\nstaged\n204\n200\n204\n200\n200\nend\n<http://e/s> <http://e/p> \"1\" .\nend\n204\nnodes 1 triples 0\n",
     ),
     (
         "a graph is deleted under a read, and another gets a new name",

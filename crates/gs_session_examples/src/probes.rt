@@ -49,8 +49,10 @@ impl Probe {
         Ok(Probe { heads })
     }
 
-    /// The state of a store whose seat is idle, and which holds nothing but its graphs.
+    /// The state of a store whose seat is idle, and which holds nothing but its graphs once the waste is
+    /// given back.
     pub fn state_of(&self, store: &mut Store) -> Option<State> {
+        store.step(&Event::Reclaim(u64::MAX));
         let triples = store.triples_now();
         if store.nodes_in_use() != triples {
             return None;

@@ -50,8 +50,10 @@ pub struct Shared<C: Side, T: Side, B: Room> {
 
 impl<C: Side, T: Side, B: Room> Shared<C, T, B> {
     /// A new store with this base, for so many seats, 1 to 512, of which no pass is handed out yet.
-    /// `gs_core::is_base` tests a base. The cell is one of `stamp_cell`, with its token, and each
-    /// blank has more parts than there are seats. The room names that cell, and how this store begins.
+    /// `gs_core::is_base` tests a base. The seed spreads the terms, and shows in nothing but time: where
+    /// strangers choose the terms, it is a random number that is kept from them. The cell is one of
+    /// `stamp_cell`, with its token, and each blank has more parts than there are seats. The room names
+    /// that cell, and how this store begins.
     ///
     /// # Errors
     ///
@@ -60,6 +62,7 @@ impl<C: Side, T: Side, B: Room> Shared<C, T, B> {
         alloc: Global,
         seats: u16,
         base: &str,
+        seed: u64,
         cell: StampCell,
         keeper: Token,
         calls: Blank,
@@ -83,7 +86,7 @@ impl<C: Side, T: Side, B: Room> Shared<C, T, B> {
         ensures fresh { IfOk result (λ s. (s.seats ≡ seats) × (s.handed ≡ 0)) }
         ensures refused { IfErr result (λ refusal. refusal ≡ Refusal.NoMemory) }
     {
-        let audited = Audited::new(alloc, seats, base)?;
+        let audited = Audited::seeded(alloc, seats, base, seed)?;
         let Ok(records) = Vec::with_capacity(alloc, usize::from(seats)) else {
             return Err(Refusal::NoMemory);
         };

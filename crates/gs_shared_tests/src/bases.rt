@@ -33,6 +33,7 @@ fn run<C: Side + Send + Sync, T: Side + Send + Sync, B: Room + Send + Sync, R: W
         alloc,
         1,
         "http://h:1",
+        0,
         cell,
         keeper,
         calls,

@@ -55,11 +55,13 @@ fn run<
         alloc,
         4,
         "http://localhost",
+        0,
         cell,
         keeper,
         calls,
         triples,
-    ).ok()?;
+    )
+    .ok()?;
     let passes = shared.passes(4).ok()?;
     let hall = shared.hall();
     let back = thread::scope(

@@ -98,11 +98,13 @@ fn run<
         alloc,
         2,
         "http://localhost",
+        0,
         cell,
         keeper,
         calls,
         triples,
-    ).ok()?;
+    )
+    .ok()?;
     let mut passes = shared.passes(2).ok()?;
     let reader = passes.pop()?;
     let writer = passes.pop()?;

@@ -51,11 +51,13 @@ fn run<C: Side + Send + Sync, T: Side + Send + Sync, B: Room + Send + Sync, R: W
         alloc,
         512,
         "http://localhost",
+        0,
         cell,
         keeper,
         calls,
         triples,
-    ).ok()?;
+    )
+    .ok()?;
     let mut first = shared.passes(511).ok()?;
     if shared.passes(2).is_ok() {
         return None;

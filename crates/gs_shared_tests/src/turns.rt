@@ -32,11 +32,13 @@ fn run<C: Side + Send + Sync, T: Side + Send + Sync, B: Room + Send + Sync, R: W
         alloc,
         2,
         "http://localhost",
+        0,
         cell,
         keeper,
         calls,
         triples,
-    ).ok()?;
+    )
+    .ok()?;
     let mut passes = shared.passes(2).ok()?;
     let second: Pass<C, T, B> = passes.pop()?;
     let first: Pass<C, T, B> = passes.pop()?;

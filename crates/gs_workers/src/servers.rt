@@ -21,6 +21,7 @@ use gs_shared::{Ended, Hall, Pass, Room, Shared, Side, StampCell, Token, stamp_c
 use std::alloc::{AllocError, Global};
 use std::marker::Brand;
 use std::net::TcpListener;
+use std::random::RandomSource;
 use std::snapshot::Snapshot;
 use std::sync::Wait;
 use std::sync::ledger::Blank;
@@ -114,13 +115,23 @@ fn with_last<P: Drop>(passes: Vec<P>, last: P) -> Result<Vec<P>, AllocError>
     Ok(passes)
 }
 
+/// A number that strangers do not know, by which the terms of the store are spread; 0 where the system
+/// has none to give.
+fn seed_from<R: RandomSource>(rt: &R) -> u64 {
+    let mut bytes = [0u8; 8];
+    match rt.fill_bytes(&mut bytes) {
+        Ok(()) => u64::from_le_bytes(bytes),
+        Err(_) => 0,
+    }
+}
+
 /// As `serve_all`, over a cell and two blanks, and with as much patience.
 fn run<
     C: Side + Send + Sync,
     T: Side + Send + Sync,
     B: Room + Send + Sync,
     G: Gate + Sync,
-    R: Threads + Wait + Clock + Sync,
+    R: Threads + Wait + Clock + RandomSource + Sync,
 >(
     rt: &R,
     plan: Plan<'_>,
@@ -152,7 +163,14 @@ fn run<
 {
     let seats = workers + 1;
     let mut shared: Shared<C, T, B> = Shared::new(
-        plan.alloc, seats, plan.base, cell, keeper, calls, triples,
+        plan.alloc,
+        seats,
+        plan.base,
+        seed_from(rt),
+        cell,
+        keeper,
+        calls,
+        triples,
     )?;
     let mut passes = shared.passes(seats)?;
     let Some(last) = passes.pop() else {
@@ -177,7 +195,7 @@ fn run<
 }
 
 /// As `serve_all`, with as much patience.
-pub(crate) fn serve_within<G: Gate + Sync, R: Threads + Wait + Clock + Sync>(
+pub(crate) fn serve_within<G: Gate + Sync, R: Threads + Wait + Clock + RandomSource + Sync>(
     rt: &R,
     plan: Plan<'_>,
     listener: &TcpListener,
@@ -210,7 +228,7 @@ pub(crate) fn serve_within<G: Gate + Sync, R: Threads + Wait + Clock + Sync>(
 ///
 /// `NoMemory`, where memory was wanted and not given before the first or after the last connection, or
 /// a thread could not be started.
-pub fn serve_all<G: Gate + Sync, R: Threads + Wait + Clock + Sync>(
+pub fn serve_all<G: Gate + Sync, R: Threads + Wait + Clock + RandomSource + Sync>(
     rt: &R,
     alloc: Global,
     listener: &TcpListener,

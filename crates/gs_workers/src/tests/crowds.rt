@@ -6,6 +6,7 @@ use crate::gates::{Gate, OpenGate};
 use gs_event::{Action, Event};
 use std::alloc::Global;
 use std::net::{Net, SocketAddr, TcpListener, TcpStream};
+use std::random::RandomSource;
 use std::sync::Wait;
 use std::sync::atomic::{AtomicU64, Ordering};
 use std::test::*;
@@ -72,10 +73,14 @@ fn owned<R: Net<Listener = TcpListener, Stream = TcpStream> + Threads + Sync>(
 }
 
 /// In how many rounds the clients of four workers got their own lines back.
-fn served<R: Net<Listener = TcpListener, Stream = TcpStream> + Threads + Wait + Clock + Sync>(
-    rt: &R,
-    alloc: Global,
-) -> io::Result<u32> {
+fn served<
+    R: Net<Listener = TcpListener, Stream = TcpStream>
+        + Threads
+        + Wait
+        + Clock
+        + RandomSource
+        + Sync,
+>(rt: &R, alloc: Global) -> io::Result<u32> {
     let listener = TcpListener::bind(rt, "127.0.0.1:0")?;
     let addr = listener.local_addr()?;
     let setup = Setup {
@@ -141,10 +146,14 @@ fn ask_together<N: Net<Stream = TcpStream>>(
 }
 
 /// Whether as many clients are served at the same time as there are workers.
-fn gathers<R: Net<Listener = TcpListener, Stream = TcpStream> + Threads + Wait + Clock + Sync>(
-    rt: &R,
-    alloc: Global,
-) -> io::Result<bool> {
+fn gathers<
+    R: Net<Listener = TcpListener, Stream = TcpStream>
+        + Threads
+        + Wait
+        + Clock
+        + RandomSource
+        + Sync,
+>(rt: &R, alloc: Global) -> io::Result<bool> {
     let listener = TcpListener::bind(rt, "127.0.0.1:0")?;
     let addr = listener.local_addr()?;
     let gate = Gather {

@@ -8,6 +8,7 @@ use std::alloc::{AllocError, Global};
 use std::io;
 use std::io::Read;
 use std::net::{Net, TcpListener, TcpStream};
+use std::random::RandomSource;
 use std::sync::Wait;
 use std::sync::atomic::{AtomicU64, Ordering};
 use std::test::*;
@@ -27,7 +28,12 @@ fn leaves_upload(alloc: Global, first: TcpStream, second: TcpStream) -> io::Resu
 
 /// One worker, for whom a read may wait longer than the second client waits.
 fn upload_may_be_left<
-    R: Net<Listener = TcpListener, Stream = TcpStream> + Threads + Wait + Clock + Sync,
+    R: Net<Listener = TcpListener, Stream = TcpStream>
+        + Threads
+        + Wait
+        + Clock
+        + RandomSource
+        + Sync,
 >(rt: &R, alloc: Global) -> io::Result<bool> {
     let (listener, first, second) = two_connected(rt)?;
     let setup = Setup {
@@ -114,7 +120,12 @@ fn leaves_read<K: Clock>(
 
 /// One worker, for whom a write may wait longer than the third client waits.
 fn read_may_be_left<
-    R: Net<Listener = TcpListener, Stream = TcpStream> + Threads + Wait + Clock + Sync,
+    R: Net<Listener = TcpListener, Stream = TcpStream>
+        + Threads
+        + Wait
+        + Clock
+        + RandomSource
+        + Sync,
 >(rt: &R, alloc: Global) -> io::Result<bool> {
     let (listener, first, second) = two_connected(rt)?;
     let third = connected(rt, listener.local_addr()?)?;

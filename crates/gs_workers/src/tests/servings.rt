@@ -8,6 +8,7 @@ use crate::servers::serve_within;
 use std::alloc::Global;
 use std::io;
 use std::net::{Net, TcpListener, TcpStream};
+use std::random::RandomSource;
 use std::sync::Wait;
 use std::thread::Threads;
 use std::time::{Clock, Duration};
@@ -34,7 +35,7 @@ pub struct Setup {
 }
 
 /// Serves to the end, in pieces of two lines; whether that ended as it must.
-pub fn serves<G: Gate + Sync, R: Threads + Wait + Clock + Sync>(
+pub fn serves<G: Gate + Sync, R: Threads + Wait + Clock + RandomSource + Sync>(
     rt: &R,
     alloc: Global,
     listener: &TcpListener,

@@ -4,6 +4,7 @@ use super::servings::{Setup, serves, two_connected};
 use crate::gates::OpenGate;
 use std::alloc::Global;
 use std::net::{Net, SocketAddr, TcpListener, TcpStream};
+use std::random::RandomSource;
 use std::sync::Wait;
 use std::test::*;
 use std::thread::{Threads, join};
@@ -20,7 +21,12 @@ fn hears_beside(alloc: Global, silent: Vec<TcpStream>, stream: TcpStream) -> io:
 /// Four clients say nothing and keep four workers for 200 milliseconds, and a fifth asks. It gives up
 /// before a server does that has as much patience as a program's.
 fn fifth_is_answered<
-    R: Net<Listener = TcpListener, Stream = TcpStream> + Threads + Wait + Clock + Sync,
+    R: Net<Listener = TcpListener, Stream = TcpStream>
+        + Threads
+        + Wait
+        + Clock
+        + RandomSource
+        + Sync,
 >(rt: &R, alloc: Global) -> io::Result<bool> {
     let listener = TcpListener::bind(rt, "127.0.0.1:0")?;
     let addr = listener.local_addr()?;
@@ -73,7 +79,12 @@ fn puts_slowly<N: Net<Stream = TcpStream> + Clock>(
 
 /// A read may wait for two seconds, and all reads of the slow client take longer than that.
 fn slow_client_is_answered<
-    R: Net<Listener = TcpListener, Stream = TcpStream> + Threads + Wait + Clock + Sync,
+    R: Net<Listener = TcpListener, Stream = TcpStream>
+        + Threads
+        + Wait
+        + Clock
+        + RandomSource
+        + Sync,
 >(rt: &R, alloc: Global) -> io::Result<bool> {
     let listener = TcpListener::bind(rt, "127.0.0.1:0")?;
     let addr = listener.local_addr()?;
@@ -93,7 +104,12 @@ fn slow_client_is_answered<
 /// One client begins to put a graph and says no more, and another asks for it. One worker waits for the
 /// first for 200 milliseconds, and then serves the second.
 fn stopped_client_is_cut_off<
-    R: Net<Listener = TcpListener, Stream = TcpStream> + Threads + Wait + Clock + Sync,
+    R: Net<Listener = TcpListener, Stream = TcpStream>
+        + Threads
+        + Wait
+        + Clock
+        + RandomSource
+        + Sync,
 >(rt: &R, alloc: Global) -> io::Result<bool> {
     let (listener, first, second) = two_connected(rt)?;
     let upload = put(alloc, "half", "<a:a> <a:b> \"1\" .\n<a:a> <a:b> \"2\" .\n")?;

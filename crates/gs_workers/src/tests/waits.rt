@@ -7,6 +7,7 @@ use gs_event::{Action, Event};
 use std::alloc::Global;
 use std::io;
 use std::net::{Net, TcpListener, TcpStream};
+use std::random::RandomSource;
 use std::sync::Wait;
 use std::sync::atomic::{AtomicU64, Ordering};
 use std::test::*;
@@ -58,7 +59,12 @@ fn put_and_get<K: Clock>(
 
 /// Whether the upload waited, and the GET ran.
 fn waits_and_runs<
-    R: Net<Listener = TcpListener, Stream = TcpStream> + Threads + Wait + Clock + Sync,
+    R: Net<Listener = TcpListener, Stream = TcpStream>
+        + Threads
+        + Wait
+        + Clock
+        + RandomSource
+        + Sync,
 >(rt: &R, alloc: Global) -> io::Result<bool> {
     let (listener, first, second) = two_connected(rt)?;
     let gate = Hold {

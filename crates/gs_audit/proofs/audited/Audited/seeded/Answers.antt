@@ -3,7 +3,7 @@ use Rattle.gs_core.specs.Settings.{start_at}
 use Rattle.gs_chronicle.specs.Views.{page_of}
 use Rattle.gs_audit.specs.Slots.{slot_count}
 use Rattle.gs_audit.proofs.FreshLemmas.{fresh_agree, fresh_staged, fresh_replays}
-use Rattle.gs_audit.proofs.audited.Audited.new.Goals as goal
+use Rattle.gs_audit.proofs.audited.Audited.seeded.Goals as goal
 
 pub invariant_of-result : goal.invariant_of-result
 invariant_of-result g c =
