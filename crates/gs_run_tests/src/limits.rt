@@ -1,10 +1,11 @@
-//! Schedules on a store that holds six triples and two names: the limits are on what a write leaves.
+//! Schedules on two stores that hold six triples and two names: the limits are on what a write leaves.
 use crate::runs::BASE;
-use gs_core::Refusal;
+use gs_core::{Answer, Event, Refusal};
 use gs_event::Limits;
 use gs_plain::PlainStore;
 use gs_schedules::Row;
 use gs_test_events::{event, words};
+use gs_tree_store::{Storage, TreeStore};
 use std::alloc::Global;
 use std::test::Fail;
 
@@ -26,17 +27,47 @@ const ROWS: [Row; 3] = [
     ),
 ];
 
+const LIMITS: Limits = Limits {
+    triples: 6,
+    names: 2,
+};
+
 /// A store that holds so little.
-fn small(alloc: Global) -> Result<PlainStore, Refusal> {
-    let limits = Limits {
-        triples: 6,
-        names: 2,
-    };
-    PlainStore::starting_at(alloc, 4, BASE, limits, 0, 0)
+#[derive(Drop)]
+enum Small {
+    Plain(PlainStore),
+    Trees(TreeStore),
+}
+
+impl Small {
+    fn plain(alloc: Global) -> Result<Small, Refusal> {
+        let store = PlainStore::starting_at(alloc, 4, BASE, LIMITS, 0, 0)?;
+        Ok(Small::Plain(store))
+    }
+
+    fn trees(alloc: Global) -> Result<Small, Refusal> {
+        let storage = Storage::of_seed(0);
+        let store = TreeStore::starting_at(alloc, 4, BASE, LIMITS, 0, 0, storage)?;
+        Ok(Small::Trees(store))
+    }
+
+    fn step(&mut self, event: &Event) -> Answer {
+        match self {
+            Small::Plain(store) => store.step(event),
+            Small::Trees(store) => store.step(event),
+        }
+    }
+
+    fn triples_now(&self) -> u64 {
+        match self {
+            Small::Plain(store) => store.triples_now(),
+            Small::Trees(store) => store.triples_now(),
+        }
+    }
 }
 
 /// What a line prints: the number of triples, or the answer to an event.
-fn printed_line(alloc: Global, store: &mut PlainStore, line: &str) -> Result<String, Refusal> {
+fn printed_line(alloc: Global, store: &mut Small, line: &str) -> Result<String, Refusal> {
     if line == "counts" {
         let count = store.triples_now();
         return Ok(format!(in alloc; "triples {count}\n")?);
@@ -45,14 +76,20 @@ fn printed_line(alloc: Global, store: &mut PlainStore, line: &str) -> Result<Str
     Ok(words(alloc, &answer)?)
 }
 
-/// Whether a schedule prints this.
-fn prints(alloc: Global, input: &str, want: &str) -> Result<bool, Refusal> {
-    let mut store = small(alloc)?;
+/// Whether a schedule prints this over a store.
+fn prints_over(alloc: Global, mut store: Small, input: &str, want: &str) -> Result<bool, Refusal> {
     let mut text = String::new(alloc);
     for line in input.lines() {
         text.push_str(printed_line(alloc, &mut store, line)?.as_str())?;
     }
     Ok(text.as_str() == want)
+}
+
+/// Whether it prints this over each of the two.
+fn prints(alloc: Global, input: &str, want: &str) -> Result<bool, Refusal> {
+    let by_plain = prints_over(alloc, Small::plain(alloc)?, input, want)?;
+    let by_trees = prints_over(alloc, Small::trees(alloc)?, input, want)?;
+    Ok(by_plain && by_trees)
 }
 
 /// The first row that does not print what it must.
