@@ -1,4 +1,5 @@
 """Checks what gsdrill prints where a request for memory is refused: memory.py PROGRAM CRATES FOLDER."""
+import functools
 import os
 import re
 import subprocess
@@ -8,7 +9,10 @@ from turtle_text import statements as turtle_statements
 from update_text import operations, patched
 
 LAST_NUMBER = 999_999_999_999_999_999
+LAST_COUNT = 18_446_744_073_709_551_615
 NO_MEMORY = "refused NoMemory"
+# The most nodes that one triple takes into use where it comes to a graph or goes from it.
+MOST_FOR_TRIPLE = 260
 CODE = r"\\u[0-9A-Fa-f]{4}|\\U[0-9A-Fa-f]{8}"
 IRI = rf'<([A-Za-z][A-Za-z0-9+.-]*:(?:[^\x00-\x20<>"{{}}|^`\\]|{CODE})*)>'
 LABEL = r"_:(\w(?:[\w.-]*[\w-])?)"
@@ -78,20 +82,109 @@ def worked_schedules(path, name):
     return [tuple(texts[i:i + 3]) for i in range(0, len(texts), 3)]
 
 
+@functools.lru_cache(maxsize=256)
+def read_text(language, text, target, request):
+    """The lines that a text completes in its language, and whether it is a document, unfinished, or has a fault."""
+    if language == "ttl":
+        return turtle_statements(text, target[1:-1] if target.startswith("<") else "http://localhost/store", request)
+    lines, is_document = statements(text, request)
+    return lines, "document" if is_document else "fault"
+
+
+class Nodes:
+    """What is known of the nodes in use: how many at least and at most, and, where each commit so far gave a graph a tree of
+    its own, the commits that made and ended each node that no graph and no upload has. Of other commits only bounds are known."""
+
+    def __init__(self):
+        self.low = self.high = 0
+        self.ended = []
+        self.births = {}
+        self.is_exact = True
+
+    def grow(self, low, high):
+        self.low, self.high = self.low + low, self.high + high
+
+    def stage(self, seat, new, commit):
+        self.grow(new, new)
+        self.births.setdefault(seat, set()).add(commit + 1)
+
+    def put(self, seat, replaced, birth, commit):
+        """The nodes of a graph end by this commit, and those of the upload were made for it, or for one before."""
+        self.is_exact &= self.births.pop(seat, {commit}) == {commit}
+        self.ended += [(birth, commit)] * replaced
+
+    def drop(self, seat, count):
+        """An upload of so many triples is given up."""
+        self.births.pop(seat, None)
+        self.ended += [(0, 0)] * count
+
+    def copy(self, seat, triples):
+        """The trees of a POST, a new graph or a patch share nodes: so many triples changed."""
+        self.births.pop(seat, None)
+        self.is_exact = False
+        self.grow(0, MOST_FOR_TRIPLE * triples)
+
+    def show(self, line, least, triples):
+        """The line of the counts, where there are at least so many nodes, and just so many triples."""
+        words = re.fullmatch(r"nodes (\d+) triples (\d+)", line)
+        assert words and int(words[2]) == triples, f"{line}, not {triples} triples"
+        shown = int(words[1])
+        assert max(self.low, least) <= shown <= self.high, f"{line}, not {max(self.low, least)} to {self.high} nodes"
+        assert not self.is_exact or shown == least + len(self.ended), f"{line}, not {least} and {len(self.ended)} nodes"
+        self.low = self.high = shown
+
+    def reclaim(self, line, most, least, pins):
+        """The line of a reclaim of so many nodes, where there are at least so many, and reads have these pins."""
+        words = re.fullmatch(r"reclaimed (\d+) (more|done)", line)
+        assert words, line
+        freed, low, high = int(words[1]), max(0, self.low - least), self.high - least
+        assert freed <= min(most, high) and (pins or freed >= min(most, low)), f"{line}, of {low} to {high}"
+        if self.is_exact:
+            free = [it for it in self.ended if not any(it[0] <= pin < it[1] for pin in pins)]
+            assert freed == min(most, len(free)), f"{line}, of {len(free)} that no pin has"
+            for it in free[:freed]:
+                self.ended.remove(it)
+        self.grow(-freed, -freed)
+        self.low = max(self.low, least + (words[2] == "more"))
+        self.high = self.high if words[2] == "more" else min(self.high, least)
+        assert self.low <= self.high, f"{line}, where there are {low} to {high}"
+
+
 class Store:
     """An abstract graph store: each write whole at its commit, each read whole at its pin."""
 
     def __init__(self, seats=4, commit=0, request=0):
         self.seats, self.commit, self.request = seats, commit, request
         self.graphs = {"default": set()}
+        self.births = {}
         self.phases = {}
         self.fed = {}
         self.languages = {}
+        self.nodes = Nodes()
 
-    def counts(self):
-        current = sum(len(it) for it in self.graphs.values())
-        staged = sum(len(it[4]) for it in self.phases.values() if it[0] == "writing")
-        return f"nodes {current + staged} triples {current}"
+    def triples(self):
+        return sum(len(it) for it in self.graphs.values())
+
+    def least(self):
+        """A node for each triple of a graph or an open upload."""
+        return self.triples() + sum(len(it[4]) for it in self.phases.values() if it[0] == "writing")
+
+    def pins(self):
+        return [it[2] for it in self.phases.values() if it[0] == "reading"]
+
+    def stage(self, seat, lines):
+        phase = self.phases[seat]
+        both = phase[4] | set(lines)
+        self.nodes.stage(seat, len(both) - len(phase[4]), self.commit)
+        self.phases[seat] = phase[:4] + (both,)
+
+    def end(self, seat):
+        """What the seat has open is given up."""
+        phase = self.phases.get(seat, ("idle",))
+        if phase[0] == "writing":
+            self.nodes.drop(seat, len(phase[4]))
+        self.phases[seat] = ("idle",)
+        self.fed.pop(seat, None)
 
     def may_want_memory(self, seat, words):
         phase = self.phases.get(seat, ("idle",))
@@ -110,12 +203,8 @@ class Store:
         return f"<http://localhost/graphs/n{request}-{k}>"
 
     def read(self, seat, text):
-        """The lines that a text completes in its language, and whether it is a document, unfinished, or has a fault."""
-        _, kind, target, request, _ = self.phases[seat]
-        if self.languages.get(seat) == "ttl":
-            return turtle_statements(text, target[1:-1] if target.startswith("<") else "http://localhost/store", request)
-        lines, is_document = statements(text, request)
-        return lines, "document" if is_document else "fault"
+        _, _, target, request, _ = self.phases[seat]
+        return read_text(self.languages.get(seat), text, target, request)
 
     def feed(self, seat, language, text, is_refused):
         """The line that a feed prints; where its Stage is refused, what it completed is dropped."""
@@ -135,10 +224,11 @@ class Store:
         if is_refused:
             assert new, "a feed that stages nothing"
             return NO_MEMORY
-        self.phases[seat] = phase[:4] + (phase[4] | set(new),)
+        if new:
+            self.stage(seat, new)
         return "fed"
 
-    def commit_upload(self, kind, target, request, upload):
+    def commit_upload(self, seat, kind, target, request, upload):
         """The status of a commit, and the name that was made up."""
         if kind == "new":
             target = self.new_name(request)
@@ -146,6 +236,11 @@ class Store:
             return "refused LastNumber"
         status = "204" if target in self.graphs else "201"
         self.commit += 1
+        if kind == "put":
+            self.nodes.put(seat, len(self.graphs.get(target, ())), self.births.get(target, 0), self.commit)
+        else:
+            self.nodes.copy(seat, len(upload))
+        self.births[target] = self.commit
         self.graphs[target] = upload | self.graphs.get(target, set()) if kind == "post" else upload
         return f"{status} {target[1:-1]}" if kind == "new" else status
 
@@ -161,7 +256,12 @@ class Store:
         if target not in self.graphs:
             return "404"
         self.commit += 1
-        self.graphs[target] = patched(self.graphs[target], done)
+        changed = 0
+        for operation in done:
+            before = self.graphs[target]
+            self.graphs[target] = patched(before, [operation])
+            changed += len(before ^ self.graphs[target])
+        self.nodes.copy(seat, changed)
         return "204"
 
     def delete(self, target):
@@ -170,6 +270,8 @@ class Store:
         if self.commit == LAST_NUMBER:
             return "refused LastNumber"
         self.commit += 1
+        self.nodes.put(None, len(self.graphs[target]), self.births.get(target, 0), self.commit)
+        self.births[target] = self.commit
         if target == "default":
             self.graphs[target] = set()
         else:
@@ -195,14 +297,13 @@ class Store:
             self.phases[seat] = ("writing", words[2], (words + [""])[3], self.request, set())
             return [f"opened {self.request}"]
         if action == "stage":
-            self.phases[seat] = phase[:4] + (phase[4] | {line.split(" ", 2)[2]},)
+            self.stage(seat, [line.split(" ", 2)[2]])
             return ["staged"]
         if action == "commit":
             if self.fed.get(seat) and self.read(seat, self.fed[seat])[1] != "document":
-                self.phases[seat] = ("idle",)
-                self.fed.pop(seat)
+                self.end(seat)
                 return ["fault 400"]
-            reported = self.commit_upload(*phase[1:])
+            reported = self.commit_upload(seat, *phase[1:])
             if reported.startswith("refused"):
                 self.fed[seat] = None
             else:
@@ -218,20 +319,35 @@ class Store:
         if action == "pin":
             if words[2] not in self.graphs:
                 return ["404"]
-            self.phases[seat] = ("reading", sorted(self.graphs[words[2]]))
+            self.phases[seat] = ("reading", sorted(self.graphs[words[2]]), self.commit)
             return ["200"]
         if action == "piece":
             reported, left = phase[1][:int(words[2])], phase[1][int(words[2]):]
-            self.phases[seat] = ("reading", left) if left else ("idle",)
+            self.phases[seat] = ("reading", left, phase[2]) if left else ("idle",)
             return reported + ["more" if left else "end"]
-        self.phases[seat] = ("idle",)
-        self.fed.pop(seat, None)
+        self.end(seat)
         return ["cancelled"]
+
+
+def counted(schedule):
+    """The schedule with the counts asked after each line, and at its end all seats cancelled and all waste freed. The counts
+    are asked twice where the schedule asks for them."""
+    lines, seats = [], set()
+    for line in schedule.split("\n"):
+        words = line.split(" ")
+        lines.append(line)
+        if not line or line.startswith("#") or words[0] == "store":
+            continue
+        lines.append("counts")
+        seats |= {words[0]} if words[0].isdigit() else set()
+    for line in [f"{it} cancel" for it in sorted(seats)] + [f"reclaim {LAST_COUNT}"]:
+        lines += [line, "counts"]
+    return "\n".join(lines) + "\n"
 
 
 def refusals(schedule, printed):
     """How often memory was refused to an event, and whether the whole schedule was answered."""
-    store, count = Store(), 0
+    store, count, at = Store(), 0, 0
     for line in schedule.split("\n"):
         words = line.split(" ")
         if not line or line.startswith("#"):
@@ -241,24 +357,28 @@ def refusals(schedule, printed):
             continue
         if words[0] == "cut":
             continue
-        if not printed:
+        if at == len(printed):
             return count, False
-        if words[0] == "counts":
-            want = [store.counts()]
-        elif words[0] == "reclaim":
-            want = ["reclaimed 0 done"]
-        elif words[1] == "feed":
-            is_refused = printed[0] == NO_MEMORY
+        if words[0] in ("counts", "reclaim"):
+            if words[0] == "counts":
+                store.nodes.show(printed[at], store.least(), store.triples())
+            else:
+                store.nodes.reclaim(printed[at], int(words[1]), store.least(), store.pins())
+            at += 1
+            continue
+        if words[1] == "feed":
+            is_refused = printed[at] == NO_MEMORY
             want = [store.feed(int(words[0]), words[2], line.split(" ", 3)[3], is_refused)]
             count += is_refused
-        elif printed[0] == NO_MEMORY:
+        elif printed[at] == NO_MEMORY:
             assert store.may_want_memory(int(words[0]), words), f"{line}: {NO_MEMORY}"
             want, count = [NO_MEMORY], count + 1
         else:
             want = store.step(int(words[0]), words, line)
-        assert printed[:len(want)] == want, f"{line}: {printed[:len(want)]}, not {want}"
-        printed = printed[len(want):]
-    assert not printed, f"after the last answer: {printed}"
+        found = printed[at:at + len(want)]
+        assert found == want, f"{line}: {found}, not {want}"
+        at += len(want)
+    assert at == len(printed), f"after the last answer: {printed[at:]}"
     return count, True
 
 
@@ -279,20 +399,116 @@ def check(program, schedule, room, refused, later):
         assert (status, err) == (0, "") and is_whole and (later or count <= 1), (refused, status, err)
 
 
-def main(program, crates, room):
-    total = 0
+def large():
+    """A PUT of 1,000 triples, a read of them, a POST of 1,000 others between them, and the rest of the read."""
+    def feeds(first):
+        numbers = range(first, first + 2000, 2)
+        for start in range(0, 1000, 100):
+            yield "0 feed ttl " + " ".join(f'<http://e/s{it}> <http://e/p> "{it}" .' for it in numbers[start:start + 100])
+
+    lines = ["0 open put <http://e/g>", *feeds(4000), "0 commit", "1 pin <http://e/g>", "1 piece 10"]
+    lines += ["0 open post <http://e/g>", *feeds(4001), "0 commit", "1 piece 500", "reclaim 100", "1 piece 999", "reclaim 300"]
+    return "\n".join(lines) + "\n"
+
+
+def worked_rows(crates):
     tables = [("gs_schedules/src/rows.rt", "ROWS"), ("gs_schedules/src/patches.rt", "PATCHES"), ("gs_feed_tests/src/feeds.rt", "FEEDS"), ("gs_feed_tests/src/turtle.rt", "FEEDS")]
-    rows = [row for file, table in tables for row in worked_schedules(f"{crates}/{file}", table)]
-    for name, schedule, want in rows:
+    return [row for file, table in tables for row in worked_schedules(f"{crates}/{file}", table)]
+
+
+def requests_of(program, schedule, room):
+    """How many requests for memory a run makes, which ends well and is right."""
+    status, out, err = run(program, schedule, room, 0)
+    assert (status, err) == (0, "") and refusals(schedule, out.split("\n")[:-1]) == (0, True), (status, err)
+    return int(open(f"{room}/count").read())
+
+
+def requests_by_line(program, schedule, room):
+    """For each line how many requests were made when it was done. What comes after it is made a comment of the same length, so
+    that the input is read by the same requests."""
+    lines, made = schedule.split("\n")[:-1], []
+    for end in range(len(lines) + 1):
+        part = lines[:end] + ["#" * len(it) for it in lines[end:]]
+        run(program, "\n".join(part) + "\n", room, 0)
+        made.append(int(open(f"{room}/count").read()))
+    return list(zip(lines, made, made[1:]))
+
+
+def spread(first, last, most):
+    """At most so many numbers from first to last, the two among them."""
+    count = last - first + 1
+    if count <= most:
+        return list(range(first, last + 1))
+    return sorted({first + it * (count - 1) // (most - 1) for it in range(most)})
+
+
+def check_large(program, room):
+    schedule = counted(large())
+    requests = requests_of(program, schedule, room)
+    refused = set(spread(1, requests, 300))
+    for line, before, after in requests_by_line(program, schedule, room):
+        if not line.startswith("counts") and before < after:
+            refused |= set(spread(before + 1, after, 100 if line.endswith("commit") else 6))
+    for it in sorted(refused):
+        for later in (False, True):
+            check(program, schedule, room, it, later)
+    print(f"a thousand triples are added to a thousand that are read: {requests} requests, {len(refused)} of them refused")
+    return 2 * len(refused)
+
+
+def check_built(program, crates, room):
+    total = 0
+    for name, schedule, want in worked_rows(crates):
         assert run(program, schedule, room, 0) == (0, want, ""), name
-        requests = int(open(f"{room}/count").read())
+        requests = requests_of(program, counted(schedule), room)
         for refused in range(1, requests + 1):
             for later in (False, True):
-                check(program, schedule, room, refused, later)
+                check(program, counted(schedule), room, refused, later)
         total += 2 * requests
         print(f"{name}: {requests} requests, each refused in turn, alone and with all after it")
+    total += check_large(program, room)
     print(f"{total} runs, and no wrong answer")
 
 
+# `rt try` refuses the request of one number. So many lines stand before a schedule, each of which takes a request for the name in
+# it, that this is one of the schedule's own: so one build refuses many.
+BEFORE = "3 head <http://e/none>\n"
+
+
+def tried(folder, cases, refused):
+    """The status and the output of each case, as `rt try` has them."""
+    words = ["rt", "try", "--steps", "1", "--seconds", "300", "--cases", cases, "--fail-alloc", str(refused)]
+    ran = subprocess.run(words, cwd=folder, capture_output=True)
+    ends = re.findall(rb"^case=(\d+) run=ended status=(\d+)", ran.stdout + b"\n" + ran.stderr, re.M)
+    outs = dict(re.findall(rb"^== (\d+)\n(.*?)(?=^== \d+\n|\Z)", ran.stdout, re.M | re.S))
+    return {int(it): (int(status), outs[it].decode()) for it, status in ends}
+
+
+def check_some(folder, room, name, schedules, refused):
+    """Each of these schedules, where the request of this number is refused."""
+    cases = f"{room}/{name.replace(' ', '_')}"
+    os.mkdir(cases)
+    for number, schedule in enumerate(schedules):
+        with open(f"{cases}/{number}", "w", encoding="utf-8") as it:
+            it.write(schedule)
+    runs = tried(folder, cases, refused)
+    assert len(runs) == len(schedules), f"{len(runs)} of {len(schedules)} cases ended"
+    seen = {}
+    for number, (status, out) in sorted(runs.items()):
+        count, is_whole = refusals(schedules[number], out.split("\n")[:-1])
+        assert count <= 1 and (status == 3 and count == 0 or status == 0 and is_whole), (number, status, count, is_whole)
+        key = "cut short" if status else "an event refused" if count else "whole"
+        seen[key] = seen.get(key, 0) + 1
+    print(f"{name}: {', '.join(f'{key} {count}' for key, count in sorted(seen.items()))}")
+
+
+def check_tried(folder, crates, room):
+    rows = [schedule for _, schedule, _ in worked_rows(crates) if "store " not in schedule]
+    schedules = [BEFORE * (300 - it) + counted(row) for row in rows for it in spread(1, 120, 25)]
+    check_some(folder, room, "worked schedules", schedules, 300)
+    schedules = [BEFORE * (30_000 - it) + counted(large()) for it in spread(1, 20_000, 40)]
+    check_some(folder, room, "a thousand triples are added to a thousand that are read", schedules, 30_000)
+
+
 if __name__ == "__main__":
-    main(*sys.argv[1:])
+    (check_tried if os.path.isdir(sys.argv[1]) else check_built)(*sys.argv[1:])
