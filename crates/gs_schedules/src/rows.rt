@@ -3,7 +3,7 @@
 /// A worked schedule: its name, its lines and what they print.
 pub type Row = (&'static str, &'static str, &'static str);
 
-pub const ROWS: [Row; 19] = [
+pub const ROWS: [Row; 22] = [
     ("an empty input", "", ""),
     (
         "a missing graph and the default graph",
@@ -94,5 +94,22 @@ pub const ROWS: [Row; 19] = [
         "a graph is deleted under a read, and another gets a new name",
         "0 open post <http://e/g>\n0 stage <http://e/s> <http://e/p> \"1\" .\n0 commit\n1 pin <http://e/g>\n0 delete <http://e/g>\n1 piece 9\n1 pin <http://e/g>\n0 delete <http://e/g>\n0 open new\n0 commit\n",
         "opened 1\nstaged\n201\n200\n204\n<http://e/s> <http://e/p> \"1\" .\nend\n404\n404\nopened 2\n201 http://localhost/graphs/n2-0\n",
+    ),
+    (
+        "each of two reads keeps its own version",
+        "0 open put <http://e/g>\n0 stage <http://e/s> <http://e/p> \"1\" .\n0 commit\n1 pin <http://e/g>\n0 open put <http://e/g>\n0 stage <http://e/s> <http://e/p> \"2\" .\n0 commit\n2 pin <http://e/g>\n0 open put <http://e/g>\n0 stage <http://e/s> <http://e/p> \"3\" .\n0 commit\nreclaim 1000\n1 piece 9\n2 piece 9\nreclaim 1000\ncounts\n",
+        "opened 1\nstaged\n201\n200\nopened 2\nstaged\n204\n200\nopened 3\nstaged\n204\nreclaimed 0 more\n<http://e/s> <http://e/p> \"1\" .\nend\n<http://e/s> <http://e/p> \"2\" .\nend\nreclaimed 2 done\nnodes 1 triples 1\n",
+    ),
+    (
+        "what no read needs goes, also while an older version is read",
+        "0 open put <http://e/g>\n0 stage <http://e/s> <http://e/p> \"1\" .\n0 commit\n1 pin <http://e/g>\n0 open put <http://e/g>\n0 stage <http://e/s> <http://e/p> \"2\" .\n0 commit\n0 open put <http://e/g>\n0 stage <http://e/s> <http://e/p> \"3\" .\n0 commit\nreclaim 1000\n1 piece 9\ncounts\n",
+        "opened 1\nstaged\n201\n200\nopened 2\nstaged\n204\nopened 3\nstaged\n204\nreclaimed 1 more\n<http://e/s> <http://e/p> \"1\" .\nend\nnodes 2 triples 1\n",
+    ),
+    // The tree of the four has the second at its top, with the first on one side and the third, above the fourth, on the other. The
+    // fifth goes below the fourth: the three on its way are copied, and so is the upload's one node.
+    (
+        "what a post copied and replaced is given back",
+        "0 open put <http://e/g>\n0 stage <http://e/s> <http://e/p> \"1\" .\n0 stage <http://e/s> <http://e/p> \"2\" .\n0 stage <http://e/s> <http://e/p> \"3\" .\n0 stage <http://e/s> <http://e/p> \"4\" .\n0 commit\n0 open post <http://e/g>\n0 stage <http://e/s> <http://e/p> \"5\" .\n0 commit\ncounts\nreclaim 1000\ncounts\n",
+        "opened 1\nstaged\nstaged\nstaged\nstaged\n201\nopened 2\nstaged\n204\nnodes 9 triples 5\nreclaimed 4 done\nnodes 5 triples 5\n",
     ),
 ];
