@@ -5,7 +5,7 @@ ghost use Rattle.gs_ntread.specs.Clauses.{RunsOver};
 
 use crate::cursor::Cursor;
 use crate::parts::Within;
-use gs_ntterm::{Between, InComment, InIri, InLabel, InString, run_len};
+use gs_ntterm::{Between, InComment, InIri, InLabel, InString, run_len, short_run_len};
 use std::alloc::AllocError;
 
 impl Cursor {
@@ -34,7 +34,7 @@ impl Cursor {
         ensures bound { IfOk result (λ n. n ≤ length piece.now) }
         ensures run { IfOk result (λ n. RunsOver self.old self.new (take n piece.now)) }
     {
-        let n = run_len::<InLabel>(piece);
+        let n = short_run_len::<InLabel>(piece);
         self.label.push_all(&piece[..n])?;
         Ok(n)
     }
@@ -52,7 +52,7 @@ impl Cursor {
         ensures bound { result ≤ length piece.now }
         ensures run { RunsOver self.now self.now (take result piece.now) }
     {
-        run_len::<Between>(piece)
+        short_run_len::<Between>(piece)
     }
 
     /// Takes the bytes at the front of a piece that only go on with what is being read, and

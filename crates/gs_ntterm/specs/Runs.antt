@@ -26,3 +26,7 @@ runs_in_comment b = is_ascii b && not (is_line_end b)
 abbrev pub add_each : Held → List ℕ → Held
 add_each h [] = h
 add_each h (b ∷ bs) = add_each (add h (b ∷ [])) bs
+
+-- the bytes that are not of a class
+abbrev pub outside : (ℕ → Bool) → ℕ → Bool
+outside class b = not (class b)

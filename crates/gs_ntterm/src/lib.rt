@@ -16,6 +16,6 @@ pub use escapes::{char_of, with_digit};
 pub use labels::Label;
 pub use laws::digits_make_the_number;
 pub use names::Name;
-pub use runs::{Between, Class, InComment, InIri, InLabel, InString, run_len};
+pub use runs::{Between, Class, InComment, InIri, InLabel, InString, Wide, run_len, short_run_len};
 pub use terms::{iri, plain, tagged, typed};
 pub use tokens::Token;
