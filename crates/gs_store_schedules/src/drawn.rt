@@ -1,0 +1,170 @@
+//! What is asked, drawn.
+use crate::asks::{Ask, Edit, Kind, Place};
+use crate::molds::{Mold, Slot, VARIABLES};
+use crate::sets::TRIPLES;
+use crate::terms::{FIRST_PREDICATE, FIRST_SUBJECT, LITERAL};
+use gs_drawn_requests::Draws;
+use std::alloc::{AllocError, Global};
+
+/// A list of at most so many triples, with repeats.
+pub fn drawn_list(alloc: Global, draws: &mut Draws, most: usize) -> Result<Vec<usize>, AllocError> {
+    let mut list = Vec::new(alloc);
+    for _ in 0..draws.below(most.saturating_add(1)) {
+        list.push(draws.below(TRIPLES)).map_err(AllocError::from)?;
+    }
+    Ok(list)
+}
+
+/// The default graph, or one of two names.
+pub fn drawn_place(draws: &mut Draws) -> Place {
+    match draws.below(3) {
+        0 => Place::Default,
+        1 => Place::A,
+        _ => Place::B,
+    }
+}
+
+/// One of these, a name that the store made up, or would make up for some request.
+pub fn drawn_any_place(draws: &mut Draws, made: &[Place]) -> Place {
+    if draws.is_one_in(40) {
+        return Place::Made(draws.below(50) as u64, draws.below(2) as u64);
+    }
+    if draws.is_one_in(5)
+        && let Some(place) = made.get(draws.below(made.len()))
+    {
+        return *place;
+    }
+    drawn_place(draws)
+}
+
+/// A put, a post, or a new graph.
+pub fn drawn_kind(draws: &mut Draws, made: &[Place]) -> Kind {
+    let place = drawn_any_place(draws, made);
+    match draws.below(8) {
+        0..3 => Kind::Put(place),
+        3..7 => Kind::Post(place),
+        _ => Kind::New,
+    }
+}
+
+/// How many lines a piece has.
+pub fn drawn_count(draws: &mut Draws) -> u32 {
+    match draws.below(8) {
+        0..4 => 1,
+        4 | 5 => 2,
+        6 => 3,
+        _ => 99,
+    }
+}
+
+/// One of the first terms from this one on, so many, or a variable.
+fn drawn_slot(draws: &mut Draws, first: u8, count: usize) -> Slot {
+    if draws.is_one_in(2) {
+        return Slot::Variable(draws.below(VARIABLES));
+    }
+    let number = u8::try_from(draws.below(count)).unwrap_or_default();
+    Slot::Term(first.saturating_add(number))
+}
+
+fn drawn_mold(draws: &mut Draws) -> Mold {
+    let object = if draws.is_one_in(2) {
+        drawn_slot(draws, LITERAL, 1)
+    } else {
+        drawn_slot(draws, FIRST_SUBJECT, 1)
+    };
+    Mold {
+        slots: [
+            drawn_slot(draws, FIRST_SUBJECT, 4),
+            drawn_slot(draws, FIRST_PREDICATE, 2),
+            object,
+        ],
+    }
+}
+
+fn drawn_edit(alloc: Global, draws: &mut Draws) -> Result<Edit, AllocError> {
+    match draws.below(6) {
+        0..3 => Ok(Edit::Insert(drawn_list(alloc, draws, 5)?)),
+        3 | 4 => Ok(Edit::Remove(drawn_list(alloc, draws, 6)?)),
+        _ => {
+            let first = drawn_mold(draws);
+            let second = if draws.is_one_in(2) {
+                Some(drawn_mold(draws))
+            } else {
+                None
+            };
+            Ok(Edit::Where(first, second))
+        }
+    }
+}
+
+/// Operations, at most four.
+pub fn drawn_edits(alloc: Global, draws: &mut Draws) -> Result<Vec<Edit>, AllocError> {
+    let mut edits = Vec::new(alloc);
+    for _ in 0..draws.below(5) {
+        edits
+            .push(drawn_edit(alloc, draws)?)
+            .map_err(AllocError::from)?;
+    }
+    Ok(edits)
+}
+
+/// Anything, whether it makes sense or not.
+pub fn drawn_any(alloc: Global, draws: &mut Draws, made: &[Place]) -> Result<Ask, AllocError> {
+    let place = drawn_any_place(draws, made);
+    match draws.below(10) {
+        0 => Ok(Ask::Open(drawn_kind(draws, made))),
+        1 => Ok(Ask::OpenPatch(place)),
+        2 => Ok(Ask::Delete(place)),
+        3 => Ok(Ask::Head(place)),
+        4 => Ok(Ask::Pin(place)),
+        _ => drawn_inner(alloc, draws),
+    }
+}
+
+/// Anything that an idle seat refuses.
+pub fn drawn_inner(alloc: Global, draws: &mut Draws) -> Result<Ask, AllocError> {
+    match draws.below(5) {
+        0 => Ok(Ask::Stage(drawn_list(alloc, draws, 4)?)),
+        1 => Ok(Ask::Commit),
+        2 => Ok(Ask::Patch(drawn_edits(alloc, draws)?)),
+        3 => Ok(Ask::Piece(u32::from(draws.is_one_in(2)))),
+        _ => Ok(Ask::Cancel),
+    }
+}
+
+/// What a seat with an upload is asked.
+pub fn drawn_for_upload(alloc: Global, draws: &mut Draws) -> Result<Ask, AllocError> {
+    match draws.below(10) {
+        0..6 => Ok(Ask::Stage(drawn_list(alloc, draws, 8)?)),
+        6..9 => Ok(Ask::Commit),
+        _ => Ok(Ask::Cancel),
+    }
+}
+
+/// What a seat with a patch is asked.
+pub fn drawn_for_patch(alloc: Global, draws: &mut Draws) -> Result<Ask, AllocError> {
+    if draws.is_one_in(10) {
+        return Ok(Ask::Cancel);
+    }
+    Ok(Ask::Patch(drawn_edits(alloc, draws)?))
+}
+
+/// What a seat with a read is asked.
+pub fn drawn_for_read(draws: &mut Draws) -> Ask {
+    if draws.is_one_in(10) {
+        return Ask::Cancel;
+    }
+    Ask::Piece(drawn_count(draws))
+}
+
+/// What an idle seat is asked.
+pub fn drawn_for_idle(draws: &mut Draws, made: &[Place]) -> Ask {
+    let place = drawn_any_place(draws, made);
+    match draws.below(100) {
+        0..40 => Ask::Open(drawn_kind(draws, made)),
+        40..62 => Ask::OpenPatch(place),
+        62..70 => Ask::Delete(place),
+        70..74 => Ask::Head(place),
+        _ => Ask::Pin(place),
+    }
+}

@@ -1,0 +1,111 @@
+//! Events of what is asked.
+use crate::asks::{Ask, Edit, Kind, Place};
+use crate::molds::{Mold, Slot};
+use crate::terms::{term, triple};
+use gs_core::{Action, Event, Op, Part, Pattern, Refusal, UploadKind, VariableName};
+use gs_term::{GraphName, Target, Triple};
+use std::alloc::{AllocError, Global};
+
+/// Names that the store makes up begin with this.
+pub const BASE: &str = "http://localhost";
+
+/// The name that the store makes up for a request, where it has those of all lesser numbers.
+pub fn made_name(alloc: Global, request: u64, number: u64) -> Result<String, AllocError> {
+    format!(in alloc; "{BASE}/graphs/n{request}-{number}")
+}
+
+fn named(alloc: Global, text: &str) -> Result<Target, Refusal> {
+    Ok(Target::Named(GraphName::new(alloc, text)?))
+}
+
+/// The target of a graph.
+pub fn target(alloc: Global, place: Place) -> Result<Target, Refusal> {
+    match place {
+        Place::Default => Ok(Target::Default),
+        Place::A => named(alloc, "http://e/a"),
+        Place::B => named(alloc, "http://e/b"),
+        Place::Made(request, number) => {
+            named(alloc, made_name(alloc, request, number)?.as_str())
+        }
+    }
+}
+
+/// The triples of these numbers.
+pub fn triples(alloc: Global, numbers: &[usize]) -> Result<Vec<Triple>, Refusal> {
+    let mut list = Vec::new(alloc);
+    for number in numbers {
+        list.push(triple(alloc, *number)?)?;
+    }
+    Ok(list)
+}
+
+fn part(alloc: Global, slot: Slot) -> Result<Part, Refusal> {
+    match slot {
+        Slot::Term(number) => Ok(Part::Term(term(alloc, number)?)),
+        Slot::Variable(0) => Ok(Part::Variable(VariableName::new(alloc, "x")?)),
+        Slot::Variable(1) => Ok(Part::Variable(VariableName::new(alloc, "y")?)),
+        Slot::Variable(_) => Ok(Part::Variable(VariableName::new(alloc, "z")?)),
+    }
+}
+
+fn pattern(alloc: Global, mold: &Mold) -> Result<Pattern, Refusal> {
+    let [subject, predicate, object] = mold.slots;
+    Ok(Pattern {
+        subject: part(alloc, subject)?,
+        predicate: part(alloc, predicate)?,
+        object: part(alloc, object)?,
+    })
+}
+
+fn patterns(alloc: Global, first: &Mold, second: &Option<Mold>) -> Result<Vec<Pattern>, Refusal> {
+    let mut list = Vec::new(alloc);
+    list.push(pattern(alloc, first)?)?;
+    if let Some(mold) = second {
+        list.push(pattern(alloc, mold)?)?;
+    }
+    Ok(list)
+}
+
+fn operation(alloc: Global, edit: &Edit) -> Result<Op, Refusal> {
+    match edit {
+        Edit::Insert(numbers) => Ok(Op::Insert(triples(alloc, numbers.as_slice())?)),
+        Edit::Remove(numbers) => Ok(Op::DeleteData(triples(alloc, numbers.as_slice())?)),
+        Edit::Where(first, second) => Ok(Op::DeleteWhere(patterns(alloc, first, second)?)),
+    }
+}
+
+fn operations(alloc: Global, edits: &[Edit]) -> Result<Vec<Op>, Refusal> {
+    let mut list = Vec::new(alloc);
+    for edit in edits {
+        list.push(operation(alloc, edit)?)?;
+    }
+    Ok(list)
+}
+
+fn upload(alloc: Global, kind: Kind) -> Result<UploadKind, Refusal> {
+    match kind {
+        Kind::Put(place) => Ok(UploadKind::Put(target(alloc, place)?)),
+        Kind::Post(place) => Ok(UploadKind::Post(target(alloc, place)?)),
+        Kind::New => Ok(UploadKind::New),
+    }
+}
+
+fn action(alloc: Global, ask: &Ask) -> Result<Action, Refusal> {
+    match ask {
+        Ask::Open(kind) => Ok(Action::Open(upload(alloc, *kind)?)),
+        Ask::OpenPatch(place) => Ok(Action::OpenPatch(target(alloc, *place)?)),
+        Ask::Stage(numbers) => Ok(Action::Stage(triples(alloc, numbers.as_slice())?)),
+        Ask::Commit => Ok(Action::Commit),
+        Ask::Patch(edits) => Ok(Action::CommitPatch(operations(alloc, edits.as_slice())?)),
+        Ask::Delete(place) => Ok(Action::Delete(target(alloc, *place)?)),
+        Ask::Head(place) => Ok(Action::Head(target(alloc, *place)?)),
+        Ask::Pin(place) => Ok(Action::Pin(target(alloc, *place)?)),
+        Ask::Piece(count) => Ok(Action::Piece(*count)),
+        Ask::Cancel => Ok(Action::Cancel),
+    }
+}
+
+/// The event of a seat that is asked this.
+pub fn event(alloc: Global, seat: u16, ask: &Ask) -> Result<Event, Refusal> {
+    Ok(Event::Seat(seat, action(alloc, ask)?))
+}

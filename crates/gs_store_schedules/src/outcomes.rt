@@ -1,0 +1,179 @@
+//! What the model says of an event: the answer in words, and how many more nodes are in use then.
+use crate::events::made_name;
+use crate::sets::{Set, TRIPLES};
+use crate::terms::push_line;
+use gs_core::{Answer, Refusal};
+use gs_term::GraphName;
+use std::alloc::{AllocError, Global};
+
+/// The most nodes that a triple takes where it comes to a graph or goes from it.
+pub const MOST_FOR_TRIPLE: u64 = 260;
+
+/// An answer, as the model has it.
+#[derive(Clone, Copy, Debug, Drop)]
+pub enum Said {
+    Opened(u64),
+    Staged,
+    Status(u16),
+    /// A graph was made under the name that is made up of this request and this number.
+    Made(u64, u64),
+    Pinned(u16),
+    /// The lines of these triples, and whether none are left after them.
+    Lines(Set, bool),
+    Cancelled,
+    Refused(Refusal),
+}
+
+/// How many nodes more are in use.
+#[derive(Clone, Copy, Debug, Drop)]
+pub enum Growth {
+    Exactly(u64),
+    AtMost(u64),
+}
+
+/// What is said of an event.
+#[derive(Clone, Copy, Debug, Drop)]
+pub struct Outcome {
+    pub said: Said,
+    pub growth: Growth,
+}
+
+impl Outcome {
+    /// An answer after which as many nodes are in use as before.
+    pub fn of(said: Said) -> Outcome {
+        Outcome {
+            said,
+            growth: Growth::Exactly(0),
+        }
+    }
+
+    /// The same of a refusal.
+    pub fn refused(refusal: Refusal) -> Outcome {
+        Outcome::of(Said::Refused(refusal))
+    }
+
+    /// An answer after a change of so many triples.
+    pub fn after_change(said: Said, triples: u64) -> Outcome {
+        Outcome {
+            said,
+            growth: Growth::AtMost(triples.saturating_mul(MOST_FOR_TRIPLE)),
+        }
+    }
+}
+
+fn lines_of(alloc: Global, triples: Set) -> Result<Vec<u8>, AllocError> {
+    let mut lines = Vec::new(alloc);
+    for number in 0..TRIPLES {
+        if triples.has(number) {
+            push_line(&mut lines, number)?;
+        }
+    }
+    Ok(lines)
+}
+
+fn lines_words(alloc: Global, lines: &[u8], is_end: bool) -> Result<String, AllocError> {
+    let text = str::from_utf8(lines).unwrap_or("no text");
+    let last = if is_end { "end" } else { "more" };
+    format!(in alloc; "lines {text}{last}")
+}
+
+/// What the model says, in words.
+pub fn said_words(alloc: Global, said: &Said) -> Result<String, AllocError> {
+    match said {
+        Said::Opened(number) => format!(in alloc; "opened {number}"),
+        Said::Staged => format!(in alloc; "staged"),
+        Said::Status(status) => format!(in alloc; "status {status}"),
+        Said::Made(request, number) => {
+            let name = made_name(alloc, *request, *number)?;
+            format!(in alloc; "status 201 {name}")
+        }
+        Said::Pinned(status) => format!(in alloc; "pinned {status}"),
+        Said::Lines(triples, is_end) => {
+            lines_words(alloc, lines_of(alloc, *triples)?.as_slice(), *is_end)
+        }
+        Said::Cancelled => format!(in alloc; "cancelled"),
+        Said::Refused(refusal) => {
+            let name = refusal.name();
+            format!(in alloc; "refused {name}")
+        }
+    }
+}
+
+/// An answer in the same words.
+pub fn answer_words(alloc: Global, answer: &Answer) -> Result<String, AllocError> {
+    match answer {
+        Answer::Opened(number) => format!(in alloc; "opened {number}"),
+        Answer::Staged => format!(in alloc; "staged"),
+        Answer::Status(status, None) => format!(in alloc; "status {status}"),
+        Answer::Status(status, Some(name)) => {
+            let text = str::from_utf8(name.as_bytes()).unwrap_or("no text");
+            format!(in alloc; "status {status} {text}")
+        }
+        Answer::Pinned(status) => format!(in alloc; "pinned {status}"),
+        Answer::Lines(lines, is_end) => lines_words(alloc, lines.as_slice(), *is_end),
+        Answer::Cancelled => format!(in alloc; "cancelled"),
+        Answer::Reclaimed(freed, left) => {
+            let rest = if *left { "more" } else { "done" };
+            format!(in alloc; "reclaimed {freed} {rest}")
+        }
+        Answer::Refused(refusal) => {
+            let name = refusal.name();
+            format!(in alloc; "refused {name}")
+        }
+    }
+}
+
+fn is_same_name(a: &Option<GraphName>, b: &Option<GraphName>) -> bool {
+    match (a, b) {
+        (None, None) => true,
+        (Some(a), Some(b)) => a.as_bytes() == b.as_bytes(),
+        _ => false,
+    }
+}
+
+/// Whether two answers are the same.
+pub fn is_same(a: &Answer, b: &Answer) -> bool {
+    match (a, b) {
+        (Answer::Opened(a), Answer::Opened(b)) => a == b,
+        (Answer::Staged, Answer::Staged) => true,
+        (Answer::Status(a, name), Answer::Status(b, other)) => a == b && is_same_name(name, other),
+        (Answer::Pinned(a), Answer::Pinned(b)) => a == b,
+        (Answer::Lines(lines, is_end), Answer::Lines(others, ends)) => {
+            is_end == ends && lines.as_slice() == others.as_slice()
+        }
+        (Answer::Cancelled, Answer::Cancelled) => true,
+        (Answer::Reclaimed(a, left), Answer::Reclaimed(b, other)) => a == b && left == other,
+        (Answer::Refused(a), Answer::Refused(b)) => a == b,
+        _ => false,
+    }
+}
+
+fn is_named(
+    alloc: Global,
+    name: &GraphName,
+    request: u64,
+    number: u64,
+) -> Result<bool, AllocError> {
+    let text = made_name(alloc, request, number)?;
+    Ok(name.as_bytes() == text.as_bytes())
+}
+
+/// Whether an answer is what the model says.
+pub fn is_said(alloc: Global, answer: &Answer, said: &Said) -> Result<bool, AllocError> {
+    match (answer, said) {
+        (Answer::Opened(a), Said::Opened(b)) => Ok(a == b),
+        (Answer::Staged, Said::Staged) => Ok(true),
+        (Answer::Status(a, None), Said::Status(b)) => Ok(a == b),
+        (Answer::Status(201, Some(name)), Said::Made(request, number)) => {
+            is_named(alloc, name, *request, *number)
+        }
+        (Answer::Pinned(a), Said::Pinned(b)) => Ok(a == b),
+        (Answer::Lines(lines, is_end), Said::Lines(triples, ends)) => {
+            let wanted = lines_of(alloc, *triples)?;
+            Ok(is_end == ends && lines.as_slice() == wanted.as_slice())
+        }
+        (Answer::Cancelled, Said::Cancelled) => Ok(true),
+        (Answer::Refused(a), Said::Refused(b)) => Ok(a == b),
+        _ => Ok(false),
+    }
+}

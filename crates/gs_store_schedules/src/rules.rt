@@ -1,0 +1,34 @@
+//! What the model is told that is not so.
+
+/// What the model is told that is not so, to show that it tells.
+#[derive(Clone, Copy, Debug, Drop, PartialEq)]
+pub enum Lie {
+    Nothing,
+    /// Of the pinned versions the newest alone has nodes.
+    NewestPinAlone,
+    /// The tree that a PUT replaces is never wasted.
+    PutLosesTree,
+    /// A read has the lines of its graph as it is now.
+    ReadsMoveOn,
+    /// A triple that comes again in a list takes a node of its own.
+    RepeatsTakeNodes,
+    /// A version still has its nodes at the commit that ended it.
+    EndsLate,
+    /// A version does not have its nodes at its own commit.
+    BeginsLate,
+}
+
+impl Lie {
+    /// What the model is told, in words.
+    pub fn text(self) -> &'static str {
+        match self {
+            Lie::Nothing => "nothing",
+            Lie::NewestPinAlone => "the newest pin alone counts",
+            Lie::PutLosesTree => "what a PUT replaces is lost",
+            Lie::ReadsMoveOn => "a read follows the newest graph",
+            Lie::RepeatsTakeNodes => "a repeat takes a node",
+            Lie::EndsLate => "a version ends after its last commit",
+            Lie::BeginsLate => "a version begins after its first commit",
+        }
+    }
+}

@@ -1,0 +1,117 @@
+//! What was done and seen over all schedules.
+use crate::asks::{Ask, SORT_NAMES, SORTS, sort_of};
+use crate::outcomes::Said;
+use std::io::{self, Write};
+
+fn add(count: &mut u64, more: u64) {
+    *count = count.saturating_add(more);
+}
+
+/// What was done and seen.
+#[derive(Drop)]
+pub struct Totals {
+    schedules: u64,
+    /// How many of each sort were answered, and were refused.
+    answered: [u64; SORTS],
+    refused: [u64; SORTS],
+    /// Writes and looks that ended in 507, and in 404.
+    full: u64,
+    missing: u64,
+    /// Pieces of a read whose graph was another by then.
+    stale_pieces: u64,
+    reclaims: u64,
+    freed: u64,
+    /// Reclaims that a pin kept from freeing waste.
+    held: u64,
+    /// The same, in exact schedules.
+    held_exact: u64,
+    /// Reclaims in exact schedules that freed nodes.
+    freed_exact: u64,
+}
+
+impl Totals {
+    /// Nothing yet.
+    pub fn new() -> Totals {
+        Totals {
+            schedules: 0,
+            answered: [0; SORTS],
+            refused: [0; SORTS],
+            full: 0,
+            missing: 0,
+            stale_pieces: 0,
+            reclaims: 0,
+            freed: 0,
+            held: 0,
+            held_exact: 0,
+            freed_exact: 0,
+        }
+    }
+
+    /// A schedule begins.
+    pub fn begin(&mut self) {
+        add(&mut self.schedules, 1);
+    }
+
+    /// This was asked, and answered so.
+    pub fn note(&mut self, ask: &Ask, said: &Said, is_stale: bool) {
+        let counts = match said {
+            Said::Refused(_) => &mut self.refused,
+            _ => &mut self.answered,
+        };
+        if let Some(count) = counts.get_mut(sort_of(ask)) {
+            add(count, 1);
+        }
+        match said {
+            Said::Status(507) => add(&mut self.full, 1),
+            Said::Status(404) => add(&mut self.missing, 1),
+            _ => {}
+        }
+        if is_stale && matches!(said, Said::Lines(_, _)) {
+            add(&mut self.stale_pieces, 1);
+        }
+    }
+
+    /// A Reclaim freed so many nodes, where it might free so many but for pins.
+    pub fn note_reclaim(&mut self, freed: u64, free: u64, is_exact: bool) {
+        add(&mut self.reclaims, 1);
+        add(&mut self.freed, freed);
+        let is_held = u64::from(freed < free);
+        add(&mut self.held, is_held);
+        if is_exact {
+            add(&mut self.held_exact, is_held);
+            add(&mut self.freed_exact, u64::from(freed > 0));
+        }
+    }
+
+    fn print_counts<W: Write>(counts: &[u64; SORTS], out: &mut W) -> io::Result<()> {
+        for (name, count) in SORT_NAMES.iter().zip(counts.iter()) {
+            write!(out, " {name} {count}")?;
+        }
+        writeln!(out)
+    }
+
+    /// Prints the totals.
+    pub fn print<W: Write>(&self, out: &mut W) -> io::Result<()> {
+        writeln!(out, "{} schedules", self.schedules)?;
+        write!(out, "answered:")?;
+        Totals::print_counts(&self.answered, out)?;
+        write!(out, "refused:")?;
+        Totals::print_counts(&self.refused, out)?;
+        writeln!(out, "of these 507 {}, 404 {}", self.full, self.missing)?;
+        writeln!(
+            out,
+            "pieces of a read whose graph was another by then: {}",
+            self.stale_pieces,
+        )?;
+        writeln!(
+            out,
+            "{} reclaims freed {} nodes; pins kept {} of them from more",
+            self.reclaims, self.freed, self.held,
+        )?;
+        writeln!(
+            out,
+            "where it is known what versions have: {} freed some, pins kept {} from more",
+            self.freed_exact, self.held_exact,
+        )
+    }
+}
