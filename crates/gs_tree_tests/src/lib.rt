@@ -15,4 +15,4 @@ mod runs;
 #[cfg(test)]
 mod steps;
 
-pub use number_sets::{ByObject, NumberSet};
+pub use number_sets::{ByObject, NumberSet, key};

@@ -1,0 +1,8 @@
+//! Tests of gs_changes: what a commit makes of a small set, kept or taken back, beside plain lists.
+#![tactic(auto)]
+
+mod commits;
+#[cfg(test)]
+mod rows;
+
+pub use commits::{Trial, is_kept, is_left_alone};
