@@ -477,9 +477,12 @@ BEFORE = "3 head <http://e/none>\n"
 
 def tried(folder, cases, refused):
     """The status and the output of each case, as `rt try` has them."""
-    words = ["rt", "try", "--steps", "1", "--seconds", "300", "--cases", cases, "--fail-alloc", str(refused)]
+    words = ["rt", "try", "--steps", "1", "--seconds", "3000", "--cases", cases, "--fail-alloc", str(refused)]
     ran = subprocess.run(words, cwd=folder, capture_output=True)
-    ends = re.findall(rb"^case=(\d+) run=ended status=(\d+)", ran.stdout + b"\n" + ran.stderr, re.M)
+    both = ran.stdout + b"\n" + ran.stderr
+    others = [it for it in re.findall(rb"^case=.*", both, re.M) if b"run=ended" not in it]
+    assert not others, f"{len(others)} cases did not end, such as {others[0]}"
+    ends = re.findall(rb"^case=(\d+) run=ended status=(\d+)", both, re.M)
     outs = dict(re.findall(rb"^== (\d+)\n(.*?)(?=^== \d+\n|\Z)", ran.stdout, re.M | re.S))
     return {int(it): (int(status), outs[it].decode()) for it, status in ends}
 
