@@ -477,7 +477,7 @@ BEFORE = "3 head <http://e/none>\n"
 
 def tried(folder, cases, refused):
     """The status and the output of each case, as `rt try` has them."""
-    words = ["rt", "try", "--steps", "1", "--seconds", "3000", "--cases", cases, "--fail-alloc", str(refused)]
+    words = ["rt", "try", "--steps", "1", "--seconds", "1500", "--cases", cases, "--fail-alloc", str(refused)]
     ran = subprocess.run(words, cwd=folder, capture_output=True)
     both = ran.stdout + b"\n" + ran.stderr
     others = [it for it in re.findall(rb"^case=.*", both, re.M) if b"run=ended" not in it]
