@@ -189,11 +189,52 @@ def check_rdflib(server):
     print("rdflib: a graph with a list and blank nodes, as Turtle and as N-Triples")
 
 
+def talk(server, text):
+    """What is said to this, to the end of the connection."""
+    with socket.create_connection(("127.0.0.1", server.port), timeout=30) as connection:
+        connection.sendall(text.encode())
+        return read_all(connection).decode()
+
+
+def check_base_and_pieces(server):
+    """Names are made up under another base, and a chunk has two lines."""
+    lines = [f'<http://e/s> <http://e/p> "{number}" .\n' for number in range(3)]
+    body = "".join(lines)
+    fields = f"Host: a\r\nConnection: close\r\nContent-Type: {N_TRIPLES}\r\nContent-Length: {len(body)}"
+    made = "HTTP/1.1 201 Created\r\nContent-Length: 0\r\nLocation: http://a.example:80/graphs/n1-0\r\nConnection: close\r\n\r\n"
+    check("--base", talk(server, f"POST /store HTTP/1.1\r\n{fields}\r\n\r\n{body}"), made)
+    head = f"HTTP/1.1 200 OK\r\nContent-Type: {N_TRIPLES}\r\nTransfer-Encoding: chunked\r\nConnection: close\r\n\r\n"
+    pieces = "".join(f"{len(piece):x}\r\n{piece}\r\n" for piece in (lines[0] + lines[1], lines[2], ""))
+    check("--piece", talk(server, "GET /graphs/n1-0 HTTP/1.1\r\nHost: a\r\nConnection: close\r\n\r\n"), head + pieces)
+    print("options: names under another base, and pieces of two lines")
+
+
+def check_one_worker(server):
+    """While one client is served a second waits; it is answered once the first has left, in the middle of an upload."""
+    head = f"PUT /graphs/half HTTP/1.1\r\nHost: a\r\nContent-Type: {N_TRIPLES}\r\nContent-Length: 99\r\n\r\n{X}"
+    first = socket.create_connection(("127.0.0.1", server.port), timeout=30)
+    first.sendall(head.encode())
+    with socket.create_connection(("127.0.0.1", server.port), timeout=1) as second:
+        second.sendall(b"GET /graphs/half HTTP/1.1\r\nHost: a\r\nConnection: close\r\n\r\n")
+        try:
+            check("a second client of one worker", second.recv(65536), "nothing")
+        except TimeoutError:
+            pass
+        first.close()
+        second.settimeout(20)
+        check("a second client of one worker", read_all(second), b"HTTP/1.1 404 Not Found\r\nContent-Length: 0\r\nConnection: close\r\n\r\n")
+    print("one worker: a second client waits until the first leaves in the middle of an upload")
+
+
 def check_conversations(program):
     with Server(program) as server:
         for part in (check_cases, check_continue, check_pipeline, check_keep_alive, check_requests, check_rdflib):
             part(server)
         check("the server", server.is_running(), True)
+    with Server(program, "--base", "http://a.example:80", "--piece", "2", "--workers", "1") as server:
+        for part in (check_base_and_pieces, check_one_worker):
+            part(server)
+        check("the server of one worker", server.is_running(), True)
 
 
 def main(program, seconds=None):
