@@ -1,5 +1,5 @@
 //! The call after the 65,536th turns the page, and receipts number the entries of the new one.
-ghost use Rattle.std.specs.Prelude.{◌≡◌, ◌<◌, [], codes};
+ghost use Rattle.std.specs.Prelude.{◌≡◌, ◌<◌, [], codes, length, IfSome};
 ghost use Rattle.crossbeam_utils.specs.Seq.{cell_view};
 ghost use Rattle.gs_core.specs.Settings.{start_at};
 ghost use Rattle.gs_pass.specs.Stamps.{keeper as keeper_of};
@@ -11,6 +11,23 @@ use std::marker::Brand;
 use std::sync::Wait;
 use std::sync::ledger::Blank;
 use std::test::Fail;
+
+/// Both passes, in a list.
+fn both<C: Side, T: Side, B: Room>(
+    alloc: Global,
+    first: Pass<C, T, B>,
+    second: Pass<C, T, B>,
+) -> Option<Vec<Pass<C, T, B>>>
+    ensures { IfSome result (λ passes. length passes.items ≡ 2) }
+{
+    let mut back = Vec::with_capacity(alloc, 2).ok()?;
+    back.push(first).ok()?;
+    back.push(second).ok()?;
+    if back.len() != 2 {
+        return None;
+    }
+    Some(back)
+}
 
 /// One pass asks as often as a page has entries, and then another twice.
 fn run<C: Side + Send + Sync, T: Side + Send + Sync, B: Room + Send + Sync, R: Wait>(
@@ -28,7 +45,7 @@ fn run<C: Side + Send + Sync, T: Side + Send + Sync, B: Room + Send + Sync, R: W
     requires calls { (calls.name ≡ C.name) × (calls.parts ≡ C.parts) × (C.all ≡ C.parts) × (2 < C.all) }
     requires triples { (triples.name ≡ T.name) × (triples.parts ≡ T.parts) × (T.all ≡ T.parts) × (2 < T.all) }
 {
-    let mut shared: Shared<C, T, B> = Shared::new(
+    let Ok(mut shared) = Shared::<C, T, B>::new(
         alloc,
         2,
         "http://localhost",
@@ -37,19 +54,17 @@ fn run<C: Side + Send + Sync, T: Side + Send + Sync, B: Room + Send + Sync, R: W
         keeper,
         calls,
         triples,
-    )
-    .ok()?;
-    let mut passes = shared.passes(2).ok()?;
+    ) else {
+        return None;
+    };
+    let Ok(mut passes) = shared.passes(2) else {
+        return None;
+    };
     let second: Pass<C, T, B> = passes.pop()?;
     let first: Pass<C, T, B> = passes.pop()?;
     let first = ask(rt, shared.hall(), first, 65_536);
     let second = ask(rt, shared.hall(), second, 2);
-    let mut back = Vec::with_capacity(alloc, 2).ok()?;
-    back.push(first).ok()?;
-    back.push(second).ok()?;
-    if back.len() != 2 {
-        return None;
-    }
+    let back = both(alloc, first, second)?;
     Some(shared.end(rt, back))
 }
 
