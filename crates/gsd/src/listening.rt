@@ -7,6 +7,7 @@ use gs_workers::{OpenGate, serve_all};
 use std::alloc::Global;
 use std::io::{self, Print, Write};
 use std::net::{Net, SocketAddr, TcpListener, TcpStream};
+use std::random::RandomSource;
 use std::sync::Wait;
 use std::thread::Threads;
 use std::time::Clock;
@@ -19,7 +20,13 @@ fn announce<W: Write>(out: &mut W, bound: SocketAddr) -> io::Result<()> {
 
 /// Binds the address, says so, and serves the connections that come, 2^64 - 1 at most.
 pub fn listen<
-    R: Net<Listener = TcpListener, Stream = TcpStream> + Threads + Wait + Clock + Print + Sync,
+    R: Net<Listener = TcpListener, Stream = TcpStream>
+        + Threads
+        + Wait
+        + Clock
+        + RandomSource
+        + Print
+        + Sync,
 >(rt: &R, alloc: Global, address: &str, base: &str, workers: u16, piece: u32) -> Result<(), Stop>
     requires base { is_base base.now ≡ true }
     requires workers { (1 ≤ workers) × (workers ≤ 256) }
