@@ -9,7 +9,7 @@ ghost use Rattle.gs_workers.specs.Records.{IsAsBefore};
 
 use crate::accepting::accept_all;
 use crate::gates::Gate;
-use crate::limits::{PATIENCE_SECONDS, WAITING_NOTES, WAITING_STREAMS};
+use crate::limits::{WAITING_NOTES, WAITING_STREAMS, patience};
 use crate::notes::Note;
 use crate::plans::Plan;
 use crate::promises::{AsBefore, OfSeat};
@@ -27,7 +27,7 @@ use std::sync::Wait;
 use std::sync::ledger::Blank;
 use std::thread;
 use std::thread::{PromisedHandle, Threads};
-use std::time::{Clock, Duration};
+use std::time::Clock;
 
 /// Joins the workers, in the order in which they were started. There is room for their passes.
 fn join_all<C: Side, T: Side, B: Room, R: Threads>(
@@ -250,7 +250,7 @@ pub fn serve_all<G: Gate + Sync, R: Threads + Wait + Clock + RandomSource + Sync
         alloc,
         base,
         piece,
-        patience: Duration::from_secs(PATIENCE_SECONDS),
+        patience: patience(),
     };
     serve_within(rt, plan, listener, workers, limit, gate)
 }

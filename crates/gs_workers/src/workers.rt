@@ -17,7 +17,7 @@ use std::sync::ledger::Ledger;
 use std::time::Duration;
 
 /// Gives a connection its limits. Small replies go out at once.
-fn limit_waits(stream: &TcpStream, patience: Duration) -> io::Result<()> {
+pub(crate) fn limit_waits(stream: &TcpStream, patience: Duration) -> io::Result<()> {
     stream.set_nodelay(true)?;
     stream.set_read_timeout(Some(patience))?;
     stream.set_write_timeout(Some(patience))
