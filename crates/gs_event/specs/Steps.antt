@@ -104,7 +104,7 @@ abbrev pub WastesCancel : Option SeatView → List Lifetime → List Lifetime �
 WastesCancel (Some (Writing k r g)) old new = Joins IsUnreached (size_of g) old new
 WastesCancel p old new = new ≡ old
 
--- as many nodes as may be are taken out of the waste, none that a pinned version has, and nothing else;
+-- as many nodes as may be are taken out of the waste, none that a pinned version needs, and nothing else;
 -- its order means nothing
 pub record Frees (pins : List (Option ℕ)) (n freed : ℕ) (left : Bool) (old new : List Lifetime) : Type 0 where
   pub exact : freed ≡ min n (unneeded pins old)

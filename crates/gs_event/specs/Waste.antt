@@ -6,8 +6,8 @@ use Rattle.gs_event.specs.Datasets.{triples_in}
 use Rattle.gs_event.specs.Phases.{Phase, Idle, Writing, Patching, Reading}
 use Rattle.gs_event.specs.Views.{View, SeatView}
 
--- The lifetime of a node that no current graph and no open upload has: the versions v with birth ≤ v < death. No other
--- version has the node. Its death is the number of the commit that took it out, 0 where no version reached it.
+-- The lifetime of a node that no current graph and no open upload has: the versions v with birth ≤ v < death need the
+-- node, and no other does. Its death is the number of the commit that took it out, 0 where no version reached it.
 pub record Lifetime : Type 0 where
   pub birth : ℕ
   pub death : ℕ
@@ -33,15 +33,15 @@ staged_in seats = sum_by (λ p. staged_at p) seats
 abbrev pub nodes_in : Shown → ℕ
 nodes_in s = triples_in s.view.totals.dataset + staged_in s.view.seats + length s.waste
 
--- whether the pinned version, if there is one, is of the lifetime
+-- whether the pinned version, if there is one, needs a node of this lifetime
 abbrev pub lives_at : Lifetime → Option ℕ → Bool
 lives_at l None = false
 lives_at l (Some v) = nat_le l.birth v && nat_lt v l.death
 
--- whether a pinned version has the node
+-- whether a pinned version needs the node
 abbrev pub is_needed : List (Option ℕ) → Lifetime → Bool
 is_needed pins l = list_any (λ p. lives_at l p) pins
 
--- how many of these nodes no pinned version has
+-- how many of these nodes no pinned version needs
 abbrev pub unneeded : List (Option ℕ) → List Lifetime → ℕ
 unneeded pins waste = sum_by (λ l. if is_needed pins l then 0 else 1) waste

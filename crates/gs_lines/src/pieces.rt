@@ -19,6 +19,10 @@ pub struct Piece {
     pub is_end: bool,
 }
 
+// So many keys are given room before they are looked for. Where more are asked for, they are counted
+// first, which is a walk of its own.
+const USUAL_KEYS: usize = 4_097;
+
 /// The keys of a root above `from`, or all where it is `None`, and `most` of them at most.
 fn find_keys(
     alloc: Global,
@@ -33,14 +37,15 @@ fn find_keys(
         ≡ take most (keys_left dict.now.terms pool.now root from)) }
 {
     let order = ByText::new(dict);
-    let mut keys = Vec::new(alloc);
+    let mut keys = Vec::with_capacity(alloc, most.min(USUAL_KEYS))?;
     next_keys(pool, &order, root, from, most, &mut keys)?;
     Ok(keys)
 }
 
 /// The next lines of a root: those of its keys above `from`, or of all where it is `None`, and
 /// `count` of them at most. One key more is looked for, which says whether any are left. Memory is
-/// wanted for the keys that are found, 12 bytes each, and for just the bytes of the lines.
+/// wanted for that many keys, 12 bytes each, but no more than 4,097 where fewer are found; and for
+/// just the bytes of the lines.
 pub fn next_piece(
     alloc: Global,
     dict: &Dict,

@@ -47,6 +47,7 @@ impl Pool {
     pub fn new(alloc: Global, last: u32) -> Self
         ensures nodes { result.nodes ≡ [] }
         ensures marks { result.marks ≡ [] }
+        ensures spare { result.spare ≡ 0 }
         ensures limit { result.limit ≡ min last last_node + 1 }
     {
         Pool {
