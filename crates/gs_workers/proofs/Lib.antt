@@ -1,3 +1,4 @@
+pub mod EndLemmas
 pub mod RecordLemmas
 pub mod ServeLemmas
 pub mod SweepLemmas

@@ -1,24 +1,14 @@
 -- Seats of passes, and of the records that are left of them.
-use Rattle.std.proofs.Common.{◌≡◌, ℕ, zero, suc, ◌+◌, List, [], ◌∷◌, ◌++◌, length, map, Some, refl, sym, ap, ◌∙◌, subst, arith}
+use Rattle.std.proofs.Common.{◌≡◌, ℕ, zero, suc, ◌+◌, List, [], ◌∷◌, ◌++◌, length, map, take, Some, refl, sym, ap, ◌∙◌, subst, arith}
 use Rattle.std.specs.List.{slice_get}
 use Rattle.std.proofs.lemmas.List.{length-map, map-append}
 use Rattle.gs_pass.specs.declared.records.Record.{Record}
 use Rattle.gs_pass.specs.Tallies.{tally_of, IsFresh}
-use Rattle.gs_shared.specs.Seats.{From, IsFreshOf}
+use Rattle.gs_talk.specs.Logs.{Server}
+use Rattle.gs_shared.specs.Seats.{From}
 use Rattle.gs_workers.specs.Records.{IsAsBefore, IsFreshAt}
-
--- what was handed out seat by seat came back seat by seat
-pub from_seats : {X : Type 0} (record_of : X → Record) (n : ℕ) (xs ys : List X)
-    → map (λ y. (record_of y).seat) ys ≡ map (λ x. (record_of x).seat) xs
-    → From (λ seat x. IsFreshOf seat (record_of x)) n xs
-    → From (λ seat (r : Record). r.seat ≡ seat) n (map record_of ys)
-from_seats record_of n [] [] same h = tt
-from_seats record_of n [] (y ∷ ys) same h = absurd (cc)
-from_seats record_of n (x ∷ xs) [] same h = absurd (cc)
-from_seats record_of n (x ∷ xs) (y ∷ ys) same h =
-    let first : (record_of y).seat ≡ (record_of x).seat = cc in
-    let others : map (λ z. (record_of z).seat) ys ≡ map (λ z. (record_of z).seat) xs = cc in
-    (first ∙ h.0.0, from_seats record_of (n + 1) xs ys others h.1)
+use Rattle.gs_workers.specs.Served.{WasServed}
+use Rattle.gs_workers.proofs.ServeLemmas.{serves_many_seat}
 
 -- what holds of each holds of the last one
 pub from_last : {X : Type 0} (P : ℕ → X → Type 0) (n : ℕ) (xs : List X) (x : X) → From P n (xs ++ x ∷ []) → P (n + length xs) x
@@ -31,13 +21,34 @@ pub get_last : {X : Type 0} (xs : List X) (x : X) → slice_get (xs ++ x ∷ [])
 get_last [] x = refl
 get_last (y ∷ xs) x = get_last xs x
 
--- one more on both sides
-pub map_push : {X : Type 0} (f : X → ℕ) (xs ys : List X) (x y : X) → map f ys ≡ map f xs → f y ≡ f x → map f (ys ++ y ∷ []) ≡ map f (xs ++ x ∷ [])
-map_push f xs ys x y same last = map-append f ys (y ∷ []) ∙ ((λ i. same i ++ last i ∷ []) ∙ sym (map-append f xs (x ∷ [])))
+-- it holds of each before these
+pub from_front : {X : Type 0} (P : ℕ → X → Type 0) (n : ℕ) (xs ys : List X) → From P n (xs ++ ys) → From P n xs
+from_front P n [] ys h = tt
+from_front P n (x ∷ xs) ys h = (h.0, from_front P (n + 1) xs ys h.1)
 
--- as many are there
-pub map_length : {X : Type 0} (f : X → ℕ) (xs ys : List X) → map f ys ≡ map f xs → length ys ≡ length xs
-map_length f xs ys same = sym (length-map ys f) ∙ (ap length same ∙ length-map xs f)
+-- it holds of each and of one more
+pub from_push : {X : Type 0} (P : ℕ → X → Type 0) (n : ℕ) (xs : List X) (x : X) → From P n xs → P (n + length xs) x → From P n (xs ++ x ∷ [])
+from_push P n [] x h last = let e : n + 0 ≡ n = omega arith in (subst (λ k. P k x) e last, tt)
+from_push P n (y ∷ xs) x h last =
+    let e : n + suc (length xs) ≡ n + 1 + length xs = omega arith in (h.0, from_push P (n + 1) xs x h.1 (subst (λ k. P k x) e last))
+
+-- it holds of what each becomes
+pub from_map : {X Y : Type 0} (P : ℕ → Y → Type 0) (f : X → Y) (n : ℕ) (xs : List X) → From (λ k x. P k (f x)) n xs → From P n (map f xs)
+from_map P f n [] h = tt
+from_map P f n (x ∷ xs) h = (h.0, from_map P f (n + 1) xs h.1)
+
+-- what a pass of a seat was told is told of that seat
+served_seat : (p : Server) (seat : ℕ) (r : Record) → WasServed p seat r → r.seat ≡ seat
+served_seat p seat r was = serves_many_seat p was.0.seat was.2.0 was.0 r was.2.1 ∙ was.1.0
+
+pub from_seats : (p : Server) (n : ℕ) (records : List Record) → From (WasServed p) n records → From (λ seat (r : Record). r.seat ≡ seat) n records
+from_seats p n [] h = tt
+from_seats p n (r ∷ rs) h = (served_seat p n r h.0, from_seats p (n + 1) rs h.1)
+
+-- the front of a list
+pub take_front : {X : Type 0} (xs ys : List X) → take (length xs) (xs ++ ys) ≡ xs
+take_front [] ys = refl
+take_front (x ∷ xs) ys = ap (λ zs. x ∷ zs) (take_front xs ys)
 
 -- the one after the others is the last
 pub fresh_last : {X : Type 0} (record_of : X → Record) (before after : Record) (backs : List X) (back : X) (n : ℕ) (records : List Record)

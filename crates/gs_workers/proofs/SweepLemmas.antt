@@ -1,19 +1,13 @@
--- Reclaims one after the other, and what they make of the record of a pass.
-use Rattle.std.proofs.Common.{◌≡◌, ℕ, zero, suc, List, [], ◌∷◌, ◌++◌, length, ◌-◌, ◌^◌, arith, true, refl, sym, ap, ◌∙◌, subst}
+-- Sweeps one after the other, and what they make of the record of a pass.
+use Rattle.std.proofs.Common.{◌≡◌, ℕ, zero, suc, List, [], ◌∷◌, length, ◌-◌, ◌^◌, arith, true, ap, ◌∙◌}
 use Rattle.std.specs.List.{All}
 use Rattle.gs_event.specs.declared.events.Event.{Event}
 use Rattle.gs_event.specs.declared.answers.Answer.{Answer}
 use Rattle.gs_pass.specs.declared.records.Record.{Record}
 use Rattle.gs_pass.specs.Tallies.{tally_of}
 use Rattle.gs_workers.specs.Records.{told, IsAsBefore}
-use Rattle.gs_workers.specs.Sweeps.{goes_on, GoesOn, Reclaims}
+use Rattle.gs_workers.specs.Sweeps.{goes_on, GoesOn, Reclaims, SweepsMany}
 use Rattle.gs_workers.proofs.ServeLemmas.{Shows}
-
--- some and then some more
-pub reclaims_append : {D : Type 0} (gives : D → Event → Answer → D → Type 0) (a b c : D) (xs ys : List Answer)
-    → Reclaims gives a xs b → Reclaims gives b ys c → Reclaims gives a (ys ++ xs) c
-reclaims_append gives a b c xs [] first rest = subst (Reclaims gives a xs) (sym rest) first
-reclaims_append gives a b c xs (y ∷ ys) first rest = (rest.0, reclaims_append gives a b rest.0 xs ys first rest.1, rest.2)
 
 -- what holds of all holds of those after the first
 all_tail : {X : Type 0} (P : X → Type 0) (x : X) (xs : List X) → All P (x ∷ xs) → All P xs
@@ -30,10 +24,19 @@ goes_on_all [] many all = absurd (omega (arith, many))
 goes_on_all (a ∷ rest) many all = (all_tail (λ b. goes_on b ≡ true) a rest all, λ on. many)
 
 -- a pass is told nothing by them
-pub reclaims_keep : {D : Type 0} (old new : D) (f : D → Record) (gives : D → Event → Answer → D → Type 0) → Shows f gives told
+reclaims_keep : {D : Type 0} (old new : D) (f : D → Record) (gives : D → Event → Answer → D → Type 0) → Shows f gives told
     → (answers : List Answer) → Reclaims gives old answers new → IsAsBefore (f old) (f new)
 reclaims_keep old new f gives s [] done = (ap (λ d. (f d).seat) done, ap (λ d. tally_of (f d)) done)
 reclaims_keep old new f gives s (a ∷ rest) done =
     let first = reclaims_keep old done.0 f gives s rest done.1 in
     let last = s.to done.0 _ a new done.2 in
     (last.1.0 ∙ first.0, last.1.1.1 ∙ first.1)
+
+-- nor by many sweeps
+pub sweeps_keep : {D : Type 0} (new : D) (f : D → Record) (gives : D → Event → Answer → D → Type 0) → Shows f gives told
+    → (n : ℕ) (old : D) → SweepsMany gives n old new → IsAsBefore (f old) (f new)
+sweeps_keep new f gives s zero old many = (ap (λ d. (f d).seat) many, ap (λ d. tally_of (f d)) many)
+sweeps_keep new f gives s (suc n) old many =
+    let first = sweeps_keep many.0 f gives s n old many.1 in
+    let last = reclaims_keep many.0 new f gives s many.2.0 many.2.1.0 in
+    (last.0 ∙ first.0, last.1 ∙ first.1)

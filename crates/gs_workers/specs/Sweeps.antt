@@ -24,3 +24,8 @@ GoesOn (a ∷ rest) = All (λ b. goes_on b ≡ true) rest × (goes_on a ≡ true
 -- it was asked until it said that there is no more to do
 abbrev pub Sweeps : {D : Type 0} → (D → Event → Answer → D → Type 0) → D → List Answer → D → Type 0
 Sweeps gives old answers new = Reclaims gives old answers new × GoesOn answers
+
+-- so, so many times, one after the other
+abbrev pub SweepsMany : {D : Type 0} → (D → Event → Answer → D → Type 0) → ℕ → (old new : D) → Type 0
+SweepsMany gives zero old new = new ≡ old
+SweepsMany {D} gives (suc n) old new = (mid : D) × SweepsMany gives n old mid × ((answers : List Answer) × Sweeps gives mid answers new)

@@ -1,5 +1,6 @@
 //! Which answers end an upload, a Delete or a read, so that something may be left to reclaim.
 ghost use Rattle.std.specs.Prelude.{◌≡◌};
+ghost use Rattle.gs_event.specs.declared.events.Event.{Event as AnEvent};
 ghost use Rattle.gs_workers.specs.Endings.{awaited_of, comes_with, ends};
 
 use gs_event::{Action, Answer, Event};
@@ -37,8 +38,15 @@ impl Awaited {
         }
     }
 
+    /// Whether this answer to the event ends what that is about.
+    pub(crate) fn ends_by(self, answer: &Answer) -> bool
+        ensures { (e : AnEvent) → self ≡ awaited_of e → result ≡ ends e answer.now }
+    {
+        self.comes_with(answer)
+    }
+
     /// Whether this is the answer.
-    pub(crate) fn comes_with(self, answer: &Answer) -> bool
+    fn comes_with(self, answer: &Answer) -> bool
         ensures value { result ≡ comes_with self answer.now }
     {
         match self {

@@ -1,4 +1,9 @@
 //! How long is waited, and how much is freed at once.
+ghost use Rattle.std.specs.Prelude.{◌≡◌};
+ghost use Rattle.std.specs.Duration.{as_nanos};
+ghost use Rattle.gs_workers.specs.Limits as spec;
+
+use std::time::Duration;
 
 /// The seconds that one read or one write of a connection may wait for its client.
 pub const PATIENCE_SECONDS: u64 = 30;
@@ -14,3 +19,32 @@ pub(crate) const WAITING_STREAMS: usize = 16;
 
 /// The notes that may wait for the reclaimer. One that waits stands for those that find no room.
 pub(crate) const WAITING_NOTES: usize = 16;
+
+/// The seconds that a client which still sends may let one read wait, once its connection has ended.
+pub const LINGER_SECONDS: u64 = 1;
+
+/// The most reads by which such bytes are dropped, and the bytes of each.
+pub(crate) const LINGER_READS: usize = 1_024;
+
+pub(crate) const LINGER_BYTES: usize = 16_384;
+
+/// How long one read or one write of a connection may wait for its client.
+pub(crate) fn patience() -> Duration
+    ensures { as_nanos result ≡ spec.patience }
+{
+    Duration::from_secs(PATIENCE_SECONDS)
+}
+
+/// The rest after an accept that failed.
+pub(crate) fn accept_pause() -> Duration
+    ensures { as_nanos result ≡ spec.accept_pause }
+{
+    Duration::from_millis(ACCEPT_PAUSE_MILLISECONDS)
+}
+
+/// How long one read may wait for a client that still sends, once its connection has ended.
+pub(crate) fn linger_patience() -> Duration
+    ensures { as_nanos result ≡ spec.linger_patience }
+{
+    Duration::from_secs(LINGER_SECONDS)
+}

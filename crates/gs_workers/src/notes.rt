@@ -23,7 +23,7 @@ impl<'a, D: Door, R: Wait> Door for NoteDoor<'a, D, R> {
     fn event(&mut self, event: Event) -> Answer {
         let awaited = Awaited::by(&event);
         let answer = self.door.event(event);
-        if awaited.comes_with(&answer) {
+        if awaited.ends_by(&answer) {
             let _ = self.notes.try_send(self.rt, Note);
         }
         answer

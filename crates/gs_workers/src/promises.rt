@@ -1,19 +1,22 @@
 //! What is known of a pass that a thread gives back.
+use crate::plans::Plan;
 use gs_shared::{Pass, Room};
 use std::snapshot::Snapshot;
 use std::sync::ledger::Ledger;
 use std::thread::Promise;
 
-/// It has this seat.
+/// Connections were served so, from this pass on.
 #[derive(Drop)]
-pub(crate) struct OfSeat {
-    pub(crate) seat: u16,
+pub(crate) struct Served<'a, C: Ledger, T: Ledger, B: Room> {
+    pub(crate) before: Snapshot<Pass<C, T, B>>,
+    pub(crate) plan: Plan<'a>,
 }
 
-impl<C: Ledger, T: Ledger, B: Room> Promise<Pass<C, T, B>> for OfSeat {
-    ghost use Rattle.std.specs.Prelude.{◌≡◌};
+impl<'a, C: Ledger, T: Ledger, B: Room> Promise<Pass<C, T, B>> for Served<'a, C, T, B> {
+    ghost use Rattle.gs_workers.specs.Served.{ServedOn};
 
-    ghost kept_by = { λ p r. r.record.seat ≡ p.seat };
+    ghost kept_by = { λ p r. ServedOn (record { base = p.plan.base.now; piece = p.plan.piece })
+        p.before.value.record r.record };
 }
 
 /// It has the seat of this pass, and was told nothing more.

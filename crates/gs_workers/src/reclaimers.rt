@@ -1,8 +1,8 @@
 //! The reclaimer: it frees what no version needs any more, a little in each hold of the lock.
-ghost use Rattle.std.specs.Prelude.{◌≡◌, List};
+ghost use Rattle.std.specs.Prelude.{◌≡◌, ℕ, List};
 ghost use Rattle.gs_event.specs.declared.answers.Answer.{Answer as AnAnswer};
 ghost use Rattle.gs_pass.specs.Tallies.{tally_of};
-ghost use Rattle.gs_workers.specs.Sweeps.{Reclaims, Sweeps, goes_on as goes_on_after};
+ghost use Rattle.gs_workers.specs.Sweeps.{Sweeps, SweepsMany, goes_on as goes_on_after};
 
 use crate::limits::RECLAIM_NODES;
 use crate::notes::Note;
@@ -43,8 +43,8 @@ fn sweep<D: Door>(door: &mut D)
 }
 
 /// Frees after each note, until no more can come.
-fn sweep_after<D: Door, R: Wait>(rt: &R, notes: Receiver<Note>, door: &mut D)
-    ensures { (answers : List AnAnswer) × Reclaims D.Gives door.old answers door.new }
+pub(crate) fn sweep_after<D: Door, R: Wait>(rt: &R, notes: Receiver<Note>, door: &mut D)
+    ensures { (n : ℕ) × SweepsMany D.Gives n door.old door.new }
 {
     for _ in rt.forever() {
         if notes.recv(rt).is_err() {

@@ -1,18 +1,21 @@
 //! A server, from its first connection to its last.
-ghost use Rattle.std.specs.Prelude.{◌≡◌, ◌+◌, ◌<◌, ◌≤◌, [], ◌∷◌, ◌++◌, length, map, true, vec_capacity, IfOk, IfErr, IfSome};
+ghost use Rattle.std.specs.Prelude.{◌≡◌, ◌+◌, ◌<◌, ◌≤◌, [], ◌∷◌, ◌++◌, length, true, vec_capacity, IfOk, IfErr, IfSome};
 ghost use Rattle.crossbeam_utils.specs.Seq.{cell_view};
 ghost use Rattle.gs_model.specs.Bases.{is_base};
 ghost use Rattle.gs_core.specs.Settings.{start_at};
+ghost use Rattle.gs_talk.specs.Logs.{Server};
 ghost use Rattle.gs_pass.specs.Stamps.{keeper as keeper_of};
+ghost use Rattle.gs_shared.specs.Seats.{From, IsFreshOf};
 ghost use Rattle.gs_workers.specs.Ends.{EndsAs};
 ghost use Rattle.gs_workers.specs.Records.{IsAsBefore};
+ghost use Rattle.gs_workers.specs.Served.{IsPromised, WasServed};
 
 use crate::accepting::accept_all;
 use crate::gates::Gate;
-use crate::limits::{PATIENCE_SECONDS, WAITING_NOTES, WAITING_STREAMS};
+use crate::limits::{WAITING_NOTES, WAITING_STREAMS, patience};
 use crate::notes::Note;
 use crate::plans::Plan;
-use crate::promises::{AsBefore, OfSeat};
+use crate::promises::{AsBefore, Served};
 use crate::reclaimers::reclaim;
 use crate::workers::work;
 use crossbeam_channel::{Receiver, Sender, bounded};
@@ -27,16 +30,20 @@ use std::sync::Wait;
 use std::sync::ledger::Blank;
 use std::thread;
 use std::thread::{PromisedHandle, Threads};
-use std::time::{Clock, Duration};
+use std::time::Clock;
 
 /// Joins the workers, in the order in which they were started. There is room for their passes.
 fn join_all<C: Side, T: Side, B: Room, R: Threads>(
     rt: &R,
-    workers: Vec<PromisedHandle<Pass<C, T, B>, OfSeat>>,
+    workers: Vec<PromisedHandle<Pass<C, T, B>, Served<'_, C, T, B>>>,
     back: Vec<Pass<C, T, B>>,
 ) -> Vec<Pass<C, T, B>>
     requires { (back.items ≡ []) × (length workers.items ≤ vec_capacity back) }
-    ensures { map (λ p. p.record.seat) result.items ≡ map (λ w. w.promise.seat) workers.items }
+    ensures many { length result.items ≡ length workers.items }
+    ensures served { (p : Server)
+        → From (λ seat w. IsPromised p seat (record { base = w.promise.plan.base.now; piece = w.promise.plan.piece })
+        w.promise.before.value.record) 0 workers.items
+        → From (λ seat x. WasServed p seat x.record) 0 result.items }
 {
     let mut back = back;
     for worker in workers {
@@ -65,8 +72,10 @@ fn with_threads<
     passes: Vec<Pass<C, T, B>>,
     last: Pass<C, T, B>,
 ) -> Option<(Vec<Pass<C, T, B>>, Pass<C, T, B>)>
-    ensures seats { IfSome result (λ r.
-        map (λ p. p.record.seat) r.0.items ≡ map (λ p. p.record.seat) passes.items) }
+    ensures many { IfSome result (λ r. length r.0.items ≡ length passes.items) }
+    ensures served { From (λ seat x. IsFreshOf seat x.record) 0 passes.items → IfSome result (λ r.
+        From (λ seat x. WasServed (record { base = plan.entry.base.now; piece = plan.entry.piece }) seat x.record)
+        0 r.0.items) }
     ensures last { IfSome result (λ r. IsAsBefore last.record r.1.record) }
 {
     let alloc = plan.alloc;
@@ -76,8 +85,11 @@ fn with_threads<
         thread::scope_env(),
         rt,
         move |scope| -> Option<(Vec<Pass<C, T, B>>, Pass<C, T, B>)>
-            ensures seats { IfSome result (λ r.
-                map (λ p. p.record.seat) r.0.items ≡ map (λ p. p.record.seat) passes.items) }
+            ensures many { IfSome result (λ r. length r.0.items ≡ length passes.items) }
+            ensures served { From (λ seat x. IsFreshOf seat x.record) 0 passes.items → IfSome result (λ r.
+                From (λ seat x. WasServed
+                (record { base = plan.entry.base.now; piece = plan.entry.piece }) seat x.record)
+                0 r.0.items) }
             ensures last { IfSome result (λ r. IsAsBefore last.record r.1.record) }
         {
             let mut workers = Vec::with_capacity(alloc, passes.len()).ok()?;
@@ -89,9 +101,9 @@ fn with_threads<
             for pass in passes {
                 let own_streams: Receiver<_> = streams.clone().ok()?;
                 let own_notes: Sender<Note> = to_reclaimer.clone().ok()?;
-                let seat = pass.seat();
+                let before = Snapshot::of(&pass);
                 let worker = scope
-                    .spawn_with(OfSeat { seat }, move || {
+                    .spawn_with(Served { before, plan }, move || {
                         work(rt, plan, hall, gate, own_streams, own_notes, pass)
                     })
                     .ok()?;
@@ -159,7 +171,8 @@ fn run<
         × (T.all ≡ T.parts)
         × (workers + 1 < T.all) }
     ensures refused { IfErr result (λ r. r ≡ Refusal.NoMemory) }
-    ensures ended { IfOk result (EndsAs workers plan.entry.base.now) }
+    ensures ended { IfOk result (EndsAs workers
+        (record { base = plan.entry.base.now; piece = plan.entry.piece })) }
 {
     let seats = workers + 1;
     let mut shared: Shared<C, T, B> = Shared::new(
@@ -206,7 +219,8 @@ pub(crate) fn serve_within<G: Gate + Sync, R: Threads + Wait + Clock + RandomSou
     requires some { 1 ≤ workers }
     requires few { workers ≤ 256 }
     ensures refused { IfErr result (λ r. r ≡ Refusal.NoMemory) }
-    ensures ended { IfOk result (EndsAs workers plan.entry.base.now) }
+    ensures ended { IfOk result (EndsAs workers
+        (record { base = plan.entry.base.now; piece = plan.entry.piece })) }
 {
     let Ok((cell, keeper)) = stamp_cell(plan.alloc) else {
         return Err(Refusal::NoMemory);
@@ -244,13 +258,13 @@ pub fn serve_all<G: Gate + Sync, R: Threads + Wait + Clock + RandomSource + Sync
     requires lines { 1 ≤ piece }
     requires most_lines { piece ≤ 4096 }
     ensures refused { IfErr result (λ r. r ≡ Refusal.NoMemory) }
-    ensures ended { IfOk result (EndsAs workers base.now) }
+    ensures ended { IfOk result (EndsAs workers (record { base = base.now; piece = piece })) }
 {
     let plan = Plan {
         alloc,
         base,
         piece,
-        patience: Duration::from_secs(PATIENCE_SECONDS),
+        patience: patience(),
     };
     serve_within(rt, plan, listener, workers, limit, gate)
 }

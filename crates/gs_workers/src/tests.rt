@@ -1,9 +1,16 @@
-//! A server on loopback, with clients of each kind, and an accept that fails.
+//! A server on loopback, with clients of each kind; an accept that fails; what stands before a worker's
+//! events and after them.
 mod accepts;
 mod clients;
 mod crowds;
+mod gates;
 mod leavers;
+mod notes;
+mod refusals;
 mod servings;
 mod sleepers;
+mod steps;
+mod streams;
+mod sweeps;
 mod turns;
 mod waits;

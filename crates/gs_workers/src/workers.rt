@@ -1,10 +1,11 @@
 //! A worker: it serves one connection after the other, through its own pass.
-ghost use Rattle.std.specs.Prelude.{◌≡◌, ℕ};
-ghost use Rattle.gs_workers.specs.Attends.{Serves, ServesMany};
-ghost use Rattle.gs_workers.specs.Records.{told};
+ghost use Rattle.std.specs.Prelude.{ℕ};
+ghost use Rattle.gs_workers.specs.Attends.{ServesMany};
+ghost use Rattle.gs_workers.specs.Served.{ServedOn};
 
 use crate::attending::attend;
 use crate::gates::{Gate, GateDoor};
+use crate::lingering::linger;
 use crate::notes::{Note, NoteDoor};
 use crate::plans::Plan;
 use crossbeam_channel::{Receiver, Sender};
@@ -17,13 +18,14 @@ use std::sync::ledger::Ledger;
 use std::time::Duration;
 
 /// Gives a connection its limits. Small replies go out at once.
-fn limit_waits(stream: &TcpStream, patience: Duration) -> io::Result<()> {
+pub(crate) fn limit_waits(stream: &TcpStream, patience: Duration) -> io::Result<()> {
     stream.set_nodelay(true)?;
     stream.set_read_timeout(Some(patience))?;
     stream.set_write_timeout(Some(patience))
 }
 
-/// Serves one connection. One that takes no limits is dropped unserved.
+/// Serves one connection, and lets its client hear the end. One that takes no limits is dropped
+/// unserved.
 fn serve_stream<D: Door>(plan: Plan<'_>, seat: u16, stream: TcpStream, door: &mut D)
     ensures { (n : ℕ) × ServesMany (record { base = plan.entry.base.now; piece = plan.entry.piece })
         D.Gives seat n door.old door.new }
@@ -40,6 +42,7 @@ fn serve_stream<D: Door>(plan: Plan<'_>, seat: u16, stream: TcpStream, door: &mu
         &mut &stream,
         door,
     );
+    let _ = linger(&stream);
 }
 
 /// Serves each connection that comes, until no more can come.
@@ -71,9 +74,8 @@ pub(crate) fn work<C: Ledger, T: Ledger, B: Room, G: Gate, R: Wait>(
     notes: Sender<Note>,
     pass: Pass<C, T, B>,
 ) -> Pass<C, T, B>
-    ensures served { (n : ℕ) × ServesMany (record { base = plan.entry.base.now; piece = plan.entry.piece })
-        told pass.record.seat n pass.record result.record }
-    ensures seat { result.record.seat ≡ pass.record.seat }
+    ensures served { ServedOn (record { base = plan.entry.base.now; piece = plan.entry.piece })
+        pass.record result.record }
 {
     let seat = pass.seat();
     let mut door = NoteDoor {

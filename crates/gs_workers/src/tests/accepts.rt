@@ -1,6 +1,5 @@
 //! An accept that fails.
 use crate::accepting::accept_all;
-use crate::limits::ACCEPT_PAUSE_MILLISECONDS;
 use crossbeam_channel::bounded;
 use std::alloc::Global;
 use std::cell::Cell;
@@ -63,6 +62,6 @@ fn a_failed_accept_counts_and_is_followed_by_a_rest(rt: HostRuntime) -> Result<(
     let (came, turns, waited) = accepted(&rt, rt.alloc())?;
     assert_eq!(rt; came, 1);
     assert_eq!(rt; turns, 3);
-    assert!(rt; waited >= Duration::from_millis(ACCEPT_PAUSE_MILLISECONDS.saturating_mul(2)));
+    assert!(rt; waited >= Duration::from_millis(100));
     Ok(())
 }

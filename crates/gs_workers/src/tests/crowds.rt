@@ -3,6 +3,7 @@ use super::clients::{ask, connected, get, put, say};
 use super::servings::{Setup, serves};
 use super::turns::comes;
 use crate::gates::{Gate, OpenGate};
+use crate::servers::serve_all;
 use gs_event::{Action, Event};
 use std::alloc::Global;
 use std::net::{Net, SocketAddr, TcpListener, TcpStream};
@@ -19,7 +20,7 @@ const OWNERS: usize = 8;
 
 const ROUNDS: u32 = 20;
 
-/// Whether this graph could be made, and just its lines came back, which are in two pieces. Both
+/// Whether this graph could be made, and came back in a piece of two lines and one of the last. Both
 /// requests are made, whatever becomes of the first.
 fn put_and_get<N: Net<Stream = TcpStream>>(
     rt: &N,
@@ -34,13 +35,12 @@ fn put_and_get<N: Net<Stream = TcpStream>>(
     let read = get(alloc, name)?;
     let made = ask(alloc, connected(rt, addr)?, upload.as_str());
     let got = ask(alloc, connected(rt, addr)?, read.as_str())?;
-    let got = got.as_str();
+    let (two, one) = (front.len(), last.len());
+    let pieces = format!(in alloc; "{two:x}\r\n{front}\r\n{one:x}\r\n{last}\r\n0\r\n\r\n")?;
     Ok(
         made?.as_str().starts_with("HTTP/1.1 201 ")
-            && got.starts_with("HTTP/1.1 200 ")
-            && got.contains(front.as_str())
-            && got.contains(last.as_str())
-            && got.split(" .\n").count() == 4,
+            && got.as_str().starts_with("HTTP/1.1 200 ")
+            && got.as_str().ends_with(pieces.as_str()),
     )
 }
 
@@ -72,7 +72,8 @@ fn owned<R: Net<Listener = TcpListener, Stream = TcpStream> + Threads + Sync>(
     Ok(good)
 }
 
-/// In how many rounds the clients of four workers got their own lines back.
+/// In how many rounds the clients of four workers got their own lines back, where as many entries are
+/// left in the page as there were requests, and a record for each worker and the reclaimer.
 fn served<
     R: Net<Listener = TcpListener, Stream = TcpStream>
         + Threads
@@ -83,17 +84,27 @@ fn served<
 >(rt: &R, alloc: Global) -> io::Result<u32> {
     let listener = TcpListener::bind(rt, "127.0.0.1:0")?;
     let addr = listener.local_addr()?;
-    let setup = Setup {
-        workers: 4,
-        limit: 320,
-        patience: Duration::from_secs(30),
-    };
     let (ended, good) = join(
         rt,
-        || serves(rt, alloc, &listener, setup, &OpenGate),
+        || {
+            serve_all(
+                rt,
+                alloc,
+                &listener,
+                "http://localhost",
+                4,
+                2,
+                Some(320),
+                &OpenGate,
+            )
+        },
         || owned(rt, alloc, addr),
     );
-    Ok(if ended { good? } else { 0 })
+    let good = good?;
+    Ok(match ended {
+        Ok(ended) if ended.audited.page().entries().len() == 320 && ended.passes.len() == 5 => good,
+        _ => 0,
+    })
 }
 
 /// How many clients are served at the same time.
@@ -120,14 +131,15 @@ impl<'a, K: Clock> Gate for Gather<'a, K> {
     }
 }
 
-/// So many clients ask whether a graph is there, before the first is answered; how many are.
-fn ask_together<N: Net<Stream = TcpStream>>(
+/// So many clients that have asked whether a graph is there.
+fn asked_by<N: Net<Stream = TcpStream>>(
     rt: &N,
     alloc: Global,
     addr: SocketAddr,
-) -> io::Result<u64> {
+    clients: u64,
+) -> io::Result<Vec<TcpStream>> {
     let mut streams = Vec::new(alloc);
-    for _ in 0..CROWD {
+    for _ in 0..clients {
         let stream = connected(rt, addr)?;
         say(
             &stream,
@@ -135,14 +147,28 @@ fn ask_together<N: Net<Stream = TcpStream>>(
         )?;
         streams.push(stream)?;
     }
+    Ok(streams)
+}
+
+/// How many of these clients are told that it is not.
+fn answered(alloc: Global, streams: &[TcpStream]) -> io::Result<u64> {
     let mut good = 0u64;
-    for stream in &streams {
+    for stream in streams {
         let reply = io::read_to_string(alloc, stream)?;
         if reply.as_str().starts_with("HTTP/1.1 404 ") {
             good = good.saturating_add(1);
         }
     }
     Ok(good)
+}
+
+/// As many clients ask as there are workers, before the first is answered; how many are.
+fn ask_together<N: Net<Stream = TcpStream>>(
+    rt: &N,
+    alloc: Global,
+    addr: SocketAddr,
+) -> io::Result<u64> {
+    answered(alloc, asked_by(rt, alloc, addr, CROWD)?.as_slice())
 }
 
 /// Whether as many clients are served at the same time as there are workers.
@@ -172,6 +198,79 @@ fn gathers<
         || ask_together(rt, alloc, addr),
     );
     Ok(ended && good? == CROWD && gate.late.load(Ordering::SeqCst) == 0)
+}
+
+/// Holds each event until it is opened.
+#[derive(Drop)]
+struct Dam<'a, K: Clock> {
+    clock: &'a K,
+    open: AtomicU64,
+    late: AtomicU64,
+}
+
+impl<'a, K: Clock> Gate for Dam<'a, K> {
+    fn before(&self, _seat: u16, _event: &Event) {
+        if !comes(self.clock, &self.open, 1) {
+            self.late.fetch_add(1, Ordering::SeqCst);
+        }
+    }
+}
+
+/// How many clients wait for one worker: more than may be accepted and wait.
+const QUEUE: u64 = 40;
+
+/// So many clients ask, before the first is answered; how many are. The server has time to accept all
+/// that it would.
+fn ask_in_a_queue<N: Net<Stream = TcpStream>, K: Clock>(
+    rt: &N,
+    alloc: Global,
+    addr: SocketAddr,
+    dam: &Dam<'_, K>,
+) -> io::Result<u64> {
+    let asked = asked_by(rt, alloc, addr, QUEUE);
+    thread::sleep(dam.clock, Duration::from_millis(300));
+    dam.open.fetch_add(1, Ordering::SeqCst);
+    answered(alloc, asked?.as_slice())
+}
+
+/// How many clients of one worker are answered, all of whom came before the first was.
+fn queued<
+    R: Net<Listener = TcpListener, Stream = TcpStream>
+        + Threads
+        + Wait
+        + Clock
+        + RandomSource
+        + Sync,
+>(rt: &R, alloc: Global) -> io::Result<u64> {
+    let listener = TcpListener::bind(rt, "127.0.0.1:0")?;
+    let addr = listener.local_addr()?;
+    let dam = Dam {
+        clock: rt,
+        open: AtomicU64::new(0),
+        late: AtomicU64::new(0),
+    };
+    let setup = Setup {
+        workers: 1,
+        limit: QUEUE,
+        patience: Duration::from_secs(30),
+    };
+    let (ended, good) = join(
+        rt,
+        || serves(rt, alloc, &listener, setup, &dam),
+        || ask_in_a_queue(rt, alloc, addr, &dam),
+    );
+    let good = good?;
+    Ok(if ended && dam.late.load(Ordering::SeqCst) == 0 {
+        good
+    } else {
+        0
+    })
+}
+
+#[test]
+fn clients_wait_for_a_worker(rt: HostRuntime) -> Result<(), Fail> {
+    assert_eq!(rt; queued(&rt, rt.alloc())?, QUEUE);
+    Ok(())
 }
 
 #[test]

@@ -1,6 +1,8 @@
-use Rattle.std.proofs.Common.{◌≡◌, ◌+◌, [], ◌∷◌, ◌++◌, length, map, rules, ap, ◌∙◌, sym, arith, length-append}
-use Rattle.std.proofs.lemmas.List.{map-append}
-use Rattle.gs_workers.proofs.RecordLemmas.{move_on}
+use Rattle.std.proofs.Common.{◌≡◌, ◌+◌, [], ◌∷◌, ◌++◌, length, rules, ap, ◌∙◌, sym, subst, arith, length-append}
+use Rattle.gs_talk.specs.Logs.{Server}
+use Rattle.gs_shared.specs.Seats.{From, IsFreshOf}
+use Rattle.gs_workers.specs.Served.{IsPromised}
+use Rattle.gs_workers.proofs.RecordLemmas.{from_front, from_last, from_push, move_on}
 use Rattle.gs_workers.proofs.servers.fn.with_threads.scope.Goals as goal
 
 pub push_reserved-requires : goal.push_reserved-requires
@@ -16,12 +18,15 @@ loop-pass-preserved g c =
     let step = c.in-Some.ensures.steps.0 in
     let longer = length-append c.loop-pass.yielded (pass ∷ []) in
     let more = length-append c.loop-pass.workers.items (worker ∷ []) in
-    let promised : worker.promise.seat ≡ pass.record.seat = search rules in record {
+    let p : Server = record { base = c.args.plan.base.now; piece = c.args.plan.piece } in
+    let is_promised = λ seat w. IsPromised p seat (record { base = w.promise.plan.base.now; piece = w.promise.plan.piece }) w.promise.before.value.record in record {
       whole = move_on c.loop-pass.yielded pass _ ∙ (ap (λ xs. c.loop-pass.yielded ++ xs) (sym step) ∙ v.whole);
       many = omega (arith, v.many, ap length c.push_reserved.ensures.items, longer, more);
       room = omega (arith, v.room, ap length step, longer, c.push_reserved.ensures.capacity);
-      seats = ap (map (λ w. w.promise.seat)) c.push_reserved.ensures.items
-          ∙ (map-append (λ w. w.promise.seat) c.loop-pass.workers.items (worker ∷ [])
-          ∙ ((λ i. v.seats i ++ promised i ∷ [])
-          ∙ sym (map-append (λ p. p.record.seat) c.loop-pass.yielded (pass ∷ []))));
+      promised = λ fresh.
+          let last : IsPromised p (0 + length c.loop-pass.yielded) (record { base = worker.promise.plan.base.now; piece = worker.promise.plan.piece }) worker.promise.before.value.record = search rules in
+          subst (From is_promised 0) (sym c.push_reserved.ensures.items)
+          (from_push is_promised 0 c.loop-pass.workers.items worker
+          (v.promised (from_front (λ seat x. IsFreshOf seat x.record) 0 c.loop-pass.yielded (pass ∷ []) fresh))
+          (subst (λ n. is_promised (0 + n) worker) (sym v.many) last));
     }

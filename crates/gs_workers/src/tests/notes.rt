@@ -1,0 +1,102 @@
+//! When a note is sent.
+use super::steps::{Step, event};
+use crate::notes::{Note, NoteDoor};
+use crossbeam_channel::{Receiver, bounded};
+use gs_core::Store;
+use gs_door::Door;
+use gs_event::{Answer, Event};
+use gs_model::Refusal;
+use std::alloc::Global;
+use std::sync::Wait;
+use std::test::Fail;
+
+/// A door that looks, as each event comes, whether a note was sent already.
+#[derive(Drop)]
+struct Watch<'a, D: Door, R: Wait> {
+    rt: &'a R,
+    notes: &'a Receiver<Note>,
+    door: D,
+    is_early: bool,
+}
+
+impl<'a, D: Door, R: Wait> Door for Watch<'a, D, R> {
+    ghost Gives = { λ old e a new. D.Gives old.door e a new.door };
+
+    fn event(&mut self, event: Event) -> Answer {
+        if self.notes.try_recv(self.rt).is_ok() {
+            self.is_early = true;
+        }
+        self.door.event(event)
+    }
+}
+
+/// What a seat does, and whether a note follows. What is refused, as the seat does something else or
+/// nothing, has none.
+const STEPS: [(&str, Step, bool); 20] = [
+    ("a commit of nothing", Step::Commit, false),
+    ("an upload opens", Step::Open, false),
+    ("triples come", Step::Stage, false),
+    ("a delete within an upload", Step::Delete, false),
+    ("the upload ends", Step::Commit, true),
+    ("a read begins", Step::Pin, false),
+    ("its first line", Step::Piece, false),
+    ("its last line", Step::Piece, true),
+    ("a line of no read", Step::Piece, false),
+    ("another read begins", Step::Pin, false),
+    ("it is given up", Step::Cancel, true),
+    ("nothing is given up", Step::Cancel, false),
+    ("another upload opens", Step::Open, false),
+    ("it is given up, too", Step::Cancel, true),
+    ("a patch opens", Step::OpenPatch, false),
+    ("it ends", Step::CommitPatch, true),
+    ("a patch of nothing", Step::CommitPatch, false),
+    ("a question", Step::Head, false),
+    ("a delete", Step::Delete, true),
+    ("a question again", Step::Head, false),
+];
+
+/// The first step with a note where none is due, with none where one is, or with one too early.
+fn wrong_step<D: Door, R: Wait>(
+    rt: &R,
+    alloc: Global,
+    notes: &Receiver<Note>,
+    door: &mut NoteDoor<'_, Watch<'_, D, R>, R>,
+) -> Result<Option<&'static str>, Refusal> {
+    for (name, step, is_due) in &STEPS {
+        let _ = door.event(event(alloc, 0, *step)?);
+        let came = notes.try_recv(rt).is_ok();
+        if came != *is_due || door.door.is_early {
+            return Ok(Some(name));
+        }
+    }
+    Ok(None)
+}
+
+/// The same, at a store of one seat.
+fn wrong_note<R: Wait>(rt: &R, alloc: Global) -> Result<Option<&'static str>, Refusal> {
+    let (to_reclaimer, notes) = bounded(alloc, 1)?;
+    let store = Store::new(alloc, 1, "http://localhost")?;
+    let mut door = NoteDoor {
+        rt,
+        notes: to_reclaimer,
+        door: Watch {
+            rt,
+            notes: &notes,
+            door: store,
+            is_early: false,
+        },
+    };
+    let wrong = wrong_step(rt, alloc, &notes, &mut door);
+    let NoteDoor {
+        rt: _,
+        notes: _,
+        door: _,
+    } = door;
+    wrong
+}
+
+#[test]
+fn a_note_follows_what_ends(rt: HostRuntime) -> Result<(), Fail> {
+    assert_eq!(rt; wrong_note(&rt, rt.alloc()), Ok(None));
+    Ok(())
+}

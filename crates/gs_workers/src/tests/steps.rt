@@ -1,0 +1,52 @@
+//! What a seat does, step by step.
+use gs_event::{Action, Event, UploadKind};
+use gs_model::Refusal;
+use gs_term::{Target, TermText, Triple};
+use std::alloc::Global;
+
+/// What a seat does to the default graph.
+#[derive(Clone, Copy)]
+pub enum Step {
+    Open,
+    Stage,
+    Commit,
+    OpenPatch,
+    CommitPatch,
+    Delete,
+    Head,
+    Pin,
+    Piece,
+    Cancel,
+}
+
+/// Two triples.
+fn triples(alloc: Global) -> Result<Vec<Triple>, Refusal> {
+    let mut list = Vec::new(alloc);
+    for number in 0..2 {
+        let subject = TermText::iri(alloc, "http://e/s")?;
+        let predicate = TermText::iri(alloc, "http://e/p")?;
+        let object = TermText::blank(alloc, 1, number)?;
+        if !subject.is_subject() || !predicate.is_iri() {
+            return Err(Refusal::Syntax(0));
+        }
+        list.push(Triple::new(subject, predicate, object))?;
+    }
+    Ok(list)
+}
+
+/// This step of this seat. Two triples are staged, a patch has no operations, and a piece has one line.
+pub fn event(alloc: Global, seat: u16, step: Step) -> Result<Event, Refusal> {
+    let action = match step {
+        Step::Open => Action::Open(UploadKind::Put(Target::Default)),
+        Step::Stage => Action::Stage(triples(alloc)?),
+        Step::Commit => Action::Commit,
+        Step::OpenPatch => Action::OpenPatch(Target::Default),
+        Step::CommitPatch => Action::CommitPatch(Vec::new(alloc)),
+        Step::Delete => Action::Delete(Target::Default),
+        Step::Head => Action::Head(Target::Default),
+        Step::Pin => Action::Pin(Target::Default),
+        Step::Piece => Action::Piece(1),
+        Step::Cancel => Action::Cancel,
+    };
+    Ok(Event::Seat(seat, action))
+}
