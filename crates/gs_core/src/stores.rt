@@ -8,7 +8,7 @@ ghost use Rattle.gs_event.specs.Runs.{Runs};
 ghost use Rattle.gs_event.specs.Histories.{ShowsStart, HasStartPins};
 ghost use Rattle.gs_event.specs.Continuing.{KeepsLegal, ShowsHistory, HasItsPins};
 ghost use Rattle.gs_event.specs.Waste.{nodes_in};
-ghost use Rattle.gs_tree_store.specs.Uses.{UsesNodes};
+ghost use Rattle.gs_tree_store.specs.Uses.{UsesNodes, TreeSteps};
 ghost use Rattle.gs_core.specs.Settings.{start_at};
 
 use crate::limits::{MAX_NAMES, MAX_TRIPLES};
@@ -152,7 +152,8 @@ impl Store {
     /// does of the empty one, that history with the events and their answers after it is legal:
     /// the answers are those of an abstract graph store that takes each write whole at its commit
     /// and each read whole at its pin; and the store then shows what the whole history says. Each
-    /// event is one `step`, which says what becomes of the waste and what a Reclaim answers. Room
+    /// event is one `step`, which says what becomes of the waste, what a Reclaim answers, and how many
+    /// nodes are used. Room
     /// for all answers is made before the first event, so `NoMemory` changes nothing.
     pub fn run(&mut self, events: &[Event]) -> Result<Vec<Answer>, Refusal>
         ensures legal { IfOk result (λ answers. KeepsLegal self.old events.now answers.items) }
@@ -160,6 +161,7 @@ impl Store {
         ensures view { IfOk result (λ answers. ShowsHistory self.old events.now answers.items self.new) }
         ensures pinned { IfOk result (λ answers. HasItsPins self.old events.now answers.items self.new) }
         ensures ran { IfOk result (λ answers. Runs Steps self.old events.now answers.items self.new) }
+        ensures uses { IfOk result (λ answers. Runs TreeSteps self.old events.now answers.items self.new) }
         ensures refused { IfErr result (λ refusal. refusal ≡ Refusal.NoMemory) }
         ensures kept { OnErr result (self.new ≡ self.old) }
     {
@@ -182,9 +184,9 @@ impl Store {
 }
 
 impl EventStore for Store {
-    ghost use Rattle.gs_event.specs.Steps.{Steps};
+    ghost use Rattle.gs_tree_store.specs.Uses.{TreeSteps};
 
-    ghost Takes = { Steps };
+    ghost Takes = { TreeSteps };
 
     fn step(&mut self, event: &Event) -> Answer {
         self.step(event)

@@ -5,10 +5,13 @@ ghost use Rattle.gs_once.specs.Asked.{asked_by, help, connection, listening, not
 /// What is left out has its default, and a number may have a sign. Workers are not heeded.
 pub fn lines_that_serve()
     ensures once { asked_by (codes "gsd" ∷ codes "--once" ∷ []) ≡ connection (codes "http://localhost") 256 }
-    ensures all { asked_by (codes "gsd" ∷ codes "--piece" ∷ codes "+4" ∷ codes "--base=http://[::1]:80" ∷ codes "--once" ∷ [])
+    ensures all { asked_by (codes "gsd" ∷ codes "--piece" ∷ codes "+4"
+        ∷ codes "--base=http://[::1]:80" ∷ codes "--once" ∷ [])
         ≡ connection (codes "http://[::1]:80") 4 }
-    ensures least { asked_by (codes "gsd" ∷ codes "--once" ∷ codes "--piece=1" ∷ []) ≡ connection (codes "http://localhost") 1 }
-    ensures most { asked_by (codes "gsd" ∷ codes "--once" ∷ codes "--piece=4096" ∷ []) ≡ connection (codes "http://localhost") 4096 }
+    ensures least { asked_by (codes "gsd" ∷ codes "--once" ∷ codes "--piece=1" ∷ [])
+        ≡ connection (codes "http://localhost") 1 }
+    ensures most { asked_by (codes "gsd" ∷ codes "--once" ∷ codes "--piece=4096" ∷ [])
+        ≡ connection (codes "http://localhost") 4096 }
     ensures workers { asked_by (codes "gsd" ∷ codes "--once" ∷ codes "--workers" ∷ codes "9" ∷ [])
         ≡ connection (codes "http://localhost") 256 }
 {}
@@ -17,8 +20,10 @@ pub fn lines_that_serve()
 pub fn lines_that_listen()
     ensures address { asked_by (codes "gsd" ∷ codes "--listen" ∷ codes "127.0.0.1:0" ∷ [])
         ≡ listening (codes "127.0.0.1:0") (codes "http://localhost") 4 256 }
-    ensures all { asked_by (codes "gsd" ∷ codes "--workers" ∷ codes "256" ∷ codes "--listen=[::1]:80" ∷ codes "--piece=1"
-        ∷ codes "--base" ∷ codes "http://a:80" ∷ []) ≡ listening (codes "[::1]:80") (codes "http://a:80") 256 1 }
+    ensures all { asked_by (codes "gsd" ∷ codes "--workers" ∷ codes "256"
+        ∷ codes "--listen=[::1]:80" ∷ codes "--piece=1"
+        ∷ codes "--base" ∷ codes "http://a:80" ∷ [])
+        ≡ listening (codes "[::1]:80") (codes "http://a:80") 256 1 }
     ensures least { asked_by (codes "gsd" ∷ codes "--listen" ∷ codes "x" ∷ codes "--workers=1" ∷ [])
         ≡ listening (codes "x") (codes "http://localhost") 1 256 }
 {}
@@ -37,21 +42,29 @@ pub fn lines_that_are_bad()
     ensures no_name { asked_by [] ≡ nothing }
     ensures no_once { asked_by (codes "gsd" ∷ codes "--piece" ∷ codes "7" ∷ []) ≡ nothing }
     ensures twice { asked_by (codes "gsd" ∷ codes "--once" ∷ codes "--once" ∷ []) ≡ nothing }
-    ensures piece_zero { asked_by (codes "gsd" ∷ codes "--once" ∷ codes "--piece" ∷ codes "0" ∷ []) ≡ nothing }
-    ensures piece_over { asked_by (codes "gsd" ∷ codes "--once" ∷ codes "--piece" ∷ codes "4097" ∷ []) ≡ nothing }
-    ensures piece_text { asked_by (codes "gsd" ∷ codes "--once" ∷ codes "--piece" ∷ codes "x" ∷ []) ≡ nothing }
-    ensures base_empty { asked_by (codes "gsd" ∷ codes "--once" ∷ codes "--base" ∷ codes "http://" ∷ []) ≡ nothing }
-    ensures base_other { asked_by (codes "gsd" ∷ codes "--once" ∷ codes "--base" ∷ codes "ftp://x" ∷ []) ≡ nothing }
+    ensures piece_zero { asked_by (codes "gsd" ∷ codes "--once" ∷ codes "--piece" ∷ codes "0" ∷ [])
+        ≡ nothing }
+    ensures piece_over { asked_by (codes "gsd" ∷ codes "--once" ∷ codes "--piece" ∷ codes "4097" ∷ [])
+        ≡ nothing }
+    ensures piece_text { asked_by (codes "gsd" ∷ codes "--once" ∷ codes "--piece" ∷ codes "x" ∷ [])
+        ≡ nothing }
+    ensures base_empty { asked_by (codes "gsd" ∷ codes "--once" ∷ codes "--base" ∷ codes "http://" ∷ [])
+        ≡ nothing }
+    ensures base_other { asked_by (codes "gsd" ∷ codes "--once" ∷ codes "--base" ∷ codes "ftp://x" ∷ [])
+        ≡ nothing }
     ensures unknown { asked_by (codes "gsd" ∷ codes "--once" ∷ codes "--other" ∷ []) ≡ nothing }
     ensures extra { asked_by (codes "gsd" ∷ codes "--once" ∷ codes "more" ∷ []) ≡ nothing }
     ensures both { asked_by (codes "gsd" ∷ codes "--listen" ∷ codes "x" ∷ codes "--once" ∷ []) ≡ nothing }
     ensures no_address { asked_by (codes "gsd" ∷ codes "--listen" ∷ []) ≡ nothing }
     ensures listen_twice { asked_by (codes "gsd" ∷ codes "--listen=x" ∷ codes "--listen=x" ∷ []) ≡ nothing }
-    ensures workers_zero { asked_by (codes "gsd" ∷ codes "--listen" ∷ codes "x" ∷ codes "--workers" ∷ codes "0" ∷ [])
+    ensures workers_zero { asked_by (codes "gsd" ∷ codes "--listen" ∷ codes "x"
+        ∷ codes "--workers" ∷ codes "0" ∷ [])
         ≡ nothing }
-    ensures workers_over { asked_by (codes "gsd" ∷ codes "--listen" ∷ codes "x" ∷ codes "--workers" ∷ codes "257" ∷ [])
+    ensures workers_over { asked_by (codes "gsd" ∷ codes "--listen" ∷ codes "x"
+        ∷ codes "--workers" ∷ codes "257" ∷ [])
         ≡ nothing }
-    ensures workers_text { asked_by (codes "gsd" ∷ codes "--listen" ∷ codes "x" ∷ codes "--workers" ∷ codes "x" ∷ [])
+    ensures workers_text { asked_by (codes "gsd" ∷ codes "--listen" ∷ codes "x"
+        ∷ codes "--workers" ∷ codes "x" ∷ [])
         ≡ nothing }
     ensures once_zero { asked_by (codes "gsd" ∷ codes "--once" ∷ codes "--workers" ∷ codes "0" ∷ [])
         ≡ nothing }
@@ -59,6 +72,7 @@ pub fn lines_that_are_bad()
         ≡ nothing }
     ensures once_text { asked_by (codes "gsd" ∷ codes "--once" ∷ codes "--workers" ∷ codes "x" ∷ [])
         ≡ nothing }
-    ensures listen_base { asked_by (codes "gsd" ∷ codes "--listen" ∷ codes "x" ∷ codes "--base" ∷ codes "ftp://x" ∷ [])
+    ensures listen_base { asked_by (codes "gsd" ∷ codes "--listen" ∷ codes "x" ∷ codes "--base"
+        ∷ codes "ftp://x" ∷ [])
         ≡ nothing }
 {}

@@ -43,7 +43,8 @@ fn way<'a>(
     requires base { is_base_text base.now ≡ true }
     requires some { (1 ≤ workers) × (1 ≤ piece) }
     requires few { (workers ≤ 256) × (piece ≤ 4096) }
-    ensures { MatchOption result (asked_way once (option_map (λ w. w.now) listen.entry) base.now workers piece ≡ nothing)
+    ensures { MatchOption result
+        (asked_way once (option_map (λ w. w.now) listen.entry) base.now workers piece ≡ nothing)
         (IsTask (asked_way once (option_map (λ w. w.now) listen.entry) base.now workers piece)) }
 {
     match (once, listen) {

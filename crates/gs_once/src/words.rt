@@ -10,7 +10,8 @@ use std::alloc::{AllocError, Global};
 
 /// The program with the two ways to run.
 fn ways<'a>(alloc: Global) -> Result<Command<'a>, AllocError>
-    ensures { IfOk result (λ command. app_of command ≡ with_rule (with_rule (new_app (codes "gsd")) spec.listen) spec.once) }
+    ensures { IfOk result (λ command. app_of command
+        ≡ with_rule (with_rule (new_app (codes "gsd")) spec.listen) spec.once) }
 {
     Command::new(alloc, "gsd")
         .arg(listen(alloc))?

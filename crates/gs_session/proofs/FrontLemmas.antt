@@ -16,7 +16,8 @@ use Rattle.gs_talk.specs.Moves.{after, course, at_cancel}
 use Rattle.gs_talk.specs.Following.{phase_at}
 use Rattle.gs_talk.specs.Seats.{Deeds}
 use Rattle.gs_talk.specs.Replies.{BodyState, Whole, Faulty, Unended, IsOwn, said_so_far, data_of}
-use Rattle.gs_talk.specs.Logs.{Server, Log, AllSuit, AnswersAll, AskInHand, InHand, IsRight, SaysFront, deed_of, deeds_of, deeds, texts, stages_in}
+use Rattle.gs_talk.specs.Logs.{Server, Log, AllSuit, AnswersAll, AskInHand, InHand, IsRight, deed_of, deeds_of, deeds, texts, stages_in}
+use Rattle.gs_talk.specs.Closings.{SaysFront}
 use Rattle.gs_talk.specs.Laws.{AreOfKind, IsIdle}
 use Rattle.gs_talk.proofs.KindLemmas.{IsBroken}
 use Rattle.gs_talk.proofs.LogLemmas.{log_idle, talk_idle}

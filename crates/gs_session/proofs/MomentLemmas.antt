@@ -3,7 +3,8 @@ use Rattle.std.proofs.Common.{inl, inr, ℕ, Bool, List, [], ◌++◌, refl, sym
 use Rattle.gs_verdict.specs.declared.verdicts.Asked.{Asked}
 use Rattle.gs_talk.specs.Courses.{Course}
 use Rattle.gs_talk.specs.Seats.{Deeds}
-use Rattle.gs_talk.specs.Logs.{Server, IsRight, SaysFront}
+use Rattle.gs_talk.specs.Logs.{Server, IsRight}
+use Rattle.gs_talk.specs.Closings.{SaysFront}
 use Rattle.gs_session.specs.declared.phases.Phase.{Phase}
 use Rattle.gs_session.specs.declared.phases.Phase.TheVariants.{Between, Serving, Over}
 use Rattle.gs_session.specs.declared.phases.Work.{Work}

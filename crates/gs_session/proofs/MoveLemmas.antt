@@ -11,7 +11,8 @@ use Rattle.gs_talk.specs.Courses.{Move, Did, Short, Course, Fresh}
 use Rattle.gs_talk.specs.Moves.{after, course}
 use Rattle.gs_talk.specs.Seats.{Deeds}
 use Rattle.gs_talk.specs.Replies.{BodyState, Whole, Faulty, Unended, IsOwn, Settles, said_so_far, greeting, data_of}
-use Rattle.gs_talk.specs.Logs.{Server, Entry, Log, is_closed, AllSuit, AnswersAsk, AnswersAll, deed_of, deeds_of, deeds, texts, stages_in}
+use Rattle.gs_talk.specs.Logs.{Server, Entry, Log, AllSuit, AnswersAsk, AnswersAll, deed_of, deeds_of, deeds, texts, stages_in}
+use Rattle.gs_talk.specs.Closings.{is_closed}
 use Rattle.gs_session.specs.declared.phases.Phase.{Phase}
 use Rattle.gs_session.specs.declared.phases.Phase.TheVariants.{Between, Serving, Over}
 use Rattle.gs_session.specs.declared.phases.Work.{Work}

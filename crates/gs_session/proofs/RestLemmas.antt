@@ -13,7 +13,8 @@ use Rattle.gs_talk.specs.Courses.{Course, Fresh}
 use Rattle.gs_talk.specs.Moves.{course}
 use Rattle.gs_talk.specs.Seats.{Deeds}
 use Rattle.gs_talk.specs.Replies.{BodyState, Unended, IsOwn, said_so_far}
-use Rattle.gs_talk.specs.Logs.{Server, Log, AnswersAll, IsRight, awaits_body, SaysAll, SaysLast}
+use Rattle.gs_talk.specs.Logs.{Server, Log, AnswersAll, IsRight}
+use Rattle.gs_talk.specs.Closings.{awaits_body, SaysAll, SaysLast}
 use Rattle.gs_session.specs.declared.phases.Phase.{Phase}
 use Rattle.gs_session.specs.declared.phases.Phase.TheVariants.{Between, Serving, Over}
 use Rattle.gs_session.specs.declared.phases.Work.{Work}

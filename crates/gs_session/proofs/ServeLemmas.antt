@@ -7,7 +7,8 @@ use Rattle.gs_event.specs.declared.events.Event.{Event}
 use Rattle.gs_event.specs.declared.answers.Answer.{Answer}
 use Rattle.gs_stream.specs.Requests as stream
 use Rattle.gs_talk.specs.Seats.{Deeds}
-use Rattle.gs_talk.specs.Logs.{Server, Talk, SaysLast, SaysFront}
+use Rattle.gs_talk.specs.Logs.{Server, Talk}
+use Rattle.gs_talk.specs.Closings.{SaysLast, SaysFront}
 use Rattle.gs_talk.specs.Laws.{AreOfKind, IsIdle}
 use Rattle.gs_talk.proofs.LogLemmas.{rests_idle, talk_points}
 use Rattle.gs_session.specs.declared.sessions.Session.{Session}

@@ -7,7 +7,8 @@ use Rattle.gs_event.specs.Phases.{Idle}
 use Rattle.gs_stream.specs.Requests.{requests}
 use Rattle.gs_talk.specs.Seats.{Deeds, asked_in}
 use Rattle.gs_talk.specs.Points.{ArePointsOf}
-use Rattle.gs_talk.specs.Logs.{Server, SaysLast, SaysFront}
+use Rattle.gs_talk.specs.Logs.{Server}
+use Rattle.gs_talk.specs.Closings.{SaysLast, SaysFront}
 use Rattle.gs_talk.specs.Laws.{IsIdle}
 use Rattle.gs_session.specs.declared.sessions.Session.{Session}
 use Rattle.gs_session.specs.Steps.{server_of}

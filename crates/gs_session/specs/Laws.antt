@@ -8,7 +8,8 @@ use Rattle.gs_event.specs.Steps.{Steps}
 use Rattle.gs_event.specs.Histories.{Start, History, IsLegal, HasRun, view_of, pinned_of}
 use Rattle.gs_stream.specs.Requests.{Request}
 use Rattle.gs_talk.specs.Seats.{Deeds}
-use Rattle.gs_talk.specs.Logs.{Server, Talk, SaysFront}
+use Rattle.gs_talk.specs.Logs.{Server, Talk}
+use Rattle.gs_talk.specs.Closings.{SaysFront}
 use Rattle.gs_talk.specs.Laws.{HasMisfit, IsIdle}
 use Rattle.gs_session.specs.declared.sessions.Session.{Session}
 use Rattle.gs_session.specs.Steps.{server_of}

@@ -3,7 +3,8 @@ use Rattle.std.specs.Prelude.{◌≡◌, ℕ, Bool, true, false, List, [], ◌++
 use Rattle.gs_stream.specs.Requests.{Request, requests}
 use Rattle.gs_talk.specs.Courses.{Move}
 use Rattle.gs_talk.specs.Seats.{Deeds}
-use Rattle.gs_talk.specs.Logs.{Server, Log, AnswersAll, deeds, deeds_of, texts, is_closed}
+use Rattle.gs_talk.specs.Logs.{Server, Log, AnswersAll, deeds, deeds_of, texts}
+use Rattle.gs_talk.specs.Closings.{is_closed}
 use Rattle.gs_session.specs.Trails.{Trail, coming, Keeps}
 use Rattle.gs_session.specs.declared.phases.Phase.{Phase}
 use Rattle.gs_session.specs.declared.phases.Phase.TheVariants.{Over}

@@ -5,7 +5,7 @@ use Rattle.gs_event.specs.declared.events.Action.{Action}
 use Rattle.gs_event.specs.declared.events.Action.TheVariants.{Cancel}
 use Rattle.gs_event.specs.declared.answers.Answer.{Answer}
 use Rattle.gs_talk.specs.Seats.{Deeds}
-use Rattle.gs_talk.specs.Logs.{SaysAll, SaysLast, SaysFront}
+use Rattle.gs_talk.specs.Closings.{SaysAll, SaysLast, SaysFront}
 use Rattle.gs_talk.specs.Laws.{AreOfKind, IsIdle}
 use Rattle.gs_session.specs.declared.phases.Work.{Work}
 use Rattle.gs_session.specs.declared.phases.Work.TheVariants.{Opening, Skipping}

@@ -38,7 +38,8 @@ fn work<D: Door>(
     work: Work,
     door: &mut D,
 ) -> Step
-    ensures { DoesStep D.Gives setup.now ended (Serving asked work) input.old door.old result input.new door.new }
+    ensures { DoesStep D.Gives setup.now ended (Serving asked work) input.old door.old
+        result input.new door.new }
 {
     match work {
         Work::Opening => open(setup, asked, door),

@@ -18,3 +18,4 @@ pub mod KeptLemmas
 pub mod PlaceLemmas
 pub mod ReclaimLemmas
 pub mod StepLemmas
+pub mod RunLemmas

@@ -7,6 +7,7 @@ use Rattle.gs_event.specs.declared.answers.Answer.{Answer}
 use Rattle.gs_event.specs.declared.answers.Answer.TheVariants.{Reclaimed}
 use Rattle.gs_event.specs.Views.{SeatView}
 use Rattle.gs_event.specs.Waste.{Shown, nodes_in}
+use Rattle.gs_event.specs.Steps.{Steps}
 use Rattle.gs_tree_store.specs.Actions.{SeatUses}
 
 -- of a seat that there is what its action uses, and none where there is no such seat
@@ -19,3 +20,8 @@ abbrev pub UsesNodes : Shown → Event → Answer → Shown → Type 0
 UsesNodes old (Reclaim n) (Reclaimed freed left) new = nodes_in new + freed ≡ nodes_in old
 UsesNodes old (Reclaim n) a new = nodes_in new ≡ nodes_in old
 UsesNodes old (At s action) a new = UsesAt (slice_get old.view.seats s) (At s action) a old new
+
+-- one step of a store over trees: that of every store, and the nodes that it uses
+pub record TreeSteps (old : Shown) (e : Event) (a : Answer) (new : Shown) : Type 0 where
+  pub steps : Steps old e a new
+  pub uses : UsesNodes old e a new

@@ -63,7 +63,8 @@ fn commit_at(
 ) -> Answer
     requires ready { IsReadyAny books.old (Patching target request) }
     requires idle { seat.old ≡ Seat.Idle }
-    ensures acts { ActsAny books.old books.new (Patching target request) seat.new (CommitPatch operations.now) result }
+    ensures acts { ActsAny books.old books.new (Patching target request) seat.new
+        (CommitPatch operations.now) result }
     ensures room { HoldsRoom books.old books.new (Patching target request) seat.new }
 {
     if !books::is_there(books, &target) {

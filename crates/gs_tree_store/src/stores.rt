@@ -138,9 +138,9 @@ impl TreeStore {
 }
 
 impl EventStore for TreeStore {
-    ghost use Rattle.gs_event.specs.Steps.{Steps};
+    ghost use Rattle.gs_tree_store.specs.Uses.{TreeSteps};
 
-    ghost Takes = { Steps };
+    ghost Takes = { TreeSteps };
 
     fn step(&mut self, event: &Event) -> Answer {
         self.step(event)

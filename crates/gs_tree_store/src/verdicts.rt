@@ -13,7 +13,8 @@ use gs_term::Target;
 /// What the books hold.
 pub fn holdings(books: &Books) -> Holdings
     requires { HasCounts books.now }
-    ensures { result ≡ holdings_of (books_setting books.now) (dataset_of books.now) books.now.versions.commit }
+    ensures { result
+        ≡ holdings_of (books_setting books.now) (dataset_of books.now) books.now.versions.commit }
 {
     // The triples of all graphs are nodes in use, which are fewer than 2^32.
     let _used = books.pool.nodes_in_use();

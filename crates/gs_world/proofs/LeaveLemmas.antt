@@ -6,7 +6,8 @@ use Rattle.gs_event.specs.declared.answers.Answer.{Answer}
 use Rattle.gs_event.specs.Waste.{Shown}
 use Rattle.gs_event.specs.Steps.{Steps}
 use Rattle.gs_talk.specs.Seats.{Deeds}
-use Rattle.gs_talk.specs.Logs.{Server, Talk, SaysFront}
+use Rattle.gs_talk.specs.Logs.{Server, Talk}
+use Rattle.gs_talk.specs.Closings.{SaysFront}
 use Rattle.gs_talk.specs.Laws.{AreOfKind, IsIdle}
 use Rattle.gs_session.specs.declared.sessions.Session.{Session}
 use Rattle.gs_session.specs.Leads.{MayCome}

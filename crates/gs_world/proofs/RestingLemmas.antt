@@ -5,7 +5,8 @@ use Rattle.gs_event.specs.declared.events.Event.TheVariants.{Seat}
 use Rattle.gs_event.specs.Steps.{Steps}
 use Rattle.gs_event.specs.Histories.{History}
 use Rattle.gs_talk.specs.Seats.{Deeds}
-use Rattle.gs_talk.specs.Logs.{Server, SaysAll, SaysLast}
+use Rattle.gs_talk.specs.Logs.{Server}
+use Rattle.gs_talk.specs.Closings.{SaysAll, SaysLast}
 use Rattle.gs_session.specs.declared.sessions.Session.{Session}
 use Rattle.gs_session.specs.declared.sessions.Turn as turn
 use Rattle.gs_session.specs.declared.sessions.Turn.TheVariants.{NeedInput, Made, Output, Over}

@@ -6,7 +6,8 @@ use Rattle.gs_event.specs.Phases.{Idle}
 use Rattle.gs_event.specs.Views.{View}
 use Rattle.gs_event.specs.Histories.{History, view_of}
 use Rattle.gs_talk.specs.Seats.{Deeds}
-use Rattle.gs_talk.specs.Logs.{Server, SaysFront}
+use Rattle.gs_talk.specs.Logs.{Server}
+use Rattle.gs_talk.specs.Closings.{SaysFront}
 use Rattle.gs_talk.proofs.LogLemmas.{talk_points, rests_idle}
 use Rattle.gs_session.specs.declared.sessions.Session.{Session}
 use Rattle.gs_session.proofs.MomentLemmas.{says_front}

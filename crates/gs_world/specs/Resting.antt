@@ -6,7 +6,8 @@ use Rattle.gs_event.specs.declared.answers.Answer.{Answer}
 use Rattle.gs_event.specs.Histories.{History}
 use Rattle.gs_event.specs.Steps.{Steps}
 use Rattle.gs_talk.specs.Seats.{Deeds}
-use Rattle.gs_talk.specs.Logs.{Server, SaysAll, SaysLast}
+use Rattle.gs_talk.specs.Logs.{Server}
+use Rattle.gs_talk.specs.Closings.{SaysAll, SaysLast}
 use Rattle.gs_world.specs.declared.steps.WorldStep.{WorldStep}
 use Rattle.gs_world.specs.declared.steps.WorldStep.TheVariants.{Turn}
 use Rattle.gs_world.specs.declared.worlds.World.{World}

@@ -7,7 +7,8 @@ use Rattle.gs_event.specs.Histories.{History, Start, IsLegal, view_of, pinned_of
 use Rattle.gs_stream.specs.Requests.{requests}
 use Rattle.gs_talk.specs.Seats.{Deeds, asked_in}
 use Rattle.gs_talk.specs.Points.{ArePointsOf}
-use Rattle.gs_talk.specs.Logs.{Server, Talk, SaysFront}
+use Rattle.gs_talk.specs.Logs.{Server, Talk}
+use Rattle.gs_talk.specs.Closings.{SaysFront}
 use Rattle.gs_talk.specs.Laws.{HasMisfit, AreOfKind, IsIdle}
 use Rattle.gs_session.specs.declared.sessions.Session.{Session}
 use Rattle.gs_session.specs.Steps.{server_of}
