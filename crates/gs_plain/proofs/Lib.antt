@@ -1,6 +1,5 @@
 pub mod CommitLemmas
 pub mod KeptLemmas
-pub mod NameLemmas
 pub mod PinLemmas
 pub mod PostLemmas
 pub mod RowLemmas

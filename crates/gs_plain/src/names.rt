@@ -1,13 +1,10 @@
 //! Names that the store makes up.
-ghost use Rattle.std.specs.Prelude.{◌≡◌, true, IfOk, string_bytes};
-ghost use Rattle.gs_model.specs.Bases.{is_base};
-ghost use Rattle.gs_event.specs.Names.{made_name as made_name_of};
+ghost use Rattle.std.specs.Prelude.{◌≡◌, IfOk};
 ghost use Rattle.gs_plain.specs.Books.{name_for, IsCounted};
 
 use crate::books::{self, Books};
-use gs_model::Refusal;
+use gs_made_names::made_name;
 use gs_term::{GraphName, Target};
-use itoa::Buffer;
 use std::alloc::{AllocError, Global};
 
 /// The first of the names for this request that is not in the store.
@@ -37,32 +34,4 @@ pub fn new_name_twice(
     let name = new_name(books, alloc, request)?;
     let given = name.clone()?;
     Ok((name, given))
-}
-
-/// `<base>/graphs/n<request>-<number>`.
-fn made_name(alloc: Global, base: &str, request: u64, number: u64) -> Result<GraphName, AllocError>
-    requires { is_base base.now ≡ true }
-    ensures { IfOk result (λ name. name ≡ made_name_of base.now request number) }
-{
-    let text = name_text(alloc, base, request, number)?;
-    match GraphName::new(alloc, text.as_str()) {
-        Ok(name) => Ok(name),
-        Err(refusal) => match refusal {
-            Refusal::NoMemory => Err(AllocError),
-            _ => unreachable!(),
-        },
-    }
-}
-
-fn name_text(alloc: Global, base: &str, request: u64, number: u64) -> Result<String, AllocError>
-    ensures { IfOk result (λ text. string_bytes text ≡ made_name_of base.now request number) }
-{
-    let mut first = Buffer::new();
-    let mut second = Buffer::new();
-    let mut text = String::from_str(alloc, base)?;
-    text.push_str("/graphs/n")?;
-    text.push_str(first.format(request))?;
-    text.push_str("-")?;
-    text.push_str(second.format(number))?;
-    Ok(text)
 }

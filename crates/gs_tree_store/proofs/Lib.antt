@@ -1,4 +1,3 @@
-pub mod NameLemmas
 pub mod VerdictLemmas
 pub mod CommitLemmas
 pub mod WriteLemmas

@@ -3,7 +3,7 @@ use Rattle.gs_term.specs.declared.names.Target.TheVariants.{Named}
 use Rattle.gs_event.specs.Datasets.{is_there}
 use Rattle.gs_event.specs.Names.{made_name, first_free}
 use Rattle.gs_plain.specs.Books.{dataset_of}
-use Rattle.gs_plain.proofs.NameLemmas.{free_more, free_here, free_end, named_so}
+use Rattle.gs_made_names.proofs.NameLemmas.{free_more, free_here, free_end, named_so}
 use Rattle.gs_plain.proofs.names.new_name.Goals as goal
 
 pub loop-number-init : goal.loop-number-init

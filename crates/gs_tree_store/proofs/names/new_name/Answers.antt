@@ -5,7 +5,7 @@ use Rattle.gs_event.specs.Datasets.{is_there}
 use Rattle.gs_event.specs.Names.{made_name, first_free}
 use Rattle.gs_datasets.proofs.Sizes.{names_in-is}
 use Rattle.gs_tree_store.specs.Books.{dataset_of}
-use Rattle.gs_tree_store.proofs.NameLemmas.{free_more, free_here, free_end, named_so}
+use Rattle.gs_made_names.proofs.NameLemmas.{free_more, free_here, free_end, named_so}
 use Rattle.gs_tree_store.proofs.names.new_name.Goals as goal
 
 pub loop-number-init : goal.loop-number-init

@@ -2,7 +2,7 @@ use Rattle.std.proofs.Common.{◌≡◌, ◌++◌, ◌∷◌, [], codes, append_
 use Rattle.std.specs.Fmt.{decimal}
 use Rattle.gs_model.specs.Terms.{numeral}
 use Rattle.gs_term.proofs.MakingLemmas.{decimal_is_numeral}
-use Rattle.gs_tree_store.proofs.names.name_text.Goals as goal
+use Rattle.gs_made_names.proofs.names.name_text.Goals as goal
 
 pub returns : goal.returns
 returns c =

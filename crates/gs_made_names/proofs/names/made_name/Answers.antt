@@ -1,7 +1,7 @@
 use Rattle.std.proofs.Common.{◌≡◌, ◌∙◌}
 use Rattle.gs_event.specs.Names.{made_name}
-use Rattle.gs_tree_store.proofs.NameLemmas.{made_absolute, made_short, never_refused}
-use Rattle.gs_tree_store.proofs.names.made_name.Goals as goal
+use Rattle.gs_made_names.proofs.NameLemmas.{made_absolute, made_short, never_refused}
+use Rattle.gs_made_names.proofs.names.made_name.Goals as goal
 
 pub unreachable-requires : goal.unreachable-requires
 unreachable-requires c =
