@@ -1,4 +1,4 @@
-"""Checks what gsdrill prints where a request for memory is refused: memory.py PROGRAM CRATES FOLDER."""
+"""Checks what gsdrill prints where a request for memory is refused: memory.py PROGRAM CRATES FOLDER [each]."""
 import functools
 import os
 import re
@@ -345,8 +345,10 @@ def counted(schedule):
     return "\n".join(lines) + "\n"
 
 
-def refusals(schedule, printed):
+@functools.lru_cache(maxsize=1024)
+def refusals(schedule, out):
     """How often memory was refused to an event, and whether the whole schedule was answered."""
+    printed = out.split("\n")[:-1]
     store, count, at = Store(), 0, 0
     for line in schedule.split("\n"):
         words = line.split(" ")
@@ -392,7 +394,7 @@ def run(program, schedule, room, refused, later=False):
 def check(program, schedule, room, refused, later):
     """The run ends for want of memory, or answers the whole schedule; nothing else ends it."""
     status, out, err = run(program, schedule, room, refused, later)
-    count, is_whole = refusals(schedule, out.split("\n")[:-1])
+    count, is_whole = refusals(schedule, out)
     if status == 3:
         assert err == "gsdrill: no memory\n" and (later or count == 0), (refused, err)
     else:
@@ -419,7 +421,7 @@ def worked_rows(crates):
 def requests_of(program, schedule, room):
     """How many requests for memory a run makes, which ends well and is right."""
     status, out, err = run(program, schedule, room, 0)
-    assert (status, err) == (0, "") and refusals(schedule, out.split("\n")[:-1]) == (0, True), (status, err)
+    assert (status, err) == (0, "") and refusals(schedule, out) == (0, True), (status, err)
     return int(open(f"{room}/count").read())
 
 
@@ -442,13 +444,19 @@ def spread(first, last, most):
     return sorted({first + it * (count - 1) // (most - 1) for it in range(most)})
 
 
-def check_large(program, room):
-    schedule = counted(large())
-    requests = requests_of(program, schedule, room)
+def some_requests(program, schedule, room, requests):
+    """Some requests of each line, and more of each commit."""
     refused = set(spread(1, requests, 300))
     for line, before, after in requests_by_line(program, schedule, room):
         if not line.startswith("counts") and before < after:
             refused |= set(spread(before + 1, after, 100 if line.endswith("commit") else 6))
+    return refused
+
+
+def check_large(program, room, is_each):
+    schedule = counted(large())
+    requests = requests_of(program, schedule, room)
+    refused = set(range(1, requests + 1)) if is_each else some_requests(program, schedule, room, requests)
     for it in sorted(refused):
         for later in (False, True):
             check(program, schedule, room, it, later)
@@ -456,7 +464,7 @@ def check_large(program, room):
     return 2 * len(refused)
 
 
-def check_built(program, crates, room):
+def check_built(program, crates, room, each=""):
     total = 0
     for name, schedule, want in worked_rows(crates):
         assert run(program, schedule, room, 0) == (0, want, ""), name
@@ -466,7 +474,7 @@ def check_built(program, crates, room):
                 check(program, counted(schedule), room, refused, later)
         total += 2 * requests
         print(f"{name}: {requests} requests, each refused in turn, alone and with all after it")
-    total += check_large(program, room)
+    total += check_large(program, room, each == "each")
     print(f"{total} runs, and no wrong answer")
 
 
@@ -498,7 +506,7 @@ def check_some(folder, room, name, schedules, refused):
     assert len(runs) == len(schedules), f"{len(runs)} of {len(schedules)} cases ended"
     seen = {}
     for number, (status, out) in sorted(runs.items()):
-        count, is_whole = refusals(schedules[number], out.split("\n")[:-1])
+        count, is_whole = refusals(schedules[number], out)
         assert count <= 1 and (status == 3 and count == 0 or status == 0 and is_whole), (number, status, count, is_whole)
         key = "cut short" if status else "an event refused" if count else "whole"
         seen[key] = seen.get(key, 0) + 1
