@@ -2,14 +2,14 @@
 use Rattle.std.proofs.Common.{◌≡◌, ℕ, zero, suc, ◌<◌, ◌≤◌, Option, None, refl, sym, ap, subst, ◌∙◌, arith, get_or}
 use Rattle.std.specs.declared.cmp.Ordering.{Ordering}
 use Rattle.gs_pool.specs.declared.nodes.Key.{Key}
-use Rattle.gs_pool.specs.Pool.{Nodes, plain, mark_at, KeepsNodes}
+use Rattle.gs_pool.specs.Pool.{Nodes, plain, mark_at, retired_mark, KeepsNodes}
 use Rattle.gs_tree.specs.Tree.{Tree, occurrences, Stands, tree_at}
 use Rattle.gs_tree.specs.Steps.{plain_count}
 use Rattle.gs_tree.specs.Sets.{IsSet, IsSetAt}
 use Rattle.gs_tree.proofs.TreeLemmas.{Stands-same, plain_count_same, plain_found}
 use Rattle.gs_tree.proofs.Rotations.{tree_in}
 use Rattle.gs_changes.specs.Changes.{Changes, IsEarlier}
-use Rattle.gs_changes.specs.Endings.{Restores, Retires, died}
+use Rattle.gs_changes.specs.Endings.{Restores, Retires}
 use Rattle.gs_changes.proofs.ChangeLemmas.{born_before, at_most}
 
 -- a tree stands where each number has its node
@@ -38,7 +38,7 @@ restored_set cmp p q root r s = set_stays cmp p q root r.nodes (λ x e. r.marks 
 
 -- what was kept
 pub retired_set : (cmp : Key → Key → Ordering) (death : ℕ) (p q : Nodes) (root : Option ℕ) → Retires death p q → IsSetAt cmp p root → IsSetAt cmp q root × (tree_at q root ≡ tree_at p root)
-retired_set cmp death p q root r s = set_stays cmp p q root (λ x. ap (λ ns. get_or ns x None) r.nodes) (λ x e. r.marks x ∙ ap (died death) e) s
+retired_set cmp death p q root r s = set_stays cmp p q root (λ x. ap (λ ns. get_or ns x None) r.nodes) (λ x e. r.marks x ∙ ap (retired_mark death) e) s
 
 -- what a commit made is before the next one
 pub next_earlier : (cmp : Key → Key → Ordering) (birth next : ℕ) (p q : Nodes) (root : Option ℕ) (added removed : ℕ) (t new : Tree) → birth < next → IsEarlier birth p t → Changes cmp birth p q root added removed t new → IsEarlier next q new

@@ -1,7 +1,7 @@
 -- How a change ends: taken back, or kept.
-use Rattle.std.specs.Prelude.{◌≡◌, ◌⊎◌, ℕ, ◌+◌, ◌<◌, ◌≤◌, Option, Some, None, false}
+use Rattle.std.specs.Prelude.{◌≡◌, ◌⊎◌, ℕ, ◌+◌, ◌<◌, ◌≤◌, Option, Some, None}
 use Rattle.gs_pool.specs.declared.nodes.Node.{Node}
-use Rattle.gs_pool.specs.Pool.{Nodes, NodeMark, plain, aside, retired, node_at, mark_at, in_use, aside_count, retired_count, KeepsNodes, KeepsMarks}
+use Rattle.gs_pool.specs.Pool.{Nodes, NodeMark, plain, aside, retired, node_at, mark_at, retired_mark, in_use, aside_count, retired_count, KeepsNodes, KeepsMarks}
 use Rattle.gs_tree.specs.Tree.{Tree, root_of, occurrences, Stands, Descends, tree_at}
 use Rattle.gs_tree.specs.Steps.{plain_count, IsOlder, Step}
 use Rattle.gs_changes.specs.Changes.{CanBegin}
@@ -11,12 +11,6 @@ abbrev pub returned : NodeMark → NodeMark
 returned plain = plain
 returned (aside death whole) = plain
 returned (retired death whole) = retired death whole
-
--- a mark, once what was set aside died by a commit
-abbrev pub died : ℕ → NodeMark → NodeMark
-died death plain = plain
-died death (aside d whole) = retired death false
-died death (retired d whole) = retired d whole
 
 -- a root means a tree of plain nodes, none of which is born after its parent
 pub record IsDraft (p : Nodes) (root : Option ℕ) (t : Tree) : Type 0 where
@@ -71,6 +65,6 @@ pub record Retires (death : ℕ) (p q : Nodes) : Type 0 where
   pub nodes : q.nodes ≡ p.nodes
   pub spare : q.spare ≡ p.spare
   pub limit : q.limit ≡ p.limit
-  pub marks : (x : ℕ) → mark_at q x ≡ died death (mark_at p x)
+  pub marks : (x : ℕ) → mark_at q x ≡ retired_mark death (mark_at p x)
   pub aside : aside_count q ≡ 0
   pub retired : retired_count q ≡ retired_count p + aside_count p

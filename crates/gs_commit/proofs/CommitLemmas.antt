@@ -1,7 +1,7 @@
 -- How the ends of a commit carry every ledger.
-use Rattle.std.proofs.Common.{◌≡◌, ℕ, ◌+◌, List, ◌∷◌, ◌++◌, get_or, Option, Some, None, is_some, refl, sym, ap, subst, ◌∙◌, arith}
+use Rattle.std.proofs.Common.{◌≡◌, ℕ, ◌+◌, List, ◌∷◌, ◌++◌, get_or, Option, Some, None, is_some, sym, ap, subst, ◌∙◌, arith}
 use Rattle.std.proofs.lemmas.List.Sums.{sum_by-append}
-use Rattle.gs_pool.specs.Pool.{Nodes, NodeMark, plain, aside, retired, mark_at, aside_count, KeepsNodes}
+use Rattle.gs_pool.specs.Pool.{Nodes, mark_at, retired_mark, aside_count, KeepsNodes}
 use Rattle.gs_tree.specs.Tree.{tree_at}
 use Rattle.gs_versions.specs.Pins.{Pins, at_commit}
 use Rattle.gs_event.specs.Waste.{Lifetime}
@@ -9,14 +9,14 @@ use Rattle.gs_event.specs.Steps.{Joins, EndsAt}
 use Rattle.gs_ledger.specs.Entries.{died_whole}
 use Rattle.gs_ledger.specs.Marks.{dead_at, waste_at}
 use Rattle.gs_ledger.specs.Ledger.{IsLedger}
-use Rattle.gs_ledger.specs.Changes.{Buries, RetiresRoot, RetiresAside, retired_mark, aside_dead}
+use Rattle.gs_ledger.specs.Changes.{Buries, RetiresRoot, RetiresAside, aside_dead}
 use Rattle.gs_ledger.proofs.PutSteps.{put_ledger, cancel_ledger}
 use Rattle.gs_ledger.proofs.WriteSteps.{post_ledger}
 use Rattle.gs_ledger.proofs.Wasting.{put_joins, cancel_joins, post_joins}
 use Rattle.gs_ledger.proofs.Marked.{ledger_of_marks}
 use Rattle.gs_ledger.proofs.Retiring.{none_aside}
 use Rattle.gs_reclaim.specs.Reclaims.{CanRetireRoot}
-use Rattle.gs_changes.specs.Endings.{died, Retires}
+use Rattle.gs_changes.specs.Endings.{Retires}
 use Rattle.gs_commit.specs.Commits.{HandsOverAll, Drops, DropsAll, KeepsDraftAll}
 use Rattle.gs_commit.proofs.DeadLemmas.{tree_at_same}
 use Rattle.gs_commit.proofs.RootLemmas.{root_buried}
@@ -42,22 +42,16 @@ dropped p q root death can h is v gs us rs l =
       waste = cancel_joins p q v old gs us rs (dead_at p) l b;
     }
 
--- what `gs_changes` says of the nodes that were replaced is what the ledger asks
-died_is : (death : ℕ) (m : NodeMark) → died death m ≡ retired_mark death m
-died_is death plain = refl
-died_is death (aside d w) = refl
-died_is death (retired d w) = refl
-
 retires_nodes : (death : ℕ) (p q : Nodes) → Retires death p q → KeepsNodes p q
 retires_nodes death p q h x = ap (λ ns. get_or ns x None) h.nodes
 
 retires_aside : (death : ℕ) (p q : Nodes) → Retires death p q → RetiresAside p q death
-retires_aside death p q h = record { nodes = retires_nodes death p q h; marks = λ x. h.marks x ∙ died_is death (mark_at p x) }
+retires_aside death p q h = record { nodes = retires_nodes death p q h; marks = h.marks }
 
 -- a plain root stays plain
 pub can_still : (death : ℕ) (p q : Nodes) (root : Option ℕ) → Retires death p q → CanRetireRoot p root → CanRetireRoot q root
 can_still death p q None h can = tt
-can_still death p q (Some id) h can = (ap is_some (retires_nodes death p q h id) ∙ can.0, h.marks id ∙ ap (died death) can.1)
+can_still death p q (Some id) h can = (ap is_some (retires_nodes death p q h id) ∙ can.0, h.marks id ∙ ap (retired_mark death) can.1)
 
 -- what joins the waste may join in another order
 swapped : {A B : Lifetime → Type 0} {a b : ℕ} {x y z : List Lifetime} → Joins A a x y → Joins B b y z → (between : List Lifetime) × Joins B b x between × Joins A a between z

@@ -3,7 +3,7 @@ use Rattle.std.proofs.Common.{◌≡◌, ◌≢◌, ℕ, ◌+◌, ◌-◌, ◌<�
 use Rattle.std.proofs.lemmas.Bool.{cases_eq, ne_eqb}
 use Rattle.std.proofs.lemmas.List.{get_or_append_left, get_or_push, length_push, take_all, take-append-le, drop-append-le, drop_at, length-drop}
 use Rattle.gs_dict.specs.declared.chains.Entry.{Entry}
-use Rattle.gs_dict.specs.Chains.{IsLinked, IsSpanned, IsTable, Agree, entry_at, bucket_at, bucket_of, start_at, text_at, no_entry}
+use Rattle.gs_dict.specs.Chains.{IsLinked, IsSpanned, IsTable, AreEnough, Agree, entry_at, bucket_at, bucket_of, start_at, text_at, no_entry}
 use Rattle.gs_dict.proofs.ChainLemmas.{linked_more}
 
 -- the next entry is put into its chain
@@ -138,11 +138,19 @@ text_last arena es x e spanned ends =
     ∙ (ap (take (length (arena ++ x) - length arena)) (drop_at arena x (length arena) refl)
     ∙ take_all (length (arena ++ x) - length arena) x left))
 
+-- for one entry more, where there were more buckets than entries
+enough_as : (n m k l : ℕ) → n ≡ m → l ≡ k + 1 → k < n → AreEnough n k → AreEnough m l
+enough_as n m k l buckets entries another enough = record {
+  some = omega (arith, buckets, enough.some);
+  power = (enough.power.0, sym buckets ∙ enough.power.1);
+  short = omega (arith, buckets, entries, another);
+}
+
 -- the table with one entry more, which is at the head of its bucket's chain
 pub table_push :
     (arena : List ℕ) (es : List Entry) (heads x : List ℕ) (e : Entry) (b : ℕ) → IsTable arena es heads → e.end ≡ length (arena ++ x)
-    → b ≡ bucket_of (length heads) e.hash → e.next ≡ get_or heads b 0 → IsTable (arena ++ x) (es ++ e ∷ []) (set heads b (length es + 1))
-table_push arena es heads x e b table ends is next =
+    → b ≡ bucket_of (length heads) e.hash → e.next ≡ get_or heads b 0 → length es < length heads → IsTable (arena ++ x) (es ++ e ∷ []) (set heads b (length es + 1))
+table_push arena es heads x e b table ends is next another =
     let n : ℕ = length es in
     let fs : List Entry = es ++ e ∷ [] in
     let there : entry_at fs n ≡ e = get_or_push es e no_entry n refl in
@@ -152,8 +160,8 @@ table_push arena es heads x e b table ends is next =
     record {
       linked = subst Q (sym (length_push es e))
           (subst P bucket
-          (linked_more n es fs heads table.linked table.bucketed (λ i p. get_or_append_left es (e ∷ []) no_entry i p)
+          (linked_more n es fs heads table.linked table.enough.some (λ i p. get_or_append_left es (e ∷ []) no_entry i p)
           (ap (λ (f : Entry). f.next) there ∙ (next ∙ ap (λ k. get_or heads k 0) (sym bucket)))));
       spanned = spanned_push arena es x e table.spanned ends;
-      bucketed = omega (arith, length-set heads b (n + 1), table.bucketed);
+      enough = enough_as (length heads) (length (set heads b (n + 1))) n (length fs) (sym (length-set heads b (n + 1))) (length_push es e) another table.enough;
     }

@@ -13,7 +13,7 @@ use Rattle.std.proofs.lemmas.Bool.Decides.{nat_tests}
 use Rattle.std.specs.Bool.{Decides}
 use Rattle.gs_model.proofs.TextLemmas.{term_of-text_of, text_of-injective}
 use Rattle.gs_dict.specs.declared.chains.Entry.{Entry}
-use Rattle.gs_dict.specs.Chains.{IsTable, Has, Meets, KeepsTexts, entry_at, text_at, start_at}
+use Rattle.gs_dict.specs.Chains.{IsTable, AreEnough, Has, Meets, KeepsTexts, entry_at, text_at, start_at}
 use Rattle.gs_dict.specs.Numbering.{Numbered, IsNumberOf, IsNew, IsDistinct, Joins}
 use Rattle.gs_dict.specs.Kept.{IsDict, hash_of, term_at, terms_of}
 
@@ -193,10 +193,10 @@ dict_more arena later es fs heads links s last x d table kept count has canonica
 
 -- one without terms
 pub dict_empty :
-    (heads : List ℕ) (s : FoldHasher) (last : ℕ) → ((b : ℕ) → get_or heads b 0 ≡ 0) → 0 < length heads → last ≤ last_term
+    (heads : List ℕ) (s : FoldHasher) (last : ℕ) → ((b : ℕ) → get_or heads b 0 ≡ 0) → AreEnough (length heads) 0 → last ≤ last_term
     → IsDict [] [] heads s last
 unfolding start_at
-dict_empty heads s last empty some bounded = record {
+dict_empty heads s last empty enough bounded = record {
   table = record {
     linked = record {
       head_given = λ b. omega (arith, empty b);
@@ -207,7 +207,7 @@ dict_empty heads s last empty some bounded = record {
       next_greatest = λ i j p q r. absurd (omega arith);
     };
     spanned = record { rises = λ i p. absurd (omega arith); inside = λ i p. absurd (omega arith); whole = refl };
-    bucketed = some;
+    enough = enough;
   };
   canonical = λ i p. absurd (omega arith);
   hashed = λ i p. absurd (omega arith);

@@ -1,5 +1,5 @@
 -- The entries of a dictionary: where each text ends in the arena, and the chains of the buckets.
-use Rattle.std.specs.Prelude.{◌≡◌, ℕ, ◌+◌, ◌-◌, ◌<◌, ◌≤◌, if◌then◌else◌, ◌==◌, List, length, slice_index, slice_index_or, slice_range, bit_and, Option, Some, None, Result, Ok, Err}
+use Rattle.std.specs.Prelude.{◌≡◌, ℕ, ◌+◌, ◌-◌, ◌<◌, ◌≤◌, ◌^◌, if◌then◌else◌, ◌==◌, List, length, slice_index, slice_index_or, slice_range, bit_and, Option, Some, None, Result, Ok, Err}
 use Rattle.std.specs.declared.alloc.AllocError.{AllocError}
 use Rattle.gs_dict.specs.declared.chains.Entry.{Entry}
 
@@ -52,11 +52,18 @@ pub record IsSpanned (arena : List ℕ) (es : List Entry) : Type 0 where
   pub inside : (i : ℕ) → i < length es → (entry_at es i).end ≤ length arena
   pub whole : start_at es (length es) ≡ length arena
 
+-- so many buckets are enough for so many entries: a power of two, so that a bit mask reaches each bucket, and no fewer
+-- than the entries, so that chains are short
+pub record AreEnough (buckets entries : ℕ) : Type 0 where
+  pub some : 0 < buckets
+  pub power : (k : ℕ) × (buckets ≡ 2 ^ k)
+  pub short : entries ≤ buckets
+
 -- the arena, the entries and the first links of the buckets belong together
 pub record IsTable (arena : List ℕ) (es : List Entry) (heads : List ℕ) : Type 0 where
   pub linked : IsLinked (length es) es heads
   pub spanned : IsSpanned arena es
-  pub bucketed : 0 < length heads
+  pub enough : AreEnough (length heads) (length es)
 
 -- the number has this hash and this text
 abbrev pub Has : List ℕ → List Entry → ℕ → ℕ → List ℕ → Type 0

@@ -1,7 +1,7 @@
 //! Texts in one arena, with an entry for each, and chains of entries by their hashes.
-ghost use Rattle.std.specs.Prelude.{◌≡◌, ◌+◌, ◌-◌, ◌<◌, ◌≤◌, ◌^◌, length, slice_index, ℕ, IfOk};
+ghost use Rattle.std.specs.Prelude.{◌≡◌, ◌+◌, ◌-◌, ◌<◌, ◌≤◌, ◌^◌, length, slice_index, ℕ, IfOk, OnOk};
 ghost use Rattle.std.specs.Bool.{Decides};
-ghost use Rattle.gs_dict.specs.Chains.{IsLinked, IsSpanned, IsTable, Has, Meets, Agree, KeepsTexts, AddsText, text_at as text_of_number, bucket_of};
+ghost use Rattle.gs_dict.specs.Chains.{IsLinked, IsSpanned, IsTable, AreEnough, Has, Meets, Agree, KeepsTexts, AddsText, text_at as text_of_number, bucket_of};
 
 use std::alloc::{AllocError, Global};
 
@@ -91,10 +91,11 @@ pub fn empty_buckets(alloc: Global, count: usize) -> Result<Vec<u32>, AllocError
 /// Twice as many buckets, where there are as many entries as buckets.
 fn grow(entries: &mut Vec<Entry>, heads: &mut Vec<u32>) -> Result<(), AllocError>
     requires few { length entries.old.items < 2 ^ 32 }
-    requires bucketed { 0 < length heads.old.items }
+    requires enough { AreEnough (length heads.old.items) (length entries.old.items) }
     requires linked { IsLinked (length entries.old.items) entries.old.items heads.old.items }
     ensures linked { IsLinked (length entries.old.items) entries.new.items heads.new.items }
-    ensures bucketed { 0 < length heads.new.items }
+    ensures enough { AreEnough (length heads.new.items) (length entries.new.items) }
+    ensures another { OnOk result (length entries.new.items < length heads.new.items) }
     ensures kept { Agree entries.old.items entries.new.items }
 {
     if entries.len() < heads.len() {

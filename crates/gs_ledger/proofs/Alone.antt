@@ -5,14 +5,14 @@ use Rattle.std.proofs.lemmas.Bool.{cases_lt}
 use Rattle.std.proofs.lemmas.List.{get_or_past}
 use Rattle.std.specs.List.{All}
 use Rattle.gs_pool.specs.declared.nodes.Node.{Node}
-use Rattle.gs_pool.specs.Pool.{Nodes, NodeMark, plain, aside, retired, is_aside, node_at, mark_at}
+use Rattle.gs_pool.specs.Pool.{Nodes, NodeMark, plain, aside, retired, is_aside, node_at, mark_at, retired_mark}
 use Rattle.gs_tree.specs.Tree.{leaf}
 use Rattle.gs_tree.specs.Steps.{one}
 use Rattle.gs_tree.proofs.TreeLemmas.{one_cases}
 use Rattle.gs_ledger.specs.Entries.{Dead, dead_have, dead_have_after, tops}
 use Rattle.gs_ledger.specs.Marks.{death_of}
 use Rattle.gs_ledger.specs.Ledger.{IsDead}
-use Rattle.gs_ledger.specs.Changes.{retired_mark, RetiresAside, alone_at, alone_below, aside_dead}
+use Rattle.gs_ledger.specs.Changes.{RetiresAside, alone_at, alone_below, aside_dead}
 use Rattle.gs_ledger.proofs.Sums.{dead_cons, dead_append, after_cons, after_append, after_yes, tops_cons, tops_append}
 use Rattle.gs_ledger.proofs.Frames.{tree_leaf}
 

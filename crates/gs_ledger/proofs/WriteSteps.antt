@@ -2,14 +2,14 @@
 use Rattle.std.proofs.Common.{◌≡◌, ℕ, ◌+◌, ◌<◌, ◌≤◌, false, cond, List, ◌∷◌, ◌++◌, length, get_or, Option, Some, None, refl, ap, ◌∙◌, inl, inr, arith}
 use Rattle.std.proofs.lemmas.List.Elements.{All-append, All-cons, All-head, All-tail}
 use Rattle.gs_pool.specs.declared.nodes.Node.{Node}
-use Rattle.gs_pool.specs.Pool.{Nodes, NodeMark, plain, aside, retired, is_aside, node_at, mark_at}
+use Rattle.gs_pool.specs.Pool.{Nodes, NodeMark, plain, aside, retired, is_aside, node_at, mark_at, retired_mark}
 use Rattle.gs_tree.specs.Tree.{Tree, leaf, occurrences}
 use Rattle.gs_tree.specs.Steps.{plain_mark, Step}
 use Rattle.gs_versions.specs.Pins.{Pins, at_commit}
 use Rattle.gs_ledger.specs.Entries.{Dead, trees_have, dead_have, tops}
 use Rattle.gs_ledger.specs.Marks.{used_count}
 use Rattle.gs_ledger.specs.Ledger.{IsTreeOf, IsDead, IsLedger}
-use Rattle.gs_ledger.specs.Changes.{retired_mark, RetiresAside, aside_dead}
+use Rattle.gs_ledger.specs.Changes.{RetiresAside, aside_dead}
 use Rattle.gs_ledger.proofs.Sums.{zero_or, trees_cons, dead_append, after_append, after_most, tops_append, tops_most}
 use Rattle.gs_ledger.proofs.Frames.{Keeps, used_some, used_same, used_most, used_found, tree_kept, tree_later, trees_kept, trees_later, born_by, dead_kept, dead_later, read_map}
 use Rattle.gs_ledger.proofs.Balance.{aside_one, same_mark, step_balance}

@@ -2,7 +2,7 @@
 use Rattle.std.specs.Prelude.{◌≡◌, ◌≢◌, ◌⊎◌, ℕ, zero, suc, Bool, true, false, if◌then◌else◌, List, [], ◌∷◌, ◌++◌, length, Option, Some, None}
 use Rattle.std.specs.List.{All, Contains, sum_by}
 use Rattle.gs_pool.specs.declared.nodes.Node.{Node}
-use Rattle.gs_pool.specs.Pool.{Nodes, NodeMark, plain, aside, retired, is_aside, node_at, mark_at, KeepsNodes, Marks}
+use Rattle.gs_pool.specs.Pool.{Nodes, plain, retired, is_aside, node_at, mark_at, retired_mark, KeepsNodes, Marks}
 use Rattle.gs_tree.specs.Tree.{Tree, leaf}
 use Rattle.gs_ledger.specs.Entries.{Dead, tops, sides_of}
 use Rattle.gs_ledger.specs.Marks.{death_of}
@@ -44,12 +44,6 @@ pub record FreesTop (p q : Nodes) (d : Dead) : Type 0 where
   pub plain_now : mark_at q d.id ≡ plain
   pub marked : All (IsMarked q) (sides_of d)
   pub marks : (x : ℕ) → tops (d ∷ sides_of d) x ≡ 0 → mark_at q x ≡ mark_at p x
-
--- a mark, with a node that is set aside retired alone
-abbrev pub retired_mark : ℕ → NodeMark → NodeMark
-retired_mark death plain = plain
-retired_mark death (aside d w) = retired death false
-retired_mark death (retired d w) = retired d w
 
 -- each node that is set aside is retired alone, with this death; no node changes, and no other mark
 pub record RetiresAside (p q : Nodes) (death : ℕ) : Type 0 where

@@ -1,5 +1,6 @@
 //! The set of the keys that are found.
-ghost use Rattle.std.specs.Prelude.{◌≡◌, [], ◌∷◌, None, OnOk, IfOk};
+ghost use Rattle.std.specs.Prelude.{◌≡◌, ◌+◌, [], ◌∷◌, None, OnOk, IfOk};
+ghost use Rattle.gs_model.specs.Limits.{last_node};
 ghost use Rattle.gs_keys.specs.Texts.{key_cmp};
 ghost use Rattle.gs_match.specs.Numbers.{IsFound, found_in, Gains};
 
@@ -18,7 +19,8 @@ pub struct Found {
 impl Found {
     /// None yet.
     pub fn new(alloc: Global) -> Found
-        ensures { result.root ≡ None }
+        ensures root { result.root ≡ None }
+        ensures limit { result.pool.limit ≡ last_node + 1 }
     {
         Found {
             pool: Pool::new(alloc, u32::MAX),

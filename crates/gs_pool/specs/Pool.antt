@@ -40,6 +40,12 @@ is_retired plain = false
 is_retired (aside death whole) = false
 is_retired (retired death whole) = true
 
+-- a mark, with a node that is set aside retired alone, with this death
+abbrev pub retired_mark : ℕ → NodeMark → NodeMark
+retired_mark death plain = plain
+retired_mark death (aside d whole) = retired death false
+retired_mark death (retired d whole) = retired d whole
+
 -- how many numbers are free
 abbrev pub free_count : Nodes → ℕ
 free_count p = count_by is_none p.nodes

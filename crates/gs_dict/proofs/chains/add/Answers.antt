@@ -6,21 +6,21 @@ use Rattle.gs_dict.proofs.chains.add.Goals as goal
 
 pub returns-in_err-grow-clause-table : goal.returns-in_err-grow-clause-table
 returns-in_err-grow-clause-table c =
-    table_agree _ _ _ _ _ _ _ c.requires.table c.grow.ensures.linked c.grow.ensures.bucketed c.grow.ensures.kept refl refl
+    table_agree _ _ _ _ _ _ _ c.requires.table c.grow.ensures.linked c.grow.ensures.enough c.grow.ensures.kept refl refl
 
 pub returns-in_err-grow-clause-kept : goal.returns-in_err-grow-clause-kept
 returns-in_err-grow-clause-kept c = keeps_agree _ _ _ _ _ c.grow.ensures.kept refl refl
 
 pub returns-in_err-reserve-clause-table : goal.returns-in_err-reserve-clause-table
 returns-in_err-reserve-clause-table c =
-    table_agree _ _ _ _ _ _ _ c.requires.table c.grow.ensures.linked c.grow.ensures.bucketed c.grow.ensures.kept c.reserve.ensures.items refl
+    table_agree _ _ _ _ _ _ _ c.requires.table c.grow.ensures.linked c.grow.ensures.enough c.grow.ensures.kept c.reserve.ensures.items refl
 
 pub returns-in_err-reserve-clause-kept : goal.returns-in_err-reserve-clause-kept
 returns-in_err-reserve-clause-kept c = keeps_agree _ _ _ _ _ c.grow.ensures.kept c.reserve.ensures.items refl
 
 pub returns-in_err-extend_from_slice-clause-table : goal.returns-in_err-extend_from_slice-clause-table
 returns-in_err-extend_from_slice-clause-table c =
-    table_agree _ _ _ _ _ _ _ c.requires.table c.grow.ensures.linked c.grow.ensures.bucketed c.grow.ensures.kept c.reserve.ensures.items
+    table_agree _ _ _ _ _ _ _ c.requires.table c.grow.ensures.linked c.grow.ensures.enough c.grow.ensures.kept c.reserve.ensures.items
     c.in_err-extend_from_slice.ensures.items
 
 pub returns-in_err-extend_from_slice-clause-kept : goal.returns-in_err-extend_from_slice-clause-kept
@@ -36,7 +36,7 @@ whole c =
     let buckets : c.len.result ≡ length c.grow.new.heads.items = omega arith in
     let number : c.len-number.result ≡ length c.reserve.new.self.items = omega arith in
     let ends : c.len-2.result ≡ length c.extend_from_slice.new.self.items = omega arith in
-    added_as _ _ _ _ _ _ _ _ _ _ _ _ c.requires.table c.grow.ensures.linked c.grow.ensures.bucketed c.grow.ensures.kept c.reserve.ensures.items
+    added_as _ _ _ _ _ _ _ _ _ _ _ _ c.requires.table c.grow.ensures.linked c.grow.ensures.enough c.in_ok-grow.ensures.another c.grow.ensures.kept c.reserve.ensures.items
     c.in_ok-extend_from_slice.ensures.items c.in_ok-push.ensures.items number ends
     (c.bucket-b.ensures.value ∙ ap (λ n. bucket_of n c.args.hash) buckets)
     (get_or_read_under c.grow.new.heads.items c.bucket-b.result c.len.result c.index.result.now 0 c.index.ensures c.bucket-b.ensures.inside buckets)

@@ -23,7 +23,7 @@ returns-in_default-clause-instances c =
 
 pub search-requires-clause-set : goal.search-requires-clause-set
 search-requires-clause-set c =
-    subst (IsSetAt (key_cmp c.new-order.result.dict.now.terms) c.new-found.result.pool) (sym c.new-found.ensures) (empty_set (key_cmp c.new-order.result.dict.now.terms) c.new-found.result.pool)
+    subst (IsSetAt (key_cmp c.new-order.result.dict.now.terms) c.new-found.result.pool) (sym c.new-found.ensures.root) (empty_set (key_cmp c.new-order.result.dict.now.terms) c.new-found.result.pool)
 
 pub returns-clause-value : goal.returns-clause-value
 returns-clause-value c =
@@ -34,7 +34,7 @@ returns-clause-value c =
     ∙ ap (λ (d : Numbered). merge_keys (key_cmp d.terms) (found_keys ks ss (numbers_of c.new-bound.result.items) c.new-chosen.result.items) (found_in c.new-found.result)) c.new-order.ensures
     ∙ ap (λ bs. merge_keys (key_cmp c.args.dict.now.terms) (found_keys ks ss (numbers_of bs) c.new-chosen.result.items) (found_in c.new-found.result)) c.new-bound.ensures.items
     ∙ ap (λ xs. merge_keys (key_cmp c.args.dict.now.terms) (found_keys ks ss [] xs) (found_in c.new-found.result)) c.new-chosen.ensures.items
-    ∙ ap (λ r. merge_keys (key_cmp c.args.dict.now.terms) (found_keys ks ss [] []) (keys_at c.new-found.result.pool r)) c.new-found.ensures
+    ∙ ap (λ r. merge_keys (key_cmp c.args.dict.now.terms) (found_keys ks ss [] []) (keys_at c.new-found.result.pool r)) c.new-found.ensures.root
     ∙ ap (λ us. merge_keys (key_cmp c.args.dict.now.terms) (found_keys ks us [] []) []) c.as_slice.ensures.value
     ∙ found_instances c.args.dict.now.terms c.len-terms.ensures.distinct c.args.pool.now c.args.root c.requires c.in-Some.sought.items c.args.patterns.now sought.0 sought.1
 

@@ -1,13 +1,18 @@
-use Rattle.std.proofs.Common.{◌≡◌, ◌∙◌, ap, arith, []}
+use Rattle.std.proofs.Common.{◌≡◌, ℕ, ◌∙◌, ap, arith, []}
 use Rattle.gs_dict.specs.Numbering.{none_numbered}
+use Rattle.gs_dict.specs.Chains.{AreEnough}
 use Rattle.gs_dict.specs.Kept.{terms_of}
 use Rattle.gs_dict.proofs.TermLemmas.{dict_empty, terms_none}
 use Rattle.gs_dict.proofs.dict.Dict.new.Goals as goal
 
+-- the first buckets are enough
+enough_as : {n : ℕ} → n ≡ 1024 → AreEnough n 0
+enough_as is = record { some = omega (arith, is); power = (10, is); short = omega arith }
+
 pub invariant_of-result : goal.invariant_of-result
 invariant_of-result c =
     rw (c.new.ensures.items, c.new-2.ensures.items)
-    (dict_empty c.in_ok-heads.heads.items _ _ c.in_ok-heads.ensures.empty (omega (arith, c.in_ok-heads.ensures.count)) (omega arith))
+    (dict_empty c.in_ok-heads.heads.items _ _ c.in_ok-heads.ensures.empty (enough_as c.in_ok-heads.ensures.count) (omega arith))
 
 pub returns : goal.returns
 returns c =
