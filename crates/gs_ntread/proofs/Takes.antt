@@ -1,7 +1,7 @@
 -- What a reader takes, step by step.
-use Rattle.std.proofs.Common.{◌≡◌, ℕ, ◌+◌, ◌<◌, false, List, [], ◌++◌, length, take, drop, get_or, refl, sym, ap, subst, ◌∙◌, append_assoc, append-nil, inr, Result, Ok, Err}
+use Rattle.std.proofs.Common.{◌≡◌, ℕ, ◌+◌, ◌<◌, false, List, [], ◌++◌, length, take, drop, get_or, refl, sym, ap, subst, ◌∙◌, append_assoc, append-nil, arith, inr, Result, Ok, Err}
 use Rattle.std.proofs.Math.Seq.{take-add}
-use Rattle.std.specs.Prelude.{OnOk, IfErr}
+use Rattle.std.specs.Prelude.{OnOk, IfOk, IfErr}
 use Rattle.gs_model.specs.Triples.{RdfTriple}
 use Rattle.gs_model.specs.declared.refusals.Refusal.{Refusal}
 use Rattle.gs_machine.specs.Machines.{joined, steps, rest, composed}
@@ -24,6 +24,10 @@ on_ok (Err e) P Q f h = h
 pub if_err : {A E : Type 0} (r : Result A E) (P Q : E → Type 0) → ((e : E) → P e → Q e) → IfErr r P → IfErr r Q
 if_err (Ok x) P Q f h = h
 if_err (Err e) P Q f h = f e h
+
+pub if_ok : {A E : Type 0} (r : Result A E) (P Q : A → Type 0) → ((x : A) → P x → Q x) → IfOk r P → IfOk r Q
+if_ok (Ok x) P Q f h = f x h
+if_ok (Err e) P Q f h = h
 
 -- nothing was given
 pub took-none : (a b : NTriplesReader) (ts : List RdfTriple) (t : Led × List Statement) → t ≡ (led_of b, []) → b.last ≡ a.last → b.request ≡ a.request → b.is_closed ≡ a.is_closed → Advances a b ts ts t
@@ -79,6 +83,15 @@ took-on a b c o1 o2 o3 x n k f g =
     (subst (λ (s : Led). Advances b c o2 o3 (steps (ntriples b.request) s y)) f.led g) in
     subst (Advances a c o1 o3) (sym (ap (steps (ntriples a.request) (led_of a)) (take-add n k x) ∙ steps-append (ntriples a.request) (led_of a) (take n x) y))
     (took-then a b c o1 o2 o3 t (steps (ntriples a.request) t.0 y) f g')
+
+-- some bytes of a piece after none of it
+pub took-after : (a b c : NTriplesReader) (o1 o2 o3 : List RdfTriple) (x : List ℕ) (n k : ℕ) → n ≡ 0
+    → Advances a b o1 o2 (steps (ntriples a.request) (led_of a) (take n x)) → Advances b c o2 o3 (steps (ntriples b.request) (led_of b) (take k x))
+    → Advances a c o1 o3 (steps (ntriples a.request) (led_of a) (take k x))
+took-after a b c o1 o2 o3 x n k e f g =
+    let at : ℕ → Led × List Statement = λ z. steps (ntriples a.request) (led_of a) (take z x) in
+    let none : 0 + k ≡ k = omega arith in
+    subst (λ (z : ℕ). Advances a c o1 o3 (at z)) none (took-on a b c o1 o2 o3 x 0 k (subst (λ (z : ℕ). Advances a b o1 o2 (at z)) e f) g)
 
 -- the fault of a state is that of what was given
 pub fault-after : (e : Refusal) (a b : NTriplesReader) (o1 o2 : List RdfTriple) (s : LineState) (t : Led × List Statement) → Advances a b o1 o2 t → s ≡ (led_of b).1.1.0 → FaultsAs e b.last s → FaultyAfter e a.last t

@@ -135,7 +135,42 @@ impl NTriplesReader {
         Ok(count)
     }
 
-    /// The run at the front of a piece, and one byte more where there is one.
+    /// The byte at the front of a piece.
+    fn take_byte(&mut self, piece: &[u8], triples: &mut Vec<Triple>) -> Result<usize, Refusal>
+        requires { 0 < length piece.now }
+        ensures bound { IfOk result (λ n. (0 < n) × (n ≤ length piece.now)) }
+        ensures ok { TakesFront self.old self.new triples.old.items triples.new.items piece.now result }
+        ensures err { OnErr result (triples.new.items ≡ triples.old.items) }
+        ensures request { self.new.request ≡ self.old.request }
+        ensures refused { IfErr result (λ e. e ≡ Refusal.NoMemory) }
+    {
+        self.step(piece[0], triples)?;
+        Ok(1)
+    }
+
+    /// An object that stands whole at the front of a piece with the dot of its statement, or one byte.
+    fn take_mark(&mut self, piece: &[u8], triples: &mut Vec<Triple>) -> Result<usize, Refusal>
+        requires { 0 < length piece.now }
+        ensures bound { IfOk result (λ n. (0 < n) × (n ≤ length piece.now)) }
+        ensures ok { TakesFront self.old self.new triples.old.items triples.new.items piece.now result }
+        ensures err { OnErr result (triples.new.items ≡ triples.old.items) }
+        ensures request { self.new.request ≡ self.old.request }
+        ensures refused { IfErr result (λ e. e ≡ Refusal.NoMemory) }
+    {
+        if !self.decoder.is_ready() {
+            return self.take_byte(piece, triples);
+        }
+        match self.cursor.take_object(piece, self.read)? {
+            None => self.take_byte(piece, triples),
+            Some((parts, n)) => {
+                self.read = parts.end;
+                self.give(parts, triples)?;
+                Ok(n)
+            }
+        }
+    }
+
+    /// What stands at the front of a piece: a run, an object with its dot, or one byte.
     fn take_some(&mut self, piece: &[u8], triples: &mut Vec<Triple>) -> Result<usize, Refusal>
         requires { 0 < length piece.now }
         ensures bound { IfOk result (λ n. (0 < n) × (n ≤ length piece.now)) }
@@ -145,11 +180,10 @@ impl NTriplesReader {
         ensures refused { IfErr result (λ e. e ≡ Refusal.NoMemory) }
     {
         let count = self.take_run(piece)?;
-        if count == piece.len() {
+        if count > 0 {
             return Ok(count);
         }
-        self.step(piece[count], triples)?;
-        Ok(count + 1)
+        self.take_mark(piece, triples)
     }
 
     /// The next bytes.
