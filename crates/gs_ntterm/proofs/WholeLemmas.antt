@@ -1,11 +1,10 @@
 -- Tokens that stand whole at the front of a piece are texts of terms.
-use Rattle.std.proofs.Common.{◌≡◌, ℕ, zero, suc, ◌+◌, ◌-◌, ◌<◌, ◌≤◌, Bool, true, false, cond, List, [], ◌∷◌, ◌++◌, map, length, take, drop, get_or, refl, sym, ap, ap₂, ◌∙◌, subst, arith, append_assoc, length-append, length-drop, drop-cons, Ok, Err}
+use Rattle.std.proofs.Common.{◌≡◌, ℕ, zero, suc, ◌+◌, ◌<◌, ◌≤◌, Bool, true, false, cond, List, [], ◌∷◌, ◌++◌, length, take, drop, get_or, refl, sym, ap, ap₂, ◌∙◌, subst, arith, append_assoc, length-drop, drop-cons, Ok, Err}
 use Rattle.std.specs.Prelude.{◌==◌, ◌&&◌, ◌||◌, nat_lt, nat_le, slice_index}
 use Rattle.std.specs.List.{list_all}
-use Rattle.std.specs.Char.{to_ascii_lowercase}
-use Rattle.std.specs.Str.{IsAscii, IsUtf8, bytes_eq, str_to_ascii_lowercase}
+use Rattle.std.specs.Str.{IsUtf8, bytes_eq}
 use Rattle.std.proofs.lemmas.Str.{IsUtf8-from_ascii}
-use Rattle.std.proofs.lemmas.List.{take_more, length-take-le, drop_all}
+use Rattle.std.proofs.lemmas.List.{take_more, length-take-le}
 use Rattle.std.proofs.lemmas.Bool.{and_parts}
 use Rattle.std.proofs.lemmas.Bool.Decides.{nat_tests}
 use Rattle.std.proofs.Math.Seq.{take-add}
@@ -110,7 +109,7 @@ same_suffix d = by_name (bytes_eq (94 ∷ 94 ∷ 60 ∷ d ++ 62 ∷ []) string_s
 
 -- a literal whose text is the first m bytes, of n that are read
 module _ (x lexical after : List ℕ) (k : LiteralKind) (n m : ℕ) (stands : take n x ≡ 34 ∷ lexical ++ 34 ∷ after) (plain : list_all runs_in_string lexical ≡ true) (says : Says after k)
-  (kind : is_kind k ≡ true) (spelled : IsKindText k) (short : n ≤ max_term_bytes) (within : n ≤ length x) (is : take m x ≡ text_of (Literal lexical k)) (less : m ≤ n) where
+    (kind : is_kind k ≡ true) (spelled : IsKindText k) (short : n ≤ max_term_bytes) (within : n ≤ length x) (is : take m x ≡ text_of (Literal lexical k)) (less : m ≤ n) where
   small : length (take m x) ≤ max_term_bytes
   small = omega (arith, length-take-le m x (omega arith))
 
@@ -174,9 +173,10 @@ tagged_stands x q n f d = after_string x f.lexical _ q n f.stands d.stands
 module _ (x : List ℕ) (q : ℕ) (f : StringFront x q) where
   pub plain_both : q ≤ max_term_bytes → IsCanonical (take q x) × ((t : Term) → t ≡ term_of (take q x) → IsLiteralFront x q t)
   plain_both s =
-      let le : q ≤ q = omega arith in
-      (literal_canonical x f.lexical [] (Typed xsd_string) q q f.stands f.plain none refl (iri_text xsd_string refl) s f.within (plain_text x q f) le,
-      literal_front x f.lexical [] (Typed xsd_string) q q f.stands f.plain none refl (iri_text xsd_string refl) s f.within (plain_text x q f) le)
+      let le : q ≤ q = omega arith in (
+        literal_canonical x f.lexical [] (Typed xsd_string) q q f.stands f.plain none refl (iri_text xsd_string refl) s f.within (plain_text x q f) le,
+        literal_front x f.lexical [] (Typed xsd_string) q q f.stands f.plain none refl (iri_text xsd_string refl) s f.within (plain_text x q f) le,
+      )
 
   room : (n : ℕ) → n ≤ length (drop q x) → q + n ≤ length x
   room n h = omega (arith, f.within, length-drop q x)
@@ -185,17 +185,19 @@ module _ (x : List ℕ) (q : ℕ) (f : StringFront x q) where
       → IsCanonical (take (q + n) x) × ((t : Term) → t ≡ term_of (take (q + n) x) → IsLiteralFront x (q + n) t)
   typed_both n d s e =
       let le : q + n ≤ q + n = omega arith in
-      let after = 94 ∷ 94 ∷ 60 ∷ d.iri ++ 62 ∷ [] in
-      (literal_canonical x f.lexical after (Typed d.iri) (q + n) (q + n) (typed_stands x q n f d) f.plain (datatype d.iri d.plain) d.absolute (iri_text d.iri d.plain) s (room n d.within) (typed_text x q n f d e) le,
-      literal_front x f.lexical after (Typed d.iri) (q + n) (q + n) (typed_stands x q n f d) f.plain (datatype d.iri d.plain) d.absolute (iri_text d.iri d.plain) s (room n d.within) (typed_text x q n f d e) le)
+      let after = 94 ∷ 94 ∷ 60 ∷ d.iri ++ 62 ∷ [] in (
+        literal_canonical x f.lexical after (Typed d.iri) (q + n) (q + n) (typed_stands x q n f d) f.plain (datatype d.iri d.plain) d.absolute (iri_text d.iri d.plain) s (room n d.within) (typed_text x q n f d e) le,
+        literal_front x f.lexical after (Typed d.iri) (q + n) (q + n) (typed_stands x q n f d) f.plain (datatype d.iri d.plain) d.absolute (iri_text d.iri d.plain) s (room n d.within) (typed_text x q n f d e) le,
+      )
 
   string_both : (n : ℕ) (d : DatatypeFront (drop q x) n) → q + n ≤ max_term_bytes → true ≡ bytes_eq (take n (drop q x)) string_suffix
       → IsCanonical (take q x) × ((t : Term) → t ≡ term_of (take q x) → IsLiteralFront x (q + n) t)
   string_both n d s e =
       let le : q ≤ q + n = omega arith in
-      let after = 94 ∷ 94 ∷ 60 ∷ d.iri ++ 62 ∷ [] in
-      (literal_canonical x f.lexical after (Typed d.iri) (q + n) q (typed_stands x q n f d) f.plain (datatype d.iri d.plain) d.absolute (iri_text d.iri d.plain) s (room n d.within) (string_datatype x q n f d e) le,
-      literal_front x f.lexical after (Typed d.iri) (q + n) q (typed_stands x q n f d) f.plain (datatype d.iri d.plain) d.absolute (iri_text d.iri d.plain) s (room n d.within) (string_datatype x q n f d e) le)
+      let after = 94 ∷ 94 ∷ 60 ∷ d.iri ++ 62 ∷ [] in (
+        literal_canonical x f.lexical after (Typed d.iri) (q + n) q (typed_stands x q n f d) f.plain (datatype d.iri d.plain) d.absolute (iri_text d.iri d.plain) s (room n d.within) (string_datatype x q n f d e) le,
+        literal_front x f.lexical after (Typed d.iri) (q + n) q (typed_stands x q n f d) f.plain (datatype d.iri d.plain) d.absolute (iri_text d.iri d.plain) s (room n d.within) (string_datatype x q n f d e) le,
+      )
 
   pub datatype_both : (n m : ℕ) (d : DatatypeFront (drop q x) n) → q + n ≤ max_term_bytes → m ≡ cond (bytes_eq (take n (drop q x)) string_suffix) q (q + n)
       → IsCanonical (take m x) × ((t : Term) → t ≡ term_of (take m x) → IsLiteralFront x (q + n) t)
@@ -208,9 +210,10 @@ module _ (x : List ℕ) (q : ℕ) (f : StringFront x q) where
   pub tagged_both : (n : ℕ) (d : TagFront (drop q x) n) → q + n ≤ max_term_bytes
       → IsCanonical (take (q + n) x) × ((t : Term) → t ≡ term_of (take (q + n) x) → IsLiteralFront x (q + n) t)
   tagged_both n d s =
-      let le : q + n ≤ q + n = omega arith in
-      (literal_canonical x f.lexical (64 ∷ d.tag) (Tagged d.tag) (q + n) (q + n) (tagged_stands x q n f d) f.plain (tag d.tag d.plain d.some) (tag_formed d.tag d.plain d.some) tt s (room n d.within) (tagged_text x q n f d) le,
-      literal_front x f.lexical (64 ∷ d.tag) (Tagged d.tag) (q + n) (q + n) (tagged_stands x q n f d) f.plain (tag d.tag d.plain d.some) (tag_formed d.tag d.plain d.some) tt s (room n d.within) (tagged_text x q n f d) le)
+      let le : q + n ≤ q + n = omega arith in (
+        literal_canonical x f.lexical (64 ∷ d.tag) (Tagged d.tag) (q + n) (q + n) (tagged_stands x q n f d) f.plain (tag d.tag d.plain d.some) (tag_formed d.tag d.plain d.some) tt s (room n d.within) (tagged_text x q n f d) le,
+        literal_front x f.lexical (64 ∷ d.tag) (Tagged d.tag) (q + n) (q + n) (tagged_stands x q n f d) f.plain (tag d.tag d.plain d.some) (tag_formed d.tag d.plain d.some) tt s (room n d.within) (tagged_text x q n f d) le,
+      )
 
 -- an absolute IRI by its scheme
 pub absolute_at : (x : List ℕ) → 0 < length x → is_absolute x ≡ (is_letter (get_or x 0 0) && is_scheme_rest (drop 1 x))
