@@ -55,7 +55,7 @@ impl NTriplesReader {
     ghost use Rattle.gs_machine.specs.Utf8.{is_ready_of};
     ghost use Rattle.gs_body.specs.Bodies.{triples_of, Whole};
     ghost use Rattle.gs_ntread.specs.Documents.{meaning_by, Means};
-    ghost use Rattle.gs_ntread.specs.Readers.{LeadsTo, IsStopped, refusal_after, FaultsAs, ConcludesAs, FaultyEnd, EndsWell, FaultsAfter, FaultsAtEnd, GivesParts, TakesAll, TakesByte, TakesChar, TakesFront, TakesRun, body_end, text_end};
+    ghost use Rattle.gs_ntread.specs.Readers.{LeadsTo, IsStopped, refusal_after, FaultsAs, ConcludesAs, FaultyEnd, EndsWell, FaultsAfter, FaultsAtEnd, GivesParts, TakesAll, TakesByte, TakesChar, TakesFront, TakesRun, TakesParts, GivesNothing, body_end, text_end};
     ghost use Rattle.gs_ntread.specs.Views.{cursor_state, ending_of};
 
     /// A reader at the start of the body of the request of this number. Takes no memory.
@@ -135,37 +135,21 @@ impl NTriplesReader {
         Ok(count)
     }
 
-    /// The byte at the front of a piece.
-    fn take_byte(&mut self, piece: &[u8], triples: &mut Vec<Triple>) -> Result<usize, Refusal>
-        requires { 0 < length piece.now }
-        ensures bound { IfOk result (λ n. (0 < n) × (n ≤ length piece.now)) }
-        ensures ok { TakesFront self.old self.new triples.old.items triples.new.items piece.now result }
-        ensures err { OnErr result (triples.new.items ≡ triples.old.items) }
-        ensures request { self.new.request ≡ self.old.request }
-        ensures refused { IfErr result (λ e. e ≡ Refusal.NoMemory) }
-    {
-        self.step(piece[0], triples)?;
-        Ok(1)
-    }
-
-    /// An object that stands whole at the front of a piece with the dot of its statement, or one byte.
-    fn take_mark(&mut self, piece: &[u8], triples: &mut Vec<Triple>) -> Result<usize, Refusal>
-        requires { 0 < length piece.now }
-        ensures bound { IfOk result (λ n. (0 < n) × (n ≤ length piece.now)) }
-        ensures ok { TakesFront self.old self.new triples.old.items triples.new.items piece.now result }
-        ensures err { OnErr result (triples.new.items ≡ triples.old.items) }
-        ensures request { self.new.request ≡ self.old.request }
-        ensures refused { IfErr result (λ e. e ≡ Refusal.NoMemory) }
+    /// An object that stands whole at the front of a piece with the dot of its statement, if one does:
+    /// what was read then, and how many bytes they have.
+    #[inline]
+    fn take_object(&mut self, piece: &[u8]) -> Result<Option<(Parts, usize)>, AllocError>
+        ensures ok { IfOk result (λ o. TakesParts self.old self.new piece.now o) }
+        ensures still { GivesNothing self.old self.new }
     {
         if !self.decoder.is_ready() {
-            return self.take_byte(piece, triples);
+            return Ok(None);
         }
         match self.cursor.take_object(piece, self.read)? {
-            None => self.take_byte(piece, triples),
+            None => Ok(None),
             Some((parts, n)) => {
                 self.read = parts.end;
-                self.give(parts, triples)?;
-                Ok(n)
+                Ok(Some((parts, n)))
             }
         }
     }
@@ -183,7 +167,16 @@ impl NTriplesReader {
         if count > 0 {
             return Ok(count);
         }
-        self.take_mark(piece, triples)
+        match self.take_object(piece)? {
+            None => {
+                self.step(piece[0], triples)?;
+                Ok(1)
+            }
+            Some((parts, n)) => {
+                self.give(parts, triples)?;
+                Ok(n)
+            }
+        }
     }
 
     /// The next bytes.

@@ -1,19 +1,36 @@
-use Rattle.std.proofs.Common.{ℕ, take, arith}
-use Rattle.gs_ntread.specs.Readers.{TakesAll}
-use Rattle.gs_ntread.proofs.Takes.{if_ok, took-after}
+use Rattle.std.proofs.Common.{◌≡◌, ℕ, [], sym, ap, subst, ◌∙◌, arith}
+use Rattle.std.specs.Prelude.{Option}
+use Rattle.gs_machine.proofs.MachineLemmas.{steps-nil}
+use Rattle.gs_ntread.specs.Reader.{Led}
+use Rattle.gs_ntread.specs.Readers.{Completes, TakesParts, led_of}
+use Rattle.gs_ntread.specs.declared.parts.Parts.{Parts}
+use Rattle.gs_ntread.proofs.Takes.{took-none, took-from, took-more, took-after}
 use Rattle.gs_ntread.proofs.reader.NTriplesReader.take_some.Goals as goal
 
 pub returns-then-count-gt0-clause-ok : goal.returns-then-count-gt0-clause-ok
 returns-then-count-gt0-clause-ok c = c.in_ok-count.ensures.ok c.args.triples.now.items
 
-pub returns-clause-ok : goal.returns-clause-ok
-returns-clause-ok c =
+pub returns-in_ok-step-in-None-clause-ok : goal.returns-in_ok-step-in-None-clause-ok
+returns-in_ok-step-in-None-clause-ok c =
     let x = c.args.piece.now in
     let s = c.args.self.now in
     let r = c.take_run.new.self in
-    let t = c.take_mark.new.self in
+    let o = c.take_object.new.self in
     let ts = c.args.triples.now.items in
-    let us = c.take_mark.new.triples.items in
-    if_ok c.take_mark.result (λ (n : ℕ). TakesAll r t ts us (take n x)) (λ (n : ℕ). TakesAll s t ts us (take n x))
-    (λ n h. took-after s r t ts ts us x c.in_ok-count.count n (omega (arith, c.if-count-gt0.false)) (c.in_ok-count.ensures.ok ts) h)
-    c.take_mark.ensures.ok
+    let still = c.in_ok-take_object.ensures.still in
+    let same : led_of o ≡ led_of r = subst (λ (w : Option (Parts × ℕ)). TakesParts r o x w) c.in-None.is c.in_ok-take_object.ensures.ok in
+    took-after s r _ ts ts _ x c.in_ok-count.count 1 (omega (arith, c.if-count-gt0.false)) (c.in_ok-count.ensures.ok ts)
+    (took-more r o _ _ _ _ x 0 (omega arith) (took-none r o ts _ (steps-nil _ _ ∙ ap (λ (l : Led). (l, [])) (sym same)) still.last still.request still.closed) c.in_ok-step-in-None.ensures.ok)
+
+pub returns-in_ok-give-in-Some-clause-ok : goal.returns-in_ok-give-in-Some-clause-ok
+returns-in_ok-give-in-Some-clause-ok c =
+    let x = c.args.piece.now in
+    let s = c.args.self.now in
+    let r = c.take_run.new.self in
+    let o = c.take_object.new.self in
+    let ts = c.args.triples.now.items in
+    let n = c.in-Some.n in
+    let still = c.in_ok-take_object.ensures.still in
+    let whole : Completes r o x c.in-Some.parts n = subst (λ (w : Option (Parts × ℕ)). TakesParts r o x w) c.in-Some.is c.in_ok-take_object.ensures.ok in
+    took-after s r _ ts ts _ x c.in_ok-count.count n (omega (arith, c.if-count-gt0.false)) (c.in_ok-count.ensures.ok ts)
+    (took-from r o _ ts _ _ _ still.last still.request still.closed whole.led c.in_ok-give-in-Some.ensures.ok)

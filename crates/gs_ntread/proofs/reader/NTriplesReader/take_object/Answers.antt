@@ -1,4 +1,4 @@
-use Rattle.std.proofs.Common.{◌≡◌, ◌+◌, ℕ, refl, sym, ap, subst, ◌∙◌, length, take, arith}
+use Rattle.std.proofs.Common.{◌≡◌, ◌+◌, ℕ, sym, ap, subst, ◌∙◌, length, take, arith}
 use Rattle.std.specs.Prelude.{Option}
 use Rattle.std.proofs.lemmas.List.{length-take-le}
 use Rattle.gs_machine.specs.Machines.{steps}
@@ -12,12 +12,11 @@ use Rattle.gs_ntread.specs.Views.{cursor_state, sentence_of}
 use Rattle.gs_ntread.specs.Wholes.{EndsFront, EndsIn}
 use Rattle.gs_ntread.specs.declared.parts.Parts.{Parts}
 use Rattle.gs_ntread.proofs.RunLemmas.{ready_is}
-use Rattle.gs_ntread.proofs.Takes.{took-from}
 use Rattle.gs_ntread.proofs.WholeRuns.{ended}
-use Rattle.gs_ntread.proofs.reader.NTriplesReader.take_mark.Goals as goal
+use Rattle.gs_ntread.proofs.reader.NTriplesReader.take_object.Goals as goal
 
-pub returns-in_ok-give-in-Some-clause-ok : goal.returns-in_ok-give-in-Some-clause-ok
-returns-in_ok-give-in-Some-clause-ok c =
+pub returns-in-Some-clause-ok : goal.returns-in-Some-clause-ok
+returns-in-Some-clause-ok c =
     let s = c.args.self.now in
     let x = c.args.piece.now in
     let n = c.in-Some.n in
@@ -29,9 +28,12 @@ returns-in_ok-give-in-Some-clause-ok c =
     let d : s.decoder ≡ Ready = ready_is s.decoder (sym c.is_ready.ensures ∙ c.if-not-is_ready.false) in
     let f : EndsFront q x s.read n q2 w = subst (λ (o : Option (Parts × ℕ)). TakesObject s.cursor c.take_object.new.self x s.read o) c.in-Some.is c.in_ok-take_object.ensures in
     let k : counted (s.read + n) ≡ counted (s.read + length xs) = ap (λ z. counted (s.read + z)) (sym (length-take-le n x f.within)) in
-    took-from s _ c.give.new.self c.args.triples.now.items c.give.new.triples.items _ _ refl refl refl
-    (ap (λ (v : Decoding). steps (ntriples s.request) (v, (s.read, (q, s.numbering))) xs) d
-    ∙ ended s.request s.read q q2 s.numbering xs w (subst (λ (z : ℕ). EndsIn q xs z q2 w) k f.ends) (omega arith)
-    ∙ ap (λ (v : Decoding). ((v, (counted (s.read + length xs), (q2, u.0))), u.1)) (sym d)
-    ∙ ap (λ (z : ℕ). ((s.decoder, (z, (q2, u.0))), u.1)) (sym (f.ends.ends ∙ k)))
-    c.in_ok-give-in-Some.ensures.ok
+    record {
+      some = f.some;
+      within = f.within;
+      led =
+          ap (λ (v : Decoding). steps (ntriples s.request) (v, (s.read, (q, s.numbering))) xs) d
+          ∙ ended s.request s.read q q2 s.numbering xs w (subst (λ (z : ℕ). EndsIn q xs z q2 w) k f.ends) (omega arith)
+          ∙ ap (λ (v : Decoding). ((v, (counted (s.read + length xs), (q2, u.0))), u.1)) (sym d)
+          ∙ ap (λ (z : ℕ). ((s.decoder, (z, (q2, u.0))), u.1)) (sym (f.ends.ends ∙ k));
+    }
