@@ -72,12 +72,6 @@ TakesFront old new before after piece answer = IfOk answer (λ n. TakesAll old n
 abbrev pub TakesRun : {E : Type 0} → (old new : NTriplesReader) → List ℕ → Result ℕ E → Type 0
 TakesRun old new piece answer = IfOk answer (λ n. (ts : List RdfTriple) → TakesAll old new ts ts (take n piece))
 
--- a reader gives nothing
-pub record GivesNothing (old new : NTriplesReader) : Type 0 where
-  pub last : new.last ≡ old.last
-  pub request : new.request ≡ old.request
-  pub closed : new.is_closed ≡ old.is_closed
-
 -- a triple by its parts, which a reader has yet to give, is complete with the first n bytes of a piece
 pub record Completes (old new : NTriplesReader) (piece : List ℕ) (p : Parts) (n : ℕ) : Type 0 where
   pub some : 0 < n

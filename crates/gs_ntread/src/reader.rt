@@ -55,7 +55,7 @@ impl NTriplesReader {
     ghost use Rattle.gs_machine.specs.Utf8.{is_ready_of};
     ghost use Rattle.gs_body.specs.Bodies.{triples_of, Whole};
     ghost use Rattle.gs_ntread.specs.Documents.{meaning_by, Means};
-    ghost use Rattle.gs_ntread.specs.Readers.{LeadsTo, IsStopped, refusal_after, FaultsAs, ConcludesAs, FaultyEnd, EndsWell, FaultsAfter, FaultsAtEnd, GivesParts, TakesAll, TakesByte, TakesChar, TakesFront, TakesRun, TakesParts, GivesNothing, body_end, text_end};
+    ghost use Rattle.gs_ntread.specs.Readers.{LeadsTo, IsStopped, refusal_after, FaultsAs, ConcludesAs, FaultyEnd, EndsWell, FaultsAfter, FaultsAtEnd, GivesParts, TakesAll, TakesByte, TakesChar, TakesFront, TakesRun, TakesParts, body_end, text_end};
     ghost use Rattle.gs_ntread.specs.Views.{cursor_state, ending_of};
 
     /// A reader at the start of the body of the request of this number. Takes no memory.
@@ -140,7 +140,9 @@ impl NTriplesReader {
     #[inline]
     fn take_object(&mut self, piece: &[u8]) -> Result<Option<(Parts, usize)>, AllocError>
         ensures ok { IfOk result (λ o. TakesParts self.old self.new piece.now o) }
-        ensures still { GivesNothing self.old self.new }
+        ensures last { self.new.last ≡ self.old.last }
+        ensures request { self.new.request ≡ self.old.request }
+        ensures closed { self.new.is_closed ≡ self.old.is_closed }
     {
         if !self.decoder.is_ready() {
             return Ok(None);

@@ -17,10 +17,10 @@ returns-in_ok-step-in-None-clause-ok c =
     let r = c.take_run.new.self in
     let o = c.take_object.new.self in
     let ts = c.args.triples.now.items in
-    let still = c.in_ok-take_object.ensures.still in
-    let same : led_of o ≡ led_of r = subst (λ (w : Option (Parts × ℕ)). TakesParts r o x w) c.in-None.is c.in_ok-take_object.ensures.ok in
+    let kept = c.in_ok-take_object.ensures in
+    let same : led_of o ≡ led_of r = subst (λ (w : Option (Parts × ℕ)). TakesParts r o x w) c.in-None.is kept.ok in
     took-after s r _ ts ts _ x c.in_ok-count.count 1 (omega (arith, c.if-count-gt0.false)) (c.in_ok-count.ensures.ok ts)
-    (took-more r o _ _ _ _ x 0 (omega arith) (took-none r o ts _ (steps-nil _ _ ∙ ap (λ (l : Led). (l, [])) (sym same)) still.last still.request still.closed) c.in_ok-step-in-None.ensures.ok)
+    (took-more r o _ _ _ _ x 0 (omega arith) (took-none r o ts _ (steps-nil _ _ ∙ ap (λ (l : Led). (l, [])) (sym same)) kept.last kept.request kept.closed) c.in_ok-step-in-None.ensures.ok)
 
 pub returns-in_ok-give-in-Some-clause-ok : goal.returns-in_ok-give-in-Some-clause-ok
 returns-in_ok-give-in-Some-clause-ok c =
@@ -30,7 +30,7 @@ returns-in_ok-give-in-Some-clause-ok c =
     let o = c.take_object.new.self in
     let ts = c.args.triples.now.items in
     let n = c.in-Some.n in
-    let still = c.in_ok-take_object.ensures.still in
-    let whole : Completes r o x c.in-Some.parts n = subst (λ (w : Option (Parts × ℕ)). TakesParts r o x w) c.in-Some.is c.in_ok-take_object.ensures.ok in
+    let kept = c.in_ok-take_object.ensures in
+    let whole : Completes r o x c.in-Some.parts n = subst (λ (w : Option (Parts × ℕ)). TakesParts r o x w) c.in-Some.is kept.ok in
     took-after s r _ ts ts _ x c.in_ok-count.count n (omega (arith, c.if-count-gt0.false)) (c.in_ok-count.ensures.ok ts)
-    (took-from r o _ ts _ _ _ still.last still.request still.closed whole.led c.in_ok-give-in-Some.ensures.ok)
+    (took-from r o _ ts _ _ _ kept.last kept.request kept.closed whole.led c.in_ok-give-in-Some.ensures.ok)
