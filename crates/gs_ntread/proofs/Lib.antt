@@ -8,3 +8,4 @@ pub mod Lostness
 pub mod Takes
 pub mod Histories
 pub mod RunLemmas
+pub mod WholeRuns

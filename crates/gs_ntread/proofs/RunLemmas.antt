@@ -39,7 +39,7 @@ scalar_ascii : (b : ℕ) → b < 128 → is_character b ≡ true
 scalar_ascii b h = grind (arith, nat_tests)
 
 -- bytes of a class, each of which goes on with a token
-runs_on : (p : ℕ → Bool) (q : Held → LineState) → ((b : ℕ) → p b ≡ true → b < 128)
+pub runs_on : (p : ℕ → Bool) (q : Held → LineState) → ((b : ℕ) → p b ≡ true → b < 128)
     → ((h : Held) (b n : ℕ) → p b ≡ true → transition (q h).0 (q h).1 b n ≡ no_triple (q (add h (b ∷ []))))
     → (h : Held) (xs : List ℕ) → list_all p xs ≡ true → RunsTo (q h) xs (q (add_each h xs))
 runs_on p q low on h [] e = stays (q h)
@@ -141,7 +141,7 @@ byte_goes r n q q' m b l e =
     byte-some r Ready Ready (n, (q, m)) b b (at_ascii b l)
     ∙ ap (λ (u : Placed × List Statement). ((Ready, u.0), u.1)) (character-none r n q q' m b (sym e))
 
-length_one : (b : ℕ) → b < 128 → len_utf8 b ≡ 1
+pub length_one : (b : ℕ) → b < 128 → len_utf8 b ≡ 1
 length_one b l = grind (arith, nat_tests)
 
 counted_more : (n k : ℕ) → counted (counted (n + 1) + k) ≡ counted (n + suc k)

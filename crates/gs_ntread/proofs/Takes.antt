@@ -1,5 +1,5 @@
 -- What a reader takes, step by step.
-use Rattle.std.proofs.Common.{◌≡◌, ℕ, ◌+◌, ◌<◌, false, List, [], ◌++◌, length, take, drop, get_or, refl, sym, ap, subst, ◌∙◌, append_assoc, append-nil, inr, Result, Ok, Err}
+use Rattle.std.proofs.Common.{◌≡◌, ℕ, ◌+◌, ◌<◌, false, List, [], ◌++◌, length, take, drop, get_or, refl, sym, ap, subst, ◌∙◌, append_assoc, append-nil, arith, inr, Result, Ok, Err}
 use Rattle.std.proofs.Math.Seq.{take-add}
 use Rattle.std.specs.Prelude.{OnOk, IfErr}
 use Rattle.gs_model.specs.Triples.{RdfTriple}
@@ -79,6 +79,15 @@ took-on a b c o1 o2 o3 x n k f g =
     (subst (λ (s : Led). Advances b c o2 o3 (steps (ntriples b.request) s y)) f.led g) in
     subst (Advances a c o1 o3) (sym (ap (steps (ntriples a.request) (led_of a)) (take-add n k x) ∙ steps-append (ntriples a.request) (led_of a) (take n x) y))
     (took-then a b c o1 o2 o3 t (steps (ntriples a.request) t.0 y) f g')
+
+-- some bytes of a piece after none of it
+pub took-after : (a b c : NTriplesReader) (o1 o2 o3 : List RdfTriple) (x : List ℕ) (n k : ℕ) → n ≡ 0
+    → Advances a b o1 o2 (steps (ntriples a.request) (led_of a) (take n x)) → Advances b c o2 o3 (steps (ntriples b.request) (led_of b) (take k x))
+    → Advances a c o1 o3 (steps (ntriples a.request) (led_of a) (take k x))
+took-after a b c o1 o2 o3 x n k e f g =
+    let at : ℕ → Led × List Statement = λ z. steps (ntriples a.request) (led_of a) (take z x) in
+    let none : 0 + k ≡ k = omega arith in
+    subst (λ (z : ℕ). Advances a c o1 o3 (at z)) none (took-on a b c o1 o2 o3 x 0 k (subst (λ (z : ℕ). Advances a b o1 o2 (at z)) e f) g)
 
 -- the fault of a state is that of what was given
 pub fault-after : (e : Refusal) (a b : NTriplesReader) (o1 o2 : List RdfTriple) (s : LineState) (t : Led × List Statement) → Advances a b o1 o2 t → s ≡ (led_of b).1.1.0 → FaultsAs e b.last s → FaultyAfter e a.last t

@@ -1,5 +1,5 @@
 -- What the private calls of a cursor do, in short, for their contracts.
-use Rattle.std.specs.Prelude.{◌≡◌, ℕ, Bool, List, [], Option, Result, IfOk}
+use Rattle.std.specs.Prelude.{◌≡◌, ℕ, Bool, List, [], Option, Some, None, Result, IfOk}
 use Rattle.gs_model.specs.Terms.{Term}
 use Rattle.gs_model.specs.Triples.{RdfTriple}
 use Rattle.gs_model.specs.declared.refusals.Refusal.{Refusal}
@@ -17,6 +17,7 @@ use Rattle.gs_ntread.specs.Documents.{one_statement, term_of, line_stated}
 use Rattle.gs_ntread.specs.States.{TokenMode, InLabel, InDots, InTag, Hyphen, LineState, LineTransition}
 use Rattle.gs_ntread.specs.Lines.{dot_next, iri_closed}
 use Rattle.gs_ntread.specs.Runs.{RunsTo}
+use Rattle.gs_ntread.specs.Wholes.{EndsFront}
 use Rattle.gs_ntread.specs.Transitions.{transition, iri_numbered, string_numbered, iri_transition, string_transition, dotted_transition}
 use Rattle.gs_ntread.specs.Machine.{dots_end}
 use Rattle.gs_ntread.specs.Views.{shown, settled, stage_at, cursor_state, subject_of, sentence_of, sentences_of, ending_of}
@@ -118,6 +119,11 @@ AnswersTriple r old new p answer = IfOk answer (λ t. (new, one_statement t p.en
 -- these characters of ASCII lead from where one cursor stands to where the other stands
 abbrev pub RunsOver : Cursor → Cursor → List ℕ → Type 0
 RunsOver old new bytes = RunsTo (cursor_state old) bytes (cursor_state new)
+
+-- an object with its dot, in so many bytes of a piece, or nothing that is done
+abbrev pub TakesObject : (old new : Cursor) → (piece : List ℕ) → (read : ℕ) → Option (Parts × ℕ) → Type 0
+TakesObject old new piece read None = cursor_state new ≡ cursor_state old
+TakesObject old new piece read (Some w) = EndsFront (cursor_state old) piece read w.1 (cursor_state new) (sentence_of w.0)
 
 -- how a text ends, with the triple that is complete by that
 abbrev pub ClosesAs : {E : Type 0} → Result (Option Parts × Result (Unit {0}) Fault) E → List LineTriple × Ending → Type 0

@@ -7,6 +7,7 @@ pub mod Lines
 pub mod Transitions
 pub mod Machine
 pub mod Runs
+pub mod Wholes
 pub mod Views
 pub mod Clauses
 pub mod Reader

@@ -1,5 +1,5 @@
 -- What a reader's fields mean, and what its calls do.
-use Rattle.std.specs.Prelude.{◌≡◌, ℕ, List, [], ◌++◌, ◌⊎◌, Result, IfOk, take}
+use Rattle.std.specs.Prelude.{◌≡◌, ℕ, ◌<◌, ◌≤◌, List, [], ◌++◌, ◌⊎◌, Option, Some, None, Result, IfOk, length, take}
 use Rattle.gs_model.specs.Triples.{RdfTriple}
 use Rattle.gs_model.specs.declared.refusals.Refusal.{Refusal}
 use Rattle.gs_model.specs.declared.refusals.Refusal.TheVariants as refusal
@@ -71,6 +71,17 @@ TakesFront old new before after piece answer = IfOk answer (λ n. TakesAll old n
 -- a reader takes as many bytes of a piece as it answers, which complete nothing
 abbrev pub TakesRun : {E : Type 0} → (old new : NTriplesReader) → List ℕ → Result ℕ E → Type 0
 TakesRun old new piece answer = IfOk answer (λ n. (ts : List RdfTriple) → TakesAll old new ts ts (take n piece))
+
+-- a triple by its parts, which a reader has yet to give, is complete with the first n bytes of a piece
+pub record Completes (old new : NTriplesReader) (piece : List ℕ) (p : Parts) (n : ℕ) : Type 0 where
+  pub some : 0 < n
+  pub within : n ≤ length piece
+  pub led : led_through old (take n piece) ≡ led_stated new p
+
+-- so it is with so many bytes, or nothing is done
+abbrev pub TakesParts : (old new : NTriplesReader) → (piece : List ℕ) → Option (Parts × ℕ) → Type 0
+TakesParts old new piece None = led_of new ≡ led_of old
+TakesParts old new piece (Some w) = Completes old new piece w.0 w.1
 
 -- what the end of the text gives between two characters
 abbrev pub text_end : NTriplesReader → Meaning

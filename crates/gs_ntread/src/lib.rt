@@ -13,6 +13,7 @@ mod reader;
 mod runs;
 mod tags;
 mod taking;
+mod wholes;
 
 pub use laws::read_by_characters;
 pub use reader::NTriplesReader;

@@ -55,7 +55,7 @@ impl NTriplesReader {
     ghost use Rattle.gs_machine.specs.Utf8.{is_ready_of};
     ghost use Rattle.gs_body.specs.Bodies.{triples_of, Whole};
     ghost use Rattle.gs_ntread.specs.Documents.{meaning_by, Means};
-    ghost use Rattle.gs_ntread.specs.Readers.{LeadsTo, IsStopped, refusal_after, FaultsAs, ConcludesAs, FaultyEnd, EndsWell, FaultsAfter, FaultsAtEnd, GivesParts, TakesAll, TakesByte, TakesChar, TakesFront, TakesRun, body_end, text_end};
+    ghost use Rattle.gs_ntread.specs.Readers.{LeadsTo, IsStopped, refusal_after, FaultsAs, ConcludesAs, FaultyEnd, EndsWell, FaultsAfter, FaultsAtEnd, GivesParts, TakesAll, TakesByte, TakesChar, TakesFront, TakesRun, TakesParts, body_end, text_end};
     ghost use Rattle.gs_ntread.specs.Views.{cursor_state, ending_of};
 
     /// A reader at the start of the body of the request of this number. Takes no memory.
@@ -135,7 +135,28 @@ impl NTriplesReader {
         Ok(count)
     }
 
-    /// The run at the front of a piece, and one byte more where there is one.
+    /// An object that stands whole at the front of a piece with the dot of its statement, if one does:
+    /// what was read then, and how many bytes they have.
+    #[inline]
+    fn take_object(&mut self, piece: &[u8]) -> Result<Option<(Parts, usize)>, AllocError>
+        ensures ok { IfOk result (λ o. TakesParts self.old self.new piece.now o) }
+        ensures last { self.new.last ≡ self.old.last }
+        ensures request { self.new.request ≡ self.old.request }
+        ensures closed { self.new.is_closed ≡ self.old.is_closed }
+    {
+        if !self.decoder.is_ready() {
+            return Ok(None);
+        }
+        match self.cursor.take_object(piece, self.read)? {
+            None => Ok(None),
+            Some((parts, n)) => {
+                self.read = parts.end;
+                Ok(Some((parts, n)))
+            }
+        }
+    }
+
+    /// What stands at the front of a piece: a run, an object with its dot, or one byte.
     fn take_some(&mut self, piece: &[u8], triples: &mut Vec<Triple>) -> Result<usize, Refusal>
         requires { 0 < length piece.now }
         ensures bound { IfOk result (λ n. (0 < n) × (n ≤ length piece.now)) }
@@ -145,11 +166,19 @@ impl NTriplesReader {
         ensures refused { IfErr result (λ e. e ≡ Refusal.NoMemory) }
     {
         let count = self.take_run(piece)?;
-        if count == piece.len() {
+        if count > 0 {
             return Ok(count);
         }
-        self.step(piece[count], triples)?;
-        Ok(count + 1)
+        match self.take_object(piece)? {
+            None => {
+                self.step(piece[0], triples)?;
+                Ok(1)
+            }
+            Some((parts, n)) => {
+                self.give(parts, triples)?;
+                Ok(n)
+            }
+        }
     }
 
     /// The next bytes.

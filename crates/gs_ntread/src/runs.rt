@@ -47,23 +47,26 @@ impl Cursor {
         run_len::<InComment>(piece)
     }
 
-    fn run_between(&self, piece: &[u8]) -> usize
-        requires { self.now.within ≡ within.Between }
-        ensures bound { result ≤ length piece.now }
-        ensures run { RunsOver self.now self.now (take result piece.now) }
+    /// Blanks, and a token that stands whole after them.
+    fn run_between(&mut self, piece: &[u8]) -> Result<usize, AllocError>
+        requires { self.old.within ≡ within.Between }
+        ensures bound { IfOk result (λ n. n ≤ length piece.now) }
+        ensures run { IfOk result (λ n. RunsOver self.old self.new (take n piece.now)) }
     {
-        short_run_len::<Between>(piece)
+        let blanks = short_run_len::<Between>(piece);
+        let n = self.whole_token(&piece[blanks..])?;
+        Ok(blanks + n)
     }
 
-    /// Takes the bytes at the front of a piece that only go on with what is being read, and
-    /// counts them. Each other byte goes through `take`.
+    /// Takes the bytes at the front of a piece that only go on with what is being read, or that are
+    /// a whole token, and counts them. Each other byte goes through `take`.
     #[inline]
     pub fn take_run(&mut self, piece: &[u8]) -> Result<usize, AllocError>
         ensures bound { IfOk result (λ n. n ≤ length piece.now) }
         ensures run { IfOk result (λ n. RunsOver self.old self.new (take n piece.now)) }
     {
         match self.within {
-            Within::Between => Ok(self.run_between(piece)),
+            Within::Between => self.run_between(piece),
             Within::Comment => Ok(self.run_in_comment(piece)),
             Within::Iri => self.run_in_iri(piece),
             Within::Quoted => self.run_in_string(piece),

@@ -5,3 +5,4 @@ pub mod Lanes
 pub mod NumberLemmas
 pub mod RunLemmas
 pub mod WideLemmas
+pub mod WholeLemmas

@@ -6,5 +6,6 @@ pub mod LineTerms
 pub mod Forms
 pub mod Tokens
 pub mod Runs
+pub mod Wholes
 pub mod Labels
 pub mod Views

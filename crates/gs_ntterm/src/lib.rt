@@ -10,6 +10,7 @@ mod names;
 mod runs;
 mod terms;
 mod tokens;
+mod wholes;
 
 pub use classes::{begins_label, is_label_char, is_space, is_tag_char, may_stand_in_comment};
 pub use escapes::{char_of, with_digit};
@@ -19,3 +20,4 @@ pub use names::Name;
 pub use runs::{Between, Class, InComment, InIri, InLabel, InString, Wide, run_len, short_run_len};
 pub use terms::{iri, plain, tagged, typed};
 pub use tokens::Token;
+pub use wholes::{iri_front, literal_front};

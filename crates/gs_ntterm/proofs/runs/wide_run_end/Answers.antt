@@ -1,4 +1,4 @@
-use Rattle.std.proofs.Common.{refl, sym, ap, ◌∙◌, arith}
+use Rattle.std.proofs.Common.{sym, ap, ◌∙◌, arith}
 use lib.Count.{count_trailing_zeros}
 use Rattle.gs_ntterm.proofs.WideLemmas.{run_through, run_stops}
 use Rattle.gs_ntterm.proofs.runs.wide_run_end.Goals as goal

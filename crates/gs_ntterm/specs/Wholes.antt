@@ -1,0 +1,70 @@
+-- Tokens that stand whole at the front of a piece, in characters of ASCII that mean themselves, and the terms that they are.
+use Rattle.std.specs.Prelude.{◌≡◌, ℕ, ◌≤◌, ◌<◌, true, List, [], ◌∷◌, ◌++◌, length, take, Ok}
+use Rattle.std.specs.List.{list_all}
+use Rattle.gs_model.specs.Characters.{is_lower, quote, at_sign, caret, less_than, greater_than}
+use Rattle.gs_model.specs.Iris.{is_absolute}
+use Rattle.gs_model.specs.Limits.{max_term_bytes}
+use Rattle.gs_model.specs.Terms.{Term, Iri, Literal, LiteralKind, Typed, Tagged, xsd_string}
+use Rattle.gs_term.specs.Making.{made}
+use Rattle.gs_ntterm.specs.Runs.{runs_in_iri, runs_in_string}
+
+-- the first n bytes are an absolute IRI in its marks, which a term has room for
+pub record IriFront (piece : List ℕ) (n : ℕ) : Type 0 where
+  pub iri : List ℕ
+  pub stands : take n piece ≡ less_than ∷ iri ++ greater_than ∷ []
+  pub plain : list_all runs_in_iri iri ≡ true
+  pub absolute : is_absolute iri ≡ true
+  pub made : made (Iri iri) ≡ Ok (Iri iri)
+  pub short : n ≤ max_term_bytes
+  pub within : n ≤ length piece
+
+-- the same, and this is its term
+pub record IsIriFront (piece : List ℕ) (n : ℕ) (t : Term) : Type 0 where
+  pub front : IriFront piece n
+  pub term : t ≡ Iri front.iri
+
+-- the first n bytes are a string in its quotes
+pub record StringFront (piece : List ℕ) (n : ℕ) : Type 0 where
+  pub lexical : List ℕ
+  pub stands : take n piece ≡ quote ∷ lexical ++ quote ∷ []
+  pub plain : list_all runs_in_string lexical ≡ true
+  pub within : n ≤ length piece
+
+-- the first n bytes are a datatype after its string
+pub record DatatypeFront (rest : List ℕ) (n : ℕ) : Type 0 where
+  pub iri : List ℕ
+  pub stands : take n rest ≡ caret ∷ caret ∷ less_than ∷ iri ++ greater_than ∷ []
+  pub plain : list_all runs_in_iri iri ≡ true
+  pub absolute : is_absolute iri ≡ true
+  pub within : n ≤ length rest
+
+-- the datatype that a text leaves out, after its string
+abbrev pub string_suffix : List ℕ
+string_suffix = caret ∷ caret ∷ less_than ∷ xsd_string ++ greater_than ∷ []
+
+-- the first n bytes are a language tag of small letters after its string
+pub record TagFront (rest : List ℕ) (n : ℕ) : Type 0 where
+  pub tag : List ℕ
+  pub stands : take n rest ≡ at_sign ∷ tag
+  pub plain : list_all is_lower tag ≡ true
+  pub some : 0 < length tag
+  pub within : n ≤ length rest
+
+-- what stands after a string's closing quote says its kind: nothing, a datatype's IRI, or a tag of small letters
+pub data Says : List ℕ → LiteralKind → Type 0 where
+  none : Says [] (Typed xsd_string)
+  datatype : (d : List ℕ) → list_all runs_in_iri d ≡ true → Says (caret ∷ caret ∷ less_than ∷ d ++ greater_than ∷ []) (Typed d)
+  tag : (t : List ℕ) → list_all is_lower t ≡ true → 0 < length t → Says (at_sign ∷ t) (Tagged t)
+
+-- the first n bytes are a literal, which t is
+pub record IsLiteralFront (piece : List ℕ) (n : ℕ) (t : Term) : Type 0 where
+  pub lexical : List ℕ
+  pub after : List ℕ
+  pub kind : LiteralKind
+  pub term : t ≡ Literal lexical kind
+  pub stands : take n piece ≡ quote ∷ lexical ++ quote ∷ after
+  pub plain : list_all runs_in_string lexical ≡ true
+  pub says : Says after kind
+  pub made : made (Literal lexical kind) ≡ Ok (Literal lexical kind)
+  pub short : n ≤ max_term_bytes
+  pub within : n ≤ length piece
