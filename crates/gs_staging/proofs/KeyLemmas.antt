@@ -1,8 +1,8 @@
 -- A dictionary that grows by the terms of triples, and the keys that it gives them.
-use Rattle.std.proofs.Common.{◌≡◌, ◌<◌, ℕ, List, [], ◌∷◌, ◌++◌, map, length, Some, Result, Ok, Err, inl, inr, refl, sym, ap, subst, ◌∙◌, arith, append_assoc, append-nil, length-append}
+use Rattle.std.proofs.Common.{◌≡◌, ◌<◌, ℕ, List, [], ◌∷◌, ◌++◌, map, length, slice_get, Some, Result, Ok, Err, inl, inr, refl, sym, ap, subst, ◌∙◌, arith, append_assoc, append-nil, length-append}
 use Rattle.std.specs.Option.{unwrap_or}
 use Rattle.std.proofs.lemmas.List.{map-append}
-use Rattle.std.proofs.lemmas.Option.{slice_get_within, slice_get-get_or}
+use Rattle.std.proofs.lemmas.Option.{slice_get_within, slice_get_cases, slice_get-get_or, same_Some}
 use Rattle.std.proofs.Math.Seq.{get_or-append_seam}
 use Rattle.gs_model.specs.Terms.{Term, Iri}
 use Rattle.gs_model.specs.Triples.{RdfTriple}
@@ -14,7 +14,7 @@ use Rattle.gs_pool.specs.declared.nodes.Key.{Key}
 use Rattle.gs_tree.specs.Keys.{AllKeys}
 use Rattle.gs_keys.specs.Texts.{term_at, triple_at, IsGiven}
 use Rattle.gs_keys.proofs.RootLemmas.{slice_get_front, triples_kept, all_given_kept}
-use Rattle.gs_staging.specs.Keys.{Grows, IsKeyOf, AreKeysOf}
+use Rattle.gs_staging.specs.Keys.{Grows, GivesOnly, IsTermOf, IsTermIn, IsKeyOf, AreKeysOf}
 
 -- a dictionary that stays as it is grows by nothing
 pub still_grows : (d e : Numbered) → e ≡ d → Grows d e
@@ -67,6 +67,42 @@ interned_number d t id e h = elim h [
   | inl was ↦ subst (λ (f : Numbered). IsNumberOf f.terms id.number t) (sym was.same) was.there
   | inr joins ↦ subst (λ (f : Numbered). IsNumberOf f.terms id.number t) (sym joins.more) (slice_get_end d.terms t id.number joins.next)
 ]
+
+-- one number more is that of the new term alone
+pushed_only : (ts : List Term) (t : Term) → GivesOnly (λ u. u ≡ t) ts (ts ++ t ∷ [])
+pushed_only ts t n u h = elim (slice_get_cases ts n).1 [
+  | inl old ↦ inl (sym (slice_get_front ts (t ∷ []) n old.1) ∙ h)
+  | inr past ↦
+      let last : n ≡ length ts = omega (arith, past.0, slice_get_within (ts ++ t ∷ []) n u h, length-append ts (t ∷ [])) in
+      inr (same_Some u t (sym h ∙ slice_get_end ts t n last))
+]
+
+-- a dictionary that gave a term its number gave it to no other
+pub interned_only : (d : Numbered) (t : Term) (r : Result TermId Refusal) (e : Numbered) → Interns d t r e → GivesOnly (λ u. u ≡ t) d.terms e.terms
+interned_only d t (Ok id) e h = elim h [
+  | inl was ↦ subst (λ (f : Numbered). GivesOnly (λ u. u ≡ t) d.terms f.terms) (sym was.same) (λ n u old. inl old)
+  | inr joins ↦ subst (λ (f : Numbered). GivesOnly (λ u. u ≡ t) d.terms f.terms) (sym joins.more) (pushed_only d.terms t)
+]
+interned_only d t (Err NoMemory) e h = subst (λ (f : Numbered). GivesOnly (λ u. u ≡ t) d.terms f.terms) (sym h.1) (λ n u old. inl old)
+interned_only d t (Err WrongPhase) e h = absurd h
+interned_only d t (Err BadSeat) e h = absurd h
+interned_only d t (Err LastNumber) e h = absurd h
+interned_only d t (Err (Syntax n)) e h = absurd h
+interned_only d t (Err TermTooLong) e h = absurd h
+interned_only d t (Err StoreFull) e h = absurd h
+interned_only d t (Err NotInProfile) e h = absurd h
+interned_only d t (Err Closed) e h = absurd h
+
+-- numbers that were given in two steps
+pub only_twice : {P Q : Term → Type 0} (a b c : List Term) → GivesOnly P a b → ((u : Term) → Q u → P u) → GivesOnly Q b c → GivesOnly P a c
+only_twice a b c first wider second n u h = elim (second n u h) [
+  | inl old ↦ first n u old
+  | inr is ↦ inr (wider u is)
+]
+
+-- and to the terms of one triple more of a list
+pub only_in : (a b c : List Term) (ts : List RdfTriple) (i : ℕ) (t : RdfTriple) → GivesOnly (IsTermIn ts) a b → slice_get ts i ≡ Some t → GivesOnly (IsTermOf t) b c → GivesOnly (IsTermIn ts) a c
+only_in a b c ts i t first there second = only_twice a b c first (λ u is. record { place = i; triple = t; there = there; term = is }) second
 
 -- it stays the term's
 pub number_kept : (d e : Numbered) → Grows d e → (n : ℕ) (t : Term) → IsNumberOf d.terms n t → IsNumberOf e.terms n t

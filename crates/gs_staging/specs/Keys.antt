@@ -1,5 +1,5 @@
 -- Triples by number: dictionaries that grow, the keys of a list of triples, and the same keys as a run.
-use Rattle.std.specs.Prelude.{◌≡◌, ◌&&◌, ◌==◌, Bool, List, ◌++◌, map}
+use Rattle.std.specs.Prelude.{◌≡◌, ◌⊎◌, ◌&&◌, ◌==◌, ℕ, Bool, List, ◌++◌, map, slice_get, Some}
 use Rattle.gs_model.specs.Terms.{Term}
 use Rattle.gs_model.specs.Triples.{RdfTriple}
 use Rattle.gs_model.specs.Graphs.{graph_of}
@@ -13,6 +13,21 @@ pub record Grows (old new : Numbered) : Type 0 where
   pub more : List Term
   pub terms : new.terms ≡ old.terms ++ more
   pub last : new.last ≡ old.last
+
+-- it is a term of this triple
+abbrev pub IsTermOf : RdfTriple → Term → Type 0
+IsTermOf t u = (u ≡ t.subject) ⊎ (u ≡ t.predicate) ⊎ (u ≡ t.object)
+
+-- it is a term of one of these triples
+pub record IsTermIn (ts : List RdfTriple) (u : Term) : Type 0 where
+  pub place : ℕ
+  pub triple : RdfTriple
+  pub there : slice_get ts place ≡ Some triple
+  pub term : IsTermOf triple u
+
+-- numbers were given to such terms alone
+abbrev pub GivesOnly : (Term → Type 0) → List Term → List Term → Type 0
+GivesOnly P old new = (n : ℕ) (u : Term) → IsNumberOf new n u → IsNumberOf old n u ⊎ P u
 
 -- the key has the numbers of the triple's terms
 pub record IsKeyOf (terms : List Term) (t : RdfTriple) (k : Key) : Type 0 where

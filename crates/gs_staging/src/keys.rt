@@ -1,7 +1,7 @@
 //! Triples by number.
 ghost use Rattle.std.specs.Prelude.{◌≡◌, ◌+◌, ◌<◌, ◌≤◌, length, vec_len, vec_capacity, IfOk, IfErr};
 ghost use Rattle.gs_model.specs.declared.refusals.Refusal.TheVariants.{NoMemory};
-ghost use Rattle.gs_staging.specs.Keys.{Grows, IsKeyOf, AreKeysOf};
+ghost use Rattle.gs_staging.specs.Keys.{Grows, GivesOnly, IsTermOf, IsTermIn, IsKeyOf, AreKeysOf};
 
 use gs_dict::{Dict, TermId};
 use gs_model::Refusal;
@@ -13,6 +13,7 @@ use std::alloc::Global;
 /// compared with that of the number `near`.
 fn key_of(dict: &mut Dict, near: u32, triple: &Triple) -> Result<Key, Refusal>
     ensures grows { Grows dict.old dict.new }
+    ensures only { GivesOnly (IsTermOf triple.now) dict.old.terms dict.new.terms }
     ensures ok { IfOk result (IsKeyOf dict.new.terms triple.now) }
     ensures refused { IfErr result (λ r. r ≡ NoMemory) }
 {
@@ -29,6 +30,7 @@ fn key_of(dict: &mut Dict, near: u32, triple: &Triple) -> Result<Key, Refusal>
 /// The keys of some triples, in their order, in one reserved list.
 pub fn keys_of(alloc: Global, dict: &mut Dict, triples: &[Triple]) -> Result<Vec<Key>, Refusal>
     ensures grows { Grows dict.old dict.new }
+    ensures only { GivesOnly (IsTermIn triples.now) dict.old.terms dict.new.terms }
     ensures ok { IfOk result (λ keys. AreKeysOf dict.new.terms triples.now keys.items) }
     ensures refused { IfErr result (λ r. r ≡ NoMemory) }
 {

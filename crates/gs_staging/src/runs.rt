@@ -1,7 +1,7 @@
 //! A list of triples as a run of keys.
 ghost use Rattle.std.specs.Prelude.{◌≡◌, IfOk, IfErr};
 ghost use Rattle.gs_model.specs.declared.refusals.Refusal.TheVariants.{NoMemory};
-ghost use Rattle.gs_staging.specs.Keys.{Grows, IsRunOfTriples};
+ghost use Rattle.gs_staging.specs.Keys.{Grows, GivesOnly, IsTermIn, IsRunOfTriples};
 
 use crate::keys::keys_of;
 use crate::orders::put_in_order;
@@ -18,6 +18,7 @@ use std::alloc::Global;
 /// memory.
 pub fn run_of(alloc: Global, dict: &mut Dict, triples: &[Triple]) -> Result<Vec<Key>, Refusal>
     ensures grows { Grows dict.old dict.new }
+    ensures only { GivesOnly (IsTermIn triples.now) dict.old.terms dict.new.terms }
     ensures ok { IfOk result (λ run. IsRunOfTriples dict.new.terms triples.now run.items) }
     ensures refused { IfErr result (λ r. r ≡ NoMemory) }
 {

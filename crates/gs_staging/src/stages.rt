@@ -4,7 +4,7 @@ ghost use Rattle.gs_model.specs.declared.refusals.Refusal.TheVariants.{NoMemory}
 ghost use Rattle.gs_tree.specs.Keys.{IsRising};
 ghost use Rattle.gs_tree.specs.Sets.{IsSetAt, UnitesAt};
 ghost use Rattle.gs_keys.specs.Texts.{key_cmp};
-ghost use Rattle.gs_staging.specs.Keys.{Grows};
+ghost use Rattle.gs_staging.specs.Keys.{Grows, GivesOnly, IsTermIn};
 ghost use Rattle.gs_staging.specs.Staging.{IsStaged, Stages};
 
 use crate::runs::run_of;
@@ -49,6 +49,7 @@ pub fn stage(
 ) -> Result<Merged, Refusal>
     requires staged { IsStaged dict.old.terms pool.old root }
     ensures grows { Grows dict.old dict.new }
+    ensures only { GivesOnly (IsTermIn triples.now) dict.old.terms dict.new.terms }
     ensures ok { IfOk result (Stages birth dict.old.terms dict.new.terms pool.old pool.new root
         triples.now) }
     ensures refused { IfErr result (λ r. r ≡ NoMemory) }
