@@ -39,7 +39,7 @@ fn join_all<C: Side, T: Side, B: Room, R: Threads>(
     back: Vec<Pass<C, T, B>>,
 ) -> Vec<Pass<C, T, B>>
     requires { (back.items ≡ []) × (length workers.items ≤ vec_capacity back) }
-    ensures many { length result.items ≡ length workers.items }
+    ensures many { length result.items ≡ length workers.entry.items }
     ensures served { (p : Server)
         → From (λ seat w. IsPromised p seat (record { base = w.promise.plan.base.now; piece = w.promise.plan.piece })
         w.promise.before.value.record) 0 workers.items

@@ -1,5 +1,4 @@
 use Rattle.std.proofs.Common.{◌≡◌, ◌+◌, [], ◌∷◌, ◌++◌, length, ap, ◌∙◌, sym, subst, arith, length-append}
-use Rattle.gs_talk.specs.Logs.{Server}
 use Rattle.gs_shared.specs.Seats.{From}
 use Rattle.gs_workers.specs.Served.{IsPromised, ServedOn, WasServed}
 use Rattle.gs_workers.proofs.RecordLemmas.{from_front, from_last, from_push}
@@ -17,15 +16,15 @@ loop-worker-preserved g c =
     let first = worker.promise.before.value.record in
     let pass = c.join-pass.result in
     let longer = length-append c.loop-worker.yielded (worker ∷ []) in
-    let more = length-append c.loop-worker.back.items (pass ∷ []) in
-    let is_promised = λ (p : Server) seat w. IsPromised p seat (record { base = w.promise.plan.base.now; piece = w.promise.plan.piece }) w.promise.before.value.record in record {
+    let more = length-append c.loop-worker.back.items (pass ∷ []) in record {
       whole = omega (arith, v.whole, ap length c.in-Some.ensures.steps.0, longer);
       room = c.push_reserved.ensures.capacity ∙ v.room;
       many = omega (arith, v.many, ap length c.push_reserved.ensures.items, longer, more);
       served = λ p promised.
-          let last = from_last (is_promised p) 0 c.loop-worker.yielded worker promised in
-          let was = subst (λ n. WasServed p n pass.record) (sym v.many) (first, last.0, subst (λ q. ServedOn q first pass.record) last.1 c.join-pass.ensures) in
+          let last = from_last (λ seat w. IsPromised p seat (record { base = w.promise.plan.base.now; piece = w.promise.plan.piece }) w.promise.before.value.record) 0 c.loop-worker.yielded worker promised in
+          let place : 0 + length c.loop-worker.yielded ≡ 0 + length c.loop-worker.back.items = omega (arith, v.many) in
+          let was = subst (λ n. WasServed p n pass.record) place (first, last.0, subst (λ q. ServedOn q first pass.record) last.1 c.join-pass.ensures) in
           subst (From (λ seat x. WasServed p seat x.record) 0) (sym c.push_reserved.ensures.items)
           (from_push (λ seat x. WasServed p seat x.record) 0 c.loop-worker.back.items pass
-          (v.served p (from_front (is_promised p) 0 c.loop-worker.yielded (worker ∷ []) promised)) was);
+          (v.served p (from_front (λ seat w. IsPromised p seat (record { base = w.promise.plan.base.now; piece = w.promise.plan.piece }) w.promise.before.value.record) 0 c.loop-worker.yielded (worker ∷ []) promised)) was);
     }

@@ -18,15 +18,17 @@ loop-pass-preserved g c =
     let step = c.in-Some.ensures.steps.0 in
     let longer = length-append c.loop-pass.yielded (pass ∷ []) in
     let more = length-append c.loop-pass.workers.items (worker ∷ []) in
-    let p : Server = record { base = c.args.plan.base.now; piece = c.args.plan.piece } in
-    let is_promised = λ seat w. IsPromised p seat (record { base = w.promise.plan.base.now; piece = w.promise.plan.piece }) w.promise.before.value.record in record {
+    let p : Server = record { base = c.captures.plan.base.now; piece = c.captures.plan.piece } in record {
       whole = move_on c.loop-pass.yielded pass _ ∙ (ap (λ xs. c.loop-pass.yielded ++ xs) (sym step) ∙ v.whole);
       many = omega (arith, v.many, ap length c.push_reserved.ensures.items, longer, more);
       room = omega (arith, v.room, ap length step, longer, c.push_reserved.ensures.capacity);
       promised = λ fresh.
-          let last : IsPromised p (0 + length c.loop-pass.yielded) (record { base = worker.promise.plan.base.now; piece = worker.promise.plan.piece }) worker.promise.before.value.record = search rules in
-          subst (From is_promised 0) (sym c.push_reserved.ensures.items)
-          (from_push is_promised 0 c.loop-pass.workers.items worker
+          let was = from_last (λ seat x. IsFreshOf seat x.record) 0 c.loop-pass.yielded pass fresh in
+          let same : worker.promise.before.value.record ≡ pass.record = search rules in
+          let made : record { base = worker.promise.plan.base.now; piece = worker.promise.plan.piece } ≡ p = search rules in
+          let place : 0 + length c.loop-pass.yielded ≡ 0 + length c.loop-pass.workers.items = omega (arith, v.many) in
+          subst (From (λ seat w. IsPromised p seat (record { base = w.promise.plan.base.now; piece = w.promise.plan.piece }) w.promise.before.value.record) 0) (sym c.push_reserved.ensures.items)
+          (from_push (λ seat w. IsPromised p seat (record { base = w.promise.plan.base.now; piece = w.promise.plan.piece }) w.promise.before.value.record) 0 c.loop-pass.workers.items worker
           (v.promised (from_front (λ seat x. IsFreshOf seat x.record) 0 c.loop-pass.yielded (pass ∷ []) fresh))
-          (subst (λ n. is_promised (0 + n) worker) (sym v.many) last));
+          (subst (λ n. IsFreshOf n worker.promise.before.value.record) place (subst (IsFreshOf (0 + length c.loop-pass.yielded)) (sym same) was), made));
     }

@@ -9,6 +9,6 @@ invariant-loop-pass g l = record {
   many : length l.workers.items ≡ length l.yielded;
   room : length l.yielded + length l.pass-iterator.rest.items ≤ vec_capacity l.workers;
   promised : From (λ seat x. IsFreshOf seat x.record) 0 l.yielded
-      → From (λ seat w. IsPromised (record { base = l.fn.plan.base.now; piece = l.fn.plan.piece }) seat
+      → From (λ seat w. IsPromised (record { base = l.plan.base.now; piece = l.plan.piece }) seat
       (record { base = w.promise.plan.base.now; piece = w.promise.plan.piece }) w.promise.before.value.record) 0 l.workers.items;
 }
