@@ -9,6 +9,6 @@ patience = 30_000_000_000
 abbrev pub accept_pause : ℕ
 accept_pause = 50_000_000
 
--- 1 second, which one read may wait for a client that still sends, once its connection has ended
+-- 1 second, which one read may wait for a client to end too, once its connection was served
 abbrev pub linger_patience : ℕ
 linger_patience = 1_000_000_000

@@ -20,10 +20,10 @@ pub(crate) const WAITING_STREAMS: usize = 16;
 /// The notes that may wait for the reclaimer. One that waits stands for those that find no room.
 pub(crate) const WAITING_NOTES: usize = 16;
 
-/// The seconds that a client which still sends may let one read wait, once its connection has ended.
+/// The seconds that one read may wait for a client to end too, once its connection was served.
 pub const LINGER_SECONDS: u64 = 1;
 
-/// The most reads by which such bytes are dropped, and the bytes of each.
+/// The most reads by which what it still sends is dropped, and the bytes of each.
 pub(crate) const LINGER_READS: usize = 1_024;
 
 pub(crate) const LINGER_BYTES: usize = 16_384;
@@ -42,7 +42,7 @@ pub(crate) fn accept_pause() -> Duration
     Duration::from_millis(ACCEPT_PAUSE_MILLISECONDS)
 }
 
-/// How long one read may wait for a client that still sends, once its connection has ended.
+/// How long one read may wait for a client to end too, once its connection was served.
 pub(crate) fn linger_patience() -> Duration
     ensures { as_nanos result ≡ spec.linger_patience }
 {

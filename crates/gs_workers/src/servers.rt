@@ -42,7 +42,7 @@ fn join_all<C: Side, T: Side, B: Room, R: Threads>(
     ensures many { length result.items ≡ length workers.entry.items }
     ensures served { (p : Server)
         → From (λ seat w. IsPromised p seat (record { base = w.promise.plan.base.now; piece = w.promise.plan.piece })
-        w.promise.before.value.record) 0 workers.items
+        w.promise.before.value.record) 0 workers.entry.items
         → From (λ seat x. WasServed p seat x.record) 0 result.items }
 {
     let mut back = back;
@@ -137,7 +137,7 @@ fn seed_from<R: RandomSource>(rt: &R) -> u64 {
     }
 }
 
-/// As `serve_all`, over a cell and two blanks, and with as much patience.
+/// As `serve_all`, by this plan, over a cell and two blanks.
 fn run<
     C: Side + Send + Sync,
     T: Side + Send + Sync,
@@ -207,7 +207,7 @@ fn run<
     Ok(shared.end(rt, all))
 }
 
-/// As `serve_all`, with as much patience.
+/// As `serve_all`, by this plan.
 pub(crate) fn serve_within<G: Gate + Sync, R: Threads + Wait + Clock + RandomSource + Sync>(
     rt: &R,
     plan: Plan<'_>,

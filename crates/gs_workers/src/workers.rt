@@ -33,7 +33,7 @@ fn serve_stream<D: Door>(plan: Plan<'_>, seat: u16, stream: TcpStream, door: &mu
     if limit_waits(&stream, plan.patience).is_err() {
         return;
     }
-    attend(
+    let is_whole = attend(
         plan.alloc,
         seat,
         plan.base,
@@ -42,7 +42,9 @@ fn serve_stream<D: Door>(plan: Plan<'_>, seat: u16, stream: TcpStream, door: &mu
         &mut &stream,
         door,
     );
-    let _ = linger(&stream);
+    if is_whole {
+        let _ = linger(&stream);
+    }
 }
 
 /// Serves each connection that comes, until no more can come.
