@@ -4,7 +4,7 @@ use std::alloc::{AllocError, Global};
 use std::io::{self, Write};
 
 /// What is wrong.
-#[derive(Clone, Copy, Debug, Drop, PartialEq)]
+#[derive(Clone, Copy, Drop)]
 pub enum Kind {
     /// The answer is otherwise than the plain store gives it.
     PlainAnswer,

@@ -1,14 +1,14 @@
 //! The plain model of a store: graphs as sets, seats, and versions that ended.
-use crate::asks::{Ask, Edit, Kind, Place};
+use crate::finds::edited;
 use crate::graphs::Graphs;
-use crate::molds::edited;
 use crate::outcomes::{Growth, Outcome, Said};
 use crate::phases::{Phase, Read, Turn, Upload};
 use crate::rules::Lie;
 use crate::sets::Set;
 use crate::versions::{Pins, SEATS, Versions};
-use gs_core::Refusal;
+use gs_drawn_events::{Ask, Edit, Kind, Place};
 use gs_event::Limits;
+use gs_model::Refusal;
 use std::alloc::{AllocError, Global};
 
 /// The model.
@@ -18,7 +18,7 @@ pub struct Model {
     most: Limits,
     request: u64,
     commit: u64,
-    pub graphs: Graphs,
+    graphs: Graphs,
     phases: [Phase; SEATS],
     versions: Versions,
 }
@@ -42,6 +42,19 @@ impl Model {
         match self.phases.get(usize::from(seat)) {
             Some(phase) => *phase,
             None => Phase::Idle,
+        }
+    }
+
+    /// The names that the store made up, and whose graphs are there.
+    pub fn made(&self, alloc: Global) -> Result<Vec<Place>, AllocError> {
+        self.graphs.made(alloc)
+    }
+
+    /// How many triples a seat's upload has.
+    pub fn staged(&self, seat: u16) -> u64 {
+        match self.phase(seat) {
+            Phase::Writing(upload) => upload.triples.count(),
+            _ => 0,
         }
     }
 
