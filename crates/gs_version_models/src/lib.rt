@@ -3,6 +3,7 @@
 #![tactic(auto)]
 
 mod answers;
+mod books;
 mod finds;
 mod graphs;
 mod models;

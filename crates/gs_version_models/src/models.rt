@@ -1,12 +1,11 @@
 //! The plain model of a store: graphs as sets, seats, and versions that ended.
-use crate::finds::edited;
-use crate::graphs::Graphs;
-use crate::outcomes::{Growth, Outcome, Said};
+use crate::books::Books;
+use crate::outcomes::{Outcome, Said};
 use crate::phases::{Phase, Read, Turn, Upload};
 use crate::rules::Lie;
 use crate::sets::Set;
-use crate::versions::{Pins, SEATS, Versions};
-use gs_drawn_events::{Ask, Edit, Kind, Place};
+use crate::versions::{Pins, SEATS};
+use gs_drawn_events::{Ask, Place};
 use gs_event::Limits;
 use gs_model::Refusal;
 use std::alloc::{AllocError, Global};
@@ -14,26 +13,16 @@ use std::alloc::{AllocError, Global};
 /// The model.
 #[derive(Drop)]
 pub struct Model {
-    lie: Lie,
-    most: Limits,
-    request: u64,
-    commit: u64,
-    graphs: Graphs,
+    books: Books,
     phases: [Phase; SEATS],
-    versions: Versions,
 }
 
 impl Model {
     /// A store without graphs.
     pub fn new(alloc: Global, most: Limits, lie: Lie) -> Model {
         Model {
-            lie,
-            most,
-            request: 0,
-            commit: 0,
-            graphs: Graphs::new(alloc),
+            books: Books::new(alloc, most, lie),
             phases: [Phase::Idle; SEATS],
-            versions: Versions::new(alloc),
         }
     }
 
@@ -47,7 +36,7 @@ impl Model {
 
     /// The names that the store made up, and whose graphs are there.
     pub fn made(&self, alloc: Global) -> Result<Vec<Place>, AllocError> {
-        self.graphs.made(alloc)
+        self.books.graphs.made(alloc)
     }
 
     /// How many triples a seat's upload has.
@@ -60,7 +49,7 @@ impl Model {
 
     /// How many triples all graphs have.
     pub fn triples(&self) -> u64 {
-        self.graphs.count()
+        self.books.graphs.count()
     }
 
     /// The same and those of all open uploads.
@@ -95,7 +84,7 @@ impl Model {
     /// Whether a seat's read has other lines than its graph has now.
     pub fn is_stale(&self, seat: u16) -> bool {
         match self.phase(seat) {
-            Phase::Reading(read) => self.graphs.triples(read.place) != Some(read.triples),
+            Phase::Reading(read) => self.books.graphs.triples(read.place) != Some(read.triples),
             _ => false,
         }
     }
@@ -103,7 +92,7 @@ impl Model {
     /// How many nodes a Reclaim of so many frees, where each commit gives a graph a tree of its own.
     pub fn reclaim(&mut self, most: u64) -> u64 {
         let pins = self.pins();
-        self.versions.free(most, &pins, self.lie)
+        self.books.free(most, &pins)
     }
 
     /// What a seat that is asked this answers.
@@ -128,7 +117,7 @@ impl Model {
     fn begin(&mut self, ask: &Ask) -> Result<Turn, AllocError> {
         match ask {
             Ask::Open(kind) => {
-                let request = self.next_request();
+                let request = self.books.next_request();
                 let upload = Upload {
                     kind: *kind,
                     request,
@@ -137,225 +126,46 @@ impl Model {
                 Ok(Turn::to(Phase::Writing(upload), Said::Opened(request)))
             }
             Ask::OpenPatch(place) => {
-                let request = self.next_request();
+                let request = self.books.next_request();
                 Ok(Turn::to(Phase::Patching(*place), Said::Opened(request)))
             }
-            Ask::Delete(place) => self.delete(*place),
+            Ask::Delete(place) => self.books.delete(*place),
             Ask::Head(place) => {
-                let is_there = self.graphs.triples(*place).is_some();
+                let is_there = self.books.graphs.triples(*place).is_some();
                 let status = if is_there { 200 } else { 404 };
                 Ok(Turn::to(Phase::Idle, Said::Status(status)))
             }
-            Ask::Pin(place) => Ok(self.pin(*place)),
+            Ask::Pin(place) => Ok(self.books.pin(*place)),
             _ => Ok(Turn::refused(Phase::Idle)),
         }
-    }
-
-    fn next_request(&mut self) -> u64 {
-        self.request = self.request.saturating_add(1);
-        self.request
-    }
-
-    fn pin(&self, place: Place) -> Turn {
-        let Some(triples) = self.graphs.triples(place) else {
-            return Turn::to(Phase::Idle, Said::Pinned(404));
-        };
-        let read = Read {
-            place,
-            triples,
-            given: 0,
-            pin: self.commit,
-        };
-        Turn::to(Phase::Reading(read), Said::Pinned(200))
-    }
-
-    /// Gives a graph these triples, or takes it away, by the next commit.
-    fn set_graph(&mut self, place: Place, triples: Option<Set>) -> Result<(), AllocError> {
-        self.commit = self.commit.saturating_add(1);
-        self.graphs.set(place, triples, self.commit)
-    }
-
-    /// The tree that a graph has ends by the next commit.
-    fn end_tree(&mut self, place: Place) -> Result<(), AllocError> {
-        let graph = self.graphs.get(place);
-        let Some(triples) = graph.triples else {
-            return Ok(());
-        };
-        let death = self.commit.saturating_add(1);
-        self.versions.end(graph.birth, death, triples.count())
-    }
-
-    fn delete(&mut self, place: Place) -> Result<Turn, AllocError> {
-        if self.graphs.triples(place).is_none() {
-            return Ok(Turn::to(Phase::Idle, Said::Status(404)));
-        }
-        self.end_tree(place)?;
-        let left = match place {
-            Place::Default => Some(Set::none()),
-            _ => None,
-        };
-        self.set_graph(place, left)?;
-        Ok(Turn::to(Phase::Idle, Said::Status(204)))
     }
 
     /// A seat with an upload.
     fn write(&mut self, upload: Upload, ask: &Ask) -> Result<Turn, AllocError> {
         match ask {
-            Ask::Stage(numbers) => Ok(self.stage(upload, numbers.as_slice())),
-            Ask::Commit => self.commit_upload(upload),
-            Ask::Cancel => {
-                self.versions.add_loose(upload.triples.count());
-                Ok(Turn::to(Phase::Idle, Said::Cancelled))
-            }
+            Ask::Stage(numbers) => Ok(self.books.stage(upload, numbers.as_slice())),
+            Ask::Commit => self.books.commit_upload(upload),
+            Ask::Cancel => Ok(self.books.give_up(upload)),
             _ => Ok(Turn::refused(Phase::Writing(upload))),
         }
-    }
-
-    fn stage(&self, upload: Upload, numbers: &[usize]) -> Turn {
-        let mut more = upload;
-        more.triples = upload.triples.with(Set::of(numbers));
-        let new = if self.lie == Lie::RepeatsTakeNodes {
-            numbers.len() as u64
-        } else {
-            more.triples.count().saturating_sub(upload.triples.count())
-        };
-        Turn {
-            phase: Phase::Writing(more),
-            outcome: Outcome {
-                said: Said::Staged,
-                growth: Growth::Exactly(new),
-            },
-        }
-    }
-
-    fn commit_upload(&mut self, upload: Upload) -> Result<Turn, AllocError> {
-        match upload.kind {
-            Kind::Put(place) => self.commit_put(place, upload.triples),
-            Kind::Post(place) => self.commit_post(place, upload.triples),
-            Kind::New => self.commit_new(upload),
-        }
-    }
-
-    /// The status of a write that gives a graph these triples, and makes it where there is none.
-    fn status(&self, place: Place, triples: Set) -> u16 {
-        let old = self.graphs.triples(place);
-        let others = match old {
-            None => self.triples(),
-            Some(replaced) => self.triples().saturating_sub(replaced.count()),
-        };
-        let new_names = u64::from(old.is_none());
-        if self.most.triples < others.saturating_add(triples.count())
-            || self.most.names < self.graphs.names().saturating_add(new_names)
-        {
-            return 507;
-        }
-        if old.is_some() { 204 } else { 201 }
-    }
-
-    fn commit_put(&mut self, place: Place, triples: Set) -> Result<Turn, AllocError> {
-        let status = self.status(place, triples);
-        if status == 507 {
-            return Ok(Turn::to(Phase::Idle, Said::Status(507)));
-        }
-        if self.lie != Lie::PutLosesTree {
-            self.end_tree(place)?;
-        }
-        self.set_graph(place, Some(triples))?;
-        Ok(Turn::to(Phase::Idle, Said::Status(status)))
-    }
-
-    fn commit_post(&mut self, place: Place, triples: Set) -> Result<Turn, AllocError> {
-        let old = self.graphs.triples(place).unwrap_or(Set::none());
-        let both = old.with(triples);
-        let status = self.status(place, both);
-        if status == 507 {
-            return Ok(Turn::to(Phase::Idle, Said::Status(507)));
-        }
-        self.set_graph(place, Some(both))?;
-        Ok(Turn {
-            phase: Phase::Idle,
-            outcome: Outcome::after_change(Said::Status(status), triples.count()),
-        })
-    }
-
-    /// The least number whose name for this request is free.
-    fn free_number(&self, request: u64) -> u64 {
-        let mut number = 0u64;
-        for _ in 0..=self.graphs.names() {
-            if self.graphs.triples(Place::Made(request, number)).is_some() {
-                number = number.saturating_add(1);
-            }
-        }
-        number
-    }
-
-    fn commit_new(&mut self, upload: Upload) -> Result<Turn, AllocError> {
-        let number = self.free_number(upload.request);
-        let place = Place::Made(upload.request, number);
-        if self.status(place, upload.triples) == 507 {
-            return Ok(Turn::to(Phase::Idle, Said::Status(507)));
-        }
-        self.set_graph(place, Some(upload.triples))?;
-        let said = Said::Made(upload.request, number);
-        Ok(Turn {
-            phase: Phase::Idle,
-            outcome: Outcome::after_change(said, upload.triples.count()),
-        })
     }
 
     /// A seat with a patch.
     fn patch(&mut self, place: Place, ask: &Ask) -> Result<Turn, AllocError> {
         match ask {
-            Ask::Patch(edits) => self.commit_patch(place, edits.as_slice()),
+            Ask::Patch(edits) => self.books.commit_patch(place, edits.as_slice()),
             Ask::Cancel => Ok(Turn::to(Phase::Idle, Said::Cancelled)),
             _ => Ok(Turn::refused(Phase::Patching(place))),
         }
-    }
-
-    fn commit_patch(&mut self, place: Place, edits: &[Edit]) -> Result<Turn, AllocError> {
-        let Some(mut triples) = self.graphs.triples(place) else {
-            return Ok(Turn::to(Phase::Idle, Said::Status(404)));
-        };
-        let mut changed = 0u64;
-        for edit in edits {
-            let after = edited(triples, edit);
-            let came = after.without(triples).count();
-            let went = triples.without(after).count();
-            changed = changed.saturating_add(came).saturating_add(went);
-            triples = after;
-        }
-        if self.status(place, triples) == 507 {
-            return Ok(Turn::to(Phase::Idle, Said::Status(507)));
-        }
-        self.set_graph(place, Some(triples))?;
-        Ok(Turn {
-            phase: Phase::Idle,
-            outcome: Outcome::after_change(Said::Status(204), changed),
-        })
     }
 
     /// A seat with a read.
     fn read(&self, read: Read, ask: &Ask) -> Turn {
         match ask {
             Ask::Piece(0) => Turn::refused(Phase::Reading(read)),
-            Ask::Piece(count) => self.piece(read, u64::from(*count)),
+            Ask::Piece(count) => self.books.piece(read, u64::from(*count)),
             Ask::Cancel => Turn::to(Phase::Idle, Said::Cancelled),
             _ => Turn::refused(Phase::Reading(read)),
         }
-    }
-
-    fn piece(&self, read: Read, count: u64) -> Turn {
-        let triples = if self.lie == Lie::ReadsMoveOn {
-            self.graphs.triples(read.place).unwrap_or(read.triples)
-        } else {
-            read.triples
-        };
-        let left = triples.after(read.given);
-        if left.count() <= count {
-            return Turn::to(Phase::Idle, Said::Lines(left, true));
-        }
-        let mut more = read;
-        more.given = read.given.saturating_add(count);
-        Turn::to(Phase::Reading(more), Said::Lines(left.first(count), false))
     }
 }
