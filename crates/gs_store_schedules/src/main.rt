@@ -4,7 +4,7 @@
 
 mod stores;
 
-use crate::stores::{Plain, SMALL, Small, WHOLE, Whole};
+use crate::stores::{Played, SMALL, WHOLE};
 use gs_drawn_schedules::{Play, Stop, Totals};
 use gs_fixed_schedules::{large_lines, last_node_lines, last_term_lines};
 use gs_version_models::Lie;
@@ -26,25 +26,17 @@ const LIES: [Lie; 6] = [
     Lie::BeginsLate,
 ];
 
-fn play_whole(alloc: Global, number: u64, lie: Lie, totals: &mut Totals) -> Result<(), Stop> {
-    let mut store = Whole::new(alloc)?;
-    let mut plain = Plain::new(alloc, WHOLE)?;
-    Play::new(alloc, number, WHOLE, lie).play(&mut store, &mut plain, totals)
-}
-
-fn play_small(alloc: Global, number: u64, lie: Lie, totals: &mut Totals) -> Result<(), Stop> {
-    let mut store = Small::new(alloc)?;
-    let mut plain = Plain::new(alloc, SMALL)?;
-    Play::new(alloc, number, SMALL, lie).play(&mut store, &mut plain, totals)
-}
-
-/// Plays the schedule with this number.
+/// Plays the schedule with this number. Every fourth is played on a store that holds little.
 fn play(alloc: Global, number: u64, lie: Lie, totals: &mut Totals) -> Result<(), Stop> {
-    if number % 4 == 3 {
-        play_small(alloc, number, lie, totals)
+    let is_small = number % 4 == 3;
+    let limits = if is_small { SMALL } else { WHOLE };
+    let mut store = if is_small {
+        Played::small(alloc)?
     } else {
-        play_whole(alloc, number, lie, totals)
-    }
+        Played::whole(alloc)?
+    };
+    let mut plain = Played::plain(alloc, limits)?;
+    Play::new(alloc, number, limits, lie).play(&mut store, &mut plain, totals)
 }
 
 /// Plays schedules with a model that is wrong, and prints what is found first, and in how many.
@@ -82,15 +74,15 @@ fn play_drawn<W: Write>(alloc: Global, out: &mut W) -> io::Result<()> {
 }
 
 fn play_large(alloc: Global) -> Result<(), Stop> {
-    large_lines(alloc)?.play(&mut Whole::new(alloc)?)
+    large_lines(alloc)?.play(&mut Played::whole(alloc)?)
 }
 
 fn play_last_node(alloc: Global) -> Result<(), Stop> {
-    last_node_lines(alloc)?.play(&mut Whole::with_last(alloc, 3, 99)?)
+    last_node_lines(alloc)?.play(&mut Played::with_last(alloc, 3, 99)?)
 }
 
 fn play_last_term(alloc: Global) -> Result<(), Stop> {
-    last_term_lines(alloc)?.play(&mut Whole::with_last(alloc, 99, 2)?)
+    last_term_lines(alloc)?.play(&mut Played::with_last(alloc, 99, 2)?)
 }
 
 /// Prints what is found first of a run that is the same each time.

@@ -1,4 +1,4 @@
-//! The stores that are judged, and the plain store.
+//! The stores that schedules are played on, each of four seats.
 use gs_core::{MAX_NAMES, MAX_TRIPLES, PlainStore, Store};
 use gs_drawn_events::BASE;
 use gs_drawn_schedules::{Counts, Subject};
@@ -19,90 +19,72 @@ pub const SMALL: Limits = Limits {
     names: 3,
 };
 
-/// The store that programs use.
+/// A store.
 #[derive(Drop)]
-pub struct Whole {
-    store: Store,
+pub enum Played {
+    /// The store that programs use.
+    Whole(Store),
+    /// The same below it, which holds little.
+    Small(TreeStore),
+    /// The plain store.
+    Plain(PlainStore),
 }
 
-impl Whole {
-    /// A new store of four seats.
-    pub fn new(alloc: Global) -> Result<Whole, Refusal> {
-        let store = Store::new(alloc, 4, BASE)?;
-        Ok(Whole { store })
+impl Played {
+    /// A new store as programs use it.
+    pub fn whole(alloc: Global) -> Result<Played, Refusal> {
+        Ok(Played::Whole(Store::new(alloc, 4, BASE)?))
     }
 
-    /// A new store of four seats, whose last node and last term have these numbers.
-    pub fn with_last(alloc: Global, node: u32, term: u32) -> Result<Whole, Refusal> {
+    /// The same, whose last node and last term have these numbers.
+    pub fn with_last(alloc: Global, node: u32, term: u32) -> Result<Played, Refusal> {
         let store = Store::with_last(alloc, 4, BASE, node, term)?;
-        Ok(Whole { store })
-    }
-}
-
-impl Subject for Whole {
-    fn step(&mut self, event: &Event) -> Answer {
-        self.store.step(event)
+        Ok(Played::Whole(store))
     }
 
-    fn counts(&self) -> Counts {
-        Counts {
-            nodes: self.store.nodes_in_use(),
-            triples: self.store.triples_now(),
-        }
-    }
-}
-
-/// The store below it, which holds little.
-#[derive(Drop)]
-pub struct Small {
-    store: TreeStore,
-}
-
-impl Small {
-    /// A new store of four seats.
-    pub fn new(alloc: Global) -> Result<Small, Refusal> {
+    /// A new store that holds little.
+    pub fn small(alloc: Global) -> Result<Played, Refusal> {
         let storage = Storage::of_seed(7);
         let store = TreeStore::starting_at(alloc, 4, BASE, SMALL, 0, 0, storage)?;
-        Ok(Small { store })
-    }
-}
-
-impl Subject for Small {
-    fn step(&mut self, event: &Event) -> Answer {
-        self.store.step(event)
+        Ok(Played::Small(store))
     }
 
-    fn counts(&self) -> Counts {
-        Counts {
-            nodes: self.store.nodes_in_use(),
-            triples: self.store.triples_now(),
+    /// A new plain store that holds as much as this.
+    pub fn plain(alloc: Global, limits: Limits) -> Result<Played, Refusal> {
+        let store = PlainStore::starting_at(alloc, 4, BASE, limits, 0, 0)?;
+        Ok(Played::Plain(store))
+    }
+
+    fn nodes(&self) -> u64 {
+        match self {
+            Played::Whole(store) => store.nodes_in_use(),
+            Played::Small(store) => store.nodes_in_use(),
+            Played::Plain(store) => store.nodes_in_use(),
+        }
+    }
+
+    fn triples(&self) -> u64 {
+        match self {
+            Played::Whole(store) => store.triples_now(),
+            Played::Small(store) => store.triples_now(),
+            Played::Plain(store) => store.triples_now(),
         }
     }
 }
 
-/// The plain store.
-#[derive(Drop)]
-pub struct Plain {
-    store: PlainStore,
-}
-
-impl Plain {
-    /// A new store of four seats, which holds as much.
-    pub fn new(alloc: Global, limits: Limits) -> Result<Plain, Refusal> {
-        let store = PlainStore::starting_at(alloc, 4, BASE, limits, 0, 0)?;
-        Ok(Plain { store })
-    }
-}
-
-impl Subject for Plain {
+impl Subject for Played {
     fn step(&mut self, event: &Event) -> Answer {
-        self.store.step(event)
+        match self {
+            Played::Whole(store) => store.step(event),
+            Played::Small(store) => store.step(event),
+            Played::Plain(store) => store.step(event),
+        }
     }
 
     fn counts(&self) -> Counts {
         Counts {
-            nodes: self.store.nodes_in_use(),
-            triples: self.store.triples_now(),
+            nodes: self.nodes(),
+            triples: self.triples(),
         }
     }
 }
