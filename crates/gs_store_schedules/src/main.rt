@@ -1,33 +1,13 @@
-//! Plays schedules of events on a store, which a seeded generator makes, beside a plain store and a plain
-//! model, and prints what is found to be otherwise, and totals.
+//! Plays schedules of events on a store, which are drawn by a seed, beside a plain store and a plain model,
+//! and prints what is found to be otherwise, and totals.
 #![tactic(auto)]
 
-mod asks;
-mod drawn;
-mod events;
-mod findings;
-mod graphs;
-mod judging;
-mod large;
-mod last;
-mod models;
-mod molds;
-mod outcomes;
-mod phases;
-mod plays;
-mod rules;
-mod sets;
 mod stores;
-mod terms;
-mod totals;
-mod versions;
 
-use crate::findings::Stop;
-use crate::large::play_large;
-use crate::last::{play_last_node, play_last_term};
-use crate::plays::play_schedule;
-use crate::rules::Lie;
-use crate::totals::Totals;
+use crate::stores::{Played, SMALL, WHOLE};
+use gs_drawn_schedules::{Play, Stop, Totals};
+use gs_fixed_schedules::{large_lines, last_node_lines, last_term_lines};
+use gs_version_models::Lie;
 use std::alloc::Global;
 use std::io::{self, Write};
 
@@ -46,11 +26,17 @@ const LIES: [Lie; 6] = [
     Lie::BeginsLate,
 ];
 
-fn print_stop<W: Write>(stop: &Stop, number: u64, out: &mut W) -> io::Result<()> {
-    match stop {
-        Stop::NoMemory => writeln!(out, "schedule {number}: no memory"),
-        Stop::Found(finding) => finding.print(number, out),
-    }
+/// Plays the schedule with this number. Every fourth is played on a store that holds little.
+fn play(alloc: Global, number: u64, lie: Lie, totals: &mut Totals) -> Result<(), Stop> {
+    let is_small = number % 4 == 3;
+    let limits = if is_small { SMALL } else { WHOLE };
+    let mut store = if is_small {
+        Played::small(alloc)?
+    } else {
+        Played::whole(alloc)?
+    };
+    let mut plain = Played::plain(alloc, limits)?;
+    Play::new(alloc, number, limits, lie).play(&mut store, &mut plain, totals)
 }
 
 /// Plays schedules with a model that is wrong, and prints what is found first, and in how many.
@@ -58,10 +44,10 @@ fn play_wrong<W: Write>(alloc: Global, lie: Lie, out: &mut W) -> io::Result<()> 
     let mut totals = Totals::new();
     let mut count = 0u64;
     for number in 1..=WRONG_SCHEDULES {
-        if let Err(stop) = play_schedule(alloc, number, lie, &mut totals) {
+        if let Err(stop) = play(alloc, number, lie, &mut totals) {
             if count == 0 {
                 write!(out, "wrong on purpose, {}: ", lie.text())?;
-                print_stop(&stop, number, out)?;
+                stop.print(number, out)?;
             }
             count = count.saturating_add(1);
         }
@@ -73,39 +59,57 @@ fn play_wrong<W: Write>(alloc: Global, lie: Lie, out: &mut W) -> io::Result<()> 
     )
 }
 
+/// Plays all schedules.
+fn play_drawn<W: Write>(alloc: Global, out: &mut W) -> io::Result<()> {
+    let mut totals = Totals::new();
+    let mut findings = 0u64;
+    for number in 1..=SCHEDULES {
+        if let Err(stop) = play(alloc, number, Lie::Nothing, &mut totals) {
+            findings = findings.saturating_add(1);
+            stop.print(number, out)?;
+        }
+    }
+    totals.print(out)?;
+    writeln!(out, "{findings} findings")
+}
+
+fn play_large(alloc: Global) -> Result<(), Stop> {
+    large_lines(alloc)?.play(&mut Played::whole(alloc)?)
+}
+
+fn play_last_node(alloc: Global) -> Result<(), Stop> {
+    last_node_lines(alloc)?.play(&mut Played::with_last(alloc, 3, 99)?)
+}
+
+fn play_last_term(alloc: Global) -> Result<(), Stop> {
+    last_term_lines(alloc)?.play(&mut Played::with_last(alloc, 99, 2)?)
+}
+
 /// Prints what is found first of a run that is the same each time.
 fn print_fixed<W: Write>(name: &str, found: Result<(), Stop>, out: &mut W) -> io::Result<()> {
     match found {
         Ok(()) => writeln!(out, "{name}: as it is to be"),
         Err(stop) => {
             write!(out, "{name}: ")?;
-            print_stop(&stop, 0, out)
+            stop.print(0, out)
         }
     }
 }
 
-/// Plays all schedules.
+/// Plays those that are the same each time.
+fn play_fixed<W: Write>(alloc: Global, out: &mut W) -> io::Result<()> {
+    let large = play_large(alloc);
+    print_fixed("a POST of 1,000 triples under a read", large, out)?;
+    print_fixed("the last node", play_last_node(alloc), out)?;
+    print_fixed("the last term", play_last_term(alloc), out)
+}
+
 fn play_all<W: Write>(alloc: Global, out: &mut W) -> io::Result<()> {
     for lie in LIES {
         play_wrong(alloc, lie, out)?;
     }
-    let mut totals = Totals::new();
-    let mut findings = 0u64;
-    for number in 1..=SCHEDULES {
-        if let Err(stop) = play_schedule(alloc, number, Lie::Nothing, &mut totals) {
-            findings = findings.saturating_add(1);
-            print_stop(&stop, number, out)?;
-        }
-    }
-    totals.print(out)?;
-    writeln!(out, "{findings} findings")?;
-    print_fixed(
-        "a POST of 1,000 triples under a read",
-        play_large(alloc),
-        out,
-    )?;
-    print_fixed("the last node", play_last_node(alloc), out)?;
-    print_fixed("the last term", play_last_term(alloc), out)
+    play_drawn(alloc, out)?;
+    play_fixed(alloc, out)
 }
 
 fn main(rt: HostRuntime) -> io::Result<()> {

@@ -1,64 +1,90 @@
-//! The store that is judged.
-use crate::events::BASE;
-use gs_core::{Answer, Event, MAX_NAMES, MAX_TRIPLES, Refusal, Store};
-use gs_event::Limits;
+//! The stores that schedules are played on, each of four seats.
+use gs_core::{MAX_NAMES, MAX_TRIPLES, PlainStore, Store};
+use gs_drawn_events::BASE;
+use gs_drawn_schedules::{Counts, Subject};
+use gs_event::{Answer, Event, Limits};
+use gs_model::Refusal;
 use gs_tree_store::{Storage, TreeStore};
 use std::alloc::Global;
 
-/// How much a store may hold. Where it is little, writes end in 507.
-pub fn limits(is_small: bool) -> Limits {
-    if is_small {
-        Limits {
-            triples: 22,
-            names: 3,
-        }
-    } else {
-        Limits {
-            triples: MAX_TRIPLES,
-            names: MAX_NAMES,
-        }
-    }
-}
+/// What a store that programs use may hold.
+pub const WHOLE: Limits = Limits {
+    triples: MAX_TRIPLES,
+    names: MAX_NAMES,
+};
 
-/// The store that programs use, or the same below it, which holds little.
+/// Little, so that writes end in 507.
+pub const SMALL: Limits = Limits {
+    triples: 22,
+    names: 3,
+};
+
+/// A store.
 #[derive(Drop)]
-pub enum Judged {
+pub enum Played {
+    /// The store that programs use.
     Whole(Store),
+    /// The same below it, which holds little.
     Small(TreeStore),
+    /// The plain store.
+    Plain(PlainStore),
 }
 
-impl Judged {
-    /// A new store of four seats.
-    pub fn new(alloc: Global, is_small: bool) -> Result<Judged, Refusal> {
-        if !is_small {
-            return Ok(Judged::Whole(Store::new(alloc, 4, BASE)?));
-        }
+impl Played {
+    /// A new store as programs use it.
+    pub fn whole(alloc: Global) -> Result<Played, Refusal> {
+        Ok(Played::Whole(Store::new(alloc, 4, BASE)?))
+    }
+
+    /// The same, whose last node and last term have these numbers.
+    pub fn with_last(alloc: Global, node: u32, term: u32) -> Result<Played, Refusal> {
+        let store = Store::with_last(alloc, 4, BASE, node, term)?;
+        Ok(Played::Whole(store))
+    }
+
+    /// A new store that holds little.
+    pub fn small(alloc: Global) -> Result<Played, Refusal> {
         let storage = Storage::of_seed(7);
-        let store = TreeStore::starting_at(alloc, 4, BASE, limits(true), 0, 0, storage)?;
-        Ok(Judged::Small(store))
+        let store = TreeStore::starting_at(alloc, 4, BASE, SMALL, 0, 0, storage)?;
+        Ok(Played::Small(store))
     }
 
-    /// Takes one event.
-    pub fn step(&mut self, event: &Event) -> Answer {
+    /// A new plain store that holds as much as this.
+    pub fn plain(alloc: Global, limits: Limits) -> Result<Played, Refusal> {
+        let store = PlainStore::starting_at(alloc, 4, BASE, limits, 0, 0)?;
+        Ok(Played::Plain(store))
+    }
+
+    fn nodes(&self) -> u64 {
         match self {
-            Judged::Whole(store) => store.step(event),
-            Judged::Small(store) => store.step(event),
+            Played::Whole(store) => store.nodes_in_use(),
+            Played::Small(store) => store.nodes_in_use(),
+            Played::Plain(store) => store.nodes_in_use(),
         }
     }
 
-    /// Nodes in use.
-    pub fn nodes_in_use(&self) -> u64 {
+    fn triples(&self) -> u64 {
         match self {
-            Judged::Whole(store) => store.nodes_in_use(),
-            Judged::Small(store) => store.nodes_in_use(),
+            Played::Whole(store) => store.triples_now(),
+            Played::Small(store) => store.triples_now(),
+            Played::Plain(store) => store.triples_now(),
+        }
+    }
+}
+
+impl Subject for Played {
+    fn step(&mut self, event: &Event) -> Answer {
+        match self {
+            Played::Whole(store) => store.step(event),
+            Played::Small(store) => store.step(event),
+            Played::Plain(store) => store.step(event),
         }
     }
 
-    /// Triples of the current graphs.
-    pub fn triples_now(&self) -> u64 {
-        match self {
-            Judged::Whole(store) => store.triples_now(),
-            Judged::Small(store) => store.triples_now(),
+    fn counts(&self) -> Counts {
+        Counts {
+            nodes: self.nodes(),
+            triples: self.triples(),
         }
     }
 }

@@ -1,7 +1,10 @@
-//! The terms of the sixteen triples, by number, and what stands where in each triple.
-use gs_core::Refusal;
+//! Sixteen triples by number, in the order of their lines, their terms, and what stands where in each.
+use gs_model::Refusal;
 use gs_term::{TermText, Triple};
 use std::alloc::{AllocError, Global};
+
+/// How many triples there are.
+pub const TRIPLES: usize = 16;
 
 /// Four subjects, two predicates and a literal.
 const TERMS: [&str; 7] = [
@@ -26,12 +29,7 @@ pub const LITERAL: u8 = 6;
 /// The three terms of a triple. Each subject has four triples, two of each predicate, the first of which
 /// has the literal. So the lines of the triples are in the order of their numbers.
 pub fn terms_of(number: usize) -> [u8; 3] {
-    let subject = match number / 4 {
-        0 => 0,
-        1 => 1,
-        2 => 2,
-        _ => 3,
-    };
+    let subject = u8::try_from(number / 4).unwrap_or_default();
     let predicate = if number % 4 < 2 { 4 } else { 5 };
     let object = if number % 2 == 0 {
         LITERAL

@@ -1,10 +1,10 @@
 //! What is found of a schedule.
-use gs_core::Refusal;
+use gs_model::Refusal;
 use std::alloc::{AllocError, Global};
 use std::io::{self, Write};
 
 /// What is wrong.
-#[derive(Clone, Copy, Debug, Drop, PartialEq)]
+#[derive(Clone, Copy, Drop)]
 pub enum Kind {
     /// The answer is otherwise than the plain store gives it.
     PlainAnswer,
@@ -62,8 +62,7 @@ pub struct Finding {
 }
 
 impl Finding {
-    /// Prints it.
-    pub fn print<W: Write>(&self, schedule: u64, out: &mut W) -> io::Result<()> {
+    fn print<W: Write>(&self, schedule: u64, out: &mut W) -> io::Result<()> {
         write!(
             out,
             "schedule {schedule}, step {}, seat {}, {}: {}: ",
@@ -94,6 +93,16 @@ fn print_line<W: Write>(text: &str, out: &mut W) -> io::Result<()> {
 pub enum Stop {
     NoMemory,
     Found(Finding),
+}
+
+impl Stop {
+    /// Prints it, as it is of this schedule.
+    pub fn print<W: Write>(&self, schedule: u64, out: &mut W) -> io::Result<()> {
+        match self {
+            Stop::NoMemory => writeln!(out, "schedule {schedule}: no memory"),
+            Stop::Found(finding) => finding.print(schedule, out),
+        }
+    }
 }
 
 impl From<Refusal> for Stop {
@@ -135,8 +144,13 @@ impl Moment {
         if got.as_str() == wanted {
             return Ok(());
         }
+        Err(self.other_texts(kind, got, wanted)?)
+    }
+
+    /// One text is found in the place of another.
+    pub fn other_texts(self, kind: Kind, got: String, wanted: &str) -> Result<Stop, AllocError> {
         let wanted = String::from_str(self.alloc, wanted)?;
-        Err(self.found(kind, got, wanted))
+        Ok(self.found(kind, got, wanted))
     }
 
     /// Two numbers are to be the same.

@@ -1,11 +1,11 @@
 //! What the seats of the model do.
-use crate::asks::{Kind, Place};
 use crate::outcomes::{Outcome, Said};
 use crate::sets::Set;
-use gs_core::Refusal;
+use gs_drawn_events::{Kind, Place};
+use gs_model::Refusal;
 
 /// An upload.
-#[derive(Clone, Copy, Debug, Drop)]
+#[derive(Clone, Copy, Drop)]
 pub struct Upload {
     pub kind: Kind,
     pub request: u64,
@@ -13,7 +13,7 @@ pub struct Upload {
 }
 
 /// A read.
-#[derive(Clone, Copy, Debug, Drop)]
+#[derive(Clone, Copy, Drop)]
 pub struct Read {
     pub place: Place,
     pub triples: Set,
@@ -24,7 +24,7 @@ pub struct Read {
 }
 
 /// What a seat is doing.
-#[derive(Clone, Copy, Debug, Drop)]
+#[derive(Clone, Copy, Drop)]
 pub enum Phase {
     Idle,
     Writing(Upload),
@@ -33,7 +33,7 @@ pub enum Phase {
 }
 
 /// What becomes of a seat, and what is said.
-#[derive(Clone, Copy, Debug, Drop)]
+#[derive(Clone, Copy, Drop)]
 pub struct Turn {
     pub phase: Phase,
     pub outcome: Outcome,

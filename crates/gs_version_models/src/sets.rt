@@ -1,14 +1,12 @@
-//! Sixteen triples by number, in the order of their lines, and sets of them.
-
-/// How many triples there are.
-pub const TRIPLES: usize = 16;
+//! Sets of triples by number.
+use gs_drawn_events::TRIPLES;
 
 const BITS: [u16; TRIPLES] = [
     1, 2, 4, 8, 16, 32, 64, 128, 256, 512, 1_024, 2_048, 4_096, 8_192, 16_384, 32_768,
 ];
 
 /// A set of these triples.
-#[derive(Clone, Copy, Debug, Drop, PartialEq)]
+#[derive(Clone, Copy, Drop, PartialEq)]
 pub struct Set {
     bits: u16,
 }

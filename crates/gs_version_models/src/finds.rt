@@ -1,26 +1,9 @@
-//! Patterns as the model has them, what they find, and what operations make of a graph.
-use crate::asks::Edit;
-use crate::sets::{Set, TRIPLES};
-use crate::terms::terms_of;
-
-/// What stands at one place of a pattern: a term, or a variable.
-#[derive(Clone, Copy, Debug, Drop, PartialEq)]
-pub enum Slot {
-    Term(u8),
-    Variable(usize),
-}
-
-/// A pattern: its subject, its predicate and its object.
-#[derive(Clone, Copy, Debug, Drop)]
-pub struct Mold {
-    pub slots: [Slot; 3],
-}
-
-/// How many variables there are.
-pub const VARIABLES: usize = 3;
+//! What patterns find, and what operations make of a graph.
+use crate::sets::Set;
+use gs_drawn_events::{Edit, Mold, Slot, TRIPLES, VARIABLES, terms_of};
 
 /// The terms that variables stand for, where that is known.
-#[derive(Clone, Copy, Debug, Drop)]
+#[derive(Clone, Copy, Drop)]
 pub struct Bound {
     terms: [Option<u8>; VARIABLES],
 }
@@ -50,24 +33,22 @@ impl Bound {
     }
 }
 
-impl Mold {
-    /// The variables after the pattern was laid on a triple, where it fits.
-    fn laid_on(&self, number: usize, before: Bound) -> Option<Bound> {
-        let [subject, predicate, object] = self.slots;
-        let [first, second, third] = terms_of(number);
-        let mut bound = before;
-        let fits = bound.takes(subject, first)
-            && bound.takes(predicate, second)
-            && bound.takes(object, third);
-        if fits { Some(bound) } else { None }
-    }
+/// The variables after a pattern was laid on a triple, where it fits.
+fn laid_on(mold: &Mold, number: usize, before: Bound) -> Option<Bound> {
+    let [subject, predicate, object] = mold.slots;
+    let [first, second, third] = terms_of(number);
+    let mut bound = before;
+    let fits = bound.takes(subject, first)
+        && bound.takes(predicate, second)
+        && bound.takes(object, third);
+    if fits { Some(bound) } else { None }
 }
 
 /// The triples of a graph that one pattern finds.
 fn found_by_one(graph: Set, mold: &Mold) -> Set {
     let mut found = Set::none();
     for number in 0..TRIPLES {
-        if graph.has(number) && mold.laid_on(number, Bound::none()).is_some() {
+        if graph.has(number) && laid_on(mold, number, Bound::none()).is_some() {
             found = found.and(number);
         }
     }
@@ -78,7 +59,7 @@ fn found_by_one(graph: Set, mold: &Mold) -> Set {
 fn found_beside(graph: Set, mold: &Mold, bound: Bound) -> Set {
     let mut found = Set::none();
     for number in 0..TRIPLES {
-        if graph.has(number) && mold.laid_on(number, bound).is_some() {
+        if graph.has(number) && laid_on(mold, number, bound).is_some() {
             found = found.and(number);
         }
     }
@@ -90,7 +71,7 @@ fn found_by_two(graph: Set, first: &Mold, second: &Mold) -> Set {
     let mut found = Set::none();
     for number in 0..TRIPLES {
         if graph.has(number)
-            && let Some(bound) = first.laid_on(number, Bound::none())
+            && let Some(bound) = laid_on(first, number, Bound::none())
         {
             let beside = found_beside(graph, second, bound);
             if beside != Set::none() {

@@ -1,7 +1,7 @@
 //! What the model is told that is not so.
 
 /// What the model is told that is not so, to show that it tells.
-#[derive(Clone, Copy, Debug, Drop, PartialEq)]
+#[derive(Clone, Copy, Drop, PartialEq)]
 pub enum Lie {
     Nothing,
     /// Of the pinned versions the newest alone has nodes.

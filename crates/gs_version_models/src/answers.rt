@@ -1,65 +1,10 @@
-//! What the model says of an event: the answer in words, and how many more nodes are in use then.
-use crate::events::made_name;
-use crate::sets::{Set, TRIPLES};
-use crate::terms::push_line;
-use gs_core::{Answer, Refusal};
+//! Answers and what the model says of them, in words and compared.
+use crate::outcomes::Said;
+use crate::sets::Set;
+use gs_drawn_events::{TRIPLES, made_name, push_line};
+use gs_event::Answer;
 use gs_term::GraphName;
 use std::alloc::{AllocError, Global};
-
-/// The most nodes that a triple takes where it comes to a graph or goes from it.
-pub const MOST_FOR_TRIPLE: u64 = 260;
-
-/// An answer, as the model has it.
-#[derive(Clone, Copy, Debug, Drop)]
-pub enum Said {
-    Opened(u64),
-    Staged,
-    Status(u16),
-    /// A graph was made under the name that is made up of this request and this number.
-    Made(u64, u64),
-    Pinned(u16),
-    /// The lines of these triples, and whether none are left after them.
-    Lines(Set, bool),
-    Cancelled,
-    Refused(Refusal),
-}
-
-/// How many nodes more are in use.
-#[derive(Clone, Copy, Debug, Drop)]
-pub enum Growth {
-    Exactly(u64),
-    AtMost(u64),
-}
-
-/// What is said of an event.
-#[derive(Clone, Copy, Debug, Drop)]
-pub struct Outcome {
-    pub said: Said,
-    pub growth: Growth,
-}
-
-impl Outcome {
-    /// An answer after which as many nodes are in use as before.
-    pub fn of(said: Said) -> Outcome {
-        Outcome {
-            said,
-            growth: Growth::Exactly(0),
-        }
-    }
-
-    /// The same of a refusal.
-    pub fn refused(refusal: Refusal) -> Outcome {
-        Outcome::of(Said::Refused(refusal))
-    }
-
-    /// An answer after a change of so many triples.
-    pub fn after_change(said: Said, triples: u64) -> Outcome {
-        Outcome {
-            said,
-            growth: Growth::AtMost(triples.saturating_mul(MOST_FOR_TRIPLE)),
-        }
-    }
-}
 
 fn lines_of(alloc: Global, triples: Set) -> Result<Vec<u8>, AllocError> {
     let mut lines = Vec::new(alloc);

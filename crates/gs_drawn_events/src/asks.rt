@@ -1,8 +1,8 @@
-//! What a store is asked, as the generator and the model have it.
+//! What a store is asked, as the generator and a model have it.
 use crate::molds::Mold;
 
 /// A graph: the default graph, two names, and those that the store makes up, by a request and a number.
-#[derive(Clone, Copy, Debug, Drop, PartialEq)]
+#[derive(Clone, Copy, Drop, PartialEq)]
 pub enum Place {
     Default,
     A,
@@ -11,7 +11,7 @@ pub enum Place {
 }
 
 /// What an upload will do.
-#[derive(Clone, Copy, Debug, Drop, PartialEq)]
+#[derive(Clone, Copy, Drop)]
 pub enum Kind {
     Put(Place),
     Post(Place),
@@ -19,7 +19,7 @@ pub enum Kind {
 }
 
 /// An operation. Lists of triples may have repeats.
-#[derive(Debug, Drop)]
+#[derive(Drop)]
 pub enum Edit {
     Insert(Vec<usize>),
     Remove(Vec<usize>),
@@ -28,7 +28,7 @@ pub enum Edit {
 }
 
 /// What a seat is asked.
-#[derive(Debug, Drop)]
+#[derive(Drop)]
 pub enum Ask {
     Open(Kind),
     OpenPatch(Place),

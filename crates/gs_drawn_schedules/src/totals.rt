@@ -1,6 +1,6 @@
 //! What was done and seen over all schedules.
-use crate::asks::{Ask, SORT_NAMES, SORTS, sort_of};
-use crate::outcomes::Said;
+use gs_drawn_events::{Ask, SORT_NAMES, SORTS, sort_of};
+use gs_version_models::Said;
 use std::io::{self, Write};
 
 fn add(count: &mut u64, more: u64) {

@@ -1,8 +1,7 @@
 //! What is asked, drawn.
 use crate::asks::{Ask, Edit, Kind, Place};
 use crate::molds::{Mold, Slot, VARIABLES};
-use crate::sets::TRIPLES;
-use crate::terms::{FIRST_PREDICATE, FIRST_SUBJECT, LITERAL};
+use crate::terms::{FIRST_PREDICATE, FIRST_SUBJECT, LITERAL, TRIPLES};
 use gs_drawn_requests::Draws;
 use std::alloc::{AllocError, Global};
 

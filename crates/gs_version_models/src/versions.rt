@@ -10,7 +10,7 @@ pub type Pins = [Option<u64>; SEATS];
 
 /// A version of a graph: the commits that made it and that ended it, and how many of its nodes are not
 /// freed.
-#[derive(Clone, Copy, Debug, Drop)]
+#[derive(Clone, Copy, Drop)]
 struct Ended {
     birth: u64,
     death: u64,

@@ -1,13 +1,17 @@
 //! Events of what is asked.
 use crate::asks::{Ask, Edit, Kind, Place};
-use crate::molds::{Mold, Slot};
+use crate::molds::{Mold, Slot, VARIABLES};
 use crate::terms::{term, triple};
-use gs_core::{Action, Event, Op, Part, Pattern, Refusal, UploadKind, VariableName};
-use gs_term::{GraphName, Target, Triple};
+use gs_event::{Action, Event, Op, UploadKind};
+use gs_model::Refusal;
+use gs_term::{GraphName, Part, Pattern, Target, Triple, VariableName};
 use std::alloc::{AllocError, Global};
 
 /// Names that the store makes up begin with this.
 pub const BASE: &str = "http://localhost";
+
+/// The names of the variables.
+const NAMES: [&str; VARIABLES] = ["x", "y", "z"];
 
 /// The name that the store makes up for a request, where it has those of all lesser numbers.
 pub fn made_name(alloc: Global, request: u64, number: u64) -> Result<String, AllocError> {
@@ -42,9 +46,10 @@ pub fn triples(alloc: Global, numbers: &[usize]) -> Result<Vec<Triple>, Refusal>
 fn part(alloc: Global, slot: Slot) -> Result<Part, Refusal> {
     match slot {
         Slot::Term(number) => Ok(Part::Term(term(alloc, number)?)),
-        Slot::Variable(0) => Ok(Part::Variable(VariableName::new(alloc, "x")?)),
-        Slot::Variable(1) => Ok(Part::Variable(VariableName::new(alloc, "y")?)),
-        Slot::Variable(_) => Ok(Part::Variable(VariableName::new(alloc, "z")?)),
+        Slot::Variable(number) => {
+            let name = NAMES.get(number).copied().unwrap_or_default();
+            Ok(Part::Variable(VariableName::new(alloc, name)?))
+        }
     }
 }
 

@@ -1,10 +1,10 @@
 //! The graphs of the model.
-use crate::asks::Place;
 use crate::sets::Set;
+use gs_drawn_events::Place;
 use std::alloc::{AllocError, Global};
 
 /// A graph, none where it was taken away, and the commit that made it so.
-#[derive(Clone, Copy, Debug, Drop)]
+#[derive(Clone, Copy, Drop)]
 pub struct Graph {
     place: Place,
     pub triples: Option<Set>,

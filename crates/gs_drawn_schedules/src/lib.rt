@@ -1,0 +1,14 @@
+//! Schedules for tests, whose events are drawn one by one, what is found of them, and what is counted.
+#![tactic(auto)]
+
+mod effects;
+mod findings;
+mod judging;
+mod plays;
+mod scripts;
+mod totals;
+
+pub use effects::{Counts, Effect};
+pub use findings::{Kind, Moment, Stop};
+pub use plays::{Play, Subject, effect};
+pub use totals::Totals;

@@ -1,0 +1,121 @@
+//! One schedule, played event by event on a store and on a plain store.
+use crate::effects::{Counts, Effect, Effects};
+use crate::findings::Stop;
+use crate::judging::Judge;
+use crate::scripts::{Script, seats};
+use crate::totals::Totals;
+use gs_drawn_events::{Ask, event};
+use gs_event::{Answer, Event, Limits};
+use gs_version_models::Lie;
+use std::alloc::Global;
+
+/// The events of a schedule, the Reclaims after them and what ends it aside.
+const EVENTS: usize = 300;
+
+/// How many nodes the Reclaim after each event may free.
+const FEW: u64 = 3;
+
+/// A store that takes events.
+pub trait Subject {
+    /// Takes one.
+    fn step(&mut self, event: &Event) -> Answer;
+
+    /// What it counts.
+    fn counts(&self) -> Counts;
+}
+
+/// A store takes an event.
+pub fn effect<S: Subject>(store: &mut S, event: &Event) -> Effect {
+    let before = store.counts();
+    let answer = store.step(event);
+    Effect {
+        answer,
+        before,
+        after: store.counts(),
+    }
+}
+
+/// Both stores take an event.
+fn effects<S: Subject, P: Subject>(store: &mut S, plain: &mut P, event: &Event) -> Effects {
+    Effects {
+        judged: effect(store, event),
+        plain: effect(plain, event),
+    }
+}
+
+/// What a schedule is made and judged by.
+#[derive(Drop)]
+pub struct Play {
+    alloc: Global,
+    judge: Judge,
+    script: Script,
+}
+
+impl Play {
+    /// The schedule with this number. Every second one is exact.
+    pub fn new(alloc: Global, number: u64, limits: Limits, lie: Lie) -> Play {
+        let is_exact = number % 2 == 0;
+        Play {
+            alloc,
+            judge: Judge::new(alloc, is_exact, limits, lie),
+            script: Script::new(alloc, number, is_exact),
+        }
+    }
+
+    /// Both stores are asked this.
+    fn ask<S: Subject, P: Subject>(
+        &mut self,
+        store: &mut S,
+        plain: &mut P,
+        seat: u16,
+        ask: &Ask,
+        totals: &mut Totals,
+    ) -> Result<(), Stop> {
+        let event = event(self.alloc, seat, ask)?;
+        let effects = effects(store, plain, &event);
+        self.judge.take(seat, ask, &effects, totals)
+    }
+
+    /// An event, and a few nodes are freed.
+    fn step<S: Subject, P: Subject>(
+        &mut self,
+        store: &mut S,
+        plain: &mut P,
+        totals: &mut Totals,
+    ) -> Result<(), Stop> {
+        let (seat, ask) = self.script.next(&self.judge.model)?;
+        self.ask(store, plain, seat, &ask, totals)?;
+        let effects = effects(store, plain, &Event::Reclaim(FEW));
+        self.judge.reclaim(FEW, &effects, totals)
+    }
+
+    /// All seats are cancelled, and all waste is freed.
+    fn finish<S: Subject, P: Subject>(
+        &mut self,
+        store: &mut S,
+        plain: &mut P,
+        totals: &mut Totals,
+    ) -> Result<(), Stop> {
+        for seat in 0..seats() {
+            self.ask(store, plain, seat, &Ask::Cancel, totals)?;
+        }
+        let effects = effects(store, plain, &Event::Reclaim(u64::MAX));
+        self.judge.finish(&effects, totals)
+    }
+
+    /// Plays it on a new store and a new plain store.
+    pub fn play<S: Subject, P: Subject>(
+        &mut self,
+        store: &mut S,
+        plain: &mut P,
+        totals: &mut Totals,
+    ) -> Result<(), Stop> {
+        totals.begin();
+        for step in 1..=EVENTS {
+            self.judge.step = step;
+            self.step(store, plain, totals)?;
+        }
+        self.judge.step = EVENTS.saturating_add(1);
+        self.finish(store, plain, totals)
+    }
+}

@@ -1,0 +1,169 @@
+//! A thousand triples are added to a thousand others while these are read.
+use crate::lines::{Bounds, Lines};
+use gs_drawn_events::{Place, made, target};
+use gs_event::{Action, Event, UploadKind};
+use gs_model::Refusal;
+use gs_term::{TermText, Triple};
+use gs_version_models::MOST_FOR_TRIPLE;
+use std::alloc::{AllocError, Global};
+
+/// How many triples each upload has.
+const MANY: u64 = 1_000;
+
+/// How many both have.
+const BOTH: u64 = 2_000;
+
+/// How many lists an upload comes in, and how many triples a list has.
+const LISTS: u64 = 10;
+
+const LIST: u64 = 100;
+
+/// How many lines were given before the second upload.
+const GIVEN: u64 = 10;
+
+/// Triples have numbers from here on, all of four digits: those of the first upload are even.
+const FIRST: u64 = 4_000;
+
+/// The triple of a number.
+fn triple(alloc: Global, number: u64) -> Result<Triple, Refusal> {
+    let subject = format!(in alloc; "http://e/s{number}")?;
+    let object = format!(in alloc; "{number}")?;
+    made(
+        TermText::iri(alloc, subject.as_str())?,
+        TermText::iri(alloc, "http://e/p")?,
+        TermText::literal(alloc, object.as_str(), None, None)?,
+    )
+}
+
+fn push_line(text: &mut String, alloc: Global, number: u64) -> Result<(), AllocError> {
+    let line = format!(in alloc; "<http://e/s{number}> <http://e/p> \"{number}\" .\n")?;
+    text.push_str(line.as_str())
+}
+
+/// What a piece is to answer: the lines from this number on, so many, at this distance, and then this.
+fn words(
+    alloc: Global,
+    first: u64,
+    count: u64,
+    distance: u64,
+    last: &str,
+) -> Result<String, AllocError> {
+    let mut text = String::from_str(alloc, "lines ")?;
+    for place in 0..count {
+        push_line(
+            &mut text,
+            alloc,
+            first.saturating_add(place.saturating_mul(distance)),
+        )?;
+    }
+    text.push_str(last)?;
+    Ok(text)
+}
+
+fn list(alloc: Global, first: u64) -> Result<Vec<Triple>, Refusal> {
+    let mut triples = Vec::new(alloc);
+    for place in 0..LIST {
+        triples.push(triple(alloc, first.saturating_add(place.saturating_mul(2)))?)?;
+    }
+    Ok(triples)
+}
+
+/// Seat 0 stages every second triple from this number on, in lists, the last of them first. Each takes a
+/// node. So many are in use before, and graphs have so many triples.
+fn push_stages(alloc: Global, lines: &mut Lines, first: u64, before: u64) -> Result<(), Refusal> {
+    for place in 0..LISTS {
+        let lists_after = LISTS.saturating_sub(1).saturating_sub(place);
+        let skipped = lists_after.saturating_mul(LIST).saturating_mul(2);
+        let action = Action::Stage(list(alloc, first.saturating_add(skipped))?);
+        let staged = place.saturating_add(1).saturating_mul(LIST);
+        let bounds = Bounds::exactly(before.saturating_add(staged), before);
+        lines.push("Stage", Event::Seat(0, action), "staged", bounds)?;
+    }
+    Ok(())
+}
+
+/// Seat 0 puts the even triples.
+fn push_put(alloc: Global, lines: &mut Lines) -> Result<(), Refusal> {
+    let open = Action::Open(UploadKind::Put(target(alloc, Place::A)?));
+    lines.push(
+        "Open",
+        Event::Seat(0, open),
+        "opened 1",
+        Bounds::exactly(0, 0),
+    )?;
+    push_stages(alloc, lines, FIRST, 0)?;
+    let commit = Event::Seat(0, Action::Commit);
+    lines.push("Commit", commit, "status 201", Bounds::exactly(MANY, MANY))?;
+    Ok(())
+}
+
+/// Seat 1 begins to read.
+fn push_pin(alloc: Global, lines: &mut Lines, bounds: Bounds) -> Result<(), Refusal> {
+    let pin = Action::Pin(target(alloc, Place::A)?);
+    lines.push("Pin", Event::Seat(1, pin), "pinned 200", bounds)?;
+    Ok(())
+}
+
+/// Seat 1 is given so many lines, which are to be these.
+fn push_piece(lines: &mut Lines, count: u32, words: &str, bounds: Bounds) -> Result<(), Refusal> {
+    let piece = Event::Seat(1, Action::Piece(count));
+    lines.push("Piece", piece, words, bounds)?;
+    Ok(())
+}
+
+/// Seat 0 posts the odd triples, each of which takes no more nodes than it may.
+fn push_post(alloc: Global, lines: &mut Lines) -> Result<(), Refusal> {
+    let open = Action::Open(UploadKind::Post(target(alloc, Place::A)?));
+    let first = Bounds::exactly(MANY, MANY);
+    lines.push("Open", Event::Seat(0, open), "opened 2", first)?;
+    push_stages(alloc, lines, FIRST.saturating_add(1), MANY)?;
+    let bounds = Bounds {
+        least: BOTH,
+        most: BOTH.saturating_add(MANY.saturating_mul(MOST_FOR_TRIPLE)),
+        triples: BOTH,
+    };
+    let commit = Event::Seat(0, Action::Commit);
+    lines.push("Commit", commit, "status 204", bounds)?;
+    Ok(())
+}
+
+/// While the read is there, a Reclaim leaves the nodes of the newest graph and those that the pin has, which
+/// are some, and at most as many as the read has triples. The lines of the read are those at its pin.
+fn push_rest(alloc: Global, lines: &mut Lines) -> Result<(), Refusal> {
+    let under_read = Bounds {
+        least: BOTH.saturating_add(1),
+        most: BOTH.saturating_add(MANY),
+        triples: BOTH,
+    };
+    lines.push_reclaim(true, under_read)?;
+    let next = FIRST.saturating_add(GIVEN.saturating_mul(2));
+    let rest = words(alloc, next, MANY.saturating_sub(GIVEN), 2, "end")?;
+    push_piece(lines, 999, rest.as_str(), under_read)
+}
+
+/// After the read a Reclaim leaves a node for each triple. Seat 1 reads all triples.
+fn push_end(alloc: Global, lines: &mut Lines) -> Result<(), Refusal> {
+    let bounds = Bounds::exactly(BOTH, BOTH);
+    lines.push_reclaim(false, bounds)?;
+    push_pin(alloc, lines, bounds)?;
+    let all = words(alloc, FIRST, BOTH, 1, "end")?;
+    push_piece(lines, u32::MAX, all.as_str(), bounds)
+}
+
+fn push_all(alloc: Global, lines: &mut Lines) -> Result<(), Refusal> {
+    let first = Bounds::exactly(MANY, MANY);
+    push_put(alloc, lines)?;
+    push_pin(alloc, lines, first)?;
+    let given = words(alloc, FIRST, GIVEN, 2, "more")?;
+    push_piece(lines, 10, given.as_str(), first)?;
+    push_post(alloc, lines)?;
+    push_rest(alloc, lines)?;
+    push_end(alloc, lines)
+}
+
+/// The schedule of a store of two seats.
+pub fn large_lines(alloc: Global) -> Result<Lines, Refusal> {
+    let mut lines = Lines::new(alloc);
+    push_all(alloc, &mut lines)?;
+    Ok(lines)
+}

@@ -1,0 +1,113 @@
+//! Schedules of stores whose nodes and terms have few numbers.
+use crate::lines::{Bounds, Lines};
+use gs_drawn_events::{Ask, Kind, Place, SORT_NAMES, event, sort_of};
+use gs_event::Event;
+use gs_model::Refusal;
+use std::alloc::{AllocError, Global};
+
+/// What seat 0 is asked.
+#[derive(Clone, Copy, Drop)]
+enum Deed {
+    Put(Place),
+    /// One triple is staged.
+    Stage(usize),
+    Commit,
+    Cancel,
+    Delete(Place),
+    Pin(Place),
+    Piece(u32),
+    /// Up to nine nodes are freed.
+    Free,
+}
+
+/// What is asked, what is to be answered, and how many nodes are in use then and triples are in graphs.
+type Row = (Deed, &'static str, u64, u64);
+
+/// Four nodes: a fifth triple is refused, and there is room for it once the four were freed.
+const LAST_NODE: [Row; 15] = [
+    (Deed::Put(Place::A), "opened 1", 0, 0),
+    (Deed::Stage(0), "staged", 1, 0),
+    (Deed::Stage(1), "staged", 2, 0),
+    (Deed::Stage(2), "staged", 3, 0),
+    (Deed::Stage(3), "staged", 4, 0),
+    (Deed::Stage(4), "refused NoMemory", 4, 0),
+    (Deed::Commit, "status 201", 4, 4),
+    (Deed::Put(Place::B), "opened 2", 4, 4),
+    (Deed::Stage(4), "refused NoMemory", 4, 4),
+    (Deed::Cancel, "cancelled", 4, 4),
+    (Deed::Delete(Place::A), "status 204", 4, 0),
+    (Deed::Free, "reclaimed 4 done", 0, 0),
+    (Deed::Put(Place::A), "opened 3", 0, 0),
+    (Deed::Stage(4), "staged", 1, 0),
+    (Deed::Commit, "status 201", 1, 1),
+];
+
+/// Three terms: a triple with a fourth is refused, and one of those three is taken. The first two triples
+/// have one subject and one predicate; the object of the second is that subject. The fifth has another
+/// subject.
+const LAST_TERM: [Row; 7] = [
+    (Deed::Put(Place::A), "opened 1", 0, 0),
+    (Deed::Stage(0), "staged", 1, 0),
+    (Deed::Stage(4), "refused NoMemory", 1, 0),
+    (Deed::Stage(1), "staged", 2, 0),
+    (Deed::Commit, "status 201", 2, 2),
+    (Deed::Pin(Place::A), "pinned 200", 2, 2),
+    (Deed::Piece(9), TWO_LINES, 2, 2),
+];
+
+/// The lines of the first two triples.
+const TWO_LINES: &str =
+    "lines <http://e/s0> <http://e/p0> \"x\" .\n<http://e/s0> <http://e/p0> <http://e/s0> .\nend";
+
+fn list_of(alloc: Global, number: usize) -> Result<Vec<usize>, AllocError> {
+    let mut list = Vec::new(alloc);
+    list.push(number).map_err(AllocError::from)?;
+    Ok(list)
+}
+
+/// What a seat is asked, if it is asked anything.
+fn ask_of(alloc: Global, deed: Deed) -> Result<Option<Ask>, AllocError> {
+    match deed {
+        Deed::Put(place) => Ok(Some(Ask::Open(Kind::Put(place)))),
+        Deed::Stage(number) => Ok(Some(Ask::Stage(list_of(alloc, number)?))),
+        Deed::Commit => Ok(Some(Ask::Commit)),
+        Deed::Cancel => Ok(Some(Ask::Cancel)),
+        Deed::Delete(place) => Ok(Some(Ask::Delete(place))),
+        Deed::Pin(place) => Ok(Some(Ask::Pin(place))),
+        Deed::Piece(count) => Ok(Some(Ask::Piece(count))),
+        Deed::Free => Ok(None),
+    }
+}
+
+fn push_row(alloc: Global, lines: &mut Lines, row: &Row) -> Result<(), Refusal> {
+    let (deed, words, nodes, triples) = *row;
+    let bounds = Bounds::exactly(nodes, triples);
+    let Some(ask) = ask_of(alloc, deed)? else {
+        lines.push("Reclaim", Event::Reclaim(9), words, bounds)?;
+        return Ok(());
+    };
+    let name = SORT_NAMES.get(sort_of(&ask)).copied().unwrap_or_default();
+    lines.push(name, event(alloc, 0, &ask)?, words, bounds)?;
+    Ok(())
+}
+
+fn push_rows(alloc: Global, lines: &mut Lines, rows: &[Row]) -> Result<(), Refusal> {
+    for row in rows {
+        push_row(alloc, lines, row)?;
+    }
+    Ok(())
+}
+
+/// The schedule of a store whose last node has number 3.
+pub fn last_node_lines(alloc: Global) -> Result<Lines, Refusal> {
+    let mut lines = Lines::new(alloc);
+    push_rows(alloc, &mut lines, &LAST_NODE)?;
+    Ok(lines)
+}
+
+/// The schedule of a store whose last term has number 2.
+pub fn last_term_lines(alloc: Global) -> Result<Lines, Refusal> {
+    let mut lines = Lines::new(alloc);
+    push_rows(alloc, &mut lines, &LAST_TERM)?;
+    Ok(lines)
+}

@@ -1,0 +1,21 @@
+//! A plain model of a store for tests: graphs as sets of triples by number, seats, and versions that ended,
+//! whose nodes it counts.
+#![tactic(auto)]
+
+mod answers;
+mod books;
+mod finds;
+mod graphs;
+mod models;
+mod outcomes;
+mod phases;
+mod rules;
+mod sets;
+mod versions;
+
+pub use answers::{answer_words, is_said, is_same, said_words};
+pub use models::Model;
+pub use outcomes::{Growth, MOST_FOR_TRIPLE, Outcome, Said};
+pub use phases::Phase;
+pub use rules::Lie;
+pub use versions::SEATS;

@@ -1,0 +1,171 @@
+//! The plain model of a store: graphs as sets, seats, and versions that ended.
+use crate::books::Books;
+use crate::outcomes::{Outcome, Said};
+use crate::phases::{Phase, Read, Turn, Upload};
+use crate::rules::Lie;
+use crate::sets::Set;
+use crate::versions::{Pins, SEATS};
+use gs_drawn_events::{Ask, Place};
+use gs_event::Limits;
+use gs_model::Refusal;
+use std::alloc::{AllocError, Global};
+
+/// The model.
+#[derive(Drop)]
+pub struct Model {
+    books: Books,
+    phases: [Phase; SEATS],
+}
+
+impl Model {
+    /// A store without graphs.
+    pub fn new(alloc: Global, most: Limits, lie: Lie) -> Model {
+        Model {
+            books: Books::new(alloc, most, lie),
+            phases: [Phase::Idle; SEATS],
+        }
+    }
+
+    /// What a seat is doing. A seat that is not there does nothing.
+    pub fn phase(&self, seat: u16) -> Phase {
+        match self.phases.get(usize::from(seat)) {
+            Some(phase) => *phase,
+            None => Phase::Idle,
+        }
+    }
+
+    /// The names that the store made up, and whose graphs are there.
+    pub fn made(&self, alloc: Global) -> Result<Vec<Place>, AllocError> {
+        self.books.graphs.made(alloc)
+    }
+
+    /// How many triples a seat's upload has.
+    pub fn staged(&self, seat: u16) -> u64 {
+        match self.phase(seat) {
+            Phase::Writing(upload) => upload.triples.count(),
+            _ => 0,
+        }
+    }
+
+    /// How many triples all graphs have.
+    pub fn triples(&self) -> u64 {
+        self.books.graphs.count()
+    }
+
+    /// The same and those of all open uploads.
+    pub fn nodes(&self) -> u64 {
+        let mut nodes = self.triples();
+        for phase in &self.phases {
+            if let Phase::Writing(upload) = phase {
+                nodes = nodes.saturating_add(upload.triples.count());
+            }
+        }
+        nodes
+    }
+
+    /// The pins of all reads.
+    pub fn pins(&self) -> Pins {
+        let mut pins = [None; SEATS];
+        for (pin, phase) in pins.iter_mut().zip(self.phases.iter()) {
+            if let Phase::Reading(read) = phase {
+                *pin = Some(read.pin);
+            }
+        }
+        pins
+    }
+
+    /// Whether there is a read.
+    pub fn has_pin(&self) -> bool {
+        self.phases
+            .iter()
+            .any(|phase| matches!(phase, Phase::Reading(_)))
+    }
+
+    /// Whether a seat's read has other lines than its graph has now.
+    pub fn is_stale(&self, seat: u16) -> bool {
+        match self.phase(seat) {
+            Phase::Reading(read) => self.books.graphs.triples(read.place) != Some(read.triples),
+            _ => false,
+        }
+    }
+
+    /// How many nodes a Reclaim of so many frees, where each commit gives a graph a tree of its own.
+    pub fn reclaim(&mut self, most: u64) -> u64 {
+        let pins = self.pins();
+        self.books.free(most, &pins)
+    }
+
+    /// What a seat that is asked this answers.
+    pub fn step(&mut self, seat: u16, ask: &Ask) -> Result<Outcome, AllocError> {
+        let place = usize::from(seat);
+        let Some(phase) = self.phases.get(place).copied() else {
+            return Ok(Outcome::refused(Refusal::BadSeat));
+        };
+        let turn = match phase {
+            Phase::Idle => self.begin(ask)?,
+            Phase::Writing(upload) => self.write(upload, ask)?,
+            Phase::Patching(target) => self.patch(target, ask)?,
+            Phase::Reading(read) => self.read(read, ask),
+        };
+        if let Some(held) = self.phases.get_mut(place) {
+            *held = turn.phase;
+        }
+        Ok(turn.outcome)
+    }
+
+    /// An idle seat.
+    fn begin(&mut self, ask: &Ask) -> Result<Turn, AllocError> {
+        match ask {
+            Ask::Open(kind) => {
+                let request = self.books.next_request();
+                let upload = Upload {
+                    kind: *kind,
+                    request,
+                    triples: Set::none(),
+                };
+                Ok(Turn::to(Phase::Writing(upload), Said::Opened(request)))
+            }
+            Ask::OpenPatch(place) => {
+                let request = self.books.next_request();
+                Ok(Turn::to(Phase::Patching(*place), Said::Opened(request)))
+            }
+            Ask::Delete(place) => self.books.delete(*place),
+            Ask::Head(place) => {
+                let is_there = self.books.graphs.triples(*place).is_some();
+                let status = if is_there { 200 } else { 404 };
+                Ok(Turn::to(Phase::Idle, Said::Status(status)))
+            }
+            Ask::Pin(place) => Ok(self.books.pin(*place)),
+            _ => Ok(Turn::refused(Phase::Idle)),
+        }
+    }
+
+    /// A seat with an upload.
+    fn write(&mut self, upload: Upload, ask: &Ask) -> Result<Turn, AllocError> {
+        match ask {
+            Ask::Stage(numbers) => Ok(self.books.stage(upload, numbers.as_slice())),
+            Ask::Commit => self.books.commit_upload(upload),
+            Ask::Cancel => Ok(self.books.give_up(upload)),
+            _ => Ok(Turn::refused(Phase::Writing(upload))),
+        }
+    }
+
+    /// A seat with a patch.
+    fn patch(&mut self, place: Place, ask: &Ask) -> Result<Turn, AllocError> {
+        match ask {
+            Ask::Patch(edits) => self.books.commit_patch(place, edits.as_slice()),
+            Ask::Cancel => Ok(Turn::to(Phase::Idle, Said::Cancelled)),
+            _ => Ok(Turn::refused(Phase::Patching(place))),
+        }
+    }
+
+    /// A seat with a read.
+    fn read(&self, read: Read, ask: &Ask) -> Turn {
+        match ask {
+            Ask::Piece(0) => Turn::refused(Phase::Reading(read)),
+            Ask::Piece(count) => self.books.piece(read, u64::from(*count)),
+            Ask::Cancel => Turn::to(Phase::Idle, Said::Cancelled),
+            _ => Turn::refused(Phase::Reading(read)),
+        }
+    }
+}
