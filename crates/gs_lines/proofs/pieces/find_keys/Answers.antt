@@ -8,5 +8,5 @@ pub returns : goal.returns
 returns c =
     let ks = keys_at c.args.pool.now c.args.root in
     c.in_ok-next_keys.ensures.ok
-    ∙ ap (λ xs. xs ++ take c.args.most (keys_from (key_cmp c.new-order.result.dict.now.terms) c.args.from ks)) c.new-keys.ensures.items
+    ∙ ap (λ xs. xs ++ take c.args.most (keys_from (key_cmp c.new-order.result.dict.now.terms) c.args.from ks)) c.in_ok-keys.ensures.items
     ∙ ap (λ (d : Numbered). take c.args.most (keys_from (key_cmp d.terms) c.args.from ks)) c.new-order.ensures
