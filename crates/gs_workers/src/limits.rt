@@ -23,9 +23,10 @@ pub(crate) const WAITING_NOTES: usize = 16;
 /// The seconds that one read may wait for a client to end too, once its connection was served.
 pub const LINGER_SECONDS: u64 = 1;
 
-/// The most reads by which what it still sends is dropped, and the bytes of each.
+/// The most reads by which what it still sends is dropped.
 pub(crate) const LINGER_READS: usize = 1_024;
 
+/// The most bytes that one of these reads drops.
 pub(crate) const LINGER_BYTES: usize = 16_384;
 
 /// How long one read or one write of a connection may wait for its client.

@@ -1,7 +1,7 @@
 //! How a connection ends that was served to its end.
 use crate::limits::{LINGER_BYTES, LINGER_READS, linger_patience};
 use std::io;
-use std::io::Read;
+use std::io::{ErrorKind, Read};
 use std::net::{Shutdown, TcpStream};
 
 /// Ends what is written, and reads and drops what the client still sends until it ends too, for a
@@ -13,8 +13,11 @@ pub(crate) fn linger(stream: &TcpStream) -> io::Result<()> {
     let mut bytes = [0u8; LINGER_BYTES];
     let mut input = stream;
     for _ in 0..LINGER_READS {
-        if input.read(&mut bytes)? == 0 {
-            break;
+        match input.read(&mut bytes) {
+            Ok(0) => break,
+            Ok(_) => {}
+            Err(e) if e.kind() == ErrorKind::Interrupted => {}
+            Err(e) => return Err(e),
         }
     }
     Ok(())

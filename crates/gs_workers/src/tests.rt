@@ -6,6 +6,8 @@ mod crowds;
 mod gates;
 mod leavers;
 mod notes;
+mod partings;
+mod reclaims;
 mod refusals;
 mod servings;
 mod sleepers;

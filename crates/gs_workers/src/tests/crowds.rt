@@ -110,7 +110,8 @@ fn served<
 /// How many clients are served at the same time.
 const CROWD: u64 = 256;
 
-/// Holds each Head until as many came as there are clients. Once one waited in vain, none waits.
+/// Holds each Head until as many came as there are clients. Once one waited in vain, or came to the gate
+/// of another seat, none waits.
 #[derive(Drop)]
 struct Gather<'a, K: Clock> {
     clock: &'a K,
@@ -119,13 +120,13 @@ struct Gather<'a, K: Clock> {
 }
 
 impl<'a, K: Clock> Gate for Gather<'a, K> {
-    fn before(&self, _seat: u16, event: &Event) {
-        let Event::Seat(_, Action::Head(_)) = event else {
+    fn before(&self, seat: u16, event: &Event) {
+        let Event::Seat(own, Action::Head(_)) = event else {
             return;
         };
         self.came.fetch_add(1, Ordering::SeqCst);
         let is_late = self.late.load(Ordering::SeqCst) > 0;
-        if !is_late && !comes(self.clock, &self.came, CROWD) {
+        if !is_late && (*own != seat || !comes(self.clock, &self.came, CROWD)) {
             self.late.fetch_add(1, Ordering::SeqCst);
         }
     }
@@ -150,11 +151,11 @@ fn asked_by<N: Net<Stream = TcpStream>>(
     Ok(streams)
 }
 
-/// How many of these clients are told that it is not.
-fn answered(alloc: Global, streams: &[TcpStream]) -> io::Result<u64> {
+/// How many of these clients are told that it is not. Each leaves then.
+fn answered(alloc: Global, streams: Vec<TcpStream>) -> io::Result<u64> {
     let mut good = 0u64;
     for stream in streams {
-        let reply = io::read_to_string(alloc, stream)?;
+        let reply = io::read_to_string(alloc, &stream)?;
         if reply.as_str().starts_with("HTTP/1.1 404 ") {
             good = good.saturating_add(1);
         }
@@ -168,7 +169,7 @@ fn ask_together<N: Net<Stream = TcpStream>>(
     alloc: Global,
     addr: SocketAddr,
 ) -> io::Result<u64> {
-    answered(alloc, asked_by(rt, alloc, addr, CROWD)?.as_slice())
+    answered(alloc, asked_by(rt, alloc, addr, CROWD)?)
 }
 
 /// Whether as many clients are served at the same time as there are workers.
@@ -230,7 +231,7 @@ fn ask_in_a_queue<N: Net<Stream = TcpStream>, K: Clock>(
     let asked = asked_by(rt, alloc, addr, QUEUE);
     thread::sleep(dam.clock, Duration::from_millis(300));
     dam.open.fetch_add(1, Ordering::SeqCst);
-    answered(alloc, asked?.as_slice())
+    answered(alloc, asked?)
 }
 
 /// How many clients of one worker are answered, all of whom came before the first was.
