@@ -1,5 +1,5 @@
 -- Seats of passes, and of the records that are left of them.
-use Rattle.std.proofs.Common.{◌≡◌, ℕ, zero, suc, ◌+◌, List, [], ◌∷◌, ◌++◌, length, map, take, Some, refl, sym, ap, ◌∙◌, subst, arith}
+use Rattle.std.proofs.Common.{◌≡◌, ℕ, zero, suc, ◌+◌, List, [], ◌∷◌, ◌++◌, length, map, take, Some, refl, sym, ap, ◌∙◌, subst, arith, append-nil}
 use Rattle.std.specs.List.{slice_get}
 use Rattle.std.proofs.lemmas.List.{length-map, map-append}
 use Rattle.gs_pass.specs.declared.records.Record.{Record}
@@ -62,6 +62,11 @@ fresh_last record_of before after backs back n records is kept fresh many all r 
     let same : r ≡ record_of back = cc in
     let tally : tally_of r ≡ tally_of before = ap tally_of (same ∙ is) ∙ kept.1 in
     subst IsFresh (sym tally) fresh
+
+-- where none is left, all of them came
+pub all_came : {X : Type 0} (came rest all : List X) → length rest ≡ 0 → came ++ rest ≡ all → came ≡ all
+all_came came [] all none whole = sym (append-nil came) ∙ whole
+all_came came (x ∷ rest) all none whole = let no : ⊥ = omega (arith, none) in absurd no
 
 -- one goes over from the rest
 pub move_on : {X : Type 0} (xs : List X) (x : X) (ys : List X) → (xs ++ x ∷ []) ++ ys ≡ xs ++ x ∷ ys

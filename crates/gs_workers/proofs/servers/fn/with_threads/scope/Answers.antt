@@ -2,7 +2,7 @@ use Rattle.std.proofs.Common.{◌≡◌, ◌+◌, [], ◌∷◌, ◌++◌, lengt
 use Rattle.gs_talk.specs.Logs.{Server}
 use Rattle.gs_shared.specs.Seats.{From, IsFreshOf}
 use Rattle.gs_workers.specs.Served.{IsPromised}
-use Rattle.gs_workers.proofs.RecordLemmas.{from_front, from_last, from_push, move_on}
+use Rattle.gs_workers.proofs.RecordLemmas.{all_came, from_front, from_last, from_push, move_on}
 use Rattle.gs_workers.proofs.servers.fn.with_threads.scope.Goals as goal
 
 pub push_reserved-requires : goal.push_reserved-requires
@@ -31,4 +31,16 @@ loop-pass-preserved g c =
           (from_push (λ seat w. IsPromised p seat (record { base = w.promise.plan.base.now; piece = w.promise.plan.piece }) w.promise.before.value.record) 0 c.loop-pass.workers.items worker
           (v.promised (from_front (λ seat x. IsFreshOf seat x.record) 0 c.loop-pass.yielded (pass ∷ []) fresh))
           (subst (λ n. IsFreshOf n worker.promise.before.value.record) place (subst (IsFreshOf (0 + length c.loop-pass.yielded)) (sym same) was), made));
+    }
+
+pub returns : goal.returns
+returns g c =
+    let v = c.loop-pass.invariant in
+    let p : Server = record { base = c.captures.plan.base.now; piece = c.captures.plan.piece } in
+    let none : length c.loop-pass.pass-iterator.rest.items ≡ 0 = search rules in
+    let whole : c.loop-pass.yielded ++ c.loop-pass.pass-iterator.rest.items ≡ c.captures.passes.items = search rules in
+    let all = all_came c.loop-pass.yielded c.loop-pass.pass-iterator.rest.items c.captures.passes.items none whole in record {
+      many = c.join_all-back.ensures.many ∙ (v.many ∙ ap length all);
+      served = λ fresh. c.join_all-back.ensures.served p (v.promised (subst (From (λ seat x. IsFreshOf seat x.record) 0) (sym all) fresh));
+      last = search rules;
     }
