@@ -14,7 +14,8 @@ use Rattle.gs_tree.proofs.Counting.{low_size}
 use Rattle.gs_changes.specs.Changes.{ChangesAt}
 use Rattle.gs_changes.specs.Pieces.{AddsPiece}
 use Rattle.gs_changes.proofs.ChangeLemmas.{unchanged, unites_changes, then}
-use Rattle.gs_changes.proofs.KeyLemmas.{from_all, left_after, merge_parts}
+use Rattle.gs_tree.proofs.FromLemmas.{from_all}
+use Rattle.gs_changes.proofs.KeyLemmas.{left_after, merge_parts}
 
 -- a set in a pool of fewer than 2 ^ 32 places has no more keys
 pub few_keys : (cmp : Key → Key → Ordering) (p : Nodes) (root : Option ℕ) → IsSetAt cmp p root → length p.nodes < 2 ^ 32 → length (keys_at p root) < 2 ^ 32

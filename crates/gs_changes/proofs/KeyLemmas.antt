@@ -107,11 +107,6 @@ module _ (cmp : Key → Key → Ordering) (total : IsTotalOrder cmp) where
       let rest = keys_from cmp from ks in
       from_next from ks l k (drop n rest) s (sym (take-append-drop n rest) ∙ ap (λ zs. zs ++ drop n rest) e ∙ append_assoc l (k ∷ []) (drop n rest))
 
--- all keys are above no place
-pub from_all : (cmp : Key → Key → Ordering) (ks : List Key) → keys_from cmp None ks ≡ ks
-from_all cmp [] = refl
-from_all cmp (y ∷ ks) = ap (λ zs. y ∷ zs) (from_all cmp ks)
-
 -- a run goes into keys by its first n, and then by the rest
 pub merge_parts : (cmp : Key → Key → Ordering) (n : ℕ) (run ys : List Key) → merge_keys cmp (drop n run) (merge_keys cmp (take n run) ys) ≡ merge_keys cmp run ys
 merge_parts cmp n run ys = sym (fold-append (λ ks x. insert_key cmp x ks) ys (take n run) (drop n run)) ∙ ap (λ xs. merge_keys cmp xs ys) (take-append-drop n run)

@@ -72,7 +72,9 @@ fn append_line(dict: &Dict, key: Key, bytes: &mut Vec<u8>)
     append(text_of(dict, key.predicate), bytes);
     bytes.push_reserved(b' ');
     append(text_of(dict, key.object), bytes);
-    append(b" .\n", bytes);
+    bytes.push_reserved(b' ');
+    bytes.push_reserved(b'.');
+    bytes.push_reserved(b'\n');
 }
 
 /// Appends the lines of keys, for which there is room.

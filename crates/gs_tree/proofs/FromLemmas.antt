@@ -74,6 +74,11 @@ module _ (cmp : Key → Key → Ordering) (total : IsTotalOrder cmp) where
   has_after x k [] r p = inr p
   has_after x k (y ∷ t) r p = inr (has_after x k t r p)
 
+-- from no place on, the keys are all
+pub from_all : (cmp : Key → Key → Ordering) (ks : List Key) → keys_from cmp None ks ≡ ks
+from_all cmp [] = refl
+from_all cmp (k ∷ ks) = ap (λ ys. k ∷ ys) (from_all cmp ks)
+
 -- filling up in two goes
 pub filled_twice : (end : ℕ) (xs ys zs : List Key) → filled_up end (filled_up end xs ys) zs ≡ filled_up end xs (ys ++ zs)
 filled_twice end xs ys zs = elim (cases_lt (length ys) (end - length xs)) [

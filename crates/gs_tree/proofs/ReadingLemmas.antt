@@ -9,7 +9,7 @@ use Rattle.gs_pool.specs.declared.nodes.Node.{Node}
 use Rattle.gs_pool.specs.Pool.{Nodes, node_at}
 use Rattle.gs_tree.specs.Tree.{height, occurrences, keys, height_at, tree_at}
 use Rattle.gs_tree.specs.Keys.{IsRising, HasKey}
-use Rattle.gs_tree.specs.Reading.{IsReadableAt, IsTreeAt, keys_at, is_less, is_past, keys_from, first_of}
+use Rattle.gs_tree.specs.Reading.{HasTreeAt, IsReadableAt, IsTreeAt, keys_at, is_less, is_past, keys_from, first_of}
 use Rattle.gs_tree.specs.Sets.{IsSetAt}
 use Rattle.gs_tree.proofs.TreeLemmas.{plain_count_most}
 use Rattle.gs_tree.proofs.Order.{rising_front, rising_back}
@@ -76,6 +76,32 @@ module _ (cmp : Key → Key → Ordering) (total : IsTotalOrder cmp) (p : Nodes)
 
   pub after_right : (key : Key) (found : Option Key) → is_less (cmp key node.key) ≡ false → found ≡ first_of (keys_from cmp (Some key) (keys_at p node.right)) → found ≡ first_of (keys_from cmp (Some key) (keys_at p root))
   after_right key found not_less is = rw (top_not_past (Some key) not_less) is
+
+-- a tree cut at its top: the pool has both sides, which are lower
+pub record Sides (p : Nodes) (root : Option ℕ) (node : Node) : Type 0 where
+  pub left_tree : HasTreeAt p node.left
+  pub right_tree : HasTreeAt p node.right
+  pub left_falls : height_at p node.left < height_at p root
+  pub right_falls : height_at p node.right < height_at p root
+  pub keys_are : keys_at p root ≡ keys_at p node.left ++ node.key ∷ keys_at p node.right
+
+pub sides : (p : Nodes) (root : Option ℕ) (id : ℕ) (node : Node) → HasTreeAt p root → root ≡ Some id → node_at p id ≡ Some node → Sides p root node
+sides p root id node c is found =
+    let o : Opened p id node (tree_at p root) = opened p root id node (tree_at p root) c.root_is c.stands is found in
+    let left_is : tree_at p node.left ≡ o.l = tree_in p node.left o.l o.left_is o.sl in
+    let right_is : tree_at p node.right ≡ o.r = tree_in p node.right o.r o.right_is o.sr in
+    let high : height_at p root ≡ height (tree_at p root) = height_in p root (tree_at p root) c.root_is c.stands in
+    record {
+      left_tree = record { root_is = rw left_is o.left_is; stands = rw left_is o.sl };
+      right_tree = record { root_is = rw right_is o.right_is; stands = rw right_is o.sr };
+      left_falls = omega (arith, height_in p node.left o.l o.left_is o.sl, high, ap height o.is);
+      right_falls = omega (arith, height_in p node.right o.r o.right_is o.sr, high, ap height o.is);
+      keys_are = rw (left_is, right_is) (ap keys o.is);
+    }
+
+-- a set that can be read is a tree that the pool has
+pub readable_tree : (cmp : Key → Key → Ordering) (p : Nodes) (root : Option ℕ) → IsReadableAt cmp p root → HasTreeAt p root
+readable_tree cmp p root s = record { root_is = s.root_is; stands = s.stands }
 
 -- a tree cut at its top, and how many keys it has
 pub record Counted (p : Nodes) (root : Option ℕ) (node : Node) : Type 0 where

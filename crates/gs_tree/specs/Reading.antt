@@ -20,6 +20,11 @@ pub record IsReadable (cmp : Key → Key → Ordering) (p : Nodes) (root : Optio
   pub stands : Stands p t
   pub rising : IsRising cmp (keys t)
 
+-- the pool has the whole tree of a root
+pub record HasTreeAt (p : Nodes) (root : Option ℕ) : Type 0 where
+  pub root_is : root ≡ root_of (tree_at p root)
+  pub stands : Stands p (tree_at p root)
+
 -- what `IsTree` says, of the tree that the pool has for the root
 abbrev pub IsTreeAt : Nodes → Option ℕ → Type 0
 IsTreeAt p root = IsTree p root (tree_at p root)

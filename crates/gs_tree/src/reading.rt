@@ -3,7 +3,7 @@
 ghost use Rattle.std.specs.Prelude.{◌≡◌, ◌+◌, ◌<◌, ◌≤◌, ◌^◌, [], ◌∷◌, Some, Option, length, max, vec_len, vec_capacity, IsOk, OnOk, OnErr};
 ghost use Rattle.std.specs.Bool.{Decides};
 ghost use Rattle.gs_tree.specs.Keys.{HasKey};
-ghost use Rattle.gs_tree.specs.Reading.{IsTreeAt, IsReadableAt, keys_at, is_past as is_past_in, keys_from, first_of, filled_up, FillsUp, Appends, IsEnough, key_count};
+ghost use Rattle.gs_tree.specs.Reading.{IsTreeAt, IsReadableAt, keys_at, HasTreeAt, is_past as is_past_in, keys_from, first_of, filled_up, FillsUp, Appends, IsEnough, key_count};
 
 use crate::orders::KeyOrder;
 use gs_pool::{Key, Pool};
@@ -54,6 +54,39 @@ pub fn after<O: KeyOrder>(pool: &Pool, order: &O, root: Option<u32>, key: Key) -
     Some(found)
 }
 
+// Appends the keys of a node and of all below it, in order, until there are `end` of them. Takes no
+// memory.
+#[cycle(walk_all)]
+fn walk_all(pool: &Pool, id: u32, end: usize, to: &mut Vec<Key>)
+    requires tree { HasTreeAt pool.now (Some id) }
+    requires room { end ≤ vec_capacity to.old }
+    ensures keys { to.new.items ≡ filled_up end to.old.items (keys_at pool.now (Some id)) }
+    ensures capacity { vec_capacity to.new ≡ vec_capacity to.old }
+{
+    if to.len() >= end {
+        return;
+    }
+    let node = pool.get(id);
+    walk_side(pool, node.left, end, to);
+    push_below(end, node.key, to);
+    walk_side(pool, node.right, end, to);
+}
+
+// Appends the keys of one side of a node. Most nodes lack one side or both, which costs no call.
+#[cycle(walk_all)]
+#[inline(always)]
+fn walk_side(pool: &Pool, side: Option<u32>, end: usize, to: &mut Vec<Key>)
+    requires tree { HasTreeAt pool.now side }
+    requires room { end ≤ vec_capacity to.old }
+    ensures keys { to.new.items ≡ filled_up end to.old.items (keys_at pool.now side) }
+    ensures capacity { vec_capacity to.new ≡ vec_capacity to.old }
+{
+    match side {
+        None => {}
+        Some(id) => walk_all(pool, id, end, to),
+    }
+}
+
 // Appends the keys above the one given, in order, until there are `end` of them. Takes no memory.
 fn walk<O: KeyOrder>(
     pool: &Pool,
@@ -81,7 +114,7 @@ fn walk<O: KeyOrder>(
     }
     walk(pool, order, node.left, from, end, to);
     push_below(end, node.key, to);
-    walk(pool, order, node.right, None, end, to);
+    walk_side(pool, node.right, end, to);
 }
 
 // Appends a key where there are fewer than `end`.
