@@ -16,12 +16,14 @@ use Rattle.gs_lex.specs.Automata.{Found, run_from, kind_at, Recognizes, longest}
 use Rattle.gs_lex.specs.Classes.{is_ws, is_line_end}
 use Rattle.gs_lex.specs.Cuts.{Parted, parted, from_kind, from_found, cut_from}
 use Rattle.gs_lex.specs.Lexers.{Leads}
+use Rattle.gs_lex.specs.Standing.{StandsAfter}
 use Rattle.gs_lex.specs.Readings.{BeginsToken, gap_of}
 use Rattle.gs_lex.specs.States.{tokens, state_after, start_of}
 use Rattle.gs_lex.specs.Tokens.{Cut, Gap, Between, InComment, CutEnd, Lexeme, Longest, NoTerminal, EndsLine, IsCut, place_after, token_kind, ended, space, hash, comment, line_end, bad_comment, token, no_kind, no_token}
 use Rattle.gs_lex.specs.declared.kinds.TokenKind.{TokenKind}
 use Rattle.gs_lex.specs.declared.kinds.Terminal.{Terminal}
 use Rattle.gs_lex.specs.declared.lexers.Lexer.{Lexer}
+use Rattle.gs_lex.specs.declared.steps.Reading.{Reading}
 use Rattle.gs_lex.specs.declared.states.State.{State}
 use Rattle.gs_lex.specs.declared.states.State.TheVariants as at
 use Rattle.gs_lex.specs.declared.states.Mark.TheVariants as mark
@@ -212,9 +214,17 @@ parted-cut (suc f) u Between n l x _ (char c o cs s e q) h =
 pub cut-from : (u : Bool) (m : Gap) (n l : ℕ) (x : List ℕ) → Cut u m n l x (cut_from u m n l x).0 (cut_from u m n l x).1
 cut-from u m n l x = parted-cut (length (symbols x)) u m n l x (symbols x) (spelt x) (omega arith)
 
--- a text that a lexer was fed has a cut, however it goes on, and the tokens given are its first
+-- where a lexer of pieces that were fed stands
+pub leads-stands : (u : Bool) (l : Lexer) (x : List ℕ) (ts : List Lexeme) → Leads u l x ts → StandsAfter false u l.at l.held.items x ts
+leads-stands u l x ts h = record { reads = h.reads; read = h.read; before = h.before; parts = h.parts; characters = h.characters; rest = h.rest }
+
+-- a text of which a reading has cut some tokens has a cut, however it goes on, and they are its first
+pub stands-goes-on : (u : Bool) (r : Reading) (left x : List ℕ) (ts : List Lexeme) → StandsAfter false u r left x ts → (y : List ℕ) → (us : List Lexeme) × (e : CutEnd) × IsCut u (x ++ y) (ts ++ us) e
+stands-goes-on u r left x ts h y =
+    let p = cut_from r.updates (gap_of r.in_comment) r.place r.last (left ++ y) in
+    let c = h.rest (left ++ y) p.0 p.1 (becomes-on false left y (no_end y)) (cut-from r.updates (gap_of r.in_comment) r.place r.last (left ++ y)) in
+    (p.0, p.1, subst (λ z. IsCut u z (ts ++ p.0) p.1) (sym (append_assoc h.before left y) ∙ ap (λ z. z ++ y) (sym h.parts)) c)
+
+-- so has a text that a lexer was fed
 pub leads-goes-on : (u : Bool) (l : Lexer) (x : List ℕ) (ts : List Lexeme) → Leads u l x ts → (y : List ℕ) → (us : List Lexeme) × (e : CutEnd) × IsCut u (x ++ y) (ts ++ us) e
-leads-goes-on u l x ts h y =
-    let p = cut_from l.at.updates (gap_of l.at.in_comment) l.at.place l.at.last (l.held.items ++ y) in
-    let c = h.rest (l.held.items ++ y) p.0 p.1 (becomes-on false l.held.items y (no_end y)) (cut-from l.at.updates (gap_of l.at.in_comment) l.at.place l.at.last (l.held.items ++ y)) in
-    (p.0, p.1, subst (λ z. IsCut u z (ts ++ p.0) p.1) (sym (append_assoc h.before l.held.items y) ∙ ap (λ z. z ++ y) (sym h.parts)) c)
+leads-goes-on u l x ts h y = stands-goes-on u l.at l.held.items x ts (leads-stands u l x ts h) y

@@ -11,7 +11,9 @@ use Rattle.gs_lex.specs.declared.tokens.Token.{Token}
 use Rattle.gs_lex.specs.Scans.{MayBecome}
 use Rattle.gs_lex.proofs.BecomeLemmas.{no_end, becomes-on, becomes-before, becomes-more}
 use Rattle.gs_lex.proofs.BarrenLemmas.{read-more}
-use Rattle.gs_lex.proofs.SettledLemmas.{settled-at, quiet-at}
+use Rattle.gs_lex.proofs.CutLemmas.{leads-stands}
+use Rattle.gs_lex.proofs.SettledLemmas.{awaits-at}
+use Rattle.gs_lex.specs.Standing.{Awaits}
 use Rattle.std.proofs.lemmas.Str.{IsUtf8-append}
 
 waiting : (x : List ℕ) (r : Reading) (h : Halt) → (h ≡ halt.Fault → ⊥) → HasHalted false x r h → Waits r.in_comment (drop r.cut x) r.scan
@@ -74,13 +76,8 @@ feeds-as u l m n x piece ts old new k h a d o g f =
       characters = IsUtf8-append h.before t.before h.characters t.characters;
       rest = cut_piece u l m n x piece ts old new k h a d t;
     } in
-    record {
-      added = t.added;
-      given = t.given;
-      leads = leads;
-      settled = λ front i. settled-at u n (x ++ piece) front (ts ++ t.added) leads (t.waits g) i;
-      quiet = λ front i. quiet-at u n (x ++ piece) front (ts ++ t.added) leads (t.waits g) i;
-    }
+    let waits : Awaits u (x ++ piece) (ts ++ t.added) = awaits-at u n.at n.held.items (x ++ piece) (ts ++ t.added) (leads-stands u n (x ++ piece) (ts ++ t.added) leads) (t.waits g) in
+    record { added = t.added; given = t.given; leads = leads; settled = waits.settled; quiet = waits.quiet }
 
 pub breaks-as : (u : Bool) (l m n : Lexer) (x piece : List ℕ) (ts : List Lexeme) (old new : List Token) (k : Halt) → Leads u l x ts → m.at ≡ l.at → m.held.items ≡ l.held.items ++ piece
     → k ≡ halt.Fault → (HasRead false m.at m.held.items → CutsHeld m n old new k) → Breaks u (x ++ piece) ts n.at.last old new

@@ -24,3 +24,4 @@ pub mod SpanLemmas
 pub mod CutLemmas
 mod CutExamples
 pub mod TextLemmas
+pub mod StandingLemmas

@@ -26,7 +26,7 @@ parts_more from r x count before l p =
     ∙ sym (append_assoc before (take count (drop r.cut x)) (drop (r.cut + count) x))
 
 -- what becomes of the rest becomes of the text, whose front stays
-becomes-front : (is_end : Bool) (x z : List ℕ) (count : ℕ) → IsUtf8 (take count x) → MayBecome is_end (drop count x) z → MayBecome is_end x (take count x ++ z)
+pub becomes-front : (is_end : Bool) (x z : List ℕ) (count : ℕ) → IsUtf8 (take count x) → MayBecome is_end (drop count x) z → MayBecome is_end x (take count x ++ z)
 becomes-front is_end x z count u m = subst (λ y. MayBecome is_end y (take count x ++ z)) (take-append-drop count x) (becomes-before is_end (take count x) (drop count x) z u m)
 
 pub went-nothing : (is_end : Bool) (x : List ℕ) (r : Reading) (old : List Token) → HasRead is_end r (drop r.cut x) → Went is_end x r r old old

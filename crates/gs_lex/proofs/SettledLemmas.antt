@@ -16,13 +16,14 @@ use Rattle.gs_lex.specs.Terminals.{has_char, Caret}
 use Rattle.gs_lex.specs.Tokens.{Cut, Between, InComment, CutEnd, AtEnd, AtFault, Lexeme, IsCut, lexeme_at, has_text, token_kind, Longest, NoTerminal, ended, token, no_token, line_end}
 use Rattle.gs_lex.specs.Readings.{CutFrom, Waits, inside, between, begun, gap_of}
 use Rattle.gs_lex.specs.Cuts.{cut_from}
-use Rattle.gs_lex.specs.Lexers.{Leads, Stay, AreSettled, MayGoQuietly}
+use Rattle.gs_lex.specs.Lexers.{Stay, MayGoQuietly}
+use Rattle.gs_lex.specs.Standing.{StandsAfter, Awaits}
 use Rattle.gs_lex.specs.declared.kinds.TokenKind.{TokenKind}
 use Rattle.gs_lex.specs.declared.kinds.Terminal.{Terminal}
 use Rattle.gs_lex.specs.declared.kinds.Terminal.TheVariants as kind
-use Rattle.gs_lex.specs.declared.lexers.Lexer.{Lexer}
 use Rattle.gs_lex.specs.declared.states.State.{State}
 use Rattle.gs_lex.specs.declared.states.State.TheVariants as at
+use Rattle.gs_lex.specs.declared.steps.Reading.{Reading}
 use Rattle.gs_lex.proofs.AutomatonLemmas.{run-append}
 use Rattle.gs_lex.proofs.BarrenLemmas.{scalars-join}
 use Rattle.gs_lex.proofs.BecomeLemmas.{short-begins, short-nothing}
@@ -112,32 +113,32 @@ on-quietly : (u : Bool) (x : List ℕ) (ts : List Lexeme) → GoesOn u x ts → 
 on-quietly u x ts (nothing_more y e c) = record { onward = y; last = []; ending = e; quiet = tt; cut = c }
 on-quietly u x ts (one_or_other y z a b h n c d) = record { onward = y; last = a ∷ []; ending = AtEnd; quiet = h; cut = c }
 
--- Where the text x leads a lexer, and front is the longest front of x that ends between two characters: the characters that
+-- Where a reading stands in the text x, and front is the longest front of x that ends between two characters: the characters that
 -- are held, and that front cut from there on, however it goes on.
-record FromFront (u : Bool) (l : Lexer) (front : List ℕ) (ts : List Lexeme) (held : List ℕ) : Type 0 where
-  pub on : (y : List ℕ) (us : List Lexeme) (e : CutEnd) → CutFrom l.at (held ++ y) us e → IsCut u (front ++ y) (ts ++ us) e
-  pub reads : l.at.updates ≡ u
+record FromFront (u : Bool) (l : Reading) (front : List ℕ) (ts : List Lexeme) (held : List ℕ) : Type 0 where
+  pub on : (y : List ℕ) (us : List Lexeme) (e : CutEnd) → CutFrom l (held ++ y) us e → IsCut u (front ++ y) (ts ++ us) e
+  pub reads : l.updates ≡ u
 
-between_cut : (u : Bool) (l : Lexer) (x : List ℕ) (ts : List Lexeme) (e : CutEnd) → l.at.updates ≡ u → l.at.in_comment ≡ false → Cut u Between l.at.place l.at.last x ts e → CutFrom l.at x ts e
-between_cut u l x ts e h k c = subst (λ b. Cut l.at.updates (gap_of b) l.at.place l.at.last x ts e) (sym k) (subst (λ b. Cut b Between l.at.place l.at.last x ts e) (sym h) c)
+between_cut : (u : Bool) (l : Reading) (x : List ℕ) (ts : List Lexeme) (e : CutEnd) → l.updates ≡ u → l.in_comment ≡ false → Cut u Between l.place l.last x ts e → CutFrom l x ts e
+between_cut u l x ts e h k c = subst (λ b. Cut l.updates (gap_of b) l.place l.last x ts e) (sym k) (subst (λ b. Cut b Between l.place l.last x ts e) (sym h) c)
 
-comment_cut : (u : Bool) (l : Lexer) (x : List ℕ) (ts : List Lexeme) (e : CutEnd) → l.at.updates ≡ u → l.at.in_comment ≡ true → Cut u InComment l.at.place l.at.last x ts e → CutFrom l.at x ts e
-comment_cut u l x ts e h k c = subst (λ b. Cut l.at.updates (gap_of b) l.at.place l.at.last x ts e) (sym k) (subst (λ b. Cut b InComment l.at.place l.at.last x ts e) (sym h) c)
+comment_cut : (u : Bool) (l : Reading) (x : List ℕ) (ts : List Lexeme) (e : CutEnd) → l.updates ≡ u → l.in_comment ≡ true → Cut u InComment l.place l.last x ts e → CutFrom l x ts e
+comment_cut u l x ts e h k c = subst (λ b. Cut l.updates (gap_of b) l.place l.last x ts e) (sym k) (subst (λ b. Cut b InComment l.place l.last x ts e) (sym h) c)
 
 -- no character is held
-empty_held : (u : Bool) (l : Lexer) (x : List ℕ) (ts : List Lexeme) → FromFront u l x ts [] → CutFrom l.at [] [] AtEnd → GoesOn u x ts
+empty_held : (u : Bool) (l : Reading) (x : List ℕ) (ts : List Lexeme) → FromFront u l x ts [] → CutFrom l [] [] AtEnd → GoesOn u x ts
 empty_held u l x ts h c = nothing_more [] AtEnd (h.on [] [] AtEnd c)
 
 -- the token that one way on leads to
-way_token : (u : Bool) (l : Lexer) (x cs v : List ℕ) (ts : List Lexeme) (q : State) (t : Terminal) (k : TokenKind) → FromFront u l x ts (encode_utf8_all cs) → l.at.in_comment ≡ false → all_scalars cs ≡ true
+way_token : (u : Bool) (l : Reading) (x cs v : List ℕ) (ts : List Lexeme) (q : State) (t : Terminal) (k : TokenKind) → FromFront u l x ts (encode_utf8_all cs) → l.in_comment ≡ false → all_scalars cs ≡ true
     → run (tokens u) cs ≡ Some q → kind_at (tokens u) (run_from (tokens u) (Some q) v) ≡ Some t → all_scalars v ≡ true → ((z : List ℕ) → token_kind u t z ≡ Some k)
-    → IsCut u (x ++ encode_utf8_all v) (ts ++ lexeme_at k l.at.place (encode_utf8_all (cs ++ v)) ∷ []) AtEnd
+    → IsCut u (x ++ encode_utf8_all v) (ts ++ lexeme_at k l.place (encode_utf8_all (cs ++ v)) ∷ []) AtEnd
 way_token u l x cs v ts q t k h b g r a i j =
     let accepted : Recognizes (tokens u) t (cs ++ v) = ap (kind_at (tokens u)) (run-append (tokens u) (Some (tokens u).start) cs v ∙ ap (λ o. run_from (tokens u) o v) r) ∙ a in
     let held = encode_utf8_all cs ++ encode_utf8_all v in
-    h.on (encode_utf8_all v) (lexeme_at k l.at.place (encode_utf8_all (cs ++ v)) ∷ []) AtEnd
-    (between_cut u l held (lexeme_at k l.at.place (encode_utf8_all (cs ++ v)) ∷ []) AtEnd h.reads b
-    (whole_cut u l.at.place l.at.last held (cs ++ v) t k (sym (encodes-append cs v)) (scalars-join cs v g i) accepted (j (encode_utf8_all (cs ++ v)))))
+    h.on (encode_utf8_all v) (lexeme_at k l.place (encode_utf8_all (cs ++ v)) ∷ []) AtEnd
+    (between_cut u l held (lexeme_at k l.place (encode_utf8_all (cs ++ v)) ∷ []) AtEnd h.reads b
+    (whole_cut u l.place l.last held (cs ++ v) t k (sym (encodes-append cs v)) (scalars-join cs v g i) accepted (j (encode_utf8_all (cs ++ v)))))
 
 text_at : (k : TokenKind) (n : ℕ) (x : List ℕ) → has_text k ≡ true → (lexeme_at k n x).text ≡ x
 text_at k n x h = ap (λ b. if b then x else []) h
@@ -149,14 +150,14 @@ differ_bytes cs v w e g h l = elim (compare (cs ++ w) (cs ++ v) [] [] (ap (λ z.
   | beyond c d p q ↦ no_encode c (encode_utf8_all d ++ []) q
 ]
 
-two_ways : (u : Bool) (l : Lexer) (x cs : List ℕ) (ts : List Lexeme) (q : State) → FromFront u l x ts (encode_utf8_all cs) → l.at.in_comment ≡ false → all_scalars cs ≡ true
+two_ways : (u : Bool) (l : Reading) (x cs : List ℕ) (ts : List Lexeme) (q : State) → FromFront u l x ts (encode_utf8_all cs) → l.in_comment ≡ false → all_scalars cs ≡ true
     → run (tokens u) cs ≡ Some q → Ways q → GoesOn u x ts
 two_ways u l x cs ts q h b g r w =
-    let one = lexeme_at w.kind l.at.place (encode_utf8_all (cs ++ w.one)) in
-    let other = lexeme_at w.kind l.at.place (encode_utf8_all (cs ++ w.other)) in
+    let one = lexeme_at w.kind l.place (encode_utf8_all (cs ++ w.one)) in
+    let other = lexeme_at w.kind l.place (encode_utf8_all (cs ++ w.other)) in
     one_or_other (encode_utf8_all w.one) (encode_utf8_all w.other) one other w.holds_text
     (λ same. differ_bytes cs w.one w.other
-    (sym (text_at w.kind l.at.place (encode_utf8_all (cs ++ w.one)) w.holds_text) ∙ ap (λ (t : Lexeme). t.text) same ∙ text_at w.kind l.at.place (encode_utf8_all (cs ++ w.other)) w.holds_text)
+    (sym (text_at w.kind l.place (encode_utf8_all (cs ++ w.one)) w.holds_text) ∙ ap (λ (t : Lexeme). t.text) same ∙ text_at w.kind l.place (encode_utf8_all (cs ++ w.other)) w.holds_text)
     (scalars-join cs w.one g w.scalars_one) (scalars-join cs w.other g w.scalars_other) w.longer)
     (way_token u l x cs w.one ts q w.terminal w.kind h b g r (w.to_one u) w.scalars_one (w.is_kind u))
     (way_token u l x cs w.other ts q w.terminal w.kind h b g r (w.to_other u) w.scalars_other (w.is_kind u))
@@ -174,24 +175,24 @@ caret_ends u t v s p g a = caret_case u t v s (compare v (94 ∷ []) s [] (sym p
     caret_case u t v s (beyond c d q r) g a = no_encode c (encode_utf8_all d ++ s) r
 
 -- so it is a fault
-caret_fault : (u : Bool) (l : Lexer) (x : List ℕ) (ts : List Lexeme) (cs : List ℕ) → FromFront u l x ts (encode_utf8_all cs) → l.at.in_comment ≡ false → run (tokens u) cs ≡ Some at.Caret → GoesOn u x ts
+caret_fault : (u : Bool) (l : Reading) (x : List ℕ) (ts : List Lexeme) (cs : List ℕ) → FromFront u l x ts (encode_utf8_all cs) → l.in_comment ≡ false → run (tokens u) cs ≡ Some at.Caret → GoesOn u x ts
 caret_fault u l x ts cs h b r =
     let held : encode_utf8_all cs ≡ 94 ∷ [] = ap encode_utf8_all (caret_alone u cs r) ∙ caret_bytes in
-    nothing_more [] (AtFault l.at.last)
-    (h.on [] [] (AtFault l.at.last)
-    (subst (λ z. CutFrom l.at z [] (AtFault l.at.last)) (sym (append-nil (encode_utf8_all cs) ∙ held))
-    (between_cut u l (94 ∷ []) [] (AtFault l.at.last) h.reads b (no_token 94 [] refl refl (λ e. Prim.cc e) (caret_ends u)))))
+    nothing_more [] (AtFault l.last)
+    (h.on [] [] (AtFault l.last)
+    (subst (λ z. CutFrom l z [] (AtFault l.last)) (sym (append-nil (encode_utf8_all cs) ∙ held))
+    (between_cut u l (94 ∷ []) [] (AtFault l.last) h.reads b (no_token 94 [] refl refl (λ e. Prim.cc e) (caret_ends u)))))
 
-begun_on : (u : Bool) (l : Lexer) (x : List ℕ) (ts : List Lexeme) (cs : List ℕ) (q : State) → FromFront u l x ts (encode_utf8_all cs) → l.at.in_comment ≡ false → all_scalars cs ≡ true → run (tokens u) cs ≡ Some q
+begun_on : (u : Bool) (l : Reading) (x : List ℕ) (ts : List Lexeme) (cs : List ℕ) (q : State) → FromFront u l x ts (encode_utf8_all cs) → l.in_comment ≡ false → all_scalars cs ≡ true → run (tokens u) cs ≡ Some q
     → ((t : Terminal) → q ≢ at.Ended t) → Goes q → GoesOn u x ts
 begun_on u l x ts cs q h b g r n (goes w) = two_ways u l x cs ts q h b g r w
 begun_on u l x ts cs q h b g r n (has_ended j e) = absurd (n j e)
 begun_on u l x ts cs q h b g r n (caret e) = caret_fault u l x ts cs h b (r ∙ ap Some e)
 
--- the characters that are held, before the first bytes of one more
-from_front : (u : Bool) (l : Lexer) (x front : List ℕ) (ts : List Lexeme) (held short : List ℕ) → (h : Leads u l x ts) → l.held.items ≡ held ++ short → IsUtf8 held → IsShort short → IsLongestFront x front
-    → FromFront u l front ts held
-from_front u l x front ts held short h p g s f =
+-- the characters that are left, before the first bytes of one more
+from_front : (u : Bool) (l : Reading) (left x front : List ℕ) (ts : List Lexeme) (held short : List ℕ) → (h : StandsAfter false u l left x ts) → left ≡ held ++ short → IsUtf8 held → IsShort short
+    → IsLongestFront x front → FromFront u l front ts held
+from_front u l left x front ts held short h p g s f =
     let here : IsLongestFront x (h.before ++ held) =
     front_of_parts x (h.before ++ held) short (h.parts ∙ ap (λ z. h.before ++ z) p ∙ sym (append_assoc h.before held short)) (IsUtf8-append h.before held h.characters g) (short-begins short s) in
     record {
@@ -201,28 +202,29 @@ from_front u l x front ts held short h p g s f =
     }
 
 -- however that front goes on, its tokens begin with those that were given
-stays_on : (u : Bool) (l : Lexer) (front : List ℕ) (ts : List Lexeme) (held : List ℕ) → FromFront u l front ts held → Stay u front ts
+stays_on : (u : Bool) (l : Reading) (front : List ℕ) (ts : List Lexeme) (held : List ℕ) → FromFront u l front ts held → Stay u front ts
 stays_on u l front ts held h y vs e c =
-    let p = cut_from l.at.updates (gap_of l.at.in_comment) l.at.place l.at.last (held ++ y) in
-    let d = h.on y p.0 p.1 (cut-from l.at.updates (gap_of l.at.in_comment) l.at.place l.at.last (held ++ y)) in
+    let p = cut_from l.updates (gap_of l.in_comment) l.place l.last (held ++ y) in
+    let d = h.on y p.0 p.1 (cut-from l.updates (gap_of l.in_comment) l.place l.last (held ++ y)) in
     (p.0, (cut-one u Between 0 0 (front ++ y) vs (ts ++ p.0) e p.1 c d).0)
 
--- where a piece was read and the lexer waits
-goes_on_at : (u : Bool) (l : Lexer) (x front : List ℕ) (ts : List Lexeme) → Leads u l x ts → Waits l.at.in_comment l.held.items l.at.scan → IsLongestFront x front → GoesOn u front ts × Stay u front ts
-goes_on_at u l x front ts h (inside c s) f =
-    let k = from_front u l x front ts [] l.held.items h refl IsUtf8-nil s f in
+-- where a piece was read and the reading waits
+goes_on_at : (u : Bool) (l : Reading) (left x front : List ℕ) (ts : List Lexeme) → StandsAfter false u l left x ts → Waits l.in_comment left l.scan → IsLongestFront x front → GoesOn u front ts × Stay u front ts
+goes_on_at u l left x front ts h (inside c s) f =
+    let k = from_front u l left x front ts [] left h refl IsUtf8-nil s f in
     (empty_held u l front ts k (comment_cut u l [] [] AtEnd h.reads c (line_end tt (ended refl))), stays_on u l front ts [] k)
-goes_on_at u l x front ts h (between b e) f =
-    let k = from_front u l x front ts [] [] h e IsUtf8-nil short-nothing f in
+goes_on_at u l left x front ts h (between b e) f =
+    let k = from_front u l left x front ts [] [] h e IsUtf8-nil short-nothing f in
     (empty_held u l front ts k (between_cut u l [] [] AtEnd h.reads b (ended refl)), stays_on u l front ts [] k)
-goes_on_at u l x front ts h (begun b t s n) f =
-    let k : IsScanned u l.held.items l.at.scan = subst (λ z. IsScanned z l.held.items l.at.scan) h.reads h.read.scanned in
+goes_on_at u l left x front ts h (begun b t s n) f =
+    let k : IsScanned u left l.scan = subst (λ z. IsScanned z left l.scan) h.reads h.read.scanned in
     let held = encode_utf8_all k.chars in
-    let g = from_front u l x front ts held k.after h k.parts (k.chars, (k.characters, refl)) (subst IsShort (scan-after u l.held.items l.at.scan k) s) f in
-    (begun_on u l front ts k.chars l.at.scan.state g b k.characters k.stands n (may-go l.at.scan.state), stays_on u l front ts held g)
+    let g = from_front u l left x front ts held k.after h k.parts (k.chars, (k.characters, refl)) (subst IsShort (scan-after u left l.scan k) s) f in
+    (begun_on u l front ts k.chars l.scan.state g b k.characters k.stands n (may-go l.scan.state), stays_on u l front ts held g)
 
-pub settled-at : (u : Bool) (l : Lexer) (x front : List ℕ) (ts : List Lexeme) → Leads u l x ts → Waits l.at.in_comment l.held.items l.at.scan → IsLongestFront x front → AreSettled u front ts
-settled-at u l x front ts h w f = let g = goes_on_at u l x front ts h w f in record { stay = g.1; are_all = on-all u front ts g.0 }
-
-pub quiet-at : (u : Bool) (l : Lexer) (x front : List ℕ) (ts : List Lexeme) → Leads u l x ts → Waits l.at.in_comment l.held.items l.at.scan → IsLongestFront x front → MayGoQuietly u front ts
-quiet-at u l x front ts h w f = on-quietly u front ts (goes_on_at u l x front ts h w f).0
+-- all settled tokens are those given, and the text may go on quietly
+pub awaits-at : (u : Bool) (l : Reading) (left x : List ℕ) (ts : List Lexeme) → StandsAfter false u l left x ts → Waits l.in_comment left l.scan → Awaits u x ts
+awaits-at u l left x ts h w = record {
+  settled = λ front f. let g = goes_on_at u l left x front ts h w f in record { stay = g.1; are_all = on-all u front ts g.0 };
+  quiet = λ front f. on-quietly u front ts (goes_on_at u l left x front ts h w f).0;
+}

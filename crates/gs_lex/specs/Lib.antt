@@ -17,3 +17,5 @@ pub mod Readings
 pub mod Lexers
 pub mod Cutting
 pub mod Texts
+pub mod Standing
+pub mod Pieces

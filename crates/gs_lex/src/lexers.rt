@@ -38,7 +38,7 @@ pub fn first_reading(updates: bool) -> Reading
 }
 
 /// The same place, with nothing held before it.
-fn without_cut(at: Reading) -> Reading
+pub fn without_cut(at: Reading) -> Reading
     ensures { result ≡ record at { cut = 0 } }
 {
     Reading {
@@ -53,7 +53,7 @@ fn without_cut(at: Reading) -> Reading
 }
 
 /// Drops so many bytes from the front. The memory stays, for the bytes that come next.
-fn drop_front(held: &mut Vec<u8>, count: usize)
+pub fn drop_front(held: &mut Vec<u8>, count: usize)
     requires { count ≤ vec_len held.old }
     ensures { held.new.items ≡ drop count held.old.items }
 {

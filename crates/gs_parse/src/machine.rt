@@ -5,15 +5,15 @@ ghost use Rattle.gs_blank.specs.Numbers.{no_numbers};
 
 use crate::parser::Parser;
 use crate::places::Place;
-use gs_lex::Token;
+use gs_lex::BorrowedToken;
 use gs_term::Triple;
 use gs_triple_parser::{Scope, TripleParser, Turn};
-use gs_triple_values::{Allowed, Symbol, symbol_of_token};
+use gs_triple_values::{Allowed, Symbol, symbol_of_borrowed};
 use std::alloc::{AllocError, Global};
 
 impl Parser {
     ghost use Rattle.gs_body.specs.Bodies.{triples_of, end_after};
-    ghost use Rattle.gs_lex.specs.Lexemes.{lexeme_of};
+    ghost use Rattle.gs_lex.specs.Lexemes.{lexeme_of_borrowed};
     ghost use Rattle.gs_triples.specs.Symbols.{symbol_of};
     ghost use Rattle.gs_document.specs.Documents.{start};
     ghost use Rattle.gs_document.specs.Machine as machine;
@@ -94,15 +94,19 @@ impl Parser {
 
     /// One token more: the triples of the statement that it ends are added to the list. After a
     /// refusal the list is as it was, and the parser is of no more use.
-    pub fn step(&mut self, token: &Token, triples: &mut Vec<Triple>) -> Result<(), AllocError>
+    pub fn step(
+        &mut self,
+        token: BorrowedToken<'_>,
+        triples: &mut Vec<Triple>,
+    ) -> Result<(), AllocError>
         ensures state { OnOk result (state_of self.new
-            ≡ (machine.step (state_of self.old) (symbol_of (lexeme_of token.now))).0) }
+            ≡ (machine.step (state_of self.old) (symbol_of (lexeme_of_borrowed token.entry))).0) }
         ensures given { OnOk result (triples.new.items ≡ triples.old.items
-            ++ triples_of (machine.step (state_of self.old) (symbol_of (lexeme_of token.now))).1) }
-        ensures last { OnOk result (self.new.last
-            ≡ end_after self.old.last (machine.step (state_of self.old) (symbol_of (lexeme_of token.now))).1) }
+            ++ triples_of (machine.step (state_of self.old) (symbol_of (lexeme_of_borrowed token.entry))).1) }
+        ensures last { OnOk result (self.new.last ≡ end_after self.old.last
+            (machine.step (state_of self.old) (symbol_of (lexeme_of_borrowed token.entry))).1) }
         ensures err { OnErr result (triples.new.items ≡ triples.old.items) }
     {
-        self.take(symbol_of_token(token), triples)
+        self.take(symbol_of_borrowed(token), triples)
     }
 }

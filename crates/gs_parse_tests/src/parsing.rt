@@ -31,7 +31,7 @@ fn parse_text(alloc: Global, text: &[u8]) -> Result<Parsed, Fail> {
     let mut parser = Parser::new(alloc, "http://e/", 7)?;
     let mut triples = Vec::new(alloc);
     for token in &tokens {
-        parser.step(token, &mut triples)?;
+        parser.step(token.as_borrowed(), &mut triples)?;
     }
     let mut lines = Vec::new(alloc);
     for triple in &triples {

@@ -1,5 +1,5 @@
 -- What the steps of a reader say of its history.
-use Rattle.std.proofs.Common.{◌≡◌, ℕ, Bool, false, List, [], ◌++◌, sym, ap, subst, ◌∙◌, append_assoc}
+use Rattle.std.proofs.Common.{◌≡◌, ℕ, false, true, List, [], ◌++◌, refl, sym, ap, subst, ◌∙◌, append_assoc, append-nil}
 use Rattle.std.specs.Prelude.{string_bytes}
 use Rattle.std.proofs.lemmas.List.{map-append}
 use Rattle.gs_model.specs.Triples.{RdfTriple}
@@ -7,13 +7,13 @@ use Rattle.gs_model.specs.declared.refusals.Refusal.{Refusal}
 use Rattle.gs_machine.specs.Machines.{joined, AreSettled}
 use Rattle.gs_lex.specs.Tokens as lexer
 use Rattle.gs_lex.specs.Tokens.{Lexeme, IsCut}
-use Rattle.gs_lex.specs.Lexemes.{lexemes_of}
-use Rattle.gs_lex.specs.Lexers as lexing
-use Rattle.gs_lex.specs.Lexers.{Leads, Breaks, MayGoQuietly}
-use Rattle.gs_lex.specs.declared.tokens.Token.{Token}
-use Rattle.gs_lex.proofs.CutLemmas.{leads-goes-on}
+use Rattle.gs_lex.specs.Pieces.{Leads, Holds, left_in}
+use Rattle.gs_lex.specs.declared.pieces.PieceLexer.{PieceLexer}
+use Rattle.gs_lex.proofs.BecomeLemmas.{no_end}
+use Rattle.gs_lex.proofs.CutLemmas.{stands-goes-on}
+use Rattle.gs_lex.proofs.StandingLemmas.{stands-last}
 use Rattle.gs_blank.specs.Numbers.{no_numbers}
-use Rattle.gs_body.specs.Bodies.{Meaning, triples_of}
+use Rattle.gs_body.specs.Bodies.{Meaning, Whole, triples_of}
 use Rattle.gs_body.specs.Feeding.{Finishes}
 use Rattle.gs_body.specs.Leading.{IsLed}
 use Rattle.gs_body.proofs.LeadingLemmas.{led-on, triples_of-append}
@@ -24,10 +24,11 @@ use Rattle.gs_document.specs.Machine.{turtle}
 use Rattle.gs_parse.specs.Views.{state_of}
 use Rattle.gs_parse.specs.declared.parser.Parser.{Parser}
 use Rattle.gs_turtle.specs.Documents.{ended_by, meaning_by}
-use Rattle.gs_turtle.specs.Portions.{transition_of, end_of, Takes, Concludes, ReportsAfter}
+use Rattle.gs_turtle.specs.Portions.{transition_of, end_of, Takes, TakesAll, IsRead, ReportsAfter}
+use Rattle.gs_turtle.specs.declared.portions.Stop.TheVariants as stop
 use Rattle.gs_turtle.specs.Readers.{unread, LeadsTo, meaning_for, Keeps, Reads, IsRefused, IsRefusedAtEnd}
 use Rattle.gs_turtle.specs.declared.readers.TurtleReader.{TurtleReader}
-use Rattle.gs_turtle.proofs.PortionLemmas.{reports-ended}
+use Rattle.gs_turtle.proofs.PortionLemmas.{reports-ended, reports-taken, reports-last, ends-taken}
 use Rattle.gs_turtle.proofs.SaidLemmas.{meaning_on, reports_joined, all-settled}
 
 -- a step keeps what a reader says, and where it began
@@ -41,94 +42,91 @@ unread-same a b k = ap (λ (z : List ℕ). Between (start z b.request) no_number
 pub keeps-then : (a b c : TurtleReader) → Keeps a b → Keeps b c → Keeps a c
 keeps-then a b c k m = record { base = m.base ∙ k.base; request = m.request ∙ k.request; closed = m.closed ∙ k.closed }
 
--- the lexer of one reader leads to that of another, and to these tokens
-abbrev pub Lexes : TurtleReader → TurtleReader → List ℕ → List Token → List Token → Type 0
-Lexes a b piece old new = (updates : Bool) (x : List ℕ) (ts : List Lexeme) → Leads updates a.lexer x ts → lexing.Feeds updates b.lexer (x ++ piece) ts old new
+-- a piece leads the lexer of one reader to that of another, with these tokens more, and the text is awaited there
+abbrev pub Lexes : TurtleReader → TurtleReader → List ℕ → List Lexeme → Type 0
+Lexes a b piece us = (x : List ℕ) (ts : List Lexeme) → Leads false false a.lexer x ts → IsRead false b.lexer (x ++ piece) (ts ++ us)
 
--- the tokens that were added to an empty list
-same-added : (old new : List Token) (us : List Lexeme) → old ≡ [] → lexing.Adds old new us → us ≡ lexemes_of new
-same-added old new us e g = sym (g ∙ ap (λ z. lexemes_of z ++ us) e)
+-- a piece was held, and its tokens taken
+pub lexes-held : (a b : TurtleReader) (l : PieceLexer) (p q : Parser) (piece : List ℕ) (o1 o2 : List RdfTriple) → Holds a.lexer l piece → (t : TakesAll false l b.lexer p q o1 o2 stop.Read)
+    → Lexes a b piece t.lexemes
+lexes-held a b l p q piece o1 o2 h t x ts k = t.stops (x ++ piece) ts (h false x ts k)
 
 -- tokens that the parser took too
-abbrev leads-to : (a b : TurtleReader) (piece : List ℕ) (old new : List Token) (o1 o2 : List RdfTriple) → old ≡ [] → Keeps a b → Lexes a b piece old new → Takes a.parser b.parser (lexemes_of new) o1 o2
-    → (x : List ℕ) (ts : List RdfTriple) → LeadsTo a x ts → LeadsTo b (x ++ piece) (ts ++ triples_of (transition_of a.parser (lexemes_of new)).1)
-leads-to a b piece old new o1 o2 e k f h x ts l =
-    let fed = f false x l.lexemes l.lexed in
-    let us = lexemes_of new in
+abbrev leads-to : (a b : TurtleReader) (piece : List ℕ) (us : List Lexeme) (o1 o2 : List RdfTriple) → Keeps a b → Lexes a b piece us → Takes a.parser b.parser us o1 o2
+    → (x : List ℕ) (ts : List RdfTriple) → LeadsTo a x ts → LeadsTo b (x ++ piece) (ts ++ triples_of (transition_of a.parser us).1)
+leads-to a b piece us o1 o2 k f h x ts l =
     let transition = transition_of a.parser us in
     let on = led-on turtle (unread a) (state_of a.parser) (state_of b.parser) a.parser.last b.parser.last (symbols_of l.lexemes) (symbols_of us) ts transition.1 l.parsed
     (ap (λ (s : State). (s, transition.1)) (sym h.state)) h.last in
     record {
       lexemes = l.lexemes ++ us;
-      lexed = subst (λ z. Leads false b.lexer (x ++ piece) (l.lexemes ++ z)) (same-added old new fed.added e fed.given) fed.leads;
+      lexed = (f x l.lexemes l.lexed).0;
       parsed = subst (λ (s : State). IsLed turtle s (state_of b.parser) b.parser.last (symbols_of (l.lexemes ++ us)) (ts ++ triples_of transition.1)) (sym (unread-same a b k))
           (subst (λ (z : List Symbol). IsLed turtle (unread a) (state_of b.parser) b.parser.last z (ts ++ triples_of transition.1)) (sym (map-append symbol_of l.lexemes us)) on);
     }
 
 -- a portion was read
-pub reads-portion : (a b : TurtleReader) (piece : List ℕ) (old new : List Token) (o1 o2 : List RdfTriple) → old ≡ [] → Keeps a b → Lexes a b piece old new → Takes a.parser b.parser (lexemes_of new) o1 o2
-    → Reads a b piece o1 o2
-reads-portion a b piece old new o1 o2 e k f h =
-    let us = lexemes_of new in
+pub reads-portion : (a b : TurtleReader) (piece : List ℕ) (us : List Lexeme) (o1 o2 : List RdfTriple) → Keeps a b → Lexes a b piece us → Takes a.parser b.parser us o1 o2 → Reads a b piece o1 o2
+reads-portion a b piece us o1 o2 k f h =
     let given : List RdfTriple = triples_of (transition_of a.parser us).1 in
     record {
-      goes = record { given = given; grown = h.given; leads = leads-to a b piece old new o1 o2 e k f h };
+      goes = record { given = given; grown = h.given; leads = leads-to a b piece us o1 o2 k f h };
       settled = λ x ts l front i.
-          let fed = f false x l.lexemes l.lexed in
-          let same = same-added old new fed.added e fed.given in
+          let waits = (f x l.lexemes l.lexed).1 in
           subst (λ (g : List ℕ → List RdfTriple). AreSettled g front (ts ++ given)) (λ j z. triples_of (meaning_of-same a b k z j).0)
-          (all-settled b (x ++ piece) front (ts ++ given) (leads-to a b piece old new o1 o2 e k f h x ts l)
-          (subst (λ z. lexing.AreSettled false front (l.lexemes ++ z)) same (fed.settled front i)) (subst (λ z. MayGoQuietly false front (l.lexemes ++ z)) same (fed.quiet front i)));
+          (all-settled b (x ++ piece) front (ts ++ given) (leads-to a b piece us o1 o2 k f h x ts l) (waits.settled front i) (waits.quiet front i));
     }
 
 -- its tokens have a fault
-pub refused-portion : (e : Refusal) (a b : TurtleReader) (piece : List ℕ) (old new : List Token) → old ≡ [] → Lexes a b piece old new
-    → ((us : List Lexeme) → ReportsAfter a.parser.last e (end_of a.parser (lexemes_of new ++ us))) → IsRefused a piece e
-refused-portion e a b piece old new n f h = λ x ts l y.
-    let fed = f false x l.lexemes l.lexed in
-    let g = leads-goes-on false b.lexer (x ++ piece) (l.lexemes ++ fed.added) fed.leads y in
-    let us = lexemes_of new ++ g.0 in
-    let cut : IsCut false ((x ++ piece) ++ y) (l.lexemes ++ us) g.1 =
-    subst (λ z. IsCut false ((x ++ piece) ++ y) z g.1) (append_assoc l.lexemes fed.added g.0 ∙ ap (λ z. l.lexemes ++ (z ++ g.0)) (same-added old new fed.added n fed.given)) g.2 in
-    reports_joined e a.parser.last l.parsed.statements (ended_by g.1 (end_of a.parser us)) (meaning_for a ((x ++ piece) ++ y)) l.parsed.place
-    (meaning_on a x ts l ((x ++ piece) ++ y) us g.1 cut) (reports-ended e a.parser.last g.1 (end_of a.parser us) (h g.0))
+pub refused-portion : (e : Refusal) (a b : TurtleReader) (piece : List ℕ) (us : List Lexeme) (o1 o2 : List RdfTriple) → Lexes a b piece us → Takes a.parser b.parser us o1 o2
+    → ((vs : List Lexeme) → ReportsAfter b.parser.last e (end_of b.parser vs)) → IsRefused a piece e
+refused-portion e a b piece us o1 o2 f h k = λ x ts l y.
+    let g = stands-goes-on false b.lexer.at (left_in b.lexer) (x ++ piece) (l.lexemes ++ us) (f x l.lexemes l.lexed).0 y in
+    let cut : IsCut false ((x ++ piece) ++ y) (l.lexemes ++ (us ++ g.0)) g.1 = subst (λ z. IsCut false ((x ++ piece) ++ y) z g.1) (append_assoc l.lexemes us g.0) g.2 in
+    reports_joined e a.parser.last l.parsed.statements (ended_by g.1 (end_of a.parser (us ++ g.0))) (meaning_for a ((x ++ piece) ++ y)) l.parsed.place
+    (meaning_on a x ts l ((x ++ piece) ++ y) (us ++ g.0) g.1 cut)
+    (reports-taken e a.parser b.parser us g.0 o1 o2 g.1 h (reports-ended e b.parser.last g.1 (end_of b.parser g.0) (k g.0)))
 
 -- after its tokens stands something that is none
-pub broken-portion : (e : Refusal) (a : TurtleReader) (piece : List ℕ) (old new : List Token) (at : ℕ) → old ≡ []
-    → ((updates : Bool) (x : List ℕ) (ts : List Lexeme) → Leads updates a.lexer x ts → Breaks updates (x ++ piece) ts at old new)
-    → ((n : ℕ) → ReportsAfter a.parser.last e (ended_by (lexer.AtFault n) (end_of a.parser (lexemes_of new)))) → IsRefused a piece e
-broken-portion e a piece old new at n f h = λ x ts l y.
-    let b = f false x l.lexemes l.lexed in
-    let us = lexemes_of new in
-    let cut : IsCut false ((x ++ piece) ++ y) (l.lexemes ++ us) (lexer.AtFault at) =
-    subst (λ z. IsCut false ((x ++ piece) ++ y) (l.lexemes ++ z) (lexer.AtFault at)) (same-added old new b.added n b.given) (b.fault y) in
-    reports_joined e a.parser.last l.parsed.statements (ended_by (lexer.AtFault at) (end_of a.parser us)) (meaning_for a ((x ++ piece) ++ y)) l.parsed.place
-    (meaning_on a x ts l ((x ++ piece) ++ y) us (lexer.AtFault at) cut) (h at)
+pub broken-portion : (e : Refusal) (a : TurtleReader) (l m : PieceLexer) (q : Parser) (piece : List ℕ) (o1 o2 : List RdfTriple) → Holds a.lexer l piece → TakesAll false l m a.parser q o1 o2 stop.Fault
+    → ((n : ℕ) → ReportsAfter q.last e (ended_by (lexer.AtFault n) (end_of q []))) → IsRefused a piece e
+broken-portion e a l m q piece o1 o2 f t k = λ x ts h y.
+    let b = t.stops (x ++ piece) h.lexemes (f false x h.lexemes h.lexed) in
+    let end = lexer.AtFault b.place in
+    reports_joined e a.parser.last h.parsed.statements (ended_by end (end_of a.parser t.lexemes)) (meaning_for a ((x ++ piece) ++ y)) h.parsed.place
+    (meaning_on a x ts h ((x ++ piece) ++ y) t.lexemes end (b.cut y (no_end y))) (reports-last e a.parser q t.lexemes o1 o2 end t.taken (k b.place))
 
--- how the lexer ends a text
-abbrev pub Ends : TurtleReader → lexer.CutEnd → List Token → List Token → Type 0
-Ends a end old new = (x : List ℕ) (ts : List Lexeme) → Leads false a.lexer x ts → lexing.Finishes false x ts end old new
+-- the text that led to a reader ends
+at-end : (a : TurtleReader) (x : List ℕ) (ts : List RdfTriple) (l : LeadsTo a x ts) → Leads true false a.lexer x l.lexemes
+at-end a x ts l = stands-last false a.lexer.at (left_in a.lexer) x l.lexemes l.lexed
 
--- what a text says that ends there
-meaning_of-end : (a : TurtleReader) (end : lexer.CutEnd) (old new : List Token) → old ≡ [] → Ends a end old new → (x : List ℕ) (ts : List RdfTriple) (l : LeadsTo a x ts)
-    → meaning_for a x ≡ joined l.parsed.statements (ended_by end (end_of a.parser (lexemes_of new)))
-meaning_of-end a end old new n f x ts l =
-    let g = f x l.lexemes l.lexed in
-    meaning_on a x ts l x (lexemes_of new) end (subst (λ z. IsCut false x (l.lexemes ++ z) end) (same-added old new g.added n g.given) g.cut)
+-- and its last tokens have a fault
+pub refused-at-end : (e : Refusal) (a : TurtleReader) (m : PieceLexer) (q : Parser) (o1 o2 : List RdfTriple) → TakesAll true a.lexer m a.parser q o1 o2 stop.Read → ReportsAfter q.last e (end_of q [])
+    → IsRefusedAtEnd a e
+refused-at-end e a m q o1 o2 t h = λ x ts l.
+    reports_joined e a.parser.last l.parsed.statements (end_of a.parser t.lexemes) (meaning_for a x) l.parsed.place
+    (meaning_on a x ts l x t.lexemes lexer.AtEnd (t.stops x l.lexemes (at-end a x ts l))) (reports-last e a.parser q t.lexemes o1 o2 lexer.AtEnd t.taken h)
 
--- the text ends, and its last tokens have a fault or not
-pub refused-at-end : (e : Refusal) (a : TurtleReader) (end : lexer.CutEnd) (old new : List Token) → old ≡ [] → Ends a end old new
-    → ReportsAfter a.parser.last e (ended_by end (end_of a.parser (lexemes_of new))) → IsRefusedAtEnd a e
-refused-at-end e a end old new n f h = λ x ts l.
-    reports_joined e a.parser.last l.parsed.statements (ended_by end (end_of a.parser (lexemes_of new))) (meaning_for a x) l.parsed.place (meaning_of-end a end old new n f x ts l) h
+-- or something stands after them that is none
+pub broken-at-end : (e : Refusal) (a : TurtleReader) (m : PieceLexer) (q : Parser) (o1 o2 : List RdfTriple) → TakesAll true a.lexer m a.parser q o1 o2 stop.Fault
+    → ((n : ℕ) → ReportsAfter q.last e (ended_by (lexer.AtFault n) (end_of q []))) → IsRefusedAtEnd a e
+broken-at-end e a m q o1 o2 t k = λ x ts l.
+    let b = t.stops x l.lexemes (at-end a x ts l) in
+    let end = lexer.AtFault b.place in
+    let cut : IsCut false x (l.lexemes ++ t.lexemes) end = subst (λ z. IsCut false z (l.lexemes ++ t.lexemes) end) (append-nil x) (b.cut [] (λ _. refl)) in
+    reports_joined e a.parser.last l.parsed.statements (ended_by end (end_of a.parser t.lexemes)) (meaning_for a x) l.parsed.place
+    (meaning_on a x ts l x t.lexemes end cut) (reports-last e a.parser q t.lexemes o1 o2 end t.taken (k b.place))
 
-pub ends-whole : (a : TurtleReader) (p : Parser) (old new : List Token) (o1 o2 : List RdfTriple) → old ≡ [] → Ends a lexer.AtEnd old new → Concludes a.parser p (lexemes_of new) o1 o2
-    → Finishes meaning_for LeadsTo a o1 o2
-ends-whole a p old new o1 o2 n f h =
-    let t = end_of a.parser (lexemes_of new) in
+-- or the text has no fault
+pub ends-whole : (a : TurtleReader) (m : PieceLexer) (q : Parser) (o1 o2 : List RdfTriple) → TakesAll true a.lexer m a.parser q o1 o2 stop.Read → end_of q [] ≡ ([], Whole) → Finishes meaning_for LeadsTo a o1 o2
+ends-whole a m q o1 o2 t e =
+    let us = t.lexemes in
+    let stated = (transition_of a.parser us).1 in
+    let said : (x : List ℕ) (ts : List RdfTriple) (l : LeadsTo a x ts) → meaning_for a x ≡ joined l.parsed.statements (stated, Whole) =
+    λ x ts l. meaning_on a x ts l x us lexer.AtEnd (t.stops x l.lexemes (at-end a x ts l)) ∙ ap (joined l.parsed.statements) (ends-taken a.parser q us o1 o2 t.taken e) in
     record {
-      given = triples_of t.0;
-      grown = h.given;
-      whole = λ x ts l. ap (λ (s : Meaning). s.1) (meaning_of-end a lexer.AtEnd old new n f x ts l) ∙ h.whole;
-      all = λ x ts l. ap (λ (s : Meaning). triples_of s.0) (meaning_of-end a lexer.AtEnd old new n f x ts l) ∙ triples_of-append l.parsed.statements t.0 ∙ ap (λ z. z ++ triples_of t.0) (sym l.parsed.given);
+      given = triples_of stated;
+      grown = t.taken.given;
+      whole = λ x ts l. ap (λ (s : Meaning). s.1) (said x ts l);
+      all = λ x ts l. ap (λ (s : Meaning). triples_of s.0) (said x ts l) ∙ triples_of-append l.parsed.statements stated ∙ ap (λ z. z ++ triples_of stated) (sym l.parsed.given);
     }

@@ -1,16 +1,18 @@
 -- The tokens of a portion, one after another.
-use Rattle.std.proofs.Common.{◌≡◌, ◌≢◌, ℕ, ◌+◌, ◌<◌, List, [], ◌∷◌, ◌++◌, length, take, get_or, refl, sym, ap, subst, ◌∙◌, append_assoc, append-nil}
+use Rattle.std.proofs.Common.{◌≡◌, ◌≢◌, ℕ, Bool, true, false, List, [], ◌∷◌, ◌++◌, refl, sym, ap, subst, ◌∙◌, append_assoc, append-nil}
 use Rattle.std.specs.Prelude.{Result, Ok, Err, OnErr}
-use Rattle.std.proofs.lemmas.List.{map-append, take_more}
+use Rattle.std.proofs.lemmas.List.{map-append}
 use Rattle.gs_model.specs.Triples.{RdfTriple}
 use Rattle.gs_model.specs.declared.refusals.Refusal.{Refusal}
 use Rattle.gs_model.specs.declared.refusals.Refusal.TheVariants as refusal
 use Rattle.gs_machine.specs.Machines.{Begins, joined, steps, rest}
 use Rattle.gs_machine.proofs.MachineLemmas.{steps-append, steps-one, rest-append}
 use Rattle.gs_lex.specs.Tokens as lexer
-use Rattle.gs_lex.specs.Tokens.{Lexeme}
-use Rattle.gs_lex.specs.Lexemes.{lexeme_of, lexemes_of}
-use Rattle.gs_lex.specs.declared.tokens.Token.{Token}
+use Rattle.gs_lex.specs.Tokens.{Lexeme, IsCut}
+use Rattle.gs_lex.specs.Standing.{Awaits}
+use Rattle.gs_lex.specs.Pieces.{Leads, Advances, token_of}
+use Rattle.gs_lex.specs.declared.pieces.Advance.TheVariants as next
+use Rattle.gs_lex.specs.declared.pieces.PieceLexer.{PieceLexer}
 use Rattle.gs_model.specs.declared.faults.Fault.{Fault}
 use Rattle.gs_model.specs.declared.faults.Fault.TheVariants as fault
 use Rattle.gs_body.specs.Bodies.{Whole, Faulty, Meaning, Statement, triples_of, end_after}
@@ -22,7 +24,8 @@ use Rattle.gs_document.proofs.ReaderLemmas.{lost_rest}
 use Rattle.gs_parse.specs.Views.{state_of}
 use Rattle.gs_parse.specs.declared.parser.Parser.{Parser}
 use Rattle.gs_turtle.specs.Documents.{ended_by}
-use Rattle.gs_turtle.specs.Portions.{transition_of, end_of, Takes, Concludes, refusal_of, ReportsAfter}
+use Rattle.gs_turtle.specs.Portions.{transition_of, end_of, Takes, TakesAll, IsRead, refusal_of, ReportsAfter}
+use Rattle.gs_turtle.specs.declared.portions.Stop.TheVariants as stop
 
 -- no tokens
 pub takes-none : (p : Parser) (before : List RdfTriple) → Takes p p [] before before
@@ -55,52 +58,123 @@ takes-more a b c ts t o1 o2 o3 h p q r =
       last = r ∙ ap (λ z. end_after z u.1) h.last ∙ sym (end_after-append a.last old u.1) ∙ ap (λ (z : State × List Statement). end_after a.last z.1) (sym e);
     }
 
--- the next token of a list
-pub takes-next : (a b c : Parser) (xs : List Token) (n : ℕ) (t : Token) (o1 o2 o3 : List RdfTriple) → n < length xs → t ≡ get_or xs n t → Takes a b (lexemes_of (take n xs)) o1 o2
-    → state_of c ≡ (step (state_of b) (symbol_of (lexeme_of t))).0 → o3 ≡ o2 ++ triples_of (step (state_of b) (symbol_of (lexeme_of t))).1
-    → c.last ≡ end_after b.last (step (state_of b) (symbol_of (lexeme_of t))).1 → Takes a c (lexemes_of (take (n + 1) xs)) o1 o3
-takes-next a b c xs n t o1 o2 o3 l i h p q r =
-    let e : lexemes_of (take (n + 1) xs) ≡ lexemes_of (take n xs) ++ lexeme_of t ∷ [] =
-    ap lexemes_of (take_more xs n t l) ∙ map-append lexeme_of (take n xs) (get_or xs n t ∷ []) ∙ ap (λ (z : Token). lexemes_of (take n xs) ++ lexeme_of z ∷ []) (sym i) in
-    subst (λ (z : List Lexeme). Takes a c z o1 o3) (sym e) (takes-more a b c (lexemes_of (take n xs)) (lexeme_of t) o1 o2 o3 h p q r)
+-- Some tokens were cut and taken so far; each text that led to the lexer leads on, with those more.
+pub record TakesFront (is_end : Bool) (l m : PieceLexer) (p q : Parser) (before after : List RdfTriple) : Type 0 where
+  pub lexemes : List Lexeme
+  pub taken : Takes p q lexemes before after
+  pub leads : (x : List ℕ) (ts : List Lexeme) → Leads is_end false l x ts → Leads is_end false m x (ts ++ lexemes)
+
+-- none so far
+pub front-none : (is_end : Bool) (l : PieceLexer) (p : Parser) (before : List RdfTriple) → TakesFront is_end l l p p before before
+front-none is_end l p before = record { lexemes = []; taken = takes-none p before; leads = λ x ts h. subst (Leads is_end false l x) (sym (append-nil ts)) h }
+
+-- the lexer cut one more, which the parser took
+pub front-more : (is_end : Bool) (l m n : PieceLexer) (p q r : Parser) (t : Lexeme) (o1 o2 o3 : List RdfTriple) → TakesFront is_end l m p q o1 o2 → Advances is_end m n next.Token → t ≡ token_of n
+    → state_of r ≡ (step (state_of q) (symbol_of t)).0 → o3 ≡ o2 ++ triples_of (step (state_of q) (symbol_of t)).1 → r.last ≡ end_after q.last (step (state_of q) (symbol_of t)).1
+    → TakesFront is_end l n p r o1 o3
+front-more is_end l m n p q r t o1 o2 o3 h f e a b c = record {
+  lexemes = h.lexemes ++ t ∷ [];
+  taken = takes-more p q r h.lexemes t o1 o2 o3 h.taken a b c;
+  leads = λ x ts k.
+      subst (Leads is_end false n x) (append_assoc ts h.lexemes (t ∷ []))
+      (subst (λ (u : Lexeme). Leads is_end false n x ((ts ++ h.lexemes) ++ u ∷ [])) (sym e) (f false x (ts ++ h.lexemes) (h.leads x ts k)));
+}
+
+-- no token comes more, since something stands there that is none
+pub all-broken : (is_end : Bool) (l m n : PieceLexer) (p q : Parser) (at : ℕ) (o1 o2 : List RdfTriple) → TakesFront is_end l m p q o1 o2 → Advances is_end m n (next.Fault at) → TakesAll is_end l n p q o1 o2 stop.Fault
+all-broken is_end l m n p q at o1 o2 h f = record {
+  lexemes = h.lexemes;
+  taken = h.taken;
+  stops = λ x ts k. record { place = at; cut = f false x (ts ++ h.lexemes) (h.leads x ts k) };
+}
+
+-- or since the text goes on
+pub all-waits : (is_end : Bool) (l m n : PieceLexer) (p q : Parser) (o1 o2 : List RdfTriple) → TakesFront is_end l m p q o1 o2 → Advances is_end m n next.Wait → TakesAll is_end l n p q o1 o2 stop.Read
+all-waits is_end l m n p q o1 o2 h f = record {
+  lexemes = h.lexemes;
+  taken = h.taken;
+  stops = λ x ts k. let g = f false x (ts ++ h.lexemes) (h.leads x ts k) in read_open is_end x (ts ++ h.lexemes) g.0 g.1;
+}
+  where
+    read_open : (b : Bool) (x : List ℕ) (us : List Lexeme) → b ≡ false → Leads b false n x us × Awaits false x us → IsRead b n x us
+    read_open false x us e g = g
+    read_open true x us e g = absurd (Prim.cc e)
+
+-- or since it ends
+pub all-ends : (is_end : Bool) (l m n : PieceLexer) (p q : Parser) (o1 o2 : List RdfTriple) → TakesFront is_end l m p q o1 o2 → Advances is_end m n next.End → TakesAll is_end l n p q o1 o2 stop.Read
+all-ends is_end l m n p q o1 o2 h f = record {
+  lexemes = h.lexemes;
+  taken = h.taken;
+  stops = λ x ts k. let g = f false x (ts ++ h.lexemes) (h.leads x ts k) in read_end is_end x (ts ++ h.lexemes) g.0 g.1;
+}
+  where
+    read_end : (b : Bool) (x : List ℕ) (us : List Lexeme) → b ≡ true → IsCut false x us lexer.AtEnd → IsRead b n x us
+    read_end true x us e g = g
+    read_end false x us e g = absurd (Prim.cc e)
 
 -- a fault by its refusal
 pub reports-fault : (f : Fault) (last n : ℕ) (t : Meaning) → t.1 ≡ Faulty f → n ≡ end_after last t.0 → ReportsAfter last (refusal_of n f) t
 reports-fault fault.Syntax last n t p q = (p, q)
 reports-fault fault.TermTooLong last n t p q = p
 
--- where the parser is lost, whatever follows says nothing more
-pub lost-reports : (a b : Parser) (ts us : List Lexeme) (o1 o2 : List RdfTriple) (f : Fault) → Takes a b ts o1 o2 → state_of b ≡ lost f → ReportsAfter a.last (refusal_of b.last f) (end_of a (ts ++ us))
-lost-reports a b ts us o1 o2 f h e =
-    let old = (transition_of a ts).1 in
-    let all : end_of a (ts ++ us) ≡ (old, Faulty f) =
+-- what tokens and more tokens state, and how the text ends
+taken-end : (a b : Parser) (ts us : List Lexeme) (o1 o2 : List RdfTriple) → Takes a b ts o1 o2 → end_of a (ts ++ us) ≡ joined (transition_of a ts).1 (end_of b us)
+taken-end a b ts us o1 o2 h =
     ap (rest turtle (state_of a)) (map-append symbol_of ts us) ∙ rest-append turtle (state_of a) (symbols_of ts) (symbols_of us)
-    ∙ ap (λ (z : State). joined old (rest turtle z (symbols_of us))) (sym h.state ∙ e) ∙ ap (joined old) (lost_rest f (symbols_of us)) ∙ ap (λ z. (z, Faulty f)) (append-nil old) in
-    reports-fault f a.last b.last (end_of a (ts ++ us)) (ap (λ (z : Meaning). z.1) all) (h.last ∙ ap (λ (z : Meaning). end_after a.last z.0) (sym all))
+    ∙ ap (λ (z : State). joined (transition_of a ts).1 (rest turtle z (symbols_of us))) (sym h.state)
+
+-- what was stated before does not change how a text ends
+pub ended-joined : (e : lexer.CutEnd) (ss : List Statement) (t : Meaning) → ended_by e (joined ss t) ≡ joined ss (ended_by e t)
+ended-joined lexer.AtEnd ss t = refl
+ended-joined (lexer.AtFault n) ss (rs, Whole) = refl
+ended-joined (lexer.AtFault n) ss (rs, Faulty f) = refl
+
+reports-after : (e : Refusal) (last later : ℕ) (ss : List Statement) (t : Meaning) → later ≡ end_after last ss → ReportsAfter later e t → ReportsAfter last e (joined ss t)
+reports-after (refusal.Syntax at) last later ss t p h = (h.0, h.1 ∙ ap (λ n. end_after n t.0) p ∙ sym (end_after-append last ss t.0))
+reports-after refusal.TermTooLong last later ss t p h = h
+reports-after refusal.NoMemory last later ss t p h = h
+reports-after refusal.Closed last later ss t p h = h
+reports-after refusal.WrongPhase last later ss t p h = h
+reports-after refusal.BadSeat last later ss t p h = h
+reports-after refusal.LastNumber last later ss t p h = h
+reports-after refusal.StoreFull last later ss t p h = h
+reports-after refusal.NotInProfile last later ss t p h = h
+
+-- what a refusal reports after some tokens it reports of them and the others
+pub reports-taken : (e : Refusal) (a b : Parser) (ts us : List Lexeme) (o1 o2 : List RdfTriple) (end : lexer.CutEnd) → Takes a b ts o1 o2 → ReportsAfter b.last e (ended_by end (end_of b us))
+    → ReportsAfter a.last e (ended_by end (end_of a (ts ++ us)))
+reports-taken e a b ts us o1 o2 end h r =
+    let ss = (transition_of a ts).1 in
+    let all : ended_by end (end_of a (ts ++ us)) ≡ joined ss (ended_by end (end_of b us)) = ap (ended_by end) (taken-end a b ts us o1 o2 h) ∙ ended-joined end ss (end_of b us) in
+    subst (ReportsAfter a.last e) (sym all) (reports-after e a.last b.last ss (ended_by end (end_of b us)) h.last r)
+
+-- so it does where no other comes
+pub reports-last : (e : Refusal) (a b : Parser) (ts : List Lexeme) (o1 o2 : List RdfTriple) (end : lexer.CutEnd) → Takes a b ts o1 o2 → ReportsAfter b.last e (ended_by end (end_of b []))
+    → ReportsAfter a.last e (ended_by end (end_of a ts))
+reports-last e a b ts o1 o2 end h r = subst (λ z. ReportsAfter a.last e (ended_by end (end_of a z))) (append-nil ts) (reports-taken e a b ts [] o1 o2 end h r)
+
+-- the text ends after some tokens, and has no fault
+pub ends-taken : (a b : Parser) (ts : List Lexeme) (o1 o2 : List RdfTriple) → Takes a b ts o1 o2 → end_of b [] ≡ ([], Whole) → end_of a ts ≡ ((transition_of a ts).1, Whole)
+ends-taken a b ts o1 o2 h e =
+    let old = (transition_of a ts).1 in
+    ap (end_of a) (sym (append-nil ts)) ∙ taken-end a b ts [] o1 o2 h ∙ ap (joined old) e ∙ ap (λ z. (z, Whole)) (append-nil old)
+
+-- where the parser is lost, whatever follows says nothing more
+pub lost-reports : (p : Parser) (us : List Lexeme) (f : Fault) → state_of p ≡ lost f → ReportsAfter p.last (refusal_of p.last f) (end_of p us)
+lost-reports p us f e =
+    let all : end_of p us ≡ ([], Faulty f) = ap (λ (z : State). rest turtle z (symbols_of us)) e ∙ lost_rest f (symbols_of us) in
+    reports-fault f p.last p.last (end_of p us) (ap (λ (z : Meaning). z.1) all) (ap (λ (z : Meaning). end_after p.last z.0) (sym all))
 
 -- the text ends there
-end-is : (a b : Parser) (ts : List Lexeme) (o1 o2 : List RdfTriple) → Takes a b ts o1 o2 → end_of a ts ≡ ((transition_of a ts).1, ended (state_of b))
+pub ends-here : (p : Parser) → end_of p [] ≡ ([], ended (state_of p))
 unfolding rest
-end-is a b ts o1 o2 h =
-    let old = (transition_of a ts).1 in
-    ap (rest turtle (state_of a)) (sym (append-nil (symbols_of ts))) ∙ rest-append turtle (state_of a) (symbols_of ts) []
-    ∙ ap (λ (z : State). joined old (rest turtle z [])) (sym h.state) ∙ ap (λ z. (z, ended (state_of b))) (append-nil old)
-
--- without a fault
-pub concludes : (a b : Parser) (ts : List Lexeme) (o1 o2 : List RdfTriple) → Takes a b ts o1 o2 → Whole ≡ ended (state_of b) → Concludes a b ts o1 o2
-concludes a b ts o1 o2 h e =
-    let all = end-is a b ts o1 o2 h in
-    record {
-      whole = ap (λ (z : Meaning). z.1) all ∙ sym e;
-      given = h.given ∙ ap (λ (z : Meaning). o1 ++ triples_of z.0) (sym all);
-      last = h.last ∙ ap (λ (z : Meaning). end_after a.last z.0) (sym all);
-    }
+ends-here p = refl
 
 -- with a fault
-pub ends-faulty : (a b : Parser) (ts : List Lexeme) (o1 o2 : List RdfTriple) (f : Fault) → Takes a b ts o1 o2 → Faulty f ≡ ended (state_of b) → ReportsAfter a.last (refusal_of b.last f) (end_of a ts)
-ends-faulty a b ts o1 o2 f h e =
-    let all = end-is a b ts o1 o2 h in
-    reports-fault f a.last b.last (end_of a ts) (ap (λ (z : Meaning). z.1) all ∙ sym e) (h.last ∙ ap (λ (z : Meaning). end_after a.last z.0) (sym all))
+pub ends-faulty : (p : Parser) (f : Fault) → Faulty f ≡ ended (state_of p) → ReportsAfter p.last (refusal_of p.last f) (end_of p [])
+ends-faulty p f e =
+    let all = ends-here p in
+    reports-fault f p.last p.last (end_of p []) (ap (λ (z : Meaning). z.1) all ∙ sym e) (ap (λ (z : Meaning). end_after p.last z.0) (sym all))
 
 -- the first fault of all is that of the tokens, where they have one
 pub reports-ended : (e : Refusal) (last : ℕ) (end : lexer.CutEnd) (t : Meaning) → ReportsAfter last e t → ReportsAfter last e (ended_by end t)
@@ -117,9 +191,8 @@ reports-ended refusal.NotInProfile last (lexer.AtFault n) (ss, Whole) h = h
 reports-ended refusal.Closed last (lexer.AtFault n) (ss, Whole) h = h
 
 -- and else that after them
-pub reports-broken : (last m n : ℕ) (t : Meaning) → t.1 ≡ Whole → m ≡ end_after last t.0 → ReportsAfter last (refusal.Syntax m) (ended_by (lexer.AtFault n) t)
-reports-broken last m n (ss, Whole) p q = (refl, q)
-reports-broken last m n (ss, Faulty f) p q = absurd (Prim.cc p)
+pub reports-broken : (last n : ℕ) (t : Meaning) → t ≡ ([], Whole) → ReportsAfter last (refusal.Syntax last) (ended_by (lexer.AtFault n) t)
+reports-broken last n t e = subst (λ (z : Meaning). ReportsAfter last (refusal.Syntax last) (ended_by (lexer.AtFault n) z)) (sym e) (refl, refl)
 
 -- what reports a fault is not that an earlier call was refused
 pub reports-open : (e : Refusal) (last : ℕ) (t : Meaning) → ReportsAfter last e t → e ≢ refusal.Closed

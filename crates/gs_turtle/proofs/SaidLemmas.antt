@@ -11,8 +11,9 @@ use Rattle.gs_lex.specs.Tokens.{Lexeme, IsCut}
 use Rattle.gs_lex.specs.Cuts.{cut_of}
 use Rattle.gs_lex.specs.Lexers as lexing
 use Rattle.gs_lex.specs.Lexers.{MayGoQuietly}
+use Rattle.gs_lex.specs.Pieces.{left_in}
 use Rattle.gs_lex.proofs.OneCutLemmas.{cut-one}
-use Rattle.gs_lex.proofs.CutLemmas.{cut-from, leads-goes-on}
+use Rattle.gs_lex.proofs.CutLemmas.{cut-from, stands-goes-on}
 use Rattle.gs_blank.specs.Numbers.{no_numbers}
 use Rattle.gs_body.specs.Bodies.{Whole, Faulty, Meaning, Statement, Reports, triples_of, end_after}
 use Rattle.gs_body.proofs.LeadingLemmas.{led-meaning, triples_of-append, end_after-append}
@@ -27,13 +28,8 @@ use Rattle.gs_turtle.specs.Documents.{ended_by, meaning_by}
 use Rattle.gs_turtle.specs.Portions.{end_of, ReportsAfter}
 use Rattle.gs_turtle.specs.Readers.{unread, LeadsTo, meaning_for}
 use Rattle.gs_turtle.specs.declared.readers.TurtleReader.{TurtleReader}
+use Rattle.gs_turtle.proofs.PortionLemmas.{ended-joined}
 use Rattle.gs_turtle.proofs.QuietLemmas.{quiet_end}
-
--- what was stated before does not change how a text ends
-ended-joined : (e : lexer.CutEnd) (ss : List Statement) (t : Meaning) → ended_by e (joined ss t) ≡ joined ss (ended_by e t)
-ended-joined lexer.AtEnd ss t = refl
-ended-joined (lexer.AtFault n) ss (rs, Whole) = refl
-ended-joined (lexer.AtFault n) ss (rs, Faulty f) = refl
 
 -- the end of a text changes nothing of what it states
 pub ended-states : (e : lexer.CutEnd) (t : Meaning) → (ended_by e t).0 ≡ t.0
@@ -78,7 +74,7 @@ reports_joined refusal.NotInProfile last ss t s p q h = h
 -- what was given is a front of what is said
 pub begun : (a : TurtleReader) (x : List ℕ) (ts : List RdfTriple) → LeadsTo a x ts → (y : List ℕ) → Begins (triples_of (meaning_for a (x ++ y)).0) ts
 begun a x ts l y =
-    let g = leads-goes-on false a.lexer x l.lexemes l.lexed y in
+    let g = stands-goes-on false a.lexer.at (left_in a.lexer) x l.lexemes l.lexed y in
     let t = ended_by g.1 (end_of a.parser g.0) in (
       triples_of t.0,
       ap (λ (s : Meaning). triples_of s.0) (meaning_on a x ts l (x ++ y) g.0 g.1 g.2) ∙ triples_of-append l.parsed.statements t.0 ∙ ap (λ z. z ++ triples_of t.0) (sym l.parsed.given),

@@ -6,7 +6,7 @@ use Rattle.gs_machine.specs.Machines.{AreSettled}
 use Rattle.gs_machine.specs.Utf8.{IsLongestFront}
 use Rattle.gs_blank.specs.Numbers.{no_numbers}
 use Rattle.gs_lex.specs.Tokens.{Lexeme}
-use Rattle.gs_lex.specs.Lexers.{Leads}
+use Rattle.gs_lex.specs.Pieces.{Leads}
 use Rattle.gs_body.specs.Bodies.{Meaning, Reports, triples_of}
 use Rattle.gs_body.specs.Leading.{IsLed}
 use Rattle.gs_triples.specs.Symbols.{symbols_of}
@@ -21,11 +21,11 @@ use Rattle.gs_turtle.specs.declared.readers.TurtleReader.{TurtleReader}
 abbrev pub unread : TurtleReader → State
 unread r = Between (start (string_bytes r.base) r.request) no_numbers
 
--- The text x leads a new reader to this one: its lexer has given these tokens of x, and they lead its parser there,
+-- The text x leads a new reader to this one: its lexer has cut these tokens of x, and they lead its parser there,
 -- and to having given the triples ts.
 pub record LeadsTo (reader : TurtleReader) (x : List ℕ) (ts : List RdfTriple) : Type 0 where
   pub lexemes : List Lexeme
-  pub lexed : Leads false reader.lexer x lexemes
+  pub lexed : Leads false false reader.lexer x lexemes
   pub parsed : IsLed turtle (unread reader) (state_of reader.parser) reader.parser.last (symbols_of lexemes) ts
 
 -- what a whole text says

@@ -1,32 +1,46 @@
-//! The tokens of a portion.
-ghost use Rattle.std.specs.Prelude.{◌≡◌, ◌++◌, OnOk, OnErr, IfErr, ℕ, List};
+//! The tokens of a portion, and what a parser says after them.
+ghost use Rattle.std.specs.Prelude.{◌≡◌, [], OnOk, OnErr, IfOk, IfErr, ℕ, List};
 ghost use Rattle.gs_machine.specs.Machines.{Begins};
 ghost use Rattle.gs_lex.specs.Tokens.{Lexeme};
 ghost use Rattle.gs_lex.specs.Tokens as lexer;
-ghost use Rattle.gs_lex.specs.Lexemes.{lexemes_of};
+ghost use Rattle.gs_body.specs.Bodies.{Whole};
 ghost use Rattle.gs_turtle.specs.Documents.{ended_by};
-ghost use Rattle.gs_turtle.specs.Portions.{Takes, Concludes, ReportsAfter, refusal_of, end_of};
+ghost use Rattle.gs_turtle.specs.Portions.{TakesAll, ReportsAfter, refusal_of, end_of};
 
-use gs_lex::Token;
+use gs_lex::{Advance, PieceLexer};
 use gs_model::{Fault, Refusal};
 use gs_parse::Parser;
 use gs_term::Triple;
 use std::alloc::AllocError;
 
-/// Token by token.
-fn take_tokens(
+/// Why no token comes next.
+#[derive(Clone, Copy, Debug)]
+pub enum Stop {
+    /// All that is there was read: the rest comes with the next portion, or the text ends.
+    Read,
+    /// Something stands there that is no token.
+    Fault,
+}
+
+/// Token by token: all that no more text can change, or, at the end of the text, all.
+pub fn take_tokens(
+    lexer: &mut PieceLexer,
     parser: &mut Parser,
-    tokens: &[Token],
+    is_end: bool,
     triples: &mut Vec<Triple>,
-) -> Result<(), AllocError>
-    ensures ok { OnOk result (Takes parser.old parser.new (lexemes_of tokens.now)
+) -> Result<Stop, AllocError>
+    ensures ok { IfOk result (TakesAll is_end lexer.old lexer.new parser.old parser.new
         triples.old.items triples.new.items) }
     ensures err { OnErr result (Begins triples.new.items triples.old.items) }
 {
-    for token in tokens {
-        parser.step(token, triples)?;
+    'tokens: loop {
+        match lexer.advance(is_end) {
+            Advance::Token => parser.step(lexer.token(), triples)?,
+            Advance::Fault(_) => return Ok(Stop::Fault),
+            Advance::Wait => return Ok(Stop::Read),
+            Advance::End => return Ok(Stop::Read),
+        }
     }
-    Ok(())
 }
 
 /// The refusal that reports a fault.
@@ -39,51 +53,33 @@ fn refusal(parser: &Parser, fault: Fault) -> Refusal
     }
 }
 
-/// Tokens after which the text goes on.
-pub fn go_on(
-    parser: &mut Parser,
-    tokens: &[Token],
-    triples: &mut Vec<Triple>,
-) -> Result<(), Refusal>
-    ensures ok { OnOk result (Takes parser.old parser.new (lexemes_of tokens.now)
-        triples.old.items triples.new.items) }
-    ensures err { OnErr result (Begins triples.new.items triples.old.items) }
-    ensures fault { IfErr result (λ e. (us : List Lexeme)
-        → ReportsAfter parser.old.last e (end_of parser.old (lexemes_of tokens.now ++ us))) }
+/// After tokens after which the text goes on.
+pub fn go_on(parser: &Parser) -> Result<(), Refusal>
+    ensures { IfErr result (λ e. (us : List Lexeme) → ReportsAfter parser.now.last e (end_of parser.now us)) }
 {
-    take_tokens(parser, tokens, triples)?;
     match parser.fault() {
         None => Ok(()),
         Some(fault) => Err(refusal(parser, fault)),
     }
 }
 
-/// Tokens after which the text ends.
-pub fn conclude(
-    parser: &mut Parser,
-    tokens: &[Token],
-    triples: &mut Vec<Triple>,
-) -> Result<(), Refusal>
-    ensures ok { OnOk result (Concludes parser.old parser.new (lexemes_of tokens.now)
-        triples.old.items triples.new.items) }
-    ensures err { OnErr result (Begins triples.new.items triples.old.items) }
-    ensures fault { IfErr result (λ e. ReportsAfter parser.old.last e
-        (end_of parser.old (lexemes_of tokens.now))) }
+/// After tokens after which the text ends.
+pub fn conclude(parser: &Parser) -> Result<(), Refusal>
+    ensures ok { OnOk result (end_of parser.now [] ≡ ([], Whole)) }
+    ensures fault { IfErr result (λ e. ReportsAfter parser.now.last e (end_of parser.now [])) }
 {
-    take_tokens(parser, tokens, triples)?;
     match parser.end()? {
         Ok(()) => Ok(()),
         Err(fault) => Err(refusal(parser, fault)),
     }
 }
 
-/// Tokens after which stands something that is none: the first fault of all.
-pub fn break_off(parser: &mut Parser, tokens: &[Token], triples: &mut Vec<Triple>) -> Refusal
-    ensures kept { Begins triples.new.items triples.old.items }
-    ensures fault { (n : ℕ) → ReportsAfter parser.old.last result
-        (ended_by (lexer.AtFault n) (end_of parser.old (lexemes_of tokens.now))) }
+/// After tokens after which stands something that is none: the first fault of all.
+pub fn break_off(parser: &Parser) -> Refusal
+    ensures { (n : ℕ) → ReportsAfter parser.now.last result
+        (ended_by (lexer.AtFault n) (end_of parser.now [])) }
 {
-    match conclude(parser, tokens, triples) {
+    match conclude(parser) {
         Ok(()) => Refusal::Syntax(parser.last),
         Err(refusal) => refusal,
     }

@@ -2,16 +2,16 @@
 ghost use Rattle.std.specs.Prelude.{◌≡◌, ◌≢◌, [], false, true, OnOk, OnErr, IfOk, IfErr, List, ℕ};
 ghost use Rattle.gs_model.specs.Iris.{is_absolute};
 
-use crate::portions::{break_off, conclude, go_on};
+use crate::portions::{Stop, break_off, conclude, go_on, take_tokens};
 use gs_body::BodyReader;
-use gs_lex::{Lexer, Token};
+use gs_lex::PieceLexer;
 use gs_model::Refusal;
 use gs_parse::Parser;
 use gs_term::Triple;
 use std::alloc::{AllocError, Global};
 
-/// The most bytes of a piece that are cut into tokens at once, so that the tokens of a long piece
-/// never stand in memory together.
+/// The most bytes of a piece that a lexer takes at once, so that what it holds does not grow with
+/// the piece.
 const PORTION: usize = 4096;
 
 /// Reads a body of Turtle (25 February 2014) that comes in any pieces.
@@ -19,8 +19,7 @@ const PORTION: usize = 4096;
 pub struct TurtleReader {
     request: u64,
     base: String,
-    lexer: Lexer,
-    tokens: Vec<Token>,
+    lexer: PieceLexer,
     parser: Parser,
     is_closed: bool,
 }
@@ -42,8 +41,7 @@ impl TurtleReader {
         Ok(TurtleReader {
             request,
             base: String::from_str(alloc, base)?,
-            lexer: Lexer::new(alloc, false),
-            tokens: Vec::new(alloc),
+            lexer: PieceLexer::new(alloc, false),
             parser: Parser::new(alloc, base, request)?,
             is_closed: false,
         })
@@ -57,12 +55,10 @@ impl TurtleReader {
         ensures reported { IfErr result (λ e. e ≢ Refusal.Closed) }
         ensures kept { Keeps self.old self.new }
     {
-        self.tokens.clear();
-        match self.lexer.feed(portion, &mut self.tokens) {
-            Ok(()) => go_on(&mut self.parser, &self.tokens, triples),
-            Err(Refusal::Syntax(_)) => Err(break_off(&mut self.parser, &self.tokens, triples)),
-            // An open lexer is refused for nothing but a fault and memory.
-            Err(_) => Err(Refusal::NoMemory),
+        self.lexer.hold(portion)?;
+        match take_tokens(&mut self.lexer, &mut self.parser, false, triples)? {
+            Stop::Read => go_on(&self.parser),
+            Stop::Fault => Err(break_off(&self.parser)),
         }
     }
 
@@ -90,11 +86,9 @@ impl TurtleReader {
         ensures fault { IfErr result (IsRefusedAtEnd self.old) }
         ensures reported { IfErr result (λ e. e ≢ Refusal.Closed) }
     {
-        self.tokens.clear();
-        match self.lexer.finish(&mut self.tokens) {
-            Ok(()) => conclude(&mut self.parser, &self.tokens, triples),
-            Err(Refusal::Syntax(_)) => Err(break_off(&mut self.parser, &self.tokens, triples)),
-            Err(_) => Err(Refusal::NoMemory),
+        match take_tokens(&mut self.lexer, &mut self.parser, true, triples)? {
+            Stop::Read => conclude(&self.parser),
+            Stop::Fault => Err(break_off(&self.parser)),
         }
     }
 }

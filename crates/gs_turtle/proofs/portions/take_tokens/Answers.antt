@@ -1,18 +1,20 @@
-use Rattle.std.specs.Prelude.{take}
-use Rattle.gs_lex.specs.Lexemes.{lexemes_of}
-use Rattle.gs_turtle.proofs.PortionLemmas.{takes-none, takes-next, begins-taken}
+use Rattle.gs_lex.specs.Lexemes.{lexeme_of_borrowed}
+use Rattle.gs_turtle.proofs.PortionLemmas.{front-none, front-more, all-waits, all-ends}
 use Rattle.gs_turtle.proofs.portions.take_tokens.Goals as goal
 
-pub loop-token-init : goal.loop-token-init
-loop-token-init c = takes-none c.args.parser.now c.args.triples.now.items
+pub tokens-init : goal.tokens-init
+tokens-init c = front-none c.args.is_end c.args.lexer.now c.args.parser.now c.args.triples.now.items
 
-pub loop-token-preserved : goal.loop-token-preserved
-loop-token-preserved c =
-    let e = c.in_ok-step.ensures in
-    takes-next c.args.parser.now c.loop-token.parser c.step.new.self c.args.tokens.now c.loop-token.token-index c.token-item.result
-    c.args.triples.now.items c.loop-token.triples.items c.step.new.triples.items c.loop-token-test.true c.token-item.is c.loop-token.invariant e.state e.given e.last
+pub tokens-preserved : goal.tokens-preserved
+tokens-preserved c =
+    let e = c.in_ok-step-in-Token.ensures in
+    front-more c.args.is_end c.args.lexer.now c.tokens.lexer c.advance.new.self c.args.parser.now c.tokens.parser c.step.new.self (lexeme_of_borrowed c.token.result)
+    c.args.triples.now.items c.tokens.triples.items c.step.new.triples.items c.tokens.invariant c.in-Token.ensures.next c.token.ensures e.state e.given e.last
 
-pub returns-in_err-step-clause-err : goal.returns-in_err-step-clause-err
-returns-in_err-step-clause-err c =
-    begins-taken c.from_residual.result c.args.parser.now c.loop-token.parser (lexemes_of (take c.loop-token.token-index c.args.tokens.now))
-    c.args.triples.now.items c.loop-token.triples.items c.step.new.triples.items c.loop-token.invariant c.in_err-step.ensures.err
+pub returns-in-Wait-clause-ok : goal.returns-in-Wait-clause-ok
+returns-in-Wait-clause-ok c =
+    all-waits c.args.is_end c.args.lexer.now c.tokens.lexer c.advance.new.self c.args.parser.now c.tokens.parser c.args.triples.now.items c.tokens.triples.items c.tokens.invariant c.in-Wait.ensures.next
+
+pub returns-in-End-clause-ok : goal.returns-in-End-clause-ok
+returns-in-End-clause-ok c =
+    all-ends c.args.is_end c.args.lexer.now c.tokens.lexer c.advance.new.self c.args.parser.now c.tokens.parser c.args.triples.now.items c.tokens.triples.items c.tokens.invariant c.in-End.ensures.next

@@ -1,48 +1,52 @@
-use Rattle.std.proofs.Common.{List, [], ◌++◌, refl, subst}
-use Rattle.std.proofs.lemmas.Result.{on_ok_weaker, IfErr-weaker}
+use Rattle.std.proofs.Common.{refl, []}
+use Rattle.std.specs.Prelude.{Result, Ok, Err, OnOk}
+use Rattle.std.proofs.lemmas.Result.{IfErr-weaker}
 use Rattle.gs_lex.specs.Tokens as lexer
-use Rattle.gs_lex.specs.Tokens.{Lexeme}
-use Rattle.gs_lex.specs.Lexemes.{lexemes_of}
-use Rattle.gs_lex.specs.Lexers.{FeedRefused}
-use Rattle.gs_lex.specs.declared.tokens.Token.{Token}
 use Rattle.gs_turtle.specs.Documents.{ended_by}
-use Rattle.gs_turtle.specs.Portions.{end_of, Takes, ReportsAfter}
+use Rattle.gs_turtle.specs.Portions.{end_of}
 use Rattle.gs_turtle.proofs.PortionLemmas.{reports-open}
-use Rattle.gs_turtle.proofs.HistoryLemmas.{reads-portion, refused-portion, broken-portion}
+use Rattle.gs_turtle.proofs.HistoryLemmas.{lexes-held, reads-portion, refused-portion, broken-portion}
+use Rattle.gs_turtle.specs.declared.readers.TurtleReader.{TurtleReader}
 use Rattle.gs_turtle.proofs.readers.TurtleReader.take_portion.Goals as goal
 
-pub returns-in-Ok-clause-ok : goal.returns-in-Ok-clause-ok
-returns-in-Ok-clause-ok c =
+always_ok : {T E P : Type 0} (r : Result T E) → P → OnOk r P
+always_ok (Ok x) p = p
+always_ok (Err e) p = tt
+
+pub returns-in-Read-clause-ok : goal.returns-in-Read-clause-ok
+returns-in-Read-clause-ok c =
     let a = c.args.self.now in
-    on_ok_weaker c.go_on.result
-    (λ taken. reads-portion a _ c.args.portion.now c.clear.new.self.items c.feed.new.tokens.items c.args.triples.now.items c.go_on.new.triples.items
-    c.clear.ensures.items (record { base = refl; request = refl; closed = refl }) c.in-Ok.ensures.ok
-    (subst (λ (z : List Token). Takes a.parser c.go_on.new.parser (lexemes_of z) c.args.triples.now.items c.go_on.new.triples.items) c.deref.ensures.value taken))
-    c.go_on.ensures.ok
+    let b : TurtleReader = record a { lexer = c.take_tokens.new.lexer; parser = c.take_tokens.new.parser } in
+    let piece = c.args.portion.now in
+    let old = c.args.triples.now.items in
+    let new = c.take_tokens.new.triples.items in
+    let t = rw c.in-Read.is at c.in_ok-take_tokens.ensures.ok in
+    let f = lexes-held a b c.hold.new.self a.parser b.parser piece old new c.in_ok-hold.ensures t in
+    always_ok c.go_on.result (reads-portion a b piece t.lexemes old new (record { base = refl; request = refl; closed = refl }) f t.taken)
 
-pub returns-in-Ok-clause-fault : goal.returns-in-Ok-clause-fault
-returns-in-Ok-clause-fault c =
+pub returns-in-Read-clause-fault : goal.returns-in-Read-clause-fault
+returns-in-Read-clause-fault c =
     let a = c.args.self.now in
-    IfErr-weaker c.go_on.result _ _
-    (λ e reported. refused-portion e a (record a { lexer = c.feed.new.self }) c.args.portion.now c.clear.new.self.items c.feed.new.tokens.items c.clear.ensures.items c.in-Ok.ensures.ok
-    (subst (λ (z : List Token). (us : List Lexeme) → ReportsAfter a.parser.last e (end_of a.parser (lexemes_of z ++ us))) c.deref.ensures.value reported))
-    c.go_on.ensures.fault
+    let b : TurtleReader = record a { lexer = c.take_tokens.new.lexer; parser = c.take_tokens.new.parser } in
+    let piece = c.args.portion.now in
+    let old = c.args.triples.now.items in
+    let new = c.take_tokens.new.triples.items in
+    let t = rw c.in-Read.is at c.in_ok-take_tokens.ensures.ok in
+    let f = lexes-held a b c.hold.new.self a.parser b.parser piece old new c.in_ok-hold.ensures t in
+    IfErr-weaker c.go_on.result _ _ (λ e k. refused-portion e a b piece t.lexemes old new f t.taken k) c.go_on.ensures
 
-pub returns-in-Ok-clause-reported : goal.returns-in-Ok-clause-reported
-returns-in-Ok-clause-reported c =
-    let p = c.args.self.now.parser in
-    IfErr-weaker c.go_on.result _ _ (λ e reported. reports-open e p.last (end_of p (lexemes_of c.deref.result.now ++ [])) (reported [])) c.go_on.ensures.fault
+pub returns-in-Read-clause-reported : goal.returns-in-Read-clause-reported
+returns-in-Read-clause-reported c =
+    let p = c.take_tokens.new.parser in
+    IfErr-weaker c.go_on.result _ _ (λ e k. reports-open e p.last (end_of p []) (k [])) c.go_on.ensures
 
-pub returns-in-Err-Syntax-clause-fault : goal.returns-in-Err-Syntax-clause-fault
-returns-in-Err-Syntax-clause-fault c =
-    let a = c.args.self.now in
-    let old = c.clear.new.self.items in
-    let new = c.feed.new.tokens.items in
-    broken-portion c.break_off.result a c.args.portion.now old new c.in-Err-Syntax.field-0-0 c.clear.ensures.items
-    (λ u x ts l. subst (FeedRefused u (x ++ c.args.portion.now) ts old new) c.in-Err-Syntax.field-0-is (c.in-Err-Syntax.ensures.fault u x ts l))
-    (λ n. subst (λ (z : List Token). ReportsAfter a.parser.last c.break_off.result (ended_by (lexer.AtFault n) (end_of a.parser (lexemes_of z)))) c.deref-in-Err-Syntax.ensures.value (c.break_off.ensures.fault n))
+pub returns-in-Fault-clause-fault : goal.returns-in-Fault-clause-fault
+returns-in-Fault-clause-fault c =
+    let t = rw c.in-Fault.is at c.in_ok-take_tokens.ensures.ok in
+    broken-portion c.break_off.result c.args.self.now c.hold.new.self c.take_tokens.new.lexer c.take_tokens.new.parser c.args.portion.now c.args.triples.now.items c.take_tokens.new.triples.items
+    c.in_ok-hold.ensures t c.break_off.ensures
 
-pub returns-in-Err-Syntax-clause-reported : goal.returns-in-Err-Syntax-clause-reported
-returns-in-Err-Syntax-clause-reported c =
-    let p = c.args.self.now.parser in
-    reports-open c.break_off.result p.last (ended_by (lexer.AtFault 0) (end_of p (lexemes_of c.deref-in-Err-Syntax.result.now))) (c.break_off.ensures.fault 0)
+pub returns-in-Fault-clause-reported : goal.returns-in-Fault-clause-reported
+returns-in-Fault-clause-reported c =
+    let p = c.take_tokens.new.parser in
+    reports-open c.break_off.result p.last (ended_by (lexer.AtFault 0) (end_of p [])) (c.break_off.ensures 0)

@@ -1,0 +1,160 @@
+//! The lexer of a text that comes in pieces, token by token.
+ghost use Rattle.std.specs.Prelude.{◌≡◌, false, [], OnOk};
+ghost use Rattle.gs_lex.specs.Lexemes.{lexeme_of_borrowed};
+ghost use Rattle.gs_lex.specs.Readings.{IsWithin};
+ghost use Rattle.gs_lex.specs.Standing.{IsSpanWithin, CutsAhead, TakesSome, lexeme_in};
+
+use crate::kinds::TokenKind;
+use crate::lexers::{drop_front, first_reading, without_cut};
+use crate::readings::{found, passed, step_at};
+use crate::steps::{Reading, Step};
+use crate::tokens::{BorrowedToken, borrowed_at};
+use std::alloc::{AllocError, Global};
+
+/// What stands next in a text that comes in pieces.
+#[derive(Clone, Copy, Debug, PartialEq, Eq)]
+pub enum Advance {
+    /// A token, which was cut.
+    Token,
+    /// No token that no more text can change.
+    Wait,
+    /// The end of the whole text.
+    End,
+    /// Something that is no token; the number of bytes up to the end of the last token, 0 where
+    /// there is none.
+    Fault(u64),
+}
+
+/// Where a token stands in the bytes at hand, and in the whole text.
+#[derive(Clone, Copy, Debug)]
+pub struct Span {
+    pub kind: TokenKind,
+    /// The number of bytes before it in the whole text.
+    pub start: u64,
+    /// The number of bytes at hand before it.
+    pub from: usize,
+    /// Its number of bytes.
+    pub count: usize,
+}
+
+impl Span {
+    /// Of no bytes.
+    fn empty() -> Span
+        ensures from { result.from ≡ 0 }
+        ensures count { result.count ≡ 0 }
+    {
+        Span {
+            kind: TokenKind::Dot,
+            start: 0,
+            from: 0,
+            count: 0,
+        }
+    }
+}
+
+/// The token of a span.
+#[inline(always)]
+fn token_in(text: &[u8], span: Span) -> BorrowedToken<'_>
+    requires { IsSpanWithin span text.now }
+    ensures { lexeme_of_borrowed result ≡ lexeme_in text.now span }
+{
+    let rest = &text[span.from..];
+    borrowed_at(span.kind, span.start, &rest[..span.count])
+}
+
+/// Over white space and comments, and over the token that comes next. Where none does, the span
+/// stays.
+#[inline(always)]
+fn advance_in(text: &[u8], from: Reading, last: Span, is_end: bool) -> (Reading, Span, Advance)
+    requires within { IsWithin from text.now }
+    requires span { IsSpanWithin last text.now }
+    ensures within { IsWithin result.0 text.now }
+    ensures span { IsSpanWithin result.1 text.now }
+    ensures cut { CutsAhead is_end text.now from result.0 result.1 result.2 }
+    ensures on { TakesSome text.now from result.0 result.2 }
+{
+    let mut at = from;
+    'steps: loop {
+        match step_at(text, at, is_end) {
+            Step::Passed(count, in_comment) => {
+                at = passed(at, count, in_comment);
+            }
+            Step::Found(kind, count, barren) => {
+                let span = Span {
+                    kind,
+                    start: at.place,
+                    from: at.cut,
+                    count,
+                };
+                return (found(at, count, barren), span, Advance::Token);
+            }
+            Step::Fault => return (at, last, Advance::Fault(at.last)),
+            Step::End => return (at, last, Advance::End),
+            Step::Wait(scan) => {
+                at.scan = scan;
+                return (at, last, Advance::Wait);
+            }
+        }
+    }
+}
+
+/// Cuts a text that comes in any pieces into tokens, one after the other. Of the text it holds the
+/// front of one token, and the last piece; of its tokens none but the last.
+#[derive(Drop)]
+pub struct PieceLexer {
+    held: Vec<u8>,
+    at: Reading,
+    last: Span,
+    ghost within: { IsWithin at held.items },
+    ghost span: { IsSpanWithin last held.items },
+}
+
+impl PieceLexer {
+    ghost use Rattle.gs_lex.specs.Pieces.{Leads, Holds, Advances, Shortens, token_of};
+
+    /// A lexer at the start of a text, of the tokens of Turtle, or of SPARQL Update too. It takes
+    /// no memory.
+    pub fn new(alloc: Global, updates: bool) -> PieceLexer
+        ensures { Leads false updates result [] [] }
+    {
+        PieceLexer {
+            held: Vec::new(alloc),
+            at: first_reading(updates),
+            last: Span::empty(),
+        }
+    }
+
+    /// Takes the next piece. Of what came before it drops what is cut.
+    pub fn hold(&mut self, piece: &[u8]) -> Result<(), AllocError>
+        ensures { OnOk result (Holds self.old self.new piece.now) }
+    {
+        drop_front(&mut self.held, self.at.cut);
+        self.at = without_cut(self.at);
+        self.last = Span::empty();
+        self.held.extend_from_slice(piece)?;
+        Ok(())
+    }
+
+    /// Goes over the next token, or says what stands in its place; the whole text ends with what is
+    /// held, or it goes on. After anything but a token each later call answers the same, until a
+    /// piece is taken. Linear in the bytes up to the token's end, and in those after them that a
+    /// longer token might have had: what was read is not read again.
+    #[inline(always)]
+    pub fn advance(&mut self, is_end: bool) -> Advance
+        ensures next { Advances is_end self.old self.new result }
+        ensures on { Shortens self.old self.new result }
+    {
+        let (at, last, next) = advance_in(&self.held, self.at, self.last, is_end);
+        self.at = at;
+        self.last = last;
+        next
+    }
+
+    /// The token that was cut last. It has no bytes before the first one, and after `hold`.
+    #[inline(always)]
+    pub fn token(&self) -> BorrowedToken<'_>
+        ensures { lexeme_of_borrowed result ≡ token_of self.now }
+    {
+        token_in(&self.held, self.last)
+    }
+}
