@@ -3,3 +3,9 @@ pub mod SymbolLemmas
 pub mod ContextLemmas
 pub mod ValueLemmas
 pub mod PatternLemmas
+pub mod PlainLemmas
+pub mod BufferLemmas
+pub mod IriLemmas
+pub mod AfterLemmas
+pub mod TypedLemmas
+pub mod VocabularyLemmas

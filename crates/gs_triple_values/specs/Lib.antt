@@ -1,8 +1,11 @@
 -- Read in this order: declared prefixes, the languages of the code and what they stand for, contexts, what tokens and
--- contexts stand for, and the terms of tokens.
+-- contexts stand for, the terms of tokens, and the texts of tokens that stand in a term as they are.
 pub mod Prefixes
 pub mod Languages
 pub mod Typed
 pub mod Contexts
+pub mod Datatypes
 pub mod Views
 pub mod Terms
+pub mod Plain
+pub mod Forms

@@ -4,6 +4,7 @@ use Rattle.gs_triples.specs.Symbols as grammar
 use Rattle.gs_triples.specs.Languages.{Language, of_terms}
 use Rattle.gs_triples.specs.Meanings.{Context}
 use Rattle.gs_triple_values.specs.Contexts.{TermContext}
+use Rattle.gs_triple_values.specs.Datatypes.{datatype_iri}
 use Rattle.gs_triple_values.specs.declared.contexts.Context.{Context as Known}
 use Rattle.gs_triple_values.specs.declared.symbols.TermToken.{TermToken}
 use Rattle.gs_triple_values.specs.declared.symbols.TermToken.TheVariants as token
@@ -16,7 +17,7 @@ token_at (token.Reference x e) = grammar.Reference x.now e
 token_at (token.Namespace x) = grammar.Namespace x.now
 token_at (token.Name x) = grammar.Name x.now
 token_at (token.Label x) = grammar.Label x.now
-token_at (token.Plain x d) = grammar.Plain x.now d.now
+token_at (token.Plain x d) = grammar.Plain x.now (datatype_iri d)
 token_at (token.Variable x) = grammar.Variable x.now
 
 -- a symbol of the code, as one of the grammar

@@ -1,13 +1,18 @@
 //! What earlier statements leave.
 ghost use Rattle.std.specs.Prelude.{◌≡◌, ◌==◌, position, true, IfSome, option_map, IfOk, string_bytes};
 ghost use Rattle.gs_model.specs.Iris.{is_absolute};
+ghost use Rattle.gs_model.specs.Terms.{Iri};
+ghost use Rattle.gs_model.specs.Triples.{is_iri};
 ghost use Rattle.gs_iri.specs.Resolving.{resolved};
 ghost use Rattle.gs_escape.specs.Tokens.{iri_of, parts_of};
 ghost use Rattle.gs_triple_values.specs.Contexts.{IsText};
 
+use crate::iris::{expanded, named_iri, resolved_iri};
+use crate::plain::plain_reference;
 use crate::prefixes::Prefixes;
 use crate::symbols::TermToken;
-use gs_model::memory_apart;
+use gs_model::{Fault, memory_apart};
+use gs_term::TermText;
 use std::alloc::{AllocError, Global};
 
 /// The base and the prefixes in force, and the request whose blank nodes are numbered.
@@ -51,7 +56,8 @@ fn reference(alloc: Global, text: &str) -> Result<Option<String>, AllocError>
 impl Context {
     ghost use Rattle.gs_triples.specs.Languages.{of_terms};
     ghost use Rattle.gs_triples.specs.Directives.{without_prefixes, with_prefix, with_base};
-    ghost use Rattle.gs_triples.specs.Meanings.{name_text, iri_text};
+    ghost use Rattle.gs_triples.specs.Meanings as meaning;
+    ghost use Rattle.gs_triples.specs.Meanings.{made_of, name_text, iri_text};
     ghost use Rattle.gs_triple_values.specs.Views.{token_at, context_of};
     ghost use Rattle.gs_triple_values.specs.Contexts.{Changes};
 
@@ -96,14 +102,41 @@ impl Context {
         let Some((prefix, local)) = parts(text) else {
             return Ok(None);
         };
-        let Some(iri) = self.prefixes.get(prefix) else {
-            return Ok(None);
+        match self.prefixes.get(prefix) {
+            None => Ok(None),
+            Some(iri) => expanded(self.alloc, iri, local),
+        }
+    }
+
+    /// The same, as a term.
+    #[tactic(auto, unfolding(gs_triples::specs::Meanings::name_text, gs_triples::specs::Meanings::made_of))]
+    fn name_term(&self, text: &str) -> Result<Result<TermText, Fault>, AllocError>
+        ensures value { IfOk result (λ m. m
+            ≡ made_of (option_map Iri (name_text (context_of self.now) text.now))) }
+        ensures kind { IfOk result (λ m. IfOk m (λ t. is_iri t ≡ true)) }
+    {
+        let Some((prefix, local)) = parts(text) else {
+            return Ok(Err(Fault::Syntax));
         };
-        let mut text = String::with_capacity(self.alloc, iri.len() + local.len())?;
-        text.push_str(iri)?;
-        match memory_apart(gs_escape::local(local.as_bytes(), &mut text))? {
-            Ok(()) => Ok(Some(text)),
-            Err(_) => Ok(None),
+        match self.prefixes.get(prefix) {
+            None => Ok(Err(Fault::Syntax)),
+            Some(iri) => named_iri(self.alloc, iri, local),
+        }
+    }
+
+    /// The IRI that a reference means, as a term.
+    #[tactic(auto, unfolding(gs_triples::specs::Meanings::made_of))]
+    fn reference_term(&self, text: &str) -> Result<Result<TermText, Fault>, AllocError>
+        ensures value { IfOk result (λ m. m
+            ≡ made_of (option_map Iri (option_map (resolved (string_bytes self.now.base)) (iri_of text.now)))) }
+        ensures kind { IfOk result (λ m. IfOk m (λ t. is_iri t ≡ true)) }
+    {
+        if let Some(iri) = plain_reference(text) {
+            return resolved_iri(self.alloc, self.base.as_str(), iri);
+        }
+        match reference(self.alloc, text)? {
+            None => Ok(Err(Fault::Syntax)),
+            Some(iri) => resolved_iri(self.alloc, self.base.as_str(), iri.as_str()),
         }
     }
 
@@ -115,6 +148,19 @@ impl Context {
             TermToken::Reference(text, _) => self.resolve(text),
             TermToken::Namespace(text) | TermToken::Name(text) => self.name(text),
             _ => Ok(None),
+        }
+    }
+
+    /// The same, as a term, or its fault.
+    #[tactic(auto, unfolding(gs_triples::specs::Meanings::iri, gs_triples::specs::Meanings::made_of))]
+    pub(crate) fn term(&self, token: TermToken) -> Result<Result<TermText, Fault>, AllocError>
+        ensures value { IfOk result (λ m. m ≡ meaning.iri (context_of self.now) (token_at token.entry)) }
+        ensures kind { IfOk result (λ m. IfOk m (λ t. is_iri t ≡ true)) }
+    {
+        match token {
+            TermToken::Reference(text, _) => self.reference_term(text),
+            TermToken::Namespace(text) | TermToken::Name(text) => self.name_term(text),
+            _ => Ok(Err(Fault::Syntax)),
         }
     }
 

@@ -2,11 +2,15 @@
 #![tactic(auto)]
 
 mod allowed;
+mod buffers;
 mod contexts;
+mod iris;
 mod kinds;
 mod languages;
+mod lexical;
 mod patterns;
 mod pending;
+mod plain;
 mod prefixes;
 mod symbols;
 pub mod terms;
@@ -22,4 +26,4 @@ pub use patterns::Patterns;
 pub use pending::{put, put_first, put_rest};
 pub use symbols::{Symbol, TermToken, symbol_of_borrowed, symbol_of_token};
 pub use triple_terms::Terms;
-pub use vocabulary::rdf_nil;
+pub use vocabulary::{Datatype, rdf_nil};

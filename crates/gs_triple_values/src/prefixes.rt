@@ -1,16 +1,24 @@
 //! The prefixes that are declared.
-ghost use Rattle.std.specs.Prelude.{◌≡◌, OnOk, option_copied, string_bytes};
+ghost use Rattle.std.specs.Prelude.{◌≡◌, true, OnOk, IfSome, option_copied, string_bytes};
 ghost use Rattle.std.specs.FinMap as finite;
+ghost use Rattle.gs_model.specs.Iris.{is_absolute};
 
 use std::alloc::{AllocError, Global};
 use std::collections::BTreeMap;
 use std::marker::Model;
 
-/// The IRI of each declared prefix. A contract sees the map.
+/// An absolute IRI.
+#[derive(Drop)]
+struct Absolute {
+    text: String,
+    ghost absolute: { is_absolute (string_bytes text) ≡ true },
+}
+
+/// The IRI of each declared prefix, which is absolute. A contract sees the map.
 #[derive(Drop)]
 pub struct Prefixes {
     alloc: Global,
-    iris: BTreeMap<String, String>,
+    iris: BTreeMap<String, Absolute>,
 }
 
 impl Model for Prefixes {
@@ -39,20 +47,22 @@ impl Prefixes {
 
     /// The IRI of a prefix. Logarithmic in the number of prefixes.
     pub fn get(&self, prefix: &str) -> Option<&str>
-        ensures { option_copied result ≡ finite.get self.now prefix.now }
+        ensures value { option_copied result ≡ finite.get self.now prefix.now }
+        ensures absolute { IfSome result (λ i. is_absolute i.now ≡ true) }
     {
         match self.iris.get(prefix) {
             None => None,
-            Some(iri) => Some(iri.as_str()),
+            Some(iri) => Some(iri.text.as_str()),
         }
     }
 
     /// Declares a prefix, also where it was declared before.
     pub fn insert(&mut self, prefix: &str, iri: String) -> Result<(), AllocError>
+        requires { is_absolute (string_bytes iri) ≡ true }
         ensures { OnOk result (self.new ≡ finite.insert self.old prefix.now (string_bytes iri)) }
     {
         let prefix = String::from_str(self.alloc, prefix)?;
-        self.iris.insert(prefix, iri)?;
+        self.iris.insert(prefix, Absolute { text: iri })?;
         Ok(())
     }
 }

@@ -4,7 +4,7 @@ ghost use Rattle.gs_lex.specs.Lexemes.{lexeme_of, lexeme_of_borrowed};
 ghost use Rattle.gs_triples.specs.Symbols.{symbol as kind_symbol, symbol_of, after_mark};
 ghost use Rattle.gs_triple_values.specs.Views.{symbol_at};
 
-use crate::vocabulary::{XSD_BOOLEAN, XSD_DECIMAL, XSD_DOUBLE, XSD_INTEGER};
+use crate::vocabulary::Datatype;
 use gs_lex::{BorrowedToken, Token, TokenKind};
 
 /// A token that is a term by itself, or a variable, by the names of the grammar.
@@ -16,7 +16,7 @@ pub enum TermToken<'a> {
     Name(&'a str),
     Label(&'a str),
     /// A number or a boolean, with its datatype.
-    Plain(&'a str, &'a str),
+    Plain(&'a str, Datatype),
     /// The name after the mark, in updates alone.
     Variable(&'a [u8]),
 }
@@ -63,11 +63,11 @@ fn symbol_of_kind(kind: TokenKind, text: &str, end: u64) -> Symbol<'_>
         TokenKind::PnameNs => Symbol::Term(TermToken::Namespace(text)),
         TokenKind::PnameLn => Symbol::Term(TermToken::Name(text)),
         TokenKind::BlankNodeLabel => Symbol::Term(TermToken::Label(text)),
-        TokenKind::Integer => Symbol::Term(TermToken::Plain(text, XSD_INTEGER)),
-        TokenKind::Decimal => Symbol::Term(TermToken::Plain(text, XSD_DECIMAL)),
-        TokenKind::Double => Symbol::Term(TermToken::Plain(text, XSD_DOUBLE)),
-        TokenKind::True => Symbol::Term(TermToken::Plain("true", XSD_BOOLEAN)),
-        TokenKind::False => Symbol::Term(TermToken::Plain("false", XSD_BOOLEAN)),
+        TokenKind::Integer => Symbol::Term(TermToken::Plain(text, Datatype::Integer)),
+        TokenKind::Decimal => Symbol::Term(TermToken::Plain(text, Datatype::Decimal)),
+        TokenKind::Double => Symbol::Term(TermToken::Plain(text, Datatype::Double)),
+        TokenKind::True => Symbol::Term(TermToken::Plain("true", Datatype::Boolean)),
+        TokenKind::False => Symbol::Term(TermToken::Plain("false", Datatype::Boolean)),
         TokenKind::StringLiteralQuote
         | TokenKind::StringLiteralSingleQuote
         | TokenKind::StringLiteralLongQuote

@@ -1,17 +1,19 @@
 //! The terms of tokens.
 ghost use Rattle.std.specs.Prelude.{◌≡◌, true, Some, IfOk, option_copied};
-ghost use Rattle.gs_model.specs.Terms.{Term, Iri, Blank, Literal, Typed};
-ghost use Rattle.gs_model.specs.Triples.{is_iri};
+ghost use Rattle.gs_model.specs.Terms.{Term, Blank, Literal, Typed};
 ghost use Rattle.gs_term.specs.Making.{Makes};
-ghost use Rattle.gs_escape.specs.Tokens.{rest_after, string_of};
+ghost use Rattle.gs_escape.specs.Tokens.{rest_after};
 ghost use Rattle.gs_triples.specs.Meanings as meaning;
 ghost use Rattle.gs_triples.specs.Meanings.{made_of};
-ghost use Rattle.gs_triple_values.specs.Views.{token_at, context_of};
-ghost use Rattle.gs_triple_values.specs.Contexts.{IsText};
+ghost use Rattle.gs_triple_values.specs.Datatypes.{datatype_iri};
 ghost use Rattle.gs_triple_values.specs.Terms.{typed_of};
 
+use crate::buffers::{named_literal, plain_literal};
 use crate::contexts::Context;
-use crate::symbols::{Symbol, TermToken};
+use crate::lexical::{decoded, lexical};
+use crate::plain::{are_plain, is_small_tag, plain_form};
+use crate::symbols::Symbol;
+use crate::vocabulary::Datatype;
 use gs_model::{Fault, Refusal, memory_apart};
 use gs_term::{TermText, XSD_STRING};
 use std::alloc::{AllocError, Global};
@@ -28,21 +30,8 @@ fn checked(answer: Result<TermText, Refusal>) -> Result<Result<TermText, Fault>,
     }
 }
 
-/// The IRI of a text.
-#[tactic(auto, unfolding(gs_triples::specs::Meanings::made_of))]
-fn made_iri(alloc: Global, text: &str) -> Result<Result<TermText, Fault>, AllocError>
-    ensures value { IfOk result (λ m. m ≡ made_of (Some (Iri text.now))) }
-    ensures kind { IfOk result (λ m. IfOk m (λ t. is_iri t ≡ true)) }
-{
-    match memory_apart(TermText::iri(alloc, text))? {
-        Ok(term) => Ok(Ok(term)),
-        Err(Refusal::TermTooLong) => Ok(Err(Fault::TermTooLong)),
-        Err(_) => Ok(Err(Fault::Syntax)),
-    }
-}
-
 /// A literal of a datatype.
-pub(crate) fn made_literal(
+fn made_literal(
     alloc: Global,
     form: &str,
     datatype: &str,
@@ -50,6 +39,21 @@ pub(crate) fn made_literal(
     ensures { IfOk result (λ m. m ≡ made_of (Some (Literal form.now (Typed datatype.now)))) }
 {
     checked(TermText::literal(alloc, form, Some(datatype), None))
+}
+
+/// A number or a boolean, which is written at once where nothing is to escape.
+#[tactic(auto, unfolding(gs_triples::specs::Meanings::made_of))]
+pub(crate) fn number(
+    alloc: Global,
+    text: &str,
+    datatype: Datatype,
+) -> Result<Result<TermText, Fault>, AllocError>
+    ensures { IfOk result (λ m. m ≡ made_of (Some (Literal text.now (Typed (datatype_iri datatype))))) }
+{
+    if are_plain(b'"', text.as_bytes()) {
+        return plain_literal(alloc, text, b"", datatype.after());
+    }
+    made_literal(alloc, text, datatype.iri())
 }
 
 /// What stands after the front of a text.
@@ -72,39 +76,15 @@ pub fn blank(alloc: Global, request: u64, number: u64) -> Result<TermText, Alloc
     }
 }
 
-/// The lexical form that a string means.
-fn lexical(alloc: Global, text: &str) -> Result<Option<String>, AllocError>
-    ensures { IsText result (string_of text.now) }
-{
-    let mut meaning = String::new(alloc);
-    match memory_apart(gs_escape::string(text.as_bytes(), &mut meaning))? {
-        Ok(()) => Ok(Some(meaning)),
-        Err(_) => Ok(None),
-    }
-}
-
-/// An IRI.
-#[tactic(auto, unfolding(gs_triples::specs::Meanings::iri, gs_triples::specs::Meanings::made_of))]
-pub(crate) fn iri(
-    alloc: Global,
-    context: &Context,
-    token: TermToken,
-) -> Result<Result<TermText, Fault>, AllocError>
-    ensures value { IfOk result (λ m. m ≡ meaning.iri (context_of context.now) (token_at token.entry)) }
-    ensures kind { IfOk result (λ m. IfOk m (λ t. is_iri t ≡ true)) }
-{
-    match context.iri(token)? {
-        None => Ok(Err(Fault::Syntax)),
-        Some(text) => made_iri(alloc, text.as_str()),
-    }
-}
-
 /// A literal with neither datatype nor tag.
 #[tactic(auto, unfolding(gs_triples::specs::Meanings::simple, gs_triples::specs::Meanings::made_of))]
 pub fn simple(alloc: Global, text: &str) -> Result<Result<TermText, Fault>, AllocError>
     ensures { IfOk result (λ m. m ≡ meaning.simple text.now) }
 {
-    match lexical(alloc, text)? {
+    if let Some(form) = plain_form(text) {
+        return plain_literal(alloc, form, b"", b"");
+    }
+    match decoded(alloc, text)? {
         None => Ok(Err(Fault::Syntax)),
         Some(form) => made_literal(alloc, form.as_str(), XSD_STRING),
     }
@@ -115,6 +95,11 @@ pub fn simple(alloc: Global, text: &str) -> Result<Result<TermText, Fault>, Allo
 pub fn tagged(alloc: Global, text: &str, tag: &str) -> Result<Result<TermText, Fault>, AllocError>
     ensures { IfOk result (λ m. m ≡ meaning.tagged text.now tag.now) }
 {
+    if is_small_tag(tag.as_bytes()) {
+        if let Some(form) = plain_form(text) {
+            return plain_literal(alloc, form, b"", tag.as_bytes());
+        }
+    }
     let Some(form) = lexical(alloc, text)? else {
         return Ok(Err(Fault::Syntax));
     };
@@ -137,7 +122,13 @@ pub fn typed(
     let Symbol::Term(token) = datatype else {
         return Ok(Err(Fault::Syntax));
     };
-    let Some(form) = lexical(alloc, text)? else {
+    if let Some(form) = plain_form(text) {
+        return match context.term(token)? {
+            Ok(datatype) => named_literal(alloc, form, &datatype),
+            Err(fault) => Ok(Err(fault)),
+        };
+    }
+    let Some(form) = decoded(alloc, text)? else {
         return Ok(Err(Fault::Syntax));
     };
     match context.iri(token)? {

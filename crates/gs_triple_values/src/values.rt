@@ -3,6 +3,7 @@ ghost use Rattle.std.specs.Prelude.{◌≡◌, Some, IfOk, option_map, codes};
 ghost use Rattle.gs_model.specs.Terms.{Literal, Typed};
 ghost use Rattle.gs_escape.specs.Tokens.{rest_after};
 ghost use Rattle.gs_blank.specs.Numbers.{Numbers, number_of};
+ghost use Rattle.gs_triple_values.specs.Datatypes.{datatype_iri};
 ghost use Rattle.gs_triple_values.specs.Terms.{stood, StandsFor, StandsNumbered, IsNumbered};
 ghost use Rattle.gs_triple_values.specs.Terms.{iri_value, verb_value, word_value, subject_value};
 ghost use Rattle.gs_triples.specs.Meanings.{standing, made_of, with_numbers};
@@ -12,8 +13,8 @@ use crate::allowed::Allowed;
 use crate::contexts::Context;
 use crate::languages::Language;
 use crate::symbols::{Symbol, TermToken};
-use crate::terms::{after, blank, iri, made_literal};
-use crate::vocabulary::rdf_type;
+use crate::terms::{after, blank, number};
+use crate::vocabulary::{Datatype, rdf_type};
 use gs_blank::Numbering;
 use gs_model::Fault;
 use std::alloc::{AllocError, Global};
@@ -41,7 +42,7 @@ fn iri_verb<L: Language>(
     ensures { (a : Flags) → StandsFor L.language.verb result
         (iri_value L.language context.now a token.entry) }
 {
-    match iri(alloc, context, token)? {
+    match context.term(token)? {
         Ok(term) => Ok(Ok(L::verb(term))),
         Err(fault) => Ok(Err(fault)),
     }
@@ -139,7 +140,7 @@ fn iri_subject<L: Language>(
     ensures { (a : Flags) (n : Numbers) → StandsNumbered L.language.subject result n
         (with_numbers n (iri_value L.language context.now a token.entry)) }
 {
-    match iri(alloc, context, token)? {
+    match context.term(token)? {
         Ok(term) => Ok(Ok(L::subject(term))),
         Err(fault) => Ok(Err(fault)),
     }
@@ -170,12 +171,12 @@ pub fn subject<L: Language>(
 fn plain<L: Language>(
     alloc: Global,
     text: &str,
-    datatype: &str,
+    datatype: Datatype,
 ) -> Result<Result<L::Value, Fault>, AllocError>
     ensures { IfOk result (λ m. m
-        ≡ stood L.language.grammar.of_term (made_of (Some (Literal text.now (Typed datatype.now))))) }
+        ≡ stood L.language.grammar.of_term (made_of (Some (Literal text.now (Typed (datatype_iri datatype)))))) }
 {
-    match made_literal(alloc, text, datatype)? {
+    match number(alloc, text, datatype)? {
         Ok(term) => Ok(Ok(L::value(term))),
         Err(fault) => Ok(Err(fault)),
     }

@@ -5,15 +5,15 @@ use Rattle.gs_triples.specs.Prefixes.{Prefixes}
 use Rattle.gs_triple_values.proofs.PrefixLemmas.{get-texts}
 use Rattle.gs_triple_values.proofs.prefixes.Prefixes.get.Goals as goal
 
-pub returns-in-None : goal.returns-in-None
-returns-in-None c =
-    ap (λ o. option_map string_bytes (option_copied o)) (sym c.in-None.is) ∙ ap (option_map string_bytes) c.get.ensures.value
+pub returns-in-None-clause-value : goal.returns-in-None-clause-value
+returns-in-None-clause-value c =
+    ap (λ o. option_map (λ v. string_bytes v.text) (option_copied o)) (sym c.in-None.is) ∙ ap (option_map (λ v. string_bytes v.text)) c.get.ensures.value
     ∙ sym (get-texts c.self.inside.iris c.args.prefix.now)
     ∙ ap (λ (u : Prefixes). finite.get u c.args.prefix.now) c.self.view_is
 
-pub returns-in-Some : goal.returns-in-Some
-returns-in-Some c =
+pub returns-in-Some-clause-value : goal.returns-in-Some-clause-value
+returns-in-Some-clause-value c =
     ap Some c.as_str.ensures.value
-    ∙ ap (λ o. option_map string_bytes (option_copied o)) (sym c.in-Some.is) ∙ ap (option_map string_bytes) c.get.ensures.value
+    ∙ ap (λ o. option_map (λ v. string_bytes v.text) (option_copied o)) (sym c.in-Some.is) ∙ ap (option_map (λ v. string_bytes v.text)) c.get.ensures.value
     ∙ sym (get-texts c.self.inside.iris c.args.prefix.now)
     ∙ ap (λ (u : Prefixes). finite.get u c.args.prefix.now) c.self.view_is
