@@ -9,3 +9,4 @@ pub mod IriLemmas
 pub mod AfterLemmas
 pub mod TypedLemmas
 pub mod VocabularyLemmas
+pub mod ReferenceLemmas

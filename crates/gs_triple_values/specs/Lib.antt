@@ -1,5 +1,6 @@
 -- Read in this order: declared prefixes, the languages of the code and what they stand for, contexts, what tokens and
--- contexts stand for, the terms of tokens, and the texts of tokens that stand in a term as they are.
+-- contexts stand for, the terms of tokens, the texts of tokens that stand in a term as they are, and references that mean
+-- themselves.
 pub mod Prefixes
 pub mod Languages
 pub mod Typed
@@ -9,3 +10,4 @@ pub mod Views
 pub mod Terms
 pub mod Plain
 pub mod Forms
+pub mod References

@@ -13,6 +13,7 @@ ghost use Rattle.gs_triple_values.specs.Contexts.{IsText};
 
 use crate::buffers::joined_iri;
 use crate::plain::are_iri_bytes;
+use crate::references::means_itself;
 use gs_model::{Fault, MAX_TERM_BYTES, Refusal, memory_apart};
 use gs_term::TermText;
 use std::alloc::{AllocError, Global};
@@ -76,7 +77,8 @@ fn marked_text(alloc: Global, base: &str, reference: &str) -> Result<Option<Stri
     }
 }
 
-/// The IRI that a reference means, which is written after its mark and not tested again.
+/// The IRI that a reference means. One that means itself is copied; another is resolved after the mark of
+/// its text, and not tested again.
 pub fn resolved_iri(
     alloc: Global,
     base: &str,
@@ -87,6 +89,9 @@ pub fn resolved_iri(
     ensures value { IfOk result (λ m. m ≡ made (Iri (resolved base.now reference.now))) }
     ensures kind { IfOk result (λ m. IfOk m (λ t. is_iri t ≡ true)) }
 {
+    if means_itself(reference) {
+        return joined_iri(alloc, reference, "");
+    }
     let Some(mut text) = marked_text(alloc, base, reference)? else {
         return Ok(Err(Fault::Syntax));
     };

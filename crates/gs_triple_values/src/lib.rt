@@ -12,6 +12,7 @@ mod patterns;
 mod pending;
 mod plain;
 mod prefixes;
+mod references;
 mod symbols;
 pub mod terms;
 mod triple_terms;
