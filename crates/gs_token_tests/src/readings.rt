@@ -1,7 +1,7 @@
 //! A text read in pieces of any size, and whole.
 ghost use Rattle.std.specs.Prelude.{◌<◌};
 
-use gs_lex::{Lexer, Next, TextLexer, Token, TokenKind};
+use gs_lex::{Advance, Lexer, Next, PieceLexer, TextLexer, Token, TokenKind};
 use gs_model::Refusal;
 use std::alloc::Global;
 use std::process::Abort;
@@ -40,6 +40,44 @@ fn kinds_of(alloc: Global, updates: bool, text: &[u8], size: usize) -> Result<St
     Ok(names)
 }
 
+/// Writes the names of the tokens that a lexer has for now, or to the end of the text.
+fn write_names(
+    alloc: Global,
+    lexer: &mut PieceLexer,
+    is_end: bool,
+    most: usize,
+    names: &mut String,
+) -> Result<(), Refusal> {
+    // no text has more tokens than bytes
+    for _ in 0..most {
+        match lexer.advance(is_end) {
+            Advance::Token => write_name(alloc, names, lexer.token().kind)?,
+            Advance::Fault(at) => return Err(Refusal::Syntax(at)),
+            Advance::Wait | Advance::End => break,
+        }
+    }
+    Ok(())
+}
+
+/// The same, token by token.
+fn kinds_one_by_one(
+    alloc: Global,
+    updates: bool,
+    text: &[u8],
+    size: usize,
+) -> Result<String, Refusal>
+    requires { 0 < size }
+{
+    let mut lexer = PieceLexer::new(alloc, updates);
+    let mut names = String::new(alloc);
+    for piece in text.chunks(size) {
+        lexer.hold(piece)?;
+        write_names(alloc, &mut lexer, false, text.len(), &mut names)?;
+    }
+    write_names(alloc, &mut lexer, true, text.len(), &mut names)?;
+    Ok(names)
+}
+
 /// The same of a text that is at hand whole.
 fn kinds_of_whole(alloc: Global, updates: bool, text: &[u8]) -> Result<String, Refusal> {
     let mut lexer = TextLexer::new(text, updates);
@@ -67,6 +105,8 @@ fn expect_in(
     requires { 0 < size }
 {
     let kinds = kinds_of(alloc, updates, text.as_bytes(), size)?;
+    assert_eq!(rt; kinds.as_str(), want, "at {text}");
+    let kinds = kinds_one_by_one(alloc, updates, text.as_bytes(), size)?;
     assert_eq!(rt; kinds.as_str(), want, "at {text}");
     Ok(())
 }
@@ -99,6 +139,8 @@ fn refuse_in(
     requires { 0 < size }
 {
     let refusal = kinds_of(alloc, false, text, size).err();
+    assert_eq!(rt; refusal, Some(Refusal::Syntax(at)), "at {name}");
+    let refusal = kinds_one_by_one(alloc, false, text, size).err();
     assert_eq!(rt; refusal, Some(Refusal::Syntax(at)), "at {name}");
     Ok(())
 }
