@@ -64,7 +64,7 @@ def decoded(data):
         return data[: error.start].decode("utf-8") + "\udc80"
 
 
-def tokens(text):
+def tokens(text, terminals=TERMINALS, words=WORDS):
     """The kinds, texts and ends of the tokens, up to the text's end or to the first place where none begins."""
     at = 0
     while True:
@@ -72,12 +72,12 @@ def tokens(text):
         if at == len(text):
             yield "end", "", at
             return
-        matches = ((kind, pattern.match(text, at)) for kind, pattern in TERMINALS.items())
+        matches = ((kind, pattern.match(text, at)) for kind, pattern in terminals.items())
         found = max(((it.end(), kind) for kind, it in matches if it), default=(at, ""))
         kind, token = found[1], text[at : found[0]]
         if kind == "word" and token not in ("a", "true", "false"):
             token = "".join(it.upper() if it.isascii() else it for it in token)
-            kind = "word" if token in WORDS else ""
+            kind = "word" if token in words else ""
         if not kind:
             yield "none", "", at
             return
@@ -105,6 +105,20 @@ def reference(text):
     if re.search(r'[\x00-\x20<>"{}|^`\\]', iri):
         raise Fault
     return iri
+
+
+def quoted(lexical):
+    """The canonical text of a string."""
+    for plain, escape in (("\\", "\\\\"), ('"', '\\"'), ("\n", "\\n"), ("\r", "\\r")):
+        lexical = lexical.replace(plain, escape)
+    return f'"{lexical}"'
+
+
+def made(term):
+    """A term, if its canonical text is not too long."""
+    if len(term.encode("utf-8")) > LONGEST_TERM:
+        raise TooLong
+    return term
 
 
 def parts(iri):
@@ -197,11 +211,6 @@ class Reader:
 
     # Terms
 
-    def made(self, term):
-        if len(term.encode("utf-8")) > LONGEST_TERM:
-            raise TooLong
-        return term
-
     def iri(self):
         kind, text = self.take()
         if kind == "iri":
@@ -216,20 +225,18 @@ class Reader:
     def literal(self):
         kind, text = self.take()
         if kind in ("integer", "decimal", "double"):
-            return self.made(f'"{text}"^^<{XSD}{kind}>')
+            return made(f'"{text}"^^<{XSD}{kind}>')
         if kind == "word":
-            return self.made(f'"{text}"^^<{XSD}boolean>')
-        lexical = unescaped(text[1:-1] if kind == "string" else text[3:-3])
-        for plain, escape in (("\\", "\\\\"), ('"', '\\"'), ("\n", "\\n"), ("\r", "\\r")):
-            lexical = lexical.replace(plain, escape)
+            return made(f'"{text}"^^<{XSD}boolean>')
+        lexical = quoted(unescaped(text[1:-1] if kind == "string" else text[3:-3]))
         if self.peek()[0] == "at":
-            return self.made(f'"{lexical}"{self.take()[1].lower()}')
+            return made(lexical + self.take()[1].lower())
         if self.is_next("^^"):
             self.take()
             datatype = self.iri()
             if datatype != f"<{XSD}string>":
-                return self.made(f'"{lexical}"^^{datatype}')
-        return self.made(f'"{lexical}"')
+                return made(f"{lexical}^^{datatype}")
+        return made(lexical)
 
     def new_node(self):
         self.nodes += 1
@@ -310,7 +317,7 @@ class Reader:
             return self.label()
         if kind == "variable":
             return self.variable()
-        return self.made(self.iri())
+        return made(self.iri())
 
     def verb(self):
         if self.is_next("a"):
@@ -376,13 +383,18 @@ class Reader:
         else:
             self.block({"DATA": "delete", "WHERE": "where"}[self.want("DATA", "WHERE")])
 
+    def declaration(self, word):
+        """What stands after the word of a prefix or a base."""
+        prefix = self.want_kind("prefix")[:-1] if word == "PREFIX" else None
+        iri = resolved(reference(self.want_kind("iri")), self.base)
+        if prefix is None:
+            self.base = iri
+        else:
+            self.prefixes[prefix] = iri
+
     def prologue(self):
         while self.is_next("PREFIX", "BASE"):
-            if self.take()[1] == "BASE":
-                self.base = resolved(reference(self.want_kind("iri")), self.base)
-            else:
-                prefix = self.want_kind("prefix")[:-1]
-                self.prefixes[prefix] = resolved(reference(self.want_kind("iri")), self.base)
+            self.declaration(self.take()[1])
 
     def update(self):
         while True:

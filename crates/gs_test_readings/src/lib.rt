@@ -5,5 +5,5 @@ mod lines;
 mod pieces;
 pub mod turtle;
 
-pub use lines::lines_of;
+pub use lines::{graph_lines_of, lines_of};
 pub use pieces::{SIZES, feed};

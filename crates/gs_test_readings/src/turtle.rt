@@ -1,9 +1,8 @@
 //! A text of Turtle read in pieces of any size.
-use crate::lines::lines_of;
+use crate::lines::{graph_lines_of, lines_of};
 use crate::pieces::feed;
 use gs_iri::is_absolute;
 use gs_model::Refusal;
-use gs_ntwrite::line;
 use gs_term::Triple;
 use gs_turtle::TurtleReader;
 use std::alloc::Global;
@@ -40,28 +39,10 @@ pub fn lines_as_read(
     lines_of(alloc, triples.as_slice())
 }
 
-/// The line of each triple.
-fn each_line(alloc: Global, triples: &[Triple]) -> Result<Vec<Vec<u8>>, Refusal> {
-    let mut lines = Vec::new(alloc);
-    for triple in triples {
-        let mut bytes = Vec::new(alloc);
-        line(triple, &mut bytes)?;
-        lines.push(bytes)?;
-    }
-    Ok(lines)
-}
-
 /// The lines of a text's graph, each with its line feed, in the order of their bytes.
 pub fn graph_of(alloc: Global, base: &str, text: &[u8], size: usize) -> Result<Vec<u8>, Refusal> {
     let triples = read(alloc, base, text, size)?;
-    let mut lines = each_line(alloc, triples.as_slice())?;
-    lines.sort_unstable();
-    lines.dedup();
-    let mut graph = Vec::new(alloc);
-    for line in &lines {
-        graph.extend_from_slice(line.as_slice())?;
-    }
-    Ok(graph)
+    graph_lines_of(alloc, triples.as_slice())
 }
 
 /// The fault of a text.
