@@ -8,7 +8,7 @@ from serving import Server
 
 READERS, WRITERS, GRAPHS, LINES = 4, 2, 4, 40
 
-# Each write is a version that the store keeps, and takes a number that it keeps: so writers pause.
+# Each write makes a version, and a term whose number the store keeps for good: so writers pause.
 WRITER_PAUSE_SECONDS = 0.05
 
 # The share of the time in which the writers write.

@@ -1,4 +1,4 @@
-//! Which answers end an upload, a Delete or a read, so that something may be left to reclaim.
+//! Which answers end an upload, a patch, a Delete or a read, so that something may be left to reclaim.
 ghost use Rattle.std.specs.Prelude.{◌≡◌};
 ghost use Rattle.gs_event.specs.declared.events.Event.{Event as AnEvent};
 ghost use Rattle.gs_workers.specs.Endings.{awaited_of, comes_with, ends};

@@ -9,8 +9,8 @@ use std::sync::Wait;
 #[derive(Clone, Copy, Debug, Drop)]
 pub(crate) struct Note;
 
-/// A door that sends a note after each event that ended an upload, a Delete or a read. It waits for no
-/// room: a note that waits stands for one that finds none.
+/// A door that sends a note after each event that ended an upload, a patch, a Delete or a read. It waits
+/// for no room: a note that waits stands for one that finds none.
 pub(crate) struct NoteDoor<'a, D: Door, R: Wait> {
     pub(crate) rt: &'a R,
     pub(crate) notes: Sender<Note>,
