@@ -40,6 +40,19 @@ fn the_first_fault_of_a_text_is_reported(rt: HostRuntime) {
     }
 }
 
+/// Whether something that is no token is reported with its piece, before the text ends.
+fn is_told_at_once(alloc: Global) -> Result<bool, Refusal> {
+    let mut reader = reader(alloc, "http://b/")?;
+    let mut triples = Vec::new(alloc);
+    Ok(reader.feed(b"<b c>", &mut triples) == Err(Refusal::Syntax(0)))
+}
+
+#[test]
+fn what_is_no_token_is_reported_with_its_piece(rt: HostRuntime) -> Result<(), Fail> {
+    assert!(rt; is_told_at_once(rt.alloc())?);
+    Ok(())
+}
+
 /// Whether a fault in the second piece is reported, leaves the list, and closes the reader.
 fn fault_leaves(alloc: Global) -> Result<bool, Refusal> {
     let mut reader = reader(alloc, "http://b/")?;
