@@ -136,9 +136,9 @@ impl PieceLexer {
     }
 
     /// Goes over the next token, or says what stands in its place; the whole text ends with what is
-    /// held, or it goes on. After anything but a token each later call answers the same, until a
-    /// piece is taken. Linear in the bytes up to the token's end, and in those after them that a
-    /// longer token might have had: what was read is not read again.
+    /// held, or it goes on. After anything but a token each later call with the same `is_end` answers
+    /// the same, until a piece is taken. Linear in the bytes up to the token's end, and in those after
+    /// them that a longer token might have had: what was read is not read again.
     #[inline(always)]
     pub fn advance(&mut self, is_end: bool) -> Advance
         ensures next { Advances is_end self.old self.new result }
