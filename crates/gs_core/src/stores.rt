@@ -139,8 +139,8 @@ impl Store {
 
     /// Takes one event: the answer fits what the store shows, and the store then shows the next
     /// view. A refused event changes nothing. An upload's list takes a node for each triple that is
-    /// new to the upload, and every other event none, but the commits of a POST and of a patch: these
-    /// take no more than `gs_event::steps_take_few` says.
+    /// new to the upload, and every other event none, but the commits of a POST, of a new graph and of
+    /// a patch: these take no more than `gs_event::steps_take_few` says.
     pub fn step(&mut self, event: &Event) -> Answer
         ensures steps { Steps self.old event.now result self.new }
         ensures uses { UsesNodes self.old event.now result self.new }

@@ -56,9 +56,8 @@ fn hash_of(seeded: FoldHasher, text: &[u8]) -> u32
 }
 
 impl Dict {
-    /// One without terms. Where strangers choose the terms, the seed is random and kept from them:
-    /// the first number of a `RandomState`. No number is greater than `last`, nor than
-    /// 4,294,967,294.
+    /// One without terms. Where strangers choose the terms, the seed is a random number that is kept
+    /// from them. No number is greater than `last`, nor than 4,294,967,294.
     pub fn new(alloc: Global, seed: u64, last: u32) -> Result<Dict, Refusal>
         ensures { MatchResult result (λ d. d ≡ none_numbered (min last last_term))
             (λ e. e ≡ Refusal.NoMemory) }

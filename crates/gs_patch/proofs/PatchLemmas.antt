@@ -1,5 +1,6 @@
 -- Operations one after another.
-use Rattle.std.proofs.Common.{◌≡◌, ℕ, ◌+◌, ◌*◌, ◌<◌, ◌≤◌, List, [], ◌∷◌, length, Option, refl, sym, ap, subst, ◌∙◌, arith}
+use Rattle.std.proofs.Common.{◌≡◌, ℕ, ◌+◌, ◌*◌, ◌<◌, ◌≤◌, List, [], ◌∷◌, length, Option, refl, sym, ap, subst, ◌∙◌, inl, arith}
+use Rattle.gs_model.specs.Terms.{Term}
 use Rattle.gs_event.specs.declared.updates.Op.{Op}
 use Rattle.gs_event.specs.Updates.{operated, updated, inserted_by, removed_by}
 use Rattle.gs_dict.specs.Numbering.{Numbered}
@@ -9,12 +10,13 @@ use Rattle.gs_changes.specs.Changes.{ChangesAt}
 use Rattle.gs_changes.proofs.ChangeLemmas.{unchanged, then}
 use Rattle.gs_keys.specs.Texts.{key_cmp}
 use Rattle.gs_keys.specs.Roots.{graph_at}
-use Rattle.gs_staging.specs.Keys.{Grows}
+use Rattle.gs_staging.specs.Keys.{Grows, GivesOnly}
 use Rattle.gs_staging.specs.Staging.{IsStaged}
-use Rattle.gs_staging.proofs.KeyLemmas.{still_grows, grows_twice}
+use Rattle.gs_staging.proofs.KeyLemmas.{still_grows, grows_twice, only_twice}
 use Rattle.gs_staging.proofs.StageLemmas.{staged_grown}
 use Rattle.gs_patch.specs.declared.operations.Operated.{Operated}
 use Rattle.gs_patch.specs.declared.patches.Draft.{Draft}
+use Rattle.gs_patch.specs.Inserted.{IsInsertedBy, IsInserted}
 use Rattle.gs_patch.specs.Operations.{ChangesSome, Operates}
 use Rattle.gs_patch.specs.Patches.{Patches}
 
@@ -101,3 +103,11 @@ patching_end birth d e p q root ops left m none i =
       added = omega (arith, i.added, ap (inserted_by g) none);
       removed = omega (arith, i.removed, ap (removed_by g) none);
     }
+
+-- the terms that what is left inserts are among those that all operations insert
+abbrev pub LeavesOnly : List Op → List Op → Type 0
+LeavesOnly left ops = (u : Term) → IsInserted left u → IsInserted ops u
+
+-- numbers were given to inserted terms alone, and one more operation gives them to its own
+pub only_more : (a b c : List Term) (ops rest : List Op) (op : Op) → LeavesOnly (op ∷ rest) ops → GivesOnly (IsInserted ops) a b → GivesOnly (IsInsertedBy op) b c → GivesOnly (IsInserted ops) a c
+only_more a b c ops rest op among first second = only_twice a b c first (λ u is. among u (inl is)) second

@@ -4,9 +4,10 @@ ghost use Rattle.gs_event.specs.Solutions.{instances_of};
 ghost use Rattle.gs_tree.specs.Keys.{AllKeys};
 ghost use Rattle.gs_keys.specs.Texts.{triple_at, IsGiven};
 ghost use Rattle.gs_keys.specs.Roots.{graph_at};
-ghost use Rattle.gs_staging.specs.Keys.{Grows};
+ghost use Rattle.gs_staging.specs.Keys.{Grows, GivesOnly, IsTermIn};
 ghost use Rattle.gs_staging.specs.Staging.{IsStaged};
 ghost use Rattle.gs_patch.specs.Operations.{Gains, Loses, ChangesSome, Operates};
+ghost use Rattle.gs_patch.specs.Inserted.{IsInsertedBy};
 
 use crate::known::known_keys;
 use gs_changes::{HalfDone, Pruned, remove_all};
@@ -40,6 +41,7 @@ fn insert(
 ) -> Result<Merged, Refusal>
     requires { IsStaged dict.old.terms pool.old root }
     ensures grows { Grows dict.old dict.new }
+    ensures only { GivesOnly (IsTermIn triples.now) dict.old.terms dict.new.terms }
     ensures ok { IfOk result (Gains birth dict.old.terms dict.new.terms pool.old pool.new root
         triples.now) }
     ensures kept { OnErr result (pool.new ≡ pool.old) }
@@ -120,6 +122,7 @@ pub fn operate(
 ) -> Result<Operated, HalfDone>
     requires { IsStaged dict.old.terms pool.old root }
     ensures grows { Grows dict.old dict.new }
+    ensures only { GivesOnly (IsInsertedBy operation.now) dict.old.terms dict.new.terms }
     ensures ok { IfOk result (Operates birth dict.old.terms dict.new.terms pool.old pool.new root
         operation.now) }
     ensures half { IfErr result (λ h. ChangesSome birth dict.new.terms pool.old pool.new root h.root) }

@@ -5,9 +5,10 @@ ghost use Rattle.gs_pool.specs.Pool.{aside_count};
 ghost use Rattle.gs_tree.specs.Tree.{tree_at};
 ghost use Rattle.gs_changes.specs.Changes.{IsEarlier};
 ghost use Rattle.gs_changes.specs.Endings.{IsDraftAt, UndoesAll, Restores};
-ghost use Rattle.gs_staging.specs.Keys.{Grows};
+ghost use Rattle.gs_staging.specs.Keys.{Grows, GivesOnly};
 ghost use Rattle.gs_staging.specs.Staging.{IsStaged};
 ghost use Rattle.gs_patch.specs.Operations.{ChangesSome};
+ghost use Rattle.gs_patch.specs.Inserted.{IsInserted};
 ghost use Rattle.gs_patch.specs.Patches.{Patches};
 
 use crate::operations::operate;
@@ -38,6 +39,7 @@ fn operate_all(
 ) -> Result<Draft, HalfDone>
     requires { IsStaged dict.old.terms pool.old root }
     ensures grows { Grows dict.old dict.new }
+    ensures only { GivesOnly (IsInserted operations.now) dict.old.terms dict.new.terms }
     ensures ok { IfOk result (Patches birth dict.old.terms dict.new.terms pool.old pool.new root
         operations.now) }
     ensures half { IfErr result (λ h. ChangesSome birth dict.new.terms pool.old pool.new root h.root) }
@@ -91,6 +93,7 @@ pub fn patch(
     requires earlier { IsEarlier birth pool.old (tree_at pool.old root) }
     requires none_aside { aside_count pool.old ≡ 0 }
     ensures grows { Grows dict.old dict.new }
+    ensures only { GivesOnly (IsInserted operations.now) dict.old.terms dict.new.terms }
     ensures ok { IfOk result (Patches birth dict.old.terms dict.new.terms pool.old pool.new root
         operations.now) }
     ensures refused { IfErr result (λ r. r ≡ NoMemory) }
