@@ -4,6 +4,7 @@ ghost use Rattle.gs_model.specs.Terms.{text_of as text_of_term};
 ghost use Rattle.gs_tree.specs.Keys.{AllKeys};
 ghost use Rattle.gs_keys.specs.Texts.{term_at, IsGiven};
 ghost use Rattle.gs_lines.specs.Pieces.{line_at, bytes_of};
+ghost use Rattle.gs_lines.specs.Lines.{IsKnown};
 
 use gs_dict::{Dict, TermId};
 use gs_pool::Key;
@@ -20,17 +21,48 @@ fn text_of(dict: &Dict, number: u32) -> &[u8]
     dict.text(TermId { number })
 }
 
+/// A number that was given, with its text.
+#[derive(Clone, Copy)]
+struct Known<'a> {
+    number: u32,
+    text: &'a [u8],
+}
+
+/// A number with its text.
+fn look_up<'a>(dict: &'a Dict, number: u32) -> Known<'a>
+    requires { number < length dict.now.terms }
+    ensures { IsKnown dict.now.terms number result }
+{
+    Known {
+        number,
+        text: text_of(dict, number),
+    }
+}
+
+/// The same, which is looked up only where it is not the one known: the next key mostly has the
+/// subject of the key before it.
+fn look_up_near<'a>(dict: &'a Dict, known: Known<'a>, number: u32) -> Known<'a>
+    requires given { number < length dict.now.terms }
+    requires known { IsKnown dict.now.terms known.number known }
+    ensures { IsKnown dict.now.terms number result }
+{
+    if known.number == number {
+        known
+    } else {
+        look_up(dict, number)
+    }
+}
+
 /// How many bytes the line of a key has, where 64 bits can say it.
-fn line_size(dict: &Dict, key: Key) -> Option<usize>
-    requires { IsGiven dict.now.terms key }
+fn line_size(dict: &Dict, key: Key, subject: Known, predicate: Known) -> Option<usize>
+    requires given { IsGiven dict.now.terms key }
+    requires subject { IsKnown dict.now.terms key.subject subject }
+    requires predicate { IsKnown dict.now.terms key.predicate predicate }
     ensures { SomeIff result (length (line_at dict.now.terms key) < 2 ^ 64)
         (length (line_at dict.now.terms key)) }
 {
-    let subject = text_of(dict, key.subject).len();
-    let predicate = text_of(dict, key.predicate).len();
-    let object = text_of(dict, key.object).len();
-    let two = subject.checked_add(predicate)?;
-    let three = two.checked_add(object)?;
+    let two = subject.text.len().checked_add(predicate.text.len())?;
+    let three = two.checked_add(text_of(dict, key.object).len())?;
     three.checked_add(MARKS)
 }
 
@@ -40,9 +72,16 @@ fn lines_size(dict: &Dict, keys: &[Key]) -> Option<usize>
     ensures { SomeIff result (length (bytes_of dict.now.terms keys.now) < 2 ^ 64)
         (length (bytes_of dict.now.terms keys.now)) }
 {
+    let Some(first) = keys.first() else {
+        return Some(0);
+    };
+    let mut subject = look_up(dict, first.subject);
+    let mut predicate = look_up(dict, first.predicate);
     let mut size = 0usize;
     for key in keys {
-        let line = line_size(dict, *key)?;
+        subject = look_up_near(dict, subject, key.subject);
+        predicate = look_up_near(dict, predicate, key.predicate);
+        let line = line_size(dict, *key, subject, predicate)?;
         size = size.checked_add(line)?;
     }
     Some(size)
@@ -59,17 +98,19 @@ fn append(text: &[u8], bytes: &mut Vec<u8>)
 }
 
 /// Appends the line of a key, for which there is room.
-fn append_line(dict: &Dict, key: Key, bytes: &mut Vec<u8>)
+fn append_line(dict: &Dict, key: Key, subject: Known, predicate: Known, bytes: &mut Vec<u8>)
     requires given { IsGiven dict.now.terms key }
+    requires subject { IsKnown dict.now.terms key.subject subject }
+    requires predicate { IsKnown dict.now.terms key.predicate predicate }
     requires room { vec_len bytes.old + length (line_at dict.now.terms key)
         ≤ vec_capacity bytes.old }
     ensures items { bytes.new.items ≡ bytes.old.items ++ line_at dict.now.terms key }
     ensures len { vec_len bytes.new ≡ vec_len bytes.old + length (line_at dict.now.terms key) }
     ensures capacity { vec_capacity bytes.old ≤ vec_capacity bytes.new }
 {
-    append(text_of(dict, key.subject), bytes);
+    append(subject.text, bytes);
     bytes.push_reserved(b' ');
-    append(text_of(dict, key.predicate), bytes);
+    append(predicate.text, bytes);
     bytes.push_reserved(b' ');
     append(text_of(dict, key.object), bytes);
     bytes.push_reserved(b' ');
@@ -84,8 +125,13 @@ fn append_lines(dict: &Dict, keys: &[Key], bytes: &mut Vec<u8>)
         ≤ vec_capacity bytes.old }
     ensures { bytes.new.items ≡ bytes.old.items ++ bytes_of dict.now.terms keys.now }
 {
+    let Some(first) = keys.first() else { return };
+    let mut subject = look_up(dict, first.subject);
+    let mut predicate = look_up(dict, first.predicate);
     for key in keys {
-        append_line(dict, *key, bytes);
+        subject = look_up_near(dict, subject, key.subject);
+        predicate = look_up_near(dict, predicate, key.predicate);
+        append_line(dict, *key, subject, predicate, bytes);
     }
 }
 

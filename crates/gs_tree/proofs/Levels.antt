@@ -3,7 +3,7 @@ use Rattle.std.proofs.Common.{◌≡◌, ℕ, ◌+◌, ◌<◌, ◌≤◌, max, 
 use Rattle.std.proofs.lemmas.Bool.{cases_lt}
 use Rattle.gs_pool.specs.declared.nodes.Node.{Node}
 use Rattle.gs_pool.specs.Pool.{Nodes, plain, node_at, mark_at}
-use Rattle.gs_tree.specs.Tree.{Tree, leaf, fork, root_of, occurrences, top_node, Stands, older_birth, older_count}
+use Rattle.gs_tree.specs.Tree.{Tree, leaf, fork, root_of, height, occurrences, top_node, Stands, older_birth, older_count}
 use Rattle.gs_tree.specs.Steps.{plain_count, one, Step, IsOlder, IsWritable, CopiesIfOlder}
 use Rattle.gs_tree.specs.Joining.{IsHeightAfter}
 use Rattle.gs_tree.proofs.TreeLemmas.{one_same, plain_count_most, plain_found, Stands-step, Step-then, Step-beside, CopiesIfOlder-step, birth_same, old_birth}
@@ -17,6 +17,7 @@ pub record Opened (p : Nodes) (id : ℕ) (node : Node) (t : Tree) : Type 0 where
   pub is : t ≡ fork id birth l node.key r
   pub left_is : node.left ≡ root_of l
   pub right_is : node.right ≡ root_of r
+  pub height_is : node.height ≡ max (height l) (height r) + 1
   pub sl : Stands p l
   pub sr : Stands p r
   pub used : IsSome (node_at p id)
@@ -35,6 +36,7 @@ opened p root id node (fork i birth l k r) e s is found =
       is = ap (λ a. fork a birth l k r) same ∙ ap (λ (m : Node). fork id birth l m.key r) n;
       left_is = sym (ap (λ (m : Node). m.left) n);
       right_is = sym (ap (λ (m : Node). m.right) n);
+      height_is = sym (ap (λ (m : Node). m.height) n);
       sl = s.1;
       sr = s.2;
       used = ap is_some found;

@@ -6,6 +6,7 @@ use Rattle.std.specs.declared.cmp.Ordering.{Ordering}
 use Rattle.std.specs.declared.cmp.Ordering.TheVariants.{Less, Equal, Greater}
 use Rattle.std.specs.Cmp.{IsTotalOrder}
 use Rattle.gs_pool.specs.declared.nodes.Key.{Key}
+use Rattle.gs_tree.specs.Merging.{Cut}
 use Rattle.gs_tree.specs.Keys.{AllKeys, IsRising, insert_key, insert_by, merge_keys, Places}
 use Rattle.gs_tree.proofs.Order.{AllKeys-map, all_middle, above, below, rising_front, rising_insert, insert_key_left, insert_key_right}
 
@@ -22,12 +23,6 @@ some_keys n h = elim (Rattle.std.proofs.lemmas.Bool.cases_eq n 0) [
 append_all : (P : Key → Type 0) (l r : List Key) → AllKeys P l → AllKeys P r → AllKeys P (l ++ r)
 append_all P [] r a b = b
 append_all P (x ∷ l) r a b = (a.0, append_all P l r a.1 b)
-
--- a run is cut at a key: what is below it, what is above it, and at most one key between
-pub record Cut (cmp : Key → Key → Ordering) (key : Key) (run low high : List Key) : Type 0 where
-  pub below : AllKeys (λ x. cmp x key ≡ Less) low
-  pub above : AllKeys (λ x. cmp key x ≡ Less) high
-  pub parts : (run ≡ low ++ high) ⊎ ((x : Key) × (run ≡ low ++ x ∷ high) × (cmp x key ≡ Equal))
 
 pub cut_length : (cmp : Key → Key → Ordering) (key : Key) (run low high : List Key) → Cut cmp key run low high → length low + length high ≤ length run
 cut_length cmp key run low high c = elim c.parts [

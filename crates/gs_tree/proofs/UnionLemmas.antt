@@ -1,5 +1,5 @@
 -- One level of a union.
-use Rattle.std.proofs.Common.{◌≡◌, ℕ, ◌+◌, ◌*◌, ◌<◌, ◌≤◌, ◌^◌, max, min, List, [], ◌∷◌, ◌++◌, length, Option, Some, None, is_some, IsSome, refl, sym, ap, subst, ◌∙◌, inl, inr, arith, length-append}
+use Rattle.std.proofs.Common.{◌≡◌, ℕ, zero, suc, ◌+◌, ◌*◌, ◌<◌, ◌≤◌, ◌^◌, max, min, List, [], ◌∷◌, ◌++◌, length, Option, Some, None, is_some, IsSome, IfSome, OnSome, refl, sym, ap, subst, ◌∙◌, inl, inr, arith, length-append}
 use Rattle.std.proofs.lemmas.Bool.{cases_lt}
 use Rattle.std.specs.declared.cmp.Ordering.{Ordering}
 use Rattle.std.specs.Cmp.{IsTotalOrder}
@@ -10,15 +10,15 @@ use Rattle.gs_tree.specs.Keys.{IsRising, merge_keys}
 use Rattle.gs_tree.specs.Tree.{Tree, leaf, fork, height, keys, occurrences, Stands, IsBalanced, BirthAtMost, Descends, height_at, tree_at, older_birth, older_count}
 use Rattle.gs_tree.specs.Sets.{IsSet, union_cost}
 use Rattle.gs_tree.specs.Steps.{plain_count, one, Step, IsOlder, CopiesIfOlder}
-use Rattle.gs_tree.specs.Joining.{CanJoin, Settled, copies, joins, IsHeightAfter}
-use Rattle.gs_tree.specs.Merging.{Built, CanMerge, Merges}
+use Rattle.gs_tree.specs.Joining.{CanJoin, Settled, copies, joins, IsHeightAfter, KeepsHeight}
+use Rattle.gs_tree.specs.Merging.{Built, CanMerge, Merges, Cut}
 use Rattle.gs_tree.proofs.TreeLemmas.{one_same, plain_count_most, plain_found, Stands-step, Step-then, Step-beside, CopiesIfOlder-step, BirthAtMost-later}
 use Rattle.gs_tree.proofs.Rotations.{height_in, tree_in}
 use Rattle.gs_tree.proofs.Order.{rising_front, rising_back}
 use Rattle.gs_tree.proofs.Costs.{copies_some, copies_add}
 use Rattle.gs_tree.proofs.Levels.{Opened, opened, opened_older, older_counts}
 use Rattle.gs_tree.proofs.Heights.{size, height_digits, size-keys}
-use Rattle.gs_tree.proofs.Merging.{Cut, cut_length, cut_rising, merge_node, merge_none}
+use Rattle.gs_tree.proofs.Merging.{cut_length, cut_rising, merge_node, merge_none}
 use Rattle.gs_tree.proofs.UnionCosts.{cost_side, cost_sides, cost_level, joins_grown}
 
 -- a tree whose sides grew is no lower
@@ -29,6 +29,11 @@ both_grew l r l' r' n a b c d h =
       | inl more ↦ omega arith
       | inr same ↦ let e = h.2 (omega arith, omega arith) in omega arith
     ]
+
+-- a side is as high as it was, whether it gained n keys or none
+side_kept : (was now n : ℕ) → (n ≡ 0 → now ≡ was) → (0 < n → now ≡ was) → now ≡ was
+side_kept was now zero same grown = same refl
+side_kept was now (suc n) same grown = grown (omega arith)
 
 height_size : (t : Tree) → height t ≤ size t
 height_size leaf = omega arith
@@ -263,6 +268,14 @@ module _ (cmp : Key → Key → Ordering) (total : IsTotalOrder cmp) (since birt
                 enough = omega (arith, left_over, w.total, w.few, w.copied node top_there);
               } in
               subst (λ u. CanJoin since p3 top left (tree_at p3 left) right u) (sym right_now) (subst (λ u. CanJoin since p3 top left u right (tree_at p2 right)) (sym left_now) j)
+
+          -- a side that gained nothing, or whose height was read, is as high as it was
+          pub kept_can : (a b : ℕ) (kept : Option ℕ) → a ≡ height_at p node.left → b ≡ height_at p node.right → IfSome kept (λ h. h ≡ node.height) → OnSome kept (0 < c → height_at p3 left ≡ a) → OnSome kept (0 < d → height_at p3 right ≡ b) → IfSome kept (KeepsHeight p3 left right)
+          kept_can a b None ha hb e ca db = tt
+          kept_can a b (Some h) ha hb e ca db =
+              let hl = side_kept (height o.l) (height_at p3 left) c (λ z. height_in p3 left (tree_at p1 left) i.root left_stays ∙ ap height (i.still z).1) (λ some. ca some ∙ ha ∙ height_in p node.left o.l o.left_is o.sl) in
+              let hr = side_kept (height o.r) (height_at p3 right) d (λ z. height_in p3 right (tree_at p2 right) k.root right_stays ∙ ap height (k.still z).1) (λ some. db some ∙ hb ∙ height_in p node.right o.r o.right_is o.sr) in
+              ((omega (arith, hl, hr, near.0.0), omega (arith, hl, hr, near.0.1)), omega (arith, e, hl, hr, o.height_is))
 
           pub join_done : (p4 : Nodes) (result : ℕ) (new : Tree) → Settled since birth p3 p4 top result node.key (tree_at p3 left) (tree_at p3 right) new → Merges cmp since birth p p4 (Some result) (c + d) t run new
           join_done p4 result new s0 =

@@ -2,7 +2,7 @@
 use Rattle.std.specs.Prelude.{◌≡◌, ℕ, ◌+◌, ◌-◌, ◌*◌, ◌^◌, ◌<◌, ◌≤◌, max, min, ◌∷◌, ◌++◌, Option, Some, if◌then◌else◌}
 use Rattle.gs_pool.specs.declared.nodes.Key.{Key}
 use Rattle.gs_pool.specs.Pool.{Nodes, in_use, aside_count, room}
-use Rattle.gs_tree.specs.Tree.{Tree, root_of, height, keys, occurrences, Stands, IsBalanced, DifferByAtMost, BirthAtMost, Descends, tree_at, older_count}
+use Rattle.gs_tree.specs.Tree.{Tree, root_of, height, height_at, keys, occurrences, Stands, IsBalanced, DifferByAtMost, BirthAtMost, Descends, tree_at, older_count}
 use Rattle.gs_tree.specs.Steps.{plain_count, one, SameTotal, Step, IsWritable}
 
 -- so many copies at most, and none where no node is older than `since`
@@ -61,3 +61,7 @@ CanJoinAt since p top left right = CanJoin since p top left (tree_at p left) rig
 -- the trees that they meant and the key are what the new root means
 abbrev pub SettledAt : ℕ → ℕ → Nodes → Nodes → ℕ → Option ℕ → Key → Option ℕ → ℕ → Type 0
 SettledAt since birth p q top left key right new = Settled since birth p q top new key (tree_at p left) (tree_at p right) (tree_at q (Some new))
+
+-- two trees that differ by one in height at most stand below a node of height h
+abbrev pub KeepsHeight : Nodes → Option ℕ → Option ℕ → ℕ → Type 0
+KeepsHeight p left right h = DifferByAtMost 1 (height_at p left) (height_at p right) × (h ≡ max (height_at p left) (height_at p right) + 1)

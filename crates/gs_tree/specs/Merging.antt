@@ -1,11 +1,12 @@
 -- How a run of keys becomes a tree, and goes into one.
-use Rattle.std.specs.Prelude.{◌≡◌, ℕ, ◌+◌, ◌*◌, ◌^◌, ◌<◌, ◌≤◌, min, List, length, Option}
+use Rattle.std.specs.Prelude.{◌≡◌, ◌⊎◌, ℕ, ◌+◌, ◌*◌, ◌^◌, ◌<◌, ◌≤◌, min, List, ◌∷◌, ◌++◌, length, Option}
 use Rattle.std.specs.declared.cmp.Ordering.{Ordering}
+use Rattle.std.specs.declared.cmp.Ordering.TheVariants.{Less, Equal}
 use Rattle.gs_pool.specs.declared.nodes.Key.{Key}
 use Rattle.gs_pool.specs.Pool.{Nodes, mark_at, in_use, aside_count, room}
 use Rattle.gs_tree.specs.declared.unions.Merged.{Merged}
-use Rattle.gs_tree.specs.Keys.{IsRising, merge_keys}
-use Rattle.gs_tree.specs.Tree.{Tree, root_of, height, keys, occurrences, Stands, IsBalanced, BirthAtMost, Descends, tree_at, older_count}
+use Rattle.gs_tree.specs.Keys.{AllKeys, IsRising, merge_keys}
+use Rattle.gs_tree.specs.Tree.{Tree, root_of, height, height_at, keys, occurrences, Stands, IsBalanced, BirthAtMost, Descends, tree_at, older_count}
 use Rattle.gs_tree.specs.Steps.{SameTotal, Step}
 use Rattle.gs_tree.specs.Joining.{copies}
 use Rattle.gs_tree.specs.Sets.{IsSet, union_cost}
@@ -63,3 +64,13 @@ CanMergeAt cmp since p root run = CanMerge cmp since p root (tree_at p root) run
 -- it went into the set
 abbrev pub MergesAt : (Key → Key → Ordering) → ℕ → ℕ → Nodes → Nodes → Option ℕ → List Key → Merged → Type 0
 MergesAt cmp since birth p q root run m = Merges cmp since birth p q m.root m.added (tree_at p root) run (tree_at q m.root)
+
+-- a run is cut at a key: what is below it, what is above it, and at most one key between
+pub record Cut (cmp : Key → Key → Ordering) (key : Key) (run low high : List Key) : Type 0 where
+  pub below : AllKeys (λ x. cmp x key ≡ Less) low
+  pub above : AllKeys (λ x. cmp key x ≡ Less) high
+  pub parts : (run ≡ low ++ high) ⊎ ((x : Key) × (run ≡ low ++ x ∷ high) × (cmp x key ≡ Equal))
+
+-- a side that gained keys is as high as it was
+abbrev pub IsAsHigh : Nodes → Merged → ℕ → Type 0
+IsAsHigh p side before = 0 < side.added → height_at p side.root ≡ before

@@ -1,9 +1,9 @@
 //! A node that may be written, rotations, and the join of two trees.
-ghost use Rattle.std.specs.Prelude.{◌≡◌, ℕ, ◌+◌, ◌<◌, ◌≤◌, ◌^◌, Some, None, IsSome, Option};
+ghost use Rattle.std.specs.Prelude.{◌≡◌, ℕ, ◌+◌, ◌<◌, ◌≤◌, ◌^◌, max, Some, None, IsSome, IfSome, Option};
 ghost use Rattle.gs_pool.specs.Pool.{node_at, mark_at, plain, room};
 ghost use Rattle.gs_tree.specs.Tree.{height_at, IsRoot, tree_at, height, DifferByAtMost};
 ghost use Rattle.gs_tree.specs.Steps.{CopiesIfOlder, IsOlder, Links};
-ghost use Rattle.gs_tree.specs.Joining.{CanSettleAt, CanJoinAt, SettledAt};
+ghost use Rattle.gs_tree.specs.Joining.{CanSettleAt, CanJoinAt, SettledAt, KeepsHeight};
 
 use gs_pool::{Key, Node, Pool};
 
@@ -190,4 +190,54 @@ pub fn join(
         );
     }
     settle(pool, top, left, key, right, since, birth)
+}
+
+// Makes a node the parent of two trees whose heights are known, so that neither is read.
+fn relink(
+    pool: &mut Pool,
+    id: u32,
+    left: Option<u32>,
+    key: Key,
+    right: Option<u32>,
+    height: u32,
+    birth: u64,
+)
+    requires used { IsSome (node_at pool.old id) }
+    requires above { height ≡ max (height_at pool.old left) (height_at pool.old right) + 1 }
+    ensures { Links pool.old pool.new id left key right birth }
+{
+    pool.set(
+        id,
+        Node {
+            key,
+            left,
+            right,
+            height,
+            birth,
+        },
+    );
+}
+
+/// Makes a node the parent of two trees of any heights, and balances them. Where they are known to be
+/// in balance below a node of a height, neither is read.
+pub fn rejoin(
+    pool: &mut Pool,
+    left: Option<u32>,
+    top: u32,
+    key: Key,
+    right: Option<u32>,
+    kept: Option<u32>,
+    since: u64,
+    birth: u64,
+) -> u32
+    requires can { CanJoinAt since pool.old top left right }
+    requires kept { IfSome kept (KeepsHeight pool.old left right) }
+    requires birth { since ≤ birth }
+    ensures { SettledAt since birth pool.old pool.new top left key right result }
+{
+    let Some(height) = kept else {
+        return join(pool, left, top, key, right, since, birth);
+    };
+    relink(pool, top, left, key, right, height, birth);
+    top
 }

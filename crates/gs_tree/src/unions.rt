@@ -1,13 +1,14 @@
 //! Keys into a set: a run of keys as one union, and a key as the union of one.
-ghost use Rattle.std.specs.Prelude.{◌≡◌, ℕ, ◌+◌, ◌^◌, ◌<◌, ◌≤◌, [], ◌∷◌, length, drop, Option, IsOk, IfOk, OnOk, OnErr};
+ghost use Rattle.std.specs.Prelude.{◌≡◌, ℕ, ◌+◌, ◌^◌, ◌<◌, ◌≤◌, [], ◌∷◌, length, drop, Option, IsOk, IfOk, OnOk, OnErr, IfSome, OnSome, true};
 ghost use Rattle.gs_pool.specs.Pool.{room};
 ghost use Rattle.std.specs.declared.cmp.Ordering.TheVariants.{Less};
 ghost use Rattle.gs_tree.specs.Keys.{AllKeys, IsRising, Places};
-ghost use Rattle.gs_tree.specs.Merging.{BuiltAt, CanMergeAt, MergesAt};
+ghost use Rattle.gs_tree.specs.Merging.{BuiltAt, CanMergeAt, MergesAt, Cut, IsAsHigh};
+ghost use Rattle.gs_tree.specs.Tree.{IsRoot, height_at};
 ghost use Rattle.gs_tree.specs.Reading.{keys_at};
 ghost use Rattle.gs_tree.specs.Sets.{IsSetAt, UnitesAt, GainsKey, IsCheap, HasUnionRoom};
 
-use crate::balance::{copy_if_older, height_of, join, link};
+use crate::balance::{copy_if_older, height_of, link, rejoin};
 use crate::orders::KeyOrder;
 use crate::room::copy_bound;
 use gs_pool::{Key, Node, Pool};
@@ -134,7 +135,50 @@ fn lacked(left: usize, right: usize) -> usize
     left + right
 }
 
-// The union of a tree with a run. Where nothing is added, nothing is copied.
+// The keys of a run below a key, and those above it.
+fn cut_at<'a, O: KeyOrder>(order: &O, run: &'a [Key], key: Key) -> (&'a [Key], &'a [Key])
+    requires rising { IsRising (O.compare order.now) run.now }
+    requires some { 0 < length run.now }
+    ensures { Cut (O.compare order.now) key run.now result.0.now result.1.now }
+{
+    let at = find_place(order, run, key);
+    let (low, _) = run.split_at(at.before);
+    let (_, high) = run.split_at(at.after);
+    (low, high)
+}
+
+// Whether a side is as high as it was. One that gained no key is not read.
+fn is_as_high(pool: &Pool, side: Merged, before: u32) -> bool
+    requires { IsRoot pool.now side.root }
+    ensures { result ≡ true → IsAsHigh pool.now side before }
+{
+    side.added == 0 || height_of(pool, side.root) == before
+}
+
+// The height that a node keeps, where both sides are as high as they were.
+fn kept_height(
+    pool: &Pool,
+    height: u32,
+    left: Merged,
+    left_before: u32,
+    right: Merged,
+    right_before: u32,
+) -> Option<u32>
+    requires left { IsRoot pool.now left.root }
+    requires right { IsRoot pool.now right.root }
+    ensures height { IfSome result (λ h. h ≡ height) }
+    ensures left { OnSome result (IsAsHigh pool.now left left_before) }
+    ensures right { OnSome result (IsAsHigh pool.now right right_before) }
+{
+    if is_as_high(pool, left, left_before) && is_as_high(pool, right, right_before) {
+        Some(height)
+    } else {
+        None
+    }
+}
+
+// The union of a tree with a run. Where nothing is added, nothing is copied. The sides' heights are read
+// before texts are compared, so that memory brings the next node and the texts at once.
 fn union_at<O: KeyOrder>(
     pool: &mut Pool,
     order: &O,
@@ -158,9 +202,9 @@ fn union_at<O: KeyOrder>(
         };
     };
     let node = pool.get(id);
-    let at = find_place(order, run, node.key);
-    let (low, _) = run.split_at(at.before);
-    let (_, high) = run.split_at(at.after);
+    let left_before = height_of(pool, node.left);
+    let right_before = height_of(pool, node.right);
+    let (low, high) = cut_at(order, run, node.key);
     let left = union_at(pool, order, node.left, low, since, birth);
     let right = union_at(pool, order, node.right, high, since, birth);
     let added = lacked(left.added, right.added);
@@ -168,11 +212,11 @@ fn union_at<O: KeyOrder>(
         return Merged { root, added: 0 };
     }
     let top = copy_if_older(pool, id, since, birth);
-    let joined = join(pool, left.root, top, node.key, right.root, since, birth);
-    Merged {
-        root: Some(joined),
-        added,
-    }
+    let kept = kept_height(pool, node.height, left, left_before, right, right_before);
+    let root = Some(rejoin(
+        pool, left.root, top, node.key, right.root, kept, since, birth,
+    ));
+    Merged { root, added }
 }
 
 /// Adds a run of keys to a set; those that the set has already stay as they are. Nodes older than
