@@ -7,6 +7,8 @@ pub mod LongestLemmas
 pub mod BarrenLemmas
 pub mod StepLemmas
 pub mod RunLemmas
+pub mod TableLemmas
+pub mod FrontLemmas
 pub mod ReadLemmas
 pub mod WayLemmas
 pub mod SettledLemmas
@@ -25,3 +27,4 @@ pub mod CutLemmas
 mod CutExamples
 pub mod TextLemmas
 pub mod StandingLemmas
+pub mod PlainLemmas

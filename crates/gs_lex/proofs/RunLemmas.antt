@@ -10,7 +10,7 @@ use Rattle.std.specs.Str.{IsUtf8}
 use Rattle.std.proofs.str.Laws.{one}
 use Rattle.gs_machine.proofs.Encodings.{scalar_from}
 use Rattle.gs_model.specs.Characters.{is_iri_char}
-use Rattle.gs_lex.specs.Classes.{is_ws, is_name_char, is_line_end, is_local}
+use Rattle.gs_lex.specs.Classes.{is_ws, is_digit, is_alpha, is_name_char, is_line_end, is_local}
 use Rattle.gs_lex.specs.Readings.{Passes}
 use Rattle.gs_lex.specs.Runs.{AllFrom, plain_iri, plain_string, plain_comment, plain_name, stay_of, at_place}
 use Rattle.gs_lex.specs.Scans.{IsScanned, best_after, onward_of}
@@ -126,11 +126,13 @@ stays-string (text.Long mark.Apostrophe) n c h =
     let p = string_parts c h in
     (p.0, if_false (c == 39) _ _ p.1.1.0 ∙ if_false (c == 92) _ _ p.1.1.1.0)
 
-abbrev all_below : (ℕ → Bool) → ℕ → Bool
+-- the test holds of each number below n
+abbrev pub all_below : (ℕ → Bool) → ℕ → Bool
 all_below f zero = true
 all_below f (suc n) = f n && all_below f n
 
-below_is : (f : ℕ → Bool) (n c : ℕ) → all_below f n ≡ true → c < n → f c ≡ true
+-- so it does of this one
+pub below_is : (f : ℕ → Bool) (n c : ℕ) → all_below f n ≡ true → c < n → f c ≡ true
 below_is f zero c h l = absurd (omega (arith, l))
 below_is f (suc n) c h l =
     let b = and_parts (f n) (all_below f n) h in
@@ -163,6 +165,28 @@ stays-label c h = let p = name_parts c h in (p.0, if_true (is_name_char c) at.La
 
 pub stays-local : Stays plain_name at.Local
 stays-local c h = let p = name_parts c h in (p.0, if_true (is_local c) at.Local _ (local_name c p.1))
+
+-- a digit is of ASCII
+digit_low : (c : ℕ) → is_digit c ≡ true → c < 128
+digit_low c h = grind (arith, nat_tests)
+
+-- over digits a number stays a number
+pub stays-integer : Stays is_digit at.Integer
+stays-integer c h = (digit_low c h, if_true (is_digit c) at.Integer _ h)
+
+pub stays-fraction : Stays is_digit at.IntegerFraction
+stays-fraction c h = (digit_low c h, if_true (is_digit c) at.IntegerFraction _ h)
+
+pub stays-exponent : Stays is_digit at.ExponentDigits
+stays-exponent c h = (digit_low c h, if_true (is_digit c) at.ExponentDigits _ h)
+
+-- a letter is of ASCII
+letter_low : (c : ℕ) → is_alpha c ≡ true → c < 128
+letter_low c h = grind (arith, nat_tests)
+
+-- over letters a tag stays a tag
+pub stays-tag : Stays is_alpha at.Tag
+stays-tag c h = (letter_low c h, if_true (is_alpha c) at.Tag _ h)
 
 -- the first byte, and those after it
 pub all-spaces : (x : List ℕ) (n : ℕ) → is_ws (get_or x 0 0) ≡ true → AllFrom is_ws x 1 n → AllFrom is_ws x 0 n

@@ -12,8 +12,10 @@ pub mod Cuts
 pub mod Spans
 pub mod Scans
 pub mod Runs
+pub mod Fronts
 pub mod Lexemes
 pub mod Readings
+pub mod Plains
 pub mod Lexers
 pub mod Cutting
 pub mod Texts

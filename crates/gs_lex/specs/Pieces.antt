@@ -1,10 +1,12 @@
 -- What a lexer has cut of a text that it took in pieces.
-use Rattle.std.specs.Prelude.{ℕ, ◌<◌, Bool, false, List, ◌++◌, length, drop}
+use Rattle.std.specs.Prelude.{◌≡◌, ℕ, ◌<◌, Bool, false, List, ◌++◌, length, drop}
 use Rattle.gs_lex.specs.Tokens.{Lexeme}
+use Rattle.gs_lex.specs.Plains.{IsPlainAhead}
 use Rattle.gs_lex.specs.Standing.{StandsAfter, ComesNext, lexeme_in}
 use Rattle.gs_lex.specs.declared.pieces.Advance.{Advance}
 use Rattle.gs_lex.specs.declared.pieces.Advance.TheVariants as next
 use Rattle.gs_lex.specs.declared.pieces.PieceLexer.{PieceLexer}
+use Rattle.gs_lex.specs.declared.plains.Plain.{Plain}
 
 -- the bytes that are held and not cut
 abbrev pub left_in : PieceLexer → List ℕ
@@ -33,3 +35,9 @@ Advances is_end old new n =
 abbrev pub Shortens : PieceLexer → PieceLexer → Advance → Type 0
 Shortens old new next.Token = length (left_in new) < length (left_in old)
 Shortens old new n = Unit {0}
+
+-- between two tokens, of which the next has not begun to be read, white space and this token stand at the front of what is left
+pub record ComesPlain (l : PieceLexer) (p : Plain) : Type 0 where
+  pub between : l.at.in_comment ≡ false
+  pub unread : l.at.scan.len ≡ 0
+  pub ahead : IsPlainAhead l.at.updates (left_in l) p

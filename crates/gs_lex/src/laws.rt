@@ -1,7 +1,9 @@
 //! Laws of the definition, proved: the body is empty, and the contract is the law.
-ghost use Rattle.std.specs.Prelude.{◌<◌, ◌^◌, ℕ, Bool, List, length};
+ghost use Rattle.std.specs.Prelude.{◌<◌, ◌^◌, ℕ, Bool, true, false, List, length};
 ghost use Rattle.gs_lex.specs.Cuts.{HasOneCut, HasThatCut};
-ghost use Rattle.gs_lex.specs.Tokens.{Gap};
+ghost use Rattle.gs_lex.specs.Pieces.{Leads};
+ghost use Rattle.gs_lex.specs.Tokens.{Gap, Lexeme};
+ghost use Rattle.gs_lex.specs.declared.pieces.PieceLexer.{PieceLexer};
 ghost use Rattle.gs_lex.specs.Spans.{IsCutIntoSpans};
 
 /// A text is cut in one way: its tokens, and how it ends, are determined.
@@ -18,4 +20,11 @@ pub fn text_has_a_cut()
 /// bytes.
 pub fn tokens_are_spans()
     ensures { (updates : Bool) (x : List ℕ) → length x < 2 ^ 64 → IsCutIntoSpans updates x }
+{}
+
+/// A text that has not ended may end where it stands: what led a lexer of pieces there leads it to
+/// the end of the whole text.
+pub fn a_text_may_end()
+    ensures { (updates : Bool) (lexer : PieceLexer) (x : List ℕ) (ts : List Lexeme)
+        → Leads false updates lexer x ts → Leads true updates lexer x ts }
 {}

@@ -1,14 +1,16 @@
 //! The lexer of a text that comes in pieces, token by token.
-ghost use Rattle.std.specs.Prelude.{◌≡◌, false, [], OnOk};
+ghost use Rattle.std.specs.Prelude.{◌≡◌, ◌<◌, ◌^◌, false, [], OnOk};
 ghost use Rattle.gs_lex.specs.Lexemes.{lexeme_of_borrowed};
 ghost use Rattle.gs_lex.specs.Readings.{IsWithin};
+ghost use Rattle.gs_lex.specs.Tokens.{place_after};
 ghost use Rattle.gs_lex.specs.Standing.{IsSpanWithin, CutsAhead, TakesSome, lexeme_in};
 
 use crate::kinds::TokenKind;
 use crate::lexers::{drop_front, first_reading, without_cut};
+use crate::plains::{Plain, plain_ahead};
 use crate::readings::{found, passed, step_at};
 use crate::steps::{Reading, Step};
-use crate::tokens::{BorrowedToken, borrowed_at};
+use crate::tokens::{BorrowedToken, borrowed_at, later_place};
 use std::alloc::{AllocError, Global};
 
 /// What stands next in a text that comes in pieces.
@@ -52,6 +54,17 @@ impl Span {
     }
 }
 
+/// The places where a token begins and ends, after white space that begins at a place.
+#[inline(always)]
+fn places(place: u64, plain: Plain) -> (u64, u64)
+    ensures fits { place < 2 ^ 64 }
+    ensures start { result.0 ≡ place_after place plain.space }
+    ensures end { result.1 ≡ place_after (place_after place plain.space) plain.count }
+{
+    let start = later_place(place, plain.space);
+    (start, later_place(start, plain.count))
+}
+
 /// The token of a span.
 #[inline(always)]
 fn token_in(text: &[u8], span: Span) -> BorrowedToken<'_>
@@ -64,7 +77,7 @@ fn token_in(text: &[u8], span: Span) -> BorrowedToken<'_>
 
 /// Over white space and comments, and over the token that comes next. Where none does, the span
 /// stays.
-#[inline(always)]
+#[inline(never)]
 fn advance_in(text: &[u8], from: Reading, last: Span, is_end: bool) -> (Reading, Span, Advance)
     requires within { IsWithin from text.now }
     requires span { IsSpanWithin last text.now }
@@ -110,7 +123,8 @@ pub struct PieceLexer {
 }
 
 impl PieceLexer {
-    ghost use Rattle.gs_lex.specs.Pieces.{Leads, Holds, Advances, Shortens, token_of};
+    ghost use Rattle.std.specs.Prelude.{◌++◌, Bool, IfSome, OnErr};
+    ghost use Rattle.gs_lex.specs.Pieces.{Leads, Holds, Advances, Shortens, ComesPlain, left_in, token_of};
 
     /// A lexer at the start of a text, of the tokens of Turtle, or of SPARQL Update too. It takes
     /// no memory.
@@ -124,9 +138,12 @@ impl PieceLexer {
         }
     }
 
-    /// Takes the next piece. Of what came before it drops what is cut.
+    /// Takes the next piece. Of what came before it drops what is cut. Where memory is refused no byte
+    /// of the piece is taken.
     pub fn hold(&mut self, piece: &[u8]) -> Result<(), AllocError>
-        ensures { OnOk result (Holds self.old self.new piece.now) }
+        ensures taken { OnOk result (Holds self.old self.new piece.now) }
+        ensures held { OnOk result (self.new.held.items ≡ left_in self.old ++ piece.now) }
+        ensures refused { OnErr result (Holds self.old self.new []) }
     {
         drop_front(&mut self.held, self.at.cut);
         self.at = without_cut(self.at);
@@ -138,9 +155,55 @@ impl PieceLexer {
     /// Goes over the next token, or says what stands in its place; the whole text ends with what is
     /// held, or it goes on. After anything but a token each later call with the same `is_end` answers
     /// the same, until a piece is taken. Linear in the bytes up to the token's end, and in those after
-    /// them that a longer token might have had: what was read is not read again.
+    /// them that a longer token might have had: but for a first try, straight on, what was read is not
+    /// read again.
     #[inline(always)]
     pub fn advance(&mut self, is_end: bool) -> Advance
+        ensures next { Advances is_end self.old self.new result }
+        ensures on { Shortens self.old self.new result }
+    {
+        if let Some(plain) = self.plain() {
+            self.pass(plain);
+            return Advance::Token;
+        }
+        self.advance_far(is_end)
+    }
+
+    /// The token that comes next, where it has not begun to be read, and is known at once.
+    #[inline(always)]
+    fn plain(&self) -> Option<Plain>
+        ensures { IfSome result (ComesPlain self.now) }
+    {
+        if self.at.scan.len > 0 || self.at.in_comment {
+            return None;
+        }
+        plain_ahead(&self.held[self.at.cut..], self.at.updates)
+    }
+
+    /// Over that token.
+    #[inline(always)]
+    fn pass(&mut self, plain: Plain)
+        requires { ComesPlain self.old plain }
+        ensures next { (is_end : Bool) → Advances is_end self.old self.new Advance.Token }
+        ensures on { Shortens self.old self.new Advance.Token }
+    {
+        let from = self.at.cut + plain.space;
+        let (start, end) = places(self.at.place, plain);
+        self.last = Span {
+            kind: plain.kind,
+            start,
+            from,
+            count: plain.count,
+        };
+        self.at.cut = from + plain.count;
+        self.at.place = end;
+        self.at.last = end;
+        self.at.barren = 0;
+    }
+
+    /// Over the token that comes next, whichever it is.
+    #[inline(always)]
+    fn advance_far(&mut self, is_end: bool) -> Advance
         ensures next { Advances is_end self.old self.new result }
         ensures on { Shortens self.old self.new result }
     {

@@ -4,34 +4,43 @@ ghost use Rattle.gs_lex.specs.Classes as class;
 ghost use Rattle.gs_lex.specs.Runs as spec;
 ghost use Rattle.gs_lex.specs.Runs.{AllFrom};
 
-use gs_chars::is_iri_char;
+/// Of each byte the runs that it may stand in: 1 of a name, 2 of an IRI, 4 of a string.
+const RUNS: [u8; 256] = [
+    4, 4, 4, 4, 4, 4, 4, 4, 4, 4, 0, 4, 4, 0, 4, 4, 4, 4, 4, 4, 4, 4, 4, 4, 4, 4, 4, 4, 4, 4, 4, 4,
+    4, 6, 0, 6, 6, 6, 6, 2, 6, 6, 6, 6, 6, 7, 6, 6, 7, 7, 7, 7, 7, 7, 7, 7, 7, 7, 6, 6, 4, 6, 4, 6,
+    6, 7, 7, 7, 7, 7, 7, 7, 7, 7, 7, 7, 7, 7, 7, 7, 7, 7, 7, 7, 7, 7, 7, 7, 7, 7, 7, 6, 0, 6, 4, 7,
+    4, 7, 7, 7, 7, 7, 7, 7, 7, 7, 7, 7, 7, 7, 7, 7, 7, 7, 7, 7, 7, 7, 7, 7, 7, 7, 7, 4, 4, 4, 6, 6,
+    0, 0, 0, 0, 0, 0, 0, 0, 0, 0, 0, 0, 0, 0, 0, 0, 0, 0, 0, 0, 0, 0, 0, 0, 0, 0, 0, 0, 0, 0, 0, 0,
+    0, 0, 0, 0, 0, 0, 0, 0, 0, 0, 0, 0, 0, 0, 0, 0, 0, 0, 0, 0, 0, 0, 0, 0, 0, 0, 0, 0, 0, 0, 0, 0,
+    0, 0, 0, 0, 0, 0, 0, 0, 0, 0, 0, 0, 0, 0, 0, 0, 0, 0, 0, 0, 0, 0, 0, 0, 0, 0, 0, 0, 0, 0, 0, 0,
+    0, 0, 0, 0, 0, 0, 0, 0, 0, 0, 0, 0, 0, 0, 0, 0, 0, 0, 0, 0, 0, 0, 0, 0, 0, 0, 0, 0, 0, 0, 0, 0,
+];
 
+#[inline(always)]
+fn is_plain_name(byte: u8) -> bool
+    ensures { result ≡ spec.plain_name byte }
+{
+    RUNS[usize::from(byte)] & 1 != 0
+}
+
+#[inline(always)]
 fn is_plain_iri(byte: u8) -> bool
     ensures { result ≡ spec.plain_iri byte }
 {
-    byte < 128 && is_iri_char(char::from(byte))
+    RUNS[usize::from(byte)] & 2 != 0
 }
 
-fn is_plain_string(byte: u8) -> bool
+#[inline(always)]
+pub fn is_plain_string(byte: u8) -> bool
     ensures { result ≡ spec.plain_string byte }
 {
-    byte < 128
-        && !(byte == b'"' || byte == b'\'' || byte == b'\\' || byte == b'\n' || byte == b'\r')
+    RUNS[usize::from(byte)] & 4 != 0
 }
 
 fn is_plain_comment(byte: u8) -> bool
     ensures { result ≡ spec.plain_comment byte }
 {
     byte < 128 && !(byte == b'\n' || byte == b'\r')
-}
-
-fn is_plain_name(byte: u8) -> bool
-    ensures { result ≡ spec.plain_name byte }
-{
-    matches!(byte, b'A'..=b'Z' | b'a'..=b'z')
-        || byte.is_ascii_digit()
-        || byte == b'_'
-        || byte == b'-'
 }
 
 /// White space: a space, a tab, a carriage return or a line feed.
@@ -87,6 +96,7 @@ pub fn comment_run(text: &[u8], from: usize) -> usize
 }
 
 /// Where a run in a name ends.
+#[inline(always)]
 pub fn name_run(text: &[u8], from: usize) -> usize
     requires { from ≤ length text.now }
     ensures after { from ≤ result }
@@ -101,7 +111,40 @@ pub fn name_run(text: &[u8], from: usize) -> usize
     text.len()
 }
 
+/// Where a run of letters ends.
+#[inline(always)]
+pub fn letter_run(text: &[u8], from: usize) -> usize
+    requires { from ≤ length text.now }
+    ensures after { from ≤ result }
+    ensures within { result ≤ length text.now }
+    ensures plain { AllFrom class.is_alpha text.now from result }
+{
+    for i in from..text.len() {
+        if !text[i].is_ascii_alphabetic() {
+            return i;
+        }
+    }
+    text.len()
+}
+
+/// Where a run of digits ends.
+#[inline(always)]
+pub fn digit_run(text: &[u8], from: usize) -> usize
+    requires { from ≤ length text.now }
+    ensures after { from ≤ result }
+    ensures within { result ≤ length text.now }
+    ensures plain { AllFrom class.is_digit text.now from result }
+{
+    for i in from..text.len() {
+        if !text[i].is_ascii_digit() {
+            return i;
+        }
+    }
+    text.len()
+}
+
 /// Where white space ends.
+#[inline(always)]
 pub fn space_run(text: &[u8], from: usize) -> usize
     requires { from ≤ length text.now }
     ensures after { from ≤ result }

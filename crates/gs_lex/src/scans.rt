@@ -6,7 +6,7 @@ ghost use Rattle.gs_lex.specs.Scans.{onward_of, fresh, StaysScanned, IsEnded, Is
 
 use crate::kinds::Terminal;
 use crate::moves::state_after;
-use crate::runs::{iri_run, name_run, string_run};
+use crate::runs::{digit_run, iri_run, letter_run, name_run, string_run};
 use crate::states::{State, Text, accepts, start_of};
 use crate::symbols::{Symbol, front_at};
 
@@ -34,7 +34,7 @@ impl Scan {
 
     /// After one character more, of so many bytes.
     #[inline(always)]
-    fn onward(self, state: State, size: usize) -> Self
+    pub fn onward(self, state: State, size: usize) -> Self
         requires { self.len + size < 2 ^ 64 }
         ensures { result ≡ onward_of self state size }
     {
@@ -86,13 +86,14 @@ impl Scan {
 
 /// Over the plain characters that come next, where the state has such.
 #[inline(always)]
-fn over_run(text: &[u8], scan: Scan) -> Scan
+pub fn over_run(text: &[u8], scan: Scan) -> Scan
     requires within { scan.len ≤ length text.now }
     requires best_within { scan.best_len ≤ scan.len }
     ensures on { scan.len ≤ result.len }
     ensures within { result.len ≤ length text.now }
     ensures best_within { result.best_len ≤ result.len }
     ensures scanned { StaysScanned text.now scan result }
+    ensures state { result.state ≡ scan.state }
 {
     match scan.state {
         State::Inside(inside) => match inside {
@@ -104,6 +105,10 @@ fn over_run(text: &[u8], scan: Scan) -> Scan
         State::WordMore => scan.stay(name_run(text, scan.len)),
         State::Local => scan.stay(name_run(text, scan.len)),
         State::Label => scan.stay(name_run(text, scan.len)),
+        State::Integer => scan.stay(digit_run(text, scan.len)),
+        State::IntegerFraction => scan.stay(digit_run(text, scan.len)),
+        State::ExponentDigits => scan.stay(digit_run(text, scan.len)),
+        State::Tag => scan.stay(letter_run(text, scan.len)),
         _ => scan,
     }
 }

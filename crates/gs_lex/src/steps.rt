@@ -5,6 +5,7 @@ ghost use Rattle.gs_lex.specs.Scans.{IsBarrenAfter};
 
 use crate::classes::is_line_end;
 use crate::kinds::{Terminal, TokenKind};
+use crate::plains::plain_token;
 use crate::runs::{comment_run, is_space, space_run};
 use crate::scans::{Scan, read_on};
 use crate::symbols::{Symbol, front_at};
@@ -89,6 +90,24 @@ fn barren_after(barren: usize, scan: Scan, terminal: Terminal) -> usize
 /// A step to a token's end.
 #[inline(always)]
 fn token_step(rest: &[u8], at: Reading, is_end: bool) -> Step
+    requires within { at.scan.len ≤ length rest.now }
+    requires best_within { at.scan.best_len ≤ at.scan.len }
+    requires between { at.in_comment ≡ false }
+    requires begins { BeginsToken rest.now }
+    ensures moves { StepMoves at rest.now result }
+    ensures fits { StepFollows is_end at rest.now result }
+{
+    if at.scan.len == 0 {
+        if let Some((kind, count)) = plain_token(rest, at.updates) {
+            return Step::Found(kind, count, 0);
+        }
+    }
+    token_far(rest, at, is_end)
+}
+
+/// A step to the end of a token, whichever it is.
+#[inline(always)]
+fn token_far(rest: &[u8], at: Reading, is_end: bool) -> Step
     requires within { at.scan.len ≤ length rest.now }
     requires best_within { at.scan.best_len ≤ at.scan.len }
     requires between { at.in_comment ≡ false }

@@ -71,7 +71,7 @@ impl<'a> TextLexer<'a> {
 
     /// The next token, or what stands in its place; after a fault or the end each later call answers
     /// the same. Linear in the bytes up to the token's end, and in those after them that a longer
-    /// token might have had: what was read in vain is not read again.
+    /// token might have had: but for a first try, straight on, what was read in vain is not read again.
     #[inline(always)]
     pub fn next_token(&mut self) -> Next<'a>
         ensures text { self.new.text ≡ self.old.text }

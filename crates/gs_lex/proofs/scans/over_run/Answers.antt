@@ -1,8 +1,9 @@
 use Rattle.std.proofs.Common.{sym, ap, ◌∙◌, subst}
+use Rattle.gs_lex.specs.Classes.{is_digit, is_alpha}
 use Rattle.gs_lex.specs.Scans.{IsScanned}
 use Rattle.gs_lex.specs.Runs.{plain_iri, plain_string, plain_name}
 use Rattle.gs_lex.specs.declared.states.State.TheVariants as at
-use Rattle.gs_lex.proofs.RunLemmas.{Stays, scan-stays, stays-iri, stays-string, stays-word, stays-word-more, stays-local, stays-label}
+use Rattle.gs_lex.proofs.RunLemmas.{Stays, scan-stays, stays-iri, stays-string, stays-word, stays-word-more, stays-local, stays-label, stays-integer, stays-fraction, stays-exponent, stays-tag}
 use Rattle.gs_lex.proofs.scans.over_run.Goals as goal
 
 pub returns-in-Iri-clause-scanned : goal.returns-in-Iri-clause-scanned
@@ -39,3 +40,23 @@ pub returns-in-Label-clause-scanned : goal.returns-in-Label-clause-scanned
 returns-in-Label-clause-scanned c u h =
     subst (IsScanned u c.args.text.now) (sym c.stay-in-Label.ensures.stayed)
     (scan-stays u c.args.text.now c.args.scan plain_name c.name_run-in-Label.result (subst (Stays plain_name) (sym (c.in-Label.is)) stays-label) c.name_run-in-Label.ensures.after c.name_run-in-Label.ensures.within c.name_run-in-Label.ensures.plain h)
+
+pub returns-in-Integer-clause-scanned : goal.returns-in-Integer-clause-scanned
+returns-in-Integer-clause-scanned c u h =
+    subst (IsScanned u c.args.text.now) (sym c.stay-in-Integer.ensures.stayed)
+    (scan-stays u c.args.text.now c.args.scan is_digit c.digit_run.result (subst (Stays is_digit) (sym (c.in-Integer.is)) stays-integer) c.digit_run.ensures.after c.digit_run.ensures.within c.digit_run.ensures.plain h)
+
+pub returns-in-IntegerFraction-clause-scanned : goal.returns-in-IntegerFraction-clause-scanned
+returns-in-IntegerFraction-clause-scanned c u h =
+    subst (IsScanned u c.args.text.now) (sym c.stay-in-IntegerFraction.ensures.stayed)
+    (scan-stays u c.args.text.now c.args.scan is_digit c.digit_run-in-IntegerFraction.result (subst (Stays is_digit) (sym (c.in-IntegerFraction.is)) stays-fraction) c.digit_run-in-IntegerFraction.ensures.after c.digit_run-in-IntegerFraction.ensures.within c.digit_run-in-IntegerFraction.ensures.plain h)
+
+pub returns-in-Tag-clause-scanned : goal.returns-in-Tag-clause-scanned
+returns-in-Tag-clause-scanned c u h =
+    subst (IsScanned u c.args.text.now) (sym c.stay-in-Tag.ensures.stayed)
+    (scan-stays u c.args.text.now c.args.scan is_alpha c.letter_run.result (subst (Stays is_alpha) (sym (c.in-Tag.is)) stays-tag) c.letter_run.ensures.after c.letter_run.ensures.within c.letter_run.ensures.plain h)
+
+pub returns-in-ExponentDigits-clause-scanned : goal.returns-in-ExponentDigits-clause-scanned
+returns-in-ExponentDigits-clause-scanned c u h =
+    subst (IsScanned u c.args.text.now) (sym c.stay-in-ExponentDigits.ensures.stayed)
+    (scan-stays u c.args.text.now c.args.scan is_digit c.digit_run-in-ExponentDigits.result (subst (Stays is_digit) (sym (c.in-ExponentDigits.is)) stays-exponent) c.digit_run-in-ExponentDigits.ensures.after c.digit_run-in-ExponentDigits.ensures.within c.digit_run-in-ExponentDigits.ensures.plain h)

@@ -21,7 +21,7 @@ returns-in-Read-clause-ok c =
     let old = c.args.triples.now.items in
     let new = c.take_tokens.new.triples.items in
     let t = rw c.in-Read.is at c.in_ok-take_tokens.ensures.ok in
-    let f = lexes-held a b c.hold.new.self a.parser b.parser piece old new c.in_ok-hold.ensures t in
+    let f = lexes-held a b c.hold.new.self a.parser b.parser piece old new c.in_ok-hold.ensures.taken t in
     always_ok c.go_on.result (reads-portion a b piece t.lexemes old new (record { base = refl; request = refl; closed = refl }) f t.taken)
 
 pub returns-in-Read-clause-fault : goal.returns-in-Read-clause-fault
@@ -32,7 +32,7 @@ returns-in-Read-clause-fault c =
     let old = c.args.triples.now.items in
     let new = c.take_tokens.new.triples.items in
     let t = rw c.in-Read.is at c.in_ok-take_tokens.ensures.ok in
-    let f = lexes-held a b c.hold.new.self a.parser b.parser piece old new c.in_ok-hold.ensures t in
+    let f = lexes-held a b c.hold.new.self a.parser b.parser piece old new c.in_ok-hold.ensures.taken t in
     IfErr-weaker c.go_on.result _ _ (λ e k. refused-portion e a b piece t.lexemes old new f t.taken k) c.go_on.ensures
 
 pub returns-in-Read-clause-reported : goal.returns-in-Read-clause-reported
@@ -44,7 +44,7 @@ pub returns-in-Fault-clause-fault : goal.returns-in-Fault-clause-fault
 returns-in-Fault-clause-fault c =
     let t = rw c.in-Fault.is at c.in_ok-take_tokens.ensures.ok in
     broken-portion c.break_off.result c.args.self.now c.hold.new.self c.take_tokens.new.lexer c.take_tokens.new.parser c.args.portion.now c.args.triples.now.items c.take_tokens.new.triples.items
-    c.in_ok-hold.ensures t c.break_off.ensures
+    c.in_ok-hold.ensures.taken t c.break_off.ensures
 
 pub returns-in-Fault-clause-reported : goal.returns-in-Fault-clause-reported
 returns-in-Fault-clause-reported c =

@@ -1,6 +1,6 @@
 use Rattle.std.proofs.Common.{ℕ, List, subst}
 use Rattle.gs_lex.specs.Standing.{CutsAhead}
-use Rattle.gs_lex.proofs.pieces.PieceLexer.advance.Goals as goal
+use Rattle.gs_lex.proofs.pieces.PieceLexer.advance_far.Goals as goal
 
 pub returns-clause-next : goal.returns-clause-next
 returns-clause-next c =
