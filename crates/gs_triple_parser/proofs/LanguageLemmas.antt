@@ -1,6 +1,6 @@
 -- Contexts of the code, for triples of another language.
 use Rattle.std.proofs.Common.{◌≡◌, ℕ, List, Bool, true, false, refl, sym, ap, subst, ◌∙◌}
-use Rattle.std.specs.Prelude.{Option, Some, None, option_map, if◌then◌else◌, Result, Ok, Err}
+use Rattle.std.specs.Prelude.{Option, Some, None, option_map, if◌then◌else◌, Result, Ok, Err, string_bytes}
 use Rattle.gs_model.specs.Terms.{Term}
 use Rattle.gs_model.specs.Triples.{RdfTriple}
 use Rattle.gs_blank.specs.Numbers.{Numbers}
@@ -39,9 +39,9 @@ module _ {X T V W : Type 0} (l : Language X T) where
 module _ {L S V X T : Type 0} (l : TypedLanguage S V X T) (p : TripleParser L S V X T) (s : Scope) where
   -- a parser in another scope has the state that it has there
   moved : (env : Context X T) → context_now l (record p { scope = s }) ≡ env → (n : Numbers) → scope_numbers s ≡ n
-      → triples_state l (record p { scope = s }) ≡ state_at l p.place env (stack_of l p.stack) p.pending.items n
-  moved env e n m = ap (λ (k : Context X T). state_at l p.place k (stack_of l p.stack) p.pending.items (scope_numbers s)) e
-      ∙ ap (λ k. state_at l p.place env (stack_of l p.stack) p.pending.items k) m
+      → triples_state l (record p { scope = s }) ≡ state_at l p.place (string_bytes p.text) env (stack_of l p.stack) p.pending.items n
+  moved env e n m = ap (λ (k : Context X T). state_at l p.place (string_bytes p.text) k (stack_of l p.stack) p.pending.items (scope_numbers s)) e
+      ∙ ap (λ k. state_at l p.place (string_bytes p.text) env (stack_of l p.stack) p.pending.items k) m
 
   -- a change of the scope's context, at the parser
   declared : {E : Type 0} (r : Result Bool E) (o : Option (Context Term RdfTriple)) → Changes r (scope_context p.scope) (scope_context s) o → scope_numbers s ≡ scope_numbers p.scope

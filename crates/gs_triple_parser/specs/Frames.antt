@@ -1,8 +1,8 @@
 -- What the frames of the code stand for.
-use Rattle.std.specs.Prelude.{List, ◌∷◌, map, reverse}
+use Rattle.std.specs.Prelude.{List, [], ◌∷◌, ◌++◌, map, reverse}
 use Rattle.gs_triples.specs.Goals as rule
 use Rattle.gs_triples.specs.States as machine
-use Rattle.gs_triple_values.specs.Languages.{TypedLanguage}
+use Rattle.gs_triple_values.specs.Languages.{TypedLanguage, triple_in}
 use Rattle.gs_triple_parser.specs.declared.frames.Goal.{Goal}
 use Rattle.gs_triple_parser.specs.declared.frames.Goal.TheVariants as goal
 use Rattle.gs_triple_parser.specs.declared.frames.Slot.{Slot}
@@ -18,7 +18,7 @@ module _ {L S V X T : Type 0} (l : TypedLanguage S V X T) where
   goal_of (goal.Object d s p) = rule.Object d
   goal_of (goal.Inside d m) = rule.Inside d m
   goal_of (goal.Verbs d s) = rule.Verbs d (l.subject s)
-  goal_of (goal.After d s p) = rule.After d (l.subject s) (l.verb p)
+  goal_of (goal.After d s p o) = rule.After d (l.subject s) (l.verb p)
   goal_of (goal.Semis d s) = rule.Semis d (l.subject s)
   goal_of (goal.Begun d) = rule.Begun d
   goal_of (goal.Items d h m) = rule.Items d h m
@@ -44,3 +44,8 @@ module _ {L S V X T : Type 0} (l : TypedLanguage S V X T) where
   abbrev pub frames_at : Goal L S V X T → List (machine.Frame X) → List (machine.Frame X)
   frames_at (goal.Object d s p) fs = machine.ToObject d (l.subject s) (l.verb p) ∷ fs
   frames_at _ fs = fs
+
+  -- the triples at a goal: after an object the last one waits for the symbol that says which of its parts stay
+  abbrev pub triples_at : Goal L S V X T → List T → List T
+  triples_at (goal.After d s p o) P = P ++ triple_in l s p o ∷ []
+  triples_at _ P = P

@@ -1,12 +1,12 @@
 -- The machine of triples at a parser: what its functions give with the parser's context, stack, triples and numbers.
-use Rattle.std.specs.Prelude.{◌≡◌, ℕ, [], ◌∷◌, Bool, false, Option, Result, OnOk, IfOk, String, string_bytes}
+use Rattle.std.specs.Prelude.{◌≡◌, ℕ, [], ◌∷◌, Bool, false, Option, Result, OnOk, IfOk, string_bytes}
 use Rattle.gs_model.specs.Terms.{Term}
 use Rattle.gs_triples.specs.Meanings.{Context, Fault, simple, word}
 use Rattle.gs_triples.specs.Goals.{Verbs}
 use Rattle.gs_triples.specs.States.{ToVerbs, State, Turn, Heading, Goes}
 use Rattle.gs_triples.specs.Machine as machine
 use Rattle.gs_triple_values.specs.Languages.{TypedLanguage}
-use Rattle.gs_triple_parser.specs.Frames.{goal_of, slot_of, frame_of, frames_at, stack_of}
+use Rattle.gs_triple_parser.specs.Frames.{goal_of, slot_of, frame_of, frames_at, triples_at, stack_of}
 use Rattle.gs_triple_values.specs.Views.{token_at, symbol_at}
 use Rattle.gs_triple_parser.specs.Views.{triples_state, triples_state_at, triples_turn, context_now, pending_triples, numbers_now}
 use Rattle.gs_triple_values.specs.Contexts.{Changes}
@@ -87,7 +87,8 @@ module _ {L S V X T : Type 0} (l : TypedLanguage S V X T) where
 
   -- one symbol at a goal
   abbrev pub head_of : TripleParser L S V X T → Goal L S V X T → Symbol → Turn X T
-  head_of p g t = machine.head (goal_of l g) (symbol_at t) (frames_at l g (stack_of l p.stack)) (context_now l p) (pending_triples p) (numbers_now p)
+  head_of p g t =
+      machine.head (goal_of l g) (symbol_at t) (frames_at l g (stack_of l p.stack)) (context_now l p) (triples_at l g (pending_triples p)) (numbers_now p)
 
   -- one symbol at a place
   abbrev pub step_of : TripleParser L S V X T → Place L S V X T → Symbol → Turn X T
@@ -97,9 +98,9 @@ module _ {L S V X T : Type 0} (l : TypedLanguage S V X T) where
   abbrev pub first_verb : TripleParser L S V X T → X → State X T
   first_verb p s = Heading (Verbs 0 s) [] (context_now l p) [] (numbers_now p)
 
-  -- a string that is an object by itself
-  abbrev pub simple_of : {Y : Type 0} → TripleParser L S V X T → Slot L S V X T → String Y → State X T
-  simple_of p s x = put_slot p s (simple (string_bytes x))
+  -- the string that is held, an object by itself
+  abbrev pub simple_of : TripleParser L S V X T → Slot L S V X T → State X T
+  simple_of p s = put_slot p s (simple (string_bytes p.text))
 
   -- the first symbol of triples
   abbrev pub opening_of : TripleParser L S V X T → Symbol → State X T

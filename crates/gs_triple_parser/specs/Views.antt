@@ -1,12 +1,12 @@
 -- What parsers and scopes of the code stand for.
-use Rattle.std.specs.Prelude.{List, ◌∷◌, string_bytes}
+use Rattle.std.specs.Prelude.{ℕ, List, ◌∷◌, string_bytes}
 use Rattle.gs_blank.specs.Numbers.{Numbers}
 use Rattle.gs_triples.specs.Meanings.{Context}
 use Rattle.gs_triples.specs.States as machine
 use Rattle.gs_triple_values.specs.Languages.{TypedLanguage, language_of}
 use Rattle.gs_triple_values.specs.Contexts.{TermContext}
 use Rattle.gs_triple_values.specs.Views.{context_in, context_of}
-use Rattle.gs_triple_parser.specs.Frames.{goal_of, slot_of, frames_at, stack_of}
+use Rattle.gs_triple_parser.specs.Frames.{goal_of, slot_of, frames_at, triples_at, stack_of}
 use Rattle.gs_triple_parser.specs.declared.scopes.Scope.{Scope}
 use Rattle.gs_triple_parser.specs.declared.places.Place.{Place}
 use Rattle.gs_triple_parser.specs.declared.places.Place.TheVariants as place
@@ -33,14 +33,14 @@ module _ {L S V X T : Type 0} where
 
 -- in a language of the code
 module _ {L S V X T : Type 0} (l : TypedLanguage S V X T) where
-  -- what a place stands for, with the other fields: each place has only some of them
-  abbrev pub state_at : Place L S V X T → Context X T → List (machine.Frame X) → List T → Numbers → machine.State X T
-  state_at place.Opened env fs P n = machine.Opened env n
-  state_at (place.Closed s) env fs P n = machine.Closed (l.subject s) env P n
-  state_at (place.Heading g) env fs P n = machine.Heading (goal_of l g) (frames_at l g fs) env P n
-  state_at (place.Held x s) env fs P n = machine.Held (string_bytes x) (slot_of l s ∷ fs) env P n
-  state_at (place.Typing x s) env fs P n = machine.Typing (string_bytes x) (slot_of l s ∷ fs) env P n
-  state_at (place.Lost e) env fs P n = machine.Lost e
+  -- what a place stands for, with the other fields, of which the first is the text that is held: each place has only some
+  abbrev pub state_at : Place L S V X T → List ℕ → Context X T → List (machine.Frame X) → List T → Numbers → machine.State X T
+  state_at place.Opened x env fs P n = machine.Opened env n
+  state_at (place.Closed s) x env fs P n = machine.Closed (l.subject s) env P n
+  state_at (place.Heading g) x env fs P n = machine.Heading (goal_of l g) (frames_at l g fs) env (triples_at l g P) n
+  state_at (place.Held s) x env fs P n = machine.Held x (slot_of l s ∷ fs) env P n
+  state_at (place.Typing s) x env fs P n = machine.Typing x (slot_of l s ∷ fs) env P n
+  state_at (place.Lost e) x env fs P n = machine.Lost e
 
   -- the base, the prefixes and the request of a parser, with what its triples are made of and what may stand in them
   abbrev pub context_now : TripleParser L S V X T → Context X T
@@ -48,7 +48,7 @@ module _ {L S V X T : Type 0} (l : TypedLanguage S V X T) where
 
   -- the state of a parser, were it at this place
   abbrev pub triples_state_at : TripleParser L S V X T → Place L S V X T → machine.State X T
-  triples_state_at p h = state_at h (context_now p) (stack_of l p.stack) (pending_triples p) (numbers_now p)
+  triples_state_at p h = state_at h (string_bytes p.text) (context_now p) (stack_of l p.stack) (pending_triples p) (numbers_now p)
 
   -- the state of a parser
   abbrev pub triples_state : TripleParser L S V X T → machine.State X T

@@ -39,6 +39,7 @@ impl<L: Language> TripleParser<L> {
     }
 
     /// A symbol after a list of verbs and objects, which are all where no frame is open.
+    #[inline]
     #[tactic(auto, using(crate::proofs::LeaveLemmas::left_none, crate::proofs::LeaveLemmas::left_some))]
     pub(crate) fn leave(&mut self, symbol: Symbol) -> Result<Turn, AllocError>
         ensures { Turned L.language result self.new (leave_of L.language self.old symbol.entry) }

@@ -3,6 +3,7 @@ ghost use Rattle.std.specs.Prelude.{◌≡◌, length, codes, option_and_then};
 ghost use Rattle.gs_escape.specs.Tokens.{rest_after};
 ghost use Rattle.gs_blank.specs.Numbers.{known};
 
+use crate::frames::Goal;
 use crate::parser::TripleParser;
 use crate::places::Place;
 use gs_triple_values::Language;
@@ -18,6 +19,7 @@ impl<L: Language> TripleParser<L> {
     {
         match self.place {
             Place::Opened | Place::Lost(_) => 0,
+            Place::Heading(Goal::After(_, _, _, _)) => L::count_with_one(&self.pending),
             _ => self.pending.len(),
         }
     }

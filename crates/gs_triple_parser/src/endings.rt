@@ -42,7 +42,7 @@ impl<L: Language> TripleParser<L> {
         ensures { IfOk result (λ f. f ≡ machine.ended (triples_state L.language self.now)) }
     {
         match &self.place {
-            Place::Held(text, _) => match terms::simple(self.alloc, text.as_str())? {
+            Place::Held(_) => match terms::simple(self.alloc, self.text.as_str())? {
                 Ok(_) => Ok(Fault::Syntax),
                 Err(fault) => Ok(fault),
             },

@@ -10,8 +10,9 @@ pub enum Goal<L: Language> {
     Inside(usize, u64),
     /// A verb of this subject.
     Verbs(usize, L::Subject),
-    /// After an object of this subject and verb.
-    After(usize, L::Subject, L::Verb),
+    /// After an object of this subject and verb: the symbol decides which of them stay, so that the
+    /// others go into their triple and are not copied.
+    After(usize, L::Subject, L::Verb, L::Value),
     /// After a `;`.
     Semis(usize, L::Subject),
     /// After the `(` of a collection.

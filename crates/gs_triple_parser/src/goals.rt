@@ -8,7 +8,7 @@ use crate::parser::{TripleParser, Turn};
 use crate::places::Place;
 use gs_model::Fault;
 use gs_triple_values::terms::blank;
-use gs_triple_values::{Language, Symbol, put_rest, rdf_nil};
+use gs_triple_values::{Language, Symbol, put, put_end, put_last, put_rest, rdf_nil};
 use std::alloc::AllocError;
 
 /// Whether a verb may begin with it: a term or `a`.
@@ -80,6 +80,7 @@ impl<L: Language> TripleParser<L> {
     }
 
     /// A symbol after an object of a collection.
+    #[inline]
     fn items(
         &mut self,
         depth: usize,
@@ -102,31 +103,39 @@ impl<L: Language> TripleParser<L> {
         }
     }
 
-    /// A symbol after an object of a verb.
+    /// A symbol after an object of a verb, of which the triple is made here.
+    #[inline]
     fn after(
         &mut self,
         depth: usize,
         subject: L::Subject,
         verb: L::Verb,
+        object: L::Value,
         symbol: Symbol,
     ) -> Result<Turn, AllocError>
         ensures { Turned L.language result self.new
-            (head_of L.language self.old (Goal.After depth subject verb) symbol.entry) }
+            (head_of L.language self.old (Goal.After depth subject verb object) symbol.entry) }
     {
         match symbol {
             Symbol::Comma => {
+                put::<L>(self.alloc, &mut self.pending, &subject, &verb, object)?;
                 self.place = Place::Heading(Goal::Object(depth, subject, verb));
                 Ok(Turn::Taken)
             }
             Symbol::Semicolon => {
+                put_last::<L>(self.alloc, &mut self.pending, &subject, verb, object)?;
                 self.place = Place::Heading(Goal::Semis(depth, subject));
                 Ok(Turn::Taken)
             }
-            _ => self.leave(symbol),
+            _ => {
+                put_end::<L>(&mut self.pending, subject, verb, object)?;
+                self.leave(symbol)
+            }
         }
     }
 
     /// A symbol after a `;`.
+    #[inline]
     fn semis(
         &mut self,
         depth: usize,
@@ -150,6 +159,7 @@ impl<L: Language> TripleParser<L> {
     }
 
     /// One symbol at a goal.
+    #[inline(always)]
     pub(crate) fn head(&mut self, goal: Goal<L>, symbol: Symbol) -> Result<Turn, AllocError>
         ensures { Turned L.language result self.new (head_of L.language self.old goal symbol.entry) }
     {
@@ -159,8 +169,8 @@ impl<L: Language> TripleParser<L> {
             }
             Goal::Inside(depth, number) => self.inside(depth, number, symbol)?,
             Goal::Verbs(depth, subject) => self.at_verb(depth, subject, symbol)?,
-            Goal::After(depth, subject, verb) => {
-                return self.after(depth, subject, verb, symbol);
+            Goal::After(depth, subject, verb, object) => {
+                return self.after(depth, subject, verb, object, symbol);
             }
             Goal::Semis(depth, subject) => return self.semis(depth, subject, symbol),
             Goal::Begun(depth) => self.begun(depth, symbol)?,

@@ -43,6 +43,7 @@ impl<L: Language> TripleParser<L> {
     }
 
     /// A token that is a term or a variable, for a slot.
+    #[inline]
     fn object_word(&mut self, slot: Slot<L>, token: TermToken) -> Result<(), AllocError>
         ensures { Reaches L.language result self.new (word_of L.language self.old slot token.entry) }
     {
@@ -63,6 +64,7 @@ impl<L: Language> TripleParser<L> {
     }
 
     /// The first symbol of an object.
+    #[inline]
     pub(crate) fn object(
         &mut self,
         depth: usize,
@@ -74,8 +76,9 @@ impl<L: Language> TripleParser<L> {
         match symbol {
             Symbol::Term(token) => return self.object_word(slot, token),
             Symbol::Text(text) => {
-                let text = String::from_str(self.alloc, text)?;
-                self.place = Place::Held(text, slot);
+                self.text.clear();
+                self.text.push_str(text)?;
+                self.place = Place::Held(slot);
             }
             Symbol::Open => return self.open_brackets_in(depth, slot),
             Symbol::OpenList => return self.open_list_in(depth, slot),
@@ -85,6 +88,7 @@ impl<L: Language> TripleParser<L> {
     }
 
     /// The symbol of a verb.
+    #[inline]
     pub(crate) fn at_verb(
         &mut self,
         depth: usize,

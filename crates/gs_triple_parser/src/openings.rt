@@ -37,6 +37,7 @@ impl<L: Language> TripleParser<L> {
             allowed,
             stack: Stack::new(alloc),
             pending: Vec::new(alloc),
+            text: String::new(alloc),
             place: Place::Lost(Fault::Syntax),
         }
     }

@@ -8,7 +8,7 @@ use crate::stacks::Stack;
 use gs_model::Fault;
 use gs_term::TermText;
 use gs_triple_values::terms::blank;
-use gs_triple_values::{Allowed, Language, put, put_first, put_rest};
+use gs_triple_values::{Allowed, Language, put_first, put_rest};
 use std::alloc::{AllocError, Global};
 
 /// What a symbol does: it is taken, or the triples are over before it.
@@ -26,8 +26,11 @@ pub struct TripleParser<L: Language> {
     pub(crate) scope: Scope,
     pub(crate) allowed: Allowed,
     pub(crate) stack: Stack<L>,
-    /// The triples so far, which are handed on once they are over.
+    /// The triples so far, which are handed on once they are over. At `Goal::After` one more waits.
     pub(crate) pending: Vec<L::Triple>,
+    /// The last string that was an object: the symbol after it decides what it means. Its memory is
+    /// used again for the next one, so it is at most twice the longest string that was read.
+    pub(crate) text: String,
     pub(crate) place: Place<L>,
 }
 
@@ -64,13 +67,13 @@ impl<L: Language> TripleParser<L> {
     }
 
     /// A value for a slot.
+    #[inline]
     pub(crate) fn give(&mut self, slot: Slot<L>, value: L::Value) -> Result<(), AllocError>
         ensures { Reaches L.language result self.new (given_slot L.language self.old slot value) }
     {
         match slot {
             Slot::ToObject(depth, subject, verb) => {
-                put::<L>(self.alloc, &mut self.pending, &subject, &verb, value)?;
-                self.place = Place::Heading(Goal::After(depth, subject, verb));
+                self.place = Place::Heading(Goal::After(depth, subject, verb, value));
                 Ok(())
             }
             Slot::ToFirst(depth, number) => {
@@ -110,6 +113,7 @@ impl<L: Language> TripleParser<L> {
     }
 
     /// A literal for a slot, or its fault.
+    #[inline]
     pub(crate) fn put(
         &mut self,
         slot: Slot<L>,

@@ -12,9 +12,9 @@ pub enum Place<L: Language> {
     /// After a subject with triples of its own, which may stand alone.
     Closed(L::Subject),
     Heading(Goal<L>),
-    /// After a string that is an object.
-    Held(String, Slot<L>),
+    /// After a string that is an object, which the parser holds.
+    Held(Slot<L>),
     /// After its `^^`.
-    Typing(String, Slot<L>),
+    Typing(Slot<L>),
     Lost(Fault),
 }

@@ -56,6 +56,7 @@ impl<L: Language> TripleParser<L> {
     }
 
     /// A symbol after the string that was an object.
+    #[inline]
     #[tactic(auto, unfolding(gs_triples::specs::Machine::step))]
     fn go_on(&mut self, symbol: Symbol) -> Result<Turn, AllocError>
         ensures { Turned L.language result self.new
@@ -73,47 +74,50 @@ impl<L: Language> TripleParser<L> {
     }
 
     /// A symbol after a string that has no suffix.
-    fn simple(&mut self, text: String, slot: Slot<L>, symbol: Symbol) -> Result<Turn, AllocError>
+    #[inline]
+    fn simple(&mut self, slot: Slot<L>, symbol: Symbol) -> Result<Turn, AllocError>
         ensures { Turned L.language result self.new
-            (next_of (simple_of L.language self.old slot text) symbol.entry) }
+            (next_of (simple_of L.language self.old slot) symbol.entry) }
     {
-        let made = terms::simple(self.alloc, text.as_str())?;
+        let made = terms::simple(self.alloc, self.text.as_str())?;
         self.put(slot, made)?;
         self.go_on(symbol)
     }
 
     /// A symbol after a string.
+    #[inline]
     #[tactic(auto, unfolding(gs_triples::specs::Machine::step))]
-    fn held(&mut self, text: String, slot: Slot<L>, symbol: Symbol) -> Result<Turn, AllocError>
+    fn held(&mut self, slot: Slot<L>, symbol: Symbol) -> Result<Turn, AllocError>
         ensures { Turned L.language result self.new
-            (step_of L.language self.old (Place.Held text slot) symbol.entry) }
+            (step_of L.language self.old (Place.Held slot) symbol.entry) }
     {
         match symbol {
             Symbol::At(tag) => {
-                let made = terms::tagged(self.alloc, text.as_str(), tag)?;
+                let made = terms::tagged(self.alloc, self.text.as_str(), tag)?;
                 self.put(slot, made)?;
                 Ok(Turn::Taken)
             }
             Symbol::Carets => {
-                self.place = Place::Typing(text, slot);
+                self.place = Place::Typing(slot);
                 Ok(Turn::Taken)
             }
-            _ => self.simple(text, slot, symbol),
+            _ => self.simple(slot, symbol),
         }
     }
 
     /// The datatype of a string.
     #[tactic(auto, unfolding(gs_triples::specs::Machine::step), using(crate::proofs::LanguageLemmas::typed_in))]
-    fn typing(&mut self, text: String, slot: Slot<L>, symbol: Symbol) -> Result<(), AllocError>
+    fn typing(&mut self, slot: Slot<L>, symbol: Symbol) -> Result<(), AllocError>
         ensures { IsTaken L.language result self.new
-            (step_of L.language self.old (Place.Typing text slot) symbol.entry) }
+            (step_of L.language self.old (Place.Typing slot) symbol.entry) }
     {
-        let made = terms::typed(self.alloc, &self.scope.context, text.as_str(), symbol)?;
+        let made = terms::typed(self.alloc, &self.scope.context, self.text.as_str(), symbol)?;
         self.put(slot, made)
     }
 
     /// One symbol more: it is taken, or the triples are over before it. After a refusal the parser
     /// is of no more use.
+    #[inline]
     #[tactic(auto, unfolding(gs_triples::specs::Machine::step))]
     pub fn step(&mut self, symbol: Symbol) -> Result<Turn, AllocError>
         ensures { Turned L.language result self.new
@@ -123,8 +127,8 @@ impl<L: Language> TripleParser<L> {
             Place::Opened => self.opened(symbol)?,
             Place::Closed(subject) => return self.closed(subject, symbol),
             Place::Heading(goal) => return self.head(goal, symbol),
-            Place::Held(text, slot) => return self.held(text, slot, symbol),
-            Place::Typing(text, slot) => self.typing(text, slot, symbol)?,
+            Place::Held(slot) => return self.held(slot, symbol),
+            Place::Typing(slot) => self.typing(slot, symbol)?,
             Place::Lost(fault) => self.lose(fault),
         }
         Ok(Turn::Taken)

@@ -1,6 +1,6 @@
 -- The text of a term that is written into one buffer.
-use Rattle.std.proofs.Common.{◌≡◌, ℕ, ◌+◌, ◌<◌, ◌≤◌, true, false, cond, List, [], ◌∷◌, ◌++◌, length, refl, sym, ap, ap₂, ◌∙◌, arith, length-append, Ok, Err}
-use Rattle.std.specs.Prelude.{◌==◌, ◌&&◌, nat_le}
+use Rattle.std.proofs.Common.{◌≡◌, ℕ, ◌+◌, ◌<◌, ◌≤◌, true, false, cond, List, [], ◌∷◌, ◌++◌, length, refl, sym, subst, ap, ap₂, ◌∙◌, arith, length-append, Ok, Err}
+use Rattle.std.specs.Prelude.{◌==◌, ◌&&◌, nat_le, Result, IfOk}
 use Rattle.std.specs.List.{list_all}
 use Rattle.std.specs.Str.{IsUtf8}
 use Rattle.std.proofs.lemmas.Str.{IsUtf8-append}
@@ -10,7 +10,7 @@ use Rattle.std.proofs.lemmas.Bool.Decides.{nat_tests}
 use Rattle.gs_model.specs.Characters.{is_iri_char}
 use Rattle.gs_model.specs.Iris.{is_absolute, is_letter, is_scheme_char, is_scheme_rest}
 use Rattle.gs_model.specs.Limits.{max_term_bytes}
-use Rattle.gs_model.specs.Terms.{Term, Iri, Literal, text_of, escaped, escape_of, is_term}
+use Rattle.gs_model.specs.Terms.{Term, Iri, Literal, text_of, escaped, escape_of, is_term, IsTerm}
 use Rattle.gs_model.specs.Texts.{kind_of, term_of, IsCanonical}
 use Rattle.gs_model.specs.declared.faults.Fault.TheVariants as fault
 use Rattle.gs_term.specs.Making.{made}
@@ -74,3 +74,14 @@ iri_canonical x y bytes a e u v b s = canonical (Iri (x ++ y)) bytes b (absolute
 pub literal_canonical : (x after bytes : List ℕ) → list_all is_plain x ≡ true → IsAfter after → IsUtf8 x → bytes ≡ 34 ∷ x ++ 34 ∷ after → length x + length after + 2 ≤ max_term_bytes → IsCanonical bytes
 literal_canonical x after bytes e a u b s =
     canonical (Literal x (kind_of after)) bytes (b ∙ literal_text x after e a) a.formed (u, a.spelled) (omega (arith, ap length b, length-append x (34 ∷ after)))
+
+-- the text of a term is canonical
+pub text_is_canonical : (t : Term) (x : List ℕ) → x ≡ text_of t → IsTerm t → IsCanonical x
+text_is_canonical t x e h =
+    let Q : List ℕ → Type 0 = λ y. length y ≤ max_term_bytes in
+    canonical t x e h.formed h.spelled (subst Q (sym e) h.short)
+
+-- and the term of that text is the same
+pub same_term : {E : Type 0} (t : Term) (x : List ℕ) (r : Result Term E) → x ≡ text_of t → IfOk r (λ u. u ≡ term_of x) → IfOk r (λ u. u ≡ t)
+same_term t x (Ok u) e h = h ∙ term_of-bytes t x e
+same_term t x (Err f) e h = tt

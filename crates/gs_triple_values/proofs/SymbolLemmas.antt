@@ -1,9 +1,13 @@
 -- The symbol of a token whose text is UTF-8, or is not.
-use Rattle.std.proofs.Common.{◌≡◌, ◌≤◌, ℕ, true, false, cond, ◌<◌, arith, List, ap, refl, sym, ◌∙◌, length, take, subst}
+use Rattle.std.proofs.Common.{◌≡◌, ◌≤◌, ℕ, true, false, cond, ◌<◌, arith, List, [], ◌∷◌, ap, refl, sym, ◌∙◌, length, take, subst}
 use Rattle.std.specs.Prelude.{◌==◌, ◌-◌, slice_range}
-use Rattle.std.specs.Str.{IsUtf8, IsCharBoundary, is_utf8}
-use Rattle.std.proofs.lemmas.Bool.{eqb-true}
-use Rattle.std.proofs.lemmas.Str.{is_utf8-from_IsUtf8, IsUtf8-from_is_utf8, IsCharBoundary-from_take}
+use Rattle.std.specs.Char.{is_ascii}
+use Rattle.std.specs.List.{list_all}
+use Rattle.std.specs.Str.{IsAscii, IsUtf8, IsCharBoundary, is_utf8}
+use Rattle.std.proofs.lemmas.Bool.{and_parts, eqb-true}
+use Rattle.std.proofs.lemmas.Bool.Decides.{nat_tests}
+use Rattle.std.proofs.lemmas.Str.{is_utf8-from_IsUtf8, IsUtf8-from_is_utf8, IsUtf8-from_ascii, IsCharBoundary-from_take}
+use Rattle.std.proofs.lemmas.Str.Ascii.{IsAscii-nil, IsAscii-cons}
 use Rattle.gs_lex.specs.Tokens.{Lexeme}
 use Rattle.gs_triples.specs.Symbols.{Foreign, symbol, symbol_of}
 
@@ -26,3 +30,14 @@ colon_low c h = let e : c ≡ 58 = eqb-true c 58 h in omega (arith, e)
 
 pub slice_front : (n : ℕ) (x : List ℕ) → slice_range x 0 n ≡ take n x
 slice_front n x = let e : n - 0 ≡ n = omega arith in ap (λ m. take m x) e
+
+-- bytes below 128 are ASCII
+are_below : (x : List ℕ) → list_all is_ascii x ≡ true → IsAscii x
+are_below [] h = IsAscii-nil
+are_below (b ∷ bs) h =
+    let k = and_parts (is_ascii b) (list_all is_ascii bs) h in
+    IsAscii-cons b bs (grind (arith, nat_tests)) (are_below bs k.1)
+
+-- and text
+pub ascii_is_text : (x : List ℕ) → list_all is_ascii x ≡ true → IsUtf8 x
+ascii_is_text x h = IsUtf8-from_ascii x (are_below x h)

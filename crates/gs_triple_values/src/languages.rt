@@ -1,5 +1,5 @@
 //! What triples are made of.
-ghost use Rattle.std.specs.Prelude.{◌≡◌, true, IfOk, option_map};
+ghost use Rattle.std.specs.Prelude.{◌≡◌, ◌+◌, length, true, IfOk, option_map};
 ghost use Rattle.gs_model.specs.Triples.{is_iri, is_subject};
 
 use gs_term::TermText;
@@ -59,4 +59,18 @@ pub trait Language {
         object: Self::Value,
     ) -> Result<Self::Triple, AllocError>
         ensures { IfOk result (λ t. t ≡ triple_in language subject.now verb.now object) };
+
+    /// A triple of a subject that stays, the last one of a verb.
+    fn last_triple(
+        alloc: Global,
+        subject: &Self::Subject,
+        verb: Self::Verb,
+        object: Self::Value,
+    ) -> Result<Self::Triple, AllocError>
+        ensures { IfOk result (λ t. t ≡ triple_in language subject.now verb object) };
+
+    /// How many triples there are, with one more. A triple takes memory, so that there are never too
+    /// many to count.
+    fn count_with_one(triples: &Vec<Self::Triple>) -> usize
+        ensures { result ≡ length triples.now.items + 1 };
 }

@@ -24,7 +24,7 @@ pub use contexts::Context;
 pub use kinds::{Subject, Verb};
 pub use languages::Language;
 pub use patterns::Patterns;
-pub use pending::{put, put_first, put_rest};
+pub use pending::{put, put_end, put_first, put_last, put_rest};
 pub use symbols::{Symbol, TermToken, symbol_of_borrowed, symbol_of_token};
 pub use triple_terms::Terms;
 pub use vocabulary::{Datatype, rdf_nil};

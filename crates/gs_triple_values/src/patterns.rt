@@ -88,4 +88,22 @@ impl Language for Patterns {
             object,
         })
     }
+
+    fn last_triple(
+        alloc: Global,
+        subject: &Part,
+        verb: Part,
+        object: Part,
+    ) -> Result<Pattern, AllocError> {
+        let subject = copied(alloc, subject)?;
+        Ok(Pattern {
+            subject,
+            predicate: verb,
+            object,
+        })
+    }
+
+    fn count_with_one(triples: &Vec<Pattern>) -> usize {
+        triples.len() + 1
+    }
 }

@@ -9,6 +9,7 @@ use crate::vocabulary::{rdf_first, rdf_rest};
 use std::alloc::{AllocError, Global};
 
 /// A triple of a subject and a verb that stay.
+#[inline]
 pub fn put<L: Language>(
     alloc: Global,
     pending: &mut Vec<L::Triple>,
@@ -21,6 +22,38 @@ pub fn put<L: Language>(
 {
     let triple = L::next_triple(alloc, subject, verb, object)?;
     pending.push(triple)?;
+    Ok(())
+}
+
+/// The last triple of a verb, of a subject that stays.
+#[inline]
+pub fn put_last<L: Language>(
+    alloc: Global,
+    pending: &mut Vec<L::Triple>,
+    subject: &L::Subject,
+    verb: L::Verb,
+    object: L::Value,
+) -> Result<(), AllocError>
+    ensures { Adds result pending.old.items pending.new.items
+        (triple_in L.language subject.now verb object) }
+{
+    let triple = L::last_triple(alloc, subject, verb, object)?;
+    pending.push(triple)?;
+    Ok(())
+}
+
+/// The last triple of a subject.
+#[inline]
+pub fn put_end<L: Language>(
+    pending: &mut Vec<L::Triple>,
+    subject: L::Subject,
+    verb: L::Verb,
+    object: L::Value,
+) -> Result<(), AllocError>
+    ensures { Adds result pending.old.items pending.new.items
+        (triple_in L.language subject verb object) }
+{
+    pending.push(L::triple(subject, verb, object))?;
     Ok(())
 }
 

@@ -1,11 +1,15 @@
 //! What the grammar sees of a token.
-ghost use Rattle.std.specs.Prelude.{◌≡◌};
+ghost use Rattle.std.specs.Prelude.{◌≡◌, MatchResult};
+ghost use Rattle.std.specs.Char.{is_ascii};
+ghost use Rattle.std.specs.List.{list_all};
+ghost use Rattle.std.specs.Str.{IsUtf8};
 ghost use Rattle.gs_lex.specs.Lexemes.{lexeme_of, lexeme_of_borrowed};
 ghost use Rattle.gs_triples.specs.Symbols.{symbol as kind_symbol, symbol_of, after_mark};
 ghost use Rattle.gs_triple_values.specs.Views.{symbol_at};
 
 use crate::vocabulary::Datatype;
 use gs_lex::{BorrowedToken, Token, TokenKind};
+use std::str::{Utf8Error, from_utf8_unchecked};
 
 /// A token that is a term by itself, or a variable, by the names of the grammar.
 #[derive(Clone, Copy)]
@@ -55,6 +59,31 @@ fn after_mark(text: &[u8]) -> &[u8]
     }
 }
 
+/// Whether all are ASCII. It looks at all of them, so that a compiler may test several at once.
+fn are_ascii(bytes: &[u8]) -> bool
+    ensures { result ≡ list_all is_ascii bytes.now }
+{
+    let mut are = true;
+    for b in bytes {
+        are &= b.is_ascii();
+    }
+    are
+}
+
+/// The text of bytes: ASCII, as most tokens are, is not decoded.
+#[inline(always)]
+#[tactic(auto, using(crate::proofs::SymbolLemmas::ascii_is_text))]
+fn text_of(bytes: &[u8]) -> Result<&str, Utf8Error>
+    ensures cases { MatchResult result (λ s. (s.now ≡ bytes.now) × IsUtf8 bytes.now)
+        (λ e. ¬ (IsUtf8 bytes.now)) }
+{
+    if are_ascii(bytes) {
+        return Ok(unsafe { from_utf8_unchecked(bytes) });
+    }
+    str::from_utf8(bytes)
+}
+
+#[inline(always)]
 fn symbol_of_kind(kind: TokenKind, text: &str, end: u64) -> Symbol<'_>
     ensures { symbol_at result ≡ kind_symbol kind text.now end }
 {
@@ -97,10 +126,11 @@ pub fn symbol_of_token(token: &Token) -> Symbol<'_>
 }
 
 /// The symbol of a token that borrows its text.
+#[inline(always)]
 pub fn symbol_of_borrowed(token: BorrowedToken<'_>) -> Symbol<'_>
     ensures { symbol_at result ≡ symbol_of (lexeme_of_borrowed token.entry) }
 {
-    match str::from_utf8(token.text) {
+    match text_of(token.text) {
         Ok(text) => symbol_of_kind(token.kind, text, token.end),
         Err(_) => Symbol::Foreign(token.kind, token.end),
     }

@@ -1,4 +1,6 @@
 //! The language of terms.
+ghost use Rattle.std.specs.Prelude.{◌≡◌, IfOk};
+
 use crate::kinds::{Subject, Verb};
 use crate::languages::Language;
 use gs_term::{TermText, Triple};
@@ -6,6 +8,14 @@ use std::alloc::{AllocError, Global};
 
 /// The terms and the triples of RDF, without variables: Turtle, and the data of updates.
 pub struct Terms;
+
+/// A copy of a term: of its bytes, all at once.
+#[inline]
+fn copied(alloc: Global, term: &TermText) -> Result<TermText, AllocError>
+    ensures { IfOk result (λ t. t ≡ term.now) }
+{
+    TermText::of_canonical(alloc, term.as_bytes())
+}
 
 impl Language for Terms {
     ghost use Rattle.gs_triple_values.specs.Typed.{terms};
@@ -49,13 +59,27 @@ impl Language for Terms {
     }
 
     fn next_triple(
-        _alloc: Global,
+        alloc: Global,
         subject: &Subject,
         verb: &Verb,
         object: TermText,
     ) -> Result<Triple, AllocError> {
-        let subject = subject.term.clone()?;
-        let verb = verb.term.clone()?;
+        let subject = copied(alloc, &subject.term)?;
+        let verb = copied(alloc, &verb.term)?;
         Ok(Triple::new(subject, verb, object))
+    }
+
+    fn last_triple(
+        alloc: Global,
+        subject: &Subject,
+        verb: Verb,
+        object: TermText,
+    ) -> Result<Triple, AllocError> {
+        let subject = copied(alloc, &subject.term)?;
+        Ok(Triple::new(subject, verb.term, object))
+    }
+
+    fn count_with_one(triples: &Vec<Triple>) -> usize {
+        triples.len() + 1
     }
 }

@@ -33,6 +33,7 @@ fn variable_verb<L: Language>(
 }
 
 /// An IRI as a verb.
+#[inline]
 #[tactic(auto, using(crate::proofs::ValueLemmas::iri_ok, crate::proofs::ValueLemmas::iri_err))]
 fn iri_verb<L: Language>(
     alloc: Global,
@@ -49,6 +50,7 @@ fn iri_verb<L: Language>(
 }
 
 /// The verb of one token.
+#[inline]
 fn verb_term<L: Language>(
     alloc: Global,
     context: &Context,
@@ -64,6 +66,7 @@ fn verb_term<L: Language>(
 }
 
 /// A verb.
+#[inline]
 pub fn verb<L: Language>(
     alloc: Global,
     context: &Context,
@@ -167,6 +170,7 @@ pub fn subject<L: Language>(
 }
 
 /// A number or a boolean.
+#[inline]
 #[tactic(auto, unfolding(gs_triples::specs::Meanings::word))]
 fn plain<L: Language>(
     alloc: Global,
@@ -183,6 +187,7 @@ fn plain<L: Language>(
 }
 
 /// A token that is no literal, as a value.
+#[inline]
 fn node<L: Language>(
     alloc: Global,
     context: &Context,
@@ -200,6 +205,7 @@ fn node<L: Language>(
 }
 
 /// The value of one token.
+#[inline]
 #[tactic(auto, unfolding(gs_triples::specs::Meanings::word))]
 pub fn word<L: Language>(
     alloc: Global,

@@ -57,8 +57,8 @@ module _ {L S V X T : Type 0} (l : TypedLanguage S V X T) where
   kept_at k c m q place.Opened g = g
   kept_at k c m q (place.Closed s) g = g
   kept_at k c m q (place.Heading x) g = g
-  kept_at k c m q (place.Held x s) g = g
-  kept_at k c m q (place.Typing x s) g = g
+  kept_at k c m q (place.Held s) g = g
+  kept_at k c m q (place.Typing s) g = g
   kept_at k c m q (place.Lost e) g = tt
 
   now_kept_at : (k : ℕ) (c : Context X T) (m : Numbers) (q : TripleParser L S V X T) (h : code.Place L S V X T) → NotLost (triples_state_at l q h)
@@ -66,8 +66,8 @@ module _ {L S V X T : Type 0} (l : TypedLanguage S V X T) where
   now_kept_at k c m q place.Opened n g = g
   now_kept_at k c m q (place.Closed s) n g = g
   now_kept_at k c m q (place.Heading x) n g = g
-  now_kept_at k c m q (place.Held x s) n g = g
-  now_kept_at k c m q (place.Typing x s) n g = g
+  now_kept_at k c m q (place.Held s) n g = g
+  now_kept_at k c m q (place.Typing s) n g = g
   now_kept_at k c m q (place.Lost e) n g = elim n [ ]
 
   -- a symbol that triples took

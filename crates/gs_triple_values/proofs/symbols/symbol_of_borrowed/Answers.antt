@@ -9,4 +9,4 @@ returns-in-Ok c =
     ∙ symbol_of_text (lexeme_of_borrowed c.args.token) c.in-Ok.text.now c.in-Ok.ensures.cases.0 c.in-Ok.ensures.cases.1
 
 pub returns-in-Err : goal.returns-in-Err
-returns-in-Err c = symbol_of_bytes (lexeme_of_borrowed c.args.token) c.in-Err.ensures.cases.0
+returns-in-Err c = symbol_of_bytes (lexeme_of_borrowed c.args.token) c.in-Err.ensures.cases
