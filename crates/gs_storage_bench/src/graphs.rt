@@ -1,5 +1,5 @@
 //! A graph that is filled piece by piece: a dictionary, a pool and a root.
-ghost use Rattle.std.specs.Prelude.{◌≡◌, true, OnOk};
+ghost use Rattle.std.specs.Prelude.{◌≡◌, ◌<◌, true, OnOk};
 ghost use Rattle.std.specs.Bool.{Decides};
 ghost use Rattle.gs_tree.specs.Keys.{IsRising, AllKeys};
 ghost use Rattle.gs_keys.specs.Texts.{key_cmp, IsGiven};
@@ -8,6 +8,7 @@ ghost use Rattle.gs_storage_bench.specs.Stored.{Grows, MayUnite};
 use crate::document::Terms;
 use gs_dict::{Dict, TermId};
 use gs_keys::ByText;
+use gs_lines::{Piece, next_piece};
 use gs_model::Refusal;
 use gs_pool::{Key, Pool};
 use gs_staging::put_in_order;
@@ -87,35 +88,6 @@ fn may_unite(dict: &Dict, keys: &[Key]) -> bool
     is_rising(&ByText::new(dict), keys) && are_given(dict, keys)
 }
 
-/// The text of a number, which is empty where the number was not given.
-fn text(dict: &Dict, number: u32) -> &[u8] {
-    let id = TermId { number };
-    if dict.has(id) { dict.text(id) } else { &[] }
-}
-
-/// Appends the line of a key.
-fn push_line(dict: &Dict, key: Key, bytes: &mut Vec<u8>) -> Result<(), AllocError> {
-    bytes.extend_from_slice(text(dict, key.subject))?;
-    bytes.push(b' ')?;
-    bytes.extend_from_slice(text(dict, key.predicate))?;
-    bytes.push(b' ')?;
-    bytes.extend_from_slice(text(dict, key.object))?;
-    bytes.extend_from_slice(b" .\n")
-}
-
-/// How many bytes the lines of keys have.
-fn line_bytes(dict: &Dict, keys: &[Key]) -> usize {
-    let mut bytes = 0usize;
-    for key in keys {
-        bytes = bytes
-            .saturating_add(text(dict, key.subject).len())
-            .saturating_add(text(dict, key.predicate).len())
-            .saturating_add(text(dict, key.object).len())
-            .saturating_add(5);
-    }
-    bytes
-}
-
 impl Graph {
     /// One without triples.
     pub fn new(alloc: Global) -> Result<Graph, Refusal> {
@@ -182,12 +154,17 @@ impl Graph {
         next_keys(&self.pool, &order, self.root, from, most, keys)
     }
 
-    /// Appends the lines of keys.
-    pub fn push_lines(&self, keys: &[Key], bytes: &mut Vec<u8>) -> Result<(), AllocError> {
-        bytes.reserve(line_bytes(&self.dict, keys))?;
-        for key in keys {
-            push_line(&self.dict, *key, bytes)?;
-        }
-        Ok(())
+    /// The lines of the keys above `from`, or of all where it is `None`, and `most` of them at most, as a
+    /// read gives them.
+    #[tactic(auto, using(gs_keys::proofs::RootLemmas::set_graph))]
+    pub fn next_lines(
+        &self,
+        alloc: Global,
+        from: Option<Key>,
+        most: u32,
+    ) -> Result<Piece, AllocError>
+        requires { 0 < most }
+    {
+        next_piece(alloc, &self.dict, &self.pool, self.root, from, most)
     }
 }

@@ -13,7 +13,7 @@ use std::alloc::Global;
 use std::env;
 use std::io::{self, Write};
 use std::rt::Env;
-use walks::{Phase, Places, fill, unite_few, walk};
+use walks::{Phase, Places, fill, read, unite_few, walk};
 
 /// What a run does.
 #[derive(Clone, Copy, Drop)]
@@ -22,8 +22,10 @@ enum Mode {
     Document,
     /// Fills a graph, as far as the phase goes.
     Fill(Phase),
-    /// Fills a graph and walks all keys; makes their lines, where it is true.
-    Walk(bool),
+    /// Fills a graph and walks all keys.
+    Walk,
+    /// Fills a graph and reads all lines.
+    Lines,
     /// Fills graphs, and draws runs of ten keys for each; unites them, where it is true.
     Few(Places, bool),
 }
@@ -48,8 +50,8 @@ fn mode_of(word: &str) -> Mode {
         "intern" => Mode::Fill(Phase::Intern),
         "sort" => Mode::Fill(Phase::Sort),
         "test" => Mode::Fill(Phase::Test),
-        "walk" => Mode::Walk(false),
-        "lines" => Mode::Walk(true),
+        "walk" => Mode::Walk,
+        "lines" => Mode::Lines,
         "draw-near" => Mode::Few(Places::Near, false),
         "unite-near" => Mode::Few(Places::Near, true),
         "draw-apart" => Mode::Few(Places::Apart, false),
@@ -134,7 +136,8 @@ fn measure_once(alloc: Global, document: &Document, task: Task) -> Result<Counts
     let mut keys = fill(alloc, &mut graph, document, phase)?;
     let mut bytes = 0usize;
     match task.mode {
-        Mode::Walk(makes_lines) => (keys, bytes) = walk(alloc, &graph, makes_lines)?,
+        Mode::Walk => keys = walk(alloc, &graph)?,
+        Mode::Lines => bytes = read(alloc, &graph)?,
         Mode::Few(places, unites) => {
             keys = unite_few(alloc, &mut graph, document, places, task.runs, unites)?;
         }

@@ -8,7 +8,7 @@ use std::alloc::Global;
 /// The triples of a piece.
 const PIECE: u32 = 500;
 
-/// The keys that a walk takes at once.
+/// The keys that a walk takes at once, and the lines of a piece that is read.
 const STEP: usize = 256;
 
 /// How far each piece goes.
@@ -72,29 +72,36 @@ pub fn fill(
     Ok(added)
 }
 
-/// Walks all keys, and makes their lines where that is asked for: how many keys, and how many bytes
-/// of lines, there are.
-pub fn walk(alloc: Global, graph: &Graph, makes_lines: bool) -> Result<(usize, usize), Refusal> {
+/// Walks all keys: how many there are.
+pub fn walk(alloc: Global, graph: &Graph) -> Result<usize, Refusal> {
     let mut keys: Vec<Key> = Vec::new(alloc);
-    let mut lines: Vec<u8> = Vec::new(alloc);
     let mut from = None;
     let mut walked = 0usize;
-    let mut written = 0usize;
     for _ in 0..=graph.nodes() {
         keys.clear();
-        lines.clear();
         graph.next_keys(from, STEP, &mut keys)?;
-        if makes_lines {
-            graph.push_lines(&keys, &mut lines)?;
-        }
         walked = walked.saturating_add(keys.len());
-        written = written.saturating_add(lines.len());
         let Some(last) = keys.last() else {
             break;
         };
         from = Some(*last);
     }
-    Ok((walked, written))
+    Ok(walked)
+}
+
+/// Reads all lines, a piece at a time: how many bytes they have.
+pub fn read(alloc: Global, graph: &Graph) -> Result<usize, Refusal> {
+    let mut from = None;
+    let mut bytes = 0usize;
+    for _ in 0..=graph.nodes() {
+        let piece = graph.next_lines(alloc, from, STEP as u32)?;
+        bytes = bytes.saturating_add(piece.bytes.len());
+        from = piece.last;
+        if piece.is_end {
+            break;
+        }
+    }
+    Ok(bytes)
 }
 
 /// Where the keys of a small run stand.
