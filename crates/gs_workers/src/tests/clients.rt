@@ -2,7 +2,7 @@
 use std::alloc::{AllocError, Global};
 use std::io;
 use std::io::Write;
-use std::net::{Net, SocketAddr, TcpStream};
+use std::net::{Net, SocketAddr, TcpListener, TcpStream};
 use std::time::Duration;
 
 /// How long a client waits for a reply, before its test fails.
@@ -16,6 +16,16 @@ pub fn connected<N: Net<Stream = TcpStream>>(rt: &N, addr: SocketAddr) -> io::Re
     stream.set_read_timeout(patience)?;
     stream.set_write_timeout(patience)?;
     Ok(stream)
+}
+
+/// Both ends of a connection, the client's last.
+pub fn both_ends<R: Net<Listener = TcpListener, Stream = TcpStream>>(
+    rt: &R,
+) -> io::Result<(TcpStream, TcpStream)> {
+    let listener = TcpListener::bind(rt, "127.0.0.1:0")?;
+    let client = connected(rt, listener.local_addr()?)?;
+    let (stream, _) = listener.accept()?;
+    Ok((stream, client))
 }
 
 /// Sends bytes of a request.
@@ -54,4 +64,10 @@ pub fn is_missing(alloc: Global, stream: TcpStream, name: &str) -> io::Result<bo
     let request = get(alloc, name)?;
     say(&stream, request.as_bytes())?;
     hears_none(alloc, &stream)
+}
+
+/// Whether a client is told that its graph was made.
+pub fn hears_made(alloc: Global, stream: &TcpStream) -> io::Result<bool> {
+    let reply = io::read_to_string(alloc, stream)?;
+    Ok(reply.as_str().starts_with("HTTP/1.1 201 "))
 }

@@ -1,6 +1,7 @@
 //! Clients that leave in the middle.
-use super::clients::{ask, connected, get, is_missing, put, say};
-use super::servings::{Setup, serves, two_connected};
+use super::clients::{ask, connected, get, hears_made, is_missing, put, say};
+use super::jobs::{Job, one};
+use super::servings::{Setup, served, two_connected};
 use super::turns::comes;
 use crate::gates::{Gate, OpenGate};
 use gs_event::{Action, Event};
@@ -12,8 +13,8 @@ use std::random::RandomSource;
 use std::sync::Wait;
 use std::sync::atomic::{AtomicU64, Ordering};
 use std::test::*;
-use std::thread::{Threads, join};
-use std::time::{Clock, Duration};
+use std::thread::Threads;
+use std::time::Clock;
 
 /// Begins to put a graph and leaves; then another client asks for it; whether that found none.
 fn leaves_upload(alloc: Global, first: TcpStream, second: TcpStream) -> io::Result<bool> {
@@ -26,6 +27,20 @@ fn leaves_upload(alloc: Global, first: TcpStream, second: TcpStream) -> io::Resu
     is_missing(alloc, second, "half")
 }
 
+/// Both clients.
+#[derive(Drop)]
+struct Writers {
+    alloc: Global,
+    first: TcpStream,
+    second: TcpStream,
+}
+
+impl Job for Writers {
+    fn done(self) -> u64 {
+        one(leaves_upload(self.alloc, self.first, self.second))
+    }
+}
+
 /// One worker, for whom a read may wait longer than the second client waits.
 fn upload_may_be_left<
     R: Net<Listener = TcpListener, Stream = TcpStream>
@@ -34,19 +49,21 @@ fn upload_may_be_left<
         + Clock
         + RandomSource
         + Sync,
->(rt: &R, alloc: Global) -> io::Result<bool> {
-    let (listener, first, second) = two_connected(rt)?;
+>(rt: &R, alloc: Global) -> u64 {
+    let Ok((listener, first, second)) = two_connected(rt) else {
+        return 0;
+    };
     let setup = Setup {
         workers: 1,
         limit: 2,
-        patience: Duration::from_secs(30),
+        patience: 30_000,
     };
-    let (ended, right) = join(
-        rt,
-        || serves(rt, alloc, &listener, setup, &OpenGate),
-        || leaves_upload(alloc, first, second),
-    );
-    Ok(ended && right?)
+    let clients = Writers {
+        alloc,
+        first,
+        second,
+    };
+    served(rt, alloc, &listener, setup, &OpenGate, clients)
 }
 
 /// Holds the second piece until the client that reads has left.
@@ -95,6 +112,21 @@ fn begins(stream: TcpStream, request: &str) -> io::Result<bool> {
     Ok(start.as_slice() == b"HTTP/1.1 200".as_slice())
 }
 
+/// Whether this request is answered with six texts between the ends of lines, so with five lines.
+fn reads_whole(alloc: Global, stream: TcpStream, request: &str) -> io::Result<bool> {
+    let reply = ask(alloc, stream, request)?;
+    let parts = reply.as_str().split(" .\n").count();
+    Ok(reply.as_str().starts_with("HTTP/1.1 200 ") && parts == 6)
+}
+
+/// Whether the graph of five lines could be made.
+fn is_made(alloc: Global, stream: TcpStream) -> io::Result<bool> {
+    let lines = five_lines(alloc)?;
+    let upload = put(alloc, "read", lines.as_str())?;
+    say(&stream, upload.as_bytes())?;
+    hears_made(alloc, &stream)
+}
+
 /// One client puts a graph, another leaves while it reads that, and a third reads it whole.
 fn leaves_read<K: Clock>(
     alloc: Global,
@@ -103,19 +135,37 @@ fn leaves_read<K: Clock>(
     second: TcpStream,
     third: TcpStream,
 ) -> io::Result<bool> {
-    let lines = five_lines(alloc)?;
-    let upload = put(alloc, "read", lines.as_str())?;
+    let made = is_made(alloc, first)?;
     let read = get(alloc, "read")?;
-    let made = ask(alloc, first, upload.as_str())?;
     let began = begins(second, read.as_str());
     gate.left.fetch_add(1, Ordering::SeqCst);
-    let whole = ask(alloc, third, read.as_str())?;
-    Ok(
-        began?
-            && made.as_str().starts_with("HTTP/1.1 201 ")
-            && whole.as_str().starts_with("HTTP/1.1 200 ")
-            && whole.as_str().split(" .\n").count() == 6,
-    )
+    let whole = reads_whole(alloc, third, read.as_str())?;
+    Ok(made && whole && began?)
+}
+
+/// The three clients.
+#[derive(Drop)]
+struct Readers<'a, K: Clock> {
+    alloc: Global,
+    gate: &'a Leave<'a, K>,
+    first: TcpStream,
+    second: TcpStream,
+    third: TcpStream,
+}
+
+impl<'a, K: Clock> Job for Readers<'a, K> {
+    fn done(self) -> u64 {
+        one(leaves_read(self.alloc, self.gate, self.first, self.second, self.third))
+    }
+}
+
+/// A listener, and three connections to it.
+fn three_connected<R: Net<Listener = TcpListener, Stream = TcpStream>>(
+    rt: &R,
+) -> io::Result<(TcpListener, TcpStream, TcpStream, TcpStream)> {
+    let (listener, first, second) = two_connected(rt)?;
+    let third = connected(rt, listener.local_addr()?)?;
+    Ok((listener, first, second, third))
 }
 
 /// One worker, for whom a write may wait longer than the third client waits.
@@ -126,9 +176,10 @@ fn read_may_be_left<
         + Clock
         + RandomSource
         + Sync,
->(rt: &R, alloc: Global) -> io::Result<bool> {
-    let (listener, first, second) = two_connected(rt)?;
-    let third = connected(rt, listener.local_addr()?)?;
+>(rt: &R, alloc: Global) -> u64 {
+    let Ok((listener, first, second, third)) = three_connected(rt) else {
+        return 0;
+    };
     let gate = Leave {
         clock: rt,
         pieces: AtomicU64::new(0),
@@ -138,24 +189,31 @@ fn read_may_be_left<
     let setup = Setup {
         workers: 1,
         limit: 3,
-        patience: Duration::from_secs(30),
+        patience: 30_000,
     };
-    let (ended, right) = join(
-        rt,
-        || serves(rt, alloc, &listener, setup, &gate),
-        || leaves_read(alloc, &gate, first, second, third),
-    );
-    Ok(ended && right? && gate.late.load(Ordering::SeqCst) == 0)
+    let clients = Readers {
+        alloc,
+        gate: &gate,
+        first,
+        second,
+        third,
+    };
+    let right = served(rt, alloc, &listener, setup, &gate, clients);
+    if gate.late.load(Ordering::SeqCst) == 0 {
+        right
+    } else {
+        0
+    }
 }
 
 #[test]
 fn a_client_may_leave_in_the_middle_of_an_upload(rt: HostRuntime) -> Result<(), Fail> {
-    assert!(rt; upload_may_be_left(&rt, rt.alloc())?);
+    assert_eq!(rt; upload_may_be_left(&rt, rt.alloc()), 1);
     Ok(())
 }
 
 #[test]
 fn a_client_may_leave_in_the_middle_of_a_read(rt: HostRuntime) -> Result<(), Fail> {
-    assert!(rt; read_may_be_left(&rt, rt.alloc())?);
+    assert_eq!(rt; read_may_be_left(&rt, rt.alloc()), 1);
     Ok(())
 }

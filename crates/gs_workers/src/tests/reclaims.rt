@@ -1,5 +1,6 @@
 //! What the requests of a server leave behind is freed.
 use super::clients::{ask, connected, get, put};
+use super::servings::listening;
 use crate::gates::OpenGate;
 use crate::servers::serve_all;
 use gs_event::{Answer, Event};
@@ -18,17 +19,26 @@ const PUTS: u64 = 3;
 
 const GETS: u64 = 8;
 
+/// Makes this request so many times, each by a connection of its own.
+fn ask_often<N: Net<Stream = TcpStream>>(
+    rt: &N,
+    alloc: Global,
+    addr: SocketAddr,
+    request: &str,
+    times: u64,
+) -> io::Result<()> {
+    for _ in 0..times {
+        let _ = ask(alloc, connected(rt, addr)?, request)?;
+    }
+    Ok(())
+}
+
 /// Puts one graph again and again, and then reads it.
 fn replaces<N: Net<Stream = TcpStream>>(rt: &N, alloc: Global, addr: SocketAddr) -> io::Result<()> {
     let upload = put(alloc, "again", "<a:a> <a:b> \"1\" .\n<a:a> <a:b> \"2\" .\n")?;
-    for _ in 0..PUTS {
-        ask(alloc, connected(rt, addr)?, upload.as_str())?;
-    }
+    ask_often(rt, alloc, addr, upload.as_str(), PUTS)?;
     let read = get(alloc, "again")?;
-    for _ in 0..GETS {
-        ask(alloc, connected(rt, addr)?, read.as_str())?;
-    }
-    Ok(())
+    ask_often(rt, alloc, addr, read.as_str(), GETS)
 }
 
 /// Whether a graph was written as often as it was put, and of all versions but the last nothing is left.
@@ -39,7 +49,21 @@ fn is_clean(ended: Ended) -> bool {
     written == PUTS + GETS && matches!(freed, Answer::Reclaimed(0, false))
 }
 
-/// Whether a server whose graph was replaced has freed what that left, once it has ended.
+/// Serves that client by one worker; whether what it left is freed in the end.
+fn leaves_nothing<R: Threads + Wait + Clock + RandomSource + Sync>(
+    rt: &R,
+    alloc: Global,
+    listener: &TcpListener,
+) -> bool {
+    let (base, limit) = ("http://localhost", Some(PUTS + GETS));
+    match serve_all(rt, alloc, listener, base, 1, 256, limit, &OpenGate) {
+        Ok(ended) => is_clean(ended),
+        Err(_) => false,
+    }
+}
+
+/// Whether a server whose graph was replaced has freed what that left, and whether its client was
+/// answered.
 fn frees_what_was_replaced<
     R: Net<Listener = TcpListener, Stream = TcpStream>
         + Threads
@@ -47,34 +71,20 @@ fn frees_what_was_replaced<
         + Clock
         + RandomSource
         + Sync,
->(rt: &R, alloc: Global) -> io::Result<bool> {
-    let listener = TcpListener::bind(rt, "127.0.0.1:0")?;
-    let addr = listener.local_addr()?;
-    let (ended, asked) = join(
+>(rt: &R, alloc: Global) -> bool {
+    let Ok((listener, addr)) = listening(rt) else {
+        return false;
+    };
+    let (clean, asked) = join(
         rt,
-        || {
-            serve_all(
-                rt,
-                alloc,
-                &listener,
-                "http://localhost",
-                1,
-                256,
-                Some(PUTS + GETS),
-                &OpenGate,
-            )
-        },
-        || replaces(rt, alloc, addr),
+        || leaves_nothing(rt, alloc, &listener),
+        || replaces(rt, alloc, addr).is_ok(),
     );
-    asked?;
-    Ok(match ended {
-        Ok(ended) => is_clean(ended),
-        Err(_) => false,
-    })
+    clean && asked
 }
 
 #[test]
 fn what_was_replaced_is_freed(rt: HostRuntime) -> Result<(), Fail> {
-    assert!(rt; frees_what_was_replaced(&rt, rt.alloc())?);
+    assert!(rt; frees_what_was_replaced(&rt, rt.alloc()));
     Ok(())
 }

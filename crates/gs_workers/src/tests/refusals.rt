@@ -1,6 +1,7 @@
 //! A client that is refused before it has said all.
 use super::clients::{ask, connected};
-use super::servings::{Setup, serves};
+use super::jobs::{Job, one};
+use super::servings::{Setup, served};
 use crate::gates::OpenGate;
 use std::alloc::{AllocError, Global};
 use std::io;
@@ -8,8 +9,8 @@ use std::net::{Net, TcpListener, TcpStream};
 use std::random::RandomSource;
 use std::sync::Wait;
 use std::test::*;
-use std::thread::{Threads, join};
-use std::time::{Clock, Duration};
+use std::thread::Threads;
+use std::time::Clock;
 
 /// The lines of a body that is too long for both ends of a connection to hold.
 const LINES: usize = 1_048_576;
@@ -33,6 +34,28 @@ fn hears_refusal(alloc: Global, stream: TcpStream) -> io::Result<bool> {
     Ok(reply.as_str().starts_with("HTTP/1.1 405 "))
 }
 
+/// Such a client.
+#[derive(Drop)]
+struct Refused {
+    alloc: Global,
+    stream: TcpStream,
+}
+
+impl Job for Refused {
+    fn done(self) -> u64 {
+        one(hears_refusal(self.alloc, self.stream))
+    }
+}
+
+/// A listener, and a connection to it.
+fn one_connected<R: Net<Listener = TcpListener, Stream = TcpStream>>(
+    rt: &R,
+) -> io::Result<(TcpListener, TcpStream)> {
+    let listener = TcpListener::bind(rt, "127.0.0.1:0")?;
+    let stream = connected(rt, listener.local_addr()?)?;
+    Ok((listener, stream))
+}
+
 /// A server of one worker with such a client.
 fn refusal_is_heard<
     R: Net<Listener = TcpListener, Stream = TcpStream>
@@ -41,24 +64,27 @@ fn refusal_is_heard<
         + Clock
         + RandomSource
         + Sync,
->(rt: &R, alloc: Global) -> io::Result<bool> {
-    let listener = TcpListener::bind(rt, "127.0.0.1:0")?;
-    let stream = connected(rt, listener.local_addr()?)?;
+>(rt: &R, alloc: Global) -> u64 {
+    let Ok((listener, stream)) = one_connected(rt) else {
+        return 0;
+    };
     let setup = Setup {
         workers: 1,
         limit: 1,
-        patience: Duration::from_secs(30),
+        patience: 30_000,
     };
-    let (ended, heard) = join(
+    served(
         rt,
-        || serves(rt, alloc, &listener, setup, &OpenGate),
-        || hears_refusal(alloc, stream),
-    );
-    Ok(ended && heard?)
+        alloc,
+        &listener,
+        setup,
+        &OpenGate,
+        Refused { alloc, stream },
+    )
 }
 
 #[test]
 fn a_refusal_is_heard_by_a_client_that_still_sends(rt: HostRuntime) -> Result<(), Fail> {
-    assert!(rt; refusal_is_heard(&rt, rt.alloc())?);
+    assert_eq!(rt; refusal_is_heard(&rt, rt.alloc()), 1);
     Ok(())
 }

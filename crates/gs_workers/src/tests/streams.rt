@@ -1,4 +1,5 @@
 //! What a connection gets before it is served.
+use super::clients::both_ends;
 use crate::limits::patience;
 use crate::workers::limit_waits;
 use std::io;
@@ -6,23 +7,27 @@ use std::net::{Net, TcpListener, TcpStream};
 use std::test::*;
 use std::time::Duration;
 
-/// Whether a connection that was accepted sends at once, and waits for 30 seconds at each read and at
-/// each write.
-fn has_limits<N: Net<Listener = TcpListener, Stream = TcpStream>>(rt: &N) -> io::Result<bool> {
-    let listener = TcpListener::bind(rt, "127.0.0.1:0")?;
-    let client = TcpStream::connect(rt, listener.local_addr()?)?;
-    let (stream, _) = listener.accept()?;
-    limit_waits(&stream, patience())?;
+/// Whether a connection sends at once, and waits for 30 seconds at each read and at each write.
+fn is_limited(stream: &TcpStream) -> io::Result<bool> {
     let limit = Some(Duration::from_secs(30));
-    let sends_at_once = stream.nodelay()?;
     let may_read = stream.read_timeout()?;
     let may_write = stream.write_timeout()?;
+    Ok(stream.nodelay()? && may_read == limit && may_write == limit)
+}
+
+/// Whether this holds of a connection that was accepted and given its limits.
+fn has_limits<N: Net<Listener = TcpListener, Stream = TcpStream>>(rt: &N) -> bool {
+    let Ok((stream, client)) = both_ends(rt) else {
+        return false;
+    };
+    let is_given = limit_waits(&stream, patience()).is_ok();
+    let right = is_given && matches!(is_limited(&stream), Ok(true));
     drop(client);
-    Ok(sends_at_once && may_read == limit && may_write == limit)
+    right
 }
 
 #[test]
 fn a_connection_gets_its_limits(rt: HostRuntime) -> Result<(), Fail> {
-    assert!(rt; has_limits(&rt)?);
+    assert!(rt; has_limits(&rt));
     Ok(())
 }

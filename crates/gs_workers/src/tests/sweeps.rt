@@ -1,16 +1,16 @@
 //! That something is freed after each note.
+use super::jobs::{Job, both};
 use crate::notes::Note;
 use crate::reclaimers::sweep_after;
 use crossbeam_channel::{Receiver, Sender, bounded};
 use gs_core::Store;
 use gs_door::Door;
 use gs_event::{Answer, Event};
-use gs_model::Refusal;
 use std::alloc::Global;
 use std::sync::Wait;
 use std::test::Fail;
 use std::thread;
-use std::thread::{Threads, join};
+use std::thread::Threads;
 use std::time::{Clock, Duration};
 
 /// A door that counts how often it is asked to free 4,096 nodes.
@@ -49,23 +49,53 @@ fn asked<R: Wait>(rt: &R, notes: Receiver<Note>, store: Store) -> u64 {
     door.asked
 }
 
-/// The same, with three notes, at a store in which there is nothing to free.
-fn asked_after_three<R: Threads + Wait + Clock + Sync>(
-    rt: &R,
-    alloc: Global,
-) -> Result<u64, Refusal> {
-    let (to_reclaimer, notes) = bounded(alloc, 1)?;
-    let store = Store::new(alloc, 1, "http://localhost")?;
-    let (times, ()) = join(
+/// The reclaimer.
+#[derive(Drop)]
+struct Reclaimer<'a, R: Wait> {
+    rt: &'a R,
+    notes: Receiver<Note>,
+    store: Store,
+}
+
+impl<'a, R: Wait> Job for Reclaimer<'a, R> {
+    fn done(self) -> u64 {
+        asked(self.rt, self.notes, self.store)
+    }
+}
+
+/// A worker.
+#[derive(Drop)]
+struct Worker<'a, R: Wait + Clock> {
+    rt: &'a R,
+    to_reclaimer: Sender<Note>,
+}
+
+impl<'a, R: Wait + Clock> Job for Worker<'a, R> {
+    fn done(self) -> u64 {
+        send_three(self.rt, self.to_reclaimer);
+        1
+    }
+}
+
+/// How often it asks with three notes, at a store in which there is nothing to free; 0 where memory was
+/// wanting.
+fn asked_after_three<R: Threads + Wait + Clock + Sync>(rt: &R, alloc: Global) -> u64 {
+    let Ok((to_reclaimer, notes)) = bounded(alloc, 1) else {
+        return 0;
+    };
+    let Ok(store) = Store::new(alloc, 1, "http://localhost") else {
+        return 0;
+    };
+    let (times, _) = both(
         rt,
-        move || asked(rt, notes, store),
-        move || send_three(rt, to_reclaimer),
+        Reclaimer { rt, notes, store },
+        Worker { rt, to_reclaimer },
     );
-    Ok(times)
+    times
 }
 
 #[test]
 fn each_note_is_followed_by_a_sweep(rt: HostRuntime) -> Result<(), Fail> {
-    assert_eq!(rt; asked_after_three(&rt, rt.alloc()), Ok(3));
+    assert_eq!(rt; asked_after_three(&rt, rt.alloc()), 3);
     Ok(())
 }

@@ -1,6 +1,7 @@
 //! An upload that is held before its Commit holds up nobody else.
-use super::clients::{get, put, say};
-use super::servings::{Setup, serves, two_connected};
+use super::clients::{hears_made, is_missing, put, say};
+use super::jobs::{Job, one};
+use super::servings::{Setup, served, two_connected};
 use super::turns::comes;
 use crate::gates::Gate;
 use gs_event::{Action, Event};
@@ -11,8 +12,8 @@ use std::random::RandomSource;
 use std::sync::Wait;
 use std::sync::atomic::{AtomicU64, Ordering};
 use std::test::*;
-use std::thread::{Threads, join};
-use std::time::{Clock, Duration};
+use std::thread::Threads;
+use std::time::Clock;
 
 /// Holds each Commit until the GET was answered.
 #[derive(Drop)]
@@ -35,6 +36,13 @@ impl<'a, K: Clock> Gate for Hold<'a, K> {
     }
 }
 
+/// Begins to put a graph; whether that is held.
+fn is_held<K: Clock>(alloc: Global, gate: &Hold<'_, K>, stream: &TcpStream) -> io::Result<bool> {
+    let upload = put(alloc, "held", "<a:a> <a:b> \"1\" .\n")?;
+    say(stream, upload.as_bytes())?;
+    Ok(comes(gate.clock, &gate.held, 1))
+}
+
 /// One client puts a graph, and once that is held another gets it: whether the second found no graph,
 /// and then the first made it.
 fn put_and_get<K: Clock>(
@@ -43,18 +51,25 @@ fn put_and_get<K: Clock>(
     first: TcpStream,
     second: TcpStream,
 ) -> io::Result<bool> {
-    let upload = put(alloc, "held", "<a:a> <a:b> \"1\" .\n")?;
-    say(&first, upload.as_bytes())?;
-    let held = comes(gate.clock, &gate.held, 1);
-    let read = get(alloc, "held")?;
-    say(&second, read.as_bytes())?;
-    let found = io::read_to_string(alloc, &second)?;
+    let held = is_held(alloc, gate, &first)?;
+    let missing = is_missing(alloc, second, "held")?;
     gate.answered.fetch_add(1, Ordering::SeqCst);
-    let made = io::read_to_string(alloc, &first)?;
-    Ok(
-        held && found.as_str().starts_with("HTTP/1.1 404 ")
-            && made.as_str().starts_with("HTTP/1.1 201 "),
-    )
+    Ok(held && missing && hears_made(alloc, &first)?)
+}
+
+/// Both clients.
+#[derive(Drop)]
+struct Pair<'a, K: Clock> {
+    alloc: Global,
+    gate: &'a Hold<'a, K>,
+    first: TcpStream,
+    second: TcpStream,
+}
+
+impl<'a, K: Clock> Job for Pair<'a, K> {
+    fn done(self) -> u64 {
+        one(put_and_get(self.alloc, self.gate, self.first, self.second))
+    }
 }
 
 /// Whether the upload waited, and the GET ran.
@@ -65,8 +80,10 @@ fn waits_and_runs<
         + Clock
         + RandomSource
         + Sync,
->(rt: &R, alloc: Global) -> io::Result<bool> {
-    let (listener, first, second) = two_connected(rt)?;
+>(rt: &R, alloc: Global) -> u64 {
+    let Ok((listener, first, second)) = two_connected(rt) else {
+        return 0;
+    };
     let gate = Hold {
         clock: rt,
         held: AtomicU64::new(0),
@@ -76,18 +93,24 @@ fn waits_and_runs<
     let setup = Setup {
         workers: 2,
         limit: 2,
-        patience: Duration::from_secs(30),
+        patience: 30_000,
     };
-    let (ended, right) = join(
-        rt,
-        || serves(rt, alloc, &listener, setup, &gate),
-        || put_and_get(alloc, &gate, first, second),
-    );
-    Ok(ended && right? && gate.late.load(Ordering::SeqCst) == 0)
+    let clients = Pair {
+        alloc,
+        gate: &gate,
+        first,
+        second,
+    };
+    let right = served(rt, alloc, &listener, setup, &gate, clients);
+    if gate.late.load(Ordering::SeqCst) == 0 {
+        right
+    } else {
+        0
+    }
 }
 
 #[test]
 fn upload_waits_get_runs(rt: HostRuntime) -> Result<(), Fail> {
-    assert!(rt; waits_and_runs(&rt, rt.alloc())?);
+    assert_eq!(rt; waits_and_runs(&rt, rt.alloc()), 1);
     Ok(())
 }
