@@ -1,69 +1,66 @@
 //! A store has the base and the number of seats that it was made with.
-ghost use Rattle.std.specs.Prelude.{◌≡◌, ◌<◌, [], codes};
-ghost use Rattle.crossbeam_utils.specs.Seq.{cell_view};
-ghost use Rattle.gs_core.specs.Settings.{start_at};
-ghost use Rattle.gs_pass.specs.Stamps.{keeper as keeper_of};
-
+use crate::plays::{Play, Seen, played};
 use gs_event::{Action, Answer, Event, UploadKind};
-use gs_shared::{Room, Shared, Side, StampCell, Token, stamp_cell};
+use gs_shared::{Pass, Room, Shared, Side};
 use std::alloc::Global;
-use std::marker::Brand;
 use std::sync::Wait;
-use std::sync::ledger::Blank;
 use std::test::Fail;
+use std::thread::Threads;
 
-/// What the one seat of a store is answered that creates a graph, once it was seen that there is no
-/// pass for a second.
-fn run<C: Side + Send + Sync, T: Side + Send + Sync, B: Room + Send + Sync, R: Wait>(
+/// What the pass is answered.
+fn created<C: Side, T: Side, B: Room, R: Wait>(
     rt: &R,
-    alloc: Global,
-    cell: StampCell,
-    keeper: Token,
-    calls: Blank,
-    triples: Blank,
-) -> Option<Answer>
-    requires cell { (cell.table.shared.table_id ≡ B.table)
-        × (keeper.table_id ≡ B.table)
-        × (cell_view keeper ≡ keeper_of [] []) }
-    requires start { B.start ≡ start_at 1 (codes "http://h:1") 0 0 }
-    requires calls { (calls.name ≡ C.name) × (calls.parts ≡ C.parts) × (C.all ≡ C.parts) × (1 < C.all) }
-    requires triples { (triples.name ≡ T.name) × (triples.parts ≡ T.parts) × (T.all ≡ T.parts) × (1 < T.all) }
-{
-    let mut shared: Shared<C, T, B> = Shared::new(
-        alloc,
-        1,
-        "http://h:1",
-        0,
-        cell,
-        keeper,
-        calls,
-        triples,
-    ).ok()?;
-    if shared.passes(2).is_ok() {
-        return None;
-    }
-    let mut passes = shared.passes(1).ok()?;
-    let mut pass = passes.pop()?;
+    shared: &Shared<C, T, B>,
+    pass: &mut Pass<C, T, B>,
+) -> Answer {
     let opens = Event::Seat(pass.seat(), Action::Open(UploadKind::New));
-    let _ = shared.event(rt, &mut pass, opens);
+    let _ = shared.event(rt, pass, opens);
     let commits = Event::Seat(pass.seat(), Action::Commit);
-    Some(shared.event(rt, &mut pass, commits))
+    shared.event(rt, pass, commits)
 }
 
-/// The same, over a cell and ledgers of its own.
-fn created<R: Wait>(rt: &R, alloc: Global) -> Option<Answer> {
-    let (cell, keeper) = stamp_cell(alloc).ok()?;
-    let (calls, triples) = (Blank::new(2), Blank::new(2));
-    run::<Brand, Brand, Brand, R>(rt, alloc, cell, keeper, calls, triples)
+/// The one seat of a store creates a graph.
+pub fn create<
+    C: Side + Send + Sync,
+    T: Side + Send + Sync,
+    B: Room + Send + Sync,
+    R: Threads + Wait + Sync,
+>(
+    rt: &R,
+    alloc: Global,
+    shared: &Shared<C, T, B>,
+    passes: Vec<Pass<C, T, B>>,
+) -> Option<(Vec<Pass<C, T, B>>, Seen)> {
+    let mut passes = passes;
+    let answer = created(rt, shared, passes.last_mut()?);
+    let mut answers = Vec::new(alloc);
+    answers.push(answer).ok()?;
+    Some((passes, Seen { answers, faults: 0 }))
+}
+
+/// Whether the graph has the name that the base makes.
+fn is_named(answer: &Answer) -> bool {
+    match answer {
+        Answer::Status(201, Some(name)) => {
+            name.as_bytes() == b"http://h:1/graphs/n1-0".as_slice()
+        }
+        _ => false,
+    }
+}
+
+/// Whether the seat creates that graph, and there is no pass for a second one.
+fn is_right<R: Threads + Wait + Sync>(rt: &R, alloc: Global) -> bool {
+    match played(rt, alloc, "http://h:1", 1, Play::Create) {
+        Some((_, seen)) => match seen.answers.first() {
+            Some(answer) => is_named(answer),
+            None => false,
+        },
+        None => false,
+    }
 }
 
 #[test]
 fn a_store_has_its_base_and_its_seats(rt: HostRuntime) -> Result<(), Fail> {
-    let answer = created(&rt, rt.alloc()).expect(&rt, "memory, and one seat");
-    let name = match &answer {
-        Answer::Status(201, Some(name)) => name.as_bytes(),
-        _ => b"",
-    };
-    assert!(rt; name == b"http://h:1/graphs/n1-0".as_slice());
+    assert!(rt; is_right(&rt, rt.alloc()));
     Ok(())
 }

@@ -1,18 +1,12 @@
 //! Four threads that ask at the same time: all their calls stand on page 0.
-ghost use Rattle.std.specs.Prelude.{◌≡◌, ◌<◌, [], codes};
-ghost use Rattle.crossbeam_utils.specs.Seq.{cell_view};
-ghost use Rattle.gs_core.specs.Settings.{start_at};
-ghost use Rattle.gs_pass.specs.Stamps.{keeper as keeper_of};
-
+use crate::crews::{Work, at_work};
+use crate::plays::{Play, Seen, played};
 use gs_event::{Action, Event};
-use gs_shared::{Ended, Hall, Pass, Room, Shared, Side, StampCell, Token, stamp_cell};
+use gs_shared::{Ended, Hall, Pass, Room, Shared, Side};
 use gs_term::Target;
 use std::alloc::Global;
-use std::marker::Brand;
 use std::sync::Wait;
-use std::sync::ledger::Blank;
 use std::test::Fail;
-use std::thread;
 use std::thread::Threads;
 
 /// Asks so many times whether the default graph is there.
@@ -30,8 +24,23 @@ pub fn ask<C: Side, T: Side, B: Room, R: Wait>(
     pass
 }
 
-/// Four threads ask 1,000 times each.
-fn run<
+/// A thread that asks 1,000 times.
+struct Asks;
+
+impl Work for Asks {
+    fn work<C: Side, T: Side, B: Room, R: Wait>(
+        &self,
+        rt: &R,
+        _alloc: Global,
+        hall: &Hall<C, T, B>,
+        pass: Pass<C, T, B>,
+    ) -> (Pass<C, T, B>, u32) {
+        (ask(rt, hall, pass, 1000), 0)
+    }
+}
+
+/// Such a thread for each pass.
+pub fn ask_all<
     C: Side + Send + Sync,
     T: Side + Send + Sync,
     B: Room + Send + Sync,
@@ -39,70 +48,40 @@ fn run<
 >(
     rt: &R,
     alloc: Global,
-    cell: StampCell,
-    keeper: Token,
-    calls: Blank,
-    triples: Blank,
-) -> Option<Ended>
-    requires cell { (cell.table.shared.table_id ≡ B.table)
-        × (keeper.table_id ≡ B.table)
-        × (cell_view keeper ≡ keeper_of [] []) }
-    requires start { B.start ≡ start_at 4 (codes "http://localhost") 0 0 }
-    requires calls { (calls.name ≡ C.name) × (calls.parts ≡ C.parts) × (C.all ≡ C.parts) × (4 < C.all) }
-    requires triples { (triples.name ≡ T.name) × (triples.parts ≡ T.parts) × (T.all ≡ T.parts) × (4 < T.all) }
-{
-    let mut shared: Shared<C, T, B> = Shared::new(
-        alloc,
-        4,
-        "http://localhost",
-        0,
-        cell,
-        keeper,
-        calls,
-        triples,
-    )
-    .ok()?;
-    let passes = shared.passes(4).ok()?;
-    let hall = shared.hall();
-    let back = thread::scope(
-        thread::scope_env(),
-        rt,
-        move |scope| -> Option<Vec<Pass<C, T, B>>> {
-            let mut threads = Vec::with_capacity(alloc, 4).ok()?;
-            for pass in passes {
-                let asks = scope.spawn(move || ask(rt, hall, pass, 1000)).ok()?;
-                threads.push(asks).ok()?;
-            }
-            let mut back = Vec::with_capacity(alloc, 4).ok()?;
-            for asks in threads {
-                let pass = asks.join(rt);
-                back.push(pass).ok()?;
-            }
-            Some(back)
-        },
-    )?;
-    if back.len() != 4 {
-        return None;
-    }
-    Some(shared.end(rt, back))
+    shared: &Shared<C, T, B>,
+    passes: Vec<Pass<C, T, B>>,
+) -> Option<(Vec<Pass<C, T, B>>, Seen)> {
+    at_work(rt, alloc, shared.hall(), passes, &Asks)
 }
 
-/// What four threads leave that ask 1,000 times each.
-fn asked<R: Threads + Wait + Sync>(rt: &R, alloc: Global) -> Option<Ended> {
-    let (cell, keeper) = stamp_cell(alloc).ok()?;
-    let (calls, triples) = (Blank::new(5), Blank::new(5));
-    run::<Brand, Brand, Brand, R>(rt, alloc, cell, keeper, calls, triples)
+/// Whether each of these records has 1,000 calls and as many receipts.
+fn have_all(ended: &Ended) -> bool {
+    for record in &ended.passes {
+        if record.calls() != 1000 || record.receipts().len() != 1000 {
+            return false;
+        }
+    }
+    true
+}
+
+/// What is not as it must be after four threads have asked.
+fn wrong_part<R: Threads + Wait + Sync>(rt: &R, alloc: Global) -> Option<&'static str> {
+    let Some((ended, _)) = played(rt, alloc, "http://localhost", 4, Play::Ask) else {
+        return Some("memory and threads");
+    };
+    let page = ended.audited.page();
+    if page.number() != 0 || page.entries().len() != 4000 {
+        return Some("the page");
+    }
+    if ended.passes.len() == 4 && have_all(&ended) {
+        None
+    } else {
+        Some("what the passes were told")
+    }
 }
 
 #[test]
 fn four_threads_fill_one_page(rt: HostRuntime) -> Result<(), Fail> {
-    let ended = asked(&rt, rt.alloc()).expect(&rt, "memory and threads");
-    let page = ended.audited.page();
-    assert_eq!(rt; page.number(), 0);
-    assert_eq!(rt; page.entries().len(), 4000);
-    for record in &ended.passes {
-        assert_eq!(rt; record.calls(), 1000);
-        assert_eq!(rt; record.receipts().len(), 1000);
-    }
+    assert_eq!(rt; wrong_part(&rt, rt.alloc()), None);
     Ok(())
 }

@@ -1,18 +1,12 @@
 //! One thread writes a graph, and another reads it afterwards.
-ghost use Rattle.std.specs.Prelude.{◌≡◌, ◌<◌, [], codes};
-ghost use Rattle.crossbeam_utils.specs.Seq.{cell_view};
-ghost use Rattle.gs_core.specs.Settings.{start_at};
-ghost use Rattle.gs_pass.specs.Stamps.{keeper as keeper_of};
-
+use crate::crews::{Work, at_work};
+use crate::plays::{Play, Seen, played};
 use gs_event::{Action, Answer, Event, UploadKind};
-use gs_shared::{Hall, Pass, Room, Shared, Side, StampCell, Token, stamp_cell};
+use gs_shared::{Hall, Pass, Room, Shared, Side};
 use gs_term::{Target, TermText, Triple};
-use std::alloc::{AllocError, Global};
-use std::marker::Brand;
+use std::alloc::Global;
 use std::sync::Wait;
-use std::sync::ledger::Blank;
 use std::test::Fail;
-use std::thread;
 use std::thread::Threads;
 
 /// `<http://e/s> <http://e/p> "x" .`
@@ -26,6 +20,15 @@ fn triple(alloc: Global, word: &str) -> Option<Triple> {
     Some(Triple::new(subject, predicate, object))
 }
 
+/// A list of this triple.
+fn listed(alloc: Global, word: &str) -> Vec<Triple> {
+    let mut list = Vec::new(alloc);
+    if let Some(one) = triple(alloc, word) {
+        let _ = list.push(one);
+    }
+    list
+}
+
 /// Makes an event of the pass's seat.
 fn act<C: Side, T: Side, B: Room, R: Wait>(
     rt: &R,
@@ -37,44 +40,70 @@ fn act<C: Side, T: Side, B: Room, R: Wait>(
     hall.event(rt, pass, event)
 }
 
-/// Puts two triples into the default graph.
-fn write<C: Side, T: Side, B: Room, R: Wait>(
-    rt: &R,
-    alloc: Global,
-    hall: &Hall<C, T, B>,
-    pass: Pass<C, T, B>,
-) -> Pass<C, T, B> {
-    let mut pass = pass;
-    let _ = act(
-        rt,
-        hall,
-        &mut pass,
-        Action::Open(UploadKind::Put(Target::Default)),
-    );
-    for word in ["2", "1"] {
-        let mut list = Vec::new(alloc);
-        if let Some(one) = triple(alloc, word) {
-            let _ = list.push(one);
+/// A thread that puts two triples into the default graph.
+struct Writes;
+
+impl Work for Writes {
+    fn work<C: Side, T: Side, B: Room, R: Wait>(
+        &self,
+        rt: &R,
+        alloc: Global,
+        hall: &Hall<C, T, B>,
+        pass: Pass<C, T, B>,
+    ) -> (Pass<C, T, B>, u32) {
+        let mut pass = pass;
+        let opens = Action::Open(UploadKind::Put(Target::Default));
+        let _ = act(rt, hall, &mut pass, opens);
+        for word in ["2", "1"] {
+            let _ = act(rt, hall, &mut pass, Action::Stage(listed(alloc, word)));
         }
-        let _ = act(rt, hall, &mut pass, Action::Stage(list));
+        let _ = act(rt, hall, &mut pass, Action::Commit);
+        (pass, 0)
     }
-    let _ = act(rt, hall, &mut pass, Action::Commit);
-    pass
 }
 
-/// Reads five lines of the default graph.
-fn read<C: Side, T: Side, B: Room, R: Wait>(
-    rt: &R,
-    hall: &Hall<C, T, B>,
-    pass: Pass<C, T, B>,
-) -> Answer {
-    let mut pass = pass;
-    let _ = act(rt, hall, &mut pass, Action::Pin(Target::Default));
-    act(rt, hall, &mut pass, Action::Piece(5))
+/// Whether these are both lines, and all.
+fn are_both(answer: &Answer) -> bool {
+    let want = "<http://e/s> <http://e/p> \"1\" .\n<http://e/s> <http://e/p> \"2\" .\n";
+    match answer {
+        Answer::Lines(lines, true) => lines.as_slice() == want.as_bytes(),
+        _ => false,
+    }
+}
+
+/// A thread that reads five lines of the default graph; a fault where they are others.
+struct Reads;
+
+impl Work for Reads {
+    fn work<C: Side, T: Side, B: Room, R: Wait>(
+        &self,
+        rt: &R,
+        _alloc: Global,
+        hall: &Hall<C, T, B>,
+        pass: Pass<C, T, B>,
+    ) -> (Pass<C, T, B>, u32) {
+        let mut pass = pass;
+        let _ = act(rt, hall, &mut pass, Action::Pin(Target::Default));
+        let answer = act(rt, hall, &mut pass, Action::Piece(5));
+        (pass, u32::from(!are_both(&answer)))
+    }
+}
+
+/// One pass out of a list, as a list of its own.
+fn one_of<C: Side, T: Side, B: Room>(
+    alloc: Global,
+    passes: &mut Vec<Pass<C, T, B>>,
+) -> Option<Vec<Pass<C, T, B>>> {
+    let mut list = Vec::new(alloc);
+    let pass = passes.pop()?;
+    match list.push(pass) {
+        Ok(()) => Some(list),
+        Err(_) => None,
+    }
 }
 
 /// One thread writes, and once it has ended another reads.
-fn run<
+pub fn write_and_read<
     C: Side + Send + Sync,
     T: Side + Send + Sync,
     B: Room + Send + Sync,
@@ -82,57 +111,27 @@ fn run<
 >(
     rt: &R,
     alloc: Global,
-    cell: StampCell,
-    keeper: Token,
-    calls: Blank,
-    triples: Blank,
-) -> Option<Answer>
-    requires cell { (cell.table.shared.table_id ≡ B.table)
-        × (keeper.table_id ≡ B.table)
-        × (cell_view keeper ≡ keeper_of [] []) }
-    requires start { B.start ≡ start_at 2 (codes "http://localhost") 0 0 }
-    requires calls { (calls.name ≡ C.name) × (calls.parts ≡ C.parts) × (C.all ≡ C.parts) × (2 < C.all) }
-    requires triples { (triples.name ≡ T.name) × (triples.parts ≡ T.parts) × (T.all ≡ T.parts) × (2 < T.all) }
-{
-    let mut shared: Shared<C, T, B> = Shared::new(
-        alloc,
-        2,
-        "http://localhost",
-        0,
-        cell,
-        keeper,
-        calls,
-        triples,
-    )
-    .ok()?;
-    let mut passes = shared.passes(2).ok()?;
-    let reader = passes.pop()?;
-    let writer = passes.pop()?;
-    let hall = shared.hall();
-    thread::scope(thread::scope_env(), rt, move |scope| -> Option<Answer> {
-        let writes = scope.spawn(move || write(rt, alloc, hall, writer)).ok()?;
-        let _ = writes.join(rt);
-        let reads = scope.spawn(move || read(rt, hall, reader)).ok()?;
-        Some(reads.join(rt))
-    })
+    shared: &Shared<C, T, B>,
+    passes: Vec<Pass<C, T, B>>,
+) -> Option<(Vec<Pass<C, T, B>>, Seen)> {
+    let mut readers = passes;
+    let writers = one_of(alloc, &mut readers)?;
+    let (mut back, _) = at_work(rt, alloc, shared.hall(), writers, &Writes)?;
+    let (mut readers, seen) = at_work(rt, alloc, shared.hall(), readers, &Reads)?;
+    back.push(readers.pop()?).ok()?;
+    Some((back, seen))
 }
 
-/// What the second thread reads.
-fn write_read<R: Threads + Wait + Sync>(rt: &R, alloc: Global) -> Option<Answer> {
-    let (cell, keeper) = stamp_cell(alloc).ok()?;
-    let (calls, triples) = (Blank::new(3), Blank::new(3));
-    run::<Brand, Brand, Brand, R>(rt, alloc, cell, keeper, calls, triples)
+/// In how many ways the second thread reads other lines, if it reads.
+fn faults<R: Threads + Wait + Sync>(rt: &R, alloc: Global) -> Option<u32> {
+    match played(rt, alloc, "http://localhost", 2, Play::Write) {
+        Some((_, seen)) => Some(seen.faults),
+        None => None,
+    }
 }
 
 #[test]
 fn write_read_back(rt: HostRuntime) -> Result<(), Fail> {
-    let answer = write_read(&rt, rt.alloc()).expect(&rt, "memory and threads");
-    let (lines, end) = match answer {
-        Answer::Lines(lines, end) => (lines, end),
-        _ => (Vec::new(rt.alloc()), false),
-    };
-    let want = "<http://e/s> <http://e/p> \"1\" .\n<http://e/s> <http://e/p> \"2\" .\n";
-    assert!(rt; lines.as_slice() == want.as_bytes());
-    assert!(rt; end);
+    assert_eq!(rt; faults(&rt, rt.alloc()), Some(0));
     Ok(())
 }

@@ -1,95 +1,76 @@
 //! All seats of a store have passes, and none of them acts for another's.
-ghost use Rattle.std.specs.Prelude.{◌≡◌, ◌<◌, [], codes};
-ghost use Rattle.crossbeam_utils.specs.Seq.{cell_view};
-ghost use Rattle.gs_core.specs.Settings.{start_at};
-ghost use Rattle.gs_pass.specs.Stamps.{keeper as keeper_of};
-
+use crate::plays::{Play, Seen, played};
 use gs_event::{Action, Answer, Event, UploadKind};
 use gs_model::Refusal;
-use gs_shared::{Room, Shared, Side, StampCell, Token, stamp_cell};
+use gs_shared::{Pass, Room, Shared, Side};
 use gs_term::Target;
 use std::alloc::Global;
-use std::marker::Brand;
 use std::sync::Wait;
-use std::sync::ledger::Blank;
 use std::test::Fail;
+use std::thread::Threads;
 
-/// What is seen of the last two of 512 seats.
-#[derive(Drop)]
-struct Outcome {
-    /// The last seat for which there is a pass.
-    last: u16,
-    /// What its pass is answered that cancels, and then commits, the upload of the seat before it.
-    others: [Answer; 2],
-    /// What that one's own pass is answered, which commits it then.
-    own: Answer,
-}
-
-/// Hands out the passes of 512 seats, and has the last one act for the one before it.
-fn run<C: Side + Send + Sync, T: Side + Send + Sync, B: Room + Send + Sync, R: Wait>(
+/// What the last pass is answered that cancels, and then commits, the upload of the seat before it; and
+/// what that one's own pass is answered, which commits it then.
+fn acts<C: Side, T: Side, B: Room, R: Wait>(
     rt: &R,
-    alloc: Global,
-    cell: StampCell,
-    keeper: Token,
-    calls: Blank,
-    triples: Blank,
-) -> Option<Outcome>
-    requires cell { (cell.table.shared.table_id ≡ B.table)
-        × (keeper.table_id ≡ B.table)
-        × (cell_view keeper ≡ keeper_of [] []) }
-    requires start { B.start ≡ start_at 512 (codes "http://localhost") 0 0 }
-    requires calls { (calls.name ≡ C.name)
-        × (calls.parts ≡ C.parts)
-        × (C.all ≡ C.parts)
-        × (512 < C.all) }
-    requires triples { (triples.name ≡ T.name)
-        × (triples.parts ≡ T.parts)
-        × (T.all ≡ T.parts)
-        × (512 < T.all) }
-{
-    let mut shared: Shared<C, T, B> = Shared::new(
-        alloc,
-        512,
-        "http://localhost",
-        0,
-        cell,
-        keeper,
-        calls,
-        triples,
-    )
-    .ok()?;
-    let mut first = shared.passes(511).ok()?;
-    if shared.passes(2).is_ok() {
-        return None;
-    }
-    let mut last = shared.passes(1).ok()?.pop()?;
-    let mut own = first.pop()?;
+    shared: &Shared<C, T, B>,
+    own: &mut Pass<C, T, B>,
+    last: &mut Pass<C, T, B>,
+) -> [Answer; 3] {
     let seat = own.seat();
     let opens = Action::Open(UploadKind::Put(Target::Default));
-    let _ = shared.event(rt, &mut own, Event::Seat(seat, opens));
-    let cancelled = shared.event(rt, &mut last, Event::Seat(seat, Action::Cancel));
-    let committed = shared.event(rt, &mut last, Event::Seat(seat, Action::Commit));
-    Some(Outcome {
-        last: last.seat(),
-        others: [cancelled, committed],
-        own: shared.event(rt, &mut own, Event::Seat(seat, Action::Commit)),
-    })
+    let _ = shared.event(rt, own, Event::Seat(seat, opens));
+    let cancelled = shared.event(rt, last, Event::Seat(seat, Action::Cancel));
+    let committed = shared.event(rt, last, Event::Seat(seat, Action::Commit));
+    let own = shared.event(rt, own, Event::Seat(seat, Action::Commit));
+    [cancelled, committed, own]
 }
 
-/// The same, over a cell and ledgers of its own.
-fn seen<R: Wait>(rt: &R, alloc: Global) -> Option<Outcome> {
-    let (cell, keeper) = stamp_cell(alloc).ok()?;
-    let (calls, triples) = (Blank::new(513), Blank::new(513));
-    run::<Brand, Brand, Brand, R>(rt, alloc, cell, keeper, calls, triples)
+/// The last pass of 512 acts for the one before it; a fault where it has another seat than the last.
+pub fn act_for_another<
+    C: Side + Send + Sync,
+    T: Side + Send + Sync,
+    B: Room + Send + Sync,
+    R: Threads + Wait + Sync,
+>(
+    rt: &R,
+    alloc: Global,
+    shared: &Shared<C, T, B>,
+    passes: Vec<Pass<C, T, B>>,
+) -> Option<(Vec<Pass<C, T, B>>, Seen)> {
+    let mut passes = passes;
+    let mut last = passes.pop()?;
+    let faults = u32::from(last.seat() != 511);
+    let answers = Vec::from_array(alloc, acts(rt, shared, passes.last_mut()?, &mut last)).ok()?;
+    passes.push(last).ok()?;
+    Some((passes, Seen { answers, faults }))
+}
+
+/// What is not as it must be.
+fn wrong_part(seen: &Seen) -> Option<&'static str> {
+    if seen.faults != 0 {
+        return Some("the last seat");
+    }
+    match seen.answers.as_slice() {
+        [
+            Answer::Refused(Refusal::BadSeat),
+            Answer::Refused(Refusal::BadSeat),
+            Answer::Status(204, None),
+        ] => None,
+        _ => Some("an answer"),
+    }
+}
+
+/// The same of a store of 512 seats.
+fn wrong_seat<R: Threads + Wait + Sync>(rt: &R, alloc: Global) -> Option<&'static str> {
+    match played(rt, alloc, "http://localhost", 512, Play::Act) {
+        Some((_, seen)) => wrong_part(&seen),
+        None => Some("memory, and 512 seats"),
+    }
 }
 
 #[test]
 fn no_pass_acts_for_another_seat(rt: HostRuntime) -> Result<(), Fail> {
-    let seen = seen(&rt, rt.alloc()).expect(&rt, "memory, and 512 seats");
-    assert_eq!(rt; seen.last, 511);
-    for answer in &seen.others {
-        assert!(rt; matches!(answer, Answer::Refused(Refusal::BadSeat)));
-    }
-    assert!(rt; matches!(seen.own, Answer::Status(204, None)));
+    assert_eq!(rt; wrong_seat(&rt, rt.alloc()), None);
     Ok(())
 }

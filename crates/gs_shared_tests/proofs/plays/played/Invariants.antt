@@ -1,6 +1,5 @@
-use Rattle.std.specs.Prelude.{codes}
 use Rattle.gs_core.specs.Settings.{start_at}
-use Rattle.gs_shared_tests.proofs.seats.seen.Given as goal
+use Rattle.gs_shared_tests.proofs.plays.played.Given as goal
 
 abbrev pub ghosts-run-C-Ledger : goal.ghosts-run-C-Ledger
 ghosts-run-C-Ledger g a = record { name = a.calls.name; parts = a.calls.parts }
@@ -15,4 +14,4 @@ abbrev pub ghosts-run-T-Side : goal.ghosts-run-T-Side
 ghosts-run-T-Side g a = record { all = a.triples.parts }
 
 abbrev pub ghosts-run-B-Room : goal.ghosts-run-B-Room
-ghosts-run-B-Room g a = record { table = a.cell.table.shared.table_id; start = start_at 512 (codes "http://localhost") 0 0 }
+ghosts-run-B-Room g a = record { table = a.cell.table.shared.table_id; start = start_at a.seats a.base.now 0 0 }

@@ -1,19 +1,14 @@
 //! The passes of a store that threads share get the answers of a store.
-ghost use Rattle.std.specs.Prelude.{◌≡◌, ◌<◌, [], codes};
-ghost use Rattle.crossbeam_utils.specs.Seq.{cell_view};
-ghost use Rattle.gs_core.specs.Settings.{start_at};
-ghost use Rattle.gs_pass.specs.Stamps.{keeper as keeper_of};
-
+use crate::plays::{Play, Seen, played};
 use gs_core::{Answer, Event, Refusal, Store};
 use gs_door::Door;
 use gs_schedules::{ROWS, Row};
-use gs_shared::{Pass, PassDoor, Room, Shared, Side, StampCell, Token, stamp_cell};
+use gs_shared::{Pass, PassDoor, Room, Shared, Side};
 use gs_test_events::{answered, events, printed};
 use std::alloc::Global;
-use std::marker::Brand;
 use std::sync::Wait;
-use std::sync::ledger::Blank;
 use std::test::Fail;
+use std::thread::Threads;
 
 /// The schedules that are fed texts, with their triples and operations in the place of the texts.
 const FED: [Row; 4] = [
@@ -66,41 +61,21 @@ fn answer<C: Side, T: Side, B: Room, R: Wait>(
     (door.into_pass(), answer)
 }
 
-/// What the passes of a new store of four seats are answered.
+/// What the passes are answered, each event by the pass of its seat.
 fn answer_all<C: Side, T: Side, B: Room, R: Wait>(
     rt: &R,
     alloc: Global,
+    shared: &Shared<C, T, B>,
+    passes: &mut Vec<Pass<C, T, B>>,
     events: Vec<Event>,
     by_doors: bool,
-    cell: StampCell,
-    keeper: Token,
-    calls: Blank,
-    triples: Blank,
-) -> Result<Vec<Answer>, Refusal>
-    requires cell { (cell.table.shared.table_id ≡ B.table)
-        × (keeper.table_id ≡ B.table)
-        × (cell_view keeper ≡ keeper_of [] []) }
-    requires start { B.start ≡ start_at 4 (codes "http://localhost") 0 0 }
-    requires calls { (calls.name ≡ C.name) × (calls.parts ≡ C.parts) × (C.all ≡ C.parts) × (4 < C.all) }
-    requires triples { (triples.name ≡ T.name) × (triples.parts ≡ T.parts) × (T.all ≡ T.parts) × (4 < T.all) }
-{
-    let mut shared: Shared<C, T, B> = Shared::new(
-        alloc,
-        4,
-        "http://localhost",
-        0,
-        cell,
-        keeper,
-        calls,
-        triples,
-    )?;
-    let mut passes = shared.passes(4)?;
+) -> Result<Vec<Answer>, Refusal> {
     let mut answers = Vec::new(alloc);
     for event in events {
         let place = place_of(&event);
         if place < passes.len() {
             let pass = passes.remove(place);
-            let (pass, answer) = answer(rt, &shared, pass, event, by_doors);
+            let (pass, answer) = answer(rt, shared, pass, event, by_doors);
             passes.insert(place.min(passes.len()), pass)?;
             answers.push(answer)?;
         }
@@ -108,19 +83,39 @@ fn answer_all<C: Side, T: Side, B: Room, R: Wait>(
     Ok(answers)
 }
 
-/// What these events print by the passes of a store that is shared.
-fn printed_by_passes<R: Wait>(
+/// The same, with all passes.
+pub fn take_all<
+    C: Side + Send + Sync,
+    T: Side + Send + Sync,
+    B: Room + Send + Sync,
+    R: Threads + Wait + Sync,
+>(
+    rt: &R,
+    alloc: Global,
+    shared: &Shared<C, T, B>,
+    passes: Vec<Pass<C, T, B>>,
+    events: Vec<Event>,
+    by_doors: bool,
+) -> Option<(Vec<Pass<C, T, B>>, Seen)> {
+    let mut passes = passes;
+    match answer_all(rt, alloc, shared, &mut passes, events, by_doors) {
+        Ok(answers) => Some((passes, Seen { answers, faults: 0 })),
+        Err(_) => None,
+    }
+}
+
+/// What these events print by the passes of a store of four seats that is shared.
+fn printed_by_passes<R: Threads + Wait + Sync>(
     rt: &R,
     alloc: Global,
     events: Vec<Event>,
     by_doors: bool,
 ) -> Result<String, Refusal> {
-    let (cell, keeper) = stamp_cell(alloc)?;
-    let (calls, triples) = (Blank::new(5), Blank::new(5));
-    let answers = answer_all::<Brand, Brand, Brand, R>(
-        rt, alloc, events, by_doors, cell, keeper, calls, triples,
-    )?;
-    Ok(printed(alloc, answers.as_slice())?)
+    let takes = Play::Take(events, by_doors);
+    let Some((_, seen)) = played(rt, alloc, "http://localhost", 4, takes) else {
+        return Err(Refusal::NoMemory);
+    };
+    Ok(printed(alloc, seen.answers.as_slice())?)
 }
 
 /// A schedule with a Head of its target before each Pin.
@@ -137,37 +132,64 @@ fn with_heads(alloc: Global, input: &str) -> Result<String, Refusal> {
     Ok(text)
 }
 
-/// Whether the passes print what a store prints, with the Heads, and what the schedule says, without.
-fn is_same<R: Wait>(rt: &R, alloc: Global, row: &Row) -> Result<bool, Refusal> {
-    let (_, input, want) = row;
-    let longer = with_heads(alloc, input)?;
-    let asked = events(alloc, longer.as_str())?;
+/// What these events print by a store of four seats.
+fn printed_by_store(alloc: Global, events: &[Event]) -> Result<String, Refusal> {
     let mut store = Store::new(alloc, 4, "http://localhost")?;
-    let by_store = printed(alloc, store.run(asked.as_slice())?.as_slice())?;
-    let by_passes = printed_by_passes(rt, alloc, asked, false)?;
-    let plain = printed_by_passes(rt, alloc, events(alloc, input)?, true)?;
-    let says = answered(alloc, want)?;
-    Ok(by_passes.as_str() == by_store.as_str() && plain.as_str() == says.as_str())
+    let answers = store.run(events)?;
+    Ok(printed(alloc, answers.as_slice())?)
 }
 
-/// The first of these schedules of a new store of four seats that is answered otherwise.
-fn other_row<R: Wait>(
+/// Whether the passes print what a store prints, with the Heads.
+fn is_same_with_heads<R: Threads + Wait + Sync>(
+    rt: &R,
+    alloc: Global,
+    input: &str,
+) -> Result<bool, Refusal> {
+    let longer = with_heads(alloc, input)?;
+    let asked = events(alloc, longer.as_str())?;
+    let by_store = printed_by_store(alloc, asked.as_slice())?;
+    let by_passes = printed_by_passes(rt, alloc, asked, false)?;
+    Ok(by_passes.as_str() == by_store.as_str())
+}
+
+/// Whether the passes print through their doors what the schedule says, without the Heads.
+fn is_same_by_doors<R: Threads + Wait + Sync>(
+    rt: &R,
+    alloc: Global,
+    input: &str,
+    want: &str,
+) -> Result<bool, Refusal> {
+    let plain = printed_by_passes(rt, alloc, events(alloc, input)?, true)?;
+    let says = answered(alloc, want)?;
+    Ok(plain.as_str() == says.as_str())
+}
+
+/// Whether a schedule of a new store of four seats is answered as it must be; one of another store is
+/// not asked.
+fn is_same<R: Threads + Wait + Sync>(rt: &R, alloc: Global, row: &Row) -> bool {
+    let (_, input, want) = row;
+    input.starts_with("store ")
+        || matches!(is_same_with_heads(rt, alloc, input), Ok(true))
+            && matches!(is_same_by_doors(rt, alloc, input, want), Ok(true))
+}
+
+/// The first of these schedules that is answered otherwise.
+fn other_row<R: Threads + Wait + Sync>(
     rt: &R,
     alloc: Global,
     rows: &[Row],
-) -> Result<Option<&'static str>, Refusal> {
+) -> Option<&'static str> {
     for row in rows {
-        let (name, input, _) = row;
-        if !input.starts_with("store ") && !is_same(rt, alloc, row)? {
-            return Ok(Some(name));
+        if !is_same(rt, alloc, row) {
+            return Some(row.0);
         }
     }
-    Ok(None)
+    None
 }
 
 #[test]
 fn same_answers(rt: HostRuntime) -> Result<(), Fail> {
-    assert_eq!(rt; other_row(&rt, rt.alloc(), &ROWS)?, None);
-    assert_eq!(rt; other_row(&rt, rt.alloc(), &FED)?, None);
+    assert_eq!(rt; other_row(&rt, rt.alloc(), &ROWS), None);
+    assert_eq!(rt; other_row(&rt, rt.alloc(), &FED), None);
     Ok(())
 }
