@@ -155,8 +155,8 @@ impl PieceLexer {
     /// Goes over the next token, or says what stands in its place; the whole text ends with what is
     /// held, or it goes on. After anything but a token each later call with the same `is_end` answers
     /// the same, until a piece is taken. Linear in the bytes up to the token's end, and in those after
-    /// them that a longer token might have had: but for a first try, straight on, what was read is not
-    /// read again.
+    /// them that a longer token might have had: what was read is read again only where one of two first
+    /// tries, each straight on, settled nothing.
     #[inline(always)]
     pub fn advance(&mut self, is_end: bool) -> Advance
         ensures next { Advances is_end self.old self.new result }

@@ -23,7 +23,7 @@ abbrev pub scope_numbers : Scope → Numbers
 scope_numbers s = s.numbering
 
 module _ {L S V X T : Type 0} where
-  -- the triples so far
+  -- the triples so far, but for one that waits for what follows its object
   abbrev pub pending_triples : TripleParser L S V X T → List T
   pending_triples p = p.pending.items
 
