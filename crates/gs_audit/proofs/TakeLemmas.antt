@@ -7,6 +7,7 @@ use Rattle.std.proofs.Math.Logic.{∥∥₁_map}
 use Rattle.std.proofs.lemmas.List.{map-set, set-get_or, set_past, length-map}
 use Rattle.std.proofs.lemmas.Option.{slice_get-map, slice_get_past, get_or_from_slice_get}
 use Rattle.gs_model.specs.Graphs.{Graph}
+use Rattle.gs_model.specs.declared.refusals.Refusal.{Refusal}
 use Rattle.gs_model.specs.declared.refusals.Refusal.TheVariants.{NoMemory, BadSeat}
 use Rattle.gs_event.specs.declared.events.UploadKind.{UploadKind}
 use Rattle.gs_event.specs.declared.events.Action.{Action}
@@ -35,6 +36,17 @@ use Rattle.gs_audit.proofs.SlotLemmas.{staged_at, seat_there, seat_absent, agree
 set_same : {X : Type 0} (xs : List X) (s : ℕ) (x : X) → slice_get xs s ≡ Some x → slice_set xs s x ≡ xs
 set_same xs s x is = ap (slice_set xs s) (sym (get_or_from_slice_get xs s x x is)) ∙ set-get_or xs s x
 
+-- where an event is refused, as many stay staged
+
+refused_after : (p : SeatView) (n : ℕ) (action : Action) (x : Refusal) → count_after p n action (Refused x) ≡ n
+refused_after (Writing k r g) n (Stage ts) x = refl
+refused_after (Writing k r g) n action x = refl
+refused_after p n action x = refl
+
+pub refused_count : (p : SeatView) (n : ℕ) (e : Event) (x : Refusal) → kept_count p n e (Refused x) ≡ n
+refused_count p n (Reclaim k) x = refl
+refused_count p n (At s action) x = refused_after p n action x
+
 -- at a seat that is there
 
 fits_seat : (v : View) (s : ℕ) (q : SeatView) (action : Action) (a : Answer) → slice_get v.seats s ≡ Some q → Fits v (At s action) a → FitsSeat v.totals q action a
@@ -43,7 +55,7 @@ fits_seat v s q action a is = subst (λ (o : Option SeatView). MatchOption o (a 
 next_there : (v : View) (s : ℕ) (q : SeatView) (action : Action) (a : Answer) → slice_get v.seats s ≡ Some q → next_view v (At s action) a ≡ next_at v s q action a
 next_there v s q action a is = ap (λ (o : Option SeatView). next_if v s o action a) is
 
--- want of memory for one more list is a step of the store, and changes nothing
+-- want of memory for what an upload is given is a step of the store, and changes nothing
 refused_view : (v : View) (s : ℕ) (k : UploadKind) (r : ℕ) (g : Graph) (action : Action) → MayLack (Writing k r g) (At s action) → slice_get v.seats s ≡ Some (Writing k r g)
     → v ≡ next_at v s (Writing k r g) action (Refused NoMemory)
 refused_view v s k r g (Stage ts) may is =

@@ -14,7 +14,7 @@ use Rattle.gs_audit.specs.Staged.{staged_after}
 use Rattle.gs_audit.specs.Decisions.{decided_at, decided_by, page_by}
 use Rattle.gs_audit.specs.Slots.{open_of, slot_phase, slot_count, open_after, count_after, MayLack}
 
--- a step of the store, or want of memory for one more list of an upload, and then the store is as it was
+-- a step of the store, or want of memory for what an upload is given, and then the store is as it was
 abbrev pub StepsOrLacks : Shown → SeatView → Event → Answer → Shown → Type 0
 StepsOrLacks old p e a new = Steps old e a new ⊎ (MayLack p e × (a ≡ Refused NoMemory) × (new ≡ old))
 

@@ -33,7 +33,7 @@ impl Slot {
         let Slot::Upload(upload) = self else {
             return true;
         };
-        upload.make_room(list.len())
+        upload.make_room(list.as_slice())
     }
 
     /// Takes note of an answer to an action. What the call decided, and its status, if it decided
@@ -110,7 +110,7 @@ fn after_upload(
     match action {
         Action::Stage(list) => match answer {
             Answer::Staged => {
-                upload.stage(list);
+                upload.stage(list.as_slice());
                 (Slot::Upload(upload), None)
             }
             _ => (Slot::Upload(upload), None),

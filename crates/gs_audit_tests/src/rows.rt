@@ -1,6 +1,6 @@
 //! Worked rows: what is done to a new store, and the page that it leaves.
 use crate::stores::{cats, put, small, triples, wide};
-use gs_chronicle::Request;
+use gs_chronicle::{Request, Upload};
 use gs_core::{Action, Answer, Event, UploadKind};
 use gs_model::Refusal;
 use gs_term::Target;
@@ -107,7 +107,18 @@ fn staged_nothing(alloc: Global) -> Result<(Answer, Answer, Option<usize>), Refu
     Ok((stage, commit, triples))
 }
 
-/// The status of a PUT of 300 lists of four triples, and how many lists and triples its entry has.
+/// How many triples a reader of an upload gives.
+fn read_from(upload: &Upload) -> usize {
+    let mut triples = upload.triples();
+    let mut count = 0usize;
+    while let Some(_) = triples.next() {
+        count = count.saturating_add(1);
+    }
+    count
+}
+
+/// The status of a PUT of 300 lists of four triples, and how many triples its entry has, as a reader
+/// gives them and as they are counted.
 fn staged_often(alloc: Global) -> Result<(u16, usize, Option<usize>), Refusal> {
     let mut store = wide(alloc)?;
     let _ = store.event(Event::Seat(0, Action::Open(UploadKind::Put(cats(alloc)?))));
@@ -120,7 +131,7 @@ fn staged_often(alloc: Global) -> Result<(u16, usize, Option<usize>), Refusal> {
         Some(entry) => match entry.request() {
             Request::Upload(upload) => Ok((
                 status,
-                upload.lists().len(),
+                read_from(upload),
                 entry.request().triples(),
             )),
             _ => Ok((status, 0, None)),
@@ -131,10 +142,10 @@ fn staged_often(alloc: Global) -> Result<(u16, usize, Option<usize>), Refusal> {
 
 #[test]
 fn an_upload_of_many_lists_is_stored_whole(rt: HostRuntime) -> Result<(), Refusal> {
-    let (status, lists, triples) = staged_often(rt.alloc())?;
+    let (status, read, counted) = staged_often(rt.alloc())?;
     assert_eq!(&rt; status, 201);
-    assert_eq!(&rt; lists, 300);
-    assert_eq!(&rt; triples, Some(1_200));
+    assert_eq!(&rt; read, 1_200);
+    assert_eq!(&rt; counted, Some(1_200));
     Ok(())
 }
 

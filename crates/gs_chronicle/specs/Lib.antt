@@ -1,5 +1,5 @@
--- Read in this order: how much a call brings and what an upload holds; the kinds of calls, what they asked and how a page
--- keeps them; what an entry and a page show; and how a page replays.
+-- Read in this order: how many triples operations have, and what an upload holds; the kinds of calls, what they asked and how
+-- a page keeps them; what an entry and a page show; and how a page replays.
 pub mod Sizes
 pub mod Uploads
 pub mod Kinds

@@ -1,11 +1,11 @@
 -- What a stored request asked for.
-use Rattle.std.specs.Prelude.{ℕ}
+use Rattle.std.specs.Prelude.{ℕ, length}
 use Rattle.gs_event.specs.Operations.{Operation, Patches, Deletes, Looks, Reads}
 use Rattle.gs_event.specs.Phases.{write_of}
 use Rattle.gs_chronicle.specs.declared.requests.Request.{Request}
 use Rattle.gs_chronicle.specs.declared.requests.Request.TheVariants.{Upload, Patch, Delete, Head, Pin}
 use Rattle.gs_chronicle.specs.Sizes.{ops_size}
-use Rattle.gs_chronicle.specs.Uploads.{staged_graph}
+use Rattle.gs_chronicle.specs.Uploads.{staged_triples, staged_graph}
 use Rattle.gs_chronicle.specs.Pages.{Decided}
 
 -- what the abstract store was asked
@@ -18,7 +18,7 @@ operation_in (Pin t) = Reads t
 
 -- how many triples and patterns the request has, with repeats
 abbrev pub request_size : Request → ℕ
-request_size (Upload u) = u.count
+request_size (Upload u) = length (staged_triples u)
 request_size (Patch t ops) = ops_size ops.items
 request_size (Delete t) = 0
 request_size (Head t) = 0

@@ -1,8 +1,6 @@
--- How many triples and patterns a call brings, with repeats.
+-- How many triples and patterns operations have, with repeats.
 use Rattle.std.specs.Prelude.{ℕ, List, length}
 use Rattle.std.specs.List.{sum_by}
-use Rattle.std.specs.Global.{Vec}
-use Rattle.gs_model.specs.Triples.{RdfTriple}
 use Rattle.gs_event.specs.declared.updates.Op.{Op}
 use Rattle.gs_event.specs.declared.updates.Op.TheVariants.{Insert, DeleteData, DeleteWhere}
 
@@ -15,7 +13,3 @@ op_size (DeleteWhere ps) = length ps.items
 -- the same of many operations
 abbrev pub ops_size : List Op → ℕ
 ops_size ops = sum_by op_size ops
-
--- the triples of many lists
-abbrev pub lists_size : List (Vec RdfTriple) → ℕ
-lists_size lists = sum_by (λ l. length l.items) lists

@@ -1,39 +1,36 @@
 //! Open uploads.
 ghost use Rattle.std.specs.Prelude.{◌≡◌};
-ghost use Rattle.gs_chronicle.specs.Sizes.{lists_size};
 
 use gs_event::UploadKind;
+use gs_packed_triples::{PackedTriples, UnpackedTriples};
 use gs_term::Triple;
 use std::alloc::Global;
 
-/// What was staged since an upload was opened: the lists, in their order, as they came.
+/// What was staged since an upload was opened: the triples, packed, in the order in which they came.
 #[derive(Debug, Drop)]
 pub struct Upload {
     kind: UploadKind,
     request: u64,
-    lists: Vec<Vec<Triple>>,
-    /// Triples of all lists, with repeats.
-    count: usize,
-    ghost counted: { count ≡ lists_size lists.items },
+    packed: PackedTriples,
 }
 
 impl Upload {
-    ghost use Rattle.std.specs.Prelude.{◌+◌, ◌<◌, ◌^◌, [], ◌∷◌, ◌++◌, true, length};
+    ghost use Rattle.std.specs.Prelude.{[], ◌++◌, true, length};
     ghost use Rattle.gs_model.specs.Graphs.{empty_graph, with_triples};
-    ghost use Rattle.gs_chronicle.specs.Uploads.{staged_graph, HasRoomFor};
+    ghost use Rattle.gs_packed_triples.specs.Triples.{triples_left, HasRoomFor};
+    ghost use Rattle.gs_chronicle.specs.Uploads.{staged_triples, staged_graph};
 
     /// An upload of this kind and this request number, to which nothing was staged yet.
     pub fn new(alloc: Global, kind: UploadKind, request: u64) -> Upload
         ensures kind { result.kind ≡ kind }
         ensures request { result.request ≡ request }
+        ensures triples { staged_triples result ≡ [] }
         ensures graph { staged_graph result ≡ empty_graph }
-        ensures count { result.count ≡ 0 }
     {
         Upload {
             kind,
             request,
-            lists: Vec::new(alloc),
-            count: 0,
+            packed: PackedTriples::new(alloc),
         }
     }
 
@@ -51,45 +48,39 @@ impl Upload {
         self.request
     }
 
-    /// The lists that were staged, the first one first.
-    pub fn lists(&self) -> &[Vec<Triple>]
-        ensures { result.now ≡ self.now.lists.items }
+    /// A reader of the triples that were staged, the first one first. Takes no memory.
+    pub fn triples(&self) -> UnpackedTriples<'_>
+        ensures { triples_left result ≡ staged_triples self.now }
     {
-        self.lists.as_slice()
+        self.packed.triples()
     }
 
-    /// Triples of all lists, with repeats.
+    /// How many triples were staged, with repeats.
     pub fn count(&self) -> usize
-        ensures value { result ≡ self.now.count }
-        ensures counted { result ≡ lists_size self.now.lists.items }
+        ensures { result ≡ length (staged_triples self.now) }
     {
-        self.count
+        self.packed.len()
     }
 
-    /// Makes room for one more list, of so many triples. False where that was refused.
-    pub fn make_room(&mut self, more: usize) -> bool
+    /// Makes room for a list. False where that was refused.
+    pub fn make_room(&mut self, list: &[Triple]) -> bool
         ensures kind { self.new.kind ≡ self.old.kind }
         ensures request { self.new.request ≡ self.old.request }
-        ensures lists { self.new.lists.items ≡ self.old.lists.items }
-        ensures count { self.new.count ≡ self.old.count }
-        ensures room { result ≡ true → HasRoomFor more self.new }
+        ensures triples { staged_triples self.new ≡ staged_triples self.old }
+        ensures room { result ≡ true → HasRoomFor self.new.packed list.now }
     {
-        if self.count.checked_add(more).is_none() {
-            return false;
-        }
-        self.lists.reserve(1).is_ok()
+        self.packed.make_room(list)
     }
 
-    /// Adds a list, for which there is room. Takes no memory, and copies nothing.
-    pub fn stage(&mut self, list: Vec<Triple>)
-        requires { HasRoomFor (length list.items) self.old }
+    /// Packs a list, for which there is room. Takes no memory.
+    #[tactic(auto, using(crate::proofs::UploadLemmas::more_staged))]
+    pub fn stage(&mut self, list: &[Triple])
+        requires { HasRoomFor self.old.packed list.now }
         ensures kind { self.new.kind ≡ self.old.kind }
         ensures request { self.new.request ≡ self.old.request }
-        ensures lists { self.new.lists.items ≡ self.old.lists.items ++ list ∷ [] }
-        ensures graph { staged_graph self.new ≡ with_triples (staged_graph self.old) list.items }
-        ensures count { self.new.count ≡ self.old.count + length list.items }
+        ensures triples { staged_triples self.new ≡ staged_triples self.old ++ list.now }
+        ensures graph { staged_graph self.new ≡ with_triples (staged_graph self.old) list.now }
     {
-        self.count += list.len();
-        self.lists.push_reserved(list);
+        self.packed.add(list);
     }
 }

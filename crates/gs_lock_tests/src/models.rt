@@ -41,23 +41,30 @@ fn place_among(lines: &[Vec<u8>], more: &[u8]) -> Option<usize> {
     Some(place)
 }
 
-/// Adds the line of each triple.
-fn add_all(alloc: Global, lines: &mut Vec<Vec<u8>>, triples: &[Triple]) -> Result<(), Refusal> {
-    for triple in triples {
-        let mut bytes = Vec::new(alloc);
-        line(triple, &mut bytes)?;
-        if let Some(place) = place_among(lines.as_slice(), bytes.as_slice()) {
-            lines.insert(place.min(lines.len()), bytes)?;
-        }
+/// Adds the line of a triple.
+fn add(alloc: Global, lines: &mut Vec<Vec<u8>>, triple: &Triple) -> Result<(), Refusal> {
+    let mut bytes = Vec::new(alloc);
+    line(triple, &mut bytes)?;
+    if let Some(place) = place_among(lines.as_slice(), bytes.as_slice()) {
+        lines.insert(place.min(lines.len()), bytes)?;
     }
     Ok(())
 }
 
-/// The lines of all lists of an upload.
+/// Adds the line of each triple.
+fn add_all(alloc: Global, lines: &mut Vec<Vec<u8>>, triples: &[Triple]) -> Result<(), Refusal> {
+    for triple in triples {
+        add(alloc, lines, triple)?;
+    }
+    Ok(())
+}
+
+/// The lines of all triples of an upload.
 fn staged(alloc: Global, upload: &Upload) -> Result<Vec<Vec<u8>>, Refusal> {
     let mut lines = Vec::new(alloc);
-    for list in upload.lists() {
-        add_all(alloc, &mut lines, list.as_slice())?;
+    let mut triples = upload.triples();
+    while let Some(triple) = triples.next() {
+        add(alloc, &mut lines, &triple.to_triple(alloc)?)?;
     }
     Ok(lines)
 }

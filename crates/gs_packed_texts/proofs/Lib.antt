@@ -1,0 +1,3 @@
+pub mod PackingLemmas
+pub mod SpanLemmas
+pub mod KeptLemmas

@@ -1,0 +1,13 @@
+//! Texts packed in memory: each by what it shares with texts that stood at its place before.
+#![tactic(auto)]
+
+mod counts;
+mod places;
+mod readers;
+#[cfg(test)]
+mod tests;
+mod texts;
+mod windows;
+
+pub use readers::{SplitText, Texts};
+pub use texts::PackedTexts;

@@ -1,0 +1,170 @@
+//! Texts packed and read back, with the number of their own bytes as counted by hand. Each text has the
+//! memory of the third text before it: a row speaks of the first memory where its other texts are empty.
+use crate::readers::Texts;
+use crate::texts::PackedTexts;
+use std::alloc::{AllocError, Global};
+use std::test::Fail;
+
+/// A name, the texts, and how many bytes of their own they have in all.
+const ROWS: [(&str, &[&str], usize); 9] = [
+    ("no text", &[], 0),
+    ("empty texts", &["", "", "", ""], 0),
+    (
+        "triples of one subject",
+        &["<e:a>", "<e:p>", "<e:b>", "<e:a>", "<e:p>", "<e:c>"],
+        17,
+    ),
+    (
+        "a text once more",
+        &["<e:a>", "", "", "<e:a>", "", "", "<e:a>", "", ""],
+        5,
+    ),
+    (
+        "two texts in turn",
+        &["<e:a>", "", "", "<e:b>", "", "", "<e:a>", "", "", "<e:b>"],
+        7,
+    ),
+    (
+        "IRIs that begin alike",
+        &[
+            "<http://e.org/things/1>",
+            "",
+            "",
+            "<http://e.org/things/2>",
+            "",
+            "",
+            "<http://e.org/things/12>",
+        ],
+        27,
+    ),
+    (
+        "a literal between IRIs",
+        &[
+            "<http://e.org/things/1>",
+            "",
+            "",
+            "\"a\"",
+            "",
+            "",
+            "<http://e.org/things/2>",
+        ],
+        28,
+    ),
+    (
+        "an IRI that is the next anchor",
+        &[
+            "<http://e.org/things/1>",
+            "",
+            "",
+            "<http://other.org/1>",
+            "",
+            "",
+            "<http://other.org/2>",
+        ],
+        45,
+    ),
+    (
+        "a text that is a front of the anchor",
+        &["<http://e.org/things/1>", "", "", "<http://e.org/things/"],
+        23,
+    ),
+];
+
+/// A name, of how many bytes two texts are that differ in the last one, and how many bytes of their own
+/// they have.
+const LONG: [(&str, usize, usize); 3] = [
+    ("251 bytes in common", 252, 253),
+    ("299 bytes in common", 300, 348),
+    ("the longest texts", 65_535, 131_070),
+];
+
+/// Adds a text, after room was made for it.
+fn add(packed: &mut PackedTexts, text: &[u8]) -> Result<(), AllocError> {
+    packed.make_room(1, text.len())?;
+    if text.len() <= 65_535 {
+        packed.push(text);
+    }
+    Ok(())
+}
+
+/// Whether this text comes next.
+fn comes(left: &mut Texts<'_>, text: &[u8]) -> bool {
+    match left.next() {
+        Some(read) => text.strip_prefix(read.front()) == Some(read.rest()),
+        None => false,
+    }
+}
+
+/// Whether these texts come back, and have so many bytes of their own.
+fn is_right(alloc: Global, texts: &[&str], own: usize) -> Result<bool, AllocError> {
+    let mut packed = PackedTexts::new(alloc);
+    for text in texts {
+        add(&mut packed, text.as_bytes())?;
+    }
+    let mut left = packed.texts();
+    for text in texts {
+        if !comes(&mut left, text.as_bytes()) {
+            return Ok(false);
+        }
+    }
+    Ok(left.next().is_none() && packed.own_bytes() == own)
+}
+
+/// The name of the first row that is wrong.
+fn wrong_row(alloc: Global) -> Result<Option<&'static str>, AllocError> {
+    for (name, texts, own) in ROWS {
+        if !is_right(alloc, texts, own)? {
+            return Ok(Some(name));
+        }
+    }
+    Ok(None)
+}
+
+/// A text of so many bytes.
+fn long_text(alloc: Global, count: usize, last: u8) -> Result<Vec<u8>, AllocError> {
+    let mut text = Vec::from_slice(alloc, b"<")?;
+    for _ in 2..count {
+        text.push(b'a')?;
+    }
+    text.push(last)?;
+    Ok(text)
+}
+
+/// Whether two texts of so many bytes come back, the second one from the first one's memory.
+fn is_long_right(alloc: Global, count: usize, own: usize) -> Result<bool, AllocError> {
+    let first = long_text(alloc, count, b'x')?;
+    let second = long_text(alloc, count, b'y')?;
+    let mut packed = PackedTexts::new(alloc);
+    for text in [first.as_slice(), b"", b"", second.as_slice()] {
+        add(&mut packed, text)?;
+    }
+    let mut left = packed.texts();
+    for text in [first.as_slice(), b"", b"", second.as_slice()] {
+        if !comes(&mut left, text) {
+            return Ok(false);
+        }
+    }
+    Ok(left.next().is_none() && packed.own_bytes() == own)
+}
+
+/// The name of the first row of long texts that is wrong.
+fn wrong_long_row(alloc: Global) -> Result<Option<&'static str>, AllocError> {
+    for (name, count, own) in LONG {
+        if !is_long_right(alloc, count, own)? {
+            return Ok(Some(name));
+        }
+    }
+    Ok(None)
+}
+
+#[test]
+fn texts_come_back(rt: HostRuntime) -> Result<(), Fail> {
+    assert_eq!(rt; wrong_row(rt.alloc())?, None);
+    Ok(())
+}
+
+#[test]
+fn long_texts_come_back(rt: HostRuntime) -> Result<(), Fail> {
+    assert_eq!(rt; wrong_long_row(rt.alloc())?, None);
+    Ok(())
+}

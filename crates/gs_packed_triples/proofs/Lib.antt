@@ -1,0 +1,3 @@
+pub mod FormedLemmas
+pub mod PlaceLemmas
+pub mod RoomLemmas

@@ -1,0 +1,11 @@
+//! Triples packed in memory, in the order in which they came.
+#![tactic(auto)]
+
+mod readers;
+#[cfg(test)]
+mod tests;
+mod triples;
+
+pub use gs_packed_texts::SplitText;
+pub use readers::{PackedTriple, UnpackedTriples};
+pub use triples::PackedTriples;

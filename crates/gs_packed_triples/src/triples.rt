@@ -1,0 +1,125 @@
+//! Triples packed one after another.
+ghost use Rattle.std.specs.Prelude.{◌≡◌, ◌≤◌, [], ◌∷◌, ◌++◌, length, IfSome};
+ghost use Rattle.std.proofs.Props.{props};
+ghost use Rattle.gs_model.specs.Terms.{text_of};
+ghost use Rattle.gs_packed_texts.specs.Texts.{texts_of, HasRoom};
+ghost use Rattle.gs_packed_triples.specs.Formed.{triples_in, AreFormed};
+ghost use Rattle.gs_packed_triples.specs.Room.{triple_bytes, triples_bytes, LeavesRoom};
+ghost use Rattle.gs_packed_triples.specs.Props.{IsText-prop};
+
+use crate::readers::UnpackedTriples;
+use gs_packed_texts::PackedTexts;
+use gs_term::{TermText, Triple};
+use std::alloc::Global;
+
+/// Triples in the order in which they came, with repeats: three texts for each, the subject's first. A
+/// term takes a byte where it is one of the last two at its place in a triple, and otherwise three and
+/// what it has after a front of an earlier one.
+#[derive(Debug, Drop)]
+pub struct PackedTriples {
+    texts: PackedTexts,
+    count: usize,
+    ghost formed: { AreFormed (texts_of texts) } by { Prim.hlevel (IsText-prop, props) },
+    ghost counted: { count ≡ length (triples_in (texts_of texts)) },
+}
+
+/// How many bytes the three texts of a triple have.
+fn bytes_of(triple: &Triple) -> usize
+    ensures value { result ≡ triple_bytes triple.now }
+    ensures few { result ≤ 196_605 }
+{
+    triple.subject().as_bytes().len()
+        + triple.predicate().as_bytes().len()
+        + triple.object().as_bytes().len()
+}
+
+/// How many bytes the texts of a list have, if 64 bits count them.
+fn bytes_of_all(list: &[Triple]) -> Option<usize>
+    ensures { IfSome result (λ n. n ≡ triples_bytes list.now) }
+{
+    let mut bytes = 0usize;
+    for triple in list {
+        bytes = bytes.checked_add(bytes_of(triple))?;
+    }
+    Some(bytes)
+}
+
+/// Adds the text of a term, for which there is room.
+fn push_term(texts: &mut PackedTexts, term: &TermText)
+    requires { HasRoom texts.old 1 (length (text_of term.now)) }
+    ensures texts { texts_of texts.new ≡ texts_of texts.old ++ text_of term.now ∷ [] }
+    ensures room { LeavesRoom texts.old (text_of term.now) texts.new }
+{
+    texts.push(term.as_bytes());
+}
+
+impl PackedTriples {
+    ghost use Rattle.std.specs.Prelude.{◌≡◌, [], ◌∷◌, ◌++◌, length, true};
+    ghost use Rattle.gs_packed_triples.specs.Triples.{packed_triples, triples_left, HasRoomFor, LeavesRoomFor};
+
+    /// No triples. Takes no memory.
+    pub fn new(alloc: Global) -> PackedTriples
+        ensures { packed_triples result ≡ [] }
+    {
+        PackedTriples {
+            texts: PackedTexts::new(alloc),
+            count: 0,
+        }
+    }
+
+    /// How many triples there are, with repeats.
+    pub fn len(&self) -> usize
+        ensures { result ≡ length (packed_triples self.now) }
+    {
+        self.count
+    }
+
+    /// Makes room for a list. False where memory is refused, or where 64 bits cannot count the bytes or
+    /// the triples.
+    pub fn make_room(&mut self, list: &[Triple]) -> bool
+        ensures triples { packed_triples self.new ≡ packed_triples self.old }
+        ensures room { result ≡ true → HasRoomFor self.new list.now }
+    {
+        let Some(bytes) = bytes_of_all(list) else {
+            return false;
+        };
+        let Some(texts) = list.len().checked_mul(3) else {
+            return false;
+        };
+        if self.count.checked_add(list.len()).is_none() {
+            return false;
+        }
+        self.texts.make_room(texts, bytes).is_ok()
+    }
+
+    /// Adds a triple, for which there is room.
+    fn add_one(&mut self, triple: &Triple)
+        requires { HasRoomFor self.old (triple.now ∷ []) }
+        ensures triples { packed_triples self.new ≡ packed_triples self.old ++ triple.now ∷ [] }
+        ensures room { LeavesRoomFor self.old triple.now self.new }
+    {
+        // For the proof that what is packed stays texts of triples.
+        triple.known();
+        push_term(&mut self.texts, triple.subject());
+        push_term(&mut self.texts, triple.predicate());
+        push_term(&mut self.texts, triple.object());
+        self.count += 1;
+    }
+
+    /// Adds a list, for which there is room. Takes no memory. Linear in the bytes of its terms.
+    pub fn add(&mut self, list: &[Triple])
+        requires { HasRoomFor self.old list.now }
+        ensures { packed_triples self.new ≡ packed_triples self.old ++ list.now }
+    {
+        for triple in list {
+            self.add_one(triple);
+        }
+    }
+
+    /// A reader of the triples, the first one first.
+    pub fn triples(&self) -> UnpackedTriples<'_>
+        ensures { triples_left result ≡ packed_triples self.now }
+    {
+        UnpackedTriples::new(self.texts.texts())
+    }
+}
