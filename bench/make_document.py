@@ -1,5 +1,6 @@
 #!/usr/bin/env python3
-"""Writes a deterministic document of N-Triples: make_document.py TRIPLES > FILE."""
+"""Writes a deterministic document of N-Triples: make_document.py TRIPLES [accents] > FILE. With accents a quarter of its
+lines has characters above 127."""
 import sys
 
 XSD = "http://www.w3.org/2001/XMLSchema#"
@@ -34,5 +35,12 @@ def lines(count):
         yield f"{subject} {predicate} {obj} .\n"
 
 
+def accented(line):
+    """With another letter in the articles of a text, which lines 2 and 6 of eight have."""
+    return line.replace(' "the ', ' "th\u00e9 ').replace(" the ", " th\u00e9 ")
+
+
 if __name__ == "__main__":
-    sys.stdout.writelines(lines(int(sys.argv[1])))
+    sys.stdout.reconfigure(encoding="utf-8", newline="\n")
+    made = lines(int(sys.argv[1]))
+    sys.stdout.writelines(map(accented, made) if sys.argv[2:] == ["accents"] else made)

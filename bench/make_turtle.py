@@ -1,5 +1,6 @@
 #!/usr/bin/env python3
-"""Writes a deterministic document of Turtle: make_turtle.py TRIPLES > FILE."""
+"""Writes a deterministic document of Turtle: make_turtle.py TRIPLES [accents] > FILE. With accents a quarter of its
+lines has characters above 127, otherwise one of eighteen."""
 import sys
 
 WORDS = "river stone harbour winter letter orchard signal marble copper garden window bridge".split()
@@ -68,6 +69,14 @@ def statements(count):
         yield " ;\n".join(lines) + " .\n"
 
 
+def accented(statement):
+    """With another letter in the articles of a text, and in one of the words."""
+    for one, other in ((' "the ', ' "th\u00e9 '), (" the ", " th\u00e9 "), ("\nthe ", "\nth\u00e9 "), ("orchard", "orch\u00e4rd")):
+        statement = statement.replace(one, other)
+    return statement
+
+
 if __name__ == "__main__":
     sys.stdout.reconfigure(encoding="utf-8", newline="\n")
-    sys.stdout.writelines(statements(int(sys.argv[1])))
+    made = statements(int(sys.argv[1]))
+    sys.stdout.writelines(map(accented, made) if sys.argv[2:] == ["accents"] else made)

@@ -1,6 +1,6 @@
 #!/usr/bin/env python3
-"""What each phase of storage takes: measure_storage.py PROGRAM TRIPLES seconds|instructions. Each mode of the program does
-what the one before it does and one thing more, so a phase is the difference of two modes: the best of some runs each, in
+"""What each phase of storage takes: measure_storage.py PROGRAM TRIPLES seconds|instructions. Each mode of the program
+up to unite does what the one before it does and one thing more, and walk and lines go on from there, so a phase is the difference of two modes: the best of some runs each, in
 seconds of the processor that the program itself had, or in instructions as valgrind counts them, which are the same in each run."""
 import os
 import re

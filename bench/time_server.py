@@ -40,7 +40,7 @@ wrk.body = '<http://e/s> <http://e/p> "1" .'
 
 
 def document(lines):
-    """Lines of about 60 bytes, in the order in which a store gives them."""
+    """Lines of 74 bytes, in the order in which a store gives them."""
     made = (f'<http://example.org/subject/{n:08d}> <http://example.org/p> "{n:08d}" .' for n in range(lines))
     return "".join(line + "\n" for line in made)
 

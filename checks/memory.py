@@ -1,4 +1,5 @@
 """Checks what gsdrill prints where a request for memory is refused: memory.py PROGRAM CRATES FOLDER [each]."""
+import concurrent.futures
 import functools
 import os
 import re
@@ -457,9 +458,9 @@ def check_large(program, room, is_each):
     schedule = counted(large())
     requests = requests_of(program, schedule, room)
     refused = set(range(1, requests + 1)) if is_each else some_requests(program, schedule, room, requests)
-    for it in sorted(refused):
-        for later in (False, True):
-            check(program, schedule, room, it, later)
+    runs = [(program, schedule, room, it, later) for it in sorted(refused) for later in (False, True)]
+    with concurrent.futures.ProcessPoolExecutor() as pool:
+        list(pool.map(check, *zip(*runs), chunksize=50))
     print(f"a thousand triples are added to a thousand that are read: {requests} requests, {len(refused)} of them refused")
     return 2 * len(refused)
 

@@ -129,11 +129,7 @@ fn staged_often(alloc: Global) -> Result<(u16, usize, Option<usize>), Refusal> {
     let status = status_in(&store.event(Event::Seat(0, Action::Commit)));
     match store.page().entries().last() {
         Some(entry) => match entry.request() {
-            Request::Upload(upload) => Ok((
-                status,
-                read_from(upload),
-                entry.request().triples(),
-            )),
+            Request::Upload(upload) => Ok((status, read_from(upload), entry.request().triples())),
             _ => Ok((status, 0, None)),
         },
         None => Ok((status, 0, None)),

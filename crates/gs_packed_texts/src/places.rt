@@ -32,7 +32,7 @@ fn common_front(anchor: &[u8], text: &[u8]) -> usize
 }
 
 /// How a text is packed after the texts of a window. An IRI that has less than half of itself from the
-/// anchor is the next anchor; a literal never is, so it does not part IRIs that begin alike.
+/// anchor is the next anchor; a literal or a blank node never is, so it does not part IRIs that begin alike.
 pub fn placed(bytes: &[u8], window: Window, text: &[u8]) -> Place
     requires { IsWindowIn (length bytes.now) window }
     ensures { IsPlace bytes.now window text.now result }

@@ -50,7 +50,7 @@ impl<'a> Texts<'a> {
     ghost use Rattle.gs_packed_texts.specs.Texts.{left_of, Gives};
 
     /// A reader of the texts with these marks, and with these bytes of their own.
-    pub fn new(marks: &'a [u8], counts: &'a [u16], bytes: &'a [u8]) -> Texts<'a>
+    pub(crate) fn new(marks: &'a [u8], counts: &'a [u16], bytes: &'a [u8]) -> Texts<'a>
         requires counted { sum counts.now ≡ length bytes.now }
         requires owned { own_in marks.now ≡ length counts.now }
         ensures { left_of result ≡ unpacked marks.now (source_of counts.now bytes.now) }

@@ -14,7 +14,7 @@ use std::alloc::{AllocError, Global};
 #[derive(Debug, Drop)]
 pub struct PackedTexts {
     marks: Vec<u8>,
-    /// For each text with bytes of its own, how many.
+    /// For each text that is not its memory's last or earlier one, how many bytes of its own it has.
     counts: Vec<u16>,
     bytes: Vec<u8>,
     first: Window,
