@@ -6,7 +6,7 @@ use std::alloc::{AllocError, Global};
 use std::test::Fail;
 
 /// A name, the texts, and how many bytes of their own they have in all.
-const ROWS: [(&str, &[&str], usize); 9] = [
+const ROWS: [(&str, &[&str], usize); 12] = [
     ("no text", &[], 0),
     ("empty texts", &["", "", "", ""], 0),
     (
@@ -18,6 +18,17 @@ const ROWS: [(&str, &[&str], usize); 9] = [
         "a text once more",
         &["<e:a>", "", "", "<e:a>", "", "", "<e:a>", "", ""],
         5,
+    ),
+    ("a literal once more", &["\"a\"", "", "", "\"a\""], 3),
+    (
+        "half of an IRI from the anchor",
+        &["<e:abcd>", "", "", "<e:axyz>"],
+        12,
+    ),
+    (
+        "less than half of an IRI from the anchor",
+        &["<e:abcd>", "", "", "<e:wxyz>", "", "", "<e:wxyv>"],
+        18,
     ),
     (
         "two texts in turn",
