@@ -48,7 +48,7 @@ def most_memory(command):
 
 
 class Meter:
-    """Measures the modes of a program, each once."""
+    """Measures the modes of a program. Those that are compared take turns, so that a slow minute of the machine is none of one alone."""
 
     def __init__(self, program, what):
         self.program = program
@@ -57,17 +57,17 @@ class Meter:
         # Seconds are printed as nanoseconds.
         self.scale, self.unit = (1e9, "ns") if what == "seconds" else (1, "instructions")
 
-    def best(self, *words):
-        """The least of some runs, and what was printed."""
-        runs = [self.measure([self.program] + [str(word) for word in words]) for _ in range(self.runs)]
-        return min(used for used, _ in runs) * self.scale, runs[0][1]
+    def best(self, wordings):
+        """Of each wording the least of some runs, and what was printed."""
+        turns = [[self.measure([self.program] + [str(word) for word in words]) for words in wordings] for _ in range(self.runs)]
+        return [(min(used for used, _ in runs) * self.scale, runs[0][1]) for runs in zip(*turns)]
 
 
 def phases(meter, way, count):
     """What a triple takes in each phase, and what a line of the walk takes."""
-    took = {}
-    for mode in ["make", "intern", "sort", "test", "unite", "walk", "lines"]:
-        took[mode], said = meter.best(mode, way, count)
+    modes = ["make", "intern", "sort", "test", "unite", "walk", "lines"]
+    found = dict(zip(modes, meter.best([[mode, way, count] for mode in modes])))
+    took, said = {mode: used for mode, (used, _) in found.items()}, found["lines"][1]
     least = {
         "intern": took["intern"] - took["make"],
         "sort": took["sort"] - took["intern"],
@@ -87,11 +87,9 @@ def phases(meter, way, count):
 
 def few(meter, places, sizes):
     """What ten keys take that are united with a set, for each size, and the ratio."""
-    took = []
-    for count, graphs in sizes:
-        words = ["sorted", count, FEW_RUNS // graphs, graphs]
-        without, _ = meter.best(f"draw-{places}", *words)
-        used, said = meter.best(f"unite-{places}", *words)
+    words = [[f"{mode}-{places}", "sorted", count, FEW_RUNS // graphs, graphs] for count, graphs in sizes for mode in ("draw", "unite")]
+    found, took = meter.best(words), []
+    for (count, _), (without, _), (used, said) in zip(sizes, found[::2], found[1::2]):
         took.append((used - without) / FEW_RUNS)
         print(f"ten keys, {places}, onto {count}: {took[-1]:.0f} {meter.unit} ({said})")
     print(f"ten keys, {places}: {took[1] / took[0]:.1f} times")

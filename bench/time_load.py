@@ -1,6 +1,6 @@
 """Times loading into a listening gsd: a nearly sorted document of N-Triples and the same as Turtle, in bodies of at most
 sixty million bytes, beside serdi on the same files; then POSTs of ten triples onto a large graph and onto a small one, and
-the server's resident memory. All on one machine."""
+the server's resident memory, there and where all came in one body. All on one machine."""
 import http.client
 import os
 import pathlib
@@ -49,6 +49,16 @@ def documents(room, triples):
             subprocess.run(["serdi", "-i", "ntriples", "-o", "turtle", str(lines)], stdout=out, check=True)
         files.append((lines, turtle))
     return files
+
+
+def one_body(triples):
+    """As many triples of such terms in one body of Turtle, sorted, with prefixes and two triples a subject."""
+    def pair(number):
+        other = f"s:{number ^ 1:019d}"
+        return f"s:{number:019d} p:{0:019d} {other} ; p:{1:019d} {other} .\n"
+
+    head = "".join(f"@prefix {kind}: <http://example.org/data/{kind}/> .\n" for kind in "sp")
+    return head + "".join(pair(number) for number in range(triples // 2))
 
 
 def serdi(language, files):
@@ -120,6 +130,13 @@ def main():
                 print(f"POST of 10: {few * 1e6:.0f} us onto 1,000, {many * 1e6:.0f} us onto {triples:,}; ratio {many / few:.2f}")
             process.kill()
             process.wait()
+    process, port = started(program)
+    before, data = resident(process), one_body(triples).encode()
+    request(http.client.HTTPConnection("127.0.0.1", port), "PUT", "/store?graph=http://e/large", "text/turtle", data)
+    share = (resident(process) - before) / triples
+    print(f"turtle, one body of {len(data) / 1e6:.0f} MB: {share:.0f} bytes resident a triple")
+    process.kill()
+    process.wait()
 
 
 os.environ["LC_ALL"] = "C"
