@@ -1,7 +1,7 @@
 #!/usr/bin/env python3
 """What each phase of storage takes: measure_storage.py PROGRAM TRIPLES seconds|instructions. Each mode of the program
-up to unite does what the one before it does and one thing more, and walk and lines go on from there, so a phase is the difference of two modes: the best of some runs each, in
-seconds of the processor that the program itself had, or in instructions as valgrind counts them, which are the same in each run."""
+up to unite does what the one before it does and one thing more, and walk and lines go on from there over all keys, ten times, so a phase is the difference of two modes: the best of
+some runs each, in seconds of the processor that the program itself had, or in instructions as valgrind counts them, which are the same in each run."""
 import os
 import re
 import subprocess
@@ -10,6 +10,7 @@ import tempfile
 import time
 
 RUNS = 5
+WALKS = 10
 FEW_RUNS = 10_000
 FEW_A_GRAPH = 20
 
@@ -66,7 +67,7 @@ class Meter:
 def phases(meter, way, count):
     """What a triple takes in each phase, and what a line of the walk takes."""
     modes = ["make", "intern", "sort", "test", "unite", "walk", "lines"]
-    found = dict(zip(modes, meter.best([[mode, way, count] for mode in modes])))
+    found = dict(zip(modes, meter.best([[mode, way, count, WALKS] for mode in modes])))
     took, said = {mode: used for mode, (used, _) in found.items()}, found["lines"][1]
     least = {
         "intern": took["intern"] - took["make"],
@@ -76,9 +77,9 @@ def phases(meter, way, count):
     parts = ", ".join(f"{name} {used / count:.0f}" for name, used in least.items())
     print(f"{way}: {sum(least.values()) / count:.0f} {meter.unit} a triple ({parts})")
     print(f"{way}: making the terms {took['make'] / count:.0f}, the test before a union {(took['test'] - took['sort']) / count:.0f}")
-    walked = took["lines"] - took["unite"]
+    walked = (took["lines"] - took["unite"]) / WALKS
     size = int(re.search(r"(\d+) bytes", said).group(1))
-    print(f"{way}: walk {(took['walk'] - took['unite']) / count:.0f}, lines {walked / count:.0f} a line of {size / count:.0f} bytes", end="")
+    print(f"{way}: walk {(took['walk'] - took['unite']) / WALKS / count:.0f}, lines {walked / count:.0f} a line of {size / count:.0f} bytes", end="")
     print(f", {size / walked:.2f} GB/s" if meter.unit == "ns" else "")
     print(f"{way}: {said}")
     used = most_memory([meter.program, "unite", way, str(count)])

@@ -65,6 +65,83 @@ pub fn find(arena: &[u8], entries: &[Entry], heads: &[u32], text: &[u8], hash: u
     None
 }
 
+/// How many terms are looked up together.
+pub const AHEAD: usize = 16;
+
+/// The greatest 32-bit number, which is never given.
+const NO_NUMBER: u32 = u32::MAX;
+
+/// The newest number in the chain of each hash, and 0 where there is none.
+fn newest(heads: &[u32], hashes: &[u32; AHEAD]) -> [u32; AHEAD]
+    requires { 0 < length heads.now }
+{
+    let mut numbers = [0; AHEAD];
+    for i in 0..AHEAD {
+        numbers[i] = heads[bucket(hashes[i], heads.len())].saturating_sub(1);
+    }
+    numbers
+}
+
+/// Those of the numbers whose entry has the hash, in their places.
+fn with_hash(entries: &[Entry], numbers: &[u32; AHEAD], hashes: &[u32; AHEAD]) -> [u32; AHEAD] {
+    let mut found = [NO_NUMBER; AHEAD];
+    for i in 0..AHEAD {
+        if let Some(entry) = entries.get(numbers[i] as usize) {
+            found[i] = if entry.hash == hashes[i] {
+                numbers[i]
+            } else {
+                NO_NUMBER
+            };
+        }
+    }
+    found
+}
+
+/// Where the text of a number begins, and 0 where the number has none.
+fn start_of(entries: &[Entry], number: u32) -> u64 {
+    match entries.get((number as usize).wrapping_sub(1)) {
+        Some(entry) => entry.end,
+        None => 0,
+    }
+}
+
+/// Those of the numbers whose text begins with the byte, in their places.
+fn with_first(
+    arena: &[u8],
+    entries: &[Entry],
+    numbers: &[u32; AHEAD],
+    firsts: &[u8; AHEAD],
+) -> [u32; AHEAD] {
+    let mut found = [NO_NUMBER; AHEAD];
+    for i in 0..AHEAD {
+        if let Some(first) = arena.get(start_of(entries, numbers[i]) as usize) {
+            found[i] = if *first == firsts[i] {
+                numbers[i]
+            } else {
+                NO_NUMBER
+            };
+        }
+    }
+    found
+}
+
+/// For each hash and first byte the newest number of the hash's chain, where its text has both, and
+/// else none. All heads are read first, then all entries, then all texts, and no branch depends on
+/// one, so that memory brings those of a kind together. Looked for one by one, each text waits for
+/// its head, then for its entry, and then for itself.
+pub fn guesses(
+    arena: &[u8],
+    entries: &[Entry],
+    heads: &[u32],
+    hashes: &[u32; AHEAD],
+    firsts: &[u8; AHEAD],
+) -> [u32; AHEAD]
+    requires { 0 < length heads.now }
+{
+    let numbers = with_hash(entries, &newest(heads, hashes), hashes);
+    with_first(arena, entries, &numbers, firsts)
+}
+
 /// Puts all entries into chains, in the order of their numbers.
 fn relink(entries: &mut [Entry], heads: &mut [u32])
     requires few { length entries.old < 2 ^ 32 }

@@ -7,7 +7,7 @@ ghost use Rattle.gs_model.specs.Limits.{last_term};
 ghost use Rattle.gs_dict.specs.Numbering.{IsNumberOf, IsDistinct, LooksUp, Interns, none_numbered};
 ghost use Rattle.gs_dict.specs.Kept.{hash_of as hash_of_text};
 
-use crate::chains::{self, Entry};
+use crate::chains::{self, AHEAD, Entry};
 use crate::numbers::TermId;
 use gs_model::{LAST_TERM, Refusal};
 use gs_term::TermText;
@@ -125,6 +125,26 @@ impl Dict {
         let hash = hash_of(self.seeded, text);
         let number = chains::find(&self.arena, &self.entries, &self.heads, text, hash)?;
         Some(TermId { number })
+    }
+
+    /// For each term a number to be tried first by `intern_near`: mostly the term's own where it has
+    /// one, and else 4,294,967,295, which is no term's. All of them are looked up together, so that
+    /// memory brings what they read at once, and a number that is tried then is found near by. That
+    /// is all a guess is for, and nothing rests on it.
+    pub fn guesses(&self, terms: &[&TermText; AHEAD]) -> [TermId; AHEAD] {
+        let mut hashes = [0; AHEAD];
+        let mut firsts = [0; AHEAD];
+        for i in 0..AHEAD {
+            let text = terms[i].as_bytes();
+            hashes[i] = hash_of(self.seeded, text);
+            firsts[i] = text.first().copied().unwrap_or(0);
+        }
+        let numbers = chains::guesses(&self.arena, &self.entries, &self.heads, &hashes, &firsts);
+        let mut guesses = [TermId { number: 0 }; AHEAD];
+        for i in 0..AHEAD {
+            guesses[i] = TermId { number: numbers[i] };
+        }
+        guesses
     }
 
     /// The number of a term, which is given one where it has none. Wants memory for a new term

@@ -5,5 +5,6 @@ mod chains;
 mod dict;
 mod numbers;
 
+pub use chains::AHEAD;
 pub use dict::Dict;
 pub use numbers::TermId;

@@ -135,16 +135,40 @@ fn append_lines(dict: &Dict, keys: &[Key], bytes: &mut Vec<u8>)
     }
 }
 
+/// The first and the last byte of a text in one.
+fn ends_of(text: &[u8]) -> u8 {
+    match (text.first(), text.last()) {
+        (Some(first), Some(last)) => first | last,
+        _ => 0,
+    }
+}
+
+/// The ends of the texts of all objects in one. The texts lie apart in memory. Read here, one after
+/// another with nothing between, they are fetched together; a line that is being written waits for
+/// its object's text alone.
+fn ends_of_objects(dict: &Dict, keys: &[Key]) -> u8
+    requires { AllKeys (IsGiven dict.now.terms) keys.now }
+{
+    let mut ends = 0;
+    for key in keys {
+        ends |= ends_of(text_of(dict, key.object));
+    }
+    ends
+}
+
 /// The lines of keys, one after another. Memory is asked for once, for just these bytes; what cannot
 /// be counted is refused as well.
 pub fn lines(alloc: Global, dict: &Dict, keys: &[Key]) -> Result<Vec<u8>, AllocError>
     requires { AllKeys (IsGiven dict.now.terms) keys.now }
     ensures { IfOk result (λ bytes. bytes.items ≡ bytes_of dict.now.terms keys.now) }
 {
+    let ends = ends_of_objects(dict, keys);
     let Some(size) = lines_size(dict, keys) else {
         return Err(AllocError);
     };
-    let mut bytes = Vec::with_capacity(alloc, size)?;
+    // No text ends with a zero byte, so this is 0. Without it nothing would have the ends read.
+    let spare = usize::from(ends == 0 && size > 0);
+    let mut bytes = Vec::with_capacity(alloc, size.saturating_add(spare))?;
     append_lines(dict, keys, &mut bytes);
     Ok(bytes)
 }

@@ -6,7 +6,7 @@ ghost use Rattle.gs_keys.specs.Texts.{key_cmp, IsGiven};
 ghost use Rattle.gs_storage_bench.specs.Stored.{Grows, MayUnite};
 
 use crate::document::Terms;
-use gs_dict::{Dict, TermId};
+use gs_dict::{AHEAD, Dict, TermId};
 use gs_keys::ByText;
 use gs_lines::{Piece, next_piece};
 use gs_model::Refusal;
@@ -43,13 +43,13 @@ impl Model for Graph {
     ghost invariant = { λ g. IsStored g.dict.terms g.pool g.root };
 }
 
-/// The numbers of three terms, of which the subject's is tried first.
-fn numbers(dict: &mut Dict, near: TermId, terms: &Terms) -> Result<Key, Refusal>
+/// The numbers of three terms, of which the subject's is tried first, and a guess for the object's.
+fn numbers(dict: &mut Dict, near: TermId, guess: TermId, terms: &Terms) -> Result<Key, Refusal>
     ensures { Grows dict.old dict.new }
 {
     let subject = dict.intern_near(near, &terms.subject)?;
     let predicate = dict.intern(&terms.predicate)?;
-    let object = dict.intern(&terms.object)?;
+    let object = dict.intern_near(guess, &terms.object)?;
     Ok(Key {
         subject: subject.number,
         predicate: predicate.number,
@@ -109,9 +109,21 @@ impl Graph {
         self.pool.nodes_in_use()
     }
 
+    /// Guesses of the numbers of the objects of the first of these.
+    pub fn guesses(&self, piece: &[Terms]) -> [TermId; AHEAD] {
+        let Some(first) = piece.first() else {
+            return [TermId { number: 0 }; AHEAD];
+        };
+        let mut objects = [&first.object; AHEAD];
+        for (place, terms) in objects.iter_mut().zip(piece.iter()) {
+            *place = &terms.object;
+        }
+        self.dict.guesses(&objects)
+    }
+
     /// The key of three terms, which are given numbers.
-    pub fn key_of(&mut self, terms: &Terms) -> Result<Key, Refusal> {
-        let key = numbers(&mut self.dict, self.near, terms)?;
+    pub fn key_of(&mut self, guess: TermId, terms: &Terms) -> Result<Key, Refusal> {
+        let key = numbers(&mut self.dict, self.near, guess, terms)?;
         self.near = TermId {
             number: key.subject,
         };

@@ -37,7 +37,7 @@ struct Task {
     way: Way,
     /// The triples of the document.
     count: u32,
-    /// The small runs for each graph, and how many graphs there are.
+    /// The small runs for each graph, or the walks over all of it, and how many graphs there are.
     runs: u64,
     graphs: u64,
 }
@@ -136,8 +136,16 @@ fn measure_once(alloc: Global, document: &Document, task: Task) -> Result<Counts
     let mut keys = fill(alloc, &mut graph, document, phase)?;
     let mut bytes = 0usize;
     match task.mode {
-        Mode::Walk => keys = walk(alloc, &graph)?,
-        Mode::Lines => bytes = read(alloc, &graph)?,
+        Mode::Walk => {
+            for _ in 0..task.runs {
+                keys = walk(alloc, &graph)?;
+            }
+        }
+        Mode::Lines => {
+            for _ in 0..task.runs {
+                bytes = read(alloc, &graph)?;
+            }
+        }
         Mode::Few(places, unites) => {
             keys = unite_few(alloc, &mut graph, document, places, task.runs, unites)?;
         }

@@ -1,6 +1,7 @@
 //! What is measured: a document filled piece by piece, a walk over all keys, and small unions.
 use crate::document::{Document, Terms, mixed};
 use crate::graphs::Graph;
+use gs_dict::{AHEAD, TermId};
 use gs_model::Refusal;
 use gs_pool::Key;
 use std::alloc::Global;
@@ -41,8 +42,12 @@ fn take(
     keys: &mut Vec<Key>,
 ) -> Result<usize, Refusal> {
     keys.clear();
-    for terms in piece {
-        keys.push(graph.key_of(terms)?)?;
+    let mut guesses = [TermId { number: 0 }; AHEAD];
+    for (at, terms) in piece.iter().enumerate() {
+        if at % AHEAD == 0 {
+            guesses = graph.guesses(&piece[at..]);
+        }
+        keys.push(graph.key_of(guesses[at % AHEAD], terms)?)?;
     }
     if phase >= Phase::Sort {
         graph.sort(keys);
@@ -129,8 +134,9 @@ fn draw(
             Places::Near => mixed(run),
             Places::Apart => mixed(drawn),
         };
-        let subject = graph.key_of(&document.terms((first % count) as u32)?)?;
-        let object = graph.key_of(&document.terms((drawn % count) as u32)?)?;
+        let none = TermId { number: u32::MAX };
+        let subject = graph.key_of(none, &document.terms((first % count) as u32)?)?;
+        let object = graph.key_of(none, &document.terms((drawn % count) as u32)?)?;
         keys.push(Key {
             object: object.object,
             ..subject

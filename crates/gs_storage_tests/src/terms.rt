@@ -1,6 +1,6 @@
 //! Dictionaries beside a plain list of what was drawn.
 use crate::draws::Draws;
-use gs_dict::{Dict, TermId};
+use gs_dict::{AHEAD, Dict, TermId};
 use gs_model::Refusal;
 use gs_term::TermText;
 use std::alloc::Global;
@@ -94,6 +94,54 @@ fn crafted_terms_of_one_bucket_keep_apart(rt: HostRuntime) -> Result<(), Refusal
         let found = dict.find(wanted).map(|id| id.number as usize);
         assert!(&rt; found == Some(i));
     }
+    Ok(())
+}
+
+/// So many terms, no two of them of one bucket.
+fn of_many_buckets(alloc: Global, seed: u64, count: usize) -> Result<Vec<TermText>, Refusal> {
+    let hasher = seeded(seed);
+    let mut terms = Vec::new(alloc);
+    let mut taken = [false; 1_024];
+    for drawn in 0..1_000u64 {
+        let candidate = term(alloc, drawn)?;
+        let place = (bucket(hasher, &candidate) % 1_024) as usize;
+        if !taken[place] && terms.len() < count {
+            taken[place] = true;
+            terms.push(candidate)?;
+        }
+    }
+    Ok(terms)
+}
+
+/// Guesses for these terms, and for the first again where they are fewer than are guessed together.
+fn guesses(dict: &Dict, terms: &[TermText]) -> Option<[TermId; AHEAD]> {
+    let mut asked = [terms.first()?; AHEAD];
+    for (place, term) in asked.iter_mut().zip(terms) {
+        *place = term;
+    }
+    Some(dict.guesses(&asked))
+}
+
+/// The newest of a bucket is guessed, and a number that was not given for a term of an empty one.
+#[test]
+fn terms_of_their_own_buckets_are_guessed(rt: HostRuntime) -> Result<(), Refusal> {
+    let alloc = rt.alloc();
+    let seed = 11;
+    let terms = of_many_buckets(alloc, seed, 2 * AHEAD)?;
+    let (known, others) = terms.split_at(AHEAD.min(terms.len()));
+    assert_eq!(&rt; others.len(), AHEAD);
+    let mut dict = Dict::new(alloc, seed, u32::MAX)?;
+    assert!(&rt; guesses(&dict, known).is_some_and(|ids| ids.iter().all(|id| !dict.has(*id))));
+    for term in known {
+        dict.intern(term)?;
+    }
+    let Some(found) = guesses(&dict, known) else {
+        return Err(Refusal::StoreFull);
+    };
+    for (i, id) in found.iter().enumerate() {
+        assert_eq!(&rt; id.number as usize, i);
+    }
+    assert!(&rt; guesses(&dict, others).is_some_and(|ids| ids.iter().all(|id| !dict.has(*id))));
     Ok(())
 }
 
