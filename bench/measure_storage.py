@@ -11,8 +11,8 @@ import time
 
 RUNS = 5
 WALKS = 10
-FEW_RUNS = 10_000
-FEW_A_GRAPH = 20
+FEW_RUNS = 20_000
+FEW_A_GRAPH = 50
 
 
 def seconds(command):

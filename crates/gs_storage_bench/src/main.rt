@@ -22,9 +22,9 @@ enum Mode {
     Document,
     /// Fills a graph, as far as the phase goes.
     Fill(Phase),
-    /// Fills a graph and walks all keys.
+    /// Fills a graph and walks all keys, again and again.
     Walk,
-    /// Fills a graph and reads all lines.
+    /// Fills a graph and reads all lines, again and again.
     Lines,
     /// Fills graphs, and draws runs of ten keys for each; unites them, where it is true.
     Few(Places, bool),
@@ -37,7 +37,8 @@ struct Task {
     way: Way,
     /// The triples of the document.
     count: u32,
-    /// The small runs for each graph, or the walks over all of it, and how many graphs there are.
+    /// The small runs for each graph, or how often all keys or lines are gone over, and how many graphs
+    /// there are.
     runs: u64,
     graphs: u64,
 }
@@ -147,7 +148,7 @@ fn measure_once(alloc: Global, document: &Document, task: Task) -> Result<Counts
             }
         }
         Mode::Few(places, unites) => {
-            keys = unite_few(alloc, &mut graph, document, places, task.runs, unites)?;
+            keys = unite_few(alloc, &mut graph, places, task.runs, unites)?;
         }
         _ => {}
     }

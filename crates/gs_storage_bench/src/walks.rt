@@ -4,7 +4,7 @@ use crate::graphs::Graph;
 use gs_dict::{AHEAD, TermId};
 use gs_model::Refusal;
 use gs_pool::Key;
-use std::alloc::Global;
+use std::alloc::{AllocError, Global};
 
 /// The triples of a piece.
 const PIECE: u32 = 500;
@@ -118,15 +118,21 @@ pub enum Places {
     Apart,
 }
 
-/// Ten keys of terms that have numbers, which the graph mostly lacks.
+/// All keys of a graph.
+fn all_keys(alloc: Global, graph: &Graph) -> Result<Vec<Key>, AllocError> {
+    let mut keys = Vec::new(alloc);
+    graph.next_keys(None, graph.nodes() as usize, &mut keys)?;
+    Ok(keys)
+}
+
+/// Ten keys of numbers that keys of the graph have, which it mostly lacks.
 fn draw(
-    graph: &mut Graph,
-    document: &Document,
+    graph: &Graph,
+    known: &[Key],
     places: Places,
     run: u64,
     keys: &mut Vec<Key>,
-) -> Result<(), Refusal> {
-    let count = u64::from(document.count()).max(1);
+) -> Result<(), AllocError> {
     keys.clear();
     for number in 0..10 {
         let drawn = mixed(run.wrapping_mul(10).wrapping_add(number));
@@ -134,13 +140,16 @@ fn draw(
             Places::Near => mixed(run),
             Places::Apart => mixed(drawn),
         };
-        let none = TermId { number: u32::MAX };
-        let subject = graph.key_of(none, &document.terms((first % count) as u32)?)?;
-        let object = graph.key_of(none, &document.terms((drawn % count) as u32)?)?;
-        keys.push(Key {
-            object: object.object,
-            ..subject
-        })?;
+        let count = known.len().max(1) as u64;
+        if let (Some(subject), Some(object)) = (
+            known.get((first % count) as usize),
+            known.get((drawn % count) as usize),
+        ) {
+            keys.push(Key {
+                object: object.object,
+                ..*subject
+            })?;
+        }
     }
     graph.sort(keys);
     Ok(())
@@ -151,15 +160,15 @@ fn draw(
 pub fn unite_few(
     alloc: Global,
     graph: &mut Graph,
-    document: &Document,
     places: Places,
     runs: u64,
     unites: bool,
 ) -> Result<usize, Refusal> {
+    let known = all_keys(alloc, graph)?;
     let mut keys = Vec::new(alloc);
     let mut added = 0usize;
     for run in 0..runs {
-        draw(graph, document, places, run, &mut keys)?;
+        draw(graph, &known, places, run, &mut keys)?;
         if unites {
             let commit = run.saturating_add(1);
             added = added.saturating_add(graph.unite(&keys, commit)?);

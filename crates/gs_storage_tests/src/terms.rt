@@ -97,16 +97,25 @@ fn crafted_terms_of_one_bucket_keep_apart(rt: HostRuntime) -> Result<(), Refusal
     Ok(())
 }
 
-/// So many terms, no two of them of one bucket.
-fn of_many_buckets(alloc: Global, seed: u64, count: usize) -> Result<Vec<TermText>, Refusal> {
+/// An IRI or a literal.
+fn iri_or_literal(alloc: Global, drawn: u64) -> Result<TermText, Refusal> {
+    if drawn % 2 == 0 {
+        return term(alloc, drawn);
+    }
+    let text = format!(in alloc; "{drawn}")?;
+    TermText::literal(alloc, text.as_str(), None, None)
+}
+
+/// So many terms of two kinds, no two of them of one bucket.
+fn alone_in_buckets(alloc: Global, seed: u64, count: usize) -> Result<Vec<TermText>, Refusal> {
     let hasher = seeded(seed);
     let mut terms = Vec::new(alloc);
-    let mut taken = [false; 1_024];
+    let mut taken: Vec<u64> = Vec::new(alloc);
     for drawn in 0..1_000u64 {
-        let candidate = term(alloc, drawn)?;
-        let place = (bucket(hasher, &candidate) % 1_024) as usize;
-        if !taken[place] && terms.len() < count {
-            taken[place] = true;
+        let candidate = iri_or_literal(alloc, drawn)?;
+        let place = bucket(hasher, &candidate);
+        if terms.len() < count && !taken.contains(&place) {
+            taken.push(place)?;
             terms.push(candidate)?;
         }
     }
@@ -122,12 +131,12 @@ fn guesses(dict: &Dict, terms: &[TermText]) -> Option<[TermId; AHEAD]> {
     Some(dict.guesses(&asked))
 }
 
-/// The newest of a bucket is guessed, and a number that was not given for a term of an empty one.
+/// For a term of an empty bucket a number is guessed that was not given.
 #[test]
-fn terms_of_their_own_buckets_are_guessed(rt: HostRuntime) -> Result<(), Refusal> {
+fn terms_alone_in_their_buckets_are_guessed(rt: HostRuntime) -> Result<(), Refusal> {
     let alloc = rt.alloc();
     let seed = 11;
-    let terms = of_many_buckets(alloc, seed, 2 * AHEAD)?;
+    let terms = alone_in_buckets(alloc, seed, 2 * AHEAD)?;
     let (known, others) = terms.split_at(AHEAD.min(terms.len()));
     assert_eq!(&rt; others.len(), AHEAD);
     let mut dict = Dict::new(alloc, seed, u32::MAX)?;
