@@ -1,6 +1,6 @@
 """Times loading into a listening gsd: a nearly sorted document of N-Triples and the same as Turtle, in bodies of at most
 sixty million bytes, beside serdi on the same files; then POSTs of ten triples onto a large graph and onto a small one, and
-the server's resident memory, there and where all came in one body. All on one machine."""
+the server's resident memory, there, where the same came in smaller bodies, and where all came in one. All on one machine."""
 import http.client
 import os
 import pathlib
@@ -12,6 +12,7 @@ import time
 
 # A body may have 67,108,864 bytes.
 MOST_BYTES = 60_000_000
+SMALLER = (16_000_000, 4_000_000)
 POSTS = 200
 
 
@@ -30,19 +31,24 @@ def line(number):
     return f"{subject} {iri('p', number % 2)} {iri('s', number // 2 ^ 1)} .\n"
 
 
-def documents(room, triples):
-    """The files of the document: lines, and the same as Turtle, in parts that a body may have."""
+def parts(triples, most):
+    """The lines of the document, in parts of so many bytes at most."""
     texts, part, size = [], [], 0
     for number in range(triples):
         text = line(number)
-        if size + len(text) > MOST_BYTES:
+        if size + len(text) > most:
             texts.append("".join(part))
             part, size = [], 0
         part.append(text)
         size += len(text)
     texts.append("".join(part))
+    return texts
+
+
+def documents(room, triples):
+    """The files of the document: lines, and the same as Turtle, in parts that a body may have."""
     files = []
-    for place, text in enumerate(texts):
+    for place, text in enumerate(parts(triples, MOST_BYTES)):
         lines, turtle = room / f"{place}.nt", room / f"{place}.ttl"
         lines.write_text(text)
         with turtle.open("w") as out:
@@ -77,9 +83,8 @@ def request(connection, method, path, kind, data):
         sys.exit(f"{method} {path}: {answer.status}")
 
 
-def load(port, path, kind, files):
+def load(port, path, kind, bodies):
     """Seconds of the bodies' loading, the first by PUT and the others by POST."""
-    bodies = [file.read_bytes() for file in files]
     connection = http.client.HTTPConnection("127.0.0.1", port)
     begun = time.perf_counter()
     for place, data in enumerate(bodies):
@@ -110,6 +115,17 @@ def started(program):
     return process, int(process.stdout.readline().rsplit(":", 1)[1])
 
 
+def memory(program, triples, kind, bodies):
+    """The bytes that a triple keeps resident where they come in these bodies."""
+    process, port = started(program)
+    before = resident(process)
+    load(port, "/store?graph=http://e/large", kind, bodies)
+    share = (resident(process) - before) / triples
+    process.kill()
+    process.wait()
+    return share
+
+
 def main():
     program, triples = sys.argv[1], int(sys.argv[2])
     with tempfile.TemporaryDirectory() as name:
@@ -119,7 +135,7 @@ def main():
             before = resident(process)
             mine = [pair[own] for pair in files]
             peer = min(serdi(language, mine) for _ in range(3))
-            taken = load(port, "/store?graph=http://e/large", kind, mine)
+            taken = load(port, "/store?graph=http://e/large", kind, [file.read_bytes() for file in mine])
             share = (resident(process) - before) / triples
             print(f"{language}: {triples / taken:,.0f} triples/s, serdi {triples / peer:,.0f}; ratio {peer / taken:.2f}; {share:.0f} bytes resident a triple")
             if language == "ntriples":
@@ -130,13 +146,13 @@ def main():
                 print(f"POST of 10: {few * 1e6:.0f} us onto 1,000, {many * 1e6:.0f} us onto {triples:,}; ratio {many / few:.2f}")
             process.kill()
             process.wait()
-    process, port = started(program)
-    before, data = resident(process), one_body(triples).encode()
-    request(http.client.HTTPConnection("127.0.0.1", port), "PUT", "/store?graph=http://e/large", "text/turtle", data)
-    share = (resident(process) - before) / triples
+    for most in SMALLER:
+        bodies = [text.encode() for text in parts(triples, most)]
+        share = memory(program, triples, "application/n-triples", bodies)
+        print(f"ntriples, {len(bodies)} bodies of at most {most / 1e6:.0f} MB: {share:.0f} bytes resident a triple")
+    data = one_body(triples).encode()
+    share = memory(program, triples, "text/turtle", [data])
     print(f"turtle, one body of {len(data) / 1e6:.0f} MB: {share:.0f} bytes resident a triple")
-    process.kill()
-    process.wait()
 
 
 os.environ["LC_ALL"] = "C"
