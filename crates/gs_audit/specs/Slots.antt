@@ -8,9 +8,8 @@ use Rattle.gs_event.specs.declared.answers.Answer.{Answer}
 use Rattle.gs_event.specs.declared.answers.Answer.TheVariants.{Staged, Status, Cancelled}
 use Rattle.gs_event.specs.Phases.{Idle, Writing, Patching, Reading, phase_after}
 use Rattle.gs_event.specs.Views.{SeatView}
-use Rattle.gs_packed_triples.specs.Triples.{HasRoomFor}
 use Rattle.gs_chronicle.specs.declared.requests.Request.{Request}
-use Rattle.gs_chronicle.specs.Uploads.{staged_triples, staged_graph}
+use Rattle.gs_chronicle.specs.Uploads.{staged_triples, staged_graph, HasRoomToStage}
 use Rattle.gs_chronicle.specs.Requests.{call_of}
 use Rattle.gs_chronicle.specs.Pages.{Decided}
 use Rattle.gs_audit.specs.Decisions.{decided_at}
@@ -49,7 +48,7 @@ count_after p n action a = n
 
 -- there is room for what the action stages
 abbrev pub CanStage : Slot → Action → Type 0
-CanStage (Upload u) (Stage ts) = HasRoomFor u.packed ts.items
+CanStage (Upload u) (Stage ts) = HasRoomToStage u ts.items
 CanStage slot action = Unit {0}
 
 -- there is room for what the event stages

@@ -1,19 +1,10 @@
 -- The graph of a list with more triples.
 use Rattle.std.proofs.Common.{◌≡◌, List, [], ◌∷◌, ◌++◌, sym, ap, ◌∙◌}
 use Rattle.std.specs.FinMap as fin
-use Rattle.std.specs.List.{list_any}
-use Rattle.std.specs.Ordering.{eq_by_cmp}
-use Rattle.std.proofs.Math.Bool.{or_comm}
-use Rattle.std.proofs.lemmas.List.Folds.{list_any-append}
-use Rattle.gs_model.specs.Triples.{RdfTriple, triple_cmp}
+use Rattle.gs_model.specs.Triples.{RdfTriple}
 use Rattle.gs_model.specs.Graphs.{Graph, graph_of, triples_of, with_triples}
-use Rattle.gs_model.proofs.GraphLemmas.{same_graph, graph_of-triples_of}
-
--- which list comes first means nothing
-graph_of-turned : (xs ys : List RdfTriple) → graph_of (xs ++ ys) ≡ graph_of (ys ++ xs)
-graph_of-turned xs ys = same_graph (xs ++ ys) (ys ++ xs) (λ q.
-    let has = eq_by_cmp triple_cmp q in
-    list_any-append has xs ys ∙ or_comm (list_any has xs) (list_any has ys) ∙ sym (list_any-append has ys xs))
+use Rattle.gs_model.proofs.GraphLemmas.{graph_of-triples_of}
+use Rattle.gs_event.proofs.SizeLemmas.{turned}
 
 -- triples that go before others make a graph of their graph
 graph_of-before : (xs ys zs : List RdfTriple) → graph_of ys ≡ graph_of zs → graph_of (xs ++ ys) ≡ graph_of (xs ++ zs)
@@ -24,6 +15,6 @@ graph_of-before (x ∷ xs) ys zs e = ap (λ (g : Graph). fin.insert g x tt) (gra
 pub more_staged : (old ts new : List RdfTriple) → new ≡ old ++ ts → graph_of new ≡ with_triples (graph_of old) ts
 more_staged old ts new e =
     ap graph_of e
-    ∙ graph_of-turned old ts
+    ∙ turned old ts
     ∙ graph_of-before ts old (triples_of (graph_of old)) (sym (graph_of-triples_of (graph_of old)))
-    ∙ graph_of-turned ts (triples_of (graph_of old))
+    ∙ turned ts (triples_of (graph_of old))

@@ -2,7 +2,7 @@
 use Rattle.std.specs.Prelude.{List}
 use Rattle.gs_model.specs.Triples.{RdfTriple}
 use Rattle.gs_model.specs.Graphs.{Graph, graph_of}
-use Rattle.gs_packed_triples.specs.Triples.{packed_triples}
+use Rattle.gs_packed_triples.specs.Triples.{packed_triples, HasRoomFor}
 use Rattle.gs_chronicle.specs.declared.uploads.Upload.{Upload}
 
 -- the triples that were staged, in the order in which they came, with repeats
@@ -12,3 +12,7 @@ staged_triples u = packed_triples u.packed
 -- the graph of all that was staged
 abbrev pub staged_graph : Upload → Graph
 staged_graph u = graph_of (staged_triples u)
+
+-- there is room for a list
+abbrev pub HasRoomToStage : Upload → List RdfTriple → Type 0
+HasRoomToStage u ts = HasRoomFor u.packed ts

@@ -17,8 +17,8 @@ pub struct Upload {
 impl Upload {
     ghost use Rattle.std.specs.Prelude.{[], ◌++◌, true, length};
     ghost use Rattle.gs_model.specs.Graphs.{empty_graph, with_triples};
-    ghost use Rattle.gs_packed_triples.specs.Triples.{triples_left, HasRoomFor};
-    ghost use Rattle.gs_chronicle.specs.Uploads.{staged_triples, staged_graph};
+    ghost use Rattle.gs_packed_triples.specs.Triples.{triples_left};
+    ghost use Rattle.gs_chronicle.specs.Uploads.{staged_triples, staged_graph, HasRoomToStage};
 
     /// An upload of this kind and this request number, to which nothing was staged yet.
     pub fn new(alloc: Global, kind: UploadKind, request: u64) -> Upload
@@ -67,7 +67,7 @@ impl Upload {
         ensures kind { self.new.kind ≡ self.old.kind }
         ensures request { self.new.request ≡ self.old.request }
         ensures triples { staged_triples self.new ≡ staged_triples self.old }
-        ensures room { result ≡ true → HasRoomFor self.new.packed list.now }
+        ensures room { result ≡ true → HasRoomToStage self.new list.now }
     {
         self.packed.make_room(list)
     }
@@ -75,7 +75,7 @@ impl Upload {
     /// Packs a list, for which there is room. Takes no memory.
     #[tactic(auto, using(crate::proofs::UploadLemmas::more_staged))]
     pub fn stage(&mut self, list: &[Triple])
-        requires { HasRoomFor self.old.packed list.now }
+        requires { HasRoomToStage self.old list.now }
         ensures kind { self.new.kind ≡ self.old.kind }
         ensures request { self.new.request ≡ self.old.request }
         ensures triples { staged_triples self.new ≡ staged_triples self.old ++ list.now }

@@ -3,6 +3,7 @@ ghost use Rattle.std.specs.Prelude.{◌≡◌, ◌+◌, ◌-◌, ◌<◌, ◌≤
 ghost use Rattle.std.specs.Bool.{Decides};
 ghost use Rattle.gs_dict.specs.Chains.{IsLinked, IsSpanned, IsTable, AreEnough, Has, Meets, Agree, KeepsTexts, AddsText, text_at as text_of_number, bucket_of};
 
+use crate::numbers::NO_TERM;
 use std::alloc::{AllocError, Global};
 
 /// Where a text ends in the arena, the next link of its chain, and its hash. A link is a number
@@ -65,39 +66,40 @@ pub fn find(arena: &[u8], entries: &[Entry], heads: &[u32], text: &[u8], hash: u
     None
 }
 
-/// How many terms are looked up together.
-pub const AHEAD: usize = 16;
-
-/// The greatest 32-bit number, which is never given.
-const NO_NUMBER: u32 = u32::MAX;
+/// How many terms are guessed together.
+pub const GUESSED_TOGETHER: usize = 16;
 
 /// The newest number in the chain of each hash, and 0 where there is none.
-fn newest(heads: &[u32], hashes: &[u32; AHEAD]) -> [u32; AHEAD]
+fn newest(heads: &[u32], hashes: &[u32; GUESSED_TOGETHER]) -> [u32; GUESSED_TOGETHER]
     requires { 0 < length heads.now }
 {
-    let mut numbers = [0; AHEAD];
-    for i in 0..AHEAD {
+    let mut numbers = [0; GUESSED_TOGETHER];
+    for i in 0..GUESSED_TOGETHER {
         numbers[i] = heads[bucket(hashes[i], heads.len())].saturating_sub(1);
     }
     numbers
 }
 
-/// Those of the numbers whose entry has the hash, in their places.
-fn with_hash(entries: &[Entry], numbers: &[u32; AHEAD], hashes: &[u32; AHEAD]) -> [u32; AHEAD] {
-    let mut found = [NO_NUMBER; AHEAD];
-    for i in 0..AHEAD {
+/// Those of the numbers whose entry has the hash, in their places, and `NO_TERM`'s in the others.
+fn with_hash(
+    entries: &[Entry],
+    numbers: &[u32; GUESSED_TOGETHER],
+    hashes: &[u32; GUESSED_TOGETHER],
+) -> [u32; GUESSED_TOGETHER] {
+    let mut found = [NO_TERM.number; GUESSED_TOGETHER];
+    for i in 0..GUESSED_TOGETHER {
         if let Some(entry) = entries.get(numbers[i] as usize) {
             found[i] = if entry.hash == hashes[i] {
                 numbers[i]
             } else {
-                NO_NUMBER
+                NO_TERM.number
             };
         }
     }
     found
 }
 
-/// Where the text of a number begins, and 0 where the number has none.
+/// Where the text of a number begins. For a number that was not given, 0 or the end of the arena.
 fn start_of(entries: &[Entry], number: u32) -> u64 {
     match entries.get((number as usize).wrapping_sub(1)) {
         Some(entry) => entry.end,
@@ -105,37 +107,38 @@ fn start_of(entries: &[Entry], number: u32) -> u64 {
     }
 }
 
-/// Those of the numbers whose text begins with the byte, in their places.
+/// Those of the numbers whose text begins with the byte, in their places, and `NO_TERM`'s in the
+/// others.
 fn with_first(
     arena: &[u8],
     entries: &[Entry],
-    numbers: &[u32; AHEAD],
-    firsts: &[u8; AHEAD],
-) -> [u32; AHEAD] {
-    let mut found = [NO_NUMBER; AHEAD];
-    for i in 0..AHEAD {
+    numbers: &[u32; GUESSED_TOGETHER],
+    firsts: &[u8; GUESSED_TOGETHER],
+) -> [u32; GUESSED_TOGETHER] {
+    let mut found = [NO_TERM.number; GUESSED_TOGETHER];
+    for i in 0..GUESSED_TOGETHER {
         if let Some(first) = arena.get(start_of(entries, numbers[i]) as usize) {
             found[i] = if *first == firsts[i] {
                 numbers[i]
             } else {
-                NO_NUMBER
+                NO_TERM.number
             };
         }
     }
     found
 }
 
-/// For each hash and first byte the newest number of the hash's chain, where its text has both, and
-/// else none. All heads are read first, then all entries, then all texts, and no branch depends on
-/// one, so that memory brings those of a kind together. Looked for one by one, each text waits for
-/// its head, then for its entry, and then for itself.
+/// For each hash and first byte the newest number of the hash's chain, where its entry has the hash
+/// and its text begins with the byte, and else `NO_TERM`'s. Heads are read first, then entries, then
+/// texts with the entries that say where they begin; reads of one step do not wait for one another.
+/// The byte is compared so that the text is fetched.
 pub fn guesses(
     arena: &[u8],
     entries: &[Entry],
     heads: &[u32],
-    hashes: &[u32; AHEAD],
-    firsts: &[u8; AHEAD],
-) -> [u32; AHEAD]
+    hashes: &[u32; GUESSED_TOGETHER],
+    firsts: &[u8; GUESSED_TOGETHER],
+) -> [u32; GUESSED_TOGETHER]
     requires { 0 < length heads.now }
 {
     let numbers = with_hash(entries, &newest(heads, hashes), hashes);

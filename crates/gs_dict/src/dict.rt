@@ -7,7 +7,7 @@ ghost use Rattle.gs_model.specs.Limits.{last_term};
 ghost use Rattle.gs_dict.specs.Numbering.{IsNumberOf, IsDistinct, LooksUp, Interns, none_numbered};
 ghost use Rattle.gs_dict.specs.Kept.{hash_of as hash_of_text};
 
-use crate::chains::{self, AHEAD, Entry};
+use crate::chains::{self, Entry, GUESSED_TOGETHER};
 use crate::numbers::TermId;
 use gs_model::{LAST_TERM, Refusal};
 use gs_term::TermText;
@@ -127,24 +127,21 @@ impl Dict {
         Some(TermId { number })
     }
 
-    /// For each term a number to be tried first by `intern_near`: mostly the term's own where it has
-    /// one, and else 4,294,967,295, which is no term's. All of them are looked up together, so that
-    /// memory brings what they read at once, and a number that is tried then is found near by. That
-    /// is all a guess is for, and nothing rests on it.
-    pub fn guesses(&self, terms: &[&TermText; AHEAD]) -> [TermId; AHEAD] {
-        let mut hashes = [0; AHEAD];
-        let mut firsts = [0; AHEAD];
-        for i in 0..AHEAD {
+    /// For each of 16 terms a number to be tried first by `intern_near`: the term's own where it is
+    /// the newest of its bucket, and else mostly `NO_TERM`. They are looked up together, so that
+    /// memory answers them at once, and what `intern_near` then compares has been fetched. Nothing
+    /// rests on a guess.
+    pub fn guesses(&self, terms: &[&TermText; GUESSED_TOGETHER]) -> [TermId; GUESSED_TOGETHER] {
+        let mut hashes = [0; GUESSED_TOGETHER];
+        let mut firsts = [0; GUESSED_TOGETHER];
+        for i in 0..GUESSED_TOGETHER {
             let text = terms[i].as_bytes();
             hashes[i] = hash_of(self.seeded, text);
             firsts[i] = text.first().copied().unwrap_or(0);
         }
-        let numbers = chains::guesses(&self.arena, &self.entries, &self.heads, &hashes, &firsts);
-        let mut guesses = [TermId { number: 0 }; AHEAD];
-        for i in 0..AHEAD {
-            guesses[i] = TermId { number: numbers[i] };
-        }
-        guesses
+        chains::guesses(&self.arena, &self.entries, &self.heads, &hashes, &firsts).map(
+            |number| TermId { number },
+        )
     }
 
     /// The number of a term, which is given one where it has none. Wants memory for a new term
@@ -173,8 +170,9 @@ impl Dict {
         Ok(TermId { number })
     }
 
-    /// The same, with a number to try first, which saves the hash where it is the term's: the last
-    /// subject's number, as a subject mostly comes again.
+    /// The same, with a number to try first, which saves the hash and the walk of the chain where it
+    /// is the term's: the last subject's number, as a subject mostly comes again, or one of
+    /// `guesses`.
     pub fn intern_near(&mut self, guess: TermId, term: &TermText) -> Result<TermId, Refusal>
         ensures { Interns self.old term.now result self.new }
     {

@@ -5,6 +5,6 @@ mod chains;
 mod dict;
 mod numbers;
 
-pub use chains::AHEAD;
+pub use chains::GUESSED_TOGETHER;
 pub use dict::Dict;
-pub use numbers::TermId;
+pub use numbers::{NO_TERM, TermId};

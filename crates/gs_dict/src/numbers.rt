@@ -5,3 +5,7 @@
 pub struct TermId {
     pub number: u32,
 }
+
+/// What stands where a number is wanted and there is none. It is no term's number: numbers end at
+/// 4,294,967,294.
+pub const NO_TERM: TermId = TermId { number: u32::MAX };

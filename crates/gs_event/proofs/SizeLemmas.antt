@@ -1,8 +1,9 @@
 -- How many triples a graph has after an update, and united with another.
-use Rattle.std.proofs.Common.{◌≡◌, ◌+◌, ◌≤◌, Bool, true, false, cond, not, ◌||◌, List, [], ◌∷◌, ◌++◌, length, Option, Some, None, refl, sym, ap, ◌∙◌, arith}
+use Rattle.std.proofs.Common.{◌≡◌, ◌+◌, ◌≤◌, Bool, true, false, cond, not, List, [], ◌∷◌, ◌++◌, length, Option, Some, None, refl, sym, ap, ◌∙◌, arith}
 use Rattle.std.specs.List.{filter, list_any}
 use Rattle.std.specs.Ordering.{eq_by_cmp}
 use Rattle.std.specs.FinMap as fin
+use Rattle.std.proofs.Math.Bool.{or_comm}
 use Rattle.std.proofs.lemmas.List.{length-map}
 use Rattle.std.proofs.lemmas.List.Folds.{list_any-append}
 use Rattle.std.proofs.lemmas.List.Sums.{length-filter, count_by-le-length}
@@ -61,18 +62,11 @@ graph_grows : (xs ts : List RdfTriple) → size_of (graph_of ts) ≤ size_of (gr
 graph_grows [] ts = omega arith
 graph_grows (x ∷ xs) ts = omega (arith, none_less (graph_of (xs ++ ts)) x, graph_grows xs ts)
 
-either : (a b : Bool) → (a || b) ≡ (b || a)
-either true true = refl
-either true false = refl
-either false true = refl
-either false false = refl
-
 -- which list comes first means nothing
-turned : (xs ys : List RdfTriple) → graph_of (xs ++ ys) ≡ graph_of (ys ++ xs)
+pub turned : (xs ys : List RdfTriple) → graph_of (xs ++ ys) ≡ graph_of (ys ++ xs)
 turned xs ys = same_graph (xs ++ ys) (ys ++ xs) (λ q.
-    list_any-append (eq_by_cmp triple_cmp q) xs ys
-    ∙ either (list_any (eq_by_cmp triple_cmp q) xs) (list_any (eq_by_cmp triple_cmp q) ys)
-    ∙ sym (list_any-append (eq_by_cmp triple_cmp q) ys xs))
+    let has = eq_by_cmp triple_cmp q in
+    list_any-append has xs ys ∙ or_comm (list_any has xs) (list_any has ys) ∙ sym (list_any-append has ys xs))
 
 kept_few : (g : Graph) (p : RdfTriple → Bool) → size_of (graph_of (filter p (triples_of g))) ≤ size_of g
 kept_few g p = omega (arith, listed_few (filter p (triples_of g)), length-filter p (triples_of g), count_by-le-length p (triples_of g))

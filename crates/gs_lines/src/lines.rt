@@ -135,7 +135,7 @@ fn append_lines(dict: &Dict, keys: &[Key], bytes: &mut Vec<u8>)
     }
 }
 
-/// The first and the last byte of a text in one.
+/// The first and the last byte of a text, joined by or.
 fn ends_of(text: &[u8]) -> u8 {
     match (text.first(), text.last()) {
         (Some(first), Some(last)) => first | last,
@@ -143,9 +143,9 @@ fn ends_of(text: &[u8]) -> u8 {
     }
 }
 
-/// The ends of the texts of all objects in one. The texts lie apart in memory. Read here, one after
-/// another with nothing between, they are fetched together; a line that is being written waits for
-/// its object's text alone.
+/// The first and last bytes of the texts of all objects, joined by or. The texts lie apart in
+/// memory. Read here one after another, they are fetched together; read only when its line is
+/// written, each would be waited for by itself.
 fn ends_of_objects(dict: &Dict, keys: &[Key]) -> u8
     requires { AllKeys (IsGiven dict.now.terms) keys.now }
 {
@@ -166,7 +166,8 @@ pub fn lines(alloc: Global, dict: &Dict, keys: &[Key]) -> Result<Vec<u8>, AllocE
     let Some(size) = lines_size(dict, keys) else {
         return Err(AllocError);
     };
-    // No text ends with a zero byte, so this is 0. Without it nothing would have the ends read.
+    // Always 0: no text begins with a zero byte, and without keys the size is 0. It stands here so
+    // that the compiler keeps the reads of the ends.
     let spare = usize::from(ends == 0 && size > 0);
     let mut bytes = Vec::with_capacity(alloc, size.saturating_add(spare))?;
     append_lines(dict, keys, &mut bytes);

@@ -6,7 +6,7 @@ ghost use Rattle.gs_keys.specs.Texts.{key_cmp, IsGiven};
 ghost use Rattle.gs_storage_bench.specs.Stored.{Grows, MayUnite};
 
 use crate::document::Terms;
-use gs_dict::{AHEAD, Dict, TermId};
+use gs_dict::{Dict, GUESSED_TOGETHER, NO_TERM, TermId};
 use gs_keys::ByText;
 use gs_lines::{Piece, next_piece};
 use gs_model::Refusal;
@@ -95,7 +95,7 @@ impl Graph {
             dict: Dict::new(alloc, SEED, u32::MAX)?,
             pool: Pool::new(alloc, u32::MAX),
             root: None,
-            near: TermId { number: 0 },
+            near: NO_TERM,
         })
     }
 
@@ -109,12 +109,12 @@ impl Graph {
         self.pool.nodes_in_use()
     }
 
-    /// Guesses of the numbers of the objects of the first of these.
-    pub fn guesses(&self, piece: &[Terms]) -> [TermId; AHEAD] {
-        let Some(first) = piece.first() else {
-            return [TermId { number: 0 }; AHEAD];
-        };
-        let mut objects = [&first.object; AHEAD];
+    /// Guesses of the numbers of the first objects of these. Fewer than are guessed together get none.
+    pub fn guesses(&self, piece: &[Terms]) -> [TermId; GUESSED_TOGETHER] {
+        if piece.len() < GUESSED_TOGETHER {
+            return [NO_TERM; GUESSED_TOGETHER];
+        }
+        let mut objects = [&piece[0].object; GUESSED_TOGETHER];
         for (place, terms) in objects.iter_mut().zip(piece.iter()) {
             *place = &terms.object;
         }

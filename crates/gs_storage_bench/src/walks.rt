@@ -1,7 +1,7 @@
 //! What is measured: a document filled piece by piece, a walk over all keys, and small unions.
 use crate::document::{Document, Terms, mixed};
 use crate::graphs::Graph;
-use gs_dict::{AHEAD, TermId};
+use gs_dict::{GUESSED_TOGETHER, NO_TERM};
 use gs_model::Refusal;
 use gs_pool::Key;
 use std::alloc::{AllocError, Global};
@@ -42,12 +42,12 @@ fn take(
     keys: &mut Vec<Key>,
 ) -> Result<usize, Refusal> {
     keys.clear();
-    let mut guesses = [TermId { number: 0 }; AHEAD];
+    let mut guesses = [NO_TERM; GUESSED_TOGETHER];
     for (at, terms) in piece.iter().enumerate() {
-        if at % AHEAD == 0 {
+        if at % GUESSED_TOGETHER == 0 {
             guesses = graph.guesses(&piece[at..]);
         }
-        keys.push(graph.key_of(guesses[at % AHEAD], terms)?)?;
+        keys.push(graph.key_of(guesses[at % GUESSED_TOGETHER], terms)?)?;
     }
     if phase >= Phase::Sort {
         graph.sort(keys);

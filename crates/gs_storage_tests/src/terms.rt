@@ -1,6 +1,6 @@
 //! Dictionaries beside a plain list of what was drawn.
 use crate::draws::Draws;
-use gs_dict::{AHEAD, Dict, TermId};
+use gs_dict::{Dict, GUESSED_TOGETHER, TermId};
 use gs_model::Refusal;
 use gs_term::TermText;
 use std::alloc::Global;
@@ -123,8 +123,8 @@ fn alone_in_buckets(alloc: Global, seed: u64, count: usize) -> Result<Vec<TermTe
 }
 
 /// Guesses for these terms, and for the first again where they are fewer than are guessed together.
-fn guesses(dict: &Dict, terms: &[TermText]) -> Option<[TermId; AHEAD]> {
-    let mut asked = [terms.first()?; AHEAD];
+fn guesses(dict: &Dict, terms: &[TermText]) -> Option<[TermId; GUESSED_TOGETHER]> {
+    let mut asked = [terms.first()?; GUESSED_TOGETHER];
     for (place, term) in asked.iter_mut().zip(terms) {
         *place = term;
     }
@@ -136,9 +136,9 @@ fn guesses(dict: &Dict, terms: &[TermText]) -> Option<[TermId; AHEAD]> {
 fn terms_alone_in_their_buckets_are_guessed(rt: HostRuntime) -> Result<(), Refusal> {
     let alloc = rt.alloc();
     let seed = 11;
-    let terms = alone_in_buckets(alloc, seed, 2 * AHEAD)?;
-    let (known, others) = terms.split_at(AHEAD.min(terms.len()));
-    assert_eq!(&rt; others.len(), AHEAD);
+    let terms = alone_in_buckets(alloc, seed, 2 * GUESSED_TOGETHER)?;
+    let (known, others) = terms.split_at(GUESSED_TOGETHER.min(terms.len()));
+    assert_eq!(&rt; others.len(), GUESSED_TOGETHER);
     let mut dict = Dict::new(alloc, seed, u32::MAX)?;
     assert!(&rt; guesses(&dict, known).is_some_and(|ids| ids.iter().all(|id| !dict.has(*id))));
     for term in known {

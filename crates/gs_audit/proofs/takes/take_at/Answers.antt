@@ -4,7 +4,6 @@ use Rattle.gs_audit.specs.Slots.{slot_phase, slot_count}
 use Rattle.gs_audit.proofs.TakeLemmas.{refused_count}
 use Rattle.gs_audit.proofs.takes.take_at.Goals as goal
 
--- src/takes.rt:52:9
 pub returns-then-not-make_room-clause-count : goal.returns-then-not-make_room-clause-count
 returns-then-not-make_room-clause-count g c =
     let slot = c.args.slot.now in
