@@ -1,6 +1,6 @@
 """Times loading into a listening gsd: a nearly sorted document of N-Triples and the same as Turtle, in bodies of at most
-sixty million bytes, beside serdi on the same files; then POSTs of ten triples onto a large graph and onto a small one, and
-the server's resident memory, there, where the same came in smaller bodies, and where all came in one. All on one machine."""
+sixty million bytes, in smaller ones, and as Turtle in one, beside serdi on the same text, with the server's resident memory; then POSTs of
+ten triples onto a large graph and onto a small one. All on one machine."""
 import http.client
 import os
 import pathlib
@@ -115,44 +115,58 @@ def started(program):
     return process, int(process.stdout.readline().rsplit(":", 1)[1])
 
 
-def memory(program, triples, kind, bodies):
-    """The bytes that a triple keeps resident where they come in these bodies."""
+def loaded(program, kind, bodies):
+    """Seconds of the bodies' loading into a new server, and the bytes that it keeps resident then."""
     process, port = started(program)
     before = resident(process)
-    load(port, "/store?graph=http://e/large", kind, bodies)
-    share = (resident(process) - before) / triples
+    taken = load(port, "/store?graph=http://e/large", kind, bodies)
+    kept = resident(process) - before
     process.kill()
     process.wait()
-    return share
+    return taken, kept
+
+
+def report(what, triples, peer, taken, kept):
+    speeds = f"{triples / taken:,.0f} triples/s, serdi {triples / peer:,.0f}; ratio {peer / taken:.2f}"
+    print(f"{what}: {speeds}; {kept / triples:.0f} bytes resident a triple")
+
+
+def best(language, files):
+    """The least of three runs of serdi."""
+    return min(serdi(language, files) for _ in range(3))
+
+
+def time_posts(program, triples, bodies):
+    """Prints how long a POST of ten triples takes onto the document, and onto its first 1,000 triples."""
+    process, port = started(program)
+    load(port, "/store?graph=http://e/large", "application/n-triples", bodies)
+    small = "".join(line(number) for number in range(1_000)).encode()
+    load(port, "/store?graph=http://e/small", "application/n-triples", [small])
+    few, many = posts(port, "/store?graph=http://e/small"), posts(port, "/store?graph=http://e/large")
+    print(f"POST of 10: {few * 1e6:.0f} us onto 1,000, {many * 1e6:.0f} us onto {triples:,}; ratio {many / few:.2f}")
+    process.kill()
+    process.wait()
 
 
 def main():
     program, triples = sys.argv[1], int(sys.argv[2])
     with tempfile.TemporaryDirectory() as name:
-        files = documents(pathlib.Path(name), triples)
-        for language, kind, own in (("ntriples", "application/n-triples", 0), ("turtle", "text/turtle", 1)):
-            process, port = started(program)
-            before = resident(process)
-            mine = [pair[own] for pair in files]
-            peer = min(serdi(language, mine) for _ in range(3))
-            taken = load(port, "/store?graph=http://e/large", kind, [file.read_bytes() for file in mine])
-            share = (resident(process) - before) / triples
-            print(f"{language}: {triples / taken:,.0f} triples/s, serdi {triples / peer:,.0f}; ratio {peer / taken:.2f}; {share:.0f} bytes resident a triple")
-            if language == "ntriples":
-                small = "".join(line(number) for number in range(1_000)).encode()
-                connection = http.client.HTTPConnection("127.0.0.1", port)
-                request(connection, "PUT", "/store?graph=http://e/small", kind, small)
-                few, many = posts(port, "/store?graph=http://e/small"), posts(port, "/store?graph=http://e/large")
-                print(f"POST of 10: {few * 1e6:.0f} us onto 1,000, {many * 1e6:.0f} us onto {triples:,}; ratio {many / few:.2f}")
-            process.kill()
-            process.wait()
-    for most in SMALLER:
-        bodies = [text.encode() for text in parts(triples, most)]
-        share = memory(program, triples, "application/n-triples", bodies)
-        print(f"ntriples, {len(bodies)} bodies of at most {most / 1e6:.0f} MB: {share:.0f} bytes resident a triple")
-    data = one_body(triples).encode()
-    share = memory(program, triples, "text/turtle", [data])
-    print(f"turtle, one body of {len(data) / 1e6:.0f} MB: {share:.0f} bytes resident a triple")
+        room = pathlib.Path(name)
+        files = documents(room, triples)
+        lines, turtles = [pair[0] for pair in files], [pair[1] for pair in files]
+        peer = best("ntriples", lines)
+        for most in (MOST_BYTES, *SMALLER):
+            bodies = [text.encode() for text in parts(triples, most)]
+            what = f"ntriples, {len(bodies)} bodies of at most {most / 1e6:.0f} MB"
+            report(what, triples, peer, *loaded(program, "application/n-triples", bodies))
+        bodies = [file.read_bytes() for file in turtles]
+        report(f"turtle, {len(bodies)} bodies", triples, best("turtle", turtles), *loaded(program, "text/turtle", bodies))
+        whole = room / "whole.ttl"
+        whole.write_text(one_body(triples))
+        data = whole.read_bytes()
+        what = f"turtle, one body of {len(data) / 1e6:.0f} MB"
+        report(what, triples, best("turtle", [whole]), *loaded(program, "text/turtle", [data]))
+        time_posts(program, triples, [file.read_bytes() for file in lines])
 
 
 os.environ["LC_ALL"] = "C"

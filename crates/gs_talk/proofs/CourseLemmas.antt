@@ -1,19 +1,17 @@
 -- The seat's phase, and what the abstract store was asked, follow the course.
-use Rattle.std.proofs.Common.{◌≡◌, ℕ, Bool, true, false, cond, ◌||◌, ◌==◌, List, [], ◌∷◌, ◌++◌, Option, Some, None, refl, sym, ap, subst, ◌∙◌, append-nil, append_assoc, Vec}
-use Rattle.std.specs.List.{list_any, cons_option}
-use Rattle.std.specs.Ordering.{eq_by_cmp}
+use Rattle.std.proofs.Common.{◌≡◌, ℕ, Bool, true, false, cond, ◌==◌, List, [], ◌∷◌, ◌++◌, Option, Some, None, refl, sym, ap, subst, ◌∙◌, append-nil, append_assoc, Vec}
+use Rattle.std.specs.List.{cons_option}
 use Rattle.std.specs.FinMap as map
-use Rattle.std.proofs.lemmas.List.Folds.{list_any-append}
-use Rattle.gs_model.specs.Triples.{RdfTriple, triple_cmp}
+use Rattle.gs_model.specs.Triples.{RdfTriple}
 use Rattle.gs_model.specs.Graphs.{graph_of, triples_of, with_triples}
-use Rattle.gs_model.proofs.GraphLemmas.{same_graph, graph_of-triples_of}
+use Rattle.gs_model.proofs.GraphLemmas.{graph_of-triples_of}
+use Rattle.gs_event.proofs.SizeLemmas.{turned}
 use Rattle.gs_model.specs.declared.refusals.Refusal.TheVariants as why
 use Rattle.gs_event.specs.declared.events.Action.TheVariants.{Open, OpenPatch, Stage, Commit, CommitPatch, Delete, Head, Pin, Piece, Cancel}
 use Rattle.gs_event.specs.declared.answers.Answer.{Answer}
 use Rattle.gs_event.specs.declared.answers.Answer.TheVariants.{Opened, Staged, Status, Pinned, Lines, Cancelled, Refused}
 use Rattle.gs_event.specs.Phases as phase
-use Rattle.gs_event.specs.Phases.{Phase, operation_of}
-use Rattle.gs_event.specs.Operations.{Operation}
+use Rattle.gs_event.specs.Phases.{operation_of}
 use Rattle.gs_event.specs.Operations as operation
 use Rattle.gs_event.specs.declared.updates.Op.{Op}
 use Rattle.std.specs.declared.alloc.Global.{Global}
@@ -27,18 +25,6 @@ use Rattle.gs_talk.specs.Logs.{AllSuit, deed_of, deeds_of, IsRight}
 use Rattle.gs_talk.specs.Following.{phase_at, operations_at, writing_phase, read_by}
 
 -- graphs
-
-either : (a b : Bool) → (a || b) ≡ (b || a)
-either true true = refl
-either true false = refl
-either false true = refl
-either false false = refl
-
-turned : (xs ys : List RdfTriple) → graph_of (xs ++ ys) ≡ graph_of (ys ++ xs)
-turned xs ys = same_graph (xs ++ ys) (ys ++ xs) (λ q.
-    list_any-append (eq_by_cmp triple_cmp q) xs ys
-    ∙ either (list_any (eq_by_cmp triple_cmp q) xs) (list_any (eq_by_cmp triple_cmp q) ys)
-    ∙ sym (list_any-append (eq_by_cmp triple_cmp q) ys xs))
 
 onto : (ts xs ys : List RdfTriple) → graph_of xs ≡ graph_of ys → graph_of (ts ++ xs) ≡ graph_of (ts ++ ys)
 onto [] xs ys e = e
