@@ -5,10 +5,10 @@ use Rattle.gs_pool.specs.declared.nodes.Node.{Node}
 use Rattle.gs_pool.specs.Pool.{Nodes, plain, is_aside, is_retired, node_at, mark_at, Updates, KeepsMarks}
 use Rattle.gs_tree.specs.Tree.{Tree, leaf, fork, root_of, height, occurrences, Stands, height_at, tree_at, BirthAtMost, Descends}
 use Rattle.gs_tree.specs.Steps.{plain_count, one}
-use Rattle.gs_tree.proofs.TreeLemmas.{Stands-same, one_same, one_cases, born_at, birth_same, plain_count_same, plain_count_most, plain_found}
+use Rattle.gs_tree.proofs.TreeLemmas.{Stands-same, one_same, one_cases, born_at, birth_same, plain_count_none, plain_count_same, plain_count_most, plain_found}
 use Rattle.gs_tree.proofs.Rotations.{height_in, tree_in}
 use Rattle.gs_tree.proofs.Levels.{Opened, opened}
-use Rattle.gs_changes.specs.Endings.{IsDraft, IsDraftAt, FreesYoung, KeepsAllMarks}
+use Rattle.gs_changes.specs.Endings.{IsDraft, IsDraftAt, FreesYoung, FreesTree, KeepsAllMarks}
 use Rattle.gs_changes.proofs.Counts.{count_same}
 
 zero_or : (n : ℕ) → (n ≡ 0) ⊎ (0 < n)
@@ -129,3 +129,26 @@ module _ (since : ℕ) (p : Nodes) (root : Option ℕ) (c : IsDraftAt p root) (i
       -- no mark changes on the way
       pub all_kept : (q : Nodes) → KeepsMarks p2 q → KeepsAllMarks p q
       all_kept q same = all_marks p q (λ x. same x ∙ m2.marks x ∙ m1.marks x)
+
+-- where all nodes of a tree are freed, and no other, that is a step to no tree
+pub tree_freed : (p q : Nodes) (t : Tree) → ((x : ℕ) → occurrences t x ≤ plain_count p x) → FreesYoung 0 p q t → KeepsAllMarks p q → FreesTree p q t
+tree_freed p q t apart f m = record {
+  step = λ birth. record {
+    kept = λ x n e h. elim h [ inl off ↦ f.rest x (inl off) ∙ e | inr old ↦ absurd (omega (arith, old)) ];
+    balance = λ x. elim (zero_or (occurrences t x)) [
+      | inl none ↦ omega (arith, none, plain_count_same p q x (f.rest x (inl none)) (m.marks x))
+      | inr some ↦ omega (arith, some, apart x, plain_count_most p x, plain_count_none q x (freed x some (node_at p x) refl (plain_found p x (omega (arith, some, apart x))).0))
+    ];
+    older = λ x n e old. absurd (omega (arith, old));
+    born = λ x n e. elim (zero_or (occurrences t x)) [
+      | inl none ↦ inl (sym (f.rest x (inl none)) ∙ e)
+      | inr some ↦ absurd (let gone = freed x some (node_at p x) refl (plain_found p x (omega (arith, some, apart x))).0 in let bad : None ≡ Some n = sym gone ∙ e in cc)
+    ];
+    marks = λ x. inl (m.marks x);
+  };
+  marks = m;
+}
+  where
+    freed : (x : ℕ) → 0 < occurrences t x → (o : Option Node) → node_at p x ≡ o → IsSome o → node_at q x ≡ None
+    freed x some None e there = absurd (true≢false (sym there))
+    freed x some (Some n) e there = f.gone x n some e (omega arith)

@@ -34,9 +34,15 @@ pub record KeepsAllMarks (p q : Nodes) : Type 0 where
   pub aside : aside_count q ≡ aside_count p
   pub retired : retired_count q ≡ retired_count p
 
+-- the nodes of the tree are free, and every other number keeps its node and its mark
+pub record FreesTree (p q : Nodes) (t : Tree) : Type 0 where
+  pub step : (birth : ℕ) → Step 0 birth p q (occurrences t) (λ x. 0)
+  pub marks : KeepsAllMarks p q
+
 -- what was set aside is plain, and nothing else changes
 pub record Returns (p q : Nodes) : Type 0 where
   pub nodes : q.nodes ≡ p.nodes
+  pub spare : q.spare ≡ p.spare
   pub marks : (x : ℕ) → mark_at q x ≡ returned (mark_at p x)
   pub aside : aside_count q ≡ 0
   pub retired : retired_count q ≡ retired_count p

@@ -1,9 +1,10 @@
-//! The two ends of a change: it is taken back, or it is kept and what it replaced dies. Neither takes
-//! memory.
+//! The two ends of a change: it is taken back, or it is kept and what it replaced dies; and the end of a
+//! tree that no version has. None takes memory.
 ghost use Rattle.std.specs.Prelude.{◌<◌, ◌↔◌, IsTrue};
 ghost use Rattle.gs_tree.specs.Tree.{tree_at};
+ghost use Rattle.gs_tree.specs.Steps.{SameTotal};
 ghost use Rattle.gs_changes.specs.Endings.{IsDraftAt, FreesYoung, KeepsAllMarks, Returns};
-ghost use Rattle.gs_changes.specs.Endings.{TakesBack, UndoesAll, Retires};
+ghost use Rattle.gs_changes.specs.Endings.{TakesBack, UndoesAll, Retires, FreesTree};
 
 use gs_pool::{Node, Pool};
 
@@ -19,6 +20,7 @@ fn free_young(pool: &mut Pool, root: Option<u32>, since: u64)
     requires { IsDraftAt pool.old root }
     ensures frees { FreesYoung since pool.old pool.new (tree_at pool.old root) }
     ensures marks { KeepsAllMarks pool.old pool.new }
+    ensures total { SameTotal pool.old pool.new }
 {
     let Some(id) = root else {
         return;
@@ -45,9 +47,19 @@ pub fn take_back(pool: &mut Pool, root: Option<u32>, since: u64)
     requires { IsDraftAt pool.old root }
     ensures takes { TakesBack since pool.old pool.new (tree_at pool.old root) }
     ensures undoes { UndoesAll since pool.old pool.new (tree_at pool.old root) }
+    ensures total { SameTotal pool.old pool.new }
 {
     free_young(pool, root, since);
     return_aside(pool);
+}
+
+/// Frees a tree that no version has: all its nodes, and no other. Takes no memory.
+pub fn free_tree(pool: &mut Pool, root: Option<u32>)
+    requires { IsDraftAt pool.old root }
+    ensures frees { FreesTree pool.old pool.new (tree_at pool.old root) }
+    ensures total { SameTotal pool.old pool.new }
+{
+    free_young(pool, root, 0);
 }
 
 /// Keeps a change: what it replaced dies by this commit, and is retired.

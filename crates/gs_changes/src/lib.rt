@@ -5,6 +5,6 @@ mod additions;
 mod endings;
 mod removals;
 
-pub use additions::add_tree;
-pub use endings::{retire_replaced, take_back};
+pub use additions::add_keys;
+pub use endings::{free_tree, retire_replaced, take_back};
 pub use removals::{HalfDone, Pruned, remove_all};

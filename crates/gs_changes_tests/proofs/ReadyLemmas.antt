@@ -7,7 +7,7 @@ use Rattle.gs_tree.specs.Tree.{tree_at}
 use Rattle.gs_tree.specs.Reading.{IsReadable}
 use Rattle.gs_tree.specs.Sets.{UnitesAt}
 use Rattle.gs_changes.specs.Changes.{IsEarlier, ChangesAt}
-use Rattle.gs_changes.specs.Endings.{IsDraftAt}
+use Rattle.gs_changes.specs.Endings.{IsDraft, IsDraftAt}
 use Rattle.gs_changes.proofs.ChangeLemmas.{born_before, older_nodes, then, draft}
 use Rattle.gs_tree_tests.specs.ObjectOrder.{by_object}
 use Rattle.gs_changes_tests.specs.declared.commits.Roots.{Roots}
@@ -30,13 +30,11 @@ made_ready p q r theirs_run ours_run theirs ours fresh u v =
     let there = made_earlier p q theirs_run theirs u in
     let kept = v.others (tree_at q theirs.root) u.set.stands (λ x n h e. inl refl) in
     let is : tree_at r theirs.root ≡ tree_at q theirs.root = subst (λ root. tree_at r root ≡ tree_at q root) (sym u.set.root_is) kept.1 in
-    let now : IsEarlier 2 r (tree_at q theirs.root) = record { stands = kept.0; descends = there.descends; before = there.before } in
     record {
       set = v.set;
       earlier = made_earlier q r ours_run ours v;
       none_aside = none_aside q r ours_run ours v (none_aside p q theirs_run theirs u fresh);
-      other = subst (IsReadable by_object r theirs.root) (sym is) (record { root_is = u.set.root_is; stands = kept.0; rising = u.set.rising });
-      apart = λ x n h e. inr (older_nodes 2 r (tree_at r theirs.root) (subst (IsEarlier 2 r) (sym is) now) x n h e);
+      other = subst (IsDraft r theirs.root) (sym is) (record { root_is = u.set.root_is; stands = kept.0; descends = there.descends; apart = λ x. omega (arith, u.set.apart x, v.step.balance x) });
     }
 
 -- what keys in and keys out made of the first set can be taken back

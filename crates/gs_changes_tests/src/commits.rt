@@ -6,10 +6,10 @@ ghost use Rattle.gs_changes.specs.Endings.{IsDraftAt};
 ghost use Rattle.gs_tree_tests.specs.ObjectOrder.{by_object};
 ghost use Rattle.gs_changes_tests.specs.Ready.{IsReady};
 
-use gs_changes::{add_tree, remove_all, retire_replaced, take_back};
+use gs_changes::{add_keys, free_tree, remove_all, retire_replaced, take_back};
 use gs_model::Refusal;
 use gs_pool::{Key, Pool};
-use gs_tree::{is_rising, union};
+use gs_tree::{build, is_rising, union};
 use gs_tree_tests::ByObject;
 use std::alloc::{AllocError, Global};
 
@@ -58,11 +58,12 @@ fn begin(pool: &mut Pool, set: &[Key], other: &[Key]) -> Result<Roots, AllocErro
 }
 
 /// Keys in and out of a set at commit 2. Where memory is refused, all of it is taken back.
-fn change(alloc: Global, pool: &mut Pool, roots: Roots, out: &[Key]) -> Result<Changed, AllocError>
-    requires { IsReady pool.old roots }
+fn change(pool: &mut Pool, roots: Roots, more: &[Key], out: &[Key]) -> Result<Changed, AllocError>
+    requires ready { IsReady pool.old roots }
+    requires rising { IsRising by_object more.now }
     ensures { IfOk result (λ changed. IsDraftAt pool.new changed.root) }
 {
-    let more = add_tree(alloc, pool, &ByObject, roots.set, roots.other, 2)?;
+    let more = add_keys(pool, &ByObject, roots.set, more, 2)?;
     match remove_all(pool, &ByObject, more.root, out, 2) {
         Ok(less) => Ok(Changed {
             root: less.root,
@@ -154,7 +155,12 @@ pub fn is_kept(
     }
     let mut pool = Pool::new(alloc, u32::MAX);
     let roots = begin(&mut pool, trial.set.as_slice(), trial.other.as_slice())?;
-    let changed = change(alloc, &mut pool, roots, trial.out.as_slice())?;
+    let changed = change(
+        &mut pool,
+        roots,
+        trial.other.as_slice(),
+        trial.out.as_slice(),
+    )?;
     retire_replaced(&mut pool, 2);
     let right = stands(alloc, &pool, roots, trial, changed.root, keys)?;
     Ok(right && changed.added == added && changed.removed == removed && pool.next_aside().is_none())
@@ -171,7 +177,12 @@ pub fn is_left_alone(alloc: Global, trial: &Trial, last: u32) -> Result<Option<b
     let mut pool = Pool::new(alloc, last);
     let roots = begin(&mut pool, trial.set.as_slice(), trial.other.as_slice())?;
     let used = pool.nodes_in_use();
-    let refused = match change(alloc, &mut pool, roots, trial.out.as_slice()) {
+    let refused = match change(
+        &mut pool,
+        roots,
+        trial.other.as_slice(),
+        trial.out.as_slice(),
+    ) {
         Ok(changed) => {
             take_back(&mut pool, changed.root, 2);
             false
@@ -184,4 +195,28 @@ pub fn is_left_alone(alloc: Global, trial: &Trial, last: u32) -> Result<Option<b
     } else {
         Ok(None)
     }
+}
+
+/// Whether the nodes of the second set, and no others, are free once it was freed, and a tree of its keys has as
+/// many again.
+pub fn comes_back(alloc: Global, trial: &Trial) -> Result<bool, Refusal> {
+    if !is_rising(&ByObject, trial.set.as_slice())
+        || !is_rising(&ByObject, trial.other.as_slice())
+    {
+        return Ok(false);
+    }
+    let mut pool = Pool::new(alloc, u32::MAX);
+    let roots = begin(&mut pool, trial.set.as_slice(), trial.other.as_slice())?;
+    let used = pool.nodes_in_use();
+    free_tree(&mut pool, roots.other);
+    let fewer = pool.nodes_in_use() == trial.set.len() as u64
+        && has_just(alloc, &pool, roots.set, trial.set.as_slice())?;
+    pool.reserve(trial.other.len())?;
+    let again = build(&mut pool, trial.other.as_slice(), 2);
+    Ok(
+        fewer
+            && pool.nodes_in_use() == used
+            && has_just(alloc, &pool, roots.set, trial.set.as_slice())?
+            && has_just(alloc, &pool, again, trial.other.as_slice())?,
+    )
 }

@@ -5,4 +5,4 @@ mod commits;
 #[cfg(test)]
 mod rows;
 
-pub use commits::{Trial, is_kept, is_left_alone};
+pub use commits::{Trial, comes_back, is_kept, is_left_alone};

@@ -1,5 +1,5 @@
 //! Commits on small sets, and what is there in the end, worked by hand.
-use crate::commits::{Trial, is_kept, is_left_alone};
+use crate::commits::{Trial, comes_back, is_kept, is_left_alone};
 use gs_model::Refusal;
 use gs_pool::Key;
 use gs_tree_tests::key;
@@ -70,7 +70,7 @@ fn trial(
     })
 }
 
-/// Whether a row is right, kept and taken back.
+/// Whether a row is right, kept and taken back, and the set that comes in can be freed and made again.
 fn is_so(alloc: Global, row: &str) -> Result<bool, Refusal> {
     let mut columns = row.split('|');
     let _name = columns.next();
@@ -80,7 +80,8 @@ fn is_so(alloc: Global, row: &str) -> Result<bool, Refusal> {
     let removed = number(columns.next());
     Ok(
         is_kept(alloc, &trial, wanted.as_slice(), added, removed)?
-            && is_left_alone(alloc, &trial, u32::MAX)? == Some(false),
+            && is_left_alone(alloc, &trial, u32::MAX)? == Some(false)
+            && comes_back(alloc, &trial)?,
     )
 }
 

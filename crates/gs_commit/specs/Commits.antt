@@ -4,7 +4,6 @@ use Rattle.gs_pool.specs.Pool.{Nodes, aside_count}
 use Rattle.gs_tree.specs.Tree.{Tree, keys, occurrences, tree_at}
 use Rattle.gs_tree.specs.Steps.{Step}
 use Rattle.gs_versions.specs.Pins.{Pins}
-use Rattle.gs_event.specs.Waste.{Lifetime}
 use Rattle.gs_event.specs.Steps.{Joins, IsUnreached, EndsAt}
 use Rattle.gs_ledger.specs.Marks.{dead_at, waste_at}
 use Rattle.gs_ledger.specs.Ledger.{IsTreeOf, IsLedger}
@@ -33,19 +32,17 @@ DropsAll p q root =
     → IsLedger p v graphs (tree_at p root ∷ uploads) reads (dead_at p)
     → Drops v p q (tree_at p root) graphs uploads reads
 
--- The graph has its draft `new`, and the upload that was copied into it is no more. The nodes of the upload join the waste, and no version had one of them; so do the nodes that are set aside in q, each of which a version had, and this commit took it out.
-pub record KeepsDraft (v w : Pins) (p q r : Nodes) (new upload : Tree) (graphs uploads reads : List Tree) : Type 0 where
+-- The graph has its draft `new`. The nodes that are set aside in q join the waste: a version had each, and this commit took it out.
+pub record KeepsDraft (v w : Pins) (p q r : Nodes) (new : Tree) (graphs uploads reads : List Tree) : Type 0 where
   pub ledger : IsLedger r w (new ∷ graphs) uploads reads (dead_at r)
-  pub between : List Lifetime
-  pub staged : Joins IsUnreached (length (keys upload)) (waste_at p) between
-  pub replaced : Joins (EndsAt (v.commit + 1)) (aside_count q) between (waste_at r)
+  pub waste : Joins (EndsAt (v.commit + 1)) (aside_count q) (waste_at p) (waste_at r)
 
--- that is so from every pool p where the draft was begun, with a ledger where the tree of the root is an upload's
-abbrev pub KeepsDraftAll : Pins → Pins → Nodes → Nodes → Option ℕ → Type 0
-KeepsDraftAll v w q r upload =
+-- that is so from every pool p where the draft was begun
+abbrev pub KeepsDraftAll : Pins → Pins → Nodes → Nodes → Type 0
+KeepsDraftAll v w q r =
     (p : Nodes) (old new : Tree) (graphs uploads reads : List Tree)
     → aside_count p ≡ 0
-    → IsLedger p v (old ∷ graphs) (tree_at q upload ∷ uploads) reads (dead_at p)
+    → IsLedger p v (old ∷ graphs) uploads reads (dead_at p)
     → Step (v.commit + 1) (v.commit + 1) p q (occurrences old) (occurrences new)
     → IsTreeOf q (v.commit + 1) new
-    → KeepsDraft v w p q r new (tree_at q upload) graphs uploads reads
+    → KeepsDraft v w p q r new graphs uploads reads

@@ -40,18 +40,15 @@ pub fn drop_tree(pool: &mut Pool, root: Option<u32>)
     retire_root(pool, root, NEVER);
 }
 
-/// Ends a commit that made a draft of a graph's tree by copies: what these replaced died by this
-/// commit, and the upload that was copied into the draft is dropped.
-pub fn keep_draft(pool: &mut Pool, versions: &mut Versions, upload: Option<u32>)
-    requires root { CanRetireRoot pool.old upload }
-    requires number { versions.old.commit < last_number }
-    ensures ledgers { KeepsDraftAll versions.old versions.new pool.old pool.new upload }
+/// Ends a commit that made a draft of a graph's tree by copies: what these replaced died by this commit.
+pub fn keep_draft(pool: &mut Pool, versions: &mut Versions)
+    requires { versions.old.commit < last_number }
+    ensures ledgers { KeepsDraftAll versions.old versions.new pool.old pool.new }
     ensures commit { versions.new ≡ at_commit versions.old (versions.old.commit + 1) }
     ensures nodes { pool.new.nodes ≡ pool.old.nodes }
     ensures aside { aside_count pool.new ≡ 0 }
 {
     let death = versions.commit() + 1;
     retire_replaced(pool, death);
-    drop_tree(pool, upload);
     versions.advance();
 }

@@ -130,7 +130,7 @@ fn with_first(
 
 /// For each hash and first byte the newest number of the hash's chain, where its entry has the hash
 /// and its text begins with the byte, and else `NO_TERM`'s. Heads are read first, then entries, then
-/// texts with the entries that say where they begin; reads of one step do not wait for one another.
+/// texts with the entries that say where they begin; within a step no term waits for another.
 /// The byte is compared so that the text is fetched.
 pub fn guesses(
     arena: &[u8],

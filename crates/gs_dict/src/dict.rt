@@ -129,8 +129,8 @@ impl Dict {
 
     /// For each of 16 terms a number to be tried first by `intern_near`: the term's own where it is
     /// the newest of its bucket, and else mostly `NO_TERM`. They are looked up together, so that
-    /// memory answers them at once, and what `intern_near` then compares has been fetched. Nothing
-    /// rests on a guess.
+    /// memory answers them at once, and the first bytes of what `intern_near` then compares have been
+    /// fetched. Nothing rests on a guess.
     pub fn guesses(&self, terms: &[&TermText; GUESSED_TOGETHER]) -> [TermId; GUESSED_TOGETHER] {
         let mut hashes = [0; GUESSED_TOGETHER];
         let mut firsts = [0; GUESSED_TOGETHER];

@@ -30,6 +30,9 @@ impl Effect {
                 moment.same_numbers(Kind::Growth, after, before.saturating_add(new))
             }
             Growth::AtMost(new) => moment.no_more(Kind::Growth, after, before.saturating_add(new)),
+            Growth::Fewer(gone) => {
+                moment.same_numbers(Kind::Growth, after.saturating_add(gone), before)
+            }
         }
     }
 

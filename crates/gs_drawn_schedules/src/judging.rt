@@ -5,7 +5,7 @@ use crate::scripts::seats;
 use crate::totals::Totals;
 use gs_drawn_events::{Ask, SORT_NAMES, sort_of};
 use gs_event::Limits;
-use gs_version_models::{Lie, Model, Said};
+use gs_version_models::{Growth, Lie, Model, Outcome, Said};
 use std::alloc::Global;
 
 /// What is known of the store that is judged.
@@ -21,10 +21,11 @@ pub struct Judge {
     sure: u64,
 }
 
-/// What is staged and given up with this answer.
-fn dropped(staged: u64, said: &Said) -> u64 {
-    match said {
-        Said::Cancelled | Said::Status(507) => staged,
+/// What is staged, and becomes waste with this answer: a POST that is not stored gives its nodes back.
+fn dropped(staged: u64, outcome: &Outcome) -> u64 {
+    match (outcome.said, outcome.growth) {
+        (_, Growth::Fewer(_)) => 0,
+        (Said::Cancelled | Said::Status(507), _) => staged,
         _ => 0,
     }
 }
@@ -67,7 +68,7 @@ impl Judge {
         totals.note(ask, &outcome.said, is_stale);
         effects.judged.check_growth(moment, outcome.growth)?;
         self.check_counts(moment, effects)?;
-        self.note_waste(effects.waste(), dropped(staged, &outcome.said));
+        self.note_waste(effects.waste(), dropped(staged, &outcome));
         Ok(())
     }
 

@@ -59,7 +59,7 @@ impl Cursor {
     }
 
     /// Takes the bytes at the front of a piece that only go on with what is being read, or that are
-    /// a whole token, and counts them. Each other byte goes through `take`.
+    /// a whole token, of an object with its dot, and counts them. Each other byte goes through `take`.
     #[inline]
     pub fn take_run(&mut self, piece: &[u8]) -> Result<usize, AllocError>
         ensures bound { IfOk result (λ n. n ≤ length piece.now) }

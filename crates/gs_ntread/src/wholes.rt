@@ -124,8 +124,8 @@ impl Cursor {
     }
 
     /// Takes a token that stands whole at the front, and ends within it: an IRI where a subject or
-    /// a predicate comes, or the end of a line. Answers how many bytes it has, and 0 where there is
-    /// none, and then nothing has changed.
+    /// a predicate comes, or the line feed after a statement. Answers how many bytes it has, and 0
+    /// where there is none, and then nothing has changed.
     pub fn whole_token(&mut self, piece: &[u8]) -> Result<usize, AllocError>
         requires { self.old.within ≡ within.Between }
         ensures bound { IfOk result (λ n. n ≤ length piece.now) }

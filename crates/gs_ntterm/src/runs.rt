@@ -9,7 +9,7 @@ use crate::classes::is_space;
 use gs_chars::is_pn_chars;
 use std::simd::prelude::*;
 
-/// A class of bytes, whose test stands in the loop of `run_len`.
+/// A class of bytes. The test of one stands in the loop of `run_end`.
 pub trait Class {
     ghost class: { ℕ → Bool };
 
@@ -24,7 +24,7 @@ pub trait Wide: Class {
         ensures { result ≡ mask_l (map (outside Self.class) v) };
 }
 
-/// Bytes of an IRI's text. Those above `z` go one by one: so two bounds and one mask test a byte.
+/// Bytes of an IRI's text. Those above `z` end a run, so one upper bound tests them.
 pub struct InIri;
 
 impl Class for InIri {

@@ -208,7 +208,7 @@ fn plain_front(
 }
 
 /// The literal that stands whole at the front, if one does, and how many bytes it has. Where it is
-/// not the longest there, neither a blank nor a dot comes after it.
+/// not the longest there, what comes after it is no dot, and no blanks with a dot after them.
 #[inline]
 pub fn literal_front(alloc: Global, piece: &[u8]) -> Result<Option<(TermText, usize)>, AllocError>
     ensures { IfOk result (λ o. IfSome o (λ w. IsLiteralFront piece.now w.1 w.0)) }

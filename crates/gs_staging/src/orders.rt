@@ -23,7 +23,7 @@ fn is_same(a: Key, b: Key) -> bool
     a.subject == b.subject && a.predicate == b.predicate && a.object == b.object
 }
 
-/// Whether most keys have the subject of the key before them. No text is read.
+/// Whether a quarter of the keys, rounded down, have the subject of the key before them. No text is read.
 fn has_groups(keys: &[Key]) -> bool {
     let mut again = 0usize;
     for next in 1..keys.len() {

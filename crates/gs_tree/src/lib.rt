@@ -11,4 +11,4 @@ mod unions;
 pub use orders::{KeyOrder, is_rising};
 pub use reading::{after, contains, count, next_keys};
 pub use removals::remove;
-pub use unions::{Merged, insert, union};
+pub use unions::{Merged, build, insert, union};

@@ -5,6 +5,7 @@ ghost use Rattle.std.specs.declared.cmp.Ordering.TheVariants.{Less};
 ghost use Rattle.gs_tree.specs.Keys.{AllKeys, IsRising, Places};
 ghost use Rattle.gs_tree.specs.Merging.{BuiltAt, CanMergeAt, MergesAt, Cut, IsAsHigh};
 ghost use Rattle.gs_tree.specs.Tree.{IsRoot, height_at};
+ghost use Rattle.gs_tree.specs.Steps.{SameTotal};
 ghost use Rattle.gs_tree.specs.Reading.{keys_at};
 ghost use Rattle.gs_tree.specs.Sets.{IsSetAt, UnitesAt, GainsKey, IsCheap, HasUnionRoom};
 
@@ -96,8 +97,8 @@ fn find_below<O: KeyOrder>(order: &O, run: &[Key], key: Key, end: usize) -> Plac
     }
 }
 
-// Makes a tree of a run by halves. It takes no memory.
-fn build(pool: &mut Pool, run: &[Key], birth: u64) -> Option<u32>
+/// Makes a tree of new nodes, one for each key of a run, by halves. Takes no memory.
+pub fn build(pool: &mut Pool, run: &[Key], birth: u64) -> Option<u32>
     requires { length run.now ≤ room pool.old }
     ensures { BuiltAt birth pool.old pool.new run.now result }
 {
@@ -234,6 +235,7 @@ pub fn union<O: KeyOrder>(
     requires birth { since ≤ birth }
     ensures ok { IfOk result (UnitesAt (O.compare order.now) since birth pool.old pool.new root run.now) }
     ensures had_room { HasUnionRoom since pool.old root (length run.now) → IsOk result }
+    ensures total { SameTotal pool.old pool.new }
     ensures kept { OnErr result (pool.new ≡ pool.old) }
 {
     let most = run

@@ -1,30 +1,28 @@
 -- Drafts: what copies make of a version, and what the books are once a draft is kept.
-use Rattle.std.proofs.Common.{◌≡◌, ◌+◌, ◌*◌, ◌^◌, ◌<◌, ◌≤◌, ℕ, List, ◌∷◌, ◌++◌, length, Option, Some, None, option_map, unwrap_or, refl, sym, ap, subst, ◌∙◌, arith}
+use Rattle.std.proofs.Common.{◌≡◌, ◌+◌, ◌*◌, ◌^◌, ◌<◌, ◌≤◌, ℕ, List, ◌∷◌, ◌++◌, map, length, Option, Some, None, option_map, unwrap_or, refl, sym, ap, subst, ◌∙◌, arith}
 use Rattle.std.specs.List.{All}
 use Rattle.gs_model.specs.Terms.{Term}
-use Rattle.gs_model.specs.Graphs.{Graph, graph_of, triples_of, with_triples, size_of}
+use Rattle.gs_model.specs.Graphs.{Graph, graph_of, triples_of, with_triples}
 use Rattle.gs_model.specs.Limits.{last_number}
 use Rattle.gs_model.proofs.GraphLemmas.{graph_of-triples_of, triples_of-empty}
 use Rattle.gs_term.specs.declared.names.Target.{Target}
-use Rattle.std.proofs.lemmas.List.{length-map}
 use Rattle.std.specs.declared.cmp.Ordering.{Ordering}
 use Rattle.gs_event.specs.declared.updates.Op.{Op}
 use Rattle.gs_event.specs.Updates.{updated, inserted_by, removed_by}
 use Rattle.gs_event.specs.Datasets.{with_graph, graph_at as graph_of_target}
 use Rattle.gs_event.specs.Operations.{united}
 use Rattle.gs_event.specs.Waste.{Lifetime}
-use Rattle.gs_event.specs.Steps.{Joins, IsUnreached, EndsAt}
+use Rattle.gs_event.specs.Steps.{Joins, EndsAt}
 use Rattle.gs_dict.specs.Numbering.{Numbered, IsDistinct}
 use Rattle.gs_pool.specs.Pool.{Nodes, aside_count, IsParted}
 use Rattle.gs_pool.specs.declared.nodes.Key.{Key}
 use Rattle.gs_tree.specs.Keys.{merge_keys}
 use Rattle.gs_tree.proofs.Merging.{length_merge}
-use Rattle.gs_tree.specs.Tree.{Tree, keys, occurrences, tree_at}
+use Rattle.gs_tree.specs.Tree.{Tree, occurrences, tree_at}
 use Rattle.gs_tree.specs.Steps.{Step}
 use Rattle.gs_tree.specs.Reading.{keys_at}
 use Rattle.gs_keys.specs.Texts.{triple_at, key_cmp, key_total}
-use Rattle.gs_keys.specs.Roots.{graph_at, IsGraphAt}
-use Rattle.gs_keys.proofs.KeyLemmas.{triples_of_keys}
+use Rattle.gs_keys.specs.Roots.{graph_at}
 use Rattle.gs_changes.specs.Changes.{ChangesAt}
 use Rattle.gs_changes.proofs.AddLemmas.{few_keys}
 use Rattle.gs_changes.proofs.ChangeLemmas.{at_most, draft}
@@ -50,7 +48,7 @@ use Rattle.gs_datasets.proofs.Sizes.{graph_at-is}
 use Rattle.gs_datasets.proofs.Writing.{one_is_set}
 use Rattle.gs_tree_store.specs.declared.books.Books.{Books}
 use Rattle.gs_tree_store.specs.Books.{dataset_of, IsSound, HasLedger}
-use Rattle.gs_tree_store.specs.Drafts.{CanDraft, Drafts}
+use Rattle.gs_tree_store.specs.Drafts.{CanDraft, IsRun, Drafts}
 use Rattle.gs_tree_store.proofs.CommitLemmas.{version_or, same_dead, apart_ledger, roots_same, still_version}
 
 -- a change of the tree of a version that can have a draft is one
@@ -74,14 +72,6 @@ drafted birth terms grown p q old v g added removed most can parted c staged cou
       few = omega (arith, few, c.exact, c.few, can.none_aside);
     }
 
--- the keys of a root as a run of its graph's triples
-pub run_of_graph : (terms : List Term) (p : Nodes) (root : Option ℕ) → IsGraphAt terms p root → IsRunOfTriples terms (triples_of (graph_at terms p root)) (keys_at p root)
-run_of_graph terms p root is = record {
-  rising = is.set.rising;
-  given = is.given;
-  graph = sym (ap graph_of (triples_of_keys terms (keys_at p root) is.set.rising is.given));
-}
-
 united_if : (terms : List Term) (p : Nodes) (o : Option GraphVersion) (g : Graph) → united (option_map (version_graph terms p) o) g ≡ with_triples (graph_at terms p (unwrap_or o empty_version).root) (triples_of g)
 united_if terms p None g = sym (graph_of-triples_of g) ∙ sym (ap (λ xs. graph_of (xs ++ triples_of g)) triples_of-empty)
 united_if terms p (Some v) g = refl
@@ -91,16 +81,10 @@ pub united_target : (b : Books) (t : Target) (g : Graph) → with_triples (graph
 united_target b t g =
     sym (ap (λ o. united o g) (graph_at-is b.dict.terms b.pool b.catalogue.graphs t) ∙ united_if b.dict.terms b.pool (version_at b.catalogue.graphs t) g)
 
--- what a draft that is kept makes of the waste, beside an upload of so many keys
-pub record Keeps (last size most : ℕ) (old new : List Lifetime) : Type 0 where
-  pub between : List Lifetime
-  pub staged : Joins IsUnreached size old between
-  pub replaced : Joins (EndsAt (last + 1)) most between new
-
--- the ledger goes on without the upload
-pub record KeptEnds (old new : Books) (size most : ℕ) (us rs : List Tree) : Type 0 where
+-- the ledger goes on, and so many nodes at most join the waste
+pub record KeptEnds (old new : Books) (most : ℕ) (us rs : List Tree) : Type 0 where
   pub ledger : HasLedger new us rs
-  pub waste : Keeps old.versions.commit size most (waste_at old.pool) (waste_at new.pool)
+  pub waste : Joins (EndsAt (old.versions.commit + 1)) most (waste_at old.pool) (waste_at new.pool)
 
 -- the books once a draft is kept
 abbrev pub with_draft : Books → Numbered → Nodes → Pins → Catalogued → Books
@@ -109,27 +93,20 @@ with_draft b d r w c = record b { dict = d; pool = r; versions = w; catalogue = 
 fewer : (commit n most : ℕ) (old new : List Lifetime) → n ≤ most → Joins (EndsAt commit) n old new → Joins (EndsAt commit) most old new
 fewer commit n most old new few j = record { more = j.more; few = omega (arith, few, j.few); same = j.same; ended = j.ended }
 
--- The draft v of the target's graph is kept, and the upload of the root `up` is no more.
-module _ (b : Books) (d : Numbered) (q r : Nodes) (w : Pins) (c : Catalogued) (t : Target) (v : GraphVersion) (up : Option ℕ) (g : Graph) (birth most : ℕ)
+-- The draft v of the target's graph is kept.
+module _ (b : Books) (d : Numbered) (q r : Nodes) (w : Pins) (c : Catalogued) (t : Target) (v : GraphVersion) (g : Graph) (birth most : ℕ)
     (born : birth ≡ b.versions.commit + 1) (grows : Grows b.dict d) (made : Drafts birth d.terms b.pool q (version_or b.catalogue.graphs t) v g most)
-    (keeps : KeepsDraftAll b.versions w q r up) (commit : w ≡ at_commit b.versions (b.versions.commit + 1)) (nodes : r.nodes ≡ q.nodes) (none : aside_count r ≡ 0)
-    (written : c ≡ after_set b.catalogue t v) (number : b.versions.commit < last_number) (sound : IsSound b) (means : tree_at q up ≡ tree_at b.pool up) where
-  p : Nodes
-  p = b.pool
-
-  others : List Tree
-  others = other_trees b.pool b.catalogue.graphs t
-
-  ends : (us rs : List Tree) → HasLedger b (tree_at b.pool up ∷ us) rs → KeepsDraft b.versions w b.pool q r (tree_at q v.root) (tree_at q up) (other_trees b.pool b.catalogue.graphs t) us rs
+    (keeps : KeepsDraftAll b.versions w q r) (commit : w ≡ at_commit b.versions (b.versions.commit + 1)) (nodes : r.nodes ≡ q.nodes) (none : aside_count r ≡ 0)
+    (written : c ≡ after_set b.catalogue t v) (number : b.versions.commit < last_number) (sound : IsSound b) where
+  ends : (us rs : List Tree) → HasLedger b us rs → KeepsDraft b.versions w b.pool q r (tree_at q v.root) (other_trees b.pool b.catalogue.graphs t) us rs
   ends us rs l =
       let old = tree_at b.pool (version_or b.catalogue.graphs t).root in
       let new = tree_at q v.root in
-      let here : IsLedger b.pool b.versions (old ∷ other_trees b.pool b.catalogue.graphs t) (tree_at b.pool up ∷ us) rs (dead_at b.pool) = apart_ledger b.pool b.versions b.catalogue.graphs t (tree_at b.pool up ∷ us) rs (dead_at b.pool) l in
       keeps b.pool old new (other_trees b.pool b.catalogue.graphs t) us rs sound.none_aside
-      (subst (λ u. IsLedger b.pool b.versions (old ∷ other_trees b.pool b.catalogue.graphs t) (u ∷ us) rs (dead_at b.pool)) (sym means) here)
+      (apart_ledger b.pool b.versions b.catalogue.graphs t us rs (dead_at b.pool) l)
       (subst (λ n. Step n n b.pool q (occurrences old) (occurrences new)) born made.step) (subst (λ n. IsTreeOf q n new) born made.tree)
 
-  module _ (us₀ rs₀ : List Tree) (l₀ : HasLedger b (tree_at b.pool up ∷ us₀) rs₀) where
+  module _ (us₀ rs₀ : List Tree) (l₀ : HasLedger b us₀ rs₀) where
     same_others : AreSameIn b.pool r (other_versions b.catalogue.graphs t)
     same_others = others_stay_beside b.dict.terms b.pool r b.catalogue.graphs t w (tree_at q v.root) us₀ rs₀ (dead_at r) sound.versions (ends us₀ rs₀ l₀).ledger
 
@@ -156,34 +133,28 @@ module _ (b : Books) (d : Numbered) (q r : Nodes) (w : Pins) (c : Catalogued) (t
       base = sound.base;
     }
 
-    pub kept_ends : (us rs : List Tree) → HasLedger b (tree_at b.pool up ∷ us) rs → KeptEnds b (with_draft b d r w c) (length (keys (tree_at b.pool up))) most us rs
+    pub kept_ends : (us rs : List Tree) → HasLedger b us rs → KeptEnds b (with_draft b d r w c) most us rs
     kept_ends us rs l =
         let h = ends us rs l in
         let trees : AreSameTrees (version_tree q v ∷ other_trees b.pool b.catalogue.graphs t) (graph_trees r (with_version b.catalogue.graphs t v)) = subst (λ u. AreSameTrees (u ∷ other_trees b.pool b.catalogue.graphs t) (graph_trees r (with_version b.catalogue.graphs t v))) same_draft sets.trees in
         record {
           ledger = subst (λ (x : Catalogued). IsLedger r w (graph_trees r x.graphs) us rs (dead_at r)) (sym written)
               (reorder_ledger r w (version_tree q v ∷ other_trees b.pool b.catalogue.graphs t) (graph_trees r (with_version b.catalogue.graphs t v)) us us rs (dead_at r) (dead_at r) trees (same_trees us) (same_dead (dead_at r)) h.ledger);
-          waste = record {
-            between = h.between;
-            staged = subst (λ n. Joins IsUnreached n (waste_at b.pool) h.between) (ap (λ u. length (keys u)) means) h.staged;
-            replaced = fewer (b.versions.commit + 1) (aside_count q) most h.between (waste_at r) made.few h.replaced;
-          };
+          waste = fewer (b.versions.commit + 1) (aside_count q) most (waste_at b.pool) (waste_at r) made.few h.waste;
         }
 
--- the keys of an upload in a version
-pub united_made : (birth : ℕ) (d : Numbered) (p q : Nodes) (old : GraphVersion) (up root : Option ℕ) (added : ℕ) → IsDistinct d.terms → CanDraft birth d.terms p old → IsParted p → IsGraphAt d.terms p up
-    → ChangesAt (key_cmp d.terms) birth p q old.root root added 0 → keys_at q root ≡ merge_keys (key_cmp d.terms) (keys_at p up) (keys_at p old.root)
-    → Drafts birth d.terms p q old (record { root = root; triples = old.triples + added }) (with_triples (graph_at d.terms p old.root) (triples_of (graph_at d.terms p up))) (259 * size_of (graph_at d.terms p up))
-united_made birth d p q old up root added distinct can parted is c keys_are =
+-- keys in a version
+pub united_made : (birth : ℕ) (d : Numbered) (p q : Nodes) (old : GraphVersion) (ks : List Key) (root : Option ℕ) (added : ℕ) → IsDistinct d.terms → CanDraft birth d.terms p old → IsParted p → IsRun d.terms ks
+    → ChangesAt (key_cmp d.terms) birth p q old.root root added 0 → keys_at q root ≡ merge_keys (key_cmp d.terms) ks (keys_at p old.root)
+    → Drafts birth d.terms p q old (record { root = root; triples = old.triples + added }) (with_triples (graph_at d.terms p old.root) (map (triple_at d.terms) ks)) (259 * length ks)
+united_made birth d p q old ks root added distinct can parted is c keys_are =
     let terms = d.terms in
-    let ks = keys_at p up in
-    let g = graph_at terms p up in
-    let run = run_of_graph terms p up is in
-    let made = with_run d d p q old.root root (triples_of g) ks (still_grows d d refl) distinct can.staged run c.set keys_are in
-    let size : size_of g ≡ length ks = ap length (triples_of_keys terms ks is.set.rising is.given) ∙ length-map ks (triple_at terms) in
+    let ts = map (triple_at terms) ks in
+    let run : IsRunOfTriples terms ts ks = record { rising = is.rising; given = is.given; graph = refl } in
+    let made = with_run d d p q old.root root ts ks (still_grows d d refl) distinct can.staged run c.set keys_are in
     let few : length (keys_at q root) ≤ length (keys_at p old.root) + length ks = subst (λ xs. length xs ≤ length (keys_at p old.root) + length ks) (sym keys_are) (length_merge (key_cmp terms) (key_total terms) ks (keys_at p old.root)) in
-    drafted birth terms terms p q old (record { root = root; triples = old.triples + added }) (with_triples (graph_at terms p old.root) (triples_of g)) added 0 (259 * size_of g) can parted c made.0 (omega arith) made.1
-    (omega (arith, size, few, c.counted))
+    drafted birth terms terms p q old (record { root = root; triples = old.triples + added }) (with_triples (graph_at terms p old.root) ts) added 0 (259 * length ks) can parted c made.0 (omega arith) made.1
+    (omega (arith, few, c.counted))
 
 -- the operations of an update on a version
 pub patched_made : (birth : ℕ) (terms grown : List Term) (p q : Nodes) (old : GraphVersion) (ops : List Op) (x : Draft) (n : ℕ) → CanDraft birth terms p old → IsParted p → Patches birth terms grown p q old.root ops x → n + x.removed ≡ old.triples + x.added

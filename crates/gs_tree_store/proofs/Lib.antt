@@ -6,6 +6,7 @@ pub mod ReadLemmas
 pub mod ActionLemmas
 pub mod StageLemmas
 pub mod UndoneLemmas
+pub mod UploadLemmas
 pub mod DraftLemmas
 pub mod BeginLemmas
 pub mod PostLemmas

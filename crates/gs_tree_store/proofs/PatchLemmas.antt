@@ -1,6 +1,5 @@
 -- What the commit of a patch makes of the books and of the seat.
-use Rattle.std.proofs.Common.{◌≡◌, ◌+◌, ◌*◌, ◌<◌, ◌≤◌, ◌⊎◌, ℕ, true, false, cond, List, [], ◌∷◌, length, Option, Some, None, option_map, unwrap_or, is_some, refl, sym, ap, subst, ◌∙◌, inr, arith, add-zero, true≢false}
-use Rattle.std.specs.List.{sum_by}
+use Rattle.std.proofs.Common.{◌≡◌, ◌+◌, ◌*◌, ◌<◌, ◌⊎◌, ℕ, true, false, cond, List, ◌∷◌, Option, Some, None, option_map, unwrap_or, is_some, refl, sym, ap, subst, ◌∙◌, inr, arith, add-zero, true≢false}
 use Rattle.std.specs.declared.alloc.Global.{Global}
 use Rattle.std.specs.declared.vec.Vec.{Vec}
 use Rattle.std.proofs.lemmas.List.{set-get_or}
@@ -28,7 +27,7 @@ use Rattle.gs_event.specs.Steps.{Joins, IsUnreached, EndsAt, WastesOperations, m
 use Rattle.gs_event.proofs.VerdictLemmas.{store_must}
 use Rattle.gs_dict.specs.Numbering.{Numbered}
 use Rattle.gs_pool.specs.Pool.{Nodes, aside_count}
-use Rattle.gs_tree.specs.Tree.{tree_at}
+use Rattle.gs_tree.specs.Tree.{leaf, tree_at}
 use Rattle.gs_keys.specs.Roots.{graph_at}
 use Rattle.gs_changes.specs.Endings.{Restores, UndoesAll}
 use Rattle.gs_staging.specs.Keys.{Grows}
@@ -48,10 +47,9 @@ use Rattle.gs_tree_store.specs.Drafts.{Drafts}
 use Rattle.gs_tree_store.specs.Actions.{Acts, HoldsRoom}
 use Rattle.gs_tree_store.proofs.CommitLemmas.{version_or}
 use Rattle.gs_tree_store.proofs.VerdictLemmas.{size_of_version, is_stored, is_not_stored, would_be_stored}
-use Rattle.gs_tree_store.proofs.WriteLemmas.{idle_ledger}
 use Rattle.gs_tree_store.proofs.SeatLemmas.{ledger_stays}
 use Rattle.gs_tree_store.proofs.UndoneLemmas.{with_nodes, undone_ready, undone_acts, undone_totals, nothing_done}
-use Rattle.gs_tree_store.proofs.DraftLemmas.{Keeps, KeptEnds, with_draft, kept_dataset, kept_sound, kept_ends}
+use Rattle.gs_tree_store.proofs.DraftLemmas.{KeptEnds, with_draft, kept_dataset, kept_sound, kept_ends}
 
 -- the graph of the target's version
 abbrev pub target_graph : Books → Target → Graph
@@ -184,23 +182,14 @@ module _ (b : Books) (d : Numbered) (q : Nodes) (s : ℕ) (t : Target) (n : ℕ)
       let not = is_not_stored w m b.versions.commit (Patches t ops.items) t (patched (graph_of_target m t) ops.items) (status_stored w m t ops.items there_now) (dataset_stored w m t ops.items there_now) change.1 in
       acts_so Idle (Status 507 None) (without_effect (with_nodes b d q) s t n ops 507 not.status_is refl not.dataset ready_now)
 
-none_more : (f : Lifetime → ℕ) (xs : List Lifetime) → length xs ≤ 0 → sum_by f xs ≡ 0
-none_more f [] h = refl
-none_more f (x ∷ xs) h = absurd (omega (arith, h))
-
--- where no upload was copied, what the copies replaced joins the waste
-replaced_joins : (last most : ℕ) (a b : List Lifetime) → Keeps last 0 most a b → Joins (λ l. IsUnreached l ⊎ EndsAt (last + 1) l) most a b
-replaced_joins last most a b k = record {
-  more = k.replaced.more;
-  few = k.replaced.few;
-  same = λ f. omega (arith, k.replaced.same f, k.staged.same f, none_more f k.staged.more k.staged.few);
-  ended = λ j x h. inr (k.replaced.ended j x h);
-}
+-- what the copies replaced joins the waste
+replaced_joins : (last most : ℕ) (a b : List Lifetime) → Joins (EndsAt (last + 1)) most a b → Joins (λ l. IsUnreached l ⊎ EndsAt (last + 1) l) most a b
+replaced_joins last most a b j = record { more = j.more; few = j.few; same = j.same; ended = λ k x h. inr (j.ended k x h) }
 
 -- the draft is kept
 pub patch_kept : (b : Books) (d : Numbered) (q r : Nodes) (w : Pins) (c : Catalogued) (s : ℕ) (t : Target) (n : ℕ) (ops : Vec Op Global) (v : GraphVersion) (birth status triples names : ℕ)
     → birth ≡ b.versions.commit + 1 → Grows b.dict d → DraftsPatch birth b d q t ops.items v
-    → KeepsDraftAll b.versions w q r None → w ≡ at_commit b.versions (b.versions.commit + 1) → r.nodes ≡ q.nodes → aside_count r ≡ 0 → c ≡ after_set b.catalogue t v
+    → KeepsDraftAll b.versions w q r → w ≡ at_commit b.versions (b.versions.commit + 1) → r.nodes ≡ q.nodes → aside_count r ≡ 0 → c ≡ after_set b.catalogue t v
     → DecidesPatch b t ops.items (Granted status triples names) → IsReady b s (Patching t n) → Acts b (with_draft b d r w c) s (Patching t n) Idle (CommitPatch ops) (Status status None)
 patch_kept b d q r w c s t n ops v birth status triples names born grows made keeps commit nodes none written decided ready =
     let there = decided.0 in
@@ -212,7 +201,7 @@ patch_kept b d q r w c s t n ops v birth status triples names born grows made ke
     let number : b.versions.commit < last_number = decided.1.2 in
     let stored = is_stored (books_setting b) m b.versions.commit (Patches t ops.items) t (patched (graph_of_target m t) ops.items) (status_stored (books_setting b) m t ops.items there) (dataset_stored (books_setting b) m t ops.items there) status triples names decided.1 in
     let last : w.commit ≡ b.versions.commit + 1 = ap (λ (x : Pins). x.commit) commit in
-    let dataset = kept_dataset b d q r w c t v None g birth most born grows made keeps commit nodes none written number ready.sound refl some.uploads some.reads some.ledger.ledger ∙ ap (with_graph m t) (updated_is b t there ops.items) ∙ sym stored.dataset in
+    let dataset = kept_dataset b d q r w c t v g birth most born grows made keeps commit nodes none written number ready.sound (leaf ∷ some.uploads) some.reads some.ledger.ledger ∙ ap (with_graph m t) (updated_is b t there ops.items) ∙ sym stored.dataset in
     let request : b.request ≡ b.request + 0 = sym (add-zero b.request) in
     let counted : w.commit ≡ b.versions.commit + cond (is_success status) 1 0 = last ∙ sym (ap (λ x. b.versions.commit + cond x 1 0) stored.well) in
     record {
@@ -220,14 +209,14 @@ patch_kept b d q r w c s t n ops v birth status triples names born grows made ke
       totals = λ i. record { setting = books_setting b; dataset = dataset i; request = request i; commit = counted i };
       seat = refl;
       pins = ap (λ (x : Pins). x.seats) commit ∙ sym (set-get_or b.versions.seats s None);
-      sound = kept_sound b d q r w c t v None g birth most born grows made keeps commit nodes none written number ready.sound refl some.uploads some.reads some.ledger.ledger;
+      sound = kept_sound b d q r w c t v g birth most born grows made keeps commit nodes none written number ready.sound (leaf ∷ some.uploads) some.reads some.ledger.ledger;
       known = tt;
       grows = grows;
       ledgers = λ us rs l.
-          let e : KeptEnds b new 0 most us rs = kept_ends b d q r w c t v None g birth most born grows made keeps commit nodes none written number ready.sound refl some.uploads some.reads some.ledger.ledger us rs l.ledger in
+          let e : KeptEnds b new most (leaf ∷ us) rs = kept_ends b d q r w c t v g birth most born grows made keeps commit nodes none written number ready.sound (leaf ∷ some.uploads) some.reads some.ledger.ledger (leaf ∷ us) rs l.ledger in
           let joins = replaced_joins b.versions.commit most (waste_at b.pool) (waste_at r) e.waste in
           record {
-            ledger = idle_ledger new s us rs l.there l.read e.ledger;
+            ledger = ledger_stays new s Idle us rs l.read l.there e.ledger;
             waste = subst (λ x. WastesOperations (totals_of b) t ops.items x (waste_at b.pool) (waste_at r)) (sym stored.well)
                 (subst (λ k. Joins (λ (l : Lifetime). IsUnreached l ⊎ EndsAt (b.versions.commit + 1) l) k (waste_at b.pool) (waste_at r)) (most_is b t there ops.items) joins);
           };

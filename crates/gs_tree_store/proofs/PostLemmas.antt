@@ -1,11 +1,15 @@
 -- What the commit of a POST makes of the books and of the seat.
-use Rattle.std.proofs.Common.{◌≡◌, ◌+◌, ◌*◌, ℕ, true, cond, length, None, refl, sym, ap, subst, ◌∙◌, add-zero}
+use Rattle.std.proofs.Common.{◌≡◌, ◌≤◌, ◌+◌, ◌*◌, ℕ, true, cond, List, [], ◌∷◌, map, length, None, refl, sym, ap, subst, ◌∙◌, inl, arith, add-zero, true≢false}
 use Rattle.std.proofs.lemmas.List.{set-get_or}
-use Rattle.gs_model.specs.Graphs.{Graph, size_of, triples_of, with_triples}
+use Rattle.std.proofs.lemmas.List.Elements.{All-head}
+use Rattle.gs_model.specs.Terms.{Term}
+use Rattle.gs_model.specs.Graphs.{Graph, graph_of, size_of, triples_of, with_triples}
+use Rattle.gs_model.specs.declared.refusals.Refusal.{Refusal}
 use Rattle.gs_model.specs.declared.refusals.Refusal.TheVariants.{LastNumber as NoNumber, NoMemory}
 use Rattle.gs_term.specs.declared.names.Target.{Target}
 use Rattle.gs_event.specs.declared.events.UploadKind.TheVariants.{Post}
 use Rattle.gs_event.specs.declared.events.Action.TheVariants.{Commit}
+use Rattle.gs_event.specs.declared.answers.Answer.{Answer}
 use Rattle.gs_event.specs.declared.answers.Answer.TheVariants.{Refused, Status}
 use Rattle.gs_event.specs.declared.verdicts.Holdings.{Holdings}
 use Rattle.gs_event.specs.declared.verdicts.Place.{Place}
@@ -14,32 +18,46 @@ use Rattle.gs_event.specs.declared.verdicts.Verdict.{Verdict}
 use Rattle.gs_event.specs.declared.verdicts.Verdict.TheVariants.{Full, LastNumber, Granted}
 use Rattle.gs_event.specs.Datasets.{with_graph, graph_at as graph_of_target}
 use Rattle.gs_event.specs.Operations.{Posts, is_success, united}
-use Rattle.gs_event.specs.Views.{Totals}
+use Rattle.gs_event.specs.Phases as phase
+use Rattle.gs_event.specs.Views.{FitsSeat}
 use Rattle.gs_event.specs.Verdicts.{verdict_of, holdings_of, place_in, DecidesStore}
 use Rattle.gs_event.proofs.VerdictLemmas.{store_may}
-use Rattle.gs_event.specs.Steps.{JoinsCopied, WastesUpload, IsUnreached, Joins}
-use Rattle.gs_pool.specs.Pool.{Nodes, aside_count}
-use Rattle.gs_tree.specs.Tree.{keys, tree_at}
+use Rattle.gs_event.specs.Steps.{WastesUpload, IsUnreached, EndsAt, Joins}
+use Rattle.gs_pool.specs.declared.nodes.Key.{Key}
+use Rattle.gs_pool.specs.Pool.{Nodes, in_use, aside_count, room}
+use Rattle.gs_tree.specs.Tree.{Tree, leaf, keys, occurrences, BirthAtMost, tree_at}
+use Rattle.gs_tree.specs.Keys.{AllKeys, IsRising}
+use Rattle.gs_tree.specs.Reading.{keys_at, IsReadableAt}
+use Rattle.gs_tree.specs.Steps.{Step, SameTotal}
+use Rattle.gs_tree.proofs.TreeLemmas.{Step-then, plain_count_same}
+use Rattle.gs_keys.specs.Texts.{triple_at, key_cmp, IsGiven}
 use Rattle.gs_keys.specs.Roots.{graph_at}
+use Rattle.gs_keys.proofs.KeyLemmas.{triples_of_keys}
 use Rattle.gs_staging.proofs.KeyLemmas.{still_grows}
-use Rattle.gs_changes.specs.Endings.{UndoesAll, Restores}
+use Rattle.gs_changes.specs.Endings.{IsDraftAt, UndoesAll, Restores}
 use Rattle.gs_catalogue.specs.declared.versions.GraphVersion.{GraphVersion}
 use Rattle.gs_catalogue.specs.Catalogues.{Catalogued, after_set}
 use Rattle.gs_versions.specs.Pins.{Pins, at_commit}
 use Rattle.gs_ledger.specs.Marks.{waste_at}
-use Rattle.gs_reclaim.specs.Reclaims.{CanRetireRoot}
-use Rattle.gs_commit.specs.Commits.{DropsAll, KeepsDraftAll}
+use Rattle.gs_ledger.specs.Ledger.{IsTreeOf}
+use Rattle.gs_datasets.specs.Standing.{IsVersion}
+use Rattle.gs_commit.specs.Commits.{KeepsDraftAll}
 use Rattle.gs_tree_store.specs.declared.books.Books.{Books}
 use Rattle.gs_tree_store.specs.declared.books.Seat.{Seat}
 use Rattle.gs_tree_store.specs.declared.books.Seat.TheVariants.{Idle, Writing}
-use Rattle.gs_tree_store.specs.Books.{books_setting, dataset_of, totals_of, IsReady}
-use Rattle.gs_tree_store.specs.Drafts.{Drafts}
+use Rattle.gs_tree_store.specs.Books.{books_setting, dataset_of, totals_of, seat_view, HasLedger, IsReady}
+use Rattle.gs_tree_store.specs.Drafts.{CanDraft, IsRun, Drafts}
+use Rattle.gs_tree_store.specs.Uploads.{TakesApart, PutsTogether}
+use Rattle.gs_tree_store.specs.Verdicts.{HasCounts}
 use Rattle.gs_tree_store.specs.Actions.{Acts, IsReadyAny}
 use Rattle.gs_tree_store.proofs.CommitLemmas.{version_or}
 use Rattle.gs_tree_store.proofs.VerdictLemmas.{size_of_version, is_stored, is_not_stored, would_be_stored}
-use Rattle.gs_tree_store.proofs.WriteLemmas.{upload_graph, has_upload, upload_retirable, idle_ledger, versions_same, same_use, commit_failed}
-use Rattle.gs_tree_store.proofs.BeginLemmas.{upload_left, upload_means}
-use Rattle.gs_tree_store.proofs.UndoneLemmas.{with_nodes, undone_ready, undone_acts, undone_totals, undone_graph, nothing_done}
+use Rattle.gs_tree_store.proofs.WriteLemmas.{upload_graph, taken_over}
+use Rattle.gs_tree_store.proofs.StageLemmas.{upload_staged}
+use Rattle.gs_tree_store.proofs.BeginLemmas.{can_draft}
+use Rattle.gs_tree_store.proofs.SeatLemmas.{SameGraphs, same_totals, ledger_stays}
+use Rattle.gs_tree_store.proofs.UndoneLemmas.{with_nodes, nothing_done}
+use Rattle.gs_tree_store.proofs.UploadLemmas.{moved_graphs, moved_ledger, moved_waste, moved_use}
 use Rattle.gs_tree_store.proofs.DraftLemmas.{KeptEnds, with_draft, kept_dataset, kept_sound, kept_ends, united_target}
 
 -- the target's graph with the upload's triples
@@ -50,145 +68,259 @@ posted b t v = united (graph_of_target (dataset_of b) t) (upload_graph b v)
 abbrev pub DecidesPost : Books → Target → GraphVersion → Verdict → Type 0
 DecidesPost b t v verdict = DecidesStore (books_setting b) (dataset_of b) b.versions.commit t (posted b t v) verdict
 
--- The draft was refused or given up, and the pool is as it was.
-module _ (b : Books) (q : Nodes) (s : ℕ) (t : Target) (n : ℕ) (v : GraphVersion) (restores : Restores b.pool q) (ready : IsReady b s (Writing (Post t) n v)) where
-  ready_now : IsReady (with_nodes b b.dict q) s (Writing (Post t) n v)
-  ready_now = undone_ready b b.dict q (still_grows b.dict b.dict refl) restores ready.sound s (Writing (Post t) n v) refl ready
+-- the tree of an upload is all its own
+pub upload_draft : (b : Books) (t : Target) (n : ℕ) (u : GraphVersion) → IsReadyAny b (Writing (Post t) n u) → IsDraftAt b.pool u.root
+upload_draft b t n u any =
+    let set = (upload_staged b (Writing (Post t) n u) (Post t) n u refl any).set in
+    let l = any.ready.ledger in
+    let tree = tree_at b.pool u.root in
+    let here : IsTreeOf b.pool (b.versions.commit + 1) tree = All-head (IsTreeOf b.pool (b.versions.commit + 1)) tree l.uploads l.ledger.ledger.staged in
+    record { root_is = set.root_is; stands = set.stands; descends = here.descends; apart = set.apart }
 
-  decided_now : (verdict : Verdict) → DecidesPost b t v verdict → DecidesPost (with_nodes b b.dict q) t v verdict
-  decided_now verdict decided =
-      let grows = still_grows b.dict b.dict refl in
-      let dataset : dataset_of (with_nodes b b.dict q) ≡ dataset_of b = ap (λ (x : Totals). x.dataset) (undone_totals b b.dict q grows restores ready.sound) in
-      let graph = undone_graph b b.dict q grows restores ready.sound v ready.known in
-      subst (λ m. DecidesStore (books_setting b) m b.versions.commit t (united (graph_of_target m t) (graph_at b.dict.terms q v.root)) verdict) (sym dataset)
-      (subst (λ g. DecidesStore (books_setting b) (dataset_of b) b.versions.commit t (united (graph_of_target (dataset_of b) t) g) verdict) (sym graph) decided)
+-- its keys can be read
+pub upload_readable : (terms : List Term) (p : Nodes) (u : GraphVersion) → IsVersion terms p u → IsDraftAt p u.root → IsReadableAt (key_cmp terms) p u.root
+upload_readable terms p u is draft = record { root_is = draft.root_is; stands = draft.stands; rising = is.keyed.rising }
 
-  acts_so : (new : Books) (now : Seat) (a : Rattle.gs_event.specs.declared.answers.Answer.Answer) → Acts (with_nodes b b.dict q) new s (Writing (Post t) n v) now Commit a → Acts b new s (Writing (Post t) n v) now Commit a
-  acts_so new now a acts = undone_acts b b.dict q (still_grows b.dict b.dict refl) restores ready.sound new s (Writing (Post t) n v) now Commit a refl ready.known acts
+-- what was taken back is a step to no tree from none
+restored_step : (birth : ℕ) (p q : Nodes) → Restores p q → Step 0 birth p q (λ x. 0) (λ x. 0)
+restored_step birth p q restores = record {
+  kept = λ x n e h. restores.nodes x ∙ e;
+  balance = λ x. omega (arith, plain_count_same p q x (restores.nodes x) (restores.marks x));
+  older = λ x n e old. absurd (omega (arith, old));
+  born = λ x n e. inl (sym (restores.nodes x) ∙ e);
+  marks = λ x. inl (restores.marks x);
+}
 
-  -- the upload can be retired still
-  post_retirable : CanRetireRoot q v.root
-  post_retirable =
-      let mid = with_nodes b b.dict q in
-      upload_retirable mid v (has_upload mid (Post t) n v (record { number = s; ready = ready_now }))
+-- no memory, and nothing was done
+pub post_unread : (b : Books) (q : Nodes) (s : ℕ) (t : Target) (n : ℕ) (u : GraphVersion) (now : Seat) (a : Answer) → q ≡ b.pool → now ≡ Writing (Post t) n u → a ≡ Refused NoMemory → IsReady b s (Writing (Post t) n u)
+    → Acts b (with_nodes b b.dict q) s (Writing (Post t) n u) now Commit a
+post_unread b q s t n u now a same writes why ready =
+    let here : Acts b b s (Writing (Post t) n u) (Writing (Post t) n u) Commit (Refused NoMemory) = nothing_done b s (Writing (Post t) n u) Commit (Refused NoMemory) refl refl refl refl refl refl ready in
+    subst (λ x. Acts b (with_nodes b b.dict x) s (Writing (Post t) n u) now Commit a) (sym same)
+    (subst (λ x. Acts b b s (Writing (Post t) n u) x Commit a) (sym writes) (subst (λ x. Acts b b s (Writing (Post t) n u) (Writing (Post t) n u) Commit x) (sym why) here))
 
-  -- want of memory
-  pub post_unmade : Acts b (with_nodes b b.dict q) s (Writing (Post t) n v) (Writing (Post t) n v) Commit (Refused NoMemory)
-  post_unmade = acts_so (with_nodes b b.dict q) (Writing (Post t) n v) (Refused NoMemory) (nothing_done (with_nodes b b.dict q) s (Writing (Post t) n v) Commit (Refused NoMemory) refl refl refl refl refl refl ready_now)
+-- The upload's keys are `ks`, and `p1` is the pool without its tree.
+module _ (b : Books) (t : Target) (n : ℕ) (u : GraphVersion) (p1 : Nodes) (ks : List Key) (any : IsReadyAny b (Writing (Post t) n u)) (apart : TakesApart b.pool p1 u.root ks) where
+  abbrev tree : Tree
+  tree = tree_at b.pool u.root
 
-  -- no commit number is left: the upload stays
-  post_last : DecidesPost b t v LastNumber → Acts b (with_nodes b b.dict q) s (Writing (Post t) n v) (Writing (Post t) n v) Commit (Refused NoNumber)
-  post_last decided =
-      let mid = with_nodes b b.dict q in
-      let would = would_be_stored (books_setting mid) (dataset_of mid) b.versions.commit (Posts t (upload_graph mid v)) t (posted mid t v) refl refl (decided_now LastNumber decided) in
-      acts_so mid (Writing (Post t) n v) (Refused NoNumber) (nothing_done mid s (Writing (Post t) n v) Commit (Refused NoNumber) (would, decided.1) refl refl refl refl refl ready_now)
+  abbrev graph : Graph
+  graph = upload_graph b u
 
-  -- beyond the limits: the upload is dropped
-  post_full : (r : Nodes) → r.nodes ≡ q.nodes → aside_count r ≡ aside_count q → DropsAll q r v.root → DecidesPost b t v Full → Acts b (with_nodes b b.dict r) s (Writing (Post t) n v) Idle Commit (Status 507 None)
-  post_full r nodes aside drops decided =
-      let mid = with_nodes b b.dict q in
-      let not = is_not_stored (books_setting mid) (dataset_of mid) b.versions.commit (Posts t (upload_graph mid v)) t (posted mid t v) refl refl (decided_now Full decided) in
-      acts_so (with_nodes b b.dict r) Idle (Status 507 None)
-      (commit_failed mid r s (Post t) n v (versions_same mid r nodes) (aside ∙ restores.aside) drops (same_use q r nodes) not refl ready_now)
+  abbrev mid : Books
+  mid = with_nodes b b.dict p1
 
--- the draft is kept
-post_kept : (b : Books) (q r : Nodes) (w : Pins) (c : Catalogued) (s : ℕ) (t : Target) (n : ℕ) (u v : GraphVersion) (birth status triples names : ℕ)
-    → birth ≡ b.versions.commit + 1
-    → Drafts birth b.dict.terms b.pool q (version_or b.catalogue.graphs t) v (with_triples (graph_at b.dict.terms b.pool (version_or b.catalogue.graphs t).root) (triples_of (upload_graph b u))) (259 * size_of (upload_graph b u))
-    → KeepsDraftAll b.versions w q r u.root → w ≡ at_commit b.versions (b.versions.commit + 1) → r.nodes ≡ q.nodes → aside_count r ≡ 0 → c ≡ after_set b.catalogue t v → tree_at q u.root ≡ tree_at b.pool u.root
-    → DecidesPost b t u (Granted status triples names) → IsReady b s (Writing (Post t) n u) → Acts b (with_draft b b.dict r w c) s (Writing (Post t) n u) Idle Commit (Status status None)
-post_kept b q r w c s t n u v birth status triples names born made keeps commit nodes none written means decided ready =
-    let grows = still_grows b.dict b.dict refl in
-    let old = version_or b.catalogue.graphs t in
-    let g = upload_graph b u in
-    let both = with_triples (graph_at b.dict.terms b.pool old.root) (triples_of g) in
-    let most = 259 * size_of g in
-    let some = ready.ledger in
-    let new = with_draft b b.dict r w c in
-    let number = decided.2 in
-    let stored = is_stored (books_setting b) (dataset_of b) b.versions.commit (Posts t g) t (posted b t u) refl refl status triples names decided in
-    let last : w.commit ≡ b.versions.commit + 1 = ap (λ (x : Pins). x.commit) commit in
-    let dataset = kept_dataset b b.dict q r w c t v u.root both birth most born grows made keeps commit nodes none written number ready.sound means some.uploads some.reads some.ledger.ledger ∙ ap (with_graph (dataset_of b) t) (united_target b t g) ∙ sym stored.dataset in
-    let request : b.request ≡ b.request + 0 = sym (add-zero b.request) in
-    let counted : w.commit ≡ b.versions.commit + cond (is_success status) 1 0 = last ∙ sym (ap (λ x. b.versions.commit + cond x 1 0) stored.well) in
-    let size : length (keys (tree_at b.pool u.root)) ≡ size_of g = sym ready.known.counted ∙ size_of_version b.dict.terms b.pool u ready.known in
-    record {
-      fits = (stored.status_is, refl, λ e. number);
-      totals = λ i. record { setting = books_setting b; dataset = dataset i; request = request i; commit = counted i };
-      seat = refl;
-      pins = ap (λ (x : Pins). x.seats) commit ∙ sym (set-get_or b.versions.seats s None);
-      sound = kept_sound b b.dict q r w c t v u.root both birth most born grows made keeps commit nodes none written number ready.sound means some.uploads some.reads some.ledger.ledger;
-      known = tt;
-      grows = grows;
-      ledgers = λ us rs l.
-          let e : KeptEnds b new (length (keys (tree_at b.pool u.root))) most us rs = kept_ends b b.dict q r w c t v u.root both birth most born grows made keeps commit nodes none written number ready.sound means some.uploads some.reads some.ledger.ledger us rs l.ledger in
-          let copied : JoinsCopied b.versions.commit (size_of g) (waste_at b.pool) (waste_at r) = record { between = e.waste.between; staged = subst (λ k. Joins IsUnreached k (waste_at b.pool) e.waste.between) size e.waste.staged; replaced = e.waste.replaced } in
-          record {
-            ledger = idle_ledger new s us rs l.there l.read e.ledger;
-            waste = subst (λ x. WastesUpload (totals_of b) (Post t) g x (waste_at b.pool) (waste_at r)) (sym stored.well) copied;
+  abbrev us₀ : List Tree
+  us₀ = any.ready.ledger.uploads
+
+  abbrev rs₀ : List Tree
+  rs₀ = any.ready.ledger.reads
+
+  l₀ : HasLedger b (tree_at b.pool u.root ∷ us₀) rs₀
+  l₀ = any.ready.ledger.ledger.ledger
+
+  no_tree : (q : Nodes) → IsTreeOf q (b.versions.commit + 1) leaf
+  no_tree q = record { stands = tt; descends = tt; born = tt }
+
+  none_aside : aside_count p1 ≡ 0
+  none_aside = apart.frees.marks.aside ∙ any.ready.sound.none_aside
+
+  mid_graphs : SameGraphs b (with_nodes b b.dict p1)
+  mid_graphs = moved_graphs b p1 0 tree leaf any.ready.sound (apart.frees.step 0) (no_tree p1) none_aside us₀ rs₀ l₀
+
+  mid_ledger : (us rs : List Tree) → HasLedger b (tree_at b.pool u.root ∷ us) rs → HasLedger (with_nodes b b.dict p1) (leaf ∷ us) rs
+  mid_ledger = moved_ledger b p1 0 tree leaf any.ready.sound (apart.frees.step 0) (no_tree p1) none_aside us₀ rs₀ l₀
+
+  mid_waste : waste_at p1 ≡ waste_at b.pool
+  mid_waste = moved_waste b p1 0 tree leaf any.ready.sound (apart.frees.step 0) (no_tree p1) none_aside us₀ rs₀ l₀
+
+  mid_use : in_use p1 + length ks ≡ in_use b.pool
+  mid_use = omega (arith, moved_use b p1 0 tree leaf any.ready.sound (apart.frees.step 0) (no_tree p1) none_aside us₀ rs₀ l₀, ap (λ (xs : List Key). length xs) apart.keys_are)
+
+  -- a draft of the target's graph can be made,
+  pub mid_can : (old : GraphVersion) (birth : ℕ) → old ≡ version_or b.catalogue.graphs t → birth ≡ b.versions.commit + 1 → CanDraft birth b.dict.terms p1 old
+  mid_can old birth is born =
+      let counts : HasCounts mid = record { sound = mid_graphs.sound; ledger = record { uploads = leaf ∷ us₀; reads = rs₀; ledger = mid_ledger us₀ rs₀ l₀ } } in
+      can_draft mid t old birth is born counts
+
+  -- and the keys can go into it
+  pub mid_run : IsRun b.dict.terms ks
+  mid_run = subst (IsRun b.dict.terms) (sym apart.keys_are) (record { rising = any.ready.known.keyed.rising; given = any.ready.known.keyed.given })
+
+  triples_are : map (triple_at b.dict.terms) ks ≡ triples_of (upload_graph b u)
+  triples_are = ap (map (triple_at b.dict.terms)) apart.keys_are ∙ sym (triples_of_keys b.dict.terms (keys_at b.pool u.root) any.ready.known.keyed.rising any.ready.known.keyed.given)
+
+  size_is : length ks ≡ size_of (upload_graph b u)
+  size_is = ap length apart.keys_are ∙ sym any.ready.known.counted ∙ size_of_version b.dict.terms b.pool u any.ready.known
+
+  -- Nothing is left of a draft in the pool r.
+  module _ (r : Nodes) (restores : Restores p1 r) where
+    gone_step : (birth : ℕ) → Step 0 birth b.pool r (occurrences tree) (λ x. 0)
+    gone_step birth = Step-then 0 birth b.pool p1 r (occurrences tree) (λ x. 0) (λ x. 0) (apart.frees.step birth) (restored_step birth p1 r restores)
+
+    -- the keys have room
+    pub again_fits : SameTotal p1 r → length ks ≤ room r
+    again_fits total = omega (arith, apart.total, total, mid_use, restores.in_use)
+
+    -- beyond the limits: the upload is no more
+    post_full : (s : ℕ) → DecidesPost b t u Full → IsReady b s (Writing (Post t) n u) → Acts b (with_nodes b b.dict r) s (Writing (Post t) n u) Idle Commit (Status 507 None)
+    post_full s decided ready =
+        let not = is_not_stored (books_setting b) (dataset_of b) b.versions.commit (Posts t graph) t (posted b t u) refl refl decided in
+        let graphs = moved_graphs b r 0 tree leaf ready.sound (gone_step 0) (no_tree r) restores.aside us₀ rs₀ l₀ in
+        let waste = moved_waste b r 0 tree leaf ready.sound (gone_step 0) (no_tree r) restores.aside us₀ rs₀ l₀ in
+        record {
+          fits = (not.status_is, refl, λ e. absurd (true≢false (sym e)));
+          totals = λ i. record { setting = books_setting b; dataset = (graphs.dataset ∙ sym not.dataset) i; request = sym (add-zero b.request) i; commit = sym (add-zero b.versions.commit) i };
+          seat = refl;
+          pins = sym (set-get_or b.versions.seats s None);
+          sound = graphs.sound;
+          known = tt;
+          grows = still_grows b.dict b.dict refl;
+          ledgers = λ us rs l.
+              let here = moved_ledger b r 0 tree leaf ready.sound (gone_step 0) (no_tree r) restores.aside us₀ rs₀ l₀ us rs l.ledger in
+              record {
+                ledger = ledger_stays (with_nodes b b.dict r) s Idle us rs l.read l.there here;
+                waste = subst (Joins IsUnreached (size_of graph) (waste_at b.pool)) (sym waste) (record { more = []; few = omega arith; same = λ f. omega arith; ended = λ k d lt. absurd (omega arith) });
+              };
+          uses = tt;
+        }
+
+    -- refused: the upload is put together again, from the same keys
+    post_again : (r' : Nodes) (birth s : ℕ) (v : GraphVersion) (why : Refusal) → birth ≡ b.versions.commit + 1 → PutsTogether birth r r' ks v
+        → FitsSeat (totals_of b) (seat_view b (Writing (Post t) n u)) Commit (Refused why) → IsReady b s (Writing (Post t) n u)
+        → Acts b (with_nodes b b.dict r') s (Writing (Post t) n u) (Writing (Post t) n v) Commit (Refused why)
+    post_again r' birth s v why born puts fits ready =
+        let made = puts.built in
+        let new = tree_at r' v.root in
+        let step : Step 0 birth b.pool r' (occurrences tree) (occurrences new) = Step-then 0 birth b.pool r r' (occurrences tree) (λ x. 0) (occurrences new) (gone_step birth) (made.step 0 (omega arith)) in
+        let stands : IsTreeOf r' (b.versions.commit + 1) new = record { stands = made.stands; descends = made.descends; born = subst (λ k. BirthAtMost k new) born made.born } in
+        let none : aside_count r' ≡ 0 = made.replaced ∙ restores.aside in
+        let graphs = moved_graphs b r' birth tree new ready.sound step stands none us₀ rs₀ l₀ in
+        let same : keys new ≡ keys_at b.pool u.root = made.keys_are ∙ apart.keys_are in
+        let used = moved_use b r' birth tree new ready.sound step stands none us₀ rs₀ l₀ in
+        let now = with_nodes b b.dict r' in
+        record {
+          fits = fits;
+          totals = same_totals b now refl graphs.dataset refl refl;
+          seat = ap (λ xs. phase.Writing (Post t) n (graph_of (map (triple_at b.dict.terms) xs))) same;
+          pins = sym (set-get_or b.versions.seats s None);
+          sound = graphs.sound;
+          known = record {
+            root_is = sym made.root;
+            keyed = record {
+              balanced = made.balanced;
+              rising = subst (IsRising (key_cmp b.dict.terms)) (sym same) ready.known.keyed.rising;
+              given = subst (AllKeys (IsGiven b.dict.terms)) (sym same) ready.known.keyed.given;
+            };
+            counted = puts.counted ∙ sym (ap length made.keys_are);
           };
-      uses = tt;
-    }
+          grows = still_grows b.dict b.dict refl;
+          ledgers = λ us rs l. record {
+            ledger = ledger_stays now s (Writing (Post t) n v) us rs l.read l.there (moved_ledger b r' birth tree new ready.sound step stands none us₀ rs₀ l₀ us rs l.ledger);
+            waste = moved_waste b r' birth tree new ready.sound step stands none us₀ rs₀ l₀;
+          };
+          uses = omega (arith, used, ap (λ (xs : List Key). length xs) same);
+        }
 
--- the draft of a target's graph with the upload's triples
-abbrev pub DraftsPost : Books → Nodes → ℕ → GraphVersion → GraphVersion → GraphVersion → Type 0
-DraftsPost b q birth old u v =
-    Drafts birth b.dict.terms b.pool q old v (with_triples (graph_at b.dict.terms b.pool old.root) (triples_of (upload_graph b u))) (259 * size_of (upload_graph b u))
+    -- want of memory
+    pub post_unmade : (r' : Nodes) (birth s : ℕ) (v : GraphVersion) (now : Seat) (a : Answer) → birth ≡ b.versions.commit + 1 → PutsTogether birth r r' ks v → now ≡ Writing (Post t) n v → a ≡ Refused NoMemory → IsReady b s (Writing (Post t) n u)
+        → Acts b (with_nodes b b.dict r') s (Writing (Post t) n u) now Commit a
+    post_unmade r' birth s v now a born puts writes why ready =
+        subst (λ x. Acts b (with_nodes b b.dict r') s (Writing (Post t) n u) x Commit a) (sym writes)
+        (subst (λ x. Acts b (with_nodes b b.dict r') s (Writing (Post t) n u) (Writing (Post t) n v) Commit x) (sym why) (post_again r' birth s v NoMemory born puts refl ready))
 
--- The draft `v`, of the version `old` that the target had.
-module _ (b : Books) (q : Nodes) (t : Target) (birth : ℕ) (old u v : GraphVersion) (is : old ≡ version_or b.catalogue.graphs t) (drafts : DraftsPost b q birth old u v) where
-  -- it is that of the target
-  draft_made : DraftsPost b q birth (version_or b.catalogue.graphs t) u v
-  draft_made = subst (λ w. DraftsPost b q birth w u v) is drafts
+    -- no commit number is left
+    post_last : (r' : Nodes) (birth s : ℕ) (v : GraphVersion) (now : Seat) (a : Answer) → birth ≡ b.versions.commit + 1 → DecidesPost b t u LastNumber → PutsTogether birth r r' ks v → now ≡ Writing (Post t) n v → a ≡ Refused NoNumber → IsReady b s (Writing (Post t) n u)
+        → Acts b (with_nodes b b.dict r') s (Writing (Post t) n u) now Commit a
+    post_last r' birth s v now a born decided puts writes why ready =
+        let would = would_be_stored (books_setting b) (dataset_of b) b.versions.commit (Posts t graph) t (posted b t u) refl refl decided in
+        subst (λ x. Acts b (with_nodes b b.dict r') s (Writing (Post t) n u) x Commit a) (sym writes)
+        (subst (λ x. Acts b (with_nodes b b.dict r') s (Writing (Post t) n u) (Writing (Post t) n v) Commit x) (sym why) (post_again r' birth s v NoNumber born puts (would, decided.1) ready))
 
-  -- what becomes of it, by the counts
-  draft_decided : (held : Holdings) (place : Place) (verdict : Verdict) → held ≡ holdings_of (books_setting b) (dataset_of b) b.versions.commit → place ≡ place_in (dataset_of b) t → verdict ≡ verdict_of held place (Stores v.triples true)
-      → DecidesPost b t u verdict
-  draft_decided held place verdict holds at by =
-      let w = books_setting b in
-      let m = dataset_of b in
-      let c = b.versions.commit in
-      let size : v.triples ≡ size_of (posted b t u) = size_of_version b.dict.terms q v draft_made.version ∙ ap size_of (draft_made.graph ∙ united_target b t (upload_graph b u)) in
-      let same : verdict ≡ verdict_of (holdings_of w m c) (place_in m t) (Stores (size_of (posted b t u)) true) =
-      by ∙ ap (λ h. verdict_of h place (Stores v.triples true)) holds
-      ∙ ap (λ x. verdict_of (holdings_of w m c) x (Stores v.triples true)) at
-      ∙ ap (λ k. verdict_of (holdings_of w m c) (place_in m t) (Stores k true)) size in
-      subst (DecidesPost b t u) (sym same) (store_may w m c t (posted b t u))
+  -- the draft of a version with the keys too
+  abbrev DraftsKeys : Nodes → ℕ → GraphVersion → GraphVersion → Type 0
+  DraftsKeys q birth old v = Drafts birth b.dict.terms p1 q old v (with_triples (graph_at b.dict.terms p1 old.root) (map (triple_at b.dict.terms) ks)) (259 * length ks)
 
-  -- taken back, the pool is as it was
-  draft_undone : (r : Nodes) → UndoesAll birth q r (tree_at q v.root) → Restores b.pool r
-  draft_undone r undoes = undoes b.pool (tree_at b.pool old.root) drafts.began drafts.step
+  -- The draft `v`, of the version `old` that the target had.
+  module _ (q : Nodes) (birth : ℕ) (old v : GraphVersion) (is : old ≡ version_or b.catalogue.graphs t) (drafts : Drafts birth b.dict.terms p1 q old v (with_triples (graph_at b.dict.terms p1 old.root) (map (triple_at b.dict.terms) ks)) (259 * length ks)) where
+    abbrev both : Graph
+    both = with_triples (graph_at b.dict.terms p1 (version_or b.catalogue.graphs t).root) (triples_of graph)
 
-  -- The verdict on it, by the counts of the books.
-  module _ (held : Holdings) (place : Place) (holds : held ≡ holdings_of (books_setting b) (dataset_of b) b.versions.commit) (at : place ≡ place_in (dataset_of b) t) where
-    -- no commit number is left, and it was taken back
-    pub draft_last : (r : Nodes) (s n : ℕ) → LastNumber ≡ verdict_of held place (Stores v.triples true) → UndoesAll birth q r (tree_at q v.root) → IsReady b s (Writing (Post t) n u)
-        → Acts b (with_nodes b b.dict r) s (Writing (Post t) n u) (Writing (Post t) n u) Commit (Refused NoNumber)
-    draft_last r s n by undoes ready = post_last b r s t n u (draft_undone r undoes) ready (draft_decided held place LastNumber holds at by)
+    -- it is that of the target, with the upload's triples
+    draft_made : Drafts birth b.dict.terms p1 q (version_or b.catalogue.graphs t) v both (259 * size_of graph)
+    draft_made =
+        subst (λ k. Drafts birth b.dict.terms p1 q (version_or b.catalogue.graphs t) v both (259 * k)) size_is
+        (subst (λ ts. Drafts birth b.dict.terms p1 q (version_or b.catalogue.graphs t) v (with_triples (graph_at b.dict.terms p1 (version_or b.catalogue.graphs t).root) ts) (259 * length ks)) triples_are
+        (subst (λ w. DraftsKeys q birth w v) is drafts))
 
-    -- beyond the limits, it was taken back and the upload dropped
-    pub draft_full : (back r : Nodes) (s n : ℕ) (now : Seat) → now ≡ Idle → Full ≡ verdict_of held place (Stores v.triples true) → UndoesAll birth q back (tree_at q v.root)
-        → DropsAll back r u.root → r.nodes ≡ back.nodes → aside_count r ≡ aside_count back → IsReady b s (Writing (Post t) n u)
-        → Acts b (with_nodes b b.dict r) s (Writing (Post t) n u) now Commit (Status 507 None)
-    draft_full back r s n now idle by undoes drops nodes aside ready =
-        subst (λ x. Acts b (with_nodes b b.dict r) s (Writing (Post t) n u) x Commit (Status 507 None)) (sym idle)
-        (post_full b back s t n u (draft_undone back undoes) ready r nodes aside drops (draft_decided held place Full holds at by))
+    both_is : both ≡ posted b t u
+    both_is = united_target mid t graph ∙ ap (λ m. united (graph_of_target m t) graph) mid_graphs.dataset
 
-    -- kept, it is the target's graph
-    pub draft_stored : (r : Nodes) (w : Pins) (c : Catalogued) (s n status triples names : ℕ) (now : Seat) → now ≡ Idle → Granted status triples names ≡ verdict_of held place (Stores v.triples true) → birth ≡ b.versions.commit + 1
-        → KeepsDraftAll b.versions w q r u.root → w ≡ at_commit b.versions (b.versions.commit + 1) → r.nodes ≡ q.nodes → aside_count r ≡ 0 → c ≡ after_set b.catalogue t v → IsReady b s (Writing (Post t) n u)
-        → Acts b (with_draft b b.dict r w c) s (Writing (Post t) n u) now Commit (Status status None)
-    draft_stored r w c s n status triples names now idle by born keeps commit nodes none written ready =
-        let has = has_upload b (Post t) n u (record { number = s; ready = ready }) in
-        let means = upload_means b t u has birth (259 * size_of (upload_graph b u)) b.dict.terms q v _ draft_made in
-        let decided = draft_decided held place (Granted status triples names) holds at by in
-        subst (λ x. Acts b (with_draft b b.dict r w c) s (Writing (Post t) n u) x Commit (Status status None)) (sym idle)
-        (post_kept b q r w c s t n u v birth status triples names born draft_made keeps commit nodes none written means decided ready)
+    -- what becomes of it, by the counts
+    draft_decided : (held : Holdings) (place : Place) (verdict : Verdict) → held ≡ holdings_of (books_setting b) (dataset_of b) b.versions.commit → place ≡ place_in (dataset_of b) t → verdict ≡ verdict_of held place (Stores v.triples true)
+        → DecidesPost b t u verdict
+    draft_decided held place verdict holds at by =
+        let w = books_setting b in
+        let m = dataset_of b in
+        let c = b.versions.commit in
+        let size : v.triples ≡ size_of (posted b t u) = size_of_version b.dict.terms q v draft_made.version ∙ ap size_of (draft_made.graph ∙ both_is) in
+        let same : verdict ≡ verdict_of (holdings_of w m c) (place_in m t) (Stores (size_of (posted b t u)) true) =
+        by ∙ ap (λ h. verdict_of h place (Stores v.triples true)) holds
+        ∙ ap (λ x. verdict_of (holdings_of w m c) x (Stores v.triples true)) at
+        ∙ ap (λ k. verdict_of (holdings_of w m c) (place_in m t) (Stores k true)) size in
+        subst (DecidesPost b t u) (sym same) (store_may w m c t (posted b t u))
 
-  -- the upload's root can be retired beside it,
-  pub draft_retirable : (n : ℕ) → IsReadyAny b (Writing (Post t) n u) → CanRetireRoot q u.root
-  draft_retirable n any = upload_left b t u (has_upload b (Post t) n u any) birth (259 * size_of (upload_graph b u)) b.dict.terms q v _ draft_made
+    -- taken back, the pool is as it was without the upload
+    pub draft_undone : (r : Nodes) → UndoesAll birth q r (tree_at q v.root) → Restores p1 r
+    draft_undone r undoes = undoes p1 (tree_at p1 old.root) drafts.began drafts.step
 
-  -- and once it was taken back
-  pub undone_retirable : (r : Nodes) (n : ℕ) → UndoesAll birth q r (tree_at q v.root) → IsReadyAny b (Writing (Post t) n u) → CanRetireRoot r u.root
-  undone_retirable r n undoes any = post_retirable b r any.number t n u (draft_undone r undoes) any.ready
+    -- The verdict on it, by the counts of the books.
+    module _ (held : Holdings) (place : Place) (holds : held ≡ holdings_of (books_setting b) (dataset_of b) b.versions.commit) (at : place ≡ place_in (dataset_of b) t) where
+      -- no commit number is left: it was taken back, and the upload put together
+      pub draft_last : (r r' : Nodes) (s : ℕ) (x : GraphVersion) (now : Seat) (a : Answer) → LastNumber ≡ verdict_of held place (Stores v.triples true) → UndoesAll birth q r (tree_at q v.root) → birth ≡ b.versions.commit + 1
+          → PutsTogether birth r r' ks x → now ≡ Writing (Post t) n x → a ≡ Refused NoNumber → IsReady b s (Writing (Post t) n u) → Acts b (with_nodes b b.dict r') s (Writing (Post t) n u) now Commit a
+      draft_last r r' s x now a by undoes born puts writes why ready =
+          post_last r (draft_undone r undoes) r' birth s x now a born (draft_decided held place LastNumber holds at by) puts writes why ready
+
+      -- beyond the limits: it was taken back
+      pub draft_full : (r : Nodes) (s : ℕ) (now : Seat) → now ≡ Idle → Full ≡ verdict_of held place (Stores v.triples true) → UndoesAll birth q r (tree_at q v.root) → IsReady b s (Writing (Post t) n u)
+          → Acts b (with_nodes b b.dict r) s (Writing (Post t) n u) now Commit (Status 507 None)
+      draft_full r s now idle by undoes ready =
+          subst (λ x. Acts b (with_nodes b b.dict r) s (Writing (Post t) n u) x Commit (Status 507 None)) (sym idle)
+          (post_full r (draft_undone r undoes) s (draft_decided held place Full holds at by) ready)
+
+      -- kept, it is the target's graph
+      pub draft_stored : (r : Nodes) (w : Pins) (c : Catalogued) (s status triples names : ℕ) (now : Seat) → now ≡ Idle → Granted status triples names ≡ verdict_of held place (Stores v.triples true) → birth ≡ b.versions.commit + 1
+          → KeepsDraftAll b.versions w q r → w ≡ at_commit b.versions (b.versions.commit + 1) → r.nodes ≡ q.nodes → aside_count r ≡ 0 → c ≡ after_set b.catalogue t v → IsReady b s (Writing (Post t) n u)
+          → Acts b (with_draft b b.dict r w c) s (Writing (Post t) n u) now Commit (Status status None)
+      draft_stored r w c s status triples names now idle by born keeps commit nodes none written ready =
+          let decided = draft_decided held place (Granted status triples names) holds at by in
+          let grows = still_grows b.dict b.dict refl in
+          let most = 259 * size_of graph in
+          let new = with_draft b b.dict r w c in
+          let number = decided.2 in
+          let stored = is_stored (books_setting b) (dataset_of b) b.versions.commit (Posts t graph) t (posted b t u) refl refl status triples names decided in
+          let last : w.commit ≡ b.versions.commit + 1 = ap (λ (x : Pins). x.commit) commit in
+          let here : HasLedger mid (leaf ∷ us₀) rs₀ = mid_ledger us₀ rs₀ l₀ in
+          let dataset : dataset_of new ≡ with_graph (dataset_of mid) t both = kept_dataset mid b.dict q r w c t v both birth most born grows draft_made keeps commit nodes none written number mid_graphs.sound (leaf ∷ us₀) rs₀ here in
+          let written_is : with_graph (dataset_of mid) t both ≡ with_graph (dataset_of b) t (posted b t u) = λ i. with_graph (mid_graphs.dataset i) t (both_is i) in
+          let request : b.request ≡ b.request + 0 = sym (add-zero b.request) in
+          let counted : w.commit ≡ b.versions.commit + cond (is_success status) 1 0 = last ∙ sym (ap (λ x. b.versions.commit + cond x 1 0) stored.well) in
+          let acts : Acts b new s (Writing (Post t) n u) Idle Commit (Status status None) = record {
+            fits = (stored.status_is, refl, λ e. number);
+            totals = λ i. record { setting = books_setting b; dataset = (dataset ∙ written_is ∙ sym stored.dataset) i; request = request i; commit = counted i };
+            seat = refl;
+            pins = ap (λ (x : Pins). x.seats) commit ∙ sym (set-get_or b.versions.seats s None);
+            sound = kept_sound mid b.dict q r w c t v both birth most born grows draft_made keeps commit nodes none written number mid_graphs.sound (leaf ∷ us₀) rs₀ here;
+            known = tt;
+            grows = grows;
+            ledgers = λ us rs l.
+                let e : KeptEnds mid new most (leaf ∷ us) rs = kept_ends mid b.dict q r w c t v both birth most born grows draft_made keeps commit nodes none written number mid_graphs.sound (leaf ∷ us₀) rs₀ here (leaf ∷ us) rs (mid_ledger us rs l.ledger) in
+                let copied = taken_over b.versions.commit (size_of graph) most (waste_at b.pool) (waste_at r) (omega arith) (subst (λ ls. Joins (EndsAt (b.versions.commit + 1)) most ls (waste_at r)) mid_waste e.waste) in
+                record {
+                  ledger = ledger_stays new s Idle us rs l.read l.there e.ledger;
+                  waste = subst (λ x. WastesUpload (totals_of b) (Post t) graph x (waste_at b.pool) (waste_at r)) (sym stored.well) copied;
+                };
+            uses = tt;
+          } in
+          subst (λ x. Acts b (with_draft b b.dict r w c) s (Writing (Post t) n u) x Commit (Status status None)) (sym idle) acts

@@ -1,5 +1,5 @@
 -- What a write makes of a seat and of its books.
-use Rattle.std.proofs.Common.{◌≡◌, ◌+◌, ◌<◌, ◌≤◌, ℕ, Bool, true, false, cond, List, [], ◌∷◌, length, get_or, set, Option, None, is_some, count_by, refl, sym, ap, subst, ◌∙◌, arith, add-zero, true≢false}
+use Rattle.std.proofs.Common.{◌≡◌, ◌+◌, ◌*◌, ◌<◌, ◌≤◌, ℕ, Bool, true, false, cond, List, [], ◌∷◌, length, get_or, set, Option, None, is_some, count_by, refl, sym, ap, subst, ◌∙◌, arith, add-zero, true≢false}
 use Rattle.std.proofs.lemmas.List.{set-get_or}
 use Rattle.std.proofs.lemmas.List.Elements.{All-head}
 use Rattle.gs_model.specs.Graphs.{Graph, size_of}
@@ -17,7 +17,7 @@ use Rattle.gs_event.specs.Phases.{write_of}
 use Rattle.gs_event.specs.Phases as phase
 use Rattle.gs_event.specs.Views.{Totals, FitsWrite}
 use Rattle.gs_event.specs.Waste.{Lifetime}
-use Rattle.gs_event.specs.Steps.{Joins, JoinsCopied, IsUnreached, EndsAt, WastesUpload, WastesDelete}
+use Rattle.gs_event.specs.Steps.{Joins, JoinsCopied, IsUnreached, EndsAt, most_for_new, WastesUpload, WastesDelete}
 use Rattle.gs_pool.specs.declared.nodes.Node.{Node}
 use Rattle.gs_pool.specs.Pool.{Nodes, in_use, aside_count}
 use Rattle.gs_tree.specs.Tree.{Tree, leaf, keys, tree_at}
@@ -204,12 +204,12 @@ commit_stored old new s k r v t status name puts number stored reported wastes r
       uses = commit_uses k r g status name (in_use old.pool) (in_use new.pool) (same_use old.pool new.pool kept.nodes);
     }
 
--- where nothing was replaced, an upload that is taken over leaves no waste
-pub taken_over : (last size most : ℕ) (a b : List Lifetime) → most ≡ 0 → Joins (EndsAt (last + 1)) most a b → JoinsCopied last size a b
-taken_over last size most a b none j = record {
+-- where an upload leaves no waste, that is what was replaced
+pub taken_over : (last size most : ℕ) (a b : List Lifetime) → most ≤ most_for_new * size → Joins (EndsAt (last + 1)) most a b → JoinsCopied last size a b
+taken_over last size most a b few j = record {
   between = a;
   staged = record { more = []; few = omega arith; same = λ f. omega arith; ended = λ k d lt. absurd (omega arith) };
-  replaced = record { more = j.more; few = omega (arith, j.few, none); same = j.same; ended = j.ended };
+  replaced = record { more = j.more; few = omega (arith, j.few, few); same = j.same; ended = j.ended };
 }
 
 -- a Delete with effect

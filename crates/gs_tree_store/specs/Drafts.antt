@@ -2,10 +2,13 @@
 use Rattle.std.specs.Prelude.{◌≡◌, ◌≤◌, ℕ, List, length}
 use Rattle.gs_model.specs.Terms.{Term}
 use Rattle.gs_model.specs.Graphs.{Graph}
+use Rattle.gs_pool.specs.declared.nodes.Key.{Key}
 use Rattle.gs_pool.specs.Pool.{Nodes, aside_count}
+use Rattle.gs_tree.specs.Keys.{AllKeys, IsRising}
 use Rattle.gs_tree.specs.Tree.{occurrences, tree_at}
 use Rattle.gs_tree.specs.Reading.{keys_at}
 use Rattle.gs_tree.specs.Steps.{Step}
+use Rattle.gs_keys.specs.Texts.{key_cmp, IsGiven}
 use Rattle.gs_keys.specs.Roots.{graph_at}
 use Rattle.gs_changes.specs.Changes.{IsEarlier, CanBegin}
 use Rattle.gs_changes.specs.Endings.{IsDraftAt}
@@ -20,6 +23,11 @@ pub record CanDraft (birth : ℕ) (terms : List Term) (p : Nodes) (v : GraphVers
   pub earlier : IsEarlier birth p (tree_at p v.root)
   pub none_aside : aside_count p ≡ 0
   pub counted : v.triples ≡ length (keys_at p v.root)
+
+-- keys in the order of their texts, whose numbers were all given
+pub record IsRun (terms : List Term) (ks : List Key) : Type 0 where
+  pub rising : IsRising (key_cmp terms) ks
+  pub given : AllKeys (IsGiven terms) ks
 
 -- Copies of the tree of a version are its draft, whose graph is g. What they replaced is set aside: so many nodes at most.
 pub record Drafts (birth : ℕ) (grown : List Term) (p q : Nodes) (old v : GraphVersion) (g : Graph) (most : ℕ) : Type 0 where

@@ -4,6 +4,7 @@ pub mod Books
 pub mod Writes
 pub mod Verdicts
 pub mod Drafts
+pub mod Uploads
 pub mod Actions
 pub mod Uses
 pub mod Kept

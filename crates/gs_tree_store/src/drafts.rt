@@ -1,46 +1,45 @@
 //! Drafts of a graph's tree, by copies of its nodes.
-ghost use Rattle.std.specs.Prelude.{◌≡◌, ◌+◌, ◌*◌, ◌^◌, ◌<◌, ◌≤◌, IfOk, OnErr};
-ghost use Rattle.gs_model.specs.Graphs.{size_of, triples_of, with_triples};
+ghost use Rattle.std.specs.Prelude.{◌≡◌, ◌+◌, ◌*◌, ◌^◌, ◌<◌, ◌≤◌, length, map, IfOk, OnErr};
+ghost use Rattle.gs_model.specs.Graphs.{with_triples};
 ghost use Rattle.gs_event.specs.Updates.{updated, inserted_by, removed_by};
-ghost use Rattle.gs_tree.specs.Tree.{tree_at};
-ghost use Rattle.gs_tree.specs.Sets.{IsElsewhere};
-ghost use Rattle.gs_keys.specs.Roots.{graph_at, IsGraphAt};
+ghost use Rattle.gs_tree.specs.Steps.{SameTotal};
+ghost use Rattle.gs_keys.specs.Texts.{triple_at};
+ghost use Rattle.gs_keys.specs.Roots.{graph_at};
 ghost use Rattle.gs_changes.specs.Endings.{Restores};
 ghost use Rattle.gs_staging.specs.Keys.{Grows};
-ghost use Rattle.gs_tree_store.specs.Drafts.{CanDraft, Drafts};
+ghost use Rattle.gs_tree_store.specs.Drafts.{CanDraft, IsRun, Drafts};
 
 use gs_catalogue::GraphVersion;
-use gs_changes::add_tree;
+use gs_changes::add_keys;
 use gs_dict::Dict;
 use gs_event::Op;
 use gs_keys::ByText;
 use gs_patch::patch;
-use gs_pool::Pool;
+use gs_pool::{Key, Pool};
 use std::alloc::{AllocError, Global};
 
-/// A draft of a graph with the triples of an upload too. Where memory is refused, the pool is as it was.
+/// A draft of a graph with the triples of these keys too. Where memory is refused, the pool is as it was.
 pub fn united(
-    alloc: Global,
     dict: &Dict,
     pool: &mut Pool,
     old: GraphVersion,
-    upload: Option<u32>,
+    keys: &[Key],
     birth: u64,
 ) -> Result<GraphVersion, AllocError>
     requires can { CanDraft birth dict.now.terms pool.old old }
-    requires graph { IsGraphAt dict.now.terms pool.old upload }
-    requires apart { IsElsewhere birth pool.old (tree_at pool.old old.root) (tree_at pool.old upload) }
+    requires run { IsRun dict.now.terms keys.now }
     ensures ok { IfOk result (λ v. Drafts birth dict.now.terms pool.old pool.new old v
-        (with_triples (graph_at dict.now.terms pool.old old.root) (triples_of (graph_at dict.now.terms pool.old upload)))
-        (259 * size_of (graph_at dict.now.terms pool.old upload))) }
+        (with_triples (graph_at dict.now.terms pool.old old.root) (map (triple_at dict.now.terms) keys.now))
+        (259 * length keys.now)) }
     ensures kept { OnErr result (Restores pool.old pool.new) }
+    ensures total { SameTotal pool.old pool.new }
 {
     // A number that is free has no mark.
     let _used = pool.nodes_in_use();
     // No term has two numbers.
     let _terms = dict.len();
     let order = ByText::new(dict);
-    let merged = add_tree(alloc, pool, &order, old.root, upload, birth)?;
+    let merged = add_keys(pool, &order, old.root, keys, birth)?;
     // A tree has no more keys than nodes are in use, which are fewer than 2^32.
     let _most = pool.nodes_in_use();
     Ok(GraphVersion {

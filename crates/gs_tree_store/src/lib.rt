@@ -11,6 +11,7 @@ mod posts;
 mod reads;
 mod storage;
 mod stores;
+mod uploads;
 mod verdicts;
 mod writes;
 

@@ -98,7 +98,7 @@ fn commit_at(
             Answer::Refused(Refusal::LastNumber)
         }
         Verdict::Granted(status, _, _) => {
-            keep_draft(&mut books.pool, &mut books.versions, None);
+            keep_draft(&mut books.pool, &mut books.versions);
             books.catalogue.set_reserved(target, draft);
             Answer::Status(status, None)
         }

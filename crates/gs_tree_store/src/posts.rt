@@ -1,16 +1,18 @@
-//! The commit of a POST: the upload's keys go into the target's tree, by copies.
+//! The commit of a POST: the upload's keys go out of its own tree and into the target's, by copies.
 ghost use Rattle.std.specs.Prelude.{◌≡◌, ◌<◌};
 ghost use Rattle.gs_event.specs.declared.events.Action.TheVariants.{Commit};
 ghost use Rattle.gs_event.specs.declared.events.UploadKind.TheVariants.{Post};
+ghost use Rattle.gs_event.specs.declared.answers.Answer.TheVariants.{Refused};
 ghost use Rattle.gs_tree_store.specs.declared.books.Seat.TheVariants.{Writing};
 ghost use Rattle.gs_tree_store.specs.Actions.{ActsAny, IsReadyAny, HoldsRoom};
 
 use crate::books::{self, Books, Seat};
 use crate::drafts::united;
+use crate::uploads::{put_together, take_apart};
 use crate::verdicts::{holdings, place};
 use gs_catalogue::GraphVersion;
 use gs_changes::take_back;
-use gs_commit::{drop_tree, keep_draft};
+use gs_commit::keep_draft;
 use gs_event::{Answer, Change, UploadKind, Verdict, verdict_on};
 use gs_model::Refusal;
 use gs_term::Target;
@@ -35,27 +37,44 @@ pub fn commit_post(
     let place = place(books, &target);
     let old = books::version_of(books, &target);
     let birth = books.versions.commit() + 1;
-    let draft = united(alloc, &books.dict, &mut books.pool, old, upload.root, birth);
-    let Ok(draft) = draft else {
-        *seat = Seat::Writing(UploadKind::Post(target), request, upload);
-        return Answer::Refused(Refusal::NoMemory);
+    let Ok(keys) = take_apart(alloc, &books.dict, &mut books.pool, upload) else {
+        return still_open(seat, target, request, upload, Refusal::NoMemory);
+    };
+    let run = keys.as_slice();
+    let Ok(draft) = united(&books.dict, &mut books.pool, old, run, birth) else {
+        let upload = put_together(&mut books.pool, run, birth);
+        return still_open(seat, target, request, upload, Refusal::NoMemory);
     };
     match verdict_on(&held, &place, Change::Stores(draft.triples, true)) {
         Verdict::Missing => unreachable!(),
         Verdict::Full => {
             take_back(&mut books.pool, draft.root, birth);
-            drop_tree(&mut books.pool, upload.root);
             Answer::Status(507, None)
         }
         Verdict::LastNumber => {
             take_back(&mut books.pool, draft.root, birth);
-            *seat = Seat::Writing(UploadKind::Post(target), request, upload);
-            Answer::Refused(Refusal::LastNumber)
+            let upload = put_together(&mut books.pool, run, birth);
+            still_open(seat, target, request, upload, Refusal::LastNumber)
         }
         Verdict::Granted(status, _, _) => {
-            keep_draft(&mut books.pool, &mut books.versions, upload.root);
+            keep_draft(&mut books.pool, &mut books.versions);
             books.catalogue.set_reserved(target, draft);
             Answer::Status(status, None)
         }
     }
+}
+
+// A commit that is refused leaves the upload open.
+fn still_open(
+    seat: &mut Seat,
+    target: Target,
+    request: u64,
+    upload: GraphVersion,
+    why: Refusal,
+) -> Answer
+    ensures seat { seat.new ≡ Writing (Post target) request upload }
+    ensures answer { result ≡ Refused why }
+{
+    *seat = Seat::Writing(UploadKind::Post(target), request, upload);
+    Answer::Refused(why)
 }

@@ -155,7 +155,10 @@ impl Books {
         let both = old.with(triples);
         let status = self.status(place, both);
         if status == 507 {
-            return Ok(Turn::to(Phase::Idle, Said::Status(507)));
+            return Ok(Turn {
+                phase: Phase::Idle,
+                outcome: Outcome::given_back(Said::Status(507), triples.count()),
+            });
         }
         self.set_graph(place, Some(both))?;
         Ok(Turn {

@@ -20,11 +20,12 @@ pub enum Said {
     Refused(Refusal),
 }
 
-/// How many nodes more are in use.
+/// How many nodes more, or fewer, are in use.
 #[derive(Clone, Copy, Drop)]
 pub enum Growth {
     Exactly(u64),
     AtMost(u64),
+    Fewer(u64),
 }
 
 /// What is said of an event.
@@ -46,6 +47,14 @@ impl Outcome {
     /// The same of a refusal.
     pub fn refused(refusal: Refusal) -> Outcome {
         Outcome::of(Said::Refused(refusal))
+    }
+
+    /// An answer after which so many nodes are given back.
+    pub fn given_back(said: Said, nodes: u64) -> Outcome {
+        Outcome {
+            said,
+            growth: Growth::Fewer(nodes),
+        }
     }
 
     /// An answer after a change of so many triples.

@@ -1,4 +1,4 @@
-use Rattle.std.proofs.Common.{◌≤◌, ◌<◌, ◌+◌, ◌*◌, ◌^◌, length, ap, arith}
+use Rattle.std.proofs.Common.{◌≡◌, ◌≤◌, ◌<◌, ◌+◌, ◌*◌, ◌^◌, length, count_by, is_some, ap, arith}
 use Rattle.gs_pool.specs.Pool.{in_use, room}
 use Rattle.gs_tree.specs.Tree.{tree_at, height_at}
 use Rattle.gs_tree.proofs.RoomLemmas.{few_used, copied_within, few_rooms, union_made}
@@ -32,3 +32,9 @@ returns-clause-ok g c =
     let enough = union_made c.args.since c.args.pool.now c.args.root t s.root_is s.stands s.apart few c.saturating_add-most.result wanted c.copy_bound-copies.result (room c.reserve.new.self) (omega (arith, c.saturating_mul.ensures, c.saturating_add-most.ensures)) c.copy_bound-copies.ensures n (ap (λ k. n * (4 * k) + 2) c.height_of.ensures) asked in
     let can = union_can (g.O.KeyOrder.compare c.args.order.now) c.args.since c.args.pool.now c.reserve.new.self c.args.root t c.args.run.now s c.requires.rising r.nodes r.marks short (omega arith) enough in
     united (g.O.KeyOrder.compare c.args.order.now) (g.met.O.KeyOrder.total c.args.order.now) c.args.since c.args.birth c.args.pool.now c.reserve.new.self c.union_at.new.pool c.args.root c.union_at.result.root c.union_at.result.added t (tree_at c.reserve.new.self c.args.root) c.args.run.now (tree_at c.union_at.new.pool c.union_at.result.root) s r.nodes r.marks short can.0 c.union_at.ensures
+
+pub returns-clause-total : goal.returns-clause-total
+returns-clause-total g c =
+    let r = c.in_ok-reserve.ensures in
+    let used : in_use c.reserve.new.self ≡ in_use c.args.pool.now = ap (λ xs. count_by is_some xs) r.nodes in
+    omega (arith, used, r.room, c.union_at.ensures.total)

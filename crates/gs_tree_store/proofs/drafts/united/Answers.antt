@@ -11,7 +11,7 @@ pub overflow_add-result : goal.overflow_add-result
 overflow_add-result c =
     let m = c.in_ok-merged.merged in
     let p = c.args.pool.now in
-    let q = c.add_tree.new.pool in
+    let q = c.add_keys.new.pool in
     let most = c.nodes_in_use-most.ensures in
     let small : length q.nodes < 2 ^ 32 = omega (arith, most.fits, most.small) in
     let changes = subst (λ (d : Numbered). ChangesAt (key_cmp d.terms) c.args.birth p q c.args.old.root m.root m.added 0) c.new-order.ensures c.in_ok-merged.ensures.ok in
@@ -22,7 +22,7 @@ pub returns-clause-ok : goal.returns-clause-ok
 returns-clause-ok c =
     let m = c.in_ok-merged.merged in
     let p = c.args.pool.now in
-    let q = c.add_tree.new.pool in
+    let q = c.add_keys.new.pool in
     let changes = subst (λ (d : Numbered). ChangesAt (key_cmp d.terms) c.args.birth p q c.args.old.root m.root m.added 0) c.new-order.ensures c.in_ok-merged.ensures.ok in
-    let keys_are = subst (λ (d : Numbered). keys_at q m.root ≡ merge_keys (key_cmp d.terms) (keys_at p c.args.upload) (keys_at p c.args.old.root)) c.new-order.ensures c.in_ok-merged.ensures.keys in
-    united_made c.args.birth c.args.dict.now p q c.args.old c.args.upload m.root m.added c.len-terms.ensures.distinct c.requires.can c.nodes_in_use-used.ensures.unmarked c.requires.graph changes keys_are
+    let keys_are = subst (λ (d : Numbered). keys_at q m.root ≡ merge_keys (key_cmp d.terms) c.args.keys.now (keys_at p c.args.old.root)) c.new-order.ensures c.in_ok-merged.ensures.keys in
+    united_made c.args.birth c.args.dict.now p q c.args.old c.args.keys.now m.root m.added c.len-terms.ensures.distinct c.requires.can c.nodes_in_use-used.ensures.unmarked c.requires.run changes keys_are

@@ -1,4 +1,4 @@
-use Rattle.std.proofs.Common.{None, Some, string_bytes, refl, sym, ap, subst, ◌∙◌}
+use Rattle.std.proofs.Common.{arith, None, Some, string_bytes, refl, sym, ap, subst, ◌∙◌}
 use Rattle.gs_model.specs.Graphs.{size_of}
 use Rattle.gs_term.specs.declared.names.Target.TheVariants.{Named}
 use Rattle.gs_event.specs.declared.events.UploadKind.TheVariants.{New}
@@ -57,7 +57,7 @@ returns-in-Granted-clause-acts c = λ s ready.
     let name = ap Some c.in-Ok.ensures.1 ∙ name_reported w m r g decided.0 in
     subst (λ x. Acts b new s (Writing New r c.args.upload) x Commit (Status status (Some c.in-Ok.location))) (sym c.requires.idle)
     (commit_stored b new s New r c.args.upload (Named own) status (Some c.in-Ok.location) puts decided.2 stored name
-    (λ x y j. taken_over b.versions.commit (size_of g) (size_at m (Named own)) x y (new_is_empty (string_bytes b.base) m r) j) ready)
+    (λ x y j. taken_over b.versions.commit (size_of g) (size_at m (Named own)) x y (omega (arith, new_is_empty (string_bytes b.base) m r)) j) ready)
 
 pub returns-in-Granted-clause-room : goal.returns-in-Granted-clause-room
 returns-in-Granted-clause-room c =
