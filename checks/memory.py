@@ -119,11 +119,12 @@ class Nodes:
         self.births.pop(seat, None)
         self.ended += [(0, 0)] * count
 
-    def copy(self, seat, triples):
-        """The trees of a POST, a new graph or a patch share nodes: so many triples changed."""
+    def copy(self, seat, triples, staged=0):
+        """The trees of a POST, a new graph or a patch share nodes: so many triples changed, and the nodes of so many that
+        were staged may be given back."""
         self.births.pop(seat, None)
         self.is_exact = False
-        self.grow(0, MOST_FOR_TRIPLE * triples)
+        self.grow(-staged, MOST_FOR_TRIPLE * triples)
 
     def show(self, line, least, triples):
         """The line of the counts, where there are at least so many nodes, and just so many triples."""
@@ -240,7 +241,7 @@ class Store:
         if kind == "put":
             self.nodes.put(seat, len(self.graphs.get(target, ())), self.births.get(target, 0), self.commit)
         else:
-            self.nodes.copy(seat, len(upload))
+            self.nodes.copy(seat, len(upload), len(upload) if kind == "post" else 0)
         self.births[target] = self.commit
         self.graphs[target] = upload | self.graphs.get(target, set()) if kind == "post" else upload
         return f"{status} {target[1:-1]}" if kind == "new" else status

@@ -1,19 +1,18 @@
 -- The roots that a ledger knows: each means a tree that has it at its top, and can be retired.
-use Rattle.std.proofs.Common.{◌≡◌, ℕ, zero, suc, ◌+◌, ◌<◌, ◌≤◌, List, [], ◌∷◌, get_or, Option, Some, None, is_some, IsSome, true≢false, refl, sym, ap, subst, ◌∙◌, inl, inr, arith}
+use Rattle.std.proofs.Common.{◌≡◌, ℕ, zero, suc, ◌+◌, ◌<◌, List, [], ◌∷◌, get_or, Option, Some, None, is_some, IsSome, true≢false, refl, sym, ap, subst, ◌∙◌, inl, inr, arith}
 use Rattle.std.proofs.lemmas.List.Sums.{sum_by-cons}
 use Rattle.std.specs.List.{Contains, sum_by}
 use Rattle.gs_pool.specs.declared.nodes.Node.{Node}
 use Rattle.gs_pool.specs.Pool.{Nodes, plain, node_at, mark_at}
 use Rattle.gs_tree.specs.Tree.{Tree, leaf, fork, root_of, occurrences, top_node, Stands, node_height, grow, grow_node, tree_at}
-use Rattle.gs_tree.specs.Steps.{one, plain_count, plain_mark, Step}
-use Rattle.gs_tree.proofs.TreeLemmas.{Stands-same, tree_at-is, one_cases, one_same, plain_count_mark, plain_found}
-use Rattle.gs_tree.proofs.Counting.{occurrences_used}
+use Rattle.gs_tree.specs.Steps.{one, plain_mark}
+use Rattle.gs_tree.proofs.TreeLemmas.{tree_at-is, one_cases, one_same}
 use Rattle.gs_versions.specs.Pins.{Pins}
 use Rattle.gs_ledger.specs.Entries.{Dead, trees_have, entry_has, died_whole}
 use Rattle.gs_ledger.specs.Ledger.{IsTreeOf, IsDead, IsLedger}
 use Rattle.gs_ledger.specs.Changes.{Buries, RetiresRoot}
-use Rattle.gs_ledger.proofs.Sums.{zero_or, all_at, sum_at, sum_contained, trees_cons}
-use Rattle.gs_ledger.proofs.Frames.{used_some, used_most}
+use Rattle.gs_ledger.proofs.Sums.{zero_or, all_at, sum_at, sum_contained}
+use Rattle.gs_ledger.proofs.Frames.{used_some}
 use Rattle.gs_ledger.proofs.WriteSteps.{tree_plain}
 use Rattle.gs_ledger.proofs.Retiring.{root_buries}
 use Rattle.gs_reclaim.specs.Reclaims.{CanRetireRoot}
@@ -96,23 +95,3 @@ ledger_retirable p v gs us rs ds l = record {
   current = λ k d h. plain_retirable p (get_or gs k d) (l.current k d h).stands (λ x g. tree_plain p v gs us rs ds l x (omega (arith, g, sum_at (λ t. occurrences t x) gs k d h)));
   staged = λ k d h. plain_retirable p (get_or us k d) (l.staged k d h).stands (λ x g. tree_plain p v gs us rs ds l x (omega (arith, g, sum_at (λ t. occurrences t x) us k d h)));
 }
-
--- A step of one graph's tree leaves the nodes of other trees plain.
-module _ (p q : Nodes) (v : Pins) (since birth : ℕ) (old new : Tree) (gs us rs : List Tree) (ds : List Dead) (l : IsLedger p v (old ∷ gs) us rs ds) (s : Step since birth p q (occurrences old) (occurrences new)) where
-  beside : (t : Tree) → Stands p t → ((x : ℕ) → occurrences t x ≤ trees_have gs x + trees_have us x) → IsRetirable q t
-  beside t stands within = plain_retirable q t (Stands-same p q t (λ x n g e. s.kept x n e (inl (apart x g))) stands) still_plain
-    where
-      apart : (x : ℕ) → 0 < occurrences t x → occurrences old x ≡ 0
-      apart x g = omega (arith, g, within x, l.once x, trees_cons old gs x, used_most p x)
-
-      still_plain : (x : ℕ) → 0 < occurrences t x → mark_at q x ≡ plain
-      still_plain x g =
-          let was : mark_at p x ≡ plain = tree_plain p v (old ∷ gs) us rs ds l x (omega (arith, g, within x, trees_cons old gs x)) in
-          let one_was : plain_count p x ≡ 1 = plain_count_mark p x (occurrences_used p t stands x g) ∙ ap plain_mark was in
-          (plain_found q x (omega (arith, s.balance x, one_was, apart x g))).1
-
-  pub step_retirable : AreRetirable q gs us
-  step_retirable = record {
-    current = λ k d h. beside (get_or gs k d) (l.current (suc k) d (omega (arith, h))).stands (λ x. omega (arith, sum_at (λ t. occurrences t x) gs k d h));
-    staged = λ k d h. beside (get_or us k d) (l.staged k d h).stands (λ x. omega (arith, sum_at (λ t. occurrences t x) us k d h));
-  }

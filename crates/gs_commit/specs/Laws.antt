@@ -34,7 +34,7 @@ pub record GrowsUpload (v : Pins) (p q : Nodes) (new : Tree) (graphs uploads rea
   pub dead : dead_at q ≡ dead_at p
   pub waste : waste_at q ≡ waste_at p
 
--- a Stage: an upload goes from `old` to `new` by a step in place
+-- a Stage, and a POST that frees its upload or makes it again: an upload goes from `old` to `new` by a step in place
 abbrev pub StagingKeeps : Type 0
 StagingKeeps =
     (p q : Nodes) (v : Pins) (birth : ℕ) (old new : Tree) (graphs uploads reads : List Tree)
@@ -58,14 +58,6 @@ abbrev pub LedgerIsRetirable : Type 0
 LedgerIsRetirable =
     (p : Nodes) (v : Pins) (graphs uploads reads : List Tree) (dead : List Dead)
     → IsLedger p v graphs uploads reads dead → AreRetirable p graphs uploads
-
--- and it stays so beside a graph that goes from `old` to `new` by a step
-abbrev pub StepLeavesRetirable : Type 0
-StepLeavesRetirable =
-    (p q : Nodes) (v : Pins) (since birth : ℕ) (old new : Tree) (graphs uploads reads : List Tree) (dead : List Dead)
-    → IsLedger p v (old ∷ graphs) uploads reads dead
-    → Step since birth p q (occurrences old) (occurrences new)
-    → AreRetirable q graphs uploads
 
 -- a pool with no node has a ledger of leaves, where no seat has pinned a version
 abbrev pub EmptyHasLedger : Type 0

@@ -1,6 +1,6 @@
 //! Laws of ledgers between commits, proved: each body is empty, and the contract is the law.
 ghost use Rattle.gs_commit.specs.Laws.{LedgersSayTheDead, RestoredIsSame, StagingKeeps};
-ghost use Rattle.gs_commit.specs.Laws.{LedgerIsRetirable, StepLeavesRetirable};
+ghost use Rattle.gs_commit.specs.Laws.{LedgerIsRetirable};
 ghost use Rattle.gs_commit.specs.Laws.{EmptyHasLedger, EmptyHasNoDead, LeafIsNoUpload};
 
 /// A pool with a ledger over the dead nodes of another has the same dead nodes.
@@ -13,16 +13,14 @@ pub fn restored_pools_keep_ledgers()
     ensures { RestoredIsSame }
 {}
 
-/// An upload grows in place, beside every ledger, and the waste stays.
+/// An upload changes in place, beside every ledger, and the waste stays.
 pub fn staging_keeps_ledgers()
     ensures { StagingKeeps }
 {}
 
-/// The trees of current graphs and of open uploads can be retired, those of a ledger as well as those
-/// beside a graph that was changed by copies.
+/// The trees of current graphs and of open uploads of a ledger can be retired.
 pub fn roots_of_ledgers_can_be_retired()
-    ensures ledger { LedgerIsRetirable }
-    ensures step { StepLeavesRetirable }
+    ensures { LedgerIsRetirable }
 {}
 
 /// A pool without a node has a ledger without a tree, where no version is pinned.

@@ -33,6 +33,10 @@ impl Effect {
             Growth::Fewer(gone) => {
                 moment.same_numbers(Kind::Growth, after.saturating_add(gone), before)
             }
+            Growth::Exchanged(gone, new) => {
+                let given_back = after.saturating_add(gone);
+                moment.no_more(Kind::Growth, given_back, before.saturating_add(new))
+            }
         }
     }
 

@@ -21,7 +21,7 @@ pub struct Judge {
     sure: u64,
 }
 
-/// What is staged, and becomes waste with this answer: a POST that is not stored gives its nodes back.
+/// How many staged nodes become waste with this answer; a POST that is not stored gives its own back.
 fn dropped(staged: u64, outcome: &Outcome) -> u64 {
     match (outcome.said, outcome.growth) {
         (_, Growth::Fewer(_)) => 0,

@@ -57,7 +57,7 @@ stored_not w m t g s fails status =
       | false ↦ λ is. refl
     ] status
 
--- an upload with effect: its nodes become the graph's, or are copied
+-- an upload with effect: its nodes become the graph's, or may join the waste
 uploaded : (v : Totals) (k : UploadKind) (r : ℕ) (g : Graph) (s : ℕ) (done : Bool) (old new : List Lifetime) → is_success s ≡ done → s ≡ status_of v.setting v.dataset (write_of k r g) → WastesUpload v k g done old new
     → triples_in (after v.setting v.dataset (write_of k r g)) + 0 + length new ≤ triples_in v.dataset + size_of g + length old + cond done (most_for_upload k g) 0
 uploaded v (Put t) r g s true old new well status w =

@@ -57,15 +57,15 @@ most_for_new = 259
 abbrev pub most_for_gone : ℕ
 most_for_gone = 261
 
--- an upload of so many triples was copied into a graph: its own nodes join, and nodes that the copies replaced, where
--- the last commit number was this
+-- an upload of so many triples was copied into a graph: of its own nodes so many at most join, and of those that the copies
+-- replaced, where the last commit number was this
 pub record JoinsCopied (last size : ℕ) (old new : List Lifetime) : Type 0 where
   pub between : List Lifetime
   pub staged : Joins IsUnreached size old between
   pub replaced : Joins (EndsAt (last + 1)) (most_for_new * size) between new
 
 -- What a commit of an upload of g makes of the waste, by its kind and whether it took effect. The nodes of a PUT become
--- the graph's, so the nodes that the graph had join; those of an upload without effect join themselves.
+-- the graph's, so the nodes that the graph had join; those of an upload without effect may join themselves.
 abbrev pub WastesUpload : Totals → UploadKind → Graph → Bool → List Lifetime → List Lifetime → Type 0
 WastesUpload v (Put t) g true old new = Joins (EndsAt (v.commit + 1)) (size_at v.dataset t) old new
 WastesUpload v (Post t) g true old new = JoinsCopied v.commit (size_of g) old new

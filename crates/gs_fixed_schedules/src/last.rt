@@ -9,6 +9,7 @@ use std::alloc::{AllocError, Global};
 #[derive(Clone, Copy, Drop)]
 enum Deed {
     Put(Place),
+    Post(Place),
     /// One triple is staged.
     Stage(usize),
     Commit,
@@ -42,6 +43,28 @@ const LAST_NODE: [Row; 15] = [
     (Deed::Commit, "status 201", 1, 1),
 ];
 
+/// Four nodes: a POST takes them all for its upload, and its graph takes them after that. A POST onto three whose
+/// copies do not fit is refused, and leaves its upload with a node in use.
+const LAST_NODE_POSTED: [Row; 17] = [
+    (Deed::Post(Place::A), "opened 1", 0, 0),
+    (Deed::Stage(0), "staged", 1, 0),
+    (Deed::Stage(1), "staged", 2, 0),
+    (Deed::Stage(2), "staged", 3, 0),
+    (Deed::Stage(3), "staged", 4, 0),
+    (Deed::Commit, "status 201", 4, 4),
+    (Deed::Delete(Place::A), "status 204", 4, 0),
+    (Deed::Free, "reclaimed 4 done", 0, 0),
+    (Deed::Post(Place::A), "opened 2", 0, 0),
+    (Deed::Stage(0), "staged", 1, 0),
+    (Deed::Stage(1), "staged", 2, 0),
+    (Deed::Stage(2), "staged", 3, 0),
+    (Deed::Commit, "status 201", 3, 3),
+    (Deed::Post(Place::A), "opened 3", 3, 3),
+    (Deed::Stage(3), "staged", 4, 3),
+    (Deed::Commit, "refused NoMemory", 4, 3),
+    (Deed::Cancel, "cancelled", 4, 3),
+];
+
 /// Three terms: a triple with a fourth is refused, and one of those three is taken. The first two triples
 /// have one subject and one predicate; the object of the second is that subject. The fifth has another
 /// subject.
@@ -69,6 +92,7 @@ fn list_of(alloc: Global, number: usize) -> Result<Vec<usize>, AllocError> {
 fn ask_of(alloc: Global, deed: Deed) -> Result<Option<Ask>, AllocError> {
     match deed {
         Deed::Put(place) => Ok(Some(Ask::Open(Kind::Put(place)))),
+        Deed::Post(place) => Ok(Some(Ask::Open(Kind::Post(place)))),
         Deed::Stage(number) => Ok(Some(Ask::Stage(list_of(alloc, number)?))),
         Deed::Commit => Ok(Some(Ask::Commit)),
         Deed::Cancel => Ok(Some(Ask::Cancel)),
@@ -102,6 +126,13 @@ fn push_rows(alloc: Global, lines: &mut Lines, rows: &[Row]) -> Result<(), Refus
 pub fn last_node_lines(alloc: Global) -> Result<Lines, Refusal> {
     let mut lines = Lines::new(alloc);
     push_rows(alloc, &mut lines, &LAST_NODE)?;
+    Ok(lines)
+}
+
+/// The schedule of such a store that is written by POST.
+pub fn last_node_posts(alloc: Global) -> Result<Lines, Refusal> {
+    let mut lines = Lines::new(alloc);
+    push_rows(alloc, &mut lines, &LAST_NODE_POSTED)?;
     Ok(lines)
 }
 

@@ -7,5 +7,5 @@ mod last;
 mod lines;
 
 pub use large::large_lines;
-pub use last::{last_node_lines, last_term_lines};
+pub use last::{last_node_lines, last_node_posts, last_term_lines};
 pub use lines::Lines;

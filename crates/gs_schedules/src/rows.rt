@@ -3,7 +3,7 @@
 /// A worked schedule: its name, its lines and what they print.
 pub type Row = (&'static str, &'static str, &'static str);
 
-pub const ROWS: [Row; 22] = [
+pub const ROWS: [Row; 23] = [
     ("an empty input", "", ""),
     (
         "a missing graph and the default graph",
@@ -76,6 +76,11 @@ pub const ROWS: [Row; 22] = [
         "opened 1\nrefused LastNumber\ncancelled\n200\nend\n404\n",
     ),
     (
+        "a post that has no commit number leaves its upload open",
+        "store 4 999999999999999999 0\n0 open post default\n0 stage <http://e/s> <http://e/p> \"1\" .\n0 commit\ncounts\n0 stage <http://e/s> <http://e/p> \"1\" .\ncounts\n0 cancel\nreclaim 9\ncounts\n",
+        "opened 1\nstaged\nrefused LastNumber\nnodes 1 triples 0\nstaged\nnodes 1 triples 0\ncancelled\nreclaimed 1 done\nnodes 0 triples 0\n",
+    ),
+    (
         "no upload is opened after the last request",
         "store 4 0 999999999999999999\n0 open put <http://e/g>\n0 delete <http://e/g>\n",
         "refused LastNumber\n404\n",
@@ -83,7 +88,7 @@ pub const ROWS: [Row; 22] = [
     (
         "a post adds, also to a graph that it makes",
         "0 head <http://e/g>\n0 open post <http://e/g>\n0 commit\n0 head <http://e/g>\n0 open post <http://e/g>\n0 stage <http://e/s> <http://e/p> \"2\" .\n0 commit\n0 open post <http://e/g>\n0 stage <http://e/s> <http://e/p> \"1\" .\n0 stage <http://e/s> <http://e/p> \"2\" .\n0 commit\n0 pin <http://e/g>\n0 piece 9\ncounts\n",
-        "404\nopened 1\n201\n200\nopened 2\nstaged\n204\nopened 3\nstaged\nstaged\n204\n200\n<http://e/s> <http://e/p> \"1\" .\n<http://e/s> <http://e/p> \"2\" .\nend\nnodes 6 triples 2\n",
+        "404\nopened 1\n201\n200\nopened 2\nstaged\n204\nopened 3\nstaged\nstaged\n204\n200\n<http://e/s> <http://e/p> \"1\" .\n<http://e/s> <http://e/p> \"2\" .\nend\nnodes 3 triples 2\n",
     ),
     (
         "a deleted default graph is empty and still there",
@@ -106,10 +111,10 @@ pub const ROWS: [Row; 22] = [
         "opened 1\nstaged\n201\n200\nopened 2\nstaged\n204\nopened 3\nstaged\n204\nreclaimed 1 more\n<http://e/s> <http://e/p> \"1\" .\nend\nnodes 2 triples 1\n",
     ),
     // The tree of the four has the second at its top, with the first on one side and the third, above the fourth, on the other. The
-    // fifth goes below the fourth: the three on its way are copied, and so is the upload's one node.
+    // fifth goes below the fourth: the three on its way are copied. The upload's one node was given back before.
     (
-        "what a post copied and replaced is given back",
+        "what a post replaced is given back",
         "0 open put <http://e/g>\n0 stage <http://e/s> <http://e/p> \"1\" .\n0 stage <http://e/s> <http://e/p> \"2\" .\n0 stage <http://e/s> <http://e/p> \"3\" .\n0 stage <http://e/s> <http://e/p> \"4\" .\n0 commit\n0 open post <http://e/g>\n0 stage <http://e/s> <http://e/p> \"5\" .\n0 commit\ncounts\nreclaim 1000\ncounts\n",
-        "opened 1\nstaged\nstaged\nstaged\nstaged\n201\nopened 2\nstaged\n204\nnodes 9 triples 5\nreclaimed 4 done\nnodes 5 triples 5\n",
+        "opened 1\nstaged\nstaged\nstaged\nstaged\n201\nopened 2\nstaged\n204\nnodes 8 triples 5\nreclaimed 3 done\nnodes 5 triples 5\n",
     ),
 ];

@@ -6,7 +6,7 @@ mod stores;
 
 use crate::stores::{Played, SMALL, WHOLE};
 use gs_drawn_schedules::{Play, Stop, Totals};
-use gs_fixed_schedules::{large_lines, last_node_lines, last_term_lines};
+use gs_fixed_schedules::{large_lines, last_node_lines, last_node_posts, last_term_lines};
 use gs_version_models::Lie;
 use std::alloc::Global;
 use std::io::{self, Write};
@@ -81,6 +81,10 @@ fn play_last_node(alloc: Global) -> Result<(), Stop> {
     last_node_lines(alloc)?.play(&mut Played::with_last(alloc, 3, 99)?)
 }
 
+fn play_last_posts(alloc: Global) -> Result<(), Stop> {
+    last_node_posts(alloc)?.play(&mut Played::with_last(alloc, 3, 99)?)
+}
+
 fn play_last_term(alloc: Global) -> Result<(), Stop> {
     last_term_lines(alloc)?.play(&mut Played::with_last(alloc, 99, 2)?)
 }
@@ -101,6 +105,7 @@ fn play_fixed<W: Write>(alloc: Global, out: &mut W) -> io::Result<()> {
     let large = play_large(alloc);
     print_fixed("a POST of 1,000 triples under a read", large, out)?;
     print_fixed("the last node", play_last_node(alloc), out)?;
+    print_fixed("a POST to the last node", play_last_posts(alloc), out)?;
     print_fixed("the last term", play_last_term(alloc), out)
 }
 

@@ -1,4 +1,4 @@
--- What a draft of a target's graph begins with, and what it leaves of an upload.
+-- What a draft of a target's graph begins with.
 use Rattle.std.proofs.Common.{◌≡◌, ℕ, ◌+◌, List, ◌∷◌, Option, Some, None, unwrap_or, refl, sym, subst, arith}
 use Rattle.std.specs.List.{All}
 use Rattle.std.proofs.lemmas.List.Elements.{All-head}

@@ -1,8 +1,6 @@
 -- What the commit of a POST makes of the books and of the seat.
-use Rattle.std.proofs.Common.{◌≡◌, ◌≤◌, ◌+◌, ◌*◌, ℕ, true, cond, List, [], ◌∷◌, map, length, None, refl, sym, ap, subst, ◌∙◌, inl, arith, add-zero, true≢false}
+use Rattle.std.proofs.Common.{◌≡◌, ◌≤◌, ◌+◌, ◌*◌, ℕ, true, cond, List, [], ◌∷◌, map, length, None, refl, sym, ap, subst, ◌∙◌, arith, add-zero, true≢false}
 use Rattle.std.proofs.lemmas.List.{set-get_or}
-use Rattle.std.proofs.lemmas.List.Elements.{All-head}
-use Rattle.gs_model.specs.Terms.{Term}
 use Rattle.gs_model.specs.Graphs.{Graph, graph_of, size_of, triples_of, with_triples}
 use Rattle.gs_model.specs.declared.refusals.Refusal.{Refusal}
 use Rattle.gs_model.specs.declared.refusals.Refusal.TheVariants.{LastNumber as NoNumber, NoMemory}
@@ -27,37 +25,35 @@ use Rattle.gs_pool.specs.declared.nodes.Key.{Key}
 use Rattle.gs_pool.specs.Pool.{Nodes, in_use, aside_count, room}
 use Rattle.gs_tree.specs.Tree.{Tree, leaf, keys, occurrences, BirthAtMost, tree_at}
 use Rattle.gs_tree.specs.Keys.{AllKeys, IsRising}
-use Rattle.gs_tree.specs.Reading.{keys_at, IsReadableAt}
+use Rattle.gs_tree.specs.Reading.{keys_at}
 use Rattle.gs_tree.specs.Steps.{Step, SameTotal}
-use Rattle.gs_tree.proofs.TreeLemmas.{Step-then, plain_count_same}
+use Rattle.gs_tree.proofs.TreeLemmas.{Step-then}
 use Rattle.gs_keys.specs.Texts.{triple_at, key_cmp, IsGiven}
 use Rattle.gs_keys.specs.Roots.{graph_at}
 use Rattle.gs_keys.proofs.KeyLemmas.{triples_of_keys}
 use Rattle.gs_staging.proofs.KeyLemmas.{still_grows}
-use Rattle.gs_changes.specs.Endings.{IsDraftAt, UndoesAll, Restores}
+use Rattle.gs_changes.specs.Endings.{UndoesAll, Restores}
 use Rattle.gs_catalogue.specs.declared.versions.GraphVersion.{GraphVersion}
 use Rattle.gs_catalogue.specs.Catalogues.{Catalogued, after_set}
 use Rattle.gs_versions.specs.Pins.{Pins, at_commit}
 use Rattle.gs_ledger.specs.Marks.{waste_at}
 use Rattle.gs_ledger.specs.Ledger.{IsTreeOf}
-use Rattle.gs_datasets.specs.Standing.{IsVersion}
 use Rattle.gs_commit.specs.Commits.{KeepsDraftAll}
 use Rattle.gs_tree_store.specs.declared.books.Books.{Books}
 use Rattle.gs_tree_store.specs.declared.books.Seat.{Seat}
 use Rattle.gs_tree_store.specs.declared.books.Seat.TheVariants.{Idle, Writing}
 use Rattle.gs_tree_store.specs.Books.{books_setting, dataset_of, totals_of, seat_view, HasLedger, IsReady}
 use Rattle.gs_tree_store.specs.Drafts.{CanDraft, IsRun, Drafts}
-use Rattle.gs_tree_store.specs.Uploads.{TakesApart, PutsTogether}
+use Rattle.gs_tree_store.specs.Uploads.{TakesKeys, MakesAgain}
 use Rattle.gs_tree_store.specs.Verdicts.{HasCounts}
 use Rattle.gs_tree_store.specs.Actions.{Acts, IsReadyAny}
 use Rattle.gs_tree_store.proofs.CommitLemmas.{version_or}
 use Rattle.gs_tree_store.proofs.VerdictLemmas.{size_of_version, is_stored, is_not_stored, would_be_stored}
 use Rattle.gs_tree_store.proofs.WriteLemmas.{upload_graph, taken_over}
-use Rattle.gs_tree_store.proofs.StageLemmas.{upload_staged}
 use Rattle.gs_tree_store.proofs.BeginLemmas.{can_draft}
 use Rattle.gs_tree_store.proofs.SeatLemmas.{SameGraphs, same_totals, ledger_stays}
 use Rattle.gs_tree_store.proofs.UndoneLemmas.{with_nodes, nothing_done}
-use Rattle.gs_tree_store.proofs.UploadLemmas.{moved_graphs, moved_ledger, moved_waste, moved_use}
+use Rattle.gs_tree_store.proofs.UploadLemmas.{restored_step, moved_graphs, moved_ledger, moved_waste, moved_use}
 use Rattle.gs_tree_store.proofs.DraftLemmas.{KeptEnds, with_draft, kept_dataset, kept_sound, kept_ends, united_target}
 
 -- the target's graph with the upload's triples
@@ -68,29 +64,6 @@ posted b t v = united (graph_of_target (dataset_of b) t) (upload_graph b v)
 abbrev pub DecidesPost : Books → Target → GraphVersion → Verdict → Type 0
 DecidesPost b t v verdict = DecidesStore (books_setting b) (dataset_of b) b.versions.commit t (posted b t v) verdict
 
--- the tree of an upload is all its own
-pub upload_draft : (b : Books) (t : Target) (n : ℕ) (u : GraphVersion) → IsReadyAny b (Writing (Post t) n u) → IsDraftAt b.pool u.root
-upload_draft b t n u any =
-    let set = (upload_staged b (Writing (Post t) n u) (Post t) n u refl any).set in
-    let l = any.ready.ledger in
-    let tree = tree_at b.pool u.root in
-    let here : IsTreeOf b.pool (b.versions.commit + 1) tree = All-head (IsTreeOf b.pool (b.versions.commit + 1)) tree l.uploads l.ledger.ledger.staged in
-    record { root_is = set.root_is; stands = set.stands; descends = here.descends; apart = set.apart }
-
--- its keys can be read
-pub upload_readable : (terms : List Term) (p : Nodes) (u : GraphVersion) → IsVersion terms p u → IsDraftAt p u.root → IsReadableAt (key_cmp terms) p u.root
-upload_readable terms p u is draft = record { root_is = draft.root_is; stands = draft.stands; rising = is.keyed.rising }
-
--- what was taken back is a step to no tree from none
-restored_step : (birth : ℕ) (p q : Nodes) → Restores p q → Step 0 birth p q (λ x. 0) (λ x. 0)
-restored_step birth p q restores = record {
-  kept = λ x n e h. restores.nodes x ∙ e;
-  balance = λ x. omega (arith, plain_count_same p q x (restores.nodes x) (restores.marks x));
-  older = λ x n e old. absurd (omega (arith, old));
-  born = λ x n e. inl (sym (restores.nodes x) ∙ e);
-  marks = λ x. inl (restores.marks x);
-}
-
 -- no memory, and nothing was done
 pub post_unread : (b : Books) (q : Nodes) (s : ℕ) (t : Target) (n : ℕ) (u : GraphVersion) (now : Seat) (a : Answer) → q ≡ b.pool → now ≡ Writing (Post t) n u → a ≡ Refused NoMemory → IsReady b s (Writing (Post t) n u)
     → Acts b (with_nodes b b.dict q) s (Writing (Post t) n u) now Commit a
@@ -100,7 +73,7 @@ post_unread b q s t n u now a same writes why ready =
     (subst (λ x. Acts b b s (Writing (Post t) n u) x Commit a) (sym writes) (subst (λ x. Acts b b s (Writing (Post t) n u) (Writing (Post t) n u) Commit x) (sym why) here))
 
 -- The upload's keys are `ks`, and `p1` is the pool without its tree.
-module _ (b : Books) (t : Target) (n : ℕ) (u : GraphVersion) (p1 : Nodes) (ks : List Key) (any : IsReadyAny b (Writing (Post t) n u)) (apart : TakesApart b.pool p1 u.root ks) where
+module _ (b : Books) (t : Target) (n : ℕ) (u : GraphVersion) (p1 : Nodes) (ks : List Key) (any : IsReadyAny b (Writing (Post t) n u)) (apart : TakesKeys b.pool p1 u.root ks) where
   abbrev tree : Tree
   tree = tree_at b.pool u.root
 
@@ -126,16 +99,16 @@ module _ (b : Books) (t : Target) (n : ℕ) (u : GraphVersion) (p1 : Nodes) (ks 
   none_aside = apart.frees.marks.aside ∙ any.ready.sound.none_aside
 
   mid_graphs : SameGraphs b (with_nodes b b.dict p1)
-  mid_graphs = moved_graphs b p1 0 tree leaf any.ready.sound (apart.frees.step 0) (no_tree p1) none_aside us₀ rs₀ l₀
+  mid_graphs = moved_graphs b b.dict p1 0 tree leaf (still_grows b.dict b.dict refl) any.ready.sound (apart.frees.step 0) (no_tree p1) none_aside us₀ rs₀ l₀
 
   mid_ledger : (us rs : List Tree) → HasLedger b (tree_at b.pool u.root ∷ us) rs → HasLedger (with_nodes b b.dict p1) (leaf ∷ us) rs
-  mid_ledger = moved_ledger b p1 0 tree leaf any.ready.sound (apart.frees.step 0) (no_tree p1) none_aside us₀ rs₀ l₀
+  mid_ledger = moved_ledger b b.dict p1 0 tree leaf (still_grows b.dict b.dict refl) any.ready.sound (apart.frees.step 0) (no_tree p1) none_aside us₀ rs₀ l₀
 
   mid_waste : waste_at p1 ≡ waste_at b.pool
-  mid_waste = moved_waste b p1 0 tree leaf any.ready.sound (apart.frees.step 0) (no_tree p1) none_aside us₀ rs₀ l₀
+  mid_waste = moved_waste b b.dict p1 0 tree leaf (still_grows b.dict b.dict refl) any.ready.sound (apart.frees.step 0) (no_tree p1) none_aside us₀ rs₀ l₀
 
   mid_use : in_use p1 + length ks ≡ in_use b.pool
-  mid_use = omega (arith, moved_use b p1 0 tree leaf any.ready.sound (apart.frees.step 0) (no_tree p1) none_aside us₀ rs₀ l₀, ap (λ (xs : List Key). length xs) apart.keys_are)
+  mid_use = omega (arith, moved_use b b.dict p1 0 tree leaf (still_grows b.dict b.dict refl) any.ready.sound (apart.frees.step 0) (no_tree p1) none_aside us₀ rs₀ l₀, ap (λ (xs : List Key). length xs) apart.keys_are)
 
   -- a draft of the target's graph can be made,
   pub mid_can : (old : GraphVersion) (birth : ℕ) → old ≡ version_or b.catalogue.graphs t → birth ≡ b.versions.commit + 1 → CanDraft birth b.dict.terms p1 old
@@ -166,8 +139,9 @@ module _ (b : Books) (t : Target) (n : ℕ) (u : GraphVersion) (p1 : Nodes) (ks 
     post_full : (s : ℕ) → DecidesPost b t u Full → IsReady b s (Writing (Post t) n u) → Acts b (with_nodes b b.dict r) s (Writing (Post t) n u) Idle Commit (Status 507 None)
     post_full s decided ready =
         let not = is_not_stored (books_setting b) (dataset_of b) b.versions.commit (Posts t graph) t (posted b t u) refl refl decided in
-        let graphs = moved_graphs b r 0 tree leaf ready.sound (gone_step 0) (no_tree r) restores.aside us₀ rs₀ l₀ in
-        let waste = moved_waste b r 0 tree leaf ready.sound (gone_step 0) (no_tree r) restores.aside us₀ rs₀ l₀ in
+        let grows = still_grows b.dict b.dict refl in
+        let graphs = moved_graphs b b.dict r 0 tree leaf grows ready.sound (gone_step 0) (no_tree r) restores.aside us₀ rs₀ l₀ in
+        let waste = moved_waste b b.dict r 0 tree leaf grows ready.sound (gone_step 0) (no_tree r) restores.aside us₀ rs₀ l₀ in
         record {
           fits = (not.status_is, refl, λ e. absurd (true≢false (sym e)));
           totals = λ i. record { setting = books_setting b; dataset = (graphs.dataset ∙ sym not.dataset) i; request = sym (add-zero b.request) i; commit = sym (add-zero b.versions.commit) i };
@@ -175,9 +149,9 @@ module _ (b : Books) (t : Target) (n : ℕ) (u : GraphVersion) (p1 : Nodes) (ks 
           pins = sym (set-get_or b.versions.seats s None);
           sound = graphs.sound;
           known = tt;
-          grows = still_grows b.dict b.dict refl;
+          grows = grows;
           ledgers = λ us rs l.
-              let here = moved_ledger b r 0 tree leaf ready.sound (gone_step 0) (no_tree r) restores.aside us₀ rs₀ l₀ us rs l.ledger in
+              let here = moved_ledger b b.dict r 0 tree leaf grows ready.sound (gone_step 0) (no_tree r) restores.aside us₀ rs₀ l₀ us rs l.ledger in
               record {
                 ledger = ledger_stays (with_nodes b b.dict r) s Idle us rs l.read l.there here;
                 waste = subst (Joins IsUnreached (size_of graph) (waste_at b.pool)) (sym waste) (record { more = []; few = omega arith; same = λ f. omega arith; ended = λ k d lt. absurd (omega arith) });
@@ -185,19 +159,20 @@ module _ (b : Books) (t : Target) (n : ℕ) (u : GraphVersion) (p1 : Nodes) (ks 
           uses = tt;
         }
 
-    -- refused: the upload is put together again, from the same keys
-    post_again : (r' : Nodes) (birth s : ℕ) (v : GraphVersion) (why : Refusal) → birth ≡ b.versions.commit + 1 → PutsTogether birth r r' ks v
+    -- refused: the upload is made again, from the same keys
+    post_again : (r' : Nodes) (birth s : ℕ) (v : GraphVersion) (why : Refusal) → birth ≡ b.versions.commit + 1 → MakesAgain birth r r' ks v
         → FitsSeat (totals_of b) (seat_view b (Writing (Post t) n u)) Commit (Refused why) → IsReady b s (Writing (Post t) n u)
         → Acts b (with_nodes b b.dict r') s (Writing (Post t) n u) (Writing (Post t) n v) Commit (Refused why)
     post_again r' birth s v why born puts fits ready =
         let made = puts.built in
+        let grows = still_grows b.dict b.dict refl in
         let new = tree_at r' v.root in
         let step : Step 0 birth b.pool r' (occurrences tree) (occurrences new) = Step-then 0 birth b.pool r r' (occurrences tree) (λ x. 0) (occurrences new) (gone_step birth) (made.step 0 (omega arith)) in
         let stands : IsTreeOf r' (b.versions.commit + 1) new = record { stands = made.stands; descends = made.descends; born = subst (λ k. BirthAtMost k new) born made.born } in
         let none : aside_count r' ≡ 0 = made.replaced ∙ restores.aside in
-        let graphs = moved_graphs b r' birth tree new ready.sound step stands none us₀ rs₀ l₀ in
+        let graphs = moved_graphs b b.dict r' birth tree new grows ready.sound step stands none us₀ rs₀ l₀ in
         let same : keys new ≡ keys_at b.pool u.root = made.keys_are ∙ apart.keys_are in
-        let used = moved_use b r' birth tree new ready.sound step stands none us₀ rs₀ l₀ in
+        let used = moved_use b b.dict r' birth tree new grows ready.sound step stands none us₀ rs₀ l₀ in
         let now = with_nodes b b.dict r' in
         record {
           fits = fits;
@@ -214,23 +189,23 @@ module _ (b : Books) (t : Target) (n : ℕ) (u : GraphVersion) (p1 : Nodes) (ks 
             };
             counted = puts.counted ∙ sym (ap length made.keys_are);
           };
-          grows = still_grows b.dict b.dict refl;
+          grows = grows;
           ledgers = λ us rs l. record {
-            ledger = ledger_stays now s (Writing (Post t) n v) us rs l.read l.there (moved_ledger b r' birth tree new ready.sound step stands none us₀ rs₀ l₀ us rs l.ledger);
-            waste = moved_waste b r' birth tree new ready.sound step stands none us₀ rs₀ l₀;
+            ledger = ledger_stays now s (Writing (Post t) n v) us rs l.read l.there (moved_ledger b b.dict r' birth tree new grows ready.sound step stands none us₀ rs₀ l₀ us rs l.ledger);
+            waste = moved_waste b b.dict r' birth tree new grows ready.sound step stands none us₀ rs₀ l₀;
           };
           uses = omega (arith, used, ap (λ (xs : List Key). length xs) same);
         }
 
     -- want of memory
-    pub post_unmade : (r' : Nodes) (birth s : ℕ) (v : GraphVersion) (now : Seat) (a : Answer) → birth ≡ b.versions.commit + 1 → PutsTogether birth r r' ks v → now ≡ Writing (Post t) n v → a ≡ Refused NoMemory → IsReady b s (Writing (Post t) n u)
+    pub post_unmade : (r' : Nodes) (birth s : ℕ) (v : GraphVersion) (now : Seat) (a : Answer) → birth ≡ b.versions.commit + 1 → MakesAgain birth r r' ks v → now ≡ Writing (Post t) n v → a ≡ Refused NoMemory → IsReady b s (Writing (Post t) n u)
         → Acts b (with_nodes b b.dict r') s (Writing (Post t) n u) now Commit a
     post_unmade r' birth s v now a born puts writes why ready =
         subst (λ x. Acts b (with_nodes b b.dict r') s (Writing (Post t) n u) x Commit a) (sym writes)
         (subst (λ x. Acts b (with_nodes b b.dict r') s (Writing (Post t) n u) (Writing (Post t) n v) Commit x) (sym why) (post_again r' birth s v NoMemory born puts refl ready))
 
     -- no commit number is left
-    post_last : (r' : Nodes) (birth s : ℕ) (v : GraphVersion) (now : Seat) (a : Answer) → birth ≡ b.versions.commit + 1 → DecidesPost b t u LastNumber → PutsTogether birth r r' ks v → now ≡ Writing (Post t) n v → a ≡ Refused NoNumber → IsReady b s (Writing (Post t) n u)
+    post_last : (r' : Nodes) (birth s : ℕ) (v : GraphVersion) (now : Seat) (a : Answer) → birth ≡ b.versions.commit + 1 → DecidesPost b t u LastNumber → MakesAgain birth r r' ks v → now ≡ Writing (Post t) n v → a ≡ Refused NoNumber → IsReady b s (Writing (Post t) n u)
         → Acts b (with_nodes b b.dict r') s (Writing (Post t) n u) now Commit a
     post_last r' birth s v now a born decided puts writes why ready =
         let would = would_be_stored (books_setting b) (dataset_of b) b.versions.commit (Posts t graph) t (posted b t u) refl refl decided in
@@ -242,7 +217,7 @@ module _ (b : Books) (t : Target) (n : ℕ) (u : GraphVersion) (p1 : Nodes) (ks 
   DraftsKeys q birth old v = Drafts birth b.dict.terms p1 q old v (with_triples (graph_at b.dict.terms p1 old.root) (map (triple_at b.dict.terms) ks)) (259 * length ks)
 
   -- The draft `v`, of the version `old` that the target had.
-  module _ (q : Nodes) (birth : ℕ) (old v : GraphVersion) (is : old ≡ version_or b.catalogue.graphs t) (drafts : Drafts birth b.dict.terms p1 q old v (with_triples (graph_at b.dict.terms p1 old.root) (map (triple_at b.dict.terms) ks)) (259 * length ks)) where
+  module _ (q : Nodes) (birth : ℕ) (old v : GraphVersion) (is : old ≡ version_or b.catalogue.graphs t) (drafts : DraftsKeys q birth old v) where
     abbrev both : Graph
     both = with_triples (graph_at b.dict.terms p1 (version_or b.catalogue.graphs t).root) (triples_of graph)
 
@@ -262,13 +237,12 @@ module _ (b : Books) (t : Target) (n : ℕ) (u : GraphVersion) (p1 : Nodes) (ks 
     draft_decided held place verdict holds at by =
         let w = books_setting b in
         let m = dataset_of b in
-        let c = b.versions.commit in
         let size : v.triples ≡ size_of (posted b t u) = size_of_version b.dict.terms q v draft_made.version ∙ ap size_of (draft_made.graph ∙ both_is) in
-        let same : verdict ≡ verdict_of (holdings_of w m c) (place_in m t) (Stores (size_of (posted b t u)) true) =
+        let same : verdict ≡ verdict_of (holdings_of w m b.versions.commit) (place_in m t) (Stores (size_of (posted b t u)) true) =
         by ∙ ap (λ h. verdict_of h place (Stores v.triples true)) holds
-        ∙ ap (λ x. verdict_of (holdings_of w m c) x (Stores v.triples true)) at
-        ∙ ap (λ k. verdict_of (holdings_of w m c) (place_in m t) (Stores k true)) size in
-        subst (DecidesPost b t u) (sym same) (store_may w m c t (posted b t u))
+        ∙ ap (λ x. verdict_of (holdings_of w m b.versions.commit) x (Stores v.triples true)) at
+        ∙ ap (λ k. verdict_of (holdings_of w m b.versions.commit) (place_in m t) (Stores k true)) size in
+        subst (DecidesPost b t u) (sym same) (store_may w m b.versions.commit t (posted b t u))
 
     -- taken back, the pool is as it was without the upload
     pub draft_undone : (r : Nodes) → UndoesAll birth q r (tree_at q v.root) → Restores p1 r
@@ -276,9 +250,9 @@ module _ (b : Books) (t : Target) (n : ℕ) (u : GraphVersion) (p1 : Nodes) (ks 
 
     -- The verdict on it, by the counts of the books.
     module _ (held : Holdings) (place : Place) (holds : held ≡ holdings_of (books_setting b) (dataset_of b) b.versions.commit) (at : place ≡ place_in (dataset_of b) t) where
-      -- no commit number is left: it was taken back, and the upload put together
+      -- no commit number is left: it was taken back, and the upload made again
       pub draft_last : (r r' : Nodes) (s : ℕ) (x : GraphVersion) (now : Seat) (a : Answer) → LastNumber ≡ verdict_of held place (Stores v.triples true) → UndoesAll birth q r (tree_at q v.root) → birth ≡ b.versions.commit + 1
-          → PutsTogether birth r r' ks x → now ≡ Writing (Post t) n x → a ≡ Refused NoNumber → IsReady b s (Writing (Post t) n u) → Acts b (with_nodes b b.dict r') s (Writing (Post t) n u) now Commit a
+          → MakesAgain birth r r' ks x → now ≡ Writing (Post t) n x → a ≡ Refused NoNumber → IsReady b s (Writing (Post t) n u) → Acts b (with_nodes b b.dict r') s (Writing (Post t) n u) now Commit a
       draft_last r r' s x now a by undoes born puts writes why ready =
           post_last r (draft_undone r undoes) r' birth s x now a born (draft_decided held place LastNumber holds at by) puts writes why ready
 

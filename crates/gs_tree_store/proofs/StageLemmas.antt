@@ -1,5 +1,5 @@
 -- What a Stage makes of the books and of the seat.
-use Rattle.std.proofs.Common.{◌≡◌, ℕ, ◌+◌, ◌^◌, ◌<◌, List, ◌∷◌, length, None, refl, sym, ap, subst, ◌∙◌, arith}
+use Rattle.std.proofs.Common.{◌≡◌, ℕ, ◌+◌, ◌^◌, ◌<◌, List, length, None, refl, sym, ap, subst, ◌∙◌, arith}
 use Rattle.std.proofs.lemmas.List.{set-get_or}
 use Rattle.std.proofs.lemmas.List.Elements.{All-head}
 use Rattle.std.specs.declared.alloc.Global.{Global}
@@ -14,21 +14,16 @@ use Rattle.gs_event.specs.Phases as phase
 use Rattle.gs_dict.specs.Numbering.{Numbered}
 use Rattle.gs_pool.specs.Pool.{Nodes, in_use, aside_count}
 use Rattle.gs_tree.specs.declared.unions.Merged.{Merged}
-use Rattle.gs_tree.specs.Tree.{Tree, root_of, Descends, BirthAtMost, tree_at}
-use Rattle.gs_tree.specs.Sets.{IsSetAt}
+use Rattle.gs_tree.specs.Tree.{Descends, BirthAtMost, tree_at}
 use Rattle.gs_keys.specs.Texts.{key_cmp}
 use Rattle.gs_keys.specs.Roots.{graph_at}
 use Rattle.gs_changes.proofs.AddLemmas.{few_keys}
 use Rattle.gs_staging.specs.Keys.{Grows}
-use Rattle.gs_staging.specs.Staging.{IsStaged, Stages}
+use Rattle.gs_staging.specs.Staging.{Stages}
 use Rattle.gs_catalogue.specs.declared.versions.GraphVersion.{GraphVersion}
-use Rattle.gs_ledger.specs.Marks.{dead_at}
-use Rattle.gs_ledger.specs.Ledger.{IsTreeOf, IsLedger}
-use Rattle.gs_commit.specs.Laws.{GrowsUpload}
-use Rattle.gs_commit.proofs.LawLemmas.{upload_grows}
-use Rattle.gs_datasets.specs.Standing.{graph_trees, IsKeyed}
+use Rattle.gs_ledger.specs.Ledger.{IsTreeOf}
+use Rattle.gs_datasets.specs.Standing.{graph_trees}
 use Rattle.gs_datasets.specs.Trees.{Outlasts}
-use Rattle.gs_datasets.proofs.Keeping.{ledger_has_sets, graphs_stay}
 use Rattle.gs_datasets.proofs.Outlasting.{keys_outlast}
 use Rattle.gs_tree_store.specs.declared.books.Books.{Books}
 use Rattle.gs_tree_store.specs.declared.books.Seat.{Seat}
@@ -36,22 +31,7 @@ use Rattle.gs_tree_store.specs.declared.books.Seat.TheVariants.{Writing}
 use Rattle.gs_tree_store.specs.Books.{IsReady}
 use Rattle.gs_tree_store.specs.Actions.{Acts, ActsAny, IsReadyAny}
 use Rattle.gs_tree_store.proofs.SeatLemmas.{same_totals, same_graphs, ledger_stays}
-
--- an upload has a tree that triples can go into
-staged_here : (b : Books) (s : ℕ) (k : UploadKind) (r : ℕ) (v : GraphVersion) → IsReady b s (Writing k r v) → IsStaged b.dict.terms b.pool v.root
-staged_here b s k r v ready =
-    let terms = b.dict.terms in
-    let p = b.pool in
-    let some = ready.ledger in
-    let tree = tree_at p v.root in
-    let sets = ledger_has_sets terms p b.versions (graph_trees p b.catalogue.graphs) (tree ∷ some.uploads) some.reads (dead_at p) some.ledger.ledger in
-    let one = All-head (λ (t : Tree). IsKeyed terms t → IsSetAt (key_cmp terms) p (root_of t)) tree some.uploads sets.staged ready.known.keyed in
-    record { set = subst (IsSetAt (key_cmp terms) p) ready.known.root_is one; given = ready.known.keyed.given }
-
-pub upload_staged : (b : Books) (seat : Seat) (k : UploadKind) (r : ℕ) (v : GraphVersion) → seat ≡ Writing k r v → IsReadyAny b seat → IsStaged b.dict.terms b.pool v.root
-upload_staged b seat k r v writes =
-    subst (λ x. IsReadyAny b x → IsStaged b.dict.terms b.pool v.root) (sym writes)
-    (λ (any : IsReadyAny b (Writing k r v)). staged_here b any.number k r v any.ready)
+use Rattle.gs_tree_store.proofs.UploadLemmas.{moved_graphs, moved_ledger, moved_waste}
 
 -- an upload has no more triples than there are numbers of nodes
 few_here : (b : Books) (s : ℕ) (k : UploadKind) (r birth : ℕ) (v : GraphVersion) (d : Numbered) (q : Nodes) (ts : List RdfTriple) (m : Merged) → length q.nodes < 2 ^ 32 → Stages birth b.dict.terms d.terms b.pool q v.root ts m
@@ -110,12 +90,9 @@ staged b s k r birth v ts d q m born grows stages ready =
     let births = subst (λ n. Descends new × BirthAtMost n new) born (u.births was.descends (subst (λ n. BirthAtMost n old) (sym born) was.born)) in
     let tree : IsTreeOf q (w.commit + 1) new = record { stands = u.set.stands; descends = births.0; born = births.1 } in
     let now = record b { dict = d; pool = q } in
-    let more : (us rs : List Tree) → IsLedger p w gs (old ∷ us) rs (dead_at p) → GrowsUpload w p q new gs us rs = λ us rs l. upload_grows p q w birth old new gs us rs l u.step tree in
-    let one = more some.uploads some.reads some.ledger.ledger in
-    let stay = graphs_stay b.dict.terms p q g w (new ∷ some.uploads) some.reads (dead_at q) ready.sound.versions one.ledger in
     let used : in_use q ≡ in_use p + m.added = u.in_place refl in
     let none : aside_count q ≡ 0 = omega (arith, used, u.exact, ready.sound.none_aside) in
-    let kept = same_graphs b d q w ready.sound grows stay none refl in
+    let kept = moved_graphs b d q birth old new grows ready.sound u.step tree none some.uploads some.reads some.ledger.ledger in
     let larger : size_of (with_triples (graph_at b.dict.terms p v.root) ts.items) ≡ size_of (graph_at b.dict.terms p v.root) + m.added = sym (ap size_of stages.graph) ∙ stages.added in
     record {
       fits = tt;
@@ -129,12 +106,10 @@ staged b s k r birth v ts d q m born grows stages ready =
         counted = ap (λ n. n + m.added) ready.known.counted ∙ sym u.counted;
       };
       grows = grows;
-      ledgers = λ us rs l.
-          let grown = more us rs l.ledger in
-          record {
-            ledger = ledger_stays now s (Writing k r (record { root = m.root; triples = v.triples + m.added })) us rs l.read l.there (subst (λ xs. IsLedger q w xs (new ∷ us) rs (dead_at q)) (sym kept.trees) grown.ledger);
-            waste = grown.waste;
-          };
+      ledgers = λ us rs l. record {
+        ledger = ledger_stays now s (Writing k r (record { root = m.root; triples = v.triples + m.added })) us rs l.read l.there (moved_ledger b d q birth old new grows ready.sound u.step tree none some.uploads some.reads some.ledger.ledger us rs l.ledger);
+        waste = moved_waste b d q birth old new grows ready.sound u.step tree none some.uploads some.reads some.ledger.ledger;
+      };
       uses = omega (arith, used, larger);
     }
 

@@ -1,25 +1,37 @@
 -- An upload whose tree is another one, or none, and what stays beside it.
-use Rattle.std.proofs.Common.{◌≡◌, ℕ, ◌+◌, List, [], ◌∷◌, ◌++◌, length, take, None, refl, sym, ap, subst, ◌∙◌, arith}
+use Rattle.std.proofs.Common.{◌≡◌, ℕ, ◌+◌, List, [], ◌∷◌, ◌++◌, length, take, None, refl, sym, ap, subst, ◌∙◌, inl, arith}
 use Rattle.std.proofs.lemmas.List.{take_all}
+use Rattle.std.proofs.lemmas.List.Elements.{All-head}
 use Rattle.std.proofs.lemmas.List.Sums.{sum_by-cons}
 use Rattle.std.specs.declared.cmp.Ordering.{Ordering}
 use Rattle.gs_pool.specs.declared.nodes.Key.{Key}
 use Rattle.gs_pool.specs.Pool.{Nodes, in_use, aside_count}
-use Rattle.gs_tree.specs.Tree.{Tree, keys, occurrences}
+use Rattle.gs_tree.specs.Tree.{Tree, root_of, keys, occurrences, tree_at}
+use Rattle.gs_tree.specs.Sets.{IsSetAt}
 use Rattle.gs_tree.specs.Steps.{Step}
 use Rattle.gs_tree.specs.Reading.{keys_from}
 use Rattle.gs_tree.proofs.FromLemmas.{from_all}
-use Rattle.gs_staging.proofs.KeyLemmas.{still_grows}
+use Rattle.gs_tree.proofs.TreeLemmas.{plain_count_same}
+use Rattle.gs_event.specs.declared.events.UploadKind.{UploadKind}
+use Rattle.gs_dict.specs.Numbering.{Numbered}
+use Rattle.gs_keys.specs.Texts.{key_cmp}
+use Rattle.gs_changes.specs.Endings.{IsDraftAt, Restores}
+use Rattle.gs_staging.specs.Staging.{IsStaged}
+use Rattle.gs_catalogue.specs.declared.versions.GraphVersion.{GraphVersion}
+use Rattle.gs_staging.specs.Keys.{Grows}
 use Rattle.gs_event.specs.Waste.{Lifetime}
 use Rattle.gs_ledger.specs.Marks.{dead_at, waste_at}
 use Rattle.gs_ledger.specs.Ledger.{IsTreeOf, IsLedger}
 use Rattle.gs_ledger.proofs.Counts.{nodes_counted}
 use Rattle.gs_commit.specs.Laws.{GrowsUpload}
 use Rattle.gs_commit.proofs.LawLemmas.{upload_grows}
-use Rattle.gs_datasets.specs.Standing.{graph_trees}
-use Rattle.gs_datasets.proofs.Keeping.{graphs_stay}
+use Rattle.gs_datasets.specs.Standing.{graph_trees, IsKeyed}
+use Rattle.gs_datasets.proofs.Keeping.{ledger_has_sets, graphs_stay}
 use Rattle.gs_tree_store.specs.declared.books.Books.{Books}
-use Rattle.gs_tree_store.specs.Books.{IsSound, HasLedger}
+use Rattle.gs_tree_store.specs.declared.books.Seat.{Seat}
+use Rattle.gs_tree_store.specs.declared.books.Seat.TheVariants.{Writing}
+use Rattle.gs_tree_store.specs.Books.{IsSound, HasLedger, IsReady}
+use Rattle.gs_tree_store.specs.Actions.{IsReadyAny}
 use Rattle.gs_tree_store.proofs.SeatLemmas.{SameGraphs, same_graphs}
 use Rattle.gs_tree_store.proofs.UndoneLemmas.{with_nodes}
 
@@ -28,20 +40,55 @@ pub all_read : (cmp : Key → Key → Ordering) (n : ℕ) (ks xs ys : List Key) 
 all_read cmp n ks xs ys all none read =
     read ∙ ap (λ zs. zs ++ take n (keys_from cmp None ks)) none ∙ ap (take n) (from_all cmp ks) ∙ take_all n ks (omega (arith, all))
 
+-- an upload has a tree that triples can go into
+staged_here : (b : Books) (s : ℕ) (k : UploadKind) (r : ℕ) (v : GraphVersion) → IsReady b s (Writing k r v) → IsStaged b.dict.terms b.pool v.root
+staged_here b s k r v ready =
+    let terms = b.dict.terms in
+    let p = b.pool in
+    let some = ready.ledger in
+    let tree = tree_at p v.root in
+    let sets = ledger_has_sets terms p b.versions (graph_trees p b.catalogue.graphs) (tree ∷ some.uploads) some.reads (dead_at p) some.ledger.ledger in
+    let one = All-head (λ (t : Tree). IsKeyed terms t → IsSetAt (key_cmp terms) p (root_of t)) tree some.uploads sets.staged ready.known.keyed in
+    record { set = subst (IsSetAt (key_cmp terms) p) ready.known.root_is one; given = ready.known.keyed.given }
+
+pub upload_staged : (b : Books) (seat : Seat) (k : UploadKind) (r : ℕ) (v : GraphVersion) → seat ≡ Writing k r v → IsReadyAny b seat → IsStaged b.dict.terms b.pool v.root
+upload_staged b seat k r v writes =
+    subst (λ x. IsReadyAny b x → IsStaged b.dict.terms b.pool v.root) (sym writes)
+    (λ (any : IsReadyAny b (Writing k r v)). staged_here b any.number k r v any.ready)
+
+-- the tree of an upload is all its own
+pub upload_draft : (b : Books) (k : UploadKind) (n : ℕ) (u : GraphVersion) → IsReadyAny b (Writing k n u) → IsDraftAt b.pool u.root
+upload_draft b k n u any =
+    let set = (upload_staged b (Writing k n u) k n u refl any).set in
+    let l = any.ready.ledger in
+    let tree = tree_at b.pool u.root in
+    let here : IsTreeOf b.pool (b.versions.commit + 1) tree = All-head (IsTreeOf b.pool (b.versions.commit + 1)) tree l.uploads l.ledger.ledger.staged in
+    record { root_is = set.root_is; stands = set.stands; descends = here.descends; apart = set.apart }
+
+-- what was taken back is a step to no tree from none
+pub restored_step : (birth : ℕ) (p q : Nodes) → Restores p q → Step 0 birth p q (λ x. 0) (λ x. 0)
+restored_step birth p q restores = record {
+  kept = λ x n e h. restores.nodes x ∙ e;
+  balance = λ x. omega (arith, plain_count_same p q x (restores.nodes x) (restores.marks x));
+  older = λ x n e old. absurd (omega (arith, old));
+  born = λ x n e. inl (sym (restores.nodes x) ∙ e);
+  marks = λ x. inl (restores.marks x);
+}
+
 -- The upload that had the tree `old` has the tree `new`, and no other tree changes.
-module _ (b : Books) (q : Nodes) (birth : ℕ) (old new : Tree) (sound : IsSound b) (step : Step 0 birth b.pool q (occurrences old) (occurrences new)) (tree : IsTreeOf q (b.versions.commit + 1) new) (none : aside_count q ≡ 0) where
+module _ (b : Books) (d : Numbered) (q : Nodes) (birth : ℕ) (old new : Tree) (grows : Grows b.dict d) (sound : IsSound b) (step : Step 0 birth b.pool q (occurrences old) (occurrences new)) (tree : IsTreeOf q (b.versions.commit + 1) new) (none : aside_count q ≡ 0) where
   moved : (us rs : List Tree) → HasLedger b (old ∷ us) rs → GrowsUpload b.versions b.pool q new (graph_trees b.pool b.catalogue.graphs) us rs
   moved us rs l = upload_grows b.pool q b.versions birth old new (graph_trees b.pool b.catalogue.graphs) us rs l step tree
 
   module _ (us₀ rs₀ : List Tree) (l₀ : HasLedger b (old ∷ us₀) rs₀) where
     -- the graphs are the same
-    pub moved_graphs : SameGraphs b (with_nodes b b.dict q)
+    pub moved_graphs : SameGraphs b (with_nodes b d q)
     moved_graphs =
         let stay = graphs_stay b.dict.terms b.pool q b.catalogue.graphs b.versions (new ∷ us₀) rs₀ (dead_at q) sound.versions (moved us₀ rs₀ l₀).ledger in
-        same_graphs b b.dict q b.versions sound (still_grows b.dict b.dict refl) stay none refl
+        same_graphs b d q b.versions sound grows stay none refl
 
     -- the ledger has the new tree
-    pub moved_ledger : (us rs : List Tree) → HasLedger b (old ∷ us) rs → HasLedger (with_nodes b b.dict q) (new ∷ us) rs
+    pub moved_ledger : (us rs : List Tree) → HasLedger b (old ∷ us) rs → HasLedger (with_nodes b d q) (new ∷ us) rs
     moved_ledger us rs l = subst (λ gs. IsLedger q b.versions gs (new ∷ us) rs (dead_at q)) (sym moved_graphs.trees) (moved us rs l).ledger
 
     -- nothing joins the waste

@@ -10,12 +10,12 @@ use Rattle.gs_changes.specs.Endings.{FreesTree}
 use Rattle.gs_catalogue.specs.declared.versions.GraphVersion.{GraphVersion}
 
 -- the keys of a root's tree, whose nodes are free now
-pub record TakesApart (p q : Nodes) (root : Option ℕ) (ks : List Key) : Type 0 where
+pub record TakesKeys (p q : Nodes) (root : Option ℕ) (ks : List Key) : Type 0 where
   pub keys_are : ks ≡ keys_at p root
   pub frees : FreesTree p q (tree_at p root)
   pub total : SameTotal p q
 
 -- a version of new nodes, which has just these keys
-pub record PutsTogether (birth : ℕ) (p q : Nodes) (ks : List Key) (v : GraphVersion) : Type 0 where
+pub record MakesAgain (birth : ℕ) (p q : Nodes) (ks : List Key) (v : GraphVersion) : Type 0 where
   pub built : BuiltAt birth p q ks v.root
   pub counted : v.triples ≡ length ks

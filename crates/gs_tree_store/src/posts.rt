@@ -8,7 +8,7 @@ ghost use Rattle.gs_tree_store.specs.Actions.{ActsAny, IsReadyAny, HoldsRoom};
 
 use crate::books::{self, Books, Seat};
 use crate::drafts::united;
-use crate::uploads::{put_together, take_apart};
+use crate::uploads::{make_again, take_keys};
 use crate::verdicts::{holdings, place};
 use gs_catalogue::GraphVersion;
 use gs_changes::take_back;
@@ -37,12 +37,12 @@ pub fn commit_post(
     let place = place(books, &target);
     let old = books::version_of(books, &target);
     let birth = books.versions.commit() + 1;
-    let Ok(keys) = take_apart(alloc, &books.dict, &mut books.pool, upload) else {
+    let Ok(keys) = take_keys(alloc, &books.dict, &mut books.pool, upload) else {
         return still_open(seat, target, request, upload, Refusal::NoMemory);
     };
     let run = keys.as_slice();
     let Ok(draft) = united(&books.dict, &mut books.pool, old, run, birth) else {
-        let upload = put_together(&mut books.pool, run, birth);
+        let upload = make_again(&mut books.pool, run, birth);
         return still_open(seat, target, request, upload, Refusal::NoMemory);
     };
     match verdict_on(&held, &place, Change::Stores(draft.triples, true)) {
@@ -53,7 +53,7 @@ pub fn commit_post(
         }
         Verdict::LastNumber => {
             take_back(&mut books.pool, draft.root, birth);
-            let upload = put_together(&mut books.pool, run, birth);
+            let upload = make_again(&mut books.pool, run, birth);
             still_open(seat, target, request, upload, Refusal::LastNumber)
         }
         Verdict::Granted(status, _, _) => {

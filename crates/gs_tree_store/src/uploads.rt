@@ -3,7 +3,7 @@ ghost use Rattle.std.specs.Prelude.{◌≡◌, ◌≤◌, length, IfOk, OnErr};
 ghost use Rattle.gs_pool.specs.Pool.{room};
 ghost use Rattle.gs_changes.specs.Endings.{IsDraftAt};
 ghost use Rattle.gs_datasets.specs.Standing.{IsVersion};
-ghost use Rattle.gs_tree_store.specs.Uploads.{TakesApart, PutsTogether};
+ghost use Rattle.gs_tree_store.specs.Uploads.{TakesKeys, MakesAgain};
 
 use gs_catalogue::GraphVersion;
 use gs_changes::free_tree;
@@ -13,9 +13,10 @@ use gs_pool::{Key, Pool};
 use gs_tree::{build, next_keys};
 use std::alloc::{AllocError, Global};
 
-/// The keys of an upload, whose nodes are free then: a graph that takes the keys needs as many of its own, and so
-/// both never stand at once. Where memory is refused, nothing changes.
-pub fn take_apart(
+/// The keys of an upload, whose nodes are free then: a graph that takes the keys needs a node
+/// for each that is new to it, and so both never stand at once. Where memory is refused, nothing
+/// changes.
+pub fn take_keys(
     alloc: Global,
     dict: &Dict,
     pool: &mut Pool,
@@ -23,7 +24,7 @@ pub fn take_apart(
 ) -> Result<Vec<Key>, AllocError>
     requires version { IsVersion dict.now.terms pool.old upload }
     requires draft { IsDraftAt pool.old upload.root }
-    ensures ok { IfOk result (λ keys. TakesApart pool.old pool.new upload.root keys.items) }
+    ensures ok { IfOk result (λ keys. TakesKeys pool.old pool.new upload.root keys.items) }
     ensures kept { OnErr result (pool.new ≡ pool.old) }
 {
     let order = ByText::new(dict);
@@ -35,9 +36,9 @@ pub fn take_apart(
 }
 
 /// The keys as an upload again, in room that is there. Takes no memory.
-pub fn put_together(pool: &mut Pool, keys: &[Key], birth: u64) -> GraphVersion
+pub fn make_again(pool: &mut Pool, keys: &[Key], birth: u64) -> GraphVersion
     requires { length keys.now ≤ room pool.old }
-    ensures { PutsTogether birth pool.old pool.new keys.now result }
+    ensures { MakesAgain birth pool.old pool.new keys.now result }
 {
     GraphVersion {
         root: build(pool, keys, birth),

@@ -161,9 +161,10 @@ impl Books {
             });
         }
         self.set_graph(place, Some(both))?;
+        let new = both.count().saturating_sub(old.count());
         Ok(Turn {
             phase: Phase::Idle,
-            outcome: Outcome::after_change(Said::Status(status), triples.count()),
+            outcome: Outcome::exchanged(Said::Status(status), triples.count(), new),
         })
     }
 

@@ -1,9 +1,12 @@
-//! What the model says of an event: the answer, and how many more nodes are in use then.
+//! What the model says of an event: the answer, and how many more or fewer nodes are in use then.
 use crate::sets::Set;
 use gs_model::Refusal;
 
 /// The most nodes that a triple takes where it comes to a graph or goes from it.
 pub const MOST_FOR_TRIPLE: u64 = 260;
+
+/// The most nodes that a triple takes which is new to a graph: its own, and eight copies for each of 32 binary digits.
+pub const MOST_FOR_NEW: u64 = 257;
 
 /// An answer, as the model has it.
 #[derive(Clone, Copy, Drop)]
@@ -26,6 +29,8 @@ pub enum Growth {
     Exactly(u64),
     AtMost(u64),
     Fewer(u64),
+    /// So many are given back, and at most so many taken.
+    Exchanged(u64, u64),
 }
 
 /// What is said of an event.
@@ -54,6 +59,14 @@ impl Outcome {
         Outcome {
             said,
             growth: Growth::Fewer(nodes),
+        }
+    }
+
+    /// An answer after which so many nodes are given back, and so many triples are new to a graph.
+    pub fn exchanged(said: Said, nodes: u64, new: u64) -> Outcome {
+        Outcome {
+            said,
+            growth: Growth::Exchanged(nodes, new.saturating_mul(MOST_FOR_NEW)),
         }
     }
 

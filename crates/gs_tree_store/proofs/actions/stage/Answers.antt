@@ -1,5 +1,6 @@
 use Rattle.std.proofs.Common.{◌+◌, ◌^◌, ◌<◌, arith}
-use Rattle.gs_tree_store.proofs.StageLemmas.{upload_staged, few_triples, stage_refused, stage_done}
+use Rattle.gs_tree_store.proofs.UploadLemmas.{upload_staged}
+use Rattle.gs_tree_store.proofs.StageLemmas.{few_triples, stage_refused, stage_done}
 use Rattle.gs_tree_store.proofs.actions.stage.Goals as goal
 
 pub stage-merged-requires : goal.stage-merged-requires

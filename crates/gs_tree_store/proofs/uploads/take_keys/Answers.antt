@@ -1,7 +1,7 @@
 use Rattle.gs_tree.specs.Reading.{keys_at}
 use Rattle.gs_keys.specs.Texts.{key_cmp}
 use Rattle.gs_tree_store.proofs.UploadLemmas.{all_read}
-use Rattle.gs_tree_store.proofs.uploads.take_apart.Goals as goal
+use Rattle.gs_tree_store.proofs.uploads.take_keys.Goals as goal
 
 pub returns-clause-ok : goal.returns-clause-ok
 returns-clause-ok c = record {
