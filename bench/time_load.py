@@ -128,7 +128,7 @@ def loaded(program, kind, bodies):
 
 def report(what, triples, peer, taken, kept):
     speeds = f"{triples / taken:,.0f} triples/s, serdi {triples / peer:,.0f}; ratio {peer / taken:.2f}"
-    print(f"{what}: {speeds}; {kept / triples:.0f} bytes resident a triple")
+    print(f"{what}: {speeds}; {kept / triples:.1f} bytes resident a triple")
 
 
 def best(language, files):
