@@ -173,10 +173,9 @@ module _ (b : Books) (t : Target) (n : ℕ) (u : GraphVersion) (p1 : Nodes) (ks 
         let graphs = moved_graphs b b.dict r' birth tree new grows ready.sound step stands none us₀ rs₀ l₀ in
         let same : keys new ≡ keys_at b.pool u.root = made.keys_are ∙ apart.keys_are in
         let used = moved_use b b.dict r' birth tree new grows ready.sound step stands none us₀ rs₀ l₀ in
-        let now = with_nodes b b.dict r' in
         record {
           fits = fits;
-          totals = same_totals b now refl graphs.dataset refl refl;
+          totals = same_totals b (with_nodes b b.dict r') refl graphs.dataset refl refl;
           seat = ap (λ xs. phase.Writing (Post t) n (graph_of (map (triple_at b.dict.terms) xs))) same;
           pins = sym (set-get_or b.versions.seats s None);
           sound = graphs.sound;
@@ -191,7 +190,7 @@ module _ (b : Books) (t : Target) (n : ℕ) (u : GraphVersion) (p1 : Nodes) (ks 
           };
           grows = grows;
           ledgers = λ us rs l. record {
-            ledger = ledger_stays now s (Writing (Post t) n v) us rs l.read l.there (moved_ledger b b.dict r' birth tree new grows ready.sound step stands none us₀ rs₀ l₀ us rs l.ledger);
+            ledger = ledger_stays (with_nodes b b.dict r') s (Writing (Post t) n v) us rs l.read l.there (moved_ledger b b.dict r' birth tree new grows ready.sound step stands none us₀ rs₀ l₀ us rs l.ledger);
             waste = moved_waste b b.dict r' birth tree new grows ready.sound step stands none us₀ rs₀ l₀;
           };
           uses = omega (arith, used, ap (λ (xs : List Key). length xs) same);
