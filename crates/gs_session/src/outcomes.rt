@@ -220,9 +220,13 @@ pub fn after_stage(alloc: Global, asked: Asked, work: Work, answer: &Answer) -> 
     match answer {
         Answer::Staged => silently(alloc, Phase::Serving(asked, work)),
         Answer::Refused(Refusal::NoMemory) => {
+            work.give_back();
             silently(alloc, Phase::Serving(asked, Work::Failing(Want::Memory)))
         }
-        _ => stop(alloc),
+        _ => {
+            work.give_back();
+            stop(alloc)
+        }
     }
 }
 

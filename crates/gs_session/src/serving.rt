@@ -3,7 +3,7 @@ ghost use Rattle.std.specs.Prelude.{◌≡◌, ℕ, List, Option, Bool, true, fa
 ghost use Rattle.std.specs.Io.KnownBytes.{Keeps};
 ghost use Rattle.gs_model.specs.Bases.{is_base};
 ghost use Rattle.gs_talk.specs.Logs.{Server};
-ghost use Rattle.gs_session.specs.Connections.{Connection, Goes, Done, Quit, Reads, Loses};
+ghost use Rattle.gs_session.specs.Connections.{Connection, Comes, Goes, Done, Quit, Reads, Loses};
 
 use crate::sessions::{Session, Turn};
 use crate::writing::write_text;
@@ -75,15 +75,12 @@ fn round<R: Read, W: Write, D: Door>(
     writer: &mut W,
     door: &mut D,
 ) -> Result<bool, ServeFault>
-    ensures goes { result ≡ Ok false → (p : Server) (seat : ℕ) (first : D) (unread held : Option (List ℕ))
-        → Connection D.Gives seat unread (R.remaining reader.old) held (W.contents writer.old) first door.old (Goes p seat session.old (R.remaining reader.old))
-        → Connection D.Gives seat unread (R.remaining reader.new) held (W.contents writer.new) first door.new (Goes p seat session.new (R.remaining reader.new)) }
-    ensures over { result ≡ Ok true → (p : Server) (seat : ℕ) (first : D) (unread held : Option (List ℕ))
-        → Connection D.Gives seat unread (R.remaining reader.old) held (W.contents writer.old) first door.old (Goes p seat session.old (R.remaining reader.old))
-        → Connection D.Gives seat unread (R.remaining reader.new) held (W.contents writer.new) first door.new (Done p (R.remaining reader.new)) }
-    ensures fault { OnErr result ((p : Server) (seat : ℕ) (first : D) (unread held : Option (List ℕ))
-        → Connection D.Gives seat unread (R.remaining reader.old) held (W.contents writer.old) first door.old (Goes p seat session.old (R.remaining reader.old))
-        → Connection D.Gives seat unread (R.remaining reader.new) held (W.contents writer.new) first door.new (Quit p (R.remaining reader.new))) }
+    ensures goes { result ≡ Ok false → Comes D.Gives session.old (R.remaining reader.old) (W.contents writer.old) door.old
+        (R.remaining reader.new) (W.contents writer.new) door.new (λ p seat. Goes p seat session.new (R.remaining reader.new)) }
+    ensures over { result ≡ Ok true → Comes D.Gives session.old (R.remaining reader.old) (W.contents writer.old) door.old
+        (R.remaining reader.new) (W.contents writer.new) door.new (λ p seat. Done p (R.remaining reader.new)) }
+    ensures fault { OnErr result (Comes D.Gives session.old (R.remaining reader.old) (W.contents writer.old) door.old
+        (R.remaining reader.new) (W.contents writer.new) door.new (λ p seat. Quit p (R.remaining reader.new))) }
 {
     match session.turn(door) {
         Turn::Over => match writer.flush() {
@@ -107,6 +104,29 @@ fn round<R: Read, W: Write, D: Door>(
             }
         },
     }
+}
+
+/// One round after the other, to the end of the connection.
+fn rounds<R: Read, W: Write, D: Door>(
+    session: &mut Session,
+    reader: &mut R,
+    writer: &mut W,
+    door: &mut D,
+) -> Result<(), ServeFault>
+    ensures over { OnOk result (Comes D.Gives session.old (R.remaining reader.old) (W.contents writer.old) door.old
+        (R.remaining reader.new) (W.contents writer.new) door.new (λ p seat. Done p (R.remaining reader.new))) }
+    ensures fault { OnErr result (Comes D.Gives session.old (R.remaining reader.old) (W.contents writer.old) door.old
+        (R.remaining reader.new) (W.contents writer.new) door.new (λ p seat. Quit p (R.remaining reader.new))) }
+{
+    for _ in 0..u64::MAX {
+        match round(session, reader, writer, door) {
+            Ok(true) => return Ok(()),
+            Ok(false) => {}
+            Err(fault) => return Err(fault),
+        }
+    }
+    session.abandon(door);
+    Err(ServeFault::Read)
 }
 
 /// Reads requests, answers them and writes the replies, to the end of the input or to a reply that
@@ -140,13 +160,5 @@ pub fn serve<R: Read, W: Write, D: Door>(
     let Ok(mut session) = Session::new(alloc, seat, base, piece) else {
         return Err(ServeFault::NoMemory);
     };
-    for _ in 0..u64::MAX {
-        match round(&mut session, reader, writer, door) {
-            Ok(true) => return Ok(()),
-            Ok(false) => {}
-            Err(fault) => return Err(fault),
-        }
-    }
-    session.abandon(door);
-    Err(ServeFault::Read)
+    rounds(&mut session, reader, writer, door)
 }

@@ -97,7 +97,7 @@ impl Session {
     fn take(&mut self, next: Next)
         ensures { self.new ≡ taken self.old next }
     {
-        self.phase = next.phase;
+        self.put_back(next.phase);
         self.due = next.said;
     }
 
@@ -202,7 +202,7 @@ impl Session {
                 self.setup.act(Action::Cancel, door);
             }
         }
-        self.phase = Phase::Over;
+        self.put_back(Phase::Over);
         self.due.clear();
     }
 }

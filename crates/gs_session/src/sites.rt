@@ -32,16 +32,16 @@ impl Site {
         requires { is_base base.now ≡ true }
         ensures { IfOk result (λ s. s ≡ base.now) }
     {
-        let places = Places::new(alloc)?;
         let mut name = String::new(alloc);
         name.push_str(base)?;
         let mut store = String::new(alloc);
         store.push_str(base)?;
         store.push_str("/store")?;
+        // The routes come last, so that no refusal has to give them back.
         Ok(Site {
             base: name,
             store,
-            places,
+            places: Places::new(alloc)?,
         })
     }
 

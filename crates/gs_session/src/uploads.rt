@@ -68,10 +68,13 @@ fn feed<D: Door>(
     let fed = reading.feed(&input.as_slice()[..count], &mut triples);
     input.skip(count);
     match fed {
-        Err(_) => Step::Silent(silently(
-            setup.alloc,
-            Phase::Serving(asked, Work::Failing(Want::Memory)),
-        )),
+        Err(_) => {
+            Work::Uploading(reading, transfer).give_back();
+            Step::Silent(silently(
+                setup.alloc,
+                Phase::Serving(asked, Work::Failing(Want::Memory)),
+            ))
+        }
         Ok(()) => {
             let work = Work::Uploading(reading, transfer);
             if triples.is_empty() {
@@ -129,9 +132,13 @@ pub fn upload<D: Door>(
             ))
         }
         Part::End => finish(setup, asked, reading, door),
-        Part::Fault(status) => Step::Made(cancel(setup, status, true, door)),
+        Part::Fault(status) => {
+            Work::Uploading(reading, transfer).give_back();
+            Step::Made(cancel(setup, status, true, door))
+        }
         Part::More => {
             if ended {
+                Work::Uploading(reading, transfer).give_back();
                 Step::Made(leave(setup, door))
             } else {
                 Step::Wait(Phase::Serving(asked, Work::Uploading(reading, transfer)))

@@ -1,25 +1,26 @@
-use Rattle.std.proofs.Common.{Bool, Ok, ap, ◌∙◌}
-use Rattle.gs_session.proofs.ServeLemmas.{never, starts, ended_here}
+use Rattle.std.proofs.lemmas.Result.{on_ok_weaker, on_err_weaker}
+use Rattle.gs_talk.specs.Logs.{Server}
+use Rattle.gs_session.proofs.ServeLemmas.{never, starts}
 use Rattle.gs_session.proofs.serving.serve.Goals as goal
 
 pub returns-in_default-clause-front : goal.returns-in_default-clause-front
 returns-in_default-clause-front g c =
     never g.D.Door.Gives (record { base = c.args.base.now; piece = c.args.piece }) c.args.seat (g.R.Read.remaining c.args.reader.now) (g.W.Write.contents c.args.writer.now) c.args.door.now
 
-pub loop-init : goal.loop-init
-loop-init g c =
-    starts g.D.Door.Gives (record { base = c.args.base.now; piece = c.args.piece }) c.args.seat (g.R.Read.remaining c.args.reader.now) (g.W.Write.contents c.args.writer.now) c.args.door.now c.in-Ok.session
-    c.in-Ok.ensures.leads c.in-Ok.ensures.goes c.in-Ok.ensures.server c.in-Ok.ensures.seat
-
-pub returns-in-Ok-true-clause-whole : goal.returns-in-Ok-true-clause-whole
-returns-in-Ok-true-clause-whole g c =
-    c.round.ensures.over (c.in-Ok-true.is ∙ ap (λ (b : Bool). Ok b) c.in-Ok-true.field-0-test) (record { base = c.args.base.now; piece = c.args.piece }) c.args.seat c.args.door.now (g.R.Read.remaining c.args.reader.now) (g.W.Write.contents c.args.writer.now) c.loop.invariant
-
-pub returns-in-Err-clause-front : goal.returns-in-Err-clause-front
-returns-in-Err-clause-front g c =
-    c.in-Err.ensures.fault (record { base = c.args.base.now; piece = c.args.piece }) c.args.seat c.args.door.now (g.R.Read.remaining c.args.reader.now) (g.W.Write.contents c.args.writer.now) c.loop.invariant
+pub returns-clause-whole : goal.returns-clause-whole
+returns-clause-whole g c =
+    let p : Server = record { base = c.args.base.now; piece = c.args.piece } in
+    let r = g.R.Read.remaining c.args.reader.now in
+    let h = g.W.Write.contents c.args.writer.now in
+    let is = c.in-Ok.ensures in
+    let begun = starts g.D.Door.Gives p c.args.seat r h c.args.door.now c.in-Ok.session is.leads is.goes is.server is.seat in
+    on_ok_weaker c.rounds.result (λ comes. comes p c.args.seat c.args.door.now r h begun) c.rounds.ensures.over
 
 pub returns-clause-front : goal.returns-clause-front
 returns-clause-front g c =
-    ended_here g.D.Door.Gives (record { base = c.args.base.now; piece = c.args.piece }) c.args.seat (g.R.Read.remaining c.args.reader.now) (g.R.Read.remaining c.loop.reader) (g.W.Write.contents c.args.writer.now)
-    (g.W.Write.contents c.loop.writer) c.args.door.now c.loop.door c.abandon.new.door c.loop.session c.loop.invariant c.abandon.ensures.quits
+    let p : Server = record { base = c.args.base.now; piece = c.args.piece } in
+    let r = g.R.Read.remaining c.args.reader.now in
+    let h = g.W.Write.contents c.args.writer.now in
+    let is = c.in-Ok.ensures in
+    let begun = starts g.D.Door.Gives p c.args.seat r h c.args.door.now c.in-Ok.session is.leads is.goes is.server is.seat in
+    on_err_weaker c.rounds.result (λ comes. comes p c.args.seat c.args.door.now r h begun) c.rounds.ensures.fault
