@@ -29,10 +29,13 @@ pub record Connection {D : Type 0} (gives : D → Event → Answer → D → Typ
 abbrev pub Goes : Server → ℕ → Session → Option (List ℕ) → List ℕ → Deeds → List ℕ → Type 0
 Goes p seat s left x h w = Leads s x h w × (s.ended ≡ true → IsAtEnd left) × (server_of s.setup ≡ p) × (s.setup.seat ≡ seat)
 
--- Where a connection went on in this session, this holds of it now, whatever its server and its seat, and wherever it began.
-abbrev pub Comes : {D : Type 0} → (D → Event → Answer → D → Type 0) → Session → Option (List ℕ) → Option (List ℕ) → D → Option (List ℕ) → Option (List ℕ) → D
+-- Each connection that went on in session s, with this left to read, this written and this door, is now one of which Holds is true,
+-- with the next three; whatever its server and its seat are, and wherever it began.
+abbrev pub Comes : {D : Type 0} → (D → Event → Answer → D → Type 0) → Session
+    → Option (List ℕ) → Option (List ℕ) → D → Option (List ℕ) → Option (List ℕ) → D
     → (Server → ℕ → List ℕ → Deeds → List ℕ → Type 0) → Type 0
-Comes {D} gives s left holds old left2 holds2 new Holds = (p : Server) (seat : ℕ) (first : D) (unread held : Option (List ℕ))
+Comes {D} gives s left holds old left2 holds2 new Holds =
+    (p : Server) (seat : ℕ) (first : D) (unread held : Option (List ℕ))
     → Connection gives seat unread left held holds first old (Goes p seat s left)
     → Connection gives seat unread left2 held holds2 first new (Holds p seat)
 

@@ -32,7 +32,7 @@ pub enum Work {
 }
 
 impl Work {
-    /// Gives back what it owns. Each place that drops a `Work` is proved by itself, so it is dropped here.
+    /// Gives back what it owns. Each place that drops a reader is proved by itself, so an upload's steps that end it all drop it here.
     pub fn give_back(self) {}
 }
 

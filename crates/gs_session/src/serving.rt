@@ -75,12 +75,18 @@ fn round<R: Read, W: Write, D: Door>(
     writer: &mut W,
     door: &mut D,
 ) -> Result<bool, ServeFault>
-    ensures goes { result ≡ Ok false → Comes D.Gives session.old (R.remaining reader.old) (W.contents writer.old) door.old
-        (R.remaining reader.new) (W.contents writer.new) door.new (λ p seat. Goes p seat session.new (R.remaining reader.new)) }
-    ensures over { result ≡ Ok true → Comes D.Gives session.old (R.remaining reader.old) (W.contents writer.old) door.old
-        (R.remaining reader.new) (W.contents writer.new) door.new (λ p seat. Done p (R.remaining reader.new)) }
-    ensures fault { OnErr result (Comes D.Gives session.old (R.remaining reader.old) (W.contents writer.old) door.old
-        (R.remaining reader.new) (W.contents writer.new) door.new (λ p seat. Quit p (R.remaining reader.new))) }
+    ensures goes { result ≡ Ok false → Comes D.Gives session.old
+        (R.remaining reader.old) (W.contents writer.old) door.old
+        (R.remaining reader.new) (W.contents writer.new) door.new
+        (λ p seat. Goes p seat session.new (R.remaining reader.new)) }
+    ensures over { result ≡ Ok true → Comes D.Gives session.old
+        (R.remaining reader.old) (W.contents writer.old) door.old
+        (R.remaining reader.new) (W.contents writer.new) door.new
+        (λ p seat. Done p (R.remaining reader.new)) }
+    ensures fault { OnErr result (Comes D.Gives session.old
+        (R.remaining reader.old) (W.contents writer.old) door.old
+        (R.remaining reader.new) (W.contents writer.new) door.new
+        (λ p seat. Quit p (R.remaining reader.new))) }
 {
     match session.turn(door) {
         Turn::Over => match writer.flush() {
@@ -113,10 +119,14 @@ fn rounds<R: Read, W: Write, D: Door>(
     writer: &mut W,
     door: &mut D,
 ) -> Result<(), ServeFault>
-    ensures over { OnOk result (Comes D.Gives session.old (R.remaining reader.old) (W.contents writer.old) door.old
-        (R.remaining reader.new) (W.contents writer.new) door.new (λ p seat. Done p (R.remaining reader.new))) }
-    ensures fault { OnErr result (Comes D.Gives session.old (R.remaining reader.old) (W.contents writer.old) door.old
-        (R.remaining reader.new) (W.contents writer.new) door.new (λ p seat. Quit p (R.remaining reader.new))) }
+    ensures over { OnOk result (Comes D.Gives session.old
+        (R.remaining reader.old) (W.contents writer.old) door.old
+        (R.remaining reader.new) (W.contents writer.new) door.new
+        (λ p seat. Done p (R.remaining reader.new))) }
+    ensures fault { OnErr result (Comes D.Gives session.old
+        (R.remaining reader.old) (W.contents writer.old) door.old
+        (R.remaining reader.new) (W.contents writer.new) door.new
+        (λ p seat. Quit p (R.remaining reader.new))) }
 {
     for _ in 0..u64::MAX {
         match round(session, reader, writer, door) {

@@ -97,7 +97,7 @@ impl Session {
     fn take(&mut self, next: Next)
         ensures { self.new ≡ taken self.old next }
     {
-        self.put_back(next.phase);
+        self.set_phase(next.phase);
         self.due = next.said;
     }
 
@@ -117,8 +117,8 @@ impl Session {
         }
     }
 
-    /// The phase is this.
-    fn put_back(&mut self, phase: Phase)
+    /// From now on the phase is this.
+    fn set_phase(&mut self, phase: Phase)
         ensures { self.new ≡ waiting self.old phase }
     {
         self.phase = phase;
@@ -129,7 +129,7 @@ impl Session {
         ensures state { self.new ≡ waiting self.old phase }
         ensures told { result ≡ turn_at phase self.old.ended }
     {
-        self.put_back(phase);
+        self.set_phase(phase);
         self.rest()
     }
 
@@ -150,7 +150,7 @@ impl Session {
                 true
             }
             phase => {
-                self.put_back(phase);
+                self.set_phase(phase);
                 false
             }
         }
@@ -202,7 +202,7 @@ impl Session {
                 self.setup.act(Action::Cancel, door);
             }
         }
-        self.put_back(Phase::Over);
+        self.set_phase(Phase::Over);
         self.due.clear();
     }
 }
