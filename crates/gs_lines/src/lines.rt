@@ -13,6 +13,10 @@ use std::alloc::{AllocError, Global};
 /// What a line has beside its three texts: two spaces, and its end.
 const MARKS: usize = 5;
 
+/// Room that is left after lines: where no more than 236 bytes are due before them, as the head of a
+/// reply, which has 103 at most, these and the frame of a chunk go around the lines in their memory.
+const FRAME_ROOM: usize = 256;
+
 /// The text of a number that was given.
 fn text_of(dict: &Dict, number: u32) -> &[u8]
     requires { number < length dict.now.terms }
@@ -53,21 +57,30 @@ fn look_up_near<'a>(dict: &'a Dict, known: Known<'a>, number: u32) -> Known<'a>
     }
 }
 
-/// How many bytes the line of a key has, where 64 bits can say it.
-fn line_size(dict: &Dict, key: Key, subject: Known, predicate: Known) -> Option<usize>
-    requires given { IsGiven dict.now.terms key }
-    requires subject { IsKnown dict.now.terms key.subject subject }
-    requires predicate { IsKnown dict.now.terms key.predicate predicate }
-    ensures { SomeIff result (length (line_at dict.now.terms key) < 2 ^ 64)
-        (length (line_at dict.now.terms key)) }
+/// How many bytes a line of three texts has, where 64 bits can say it.
+fn line_size(subject: &[u8], predicate: &[u8], object: &[u8]) -> Option<usize>
+    ensures { SomeIff result
+        (length subject.now + length predicate.now + length object.now + 5 < 2 ^ 64)
+        (length subject.now + length predicate.now + length object.now + 5) }
 {
-    let two = subject.text.len().checked_add(predicate.text.len())?;
-    let three = two.checked_add(text_of(dict, key.object).len())?;
+    let two = subject.len().checked_add(predicate.len())?;
+    let three = two.checked_add(object.len())?;
     three.checked_add(MARKS)
 }
 
-/// How many bytes the lines of keys have, where 64 bits can say it.
-fn lines_size(dict: &Dict, keys: &[Key]) -> Option<usize>
+/// The first and the last byte of a text, joined by or.
+fn ends_of(text: &[u8]) -> u8 {
+    match (text.first(), text.last()) {
+        (Some(first), Some(last)) => first | last,
+        _ => 0,
+    }
+}
+
+/// How many bytes the lines of keys have, where 64 bits can say it. The first and last bytes of the
+/// texts of all objects are joined to `ends` by or. These texts lie apart in memory. Read here one
+/// after another, they are fetched together; read only when its line is written, each would be
+/// waited for by itself.
+fn lines_size(dict: &Dict, keys: &[Key], ends: &mut u8) -> Option<usize>
     requires { AllKeys (IsGiven dict.now.terms) keys.now }
     ensures { SomeIff result (length (bytes_of dict.now.terms keys.now) < 2 ^ 64)
         (length (bytes_of dict.now.terms keys.now)) }
@@ -81,7 +94,9 @@ fn lines_size(dict: &Dict, keys: &[Key]) -> Option<usize>
     for key in keys {
         subject = look_up_near(dict, subject, key.subject);
         predicate = look_up_near(dict, predicate, key.predicate);
-        let line = line_size(dict, *key, subject, predicate)?;
+        let object = text_of(dict, key.object);
+        *ends |= ends_of(object);
+        let line = line_size(subject.text, predicate.text, object)?;
         size = size.checked_add(line)?;
     }
     Some(size)
@@ -135,41 +150,24 @@ fn append_lines(dict: &Dict, keys: &[Key], bytes: &mut Vec<u8>)
     }
 }
 
-/// The first and the last byte of a text, joined by or.
-fn ends_of(text: &[u8]) -> u8 {
-    match (text.first(), text.last()) {
-        (Some(first), Some(last)) => first | last,
-        _ => 0,
-    }
-}
-
-/// The first and last bytes of the texts of all objects, joined by or. The texts lie apart in
-/// memory. Read here one after another, they are fetched together; read only when its line is
-/// written, each would be waited for by itself.
-fn ends_of_objects(dict: &Dict, keys: &[Key]) -> u8
-    requires { AllKeys (IsGiven dict.now.terms) keys.now }
-{
-    let mut ends = 0;
-    for key in keys {
-        ends |= ends_of(text_of(dict, key.object));
-    }
-    ends
-}
-
-/// The lines of keys, one after another. Memory is asked for once, for just these bytes; what cannot
-/// be counted is refused as well.
+/// The lines of keys, one after another. Memory is asked for once, for these bytes and 256 more, and
+/// none where there is no line; what cannot be counted is refused as well.
 pub fn lines(alloc: Global, dict: &Dict, keys: &[Key]) -> Result<Vec<u8>, AllocError>
     requires { AllKeys (IsGiven dict.now.terms) keys.now }
     ensures { IfOk result (λ bytes. bytes.items ≡ bytes_of dict.now.terms keys.now) }
 {
-    let ends = ends_of_objects(dict, keys);
-    let Some(size) = lines_size(dict, keys) else {
+    let mut ends = 0;
+    let Some(size) = lines_size(dict, keys, &mut ends) else {
         return Err(AllocError);
     };
-    // Always 0: no text begins with a zero byte, and without keys the size is 0. It stands here so
-    // that the compiler keeps the reads of the ends.
-    let spare = usize::from(ends == 0 && size > 0);
-    let mut bytes = Vec::with_capacity(alloc, size.saturating_add(spare))?;
+    // `ends` is never 0 where there are lines, since no text begins with a zero byte: so nothing is
+    // added. The compiler does not know that, and keeps the reads of the ends.
+    let room = if size == 0 {
+        0
+    } else {
+        FRAME_ROOM + usize::from(ends == 0)
+    };
+    let mut bytes = Vec::with_capacity(alloc, size.saturating_add(room))?;
     append_lines(dict, keys, &mut bytes);
     Ok(bytes)
 }

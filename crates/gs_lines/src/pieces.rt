@@ -45,7 +45,7 @@ fn find_keys(
 /// The next lines of a root: those of its keys above `from`, or of all where it is `None`, and
 /// `count` of them at most. One key more is looked for, which says whether any are left. Memory is
 /// wanted for that many keys, 12 bytes each, but no more than 4,097 where fewer are found; and for
-/// just the bytes of the lines.
+/// the bytes of the lines and 256 more, if there are any.
 pub fn next_piece(
     alloc: Global,
     dict: &Dict,

@@ -1,1 +1,2 @@
+mod DrainLemmas
 mod Examples

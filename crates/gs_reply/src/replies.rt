@@ -1,13 +1,14 @@
-//! The texts of replies. Each call adds a text to a list; where memory is wanted the list is of no
-//! more use.
-ghost use Rattle.std.specs.Prelude.{◌≡◌, ◌++◌, OnOk};
+//! The texts of replies. Each call adds a text to a list, or makes one of a text and a piece; where
+//! memory is wanted the list is of no more use.
+ghost use Rattle.std.specs.Fmt.{digits};
+ghost use Rattle.std.specs.Prelude.{◌≡◌, ◌++◌, false, IfOk, OnOk};
 ghost use Rattle.gs_reply.specs.Notices.{notice_of};
 ghost use Rattle.gs_reply.specs.Replies as spec;
 
 use gs_names::Media;
 use gs_verdict::Allow;
 use http::StatusCode;
-use std::alloc::AllocError;
+use std::alloc::{AllocError, Global};
 use std::io::Write;
 
 /// The most bytes of a head of a reply, but for a name in it: the longest phrase has 31, and of the
@@ -170,19 +171,53 @@ pub fn push_lines_head(text: &mut Vec<u8>, media: Media, closes: bool) -> Result
     text.extend_from_slice(b"\r\n")
 }
 
-/// Adds a piece as a chunk. A piece without bytes is none, since an empty chunk would end the body.
-/// Memory is taken once, before the first byte.
+/// Adds the line with the size of a chunk.
+fn push_size(text: &mut Vec<u8>, size: usize) -> Result<(), AllocError>
+    ensures { OnOk result (text.new.items ≡ text.old.items ++ digits 16 false size ++ spec.line_end) }
+{
+    write!(text, "{size:x}\r\n").map_err(|_| AllocError)
+}
+
+/// A list of a text and the line with the size of a chunk, with room for so many bytes more.
+fn sized(alloc: Global, text: &[u8], size: usize, room: usize) -> Result<Vec<u8>, AllocError>
+    ensures { IfOk result (λ all. all.items ≡ text.now ++ (digits 16 false size ++ spec.line_end)) }
+{
+    let most = text.len().saturating_add(FRAME_BYTES).saturating_add(room);
+    let mut all = Vec::with_capacity(alloc, most)?;
+    all.extend_from_slice(text)?;
+    push_size(&mut all, size)?;
+    Ok(all)
+}
+
+/// A piece with a text before it, in the piece's own memory where that has room. The text is copied
+/// once on the way.
+fn put_before(text: Vec<u8>, mut piece: Vec<u8>) -> Result<Vec<u8>, AllocError>
+    ensures { IfOk result (λ all. all.items ≡ text.items ++ piece.items) }
+{
+    piece.splice(0..0, text)?;
+    Ok(piece)
+}
+
+/// A text, and after it a piece as a chunk. Where the piece has room for the text and 20 bytes more,
+/// its bytes are moved within its own memory and copied to no other place; else both are copied to
+/// new memory. A piece without bytes is no chunk, since an empty chunk would end the body.
 #[tactic(auto, unfolding(crate::specs::Replies::chunk))]
-pub fn push_chunk(text: &mut Vec<u8>, piece: &[u8]) -> Result<(), AllocError>
-    ensures { OnOk result (text.new.items ≡ text.old.items ++ spec.chunk piece.now) }
+pub fn chunk_after(alloc: Global, text: &[u8], mut piece: Vec<u8>) -> Result<Vec<u8>, AllocError>
+    ensures { IfOk result (λ all. all.items ≡ text.now ++ spec.chunk piece.items) }
 {
     if piece.is_empty() {
-        return Ok(());
+        return Vec::from_slice(alloc, text);
     }
-    text.reserve(piece.len().saturating_add(FRAME_BYTES))?;
-    write!(text, "{:x}\r\n", piece.len()).map_err(|_| AllocError)?;
-    text.extend_from_slice(piece)?;
-    text.extend_from_slice(b"\r\n")
+    let size = piece.len();
+    if piece.capacity() - size >= text.len().saturating_add(FRAME_BYTES) {
+        let front = sized(alloc, text, size, 0)?;
+        piece.extend_from_slice(b"\r\n")?;
+        return put_before(front, piece);
+    }
+    let mut all = sized(alloc, text, size, size)?;
+    all.extend_from_slice(piece.as_slice())?;
+    all.extend_from_slice(b"\r\n")?;
+    Ok(all)
 }
 
 /// Adds the last chunk.
@@ -196,7 +231,6 @@ pub fn push_last_chunk(text: &mut Vec<u8>) -> Result<(), AllocError>
 #[cfg(test)]
 mod tests {
     use super::*;
-    use std::alloc::Global;
     use std::test::Fail;
 
     /// Two replies without a body, then one in chunks, by hand from RFC 9112.
@@ -206,21 +240,30 @@ HTTP/1.1 201 Created\r\nContent-Length: 0\r\nLocation: http://h/g\r\n\r\n\
 HTTP/1.1 200 OK\r\nContent-Type: text/turtle\r\nTransfer-Encoding: chunked\r\nConnection: close\r\n\r\n\
 11\r\n<a:b> <a:b> 10 .\n\r\n0\r\n\r\n";
 
-    fn written(alloc: Global) -> Result<Vec<u8>, AllocError> {
+    /// A line in a list that has room for so many bytes more.
+    fn line(alloc: Global, room: usize) -> Result<Vec<u8>, AllocError> {
+        let mut line = Vec::with_capacity(alloc, room.saturating_add(17))?;
+        line.extend_from_slice(b"<a:b> <a:b> 10 .\n")?;
+        Ok(line)
+    }
+
+    fn written(alloc: Global, room: usize) -> Result<Vec<u8>, AllocError> {
         let mut text = Vec::new(alloc);
         push_reply(&mut text, 405, Note::Allows(Allow::OfStore), false)?;
         push_reply(&mut text, 201, Note::Made(b"http://h/g"), false)?;
         push_lines_head(&mut text, Media::Turtle, true)?;
-        push_chunk(&mut text, b"<a:b> <a:b> 10 .\n")?;
-        push_chunk(&mut text, b"")?;
+        text = chunk_after(alloc, text.as_slice(), line(alloc, room)?)?;
+        text = chunk_after(alloc, text.as_slice(), Vec::new(alloc))?;
         push_last_chunk(&mut text)?;
         Ok(text)
     }
 
     #[test]
     fn with_memory_each_text_is_written(rt: HostRuntime) -> Result<(), Fail> {
-        let text = written(rt.alloc())?;
-        assert_eq!(&rt; text.as_slice(), WRITTEN);
+        for room in [0, 1_000] {
+            let text = written(rt.alloc(), room)?;
+            assert_eq!(&rt; text.as_slice(), WRITTEN);
+        }
         Ok(())
     }
 }

@@ -101,5 +101,5 @@ pub fn send<D: Door>(setup: &Setup, asked: Asked, due: Vec<u8>, door: &mut D) ->
         (λ answer. AfterPiece asked due.items answer result) }
 {
     let answer = setup.act(Action::Piece(setup.piece), door);
-    after_piece(setup.alloc, asked, due, &answer)
+    after_piece(setup.alloc, asked, due, answer)
 }

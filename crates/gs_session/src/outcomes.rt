@@ -9,7 +9,7 @@ ghost use Rattle.gs_session.specs.Outcomes as spec;
 use crate::phases::{Phase, Want, Work};
 use gs_event::Answer;
 use gs_model::Refusal;
-use gs_reply::{Note, push_chunk, push_last_chunk, push_lines_head, push_reply};
+use gs_reply::{Note, chunk_after, push_last_chunk, push_lines_head, push_reply};
 use gs_verdict::Asked;
 use std::alloc::{AllocError, Global};
 
@@ -150,13 +150,12 @@ pub fn after_pin(alloc: Global, asked: Asked, answer: &Answer) -> Next
     }
 }
 
-/// What was due, a piece of a read as a chunk, and after the last piece the last chunk.
-fn piece_text(alloc: Global, due: &[u8], bytes: &[u8], end: bool) -> Result<Vec<u8>, AllocError>
-    ensures { IfOk result (λ text. text.items ≡ due.now ++ (chunk bytes.now ++ last_if end)) }
+/// What was due, a piece of a read as a chunk, and after the last piece the last chunk: in the
+/// piece's own memory, where that has room.
+fn piece_text(alloc: Global, due: &[u8], lines: Vec<u8>, end: bool) -> Result<Vec<u8>, AllocError>
+    ensures { IfOk result (λ text. text.items ≡ due.now ++ (chunk lines.items ++ last_if end)) }
 {
-    let mut text = Vec::new(alloc);
-    text.extend_from_slice(due)?;
-    push_chunk(&mut text, bytes)?;
+    let mut text = chunk_after(alloc, due, lines)?;
     if end {
         push_last_chunk(&mut text)?;
     }
@@ -186,18 +185,18 @@ fn without_lines(asked: Asked, end: bool) -> Phase
 }
 
 /// What a Piece leads to. What was due is said before it.
-pub fn after_piece(alloc: Global, asked: Asked, due: Vec<u8>, answer: &Answer) -> Next
-    ensures { AfterPiece asked due.items answer.now result }
+pub fn after_piece(alloc: Global, asked: Asked, due: Vec<u8>, answer: Answer) -> Next
+    ensures { AfterPiece asked due.items answer result }
 {
     match answer {
-        Answer::Lines(bytes, end) => {
-            match piece_text(alloc, due.as_slice(), bytes.as_slice(), *end) {
+        Answer::Lines(lines, end) => {
+            match piece_text(alloc, due.as_slice(), lines, end) {
                 Ok(text) => Next {
-                    phase: after_lines(asked, *end),
+                    phase: after_lines(asked, end),
                     said: text,
                 },
                 Err(_) => Next {
-                    phase: without_lines(asked, *end),
+                    phase: without_lines(asked, end),
                     said: due,
                 },
             }

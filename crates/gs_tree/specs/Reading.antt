@@ -6,7 +6,9 @@ use Rattle.std.specs.declared.cmp.Ordering.TheVariants.{Less, Equal, Greater}
 use Rattle.gs_pool.specs.declared.nodes.Key.{Key}
 use Rattle.gs_pool.specs.Pool.{Nodes}
 use Rattle.gs_tree.specs.Keys.{IsRising}
-use Rattle.gs_tree.specs.Tree.{Tree, root_of, keys, occurrences, Stands, tree_at}
+use Rattle.gs_tree.specs.Tree.{Tree, root_of, keys, occurrences, Stands, tree_at, height_at}
+use Rattle.gs_tree.specs.declared.reading.Side.{Side}
+use Rattle.gs_tree.specs.declared.reading.Side.TheVariants as side
 
 -- a root means a tree that has each of its nodes once
 pub record IsTree (p : Nodes) (root : Option ℕ) (t : Tree) : Type 0 where
@@ -76,3 +78,21 @@ IsEnough ks most n = take n ks ≡ take most ks
 -- how many keys will be appended, where `most` are asked for
 abbrev pub key_count : (Key → Key → Ordering) → Nodes → Option ℕ → Option Key → ℕ → ℕ
 key_count cmp p root from most = min most (length (keys_from cmp from (keys_at p root)))
+
+-- the keys of a side of a node, by what was seen of it
+abbrev pub keys_seen : Nodes → Side → List Key
+keys_seen p side.Empty = []
+keys_seen p (side.One k) = k ∷ []
+keys_seen p (side.Tree id) = keys_at p (Some id)
+
+-- the pool has the tree that was seen there
+abbrev pub HasSeen : Nodes → Side → Type 0
+HasSeen p side.Empty = Unit {0}
+HasSeen p (side.One k) = Unit {0}
+HasSeen p (side.Tree id) = HasTreeAt p (Some id)
+
+-- how high that tree is
+abbrev pub height_seen : Nodes → Side → ℕ
+height_seen p side.Empty = 0
+height_seen p (side.One k) = 0
+height_seen p (side.Tree id) = height_at p (Some id)

@@ -3,7 +3,8 @@
 ghost use Rattle.std.specs.Prelude.{◌≡◌, ◌+◌, ◌<◌, ◌≤◌, ◌^◌, [], ◌∷◌, Some, Option, length, max, vec_len, vec_capacity, IsOk, OnOk, OnErr};
 ghost use Rattle.std.specs.Bool.{Decides};
 ghost use Rattle.gs_tree.specs.Keys.{HasKey};
-ghost use Rattle.gs_tree.specs.Reading.{IsTreeAt, IsReadableAt, keys_at, HasTreeAt, is_past as is_past_in, keys_from, first_of, filled_up, FillsUp, Appends, IsEnough, key_count};
+ghost use Rattle.gs_tree.specs.Tree.{height_at};
+ghost use Rattle.gs_tree.specs.Reading.{IsTreeAt, IsReadableAt, keys_at, HasTreeAt, is_past as is_past_in, keys_from, first_of, filled_up, FillsUp, Appends, IsEnough, key_count, keys_seen, HasSeen, height_seen};
 
 use crate::orders::KeyOrder;
 use gs_pool::{Key, Pool};
@@ -54,8 +55,37 @@ pub fn after<O: KeyOrder>(pool: &Pool, order: &O, root: Option<u32>, key: Key) -
     Some(found)
 }
 
+// One side of a node, as far as its own node shows it.
+#[derive(Clone, Copy)]
+enum Side {
+    Empty,
+    // One key alone.
+    One(Key),
+    // The number of a node that has sides of its own.
+    Tree(u32),
+}
+
+// Looks at one side of a node.
+#[inline(always)]
+fn look_at(pool: &Pool, side: Option<u32>) -> Side
+    requires { HasTreeAt pool.now side }
+    ensures keys { keys_seen pool.now result ≡ keys_at pool.now side }
+    ensures tree { HasSeen pool.now result }
+    ensures height { height_seen pool.now result ≤ height_at pool.now side }
+{
+    let Some(id) = side else {
+        return Side::Empty;
+    };
+    let node = pool.get(id);
+    if node.left.is_none() && node.right.is_none() {
+        Side::One(node.key)
+    } else {
+        Side::Tree(id)
+    }
+}
+
 // Appends the keys of a node and of all below it, in order, until there are `end` of them. Takes no
-// memory.
+// memory. Both sides are looked at before either is walked, so that memory brings them together.
 #[cycle(walk_all)]
 fn walk_all(pool: &Pool, id: u32, end: usize, to: &mut Vec<Key>)
     requires tree { HasTreeAt pool.now (Some id) }
@@ -67,21 +97,37 @@ fn walk_all(pool: &Pool, id: u32, end: usize, to: &mut Vec<Key>)
         return;
     }
     let node = pool.get(id);
-    walk_side(pool, node.left, end, to);
+    let right = look_at(pool, node.right);
+    let left = look_at(pool, node.left);
+    walk_side(pool, left, end, to);
     push_below(end, node.key, to);
-    walk_side(pool, node.right, end, to);
+    walk_side(pool, right, end, to);
 }
 
-// Appends the keys of one side of a node. Most nodes lack one side or both, which costs no call.
+// Appends the keys of one side of a node. Most sides are empty or have one key, which costs no call.
 #[cycle(walk_all)]
 #[inline(always)]
-fn walk_side(pool: &Pool, side: Option<u32>, end: usize, to: &mut Vec<Key>)
-    requires tree { HasTreeAt pool.now side }
+fn walk_side(pool: &Pool, side: Side, end: usize, to: &mut Vec<Key>)
+    requires tree { HasSeen pool.now side }
     requires room { end ≤ vec_capacity to.old }
-    ensures keys { to.new.items ≡ filled_up end to.old.items (keys_at pool.now side) }
+    ensures keys { to.new.items ≡ filled_up end to.old.items (keys_seen pool.now side) }
     ensures capacity { vec_capacity to.new ≡ vec_capacity to.old }
 {
     match side {
+        Side::Empty => {}
+        Side::One(key) => push_below(end, key, to),
+        Side::Tree(id) => walk_all(pool, id, end, to),
+    }
+}
+
+// Appends the keys of a tree.
+fn walk_tree(pool: &Pool, root: Option<u32>, end: usize, to: &mut Vec<Key>)
+    requires tree { HasTreeAt pool.now root }
+    requires room { end ≤ vec_capacity to.old }
+    ensures keys { to.new.items ≡ filled_up end to.old.items (keys_at pool.now root) }
+    ensures capacity { vec_capacity to.new ≡ vec_capacity to.old }
+{
+    match root {
         None => {}
         Some(id) => walk_all(pool, id, end, to),
     }
@@ -114,7 +160,7 @@ fn walk<O: KeyOrder>(
     }
     walk(pool, order, node.left, from, end, to);
     push_below(end, node.key, to);
-    walk_side(pool, node.right, end, to);
+    walk_tree(pool, node.right, end, to);
 }
 
 // Appends a key where there are fewer than `end`.
