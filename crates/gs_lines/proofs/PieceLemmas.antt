@@ -2,7 +2,8 @@
 use Rattle.std.proofs.Common.{◌≡◌, ℕ, zero, suc, ◌+◌, ◌-◌, ◌<◌, min, false, nat_le, List, [], ◌∷◌, ◌++◌, map, length, get_or, take, drop, slice_get, Option, Some, None, sym, ap, ◌∙◌, subst, arith}
 use Rattle.std.specs.List.{concat}
 use Rattle.std.proofs.lemmas.Bool.Decides.{nat_tests}
-use Rattle.std.proofs.lemmas.List.{length-map, take-map, drop-map, take-take, length-take, take-append-drop}
+use Rattle.std.proofs.lemmas.List.{length-map, take-map, drop-map, take-take, length-take, length-take-le, take-append-drop, get_or-take}
+use Rattle.std.proofs.lemmas.Option.{slice_get-get_or}
 use Rattle.gs_model.specs.Terms.{Term}
 use Rattle.gs_model.specs.Triples.{line_of}
 use Rattle.gs_model.specs.Graphs.{lines_of}
@@ -11,6 +12,8 @@ use Rattle.gs_pool.specs.Pool.{Nodes}
 use Rattle.gs_tree.specs.Tree.{keys, tree_at}
 use Rattle.gs_tree.specs.Keys.{AllKeys}
 use Rattle.gs_tree.specs.Reading.{keys_at, keys_from}
+use Rattle.gs_tree.proofs.FromLemmas.{from_all}
+use Rattle.gs_tree.proofs.KeysAfter.{all_from, left_after, cut_at}
 use Rattle.gs_tree.proofs.Order.{AllKeys-front}
 use Rattle.gs_keys.specs.Texts.{key_cmp, key_total, IsGiven}
 use Rattle.gs_keys.specs.Roots.{IsGraphAt, graph_at}
@@ -18,7 +21,6 @@ use Rattle.gs_keys.proofs.KeyLemmas.{triples_of_keys}
 use Rattle.gs_lines.specs.declared.pieces.Piece.{Piece}
 use Rattle.gs_lines.specs.Pieces.{line_at, bytes_of, keys_left, lines_from, last_key, IsCursor, IsPiece}
 use Rattle.gs_lines.proofs.LineLemmas.{lines_of_triples, lines_kept}
-use Rattle.gs_lines.proofs.CursorLemmas.{from_none, all_from, left_after, cut_at, last_taken}
 
 -- where one key more than asked was looked for, as many came as were asked exactly where no more are left
 ends : (found left count : ℕ) → found ≡ min (count + 1) left → nat_le found count ≡ nat_le left count
@@ -32,6 +34,13 @@ given_at : (terms : List Term) (ks : List Key) (i : ℕ) → AllKeys (IsGiven te
 given_at terms [] i h = tt
 given_at terms (k ∷ ks) zero h = h.0
 given_at terms (k ∷ ks) (suc i) h = given_at terms ks i h.1
+
+-- the last of the first keys
+last_taken : (ks : List Key) (n : ℕ) (d : Key) → n < length ks → last_key (take (n + 1) ks) ≡ Some (get_or ks n d)
+last_taken ks n d h =
+    let long : length (take (n + 1) ks) ≡ n + 1 = length-take-le (n + 1) ks (omega arith) in
+    let place : length (take (n + 1) ks) - 1 ≡ n = omega arith in
+    ap (slice_get (take (n + 1) ks)) place ∙ slice_get-get_or (take (n + 1) ks) n d (omega arith) ∙ ap Some (get_or-take (n + 1) ks n d (omega arith))
 
 any_key : Key
 any_key = record { subject = 0; predicate = 0; object = 0 }
@@ -90,7 +99,7 @@ module _ (terms : List Term) (p : Nodes) (root : Option ℕ) (graph : IsGraphAt 
   pub all_lines : lines_from terms p root None ≡ lines_of (graph_at terms p root)
   all_lines =
       let ks = keys_at p root in
-      ap (map (line_at terms)) (from_none (key_cmp terms) ks) ∙ lines_of_triples terms ks ∙ ap (map line_of) (sym (triples_of_keys terms ks graph.set.rising graph.given))
+      ap (map (line_at terms)) (from_all (key_cmp terms) ks) ∙ lines_of_triples terms ks ∙ ap (map line_of) (sym (triples_of_keys terms ks graph.set.rising graph.given))
 
 -- a later pool that has the tree has its lines
 pub lines_outlast : (terms more : List Term) (p q : Nodes) (root : Option ℕ) (from : Option Key) → IsGraphAt terms p root → tree_at q root ≡ tree_at p root → IsCursor terms from → lines_from (terms ++ more) q root from ≡ lines_from terms p root from

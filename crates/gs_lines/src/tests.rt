@@ -149,7 +149,8 @@ fn is_right(alloc: Global, triples: usize, count: u32, wanted: &str) -> Result<b
 
 /// The name of the first row that is wrong.
 fn wrong_row(alloc: Global) -> Result<Option<&'static str>, Refusal> {
-    for (name, triples, count, wanted) in ROWS {
+    for row in &ROWS {
+        let (name, triples, count, wanted) = *row;
         if !is_right(alloc, triples, count, wanted)? {
             return Ok(Some(name));
         }

@@ -1,3 +1,10 @@
 pub mod ListLemmas
+pub mod ChainLemmas
+pub mod HoldLemmas
+pub mod RetireLemmas
+pub mod ReleaseLemmas
+pub mod JoinLemmas
 pub mod PlaceLemmas
 pub mod ShownLemmas
+pub mod FollowLemmas
+pub mod HandOverLemmas

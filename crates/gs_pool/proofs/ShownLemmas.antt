@@ -9,8 +9,11 @@ use Rattle.gs_pool.specs.declared.places.Place.{Place}
 use Rattle.gs_pool.specs.declared.places.State.{State}
 use Rattle.gs_pool.specs.declared.places.State.TheVariants.{Free, Plain, AsideNode, AsideTree, RetiredNode, RetiredTree}
 use Rattle.gs_pool.specs.Pool.{Nodes, NodeMark, plain, aside, retired, is_aside, is_retired, Fills}
-use Rattle.gs_pool.specs.Places.{content_of, node_in, mark_in, is_whole, node_of, mark_of, is_free_place, is_aside_place, is_retired_place, IsListOf, IsSound}
+use Rattle.gs_pool.specs.Places.{content_of, next_of, node_in, mark_in, is_whole, node_of, mark_of, is_free_place, is_aside_place}
+use Rattle.gs_pool.specs.declared.holds.Hold.{Hold}
+use Rattle.gs_pool.specs.Lists.{place_kind, IsListOf, AreRetired, IsSound}
 use Rattle.gs_pool.proofs.ListLemmas.{list_pop, list_more, none_listed}
+use Rattle.gs_pool.proofs.RetireLemmas.{retired_pop, retired_more}
 use Rattle.gs_pool.proofs.PlaceLemmas.{Relists, relists, Writes, writes, mark_by}
 
 -- a place marked as set aside is in one of two states
@@ -23,7 +26,7 @@ aside_place RetiredNode death n h = absurd (true≢false (sym h))
 aside_place RetiredTree death n h = absurd (true≢false (sym h))
 
 -- a place marked as retired is in one of two states
-retired_place : (st : State) (death : ℕ) (n : Node) → is_retired (mark_in st death) ≡ true → (mark_in st death ≡ retired death (is_whole st)) × (node_in st n ≡ Some n)
+pub retired_place : (st : State) (death : ℕ) (n : Node) → is_retired (mark_in st death) ≡ true → (mark_in st death ≡ retired death (is_whole st)) × (node_in st n ≡ Some n)
 retired_place Free death n h = absurd (true≢false (sym h))
 retired_place Plain death n h = absurd (true≢false (sym h))
 retired_place AsideNode death n h = absurd (true≢false (sym h))
@@ -67,15 +70,15 @@ leaves places id s d m within read node was content state dies =
       relists = relists places id s d m plain within read same was now;
     }
 
-pub leaves_aside : (places : List Place) (first : Option ℕ) (id : ℕ) (s d : Place) → IsListOf is_aside_place places first → first ≡ Some id → d ≡ get_or places id d → content_of s ≡ content_of d → s.state ≡ Plain → s.death ≡ 0 → Leaves places id s d (aside d.death (is_whole d.state))
+pub leaves_aside : (places : List Place) (first : Option ℕ) (id : ℕ) (s d : Place) → IsListOf next_of is_aside_place places first → first ≡ Some id → d ≡ get_or places id d → content_of s ≡ content_of d → s.state ≡ Plain → s.death ≡ 0 → Leaves places id s d (aside d.death (is_whole d.state))
 leaves_aside places first id s d list is read content state dies =
-    let pops = list_pop is_aside_place places first id s d list is read (ap is_aside (mark_by s Plain 0 state dies)) in
+    let pops = list_pop next_of is_aside_place places first id s d list is read (ap is_aside (mark_by s Plain 0 state dies)) in
     let was = aside_place d.state d.death (content_of d) pops.was in
     leaves places id s d (aside d.death (is_whole d.state)) pops.within read was.1 was.0 content state dies
 
-pub leaves_retired : (places : List Place) (first : Option ℕ) (id : ℕ) (s d : Place) → IsListOf is_retired_place places first → first ≡ Some id → d ≡ get_or places id d → content_of s ≡ content_of d → s.state ≡ Plain → s.death ≡ 0 → Leaves places id s d (retired d.death (is_whole d.state))
-leaves_retired places first id s d list is read content state dies =
-    let pops = list_pop is_retired_place places first id s d list is read (ap is_retired (mark_by s Plain 0 state dies)) in
+pub leaves_retired : (places : List Place) (first : Option ℕ) (holds : List Hold) (loose total id : ℕ) (s d : Place) → AreRetired place_kind places first holds loose total → first ≡ Some id → d ≡ get_or places id d → content_of s ≡ content_of d → s.state ≡ Plain → s.death ≡ 0 → Leaves places id s d (retired d.death (is_whole d.state))
+leaves_retired places first holds loose total id s d lists is read content state dies =
+    let pops = retired_pop places first holds loose total lists id s d is read (ap is_retired (mark_by s Plain 0 state dies)) in
     let was = retired_place d.state d.death (content_of d) pops.was in
     leaves places id s d (retired d.death (is_whole d.state)) pops.within read was.1 was.0 content state dies
 
@@ -101,9 +104,9 @@ pub record Filled (places : List Place) (id limit : ℕ) (s d : Place) (n : Node
   pub fills : (old new : Nodes) → old.nodes ≡ map node_of places → old.marks ≡ map mark_of places → new.nodes ≡ map node_of (set places id s) → new.marks ≡ map mark_of (set places id s) → new.limit ≡ limit → Fills old new id n
   pub fewer : count_by is_none (map node_of (set places id s)) + 1 ≡ count_by is_none (map node_of places)
 
-pub filled : (places : List Place) (ff fr ft : Option ℕ) (free limit id : ℕ) (s d : Place) (n : Node) → IsSound places ff fr ft free limit → ff ≡ Some id → d ≡ get_or places id d → node_of s ≡ Some n → mark_of s ≡ plain → Filled places id limit s d n
-filled places ff fr ft free limit id s d n sound is read node mark =
-    let pops = list_pop is_free_place places ff id s d sound.free_list is read (ap is_none node) in
+pub filled : (places : List Place) (ff fr ft : Option ℕ) (holds : List Hold) (free loose total limit id : ℕ) (s d : Place) (n : Node) → IsSound places ff fr ft holds free loose total limit → ff ≡ Some id → d ≡ get_or places id d → node_of s ≡ Some n → mark_of s ≡ plain → Filled places id limit s d n
+filled places ff fr ft holds free loose total limit id s d n sound is read node mark =
+    let pops = list_pop next_of is_free_place places ff id s d sound.free_list is read (ap is_none node) in
     let was = free_state d.state d.death (content_of d) pops.was in
     let w = writes places id s d pops.within read in
     let kept = marks_kept places id s d read (mark ∙ sym was.0) in
@@ -152,9 +155,9 @@ pub record Pushed (places : List Place) (limit : ℕ) (s : Place) (n : Node) : T
   pub fills : (old new : Nodes) → old.nodes ≡ map node_of places → old.marks ≡ map mark_of places → new.nodes ≡ map node_of (places ++ s ∷ []) → new.marks ≡ map mark_of (places ++ s ∷ []) → new.limit ≡ limit → Fills old new (length places) n
   pub free : count_by is_none (map node_of (places ++ s ∷ [])) ≡ 0
 
-pub pushed : (places : List Place) (ff fr ft : Option ℕ) (free limit : ℕ) (s : Place) (n : Node) → IsSound places ff fr ft free limit → ff ≡ None → length places < limit → node_of s ≡ Some n → mark_of s ≡ plain → Pushed places limit s n
-pushed places ff fr ft free limit s n sound none room node mark =
-    let full : count_by is_none (map node_of places) ≡ 0 = Rattle.gs_pool.proofs.PlaceLemmas.count_shown is_none node_of places ∙ none_listed is_free_place places ff sound.free_list none in
+pub pushed : (places : List Place) (ff fr ft : Option ℕ) (holds : List Hold) (free loose total limit : ℕ) (s : Place) (n : Node) → IsSound places ff fr ft holds free loose total limit → ff ≡ None → length places < limit → node_of s ≡ Some n → mark_of s ≡ plain → Pushed places limit s n
+pushed places ff fr ft holds free loose total limit s n sound none room node mark =
+    let full : count_by is_none (map node_of places) ≡ 0 = Rattle.gs_pool.proofs.PlaceLemmas.count_shown is_none node_of places ∙ none_listed next_of is_free_place places ff sound.free_list none in
     let same : (x : ℕ) → get_or (map mark_of (places ++ s ∷ [])) x plain ≡ get_or (map mark_of places) x plain = λ x. elim (eqb x (length places)) as (λ b. eqb x (length places) ≡ b → get_or (map mark_of (places ++ s ∷ [])) x plain ≡ get_or (map mark_of places) x plain) [
       | true ↦ λ e.
           let at : x ≡ length places = eqb-true x (length places) e in
@@ -184,13 +187,13 @@ pushed places ff fr ft free limit s n sound none room node mark =
       free = omega arith;
     }
 
-pub pushed_sound : (places : List Place) (ff fr ft : Option ℕ) (free limit : ℕ) (s : Place) (n : Node) → IsSound places ff fr ft free limit → length places < limit → node_of s ≡ Some n → mark_of s ≡ plain → IsSound (places ++ s ∷ []) ff fr ft free limit
-pushed_sound places ff fr ft free limit s n sound room node mark =
+pub pushed_sound : (places : List Place) (ff fr ft : Option ℕ) (holds : List Hold) (free loose total limit : ℕ) (s : Place) (n : Node) → IsSound places ff fr ft holds free loose total limit → length places < limit → node_of s ≡ Some n → mark_of s ≡ plain → IsSound (places ++ s ∷ []) ff fr ft holds free loose total limit
+pushed_sound places ff fr ft holds free loose total limit s n sound room node mark =
     let counted = rw (ap is_none node) at (sum_by_push (λ p. cond (is_free_place p) 1 0) places s) in
     record {
-      free_list = list_more is_free_place places ff s sound.free_list (ap is_none node);
-      aside_list = list_more is_aside_place places fr s sound.aside_list (ap is_aside mark);
-      retired_list = list_more is_retired_place places ft s sound.retired_list (ap is_retired mark);
+      free_list = list_more next_of is_free_place places ff s sound.free_list (ap is_none node);
+      aside_list = list_more next_of is_aside_place places fr s sound.aside_list (ap is_aside mark);
+      retired_lists = retired_more places ft holds loose total s sound.retired_lists (ap is_retired mark);
       counted = omega (arith, sound.counted);
       short = omega (arith, length_push places s);
       small = sound.small;

@@ -1,10 +1,9 @@
 -- How a `Pool` lays out its nodes. No public clause cites this module.
-use Rattle.std.specs.Prelude.{◌≡◌, ℕ, ◌+◌, ◌≤◌, Bool, true, false, List, [], ◌∷◌, length, Option, Some, None, is_none, count_by, slice_get, if◌then◌else◌, ◌==◌}
+use Rattle.std.specs.Prelude.{ℕ, Bool, true, false, Option, Some, None, is_none, if◌then◌else◌}
 use Rattle.gs_pool.specs.declared.nodes.Node.{Node}
 use Rattle.gs_pool.specs.declared.places.Place.{Place}
 use Rattle.gs_pool.specs.declared.places.State.{State}
 use Rattle.gs_pool.specs.declared.places.State.TheVariants.{Free, Plain, AsideNode, AsideTree, RetiredNode, RetiredTree}
-use Rattle.gs_model.specs.Limits.{last_node}
 use Rattle.gs_pool.specs.Pool.{NodeMark, plain, aside, retired, is_aside, is_retired}
 
 -- a number, where there is one
@@ -82,29 +81,3 @@ is_aside_place s = is_aside (mark_of s)
 -- its node is retired
 abbrev pub is_retired_place : Place → Bool
 is_retired_place s = is_retired (mark_of s)
-
--- how often a number is in a list
-abbrev pub times : ℕ → List ℕ → ℕ
-times x [] = 0
-times x (y ∷ ys) = (if y == x then 1 else 0) + times x ys
-
--- the places named by these numbers pass the test, and each names the next
-abbrev pub IsChain : (Place → Bool) → List Place → Option ℕ → List ℕ → Type 0
-IsChain test places first [] = first ≡ None
-IsChain test places first (id ∷ ids) = (first ≡ Some id) × ((s : Place) × (slice_get places id ≡ Some s) × (test s ≡ true) × IsChain test places (next_of s) ids)
-
--- the list that begins at `first` has each place once that passes the test
-pub record IsListOf (test : Place → Bool) (places : List Place) (first : Option ℕ) : Type 0 where
-  pub ids : List ℕ
-  pub chain : IsChain test places first ids
-  pub once : (x : ℕ) → times x ids ≤ 1
-  pub all : length ids ≡ count_by test places
-
--- each list is whole
-pub record IsSound (places : List Place) (first_free first_aside first_retired : Option ℕ) (free limit : ℕ) : Type 0 where
-  pub free_list : IsListOf is_free_place places first_free
-  pub aside_list : IsListOf is_aside_place places first_aside
-  pub retired_list : IsListOf is_retired_place places first_retired
-  pub counted : free ≡ count_by is_free_place places
-  pub short : length places ≤ limit
-  pub small : limit ≤ last_node + 1

@@ -13,12 +13,17 @@ pub data NodeMark : Type 0 where
 abbrev pub replaced : NodeMark
 replaced = aside 0 false
 
--- the node under each number, where it is not free, and its mark; how many nodes fit after the last with no allocation; how many numbers there are at most
+-- The node under each number, where it is not free, and its mark; how many nodes fit after the last with no allocation; how many
+-- numbers there are at most; how many retired nodes are not held; and for each list of held ones the version of its pin, and how
+-- many it has.
 pub record Nodes : Type 0 where
   pub nodes : List (Option Node)
   pub marks : List NodeMark
   pub spare : ℕ
   pub limit : ℕ
+  pub loose : ℕ
+  pub pins : List (Option ℕ)
+  pub held : List ℕ
 
 -- the node under a number
 abbrev pub node_at : Nodes → ℕ → Option Node

@@ -145,6 +145,20 @@ impl Place {
         }
     }
 
+    /// The place with another next one.
+    pub fn with_next(self, next: Option<u32>) -> Place
+        ensures content { content_of result ≡ content_of self }
+        ensures state { result.state ≡ self.state }
+        ensures death { result.death ≡ self.death }
+        ensures next { next_of result ≡ next }
+    {
+        Place {
+            next: next.unwrap_or(0),
+            has_next: next.is_some(),
+            ..self
+        }
+    }
+
     /// The place with another state, at the head of a list.
     pub fn with_state(self, state: State, death: u64, next: Option<u32>) -> Place
         ensures content { content_of result ≡ content_of self }

@@ -1,10 +1,13 @@
 //! Nodes, each under a number.
-ghost use Rattle.std.specs.Prelude.{◌≡◌, ℕ, ◌+◌, ◌<◌, ◌≤◌, [], length, Some, None, IsSome, IsOk, OnOk, OnErr, IfOk, min, true, false};
+ghost use Rattle.std.specs.Prelude.{◌≡◌, ℕ, ◌+◌, ◌<◌, ◌≤◌, [], length, replicate, slice_set, Option, Some, None, IsSome, MatchOption, IsOk, OnOk, OnErr, IfOk, min, true, false};
 ghost use Rattle.std.specs.Bool.{Decides};
 ghost use Rattle.gs_model.specs.Limits.{last_node};
 ghost use Rattle.gs_pool.specs.Pool.{node_at, mark_at, free_count, in_use, room, aside_count, retired_count, plain, aside, replaced, retired};
 ghost use Rattle.gs_pool.specs.Pool.{IsPlain, IsParted, Updates, Marks, KeepsMarks, Fills, Replaces, TakesAside, TakesRetired, Counts};
+ghost use Rattle.gs_pool.specs.Held.{IsNeededBy, AreHeld, let_go, KeepsLists};
+ghost use Rattle.gs_pool.specs.Lists.{empty_hold};
 
+use crate::holds::Hold;
 use crate::nodes::{Node, Retired};
 use crate::places::{Place, State};
 use gs_model::LAST_NODE;
@@ -12,14 +15,20 @@ use std::alloc::{AllocError, Global};
 use std::marker::Model;
 
 /// Nodes, each under a number. A number is free, or in use and then plain, set aside or retired. Free,
-/// aside and retired ones are on a list each, which runs through the nodes.
+/// aside and retired ones are on lists, which run through the nodes. Of the retired ones those are held
+/// apart that the version of a pin was seen to need: there is a list for each pin, and `next_retired`
+/// gives none of them until `follow` says that the pin has ended.
 #[derive(Drop)]
 pub struct Pool {
-    places: Vec<Place>,
+    pub(crate) places: Vec<Place>,
     first_free: Option<u32>,
     first_aside: Option<u32>,
-    first_retired: Option<u32>,
+    pub(crate) first_retired: Option<u32>,
+    pub(crate) holds: Vec<Hold>,
     free: usize,
+    // How many retired nodes are not held, and how many there are in all.
+    pub(crate) loose: usize,
+    pub(crate) retired: usize,
     // How many numbers there are at most.
     limit: usize,
 }
@@ -30,32 +39,67 @@ impl Model for Pool {
 
     ghost Value = { Nodes };
 
-    ghost use Rattle.gs_pool.specs.Places.{node_of, mark_of, IsSound};
+    ghost use Rattle.gs_pool.specs.Places.{node_of, mark_of};
+    ghost use Rattle.gs_pool.specs.Lists.{pin_of, count_of, IsSound};
 
     ghost view = { λ p. record {
       nodes = map node_of p.places.items;
       marks = map mark_of p.places.items;
       spare = min (vec_capacity p.places) p.limit - vec_len p.places;
       limit = p.limit;
+      loose = p.loose;
+      pins = map pin_of p.holds.items;
+      held = map count_of p.holds.items;
     } };
 
-    ghost invariant = { λ p. IsSound p.places.items p.first_free p.first_aside p.first_retired p.free p.limit };
+    ghost invariant = { λ p. IsSound p.places.items p.first_free p.first_aside p.first_retired p.holds.items p.free p.loose p.retired p.limit };
 }
 
 impl Pool {
-    /// A pool with no node, whose numbers go from 0 to `last`, or to the greatest number of a node.
+    /// A pool with no node, whose numbers go from 0 to `last`, or to the greatest number of a node. It has
+    /// no list for a pin.
     pub fn new(alloc: Global, last: u32) -> Self
         ensures nodes { result.nodes ≡ [] }
         ensures marks { result.marks ≡ [] }
         ensures spare { result.spare ≡ 0 }
         ensures limit { result.limit ≡ min last last_node + 1 }
+        ensures loose { result.loose ≡ 0 }
+        ensures pins { result.pins ≡ [] }
+    {
+        Pool::of_holds(alloc, last, Vec::new(alloc))
+    }
+
+    /// The same, with a list for each of so many pins.
+    pub fn with_lists(alloc: Global, last: u32, lists: usize) -> Result<Self, AllocError>
+        ensures nodes { IfOk result (λ p. p.nodes ≡ []) }
+        ensures marks { IfOk result (λ p. p.marks ≡ []) }
+        ensures limit { IfOk result (λ p. p.limit ≡ min last last_node + 1) }
+        ensures loose { IfOk result (λ p. p.loose ≡ 0) }
+        ensures pins { IfOk result (λ p. p.pins ≡ replicate lists None) }
+    {
+        let holds = vec![in alloc; Hold::empty(None); lists]?;
+        Ok(Pool::of_holds(alloc, last, holds))
+    }
+
+    // A pool with no node and these lists, which are empty.
+    fn of_holds(alloc: Global, last: u32, holds: Vec<Hold>) -> Self
+        requires { holds.items ≡ replicate (length holds.items) (empty_hold None) }
+        ensures nodes { result.nodes ≡ [] }
+        ensures marks { result.marks ≡ [] }
+        ensures spare { result.spare ≡ 0 }
+        ensures limit { result.limit ≡ min last last_node + 1 }
+        ensures loose { result.loose ≡ 0 }
+        ensures pins { result.pins ≡ replicate (length holds.items) None }
     {
         Pool {
             places: Vec::new(alloc),
             first_free: None,
             first_aside: None,
             first_retired: None,
+            holds,
             free: 0,
+            loose: 0,
+            retired: 0,
             limit: u64::from(last).min(LAST_NODE) as usize + 1,
         }
     }
@@ -161,9 +205,10 @@ impl Pool {
         }
     }
 
-    /// Changes the node of a number.
+    /// Changes a plain node.
     pub fn set(&mut self, id: u32, node: Node)
-        requires { IsSome (node_at self.old id) }
+        requires used { IsSome (node_at self.old id) }
+        requires unlisted { mark_at self.old id ≡ plain }
         ensures updates { Updates self.old self.new id (Some node) }
         ensures marks { self.new.marks ≡ self.old.marks }
         ensures numbers { length self.new.nodes ≡ length self.old.nodes }
@@ -186,6 +231,8 @@ impl Pool {
         ensures room { room self.new ≡ room self.old + 1 }
         ensures in_use { in_use self.new + 1 ≡ in_use self.old }
         ensures limit { self.new.limit ≡ self.old.limit }
+        ensures loose { self.new.loose ≡ self.old.loose }
+        ensures pins { self.new.pins ≡ self.old.pins }
     {
         let place = self.places[id as usize];
         self.places[id as usize] = place.with_state(State::Free, 0, self.first_free);
@@ -201,6 +248,8 @@ impl Pool {
         ensures marks { Marks self.old self.new entry.id (aside entry.death entry.whole) }
         ensures aside { aside_count self.new ≡ aside_count self.old + 1 }
         ensures retired { retired_count self.new ≡ retired_count self.old }
+        ensures loose { self.new.loose ≡ self.old.loose }
+        ensures pins { self.new.pins ≡ self.old.pins }
     {
         let place = self.places[entry.id as usize];
         let state = State::aside(entry.whole);
@@ -238,63 +287,12 @@ impl Pool {
         ensures takes { TakesAside self.old self.new result }
         ensures none { Counts result (aside_count self.old) (aside_count self.new) }
         ensures retired { retired_count self.new ≡ retired_count self.old }
+        ensures loose { self.new.loose ≡ self.old.loose }
+        ensures pins { self.new.pins ≡ self.old.pins }
     {
         let id = self.first_aside?;
         let place = self.places[id as usize];
         self.first_aside = place.next();
-        self.places[id as usize] = place.with_state(State::Plain, 0, None);
-        Some(Retired {
-            id,
-            death: place.death,
-            whole: place.is_whole(),
-        })
-    }
-
-    /// Retires a plain node. Takes no memory.
-    pub fn retire(&mut self, entry: Retired)
-        requires used { IsSome (node_at self.old entry.id) }
-        requires unlisted { mark_at self.old entry.id ≡ plain }
-        ensures marks { Marks self.old self.new entry.id (retired entry.death entry.whole) }
-        ensures aside { aside_count self.new ≡ aside_count self.old }
-        ensures retired { retired_count self.new ≡ retired_count self.old + 1 }
-    {
-        let place = self.places[entry.id as usize];
-        let state = State::retired(entry.whole);
-        self.places[entry.id as usize] = place.with_state(state, entry.death, self.first_retired);
-        self.first_retired = Some(entry.id);
-    }
-
-    /// Retires a plain node alone. Takes no memory.
-    pub fn retire_one(&mut self, id: u32, death: u64)
-        requires used { IsSome (node_at self.old id) }
-        requires unlisted { mark_at self.old id ≡ plain }
-        ensures marks { Marks self.old self.new id (retired death false) }
-        ensures aside { aside_count self.new ≡ aside_count self.old }
-        ensures retired { retired_count self.new ≡ retired_count self.old + 1 }
-    {
-        self.retire(Retired::alone(id, death));
-    }
-
-    /// Retires a plain node with all nodes below it, which stay plain. Takes no memory.
-    pub fn retire_tree(&mut self, id: u32, death: u64)
-        requires used { IsSome (node_at self.old id) }
-        requires unlisted { mark_at self.old id ≡ plain }
-        ensures marks { Marks self.old self.new id (retired death true) }
-        ensures aside { aside_count self.new ≡ aside_count self.old }
-        ensures retired { retired_count self.new ≡ retired_count self.old + 1 }
-    {
-        self.retire(Retired::tree(id, death));
-    }
-
-    /// Takes a node off the list of retired ones: it is plain again. `None` says that none is there.
-    pub fn next_retired(&mut self) -> Option<Retired>
-        ensures takes { TakesRetired self.old self.new result }
-        ensures none { Counts result (retired_count self.old) (retired_count self.new) }
-        ensures aside { aside_count self.new ≡ aside_count self.old }
-    {
-        let id = self.first_retired?;
-        let place = self.places[id as usize];
-        self.first_retired = place.next();
         self.places[id as usize] = place.with_state(State::Plain, 0, None);
         Some(Retired {
             id,

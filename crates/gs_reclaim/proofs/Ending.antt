@@ -1,11 +1,12 @@
 -- The end of a reclaim: what was set aside is retired again, and it is said whether waste is left.
 use Rattle.std.proofs.Common.{◌≡◌, ◌≢◌, ◌⊎◌, ◌↔◌, ℕ, suc, ◌+◌, ◌<◌, ◌≤◌, Bool, true, false, cond, IsTrue, List, [], ◌∷◌, length, get_or, count_by, is_some, Some, None, refl, sym, ap, subst, ◌∙◌, inl, inr, arith, true≢false}
-use Rattle.std.proofs.lemmas.Bool.{cases_eq}
+use Rattle.std.proofs.lemmas.Bool.{cases_eq, cases_lt}
 use Rattle.std.proofs.lemmas.List.Elements.{All-head}
 use Rattle.std.proofs.lemmas.List.Sums.{sum_by-cons}
 use Rattle.std.specs.List.{All}
 use Rattle.gs_pool.specs.declared.nodes.Retired.{Retired}
 use Rattle.gs_pool.specs.Pool.{Nodes, NodeMark, plain, aside, retired, is_aside, is_retired, mark_at, in_use, aside_count, retired_count, KeepsNodes, Marks, Unlists}
+use Rattle.gs_pool.specs.Held.{AreHeld}
 use Rattle.gs_tree.specs.Steps.{plain_mark}
 use Rattle.gs_versions.specs.Pins.{Pins}
 use Rattle.gs_event.specs.Steps.{Frees}
@@ -13,7 +14,9 @@ use Rattle.gs_ledger.specs.Entries.{Dead, tops, lives}
 use Rattle.gs_ledger.specs.Marks.{death_of, dead_at, waste_at}
 use Rattle.gs_ledger.specs.Ledger.{IsDead}
 use Rattle.gs_ledger.proofs.Retiring.{none_aside}
-use Rattle.gs_reclaim.specs.Reclaims.{HasLedger, KeepsLedgers, Reclaims, KeepsDead, IsAnswer}
+use Rattle.std.specs.Bool.{Decides}
+use Rattle.gs_reclaim.specs.Reclaims.{HasLedger, KeepsLedgers, Reclaims}
+use Rattle.gs_reclaim.specs.Holders.{Agrees, KeepsDead}
 use Rattle.gs_reclaim.proofs.Reclaiming.{none_retired, same_ledgers, same_waste, ledger_now, freed_exact, in_use_falls}
 
 -- nothing changed
@@ -69,20 +72,26 @@ some_lives : (ds : List Dead) (x : ℕ) → 0 < tops ds x → lives ds ≢ []
 some_lives [] x h = absurd (omega arith)
 some_lives (d ∷ ds) x h = λ e. absurd (omega (arith, ap length e))
 
-left_is : (v : Pins) (p : Nodes) (left : Bool) → HasLedger p v → aside_count p ≡ 0 → IsAnswer left (retired_count p) → IsTrue left ↔ (waste_at p ≢ [])
+no_more : (n : ℕ) → Decides false (0 < n) → n ≡ 0
+no_more n none = elim (cases_lt 0 n) [
+  | inl some ↦ absurd (true≢false (sym (none.1 some)))
+  | inr few ↦ omega (arith, few)
+]
+
+left_is : (v : Pins) (p : Nodes) (left : Bool) → HasLedger p v → aside_count p ≡ 0 → Decides left (0 < retired_count p) → IsTrue left ↔ (waste_at p ≢ [])
 left_is v p true h none some =
-    let found = retired_found p.marks some in
+    let found = retired_found p.marks (some.0 refl) in
     (λ t. some_lives (dead_at p) found.0 (omega (arith, h.ledger.marks found.0, retired_not_plain (mark_at p found.0) found.1)), λ e. refl)
-left_is v p false h none zero_left = (λ t. absurd (cc), λ e. absurd (e (no_lives p v.commit (dead_at p) h.ledger.waste none zero_left)))
+left_is v p false h none zero_left = (λ t. absurd (cc), λ e. absurd (e (no_lives p v.commit (dead_at p) h.ledger.waste none (no_more (retired_count p) zero_left))))
 
 -- What a reclaim makes of the waste, from what its parts did.
-module _ (v : Pins) (p0 p q : Nodes) (n freed : ℕ) (left : Bool) (h : HasLedger p0 v) (k : Reclaims v p0 p freed) (most : freed ≤ n) (all : (freed ≡ n) ⊎ (retired_count p ≡ 0)) (dead : KeepsDead p q) where
+module _ (v : Pins) (p0 p q : Nodes) (n freed : ℕ) (left : Bool) (h : HasLedger p0 v) (k : Reclaims v p0 p freed) (most : freed ≤ n) (all : (freed ≡ n) ⊎ AreHeld p) (agrees : Agrees p v) (dead : KeepsDead p q) where
   pub ended_ledgers : KeepsLedgers v p0 q
   ended_ledgers gs us rs l = same_ledgers v p q (keeps_nodes p q dead) dead.deaths gs us rs (k.ledgers gs us rs l)
 
-  pub ended_waste : aside_count q ≡ 0 → IsAnswer left (retired_count q) → Frees v.seats n freed left (waste_at p0) (waste_at q)
+  pub ended_waste : aside_count q ≡ 0 → Decides left (0 < retired_count q) → Frees v.seats n freed left (waste_at p0) (waste_at q)
   ended_waste none answer = record {
-    exact = freed_exact v p0 p n freed h k most all;
+    exact = freed_exact v p0 p n freed h k most all agrees;
     gone = k.gone;
     many = k.many;
     same = λ f. omega (arith, k.same f, same_waste v p q (ledger_now v p0 p h k.ledgers) (keeps_nodes p q dead) dead.deaths f);

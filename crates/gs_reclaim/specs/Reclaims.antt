@@ -1,11 +1,11 @@
 -- What a reclaim asks of a pool, and what it makes of it.
-use Rattle.std.specs.Prelude.{◌≡◌, ◌≢◌, ℕ, ◌+◌, ◌<◌, Bool, true, false, List, length, Option, Some, None}
+use Rattle.std.specs.Prelude.{◌≡◌, ◌≢◌, ℕ, ◌+◌, Bool, true, false, List, length, Option, Some, None}
 use Rattle.std.specs.List.{All, sum_by}
 use Rattle.gs_pool.specs.declared.nodes.Node.{Node}
 use Rattle.gs_pool.specs.declared.nodes.Retired.{Retired}
-use Rattle.gs_pool.specs.Pool.{Nodes, plain, aside, node_at, mark_at, IsPlain, KeepsMarks, Marks, Updates}
+use Rattle.gs_pool.specs.Pool.{Nodes, NodeMark, plain, aside, node_at, mark_at, IsPlain, KeepsMarks, Marks, Updates}
 use Rattle.gs_tree.specs.Tree.{Tree}
-use Rattle.gs_versions.specs.Pins.{Pins, IsNeeded}
+use Rattle.gs_versions.specs.Pins.{Pins, HasPinned, IsNeeded}
 use Rattle.gs_event.specs.Waste.{Lifetime, is_needed}
 use Rattle.gs_ledger.specs.Marks.{death_of, dead_at, waste_at}
 use Rattle.gs_ledger.specs.Ledger.{IsLedger}
@@ -59,10 +59,25 @@ pub record Unrolls (p q : Nodes) (id death : ℕ) (whole : Bool) : Type 0 where
   pub updates : Updates between q id None
   pub marks : KeepsMarks between q
 
--- a node that was taken off the list is freed, where no version needs it, and else set aside
+-- the pin of a seat needs a node that was taken off the list
+pub record IsNeededFor (v : Pins) (p : Nodes) (seat : ℕ) (r : Retired) : Type 0 where
+  pub node : Node
+  pub found : node_at p r.id ≡ Some node
+  pub pinned : HasPinned v.seats seat node.birth r.death
+
+-- a node that was taken off the list, and that a version needs, is dead still: it is held, or set aside
+pub record Stays (v : Pins) (p q : Nodes) (r : Retired) : Type 0 where
+  pub node : Node
+  pub found : node_at p r.id ≡ Some node
+  pub needed : IsNeeded v node.birth r.death
+  pub mark : NodeMark
+  pub dead : death_of mark ≡ Some (r.death, r.whole)
+  pub marks : Marks p q r.id mark
+
+-- a node that was taken off the list is freed, where no version needs it, and else stays
 abbrev pub Settles : Pins → Nodes → Nodes → Retired → Bool → Type 0
 Settles v p q r true = (n : Node) × (node_at p r.id ≡ Some n) × (IsNeeded v n.birth r.death → ⊥) × Unrolls p q r.id r.death r.whole
-Settles v p q r false = (n : Node) × (node_at p r.id ≡ Some n) × IsNeeded v n.birth r.death × Marks p q r.id (aside r.death r.whole)
+Settles v p q r false = Stays v p q r
 
 -- So many nodes went from a pool, which no pin needed; what is set aside is needed; and ledgers go on.
 pub record Reclaims (v : Pins) (p q : Nodes) (freed : ℕ) : Type 0 where
@@ -72,13 +87,3 @@ pub record Reclaims (v : Pins) (p q : Nodes) (freed : ℕ) : Type 0 where
   pub same : (f : Lifetime → ℕ) → sum_by f (waste_at q) + sum_by f gone ≡ sum_by f (waste_at p)
   pub none_needed : All (λ l. is_needed v.seats l ≡ false) gone
   pub needed : (x death : ℕ) (whole : Bool) (n : Node) → mark_at q x ≡ aside death whole → node_at q x ≡ Some n → IsNeeded v n.birth death
-
--- each number has the node and the death that it had
-pub record KeepsDead (p q : Nodes) : Type 0 where
-  pub nodes : q.nodes ≡ p.nodes
-  pub deaths : (x : ℕ) → death_of (mark_at q x) ≡ death_of (mark_at p x)
-
--- some node is retired, or none is
-abbrev pub IsAnswer : Bool → ℕ → Type 0
-IsAnswer true n = 0 < n
-IsAnswer false n = n ≡ 0

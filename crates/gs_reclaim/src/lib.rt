@@ -1,6 +1,7 @@
 //! Giving back the nodes that no version needs.
 #![tactic(auto)]
 
+mod holders;
 mod reclaims;
 mod retiring;
 

@@ -13,6 +13,8 @@ pub fn retire_root(pool: &mut Pool, root: Option<u32>, death: u64)
     ensures nodes { pool.new.nodes ≡ pool.old.nodes }
     ensures aside { aside_count pool.new ≡ aside_count pool.old }
     ensures retired { retired_count pool.new ≤ retired_count pool.old + 1 }
+    ensures loose { pool.new.loose ≤ pool.old.loose + 1 }
+    ensures pins { pool.new.pins ≡ pool.old.pins }
 {
     if let Some(id) = root {
         pool.retire_tree(id, death);
@@ -25,7 +27,8 @@ fn retire_sides(pool: &mut Pool, id: u32, node: Node, death: u64, whole: bool)
     ensures sides { RetiresSides whole pool.old pool.new node death }
     ensures nodes { pool.new.nodes ≡ pool.old.nodes }
     ensures aside { aside_count pool.new ≡ aside_count pool.old }
-    ensures retired { retired_count pool.new ≤ retired_count pool.old + 2 }
+    ensures loose { pool.new.loose ≤ pool.old.loose + 2 }
+    ensures pins { pool.new.pins ≡ pool.old.pins }
 {
     if !whole {
         return;
@@ -40,7 +43,8 @@ pub fn free_top(pool: &mut Pool, entry: Retired)
     ensures unrolls { Unrolls pool.old pool.new entry.id entry.death entry.whole }
     ensures fewer { in_use pool.new + 1 ≡ in_use pool.old }
     ensures aside { aside_count pool.new ≡ aside_count pool.old }
-    ensures retired { retired_count pool.new ≤ retired_count pool.old + 2 }
+    ensures loose { pool.new.loose ≤ pool.old.loose + 2 }
+    ensures pins { pool.new.pins ≡ pool.old.pins }
 {
     let node = pool.get(entry.id);
     retire_sides(pool, entry.id, node, entry.death, entry.whole);

@@ -4,6 +4,8 @@
 #[cfg(test)]
 mod draws;
 #[cfg(test)]
+mod holds;
+#[cfg(test)]
 mod nodes;
 #[cfg(test)]
 mod pins;

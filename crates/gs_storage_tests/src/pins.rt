@@ -3,15 +3,27 @@ use crate::draws::Draws;
 use gs_model::Refusal;
 use gs_versions::Versions;
 
-/// Whether a version of the list, or the last one, has the lifetime.
-fn is_needed(pins: &[Option<u64>], commit: u64, birth: u64, death: u64) -> bool {
-    let mut needed = birth <= commit && commit < death;
-    for pin in pins {
-        if let Some(version) = pin {
-            needed = needed || (birth <= *version && *version < death);
+/// The first seat whose version in the list has the lifetime.
+fn needing(pins: &[Option<u64>], birth: u64, death: u64) -> Option<usize> {
+    for (seat, pin) in pins.iter().enumerate() {
+        if let Some(version) = pin
+            && birth <= *version
+            && *version < death
+        {
+            return Some(seat);
         }
     }
-    needed
+    None
+}
+
+/// The first seat, among the first so many, that has the version in the list.
+fn seat_of(pins: &[Option<u64>], version: u64, seats: usize) -> Option<usize> {
+    for (seat, pin) in pins.iter().enumerate() {
+        if seat < seats && *pin == Some(version) {
+            return Some(seat);
+        }
+    }
+    None
 }
 
 #[test]
@@ -51,10 +63,11 @@ fn pins_need_what_a_list_of_versions_needs(rt: HostRuntime) -> Result<(), Refusa
         }
         let death = commit.saturating_add(2).saturating_sub(draws.next() % 12);
         let birth = death.saturating_sub(draws.next() % 8);
-        let wanted = is_needed(&pins, commit, birth, death);
-        assert!(&rt; versions.is_needed(birth, death) == wanted);
-        assert!(&rt; !versions.is_needed(birth, 0));
-        if wanted {
+        let wanted = needing(&pins, birth, death);
+        assert!(&rt; versions.needing(birth, death) == wanted);
+        assert!(&rt; versions.needing(birth, 0) == None);
+        assert!(&rt; versions.seat_of(birth, place) == seat_of(&pins, birth, place));
+        if wanted.is_some() {
             needed = needed.saturating_add(1);
         }
     }

@@ -39,6 +39,7 @@ pub fn link(pool: &mut Pool, id: u32, left: Option<u32>, key: Key, right: Option
     requires left { IsRoot pool.old left }
     requires right { IsRoot pool.old right }
     requires used { IsSome (node_at pool.old id) }
+    requires unlisted { mark_at pool.old id ≡ plain }
     requires left_fits { height_at pool.old left < 2 ^ 31 }
     requires right_fits { height_at pool.old right < 2 ^ 31 }
     ensures { Links pool.old pool.new id left key right birth }
@@ -203,6 +204,7 @@ fn relink(
     birth: u64,
 )
     requires used { IsSome (node_at pool.old id) }
+    requires unlisted { mark_at pool.old id ≡ plain }
     requires above { height ≡ max (height_at pool.old left) (height_at pool.old right) + 1 }
     ensures { Links pool.old pool.new id left key right birth }
 {

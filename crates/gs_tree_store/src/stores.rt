@@ -71,12 +71,13 @@ impl TreeStore {
         let base = String::from_str(alloc, base)?;
         let dict = Dict::new(alloc, storage.seed, storage.last_term)?;
         let versions = Versions::new(alloc, seats, commit)?;
+        let pool = Pool::with_lists(alloc, storage.last_node, usize::from(seats))?;
         let books = Books {
             base,
             limits,
             request,
             dict,
-            pool: Pool::new(alloc, storage.last_node),
+            pool,
             versions,
             catalogue: Catalogue::new(alloc),
         };

@@ -3,4 +3,4 @@
 
 mod versions;
 
-pub use versions::Versions;
+pub use versions::{Versions, lies_in};

@@ -1,7 +1,7 @@
 //! The number of commits, and a pin for each seat.
-ghost use Rattle.std.specs.Prelude.{◌≡◌, ◌+◌, ◌<◌, length, slice_get, Some, None, MatchResult};
+ghost use Rattle.std.specs.Prelude.{◌≡◌, ◌+◌, ◌<◌, length, take, slice_get, slice_index_or, Some, None, MatchResult};
 ghost use Rattle.std.specs.Bool.{Decides};
-ghost use Rattle.gs_versions.specs.Pins.{LiesIn, IsNeeded, unpinned, with_pin, at_commit};
+ghost use Rattle.gs_versions.specs.Pins.{LiesIn, IsNeeded, FindsPin, FindsSeat, unpinned, with_pin, at_commit};
 ghost use Rattle.gs_model.specs.Limits.{last_number};
 
 use gs_model::Refusal;
@@ -25,7 +25,7 @@ impl Model for Versions {
 }
 
 /// Whether a version has what was born at `birth` and died at `death`.
-fn lies_in(version: u64, birth: u64, death: u64) -> bool
+pub fn lies_in(version: u64, birth: u64, death: u64) -> bool
     ensures { Decides result (LiesIn version birth death) }
 {
     birth <= version && version < death
@@ -62,6 +62,16 @@ impl Versions {
         self.pins[usize::from(seat)]
     }
 
+    /// The version that a seat of this number has pinned, where there is such a seat.
+    pub fn pin_at(&self, seat: usize) -> Option<u64>
+        ensures { result ≡ slice_index_or self.now.seats seat None }
+    {
+        match self.pins.get(seat) {
+            Some(pin) => *pin,
+            None => None,
+        }
+    }
+
     /// Pins the current version for a seat, in place of what it had pinned.
     pub fn pin(&mut self, seat: u16)
         requires { seat < length self.old.seats }
@@ -87,21 +97,39 @@ impl Versions {
         self.commit += 1;
     }
 
-    /// Whether the current version or a pinned one has what was born at `birth` and died at
-    /// `death`. A death of 0 is needed by nobody. Linear in the seats.
+    /// A seat whose pinned version has what was born at `birth` and died at `death`. `None` says that none
+    /// has; so a death of 0 is needed by nobody. Linear in the seats.
+    pub fn needing(&self, birth: u64, death: u64) -> Option<usize>
+        ensures { FindsPin self.now.seats birth death result }
+    {
+        for seat in 0..self.pins.len() {
+            if let Some(version) = self.pins[seat]
+                && lies_in(version, birth, death)
+            {
+                return Some(seat);
+            }
+        }
+        None
+    }
+
+    /// Whether the current version or a pinned one has what was born at `birth` and died at `death`.
+    /// Linear in the seats.
     pub fn is_needed(&self, birth: u64, death: u64) -> bool
         ensures { Decides result (IsNeeded self.now birth death) }
     {
-        if lies_in(self.commit, birth, death) {
-            return true;
-        }
-        for pin in &self.pins {
-            if let Some(version) = pin
-                && lies_in(*version, birth, death)
-            {
-                return true;
+        lies_in(self.commit, birth, death) || self.needing(birth, death).is_some()
+    }
+
+    /// A seat that has this version pinned, among the first so many seats. `None` says that none of these
+    /// has. Linear in the seats.
+    pub fn seat_of(&self, version: u64, seats: usize) -> Option<usize>
+        ensures { FindsSeat (take seats self.now.seats) version result }
+    {
+        for found in 0..self.pins.len().min(seats) {
+            if self.pins[found] == Some(version) {
+                return Some(found);
             }
         }
-        false
+        None
     }
 }

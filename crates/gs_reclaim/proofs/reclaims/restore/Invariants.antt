@@ -1,9 +1,14 @@
+use Rattle.std.proofs.Common.{◌≡◌, ◌+◌}
 use Rattle.gs_pool.specs.Pool.{aside_count}
-use Rattle.gs_reclaim.specs.Reclaims.{KeepsDead}
+use Rattle.gs_reclaim.specs.Holders.{KeepsDead}
 use Rattle.gs_reclaim.proofs.reclaims.restore.Given as goal
 
 abbrev pub invariant-loop-entry : goal.invariant-loop-entry
-invariant-loop-entry l = KeepsDead l.fn.pool l.pool
+invariant-loop-entry l = record {
+  dead : KeepsDead l.fn.pool l.pool;
+  pins : l.pool.pins ≡ l.fn.pool.pins;
+  loose : l.pool.loose + aside_count l.pool ≡ l.fn.pool.loose + aside_count l.fn.pool;
+}
 
 abbrev pub decreases-loop-entry : goal.decreases-loop-entry
 decreases-loop-entry l = aside_count l.pool

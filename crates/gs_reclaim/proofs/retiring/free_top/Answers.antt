@@ -1,10 +1,7 @@
-use Rattle.std.proofs.Common.{refl, ◌∙◌, arith}
-use Rattle.gs_pool.specs.Pool.{is_aside, is_retired}
+use Rattle.std.proofs.Common.{refl, ◌∙◌}
+use Rattle.gs_pool.specs.Pool.{is_aside}
 use Rattle.gs_reclaim.proofs.Freeing.{same_count}
 use Rattle.gs_reclaim.proofs.retiring.free_top.Goals as goal
 
 pub returns-clause-aside : goal.returns-clause-aside
 returns-clause-aside c = same_count is_aside refl c.free.new.self.marks c.retire_sides.new.pool.marks c.free.ensures.marks ∙ c.retire_sides.ensures.aside
-
-pub returns-clause-retired : goal.returns-clause-retired
-returns-clause-retired c = omega (arith, same_count is_retired refl c.free.new.self.marks c.retire_sides.new.pool.marks c.free.ensures.marks, c.retire_sides.ensures.retired)

@@ -1,4 +1,6 @@
-use Rattle.std.proofs.Common.{◌<◌, ◌≤◌, Some, refl, ap, arith}
+use Rattle.std.proofs.Common.{◌<◌, ◌≤◌, Some, refl, ap, arith, ◌∙◌, get_or}
+use Rattle.gs_pool.specs.Pool.{plain}
+use Rattle.gs_tree.proofs.TreeLemmas.{plain_found, one_same}
 use Rattle.gs_tree.specs.Tree.{fork, height, tree_at}
 use Rattle.gs_tree.proofs.Rotations.{root_in, height_in, settled_at}
 use Rattle.gs_tree.proofs.RotationsRight.{turn, single_low, single, turn2, double_far, double_high, double_sides, double}
@@ -127,3 +129,31 @@ copy_if_older-middle-requires-clause-room c = λ old.
     let a = turn c.args.since c.args.birth c.args.pool.now c.copy_if_older-turned.new.pool c.args.top c.args.right c.copy_if_older-turned.result c.get-below.result (tree_at c.args.pool.now (Some c.args.right)) (tree_at c.args.pool.now c.args.left) c.args.left c.requires.can c.get-below.ensures c.copy_if_older-turned.ensures in
     let r = older_root c.args.since c.copy_if_older-turned.new.pool c.get-below.result.left c.in-Some.inner c.get-node.result a.y a.right_is a.sy c.in-Some.is c.get-node.ensures old in
     omega (arith, a.has_room, r.0, copies_some c.args.since 1 r.1)
+
+pub link-requires-clause-unlisted : goal.link-requires-clause-unlisted
+link-requires-clause-unlisted c =
+    let a = turn c.args.since c.args.birth c.args.pool.now c.copy_if_older-turned.new.pool c.args.top c.args.right c.copy_if_older-turned.result c.get-below.result (tree_at c.args.pool.now (Some c.args.right)) (tree_at c.args.pool.now c.args.left) c.args.left c.requires.can c.get-below.ensures c.copy_if_older-turned.ensures in
+    (plain_found c.copy_if_older-turned.new.pool c.args.top (omega (arith, a.apart c.args.top, one_same c.args.top))).1
+
+pub link-requires-then-height_of-clause-unlisted : goal.link-requires-then-height_of-clause-unlisted
+link-requires-then-height_of-clause-unlisted c =
+    let a = turn c.args.since c.args.birth c.args.pool.now c.copy_if_older-turned.new.pool c.args.top c.args.right c.copy_if_older-turned.result c.get-below.result (tree_at c.args.pool.now (Some c.args.right)) (tree_at c.args.pool.now c.args.left) c.args.left c.requires.can c.get-below.ensures c.copy_if_older-turned.ensures in
+    ap (λ ms. get_or ms c.copy_if_older-turned.result plain) c.link.ensures.marks ∙ (plain_found c.copy_if_older-turned.new.pool c.copy_if_older-turned.result (omega (arith, a.apart c.copy_if_older-turned.result, one_same c.copy_if_older-turned.result))).1
+
+pub link-requires-2-clause-unlisted : goal.link-requires-2-clause-unlisted
+link-requires-2-clause-unlisted c =
+    let a = turn c.args.since c.args.birth c.args.pool.now c.copy_if_older-turned.new.pool c.args.top c.args.right c.copy_if_older-turned.result c.get-below.result (tree_at c.args.pool.now (Some c.args.right)) (tree_at c.args.pool.now c.args.left) c.args.left c.requires.can c.get-below.ensures c.copy_if_older-turned.ensures in
+    let b = turn2 c.args.since c.args.birth c.args.pool.now c.copy_if_older-turned.new.pool c.args.top c.args.right c.copy_if_older-turned.result c.get-below.result c.args.key (tree_at c.args.pool.now (Some c.args.right)) (tree_at c.args.pool.now c.args.left) c.args.left c.requires.birth c.requires.can c.requires.higher a c.copy_if_older-middle.new.pool c.in-Some.inner c.copy_if_older-middle.result c.get-node.result c.in-Some.is c.get-node.ensures c.copy_if_older-middle.ensures in
+    (plain_found c.copy_if_older-middle.new.pool c.copy_if_older-turned.result (omega (arith, b.apart c.copy_if_older-turned.result, one_same c.copy_if_older-turned.result))).1
+
+pub link-requires-3-clause-unlisted : goal.link-requires-3-clause-unlisted
+link-requires-3-clause-unlisted c =
+    let a = turn c.args.since c.args.birth c.args.pool.now c.copy_if_older-turned.new.pool c.args.top c.args.right c.copy_if_older-turned.result c.get-below.result (tree_at c.args.pool.now (Some c.args.right)) (tree_at c.args.pool.now c.args.left) c.args.left c.requires.can c.get-below.ensures c.copy_if_older-turned.ensures in
+    let b = turn2 c.args.since c.args.birth c.args.pool.now c.copy_if_older-turned.new.pool c.args.top c.args.right c.copy_if_older-turned.result c.get-below.result c.args.key (tree_at c.args.pool.now (Some c.args.right)) (tree_at c.args.pool.now c.args.left) c.args.left c.requires.birth c.requires.can c.requires.higher a c.copy_if_older-middle.new.pool c.in-Some.inner c.copy_if_older-middle.result c.get-node.result c.in-Some.is c.get-node.ensures c.copy_if_older-middle.ensures in
+    ap (λ ms. get_or ms c.args.top plain) c.link-2.ensures.marks ∙ (plain_found c.copy_if_older-middle.new.pool c.args.top (omega (arith, b.apart c.args.top, one_same c.args.top))).1
+
+pub link-requires-4-clause-unlisted : goal.link-requires-4-clause-unlisted
+link-requires-4-clause-unlisted c =
+    let a = turn c.args.since c.args.birth c.args.pool.now c.copy_if_older-turned.new.pool c.args.top c.args.right c.copy_if_older-turned.result c.get-below.result (tree_at c.args.pool.now (Some c.args.right)) (tree_at c.args.pool.now c.args.left) c.args.left c.requires.can c.get-below.ensures c.copy_if_older-turned.ensures in
+    let b = turn2 c.args.since c.args.birth c.args.pool.now c.copy_if_older-turned.new.pool c.args.top c.args.right c.copy_if_older-turned.result c.get-below.result c.args.key (tree_at c.args.pool.now (Some c.args.right)) (tree_at c.args.pool.now c.args.left) c.args.left c.requires.birth c.requires.can c.requires.higher a c.copy_if_older-middle.new.pool c.in-Some.inner c.copy_if_older-middle.result c.get-node.result c.in-Some.is c.get-node.ensures c.copy_if_older-middle.ensures in
+    ap (λ ms. get_or ms c.copy_if_older-middle.result plain) c.link-3.ensures.marks ∙ ap (λ ms. get_or ms c.copy_if_older-middle.result plain) c.link-2.ensures.marks ∙ (plain_found c.copy_if_older-middle.new.pool c.copy_if_older-middle.result (omega (arith, b.apart c.copy_if_older-middle.result, one_same c.copy_if_older-middle.result))).1

@@ -14,7 +14,7 @@ invariant_of-self c =
     let u = is_used c.self.inside.places.items c.args.id d c.index-place.ensures (rw (← c.self.view_is) at c.requires.used) in
     let unlisted = sym u.mark ∙ (rw (← c.self.view_is) at c.requires.unlisted) in
     let mark = mark_by s Free 0 c.with_state.ensures.state c.with_state.ensures.death in
-    freed_sound _ _ _ _ _ _ _ s d c.self.invariant c.index-place.ensures u.within u.not_free unlisted (ap (λ k. is_none (node_in k (content_of s))) c.with_state.ensures.state) mark c.with_state.ensures.next
+    freed_sound _ _ _ _ _ _ _ _ _ _ s d c.self.invariant c.index-place.ensures u.within u.not_free unlisted (ap (λ k. is_none (node_in k (content_of s))) c.with_state.ensures.state) mark c.with_state.ensures.next
 
 pub returns-clause-updates : goal.returns-clause-updates
 returns-clause-updates c =

@@ -13,7 +13,7 @@ invariant_of-self c =
     let unlisted = sym u.mark ∙ (rw (← c.self.view_is) at c.requires.unlisted) in
     let mark = mark_by s (retired_state c.args.entry.whole) c.args.entry.death (c.with_state.ensures.state ∙ c.retired-state.ensures) c.with_state.ensures.death ∙ mark_in_retired c.args.entry.whole c.args.entry.death in
     let same = same_node c.self.inside.places.items c.args.entry.id s d (retired_state c.args.entry.whole) u c.with_state.ensures.content (c.with_state.ensures.state ∙ c.retired-state.ensures) (node_in_retired c.args.entry.whole) in
-    retired_sound _ _ _ _ _ _ _ s d c.self.invariant c.index-place.ensures c.args.entry.death c.args.entry.whole u.within u.not_free unlisted (ap is_none same ∙ u.not_free) mark c.with_state.ensures.next
+    retired_sound _ _ _ _ _ _ _ _ _ _ s d c.self.invariant c.index-place.ensures c.args.entry.death c.args.entry.whole u.within u.not_free unlisted (ap is_none same ∙ u.not_free) mark c.with_state.ensures.next
 
 pub returns-clause-marks : goal.returns-clause-marks
 returns-clause-marks c =

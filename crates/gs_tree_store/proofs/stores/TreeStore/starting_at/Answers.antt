@@ -5,14 +5,14 @@ use Rattle.gs_tree_store.specs.declared.stores.TreeStore.TheInside.{Inside}
 use Rattle.gs_tree_store.proofs.FreshLemmas.{IsFresh, fresh_kept, fresh_view, fresh_pins}
 use Rattle.gs_tree_store.proofs.stores.TreeStore.starting_at.Goals as goal
 
-abbrev made : goal.After-new-4 → Inside
-made c = record { alloc = c.args.alloc; books = record { base = c.in_ok-base.base; limits = c.args.limits; request = c.args.request; dict = c.in_ok-dict.dict; pool = c.new-3.result; versions = c.in_ok-versions.versions; catalogue = c.new-4.result }; seats = c.in_ok-idle.idle }
+abbrev made : goal.After-new-3 → Inside
+made c = record { alloc = c.args.alloc; books = record { base = c.in_ok-base.base; limits = c.args.limits; request = c.args.request; dict = c.in_ok-dict.dict; pool = c.in_ok-pool.pool; versions = c.in_ok-versions.versions; catalogue = c.new-3.result }; seats = c.in_ok-idle.idle }
 
-is_fresh : (c : goal.After-new-4) → IsFresh (made c) c.args.seats c.args.commit
+is_fresh : (c : goal.After-new-3) → IsFresh (made c) c.args.seats c.args.commit
 is_fresh c = record {
-  nodes = c.new-3.ensures.nodes;
-  marks = c.new-3.ensures.marks;
-  graphs = ap (λ (x : Catalogued). x.graphs) c.new-4.ensures;
+  nodes = c.in_ok-pool.ensures.nodes;
+  marks = c.in_ok-pool.ensures.marks;
+  graphs = ap (λ (x : Catalogued). x.graphs) c.new-3.ensures;
   versions = c.in_ok-versions.ensures;
   idle = c.in_ok-idle.ensures;
 }

@@ -1,27 +1,21 @@
 -- The keys that are left after one of those that were left from a place on.
-use Rattle.std.proofs.Common.{◌≡◌, ℕ, ◌+◌, ◌-◌, ◌<◌, Bool, true, false, cond, List, [], ◌∷◌, ◌++◌, length, get_or, take, drop, slice_get, Option, Some, None, refl, sym, ap, ◌∙◌, subst, arith, length-append}
+use Rattle.std.proofs.Common.{◌≡◌, ℕ, ◌+◌, ◌<◌, Bool, true, false, cond, List, [], ◌∷◌, ◌++◌, length, get_or, take, drop, Option, Some, None, refl, sym, ap, ◌∙◌, subst, arith, length-append}
 use Rattle.std.specs.declared.cmp.Ordering.{Ordering}
 use Rattle.std.specs.declared.cmp.Ordering.TheVariants.{Less}
 use Rattle.std.specs.Cmp.{IsTotalOrder}
 use Rattle.std.proofs.lemmas.Cmp.{tied_itself}
-use Rattle.std.proofs.lemmas.List.{drop_more, take-append-drop, length-take-le, get_or-take}
-use Rattle.std.proofs.lemmas.Option.{slice_get-get_or}
+use Rattle.std.proofs.lemmas.List.{drop_more, take-append-drop}
 use Rattle.gs_pool.specs.declared.nodes.Key.{Key}
 use Rattle.gs_tree.specs.Keys.{AllKeys, IsRising}
 use Rattle.gs_tree.specs.Reading.{is_past, keys_from}
 use Rattle.gs_tree.proofs.Order.{below, all_middle}
-use Rattle.gs_tree.proofs.FromLemmas.{from_past}
-use Rattle.gs_lines.specs.Pieces.{last_key}
+use Rattle.gs_tree.proofs.FromLemmas.{from_past, from_all}
 
+-- an empty list has no key in it
 none_there : (xs : List Key) (k : Key) (ys : List Key) → [] ≡ xs ++ k ∷ ys → ⊥
 none_there xs k ys e = omega (arith, ap length e, length-append xs (k ∷ ys))
 
 module _ (cmp : Key → Key → Ordering) where
-  -- all keys are left where no place is given
-  pub from_none : (ks : List Key) → keys_from cmp None ks ≡ ks
-  from_none [] = refl
-  from_none (k ∷ ks) = ap (λ ys. k ∷ ys) (from_none ks)
-
   -- what holds of all keys holds of those that are left
   pub all_from : (P : Key → Type 0) (from : Option Key) (ks : List Key) → AllKeys P ks → AllKeys P (keys_from cmp from ks)
   all_from P from [] h = tt
@@ -51,8 +45,9 @@ module _ (cmp : Key → Key → Ordering) (total : IsTotalOrder cmp) where
       let cut : a ∷ keys_from cmp from ks ≡ a ∷ keys_from cmp None ks = subst (λ b. cond b (a ∷ keys_from cmp from ks) (keys_from cmp from ks) ≡ a ∷ keys_from cmp None ks) past (from_past cmp total from a [] ks past rises) in
       let rest : keys_from cmp from ks ≡ keys_from cmp None ks = cc in
       let whole : keys_from cmp (Some a) (a ∷ ks) ≡ ks = rw (tied_itself total a) (all_above cmp a ks rises.0) in
-      whole ∙ sym (rest ∙ from_none cmp ks)
+      whole ∙ sym (rest ∙ from_all cmp ks)
 
+  -- by whether the first of all is past the place
   by_first : (from : Option Key) (a k : Key) (ks ys : List Key) → IsRising cmp (a ∷ ks) → ((zs : List Key) → keys_from cmp from ks ≡ zs ++ k ∷ ys → keys_from cmp (Some k) ks ≡ ys)
       → (b : Bool) → is_past cmp from a ≡ b → (xs : List Key) → cond b (a ∷ keys_from cmp from ks) (keys_from cmp from ks) ≡ xs ++ k ∷ ys → keys_from cmp (Some k) (a ∷ ks) ≡ ys
   by_first from a k ks ys rises later false past xs e = passed a k ks ys (below_left from a k ks xs ys rises.0 e) (later xs e)
@@ -72,9 +67,3 @@ module _ (cmp : Key → Key → Ordering) (total : IsTotalOrder cmp) where
 -- a list cut at its n-th key, the last of the first n + 1
 pub cut_at : (ks : List Key) (n : ℕ) (d : Key) → n < length ks → ks ≡ take n ks ++ get_or ks n d ∷ drop (n + 1) ks
 cut_at ks n d h = sym (take-append-drop n ks) ∙ ap (λ ys. take n ks ++ ys) (drop_more ks n d h)
-
-pub last_taken : (ks : List Key) (n : ℕ) (d : Key) → n < length ks → last_key (take (n + 1) ks) ≡ Some (get_or ks n d)
-last_taken ks n d h =
-    let long : length (take (n + 1) ks) ≡ n + 1 = length-take-le (n + 1) ks (omega arith) in
-    let place : length (take (n + 1) ks) - 1 ≡ n = omega arith in
-    ap (slice_get (take (n + 1) ks)) place ∙ slice_get-get_or (take (n + 1) ks) n d (omega arith) ∙ ap Some (get_or-take (n + 1) ks n d (omega arith))
