@@ -1,6 +1,6 @@
 -- The keys that are found are those of the instances, in their order.
 use Rattle.std.proofs.Common.{◌≡◌, ◌<◌, ◌⊎◌, ℕ, zero, suc, Bool, true, false, ◌||◌, List, [], ◌∷◌, ◌++◌, map, take, length, get_or, Option, Some, None, refl, sym, ap, ◌∙◌, subst, inl, inr, arith}
-use Rattle.std.specs.List.{filter, flat_map}
+use Rattle.std.specs.List.{filter, flat_map, Contains}
 use Rattle.std.specs.Ordering.{eq_by_cmp, is_eq, ordering_reverse}
 use Rattle.std.specs.declared.cmp.Ordering.{Ordering}
 use Rattle.std.specs.declared.cmp.Ordering.TheVariants.{Less}
@@ -30,6 +30,7 @@ use Rattle.gs_match.specs.Instances.{instance_keys}
 use Rattle.gs_match.specs.Patterns.{pattern_of, IsGivenSought, AreGiven, IsLacking, OneLacks}
 use Rattle.gs_match.specs.Numbers.{Numbers, bind_key, keys_if, found_keys}
 use Rattle.gs_match.proofs.NumberLemmas.{found_is, lacks_all}
+use Rattle.gs_match.proofs.ListLemmas.{contains_none, contains_head, contains_tail, contains_cases, any_has, any_some, map_has, map_some}
 
 -- the key is one of these
 abbrev pub IsIn : Key → List Key → Type 0
@@ -203,6 +204,43 @@ module _ (terms : List Term) (distinct : IsDistinct terms) (p : Nodes) (root : O
       ap (map (triple_at terms)) is ∙ map_filter (is_among (instances_of g ps)) ks
       ∙ ap (filter (is_among (instances_of g ps))) (sym (triples_of_keys terms ks graph.set.rising graph.given))
       )
+
+-- a key of a list, in the one form and in the other
+pub in_from : (x : Key) (ks : List Key) → Contains ks x → IsIn x ks
+in_from x [] there = absurd (contains_none x there)
+in_from x (y ∷ ks) there = elim (contains_cases y ks x there) [
+  | inl is ↦ inl (sym is)
+  | inr later ↦ inr (in_from x ks later)
+]
+
+-- keys that are all in a list
+all_in : (ks xs : List Key) → ((x : Key) → Contains xs x → Contains ks x) → AllKeys (λ x. IsIn x ks) xs
+all_in ks [] f = tt
+all_in ks (x ∷ xs) f = (in_from x ks (f x (contains_head x xs)), all_in ks xs (λ y there. f y (contains_tail x xs y there)))
+
+-- lists with the same keys pass a test of one of their triples alike
+any_alike : (terms : List Term) (t : RdfTriple) (xs ys : List Key) → ((k : Key) → Contains xs k → Contains ys k) → ((k : Key) → Contains ys k → Contains xs k) → is_among (map (triple_at terms) xs) t ≡ is_among (map (triple_at terms) ys) t
+any_alike terms t xs ys f g = by_tests (is_among (map (triple_at terms) xs) t) refl (is_among (map (triple_at terms) ys) t) refl
+  where
+    over : (us vs : List Key) → ((k : Key) → Contains us k → Contains vs k) → is_among (map (triple_at terms) us) t ≡ true → is_among (map (triple_at terms) vs) t ≡ true
+    over us vs h e =
+        let (u, there, passes) = any_some (eq_by_cmp triple_cmp t) (map (triple_at terms) us) e in
+        let (k, inside, is) = map_some (triple_at terms) us u there in
+        any_has (eq_by_cmp triple_cmp t) (map (triple_at terms) vs) u (subst (Contains (map (triple_at terms) vs)) is (map_has (triple_at terms) vs k (h k inside))) passes
+
+    by_tests : (a : Bool) → is_among (map (triple_at terms) xs) t ≡ a → (b : Bool) → is_among (map (triple_at terms) ys) t ≡ b → is_among (map (triple_at terms) xs) t ≡ is_among (map (triple_at terms) ys) t
+    by_tests true e true h = e ∙ sym h
+    by_tests true e false h = let bad : true ≡ false = sym (over xs ys f e) ∙ h in absurd (cc)
+    by_tests false e true h = let bad : true ≡ false = sym (over ys xs g h) ∙ e in absurd (cc)
+    by_tests false e false h = e ∙ sym h
+
+-- lists of keys of the root with the same keys make one set
+pub same_found : (terms : List Term) (ks : List Key) → IsRising (key_cmp terms) ks → AllKeys (IsGiven terms) ks → (xs ys : List Key) → ((k : Key) → Contains xs k → Contains ks k)
+    → ((k : Key) → Contains xs k → Contains ys k) → ((k : Key) → Contains ys k → Contains xs k) → merge_keys (key_cmp terms) xs [] ≡ merge_keys (key_cmp terms) ys []
+same_found terms ks rising given xs ys inside f g =
+    merged terms ks rising given xs (all_in ks xs inside)
+    ∙ filter_agree _ _ (λ k. any_alike terms (triple_at terms k) xs ys f g) ks
+    ∙ sym (merged terms ks rising given ys (all_in ks ys (λ k there. inside k (g k there))))
 
 -- one pattern more is sought
 pub given_more : (terms : List Term) (ss : List Sought) (s : Sought) → AreGiven terms ss → IsGivenSought terms s → AreGiven terms (ss ++ s ∷ [])

@@ -15,7 +15,6 @@ use Rattle.gs_match.specs.declared.sought.Item.TheVariants.{Number, Variable}
 use Rattle.gs_match.specs.declared.sought.Sought.{Sought}
 use Rattle.gs_match.specs.declared.bindings.Bound.{Bound}
 use Rattle.gs_match.specs.declared.found.Found.{Found}
-use Rattle.gs_match.specs.declared.ranges.Keys.{Keys}
 
 -- some variables, each with its number
 abbrev pub Numbers : Type 0
@@ -112,9 +111,3 @@ IsFound terms f = IsSetAt (key_cmp terms) f.pool f.root
 pub record Gains (terms : List Term) (old new : Found) (more : List Key) : Type 0 where
   pub set : IsFound terms new
   pub keys_are : found_in new ≡ merge_keys (key_cmp terms) more (found_in old)
-
--- what was to be found is found, and all else is as it was
-pub record Finds (keys : Keys) (ss : List Sought) (bound bound_after : List Bound) (chosen chosen_after : List Key) (old new : Found) : Type 0 where
-  pub bound_is : bound_after ≡ bound
-  pub chosen_is : chosen_after ≡ chosen
-  pub gains : Gains keys.order.dict.now.terms old new (found_keys (keys_at keys.pool.now keys.root) ss (numbers_of bound) chosen)

@@ -1,12 +1,13 @@
 //! The set of the keys that are found.
 ghost use Rattle.std.specs.Prelude.{◌≡◌, ◌+◌, [], ◌∷◌, None, OnOk, IfOk};
 ghost use Rattle.gs_model.specs.Limits.{last_node};
+ghost use Rattle.gs_tree.specs.Keys.{IsRising};
 ghost use Rattle.gs_keys.specs.Texts.{key_cmp};
 ghost use Rattle.gs_match.specs.Numbers.{IsFound, found_in, Gains};
 
 use gs_keys::ByText;
 use gs_pool::{Key, Pool};
-use gs_tree::{count, insert, next_keys};
+use gs_tree::{count, insert, is_rising, next_keys, union};
 use std::alloc::{AllocError, Global};
 
 /// Keys, each once, as a tree over a pool of its own.
@@ -38,8 +39,19 @@ impl Found {
         Ok(())
     }
 
-    /// Adds some keys.
-    pub fn add_all(&mut self, order: &ByText, keys: &[Key]) -> Result<(), AllocError>
+    /// Adds keys that rise, by one union.
+    fn add_run(&mut self, order: &ByText, run: &[Key]) -> Result<(), AllocError>
+        requires set { IsFound order.now.dict.now.terms self.old }
+        requires rising { IsRising (key_cmp order.now.dict.now.terms) run.now }
+        ensures { OnOk result (Gains order.now.dict.now.terms self.old self.new run.now) }
+    {
+        let merged = union(&mut self.pool, order, self.root, run, 0, 0)?;
+        self.root = merged.root;
+        Ok(())
+    }
+
+    /// Adds some keys, one by one.
+    fn add_each(&mut self, order: &ByText, keys: &[Key]) -> Result<(), AllocError>
         requires { IsFound order.now.dict.now.terms self.old }
         ensures { OnOk result (Gains order.now.dict.now.terms self.old self.new keys.now) }
     {
@@ -47,6 +59,18 @@ impl Found {
             self.add(order, *key)?;
         }
         Ok(())
+    }
+
+    /// Adds some keys.
+    pub fn add_all(&mut self, order: &ByText, keys: &[Key]) -> Result<(), AllocError>
+        requires { IsFound order.now.dict.now.terms self.old }
+        ensures { OnOk result (Gains order.now.dict.now.terms self.old self.new keys.now) }
+    {
+        if is_rising(order, keys) {
+            self.add_run(order, keys)
+        } else {
+            self.add_each(order, keys)
+        }
     }
 
     /// The keys, in order.

@@ -12,7 +12,7 @@ use gs_pool::{Key, Pool};
 use gs_tree::{after, contains};
 
 /// A number that no term has. In a range it stands where any number may.
-const NO_NUMBER: u32 = 4_294_967_295;
+pub const NO_NUMBER: u32 = 4_294_967_295;
 
 /// The keys of a root, in the order of their texts.
 #[derive(Clone, Copy)]
@@ -23,7 +23,7 @@ pub struct Keys<'a> {
 }
 
 /// The number that an item stands for, where it is known.
-fn known(item: &Item, bound: &[Bound]) -> u32
+pub fn known(item: &Item, bound: &[Bound]) -> u32
     ensures { result ≡ known_number (numbers_of bound.now) item.now }
 {
     match item {

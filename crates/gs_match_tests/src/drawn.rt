@@ -9,22 +9,50 @@ use gs_term::{Pattern, Triple};
 use std::alloc::{AllocError, Global};
 use std::test::Fail;
 
-const SUBJECTS: [&str; 3] = ["a", "b", "_1"];
+/// What a graph and its patterns are drawn from: of all triples of these words, each or none, and up to
+/// so many patterns.
+struct Words {
+    subjects: &'static [&'static str],
+    predicates: &'static [&'static str],
+    objects: &'static [&'static str],
+    parts: &'static [&'static str],
+    most: u64,
+}
 
-const PREDICATES: [&str; 2] = ["a", "b"];
+/// 24 triples, and words of patterns of which no graph has `c`.
+const FEW: Words = Words {
+    subjects: &["a", "b", "_1"],
+    predicates: &["a", "b"],
+    objects: &["a", "b", "_1", "\"a"],
+    parts: &[
+        "?x", "?y", "?z", "?w", "?x", "?y", "?z", "?w", "?x", "?y", "?z", "a", "b", "a", "_1", "c",
+    ],
+    most: 4,
+};
 
-const OBJECTS: [&str; 4] = ["a", "b", "_1", "\"a"];
+/// 2,400 triples, of which some 1,200 are drawn: more keys than are read at once.
+const MANY: Words = Words {
+    subjects: &[
+        "n0", "n1", "n2", "n3", "n4", "n5", "n6", "n7", "n8", "n9", "_1", "_2",
+    ],
+    predicates: &["n0", "n1", "n2", "p", "q"],
+    objects: &[
+        "n0", "n1", "n2", "n3", "n4", "n5", "n6", "n7", "n8", "n9", "_1", "_2", "_3", "m0", "m1",
+        "m2", "m3", "m4", "m5", "m6", "m7", "m8", "m9", "\"0", "\"1", "\"2", "\"3", "\"4", "\"5",
+        "\"6", "\"7", "\"8", "\"9", "k0", "k1", "k2", "k3", "k4", "k5", "k6",
+    ],
+    parts: &[
+        "?x", "?y", "?z", "?w", "?x", "?y", "?z", "?w", "?x", "?y", "n0", "n1", "n2", "p", "q",
+        "_1",
+    ],
+    most: 2,
+};
 
-/// Words that a pattern may have, of which no graph has `c`.
-const PARTS: [&str; 16] = [
-    "?x", "?y", "?z", "?w", "?x", "?y", "?z", "?w", "?x", "?y", "?z", "a", "b", "a", "_1", "c",
-];
-
-/// Each of the 24 triples of these words, or none, as it is drawn.
-fn push_graph(draws: &mut Draws, text: &mut String) -> Result<(), AllocError> {
-    for subject in SUBJECTS {
-        for predicate in PREDICATES {
-            for object in OBJECTS {
+/// Each of the triples of these words, or none, as it is drawn.
+fn push_graph(draws: &mut Draws, words: &Words, text: &mut String) -> Result<(), AllocError> {
+    for subject in words.subjects {
+        for predicate in words.predicates {
+            for object in words.objects {
                 if draws.next() % 2 == 0 {
                     text.push_str(subject)?;
                     text.push(' ')?;
@@ -40,18 +68,20 @@ fn push_graph(draws: &mut Draws, text: &mut String) -> Result<(), AllocError> {
 }
 
 /// A word of a pattern.
-fn part(draws: &mut Draws) -> &'static str {
-    PARTS[(draws.next() % 16) as usize]
+fn part(draws: &mut Draws, words: &Words) -> &'static str {
+    let at = (draws.next() % 16) as usize;
+    words.parts.get(at).copied().unwrap_or("?x")
 }
 
-/// One to four patterns.
-fn push_patterns(draws: &mut Draws, text: &mut String) -> Result<(), AllocError> {
-    for _ in 0..draws.next() % 4 + 1 {
-        text.push_str(part(draws))?;
+/// One pattern or some.
+fn push_patterns(draws: &mut Draws, words: &Words, text: &mut String) -> Result<(), AllocError> {
+    let many = draws.next().checked_rem(words.most).unwrap_or_default();
+    for _ in 0..many.saturating_add(1) {
+        text.push_str(part(draws, words))?;
         text.push(' ')?;
-        text.push_str(part(draws))?;
+        text.push_str(part(draws, words))?;
         text.push(' ')?;
-        text.push_str(part(draws))?;
+        text.push_str(part(draws, words))?;
         text.push(',')?;
     }
     Ok(())
@@ -64,7 +94,7 @@ fn left_slowly(
     patterns: Vec<Pattern>,
 ) -> Result<(Vec<u8>, usize), Refusal> {
     let mut graph = SortedGraph::new(alloc);
-    graph.add_within(alloc, triples, 24)?;
+    graph.add_within(alloc, triples, 2_400)?;
     let mut operations = Vec::new(alloc);
     operations.push(Op::DeleteWhere(patterns))?;
     update(&mut graph, alloc, operations.as_slice())?;
@@ -73,11 +103,11 @@ fn left_slowly(
 }
 
 /// Whether both leave the same of the next graph that is drawn, and how many triples they take away.
-fn is_alike(alloc: Global, draws: &mut Draws) -> Result<(bool, usize), Refusal> {
+fn is_alike(alloc: Global, draws: &mut Draws, words: &Words) -> Result<(bool, usize), Refusal> {
     let mut graph = String::new(alloc);
-    push_graph(draws, &mut graph)?;
+    push_graph(draws, words, &mut graph)?;
     let mut removed = String::new(alloc);
-    push_patterns(draws, &mut removed)?;
+    push_patterns(draws, words, &mut removed)?;
     let triples = triples(alloc, graph.as_str())?;
     let patterns = patterns(alloc, removed.as_str())?;
     let left = left_by(alloc, triples.as_slice(), patterns.as_slice())?;
@@ -85,17 +115,36 @@ fn is_alike(alloc: Global, draws: &mut Draws) -> Result<(bool, usize), Refusal> 
     Ok((left.as_slice() == wanted.as_slice(), gone))
 }
 
-#[test]
-fn both_searches_leave_the_same(rt: HostRuntime) -> Result<(), Fail> {
-    let mut draws = Draws::new(5);
+/// How many of so many graphs lose triples; none where both do not leave the same of one of them.
+fn count_alike(
+    alloc: Global,
+    draws: &mut Draws,
+    words: &Words,
+    many: usize,
+) -> Result<Option<usize>, Refusal> {
     let mut some = 0usize;
-    for _ in 0..500 {
-        let (alike, gone) = is_alike(rt.alloc(), &mut draws)?;
-        assert!(rt; alike);
+    for _ in 0..many {
+        let (alike, gone) = is_alike(alloc, draws, words)?;
+        if !alike {
+            return Ok(None);
+        }
         if gone > 0 {
             some = some.saturating_add(1);
         }
     }
-    assert!(rt; some > 100);
+    Ok(Some(some))
+}
+
+#[test]
+fn both_searches_leave_the_same_of_small_graphs(rt: HostRuntime) -> Result<(), Fail> {
+    let some = count_alike(rt.alloc(), &mut Draws::new(5), &FEW, 500)?;
+    assert!(rt; some > Some(100));
+    Ok(())
+}
+
+#[test]
+fn both_searches_leave_the_same_of_large_graphs(rt: HostRuntime) -> Result<(), Fail> {
+    let some = count_alike(rt.alloc(), &mut Draws::new(5), &MANY, 6)?;
+    assert!(rt; some > Some(2));
     Ok(())
 }

@@ -5,6 +5,12 @@
 mod drawn;
 #[cfg(test)]
 mod draws;
+#[cfg(test)]
+mod families;
+#[cfg(test)]
+mod large;
+#[cfg(test)]
+mod looked;
 mod notation;
 #[cfg(test)]
 mod rows;

@@ -6,7 +6,7 @@ ghost use Rattle.gs_keys.specs.Texts.{IsGiven};
 
 use gs_dict::{Dict, TermId};
 use gs_keys::ByText;
-use gs_match::solve;
+use gs_match::{Solved, solve_counted};
 use gs_model::Refusal;
 use gs_ntwrite::line;
 use gs_pool::{Key, Pool};
@@ -59,20 +59,20 @@ fn keys_of(alloc: Global, dict: &mut Dict, triples: &[Triple]) -> Result<Vec<Key
     Ok(keys)
 }
 
-/// The keys of the instances in the graph of these keys, which rise.
+/// The keys of the instances in the graph of these keys, which rise, and how many were looked at.
 fn instances(
     alloc: Global,
     dict: &Dict,
     keys: &[Key],
     patterns: &[Pattern],
-) -> Result<Vec<Key>, Refusal> {
+) -> Result<Solved, Refusal> {
     let order = ByText::new(dict);
     if !is_rising(&order, keys) || !are_given(dict, keys) {
         return Err(Refusal::Syntax(0));
     }
     let mut pool = Pool::new(alloc, u32::MAX);
     let merged = union(&mut pool, &order, None, keys, 0, 0)?;
-    solve(alloc, &pool, merged.root, dict, patterns)
+    solve_counted(alloc, &pool, merged.root, dict, patterns)
 }
 
 /// Whether a list has this key next.
@@ -96,7 +96,7 @@ pub fn left_by(
 ) -> Result<Vec<u8>, Refusal> {
     let mut dict = Dict::new(alloc, 1, u32::MAX)?;
     let keys = keys_of(alloc, &mut dict, triples)?;
-    let found = instances(alloc, &dict, keys.as_slice(), patterns)?;
+    let found = instances(alloc, &dict, keys.as_slice(), patterns)?.keys;
     let mut bytes = Vec::new(alloc);
     let mut next = 0usize;
     for (triple, key) in triples.iter().zip(keys.iter()) {
@@ -110,4 +110,12 @@ pub fn left_by(
         return Err(Refusal::StoreFull);
     }
     Ok(bytes)
+}
+
+/// How many keys the search for the instances looks at, in a graph of rising triples.
+pub fn looked_by(alloc: Global, triples: &[Triple], patterns: &[Pattern]) -> Result<u64, Refusal> {
+    let mut dict = Dict::new(alloc, 1, u32::MAX)?;
+    let keys = keys_of(alloc, &mut dict, triples)?;
+    let solved = instances(alloc, &dict, keys.as_slice(), patterns)?;
+    Ok(solved.looked)
 }

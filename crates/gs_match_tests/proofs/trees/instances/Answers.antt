@@ -6,8 +6,8 @@ use Rattle.gs_keys.specs.Texts.{key_cmp, IsGiven}
 use Rattle.gs_keys.proofs.RootLemmas.{all_merge, set_graph}
 use Rattle.gs_match_tests.proofs.trees.instances.Goals as goal
 
-pub solve-requires : goal.solve-requires
-solve-requires c =
+pub solve_counted-requires : goal.solve_counted-requires
+solve_counted-requires c =
     let u = c.in_ok-merged.ensures.ok in
     let P = IsGiven c.args.dict.now.terms in
     let given = c.are_given.ensures c.if-not-are_given.false in

@@ -1,7 +1,0 @@
--- added are the keys that were gone through
-use Rattle.std.proofs.Common.{take}
-use Rattle.gs_match.specs.Numbers.{Gains}
-use Rattle.gs_match.proofs.found.Found.add_all.Given as goal
-
-abbrev pub invariant-loop-key : goal.invariant-loop-key
-invariant-loop-key l = Gains l.order.dict.now.terms l.fn.self l.self (take l.key-index l.keys)
