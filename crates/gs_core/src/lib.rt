@@ -2,6 +2,8 @@
 #![tactic(auto)]
 
 mod bases;
+mod doors;
+mod laws;
 mod limits;
 mod stores;
 
@@ -10,5 +12,6 @@ pub use gs_event::{Action, Answer, Event, Op, UploadKind};
 pub use gs_model::Refusal;
 pub use gs_plain::PlainStore;
 pub use gs_term::{Part, Pattern, VariableName};
+pub use laws::store_door_takes_steps;
 pub use limits::{MAX_NAMES, MAX_TRIPLES};
 pub use stores::Store;

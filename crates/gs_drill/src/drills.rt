@@ -258,10 +258,14 @@ fn play<W: Write>(alloc: Global, input: &[u8], out: &mut W) -> Result<(), (Stop,
         let (line, after) = split(rest, b'\n');
         number += 1;
         if let Err(stop) = take_line(alloc, &mut begun, &mut store, &mut uploads, line, out) {
+            drop(uploads);
+            drop(store);
             return Err((stop, number));
         }
         rest = after;
     }
+    drop(uploads);
+    drop(store);
     Ok(())
 }
 

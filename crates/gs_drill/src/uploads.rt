@@ -172,9 +172,11 @@ impl Uploads {
         ensures cut { self.new.cut ≡ self.old.cut }
     {
         let seat = usize::from(seat);
-        if seat < self.texts.len() {
-            self.texts[seat] = text;
-        }
+        drop(if seat < self.texts.len() {
+            mem::replace(&mut self.texts[seat], text)
+        } else {
+            text
+        });
     }
 
     /// Feeds to the text of a seat by what opened its upload, if the seat has one.

@@ -74,8 +74,13 @@ impl SeatText {
     {
         match self {
             SeatText::Fed(language, mut reading) => {
-                let given = feed_reading(alloc, &mut reading, text, cut)?;
-                Ok((SeatText::Fed(language, reading), given))
+                match feed_reading(alloc, &mut reading, text, cut) {
+                    Ok(given) => Ok((SeatText::Fed(language, reading), given)),
+                    Err(refused) => {
+                        drop(reading);
+                        Err(refused)
+                    }
+                }
             }
             other => Ok((other, Vec::new(alloc))),
         }

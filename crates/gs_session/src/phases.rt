@@ -32,8 +32,10 @@ pub enum Work {
 }
 
 impl Work {
-    /// Gives back what it owns. Each place that drops a reader is proved by itself, so an upload's steps that end it all drop it here.
-    pub fn give_back(self) {}
+    /// Gives back what it owns.
+    pub fn give_back(self) {
+        drop(self);
+    }
 }
 
 /// What a session does next.

@@ -170,5 +170,7 @@ pub fn serve<R: Read, W: Write, D: Door>(
     let Ok(mut session) = Session::new(alloc, seat, base, piece) else {
         return Err(ServeFault::NoMemory);
     };
-    rounds(&mut session, reader, writer, door)
+    let done = rounds(&mut session, reader, writer, door);
+    drop(session);
+    done
 }

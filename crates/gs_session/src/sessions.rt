@@ -121,7 +121,7 @@ impl Session {
     fn set_phase(&mut self, phase: Phase)
         ensures { self.new ≡ waiting self.old phase }
     {
-        self.phase = phase;
+        drop(mem::replace(&mut self.phase, phase));
     }
 
     /// Nothing can be done before more comes.

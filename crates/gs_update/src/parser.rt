@@ -54,7 +54,7 @@ impl UpdateParser {
         requires { IsSound place }
         ensures { OnOk result (Moves self.old self.new (quiet (state_at place))) }
     {
-        self.place = place;
+        drop(mem::replace(&mut self.place, place));
         Ok(())
     }
 
@@ -99,7 +99,10 @@ impl UpdateParser {
                 }
                 self.conclude(scope, Op::DeleteWhere(patterns), end)
             }
-            _ => Ok(()),
+            other => {
+                drop(other);
+                Ok(())
+            }
         }
     }
 
@@ -164,7 +167,12 @@ impl UpdateParser {
     pub fn into_operations(self) -> Vec<Op>
         ensures { result ≡ self.operations }
     {
-        let UpdateParser { operations, .. } = self;
+        let UpdateParser {
+            place,
+            operations,
+            ..
+        } = self;
+        drop(place);
         operations
     }
 }

@@ -45,6 +45,11 @@ pub fn read_update(alloc: Global, request: u64, base: &str, text: &[u8]) -> Resu
     ensures { Answers result (request_by base.now request text.now) }
 {
     let mut parser = UpdateParser::new(alloc, base, request)?;
-    take_text(&mut parser, text)?;
-    Ok(parser.into_operations())
+    match take_text(&mut parser, text) {
+        Ok(()) => Ok(parser.into_operations()),
+        Err(refusal) => {
+            drop(parser);
+            Err(refusal)
+        }
+    }
 }

@@ -69,7 +69,8 @@ impl Place {
     {
         let lost = Place::Rejected(Rejection::Broken(Fault::Syntax));
         let place = mem::replace(self, lost);
-        *self = passed(alloc, place, symbol)?;
+        let next = passed(alloc, place, symbol)?;
+        drop(mem::replace(self, next));
         Ok(())
     }
 

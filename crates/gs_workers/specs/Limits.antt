@@ -1,5 +1,5 @@
 -- How long is waited, in nanoseconds. The code has constants of its own; clauses cite these.
-use Rattle.std.specs.Prelude.{ℕ}
+use Rattle.std.specs.Prelude.{ℕ, ◌*◌, min, max}
 
 -- 30 seconds, which one read or one write of a connection may wait
 abbrev pub patience : ℕ
@@ -12,3 +12,15 @@ accept_pause = 50_000_000
 -- 1 second, which one read may wait for a client to end too, once its connection was served
 abbrev pub linger_patience : ℕ
 linger_patience = 1_000_000_000
+
+-- 1 millisecond, the least rest of the reclaimer after a sweep
+abbrev pub least_rest : ℕ
+least_rest = 1_000_000
+
+-- 1 second, the most
+abbrev pub most_rest : ℕ
+most_rest = 1_000_000_000
+
+-- the rest after a sweep that took so long: 16 times as long, but no less than the least and no more than the most
+abbrev pub rest_after : ℕ → ℕ
+rest_after taken = min (max (taken * 16) least_rest) most_rest

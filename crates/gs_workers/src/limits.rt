@@ -17,8 +17,20 @@ pub const RECLAIM_NODES: u64 = 4_096;
 /// The accepted connections that may wait for a worker. More wait in the system's own queue.
 pub(crate) const WAITING_STREAMS: usize = 16;
 
-/// The notes that may wait for the reclaimer. One that waits stands for those that find no room.
+/// The notes that may wait for the reclaimer. Where one waits none is sent, so there are more only where
+/// several workers looked at the same time.
 pub(crate) const WAITING_NOTES: usize = 16;
+
+/// How many times as long as a sweep took the reclaimer rests after it. So it has at most a seventeenth
+/// of the time, unless a sweep takes longer than a sixteenth of a second.
+pub(crate) const REST_TIMES: u128 = 16;
+
+/// The least nanoseconds of this rest, a millisecond: the notes of many requests become one.
+pub(crate) const LEAST_REST_NANOSECONDS: u64 = 1_000_000;
+
+/// The most nanoseconds of this rest, a second. A clock that jumps does not keep the reclaimer from its
+/// work for longer, and what waits to be freed is no more than what a second and a sweep leave behind.
+pub(crate) const MOST_REST_NANOSECONDS: u64 = 1_000_000_000;
 
 /// The seconds that one read may wait for a client to end too, once its connection was served.
 pub const LINGER_SECONDS: u64 = 1;
@@ -48,4 +60,12 @@ pub(crate) fn linger_patience() -> Duration
     ensures { as_nanos result ≡ spec.linger_patience }
 {
     Duration::from_secs(LINGER_SECONDS)
+}
+
+/// The rest of the reclaimer after a sweep that took so long.
+pub(crate) fn rest_after(taken: Duration) -> Duration
+    ensures { as_nanos result ≡ spec.rest_after (as_nanos taken) }
+{
+    let long = u64::try_from(taken.as_nanos().saturating_mul(REST_TIMES)).unwrap_or(u64::MAX);
+    Duration::from_nanos(long.clamp(LEAST_REST_NANOSECONDS, MOST_REST_NANOSECONDS))
 }

@@ -9,8 +9,10 @@ use std::sync::Wait;
 #[derive(Clone, Copy, Debug, Drop)]
 pub(crate) struct Note;
 
-/// A door that sends a note after each event that ended an upload, a patch, a Delete or a read. It waits
-/// for no room: a note that waits stands for one that finds none.
+/// A door that sends a note after each event that ended an upload, a patch, a Delete or a read, unless a
+/// note waits. The channel counts a note until the receive that takes it is about to return, and the sweep
+/// begins after that: so a note that is seen to wait once the event is over stands for it too, and so do
+/// those that leave no room.
 pub(crate) struct NoteDoor<'a, D: Door, R: Wait> {
     pub(crate) rt: &'a R,
     pub(crate) notes: Sender<Note>,
@@ -23,7 +25,7 @@ impl<'a, D: Door, R: Wait> Door for NoteDoor<'a, D, R> {
     fn event(&mut self, event: Event) -> Answer {
         let awaited = Awaited::by(&event);
         let answer = self.door.event(event);
-        if awaited.ends_by(&answer) {
+        if awaited.ends_by(&answer) && self.notes.is_empty() {
             let _ = self.notes.try_send(self.rt, Note);
         }
         answer

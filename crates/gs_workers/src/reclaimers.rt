@@ -1,10 +1,10 @@
-//! The reclaimer: it frees what no version needs any more, a little in each hold of the lock.
+//! The reclaimer: it frees what no version needs any more, a little in each hold of the lock, and rests.
 ghost use Rattle.std.specs.Prelude.{◌≡◌, ℕ, List};
 ghost use Rattle.gs_event.specs.declared.answers.Answer.{Answer as AnAnswer};
 ghost use Rattle.gs_pass.specs.Tallies.{tally_of};
 ghost use Rattle.gs_workers.specs.Sweeps.{Sweeps, SweepsMany, goes_on as goes_on_after};
 
-use crate::limits::RECLAIM_NODES;
+use crate::limits::{RECLAIM_NODES, rest_after};
 use crate::notes::Note;
 use crossbeam_channel::Receiver;
 use gs_door::Door;
@@ -12,6 +12,8 @@ use gs_event::{Answer, Event};
 use gs_shared::{Hall, Pass, PassDoor, Room};
 use std::sync::Wait;
 use std::sync::ledger::Ledger;
+use std::thread;
+use std::time::{Clock, Duration, Instant};
 
 /// Whether more is to be freed after this answer: something was freed, and something is left.
 fn goes_on(answer: &Answer) -> bool
@@ -42,20 +44,38 @@ fn sweep<D: Door>(door: &mut D)
     }
 }
 
-/// Frees after each note, until no more can come.
-pub(crate) fn sweep_after<D: Door, R: Wait>(rt: &R, notes: Receiver<Note>, door: &mut D)
+/// How long ago that was; no time where the clock cannot be read.
+fn since<K: Clock>(clock: &K, start: Option<Instant>) -> Duration {
+    match start {
+        Some(start) => start.elapsed(clock).unwrap_or(Duration::ZERO),
+        None => Duration::ZERO,
+    }
+}
+
+/// Frees what can be freed, and rests in proportion to the time that this took, so that the store is left
+/// to others for most of the time.
+pub(crate) fn sweep_and_rest<D: Door, K: Clock>(clock: &K, door: &mut D)
+    ensures { (answers : List AnAnswer) × Sweeps D.Gives door.old answers door.new }
+{
+    let start = Instant::now(clock).ok();
+    sweep(door);
+    thread::sleep(clock, rest_after(since(clock, start)));
+}
+
+/// Frees after each note, until no more can come. What ends during a rest waits for the next sweep.
+pub(crate) fn sweep_after<D: Door, R: Wait + Clock>(rt: &R, notes: Receiver<Note>, door: &mut D)
     ensures { (n : ℕ) × SweepsMany D.Gives n door.old door.new }
 {
     for _ in rt.forever() {
         if notes.recv(rt).is_err() {
             break;
         }
-        sweep(door);
+        sweep_and_rest(rt, door);
     }
 }
 
 /// The whole run of the reclaimer: its pass comes back, and was told nothing.
-pub(crate) fn reclaim<C: Ledger, T: Ledger, B: Room, R: Wait>(
+pub(crate) fn reclaim<C: Ledger, T: Ledger, B: Room, R: Wait + Clock>(
     rt: &R,
     hall: &Hall<C, T, B>,
     notes: Receiver<Note>,

@@ -11,6 +11,7 @@ mod owners;
 mod partings;
 mod reclaims;
 mod refusals;
+mod rests;
 mod servings;
 mod sleepers;
 mod steps;

@@ -80,6 +80,6 @@ impl Connection {
         if let Some(session) = &mut self.session {
             session.abandon(store);
         }
-        self.session = None;
+        drop(self.session.take());
     }
 }

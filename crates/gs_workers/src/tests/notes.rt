@@ -1,5 +1,6 @@
 //! When a note is sent.
 use super::steps::{Step, event};
+use crate::limits::WAITING_NOTES;
 use crate::notes::{Note, NoteDoor};
 use crossbeam_channel::{Receiver, bounded};
 use gs_core::Store;
@@ -110,6 +111,41 @@ fn wrong_note<R: Wait>(rt: &R, alloc: Global) -> Option<&'static str> {
         door: _,
     } = door;
     wrong
+}
+
+/// Ends something a hundred times.
+fn end_often<D: Door>(alloc: Global, door: &mut D) -> bool {
+    for _ in 0..100 {
+        let Ok(event) = event(alloc, 0, Step::Delete) else {
+            return false;
+        };
+        let _ = door.event(event);
+    }
+    true
+}
+
+/// How many notes wait then, where nobody takes one.
+fn notes_that_wait<R: Wait>(rt: &R, alloc: Global) -> Option<usize> {
+    let (to_reclaimer, notes) = bounded(alloc, WAITING_NOTES).ok()?;
+    let door = Store::new(alloc, 1, "http://localhost").ok()?;
+    let mut door = NoteDoor {
+        rt,
+        notes: to_reclaimer,
+        door,
+    };
+    let is_done = end_often(alloc, &mut door);
+    let NoteDoor {
+        rt: _,
+        notes: _,
+        door: _,
+    } = door;
+    if is_done { Some(notes.len()) } else { None }
+}
+
+#[test]
+fn one_note_stands_for_all_that_end(rt: HostRuntime) -> Result<(), Fail> {
+    assert_eq!(rt; notes_that_wait(&rt, rt.alloc()), Some(1));
+    Ok(())
 }
 
 #[test]

@@ -40,7 +40,7 @@ fn send_three<R: Wait + Clock>(rt: &R, to_reclaimer: Sender<Note>) {
 }
 
 /// How often the reclaimer asks, until no more notes can come.
-fn asked<R: Wait>(rt: &R, notes: Receiver<Note>, store: Store) -> u64 {
+fn asked<R: Wait + Clock>(rt: &R, notes: Receiver<Note>, store: Store) -> u64 {
     let mut door = Counting {
         door: store,
         asked: 0,
@@ -51,13 +51,13 @@ fn asked<R: Wait>(rt: &R, notes: Receiver<Note>, store: Store) -> u64 {
 
 /// The reclaimer.
 #[derive(Drop)]
-struct Reclaimer<'a, R: Wait> {
+struct Reclaimer<'a, R: Wait + Clock> {
     rt: &'a R,
     notes: Receiver<Note>,
     store: Store,
 }
 
-impl<'a, R: Wait> Job for Reclaimer<'a, R> {
+impl<'a, R: Wait + Clock> Job for Reclaimer<'a, R> {
     fn done(self) -> u64 {
         asked(self.rt, self.notes, self.store)
     }

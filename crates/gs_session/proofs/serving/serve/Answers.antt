@@ -14,7 +14,7 @@ returns-clause-whole g c =
     let h = g.W.Write.contents c.args.writer.now in
     let is = c.in-Ok.ensures in
     let begun = starts g.D.Door.Gives p c.args.seat r h c.args.door.now c.in-Ok.session is.leads is.goes is.server is.seat in
-    on_ok_weaker c.rounds.result (λ comes. comes p c.args.seat c.args.door.now r h begun) c.rounds.ensures.over
+    on_ok_weaker c.rounds-done.result (λ comes. comes p c.args.seat c.args.door.now r h begun) c.rounds-done.ensures.over
 
 pub returns-clause-front : goal.returns-clause-front
 returns-clause-front g c =
@@ -23,4 +23,4 @@ returns-clause-front g c =
     let h = g.W.Write.contents c.args.writer.now in
     let is = c.in-Ok.ensures in
     let begun = starts g.D.Door.Gives p c.args.seat r h c.args.door.now c.in-Ok.session is.leads is.goes is.server is.seat in
-    on_err_weaker c.rounds.result (λ comes. comes p c.args.seat c.args.door.now r h begun) c.rounds.ensures.fault
+    on_err_weaker c.rounds-done.result (λ comes. comes p c.args.seat c.args.door.now r h begun) c.rounds-done.ensures.fault

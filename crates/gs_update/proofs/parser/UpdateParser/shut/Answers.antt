@@ -46,8 +46,8 @@ returns-then-is_empty c =
     (are_none P (sym (c.is_empty.ensures ∙ ap (λ (n : ℕ). n == 0) c.into_parts-scope-in-Seeking.result.1.ok.0) ∙ c.if-is_empty.true) ∙ ap some_patterns c.into_parts-scope-in-Seeking.ensures.triples)) c.in-Seeking.ensures.value)
     c.stand.ensures
 
-pub returns-in-Seeking : goal.returns-in-Seeking
-returns-in-Seeking c =
+pub returns-else-is_empty : goal.returns-else-is_empty
+returns-else-is_empty c =
     let b = c.in-Seeking.block in
     let s = c.into_parts-scope-in-Seeking.result.0 in
     let P = c.into_parts-scope-in-Seeking.result.1.items in
@@ -57,8 +57,8 @@ returns-in-Seeking c =
     (are_some P (sym (c.is_empty.ensures ∙ ap (λ (n : ℕ). n == 0) c.into_parts-scope-in-Seeking.result.1.ok.0) ∙ c.if-is_empty.false) ∙ ap some_patterns c.into_parts-scope-in-Seeking.ensures.triples)) c.in-Seeking.ensures.value)
     c.conclude-in-Seeking.ensures
 
-pub returns : goal.returns
-returns c =
+pub returns-in_default : goal.returns-in_default
+returns-in_default c =
     let after = c.replace.ensures.after in
     led_there c.args.self.now c.replace.new.dest (closed_at c.args.self.now.place c.args.end)
     (record {

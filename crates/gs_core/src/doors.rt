@@ -1,6 +1,6 @@
 //! A store is a door to itself.
-use crate::doors::Door;
-use gs_core::Store;
+use crate::stores::Store;
+use gs_door::Door;
 use gs_event::{Answer, Event};
 
 impl Door for Store {
