@@ -46,7 +46,8 @@ fn stays(
 #[test]
 fn names_that_are_nearly_the_same_keep_apart(rt: HostRuntime) -> Result<(), Refusal> {
     let alloc = rt.alloc();
-    for (first, second) in PAIRS {
+    for row in &PAIRS {
+        let (first, second) = *row;
         let mut catalogue = Catalogue::new(alloc);
         for (moved, other) in [(first, second), (second, first)] {
             stays(&rt, &mut catalogue, alloc, moved, other)?;

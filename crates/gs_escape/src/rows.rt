@@ -138,7 +138,8 @@ fn check(
 
 #[test]
 fn iris(rt: HostRuntime) -> Result<(), Fail> {
-    for (text, wanted) in IRIS {
+    for row in &IRIS {
+        let (text, wanted) = *row;
         let mut left = String::from_str(rt.alloc(), "\u{e9}")?;
         let result = iri(text, &mut left);
         check(&rt, result, left.as_str(), wanted)?;
@@ -148,7 +149,8 @@ fn iris(rt: HostRuntime) -> Result<(), Fail> {
 
 #[test]
 fn strings(rt: HostRuntime) -> Result<(), Fail> {
-    for (text, wanted) in STRINGS {
+    for row in &STRINGS {
+        let (text, wanted) = *row;
         let mut left = String::from_str(rt.alloc(), "\u{e9}")?;
         let result = string(text, &mut left);
         check(&rt, result, left.as_str(), wanted)?;
@@ -158,7 +160,8 @@ fn strings(rt: HostRuntime) -> Result<(), Fail> {
 
 #[test]
 fn locals(rt: HostRuntime) -> Result<(), Fail> {
-    for (text, wanted) in LOCALS {
+    for row in &LOCALS {
+        let (text, wanted) = *row;
         let mut left = String::from_str(rt.alloc(), "\u{e9}")?;
         let result = local(text, &mut left);
         check(&rt, result, left.as_str(), wanted)?;
@@ -168,7 +171,8 @@ fn locals(rt: HostRuntime) -> Result<(), Fail> {
 
 #[test]
 fn names_are_parted_at_their_first_colon(rt: HostRuntime) -> Result<(), Fail> {
-    for (text, wanted) in PARTS {
+    for row in &PARTS {
+        let (text, wanted) = *row;
         assert_eq!(&rt; parts(text), wanted);
     }
     Ok(())

@@ -31,7 +31,8 @@ fn is_so(alloc: Global, case: &Case, size: usize) -> bool {
 
 /// Prints in which cuts a case is not so.
 fn check<W: Write>(alloc: Global, case: &Case, out: &mut W) -> io::Result<()> {
-    for (cut, size) in CUTS {
+    for row in &CUTS {
+        let (cut, size) = *row;
         if !is_so(alloc, case, size) {
             writeln!(out, "{}: not so, {cut}", case.name)?;
         }

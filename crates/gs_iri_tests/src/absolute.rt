@@ -25,7 +25,8 @@ const TEXTS: [(&str, bool); 17] = [
 
 #[test]
 fn an_absolute_iri_has_a_scheme_and_iri_characters(rt: HostRuntime) -> Result<(), Fail> {
-    for (text, wanted) in TEXTS {
+    for row in &TEXTS {
+        let (text, wanted) = *row;
         assert_eq!(rt; is_absolute(text), wanted, "at {text}");
     }
     Ok(())

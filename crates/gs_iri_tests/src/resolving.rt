@@ -83,7 +83,8 @@ fn expect(
 
 #[test]
 fn normal_examples(rt: HostRuntime) -> Result<(), Fail> {
-    for (reference, wanted) in NORMAL {
+    for row in &NORMAL {
+        let (reference, wanted) = *row;
         expect(&rt, BASE, reference, wanted)?;
     }
     Ok(())
@@ -91,7 +92,8 @@ fn normal_examples(rt: HostRuntime) -> Result<(), Fail> {
 
 #[test]
 fn abnormal_examples(rt: HostRuntime) -> Result<(), Fail> {
-    for (reference, wanted) in ABNORMAL {
+    for row in &ABNORMAL {
+        let (reference, wanted) = *row;
         expect(&rt, BASE, reference, wanted)?;
     }
     Ok(())
@@ -99,7 +101,8 @@ fn abnormal_examples(rt: HostRuntime) -> Result<(), Fail> {
 
 #[test]
 fn other_bases(rt: HostRuntime) -> Result<(), Fail> {
-    for (base, reference, wanted) in OTHERS {
+    for row in &OTHERS {
+        let (base, reference, wanted) = *row;
         expect(&rt, base, reference, wanted)?;
     }
     Ok(())

@@ -123,7 +123,8 @@ fn is_right(alloc: Global, texts: &[&str], own: usize) -> Result<bool, AllocErro
 
 /// The name of the first row that is wrong.
 fn wrong_row(alloc: Global) -> Result<Option<&'static str>, AllocError> {
-    for (name, texts, own) in ROWS {
+    for row in &ROWS {
+        let (name, texts, own) = *row;
         if !is_right(alloc, texts, own)? {
             return Ok(Some(name));
         }
@@ -160,7 +161,8 @@ fn is_long_right(alloc: Global, count: usize, own: usize) -> Result<bool, AllocE
 
 /// The name of the first row of long texts that is wrong.
 fn wrong_long_row(alloc: Global) -> Result<Option<&'static str>, AllocError> {
-    for (name, count, own) in LONG {
+    for row in &LONG {
+        let (name, count, own) = *row;
         if !is_long_right(alloc, count, own)? {
             return Ok(Some(name));
         }

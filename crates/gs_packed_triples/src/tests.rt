@@ -74,8 +74,8 @@ fn list(alloc: Global, rows: &[[usize; 3]]) -> Result<Vec<Triple>, Refusal> {
 /// The triples of all lists, packed.
 fn packed(alloc: Global) -> Result<PackedTriples, Refusal> {
     let mut packed = PackedTriples::new(alloc);
-    for rows in LISTS {
-        let triples = list(alloc, rows)?;
+    for rows in &LISTS {
+        let triples = list(alloc, *rows)?;
         if !packed.make_room(&triples) {
             return Err(Refusal::NoMemory);
         }
@@ -98,8 +98,8 @@ fn is_text(alloc: Global, text: SplitText, number: usize) -> Result<bool, AllocE
 fn right_triples(alloc: Global, packed: &PackedTriples) -> Result<usize, Refusal> {
     let mut right = 0usize;
     let mut reader = packed.triples();
-    for rows in LISTS {
-        for row in rows {
+    for rows in &LISTS {
+        for row in *rows {
             let Some(read) = reader.next() else {
                 return Ok(right);
             };

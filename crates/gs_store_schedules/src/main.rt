@@ -110,8 +110,8 @@ fn play_fixed<W: Write>(alloc: Global, out: &mut W) -> io::Result<()> {
 }
 
 fn play_all<W: Write>(alloc: Global, out: &mut W) -> io::Result<()> {
-    for lie in LIES {
-        play_wrong(alloc, lie, out)?;
+    for lie in &LIES {
+        play_wrong(alloc, *lie, out)?;
     }
     play_drawn(alloc, out)?;
     play_fixed(alloc, out)

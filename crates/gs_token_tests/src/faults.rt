@@ -22,7 +22,8 @@ const FAULTS: [Row; 11] = [
 #[test]
 fn a_fault_has_the_place_of_the_last_token_before_it(rt: HostRuntime) -> Result<(), Fail> {
     let alloc = rt.alloc();
-    for (name, text, at) in FAULTS {
+    for row in &FAULTS {
+        let (name, text, at) = *row;
         refuse(&rt, alloc, name, text, at)?;
     }
     Ok(())

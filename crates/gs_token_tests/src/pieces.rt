@@ -29,7 +29,8 @@ fn given(alloc: Global, updates: bool, text: &str) -> Result<usize, Refusal> {
 #[test]
 fn a_token_is_given_once_it_is_settled(rt: HostRuntime) -> Result<(), Fail> {
     let alloc = rt.alloc();
-    for (text, updates, count) in SETTLED {
+    for row in &SETTLED {
+        let (text, updates, count) = *row;
         assert_eq!(rt; given(alloc, updates, text)?, count, "at {text}");
     }
     Ok(())

@@ -198,7 +198,8 @@ const OPEN: [Row; 8] = [
 
 /// Whether each body by its length is read so.
 fn sized_are_read(alloc: Global) -> Result<bool, AllocError> {
-    for (framing, text, data, end) in SIZED {
+    for row in &SIZED {
+        let (framing, text, data, end) = *row;
         if !is_read(alloc, framing, 0, text, data, end)? {
             return Ok(false);
         }

@@ -64,8 +64,8 @@ fn print_stop<W: Write>(stop: &Stop, number: u64, out: &mut W) -> io::Result<()>
 
 /// Plays all schedules.
 fn play_all<W: Write>(alloc: Global, out: &mut W) -> io::Result<()> {
-    for lie in LIES {
-        play_wrong(alloc, lie, out)?;
+    for lie in &LIES {
+        play_wrong(alloc, *lie, out)?;
     }
     let mut totals = Totals::new();
     let mut findings = 0u64;
