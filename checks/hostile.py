@@ -1,0 +1,292 @@
+"""Rows of what one client does, and what becomes of the others: hostile.py PROGRAM [ROUNDS]. Each row has a bar; the status is 0
+only where each row holds its bar in one of its rounds, and all replies were right in each."""
+import os
+import socket
+import sys
+import threading
+import time
+
+from serving import Server
+
+# Seconds after which a reply is given up.
+PATIENCE = 60
+
+P, Q, R, S = (f"<http://e/{name}>" for name in "pqrs")
+
+
+def node(kind, number):
+    """The IRI of a node; numbers stand in no order of their bytes."""
+    return f"<http://e/{kind}{number}>"
+
+
+def line(subject, verb, value):
+    return f"{subject} {verb} {value} .\n"
+
+
+class Client:
+    """One connection. Requests are made up before they are timed."""
+
+    def __init__(self, server, kept_small=False):
+        self.socket = socket.socket()
+        if kept_small:
+            self.socket.setsockopt(socket.SOL_SOCKET, socket.SO_RCVBUF, 4096)
+        self.socket.settimeout(PATIENCE)
+        self.socket.connect(("127.0.0.1", server.port))
+        self.socket.setsockopt(socket.IPPROTO_TCP, socket.TCP_NODELAY, 1)
+
+    def send(self, data):
+        self.socket.sendall(data)
+
+    def reply(self):
+        """The head of a reply without a body."""
+        data = b""
+        while not data.endswith(b"\r\n\r\n"):
+            more = self.socket.recv(4096)
+            if not more:
+                raise SystemExit(f"the connection ended after {data!r}")
+            data += more
+        return data
+
+    def status(self, data):
+        """The status of the reply to a request."""
+        self.send(data)
+        return int(self.reply()[9:12])
+
+    def lines(self, target):
+        """The lines of a graph."""
+        self.send(f"GET {target} HTTP/1.1\r\nHost: a\r\nConnection: close\r\n\r\n".encode())
+        data = b""
+        while more := self.socket.recv(65536):
+            data += more
+        head, _, rest = data.partition(b"\r\n\r\n")
+        if not head.startswith(b"HTTP/1.1 200"):
+            raise SystemExit(f"a GET of {target} is answered {head!r}")
+        body = b""
+        while True:
+            size, _, rest = rest.partition(b"\r\n")
+            many = int(size, 16)
+            if not many:
+                return body.decode().splitlines(keepends=True)
+            body, rest = body + rest[:many], rest[many + 2:]
+
+    def close(self):
+        self.socket.close()
+
+
+def request(method, target, media, body):
+    data = body.encode()
+    head = f"{method} {target} HTTP/1.1\r\nHost: a\r\nContent-Type: {media}\r\nContent-Length: {len(data)}\r\n\r\n"
+    return head.encode() + data
+
+
+def put(target, lines):
+    return request("PUT", target, "application/n-triples", "".join(lines))
+
+
+def post(target, lines):
+    return request("POST", target, "application/n-triples", "".join(lines))
+
+
+def delete_where(target, patterns):
+    return request("PATCH", target, "application/sparql-update", f"DELETE WHERE {{ {patterns} }}")
+
+
+def processor_seconds(server):
+    """What the server has taken of the processors."""
+    with open(f"/proc/{server.process.pid}/stat") as file:
+        fields = file.read().rpartition(")")[2].split()
+    return (int(fields[11]) + int(fields[12])) / os.sysconf("SC_CLK_TCK")
+
+
+class Bystander:
+    """A client that asks for a graph of one triple, again and again, and keeps the longest wait."""
+
+    def __init__(self, server):
+        self.longest = 0.0
+        self.goes_on = True
+        self.client = Client(server)
+        self.thread = threading.Thread(target=self.run, daemon=True)
+
+    def run(self):
+        data = b"HEAD /graphs/one HTTP/1.1\r\nHost: a\r\n\r\n"
+        while self.goes_on:
+            start = time.perf_counter()
+            try:
+                is_right = self.client.status(data) == 200
+            except OSError:
+                is_right = False
+            self.longest = max(self.longest, time.perf_counter() - start if is_right else float("inf"))
+            time.sleep(0.0002)
+
+    def __enter__(self):
+        self.thread.start()
+        time.sleep(0.05)
+        self.longest = 0.0
+        return self
+
+    def __exit__(self, *_):
+        self.goes_on = False
+        self.thread.join(timeout=1)
+        self.client.close()
+
+
+def chain(many):
+    """Pairs of lines, each object of the first verb having one value of the second."""
+    return [it for i in range(many // 2) for it in (line(node("a", i), P, node("x", i)), line(node("x", i), Q, node("z", i)))]
+
+
+def join(many):
+    """Half of the lines have one object, which has all the values of the other half."""
+    half = many // 2
+    return [line(node("a", i), P, node("x", 0)) for i in range(half)] + [line(node("x", 0), Q, node("z", i)) for i in range(half)]
+
+
+def layers(wide, many):
+    """So many layers in a ring, each node linked to each of the next layer: each key has partners, and no circle is shorter than the ring."""
+    return [line(node(f"l{k}n", i), P, node(f"l{(k + 1) % many}n", j)) for k in range(many) for i in range(wide) for j in range(wide)]
+
+
+def star(many):
+    """Subjects with four verbs each."""
+    return [line(node("s", i), verb, node("o", i)) for i in range(many // 4) for verb in (P, Q, R, S)]
+
+
+# What is asked, the lines of the graph, the patterns, whether all lines go or none, and in what time (seconds) it is wanted: until
+# it is done, and that others wait at most.
+PATTERNS = [
+    ("four patterns that share no variable, 1,000 triples", lambda: chain(1_000),
+     "?a ?b ?c . ?d ?e ?f . ?g ?h ?i . ?j ?k ?l", True, 2.0, 1.0),
+    ("the same, 100,000 triples", lambda: chain(100_000),
+     "?a ?b ?c . ?d ?e ?f . ?g ?h ?i . ?j ?k ?l", True, 5.0, 5.0),
+    ("a chain with a second subject, 100,000 triples", lambda: chain(100_000),
+     f"?a {P} ?x . ?x {Q} ?z . ?b {P} ?x", True, 2.0, 1.0),
+    ("the same, all on one object", lambda: join(100_000),
+     f"?a {P} ?x . ?x {Q} ?z . ?b {P} ?x", True, 2.0, 1.0),
+    ("a circle of three, in a ring of four full layers of 100, 40,000 triples", lambda: layers(100, 4),
+     f"?a {P} ?b . ?b {P} ?c . ?c {P} ?a", False, 4.0, 4.0),
+    ("a circle of four, in a ring of five full layers of 40, 8,000 triples", lambda: layers(40, 5),
+     f"?a {P} ?b . ?b {P} ?c . ?c {P} ?d . ?d {P} ?a", False, 1.0, 1.0),
+    ("a star of four on a subject, 40,000 triples", lambda: star(40_000),
+     f"?x {P} ?a . ?x {Q} ?b . ?x {R} ?c . ?x {S} ?d", True, 1.0, 1.0),
+    ("a known subject written last, 100,000 triples", lambda: chain(100_000),
+     f"?x {Q} ?z . {node('a', 7)} {P} ?x", None, 0.5, 0.5),
+]
+
+
+def pattern_row(program, row):
+    """How long it takes, how long others wait, and whether what is left is right."""
+    name, lines_of, patterns, goes, _, _ = row
+    lines = lines_of()
+    with Server(program) as server:
+        client = Client(server)
+        client.status(put("/graphs/one", [line(node("s", 1), P, node("o", 1))]))
+        client.status(put("/graphs/many", lines))
+        with Bystander(server) as bystander:
+            start = time.perf_counter()
+            try:
+                status = client.status(delete_where("/graphs/many", patterns))
+            except TimeoutError:
+                server.process.kill()
+                return float("inf"), float("inf")
+            taken = time.perf_counter() - start
+            time.sleep(0.05)
+        left = len(Client(server).lines("/graphs/many"))
+        wanted = {True: 0, False: len(set(lines)), None: len(set(lines)) - 2}[goes]
+        if status != 204 or left != wanted:
+            raise SystemExit(f"{name}: status {status}, {left} lines left in place of {wanted}")
+        return taken, bystander.longest
+
+
+def patterns(program, rounds):
+    right = True
+    for row in PATTERNS:
+        runs = [pattern_row(program, row) for _ in range(rounds)]
+        taken, waited = (min(run[k] for run in runs) for k in (0, 1))
+        holds = taken <= row[4] and waited <= row[5]
+        right = right and holds
+        missed = "" if holds else ": MISSED"
+        print(f"{row[0]}: done in {taken:.3f} s (at most {row[4]:g}), others waited {waited:.3f} s (at most {row[5]:g}){missed}", flush=True)
+    return right
+
+
+def stopped_reader(server):
+    """A client that asks for the large graph, reads a little of it, and stops."""
+    reader = Client(server, kept_small=True)
+    reader.send(b"GET /graphs/many HTTP/1.1\r\nHost: a\r\n\r\n")
+    if not reader.socket.recv(1000).startswith(b"HTTP/1.1 200"):
+        raise SystemExit("the large graph is not there")
+    return reader
+
+
+def posts(client, first, many):
+    """POSTs of one triple each: how long they took together, and the longest of them."""
+    data = [post("/graphs/many", [line(node("more", i), Q, node("n", i))]) for i in range(first, first + many)]
+    longest, start = 0.0, time.perf_counter()
+    for one in data:
+        before = time.perf_counter()
+        if client.status(one) != 204:
+            raise SystemExit("a POST is not answered 204")
+        longest = max(longest, time.perf_counter() - before)
+    return time.perf_counter() - start, longest
+
+
+def posts_beside(program, readers, many):
+    """POSTs a second onto 200,000 triples beside so many readers that have stopped, and their processor time."""
+    with Server(program, "--workers", "4") as server:
+        client = Client(server)
+        client.status(put("/graphs/many", [line(node("s", i), P, node("o", i)) for i in range(200_000)]))
+        posts(client, 1_000_000, 1_000)
+        stopped = [stopped_reader(server) for _ in range(readers)]
+        time.sleep(0.2)
+        before = processor_seconds(server)
+        taken, longest = posts(client, 0, many)
+        processor = processor_seconds(server) - before
+        for reader in stopped:
+            reader.close()
+        return many / taken, longest, processor / many * 1e6
+
+
+def slow_reader(program, rounds, many=20_000, wanted=0.8):
+    best = 0.0
+    for _ in range(rounds):
+        alone, beside = posts_beside(program, 0, many), posts_beside(program, 1, many)
+        ratio = beside[0] / alone[0]
+        best = max(best, ratio)
+        print(f"POSTs beside a reader of 200,000 triples that has stopped: {beside[0]:,.0f} a second, {alone[0]:,.0f} without it, {ratio:.2f} of it"
+              f" (processor: {beside[2]:.0f} and {alone[2]:.0f} µs each; longest wait {beside[1] * 1e3:.1f} and {alone[1] * 1e3:.1f} ms)", flush=True)
+    holds = best >= wanted
+    missed = "" if holds else ": MISSED"
+    print(f"  the best of {rounds}: {best:.2f} (at least {wanted:g}){missed}")
+    return holds
+
+
+def readers_end(program, rounds, wanted=0.020):
+    """The longest wait of a POST where two readers that have stopped end, one after the other, among 32,000 POSTs."""
+    best = 1e9
+    for _ in range(rounds):
+        with Server(program, "--workers", "4") as server:
+            client = Client(server)
+            client.status(put("/graphs/many", [line(node("s", i), P, node("o", i)) for i in range(200_000)]))
+            stopped = [stopped_reader(server) for _ in range(2)]
+            time.sleep(0.2)
+            _, first = posts(client, 0, 16_000)
+            longest = 0.0
+            for part, reader in enumerate(stopped):
+                reader.close()
+                longest = max(longest, posts(client, 20_000 + 8_000 * part, 8_000)[1])
+            best = min(best, longest)
+            print(f"two readers that have stopped end among POSTs: the longest wait {longest * 1e3:.1f} ms, before they end {first * 1e3:.1f} ms", flush=True)
+    holds = best <= wanted
+    missed = "" if holds else ": MISSED"
+    print(f"  the best of {rounds}: {best * 1e3:.1f} ms (at most {wanted * 1e3:g}){missed}")
+    return holds
+
+
+def main():
+    program, rounds = sys.argv[1], int(sys.argv[2]) if len(sys.argv) > 2 else 3
+    held = [patterns(program, rounds), slow_reader(program, rounds), readers_end(program, rounds)]
+    sys.exit(0 if all(held) else 1)
+
+
+if __name__ == "__main__":
+    main()
