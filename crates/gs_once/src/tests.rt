@@ -134,8 +134,7 @@ fn is_right(alloc: Global, line: &str, input: &str, status: u8, output: &str, sa
 
 /// The first line that is not done as its row says.
 fn wrong_done(alloc: Global) -> Option<&'static str> {
-    for row in &DONE {
-        let (line, input, output) = *row;
+    for (line, input, output) in DONE {
         if !is_right(alloc, line, input, 0, output, "") {
             return Some(line);
         }
@@ -219,8 +218,7 @@ fn says_that_a_write_failed<R: Read + Drop>(
 
 /// The first run that does not say that a write failed.
 fn wrong_broken(alloc: Global) -> Option<&'static str> {
-    for row in &BROKEN {
-        let (line, input, out) = *row;
+    for (line, input, out) in BROKEN {
         if !says_that_a_write_failed(alloc, line, input.as_bytes(), *out) {
             return Some(line);
         }
