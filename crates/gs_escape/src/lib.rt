@@ -4,8 +4,6 @@
 mod escapes;
 mod forms;
 mod laws;
-#[cfg(test)]
-mod rows;
 mod runs;
 mod tokens;
 mod walks;

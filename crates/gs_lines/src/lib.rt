@@ -4,8 +4,6 @@
 mod laws;
 mod lines;
 mod pieces;
-#[cfg(test)]
-mod tests;
 
 pub use laws::{all_lines_are_the_graphs, lines_outlast_changes};
 pub use pieces::{Piece, next_piece};

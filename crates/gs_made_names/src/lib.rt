@@ -2,7 +2,5 @@
 #![tactic(auto)]
 
 mod names;
-#[cfg(test)]
-mod tests;
 
 pub use names::made_name;

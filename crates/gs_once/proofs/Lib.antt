@@ -1,4 +1,1 @@
-mod FaultLemmas
-mod NumberLemmas
-mod AskedLemmas
 mod RunLemmas

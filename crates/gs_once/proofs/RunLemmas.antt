@@ -3,9 +3,9 @@ use Rattle.std.proofs.Common.{◌≡◌, ℕ, List, Err, sym, subst, inl, inr}
 use Rattle.gs_session.specs.Connections.{Quit}
 use Rattle.gs_session.specs.declared.serving.ServeFault.{ServeFault}
 use Rattle.gs_session.specs.declared.serving.ServeFault.TheVariants as fault
-use Rattle.gs_once.specs.declared.stops.Stop.{Stop}
-use Rattle.gs_once.specs.declared.stops.Stop.TheVariants.{BadArguments, NoMemory}
-use Rattle.gs_once.specs.Asked.{Asked, IsRefusedFor, help, connection, listening, nothing}
+use Rattle.gs_arguments.specs.declared.stops.Stop.{Stop}
+use Rattle.gs_arguments.specs.declared.stops.Stop.TheVariants.{BadArguments, NoMemory}
+use Rattle.gs_arguments.specs.Asked.{Asked, IsRefusedFor, help, connection, listening, nothing}
 use Rattle.gs_once.specs.Stops.{stop_of}
 use Rattle.gs_once.specs.Runs.{Traffic, IsUntouched, ServesConnection, Performs}
 

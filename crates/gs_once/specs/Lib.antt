@@ -1,5 +1,3 @@
--- Read in this order: the options; what the words ask for; what a run says and its status; and what it does.
-pub mod Options
-pub mod Asked
+-- Read in this order: what a run says and its status; and what it does.
 pub mod Stops
 pub mod Runs

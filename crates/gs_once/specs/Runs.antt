@@ -8,10 +8,10 @@ use Rattle.gs_core.specs.Settings.{start_at}
 use Rattle.gs_talk.specs.Seats.{Deeds}
 use Rattle.gs_talk.specs.Logs.{Server}
 use Rattle.gs_session.specs.Connections.{Connection, Done, Quit}
-use Rattle.gs_once.specs.declared.stops.Stop.{Stop}
-use Rattle.gs_once.specs.declared.stops.Stop.TheVariants.{BadArguments, CannotListen, NoMemory, ReadFailed, WriteFailed}
-use Rattle.gs_once.specs.Options.{help_text}
-use Rattle.gs_once.specs.Asked.{Asked, help, connection, listening, nothing}
+use Rattle.gs_arguments.specs.declared.stops.Stop.{Stop}
+use Rattle.gs_arguments.specs.declared.stops.Stop.TheVariants.{BadArguments, CannotListen, NoMemory, ReadFailed, WriteFailed}
+use Rattle.gs_arguments.specs.Options.{help_text}
+use Rattle.gs_arguments.specs.Asked.{Asked, help, connection, listening, nothing}
 use Rattle.gs_once.specs.Stops.{AppendsFront, said_line}
 
 -- what is left to read before and after a run, and what its output holds before and after it

@@ -4,8 +4,8 @@ use Rattle.std.specs.Io.KnownBytes.{Appends}
 use Rattle.gs_model.specs.Characters.{line_feed}
 use Rattle.gs_session.specs.declared.serving.ServeFault.{ServeFault}
 use Rattle.gs_session.specs.declared.serving.ServeFault.TheVariants as fault
-use Rattle.gs_once.specs.declared.stops.Stop.{Stop}
-use Rattle.gs_once.specs.declared.stops.Stop.TheVariants.{BadArguments, CannotListen, NoMemory, ReadFailed, WriteFailed}
+use Rattle.gs_arguments.specs.declared.stops.Stop.{Stop}
+use Rattle.gs_arguments.specs.declared.stops.Stop.TheVariants.{BadArguments, CannotListen, NoMemory, ReadFailed, WriteFailed}
 
 -- the line that is said on standard error
 abbrev pub said_line : Stop → List ℕ

@@ -1,13 +1,12 @@
 //! One run of the program.
 ghost use Rattle.std.specs.Prelude.{◌≡◌, ◌≤◌, ℕ, List, Option, true, map};
 ghost use Rattle.gs_model.specs.Bases.{is_base};
-ghost use Rattle.gs_once.specs.Asked.{asked_by, asked_for, IsAllowed, help as asks_help, connection};
+ghost use Rattle.gs_arguments.specs.Asked.{asked_by, asked_for, IsAllowed, help as asks_help, connection};
 ghost use Rattle.gs_once.specs.Stops.{stop_of as stop_by};
 ghost use Rattle.gs_once.specs.Runs.{traffic, Performs, Exits};
 
-use crate::options::help;
-use crate::stops::{Stop, report};
-use crate::tasks::{Task, read_task};
+use crate::stops::report;
+use gs_arguments::{Stop, Task, help, read_task};
 use gs_core::Store;
 use gs_session::{ServeFault, serve, write_text};
 use std::alloc::Global;

@@ -1,24 +1,10 @@
-//! Why a run does not end well, what is said of that, and its status.
+//! What is said where a run does not end well, and its status.
 ghost use Rattle.std.specs.Prelude.{◌≡◌};
 ghost use Rattle.gs_once.specs.Stops.{AppendsFront, said_line, exit_status};
 
+use gs_arguments::Stop;
 use gs_session::write_text;
 use std::io::Write;
-
-/// Why a run ends with another status than 0.
-#[derive(Clone, Copy, Debug, PartialEq)]
-pub enum Stop {
-    /// The words ask for nothing that the program does.
-    BadArguments,
-    /// The address cannot be listened at.
-    CannotListen,
-    /// Memory was wanted and not given.
-    NoMemory,
-    /// A read failed, or there were 2^64 - 1 turns and reads.
-    ReadFailed,
-    /// A write or a flush failed, or a write took nothing.
-    WriteFailed,
-}
 
 fn line(stop: Stop) -> &'static str
     ensures { result.now ≡ said_line stop }

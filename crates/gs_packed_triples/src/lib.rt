@@ -2,8 +2,6 @@
 #![tactic(auto)]
 
 mod readers;
-#[cfg(test)]
-mod tests;
 mod triples;
 
 pub use gs_packed_texts::SplitText;

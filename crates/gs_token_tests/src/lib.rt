@@ -1,8 +1,10 @@
-//! Tests of tokens: each terminal, texts and their tokens, faults, and what is given of a piece.
+//! Tests of tokens: each terminal, texts and their tokens, what they mean, faults, and what is given of a piece.
 #![tactic(auto)]
 
 #[cfg(test)]
 mod faults;
+#[cfg(test)]
+mod meanings;
 #[cfg(test)]
 mod pieces;
 #[cfg(test)]

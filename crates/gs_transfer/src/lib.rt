@@ -3,10 +3,6 @@
 
 mod laws;
 mod places;
-#[cfg(test)]
-mod replays;
-#[cfg(test)]
-mod rows;
 mod trailers;
 mod transfers;
 

@@ -3,7 +3,8 @@
 
 mod listening;
 
-use gs_once::{Stop, Task, perform, read_task, report};
+use gs_arguments::{Stop, Task, read_task};
+use gs_once::{perform, report};
 use listening::listen;
 use std::alloc::{AllocError, Global};
 use std::env;

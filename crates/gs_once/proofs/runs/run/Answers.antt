@@ -1,7 +1,7 @@
 use Rattle.std.proofs.Common.{sym, subst}
-use Rattle.gs_once.specs.Asked.{asked_for}
+use Rattle.gs_arguments.specs.Asked.{asked_for}
 use Rattle.gs_once.specs.Runs.{Performs, traffic}
-use Rattle.gs_once.specs.declared.tasks.Task.{Task}
+use Rattle.gs_arguments.specs.declared.tasks.Task.{Task}
 use Rattle.gs_once.proofs.runs.run.Goals as goal
 
 pub returns-in-Help : goal.returns-in-Help

@@ -1,0 +1,13 @@
+use Rattle.std.proofs.Common.{refl}
+use Rattle.clap.proofs.OnLiterals.{clap_on_literals}
+use Rattle.gs_arguments.proofs.laws.lines_that_serve.Goals as goal
+
+pub returns : goal.returns
+unfolding clap_on_literals
+returns c = record {
+  once = refl;
+  all = refl;
+  least = refl;
+  most = refl;
+  workers = refl;
+}

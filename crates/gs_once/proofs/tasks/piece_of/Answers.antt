@@ -1,8 +1,0 @@
-use Rattle.std.proofs.Common.{arith, codes}
-use Rattle.clap.specs.Words.{found_of}
-use Rattle.gs_once.proofs.NumberLemmas.{number_read}
-use Rattle.gs_once.proofs.tasks.piece_of.Goals as goal
-
-pub returns : goal.returns
-returns c =
-    number_read 32 4096 (codes "piece") (omega arith) (found_of c.args.matches.now) c.get_one.result c.requires c.get_one.ensures.none c.get_one.ensures.value

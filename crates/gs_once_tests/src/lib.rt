@@ -1,0 +1,5 @@
+//! Tests of runs: command lines with what they read, write and say.
+#![tactic(auto)]
+
+#[cfg(test)]
+mod runs;

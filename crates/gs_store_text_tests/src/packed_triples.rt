@@ -1,0 +1,133 @@
+//! Triples packed and read back, beside the texts of their terms, written by hand (N-Triples, section 2, and its
+//! canonical form).
+use gs_model::Refusal;
+use gs_packed_triples::{PackedTriples, SplitText};
+use gs_term::{TermText, Triple};
+use std::alloc::{AllocError, Global};
+use std::test::Fail;
+
+/// The texts of the terms of `term`, in their order.
+const TEXTS: [&str; 9] = [
+    "<http://example.org/lists/1>",
+    "<http://example.org/lists/12>",
+    "<http://example.org/terms#name>",
+    "<e:p>",
+    "_:b1_2",
+    "\"\"",
+    "\"say \\\"a\\\\b\\\"\\n\"",
+    "\"na\u{ef}ve\"@fr",
+    "\"1\"^^<e:int>",
+];
+
+/// The terms of the triples of two lists, by their numbers: a triple once more at once, after others, and in the
+/// other list.
+const LISTS: [&[[usize; 3]]; 3] = [
+    &[
+        [0, 2, 5],
+        [0, 2, 5],
+        [0, 2, 6],
+        [1, 2, 6],
+        [4, 3, 0],
+        [0, 2, 5],
+        [4, 3, 4],
+    ],
+    &[],
+    &[[1, 3, 7], [4, 3, 8], [0, 2, 5], [1, 3, 7]],
+];
+
+/// The term of a number.
+fn term(alloc: Global, number: usize) -> Result<TermText, Refusal> {
+    match number {
+        0 => TermText::iri(alloc, "http://example.org/lists/1"),
+        1 => TermText::iri(alloc, "http://example.org/lists/12"),
+        2 => TermText::iri(alloc, "http://example.org/terms#name"),
+        3 => TermText::iri(alloc, "e:p"),
+        4 => TermText::blank(alloc, 1, 2),
+        5 => TermText::literal(alloc, "", None, None),
+        6 => TermText::literal(alloc, "say \"a\\b\"\n", None, None),
+        7 => TermText::literal(alloc, "na\u{ef}ve", None, Some("FR")),
+        _ => TermText::literal(alloc, "1", Some("e:int"), None),
+    }
+}
+
+/// The triple of three terms.
+fn triple(alloc: Global, terms: &[usize; 3]) -> Result<Triple, Refusal> {
+    let subject = term(alloc, terms[0])?;
+    let predicate = term(alloc, terms[1])?;
+    let object = term(alloc, terms[2])?;
+    if !subject.is_subject() || !predicate.is_iri() {
+        return Err(Refusal::Syntax(0));
+    }
+    Ok(Triple::new(subject, predicate, object))
+}
+
+/// The triples of a list.
+fn list(alloc: Global, rows: &[[usize; 3]]) -> Result<Vec<Triple>, Refusal> {
+    let mut triples = Vec::new(alloc);
+    for row in rows {
+        triples.push(triple(alloc, row)?)?;
+    }
+    Ok(triples)
+}
+
+/// The triples of all lists, packed.
+fn packed(alloc: Global) -> Result<PackedTriples, Refusal> {
+    let mut packed = PackedTriples::new(alloc);
+    for rows in &LISTS {
+        let triples = list(alloc, *rows)?;
+        if !packed.make_room(&triples) {
+            return Err(Refusal::NoMemory);
+        }
+        packed.add(&triples);
+    }
+    Ok(packed)
+}
+
+/// Whether the text is that of a term's number.
+fn is_text(alloc: Global, text: SplitText, number: usize) -> Result<bool, AllocError> {
+    let mut bytes = Vec::from_slice(alloc, text.front())?;
+    bytes.extend_from_slice(text.rest())?;
+    match TEXTS.get(number) {
+        Some(wanted) => Ok(bytes.as_slice() == wanted.as_bytes()),
+        None => Ok(false),
+    }
+}
+
+/// How many triples were read as they were added, up to the first that was not.
+fn right_triples(alloc: Global, packed: &PackedTriples) -> Result<usize, Refusal> {
+    let mut right = 0usize;
+    let mut reader = packed.triples();
+    for rows in &LISTS {
+        for row in *rows {
+            let Some(read) = reader.next() else {
+                return Ok(right);
+            };
+            let texts = is_text(alloc, read.subject(), row[0])?
+                && is_text(alloc, read.predicate(), row[1])?
+                && is_text(alloc, read.object(), row[2])?;
+            if !texts || read.to_triple(alloc)? != triple(alloc, row)? {
+                return Ok(right);
+            }
+            right = right.saturating_add(1);
+        }
+    }
+    if reader.next().is_some() {
+        return Ok(0);
+    }
+    Ok(right)
+}
+
+#[test]
+fn triples_are_read_as_they_were_added(rt: HostRuntime) -> Result<(), Fail> {
+    let packed = packed(rt.alloc())?;
+    assert_eq!(rt; packed.len(), 11);
+    assert_eq!(rt; right_triples(rt.alloc(), &packed)?, 11);
+    Ok(())
+}
+
+#[test]
+fn no_triples_are_read_where_none_were_added(rt: HostRuntime) {
+    let packed = PackedTriples::new(rt.alloc());
+    assert_eq!(rt; packed.len(), 0);
+    assert!(rt; packed.triples().next().is_none());
+}
