@@ -71,7 +71,7 @@ fn has_texts(triple: &Triple) -> bool {
 #[test]
 fn triples_have_the_texts_of_their_terms(rt: HostRuntime) -> Result<(), Fail> {
     let triple = made(rt.alloc())?;
-    let clone = triple.clone();
+    let clone: Result<Triple, AllocError> = triple.clone();
     drop(triple);
     let clone = clone?;
     let is_right = has_texts(&clone);
