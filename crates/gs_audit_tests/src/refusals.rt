@@ -17,6 +17,7 @@ fn open(alloc: Global, store: &mut Small) -> Result<Answer, Refusal> {
     if !wants_memory(&answer) {
         return Ok(answer);
     }
+    drop(answer);
     let kind = UploadKind::Post(cats(alloc)?);
     Ok(store.event(Event::Seat(0, Action::Open(kind))))
 }
@@ -28,6 +29,7 @@ fn stage(alloc: Global, store: &mut Small, count: u8) -> Result<Answer, Refusal>
     if !wants_memory(&answer) {
         return Ok(answer);
     }
+    drop(answer);
     let list = triples(alloc, count)?;
     Ok(store.event(Event::Seat(0, Action::Stage(list))))
 }
@@ -35,24 +37,32 @@ fn stage(alloc: Global, store: &mut Small, count: u8) -> Result<Answer, Refusal>
 /// The same with the commit.
 fn commit(store: &mut Small) -> Answer {
     let answer = store.event(Event::Seat(0, Action::Commit));
-    if wants_memory(&answer) {
-        store.event(Event::Seat(0, Action::Commit))
-    } else {
-        answer
+    if !wants_memory(&answer) {
+        return answer;
     }
+    drop(answer);
+    store.event(Event::Seat(0, Action::Commit))
+}
+
+/// Whether an upload of five triples is stored once.
+fn stores_once(alloc: Global, store: &mut Small) -> Result<bool, Refusal> {
+    Ok(
+        matches!(open(alloc, store)?, Answer::Opened(1))
+            && matches!(stage(alloc, store, 2)?, Answer::Staged)
+            && matches!(stage(alloc, store, 3)?, Answer::Staged)
+            && matches!(commit(store), Answer::Status(201, _))
+            && store.page().number() == 0
+            && store.page().entries().len() == 1,
+    )
 }
 
 /// Whichever request was refused, the event that was answered so changed nothing, also in the page:
 /// made once more, it is answered as ever, and stored once.
 #[test]
 fn a_refused_event_changes_nothing(rt: HostRuntime) -> Result<(), Refusal> {
-    let alloc = rt.alloc();
-    let mut store = small(alloc)?;
-    assert!(&rt; matches!(open(alloc, &mut store)?, Answer::Opened(1)));
-    assert!(&rt; matches!(stage(alloc, &mut store, 2)?, Answer::Staged));
-    assert!(&rt; matches!(stage(alloc, &mut store, 3)?, Answer::Staged));
-    assert!(&rt; matches!(commit(&mut store), Answer::Status(201, _)));
-    assert_eq!(&rt; store.page().number(), 0);
-    assert_eq!(&rt; store.page().entries().len(), 1);
+    let mut store = small(rt.alloc())?;
+    let is_stored = stores_once(rt.alloc(), &mut store);
+    drop(store);
+    assert!(&rt; is_stored?);
     Ok(())
 }

@@ -1,5 +1,5 @@
 //! Worked rows: what is done to a new store, and the page that it leaves.
-use crate::stores::{cats, put, small, triples, wide};
+use crate::stores::{Small, Wide, cats, put, small, triples, wide};
 use gs_chronicle::{Request, Upload};
 use gs_core::{Action, Answer, Event, UploadKind};
 use gs_model::Refusal;
@@ -68,20 +68,35 @@ fn status_in(answer: &Answer) -> u16 {
     }
 }
 
-/// Whether a row leaves its page.
-fn is_right(alloc: Global, row: &Row) -> Result<bool, Refusal> {
-    let mut store = small(alloc)?;
+/// The status of a PUT of so many triples.
+fn status_of(alloc: Global, store: &mut Small, count: u8) -> Result<u16, Refusal> {
+    let answer = put(alloc, store, count)?;
+    let status = status_in(&answer);
+    drop(answer);
+    Ok(status)
+}
+
+/// Whether a row leaves its page, in a store that is lent.
+fn is_left(alloc: Global, store: &mut Small, row: &Row) -> Result<bool, Refusal> {
     for _ in 0..row.heads {
-        let _ = store.event(Event::Seat(1, Action::Head(Target::Default)));
+        drop(store.event(Event::Seat(1, Action::Head(Target::Default))));
     }
     let mut status = 0;
-    for count in row.puts {
-        if count > 0 {
-            status = status_in(&put(alloc, &mut store, count)?);
+    for count in &row.puts {
+        if *count > 0 {
+            status = status_of(alloc, store, *count)?;
         }
     }
     let page = store.page();
     Ok(status == row.status && page.number() == row.number && page.entries().len() == row.entries)
+}
+
+/// Whether a row leaves its page.
+fn is_right(alloc: Global, row: &Row) -> Result<bool, Refusal> {
+    let mut store = small(alloc)?;
+    let answer = is_left(alloc, &mut store, row);
+    drop(store);
+    answer
 }
 
 /// The name of the first row that leaves another page.
@@ -94,17 +109,25 @@ fn wrong_row(alloc: Global) -> Result<Option<&'static str>, Refusal> {
     Ok(None)
 }
 
-/// The answers to a Stage of no triples and to its Commit, and how many triples the entry counts.
-fn staged_nothing(alloc: Global) -> Result<(Answer, Answer, Option<usize>), Refusal> {
-    let mut store = small(alloc)?;
-    let _ = store.event(Event::Seat(0, Action::Open(UploadKind::Put(cats(alloc)?))));
-    let stage = store.event(Event::Seat(0, Action::Stage(Vec::new(alloc))));
-    let commit = store.event(Event::Seat(0, Action::Commit));
-    let triples = match store.page().entries().last() {
+/// How many triples the last entry of a page counts.
+fn last_triples(store: &Small) -> Option<usize> {
+    match store.page().entries().last() {
         Some(entry) => entry.request().triples(),
         None => None,
-    };
-    Ok((stage, commit, triples))
+    }
+}
+
+/// Whether a Stage of no triples and its Commit are answered as ever, and the entry counts no triple.
+fn stages_nothing(alloc: Global, store: &mut Small) -> Result<bool, Refusal> {
+    let kind = UploadKind::Put(cats(alloc)?);
+    drop(store.event(Event::Seat(0, Action::Open(kind))));
+    let stage = store.event(Event::Seat(0, Action::Stage(Vec::new(alloc))));
+    let is_staged = matches!(stage, Answer::Staged);
+    drop(stage);
+    let commit = store.event(Event::Seat(0, Action::Commit));
+    let status = status_in(&commit);
+    drop(commit);
+    Ok(is_staged && status == 201 && last_triples(store) == Some(0))
 }
 
 /// How many triples a reader of an upload gives.
@@ -117,40 +140,53 @@ fn read_from(upload: &Upload) -> usize {
     count
 }
 
-/// The status of a PUT of 300 lists of four triples, and how many triples its entry has, as a reader
-/// gives them and as they are counted.
-fn staged_often(alloc: Global) -> Result<(u16, usize, Option<usize>), Refusal> {
-    let mut store = wide(alloc)?;
-    let _ = store.event(Event::Seat(0, Action::Open(UploadKind::Put(cats(alloc)?))));
-    for _ in 0..300u32 {
-        let list = triples(alloc, 4)?;
-        let _ = store.event(Event::Seat(0, Action::Stage(list)));
-    }
-    let status = status_in(&store.event(Event::Seat(0, Action::Commit)));
+/// Stages four triples.
+fn stage_four(alloc: Global, store: &mut Wide) -> Result<(), Refusal> {
+    let list = triples(alloc, 4)?;
+    drop(store.event(Event::Seat(0, Action::Stage(list))));
+    Ok(())
+}
+
+/// How many triples the last entry of a page has, as a reader gives them and as they are counted.
+fn last_counts(store: &Wide) -> (usize, Option<usize>) {
     match store.page().entries().last() {
         Some(entry) => match entry.request() {
-            Request::Upload(upload) => Ok((status, read_from(upload), entry.request().triples())),
-            _ => Ok((status, 0, None)),
+            Request::Upload(upload) => (read_from(upload), entry.request().triples()),
+            _ => (0, None),
         },
-        None => Ok((status, 0, None)),
+        None => (0, None),
     }
+}
+
+/// Whether a PUT of 300 lists of four triples is stored whole.
+fn stores_whole(alloc: Global, store: &mut Wide) -> Result<bool, Refusal> {
+    let kind = UploadKind::Put(cats(alloc)?);
+    drop(store.event(Event::Seat(0, Action::Open(kind))));
+    for _ in 0..300u32 {
+        stage_four(alloc, store)?;
+    }
+    let commit = store.event(Event::Seat(0, Action::Commit));
+    let status = status_in(&commit);
+    drop(commit);
+    let (read, counted) = last_counts(store);
+    Ok(status == 201 && read == 1_200 && counted == Some(1_200))
 }
 
 #[test]
 fn an_upload_of_many_lists_is_stored_whole(rt: HostRuntime) -> Result<(), Refusal> {
-    let (status, read, counted) = staged_often(rt.alloc())?;
-    assert_eq!(&rt; status, 201);
-    assert_eq!(&rt; read, 1_200);
-    assert_eq!(&rt; counted, Some(1_200));
+    let mut store = wide(rt.alloc())?;
+    let is_stored = stores_whole(rt.alloc(), &mut store);
+    drop(store);
+    assert!(&rt; is_stored?);
     Ok(())
 }
 
 #[test]
 fn an_empty_list_is_staged_and_counts_for_nothing(rt: HostRuntime) -> Result<(), Refusal> {
-    let (stage, commit, triples) = staged_nothing(rt.alloc())?;
-    assert!(&rt; matches!(stage, Answer::Staged));
-    assert_eq!(&rt; status_in(&commit), 201);
-    assert_eq!(&rt; triples, Some(0));
+    let mut store = small(rt.alloc())?;
+    let is_staged = stages_nothing(rt.alloc(), &mut store);
+    drop(store);
+    assert!(&rt; is_staged?);
     Ok(())
 }
 

@@ -17,8 +17,11 @@ pub fn small(alloc: Global) -> Result<Small, Refusal> {
     Audited::new(alloc, 2, base)
 }
 
-/// A new store with two seats, whose page takes four entries with 2,000 triples in all.
-pub fn wide(alloc: Global) -> Result<Audited<4, 2_000>, Refusal> {
+/// A store whose page takes four entries with 2,000 triples in all.
+pub type Wide = Audited<4, 2_000>;
+
+/// A new store of that kind with two seats.
+pub fn wide(alloc: Global) -> Result<Wide, Refusal> {
     let base = "http://localhost";
     if !is_base(base) {
         return Err(Refusal::Syntax(0));
@@ -26,17 +29,22 @@ pub fn wide(alloc: Global) -> Result<Audited<4, 2_000>, Refusal> {
     Audited::new(alloc, 2, base)
 }
 
+/// The triple whose object has this number.
+fn triple(alloc: Global, number: u8) -> Result<Triple, Refusal> {
+    let subject = TermText::iri(alloc, "http://e/s")?;
+    let predicate = TermText::iri(alloc, "http://e/p")?;
+    let object = TermText::blank(alloc, 1, u64::from(number))?;
+    if !subject.is_subject() || !predicate.is_iri() {
+        return Err(Refusal::Syntax(0));
+    }
+    Ok(Triple::new(subject, predicate, object))
+}
+
 /// So many triples, each with an object of its own.
 pub fn triples(alloc: Global, count: u8) -> Result<Vec<Triple>, Refusal> {
     let mut list = Vec::new(alloc);
     for number in 0..count {
-        let subject = TermText::iri(alloc, "http://e/s")?;
-        let predicate = TermText::iri(alloc, "http://e/p")?;
-        let object = TermText::blank(alloc, 1, u64::from(number))?;
-        if !subject.is_subject() || !predicate.is_iri() {
-            return Err(Refusal::Syntax(0));
-        }
-        list.push(Triple::new(subject, predicate, object))?;
+        list.push(triple(alloc, number)?)?;
     }
     Ok(list)
 }
@@ -48,9 +56,9 @@ pub fn cats(alloc: Global) -> Result<Target, Refusal> {
 
 /// A PUT of so many triples by the first seat, and the answer to its commit.
 pub fn put(alloc: Global, store: &mut Small, count: u8) -> Result<Answer, Refusal> {
-    let kind = UploadKind::Put(cats(alloc)?);
     let list = triples(alloc, count)?;
-    let _ = store.event(Event::Seat(0, Action::Open(kind)));
-    let _ = store.event(Event::Seat(0, Action::Stage(list)));
+    let kind = UploadKind::Put(cats(alloc)?);
+    drop(store.event(Event::Seat(0, Action::Open(kind))));
+    drop(store.event(Event::Seat(0, Action::Stage(list))));
     Ok(store.event(Event::Seat(0, Action::Commit)))
 }

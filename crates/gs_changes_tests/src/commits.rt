@@ -139,6 +139,29 @@ fn stands(
     )
 }
 
+/// The same as below, in a pool that is lent.
+fn is_kept_in(
+    alloc: Global,
+    pool: &mut Pool,
+    trial: &Trial,
+    keys: &[Key],
+    added: usize,
+    removed: usize,
+) -> Result<bool, Refusal>
+    requires { aside_count pool.old ≡ 0 }
+{
+    if !is_rising(&ByObject, trial.set.as_slice())
+        || !is_rising(&ByObject, trial.other.as_slice())
+    {
+        return Ok(false);
+    }
+    let roots = begin(pool, trial.set.as_slice(), trial.other.as_slice())?;
+    let changed = change(pool, roots, trial.other.as_slice(), trial.out.as_slice())?;
+    retire_replaced(pool, 2);
+    let right = stands(alloc, pool, roots, trial, changed.root, keys)?;
+    Ok(right && changed.added == added && changed.removed == removed && pool.next_aside().is_none())
+}
+
 /// Whether a commit that is kept makes a set of just these keys, and says that so many came and so many
 /// went. What it replaced is retired; both sets still have the keys that they had.
 pub fn is_kept(
@@ -148,48 +171,31 @@ pub fn is_kept(
     added: usize,
     removed: usize,
 ) -> Result<bool, Refusal> {
-    if !is_rising(&ByObject, trial.set.as_slice())
-        || !is_rising(&ByObject, trial.other.as_slice())
-    {
-        return Ok(false);
-    }
     let mut pool = Pool::new(alloc, u32::MAX);
-    let roots = begin(&mut pool, trial.set.as_slice(), trial.other.as_slice())?;
-    let changed = change(
-        &mut pool,
-        roots,
-        trial.other.as_slice(),
-        trial.out.as_slice(),
-    )?;
-    retire_replaced(&mut pool, 2);
-    let right = stands(alloc, &pool, roots, trial, changed.root, keys)?;
-    Ok(right && changed.added == added && changed.removed == removed && pool.next_aside().is_none())
+    let answer = is_kept_in(alloc, &mut pool, trial, keys, added, removed);
+    drop(pool);
+    answer
 }
 
-/// Whether a commit that is refused or taken back leaves both sets, and no node of its own, where the
-/// numbers of nodes end at `last`: if so, whether it was refused.
-pub fn is_left_alone(alloc: Global, trial: &Trial, last: u32) -> Result<Option<bool>, Refusal> {
+/// The same as below, in a pool that is lent.
+fn is_left_alone_in(alloc: Global, pool: &mut Pool, trial: &Trial) -> Result<Option<bool>, Refusal>
+    requires { aside_count pool.old ≡ 0 }
+{
     if !is_rising(&ByObject, trial.set.as_slice())
         || !is_rising(&ByObject, trial.other.as_slice())
     {
         return Ok(None);
     }
-    let mut pool = Pool::new(alloc, last);
-    let roots = begin(&mut pool, trial.set.as_slice(), trial.other.as_slice())?;
+    let roots = begin(pool, trial.set.as_slice(), trial.other.as_slice())?;
     let used = pool.nodes_in_use();
-    let refused = match change(
-        &mut pool,
-        roots,
-        trial.other.as_slice(),
-        trial.out.as_slice(),
-    ) {
+    let refused = match change(pool, roots, trial.other.as_slice(), trial.out.as_slice()) {
         Ok(changed) => {
-            take_back(&mut pool, changed.root, 2);
+            take_back(pool, changed.root, 2);
             false
         }
         Err(_) => true,
     };
-    let right = stands(alloc, &pool, roots, trial, roots.set, trial.set.as_slice())?;
+    let right = stands(alloc, pool, roots, trial, roots.set, trial.set.as_slice())?;
     if right && pool.nodes_in_use() == used {
         Ok(Some(refused))
     } else {
@@ -197,26 +203,44 @@ pub fn is_left_alone(alloc: Global, trial: &Trial, last: u32) -> Result<Option<b
     }
 }
 
-/// Whether the nodes of the second set, and no others, are free once it was freed, and a tree of its keys has as
-/// many again.
-pub fn comes_back(alloc: Global, trial: &Trial) -> Result<bool, Refusal> {
+/// Whether a commit that is refused or taken back leaves both sets, and no node of its own, where the
+/// numbers of nodes end at `last`: if so, whether it was refused.
+pub fn is_left_alone(alloc: Global, trial: &Trial, last: u32) -> Result<Option<bool>, Refusal> {
+    let mut pool = Pool::new(alloc, last);
+    let answer = is_left_alone_in(alloc, &mut pool, trial);
+    drop(pool);
+    answer
+}
+
+/// The same as below, in a pool that is lent.
+fn comes_back_in(alloc: Global, pool: &mut Pool, trial: &Trial) -> Result<bool, Refusal>
+    requires { aside_count pool.old ≡ 0 }
+{
     if !is_rising(&ByObject, trial.set.as_slice())
         || !is_rising(&ByObject, trial.other.as_slice())
     {
         return Ok(false);
     }
-    let mut pool = Pool::new(alloc, u32::MAX);
-    let roots = begin(&mut pool, trial.set.as_slice(), trial.other.as_slice())?;
+    let roots = begin(pool, trial.set.as_slice(), trial.other.as_slice())?;
     let used = pool.nodes_in_use();
-    free_tree(&mut pool, roots.other);
+    free_tree(pool, roots.other);
     let fewer = pool.nodes_in_use() == trial.set.len() as u64
-        && has_just(alloc, &pool, roots.set, trial.set.as_slice())?;
+        && has_just(alloc, pool, roots.set, trial.set.as_slice())?;
     pool.reserve(trial.other.len())?;
-    let again = build(&mut pool, trial.other.as_slice(), 2);
+    let again = build(pool, trial.other.as_slice(), 2);
     Ok(
         fewer
             && pool.nodes_in_use() == used
-            && has_just(alloc, &pool, roots.set, trial.set.as_slice())?
-            && has_just(alloc, &pool, again, trial.other.as_slice())?,
+            && has_just(alloc, pool, roots.set, trial.set.as_slice())?
+            && has_just(alloc, pool, again, trial.other.as_slice())?,
     )
+}
+
+/// Whether the nodes of the second set, and no others, are free once it was freed, and a tree of its keys has as
+/// many again.
+pub fn comes_back(alloc: Global, trial: &Trial) -> Result<bool, Refusal> {
+    let mut pool = Pool::new(alloc, u32::MAX);
+    let answer = comes_back_in(alloc, &mut pool, trial);
+    drop(pool);
+    answer
 }

@@ -1,6 +1,7 @@
 //! References resolved under a base: the examples of RFC 3986, and others.
 use gs_iri::resolve;
-use std::process::Abort;
+use gs_model::Refusal;
+use std::alloc::Global;
 use std::test::Fail;
 
 const BASE: &str = "http://a/b/c/d;p?q";
@@ -68,43 +69,51 @@ const OTHERS: [(&str, &str, &str); 5] = [
     ),
 ];
 
-/// Asserts what a reference means under a base.
-fn expect(
-    rt: &(impl Abort + AllocGlobal),
-    base: &str,
-    reference: &str,
-    wanted: &str,
-) -> Result<(), Fail> {
-    let mut resolved = String::new(rt.alloc());
+/// Whether a reference means this under a base.
+fn means(alloc: Global, base: &str, reference: &str, wanted: &str) -> Result<bool, Refusal> {
+    let mut resolved = String::new(alloc);
     resolve(base, reference, &mut resolved)?;
-    assert_eq!(rt; resolved.as_str(), wanted, "at {reference}");
-    Ok(())
+    Ok(resolved.as_str() == wanted)
+}
+
+/// The first of these references that means something else.
+fn wrong_row(
+    alloc: Global,
+    rows: &[(&'static str, &'static str)],
+) -> Result<Option<&'static str>, Refusal> {
+    for (reference, wanted) in rows {
+        if !means(alloc, BASE, reference, wanted)? {
+            return Ok(Some(reference));
+        }
+    }
+    Ok(None)
 }
 
 #[test]
 fn normal_examples(rt: HostRuntime) -> Result<(), Fail> {
-    for row in &NORMAL {
-        let (reference, wanted) = *row;
-        expect(&rt, BASE, reference, wanted)?;
-    }
+    assert_eq!(rt; wrong_row(rt.alloc(), &NORMAL)?, None);
     Ok(())
 }
 
 #[test]
 fn abnormal_examples(rt: HostRuntime) -> Result<(), Fail> {
-    for row in &ABNORMAL {
-        let (reference, wanted) = *row;
-        expect(&rt, BASE, reference, wanted)?;
-    }
+    assert_eq!(rt; wrong_row(rt.alloc(), &ABNORMAL)?, None);
     Ok(())
+}
+
+/// The first of the references under other bases that means something else.
+fn wrong_other(alloc: Global) -> Result<Option<&'static str>, Refusal> {
+    for (base, reference, wanted) in &OTHERS {
+        if !means(alloc, base, reference, wanted)? {
+            return Ok(Some(reference));
+        }
+    }
+    Ok(None)
 }
 
 #[test]
 fn other_bases(rt: HostRuntime) -> Result<(), Fail> {
-    for row in &OTHERS {
-        let (base, reference, wanted) = *row;
-        expect(&rt, base, reference, wanted)?;
-    }
+    assert_eq!(rt; wrong_other(rt.alloc())?, None);
     Ok(())
 }
 

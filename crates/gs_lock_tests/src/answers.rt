@@ -66,17 +66,75 @@ fn answer<C: Side, T: Side, B: Room, R: Wait>(
     (door.into_pass(), answer)
 }
 
-/// What the passes of a new store of four seats are answered.
-fn answer_all<C: Side, T: Side, B: Room, R: Wait>(
+/// Makes an event by its pass, where there is one, and keeps what it is answered.
+fn answer_one<C: Side, T: Side, B: Room, R: Wait>(
+    rt: &R,
+    shared: &Shared<C, T, B>,
+    passes: &mut Vec<Pass<C, T, B>>,
+    event: Event,
+    by_door: bool,
+    answers: &mut Vec<Answer>,
+) -> Result<(), Refusal> {
+    let place = place_of(&event);
+    if place >= passes.len() {
+        drop(event);
+        return Ok(());
+    }
+    let pass = passes.remove(place);
+    let (pass, answer) = answer(rt, shared, pass, event, by_door);
+    let is_back = passes.insert(place.min(passes.len()), pass);
+    answers.push(answer)?;
+    is_back?;
+    Ok(())
+}
+
+/// Takes all events out of the list, and makes them one by one.
+fn answer_each<C: Side, T: Side, B: Room, R: Wait>(
+    rt: &R,
+    shared: &Shared<C, T, B>,
+    passes: &mut Vec<Pass<C, T, B>>,
+    events: &mut Vec<Event>,
+    by_doors: bool,
+    answers: &mut Vec<Answer>,
+) -> Result<(), Refusal> {
+    events.reverse();
+    for _ in 0..events.len() {
+        if let Some(event) = events.pop() {
+            answer_one(rt, shared, passes, event, by_doors, answers)?;
+        }
+    }
+    Ok(())
+}
+
+/// What four passes of a store are answered, as text.
+fn printed_by<C: Side, T: Side, B: Room, R: Wait>(
     rt: &R,
     alloc: Global,
-    events: Vec<Event>,
+    shared: &mut Shared<C, T, B>,
+    events: &mut Vec<Event>,
+    by_doors: bool,
+) -> Result<String, Refusal> {
+    let mut passes = shared.passes(4)?;
+    let mut answers = Vec::new(alloc);
+    let done = answer_each(rt, shared, &mut passes, events, by_doors, &mut answers);
+    drop(passes);
+    let text = printed(alloc, answers.as_slice());
+    drop(answers);
+    done?;
+    Ok(text?)
+}
+
+/// The same of the passes of a new store of four seats.
+fn printed_by_new<C: Side, T: Side, B: Room, R: Wait>(
+    rt: &R,
+    alloc: Global,
+    events: &mut Vec<Event>,
     by_doors: bool,
     cell: StampCell,
     keeper: Token,
     calls: Blank,
     triples: Blank,
-) -> Result<Vec<Answer>, Refusal>
+) -> Result<String, Refusal>
     requires cell { (cell.table.shared.table_id ≡ B.table)
         × (keeper.table_id ≡ B.table)
         × (cell_view keeper ≡ keeper_of [] []) }
@@ -94,60 +152,81 @@ fn answer_all<C: Side, T: Side, B: Room, R: Wait>(
         calls,
         triples,
     )?;
-    let mut passes = shared.passes(4)?;
-    let mut answers = Vec::new(alloc);
-    for event in events {
-        let place = place_of(&event);
-        if place < passes.len() {
-            let pass = passes.remove(place);
-            let (pass, answer) = answer(rt, &shared, pass, event, by_doors);
-            passes.insert(place.min(passes.len()), pass)?;
-            answers.push(answer)?;
-        }
-    }
-    Ok(answers)
+    let text = printed_by(rt, alloc, &mut shared, events, by_doors);
+    drop(shared);
+    text
 }
 
 /// What these events print by the passes of a store that is shared.
 fn printed_by_passes<R: Wait>(
     rt: &R,
     alloc: Global,
-    events: Vec<Event>,
+    events: &mut Vec<Event>,
     by_doors: bool,
 ) -> Result<String, Refusal> {
     let (cell, keeper) = stamp_cell(alloc)?;
     let (calls, triples) = (Blank::new(5), Blank::new(5));
-    let answers = answer_all::<Brand, Brand, Brand, R>(
+    printed_by_new::<Brand, Brand, Brand, R>(
         rt, alloc, events, by_doors, cell, keeper, calls, triples,
-    )?;
-    Ok(printed(alloc, answers.as_slice())?)
+    )
+}
+
+/// What these events print by a store.
+fn printed_by_store(alloc: Global, events: &[Event]) -> Result<String, Refusal> {
+    let mut store = Store::new(alloc, 4, "http://localhost")?;
+    let answers = store.run(events);
+    drop(store);
+    let answers = answers?;
+    let text = printed(alloc, answers.as_slice());
+    drop(answers);
+    Ok(text?)
+}
+
+/// Adds a line to a schedule, and before a Pin a Head of its target.
+fn add_line(alloc: Global, text: &mut String, line: &str) -> Result<(), Refusal> {
+    if let Some((seat, target)) = line.split_once(" pin ") {
+        let head = format!(in alloc; "{seat} head {target}\n")?;
+        text.push_str(head.as_str())?;
+    }
+    text.push_str(line)?;
+    text.push('\n')?;
+    Ok(())
 }
 
 /// A schedule with a Head of its target before each Pin.
 fn with_heads(alloc: Global, input: &str) -> Result<String, Refusal> {
     let mut text = String::new(alloc);
     for line in input.lines() {
-        if let Some((seat, target)) = line.split_once(" pin ") {
-            let head = format!(in alloc; "{seat} head {target}\n")?;
-            text.push_str(head.as_str())?;
-        }
-        text.push_str(line)?;
-        text.push('\n')?;
+        add_line(alloc, &mut text, line)?;
     }
     Ok(text)
+}
+
+/// Whether the passes print what a store prints.
+fn is_like_store<R: Wait>(rt: &R, alloc: Global, input: &str) -> Result<bool, Refusal> {
+    let mut asked = events(alloc, input)?;
+    let by_store = printed_by_store(alloc, asked.as_slice());
+    let by_passes = printed_by_passes(rt, alloc, &mut asked, false);
+    drop(asked);
+    Ok(by_store?.as_str() == by_passes?.as_str())
+}
+
+/// Whether the passes, through their doors, print what a schedule says.
+fn is_as_said<R: Wait>(rt: &R, alloc: Global, input: &str, want: &str) -> Result<bool, Refusal> {
+    let mut asked = events(alloc, input)?;
+    let by_doors = printed_by_passes(rt, alloc, &mut asked, true);
+    drop(asked);
+    let says = answered(alloc, want)?;
+    Ok(by_doors?.as_str() == says.as_str())
 }
 
 /// Whether the passes print what a store prints, with the Heads, and what the schedule says, without.
 fn is_same<R: Wait>(rt: &R, alloc: Global, row: &Row) -> Result<bool, Refusal> {
     let (_, input, want) = row;
     let longer = with_heads(alloc, input)?;
-    let asked = events(alloc, longer.as_str())?;
-    let mut store = Store::new(alloc, 4, "http://localhost")?;
-    let by_store = printed(alloc, store.run(asked.as_slice())?.as_slice())?;
-    let by_passes = printed_by_passes(rt, alloc, asked, false)?;
-    let plain = printed_by_passes(rt, alloc, events(alloc, input)?, true)?;
-    let says = answered(alloc, want)?;
-    Ok(by_passes.as_str() == by_store.as_str() && plain.as_str() == says.as_str())
+    let is_like = is_like_store(rt, alloc, longer.as_str());
+    drop(longer);
+    Ok(is_like? && is_as_said(rt, alloc, input, want)?)
 }
 
 /// The first of these schedules of a new store of four seats that is answered otherwise.

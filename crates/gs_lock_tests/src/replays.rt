@@ -6,15 +6,22 @@ use gs_shared::{Ended, Record};
 use gs_test_events::event;
 use std::alloc::Global;
 
-/// The plain model after all entries. `None` where one of them has another status than the model's.
-pub fn replayed(alloc: Global, entries: &[Entry]) -> Result<Option<Model>, Refusal> {
-    let mut model = Model::new(alloc);
+/// Takes all entries into a plain model. Whether each of them has the status that the model gives.
+pub fn replays(alloc: Global, model: &mut Model, entries: &[Entry]) -> Result<bool, Refusal> {
     for entry in entries {
         if model.take(alloc, entry.request())? != entry.status() {
-            return Ok(None);
+            return Ok(false);
         }
     }
-    Ok(Some(model))
+    Ok(true)
+}
+
+/// The same of a new model.
+pub fn is_replayed(alloc: Global, entries: &[Entry]) -> Result<bool, Refusal> {
+    let mut model = Model::new(alloc);
+    let answer = replays(alloc, &mut model, entries);
+    drop(model);
+    answer
 }
 
 /// Whether the receipts of a pass stand among the entries, with numbers that rise.
@@ -33,14 +40,20 @@ pub fn stands(entries: &[Entry], record: &Record) -> bool {
     true
 }
 
+/// Makes the event of a line.
+fn ask(alloc: Global, ended: &mut Ended, line: &str) -> Result<Answer, Refusal> {
+    Ok(ended.audited.event(event(alloc, line)?))
+}
+
 /// What the first seat reads of a graph once all threads have ended, empty where it is not there.
 pub fn read(alloc: Global, ended: &mut Ended, name: &str) -> Result<Vec<u8>, Refusal> {
     let pin = format!(in alloc; "0 pin <{name}>")?;
-    let pins = event(alloc, pin.as_str())?;
-    let pieces = event(alloc, "0 piece 9")?;
-    let _ = ended.audited.event(pins);
-    match ended.audited.event(pieces) {
+    drop(ask(alloc, ended, pin.as_str())?);
+    match ask(alloc, ended, "0 piece 9")? {
         Answer::Lines(lines, true) => Ok(lines),
-        _ => Ok(Vec::new(alloc)),
+        other => {
+            drop(other);
+            Ok(Vec::new(alloc))
+        }
     }
 }

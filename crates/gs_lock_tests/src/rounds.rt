@@ -3,7 +3,7 @@
 use gs_core::{Answer, Refusal};
 use gs_shared::{Hall, Pass, Room};
 use gs_test_events::{event, words};
-use std::alloc::Global;
+use std::alloc::{AllocError, Global};
 use std::sync::Wait;
 use std::sync::ledger::Ledger;
 
@@ -24,25 +24,46 @@ fn say<C: Ledger, T: Ledger, B: Room, R: Wait>(
     let line = format!(in alloc; "{seat} {line}")?;
     let event = event(alloc, line.as_str())?;
     let answer: Answer = hall.event(rt, pass, event);
-    Ok(words(alloc, &answer)?)
+    let said = words(alloc, &answer);
+    drop(answer);
+    Ok(said?)
 }
 
-/// The lines of a round on a graph, whose triples carry a mark.
-fn lines(alloc: Global, graph: &str, mark: &str, round: u32) -> Result<Vec<String>, Refusal> {
-    let mut list = Vec::new(alloc);
-    list.push(format!(in alloc; "open put <{graph}>")?)?;
-    list.push(format!(in alloc; "stage <t> <p> \"{mark}\" . <s> <p> \"{mark}\" .")?)?;
-    list.push(format!(in alloc; "commit")?)?;
-    list.push(format!(in alloc; "pin <{graph}>")?)?;
-    list.push(format!(in alloc; "piece 9")?)?;
-    list.push(format!(in alloc; "open patch <{graph}>")?)?;
-    list.push(format!(in alloc;
-        "patch: where ?s <p> ?o ; insert <s> <p> \"{mark}+\" . <t> <p> \"{mark}+\""
-    )?)?;
-    if is_deleting(round) {
-        list.push(format!(in alloc; "delete <{graph}>")?)?;
+/// How many lines a round has.
+fn count_of_lines(round: u32) -> u32 {
+    if is_deleting(round) { 8 } else { 7 }
+}
+
+/// The line at a place of a round on a graph, whose triples carry a mark.
+fn line_at(alloc: Global, place: u32, graph: &str, mark: &str) -> Result<String, AllocError> {
+    match place {
+        0 => format!(in alloc; "open put <{graph}>"),
+        1 => format!(in alloc; "stage <t> <p> \"{mark}\" . <s> <p> \"{mark}\" ."),
+        2 => format!(in alloc; "commit"),
+        3 => format!(in alloc; "pin <{graph}>"),
+        4 => format!(in alloc; "piece 9"),
+        5 => format!(in alloc; "open patch <{graph}>"),
+        6 => format!(in alloc;
+            "patch: where ?s <p> ?o ; insert <s> <p> \"{mark}+\" . <t> <p> \"{mark}+\""
+        ),
+        _ => format!(in alloc; "delete <{graph}>"),
     }
-    Ok(list)
+}
+
+/// Makes the event of a line, and adds what it prints, but for what is answered to an open or a stage.
+fn add_said<C: Ledger, T: Ledger, B: Room, R: Wait>(
+    rt: &R,
+    alloc: Global,
+    hall: &Hall<C, T, B>,
+    pass: &mut Pass<C, T, B>,
+    line: &str,
+    text: &mut String,
+) -> Result<(), Refusal> {
+    let said = say(rt, alloc, hall, pass, line)?;
+    if !line.starts_with("open ") && !line.starts_with("stage ") {
+        text.push_str(said.as_str())?;
+    }
+    Ok(())
 }
 
 /// What a round on a graph prints, but for what is answered to the opens and the stage.
@@ -56,11 +77,9 @@ pub fn hold<C: Ledger, T: Ledger, B: Room, R: Wait>(
     round: u32,
 ) -> Result<String, Refusal> {
     let mut text = String::new(alloc);
-    for line in &lines(alloc, graph, mark, round)? {
-        let said = say(rt, alloc, hall, pass, line.as_str())?;
-        if !line.starts_with("open ") && !line.starts_with("stage ") {
-            text.push_str(said.as_str())?;
-        }
+    for place in 0..count_of_lines(round) {
+        let line = line_at(alloc, place, graph, mark)?;
+        add_said(rt, alloc, hall, pass, line.as_str(), &mut text)?;
     }
     Ok(text)
 }

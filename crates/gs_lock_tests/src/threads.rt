@@ -4,10 +4,12 @@ ghost use Rattle.crossbeam_utils.specs.Seq.{cell_view};
 ghost use Rattle.gs_core.specs.Settings.{start_at};
 ghost use Rattle.gs_pass.specs.Stamps.{keeper as keeper_of};
 
-use crate::replays::{read, replayed, stands};
+use crate::models::Model;
+use crate::replays::{is_replayed, read, replays, stands};
 use crate::rounds::{expected, hold, is_whole};
+use gs_chronicle::Entry;
 use gs_core::Refusal;
-use gs_shared::{Ended, Hall, Pass, Room, Shared, Side, StampCell, Token, stamp_cell};
+use gs_shared::{Ended, Hall, Pass, Record, Room, Shared, Side, StampCell, Token, stamp_cell};
 use std::alloc::Global;
 use std::marker::Brand;
 use std::sync::Wait;
@@ -57,6 +59,39 @@ fn work<C: Side, T: Side, B: Room, R: Wait>(
     (pass, faults)
 }
 
+/// Each pass works in a thread of its own: the passes that come back, and how many rounds went wrong.
+fn work_all<
+    C: Side + Send + Sync,
+    T: Side + Send + Sync,
+    B: Room + Send + Sync,
+    R: Threads + Wait + Sync,
+>(
+    rt: &R,
+    alloc: Global,
+    hall: &Hall<C, T, B>,
+    passes: Vec<Pass<C, T, B>>,
+) -> Option<(Vec<Pass<C, T, B>>, u32)> {
+    thread::scope(
+        thread::scope_env(),
+        rt,
+        move |scope| -> Option<(Vec<Pass<C, T, B>>, u32)> {
+            let mut threads = Vec::with_capacity(alloc, 4).ok()?;
+            for pass in passes {
+                let works = scope.spawn(move || work(rt, alloc, hall, pass)).ok()?;
+                threads.push(works).ok()?;
+            }
+            let mut back = Vec::with_capacity(alloc, 4).ok()?;
+            let mut faults = 0u32;
+            for works in threads {
+                let (pass, more) = works.join(rt);
+                back.push(pass).ok()?;
+                faults = faults.saturating_add(more);
+            }
+            Some((back, faults))
+        },
+    )
+}
+
 /// Four threads work, and the store is ended.
 fn run<
     C: Side + Send + Sync,
@@ -89,28 +124,17 @@ fn run<
         triples,
     )
     .ok()?;
-    let passes = shared.passes(4).ok()?;
-    let hall = shared.hall();
-    let (back, faults) = thread::scope(
-        thread::scope_env(),
-        rt,
-        move |scope| -> Option<(Vec<Pass<C, T, B>>, u32)> {
-            let mut threads = Vec::with_capacity(alloc, 4).ok()?;
-            for pass in passes {
-                let works = scope.spawn(move || work(rt, alloc, hall, pass)).ok()?;
-                threads.push(works).ok()?;
-            }
-            let mut back = Vec::with_capacity(alloc, 4).ok()?;
-            let mut faults = 0u32;
-            for works in threads {
-                let (pass, more) = works.join(rt);
-                back.push(pass).ok()?;
-                faults = faults.saturating_add(more);
-            }
-            Some((back, faults))
-        },
-    )?;
+    let Ok(passes) = shared.passes(4) else {
+        drop(shared);
+        return None;
+    };
+    let Some((back, faults)) = work_all(rt, alloc, shared.hall(), passes) else {
+        drop(shared);
+        return None;
+    };
     if back.len() != 4 {
+        drop(back);
+        drop(shared);
         return None;
     }
     Some((shared.end(rt, back), faults))
@@ -123,42 +147,78 @@ fn worked<R: Threads + Wait + Sync>(rt: &R, alloc: Global) -> Option<(Ended, u32
     run::<Brand, Brand, Brand, R>(rt, alloc, cell, keeper, calls, triples)
 }
 
-/// How many graphs the ended store shows as the plain model has them after the page.
-fn agreeing(alloc: Global, ended: &mut Ended) -> Result<u32, Refusal> {
-    let Some(model) = replayed(alloc, ended.audited.page().entries())? else {
-        return Ok(0);
-    };
-    let mut count = 0u32;
-    for name in [
-        "http://e/own0",
-        "http://e/own1",
-        "http://e/own2",
-        "http://e/own3",
-        ALL,
-    ] {
-        let text = model.text(alloc, name)?;
-        let shown = read(alloc, ended, name)?;
-        if !text.is_empty() && text.as_slice() == shown.as_slice() {
-            count = count.saturating_add(1);
+/// Whether the ended store shows a graph as the plain model has it.
+fn is_alike(alloc: Global, ended: &mut Ended, model: &Model, name: &str) -> Result<bool, Refusal> {
+    let text = model.text(alloc, name)?;
+    let shown = read(alloc, ended, name)?;
+    Ok(!text.is_empty() && text.as_slice() == shown.as_slice())
+}
+
+/// The names of the five graphs.
+const NAMES: [&str; 5] = [
+    "http://e/own0",
+    "http://e/own1",
+    "http://e/own2",
+    "http://e/own3",
+    ALL,
+];
+
+/// The first graph that the ended store shows otherwise than the plain model.
+fn wrong_graph(
+    alloc: Global,
+    ended: &mut Ended,
+    model: &Model,
+) -> Result<Option<&'static str>, Refusal> {
+    for name in &NAMES {
+        if !is_alike(alloc, ended, model, name)? {
+            return Ok(Some(name));
         }
     }
-    Ok(count)
+    Ok(None)
+}
+
+/// Whether the page replays in the plain model, and the ended store shows all graphs as the model has
+/// them then.
+fn is_shown(alloc: Global, ended: &mut Ended) -> Result<bool, Refusal> {
+    let mut model = Model::new(alloc);
+    let is_replayed = replays(alloc, &mut model, ended.audited.page().entries());
+    let wrong = wrong_graph(alloc, ended, &model);
+    drop(model);
+    Ok(is_replayed? && wrong? == None)
+}
+
+/// Whether a pass was told of all its calls, and its receipts stand on the page.
+fn is_told(entries: &[Entry], record: &Record) -> bool {
+    record.calls() == 7_500 && record.receipts().len() == 4_096 && stands(entries, record)
+}
+
+/// What is wrong of the page that four threads leave, or of the store.
+fn wrong_part(alloc: Global, ended: &mut Ended) -> Result<Option<&'static str>, Refusal> {
+    let page = ended.audited.page();
+    if page.number() != 0 || page.entries().len() != 30_000 {
+        return Ok(Some("the page"));
+    }
+    for record in &ended.passes {
+        if !is_told(page.entries(), record) {
+            return Ok(Some("a pass"));
+        }
+    }
+    if is_replayed(alloc, page.entries().get(1..).unwrap_or_default())? {
+        return Ok(Some("the model"));
+    }
+    Ok(if is_shown(alloc, ended)? {
+        None
+    } else {
+        Some("the store")
+    })
 }
 
 #[test]
 fn four_threads_leave_a_page_that_replays(rt: HostRuntime) -> Result<(), Fail> {
-    let alloc = rt.alloc();
-    let (mut ended, faults) = worked(&rt, alloc).expect(&rt, "memory and threads");
+    let (mut ended, faults) = worked(&rt, rt.alloc()).expect(&rt, "memory and threads");
+    let wrong = wrong_part(rt.alloc(), &mut ended);
+    drop(ended);
     assert_eq!(rt; faults, 0);
-    let page = ended.audited.page();
-    assert_eq!(rt; page.number(), 0);
-    assert_eq!(rt; page.entries().len(), 30_000);
-    for record in &ended.passes {
-        assert_eq!(rt; record.calls(), 7_500);
-        assert_eq!(rt; record.receipts().len(), 4_096);
-        assert!(rt; stands(page.entries(), record));
-    }
-    assert!(rt; replayed(alloc, page.entries().get(1..).unwrap_or_default())?.is_none());
-    assert_eq!(rt; agreeing(alloc, &mut ended)?, 5);
+    assert_eq!(rt; wrong?, None);
     Ok(())
 }

@@ -87,32 +87,74 @@ fn push_patterns(draws: &mut Draws, words: &Words, text: &mut String) -> Result<
     Ok(())
 }
 
+/// The operation that takes out the instances of patterns, in a list.
+fn removal(alloc: Global, patterns: Vec<Pattern>) -> Result<Vec<Op>, Refusal> {
+    let mut operations = Vec::new(alloc);
+    operations.push(Op::DeleteWhere(patterns))?;
+    Ok(operations)
+}
+
+/// The lines that operations leave of a graph of these triples, and how many triples they take away.
+fn left_of(
+    alloc: Global,
+    graph: &mut SortedGraph,
+    triples: &[Triple],
+    operations: &[Op],
+) -> Result<(Vec<u8>, usize), Refusal> {
+    graph.add_within(alloc, triples, 2_400)?;
+    update(graph, alloc, operations)?;
+    let bytes = graph.lines_from(alloc, 0, graph.len())?;
+    Ok((bytes, triples.len().saturating_sub(graph.len())))
+}
+
 /// The lines that the search over all triples leaves, and how many triples it takes away.
 fn left_slowly(
     alloc: Global,
     triples: &[Triple],
     patterns: Vec<Pattern>,
 ) -> Result<(Vec<u8>, usize), Refusal> {
+    let operations = removal(alloc, patterns)?;
     let mut graph = SortedGraph::new(alloc);
-    graph.add_within(alloc, triples, 2_400)?;
-    let mut operations = Vec::new(alloc);
-    operations.push(Op::DeleteWhere(patterns))?;
-    update(&mut graph, alloc, operations.as_slice())?;
-    let bytes = graph.lines_from(alloc, 0, graph.len())?;
-    Ok((bytes, triples.len().saturating_sub(graph.len())))
+    let left = left_of(alloc, &mut graph, triples, operations.as_slice());
+    drop(graph);
+    drop(operations);
+    left
+}
+
+/// The triples of the next graph that is drawn.
+fn draw_graph(alloc: Global, draws: &mut Draws, words: &Words) -> Result<Vec<Triple>, Refusal> {
+    let mut text = String::new(alloc);
+    push_graph(draws, words, &mut text)?;
+    triples(alloc, text.as_str())
+}
+
+/// The next patterns that are drawn.
+fn draw_patterns(alloc: Global, draws: &mut Draws, words: &Words) -> Result<Vec<Pattern>, Refusal> {
+    let mut text = String::new(alloc);
+    push_patterns(draws, words, &mut text)?;
+    patterns(alloc, text.as_str())
+}
+
+/// Whether both leave the same of a graph, and how many triples they take away.
+fn leave_alike(
+    alloc: Global,
+    triples: &[Triple],
+    patterns: Vec<Pattern>,
+) -> Result<(bool, usize), Refusal> {
+    let left = left_by(alloc, triples, patterns.as_slice());
+    let (wanted, gone) = left_slowly(alloc, triples, patterns)?;
+    Ok((left?.as_slice() == wanted.as_slice(), gone))
 }
 
 /// Whether both leave the same of the next graph that is drawn, and how many triples they take away.
 fn is_alike(alloc: Global, draws: &mut Draws, words: &Words) -> Result<(bool, usize), Refusal> {
-    let mut graph = String::new(alloc);
-    push_graph(draws, words, &mut graph)?;
-    let mut removed = String::new(alloc);
-    push_patterns(draws, words, &mut removed)?;
-    let triples = triples(alloc, graph.as_str())?;
-    let patterns = patterns(alloc, removed.as_str())?;
-    let left = left_by(alloc, triples.as_slice(), patterns.as_slice())?;
-    let (wanted, gone) = left_slowly(alloc, triples.as_slice(), patterns)?;
-    Ok((left.as_slice() == wanted.as_slice(), gone))
+    let triples = draw_graph(alloc, draws, words)?;
+    let answer = match draw_patterns(alloc, draws, words) {
+        Ok(patterns) => leave_alike(alloc, triples.as_slice(), patterns),
+        Err(refusal) => Err(refusal),
+    };
+    drop(triples);
+    answer
 }
 
 /// How many of so many graphs lose triples; none where both do not leave the same of one of them.

@@ -21,18 +21,33 @@ no circle of four over a ring of five layers of twelve nodes
       144 n@/12+36 p n@%12+48, 144 n@/12+48 p n@%12
     | ?a p ?b, ?b p ?c, ?c p ?d, ?d p ?a | 2880 | 48";
 
+/// How many keys are looked at, in the graph of families, for the instances of patterns.
+fn looked(alloc: Global, families: &str, removed: &str) -> Result<u64, Refusal> {
+    let text = triples_of(alloc, families)?;
+    let removed = patterns(alloc, removed)?;
+    let looked = match triples(alloc, text.as_str()) {
+        Ok(graph) => looked_by(alloc, graph.as_slice(), removed.as_slice()),
+        Err(refusal) => Err(refusal),
+    };
+    drop(removed);
+    looked
+}
+
+/// The number of a column.
+fn number(column: Option<&str>) -> u64 {
+    let text = column.unwrap_or_default().trim();
+    text.parse::<u64>().unwrap_or_default()
+}
+
 /// Whether no more keys are looked at than a row's lists allow, and some.
 fn is_so(alloc: Global, row: &str) -> Result<bool, Refusal> {
     let mut columns = row.split('|');
     let _name = columns.next();
-    let graph = triples_of(alloc, columns.next().unwrap_or_default())?;
-    let graph = triples(alloc, graph.as_str())?;
-    let removed = patterns(alloc, columns.next().unwrap_or_default())?;
-    let listed = columns.next().unwrap_or_default().trim();
-    let listed = listed.parse::<u64>().unwrap_or_default();
-    let each = columns.next().unwrap_or_default().trim();
-    let each = each.parse::<u64>().unwrap_or_default();
-    let looked = looked_by(alloc, graph.as_slice(), removed.as_slice())?;
+    let families = columns.next().unwrap_or_default();
+    let removed = columns.next().unwrap_or_default();
+    let listed = number(columns.next());
+    let each = number(columns.next());
+    let looked = looked(alloc, families, removed)?;
     Ok(listed <= looked && looked <= listed.saturating_mul(each))
 }
 

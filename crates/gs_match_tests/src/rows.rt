@@ -4,6 +4,7 @@ use crate::notation::{patterns, triples};
 use crate::trees::left_by;
 use gs_model::Refusal;
 use gs_ntwrite::line;
+use gs_term::Triple;
 use std::alloc::Global;
 use std::test::Fail;
 
@@ -50,22 +51,39 @@ a subject that a later pattern knows | a p b, a p c, b q d, c q d, e q d | ?x q 
 a star of four | a p b, a q b, a r c, a s d, d p b, d q b, d r c | ?x p ?a, ?x q ?b, ?x r ?c, ?x s ?d | d p b, d q b, d r c
 "#;
 
+/// Adds the lines of triples.
+fn push_lines(triples: &[Triple], bytes: &mut Vec<u8>) -> Result<(), Refusal> {
+    for triple in triples {
+        line(triple, bytes)?;
+    }
+    Ok(())
+}
+
 /// The lines of triples.
 fn lines(alloc: Global, text: &str) -> Result<Vec<u8>, Refusal> {
     let mut bytes = Vec::new(alloc);
-    for triple in &triples(alloc, text)? {
-        line(triple, &mut bytes)?;
-    }
+    let triples = triples(alloc, text)?;
+    let pushed = push_lines(triples.as_slice(), &mut bytes);
+    drop(triples);
+    pushed?;
     Ok(bytes)
+}
+
+/// The lines that are left of a graph without the instances of patterns.
+fn left(alloc: Global, graph: &[Triple], removed: &str) -> Result<Vec<u8>, Refusal> {
+    let removed = patterns(alloc, removed)?;
+    let left = left_by(alloc, graph, removed.as_slice());
+    drop(removed);
+    left
 }
 
 /// Whether just these triples of a graph are left without the instances of patterns.
 pub fn leaves(alloc: Global, graph: &str, removed: &str, wanted: &str) -> Result<bool, Refusal> {
-    let graph = triples(alloc, graph)?;
-    let removed = patterns(alloc, removed)?;
     let wanted = lines(alloc, wanted)?;
-    let left = left_by(alloc, graph.as_slice(), removed.as_slice())?;
-    Ok(left.as_slice() == wanted.as_slice())
+    let graph = triples(alloc, graph)?;
+    let left = left(alloc, graph.as_slice(), removed);
+    drop(graph);
+    Ok(left?.as_slice() == wanted.as_slice())
 }
 
 /// Whether a row is right.

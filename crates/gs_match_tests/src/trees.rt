@@ -59,9 +59,11 @@ fn keys_of(alloc: Global, dict: &mut Dict, triples: &[Triple]) -> Result<Vec<Key
     Ok(keys)
 }
 
-/// The keys of the instances in the graph of these keys, which rise, and how many were looked at.
-fn instances(
+/// The keys of the instances in the graph of these keys, which rise, and how many were looked at. The
+/// graph's tree is made in a pool that is lent.
+fn instances_in(
     alloc: Global,
+    pool: &mut Pool,
     dict: &Dict,
     keys: &[Key],
     patterns: &[Pattern],
@@ -70,9 +72,21 @@ fn instances(
     if !is_rising(&order, keys) || !are_given(dict, keys) {
         return Err(Refusal::Syntax(0));
     }
+    let merged = union(pool, &order, None, keys, 0, 0)?;
+    solve_counted(alloc, pool, merged.root, dict, patterns)
+}
+
+/// The same in a pool of its own.
+fn instances(
+    alloc: Global,
+    dict: &Dict,
+    keys: &[Key],
+    patterns: &[Pattern],
+) -> Result<Solved, Refusal> {
     let mut pool = Pool::new(alloc, u32::MAX);
-    let merged = union(&mut pool, &order, None, keys, 0, 0)?;
-    solve_counted(alloc, &pool, merged.root, dict, patterns)
+    let solved = instances_in(alloc, &mut pool, dict, keys, patterns);
+    drop(pool);
+    solved
 }
 
 /// Whether a list has this key next.
@@ -87,6 +101,41 @@ fn is_next(found: &[Key], next: usize, key: Key) -> bool {
     }
 }
 
+/// Adds the lines of the triples whose keys are not found. Whether all that are found come in the order
+/// of the triples, and each once.
+fn push_left(
+    triples: &[Triple],
+    keys: &[Key],
+    found: &[Key],
+    bytes: &mut Vec<u8>,
+) -> Result<bool, Refusal> {
+    let mut next = 0usize;
+    for (triple, key) in triples.iter().zip(keys.iter()) {
+        if is_next(found, next, *key) {
+            next = next.saturating_add(1);
+        } else {
+            line(triple, bytes)?;
+        }
+    }
+    Ok(next >= found.len())
+}
+
+/// The lines that are left, with the dictionary of the graph.
+fn left_in(
+    alloc: Global,
+    dict: &mut Dict,
+    triples: &[Triple],
+    patterns: &[Pattern],
+) -> Result<Vec<u8>, Refusal> {
+    let keys = keys_of(alloc, dict, triples)?;
+    let found = instances(alloc, dict, keys.as_slice(), patterns)?.keys;
+    let mut bytes = Vec::new(alloc);
+    if !push_left(triples, keys.as_slice(), found.as_slice(), &mut bytes)? {
+        return Err(Refusal::StoreFull);
+    }
+    Ok(bytes)
+}
+
 /// The lines of the triples that are no instances of the patterns, in a graph of rising triples.
 /// The instances must come in the graph's order, and each once.
 pub fn left_by(
@@ -95,27 +144,27 @@ pub fn left_by(
     patterns: &[Pattern],
 ) -> Result<Vec<u8>, Refusal> {
     let mut dict = Dict::new(alloc, 1, u32::MAX)?;
-    let keys = keys_of(alloc, &mut dict, triples)?;
-    let found = instances(alloc, &dict, keys.as_slice(), patterns)?.keys;
-    let mut bytes = Vec::new(alloc);
-    let mut next = 0usize;
-    for (triple, key) in triples.iter().zip(keys.iter()) {
-        if is_next(found.as_slice(), next, *key) {
-            next = next.saturating_add(1);
-        } else {
-            line(triple, &mut bytes)?;
-        }
-    }
-    if next < found.len() {
-        return Err(Refusal::StoreFull);
-    }
-    Ok(bytes)
+    let left = left_in(alloc, &mut dict, triples, patterns);
+    drop(dict);
+    left
+}
+
+/// How many keys the search looks at, with the dictionary of the graph.
+fn looked_in(
+    alloc: Global,
+    dict: &mut Dict,
+    triples: &[Triple],
+    patterns: &[Pattern],
+) -> Result<u64, Refusal> {
+    let keys = keys_of(alloc, dict, triples)?;
+    let solved = instances(alloc, dict, keys.as_slice(), patterns)?;
+    Ok(solved.looked)
 }
 
 /// How many keys the search for the instances looks at, in a graph of rising triples.
 pub fn looked_by(alloc: Global, triples: &[Triple], patterns: &[Pattern]) -> Result<u64, Refusal> {
     let mut dict = Dict::new(alloc, 1, u32::MAX)?;
-    let keys = keys_of(alloc, &mut dict, triples)?;
-    let solved = instances(alloc, &dict, keys.as_slice(), patterns)?;
-    Ok(solved.looked)
+    let looked = looked_in(alloc, &mut dict, triples, patterns);
+    drop(dict);
+    looked
 }

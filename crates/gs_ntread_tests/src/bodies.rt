@@ -3,21 +3,41 @@ use gs_body::BodyReader;
 use gs_model::Refusal;
 use gs_ntread::{NTriplesReader, read_by_characters};
 use gs_ntwrite::line;
-use std::alloc::Global;
+use gs_term::Triple;
+use std::alloc::{AllocError, Global};
 use std::test::Fail;
 
+/// Reads a text that comes in these pieces.
+fn read(
+    reader: &mut NTriplesReader,
+    pieces: &[&[u8]],
+    triples: &mut Vec<Triple>,
+) -> Result<(), Refusal> {
+    for piece in pieces {
+        reader.feed(piece, triples)?;
+    }
+    reader.finish(triples)
+}
+
+/// Adds the lines of triples, in their order.
+fn push_lines(triples: &[Triple], lines: &mut Vec<u8>) -> Result<(), Refusal> {
+    for triple in triples {
+        line(triple, lines)?;
+    }
+    Ok(())
+}
+
 /// The lines of the triples of a text of request 3 that comes in these pieces, in their order.
-fn lines_of(alloc: Global, pieces: &[&[u8]]) -> Result<Vec<u8>, Fail> {
+fn lines_of(alloc: Global, pieces: &[&[u8]]) -> Result<Vec<u8>, Refusal> {
     let mut reader = NTriplesReader::new(alloc, 3);
     let mut triples = Vec::new(alloc);
-    for piece in pieces {
-        reader.feed(piece, &mut triples)?;
-    }
-    reader.finish(&mut triples)?;
+    let read = read(&mut reader, pieces, &mut triples);
+    drop(reader);
     let mut lines = Vec::new(alloc);
-    for triple in &triples {
-        line(triple, &mut lines)?;
-    }
+    let pushed = push_lines(triples.as_slice(), &mut lines);
+    drop(triples);
+    read?;
+    pushed?;
     Ok(lines)
 }
 
@@ -40,6 +60,8 @@ fn is_refused(alloc: Global, text: &[u8], refusal: Refusal) -> bool {
     let mut triples = Vec::new(alloc);
     let fed = reader.feed(text, &mut triples);
     let ended = reader.finish(&mut triples);
+    drop(triples);
+    drop(reader);
     fed == Err(refusal) && ended == Err(Refusal::Closed)
 }
 
@@ -49,108 +71,139 @@ fn a_relative_iri_is_a_fault(rt: HostRuntime) {
     assert!(rt; is_refused(rt.alloc(), text, Refusal::Syntax(0)));
 }
 
-/// The fault of a text of three parts.
-fn fault_of(alloc: Global, parts: &[&[u8]]) -> Result<Option<Refusal>, Fail> {
+/// The fault of a text in parts.
+fn fault_of(alloc: Global, parts: &[&[u8]]) -> Option<Refusal> {
     let mut reader = NTriplesReader::new(alloc, 1);
     let mut triples = Vec::new(alloc);
-    for part in parts {
-        if let Err(refusal) = reader.feed(part, &mut triples) {
-            return Ok(Some(refusal));
-        }
-    }
-    Ok(reader.finish(&mut triples).err())
+    let read = read(&mut reader, parts, &mut triples);
+    drop(triples);
+    drop(reader);
+    read.err()
 }
 
-/// The same of the text in pieces of one byte.
-fn fault_in_bytes(alloc: Global, parts: &[&[u8]]) -> Result<Option<Refusal>, Fail> {
-    let mut reader = NTriplesReader::new(alloc, 1);
-    let mut triples = Vec::new(alloc);
+/// Reads a text in pieces of one byte.
+fn read_bytes(
+    reader: &mut NTriplesReader,
+    parts: &[&[u8]],
+    triples: &mut Vec<Triple>,
+) -> Result<(), Refusal> {
     for part in parts {
         for byte in *part {
-            if let Err(refusal) = reader.feed(&[*byte], &mut triples) {
-                return Ok(Some(refusal));
-            }
+            reader.feed(&[*byte], triples)?;
         }
     }
-    Ok(reader.finish(&mut triples).err())
+    reader.finish(triples)
+}
+
+/// The fault of the text in pieces of one byte.
+fn fault_in_bytes(alloc: Global, parts: &[&[u8]]) -> Option<Refusal> {
+    let mut reader = NTriplesReader::new(alloc, 1);
+    let mut triples = Vec::new(alloc);
+    let read = read_bytes(&mut reader, parts, &mut triples);
+    drop(triples);
+    drop(reader);
+    read.err()
 }
 
 const SYNTAX: Option<Refusal> = Some(Refusal::Syntax(0));
 
 const LONG: Option<Refusal> = Some(Refusal::TermTooLong);
 
-/// Whether a text with 70,000 letters `a` between a front and a back has this fault, whole and in
-/// pieces of one byte.
-fn has_fault(
-    alloc: Global,
-    front: &[u8],
-    back: &[u8],
-    fault: Option<Refusal>,
-) -> Result<bool, Fail> {
-    let letters = vec![in alloc; b'a'; 70_000]?;
-    let parts = [front, letters.as_slice(), back];
-    Ok(fault_of(alloc, &parts)? == fault && fault_in_bytes(alloc, &parts)? == fault)
+/// Whether a text has this fault, whole and in pieces of one byte.
+fn is_fault(alloc: Global, parts: &[&[u8]], fault: Option<Refusal>) -> bool {
+    fault_of(alloc, parts) == fault && fault_in_bytes(alloc, parts) == fault
 }
+
+/// What stands before and after 70,000 letters `a`, and the fault of the text.
+type Row = (&'static [u8], &'static [u8], Option<Refusal>);
+
+/// The back of the first row whose text has not its fault.
+fn wrong_row(alloc: Global, rows: &[Row]) -> Result<Option<&'static [u8]>, AllocError> {
+    let letters = vec![in alloc; b'a'; 70_000]?;
+    for (front, back, fault) in rows {
+        if !is_fault(alloc, &[*front, letters.as_slice(), *back], *fault) {
+            return Ok(Some(back));
+        }
+    }
+    Ok(None)
+}
+
+const FORMS: [Row; 4] = [
+    (b"<", b"> <a:p> <a:o> .", SYNTAX),
+    (b"<a:", b"> <a:p> <a:o> .", LONG),
+    (b"<a:s> <a:p> \"\"^^<", b"> .", SYNTAX),
+    (b"<a:s> <a:p> \"", b"\"^^<d> .", SYNTAX),
+];
 
 #[test]
 fn a_wrong_form_counts_before_a_great_length(rt: HostRuntime) -> Result<(), Fail> {
-    let alloc = rt.alloc();
-    assert!(rt; has_fault(alloc, b"<", b"> <a:p> <a:o> .", SYNTAX)?);
-    assert!(rt; has_fault(alloc, b"<a:", b"> <a:p> <a:o> .", LONG)?);
-    assert!(rt; has_fault(alloc, b"<a:s> <a:p> \"\"^^<", b"> .", SYNTAX)?);
-    assert!(rt; has_fault(alloc, b"<a:s> <a:p> \"", b"\"^^<d> .", SYNTAX)?);
+    assert!(rt; wrong_row(rt.alloc(), &FORMS)? == None);
     Ok(())
 }
+
+const STRINGS: [Row; 5] = [
+    (b"<a:s> <a:p> \"", b"\"@ .", LONG),
+    (b"<a:s> <a:p> \"", b"\"@1 .", LONG),
+    (b"<a:s> <a:p> \"", b"\"^ .", LONG),
+    (b"<a:s> <a:p> \"", b"\"@", LONG),
+    (b"<a:s> <a:p> \"", b"\"^", LONG),
+];
 
 #[test]
 fn a_string_is_the_term_where_no_suffix_begins(rt: HostRuntime) -> Result<(), Fail> {
-    let alloc = rt.alloc();
-    let front = b"<a:s> <a:p> \"".as_slice();
-    assert!(rt; has_fault(alloc, front, b"\"@ .", LONG)?);
-    assert!(rt; has_fault(alloc, front, b"\"@1 .", LONG)?);
-    assert!(rt; has_fault(alloc, front, b"\"^ .", LONG)?);
-    assert!(rt; has_fault(alloc, front, b"\"@", LONG)?);
-    assert!(rt; has_fault(alloc, front, b"\"^", LONG)?);
+    assert!(rt; wrong_row(rt.alloc(), &STRINGS)? == None);
     Ok(())
 }
+
+const LITERALS: [Row; 5] = [
+    (b"<a:s> <a:p> \"", b"\"@en .", LONG),
+    (b"<a:s> <a:p> \"", b"\"@en- .", LONG),
+    (b"<a:s> <a:p> \"", b"\"@en-", LONG),
+    (b"<a:s> <a:p> \"", b"\"^^<a:d> .", LONG),
+    (b"<a:s> <a:p> \"", b"\"^^ .", SYNTAX),
+];
 
 #[test]
 fn a_literal_is_tested_at_its_last_token(rt: HostRuntime) -> Result<(), Fail> {
-    let alloc = rt.alloc();
-    let front = b"<a:s> <a:p> \"".as_slice();
-    assert!(rt; has_fault(alloc, front, b"\"@en .", LONG)?);
-    assert!(rt; has_fault(alloc, front, b"\"@en- .", LONG)?);
-    assert!(rt; has_fault(alloc, front, b"\"@en-", LONG)?);
-    assert!(rt; has_fault(alloc, front, b"\"^^<a:d> .", LONG)?);
-    assert!(rt; has_fault(alloc, front, b"\"^^ .", SYNTAX)?);
+    assert!(rt; wrong_row(rt.alloc(), &LITERALS)? == None);
     Ok(())
 }
+
+const TAGS: [Row; 4] = [
+    (b"<a:s> <a:p> \"\"@", b" .", LONG),
+    (b"<a:s> <a:p> \"\"@", b"1 .", LONG),
+    (b"<a:s> <a:p> \"\"@", b"-1 .", LONG),
+    (b"_:", b" <a:p> <a:o> .", None),
+];
 
 #[test]
 fn a_tag_ends_before_what_is_no_part_of_it(rt: HostRuntime) -> Result<(), Fail> {
-    let alloc = rt.alloc();
-    let front = b"<a:s> <a:p> \"\"@".as_slice();
-    assert!(rt; has_fault(alloc, front, b" .", LONG)?);
-    assert!(rt; has_fault(alloc, front, b"1 .", LONG)?);
-    assert!(rt; has_fault(alloc, front, b"-1 .", LONG)?);
-    assert!(rt; has_fault(alloc, b"_:", b" <a:p> <a:o> .", None)?);
+    assert!(rt; wrong_row(rt.alloc(), &TAGS)? == None);
     Ok(())
 }
 
-/// Whether a triple's object breaks the grammar, whole and in pieces of one byte.
-fn breaks(alloc: Global, object: &[u8]) -> Result<bool, Fail> {
-    let parts = [b"<a:s> <a:p> ".as_slice(), object];
-    Ok(fault_of(alloc, &parts)? == SYNTAX && fault_in_bytes(alloc, &parts)? == SYNTAX)
+/// Objects that break the grammar.
+const OBJECTS: [&[u8]; 5] = [
+    b"\"a\"@ .",
+    b"\"a\"^ .",
+    b"\"a\"@en- .",
+    b"\"a\"@",
+    b"\"a\"^",
+];
+
+/// The first of these objects that does not break the grammar, whole and in pieces of one byte.
+fn first_unbroken(alloc: Global, objects: &[&'static [u8]]) -> Option<&'static [u8]> {
+    for object in objects {
+        if !is_fault(alloc, &[b"<a:s> <a:p> ".as_slice(), *object], SYNTAX) {
+            return Some(object);
+        }
+    }
+    None
 }
 
 #[test]
 fn what_begins_no_suffix_breaks_the_grammar_after_a_string(rt: HostRuntime) -> Result<(), Fail> {
-    let alloc = rt.alloc();
-    assert!(rt; breaks(alloc, b"\"a\"@ .")?);
-    assert!(rt; breaks(alloc, b"\"a\"^ .")?);
-    assert!(rt; breaks(alloc, b"\"a\"@en- .")?);
-    assert!(rt; breaks(alloc, b"\"a\"@")?);
-    assert!(rt; breaks(alloc, b"\"a\"^")?);
+    assert!(rt; first_unbroken(rt.alloc(), &OBJECTS) == None);
     Ok(())
 }
 
@@ -176,17 +229,20 @@ fn long_labels_that_differ_in_their_last_byte_are_two_nodes(rt: HostRuntime) -> 
 #[test]
 fn a_byte_order_mark_is_a_fault(rt: HostRuntime) -> Result<(), Fail> {
     let parts = [b"\xEF\xBB\xBF<a:s> <a:p> <a:o> .".as_slice()];
-    assert_eq!(rt; fault_of(rt.alloc(), &parts)?, SYNTAX);
-    assert_eq!(rt; fault_in_bytes(rt.alloc(), &parts)?, SYNTAX);
+    assert!(rt; is_fault(rt.alloc(), &parts, SYNTAX));
     Ok(())
 }
 
 /// How many triples are given of a text before it ends.
-fn given(alloc: Global, text: &[u8]) -> Result<usize, Fail> {
+fn given(alloc: Global, text: &[u8]) -> Result<usize, Refusal> {
     let mut reader = NTriplesReader::new(alloc, 1);
     let mut triples = Vec::new(alloc);
-    reader.feed(text, &mut triples)?;
-    Ok(triples.len())
+    let fed = reader.feed(text, &mut triples);
+    let count = triples.len();
+    drop(triples);
+    drop(reader);
+    fed?;
+    Ok(count)
 }
 
 #[test]

@@ -1,35 +1,37 @@
 //! The parser of triples by itself, block after block, where other things may stand than in Turtle.
 use gs_lex::{Lexer, Token};
-use gs_model::Fault;
+use gs_model::{Fault, Refusal};
 use gs_ntwrite::line;
 use gs_term::{Part, Pattern, Triple};
 use gs_triple_parser::{Scope, TripleParser, Turn};
 use gs_triple_values::{Allowed, Language, Patterns, Terms, symbol_of_token};
-use std::alloc::Global;
+use std::alloc::{AllocError, Global};
 use std::test::Fail;
 
+/// Reads all tokens of a text.
+fn read_tokens(lexer: &mut Lexer, text: &str, tokens: &mut Vec<Token>) -> Result<(), Refusal> {
+    lexer.feed(text.as_bytes(), tokens)?;
+    lexer.finish(tokens)
+}
+
 /// The tokens of a text of updates.
-fn tokens_of(alloc: Global, text: &str) -> Result<Vec<Token>, Fail> {
+fn tokens_of(alloc: Global, text: &str) -> Result<Vec<Token>, Refusal> {
     let mut lexer = Lexer::new(alloc, true);
     let mut tokens = Vec::new(alloc);
-    lexer.feed(text.as_bytes(), &mut tokens)?;
-    lexer.finish(&mut tokens)?;
+    let read = read_tokens(&mut lexer, text, &mut tokens);
+    drop(lexer);
+    read?;
     Ok(tokens)
 }
 
-/// Reads a block of triples, each of which ends at a dot, in a scope. Gives the scope after it, and
-/// the block's fault.
-fn read<L: Language>(
-    alloc: Global,
-    scope: Scope,
-    allowed: Allowed,
-    text: &str,
+/// Reads the tokens of a block, and says whether its last triple has ended.
+fn step_all<L: Language>(
+    parser: &mut TripleParser<L>,
+    tokens: &[Token],
     triples: &mut Vec<L::Triple>,
-) -> Result<(Scope, Option<Fault>), Fail> {
-    let tokens = tokens_of(alloc, text)?;
-    let mut parser = TripleParser::<L>::within(scope, allowed);
+) -> Result<bool, AllocError> {
     let mut is_first = true;
-    for token in &tokens {
+    for token in tokens {
         let symbol = symbol_of_token(token);
         if is_first {
             parser.open(symbol)?;
@@ -39,41 +41,107 @@ fn read<L: Language>(
             is_first = true;
         }
     }
-    let fault = if is_first { None } else { parser.fault() };
-    Ok((parser.into_scope(), fault))
+    Ok(is_first)
+}
+
+/// Reads the tokens of a block of triples, each of which ends at a dot, in a scope. Gives the scope after
+/// it, and the block's fault.
+fn read_block<L: Language>(
+    scope: Scope,
+    allowed: Allowed,
+    tokens: &[Token],
+    triples: &mut Vec<L::Triple>,
+) -> Result<(Scope, Option<Fault>), AllocError> {
+    let mut parser = TripleParser::<L>::within(scope, allowed);
+    let has_ended = step_all(&mut parser, tokens, triples);
+    let fault = parser.fault();
+    let scope = parser.into_scope();
+    match has_ended {
+        Ok(true) => Ok((scope, None)),
+        Ok(false) => Ok((scope, fault)),
+        Err(error) => {
+            drop(scope);
+            Err(error)
+        }
+    }
+}
+
+/// The same of a text.
+fn read<L: Language>(
+    alloc: Global,
+    scope: Scope,
+    allowed: Allowed,
+    text: &str,
+    triples: &mut Vec<L::Triple>,
+) -> Result<(Scope, Option<Fault>), Refusal> {
+    match tokens_of(alloc, text) {
+        Ok(tokens) => {
+            let read = read_block::<L>(scope, allowed, tokens.as_slice(), triples);
+            drop(tokens);
+            Ok(read?)
+        }
+        Err(refusal) => {
+            drop(scope);
+            Err(refusal)
+        }
+    }
 }
 
 /// A scope under the base `http://e/`, in request 7.
-fn scope(alloc: Global) -> Result<Scope, Fail> {
-    Ok(Scope::new(alloc, "http://e/", 7)?)
+fn scope(alloc: Global) -> Result<Scope, AllocError> {
+    Scope::new(alloc, "http://e/", 7)
+}
+
+/// Reads a text in a scope of its own, and gives its fault.
+fn read_alone<L: Language>(
+    alloc: Global,
+    allowed: Allowed,
+    text: &str,
+    triples: &mut Vec<L::Triple>,
+) -> Result<Option<Fault>, Refusal> {
+    let (after, fault) = read::<L>(alloc, scope(alloc)?, allowed, text, triples)?;
+    drop(after);
+    Ok(fault)
 }
 
 /// Whether a prefix is set to an IRI in its brackets, and to nothing else.
-fn sets_prefix(scope: &mut Scope) -> Result<bool, Fail> {
+fn sets_prefix(scope: &mut Scope) -> Result<bool, AllocError> {
     let is_set = scope.set_prefix("v:", "<v#>")?;
     let is_set_again = scope.set_prefix("v:", "v#")?;
     Ok(is_set && !is_set_again)
 }
 
-/// The lines of two blocks, of which the second goes on in the scope of the first, and their faults.
-fn two_blocks(
+/// Whether two blocks have no fault, of which the second goes on in the scope of the first.
+fn have_no_fault(
     alloc: Global,
     scope: Scope,
     first: &str,
     second: &str,
-) -> Result<(Vec<u8>, Option<Fault>, Option<Fault>), Fail> {
+    triples: &mut Vec<Triple>,
+) -> Result<bool, Refusal> {
     let allowed = Allowed {
         nodes: true,
         lone_lists: true,
     };
-    let mut triples: Vec<Triple> = Vec::new(alloc);
-    let (scope, fault) = read::<Terms>(alloc, scope, allowed, first, &mut triples)?;
-    let (_, then) = read::<Terms>(alloc, scope, allowed, second, &mut triples)?;
-    let mut lines = Vec::new(alloc);
-    for triple in &triples {
-        line(triple, &mut lines)?;
+    let (scope, fault) = read::<Terms>(alloc, scope, allowed, first, triples)?;
+    let (after, then) = read::<Terms>(alloc, scope, allowed, second, triples)?;
+    drop(after);
+    Ok(fault == None && then == None)
+}
+
+/// Adds the lines of triples.
+fn push_lines(triples: &[Triple], lines: &mut Vec<u8>) -> Result<(), Refusal> {
+    for triple in triples {
+        line(triple, lines)?;
     }
-    Ok((lines, fault, then))
+    Ok(())
+}
+
+/// Whether triples have these lines.
+fn have_lines(alloc: Global, triples: &[Triple], wanted: &str) -> Result<bool, Refusal> {
+    let mut lines = Vec::new(alloc);
+    push_lines(triples, &mut lines)?;
+    Ok(lines.as_slice() == wanted.as_bytes())
 }
 
 /// The lines of the two blocks below, in their order.
@@ -84,15 +152,22 @@ _:b7_2 <http://e/v#p> _:b7_3 .
 _:b7_2 <http://e/v#p> _:b7_4 .
 ";
 
+/// Whether a prefix is set, and two blocks with it have no fault.
+fn go_on(alloc: Global, triples: &mut Vec<Triple>) -> Result<bool, Refusal> {
+    let mut scope = scope(alloc)?;
+    let is_set = sets_prefix(&mut scope);
+    let first = "( 1 ) . _:x v:p [] .";
+    let are_right = have_no_fault(alloc, scope, first, "_:x v:p _:y .", triples);
+    Ok(is_set? && are_right?)
+}
+
 #[test]
 fn prefixes_and_numbers_go_on_in_the_next_block(rt: HostRuntime) -> Result<(), Fail> {
-    let mut scope = scope(rt.alloc())?;
-    assert!(rt; sets_prefix(&mut scope)?);
-    let first = "( 1 ) . _:x v:p [] .";
-    let (lines, fault, then) = two_blocks(rt.alloc(), scope, first, "_:x v:p _:y .")?;
-    assert!(rt; lines.as_slice() == TRIPLES.as_bytes());
-    assert_eq!(rt; fault, None);
-    assert_eq!(rt; then, None);
+    let mut triples = Vec::new(rt.alloc());
+    let go_on = go_on(rt.alloc(), &mut triples);
+    let are_same = have_lines(rt.alloc(), triples.as_slice(), TRIPLES);
+    drop(triples);
+    assert!(rt; go_on? && are_same?);
     Ok(())
 }
 
@@ -108,19 +183,22 @@ const ROWS: [(&str, bool, &str); 9] = [
     ("a variable as a verb", true, "<s> ?p <o> ."),
     ("a variable as an object", true, "<s> <p> $o ."),
 ];
+
 /// Whether a block has a fault, and gives no triple.
-fn is_refused(alloc: Global, nodes: bool, text: &str) -> Result<bool, Fail> {
+fn is_refused(alloc: Global, nodes: bool, text: &str) -> Result<bool, Refusal> {
     let allowed = Allowed {
         nodes,
         lone_lists: false,
     };
     let mut triples = Vec::new(alloc);
-    let (_, fault) = read::<Terms>(alloc, scope(alloc)?, allowed, text, &mut triples)?;
-    Ok(fault == Some(Fault::Syntax) && triples.is_empty())
+    let fault = read_alone::<Terms>(alloc, allowed, text, &mut triples);
+    let are_none = triples.is_empty();
+    drop(triples);
+    Ok(fault? == Some(Fault::Syntax) && are_none)
 }
 
 /// The first row that is not refused.
-fn wrong_row(alloc: Global) -> Result<Option<&'static str>, Fail> {
+fn wrong_row(alloc: Global) -> Result<Option<&'static str>, Refusal> {
     for (name, nodes, text) in &ROWS {
         if !is_refused(alloc, *nodes, text)? {
             return Ok(Some(name));
@@ -143,24 +221,36 @@ fn text_of(part: &Part) -> &[u8] {
     }
 }
 
-/// The patterns of a block, each with a space between its texts and a line feed at its end.
-fn patterns_of(alloc: Global, text: &str) -> Result<(Vec<u8>, Option<Fault>), Fail> {
+/// Adds a pattern, with a space between its texts and a line feed at its end.
+fn push_pattern(pattern: &Pattern, lines: &mut Vec<u8>) -> Result<(), AllocError> {
+    lines.extend_from_slice(text_of(&pattern.subject))?;
+    lines.push(b' ')?;
+    lines.extend_from_slice(text_of(&pattern.predicate))?;
+    lines.push(b' ')?;
+    lines.extend_from_slice(text_of(&pattern.object))?;
+    lines.push(b'\n')
+}
+
+/// Whether patterns have these lines.
+fn are_patterns(alloc: Global, patterns: &[Pattern], wanted: &str) -> Result<bool, AllocError> {
+    let mut lines = Vec::new(alloc);
+    for pattern in patterns {
+        push_pattern(pattern, &mut lines)?;
+    }
+    Ok(lines.as_slice() == wanted.as_bytes())
+}
+
+/// Whether a block without nodes gives these patterns, and no fault.
+fn gives(alloc: Global, text: &str, wanted: &str) -> Result<bool, Refusal> {
     let allowed = Allowed {
         nodes: false,
         lone_lists: false,
     };
     let mut patterns: Vec<Pattern> = Vec::new(alloc);
-    let (_, fault) = read::<Patterns>(alloc, scope(alloc)?, allowed, text, &mut patterns)?;
-    let mut lines = Vec::new(alloc);
-    for pattern in &patterns {
-        lines.extend_from_slice(text_of(&pattern.subject))?;
-        lines.push(b' ')?;
-        lines.extend_from_slice(text_of(&pattern.predicate))?;
-        lines.push(b' ')?;
-        lines.extend_from_slice(text_of(&pattern.object))?;
-        lines.push(b'\n')?;
-    }
-    Ok((lines, fault))
+    let fault = read_alone::<Patterns>(alloc, allowed, text, &mut patterns);
+    let are_same = are_patterns(alloc, patterns.as_slice(), wanted);
+    drop(patterns);
+    Ok(fault? == None && are_same?)
 }
 
 /// The patterns of the block below, in their order.
@@ -171,8 +261,6 @@ s p <http://www.w3.org/1999/02/22-rdf-syntax-ns#nil>
 
 #[test]
 fn patterns_have_variables_at_each_place(rt: HostRuntime) -> Result<(), Fail> {
-    let (lines, fault) = patterns_of(rt.alloc(), "?s <p> $o , \"b\" ; ?p ( ) .")?;
-    assert!(rt; lines.as_slice() == PATTERNS.as_bytes());
-    assert_eq!(rt; fault, None);
+    assert!(rt; gives(rt.alloc(), "?s <p> $o , \"b\" ; ?p ( ) .", PATTERNS)?);
     Ok(())
 }

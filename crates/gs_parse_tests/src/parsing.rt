@@ -1,17 +1,25 @@
 //! Each public call of the parser of Turtle once, on the tokens of a text.
 use gs_lex::{Lexer, Token};
-use gs_model::Fault;
+use gs_model::{Fault, Refusal};
 use gs_ntwrite::line;
 use gs_parse::Parser;
-use std::alloc::Global;
+use gs_term::Triple;
+use std::alloc::{AllocError, Global};
 use std::test::Fail;
 
+/// Reads all tokens of a text.
+fn read_tokens(lexer: &mut Lexer, text: &[u8], tokens: &mut Vec<Token>) -> Result<(), Refusal> {
+    lexer.feed(text, tokens)?;
+    lexer.finish(tokens)
+}
+
 /// The tokens of a text.
-fn tokens_of(alloc: Global, text: &[u8]) -> Result<Vec<Token>, Fail> {
+fn tokens_of(alloc: Global, text: &[u8]) -> Result<Vec<Token>, Refusal> {
     let mut lexer = Lexer::new(alloc, false);
     let mut tokens = Vec::new(alloc);
-    lexer.feed(text, &mut tokens)?;
-    lexer.finish(&mut tokens)?;
+    let read = read_tokens(&mut lexer, text, &mut tokens);
+    drop(lexer);
+    read?;
     Ok(tokens)
 }
 
@@ -25,26 +33,57 @@ struct Parsed {
     end: Result<(), Fault>,
 }
 
-/// What is given of a text under the base `http://e/`, in request 7.
-fn parse_text(alloc: Global, text: &[u8]) -> Result<Parsed, Fail> {
-    let tokens = tokens_of(alloc, text)?;
-    let mut parser = Parser::new(alloc, "http://e/", 7)?;
-    let mut triples = Vec::new(alloc);
-    for token in &tokens {
-        parser.step(token.as_borrowed(), &mut triples)?;
+/// Gives a parser these tokens.
+fn step_all(
+    parser: &mut Parser,
+    tokens: &[Token],
+    triples: &mut Vec<Triple>,
+) -> Result<(), AllocError> {
+    for token in tokens {
+        parser.step(token.as_borrowed(), triples)?;
     }
+    Ok(())
+}
+
+/// The lines of triples.
+fn lines_of(alloc: Global, triples: &[Triple]) -> Result<Vec<u8>, Refusal> {
     let mut lines = Vec::new(alloc);
-    for triple in &triples {
+    for triple in triples {
         line(triple, &mut lines)?;
     }
+    Ok(lines)
+}
+
+/// What a parser gives of tokens.
+fn parsed(alloc: Global, parser: &mut Parser, tokens: &[Token]) -> Result<Parsed, Refusal> {
+    let mut triples = Vec::new(alloc);
+    let stepped = step_all(parser, tokens, &mut triples);
+    let lines = lines_of(alloc, triples.as_slice());
+    drop(triples);
+    stepped?;
     let (last, fault) = (parser.last, parser.fault());
     let end = parser.end()?;
+    let lines = lines?;
     Ok(Parsed {
         lines,
         last,
         fault,
         end,
     })
+}
+
+/// What is given of a text under the base `http://e/`, in request 7.
+fn parse_text(alloc: Global, text: &[u8]) -> Result<Parsed, Refusal> {
+    let tokens = tokens_of(alloc, text)?;
+    let made = Parser::new(alloc, "http://e/", 7);
+    let Ok(mut parser) = made else {
+        drop(tokens);
+        return Err(Refusal::NoMemory);
+    };
+    let parsed = parsed(alloc, &mut parser, tokens.as_slice());
+    drop(parser);
+    drop(tokens);
+    parsed
 }
 
 /// The text of `TRIPLES`.
@@ -61,13 +100,20 @@ _:b7_2 <http://www.w3.org/1999/02/22-rdf-syntax-ns#rest> <http://www.w3.org/1999
 <http://e/s> <http://e/v#of> \"b\"@en .
 ";
 
+/// Whether a text has these lines, and ends where its last statement does, with no fault.
+fn is_whole(alloc: Global, text: &str, lines: &str) -> Result<bool, Refusal> {
+    let got = parse_text(alloc, text.as_bytes())?;
+    Ok(
+        got.lines.as_slice() == lines.as_bytes()
+            && got.last == text.len() as u64
+            && got.fault == None
+            && got.end == Ok(()),
+    )
+}
+
 #[test]
 fn a_prefix_and_a_collection_give_their_triples(rt: HostRuntime) -> Result<(), Fail> {
-    let got = parse_text(rt.alloc(), TEXT.as_bytes())?;
-    assert!(rt; got.lines.as_slice() == TRIPLES.as_bytes());
-    assert_eq!(rt; got.last, TEXT.len() as u64);
-    assert_eq!(rt; got.fault, None);
-    assert_eq!(rt; got.end, Ok(()));
+    assert!(rt; is_whole(rt.alloc(), TEXT, TRIPLES)?);
     Ok(())
 }
 
@@ -92,7 +138,7 @@ const FAULTS: [Row; 5] = [
 ];
 
 /// Whether a parser gives of a text what the row says.
-fn is_so(alloc: Global, row: &Row) -> Result<bool, Fail> {
+fn is_so(alloc: Global, row: &Row) -> Result<bool, Refusal> {
     let (text, lines, last, fault) = row;
     let got = parse_text(alloc, text.as_bytes())?;
     let is_given = got.lines.as_slice() == lines.as_bytes();
@@ -100,7 +146,7 @@ fn is_so(alloc: Global, row: &Row) -> Result<bool, Fail> {
 }
 
 /// The first text of which that is not so.
-fn wrong_fault(alloc: Global) -> Result<Option<&'static str>, Fail> {
+fn wrong_fault(alloc: Global) -> Result<Option<&'static str>, Refusal> {
     for row in &FAULTS {
         if !is_so(alloc, row)? {
             return Ok(Some(row.0));

@@ -2,8 +2,10 @@
 //! 3.1.1, 3.1.2 and 3.1.3.3.
 use crate::trees::is_left;
 use crate::updates::operations;
+use gs_event::Op;
 use gs_match_tests::triples;
 use gs_model::Refusal;
+use gs_term::Triple;
 use std::alloc::Global;
 use std::test::Fail;
 
@@ -34,12 +36,39 @@ many | a p b, a p c, b p a, b p c, c p a, c p b | + d p a, d p b, a p d, b p d ;
 "#;
 
 /// The number that a column has.
-fn number(column: Option<&str>) -> u128 {
-    column
-        .unwrap_or_default()
-        .trim()
-        .parse::<u128>()
-        .unwrap_or_default()
+fn number(column: &str) -> u128 {
+    column.trim().parse::<u128>().unwrap_or_default()
+}
+
+/// Whether an update leaves just the triples wanted, and says so many.
+fn leaves(
+    alloc: Global,
+    graph: &[Triple],
+    update: &[Op],
+    wanted: &str,
+    added: u128,
+    removed: u128,
+) -> Result<bool, Refusal> {
+    let wanted = triples(alloc, wanted)?;
+    let answer = is_left(alloc, graph, update, wanted.as_slice(), added, removed);
+    drop(wanted);
+    answer
+}
+
+/// Whether a row is right, without its graph, which is lent.
+fn is_so_of(alloc: Global, graph: &[Triple], columns: [&str; 4]) -> Result<bool, Refusal> {
+    let [update, wanted, added, removed] = columns;
+    let update = operations(alloc, update)?;
+    let answer = leaves(
+        alloc,
+        graph,
+        update.as_slice(),
+        wanted,
+        number(added),
+        number(removed),
+    );
+    drop(update);
+    answer
 }
 
 /// Whether a row is right.
@@ -47,18 +76,13 @@ fn is_so(alloc: Global, row: &str) -> Result<bool, Refusal> {
     let mut columns = row.split('|');
     let _name = columns.next();
     let graph = triples(alloc, columns.next().unwrap_or_default())?;
-    let update = operations(alloc, columns.next().unwrap_or_default())?;
-    let wanted = triples(alloc, columns.next().unwrap_or_default())?;
-    let added = number(columns.next());
-    let removed = number(columns.next());
-    is_left(
-        alloc,
-        graph.as_slice(),
-        update.as_slice(),
-        wanted.as_slice(),
-        added,
-        removed,
-    )
+    let mut others = [""; 4];
+    for (column, text) in others.iter_mut().zip(columns) {
+        *column = text;
+    }
+    let answer = is_so_of(alloc, graph.as_slice(), others);
+    drop(graph);
+    answer
 }
 
 /// The first row that is wrong, and else how many there are.

@@ -65,6 +65,27 @@ fn patched(
     patch(alloc, dict, pool, merged.root, operations, 2)
 }
 
+/// Whether the update leaves just the triples wanted, and says so many, with a dictionary and a pool that
+/// are lent.
+fn is_left_in(
+    alloc: Global,
+    dict: &mut Dict,
+    pool: &mut Pool,
+    triples: &[Triple],
+    operations: &[Op],
+    wanted: &[Triple],
+    counts: (u128, u128),
+) -> Result<bool, Refusal>
+    requires { aside_count pool.old ≡ 0 }
+{
+    let draft = patched(alloc, dict, pool, triples, operations)?;
+    let (added, removed) = counts;
+    if draft.added != added || draft.removed != removed {
+        return Ok(false);
+    }
+    has_just(alloc, dict, pool, draft.root, wanted)
+}
+
 /// Whether the update leaves just the triples wanted, which rise, of the graph of these triples, and
 /// says that so many came and so many went.
 pub fn is_left(
@@ -77,9 +98,11 @@ pub fn is_left(
 ) -> Result<bool, Refusal> {
     let mut dict = Dict::new(alloc, 1, u32::MAX)?;
     let mut pool = Pool::new(alloc, u32::MAX);
-    let draft = patched(alloc, &mut dict, &mut pool, triples, operations)?;
-    if draft.added != added || draft.removed != removed {
-        return Ok(false);
-    }
-    has_just(alloc, &dict, &pool, draft.root, wanted)
+    let counts = (added, removed);
+    let answer = is_left_in(
+        alloc, &mut dict, &mut pool, triples, operations, wanted, counts,
+    );
+    drop(pool);
+    drop(dict);
+    answer
 }

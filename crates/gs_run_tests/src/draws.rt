@@ -157,16 +157,24 @@ fn is_so(alloc: Global, drawn: &Drawn) -> Result<bool, Refusal> {
     leaves(alloc, graph, drawn.removed.as_str(), drawn.left.as_str())
 }
 
-/// The graph, with a bar after it the patterns, of the first of 300 draws of which a store leaves
-/// something else.
+/// The graph of a draw, and with a bar after it the patterns, where a store leaves something else.
+fn wrong_in(alloc: Global, drawn: &Drawn) -> Result<Option<String>, Refusal> {
+    if is_so(alloc, drawn)? {
+        return Ok(None);
+    }
+    let (graph, removed) = (drawn.graph.as_str(), drawn.removed.as_str());
+    Ok(Some(format!(in alloc; "{graph}| {removed}")?))
+}
+
+/// The first of 300 draws of which a store leaves something else.
 fn wrong_draw(alloc: Global) -> Result<Option<String>, Refusal> {
     let mut state = 1;
     for _ in 0..300 {
-        let mut drawn = next_draw(alloc, &mut state)?;
-        if !is_so(alloc, &drawn)? {
-            drawn.graph.push_str("| ")?;
-            drawn.graph.push_str(drawn.removed.as_str())?;
-            return Ok(Some(drawn.graph));
+        let drawn = next_draw(alloc, &mut state)?;
+        let wrong = wrong_in(alloc, &drawn);
+        drop(drawn);
+        if let Some(text) = wrong? {
+            return Ok(Some(text));
         }
     }
     Ok(None)

@@ -72,24 +72,32 @@ fn printed_line(alloc: Global, store: &mut Small, line: &str) -> Result<String, 
         let count = store.triples_now();
         return Ok(format!(in alloc; "triples {count}\n")?);
     }
-    let answer = store.step(&event(alloc, line)?);
-    Ok(words(alloc, &answer)?)
+    let event = event(alloc, line)?;
+    let answer = store.step(&event);
+    drop(event);
+    let text = words(alloc, &answer);
+    drop(answer);
+    Ok(text?)
 }
 
 /// Whether a schedule prints this over a store.
-fn prints_over(alloc: Global, mut store: Small, input: &str, want: &str) -> Result<bool, Refusal> {
+fn prints_over(alloc: Global, store: &mut Small, input: &str, want: &str) -> Result<bool, Refusal> {
     let mut text = String::new(alloc);
     for line in input.lines() {
-        text.push_str(printed_line(alloc, &mut store, line)?.as_str())?;
+        text.push_str(printed_line(alloc, store, line)?.as_str())?;
     }
     Ok(text.as_str() == want)
 }
 
 /// Whether it prints this over each of the two.
 fn prints(alloc: Global, input: &str, want: &str) -> Result<bool, Refusal> {
-    let by_plain = prints_over(alloc, Small::plain(alloc)?, input, want)?;
-    let by_trees = prints_over(alloc, Small::trees(alloc)?, input, want)?;
-    Ok(by_plain && by_trees)
+    let mut plain = Small::plain(alloc)?;
+    let by_plain = prints_over(alloc, &mut plain, input, want);
+    drop(plain);
+    let mut trees = Small::trees(alloc)?;
+    let by_trees = prints_over(alloc, &mut trees, input, want);
+    drop(trees);
+    Ok(by_plain? && by_trees?)
 }
 
 /// The first row that does not print what it must.

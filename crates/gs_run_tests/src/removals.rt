@@ -1,6 +1,6 @@
 //! Graphs, patterns, and what a DELETE WHERE with these patterns leaves of them, worked by hand from
 //! SPARQL 1.1 Query, section 18.3, and Update, section 3.1.3.3.
-use crate::runs::{plain_store, printed_by, printed_by_plain, store};
+use crate::runs::print_both;
 use gs_core::{Action, Event, Op, Refusal, UploadKind};
 use gs_term::Target;
 use gs_test_events::{lines, patterns, triples};
@@ -90,18 +90,40 @@ an instance of two patterns under two solutions | <a> <p> <b> . <b> <p> <c> . <c
 all solutions count, and not the first alone | <a> <p> <b> . <a> <q> "1" . <c> <p> <b> . <c> <q> "2" . <d> <p> <b> | ?x <p> <b> . ?x <q> ?z | <d> <p> <b>
 "#;
 
+/// The operation that takes out the instances of patterns, in a list.
+fn operations(alloc: Global, removed: &str) -> Result<Vec<Op>, Refusal> {
+    let patterns = patterns(alloc, removed)?;
+    let mut operations = Vec::new(alloc);
+    operations.push(Op::DeleteWhere(patterns))?;
+    Ok(operations)
+}
+
+/// Adds an event of the first seat.
+fn add(events: &mut Vec<Event>, action: Action) -> Result<(), Refusal> {
+    events.push(Event::Seat(0, action))?;
+    Ok(())
+}
+
+/// Adds the events by which a graph is put, patched and read.
+fn add_all(
+    alloc: Global,
+    graph: &str,
+    removed: &str,
+    events: &mut Vec<Event>,
+) -> Result<(), Refusal> {
+    add(events, Action::Open(UploadKind::Put(Target::Default)))?;
+    add(events, Action::Stage(triples(alloc, graph)?))?;
+    add(events, Action::Commit)?;
+    add(events, Action::OpenPatch(Target::Default))?;
+    add(events, Action::CommitPatch(operations(alloc, removed)?))?;
+    add(events, Action::Pin(Target::Default))?;
+    add(events, Action::Piece(99))
+}
+
 /// A graph is put, patched and read.
 fn events(alloc: Global, graph: &str, removed: &str) -> Result<Vec<Event>, Refusal> {
-    let mut operations = Vec::new(alloc);
-    operations.push(Op::DeleteWhere(patterns(alloc, removed)?))?;
     let mut events = Vec::new(alloc);
-    events.push(Event::Seat(0, Action::Open(UploadKind::Put(Target::Default))))?;
-    events.push(Event::Seat(0, Action::Stage(triples(alloc, graph)?)))?;
-    events.push(Event::Seat(0, Action::Commit))?;
-    events.push(Event::Seat(0, Action::OpenPatch(Target::Default)))?;
-    events.push(Event::Seat(0, Action::CommitPatch(operations)))?;
-    events.push(Event::Seat(0, Action::Pin(Target::Default)))?;
-    events.push(Event::Seat(0, Action::Piece(99)))?;
+    add_all(alloc, graph, removed, &mut events)?;
     Ok(events)
 }
 
@@ -115,11 +137,11 @@ fn wanted(alloc: Global, left: &str) -> Result<String, AllocError> {
 /// Whether a patch with these patterns leaves just these triples of a graph, over each of two
 /// stores.
 pub fn leaves(alloc: Global, graph: &str, removed: &str, left: &str) -> Result<bool, Refusal> {
-    let events = events(alloc, graph, removed)?;
     let want = wanted(alloc, left)?;
-    let got = printed_by(alloc, store(alloc, "")?, events.as_slice())?;
-    let plain = printed_by_plain(alloc, plain_store(alloc, "")?, events.as_slice())?;
-    Ok(got.as_str() == want.as_str() && plain.as_str() == want.as_str())
+    let events = events(alloc, graph, removed)?;
+    let answer = print_both(alloc, "", events.as_slice(), want.as_str(), want.as_str());
+    drop(events);
+    answer
 }
 
 /// The next column of a row; `-` stands for nothing.

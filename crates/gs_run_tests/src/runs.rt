@@ -12,7 +12,7 @@ use std::test::Fail;
 pub const BASE: &str = "http://localhost";
 
 /// The store of a schedule: that of its first line, where this says one.
-pub fn store(alloc: Global, input: &str) -> Result<Store, Refusal> {
+fn store(alloc: Global, input: &str) -> Result<Store, Refusal> {
     match input {
         _ if input.starts_with("store 4 999999999999999999 999999999999999998") => {
             Store::starting_at(
@@ -55,7 +55,7 @@ fn numbers(input: &str) -> (u16, u64, u64) {
 }
 
 /// The same store, as a plain one.
-pub fn plain_store(alloc: Global, input: &str) -> Result<PlainStore, Refusal> {
+fn plain_store(alloc: Global, input: &str) -> Result<PlainStore, Refusal> {
     let limits = Limits {
         triples: MAX_TRIPLES,
         names: MAX_NAMES,
@@ -65,19 +65,42 @@ pub fn plain_store(alloc: Global, input: &str) -> Result<PlainStore, Refusal> {
 }
 
 /// What events print over a store.
-pub fn printed_by(alloc: Global, mut store: Store, events: &[Event]) -> Result<String, Refusal> {
-    let answers = store.run(events)?;
-    Ok(printed(alloc, answers.as_slice())?)
+fn printed_by(alloc: Global, mut store: Store, events: &[Event]) -> Result<String, Refusal> {
+    let answers = store.run(events);
+    drop(store);
+    let answers = answers?;
+    let text = printed(alloc, answers.as_slice());
+    drop(answers);
+    Ok(text?)
 }
 
 /// The same over a plain store.
-pub fn printed_by_plain(
+fn printed_by_plain(
     alloc: Global,
     mut store: PlainStore,
     events: &[Event],
 ) -> Result<String, Refusal> {
-    let answers = run(alloc, &mut store, events)?;
-    Ok(printed(alloc, answers.as_slice())?)
+    let answers = run(alloc, &mut store, events);
+    drop(store);
+    let answers = answers?;
+    let text = printed(alloc, answers.as_slice());
+    drop(answers);
+    Ok(text?)
+}
+
+/// Whether events print the one over the store of a schedule, and the other over a plain one.
+pub fn print_both(
+    alloc: Global,
+    input: &str,
+    events: &[Event],
+    want: &str,
+    plain_want: &str,
+) -> Result<bool, Refusal> {
+    let got = printed_by(alloc, store(alloc, input)?, events)?;
+    let is_so = got.as_str() == want;
+    drop(got);
+    let plain = printed_by_plain(alloc, plain_store(alloc, input)?, events)?;
+    Ok(is_so && plain.as_str() == plain_want)
 }
 
 /// The same answers over a plain store, which has no waste: a Reclaim frees nothing, and leaves none.
@@ -93,11 +116,11 @@ fn without_waste(alloc: Global, want: &str) -> Result<String, AllocError> {
 
 /// Whether the events of a schedule print this over its store, and over a plain one, the waste aside.
 pub fn prints(alloc: Global, input: &str, want: &str) -> Result<bool, Refusal> {
-    let events = events(alloc, input)?;
-    let got = printed_by(alloc, store(alloc, input)?, events.as_slice())?;
-    let plain = printed_by_plain(alloc, plain_store(alloc, input)?, events.as_slice())?;
     let plain_want = without_waste(alloc, want)?;
-    Ok(got.as_str() == want && plain.as_str() == plain_want.as_str())
+    let events = events(alloc, input)?;
+    let answer = print_both(alloc, input, events.as_slice(), want, plain_want.as_str());
+    drop(events);
+    answer
 }
 
 /// The first of these schedules that does not print what it must, but for the counts, over one of

@@ -14,6 +14,29 @@ use std::test::Fail;
 
 /// What the one seat of a store is answered that creates a graph, once it was seen that there is no
 /// pass for a second.
+fn create<C: Side, T: Side, B: Room, R: Wait>(
+    rt: &R,
+    shared: &mut Shared<C, T, B>,
+) -> Option<Answer> {
+    let both = shared.passes(2);
+    let are_two = both.is_ok();
+    drop(both);
+    if are_two {
+        return None;
+    }
+    let mut passes = shared.passes(1).ok()?;
+    let pass = passes.pop();
+    drop(passes);
+    let mut pass = pass?;
+    let opens = Event::Seat(pass.seat(), Action::Open(UploadKind::New));
+    drop(shared.event(rt, &mut pass, opens));
+    let commits = Event::Seat(pass.seat(), Action::Commit);
+    let answer = shared.event(rt, &mut pass, commits);
+    drop(pass);
+    Some(answer)
+}
+
+/// The same of a new store of one seat.
 fn run<C: Side + Send + Sync, T: Side + Send + Sync, B: Room + Send + Sync, R: Wait>(
     rt: &R,
     alloc: Global,
@@ -39,15 +62,9 @@ fn run<C: Side + Send + Sync, T: Side + Send + Sync, B: Room + Send + Sync, R: W
         calls,
         triples,
     ).ok()?;
-    if shared.passes(2).is_ok() {
-        return None;
-    }
-    let mut passes = shared.passes(1).ok()?;
-    let mut pass = passes.pop()?;
-    let opens = Event::Seat(pass.seat(), Action::Open(UploadKind::New));
-    let _ = shared.event(rt, &mut pass, opens);
-    let commits = Event::Seat(pass.seat(), Action::Commit);
-    Some(shared.event(rt, &mut pass, commits))
+    let answer = create(rt, &mut shared);
+    drop(shared);
+    answer
 }
 
 /// The same, over a cell and ledgers of its own.
@@ -57,13 +74,19 @@ fn created<R: Wait>(rt: &R, alloc: Global) -> Option<Answer> {
     run::<Brand, Brand, Brand, R>(rt, alloc, cell, keeper, calls, triples)
 }
 
+/// Whether a graph was created of this name.
+fn is_named(answer: &Answer, wanted: &[u8]) -> bool {
+    match answer {
+        Answer::Status(201, Some(name)) => name.as_bytes() == wanted,
+        _ => false,
+    }
+}
+
 #[test]
 fn a_store_has_its_base_and_its_seats(rt: HostRuntime) -> Result<(), Fail> {
     let answer = created(&rt, rt.alloc()).expect(&rt, "memory, and one seat");
-    let name = match &answer {
-        Answer::Status(201, Some(name)) => name.as_bytes(),
-        _ => b"",
-    };
-    assert!(rt; name == b"http://h:1/graphs/n1-0".as_slice());
+    let is_right = is_named(&answer, b"http://h:1/graphs/n1-0");
+    drop(answer);
+    assert!(rt; is_right);
     Ok(())
 }

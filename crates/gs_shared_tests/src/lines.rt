@@ -45,20 +45,16 @@ fn write<C: Side, T: Side, B: Room, R: Wait>(
     pass: Pass<C, T, B>,
 ) -> Pass<C, T, B> {
     let mut pass = pass;
-    let _ = act(
-        rt,
-        hall,
-        &mut pass,
-        Action::Open(UploadKind::Put(Target::Default)),
-    );
+    let opens = Action::Open(UploadKind::Put(Target::Default));
+    drop(act(rt, hall, &mut pass, opens));
     for word in ["2", "1"] {
         let mut list = Vec::new(alloc);
         if let Some(one) = triple(alloc, word) {
             let _ = list.push(one);
         }
-        let _ = act(rt, hall, &mut pass, Action::Stage(list));
+        drop(act(rt, hall, &mut pass, Action::Stage(list)));
     }
-    let _ = act(rt, hall, &mut pass, Action::Commit);
+    drop(act(rt, hall, &mut pass, Action::Commit));
     pass
 }
 
@@ -69,8 +65,51 @@ fn read<C: Side, T: Side, B: Room, R: Wait>(
     pass: Pass<C, T, B>,
 ) -> Answer {
     let mut pass = pass;
-    let _ = act(rt, hall, &mut pass, Action::Pin(Target::Default));
-    act(rt, hall, &mut pass, Action::Piece(5))
+    drop(act(rt, hall, &mut pass, Action::Pin(Target::Default)));
+    let answer = act(rt, hall, &mut pass, Action::Piece(5));
+    drop(pass);
+    answer
+}
+
+/// One thread writes by a pass, and once it has ended another reads by the other.
+fn write_and_read<
+    C: Side + Send + Sync,
+    T: Side + Send + Sync,
+    B: Room + Send + Sync,
+    R: Threads + Wait + Sync,
+>(
+    rt: &R,
+    alloc: Global,
+    hall: &Hall<C, T, B>,
+    writer: Pass<C, T, B>,
+    reader: Pass<C, T, B>,
+) -> Option<Answer> {
+    thread::scope(thread::scope_env(), rt, move |scope| -> Option<Answer> {
+        let writes = scope.spawn(move || write(rt, alloc, hall, writer)).ok()?;
+        drop(writes.join(rt));
+        let reads = scope.spawn(move || read(rt, hall, reader)).ok()?;
+        Some(reads.join(rt))
+    })
+}
+
+/// The same of a store.
+fn write_and_read_at<
+    C: Side + Send + Sync,
+    T: Side + Send + Sync,
+    B: Room + Send + Sync,
+    R: Threads + Wait + Sync,
+>(rt: &R, alloc: Global, shared: &mut Shared<C, T, B>) -> Option<Answer> {
+    let mut passes = shared.passes(2).ok()?;
+    let reader = passes.pop();
+    let writer = passes.pop();
+    drop(passes);
+    match (writer, reader) {
+        (Some(writer), Some(reader)) => { write_and_read(rt, alloc, shared.hall(), writer, reader) }
+        other => {
+            drop(other);
+            None
+        }
+    }
 }
 
 /// One thread writes, and once it has ended another reads.
@@ -105,16 +144,9 @@ fn run<
         triples,
     )
     .ok()?;
-    let mut passes = shared.passes(2).ok()?;
-    let reader = passes.pop()?;
-    let writer = passes.pop()?;
-    let hall = shared.hall();
-    thread::scope(thread::scope_env(), rt, move |scope| -> Option<Answer> {
-        let writes = scope.spawn(move || write(rt, alloc, hall, writer)).ok()?;
-        let _ = writes.join(rt);
-        let reads = scope.spawn(move || read(rt, hall, reader)).ok()?;
-        Some(reads.join(rt))
-    })
+    let answer = write_and_read_at(rt, alloc, &mut shared);
+    drop(shared);
+    answer
 }
 
 /// What the second thread reads.
@@ -124,15 +156,22 @@ fn write_read<R: Threads + Wait + Sync>(rt: &R, alloc: Global) -> Option<Answer>
     run::<Brand, Brand, Brand, R>(rt, alloc, cell, keeper, calls, triples)
 }
 
+/// The lines of the graph.
+const LINES: &str = "<http://e/s> <http://e/p> \"1\" .\n<http://e/s> <http://e/p> \"2\" .\n";
+
+/// Whether an answer has these lines and ends with them.
+fn has_all(answer: &Answer, wanted: &str) -> bool {
+    match answer {
+        Answer::Lines(lines, end) => *end && lines.as_slice() == wanted.as_bytes(),
+        _ => false,
+    }
+}
+
 #[test]
 fn write_read_back(rt: HostRuntime) -> Result<(), Fail> {
     let answer = write_read(&rt, rt.alloc()).expect(&rt, "memory and threads");
-    let (lines, end) = match answer {
-        Answer::Lines(lines, end) => (lines, end),
-        _ => (Vec::new(rt.alloc()), false),
-    };
-    let want = "<http://e/s> <http://e/p> \"1\" .\n<http://e/s> <http://e/p> \"2\" .\n";
-    assert!(rt; lines.as_slice() == want.as_bytes());
-    assert!(rt; end);
+    let is_right = has_all(&answer, LINES);
+    drop(answer);
+    assert!(rt; is_right);
     Ok(())
 }

@@ -1,11 +1,11 @@
 //! The call after the 65,536th turns the page, and receipts number the entries of the new one.
-ghost use Rattle.std.specs.Prelude.{◌≡◌, ◌<◌, [], codes, length, IfSome};
+ghost use Rattle.std.specs.Prelude.{◌≡◌, ◌<◌, [], codes};
 ghost use Rattle.crossbeam_utils.specs.Seq.{cell_view};
 ghost use Rattle.gs_core.specs.Settings.{start_at};
 ghost use Rattle.gs_pass.specs.Stamps.{keeper as keeper_of};
 
 use crate::heads::ask;
-use gs_shared::{Ended, Pass, Room, Shared, Side, StampCell, Token, stamp_cell};
+use gs_shared::{Ended, Hall, Pass, Record, Room, Shared, Side, StampCell, Token, stamp_cell};
 use std::alloc::Global;
 use std::marker::Brand;
 use std::sync::Wait;
@@ -17,16 +17,34 @@ fn both<C: Side, T: Side, B: Room>(
     alloc: Global,
     first: Pass<C, T, B>,
     second: Pass<C, T, B>,
-) -> Option<Vec<Pass<C, T, B>>>
-    ensures { IfSome result (λ passes. length passes.items ≡ 2) }
-{
+) -> Option<Vec<Pass<C, T, B>>> {
     let mut back = Vec::with_capacity(alloc, 2).ok()?;
     back.push(first).ok()?;
     back.push(second).ok()?;
-    if back.len() != 2 {
-        return None;
-    }
     Some(back)
+}
+
+/// The first pass of a list asks as often as a page has entries, and then the second twice.
+fn ask_both<C: Side, T: Side, B: Room, R: Wait>(
+    rt: &R,
+    alloc: Global,
+    hall: &Hall<C, T, B>,
+    mut passes: Vec<Pass<C, T, B>>,
+) -> Option<Vec<Pass<C, T, B>>> {
+    let second = passes.pop();
+    let first = passes.pop();
+    drop(passes);
+    match (first, second) {
+        (Some(first), Some(second)) => {
+            let first = ask(rt, hall, first, 65_536);
+            let second = ask(rt, hall, second, 2);
+            both(alloc, first, second)
+        }
+        other => {
+            drop(other);
+            None
+        }
+    }
 }
 
 /// One pass asks as often as a page has entries, and then another twice.
@@ -57,14 +75,19 @@ fn run<C: Side + Send + Sync, T: Side + Send + Sync, B: Room + Send + Sync, R: W
     ) else {
         return None;
     };
-    let Ok(mut passes) = shared.passes(2) else {
+    let Ok(passes) = shared.passes(2) else {
+        drop(shared);
         return None;
     };
-    let second: Pass<C, T, B> = passes.pop()?;
-    let first: Pass<C, T, B> = passes.pop()?;
-    let first = ask(rt, shared.hall(), first, 65_536);
-    let second = ask(rt, shared.hall(), second, 2);
-    let back = both(alloc, first, second)?;
+    let Some(back) = ask_both(rt, alloc, shared.hall(), passes) else {
+        drop(shared);
+        return None;
+    };
+    if back.len() != 2 {
+        drop(back);
+        drop(shared);
+        return None;
+    }
     Some(shared.end(rt, back))
 }
 
@@ -75,17 +98,36 @@ fn asked<R: Wait>(rt: &R, alloc: Global) -> Option<Ended> {
     run::<Brand, Brand, Brand, R>(rt, alloc, cell, keeper, calls, triples)
 }
 
+/// Whether the receipts of a pass number the two entries of a page.
+fn are_numbered(record: Option<&Record>) -> bool {
+    let Some(record) = record else {
+        return false;
+    };
+    let mut numbers = [9u64; 2];
+    for (number, receipt) in numbers.iter_mut().zip(record.receipts()) {
+        *number = receipt.number;
+    }
+    numbers == [0, 1]
+}
+
+/// What of the page, or of the last pass, is not as it must be.
+fn wrong_part(ended: &Ended) -> Option<&'static str> {
+    let page = ended.audited.page();
+    if page.number() != 1 || page.entries().len() != 2 {
+        return Some("the page");
+    }
+    if are_numbered(ended.passes.last()) {
+        None
+    } else {
+        Some("the last pass")
+    }
+}
+
 #[test]
 fn a_full_page_is_turned(rt: HostRuntime) -> Result<(), Fail> {
     let ended = asked(&rt, rt.alloc()).expect(&rt, "memory");
-    let page = ended.audited.page();
-    assert_eq!(rt; page.number(), 1);
-    assert_eq!(rt; page.entries().len(), 2);
-    let last = ended.passes.last().expect(&rt, "two passes");
-    let mut numbers = [9u64; 2];
-    for (number, receipt) in numbers.iter_mut().zip(last.receipts()) {
-        *number = receipt.number;
-    }
-    assert_eq!(rt; numbers, [0, 1]);
+    let wrong = wrong_part(&ended);
+    drop(ended);
+    assert_eq!(rt; wrong, None);
     Ok(())
 }

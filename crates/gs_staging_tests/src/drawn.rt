@@ -47,6 +47,21 @@ fn put(all: &mut Vec<Triple>, more: &[Triple]) -> Result<usize, Refusal> {
     Ok(all.len().saturating_sub(before))
 }
 
+/// Whether a list goes into an upload and into a list of all alike.
+fn goes_in(
+    alloc: Global,
+    list: &[Triple],
+    upload: &mut Upload,
+    all: &mut Vec<Triple>,
+) -> Result<bool, Refusal> {
+    let wanted = put(all, list)?;
+    let before = upload.nodes_in_use();
+    let added = upload.add(alloc, list)?;
+    let made = upload.nodes_in_use().saturating_sub(before);
+    let same = upload.is_list(alloc, all.as_slice())?;
+    Ok(added == wanted && made == added as u64 && same)
+}
+
 /// Whether the next list that is drawn goes into both alike.
 fn is_alike(
     alloc: Global,
@@ -55,28 +70,51 @@ fn is_alike(
     all: &mut Vec<Triple>,
 ) -> Result<bool, Refusal> {
     let list = draw_list(alloc, draws)?;
-    let wanted = put(all, list.as_slice())?;
-    let before = upload.nodes_in_use();
-    let added = upload.add(alloc, list.as_slice())?;
-    let made = upload.nodes_in_use().saturating_sub(before);
-    let same = upload.is_list(alloc, all.as_slice())?;
-    Ok(added == wanted && made == added as u64 && same)
+    let answer = goes_in(alloc, list.as_slice(), upload, all);
+    drop(list);
+    answer
+}
+
+/// Whether the next five lists do.
+fn are_alike(
+    alloc: Global,
+    draws: &mut Draws,
+    upload: &mut Upload,
+    all: &mut Vec<Triple>,
+) -> Result<bool, Refusal> {
+    for _ in 0..5 {
+        if !is_alike(alloc, draws, upload, all)? {
+            return Ok(false);
+        }
+    }
+    Ok(true)
+}
+
+/// The first time that they do not, of so many, where the upload begins again each time.
+fn first_unlike(
+    alloc: Global,
+    upload: &mut Upload,
+    uploads: usize,
+) -> Result<Option<usize>, Refusal> {
+    let mut draws = Draws::new(7);
+    for turn in 0..uploads {
+        upload.begin();
+        let mut all = Vec::new(alloc);
+        let are_alike = are_alike(alloc, &mut draws, upload, &mut all);
+        drop(all);
+        if !are_alike? {
+            return Ok(Some(turn));
+        }
+    }
+    Ok(None)
 }
 
 /// The first upload that goes wrong, of so many with five lists each.
 fn first_wrong(alloc: Global, uploads: usize) -> Result<Option<usize>, Refusal> {
-    let mut draws = Draws::new(7);
     let mut upload = Upload::new(alloc, u32::MAX, u32::MAX)?;
-    for turn in 0..uploads {
-        upload.begin();
-        let mut all = Vec::new(alloc);
-        for _ in 0..5 {
-            if !is_alike(alloc, &mut draws, &mut upload, &mut all)? {
-                return Ok(Some(turn));
-            }
-        }
-    }
-    Ok(None)
+    let first = first_unlike(alloc, &mut upload, uploads);
+    drop(upload);
+    first
 }
 
 #[test]

@@ -2,6 +2,7 @@
 use crate::lists::triples;
 use crate::uploads::Upload;
 use gs_model::Refusal;
+use gs_term::Triple;
 use std::alloc::Global;
 use std::test::Fail;
 
@@ -27,6 +28,19 @@ an object that is a subject too | 3: b p c, a p b, c p a | a p b, b p c, c p a
 one term at all places | 1: a a a; 0: a a a, a a a | a a a
 "#;
 
+/// Whether a list adds so many triples, and as many nodes.
+fn adds(
+    alloc: Global,
+    upload: &mut Upload,
+    list: &[Triple],
+    wanted: usize,
+) -> Result<bool, Refusal> {
+    let before = upload.nodes_in_use();
+    let added = upload.add(alloc, list)?;
+    let made = upload.nodes_in_use().saturating_sub(before);
+    Ok(added == wanted && made == added as u64)
+}
+
 /// Whether a list adds so many, written before a colon.
 fn adds_right(alloc: Global, upload: &mut Upload, text: &str) -> Result<bool, Refusal> {
     let Some((count, list)) = text.split_once(':') else {
@@ -34,24 +48,32 @@ fn adds_right(alloc: Global, upload: &mut Upload, text: &str) -> Result<bool, Re
     };
     let wanted = count.trim().parse::<usize>().unwrap_or(usize::MAX);
     let list = triples(alloc, list)?;
-    let before = upload.nodes_in_use();
-    let added = upload.add(alloc, list.as_slice())?;
-    let made = upload.nodes_in_use().saturating_sub(before);
-    Ok(added == wanted && made == added as u64)
+    let answer = adds(alloc, upload, list.as_slice(), wanted);
+    drop(list);
+    answer
 }
 
-/// Whether a row is right.
-fn is_so(alloc: Global, row: &str) -> Result<bool, Refusal> {
+/// Whether the lists of a row add what they should to an upload, which has what is wanted then.
+fn is_so_of(alloc: Global, upload: &mut Upload, row: &str) -> Result<bool, Refusal> {
     let mut columns = row.split('|');
     let _name = columns.next();
-    let mut upload = Upload::new(alloc, u32::MAX, u32::MAX)?;
     for list in columns.next().unwrap_or_default().split(';') {
-        if !adds_right(alloc, &mut upload, list)? {
+        if !adds_right(alloc, upload, list)? {
             return Ok(false);
         }
     }
     let wanted = triples(alloc, columns.next().unwrap_or_default())?;
-    upload.is_list(alloc, wanted.as_slice())
+    let answer = upload.is_list(alloc, wanted.as_slice());
+    drop(wanted);
+    answer
+}
+
+/// Whether a row is right.
+fn is_so(alloc: Global, row: &str) -> Result<bool, Refusal> {
+    let mut upload = Upload::new(alloc, u32::MAX, u32::MAX)?;
+    let answer = is_so_of(alloc, &mut upload, row);
+    drop(upload);
+    answer
 }
 
 /// The first row that is wrong, and else how many there are.

@@ -228,14 +228,29 @@ fn is_right(pool: &mut Pool, step: Step) -> Result<bool, Refusal> {
     })
 }
 
+/// Whether each step at a pool does what is to be seen of it.
+fn are_right(pool: &mut Pool, steps: &[Step]) -> Result<bool, Refusal> {
+    for step in steps {
+        if !is_right(pool, *step)? {
+            return Ok(false);
+        }
+    }
+    Ok(true)
+}
+
+/// Whether each step of a case is right, at a new pool.
+fn is_right_case(alloc: Global, case: &Case) -> Result<bool, Refusal> {
+    let mut pool = Pool::with_lists(alloc, 99, case.lists)?;
+    let answer = are_right(&mut pool, &case.steps);
+    drop(pool);
+    answer
+}
+
 /// The name of the first case with a step that is not right.
 fn wrong_case(alloc: Global) -> Result<Option<&'static str>, Refusal> {
     for case in &CASES {
-        let mut pool = Pool::with_lists(alloc, 99, case.lists)?;
-        for step in &case.steps {
-            if !is_right(&mut pool, *step)? {
-                return Ok(Some(case.name));
-            }
+        if !is_right_case(alloc, case)? {
+            return Ok(Some(case.name));
         }
     }
     Ok(None)

@@ -2,7 +2,6 @@
 use crate::draws::Draws;
 use gs_model::Refusal;
 use gs_pool::{Key, Node, Pool, Retired};
-use std::process::Abort;
 
 /// What a number has, in the list.
 #[derive(Clone, Copy, PartialEq, Eq)]
@@ -38,17 +37,17 @@ fn used_in(list: &[Slot]) -> u64 {
     used
 }
 
-/// Puts what a number has into the list. A number after the last may come only where none is free.
-fn put(rt: &impl Abort, list: &mut Vec<Slot>, id: u32, slot: Slot) -> Result<(), Refusal> {
+/// Puts what a number has into the list, and says whether it may stand there: a number after the last
+/// may come only where none is free.
+fn put(list: &mut Vec<Slot>, id: u32, slot: Slot) -> Result<bool, Refusal> {
     let place = id as usize;
     if place < list.len() {
         list[place] = slot;
-        return Ok(());
+        return Ok(true);
     }
-    assert_eq!(rt; place, list.len());
-    assert_eq!(rt; used_in(list), list.len() as u64);
+    let is_next = place == list.len() && used_in(list) == list.len() as u64;
     list.push(slot)?;
-    Ok(())
+    Ok(is_next)
 }
 
 /// What a plain number of the list has.
@@ -59,39 +58,32 @@ fn plain_in(list: &[Slot], id: u32) -> Option<u32> {
     }
 }
 
-/// One step of the pool and of the list, at a number that is plain.
+/// One step of the pool and of the list, at a number that is plain. Whether it is right.
 fn change(
-    rt: &impl Abort,
     pool: &mut Pool,
     list: &mut Vec<Slot>,
     id: u32,
     object: u32,
     kind: u64,
-) -> Result<(), Refusal> {
+) -> Result<bool, Refusal> {
     let whole = object % 2 == 0;
     let death = u64::from(object % 100);
     let entry = Retired { id, death, whole };
     if !pool.is_plain(id) {
-        return Ok(());
+        return Ok(true);
     }
     match kind {
         0 => {
             pool.free(id);
-            put(rt, list, id, Slot::Free)
+            put(list, id, Slot::Free)
         }
         1 => {
             pool.set_aside(entry);
-            put(
-                rt,
-                list,
-                id,
-                Slot::Aside(pool.get(id).key.object, death, whole),
-            )
+            put(list, id, Slot::Aside(pool.get(id).key.object, death, whole))
         }
         2 => {
             pool.retire(entry);
             put(
-                rt,
                 list,
                 id,
                 Slot::Retired(pool.get(id).key.object, death, whole),
@@ -99,79 +91,129 @@ fn change(
         }
         _ => {
             pool.set(id, node(object));
-            put(rt, list, id, Slot::Plain(object))
+            put(list, id, Slot::Plain(object))
         }
     }
 }
 
-/// One node comes off each of the two lists of the pool, and is plain again.
-fn take(rt: &impl Abort, pool: &mut Pool, list: &mut Vec<Slot>) -> Result<(), Refusal> {
-    if let Some(entry) = pool.next_aside() {
-        let object = pool.get(entry.id).key.object;
-        let was = list.get(entry.id as usize).copied();
-        assert!(rt; was == Some(Slot::Aside(object, entry.death, entry.whole)));
-        put(rt, list, entry.id, Slot::Plain(object))?;
-    } else {
-        assert!(rt; !list.iter().any(|slot| matches!(slot, Slot::Aside(_, _, _))));
-    }
-    if let Some(entry) = pool.next_retired() {
-        let object = pool.get(entry.id).key.object;
-        let was = list.get(entry.id as usize).copied();
-        assert!(rt; was == Some(Slot::Retired(object, entry.death, entry.whole)));
-        put(rt, list, entry.id, Slot::Plain(object))?;
-    } else {
-        assert!(rt;
+/// A node that is set aside comes off its list, and is plain again. Whether the list has it so, or none.
+fn take_aside(pool: &mut Pool, list: &mut Vec<Slot>) -> Result<bool, Refusal> {
+    let Some(entry) = pool.next_aside() else {
+        return Ok(!list.iter().any(|slot| matches!(slot, Slot::Aside(_, _, _))));
+    };
+    let object = pool.get(entry.id).key.object;
+    let was = list.get(entry.id as usize).copied();
+    let is_there = was == Some(Slot::Aside(object, entry.death, entry.whole));
+    Ok(put(list, entry.id, Slot::Plain(object))? && is_there)
+}
+
+/// The same, of a node that is retired.
+fn take_retired(pool: &mut Pool, list: &mut Vec<Slot>) -> Result<bool, Refusal> {
+    let Some(entry) = pool.next_retired() else {
+        return Ok(
             !list
                 .iter()
-                .any(|slot| matches!(slot, Slot::Retired(_, _, _)))
+                .any(|slot| matches!(slot, Slot::Retired(_, _, _))),
         );
+    };
+    let object = pool.get(entry.id).key.object;
+    let was = list.get(entry.id as usize).copied();
+    let is_there = was == Some(Slot::Retired(object, entry.death, entry.whole));
+    Ok(put(list, entry.id, Slot::Plain(object))? && is_there)
+}
+
+/// A node goes into the pool and the list. Whether it is right: it is refused only where all numbers
+/// are in use, and then counted.
+fn add(
+    pool: &mut Pool,
+    list: &mut Vec<Slot>,
+    object: u32,
+    refused: &mut u32,
+) -> Result<bool, Refusal> {
+    match pool.alloc(node(object)) {
+        Ok(made) => put(list, made, Slot::Plain(object)),
+        Err(_) => {
+            *refused = refused.saturating_add(1);
+            Ok(used_in(list) == 64)
+        }
     }
-    Ok(())
+}
+
+/// Whether the pool has so many nodes, and at a number what the list has.
+fn is_alike(pool: &Pool, list: &[Slot], id: u32) -> bool {
+    let plain = plain_in(list, id);
+    if pool.nodes_in_use() != used_in(list) || pool.is_plain(id) != plain.is_some() {
+        return false;
+    }
+    !pool.is_plain(id) || plain == Some(pool.get(id).key.object)
+}
+
+/// One step that is drawn. Whether it is right.
+fn is_right(
+    pool: &mut Pool,
+    list: &mut Vec<Slot>,
+    draws: &mut Draws,
+    refused: &mut u32,
+) -> Result<bool, Refusal> {
+    let object = (draws.next() % 1_000_000) as u32;
+    let id = (draws.next() % 64) as u32;
+    let is_done = match draws.next() % 8 {
+        0..=2 => add(pool, list, object, refused)?,
+        3..=6 => change(pool, list, id, object, draws.next() % 4)?,
+        _ => take_aside(pool, list)? && take_retired(pool, list)?,
+    };
+    Ok(is_done && is_alike(pool, list, id))
+}
+
+/// The first step that is not right, or the number of all steps where too few nodes were refused or the
+/// list is not full at the end.
+fn wrong_step(pool: &mut Pool, list: &mut Vec<Slot>) -> Result<Option<u32>, Refusal> {
+    let mut draws = Draws::new(3);
+    let mut refused = 0u32;
+    for step in 0..10_000 {
+        if !is_right(pool, list, &mut draws, &mut refused)? {
+            return Ok(Some(step));
+        }
+    }
+    Ok(if refused > 10 && list.len() == 64 {
+        None
+    } else {
+        Some(10_000)
+    })
 }
 
 #[test]
 fn nodes_are_those_of_a_list(rt: HostRuntime) -> Result<(), Refusal> {
     let mut pool = Pool::new(rt.alloc(), 63);
     let mut list: Vec<Slot> = Vec::new(rt.alloc());
-    let mut draws = Draws::new(3);
-    let mut refused = 0u32;
-    for _ in 0..10_000 {
-        let object = (draws.next() % 1_000_000) as u32;
-        let id = (draws.next() % 64) as u32;
-        match draws.next() % 8 {
-            0..=2 => match pool.alloc(node(object)) {
-                Ok(made) => put(&rt, &mut list, made, Slot::Plain(object))?,
-                Err(_) => {
-                    assert_eq!(&rt; used_in(&list), 64);
-                    refused = refused.saturating_add(1);
-                }
-            },
-            3..=6 => change(&rt, &mut pool, &mut list, id, object, draws.next() % 4)?,
-            _ => take(&rt, &mut pool, &mut list)?,
-        }
-        assert_eq!(&rt; pool.nodes_in_use(), used_in(&list));
-        let plain = plain_in(&list, id);
-        assert_eq!(&rt; pool.is_plain(id), plain.is_some());
-        if pool.is_plain(id) {
-            assert!(&rt; plain == Some(pool.get(id).key.object));
+    let wrong = wrong_step(&mut pool, &mut list);
+    drop(list);
+    drop(pool);
+    assert_eq!(&rt; wrong?, None);
+    Ok(())
+}
+
+/// Whether a pool of three numbers gives a number again that was freed.
+fn gives_again(pool: &mut Pool) -> Result<bool, Refusal> {
+    for wanted in 0..3 {
+        if pool.alloc(node(wanted))? != wanted {
+            return Ok(false);
         }
     }
-    assert!(&rt; refused > 10 && list.len() == 64);
-    Ok(())
+    let is_full = pool.alloc(node(3)).is_err();
+    if pool.is_plain(1) {
+        pool.free(1);
+    }
+    let is_freed = pool.nodes_in_use() == 2;
+    let is_again = pool.alloc(node(4))? == 1;
+    Ok(is_full && is_freed && is_again && pool.nodes_in_use() == 3)
 }
 
 #[test]
 fn a_freed_number_is_given_again(rt: HostRuntime) -> Result<(), Refusal> {
     let mut pool = Pool::new(rt.alloc(), 2);
-    for wanted in 0..3 {
-        assert_eq!(&rt; pool.alloc(node(wanted))?, wanted);
-    }
-    assert!(&rt; pool.alloc(node(3)).is_err());
-    if pool.is_plain(1) {
-        pool.free(1);
-    }
-    assert_eq!(&rt; pool.nodes_in_use(), 2);
-    assert_eq!(&rt; pool.alloc(node(4))?, 1);
-    assert_eq!(&rt; pool.nodes_in_use(), 3);
+    let is_given = gives_again(&mut pool);
+    drop(pool);
+    assert!(&rt; is_given?);
     Ok(())
 }

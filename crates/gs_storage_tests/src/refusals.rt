@@ -4,57 +4,93 @@ use gs_dict::Dict;
 use gs_model::Refusal;
 use gs_pool::{Key, Node, Pool};
 use gs_term::TermText;
+use std::alloc::Global;
+
+/// Whether a term gets this number, also where the first request for it was refused: then it is new as
+/// before.
+fn is_given(dict: &mut Dict, term: &TermText, number: u32) -> Result<bool, Refusal> {
+    let before = dict.len();
+    let id = match dict.intern(term) {
+        Err(Refusal::NoMemory) => {
+            if dict.len() != before || dict.find(term).is_some() {
+                return Ok(false);
+            }
+            dict.intern(term)?
+        }
+        given => given?,
+    };
+    Ok(id.number == number && dict.find(term) == Some(id))
+}
+
+/// The same of the IRI with this number in it.
+fn is_given_iri(alloc: Global, dict: &mut Dict, number: u32) -> Result<bool, Refusal> {
+    let text = format!(in alloc; "e:{number}")?;
+    let term = TermText::iri(alloc, text.as_str())?;
+    is_given(dict, &term, number)
+}
+
+/// The first number that its term does not get.
+fn first_not_given(alloc: Global, dict: &mut Dict) -> Result<Option<u32>, Refusal> {
+    for number in 0..1_100 {
+        if !is_given_iri(alloc, dict, number)? {
+            return Ok(Some(number));
+        }
+    }
+    Ok(None)
+}
 
 /// Terms get the numbers 0, 1, 2 and so on, whichever request was refused on the way.
 #[test]
 fn a_refused_term_is_new_as_before(rt: HostRuntime) -> Result<(), Refusal> {
-    let alloc = rt.alloc();
-    let mut dict = Dict::new(alloc, 1, u32::MAX)?;
-    for drawn in 0..1_100u32 {
-        let text = format!(in alloc; "e:{drawn}")?;
-        let term = TermText::iri(alloc, text.as_str())?;
-        let before = dict.len();
-        let first = dict.intern(&term);
-        let id = match first {
-            Err(Refusal::NoMemory) => {
-                assert_eq!(&rt; dict.len(), before);
-                assert!(&rt; dict.find(&term) == None);
-                dict.intern(&term)?
-            }
-            given => given?,
-        };
-        assert_eq!(&rt; id.number, drawn);
-        assert!(&rt; dict.find(&term) == Some(id));
-    }
+    let mut dict = Dict::new(rt.alloc(), 1, u32::MAX)?;
+    let first = first_not_given(rt.alloc(), &mut dict);
+    drop(dict);
+    assert_eq!(&rt; first?, None);
     Ok(())
+}
+
+/// The node of an object.
+fn node(object: u32) -> Node {
+    Node {
+        key: Key {
+            subject: 0,
+            predicate: 0,
+            object,
+        },
+        left: None,
+        right: None,
+        height: 1,
+        birth: 0,
+    }
+}
+
+/// Whether a node gets this number, also where the first request for it was refused.
+fn is_number_of_node(pool: &mut Pool, number: u32) -> Result<bool, Refusal> {
+    let before = pool.nodes_in_use();
+    let id = match pool.alloc(node(number)) {
+        Ok(id) => id,
+        Err(_) if pool.nodes_in_use() == before => pool.alloc(node(number))?,
+        Err(_) => return Ok(false),
+    };
+    Ok(id == number && pool.is_plain(id))
+}
+
+/// The first number that its node does not get.
+fn first_number_not_given(pool: &mut Pool) -> Result<Option<u32>, Refusal> {
+    for number in 0..300 {
+        if !is_number_of_node(pool, number)? {
+            return Ok(Some(number));
+        }
+    }
+    Ok(None)
 }
 
 /// Nodes get the numbers 0, 1, 2 and so on, and are as they were after a refusal.
 #[test]
 fn a_refused_node_changes_nothing(rt: HostRuntime) -> Result<(), Refusal> {
     let mut pool = Pool::new(rt.alloc(), u32::MAX);
-    for object in 0..300u32 {
-        let node = Node {
-            key: Key {
-                subject: 0,
-                predicate: 0,
-                object,
-            },
-            left: None,
-            right: None,
-            height: 1,
-            birth: 0,
-        };
-        let before = pool.nodes_in_use();
-        let id = match pool.alloc(node) {
-            Ok(id) => id,
-            Err(_) => {
-                assert_eq!(&rt; pool.nodes_in_use(), before);
-                pool.alloc(node)?
-            }
-        };
-        assert_eq!(&rt; id, object);
-        assert!(&rt; pool.is_plain(id));
-    }
+    let first = first_number_not_given(&mut pool);
+    drop(pool);
+    assert_eq!(&rt; first?, None);
     Ok(())
 }

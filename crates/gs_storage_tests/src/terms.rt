@@ -5,7 +5,6 @@ use gs_model::Refusal;
 use gs_term::TermText;
 use std::alloc::Global;
 use std::hash::{FoldHasher, Hasher};
-use std::process::Abort;
 
 fn term(alloc: Global, drawn: u64) -> Result<TermText, Refusal> {
     let text = format!(in alloc; "e:{drawn}")?;
@@ -25,38 +24,75 @@ fn number_in(list: &mut Vec<u64>, drawn: u64) -> Result<usize, Refusal> {
     }
 }
 
+/// Whether a term has the number that the list has for what was drawn, before and after it is given one.
+fn is_numbered(
+    dict: &mut Dict,
+    list: &mut Vec<u64>,
+    drawn: u64,
+    term: &TermText,
+    guess: TermId,
+) -> Result<bool, Refusal> {
+    let known = list.iter().position(|x| *x == drawn);
+    let found = dict.find(term).map(|id| id.number as usize);
+    let wanted = number_in(list, drawn)?;
+    let id = dict.intern_near(guess, term)?;
+    Ok(found == known && id.number as usize == wanted && dict.find(term) == Some(id))
+}
+
+/// The first of 10,000 draws whose term has not the number that the list has.
+fn wrong_draw(alloc: Global, dict: &mut Dict, list: &mut Vec<u64>) -> Result<Option<u32>, Refusal> {
+    let mut draws = Draws::new(1);
+    for step in 0..10_000 {
+        let drawn = draws.next() % 2_500;
+        let drawn_term = term(alloc, drawn)?;
+        let guess = TermId {
+            number: (draws.next() & 0xFF) as u32,
+        };
+        let is_right = is_numbered(dict, list, drawn, &drawn_term, guess);
+        drop(drawn_term);
+        if !is_right? {
+            return Ok(Some(step));
+        }
+    }
+    Ok(None)
+}
+
+/// Whether a number is that of what was drawn, and has its text.
+fn is_number_of(alloc: Global, dict: &Dict, number: u32, drawn: u64) -> Result<bool, Refusal> {
+    let wanted = term(alloc, drawn)?;
+    let id = TermId { number };
+    Ok(dict.is_number_of(id, &wanted) && dict.has(id) && dict.text(id) == wanted.as_bytes())
+}
+
+/// The first number of the dictionary that has another text than the list, or that of all where they
+/// are not as many, or no more than buckets.
+fn wrong_number(alloc: Global, dict: &Dict, list: &[u64]) -> Result<Option<u32>, Refusal> {
+    let mut number = 0u32;
+    for drawn in list {
+        if !is_number_of(alloc, dict, number, *drawn)? {
+            return Ok(Some(number));
+        }
+        number = number.saturating_add(1);
+    }
+    let is_all = dict.len() == list.len() && dict.len() > 1_024;
+    Ok(if is_all { None } else { Some(number) })
+}
+
+/// Whether the terms that are drawn have the numbers of a list, one by one and at the end.
+fn are_numbered(alloc: Global, dict: &mut Dict, list: &mut Vec<u64>) -> Result<bool, Refusal> {
+    Ok(wrong_draw(alloc, dict, list)? == None && wrong_number(alloc, dict, list)? == None)
+}
+
 /// Goes past the first 1,024 buckets, which are doubled on the way.
 #[test]
 fn terms_have_the_numbers_of_a_list(rt: HostRuntime) -> Result<(), Refusal> {
     let alloc = rt.alloc();
     let mut dict = Dict::new(alloc, 1, u32::MAX)?;
     let mut list: Vec<u64> = Vec::new(alloc);
-    let mut draws = Draws::new(1);
-    for _ in 0..10_000 {
-        let drawn = draws.next() % 2_500;
-        let drawn_term = term(alloc, drawn)?;
-        let known = list.iter().position(|x| *x == drawn);
-        let found = dict.find(&drawn_term).map(|id| id.number as usize);
-        assert!(&rt; found == known);
-        let wanted = number_in(&mut list, drawn)?;
-        let guess = TermId {
-            number: (draws.next() & 0xFF) as u32,
-        };
-        let id = dict.intern_near(guess, &drawn_term)?;
-        assert_eq!(&rt; id.number as usize, wanted);
-        assert!(&rt; dict.find(&drawn_term) == Some(id));
-    }
-    assert_eq!(&rt; dict.len(), list.len());
-    assert!(&rt; dict.len() > 1_024);
-    for (i, drawn) in list.iter().enumerate() {
-        let wanted = term(alloc, *drawn)?;
-        let Ok(number) = u32::try_from(i) else {
-            return Err(Refusal::StoreFull);
-        };
-        let id = TermId { number };
-        assert!(&rt; dict.is_number_of(id, &wanted));
-        assert!(&rt; dict.has(id) && dict.text(id) == wanted.as_bytes());
-    }
+    let are_right = are_numbered(alloc, &mut dict, &mut list);
+    drop(list);
+    drop(dict);
+    assert!(&rt; are_right?);
     Ok(())
 }
 
@@ -74,26 +110,39 @@ fn bucket(seeded: FoldHasher, term: &TermText) -> u64 {
     hasher.finish() & 1_023
 }
 
-#[test]
-fn crafted_terms_of_one_bucket_keep_apart(rt: HostRuntime) -> Result<(), Refusal> {
-    let alloc = rt.alloc();
-    let seed = 7;
-    let mut dict = Dict::new(alloc, seed, u32::MAX)?;
-    let hasher = seeded(seed);
+/// Those of 16,000 terms that are of one bucket.
+fn of_one_bucket(alloc: Global, hasher: FoldHasher) -> Result<Vec<TermText>, Refusal> {
     let mut terms: Vec<TermText> = Vec::new(alloc);
     for drawn in 0..16_000u64 {
         let candidate = term(alloc, drawn)?;
         if bucket(hasher, &candidate) == 5 {
-            dict.intern(&candidate)?;
             terms.push(candidate)?;
         }
     }
-    assert!(&rt; terms.len() > 8);
-    assert_eq!(&rt; dict.len(), terms.len());
-    for (i, wanted) in terms.iter().enumerate() {
-        let found = dict.find(wanted).map(|id| id.number as usize);
-        assert!(&rt; found == Some(i));
+    Ok(terms)
+}
+
+/// Whether these terms, which are more than eight, get the numbers 0, 1, 2 and so on, and keep them.
+fn keep_apart(dict: &mut Dict, terms: &[TermText]) -> Result<bool, Refusal> {
+    for term in terms {
+        dict.intern(term)?;
     }
+    for (i, wanted) in terms.iter().enumerate() {
+        if dict.find(wanted).map(|id| id.number as usize) != Some(i) {
+            return Ok(false);
+        }
+    }
+    Ok(terms.len() > 8 && dict.len() == terms.len())
+}
+
+#[test]
+fn crafted_terms_of_one_bucket_keep_apart(rt: HostRuntime) -> Result<(), Refusal> {
+    let terms = of_one_bucket(rt.alloc(), seeded(7))?;
+    let mut dict = Dict::new(rt.alloc(), 7, u32::MAX)?;
+    let are_apart = keep_apart(&mut dict, &terms);
+    drop(dict);
+    drop(terms);
+    assert!(&rt; are_apart?);
     Ok(())
 }
 
@@ -131,72 +180,153 @@ fn guesses(dict: &Dict, terms: &[TermText]) -> Option<[TermId; GUESSED_TOGETHER]
     Some(dict.guesses(&asked))
 }
 
-/// For a term of an empty bucket a number is guessed that was not given.
-#[test]
-fn terms_alone_in_their_buckets_are_guessed(rt: HostRuntime) -> Result<(), Refusal> {
-    let alloc = rt.alloc();
-    let seed = 11;
-    let terms = alone_in_buckets(alloc, seed, 2 * GUESSED_TOGETHER)?;
+/// Whether the guesses for these terms are numbers that were not given.
+fn are_new(dict: &Dict, terms: &[TermText]) -> bool {
+    guesses(dict, terms).is_some_and(|ids| ids.iter().all(|id| !dict.has(*id)))
+}
+
+/// Whether the guesses for these terms are 0, 1, 2 and so on.
+fn are_known(dict: &Dict, terms: &[TermText]) -> bool {
+    let Some(found) = guesses(dict, terms) else {
+        return false;
+    };
+    for (i, id) in found.iter().enumerate() {
+        if id.number as usize != i {
+            return false;
+        }
+    }
+    true
+}
+
+/// Whether the guesses for terms are right before and after those of the first half are given numbers.
+fn are_guessed(dict: &mut Dict, terms: &[TermText]) -> Result<bool, Refusal> {
     let (known, others) = terms.split_at(GUESSED_TOGETHER.min(terms.len()));
-    assert_eq!(&rt; others.len(), GUESSED_TOGETHER);
-    let mut dict = Dict::new(alloc, seed, u32::MAX)?;
-    assert!(&rt; guesses(&dict, known).is_some_and(|ids| ids.iter().all(|id| !dict.has(*id))));
+    if others.len() != GUESSED_TOGETHER || !are_new(dict, known) {
+        return Ok(false);
+    }
     for term in known {
         dict.intern(term)?;
     }
-    let Some(found) = guesses(&dict, known) else {
-        return Err(Refusal::StoreFull);
-    };
-    for (i, id) in found.iter().enumerate() {
-        assert_eq!(&rt; id.number as usize, i);
-    }
-    assert!(&rt; guesses(&dict, others).is_some_and(|ids| ids.iter().all(|id| !dict.has(*id))));
+    Ok(are_known(dict, known) && are_new(dict, others))
+}
+
+/// For a term of an empty bucket a number is guessed that was not given.
+#[test]
+fn terms_alone_in_their_buckets_are_guessed(rt: HostRuntime) -> Result<(), Refusal> {
+    let terms = alone_in_buckets(rt.alloc(), 11, 2 * GUESSED_TOGETHER)?;
+    let mut dict = Dict::new(rt.alloc(), 11, u32::MAX)?;
+    let are_right = are_guessed(&mut dict, &terms);
+    drop(dict);
+    drop(terms);
+    assert!(&rt; are_right?);
     Ok(())
 }
 
-/// Gives a term its number twice, and reads its text back.
-fn give(rt: &impl Abort, dict: &mut Dict, term: &TermText, wanted: u32) -> Result<(), Refusal> {
+/// Whether a term gets this number twice, and its text can be read back.
+fn is_given(dict: &mut Dict, term: &TermText, wanted: u32) -> Result<bool, Refusal> {
     let id = dict.intern(term)?;
-    assert_eq!(rt; id.number, wanted);
-    assert!(rt; dict.intern(term)? == id);
-    assert!(rt; dict.has(id) && dict.text(id) == term.as_bytes());
-    Ok(())
+    let again = dict.intern(term)?;
+    Ok(id.number == wanted && again == id && dict.has(id) && dict.text(id) == term.as_bytes())
+}
+
+/// Whether the IRI of a text gets this number, and its literal the next one.
+fn are_both_given(
+    alloc: Global,
+    dict: &mut Dict,
+    text: &str,
+    wanted: u32,
+) -> Result<bool, Refusal> {
+    let iri = TermText::iri(alloc, text)?;
+    let is_iri = is_given(dict, &iri, wanted);
+    drop(iri);
+    let literal = TermText::literal(alloc, text, None, None)?;
+    let is_literal = is_given(dict, &literal, wanted.saturating_add(1));
+    drop(literal);
+    Ok(is_iri? && is_literal?)
+}
+
+/// Texts that differ in one byte.
+const NEAR: [&str; 5] = [
+    "e:long/a",
+    "e:long/b",
+    "e:long/\u{E9}",
+    "e:long/\u{E8}",
+    "e:long/",
+];
+
+/// The first of these texts whose terms do not get the numbers 0 and 1, 2 and 3, and so on.
+fn wrong_text(alloc: Global, dict: &mut Dict) -> Result<Option<&'static str>, Refusal> {
+    let mut wanted = 0u32;
+    for text in &NEAR {
+        if !are_both_given(alloc, dict, text, wanted)? {
+            return Ok(Some(text));
+        }
+        wanted = wanted.saturating_add(2);
+    }
+    Ok(None)
+}
+
+/// Whether a blank node gets this number.
+fn is_given_blank(
+    alloc: Global,
+    dict: &mut Dict,
+    request: u64,
+    label: u64,
+    wanted: u32,
+) -> Result<bool, Refusal> {
+    let blank = TermText::blank(alloc, request, label)?;
+    let is_right = is_given(dict, &blank, wanted);
+    drop(blank);
+    is_right
+}
+
+/// Whether all these terms get numbers of their own, and two blank nodes after them.
+fn are_given(alloc: Global, dict: &mut Dict) -> Result<bool, Refusal> {
+    Ok(
+        wrong_text(alloc, dict)? == None
+            && is_given_blank(alloc, dict, 1, 20, 10)?
+            && is_given_blank(alloc, dict, 12, 0, 11)?,
+    )
 }
 
 #[test]
 fn terms_that_differ_in_one_byte_have_two_numbers(rt: HostRuntime) -> Result<(), Refusal> {
-    let alloc = rt.alloc();
-    let mut dict = Dict::new(alloc, 3, u32::MAX)?;
-    let mut wanted = 0u32;
-    for text in [
-        "e:long/a",
-        "e:long/b",
-        "e:long/\u{E9}",
-        "e:long/\u{E8}",
-        "e:long/",
-    ] {
-        let iri = TermText::iri(alloc, text)?;
-        give(&rt, &mut dict, &iri, wanted)?;
-        let literal = TermText::literal(alloc, text, None, None)?;
-        give(&rt, &mut dict, &literal, wanted.saturating_add(1))?;
-        wanted = wanted.saturating_add(2);
+    let mut dict = Dict::new(rt.alloc(), 3, u32::MAX)?;
+    let are_right = are_given(rt.alloc(), &mut dict);
+    drop(dict);
+    assert!(&rt; are_right?);
+    Ok(())
+}
+
+/// The number that what was drawn is given.
+fn given(alloc: Global, dict: &mut Dict, drawn: u64) -> Result<u32, Refusal> {
+    let drawn_term = term(alloc, drawn)?;
+    let id = dict.intern(&drawn_term);
+    drop(drawn_term);
+    Ok(id?.number)
+}
+
+/// Whether a term is refused for memory, and has no number then.
+fn is_refused(alloc: Global, dict: &mut Dict, drawn: u64) -> Result<bool, Refusal> {
+    let next = term(alloc, drawn)?;
+    let is_right = dict.intern(&next) == Err(Refusal::NoMemory) && dict.find(&next) == None;
+    drop(next);
+    Ok(is_right)
+}
+
+/// Whether a dictionary of three numbers refuses a fourth term, and knows the third.
+fn ends_at_three(alloc: Global, dict: &mut Dict) -> Result<bool, Refusal> {
+    for drawn in 0..3u64 {
+        given(alloc, dict, drawn)?;
     }
-    give(&rt, &mut dict, &TermText::blank(alloc, 1, 20)?, 10)?;
-    give(&rt, &mut dict, &TermText::blank(alloc, 12, 0)?, 11)
+    Ok(is_refused(alloc, dict, 3)? && dict.len() == 3 && given(alloc, dict, 2)? == 2)
 }
 
 #[test]
 fn past_the_last_number_memory_is_wanted(rt: HostRuntime) -> Result<(), Refusal> {
-    let alloc = rt.alloc();
-    let mut dict = Dict::new(alloc, 1, 2)?;
-    for drawn in 0..3u64 {
-        dict.intern(&term(alloc, drawn)?)?;
-    }
-    let next = term(alloc, 3)?;
-    assert!(&rt; dict.intern(&next) == Err(Refusal::NoMemory));
-    assert!(&rt; dict.find(&next) == None);
-    assert_eq!(&rt; dict.len(), 3);
-    let known = dict.intern(&term(alloc, 2)?)?;
-    assert_eq!(&rt; known.number, 2);
+    let mut dict = Dict::new(rt.alloc(), 1, 2)?;
+    let is_right = ends_at_three(rt.alloc(), &mut dict);
+    drop(dict);
+    assert!(&rt; is_right?);
     Ok(())
 }

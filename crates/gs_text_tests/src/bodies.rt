@@ -25,7 +25,9 @@ pub fn read(
     match language {
         Language::NTriples => {
             let mut reader = NTriplesReader::new(alloc, 1);
-            feed(&mut reader, text, size, triples)
+            let fed = feed(&mut reader, text, size, triples);
+            drop(reader);
+            fed
         }
         Language::Turtle => {
             let base = "http://e/";
@@ -33,7 +35,9 @@ pub fn read(
                 return Err(Refusal::Syntax(0));
             }
             let mut reader = TurtleReader::new(alloc, 1, base)?;
-            feed(&mut reader, text, size, triples)
+            let fed = feed(&mut reader, text, size, triples);
+            drop(reader);
+            fed
         }
     }
 }
@@ -46,6 +50,9 @@ pub fn lines_as_read(
     size: usize,
 ) -> Result<Vec<u8>, Refusal> {
     let mut triples = Vec::new(alloc);
-    read(alloc, language, text, size, &mut triples)?;
-    lines_of(alloc, triples.as_slice())
+    let read = read(alloc, language, text, size, &mut triples);
+    let lines = lines_of(alloc, triples.as_slice());
+    drop(triples);
+    read?;
+    lines
 }

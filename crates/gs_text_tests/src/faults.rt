@@ -120,7 +120,9 @@ const UNFINISHED: [Row; 6] = [
 fn has_fault(alloc: Global, language: Language, row: &Row, size: usize, is_counted: bool) -> bool {
     let mut triples = Vec::new(alloc);
     let reported = read(alloc, language, row.1, size, &mut triples);
-    reported == Err(Refusal::Syntax(row.3)) && (!is_counted || triples.len() == row.2)
+    let count = triples.len();
+    drop(triples);
+    reported == Err(Refusal::Syntax(row.3)) && (!is_counted || count == row.2)
 }
 
 /// The first text that does not have its fault in both languages, in pieces of this length.
@@ -135,30 +137,45 @@ fn wrong_row(alloc: Global, rows: &[Row], size: usize, is_counted: bool) -> Opti
     None
 }
 
+/// The first text that does not have its fault in pieces of each of these lengths.
+fn wrong_row_in(
+    alloc: Global,
+    rows: &[Row],
+    sizes: &[usize],
+    is_counted: bool,
+) -> Option<&'static str> {
+    for size in sizes {
+        if let Some(name) = wrong_row(alloc, rows, *size, is_counted) {
+            return Some(name);
+        }
+    }
+    None
+}
+
 /// The refused call gives nothing; byte by byte each statement before the fault is given.
 #[test]
 fn a_fault_is_reported_with_its_place(rt: HostRuntime) {
     assert_eq!(rt; wrong_row(rt.alloc(), &FAULTS, 1, true), None);
-    assert_eq!(rt; wrong_row(rt.alloc(), &FAULTS, 2, false), None);
-    assert_eq!(rt; wrong_row(rt.alloc(), &FAULTS, 3, false), None);
-    assert_eq!(rt; wrong_row(rt.alloc(), &FAULTS, usize::MAX, false), None);
+    let sizes = [2, 3, usize::MAX];
+    assert_eq!(rt; wrong_row_in(rt.alloc(), &FAULTS, &sizes, false), None);
 }
 
 /// Each statement is given before the end, however the text is cut, and also where a piece ends
 /// within a character.
 #[test]
 fn a_text_that_ends_too_early_gives_its_statements(rt: HostRuntime) {
-    for size in &SIZES {
-        assert_eq!(rt; wrong_row(rt.alloc(), &UNFINISHED, *size, true), None);
-    }
+    assert_eq!(rt; wrong_row_in(rt.alloc(), &UNFINISHED, &SIZES, true), None);
 }
 
 /// How many triples the text up to the place of the fault has, as a document in a language.
 fn triples_before(alloc: Global, language: Language, row: &Row) -> Result<usize, Fail> {
     let front = row.1.get(..usize::try_from(row.3)?).unwrap_or_default();
     let mut triples = Vec::new(alloc);
-    read(alloc, language, front, usize::MAX, &mut triples)?;
-    Ok(triples.len())
+    let read = read(alloc, language, front, usize::MAX, &mut triples);
+    let count = triples.len();
+    drop(triples);
+    read?;
+    Ok(count)
 }
 
 /// The first row of which that is no document of just its statements.

@@ -6,51 +6,46 @@ use gs_lex::{Lexer, Token, TokenKind};
 use gs_model::Refusal;
 use gs_ntread::NTriplesReader;
 use gs_term::Triple;
-use std::process::Abort;
 use std::test::Fail;
 
-/// Feeds a piece. Where memory is refused, nothing has changed, so the same piece may be fed again.
-fn feed_again(
-    rt: &impl Abort,
-    lexer: &mut Lexer,
-    piece: &str,
-    tokens: &mut Vec<Token>,
-) -> Result<(), Refusal> {
+/// Feeds a piece, and again where memory is refused. Whether nothing had changed then.
+fn feed_again(lexer: &mut Lexer, piece: &str, tokens: &mut Vec<Token>) -> Result<bool, Refusal> {
     let before = tokens.len();
     let fed = lexer.feed(piece.as_bytes(), tokens);
     if fed != Err(Refusal::NoMemory) {
-        return fed;
+        fed?;
+        return Ok(true);
     }
-    assert_eq!(rt; tokens.len(), before);
-    lexer.feed(piece.as_bytes(), tokens)
+    let is_same = tokens.len() == before;
+    lexer.feed(piece.as_bytes(), tokens)?;
+    Ok(is_same)
 }
 
 /// Ends the text; the same holds.
-fn finish_again(
-    rt: &impl Abort,
-    lexer: &mut Lexer,
-    tokens: &mut Vec<Token>,
-) -> Result<(), Refusal> {
+fn finish_again(lexer: &mut Lexer, tokens: &mut Vec<Token>) -> Result<bool, Refusal> {
     let before = tokens.len();
     let ended = lexer.finish(tokens);
     if ended != Err(Refusal::NoMemory) {
-        return ended;
+        ended?;
+        return Ok(true);
     }
-    assert_eq!(rt; tokens.len(), before);
-    lexer.finish(tokens)
+    let is_same = tokens.len() == before;
+    lexer.finish(tokens)?;
+    Ok(is_same)
 }
 
 /// Feeds pieces and ends the text.
 fn read_again(
-    rt: &impl Abort,
     lexer: &mut Lexer,
     pieces: &[&str],
     tokens: &mut Vec<Token>,
-) -> Result<(), Refusal> {
+) -> Result<bool, Refusal> {
     for piece in pieces {
-        feed_again(rt, lexer, piece, tokens)?;
+        if !feed_again(lexer, piece, tokens)? {
+            return Ok(false);
+        }
     }
-    finish_again(rt, lexer, tokens)
+    finish_again(lexer, tokens)
 }
 
 /// The kinds of the tokens of the pieces below.
@@ -82,71 +77,97 @@ fn a_refused_piece_of_tokens_changes_nothing(rt: HostRuntime) -> Result<(), Fail
     let mut lexer = Lexer::new(rt.alloc(), false);
     let mut tokens = Vec::new(rt.alloc());
     let pieces = ["<http://e/a> ex:a.", "b \"x\\u00", "e9\"@en . a.a.a"];
-    read_again(&rt, &mut lexer, &pieces, &mut tokens)?;
-    assert!(rt; have_kinds(tokens.as_slice(), &KINDS));
+    let is_read = read_again(&mut lexer, &pieces, &mut tokens);
+    let are_right = have_kinds(tokens.as_slice(), &KINDS);
+    drop(tokens);
+    drop(lexer);
+    assert!(rt; is_read? && are_right);
     Ok(())
 }
 
-#[test]
-fn a_refused_reference_leaves_the_string(rt: HostRuntime) -> Result<(), Fail> {
-    let alloc = rt.alloc();
-    let mut text = String::new(alloc);
+/// Writes a text into a string, and a reference after it. Whether a refused reference leaves the string
+/// as it was.
+fn resolve_again(text: &mut String) -> Result<bool, Refusal> {
     if text.push_str("before ").is_err() {
         text.push_str("before ")?;
     }
     let base = "http://a/b/c/d;p?q";
     let reference = "../g;x=1/../a-longer-segment-than-any-room/./y#z";
-    if resolve(base, reference, &mut text) == Err(Refusal::NoMemory) {
-        assert_eq!(rt; text.as_str(), "before ");
-        resolve(base, reference, &mut text)?;
+    let resolved = resolve(base, reference, text);
+    if resolved != Err(Refusal::NoMemory) {
+        resolved?;
+        return Ok(true);
     }
+    let is_same = text.as_str() == "before ";
+    resolve(base, reference, text)?;
+    Ok(is_same)
+}
+
+#[test]
+fn a_refused_reference_leaves_the_string(rt: HostRuntime) -> Result<(), Fail> {
+    let mut text = String::new(rt.alloc());
+    assert!(rt; resolve_again(&mut text)?);
     let wanted = "before http://a/b/a-longer-segment-than-any-room/y#z";
     assert_eq!(rt; text.as_str(), wanted);
     Ok(())
 }
 
-/// A refused call has left the list as it was, and closed the reader.
-fn expect_closed(
-    rt: &impl Abort,
-    reader: &mut NTriplesReader,
-    triples: &mut Vec<Triple>,
-    before: usize,
-) {
-    assert_eq!(rt; triples.len(), before);
-    assert_eq!(rt; reader.feed(b"", triples), Err(Refusal::Closed));
-    assert_eq!(rt; reader.finish(triples), Err(Refusal::Closed));
+/// Whether a refused call has left the list as it was, and closed the reader.
+fn is_closed(reader: &mut NTriplesReader, triples: &mut Vec<Triple>, before: usize) -> bool {
+    triples.len() == before
+        && reader.feed(b"", triples) == Err(Refusal::Closed)
+        && reader.finish(triples) == Err(Refusal::Closed)
 }
 
-/// Feeds pieces up to the first one that is refused, and reports whether none was.
+/// Feeds a piece: whether it is read. `None` says that it was refused otherwise than for memory, or did
+/// not leave the list as it was and close the reader.
+fn feed(reader: &mut NTriplesReader, piece: &str, triples: &mut Vec<Triple>) -> Option<bool> {
+    let before = triples.len();
+    match reader.feed(piece.as_bytes(), triples) {
+        Ok(()) => Some(true),
+        Err(Refusal::NoMemory) if is_closed(reader, triples, before) => Some(false),
+        Err(_) => None,
+    }
+}
+
+/// Feeds pieces up to the first one that is refused, and says the same of all.
 fn feed_all(
-    rt: &impl Abort,
     reader: &mut NTriplesReader,
     pieces: &[&str],
     triples: &mut Vec<Triple>,
-) -> bool {
+) -> Option<bool> {
     for piece in pieces {
-        let before = triples.len();
-        if let Err(refusal) = reader.feed(piece.as_bytes(), triples) {
-            assert_eq!(rt; refusal, Refusal::NoMemory);
-            expect_closed(rt, reader, triples, before);
-            return false;
+        if !feed(reader, piece, triples)? {
+            return Some(false);
         }
     }
-    true
+    Some(true)
+}
+
+/// Whether three triples are read, or a piece is refused as it must be.
+fn is_right(reader: &mut NTriplesReader, triples: &mut Vec<Triple>) -> Result<bool, Refusal> {
+    let pieces = [
+        "_:a <a:b> <a:",
+        "c> .\n<a:b> <a:b> \"x\"@EN",
+        " .\n_:b <a:b> _:a .\n",
+    ];
+    match feed_all(reader, &pieces, triples) {
+        Some(true) => {
+            reader.finish(triples)?;
+            Ok(triples.len() == 3)
+        }
+        Some(false) => Ok(true),
+        None => Ok(false),
+    }
 }
 
 #[test]
 fn a_refused_feed_leaves_the_list_and_closes_the_reader(rt: HostRuntime) -> Result<(), Fail> {
     let mut reader = NTriplesReader::new(rt.alloc(), 1);
     let mut triples = Vec::new(rt.alloc());
-    let pieces = [
-        "_:a <a:b> <a:",
-        "c> .\n<a:b> <a:b> \"x\"@EN",
-        " .\n_:b <a:b> _:a .\n",
-    ];
-    if feed_all(&rt, &mut reader, &pieces, &mut triples) {
-        reader.finish(&mut triples)?;
-        assert_eq!(rt; triples.len(), 3);
-    }
+    let is_right = is_right(&mut reader, &mut triples);
+    drop(triples);
+    drop(reader);
+    assert!(rt; is_right?);
     Ok(())
 }

@@ -4,8 +4,6 @@ ghost use Rattle.std.specs.Prelude.{◌<◌};
 use gs_lex::{Advance, Lexer, Next, PieceLexer, TextLexer, Token, TokenKind};
 use gs_model::Refusal;
 use std::alloc::Global;
-use std::process::Abort;
-use std::test::Fail;
 
 /// Feeds a text in pieces of so many bytes, and ends it.
 fn cut(lexer: &mut Lexer, text: &[u8], size: usize, tokens: &mut Vec<Token>) -> Result<(), Refusal>
@@ -26,18 +24,27 @@ fn write_name(alloc: Global, names: &mut String, kind: TokenKind) -> Result<(), 
     Ok(())
 }
 
-/// The kinds of a text's tokens, by name, with a space between two.
+/// The kinds of tokens, by name, with a space between two.
+fn names_of(alloc: Global, tokens: &[Token]) -> Result<String, Refusal> {
+    let mut names = String::new(alloc);
+    for token in tokens {
+        write_name(alloc, &mut names, token.kind)?;
+    }
+    Ok(names)
+}
+
+/// The kinds of a text's tokens.
 fn kinds_of(alloc: Global, updates: bool, text: &[u8], size: usize) -> Result<String, Refusal>
     requires { 0 < size }
 {
     let mut lexer = Lexer::new(alloc, updates);
     let mut tokens = Vec::new(alloc);
-    cut(&mut lexer, text, size, &mut tokens)?;
-    let mut names = String::new(alloc);
-    for token in &tokens {
-        write_name(alloc, &mut names, token.kind)?;
-    }
-    Ok(names)
+    let read = cut(&mut lexer, text, size, &mut tokens);
+    drop(lexer);
+    let names = names_of(alloc, tokens.as_slice());
+    drop(tokens);
+    read?;
+    names
 }
 
 /// Writes the names of the tokens that a lexer has for now, or to the end of the text.
@@ -59,6 +66,23 @@ fn write_names(
     Ok(())
 }
 
+/// Writes the names of all tokens of a text, which a lexer reads in pieces of so many bytes.
+fn write_all(
+    alloc: Global,
+    lexer: &mut PieceLexer,
+    text: &[u8],
+    size: usize,
+    names: &mut String,
+) -> Result<(), Refusal>
+    requires { 0 < size }
+{
+    for piece in text.chunks(size) {
+        lexer.hold(piece)?;
+        write_names(alloc, lexer, false, text.len(), names)?;
+    }
+    write_names(alloc, lexer, true, text.len(), names)
+}
+
 /// The same, token by token.
 fn kinds_one_by_one(
     alloc: Global,
@@ -70,11 +94,9 @@ fn kinds_one_by_one(
 {
     let mut lexer = PieceLexer::new(alloc, updates);
     let mut names = String::new(alloc);
-    for piece in text.chunks(size) {
-        lexer.hold(piece)?;
-        write_names(alloc, &mut lexer, false, text.len(), &mut names)?;
-    }
-    write_names(alloc, &mut lexer, true, text.len(), &mut names)?;
+    let written = write_all(alloc, &mut lexer, text, size, &mut names);
+    drop(lexer);
+    written?;
     Ok(names)
 }
 
@@ -93,71 +115,56 @@ fn kinds_of_whole(alloc: Global, updates: bool, text: &[u8]) -> Result<String, R
     Ok(names)
 }
 
-/// Asserts that a text in pieces of so many bytes has these tokens.
-fn expect_in(
-    rt: &impl Abort,
+/// Whether a text in pieces of so many bytes has these tokens.
+fn has_in(
     alloc: Global,
     updates: bool,
     text: &str,
     size: usize,
     want: &str,
-) -> Result<(), Fail>
+) -> Result<bool, Refusal>
     requires { 0 < size }
 {
     let kinds = kinds_of(alloc, updates, text.as_bytes(), size)?;
-    assert_eq!(rt; kinds.as_str(), want, "at {text}");
+    let are_right = kinds.as_str() == want;
+    drop(kinds);
     let kinds = kinds_one_by_one(alloc, updates, text.as_bytes(), size)?;
-    assert_eq!(rt; kinds.as_str(), want, "at {text}");
-    Ok(())
+    Ok(are_right && kinds.as_str() == want)
 }
 
-/// Asserts that a text has these tokens, whole and in pieces of 1, 2, 3 and 1000 bytes.
-pub fn expect(
-    rt: &impl Abort,
-    alloc: Global,
-    updates: bool,
-    text: &str,
-    want: &str,
-) -> Result<(), Fail> {
+/// Whether a text has these tokens, whole and in pieces of 1, 2, 3 and 1000 bytes.
+pub fn has_tokens(alloc: Global, updates: bool, text: &str, want: &str) -> Result<bool, Refusal> {
     let kinds = kinds_of_whole(alloc, updates, text.as_bytes())?;
-    assert_eq!(rt; kinds.as_str(), want, "at {text}");
-    expect_in(rt, alloc, updates, text, 1000, want)?;
-    expect_in(rt, alloc, updates, text, 1, want)?;
-    expect_in(rt, alloc, updates, text, 2, want)?;
-    expect_in(rt, alloc, updates, text, 3, want)
+    let are_right = kinds.as_str() == want;
+    drop(kinds);
+    Ok(
+        are_right
+            && has_in(alloc, updates, text, 1000, want)?
+            && has_in(alloc, updates, text, 1, want)?
+            && has_in(alloc, updates, text, 2, want)?
+            && has_in(alloc, updates, text, 3, want)?,
+    )
 }
 
-/// Asserts that a text of Turtle in pieces of so many bytes has a fault after so many bytes.
-fn refuse_in(
-    rt: &impl Abort,
-    alloc: Global,
-    name: &str,
-    text: &[u8],
-    size: usize,
-    at: u64,
-) -> Result<(), Fail>
+/// Whether a reading has a fault after so many bytes.
+fn is_fault(kinds: Result<String, Refusal>, at: u64) -> bool {
+    kinds.err() == Some(Refusal::Syntax(at))
+}
+
+/// Whether a text of Turtle in pieces of so many bytes has a fault after so many bytes.
+fn has_fault_in(alloc: Global, text: &[u8], size: usize, at: u64) -> bool
     requires { 0 < size }
 {
-    let refusal = kinds_of(alloc, false, text, size).err();
-    assert_eq!(rt; refusal, Some(Refusal::Syntax(at)), "at {name}");
-    let refusal = kinds_one_by_one(alloc, false, text, size).err();
-    assert_eq!(rt; refusal, Some(Refusal::Syntax(at)), "at {name}");
-    Ok(())
+    is_fault(kinds_of(alloc, false, text, size), at)
+        && is_fault(kinds_one_by_one(alloc, false, text, size), at)
 }
 
-/// Asserts that a text of Turtle has a fault after so many bytes, whole and in pieces of 1, 2, 3
-/// and 1000 bytes.
-pub fn refuse(
-    rt: &impl Abort,
-    alloc: Global,
-    name: &str,
-    text: &[u8],
-    at: u64,
-) -> Result<(), Fail> {
-    let refusal = kinds_of_whole(alloc, false, text).err();
-    assert_eq!(rt; refusal, Some(Refusal::Syntax(at)), "at {name}");
-    refuse_in(rt, alloc, name, text, 1000, at)?;
-    refuse_in(rt, alloc, name, text, 1, at)?;
-    refuse_in(rt, alloc, name, text, 2, at)?;
-    refuse_in(rt, alloc, name, text, 3, at)
+/// Whether a text of Turtle has a fault after so many bytes, whole and in pieces of 1, 2, 3 and 1000
+/// bytes.
+pub fn has_fault(alloc: Global, text: &[u8], at: u64) -> bool {
+    is_fault(kinds_of_whole(alloc, false, text), at)
+        && has_fault_in(alloc, text, 1000, at)
+        && has_fault_in(alloc, text, 1, at)
+        && has_fault_in(alloc, text, 2, at)
+        && has_fault_in(alloc, text, 3, at)
 }

@@ -1,7 +1,7 @@
 //! Each terminal of Turtle and of updates, alone and with a dot after it, in pieces of any size.
-use crate::readings::expect;
+use crate::readings::has_tokens;
+use gs_model::Refusal;
 use std::alloc::Global;
-use std::process::Abort;
 use std::test::Fail;
 
 /// Each terminal of both languages in its forms: a token's kind, a space, and its text. An escape is
@@ -103,46 +103,68 @@ Copy COPY
 With WITH
 "##;
 
-/// How many rows the tables have.
-const ROWS: (usize, usize) = (70, 19);
+/// The tables, each with whether its rows are texts of updates, and how many it has. The common rows are
+/// texts of Turtle and of updates.
+const TABLES: [(bool, &str, usize); 3] = [
+    (false, TERMINALS, 70),
+    (true, TERMINALS, 70),
+    (true, OF_UPDATES, 19),
+];
 
-/// Asserts that the text of each row, with this after it, has the row's token and these.
-fn expect_rows(
-    rt: &impl Abort,
+/// Whether the text of a row, with this after it, has the row's token and these.
+fn is_so(
     alloc: Global,
     updates: bool,
-    table: &str,
+    row: (&str, &str),
     after: &str,
     kinds: &str,
-) -> Result<usize, Fail> {
+) -> Result<bool, Refusal> {
+    let (kind, text) = row;
+    let text = format!(in alloc; "{text}{after}")?;
+    let wanted = format!(in alloc; "{kind}{kinds}")?;
+    has_tokens(alloc, updates, text.as_str(), wanted.as_str())
+}
+
+/// The first row that is wrong, and else how many there are.
+fn count_right(
+    alloc: Global,
+    updates: bool,
+    table: &'static str,
+    after: &str,
+    kinds: &str,
+) -> Result<Result<usize, &'static str>, Refusal> {
     let mut count = 0usize;
-    for row in table.split('\n') {
-        if let Some((kind, text)) = row.split_once(' ') {
-            let text = format!(in alloc; "{text}{after}")?;
-            let wanted = format!(in alloc; "{kind}{kinds}")?;
-            expect(rt, alloc, updates, text.as_str(), wanted.as_str())?;
+    for line in table.split('\n') {
+        if let Some(row) = line.split_once(' ') {
+            if !is_so(alloc, updates, row, after, kinds)? {
+                return Ok(Err(line));
+            }
             count = count.saturating_add(1);
         }
     }
-    Ok(count)
+    Ok(Ok(count))
 }
 
-/// Asserts the same of all rows, as texts of updates, and of the common ones as texts of Turtle.
-fn expect_all(rt: &impl Abort, alloc: Global, after: &str, kinds: &str) -> Result<(), Fail> {
-    let turtle = expect_rows(rt, alloc, false, TERMINALS, after, kinds)?;
-    let both = expect_rows(rt, alloc, true, TERMINALS, after, kinds)?;
-    let updates = expect_rows(rt, alloc, true, OF_UPDATES, after, kinds)?;
-    assert_eq!(rt; (turtle, both), (ROWS.0, ROWS.0));
-    assert_eq!(rt; updates, ROWS.1);
-    Ok(())
+/// The first row of the tables that is wrong, or what is said where a table has not all its rows.
+fn wrong_row(alloc: Global, after: &str, kinds: &str) -> Result<Option<&'static str>, Refusal> {
+    for (updates, table, rows) in &TABLES {
+        match count_right(alloc, *updates, table, after, kinds)? {
+            Err(row) => return Ok(Some(row)),
+            Ok(count) if count == *rows => {}
+            Ok(_) => return Ok(Some("a table without all its rows")),
+        }
+    }
+    Ok(None)
 }
 
 #[test]
 fn each_terminal_ends_at_the_end_of_the_text(rt: HostRuntime) -> Result<(), Fail> {
-    expect_all(&rt, rt.alloc(), "", "")
+    assert_eq!(rt; wrong_row(rt.alloc(), "", "")?, None);
+    Ok(())
 }
 
 #[test]
 fn each_terminal_ends_before_a_dot(rt: HostRuntime) -> Result<(), Fail> {
-    expect_all(&rt, rt.alloc(), ".", " Dot")
+    assert_eq!(rt; wrong_row(rt.alloc(), ".", " Dot")?, None);
+    Ok(())
 }

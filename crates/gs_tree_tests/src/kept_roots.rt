@@ -4,7 +4,6 @@ use crate::number_sets::{NumberSet, key};
 use gs_model::Refusal;
 use gs_pool::{Key, Node};
 use std::alloc::Global;
-use std::process::Abort;
 
 /// All numbers are below this one.
 const NUMBERS: u32 = 600;
@@ -19,34 +18,47 @@ struct Kept {
     numbers: Vec<u32>,
 }
 
-/// The numbers of a root's tree, from left to right, as the nodes have them now.
-fn numbers_of(
-    rt: &impl Abort,
-    alloc: Global,
+/// Adds the numbers of a root's tree to a list, from left to right, as the nodes have them now. Whether
+/// the walk ends, and has come to no node that is not there.
+fn walk(
     set: &NumberSet,
     root: Option<u32>,
-) -> Result<Vec<u32>, Refusal> {
-    let mut numbers: Vec<u32> = Vec::new(alloc);
-    let mut above: Vec<Node> = Vec::new(alloc);
+    above: &mut Vec<Node>,
+    numbers: &mut Vec<u32>,
+) -> Result<bool, Refusal> {
     let mut at = root;
     for _ in 0..STEPS {
         if let Some(id) = at {
-            let node = set.node(id);
-            assert!(rt; node.is_some());
-            if let Some(node) = node {
-                at = node.left;
-                above.push(node)?;
-            }
+            let Some(node) = set.node(id) else {
+                return Ok(false);
+            };
+            at = node.left;
+            above.push(node)?;
         } else if let Some(node) = above.pop() {
             numbers.push(node.key.object)?;
             at = node.right;
         } else {
-            return Ok(numbers);
+            return Ok(true);
         }
     }
     // The walk goes round and round.
-    assert!(rt; false);
-    Ok(numbers)
+    Ok(false)
+}
+
+/// Whether a root's tree has just these numbers.
+fn has_numbers(
+    alloc: Global,
+    set: &NumberSet,
+    root: Option<u32>,
+    wanted: &[u32],
+) -> Result<bool, Refusal> {
+    let mut above: Vec<Node> = Vec::new(alloc);
+    let mut numbers: Vec<u32> = Vec::new(alloc);
+    let ends = walk(set, root, &mut above, &mut numbers);
+    let is_same = numbers.as_slice() == wanted;
+    drop(numbers);
+    drop(above);
+    Ok(ends? && is_same)
 }
 
 /// Keeps the root of a set, with the sorted list beside it.
@@ -57,21 +69,14 @@ fn keep(set: &NumberSet, list: &[u32], kept: &mut Vec<Kept>, alloc: Global) -> R
     Ok(())
 }
 
-/// Each root that was kept has the numbers that it had then, and the last root those of the list.
-fn look(
-    rt: &impl Abort,
-    alloc: Global,
-    set: &NumberSet,
-    list: &[u32],
-    kept: &[Kept],
-) -> Result<(), Refusal> {
+/// Whether each root that was kept has the numbers that it had then, and the last root those of the list.
+fn are_kept(alloc: Global, set: &NumberSet, list: &[u32], kept: &[Kept]) -> Result<bool, Refusal> {
     for it in kept {
-        let numbers = numbers_of(rt, alloc, set, it.root)?;
-        assert!(rt; numbers.as_slice() == it.numbers.as_slice());
+        if !has_numbers(alloc, set, it.root, it.numbers.as_slice())? {
+            return Ok(false);
+        }
     }
-    let numbers = numbers_of(rt, alloc, set, set.root())?;
-    assert!(rt; numbers.as_slice() == list);
-    Ok(())
+    has_numbers(alloc, set, set.root(), list)
 }
 
 /// Where a number stands in a sorted list, or would.
@@ -106,16 +111,9 @@ fn list_remove(list: &mut Vec<u32>, number: u32) -> bool {
     true
 }
 
-/// A run of up to twelve numbers, at equal distances from the first on, goes into the set and the list.
-fn unite(
-    rt: &impl Abort,
-    alloc: Global,
-    set: &mut NumberSet,
-    list: &mut Vec<u32>,
-    draws: &mut Draws,
-    commit: u64,
-) -> Result<(), Refusal> {
-    let mut run: Vec<Key> = Vec::new(alloc);
+/// Puts up to twelve numbers, at equal distances from the first on, into a run and the list, and says how
+/// many of them the list lacked.
+fn fill(run: &mut Vec<Key>, list: &mut Vec<u32>, draws: &mut Draws) -> Result<usize, Refusal> {
     let mut lacked = 0usize;
     let mut number = (draws.next() % 600) as u32;
     let distance = (draws.next() % 40) as u32 + 1;
@@ -128,56 +126,97 @@ fn unite(
             number = number.saturating_add(distance);
         }
     }
-    assert!(rt; set.add_run(&run, commit)? == Some(lacked));
-    Ok(())
+    Ok(lacked)
 }
 
-/// One commit changes the set and the list alike: a number goes in, a number goes out, or a run goes in.
-fn change(
-    rt: &impl Abort,
+/// A run that is drawn goes into the set and the list. Whether the set lacked as many.
+fn unite(
     alloc: Global,
     set: &mut NumberSet,
     list: &mut Vec<u32>,
     draws: &mut Draws,
     commit: u64,
-) -> Result<(), Refusal> {
+) -> Result<bool, Refusal> {
+    let mut run: Vec<Key> = Vec::new(alloc);
+    let lacked = fill(&mut run, list, draws);
+    let added = set.add_run(&run, commit);
+    drop(run);
+    Ok(added? == Some(lacked?))
+}
+
+/// One commit changes the set and the list alike: a number goes in, a number goes out, or a run goes in.
+/// Whether the set answers as the list does.
+fn change(
+    alloc: Global,
+    set: &mut NumberSet,
+    list: &mut Vec<u32>,
+    draws: &mut Draws,
+    commit: u64,
+) -> Result<bool, Refusal> {
     let number = (draws.next() % 600) as u32;
     match draws.next() % 4 {
         0 => {
             let lacked = list_insert(list, number)?;
-            assert!(rt; set.insert(number, commit)? == lacked);
+            Ok(set.insert(number, commit)? == lacked)
         }
-        1 => unite(rt, alloc, set, list, draws, commit)?,
+        1 => unite(alloc, set, list, draws, commit),
         _ => {
             let had = list_remove(list, number);
-            assert!(rt; set.remove(number, commit)? == had);
+            Ok(set.remove(number, commit)? == had)
         }
     }
-    Ok(())
+}
+
+/// Whether 400 numbers go into the set as into the list.
+fn begin(set: &mut NumberSet, list: &mut Vec<u32>, draws: &mut Draws) -> Result<bool, Refusal> {
+    for _ in 0..400 {
+        let number = (draws.next() % 600) as u32;
+        let lacked = list_insert(list, number)?;
+        if set.insert(number, 1)? != lacked {
+            return Ok(false);
+        }
+    }
+    Ok(true)
+}
+
+/// The first of 200 steps after which something is not right, or their number where the set did not
+/// begin like the list, or too little was kept, or too much.
+fn wrong_step(
+    alloc: Global,
+    set: &mut NumberSet,
+    list: &mut Vec<u32>,
+    kept: &mut Vec<Kept>,
+) -> Result<Option<u64>, Refusal> {
+    let mut draws = Draws::new(7);
+    if !begin(set, list, &mut draws)? {
+        return Ok(Some(200));
+    }
+    for step in 0..200u64 {
+        if step % 10 == 0 {
+            keep(set, list, kept, alloc)?;
+        }
+        let commit = step.saturating_add(2);
+        if !change(alloc, set, list, &mut draws, commit)? || !are_kept(alloc, set, list, kept)? {
+            return Ok(Some(step));
+        }
+    }
+    let is_filled = list.len() > 200 && list.len() < 500 && set.nodes_in_use() > 1_000;
+    Ok(if kept.len() == 20 && is_filled {
+        None
+    } else {
+        Some(200)
+    })
 }
 
 #[test]
 fn a_kept_root_has_the_numbers_that_it_had(rt: HostRuntime) -> Result<(), Refusal> {
-    let alloc = rt.alloc();
-    let mut set = NumberSet::new(alloc);
-    let mut list: Vec<u32> = Vec::new(alloc);
-    let mut kept: Vec<Kept> = Vec::new(alloc);
-    let mut draws = Draws::new(7);
-    for _ in 0..400 {
-        let number = (draws.next() % 600) as u32;
-        let lacked = list_insert(&mut list, number)?;
-        assert!(&rt; set.insert(number, 1)? == lacked);
-    }
-    for step in 0..200u64 {
-        if step % 10 == 0 {
-            keep(&set, &list, &mut kept, alloc)?;
-        }
-        let commit = step.saturating_add(2);
-        change(&rt, alloc, &mut set, &mut list, &mut draws, commit)?;
-        look(&rt, alloc, &set, &list, &kept)?;
-    }
-    assert_eq!(&rt; kept.len(), 20);
-    assert!(&rt; list.len() > 200 && list.len() < 500);
-    assert!(&rt; set.nodes_in_use() > 1_000);
+    let mut set = NumberSet::new(rt.alloc());
+    let mut list: Vec<u32> = Vec::new(rt.alloc());
+    let mut kept: Vec<Kept> = Vec::new(rt.alloc());
+    let wrong = wrong_step(rt.alloc(), &mut set, &mut list, &mut kept);
+    drop(kept);
+    drop(list);
+    drop(set);
+    assert_eq!(&rt; wrong?, None);
     Ok(())
 }

@@ -3,7 +3,6 @@ use crate::number_sets::NumberSet;
 use gs_model::Refusal;
 use gs_pool::Key;
 use std::alloc::Global;
-use std::process::Abort;
 
 /// An order in which all numbers below a count are taken.
 #[derive(Clone, Copy)]
@@ -29,85 +28,120 @@ fn number_at(way: Way, place: u32, count: u32) -> u32 {
     }
 }
 
-/// Puts all numbers below a count into the set.
-fn fill(rt: &impl Abort, set: &mut NumberSet, way: Way, count: u32) -> Result<(), Refusal> {
-    for place in 0..count {
-        let number = number_at(way, place, count);
-        assert!(rt; !set.contains(number));
-        assert!(rt; set.insert(number, 0)?);
-        assert!(rt; !set.insert(number, 0)?);
-    }
-    assert_eq!(rt; set.count(), count as usize);
-    assert_eq!(rt; set.nodes_in_use(), u64::from(count));
-    Ok(())
+/// Whether a number goes into the set, and only once.
+fn goes_in(set: &mut NumberSet, number: u32) -> Result<bool, Refusal> {
+    let is_new = !set.contains(number);
+    Ok(is_new && set.insert(number, 0)? && !set.insert(number, 0)?)
 }
 
-/// The set gives all numbers below a count in order, by one walk and one after another.
-fn look(rt: &impl Abort, alloc: Global, set: &NumberSet, count: u32) -> Result<(), Refusal> {
-    let mut keys: Vec<Key> = Vec::new(alloc);
-    set.next_keys(None, count as usize, &mut keys)?;
-    assert_eq!(rt; keys.len(), count as usize);
+/// Whether all numbers below a count go into the set.
+fn is_filled(set: &mut NumberSet, way: Way, count: u32) -> Result<bool, Refusal> {
+    for place in 0..count {
+        if !goes_in(set, number_at(way, place, count))? {
+            return Ok(false);
+        }
+    }
+    Ok(set.count() == count as usize && set.nodes_in_use() == u64::from(count))
+}
+
+/// Whether the keys are all numbers below a count in order, and the set has each, and gives the next one
+/// after it.
+fn are_all(set: &NumberSet, keys: &[Key], count: u32) -> bool {
     let mut wanted = 0u32;
-    for found in &keys {
-        assert_eq!(rt; found.object, wanted);
+    for found in keys {
         let next = wanted.saturating_add(1);
-        assert!(rt; set.contains(wanted));
-        assert!(rt; set.after(wanted) == (if next < count { Some(next) } else { None }));
+        let after = if next < count { Some(next) } else { None };
+        if found.object != wanted || !set.contains(wanted) || set.after(wanted) != after {
+            return false;
+        }
         wanted = next;
     }
-    assert!(rt; !set.contains(count));
-    Ok(())
+    keys.len() == count as usize && !set.contains(count)
 }
 
-/// Takes all numbers below a count out of the set.
-fn empty(rt: &impl Abort, set: &mut NumberSet, way: Way, count: u32) -> Result<(), Refusal> {
+/// Whether the set gives all numbers below a count in order, by one walk and one after another.
+fn gives_all(alloc: Global, set: &NumberSet, count: u32) -> Result<bool, Refusal> {
+    let mut keys: Vec<Key> = Vec::new(alloc);
+    let walked = set.next_keys(None, count as usize, &mut keys);
+    let is_right = are_all(set, &keys, count);
+    drop(keys);
+    walked?;
+    Ok(is_right)
+}
+
+/// Whether a number goes out of the set, and only once.
+fn goes_out(set: &mut NumberSet, number: u32) -> Result<bool, Refusal> {
+    Ok(set.remove(number, 0)? && !set.remove(number, 0)?)
+}
+
+/// Whether all numbers below a count go out of the set.
+fn is_emptied(set: &mut NumberSet, way: Way, count: u32) -> Result<bool, Refusal> {
     for place in 0..count {
-        let number = number_at(way, place, count);
-        assert!(rt; set.remove(number, 0)?);
-        assert!(rt; !set.remove(number, 0)?);
+        if !goes_out(set, number_at(way, place, count))? {
+            return Ok(false);
+        }
     }
-    assert_eq!(rt; set.count(), 0);
-    assert_eq!(rt; set.nodes_in_use(), 0);
-    Ok(())
+    Ok(set.count() == 0 && set.nodes_in_use() == 0)
 }
 
-/// A set that is filled in one order and emptied in another.
-fn turn(
-    rt: &impl Abort,
+/// Whether a set is filled in one order and emptied in another.
+fn turns(
     alloc: Global,
+    set: &mut NumberSet,
     fills: Way,
     empties: Way,
     count: u32,
-) -> Result<(), Refusal> {
+) -> Result<bool, Refusal> {
+    Ok(
+        is_filled(set, fills, count)?
+            && gives_all(alloc, set, count)?
+            && is_emptied(set, empties, count)?,
+    )
+}
+
+/// The same of a new set.
+fn is_right(alloc: Global, fills: Way, empties: Way, count: u32) -> Result<bool, Refusal> {
     let mut set = NumberSet::new(alloc);
-    fill(rt, &mut set, fills, count)?;
-    look(rt, alloc, &set, count)?;
-    empty(rt, &mut set, empties, count)
+    let answer = turns(alloc, &mut set, fills, empties, count);
+    drop(set);
+    answer
 }
 
 #[test]
 fn the_empty_set_has_no_number(rt: HostRuntime) -> Result<(), Refusal> {
-    turn(&rt, rt.alloc(), Way::Rising, Way::Rising, 0)
+    assert!(&rt; is_right(rt.alloc(), Way::Rising, Way::Rising, 0)?);
+    Ok(())
+}
+
+/// Whether this is so of one number, and of two that rise and fall.
+fn are_right(alloc: Global) -> Result<bool, Refusal> {
+    Ok(
+        is_right(alloc, Way::Rising, Way::Rising, 1)?
+            && is_right(alloc, Way::Rising, Way::Rising, 2)?
+            && is_right(alloc, Way::Falling, Way::Rising, 2)?,
+    )
 }
 
 #[test]
 fn sets_of_one_and_of_two_numbers(rt: HostRuntime) -> Result<(), Refusal> {
-    turn(&rt, rt.alloc(), Way::Rising, Way::Rising, 1)?;
-    turn(&rt, rt.alloc(), Way::Rising, Way::Rising, 2)?;
-    turn(&rt, rt.alloc(), Way::Falling, Way::Rising, 2)
+    assert!(&rt; are_right(rt.alloc())?);
+    Ok(())
 }
 
 #[test]
 fn numbers_that_rise(rt: HostRuntime) -> Result<(), Refusal> {
-    turn(&rt, rt.alloc(), Way::Rising, Way::Zigzag, 65_536)
+    assert!(&rt; is_right(rt.alloc(), Way::Rising, Way::Zigzag, 65_536)?);
+    Ok(())
 }
 
 #[test]
 fn numbers_that_fall(rt: HostRuntime) -> Result<(), Refusal> {
-    turn(&rt, rt.alloc(), Way::Falling, Way::Rising, 65_536)
+    assert!(&rt; is_right(rt.alloc(), Way::Falling, Way::Rising, 65_536)?);
+    Ok(())
 }
 
 #[test]
 fn numbers_from_both_ends(rt: HostRuntime) -> Result<(), Refusal> {
-    turn(&rt, rt.alloc(), Way::Zigzag, Way::Falling, 65_536)
+    assert!(&rt; is_right(rt.alloc(), Way::Zigzag, Way::Falling, 65_536)?);
+    Ok(())
 }

@@ -9,21 +9,35 @@ use std::test::Fail;
 /// How many numbers come one by one.
 const NUMBERS: u32 = 120;
 
-/// Whether a set has this many nodes in use, and all numbers below a count and no other.
-fn is_filled(alloc: Global, set: &NumberSet, count: u32, used: u64) -> Result<bool, Refusal> {
-    let mut keys: Vec<Key> = Vec::new(alloc);
-    if set.next_keys(None, NUMBERS as usize, &mut keys).is_err() {
+/// The keys of a set, which are asked for once more where memory was refused; then there are none of them
+/// yet.
+fn read(set: &NumberSet, keys: &mut Vec<Key>) -> Result<bool, Refusal> {
+    if set.next_keys(None, NUMBERS as usize, keys).is_err() {
         if !keys.is_empty() {
             return Ok(false);
         }
-        set.next_keys(None, NUMBERS as usize, &mut keys)?;
+        set.next_keys(None, NUMBERS as usize, keys)?;
     }
+    Ok(true)
+}
+
+/// Whether these are the keys of all numbers below a count.
+fn are_below(keys: &[Key], count: u32) -> bool {
     for (wanted, found) in keys.iter().enumerate() {
         if found.object as usize != wanted {
-            return Ok(false);
+            return false;
         }
     }
-    Ok(keys.len() == count as usize && set.nodes_in_use() == used)
+    keys.len() == count as usize
+}
+
+/// Whether a set has this many nodes in use, and all numbers below a count and no other.
+fn is_filled(alloc: Global, set: &NumberSet, count: u32, used: u64) -> Result<bool, Refusal> {
+    let mut keys: Vec<Key> = Vec::new(alloc);
+    let is_read = read(set, &mut keys);
+    let is_right = are_below(&keys, count) && set.nodes_in_use() == used;
+    drop(keys);
+    Ok(is_read? && is_right)
 }
 
 /// Whether a number goes into a set, in a commit of its own, and a refusal leaves the set as it was.
@@ -70,45 +84,74 @@ fn first_not_removed(alloc: Global, set: &mut NumberSet) -> Result<Option<u32>, 
     Ok(None)
 }
 
+/// Whether all numbers go into the set.
+fn are_added(alloc: Global, set: &mut NumberSet) -> Result<bool, Refusal> {
+    Ok(first_not_added(alloc, set)? == None && set.count() == NUMBERS as usize)
+}
+
 #[test]
 fn a_refused_number_is_not_there(rt: HostRuntime) -> Result<(), Fail> {
     let mut set = NumberSet::new(rt.alloc());
-    assert_eq!(rt; first_not_added(rt.alloc(), &mut set)?, None);
-    assert!(rt; set.count() == NUMBERS as usize);
+    let are_there = are_added(rt.alloc(), &mut set);
+    drop(set);
+    assert!(rt; are_there?);
     Ok(())
+}
+
+/// Whether all numbers go into the set and out of it.
+fn are_added_and_removed(alloc: Global, set: &mut NumberSet) -> Result<bool, Refusal> {
+    Ok(
+        first_not_added(alloc, set)? == None
+            && first_not_removed(alloc, set)? == None
+            && set.count() == 0,
+    )
 }
 
 #[test]
 fn a_refused_removal_leaves_the_number(rt: HostRuntime) -> Result<(), Fail> {
     let mut set = NumberSet::new(rt.alloc());
-    assert_eq!(rt; first_not_added(rt.alloc(), &mut set)?, None);
-    assert_eq!(rt; first_not_removed(rt.alloc(), &mut set)?, None);
-    assert!(rt; set.count() == 0);
+    let are_gone = are_added_and_removed(rt.alloc(), &mut set);
+    drop(set);
+    assert!(rt; are_gone?);
     Ok(())
 }
 
-/// Whether a run of numbers goes into a set that has those below 40, and a refusal leaves it so.
-fn is_run_added(alloc: Global) -> Result<bool, Refusal> {
-    let mut set = NumberSet::new(alloc);
-    let mut run: Vec<Key> = Vec::new(alloc);
+/// Puts the numbers below 40 into a set, and all into a run.
+fn begin(set: &mut NumberSet, run: &mut Vec<Key>) -> Result<(), Refusal> {
     for number in 0..NUMBERS {
         if number < 40 {
             set.insert(number, 1)?;
         }
         run.push(key(number))?;
     }
+    Ok(())
+}
+
+/// Whether a run of numbers goes into a set that has those below 40, and a refusal leaves it so.
+fn is_run_added(alloc: Global, set: &mut NumberSet, run: &[Key]) -> Result<bool, Refusal> {
     let used = set.nodes_in_use();
-    let added = match set.add_run(&run, 2) {
+    let added = match set.add_run(run, 2) {
         Ok(added) => added,
-        Err(_) if is_filled(alloc, &set, 40, used)? => set.add_run(&run, 2)?,
+        Err(_) if is_filled(alloc, set, 40, used)? => set.add_run(run, 2)?,
         Err(refusal) => return Err(refusal),
     };
     let used = set.nodes_in_use();
-    Ok(added == Some(80) && is_filled(alloc, &set, NUMBERS, used)?)
+    Ok(added == Some(80) && is_filled(alloc, set, NUMBERS, used)?)
+}
+
+/// The same from the beginning.
+fn is_run_there(alloc: Global, set: &mut NumberSet, run: &mut Vec<Key>) -> Result<bool, Refusal> {
+    begin(set, run)?;
+    is_run_added(alloc, set, run)
 }
 
 #[test]
 fn a_refused_run_is_not_there(rt: HostRuntime) -> Result<(), Fail> {
-    assert!(rt; is_run_added(rt.alloc())?);
+    let mut set = NumberSet::new(rt.alloc());
+    let mut run: Vec<Key> = Vec::new(rt.alloc());
+    let is_there = is_run_there(rt.alloc(), &mut set, &mut run);
+    drop(run);
+    drop(set);
+    assert!(rt; is_there?);
     Ok(())
 }

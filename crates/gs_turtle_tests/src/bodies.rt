@@ -71,8 +71,12 @@ fn a_piece_longer_than_a_portion_is_read(rt: HostRuntime) -> Result<(), Fail> {
 fn given(alloc: Global, text: &[u8]) -> Result<usize, Refusal> {
     let mut reader = reader(alloc, "http://b/")?;
     let mut triples = Vec::new(alloc);
-    reader.feed(text, &mut triples)?;
-    Ok(triples.len())
+    let fed = reader.feed(text, &mut triples);
+    let count = triples.len();
+    drop(triples);
+    drop(reader);
+    fed?;
+    Ok(count)
 }
 
 #[test]

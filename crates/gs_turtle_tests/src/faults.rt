@@ -1,8 +1,10 @@
 //! Texts with a fault, and what a refused call leaves.
 use gs_body::BodyReader;
 use gs_model::Refusal;
+use gs_term::Triple;
 use gs_test_readings::SIZES;
 use gs_test_readings::turtle::{fault_of, reader};
+use gs_turtle::TurtleReader;
 use std::alloc::Global;
 use std::test::Fail;
 
@@ -33,18 +35,29 @@ fn wrong_fault(alloc: Global, size: usize) -> Option<&'static str> {
     None
 }
 
+/// The same in pieces of each length.
+fn wrong_in_pieces(alloc: Global) -> Option<&'static str> {
+    for size in &SIZES {
+        if let Some(text) = wrong_fault(alloc, *size) {
+            return Some(text);
+        }
+    }
+    None
+}
+
 #[test]
 fn the_first_fault_of_a_text_is_reported(rt: HostRuntime) {
-    for size in &SIZES {
-        assert_eq!(rt; wrong_fault(rt.alloc(), *size), None);
-    }
+    assert_eq!(rt; wrong_in_pieces(rt.alloc()), None);
 }
 
 /// Whether something that is no token is reported with its piece, before the text ends.
 fn is_told_at_once(alloc: Global) -> Result<bool, Refusal> {
     let mut reader = reader(alloc, "http://b/")?;
     let mut triples = Vec::new(alloc);
-    Ok(reader.feed(b"<b c>", &mut triples) == Err(Refusal::Syntax(0)))
+    let fed = reader.feed(b"<b c>", &mut triples);
+    drop(triples);
+    drop(reader);
+    Ok(fed == Err(Refusal::Syntax(0)))
 }
 
 #[test]
@@ -54,16 +67,24 @@ fn what_is_no_token_is_reported_with_its_piece(rt: HostRuntime) -> Result<(), Fa
 }
 
 /// Whether a fault in the second piece is reported, leaves the list, and closes the reader.
+fn leaves(reader: &mut TurtleReader, triples: &mut Vec<Triple>) -> Result<bool, Refusal> {
+    reader.feed(b"<s> <p> <o> .\n", triples)?;
+    let before = triples.len();
+    let fed = reader.feed(b"<s> <p> <n> . <s> .\n", triples);
+    let after = triples.len();
+    let ended = reader.finish(triples);
+    let is_reported = fed == Err(Refusal::Syntax(27)) && ended == Err(Refusal::Closed);
+    Ok(is_reported && before == 1 && after == 1 && triples.len() == 1)
+}
+
+/// The same of a new reader.
 fn fault_leaves(alloc: Global) -> Result<bool, Refusal> {
     let mut reader = reader(alloc, "http://b/")?;
     let mut triples = Vec::new(alloc);
-    reader.feed(b"<s> <p> <o> .\n", &mut triples)?;
-    let before = triples.len();
-    let fed = reader.feed(b"<s> <p> <n> . <s> .\n", &mut triples);
-    let after = triples.len();
-    let ended = reader.finish(&mut triples);
-    let is_reported = fed == Err(Refusal::Syntax(27)) && ended == Err(Refusal::Closed);
-    Ok(is_reported && before == 1 && after == 1 && triples.len() == 1)
+    let answer = leaves(&mut reader, &mut triples);
+    drop(triples);
+    drop(reader);
+    answer
 }
 
 #[test]

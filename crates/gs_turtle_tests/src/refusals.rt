@@ -62,14 +62,22 @@ fn ends(reader: &mut TurtleReader, triples: &mut Vec<Triple>) -> bool {
 }
 
 /// Whether the pieces are read, or refused, as they must be.
+fn reads_all(reader: &mut TurtleReader, triples: &mut Vec<Triple>) -> bool {
+    match feed_all(reader, triples) {
+        Some(true) => ends(reader, triples),
+        Some(false) => true,
+        None => false,
+    }
+}
+
+/// The same of a new reader.
 fn are_read(alloc: Global) -> Result<bool, Refusal> {
     let mut reader = reader_again(alloc)?;
     let mut triples = Vec::new(alloc);
-    match feed_all(&mut reader, &mut triples) {
-        Some(true) => Ok(ends(&mut reader, &mut triples)),
-        Some(false) => Ok(true),
-        None => Ok(false),
-    }
+    let answer = reads_all(&mut reader, &mut triples);
+    drop(triples);
+    drop(reader);
+    Ok(answer)
 }
 
 #[test]
@@ -84,15 +92,23 @@ fn is_refused(reported: Result<(), Refusal>, at: u64) -> bool {
 }
 
 /// Whether a fault in the second piece leaves the list.
+fn leaves_after_fault(reader: &mut TurtleReader, triples: &mut Vec<Triple>) -> bool {
+    let first = reader.feed(b"<s> <p> <o> . ", triples);
+    if first.is_err() {
+        return first == Err(Refusal::NoMemory) && is_closed(reader, triples, 0);
+    }
+    let second = reader.feed(b"<s> <p> 1 , 2 . <s> <p> . <s> <p> <o> .", triples);
+    is_refused(second, 29) && is_closed(reader, triples, 1)
+}
+
+/// The same of a new reader.
 fn fault_leaves(alloc: Global) -> Result<bool, Refusal> {
     let mut reader = reader_again(alloc)?;
     let mut triples = Vec::new(alloc);
-    let first = reader.feed(b"<s> <p> <o> . ", &mut triples);
-    if first.is_err() {
-        return Ok(first == Err(Refusal::NoMemory) && is_closed(&mut reader, &mut triples, 0));
-    }
-    let second = reader.feed(b"<s> <p> 1 , 2 . <s> <p> . <s> <p> <o> .", &mut triples);
-    Ok(is_refused(second, 29) && is_closed(&mut reader, &mut triples, 1))
+    let answer = leaves_after_fault(&mut reader, &mut triples);
+    drop(triples);
+    drop(reader);
+    Ok(answer)
 }
 
 #[test]
@@ -102,19 +118,27 @@ fn a_fault_leaves_the_list(rt: HostRuntime) -> Result<(), Fail> {
 }
 
 /// Whether a fault at the end leaves the list: the last piece may still go on.
+fn leaves_at_end(reader: &mut TurtleReader, triples: &mut Vec<Triple>) -> bool {
+    let first = reader.feed(b"<s> <p> <o> . [] <p> true.", triples);
+    if first.is_err() {
+        return first == Err(Refusal::NoMemory) && is_closed(reader, triples, 0);
+    }
+    let second = reader.feed(b"x", triples);
+    if second.is_err() {
+        return second == Err(Refusal::NoMemory) && is_closed(reader, triples, 1);
+    }
+    let end = reader.finish(triples);
+    is_refused(end, 26) && is_closed(reader, triples, 1)
+}
+
+/// The same of a new reader.
 fn fault_at_end_leaves(alloc: Global) -> Result<bool, Refusal> {
     let mut reader = reader_again(alloc)?;
     let mut triples = Vec::new(alloc);
-    let first = reader.feed(b"<s> <p> <o> . [] <p> true.", &mut triples);
-    if first.is_err() {
-        return Ok(first == Err(Refusal::NoMemory) && is_closed(&mut reader, &mut triples, 0));
-    }
-    let second = reader.feed(b"x", &mut triples);
-    if second.is_err() {
-        return Ok(second == Err(Refusal::NoMemory) && is_closed(&mut reader, &mut triples, 1));
-    }
-    let end = reader.finish(&mut triples);
-    Ok(is_refused(end, 26) && is_closed(&mut reader, &mut triples, 1))
+    let answer = leaves_at_end(&mut reader, &mut triples);
+    drop(triples);
+    drop(reader);
+    Ok(answer)
 }
 
 #[test]

@@ -4,7 +4,7 @@ use Rattle.gs_tree.specs.Keys.{AllKeys}
 use Rattle.gs_tree.specs.Sets.{IsSetAt}
 use Rattle.gs_keys.specs.Texts.{key_cmp, IsGiven}
 use Rattle.gs_keys.proofs.RootLemmas.{all_merge, set_graph}
-use Rattle.gs_match_tests.proofs.trees.instances.Goals as goal
+use Rattle.gs_match_tests.proofs.trees.instances_in.Goals as goal
 
 pub solve_counted-requires : goal.solve_counted-requires
 solve_counted-requires c =
