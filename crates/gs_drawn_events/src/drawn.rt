@@ -9,7 +9,7 @@ use std::alloc::{AllocError, Global};
 pub fn drawn_list(alloc: Global, draws: &mut Draws, most: usize) -> Result<Vec<usize>, AllocError> {
     let mut list = Vec::new(alloc);
     for _ in 0..draws.below(most.saturating_add(1)) {
-        list.push(draws.below(TRIPLES)).map_err(AllocError::from)?;
+        list.push(draws.below(TRIPLES))?;
     }
     Ok(list)
 }
@@ -100,9 +100,7 @@ fn drawn_edit(alloc: Global, draws: &mut Draws) -> Result<Edit, AllocError> {
 pub fn drawn_edits(alloc: Global, draws: &mut Draws) -> Result<Vec<Edit>, AllocError> {
     let mut edits = Vec::new(alloc);
     for _ in 0..draws.below(5) {
-        edits
-            .push(drawn_edit(alloc, draws)?)
-            .map_err(AllocError::from)?;
+        edits.push(drawn_edit(alloc, draws)?)?;
     }
     Ok(edits)
 }

@@ -4,7 +4,7 @@ use crate::requests::Edit;
 use crate::triples::{POOL, POOL_SIZE, Triples};
 use std::alloc::{AllocError, Global};
 
-#[derive(Clone, Copy, Debug, Drop, PartialEq)]
+#[derive(Clone, Copy, Drop, PartialEq)]
 pub enum Language {
     NTriples,
     Turtle,

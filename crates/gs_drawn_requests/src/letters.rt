@@ -5,7 +5,7 @@ use std::alloc::{AllocError, Global};
 use std::io::Write;
 
 /// How a body is framed.
-#[derive(Clone, Copy, Debug, Drop, PartialEq)]
+#[derive(Clone, Copy, Drop, PartialEq)]
 enum Framing {
     /// There is no body, and nothing says so.
     Absent,

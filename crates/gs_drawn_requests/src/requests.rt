@@ -7,7 +7,7 @@ pub const DEFAULT: usize = 0;
 /// How many graphs schedules speak of.
 pub const GRAPHS: usize = 4;
 
-#[derive(Clone, Copy, Debug, Drop, PartialEq)]
+#[derive(Clone, Copy, Drop, PartialEq)]
 pub enum Method {
     Get,
     Head,
@@ -18,7 +18,7 @@ pub enum Method {
 }
 
 /// An operation of a patch.
-#[derive(Clone, Copy, Debug, Drop, PartialEq)]
+#[derive(Clone, Copy, Drop)]
 pub struct Edit {
     /// It inserts the triples, and does not delete them.
     pub inserts: bool,
@@ -26,7 +26,7 @@ pub struct Edit {
 }
 
 /// What a request does to its graph.
-#[derive(Clone, Copy, Debug, Drop, PartialEq)]
+#[derive(Clone, Copy, Drop)]
 pub enum Write {
     Replace(Triples),
     Add(Triples),
@@ -35,7 +35,7 @@ pub enum Write {
 }
 
 /// What a request comes to.
-#[derive(Clone, Copy, Debug, Drop, PartialEq)]
+#[derive(Clone, Copy, Drop)]
 pub enum Deed {
     Read,
     Look,
@@ -47,7 +47,7 @@ pub enum Deed {
 }
 
 /// A request.
-#[derive(Clone, Copy, Debug, Drop)]
+#[derive(Clone, Copy, Drop)]
 pub struct Request {
     pub method: Method,
     pub graph: usize,
@@ -68,7 +68,7 @@ impl Request {
     /// Something is opened at the store before its body is read.
     pub fn opens(&self) -> bool {
         match self.deed {
-            Deed::Write(write) => write != Write::Remove,
+            Deed::Write(write) => !matches!(write, Write::Remove),
             Deed::Fault(_) => true,
             _ => false,
         }

@@ -65,7 +65,7 @@ pub const POOL: [Entry; POOL_SIZE] = [
 ];
 
 /// A set of these triples.
-#[derive(Clone, Copy, Debug, Drop, PartialEq)]
+#[derive(Clone, Copy, Drop, PartialEq)]
 pub struct Triples {
     bits: u16,
 }

@@ -153,14 +153,25 @@ impl Moment {
         Ok(self.found(kind, got, wanted))
     }
 
+    /// A number is found in the place of another, before which these words stand.
+    fn other_numbers(
+        self,
+        kind: Kind,
+        got: u64,
+        words: &str,
+        wanted: u64,
+    ) -> Result<Stop, AllocError> {
+        let got = format!(in self.alloc; "{got}")?;
+        let wanted = format!(in self.alloc; "{words}{wanted}")?;
+        Ok(self.found(kind, got, wanted))
+    }
+
     /// Two numbers are to be the same.
     pub fn same_numbers(self, kind: Kind, got: u64, wanted: u64) -> Result<(), Stop> {
         if got == wanted {
             return Ok(());
         }
-        let got = format!(in self.alloc; "{got}")?;
-        let wanted = format!(in self.alloc; "{wanted}")?;
-        Err(self.found(kind, got, wanted))
+        Err(self.other_numbers(kind, got, "", wanted)?)
     }
 
     /// A number is to be no more than this.
@@ -168,9 +179,7 @@ impl Moment {
         if got <= most {
             return Ok(());
         }
-        let got = format!(in self.alloc; "{got}")?;
-        let wanted = format!(in self.alloc; "at most {most}")?;
-        Err(self.found(kind, got, wanted))
+        Err(self.other_numbers(kind, got, "at most ", most)?)
     }
 
     /// A number is to be no less than this.
@@ -178,8 +187,6 @@ impl Moment {
         if least <= got {
             return Ok(());
         }
-        let got = format!(in self.alloc; "{got}")?;
-        let wanted = format!(in self.alloc; "at least {least}")?;
-        Err(self.found(kind, got, wanted))
+        Err(self.other_numbers(kind, got, "at least ", least)?)
     }
 }

@@ -84,7 +84,7 @@ const TWO_LINES: &str =
 
 fn list_of(alloc: Global, number: usize) -> Result<Vec<usize>, AllocError> {
     let mut list = Vec::new(alloc);
-    list.push(number).map_err(AllocError::from)?;
+    list.push(number)?;
     Ok(list)
 }
 

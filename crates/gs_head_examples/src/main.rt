@@ -37,8 +37,7 @@ fn said(alloc: Global, places: &Places, case: &Case<'_>) -> Result<String, Alloc
 }
 
 /// Checks each case of the input.
-fn check_all<W: Write>(alloc: Global, input: &str, out: &mut W) -> io::Result<()> {
-    let places = Places::new(alloc)?;
+fn check_all<W: Write>(alloc: Global, places: &Places, input: &str, out: &mut W) -> io::Result<()> {
     let mut case = Case::new(alloc);
     let mut cases = 0u64;
     for line in input.split('\n') {
@@ -46,7 +45,7 @@ fn check_all<W: Write>(alloc: Global, input: &str, out: &mut W) -> io::Result<()
         let Some(wanted) = case.wanted else {
             continue;
         };
-        let is = said(alloc, &places, &case)?;
+        let is = said(alloc, places, &case)?;
         if is.as_str() != wanted {
             writeln!(out, "{}: {is}", case.name)?;
         }
@@ -58,5 +57,6 @@ fn check_all<W: Write>(alloc: Global, input: &str, out: &mut W) -> io::Result<()
 
 fn main(rt: HostRuntime) -> io::Result<()> {
     let input = io::read_to_string(rt.alloc(), rt.reader())?;
-    check_all(rt.alloc(), input.as_str(), &mut io::writer(&rt))
+    let places = Places::new(rt.alloc())?;
+    check_all(rt.alloc(), &places, input.as_str(), &mut io::writer(&rt))
 }

@@ -50,10 +50,10 @@ fn denial_text(alloc: Global, denial: Denial) -> Result<String, AllocError> {
 
 fn body_text(alloc: Global, framing: Framing) -> Result<String, AllocError> {
     match framing {
-        Framing::Nothing => format!(in alloc; "nothing"),
+        Framing::Nothing => String::from_str(alloc, "nothing"),
         Framing::Bytes(n) => format!(in alloc; "{n}"),
-        Framing::Chunked => format!(in alloc; "chunked"),
-        _ => format!(in alloc; "?"),
+        Framing::Chunked => String::from_str(alloc, "chunked"),
+        _ => String::from_str(alloc, "?"),
     }
 }
 

@@ -14,7 +14,7 @@ pub struct Exchange {
 }
 
 /// Which numbers a store has left.
-#[derive(Clone, Copy, Drop, PartialEq)]
+#[derive(Clone, Copy, Drop)]
 pub enum Numbers {
     All,
     NoRequest,

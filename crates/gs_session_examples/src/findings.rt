@@ -6,7 +6,7 @@ use crate::probes::State;
 use gs_session::ServeFault;
 
 /// What is found first.
-#[derive(Clone, Copy, Debug, Drop, PartialEq)]
+#[derive(Clone, Copy, Debug, Drop)]
 pub enum Finding {
     Right,
     /// It ended with another fault, or with one, or with none.

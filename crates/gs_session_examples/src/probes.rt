@@ -2,7 +2,7 @@
 use crate::cases::Numbers;
 use gs_core::{Action, Answer, Event, Refusal, Store};
 use gs_term::{GraphName, Target};
-use std::alloc::{AllocError, Global};
+use std::alloc::Global;
 
 pub const BASE: &str = "http://localhost";
 
@@ -36,7 +36,7 @@ impl Probe {
     pub fn new(alloc: Global) -> Result<Probe, Refusal> {
         let mut heads = Vec::new(alloc);
         let default = Event::Seat(0, Action::Head(Target::Default));
-        heads.push(default).map_err(AllocError::from)?;
+        heads.push(default)?;
         for name in [
             "http://e/g",
             "http://localhost/graphs/h",
@@ -44,7 +44,7 @@ impl Probe {
         ] {
             let target = Target::Named(GraphName::new(alloc, name)?);
             let head = Event::Seat(0, Action::Head(target));
-            heads.push(head).map_err(AllocError::from)?;
+            heads.push(head)?;
         }
         Ok(Probe { heads })
     }

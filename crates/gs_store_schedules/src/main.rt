@@ -6,7 +6,8 @@ mod stores;
 
 use crate::stores::{Played, SMALL, WHOLE};
 use gs_drawn_schedules::{Play, Stop, Totals};
-use gs_fixed_schedules::{large_lines, last_node_lines, last_node_posts, last_term_lines};
+use gs_event::Limits;
+use gs_fixed_schedules::{Lines, large_lines, last_node_lines, last_node_posts, last_term_lines};
 use gs_version_models::Lie;
 use std::alloc::Global;
 use std::io::{self, Write};
@@ -26,6 +27,20 @@ const LIES: [Lie; 6] = [
     Lie::BeginsLate,
 ];
 
+/// Plays a schedule on a store, beside a plain one that holds as much.
+fn play_on(
+    alloc: Global,
+    limits: Limits,
+    play: &mut Play,
+    store: &mut Played,
+    totals: &mut Totals,
+) -> Result<(), Stop> {
+    let mut plain = Played::plain(alloc, limits)?;
+    let done = play.play(store, &mut plain, totals);
+    drop(plain);
+    done
+}
+
 /// Plays the schedule with this number. Every fourth is played on a store that holds little.
 fn play(alloc: Global, number: u64, lie: Lie, totals: &mut Totals) -> Result<(), Stop> {
     let is_small = number % 4 == 3;
@@ -35,8 +50,10 @@ fn play(alloc: Global, number: u64, lie: Lie, totals: &mut Totals) -> Result<(),
     } else {
         Played::whole(alloc)?
     };
-    let mut plain = Played::plain(alloc, limits)?;
-    Play::new(alloc, number, limits, lie).play(&mut store, &mut plain, totals)
+    let mut play = Play::new(alloc, number, limits, lie);
+    let done = play_on(alloc, limits, &mut play, &mut store, totals);
+    drop(store);
+    done
 }
 
 /// Plays schedules with a model that is wrong, and prints what is found first, and in how many.
@@ -73,20 +90,27 @@ fn play_drawn<W: Write>(alloc: Global, out: &mut W) -> io::Result<()> {
     writeln!(out, "{findings} findings")
 }
 
+/// Plays a run that is the same each time on a store of its own.
+fn play_lines(lines: &Lines, mut store: Played) -> Result<(), Stop> {
+    let done = lines.play(&mut store);
+    drop(store);
+    done
+}
+
 fn play_large(alloc: Global) -> Result<(), Stop> {
-    large_lines(alloc)?.play(&mut Played::whole(alloc)?)
+    play_lines(&large_lines(alloc)?, Played::whole(alloc)?)
 }
 
 fn play_last_node(alloc: Global) -> Result<(), Stop> {
-    last_node_lines(alloc)?.play(&mut Played::with_last(alloc, 3, 99)?)
+    play_lines(&last_node_lines(alloc)?, Played::with_last(alloc, 3, 99)?)
 }
 
 fn play_last_posts(alloc: Global) -> Result<(), Stop> {
-    last_node_posts(alloc)?.play(&mut Played::with_last(alloc, 3, 99)?)
+    play_lines(&last_node_posts(alloc)?, Played::with_last(alloc, 3, 99)?)
 }
 
 fn play_last_term(alloc: Global) -> Result<(), Stop> {
-    last_term_lines(alloc)?.play(&mut Played::with_last(alloc, 99, 2)?)
+    play_lines(&last_term_lines(alloc)?, Played::with_last(alloc, 99, 2)?)
 }
 
 /// Prints what is found first of a run that is the same each time.

@@ -15,11 +15,22 @@ pub fn reader(alloc: Global, base: &str) -> Result<TurtleReader, Refusal> {
     Ok(TurtleReader::new(alloc, 3, base)?)
 }
 
+/// Appends the triples of a text, in the order in which they are given.
+fn read_into(
+    alloc: Global,
+    base: &str,
+    text: &[u8],
+    size: usize,
+    triples: &mut Vec<Triple>,
+) -> Result<(), Refusal> {
+    let mut reader = reader(alloc, base)?;
+    feed(&mut reader, text, size, triples)
+}
+
 /// The triples of a text, in the order in which they are given.
 fn read(alloc: Global, base: &str, text: &[u8], size: usize) -> Result<Vec<Triple>, Refusal> {
-    let mut reader = reader(alloc, base)?;
     let mut triples = Vec::new(alloc);
-    feed(&mut reader, text, size, &mut triples)?;
+    read_into(alloc, base, text, size, &mut triples)?;
     Ok(triples)
 }
 

@@ -26,7 +26,7 @@ fn lines_words(alloc: Global, lines: &[u8], is_end: bool) -> Result<String, Allo
 pub fn said_words(alloc: Global, said: &Said) -> Result<String, AllocError> {
     match said {
         Said::Opened(number) => format!(in alloc; "opened {number}"),
-        Said::Staged => format!(in alloc; "staged"),
+        Said::Staged => String::from_str(alloc, "staged"),
         Said::Status(status) => format!(in alloc; "status {status}"),
         Said::Made(request, number) => {
             let name = made_name(alloc, *request, *number)?;
@@ -36,7 +36,7 @@ pub fn said_words(alloc: Global, said: &Said) -> Result<String, AllocError> {
         Said::Lines(triples, is_end) => {
             lines_words(alloc, lines_of(alloc, *triples)?.as_slice(), *is_end)
         }
-        Said::Cancelled => format!(in alloc; "cancelled"),
+        Said::Cancelled => String::from_str(alloc, "cancelled"),
         Said::Refused(refusal) => {
             let name = refusal.name();
             format!(in alloc; "refused {name}")
@@ -48,7 +48,7 @@ pub fn said_words(alloc: Global, said: &Said) -> Result<String, AllocError> {
 pub fn answer_words(alloc: Global, answer: &Answer) -> Result<String, AllocError> {
     match answer {
         Answer::Opened(number) => format!(in alloc; "opened {number}"),
-        Answer::Staged => format!(in alloc; "staged"),
+        Answer::Staged => String::from_str(alloc, "staged"),
         Answer::Status(status, None) => format!(in alloc; "status {status}"),
         Answer::Status(status, Some(name)) => {
             let text = str::from_utf8(name.as_bytes()).unwrap_or("no text");
@@ -56,7 +56,7 @@ pub fn answer_words(alloc: Global, answer: &Answer) -> Result<String, AllocError
         }
         Answer::Pinned(status) => format!(in alloc; "pinned {status}"),
         Answer::Lines(lines, is_end) => lines_words(alloc, lines.as_slice(), *is_end),
-        Answer::Cancelled => format!(in alloc; "cancelled"),
+        Answer::Cancelled => String::from_str(alloc, "cancelled"),
         Answer::Reclaimed(freed, left) => {
             let rest = if *left { "more" } else { "done" };
             format!(in alloc; "reclaimed {freed} {rest}")

@@ -96,7 +96,7 @@ impl Graphs {
             if let Place::Made(_, _) = graph.place
                 && graph.triples.is_some()
             {
-                places.push(graph.place).map_err(AllocError::from)?;
+                places.push(graph.place)?;
             }
         }
         Ok(places)

@@ -12,6 +12,19 @@ pub struct Difference {
     text: Vec<u8>,
 }
 
+impl Difference {
+    /// Prints how many bytes of the text were written, or the first line that is otherwise.
+    fn report<W: Write>(&self, out: &mut W) -> io::Result<()> {
+        let written = self.written.as_slice();
+        let text = self.text.as_slice();
+        write!(out, "connection {}: ", self.connection)?;
+        if text.starts_with(written) {
+            return writeln!(out, "{} bytes of the text", written.len());
+        }
+        writeln!(out, "{}", other_line(written, text))
+    }
+}
+
 /// What is found first.
 #[derive(Drop)]
 pub enum Finding {
@@ -59,28 +72,26 @@ impl Finding {
         }
     }
 
+    /// What is found, in words. A difference has none.
+    fn text(&self) -> &'static str {
+        match self {
+            Finding::NoMemory => "no memory",
+            Finding::NoWorld => "no such world",
+            Finding::NoConnection(_) => "there is no connection",
+            Finding::NotAsked => "something is said that is not asked",
+            Finding::Difference(_) => "",
+            Finding::Change => "the change was made",
+            Finding::NoChange => "the change was not made",
+            Finding::Later => "bytes after the drop",
+        }
+    }
+
     /// Prints it.
     pub fn report<W: Write>(&self, out: &mut W) -> io::Result<()> {
         match self {
-            Finding::NoMemory => writeln!(out, "no memory"),
-            Finding::NoWorld => writeln!(out, "no such world"),
-            Finding::NoConnection(connection) => writeln!(
-                out,
-                "there is no connection {connection}"
-            ),
-            Finding::NotAsked => writeln!(out, "something is said that is not asked"),
-            Finding::Change => writeln!(out, "the change was made"),
-            Finding::NoChange => writeln!(out, "the change was not made"),
-            Finding::Later => writeln!(out, "bytes after the drop"),
-            Finding::Difference(it) => {
-                let written = it.written.as_slice();
-                let text = it.text.as_slice();
-                write!(out, "connection {}: ", it.connection)?;
-                if text.starts_with(written) {
-                    return writeln!(out, "{} bytes of the text", written.len());
-                }
-                writeln!(out, "{}", other_line(written, text))
-            }
+            Finding::Difference(it) => it.report(out),
+            Finding::NoConnection(connection) => writeln!(out, "{} {connection}", self.text()),
+            _ => writeln!(out, "{}", self.text()),
         }
     }
 }

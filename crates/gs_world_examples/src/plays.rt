@@ -3,7 +3,7 @@ use crate::cases::{Case, When};
 use crate::findings::Finding;
 use crate::worlds::new_world;
 use gs_world::{World, WorldStep};
-use std::alloc::AllocError;
+use std::alloc::{AllocError, Global};
 
 /// Where a step is put in.
 #[derive(Clone, Copy, Debug, Drop)]
@@ -54,6 +54,18 @@ struct Text {
     unchanged: Vec<u8>,
 }
 
+/// Nothing is to be written yet on so many connections.
+fn no_texts(alloc: Global, connections: u16) -> Result<Vec<Text>, AllocError> {
+    let mut texts = Vec::new(alloc);
+    for _ in 0..connections {
+        texts.push(Text {
+            changed: Vec::new(alloc),
+            unchanged: Vec::new(alloc),
+        })?;
+    }
+    Ok(texts)
+}
+
 /// How what is written on connections stands to what is to be.
 #[derive(Clone, Copy, Drop)]
 struct Sight {
@@ -89,20 +101,11 @@ struct Play<'a> {
 
 impl<'a> Play<'a> {
     fn new(case: &'a Case<'a>, insertion: Insertion<'a>) -> Result<Play<'a>, Finding> {
-        let world = new_world(case)?;
-        let mut texts = Vec::new(case.alloc);
-        for _ in 0..case.connections {
-            texts
-                .push(Text {
-                    changed: Vec::new(case.alloc),
-                    unchanged: Vec::new(case.alloc),
-                })
-                .map_err(AllocError::from)?;
-        }
+        let texts = no_texts(case.alloc, case.connections)?;
         Ok(Play {
             case,
             insertion,
-            world,
+            world: new_world(case)?,
             texts,
             broken: None,
             is_changed: true,
@@ -208,6 +211,12 @@ impl<'a> Play<'a> {
         self.compare()
     }
 
+    /// Takes all steps: how it ended.
+    fn run_to_end(&mut self) -> Result<Ending, Finding> {
+        self.run()?;
+        self.end()
+    }
+
     /// How it ended.
     fn end(&self) -> Result<Ending, Finding> {
         let mut is_whole = false;
@@ -235,6 +244,7 @@ impl<'a> Play<'a> {
 /// Plays a case with a step put in.
 pub fn play_with<'a>(case: &'a Case<'a>, insertion: Insertion<'a>) -> Result<Ending, Finding> {
     let mut play = Play::new(case, insertion)?;
-    play.run()?;
-    play.end()
+    let ended = play.run_to_end();
+    drop(play);
+    ended
 }

@@ -5,6 +5,7 @@ use crate::worlds::new_world;
 use gs_core::Refusal;
 use gs_world::{World, WorldStep};
 use std::alloc::AllocError;
+use std::ops::Range;
 
 /// In which order the connections come in a round.
 #[derive(Clone, Copy, Debug, Drop)]
@@ -232,23 +233,38 @@ impl<'a> Talks<'a> {
         Ok(())
     }
 
-    /// Holds them in this manner.
-    pub fn hold(&self, manner: Manner) -> Result<(), Finding> {
-        let case = self.case;
-        let mut world = new_world(case)?;
-        self.open(&mut world, manner)?;
+    /// Takes these rounds.
+    fn take_rounds(
+        &self,
+        world: &mut World,
+        manner: Manner,
+        rounds: Range<usize>,
+    ) -> Result<(), Refusal> {
+        for round in rounds {
+            let steps = self.steps_of(manner, round)?;
+            world.run(steps.as_slice())?;
+        }
+        Ok(())
+    }
+
+    /// Holds them in this manner, in a fresh world.
+    fn hold_in(&self, world: &mut World, manner: Manner) -> Result<(), Finding> {
+        self.open(world, manner)?;
         let given = self.longest.checked_div(manner.piece()).unwrap_or(0);
         let rounds = given.saturating_add(LAST_ROUNDS);
-        for round in 0..rounds {
-            let steps = self.steps_of(manner, round)?;
-            world.run(steps.as_slice())?;
-        }
-        self.compare(&world, manner)?;
-        self.end(&mut world, manner)?;
-        for round in rounds..rounds.saturating_add(ROUNDS_AFTER_END) {
-            let steps = self.steps_of(manner, round)?;
-            world.run(steps.as_slice())?;
-        }
-        self.compare(&world, manner)
+        self.take_rounds(world, manner, 0..rounds)?;
+        self.compare(world, manner)?;
+        self.end(world, manner)?;
+        let after_end = rounds..rounds.saturating_add(ROUNDS_AFTER_END);
+        self.take_rounds(world, manner, after_end)?;
+        self.compare(world, manner)
+    }
+
+    /// Holds them in this manner.
+    pub fn hold(&self, manner: Manner) -> Result<(), Finding> {
+        let mut world = new_world(self.case)?;
+        let held = self.hold_in(&mut world, manner);
+        drop(world);
+        held
     }
 }

@@ -24,6 +24,14 @@ struct Wrong {
     finding: Finding,
 }
 
+/// What was found where the case was played in this way.
+fn in_way(way: Way, found: Result<(), Finding>) -> Result<(), Wrong> {
+    match found {
+        Ok(()) => Ok(()),
+        Err(finding) => Err(Wrong { way, finding }),
+    }
+}
+
 /// What is to be seen of a change.
 #[derive(Clone, Copy, Drop, PartialEq)]
 enum Wanted {
@@ -158,23 +166,16 @@ fn check_insertion(case: &Case<'_>, number: usize) -> Result<(), Wrong> {
         was_changed: false,
     };
     for steps in 0..=case.steps.len() {
-        trial.check_at(steps).map_err(|finding| Wrong {
-            way: Way::Inserted(number, Place::After(steps)),
-            finding,
-        })?;
+        let way = Way::Inserted(number, Place::After(steps));
+        in_way(way, trial.check_at(steps))?;
     }
-    trial.check_everywhere().map_err(|finding| Wrong {
-        way: Way::Inserted(number, Place::Everywhere),
-        finding,
-    })
+    let way = Way::Inserted(number, Place::Everywhere);
+    in_way(way, trial.check_everywhere())
 }
 
 /// Plays a schedule as it stands, and with each of the steps that are put in.
 fn check_schedule(case: &Case<'_>) -> Result<(), Wrong> {
-    check_as_it_stands(case).map_err(|finding| Wrong {
-        way: Way::AsItStands,
-        finding,
-    })?;
+    in_way(Way::AsItStands, check_as_it_stands(case))?;
     for number in 0..case.insertions.len() {
         check_insertion(case, number)?;
     }
@@ -183,27 +184,28 @@ fn check_schedule(case: &Case<'_>) -> Result<(), Wrong> {
 
 /// Holds conversations in this manner.
 fn check_manner(talks: &Talks<'_>, manner: Manner) -> Result<(), Wrong> {
-    talks.hold(manner).map_err(|finding| Wrong {
-        way: Way::Held(manner),
-        finding,
-    })
+    in_way(Way::Held(manner), talks.hold(manner))
+}
+
+/// Holds these conversations in each manner.
+fn check_talks(case: &Case<'_>, talks: &Talks<'_>) -> Result<(), Wrong> {
+    for connection in 0..case.connections {
+        check_manner(talks, Manner::Alone(connection))?;
+    }
+    for size in talks.sizes() {
+        for order in [Order::Forwards, Order::Backwards, Order::Rotating] {
+            check_manner(talks, Manner::Together(size, order))?;
+        }
+    }
+    Ok(())
 }
 
 /// Holds conversations side by side in each manner, and then each alone.
 fn check_side_by_side(case: &Case<'_>) -> Result<(), Wrong> {
-    let talks = Talks::new(case).map_err(|error| Wrong {
-        way: Way::AsItStands,
-        finding: Finding::from(error),
-    })?;
-    for connection in 0..case.connections {
-        check_manner(&talks, Manner::Alone(connection))?;
+    match Talks::new(case) {
+        Ok(talks) => check_talks(case, &talks),
+        Err(error) => in_way(Way::AsItStands, Err(Finding::from(error))),
     }
-    for size in talks.sizes() {
-        for order in [Order::Forwards, Order::Backwards, Order::Rotating] {
-            check_manner(&talks, Manner::Together(size, order))?;
-        }
-    }
-    Ok(())
 }
 
 /// Whether what is said is said of connections that are there.
@@ -249,10 +251,7 @@ fn check_lines(case: &Case<'_>) -> Result<(), Finding> {
 
 /// Plays a case in each way, if it is not only shown.
 fn check_case(case: &Case<'_>) -> Result<(), Wrong> {
-    check_lines(case).map_err(|finding| Wrong {
-        way: Way::AsItStands,
-        finding,
-    })?;
+    in_way(Way::AsItStands, check_lines(case))?;
     if case.is_shown {
         return Ok(());
     }

@@ -259,7 +259,7 @@ fn due_write(
         return Ok(Due::Nothing);
     }
     let reply = Reply::plain(rules.alloc, effect.status, "", request.closes)?;
-    if write == Write::Remove || last.before != last.after {
+    if matches!(write, Write::Remove) || last.before != last.after {
         Ok(Due::Must(reply))
     } else {
         Ok(Due::May(reply))

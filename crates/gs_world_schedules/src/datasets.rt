@@ -3,7 +3,7 @@ use crate::rules::{Lie, Rules};
 use gs_drawn_requests::{DEFAULT, Edit, GRAPHS, Request, Triples, Write};
 
 /// The triples of each graph, none where there is no such graph.
-#[derive(Clone, Copy, Debug, Drop, PartialEq)]
+#[derive(Clone, Copy, Drop, PartialEq)]
 pub struct Dataset {
     graphs: [Option<Triples>; GRAPHS],
 }

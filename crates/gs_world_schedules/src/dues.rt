@@ -57,3 +57,21 @@ pub enum Due {
     May(Reply),
     Must(Reply),
 }
+
+impl Due {
+    /// The reply, if one may be written.
+    pub fn reply(&self) -> Option<&Reply> {
+        match self {
+            Due::Nothing => None,
+            Due::May(reply) | Due::Must(reply) => Some(reply),
+        }
+    }
+
+    /// Its text, which is empty where there is none.
+    pub fn text(&self) -> &[u8] {
+        match self.reply() {
+            None => b"",
+            Some(reply) => reply.text.as_slice(),
+        }
+    }
+}

@@ -5,7 +5,7 @@ use std::alloc::{AllocError, Global};
 use std::io::{self, Write};
 
 /// What is wrong.
-#[derive(Clone, Copy, Debug, Drop, PartialEq)]
+#[derive(Clone, Copy, Drop)]
 pub enum Kind {
     /// A text where none is due.
     Undue,

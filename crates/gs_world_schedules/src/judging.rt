@@ -9,7 +9,7 @@ use crate::witnesses::{Sight, Witness};
 use gs_core::Refusal;
 use gs_drawn_requests::{Deed, Request, Write};
 use gs_world::{World, WorldStep};
-use std::alloc::AllocError;
+use std::alloc::{AllocError, Global};
 
 const BASE: &str = "http://localhost";
 
@@ -28,19 +28,24 @@ pub struct Judge {
     pub step: usize,
 }
 
+/// So many connections to which nothing came.
+fn new_clients(alloc: Global, connections: u16) -> Result<Vec<Client>, AllocError> {
+    let mut clients = Vec::new(alloc);
+    for _ in 0..connections {
+        clients.push(Client::new(alloc))?;
+    }
+    Ok(clients)
+}
+
 impl Judge {
     /// A new world with one connection at least, and a witness.
     pub fn new(rules: Rules, connections: u16) -> Result<Judge, Refusal> {
         let alloc = rules.alloc;
         let all = connections.saturating_add(1).clamp(2, 512);
-        let world = World::new(alloc, all, BASE, rules.piece.clamp(1, 4_096))?;
-        let mut clients = Vec::new(alloc);
-        for _ in 0..connections {
-            clients.push(Client::new(alloc)).map_err(AllocError::from)?;
-        }
+        let clients = new_clients(alloc, connections)?;
         Ok(Judge {
             rules,
-            world,
+            world: World::new(alloc, all, BASE, rules.piece.clamp(1, 4_096))?,
             clients,
             connections,
             witness: Witness::new(connections),
@@ -140,26 +145,23 @@ impl Judge {
         };
         let written = self.world.written(speaker);
         let text = written.get(client.said.len()..).unwrap_or_default();
-        if let Some(kind) = found(due, text, before != self.dataset) {
-            let wanted = match due {
-                Due::Nothing => b"",
-                Due::May(reply) | Due::Must(reply) => reply.text.as_slice(),
-            };
-            return Err(moment.found(kind, text, wanted));
+        let has_changed = before != self.dataset;
+        if let Some(kind) = found(due, text, has_changed) {
+            return Err(moment.found(kind, text, due.text()));
         }
-        let reply = match due {
-            Due::May(reply) | Due::Must(reply) if !text.is_empty() => reply,
+        match due.reply() {
+            Some(reply) if !text.is_empty() => {
+                totals.note_reply(reply);
+                if let Some(request) = client.take(reply)? {
+                    self.note_answer(&request, totals);
+                }
+            }
             _ => {
-                if before != self.dataset {
+                if has_changed {
                     totals.note(Happening::Change);
                 }
                 client.rest(before, self.dataset)?;
-                return Ok(());
             }
-        };
-        totals.note_reply(reply);
-        if let Some(request) = client.take(reply)? {
-            self.note_answer(&request, totals);
         }
         Ok(())
     }

@@ -7,7 +7,7 @@ use crate::wires::Wire;
 use gs_core::Refusal;
 use gs_drawn_requests::Draws;
 use gs_world::WorldStep;
-use std::alloc::{AllocError, Global};
+use std::alloc::Global;
 
 /// The steps of a schedule.
 const STEPS: usize = 200;
@@ -75,7 +75,7 @@ impl Play {
         };
         let mut wires = Vec::new(alloc);
         for _ in 0..connections {
-            wires.push(Wire::new(alloc)).map_err(AllocError::from)?;
+            wires.push(Wire::new(alloc))?;
         }
         Ok(Play {
             judge: Judge::new(rules, connections)?,

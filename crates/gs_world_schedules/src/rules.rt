@@ -2,7 +2,7 @@
 use std::alloc::Global;
 
 /// What the model is told that is not so, to show that it tells.
-#[derive(Clone, Copy, Debug, Drop, PartialEq)]
+#[derive(Clone, Copy, Drop, PartialEq)]
 pub enum Lie {
     Nothing,
     PostReplaces,

@@ -25,7 +25,7 @@ struct Answered {
 }
 
 /// What happened once.
-#[derive(Clone, Copy, Debug, Drop, PartialEq)]
+#[derive(Clone, Copy, Drop)]
 pub enum Happening {
     /// A schedule begins.
     Schedule,
