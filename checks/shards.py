@@ -1,5 +1,6 @@
 """Three gsd behind HAProxy beside one gsd: shards.py PROGRAM SECONDS. The status is 0 only where all was right."""
 import contextlib
+import http.client
 import os
 import pathlib
 import re
@@ -85,7 +86,10 @@ def ask(to, method, target, body=None, fields=()):
 
 
 def status(to, method, target, body=None):
-    return ask(to, method, target, body)[0]
+    connection = http.client.HTTPConnection("127.0.0.1", to.port, timeout=30)
+    with contextlib.closing(connection):
+        connection.request(method, target, body, {"Content-Type": N_TRIPLES} if body else {})
+        return connection.getresponse().status
 
 
 def without_numbers(reply):
@@ -219,26 +223,38 @@ def check_ended(program, front, servers, places):
     print(f"one server ended: {many} graphs are 503, {len(places) - many} are served; once it is back its graphs are 404, and can be put")
 
 
-def speed(to, target, connections, seconds):
-    """Requests a second by wrk."""
-    words = ["wrk", "-t1", f"-c{connections}", f"-d{seconds}s", f"{to.url}{target}"]
+def spent(parts):
+    """The processor seconds that these programs have taken."""
+    ticks = 0
+    for it in parts:
+        fields = pathlib.Path(f"/proc/{it.process.pid}/stat").read_text().rsplit(")", 1)[1].split()
+        ticks += int(fields[11]) + int(fields[12])
+    return ticks / os.sysconf("SC_CLK_TCK")
+
+
+def speed(to, parts, target, connections, seconds):
+    """Requests a second by wrk, and the processor seconds of these programs for each."""
+    before = spent(parts)
+    words = ["wrk", "-t1", "--timeout", "30s", f"-c{connections}", f"-d{seconds}s", f"{to.url}{target}"]
     said = subprocess.run(words, capture_output=True, text=True, check=True).stdout
     if "Non-2xx" in said or "Socket errors" in said:
         raise SystemExit(f"wrk on {target}:\n{said}")
-    return float(re.search(r"Requests/sec:\s*([\d.]+)", said)[1])
+    return float(re.search(r"Requests/sec:\s*([\d.]+)", said)[1]), (spent(parts) - before) / int(re.search(r"(\d+) requests in", said)[1])
 
 
-def measure(front, alone, seconds):
-    """How fast the balancer hands replies on, beside one server that is asked directly, in turns."""
+def measure(front, servers, alone, seconds):
+    """How fast the balancer hands replies on, and at which price, beside one server that is asked directly, in turns."""
     large = "".join(LINE.replace('"1"', f'"{number:08}"') for number in range(100_000))
     for to in (front, alone):
         status(to, "PUT", "/graphs/large", large)
         status(to, "PUT", "/graphs/small", LINE)
     rows = (("GET of one line, 32 connections", "/graphs/small", 32), ("GET of 100,000 lines, 4 connections", "/graphs/large", 4))
     for title, target, connections in rows:
-        rounds = [[speed(to, target, connections, seconds) for to in (front, alone)] for _ in range(3)]
-        best, of_one = map(max, zip(*rounds))
-        print(f"speed: {title}: {best / of_one:.2f} of one server, by the best of three rounds each")
+        sides = (front, [front, *servers]), (alone, [alone])
+        rounds = [[speed(to, parts, target, connections, seconds) for to, parts in sides] for _ in range(3)]
+        fast = [max(it[side][0] for it in rounds) for side in (0, 1)]
+        price = [min(it[side][1] for it in rounds) for side in (0, 1)]
+        print(f"speed: {title}: {fast[0] / fast[1]:.2f} of one server, {price[0] / price[1]:.2f} times its processor time, by the best of three rounds")
 
 
 def main(program, seconds):
@@ -256,7 +272,7 @@ def main(program, seconds):
         places = check_places(front, servers)
         check_fourth(program, front, servers, room)
         if int(seconds):
-            measure(front, alone, seconds)
+            measure(front, servers, alone, seconds)
         check_ended(program, front, servers, places)
     if server.failures:
         raise SystemExit(f"wrong: {', '.join(server.failures)}")
