@@ -1,0 +1,102 @@
+#!/bin/sh
+# Makes the Debian package of built programs, installs it in a folder that stands for a machine's root, starts the server as its unit does,
+# asks it, and takes it away again: package.sh [GSD [GSDRILL]]. It wants dpkg, binutils, curl and, where it is not run by root, fakeroot. What
+# systemd-analyze, man and lintian say is looked at where they are installed, and said to be left out where they are not.
+set -eu
+here=$(cd "$(dirname "$0")" && pwd)
+top=$(dirname "$here")
+gsd=${1:-$top/crates/gsd/out/gsd}
+gsdrill=${2:-$top/crates/gsdrill/out/gsdrill}
+missing=
+for tool in dpkg dpkg-deb objdump curl; do command -v "$tool" > /dev/null || missing="$missing $tool"; done
+as_root=
+[ "$(id -u)" = 0 ] || { as_root=fakeroot; command -v fakeroot > /dev/null || missing="$missing fakeroot"; }
+[ -z "$missing" ] || { echo "package.sh wants:$missing"; exit 2; }
+
+server=
+room=$(mktemp -d)
+trap '[ -z "$server" ] || kill "$server" 2> /dev/null; rm -rf "$room"' EXIT
+root=$room/root
+wrong() { echo "wrong: $1"; exit 1; }
+has() { command -v "$1" > /dev/null || { echo "$1: not installed, left out"; return 1; }; }
+in_root() {
+    $as_root dpkg --root="$root" --log=/dev/null --force-script-chrootless --force-depends --force-not-root "$@" > "$room/dpkg" 2>&1 ||
+        { cat "$room/dpkg"; wrong "dpkg $1"; }
+}
+files() { (cd "$root" && find . -path ./var/lib/dpkg -prune -o ! -type d -print | sort); }
+
+[ -x "$gsdrill" ] && drill=$gsdrill || drill=
+package=$("$top/packaging/build.sh" "$gsd" "$drill" "$room/one")
+cmp "$package" "$("$top/packaging/build.sh" "$gsd" "$drill" "$room/two")" || wrong "a second build gives other bytes"
+echo "built: $(basename "$package"), the same bytes twice"
+
+if has lintian; then
+    lintian --allow-root --fail-on error "$package" > "$room/lintian" 2>&1 || { cat "$room/lintian"; wrong "lintian finds an error"; }
+    echo "lintian: no error, $(grep -c '^W:' "$room/lintian" || true) warnings"
+fi
+
+mkdir -p "$root/var/lib/dpkg/info" "$root/var/lib/dpkg/updates"
+: > "$root/var/lib/dpkg/status"
+in_root -i "$package"
+wanted=$(dpkg-deb -f "$package" Depends | sed -n 's/^libc6 (>= \(.*\))$/\1/p')
+[ -n "$wanted" ] || wrong "it depends on other things than libc6"
+echo "installed: $(files | wc -l) files; it wants libc6 $wanted"
+
+if has systemd-analyze; then
+    # Its targets are those of this machine, and the root of the check stays as it is.
+    cp -r "$root" "$room/machine"
+    cp -rn /lib/systemd/system/. "$room/machine/lib/systemd/system/"
+    said=$(systemd-analyze verify --man=no --root="$room/machine" gsd.service 2>&1) || wrong "systemd-analyze verify: $said"
+    [ -z "$said" ] || wrong "systemd-analyze verify: $said"
+    echo "systemd-analyze verify: nothing to say"
+fi
+if has man; then
+    for page in "$root"/usr/share/man/man1/*.gz; do
+        said=$(LC_ALL=C.UTF-8 MANWIDTH=80 man --warnings -l "$page" 2>&1 > "$room/$(basename "$page" .gz)")
+        [ -z "$said" ] || wrong "man -l $page: $said"
+    done
+    # Each option that the program names is in its page, with its default.
+    "$root/usr/bin/gsd" --help > "$room/help"
+    for option in $(grep -o -e '^  *--[a-z]*' "$room/help"); do
+        grep -q -e "^  *$option " "$room/gsd.1" || wrong "gsd(1) has no $option"
+    done
+    tr -s ' \n' '  ' < "$room/gsd.1" > "$room/words"
+    for default in $(sed -n 's/.*(default \(.*\))$/\1/p' "$room/help"); do
+        grep -q -F "Default: $default" "$room/words" || wrong "gsd(1) does not say the default $default"
+    done
+    echo "man: no warning; each option and default of --help is in gsd(1)"
+fi
+if [ -n "$drill" ]; then
+    "$root/usr/bin/gsdrill" < "$top/crates/gsdrill/stdin" | cmp - "$top/crates/gsdrill/stdout" || wrong "gsdrill"
+    echo "gsdrill: plays its stored schedule"
+fi
+
+# As the unit has it, but for the folder before the program's path, and port 0, which the system chooses.
+sed -i 's/127\.0\.0\.1:8080/127.0.0.1:0/' "$root/etc/default/gsd"
+[ "$(grep -c '^GSD_ARGS=.*127\.0\.0\.1:0 ' "$root/etc/default/gsd")" = 1 ] || wrong "/etc/default/gsd says no address"
+line=$(sed -n 's/^ExecStart=//p' "$root/lib/systemd/system/gsd.service")
+environment=$(sed -n 's/^EnvironmentFile=-//p' "$root/lib/systemd/system/gsd.service")
+# shellcheck disable=SC1090
+. "$root$environment"
+export GSD_ARGS
+sh -c "exec $root$line" > "$room/listening" & server=$!
+for _ in 1 2 3 4 5 6 7 8 9 10; do [ -s "$room/listening" ] && break; sleep 0.2; done
+address=$(sed -n 's/^listening //p' "$room/listening")
+[ -n "$address" ] || wrong "the server does not listen"
+[ "$(cat "/proc/$server/comm")" = gsd ] || wrong "the unit's process is not the server"
+status=$(curl -s "$address/graphs/a" -X PUT -H 'Content-Type: text/turtle' -d '<> <http://e/p> "1" .' -o /dev/null -w '%{http_code}')
+[ "$status" = 201 ] || wrong "a PUT is answered $status"
+[ "$(curl -s "$address/graphs/a")" = '<http://localhost:8080/graphs/a> <http://e/p> "1" .' ] || wrong "a GET"
+kill "$server"
+status=0
+wait "$server" || status=$?
+server=
+[ "$status" = 143 ] || wrong "it ends with $status and not by the signal"
+echo "the unit's line: serves a PUT and a GET, and ends by a signal"
+
+in_root -r gsd
+[ "$(files)" = ./etc/default/gsd ] || wrong "a removal leaves $(files)"
+in_root -P gsd
+left=$(find "$root" -mindepth 1 ! -path "$root/var*")
+[ -z "$left" ] || wrong "a purge leaves $left"
+echo "removed: the words of /etc/default/gsd stay; purged: nothing stays"
