@@ -1,4 +1,1 @@
-pub mod EndLemmas
-pub mod RecordLemmas
 pub mod ServeLemmas
-pub mod SweepLemmas

@@ -9,7 +9,8 @@ use Rattle.gs_session.specs.Turns.{Ran}
 use Rattle.gs_session.specs.Connections.{Connection, Done, Quit}
 use Rattle.gs_pass.specs.declared.records.Record.{Record}
 use Rattle.gs_workers.specs.Attends.{Serves, ServesMany}
-use Rattle.gs_workers.specs.Records.{told}
+use Rattle.gs_gates.specs.Records.{told}
+use Rattle.gs_gates.proofs.SweepLemmas.{Shows}
 
 -- a call ended in one of two ways
 pub either_end : {A E X Y : Type 0} (r : Result A E) → OnOk r X → OnErr r Y → X ⊎ Y
@@ -24,10 +25,6 @@ serves_append p gives seat m (suc n) a b c first rest =
     let before = serves_append p gives seat m n a b rest.0 first rest.1 in
     let all : ServesMany p gives seat (suc before.0) a c = (rest.0, before.1, rest.2) in
     (suc before.0, all)
-
--- a door shows something of itself, and what it gives shows there
-pub record Shows {D E : Type 0} (f : D → E) (gives : D → Event → Answer → D → Type 0) (shown : E → Event → Answer → E → Type 0) : Type 0 where
-  pub to : (old : D) (e : Event) (a : Answer) (new : D) → gives old e a new → shown (f old) e a (f new)
 
 -- what was done at the door was done at what it shows
 pub ran_shown : {D E : Type 0} (f : D → E) (gives : D → Event → Answer → D → Type 0) (shown : E → Event → Answer → E → Type 0) → Shows f gives shown

@@ -4,7 +4,7 @@ use Rattle.gs_talk.specs.Logs.{Server}
 use Rattle.gs_pass.specs.declared.records.Record.{Record}
 use Rattle.gs_shared.specs.Seats.{From, IsFreshOf}
 use Rattle.gs_workers.specs.Attends.{ServesMany}
-use Rattle.gs_workers.specs.Records.{told}
+use Rattle.gs_gates.specs.Records.{told}
 
 -- connections of the pass's seat were served, one after the other, between what it was told at first and in the end
 abbrev pub ServedOn : Server → Record → Record → Type 0

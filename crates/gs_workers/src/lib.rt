@@ -1,23 +1,10 @@
-//! The threads of a server: it accepts connections, workers serve them, and one thread reclaims.
+//! A worker of a server: it serves one connection after the other, by a plan, through its own pass.
 #![tactic(auto)]
 
-mod accepting;
 mod attending;
-mod endings;
-mod gates;
-mod limits;
-mod lingering;
-mod notes;
 mod plans;
-mod promises;
-mod reclaimers;
-mod servers;
-#[cfg(test)]
-mod tests;
 mod workers;
 
 pub use attending::attend;
-pub use gates::{Gate, OpenGate};
-pub use gs_shared::Ended;
-pub use limits::{ACCEPT_PAUSE_MILLISECONDS, LINGER_SECONDS, PATIENCE_SECONDS, RECLAIM_NODES};
-pub use servers::serve_all;
+pub use plans::Plan;
+pub use workers::{limit_waits, work};

@@ -7,10 +7,10 @@ use std::time::Duration;
 
 /// How connections are served: the base, the lines of a piece, and how long a read or a write may wait.
 #[derive(Clone, Copy)]
-pub(crate) struct Plan<'a> {
-    pub(crate) alloc: Global,
-    pub(crate) base: &'a str,
-    pub(crate) piece: u32,
-    pub(crate) patience: Duration,
+pub struct Plan<'a> {
+    pub alloc: Global,
+    pub base: &'a str,
+    pub piece: u32,
+    pub patience: Duration,
     ghost valid: { is_base base.now ≡ true },
 }

@@ -4,12 +4,10 @@ ghost use Rattle.gs_workers.specs.Attends.{ServesMany};
 ghost use Rattle.gs_workers.specs.Served.{ServedOn};
 
 use crate::attending::attend;
-use crate::gates::{Gate, GateDoor};
-use crate::lingering::linger;
-use crate::notes::{Note, NoteDoor};
 use crate::plans::Plan;
 use crossbeam_channel::{Receiver, Sender};
 use gs_door::Door;
+use gs_gates::{Gate, GateDoor, Note, NoteDoor, linger};
 use gs_shared::{Hall, Pass, PassDoor, Room};
 use std::io;
 use std::net::TcpStream;
@@ -18,7 +16,7 @@ use std::sync::ledger::Ledger;
 use std::time::Duration;
 
 /// Gives a connection its limits. Small replies go out at once.
-pub(crate) fn limit_waits(stream: &TcpStream, patience: Duration) -> io::Result<()> {
+pub fn limit_waits(stream: &TcpStream, patience: Duration) -> io::Result<()> {
     stream.set_nodelay(true)?;
     stream.set_read_timeout(Some(patience))?;
     stream.set_write_timeout(Some(patience))
@@ -67,7 +65,7 @@ pub(crate) fn serve_streams<D: Door, R: Wait>(
 }
 
 /// The whole run of a worker: its pass comes back.
-pub(crate) fn work<C: Ledger, T: Ledger, B: Room, G: Gate, R: Wait>(
+pub fn work<C: Ledger, T: Ledger, B: Room, G: Gate, R: Wait>(
     rt: &R,
     plan: Plan<'_>,
     hall: &Hall<C, T, B>,

@@ -1,7 +1,7 @@
 use Rattle.std.proofs.Common.{◌≡◌, ap, ◌∙◌, sym, subst}
 use Rattle.gs_talk.specs.Logs.{Server}
 use Rattle.gs_workers.specs.Attends.{ServesMany}
-use Rattle.gs_workers.specs.Records.{told}
+use Rattle.gs_gates.specs.Records.{told}
 use Rattle.gs_workers.proofs.ServeLemmas.{serves_many_shown, serves_many_seat}
 use Rattle.gs_workers.proofs.workers.work.Goals as goal
 

@@ -1,0 +1,34 @@
+//! What is called before each event of a worker.
+use gs_door::Door;
+use gs_event::{Answer, Event};
+
+/// Called before each event of a worker, outside the hold of the lock. A gate that waits holds up its
+/// own worker alone.
+pub trait Gate {
+    /// Is called before this event of this worker's seat is taken.
+    fn before(&self, seat: u16, event: &Event);
+}
+
+/// A gate that holds up nothing.
+#[derive(Clone, Copy)]
+pub struct OpenGate;
+
+impl Gate for OpenGate {
+    fn before(&self, _seat: u16, _event: &Event) {}
+}
+
+/// A door with a gate before it.
+pub struct GateDoor<'a, G: Gate, D: Door> {
+    pub gate: &'a G,
+    pub seat: u16,
+    pub door: D,
+}
+
+impl<'a, G: Gate, D: Door> Door for GateDoor<'a, G, D> {
+    ghost Gives = { λ old e a new. D.Gives old.door e a new.door };
+
+    fn event(&mut self, event: Event) -> Answer {
+        self.gate.before(self.seat, &event);
+        self.door.event(event)
+    }
+}

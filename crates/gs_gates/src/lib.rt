@@ -1,0 +1,21 @@
+//! What stands around the workers of a server: gates before their events, notes after them and the
+//! reclaimer whom these wake, the accept loop, the end of a connection, and how long is waited.
+#![tactic(auto)]
+
+mod accepting;
+mod endings;
+mod gates;
+mod limits;
+mod lingering;
+mod notes;
+mod reclaimers;
+
+pub use accepting::accept_all;
+pub use gates::{Gate, GateDoor, OpenGate};
+pub use limits::{
+    ACCEPT_PAUSE_MILLISECONDS, LINGER_SECONDS, PATIENCE_SECONDS, RECLAIM_NODES, WAITING_NOTES,
+    WAITING_STREAMS, patience,
+};
+pub use lingering::linger;
+pub use notes::{Note, NoteDoor};
+pub use reclaimers::{reclaim, sweep_after, sweep_and_rest};

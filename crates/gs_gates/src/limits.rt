@@ -1,0 +1,71 @@
+//! How long is waited, and how much is freed at once.
+ghost use Rattle.std.specs.Prelude.{◌≡◌};
+ghost use Rattle.std.specs.Duration.{as_nanos};
+ghost use Rattle.gs_gates.specs.Limits as spec;
+
+use std::time::Duration;
+
+/// The seconds that one read or one write of a connection may wait for its client.
+pub const PATIENCE_SECONDS: u64 = 30;
+
+/// The milliseconds of rest after an accept that failed.
+pub const ACCEPT_PAUSE_MILLISECONDS: u64 = 50;
+
+/// The most nodes that are freed in one hold of the lock.
+pub const RECLAIM_NODES: u64 = 4_096;
+
+/// The accepted connections that may wait for a worker. More wait in the system's own queue.
+pub const WAITING_STREAMS: usize = 16;
+
+/// The notes that may wait for the reclaimer. Where one waits none is sent, so there are more only where
+/// several workers looked at the same time.
+pub const WAITING_NOTES: usize = 16;
+
+/// How many times as long as a sweep took the reclaimer rests after it. So it has at most a seventeenth
+/// of the time, unless a sweep takes longer than a sixteenth of a second.
+pub(crate) const REST_TIMES: u128 = 16;
+
+/// The least nanoseconds of this rest, a millisecond: the notes of many requests become one.
+pub(crate) const LEAST_REST_NANOSECONDS: u64 = 1_000_000;
+
+/// The most nanoseconds of this rest, a second. A clock that jumps does not keep the reclaimer from its
+/// work for longer, and what waits to be freed is no more than what a second and a sweep leave behind.
+pub(crate) const MOST_REST_NANOSECONDS: u64 = 1_000_000_000;
+
+/// The seconds that one read may wait for a client to end too, once its connection was served.
+pub const LINGER_SECONDS: u64 = 1;
+
+/// The most reads by which what it still sends is dropped.
+pub(crate) const LINGER_READS: usize = 1_024;
+
+/// The most bytes that one of these reads drops.
+pub(crate) const LINGER_BYTES: usize = 16_384;
+
+/// How long one read or one write of a connection may wait for its client.
+pub fn patience() -> Duration
+    ensures { as_nanos result ≡ spec.patience }
+{
+    Duration::from_secs(PATIENCE_SECONDS)
+}
+
+/// The rest after an accept that failed.
+pub(crate) fn accept_pause() -> Duration
+    ensures { as_nanos result ≡ spec.accept_pause }
+{
+    Duration::from_millis(ACCEPT_PAUSE_MILLISECONDS)
+}
+
+/// How long one read may wait for a client to end too, once its connection was served.
+pub(crate) fn linger_patience() -> Duration
+    ensures { as_nanos result ≡ spec.linger_patience }
+{
+    Duration::from_secs(LINGER_SECONDS)
+}
+
+/// The rest of the reclaimer after a sweep that took so long.
+pub(crate) fn rest_after(taken: Duration) -> Duration
+    ensures { as_nanos result ≡ spec.rest_after (as_nanos taken) }
+{
+    let long = u64::try_from(taken.as_nanos().saturating_mul(REST_TIMES)).unwrap_or(u64::MAX);
+    Duration::from_nanos(long.clamp(LEAST_REST_NANOSECONDS, MOST_REST_NANOSECONDS))
+}

@@ -1,0 +1,2 @@
+-- How a server ends.
+pub mod Ends

@@ -1,0 +1,265 @@
+//! A server, from its first connection to its last.
+ghost use Rattle.std.specs.Prelude.{◌≡◌, ◌+◌, ◌<◌, ◌≤◌, [], ◌∷◌, ◌++◌, length, true, vec_capacity, IfOk, IfErr, IfSome};
+ghost use Rattle.crossbeam_utils.specs.Seq.{cell_view};
+ghost use Rattle.gs_model.specs.Bases.{is_base};
+ghost use Rattle.gs_core.specs.Settings.{start_at};
+ghost use Rattle.gs_talk.specs.Logs.{Server};
+ghost use Rattle.gs_pass.specs.Stamps.{keeper as keeper_of};
+ghost use Rattle.gs_shared.specs.Seats.{From, IsFreshOf};
+ghost use Rattle.gs_servers.specs.Ends.{EndsAs};
+ghost use Rattle.gs_gates.specs.Records.{IsAsBefore};
+ghost use Rattle.gs_workers.specs.Served.{IsPromised, WasServed};
+
+use crate::promises::{AsBefore, Served};
+use crossbeam_channel::{Receiver, Sender, bounded};
+use gs_gates::{Gate, Note, WAITING_NOTES, WAITING_STREAMS, accept_all, patience, reclaim};
+use gs_model::Refusal;
+use gs_shared::{Ended, Hall, Pass, Room, Shared, Side, StampCell, Token, stamp_cell};
+use gs_workers::{Plan, work};
+use std::alloc::{AllocError, Global};
+use std::marker::Brand;
+use std::net::TcpListener;
+use std::random::RandomSource;
+use std::snapshot::Snapshot;
+use std::sync::Wait;
+use std::sync::ledger::Blank;
+use std::thread;
+use std::thread::{PromisedHandle, Threads};
+use std::time::Clock;
+
+/// Joins the workers, in the order in which they were started. There is room for their passes.
+fn join_all<C: Side, T: Side, B: Room, R: Threads>(
+    rt: &R,
+    workers: Vec<PromisedHandle<Pass<C, T, B>, Served<'_, C, T, B>>>,
+    back: Vec<Pass<C, T, B>>,
+) -> Vec<Pass<C, T, B>>
+    requires { (back.items ≡ []) × (length workers.items ≤ vec_capacity back) }
+    ensures many { length result.items ≡ length workers.entry.items }
+    ensures served { (p : Server)
+        → From (λ seat w. IsPromised p seat (record { base = w.promise.plan.base.now; piece = w.promise.plan.piece })
+        w.promise.before.value.record) 0 workers.entry.items
+        → From (λ seat x. WasServed p seat x.record) 0 result.items }
+{
+    let mut back = back;
+    for worker in workers {
+        let pass = worker.join(rt);
+        back.push_reserved(pass);
+    }
+    back
+}
+
+/// Starts a worker for each pass, and the reclaimer with the last one; accepts connections; and joins
+/// them all. The passes come back in their order. `None` where memory or a thread was wanting: what a
+/// thread waits for is dropped then too, so each one that was started ends.
+fn with_threads<
+    C: Side + Send + Sync,
+    T: Side + Send + Sync,
+    B: Room + Send + Sync,
+    G: Gate + Sync,
+    R: Threads + Wait + Clock + Sync,
+>(
+    rt: &R,
+    plan: Plan<'_>,
+    listener: &TcpListener,
+    limit: Option<u64>,
+    gate: &G,
+    hall: &Hall<C, T, B>,
+    passes: Vec<Pass<C, T, B>>,
+    last: Pass<C, T, B>,
+) -> Option<(Vec<Pass<C, T, B>>, Pass<C, T, B>)>
+    ensures many { IfSome result (λ r. length r.0.items ≡ length passes.items) }
+    ensures served { From (λ seat x. IsFreshOf seat x.record) 0 passes.items → IfSome result (λ r.
+        From (λ seat x. WasServed (record { base = plan.entry.base.now; piece = plan.entry.piece }) seat x.record)
+        0 r.0.items) }
+    ensures last { IfSome result (λ r. IsAsBefore last.record r.1.record) }
+{
+    let alloc = plan.alloc;
+    let (to_workers, streams) = bounded(alloc, WAITING_STREAMS).ok()?;
+    let (to_reclaimer, notes) = bounded(alloc, WAITING_NOTES).ok()?;
+    thread::scope(
+        thread::scope_env(),
+        rt,
+        move |scope| -> Option<(Vec<Pass<C, T, B>>, Pass<C, T, B>)>
+            ensures many { IfSome result (λ r. length r.0.items ≡ length passes.items) }
+            ensures served { From (λ seat x. IsFreshOf seat x.record) 0 passes.items → IfSome result (λ r.
+                From (λ seat x. WasServed
+                (record { base = plan.entry.base.now; piece = plan.entry.piece }) seat x.record)
+                0 r.0.items) }
+            ensures last { IfSome result (λ r. IsAsBefore last.record r.1.record) }
+        {
+            let mut workers = Vec::with_capacity(alloc, passes.len()).ok()?;
+            let back = Vec::with_capacity(alloc, passes.len()).ok()?;
+            let before = Snapshot::of(&last);
+            let reclaimer = scope
+                .spawn_with(AsBefore { before }, move || reclaim(rt, hall, notes, last))
+                .ok()?;
+            for pass in passes {
+                let own_streams: Receiver<_> = streams.clone().ok()?;
+                let own_notes: Sender<Note> = to_reclaimer.clone().ok()?;
+                let before = Snapshot::of(&pass);
+                let worker = scope
+                    .spawn_with(Served { before, plan }, move || {
+                        work(rt, plan, hall, gate, own_streams, own_notes, pass)
+                    })
+                    .ok()?;
+                workers.push_reserved(worker);
+            }
+            drop(streams);
+            drop(to_reclaimer);
+            accept_all(rt, listener, limit, to_workers);
+            let back = join_all(rt, workers, back);
+            Some((back, reclaimer.join(rt)))
+        },
+    )
+}
+
+/// All passes, as the store is ended with.
+fn with_last<P: Drop>(passes: Vec<P>, last: P) -> Result<Vec<P>, AllocError>
+    ensures { IfOk result (λ all. all.items ≡ passes.items ++ last ∷ []) }
+{
+    let mut passes = passes;
+    passes.push(last)?;
+    Ok(passes)
+}
+
+/// A number that strangers do not know, by which the terms of the store are spread; 0 where the system
+/// has none to give.
+fn seed_from<R: RandomSource>(rt: &R) -> u64 {
+    let mut bytes = [0u8; 8];
+    match rt.fill_bytes(&mut bytes) {
+        Ok(()) => u64::from_le_bytes(bytes),
+        Err(_) => 0,
+    }
+}
+
+/// As `serve_all`, by this plan, over a cell and two blanks.
+fn run<
+    C: Side + Send + Sync,
+    T: Side + Send + Sync,
+    B: Room + Send + Sync,
+    G: Gate + Sync,
+    R: Threads + Wait + Clock + RandomSource + Sync,
+>(
+    rt: &R,
+    plan: Plan<'_>,
+    listener: &TcpListener,
+    workers: u16,
+    limit: Option<u64>,
+    gate: &G,
+    cell: StampCell,
+    keeper: Token,
+    calls: Blank,
+    triples: Blank,
+) -> Result<Ended, Refusal>
+    requires some { 1 ≤ workers }
+    requires few { workers ≤ 256 }
+    requires start { B.start ≡ start_at (workers + 1) plan.base.now 0 0 }
+    requires cell { (cell.table.shared.table_id ≡ B.table)
+        × (keeper.table_id ≡ B.table)
+        × (cell_view keeper ≡ keeper_of [] []) }
+    requires calls { (calls.name ≡ C.name)
+        × (calls.parts ≡ C.parts)
+        × (C.all ≡ C.parts)
+        × (workers + 1 < C.all) }
+    requires triples { (triples.name ≡ T.name)
+        × (triples.parts ≡ T.parts)
+        × (T.all ≡ T.parts)
+        × (workers + 1 < T.all) }
+    ensures refused { IfErr result (λ r. r ≡ Refusal.NoMemory) }
+    ensures ended { IfOk result (EndsAs workers
+        (record { base = plan.entry.base.now; piece = plan.entry.piece })) }
+{
+    let seats = workers + 1;
+    let mut shared: Shared<C, T, B> = Shared::new(
+        plan.alloc,
+        seats,
+        plan.base,
+        seed_from(rt),
+        cell,
+        keeper,
+        calls,
+        triples,
+    )?;
+    let mut passes = shared.passes(seats)?;
+    let Some(last) = passes.pop() else {
+        unreachable!()
+    };
+    let Some((back, last)) = with_threads(
+        rt,
+        plan,
+        listener,
+        limit,
+        gate,
+        shared.hall(),
+        passes,
+        last,
+    ) else {
+        return Err(Refusal::NoMemory);
+    };
+    let Ok(all) = with_last(back, last) else {
+        return Err(Refusal::NoMemory);
+    };
+    Ok(shared.end(rt, all))
+}
+
+/// As `serve_all`, by this plan.
+pub fn serve_within<G: Gate + Sync, R: Threads + Wait + Clock + RandomSource + Sync>(
+    rt: &R,
+    plan: Plan<'_>,
+    listener: &TcpListener,
+    workers: u16,
+    limit: Option<u64>,
+    gate: &G,
+) -> Result<Ended, Refusal>
+    requires some { 1 ≤ workers }
+    requires few { workers ≤ 256 }
+    ensures refused { IfErr result (λ r. r ≡ Refusal.NoMemory) }
+    ensures ended { IfOk result (EndsAs workers
+        (record { base = plan.entry.base.now; piece = plan.entry.piece })) }
+{
+    let Ok((cell, keeper)) = stamp_cell(plan.alloc) else {
+        return Err(Refusal::NoMemory);
+    };
+    let parts = u64::from(workers) + 2;
+    let (calls, triples) = (Blank::new(parts), Blank::new(parts));
+    run::<Brand, Brand, Brand, G, R>(
+        rt, plan, listener, workers, limit, gate, cell, keeper, calls, triples,
+    )
+}
+
+/// Serves the connections that the listener accepts, over a new store with this base, by so many
+/// workers. Each connection is served to its end by one of them, in pieces of so many lines; each
+/// worker acts for a seat of its own, from 0 on, and one more thread, of the last seat, frees what no
+/// version needs. With a limit, that many are accepted, and once all were served the store is ended;
+/// with none, 2^64 - 1. An accept that failed counts. `gs_core::is_base` tests a base.
+///
+/// # Errors
+///
+/// `NoMemory`, where memory was wanted and not given before the first or after the last connection, or
+/// a thread could not be started.
+pub fn serve_all<G: Gate + Sync, R: Threads + Wait + Clock + RandomSource + Sync>(
+    rt: &R,
+    alloc: Global,
+    listener: &TcpListener,
+    base: &str,
+    workers: u16,
+    piece: u32,
+    limit: Option<u64>,
+    gate: &G,
+) -> Result<Ended, Refusal>
+    requires base { is_base base.now ≡ true }
+    requires some { 1 ≤ workers }
+    requires few { workers ≤ 256 }
+    requires lines { 1 ≤ piece }
+    requires most_lines { piece ≤ 4096 }
+    ensures refused { IfErr result (λ r. r ≡ Refusal.NoMemory) }
+    ensures ended { IfOk result (EndsAs workers (record { base = base.now; piece = piece })) }
+{
+    let plan = Plan {
+        alloc,
+        base,
+        piece,
+        patience: patience(),
+    };
+    serve_within(rt, plan, listener, workers, limit, gate)
+}
