@@ -30,11 +30,15 @@ fn written(alloc: Global, room: usize) -> Result<Vec<u8>, AllocError> {
     Ok(text)
 }
 
+/// Whether the replies are written, with a line that has room for so many bytes more.
+fn is_written(alloc: Global, room: usize) -> Result<bool, AllocError> {
+    let text = written(alloc, room)?;
+    Ok(text.as_slice() == WRITTEN)
+}
+
 #[test]
 fn with_memory_each_text_is_written(rt: HostRuntime) -> Result<(), Fail> {
-    for room in [0, 1_000] {
-        let text = written(rt.alloc(), room)?;
-        assert_eq!(&rt; text.as_slice(), WRITTEN);
-    }
+    assert!(&rt; is_written(rt.alloc(), 0)?);
+    assert!(&rt; is_written(rt.alloc(), 1_000)?);
     Ok(())
 }

@@ -136,15 +136,21 @@ fn expected(alloc: Global, pieces: &str) -> Result<Vec<u8>, AllocError> {
     Ok(bytes)
 }
 
+/// The pieces of the root of the first so many lines.
+fn read(alloc: Global, dict: &mut Dict, triples: usize, count: u32) -> Result<Vec<u8>, Refusal> {
+    let mut keys = Vec::new(alloc);
+    for line in 0..triples {
+        keys.push(key_of(alloc, dict, line)?)?;
+    }
+    pieces(alloc, dict, keys.as_slice(), count)
+}
+
 /// Whether the pieces of a row come.
 fn is_right(alloc: Global, triples: usize, count: u32, wanted: &str) -> Result<bool, Refusal> {
     let mut dict = Dict::new(alloc, 1, u32::MAX)?;
-    let mut keys = Vec::new(alloc);
-    for line in 0..triples {
-        keys.push(key_of(alloc, &mut dict, line)?)?;
-    }
-    let read = pieces(alloc, &dict, keys.as_slice(), count)?;
-    Ok(read.as_slice() == expected(alloc, wanted)?.as_slice())
+    let read = read(alloc, &mut dict, triples, count);
+    drop(dict);
+    Ok(read?.as_slice() == expected(alloc, wanted)?.as_slice())
 }
 
 /// The name of the first row that is wrong.

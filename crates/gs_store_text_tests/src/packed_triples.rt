@@ -61,26 +61,35 @@ fn triple(alloc: Global, terms: &[usize; 3]) -> Result<Triple, Refusal> {
     Ok(Triple::new(subject, predicate, object))
 }
 
-/// The triples of a list.
-fn list(alloc: Global, rows: &[[usize; 3]]) -> Result<Vec<Triple>, Refusal> {
-    let mut triples = Vec::new(alloc);
+/// Appends the triples of a list.
+fn push_list(alloc: Global, rows: &[[usize; 3]], triples: &mut Vec<Triple>) -> Result<(), Refusal> {
     for row in rows {
         triples.push(triple(alloc, row)?)?;
     }
-    Ok(triples)
+    Ok(())
 }
 
-/// The triples of all lists, packed.
-fn packed(alloc: Global) -> Result<PackedTriples, Refusal> {
-    let mut packed = PackedTriples::new(alloc);
-    for rows in &LISTS {
-        let triples = list(alloc, *rows)?;
-        if !packed.make_room(&triples) {
-            return Err(Refusal::NoMemory);
-        }
+/// Packs the triples of a list.
+fn pack(alloc: Global, rows: &[[usize; 3]], packed: &mut PackedTriples) -> Result<bool, Refusal> {
+    let mut triples = Vec::new(alloc);
+    let listed = push_list(alloc, rows, &mut triples);
+    let has_room = packed.make_room(&triples);
+    if has_room {
         packed.add(&triples);
     }
-    Ok(packed)
+    drop(triples);
+    listed?;
+    Ok(has_room)
+}
+
+/// Packs the triples of all lists.
+fn pack_all(alloc: Global, packed: &mut PackedTriples) -> Result<(), Refusal> {
+    for rows in &LISTS {
+        if !pack(alloc, *rows, packed)? {
+            return Err(Refusal::NoMemory);
+        }
+    }
+    Ok(())
 }
 
 /// Whether the text is that of a term's number.
@@ -117,11 +126,20 @@ fn right_triples(alloc: Global, packed: &PackedTriples) -> Result<usize, Refusal
     Ok(right)
 }
 
+/// Whether all lists are packed, and read as they were added.
+fn are_read(alloc: Global) -> Result<bool, Refusal> {
+    let mut packed = PackedTriples::new(alloc);
+    let added = pack_all(alloc, &mut packed);
+    let count = packed.len();
+    let right = right_triples(alloc, &packed);
+    drop(packed);
+    added?;
+    Ok(count == 11 && right? == 11)
+}
+
 #[test]
 fn triples_are_read_as_they_were_added(rt: HostRuntime) -> Result<(), Fail> {
-    let packed = packed(rt.alloc())?;
-    assert_eq!(rt; packed.len(), 11);
-    assert_eq!(rt; right_triples(rt.alloc(), &packed)?, 11);
+    assert!(rt; are_read(rt.alloc())?);
     Ok(())
 }
 

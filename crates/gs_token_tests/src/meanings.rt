@@ -2,11 +2,14 @@
 
 use gs_escape::{iri, local, parts, string};
 use gs_model::Refusal;
-use std::process::Abort;
+use std::alloc::{AllocError, Global};
 use std::test::Fail;
 
+/// A text, and what it means, if anything.
+type Row = (&'static [u8], Option<&'static str>);
+
 /// References between brackets (Turtle, sections 6.3 and 6.4).
-const IRIS: [(&[u8], Option<&str>); 24] = [
+const IRIS: [Row; 24] = [
     (
         b"<http://example.org/#green-goblin>",
         Some("http://example.org/#green-goblin"),
@@ -43,7 +46,7 @@ const IRIS: [(&[u8], Option<&str>); 24] = [
 ];
 
 /// String literals (Turtle, sections 2.5.1 and 6.4).
-const STRINGS: [(&[u8], Option<&str>); 36] = [
+const STRINGS: [Row; 36] = [
     (b"\"That Seventies Show\"", Some("That Seventies Show")),
     (b"'That Seventies Show'", Some("That Seventies Show")),
     (b"\"\"", Some("")),
@@ -92,7 +95,7 @@ const STRINGS: [(&[u8], Option<&str>); 36] = [
 ];
 
 /// Local parts of names (Turtle, sections 2.4 and 6.4).
-const LOCALS: [(&[u8], Option<&str>); 12] = [
+const LOCALS: [Row; 12] = [
     (b"", Some("")),
     (b"video:height", Some("video:height")),
     (b"lat\\-long", Some("lat-long")),
@@ -116,64 +119,82 @@ const PARTS: [(&[u8], Option<(&[u8], &[u8])>); 5] = [
     (b"a", None),
 ];
 
-/// What a call leaves after a text, where it is to be a meaning, and that text alone where not.
-fn check(
-    rt: &impl Abort,
-    reported: Result<(), Refusal>,
-    left: &str,
-    wanted: Option<&str>,
-) -> Result<(), Fail> {
+/// What a text is.
+#[derive(Clone, Copy)]
+enum Form {
+    Iri,
+    String,
+    Local,
+}
+
+fn read(form: Form, text: &[u8], left: &mut String) -> Result<(), Refusal> {
+    match form {
+        Form::Iri => iri(text, left),
+        Form::String => string(text, left),
+        Form::Local => local(text, left),
+    }
+}
+
+/// Whether a call leaves the meaning after what stood there, and where there is none just that.
+fn is_left(reported: Result<(), Refusal>, left: &str, wanted: Option<&str>) -> bool {
     match wanted {
-        Some(meaning) => {
-            assert_eq!(rt; reported, Ok(()));
-            assert_eq!(rt; left.strip_prefix("\u{e9}"), Some(meaning));
-        }
-        None => {
-            assert_eq!(rt; reported, Err(Refusal::Syntax(0)));
-            assert_eq!(rt; left, "\u{e9}");
+        Some(meaning) => reported == Ok(()) && left.strip_prefix("\u{e9}") == Some(meaning),
+        None => reported == Err(Refusal::Syntax(0)) && left == "\u{e9}",
+    }
+}
+
+/// Whether a text has this meaning, or none.
+fn is_right(
+    alloc: Global,
+    form: Form,
+    text: &[u8],
+    wanted: Option<&str>,
+) -> Result<bool, AllocError> {
+    let mut left = String::from_str(alloc, "\u{e9}")?;
+    let reported = read(form, text, &mut left);
+    Ok(is_left(reported, left.as_str(), wanted))
+}
+
+/// The first text that means something else.
+fn wrong_row(alloc: Global, form: Form, rows: &[Row]) -> Result<Option<&'static [u8]>, AllocError> {
+    for (text, wanted) in rows {
+        if !is_right(alloc, form, text, *wanted)? {
+            return Ok(Some(text));
         }
     }
-    Ok(())
+    Ok(None)
+}
+
+/// The first name that is parted elsewhere.
+fn wrong_name() -> Option<&'static [u8]> {
+    for row in &PARTS {
+        let (text, wanted) = *row;
+        if parts(text) != wanted {
+            return Some(text);
+        }
+    }
+    None
 }
 
 #[test]
 fn iris(rt: HostRuntime) -> Result<(), Fail> {
-    for row in &IRIS {
-        let (text, wanted) = *row;
-        let mut left = String::from_str(rt.alloc(), "\u{e9}")?;
-        let result = iri(text, &mut left);
-        check(&rt, result, left.as_str(), wanted)?;
-    }
+    assert_eq!(rt; wrong_row(rt.alloc(), Form::Iri, &IRIS)?, None);
     Ok(())
 }
 
 #[test]
 fn strings(rt: HostRuntime) -> Result<(), Fail> {
-    for row in &STRINGS {
-        let (text, wanted) = *row;
-        let mut left = String::from_str(rt.alloc(), "\u{e9}")?;
-        let result = string(text, &mut left);
-        check(&rt, result, left.as_str(), wanted)?;
-    }
+    assert_eq!(rt; wrong_row(rt.alloc(), Form::String, &STRINGS)?, None);
     Ok(())
 }
 
 #[test]
 fn locals(rt: HostRuntime) -> Result<(), Fail> {
-    for row in &LOCALS {
-        let (text, wanted) = *row;
-        let mut left = String::from_str(rt.alloc(), "\u{e9}")?;
-        let result = local(text, &mut left);
-        check(&rt, result, left.as_str(), wanted)?;
-    }
+    assert_eq!(rt; wrong_row(rt.alloc(), Form::Local, &LOCALS)?, None);
     Ok(())
 }
 
 #[test]
-fn names_are_parted_at_their_first_colon(rt: HostRuntime) -> Result<(), Fail> {
-    for row in &PARTS {
-        let (text, wanted) = *row;
-        assert_eq!(&rt; parts(text), wanted);
-    }
-    Ok(())
+fn names_are_parted_at_their_first_colon(rt: HostRuntime) {
+    assert_eq!(rt; wrong_name(), None);
 }
