@@ -128,10 +128,11 @@ fn run<
         drop(shared);
         return None;
     };
-    let Some((back, faults)) = work_all(rt, alloc, shared.hall(), passes) else {
+    let Some(worked) = work_all(rt, alloc, shared.hall(), passes) else {
         drop(shared);
         return None;
     };
+    let (back, faults) = worked;
     if back.len() != 4 {
         drop(back);
         drop(shared);

@@ -228,7 +228,8 @@ fn push_pattern(pattern: &Pattern, lines: &mut Vec<u8>) -> Result<(), AllocError
     lines.extend_from_slice(text_of(&pattern.predicate))?;
     lines.push(b' ')?;
     lines.extend_from_slice(text_of(&pattern.object))?;
-    lines.push(b'\n')
+    lines.push(b'\n')?;
+    Ok(())
 }
 
 /// Whether patterns have these lines.

@@ -103,13 +103,15 @@ fn write_and_read_at<
     let reader = passes.pop();
     let writer = passes.pop();
     drop(passes);
-    match (writer, reader) {
-        (Some(writer), Some(reader)) => { write_and_read(rt, alloc, shared.hall(), writer, reader) }
-        other => {
-            drop(other);
-            None
-        }
-    }
+    let Some(writer) = writer else {
+        drop(reader);
+        return None;
+    };
+    let Some(reader) = reader else {
+        drop(writer);
+        return None;
+    };
+    write_and_read(rt, alloc, shared.hall(), writer, reader)
 }
 
 /// One thread writes, and once it has ended another reads.

@@ -66,18 +66,18 @@ fn act_at<C: Side, T: Side, B: Room, R: Wait>(
     let is_over = too_far.is_some();
     drop(too_far);
     let last = if is_over { None } else { last_of(shared, 1) };
-    match (own, last) {
-        (Some(mut own), Some(mut last)) => {
-            let outcome = act(rt, shared, &mut own, &mut last);
-            drop(last);
-            drop(own);
-            Some(outcome)
-        }
-        other => {
-            drop(other);
-            None
-        }
-    }
+    let Some(mut own) = own else {
+        drop(last);
+        return None;
+    };
+    let Some(mut last) = last else {
+        drop(own);
+        return None;
+    };
+    let outcome = act(rt, shared, &mut own, &mut last);
+    drop(last);
+    drop(own);
+    Some(outcome)
 }
 
 /// The same of a new store.

@@ -34,17 +34,17 @@ fn ask_both<C: Side, T: Side, B: Room, R: Wait>(
     let second = passes.pop();
     let first = passes.pop();
     drop(passes);
-    match (first, second) {
-        (Some(first), Some(second)) => {
-            let first = ask(rt, hall, first, 65_536);
-            let second = ask(rt, hall, second, 2);
-            both(alloc, first, second)
-        }
-        other => {
-            drop(other);
-            None
-        }
-    }
+    let Some(first) = first else {
+        drop(second);
+        return None;
+    };
+    let Some(second) = second else {
+        drop(first);
+        return None;
+    };
+    let first = ask(rt, hall, first, 65_536);
+    let second = ask(rt, hall, second, 2);
+    both(alloc, first, second)
 }
 
 /// One pass asks as often as a page has entries, and then another twice.
