@@ -82,7 +82,9 @@ def wrong_blocks(page, made, program):
         (room / "tree").mkdir()
         tree = tree_with(program, room / "tree")
         environment = os.environ | {"LC_ALL": "C.UTF-8", "TMPDIR": name}
-        shell = subprocess.Popen(["bash"], cwd=tree, stdin=subprocess.PIPE, env=environment, start_new_session=True)
+        # What the shell itself says, as of jobs that ended, is shown where a block is wrong.
+        own = open(room / "own", "w+", encoding="utf-8")
+        shell = subprocess.Popen(["bash"], cwd=tree, stdin=subprocess.PIPE, stderr=own, env=environment, start_new_session=True)
         try:
             shell.communicate(script_of(made, room).encode(), timeout=SECONDS)
         except subprocess.TimeoutExpired:
@@ -97,6 +99,9 @@ def wrong_blocks(page, made, program):
             said = path.read_text(encoding="utf-8") if path.exists() else "(it was not run)\n"
             if kind == "run" and said != printed:
                 wrong.append(f"{page}, line {line}: it prints\n{said}and the page says\n{printed}")
+        own.seek(0)
+        wrong += [f"the shell says\n{own.read()}"] if wrong else []
+        own.close()
     return wrong
 
 
@@ -105,7 +110,7 @@ def main(program):
     for page, made in [("README.md", readme_steps())] + [(page, steps(page)) for page in PAGES]:
         found = wrong_blocks(page, made, program)
         many = sum(it[1] == "run" for it in made)
-        print(f"{page}: {many} blocks, {len(found)} wrong", flush=True)
+        print(f"{page}: {many} blocks, {'wrong' if found else 'all right'}", flush=True)
         wrong += found
     print("\n".join(wrong), end="")
     sys.exit(1 if wrong else 0)
