@@ -8,6 +8,7 @@ import os
 import pathlib
 import re
 import signal
+import socket
 import subprocess
 import sys
 import tempfile
@@ -16,6 +17,8 @@ TOP = pathlib.Path(__file__).resolve().parent.parent
 PAGES = ("docs/USING.md", "docs/SCALING.md")
 # Where the session of README begins.
 FIRST_LINE = "cats=localhost:8080/graphs/cats"
+# Where the pages listen: what another program has there is not to be written to.
+PORTS = (8080, 8081, 8180, 8181, 8182, 8183, 8443)
 SECONDS = 240
 BLOCK = re.compile(r"(?ms)^```([^\n]*)\n(.*?)^```$")
 
@@ -44,7 +47,7 @@ def readme_steps():
     options = next(it[2] for it in reversed(found[:start]) if "--listen" in it[2]).rsplit(" -- ", 1)[1].strip()
     line, _, commands = found[start]
     return [
-        (line, "run", f"./crates/gsd/out/gsd {options} > listening.txt & server=$!\nsleep 1\n", ""),
+        (line, "run", f"./crates/gsd/out/gsd {options} > listening.txt & server=$!\nuntil curl -s localhost:8080; do sleep 0.2; done\n", ""),
         (line, "run", commands, found[start + 1][2]),
         (line, "run", "kill $server\n", ""),
     ]
@@ -105,7 +108,16 @@ def wrong_blocks(page, made, program):
     return wrong
 
 
+def taken(port):
+    with socket.socket() as asking:
+        return asking.connect_ex(("127.0.0.1", port)) == 0
+
+
 def main(program):
+    ports = [port for port in PORTS if taken(port)]
+    if ports:
+        print(f"other programs have the ports {', '.join(map(str, ports))}")
+        sys.exit(2)
     wrong = []
     for page, made in [("README.md", readme_steps())] + [(page, steps(page)) for page in PAGES]:
         found = wrong_blocks(page, made, program)
