@@ -8,6 +8,7 @@ import os
 import pathlib
 import re
 import signal
+import socket
 import subprocess
 import sys
 import tempfile
@@ -16,6 +17,8 @@ TOP = pathlib.Path(__file__).resolve().parent.parent
 PAGES = ("docs/USING.md", "docs/SCALING.md")
 # Where the session of README begins.
 FIRST_LINE = "cats=localhost:8080/graphs/cats"
+# Where the pages listen: what another program has there is not to be written to.
+PORTS = (8080, 8081, 8180, 8181, 8182, 8183, 8443)
 SECONDS = 240
 BLOCK = re.compile(r"(?ms)^```([^\n]*)\n(.*?)^```$")
 
@@ -44,7 +47,7 @@ def readme_steps():
     options = next(it[2] for it in reversed(found[:start]) if "--listen" in it[2]).rsplit(" -- ", 1)[1].strip()
     line, _, commands = found[start]
     return [
-        (line, "run", f"./crates/gsd/out/gsd {options} > listening.txt & server=$!\nsleep 1\n", ""),
+        (line, "run", f"./crates/gsd/out/gsd {options} > listening.txt & server=$!\nuntil curl -s localhost:8080; do sleep 0.2; done\n", ""),
         (line, "run", commands, found[start + 1][2]),
         (line, "run", "kill $server\n", ""),
     ]
@@ -82,7 +85,9 @@ def wrong_blocks(page, made, program):
         (room / "tree").mkdir()
         tree = tree_with(program, room / "tree")
         environment = os.environ | {"LC_ALL": "C.UTF-8", "TMPDIR": name}
-        shell = subprocess.Popen(["bash"], cwd=tree, stdin=subprocess.PIPE, env=environment, start_new_session=True)
+        # What the shell itself says, as of jobs that ended, is shown where a block is wrong.
+        own = open(room / "own", "w+", encoding="utf-8")
+        shell = subprocess.Popen(["bash"], cwd=tree, stdin=subprocess.PIPE, stderr=own, env=environment, start_new_session=True)
         try:
             shell.communicate(script_of(made, room).encode(), timeout=SECONDS)
         except subprocess.TimeoutExpired:
@@ -97,15 +102,27 @@ def wrong_blocks(page, made, program):
             said = path.read_text(encoding="utf-8") if path.exists() else "(it was not run)\n"
             if kind == "run" and said != printed:
                 wrong.append(f"{page}, line {line}: it prints\n{said}and the page says\n{printed}")
+        own.seek(0)
+        wrong += [f"the shell says\n{own.read()}"] if wrong else []
+        own.close()
     return wrong
 
 
+def taken(port):
+    with socket.socket() as asking:
+        return asking.connect_ex(("127.0.0.1", port)) == 0
+
+
 def main(program):
+    ports = [port for port in PORTS if taken(port)]
+    if ports:
+        print(f"other programs have the ports {', '.join(map(str, ports))}")
+        sys.exit(2)
     wrong = []
     for page, made in [("README.md", readme_steps())] + [(page, steps(page)) for page in PAGES]:
         found = wrong_blocks(page, made, program)
         many = sum(it[1] == "run" for it in made)
-        print(f"{page}: {many} blocks, {len(found)} wrong", flush=True)
+        print(f"{page}: {many} blocks, {'wrong' if found else 'all right'}", flush=True)
         wrong += found
     print("\n".join(wrong), end="")
     sys.exit(1 if wrong else 0)

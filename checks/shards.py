@@ -54,7 +54,7 @@ class Balancer:
 
     def __enter__(self):
         self.process = subprocess.Popen(self.words, env=self.environment, stdin=subprocess.DEVNULL)
-        for _ in range(100):
+        for _ in range(400):
             with contextlib.suppress(OSError), socket.create_connection(("127.0.0.1", self.port), timeout=1):
                 return self
             time.sleep(0.05)
