@@ -1,4 +1,4 @@
-use Rattle.std.proofs.Common.{Vec, Global, option_map}
+use Rattle.std.proofs.Common.{Vec, Global, option_map, rules}
 use Rattle.std.proofs.lemmas.Result.{IfOk-weaker}
 use Rattle.gs_term.specs.declared.triples.Triple.{Triple}
 use Rattle.gs_feeding.proofs.TextLemmas.{ends_text}
@@ -8,3 +8,6 @@ pub returns-in-Fed : goal.returns-in-Fed
 returns-in-Fed c =
     IfOk-weaker c.finish_reading.result _ _
     (λ p ended. ends_text c.args.self p.0 c.in-Fed.language c.in-Fed.reading (option_map (λ (v : Vec Triple Global). v.items) p.1) c.in-Fed.is ended) c.finish_reading.ensures
+
+pub returns-in-Faulted : goal.returns-in-Faulted
+returns-in-Faulted c = search rules
