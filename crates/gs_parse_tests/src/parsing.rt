@@ -55,7 +55,7 @@ fn lines_of(alloc: Global, triples: &[Triple]) -> Result<Vec<u8>, Refusal> {
 }
 
 /// What a parser gives of tokens.
-fn parsed(alloc: Global, parser: &mut Parser, tokens: &[Token]) -> Result<Parsed, Refusal> {
+fn parse(alloc: Global, parser: &mut Parser, tokens: &[Token]) -> Result<Parsed, Refusal> {
     let mut triples = Vec::new(alloc);
     let stepped = step_all(parser, tokens, &mut triples);
     let lines = lines_of(alloc, triples.as_slice());
@@ -80,7 +80,7 @@ fn parse_text(alloc: Global, text: &[u8]) -> Result<Parsed, Refusal> {
         drop(tokens);
         return Err(Refusal::NoMemory);
     };
-    let parsed = parsed(alloc, &mut parser, tokens.as_slice());
+    let parsed = parse(alloc, &mut parser, tokens.as_slice());
     drop(parser);
     drop(tokens);
     parsed
