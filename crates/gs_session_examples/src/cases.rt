@@ -19,6 +19,25 @@ pub enum Numbers {
     All,
     NoRequest,
     NoCommit,
+    /// The nodes from 0 to this one.
+    Nodes(u32),
+    /// The terms from 0 to this one.
+    Terms(u32),
+}
+
+/// The numbers that are left by a line that says it.
+fn numbers_left(line: &str) -> Option<Numbers> {
+    if line == "! no request number is left" {
+        return Some(Numbers::NoRequest);
+    }
+    if line == "! no commit number is left" {
+        return Some(Numbers::NoCommit);
+    }
+    if let Some(last) = line.strip_prefix("! the last node is ") {
+        return last.parse().ok().map(Numbers::Nodes);
+    }
+    let last = line.strip_prefix("! the last term is ")?;
+    last.parse().ok().map(Numbers::Terms)
 }
 
 /// A conversation under a name, once all its lines were taken.
@@ -100,15 +119,9 @@ impl<'a> Case<'a> {
 
     /// Takes which numbers the store has left; whether the line says such a thing.
     fn set(&mut self, line: &str) -> bool {
-        if line == "! no request number is left" {
-            self.numbers = Numbers::NoRequest;
-            return true;
-        }
-        if line == "! no commit number is left" {
-            self.numbers = Numbers::NoCommit;
-            return true;
-        }
-        false
+        let numbers = numbers_left(line);
+        self.numbers = numbers.unwrap_or(self.numbers);
+        numbers.is_some()
     }
 
     /// Takes a line that should say something; whether it does, which it can only after the name.

@@ -15,6 +15,8 @@ pub fn new_store(alloc: Global, numbers: Numbers) -> Result<Store, Refusal> {
         Numbers::All => Store::new(alloc, 1, BASE),
         Numbers::NoRequest => Store::starting_at(alloc, 1, BASE, 0, LAST_NUMBER),
         Numbers::NoCommit => Store::starting_at(alloc, 1, BASE, LAST_NUMBER, 0),
+        Numbers::Nodes(last) => Store::with_last(alloc, 1, BASE, last, u32::MAX),
+        Numbers::Terms(last) => Store::with_last(alloc, 1, BASE, u32::MAX, last),
     }
 }
 
