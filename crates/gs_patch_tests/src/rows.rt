@@ -36,8 +36,12 @@ many | a p b, a p c, b p a, b p c, c p a, c p b | + d p a, d p b, a p d, b p d ;
 "#;
 
 /// The number that a column has.
-fn number(column: &str) -> u128 {
-    column.trim().parse::<u128>().unwrap_or_default()
+fn number(column: Option<&str>) -> u128 {
+    column
+        .unwrap_or_default()
+        .trim()
+        .parse::<u128>()
+        .unwrap_or_default()
 }
 
 /// Whether an update leaves just the triples wanted, and says so many.
@@ -56,17 +60,16 @@ fn leaves(
 }
 
 /// Whether a row is right, without its graph, which is lent.
-fn is_so_of(alloc: Global, graph: &[Triple], columns: [&str; 4]) -> Result<bool, Refusal> {
-    let [update, wanted, added, removed] = columns;
+fn is_so_of(
+    alloc: Global,
+    graph: &[Triple],
+    update: &str,
+    wanted: &str,
+    added: u128,
+    removed: u128,
+) -> Result<bool, Refusal> {
     let update = operations(alloc, update)?;
-    let answer = leaves(
-        alloc,
-        graph,
-        update.as_slice(),
-        wanted,
-        number(added),
-        number(removed),
-    );
+    let answer = leaves(alloc, graph, update.as_slice(), wanted, added, removed);
     drop(update);
     answer
 }
@@ -75,12 +78,13 @@ fn is_so_of(alloc: Global, graph: &[Triple], columns: [&str; 4]) -> Result<bool,
 fn is_so(alloc: Global, row: &str) -> Result<bool, Refusal> {
     let mut columns = row.split('|');
     let _name = columns.next();
-    let graph = triples(alloc, columns.next().unwrap_or_default())?;
-    let mut others = [""; 4];
-    for (column, text) in others.iter_mut().zip(columns) {
-        *column = text;
-    }
-    let answer = is_so_of(alloc, graph.as_slice(), others);
+    let graph = columns.next().unwrap_or_default();
+    let update = columns.next().unwrap_or_default();
+    let wanted = columns.next().unwrap_or_default();
+    let added = number(columns.next());
+    let removed = number(columns.next());
+    let graph = triples(alloc, graph)?;
+    let answer = is_so_of(alloc, graph.as_slice(), update, wanted, added, removed);
     drop(graph);
     answer
 }
