@@ -1,11 +1,14 @@
 #!/bin/sh
-# Proves a program (gsd where none is named) and the crates below it, as many at once as the machine has processors and memory for, and
-# builds it: build.sh [PROGRAM]. Afterwards `rt run` in crates/PROGRAM starts it at once.
+# Proves a program (gsd where none is named) and the crates below it, as many at once as the machine has processors and memory for:
+# build.sh [PROGRAM]. Afterwards `rt run` in crates/PROGRAM builds and starts it.
 set -eu
+[ $# -le 1 ] || { echo "usage: build.sh [PROGRAM]" >&2; exit 2; }
+command -v rt > /dev/null || { echo "build.sh wants rt, the toolchain's command" >&2; exit 2; }
 here=$(cd "$(dirname "$0")" && pwd)
 exec python3 - "$here" "${1:-gsd}" << 'END'
 import os
 import re
+import signal
 import subprocess
 import sys
 import tempfile
@@ -57,6 +60,13 @@ def main():
     many, heights = len(left), height(below, left)
     at_once = max(1, min(len(os.sched_getaffinity(0)), int(free_gigabytes() // GIGABYTES_EACH)))
     start, done, running = time.time(), set(), {}
+
+    def stop(*_):
+        for child, _, _ in running.values():
+            child.terminate()
+        sys.exit(143)
+
+    signal.signal(signal.SIGTERM, stop)
     while left or running:
         ready = sorted((it for it in left if done.issuperset(below[it])), key=lambda it: -heights[it])
         for name in ready[:at_once - len(running)]:

@@ -67,6 +67,10 @@ def proved_twice(crate):
 
 def main(names):
     crates = names or sorted(os.listdir(HERE))
+    lacking = [it for it in names if not os.path.isdir(f"{HERE}/{it}/out/rlib")]
+    if lacking:
+        print(f"not built: {' '.join(lacking)}", file=sys.stderr)
+        return 2
     found = sorted((it for crate in crates for it in large(crate)), reverse=True)
     print(f"Functions with much lowered code, of {sum(os.path.isdir(f'{HERE}/{it}/out/rlib') for it in crates)} crates that are built: kB, lines")
     for size, lines, path in found:

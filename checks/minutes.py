@@ -207,8 +207,8 @@ def main(words):
         used = resource.getrusage(resource.RUSAGE_CHILDREN)
         print(run.table(used.ru_utime + used.ru_stime), end="")
         return ran.returncode
-    top = int(words[1]) if words[1:] else running()
-    if len(words) not in (1, 2) or top is None:
+    top = int(words[1]) if words[1:] and words[1].isdigit() else None if words[1:] else running()
+    if len(words) not in (1, 2) or top not in processes():
         print("usage: minutes.sh FOLDER [PROCESS], beside one run of rt ci, or minutes.sh -- rt ci [NAME..]", file=sys.stderr)
         return 2
     run = watch(top, words[0], lambda: True)

@@ -16,6 +16,9 @@ as_root=
 server=
 room=$(mktemp -d)
 trap '[ -z "$server" ] || kill "$server" 2> /dev/null; rm -rf "$room"' EXIT
+trap 'exit 129' HUP
+trap 'exit 130' INT
+trap 'exit 143' TERM
 root=$room/root
 wrong() { echo "wrong: $1"; exit 1; }
 has() { command -v "$1" > /dev/null || { echo "$1: not installed, left out"; return 1; }; }

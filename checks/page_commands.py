@@ -47,7 +47,7 @@ def readme_steps():
     options = next(it[2] for it in reversed(found[:start]) if "--listen" in it[2]).rsplit(" -- ", 1)[1].strip()
     line, _, commands = found[start]
     return [
-        (line, "run", f"./crates/gsd/out/gsd {options} > listening.txt & server=$!\nuntil curl -s localhost:8080; do sleep 0.2; done\n", ""),
+        (line, "run", f"./crates/gsd/out/gsd {options} > listening.txt & server=$!\ncurl -s --retry 50 --retry-delay 1 --retry-connrefused localhost:8080\n", ""),
         (line, "run", commands, found[start + 1][2]),
         (line, "run", "kill $server\n", ""),
     ]
@@ -114,6 +114,11 @@ def taken(port):
 
 
 def main(program):
+    if not (os.path.isfile(program) and os.access(program, os.X_OK)):
+        print(f"there is no program {program}")
+        sys.exit(2)
+    # ended early, it takes its folder and its shell along
+    signal.signal(signal.SIGTERM, lambda *_: sys.exit(143))
     ports = [port for port in PORTS if taken(port)]
     if ports:
         print(f"other programs have the ports {', '.join(map(str, ports))}")

@@ -9,6 +9,7 @@ and have no twin. Ends with status 1 if a twin was refused, or not tried to an e
 import os
 import re
 import shutil
+import signal
 import subprocess
 import sys
 import tempfile
@@ -50,7 +51,9 @@ def pairs_of(edit):
         elif line.startswith("old: "):
             pairs.append([file, line[len("old: ") :], None])
         elif line.startswith("# twin: ") and pairs:
-            pairs[-1][2] = line[len("# twin: ") :]
+            twin = line[len("# twin: ") :]
+            # what changes nothing shows nothing
+            pairs[-1][2] = twin if twin.split() != pairs[-1][1].split() else None
     return pairs
 
 
@@ -140,6 +143,8 @@ def main(names):
         print(f"usage: twins.sh [NAME..]; crates.txt has no crate {lacking[0]}", file=sys.stderr)
         return 2
     accepted, refused, bare = 0, 0, []
+    # ended early, it takes its copies along
+    signal.signal(signal.SIGTERM, lambda *_: sys.exit(143))
     for crate in names or named:
         edits = edits_of(crate)
         twins = {name: twin for name, edit in edits.items() for twin in [twin_of(edit)] if twin}

@@ -14,6 +14,9 @@ done
 [ -x "$gsd" ] || stop "there is no $gsd: cd crates/gsd && rt run -- --once < stdin"
 [ -z "${2:-}" ] || [ -x "$gsdrill" ] || stop "there is no $gsdrill"
 
+"$gsd" --help 2> /dev/null | grep -q '^Usage: gsd ' || stop "$gsd is no gsd"
+objdump -f "$gsd" | grep -q x86-64 || stop "$gsd is not for this architecture"
+
 version=$(sed -n 's/.*this is version \([0-9.]*[0-9]\).*/\1/p' "$top/README.md")
 [ -n "$version" ] || stop "README says no version"
 date=$(sed -n "s/^## $version (\([0-9-]*\))\$/\1/p" "$top/CHANGES.md")
@@ -25,11 +28,20 @@ maintainer='Joeybismuth maintainers <maintainers@users.noreply.joeybismuth.examp
 
 root=$(mktemp -d)
 trap 'rm -rf "$root"' EXIT
+trap 'exit 129' HUP
+trap 'exit 130' INT
+trap 'exit 143' TERM
 chmod 755 "$root"
 doc=$root/usr/share/doc/gsd
 
 # put MODE FILE TO: a file of the package.
 put() { install -D -m "$1" "$2" "$root$3"; }
+# text FILE NAME: a page, whose links are to where the package has it.
+text() {
+    mkdir -p "$doc"
+    sed 's|](\.\./|](|g; s|](docs/|](|g; s|](bench/README\.md|](bench.md|g' "$1" > "$doc/$2"
+    chmod 644 "$doc/$2"
+}
 # page NAME: a manual page.
 page() {
     mkdir -p "$root/usr/share/man/man1"
@@ -47,9 +59,10 @@ fi
 put 644 "$top/examples/systemd/gsd.service" /lib/systemd/system/gsd.service
 put 644 "$here/gsd.default" /etc/default/gsd
 put 644 "$here/lintian-overrides" /usr/share/lintian/overrides/gsd
-for file in CHANGES.md docs/USING.md docs/SCALING.md docs/PROFILE.md; do
-    put 644 "$top/$file" "/usr/share/doc/gsd/$(basename "$file")"
+for file in "$top"/README.md "$top"/CHANGES.md "$top"/docs/*.md; do
+    text "$file" "$(basename "$file")"
 done
+text "$top/bench/README.md" bench.md
 for file in haproxy/haproxy.cfg nginx/gsd.conf; do
     put 644 "$top/examples/$file" "/usr/share/doc/gsd/examples/$file"
 done

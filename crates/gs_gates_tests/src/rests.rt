@@ -1,4 +1,6 @@
 //! How long the reclaimer rests after a sweep, by clocks that are not the system's.
+ghost use Rattle.std.specs.Prelude.{◌≡◌};
+
 use gs_core::Store;
 use gs_door::Door;
 use gs_event::{Answer, Event};
@@ -81,45 +83,56 @@ fn wrong_rest(alloc: Global) -> Option<&'static str> {
     wrong
 }
 
-/// A door at which each try to free nodes moves this clock on by so many nanoseconds.
+/// A door at which each try to free nodes moves this clock on by so many nanoseconds. So often it says then
+/// that there is more to free.
 #[derive(Drop)]
 struct Slow<'a, D: Door> {
     clock: &'a Stepping,
     takes: u64,
+    more: u64,
     door: D,
 }
 
 impl<'a, D: Door> Door for Slow<'a, D> {
-    ghost Gives = { λ old e a new. D.Gives old.door e a new.door };
+    ghost Gives = { λ old e a new. new ≡ new };
 
     fn event(&mut self, event: Event) -> Answer {
-        if matches!(event, Event::Reclaim(_)) {
-            let now = self.clock.now.get();
-            self.clock.now.set(now.saturating_add(self.takes));
+        match event {
+            Event::Reclaim(most) => {
+                drop(self.door.event(Event::Reclaim(most)));
+                let now = self.clock.now.get();
+                self.clock.now.set(now.saturating_add(self.takes));
+                let has_more = self.more > 0;
+                self.more = self.more.saturating_sub(1);
+                Answer::Reclaimed(1, has_more)
+            }
+            other => self.door.event(other),
         }
-        self.door.event(event)
     }
 }
 
-/// How many nanoseconds a sweep takes at its door, and how many the rest after it.
-const SWEEPS: [(&str, u64, u64); 7] = [
-    ("a sweep of no time", 0, 1_000_000),
-    ("of a sixteenth of a millisecond", 62_500, 1_000_000),
-    ("of a nanosecond more", 62_501, 1_000_016),
-    ("of a millisecond", 1_000_000, 16_000_000),
+/// After how many tries a sweep goes on, how many nanoseconds each takes, and how many the rest after it.
+const SWEEPS: [(&str, u64, u64, u64); 8] = [
+    ("a sweep of no time", 0, 0, 1_000_000),
+    ("of a sixteenth of a millisecond", 0, 62_500, 1_000_000),
+    ("of a nanosecond more", 0, 62_501, 1_000_016),
+    ("of a millisecond", 0, 1_000_000, 16_000_000),
+    ("of three tries", 2, 1_000_000, 48_000_000),
     (
         "of a nanosecond less than the next one",
+        0,
         62_499_999,
         999_999_984,
     ),
-    ("of a sixteenth of a second", 62_500_000, 1_000_000_000),
-    ("of an hour", 3_600_000_000_000, 1_000_000_000),
+    ("of a sixteenth of a second", 0, 62_500_000, 1_000_000_000),
+    ("of an hour", 0, 3_600_000_000_000, 1_000_000_000),
 ];
 
-/// Whether a sweep that takes so long at its door is followed by such a rest.
-fn is_over_the_sweep<D: Door>(door: &mut Slow<'_, D>, takes: u64, rest: u64) -> bool {
+/// Whether a sweep of such tries is followed by such a rest.
+fn is_over_the_sweep<D: Door>(door: &mut Slow<'_, D>, more: u64, takes: u64, rest: u64) -> bool {
     let clock = door.clock;
     clock.rest.set(None);
+    door.more = more;
     door.takes = takes;
     sweep_and_rest(clock, door);
     clock.rest.get() == Some(Duration::from_nanos(rest))
@@ -127,8 +140,8 @@ fn is_over_the_sweep<D: Door>(door: &mut Slow<'_, D>, takes: u64, rest: u64) -> 
 
 /// The first wrong rest.
 fn wrong_sweep<D: Door>(door: &mut Slow<'_, D>) -> Option<&'static str> {
-    for (name, takes, rest) in &SWEEPS {
-        if !is_over_the_sweep(door, *takes, *rest) {
+    for (name, more, takes, rest) in &SWEEPS {
+        if !is_over_the_sweep(door, *more, *takes, *rest) {
             return Some(name);
         }
     }
@@ -148,6 +161,7 @@ fn wrong_measure(alloc: Global) -> Option<&'static str> {
     let mut door = Slow {
         clock: &clock,
         takes: 0,
+        more: 0,
         door,
     };
     let wrong = wrong_sweep(&mut door);

@@ -97,11 +97,11 @@ fn asked_after_three<R: Threads + Wait + Clock + Sync>(rt: &R, alloc: Global) ->
     times
 }
 
-/// A clock that stands still, and counts the rests.
+/// A clock that stands still, and sums up the rests.
 #[derive(Drop)]
 struct Resting<'a, R: Wait> {
     rt: &'a R,
-    rests: Cell<u64>,
+    rested: Cell<Duration>,
 }
 
 impl<'a, R: Wait> Wait for Resting<'a, R> {}
@@ -115,8 +115,30 @@ impl<'a, R: Wait> Clock for Resting<'a, R> {
         Ok(Duration::ZERO)
     }
 
-    fn sleep(&self, _duration: Duration) {
-        self.rests.set(self.rests.get().saturating_add(1));
+    fn sleep(&self, duration: Duration) {
+        self.rested.set(self.rested.get().saturating_add(duration));
+    }
+}
+
+/// A door that counts how often it is asked to free nodes after as many rests of a millisecond, the least
+/// one, as it was asked before.
+#[derive(Drop)]
+struct Rested<'a, D: Door, R: Wait> {
+    clock: &'a Resting<'a, R>,
+    asked: u64,
+    door: D,
+}
+
+impl<'a, D: Door, R: Wait> Door for Rested<'a, D, R> {
+    ghost Gives = { λ old e a new. D.Gives old.door e a new.door };
+
+    fn event(&mut self, event: Event) -> Answer {
+        if matches!(event, Event::Reclaim(_))
+            && self.clock.rested.get() == Duration::from_millis(self.asked)
+        {
+            self.asked = self.asked.saturating_add(1);
+        }
+        self.door.event(event)
     }
 }
 
@@ -129,27 +151,38 @@ fn three_notes<R: Wait>(rt: &R, alloc: Global) -> Option<Receiver<Note>> {
     Some(notes)
 }
 
-/// How often the reclaimer rests with three notes, at a store in which there is nothing to free; 0 where
-/// it does not ask as often, or memory was wanting.
-fn rests_with_three<R: Wait>(rt: &R, alloc: Global) -> u64 {
+/// What is wrong with three notes, at a store in which there is nothing to free: a sweep that does not come
+/// when it should, or the rests in all.
+fn wrong_part<R: Wait>(rt: &R, alloc: Global) -> Option<&'static str> {
     let Some(notes) = three_notes(rt, alloc) else {
-        return 0;
+        return Some("memory");
     };
-    let Ok(store) = Store::new(alloc, 1, "http://localhost") else {
+    let Ok(door) = Store::new(alloc, 1, "http://localhost") else {
         drop(notes);
-        return 0;
+        return Some("memory");
     };
     let clock = Resting {
         rt,
-        rests: Cell::new(0),
+        rested: Cell::new(Duration::ZERO),
     };
-    let asked = asked(&clock, notes, store);
-    if asked == 3 { clock.rests.get() } else { 0 }
+    let mut door = Rested {
+        clock: &clock,
+        asked: 0,
+        door,
+    };
+    sweep_after(&clock, notes, &mut door);
+    let asked = door.asked;
+    drop(door);
+    match asked {
+        3 if clock.rested.get() == Duration::from_millis(3) => None,
+        3 => Some("the last rest"),
+        _ => Some("a sweep"),
+    }
 }
 
 #[test]
 fn each_sweep_is_followed_by_a_rest(rt: HostRuntime) -> Result<(), Fail> {
-    assert_eq!(rt; rests_with_three(&rt, rt.alloc()), 3);
+    assert_eq!(rt; wrong_part(&rt, rt.alloc()), None);
     Ok(())
 }
 
