@@ -117,12 +117,12 @@ fn is_fault(alloc: Global, parts: &[&[u8]], fault: Option<Refusal>) -> bool {
 /// What stands before and after 70,000 letters `a`, and the fault of the text.
 type Row = (&'static [u8], &'static [u8], Option<Refusal>);
 
-/// The back of the first row whose text has not its fault.
-fn wrong_row(alloc: Global, rows: &[Row]) -> Result<Option<&'static [u8]>, AllocError> {
+/// The place of the first row whose text has not its fault.
+fn wrong_row(alloc: Global, rows: &[Row]) -> Result<Option<usize>, AllocError> {
     let letters = vec![in alloc; b'a'; 70_000]?;
-    for (front, back, fault) in rows {
+    for (place, (front, back, fault)) in rows.iter().enumerate() {
         if !is_fault(alloc, &[*front, letters.as_slice(), *back], *fault) {
-            return Ok(Some(back));
+            return Ok(Some(place));
         }
     }
     Ok(None)
@@ -137,7 +137,7 @@ const FORMS: [Row; 4] = [
 
 #[test]
 fn a_wrong_form_counts_before_a_great_length(rt: HostRuntime) -> Result<(), Fail> {
-    assert!(rt; wrong_row(rt.alloc(), &FORMS)? == None);
+    assert_eq!(rt; wrong_row(rt.alloc(), &FORMS)?, None);
     Ok(())
 }
 
@@ -151,7 +151,7 @@ const STRINGS: [Row; 5] = [
 
 #[test]
 fn a_string_is_the_term_where_no_suffix_begins(rt: HostRuntime) -> Result<(), Fail> {
-    assert!(rt; wrong_row(rt.alloc(), &STRINGS)? == None);
+    assert_eq!(rt; wrong_row(rt.alloc(), &STRINGS)?, None);
     Ok(())
 }
 
@@ -165,7 +165,7 @@ const LITERALS: [Row; 5] = [
 
 #[test]
 fn a_literal_is_tested_at_its_last_token(rt: HostRuntime) -> Result<(), Fail> {
-    assert!(rt; wrong_row(rt.alloc(), &LITERALS)? == None);
+    assert_eq!(rt; wrong_row(rt.alloc(), &LITERALS)?, None);
     Ok(())
 }
 
@@ -178,7 +178,7 @@ const TAGS: [Row; 4] = [
 
 #[test]
 fn a_tag_ends_before_what_is_no_part_of_it(rt: HostRuntime) -> Result<(), Fail> {
-    assert!(rt; wrong_row(rt.alloc(), &TAGS)? == None);
+    assert_eq!(rt; wrong_row(rt.alloc(), &TAGS)?, None);
     Ok(())
 }
 
@@ -203,7 +203,7 @@ fn first_unbroken(alloc: Global, objects: &[&'static [u8]]) -> Option<&'static [
 
 #[test]
 fn what_begins_no_suffix_breaks_the_grammar_after_a_string(rt: HostRuntime) -> Result<(), Fail> {
-    assert!(rt; first_unbroken(rt.alloc(), &OBJECTS) == None);
+    assert_eq!(rt; first_unbroken(rt.alloc(), &OBJECTS), None);
     Ok(())
 }
 
