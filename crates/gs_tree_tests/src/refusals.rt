@@ -63,17 +63,19 @@ fn is_removed(alloc: Global, set: &mut NumberSet, number: u32) -> Result<bool, R
     Ok(removed && !set.contains(number))
 }
 
-/// The first number that does not go into a set, in which the others are looked for too.
+/// The first number that does not go into a set, in which the others are looked for too, or how many there
+/// are where it has not as many then.
 fn first_not_added(alloc: Global, set: &mut NumberSet) -> Result<Option<u32>, Refusal> {
     for number in 0..NUMBERS {
         if !is_added(alloc, set, number)? {
             return Ok(Some(number));
         }
     }
-    Ok(None)
+    let is_full = set.count() == NUMBERS as usize;
+    Ok(if is_full { None } else { Some(NUMBERS) })
 }
 
-/// The first number that does not go out of the set.
+/// The first number that does not go out of the set, or how many there are where it is not empty then.
 fn first_not_removed(alloc: Global, set: &mut NumberSet) -> Result<Option<u32>, Refusal> {
     for place in 0..NUMBERS {
         let number = NUMBERS.saturating_sub(1).saturating_sub(place);
@@ -81,38 +83,36 @@ fn first_not_removed(alloc: Global, set: &mut NumberSet) -> Result<Option<u32>, 
             return Ok(Some(number));
         }
     }
-    Ok(None)
-}
-
-/// Whether all numbers go into the set.
-fn are_added(alloc: Global, set: &mut NumberSet) -> Result<bool, Refusal> {
-    Ok(first_not_added(alloc, set)? == None && set.count() == NUMBERS as usize)
+    Ok(if set.count() == 0 {
+        None
+    } else {
+        Some(NUMBERS)
+    })
 }
 
 #[test]
 fn a_refused_number_is_not_there(rt: HostRuntime) -> Result<(), Fail> {
     let mut set = NumberSet::new(rt.alloc());
-    let are_there = are_added(rt.alloc(), &mut set);
+    let first = first_not_added(rt.alloc(), &mut set);
     drop(set);
-    assert!(rt; are_there?);
+    assert_eq!(rt; first?, None);
     Ok(())
 }
 
-/// Whether all numbers go into the set and out of it.
-fn are_added_and_removed(alloc: Global, set: &mut NumberSet) -> Result<bool, Refusal> {
-    Ok(
-        first_not_added(alloc, set)? == None
-            && first_not_removed(alloc, set)? == None
-            && set.count() == 0,
-    )
+/// The first number that does not go into the set, or out of it once all are there.
+fn first_wrong(alloc: Global, set: &mut NumberSet) -> Result<Option<u32>, Refusal> {
+    match first_not_added(alloc, set)? {
+        None => first_not_removed(alloc, set),
+        number => Ok(number),
+    }
 }
 
 #[test]
 fn a_refused_removal_leaves_the_number(rt: HostRuntime) -> Result<(), Fail> {
     let mut set = NumberSet::new(rt.alloc());
-    let are_gone = are_added_and_removed(rt.alloc(), &mut set);
+    let first = first_wrong(rt.alloc(), &mut set);
     drop(set);
-    assert!(rt; are_gone?);
+    assert_eq!(rt; first?, None);
     Ok(())
 }
 

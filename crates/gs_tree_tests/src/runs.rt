@@ -150,11 +150,11 @@ fn an_empty_run_adds_nothing(rt: HostRuntime) -> Result<(), Refusal> {
 }
 
 /// Runs that come one after another, and how many numbers of each are added: none where it does not rise.
-const RUNS: [(&[u32], Option<usize>); 4] = [
-    (&[3, 3], None),
-    (&[4, 3], None),
-    (&[1, 2, 5, 4], None),
-    (&[1, 2, 4, 5], Some(4)),
+const RUNS: [(&str, &[u32], Option<usize>); 4] = [
+    ("a number twice", &[3, 3], None),
+    ("a number that falls", &[4, 3], None),
+    ("a last number that falls", &[1, 2, 5, 4], None),
+    ("numbers that rise", &[1, 2, 4, 5], Some(4)),
 ];
 
 /// Whether so many numbers of a run are added.
@@ -173,14 +173,15 @@ fn adds(
     Ok(answer? == added)
 }
 
-/// The first run that adds something else, or no numbers where the set then has not four.
-fn wrong_run(alloc: Global, set: &mut NumberSet) -> Result<Option<&'static [u32]>, Refusal> {
-    for (numbers, added) in &RUNS {
+/// The first run that adds something else.
+fn wrong_run(alloc: Global, set: &mut NumberSet) -> Result<Option<&'static str>, Refusal> {
+    for (name, numbers, added) in &RUNS {
         if !adds(alloc, set, numbers, *added)? {
-            return Ok(Some(numbers));
+            return Ok(Some(name));
         }
     }
-    Ok(if set.count() == 4 { None } else { Some(&[]) })
+    let is_right = set.count() == 4;
+    Ok(if is_right { None } else { Some("their count") })
 }
 
 #[test]
@@ -188,6 +189,6 @@ fn a_run_that_does_not_rise_is_reported(rt: HostRuntime) -> Result<(), Refusal> 
     let mut set = NumberSet::new(rt.alloc());
     let wrong = wrong_run(rt.alloc(), &mut set);
     drop(set);
-    assert!(&rt; wrong? == None);
+    assert_eq!(&rt; wrong?, None);
     Ok(())
 }
