@@ -1,5 +1,5 @@
 """Compares the pages with the tree: each edit that must fail is a row of docs/WRONG_BODIES.md, and each row an edit;
-each crate has a page of its own, a line of crates.txt, and a place in README's table and in docs/ARCHITECTURE.md; and
+each crate has a page of its own, a line of crates.txt, and a place in docs/PROVED.md and in docs/ARCHITECTURE.md; and
 each file and crate that a table of the pages names is there. Prints what does not agree, and ends with status 1 if
 anything is wrong."""
 
@@ -30,12 +30,12 @@ wrong += [f"docs/WRONG_BODIES.md names {row} twice" for row in sorted({it for it
 for crate in crates:
     if not os.path.isfile(f"crates/{crate}/README.md"):
         wrong.append(f"{crate} has no page of its own")
-    for page in ("README.md", "docs/ARCHITECTURE.md"):
+    for page in ("docs/PROVED.md", "docs/ARCHITECTURE.md"):
         if not re.search(rf"\b{crate}\b", text(page)):
             wrong.append(f"{page} does not name {crate}")
 wrong += [f"crates/{name} stands in no line of crates.txt" for name in sorted(os.listdir("crates")) if name not in crates]
 
-for page in ("README.md", "CONTRIBUTING.md", "docs/ARCHITECTURE.md", "docs/DECISIONS.md", "docs/DEFINITIONS.md", "docs/PROFILE.md"):
+for page in ("README.md", "CONTRIBUTING.md", "docs/PROVED.md", "docs/ARCHITECTURE.md", "docs/DECISIONS.md", "docs/DEFINITIONS.md", "docs/PROFILE.md"):
     for path in re.findall(r"`((?:gs_|gsd)\w*/(?:src|specs|proofs)/[\w/]+\.(?:rt|antt))`", text(page)):
         if not os.path.isfile(f"crates/{path}"):
             wrong.append(f"{page} names {path}, which is not there")
