@@ -1,8 +1,9 @@
 """Compares the pages with the tree: each edit that must fail is a row of docs/WRONG_BODIES.md, and each row an edit;
-each crate has a page of its own, a line of crates.txt, and a place in docs/PROVED.md and in docs/ARCHITECTURE.md; and
-each file and crate that a table of the pages names is there. Prints what does not agree, and ends with status 1 if
-anything is wrong."""
+each crate has a page of its own, a line of crates.txt, and a place in docs/PROVED.md and in docs/ARCHITECTURE.md; each
+file and crate that a table of the pages names is there; and so is each file and heading that a link of any page leads to.
+Prints what does not agree, and ends with status 1 if anything is wrong."""
 
+import glob
 import os
 import re
 import sys
@@ -14,6 +15,16 @@ wrong = []
 def text(path):
     with open(path, encoding="utf-8") as file:
         return file.read()
+
+
+def without_blocks(page):
+    """The text of a page without its blocks of commands and output."""
+    return re.sub(r"(?ms)^```.*?^```$", "", text(page))
+
+
+def anchors(page):
+    """The headings of a page as links name them."""
+    return {re.sub(r"[^\w -]", "", it.lower()).replace(" ", "-") for it in re.findall(r"(?m)^#+ (.+)$", without_blocks(page))}
 
 
 crates = re.findall(r"(?m)^(\w+)[^:#\n]*:", text("crates.txt"))
@@ -39,6 +50,17 @@ for page in ("README.md", "CONTRIBUTING.md", "docs/PROVED.md", "docs/ARCHITECTUR
     for path in re.findall(r"`((?:gs_|gsd)\w*/(?:src|specs|proofs)/[\w/]+\.(?:rt|antt))`", text(page)):
         if not os.path.isfile(f"crates/{path}"):
             wrong.append(f"{page} names {path}, which is not there")
+
+for page in sorted(glob.glob("*.md") + glob.glob("*/*.md") + glob.glob("crates/*/*.md")):
+    for link in re.findall(r"\]\(([^)\s]+)\)", without_blocks(page)):
+        path, _, heading = link.partition("#")
+        if ":" in path:
+            continue
+        to = os.path.normpath(os.path.join(os.path.dirname(page), path)) if path else page
+        if not os.path.exists(to):
+            wrong.append(f"{page} links to {link}, which is not there")
+        elif heading and heading not in anchors(to):
+            wrong.append(f"{page} links to {link}, and there is no such heading")
 
 print("\n".join(wrong) or "the pages agree with the tree")
 sys.exit(1 if wrong else 0)
