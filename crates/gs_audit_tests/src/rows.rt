@@ -117,8 +117,8 @@ fn last_triples(store: &Small) -> Option<usize> {
     }
 }
 
-/// Whether a Stage of no triples and its Commit are answered as ever, and the entry counts no triple.
-fn stages_nothing(alloc: Global, store: &mut Small) -> Result<bool, Refusal> {
+/// What is answered otherwise to a Stage of no triples and its Commit, or the entry where it counts any.
+fn wrong_of_none(alloc: Global, store: &mut Small) -> Result<Option<&'static str>, Refusal> {
     let kind = UploadKind::Put(cats(alloc)?);
     drop(store.event(Event::Seat(0, Action::Open(kind))));
     let stage = store.event(Event::Seat(0, Action::Stage(Vec::new(alloc))));
@@ -127,7 +127,14 @@ fn stages_nothing(alloc: Global, store: &mut Small) -> Result<bool, Refusal> {
     let commit = store.event(Event::Seat(0, Action::Commit));
     let status = status_in(&commit);
     drop(commit);
-    Ok(is_staged && status == 201 && last_triples(store) == Some(0))
+    if !is_staged {
+        return Ok(Some("the Stage"));
+    }
+    if status != 201 {
+        return Ok(Some("the Commit"));
+    }
+    let are_none = last_triples(store) == Some(0);
+    Ok(if are_none { None } else { Some("the entry") })
 }
 
 /// How many triples a reader of an upload gives.
@@ -158,8 +165,8 @@ fn last_counts(store: &Wide) -> (usize, Option<usize>) {
     }
 }
 
-/// Whether a PUT of 300 lists of four triples is stored whole.
-fn stores_whole(alloc: Global, store: &mut Wide) -> Result<bool, Refusal> {
+/// What is not as it must be of a PUT of 300 lists of four triples, which is stored whole.
+fn wrong_of_many(alloc: Global, store: &mut Wide) -> Result<Option<&'static str>, Refusal> {
     let kind = UploadKind::Put(cats(alloc)?);
     drop(store.event(Event::Seat(0, Action::Open(kind))));
     for _ in 0..300u32 {
@@ -168,25 +175,32 @@ fn stores_whole(alloc: Global, store: &mut Wide) -> Result<bool, Refusal> {
     let commit = store.event(Event::Seat(0, Action::Commit));
     let status = status_in(&commit);
     drop(commit);
+    if status != 201 {
+        return Ok(Some("the status"));
+    }
     let (read, counted) = last_counts(store);
-    Ok(status == 201 && read == 1_200 && counted == Some(1_200))
+    if read != 1_200 {
+        return Ok(Some("the triples that are read"));
+    }
+    let are_all = counted == Some(1_200);
+    Ok(if are_all { None } else { Some("their count") })
 }
 
 #[test]
 fn an_upload_of_many_lists_is_stored_whole(rt: HostRuntime) -> Result<(), Refusal> {
     let mut store = wide(rt.alloc())?;
-    let is_stored = stores_whole(rt.alloc(), &mut store);
+    let wrong = wrong_of_many(rt.alloc(), &mut store);
     drop(store);
-    assert!(&rt; is_stored?);
+    assert_eq!(&rt; wrong?, None);
     Ok(())
 }
 
 #[test]
 fn an_empty_list_is_staged_and_counts_for_nothing(rt: HostRuntime) -> Result<(), Refusal> {
     let mut store = small(rt.alloc())?;
-    let is_staged = stages_nothing(rt.alloc(), &mut store);
+    let wrong = wrong_of_none(rt.alloc(), &mut store);
     drop(store);
-    assert!(&rt; is_staged?);
+    assert_eq!(&rt; wrong?, None);
     Ok(())
 }
 

@@ -5,11 +5,11 @@ use Rattle.std.specs.Ordering.{eq_by_cmp, is_eq}
 use Rattle.std.specs.Cmp.{eq_by_cmp_equiv}
 use Rattle.std.specs.FinMap as map
 use Rattle.std.specs.FinMap.Entries.{put, is_sorted-put, is_sorted-where_key, find-where_key}
-use Rattle.std.proofs.lemmas.Cmp.{nat_list_cmp_total, alike_right}
-use Rattle.std.proofs.lemmas.Map.Lookups.{exact_bytes}
+use Rattle.std.proofs.lemmas.Cmp.{alike_right}
 use Rattle.std.proofs.lemmas.List.Elements.{All-from_recursion}
 use Rattle.std.proofs.lemmas.List.Sums.{sum_by-le, sum_by-cons}
-use Rattle.gs_event.specs.Datasets.{name_cmp}
+use Rattle.gs_term.specs.Names.{name_cmp}
+use Rattle.gs_term.proofs.NameLemmas.{name_total, name_exact}
 use Rattle.gs_event.proofs.DatasetLemmas.{sum_by-put, count_if}
 use Rattle.gs_catalogue.specs.declared.versions.GraphVersion.{GraphVersion}
 use Rattle.gs_catalogue.specs.Catalogues.{Catalogued}
@@ -35,7 +35,7 @@ is_true false h = absurd h
 
 -- entries stay in order
 pub with_entry-sorted : (es : List NameEntry) (name : List ℕ) (v : GraphVersion) → IsSorted es → IsSorted (with_entry es name v)
-with_entry-sorted es name v h = is_true _ (is_sorted-put name_cmp nat_list_cmp_total name v es (sorted_test es h))
+with_entry-sorted es name v h = is_true _ (is_sorted-put name_cmp name_total name v es (sorted_test es h))
 
 pub without_entry-sorted : (es : List NameEntry) (name : List ℕ) → IsSorted es → IsSorted (without_entry es name)
 without_entry-sorted es name h = is_true _ (is_sorted-where_key name_cmp (λ x. not (eq_by_cmp name_cmp name x)) es (sorted_test es h))
@@ -57,20 +57,20 @@ pub map_of-with_entry : (es : List NameEntry) (name : List ℕ) (v : GraphVersio
 map_of-with_entry es name v h = map.same_entries_map _ _ (
     entries-map_of _ (with_entry-sorted es name v h)
     ∙ sym (ap (put name_cmp name v) (entries-map_of es h))
-    ∙ sym (map.entries-insert nat_list_cmp_total (map_of es) name v))
+    ∙ sym (map.entries-insert name_total (map_of es) name v))
 
 turned_cond : {X : Type 0} (b : Bool) (x : Option X) → cond (not b) x None ≡ cond b None x
 turned_cond true x = refl
 turned_cond false x = refl
 
 pub map_of-without_entry : (es : List NameEntry) (name : List ℕ) → IsSorted es → map_of (without_entry es name) ≡ map.remove (map_of es) name
-map_of-without_entry es name h = map.same_map nat_list_cmp_total exact_bytes _ _ (λ q.
+map_of-without_entry es name h = map.same_map name_total name_exact _ _ (λ q.
     get-map_of (without_entry es name) q (without_entry-sorted es name h)
-    ∙ find-where_key name_cmp (λ x. not (eq_by_cmp name_cmp name x)) q (λ x t. ap (λ r. not (is_eq r)) (sym (alike_right nat_list_cmp_total q x name t))) es
+    ∙ find-where_key name_cmp (λ x. not (eq_by_cmp name_cmp name x)) q (λ x t. ap (λ r. not (is_eq r)) (sym (alike_right name_total q x name t))) es
     ∙ turned_cond (eq_by_cmp name_cmp name q) _
-    ∙ ap (λ b. cond b None (version_in es q)) ((eq_by_cmp_equiv nat_list_cmp_total).symm name q)
+    ∙ ap (λ b. cond b None (version_in es q)) ((eq_by_cmp_equiv name_total).symm name q)
     ∙ ap (cond (eq_by_cmp name_cmp q name) None) (sym (get-map_of es q h))
-    ∙ sym (map.get-remove nat_list_cmp_total (map_of es) name q))
+    ∙ sym (map.get-remove name_total (map_of es) name q))
 
 counts : (o : Option GraphVersion) → count_if (λ v. v.triples) o ≡ version_count o
 counts None = refl
@@ -86,7 +86,7 @@ version_count-le (e ∷ es) name =
 -- a version that takes the place of another changes the sum by the difference of their counts
 pub counted_in-with_entry : (es : List NameEntry) (name : List ℕ) (v : GraphVersion) → IsSorted es → counted_in (with_entry es name v) + version_count (version_in es name) ≡ counted_in es + v.triples
 counted_in-with_entry es name v h =
-    let moved = sum_by-put name_cmp nat_list_cmp_total (λ (x : GraphVersion). x.triples) name v es (sorted_test es h) in
+    let moved = sum_by-put name_cmp name_total (λ (x : GraphVersion). x.triples) name v es (sorted_test es h) in
     omega (arith, moved, counts (version_in es name))
 
 -- a sum of counts is less than 2^128
@@ -103,7 +103,7 @@ kept-default u v es total kept = record { sorted = kept.sorted; small = kept.sma
 pub kept-with_entry : (u v : GraphVersion) (es : List NameEntry) (total : ℕ) (name : List ℕ) → v.triples < 2 ^ 64 → IsKept u es total → IsKept u (with_entry es name v) (total - version_count (version_in es name) + v.triples)
 kept-with_entry u v es total name fits kept = record {
   sorted = with_entry-sorted es name v kept.sorted;
-  small = All-put name_cmp nat_list_cmp_total (λ (x : GraphVersion). x.triples < 2 ^ 64) name v es fits kept.small;
+  small = All-put name_cmp name_total (λ (x : GraphVersion). x.triples < 2 ^ 64) name v es fits kept.small;
   counted = omega (arith, kept.counted, counted_in-with_entry es name v kept.sorted, version_count-le es name);
 }
 
@@ -111,6 +111,6 @@ kept-with_entry u v es total name fits kept = record {
 pub kept-without_entry : (u : GraphVersion) (es : List NameEntry) (total gone : ℕ) (name : List ℕ) → counted_in (without_entry es name) + gone ≡ counted_in es → IsKept u es total → IsKept u (without_entry es name) (total - gone)
 kept-without_entry u es total gone name moved kept = record {
   sorted = without_entry-sorted es name kept.sorted;
-  small = All-where name_cmp nat_list_cmp_total (λ (x : GraphVersion). x.triples < 2 ^ 64) (λ x. not (eq_by_cmp name_cmp name x)) es kept.small;
+  small = All-where name_cmp name_total (λ (x : GraphVersion). x.triples < 2 ^ 64) (λ x. not (eq_by_cmp name_cmp name x)) es kept.small;
   counted = omega (arith, kept.counted, moved);
 }

@@ -4,11 +4,10 @@ use Rattle.std.specs.List.{insert, remove}
 use Rattle.std.specs.List.Sorted.{IsSearchInRange, IsBinarySearchResult}
 use Rattle.std.specs.FinMap.Entries.{is_sorted}
 use Rattle.std.proofs.Math.Seq.{drop-cons}
-use Rattle.std.proofs.lemmas.Cmp.{nat_list_cmp_total}
 use Rattle.std.proofs.lemmas.List.{take-append-drop, set_split}
 use Rattle.std.proofs.lemmas.List.Sorted.{searchable_from_sorted}
-use Rattle.std.proofs.lemmas.Map.Lookups.{exact_bytes}
-use Rattle.gs_event.specs.Datasets.{name_cmp}
+use Rattle.gs_term.specs.Names.{name_cmp}
+use Rattle.gs_term.proofs.NameLemmas.{name_total, name_exact}
 use Rattle.gs_catalogue.specs.declared.versions.GraphVersion.{GraphVersion}
 use Rattle.gs_catalogue.specs.Entries.{NameEntry, IsSorted, IsPlaceOf, IsGapFor, version_in, with_entry, without_entry}
 use Rattle.gs_catalogue.proofs.EntryLemmas.{take_within, drop_within, rising, find-at, put-at, without-at, find-gap, put-gap, without-gap}
@@ -19,9 +18,9 @@ sorted_test es h = subst T (sym h) tt
 
 -- what a binary search by names finds
 pub searched : (es : List NameEntry) (name : List ℕ) (r : Result ℕ ℕ) → IsSorted es → IsSearchInRange r (length es) → IsBinarySearchResult (λ e. name_cmp e.0 name) es r → MatchResult r (IsPlaceOf es name) (IsGapFor es name)
-searched es name (Ok i) h within at = record { within = within; same = λ d. exact_bytes _ _ (at d) }
+searched es name (Ok i) h within at = record { within = within; same = λ d. name_exact _ _ (at d) }
 searched es name (Err i) h within parts =
-    let p = parts (searchable_from_sorted nat_list_cmp_total (λ (e : NameEntry). e.0) es name (rising name_cmp nat_list_cmp_total es (sorted_test es h))) in
+    let p = parts (searchable_from_sorted name_total (λ (e : NameEntry). e.0) es name (rising name_cmp name_total es (sorted_test es h))) in
     record { within = within; below = take_within _ es i p.0; above = drop_within _ es i p.1 }
 
 module _ (es : List NameEntry) (name : List ℕ) (i : ℕ) (h : IsSorted es) (at : IsPlaceOf es name i) (d : NameEntry) where
@@ -36,20 +35,20 @@ module _ (es : List NameEntry) (name : List ℕ) (i : ℕ) (h : IsSorted es) (at
   version_in-place =
       sym (ap (λ k. version_in es k) (at.same d))
       ∙ ap (λ xs. version_in xs (get_or es i d).0) parted
-      ∙ find-at name_cmp nat_list_cmp_total (take i es) (drop (suc i) es) (get_or es i d) in_order
+      ∙ find-at name_cmp name_total (take i es) (drop (suc i) es) (get_or es i d) in_order
 
   pub with_entry-place : (v : GraphVersion) → with_entry es name v ≡ set es i ((get_or es i d).0, v)
   with_entry-place v =
       sym (ap (λ k. with_entry es k v) (at.same d))
       ∙ ap (λ xs. with_entry xs (get_or es i d).0 v) parted
-      ∙ put-at name_cmp nat_list_cmp_total (take i es) (drop (suc i) es) (get_or es i d) in_order v
+      ∙ put-at name_cmp name_total (take i es) (drop (suc i) es) (get_or es i d) in_order v
       ∙ sym (set_split es i ((get_or es i d).0, v) at.within)
 
   pub without_entry-place : without_entry es name ≡ remove es i
   without_entry-place =
       sym (ap (λ k. without_entry es k) (at.same d))
       ∙ ap (λ xs. without_entry xs (get_or es i d).0) parted
-      ∙ without-at name_cmp nat_list_cmp_total (take i es) (drop (suc i) es) (get_or es i d) in_order
+      ∙ without-at name_cmp name_total (take i es) (drop (suc i) es) (get_or es i d) in_order
 
 module _ (es : List NameEntry) (name : List ℕ) (i : ℕ) (gap : IsGapFor es name i) where
   halves : es ≡ take i es ++ drop i es
@@ -58,14 +57,14 @@ module _ (es : List NameEntry) (name : List ℕ) (i : ℕ) (gap : IsGapFor es na
   -- at the gap for a name it is not found, it is put in, and nothing is taken out
   pub version_in-gap : version_in es name ≡ None
   version_in-gap =
-      ap (λ xs. version_in xs name) halves ∙ find-gap name_cmp nat_list_cmp_total name (take i es) (drop i es) gap.below gap.above
+      ap (λ xs. version_in xs name) halves ∙ find-gap name_cmp name_total name (take i es) (drop i es) gap.below gap.above
 
   pub with_entry-gap : (v : GraphVersion) → with_entry es name v ≡ insert es i (name, v)
   with_entry-gap v =
-      ap (λ xs. with_entry xs name v) halves ∙ put-gap name_cmp nat_list_cmp_total name (take i es) (drop i es) gap.below gap.above v
+      ap (λ xs. with_entry xs name v) halves ∙ put-gap name_cmp name_total name (take i es) (drop i es) gap.below gap.above v
 
   pub without_entry-gap : without_entry es name ≡ es
   without_entry-gap =
       ap (λ xs. without_entry xs name) halves
-      ∙ without-gap name_cmp nat_list_cmp_total name (take i es) (drop i es) gap.below gap.above
+      ∙ without-gap name_cmp name_total name (take i es) (drop i es) gap.below gap.above
       ∙ take-append-drop i es

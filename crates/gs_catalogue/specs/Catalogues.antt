@@ -4,7 +4,7 @@ use Rattle.std.specs.List.{sum_by}
 use Rattle.std.specs.FinMap as map
 use Rattle.gs_term.specs.declared.names.Target.{Target}
 use Rattle.gs_term.specs.declared.names.Target.TheVariants.{Default, Named}
-use Rattle.gs_event.specs.Datasets.{name_cmp}
+use Rattle.gs_term.specs.Names.{name_cmp}
 use Rattle.gs_catalogue.specs.declared.versions.GraphVersion.{GraphVersion}
 
 -- the version of a graph with no triple: its tree has no node

@@ -3,7 +3,7 @@ use Rattle.std.specs.Prelude.{ℕ, Option, refl}
 use Rattle.std.specs.Coded.{Coded, code_by, coded×, coded_ℕ, coded_option}
 use Rattle.std.specs.FinMap as map
 use Rattle.gs_model.specs.Codes.{text_code}
-use Rattle.gs_event.specs.Datasets.{name_cmp}
+use Rattle.gs_term.specs.Names.{name_cmp}
 use Rattle.gs_catalogue.specs.declared.versions.GraphVersion.{GraphVersion}
 use Rattle.gs_catalogue.specs.Catalogues.{GraphVersions, Catalogued}
 

@@ -1,10 +1,10 @@
--- How the names stand in a list, in the order of their bytes. No public clause cites this module.
+-- How the names stand in a list, in their order. No public clause cites this module.
 use Rattle.std.specs.Prelude.{◌≡◌, ℕ, ◌+◌, ◌≤◌, ◌<◌, ◌^◌, true, not, List, Option, Some, None, length, take, drop}
 use Rattle.std.specs.List.{AllByRecursion, sum_by, slice_index_or}
 use Rattle.std.specs.Ordering.{eq_by_cmp}
 use Rattle.std.specs.declared.cmp.Ordering.TheVariants.{Less, Greater}
 use Rattle.std.specs.FinMap.Entries as entries
-use Rattle.gs_event.specs.Datasets.{name_cmp}
+use Rattle.gs_term.specs.Names.{name_cmp}
 use Rattle.gs_catalogue.specs.declared.versions.GraphVersion.{GraphVersion}
 
 -- a name and the version of its graph

@@ -13,7 +13,7 @@ use std::alloc::Global;
 use std::marker::Model;
 
 /// The versions of all graphs: that of the default graph, which is never missing, and one for each
-/// name. The names are a list in the order of their bytes. Of n names a look-up compares O(log n);
+/// name. The names are a list in their order. Of n names a look-up compares O(log n);
 /// a new name, or one that goes, moves up to n entries of 40 bytes each.
 #[derive(Drop)]
 pub struct Catalogue {

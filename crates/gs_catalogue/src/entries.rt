@@ -1,4 +1,4 @@
-//! The names with their versions, in a list that is in the order of the names' bytes.
+//! The names with their versions, in a list that is in the order of the names as they stand in a line.
 ghost use Rattle.std.specs.Prelude.{◌≡◌, ◌+◌, ◌<◌, Some, None, is_some, if◌then◌else◌, vec_len, vec_capacity, false, MatchResult};
 ghost use Rattle.gs_catalogue.specs.Entries.{IsSorted, IsPlaceOf, IsGapFor, version_in, with_entry, without_entry, counted_in, version_count};
 

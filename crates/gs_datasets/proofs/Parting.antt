@@ -7,11 +7,11 @@ use Rattle.std.specs.FinMap as fin
 use Rattle.std.specs.FinMap.Entries.{put, find, where_key, is_sorted, by_order}
 use Rattle.std.specs.declared.cmp.Ordering.{Ordering}
 use Rattle.std.specs.declared.cmp.Ordering.TheVariants.{Less, Equal, Greater}
-use Rattle.std.proofs.lemmas.Cmp.{nat_list_cmp_total}
 use Rattle.std.proofs.lemmas.List.Elements.{All-append, All-cons, All-head, All-tail}
 use Rattle.gs_term.specs.declared.names.Target.{Target}
 use Rattle.gs_term.specs.declared.names.Target.TheVariants.{Default, Named}
-use Rattle.gs_event.specs.Datasets.{name_cmp}
+use Rattle.gs_term.specs.Names.{name_cmp}
+use Rattle.gs_term.proofs.NameLemmas.{name_total}
 use Rattle.gs_catalogue.specs.declared.versions.GraphVersion.{GraphVersion}
 use Rattle.gs_catalogue.specs.Catalogues.{GraphVersions, version_at, with_version}
 use Rattle.gs_catalogue.proofs.CatalogueLemmas.{map_of, entries-map_of, map_of-without_entry, without_entry-sorted}
@@ -106,13 +106,13 @@ pub parted : (g : GraphVersions) (t : Target) → Parted g t
 parted g Default = record { before = []; after = fin.values g.named; whole = refl; others = refl; set_to = λ v. refl }
 parted g (Named n) =
     let m = g.named in
-    let at = parted_at name_cmp nat_list_cmp_total n (fin.entries m) (fin.entries_sorted m) in
+    let at = parted_at name_cmp name_total n (fin.entries m) (fin.entries_sorted m) in
     record {
       before = g.unnamed ∷ at.before;
       after = at.after;
       whole = ap (λ vs. g.unnamed ∷ vs) (at.whole ∙ ap (λ u. at.before ++ cons_option u at.after) (sym (fin.get-entries m n)));
       others = ap (λ vs. g.unnamed ∷ vs) (ap (map (λ e. e.1)) (entries-remove m n) ∙ at.taken);
-      set_to = λ v. ap (λ vs. g.unnamed ∷ vs) (ap (map (λ e. e.1)) (fin.entries-insert nat_list_cmp_total m n v) ∙ at.put_in v);
+      set_to = λ v. ap (λ vs. g.unnamed ∷ vs) (ap (map (λ e. e.1)) (fin.entries-insert name_total m n v) ∙ at.put_in v);
     }
 
 module _ (P : GraphVersion → Type 0) where

@@ -10,7 +10,8 @@ use Rattle.gs_model.specs.Graphs.{Graph, size_of, triples_of}
 use Rattle.gs_model.specs.Triples.{line_of}
 use Rattle.gs_term.specs.declared.names.Target.{Target}
 use Rattle.gs_term.specs.declared.names.Target.TheVariants.{Default, Named}
-use Rattle.gs_event.specs.Datasets.{name_cmp, empty_dataset, graph_at, is_there, lines_if, size_at, triples_in, names_in}
+use Rattle.gs_term.specs.Names.{name_cmp}
+use Rattle.gs_event.specs.Datasets.{empty_dataset, graph_at, is_there, lines_if, size_at, triples_in, names_in}
 use Rattle.gs_pool.specs.Pool.{Nodes}
 use Rattle.gs_tree.specs.Tree.{keys}
 use Rattle.gs_keys.specs.Texts.{triple_at}

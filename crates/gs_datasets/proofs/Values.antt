@@ -5,11 +5,10 @@ use Rattle.std.specs.Ordering.{is_lt, eq_by_cmp}
 use Rattle.std.specs.FinMap as fin
 use Rattle.std.specs.FinMap.Entries.{find, below_all, is_sorted}
 use Rattle.std.specs.declared.cmp.Ordering.{Ordering}
-use Rattle.std.proofs.lemmas.Cmp.{nat_list_cmp_total}
-use Rattle.std.proofs.lemmas.Map.Lookups.{exact_bytes}
 use Rattle.std.proofs.lemmas.List.{length-map}
 use Rattle.std.proofs.lemmas.List.Elements.{All-head, All-tail}
-use Rattle.gs_event.specs.Datasets.{name_cmp}
+use Rattle.gs_term.specs.Names.{name_cmp}
+use Rattle.gs_term.proofs.NameLemmas.{name_total, name_exact}
 use Rattle.gs_datasets.specs.Standing.{with_values}
 
 module _ {K X Y : Type 0} (R : K → K → Ordering) (f : X → Y) where
@@ -64,20 +63,20 @@ module _ {X Y : Type 0} (f : X → Y) where
 
   -- a value put in, or taken out, before or after
   pub with_values-insert : (m : fin.FinMap name_cmp X) (n : List ℕ) (x : X) → with_values f (fin.insert m n x) ≡ fin.insert (with_values f m) n (f x)
-  with_values-insert m n x = fin.same_map nat_list_cmp_total exact_bytes _ _ (λ q.
+  with_values-insert m n x = fin.same_map name_total name_exact _ _ (λ q.
       get-with_values (fin.insert m n x) q
-      ∙ ap (option_map f) (fin.get-insert nat_list_cmp_total m n x q)
+      ∙ ap (option_map f) (fin.get-insert name_total m n x q)
       ∙ mapped (eq_by_cmp name_cmp q n) x (fin.get m q)
       ∙ ap (cond (eq_by_cmp name_cmp q n) (Some (f x))) (sym (get-with_values m q))
-      ∙ sym (fin.get-insert nat_list_cmp_total (with_values f m) n (f x) q))
+      ∙ sym (fin.get-insert name_total (with_values f m) n (f x) q))
 
   pub with_values-remove : (m : fin.FinMap name_cmp X) (n : List ℕ) → with_values f (fin.remove m n) ≡ fin.remove (with_values f m) n
-  with_values-remove m n = fin.same_map nat_list_cmp_total exact_bytes _ _ (λ q.
+  with_values-remove m n = fin.same_map name_total name_exact _ _ (λ q.
       get-with_values (fin.remove m n) q
-      ∙ ap (option_map f) (fin.get-remove nat_list_cmp_total m n q)
+      ∙ ap (option_map f) (fin.get-remove name_total m n q)
       ∙ mapped_none (eq_by_cmp name_cmp q n) (fin.get m q)
       ∙ ap (cond (eq_by_cmp name_cmp q n) None) (sym (get-with_values m q))
-      ∙ sym (fin.get-remove nat_list_cmp_total (with_values f m) n q))
+      ∙ sym (fin.get-remove name_total (with_values f m) n q))
 
 shadowed : {Y : Type 0} (b : Bool) (x o : Option Y) → cond b x (cond b None o) ≡ cond b x o
 shadowed true x o = refl
@@ -85,11 +84,11 @@ shadowed false x o = refl
 
 -- what is put in place of a value does not depend on it
 pub insert-remove : {Y : Type 0} (m : fin.FinMap name_cmp Y) (n : List ℕ) (y : Y) → fin.insert (fin.remove m n) n y ≡ fin.insert m n y
-insert-remove m n y = fin.same_map nat_list_cmp_total exact_bytes _ _ (λ q.
-    fin.get-insert nat_list_cmp_total (fin.remove m n) n y q
-    ∙ ap (cond (eq_by_cmp name_cmp q n) (Some y)) (fin.get-remove nat_list_cmp_total m n q)
+insert-remove m n y = fin.same_map name_total name_exact _ _ (λ q.
+    fin.get-insert name_total (fin.remove m n) n y q
+    ∙ ap (cond (eq_by_cmp name_cmp q n) (Some y)) (fin.get-remove name_total m n q)
     ∙ shadowed (eq_by_cmp name_cmp q n) (Some y) (fin.get m q)
-    ∙ sym (fin.get-insert nat_list_cmp_total m n y q))
+    ∙ sym (fin.get-insert name_total m n y q))
 
 -- functions that agree on each value make the same map
 module _ {X Y : Type 0} (f g : X → Y) where

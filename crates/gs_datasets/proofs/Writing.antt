@@ -8,7 +8,8 @@ use Rattle.gs_model.specs.Terms.{Term}
 use Rattle.gs_model.specs.Graphs.{Graph}
 use Rattle.gs_term.specs.declared.names.Target.{Target}
 use Rattle.gs_term.specs.declared.names.Target.TheVariants.{Default, Named}
-use Rattle.gs_event.specs.Datasets.{Dataset, name_cmp, with_graph, without_graph}
+use Rattle.gs_term.specs.Names.{name_cmp}
+use Rattle.gs_event.specs.Datasets.{Dataset, with_graph, without_graph}
 use Rattle.gs_pool.specs.Pool.{Nodes}
 use Rattle.gs_tree.specs.Tree.{Tree, leaf, root_of, keys}
 use Rattle.gs_catalogue.specs.declared.versions.GraphVersion.{GraphVersion}

@@ -7,7 +7,8 @@ use Rattle.gs_model.specs.Terms.{Term}
 use Rattle.gs_model.specs.Graphs.{Graph, graph_of}
 use Rattle.gs_term.specs.declared.names.Target.{Target}
 use Rattle.gs_term.specs.declared.names.Target.TheVariants.{Default, Named}
-use Rattle.gs_event.specs.Datasets.{Dataset, name_cmp}
+use Rattle.gs_term.specs.Names.{name_cmp}
+use Rattle.gs_event.specs.Datasets.{Dataset}
 use Rattle.gs_pool.specs.Pool.{Nodes}
 use Rattle.gs_tree.specs.Keys.{AllKeys, IsRising}
 use Rattle.gs_tree.specs.Tree.{Tree, leaf, root_of, keys, IsBalanced, tree_at}

@@ -5,18 +5,18 @@ use Rattle.std.specs.declared.cmp.Ordering.{Ordering}
 use Rattle.std.specs.declared.cmp.Ordering.TheVariants.{Less, Equal, Greater}
 use Rattle.std.specs.Ordering.{is_eq, eq_by_cmp}
 use Rattle.std.specs.Cmp.{IsTotalOrder, Equal-is, tied_itself}
-use Rattle.std.proofs.lemmas.Map.Lookups.{exact_bytes}
 use Rattle.std.specs.FinMap as fin
 use Rattle.std.specs.FinMap.Entries.{put, find, is_sorted, by_order, length-put}
 use Rattle.std.proofs.lemmas.List.{length-map, nil_from_length}
 use Rattle.std.proofs.lemmas.List.Sums.{sum_by-cons}
-use Rattle.std.proofs.lemmas.Cmp.{nat_list_cmp_total}
 use Rattle.gs_model.specs.Graphs.{Graph, size_of, triples_of}
 use Rattle.gs_model.specs.Triples.{line_of}
 use Rattle.gs_term.specs.declared.names.Target.{Target}
 use Rattle.gs_term.specs.declared.names.Target.TheVariants.{Default, Named}
 use Rattle.gs_model.proofs.GraphLemmas.{empty_has_none}
-use Rattle.gs_event.specs.Datasets.{Dataset, empty_dataset, name_cmp, with_graph, without_graph, graph_at, is_there, lines_if, lines_at, triples_in, names_in}
+use Rattle.gs_term.specs.Names.{name_cmp}
+use Rattle.gs_term.proofs.NameLemmas.{name_total, name_exact}
+use Rattle.gs_event.specs.Datasets.{Dataset, empty_dataset, with_graph, without_graph, graph_at, is_there, lines_if, lines_at, triples_in, names_in}
 
 tail_sorted : (a b : Bool) → T (a && b) → T b
 tail_sorted true b h = h
@@ -58,8 +58,8 @@ pub triples_in-with_graph : (m : Dataset) (t : Target) (g : Graph) → triples_i
 triples_in-with_graph m Default g = omega (arith, length-map (triples_of m.unnamed) line_of)
 triples_in-with_graph m (Named n) g =
     let entries : sum_by (λ (e : List ℕ × Graph). size_of e.1) (fin.entries (fin.insert m.named n g)) ≡ sum_by (λ e. size_of e.1) (put name_cmp n g (fin.entries m.named)) =
-    ap (sum_by (λ e. size_of e.1)) (fin.entries-insert nat_list_cmp_total m.named n g) in
-    let moved = sum_by-put name_cmp nat_list_cmp_total size_of n g (fin.entries m.named) (fin.entries_sorted m.named) in
+    ap (sum_by (λ e. size_of e.1)) (fin.entries-insert name_total m.named n g) in
+    let moved = sum_by-put name_cmp name_total size_of n g (fin.entries m.named) (fin.entries_sorted m.named) in
     let there : length (lines_at m (Named n)) ≡ count_if size_of (find name_cmp n (fin.entries m.named)) = length-lines_if (graph_at m (Named n)) ∙ ap (count_if size_of) (fin.get-entries m.named n) in
     omega (arith, entries, moved, there)
 
@@ -71,25 +71,25 @@ triples_in-empty =
 
 -- what is put back where it was taken out
 put_back : (m : fin.FinMap name_cmp Graph) (n : List ℕ) (g : Graph) → fin.get m n ≡ Some g → fin.insert (fin.remove m n) n g ≡ m
-put_back m n g is = fin.same_map nat_list_cmp_total exact_bytes _ _ (λ q.
-    fin.get-insert nat_list_cmp_total (fin.remove m n) n g q
-    ∙ ap (cond (eq_by_cmp name_cmp q n) (Some g)) (fin.get-remove nat_list_cmp_total m n q)
+put_back m n g is = fin.same_map name_total name_exact _ _ (λ q.
+    fin.get-insert name_total (fin.remove m n) n g q
+    ∙ ap (cond (eq_by_cmp name_cmp q n) (Some g)) (fin.get-remove name_total m n q)
     ∙ elim (eq_by_cmp name_cmp q n) as (λ e. eq_by_cmp name_cmp q n ≡ e → cond e (Some g) (cond e None (fin.get m q)) ≡ fin.get m q) [
-      | true ↦ λ e. sym is ∙ fin.get_tied nat_list_cmp_total m q n ((Equal-is _).0 e)
+      | true ↦ λ e. sym is ∙ fin.get_tied name_total m q n ((Equal-is _).0 e)
       | false ↦ λ e. refl
     ] refl)
 
 -- nothing is taken out where nothing was
 nothing_out : (m : fin.FinMap name_cmp Graph) (n : List ℕ) → fin.get m n ≡ None → fin.remove m n ≡ m
-nothing_out m n is = fin.same_map nat_list_cmp_total exact_bytes _ _ (λ q.
-    fin.get-remove nat_list_cmp_total m n q
+nothing_out m n is = fin.same_map name_total name_exact _ _ (λ q.
+    fin.get-remove name_total m n q
     ∙ elim (eq_by_cmp name_cmp q n) as (λ e. eq_by_cmp name_cmp q n ≡ e → cond e None (fin.get m q) ≡ fin.get m q) [
-      | true ↦ λ e. sym is ∙ fin.get_tied nat_list_cmp_total m q n ((Equal-is _).0 e)
+      | true ↦ λ e. sym is ∙ fin.get_tied name_total m q n ((Equal-is _).0 e)
       | false ↦ λ e. refl
     ] refl)
 
 taken_out : (m : fin.FinMap name_cmp Graph) (n : List ℕ) → fin.get (fin.remove m n) n ≡ None
-taken_out m n = fin.get-remove nat_list_cmp_total m n n ∙ ap (λ b. cond b None (fin.get m n)) (ap is_eq (tied_itself nat_list_cmp_total n))
+taken_out m n = fin.get-remove name_total m n n ∙ ap (λ b. cond b None (fin.get m n)) (ap is_eq (tied_itself name_total n))
 
 named_without : (m : Dataset) (n : List ℕ) (o : Option Graph) → fin.get m.named n ≡ o → triples_in (without_graph m (Named n)) + count_if size_of o ≡ triples_in m
 named_without m n None is = let same : triples_in (without_graph m (Named n)) ≡ triples_in m = ap (λ named. triples_in (record { unnamed = m.unnamed; named = named })) (nothing_out m.named n is) in omega (arith, same)
@@ -109,11 +109,11 @@ triples_in-without_graph m (Named n) =
 -- one name more where there was none
 pub names_in-with_graph : (m : Dataset) (t : Target) (g : Graph) → names_in (with_graph m t g) ≡ cond (is_there m t) (names_in m) (names_in m + 1)
 names_in-with_graph m Default g = refl
-names_in-with_graph m (Named n) g = fin.len-insert nat_list_cmp_total m.named n g
+names_in-with_graph m (Named n) g = fin.len-insert name_total m.named n g
 
 -- one name less where there was one
 pub names_in-without_name : (m : Dataset) (n : List ℕ) → is_there m (Named n) ≡ true → names_in (without_graph m (Named n)) ≡ names_in m - 1
-names_in-without_name m n there = fin.len-remove nat_list_cmp_total m.named n ∙ ap (λ b. cond b (names_in m - 1) (names_in m)) there
+names_in-without_name m n there = fin.len-remove name_total m.named n ∙ ap (λ b. cond b (names_in m - 1) (names_in m)) there
 
 -- there are no names in the dataset without graphs
 pub names_in-empty : names_in empty_dataset ≡ 0

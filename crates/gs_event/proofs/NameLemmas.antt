@@ -5,13 +5,13 @@ use Rattle.std.specs.FinMap as fin
 use Rattle.std.specs.Ordering.{eq_by_cmp}
 use Rattle.std.specs.Cmp.{Equal-is}
 use Rattle.std.proofs.lemmas.List.{append_cancel_left}
-use Rattle.std.proofs.lemmas.Cmp.{nat_list_cmp_total}
-use Rattle.std.proofs.lemmas.Map.Lookups.{exact_bytes}
 use Rattle.gs_model.specs.Terms.{numeral}
 use Rattle.gs_model.specs.Texts.{number_of}
 use Rattle.gs_model.proofs.TextLemmas.{number_of-numeral}
 use Rattle.gs_term.specs.declared.names.Target.TheVariants.{Named}
-use Rattle.gs_event.specs.Datasets.{Dataset, name_cmp, is_there, names_in, without_graph}
+use Rattle.gs_term.specs.Names.{name_cmp}
+use Rattle.gs_term.proofs.NameLemmas.{name_total, name_exact}
+use Rattle.gs_event.specs.Datasets.{Dataset, is_there, names_in, without_graph}
 use Rattle.gs_event.specs.Names.{made_name, first_free, new_name, IsLeastFree}
 use Rattle.gs_event.proofs.DatasetLemmas.{names_in-without_name, names_in-some}
 
@@ -27,9 +27,9 @@ made_name-same base r j k e =
 -- another name stays where one is taken out
 still_there : (m : Dataset) (base : List ℕ) (r j k : ℕ) → j ≢ k → is_there m (Named (made_name base r j)) ≡ true → is_there (without_graph m (Named (made_name base r k))) (Named (made_name base r j)) ≡ true
 still_there m base r j k other there =
-    ap is_some (fin.get-remove nat_list_cmp_total m.named (made_name base r k) (made_name base r j))
+    ap is_some (fin.get-remove name_total m.named (made_name base r k) (made_name base r j))
     ∙ elim (eq_by_cmp name_cmp (made_name base r j) (made_name base r k)) as (λ e. eq_by_cmp name_cmp (made_name base r j) (made_name base r k) ≡ e → is_some (cond e None (fin.get m.named (made_name base r j))) ≡ true) [
-      | true ↦ λ e. absurd (other (made_name-same base r j k (exact_bytes _ _ ((Equal-is _).0 e))))
+      | true ↦ λ e. absurd (other (made_name-same base r j k (name_exact _ _ ((Equal-is _).0 e))))
       | false ↦ λ e. there
     ] refl
 

@@ -9,7 +9,7 @@ use Rattle.gs_term.specs.declared.names.Target.{Target}
 use Rattle.gs_term.specs.declared.names.Target.TheVariants.{Default, Named}
 use Rattle.gs_event.specs.declared.events.UploadKind.{UploadKind}
 use Rattle.gs_event.specs.declared.events.UploadKind.TheVariants.{Put, Post, New}
-use Rattle.gs_event.specs.Datasets.{name_cmp}
+use Rattle.gs_term.specs.Names.{name_cmp}
 use Rattle.gs_event.specs.Operations.{Setting}
 use Rattle.gs_event.specs.Phases.{Idle, Writing, Patching, Reading}
 use Rattle.gs_event.specs.Views.{View, SeatView}

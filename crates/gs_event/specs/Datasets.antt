@@ -1,17 +1,11 @@
 -- Datasets (RDF 1.1 Concepts, section 4).
 use Rattle.std.specs.Prelude.{ℕ, ◌+◌, Bool, List, [], length, Option, Some, None, is_some}
 use Rattle.std.specs.List.{sum_by}
-use Rattle.std.specs.Ordering.{nat_cmp}
-use Rattle.std.specs.Cmp.Lexicographic.{slice_cmp}
-use Rattle.std.specs.declared.cmp.Ordering.{Ordering}
 use Rattle.std.specs.FinMap as map
 use Rattle.gs_model.specs.Graphs.{Graph, empty_graph, lines_of, size_of}
+use Rattle.gs_term.specs.Names.{name_cmp}
 use Rattle.gs_term.specs.declared.names.Target.{Target}
 use Rattle.gs_term.specs.declared.names.Target.TheVariants.{Default, Named}
-
--- names are ordered by their bytes
-abbrev pub name_cmp : List ℕ → List ℕ → Ordering
-name_cmp = slice_cmp nat_cmp
 
 -- a default graph, which is never missing, and a graph for each of finitely many names
 pub record Dataset : Type 0 where

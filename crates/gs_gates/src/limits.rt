@@ -1,4 +1,5 @@
-//! How long is waited, and how much is freed at once.
+//! The limits of a server: how long it waits, in the unit that a name ends with, how many connections and notes may wait, and
+//! how many nodes it frees or bytes it drops at once, so that neither a silent client nor much to be freed keeps others for good.
 ghost use Rattle.std.specs.Prelude.{◌≡◌};
 ghost use Rattle.std.specs.Duration.{as_nanos};
 ghost use Rattle.gs_gates.specs.Limits as spec;

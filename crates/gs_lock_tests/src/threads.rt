@@ -24,42 +24,52 @@ const ROUNDS: u32 = 1_000;
 /// The graph that all write.
 const ALL: &str = "http://e/all";
 
-/// A round on the thread's own graph and one on the graph of all; whether both print what they must.
+/// A seat, the number of a round, and what was wrong of it.
+type Fault = (u16, u32, &'static str);
+
+/// A round on the thread's own graph and one on the graph of all: which does not print what it must.
 fn both<C: Side, T: Side, B: Room, R: Wait>(
     rt: &R,
     alloc: Global,
     hall: &Hall<C, T, B>,
     pass: &mut Pass<C, T, B>,
     round: u32,
-) -> Result<bool, Refusal> {
+) -> Result<Option<&'static str>, Refusal> {
     let seat = pass.seat();
     let mark = format!(in alloc; "{seat}-{round}")?;
     let own = format!(in alloc; "http://e/own{seat}")?;
     let said = hold(rt, alloc, hall, pass, own.as_str(), mark.as_str(), round)?;
     let want = expected(alloc, mark.as_str(), round)?;
     let shared = hold(rt, alloc, hall, pass, ALL, mark.as_str(), round)?;
-    Ok(said.as_str() == want.as_str() && is_whole(shared.as_str(), round))
+    if said.as_str() != want.as_str() {
+        return Ok(Some("its own graph"));
+    }
+    Ok(if is_whole(shared.as_str(), round) {
+        None
+    } else {
+        Some("the graph of all")
+    })
 }
 
-/// All rounds, and in how many something was not as it must be.
+/// All rounds, and the first fault.
 fn work<C: Side, T: Side, B: Room, R: Wait>(
     rt: &R,
     alloc: Global,
     hall: &Hall<C, T, B>,
     pass: Pass<C, T, B>,
-) -> (Pass<C, T, B>, u32) {
+) -> (Pass<C, T, B>, Option<Fault>) {
     let mut pass = pass;
-    let mut faults = 0u32;
+    let mut fault = None;
     for round in 0..ROUNDS {
-        match both(rt, alloc, hall, &mut pass, round) {
-            Ok(true) => {}
-            Ok(false) | Err(_) => faults = faults.saturating_add(1),
+        let wrong = both(rt, alloc, hall, &mut pass, round).unwrap_or(Some("a refusal"));
+        if let Some(part) = wrong {
+            fault = fault.or(Some((pass.seat(), round, part)));
         }
     }
-    (pass, faults)
+    (pass, fault)
 }
 
-/// Each pass works in a thread of its own: the passes that come back, and how many rounds went wrong.
+/// Each pass works in a thread of its own: the passes that come back, and the first fault of one of them.
 fn work_all<
     C: Side + Send + Sync,
     T: Side + Send + Sync,
@@ -70,24 +80,24 @@ fn work_all<
     alloc: Global,
     hall: &Hall<C, T, B>,
     passes: Vec<Pass<C, T, B>>,
-) -> Option<(Vec<Pass<C, T, B>>, u32)> {
+) -> Option<(Vec<Pass<C, T, B>>, Option<Fault>)> {
     thread::scope(
         thread::scope_env(),
         rt,
-        move |scope| -> Option<(Vec<Pass<C, T, B>>, u32)> {
+        move |scope| -> Option<(Vec<Pass<C, T, B>>, Option<Fault>)> {
             let mut threads = Vec::with_capacity(alloc, 4).ok()?;
             for pass in passes {
                 let works = scope.spawn(move || work(rt, alloc, hall, pass)).ok()?;
                 threads.push(works).ok()?;
             }
             let mut back = Vec::with_capacity(alloc, 4).ok()?;
-            let mut faults = 0u32;
+            let mut fault = None;
             for works in threads {
-                let (pass, more) = works.join(rt);
+                let (pass, own) = works.join(rt);
                 back.push(pass).ok()?;
-                faults = faults.saturating_add(more);
+                fault = fault.or(own);
             }
-            Some((back, faults))
+            Some((back, fault))
         },
     )
 }
@@ -105,7 +115,7 @@ fn run<
     keeper: Token,
     calls: Blank,
     triples: Blank,
-) -> Option<(Ended, u32)>
+) -> Option<(Ended, Option<Fault>)>
     requires cell { (cell.table.shared.table_id ≡ B.table)
         × (keeper.table_id ≡ B.table)
         × (cell_view keeper ≡ keeper_of [] []) }
@@ -132,17 +142,17 @@ fn run<
         drop(shared);
         return None;
     };
-    let (back, faults) = worked;
+    let (back, fault) = worked;
     if back.len() != 4 {
         drop(back);
         drop(shared);
         return None;
     }
-    Some((shared.end(rt, back), faults))
+    Some((shared.end(rt, back), fault))
 }
 
-/// What four threads leave, and how many of their rounds went wrong.
-fn worked<R: Threads + Wait + Sync>(rt: &R, alloc: Global) -> Option<(Ended, u32)> {
+/// What four threads leave, and the first fault of one of them.
+fn worked<R: Threads + Wait + Sync>(rt: &R, alloc: Global) -> Option<(Ended, Option<Fault>)> {
     let (cell, keeper) = stamp_cell(alloc).ok()?;
     let (calls, triples) = (Blank::new(5), Blank::new(5));
     run::<Brand, Brand, Brand, R>(rt, alloc, cell, keeper, calls, triples)
@@ -178,14 +188,18 @@ fn wrong_graph(
     Ok(None)
 }
 
-/// Whether the page replays in the plain model, and the ended store shows all graphs as the model has
-/// them then.
-fn is_shown(alloc: Global, ended: &mut Ended) -> Result<bool, Refusal> {
+/// The page where it does not replay in the plain model, or the first graph that the ended store shows
+/// otherwise than the model has it then.
+fn wrong_shown(alloc: Global, ended: &mut Ended) -> Result<Option<&'static str>, Refusal> {
     let mut model = Model::new(alloc);
     let is_replayed = replays(alloc, &mut model, ended.audited.page().entries());
     let wrong = wrong_graph(alloc, ended, &model);
     drop(model);
-    Ok(is_replayed? && wrong? == None)
+    if is_replayed? {
+        wrong
+    } else {
+        Ok(Some("the page does not replay"))
+    }
 }
 
 /// Whether a pass was told of all its calls, and its receipts stand on the page.
@@ -193,33 +207,32 @@ fn is_told(entries: &[Entry], record: &Record) -> bool {
     record.calls() == 7_500 && record.receipts().len() == 4_096 && stands(entries, record)
 }
 
+/// The names of the four passes.
+const PASSES: [&str; 4] = ["pass 0", "pass 1", "pass 2", "pass 3"];
+
 /// What is wrong of the page that four threads leave, or of the store.
 fn wrong_part(alloc: Global, ended: &mut Ended) -> Result<Option<&'static str>, Refusal> {
     let page = ended.audited.page();
     if page.number() != 0 || page.entries().len() != 30_000 {
         return Ok(Some("the page"));
     }
-    for record in &ended.passes {
+    for (name, record) in PASSES.iter().zip(&ended.passes) {
         if !is_told(page.entries(), record) {
-            return Ok(Some("a pass"));
+            return Ok(Some(name));
         }
     }
     if is_replayed(alloc, page.entries().get(1..).unwrap_or_default())? {
-        return Ok(Some("the model"));
+        return Ok(Some("the page replays without its first entry"));
     }
-    Ok(if is_shown(alloc, ended)? {
-        None
-    } else {
-        Some("the store")
-    })
+    wrong_shown(alloc, ended)
 }
 
 #[test]
 fn four_threads_leave_a_page_that_replays(rt: HostRuntime) -> Result<(), Fail> {
-    let (mut ended, faults) = worked(&rt, rt.alloc()).expect(&rt, "memory and threads");
+    let (mut ended, fault) = worked(&rt, rt.alloc()).expect(&rt, "memory and threads");
     let wrong = wrong_part(rt.alloc(), &mut ended);
     drop(ended);
-    assert_eq!(rt; faults, 0);
+    assert_eq!(rt; fault, None);
     assert_eq!(rt; wrong?, None);
     Ok(())
 }

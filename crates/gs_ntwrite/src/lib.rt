@@ -1,6 +1,6 @@
-//! Lines of N-Triples in their canonical form.
+//! Lines of N-Triples and of N-Quads in their canonical form.
 #![tactic(auto)]
 
 mod lines;
 
-pub use lines::line;
+pub use lines::{line, quad_line};

@@ -111,14 +111,14 @@ fn sets_prefix(scope: &mut Scope) -> Result<bool, AllocError> {
     Ok(is_set && !is_set_again)
 }
 
-/// Whether two blocks have no fault, of which the second goes on in the scope of the first.
-fn have_no_fault(
+/// The faults of two blocks, of which the second goes on in the scope of the first.
+fn faults_of(
     alloc: Global,
     scope: Scope,
     first: &str,
     second: &str,
     triples: &mut Vec<Triple>,
-) -> Result<bool, Refusal> {
+) -> Result<[Option<Fault>; 2], Refusal> {
     let allowed = Allowed {
         nodes: true,
         lone_lists: true,
@@ -126,7 +126,7 @@ fn have_no_fault(
     let (scope, fault) = read::<Terms>(alloc, scope, allowed, first, triples)?;
     let (after, then) = read::<Terms>(alloc, scope, allowed, second, triples)?;
     drop(after);
-    Ok(fault == None && then == None)
+    Ok([fault, then])
 }
 
 /// Adds the lines of triples.
@@ -152,22 +152,23 @@ _:b7_2 <http://e/v#p> _:b7_3 .
 _:b7_2 <http://e/v#p> _:b7_4 .
 ";
 
-/// Whether a prefix is set, and two blocks with it have no fault.
-fn go_on(alloc: Global, triples: &mut Vec<Triple>) -> Result<bool, Refusal> {
+/// Whether a prefix is set, and the faults of two blocks with it.
+fn go_on(alloc: Global, triples: &mut Vec<Triple>) -> Result<(bool, [Option<Fault>; 2]), Refusal> {
     let mut scope = scope(alloc)?;
     let is_set = sets_prefix(&mut scope);
     let first = "( 1 ) . _:x v:p [] .";
-    let are_right = have_no_fault(alloc, scope, first, "_:x v:p _:y .", triples);
-    Ok(is_set? && are_right?)
+    let faults = faults_of(alloc, scope, first, "_:x v:p _:y .", triples);
+    Ok((is_set?, faults?))
 }
 
 #[test]
 fn prefixes_and_numbers_go_on_in_the_next_block(rt: HostRuntime) -> Result<(), Fail> {
     let mut triples = Vec::new(rt.alloc());
-    let go_on = go_on(rt.alloc(), &mut triples);
+    let read = go_on(rt.alloc(), &mut triples);
     let are_same = have_lines(rt.alloc(), triples.as_slice(), TRIPLES);
     drop(triples);
-    assert!(rt; go_on? && are_same?);
+    assert_eq!(rt; read?, (true, [None, None]));
+    assert!(rt; are_same?);
     Ok(())
 }
 
@@ -241,8 +242,8 @@ fn are_patterns(alloc: Global, patterns: &[Pattern], wanted: &str) -> Result<boo
     Ok(lines.as_slice() == wanted.as_bytes())
 }
 
-/// Whether a block without nodes gives these patterns, and no fault.
-fn gives(alloc: Global, text: &str, wanted: &str) -> Result<bool, Refusal> {
+/// The fault of a block without nodes, and whether it gives these patterns.
+fn gives(alloc: Global, text: &str, wanted: &str) -> Result<(Option<Fault>, bool), Refusal> {
     let allowed = Allowed {
         nodes: false,
         lone_lists: false,
@@ -251,7 +252,7 @@ fn gives(alloc: Global, text: &str, wanted: &str) -> Result<bool, Refusal> {
     let fault = read_alone::<Patterns>(alloc, allowed, text, &mut patterns);
     let are_same = are_patterns(alloc, patterns.as_slice(), wanted);
     drop(patterns);
-    Ok(fault? == None && are_same?)
+    Ok((fault?, are_same?))
 }
 
 /// The patterns of the block below, in their order.
@@ -262,6 +263,7 @@ s p <http://www.w3.org/1999/02/22-rdf-syntax-ns#nil>
 
 #[test]
 fn patterns_have_variables_at_each_place(rt: HostRuntime) -> Result<(), Fail> {
-    assert!(rt; gives(rt.alloc(), "?s <p> $o , \"b\" ; ?p ( ) .", PATTERNS)?);
+    let given = gives(rt.alloc(), "?s <p> $o , \"b\" ; ?p ( ) .", PATTERNS)?;
+    assert_eq!(rt; given, (None, true));
     Ok(())
 }

@@ -100,20 +100,26 @@ _:b7_2 <http://www.w3.org/1999/02/22-rdf-syntax-ns#rest> <http://www.w3.org/1999
 <http://e/s> <http://e/v#of> \"b\"@en .
 ";
 
-/// Whether a text has these lines, and ends where its last statement does, with no fault.
-fn is_whole(alloc: Global, text: &str, lines: &str) -> Result<bool, Refusal> {
+/// What is wrong of what is given of a text that has these lines, and ends where its last statement does,
+/// with no fault.
+fn wrong_part(alloc: Global, text: &str, lines: &str) -> Result<Option<&'static str>, Refusal> {
     let got = parse_text(alloc, text.as_bytes())?;
-    Ok(
-        got.lines.as_slice() == lines.as_bytes()
-            && got.last == text.len() as u64
-            && got.fault == None
-            && got.end == Ok(()),
-    )
+    if got.lines.as_slice() != lines.as_bytes() {
+        return Ok(Some("the lines"));
+    }
+    if got.last != text.len() as u64 {
+        return Ok(Some("the last place"));
+    }
+    if got.fault != None {
+        return Ok(Some("the fault"));
+    }
+    let is_end = got.end == Ok(());
+    Ok(if is_end { None } else { Some("the end") })
 }
 
 #[test]
 fn a_prefix_and_a_collection_give_their_triples(rt: HostRuntime) -> Result<(), Fail> {
-    assert!(rt; is_whole(rt.alloc(), TEXT, TRIPLES)?);
+    assert_eq!(rt; wrong_part(rt.alloc(), TEXT, TRIPLES)?, None);
     Ok(())
 }
 

@@ -8,7 +8,8 @@ use Rattle.gs_model.specs.Graphs.{Graph, empty_graph, with_triples, graph_of, tr
 use Rattle.gs_model.proofs.GraphLemmas.{triples_of-empty, graph_of-triples_of}
 use Rattle.gs_term.specs.declared.names.Target.{Target}
 use Rattle.gs_term.specs.declared.names.Target.TheVariants.{Default, Named}
-use Rattle.gs_event.specs.Datasets.{Dataset, empty_dataset, name_cmp, graph_at, lines_at}
+use Rattle.gs_term.specs.Names.{name_cmp}
+use Rattle.gs_event.specs.Datasets.{Dataset, empty_dataset, graph_at, lines_at}
 use Rattle.gs_event.specs.Operations.{united}
 use Rattle.gs_plain.specs.declared.books.Row.{Row}
 use Rattle.gs_plain.specs.Books.{dataset_of, lines_of_row}

@@ -7,8 +7,6 @@ use Rattle.std.specs.Cmp.{eq_by_cmp_equiv}
 use Rattle.std.proofs.lemmas.List.{take_more, take_all}
 use Rattle.std.proofs.lemmas.Option.{slice_get-get_or}
 use Rattle.std.proofs.lemmas.List.Sums.{fold-append}
-use Rattle.std.proofs.lemmas.Cmp.{nat_list_cmp_total}
-use Rattle.std.proofs.lemmas.Map.Lookups.{exact_bytes}
 use Rattle.gs_model.specs.Triples.{line_of}
 use Rattle.gs_model.specs.Graphs.{Graph}
 use Rattle.gs_model.proofs.GraphLemmas.{triples_of-empty}
@@ -17,7 +15,9 @@ use Rattle.gs_term.specs.contracts.names.GraphNameOrd.TheImpl.Laws.{matches_eq-l
 use Rattle.gs_term.specs.contracts.names.TargetPartialEq.TheImpl as TargetPartialEq
 use Rattle.gs_term.specs.declared.names.Target.{Target}
 use Rattle.gs_term.specs.declared.names.Target.TheVariants.{Default, Named}
-use Rattle.gs_event.specs.Datasets.{name_cmp, Dataset, empty_dataset, with_graph, without_graph, graph_at, lines_if}
+use Rattle.gs_term.specs.Names.{name_cmp}
+use Rattle.gs_term.proofs.NameLemmas.{name_total, name_exact}
+use Rattle.gs_event.specs.Datasets.{Dataset, empty_dataset, with_graph, without_graph, graph_at, lines_if}
 use Rattle.gs_plain.specs.declared.books.Row.{Row}
 use Rattle.gs_plain.specs.Books.{after_row, dataset_of, lines_of_row, is_default}
 use Rattle.gs_plain.specs.Newest.{target_eq, graph_of_row, graph_by, AreOthers, IsLast, NewestRow}
@@ -29,15 +29,15 @@ pub graph_at-with_graph : (m : Dataset) (t u : Target) (g : Graph) → graph_at 
 graph_at-with_graph m Default Default g = refl
 graph_at-with_graph m Default (Named b) g = refl
 graph_at-with_graph m (Named a) Default g = refl
-graph_at-with_graph m (Named a) (Named b) g = map.get-insert nat_list_cmp_total m.named a g b ∙ ap (λ e. cond e (Some g) (map.get m.named b)) ((eq_by_cmp_equiv nat_list_cmp_total).symm b a ∙ sym (matches_eq-law a b))
+graph_at-with_graph m (Named a) (Named b) g = map.get-insert name_total m.named a g b ∙ ap (λ e. cond e (Some g) (map.get m.named b)) ((eq_by_cmp_equiv name_total).symm b a ∙ sym (matches_eq-law a b))
 
 pub graph_at-without_graph : (m : Dataset) (t u : Target) → graph_at (without_graph m t) u ≡ cond (target_eq t u) (graph_at empty_dataset u) (graph_at m u)
 graph_at-without_graph m Default Default = refl
 graph_at-without_graph m Default (Named b) = refl
 graph_at-without_graph m (Named a) Default = refl
 graph_at-without_graph m (Named a) (Named b) =
-    map.get-remove nat_list_cmp_total m.named a b
-    ∙ ap (λ e. cond e None (map.get m.named b)) ((eq_by_cmp_equiv nat_list_cmp_total).symm b a ∙ sym (matches_eq-law a b))
+    map.get-remove name_total m.named a b
+    ∙ ap (λ e. cond e None (map.get m.named b)) ((eq_by_cmp_equiv name_total).symm b a ∙ sym (matches_eq-law a b))
     ∙ ap (λ o. cond (bytes_eq a b) o (map.get m.named b)) (sym (map.get-empty name_cmp b))
 
 -- what a row makes of the graph of a target
@@ -55,7 +55,7 @@ graph_at-after_row m r u =
 pub same_dataset : (m n : Dataset) → ((u : Target) → graph_at m u ≡ graph_at n u) → m ≡ n
 same_dataset m n alike =
     let unnamed : m.unnamed ≡ n.unnamed = some_injective m.unnamed n.unnamed (alike Default) in
-    let named : m.named ≡ n.named = map.same_map nat_list_cmp_total exact_bytes m.named n.named (λ a. alike (Named a)) in
+    let named : m.named ≡ n.named = map.same_map name_total name_exact m.named n.named (λ a. alike (Named a)) in
     λ i. record { unnamed = unnamed i; named = named i }
   where
     some_injective : (g h : Graph) → Some g ≡ Some h → g ≡ h

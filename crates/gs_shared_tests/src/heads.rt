@@ -116,15 +116,18 @@ fn asked<R: Threads + Wait + Sync>(rt: &R, alloc: Global) -> Option<Ended> {
     run::<Brand, Brand, Brand, R>(rt, alloc, cell, keeper, calls, triples)
 }
 
-/// What of the page, or of a pass, is not as it must be.
+/// The names of the four passes.
+const PASSES: [&str; 4] = ["pass 0", "pass 1", "pass 2", "pass 3"];
+
+/// What is not as it must be: the page, or the first such pass.
 fn wrong_part(ended: &Ended) -> Option<&'static str> {
     let page = ended.audited.page();
     if page.number() != 0 || page.entries().len() != 4000 {
         return Some("the page");
     }
-    for record in &ended.passes {
+    for (name, record) in PASSES.iter().zip(&ended.passes) {
         if record.calls() != 1000 || record.receipts().len() != 1000 {
-            return Some("a pass");
+            return Some(name);
         }
     }
     None

@@ -125,21 +125,30 @@ fn seen<R: Wait>(rt: &R, alloc: Global) -> Option<Outcome> {
     run::<Brand, Brand, Brand, R>(rt, alloc, cell, keeper, calls, triples)
 }
 
-/// Whether the last pass was refused both times, and the seat's own was not.
-fn is_right(seen: &Outcome) -> bool {
-    for answer in &seen.others {
-        if !matches!(answer, Answer::Refused(Refusal::BadSeat)) {
-            return false;
-        }
+/// What is not as it must be: the last pass is refused both times, and the seat's own is not.
+fn wrong_part(seen: &Outcome) -> Option<&'static str> {
+    let [cancelled, committed] = &seen.others;
+    if !matches!(cancelled, Answer::Refused(Refusal::BadSeat)) {
+        return Some("another's Cancel");
     }
-    seen.last == 511 && matches!(seen.own, Answer::Status(204, None))
+    if !matches!(committed, Answer::Refused(Refusal::BadSeat)) {
+        return Some("another's Commit");
+    }
+    if !matches!(seen.own, Answer::Status(204, None)) {
+        return Some("the own Commit");
+    }
+    if seen.last == 511 {
+        None
+    } else {
+        Some("the last seat")
+    }
 }
 
 #[test]
 fn no_pass_acts_for_another_seat(rt: HostRuntime) -> Result<(), Fail> {
     let seen = seen(&rt, rt.alloc()).expect(&rt, "memory, and 512 seats");
-    let is_right = is_right(&seen);
+    let wrong = wrong_part(&seen);
     drop(seen);
-    assert!(rt; is_right);
+    assert_eq!(rt; wrong, None);
     Ok(())
 }

@@ -78,21 +78,18 @@ fn wrong_number(alloc: Global, dict: &Dict, list: &[u64]) -> Result<Option<u32>,
     Ok(if is_all { None } else { Some(number) })
 }
 
-/// Whether the terms that are drawn have the numbers of a list, one by one and at the end.
-fn are_numbered(alloc: Global, dict: &mut Dict, list: &mut Vec<u64>) -> Result<bool, Refusal> {
-    Ok(wrong_draw(alloc, dict, list)? == None && wrong_number(alloc, dict, list)? == None)
-}
-
 /// Goes past the first 1,024 buckets, which are doubled on the way.
 #[test]
 fn terms_have_the_numbers_of_a_list(rt: HostRuntime) -> Result<(), Refusal> {
     let alloc = rt.alloc();
     let mut dict = Dict::new(alloc, 1, u32::MAX)?;
     let mut list: Vec<u64> = Vec::new(alloc);
-    let are_right = are_numbered(alloc, &mut dict, &mut list);
+    let draw = wrong_draw(alloc, &mut dict, &mut list);
+    let number = wrong_number(alloc, &dict, &list);
     drop(list);
     drop(dict);
-    assert!(&rt; are_right?);
+    assert_eq!(&rt; draw?, None);
+    assert_eq!(&rt; number?, None);
     Ok(())
 }
 
@@ -122,27 +119,29 @@ fn of_one_bucket(alloc: Global, hasher: FoldHasher) -> Result<Vec<TermText>, Ref
     Ok(terms)
 }
 
-/// Whether these terms, which are more than eight, get the numbers 0, 1, 2 and so on, and keep them.
-fn keep_apart(dict: &mut Dict, terms: &[TermText]) -> Result<bool, Refusal> {
+/// The place of the first of these terms that does not keep it as its number, or how many they are where
+/// they are not more than eight, or the dictionary has not as many.
+fn first_not_apart(dict: &mut Dict, terms: &[TermText]) -> Result<Option<usize>, Refusal> {
     for term in terms {
         dict.intern(term)?;
     }
     for (i, wanted) in terms.iter().enumerate() {
         if dict.find(wanted).map(|id| id.number as usize) != Some(i) {
-            return Ok(false);
+            return Ok(Some(i));
         }
     }
-    Ok(terms.len() > 8 && dict.len() == terms.len())
+    let are_counted = terms.len() > 8 && dict.len() == terms.len();
+    Ok(if are_counted { None } else { Some(terms.len()) })
 }
 
 #[test]
 fn crafted_terms_of_one_bucket_keep_apart(rt: HostRuntime) -> Result<(), Refusal> {
     let terms = of_one_bucket(rt.alloc(), seeded(7))?;
     let mut dict = Dict::new(rt.alloc(), 7, u32::MAX)?;
-    let are_apart = keep_apart(&mut dict, &terms);
+    let first = first_not_apart(&mut dict, &terms);
     drop(dict);
     drop(terms);
-    assert!(&rt; are_apart?);
+    assert_eq!(&rt; first?, None);
     Ok(())
 }
 
@@ -198,16 +197,26 @@ fn are_known(dict: &Dict, terms: &[TermText]) -> bool {
     true
 }
 
-/// Whether the guesses for terms are right before and after those of the first half are given numbers.
-fn are_guessed(dict: &mut Dict, terms: &[TermText]) -> Result<bool, Refusal> {
+/// Which guesses for terms are wrong, before or after those of the first half are given numbers.
+fn wrong_guesses(dict: &mut Dict, terms: &[TermText]) -> Result<Option<&'static str>, Refusal> {
     let (known, others) = terms.split_at(GUESSED_TOGETHER.min(terms.len()));
-    if others.len() != GUESSED_TOGETHER || !are_new(dict, known) {
-        return Ok(false);
+    if others.len() != GUESSED_TOGETHER {
+        return Ok(Some("those for too few terms"));
+    }
+    if !are_new(dict, known) {
+        return Ok(Some("the first ones, of no terms"));
     }
     for term in known {
         dict.intern(term)?;
     }
-    Ok(are_known(dict, known) && are_new(dict, others))
+    if !are_known(dict, known) {
+        return Ok(Some("those for the terms that are there"));
+    }
+    Ok(if are_new(dict, others) {
+        None
+    } else {
+        Some("those for the others")
+    })
 }
 
 /// For a term of an empty bucket a number is guessed that was not given.
@@ -215,10 +224,10 @@ fn are_guessed(dict: &mut Dict, terms: &[TermText]) -> Result<bool, Refusal> {
 fn terms_alone_in_their_buckets_are_guessed(rt: HostRuntime) -> Result<(), Refusal> {
     let terms = alone_in_buckets(rt.alloc(), 11, 2 * GUESSED_TOGETHER)?;
     let mut dict = Dict::new(rt.alloc(), 11, u32::MAX)?;
-    let are_right = are_guessed(&mut dict, &terms);
+    let wrong = wrong_guesses(&mut dict, &terms);
     drop(dict);
     drop(terms);
-    assert!(&rt; are_right?);
+    assert_eq!(&rt; wrong?, None);
     Ok(())
 }
 
@@ -280,21 +289,33 @@ fn is_given_blank(
     is_right
 }
 
-/// Whether all these terms get numbers of their own, and two blank nodes after them.
-fn are_given(alloc: Global, dict: &mut Dict) -> Result<bool, Refusal> {
-    Ok(
-        wrong_text(alloc, dict)? == None
-            && is_given_blank(alloc, dict, 1, 20, 10)?
-            && is_given_blank(alloc, dict, 12, 0, 11)?,
-    )
+/// Blank nodes by their requests and labels, whose texts differ in one byte, and their numbers.
+const BLANKS: [(&str, u64, u64, u32); 2] = [("_:b1_20", 1, 20, 10), ("_:b12_0", 12, 0, 11)];
+
+/// The first of these blank nodes that does not get its number.
+fn wrong_blank(alloc: Global, dict: &mut Dict) -> Result<Option<&'static str>, Refusal> {
+    for (name, request, label, wanted) in &BLANKS {
+        if !is_given_blank(alloc, dict, *request, *label, *wanted)? {
+            return Ok(Some(name));
+        }
+    }
+    Ok(None)
+}
+
+/// The first of all these texts and blank nodes that does not get its number.
+fn wrong_term(alloc: Global, dict: &mut Dict) -> Result<Option<&'static str>, Refusal> {
+    match wrong_text(alloc, dict)? {
+        None => wrong_blank(alloc, dict),
+        text => Ok(text),
+    }
 }
 
 #[test]
 fn terms_that_differ_in_one_byte_have_two_numbers(rt: HostRuntime) -> Result<(), Refusal> {
     let mut dict = Dict::new(rt.alloc(), 3, u32::MAX)?;
-    let are_right = are_given(rt.alloc(), &mut dict);
+    let wrong = wrong_term(rt.alloc(), &mut dict);
     drop(dict);
-    assert!(&rt; are_right?);
+    assert_eq!(&rt; wrong?, None);
     Ok(())
 }
 
@@ -314,19 +335,30 @@ fn is_refused(alloc: Global, dict: &mut Dict, drawn: u64) -> Result<bool, Refusa
     Ok(is_right)
 }
 
-/// Whether a dictionary of three numbers refuses a fourth term, and knows the third.
-fn ends_at_three(alloc: Global, dict: &mut Dict) -> Result<bool, Refusal> {
+/// What is wrong of a dictionary of three numbers, which refuses a fourth term, and knows the third.
+fn wrong_end(alloc: Global, dict: &mut Dict) -> Result<Option<&'static str>, Refusal> {
     for drawn in 0..3u64 {
         given(alloc, dict, drawn)?;
     }
-    Ok(is_refused(alloc, dict, 3)? && dict.len() == 3 && given(alloc, dict, 2)? == 2)
+    if !is_refused(alloc, dict, 3)? {
+        return Ok(Some("the fourth term"));
+    }
+    if dict.len() != 3 {
+        return Ok(Some("the count"));
+    }
+    let third = given(alloc, dict, 2)?;
+    Ok(if third == 2 {
+        None
+    } else {
+        Some("the third term")
+    })
 }
 
 #[test]
 fn past_the_last_number_memory_is_wanted(rt: HostRuntime) -> Result<(), Refusal> {
     let mut dict = Dict::new(rt.alloc(), 1, 2)?;
-    let is_right = ends_at_three(rt.alloc(), &mut dict);
+    let wrong = wrong_end(rt.alloc(), &mut dict);
     drop(dict);
-    assert!(&rt; is_right?);
+    assert_eq!(&rt; wrong?, None);
     Ok(())
 }

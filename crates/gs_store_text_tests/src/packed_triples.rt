@@ -126,20 +126,20 @@ fn right_triples(alloc: Global, packed: &PackedTriples) -> Result<usize, Refusal
     Ok(right)
 }
 
-/// Whether all lists are packed, and read as they were added.
-fn are_read(alloc: Global) -> Result<bool, Refusal> {
+/// How many triples are packed of all lists, and how many are read as they were added.
+fn packed_and_read(alloc: Global) -> Result<(usize, usize), Refusal> {
     let mut packed = PackedTriples::new(alloc);
     let added = pack_all(alloc, &mut packed);
     let count = packed.len();
     let right = right_triples(alloc, &packed);
     drop(packed);
     added?;
-    Ok(count == 11 && right? == 11)
+    Ok((count, right?))
 }
 
 #[test]
 fn triples_are_read_as_they_were_added(rt: HostRuntime) -> Result<(), Fail> {
-    assert!(rt; are_read(rt.alloc())?);
+    assert_eq!(rt; packed_and_read(rt.alloc())?, (11, 11));
     Ok(())
 }
 

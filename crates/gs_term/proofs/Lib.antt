@@ -1,1 +1,2 @@
 pub mod MakingLemmas
+pub mod NameLemmas

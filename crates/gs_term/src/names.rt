@@ -4,31 +4,33 @@ ghost use Rattle.std.specs.Str.{bytes_eq};
 ghost use Rattle.std.proofs.Common.{rules};
 ghost use Rattle.std.specs.Cmp.{partial_order_from_own_ties};
 ghost use Rattle.std.specs.Cmp.Rules.{comparing};
-ghost use Rattle.std.specs.Ordering.{nat_cmp};
-ghost use Rattle.std.specs.Cmp.Lexicographic.{slice_cmp};
 ghost use Rattle.gs_term.specs.Making.{Names};
+ghost use Rattle.gs_term.specs.Names.{in_brackets, name_cmp};
+ghost use Rattle.gs_term.specs.NameOrder.{name_ties};
 
+use crate::terms::iri_bytes;
 use gs_iri::is_absolute;
 use gs_model::{MAX_NAME_BYTES, Refusal};
 use std::alloc::{AllocError, Global};
 use std::cmp::Ordering;
 use std::marker::Model;
 
-/// The IRI of a named graph. A contract sees its bytes.
+/// The IRI of a named graph, kept between `<` and `>`, as it stands in a line. A contract sees the bytes
+/// of the IRI.
 #[derive(Debug, Drop)]
 pub struct GraphName {
-    bytes: Vec<u8>,
+    text: Vec<u8>,
 }
 
 impl Model for GraphName {
     ghost use Rattle.std.specs.Prelude.{List, ℕ};
-    ghost use Rattle.gs_model.specs.Iris.{IsName};
+    ghost use Rattle.gs_term.specs.Names.{without_brackets, IsNameText};
 
     ghost Value = { List ℕ };
 
-    ghost view = { λ n. n.bytes.items };
+    ghost view = { λ n. without_brackets n.text.items };
 
-    ghost invariant = { λ n. IsName n.bytes.items };
+    ghost invariant = { λ n. IsNameText n.text.items };
 }
 
 impl GraphName {
@@ -44,8 +46,8 @@ impl GraphName {
         if text.len() > MAX_NAME_BYTES {
             return Err(Refusal::TermTooLong);
         }
-        let bytes = Vec::from_slice(alloc, text.as_bytes())?;
-        Ok(GraphName { bytes })
+        let text = iri_bytes(alloc, text)?;
+        Ok(GraphName { text })
     }
 
     /// The bytes of the IRI.
@@ -53,7 +55,15 @@ impl GraphName {
         ensures text { result.now ≡ self.now }
         ensures name { IsName self.now }
     {
-        self.bytes.as_slice()
+        let end = self.text.len() - 1;
+        &self.text.as_slice()[1..end]
+    }
+
+    /// The name as it stands in a line: between `<` and `>`. Names are ordered by these bytes.
+    pub fn in_brackets(&self) -> &[u8]
+        ensures { result.now ≡ in_brackets self.now }
+    {
+        self.text.as_slice()
     }
 }
 
@@ -61,8 +71,8 @@ impl Clone for GraphName {
     ghost is_clone = { λ s t. t ≡ s };
 
     fn clone(&self) -> Result<GraphName, AllocError> {
-        let bytes = self.bytes.clone()?;
-        Ok(GraphName { bytes })
+        let text = self.text.clone()?;
+        Ok(GraphName { text })
     }
 }
 
@@ -72,7 +82,7 @@ impl PartialEq for GraphName {
     ghost laws = { Prim.search (comparing, rules) };
 
     fn eq(&self, other: &GraphName) -> bool {
-        self.bytes.as_slice() == other.bytes.as_slice()
+        self.text.as_slice() == other.text.as_slice()
     }
 }
 
@@ -81,25 +91,25 @@ impl Eq for GraphName {
 }
 
 impl Ord for GraphName {
-    ghost cmp = { slice_cmp nat_cmp };
+    ghost cmp = { name_cmp };
 
     ghost total = { Prim.search (comparing, rules) };
 
     ghost matches_partial_cmp = { Prim.search (comparing, rules) };
 
-    ghost matches_eq = { Prim.search (comparing, rules) };
+    ghost matches_eq = { name_ties };
 
     fn cmp(&self, other: &GraphName) -> Ordering {
-        self.bytes.as_slice().cmp(&other.bytes.as_slice())
+        self.text.as_slice().cmp(&other.text.as_slice())
     }
 }
 
 impl PartialOrd for GraphName {
     ghost use Rattle.std.specs.Ordering.{as_partial_cmp};
 
-    ghost partial_cmp = { as_partial_cmp (slice_cmp nat_cmp) };
+    ghost partial_cmp = { as_partial_cmp name_cmp };
 
-    ghost laws = { partial_order_from_own_ties (Prim.search (comparing, rules)) (Prim.search (comparing, rules)) };
+    ghost laws = { partial_order_from_own_ties (Prim.search (comparing, rules)) name_ties };
 
     fn partial_cmp(&self, other: &GraphName) -> Option<Ordering> {
         Some(self.cmp(other))

@@ -37,8 +37,8 @@ impl Model for TermText {
     ghost invariant = { λ t. IsCanonical t.bytes.items };
 }
 
-/// The canonical text of an IRI.
-fn iri_bytes(alloc: Global, text: &str) -> Result<Vec<u8>, AllocError>
+/// The canonical text of an IRI. One exact allocation.
+pub(crate) fn iri_bytes(alloc: Global, text: &str) -> Result<Vec<u8>, AllocError>
     requires { length text.now ≤ max_term_bytes }
     ensures { IfOk result (λ v. v.items ≡ text_of (Iri text.now)) }
 {

@@ -4,4 +4,6 @@
 #[cfg(test)]
 mod characters;
 #[cfg(test)]
+mod names;
+#[cfg(test)]
 mod terms;

@@ -53,18 +53,23 @@ fn read(lexer: &mut Lexer, tokens: &mut Vec<Token>) -> Result<(), Refusal> {
     lexer.finish(tokens)
 }
 
-/// Whether these are the tokens of that text.
-fn are_right(tokens: &[Token]) -> bool {
+/// Which of these is not the token that the text has there.
+fn wrong_token(tokens: &[Token]) -> Option<&'static str> {
     let [first, second] = tokens else {
-        return false;
+        return Some("how many there are");
     };
-    first.kind == TokenKind::A
-        && first.text.len() == 0
-        && first.end == 1
-        && second.kind == TokenKind::IriRef
-        && second.text.as_slice() == b"<bc>".as_slice()
-        && second.start == 2
-        && second.end == 6
+    if first.kind != TokenKind::A || first.text.len() != 0 || first.end != 1 {
+        return Some("the first");
+    }
+    if second.kind != TokenKind::IriRef || second.text.as_slice() != b"<bc>".as_slice() {
+        return Some("the second");
+    }
+    let is_placed = second.start == 2 && second.end == 6;
+    if is_placed {
+        None
+    } else {
+        Some("the place of the second")
+    }
 }
 
 #[test]
@@ -72,49 +77,59 @@ fn tokens_carry_their_bytes_and_their_place(rt: HostRuntime) -> Result<(), Fail>
     let mut lexer = Lexer::new(rt.alloc(), false);
     let mut tokens = Vec::new(rt.alloc());
     let read = read(&mut lexer, &mut tokens);
-    let are_right = are_right(tokens.as_slice());
+    let wrong = wrong_token(tokens.as_slice());
     drop(tokens);
     drop(lexer);
     read?;
-    assert!(rt; are_right);
+    assert_eq!(rt; wrong, None);
     Ok(())
 }
 
-/// Whether a lexer reports a fault, and then is closed.
-fn closes(lexer: &mut Lexer, tokens: &mut Vec<Token>) -> bool {
-    lexer.feed(b"<b c>", tokens) == Err(Refusal::Syntax(0))
-        && lexer.feed(b"", tokens) == Err(Refusal::Closed)
-        && lexer.finish(tokens) == Err(Refusal::Closed)
+/// What a lexer answers to a text with a fault, and then to another piece and to the end.
+fn answers(lexer: &mut Lexer, tokens: &mut Vec<Token>) -> [Result<(), Refusal>; 3] {
+    let fault = lexer.feed(b"<b c>", tokens);
+    let piece = lexer.feed(b"", tokens);
+    [fault, piece, lexer.finish(tokens)]
 }
+
+/// What it is to answer.
+const CLOSED: [Result<(), Refusal>; 3] = [
+    Err(Refusal::Syntax(0)),
+    Err(Refusal::Closed),
+    Err(Refusal::Closed),
+];
 
 #[test]
 fn after_a_fault_each_call_is_refused(rt: HostRuntime) -> Result<(), Fail> {
     let mut lexer = Lexer::new(rt.alloc(), false);
     let mut tokens = Vec::new(rt.alloc());
-    let is_closed = closes(&mut lexer, &mut tokens);
+    let answers = answers(&mut lexer, &mut tokens);
     drop(tokens);
     drop(lexer);
-    assert!(rt; is_closed);
+    assert_eq!(rt; answers, CLOSED);
     Ok(())
 }
 
-/// Whether a lexer reads another text from its first byte on, and a third, once one has ended.
-fn reads_another(lexer: &mut Lexer, tokens: &mut Vec<Token>) -> Result<bool, Refusal> {
+/// Which text a lexer does not read from its first byte on once another has ended.
+fn wrong_text(lexer: &mut Lexer, tokens: &mut Vec<Token>) -> Result<Option<&'static str>, Refusal> {
     lexer.feed(b"a .", tokens)?;
     lexer.finish(tokens)?;
     lexer.feed(b"<b>", tokens)?;
     lexer.finish(tokens)?;
-    let is_anew = tokens.len() == 3 && tokens[2].start == 0;
-    Ok(is_anew && lexer.feed(b"<b c>", tokens) == Err(Refusal::Syntax(0)))
+    if tokens.len() != 3 || tokens[2].start != 0 {
+        return Ok(Some("the second"));
+    }
+    let is_anew = lexer.feed(b"<b c>", tokens) == Err(Refusal::Syntax(0));
+    Ok(if is_anew { None } else { Some("the third") })
 }
 
 #[test]
 fn a_finished_lexer_reads_another_text(rt: HostRuntime) -> Result<(), Fail> {
     let mut lexer = Lexer::new(rt.alloc(), false);
     let mut tokens = Vec::new(rt.alloc());
-    let is_read = reads_another(&mut lexer, &mut tokens);
+    let wrong = wrong_text(&mut lexer, &mut tokens);
     drop(tokens);
     drop(lexer);
-    assert!(rt; is_read?);
+    assert_eq!(rt; wrong?, None);
     Ok(())
 }

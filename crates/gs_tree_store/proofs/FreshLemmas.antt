@@ -7,7 +7,8 @@ use Rattle.std.proofs.lemmas.List.Elements.{All-nil, All-cons, All-map, All-repl
 use Rattle.std.proofs.lemmas.List.Folds.{sum_by-replicate}
 use Rattle.gs_model.specs.Bases.{is_base}
 use Rattle.gs_model.specs.Limits.{last_number}
-use Rattle.gs_event.specs.Datasets.{name_cmp, empty_dataset}
+use Rattle.gs_term.specs.Names.{name_cmp}
+use Rattle.gs_event.specs.Datasets.{empty_dataset}
 use Rattle.gs_event.specs.Histories.{Start, view_of, pinned_of}
 use Rattle.gs_event.specs.Phases as phase
 use Rattle.gs_event.specs.Views.{SeatView}

@@ -1,6 +1,6 @@
 use Rattle.std.proofs.Common.{rules}
 use Rattle.std.proofs.lemmas.Fn.{always_returns_same}
-use Rattle.gs_event.specs.Datasets.{name_cmp}
+use Rattle.gs_term.specs.Names.{name_cmp}
 use Rattle.gs_catalogue.proofs.PlaceLemmas.{searched}
 use Rattle.gs_catalogue.proofs.entries.place_of.Goals as goal
 

@@ -1,0 +1,4 @@
+pub mod WriteLemmas
+pub mod FitLemmas
+pub mod ReadLemmas
+pub mod ReadBackLemmas

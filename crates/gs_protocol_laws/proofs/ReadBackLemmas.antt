@@ -1,0 +1,85 @@
+-- Each write is read back from a legal history.
+use Rattle.std.proofs.Common.{◌≡◌, ℕ, true, cond, List, [], ◌∷◌, ◌++◌, Option, Some, None, is_some, IfSome, refl, sym, ap, ◌∙◌}
+use Rattle.std.specs.List.{concat, cons_option}
+use Rattle.gs_model.specs.Graphs.{Graph, lines_of}
+use Rattle.gs_term.specs.declared.names.Target.{Target}
+use Rattle.gs_term.specs.declared.names.Target.TheVariants.{Named}
+use Rattle.gs_event.specs.declared.events.Event.{Event}
+use Rattle.gs_event.specs.declared.answers.Answer.{Answer}
+use Rattle.gs_event.specs.Datasets.{graph_at, lines_at, lines_if}
+use Rattle.gs_event.specs.Operations.{Setting, Operation, Puts, Posts, Creates, Patches, Deletes, after, after_all, status_of, is_success}
+use Rattle.gs_event.specs.Histories.{History, Start, IsLegal, dataset_after, operation_by, points_of}
+use Rattle.gs_protocol_laws.specs.Writes.{Writes, status_without}
+use Rattle.gs_protocol_laws.specs.ReadBack.{Does, SpareSince, Shows, IsReadBack, PutsAreReadBack, PostsAreReadBack, CreatesAreReadBack, PatchesAreReadBack, DeletesAreReadBack}
+use Rattle.gs_protocol_laws.proofs.WriteLemmas.{after_other, put_own, post_own, create_own, patch_own, delete_own, left_of, status-left, lines-left}
+use Rattle.gs_protocol_laws.proofs.FitLemmas.{took_effect, name_made, head_status, pin_status}
+use Rattle.gs_protocol_laws.proofs.ReadLemmas.{gets_give}
+
+-- what an event asks, if anything, leaves a target that it spares
+spares_one : (w : Setting) (t : Target) (qs : List Operation) (o : Option Operation) → IfSome o (λ q. Writes w (after_all w qs) q t → ⊥)
+    → graph_at (after_all w (cons_option o qs)) t ≡ graph_at (after_all w qs) t
+spares_one w t qs None s = refl
+spares_one w t qs (Some q) s = after_other w (after_all w qs) q t s
+
+-- later events leave it
+spares : (w : Setting) (t : Target) (before later : History) → SpareSince w t before later → graph_at (dataset_after w (later ++ before)) t ≡ graph_at (dataset_after w before) t
+spares w t before [] s = refl
+spares w t before (x ∷ later) s =
+    spares_one w t (points_of (later ++ before)) (operation_by (later ++ before) x.0 x.1) s.1 ∙ spares w t before later s.0
+
+-- an earlier part of a legal history is legal
+legal_before : (start : Start) (before later : History) → IsLegal start (later ++ before) → IsLegal start before
+legal_before start before [] legal = legal
+legal_before start before (x ∷ later) legal = legal_before start before later legal.0
+
+-- the target's graph, after a write that took effect and events that spare it
+left_after : (w : Setting) (before : History) (x : Event × Answer) (q : Operation) (t : Target) (o : Option Graph) (later : History) → Does before x q
+    → SpareSince w t (x ∷ before) later → graph_at (after w (dataset_after w before) q) t ≡ o → graph_at (dataset_after w (later ++ x ∷ before)) t ≡ o
+left_after w before x q t o later d s e =
+    spares w t (x ∷ before) later s ∙ ap (λ p. graph_at (after_all w (cons_option p (points_of before))) t) d.asks ∙ e
+
+-- what is shown of a target by its graph
+shown : (start : Start) (h : History) (t : Target) (o : Option Graph) → graph_at (dataset_after start.setting h) t ≡ o → Shows start h t (cond (is_some o) 200 404) (lines_if o)
+shown start h t o e = record {
+  head = λ seat s name legal. head_status start h seat t s name legal ∙ ap (λ p. cond (is_some p) 200 404) e;
+  get = λ seat s legal. pin_status start h seat t s legal ∙ ap (λ p. cond (is_some p) 200 404) e;
+  given = λ seat whole bytes legal g. gets_give start h whole seat t bytes legal g ∙ ap (λ p. concat (lines_if p)) e;
+}
+
+-- where a write that takes effect makes g the target's graph
+back : (start : Start) (before : History) (x : Event × Answer) (q : Operation) (t : Target) (g : Graph)
+    → (IsLegal start (x ∷ before) → is_success (status_of start.setting (dataset_after start.setting before) q) ≡ true
+    → operation_by before x.0 x.1 ≡ Some q → graph_at (after start.setting (dataset_after start.setting before) q) t ≡ Some g)
+    → IsReadBack start before x q t 200 (lines_of g)
+back start before x q t g own later legal d s =
+    let sound : IsLegal start (x ∷ before) = legal_before start (x ∷ before) later legal in
+    shown start (later ++ x ∷ before) t (Some g) (left_after start.setting before x q t (Some g) later d s (own sound (took_effect start before x q sound d.asks d.success) d.asks))
+
+pub puts_back : PutsAreReadBack
+puts_back start before x t g = back start before x (Puts t g) t g (λ legal e is. put_own start.setting (dataset_after start.setting before) t g e)
+
+pub posts_back : PostsAreReadBack
+posts_back start before x t g = back start before x (Posts t g) t _ (λ legal e is. post_own start.setting (dataset_after start.setting before) t g e)
+
+pub creates_back : CreatesAreReadBack
+creates_back start before x r g name named =
+    back start before x (Creates r g) (Named name) g (λ legal e is. create_own start.setting (dataset_after start.setting before) r g name (name_made start before x (Creates r g) name legal is named) e)
+
+pub patches_back : PatchesAreReadBack
+patches_back start before x t ops = back start before x (Patches t ops) t _ (λ legal e is. patch_own start.setting (dataset_after start.setting before) t ops e)
+
+-- with the status and the lines of a target without a graph
+bare : (start : Start) (h : History) (t : Target) → graph_at (dataset_after start.setting h) t ≡ left_of t → Shows start h t (status_without t) []
+bare start h t e =
+    let s = shown start h t (left_of t) e in
+    record {
+      head = λ seat n name legal. s.head seat n name legal ∙ status-left t;
+      get = λ seat n legal. s.get seat n legal ∙ status-left t;
+      given = λ seat whole bytes legal g. s.given seat whole bytes legal g ∙ ap concat (lines-left t);
+    }
+
+pub deletes_back : DeletesAreReadBack
+deletes_back start before x t later legal d s =
+    let sound : IsLegal start (x ∷ before) = legal_before start (x ∷ before) later legal in
+    bare start (later ++ x ∷ before) t (left_after start.setting before x (Deletes t) t (left_of t) later d s
+        (delete_own start.setting (dataset_after start.setting before) t (took_effect start before x (Deletes t) sound d.asks d.success)))

@@ -1,0 +1,59 @@
+-- What a GET is given by its pieces, in a history of events with their answers (SPARQL 1.1 Graph Store HTTP Protocol, section 5.2).
+use Rattle.std.specs.Prelude.{◌≡◌, ℕ, nat_eq, Bool, true, false, cond, List, [], ◌∷◌, ◌++◌, Vec}
+use Rattle.std.specs.List.{concat}
+use Rattle.std.specs.declared.alloc.Global.{Global}
+use Rattle.gs_term.specs.declared.names.Target.{Target}
+use Rattle.gs_event.specs.declared.events.Action.{Action}
+use Rattle.gs_event.specs.declared.events.Action.TheVariants.{Pin, Piece, Cancel}
+use Rattle.gs_event.specs.declared.events.Event.{Event}
+use Rattle.gs_event.specs.declared.events.Event.TheVariants.{Seat as At, Reclaim}
+use Rattle.gs_event.specs.declared.answers.Answer.{Answer}
+use Rattle.gs_event.specs.declared.answers.Answer.TheVariants.{Pinned, Lines, Cancelled}
+use Rattle.gs_event.specs.Datasets.{lines_at}
+use Rattle.gs_event.specs.Histories.{History, Start, IsLegal, dataset_after}
+
+-- an answer ends the read of its seat: it has the last piece, or the read was given up
+abbrev pub ends_read : Action → Answer → Bool
+ends_read (Piece n) (Lines b end) = end
+ends_read Cancel Cancelled = true
+ends_read action a = false
+
+-- the event does not end the read of this seat
+abbrev pub LeavesRead : ℕ → Event → Answer → Type 0
+LeavesRead seat (Reclaim n) a = Unit {0}
+LeavesRead seat (At s action) a = s ≡ seat → ends_read action a ≡ false
+
+-- none of these events does
+abbrev pub LeaveRead : ℕ → History → Type 0
+LeaveRead seat [] = Unit {0}
+LeaveRead seat (x ∷ before) = LeaveRead seat before × LeavesRead seat x.0 x.1
+
+-- the bytes that are given for an action
+abbrev pub bytes_given : Action → Answer → List ℕ
+bytes_given (Piece n) (Lines b end) = b.items
+bytes_given action a = []
+
+-- those that an event gives to a seat
+abbrev pub bytes_by : ℕ → Event → Answer → List ℕ
+bytes_by seat (Reclaim n) a = []
+bytes_by seat (At s action) a = cond (nat_eq s seat) (bytes_given action a) []
+
+-- those that these events gave to it, in their order
+abbrev pub bytes_to : ℕ → History → List ℕ
+bytes_to seat [] = []
+bytes_to seat (x ∷ before) = bytes_to seat before ++ bytes_by seat x.0 x.1
+
+-- A whole GET: after the events before, the seat pinned the target, and was answered 200; it was given pieces since, among events
+-- of other seats, and just now the last of them. These are their bytes.
+pub record Gets (seat : ℕ) (t : Target) (before whole : History) (bytes : List ℕ) : Type 0 where
+  pub since : History
+  pub count : ℕ
+  pub piece : Vec ℕ Global
+  pub events : whole ≡ (At seat (Piece count), Lines piece true) ∷ (since ++ (At seat (Pin t), Pinned 200) ∷ before)
+  pub goes_on : LeaveRead seat since
+  pub given : bytes ≡ bytes_to seat ((At seat (Piece count), Lines piece true) ∷ since)
+
+-- A whole GET is given the lines that its target had when it was pinned, whatever other seats did since.
+abbrev pub GetsGiveTheirLines : Type 0
+GetsGiveTheirLines = (start : Start) (before whole : History) (seat : ℕ) (t : Target) (bytes : List ℕ) → IsLegal start whole
+    → Gets seat t before whole bytes → bytes ≡ concat (lines_at (dataset_after start.setting before) t)

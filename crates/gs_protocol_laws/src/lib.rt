@@ -1,0 +1,6 @@
+//! What a user of the protocol is promised: a write is read back.
+#![tactic(auto)]
+
+mod laws;
+
+pub use laws::{gets_give_their_lines, writes_are_read_back, writes_stay};
