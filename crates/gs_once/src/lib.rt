@@ -4,5 +4,6 @@
 mod runs;
 mod stops;
 
+pub use gs_arguments::{Stop, Task, read_task};
 pub use runs::{once, perform};
 pub use stops::report;

@@ -2,7 +2,7 @@
 ghost use Rattle.std.specs.Prelude.{◌≡◌, ◌≤◌, true};
 ghost use Rattle.gs_model.specs.Bases.{is_base};
 
-use gs_arguments::Stop;
+use gs_once::Stop;
 use gs_servers::{OpenGate, serve_all};
 use std::alloc::Global;
 use std::io::{self, Print, Write};

@@ -3,8 +3,7 @@
 
 mod listening;
 
-use gs_arguments::{Stop, Task, read_task};
-use gs_once::{perform, report};
+use gs_once::{Stop, Task, perform, read_task, report};
 use listening::listen;
 use std::alloc::{AllocError, Global};
 use std::env;
