@@ -1,10 +1,10 @@
 -- What the answers of a legal history say of its phases, and of the statuses of what was asked.
-use Rattle.std.proofs.Common.{◌≡◌, ◌⊎◌, inl, inr, ℕ, List, true, false, ◌∷◌, Option, Some, None, MatchOption, refl, sym, ap, ◌∙◌, subst, zero-add}
+use Rattle.std.proofs.Common.{◌≡◌, ◌⊎◌, inl, inr, ℕ, List, true, [], ◌∷◌, ◌++◌, Option, Some, None, MatchOption, refl, sym, ap, ◌∙◌, subst, zero-add}
 use Rattle.std.specs.List.{slice_get}
 use Rattle.gs_term.specs.declared.names.Target.{Target}
 use Rattle.gs_model.specs.declared.refusals.Refusal.TheVariants.{BadSeat}
 use Rattle.gs_event.specs.declared.events.Action.{Action}
-use Rattle.gs_event.specs.declared.events.Action.TheVariants.{Open, OpenPatch, Stage, Commit, CommitPatch, Delete, Head, Pin, Piece, Cancel}
+use Rattle.gs_event.specs.declared.events.Action.TheVariants.{Commit, CommitPatch, Delete, Head, Pin}
 use Rattle.gs_event.specs.declared.events.Event.{Event}
 use Rattle.gs_event.specs.declared.events.Event.TheVariants.{Seat as At, Reclaim}
 use Rattle.gs_event.specs.declared.answers.Answer.{Answer}
@@ -15,6 +15,11 @@ use Rattle.gs_event.specs.Views.{Totals, SeatView, Fits, FitsSeat, is_written}
 use Rattle.gs_event.specs.Histories.{History, OpenRead, Start, IsLegal, phase_of, operation_by, seat_view, view_of, dataset_after}
 use Rattle.gs_event.proofs.HistoryLemmas.{at_place}
 use Rattle.gs_protocol_laws.specs.ReadBack.{name_in}
+
+-- An earlier part of a legal history is legal
+pub legal_before : (start : Start) (before later : History) → IsLegal start (later ++ before) → IsLegal start before
+legal_before start before [] legal = legal
+legal_before start before (x ∷ later) legal = legal_before start before later legal.0
 
 -- An answer that fits a seat's action fits its phase, or says that there is no such seat.
 pub fits_phase : (start : Start) (h : History) (s : ℕ) (action : Action) (a : Answer) → Fits (view_of start h) (At s action) a

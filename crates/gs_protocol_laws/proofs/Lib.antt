@@ -2,3 +2,4 @@ pub mod WriteLemmas
 pub mod FitLemmas
 pub mod ReadLemmas
 pub mod ReadBackLemmas
+pub mod GivenUpLemmas

@@ -1,18 +1,18 @@
 -- Each write is read back from a legal history.
-use Rattle.std.proofs.Common.{◌≡◌, ℕ, true, cond, List, [], ◌∷◌, ◌++◌, Option, Some, None, is_some, IfSome, refl, sym, ap, ◌∙◌}
+use Rattle.std.proofs.Common.{◌≡◌, true, cond, List, [], ◌∷◌, ◌++◌, Option, Some, None, is_some, IfSome, refl, sym, ap, ◌∙◌}
 use Rattle.std.specs.List.{concat, cons_option}
 use Rattle.gs_model.specs.Graphs.{Graph, lines_of}
 use Rattle.gs_term.specs.declared.names.Target.{Target}
 use Rattle.gs_term.specs.declared.names.Target.TheVariants.{Named}
 use Rattle.gs_event.specs.declared.events.Event.{Event}
 use Rattle.gs_event.specs.declared.answers.Answer.{Answer}
-use Rattle.gs_event.specs.Datasets.{graph_at, lines_at, lines_if}
+use Rattle.gs_event.specs.Datasets.{graph_at, lines_if}
 use Rattle.gs_event.specs.Operations.{Setting, Operation, Puts, Posts, Creates, Patches, Deletes, after, after_all, status_of, is_success}
 use Rattle.gs_event.specs.Histories.{History, Start, IsLegal, dataset_after, operation_by, points_of}
 use Rattle.gs_protocol_laws.specs.Writes.{Writes, status_without}
-use Rattle.gs_protocol_laws.specs.ReadBack.{Does, SpareSince, Shows, IsReadBack, PutsAreReadBack, PostsAreReadBack, CreatesAreReadBack, PatchesAreReadBack, DeletesAreReadBack}
+use Rattle.gs_protocol_laws.specs.ReadBack.{Does, SpareSince, Shows, IsReadBack, PutsAreReadBack, PostsAreReadBack, CreatesAreReadBack, PatchesAreReadBack, DeletesAreReadBack, GetsAgree}
 use Rattle.gs_protocol_laws.proofs.WriteLemmas.{after_other, put_own, post_own, create_own, patch_own, delete_own, left_of, status-left, lines-left}
-use Rattle.gs_protocol_laws.proofs.FitLemmas.{took_effect, name_made, head_status, pin_status}
+use Rattle.gs_protocol_laws.proofs.FitLemmas.{legal_before, took_effect, name_made, head_status, pin_status}
 use Rattle.gs_protocol_laws.proofs.ReadLemmas.{gets_give}
 
 -- what an event asks, if anything, leaves a target that it spares
@@ -26,11 +26,6 @@ spares : (w : Setting) (t : Target) (before later : History) → SpareSince w t 
 spares w t before [] s = refl
 spares w t before (x ∷ later) s =
     spares_one w t (points_of (later ++ before)) (operation_by (later ++ before) x.0 x.1) s.1 ∙ spares w t before later s.0
-
--- an earlier part of a legal history is legal
-legal_before : (start : Start) (before later : History) → IsLegal start (later ++ before) → IsLegal start before
-legal_before start before [] legal = legal
-legal_before start before (x ∷ later) legal = legal_before start before later legal.0
 
 -- the target's graph, after a write that took effect and events that spare it
 left_after : (w : Setting) (before : History) (x : Event × Answer) (q : Operation) (t : Target) (o : Option Graph) (later : History) → Does before x q
@@ -82,4 +77,10 @@ pub deletes_back : DeletesAreReadBack
 deletes_back start before x t later legal d s =
     let sound : IsLegal start (x ∷ before) = legal_before start (x ∷ before) later legal in
     bare start (later ++ x ∷ before) t (left_after start.setting before x (Deletes t) t (left_of t) later d s
-        (delete_own start.setting (dataset_after start.setting before) t (took_effect start before x (Deletes t) sound d.asks d.success)))
+    (delete_own start.setting (dataset_after start.setting before) t (took_effect start before x (Deletes t) sound d.asks d.success)))
+
+pub gets_agree : GetsAgree
+gets_agree start before later whole whole_later seat seat_later t bytes bytes_later legal legal_later s g g_later =
+    gets_give start (later ++ before) whole_later seat_later t bytes_later legal_later g_later
+    ∙ ap (λ p. concat (lines_if p)) (spares start.setting t before later s)
+    ∙ sym (gets_give start before whole seat t bytes legal g)

@@ -1,5 +1,5 @@
 -- A whole GET is given the lines that its target had at the pin.
-use Rattle.std.proofs.Common.{◌≡◌, ◌⊎◌, inl, inr, ℕ, ◌+◌, Bool, true, false, cond, nat_eq, List, [], ◌∷◌, ◌++◌, take, drop, length, Vec, refl, sym, ap, ◌∙◌, subst, add-zero, append-nil, append_assoc}
+use Rattle.std.proofs.Common.{◌≡◌, ◌⊎◌, inl, inr, ℕ, ◌+◌, Bool, true, false, cond, nat_eq, List, [], ◌∷◌, ◌++◌, take, drop, length, Vec, refl, sym, ap, ◌∙◌, subst, add-zero, append-nil}
 use Rattle.std.specs.List.{concat}
 use Rattle.std.specs.declared.alloc.Global.{Global}
 use Rattle.std.proofs.Math.Seq.{take-add}
@@ -18,9 +18,9 @@ use Rattle.gs_event.specs.declared.answers.Answer.TheVariants.{Pinned, Lines, Ca
 use Rattle.gs_event.specs.Datasets.{lines_at}
 use Rattle.gs_event.specs.Phases.{Phase, Idle, Reading}
 use Rattle.gs_event.specs.Views.{Totals, Fits, FitsSeat}
-use Rattle.gs_event.specs.Histories.{History, OpenRead, Start, IsLegal, phase_of, phase_by, seat_view, view_of, dataset_after}
+use Rattle.gs_event.specs.Histories.{History, OpenRead, Start, IsLegal, phase_of, seat_view, view_of, dataset_after}
 use Rattle.gs_event.proofs.HistoryLemmas.{later, refused_phase}
-use Rattle.gs_protocol_laws.specs.Reads.{ends_read, LeavesRead, LeaveRead, bytes_given, bytes_by, bytes_to, Gets, GetsGiveTheirLines}
+use Rattle.gs_protocol_laws.specs.Reads.{ends_read, LeavesRead, LeaveRead, bytes_given, bytes_by, bytes_to, GetsGiveTheirLines}
 use Rattle.gs_protocol_laws.proofs.FitLemmas.{fits_phase, pin_idle}
 
 -- a read of the target that was pinned after these events, and given so many lines

@@ -1,5 +1,5 @@
 -- What each operation leaves at its own target, and at another.
-use Rattle.std.proofs.Common.{◌≡◌, ◌≢◌, ℕ, Bool, true, false, cond, List, [], ◌∷◌, ◌++◌, Option, Some, None, is_some, refl, sym, ap, ◌∙◌, subst}
+use Rattle.std.proofs.Common.{◌≡◌, ◌≢◌, ℕ, true, false, cond, List, [], ◌∷◌, ◌++◌, Option, Some, None, is_some, refl, sym, ap, ◌∙◌, subst}
 use Rattle.std.specs.Ordering.{is_eq, eq_by_cmp}
 use Rattle.std.specs.Cmp.{Equal-is, tied_itself}
 use Rattle.std.specs.FinMap as fin
@@ -17,7 +17,7 @@ use Rattle.gs_event.specs.Datasets.{Dataset, name_cmp, graph_at, is_there, with_
 use Rattle.gs_event.specs.Names.{new_name}
 use Rattle.gs_event.specs.Operations.{Setting, Operation, Puts, Posts, Creates, Patches, Deletes, Looks, Reads, is_within, united, stored, stored_status, after, after_all, status_of, location_of, is_success}
 use Rattle.gs_event.proofs.VerdictLemmas.{made_well}
-use Rattle.gs_protocol_laws.specs.Writes.{Writes, SpareTarget, HasGraph, HasNoLine, status_without, PutsLeave, PostsLeave, CreatesLeave, PatchesLeave, DeletesLeave, OthersLeaveAll}
+use Rattle.gs_protocol_laws.specs.Writes.{Writes, SpareTarget, HasGraph, status_without, PutsLeave, PostsLeave, CreatesLeave, PatchesLeave, DeletesLeave, OthersLeaveAll}
 
 -- the graph that is stored is there
 with_own : (m : Dataset) (t : Target) (g : Graph) → graph_at (with_graph m t g) t ≡ Some g

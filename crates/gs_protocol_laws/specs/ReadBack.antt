@@ -69,3 +69,9 @@ PatchesAreReadBack = (start : Start) (before : History) (x : Event × Answer) (t
 abbrev pub DeletesAreReadBack : Type 0
 DeletesAreReadBack = (start : Start) (before : History) (x : Event × Answer) (t : Target)
     → IsReadBack start before x (Deletes t) t (status_without t) []
+
+-- Two whole GETs between which nothing wrote the target are given the same bytes.
+abbrev pub GetsAgree : Type 0
+GetsAgree = (start : Start) (before later whole whole_later : History) (seat seat_later : ℕ) (t : Target) (bytes bytes_later : List ℕ)
+    → IsLegal start whole → IsLegal start whole_later → SpareSince start.setting t before later
+    → Gets seat t before whole bytes → Gets seat_later t (later ++ before) whole_later bytes_later → bytes_later ≡ bytes

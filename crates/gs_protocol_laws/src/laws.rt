@@ -2,7 +2,8 @@
 ghost use Rattle.gs_protocol_laws.specs.Writes.{PutsLeave, PostsLeave, CreatesLeave, PatchesLeave, DeletesLeave, OthersLeaveAll};
 ghost use Rattle.gs_protocol_laws.specs.Reads.{GetsGiveTheirLines};
 ghost use Rattle.gs_protocol_laws.specs.ReadBack.{PutsAreReadBack, PostsAreReadBack, CreatesAreReadBack};
-ghost use Rattle.gs_protocol_laws.specs.ReadBack.{PatchesAreReadBack, DeletesAreReadBack};
+ghost use Rattle.gs_protocol_laws.specs.ReadBack.{PatchesAreReadBack, DeletesAreReadBack, GetsAgree};
+ghost use Rattle.gs_protocol_laws.specs.GivenUp.{GivenUpUploadsLeaveNothing};
 
 /// What a write that was answered 201 or 204 leaves at its target stays there until a later write of that
 /// target takes effect; any other status changes nothing.
@@ -15,9 +16,11 @@ pub fn writes_stay()
     ensures others { OthersLeaveAll }
 {}
 
-/// A GET is given the lines that its target had when it was pinned, whatever others write meanwhile.
+/// A GET is given the lines that its target had when it was pinned, whatever others write meanwhile; so two
+/// GETs between which nothing wrote the target are given the same.
 pub fn gets_give_their_lines()
-    ensures { GetsGiveTheirLines }
+    ensures lines { GetsGiveTheirLines }
+    ensures agree { GetsAgree }
 {}
 
 /// A write is read back: where it was answered 201 or 204, and no later write of its target took effect,
@@ -28,4 +31,10 @@ pub fn writes_are_read_back()
     ensures create { CreatesAreReadBack }
     ensures patch { PatchesAreReadBack }
     ensures delete { DeletesAreReadBack }
+{}
+
+/// An upload or a patch that was given up leaves nothing: all that the store was asked while it was open
+/// was asked by other seats, so what was staged is in no point.
+pub fn given_up_uploads_leave_nothing()
+    ensures { GivenUpUploadsLeaveNothing }
 {}

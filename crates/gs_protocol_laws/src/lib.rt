@@ -3,4 +3,6 @@
 
 mod laws;
 
-pub use laws::{gets_give_their_lines, writes_are_read_back, writes_stay};
+pub use laws::{
+    gets_give_their_lines, given_up_uploads_leave_nothing, writes_are_read_back, writes_stay,
+};
