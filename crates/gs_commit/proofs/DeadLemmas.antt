@@ -144,5 +144,5 @@ dead_in_order p q same = dead_by_number p q by_number
     ]
 
 -- so a pool with a ledger over the dead nodes of another has the same
-pub dead_at_said : (p q : Nodes) (v : Pins) (gs us rs : List Tree) → IsLedger q v gs us rs (dead_at p) → dead_at q ≡ dead_at p
+pub dead_at_said : (p q : Nodes) (v : Pins) (gs us : List Tree) (rs : List (List Tree)) → IsLedger q v gs us rs (dead_at p) → dead_at q ≡ dead_at p
 dead_at_said p q v gs us rs l = dead_in_order p q (said_by_marks q v gs us rs (dead_at p) l)

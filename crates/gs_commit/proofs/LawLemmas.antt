@@ -35,7 +35,7 @@ restored_same p q h =
     }
 
 -- an upload that grew in place
-pub upload_grows : (p q : Nodes) (v : Pins) (birth : ℕ) (old new : Tree) (gs us rs : List Tree) → IsLedger p v gs (old ∷ us) rs (dead_at p) → Step 0 birth p q (occurrences old) (occurrences new) → IsTreeOf q (v.commit + 1) new → GrowsUpload v p q new gs us rs
+pub upload_grows : (p q : Nodes) (v : Pins) (birth : ℕ) (old new : Tree) (gs us : List Tree) (rs : List (List Tree)) → IsLedger p v gs (old ∷ us) rs (dead_at p) → Step 0 birth p q (occurrences old) (occurrences new) → IsTreeOf q (v.commit + 1) new → GrowsUpload v p q new gs us rs
 upload_grows p q v birth old new gs us rs l s tree =
     let next : IsLedger q v gs (new ∷ us) rs (dead_at p) = stage_ledger p q v birth old new gs us rs (dead_at p) l s tree in
     let dead = dead_at_said p q v gs (new ∷ us) rs next in
@@ -47,14 +47,14 @@ leaves_have [] x a = refl
 leaves_have (t ∷ ts) x a = omega (arith, trees_cons t ts x, ap (λ u. occurrences u x) (All-head (λ u. u ≡ leaf) t ts a), leaves_have ts x (All-tail (λ u. u ≡ leaf) t ts a))
 
 -- a pool without a node
-pub empty_ledger : (p : Nodes) (v : Pins) (gs us rs : List Tree) → p.nodes ≡ [] → p.marks ≡ [] → All (λ t. t ≡ leaf) gs → All (λ t. t ≡ leaf) us → All (λ pin. pin ≡ None) v.seats → IsLedger p v gs us rs []
+pub empty_ledger : (p : Nodes) (v : Pins) (gs us : List Tree) (rs : List (List Tree)) → p.nodes ≡ [] → p.marks ≡ [] → All (λ t. t ≡ leaf) gs → All (λ t. t ≡ leaf) us → All (λ pin. pin ≡ None) v.seats → IsLedger p v gs us rs []
 empty_ledger p v gs us rs nodes marks current staged pins = record {
   once = λ x. omega (arith, leaves_have gs x current, leaves_have us x staged, used_none p x (no_node x));
   marks = λ x. omega (arith, ap plain_mark (no_mark x));
   current = λ k d h. subst (IsTreeOf p v.commit) (sym (current k d h)) (tree_leaf p v.commit);
   staged = λ k d h. subst (IsTreeOf p (v.commit + 1)) (sym (staged k d h)) (tree_leaf p (v.commit + 1));
   waste = All-nil (IsDead p v.commit);
-  read = λ s. subst (λ pin. IsReadAt p v.commit gs [] pin (get_or rs s leaf)) (sym (no_pin s)) tt;
+  read = λ s. subst (λ pin. IsReadAt p v.commit gs [] pin (get_or rs s [])) (sym (no_pin s)) tt;
 }
   where
     no_node : (x : ℕ) → node_at p x ≡ None
@@ -88,7 +88,7 @@ leaf_less ts = record {
 same_dead : (ds : List Dead) → AreSameDead ds ds
 same_dead ds = record { sums = λ f. refl; each = λ k d h. Contains-get_or ds k d h }
 
-pub leaf_upload : (p : Nodes) (v : Pins) (gs us rs : List Tree) (ds : List Dead) → IsLedger p v gs us rs ds ↔ IsLedger p v gs (leaf ∷ us) rs ds
+pub leaf_upload : (p : Nodes) (v : Pins) (gs us : List Tree) (rs : List (List Tree)) (ds : List Dead) → IsLedger p v gs us rs ds ↔ IsLedger p v gs (leaf ∷ us) rs ds
 leaf_upload p v gs us rs ds = (
   reorder_ledger p v gs gs us (leaf ∷ us) rs ds ds (same_trees gs) (leaf_more us) (same_dead ds),
   reorder_ledger p v gs gs (leaf ∷ us) us rs ds ds (same_trees gs) (leaf_less us) (same_dead ds),

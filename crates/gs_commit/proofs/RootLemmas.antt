@@ -42,7 +42,7 @@ stands_high p (fork id birth l k r) x n s h e = elim (one_cases id x) [
   ]
 ]
 
-module _ (p : Nodes) (v : Pins) (gs us rs : List Tree) (ds : List Dead) (l : IsLedger p v gs us rs ds) where
+module _ (p : Nodes) (v : Pins) (gs us : List Tree) (rs : List (List Tree)) (ds : List Dead) (l : IsLedger p v gs us rs ds) where
   -- a plain node is one of a tree
   plain_high : (x : ℕ) (n : Node) → node_at p x ≡ Some n → mark_at p x ≡ plain → 0 < n.height
   plain_high x n e m = elim (zero_or (trees_have gs x)) [
@@ -90,7 +90,7 @@ plain_retirable p t s h = record { root = by_tree t s h; means = tree_at-is p t 
     by_tree leaf s h = tt
     by_tree (fork id birth l k r) s h = (ap is_some s.0, h id (omega (arith, one_same id)))
 
-pub ledger_retirable : (p : Nodes) (v : Pins) (gs us rs : List Tree) (ds : List Dead) → IsLedger p v gs us rs ds → AreRetirable p gs us
+pub ledger_retirable : (p : Nodes) (v : Pins) (gs us : List Tree) (rs : List (List Tree)) (ds : List Dead) → IsLedger p v gs us rs ds → AreRetirable p gs us
 ledger_retirable p v gs us rs ds l = record {
   current = λ k d h. plain_retirable p (get_or gs k d) (l.current k d h).stands (λ x g. tree_plain p v gs us rs ds l x (omega (arith, g, sum_at (λ t. occurrences t x) gs k d h)));
   staged = λ k d h. plain_retirable p (get_or us k d) (l.staged k d h).stands (λ x g. tree_plain p v gs us rs ds l x (omega (arith, g, sum_at (λ t. occurrences t x) us k d h)));

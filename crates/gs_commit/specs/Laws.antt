@@ -14,7 +14,7 @@ use Rattle.gs_changes.specs.Endings.{Restores}
 -- a pool that has a ledger over the dead nodes of another has the same dead nodes, in the same order
 abbrev pub LedgersSayTheDead : Type 0
 LedgersSayTheDead =
-    (p q : Nodes) (v : Pins) (graphs uploads reads : List Tree)
+    (p q : Nodes) (v : Pins) (graphs uploads : List Tree) (reads : List (List Tree))
     → IsLedger q v graphs uploads reads (dead_at p) → dead_at q ≡ dead_at p
 
 -- one pool has the ledgers of another, its dead nodes and its waste, and each root means what it meant
@@ -29,7 +29,7 @@ abbrev pub RestoredIsSame : Type 0
 RestoredIsSame = (p q : Nodes) → Restores p q → IsSamePool p q
 
 -- the upload at the head has the tree `new`, and nothing joined the waste
-pub record GrowsUpload (v : Pins) (p q : Nodes) (new : Tree) (graphs uploads reads : List Tree) : Type 0 where
+pub record GrowsUpload (v : Pins) (p q : Nodes) (new : Tree) (graphs uploads : List Tree) (reads : List (List Tree)) : Type 0 where
   pub ledger : IsLedger q v graphs (new ∷ uploads) reads (dead_at q)
   pub dead : dead_at q ≡ dead_at p
   pub waste : waste_at q ≡ waste_at p
@@ -37,7 +37,7 @@ pub record GrowsUpload (v : Pins) (p q : Nodes) (new : Tree) (graphs uploads rea
 -- a Stage, and a POST that frees its upload or makes it again: an upload goes from `old` to `new` by a step in place
 abbrev pub StagingKeeps : Type 0
 StagingKeeps =
-    (p q : Nodes) (v : Pins) (birth : ℕ) (old new : Tree) (graphs uploads reads : List Tree)
+    (p q : Nodes) (v : Pins) (birth : ℕ) (old new : Tree) (graphs uploads : List Tree) (reads : List (List Tree))
     → IsLedger p v graphs (old ∷ uploads) reads (dead_at p)
     → Step 0 birth p q (occurrences old) (occurrences new)
     → IsTreeOf q (v.commit + 1) new
@@ -56,13 +56,13 @@ pub record AreRetirable (p : Nodes) (graphs uploads : List Tree) : Type 0 where
 -- that is so in every ledger
 abbrev pub LedgerIsRetirable : Type 0
 LedgerIsRetirable =
-    (p : Nodes) (v : Pins) (graphs uploads reads : List Tree) (dead : List Dead)
+    (p : Nodes) (v : Pins) (graphs uploads : List Tree) (reads : List (List Tree)) (dead : List Dead)
     → IsLedger p v graphs uploads reads dead → AreRetirable p graphs uploads
 
 -- a pool with no node has a ledger of leaves, where no seat has pinned a version
 abbrev pub EmptyHasLedger : Type 0
 EmptyHasLedger =
-    (p : Nodes) (v : Pins) (graphs uploads reads : List Tree)
+    (p : Nodes) (v : Pins) (graphs uploads : List Tree) (reads : List (List Tree))
     → p.nodes ≡ [] → p.marks ≡ []
     → All (λ t. t ≡ leaf) graphs → All (λ t. t ≡ leaf) uploads → All (λ pin. pin ≡ None) v.seats
     → IsLedger p v graphs uploads reads []
@@ -74,5 +74,5 @@ EmptyHasNoDead = (p : Nodes) → p.nodes ≡ [] → dead_at p ≡ []
 -- a leaf among the uploads stands for none
 abbrev pub LeafIsNoUpload : Type 0
 LeafIsNoUpload =
-    (p : Nodes) (v : Pins) (graphs uploads reads : List Tree) (dead : List Dead)
+    (p : Nodes) (v : Pins) (graphs uploads : List Tree) (reads : List (List Tree)) (dead : List Dead)
     → IsLedger p v graphs uploads reads dead ↔ IsLedger p v graphs (leaf ∷ uploads) reads dead

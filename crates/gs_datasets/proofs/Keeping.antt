@@ -1,12 +1,12 @@
 -- The trees of a ledger are there, and are sets where they are keyed.
-use Rattle.std.proofs.Common.{◌≡◌, ℕ, ◌+◌, ◌≤◌, List, ◌∷◌, map, length, get_or, is_some, refl, sym, ap, subst, ◌∙◌, inl, inr, arith}
+use Rattle.std.proofs.Common.{◌≡◌, ℕ, ◌+◌, ◌≤◌, List, [], ◌∷◌, map, length, get_or, is_some, refl, sym, ap, subst, ◌∙◌, inl, inr, arith}
 use Rattle.std.proofs.lemmas.List.{get_or-map, length-map}
 use Rattle.std.proofs.lemmas.List.Elements.{All-tail}
 use Rattle.std.specs.List.{All}
 use Rattle.gs_model.specs.Terms.{Term}
 use Rattle.gs_term.specs.declared.names.Target.{Target}
 use Rattle.gs_pool.specs.Pool.{Nodes}
-use Rattle.gs_tree.specs.Tree.{Tree, leaf, root_of, occurrences, Stands, tree_at}
+use Rattle.gs_tree.specs.Tree.{Tree, root_of, occurrences, Stands, tree_at}
 use Rattle.gs_tree.specs.Steps.{plain_count}
 use Rattle.gs_tree.specs.Reading.{IsReadable, IsReadableAt}
 use Rattle.gs_tree.specs.Sets.{IsSet, IsSetAt}
@@ -23,7 +23,7 @@ use Rattle.gs_datasets.specs.Standing.{all_versions, other_versions, version_tre
 use Rattle.gs_datasets.specs.Trees.{IsMeant, IsPlainTree, KeepsTrees, HasSets}
 use Rattle.gs_datasets.proofs.Parting.{all_others}
 
-module _ (q : Nodes) (v : Pins) (gs us rs : List Tree) (ds : List Dead) (l : IsLedger q v gs us rs ds) where
+module _ (q : Nodes) (v : Pins) (gs us : List Tree) (rs : List (List Tree)) (ds : List Dead) (l : IsLedger q v gs us rs ds) where
   -- what trees of a ledger have is plain
   plain_once : (n x : ℕ) → n ≤ trees_have gs x + trees_have us x → n ≤ plain_count q x
   plain_once n x few = elim (zero_or n) [
@@ -42,8 +42,8 @@ module _ (q : Nodes) (v : Pins) (gs us rs : List Tree) (ds : List Dead) (l : IsL
     current = λ k t h. plain_tree (get_or gs k t) (l.current k t h).stands (λ x. let part = sum_at (λ u. occurrences u x) gs k t h in omega (arith, part));
     staged = λ k t h. plain_tree (get_or us k t) (l.staged k t h).stands (λ x. let part = sum_at (λ u. occurrences u x) us k t h in omega (arith, part));
     read = λ s w e.
-        let is = subst (λ o. IsReadAt q v.commit gs ds o (get_or rs s leaf)) e (l.read s) in
-        record { stands = is.tree.stands; means = tree_at-is q (get_or rs s leaf) is.tree.stands };
+        let is = subst (λ o. IsReadAt q v.commit gs ds o (get_or rs s [])) e (l.read s) in
+        λ k t h. record { stands = (is k t h).tree.stands; means = tree_at-is q (get_or (get_or rs s []) k t) (is k t h).tree.stands };
   }
 
 -- a keyed tree that is plain is a set
@@ -55,13 +55,13 @@ readable_at : (terms : List Term) (q : Nodes) (t : Tree) → IsMeant q t → IsK
 readable_at terms q t is k = subst (λ u. IsReadable (key_cmp terms) q (root_of t) u) (sym is.means) (record { root_is = refl; stands = is.stands; rising = k.rising })
 
 -- The keyed trees of a ledger are sets.
-pub ledger_has_sets : (terms : List Term) (q : Nodes) (v : Pins) (gs us rs : List Tree) (ds : List Dead) → IsLedger q v gs us rs ds → HasSets terms q v gs us rs
+pub ledger_has_sets : (terms : List Term) (q : Nodes) (v : Pins) (gs us : List Tree) (rs : List (List Tree)) (ds : List Dead) → IsLedger q v gs us rs ds → HasSets terms q v gs us rs
 ledger_has_sets terms q v gs us rs ds l =
     let kept = ledger_keeps q v gs us rs ds l in
     record {
       current = λ k t h. set_at terms q (get_or gs k t) (kept.current k t h);
       staged = λ k t h. set_at terms q (get_or us k t) (kept.staged k t h);
-      read = λ s w e. readable_at terms q (get_or rs s leaf) (kept.read s w e);
+      read = λ s w e k t h. readable_at terms q (get_or (get_or rs s []) k t) (kept.read s w e k t h);
     }
 
 -- versions whose trees are there in another pool too have the same trees in both
@@ -82,11 +82,11 @@ means_all : (q : Nodes) (ts : List Tree) → All (IsPlainTree q) ts → All (λ 
 means_all q ts all = λ k t h. (all k t h).means
 
 -- by a ledger too,
-pub others_stay_beside : (terms : List Term) (p q : Nodes) (g : GraphVersions) (t : Target) (v : Pins) (new : Tree) (us rs : List Tree) (ds : List Dead) → All (IsVersion terms p) (all_versions g) → IsLedger q v (new ∷ other_trees p g t) us rs ds → AreSameIn p q (other_versions g t)
+pub others_stay_beside : (terms : List Term) (p q : Nodes) (g : GraphVersions) (t : Target) (v : Pins) (new : Tree) (us : List Tree) (rs : List (List Tree)) (ds : List Dead) → All (IsVersion terms p) (all_versions g) → IsLedger q v (new ∷ other_trees p g t) us rs ds → AreSameIn p q (other_versions g t)
 others_stay_beside terms p q g t v new us rs ds all l =
     let ts = other_trees p g t in
     others_stay terms p q g t all (means_all q ts (All-tail (IsPlainTree q) new ts (ledger_keeps q v (new ∷ ts) us rs ds l).current))
 
 -- and so do all.
-pub graphs_stay : (terms : List Term) (p q : Nodes) (g : GraphVersions) (v : Pins) (us rs : List Tree) (ds : List Dead) → All (IsVersion terms p) (all_versions g) → IsLedger q v (graph_trees p g) us rs ds → AreSameIn p q (all_versions g)
+pub graphs_stay : (terms : List Term) (p q : Nodes) (g : GraphVersions) (v : Pins) (us : List Tree) (rs : List (List Tree)) (ds : List Dead) → All (IsVersion terms p) (all_versions g) → IsLedger q v (graph_trees p g) us rs ds → AreSameIn p q (all_versions g)
 graphs_stay terms p q g v us rs ds all l = same_in terms p q (all_versions g) all (means_all q (graph_trees p g) (ledger_keeps q v (graph_trees p g) us rs ds l).current)

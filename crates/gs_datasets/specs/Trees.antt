@@ -1,5 +1,5 @@
 -- The trees of a ledger, of a list by place, and among more terms: the statements of laws.
-use Rattle.std.specs.Prelude.{◌≡◌, ℕ, ◌<◌, ◌≤◌, List, ◌∷◌, ◌++◌, length, Some, None, slice_index_or, slice_set}
+use Rattle.std.specs.Prelude.{◌≡◌, ℕ, ◌<◌, ◌≤◌, List, [], ◌∷◌, ◌++◌, length, Some, None, slice_index_or, slice_set}
 use Rattle.std.specs.List.{All}
 use Rattle.gs_model.specs.Terms.{Term}
 use Rattle.gs_term.specs.declared.names.Target.{Target}
@@ -27,29 +27,29 @@ pub record IsPlainTree (q : Nodes) (t : Tree) : Type 0 where
   pub means : tree_at q (root_of t) ≡ t
   pub apart : (x : ℕ) → occurrences t x ≤ plain_count q x
 
--- the trees of graphs and uploads are such, and what a seat reads, where it has pinned a version, is there
-pub record KeepsTrees (q : Nodes) (v : Pins) (graphs uploads reads : List Tree) : Type 0 where
+-- the trees of graphs and uploads are such, and each tree that a seat reads, where it has pinned a version, is there
+pub record KeepsTrees (q : Nodes) (v : Pins) (graphs uploads : List Tree) (reads : List (List Tree)) : Type 0 where
   pub current : All (IsPlainTree q) graphs
   pub staged : All (IsPlainTree q) uploads
-  pub read : (s w : ℕ) → slice_index_or v.seats s None ≡ Some w → IsMeant q (slice_index_or reads s leaf)
+  pub read : (s w : ℕ) → slice_index_or v.seats s None ≡ Some w → All (IsMeant q) (slice_index_or reads s [])
 
--- where these trees are keyed, the root of a graph's or an upload's means a set that can be changed, and that of a read's one that can be read
-pub record HasSets (terms : List Term) (q : Nodes) (v : Pins) (graphs uploads reads : List Tree) : Type 0 where
+-- where these trees are keyed, the root of a graph's or an upload's means a set that can be changed, and that of each that a seat reads one that can be read
+pub record HasSets (terms : List Term) (q : Nodes) (v : Pins) (graphs uploads : List Tree) (reads : List (List Tree)) : Type 0 where
   pub current : All (λ t. IsKeyed terms t → IsSetAt (key_cmp terms) q (root_of t)) graphs
   pub staged : All (λ t. IsKeyed terms t → IsSetAt (key_cmp terms) q (root_of t)) uploads
-  pub read : (s w : ℕ) → slice_index_or v.seats s None ≡ Some w → IsKeyed terms (slice_index_or reads s leaf)
-      → IsReadableAt (key_cmp terms) q (root_of (slice_index_or reads s leaf))
+  pub read : (s w : ℕ) → slice_index_or v.seats s None ≡ Some w
+      → All (λ t. IsKeyed terms t → IsReadableAt (key_cmp terms) q (root_of t)) (slice_index_or reads s [])
 
 -- a ledger keeps its trees
 abbrev pub LedgerKeeps : Type 0
 LedgerKeeps =
-    (q : Nodes) (v : Pins) (graphs uploads reads : List Tree) (dead : List Dead)
+    (q : Nodes) (v : Pins) (graphs uploads : List Tree) (reads : List (List Tree)) (dead : List Dead)
     → IsLedger q v graphs uploads reads dead → KeepsTrees q v graphs uploads reads
 
 -- and those that are keyed are sets
 abbrev pub LedgerHasSets : Type 0
 LedgerHasSets =
-    (terms : List Term) (q : Nodes) (v : Pins) (graphs uploads reads : List Tree) (dead : List Dead)
+    (terms : List Term) (q : Nodes) (v : Pins) (graphs uploads : List Tree) (reads : List (List Tree)) (dead : List Dead)
     → IsLedger q v graphs uploads reads dead → HasSets terms q v graphs uploads reads
 
 -- where the roots of the other trees of p mean them in q too, the other versions have the same trees in both
@@ -63,7 +63,7 @@ OthersStay =
 -- so it is where the graphs of a ledger of q are any tree and the other trees of p
 abbrev pub OthersStayBeside : Type 0
 OthersStayBeside =
-    (terms : List Term) (p q : Nodes) (g : GraphVersions) (t : Target) (v : Pins) (new : Tree) (uploads reads : List Tree) (dead : List Dead)
+    (terms : List Term) (p q : Nodes) (g : GraphVersions) (t : Target) (v : Pins) (new : Tree) (uploads : List Tree) (reads : List (List Tree)) (dead : List Dead)
     → All (IsVersion terms p) (all_versions g)
     → IsLedger q v (new ∷ other_trees p g t) uploads reads dead
     → AreSameIn p q (other_versions g t)
@@ -71,7 +71,7 @@ OthersStayBeside =
 -- where the graphs of a ledger of q are the trees of p, all versions have the same trees in both
 abbrev pub GraphsStay : Type 0
 GraphsStay =
-    (terms : List Term) (p q : Nodes) (g : GraphVersions) (v : Pins) (uploads reads : List Tree) (dead : List Dead)
+    (terms : List Term) (p q : Nodes) (g : GraphVersions) (v : Pins) (uploads : List Tree) (reads : List (List Tree)) (dead : List Dead)
     → All (IsVersion terms p) (all_versions g)
     → IsLedger q v (graph_trees p g) uploads reads dead
     → AreSameIn p q (all_versions g)

@@ -70,7 +70,7 @@ below_used p (suc n) h =
     let next : suc n ≡ n + 1 = omega arith in
     omega (arith, below_used p n (omega arith), more, ap (λ k. count_by is_some (take k p.nodes)) next)
 
-module _ (p : Nodes) (v : Pins) (gs us rs : List Tree) (ds : List Dead) (l : IsLedger p v gs us rs ds) where
+module _ (p : Nodes) (v : Pins) (gs us : List Tree) (rs : List (List Tree)) (ds : List Dead) (l : IsLedger p v gs us rs ds) where
   within : (x : ℕ) → 0 < used_count p x → x < length p.nodes
   within x h = elim (cases_lt x (length p.nodes)) [
     | inl inside ↦ inside
@@ -109,11 +109,11 @@ lives_sum f [] = refl
 lives_sum f (d ∷ ds) = omega (arith, sum_by-append f (entry_lives d) (lives ds), lives_sum f ds, sum_by-cons (λ e. sum_by f (entry_lives e)) d ds)
 
 -- the waste of a ledger is what the marks say
-pub waste_is : (p : Nodes) (v : Pins) (gs us rs : List Tree) (ds : List Dead) → IsLedger p v gs us rs ds → SameLives (lives ds) (waste_at p)
+pub waste_is : (p : Nodes) (v : Pins) (gs us : List Tree) (rs : List (List Tree)) (ds : List Dead) → IsLedger p v gs us rs ds → SameLives (lives ds) (waste_at p)
 waste_is p v gs us rs ds l f = lives_sum f (dead_at p) ∙ (said_by_marks p v gs us rs ds l).sums (λ d. sum_by f (entry_lives d)) ∙ sym (lives_sum f ds)
 
 -- The nodes in use are counted by the ledger.
-pub nodes_counted : (p : Nodes) (v : Pins) (gs us rs : List Tree) (ds : List Dead) → IsLedger p v gs us rs ds → CountsNodes p gs us ds
+pub nodes_counted : (p : Nodes) (v : Pins) (gs us : List Tree) (rs : List (List Tree)) (ds : List Dead) → IsLedger p v gs us rs ds → CountsNodes p gs us ds
 nodes_counted p v gs us rs ds l =
     let same = waste_is p v gs us rs ds l in
     record {

@@ -112,9 +112,9 @@ dead_tree p v c death (fork id birth l k r) le s m = All-cons (IsDead p c) _ [] 
 }) (All-nil (IsDead p c))
 
 -- reads
-pub read_map : (p q : Nodes) (c c' : ℕ) (gs gs' : List Tree) (ds ds' : List Dead) (pin : Option ℕ) (t : Tree) → ((v : ℕ) → pin ≡ Some v → IsRead p c gs ds v t → IsRead q c' gs' ds' v t) → IsReadAt p c gs ds pin t → IsReadAt q c' gs' ds' pin t
-read_map p q c c' gs gs' ds ds' None t f h = tt
-read_map p q c c' gs gs' ds ds' (Some v) t f h = f v refl h
+pub read_map : (p q : Nodes) (c c' : ℕ) (gs gs' : List Tree) (ds ds' : List Dead) (pin : Option ℕ) (ts : List Tree) → ((v : ℕ) (t : Tree) → pin ≡ Some v → IsRead p c gs ds v t → IsRead q c' gs' ds' v t) → IsReadAt p c gs ds pin ts → IsReadAt q c' gs' ds' pin ts
+read_map p q c c' gs gs' ds ds' None ts f h = tt
+read_map p q c c' gs gs' ds ds' (Some v) ts f h = λ k d lt. f v (get_or ts k d) refl (h k d lt)
 
 -- a mark that says a death is not plain
 pub marked_one : (m : NodeMark) (d : ℕ × Bool) → death_of m ≡ Some d → plain_mark m ≡ 0

@@ -4,7 +4,7 @@ use Rattle.std.proofs.lemmas.List.Elements.{All-append, All-head, All-tail}
 use Rattle.std.specs.List.{slice_get, All}
 use Rattle.std.proofs.lemmas.Bool.{cases_lt}
 use Rattle.gs_pool.specs.Pool.{Nodes, mark_at}
-use Rattle.gs_tree.specs.Tree.{Tree, leaf, occurrences}
+use Rattle.gs_tree.specs.Tree.{Tree, occurrences}
 use Rattle.gs_tree.specs.Steps.{one, plain_mark}
 use Rattle.gs_tree.proofs.TreeLemmas.{one_same, one_cases}
 use Rattle.gs_versions.specs.Pins.{Pins, LiesIn, IsNeeded}
@@ -29,7 +29,7 @@ seat_found [] s v e = absurd (let none : get_or {A = Option ℕ} [] s None ≡ N
 seat_found (o ∷ seats) zero v e = ap Some e
 seat_found (o ∷ seats) (suc s) v e = seat_found seats s v e
 
-module _ (p q : Nodes) (v : Pins) (gs us rs : List Tree) (d : Dead) (ds : List Dead) (l : IsLedger p v gs us rs (d ∷ ds)) (f : FreesTop p q d) where
+module _ (p q : Nodes) (v : Pins) (gs us : List Tree) (rs : List (List Tree)) (d : Dead) (ds : List Dead) (l : IsLedger p v gs us rs (d ∷ ds)) (f : FreesTop p q d) where
   entry : IsDead p v.commit d
   entry = All-head (IsDead p v.commit) d ds l.waste
 
@@ -116,5 +116,5 @@ module _ (p q : Nodes) (v : Pins) (gs us rs : List Tree) (d : Dead) (ds : List D
     waste = All-append (IsDead q v.commit) (sides_of d) ds
         (side_dead (tree_kept p q d.birth d.left (stays (occurrences d.left) alone.2) entry.left_tree) (tree_kept p q d.birth d.right (stays (occurrences d.right) alone.3) entry.right_tree))
         (dead_kept p q v.commit ds (stays (dead_have ds) alone.4) (λ x h. f.marks x (omega (arith, apart x, tops_cons d (sides_of d) x))) (All-tail (IsDead p v.commit) d ds l.waste));
-    read = λ s. read_map p q v.commit v.commit gs gs (d ∷ ds) (sides_of d ++ ds) (get_or v.seats s None) (get_or rs s leaf) (λ w e r. read_freed w (get_or rs s leaf) (seat_outside unneeded s w e) r) (l.read s);
+    read = λ s. read_map p q v.commit v.commit gs gs (d ∷ ds) (sides_of d ++ ds) (get_or v.seats s None) (get_or rs s []) (λ w t e r. read_freed w t (seat_outside unneeded s w e) r) (l.read s);
   }

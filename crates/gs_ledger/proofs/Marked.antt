@@ -112,7 +112,7 @@ below_dead : (f : Dead → ℕ) (p : Nodes) (n : ℕ) → sum_by f (dead_below n
 below_dead f p zero = refl
 below_dead f p (suc n) = omega (arith, sum_by-append f (entry_at p n (node_at p n) (death_of (mark_at p n))) (dead_below n p), below_dead f p n)
 
-module _ (p : Nodes) (v : Pins) (gs us rs : List Tree) (ds : List Dead) (l : IsLedger p v gs us rs ds) where
+module _ (p : Nodes) (v : Pins) (gs us : List Tree) (rs : List (List Tree)) (ds : List Dead) (l : IsLedger p v gs us rs ds) where
   few : (x : ℕ) → tops ds x ≤ 1
   few x = omega (arith, l.marks x)
 
@@ -158,5 +158,5 @@ pub same_trees : (ts : List Tree) → AreSameTrees ts ts
 same_trees ts = record { sums = λ f none. refl; each = λ k d h. inr (Contains-get_or ts k d h) }
 
 -- So a ledger may as well speak of the dead nodes that the marks say.
-pub ledger_of_marks : (p : Nodes) (v : Pins) (gs us rs : List Tree) (ds : List Dead) → IsLedger p v gs us rs ds → IsLedger p v gs us rs (dead_at p)
+pub ledger_of_marks : (p : Nodes) (v : Pins) (gs us : List Tree) (rs : List (List Tree)) (ds : List Dead) → IsLedger p v gs us rs ds → IsLedger p v gs us rs (dead_at p)
 ledger_of_marks p v gs us rs ds l = reorder_ledger p v gs gs us us rs ds (dead_at p) (same_trees gs) (same_trees us) (said_by_marks p v gs us rs ds l) l

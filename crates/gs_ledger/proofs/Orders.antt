@@ -45,7 +45,7 @@ pub trees_same : (ts us : List Tree) → AreSameTrees ts us → (x : ℕ) → tr
 trees_same ts us same x = same.sums (λ t. occurrences t x) refl
 
 -- The order of graphs, uploads and dead nodes means nothing, and no more do leaves among graphs and uploads.
-pub reorder_ledger : (p : Nodes) (v : Pins) (gs gs' us us' rs : List Tree) (ds ds' : List Dead) → AreSameTrees gs gs' → AreSameTrees us us' → AreSameDead ds ds' → IsLedger p v gs us rs ds → IsLedger p v gs' us' rs ds'
+pub reorder_ledger : (p : Nodes) (v : Pins) (gs gs' us us' : List Tree) (rs : List (List Tree)) (ds ds' : List Dead) → AreSameTrees gs gs' → AreSameTrees us us' → AreSameDead ds ds' → IsLedger p v gs us rs ds → IsLedger p v gs' us' rs ds'
 reorder_ledger p v gs gs' us us' rs ds ds' g u d l =
     let c = v.commit in
     record {
@@ -54,7 +54,7 @@ reorder_ledger p v gs gs' us us' rs ds ds' g u d l =
       current = all_same (IsTreeOf p c) gs gs' g (tree_leaf p c) l.current;
       staged = all_same (IsTreeOf p (c + 1)) us us' u (tree_leaf p (c + 1)) l.staged;
       waste = λ k e h. all_at (IsDead p c) ds (get_or ds' k e) l.waste (d.each k e h);
-      read = λ s. read_map p p c c gs gs' ds ds' (get_or v.seats s None) (get_or rs s leaf) (λ w e r. record {
+      read = λ s. read_map p p c c gs gs' ds ds' (get_or v.seats s None) (get_or rs s []) (λ w t e r. record {
         pinned = r.pinned;
         tree = r.tree;
         within = λ x. omega (arith, r.within x, trees_same gs gs' g x, d.sums (λ m. has_after w m x));

@@ -1,8 +1,8 @@
 -- How a PUT, a Delete and a Cancel carry the ledger: trees go from one part to another, and no node changes.
-use Rattle.std.proofs.Common.{ℕ, ◌+◌, ◌≤◌, List, ◌∷◌, ◌++◌, get_or, None, ◌∙◌, arith}
+use Rattle.std.proofs.Common.{ℕ, ◌+◌, ◌≤◌, List, [], ◌∷◌, ◌++◌, get_or, None, ◌∙◌, arith}
 use Rattle.std.proofs.lemmas.List.Elements.{All-append, All-cons, All-head, All-tail}
 use Rattle.gs_pool.specs.Pool.{Nodes}
-use Rattle.gs_tree.specs.Tree.{Tree, leaf, occurrences}
+use Rattle.gs_tree.specs.Tree.{Tree, occurrences}
 use Rattle.gs_versions.specs.Pins.{Pins, at_commit}
 use Rattle.gs_ledger.specs.Entries.{Dead, trees_have, dead_have, tops, died_whole}
 use Rattle.gs_ledger.specs.Ledger.{IsTreeOf, IsDead, IsLedger}
@@ -12,7 +12,7 @@ use Rattle.gs_ledger.proofs.Frames.{Keeps, used_same, used_most, tree_kept, tree
 use Rattle.gs_ledger.proofs.Orders.{buried_marks, buried_kept}
 
 -- A PUT: a graph becomes what was uploaded, and what it was is retired whole. A leaf in place of the upload makes it a Delete.
-pub put_ledger : (p q : Nodes) (v : Pins) (old new : Tree) (gs us rs : List Tree) (ds : List Dead) → IsLedger p v (old ∷ gs) (new ∷ us) rs ds → Buries p q (died_whole (v.commit + 1) old) → IsLedger q (at_commit v (v.commit + 1)) (new ∷ gs) us rs (died_whole (v.commit + 1) old ++ ds)
+pub put_ledger : (p q : Nodes) (v : Pins) (old new : Tree) (gs us : List Tree) (rs : List (List Tree)) (ds : List Dead) → IsLedger p v (old ∷ gs) (new ∷ us) rs ds → Buries p q (died_whole (v.commit + 1) old) → IsLedger q (at_commit v (v.commit + 1)) (new ∷ gs) us rs (died_whole (v.commit + 1) old ++ ds)
 put_ledger p q v old new gs us rs ds l b =
     let c = v.commit in
     let gone = died_whole (c + 1) old in
@@ -28,15 +28,15 @@ put_ledger p q v old new gs us rs ds l b =
       waste = All-append (IsDead q (c + 1)) gone ds
           (dead_tree q c (c + 1) (c + 1) old (omega arith) (tree_kept p q c old (stay (occurrences old)) (All-head (IsTreeOf p c) old gs l.current)) b.marked)
           (dead_later q c (c + 1) ds (omega arith) (dead_kept p q c ds (stay (dead_have ds)) (buried_kept p q gone ds b apart) l.waste));
-      read = λ s. read_map p q c (c + 1) (old ∷ gs) (new ∷ gs) ds (gone ++ ds) (get_or v.seats s None) (get_or rs s leaf) (λ w e r. record {
+      read = λ s. read_map p q c (c + 1) (old ∷ gs) (new ∷ gs) ds (gone ++ ds) (get_or v.seats s None) (get_or rs s []) (λ w t e r. record {
         pinned = omega (arith, r.pinned);
-        tree = tree_kept p q w (get_or rs s leaf) (stay (occurrences (get_or rs s leaf))) r.tree;
+        tree = tree_kept p q w t (stay (occurrences t)) r.tree;
         within = λ x. omega (arith, r.within x, trees_cons old gs x, trees_cons new gs x, after_append w gone ds x, after_whole w (c + 1) old x (omega (arith, r.pinned)));
       }) (l.read s);
     }
 
 -- An abandoned upload is retired whole with death 0, so that no version needs it.
-pub cancel_ledger : (p q : Nodes) (v : Pins) (old : Tree) (gs us rs : List Tree) (ds : List Dead) → IsLedger p v gs (old ∷ us) rs ds → Buries p q (died_whole 0 old) → IsLedger q v gs us rs (died_whole 0 old ++ ds)
+pub cancel_ledger : (p q : Nodes) (v : Pins) (old : Tree) (gs us : List Tree) (rs : List (List Tree)) (ds : List Dead) → IsLedger p v gs (old ∷ us) rs ds → Buries p q (died_whole 0 old) → IsLedger q v gs us rs (died_whole 0 old ++ ds)
 cancel_ledger p q v old gs us rs ds l b =
     let c = v.commit in
     let gone = died_whole 0 old in
@@ -50,9 +50,9 @@ cancel_ledger p q v old gs us rs ds l b =
       waste = All-append (IsDead q c) gone ds
           (dead_tree q (c + 1) c 0 old (omega arith) (tree_kept p q (c + 1) old (stay (occurrences old)) (All-head (IsTreeOf p (c + 1)) old us l.staged)) b.marked)
           (dead_kept p q c ds (stay (dead_have ds)) (buried_kept p q gone ds b apart) l.waste);
-      read = λ s. read_map p q c c gs gs ds (gone ++ ds) (get_or v.seats s None) (get_or rs s leaf) (λ w e r. record {
+      read = λ s. read_map p q c c gs gs ds (gone ++ ds) (get_or v.seats s None) (get_or rs s []) (λ w t e r. record {
         pinned = r.pinned;
-        tree = tree_kept p q w (get_or rs s leaf) (stay (occurrences (get_or rs s leaf))) r.tree;
+        tree = tree_kept p q w t (stay (occurrences t)) r.tree;
         within = λ x. omega (arith, r.within x, after_append w gone ds x);
       }) (l.read s);
     }

@@ -103,7 +103,7 @@ pulled (a ∷ ds) d (suc k) h e =
     )
 
 -- a ledger that begins with the dead node of a number
-pub record BeginsWith (p : Nodes) (v : Pins) (gs us rs : List Tree) (ds : List Dead) (id death : ℕ) (whole : Bool) : Type 0 where
+pub record BeginsWith (p : Nodes) (v : Pins) (gs us : List Tree) (rs : List (List Tree)) (ds : List Dead) (id death : ℕ) (whole : Bool) : Type 0 where
   pub first : Dead
   pub rest : List Dead
   pub id_is : first.id ≡ id
@@ -112,7 +112,7 @@ pub record BeginsWith (p : Nodes) (v : Pins) (gs us rs : List Tree) (ds : List D
   pub ledger : IsLedger p v gs us rs (first ∷ rest)
 
 -- a marked number is that of a dead node, which the ledger may begin with
-pub first_ledger : (p : Nodes) (v : Pins) (gs us rs : List Tree) (ds : List Dead) (id death : ℕ) (whole : Bool) → IsLedger p v gs us rs ds → death_of (mark_at p id) ≡ Some (death, whole) → BeginsWith p v gs us rs ds id death whole
+pub first_ledger : (p : Nodes) (v : Pins) (gs us : List Tree) (rs : List (List Tree)) (ds : List Dead) (id death : ℕ) (whole : Bool) → IsLedger p v gs us rs ds → death_of (mark_at p id) ≡ Some (death, whole) → BeginsWith p v gs us rs ds id death whole
 first_ledger p v gs us rs ds id death whole l mark =
     let found = top_found ds id (omega (arith, l.marks id, marked_one (mark_at p id) (death, whole) mark)) in
     let d = found.0 in
@@ -134,7 +134,7 @@ first_ledger p v gs us rs ds id death whole l mark =
     some_same a b e = cc
 
 -- a ledger does not tell nodes that are set aside from retired ones
-pub remark_ledger : (p q : Nodes) (v : Pins) (gs us rs : List Tree) (ds : List Dead) → KeepsNodes p q → ((x : ℕ) → death_of (mark_at q x) ≡ death_of (mark_at p x)) → IsLedger p v gs us rs ds → IsLedger q v gs us rs ds
+pub remark_ledger : (p q : Nodes) (v : Pins) (gs us : List Tree) (rs : List (List Tree)) (ds : List Dead) → KeepsNodes p q → ((x : ℕ) → death_of (mark_at q x) ≡ death_of (mark_at p x)) → IsLedger p v gs us rs ds → IsLedger q v gs us rs ds
 remark_ledger p q v gs us rs ds nodes marks l =
     let stay : (f : ℕ → ℕ) → Keeps p q f = λ f x n h e. nodes x ∙ e in
     record {
@@ -152,9 +152,9 @@ remark_ledger p q v gs us rs ds nodes marks l =
         right_tree = tree_kept p q (get_or ds k d).birth (get_or ds k d).right (stay (occurrences (get_or ds k d).right)) e.right_tree;
         died = e.died;
       };
-      read = λ s. read_map p q v.commit v.commit gs gs ds ds (get_or v.seats s None) (get_or rs s leaf) (λ w e r. record {
+      read = λ s. read_map p q v.commit v.commit gs gs ds ds (get_or v.seats s None) (get_or rs s []) (λ w t e r. record {
         pinned = r.pinned;
-        tree = tree_kept p q w (get_or rs s leaf) (stay (occurrences (get_or rs s leaf))) r.tree;
+        tree = tree_kept p q w t (stay (occurrences t)) r.tree;
         within = r.within;
       }) (l.read s);
     }
@@ -171,7 +171,7 @@ remark_ledger p q v gs us rs ds nodes marks l =
     plain_by_death (retired d w) (retired a b) e = refl
 
 -- a dead node's number is free: it was made plain, its sides were retired, and it was freed
-pub frees_top : (p p1 m q : Nodes) (v : Pins) (gs us rs : List Tree) (d : Dead) (ds : List Dead) (n : Node) → IsLedger p v gs us rs (d ∷ ds) → Marks p p1 d.id plain → node_at p d.id ≡ Some n → RetiresSides d.whole p1 m n d.death → Updates m q d.id None → KeepsMarks m q → FreesTop p q d
+pub frees_top : (p p1 m q : Nodes) (v : Pins) (gs us : List Tree) (rs : List (List Tree)) (d : Dead) (ds : List Dead) (n : Node) → IsLedger p v gs us rs (d ∷ ds) → Marks p p1 d.id plain → node_at p d.id ≡ Some n → RetiresSides d.whole p1 m n d.death → Updates m q d.id None → KeepsMarks m q → FreesTop p q d
 frees_top p p1 m q v gs us rs d ds n l taken found sides up keep =
     let entry : IsDead p v.commit d = All-head (IsDead p v.commit) d ds l.waste in
     let same : entry.top ≡ n = some_same entry.top n (sym entry.found ∙ found) in

@@ -48,7 +48,7 @@ sides_sum f d ds =
       sum_by-append f ll lr,
     )
 
-module _ (p q : Nodes) (v : Pins) (gs us rs : List Tree) (d : Dead) (ds : List Dead) (l : IsLedger p v gs us rs (d ∷ ds)) (f : FreesTop p q d) (unneeded : IsNeeded v d.birth d.death → ⊥) where
+module _ (p q : Nodes) (v : Pins) (gs us : List Tree) (rs : List (List Tree)) (d : Dead) (ds : List Dead) (l : IsLedger p v gs us rs (d ∷ ds)) (f : FreesTop p q d) (unneeded : IsNeeded v d.birth d.death → ⊥) where
   now : IsLedger q v gs us rs (sides_of d ++ ds)
   now = free_ledger p q v gs us rs d ds l f unneeded
 
@@ -58,9 +58,9 @@ module _ (p q : Nodes) (v : Pins) (gs us rs : List Tree) (d : Dead) (ds : List D
     current = λ k t h. unchanged p q (get_or gs k t) (l.current k t h).stands (now.current k t h).stands;
     staged = λ k t h. unchanged p q (get_or us k t) (l.staged k t h).stands (now.staged k t h).stands;
     read = λ s w e.
-        let was = subst (λ o. IsReadAt p v.commit gs (d ∷ ds) o (get_or rs s leaf)) e (l.read s) in
-        let is = subst (λ o. IsReadAt q v.commit gs (sides_of d ++ ds) o (get_or rs s leaf)) e (now.read s) in
-        unchanged p q (get_or rs s leaf) was.tree.stands is.tree.stands;
+        let was = subst (λ o. IsReadAt p v.commit gs (d ∷ ds) o (get_or rs s [])) e (l.read s) in
+        let is = subst (λ o. IsReadAt q v.commit gs (sides_of d ++ ds) o (get_or rs s [])) e (now.read s) in
+        λ k t h. unchanged p q (get_or (get_or rs s []) k t) (was k t h).tree.stands (is k t h).tree.stands;
   }
 
   -- What no version needs goes.

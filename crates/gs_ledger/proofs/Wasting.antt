@@ -23,7 +23,7 @@ use Rattle.gs_ledger.proofs.Counts.{waste_is, length_tree}
 use Rattle.gs_ledger.proofs.Staying.{whole_sum, lives_append}
 
 -- the waste of one ledger and that of the next, which has some dead nodes more
-more_waste : (f : Lifetime → ℕ) (p q : Nodes) (v w : Pins) (gs hs us ws rs ss : List Tree) (ds es : List Dead) → IsLedger p v gs us rs ds → IsLedger q w hs ws ss (es ++ ds) → sum_by f (waste_at q) ≡ sum_by f (waste_at p) + sum_by f (lives es)
+more_waste : (f : Lifetime → ℕ) (p q : Nodes) (v w : Pins) (gs hs us ws : List Tree) (rs ss : List (List Tree)) (ds es : List Dead) → IsLedger p v gs us rs ds → IsLedger q w hs ws ss (es ++ ds) → sum_by f (waste_at q) ≡ sum_by f (waste_at p) + sum_by f (lives es)
 more_waste f p q v w gs hs us ws rs ss ds es l k = omega (arith, waste_is p v gs us rs ds l f, waste_is q w hs ws ss (es ++ ds) k f, lives_append f es ds)
 
 -- the nodes of a tree that died after all of them were born
@@ -42,7 +42,7 @@ tree_unreached (fork id birth l k r) =
     (All-append IsUnreached (tree_lives 0 l) (tree_lives 0 r) (tree_unreached l) (tree_unreached r))
 
 -- By a PUT or a Delete as many nodes join the waste as the graph had triples, each with a version before it.
-pub put_joins : (p q : Nodes) (v : Pins) (old new : Tree) (gs us rs : List Tree) (ds : List Dead) → IsLedger p v (old ∷ gs) (new ∷ us) rs ds → Buries p q (died_whole (v.commit + 1) old) → Joins (EndsAt (v.commit + 1)) (length (keys old)) (waste_at p) (waste_at q)
+pub put_joins : (p q : Nodes) (v : Pins) (old new : Tree) (gs us : List Tree) (rs : List (List Tree)) (ds : List Dead) → IsLedger p v (old ∷ gs) (new ∷ us) rs ds → Buries p q (died_whole (v.commit + 1) old) → Joins (EndsAt (v.commit + 1)) (length (keys old)) (waste_at p) (waste_at q)
 put_joins p q v old new gs us rs ds l b =
     let c = v.commit in
     let tree : IsTreeOf p c old = All-head (IsTreeOf p c) old gs l.current in
@@ -54,7 +54,7 @@ put_joins p q v old new gs us rs ds l b =
     }
 
 -- By a Cancel as many join as the upload had triples, and no version reached them.
-pub cancel_joins : (p q : Nodes) (v : Pins) (old : Tree) (gs us rs : List Tree) (ds : List Dead) → IsLedger p v gs (old ∷ us) rs ds → Buries p q (died_whole 0 old) → Joins IsUnreached (length (keys old)) (waste_at p) (waste_at q)
+pub cancel_joins : (p q : Nodes) (v : Pins) (old : Tree) (gs us : List Tree) (rs : List (List Tree)) (ds : List Dead) → IsLedger p v gs (old ∷ us) rs ds → Buries p q (died_whole 0 old) → Joins IsUnreached (length (keys old)) (waste_at p) (waste_at q)
 cancel_joins p q v old gs us rs ds l b = record {
   more = tree_lives 0 old;
   few = omega (arith, length_tree 0 old, size-keys old);
@@ -103,7 +103,7 @@ alone_ended p q death (suc n) h = by_node (alone_ended p q death n h) (node_at q
     by_node rest (Some k) e true m = All-cons (EndsAt death) (record { birth = k.birth; death = death }) (lives (alone_below death n q)) (h n k e m, refl) rest
 
 -- By a commit that copies no more nodes join than were replaced, each with a version before it.
-pub post_joins : (p q r : Nodes) (v : Pins) (birth : ℕ) (old new : Tree) (gs us rs : List Tree) (ds : List Dead) → IsLedger p v (old ∷ gs) us rs ds → ((x : ℕ) → is_aside (mark_at p x) ≡ false) → Step (v.commit + 1) birth p q (occurrences old) (occurrences new) → IsTreeOf q (v.commit + 1) new → RetiresAside q r (v.commit + 1) → Joins (EndsAt (v.commit + 1)) (aside_count q) (waste_at p) (waste_at r)
+pub post_joins : (p q r : Nodes) (v : Pins) (birth : ℕ) (old new : Tree) (gs us : List Tree) (rs : List (List Tree)) (ds : List Dead) → IsLedger p v (old ∷ gs) us rs ds → ((x : ℕ) → is_aside (mark_at p x) ≡ false) → Step (v.commit + 1) birth p q (occurrences old) (occurrences new) → IsTreeOf q (v.commit + 1) new → RetiresAside q r (v.commit + 1) → Joins (EndsAt (v.commit + 1)) (aside_count q) (waste_at p) (waste_at r)
 post_joins p q r v birth old new gs us rs ds l none s tree retires =
     let c = v.commit in
     let es = aside_dead (c + 1) q in

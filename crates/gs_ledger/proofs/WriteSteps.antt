@@ -1,9 +1,9 @@
 -- How a commit that copies, and a Stage, carry the ledger: their trees change by steps.
-use Rattle.std.proofs.Common.{◌≡◌, ℕ, ◌+◌, ◌<◌, ◌≤◌, false, cond, List, ◌∷◌, ◌++◌, length, get_or, Option, Some, None, refl, ap, ◌∙◌, inl, inr, arith}
+use Rattle.std.proofs.Common.{◌≡◌, ℕ, ◌+◌, ◌<◌, ◌≤◌, false, cond, List, [], ◌∷◌, ◌++◌, length, get_or, Option, Some, None, refl, ap, ◌∙◌, inl, inr, arith}
 use Rattle.std.proofs.lemmas.List.Elements.{All-append, All-cons, All-head, All-tail}
 use Rattle.gs_pool.specs.declared.nodes.Node.{Node}
 use Rattle.gs_pool.specs.Pool.{Nodes, NodeMark, plain, aside, retired, is_aside, node_at, mark_at, retired_mark}
-use Rattle.gs_tree.specs.Tree.{Tree, leaf, occurrences}
+use Rattle.gs_tree.specs.Tree.{Tree, occurrences}
 use Rattle.gs_tree.specs.Steps.{plain_mark, Step}
 use Rattle.gs_versions.specs.Pins.{Pins, at_commit}
 use Rattle.gs_ledger.specs.Entries.{Dead, trees_have, dead_have, tops}
@@ -34,7 +34,7 @@ aside_zero m e = ap (λ b. cond {A = ℕ} b 1 0) e
 aside_there : (o : Option Node) (m : NodeMark) (n : Node) → o ≡ Some n → set_aside o (is_aside m) ≡ aside_one m
 aside_there o m n e = ap (λ k. set_aside k (is_aside m)) e
 
-module _ (p : Nodes) (v : Pins) (gs us rs : List Tree) (ds : List Dead) (l : IsLedger p v gs us rs ds) where
+module _ (p : Nodes) (v : Pins) (gs us : List Tree) (rs : List (List Tree)) (ds : List Dead) (l : IsLedger p v gs us rs ds) where
   -- what a current tree or an upload has is plain, and so is what is free
   pub tree_plain : (x : ℕ) → 0 < trees_have gs x + trees_have us x → mark_at p x ≡ plain
   tree_plain x h = mark_plain (mark_at p x) (omega (arith, l.once x, l.marks x, used_most p x, tops_most ds x))
@@ -43,7 +43,7 @@ module _ (p : Nodes) (v : Pins) (gs us rs : List Tree) (ds : List Dead) (l : IsL
   free_plain x h = mark_plain (mark_at p x) (omega (arith, l.once x, l.marks x, tops_most ds x))
 
 -- A commit that copies: a graph goes from one tree to another, and each node that was replaced is retired alone.
-module _ (p q r : Nodes) (v : Pins) (birth : ℕ) (old new : Tree) (gs us rs : List Tree) (ds : List Dead) (l : IsLedger p v (old ∷ gs) us rs ds) (none : (x : ℕ) → is_aside (mark_at p x) ≡ false) (s : Step (v.commit + 1) birth p q (occurrences old) (occurrences new)) (tree : IsTreeOf q (v.commit + 1) new) (retires : RetiresAside q r (v.commit + 1)) where
+module _ (p q r : Nodes) (v : Pins) (birth : ℕ) (old new : Tree) (gs us : List Tree) (rs : List (List Tree)) (ds : List Dead) (l : IsLedger p v (old ∷ gs) us rs ds) (none : (x : ℕ) → is_aside (mark_at p x) ≡ false) (s : Step (v.commit + 1) birth p q (occurrences old) (occurrences new)) (tree : IsTreeOf q (v.commit + 1) new) (retires : RetiresAside q r (v.commit + 1)) where
   abbrev es : List Dead
   es = aside_dead (v.commit + 1) q
 
@@ -117,15 +117,15 @@ module _ (p q r : Nodes) (v : Pins) (birth : ℕ) (old new : Tree) (gs us rs : L
         waste = All-append (IsDead r (c + 1)) es ds
             (alone_dead q r (c + 1) (c + 1) (length q.nodes) (omega arith) retires)
             (dead_later r c (c + 1) ds (omega arith) (dead_kept p r c ds (elsewhere (dead_have ds) (λ x. omega (arith, l.once x, used_most p x, trees_cons old gs x))) marks_kept l.waste));
-        read = λ i. read_map p r c (c + 1) (old ∷ gs) (new ∷ gs) ds (es ++ ds) (get_or v.seats i None) (get_or rs i leaf) (λ w e k. record {
+        read = λ i. read_map p r c (c + 1) (old ∷ gs) (new ∷ gs) ds (es ++ ds) (get_or v.seats i None) (get_or rs i []) (λ w t e k. record {
           pinned = omega (arith, k.pinned);
-          tree = by_birth w (get_or rs i leaf) k.pinned k.tree;
+          tree = by_birth w t k.pinned k.tree;
           within = λ x. omega (arith, k.within x, trees_cons old gs x, trees_cons new gs x, after_append w es ds x, alone_after w (c + 1) (length q.nodes) q x (omega (arith, k.pinned)), still x);
         }) (l.read i);
       }
 
 -- A Stage: an upload's tree grows in place, since no version has it.
-module _ (p q : Nodes) (v : Pins) (birth : ℕ) (old new : Tree) (gs us rs : List Tree) (ds : List Dead) (l : IsLedger p v gs (old ∷ us) rs ds) (s : Step 0 birth p q (occurrences old) (occurrences new)) (tree : IsTreeOf q (v.commit + 1) new) where
+module _ (p q : Nodes) (v : Pins) (birth : ℕ) (old new : Tree) (gs us : List Tree) (rs : List (List Tree)) (ds : List Dead) (l : IsLedger p v gs (old ∷ us) rs ds) (s : Step 0 birth p q (occurrences old) (occurrences new)) (tree : IsTreeOf q (v.commit + 1) new) where
   marks_same : (x : ℕ) → mark_at q x ≡ mark_at p x
   marks_same x = elim (s.marks x) [ inl same ↦ same | inr fresh ↦ absurd (omega (arith, fresh.0.2)) ]
 
@@ -144,9 +144,9 @@ module _ (p q : Nodes) (v : Pins) (birth : ℕ) (old new : Tree) (gs us rs : Lis
         current = trees_kept p q c gs (beside (trees_have gs) (λ x h. omega (arith, l.once x, used_most p x, trees_cons old us x))) l.current;
         staged = All-cons (IsTreeOf q (c + 1)) new us tree (trees_kept p q (c + 1) us (beside (trees_have us) (λ x h. omega (arith, l.once x, used_most p x, trees_cons old us x))) (All-tail (IsTreeOf p (c + 1)) old us l.staged));
         waste = dead_kept p q c ds (beside (dead_have ds) (λ x h. omega (arith, l.once x, used_most p x, trees_cons old us x))) (λ x h. marks_same x) l.waste;
-        read = λ i. read_map p q c c gs gs ds ds (get_or v.seats i None) (get_or rs i leaf) (λ w e k. record {
+        read = λ i. read_map p q c c gs gs ds ds (get_or v.seats i None) (get_or rs i []) (λ w t e k. record {
           pinned = k.pinned;
-          tree = tree_kept p q w (get_or rs i leaf) (beside (occurrences (get_or rs i leaf)) (λ x h. omega (arith, k.within x, after_most w ds x, l.once x, used_most p x, trees_cons old us x))) k.tree;
+          tree = tree_kept p q w t (beside (occurrences t) (λ x h. omega (arith, k.within x, after_most w ds x, l.once x, used_most p x, trees_cons old us x))) k.tree;
           within = k.within;
         }) (l.read i);
       }

@@ -1,8 +1,8 @@
 -- What the laws say of any ledger.
-use Rattle.std.specs.Prelude.{◌≡◌, ℕ, ◌+◌, List, ◌++◌, length, Some, None, slice_index_or}
+use Rattle.std.specs.Prelude.{◌≡◌, ℕ, ◌+◌, List, [], ◌++◌, length, Some, None, slice_index_or}
 use Rattle.std.specs.List.{All, sum_by}
 use Rattle.gs_pool.specs.Pool.{Nodes, in_use}
-use Rattle.gs_tree.specs.Tree.{Tree, leaf, root_of, Stands, tree_at}
+use Rattle.gs_tree.specs.Tree.{Tree, root_of, Stands, tree_at}
 use Rattle.gs_versions.specs.Pins.{Pins}
 use Rattle.gs_event.specs.Waste.{Lifetime}
 use Rattle.gs_ledger.specs.Entries.{Dead, keys_in, sides_of, lives}
@@ -24,13 +24,13 @@ pub record IsUnchanged (p q : Nodes) (t : Tree) : Type 0 where
   pub means : tree_at q (root_of t) ≡ tree_at p (root_of t)
 
 -- each current graph, each open upload and each tree that a seat reads is unchanged
-pub record NeededStay (p q : Nodes) (v : Pins) (graphs uploads reads : List Tree) : Type 0 where
+pub record NeededStay (p q : Nodes) (v : Pins) (graphs uploads : List Tree) (reads : List (List Tree)) : Type 0 where
   pub current : All (IsUnchanged p q) graphs
   pub staged : All (IsUnchanged p q) uploads
-  pub read : (s w : ℕ) → slice_index_or v.seats s None ≡ Some w → IsUnchanged p q (slice_index_or reads s leaf)
+  pub read : (s w : ℕ) → slice_index_or v.seats s None ≡ Some w → All (IsUnchanged p q) (slice_index_or reads s [])
 
 -- the ledger goes on with the sides of the dead node in its place, one node fewer is in use, and its lifetime alone is out of the waste
-pub record MayGo (p q : Nodes) (v : Pins) (graphs uploads reads : List Tree) (d : Dead) (dead : List Dead) : Type 0 where
+pub record MayGo (p q : Nodes) (v : Pins) (graphs uploads : List Tree) (reads : List (List Tree)) (d : Dead) (dead : List Dead) : Type 0 where
   pub ledger : IsLedger q v graphs uploads reads (sides_of d ++ dead)
   pub fewer : in_use q + 1 ≡ in_use p
   pub waste : (f : Lifetime → ℕ) → sum_by f (waste_at q) + f (record { birth = d.birth; death = d.death }) ≡ sum_by f (waste_at p)

@@ -1,5 +1,5 @@
 -- The ledger of a pool that graphs, open uploads, pinned reads and waste share: whose each node is, and what reads have.
-use Rattle.std.specs.Prelude.{◌≡◌, ℕ, ◌+◌, ◌≤◌, Bool, true, false, List, Option, Some, None, slice_index_or}
+use Rattle.std.specs.Prelude.{◌≡◌, ℕ, ◌+◌, ◌≤◌, Bool, true, false, List, [], Option, Some, None, slice_index_or}
 use Rattle.std.specs.List.{All}
 use Rattle.gs_pool.specs.declared.nodes.Node.{Node}
 use Rattle.gs_pool.specs.Pool.{Nodes, node_at, mark_at}
@@ -37,16 +37,16 @@ pub record IsRead (p : Nodes) (c : ℕ) (graphs : List Tree) (dead : List Dead) 
   pub tree : IsTreeOf p v t
   pub within : (x : ℕ) → occurrences t x ≤ trees_have graphs x + dead_have_after v dead x
 
--- what a seat reads, where it has pinned a version
-abbrev pub IsReadAt : Nodes → ℕ → List Tree → List Dead → Option ℕ → Tree → Type 0
-IsReadAt p c graphs dead None t = Unit {0}
-IsReadAt p c graphs dead (Some v) t = IsRead p c graphs dead v t
+-- what a seat reads, where it has pinned a version: trees of it
+abbrev pub IsReadAt : Nodes → ℕ → List Tree → List Dead → Option ℕ → List Tree → Type 0
+IsReadAt p c graphs dead None ts = Unit {0}
+IsReadAt p c graphs dead (Some v) ts = All (IsRead p c graphs dead v) ts
 
--- The ledger. Each number in use is once in a current graph, in an open upload or in what is dead, and no other number is. A marked node is dead, and a plain one at most goes with another. A current tree is one of the last commit, an upload's one of the next; what is dead died by the last commit. Each seat that has pinned a version reads a tree of it.
-pub record IsLedger (p : Nodes) (v : Pins) (graphs uploads reads : List Tree) (dead : List Dead) : Type 0 where
+-- The ledger. Each number in use is once in a current graph, in an open upload or in what is dead, and no other number is. A marked node is dead, and a plain one at most goes with another. A current tree is one of the last commit, an upload's one of the next; what is dead died by the last commit. Each seat that has pinned a version reads trees of it.
+pub record IsLedger (p : Nodes) (v : Pins) (graphs uploads : List Tree) (reads : List (List Tree)) (dead : List Dead) : Type 0 where
   pub once : (x : ℕ) → trees_have graphs x + trees_have uploads x + dead_have dead x ≡ used_count p x
   pub marks : (x : ℕ) → tops dead x + plain_mark (mark_at p x) ≡ 1
   pub current : All (IsTreeOf p v.commit) graphs
   pub staged : All (IsTreeOf p (v.commit + 1)) uploads
   pub waste : All (IsDead p v.commit) dead
-  pub read : (s : ℕ) → IsReadAt p v.commit graphs dead (slice_index_or v.seats s None) (slice_index_or reads s leaf)
+  pub read : (s : ℕ) → IsReadAt p v.commit graphs dead (slice_index_or v.seats s None) (slice_index_or reads s [])

@@ -14,21 +14,23 @@ ghost use Rattle.gs_ledger.specs.Laws.{Counts as CountsNodes, NeededStay, MayGo}
 /// The nodes in use are the triples of the current graphs, those of the open uploads, and the waste,
 /// which is what the marks of the pool say.
 pub fn nodes_are_counted()
-    ensures { (p : Nodes) (v : Pins) (graphs uploads reads : List Tree) (dead : List Dead)
-        → IsLedger p v graphs uploads reads dead → CountsNodes p graphs uploads dead }
+    ensures { (p : Nodes) (v : Pins) (graphs uploads : List Tree) (reads : List (List Tree))
+        (dead : List Dead) → IsLedger p v graphs uploads reads dead → CountsNodes p graphs uploads dead }
 {}
 
 /// Where a dead node is freed that neither the current version nor a pinned one needs, every tree of
 /// a current graph, of an open upload and of a read stands as it stood.
 pub fn needed_nodes_stay()
-    ensures { (p q : Nodes) (v : Pins) (graphs uploads reads : List Tree) (d : Dead) (dead : List Dead)
+    ensures { (p q : Nodes) (v : Pins) (graphs uploads : List Tree) (reads : List (List Tree))
+        (d : Dead) (dead : List Dead)
         → IsLedger p v graphs uploads reads (d ∷ dead) → FreesTop p q d → (IsNeeded v d.birth d.death → ⊥)
         → NeededStay p q v graphs uploads reads }
 {}
 
 /// And the ledger goes on: one node fewer is in use, and its lifetime is out of the waste.
 pub fn what_no_version_needs_may_go()
-    ensures { (p q : Nodes) (v : Pins) (graphs uploads reads : List Tree) (d : Dead) (dead : List Dead)
+    ensures { (p q : Nodes) (v : Pins) (graphs uploads : List Tree) (reads : List (List Tree))
+        (d : Dead) (dead : List Dead)
         → IsLedger p v graphs uploads reads (d ∷ dead) → FreesTop p q d → (IsNeeded v d.birth d.death → ⊥)
         → MayGo p q v graphs uploads reads d dead }
 {}
@@ -53,6 +55,6 @@ pub fn steps_join_the_waste()
 
 /// The dead nodes of a ledger are those that the marks of its pool say.
 pub fn marks_say_what_is_dead()
-    ensures { (p : Nodes) (v : Pins) (graphs uploads reads : List Tree) (dead : List Dead)
-        → IsLedger p v graphs uploads reads dead → AreSameDead dead (dead_at p) }
+    ensures { (p : Nodes) (v : Pins) (graphs uploads : List Tree) (reads : List (List Tree))
+        (dead : List Dead) → IsLedger p v graphs uploads reads dead → AreSameDead dead (dead_at p) }
 {}

@@ -120,14 +120,14 @@ sides_aside p q n death x a w true h e = root_aside p h.0 n.left death x a w h.1
 sides_aside p q n death x a w false h e = sym (ap (λ (r : Nodes). mark_at r x) h) ∙ e
 
 -- one node fewer: its lifetime, which no pin needs, is out of the waste, and what is set aside was before
-pub record FreesOne (v : Pins) (p q : Nodes) (gs us rs : List Tree) : Type 0 where
+pub record FreesOne (v : Pins) (p q : Nodes) (gs us : List Tree) (rs : List (List Tree)) : Type 0 where
   pub ledger : IsLedger q v gs us rs (dead_at q)
   pub gone : Lifetime
   pub waste : (f : Lifetime → ℕ) → sum_by f (waste_at q) + f gone ≡ sum_by f (waste_at p)
   pub not_needed : is_needed v.seats gone ≡ false
   pub asides : (x a : ℕ) (w : Bool) (n : Node) → mark_at q x ≡ aside a w → node_at q x ≡ Some n → (mark_at p x ≡ aside a w) × (node_at p x ≡ Some n)
 
-pub frees_one : (p p1 q : Nodes) (v : Pins) (gs us rs : List Tree) (r : Retired) → IsLedger p v gs us rs (dead_at p) → Unlists p p1 r.id (retired r.death r.whole) → Settles v p1 q r true → FreesOne v p q gs us rs
+pub frees_one : (p p1 q : Nodes) (v : Pins) (gs us : List Tree) (rs : List (List Tree)) (r : Retired) → IsLedger p v gs us rs (dead_at p) → Unlists p p1 r.id (retired r.death r.whole) → Settles v p1 q r true → FreesOne v p q gs us rs
 frees_one p p1 q v gs us rs r l0 u s =
     let b = first_ledger p v gs us rs (dead_at p) r.id r.death r.whole l0 (ap death_of u.was) in
     let d = b.first in

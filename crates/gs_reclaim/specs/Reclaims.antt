@@ -15,12 +15,12 @@ use Rattle.gs_ledger.specs.Changes.{RetiresSides}
 pub record HasLedger (p : Nodes) (v : Pins) : Type 0 where
   pub graphs : List Tree
   pub uploads : List Tree
-  pub reads : List Tree
+  pub reads : List (List Tree)
   pub ledger : IsLedger p v graphs uploads reads (dead_at p)
 
 -- all graphs, uploads and reads that have a ledger of the pool have one still
 abbrev pub KeepsLedgers : Pins → Nodes → Nodes → Type 0
-KeepsLedgers v p q = (graphs uploads reads : List Tree) → IsLedger p v graphs uploads reads (dead_at p) → IsLedger q v graphs uploads reads (dead_at q)
+KeepsLedgers v p q = (graphs uploads : List Tree) (reads : List (List Tree)) → IsLedger p v graphs uploads reads (dead_at p) → IsLedger q v graphs uploads reads (dead_at q)
 
 -- a root can be retired: its node is plain
 abbrev pub CanRetireRoot : Nodes → Option ℕ → Type 0

@@ -54,7 +54,7 @@ pub same_dead : (ds : List Dead) → AreSameDead ds ds
 same_dead ds = record { sums = λ f. refl; each = λ k d h. Contains-get_or ds k d h }
 
 -- the target's tree comes to the head of the graphs
-pub apart_ledger : (p : Nodes) (v : Pins) (g : GraphVersions) (t : Target) (us rs : List Tree) (ds : List Dead) → IsLedger p v (graph_trees p g) us rs ds → IsLedger p v (tree_at p (version_or g t).root ∷ other_trees p g t) us rs ds
+pub apart_ledger : (p : Nodes) (v : Pins) (g : GraphVersions) (t : Target) (us : List Tree) (rs : List (List Tree)) (ds : List Dead) → IsLedger p v (graph_trees p g) us rs ds → IsLedger p v (tree_at p (version_or g t).root ∷ other_trees p g t) us rs ds
 apart_ledger p v g t us rs ds l =
     subst (λ x. IsLedger p v (x ∷ other_trees p g t) us rs ds) (sym (tree_of_target p g t))
     (reorder_ledger p v (graph_trees p g) (target_tree p g t ∷ other_trees p g t) us us rs ds ds (one_is_apart p g t) (same_trees us) (same_dead ds) l)
@@ -74,7 +74,7 @@ module _ (terms : List Term) (p : Nodes) (g : GraphVersions) (t : Target) (all :
   keys_of_target = keys_if (version_at g t) refl ∙ sym (size_at-is terms p g t all)
 
   -- its root can be retired
-  pub target_retirable : (v : Pins) (us rs : List Tree) (ds : List Dead) → IsLedger p v (graph_trees p g) us rs ds → CanRetireRoot p (version_or g t).root
+  pub target_retirable : (v : Pins) (us : List Tree) (rs : List (List Tree)) (ds : List Dead) → IsLedger p v (graph_trees p g) us rs ds → CanRetireRoot p (version_or g t).root
   target_retirable v us rs ds l =
       let old = tree_at p (version_or g t).root in
       let others = other_trees p g t in
@@ -151,7 +151,7 @@ module _ (old new : Books) (t : Target) (e : EndsTree old new (version_or old.ca
   }
 
   -- the tree of the upload is that of a graph now
-  ends_now : (tree : Tree) → AreSameTrees (tree ∷ other_trees old.pool old.catalogue.graphs t) (graph_trees new.pool g) → (us rs : List Tree) → HasLedger old (tree ∷ us) rs → Ends old new (size_at (dataset_of old) t) us rs
+  ends_now : (tree : Tree) → AreSameTrees (tree ∷ other_trees old.pool old.catalogue.graphs t) (graph_trees new.pool g) → (us : List Tree) (rs : List (List Tree)) → HasLedger old (tree ∷ us) rs → Ends old new (size_at (dataset_of old) t) us rs
   ends_now tree trees us rs l =
       let p = old.pool in
       let q = new.pool in
@@ -187,7 +187,7 @@ put_made old new t u e written sound is room number =
     }
 
 -- the ledger of a Delete: a leaf is no upload
-leaf_ends : (old new : Books) (size : ℕ) → ((us rs : List Tree) → HasLedger old (leaf ∷ us) rs → Ends old new size us rs) → (us rs : List Tree) → HasLedger old us rs → Ends old new size us rs
+leaf_ends : (old new : Books) (size : ℕ) → ((us : List Tree) (rs : List (List Tree)) → HasLedger old (leaf ∷ us) rs → Ends old new size us rs) → (us : List Tree) (rs : List (List Tree)) → HasLedger old us rs → Ends old new size us rs
 leaf_ends old new size ends us rs l = ends us rs ((leaf_upload old.pool old.versions (graph_trees old.pool old.catalogue.graphs) us rs (dead_at old.pool)).0 l)
 
 -- the default graph is empty

@@ -23,7 +23,7 @@ use Rattle.gs_datasets.proofs.Sizes.{triples_in-is}
 use Rattle.gs_tree_store.specs.declared.books.Seat.{Seat}
 use Rattle.gs_tree_store.specs.declared.books.Seat.TheVariants.{Idle, Writing, Patching, Reading}
 use Rattle.gs_tree_store.specs.declared.stores.TreeStore.TheInside.{Inside}
-use Rattle.gs_tree_store.specs.Books.{seat_shown, upload_tree, read_tree, IsSeat}
+use Rattle.gs_tree_store.specs.Books.{seat_shown, upload_tree, read_trees, IsSeat}
 use Rattle.gs_tree_store.specs.Kept.{shown_of, IsKept}
 
 module _ (terms : List Term) (p : Nodes) where
@@ -77,7 +77,7 @@ module _ (a : Inside) (kept : IsKept a) where
       let xs = a.seats.items in
       omega (
         arith,
-        (nodes_counted p a.books.versions (graph_trees p g) (map (upload_tree p) xs) (map (read_tree p) xs) (dead_at p) kept.ledger).nodes,
+        (nodes_counted p a.books.versions (graph_trees p g) (map (upload_tree p) xs) (map (read_trees p) xs) (dead_at p) kept.ledger).nodes,
         graph_keys a.books.dict.terms p g kept.sound.versions,
       )
 

@@ -82,7 +82,7 @@ united_target b t g =
     sym (ap (λ o. united o g) (graph_at-is b.dict.terms b.pool b.catalogue.graphs t) ∙ united_if b.dict.terms b.pool (version_at b.catalogue.graphs t) g)
 
 -- the ledger goes on, and so many nodes at most join the waste
-pub record KeptEnds (old new : Books) (most : ℕ) (us rs : List Tree) : Type 0 where
+pub record KeptEnds (old new : Books) (most : ℕ) (us : List Tree) (rs : List (List Tree)) : Type 0 where
   pub ledger : HasLedger new us rs
   pub waste : Joins (EndsAt (old.versions.commit + 1)) most (waste_at old.pool) (waste_at new.pool)
 
@@ -98,7 +98,7 @@ module _ (b : Books) (d : Numbered) (q r : Nodes) (w : Pins) (c : Catalogued) (t
     (born : birth ≡ b.versions.commit + 1) (grows : Grows b.dict d) (made : Drafts birth d.terms b.pool q (version_or b.catalogue.graphs t) v g most)
     (keeps : KeepsDraftAll b.versions w q r) (commit : w ≡ at_commit b.versions (b.versions.commit + 1)) (nodes : r.nodes ≡ q.nodes) (none : aside_count r ≡ 0)
     (written : c ≡ after_set b.catalogue t v) (number : b.versions.commit < last_number) (sound : IsSound b) where
-  ends : (us rs : List Tree) → HasLedger b us rs → KeepsDraft b.versions w b.pool q r (tree_at q v.root) (other_trees b.pool b.catalogue.graphs t) us rs
+  ends : (us : List Tree) (rs : List (List Tree)) → HasLedger b us rs → KeepsDraft b.versions w b.pool q r (tree_at q v.root) (other_trees b.pool b.catalogue.graphs t) us rs
   ends us rs l =
       let old = tree_at b.pool (version_or b.catalogue.graphs t).root in
       let new = tree_at q v.root in
@@ -106,7 +106,7 @@ module _ (b : Books) (d : Numbered) (q r : Nodes) (w : Pins) (c : Catalogued) (t
       (apart_ledger b.pool b.versions b.catalogue.graphs t us rs (dead_at b.pool) l)
       (subst (λ n. Step n n b.pool q (occurrences old) (occurrences new)) born made.step) (subst (λ n. IsTreeOf q n new) born made.tree)
 
-  module _ (us₀ rs₀ : List Tree) (l₀ : HasLedger b us₀ rs₀) where
+  module _ (us₀ : List Tree) (rs₀ : List (List Tree)) (l₀ : HasLedger b us₀ rs₀) where
     same_others : AreSameIn b.pool r (other_versions b.catalogue.graphs t)
     same_others = others_stay_beside b.dict.terms b.pool r b.catalogue.graphs t w (tree_at q v.root) us₀ rs₀ (dead_at r) sound.versions (ends us₀ rs₀ l₀).ledger
 
@@ -133,7 +133,7 @@ module _ (b : Books) (d : Numbered) (q r : Nodes) (w : Pins) (c : Catalogued) (t
       base = sound.base;
     }
 
-    pub kept_ends : (us rs : List Tree) → HasLedger b us rs → KeptEnds b (with_draft b d r w c) most us rs
+    pub kept_ends : (us : List Tree) (rs : List (List Tree)) → HasLedger b us rs → KeptEnds b (with_draft b d r w c) most us rs
     kept_ends us rs l =
         let h = ends us rs l in
         let trees : AreSameTrees (version_tree q v ∷ other_trees b.pool b.catalogue.graphs t) (graph_trees r (with_version b.catalogue.graphs t v)) = subst (λ u. AreSameTrees (u ∷ other_trees b.pool b.catalogue.graphs t) (graph_trees r (with_version b.catalogue.graphs t v))) same_draft sets.trees in

@@ -26,7 +26,7 @@ use Rattle.gs_tree_store.specs.declared.books.Books.{Books}
 use Rattle.gs_tree_store.specs.declared.books.Seat.{Seat}
 use Rattle.gs_tree_store.specs.declared.books.Seat.TheVariants.{Idle}
 use Rattle.gs_tree_store.specs.declared.stores.TreeStore.TheInside.{Inside}
-use Rattle.gs_tree_store.specs.Books.{dataset_of, seat_view, upload_tree, read_tree, is_writing, is_reading, IsSeat}
+use Rattle.gs_tree_store.specs.Books.{dataset_of, seat_view, upload_tree, read_trees, is_writing, is_reading, IsSeat}
 use Rattle.gs_tree_store.specs.Kept.{shown_of, IsKept}
 
 -- the catalogue of no graph has no tree
@@ -63,12 +63,12 @@ pub record IsFresh (a : Inside) (seats commit : ℕ) : Type 0 where
   pub idle : a.seats.items ≡ replicate seats Idle
 
 module _ (a : Inside) (seats commit : ℕ) (fresh : IsFresh a seats commit) where
-  fresh_ledger : IsLedger a.books.pool a.books.versions (graph_trees a.books.pool a.books.catalogue.graphs) (map (upload_tree a.books.pool) a.seats.items) (map (read_tree a.books.pool) a.seats.items) (dead_at a.books.pool)
+  fresh_ledger : IsLedger a.books.pool a.books.versions (graph_trees a.books.pool a.books.catalogue.graphs) (map (upload_tree a.books.pool) a.seats.items) (map (read_trees a.books.pool) a.seats.items) (dead_at a.books.pool)
   fresh_ledger =
       let p = a.books.pool in
       let gs = graph_trees p a.books.catalogue.graphs in
       let us = map (upload_tree p) a.seats.items in
-      let rs = map (read_tree p) a.seats.items in
+      let rs = map (read_trees p) a.seats.items in
       let current : All (λ t. t ≡ leaf) gs = subst (λ (g : GraphVersions). All (λ t. t ≡ leaf) (graph_trees p g)) (sym fresh.graphs) (no_trees p) in
       let staged : All (λ t. t ≡ leaf) us = subst (λ xs. All (λ t. t ≡ leaf) (map (upload_tree p) xs)) (sym fresh.idle) (All-map (λ t. t ≡ leaf) (upload_tree p) (replicate seats Idle) (All-replicate (λ s. upload_tree p s ≡ leaf) seats Idle refl)) in
       let pins : All (λ pin. pin ≡ None) a.books.versions.seats = subst (λ (v : Pins). All (λ pin. pin ≡ None) v.seats) (sym fresh.versions) (All-replicate (λ (pin : Option ℕ). pin ≡ None) seats None refl) in

@@ -1,5 +1,5 @@
 -- What a seat's action keeps of the whole store.
-use Rattle.std.proofs.Common.{◌≡◌, ℕ, ◌<◌, List, ◌∷◌, map, length, get_or, set, Option, None, is_some, refl, sym, ap, ◌∙◌, subst, inl, inr, arith}
+use Rattle.std.proofs.Common.{◌≡◌, ℕ, ◌<◌, List, [], ◌∷◌, map, length, get_or, set, Option, None, is_some, refl, sym, ap, ◌∙◌, subst, inl, inr, arith}
 use Rattle.std.specs.List.{All}
 use Rattle.std.proofs.lemmas.Bool.{cases_eq}
 use Rattle.std.proofs.lemmas.List.{length-map, length-set, get_or-map, map-set, set-set, get_or-set_same, get_or-set_other}
@@ -21,7 +21,7 @@ use Rattle.gs_tree_store.specs.declared.books.Books.{Books}
 use Rattle.gs_tree_store.specs.declared.books.Seat.{Seat}
 use Rattle.gs_tree_store.specs.declared.books.Seat.TheVariants.{Idle}
 use Rattle.gs_tree_store.specs.declared.stores.TreeStore.TheInside.{Inside}
-use Rattle.gs_tree_store.specs.Books.{totals_of, seat_view, upload_tree, read_tree, is_reading, IsSeat, IsReady, HasLedger, HasLedgerAt}
+use Rattle.gs_tree_store.specs.Books.{totals_of, seat_view, upload_tree, read_trees, is_reading, IsSeat, IsReady, HasLedger, HasLedgerAt}
 use Rattle.gs_tree_store.specs.Actions.{Acts, GoesOn, KeepsRoom}
 use Rattle.gs_tree_store.specs.Kept.{IsKept}
 use Rattle.gs_tree_store.proofs.PlaceLemmas.{map_beside, pins_long, pin_at, some_of, others_few, room_before, room_after}
@@ -31,7 +31,7 @@ same_dead : (ds : List Dead) → AreSameDead ds ds
 same_dead ds = record { sums = λ f. refl; each = λ k d h. Contains-get_or ds k d h }
 
 -- a ledger with its uploads in another order
-turned : (b : Books) (us vs rs : List Tree) → AreSameTrees us vs → HasLedger b us rs → HasLedger b vs rs
+turned : (b : Books) (us vs : List Tree) (rs : List (List Tree)) → AreSameTrees us vs → HasLedger b us rs → HasLedger b vs rs
 turned b us vs rs same l =
     let gs = graph_trees b.pool b.catalogue.graphs in
     reorder_ledger b.pool b.versions gs gs us vs rs (dead_at b.pool) (dead_at b.pool) (same_trees gs) same (same_dead (dead_at b.pool)) l
@@ -40,8 +40,8 @@ turned b us vs rs same l =
 abbrev pub uploads_of : Inside → List Tree
 uploads_of a = map (upload_tree a.books.pool) a.seats.items
 
-abbrev pub reads_of : Inside → List Tree
-reads_of a = map (read_tree a.books.pool) a.seats.items
+abbrev pub reads_of : Inside → List (List Tree)
+reads_of a = map (read_trees a.books.pool) a.seats.items
 
 module _ (a : Inside) (s : ℕ) (was : Seat) (kept : IsKept a) (within : s < length a.seats.items) (is : was ≡ get_or a.seats.items s was) where
   -- the upload of a seat stands before those of the others
@@ -49,13 +49,13 @@ module _ (a : Inside) (s : ℕ) (was : Seat) (kept : IsKept a) (within : s < len
   ledger_at =
       let p = a.books.pool in
       let own : get_or (uploads_of a) s leaf ≡ upload_tree p was = get_or-map (upload_tree p) a.seats.items s was leaf within ∙ sym (ap (upload_tree p) is) in
-      let long : length (reads_of a) ≡ length a.seats.items = length-map a.seats.items (read_tree p) in
+      let long : length (reads_of a) ≡ length a.seats.items = length-map a.seats.items (read_trees p) in
       let apart : AreSameTrees (uploads_of a) (upload_tree p was ∷ set (uploads_of a) s leaf) =
       subst (λ t. AreSameTrees (uploads_of a) (t ∷ set (uploads_of a) s leaf)) own (out_of_place (uploads_of a) s) in
       record {
         ledger = turned a.books (uploads_of a) (upload_tree p was ∷ set (uploads_of a) s leaf) (reads_of a) apart kept.ledger;
         there = omega arith;
-        read = get_or-map (read_tree p) a.seats.items s was leaf within ∙ sym (ap (read_tree p) is);
+        read = get_or-map (read_trees p) a.seats.items s was [] within ∙ sym (ap (read_trees p) is);
       }
 
   -- the books are ready for it
@@ -86,7 +86,7 @@ module _ (a b : Inside) (s : ℕ) (was now : Seat) (action : Action) (answer : A
       let q = b.books.pool in
       let xs = a.seats.items in
       let idle = set xs s Idle in
-      let own = read_tree q now in
+      let own = read_trees q now in
       let trees = ledger_keeps q b.books.versions (graph_trees q b.books.catalogue.graphs) (upload_tree q now ∷ set (uploads_of a) s leaf) (set (reads_of a) s own) (dead_at q) goes_on.ledger.ledger in
       let staged : All (IsPlainTree q) (map (upload_tree p) idle) = subst (All (IsPlainTree q)) (sym (map-set (upload_tree p) xs s Idle)) (All-tail (IsPlainTree q) (upload_tree q now) (set (uploads_of a) s leaf) trees.staged) in
       let long : length idle ≡ length xs = length-set xs s Idle in
@@ -99,11 +99,11 @@ module _ (a b : Inside) (s : ℕ) (was now : Seat) (action : Action) (answer : A
             let here : get_or idle k d ≡ get_or xs k d = get_or-set_other xs s k Idle d other in
             let pins = a.books.versions.seats in
             let pin : get_or b.books.versions.seats k None ≡ get_or pins k None = ap (λ ps. get_or ps k None) acts.pins ∙ get_or-set_other pins s k (pin_after a.books.versions.commit (get_or pins s None) action answer) None other in
-            let tree : get_or (set (reads_of a) s own) k leaf ≡ read_tree p (get_or idle k d) = get_or-set_other (reads_of a) s k own leaf other ∙ get_or-map (read_tree p) xs k d leaf inside ∙ sym (ap (read_tree p) here) in
+            let read : get_or (set (reads_of a) s own) k [] ≡ read_trees p (get_or idle k d) = get_or-set_other (reads_of a) s k own [] other ∙ get_or-map (read_trees p) xs k d [] inside ∙ sym (ap (read_trees p) here) in
             keeps_seat p q a.books.dict.terms (get_or idle k d) (subst (IsSeat a.books.dict.terms p) (sym here) (kept.known k d inside)) plain_tree
             (λ reads.
             let some = some_of (get_or b.books.versions.seats k None) (ap (λ (o : Option ℕ). is_some o) pin ∙ pin_at pins xs k d kept.pinned inside ∙ sym (ap is_reading here) ∙ reads) in
-            subst (IsMeant q) tree (trees.read k some.0 some.1))
+            subst (All (IsMeant q)) read (trees.read k some.0 some.1))
       ]
 
   -- which were seats, and are,
@@ -127,22 +127,22 @@ module _ (a b : Inside) (s : ℕ) (was now : Seat) (action : Action) (answer : A
       let same : All (λ x. upload_tree q x ≡ upload_tree p x) (set a.seats.items s Idle) = λ k d lt. same_upload p q (get_or (set a.seats.items s Idle) k d) (beside_at k d lt) in
       sym (map_beside (upload_tree p) (upload_tree q) a.seats.items s now same) ∙ sym (ap (map (upload_tree q)) seats)
 
-  reads_after : set (reads_of a) s (read_tree b.books.pool now) ≡ reads_of b
+  reads_after : set (reads_of a) s (read_trees b.books.pool now) ≡ reads_of b
   reads_after =
       let p = a.books.pool in
       let q = b.books.pool in
-      let same : All (λ x. read_tree q x ≡ read_tree p x) (set a.seats.items s Idle) = λ k d lt. same_read p q (get_or (set a.seats.items s Idle) k d) (beside_at k d lt) in
-      sym (map_beside (read_tree p) (read_tree q) a.seats.items s now same) ∙ sym (ap (map (read_tree q)) seats)
+      let same : All (λ x. read_trees q x ≡ read_trees p x) (set a.seats.items s Idle) = λ k d lt. same_read p q (get_or (set a.seats.items s Idle) k d) (beside_at k d lt) in
+      sym (map_beside (read_trees p) (read_trees q) a.seats.items s now same) ∙ sym (ap (map (read_trees q)) seats)
 
   ledger_after : HasLedger b.books (uploads_of b) (reads_of b)
   ledger_after =
       let top = upload_tree b.books.pool now in
       let long : length (uploads_of a) ≡ length a.seats.items = length-map a.seats.items (upload_tree a.books.pool) in
       let there : s < length (uploads_of a) = omega arith in
-      let placed : HasLedger b.books (set (uploads_of a) s top) (set (reads_of a) s (read_tree b.books.pool now)) =
-      turned b.books (top ∷ set (uploads_of a) s leaf) (set (uploads_of a) s top) (set (reads_of a) s (read_tree b.books.pool now)) (into_place (uploads_of a) s top there) goes_on.ledger.ledger in
+      let placed : HasLedger b.books (set (uploads_of a) s top) (set (reads_of a) s (read_trees b.books.pool now)) =
+      turned b.books (top ∷ set (uploads_of a) s leaf) (set (uploads_of a) s top) (set (reads_of a) s (read_trees b.books.pool now)) (into_place (uploads_of a) s top there) goes_on.ledger.ledger in
       subst (λ rs. HasLedger b.books (uploads_of b) rs) reads_after
-      (subst (λ us. HasLedger b.books us (set (reads_of a) s (read_tree b.books.pool now))) uploads_after placed)
+      (subst (λ us. HasLedger b.books us (set (reads_of a) s (read_trees b.books.pool now))) uploads_after placed)
 
   pinned_after : map is_some b.books.versions.seats ≡ map is_reading b.seats.items
   pinned_after =

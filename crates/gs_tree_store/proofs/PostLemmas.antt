@@ -86,7 +86,7 @@ module _ (b : Books) (t : Target) (n : ℕ) (u : GraphVersion) (p1 : Nodes) (ks 
   abbrev us₀ : List Tree
   us₀ = any.ready.ledger.uploads
 
-  abbrev rs₀ : List Tree
+  abbrev rs₀ : List (List Tree)
   rs₀ = any.ready.ledger.reads
 
   l₀ : HasLedger b (tree_at b.pool u.root ∷ us₀) rs₀
@@ -101,7 +101,7 @@ module _ (b : Books) (t : Target) (n : ℕ) (u : GraphVersion) (p1 : Nodes) (ks 
   mid_graphs : SameGraphs b (with_nodes b b.dict p1)
   mid_graphs = moved_graphs b b.dict p1 0 tree leaf (still_grows b.dict b.dict refl) any.ready.sound (apart.frees.step 0) (no_tree p1) none_aside us₀ rs₀ l₀
 
-  mid_ledger : (us rs : List Tree) → HasLedger b (tree_at b.pool u.root ∷ us) rs → HasLedger (with_nodes b b.dict p1) (leaf ∷ us) rs
+  mid_ledger : (us : List Tree) (rs : List (List Tree)) → HasLedger b (tree_at b.pool u.root ∷ us) rs → HasLedger (with_nodes b b.dict p1) (leaf ∷ us) rs
   mid_ledger = moved_ledger b b.dict p1 0 tree leaf (still_grows b.dict b.dict refl) any.ready.sound (apart.frees.step 0) (no_tree p1) none_aside us₀ rs₀ l₀
 
   mid_waste : waste_at p1 ≡ waste_at b.pool

@@ -1,7 +1,8 @@
 -- What a pin and a piece of a read make of the books and of the seat.
-use Rattle.std.proofs.Common.{◌≡◌, ℕ, ◌<◌, true, false, cond, ◌∷◌, get_or, Option, Some, None, is_some, option_map, refl, sym, ap, subst, ◌∙◌}
+use Rattle.std.proofs.Common.{◌≡◌, ℕ, ◌<◌, true, false, cond, List, [], ◌∷◌, get_or, Option, Some, None, is_some, option_map, refl, sym, ap, subst, ◌∙◌}
 use Rattle.std.proofs.lemmas.List.{set-get_or, length-set, get_or-set_same, get_or-map, length-map}
-use Rattle.std.specs.List.{Contains}
+use Rattle.std.proofs.lemmas.List.Elements.{All-cons, All-nil, All-head}
+use Rattle.std.specs.List.{All, Contains}
 use Rattle.gs_model.specs.Graphs.{lines_of}
 use Rattle.gs_term.specs.declared.names.Target.{Target}
 use Rattle.gs_event.specs.declared.events.Action.TheVariants.{Pin, Piece as PieceOf}
@@ -10,7 +11,8 @@ use Rattle.gs_event.specs.Datasets.{is_there, lines_at, lines_if}
 use Rattle.gs_event.specs.Phases as phase
 use Rattle.gs_pool.specs.declared.nodes.Key.{Key}
 use Rattle.gs_pool.specs.Pool.{Nodes}
-use Rattle.gs_tree.specs.Tree.{leaf, root_of, tree_at}
+use Rattle.gs_tree.specs.Tree.{Tree, leaf, root_of, tree_at}
+use Rattle.gs_tree.specs.Reading.{IsReadableAt}
 use Rattle.gs_tree.specs.Sets.{IsSetAt}
 use Rattle.gs_keys.specs.Texts.{key_cmp}
 use Rattle.gs_keys.specs.Roots.{IsGraphAt, graph_at}
@@ -34,6 +36,7 @@ use Rattle.gs_tree_store.specs.declared.books.Seat.{Seat}
 use Rattle.gs_tree_store.specs.declared.books.Seat.TheVariants.{Idle, Reading}
 use Rattle.gs_tree_store.specs.Books.{dataset_of, upload_tree, IsReady}
 use Rattle.gs_tree_store.specs.Actions.{Acts}
+use Rattle.gs_tree_store.proofs.PlaceLemmas.{some_of}
 use Rattle.gs_tree_store.proofs.SeatLemmas.{same_totals, ledger_stays, read_ends}
 
 -- the tree of a target's version is among those of the ledger
@@ -56,6 +59,23 @@ version_read b s seat t v is ready =
     let one : IsSetAt (key_cmp terms) p (root_of (tree_at p v.root)) =
     all_at (λ u. IsKeyed terms u → IsSetAt (key_cmp terms) p (root_of u)) gs (tree_at p v.root) sets.current (has_tree p b.catalogue.graphs t v is) version.keyed in
     (version, set_graph terms p v.root (subst (IsSetAt (key_cmp terms) p) version.root_is one) version.keyed.given)
+
+-- the root of a read can be read: its tree is among those that the seat has pinned
+read_at : (b : Books) (s : ℕ) (root : Option ℕ) (last : Option Key) → IsReady b s (Reading root last) → IsGraphAt b.dict.terms b.pool root
+read_at b s root last ready =
+    let terms = b.dict.terms in
+    let p = b.pool in
+    let some = ready.ledger in
+    let tree = tree_at p root in
+    let can_read : Tree → Type 0 = λ t. IsKeyed terms t → IsReadableAt (key_cmp terms) p (root_of t) in
+    let pin = some_of (get_or b.versions.seats s None) ready.pinned in
+    let sets = ledger_has_sets terms p b.versions (graph_trees p b.catalogue.graphs) (leaf ∷ some.uploads) some.reads (dead_at p) some.ledger.ledger in
+    let each : All can_read (tree ∷ []) = subst (All can_read) some.ledger.read (sets.read s pin.0 pin.1) in
+    let one : IsReadableAt (key_cmp terms) p (root_of tree) = All-head can_read tree [] each ready.known.keyed in
+    record { set = subst (IsReadableAt (key_cmp terms) p) ready.known.root_is one; given = ready.known.keyed.given }
+
+pub read_graph : (b : Books) (s : ℕ) (seat : Seat) (root : Option ℕ) (last : Option Key) → seat ≡ Reading root last → IsReady b s seat → IsGraphAt b.dict.terms b.pool root
+read_graph b s seat root last reads = subst (λ x. IsReady b s x → IsGraphAt b.dict.terms b.pool root) (sym reads) (read_at b s root last)
 
 -- a pin of a missing graph
 missing : (b : Books) (s : ℕ) (t : Target) → version_at b.catalogue.graphs t ≡ None → IsReady b s Idle → Acts b b s Idle Idle (Pin t) (Pinned 404)
@@ -87,6 +107,9 @@ pinned b s t v is ready =
     let there : is_there (dataset_of b) t ≡ true = is_there-is terms p g t ∙ ap is_some is in
     let graph : lines_at (dataset_of b) t ≡ lines_of (graph_at terms p v.root) = ap lines_if (graph_at-is terms p g t ∙ ap (option_map (version_graph terms p)) is) in
     let lines : lines_from terms p v.root None ≡ lines_at (dataset_of b) t = all_lines terms p v.root read.1 ∙ sym graph in
+    let one : List Tree = tree_at p v.root ∷ [] in
+    let is_in : Tree → Type 0 = Contains (graph_trees p g) in
+    let contained : All is_in one = All-cons is_in (tree_at p v.root) [] (has_tree p g t v is) (All-nil is_in) in
     record {
       fits = sym (ap (λ x. cond x 200 404) there);
       totals = same_totals b (record b { versions = with_pin b.versions s (Some b.versions.commit) }) refl refl refl refl;
@@ -97,9 +120,9 @@ pinned b s t v is ready =
       grows = still_grows b.dict b.dict refl;
       ledgers = λ us rs l. record {
         ledger = record {
-          ledger = pin_ledger p b.versions (graph_trees p g) (leaf ∷ us) rs (dead_at p) s (tree_at p v.root) l.ledger ready.there l.there (has_tree p g t v is);
-          there = subst (λ n. s < n) (sym (length-set rs s (tree_at p v.root))) l.there;
-          read = get_or-set_same rs s (tree_at p v.root) leaf l.there;
+          ledger = pin_ledger p b.versions (graph_trees p g) (leaf ∷ us) rs (dead_at p) s one l.ledger ready.there l.there contained;
+          there = subst (λ n. s < n) (sym (length-set rs s one)) l.there;
+          read = get_or-set_same rs s one [] l.there;
         };
         waste = refl;
       };

@@ -18,7 +18,7 @@ use Rattle.gs_datasets.proofs.Keeping.{ledger_keeps, graphs_stay}
 use Rattle.gs_datasets.proofs.Writing.{all_stay}
 use Rattle.gs_tree_store.specs.declared.books.Seat.{Seat}
 use Rattle.gs_tree_store.specs.declared.stores.TreeStore.TheInside.{Inside}
-use Rattle.gs_tree_store.specs.Books.{seat_view, upload_tree, read_tree, IsSeat}
+use Rattle.gs_tree_store.specs.Books.{seat_view, upload_tree, read_trees, IsSeat}
 use Rattle.gs_tree_store.specs.Kept.{shown_of, IsKept}
 use Rattle.gs_tree_store.proofs.PlaceLemmas.{same_map, pin_at, some_of}
 use Rattle.gs_tree_store.proofs.ShownLemmas.{outlives_same, KeepsSeat, same_upload, same_read, keeps_seat, seat_stays, shown_stays}
@@ -58,7 +58,7 @@ module _ (a : Inside) (q : Nodes) (kept : IsKept a) (ledgers : KeepsLedgers a.bo
       keeps_seat p q a.books.dict.terms (get_or xs k d) (kept.known k d lt) staged
       (λ reads.
       let some = some_of (get_or pins k None) (pin_at pins xs k d kept.pinned lt ∙ reads) in
-      subst (IsMeant q) (get_or-map (read_tree p) xs k d leaf lt) (trees.read k some.0 some.1))
+      subst (All (IsMeant q)) (get_or-map (read_trees p) xs k d [] lt) (trees.read k some.0 some.1))
 
   seats_known : All (IsSeat a.books.dict.terms q) a.seats.items
   seats_known = λ k d lt. seat_stays a.books.dict.terms a.books.dict.terms (outlives_same a.books.dict.terms) a.books.pool q (get_or a.seats.items k d) (kept.known k d lt) (seats_kept k d lt)
@@ -72,7 +72,7 @@ module _ (a : Inside) (q : Nodes) (kept : IsKept a) (ledgers : KeepsLedgers a.bo
       let p = a.books.pool in
       let xs = a.seats.items in
       let us : uploads_of (with_pool a q) ≡ uploads_of a = same_map (upload_tree p) (upload_tree q) xs (λ k d lt. same_upload p q (get_or xs k d) (seats_kept k d lt)) in
-      let rs : reads_of (with_pool a q) ≡ reads_of a = same_map (read_tree p) (read_tree q) xs (λ k d lt. same_read p q (get_or xs k d) (seats_kept k d lt)) in
+      let rs : reads_of (with_pool a q) ≡ reads_of a = same_map (read_trees p) (read_trees q) xs (λ k d lt. same_read p q (get_or xs k d) (seats_kept k d lt)) in
       subst (λ gs. IsLedger q a.books.versions gs (uploads_of (with_pool a q)) (reads_of (with_pool a q)) (dead_at q)) (sym graphs_kept.trees)
       (subst (λ ts. IsLedger q a.books.versions (graph_trees p a.books.catalogue.graphs) ts (reads_of (with_pool a q)) (dead_at q)) (sym us)
       (subst (λ ts. IsLedger q a.books.versions (graph_trees p a.books.catalogue.graphs) (uploads_of a) ts (dead_at q)) (sym rs) gone_on))

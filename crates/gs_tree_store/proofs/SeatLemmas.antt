@@ -1,12 +1,12 @@
 -- What the actions of a seat share: what they show where no graph changes, and the ledger at the place of a seat.
-use Rattle.std.proofs.Common.{◌≡◌, ℕ, ◌+◌, ◌<◌, ◌≤◌, false, List, ◌∷◌, length, get_or, set, Option, Some, None, is_some, refl, sym, ap, subst, ◌∙◌, arith, add-zero}
+use Rattle.std.proofs.Common.{◌≡◌, ℕ, ◌+◌, ◌<◌, ◌≤◌, false, List, [], ◌∷◌, length, get_or, set, Option, Some, None, is_some, refl, sym, ap, subst, ◌∙◌, arith, add-zero}
 use Rattle.std.proofs.lemmas.List.{set-get_or, length-set, get_or-set_same}
 use Rattle.std.specs.List.{All}
 use Rattle.gs_model.specs.Limits.{last_number}
 use Rattle.gs_dict.specs.Numbering.{Numbered}
 use Rattle.gs_pool.specs.declared.nodes.Key.{Key}
 use Rattle.gs_pool.specs.Pool.{Nodes, aside_count}
-use Rattle.gs_tree.specs.Tree.{Tree, leaf}
+use Rattle.gs_tree.specs.Tree.{Tree}
 use Rattle.gs_staging.specs.Keys.{Grows}
 use Rattle.gs_versions.specs.Pins.{Pins, with_pin}
 use Rattle.gs_ledger.specs.Marks.{dead_at}
@@ -17,7 +17,7 @@ use Rattle.gs_datasets.proofs.Writing.{all_stay}
 use Rattle.gs_tree_store.specs.declared.books.Books.{Books}
 use Rattle.gs_tree_store.specs.declared.books.Seat.{Seat}
 use Rattle.gs_tree_store.specs.declared.books.Seat.TheVariants.{Idle, Reading}
-use Rattle.gs_tree_store.specs.Books.{books_setting, dataset_of, totals_of, upload_tree, read_tree, is_reading, IsSound, IsReady, HasLedger, HasLedgerAt}
+use Rattle.gs_tree_store.specs.Books.{books_setting, dataset_of, totals_of, upload_tree, read_trees, is_reading, IsSound, IsReady, HasLedger, HasLedgerAt}
 
 -- a pin that is none
 none_pinned : (o : Option ℕ) → is_some o ≡ false → o ≡ None
@@ -60,18 +60,18 @@ same_graphs b d q w sound grows same none commit =
       };
     }
 
--- the ledger at a seat's place, where the tree there is the one that the seat reads
-pub ledger_stays : (c : Books) (s : ℕ) (now : Seat) (us rs : List Tree) → get_or rs s leaf ≡ read_tree c.pool now → s < length rs → HasLedger c (upload_tree c.pool now ∷ us) rs → HasLedgerAt c s now us (set rs s (read_tree c.pool now))
+-- the ledger at a seat's place, where the trees there are those that the seat reads
+pub ledger_stays : (c : Books) (s : ℕ) (now : Seat) (us : List Tree) (rs : List (List Tree)) → get_or rs s [] ≡ read_trees c.pool now → s < length rs → HasLedger c (upload_tree c.pool now ∷ us) rs → HasLedgerAt c s now us (set rs s (read_trees c.pool now))
 ledger_stays c s now us rs read there l =
-    let same : set rs s (read_tree c.pool now) ≡ rs = ap (set rs s) (sym read) ∙ set-get_or rs s leaf in
+    let same : set rs s (read_trees c.pool now) ≡ rs = ap (set rs s) (sym read) ∙ set-get_or rs s [] in
     record {
       ledger = subst (HasLedger c (upload_tree c.pool now ∷ us)) (sym same) l;
       there = subst (λ n. s < n) (sym (ap length same)) there;
-      read = ap (λ ts. get_or ts s leaf) same ∙ read;
+      read = ap (λ ts. get_or ts s []) same ∙ read;
     }
 
--- the end of a read: nothing is pinned, and the tree there is a leaf
-pub read_ends : (b : Books) (s : ℕ) (root : Option ℕ) (last : Option Key) (us rs : List Tree) → s < length b.versions.seats → HasLedgerAt b s (Reading root last) us rs → HasLedgerAt (record b { versions = with_pin b.versions s None }) s Idle us (set rs s leaf)
+-- the end of a read: nothing is pinned, and no tree is there
+pub read_ends : (b : Books) (s : ℕ) (root : Option ℕ) (last : Option Key) (us : List Tree) (rs : List (List Tree)) → s < length b.versions.seats → HasLedgerAt b s (Reading root last) us rs → HasLedgerAt (record b { versions = with_pin b.versions s None }) s Idle us (set rs s [])
 read_ends b s root last us rs there l =
     let gs = graph_trees b.pool b.catalogue.graphs in
     let k = l.ledger in
@@ -82,8 +82,8 @@ read_ends b s root last us rs there l =
         current = k.current;
         staged = k.staged;
         waste = k.waste;
-        read = each_seat (IsReadAt b.pool b.versions.commit gs (dead_at b.pool)) b.versions.seats rs s None leaf there l.there k.read tt;
+        read = each_seat (IsReadAt b.pool b.versions.commit gs (dead_at b.pool)) b.versions.seats rs s None [] there l.there k.read tt;
       };
-      there = omega (arith, length-set rs s leaf, l.there);
-      read = get_or-set_same rs s leaf leaf l.there;
+      there = omega (arith, length-set rs s [], l.there);
+      read = get_or-set_same rs s [] [] l.there;
     }

@@ -1,5 +1,7 @@
 -- A seat beside others: what it shows stays where its trees stay and terms came, and it has a pin where it reads.
-use Rattle.std.proofs.Common.{◌≡◌, ℕ, Bool, true, false, cond, nat_eq, List, ◌++◌, map, length, Option, Some, None, is_some, refl, sym, ap, subst, ◌∙◌}
+use Rattle.std.proofs.Common.{◌≡◌, ℕ, Bool, true, false, cond, nat_eq, List, [], ◌∷◌, ◌++◌, map, length, Option, Some, None, is_some, refl, sym, ap, subst, ◌∙◌}
+use Rattle.std.proofs.lemmas.List.Elements.{All-head}
+use Rattle.std.specs.List.{All}
 use Rattle.gs_model.specs.Terms.{Term}
 use Rattle.gs_event.specs.declared.events.Action.{Action}
 use Rattle.gs_event.specs.declared.events.Action.TheVariants.{Open, OpenPatch, Stage, Commit, CommitPatch, Pin, Piece, Cancel}
@@ -22,7 +24,7 @@ use Rattle.gs_datasets.specs.Trees.{IsMeant, IsPlainTree, Outlasts}
 use Rattle.gs_datasets.proofs.Outlasting.{keys_outlast, keys_last}
 use Rattle.gs_tree_store.specs.declared.books.Seat.{Seat}
 use Rattle.gs_tree_store.specs.declared.books.Seat.TheVariants.{Idle, Writing, Patching, Reading}
-use Rattle.gs_tree_store.specs.Books.{seat_shown, upload_tree, read_tree, is_reading, IsSeat}
+use Rattle.gs_tree_store.specs.Books.{seat_shown, upload_tree, read_trees, is_reading, IsSeat}
 
 -- what holds among some terms holds among these too: of keyed trees, of their lines, and of places to read from
 pub record Outlives (terms now : List Term) : Type 0 where
@@ -56,18 +58,18 @@ module _ (p q : Nodes) where
   same_upload (Patching t r) h = refl
   same_upload (Reading root last) h = refl
 
-  pub same_read : (s : Seat) → KeepsSeat p q s → read_tree q s ≡ read_tree p s
+  pub same_read : (s : Seat) → KeepsSeat p q s → read_trees q s ≡ read_trees p s
   same_read Idle h = refl
   same_read (Writing k r v) h = refl
   same_read (Patching t r) h = refl
-  same_read (Reading root last) h = h
+  same_read (Reading root last) h = ap (λ t. t ∷ []) h
 
-  -- so it does where its tree stands in the other pool
-  pub keeps_seat : (terms : List Term) (s : Seat) → IsSeat terms p s → IsPlainTree q (upload_tree p s) → (is_reading s ≡ true → IsMeant q (read_tree p s)) → KeepsSeat p q s
+  -- so it does where its trees stand in the other pool
+  pub keeps_seat : (terms : List Term) (s : Seat) → IsSeat terms p s → IsPlainTree q (upload_tree p s) → (is_reading s ≡ true → All (IsMeant q) (read_trees p s)) → KeepsSeat p q s
   keeps_seat terms Idle is staged read = tt
   keeps_seat terms (Writing k r v) is staged read = ap (tree_at q) (sym is.root_is) ∙ staged.means
   keeps_seat terms (Patching t r) is staged read = tt
-  keeps_seat terms (Reading root last) is staged read = ap (tree_at q) (sym is.root_is) ∙ (read refl).means
+  keeps_seat terms (Reading root last) is staged read = ap (tree_at q) (sym is.root_is) ∙ (All-head (IsMeant q) (tree_at p root) [] (read refl)).means
 
 module _ (terms now : List Term) (more : Outlives terms now) (p q : Nodes) where
   -- such a seat is one still,

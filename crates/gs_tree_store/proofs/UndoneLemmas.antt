@@ -1,5 +1,5 @@
 -- A draft that was given up: the books are as they were, but that there may be more terms.
-use Rattle.std.proofs.Common.{◌≡◌, ◌+◌, ℕ, false, set, List, ◌∷◌, length, get_or, None, refl, sym, ap, subst, ◌∙◌, true≢false}
+use Rattle.std.proofs.Common.{◌≡◌, ◌+◌, ℕ, false, set, List, [], ◌∷◌, length, get_or, None, refl, sym, ap, subst, ◌∙◌, true≢false}
 use Rattle.std.proofs.lemmas.List.{set-get_or}
 use Rattle.gs_event.specs.declared.events.Action.{Action}
 use Rattle.gs_event.specs.declared.answers.Answer.{Answer}
@@ -24,7 +24,7 @@ use Rattle.gs_datasets.proofs.Outlasting.{keys_outlast}
 use Rattle.gs_tree_store.specs.declared.books.Books.{Books}
 use Rattle.gs_tree_store.specs.declared.books.Seat.{Seat}
 use Rattle.gs_tree_store.specs.declared.books.Seat.TheVariants.{Idle, Writing, Patching, Reading}
-use Rattle.gs_tree_store.specs.Books.{books_setting, dataset_of, totals_of, seat_view, upload_tree, read_tree, is_reading, IsSeat, IsSound, IsReady, HasLedgerAt}
+use Rattle.gs_tree_store.specs.Books.{books_setting, dataset_of, totals_of, seat_view, upload_tree, read_trees, is_reading, IsSeat, IsSound, IsReady, HasLedgerAt}
 use Rattle.gs_tree_store.specs.Actions.{SeatWastes, SeatUses, Acts}
 use Rattle.gs_tree_store.proofs.SeatLemmas.{SameGraphs, same_graphs, same_totals, ledger_stays}
 
@@ -76,13 +76,13 @@ module _ (b : Books) (d : Numbered) (q : Nodes) (grows : Grows b.dict d) (restor
   upload_same (Patching t r) = refl
   upload_same (Reading root last) = refl
 
-  read_same : (seat : Seat) → read_tree q seat ≡ read_tree b.pool seat
+  read_same : (seat : Seat) → read_trees q seat ≡ read_trees b.pool seat
   read_same Idle = refl
   read_same (Writing k r v) = refl
   read_same (Patching t r) = refl
-  read_same (Reading root last) = same.roots root
+  read_same (Reading root last) = ap (λ t. t ∷ []) (same.roots root)
 
-  ledger_same : (s : ℕ) (seat : Seat) (us rs : List Tree) → HasLedgerAt b s seat us rs → HasLedgerAt (with_nodes b d q) s seat us rs
+  ledger_same : (s : ℕ) (seat : Seat) (us : List Tree) (rs : List (List Tree)) → HasLedgerAt b s seat us rs → HasLedgerAt (with_nodes b d q) s seat us rs
   ledger_same s seat us rs l =
       let g = b.catalogue.graphs in
       let here : IsLedger q b.versions (graph_trees b.pool g) (upload_tree b.pool seat ∷ us) rs (dead_at q) = same.ledgers b.versions (graph_trees b.pool g) (upload_tree b.pool seat ∷ us) rs l.ledger in

@@ -77,10 +77,10 @@ restored_step birth p q restores = record {
 
 -- The upload that had the tree `old` has the tree `new`, and no other tree changes.
 module _ (b : Books) (d : Numbered) (q : Nodes) (birth : ℕ) (old new : Tree) (grows : Grows b.dict d) (sound : IsSound b) (step : Step 0 birth b.pool q (occurrences old) (occurrences new)) (tree : IsTreeOf q (b.versions.commit + 1) new) (none : aside_count q ≡ 0) where
-  moved : (us rs : List Tree) → HasLedger b (old ∷ us) rs → GrowsUpload b.versions b.pool q new (graph_trees b.pool b.catalogue.graphs) us rs
+  moved : (us : List Tree) (rs : List (List Tree)) → HasLedger b (old ∷ us) rs → GrowsUpload b.versions b.pool q new (graph_trees b.pool b.catalogue.graphs) us rs
   moved us rs l = upload_grows b.pool q b.versions birth old new (graph_trees b.pool b.catalogue.graphs) us rs l step tree
 
-  module _ (us₀ rs₀ : List Tree) (l₀ : HasLedger b (old ∷ us₀) rs₀) where
+  module _ (us₀ : List Tree) (rs₀ : List (List Tree)) (l₀ : HasLedger b (old ∷ us₀) rs₀) where
     -- the graphs are the same
     pub moved_graphs : SameGraphs b (with_nodes b d q)
     moved_graphs =
@@ -88,7 +88,7 @@ module _ (b : Books) (d : Numbered) (q : Nodes) (birth : ℕ) (old new : Tree) (
         same_graphs b d q b.versions sound grows stay none refl
 
     -- the ledger has the new tree
-    pub moved_ledger : (us rs : List Tree) → HasLedger b (old ∷ us) rs → HasLedger (with_nodes b d q) (new ∷ us) rs
+    pub moved_ledger : (us : List Tree) (rs : List (List Tree)) → HasLedger b (old ∷ us) rs → HasLedger (with_nodes b d q) (new ∷ us) rs
     moved_ledger us rs l = subst (λ gs. IsLedger q b.versions gs (new ∷ us) rs (dead_at q)) (sym moved_graphs.trees) (moved us rs l).ledger
 
     -- nothing joins the waste

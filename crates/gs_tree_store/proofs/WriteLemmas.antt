@@ -20,7 +20,7 @@ use Rattle.gs_event.specs.Waste.{Lifetime}
 use Rattle.gs_event.specs.Steps.{Joins, JoinsCopied, IsUnreached, EndsAt, most_for_new, WastesUpload, WastesDelete}
 use Rattle.gs_pool.specs.declared.nodes.Node.{Node}
 use Rattle.gs_pool.specs.Pool.{Nodes, in_use, aside_count}
-use Rattle.gs_tree.specs.Tree.{Tree, leaf, keys, tree_at}
+use Rattle.gs_tree.specs.Tree.{Tree, keys, tree_at}
 use Rattle.gs_keys.specs.Roots.{graph_at}
 use Rattle.gs_staging.proofs.KeyLemmas.{still_grows}
 use Rattle.gs_catalogue.specs.declared.versions.GraphVersion.{GraphVersion}
@@ -92,9 +92,9 @@ pub set_there : {X : Type 0} (xs : List X) (s : ℕ) (d x : X) → get_or xs s d
 set_there xs s d x is = ap (set xs s) (sym is) ∙ set-get_or xs s d
 
 -- the seat is idle, and reads nothing, as before
-pub idle_ledger : (b : Books) (s : ℕ) (us rs : List Tree) → s < length rs → get_or rs s leaf ≡ leaf → HasLedger b us rs → HasLedgerAt b s Idle us (set rs s leaf)
+pub idle_ledger : (b : Books) (s : ℕ) (us : List Tree) (rs : List (List Tree)) → s < length rs → get_or rs s [] ≡ [] → HasLedger b us rs → HasLedgerAt b s Idle us (set rs s [])
 idle_ledger b s us rs there none l =
-    subst (HasLedgerAt b s Idle us) (sym (set_there rs s leaf leaf none))
+    subst (HasLedgerAt b s Idle us) (sym (set_there rs s [] [] none))
     (record { ledger = (leaf_upload b.pool b.versions (graph_trees b.pool b.catalogue.graphs) us rs (dead_at b.pool)).0 l; there = there; read = none })
 
 -- as many nodes are in use where the nodes are the same
@@ -121,7 +121,7 @@ commit_refused b s k r v fits ready = record {
   sound = ready.sound;
   known = ready.known;
   grows = still_grows b.dict b.dict refl;
-  ledgers = λ us rs l. record { ledger = subst (HasLedgerAt b s (Writing k r v) us) (sym (set_there rs s leaf leaf l.read)) l; waste = refl };
+  ledgers = λ us rs l. record { ledger = subst (HasLedgerAt b s (Writing k r v) us) (sym (set_there rs s [] [] l.read)) l; waste = refl };
   uses = refused_uses k r (upload_graph b v) LastNumber (in_use b.pool);
 }
 
@@ -142,7 +142,7 @@ module _ (b : Books) (q : Nodes) (sound : IsSound b) (same : AreSameIn b.pool q 
     base = sound.base;
   }
 
-  graphs_same : (us rs : List Tree) → IsLedger q b.versions (graph_trees b.pool b.catalogue.graphs) us rs (dead_at q) → HasLedger (record b { pool = q }) us rs
+  graphs_same : (us : List Tree) (rs : List (List Tree)) → IsLedger q b.versions (graph_trees b.pool b.catalogue.graphs) us rs (dead_at q) → HasLedger (record b { pool = q }) us rs
   graphs_same us rs l = subst (λ gs. IsLedger q b.versions gs us rs (dead_at q)) (sym (same_trees b.pool q (all_versions b.catalogue.graphs) same)) l
 
 failed_wastes : (v : Totals) (k : UploadKind) (g : Graph) (old new : List Lifetime) → Joins IsUnreached (size_of g) old new → WastesUpload v k g false old new

@@ -18,7 +18,7 @@ use Rattle.gs_staging.specs.Keys.{Grows}
 use Rattle.gs_ledger.specs.Marks.{waste_at}
 use Rattle.gs_tree_store.specs.declared.books.Books.{Books}
 use Rattle.gs_tree_store.specs.declared.books.Seat.{Seat}
-use Rattle.gs_tree_store.specs.Books.{totals_of, seat_view, read_tree, is_writing, IsSeat, IsSound, IsReady, HasLedgerAt}
+use Rattle.gs_tree_store.specs.Books.{totals_of, seat_view, read_trees, is_writing, IsSeat, IsSound, IsReady, HasLedgerAt}
 
 -- what a seat's action that was answered so makes of the waste
 abbrev pub SeatWastes : Totals → SeatView → Action → Answer → List Lifetime → List Lifetime → Type 0
@@ -38,14 +38,14 @@ SeatUses p (CommitPatch ops) (Status status name) old new = Unit {0}
 SeatUses p action a old new = new ≡ old
 
 -- where there was a ledger with the trees of the other seats, there is one still, and the waste is what the action makes of it
-pub record GoesOn (old new : Books) (s : ℕ) (was now : Seat) (action : Action) (answer : Answer) (uploads reads : List Tree) : Type 0 where
-  pub ledger : HasLedgerAt new s now uploads (slice_set reads s (read_tree new.pool now))
+pub record GoesOn (old new : Books) (s : ℕ) (was now : Seat) (action : Action) (answer : Answer) (uploads : List Tree) (reads : List (List Tree)) : Type 0 where
+  pub ledger : HasLedgerAt new s now uploads (slice_set reads s (read_trees new.pool now))
   pub waste : SeatWastes (totals_of old) (seat_view old was) action answer (waste_at old.pool) (waste_at new.pool)
 
 -- that is so whatever trees the other seats have
 abbrev pub GoesOnAll : Books → Books → ℕ → Seat → Seat → Action → Answer → Type 0
 GoesOnAll old new s was now action answer =
-    (uploads reads : List Tree) → HasLedgerAt old s was uploads reads → GoesOn old new s was now action answer uploads reads
+    (uploads : List Tree) (reads : List (List Tree)) → HasLedgerAt old s was uploads reads → GoesOn old new s was now action answer uploads reads
 
 -- what an action of seat s that was answered so made of the books and of the seat
 pub record Acts (old new : Books) (s : ℕ) (was now : Seat) (action : Action) (answer : Answer) : Type 0 where

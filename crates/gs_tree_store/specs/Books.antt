@@ -1,5 +1,5 @@
 -- What the books and the seats of a store over trees show, and what is true of them. No public clause cites this module.
-use Rattle.std.specs.Prelude.{◌≡◌, ◌<◌, ◌≤◌, ℕ, Bool, true, false, List, ◌∷◌, length, Option, None, string_bytes, slice_index_or, is_some}
+use Rattle.std.specs.Prelude.{◌≡◌, ◌<◌, ◌≤◌, ℕ, Bool, true, false, List, [], ◌∷◌, length, Option, None, string_bytes, slice_index_or, is_some}
 use Rattle.std.specs.List.{All}
 use Rattle.gs_model.specs.Terms.{Term}
 use Rattle.gs_model.specs.Bases.{is_base}
@@ -52,10 +52,10 @@ abbrev pub upload_tree : Nodes → Seat → Tree
 upload_tree p (Writing k r v) = tree_at p v.root
 upload_tree p s = leaf
 
--- the tree that the seat reads, a leaf where it reads none
-abbrev pub read_tree : Nodes → Seat → Tree
-read_tree p (Reading root last) = tree_at p root
-read_tree p s = leaf
+-- the trees that the seat reads: the one of its read, and none where it does not read
+abbrev pub read_trees : Nodes → Seat → List Tree
+read_trees p (Reading root last) = tree_at p root ∷ []
+read_trees p s = []
 
 -- whether the seat has an open upload, whose commit may want room for a name
 abbrev pub is_writing : Seat → Bool
@@ -87,19 +87,19 @@ pub record IsSound (b : Books) : Type 0 where
   pub base : is_base (string_bytes b.base) ≡ true
 
 -- the ledger of the books, with these trees of uploads and of reads
-abbrev pub HasLedger : Books → List Tree → List Tree → Type 0
+abbrev pub HasLedger : Books → List Tree → List (List Tree) → Type 0
 HasLedger b uploads reads = IsLedger b.pool b.versions (graph_trees b.pool b.catalogue.graphs) uploads reads (dead_at b.pool)
 
 -- the ledger where seat s is this one: its upload stands before those of the others
-pub record HasLedgerAt (b : Books) (s : ℕ) (seat : Seat) (uploads reads : List Tree) : Type 0 where
+pub record HasLedgerAt (b : Books) (s : ℕ) (seat : Seat) (uploads : List Tree) (reads : List (List Tree)) : Type 0 where
   pub ledger : HasLedger b (upload_tree b.pool seat ∷ uploads) reads
   pub there : s < length reads
-  pub read : slice_index_or reads s leaf ≡ read_tree b.pool seat
+  pub read : slice_index_or reads s [] ≡ read_trees b.pool seat
 
 -- some trees of the other seats have a ledger with the books and this seat
 pub record HasSomeLedger (b : Books) (s : ℕ) (seat : Seat) : Type 0 where
   pub uploads : List Tree
-  pub reads : List Tree
+  pub reads : List (List Tree)
   pub ledger : HasLedgerAt b s seat uploads reads
 
 -- books and one of their seats, before an action

@@ -15,14 +15,14 @@ use Rattle.gs_tree_store.specs.Books.{dataset_of, IsSound, HasLedger}
 -- some trees of the seats have a ledger with the books
 pub record HasAny (b : Books) : Type 0 where
   pub uploads : List Tree
-  pub reads : List Tree
+  pub reads : List (List Tree)
   pub ledger : HasLedger b uploads reads
 
 -- an upload is the version of a graph, and some trees of the other seats have a ledger with it
 pub record HasUpload (b : Books) (v : GraphVersion) : Type 0 where
   pub version : IsVersion b.dict.terms b.pool v
   pub uploads : List Tree
-  pub reads : List Tree
+  pub reads : List (List Tree)
   pub ledger : HasLedger b (tree_at b.pool v.root ∷ uploads) reads
 
 -- what is kept of the books by a write: all but the dataset, the nodes' marks and the commit number
@@ -36,7 +36,7 @@ pub record KeepsBooks (old new : Books) : Type 0 where
   pub nodes : new.pool.nodes ≡ old.pool.nodes
 
 -- the ledger goes on, and at most so many nodes, which a version had, join the waste by this commit
-pub record Ends (old new : Books) (size : ℕ) (uploads reads : List Tree) : Type 0 where
+pub record Ends (old new : Books) (size : ℕ) (uploads : List Tree) (reads : List (List Tree)) : Type 0 where
   pub ledger : HasLedger new uploads reads
   pub waste : Joins (EndsAt (old.versions.commit + 1)) size (waste_at old.pool) (waste_at new.pool)
 
@@ -45,7 +45,7 @@ pub record Puts (old new : Books) (t : Target) (v : GraphVersion) : Type 0 where
   pub dataset : dataset_of new ≡ with_graph (dataset_of old) t (graph_at old.dict.terms old.pool v.root)
   pub kept : KeepsBooks old new
   pub sound : IsSound new
-  pub ledgers : (uploads reads : List Tree) → HasLedger old (tree_at old.pool v.root ∷ uploads) reads → Ends old new (size_at (dataset_of old) t) uploads reads
+  pub ledgers : (uploads : List Tree) (reads : List (List Tree)) → HasLedger old (tree_at old.pool v.root ∷ uploads) reads → Ends old new (size_at (dataset_of old) t) uploads reads
   pub room : new.catalogue.spare + room_wanted old.catalogue.graphs t ≡ old.catalogue.spare
 
 -- the target has no graph now, or an empty one where it is the default graph
@@ -53,5 +53,5 @@ pub record Removes (old new : Books) (t : Target) : Type 0 where
   pub dataset : dataset_of new ≡ without_graph (dataset_of old) t
   pub kept : KeepsBooks old new
   pub sound : IsSound new
-  pub ledgers : (uploads reads : List Tree) → HasLedger old uploads reads → Ends old new (size_at (dataset_of old) t) uploads reads
+  pub ledgers : (uploads : List Tree) (reads : List (List Tree)) → HasLedger old uploads reads → Ends old new (size_at (dataset_of old) t) uploads reads
   pub room : old.catalogue.spare ≤ new.catalogue.spare
