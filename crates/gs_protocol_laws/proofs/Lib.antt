@@ -3,3 +3,4 @@ pub mod FitLemmas
 pub mod ReadLemmas
 pub mod ReadBackLemmas
 pub mod GivenUpLemmas
+pub mod UploadLemmas
