@@ -4,3 +4,4 @@ pub mod ReadLemmas
 pub mod ReadBackLemmas
 pub mod GivenUpLemmas
 pub mod UploadLemmas
+pub mod PatchLemmas

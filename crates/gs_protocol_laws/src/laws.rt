@@ -7,6 +7,7 @@ ghost use Rattle.gs_protocol_laws.specs.ReadBack.{PatchesAreReadBack, DeletesAre
 ghost use Rattle.gs_protocol_laws.specs.GivenUp.{GivenUpUploadsLeaveNothing};
 ghost use Rattle.gs_protocol_laws.specs.Uploads.{PutUploadsAreReadBack, PostUploadsAreReadBack};
 ghost use Rattle.gs_protocol_laws.specs.Uploads.{NewUploadsAreReadBack};
+ghost use Rattle.gs_protocol_laws.specs.Patches.{WholePatchesAreReadBack, WholeDeletesAreReadBack};
 
 /// What a write that was answered 201 or 204 leaves at its target stays there until a later write of that
 /// target takes effect; any other status changes nothing.
@@ -42,6 +43,12 @@ pub fn uploads_are_read_back()
     ensures put { PutUploadsAreReadBack }
     ensures post { PostUploadsAreReadBack }
     ensures new { NewUploadsAreReadBack }
+{}
+
+/// So is what a patch made of a graph, and that a graph was taken away.
+pub fn patches_and_deletes_are_read_back()
+    ensures patch { WholePatchesAreReadBack }
+    ensures delete { WholeDeletesAreReadBack }
 {}
 
 /// An upload or a patch that was given up leaves nothing: all that the store was asked while it was open
