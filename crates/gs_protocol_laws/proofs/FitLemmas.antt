@@ -14,7 +14,7 @@ use Rattle.gs_event.specs.Phases.{Phase, Idle, Writing, Patching, Reading, write
 use Rattle.gs_event.specs.Views.{Totals, SeatView, Fits, FitsSeat, is_written}
 use Rattle.gs_event.specs.Histories.{History, OpenRead, Start, IsLegal, phase_of, operation_by, seat_view, view_of, dataset_after}
 use Rattle.gs_event.proofs.HistoryLemmas.{at_place}
-use Rattle.gs_protocol_laws.specs.ReadBack.{name_in}
+use Rattle.gs_protocol_laws.specs.ReadBack.{name_answered}
 
 -- An earlier part of a legal history is legal
 pub legal_before : (start : Start) (before later : History) → IsLegal start (later ++ before) → IsLegal start before
@@ -34,7 +34,7 @@ fits_phase start h s action a f = go (slice_get (view_of start h).seats s) refl 
 -- the status that is answered is that of what was asked, and so is the name
 record Tells (v : Totals) (q : Operation) (a : Answer) : Type 0 where
   pub status : is_written a ≡ true → is_success (status_of v.setting v.dataset q) ≡ true
-  pub name : (n : List ℕ) → name_in a ≡ Some n → location_of v.setting v.dataset q ≡ Some n
+  pub name : (n : List ℕ) → name_answered a ≡ Some n → location_of v.setting v.dataset q ≡ Some n
 
 same_asked : (r q : Operation) → Some r ≡ Some q → r ≡ q
 same_asked r q is = cc
@@ -65,7 +65,7 @@ pub took_effect : (start : Start) (h : History) (x : Event × Answer) (q : Opera
 took_effect start h x q legal is e = (event_tells start h x.0 x.1 q legal.1 is).status e
 
 -- The name that was answered is the one that was made up.
-pub name_made : (start : Start) (h : History) (x : Event × Answer) (q : Operation) (n : List ℕ) → IsLegal start (x ∷ h) → operation_by h x.0 x.1 ≡ Some q → name_in x.1 ≡ Some n
+pub name_made : (start : Start) (h : History) (x : Event × Answer) (q : Operation) (n : List ℕ) → IsLegal start (x ∷ h) → operation_by h x.0 x.1 ≡ Some q → name_answered x.1 ≡ Some n
     → location_of start.setting (dataset_after start.setting h) q ≡ Some n
 name_made start h x q n legal is e = (event_tells start h x.0 x.1 q legal.1 is).name n e
 

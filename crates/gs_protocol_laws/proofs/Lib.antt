@@ -3,3 +3,5 @@ pub mod FitLemmas
 pub mod ReadLemmas
 pub mod ReadBackLemmas
 pub mod GivenUpLemmas
+pub mod UploadLemmas
+pub mod PatchLemmas

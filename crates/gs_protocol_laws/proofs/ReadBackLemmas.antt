@@ -9,14 +9,14 @@ use Rattle.gs_event.specs.declared.answers.Answer.{Answer}
 use Rattle.gs_event.specs.Datasets.{graph_at, lines_if}
 use Rattle.gs_event.specs.Operations.{Setting, Operation, Puts, Posts, Creates, Patches, Deletes, after, after_all, status_of, is_success}
 use Rattle.gs_event.specs.Histories.{History, Start, IsLegal, dataset_after, operation_by, points_of}
-use Rattle.gs_protocol_laws.specs.Writes.{Writes, status_without}
-use Rattle.gs_protocol_laws.specs.ReadBack.{Does, SpareSince, Shows, IsReadBack, PutsAreReadBack, PostsAreReadBack, CreatesAreReadBack, PatchesAreReadBack, DeletesAreReadBack, GetsAgree}
+use Rattle.gs_protocol_laws.specs.Writes.{TakesEffect, status_without}
+use Rattle.gs_protocol_laws.specs.ReadBack.{IsWrite, SpareSince, Shows, IsReadBack, PutsAreReadBack, PostsAreReadBack, CreatesAreReadBack, PatchesAreReadBack, DeletesAreReadBack, GetsAgree}
 use Rattle.gs_protocol_laws.proofs.WriteLemmas.{after_other, put_own, post_own, create_own, patch_own, delete_own, left_of, status-left, lines-left}
 use Rattle.gs_protocol_laws.proofs.FitLemmas.{legal_before, took_effect, name_made, head_status, pin_status}
 use Rattle.gs_protocol_laws.proofs.ReadLemmas.{gets_give}
 
 -- what an event asks, if anything, leaves a target that it spares
-spares_one : (w : Setting) (t : Target) (qs : List Operation) (o : Option Operation) → IfSome o (λ q. Writes w (after_all w qs) q t → ⊥)
+spares_one : (w : Setting) (t : Target) (qs : List Operation) (o : Option Operation) → IfSome o (λ q. TakesEffect w (after_all w qs) q t → ⊥)
     → graph_at (after_all w (cons_option o qs)) t ≡ graph_at (after_all w qs) t
 spares_one w t qs None s = refl
 spares_one w t qs (Some q) s = after_other w (after_all w qs) q t s
@@ -28,7 +28,7 @@ spares w t before (x ∷ later) s =
     spares_one w t (points_of (later ++ before)) (operation_by (later ++ before) x.0 x.1) s.1 ∙ spares w t before later s.0
 
 -- the target's graph, after a write that took effect and events that spare it
-left_after : (w : Setting) (before : History) (x : Event × Answer) (q : Operation) (t : Target) (o : Option Graph) (later : History) → Does before x q
+left_after : (w : Setting) (before : History) (x : Event × Answer) (q : Operation) (t : Target) (o : Option Graph) (later : History) → IsWrite before x q
     → SpareSince w t (x ∷ before) later → graph_at (after w (dataset_after w before) q) t ≡ o → graph_at (dataset_after w (later ++ x ∷ before)) t ≡ o
 left_after w before x q t o later d s e =
     spares w t (x ∷ before) later s ∙ ap (λ p. graph_at (after_all w (cons_option p (points_of before))) t) d.asks ∙ e

@@ -20,7 +20,7 @@ use Rattle.gs_event.specs.Phases.{Phase, Idle, Reading}
 use Rattle.gs_event.specs.Views.{Totals, Fits, FitsSeat}
 use Rattle.gs_event.specs.Histories.{History, OpenRead, Start, IsLegal, phase_of, seat_view, view_of, dataset_after}
 use Rattle.gs_event.proofs.HistoryLemmas.{later, refused_phase}
-use Rattle.gs_protocol_laws.specs.Reads.{ends_read, LeavesRead, LeaveRead, bytes_given, bytes_by, bytes_to, GetsGiveTheirLines}
+use Rattle.gs_protocol_laws.specs.Reads.{ends_read, LeavesRead, LeaveRead, bytes_given, event_bytes, bytes_to, GetsGiveTheirLines}
 use Rattle.gs_protocol_laws.proofs.FitLemmas.{fits_phase, pin_idle}
 
 -- a read of the target that was pinned after these events, and given so many lines
@@ -91,10 +91,10 @@ own_stands start t before h seat bytes action a f e s = go (fits_phase start h s
 -- one more event
 more_stands : (start : Start) (t : Target) (before h : History) (seat : ℕ) (bytes : List ℕ) (e : Event) (a : Answer) → Fits (view_of start h) e a → LeavesRead seat e a
     → Stands t before h (lines_at (dataset_after start.setting before) t) seat bytes
-    → Stands t before ((e, a) ∷ h) (lines_at (dataset_after start.setting before) t) seat (bytes ++ bytes_by seat e a)
+    → Stands t before ((e, a) ∷ h) (lines_at (dataset_after start.setting before) t) seat (bytes ++ event_bytes seat e a)
 more_stands start t before h seat bytes (Reclaim n) a f l s = record { count = s.count; phase = s.phase; given = append-nil bytes ∙ s.given }
 more_stands start t before h seat bytes (At d action) a f l s = go (nat_eq d seat) refl where
-  go : (b : Bool) → nat_eq d seat ≡ b → Stands t before ((At d action, a) ∷ h) (lines_at (dataset_after start.setting before) t) seat (bytes ++ bytes_by seat (At d action) a)
+  go : (b : Bool) → nat_eq d seat ≡ b → Stands t before ((At d action, a) ∷ h) (lines_at (dataset_after start.setting before) t) seat (bytes ++ event_bytes seat (At d action) a)
   go true is =
       let same : d ≡ seat = eqb-true d seat is in
       let next = own_stands start t before h seat bytes action a (subst (λ n. Fits (view_of start h) (At n action) a) same f) (l same) s in
@@ -145,7 +145,7 @@ whole_lines start t before seat since n b legal l = go (fits_phase start h seat 
   s = since_stands start t before seat since legal.0 l
 
   go : (Lines b true ≡ Refused BadSeat) ⊎ FitsSeat (view_of start h).totals (seat_view start.setting (phase_of h seat)) (Piece n) (Lines b true)
-      → bytes_to seat since ++ bytes_by seat (At seat (Piece n)) (Lines b true) ≡ concat lines
+      → bytes_to seat since ++ event_bytes seat (At seat (Piece n)) (Lines b true) ≡ concat lines
   go (inl k) = absurd (cc)
   go (inr k) =
       ap (λ c. bytes_to seat since ++ cond c b.items []) (eq-eqb seat seat refl)

@@ -17,7 +17,7 @@ use Rattle.gs_event.specs.Datasets.{Dataset, name_cmp, graph_at, is_there, with_
 use Rattle.gs_event.specs.Names.{new_name}
 use Rattle.gs_event.specs.Operations.{Setting, Operation, Puts, Posts, Creates, Patches, Deletes, Looks, Reads, is_within, united, stored, stored_status, after, after_all, status_of, location_of, is_success}
 use Rattle.gs_event.proofs.VerdictLemmas.{made_well}
-use Rattle.gs_protocol_laws.specs.Writes.{Writes, SpareTarget, HasGraph, status_without, PutsLeave, PostsLeave, CreatesLeave, PatchesLeave, DeletesLeave, OthersLeaveAll}
+use Rattle.gs_protocol_laws.specs.Writes.{TakesEffect, SpareTarget, HasGraph, status_without, PutsLeave, PostsLeave, CreatesLeave, PatchesLeave, DeletesLeave, OthersLeaveAll}
 
 -- the graph that is stored is there
 with_own : (m : Dataset) (t : Target) (g : Graph) → graph_at (with_graph m t g) t ≡ Some g
@@ -73,7 +73,7 @@ stored_own w m t g e =
     ] e
 
 -- An operation that does not take effect at a target leaves its graph.
-pub after_other : (w : Setting) (m : Dataset) (q : Operation) (t : Target) → (Writes w m q t → ⊥) → graph_at (after w m q) t ≡ graph_at m t
+pub after_other : (w : Setting) (m : Dataset) (q : Operation) (t : Target) → (TakesEffect w m q t → ⊥) → graph_at (after w m q) t ≡ graph_at m t
 after_other w m (Puts u g) t spared = stored_other w m u t g (λ s e. spared (s, e))
 after_other w m (Posts u g) t spared = stored_other w m u t (united (graph_at m u) g) (λ s e. spared (s, e))
 after_other w m (Creates r g) t spared = stored_other w m (Named (new_name w.base m r)) t g (λ s e. spared (s, e))

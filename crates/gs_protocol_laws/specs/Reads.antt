@@ -34,18 +34,18 @@ bytes_given (Piece n) (Lines b end) = b.items
 bytes_given action a = []
 
 -- those that an event gives to a seat
-abbrev pub bytes_by : ℕ → Event → Answer → List ℕ
-bytes_by seat (Reclaim n) a = []
-bytes_by seat (At s action) a = cond (nat_eq s seat) (bytes_given action a) []
+abbrev pub event_bytes : ℕ → Event → Answer → List ℕ
+event_bytes seat (Reclaim n) a = []
+event_bytes seat (At s action) a = cond (nat_eq s seat) (bytes_given action a) []
 
 -- those that these events gave to it, in their order
 abbrev pub bytes_to : ℕ → History → List ℕ
 bytes_to seat [] = []
-bytes_to seat (x ∷ before) = bytes_to seat before ++ bytes_by seat x.0 x.1
+bytes_to seat (x ∷ before) = bytes_to seat before ++ event_bytes seat x.0 x.1
 
 -- A whole GET: after the events before, the seat pinned the target, and was answered 200; it was given pieces since, among events
 -- of other seats, and just now the last of them. These are their bytes.
-pub record Gets (seat : ℕ) (t : Target) (before whole : History) (bytes : List ℕ) : Type 0 where
+pub record IsWholeGet (seat : ℕ) (t : Target) (before whole : History) (bytes : List ℕ) : Type 0 where
   pub since : History
   pub count : ℕ
   pub piece : Vec ℕ Global
@@ -56,4 +56,4 @@ pub record Gets (seat : ℕ) (t : Target) (before whole : History) (bytes : List
 -- A whole GET is given the lines that its target had when it was pinned, whatever other seats did since.
 abbrev pub GetsGiveTheirLines : Type 0
 GetsGiveTheirLines = (start : Start) (before whole : History) (seat : ℕ) (t : Target) (bytes : List ℕ) → IsLegal start whole
-    → Gets seat t before whole bytes → bytes ≡ concat (lines_at (dataset_after start.setting before) t)
+    → IsWholeGet seat t before whole bytes → bytes ≡ concat (lines_at (dataset_after start.setting before) t)

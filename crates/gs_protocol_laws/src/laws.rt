@@ -1,9 +1,13 @@
 //! Laws of the protocol, proved: each body is empty, and the contract is the law.
-ghost use Rattle.gs_protocol_laws.specs.Writes.{PutsLeave, PostsLeave, CreatesLeave, PatchesLeave, DeletesLeave, OthersLeaveAll};
+ghost use Rattle.gs_protocol_laws.specs.Writes.{PutsLeave, PostsLeave, CreatesLeave};
+ghost use Rattle.gs_protocol_laws.specs.Writes.{PatchesLeave, DeletesLeave, OthersLeaveAll};
 ghost use Rattle.gs_protocol_laws.specs.Reads.{GetsGiveTheirLines};
 ghost use Rattle.gs_protocol_laws.specs.ReadBack.{PutsAreReadBack, PostsAreReadBack, CreatesAreReadBack};
 ghost use Rattle.gs_protocol_laws.specs.ReadBack.{PatchesAreReadBack, DeletesAreReadBack, GetsAgree};
 ghost use Rattle.gs_protocol_laws.specs.GivenUp.{GivenUpUploadsLeaveNothing};
+ghost use Rattle.gs_protocol_laws.specs.Uploads.{PutUploadsAreReadBack, PostUploadsAreReadBack};
+ghost use Rattle.gs_protocol_laws.specs.Uploads.{NewUploadsAreReadBack};
+ghost use Rattle.gs_protocol_laws.specs.Patches.{WholePatchesAreReadBack, WholeDeletesAreReadBack};
 
 /// What a write that was answered 201 or 204 leaves at its target stays there until a later write of that
 /// target takes effect; any other status changes nothing.
@@ -31,6 +35,20 @@ pub fn writes_are_read_back()
     ensures create { CreatesAreReadBack }
     ensures patch { PatchesAreReadBack }
     ensures delete { DeletesAreReadBack }
+{}
+
+/// The same of an upload, by the events of its seat alone: what it staged between its opening and its commit
+/// is read back.
+pub fn uploads_are_read_back()
+    ensures put { PutUploadsAreReadBack }
+    ensures post { PostUploadsAreReadBack }
+    ensures new { NewUploadsAreReadBack }
+{}
+
+/// So is what a patch made of a graph, and that a graph was taken away.
+pub fn patches_and_deletes_are_read_back()
+    ensures patch { WholePatchesAreReadBack }
+    ensures delete { WholeDeletesAreReadBack }
 {}
 
 /// An upload or a patch that was given up leaves nothing: all that the store was asked while it was open

@@ -4,5 +4,6 @@
 mod laws;
 
 pub use laws::{
-    gets_give_their_lines, given_up_uploads_leave_nothing, writes_are_read_back, writes_stay,
+    gets_give_their_lines, given_up_uploads_leave_nothing, patches_and_deletes_are_read_back,
+    uploads_are_read_back, writes_are_read_back, writes_stay,
 };
