@@ -28,9 +28,9 @@ pub fn writes_stay()
     ensures others { OthersLeaveAll }
 {}
 
-/// A GET is given the lines that its target had when it was pinned, whatever others write meanwhile; one that
-/// is cut off is given the first of them; and two between whose pins nothing wrote the target are given the
-/// same.
+/// A GET is given the lines that its target had when it was pinned, whatever others write meanwhile; one
+/// that is cut off is given the first of them; and two between whose pins nothing wrote the target are given
+/// the same.
 pub fn gets_give_their_lines()
     ensures lines { GetsGiveTheirLines }
     ensures cut { CutGetsGiveTheFirst }
@@ -76,8 +76,8 @@ pub fn given_up_uploads_leave_nothing()
     ensures given_up { GivenUpUploadsLeaveNothing }
 {}
 
-/// At an idle seat a HEAD has one legal answer: 200 where its target is there and else 404, and no name. A GET
-/// is pinned with that status. Neither is refused.
+/// At an idle seat a HEAD has one legal answer: 200 where its target is there and else 404, and no name. A
+/// GET is pinned with that status. Neither is refused.
 pub fn idle_seats_are_told()
     ensures head { IdleHeadsAreTold }
     ensures get { IdlePinsAreTold }
