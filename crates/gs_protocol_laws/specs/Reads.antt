@@ -1,5 +1,5 @@
 -- What a GET is given by its pieces, in a history of events with their answers (SPARQL 1.1 Graph Store HTTP Protocol, section 5.2).
-use Rattle.std.specs.Prelude.{◌≡◌, ℕ, nat_eq, Bool, true, false, cond, List, [], ◌∷◌, ◌++◌, Vec}
+use Rattle.std.specs.Prelude.{◌≡◌, ℕ, ◌+◌, nat_eq, Bool, true, false, cond, List, [], ◌∷◌, ◌++◌, take, Vec}
 use Rattle.std.specs.List.{concat}
 use Rattle.std.specs.declared.alloc.Global.{Global}
 use Rattle.gs_term.specs.declared.names.Target.{Target}
@@ -57,3 +57,25 @@ pub record IsWholeGet (seat : ℕ) (t : Target) (before whole : History) (bytes 
 abbrev pub GetsGiveTheirLines : Type 0
 GetsGiveTheirLines = (start : Start) (before whole : History) (seat : ℕ) (t : Target) (bytes : List ℕ) → IsLegal start whole
     → IsWholeGet seat t before whole bytes → bytes ≡ concat (lines_at (dataset_after start.setting before) t)
+
+-- how many lines an action asked for, where it was answered with lines
+abbrev pub lines_asked : Action → Answer → ℕ
+lines_asked (Piece n) (Lines b end) = n
+lines_asked action a = 0
+
+-- as many as an event of this seat asked for
+abbrev pub event_lines : ℕ → Event → Answer → ℕ
+event_lines seat (Reclaim n) a = 0
+event_lines seat (At s action) a = cond (nat_eq s seat) (lines_asked action a) 0
+
+-- as many as its pieces asked for in these events
+abbrev pub lines_to : ℕ → History → ℕ
+lines_to seat [] = 0
+lines_to seat (x ∷ before) = lines_to seat before + event_lines seat x.0 x.1
+
+-- A GET that has had only some of its pieces, as one that is cut off, was given the first lines that its target had when it was
+-- pinned, in their order, and nothing else: as many as its pieces asked for.
+abbrev pub CutGetsGiveTheFirst : Type 0
+CutGetsGiveTheFirst = (start : Start) (before since : History) (seat : ℕ) (t : Target) → IsLegal start (since ++ (At seat (Pin t), Pinned 200) ∷ before)
+    → LeaveRead seat since
+    → bytes_to seat since ≡ concat (take (lines_to seat since) (lines_at (dataset_after start.setting before) t))
