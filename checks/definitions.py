@@ -18,9 +18,19 @@ HOME = "docs/PROVED.md"
 # Each promise by its heading in docs/PROVED.md, with the calls whose contract it is.
 PROMISES = (
     ("The headline", ("gs_core::Store::run",)),
+    (
+        "In the words of the protocol",
+        (
+            "gs_protocol_laws::writes_are_read_back",
+            "gs_protocol_laws::gets_give_their_lines",
+            "gs_protocol_laws::given_up_uploads_leave_nothing",
+            "gs_protocol_laws::only_writes_change",
+            "gs_protocol_laws::statuses_tell_what_was_there",
+        ),
+    ),
     ("Bytes to bytes, over many connections", ("gs_world::World::run",)),
     ("Bytes to bytes, for one connection", ("gs_session::serve",)),
-    ("Shared trees freed under live readers", ("gs_reclaim::reclaim",)),
+    ("Shared trees freed under live readers", ("gs_reclaim::reclaim", "gs_tree_store::TreeStore::step")),
     (
         "A locked history that replays",
         (
@@ -206,7 +216,7 @@ def cited_by_call(call):
     for folder, _, files in sorted(os.walk(os.path.join(TOP, "crates", crate, "src"))):
         for file in sorted(it for it in files if it.endswith(".rt")):
             body = text(os.path.join(folder, file))
-            block = rf"(?ms)^impl(?:<[^{{]*?>)? {of[0]}(?:<[^{{]*?>)? \{{.*?^\}}" if of else rf"(?ms)^pub fn {name}\b.*?^\}}"
+            block = rf"(?ms)^impl(?:<[^{{]*?>)? {of[0]}(?:<[^{{]*?>)? \{{.*?^\}}" if of else rf"(?ms)^pub fn {name}\b.*?^\{{?\}}"
             for found in re.findall(block, body):
                 function = re.search(rf"(?ms)^( *)pub fn {name}\b.*?^\1\{{", found)
                 if function:
