@@ -1,12 +1,15 @@
 """Compares the pages with the tree: each edit that must fail is a row of docs/WRONG_BODIES.md, and each row an edit;
-each crate has a page of its own, a line of crates.txt, and a place in docs/PROVED.md and in docs/ARCHITECTURE.md; each
-file and crate that a table of the pages names is there; and so is each file and heading that a link of any page leads to.
-Prints what does not agree, and ends with status 1 if anything is wrong."""
+each crate has a page of its own, a line of crates.txt, and a place in docs/PROVED.md; the picture in docs/ARCHITECTURE.md is that
+of crates.txt (picture.py); each file and crate that a table of the pages names is there; and so is each file and heading that a
+link of any page leads to. Prints what does not agree, and ends with status 1 if anything is wrong."""
 
 import glob
 import os
 import re
 import sys
+
+sys.dont_write_bytecode = True
+import picture
 
 os.chdir(os.path.join(os.path.dirname(os.path.abspath(__file__)), ".."))
 wrong = []
@@ -41,10 +44,11 @@ wrong += [f"docs/WRONG_BODIES.md names {row} twice" for row in sorted({it for it
 for crate in crates:
     if not os.path.isfile(f"crates/{crate}/README.md"):
         wrong.append(f"{crate} has no page of its own")
-    for page in ("docs/PROVED.md", "docs/ARCHITECTURE.md"):
-        if not re.search(rf"\b{crate}\b", text(page)):
-            wrong.append(f"{page} does not name {crate}")
+    if not re.search(rf"\b{crate}\b", text("docs/PROVED.md")):
+        wrong.append(f"docs/PROVED.md does not name {crate}")
 wrong += [f"crates/{name} stands in no line of crates.txt" for name in sorted(os.listdir("crates")) if name not in crates]
+
+wrong += picture.differences()
 
 for page in ("README.md", "CONTRIBUTING.md", "docs/PROVED.md", "docs/ARCHITECTURE.md", "docs/DECISIONS.md", "docs/DEFINITIONS.md", "docs/PROFILE.md"):
     for path in re.findall(r"`((?:gs_|gsd)\w*/(?:src|specs|proofs)/[\w/]+\.(?:rt|antt))`", text(page)):
