@@ -92,6 +92,7 @@ def written(of, on):
     wide = max(len(crate) for _, crates in of for crate in crates)
     for number, (title, crates) in enumerate(of):
         below = "; ".join(of[it][0] for it in on[number])
+        yield from [""] if number else []
         yield f"{title}{f'  (on: {below})' if below else ''}"
         for crate in crates:
             yield f"  {crate:{wide}}  {said_of(crate)}".rstrip()
