@@ -1,7 +1,8 @@
 """Compares the pages with the tree: each edit that must fail is a row of docs/WRONG_BODIES.md, and each row an edit;
 each crate has a page of its own, a line of crates.txt, and a place in docs/PROVED.md; the picture in docs/ARCHITECTURE.md is that
-of crates.txt (picture.py); each file and crate that a table of the pages names is there; and so is each file and heading that a
-link of any page leads to. Prints what does not agree, and ends with status 1 if anything is wrong."""
+of crates.txt (picture.py); the plots in bench/README.md are those of its tables (bench/plots.py); each file and crate that a table
+of the pages names is there; and so is each file and heading that a link of any page leads to. Prints what does not agree, and ends
+with status 1 if anything is wrong."""
 
 import glob
 import os
@@ -9,7 +10,9 @@ import re
 import sys
 
 sys.dont_write_bytecode = True
+sys.path.append(os.path.join(os.path.dirname(os.path.abspath(__file__)), "..", "bench"))
 import picture
+import plots
 
 os.chdir(os.path.join(os.path.dirname(os.path.abspath(__file__)), ".."))
 wrong = []
@@ -48,7 +51,7 @@ for crate in crates:
         wrong.append(f"docs/PROVED.md does not name {crate}")
 wrong += [f"crates/{name} stands in no line of crates.txt" for name in sorted(os.listdir("crates")) if name not in crates]
 
-wrong += picture.differences()
+wrong += picture.differences() + plots.differences()
 
 for page in ("README.md", "CONTRIBUTING.md", "docs/PROVED.md", "docs/ARCHITECTURE.md", "docs/DECISIONS.md", "docs/DEFINITIONS.md", "docs/PROFILE.md"):
     for path in re.findall(r"`((?:gs_|gsd)\w*/(?:src|specs|proofs)/[\w/]+\.(?:rt|antt))`", text(page)):
