@@ -13,6 +13,7 @@ sys.dont_write_bytecode = True
 sys.path.append(os.path.join(os.path.dirname(os.path.abspath(__file__)), "..", "bench"))
 import picture
 import plots
+import wrong_bodies
 
 os.chdir(os.path.join(os.path.dirname(os.path.abspath(__file__)), ".."))
 wrong = []
@@ -34,15 +35,7 @@ def anchors(page):
 
 
 crates = re.findall(r"(?m)^(\w+)[^:#\n]*:", text("crates.txt"))
-rows = re.findall(r"(?m)^\| `(\w+)` \| `(\w+)` \|", text("docs/WRONG_BODIES.md"))
-edits = []
-for crate in crates:
-    folder = f"crates/{crate}/must-fail"
-    for name in sorted(os.listdir(folder)) if os.path.isdir(folder) else []:
-        edits.append((name.removesuffix(".edit"), crate))
-wrong += [f"docs/WRONG_BODIES.md has no row for {name} of {crate}" for name, crate in edits if (name, crate) not in rows]
-wrong += [f"docs/WRONG_BODIES.md names {name} of {crate}, which is no edit" for name, crate in rows if (name, crate) not in edits]
-wrong += [f"docs/WRONG_BODIES.md names {row} twice" for row in sorted({it for it in rows if rows.count(it) > 1})]
+wrong += wrong_bodies.differences() + picture.differences() + plots.differences()
 
 for crate in crates:
     if not os.path.isfile(f"crates/{crate}/README.md"):
@@ -50,8 +43,6 @@ for crate in crates:
     if not re.search(rf"\b{crate}\b", text("docs/PROVED.md")):
         wrong.append(f"docs/PROVED.md does not name {crate}")
 wrong += [f"crates/{name} stands in no line of crates.txt" for name in sorted(os.listdir("crates")) if name not in crates]
-
-wrong += picture.differences() + plots.differences()
 
 for page in ("README.md", "CONTRIBUTING.md", "docs/PROVED.md", "docs/ARCHITECTURE.md", "docs/DECISIONS.md", "docs/DEFINITIONS.md", "docs/PROFILE.md"):
     for path in re.findall(r"`((?:gs_|gsd)\w*/(?:src|specs|proofs)/[\w/]+\.(?:rt|antt))`", text(page)):
