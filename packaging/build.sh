@@ -36,10 +36,12 @@ doc=$root/usr/share/doc/gsd
 
 # put MODE FILE TO: a file of the package.
 put() { install -D -m "$1" "$2" "$root$3"; }
-# text FILE NAME: a page, whose links are to where the package has it.
+# text FILE NAME: a page, whose links are to where the package has it; what the package lacks is named without a link.
 text() {
     mkdir -p "$doc"
-    sed 's|](\.\./|](|g; s|](docs/|](|g; s|](bench/README\.md|](bench.md|g' "$1" > "$doc/$2"
+    sed -E 's|\]\(\.\./|](|g; s|\]\(docs/|](|g; s|\]\(bench/README\.md|](bench.md|g
+        s| \(\[[^]]*\]\(CONTRIBUTING\.md[^)]*\)\)||g
+        s|\[([^]]*)\]\((CONTRIBUTING\.md\|LICENSE\|checks/\|examples/systemd/)[^)]*\)|\1|g' "$1" > "$doc/$2"
     chmod 644 "$doc/$2"
 }
 # page NAME: a manual page.

@@ -1,7 +1,8 @@
 -- What the answers of a legal history say of its phases, and of the statuses of what was asked.
-use Rattle.std.proofs.Common.{◌≡◌, ◌⊎◌, inl, inr, ℕ, List, true, [], ◌∷◌, ◌++◌, Option, Some, None, MatchOption, refl, sym, ap, ◌∙◌, subst, zero-add}
-use Rattle.std.specs.List.{slice_get}
+use Rattle.std.proofs.Common.{◌≡◌, ◌⊎◌, inl, inr, ℕ, zero, suc, ◌+◌, ◌<◌, Bool, true, false, cond, List, [], ◌∷◌, ◌++◌, map, Option, Some, None, MatchOption, refl, sym, ap, ◌∙◌, subst, arith, add-zero, zero-add}
+use Rattle.std.specs.List.{slice_get, range_with_len}
 use Rattle.gs_term.specs.declared.names.Target.{Target}
+use Rattle.gs_model.specs.declared.refusals.Refusal.{Refusal}
 use Rattle.gs_model.specs.declared.refusals.Refusal.TheVariants.{BadSeat}
 use Rattle.gs_event.specs.declared.events.Action.{Action}
 use Rattle.gs_event.specs.declared.events.Action.TheVariants.{Commit, CommitPatch, Delete, Head, Pin}
@@ -9,12 +10,13 @@ use Rattle.gs_event.specs.declared.events.Event.{Event}
 use Rattle.gs_event.specs.declared.events.Event.TheVariants.{Seat as At, Reclaim}
 use Rattle.gs_event.specs.declared.answers.Answer.{Answer}
 use Rattle.gs_event.specs.declared.answers.Answer.TheVariants.{Status, Pinned, Refused}
+use Rattle.gs_event.specs.Datasets.{is_there}
 use Rattle.gs_event.specs.Operations.{Setting, Operation, Patches, Deletes, Looks, Reads, status_of, location_of, is_success}
 use Rattle.gs_event.specs.Phases.{Phase, Idle, Writing, Patching, Reading, write_of, operation_of}
 use Rattle.gs_event.specs.Views.{Totals, SeatView, Fits, FitsSeat, is_written}
 use Rattle.gs_event.specs.Histories.{History, OpenRead, Start, IsLegal, phase_of, operation_by, seat_view, view_of, dataset_after}
 use Rattle.gs_event.proofs.HistoryLemmas.{at_place}
-use Rattle.gs_protocol_laws.specs.ReadBack.{name_in}
+use Rattle.gs_protocol_laws.specs.ReadBack.{name_answered}
 
 -- An earlier part of a legal history is legal
 pub legal_before : (start : Start) (before later : History) → IsLegal start (later ++ before) → IsLegal start before
@@ -31,43 +33,96 @@ fits_phase start h s action a f = go (slice_get (view_of start h).seats s) refl 
   go (Some p) is k = inr (subst (λ q. FitsSeat (view_of start h).totals q action a)
       (sym (rw (← zero-add s) (at_place (λ n. seat_view start.setting (phase_of h n)) 0 start.seats s p is))) k)
 
--- the status that is answered is that of what was asked, and so is the name
-record Tells (v : Totals) (q : Operation) (a : Answer) : Type 0 where
-  pub status : is_written a ≡ true → is_success (status_of v.setting v.dataset q) ≡ true
-  pub name : (n : List ℕ) → name_in a ≡ Some n → location_of v.setting v.dataset q ≡ Some n
+-- at a seat that there is, it fits the phase
+at_index : {X : Type 0} (f : ℕ → X) (a n s : ℕ) → s < n → slice_get (map f (range_with_len a n)) s ≡ Some (f (a + s))
+at_index f a zero s lt = absurd (omega arith)
+at_index f a (suc n) zero lt = ap (λ k. Some (f k)) (sym (add-zero a))
+at_index f a (suc n) (suc s) lt =
+    let more : a + 1 + s ≡ a + suc s = omega arith in
+    at_index f (a + 1) n s (omega arith) ∙ ap (λ k. Some (f k)) more
+
+seat_seen : (start : Start) (h : History) (s : ℕ) → s < start.seats → slice_get (view_of start h).seats s ≡ Some (seat_view start.setting (phase_of h s))
+seat_seen start h s there =
+    at_index (λ n. seat_view start.setting (phase_of h n)) 0 start.seats s there ∙ ap (λ n. Some (seat_view start.setting (phase_of h n))) (zero-add s)
+
+pub fits_there : (start : Start) (h : History) (s : ℕ) (action : Action) (a : Answer) → s < start.seats → Fits (view_of start h) (At s action) a
+    → FitsSeat (view_of start h).totals (seat_view start.setting (phase_of h s)) action a
+fits_there start h s action a there f =
+    subst (λ o. MatchOption o (a ≡ Refused BadSeat) (λ p. FitsSeat (view_of start h).totals p action a)) (seat_seen start h s there) f
+
+-- and what fits the phase fits there
+pub there_fits : (start : Start) (h : History) (s : ℕ) (action : Action) (a : Answer) → s < start.seats
+    → FitsSeat (view_of start h).totals (seat_view start.setting (phase_of h s)) action a → Fits (view_of start h) (At s action) a
+there_fits start h s action a there f =
+    subst (λ o. MatchOption o (a ≡ Refused BadSeat) (λ p. FitsSeat (view_of start h).totals p action a)) (sym (seat_seen start h s there)) f
+
+-- a refusal asks nothing
+refused_asks : (p : Phase OpenRead) (action : Action) (r : Refusal) → operation_of p action (Refused r) ≡ None
+refused_asks Idle (Delete t) r = refl
+refused_asks Idle (Head t) r = refl
+refused_asks Idle (Pin t) r = refl
+refused_asks (Writing k n g) Commit r = refl
+refused_asks (Patching t n) (CommitPatch ops) r = refl
+refused_asks p action r = refl
+
+-- What an answer tells of what was asked: whether it took effect, its status, and its name.
+pub record Tells (v : Totals) (q : Operation) (a : Answer) : Type 0 where
+  pub success : is_success (status_of v.setting v.dataset q) ≡ is_written a
+  pub status : (s : ℕ) (name : Option (List ℕ)) → a ≡ Status s name → s ≡ status_of v.setting v.dataset q
+  pub name : (s : ℕ) (name : Option (List ℕ)) → a ≡ Status s name → name ≡ location_of v.setting v.dataset q
 
 same_asked : (r q : Operation) → Some r ≡ Some q → r ≡ q
 same_asked r q is = cc
 
 status_tells : (v : Totals) (r q : Operation) (s : ℕ) (name : Option (List ℕ)) → Some r ≡ Some q → s ≡ status_of v.setting v.dataset r → name ≡ location_of v.setting v.dataset r
     → Tells v q (Status s name)
-status_tells v r q s name is e f = subst (λ p. Tells v p (Status s name)) (same_asked r q is) (record { status = λ w. ap is_success (sym e) ∙ w; name = λ n w. sym f ∙ w })
+status_tells v r q s name is e f = subst (λ p. Tells v p (Status s name)) (same_asked r q is) (record {
+  success = ap is_success (sym e);
+  status = λ n k same. let here : n ≡ s = cc in here ∙ e;
+  name = λ n k same. let here : k ≡ name = cc in here ∙ f;
+})
+
+-- a question takes no effect
+pub asked_only : (b : Bool) → is_success (cond b 200 404) ≡ false
+asked_only true = refl
+asked_only false = refl
+
+read_tells : (v : Totals) (t : Target) (s : ℕ) (q : Operation) → Some (Reads t) ≡ Some q → Tells v q (Pinned s)
+read_tells v t s q is = subst (λ p. Tells v p (Pinned s)) (same_asked (Reads t) q is)
+    (record { success = asked_only (is_there v.dataset t); status = λ n k same. absurd (cc); name = λ n k same. absurd (cc) })
 
 phase_tells : (v : Totals) (w : Setting) (p : Phase OpenRead) (action : Action) (a : Answer) (q : Operation) → FitsSeat v (seat_view w p) action a → operation_of p action a ≡ Some q → Tells v q a
 phase_tells v w Idle (Delete t) (Status s name) q f is = status_tells v (Deletes t) q s name is f.0 f.1
 phase_tells v w Idle (Head t) (Status s name) q f is = status_tells v (Looks t) q s name is f.0 f.1
-phase_tells v w Idle (Pin t) (Pinned s) q f is = record { status = λ e. absurd (cc); name = λ n e. absurd (cc) }
+phase_tells v w Idle (Pin t) (Pinned s) q f is = read_tells v t s q is
 phase_tells v w (Writing k r g) Commit (Status s name) q f is = status_tells v (write_of k r g) q s name is f.0 f.1
 phase_tells v w (Patching t r) (CommitPatch ops) (Status s name) q f is = status_tells v (Patches t ops.items) q s name is f.0 f.1
 phase_tells v w p action a q f is = absurd (cc)
 
--- so it is of an event of a legal history
-event_tells : (start : Start) (h : History) (e : Event) (a : Answer) (q : Operation) → Fits (view_of start h) e a → operation_by h e a ≡ Some q → Tells (view_of start h).totals q a
-event_tells start h (Reclaim n) a q f is = absurd (cc)
-event_tells start h (At s action) a q f is = go (fits_phase start h s action a f) where
+-- Of an event of a legal history they are told.
+pub event_tells : (start : Start) (h : History) (e : Event) (a : Answer) (q : Operation) → IsLegal start ((e, a) ∷ h) → operation_by h e a ≡ Some q → Tells (view_of start h).totals q a
+event_tells start h (Reclaim n) a q legal is = absurd (cc)
+event_tells start h (At s action) a q legal is = go (fits_phase start h s action a legal.1) where
   go : (a ≡ Refused BadSeat) ⊎ FitsSeat (view_of start h).totals (seat_view start.setting (phase_of h s)) action a → Tells (view_of start h).totals q a
-  go (inl e) = record { status = λ k. absurd (cc); name = λ n k. absurd (cc) }
+  go (inl e) =
+      let none : operation_of (phase_of h s) action a ≡ None = ap (operation_of (phase_of h s) action) e ∙ refused_asks (phase_of h s) action BadSeat in
+      let clash : None ≡ Some q = sym none ∙ is in
+      absurd (cc)
   go (inr k) = phase_tells (view_of start h).totals start.setting (phase_of h s) action a q k is
 
 -- What was answered 201 or 204 took effect.
 pub took_effect : (start : Start) (h : History) (x : Event × Answer) (q : Operation) → IsLegal start (x ∷ h) → operation_by h x.0 x.1 ≡ Some q → is_written x.1 ≡ true
     → is_success (status_of start.setting (dataset_after start.setting h) q) ≡ true
-took_effect start h x q legal is e = (event_tells start h x.0 x.1 q legal.1 is).status e
+took_effect start h x q legal is e = (event_tells start h x.0 x.1 q legal is).success ∙ e
 
 -- The name that was answered is the one that was made up.
-pub name_made : (start : Start) (h : History) (x : Event × Answer) (q : Operation) (n : List ℕ) → IsLegal start (x ∷ h) → operation_by h x.0 x.1 ≡ Some q → name_in x.1 ≡ Some n
+name_told : (v : Totals) (q : Operation) (a : Answer) (n : List ℕ) → Tells v q a → name_answered a ≡ Some n → location_of v.setting v.dataset q ≡ Some n
+name_told v q (Status s name) n k e = sym (k.name s name refl) ∙ e
+name_told v q a n k e = absurd (cc)
+
+pub name_made : (start : Start) (h : History) (x : Event × Answer) (q : Operation) (n : List ℕ) → IsLegal start (x ∷ h) → operation_by h x.0 x.1 ≡ Some q → name_answered x.1 ≡ Some n
     → location_of start.setting (dataset_after start.setting h) q ≡ Some n
-name_made start h x q n legal is e = (event_tells start h x.0 x.1 q legal.1 is).name n e
+name_made start h x q n legal is e = name_told (view_of start h).totals q x.1 n (event_tells start h x.0 x.1 q legal is) e
 
 head_fits : (v : Totals) (w : Setting) (p : Phase OpenRead) (t : Target) (s : ℕ) (name : Option (List ℕ)) → FitsSeat v (seat_view w p) (Head t) (Status s name) → s ≡ status_of v.setting v.dataset (Looks t)
 head_fits v w Idle t s name f = f.0

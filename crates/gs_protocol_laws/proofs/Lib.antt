@@ -2,4 +2,10 @@ pub mod WriteLemmas
 pub mod FitLemmas
 pub mod ReadLemmas
 pub mod ReadBackLemmas
+pub mod UnchangedLemmas
+pub mod AlikeLemmas
 pub mod GivenUpLemmas
+pub mod UploadLemmas
+pub mod PatchLemmas
+pub mod StatusLemmas
+pub mod LineLemmas

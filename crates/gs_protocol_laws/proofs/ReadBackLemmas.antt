@@ -1,37 +1,49 @@
 -- Each write is read back from a legal history.
-use Rattle.std.proofs.Common.{◌≡◌, true, cond, List, [], ◌∷◌, ◌++◌, Option, Some, None, is_some, IfSome, refl, sym, ap, ◌∙◌}
+use Rattle.std.proofs.Common.{◌≡◌, ℕ, true, cond, List, [], ◌∷◌, ◌++◌, Option, Some, None, is_some, IfSome, refl, sym, ap, ◌∙◌, subst}
 use Rattle.std.specs.List.{concat, cons_option}
 use Rattle.gs_model.specs.Graphs.{Graph, lines_of}
 use Rattle.gs_term.specs.declared.names.Target.{Target}
 use Rattle.gs_term.specs.declared.names.Target.TheVariants.{Named}
+use Rattle.gs_event.specs.declared.events.Action.TheVariants.{Pin}
 use Rattle.gs_event.specs.declared.events.Event.{Event}
+use Rattle.gs_event.specs.declared.events.Event.TheVariants.{Seat as At}
 use Rattle.gs_event.specs.declared.answers.Answer.{Answer}
+use Rattle.gs_event.specs.declared.answers.Answer.TheVariants.{Pinned}
 use Rattle.gs_event.specs.Datasets.{graph_at, lines_if}
 use Rattle.gs_event.specs.Operations.{Setting, Operation, Puts, Posts, Creates, Patches, Deletes, after, after_all, status_of, is_success}
+use Rattle.gs_event.specs.Verdicts.{operation_target}
+use Rattle.gs_event.specs.Views.{is_written}
 use Rattle.gs_event.specs.Histories.{History, Start, IsLegal, dataset_after, operation_by, points_of}
-use Rattle.gs_protocol_laws.specs.Writes.{Writes, status_without}
-use Rattle.gs_protocol_laws.specs.ReadBack.{Does, SpareSince, Shows, IsReadBack, PutsAreReadBack, PostsAreReadBack, CreatesAreReadBack, PatchesAreReadBack, DeletesAreReadBack, GetsAgree}
+use Rattle.gs_protocol_laws.specs.Writes.{status_without}
+use Rattle.gs_protocol_laws.specs.Reads.{IsWholeGet}
+use Rattle.gs_protocol_laws.specs.ReadBack.{IsWrite, SpareSince, Shows, IsReadBack, PutsAreReadBack, PostsAreReadBack, CreatesAreReadBack, PatchesAreReadBack, DeletesAreReadBack, GetsAgree}
 use Rattle.gs_protocol_laws.proofs.WriteLemmas.{after_other, put_own, post_own, create_own, patch_own, delete_own, left_of, status-left, lines-left}
-use Rattle.gs_protocol_laws.proofs.FitLemmas.{legal_before, took_effect, name_made, head_status, pin_status}
+use Rattle.gs_protocol_laws.proofs.FitLemmas.{legal_before, event_tells, took_effect, name_made, head_status, pin_status}
 use Rattle.gs_protocol_laws.proofs.ReadLemmas.{gets_give}
 
--- what an event asks, if anything, leaves a target that it spares
-spares_one : (w : Setting) (t : Target) (qs : List Operation) (o : Option Operation) → IfSome o (λ q. Writes w (after_all w qs) q t → ⊥)
+-- what an event asks, if anything, leaves a target that it does not write
+spares_one : (w : Setting) (t : Target) (qs : List Operation) (a : Answer) (o : Option Operation)
+    → ((q : Operation) → o ≡ Some q → is_success (status_of w (after_all w qs) q) ≡ is_written a)
+    → IfSome o (λ q. is_written a ≡ true → operation_target w (after_all w qs) q ≡ t → ⊥)
     → graph_at (after_all w (cons_option o qs)) t ≡ graph_at (after_all w qs) t
-spares_one w t qs None s = refl
-spares_one w t qs (Some q) s = after_other w (after_all w qs) q t s
+spares_one w t qs a None told s = refl
+spares_one w t qs a (Some q) told s = after_other w (after_all w qs) q t (λ effect. s (sym (told q refl) ∙ effect.0) effect.1)
 
 -- later events leave it
-spares : (w : Setting) (t : Target) (before later : History) → SpareSince w t before later → graph_at (dataset_after w (later ++ before)) t ≡ graph_at (dataset_after w before) t
-spares w t before [] s = refl
-spares w t before (x ∷ later) s =
-    spares_one w t (points_of (later ++ before)) (operation_by (later ++ before) x.0 x.1) s.1 ∙ spares w t before later s.0
+pub spares : (start : Start) (t : Target) (before later : History) → IsLegal start (later ++ before) → SpareSince start.setting t before later
+    → graph_at (dataset_after start.setting (later ++ before)) t ≡ graph_at (dataset_after start.setting before) t
+spares start t before [] legal s = refl
+spares start t before (x ∷ later) legal s =
+    spares_one start.setting t (points_of (later ++ before)) x.1 (operation_by (later ++ before) x.0 x.1)
+    (λ q is. (event_tells start (later ++ before) x.0 x.1 q legal is).success) s.1
+    ∙ spares start t before later legal.0 s.0
 
 -- the target's graph, after a write that took effect and events that spare it
-left_after : (w : Setting) (before : History) (x : Event × Answer) (q : Operation) (t : Target) (o : Option Graph) (later : History) → Does before x q
-    → SpareSince w t (x ∷ before) later → graph_at (after w (dataset_after w before) q) t ≡ o → graph_at (dataset_after w (later ++ x ∷ before)) t ≡ o
-left_after w before x q t o later d s e =
-    spares w t (x ∷ before) later s ∙ ap (λ p. graph_at (after_all w (cons_option p (points_of before))) t) d.asks ∙ e
+left_after : (start : Start) (before : History) (x : Event × Answer) (q : Operation) (t : Target) (o : Option Graph) (later : History) → IsLegal start (later ++ x ∷ before)
+    → IsWrite before x q → SpareSince start.setting t (x ∷ before) later → graph_at (after start.setting (dataset_after start.setting before) q) t ≡ o
+    → graph_at (dataset_after start.setting (later ++ x ∷ before)) t ≡ o
+left_after start before x q t o later legal d s e =
+    spares start t (x ∷ before) later legal s ∙ ap (λ p. graph_at (after_all start.setting (cons_option p (points_of before))) t) d.asks ∙ e
 
 -- what is shown of a target by its graph
 shown : (start : Start) (h : History) (t : Target) (o : Option Graph) → graph_at (dataset_after start.setting h) t ≡ o → Shows start h t (cond (is_some o) 200 404) (lines_if o)
@@ -48,7 +60,7 @@ back : (start : Start) (before : History) (x : Event × Answer) (q : Operation) 
     → IsReadBack start before x q t 200 (lines_of g)
 back start before x q t g own later legal d s =
     let sound : IsLegal start (x ∷ before) = legal_before start (x ∷ before) later legal in
-    shown start (later ++ x ∷ before) t (Some g) (left_after start.setting before x q t (Some g) later d s (own sound (took_effect start before x q sound d.asks d.success) d.asks))
+    shown start (later ++ x ∷ before) t (Some g) (left_after start before x q t (Some g) later legal d s (own sound (took_effect start before x q sound d.asks d.success) d.asks))
 
 pub puts_back : PutsAreReadBack
 puts_back start before x t g = back start before x (Puts t g) t g (λ legal e is. put_own start.setting (dataset_after start.setting before) t g e)
@@ -64,7 +76,7 @@ pub patches_back : PatchesAreReadBack
 patches_back start before x t ops = back start before x (Patches t ops) t _ (λ legal e is. patch_own start.setting (dataset_after start.setting before) t ops e)
 
 -- with the status and the lines of a target without a graph
-bare : (start : Start) (h : History) (t : Target) → graph_at (dataset_after start.setting h) t ≡ left_of t → Shows start h t (status_without t) []
+pub bare : (start : Start) (h : History) (t : Target) → graph_at (dataset_after start.setting h) t ≡ left_of t → Shows start h t (status_without t) []
 bare start h t e =
     let s = shown start h t (left_of t) e in
     record {
@@ -76,11 +88,16 @@ bare start h t e =
 pub deletes_back : DeletesAreReadBack
 deletes_back start before x t later legal d s =
     let sound : IsLegal start (x ∷ before) = legal_before start (x ∷ before) later legal in
-    bare start (later ++ x ∷ before) t (left_after start.setting before x (Deletes t) t (left_of t) later d s
+    bare start (later ++ x ∷ before) t (left_after start before x (Deletes t) t (left_of t) later legal d s
     (delete_own start.setting (dataset_after start.setting before) t (took_effect start before x (Deletes t) sound d.asks d.success)))
+
+-- what went before the pin of a whole GET is legal
+pinned_legal : (start : Start) (before whole : History) (seat : ℕ) (t : Target) (bytes : List ℕ) → IsLegal start whole → IsWholeGet seat t before whole bytes → IsLegal start before
+pinned_legal start before whole seat t bytes legal g =
+    (legal_before start ((At seat (Pin t), Pinned 200) ∷ before) g.since (subst (IsLegal start) g.events legal).0).0
 
 pub gets_agree : GetsAgree
 gets_agree start before later whole whole_later seat seat_later t bytes bytes_later legal legal_later s g g_later =
     gets_give start (later ++ before) whole_later seat_later t bytes_later legal_later g_later
-    ∙ ap (λ p. concat (lines_if p)) (spares start.setting t before later s)
+    ∙ ap (λ p. concat (lines_if p)) (spares start t before later (pinned_legal start (later ++ before) whole_later seat_later t bytes_later legal_later g_later) s)
     ∙ sym (gets_give start before whole seat t bytes legal g)

@@ -20,39 +20,40 @@ use Rattle.gs_event.specs.Phases.{Phase, Idle, Reading}
 use Rattle.gs_event.specs.Views.{Totals, Fits, FitsSeat}
 use Rattle.gs_event.specs.Histories.{History, OpenRead, Start, IsLegal, phase_of, seat_view, view_of, dataset_after}
 use Rattle.gs_event.proofs.HistoryLemmas.{later, refused_phase}
-use Rattle.gs_protocol_laws.specs.Reads.{ends_read, LeavesRead, LeaveRead, bytes_given, bytes_by, bytes_to, GetsGiveTheirLines}
+use Rattle.gs_protocol_laws.specs.Reads.{ends_read, LeavesRead, LeaveRead, bytes_given, event_bytes, bytes_to, lines_asked, event_lines, lines_to, GetsGiveTheirLines, CutGetsGiveTheFirst}
 use Rattle.gs_protocol_laws.proofs.FitLemmas.{fits_phase, pin_idle}
 
 -- a read of the target that was pinned after these events, and given so many lines
 abbrev read_of : Target → History → ℕ → Phase OpenRead
 read_of t before k = Reading record { target = t; before = before; given = k }
 
--- what an action that does not end the read gives: n lines more
+-- what an action that does not end the read gives: the lines that it asked for, of those that are left
 record Goes (t : Target) (before h : History) (lines : List (List ℕ)) (k : ℕ) (action : Action) (a : Answer) : Type 0 where
-  pub more : ℕ
-  pub phase : later h (read_of t before k) action a ≡ read_of t before (k + more)
-  pub bytes : bytes_given action a ≡ concat (take more (drop k lines))
+  pub phase : later h (read_of t before k) action a ≡ read_of t before (k + lines_asked action a)
+  pub bytes : bytes_given action a ≡ concat (take (lines_asked action a) (drop k lines))
 
 -- a refusal gives nothing
 refused_bytes : (action : Action) (r : Refusal) → bytes_given action (Refused r) ≡ []
 refused_bytes (Piece n) r = refl
 refused_bytes action r = refl
 
+-- and was asked for nothing
+refused_lines : (action : Action) (r : Refusal) → lines_asked action (Refused r) ≡ 0
+refused_lines (Piece n) r = refl
+refused_lines action r = refl
+
 refused_goes : (t : Target) (before h : History) (lines : List (List ℕ)) (k : ℕ) (action : Action) (r : Refusal) → Goes t before h lines k action (Refused r)
 refused_goes t before h lines k action r = record {
-  more = 0;
-  phase = refused_phase (λ (u : Target). record { target = u; before = h; given = 0 }) (λ (x : OpenRead) (n : ℕ). record { target = x.target; before = x.before; given = x.given + n }) (read_of t before k) action r ∙ ap (read_of t before) (sym (add-zero k));
-  bytes = refused_bytes action r;
+  phase = refused_phase (λ (u : Target). record { target = u; before = h; given = 0 }) (λ (x : OpenRead) (n : ℕ). record { target = x.target; before = x.before; given = x.given + n }) (read_of t before k) action r
+      ∙ ap (read_of t before) (sym (add-zero k))
+      ∙ ap (λ n. read_of t before (k + n)) (sym (refused_lines action r));
+  bytes = refused_bytes action r ∙ ap (λ n. concat (take n (drop k lines))) (sym (refused_lines action r));
 }
 
 goes_on : (v : Totals) (t : Target) (before h : History) (lines : List (List ℕ)) (k : ℕ) (action : Action) (a : Answer) → FitsSeat v (Reading (drop k lines)) action a
     → ends_read action a ≡ false → Goes t before h lines k action a
 goes_on v t before h lines k action (Refused r) f e = refused_goes t before h lines k action r
-goes_on v t before h lines k (Piece n) (Lines b end) f e = record {
-  more = n;
-  phase = ap (λ c. cond c Idle (read_of t before (k + n))) e;
-  bytes = f.1;
-}
+goes_on v t before h lines k (Piece n) (Lines b end) f e = record { phase = ap (λ c. cond c Idle (read_of t before (k + n))) e; bytes = f.1 }
 goes_on v t before h lines k Cancel Cancelled f e = absurd (cc)
 goes_on v t before h lines k (Open u) a f e = absurd f
 goes_on v t before h lines k (OpenPatch u) a f e = absurd f
@@ -65,64 +66,85 @@ goes_on v t before h lines k (Pin u) a f e = absurd f
 goes_on v t before h lines k (Piece n) a f e = absurd f
 goes_on v t before h lines k Cancel a f e = absurd f
 
--- what stands of a read while it goes on: its phase, and the bytes given so far
-record Stands (t : Target) (before h : History) (lines : List (List ℕ)) (seat : ℕ) (bytes : List ℕ) : Type 0 where
-  pub count : ℕ
-  pub phase : phase_of h seat ≡ read_of t before count
-  pub given : bytes ≡ concat (take count lines)
+-- what stands of a read while it goes on: its phase, with as many lines as it asked for, and the bytes given so far
+record Stands (t : Target) (before h : History) (lines : List (List ℕ)) (seat : ℕ) (bytes : List ℕ) (asked : ℕ) : Type 0 where
+  pub phase : phase_of h seat ≡ read_of t before asked
+  pub given : bytes ≡ concat (take asked lines)
 
 -- two spans of lines are one
 spans : (lines : List (List ℕ)) (k n : ℕ) → concat (take k lines) ++ concat (take n (drop k lines)) ≡ concat (take (k + n) lines)
 spans lines k n = sym (ap concat (take-add k n lines) ∙ concat-append (take k lines) (take n (drop k lines)))
 
 -- one more event of the seat
-own_stands : (start : Start) (t : Target) (before h : History) (seat : ℕ) (bytes : List ℕ) (action : Action) (a : Answer)
+own_stands : (start : Start) (t : Target) (before h : History) (seat : ℕ) (bytes : List ℕ) (k : ℕ) (action : Action) (a : Answer)
     → Fits (view_of start h) (At seat action) a → ends_read action a ≡ false
-    → (s : Stands t before h (lines_at (dataset_after start.setting before) t) seat bytes)
-    → Goes t before h (lines_at (dataset_after start.setting before) t) s.count action a
-own_stands start t before h seat bytes action a f e s = go (fits_phase start h seat action a f) where
+    → Stands t before h (lines_at (dataset_after start.setting before) t) seat bytes k
+    → Goes t before h (lines_at (dataset_after start.setting before) t) k action a
+own_stands start t before h seat bytes k action a f e s = go (fits_phase start h seat action a f) where
   go : (a ≡ Refused BadSeat) ⊎ FitsSeat (view_of start h).totals (seat_view start.setting (phase_of h seat)) action a
-      → Goes t before h (lines_at (dataset_after start.setting before) t) s.count action a
-  go (inl k) = subst (λ b. Goes t before h (lines_at (dataset_after start.setting before) t) s.count action b) (sym k)
-      (refused_goes t before h (lines_at (dataset_after start.setting before) t) s.count action BadSeat)
-  go (inr k) = goes_on (view_of start h).totals t before h (lines_at (dataset_after start.setting before) t) s.count action a
-      (subst (λ p. FitsSeat (view_of start h).totals (seat_view start.setting p) action a) s.phase k) e
+      → Goes t before h (lines_at (dataset_after start.setting before) t) k action a
+  go (inl is) = subst (λ b. Goes t before h (lines_at (dataset_after start.setting before) t) k action b) (sym is)
+      (refused_goes t before h (lines_at (dataset_after start.setting before) t) k action BadSeat)
+  go (inr fits) = goes_on (view_of start h).totals t before h (lines_at (dataset_after start.setting before) t) k action a
+      (subst (λ p. FitsSeat (view_of start h).totals (seat_view start.setting p) action a) s.phase fits) e
+
+-- one more event that is none of the seat's
+none_more : (t : Target) (before h : History) (lines : List (List ℕ)) (seat : ℕ) (bytes : List ℕ) (k : ℕ) → Stands t before h lines seat bytes k
+    → Stands t before h lines seat (bytes ++ []) (k + 0)
+none_more t before h lines seat bytes k s = record {
+  phase = s.phase ∙ ap (read_of t before) (sym (add-zero k));
+  given = append-nil bytes ∙ s.given ∙ ap (λ n. concat (take n lines)) (sym (add-zero k));
+}
 
 -- one more event
-more_stands : (start : Start) (t : Target) (before h : History) (seat : ℕ) (bytes : List ℕ) (e : Event) (a : Answer) → Fits (view_of start h) e a → LeavesRead seat e a
-    → Stands t before h (lines_at (dataset_after start.setting before) t) seat bytes
-    → Stands t before ((e, a) ∷ h) (lines_at (dataset_after start.setting before) t) seat (bytes ++ bytes_by seat e a)
-more_stands start t before h seat bytes (Reclaim n) a f l s = record { count = s.count; phase = s.phase; given = append-nil bytes ∙ s.given }
-more_stands start t before h seat bytes (At d action) a f l s = go (nat_eq d seat) refl where
-  go : (b : Bool) → nat_eq d seat ≡ b → Stands t before ((At d action, a) ∷ h) (lines_at (dataset_after start.setting before) t) seat (bytes ++ bytes_by seat (At d action) a)
+more_stands : (start : Start) (t : Target) (before h : History) (seat : ℕ) (bytes : List ℕ) (k : ℕ) (e : Event) (a : Answer) → Fits (view_of start h) e a → LeavesRead seat e a
+    → Stands t before h (lines_at (dataset_after start.setting before) t) seat bytes k
+    → Stands t before ((e, a) ∷ h) (lines_at (dataset_after start.setting before) t) seat (bytes ++ event_bytes seat e a) (k + event_lines seat e a)
+more_stands start t before h seat bytes k (Reclaim n) a f l s =
+    let same = none_more t before h (lines_at (dataset_after start.setting before) t) seat bytes k s in
+    record { phase = same.phase; given = same.given }
+more_stands start t before h seat bytes k (At d action) a f l s = go (nat_eq d seat) refl where
+  lines : List (List ℕ)
+  lines = lines_at (dataset_after start.setting before) t
+
+  go : (b : Bool) → nat_eq d seat ≡ b
+      → Stands t before ((At d action, a) ∷ h) lines seat (bytes ++ event_bytes seat (At d action) a) (k + event_lines seat (At d action) a)
   go true is =
       let same : d ≡ seat = eqb-true d seat is in
-      let next = own_stands start t before h seat bytes action a (subst (λ n. Fits (view_of start h) (At n action) a) same f) (l same) s in
+      let next = own_stands start t before h seat bytes k action a (subst (λ n. Fits (view_of start h) (At n action) a) same f) (l same) s in
       record {
-        count = s.count + next.more;
-        phase = ap (λ b. cond b (later h (phase_of h seat) action a) (phase_of h seat)) is ∙ ap (λ p. later h p action a) s.phase ∙ next.phase;
+        phase = ap (λ b. cond b (later h (phase_of h seat) action a) (phase_of h seat)) is
+            ∙ ap (λ p. later h p action a) s.phase
+            ∙ next.phase
+            ∙ ap (λ b. read_of t before (k + cond b (lines_asked action a) 0)) (sym is);
         given = ap (λ b. bytes ++ cond b (bytes_given action a) []) is
             ∙ ap (λ xs. xs ++ bytes_given action a) s.given
-            ∙ ap (λ xs. concat (take s.count (lines_at (dataset_after start.setting before) t)) ++ xs) next.bytes
-            ∙ spans (lines_at (dataset_after start.setting before) t) s.count next.more;
+            ∙ ap (λ xs. concat (take k lines) ++ xs) next.bytes
+            ∙ spans lines k (lines_asked action a)
+            ∙ ap (λ b. concat (take (k + cond b (lines_asked action a) 0) lines)) (sym is);
       }
-  go false is = record {
-    count = s.count;
-    phase = ap (λ b. cond b (later h (phase_of h seat) action a) (phase_of h seat)) is ∙ s.phase;
-    given = ap (λ b. bytes ++ cond b (bytes_given action a) []) is ∙ append-nil bytes ∙ s.given;
-  }
+  go false is =
+      let same = none_more t before h lines seat bytes k s in
+      record {
+        phase = ap (λ b. cond b (later h (phase_of h seat) action a) (phase_of h seat)) is
+            ∙ same.phase
+            ∙ ap (λ b. read_of t before (k + cond b (lines_asked action a) 0)) (sym is);
+        given = ap (λ b. bytes ++ cond b (bytes_given action a) []) is
+            ∙ same.given
+            ∙ ap (λ b. concat (take (k + cond b (lines_asked action a) 0) lines)) (sym is);
+      }
 
 -- it stands so since the pin
 since_stands : (start : Start) (t : Target) (before : History) (seat : ℕ) (since : History) → IsLegal start (since ++ (At seat (Pin t), Pinned 200) ∷ before) → LeaveRead seat since
-    → Stands t before (since ++ (At seat (Pin t), Pinned 200) ∷ before) (lines_at (dataset_after start.setting before) t) seat (bytes_to seat since)
+    → Stands t before (since ++ (At seat (Pin t), Pinned 200) ∷ before) (lines_at (dataset_after start.setting before) t) seat (bytes_to seat since) (lines_to seat since)
 since_stands start t before seat [] legal l = record {
-  count = 0;
   phase = ap (λ b. cond b (later before (phase_of before seat) (Pin t) (Pinned 200)) (phase_of before seat)) (eq-eqb seat seat refl)
       ∙ ap (λ p. later before p (Pin t) (Pinned 200)) (pin_idle start before seat t 200 legal);
   given = refl;
 }
 since_stands start t before seat (x ∷ since) legal l =
-    more_stands start t before (since ++ (At seat (Pin t), Pinned 200) ∷ before) seat (bytes_to seat since) x.0 x.1 legal.1 l.1 (since_stands start t before seat since legal.0 l.0)
+    more_stands start t before (since ++ (At seat (Pin t), Pinned 200) ∷ before) seat (bytes_to seat since) (lines_to seat since) x.0 x.1 legal.1 l.1
+    (since_stands start t before seat since legal.0 l.0)
 
 -- the last piece has the rest
 last_piece : (v : Totals) (lines : List (List ℕ)) (k n : ℕ) (b : Vec ℕ Global) → FitsSeat v (Reading (drop k lines)) (Piece n) (Lines b true) → concat (take k lines) ++ b.items ≡ concat lines
@@ -141,17 +163,20 @@ whole_lines start t before seat since n b legal l = go (fits_phase start h seat 
   lines : List (List ℕ)
   lines = lines_at (dataset_after start.setting before) t
 
-  s : Stands t before h lines seat (bytes_to seat since)
+  s : Stands t before h lines seat (bytes_to seat since) (lines_to seat since)
   s = since_stands start t before seat since legal.0 l
 
   go : (Lines b true ≡ Refused BadSeat) ⊎ FitsSeat (view_of start h).totals (seat_view start.setting (phase_of h seat)) (Piece n) (Lines b true)
-      → bytes_to seat since ++ bytes_by seat (At seat (Piece n)) (Lines b true) ≡ concat lines
+      → bytes_to seat since ++ event_bytes seat (At seat (Piece n)) (Lines b true) ≡ concat lines
   go (inl k) = absurd (cc)
   go (inr k) =
       ap (λ c. bytes_to seat since ++ cond c b.items []) (eq-eqb seat seat refl)
       ∙ ap (λ xs. xs ++ b.items) s.given
-      ∙ last_piece (view_of start h).totals lines s.count n b (subst (λ p. FitsSeat (view_of start h).totals (seat_view start.setting p) (Piece n) (Lines b true)) s.phase k)
+      ∙ last_piece (view_of start h).totals lines (lines_to seat since) n b (subst (λ p. FitsSeat (view_of start h).totals (seat_view start.setting p) (Piece n) (Lines b true)) s.phase k)
 
 pub gets_give : GetsGiveTheirLines
 gets_give start before whole seat t bytes legal g =
     g.given ∙ whole_lines start t before seat g.since g.count g.piece (subst (IsLegal start) g.events legal) g.goes_on
+
+pub cut_gets_give : CutGetsGiveTheFirst
+cut_gets_give start before since seat t legal l = (since_stands start t before seat since legal l).given

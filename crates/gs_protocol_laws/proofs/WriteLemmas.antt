@@ -3,26 +3,26 @@ use Rattle.std.proofs.Common.{◌≡◌, ◌≢◌, ℕ, true, false, cond, List
 use Rattle.std.specs.Ordering.{is_eq, eq_by_cmp}
 use Rattle.std.specs.Cmp.{Equal-is, tied_itself}
 use Rattle.std.specs.FinMap as fin
-use Rattle.std.proofs.lemmas.Map.Lookups.{exact_bytes}
-use Rattle.std.proofs.lemmas.Cmp.{nat_list_cmp_total}
 use Rattle.std.proofs.lemmas.List.{length-map, nil_from_length}
 use Rattle.gs_model.specs.Graphs.{Graph, empty_graph, triples_of}
 use Rattle.gs_model.specs.Triples.{line_of}
 use Rattle.gs_model.proofs.GraphLemmas.{empty_has_none}
+use Rattle.gs_term.specs.Names.{name_cmp}
+use Rattle.gs_term.proofs.NameLemmas.{name_total, name_exact}
 use Rattle.gs_term.specs.declared.names.Target.{Target}
 use Rattle.gs_term.specs.declared.names.Target.TheVariants.{Default, Named}
 use Rattle.gs_event.specs.declared.updates.Op.{Op}
 use Rattle.gs_event.specs.Updates.{patched}
-use Rattle.gs_event.specs.Datasets.{Dataset, name_cmp, graph_at, is_there, with_graph, without_graph, lines_if}
+use Rattle.gs_event.specs.Datasets.{Dataset, graph_at, is_there, with_graph, without_graph, lines_if}
 use Rattle.gs_event.specs.Names.{new_name}
 use Rattle.gs_event.specs.Operations.{Setting, Operation, Puts, Posts, Creates, Patches, Deletes, Looks, Reads, is_within, united, stored, stored_status, after, after_all, status_of, location_of, is_success}
 use Rattle.gs_event.proofs.VerdictLemmas.{made_well}
-use Rattle.gs_protocol_laws.specs.Writes.{Writes, SpareTarget, HasGraph, status_without, PutsLeave, PostsLeave, CreatesLeave, PatchesLeave, DeletesLeave, OthersLeaveAll}
+use Rattle.gs_protocol_laws.specs.Writes.{TakesEffect, SpareTarget, HasGraph, status_without, PutsLeave, PostsLeave, CreatesLeave, PatchesLeave, DeletesLeave, OthersLeaveAll}
 
 -- the graph that is stored is there
 with_own : (m : Dataset) (t : Target) (g : Graph) → graph_at (with_graph m t g) t ≡ Some g
 with_own m Default g = refl
-with_own m (Named n) g = fin.get-insert nat_list_cmp_total m.named n g n ∙ ap (λ b. cond b (Some g) (fin.get m.named n)) (ap is_eq (tied_itself nat_list_cmp_total n))
+with_own m (Named n) g = fin.get-insert name_total m.named n g n ∙ ap (λ b. cond b (Some g) (fin.get m.named n)) (ap is_eq (tied_itself name_total n))
 
 -- other targets stay as they are
 with_other : (m : Dataset) (t u : Target) (g : Graph) → t ≢ u → graph_at (with_graph m t g) u ≡ graph_at m u
@@ -30,9 +30,9 @@ with_other m Default Default g ne = absurd (ne refl)
 with_other m Default (Named k) g ne = refl
 with_other m (Named n) Default g ne = refl
 with_other m (Named n) (Named k) g ne =
-    fin.get-insert nat_list_cmp_total m.named n g k
+    fin.get-insert name_total m.named n g k
     ∙ elim (eq_by_cmp name_cmp k n) as (λ e. eq_by_cmp name_cmp k n ≡ e → cond e (Some g) (fin.get m.named k) ≡ fin.get m.named k) [
-      | true ↦ λ e. absurd (ne (sym (ap Named (exact_bytes _ _ ((Equal-is _).0 e)))))
+      | true ↦ λ e. absurd (ne (sym (ap Named (name_exact _ _ ((Equal-is _).0 e)))))
       | false ↦ λ e. refl
     ] refl
 
@@ -43,16 +43,16 @@ left_of (Named n) = None
 
 without_own : (m : Dataset) (t : Target) → graph_at (without_graph m t) t ≡ left_of t
 without_own m Default = refl
-without_own m (Named n) = fin.get-remove nat_list_cmp_total m.named n n ∙ ap (λ b. cond b None (fin.get m.named n)) (ap is_eq (tied_itself nat_list_cmp_total n))
+without_own m (Named n) = fin.get-remove name_total m.named n n ∙ ap (λ b. cond b None (fin.get m.named n)) (ap is_eq (tied_itself name_total n))
 
 without_other : (m : Dataset) (t u : Target) → t ≢ u → graph_at (without_graph m t) u ≡ graph_at m u
 without_other m Default Default ne = absurd (ne refl)
 without_other m Default (Named k) ne = refl
 without_other m (Named n) Default ne = refl
 without_other m (Named n) (Named k) ne =
-    fin.get-remove nat_list_cmp_total m.named n k
+    fin.get-remove name_total m.named n k
     ∙ elim (eq_by_cmp name_cmp k n) as (λ e. eq_by_cmp name_cmp k n ≡ e → cond e None (fin.get m.named k) ≡ fin.get m.named k) [
-      | true ↦ λ e. absurd (ne (sym (ap Named (exact_bytes _ _ ((Equal-is _).0 e)))))
+      | true ↦ λ e. absurd (ne (sym (ap Named (name_exact _ _ ((Equal-is _).0 e)))))
       | false ↦ λ e. refl
     ] refl
 
@@ -73,7 +73,7 @@ stored_own w m t g e =
     ] e
 
 -- An operation that does not take effect at a target leaves its graph.
-pub after_other : (w : Setting) (m : Dataset) (q : Operation) (t : Target) → (Writes w m q t → ⊥) → graph_at (after w m q) t ≡ graph_at m t
+pub after_other : (w : Setting) (m : Dataset) (q : Operation) (t : Target) → (TakesEffect w m q t → ⊥) → graph_at (after w m q) t ≡ graph_at m t
 after_other w m (Puts u g) t spared = stored_other w m u t g (λ s e. spared (s, e))
 after_other w m (Posts u g) t spared = stored_other w m u t (united (graph_at m u) g) (λ s e. spared (s, e))
 after_other w m (Creates r g) t spared = stored_other w m (Named (new_name w.base m r)) t g (λ s e. spared (s, e))

@@ -1,5 +1,5 @@
 -- What a GET is given by its pieces, in a history of events with their answers (SPARQL 1.1 Graph Store HTTP Protocol, section 5.2).
-use Rattle.std.specs.Prelude.{◌≡◌, ℕ, nat_eq, Bool, true, false, cond, List, [], ◌∷◌, ◌++◌, Vec}
+use Rattle.std.specs.Prelude.{◌≡◌, ℕ, ◌+◌, nat_eq, Bool, true, false, cond, List, [], ◌∷◌, ◌++◌, take, Vec}
 use Rattle.std.specs.List.{concat}
 use Rattle.std.specs.declared.alloc.Global.{Global}
 use Rattle.gs_term.specs.declared.names.Target.{Target}
@@ -34,18 +34,18 @@ bytes_given (Piece n) (Lines b end) = b.items
 bytes_given action a = []
 
 -- those that an event gives to a seat
-abbrev pub bytes_by : ℕ → Event → Answer → List ℕ
-bytes_by seat (Reclaim n) a = []
-bytes_by seat (At s action) a = cond (nat_eq s seat) (bytes_given action a) []
+abbrev pub event_bytes : ℕ → Event → Answer → List ℕ
+event_bytes seat (Reclaim n) a = []
+event_bytes seat (At s action) a = cond (nat_eq s seat) (bytes_given action a) []
 
 -- those that these events gave to it, in their order
 abbrev pub bytes_to : ℕ → History → List ℕ
 bytes_to seat [] = []
-bytes_to seat (x ∷ before) = bytes_to seat before ++ bytes_by seat x.0 x.1
+bytes_to seat (x ∷ before) = bytes_to seat before ++ event_bytes seat x.0 x.1
 
 -- A whole GET: after the events before, the seat pinned the target, and was answered 200; it was given pieces since, among events
 -- of other seats, and just now the last of them. These are their bytes.
-pub record Gets (seat : ℕ) (t : Target) (before whole : History) (bytes : List ℕ) : Type 0 where
+pub record IsWholeGet (seat : ℕ) (t : Target) (before whole : History) (bytes : List ℕ) : Type 0 where
   pub since : History
   pub count : ℕ
   pub piece : Vec ℕ Global
@@ -56,4 +56,26 @@ pub record Gets (seat : ℕ) (t : Target) (before whole : History) (bytes : List
 -- A whole GET is given the lines that its target had when it was pinned, whatever other seats did since.
 abbrev pub GetsGiveTheirLines : Type 0
 GetsGiveTheirLines = (start : Start) (before whole : History) (seat : ℕ) (t : Target) (bytes : List ℕ) → IsLegal start whole
-    → Gets seat t before whole bytes → bytes ≡ concat (lines_at (dataset_after start.setting before) t)
+    → IsWholeGet seat t before whole bytes → bytes ≡ concat (lines_at (dataset_after start.setting before) t)
+
+-- how many lines an action asked for, where it was answered with lines
+abbrev pub lines_asked : Action → Answer → ℕ
+lines_asked (Piece n) (Lines b end) = n
+lines_asked action a = 0
+
+-- as many as an event of this seat asked for
+abbrev pub event_lines : ℕ → Event → Answer → ℕ
+event_lines seat (Reclaim n) a = 0
+event_lines seat (At s action) a = cond (nat_eq s seat) (lines_asked action a) 0
+
+-- as many as its pieces asked for in these events
+abbrev pub lines_to : ℕ → History → ℕ
+lines_to seat [] = 0
+lines_to seat (x ∷ before) = lines_to seat before + event_lines seat x.0 x.1
+
+-- A GET that has had only some of its pieces, as one that is cut off, was given the first lines that its target had when it was
+-- pinned, in their order, and nothing else: as many as its pieces asked for.
+abbrev pub CutGetsGiveTheFirst : Type 0
+CutGetsGiveTheFirst = (start : Start) (before since : History) (seat : ℕ) (t : Target) → IsLegal start (since ++ (At seat (Pin t), Pinned 200) ∷ before)
+    → LeaveRead seat since
+    → bytes_to seat since ≡ concat (take (lines_to seat since) (lines_at (dataset_after start.setting before) t))

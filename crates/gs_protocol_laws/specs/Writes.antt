@@ -10,13 +10,13 @@ use Rattle.gs_event.specs.Verdicts.{is_named, operation_target}
 use Rattle.gs_event.specs.Operations.{Setting, Operation, Puts, Posts, Creates, Patches, Deletes, Reads, united, after, after_all, status_of, location_of, is_success}
 
 -- the operation took effect at the target: its status is 201 or 204, which no look and no read has
-abbrev pub Writes : Setting → Dataset → Operation → Target → Type 0
-Writes w m q t = (is_success (status_of w m q) ≡ true) × (operation_target w m q ≡ t)
+abbrev pub TakesEffect : Setting → Dataset → Operation → Target → Type 0
+TakesEffect w m q t = (is_success (status_of w m q) ≡ true) × (operation_target w m q ≡ t)
 
 -- of the later operations, the newest first, none took effect at the target; the earlier ones came before them
 abbrev pub SpareTarget : Setting → Target → List Operation → List Operation → Type 0
 SpareTarget w t earlier [] = Unit {0}
-SpareTarget w t earlier (q ∷ later) = SpareTarget w t earlier later × (Writes w (after_all w (later ++ earlier)) q t → ⊥)
+SpareTarget w t earlier (q ∷ later) = SpareTarget w t earlier later × (TakesEffect w (after_all w (later ++ earlier)) q t → ⊥)
 
 -- the target's graph is g: a GET of it is answered 200, and its lines are those of g
 pub record HasGraph (w : Setting) (m : Dataset) (t : Target) (g : Graph) : Type 0 where

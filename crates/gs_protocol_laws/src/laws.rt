@@ -1,9 +1,21 @@
 //! Laws of the protocol, proved: each body is empty, and the contract is the law.
-ghost use Rattle.gs_protocol_laws.specs.Writes.{PutsLeave, PostsLeave, CreatesLeave, PatchesLeave, DeletesLeave, OthersLeaveAll};
-ghost use Rattle.gs_protocol_laws.specs.Reads.{GetsGiveTheirLines};
+ghost use Rattle.std.specs.Prelude.{List, ℕ};
+ghost use Rattle.gs_model.specs.Triples.{RdfTriple};
+ghost use Rattle.gs_protocol_laws.specs.Writes.{PutsLeave, PostsLeave, CreatesLeave};
+ghost use Rattle.gs_protocol_laws.specs.Writes.{PatchesLeave, DeletesLeave, OthersLeaveAll};
+ghost use Rattle.gs_protocol_laws.specs.Reads.{GetsGiveTheirLines, CutGetsGiveTheFirst};
 ghost use Rattle.gs_protocol_laws.specs.ReadBack.{PutsAreReadBack, PostsAreReadBack, CreatesAreReadBack};
 ghost use Rattle.gs_protocol_laws.specs.ReadBack.{PatchesAreReadBack, DeletesAreReadBack, GetsAgree};
-ghost use Rattle.gs_protocol_laws.specs.GivenUp.{GivenUpUploadsLeaveNothing};
+ghost use Rattle.gs_protocol_laws.specs.Unchanged.{OnlyWritesChange, UnwrittenIsMissing, HeadsAgree};
+ghost use Rattle.gs_protocol_laws.specs.GivenUp.{OpenUploadsLeaveNothing, GivenUpUploadsLeaveNothing};
+ghost use Rattle.gs_protocol_laws.specs.Uploads.{PutUploadsAreReadBack, PostUploadsAreReadBack};
+ghost use Rattle.gs_protocol_laws.specs.Uploads.{NewUploadsAreReadBack};
+ghost use Rattle.gs_protocol_laws.specs.Patches.{WholePatchesAreReadBack, WholeDeletesAreReadBack};
+ghost use Rattle.gs_protocol_laws.specs.Statuses.{IdleHeadsAreTold, IdlePinsAreTold};
+ghost use Rattle.gs_protocol_laws.specs.Statuses.{MadeGraphsWereMissing, ChangedGraphsWereThere};
+ghost use Rattle.gs_protocol_laws.specs.Statuses.{MissingGraphsWereMissing};
+ghost use Rattle.gs_protocol_laws.specs.Statuses.{NewGraphsAreNamed, OnlyNewGraphsAreNamed};
+ghost use Rattle.gs_protocol_laws.specs.Lines.{StandsInLine, QuadLinesTell};
 
 /// What a write that was answered 201 or 204 leaves at its target stays there until a later write of that
 /// target takes effect; any other status changes nothing.
@@ -16,11 +28,21 @@ pub fn writes_stay()
     ensures others { OthersLeaveAll }
 {}
 
-/// A GET is given the lines that its target had when it was pinned, whatever others write meanwhile; so two
-/// GETs between which nothing wrote the target are given the same.
+/// A GET is given the lines that its target had when it was pinned, whatever others write meanwhile; one
+/// that is cut off is given the first of them; and two between whose pins nothing wrote the target are given
+/// the same.
 pub fn gets_give_their_lines()
     ensures lines { GetsGiveTheirLines }
+    ensures cut { CutGetsGiveTheFirst }
     ensures agree { GetsAgree }
+{}
+
+/// Nothing changes but by a write that is answered 201 or 204: so a target that nothing wrote is missing, and
+/// two HEADs between which nothing wrote it have one status.
+pub fn only_writes_change()
+    ensures others { OnlyWritesChange }
+    ensures unwritten { UnwrittenIsMissing }
+    ensures heads { HeadsAgree }
 {}
 
 /// A write is read back: where it was answered 201 or 204, and no later write of its target took effect,
@@ -33,8 +55,49 @@ pub fn writes_are_read_back()
     ensures delete { DeletesAreReadBack }
 {}
 
-/// An upload or a patch that was given up leaves nothing: all that the store was asked while it was open
-/// was asked by other seats, so what was staged is in no point.
+/// The same of an upload, by the events of its seat alone: what it staged between its opening and its commit
+/// is read back.
+pub fn uploads_are_read_back()
+    ensures put { PutUploadsAreReadBack }
+    ensures post { PostUploadsAreReadBack }
+    ensures new { NewUploadsAreReadBack }
+{}
+
+/// So is what a patch made of a graph, and that a graph was taken away.
+pub fn patches_and_deletes_are_read_back()
+    ensures patch { WholePatchesAreReadBack }
+    ensures delete { WholeDeletesAreReadBack }
+{}
+
+/// An upload or a patch that was given up, or was not committed yet, leaves nothing: the points are those of
+/// the history without it.
 pub fn given_up_uploads_leave_nothing()
-    ensures { GivenUpUploadsLeaveNothing }
+    ensures open { OpenUploadsLeaveNothing }
+    ensures given_up { GivenUpUploadsLeaveNothing }
+{}
+
+/// At an idle seat a HEAD has one legal answer: 200 where its target is there and else 404, and no name. A
+/// GET is pinned with that status. Neither is refused.
+pub fn idle_seats_are_told()
+    ensures head { IdleHeadsAreTold }
+    ensures get { IdlePinsAreTold }
+{}
+
+/// 201 tells that the target was missing and was made, 204 that it was there, and 404 that it was missing.
+pub fn statuses_tell_what_was_there()
+    ensures made { MadeGraphsWereMissing }
+    ensures changed { ChangedGraphsWereThere }
+    ensures missing { MissingGraphsWereMissing }
+{}
+
+/// A new graph that took effect is answered 201 and its name, and no other answer has a name.
+pub fn only_new_graphs_are_named()
+    ensures named { NewGraphsAreNamed }
+    ensures only { OnlyNewGraphsAreNamed }
+{}
+
+/// A triple's line with a graph's name is its line with the name before the dot, and tells both.
+pub fn lines_with_names_are_lines()
+    ensures line { (name : List ℕ) (t : RdfTriple) → StandsInLine name t }
+    ensures tell { QuadLinesTell }
 {}

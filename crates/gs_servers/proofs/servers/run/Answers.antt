@@ -42,6 +42,7 @@ returns-clause-ended g c =
           (sym (take_front (map (λ x. x.record) back) (after.record ∷ [])) ∙ (ap (λ n. take n (map (λ x. x.record) back ++ after.record ∷ [])) (told ∙ many) ∙ ap (take c.args.workers) (sym records))) served;
       reclaimer = fresh_last (λ x. x.record) last.record after.record back after c.args.workers c.end.result.passes.items refl kept untold.1
           many (c.end.ensures.records ∙ ap (map (λ x. x.record)) c.in-Ok.ensures);
+      within = c.end.ensures.within;
       turned = c.end.ensures.turned;
       many = c.end.ensures.many;
       stand = c.end.ensures.stand;

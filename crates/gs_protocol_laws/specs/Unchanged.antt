@@ -1,0 +1,29 @@
+-- What stays as it was where nothing was written (SPARQL 1.1 Graph Store HTTP Protocol, sections 5.2 and 5.6).
+use Rattle.std.specs.Prelude.{◌≡◌, ℕ, false, List, [], ◌∷◌, ◌++◌, Option}
+use Rattle.gs_term.specs.declared.names.Target.{Target}
+use Rattle.gs_event.specs.declared.events.Action.TheVariants.{Head}
+use Rattle.gs_event.specs.declared.events.Event.{Event}
+use Rattle.gs_event.specs.declared.events.Event.TheVariants.{Seat as At}
+use Rattle.gs_event.specs.declared.answers.Answer.{Answer}
+use Rattle.gs_event.specs.declared.answers.Answer.TheVariants.{Status}
+use Rattle.gs_event.specs.Views.{is_written}
+use Rattle.gs_event.specs.Histories.{History, Start, IsLegal, dataset_after}
+use Rattle.gs_protocol_laws.specs.Writes.{status_without}
+use Rattle.gs_protocol_laws.specs.ReadBack.{SpareSince, Shows}
+
+-- An event that was not answered 201 or 204 leaves all graphs as they were: an opening, a stage, a piece, a giving up, a refusal, and
+-- each write that was answered otherwise.
+abbrev pub OnlyWritesChange : Type 0
+OnlyWritesChange = (start : Start) (before : History) (x : Event × Answer) → IsLegal start (x ∷ before) → is_written x.1 ≡ false
+    → dataset_after start.setting (x ∷ before) ≡ dataset_after start.setting before
+
+-- A target that nothing wrote since the start is missing: 404, and for the default graph 200 and no line.
+abbrev pub UnwrittenIsMissing : Type 0
+UnwrittenIsMissing = (start : Start) (h : History) (t : Target) → IsLegal start h → SpareSince start.setting t [] h
+    → Shows start h t (status_without t) []
+
+-- Two HEADs of a target between which nothing wrote it have one status.
+abbrev pub HeadsAgree : Type 0
+HeadsAgree = (start : Start) (before between : History) (seat seat_later s s_later : ℕ) (t : Target) (name name_later : Option (List ℕ))
+    → IsLegal start ((At seat_later (Head t), Status s_later name_later) ∷ (between ++ (At seat (Head t), Status s name) ∷ before))
+    → SpareSince start.setting t ((At seat (Head t), Status s name) ∷ before) between → s_later ≡ s
