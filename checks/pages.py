@@ -1,12 +1,21 @@
-"""Compares the pages with the tree: each edit that must fail is a row of docs/WRONG_BODIES.md, and each row an edit;
-each crate has a page of its own, a line of crates.txt, and a place in docs/PROVED.md and in docs/ARCHITECTURE.md; each
-file and crate that a table of the pages names is there; and so is each file and heading that a link of any page leads to.
-Prints what does not agree, and ends with status 1 if anything is wrong."""
+"""Compares the pages with the tree: each edit that must fail is a row of docs/WRONG_BODIES.md, and each row an edit, with the promise
+that the edit names (wrong_bodies.py); the index in docs/DEFINITIONS.md is that of the definitions (index.py); the picture in
+docs/ARCHITECTURE.md is that of crates.txt (picture.py); the plots in bench/README.md are those of its tables (bench/plots.py); each
+crate has a page of its own, a line of crates.txt, and a place in docs/PROVED.md; each file and crate that a table of the pages names
+is there; and so is each file and heading that a link of any page leads to. Prints what does not agree, and ends with status 1 if
+anything is wrong."""
 
 import glob
 import os
 import re
 import sys
+
+sys.dont_write_bytecode = True
+sys.path.append(os.path.join(os.path.dirname(os.path.abspath(__file__)), "..", "bench"))
+import index
+import picture
+import plots
+import wrong_bodies
 
 os.chdir(os.path.join(os.path.dirname(os.path.abspath(__file__)), ".."))
 wrong = []
@@ -28,22 +37,13 @@ def anchors(page):
 
 
 crates = re.findall(r"(?m)^(\w+)[^:#\n]*:", text("crates.txt"))
-rows = re.findall(r"(?m)^\| `(\w+)` \| `(\w+)` \|", text("docs/WRONG_BODIES.md"))
-edits = []
-for crate in crates:
-    folder = f"crates/{crate}/must-fail"
-    for name in sorted(os.listdir(folder)) if os.path.isdir(folder) else []:
-        edits.append((name.removesuffix(".edit"), crate))
-wrong += [f"docs/WRONG_BODIES.md has no row for {name} of {crate}" for name, crate in edits if (name, crate) not in rows]
-wrong += [f"docs/WRONG_BODIES.md names {name} of {crate}, which is no edit" for name, crate in rows if (name, crate) not in edits]
-wrong += [f"docs/WRONG_BODIES.md names {row} twice" for row in sorted({it for it in rows if rows.count(it) > 1})]
+wrong += wrong_bodies.differences() + index.differences() + picture.differences() + plots.differences()
 
 for crate in crates:
     if not os.path.isfile(f"crates/{crate}/README.md"):
         wrong.append(f"{crate} has no page of its own")
-    for page in ("docs/PROVED.md", "docs/ARCHITECTURE.md"):
-        if not re.search(rf"\b{crate}\b", text(page)):
-            wrong.append(f"{page} does not name {crate}")
+    if not re.search(rf"\b{crate}\b", text("docs/PROVED.md")):
+        wrong.append(f"docs/PROVED.md does not name {crate}")
 wrong += [f"crates/{name} stands in no line of crates.txt" for name in sorted(os.listdir("crates")) if name not in crates]
 
 for page in ("README.md", "CONTRIBUTING.md", "docs/PROVED.md", "docs/ARCHITECTURE.md", "docs/DECISIONS.md", "docs/DEFINITIONS.md", "docs/PROFILE.md"):
