@@ -282,9 +282,78 @@ def readers_end(program, rounds, wanted=0.020):
     return holds
 
 
+HEAD = b"HEAD /store?default HTTP/1.1\r\nHost: a\r\n\r\n"
+
+
+def silent_row(program, asks, many=64):
+    """How long one more client waits beside so many that stay: they asked once and were answered, or said nothing at all."""
+    with Server(program, "--workers", "4") as server:
+        clients = [Client(server) for _ in range(many)]
+        try:
+            if asks:
+                for client in clients:
+                    client.send(HEAD)
+                for client in clients:
+                    client.reply()
+            more = Client(server)
+            start = time.perf_counter()
+            is_right = more.status(HEAD) == 200
+        except TimeoutError:
+            server.process.kill()
+            return float("inf")
+        if not is_right:
+            raise SystemExit("a HEAD of the default graph is not answered 200")
+        return time.perf_counter() - start
+
+
+def kept_row(program, many=64, seconds=10):
+    """The longest wait of so many clients that each ask once a second over a connection that is kept."""
+    longest = [float("inf")] * many
+
+    def run(number, server, end):
+        time.sleep(number / many)
+        client, most = Client(server), 0.0
+        while time.perf_counter() < end:
+            start = time.perf_counter()
+            if client.status(HEAD) != 200:
+                return
+            taken = time.perf_counter() - start
+            most = max(most, taken)
+            time.sleep(max(0.0, 1 - taken))
+        longest[number] = most
+
+    with Server(program, "--workers", "4") as server:
+        end = time.perf_counter() + seconds
+        threads = [threading.Thread(target=run, args=(number, server, end), daemon=True) for number in range(many)]
+        for thread in threads:
+            thread.start()
+        for thread in threads:
+            thread.join(timeout=end + PATIENCE - time.perf_counter())
+    return max(longest)
+
+
+# What 64 clients do on four workers, and in what time (seconds) a reply is wanted.
+MANY = [
+    ("one more beside 64 clients that asked once and stay", lambda program: silent_row(program, True), 3.0),
+    ("one more beside 64 clients that say nothing", lambda program: silent_row(program, False), 3.0),
+    ("64 clients that ask once a second over connections that they keep", kept_row, 2.0),
+]
+
+
+def many_clients(program, rounds):
+    right = True
+    for name, row, wanted in MANY:
+        waited = min(row(program) for _ in range(rounds))
+        holds = waited <= wanted
+        right = right and holds
+        missed = "" if holds else ": MISSED"
+        print(f"{name}: waited {waited:.3f} s (at most {wanted:g}){missed}", flush=True)
+    return right
+
+
 def main():
     program, rounds = sys.argv[1], int(sys.argv[2]) if len(sys.argv) > 2 else 3
-    held = [patterns(program, rounds), slow_reader(program, rounds), readers_end(program, rounds)]
+    held = [patterns(program, rounds), slow_reader(program, rounds), readers_end(program, rounds), many_clients(program, rounds)]
     sys.exit(0 if all(held) else 1)
 
 

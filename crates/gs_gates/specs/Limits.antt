@@ -5,6 +5,18 @@ use Rattle.std.specs.Prelude.{ℕ, ◌*◌, min, max}
 abbrev pub patience : ℕ
 patience = 30_000_000_000
 
+-- 60 seconds, which a client may take in all for a head, for each 8 KiB of a body, and for each text that it is sent
+abbrev pub whole : ℕ
+whole = 60_000_000_000
+
+-- 1 second, after which a connection gives way to others that wait
+abbrev pub idleness : ℕ
+idleness = 1_000_000_000
+
+-- 10 milliseconds, for which a worker serves a connection while others wait
+abbrev pub share : ℕ
+share = 10_000_000
+
 -- 50 milliseconds, the rest after an accept that failed
 abbrev pub accept_pause : ℕ
 accept_pause = 50_000_000

@@ -13,8 +13,9 @@ mod reclaimers;
 pub use accepting::accept_all;
 pub use gates::{Gate, GateDoor, OpenGate};
 pub use limits::{
-    ACCEPT_PAUSE_MILLISECONDS, LINGER_SECONDS, PATIENCE_SECONDS, RECLAIM_NODES, WAITING_NOTES,
-    WAITING_STREAMS, patience,
+    ACCEPT_PAUSE_MILLISECONDS, IDLE_SECONDS, LINGER_SECONDS, PATIENCE_SECONDS, PLACES,
+    RECLAIM_NODES, SHARE_MILLISECONDS, WAITING_NOTES, WAITING_PLACES, WAITING_STREAMS,
+    WHOLE_SECONDS, idleness, patience, share, whole,
 };
 pub use lingering::linger;
 pub use notes::{Note, NoteDoor};

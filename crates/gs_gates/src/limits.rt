@@ -9,6 +9,18 @@ use std::time::Duration;
 /// The seconds that one read or one write of a connection may wait for its client.
 pub const PATIENCE_SECONDS: u64 = 30;
 
+/// The seconds that a client may take in all for a head, for each 8 KiB of a body, and for each text that
+/// it is sent.
+pub const WHOLE_SECONDS: u64 = 60;
+
+/// The seconds after which a connection gives way, where no byte of its next request came and others
+/// wait.
+pub const IDLE_SECONDS: u64 = 1;
+
+/// The milliseconds for which a worker serves a connection while others wait. Between two requests it
+/// waits for no longer either.
+pub const SHARE_MILLISECONDS: u64 = 10;
+
 /// The milliseconds of rest after an accept that failed.
 pub const ACCEPT_PAUSE_MILLISECONDS: u64 = 50;
 
@@ -17,6 +29,12 @@ pub const RECLAIM_NODES: u64 = 4_096;
 
 /// The accepted connections that may wait for a worker. More wait in the system's own queue.
 pub const WAITING_STREAMS: usize = 16;
+
+/// The connections between two requests that may wait for a worker, once they gave way to others.
+pub const PLACES: usize = 256;
+
+/// The room for them: each of up to 256 workers may look at one, and give one back, at the same time.
+pub const WAITING_PLACES: usize = 768;
 
 /// The notes that may wait for the reclaimer. Where one waits none is sent, so there are more only where
 /// several workers looked at the same time.
@@ -47,6 +65,28 @@ pub fn patience() -> Duration
     ensures { as_nanos result ≡ spec.patience }
 {
     Duration::from_secs(PATIENCE_SECONDS)
+}
+
+/// How long a client may take in all for a head, for each 8 KiB of a body, and for each text that it is
+/// sent.
+pub fn whole() -> Duration
+    ensures { as_nanos result ≡ spec.whole }
+{
+    Duration::from_secs(WHOLE_SECONDS)
+}
+
+/// After how long a connection gives way to others that wait.
+pub fn idleness() -> Duration
+    ensures { as_nanos result ≡ spec.idleness }
+{
+    Duration::from_secs(IDLE_SECONDS)
+}
+
+/// How long a worker serves a connection while others wait.
+pub fn share() -> Duration
+    ensures { as_nanos result ≡ spec.share }
+{
+    Duration::from_millis(SHARE_MILLISECONDS)
 }
 
 /// The rest after an accept that failed.

@@ -12,10 +12,13 @@ ghost use Rattle.gs_workers.specs.Served.{IsPromised, WasServed};
 
 use crate::promises::{AsBefore, Served};
 use crossbeam_channel::{Receiver, Sender, bounded};
-use gs_gates::{Gate, Note, WAITING_NOTES, WAITING_STREAMS, accept_all, patience, reclaim};
+use gs_gates::{
+    Gate, Note, WAITING_NOTES, WAITING_PLACES, WAITING_STREAMS, accept_all, patience, reclaim,
+    whole,
+};
 use gs_model::Refusal;
 use gs_shared::{Ended, Hall, Pass, Room, Shared, Side, StampCell, Token, stamp_cell};
-use gs_workers::{Plan, work};
+use gs_workers::{Plan, Queue, Waiting, work};
 use std::alloc::{AllocError, Global};
 use std::marker::Brand;
 use std::net::TcpListener;
@@ -75,6 +78,7 @@ fn with_threads<
 {
     let alloc = plan.alloc;
     let (to_workers, streams) = bounded(alloc, WAITING_STREAMS).ok()?;
+    let (to_places, places) = bounded(alloc, WAITING_PLACES).ok()?;
     let (to_reclaimer, notes) = bounded(alloc, WAITING_NOTES).ok()?;
     thread::scope(
         thread::scope_env(),
@@ -95,16 +99,24 @@ fn with_threads<
                 .ok()?;
             for pass in passes {
                 let own_streams: Receiver<_> = streams.clone().ok()?;
+                let own_places: Receiver<Waiting> = places.clone().ok()?;
+                let queue = Queue {
+                    streams: own_streams,
+                    to_places: to_places.clone().ok()?,
+                    places: own_places,
+                };
                 let own_notes: Sender<Note> = to_reclaimer.clone().ok()?;
                 let before = Snapshot::of(&pass);
                 let worker = scope
                     .spawn_with(Served { before, plan }, move || {
-                        work(rt, plan, hall, gate, own_streams, own_notes, pass)
+                        work(rt, plan, hall, gate, queue, own_notes, pass)
                     })
                     .ok()?;
                 workers.push_reserved(worker);
             }
             drop(streams);
+            drop(to_places);
+            drop(places);
             drop(to_reclaimer);
             accept_all(rt, listener, limit, to_workers);
             let back = join_all(rt, workers, back);
@@ -260,6 +272,7 @@ pub fn serve_all<G: Gate + Sync, R: Threads + Wait + Clock + RandomSource + Sync
         base,
         piece,
         patience: patience(),
+        whole: whole(),
     };
     serve_within(rt, plan, listener, workers, limit, gate)
 }

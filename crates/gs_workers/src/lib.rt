@@ -2,9 +2,14 @@
 #![tactic(auto)]
 
 mod attending;
+mod heads;
+mod lines;
 mod plans;
+mod queues;
+mod ways;
 mod workers;
 
 pub use attending::attend;
 pub use plans::Plan;
+pub use queues::{Queue, Waiting};
 pub use workers::{limit_waits, work};

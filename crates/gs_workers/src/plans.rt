@@ -5,12 +5,14 @@ ghost use Rattle.gs_model.specs.Bases.{is_base};
 use std::alloc::Global;
 use std::time::Duration;
 
-/// How connections are served: the base, the lines of a piece, and how long a read or a write may wait.
+/// How connections are served: the base, the lines of a piece, how long a read or a write may wait, and how
+/// long a head, each 8 KiB of a body, and each text that is sent may take in all.
 #[derive(Clone, Copy)]
 pub struct Plan<'a> {
     pub alloc: Global,
     pub base: &'a str,
     pub piece: u32,
     pub patience: Duration,
+    pub whole: Duration,
     ghost valid: { is_base base.now ≡ true },
 }

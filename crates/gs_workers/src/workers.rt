@@ -1,11 +1,14 @@
 //! A worker: it serves one connection after the other, through its own pass.
 ghost use Rattle.std.specs.Prelude.{ℕ};
-ghost use Rattle.gs_workers.specs.Attends.{ServesMany};
+ghost use Rattle.gs_workers.specs.Attends.{Serves, ServesMany};
 ghost use Rattle.gs_workers.specs.Served.{ServedOn};
 
 use crate::attending::attend;
+use crate::lines::{Line, State};
 use crate::plans::Plan;
-use crossbeam_channel::{Receiver, Sender};
+use crate::queues::{Queue, Waiting};
+use crate::ways::{Way, read_wait};
+use crossbeam_channel::Sender;
 use gs_door::Door;
 use gs_gates::{Gate, GateDoor, Note, NoteDoor, linger};
 use gs_shared::{Hall, Pass, PassDoor, Room};
@@ -13,64 +16,119 @@ use std::io;
 use std::net::TcpStream;
 use std::sync::Wait;
 use std::sync::ledger::Ledger;
-use std::time::Duration;
+use std::time::{Clock, Duration, Instant};
 
-/// Gives a connection its limits. Small replies go out at once.
+/// Gives a connection its limits: a read of the system waits for a second at most, since others that wait
+/// are looked for then. Small replies go out at once.
 pub fn limit_waits(stream: &TcpStream, patience: Duration) -> io::Result<()> {
     stream.set_nodelay(true)?;
-    stream.set_read_timeout(Some(patience))?;
+    stream.set_read_timeout(Some(read_wait(patience)))?;
     stream.set_write_timeout(Some(patience))
 }
 
-/// Serves one connection, and lets its client hear the end. One that takes no limits is dropped
-/// unserved.
-fn serve_stream<D: Door>(plan: Plan<'_>, seat: u16, stream: TcpStream, door: &mut D)
-    ensures { (n : ℕ) × ServesMany (record { base = plan.entry.base.now; piece = plan.entry.piece })
-        D.Gives seat n door.old door.new }
+/// Serves one connection while it may be served; whether all was said then that is to be said.
+fn serve_line<'x, D: Door, K: Clock>(
+    clock: &'x K,
+    plan: Plan<'_>,
+    seat: u16,
+    stream: &'x TcpStream,
+    others: &'x Queue,
+    state: &'x State,
+    door: &mut D,
+) -> bool
+    ensures { Serves (record { base = plan.entry.base.now; piece = plan.entry.piece })
+        D.Gives seat door.old door.new }
 {
-    if limit_waits(&stream, plan.patience).is_err() {
-        return;
-    }
-    let is_whole = attend(
+    let (patience, whole) = (plan.patience, plan.whole);
+    let mut reader = Line {
+        clock,
+        stream,
+        others,
+        state,
+        patience,
+        whole,
+    };
+    let mut writer = Line {
+        clock,
+        stream,
+        others,
+        state,
+        patience,
+        whole,
+    };
+    attend(
         plan.alloc,
         seat,
         plan.base,
         plan.piece,
-        &mut &stream,
-        &mut &stream,
+        &mut reader,
+        &mut writer,
         door,
-    );
-    if is_whole {
-        let _ = linger(&stream);
+    )
+}
+
+/// Serves one connection, and lets its client hear the end. One that takes no limits is dropped
+/// unserved. One that gives way between two requests comes back.
+fn serve_stream<D: Door, K: Clock>(
+    clock: &K,
+    plan: Plan<'_>,
+    seat: u16,
+    waiting: Waiting,
+    others: &Queue,
+    door: &mut D,
+) -> Option<Waiting>
+    ensures { (n : ℕ) × ServesMany (record { base = plan.entry.base.now; piece = plan.entry.piece })
+        D.Gives seat n door.old door.new }
+{
+    let Waiting { stream, since } = waiting;
+    if limit_waits(&stream, plan.patience).is_err() {
+        return None;
+    }
+    let state = State::new(clock, since, plan.patience);
+    if !serve_line(clock, plan, seat, &stream, others, &state, door) {
+        return None;
+    }
+    let since = state.idle_since();
+    match state.way() {
+        Way::Over => {
+            let _ = linger(&stream);
+            None
+        }
+        Way::Waits => Some(Waiting { stream, since }),
+        Way::Idle => None,
     }
 }
 
 /// Serves each connection that comes, until no more can come.
-pub(crate) fn serve_streams<D: Door, R: Wait>(
+pub(crate) fn serve_streams<D: Door, R: Wait + Clock>(
     rt: &R,
     plan: Plan<'_>,
     seat: u16,
-    streams: Receiver<TcpStream>,
+    queue: Queue,
     door: &mut D,
 )
     ensures { (n : ℕ) × ServesMany (record { base = plan.entry.base.now; piece = plan.entry.piece })
         D.Gives seat n door.old door.new }
 {
+    let mut is_for_accepted = true;
     for _ in rt.forever() {
-        let Ok(stream) = streams.recv(rt) else {
+        let Some(waiting) = queue.take(rt, plan.patience, is_for_accepted) else {
             break;
         };
-        serve_stream(plan, seat, stream, door);
+        is_for_accepted = !is_for_accepted;
+        if let Some(back) = serve_stream(rt, plan, seat, waiting, &queue, door) {
+            queue.keep(rt, back, plan.patience);
+        }
     }
 }
 
 /// The whole run of a worker: its pass comes back.
-pub fn work<C: Ledger, T: Ledger, B: Room, G: Gate, R: Wait>(
+pub fn work<C: Ledger, T: Ledger, B: Room, G: Gate, R: Wait + Clock>(
     rt: &R,
     plan: Plan<'_>,
     hall: &Hall<C, T, B>,
     gate: &G,
-    streams: Receiver<TcpStream>,
+    queue: Queue,
     notes: Sender<Note>,
     pass: Pass<C, T, B>,
 ) -> Pass<C, T, B>
@@ -87,7 +145,7 @@ pub fn work<C: Ledger, T: Ledger, B: Room, G: Gate, R: Wait>(
             door: PassDoor::new(rt, hall, pass),
         },
     };
-    serve_streams(rt, plan, seat, streams, &mut door);
+    serve_streams(rt, plan, seat, queue, &mut door);
     let NoteDoor {
         rt: _,
         notes: _,

@@ -119,6 +119,7 @@ fn gathered<
         workers: 256,
         limit: CROWD,
         patience: 30_000,
+        whole: 60_000,
     };
     let clients = Askers { rt, alloc, addr };
     let good = served(rt, alloc, &listener, setup, &gate, clients);
@@ -198,6 +199,7 @@ fn queued<
         workers: 1,
         limit: QUEUE,
         patience: 30_000,
+        whole: 60_000,
     };
     let clients = Waiting {
         rt,

@@ -57,6 +57,7 @@ fn upload_may_be_left<
         workers: 1,
         limit: 2,
         patience: 30_000,
+        whole: 60_000,
     };
     let clients = Writers {
         alloc,
@@ -190,6 +191,7 @@ fn read_may_be_left<
         workers: 1,
         limit: 3,
         patience: 30_000,
+        whole: 60_000,
     };
     let clients = Readers {
         alloc,

@@ -6,6 +6,8 @@ mod clients;
 #[cfg(test)]
 mod crowds;
 #[cfg(test)]
+mod idlers;
+#[cfg(test)]
 mod leavers;
 #[cfg(test)]
 mod owners;

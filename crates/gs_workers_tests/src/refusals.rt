@@ -72,6 +72,7 @@ fn refusal_is_heard<
         workers: 1,
         limit: 1,
         patience: 30_000,
+        whole: 60_000,
     };
     served(
         rt,

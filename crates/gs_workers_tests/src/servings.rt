@@ -31,13 +31,15 @@ pub fn two_connected<R: Net<Listener = TcpListener, Stream = TcpStream>>(
     Ok((listener, first, second))
 }
 
-/// How a server is run: how many workers it has, how many connections there are, and how many
-/// milliseconds a read or a write may wait.
+/// How a server is run: how many workers it has, how many connections there are, how many
+/// milliseconds a read or a write may wait, and how many a head, 8 KiB of a body, or a text that is sent
+/// may take in all.
 #[derive(Clone, Copy)]
 pub struct Setup {
     pub workers: u16,
     pub limit: u64,
     pub patience: u64,
+    pub whole: u64,
     ghost few: { (1 ≤ workers) × (workers ≤ 256) },
 }
 
@@ -54,6 +56,7 @@ fn serves<G: Gate + Sync, R: Threads + Wait + Clock + RandomSource + Sync>(
         base: "http://localhost",
         piece: 2,
         patience: Duration::from_millis(setup.patience),
+        whole: Duration::from_millis(setup.whole),
     };
     let ended = serve_within(rt, plan, listener, setup.workers, Some(setup.limit), gate);
     let is_right = ended.is_ok();

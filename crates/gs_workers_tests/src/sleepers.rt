@@ -86,6 +86,7 @@ fn fifth_is_answered<
         workers: 4,
         limit: 5,
         patience: 200,
+        whole: 60_000,
     };
     served(rt, alloc, &listener, setup, &OpenGate, clients)
 }
@@ -156,6 +157,7 @@ fn slow_client_is_answered<
         workers: 2,
         limit: 2,
         patience: 2_000,
+        whole: 60_000,
     };
     served(
         rt,
@@ -209,6 +211,7 @@ fn stopped_client_is_cut_off<
         workers: 1,
         limit: 2,
         patience: 200,
+        whole: 60_000,
     };
     served(rt, alloc, &listener, setup, &OpenGate, clients)
 }

@@ -7,12 +7,16 @@ use std::net::{Net, TcpListener, TcpStream};
 use std::test::*;
 use std::time::Duration;
 
-/// Whether a connection sends at once, and waits for 30 seconds at each read and at each write.
+/// Whether a connection sends at once, and waits for a second at each read of the system and for 30 seconds
+/// at each write.
 fn is_limited(stream: &TcpStream) -> io::Result<bool> {
-    let limit = Some(Duration::from_secs(30));
     let may_read = stream.read_timeout()?;
     let may_write = stream.write_timeout()?;
-    Ok(stream.nodelay()? && may_read == limit && may_write == limit)
+    Ok(
+        stream.nodelay()?
+            && may_read == Some(Duration::from_secs(1))
+            && may_write == Some(Duration::from_secs(30)),
+    )
 }
 
 /// Whether this holds of a connection that was accepted and given its limits.

@@ -94,6 +94,7 @@ fn waits_and_runs<
         workers: 2,
         limit: 2,
         patience: 30_000,
+        whole: 60_000,
     };
     let clients = Pair {
         alloc,
