@@ -3,6 +3,8 @@
 /// What was seen of a head: it ends with the first empty line that follows another.
 #[derive(Clone, Copy)]
 pub(crate) struct Heading {
+    /// Whether its first byte was the first one of a request.
+    is_whole: bool,
     /// Whether a byte of the line came, its end aside.
     is_in_line: bool,
     /// Whether a line came.
@@ -11,8 +13,9 @@ pub(crate) struct Heading {
 }
 
 impl Heading {
-    pub(crate) fn new() -> Heading {
+    pub(crate) fn new(is_whole: bool) -> Heading {
         Heading {
+            is_whole,
             is_in_line: false,
             has_line: false,
             is_over: false,
@@ -23,9 +26,9 @@ impl Heading {
         self.is_over
     }
 
-    /// These bytes follow.
-    pub(crate) fn pass(&mut self, bytes: &[u8]) {
-        for byte in bytes {
+    /// These bytes follow. Whether a whole head ends with the last of them.
+    pub(crate) fn pass(&mut self, bytes: &[u8]) -> bool {
+        for (at, byte) in bytes.iter().enumerate() {
             match *byte {
                 b'\n' => {
                     if self.is_in_line {
@@ -33,12 +36,13 @@ impl Heading {
                         self.is_in_line = false;
                     } else if self.has_line {
                         self.is_over = true;
-                        return;
+                        return self.is_whole && at + 1 == bytes.len();
                     }
                 }
                 b'\r' => {}
                 _ => self.is_in_line = true,
             }
         }
+        false
     }
 }

@@ -47,7 +47,7 @@ impl State {
             wait: Cell::new(read_wait(patience)),
             is_between: Cell::new(true),
             held: Cell::new(None),
-            heading: Cell::new(Heading::new()),
+            heading: Cell::new(Heading::new(true)),
             reads_since: Cell::new(None),
             came: Cell::new(0),
             writes_since: Cell::new(None),
@@ -67,9 +67,9 @@ impl State {
 }
 
 /// A connection while it is served, as it is read and written. The last byte of what one read of the
-/// system gave is handed out by itself: where a reply is begun between that and the next read, the request
-/// was whole with that byte, and no byte of the next one came. There the connection stands between two
-/// requests.
+/// system gave is handed out by itself, unless a head ends with it that began where a request does: where a
+/// reply is begun between that and the next read, the request was whole with that byte, and no byte of the
+/// next one came. There the connection stands between two requests.
 #[derive(Drop)]
 pub(crate) struct Line<'a, K: Clock> {
     pub(crate) clock: &'a K,
@@ -204,16 +204,16 @@ impl<'a, K: Clock> Line<'a, K> {
         self.state.came.set(0);
     }
 
-    /// These bytes of a request came.
-    fn count(&self, bytes: &[u8]) {
+    /// These bytes of a request came. Whether its head ends with the last of them.
+    fn count(&self, bytes: &[u8]) -> bool {
         let mut heading = self.state.heading.get();
         if !heading.is_over() {
-            heading.pass(bytes);
+            let is_end = heading.pass(bytes);
             self.state.heading.set(heading);
             if heading.is_over() {
                 self.begin();
             }
-            return;
+            return is_end;
         }
         let came = self.state.came.get().saturating_add(bytes.len());
         if came < WINDOW_BYTES {
@@ -221,9 +221,11 @@ impl<'a, K: Clock> Line<'a, K> {
         } else {
             self.begin();
         }
+        false
     }
 
-    /// Reads from the system, and keeps the last byte of what came for the next read.
+    /// Reads from the system, and keeps the last byte of what came for the next read, unless a head ends
+    /// with it.
     fn read_system(&self, space: &mut [u8]) -> io::Result<usize>
         ensures { IfOk result (λ n. n ≤ length space.new) }
     {
@@ -236,9 +238,9 @@ impl<'a, K: Clock> Line<'a, K> {
             return Ok(0);
         }
         self.state.is_between.set(false);
-        self.count(&space[..count]);
-        if count == 1 {
-            return Ok(1);
+        let is_end = self.count(&space[..count]);
+        if is_end || count == 1 {
+            return Ok(count);
         }
         self.state.held.set(space.get(count - 1).copied());
         Ok(count - 1)
@@ -249,8 +251,9 @@ impl<'a, K: Clock> Line<'a, K> {
         if text.starts_with(GREETING) {
             return;
         }
-        self.state.is_between.set(self.state.held.get().is_none());
-        self.state.heading.set(Heading::new());
+        let is_between = self.state.held.get().is_none();
+        self.state.is_between.set(is_between);
+        self.state.heading.set(Heading::new(is_between));
         self.begin();
     }
 

@@ -77,8 +77,8 @@ fn ask_and_stay<N: Net<Stream = TcpStream>>(
     Ok(first && more && all_hear(kept.as_slice())?)
 }
 
-/// One of two clients of one worker sends two requests and a part of the third, and the rest of it later;
-/// whether it has three replies.
+/// One of two clients of one worker sends two requests and a part of the third, and the rest of it later; a
+/// part of one; and one with the head of another, whose body comes later. Whether each has its reply.
 fn part_is_kept<N: Net<Stream = TcpStream> + Clock>(rt: &N, addr: SocketAddr) -> io::Result<bool> {
     let silent = connected(rt, addr)?;
     let stream = connected(rt, addr)?;
@@ -96,6 +96,14 @@ fn part_is_kept<N: Net<Stream = TcpStream> + Clock>(rt: &N, addr: SocketAddr) ->
     say(&stream, front)?;
     thread::sleep(rt, Duration::from_millis(100));
     say(&stream, rest)?;
+    right = right && hears_one(&stream)?;
+    say(
+        &stream,
+        b"HEAD /graphs/none HTTP/1.1\r\nHost: a\r\n\r\nHEAD /graphs/none HTTP/1.1\r\nHost: a\r\nContent-Length: 3\r\n\r\n",
+    )?;
+    right = right && hears_one(&stream)?;
+    thread::sleep(rt, Duration::from_millis(100));
+    say(&stream, b"abc")?;
     right = right && hears_one(&stream)?;
     drop(silent);
     Ok(right)
