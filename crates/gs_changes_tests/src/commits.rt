@@ -16,15 +16,18 @@ use std::alloc::{AllocError, Global};
 /// A walk goes no deeper than this, which is more than any tree of a test.
 const DEPTH: u32 = 16;
 
-/// No test has so many nodes.
-const PLACES: u32 = 200;
-
 /// The keys of a set, those of another one that go into it, and those that go out.
 #[derive(Drop)]
 pub struct Trial {
     pub set: Vec<Key>,
     pub other: Vec<Key>,
     pub out: Vec<Key>,
+}
+
+/// A number above those of all nodes that a test makes: both sets, and each commit's keys and copies.
+fn places(trial: &Trial) -> u32 {
+    let keys = trial.set.len().saturating_add(trial.other.len());
+    u32::try_from(keys.saturating_mul(2).saturating_add(200)).unwrap_or(u32::MAX)
 }
 
 /// The roots of two sets in one pool.
@@ -125,7 +128,7 @@ fn stands(
     keys: &[Key],
 ) -> Result<bool, AllocError> {
     let mut plain = 0usize;
-    for id in 0..PLACES {
+    for id in 0..places(trial) {
         if pool.is_plain(id) {
             plain = plain.saturating_add(1);
         }

@@ -162,3 +162,50 @@ fn a_commit_is_right_after_a_refused_one(rt: HostRuntime) -> Result<(), Fail> {
     assert!(rt; right?);
     Ok(())
 }
+
+/// Keys go into a set by 4,096 at once. A row has a name, how many come to a set of one, the last number
+/// that a node may have, and whether they are refused. In both rows the numbers are enough for the nodes
+/// of both sets, for 4,096 keys and for a copy of the one key: so all are in but the last one, where one
+/// more comes.
+const IN_PIECES: [(&str, u32, u32, bool); 2] = [
+    ("as many as go in at once", 4_096, 8_193, false),
+    (
+        "one more, which is refused when the others are in",
+        4_097,
+        8_194,
+        true,
+    ),
+];
+
+/// A set of one key, and so many others above it, which go in.
+fn many_more(alloc: Global, count: u32) -> Result<Trial, Refusal> {
+    let mut trial = Trial {
+        set: Vec::new(alloc),
+        other: Vec::new(alloc),
+        out: Vec::new(alloc),
+    };
+    trial.set.push(key(0))?;
+    for number in 0..count {
+        trial.other.push(key(number.saturating_add(1)))?;
+    }
+    Ok(trial)
+}
+
+/// The first of those rows that is wrong.
+fn wrong_in_pieces(alloc: Global) -> Result<Option<&'static str>, Refusal> {
+    for (name, count, last, refused) in &IN_PIECES {
+        let trial = many_more(alloc, *count)?;
+        let found = is_left_alone(alloc, &trial, *last);
+        drop(trial);
+        if found? != Some(*refused) {
+            return Ok(Some(name));
+        }
+    }
+    Ok(None)
+}
+
+#[test]
+fn a_commit_that_is_refused_half_way_leaves_all_as_it_was(rt: HostRuntime) -> Result<(), Fail> {
+    assert_eq!(rt; wrong_in_pieces(rt.alloc())?, None);
+    Ok(())
+}

@@ -1,4 +1,4 @@
-//! A thousand triples are added to a thousand others while these are read.
+//! One triple and then a thousand are added to a thousand others while these are read.
 use crate::lines::{Bounds, Lines};
 use gs_drawn_events::{Place, made, target};
 use gs_event::{Action, Event, UploadKind};
@@ -7,21 +7,26 @@ use gs_term::{TermText, Triple};
 use gs_version_models::MOST_FOR_TRIPLE;
 use std::alloc::{AllocError, Global};
 
-/// How many triples each upload has.
+/// How many triples each of the two large uploads has.
 const MANY: u64 = 1_000;
 
-/// How many both have.
-const BOTH: u64 = 2_000;
+/// How many these and the one have.
+const ALL: u64 = 2_001;
+
+/// How many more nodes are in use once one triple went into a graph of a thousand, at most: eight for each
+/// of the ten binary digits, and its own. A copy of the graph's tree would take a thousand more.
+const MOST_FOR_ONE: u64 = 81;
 
 /// How many lists an upload comes in, and how many triples a list has.
 const LISTS: u64 = 10;
 
 const LIST: u64 = 100;
 
-/// How many lines were given before the second upload.
+/// How many lines were given before the other uploads.
 const GIVEN: u64 = 10;
 
-/// Triples have numbers from here on, all of four digits: those of the first upload are even.
+/// Triples have numbers from here on, all of four digits: those of the first upload are even, the one has
+/// the next even number, and those of the last upload are odd.
 const FIRST: u64 = 4_000;
 
 /// The triple of a number.
@@ -68,16 +73,30 @@ fn list(alloc: Global, first: u64) -> Result<Vec<Triple>, Refusal> {
     Ok(triples)
 }
 
+/// The same, with so many nodes more.
+fn with_more(bounds: Bounds, nodes: u64) -> Bounds {
+    Bounds {
+        least: bounds.least.saturating_add(nodes),
+        most: bounds.most.saturating_add(nodes),
+        triples: bounds.triples,
+    }
+}
+
 /// Seat 0 stages every second triple from this number on, in lists, the last of them first. Each takes a
-/// node. So many are in use before, and graphs have so many triples.
-fn push_stages(alloc: Global, lines: &mut Lines, first: u64, before: u64) -> Result<(), Refusal> {
+/// node more than are in use before.
+fn push_stages(
+    alloc: Global,
+    lines: &mut Lines,
+    first: u64,
+    before: Bounds,
+) -> Result<(), Refusal> {
     for place in 0..LISTS {
         let lists_after = LISTS.saturating_sub(1).saturating_sub(place);
         let skipped = lists_after.saturating_mul(LIST).saturating_mul(2);
         let action = Action::Stage(list(alloc, first.saturating_add(skipped))?);
         let staged = place.saturating_add(1).saturating_mul(LIST);
-        let bounds = Bounds::exactly(before.saturating_add(staged), before);
-        lines.push("Stage", Event::Seat(0, action), "staged", bounds)?;
+        let event = Event::Seat(0, action);
+        lines.push("Stage", event, "staged", with_more(before, staged))?;
     }
     Ok(())
 }
@@ -91,7 +110,7 @@ fn push_put(alloc: Global, lines: &mut Lines) -> Result<(), Refusal> {
         "opened 1",
         Bounds::exactly(0, 0),
     )?;
-    push_stages(alloc, lines, FIRST, 0)?;
+    push_stages(alloc, lines, FIRST, Bounds::exactly(0, 0))?;
     let commit = Event::Seat(0, Action::Commit);
     lines.push("Commit", commit, "status 201", Bounds::exactly(MANY, MANY))?;
     Ok(())
@@ -111,16 +130,41 @@ fn push_piece(lines: &mut Lines, count: u32, words: &str, bounds: Bounds) -> Res
     Ok(())
 }
 
+/// What is counted once the one triple was posted.
+fn with_one() -> Bounds {
+    let before = MANY.saturating_add(1);
+    Bounds {
+        least: before,
+        most: before.saturating_add(MOST_FOR_ONE),
+        triples: before,
+    }
+}
+
+/// Seat 0 posts one triple, which takes no more nodes than it may.
+fn push_one(alloc: Global, lines: &mut Lines) -> Result<(), Refusal> {
+    let open = Action::Open(UploadKind::Post(target(alloc, Place::A)?));
+    let before = Bounds::exactly(MANY, MANY);
+    lines.push("Open", Event::Seat(0, open), "opened 2", before)?;
+    let mut one = Vec::new(alloc);
+    one.push(triple(alloc, FIRST.saturating_add(MANY.saturating_mul(2)))?)?;
+    let stage = Event::Seat(0, Action::Stage(one));
+    lines.push("Stage", stage, "staged", with_more(before, 1))?;
+    let commit = Event::Seat(0, Action::Commit);
+    lines.push("Commit", commit, "status 204", with_one())?;
+    Ok(())
+}
+
 /// Seat 0 posts the odd triples, each of which takes no more nodes than it may.
 fn push_post(alloc: Global, lines: &mut Lines) -> Result<(), Refusal> {
     let open = Action::Open(UploadKind::Post(target(alloc, Place::A)?));
-    let first = Bounds::exactly(MANY, MANY);
-    lines.push("Open", Event::Seat(0, open), "opened 2", first)?;
-    push_stages(alloc, lines, FIRST.saturating_add(1), MANY)?;
+    let before = with_one();
+    lines.push("Open", Event::Seat(0, open), "opened 3", before)?;
+    push_stages(alloc, lines, FIRST.saturating_add(1), before)?;
+    let staged = before.most.saturating_add(MANY);
     let bounds = Bounds {
-        least: BOTH,
-        most: BOTH.saturating_add(MANY.saturating_mul(MOST_FOR_TRIPLE)),
-        triples: BOTH,
+        least: ALL,
+        most: staged.saturating_add(MANY.saturating_mul(MOST_FOR_TRIPLE)),
+        triples: ALL,
     };
     let commit = Event::Seat(0, Action::Commit);
     lines.push("Commit", commit, "status 204", bounds)?;
@@ -131,9 +175,9 @@ fn push_post(alloc: Global, lines: &mut Lines) -> Result<(), Refusal> {
 /// are some, and at most as many as the read has triples. The lines of the read are those at its pin.
 fn push_rest(alloc: Global, lines: &mut Lines) -> Result<(), Refusal> {
     let under_read = Bounds {
-        least: BOTH.saturating_add(1),
-        most: BOTH.saturating_add(MANY),
-        triples: BOTH,
+        least: ALL.saturating_add(1),
+        most: ALL.saturating_add(MANY),
+        triples: ALL,
     };
     lines.push_reclaim(true, under_read)?;
     let next = FIRST.saturating_add(GIVEN.saturating_mul(2));
@@ -143,10 +187,10 @@ fn push_rest(alloc: Global, lines: &mut Lines) -> Result<(), Refusal> {
 
 /// After the read a Reclaim leaves a node for each triple. Seat 1 reads all triples.
 fn push_end(alloc: Global, lines: &mut Lines) -> Result<(), Refusal> {
-    let bounds = Bounds::exactly(BOTH, BOTH);
+    let bounds = Bounds::exactly(ALL, ALL);
     lines.push_reclaim(false, bounds)?;
     push_pin(alloc, lines, bounds)?;
-    let all = words(alloc, FIRST, BOTH, 1, "end")?;
+    let all = words(alloc, FIRST, ALL, 1, "end")?;
     push_piece(lines, u32::MAX, all.as_str(), bounds)
 }
 
@@ -156,6 +200,7 @@ fn push_all(alloc: Global, lines: &mut Lines) -> Result<(), Refusal> {
     push_pin(alloc, lines, first)?;
     let given = words(alloc, FIRST, GIVEN, 2, "more")?;
     push_piece(lines, 10, given.as_str(), first)?;
+    push_one(alloc, lines)?;
     push_post(alloc, lines)?;
     push_rest(alloc, lines)?;
     push_end(alloc, lines)

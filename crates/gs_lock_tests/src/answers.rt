@@ -16,7 +16,7 @@ use std::sync::ledger::Blank;
 use std::test::Fail;
 
 /// The schedules that are fed texts, with their triples and operations in the place of the texts.
-const FED: [Row; 4] = [
+const FED: [Row; 6] = [
     (
         "nodes of two requests are different",
         "0 open post default\n0 stage _1_1 <p> _1_1\n0 commit\n0 open post default\n0 stage _2_1 <p> _2_1\n0 commit\n0 pin default\n0 piece 9\n",
@@ -31,6 +31,16 @@ const FED: [Row; 4] = [
         "data are taken out and put in, in their order",
         "0 open put <http://e/g>\n0 stage <1> <p> \"1\" . <1> <p> \"2\"\n0 commit\n1 open patch <http://e/g>\n1 patch: delete <1> <p> \"1\" ; insert <1> <p> \"3\" . <1> <p> \"1\" ; delete <1> <p> \"3\"\n0 pin <http://e/g>\n0 piece 9\n2 open patch <http://e/g>\n2 patch: delete <1> <p> \"1\"\n3 pin <http://e/g>\n3 piece 9\n",
         "opened 1\nstaged\n201\nopened 2\n204\n200\n<http://e/1> <http://e/p> \"1\" .\n<http://e/1> <http://e/p> \"2\" .\nend\nopened 3\n204\n200\n<http://e/1> <http://e/p> \"2\" .\nend\n",
+    ),
+    (
+        "a collection, and a name with a dot in it",
+        "0 open put <http://e/g>\n0 stage <g> a <a.b> . <g> a _1_1 . _1_1 first 1 . _1_1 rest _1_2 . _1_2 first \".5\"^^<http://www.w3.org/2001/XMLSchema#decimal> . _1_2 rest nil\n0 commit\n0 pin <http://e/g>\n0 piece 9\n",
+        "opened 1\nstaged\n201\n200\n<http://e/g> <http://www.w3.org/1999/02/22-rdf-syntax-ns#type> <http://e/a.b> .\n<http://e/g> <http://www.w3.org/1999/02/22-rdf-syntax-ns#type> _:b1_1 .\n_:b1_1 <http://www.w3.org/1999/02/22-rdf-syntax-ns#first> \"1\"^^<http://www.w3.org/2001/XMLSchema#integer> .\n_:b1_1 <http://www.w3.org/1999/02/22-rdf-syntax-ns#rest> _:b1_2 .\n_:b1_2 <http://www.w3.org/1999/02/22-rdf-syntax-ns#first> \".5\"^^<http://www.w3.org/2001/XMLSchema#decimal> .\n_:b1_2 <http://www.w3.org/1999/02/22-rdf-syntax-ns#rest> <http://www.w3.org/1999/02/22-rdf-syntax-ns#nil> .\nend\n",
+    ),
+    (
+        "a tab, a line feed, and a tag in upper case",
+        "0 open put default\n0 stage <\u{E9}> <p> \"a\tbA\\n\"@EN-us\n0 commit\n0 pin default\n0 piece 1\n",
+        "opened 1\nstaged\n204\n200\n<http://e/\u{E9}> <http://e/p> \"a\tbA\\n\"@en-us .\nend\n",
     ),
     (
         "a text with a fault is given up",

@@ -1,7 +1,7 @@
 //! Schedules of patches, worked by hand.
 use crate::rows::Row;
 
-pub const PATCHES: [Row; 19] = [
+pub const PATCHES: [Row; 21] = [
     (
         "an operation takes effect on what the ones before it left",
         "0 open patch default\n0 patch INSERT DATA { _:x <http://e/p> 1 } ; DELETE WHERE { ?s <http://e/p> 1 } ; INSERT DATA { <http://e/a> a 01 }\n0 pin default\n0 piece 9\n",
@@ -61,6 +61,17 @@ pub const PATCHES: [Row; 19] = [
         "a read keeps its lines while the graph is patched",
         "0 open put default\n0 stage <http://e/s> <http://e/p> \"1\" .\n0 stage <http://e/s> <http://e/p> \"2\" .\n0 commit\n1 pin default\n1 piece 1\n0 open patch default\n0 patch DELETE DATA { <http://e/s> <http://e/p> \"1\" , \"2\" } ; INSERT DATA { <http://e/s> <http://e/p> \"3\" }\n1 piece 1\n1 pin default\n1 piece 9\n",
         "opened 1\nstaged\nstaged\n204\n200\n<http://e/s> <http://e/p> \"1\" .\nmore\nopened 2\n204\n<http://e/s> <http://e/p> \"2\" .\nend\n200\n<http://e/s> <http://e/p> \"3\" .\nend\n",
+    ),
+    // In these two rows a read of the default graph has a version before that of the patch, and the first triple is above the second.
+    (
+        "what an insertion copies is not needed before its commit",
+        "0 open put <http://e/g>\n0 stage <http://e/s> <http://e/p> \"1\" .\n0 commit\n1 open put default\n1 commit\n1 pin default\n0 open patch <http://e/g>\n0 patch INSERT DATA { <http://e/s> <http://e/p> \"2\" }\n0 open put <http://e/g>\n0 commit\nreclaim 9\n",
+        "opened 1\nstaged\n201\nopened 2\n204\n200\nopened 3\n204\nopened 4\n204\nreclaimed 2 more\n",
+    ),
+    (
+        "what a removal copies is not needed before its commit",
+        "0 open put <http://e/g>\n0 stage <http://e/s> <http://e/p> \"1\" .\n0 stage <http://e/s> <http://e/p> \"2\" .\n0 commit\n1 open put default\n1 commit\n1 pin default\n0 open patch <http://e/g>\n0 patch DELETE DATA { <http://e/s> <http://e/p> \"2\" }\n0 open put <http://e/g>\n0 commit\nreclaim 9\n",
+        "opened 1\nstaged\nstaged\n201\nopened 2\n204\n200\nopened 3\n204\nopened 4\n204\nreclaimed 1 more\n",
     ),
     (
         "two seats patch a graph in the order of their texts",

@@ -1,4 +1,4 @@
-//! One thread writes a graph, and another reads it afterwards.
+//! One thread writes a graph, another reads it afterwards, and keeps its lines while the first puts it again.
 ghost use Rattle.std.specs.Prelude.{◌≡◌, ◌<◌, [], codes};
 ghost use Rattle.crossbeam_utils.specs.Seq.{cell_view};
 ghost use Rattle.gs_core.specs.Settings.{start_at};
@@ -6,7 +6,7 @@ ghost use Rattle.gs_pass.specs.Stamps.{keeper as keeper_of};
 
 use gs_event::{Action, Answer, Event, UploadKind};
 use gs_shared::{Hall, Pass, Room, Shared, Side, StampCell, Token, stamp_cell};
-use gs_term::{Target, TermText, Triple};
+use gs_term::{GraphName, Target, TermText, Triple};
 use std::alloc::{AllocError, Global};
 use std::marker::Brand;
 use std::sync::Wait;
@@ -14,6 +14,11 @@ use std::sync::ledger::Blank;
 use std::test::Fail;
 use std::thread;
 use std::thread::Threads;
+
+/// The lines of the graph.
+const FIRST_LINE: &str = "<http://e/s> <http://e/p> \"1\" .\n";
+
+const LAST_LINE: &str = "<http://e/s> <http://e/p> \"2\" .\n";
 
 /// `<http://e/s> <http://e/p> "x" .`
 fn triple(alloc: Global, word: &str) -> Option<Triple> {
@@ -37,41 +42,101 @@ fn act<C: Side, T: Side, B: Room, R: Wait>(
     hall.event(rt, pass, event)
 }
 
-/// Puts two triples into the default graph.
+/// The graph.
+fn target(alloc: Global) -> Option<Target> {
+    Some(Target::Named(GraphName::new(alloc, "http://e/g").ok()?))
+}
+
+/// Puts a triple for each of these words into the graph; whether that has this status.
 fn write<C: Side, T: Side, B: Room, R: Wait>(
     rt: &R,
     alloc: Global,
     hall: &Hall<C, T, B>,
     pass: Pass<C, T, B>,
-) -> Pass<C, T, B> {
+    words: &[&str],
+    status: u16,
+) -> (Pass<C, T, B>, bool) {
     let mut pass = pass;
-    let opens = Action::Open(UploadKind::Put(Target::Default));
-    drop(act(rt, hall, &mut pass, opens));
-    for word in ["2", "1"] {
+    let Some(target) = target(alloc) else {
+        return (pass, false);
+    };
+    drop(act(rt, hall, &mut pass, Action::Open(UploadKind::Put(target))));
+    for word in words {
         let mut list = Vec::new(alloc);
         if let Some(one) = triple(alloc, word) {
             let _ = list.push(one);
         }
         drop(act(rt, hall, &mut pass, Action::Stage(list)));
     }
-    drop(act(rt, hall, &mut pass, Action::Commit));
-    pass
+    let answer = act(rt, hall, &mut pass, Action::Commit);
+    let is_right = matches!(&answer, Answer::Status(found, None) if *found == status);
+    drop(answer);
+    (pass, is_right)
 }
 
-/// Reads five lines of the default graph.
-fn read<C: Side, T: Side, B: Room, R: Wait>(
+/// Begins to read the graph; whether that has status 200.
+fn pin<C: Side, T: Side, B: Room, R: Wait>(
+    rt: &R,
+    alloc: Global,
+    hall: &Hall<C, T, B>,
+    pass: &mut Pass<C, T, B>,
+) -> bool {
+    let Some(target) = target(alloc) else {
+        return false;
+    };
+    let answer = act(rt, hall, pass, Action::Pin(target));
+    let is_right = matches!(answer, Answer::Pinned(200));
+    drop(answer);
+    is_right
+}
+
+/// Reads a line; whether it is this one, and the last one or not.
+fn reads<C: Side, T: Side, B: Room, R: Wait>(
     rt: &R,
     hall: &Hall<C, T, B>,
-    pass: Pass<C, T, B>,
-) -> Answer {
-    let mut pass = pass;
-    drop(act(rt, hall, &mut pass, Action::Pin(Target::Default)));
-    let answer = act(rt, hall, &mut pass, Action::Piece(5));
-    drop(pass);
-    answer
+    pass: &mut Pass<C, T, B>,
+    line: &str,
+    is_last: bool,
+) -> bool {
+    let answer = act(rt, hall, pass, Action::Piece(1));
+    let is_right = match &answer {
+        Answer::Lines(lines, end) => *end == is_last && lines.as_slice() == line.as_bytes(),
+        _ => false,
+    };
+    drop(answer);
+    is_right
 }
 
-/// One thread writes by a pass, and once it has ended another reads by the other.
+/// Begins to read the graph, and reads its first line, which is not the last.
+fn begin<C: Side, T: Side, B: Room, R: Wait>(
+    rt: &R,
+    alloc: Global,
+    hall: &Hall<C, T, B>,
+    pass: Pass<C, T, B>,
+) -> (Pass<C, T, B>, bool) {
+    let mut pass = pass;
+    let is_right = pin(rt, alloc, hall, &mut pass) && reads(rt, hall, &mut pass, FIRST_LINE, false);
+    (pass, is_right)
+}
+
+/// Reads the last line of the graph as it was, and then the graph as it is, which has none.
+fn go_on<C: Side, T: Side, B: Room, R: Wait>(
+    rt: &R,
+    alloc: Global,
+    hall: &Hall<C, T, B>,
+    pass: Pass<C, T, B>,
+) -> bool {
+    let mut pass = pass;
+    let is_right = reads(rt, hall, &mut pass, LAST_LINE, true)
+        && pin(rt, alloc, hall, &mut pass)
+        && reads(rt, hall, &mut pass, "", true);
+    drop(pass);
+    is_right
+}
+
+/// A thread puts two triples by a pass. Once it has ended, another begins to read by the other pass; a
+/// third one puts none by the first, and a fourth one goes on with the read. Which of them were answered
+/// as they must be.
 fn write_and_read<
     C: Side + Send + Sync,
     T: Side + Send + Sync,
@@ -83,12 +148,21 @@ fn write_and_read<
     hall: &Hall<C, T, B>,
     writer: Pass<C, T, B>,
     reader: Pass<C, T, B>,
-) -> Option<Answer> {
-    thread::scope(thread::scope_env(), rt, move |scope| -> Option<Answer> {
-        let writes = scope.spawn(move || write(rt, alloc, hall, writer)).ok()?;
-        drop(writes.join(rt));
-        let reads = scope.spawn(move || read(rt, hall, reader)).ok()?;
-        Some(reads.join(rt))
+) -> Option<[bool; 4]> {
+    thread::scope(thread::scope_env(), rt, move |scope| -> Option<[bool; 4]> {
+        let puts = scope
+            .spawn(move || write(rt, alloc, hall, writer, &["2", "1"], 201))
+            .ok()?;
+        let (writer, made) = puts.join(rt);
+        let begins = scope.spawn(move || begin(rt, alloc, hall, reader)).ok()?;
+        let (reader, begun) = begins.join(rt);
+        let empties = scope
+            .spawn(move || write(rt, alloc, hall, writer, &[], 204))
+            .ok()?;
+        let (writer, emptied) = empties.join(rt);
+        drop(writer);
+        let goes_on = scope.spawn(move || go_on(rt, alloc, hall, reader)).ok()?;
+        Some([made, begun, emptied, goes_on.join(rt)])
     })
 }
 
@@ -98,7 +172,7 @@ fn write_and_read_at<
     T: Side + Send + Sync,
     B: Room + Send + Sync,
     R: Threads + Wait + Sync,
->(rt: &R, alloc: Global, shared: &mut Shared<C, T, B>) -> Option<Answer> {
+>(rt: &R, alloc: Global, shared: &mut Shared<C, T, B>) -> Option<[bool; 4]> {
     let mut passes = shared.passes(2).ok()?;
     let reader = passes.pop();
     let writer = passes.pop();
@@ -114,7 +188,7 @@ fn write_and_read_at<
     write_and_read(rt, alloc, shared.hall(), writer, reader)
 }
 
-/// One thread writes, and once it has ended another reads.
+/// The same of a new store.
 fn run<
     C: Side + Send + Sync,
     T: Side + Send + Sync,
@@ -127,7 +201,7 @@ fn run<
     keeper: Token,
     calls: Blank,
     triples: Blank,
-) -> Option<Answer>
+) -> Option<[bool; 4]>
     requires cell { (cell.table.shared.table_id ≡ B.table)
         × (keeper.table_id ≡ B.table)
         × (cell_view keeper ≡ keeper_of [] []) }
@@ -146,34 +220,21 @@ fn run<
         triples,
     )
     .ok()?;
-    let answer = write_and_read_at(rt, alloc, &mut shared);
+    let right = write_and_read_at(rt, alloc, &mut shared);
     drop(shared);
-    answer
+    right
 }
 
-/// What the second thread reads.
-fn write_read<R: Threads + Wait + Sync>(rt: &R, alloc: Global) -> Option<Answer> {
+/// The same, with what a store is made of.
+fn write_read<R: Threads + Wait + Sync>(rt: &R, alloc: Global) -> Option<[bool; 4]> {
     let (cell, keeper) = stamp_cell(alloc).ok()?;
     let (calls, triples) = (Blank::new(3), Blank::new(3));
     run::<Brand, Brand, Brand, R>(rt, alloc, cell, keeper, calls, triples)
 }
 
-/// The lines of the graph.
-const LINES: &str = "<http://e/s> <http://e/p> \"1\" .\n<http://e/s> <http://e/p> \"2\" .\n";
-
-/// Whether an answer has these lines and ends with them.
-fn has_all(answer: &Answer, wanted: &str) -> bool {
-    match answer {
-        Answer::Lines(lines, end) => *end && lines.as_slice() == wanted.as_bytes(),
-        _ => false,
-    }
-}
-
 #[test]
 fn write_read_back(rt: HostRuntime) -> Result<(), Fail> {
-    let answer = write_read(&rt, rt.alloc()).expect(&rt, "memory and threads");
-    let is_right = has_all(&answer, LINES);
-    drop(answer);
-    assert!(rt; is_right);
+    let right = write_read(&rt, rt.alloc()).expect(&rt, "memory and threads");
+    assert_eq!(rt; right, [true, true, true, true]);
     Ok(())
 }

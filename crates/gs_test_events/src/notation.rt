@@ -35,9 +35,31 @@ fn blank(alloc: Global, text: &str) -> Result<TermText, Refusal> {
     )
 }
 
-/// `<x>`, which is `<http://e/x>` where it has no colon; `_k` or `_r_k`, a blank node; `"x"`; an
-/// integer; `a`, as in Turtle; or `first`, `rest` or `nil` of RDF's lists. No word has a dot or a
-/// semicolon in it.
+/// The text with a line feed for each `\n`.
+fn unescaped(alloc: Global, text: &str) -> Result<String, AllocError> {
+    let mut pieces = text.split("\\n");
+    let mut all = String::from_str(alloc, pieces.next().unwrap_or_default())?;
+    for piece in pieces {
+        all.push('\n')?;
+        all.push_str(piece)?;
+    }
+    Ok(all)
+}
+
+/// A literal, of its word without the first quote.
+fn literal(alloc: Global, text: &str) -> Result<TermText, Refusal> {
+    let (inner, rest) = text.rsplit_once('"').unwrap_or((text, ""));
+    let plain = unescaped(alloc, inner)?;
+    let lexical = plain.as_str();
+    match rest.strip_prefix("^^<") {
+        Some(name) => TermText::literal(alloc, lexical, Some(name.trim_end_matches('>')), None),
+        None => TermText::literal(alloc, lexical, None, rest.strip_prefix('@')),
+    }
+}
+
+/// `<x>`, which is `<http://e/x>` where it has no colon; `_k` or `_r_k`, a blank node; `"x"`, which may
+/// have `\n` in it, and a tag or a datatype after it, written whole; an integer; `a`, as in Turtle; or
+/// `first`, `rest` or `nil` of RDF's lists. No word has a space or a semicolon in it, or begins with a dot.
 fn term(alloc: Global, word: &str) -> Result<TermText, Refusal> {
     if let Some(iri) = own_name(word) {
         return TermText::iri(alloc, iri);
@@ -53,8 +75,8 @@ fn term(alloc: Global, word: &str) -> Result<TermText, Refusal> {
     if let Some(number) = word.strip_prefix('_') {
         return blank(alloc, number);
     }
-    if word.starts_with('"') {
-        return TermText::literal(alloc, word.trim_matches('"'), None, None);
+    if let Some(text) = word.strip_prefix('"') {
+        return literal(alloc, text);
     }
     TermText::literal(alloc, word, Some(INTEGER), None)
 }
@@ -88,10 +110,13 @@ fn pattern(alloc: Global, text: &str) -> Result<Pattern, Refusal> {
     })
 }
 
+/// What stands after each triple and each pattern.
+const DOT: &str = " .";
+
 /// Triples with a dot after each, which the last need not have.
 pub fn triples(alloc: Global, text: &str) -> Result<Vec<Triple>, Refusal> {
     let mut list = Vec::new(alloc);
-    for piece in text.split('.') {
+    for piece in text.split(DOT) {
         let piece = piece.trim();
         if !piece.is_empty() {
             list.push(triple(alloc, piece)?)?;
@@ -103,7 +128,7 @@ pub fn triples(alloc: Global, text: &str) -> Result<Vec<Triple>, Refusal> {
 /// The same of patterns.
 pub fn patterns(alloc: Global, text: &str) -> Result<Vec<Pattern>, Refusal> {
     let mut list = Vec::new(alloc);
-    for piece in text.split('.') {
+    for piece in text.split(DOT) {
         let piece = piece.trim();
         if !piece.is_empty() {
             list.push(pattern(alloc, piece)?)?;
@@ -151,7 +176,7 @@ fn push_word(line: &mut String, word: &str) -> Result<(), AllocError> {
 /// The lines of triples, in the order in which they are written.
 pub fn lines(alloc: Global, text: &str) -> Result<String, AllocError> {
     let mut lines = String::new(alloc);
-    for piece in text.split('.') {
+    for piece in text.split(DOT) {
         let piece = piece.trim();
         if !piece.is_empty() {
             for word in piece.split(' ') {

@@ -1,7 +1,9 @@
-//! Clients that put graphs and get them back, at the same time.
+//! Clients that put graphs, get them back and delete them, at the same time.
 use crate::clients::{ask, connected, get, put};
 use crate::servings::listening;
+use gs_event::{Answer, Event};
 use gs_servers::{OpenGate, serve_all};
+use gs_shared::Ended;
 use std::alloc::{AllocError, Global};
 use std::net::{Net, SocketAddr, TcpListener, TcpStream};
 use std::random::RandomSource;
@@ -11,10 +13,13 @@ use std::thread::{Threads, join};
 use std::time::Clock;
 use std::{io, thread};
 
-/// How many clients put graphs and get them back, and how often each does.
+/// How many clients put graphs, get them back and delete them, and how often each does.
 const OWNERS: usize = 8;
 
 const ROUNDS: u32 = 20;
+
+/// How many requests they make, each of which is an entry of the page.
+const REQUESTS: u64 = 480;
 
 /// A graph as it is put, with its first line last, and the pieces in which it comes back: one of two
 /// lines, and one of the last.
@@ -63,9 +68,23 @@ fn is_got<N: Net<Stream = TcpStream>>(
     Ok(reply.as_str().starts_with("HTTP/1.1 200 ") && reply.as_str().ends_with(pieces))
 }
 
-/// Whether this graph could be made, and came back. Both requests are made, whatever becomes of the
-/// first.
-fn put_and_get<N: Net<Stream = TcpStream>>(
+/// Whether a graph could be taken away.
+fn is_gone<N: Net<Stream = TcpStream>>(
+    rt: &N,
+    alloc: Global,
+    addr: SocketAddr,
+    name: &str,
+) -> io::Result<bool> {
+    let request = format!(in alloc;
+        "DELETE /graphs/{name} HTTP/1.1\r\nHost: a\r\nConnection: close\r\n\r\n"
+    )?;
+    let reply = hear(rt, alloc, addr, request.as_str())?;
+    Ok(reply.as_str().starts_with("HTTP/1.1 204 "))
+}
+
+/// Whether this graph could be made, came back, and could be taken away. All three requests are made,
+/// whatever becomes of the others.
+fn put_get_and_delete<N: Net<Stream = TcpStream>>(
     rt: &N,
     alloc: Global,
     addr: SocketAddr,
@@ -76,17 +95,18 @@ fn put_and_get<N: Net<Stream = TcpStream>>(
     };
     let made = is_made(rt, alloc, addr, name, body.as_str());
     let got = is_got(rt, alloc, addr, name, pieces.as_str());
-    matches!(made, Ok(true)) && matches!(got, Ok(true))
+    let gone = is_gone(rt, alloc, addr, name);
+    matches!(made, Ok(true)) && matches!(got, Ok(true)) && matches!(gone, Ok(true))
 }
 
-/// In how many rounds this client got its own lines back.
+/// In how many rounds this client got its own lines back, of a graph that it makes again each time.
 fn own<N: Net<Stream = TcpStream>>(rt: &N, alloc: Global, addr: SocketAddr, client: usize) -> u32 {
     let mut good = 0u32;
-    for round in 0..ROUNDS {
-        let Ok(name) = format!(in alloc; "c{client}-{round}") else {
-            return good;
-        };
-        if put_and_get(rt, alloc, addr, name.as_str()) {
+    let Ok(name) = format!(in alloc; "c{client}") else {
+        return good;
+    };
+    for _ in 0..ROUNDS {
+        if put_get_and_delete(rt, alloc, addr, name.as_str()) {
             good = good.saturating_add(1);
         }
     }
@@ -114,19 +134,26 @@ fn owned<R: Net<Listener = TcpListener, Stream = TcpStream> + Threads + Sync>(
     }
 }
 
-/// Serves so many connections by four workers; whether as many entries are left in the page, and a
-/// record for each worker and the reclaimer.
+/// Whether the page has an entry for each request, there is a record for each of four workers and the
+/// reclaimer, and of all graphs nothing is left.
+fn is_clean(ended: &mut Ended) -> bool {
+    let entries = ended.audited.page().entries().len() as u64;
+    let freed = ended.audited.event(Event::Reclaim(u64::MAX));
+    entries == REQUESTS && ended.passes.len() == 5 && matches!(freed, Answer::Reclaimed(0, false))
+}
+
+/// Serves so many connections by four workers; whether that ends as it must.
 fn leaves_all<R: Threads + Wait + Clock + RandomSource + Sync>(
     rt: &R,
     alloc: Global,
     listener: &TcpListener,
 ) -> bool {
     let base = "http://localhost";
-    match serve_all(rt, alloc, listener, base, 4, 2, Some(320), &OpenGate) {
-        Ok(ended) => {
-            let right = ended.audited.page().entries().len() == 320 && ended.passes.len() == 5;
+    match serve_all(rt, alloc, listener, base, 4, 2, Some(REQUESTS), &OpenGate) {
+        Ok(mut ended) => {
+            let clean = is_clean(&mut ended);
             drop(ended);
-            right
+            clean
         }
         Err(_) => false,
     }
