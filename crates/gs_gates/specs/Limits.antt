@@ -5,11 +5,11 @@ use Rattle.std.specs.Prelude.{ℕ, ◌*◌, min, max}
 abbrev pub patience : ℕ
 patience = 30_000_000_000
 
--- 60 seconds, which a client may take in all for a head, for each 8 KiB of a body, and for each text that it is sent
+-- 60 seconds, which a client may take in all for a head, for each 8 KiB of a body, and for each 64 KiB of a text that it is sent
 abbrev pub whole : ℕ
 whole = 60_000_000_000
 
--- 1 second, after which a connection gives way to others that wait
+-- 1 second, after which others that wait are looked for, and an idle connection ends where no place is left
 abbrev pub idleness : ℕ
 idleness = 1_000_000_000
 

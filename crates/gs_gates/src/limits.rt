@@ -9,12 +9,12 @@ use std::time::Duration;
 /// The seconds that one read or one write of a connection may wait for its client.
 pub const PATIENCE_SECONDS: u64 = 30;
 
-/// The seconds that a client may take in all for a head, for each 8 KiB of a body, and for each text that
-/// it is sent.
+/// The seconds that a client may take in all for a head, for each 8 KiB of a body, and for each 64 KiB of a
+/// text that it is sent.
 pub const WHOLE_SECONDS: u64 = 60;
 
-/// The seconds after which a connection gives way, where no byte of its next request came and others
-/// wait.
+/// The seconds after which others that wait are looked for, where no byte of the next request came, and
+/// after which an idle connection ends where no place is left.
 pub const IDLE_SECONDS: u64 = 1;
 
 /// The milliseconds for which a worker serves a connection while others wait. Between two requests it
@@ -30,10 +30,12 @@ pub const RECLAIM_NODES: u64 = 4_096;
 /// The accepted connections that may wait for a worker. More wait in the system's own queue.
 pub const WAITING_STREAMS: usize = 16;
 
-/// The connections between two requests that may wait for a worker, once they gave way to others.
+/// The connections between two requests that wait for a worker, once they gave way to others: where there
+/// are more, one that was idle for a second ends.
 pub const PLACES: usize = 256;
 
-/// The room for them: each of up to 256 workers may look at one, and give one back, at the same time.
+/// The room for them: as many again are taken that are not idle, and each of up to 256 workers may have one
+/// in its hands.
 pub const WAITING_PLACES: usize = 768;
 
 /// The notes that may wait for the reclaimer. Where one waits none is sent, so there are more only where
@@ -67,15 +69,15 @@ pub fn patience() -> Duration
     Duration::from_secs(PATIENCE_SECONDS)
 }
 
-/// How long a client may take in all for a head, for each 8 KiB of a body, and for each text that it is
-/// sent.
+/// How long a client may take in all for a head, for each 8 KiB of a body, and for each 64 KiB of a text
+/// that it is sent.
 pub fn whole() -> Duration
     ensures { as_nanos result ≡ spec.whole }
 {
     Duration::from_secs(WHOLE_SECONDS)
 }
 
-/// After how long a connection gives way to others that wait.
+/// After how long others that wait are looked for, and an idle connection ends where no place is left.
 pub fn idleness() -> Duration
     ensures { as_nanos result ≡ spec.idleness }
 {

@@ -3,8 +3,6 @@
 /// What was seen of a head: it ends with the first empty line that follows another.
 #[derive(Clone, Copy)]
 pub(crate) struct Heading {
-    /// Whether its first byte was the first one of a request.
-    is_whole: bool,
     /// Whether a byte of the line came, its end aside.
     is_in_line: bool,
     /// Whether a line came.
@@ -13,12 +11,13 @@ pub(crate) struct Heading {
 }
 
 impl Heading {
-    pub(crate) fn new(is_whole: bool) -> Heading {
+    /// One that is awaited. Where what was handed out goes on behind a request, how far is not known, and
+    /// no head is looked for.
+    pub(crate) fn new(is_known: bool) -> Heading {
         Heading {
-            is_whole,
             is_in_line: false,
             has_line: false,
-            is_over: false,
+            is_over: !is_known,
         }
     }
 
@@ -26,7 +25,7 @@ impl Heading {
         self.is_over
     }
 
-    /// These bytes follow. Whether a whole head ends with the last of them.
+    /// These bytes follow. Whether the head ends with the last of them.
     pub(crate) fn pass(&mut self, bytes: &[u8]) -> bool {
         for (at, byte) in bytes.iter().enumerate() {
             match *byte {
@@ -36,7 +35,7 @@ impl Heading {
                         self.is_in_line = false;
                     } else if self.has_line {
                         self.is_over = true;
-                        return self.is_whole && at + 1 == bytes.len();
+                        return at + 1 == bytes.len();
                     }
                 }
                 b'\r' => {}

@@ -6,6 +6,7 @@ mod heads;
 mod lines;
 mod plans;
 mod queues;
+mod states;
 mod ways;
 mod workers;
 

@@ -3,9 +3,9 @@ ghost use Rattle.std.specs.Prelude.{◌≤◌, length, IfOk};
 
 use crate::heads::Heading;
 use crate::queues::Queue;
+use crate::states::State;
 use crate::ways::{Way, has_waited, read_wait, waits_in};
 use gs_gates::share;
-use std::cell::Cell;
 use std::io;
 use std::io::{ErrorKind, Read, Write};
 use std::net::TcpStream;
@@ -14,57 +14,11 @@ use std::time::{Clock, Duration, Instant};
 /// The bytes of a body for which a client has so long in all.
 const WINDOW_BYTES: usize = 8_192;
 
-/// What each text begins with that is said within a request.
+/// The bytes of a text for which a client has so long in all.
+const TEXT_WINDOW_BYTES: usize = 65_536;
+
+/// What a text begins with that ends no request.
 const GREETING: &[u8] = b"HTTP/1.1 100 ";
-
-/// What is known of a connection while a worker serves it.
-#[derive(Drop)]
-pub(crate) struct State {
-    /// Since when its worker serves it.
-    served_since: Option<Instant>,
-    /// Since when no byte of the next request has come, once one was waited for.
-    idle_since: Cell<Option<Instant>>,
-    /// How long one read of the system waits now.
-    wait: Cell<Duration>,
-    is_between: Cell<bool>,
-    /// The last byte that came, where it was not handed out.
-    held: Cell<Option<u8>>,
-    heading: Cell<Heading>,
-    /// Since when a head or 8 KiB of a body are read, once they were not there at once.
-    reads_since: Cell<Option<Instant>>,
-    /// The bytes of a body that came since then.
-    came: Cell<usize>,
-    /// Since when a text is written of which a part was taken.
-    writes_since: Cell<Option<Instant>>,
-    way: Cell<Way>,
-}
-
-impl State {
-    pub(crate) fn new<K: Clock>(clock: &K, since: Option<Instant>, patience: Duration) -> State {
-        State {
-            served_since: Instant::now(clock).ok(),
-            idle_since: Cell::new(since),
-            wait: Cell::new(read_wait(patience)),
-            is_between: Cell::new(true),
-            held: Cell::new(None),
-            heading: Cell::new(Heading::new(true)),
-            reads_since: Cell::new(None),
-            came: Cell::new(0),
-            writes_since: Cell::new(None),
-            way: Cell::new(Way::Over),
-        }
-    }
-
-    /// What becomes of it.
-    pub(crate) fn way(&self) -> Way {
-        self.way.get()
-    }
-
-    /// Since when no byte of its next request has come.
-    pub(crate) fn idle_since(&self) -> Option<Instant> {
-        self.idle_since.get()
-    }
-}
 
 /// A connection while it is served, as it is read and written. The last byte of what one read of the
 /// system gave is handed out by itself, unless a head ends with it that began where a request does: where a
@@ -96,11 +50,13 @@ impl<'a, K: Clock> Line<'a, K> {
         self.stream.set_read_timeout(Some(wait))
     }
 
-    /// Whether its worker served it for as long as it may while others wait.
+    /// Whether its worker served it for as long as it may while others wait, and not in vain.
     fn had_its_share(&self) -> bool {
         match self.state.served_since {
-            Some(start) => start.elapsed(self.clock).unwrap_or(share()) >= share(),
-            None => true,
+            Some(start) if self.state.was_read.get() => {
+                start.elapsed(self.clock).unwrap_or(Duration::ZERO) >= share()
+            }
+            _ => false,
         }
     }
 
@@ -137,7 +93,7 @@ impl<'a, K: Clock> Line<'a, K> {
             self.set_wait(read_wait(self.patience))?;
             return Ok(false);
         }
-        if self.had_its_share() {
+        if self.others.has_place() && self.had_its_share() {
             self.state.way.set(Way::Waits);
             return Ok(true);
         }
@@ -238,6 +194,7 @@ impl<'a, K: Clock> Line<'a, K> {
             return Ok(0);
         }
         self.state.is_between.set(false);
+        self.state.was_read.set(true);
         let is_end = self.count(&space[..count]);
         if is_end || count == 1 {
             return Ok(count);
@@ -258,7 +215,10 @@ impl<'a, K: Clock> Line<'a, K> {
     }
 
     /// The rest of a text may wait for as long as is left of its time; whether any is.
-    fn may_write_more(&self, start: Instant) -> io::Result<()> {
+    fn may_write_more(&self) -> io::Result<()> {
+        let Some(start) = self.state.writes_since.get() else {
+            return Ok(());
+        };
         let left = self.left_since(start);
         if left.is_zero() {
             return Err(io::Error::from(ErrorKind::TimedOut));
@@ -280,22 +240,37 @@ impl<'a, K: Clock> Line<'a, K> {
         let mut stream = self.stream;
         let count = stream.write(text)?;
         if count < text.len() {
+            self.state.is_in_text.set(true);
             self.state.writes_since.set(start);
+            self.state.taken.set(0);
         }
         Ok(count)
     }
 
+    /// So many bytes more of a text were taken: after each 64 KiB its time begins anew.
+    fn take(&self, count: usize) {
+        let taken = self.state.taken.get().saturating_add(count);
+        if taken < TEXT_WINDOW_BYTES {
+            self.state.taken.set(taken);
+        } else {
+            self.state.taken.set(0);
+            self.state.writes_since.set(Instant::now(self.clock).ok());
+        }
+    }
+
     /// Writes more of a text.
-    fn write_more(&self, text: &[u8], start: Instant) -> io::Result<usize>
+    fn write_more(&self, text: &[u8]) -> io::Result<usize>
         ensures { IfOk result (λ n. n ≤ length text.now) }
     {
-        self.may_write_more(start)?;
+        self.may_write_more()?;
         let mut stream = self.stream;
         let count = stream.write(text)?;
-        if count == text.len() {
-            self.state.writes_since.set(None);
-            self.stream.set_write_timeout(Some(self.patience))?;
+        if count < text.len() {
+            self.take(count);
+            return Ok(count);
         }
+        self.state.is_in_text.set(false);
+        self.stream.set_write_timeout(Some(self.patience))?;
         Ok(count)
     }
 }
@@ -317,9 +292,10 @@ impl<'a, K: Clock> Read for Line<'a, K> {
 
 impl<'a, K: Clock> Write for Line<'a, K> {
     fn write(&mut self, buf: &[u8]) -> io::Result<usize> {
-        match self.state.writes_since.get() {
-            Some(start) => self.write_more(buf, start),
-            None => self.write_first(buf),
+        if self.state.is_in_text.get() {
+            self.write_more(buf)
+        } else {
+            self.write_first(buf)
         }
     }
 

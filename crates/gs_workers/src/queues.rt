@@ -8,7 +8,11 @@ use std::sync::Wait;
 use std::time::{Clock, Duration, Instant};
 
 /// The most connections that gave way and are looked at before a worker waits at one.
-const MOST_LOOKS: usize = 64;
+const MOST_LOOKS: usize = 8;
+
+/// The most connections that gave way without having been waited for in vain. Beyond these there is room for
+/// the others, and for one in the hands of each worker.
+const MOST_PLACES: usize = 2 * PLACES;
 
 /// A connection between two requests that waits for a worker, and since when no byte of the next request
 /// has come, where none came yet.
@@ -51,6 +55,11 @@ impl Queue {
     /// Whether a connection waits for a worker.
     pub(crate) fn has_others(&self) -> bool {
         !self.streams.is_empty() || !self.places.is_empty()
+    }
+
+    /// Whether there is a place for one more that gives way.
+    pub(crate) fn has_place(&self) -> bool {
+        self.places.len() < MOST_PLACES
     }
 
     /// Whether a connection that has nothing to be read ends: it is idle for as long as it may be, or for a

@@ -4,9 +4,10 @@ ghost use Rattle.gs_workers.specs.Attends.{Serves, ServesMany};
 ghost use Rattle.gs_workers.specs.Served.{ServedOn};
 
 use crate::attending::attend;
-use crate::lines::{Line, State};
+use crate::lines::Line;
 use crate::plans::Plan;
 use crate::queues::{Queue, Waiting};
+use crate::states::State;
 use crate::ways::{Way, read_wait};
 use crossbeam_channel::Sender;
 use gs_door::Door;
@@ -118,6 +119,7 @@ pub(crate) fn serve_streams<D: Door, R: Wait + Clock>(
         is_for_accepted = !is_for_accepted;
         if let Some(back) = serve_stream(rt, plan, seat, waiting, &queue, door) {
             queue.keep(rt, back, plan.patience);
+            is_for_accepted = false;
         }
     }
 }

@@ -24,14 +24,14 @@ const LAST: &[u8] = b"HEAD /graphs/none HTTP/1.1\r\nHost: a\r\nConnection: close
 /// The most bytes of a reply.
 const MOST_BYTES: usize = 1_000;
 
-/// Whether the next reply says that a graph is not there; its connection is kept.
-fn hears_one(stream: &TcpStream) -> io::Result<bool> {
+/// Whether the next reply has this status; its connection is kept.
+fn hears(stream: &TcpStream, status: &[u8]) -> io::Result<bool> {
     let mut input = stream;
     let mut head = [0u8; MOST_BYTES];
     for at in 0..MOST_BYTES {
         input.read_exact(&mut head[at..at + 1])?;
         if head[..at + 1].ends_with(b"\r\n\r\n") {
-            return Ok(head.starts_with(b"HTTP/1.1 404 "));
+            return Ok(head.starts_with(status));
         }
     }
     Ok(false)
@@ -43,7 +43,7 @@ fn all_hear(streams: &[TcpStream]) -> io::Result<bool> {
         say(stream, ASK)?;
     }
     for stream in streams {
-        if !hears_one(stream)? {
+        if !hears(stream, MISSING)? {
             return Ok(false);
         }
     }
@@ -77,36 +77,115 @@ fn ask_and_stay<N: Net<Stream = TcpStream>>(
     Ok(first && more && all_hear(kept.as_slice())?)
 }
 
-/// One of two clients of one worker sends two requests and a part of the third, and the rest of it later; a
-/// part of one; and one with the head of another, whose body comes later. Whether each has its reply.
-fn part_is_kept<N: Net<Stream = TcpStream> + Clock>(rt: &N, addr: SocketAddr) -> io::Result<bool> {
+/// What a client says at once, and what it hears then.
+struct Part {
+    said: &'static [u8],
+    status: &'static [u8],
+    replies: usize,
+}
+
+const MISSING: &[u8] = b"HTTP/1.1 404 ";
+
+/// Requests that are cut within heads, between a head and its body, and within what follows another one.
+const PARTS: [Part; 14] = [
+    Part {
+        said: ASK,
+        status: MISSING,
+        replies: 1,
+    },
+    Part {
+        said: b"HEAD /graphs/none HTTP/1.1\r\nHost: a\r\n\r\nHEAD /graphs/none HTTP/1.1\r\nHost: a\r\n\r\nHEAD /gra",
+        status: MISSING,
+        replies: 2,
+    },
+    Part {
+        said: b"phs/none HTTP/1.1\r\nHost: a\r\n\r\n",
+        status: MISSING,
+        replies: 1,
+    },
+    Part {
+        said: b"HEAD /graphs/none HT",
+        status: MISSING,
+        replies: 0,
+    },
+    Part {
+        said: b"TP/1.1\r\nHost: a\r\n\r\n",
+        status: MISSING,
+        replies: 1,
+    },
+    Part {
+        said: b"HEAD /graphs/none HTTP/1.1\r\nHost: a\r\n\r\nHEAD /graphs/none HTTP/1.1\r\nHost: a\r\nContent-Length: 3\r\n\r\n",
+        status: MISSING,
+        replies: 1,
+    },
+    Part {
+        said: b"abc",
+        status: MISSING,
+        replies: 1,
+    },
+    Part {
+        said: b"HEAD /graphs/none HTTP/1.1\r\nHost: a\r\nContent-Length: 3\r\n\r\n",
+        status: MISSING,
+        replies: 0,
+    },
+    Part {
+        said: b"abc",
+        status: MISSING,
+        replies: 1,
+    },
+    Part {
+        said: b"PUT /graphs/a HTTP/1.1\r\nHost: a\r\nContent-Type: application/n-triples\r\nExpect: 100-continue\r\nContent-Length: 1\r\n\r\n",
+        status: b"HTTP/1.1 100 ",
+        replies: 1,
+    },
+    Part {
+        said: b"\n",
+        status: b"HTTP/1.1 201 ",
+        replies: 1,
+    },
+    Part {
+        said: b"HEAD /graphs/none HTTP/1.1\r\nHost: a\r\n\r\nHEAD /graphs/none HTTP/1.1\r\nHost: a\r\nContent-Length: 3\r\n",
+        status: MISSING,
+        replies: 1,
+    },
+    Part {
+        said: b"\r\nabcHEAD /graphs/none HTTP/1.1\r\nHost: a\r\nContent-Length: 3\r\n\r\n",
+        status: MISSING,
+        replies: 1,
+    },
+    Part {
+        said: b"abc",
+        status: MISSING,
+        replies: 1,
+    },
+];
+
+/// Says a part, and whether it is answered so. Then nothing is said for longer than a worker serves a
+/// connection while others wait.
+fn is_answered<K: Clock>(rt: &K, stream: &TcpStream, part: &Part) -> io::Result<bool> {
+    say(stream, part.said)?;
+    for _ in 0..part.replies {
+        if !hears(stream, part.status)? {
+            return Ok(false);
+        }
+    }
+    thread::sleep(rt, Duration::from_millis(50));
+    Ok(true)
+}
+
+/// One of two clients of one worker says these parts; how many of them are answered as they should be.
+fn parts_answered<N: Net<Stream = TcpStream> + Clock>(rt: &N, addr: SocketAddr) -> io::Result<u64> {
     let silent = connected(rt, addr)?;
     let stream = connected(rt, addr)?;
-    let (front, rest) = ASK.split_at(ASK.len() / 2);
-    say(&stream, ASK)?;
-    let mut right = hears_one(&stream)?;
-    say(
-        &stream,
-        b"HEAD /graphs/none HTTP/1.1\r\nHost: a\r\n\r\nHEAD /graphs/none HTTP/1.1\r\nHost: a\r\n\r\nHEAD /gra",
-    )?;
-    right = right && hears_one(&stream)? && hears_one(&stream)?;
-    thread::sleep(rt, Duration::from_millis(100));
-    say(&stream, b"phs/none HTTP/1.1\r\nHost: a\r\n\r\n")?;
-    right = right && hears_one(&stream)?;
-    say(&stream, front)?;
-    thread::sleep(rt, Duration::from_millis(100));
-    say(&stream, rest)?;
-    right = right && hears_one(&stream)?;
-    say(
-        &stream,
-        b"HEAD /graphs/none HTTP/1.1\r\nHost: a\r\n\r\nHEAD /graphs/none HTTP/1.1\r\nHost: a\r\nContent-Length: 3\r\n\r\n",
-    )?;
-    right = right && hears_one(&stream)?;
-    thread::sleep(rt, Duration::from_millis(100));
-    say(&stream, b"abc")?;
-    right = right && hears_one(&stream)?;
+    let mut answered = 0;
+    for part in &PARTS {
+        if !is_answered(rt, &stream, part)? {
+            break;
+        }
+        answered += 1;
+    }
     drop(silent);
-    Ok(right)
+    Ok(answered)
 }
 
 /// Sends a head byte by byte, each within the time of a read; whether the connection ends with no reply.
@@ -118,7 +197,7 @@ fn trickle_ends<N: Net<Stream = TcpStream> + Clock>(rt: &N, addr: SocketAddr) ->
         }
         thread::sleep(rt, Duration::from_millis(30));
     }
-    Ok(hears_one(&stream).is_err())
+    Ok(hears(&stream, MISSING).is_err())
 }
 
 /// Which clients there are.
@@ -142,7 +221,7 @@ impl<'a, R: Net<Stream = TcpStream> + Clock> Job for Clients<'a, R> {
     fn done(self) -> u64 {
         one(match self.kind {
             Kind::Stay => ask_and_stay(self.rt, self.alloc, self.addr),
-            Kind::Part => part_is_kept(self.rt, self.addr),
+            Kind::Part => return parts_answered(self.rt, self.addr).unwrap_or(0),
             Kind::Trickle => trickle_ends(self.rt, self.addr),
         })
     }
@@ -189,7 +268,7 @@ fn a_part_of_a_request_stays_with_its_worker(rt: HostRuntime) -> Result<(), Fail
         patience: 15_000,
         whole: 60_000,
     };
-    assert_eq!(rt; counted(&rt, rt.alloc(), setup, Kind::Part), 1);
+    assert_eq!(rt; counted(&rt, rt.alloc(), setup, Kind::Part), 14);
     Ok(())
 }
 
