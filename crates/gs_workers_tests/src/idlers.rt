@@ -177,12 +177,12 @@ fn is_answered<K: Clock>(rt: &K, stream: &TcpStream, part: &Part) -> io::Result<
 fn parts_answered<N: Net<Stream = TcpStream> + Clock>(rt: &N, addr: SocketAddr) -> io::Result<u64> {
     let silent = connected(rt, addr)?;
     let stream = connected(rt, addr)?;
-    let mut answered = 0;
+    let mut answered = 0u64;
     for part in &PARTS {
         if !is_answered(rt, &stream, part)? {
             break;
         }
-        answered += 1;
+        answered = answered.saturating_add(1);
     }
     drop(silent);
     Ok(answered)
