@@ -2,6 +2,8 @@
 #![tactic(auto)]
 
 #[cfg(test)]
+mod buckets;
+#[cfg(test)]
 mod draws;
 #[cfg(test)]
 mod holds;
