@@ -10,7 +10,7 @@ use Rattle.std.proofs.lemmas.Bool.Decides.{nat_tests}
 use lib.Utf8.{scalar}
 use Rattle.gs_model.specs.Characters.{is_iri_char}
 use Rattle.gs_model.specs.Escapes.{is_hex, hex_number, echar_meaning}
-use Rattle.gs_lex.specs.Classes.{is_local_escape}
+use Rattle.gs_automaton.specs.Classes.{is_local_escape}
 use Rattle.gs_escape.specs.declared.forms.Form.{Form}
 use Rattle.gs_escape.specs.declared.forms.Form.TheVariants as form
 use Rattle.gs_escape.specs.Escapes.{Escape, numbered, uchar, single, echar, local_escape, iri_escape, string_escape, escape}

@@ -8,7 +8,7 @@ use Rattle.std.specs.Option.{option_or}
 use Rattle.gs_model.specs.Characters.{is_iri_char}
 use Rattle.gs_model.specs.Ascii.{small_u, big_u}
 use Rattle.gs_model.specs.Escapes.{is_hex, hex_number, is_character, echar_meaning}
-use Rattle.gs_lex.specs.Classes.{is_local_escape}
+use Rattle.gs_automaton.specs.Classes.{is_local_escape}
 use Rattle.gs_escape.specs.declared.forms.Form.{Form}
 use Rattle.gs_escape.specs.declared.forms.Form.TheVariants as form
 

@@ -2,7 +2,7 @@
 ghost use Rattle.std.specs.Prelude.{◌≡◌, ◌≤◌, length, if◌then◌else◌};
 ghost use Rattle.std.specs.List.{list_all};
 ghost use Rattle.gs_model.specs.Escapes.{is_hex, hex_number};
-ghost use Rattle.gs_lex.specs.Classes.{is_local_escape as is_local_escape_of};
+ghost use Rattle.gs_automaton.specs.Classes.{is_local_escape as is_local_escape_of};
 ghost use Rattle.gs_escape.specs.Escapes.{numbered as numbered_of, uchar as uchar_of, iri_escape as iri_escape_of, string_escape as string_escape_of, local_escape as local_escape_of, escape as escape_of};
 
 use crate::forms::Form;

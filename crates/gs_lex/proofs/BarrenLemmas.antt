@@ -8,21 +8,21 @@ use Rattle.std.proofs.lemmas.List.{length-take-le}
 use Rattle.std.specs.Prelude.{◌==◌}
 use Rattle.std.specs.Str.{all_scalars}
 use lib.Utf8.{scalar}
-use Rattle.gs_lex.specs.Automata.{Found, run, run_from, kind_at, longest}
-use Rattle.gs_lex.specs.Classes.{is_name_char}
-use Rattle.gs_lex.specs.States.{tokens, state_after, start_of, accepts}
-use Rattle.gs_lex.specs.Scans.{MayBecome, IsBest, IsScanned, IsBarren, IsBarrenTo}
+use Rattle.gs_automaton.specs.Automata.{Found, run, run_from, kind_at, longest}
+use Rattle.gs_automaton.specs.Classes.{is_name_char}
+use Rattle.gs_automaton.specs.States.{tokens, state_after, start_of, accepts}
+use Rattle.gs_automaton.specs.Scans.{MayBecome, IsBest, IsScanned, IsBarren, IsBarrenTo}
 use Rattle.gs_lex.specs.Readings.{HasRead, first_of}
-use Rattle.gs_lex.specs.declared.kinds.Terminal.{Terminal}
-use Rattle.gs_lex.specs.declared.kinds.Terminal.TheVariants as kind
-use Rattle.gs_lex.specs.declared.states.State.{State}
-use Rattle.gs_lex.specs.declared.states.State.TheVariants as at
-use Rattle.gs_lex.specs.declared.states.Mark.TheVariants as mark
-use Rattle.gs_lex.specs.declared.scans.Scan.{Scan}
+use Rattle.gs_automaton.specs.declared.terminals.Terminal.{Terminal}
+use Rattle.gs_automaton.specs.declared.terminals.Terminal.TheVariants as kind
+use Rattle.gs_automaton.specs.declared.states.State.{State}
+use Rattle.gs_automaton.specs.declared.states.State.TheVariants as at
+use Rattle.gs_automaton.specs.declared.states.Mark.TheVariants as mark
+use Rattle.gs_automaton.specs.declared.scans.Scan.{Scan}
 use Rattle.gs_lex.specs.declared.steps.Reading.{Reading}
-use Rattle.gs_lex.proofs.AutomatonLemmas.{run-append, none-stays, Best, best, IsSplit, longest-split}
-use Rattle.gs_lex.proofs.ScanLemmas.{scan-fresh}
-use Rattle.gs_lex.proofs.BecomeLemmas.{becomes-before, becomes-after, becomes-more, becomes-open}
+use Rattle.gs_automaton.proofs.AutomatonLemmas.{run-append, none-stays, Best, best, IsSplit, longest-split}
+use Rattle.gs_automaton.proofs.ScanLemmas.{scan-fresh}
+use Rattle.gs_automaton.proofs.BecomeLemmas.{becomes-before, becomes-after, becomes-more, becomes-open}
 use Rattle.gs_lex.proofs.LongestLemmas.{within, beyond, compare, scalars-front, scalars-back, IsAll, some_bytes}
 
 some_list : (c : ℕ) (v : List ℕ) → c ∷ v ≢ []

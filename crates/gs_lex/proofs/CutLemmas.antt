@@ -11,26 +11,26 @@ use lib.Utf8.{scalar}
 use Rattle.gs_machine.specs.Utf8.{bad, Spells, nothing, char, fault, symbols}
 use Rattle.gs_machine.proofs.Encodings.{scalar_from}
 use Rattle.gs_machine.proofs.Utf8Lemmas.{spelt}
-use Rattle.gs_lex.proofs.BecomeLemmas.{becomes-on, no_end}
-use Rattle.gs_lex.specs.Automata.{Found, run_from, kind_at, Recognizes, longest}
-use Rattle.gs_lex.specs.Classes.{is_ws, is_line_end}
+use Rattle.gs_automaton.proofs.BecomeLemmas.{becomes-on, no_end}
+use Rattle.gs_automaton.specs.Automata.{Found, run_from, kind_at, Recognizes, longest}
+use Rattle.gs_automaton.specs.Classes.{is_ws, is_line_end}
 use Rattle.gs_lex.specs.Cuts.{Parted, parted, from_kind, from_found, cut_from}
 use Rattle.gs_lex.specs.Lexers.{Leads}
 use Rattle.gs_lex.specs.Standing.{StandsAfter}
 use Rattle.gs_lex.specs.Readings.{BeginsToken, gap_of}
-use Rattle.gs_lex.specs.States.{tokens, state_after, start_of}
+use Rattle.gs_automaton.specs.States.{tokens, state_after, start_of}
 use Rattle.gs_lex.specs.Tokens.{Cut, Gap, Between, InComment, CutEnd, Lexeme, Longest, NoTerminal, EndsLine, IsCut, place_after, token_kind, ended, space, hash, comment, line_end, bad_comment, token, no_kind, no_token}
 use Rattle.gs_lex.specs.declared.kinds.TokenKind.{TokenKind}
-use Rattle.gs_lex.specs.declared.kinds.Terminal.{Terminal}
+use Rattle.gs_automaton.specs.declared.terminals.Terminal.{Terminal}
 use Rattle.gs_lex.specs.declared.lexers.Lexer.{Lexer}
 use Rattle.gs_lex.specs.declared.steps.Reading.{Reading}
-use Rattle.gs_lex.specs.declared.states.State.{State}
-use Rattle.gs_lex.specs.declared.states.State.TheVariants as at
-use Rattle.gs_lex.specs.declared.states.Mark.TheVariants as mark
-use Rattle.gs_lex.specs.declared.states.Text.TheVariants as text
-use Rattle.gs_lex.proofs.AutomatonLemmas.{Best, best, IsSplit, longest-split, nonempty, shorter}
+use Rattle.gs_automaton.specs.declared.states.State.{State}
+use Rattle.gs_automaton.specs.declared.states.State.TheVariants as at
+use Rattle.gs_automaton.specs.declared.states.Mark.TheVariants as mark
+use Rattle.gs_automaton.specs.declared.states.Text.TheVariants as text
+use Rattle.gs_automaton.proofs.AutomatonLemmas.{Best, best, IsSplit, longest-split, nonempty, shorter}
 use Rattle.gs_lex.proofs.LongestLemmas.{no_start}
-use Rattle.gs_lex.proofs.TerminalLemmas.{accepted-terminal, terminal-accepted}
+use Rattle.gs_automaton.proofs.TerminalLemmas.{accepted-terminal, terminal-accepted}
 use Rattle.gs_lex.proofs.StepLemmas.{space_low, line_end_low}
 
 -- no token ends with bytes that are no character

@@ -8,8 +8,8 @@ use Rattle.gs_lex.specs.declared.readings.Halt.{Halt}
 use Rattle.gs_lex.specs.declared.readings.Halt.TheVariants as halt
 use Rattle.gs_lex.specs.declared.steps.Reading.{Reading}
 use Rattle.gs_lex.specs.declared.tokens.Token.{Token}
-use Rattle.gs_lex.specs.Scans.{MayBecome}
-use Rattle.gs_lex.proofs.BecomeLemmas.{no_end, becomes-on, becomes-before, becomes-more}
+use Rattle.gs_automaton.specs.Scans.{MayBecome}
+use Rattle.gs_automaton.proofs.BecomeLemmas.{no_end, becomes-on, becomes-before, becomes-more}
 use Rattle.gs_lex.proofs.BarrenLemmas.{read-more}
 use Rattle.gs_lex.proofs.CutLemmas.{leads-stands}
 use Rattle.gs_lex.proofs.SettledLemmas.{awaits-at}

@@ -9,8 +9,8 @@ use Rattle.gs_lex.specs.declared.readings.Halt.{Halt}
 use Rattle.gs_lex.specs.declared.readings.Halt.TheVariants as halt
 use Rattle.gs_lex.specs.declared.steps.Reading.{Reading}
 use Rattle.gs_lex.specs.declared.tokens.Token.{Token}
-use Rattle.gs_lex.specs.Scans.{MayBecome}
-use Rattle.gs_lex.proofs.BecomeLemmas.{becomes-self}
+use Rattle.gs_automaton.specs.Scans.{MayBecome}
+use Rattle.gs_automaton.proofs.BecomeLemmas.{becomes-self}
 use Rattle.gs_lex.proofs.BarrenLemmas.{read-end, read-fresh}
 
 -- what is held is read from its start

@@ -5,15 +5,15 @@ use Rattle.std.proofs.lemmas.Str.{encode_same, encodes-append, len_utf8_bounds, 
 use Rattle.std.specs.Char.{IsScalar}
 use Rattle.std.specs.Str.{all_scalars}
 use lib.Utf8.{scalar}
-use Rattle.gs_lex.specs.Automata.{Found, Recognizes, run, run_from, kind_at, longest}
-use Rattle.gs_lex.specs.States.{tokens, start_of}
-use Rattle.gs_lex.specs.Scans.{IsBest, IsScanned, IsBarren}
+use Rattle.gs_automaton.specs.Automata.{Found, Recognizes, run, run_from, kind_at, longest}
+use Rattle.gs_automaton.specs.States.{tokens, start_of}
+use Rattle.gs_automaton.specs.Scans.{IsBest, IsScanned, IsBarren}
 use Rattle.gs_lex.specs.Tokens.{Longest, NoTerminal}
-use Rattle.gs_lex.specs.declared.kinds.Terminal.{Terminal}
-use Rattle.gs_lex.specs.declared.states.State.{State}
-use Rattle.gs_lex.specs.declared.scans.Scan.{Scan}
-use Rattle.gs_lex.proofs.AutomatonLemmas.{run-append, Best, best, IsSplit, longest-split}
-use Rattle.gs_lex.proofs.TerminalLemmas.{accepted-terminal, terminal-accepted}
+use Rattle.gs_automaton.specs.declared.terminals.Terminal.{Terminal}
+use Rattle.gs_automaton.specs.declared.states.State.{State}
+use Rattle.gs_automaton.specs.declared.scans.Scan.{Scan}
+use Rattle.gs_automaton.proofs.AutomatonLemmas.{run-append, Best, best, IsSplit, longest-split}
+use Rattle.gs_automaton.proofs.TerminalLemmas.{accepted-terminal, terminal-accepted}
 
 -- of two lists of characters at the front of one text, one begins with the other
 pub data Compared (v cs s z : List ℕ) : Type 0 where

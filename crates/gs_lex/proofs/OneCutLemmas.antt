@@ -6,14 +6,14 @@ use Rattle.std.proofs.lemmas.Str.{encode_same, length-encode, len_utf8_bounds}
 use Rattle.std.proofs.str.Laws.{one}
 use Rattle.std.specs.Str.{StartsWithNoChar}
 use Rattle.gs_machine.proofs.Encodings.{scalar_from}
-use Rattle.gs_lex.specs.Automata.{Recognizes, run, run_from, kind_at}
-use Rattle.gs_lex.specs.Classes.{is_ws, is_line_end}
-use Rattle.gs_lex.specs.States.{tokens, state_after, start_of}
+use Rattle.gs_automaton.specs.Automata.{Recognizes, run, run_from, kind_at}
+use Rattle.gs_automaton.specs.Classes.{is_ws, is_line_end}
+use Rattle.gs_automaton.specs.States.{tokens, state_after, start_of}
 use Rattle.gs_lex.specs.Tokens.{Cut, Gap, Between, InComment, CutEnd, Lexeme, lexeme_at, place_after, token_kind, Longest, NoTerminal, EndsLine, ended, space, hash, comment, line_end, bad_comment, token, no_kind, no_token}
-use Rattle.gs_lex.specs.declared.kinds.Terminal.{Terminal}
-use Rattle.gs_lex.proofs.AutomatonLemmas.{none-stays}
+use Rattle.gs_automaton.specs.declared.terminals.Terminal.{Terminal}
+use Rattle.gs_automaton.proofs.AutomatonLemmas.{none-stays}
 use Rattle.gs_lex.proofs.LongestLemmas.{Compared, within, beyond, compare, no_start}
-use Rattle.gs_lex.proofs.TerminalLemmas.{terminal-accepted}
+use Rattle.gs_automaton.proofs.TerminalLemmas.{terminal-accepted}
 use Rattle.gs_lex.proofs.StepLemmas.{line_end_low}
 
 some_encode : (c : ℕ) (o : List ℕ) → encode_utf8 c ++ o ≡ [] → ⊥

@@ -1,21 +1,21 @@
 -- Laws of tokens that are known at once.
 use Rattle.std.proofs.Common.{◌≡◌, ℕ, ◌+◌, ◌^◌, ◌<◌, ◌≤◌, Bool, true, false, List, [], ◌∷◌, ◌++◌, refl, sym, ap, ◌∙◌, arith, subst, length, Some, take, drop, encode_utf8_all}
 use Rattle.std.proofs.lemmas.List.{drop-drop}
-use Rattle.gs_lex.specs.Fronts.{GoesOver}
+use Rattle.gs_automaton.specs.Fronts.{GoesOver}
 use Rattle.gs_lex.specs.Plains.{IsPlain, IsPlainAhead, plain_of}
 use Rattle.gs_lex.specs.Readings.{FindsToken, passed_of, found_of}
-use Rattle.gs_lex.specs.Scans.{IsScanned, MayBecome, fresh}
+use Rattle.gs_automaton.specs.Scans.{IsScanned, MayBecome, fresh}
 use Rattle.gs_lex.specs.Standing.{StandsAfter}
 use Rattle.gs_lex.specs.Tokens.{Lexeme, lexeme_at, place_after, token_kind}
-use Rattle.gs_lex.specs.declared.kinds.Terminal.{Terminal}
+use Rattle.gs_automaton.specs.declared.terminals.Terminal.{Terminal}
 use Rattle.gs_lex.specs.declared.kinds.TokenKind.{TokenKind}
 use Rattle.gs_lex.specs.declared.plains.Plain.{Plain}
-use Rattle.gs_lex.specs.declared.scans.Scan.{Scan}
+use Rattle.gs_automaton.specs.declared.scans.Scan.{Scan}
 use Rattle.gs_lex.specs.declared.steps.Reading.{Reading}
 use Rattle.gs_lex.proofs.BarrenLemmas.{barren-none, some_bytes_of}
 use Rattle.gs_lex.proofs.LongestLemmas.{Finds}
 use Rattle.gs_lex.proofs.RunLemmas.{pass-spaces}
-use Rattle.gs_lex.proofs.ScanLemmas.{scan-fresh}
+use Rattle.gs_automaton.proofs.ScanLemmas.{scan-fresh}
 use Rattle.gs_lex.proofs.StandingLemmas.{stands-passed, stands-found, stands-scanned}
 use Rattle.gs_lex.proofs.StepLemmas.{find-token, stuck-finds}
 

@@ -4,16 +4,16 @@ use Rattle.std.proofs.Math.ListN.{take-append-drop}
 use Rattle.std.proofs.lemmas.List.{drop-drop}
 use Rattle.std.proofs.lemmas.Str.{IsUtf8-nil, IsUtf8-append}
 use Rattle.std.specs.Str.{IsUtf8}
-use Rattle.gs_lex.specs.Scans.{MayBecome, IsScanned, IsBarrenTo}
+use Rattle.gs_automaton.specs.Scans.{MayBecome, IsScanned, IsBarrenTo}
 use Rattle.gs_lex.specs.Tokens.{lexeme_at}
 use Rattle.gs_lex.specs.Lexemes.{lexemes_of}
 use Rattle.gs_lex.specs.Readings.{Passes, FindsToken, CutFrom, HasRead, Went, Grows, IsWithin, passed_of, found_of, bit}
 use Rattle.gs_lex.specs.declared.kinds.TokenKind.{TokenKind}
-use Rattle.gs_lex.specs.declared.scans.Scan.{Scan}
+use Rattle.gs_automaton.specs.declared.scans.Scan.{Scan}
 use Rattle.gs_lex.specs.declared.steps.Reading.{Reading}
 use Rattle.gs_lex.specs.declared.tokens.Token.{Token}
-use Rattle.gs_lex.proofs.BecomeLemmas.{becomes-before}
-use Rattle.gs_lex.proofs.ScanLemmas.{scan-fresh}
+use Rattle.gs_automaton.proofs.BecomeLemmas.{becomes-before}
+use Rattle.gs_automaton.proofs.ScanLemmas.{scan-fresh}
 use Rattle.gs_lex.proofs.BarrenLemmas.{barren-none}
 
 drop_more : (m n : ℕ) (x : List ℕ) → m ≤ length x → drop n (drop m x) ≡ drop (m + n) x

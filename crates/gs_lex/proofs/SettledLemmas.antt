@@ -7,29 +7,29 @@ use Rattle.std.specs.Str.{all_scalars, IsUtf8}
 use Rattle.gs_machine.specs.Machines.{Begins}
 use Rattle.gs_machine.specs.Utf8.{IsLongestFront}
 use Rattle.gs_machine.proofs.FrontLemmas.{front_of_parts, one_front}
-use Rattle.gs_lex.specs.Automata.{Recognizes, run, run_from, kind_at}
-use Rattle.gs_lex.specs.Regexes.{Matches, One, Then, both, one}
-use Rattle.gs_lex.specs.States.{tokens, start_of}
-use Rattle.gs_lex.specs.Scans.{IsScanned, recut}
-use Rattle.gs_lex.specs.Symbols.{IsShort}
-use Rattle.gs_lex.specs.Terminals.{has_char, Caret}
+use Rattle.gs_automaton.specs.Automata.{Recognizes, run, run_from, kind_at}
+use Rattle.gs_automaton.specs.Regexes.{Matches, One, Then, both, one}
+use Rattle.gs_automaton.specs.States.{tokens, start_of}
+use Rattle.gs_automaton.specs.Scans.{IsScanned, recut}
+use Rattle.gs_automaton.specs.Symbols.{IsShort}
+use Rattle.gs_automaton.specs.Terminals.{has_char, Caret}
 use Rattle.gs_lex.specs.Tokens.{Cut, Between, InComment, CutEnd, AtEnd, AtFault, Lexeme, IsCut, lexeme_at, has_text, token_kind, Longest, NoTerminal, ended, token, no_token, line_end}
 use Rattle.gs_lex.specs.Readings.{CutFrom, Waits, inside, between, begun, gap_of}
 use Rattle.gs_lex.specs.Cuts.{cut_from}
 use Rattle.gs_lex.specs.Lexers.{Stay, MayGoQuietly}
 use Rattle.gs_lex.specs.Standing.{StandsAfter, Awaits}
 use Rattle.gs_lex.specs.declared.kinds.TokenKind.{TokenKind}
-use Rattle.gs_lex.specs.declared.kinds.Terminal.{Terminal}
-use Rattle.gs_lex.specs.declared.kinds.Terminal.TheVariants as kind
-use Rattle.gs_lex.specs.declared.states.State.{State}
-use Rattle.gs_lex.specs.declared.states.State.TheVariants as at
+use Rattle.gs_automaton.specs.declared.terminals.Terminal.{Terminal}
+use Rattle.gs_automaton.specs.declared.terminals.Terminal.TheVariants as kind
+use Rattle.gs_automaton.specs.declared.states.State.{State}
+use Rattle.gs_automaton.specs.declared.states.State.TheVariants as at
 use Rattle.gs_lex.specs.declared.steps.Reading.{Reading}
-use Rattle.gs_lex.proofs.AutomatonLemmas.{run-append}
+use Rattle.gs_automaton.proofs.AutomatonLemmas.{run-append}
 use Rattle.gs_lex.proofs.BarrenLemmas.{scalars-join}
-use Rattle.gs_lex.proofs.BecomeLemmas.{short-begins, short-nothing}
+use Rattle.gs_automaton.proofs.BecomeLemmas.{short-begins, short-nothing}
 use Rattle.gs_lex.proofs.LongestLemmas.{Compared, within, beyond, compare, no_start}
-use Rattle.gs_lex.proofs.ScanLemmas.{scan-after}
-use Rattle.gs_lex.proofs.TerminalLemmas.{accepted-terminal, terminal-accepted}
+use Rattle.gs_automaton.proofs.ScanLemmas.{scan-after}
+use Rattle.gs_automaton.proofs.TerminalLemmas.{accepted-terminal, terminal-accepted}
 use Rattle.gs_lex.proofs.CutLemmas.{cut-from}
 use Rattle.gs_lex.proofs.OneCutLemmas.{cut-one}
 use Rattle.gs_lex.proofs.WayLemmas.{Ways, Goes, goes, ended as has_ended, caret, may-go}

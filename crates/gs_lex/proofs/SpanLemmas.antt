@@ -2,10 +2,10 @@
 use Rattle.std.proofs.Common.{◌≡◌, ℕ, ◌+◌, ◌^◌, ◌<◌, ◌≤◌, Bool, List, [], ◌∷◌, ◌++◌, refl, sym, ap, ◌∙◌, arith, append_assoc, length, length-append, encode_utf8, encode_utf8_all}
 use Rattle.gs_lex.specs.Spans.{AreSpans}
 use Rattle.gs_lex.specs.Tokens.{Cut, Gap, Between, InComment, CutEnd, Lexeme, Longest, place_after, ended, space, hash, comment, line_end, bad_comment, token, no_kind, no_token}
-use Rattle.gs_lex.proofs.AutomatonLemmas.{nonempty}
+use Rattle.gs_automaton.proofs.AutomatonLemmas.{nonempty}
 use Rattle.gs_lex.proofs.BarrenLemmas.{some_bytes_of}
 use Rattle.gs_lex.proofs.LongestLemmas.{no_start}
-use Rattle.gs_lex.proofs.TerminalLemmas.{terminal-accepted}
+use Rattle.gs_automaton.proofs.TerminalLemmas.{terminal-accepted}
 
 -- after some bytes more of a text that is short enough
 after_more : (x before w r : List ℕ) (n : ℕ) → x ≡ before ++ (w ++ r) → n ≡ length before → length x < 2 ^ 64

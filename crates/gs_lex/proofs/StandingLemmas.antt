@@ -4,16 +4,16 @@ use Rattle.std.proofs.Math.ListN.{take-append-drop}
 use Rattle.std.proofs.lemmas.List.{drop-drop}
 use Rattle.std.proofs.lemmas.Str.{IsUtf8-nil, IsUtf8-append}
 use Rattle.gs_lex.specs.Tokens.{IsCut, CutEnd, AtEnd, AtFault, Lexeme, lexeme_at}
-use Rattle.gs_lex.specs.Scans.{MayFollow, IsScanned}
+use Rattle.gs_automaton.specs.Scans.{MayFollow, IsScanned}
 use Rattle.gs_lex.specs.Readings.{CutFrom, Passes, FindsToken, Fails, Waits, passed_of, found_of, first_of}
 use Rattle.gs_lex.specs.Standing.{StandsAfter, Awaits}
 use Rattle.gs_lex.specs.declared.kinds.TokenKind.{TokenKind}
-use Rattle.gs_lex.specs.declared.scans.Scan.{Scan}
+use Rattle.gs_automaton.specs.declared.scans.Scan.{Scan}
 use Rattle.gs_lex.specs.declared.steps.Reading.{Reading}
 use Rattle.gs_lex.proofs.BarrenLemmas.{barren-none, read-more, read-end, read-fresh}
-use Rattle.gs_lex.proofs.BecomeLemmas.{becomes-on, becomes-more, becomes-open}
+use Rattle.gs_automaton.proofs.BecomeLemmas.{becomes-on, becomes-more, becomes-open}
 use Rattle.gs_lex.proofs.ReadLemmas.{becomes-front}
-use Rattle.gs_lex.proofs.ScanLemmas.{scan-fresh}
+use Rattle.gs_automaton.proofs.ScanLemmas.{scan-fresh}
 use Rattle.gs_lex.proofs.SettledLemmas.{awaits-at}
 
 -- at the start of a text

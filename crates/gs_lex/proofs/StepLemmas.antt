@@ -7,18 +7,18 @@ use Rattle.std.proofs.str.Laws.{one}
 use Rattle.std.proofs.lemmas.Str.{IsUtf8-nil, IsUtf8-encode}
 use Rattle.std.specs.Str.{StartsWithNoChar, IsUtf8}
 use Rattle.gs_machine.proofs.Encodings.{scalar_from}
-use Rattle.gs_lex.specs.Classes.{is_ws, is_line_end}
-use Rattle.gs_lex.specs.Scans.{MayFollow, MayBecome, IsScanned, IsBarren, IsBarrenTo}
-use Rattle.gs_lex.specs.Symbols.{BeginsWith}
+use Rattle.gs_automaton.specs.Classes.{is_ws, is_line_end}
+use Rattle.gs_automaton.specs.Scans.{MayFollow, MayBecome, IsScanned, IsBarren, IsBarrenTo}
+use Rattle.gs_automaton.specs.Symbols.{BeginsWith}
 use Rattle.gs_lex.specs.Tokens.{Cut, Between, InComment, AtEnd, AtFault, Lexeme, lexeme_at, place_after, token_kind, NoTerminal, EndsLine, ended, hash, comment, line_end, bad_comment, token, no_kind, no_token}
 use Rattle.gs_lex.specs.Readings.{Passes, FindsToken, Fails, CutFrom, gap_of, BeginsToken}
 use Rattle.gs_lex.specs.declared.kinds.TokenKind.{TokenKind}
-use Rattle.gs_lex.specs.declared.kinds.Terminal.{Terminal}
-use Rattle.gs_lex.specs.declared.kinds.Terminal.TheVariants as kind
-use Rattle.gs_lex.specs.declared.scans.Scan.{Scan}
+use Rattle.gs_automaton.specs.declared.terminals.Terminal.{Terminal}
+use Rattle.gs_automaton.specs.declared.terminals.Terminal.TheVariants as kind
+use Rattle.gs_automaton.specs.declared.scans.Scan.{Scan}
 use Rattle.gs_lex.specs.declared.steps.Reading.{Reading}
-use Rattle.gs_lex.proofs.BecomeLemmas.{becomes-self, becomes-on, becomes-before, becomes-end}
-use Rattle.gs_lex.proofs.ScanLemmas.{scan-after, scan-becomes, begins-become, begins-some}
+use Rattle.gs_automaton.proofs.BecomeLemmas.{becomes-self, becomes-on, becomes-before, becomes-end}
+use Rattle.gs_automaton.proofs.ScanLemmas.{scan-after, scan-becomes, begins-become, begins-some}
 use Rattle.gs_lex.proofs.BarrenLemmas.{barren-after, barren-max, barren-word}
 use Rattle.gs_lex.proofs.LongestLemmas.{IsAll, Finds, stuck-all, scan-finds, scan-none}
 

@@ -5,15 +5,15 @@ use Rattle.std.proofs.lemmas.List.{drop-drop}
 use Rattle.gs_lex.specs.Tokens.{IsCut, CutEnd, AtFault, Lexeme, lexeme_at}
 use Rattle.gs_lex.specs.Cuts.{cut_from}
 use Rattle.gs_lex.specs.Readings.{CutFrom, Passes, FindsToken, Fails, passed_of, found_of, first_of, gap_of}
-use Rattle.gs_lex.specs.Scans.{IsBarrenTo}
+use Rattle.gs_automaton.specs.Scans.{IsBarrenTo}
 use Rattle.gs_lex.specs.Cutting.{HasCutOff}
 use Rattle.gs_lex.specs.declared.kinds.TokenKind.{TokenKind}
 use Rattle.gs_lex.specs.declared.steps.Reading.{Reading}
 use Rattle.gs_lex.proofs.BarrenLemmas.{barren-none, read-end, read-fresh}
-use Rattle.gs_lex.proofs.BecomeLemmas.{becomes-self}
+use Rattle.gs_automaton.proofs.BecomeLemmas.{becomes-self}
 use Rattle.gs_lex.proofs.CutLemmas.{cut-from}
 use Rattle.gs_lex.proofs.FinishLemmas.{fails-at}
-use Rattle.gs_lex.proofs.ScanLemmas.{scan-fresh}
+use Rattle.gs_automaton.proofs.ScanLemmas.{scan-fresh}
 
 -- what is left after so many bytes more
 left_more : (r : Reading) (x : List ℕ) (count : ℕ) → drop count (drop r.cut x) ≡ drop (r.cut + count) x

@@ -3,21 +3,21 @@ use Rattle.std.proofs.Common.{◌≡◌, ℕ, ◌<◌, Bool, true, List, [], ◌
 use Rattle.std.proofs.lemmas.Bool.{and_from}
 use Rattle.std.specs.Str.{all_scalars}
 use lib.Utf8.{scalar}
-use Rattle.gs_lex.specs.Automata.{run_from, kind_at}
-use Rattle.gs_lex.specs.States.{tokens, state_after}
+use Rattle.gs_automaton.specs.Automata.{run_from, kind_at}
+use Rattle.gs_automaton.specs.States.{tokens, state_after}
 use Rattle.gs_lex.specs.Tokens.{token_kind, has_text}
 use Rattle.gs_lex.specs.declared.kinds.TokenKind.{TokenKind}
 use Rattle.gs_lex.specs.declared.kinds.TokenKind.TheVariants as token
-use Rattle.gs_lex.specs.declared.kinds.Terminal.{Terminal}
-use Rattle.gs_lex.specs.declared.kinds.Terminal.TheVariants as kind
-use Rattle.gs_lex.specs.declared.states.State.{State}
-use Rattle.gs_lex.specs.declared.states.State.TheVariants as at
-use Rattle.gs_lex.specs.declared.states.Mark.{Mark}
-use Rattle.gs_lex.specs.declared.states.Mark.TheVariants as mark
-use Rattle.gs_lex.specs.declared.states.Text.{Text}
-use Rattle.gs_lex.specs.declared.states.Text.TheVariants as text
-use Rattle.gs_lex.specs.declared.states.Left.{Left}
-use Rattle.gs_lex.specs.declared.states.Left.TheVariants as left
+use Rattle.gs_automaton.specs.declared.terminals.Terminal.{Terminal}
+use Rattle.gs_automaton.specs.declared.terminals.Terminal.TheVariants as kind
+use Rattle.gs_automaton.specs.declared.states.State.{State}
+use Rattle.gs_automaton.specs.declared.states.State.TheVariants as at
+use Rattle.gs_automaton.specs.declared.states.Mark.{Mark}
+use Rattle.gs_automaton.specs.declared.states.Mark.TheVariants as mark
+use Rattle.gs_automaton.specs.declared.states.Text.{Text}
+use Rattle.gs_automaton.specs.declared.states.Text.TheVariants as text
+use Rattle.gs_automaton.specs.declared.states.Left.{Left}
+use Rattle.gs_automaton.specs.declared.states.Left.TheVariants as left
 
 -- two texts that lead on to tokens of one kind, whose bytes a token holds, the second with more characters
 pub record Ways (q : State) : Type 0 where

@@ -2,12 +2,12 @@
 use Rattle.std.specs.Prelude.{◌≡◌, ℕ, zero, suc, Bool, ◌==◌, if◌then◌else◌, List, [], ◌∷◌, length, Option, Some, None, encode_utf8, encode_utf8_all}
 use Rattle.gs_machine.specs.Utf8.{bad, symbols}
 use Rattle.gs_model.specs.Characters.{number_sign}
-use Rattle.gs_lex.specs.Classes.{is_ws, is_line_end}
-use Rattle.gs_lex.specs.Automata.{Found, longest}
-use Rattle.gs_lex.specs.States.{tokens}
+use Rattle.gs_automaton.specs.Classes.{is_ws, is_line_end}
+use Rattle.gs_automaton.specs.Automata.{Found, longest}
+use Rattle.gs_automaton.specs.States.{tokens}
 use Rattle.gs_lex.specs.Tokens.{Cut, IsCut, Gap, Between, InComment, CutEnd, AtEnd, AtFault, Lexeme, place_after, token_kind, lexeme_at}
 use Rattle.gs_lex.specs.declared.kinds.TokenKind.{TokenKind}
-use Rattle.gs_lex.specs.declared.kinds.Terminal.{Terminal}
+use Rattle.gs_automaton.specs.declared.terminals.Terminal.{Terminal}
 
 -- the tokens of a text, and how it ends
 abbrev pub Parted : Type 0

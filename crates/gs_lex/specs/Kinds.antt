@@ -3,8 +3,8 @@ use Rattle.std.specs.Prelude.{Bool, true, false, ℕ, List, Option, Some, None, 
 use Rattle.std.specs.Char.{to_ascii_lowercase}
 use Rattle.gs_lex.specs.declared.kinds.TokenKind.{TokenKind}
 use Rattle.gs_lex.specs.declared.kinds.TokenKind.TheVariants as kind
-use Rattle.gs_lex.specs.declared.kinds.Terminal.{Terminal}
-use Rattle.gs_lex.specs.declared.kinds.Terminal.TheVariants as terminal
+use Rattle.gs_automaton.specs.declared.terminals.Terminal.{Terminal}
+use Rattle.gs_automaton.specs.declared.terminals.Terminal.TheVariants as terminal
 
 -- a word in any case
 abbrev pub is_word : List ℕ → List ℕ → Bool

@@ -1,8 +1,8 @@
 -- Tokens that are known at once: no longer one may come, whatever the text becomes.
 use Rattle.std.specs.Prelude.{◌≡◌, ℕ, ◌+◌, ◌<◌, ◌≤◌, Bool, false, List, length, drop}
-use Rattle.gs_lex.specs.Classes.{is_ws}
+use Rattle.gs_automaton.specs.Classes.{is_ws}
 use Rattle.gs_lex.specs.Readings.{FindsToken}
-use Rattle.gs_lex.specs.Runs.{AllFrom}
+use Rattle.gs_automaton.specs.Runs.{AllFrom}
 use Rattle.gs_lex.specs.Tokens.{place_after}
 use Rattle.gs_lex.specs.declared.kinds.TokenKind.{TokenKind}
 use Rattle.gs_lex.specs.declared.plains.Plain.{Plain}

@@ -2,17 +2,17 @@
 use Rattle.std.specs.Prelude.{◌≡◌, ◌≢◌, ℕ, ◌+◌, ◌≤◌, ◌<◌, Bool, true, false, List, [], ◌∷◌, ◌++◌, length, take, drop}
 use Rattle.std.specs.Str.{IsUtf8}
 use Rattle.gs_model.specs.Characters.{number_sign}
-use Rattle.gs_lex.specs.Classes.{is_ws}
+use Rattle.gs_automaton.specs.Classes.{is_ws}
 use Rattle.gs_lex.specs.Tokens.{Cut, Gap, Between, InComment, CutEnd, AtEnd, AtFault, Lexeme, lexeme_at, place_after}
 use Rattle.gs_lex.specs.Lexemes.{lexemes_of}
-use Rattle.gs_lex.specs.Symbols.{IsShort}
-use Rattle.gs_lex.specs.Scans.{MayFollow, MayBecome, IsScanned, IsBarrenTo, fresh}
+use Rattle.gs_automaton.specs.Symbols.{IsShort}
+use Rattle.gs_automaton.specs.Scans.{MayFollow, MayBecome, IsScanned, IsBarrenTo, fresh}
 use Rattle.gs_lex.specs.declared.readings.Halt.{Halt}
 use Rattle.gs_lex.specs.declared.readings.Halt.TheVariants as halt
 use Rattle.gs_lex.specs.declared.kinds.TokenKind.{TokenKind}
-use Rattle.gs_lex.specs.declared.kinds.Terminal.{Terminal}
-use Rattle.gs_lex.specs.declared.states.State.TheVariants as at
-use Rattle.gs_lex.specs.declared.scans.Scan.{Scan}
+use Rattle.gs_automaton.specs.declared.terminals.Terminal.{Terminal}
+use Rattle.gs_automaton.specs.declared.states.State.TheVariants as at
+use Rattle.gs_automaton.specs.declared.scans.Scan.{Scan}
 use Rattle.gs_lex.specs.declared.steps.Reading.{Reading}
 use Rattle.gs_lex.specs.declared.steps.Step.{Step}
 use Rattle.gs_lex.specs.declared.steps.Step.TheVariants as step

@@ -1,9 +1,9 @@
 -- The tokens of a text are its spans: the bytes from where a token starts to where it ends.
 use Rattle.std.specs.Prelude.{◌≡◌, ℕ, ◌+◌, ◌≤◌, ◌<◌, Bool, List, [], ◌∷◌, ◌++◌, length, Some, if◌then◌else◌, encode_utf8_all}
-use Rattle.gs_lex.specs.Terminals.{IsTerminal}
+use Rattle.gs_automaton.specs.Terminals.{IsTerminal}
 use Rattle.gs_lex.specs.Tokens.{Lexeme, CutEnd, IsCut, has_text, token_kind}
 use Rattle.gs_lex.specs.declared.kinds.TokenKind.{TokenKind}
-use Rattle.gs_lex.specs.declared.kinds.Terminal.{Terminal}
+use Rattle.gs_automaton.specs.declared.terminals.Terminal.{Terminal}
 
 -- these bytes are a token of this kind
 pub record IsSpelling (updates : Bool) (k : TokenKind) (bytes : List ℕ) : Type 0 where

@@ -3,7 +3,7 @@ use Rattle.std.specs.Prelude.{◌≡◌, ℕ, ◌+◌, ◌≤◌, ◌<◌, Bool,
 use Rattle.std.specs.Str.{IsUtf8}
 use Rattle.gs_machine.specs.Utf8.{IsLongestFront}
 use Rattle.gs_lex.specs.Tokens.{IsCut, CutEnd, AtEnd, AtFault, Lexeme, lexeme_at}
-use Rattle.gs_lex.specs.Scans.{MayBecome, MayFollow}
+use Rattle.gs_automaton.specs.Scans.{MayBecome, MayFollow}
 use Rattle.gs_lex.specs.Readings.{CutFrom, HasRead}
 use Rattle.gs_lex.specs.Cutting.{left_of}
 use Rattle.gs_lex.specs.Lexers.{AreSettled, MayGoQuietly}

@@ -5,10 +5,10 @@ use Rattle.std.specs.Prelude.{◌≡◌, ◌≢◌, ℕ, ◌+◌, ◌-◌, ◌^�
 use Rattle.std.specs.Char.{IsScalar}
 use Rattle.std.specs.Str.{StartsWithNoChar, all_scalars}
 use Rattle.gs_model.specs.Characters.{number_sign}
-use Rattle.gs_lex.specs.Classes.{is_ws, is_line_end}
-use Rattle.gs_lex.specs.Terminals.{IsTerminal}
+use Rattle.gs_automaton.specs.Classes.{is_ws, is_line_end}
+use Rattle.gs_automaton.specs.Terminals.{IsTerminal}
 use Rattle.gs_lex.specs.declared.kinds.TokenKind.{TokenKind}
-use Rattle.gs_lex.specs.declared.kinds.Terminal.{Terminal}
+use Rattle.gs_automaton.specs.declared.terminals.Terminal.{Terminal}
 pub use Rattle.gs_lex.specs.Kinds.{is_word, directive, update_word, word, token_kind, has_text}
 
 -- a place in a text: the number of bytes before it, which stops at the greatest `u64`

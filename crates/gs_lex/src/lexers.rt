@@ -3,9 +3,9 @@ ghost use Rattle.std.specs.Prelude.{◌≡◌, ◌≤◌, [], drop, vec_len, IfO
 ghost use Rattle.gs_lex.specs.Readings.{Grows, first_of};
 
 use crate::readings::{Halt, read};
-use crate::scans::Scan;
 use crate::steps::Reading;
 use crate::tokens::Token;
+use gs_automaton::Scan;
 use gs_model::Refusal;
 use std::alloc::{AllocError, Global};
 

@@ -2,25 +2,16 @@
 //! hand whole.
 #![tactic(auto)]
 
-mod classes;
-mod fronts;
 mod kinds;
 mod laws;
 mod lexers;
-mod moves;
-mod numbers;
 mod pieces;
 mod plains;
-mod quotes;
 mod readings;
 mod runs;
-mod scans;
-mod states;
 mod steps;
-mod symbols;
 mod texts;
 mod tokens;
-mod ways;
 mod words;
 
 pub use kinds::TokenKind;

@@ -2,11 +2,10 @@
 ghost use Rattle.std.specs.Prelude.{IfSome};
 ghost use Rattle.gs_lex.specs.Plains.{IsPlain, IsPlainAhead};
 
-use crate::fronts::over_front;
 use crate::kinds::TokenKind;
 use crate::runs::space_run;
-use crate::scans::Scan;
 use crate::words::token_kind;
+use gs_automaton::{Scan, over_front};
 
 /// White space, and a token after it.
 #[derive(Clone, Copy, Debug)]

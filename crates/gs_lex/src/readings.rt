@@ -3,9 +3,9 @@ ghost use Rattle.std.specs.Prelude.{◌≡◌, ◌≤◌, ◌<◌, ◌+◌, ◌^
 ghost use Rattle.gs_lex.specs.Readings.{AddsToken, Grows, IsWithin, ReadsTo, StepFollows, StepMoves, passed_of, found_of};
 
 use crate::kinds::TokenKind;
-use crate::scans::Scan;
 use crate::steps::{Reading, Step, next_step};
 use crate::tokens::{Token, later_place, token_at};
+use gs_automaton::Scan;
 use std::alloc::{AllocError, Global};
 
 /// Why a reading stops.

@@ -1,15 +1,13 @@
 //! One step of reading a text.
 ghost use Rattle.std.specs.Prelude.{◌≡◌, ◌≤◌, length, true, false};
 ghost use Rattle.gs_lex.specs.Readings.{BeginsToken, StepFits, StepFollows, StepMoves};
-ghost use Rattle.gs_lex.specs.Scans.{IsBarrenAfter};
+ghost use Rattle.gs_automaton.specs.Scans.{IsBarrenAfter};
 
-use crate::classes::is_line_end;
-use crate::kinds::{Terminal, TokenKind};
+use crate::kinds::TokenKind;
 use crate::plains::plain_token;
 use crate::runs::{comment_run, is_space, space_run};
-use crate::scans::{Scan, read_on};
-use crate::symbols::{Symbol, front_at};
 use crate::words::token_kind;
+use gs_automaton::{Scan, Symbol, Terminal, front_at, is_line_end, read_on};
 
 /// Where the reading of a text stands.
 #[derive(Clone, Copy, Debug)]

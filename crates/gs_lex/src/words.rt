@@ -2,7 +2,8 @@
 ghost use Rattle.std.specs.Prelude.{◌≡◌, bytes_eq};
 ghost use Rattle.gs_lex.specs.Tokens as spec;
 
-use crate::kinds::{Terminal, TokenKind};
+use crate::kinds::TokenKind;
+use gs_automaton::Terminal;
 
 fn is_text(text: &[u8], word: &[u8]) -> bool
     ensures { result ≡ bytes_eq text.now word.now }

@@ -9,7 +9,7 @@ use Rattle.gs_lex.specs.Tokens as lexer
 use Rattle.gs_lex.specs.Tokens.{Lexeme, IsCut}
 use Rattle.gs_lex.specs.Pieces.{Leads, Holds, left_in}
 use Rattle.gs_lex.specs.declared.pieces.PieceLexer.{PieceLexer}
-use Rattle.gs_lex.proofs.BecomeLemmas.{no_end}
+use Rattle.gs_automaton.proofs.BecomeLemmas.{no_end}
 use Rattle.gs_lex.proofs.CutLemmas.{stands-goes-on}
 use Rattle.gs_lex.proofs.StandingLemmas.{stands-last}
 use Rattle.gs_blank.specs.Numbers.{no_numbers}

@@ -6,7 +6,7 @@ use Rattle.gs_model.specs.declared.refusals.Refusal.TheVariants as refusal
 use Rattle.gs_machine.specs.Machines.{steps, rest}
 use Rattle.gs_lex.specs.Tokens as lexer
 use Rattle.gs_lex.specs.Tokens.{Lexeme, IsCut}
-use Rattle.gs_lex.specs.Scans.{MayFollow}
+use Rattle.gs_automaton.specs.Scans.{MayFollow}
 use Rattle.gs_lex.specs.Standing.{Awaits}
 use Rattle.gs_lex.specs.Pieces.{Leads}
 use Rattle.gs_lex.specs.declared.pieces.PieceLexer.{PieceLexer}

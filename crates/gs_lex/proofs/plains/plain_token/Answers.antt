@@ -1,6 +1,6 @@
 use Rattle.std.proofs.Common.{sym, subst, arith}
-use Rattle.gs_lex.specs.Fronts.{GoesOver}
-use Rattle.gs_lex.specs.declared.scans.Scan.{Scan}
+use Rattle.gs_automaton.specs.Fronts.{GoesOver}
+use Rattle.gs_automaton.specs.declared.scans.Scan.{Scan}
 use Rattle.gs_lex.proofs.PlainLemmas.{plain-found}
 use Rattle.gs_lex.proofs.plains.plain_token.Goals as goal
 

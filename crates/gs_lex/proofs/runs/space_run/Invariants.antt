@@ -1,5 +1,5 @@
-use Rattle.gs_lex.specs.Classes as class
-use Rattle.gs_lex.specs.Runs.{AllFrom}
+use Rattle.gs_automaton.specs.Classes as class
+use Rattle.gs_automaton.specs.Runs.{AllFrom}
 use Rattle.gs_lex.proofs.runs.space_run.Given as goal
 
 abbrev pub invariant-loop-i : goal.invariant-loop-i

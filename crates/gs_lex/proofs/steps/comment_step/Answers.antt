@@ -1,8 +1,8 @@
 use Rattle.std.proofs.Common.{arith, sym}
-use Rattle.gs_lex.proofs.ScanLemmas.{begins-some}
+use Rattle.gs_automaton.proofs.ScanLemmas.{begins-some}
 use Rattle.gs_lex.proofs.RunLemmas.{pass-comments}
 use Rattle.gs_lex.proofs.StepLemmas.{pass-line-end, pass-comment, fail-comment, ends_line, ends_text, bad-some, some-front, some-length, short-end}
-use Rattle.gs_lex.proofs.BecomeLemmas.{short-begins}
+use Rattle.gs_automaton.proofs.BecomeLemmas.{short-begins}
 use Rattle.gs_lex.proofs.steps.comment_step.Goals as goal
 
 pub returns-then-is_line_end-clause-fits : goal.returns-then-is_line_end-clause-fits

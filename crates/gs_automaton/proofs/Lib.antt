@@ -1,0 +1,15 @@
+pub mod BecomeLemmas
+pub mod SymbolLemmas
+pub mod AutomatonLemmas
+pub mod ScanLemmas
+pub mod TerminalLemmas
+pub mod RunLemmas
+pub mod TableLemmas
+pub mod FrontLemmas
+pub mod Derivatives
+pub mod Residuals
+pub mod AlikeLemmas
+pub mod NextLemmas
+pub mod Checks
+pub mod StateChecks
+pub mod Codes

@@ -1,0 +1,11 @@
+pub mod Classes
+pub mod Automata
+pub mod Moves
+pub mod States
+pub mod Symbols
+pub mod Regexes
+pub mod Chars
+pub mod Terminals
+pub mod Scans
+pub mod Runs
+pub mod Fronts
