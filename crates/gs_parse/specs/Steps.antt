@@ -5,7 +5,7 @@ use Rattle.gs_body.specs.Bodies.{triples_of, end_after}
 use Rattle.gs_document.specs.Contexts.{TurtleContext}
 use Rattle.gs_triple_values.specs.Views.{symbol_at}
 use Rattle.gs_triple_parser.specs.Views.{pending_triples}
-use Rattle.gs_triple_values.specs.declared.symbols.Symbol.{Symbol}
+use Rattle.gs_token_terms.specs.declared.symbols.Symbol.{Symbol}
 use Rattle.gs_document.specs.Directives.{with_prefix}
 use Rattle.gs_document.specs.States.{Transition}
 use Rattle.gs_document.specs.Machine as machine

@@ -15,7 +15,7 @@ use Rattle.gs_triple_parser.specs.Frames.{stack_of}
 use Rattle.gs_triple_values.specs.Views.{context_in, context_of}
 use Rattle.gs_triple_parser.specs.Views.{scope_context, scope_numbers, context_now, state_at, triples_state}
 use Rattle.gs_triple_parser.specs.Machine.{Declares}
-use Rattle.gs_triple_values.specs.declared.contexts.Context.{Context as Known}
+use Rattle.gs_token_terms.specs.declared.contexts.Context.{Context as Known}
 use Rattle.gs_triple_parser.specs.declared.scopes.Scope.{Scope}
 use Rattle.gs_triple_parser.specs.declared.parser.TripleParser.{TripleParser}
 

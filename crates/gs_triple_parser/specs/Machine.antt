@@ -14,8 +14,8 @@ use Rattle.gs_triple_parser.specs.declared.frames.Frame.{Frame}
 use Rattle.gs_triple_parser.specs.declared.frames.Goal.{Goal}
 use Rattle.gs_triple_parser.specs.declared.frames.Slot.{Slot}
 use Rattle.gs_triple_parser.specs.declared.places.Place.{Place}
-use Rattle.gs_triple_values.specs.declared.symbols.Symbol.{Symbol}
-use Rattle.gs_triple_values.specs.declared.symbols.TermToken.{TermToken}
+use Rattle.gs_token_terms.specs.declared.symbols.Symbol.{Symbol}
+use Rattle.gs_token_terms.specs.declared.symbols.TermToken.{TermToken}
 use Rattle.gs_triple_parser.specs.declared.parser.TripleParser.{TripleParser}
 use Rattle.gs_triple_parser.specs.declared.parser.Turn as code
 

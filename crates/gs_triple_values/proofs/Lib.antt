@@ -1,12 +1,2 @@
-pub mod PrefixLemmas
-pub mod SymbolLemmas
-pub mod ContextLemmas
 pub mod ValueLemmas
 pub mod PatternLemmas
-pub mod PlainLemmas
-pub mod BufferLemmas
-pub mod IriLemmas
-pub mod AfterLemmas
-pub mod TypedLemmas
-pub mod VocabularyLemmas
-pub mod ReferenceLemmas

@@ -8,11 +8,11 @@ use Rattle.gs_triples.specs.Meanings.{Fault, Syntax, iri, value_of, labelled, wo
 use Rattle.gs_triples.specs.Symbols.{Label}
 use Rattle.gs_triples.proofs.LanguageLemmas.{iri-in_language}
 use Rattle.gs_triple_values.specs.Languages.{TypedLanguage, language_of}
-use Rattle.gs_triple_values.specs.Views.{token_at, context_in, context_of}
+use Rattle.gs_token_terms.specs.Views.{token_at, context_in, context_of}
 use Rattle.gs_triple_values.specs.Terms.{iri_value}
 use Rattle.gs_triple_values.specs.declared.allowed.Allowed.{Allowed}
-use Rattle.gs_triple_values.specs.declared.contexts.Context.{Context}
-use Rattle.gs_triple_values.specs.declared.symbols.TermToken.{TermToken}
+use Rattle.gs_token_terms.specs.declared.contexts.Context.{Context}
+use Rattle.gs_token_terms.specs.declared.symbols.TermToken.{TermToken}
 
 module _ {S V X T : Type 0} (l : TypedLanguage S V X T) (a : Allowed) (c : Context) where
   -- an IRI's value, by its term

@@ -1,13 +1,12 @@
--- Read in this order: declared prefixes, the languages of the code and what they stand for, contexts, what tokens and
--- contexts stand for, the terms of tokens, the texts of tokens that stand in a term as they are, and references that mean
--- themselves.
-pub mod Prefixes
+-- Read in this order: of `gs_token_terms`, contexts and what tokens and contexts stand for; then the languages of the code
+-- and what they stand for, and the terms and values of tokens.
+pub use Rattle.gs_token_terms.specs.Prefixes
+pub use Rattle.gs_token_terms.specs.Contexts
+pub use Rattle.gs_token_terms.specs.Datatypes
+pub use Rattle.gs_token_terms.specs.Views
+pub use Rattle.gs_token_terms.specs.Plain
+pub use Rattle.gs_token_terms.specs.Forms
+pub use Rattle.gs_token_terms.specs.References
 pub mod Languages
 pub mod Typed
-pub mod Contexts
-pub mod Datatypes
-pub mod Views
 pub mod Terms
-pub mod Plain
-pub mod Forms
-pub mod References

@@ -1,17 +1,17 @@
 -- The terms and the values of the code's tokens, in the code's context.
 use Rattle.std.specs.Prelude.{◌≡◌, ℕ, List, ◌∷◌, [], ◌++◌, Result, IfOk, OnOk}
 use Rattle.std.specs.Result.{result_map_both}
-use Rattle.gs_model.specs.Terms.{Term}
 use Rattle.gs_blank.specs.Numbers.{Numbers}
 use Rattle.gs_triples.specs.Goals.{first_is, rest_is}
 use Rattle.gs_triples.specs.Meanings.{Fault, with_numbers}
 use Rattle.gs_triples.specs.Meanings as meaning
 use Rattle.gs_triple_values.specs.Languages.{TypedLanguage, language_of}
-use Rattle.gs_triple_values.specs.Views.{token_at, symbol_at, context_of, context_in}
+pub use Rattle.gs_token_terms.specs.Terms.{typed_of}
+use Rattle.gs_token_terms.specs.Views.{token_at, symbol_at, context_in}
 use Rattle.gs_triple_values.specs.declared.allowed.Allowed.{Allowed}
-use Rattle.gs_triple_values.specs.declared.contexts.Context.{Context}
-use Rattle.gs_triple_values.specs.declared.symbols.TermToken.{TermToken}
-use Rattle.gs_triple_values.specs.declared.symbols.Symbol.{Symbol}
+use Rattle.gs_token_terms.specs.declared.contexts.Context.{Context}
+use Rattle.gs_token_terms.specs.declared.symbols.TermToken.{TermToken}
+use Rattle.gs_token_terms.specs.declared.symbols.Symbol.{Symbol}
 
 -- what an answer of the code stands for, or its fault
 abbrev pub stood : {S X : Type 0} → (S → X) → Result S Fault → Result X Fault
@@ -32,10 +32,6 @@ StandsNumbered f r n x = IfOk r (λ m. with_numbers n (stood f m) ≡ x)
 -- it adds this triple
 abbrev pub Adds : {T E : Type 0} → Result (Unit {0}) E → List T → List T → T → Type 0
 Adds r old new t = OnOk r (new ≡ old ++ t ∷ [])
-
--- a string with its datatype
-abbrev pub typed_of : Context → List ℕ → Symbol → Result Term Fault
-typed_of env x t = meaning.typed (context_of env) x (symbol_at t)
 
 -- in a language of the code
 module _ {S V X T : Type 0} (l : TypedLanguage S V X T) where

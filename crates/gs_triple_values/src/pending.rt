@@ -2,10 +2,9 @@
 ghost use Rattle.gs_triple_values.specs.Languages.{triple_in};
 ghost use Rattle.gs_triple_values.specs.Terms.{Adds, first_of, rest_of};
 
-use crate::contexts::Context;
 use crate::languages::Language;
-use crate::terms::blank;
-use crate::vocabulary::{rdf_first, rdf_rest};
+use gs_token_terms::terms::blank;
+use gs_token_terms::{Context, rdf_first, rdf_rest};
 use std::alloc::{AllocError, Global};
 
 /// A triple of a subject and a verb that stay.

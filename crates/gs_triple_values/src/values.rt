@@ -3,20 +3,18 @@ ghost use Rattle.std.specs.Prelude.{◌≡◌, Some, IfOk, option_map, codes};
 ghost use Rattle.gs_model.specs.Terms.{Literal, Typed};
 ghost use Rattle.gs_escape.specs.Tokens.{rest_after};
 ghost use Rattle.gs_blank.specs.Numbers.{Numbers, number_of};
-ghost use Rattle.gs_triple_values.specs.Datatypes.{datatype_iri};
+ghost use Rattle.gs_token_terms.specs.Datatypes.{datatype_iri};
 ghost use Rattle.gs_triple_values.specs.Terms.{stood, StandsFor, StandsNumbered, IsNumbered};
 ghost use Rattle.gs_triple_values.specs.Terms.{iri_value, verb_value, word_value, subject_value};
 ghost use Rattle.gs_triples.specs.Meanings.{standing, made_of, with_numbers};
 ghost use Rattle.gs_triple_values.specs.declared.allowed.Allowed.{Allowed as Flags};
 
 use crate::allowed::Allowed;
-use crate::contexts::Context;
 use crate::languages::Language;
-use crate::symbols::{Symbol, TermToken};
-use crate::terms::{after, blank, number};
-use crate::vocabulary::{Datatype, rdf_type};
 use gs_blank::Numbering;
 use gs_model::Fault;
+use gs_token_terms::terms::{after, blank, number};
+use gs_token_terms::{Context, Datatype, Symbol, TermToken, rdf_type};
 use std::alloc::{AllocError, Global};
 
 /// A variable as a verb, where one may stand.

@@ -14,7 +14,7 @@ use Rattle.gs_triple_values.specs.declared.kinds.Subject.{Subject}
 use Rattle.gs_triple_values.specs.declared.kinds.Verb.{Verb}
 use Rattle.gs_triple_values.specs.declared.triple_terms.Terms.{Terms}
 use Rattle.gs_triple_values.specs.declared.patterns.Patterns.{Patterns}
-use Rattle.gs_triple_values.specs.declared.symbols.Symbol.{Symbol}
+use Rattle.gs_token_terms.specs.declared.symbols.Symbol.{Symbol}
 use Rattle.gs_triple_parser.specs.Views.{numbers_now}
 use Rattle.gs_update_text.specs.Requests.{UpdateOperation, Inserts, DeletesData}
 use Rattle.gs_update_text.specs.Operations.{Scope, Block, some_patterns}

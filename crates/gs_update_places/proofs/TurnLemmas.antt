@@ -14,8 +14,8 @@ use Rattle.gs_triples.specs.Machine.{opening}
 use Rattle.gs_triple_values.specs.Languages.{TypedLanguage}
 use Rattle.gs_triple_values.specs.Views.{symbol_at}
 use Rattle.gs_triple_parser.specs.Views.{triples_state, context_now, numbers_now, pending_triples}
-use Rattle.gs_triple_values.specs.declared.symbols.Symbol.{Symbol}
-use Rattle.gs_triple_values.specs.declared.symbols.Symbol.TheVariants as symbol
+use Rattle.gs_token_terms.specs.declared.symbols.Symbol.{Symbol}
+use Rattle.gs_token_terms.specs.declared.symbols.Symbol.TheVariants as symbol
 use Rattle.gs_update_text.specs.Requests.{Inserts, Rejection, Broken, OutOfProfile}
 use Rattle.gs_update_text.specs.Operations.{Block}
 use Rattle.gs_update_text.specs.Blocks as blocks

@@ -2,7 +2,7 @@
 use Rattle.std.specs.Prelude.{◌≡◌, ℕ, [], ◌∷◌, Option, Some, None}
 use Rattle.gs_blank.specs.Numbers.{Numbers}
 use Rattle.gs_triple_values.specs.Typed.{terms, patterns}
-use Rattle.gs_triple_values.specs.declared.symbols.Symbol.{Symbol}
+use Rattle.gs_token_terms.specs.declared.symbols.Symbol.{Symbol}
 use Rattle.gs_triple_parser.specs.Views.{numbers_now}
 use Rattle.gs_update_text.specs.Requests.{UpdateOperation, Inserts, DeletesData, OutOfProfile}
 use Rattle.gs_update_text.specs.Operations.{Scope, some_patterns}

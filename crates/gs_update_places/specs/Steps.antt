@@ -6,7 +6,7 @@ use Rattle.gs_triple_values.specs.Languages.{TypedLanguage}
 use Rattle.gs_triple_values.specs.Views.{symbol_at}
 use Rattle.gs_triple_parser.specs.Views.{scope_context, scope_numbers, triples_state, context_now, numbers_now, pending_triples}
 use Rattle.gs_triple_parser.specs.declared.scopes.Scope.{Scope}
-use Rattle.gs_triple_values.specs.declared.symbols.Symbol.{Symbol}
+use Rattle.gs_token_terms.specs.declared.symbols.Symbol.{Symbol}
 use Rattle.gs_update_text.specs.Requests.{UpdateOperation, Rejection}
 use Rattle.gs_update_text.specs.Blocks as blocks
 use Rattle.gs_update_text.specs.States as machine

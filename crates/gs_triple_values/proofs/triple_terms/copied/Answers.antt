@@ -1,4 +1,4 @@
-use Rattle.gs_triple_values.proofs.BufferLemmas.{text_is_canonical, same_term}
+use Rattle.gs_token_terms.proofs.BufferLemmas.{text_is_canonical, same_term}
 use Rattle.gs_triple_values.proofs.triple_terms.copied.Goals as goal
 
 pub of_canonical-requires : goal.of_canonical-requires

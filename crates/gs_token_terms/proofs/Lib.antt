@@ -1,0 +1,10 @@
+pub mod PrefixLemmas
+pub mod SymbolLemmas
+pub mod ContextLemmas
+pub mod PlainLemmas
+pub mod BufferLemmas
+pub mod IriLemmas
+pub mod AfterLemmas
+pub mod TypedLemmas
+pub mod VocabularyLemmas
+pub mod ReferenceLemmas
