@@ -7,10 +7,10 @@ use Rattle.gs_pool.specs.declared.nodes.Key.{Key}
 use Rattle.gs_tree.specs.Keys.{IsRising}
 use Rattle.gs_tree.specs.Reading.{keys_from}
 use Rattle.gs_tree.proofs.KeysAfter.{left_after, cut_at}
-use Rattle.gs_match.specs.declared.sought.Sought.{Sought}
-use Rattle.gs_match.specs.declared.bindings.Bound.{Bound}
-use Rattle.gs_match.specs.Numbers.{numbers_of}
-use Rattle.gs_match.specs.Lots.{instances_in, Sifts, one_if}
+use Rattle.gs_joins.specs.declared.sought.Sought.{Sought}
+use Rattle.gs_joins.specs.declared.bindings.Bound.{Bound}
+use Rattle.gs_joins.specs.Numbers.{numbers_of}
+use Rattle.gs_match.specs.Candidates.{instances_in, Sifts, one_if}
 use Rattle.gs_match.proofs.SiftLemmas.{flat_map_append}
 
 -- what was read is no more than there is

@@ -25,12 +25,14 @@ use Rattle.gs_tree.proofs.Order.{below}
 use Rattle.gs_keys.specs.Texts.{triple_at, key_cmp, key_total, IsGiven}
 use Rattle.gs_keys.specs.Roots.{graph_at, IsGraphAt}
 use Rattle.gs_keys.proofs.KeyLemmas.{key_cmp_is, triples_of_keys}
-use Rattle.gs_match.specs.declared.sought.Sought.{Sought}
+use Rattle.gs_joins.specs.declared.sought.Sought.{Sought}
+use Rattle.gs_joins.specs.Numbers.{Numbers, bind_key}
+use Rattle.gs_joins.proofs.ListLemmas.{contains_none, contains_head, contains_tail, contains_cases, any_has, any_some}
 use Rattle.gs_match.specs.Instances.{instance_keys}
 use Rattle.gs_match.specs.Patterns.{pattern_of, IsGivenSought, AreGiven, IsLacking, OneLacks}
-use Rattle.gs_match.specs.Numbers.{Numbers, bind_key, keys_if, found_keys}
+use Rattle.gs_match.specs.Found.{keys_if, found_keys}
 use Rattle.gs_match.proofs.NumberLemmas.{found_is, lacks_all}
-use Rattle.gs_match.proofs.ListLemmas.{contains_none, contains_head, contains_tail, contains_cases, any_has, any_some, map_has, map_some}
+use Rattle.gs_match.proofs.ListLemmas.{map_has, map_some}
 
 -- the key is one of these
 abbrev pub IsIn : Key → List Key → Type 0

@@ -18,11 +18,12 @@ use Rattle.gs_pool.specs.declared.nodes.Key.{Key}
 use Rattle.gs_tree.specs.Keys.{AllKeys}
 use Rattle.gs_keys.specs.Texts.{term_at, triple_at, IsGiven}
 use Rattle.gs_keys.proofs.KeyLemmas.{term_read, term_eq_is}
-use Rattle.gs_match.specs.declared.sought.Item.{Item}
-use Rattle.gs_match.specs.declared.sought.Item.TheVariants.{Number, Variable}
-use Rattle.gs_match.specs.declared.sought.Sought.{Sought}
+use Rattle.gs_joins.specs.declared.sought.Item.{Item}
+use Rattle.gs_joins.specs.declared.sought.Item.TheVariants.{Number, Variable}
+use Rattle.gs_joins.specs.declared.sought.Sought.{Sought}
+use Rattle.gs_joins.specs.Numbers.{Numbers, number_for, with_number, bind_number, bind_key}
 use Rattle.gs_match.specs.Patterns.{part_of, pattern_of, IsGivenItem, IsGivenSought, AreGiven, IsLackingPart, IsLacking, OneLacks}
-use Rattle.gs_match.specs.Numbers.{Numbers, number_for, with_number, bind_number, bind_key, keys_if, found_keys, found_at}
+use Rattle.gs_match.specs.Found.{keys_if, found_keys, found_at}
 
 -- bindings with terms in the place of numbers
 abbrev pub lifted : List Term → Numbers → Bindings

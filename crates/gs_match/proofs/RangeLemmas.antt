@@ -11,7 +11,7 @@ use Rattle.gs_dict.specs.Numbering.{IsDistinct}
 use Rattle.gs_pool.specs.declared.nodes.Key.{Key}
 use Rattle.gs_keys.specs.Texts.{text_at, number_cmp, key_cmp, IsGiven}
 use Rattle.gs_keys.proofs.KeyLemmas.{no_text_first, tied_numbers}
-use Rattle.gs_match.specs.Numbers.{no_number}
+use Rattle.gs_joins.specs.Numbers.{no_number}
 use Rattle.gs_match.specs.Ranges.{is_at, in_range, IsRange}
 
 -- the places of a range that a key is in

@@ -5,12 +5,12 @@ use Rattle.gs_dict.specs.Numbering.{IsDistinct}
 use Rattle.gs_tree.specs.Reading.{keys_at, keys_from, first_of}
 use Rattle.gs_keys.specs.Texts.{key_cmp, key_total, IsGiven}
 use Rattle.gs_keys.specs.Roots.{IsGraphAt}
-use Rattle.gs_match.specs.declared.sought.Sought.{Sought}
-use Rattle.gs_match.specs.declared.bindings.Bound.{Bound}
+use Rattle.gs_joins.specs.declared.sought.Sought.{Sought}
+use Rattle.gs_joins.specs.declared.bindings.Bound.{Bound}
+use Rattle.gs_joins.specs.Numbers.{no_number, numbers_of}
 use Rattle.gs_match.specs.declared.ranges.Keys.{Keys}
-use Rattle.gs_match.specs.Numbers.{no_number, numbers_of}
 use Rattle.gs_match.specs.Ranges.{in_range, IsRange, Covers, IsNotBelow, StartsAt, rest_at}
-use Rattle.gs_match.specs.Lots.{one_if, instances_in, Sifts}
+use Rattle.gs_match.specs.Candidates.{one_if, instances_in, Sifts}
 use Rattle.gs_match.proofs.WalkLemmas.{from_first, goes_on, ends_above}
 use Rattle.gs_match.proofs.SiftLemmas.{quiet_one}
 

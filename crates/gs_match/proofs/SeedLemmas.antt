@@ -1,20 +1,23 @@
 -- Instances that are listed by the numbers that an earlier list leaves for a variable.
-use Rattle.std.proofs.Common.{◌≡◌, ◌≤◌, ◌<◌, ℕ, List, [], ◌∷◌, ◌++◌, length, take, get_or, Option, Some, None, sym, ap, ◌∙◌, subst, inl, inr}
+use Rattle.std.proofs.Common.{◌≡◌, ◌≤◌, ◌<◌, ℕ, true, nat_eq, List, [], ◌∷◌, ◌++◌, length, take, get_or, Option, Some, None, refl, sym, ap, ◌∙◌, subst, inl, inr, arith}
 use Rattle.std.specs.List.{Contains}
 use Rattle.std.specs.List.Sorted.{IsPermutation}
+use Rattle.std.proofs.lemmas.Bool.Decides.{nat_tests}
 use Rattle.std.proofs.lemmas.List.{take_all}
 use Rattle.std.proofs.lemmas.List.Elements.{All-get_or, Contains-append_left, Contains-append_right, Contains-append_cases, Contains-push_cases}
 use Rattle.std.proofs.lemmas.List.Sorted.{Contains-permutation}
 use Rattle.gs_pool.specs.declared.nodes.Key.{Key}
-use Rattle.gs_match.specs.declared.sought.Sought.{Sought}
-use Rattle.gs_match.specs.declared.weights.Turn.{Turn}
-use Rattle.gs_match.specs.declared.bindings.Bound.{Bound}
-use Rattle.gs_match.specs.declared.lots.Lot.{Lot}
-use Rattle.gs_match.specs.Numbers.{Numbers, numbers_of, bind_key}
-use Rattle.gs_match.specs.Lots.{first_of, instances_in, Sifts}
-use Rattle.gs_match.specs.Values.{key_of, Has, IsTurnOf, ListsBy, ListsThem, HasNoSolution}
-use Rattle.gs_match.proofs.ListLemmas.{contains_none}
-use Rattle.gs_match.proofs.ValueLemmas.{Holds, holds_none, holds_more, key_complete}
+use Rattle.gs_joins.specs.declared.sought.Sought.{Sought}
+use Rattle.gs_joins.specs.declared.weights.Turn.{Turn}
+use Rattle.gs_joins.specs.declared.bindings.Bound.{Bound}
+use Rattle.gs_joins.specs.declared.lots.Lot.{Lot}
+use Rattle.gs_joins.specs.Numbers.{Numbers, numbers_of, bind_key}
+use Rattle.gs_joins.specs.Lots.{first_of}
+use Rattle.gs_joins.specs.Values.{key_of, Has}
+use Rattle.gs_joins.proofs.ListLemmas.{contains_none}
+use Rattle.gs_joins.proofs.ValueLemmas.{Holds, holds_none, holds_more, key_complete}
+use Rattle.gs_match.specs.Candidates.{instances_in, Sifts, ListsBy, ListsThem, HasNoSolution}
+use Rattle.gs_match.specs.Seeds.{IsTurnOf}
 use Rattle.gs_match.proofs.SiftLemmas.{instance_there, instance_has}
 
 -- all instances with this number for the variable are there
@@ -96,6 +99,11 @@ lists_all ks ls s found is = record {
   sound = λ k there. instance_there [] s ks k (subst (λ zs. Contains zs k) is there);
   all = λ v solves there. let (c, e, hc) = key_complete v [] s (holds_none v) in subst (λ zs. Contains zs (key_of v s)) (sym is) (instance_has [] c s ks (key_of v s) there e);
 }
+
+-- a list without elements
+pub no_keys : (ks : List Key) → true ≡ nat_eq (length ks) 0 → ks ≡ []
+no_keys [] e = refl
+no_keys (k ∷ ks) e = absurd (grind (arith, nat_tests))
 
 -- an empty list has no instance
 pub none_solve : (ls : List Lot) (i : ℕ) (l : Lot) → i < length ls → l ≡ get_or ls i l → l.keys.items ≡ [] → HasNoSolution ls

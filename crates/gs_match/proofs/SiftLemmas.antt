@@ -7,12 +7,14 @@ use Rattle.std.specs.Cmp.{IsTotalOrder}
 use Rattle.gs_pool.specs.declared.nodes.Key.{Key}
 use Rattle.gs_tree.specs.Keys.{AllKeys, IsRising, merge_keys}
 use Rattle.gs_tree.proofs.Merging.{merge_none}
-use Rattle.gs_match.specs.declared.sought.Sought.{Sought}
-use Rattle.gs_match.specs.declared.bindings.Bound.{Bound}
-use Rattle.gs_match.specs.Numbers.{Numbers, numbers_of, bind_key, keys_if, found_keys, Chooses}
+use Rattle.gs_joins.specs.declared.sought.Sought.{Sought}
+use Rattle.gs_joins.specs.declared.bindings.Bound.{Bound}
+use Rattle.gs_joins.specs.Numbers.{Numbers, numbers_of, bind_key, Chooses}
+use Rattle.gs_joins.proofs.ListLemmas.{contains_none, contains_head, contains_cases}
+use Rattle.gs_match.specs.Found.{keys_if, found_keys}
 use Rattle.gs_match.specs.Ranges.{Covers, IsQuiet}
-use Rattle.gs_match.specs.Lots.{one_if, instances_in, Sifts}
-use Rattle.gs_match.proofs.ListLemmas.{contains_none, contains_head, contains_cases, flat_has, flat_some}
+use Rattle.gs_match.specs.Candidates.{one_if, instances_in, Sifts}
+use Rattle.gs_match.proofs.ListLemmas.{flat_has, flat_some}
 
 -- what is found in two lists
 pub flat_map_append : (f : Key → List Key) (xs ys : List Key) → flat_map f (xs ++ ys) ≡ flat_map f xs ++ flat_map f ys

@@ -1,26 +1,62 @@
 -- Lists of the patterns' instances, and what is found in them.
-use Rattle.std.proofs.Common.{◌≡◌, ◌≤◌, ◌<◌, ◌+◌, ℕ, List, [], ◌∷◌, ◌++◌, map, length, take, get_or, slice_get, Option, Some, None, MatchOption, refl, sym, ap, ◌∙◌, subst, inl, inr, arith}
+use Rattle.std.proofs.Common.{◌≡◌, ◌≤◌, ◌<◌, ◌+◌, ℕ, List, [], ◌∷◌, ◌++◌, map, length, take, get_or, slice_get, Option, Some, None, MatchOption, refl, sym, ap, ◌∙◌, subst, inl, inr, append_assoc, append-nil, arith}
 use Rattle.std.specs.List.{All, Contains}
 use Rattle.std.specs.List.Sorted.{IsPermutation}
 use Rattle.std.proofs.lemmas.List.{map-append, take_more, take_all}
-use Rattle.std.proofs.lemmas.List.Elements.{All-nil, All-push, All-contains, Contains-append_left, Contains-append_right, Contains-append_cases, Contains-push, Contains-push_cases}
+use Rattle.std.proofs.lemmas.List.Elements.{All-nil, All-cons, All-head, All-tail, All-push, All-contains, Contains-append_left, Contains-append_right, Contains-append_cases, Contains-push, Contains-push_cases}
 use Rattle.std.proofs.lemmas.List.Sorted.{IsPermutation-refl, IsPermutation-sym, IsPermutation-trans, IsPermutation-append_left, IsPermutation-map, All-permutation, Contains-permutation}
 use Rattle.std.proofs.lemmas.Option.{slice_get_cases, get_or_from_slice_get}
 use Rattle.gs_model.specs.Terms.{Term}
 use Rattle.gs_pool.specs.declared.nodes.Key.{Key}
 use Rattle.gs_tree.specs.Keys.{AllKeys, IsRising, merge_keys}
 use Rattle.gs_keys.specs.Texts.{key_cmp, IsGiven}
-use Rattle.gs_match.specs.declared.sought.Sought.{Sought}
-use Rattle.gs_match.specs.declared.lots.Lot.{Lot}
+use Rattle.gs_joins.specs.declared.sought.Sought.{Sought}
+use Rattle.gs_joins.specs.declared.lots.Lot.{Lot}
+use Rattle.gs_joins.specs.Numbers.{no_number, Numbers, bind_key}
+use Rattle.gs_joins.specs.Lots.{IsSmall, IsLot, MakesLot}
+use Rattle.gs_joins.specs.Values.{Values, key_of, Has, Solves, KeepsAll, KeepsAt, sought_of}
+use Rattle.gs_joins.specs.Reductions.{Reduces}
+use Rattle.gs_joins.proofs.ListLemmas.{contains_none, contains_cases, all_by}
+use Rattle.gs_joins.proofs.ValueLemmas.{Holds, holds_none, values_of, holds_own, key_complete, key_sound}
 use Rattle.gs_match.specs.declared.found.Found.{Found}
-use Rattle.gs_match.specs.Numbers.{no_number, found_keys, found_in, IsFound, Gains}
-use Rattle.gs_match.specs.Lots.{IsSmall, IsLot, MakesLot}
-use Rattle.gs_match.specs.Values.{Values, key_of, Has, Solves, AreLots, ListsThem, KeepsAll, KeepsAt, Collects, sought_of}
-use Rattle.gs_match.specs.Reductions.{Reduces}
-use Rattle.gs_match.proofs.ListLemmas.{contains_none, contains_cases, all_by, map_some}
-use Rattle.gs_match.proofs.ValueLemmas.{holds_none}
-use Rattle.gs_match.proofs.ChoiceLemmas.{found_sound, found_complete}
+use Rattle.gs_match.specs.Found.{keys_if, found_keys, found_at, found_in, IsFound, Gains}
+use Rattle.gs_match.specs.Solving.{SolvesAll, AreLots, Collects}
+use Rattle.gs_match.specs.Candidates.{ListsThem}
+use Rattle.gs_match.proofs.ListLemmas.{flat_has, flat_some, map_some}
 use Rattle.gs_match.proofs.FoundLemmas.{same_found, merge_more}
+
+module _ (ks : List Key) where
+  -- what is found is an instance under values under which all patterns have instances
+  pub found_sound : (ss : List Sought) (b : Numbers) (chosen : List Key) (k : Key) → Contains (found_keys ks ss b chosen) k
+      → (v : Values) × Holds v b × SolvesAll v ks ss × Contains (chosen ++ map (key_of v) ss) k
+  found_sound [] b chosen k h = (values_of b, holds_own b, All-nil (λ s. Contains ks (key_of (values_of b) s)), Contains-append_left chosen [] k h)
+  found_sound (s ∷ ss) b chosen k h =
+      let (z, there, here) = flat_some (found_at ks s ss b chosen) ks k h in
+      by_bound z there (bind_key b s z) refl here (λ c. found_sound ss c (chosen ++ z ∷ []) k)
+    where
+      by_bound : (z : Key) → Contains ks z → (o : Option Numbers) → bind_key b s z ≡ o → Contains (keys_if (λ c. found_keys ks ss c (chosen ++ z ∷ [])) o) k
+          → ((c : Numbers) → Contains (found_keys ks ss c (chosen ++ z ∷ [])) k → (v : Values) × Holds v c × SolvesAll v ks ss × Contains ((chosen ++ z ∷ []) ++ map (key_of v) ss) k)
+          → (v : Values) × Holds v b × SolvesAll v ks (s ∷ ss) × Contains (chosen ++ map (key_of v) (s ∷ ss)) k
+      by_bound z there None f here again = absurd (contains_none k here)
+      by_bound z there (Some c) f here again =
+          let (v, h, all, inside) = again c here in
+          let both = key_sound v b c s z f h in (
+            v,
+            both.0,
+            All-cons (λ s. Contains ks (key_of v s)) s ss (subst (Contains ks) (sym both.1) there) all,
+            subst (λ x. Contains (chosen ++ x ∷ map (key_of v) ss) k) (sym both.1) (subst (λ xs. Contains xs k) (append_assoc chosen (z ∷ []) (map (key_of v) ss)) inside),
+          )
+
+  -- and the other way round
+  pub found_complete : (v : Values) (ss : List Sought) (b : Numbers) (chosen : List Key) (k : Key) → Holds v b → SolvesAll v ks ss → Contains (chosen ++ map (key_of v) ss) k
+      → Contains (found_keys ks ss b chosen) k
+  found_complete v [] b chosen k h all inside = subst (λ xs. Contains xs k) (append-nil chosen) inside
+  found_complete v (s ∷ ss) b chosen k h all inside =
+      let (c, e, hc) = key_complete v b s h in
+      let z : Key = key_of v s in
+      flat_has (found_at ks s ss b chosen) ks z k (All-head (λ s. Contains ks (key_of v s)) s ss all)
+      (subst (λ o. Contains (keys_if (λ c. found_keys ks ss c (chosen ++ z ∷ [])) o) k) (sym e)
+      (found_complete v ss c (chosen ++ z ∷ []) k hc (All-tail (λ s. Contains ks (key_of v s)) s ss all) (subst (λ xs. Contains xs k) (sym (append_assoc chosen (z ∷ []) (map (key_of v) ss))) inside)))
 
 -- what holds of each key
 all_at : (P : Key → Type 0) (ks : List Key) (k : Key) → AllKeys P ks → Contains ks k → P k

@@ -14,7 +14,7 @@ use Rattle.gs_tree.proofs.FromLemmas.{less_is}
 use Rattle.gs_tree.proofs.Order.{AllKeys-map, below}
 use Rattle.gs_keys.specs.Texts.{key_cmp, key_total, IsGiven}
 use Rattle.gs_keys.proofs.KeyLemmas.{tied_keys, tied_given}
-use Rattle.gs_match.specs.Numbers.{no_number}
+use Rattle.gs_joins.specs.Numbers.{no_number}
 use Rattle.gs_match.specs.Ranges.{in_range, IsRange, IsNotBelow, IsQuiet, StartsIn, rest_at}
 use Rattle.gs_match.proofs.RangeLemmas.{above_range, between, only_key}
 

@@ -7,9 +7,9 @@ use Rattle.gs_term.specs.declared.patterns.Part.TheVariants.{Term as TheTerm, Va
 use Rattle.gs_term.specs.declared.patterns.Pattern.{Pattern}
 use Rattle.gs_dict.specs.Numbering.{IsNew}
 use Rattle.gs_keys.specs.Texts.{term_at}
-use Rattle.gs_match.specs.declared.sought.Item.{Item}
-use Rattle.gs_match.specs.declared.sought.Item.TheVariants.{Number, Variable}
-use Rattle.gs_match.specs.declared.sought.Sought.{Sought}
+use Rattle.gs_joins.specs.declared.sought.Item.{Item}
+use Rattle.gs_joins.specs.declared.sought.Item.TheVariants.{Number, Variable}
+use Rattle.gs_joins.specs.declared.sought.Sought.{Sought}
 
 -- the part that an item stands for
 abbrev pub part_of : List Term → Item → Part

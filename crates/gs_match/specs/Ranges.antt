@@ -7,9 +7,9 @@ use Rattle.gs_model.specs.Terms.{Term}
 use Rattle.gs_pool.specs.declared.nodes.Key.{Key}
 use Rattle.gs_tree.specs.Reading.{keys_at, keys_from}
 use Rattle.gs_keys.specs.Texts.{key_cmp, IsGiven}
-use Rattle.gs_match.specs.declared.sought.Sought.{Sought}
+use Rattle.gs_joins.specs.declared.sought.Sought.{Sought}
+use Rattle.gs_joins.specs.Numbers.{no_number, Numbers, bind_key, known_number}
 use Rattle.gs_match.specs.declared.ranges.Keys.{Keys}
-use Rattle.gs_match.specs.Numbers.{no_number, Numbers, bind_key, known_number}
 
 -- whether a number may stand at a place of a range: any where the place has the number that no term has
 abbrev pub is_at : ℕ → ℕ → Bool

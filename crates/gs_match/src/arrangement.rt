@@ -3,7 +3,7 @@ ghost use Rattle.std.specs.Prelude.{◌<◌, length, IfOk};
 ghost use Rattle.std.specs.List.Sorted.{IsPermutation};
 
 use crate::seeds::turn_of;
-use crate::sought::{Item, Sought};
+use gs_joins::{Item, Sought};
 use gs_term::VariableName;
 use std::alloc::{AllocError, Global};
 

@@ -3,7 +3,7 @@ ghost use Rattle.std.specs.Prelude.{◌≡◌, ◌+◌, [], ◌∷◌, None, OnO
 ghost use Rattle.gs_model.specs.Limits.{last_node};
 ghost use Rattle.gs_tree.specs.Keys.{IsRising};
 ghost use Rattle.gs_keys.specs.Texts.{key_cmp};
-ghost use Rattle.gs_match.specs.Numbers.{IsFound, found_in, Gains};
+ghost use Rattle.gs_match.specs.Found.{IsFound, found_in, Gains};
 
 use gs_keys::ByText;
 use gs_pool::{Key, Pool};

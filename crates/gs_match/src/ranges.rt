@@ -2,17 +2,13 @@
 ghost use Rattle.std.specs.Prelude.{◌≡◌, ◌≤◌, length};
 ghost use Rattle.gs_dict.specs.Numbering.{IsDistinct};
 ghost use Rattle.gs_keys.specs.Roots.{IsGraphAt};
-ghost use Rattle.gs_match.specs.Numbers.{no_number, numbers_of, known_number};
+ghost use Rattle.gs_joins.specs.Numbers.{no_number, numbers_of};
 ghost use Rattle.gs_match.specs.Ranges.{is_at as is_at_of, in_range, range_for, IsRange, Covers, StartsAt};
 
-use crate::bindings::{Bound, number_for};
-use crate::sought::{Item, Sought};
+use gs_joins::{Bound, NO_NUMBER, Sought, known};
 use gs_keys::ByText;
 use gs_pool::{Key, Pool};
 use gs_tree::{after, contains};
-
-/// A number that no term has. In a range it stands where any number may.
-pub const NO_NUMBER: u32 = 4_294_967_295;
 
 /// The keys of a root, in the order of their texts.
 #[derive(Clone, Copy)]
@@ -20,19 +16,6 @@ pub struct Keys<'a> {
     pub pool: &'a Pool,
     pub root: Option<u32>,
     pub order: ByText<'a>,
-}
-
-/// The number that an item stands for, where it is known.
-pub fn known(item: &Item, bound: &[Bound]) -> u32
-    ensures { result ≡ known_number (numbers_of bound.now) item.now }
-{
-    match item {
-        Item::Number(number) => *number,
-        Item::Variable(name) => match number_for(bound, name) {
-            Some(number) => number,
-            None => NO_NUMBER,
-        },
-    }
 }
 
 /// The range of keys that may be the pattern's instances: those that begin with its known numbers,

@@ -1,10 +1,8 @@
 //! Lists that leave few numbers for a variable.
 ghost use Rattle.std.specs.Prelude.{◌≡◌, true, MatchOption};
-ghost use Rattle.gs_match.specs.Values.{IsNamed, IsTurnOf, IsSeed};
+ghost use Rattle.gs_match.specs.Seeds.{IsNamed, IsTurnOf, IsSeed};
 
-use crate::lots::Lot;
-use crate::sought::{Item, Sought};
-use crate::weights::Turn;
+use gs_joins::{Item, Lot, Sought, Turn};
 use gs_term::VariableName;
 
 /// How many keys a list may have whose numbers are looked up one by one.

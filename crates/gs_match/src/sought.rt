@@ -3,23 +3,9 @@ ghost use Rattle.std.specs.Prelude.{IfOk, MatchOption};
 ghost use Rattle.gs_match.specs.Patterns.{IsLackingPart, IsLacking, IsPart, IsPattern, ArePatterns};
 
 use gs_dict::Dict;
-use gs_term::{Part, Pattern, VariableName};
+use gs_joins::{Item, Sought};
+use gs_term::{Part, Pattern};
 use std::alloc::{AllocError, Global};
-
-/// What stands at one place of a pattern: the number of a term, or a variable.
-#[derive(Clone, Copy)]
-pub enum Item<'a> {
-    Number(u32),
-    Variable(&'a VariableName),
-}
-
-/// A pattern whose terms all have numbers.
-#[derive(Clone, Copy)]
-pub struct Sought<'a> {
-    pub subject: Item<'a>,
-    pub predicate: Item<'a>,
-    pub object: Item<'a>,
-}
 
 /// The item of a part, unless the part is a term without a number.
 fn item_of<'a>(dict: &Dict, part: &'a Part) -> Option<Item<'a>>

@@ -3,8 +3,8 @@ use Rattle.std.proofs.lemmas.List.{take-append-drop}
 use Rattle.gs_tree.specs.Reading.{keys_at, keys_from}
 use Rattle.gs_tree.proofs.FromLemmas.{from_all}
 use Rattle.gs_keys.specs.Texts.{key_cmp, key_total}
-use Rattle.gs_match.specs.Numbers.{numbers_of}
-use Rattle.gs_match.specs.Lots.{instances_in, Sifts}
+use Rattle.gs_joins.specs.Numbers.{numbers_of}
+use Rattle.gs_match.specs.Candidates.{instances_in, Sifts}
 use Rattle.gs_match.proofs.ChunkLemmas.{all_read, rest_after, fewer, chunk_more}
 use Rattle.gs_match.proofs.candidates.append_all.Goals as goal
 

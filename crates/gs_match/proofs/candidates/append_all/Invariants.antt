@@ -2,8 +2,8 @@
 use Rattle.std.proofs.Common.{◌≡◌, ◌++◌, length}
 use Rattle.gs_tree.specs.Reading.{keys_at, keys_from}
 use Rattle.gs_keys.specs.Texts.{key_cmp}
-use Rattle.gs_match.specs.Numbers.{numbers_of}
-use Rattle.gs_match.specs.Lots.{instances_in}
+use Rattle.gs_joins.specs.Numbers.{numbers_of}
+use Rattle.gs_match.specs.Candidates.{instances_in}
 use Rattle.gs_match.proofs.candidates.append_all.Given as goal
 
 abbrev pub invariant-chunks : goal.invariant-chunks

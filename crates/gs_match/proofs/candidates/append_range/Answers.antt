@@ -1,5 +1,5 @@
 use Rattle.std.proofs.Common.{sym, ap, ◌∙◌, subst, length, arith}
-use Rattle.gs_match.specs.Numbers.{numbers_of}
+use Rattle.gs_joins.specs.Numbers.{numbers_of}
 use Rattle.gs_match.specs.Ranges.{Covers}
 use Rattle.gs_match.proofs.RangeWalks.{Walks, left_of, starts, steps, shorter, leaves}
 use Rattle.gs_match.proofs.candidates.append_range.Goals as goal

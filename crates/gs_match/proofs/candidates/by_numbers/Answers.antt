@@ -2,9 +2,9 @@ use Rattle.std.proofs.Common.{◌∷◌, ◌++◌, [], List, Some, Vec, Global, 
 use Rattle.std.proofs.lemmas.List.{take_more}
 use Rattle.gs_pool.specs.declared.nodes.Key.{Key}
 use Rattle.gs_tree.specs.Reading.{keys_at}
-use Rattle.gs_match.specs.declared.bindings.Bound.{Bound}
-use Rattle.gs_match.specs.Numbers.{numbers_of}
-use Rattle.gs_match.specs.Lots.{Sifts}
+use Rattle.gs_joins.specs.declared.bindings.Bound.{Bound}
+use Rattle.gs_joins.specs.Numbers.{numbers_of}
+use Rattle.gs_match.specs.Candidates.{Sifts}
 use Rattle.gs_match.proofs.SeedLemmas.{Seen, seen_same, seen_more, seen_all}
 use Rattle.gs_match.proofs.candidates.by_numbers.Goals as goal
 use Rattle.gs_match.proofs.candidates.by_numbers.Goals.{then-not-is_last+in_ok-push+in_ok-append_range, else-not-is_last}

@@ -1,11 +1,11 @@
 use Rattle.std.proofs.Common.{◌≡◌, [], Vec, Global}
 use Rattle.gs_pool.specs.declared.nodes.Key.{Key}
 use Rattle.gs_tree.specs.Reading.{keys_at}
-use Rattle.gs_match.specs.declared.lots.Lot.{Lot}
-use Rattle.gs_match.specs.Lots.{instances_in}
-use Rattle.gs_match.specs.Values.{IsTurnOf, ListsBy, ListsThem}
-use Rattle.gs_match.proofs.LotLemmas.{at_has}
-use Rattle.gs_match.proofs.GroupLemmas.{if_ok}
+use Rattle.gs_joins.specs.declared.lots.Lot.{Lot}
+use Rattle.gs_joins.proofs.LotLemmas.{at_has}
+use Rattle.gs_joins.proofs.GroupLemmas.{if_ok}
+use Rattle.gs_match.specs.Candidates.{instances_in, ListsBy, ListsThem}
+use Rattle.gs_match.specs.Seeds.{IsTurnOf}
 use Rattle.gs_match.proofs.SeedLemmas.{lists_by, lists_all, lists_none}
 use Rattle.gs_match.proofs.candidates.candidates.Goals as goal
 

@@ -1,6 +1,5 @@
 use Rattle.std.proofs.Common.{nat_eq, ap, ◌∙◌}
-use Rattle.gs_match.proofs.LotLemmas.{no_keys}
-use Rattle.gs_match.proofs.SeedLemmas.{none_solve}
+use Rattle.gs_match.proofs.SeedLemmas.{no_keys, none_solve}
 use Rattle.gs_match.proofs.candidates.has_empty.Goals as goal
 
 pub returns-then-is_empty : goal.returns-then-is_empty

@@ -1,6 +1,6 @@
 -- those of the keys that were gone through are appended
 use Rattle.std.proofs.Common.{take}
-use Rattle.gs_match.specs.Lots.{Sifts}
+use Rattle.gs_match.specs.Candidates.{Sifts}
 use Rattle.gs_match.proofs.candidates.sift_all.Given as goal
 
 abbrev pub invariant-loop-key : goal.invariant-loop-key

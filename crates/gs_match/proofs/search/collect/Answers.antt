@@ -1,5 +1,5 @@
 use Rattle.std.proofs.Common.{subst}
-use Rattle.gs_match.specs.Numbers.{Gains}
+use Rattle.gs_match.specs.Found.{Gains}
 use Rattle.gs_match.proofs.SolveLemmas.{gathered_at, collects}
 use Rattle.gs_match.proofs.search.collect.Goals as goal
 

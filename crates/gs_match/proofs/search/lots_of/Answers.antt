@@ -2,9 +2,10 @@ use Rattle.std.proofs.Common.{◌+◌, ◌∷◌, ◌++◌, [], List, take, sym,
 use Rattle.std.specs.List.Sorted.{IsPermutation}
 use Rattle.std.proofs.lemmas.List.{take_more, take_all}
 use Rattle.gs_tree.specs.Reading.{keys_at}
-use Rattle.gs_match.specs.declared.sought.Sought.{Sought}
-use Rattle.gs_match.specs.declared.lots.Lot.{Lot}
-use Rattle.gs_match.specs.Values.{AreLots, ListsThem}
+use Rattle.gs_joins.specs.declared.sought.Sought.{Sought}
+use Rattle.gs_joins.specs.declared.lots.Lot.{Lot}
+use Rattle.gs_match.specs.Solving.{AreLots}
+use Rattle.gs_match.specs.Candidates.{ListsThem}
 use Rattle.gs_match.proofs.SolveLemmas.{small_all, lots_more, lots_arranged}
 use Rattle.gs_match.proofs.search.lots_of.Goals as goal
 

@@ -1,7 +1,7 @@
 -- the lists of the patterns that were gone through
 use Rattle.std.proofs.Common.{take}
 use Rattle.gs_tree.specs.Reading.{keys_at}
-use Rattle.gs_match.specs.Values.{AreLots}
+use Rattle.gs_match.specs.Solving.{AreLots}
 use Rattle.gs_match.proofs.search.lots_of.Given as goal
 
 abbrev pub invariant-loop-one : goal.invariant-loop-one

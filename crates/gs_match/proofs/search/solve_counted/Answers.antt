@@ -3,11 +3,11 @@ use Rattle.gs_dict.specs.Numbering.{Numbered}
 use Rattle.gs_tree.specs.Keys.{merge_keys}
 use Rattle.gs_tree.specs.Reading.{keys_at}
 use Rattle.gs_keys.specs.Texts.{key_cmp, key_total}
-use Rattle.gs_match.specs.declared.sought.Sought.{Sought}
-use Rattle.gs_match.specs.declared.lots.Lot.{Lot}
+use Rattle.gs_joins.specs.declared.sought.Sought.{Sought}
+use Rattle.gs_joins.specs.declared.lots.Lot.{Lot}
 use Rattle.gs_match.specs.Patterns.{ArePatterns}
-use Rattle.gs_match.specs.Numbers.{found_keys}
-use Rattle.gs_match.specs.Values.{AreLots, Collects}
+use Rattle.gs_match.specs.Found.{found_keys}
+use Rattle.gs_match.specs.Solving.{AreLots, Collects}
 use Rattle.gs_match.proofs.SiftLemmas.{one_is, one_pattern}
 use Rattle.gs_match.proofs.FoundLemmas.{found_instances, no_instances, lists_instances}
 use Rattle.gs_match.proofs.SolveLemmas.{solved}

@@ -1,6 +1,6 @@
 -- added are the keys that were gone through
 use Rattle.std.proofs.Common.{take}
-use Rattle.gs_match.specs.Numbers.{Gains}
+use Rattle.gs_match.specs.Found.{Gains}
 use Rattle.gs_match.proofs.found.Found.add_each.Given as goal
 
 abbrev pub invariant-loop-key : goal.invariant-loop-key

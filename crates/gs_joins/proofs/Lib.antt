@@ -1,0 +1,12 @@
+pub mod ListLemmas
+pub mod ValueLemmas
+pub mod ChoiceLemmas
+pub mod TableLemmas
+pub mod LotLemmas
+pub mod LinkLemmas
+pub mod SearchLemmas
+pub mod GroupLemmas
+pub mod KeptLemmas
+pub mod AnswerLemmas
+pub mod MergeLemmas
+pub mod SideLemmas

@@ -1,7 +1,0 @@
--- none of those in front that were looked at shares a variable
-use Rattle.std.proofs.Common.{take}
-use Rattle.gs_match.specs.Links.{has_variable, one_has, IsApart}
-use Rattle.gs_match.proofs.links.is_linked_to.Given as goal
-
-abbrev pub invariant-loop-i : goal.invariant-loop-i
-invariant-loop-i l = IsApart (one_has l.lots (take l.i-index l.front)) (has_variable l.sought)

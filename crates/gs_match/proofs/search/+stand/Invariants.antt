@@ -1,5 +1,0 @@
-use Rattle.std.proofs.Common.{length}
-use Rattle.gs_match.proofs.search.+stand.Given as goal
-
-abbrev pub decreases-stand : goal.decreases-stand
-decreases-stand l = length l.order.now
