@@ -43,7 +43,7 @@ module _ (q : Nodes) (v : Pins) (gs us : List Tree) (rs : List (List Tree)) (ds 
     staged = λ k t h. plain_tree (get_or us k t) (l.staged k t h).stands (λ x. let part = sum_at (λ u. occurrences u x) us k t h in omega (arith, part));
     read = λ s w e.
         let is = subst (λ o. IsReadAt q v.commit gs ds o (get_or rs s [])) e (l.read s) in
-        λ k t h. record { stands = (is k t h).tree.stands; means = tree_at-is q (get_or (get_or rs s []) k t) (is k t h).tree.stands };
+        λ k t h. record { stands = (is.1 k t h).tree.stands; means = tree_at-is q (get_or (get_or rs s []) k t) (is.1 k t h).tree.stands };
   }
 
 -- a keyed tree that is plain is a set

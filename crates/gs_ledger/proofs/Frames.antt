@@ -112,9 +112,9 @@ dead_tree p v c death (fork id birth l k r) le s m = All-cons (IsDead p c) _ [] 
 }) (All-nil (IsDead p c))
 
 -- reads
-pub read_map : (p q : Nodes) (c c' : ℕ) (gs gs' : List Tree) (ds ds' : List Dead) (pin : Option ℕ) (ts : List Tree) → ((v : ℕ) (t : Tree) → pin ≡ Some v → IsRead p c gs ds v t → IsRead q c' gs' ds' v t) → IsReadAt p c gs ds pin ts → IsReadAt q c' gs' ds' pin ts
-read_map p q c c' gs gs' ds ds' None ts f h = tt
-read_map p q c c' gs gs' ds ds' (Some v) ts f h = λ k d lt. f v (get_or ts k d) refl (h k d lt)
+pub read_map : (p q : Nodes) (c c' : ℕ) (gs gs' : List Tree) (ds ds' : List Dead) (pin : Option ℕ) (ts : List Tree) → c ≤ c' → ((v : ℕ) (t : Tree) → pin ≡ Some v → IsRead p c gs ds v t → IsRead q c' gs' ds' v t) → IsReadAt p c gs ds pin ts → IsReadAt q c' gs' ds' pin ts
+read_map p q c c' gs gs' ds ds' None ts le f h = tt
+read_map p q c c' gs gs' ds ds' (Some v) ts le f h = (omega (arith, h.0), λ k d lt. f v (get_or ts k d) refl (h.1 k d lt))
 
 -- a mark that says a death is not plain
 pub marked_one : (m : NodeMark) (d : ℕ × Bool) → death_of m ≡ Some d → plain_mark m ≡ 0

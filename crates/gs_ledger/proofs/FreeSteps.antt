@@ -116,5 +116,5 @@ module _ (p q : Nodes) (v : Pins) (gs us : List Tree) (rs : List (List Tree)) (d
     waste = All-append (IsDead q v.commit) (sides_of d) ds
         (side_dead (tree_kept p q d.birth d.left (stays (occurrences d.left) alone.2) entry.left_tree) (tree_kept p q d.birth d.right (stays (occurrences d.right) alone.3) entry.right_tree))
         (dead_kept p q v.commit ds (stays (dead_have ds) alone.4) (λ x h. f.marks x (omega (arith, apart x, tops_cons d (sides_of d) x))) (All-tail (IsDead p v.commit) d ds l.waste));
-    read = λ s. read_map p q v.commit v.commit gs gs (d ∷ ds) (sides_of d ++ ds) (get_or v.seats s None) (get_or rs s []) (λ w t e r. read_freed w t (seat_outside unneeded s w e) r) (l.read s);
+    read = λ s. read_map p q v.commit v.commit gs gs (d ∷ ds) (sides_of d ++ ds) (get_or v.seats s None) (get_or rs s []) (omega arith) (λ w t e r. read_freed w t (seat_outside unneeded s w e) r) (l.read s);
   }

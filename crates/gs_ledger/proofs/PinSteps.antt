@@ -28,11 +28,14 @@ pin_ledger p v gs us rs ds s ts l hs hr are = record {
   current = l.current;
   staged = l.staged;
   waste = l.waste;
-  read = each_seat (IsReadAt p v.commit gs ds) v.seats rs s (Some v.commit) ts hs hr l.read (λ k d h. record {
-    pinned = omega arith;
-    tree = all_at (IsTreeOf p v.commit) gs (get_or ts k d) l.current (are k d h);
-    within = λ x. omega (arith, sum_contained (λ u. occurrences u x) gs (get_or ts k d) (are k d h));
-  });
+  read = each_seat (IsReadAt p v.commit gs ds) v.seats rs s (Some v.commit) ts hs hr l.read (
+    omega arith,
+    λ k d h. record {
+      pinned = omega arith;
+      tree = all_at (IsTreeOf p v.commit) gs (get_or ts k d) l.current (are k d h);
+      within = λ x. omega (arith, sum_contained (λ u. occurrences u x) gs (get_or ts k d) (are k d h));
+    },
+  );
 }
 
 -- The end of a read: its seat has pinned nothing.

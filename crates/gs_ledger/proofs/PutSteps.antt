@@ -28,7 +28,7 @@ put_ledger p q v old new gs us rs ds l b =
       waste = All-append (IsDead q (c + 1)) gone ds
           (dead_tree q c (c + 1) (c + 1) old (omega arith) (tree_kept p q c old (stay (occurrences old)) (All-head (IsTreeOf p c) old gs l.current)) b.marked)
           (dead_later q c (c + 1) ds (omega arith) (dead_kept p q c ds (stay (dead_have ds)) (buried_kept p q gone ds b apart) l.waste));
-      read = λ s. read_map p q c (c + 1) (old ∷ gs) (new ∷ gs) ds (gone ++ ds) (get_or v.seats s None) (get_or rs s []) (λ w t e r. record {
+      read = λ s. read_map p q c (c + 1) (old ∷ gs) (new ∷ gs) ds (gone ++ ds) (get_or v.seats s None) (get_or rs s []) (omega arith) (λ w t e r. record {
         pinned = omega (arith, r.pinned);
         tree = tree_kept p q w t (stay (occurrences t)) r.tree;
         within = λ x. omega (arith, r.within x, trees_cons old gs x, trees_cons new gs x, after_append w gone ds x, after_whole w (c + 1) old x (omega (arith, r.pinned)));
@@ -50,7 +50,7 @@ cancel_ledger p q v old gs us rs ds l b =
       waste = All-append (IsDead q c) gone ds
           (dead_tree q (c + 1) c 0 old (omega arith) (tree_kept p q (c + 1) old (stay (occurrences old)) (All-head (IsTreeOf p (c + 1)) old us l.staged)) b.marked)
           (dead_kept p q c ds (stay (dead_have ds)) (buried_kept p q gone ds b apart) l.waste);
-      read = λ s. read_map p q c c gs gs ds (gone ++ ds) (get_or v.seats s None) (get_or rs s []) (λ w t e r. record {
+      read = λ s. read_map p q c c gs gs ds (gone ++ ds) (get_or v.seats s None) (get_or rs s []) (omega arith) (λ w t e r. record {
         pinned = r.pinned;
         tree = tree_kept p q w t (stay (occurrences t)) r.tree;
         within = λ x. omega (arith, r.within x, after_append w gone ds x);

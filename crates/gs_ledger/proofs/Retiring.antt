@@ -152,7 +152,7 @@ remark_ledger p q v gs us rs ds nodes marks l =
         right_tree = tree_kept p q (get_or ds k d).birth (get_or ds k d).right (stay (occurrences (get_or ds k d).right)) e.right_tree;
         died = e.died;
       };
-      read = λ s. read_map p q v.commit v.commit gs gs ds ds (get_or v.seats s None) (get_or rs s []) (λ w t e r. record {
+      read = λ s. read_map p q v.commit v.commit gs gs ds ds (get_or v.seats s None) (get_or rs s []) (omega arith) (λ w t e r. record {
         pinned = r.pinned;
         tree = tree_kept p q w t (stay (occurrences t)) r.tree;
         within = r.within;

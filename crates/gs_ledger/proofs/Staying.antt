@@ -60,7 +60,7 @@ module _ (p q : Nodes) (v : Pins) (gs us : List Tree) (rs : List (List Tree)) (d
     read = λ s w e.
         let was = subst (λ o. IsReadAt p v.commit gs (d ∷ ds) o (get_or rs s [])) e (l.read s) in
         let is = subst (λ o. IsReadAt q v.commit gs (sides_of d ++ ds) o (get_or rs s [])) e (now.read s) in
-        λ k t h. unchanged p q (get_or (get_or rs s []) k t) (was k t h).tree.stands (is k t h).tree.stands;
+        λ k t h. unchanged p q (get_or (get_or rs s []) k t) (was.1 k t h).tree.stands (is.1 k t h).tree.stands;
   }
 
   -- What no version needs goes.

@@ -117,7 +117,7 @@ module _ (p q r : Nodes) (v : Pins) (birth : ℕ) (old new : Tree) (gs us : List
         waste = All-append (IsDead r (c + 1)) es ds
             (alone_dead q r (c + 1) (c + 1) (length q.nodes) (omega arith) retires)
             (dead_later r c (c + 1) ds (omega arith) (dead_kept p r c ds (elsewhere (dead_have ds) (λ x. omega (arith, l.once x, used_most p x, trees_cons old gs x))) marks_kept l.waste));
-        read = λ i. read_map p r c (c + 1) (old ∷ gs) (new ∷ gs) ds (es ++ ds) (get_or v.seats i None) (get_or rs i []) (λ w t e k. record {
+        read = λ i. read_map p r c (c + 1) (old ∷ gs) (new ∷ gs) ds (es ++ ds) (get_or v.seats i None) (get_or rs i []) (omega arith) (λ w t e k. record {
           pinned = omega (arith, k.pinned);
           tree = by_birth w t k.pinned k.tree;
           within = λ x. omega (arith, k.within x, trees_cons old gs x, trees_cons new gs x, after_append w es ds x, alone_after w (c + 1) (length q.nodes) q x (omega (arith, k.pinned)), still x);
@@ -144,7 +144,7 @@ module _ (p q : Nodes) (v : Pins) (birth : ℕ) (old new : Tree) (gs us : List T
         current = trees_kept p q c gs (beside (trees_have gs) (λ x h. omega (arith, l.once x, used_most p x, trees_cons old us x))) l.current;
         staged = All-cons (IsTreeOf q (c + 1)) new us tree (trees_kept p q (c + 1) us (beside (trees_have us) (λ x h. omega (arith, l.once x, used_most p x, trees_cons old us x))) (All-tail (IsTreeOf p (c + 1)) old us l.staged));
         waste = dead_kept p q c ds (beside (dead_have ds) (λ x h. omega (arith, l.once x, used_most p x, trees_cons old us x))) (λ x h. marks_same x) l.waste;
-        read = λ i. read_map p q c c gs gs ds ds (get_or v.seats i None) (get_or rs i []) (λ w t e k. record {
+        read = λ i. read_map p q c c gs gs ds ds (get_or v.seats i None) (get_or rs i []) (omega arith) (λ w t e k. record {
           pinned = k.pinned;
           tree = tree_kept p q w t (beside (occurrences t) (λ x h. omega (arith, k.within x, after_most w ds x, l.once x, used_most p x, trees_cons old us x))) k.tree;
           within = k.within;

@@ -37,12 +37,12 @@ pub record IsRead (p : Nodes) (c : ℕ) (graphs : List Tree) (dead : List Dead) 
   pub tree : IsTreeOf p v t
   pub within : (x : ℕ) → occurrences t x ≤ trees_have graphs x + dead_have_after v dead x
 
--- what a seat reads, where it has pinned a version: trees of it
+-- what a seat reads, where it has pinned a version: the version is no later than commit c, and the trees are of it
 abbrev pub IsReadAt : Nodes → ℕ → List Tree → List Dead → Option ℕ → List Tree → Type 0
 IsReadAt p c graphs dead None ts = Unit {0}
-IsReadAt p c graphs dead (Some v) ts = All (IsRead p c graphs dead v) ts
+IsReadAt p c graphs dead (Some v) ts = (v ≤ c) × All (IsRead p c graphs dead v) ts
 
--- The ledger. Each number in use is once in a current graph, in an open upload or in what is dead, and no other number is. A marked node is dead, and a plain one at most goes with another. A current tree is one of the last commit, an upload's one of the next; what is dead died by the last commit. Each seat that has pinned a version reads trees of it.
+-- The ledger. Each number in use is once in a current graph, in an open upload or in what is dead, and no other number is. A marked node is dead, and a plain one at most goes with another. A current tree is one of the last commit, an upload's one of the next; what is dead died by the last commit. Each seat that has pinned a version, which is no later than the last commit, reads trees of it.
 pub record IsLedger (p : Nodes) (v : Pins) (graphs uploads : List Tree) (reads : List (List Tree)) (dead : List Dead) : Type 0 where
   pub once : (x : ℕ) → trees_have graphs x + trees_have uploads x + dead_have dead x ≡ used_count p x
   pub marks : (x : ℕ) → tops dead x + plain_mark (mark_at p x) ≡ 1

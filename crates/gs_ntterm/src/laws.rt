@@ -7,5 +7,6 @@ ghost use Rattle.gs_ntterm.specs.Classes.{number_by_digits};
 /// digits write is one, and is then that number.
 pub fn digits_make_the_number()
     ensures alike { (ds : List ℕ) → is_character (number_by_digits ds) ≡ is_character (hex_number ds) }
-    ensures number { (ds : List ℕ) → is_character (hex_number ds) ≡ true → number_by_digits ds ≡ hex_number ds }
+    ensures number { (ds : List ℕ) → is_character (hex_number ds) ≡ true
+        → number_by_digits ds ≡ hex_number ds }
 {}

@@ -61,7 +61,8 @@ impl Pool {
     pub fn next_retired(&mut self) -> Option<Retired>
         ensures takes { TakesRetired self.old self.new result }
         ensures loose { Counts result self.old.loose self.new.loose }
-        ensures retired { MatchOption result (Unit {0}) (λ _. retired_count self.new + 1 ≡ retired_count self.old) }
+        ensures retired { MatchOption result (Unit {0})
+            (λ _. retired_count self.new + 1 ≡ retired_count self.old) }
         ensures held { MatchOption result (AreHeld self.new) (λ _. Unit {0}) }
         ensures pins { self.new.pins ≡ self.old.pins }
         ensures aside { aside_count self.new ≡ aside_count self.old }

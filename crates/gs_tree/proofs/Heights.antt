@@ -14,6 +14,11 @@ pub size-keys : (t : Tree) → length (keys t) ≡ size t
 size-keys leaf = refl
 size-keys (fork id birth l k r) = omega (arith, length-append (keys l) (k ∷ keys r), size-keys l, size-keys r)
 
+-- a tree is no higher than it has nodes
+pub height_size : (t : Tree) → height t ≤ size t
+height_size leaf = omega arith
+height_size (fork id birth l k r) = omega (arith, height_size l, height_size r)
+
 -- the least number of nodes at a height
 abbrev pub least : ℕ → ℕ
 least zero = 0

@@ -17,7 +17,7 @@ use Rattle.gs_tree.proofs.Rotations.{height_in, tree_in}
 use Rattle.gs_tree.proofs.Order.{rising_front, rising_back}
 use Rattle.gs_tree.proofs.Costs.{copies_some, copies_add}
 use Rattle.gs_tree.proofs.Levels.{Opened, opened, opened_older, older_counts}
-use Rattle.gs_tree.proofs.Heights.{size, height_digits, size-keys}
+use Rattle.gs_tree.proofs.Heights.{height_size, height_digits, size-keys}
 use Rattle.gs_tree.proofs.Merging.{cut_length, cut_rising, merge_node, merge_none}
 use Rattle.gs_tree.proofs.UnionCosts.{cost_side, cost_sides, cost_level, joins_grown}
 
@@ -34,10 +34,6 @@ both_grew l r l' r' n a b c d h =
 side_kept : (was now n : ℕ) → (n ≡ 0 → now ≡ was) → (0 < n → now ≡ was) → now ≡ was
 side_kept was now zero same grown = same refl
 side_kept was now (suc n) same grown = grown (omega arith)
-
-height_size : (t : Tree) → height t ≤ size t
-height_size leaf = omega arith
-height_size (fork id birth l k r) = omega (arith, height_size l, height_size r)
 
 -- a tree of few keys is low
 pub fits : (t : Tree) → IsBalanced t → length (keys t) < 2 ^ 65 → height t < 2 ^ 30
