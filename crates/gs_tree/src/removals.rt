@@ -2,6 +2,7 @@
 ghost use Rattle.std.specs.Prelude.{◌≡◌, ℕ, ◌<◌, ◌≤◌, ◌∷◌, length, Some, IsSome, Option, IsOk, IfOk, OnErr};
 ghost use Rattle.gs_pool.specs.Pool.{node_at, mark_at, plain};
 ghost use Rattle.gs_tree.specs.Keys.{IsRising, HasKey, remove_key};
+ghost use Rattle.gs_tree.specs.Steps.{SameTotal};
 ghost use Rattle.gs_tree.specs.Shrinking.{CanShrinkAt, ShrinksAt, Discards};
 ghost use Rattle.gs_tree.specs.Reading.{keys_at};
 ghost use Rattle.gs_tree.specs.Sets.{IsSetAt, RemovesAt, HasRemoveRoom};
@@ -113,6 +114,7 @@ pub fn remove<O: KeyOrder>(
     requires birth { since ≤ birth }
     ensures ok { IfOk result (RemovesAt (O.compare order.now) since birth pool.old pool.new root key) }
     ensures had_room { HasRemoveRoom since pool.old root → IsOk result }
+    ensures total { SameTotal pool.old pool.new }
     ensures kept { OnErr result (pool.new ≡ pool.old) }
 {
     let most = 3 * height_of(pool, root) as usize;
