@@ -125,6 +125,12 @@ def spec(path):
     return Spec(path)
 
 
+def passed_on(crate, last):
+    """The module of a crate below that this crate passes on under its last name."""
+    found = re.search(rf"(?m)^pub use Rattle\.([\w.]+\.{last})$", text(f"crates/{crate}/specs/Lib.antt"))
+    return tuple(found[1].split(".")) if found else sys.exit(f"definitions.py: {crate} has no {last}")
+
+
 def meaning(module, name):
     """What a name of a module is: a definition, a type of the code as its crate and its name, or a crate of the kit."""
     crate = module[0]
@@ -132,7 +138,10 @@ def meaning(module, name):
         return crate
     if module[2:3] == ("declared",):
         return crate, next(it for it in (*module[3:], name) if it[:1].isupper())
-    file = spec(f"crates/{'/'.join(module)}.antt")
+    path = f"crates/{'/'.join(module)}.antt"
+    if not os.path.exists(os.path.join(TOP, path)):
+        return meaning(passed_on(crate, module[2]), name)
+    file = spec(path)
     if name in file.own:
         return file.own[name]
     if name in file.uses:
