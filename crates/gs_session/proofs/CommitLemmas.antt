@@ -12,10 +12,10 @@ use Rattle.gs_reply.specs.Notices.{Nothing}
 use Rattle.gs_reply.specs.Replies.{reply_text}
 use Rattle.gs_talk.specs.Plans.{plan_of}
 use Rattle.gs_talk.specs.Bodies.{States, refusal_at}
-use Rattle.gs_talk.specs.Courses.{Did, Short, Course, Writing, Lacking, Late, Dropped, Wrote, Memory, Numbers, Cutting, Cut, Misanswered, Mute}
+use Rattle.gs_talk.specs.Courses.{Did, Short, Course, Writing, Lacking, Late, Dropped, Wrote, Memory, Numbers, Cutting, Cut, Misanswered, Mute, lines_out}
 use Rattle.gs_talk.specs.Moves.{after, course, at_stage, at_cancel}
 use Rattle.gs_talk.specs.Seats.{Deeds}
-use Rattle.gs_talk.specs.Replies.{BodyState, Faulty, Unended, IsOwn, Settles, said_so_far, greeting, lines_out, name_notice}
+use Rattle.gs_talk.specs.Replies.{BodyState, Faulty, Unended, IsOwn, Settles, said_so_far, greeting, name_notice}
 use Rattle.gs_talk.specs.Logs.{Server, stages_in}
 use Rattle.gs_session.specs.declared.phases.Phase.TheVariants.{Serving, Over}
 use Rattle.gs_session.specs.declared.phases.Work.{Work}

@@ -12,10 +12,10 @@ use Rattle.gs_reply.specs.Notices.{Nothing}
 use Rattle.gs_reply.specs.Replies.{reply_text, lines_head, chunk, continue_text}
 use Rattle.gs_talk.specs.Bodies.{refusal_at}
 use Rattle.gs_talk.specs.Plans.{Plan, Deletes, Looks, Reads, opens, plan_of}
-use Rattle.gs_talk.specs.Courses.{Move, Did, Short, Course, Fresh, Late, Numbers, Erased, Looked, Missing, Held, Cutting, Cut, Misanswered}
+use Rattle.gs_talk.specs.Courses.{Move, Did, Short, Course, Fresh, Late, Numbers, Erased, Looked, Missing, Held, Cutting, Cut, Misanswered, lines_out}
 use Rattle.gs_talk.specs.Moves.{first, after, course, last_if, at_piece}
 use Rattle.gs_talk.specs.Seats.{Deeds}
-use Rattle.gs_talk.specs.Replies.{Whole, Said, IsOwn, Settles, said_so_far, greeting, lines_out}
+use Rattle.gs_talk.specs.Replies.{Whole, Said, IsOwn, Settles, said_so_far, greeting}
 use Rattle.gs_talk.specs.Logs.{Server, AllSuit, deeds_of, stages_in}
 use Rattle.gs_session.specs.declared.phases.Phase.{Phase}
 use Rattle.gs_session.specs.declared.phases.Phase.TheVariants.{Serving, Over}

@@ -5,10 +5,10 @@ use Rattle.gs_transfer.specs.Cuts.{Cut}
 use Rattle.gs_transfer.specs.Cuts as cut
 use Rattle.gs_verdict.specs.declared.verdicts.Asked.{Asked}
 use Rattle.gs_talk.specs.Plans.{Plan, plan_of}
-use Rattle.gs_talk.specs.Courses.{Move, Short, Course, Mute, Misanswered}
+use Rattle.gs_talk.specs.Courses.{Move, Short, Course, Mute, Misanswered, lines_out}
 use Rattle.gs_talk.specs.Moves.{after, course}
 use Rattle.gs_talk.specs.Seats.{Deeds}
-use Rattle.gs_talk.specs.Replies.{BodyState, Whole, IsOwn, Settles, said_so_far, greeting, lines_out}
+use Rattle.gs_talk.specs.Replies.{BodyState, Whole, IsOwn, Settles, said_so_far, greeting}
 use Rattle.gs_talk.specs.Logs.{Server, AllSuit, deed_of, deeds_of, stages_in}
 use Rattle.gs_session.specs.declared.phases.Phase.{Phase}
 use Rattle.gs_session.specs.declared.phases.Phase.TheVariants.{Serving, Over}

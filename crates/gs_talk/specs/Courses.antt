@@ -1,5 +1,5 @@
 -- The course of one request: how far it has come.
-use Rattle.std.specs.Prelude.{ℕ, Bool, List, Option}
+use Rattle.std.specs.Prelude.{ℕ, Bool, List, [], ◌++◌, Option}
 use Rattle.gs_model.specs.Triples.{RdfTriple}
 use Rattle.gs_term.specs.declared.names.GraphName.{GraphName}
 use Rattle.gs_event.specs.declared.events.Action.{Action}
@@ -56,3 +56,12 @@ pub data Course : Type 0 where
   Misanswered : Course → Course
   -- the session did what it should not
   Wrong : Course
+
+-- the text of a read, as far as it was said or is due
+abbrev pub lines_out : Course → List ℕ
+lines_out (Held out due end) = out ++ due
+lines_out (Cutting out) = out
+lines_out (Cut out) = out
+lines_out (Left out) = out
+lines_out (Misanswered c) = lines_out c
+lines_out c = []

@@ -8,7 +8,7 @@ use Rattle.gs_verdict.specs.declared.methods.Allow.{Allow}
 use Rattle.gs_reply.specs.Notices.{Notice, Nothing, Allows, Made}
 use Rattle.gs_reply.specs.Replies.{reply_text, continue_text, lines_head}
 use Rattle.gs_talk.specs.Plans.{opens, plan_of}
-use Rattle.gs_talk.specs.Courses.{Course, Fresh, Early, Late, Dropped, Wrote, Patched, Erased, Looked, Missing, Held, Cutting, Cut, Left, Mute, Misanswered, Memory, Numbers}
+use Rattle.gs_talk.specs.Courses.{Course, Fresh, Early, Late, Dropped, Wrote, Patched, Erased, Looked, Missing, Held, Cutting, Cut, Left, Mute, Misanswered, Memory, Numbers, lines_out}
 use Rattle.gs_talk.specs.Bodies.{refusal_at, States, Orders}
 
 -- a body is whole; its transfer has a fault, after so much data; or its rest is awaited, after so much, unless the input has ended
@@ -60,15 +60,6 @@ is_greeted a c = true
 -- what is said before the reply
 abbrev pub greeting : Asked → Course → List ℕ
 greeting a c = cond a.awaits_continue (cond (is_greeted a c) continue_text []) []
-
--- the text of a read
-abbrev pub lines_out : Course → List ℕ
-lines_out (Held out due end) = out ++ due
-lines_out (Cutting out) = out
-lines_out (Cut out) = out
-lines_out (Left out) = out
-lines_out (Misanswered c) = lines_out c
-lines_out c = []
 
 -- what was said, or is due, while the request goes on
 abbrev pub said_so_far : Asked → Course → List ℕ
