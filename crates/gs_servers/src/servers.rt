@@ -240,7 +240,8 @@ pub fn serve_within<G: Gate + Sync, R: Threads + Wait + Clock + RandomSource + S
 }
 
 /// Serves the connections that the listener accepts, over a new store with this base, by so many
-/// workers. Each connection is served to its end by one of them, in pieces of so many lines; each
+/// workers, in pieces of so many lines. Each request is served by one of them. While others wait, a
+/// connection gives way between two requests, and is served again by whichever worker takes it next. Each
 /// worker acts for a seat of its own, from 0 on, and one more thread, of the last seat, frees what no
 /// version needs. With a limit, that many are accepted, and once all were served the store is ended;
 /// with none, 2^64 - 1. An accept that failed counts. `gs_core::is_base` tests a base.

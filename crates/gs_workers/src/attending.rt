@@ -9,8 +9,9 @@ use gs_session::serve;
 use std::alloc::Global;
 use std::io::{Read, Write};
 
-/// Serves one connection to its end, and says whether all was said that is to be said. A fault of it is
-/// dropped with it: what was open is cancelled then, so the seat is idle for the next one.
+/// Serves one connection until its reader has no more or a reply ends it, and says whether all was said
+/// that is to be said. The reader of one that gives way has no more. A fault is dropped: what was open is
+/// cancelled then, so the seat is idle for the next one.
 pub fn attend<I: Read, O: Write, D: Door>(
     alloc: Global,
     seat: u16,

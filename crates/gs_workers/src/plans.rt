@@ -6,7 +6,7 @@ use std::alloc::Global;
 use std::time::Duration;
 
 /// How connections are served: the base, the lines of a piece, how long a read or a write may wait, and how
-/// long a head, each 8 KiB of a body, and each text that is sent may take in all.
+/// long a head, each 8 KiB of a body, and each 64 KiB of a text that is sent may take in all.
 #[derive(Clone, Copy)]
 pub struct Plan<'a> {
     pub alloc: Global,
