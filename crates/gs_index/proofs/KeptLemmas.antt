@@ -1,11 +1,11 @@
 -- What is kept of an index as its entries and its set change.
-use Rattle.std.proofs.Common.{◌≡◌, ◌≢◌, ◌<◌, ◌≤◌, ◌+◌, ◌||◌, ℕ, Bool, true, false, nat_eq, List, [], ◌∷◌, ◌++◌, map, length, get_or, set, Option, Some, None, refl, sym, ap, subst, ◌∙◌, inl, inr, arith, length-append}
+use Rattle.std.proofs.Common.{◌≡◌, ◌≢◌, ◌<◌, ◌≤◌, ◌+◌, ◌||◌, ℕ, Bool, true, false, cond, nat_eq, List, [], ◌∷◌, ◌++◌, map, length, get_or, set, take, Option, Some, None, refl, sym, ap, subst, ◌∙◌, inl, inr, arith, length-append}
 use Rattle.std.specs.Prelude.{find, IfSome}
 use Rattle.std.specs.declared.cmp.Ordering.{Ordering}
 use Rattle.std.specs.declared.cmp.Ordering.TheVariants.{Less, Equal, Greater}
 use Rattle.std.proofs.Math.ListN.{get_or-eq_default}
 use Rattle.std.proofs.lemmas.Bool.{eqb-true}
-use Rattle.std.proofs.lemmas.List.{length-set, length-map}
+use Rattle.std.proofs.lemmas.List.{length-set, length-map, get_or_default, take-map}
 use Rattle.gs_model.specs.Limits.{last_node}
 use Rattle.gs_term.specs.declared.names.Target.{Target}
 use Rattle.gs_term.specs.declared.names.Target.TheVariants.{Default}
@@ -24,11 +24,11 @@ use Rattle.gs_tree.proofs.ReadingLemmas.{set_readable}
 use Rattle.gs_tree.proofs.Rotations.{tree_in}
 use Rattle.gs_tree.proofs.TreeLemmas.{Stands-same, plain_count_same}
 use Rattle.gs_index.specs.declared.entries.Entry.{Entry}
-use Rattle.gs_index.specs.Ages.{Age, age_of, is_target, key_cmp, key_total, age_among, age_in}
-use Rattle.gs_index.specs.Indexes.{Indexed, entry_at, ended, is_made_by, is_listed, IsIndexed}
-use Rattle.gs_index.specs.Kept.{key_of, number_of, numbers_at, AreWithin, IsKept, Gains, Loses}
+use Rattle.gs_index.specs.Ages.{Age, blank_entry, age_of, is_target, key_cmp, key_total, age_among, age_in}
+use Rattle.gs_index.specs.Indexes.{Indexed, entry_at, ended, is_made_by, is_listed, numbers_after, IsIndexed}
+use Rattle.gs_index.specs.Kept.{key_of, key_if, number_of, numbers_at, AreWithin, IsKept, Gains, Loses}
 use Rattle.gs_index.proofs.AgeLemmas.{rising_same, age_within, age_push, age_set, age_kept}
-use Rattle.gs_index.proofs.NumberLemmas.{numbers, none_listed, all_numbers, numbers_rise, numbers_remove, numbers_insert, numbers_from, key_if, has_listed, others_stay}
+use Rattle.gs_index.proofs.NumberLemmas.{numbers, none_listed, all_numbers, numbers_rise, numbers_remove, numbers_insert, numbers_from, has_listed, others_stay}
 use Rattle.gs_index.proofs.FindLemmas.{is_sought, number_if_of, first_sought, find_same}
 
 -- a set by one order is one by another that reads the same ages
@@ -177,3 +177,22 @@ module _ (es : List Entry) (p : Nodes) (root : Option ℕ) (k : IsKept es p root
       ∙ first_sought f t v top sought (keys_at p root) low readable_among.rising
       ∙ find_same (λ n. is_sought t v (f n)) (λ n. is_made_by t v (entry_at es n)) (keys_at p root)
           (AllKeys-map (λ x. number_of x < length es) (λ x. is_sought t v (f x.subject) ≡ is_made_by t v (entry_at es x.subject)) (λ x h. ap (is_sought t v) (age_within es t v x.subject h)) (keys_at p root) k.within)
+
+  -- where it is a key, so is its number, if the entry is of the target
+  pub found_here : (top : ℕ) (o : Option Key) (x : Key) (e : Entry) (b : Bool) → length es ≤ top → o ≡ first_of (keys_from (key_cmp (age_among es t v)) (Some (key_of top)) (keys_at p root)) → o ≡ Some x
+      → e ≡ get_or es x.subject e → b ≡ is_target t e.target → cond b (Some x.subject) None ≡ find (λ n. is_made_by t v (entry_at es n)) (numbers_at p root)
+  found_here top o x e b past is some read same =
+      let f = age_among es t v in
+      let h : x.subject < length es = subst (λ o. IfSome o (λ x. x.subject < length es)) some (found_within (key_of top) o is) in
+      let test : b ≡ is_target t (f x.subject).target =
+      same ∙ ap (λ y. is_target t y.target) (read ∙ get_or_default es x.subject e blank_entry h) ∙ sym (ap (λ a. is_target t a.target) (age_within es t v x.subject h)) in
+      ap (λ b. cond b (Some x.subject) None) test ∙ ap (number_if_of f t) (sym some) ∙ found_number top o past is
+
+-- the numbers of the next keys
+pub next_numbers : (es : List Entry) (p : Nodes) (root from : Option ℕ) (most : ℕ) (above : Option Key) (none taken : List Key) → IsKept es p root → IfSome from (λ n. is_listed n (numbers_at p root) ≡ true)
+    → above ≡ key_if from → none ≡ [] → taken ≡ none ++ take most (keys_from (key_cmp (age_in es)) above (keys_at p root)) → map number_of taken ≡ take most (numbers_after from (numbers_at p root))
+next_numbers es p root from most above none taken k listed is empty e =
+    let cmp = key_cmp (age_in es) in
+    ap numbers (e ∙ (λ i. empty i ++ take most (keys_from cmp (is i) (keys_at p root))))
+    ∙ sym (take-map number_of most (keys_from cmp (key_if from) (keys_at p root)))
+    ∙ ap (take most) (numbers_from (age_in es) from (keys_at p root) k.set.rising listed)

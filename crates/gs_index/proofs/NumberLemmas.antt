@@ -15,17 +15,12 @@ use Rattle.gs_tree.proofs.FromLemmas.{from_all}
 use Rattle.gs_index.specs.declared.entries.Entry.{Entry}
 use Rattle.gs_index.specs.Ages.{Age, number_cmp, key_cmp, key_total, age_in}
 use Rattle.gs_index.specs.Indexes.{is_listed, is_before, with_number, without_number, after_number, numbers_after}
-use Rattle.gs_index.specs.Kept.{key_of, number_of}
+use Rattle.gs_index.specs.Kept.{key_of, key_if, number_of}
 use Rattle.gs_index.proofs.AgeLemmas.{tied_keys, same_place}
 
 -- the numbers of some keys
 abbrev pub numbers : List Key → List ℕ
 numbers ks = map number_of ks
-
--- the key of a number, where there is one
-abbrev pub key_if : Option ℕ → Option Key
-key_if None = None
-key_if (Some n) = Some (key_of n)
 
 -- a number that is not in a list is none of its numbers
 pub none_listed : (n : ℕ) (ks : List Key) → is_listed n (numbers ks) ≡ false → AllKeys (λ k. number_of k ≢ n) ks

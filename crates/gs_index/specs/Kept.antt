@@ -1,5 +1,5 @@
 -- How an index is kept: its listed numbers are the subjects of the keys of a set. No public clause cites this module.
-use Rattle.std.specs.Prelude.{◌≡◌, ℕ, ◌+◌, ◌<◌, ◌≤◌, List, length, map, Option}
+use Rattle.std.specs.Prelude.{◌≡◌, ℕ, ◌+◌, ◌<◌, ◌≤◌, List, length, map, Option, Some, None}
 use Rattle.gs_model.specs.Limits.{last_node}
 use Rattle.gs_pool.specs.declared.nodes.Key.{Key}
 use Rattle.gs_pool.specs.Pool.{Nodes, room}
@@ -12,6 +12,11 @@ use Rattle.gs_index.specs.Ages.{Age, key_cmp, age_in}
 -- the key of a number
 abbrev pub key_of : ℕ → Key
 key_of n = record { subject = n; predicate = 0; object = 0 }
+
+-- the key of a number, where there is one
+abbrev pub key_if : Option ℕ → Option Key
+key_if None = None
+key_if (Some n) = Some (key_of n)
 
 -- the number of a key
 abbrev pub number_of : Key → ℕ

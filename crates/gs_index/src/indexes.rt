@@ -5,7 +5,7 @@ ghost use Rattle.gs_index.specs.Indexes.{entry_at, ended, is_listed, with_number
 
 use crate::ages::{ByAge, is_same};
 use crate::entries::Entry;
-use crate::sets::{key_of, numbers_of, put, take};
+use crate::sets::{key_if, key_of, numbers_of, put, take};
 use gs_model::{LAST_NODE, Refusal};
 use gs_pool::Pool;
 use gs_term::Target;
@@ -159,12 +159,8 @@ impl Index {
         ensures refused { IfErr result (λ e. e ≡ Refusal.NoMemory) }
     {
         let order = ByAge::new(&self.entries, &Target::Default, 0);
-        let above = match from {
-            None => None,
-            Some(number) => Some(key_of(number)),
-        };
         let mut keys = Vec::new(alloc);
-        next_keys(&self.pool, &order, self.root, above, most, &mut keys)?;
+        next_keys(&self.pool, &order, self.root, key_if(from), most, &mut keys)?;
         Ok(numbers_of(alloc, keys.as_slice())?)
     }
 }

@@ -5,7 +5,7 @@ ghost use Rattle.gs_tree.specs.Keys.{HasKey};
 ghost use Rattle.gs_tree.specs.Reading.{keys_at};
 ghost use Rattle.gs_tree.specs.Sets.{IsSetAt};
 ghost use Rattle.gs_index.specs.Ages.{key_cmp, age_among};
-ghost use Rattle.gs_index.specs.Kept.{key_of as key_with, number_of, Gains, Loses};
+ghost use Rattle.gs_index.specs.Kept.{key_of as key_with, key_if as key_where, number_of, Gains, Loses};
 
 use crate::ages::ByAge;
 use gs_pool::{Key, Pool};
@@ -20,6 +20,16 @@ pub fn key_of(number: u32) -> Key
         subject: number,
         predicate: 0,
         object: 0,
+    }
+}
+
+/// The key of a number, where there is one.
+pub fn key_if(number: Option<u32>) -> Option<Key>
+    ensures { result ≡ key_where number }
+{
+    match number {
+        None => None,
+        Some(number) => Some(key_of(number)),
     }
 }
 
