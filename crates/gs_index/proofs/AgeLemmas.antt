@@ -79,10 +79,6 @@ module _ (f g : ℕ → Age) (P : ℕ → Type 0) (same : (n : ℕ) → P n → 
   rising_same [] hs up = tt
   rising_same (k ∷ ks) hs up = (above_same k ks hs.0 hs.1 up.0, rising_same ks hs.1 up.1)
 
--- ages among the same entries and what is sought are the same
-pub ages_are : (es fs : List Entry) (t u : Target) (b d : ℕ) → es ≡ fs → t ≡ u → b ≡ d → age_among es t b ≡ age_among fs u d
-ages_are es fs t u b d p q r = λ i. age_among (p i) (q i) (r i)
-
 -- the age of a number within is that of its entry, whatever is sought
 pub age_within : (es : List Entry) (t : Target) (b n : ℕ) → n < length es → age_among es t b n ≡ age_of (entry_at es n)
 age_within es t b n h = get_or-map age_of es n blank_entry (record { target = t; birth = b }) h

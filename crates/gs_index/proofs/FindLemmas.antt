@@ -12,7 +12,7 @@ use Rattle.gs_pool.specs.declared.nodes.Key.{Key}
 use Rattle.gs_tree.specs.Keys.{AllKeys, IsRising}
 use Rattle.gs_tree.specs.Reading.{is_less, keys_from, first_of}
 use Rattle.gs_index.specs.Ages.{Age, target_cmp, is_target, age_cmp, key_cmp}
-use Rattle.gs_index.specs.Kept.{key_of}
+use Rattle.gs_index.specs.Kept.{key_of, number_if}
 use Rattle.gs_index.proofs.AgeLemmas.{target_total, target_ties}
 use Rattle.gs_index.proofs.NumberLemmas.{numbers}
 
@@ -20,10 +20,10 @@ use Rattle.gs_index.proofs.NumberLemmas.{numbers}
 abbrev pub is_sought : Target → ℕ → Age → Bool
 is_sought t v a = is_target t a.target && nat_le a.birth v
 
--- the number of the key that was found, where it is of the target
-abbrev pub number_if_of : (ℕ → Age) → Target → Option Key → Option ℕ
+-- the number that was found, where it is of the target
+abbrev pub number_if_of : (ℕ → Age) → Target → Option ℕ → Option ℕ
 number_if_of f t None = None
-number_if_of f t (Some k) = cond (is_target t (f k.subject).target) (Some k.subject) None
+number_if_of f t (Some n) = cond (is_target t (f n).target) (Some n) None
 
 -- a lesser number compares as less
 less_is : (m n : ℕ) → m < n → nat_cmp m n ≡ Less
@@ -82,7 +82,7 @@ module _ (f : ℕ → Age) (t : Target) (v top : ℕ) (sought : f top ≡ record
 
   -- the first key past what is sought has the first number that is sought, or another target
   pub first_sought : (ks : List Key) → AllKeys (λ k. k.subject < top) ks → IsRising (key_cmp f) ks
-      → number_if_of f t (first_of (keys_from (key_cmp f) (Some (key_of top)) ks)) ≡ find (λ n. is_sought t v (f n)) (numbers ks)
+      → number_if_of f t (number_if (first_of (keys_from (key_cmp f) (Some (key_of top)) ks))) ≡ find (λ n. is_sought t v (f n)) (numbers ks)
   first_sought [] low up = refl
   first_sought (k ∷ ks) low up = by_test (is_less (key_cmp f (key_of top) k)) refl (first_sought ks low.1 up.1)
     where
@@ -98,8 +98,8 @@ module _ (f : ℕ → Age) (t : Target) (v top : ℕ) (sought : f top ≡ record
           ∙ sym (ap (λ b. cond b (Some k.subject) (find (λ n. is_sought t v (f n)) (numbers ks))) (and_left (is_target t a.target) (nat_le a.birth v) (later_other a e)))
 
       by_test : (b : Bool) → is_less (key_cmp f (key_of top) k) ≡ b
-          → number_if_of f t (first_of (keys_from (key_cmp f) (Some (key_of top)) ks)) ≡ find (λ n. is_sought t v (f n)) (numbers ks)
-          → number_if_of f t (first_of (cond b (k ∷ keys_from (key_cmp f) (Some (key_of top)) ks) (keys_from (key_cmp f) (Some (key_of top)) ks))) ≡ cond (is_sought t v a) (Some k.subject) (find (λ n. is_sought t v (f n)) (numbers ks))
+          → number_if_of f t (number_if (first_of (keys_from (key_cmp f) (Some (key_of top)) ks))) ≡ find (λ n. is_sought t v (f n)) (numbers ks)
+          → number_if_of f t (number_if (first_of (cond b (k ∷ keys_from (key_cmp f) (Some (key_of top)) ks) (keys_from (key_cmp f) (Some (key_of top)) ks)))) ≡ cond (is_sought t v a) (Some k.subject) (find (λ n. is_sought t v (f n)) (numbers ks))
       by_test true e later = by_kind (past_by a (target_cmp t a.target) refl (sym (ap is_less (top_cmp k low.0)) ∙ e))
       by_test false e later =
           let no : is_sought t v a ≡ false = left_by a (target_cmp t a.target) refl (sym (ap is_less (top_cmp k low.0)) ∙ e) in

@@ -26,7 +26,7 @@ use Rattle.gs_tree.proofs.TreeLemmas.{Stands-same, plain_count_same}
 use Rattle.gs_index.specs.declared.entries.Entry.{Entry}
 use Rattle.gs_index.specs.Ages.{Age, blank_entry, age_of, is_target, key_cmp, key_total, age_among, age_in}
 use Rattle.gs_index.specs.Indexes.{Indexed, entry_at, ended, is_made_by, is_listed, numbers_after, IsIndexed}
-use Rattle.gs_index.specs.Kept.{key_of, key_if, number_of, numbers_at, AreWithin, IsKept, Gains, Loses}
+use Rattle.gs_index.specs.Kept.{key_of, key_if, number_of, number_if, keys_past, numbers_at, AreWithin, IsKept, Gains, Loses}
 use Rattle.gs_index.proofs.AgeLemmas.{rising_same, age_within, age_push, age_set, age_kept}
 use Rattle.gs_index.proofs.NumberLemmas.{numbers, none_listed, all_numbers, numbers_rise, numbers_remove, numbers_insert, numbers_from, has_listed, others_stay}
 use Rattle.gs_index.proofs.FindLemmas.{is_sought, number_if_of, first_sought, find_same}
@@ -157,42 +157,41 @@ module _ (es : List Entry) (p : Nodes) (root : Option ℕ) (k : IsKept es p root
   readable_among = set_readable (key_cmp (age_among es t v)) p root
       (set_same (age_in es) (age_among es t v) (λ n. n < length es) (λ n h. age_within es Default 0 n h ∙ sym (age_within es t v n h)) p root k.within k.set)
 
-  -- the key that is found is that of an entry
-  pub found_within : (top : Key) (o : Option Key) → o ≡ first_of (keys_from (key_cmp (age_among es t v)) (Some top) (keys_at p root)) → IfSome o (λ x. x.subject < length es)
-  found_within top o e =
-      rw e (by_keys (keys_from (key_cmp (age_among es t v)) (Some top) (keys_at p root)) (all_from (key_cmp (age_among es t v)) (λ x. number_of x < length es) (Some top) (keys_at p root) k.within))
+  -- the number that is found is that of an entry
+  pub found_within : (o : Option ℕ) → o ≡ number_if (first_of (keys_past (age_among es t v) (keys_at p root))) → IfSome o (λ n. n < length es)
+  found_within o e =
+      rw e (by_keys (keys_past (age_among es t v) (keys_at p root)) (all_from (key_cmp (age_among es t v)) (λ x. number_of x < length es) (Some (key_of (last_node + 1))) (keys_at p root) k.within))
     where
-      by_keys : (ks : List Key) → AreWithin (length es) ks → IfSome (first_of ks) (λ x. x.subject < length es)
+      by_keys : (ks : List Key) → AreWithin (length es) ks → IfSome (number_if (first_of ks)) (λ n. n < length es)
       by_keys [] h = tt
       by_keys (x ∷ ks) h = h.0
 
   -- and says the number that is sought
-  pub found_number : (top : ℕ) (o : Option Key) → length es ≤ top → o ≡ first_of (keys_from (key_cmp (age_among es t v)) (Some (key_of top)) (keys_at p root))
+  pub found_number : (o : Option ℕ) → o ≡ number_if (first_of (keys_past (age_among es t v) (keys_at p root)))
       → number_if_of (age_among es t v) t o ≡ find (λ n. is_made_by t v (entry_at es n)) (numbers_at p root)
-  found_number top o past e =
+  found_number o e =
       let f = age_among es t v in
-      let sought : f top ≡ record { target = t; birth = v } = get_or-eq_default (map age_of es) (record { target = t; birth = v }) (omega (arith, past, length-map es age_of)) in
-      let low = within_more (length es) top (keys_at p root) past k.within in
+      let top = last_node + 1 in
+      let sought : f top ≡ record { target = t; birth = v } = get_or-eq_default (map age_of es) (record { target = t; birth = v }) (omega (arith, k.few, length-map es age_of)) in
+      let low = within_more (length es) top (keys_at p root) k.few k.within in
       ap (number_if_of f t) e
       ∙ first_sought f t v top sought (keys_at p root) low readable_among.rising
       ∙ find_same (λ n. is_sought t v (f n)) (λ n. is_made_by t v (entry_at es n)) (keys_at p root)
-          (AllKeys-map (λ x. number_of x < length es) (λ x. is_sought t v (f x.subject) ≡ is_made_by t v (entry_at es x.subject)) (λ x h. ap (is_sought t v) (age_within es t v x.subject h)) (keys_at p root) k.within)
+      (AllKeys-map (λ x. number_of x < length es) (λ x. is_sought t v (f x.subject) ≡ is_made_by t v (entry_at es x.subject)) (λ x h. ap (is_sought t v) (age_within es t v x.subject h)) (keys_at p root) k.within)
 
-  -- where it is a key, so is its number, if the entry is of the target
-  pub found_here : (top : ℕ) (o : Option Key) (x : Key) (e : Entry) (b : Bool) → length es ≤ top → o ≡ first_of (keys_from (key_cmp (age_among es t v)) (Some (key_of top)) (keys_at p root)) → o ≡ Some x
-      → e ≡ get_or es x.subject e → b ≡ is_target t e.target → cond b (Some x.subject) None ≡ find (λ n. is_made_by t v (entry_at es n)) (numbers_at p root)
-  found_here top o x e b past is some read same =
+  -- where a number is found, it is that, if its entry is of the target
+  pub found_here : (o : Option ℕ) (n : ℕ) (e : Entry) (b : Bool) → o ≡ number_if (first_of (keys_past (age_among es t v) (keys_at p root))) → o ≡ Some n
+      → e ≡ get_or es n e → b ≡ is_target t e.target → cond b (Some n) None ≡ find (λ n. is_made_by t v (entry_at es n)) (numbers_at p root)
+  found_here o n e b is some read same =
       let f = age_among es t v in
-      let h : x.subject < length es = subst (λ o. IfSome o (λ x. x.subject < length es)) some (found_within (key_of top) o is) in
-      let test : b ≡ is_target t (f x.subject).target =
-      same ∙ ap (λ y. is_target t y.target) (read ∙ get_or_default es x.subject e blank_entry h) ∙ sym (ap (λ a. is_target t a.target) (age_within es t v x.subject h)) in
-      ap (λ b. cond b (Some x.subject) None) test ∙ ap (number_if_of f t) (sym some) ∙ found_number top o past is
+      let h : n < length es = subst (λ o. IfSome o (λ n. n < length es)) some (found_within o is) in
+      let test : b ≡ is_target t (f n).target = same ∙ ap (λ y. is_target t y.target) (read ∙ get_or_default es n e blank_entry h) ∙ sym (ap (λ a. is_target t a.target) (age_within es t v n h)) in
+      ap (λ b. cond b (Some n) None) test ∙ ap (number_if_of f t) (sym some) ∙ found_number o is
 
 -- the numbers of the next keys
-pub next_numbers : (es : List Entry) (p : Nodes) (root from : Option ℕ) (most : ℕ) (above : Option Key) (none taken : List Key) → IsKept es p root → IfSome from (λ n. is_listed n (numbers_at p root) ≡ true)
-    → above ≡ key_if from → none ≡ [] → taken ≡ none ++ take most (keys_from (key_cmp (age_in es)) above (keys_at p root)) → map number_of taken ≡ take most (numbers_after from (numbers_at p root))
-next_numbers es p root from most above none taken k listed is empty e =
-    let cmp = key_cmp (age_in es) in
-    ap numbers (e ∙ (λ i. empty i ++ take most (keys_from cmp (is i) (keys_at p root))))
-    ∙ sym (take-map number_of most (keys_from cmp (key_if from) (keys_at p root)))
+pub next_numbers : (es : List Entry) (p : Nodes) (root from : Option ℕ) (most : ℕ) (taken : List Key) → IsKept es p root → IfSome from (λ n. is_listed n (numbers_at p root) ≡ true)
+    → taken ≡ take most (keys_from (key_cmp (age_in es)) (key_if from) (keys_at p root)) → map number_of taken ≡ take most (numbers_after from (numbers_at p root))
+next_numbers es p root from most taken k listed e =
+    ap numbers e
+    ∙ sym (take-map number_of most (keys_from (key_cmp (age_in es)) (key_if from) (keys_at p root)))
     ∙ ap (take most) (numbers_from (age_in es) from (keys_at p root) k.set.rising listed)

@@ -4,10 +4,15 @@ use Rattle.gs_model.specs.Limits.{last_node}
 use Rattle.gs_pool.specs.declared.nodes.Key.{Key}
 use Rattle.gs_pool.specs.Pool.{Nodes, room}
 use Rattle.gs_tree.specs.Keys.{AllKeys, insert_key, remove_key}
-use Rattle.gs_tree.specs.Reading.{keys_at}
+use Rattle.gs_tree.specs.Reading.{keys_at, keys_from}
 use Rattle.gs_tree.specs.Sets.{IsSetAt}
+use Rattle.gs_index.specs.declared.ages.ByAge.{ByAge}
 use Rattle.gs_index.specs.declared.entries.Entry.{Entry}
-use Rattle.gs_index.specs.Ages.{Age, key_cmp, age_in}
+use Rattle.gs_index.specs.Ages.{Age, key_cmp, age_among, age_in}
+
+-- by which age an order has each number
+abbrev pub ages_of : ByAge → ℕ → Age
+ages_of order = age_among order.entries.now order.target.now order.birth
 
 -- the key of a number
 abbrev pub key_of : ℕ → Key
@@ -22,6 +27,11 @@ key_if (Some n) = Some (key_of n)
 abbrev pub number_of : Key → ℕ
 number_of k = k.subject
 
+-- the number of a key, where there is one
+abbrev pub number_if : Option Key → Option ℕ
+number_if None = None
+number_if (Some k) = Some (number_of k)
+
 -- the numbers that a root means
 abbrev pub numbers_at : Nodes → Option ℕ → List ℕ
 numbers_at p root = map number_of (keys_at p root)
@@ -29,6 +39,10 @@ numbers_at p root = map number_of (keys_at p root)
 -- each key's number is that of an entry
 abbrev pub AreWithin : ℕ → List Key → Type 0
 AreWithin count ks = AllKeys (λ k. number_of k < count) ks
+
+-- the keys past what is sought, which a number that no entry has stands for
+abbrev pub keys_past : (ℕ → Age) → List Key → List Key
+keys_past age ks = keys_from (key_cmp age) (Some (key_of (last_node + 1))) ks
 
 -- the root means a set of numbers of entries, in the order of these; there are no more entries than numbers of nodes
 pub record IsKept (entries : List Entry) (p : Nodes) (root : Option ℕ) : Type 0 where

@@ -1,6 +1,7 @@
 //! The order of numbers: by the graphs of their entries, and of one graph the youngest first.
 ghost use Rattle.std.specs.Prelude.{◌≡◌};
-ghost use Rattle.gs_index.specs.Ages.{Age, target_text, target_cmp, is_target, number_cmp, age_of, age_among};
+ghost use Rattle.gs_index.specs.Ages.{target_text, is_target, age_among};
+ghost use Rattle.gs_index.specs.Kept.{ages_of};
 
 use crate::entries::Entry;
 use gs_pool::Key;
@@ -37,9 +38,7 @@ pub fn is_same(a: &Target, b: &Target) -> bool
 impl<'a> ByAge<'a> {
     /// The order of the entries' numbers, with what is sought.
     pub fn new(entries: &'a [Entry], target: &'a Target, birth: u64) -> ByAge<'a>
-        ensures entries { result.entries.now ≡ entries.now }
-        ensures target { result.target.now ≡ target.now }
-        ensures birth { result.birth ≡ birth }
+        ensures { ages_of result ≡ age_among entries.now target.now birth }
     {
         ByAge {
             entries,
@@ -50,7 +49,7 @@ impl<'a> ByAge<'a> {
 
     /// The target of a number's entry, or the one sought.
     fn target_of(&self, number: u32) -> &Target
-        ensures { result.now ≡ (age_among self.now.entries.now self.now.target.now self.now.birth number).target }
+        ensures { result.now ≡ (ages_of self.now number).target }
     {
         match self.entries.get(number as usize) {
             Some(entry) => &entry.target,
@@ -60,7 +59,7 @@ impl<'a> ByAge<'a> {
 
     /// The birth of a number's entry, or the one sought.
     fn birth_of(&self, number: u32) -> u64
-        ensures { result ≡ (age_among self.now.entries.now self.now.target.now self.now.birth number).birth }
+        ensures { result ≡ (ages_of self.now number).birth }
     {
         match self.entries.get(number as usize) {
             Some(entry) => entry.birth,
@@ -70,11 +69,12 @@ impl<'a> ByAge<'a> {
 }
 
 impl<'a> KeyOrder for ByAge<'a> {
-    ghost use Rattle.gs_index.specs.Ages.{key_cmp, key_total, age_among};
+    ghost use Rattle.gs_index.specs.Ages.{key_cmp, key_total};
+    ghost use Rattle.gs_index.specs.Kept.{ages_of};
 
-    ghost compare = { λ order. key_cmp (age_among order.entries.now order.target.now order.birth) };
+    ghost compare = { λ order. key_cmp (ages_of order) };
 
-    ghost total = { λ order. key_total (age_among order.entries.now order.target.now order.birth) };
+    ghost total = { λ order. key_total (ages_of order) };
 
     fn compare(&self, a: Key, b: Key) -> Ordering {
         let (first, second) = (a.subject, b.subject);

@@ -3,13 +3,12 @@ ghost use Rattle.std.specs.Prelude.{◌≡◌, ◌+◌, ◌<◌, ◌≤◌, [], 
 ghost use Rattle.gs_index.specs.Ages.{blank_entry};
 ghost use Rattle.gs_index.specs.Indexes.{entry_at, ended, is_listed, with_number, without_number, numbers_after, youngest_by, IsIndexed};
 
-use crate::ages::{ByAge, is_same};
+use crate::ages::is_same;
 use crate::entries::Entry;
-use crate::sets::{key_if, key_of, numbers_of, put, take};
+use crate::sets::{keys_after, numbers_of, put, seek, take};
 use gs_model::{LAST_NODE, Refusal};
 use gs_pool::Pool;
 use gs_term::Target;
-use gs_tree::{after, next_keys};
 use std::alloc::Global;
 use std::marker::Model;
 use std::mem;
@@ -109,8 +108,7 @@ impl Index {
         ensures spare { self.old.spare ≤ self.new.spare + 1 }
     {
         drop(mem::replace(&mut self.entries[number as usize], entry));
-        let order = ByAge::new(&self.entries, &Target::Default, 0);
-        self.root = put(&mut self.pool, &order, self.root, number);
+        self.root = put(&mut self.pool, &self.entries, self.root, number);
     }
 
     /// Writes down that a number's entry died at this commit. It stays where it is.
@@ -132,8 +130,7 @@ impl Index {
         ensures listed { self.new.listed ≡ without_number number self.old.listed }
         ensures spare { self.old.spare + 1 ≤ self.new.spare }
     {
-        let order = ByAge::new(&self.entries, &Target::Default, 0);
-        self.root = take(&mut self.pool, &order, self.root, number);
+        self.root = take(&mut self.pool, &self.entries, self.root, number);
         drop(mem::replace(&mut self.entries[number as usize], Entry::blank()));
     }
 
@@ -142,11 +139,9 @@ impl Index {
         ensures value { result ≡ youngest_by self.now target.now version }
         ensures within { IfSome result (λ n. n < length self.now.entries) }
     {
-        let order = ByAge::new(&self.entries, target, version);
-        // No entry has this number, which so stands for what is sought, before all of its age.
-        let key = after(&self.pool, &order, self.root, key_of(u32::MAX))?;
-        if is_same(target, &self.entries[key.subject as usize].target) {
-            Some(key.subject)
+        let number = seek(&self.pool, &self.entries, self.root, target, version)?;
+        if is_same(target, &self.entries[number as usize].target) {
+            Some(number)
         } else {
             None
         }
@@ -158,9 +153,7 @@ impl Index {
         ensures ok { IfOk result (λ ns. ns.items ≡ take most (numbers_after from self.now.listed)) }
         ensures refused { IfErr result (λ e. e ≡ Refusal.NoMemory) }
     {
-        let order = ByAge::new(&self.entries, &Target::Default, 0);
-        let mut keys = Vec::new(alloc);
-        next_keys(&self.pool, &order, self.root, key_if(from), most, &mut keys)?;
+        let keys = keys_after(alloc, &self.pool, &self.entries, self.root, from, most)?;
         Ok(numbers_of(alloc, keys.as_slice())?)
     }
 }
