@@ -1,5 +1,5 @@
 -- What is kept of an index as its entries and its set change.
-use Rattle.std.proofs.Common.{◌≡◌, ◌≢◌, ◌<◌, ◌≤◌, ◌+◌, ◌||◌, ℕ, Bool, true, false, cond, nat_eq, List, [], ◌∷◌, ◌++◌, map, length, get_or, set, take, Option, Some, None, refl, sym, ap, subst, ◌∙◌, inl, inr, arith, length-append}
+use Rattle.std.proofs.Common.{◌≡◌, ◌≢◌, ◌<◌, ◌≤◌, ◌+◌, ◌||◌, ℕ, Bool, true, false, cond, nat_eq, List, [], ◌∷◌, ◌++◌, map, length, get_or, set, take, Option, Some, None, refl, sym, ap, subst, ◌∙◌, arith, length-append}
 use Rattle.std.specs.Prelude.{find, IfSome}
 use Rattle.std.specs.declared.cmp.Ordering.{Ordering}
 use Rattle.std.specs.declared.cmp.Ordering.TheVariants.{Less, Equal, Greater}
@@ -10,8 +10,8 @@ use Rattle.gs_model.specs.Limits.{last_node}
 use Rattle.gs_term.specs.declared.names.Target.{Target}
 use Rattle.gs_term.specs.declared.names.Target.TheVariants.{Default}
 use Rattle.gs_pool.specs.declared.nodes.Key.{Key}
-use Rattle.gs_pool.specs.Pool.{Nodes, plain, node_at, mark_at, room}
-use Rattle.gs_tree.specs.Keys.{AllKeys, IsRising, insert_key, insert_by, remove_key, remove_by}
+use Rattle.gs_pool.specs.Pool.{Nodes, plain}
+use Rattle.gs_tree.specs.Keys.{AllKeys, insert_key, insert_by, remove_key, remove_by}
 use Rattle.gs_tree.specs.Tree.{tree_at}
 use Rattle.gs_tree.specs.Steps.{plain_count, SameTotal}
 use Rattle.gs_tree.specs.Reading.{IsReadableAt, keys_at, keys_from, first_of}
@@ -25,10 +25,10 @@ use Rattle.gs_tree.proofs.Rotations.{tree_in}
 use Rattle.gs_tree.proofs.TreeLemmas.{Stands-same, plain_count_same}
 use Rattle.gs_index.specs.declared.entries.Entry.{Entry}
 use Rattle.gs_index.specs.Ages.{Age, blank_entry, age_of, is_target, key_cmp, key_total, age_among, age_in}
-use Rattle.gs_index.specs.Indexes.{Indexed, entry_at, ended, is_made_by, is_listed, numbers_after, IsIndexed}
+use Rattle.gs_index.specs.Indexes.{entry_at, is_made_by, is_listed, numbers_after, IsIndexed}
 use Rattle.gs_index.specs.Kept.{key_of, key_if, number_of, number_if, keys_past, numbers_at, AreWithin, IsKept, Gains, Loses}
 use Rattle.gs_index.proofs.AgeLemmas.{rising_same, age_within, age_push, age_set, age_kept}
-use Rattle.gs_index.proofs.NumberLemmas.{numbers, none_listed, all_numbers, numbers_rise, numbers_remove, numbers_insert, numbers_from, has_listed, others_stay}
+use Rattle.gs_index.proofs.NumberLemmas.{numbers, none_listed, all_numbers, numbers_rise, numbers_from, others_stay}
 use Rattle.gs_index.proofs.FindLemmas.{is_sought, number_if_of, first_sought, find_same}
 
 -- a set by one order is one by another that reads the same ages

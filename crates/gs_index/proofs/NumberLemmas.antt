@@ -1,20 +1,19 @@
 -- Keys of a set as the numbers that are their subjects: one that goes in, one that goes out, those that stand after one.
-use Rattle.std.proofs.Common.{◌≡◌, ◌≢◌, ◌<◌, ◌||◌, ℕ, Bool, true, false, not, cond, nat_eq, List, [], ◌∷◌, map, length, Option, Some, None, refl, sym, ap, subst, ◌∙◌, inl, inr, arith, true≢false}
+use Rattle.std.proofs.Common.{◌≡◌, ◌≢◌, ◌||◌, ℕ, Bool, true, false, cond, nat_eq, List, [], ◌∷◌, map, Option, Some, None, refl, sym, ap, ◌∙◌, inl, inr, true≢false}
 use Rattle.std.specs.Prelude.{IfSome}
-use Rattle.std.specs.List.{AllByRecursion, filter}
+use Rattle.std.specs.List.{AllByRecursion}
 use Rattle.std.specs.List.Sorted.{IsStrictlySortedBy}
 use Rattle.std.specs.Ordering.{is_lt}
-use Rattle.std.specs.Cmp.{IsTotalOrder}
 use Rattle.std.specs.declared.cmp.Ordering.{Ordering}
 use Rattle.std.specs.declared.cmp.Ordering.TheVariants.{Less, Equal, Greater}
 use Rattle.std.proofs.lemmas.Bool.{eqb-true, eqb-false, eq-eqb, ne_eqb}
 use Rattle.gs_pool.specs.declared.nodes.Key.{Key}
 use Rattle.gs_tree.specs.Keys.{AllKeys, IsRising, HasKey, insert_key, insert_by, remove_key, remove_by}
-use Rattle.gs_tree.specs.Reading.{is_less, is_past, keys_from}
+use Rattle.gs_tree.specs.Reading.{is_less, keys_from}
 use Rattle.gs_tree.proofs.FromLemmas.{from_all}
 use Rattle.gs_index.specs.declared.entries.Entry.{Entry}
 use Rattle.gs_index.specs.Ages.{Age, number_cmp, key_cmp, key_total, age_in}
-use Rattle.gs_index.specs.Indexes.{is_listed, is_before, with_number, without_number, after_number, numbers_after}
+use Rattle.gs_index.specs.Indexes.{is_listed, with_number, without_number, after_number, numbers_after}
 use Rattle.gs_index.specs.Kept.{key_of, key_if, number_of}
 use Rattle.gs_index.proofs.AgeLemmas.{tied_keys, same_place}
 

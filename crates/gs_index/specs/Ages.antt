@@ -1,5 +1,5 @@
 -- The order of entries, and of their numbers: by the graphs that the entries are of, and of one graph the youngest first.
-use Rattle.std.specs.Prelude.{ℕ, Bool, true, false, List, [], Option, None, map, slice_index_or}
+use Rattle.std.specs.Prelude.{ℕ, Bool, true, false, List, [], None, map, slice_index_or}
 use Rattle.std.specs.Str.{bytes_eq}
 use Rattle.std.specs.Ordering.{ordering_then, nat_cmp, on}
 use Rattle.std.specs.Cmp.{IsTotalOrder}

@@ -1,4 +1,3 @@
-use Rattle.std.proofs.Common.{◌∙◌, ap}
 use Rattle.gs_index.specs.Ages.{key_cmp, age_in}
 use Rattle.gs_index.proofs.KeptLemmas.{kept_room, numbers_kept}
 use Rattle.gs_index.proofs.indexes.Index.reserve.Goals as goal
