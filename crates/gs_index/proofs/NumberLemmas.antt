@@ -1,12 +1,13 @@
 -- Keys of a set as the numbers that are their subjects: one that goes in, one that goes out, those that stand after one.
 use Rattle.std.proofs.Common.{◌≡◌, ◌≢◌, ◌||◌, ℕ, Bool, true, false, cond, nat_eq, List, [], ◌∷◌, map, Option, Some, None, refl, sym, ap, ◌∙◌, inl, inr, true≢false}
 use Rattle.std.specs.Prelude.{IfSome}
+use Rattle.std.specs.Bool.{Decides}
 use Rattle.std.specs.List.{AllByRecursion}
 use Rattle.std.specs.List.Sorted.{IsStrictlySortedBy}
 use Rattle.std.specs.Ordering.{is_lt}
 use Rattle.std.specs.declared.cmp.Ordering.{Ordering}
 use Rattle.std.specs.declared.cmp.Ordering.TheVariants.{Less, Equal, Greater}
-use Rattle.std.proofs.lemmas.Bool.{eqb-true, eqb-false, eq-eqb, ne_eqb}
+use Rattle.std.proofs.lemmas.Bool.{eqb-true, eqb-false, eq-eqb, ne_eqb, or_left, or_right}
 use Rattle.gs_pool.specs.declared.nodes.Key.{Key}
 use Rattle.gs_tree.specs.Keys.{AllKeys, IsRising, HasKey, insert_key, insert_by, remove_key, remove_by}
 use Rattle.gs_tree.specs.Reading.{is_less, keys_from}
@@ -44,6 +45,24 @@ module _ (age : ℕ → Age) where
       by_test : (b : Bool) → nat_eq k.subject n ≡ b → (b || is_listed n (numbers ks)) ≡ true → (is_listed n (numbers ks) ≡ true → HasKey (key_cmp age) (key_of n) ks) → HasKey (key_cmp age) (key_of n) (k ∷ ks)
       by_test true is f later = inl (same_place age (key_of n) k (sym (eqb-true k.subject n is)))
       by_test false is f later = inr (later f)
+
+  -- a key among them has a number that is in the list
+  listed_key : (n : ℕ) (ks : List Key) → HasKey (key_cmp age) (key_of n) ks → is_listed n (numbers ks) ≡ true
+  listed_key n [] h = absurd h
+  listed_key n (k ∷ ks) h = elim h [
+    | inl e ↦ or_left (nat_eq k.subject n) (is_listed n (numbers ks)) (eq-eqb k.subject n (sym (tied_keys age (key_of n) k e)))
+    | inr later ↦ or_right (nat_eq k.subject n) (is_listed n (numbers ks)) (listed_key n ks later)
+  ]
+
+  -- so one test is the other
+  pub listed_is : (n : ℕ) (ks : List Key) (b : Bool) → Decides b (HasKey (key_cmp age) (key_of n) ks) → b ≡ is_listed n (numbers ks)
+  listed_is n ks b d = by_tests b (is_listed n (numbers ks)) refl refl
+    where
+      by_tests : (r s : Bool) → b ≡ r → is_listed n (numbers ks) ≡ s → b ≡ s
+      by_tests true true e f = e
+      by_tests false false e f = e
+      by_tests true false e f = absurd (true≢false (sym (listed_key n ks (d.0 e)) ∙ f))
+      by_tests false true e f = absurd (true≢false (sym (d.1 (has_listed n ks f)) ∙ e))
 
   -- keys that are above one have other numbers
   others_above : (n : ℕ) (a : Key) (ks : List Key) → a.subject ≡ n → AllKeys (λ k. key_cmp age a k ≡ Less) ks → AllKeys (λ k. number_of k ≢ n) ks

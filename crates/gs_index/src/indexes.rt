@@ -5,7 +5,7 @@ ghost use Rattle.gs_index.specs.Indexes.{entry_at, ended, is_listed, with_number
 
 use crate::ages::is_same;
 use crate::entries::Entry;
-use crate::sets::{keys_after, numbers_of, put, seek, take};
+use crate::sets::{has, keys_after, numbers_of, put, seek, take};
 use gs_model::{LAST_NODE, Refusal};
 use gs_pool::Pool;
 use gs_term::Target;
@@ -95,6 +95,13 @@ impl Index {
         ensures spare { self.old.spare ≤ self.new.spare }
     {
         Ok(self.pool.reserve(more)?)
+    }
+
+    /// Whether a number is listed.
+    pub fn is_listed(&self, number: u32) -> bool
+        ensures { result ≡ is_listed number self.now.listed }
+    {
+        has(&self.pool, &self.entries, self.root, number)
     }
 
     /// Gives a number that is not listed this entry, and lists it. Takes no memory: there is room for

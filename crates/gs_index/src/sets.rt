@@ -5,13 +5,14 @@ ghost use Rattle.gs_tree.specs.Keys.{HasKey};
 ghost use Rattle.gs_tree.specs.Reading.{IsReadableAt, keys_at, keys_from, first_of};
 ghost use Rattle.gs_tree.specs.Sets.{IsSetAt};
 ghost use Rattle.gs_index.specs.Ages.{key_cmp, age_among, age_in};
-ghost use Rattle.gs_index.specs.Kept.{key_of as key_with, key_if as key_where, number_of, number_if, keys_past, Gains, Loses};
+ghost use Rattle.gs_index.specs.Indexes.{is_listed};
+ghost use Rattle.gs_index.specs.Kept.{key_of as key_with, key_if as key_where, number_of, number_if, numbers_at, keys_past, Gains, Loses};
 
 use crate::ages::ByAge;
 use crate::entries::Entry;
 use gs_pool::{Key, Pool};
 use gs_term::Target;
-use gs_tree::{after, next_keys, remove, union};
+use gs_tree::{after, contains, next_keys, remove, union};
 use std::alloc::{AllocError, Global};
 
 /// The key of a number.
@@ -60,6 +61,15 @@ pub fn take(pool: &mut Pool, entries: &[Entry], root: Option<u32>, number: u32) 
         Ok(rest) => rest,
         Err(_) => unreachable!(),
     }
+}
+
+/// Whether the set of some entries' numbers has a number.
+pub fn has(pool: &Pool, entries: &[Entry], root: Option<u32>, number: u32) -> bool
+    requires { IsReadableAt (key_cmp (age_in entries.now)) pool.now root }
+    ensures { result ≡ is_listed number (numbers_at pool.now root) }
+{
+    let order = ByAge::new(entries, &Target::Default, 0);
+    contains(pool, &order, root, key_of(number))
 }
 
 /// The first number past a target at a birth.
