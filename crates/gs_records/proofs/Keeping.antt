@@ -32,13 +32,6 @@ free_without (kept k) o m e s none = absurd (some_not_none s.1.node o s.1.found 
 pub free_birth : (r : Record) (o : Option Node) (m : NodeMark) (e : Entry) → Stands r o m e → r ≡ free → e.birth ≡ 0
 free_birth r o m e s is = (subst (λ x. Stands x o m e) is s).0
 
-has_some : {b : ℕ} (o : Option Node) → HasNode o b → IsSome o
-has_some o h = ap is_some h.found
-
-module _ (x : Indexed) (p : Nodes) (n : ℕ) (h : Stands opened (node_at p n) (mark_at p n) (entry_at x.entries n)) where
-  pub open_used : IsSome (node_at p n)
-  open_used = has_some (node_at p n) h.1
-
 module _ (x : Indexed) (p : Nodes) (opens latest n : ℕ) (r : Record) (s : IsStored x p opens latest) (is : record_at (records_by x p) n ≡ r) where
   -- what a number has that stands for this
   pub stands_at : Stands r (node_at p n) (mark_at p n) (entry_at x.entries n)

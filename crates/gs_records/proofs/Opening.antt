@@ -1,5 +1,5 @@
 -- A number that was free is open.
-use Rattle.std.proofs.Common.{◌≡◌, ℕ, zero, suc, ◌+◌, ◌<◌, ◌≤◌, cond, List, [], ◌∷◌, ◌++◌, length, get_or, None, refl, sym, ap, subst, ◌∙◌, inl, inr, arith, length-append}
+use Rattle.std.proofs.Common.{◌≡◌, ◌⊎◌, ℕ, zero, suc, ◌+◌, ◌<◌, ◌≤◌, cond, List, [], ◌∷◌, ◌++◌, length, get_or, None, refl, sym, ap, subst, ◌∙◌, inl, inr, arith, length-append}
 use Rattle.gs_model.specs.Limits.{last_node}
 use Rattle.gs_pool.specs.declared.nodes.Node.{Node}
 use Rattle.gs_pool.specs.Pool.{Nodes, plain, node_at, mark_at, free_count, room, Fills}
@@ -11,9 +11,12 @@ use Rattle.gs_records.specs.Waste.{is_opened}
 use Rattle.gs_records.specs.Kept.{AreSingle}
 use Rattle.gs_records.specs.Calls.{Opens}
 use Rattle.gs_records.specs.Stored.{records_by, IsStored, Changes, Grows}
-use Rattle.gs_ledger.proofs.Sums.{zero_or}
 use Rattle.gs_records.proofs.Sums.{gains_turned, open_turned}
 use Rattle.gs_records.proofs.Keeping.{free_without, free_birth, keeps_graphs, turns, stored_bare}
+
+zero_or : (n : ℕ) → (n ≡ 0) ⊎ (0 < n)
+zero_or zero = inl refl
+zero_or (suc n) = inr (omega arith)
 
 -- a blank entry more is under each number past the last
 pub entry_pushed : (es : List Entry) (m : ℕ) → entry_at (es ++ blank_entry ∷ []) m ≡ entry_at es m

@@ -30,14 +30,3 @@ is_opened (kept e) = false
 -- how many are open
 abbrev pub open_count : List Record → ℕ
 open_count rs = count_by is_opened rs
-
--- whether a number is in use
-abbrev pub is_used : Record → Bool
-is_used free = false
-is_used opened = true
-is_used unused = true
-is_used (kept e) = true
-
--- how many numbers are in use
-abbrev pub records_in : List Record → ℕ
-records_in rs = count_by is_used rs
