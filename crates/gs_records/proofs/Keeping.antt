@@ -1,8 +1,8 @@
 -- What a number must have to stand for a record, and what is true of all records after one has changed.
-use Rattle.std.proofs.Common.{◌≡◌, ◌≢◌, ℕ, zero, suc, ◌+◌, ◌-◌, ◌<◌, ◌≤◌, Bool, true, false, cond, List, [], ◌∷◌, ◌++◌, length, get_or, Option, Some, None, IsSome, is_some, refl, sym, ap, subst, ◌∙◌, arith}
-use Rattle.std.proofs.lemmas.Bool.{cases_lt, lt-ltb, le-ltb}
+use Rattle.std.proofs.Common.{◌≡◌, ℕ, suc, ◌+◌, ◌-◌, ◌<◌, ◌≤◌, false, cond, List, [], ◌∷◌, length, drop, get_or, Option, Some, None, refl, sym, ap, subst, ◌∙◌, arith}
+use Rattle.std.proofs.lemmas.Bool.{cases_eq, cases_lt}
 use Rattle.std.proofs.lemmas.List.{get_or_past}
-use Rattle.std.proofs.Common.{true≢false, ◌⊎◌, inl, inr}
+use Rattle.std.proofs.Common.{inl, inr}
 use Rattle.gs_model.specs.Limits.{last_node}
 use Rattle.gs_pool.specs.declared.nodes.Node.{Node}
 use Rattle.gs_pool.specs.Pool.{Nodes, NodeMark, retired, node_at, mark_at, Marks}
@@ -69,7 +69,7 @@ module _ (x y : Indexed) (p q : Nodes) (opens now latest n : ℕ) (r : Record) (
   }
     where
       entry_same : (m : ℕ) → entry_at y.entries m ≡ entry_at x.entries m
-      entry_same m = elim (Rattle.std.proofs.lemmas.Bool.cases_eq m n) [ inl here ↦ ap (entry_at y.entries) here ∙ same ∙ sym (ap (entry_at x.entries) here) | inr ne ↦ c.entries m ne ]
+      entry_same m = elim (cases_eq m n) [ inl here ↦ ap (entry_at y.entries) here ∙ same ∙ sym (ap (entry_at x.entries) here) | inr ne ↦ c.entries m ne ]
 
 -- an open record is given up
 module _ (x : Indexed) (p q : Nodes) (opens latest n : ℕ) (s : IsStored x p opens latest) (is : record_at (records_by x p) n ≡ opened) (marks : Marks p q n (retired 0 false)) where
@@ -112,7 +112,7 @@ module _ (x : Indexed) (p q : Nodes) (opens latest n : ℕ) (s : IsStored x p op
 
 pub length-records_of : (es : List Entry) (ns : List (Option Node)) (ms : List NodeMark) → length (records_of es ns ms) ≡ length es
 length-records_of [] ns ms = refl
-length-records_of (e ∷ es) ns ms = ap suc (length-records_of es (Rattle.std.proofs.Common.drop 1 ns) (Rattle.std.proofs.Common.drop 1 ms))
+length-records_of (e ∷ es) ns ms = ap suc (length-records_of es (drop 1 ns) (drop 1 ms))
 
 -- no more are open than there are numbers
 pub open_few : (x : Indexed) (p : Nodes) (opens latest : ℕ) → IsStored x p opens latest → opens ≤ last_node + 1

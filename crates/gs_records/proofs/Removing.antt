@@ -1,5 +1,5 @@
 -- The current record of a graph ends.
-use Rattle.std.proofs.Common.{◌≡◌, ◌≢◌, ◌⊎◌, ℕ, zero, suc, ◌+◌, ◌<◌, ◌≤◌, Bool, true, false, cond, ◌&&◌, List, [], ◌∷◌, length, get_or, set, slice_set, Option, Some, None, is_none, IsSome, refl, sym, ap, subst, ◌∙◌, inl, inr, arith, get_or-set_same, get_or-set_other, true≢false}
+use Rattle.std.proofs.Common.{is_some, nat_lt, ◌≡◌, ◌≢◌, ℕ, ◌<◌, true, false, cond, List, length, get_or, slice_set, Option, Some, None, is_none, IsSome, refl, sym, ap, subst, ◌∙◌, inl, inr, arith, get_or-set_same, get_or-set_other, true≢false}
 use Rattle.std.proofs.lemmas.Bool.{cases_eq}
 use Rattle.std.proofs.lemmas.List.{length-set}
 use Rattle.gs_term.specs.declared.names.Target.{Target}
@@ -86,7 +86,7 @@ module _ (x y : Indexed) (p q : Nodes) (opens latest commit n : ℕ) (t : Target
   end_within = used_within p x n e.birth s.many here.1
 
   pub end_used : IsSome (node_at p n)
-  end_used = ap Rattle.std.proofs.Common.is_some here.1.found
+  end_used = ap is_some here.1.found
 
   pub end_plain : mark_at p n ≡ plain
   end_plain = here.2 ∙ ap mark_of none
@@ -123,7 +123,7 @@ module _ (x y : Indexed) (p q : Nodes) (opens latest commit n : ℕ) (t : Target
     end_stored lt = record {
       many = end_changes.many;
       stand = all_stand x y p q n (kept (died e commit)) s.many s.stand end_changes;
-      lists = λ m. ap (is_listed m) listed ∙ s.lists m ∙ ap (Rattle.std.proofs.Common.nat_lt 0) (sym (birth_same m));
+      lists = λ m. ap (is_listed m) listed ∙ s.lists m ∙ ap (nat_lt 0) (sym (birth_same m));
       counted = s.counted ∙ omega (arith, open_turned (records_by x p) (records_by y q) n (kept (died e commit)) end_turns, ap (λ z. cond {A = ℕ} (is_opened z) 1 0) at);
       room = omega (arith, s.room, spare);
       single = single_ended (records_by x p) (records_by y q) t commit end_ends s.single;

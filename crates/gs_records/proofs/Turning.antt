@@ -6,7 +6,7 @@ use Rattle.gs_index.specs.declared.entries.Entry.{Entry}
 use Rattle.gs_records.specs.Records.{is_kept, Record, kept, record_at, Turns}
 use Rattle.gs_records.specs.Graphs.{graphs_where}
 use Rattle.gs_records.specs.Kept.{AreSingle, AreDated}
-use Rattle.gs_records.proofs.Found.{Found, not_kept}
+use Rattle.gs_records.proofs.Found.{same_kept, not_kept}
 use Rattle.gs_records.proofs.Same.{AreOnce, Agrees, graphs_agree}
 
 -- what a number stands for is no record of the graph that passes the test
@@ -17,7 +17,7 @@ pub none_bare : (test : Entry → Bool) (t : Target) (r : Record) → is_kept r 
 none_bare test t r bare e is same passes = not_kept r e bare is
 
 pub none_failing : (test : Entry → Bool) (t : Target) (r : Record) (f : Entry) → r ≡ kept f → test f ≡ false → IsNoneOf test t r
-none_failing test t r f is fails e at same passes = true≢false (sym passes ∙ ap test (Rattle.gs_records.proofs.Found.same_kept e f (sym at ∙ is)) ∙ fails)
+none_failing test t r f is fails e at same passes = true≢false (sym passes ∙ ap test (same_kept e f (sym at ∙ is)) ∙ fails)
 
 module _ (test : Entry → Bool) (old new : List Record) (n : ℕ) (r : Record) (t : Target) (turn : Turns old new n r) (before : IsNoneOf test t (record_at old n)) (after : IsNoneOf test t r) where
   -- where it is none of the graph's that pass, before and after, the same is found

@@ -76,7 +76,8 @@ impl Records {
         requires { IfSome from (λ n. is_listed n self.now.listed ≡ true) }
         ensures numbers { IfOk result (λ p. p.0.items
             ≡ filter (has_number version self.now.records) (take most (numbers_after from self.now.listed))) }
-        ensures rest { IfOk result (λ p. p.1 ≡ goes_on most (take most (numbers_after from self.now.listed))) }
+        ensures rest { IfOk result (λ p. p.1
+            ≡ goes_on most (take most (numbers_after from self.now.listed))) }
         ensures refused { IfErr result (λ e. e ≡ Refusal.NoMemory) }
         ensures listed { AreListed self.now.records self.now.listed }
     {
@@ -90,7 +91,8 @@ impl Records {
 
     // Those of some numbers that a version has.
     fn had_of(&self, alloc: Global, version: u64, numbers: &[u32]) -> Result<Vec<u32>, Refusal>
-        ensures ok { IfOk result (λ had. had.items ≡ filter (has_number version self.now.records) numbers.now) }
+        ensures ok { IfOk result (λ had. had.items
+            ≡ filter (has_number version self.now.records) numbers.now) }
         ensures refused { IfErr result (λ e. e ≡ Refusal.NoMemory) }
     {
         let mut had = Vec::new(alloc);
