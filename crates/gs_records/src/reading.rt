@@ -3,6 +3,7 @@ ghost use Rattle.std.specs.Prelude.{◌≡◌, ◌&&◌, ◌<◌, take, true, If
 ghost use Rattle.std.specs.List.{filter};
 ghost use Rattle.gs_index.specs.Indexes.{is_listed, numbers_after};
 ghost use Rattle.gs_records.specs.Records.{kept, record_at, is_kept, outlives as outlives_death, has_at as has_entry_at};
+ghost use Rattle.gs_records.specs.Waste.{is_opened};
 ghost use Rattle.gs_records.specs.Order.{has_number, AreListed, goes_on};
 ghost use Rattle.gs_records.specs.Stored.{is_made as is_made_entry};
 
@@ -46,6 +47,28 @@ fn last_if_many(numbers: &[u32], most: usize) -> Option<u32>
 }
 
 impl Records {
+    /// The number of the last commit.
+    pub fn latest(&self) -> u64
+        ensures { result ≡ self.now.latest }
+    {
+        self.latest
+    }
+
+    /// Whether the record of a number is open.
+    pub fn is_open(&self, number: u32) -> bool
+        ensures { result ≡ is_opened (record_at self.now.records number) }
+    {
+        !self.index.is_listed(number) && self.pool.is_plain(number)
+    }
+
+    /// Whether a number stands for a version of a graph, and so is listed.
+    pub fn is_record(&self, number: u32) -> bool
+        ensures record { result ≡ is_kept (record_at self.now.records number) }
+        ensures listed { result ≡ is_listed number self.now.listed }
+    {
+        self.index.is_listed(number)
+    }
+
     /// The record of a number.
     pub fn record(&self, number: u32) -> &Entry
         requires { is_kept (record_at self.now.records number) ≡ true }

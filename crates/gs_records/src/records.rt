@@ -26,11 +26,11 @@ pub struct Records {
     pub(crate) index: Index,
     // A node for each number in use, with its birth. It is retired where its record has ended, or was
     // given up.
-    pool: Pool,
+    pub(crate) pool: Pool,
     // How many records are open.
     opened: usize,
     // The number of the last commit.
-    latest: u64,
+    pub(crate) latest: u64,
 }
 
 impl Model for Records {
