@@ -1,0 +1,4 @@
+pub mod AgeLemmas
+pub mod NumberLemmas
+pub mod FindLemmas
+pub mod KeptLemmas

@@ -1,0 +1,17 @@
+pub mod Found
+pub mod Same
+pub mod Lifetimes
+pub mod Turning
+pub mod Ending
+pub mod Placing
+pub mod Sums
+pub mod Storing
+pub mod Keeping
+pub mod Opening
+pub mod Removing
+pub mod Making
+pub mod Listing
+pub mod Putting
+pub mod Seeking
+pub mod Ordering
+pub mod Shown

@@ -1,0 +1,47 @@
+use Rattle.std.proofs.Common.{refl, ◌∙◌, arith}
+use Rattle.gs_records.proofs.Keeping.{open_few}
+use Rattle.gs_records.proofs.Opening.{alike_grown, grown_many, grown_few, opened_stored, opened_now}
+use Rattle.gs_records.proofs.records.Records.open.Goals as goal
+
+pub overflow_add-self-inside : goal.overflow_add-self-inside
+overflow_add-self-inside c = omega (arith, open_few c.self.inside.index c.self.inside.pool c.self.inside.opened c.self.inside.latest c.self.invariant)
+
+pub overflow_add-self : goal.overflow_add-self
+overflow_add-self c = omega (arith, open_few c.self.inside.index c.self.inside.pool c.self.inside.opened c.self.inside.latest c.self.invariant)
+
+pub invariant_of-self-2 : goal.invariant_of-self-2
+invariant_of-self-2 c =
+    let s = c.self.inside in
+    let w = c.reserve.new.self in
+    let y = c.grow.new.index in
+    let q = c.reserve-2.new.self in
+    let r = c.alloc_reserved-number.new.self in
+    let n = c.alloc_reserved-number.result in
+    let room = c.in_ok-reserve-2.ensures in
+    let grows = c.in_ok-grow.ensures.ok in
+    let fills = c.alloc_reserved-number.ensures.fills in
+    opened_stored s.index y s.pool q r s.opened s.latest n c.node_of.result c.self.invariant
+    (alike_grown s.index w y s.pool q c.in_ok-reserve.ensures.entries c.in_ok-reserve.ensures.listed grows room.nodes room.marks)
+    fills c.node_of.ensures (grown_many w y q r n c.node_of.result grows fills)
+    (omega (arith, grows.spare, c.in_ok-reserve.ensures.ok))
+    (grown_few w y q grows room.ok room.fits room.small)
+
+pub returns-clause-ok : goal.returns-clause-ok
+returns-clause-ok c =
+    let s = c.self.inside in
+    let w = c.reserve.new.self in
+    let y = c.grow.new.index in
+    let q = c.reserve-2.new.self in
+    let r = c.alloc_reserved-number.new.self in
+    let n = c.alloc_reserved-number.result in
+    let room = c.in_ok-reserve-2.ensures in
+    let grows = c.in_ok-grow.ensures.ok in
+    let fills = c.alloc_reserved-number.ensures.fills in
+    rw (← c.self.view_is) (
+    opened_now s.index y s.pool q r s.opened s.latest n c.node_of.result c.self.invariant
+    (alike_grown s.index w y s.pool q c.in_ok-reserve.ensures.entries c.in_ok-reserve.ensures.listed grows room.nodes room.marks)
+    fills c.node_of.ensures (grown_many w y q r n c.node_of.result grows fills)
+    (omega (arith, grows.spare, c.in_ok-reserve.ensures.ok))
+    (grown_few w y q grows room.ok room.fits room.small)
+    _ _ refl refl (grows.listed ∙ c.in_ok-reserve.ensures.listed) refl (c.alloc_reserved-number.ensures.limit ∙ room.limit)
+    )

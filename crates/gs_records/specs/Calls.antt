@@ -1,0 +1,101 @@
+-- What the calls do to the records.
+use Rattle.std.specs.Prelude.{◌≡◌, ◌≢◌, ℕ, ◌+◌, ◌<◌, Bool, false, ◌&&◌, nat_eq, is_none, if◌then◌else◌, List, [], ◌∷◌, ◌++◌, MatchOption, Option, None}
+use Rattle.std.specs.List.{sum_by}
+use Rattle.gs_term.specs.declared.names.Target.{Target}
+use Rattle.gs_term.specs.declared.names.Target.TheVariants.{Default, Named}
+use Rattle.gs_event.specs.Waste.{Lifetime}
+use Rattle.gs_catalogue.specs.declared.versions.GraphVersion.{GraphVersion}
+use Rattle.gs_catalogue.specs.Catalogues.{with_version}
+use Rattle.gs_index.specs.declared.entries.Entry.{Entry}
+use Rattle.gs_records.specs.Records.{Record, free, opened, unused, kept, Recorded, record_at, is_of, is_current, ended, Turns, Ends}
+use Rattle.gs_records.specs.Graphs.{graphs_at, current, without_version}
+use Rattle.gs_records.specs.Waste.{lifetimes, waste_in}
+use Rattle.gs_records.specs.Kept.{HasNoCurrent}
+
+-- the waste is what it was, and these lifetimes; its order means nothing
+abbrev pub Gains : List Lifetime → List Lifetime → List Lifetime → Type 0
+Gains old new more = (f : Lifetime → ℕ) → sum_by f new ≡ sum_by f old + sum_by f more
+
+-- the lifetime that ends where the version of the graph does
+abbrev pub ending : Target → ℕ → Record → List Lifetime
+ending t death free = []
+ending t death opened = []
+ending t death unused = []
+ending t death (kept e) = if is_of t e && is_current e then record { birth = e.birth; death = death } ∷ [] else []
+
+-- those that end in all records
+abbrev pub endings : Target → ℕ → List Record → List Lifetime
+endings t death [] = []
+endings t death (r ∷ rs) = ending t death r ++ endings t death rs
+
+-- the versions that the dataset had, and has
+pub record KeepsGraphs (old new : List Record) : Type 0 where
+  pub versions : (v : ℕ) → graphs_at v new ≡ graphs_at v old
+  pub now : current new ≡ current old
+
+-- A number that was free is open; no version of the dataset is another.
+pub record Opens (old new : Recorded) (n : ℕ) : Type 0 where
+  pub was : record_at old.records n ≡ free
+  pub turns : Turns old.records new.records n opened
+  pub graphs : KeepsGraphs old.records new.records
+  pub waste : Gains (waste_in old.records) (waste_in new.records) []
+  pub listed : new.listed ≡ old.listed
+  pub latest : new.latest ≡ old.latest
+  pub limit : new.limit ≡ old.limit
+
+-- An open record is given up; no version of the dataset is another.
+pub record GivesUp (old new : Recorded) (n : ℕ) : Type 0 where
+  pub turns : Turns old.records new.records n unused
+  pub graphs : KeepsGraphs old.records new.records
+  pub waste : Gains (waste_in old.records) (waste_in new.records) (lifetimes unused)
+  pub listed : new.listed ≡ old.listed
+  pub latest : new.latest ≡ old.latest
+  pub limit : new.limit ≡ old.limit
+
+-- The version of a graph ended at this commit: earlier versions of the dataset have it, and it has none now.
+pub record Removes (old new : Recorded) (t : Target) (commit : ℕ) : Type 0 where
+  pub ends : Ends old.records new.records t commit
+  pub versions : (v : ℕ) → v < commit → graphs_at v new.records ≡ graphs_at v old.records
+  pub now : current new.records ≡ without_version (current old.records) t
+  pub none : HasNoCurrent new.records t
+  pub waste : Gains (waste_in old.records) (waste_in new.records) (endings t commit old.records)
+  pub listed : new.listed ≡ old.listed
+  pub latest : new.latest ≡ commit
+  pub limit : new.limit ≡ old.limit
+
+-- a graph's record, made by this commit
+abbrev pub made : Target → GraphVersion → ℕ → Record
+made t v commit = kept (record { target = t; version = v; birth = commit; death = None })
+
+-- whether this is the version of an empty default graph, of which no record is kept
+abbrev pub is_nothing : Target → GraphVersion → Bool
+is_nothing Default v = is_none v.root && nat_eq v.triples 0
+is_nothing (Named name) v = false
+
+-- what a number stands for once its version is committed
+abbrev pub placed : Target → GraphVersion → ℕ → Record
+placed t v commit = if is_nothing t v then unused else made t v commit
+
+-- An open record is that of a graph, made by the last commit; earlier versions of the dataset do not have it.
+pub record Places (old new : Recorded) (n : ℕ) (t : Target) (v : GraphVersion) : Type 0 where
+  pub turns : Turns old.records new.records n (made t v old.latest)
+  pub versions : (w : ℕ) → w < old.latest → graphs_at w new.records ≡ graphs_at w old.records
+  pub now : current new.records ≡ with_version (current old.records) t v
+  pub waste : Gains (waste_in old.records) (waste_in new.records) []
+  pub latest : new.latest ≡ old.latest
+  pub limit : new.limit ≡ old.limit
+
+-- An open record is that of a graph, whose version until now ended at this commit: earlier versions of the dataset are as before, and
+-- the graph has this version now, and no other graph changed.
+pub record Puts (old new : Recorded) (n : ℕ) (t : Target) (v : GraphVersion) (commit : ℕ) : Type 0 where
+  pub turned : record_at new.records n ≡ placed t v commit
+  pub others : (m : ℕ) → m ≢ n → record_at new.records m ≡ ended t commit (record_at old.records m)
+  pub versions : (w : ℕ) → w < commit → graphs_at w new.records ≡ graphs_at w old.records
+  pub now : current new.records ≡ with_version (current old.records) t v
+  pub waste : Gains (waste_in old.records) (waste_in new.records) (endings t commit old.records ++ lifetimes (placed t v commit))
+  pub latest : new.latest ≡ commit
+  pub limit : new.limit ≡ old.limit
+
+-- the number named is that of the graph's current record, and where none is named there is none
+abbrev pub FindsCurrent : List Record → Target → Option ℕ → Type 0
+FindsCurrent rs t found = MatchOption found (HasNoCurrent rs t) (λ n. (e : Entry) × (record_at rs n ≡ kept e) × (e.target ≡ t) × (e.death ≡ None))

@@ -1,0 +1,129 @@
+//! Records in the order of their graphs, as a version of the dataset has them.
+ghost use Rattle.std.specs.Prelude.{◌≡◌, ◌&&◌, ◌<◌, take, true, IfOk, IfErr, IfSome};
+ghost use Rattle.std.specs.List.{filter};
+ghost use Rattle.gs_index.specs.Indexes.{is_listed, numbers_after};
+ghost use Rattle.gs_records.specs.Records.{kept, record_at, is_kept, outlives as outlives_death, has_at as has_entry_at};
+ghost use Rattle.gs_records.specs.Waste.{is_opened};
+ghost use Rattle.gs_records.specs.Order.{has_number, AreListed, goes_on};
+ghost use Rattle.gs_records.specs.Stored.{is_made as is_made_entry};
+
+use crate::records::Records;
+use gs_index::Entry;
+use gs_model::Refusal;
+use std::alloc::Global;
+
+/// Whether what died so is in a version still.
+fn outlives(version: u64, death: Option<u64>) -> bool
+    ensures { result ≡ outlives_death version death }
+{
+    match death {
+        None => true,
+        Some(death) => version < death,
+    }
+}
+
+/// Whether a version has what an entry is of.
+fn has_at(version: u64, entry: &Entry) -> bool
+    ensures { result ≡ has_entry_at version entry.now }
+{
+    entry.birth <= version && outlives(version, entry.death)
+}
+
+/// Whether an entry is that of a record, and a version has it.
+fn has_made(version: u64, entry: &Entry) -> bool
+    ensures { result ≡ (is_made_entry entry.now && has_entry_at version entry.now) }
+{
+    0 < entry.birth && has_at(version, entry)
+}
+
+/// The last of these numbers, of which as many were asked for.
+fn last_if_many(numbers: &[u32], most: usize) -> Option<u32>
+    ensures { result ≡ goes_on most numbers.now }
+{
+    if numbers.len() < most {
+        return None;
+    }
+    numbers.last().copied()
+}
+
+impl Records {
+    /// The number of the last commit.
+    pub fn latest(&self) -> u64
+        ensures { result ≡ self.now.latest }
+    {
+        self.latest
+    }
+
+    /// Whether the record of a number is open.
+    pub fn is_open(&self, number: u32) -> bool
+        ensures { result ≡ is_opened (record_at self.now.records number) }
+    {
+        !self.index.is_listed(number) && self.pool.is_plain(number)
+    }
+
+    /// Whether a number stands for a version of a graph, and so is listed.
+    pub fn is_record(&self, number: u32) -> bool
+        ensures record { result ≡ is_kept (record_at self.now.records number) }
+        ensures listed { result ≡ is_listed number self.now.listed }
+    {
+        self.index.is_listed(number)
+    }
+
+    /// The record of a number.
+    pub fn record(&self, number: u32) -> &Entry
+        requires { is_kept (record_at self.now.records number) ≡ true }
+        ensures { record_at self.now.records number ≡ kept result.now }
+    {
+        self.index.entry(number)
+    }
+
+    /// Whether a version of the dataset has the record of a number.
+    pub fn has(&self, version: u64, number: u32) -> bool
+        ensures { result ≡ has_number version self.now.records number }
+    {
+        if self.index.len() <= number as usize {
+            return false;
+        }
+        has_made(version, self.index.entry(number))
+    }
+
+    /// Of the next `most` numbers after `from`, in the order of their graphs, those that a version of the
+    /// dataset has, and the number after which to go on: `None` says that no number is left.
+    pub fn next_at(
+        &self,
+        alloc: Global,
+        version: u64,
+        from: Option<u32>,
+        most: usize,
+    ) -> Result<(Vec<u32>, Option<u32>), Refusal>
+        requires { IfSome from (λ n. is_listed n self.now.listed ≡ true) }
+        ensures numbers { IfOk result (λ p. p.0.items
+            ≡ filter (has_number version self.now.records) (take most (numbers_after from self.now.listed))) }
+        ensures rest { IfOk result (λ p. p.1
+            ≡ goes_on most (take most (numbers_after from self.now.listed))) }
+        ensures refused { IfErr result (λ e. e ≡ Refusal.NoMemory) }
+        ensures listed { AreListed self.now.records self.now.listed }
+    {
+        // The length says of the listed numbers that they are in order.
+        let _all = self.index.len();
+        let numbers = self.index.next(alloc, from, most)?;
+        let on = last_if_many(&numbers, most);
+        let had = self.had_of(alloc, version, &numbers)?;
+        Ok((had, on))
+    }
+
+    // Those of some numbers that a version has.
+    fn had_of(&self, alloc: Global, version: u64, numbers: &[u32]) -> Result<Vec<u32>, Refusal>
+        ensures ok { IfOk result (λ had. had.items
+            ≡ filter (has_number version self.now.records) numbers.now) }
+        ensures refused { IfErr result (λ e. e ≡ Refusal.NoMemory) }
+    {
+        let mut had = Vec::new(alloc);
+        for number in numbers {
+            if self.has(version, *number) {
+                had.push(*number)?;
+            }
+        }
+        Ok(had)
+    }
+}
