@@ -351,9 +351,51 @@ def many_clients(program, rounds):
     return right
 
 
+# The bytes of addresses that a server has for these texts, and in what time (seconds) a reply to another client is wanted.
+ADDRESSES = 1_500_000_000
+LONG = "a" * 65_000
+DEAR = [
+    ("an update of 965 kB, each word of its triples a prefix of 65,000 bytes", "PATCH", "application/sparql-update",
+     f"PREFIX p: <http://e/{LONG}> INSERT DATA {{ p: p: {','.join(['p:'] * 300_000)} }}", 1.0),
+    ("a body of 265 kB, a subject of 65,000 bytes with 100,000 objects", "PUT", "text/turtle",
+     f"<http://e/{LONG}> {P} {','.join(['1'] * 100_000)} .", 1.0),
+]
+
+
+def dear_row(program, row):
+    """How long it takes until such a text is answered 503, and how long others wait; afterwards the server serves as before."""
+    name, method, media, text, _ = row
+    with Server(program, addresses=ADDRESSES) as server:
+        client = Client(server)
+        for target in ("one", "many"):
+            client.status(put(f"/graphs/{target}", [line(node("s", 1), P, node("o", 1))]))
+        with Bystander(server) as bystander:
+            start = time.perf_counter()
+            status = client.status(request(method, "/graphs/many", media, text))
+            taken = time.perf_counter() - start
+            time.sleep(0.05)
+        left = len(Client(server).lines("/graphs/many"))
+        if status != 503 or left != 1:
+            raise SystemExit(f"{name}: status {status}, {left} lines in place of 1")
+        return taken, bystander.longest
+
+
+def dear_texts(program, rounds):
+    right = True
+    for row in DEAR:
+        runs = [dear_row(program, row) for _ in range(rounds)]
+        taken, waited = (min(run[k] for run in runs) for k in (0, 1))
+        holds = waited <= row[4]
+        right = right and holds
+        missed = "" if holds else ": MISSED"
+        print(f"{row[0]}: 503 in {taken:.3f} s, others waited {waited:.3f} s (at most {row[4]:g}){missed}", flush=True)
+    return right
+
+
 def main():
     program, rounds = sys.argv[1], int(sys.argv[2]) if len(sys.argv) > 2 else 3
-    held = [patterns(program, rounds), slow_reader(program, rounds), readers_end(program, rounds), many_clients(program, rounds)]
+    rows = (patterns, slow_reader, readers_end, many_clients, dear_texts)
+    held = [row(program, rounds) for row in rows]
     sys.exit(0 if all(held) else 1)
 
 

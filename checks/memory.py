@@ -11,6 +11,7 @@ from update_text import operations, patched
 
 LAST_NUMBER = 999_999_999_999_999_999
 LAST_COUNT = 18_446_744_073_709_551_615
+MOST_LINES = 4_294_967_295
 NO_MEMORY = "refused NoMemory"
 # The most nodes that one triple takes into use where it comes to a graph or goes from it.
 MOST_FOR_TRIPLE = 260
@@ -22,6 +23,7 @@ B = r"[ \t]*"
 STATEMENT = re.compile(rf"{B}(?:{IRI}|{LABEL}){B}{IRI}{B}(?:{IRI}|{LABEL}|{LITERAL}){B}\.")
 EMPTY = re.compile(rf"{B}(?:#.*)?")
 EXCLUDED = r'[\x00-\x20<>"{}|^`\\]'
+NAMED = re.compile(r"(?m)^\d+ (?:open (?:put|post|patch)|pin|head|delete) (<[^>]*>)$")
 LETTERS = {"t": "\t", "b": "\b", "n": "\n", "r": "\r", "f": "\f"}
 
 
@@ -332,8 +334,8 @@ class Store:
 
 
 def counted(schedule):
-    """The schedule with the counts asked after each line, and at its end all seats cancelled and all waste freed. The counts
-    are asked twice where the schedule asks for them."""
+    """The schedule with the counts asked after each line, and at its end all seats cancelled, each graph that it names or makes
+    read whole, and all waste freed. The counts are asked twice where the schedule asks for them."""
     lines, seats = [], set()
     for line in schedule.split("\n"):
         words = line.split(" ")
@@ -342,7 +344,12 @@ def counted(schedule):
             continue
         lines.append("counts")
         seats |= {words[0]} if words[0].isdigit() else set()
-    for line in [f"{it} cancel" for it in sorted(seats)] + [f"reclaim {LAST_COUNT}"]:
+    opens = schedule.count(" open ") if " open new" in schedule else 0
+    made = {f"<http://localhost/graphs/n{request}-{k}>" for request in range(1, opens + 1) for k in (0, 1)}
+    targets = {"default"} | set(NAMED.findall(schedule)) | made
+    ends = [f"{it} cancel" for it in sorted(seats | {"0"})]
+    reads = [line for it in sorted(targets) for line in (f"0 pin {it}", f"0 piece {MOST_LINES}", "0 cancel")]
+    for line in ends + reads + [f"reclaim {LAST_COUNT}"]:
         lines += [line, "counts"]
     return "\n".join(lines) + "\n"
 

@@ -55,7 +55,7 @@ if has systemd-analyze; then
 fi
 if has man; then
     for page in "$root"/usr/share/man/man1/*.gz; do
-        said=$(LC_ALL=C.UTF-8 MANWIDTH=80 man --warnings -l "$page" 2>&1 > "$room/$(basename "$page" .gz)")
+        said=$(LC_ALL=C.UTF-8 MANWIDTH=80 man --nh --warnings -l "$page" 2>&1 > "$room/$(basename "$page" .gz)")
         [ -z "$said" ] || wrong "man -l $page: $said"
     done
     # Each option that the program names is in its page, with its default.
@@ -74,15 +74,17 @@ if [ -n "$drill" ]; then
     echo "gsdrill: plays its stored schedule"
 fi
 
-# As the unit has it, but for the folder before the program's path, and port 0, which the system chooses.
+# As the unit has it, its bound too, but for the folder before the program's path, and port 0, which the system chooses.
 sed -i 's/127\.0\.0\.1:8080/127.0.0.1:0/' "$root/etc/default/gsd"
 [ "$(grep -c '^GSD_ARGS=.*127\.0\.0\.1:0 ' "$root/etc/default/gsd")" = 1 ] || wrong "/etc/default/gsd says no address"
 line=$(sed -n 's/^ExecStart=//p' "$root/lib/systemd/system/gsd.service")
+bound=$(sed -n 's/^LimitAS=\([0-9]*\)G$/\1/p' "$root/lib/systemd/system/gsd.service")
+[ -n "$bound" ] || wrong "the unit gives the server no bound"
 environment=$(sed -n 's/^EnvironmentFile=-//p' "$root/lib/systemd/system/gsd.service")
 # shellcheck disable=SC1090
 . "$root$environment"
 export GSD_ARGS
-sh -c "exec $root$line" > "$room/listening" & server=$!
+sh -c "ulimit -v $((bound * 1048576)); exec $root$line" > "$room/listening" & server=$!
 for _ in 1 2 3 4 5 6 7 8 9 10; do [ -s "$room/listening" ] && break; sleep 0.2; done
 address=$(sed -n 's/^listening //p' "$room/listening")
 [ -n "$address" ] || wrong "the server does not listen"

@@ -8,7 +8,6 @@ missing=
 for package in curl python3-rdflib python3-requests; do
     dpkg -s "$package" > /dev/null 2>&1 || missing="$missing $package"
 done
-# shellcheck disable=SC2086
-[ -z "$missing" ] || apt-get install -y -qq $missing
+[ -z "$missing" ] || { echo "server.sh wants:$missing (apt-get install$missing)"; exit 2; }
 # Debian's packages belong to Debian's Python.
 exec /usr/bin/python3 "$here/server.py" "$program" ${2:+"$2"}

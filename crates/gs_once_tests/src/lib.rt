@@ -2,4 +2,6 @@
 #![tactic(auto)]
 
 #[cfg(test)]
+mod interruptions;
+#[cfg(test)]
 mod runs;

@@ -3,7 +3,7 @@
 /// A worked schedule: its name, its lines and what they print.
 pub type Row = (&'static str, &'static str, &'static str);
 
-pub const ROWS: [Row; 26] = [
+pub const ROWS: [Row; 27] = [
     ("an empty input", "", ""),
     (
         "a missing graph and the default graph",
@@ -111,11 +111,18 @@ pub const ROWS: [Row; 26] = [
         "opened 1\nstaged\n201\n200\nopened 2\nstaged\n204\nopened 3\nstaged\n204\nreclaimed 1 more\n<http://e/s> <http://e/p> \"1\" .\nend\nnodes 2 triples 1\n",
     ),
     // A node is kept for a read from its birth on, whether or not the read has it. It is born at the commit that comes next when it is
-    // staged, and a copy at the commit that makes it: in these three rows a read of the default graph has the version before that.
+    // staged, and a copy at the commit that makes it: in these four rows a read of the default graph has the version before that.
     (
         "what is staged after another commit is not needed before it",
         "0 open put <http://e/g>\n1 open put default\n1 commit\n1 pin default\n0 stage <http://e/s> <http://e/p> \"1\" .\n0 commit\n0 open put <http://e/g>\n0 commit\nreclaim 9\n",
         "opened 1\nopened 2\n204\n200\nstaged\n201\nopened 3\n204\nreclaimed 1 done\n",
+    ),
+    // The second is at the top, with the first and the third on its sides. The fourth goes below the third after another commit: these
+    // two, and the second, are born again, and the first is not.
+    (
+        "what a later stage passes through is not needed from before",
+        "0 open put <http://e/g>\n0 stage <http://e/s> <http://e/p> \"2\" .\n0 stage <http://e/s> <http://e/p> \"1\" .\n0 stage <http://e/s> <http://e/p> \"3\" .\n1 open put default\n1 commit\n1 pin default\n0 stage <http://e/s> <http://e/p> \"4\" .\n0 commit\n0 open put <http://e/g>\n0 commit\nreclaim 9\n",
+        "opened 1\nstaged\nstaged\nstaged\nopened 2\n204\n200\nstaged\n201\nopened 3\n204\nreclaimed 3 more\n",
     ),
     (
         "what a post copies is not needed before its commit",

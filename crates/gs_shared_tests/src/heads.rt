@@ -1,4 +1,4 @@
-//! Four threads that ask at the same time: all their calls stand on page 0.
+//! Four threads that ask, whether or not at the same time: all their calls stand on page 0.
 ghost use Rattle.std.specs.Prelude.{◌≡◌, ◌<◌, [], codes};
 ghost use Rattle.crossbeam_utils.specs.Seq.{cell_view};
 ghost use Rattle.gs_core.specs.Settings.{start_at};
