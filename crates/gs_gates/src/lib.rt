@@ -17,6 +17,6 @@ pub use limits::{
     RECLAIM_NODES, SHARE_MILLISECONDS, WAITING_NOTES, WAITING_PLACES, WAITING_STREAMS,
     WHOLE_SECONDS, idleness, patience, share, whole,
 };
-pub use lingering::linger;
+pub use lingering::{Others, linger};
 pub use notes::{Note, NoteDoor};
 pub use reclaimers::{reclaim, sweep_after, sweep_and_rest};

@@ -5,7 +5,7 @@ use crate::heads::Heading;
 use crate::queues::Queue;
 use crate::states::State;
 use crate::ways::{Way, has_waited, read_wait, waits_in};
-use gs_gates::share;
+use gs_gates::{Others, share};
 use std::io;
 use std::io::{ErrorKind, Read, Write};
 use std::net::TcpStream;

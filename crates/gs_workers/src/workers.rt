@@ -92,7 +92,7 @@ fn serve_stream<D: Door, K: Clock>(
     let since = state.idle_since();
     match state.way() {
         Way::Over => {
-            let _ = linger(&stream);
+            let _ = linger(clock, &stream, plan.patience, others);
             None
         }
         Way::Waits => Some(Waiting { stream, since }),

@@ -24,6 +24,8 @@ mod sleepers;
 #[cfg(test)]
 mod streams;
 #[cfg(test)]
+mod takers;
+#[cfg(test)]
 mod turns;
 #[cfg(test)]
 mod waits;
