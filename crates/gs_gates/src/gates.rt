@@ -1,21 +1,25 @@
-//! What is called before each event of a worker.
+//! What a server calls: once it is ready, and before each event of a worker.
 use gs_door::Door;
 use gs_event::{Answer, Event};
 
-/// Called before each event of a worker, outside the hold of the lock. A gate that waits holds up its
-/// own worker alone.
+/// What a server calls, outside the hold of the lock. A gate that waits before an event holds up its own
+/// worker alone.
 pub trait Gate {
     /// Is called before this event of this worker's seat is taken.
-    fn before(&self, seat: u16, event: &Event);
+    fn before(&self, _seat: u16, _event: &Event) {}
+
+    /// Is called once, when the store and all threads are there and no connection was accepted. Whether
+    /// any is to be: where none is, the server ends.
+    fn ready(&self) -> bool {
+        true
+    }
 }
 
 /// A gate that holds up nothing.
 #[derive(Clone, Copy)]
 pub struct OpenGate;
 
-impl Gate for OpenGate {
-    fn before(&self, _seat: u16, _event: &Event) {}
-}
+impl Gate for OpenGate {}
 
 /// A door with a gate before it.
 pub struct GateDoor<'a, G: Gate, D: Door> {

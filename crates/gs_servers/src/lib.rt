@@ -2,6 +2,7 @@
 //! thread reclaims.
 #![tactic(auto)]
 
+mod channels;
 mod promises;
 mod servers;
 

@@ -2,6 +2,8 @@
 #![tactic(auto)]
 
 #[cfg(test)]
+mod beginnings;
+#[cfg(test)]
 mod clients;
 #[cfg(test)]
 mod crowds;
