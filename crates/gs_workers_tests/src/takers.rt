@@ -1,10 +1,10 @@
 //! A client that takes little of its reply.
-use crate::clients::{connected, get, hears_made, put, say};
-use crate::servings::{Setup, listening, served};
+use crate::clients::{get, hears_made, put, say};
+use crate::servings::{Setup, served, two_connected};
 use gs_gates_tests::{Job, one};
 use gs_servers::OpenGate;
 use std::alloc::{AllocError, Global};
-use std::net::{Net, SocketAddr, TcpListener, TcpStream};
+use std::net::{Net, TcpListener, TcpStream};
 use std::random::RandomSource;
 use std::sync::Wait;
 use std::test::*;
@@ -12,12 +12,16 @@ use std::thread::Threads;
 use std::time::{Clock, Duration};
 use std::{io, thread};
 
-/// The lines of a graph, and the letters of each: more than both ends of a connection hold.
-const LINES: u32 = 160;
+/// The lines of a graph, and the letters of each: a piece of two lines is taken in part once a client takes
+/// no more.
+const LINES: u32 = 10;
 
 const LETTERS: u32 = 60_000;
 
-/// Such a graph. A piece of two lines is taken in part.
+/// How often it is asked for: more comes than both ends of a connection hold.
+const ASKS: usize = 10;
+
+/// Such a graph.
 fn long_lines(alloc: Global) -> Result<String, AllocError> {
     let mut letters = String::new(alloc);
     for _ in 0..LETTERS {
@@ -31,6 +35,17 @@ fn long_lines(alloc: Global) -> Result<String, AllocError> {
     Ok(lines)
 }
 
+/// So many GETs of it at once, the last of which closes.
+fn many_gets(alloc: Global) -> Result<String, AllocError> {
+    let mut requests = String::new(alloc);
+    for _ in 1..ASKS {
+        requests.push_str("GET /graphs/long HTTP/1.1\r\nHost: a\r\n\r\n")?;
+    }
+    let last = get(alloc, "long")?;
+    requests.push_str(last.as_str())?;
+    Ok(requests)
+}
+
 /// Whether a graph is made of these lines.
 fn is_made(alloc: Global, stream: TcpStream, lines: &str) -> io::Result<bool> {
     let upload = put(alloc, "long", lines)?;
@@ -38,34 +53,36 @@ fn is_made(alloc: Global, stream: TcpStream, lines: &str) -> io::Result<bool> {
     hears_made(alloc, &stream)
 }
 
-/// Puts a graph, asks for it, and takes nothing for three seconds; whether less of it comes then.
-fn is_cut_off<N: Net<Stream = TcpStream> + Clock>(
-    rt: &N,
+/// One client puts a graph; the other asks for it, and takes nothing for three seconds: whether less comes
+/// then than was asked for.
+fn is_cut_off<K: Clock>(
+    clock: &K,
     alloc: Global,
-    addr: SocketAddr,
+    first: TcpStream,
+    second: TcpStream,
 ) -> io::Result<bool> {
     let lines = long_lines(alloc)?;
-    let made = is_made(alloc, connected(rt, addr)?, lines.as_str())?;
-    let stream = connected(rt, addr)?;
-    let read = get(alloc, "long")?;
-    say(&stream, read.as_bytes())?;
-    thread::sleep(rt, Duration::from_secs(3));
-    let reply = io::read_to_string(alloc, &stream)?;
-    let begins = reply.as_str().starts_with("HTTP/1.1 200 ");
-    Ok(made && begins && reply.len() < lines.len())
+    let made = is_made(alloc, first, lines.as_str())?;
+    let requests = many_gets(alloc)?;
+    say(&second, requests.as_bytes())?;
+    thread::sleep(clock, Duration::from_secs(3));
+    let replies = io::read_to_string(alloc, &second)?;
+    let begins = replies.as_str().starts_with("HTTP/1.1 200 ");
+    Ok(made && begins && replies.len() < lines.len().saturating_mul(ASKS))
 }
 
-/// That client.
+/// Both clients.
 #[derive(Drop)]
-struct Taker<'a, R: Net<Stream = TcpStream> + Clock> {
-    rt: &'a R,
+struct Takers<'a, K: Clock> {
+    clock: &'a K,
     alloc: Global,
-    addr: SocketAddr,
+    first: TcpStream,
+    second: TcpStream,
 }
 
-impl<'a, R: Net<Stream = TcpStream> + Clock> Job for Taker<'a, R> {
+impl<'a, K: Clock> Job for Takers<'a, K> {
     fn done(self) -> u64 {
-        one(is_cut_off(self.rt, self.alloc, self.addr))
+        one(is_cut_off(self.clock, self.alloc, self.first, self.second))
     }
 }
 
@@ -78,7 +95,7 @@ fn taker_is_cut_off<
         + RandomSource
         + Sync,
 >(rt: &R, alloc: Global) -> u64 {
-    let Ok((listener, addr)) = listening(rt) else {
+    let Ok((listener, first, second)) = two_connected(rt) else {
         return 0;
     };
     let setup = Setup {
@@ -87,14 +104,13 @@ fn taker_is_cut_off<
         patience: 15_000,
         whole: 1_000,
     };
-    served(
-        rt,
+    let clients = Takers {
+        clock: rt,
         alloc,
-        &listener,
-        setup,
-        &OpenGate,
-        Taker { rt, alloc, addr },
-    )
+        first,
+        second,
+    };
+    served(rt, alloc, &listener, setup, &OpenGate, clients)
 }
 
 #[test]
