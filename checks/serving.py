@@ -4,13 +4,14 @@ import subprocess
 
 
 class Server:
-    """Starts PROGRAM --listen on a free port, with these options more; the block's end ends it."""
+    """Starts PROGRAM --listen on a free port, with these options more, as a process with what more is said; the block's end ends it."""
 
-    def __init__(self, program, *options):
+    def __init__(self, program, *options, **more):
         self.words = [program, "--listen", "127.0.0.1:0", *options]
+        self.more = more
 
     def __enter__(self):
-        self.process = subprocess.Popen(self.words, stdin=subprocess.DEVNULL, stdout=subprocess.PIPE)
+        self.process = subprocess.Popen(self.words, stdin=subprocess.DEVNULL, stdout=subprocess.PIPE, **self.more)
         line = self.process.stdout.readline().decode()
         found = re.fullmatch(r"listening 127\.0\.0\.1:([1-9][0-9]*)\n", line)
         if not found:

@@ -25,6 +25,10 @@ accept_pause = 50_000_000
 abbrev pub linger_patience : ℕ
 linger_patience = 1_000_000_000
 
+-- 1 second, for which no more is told of failures of a kind
+abbrev pub silence : ℕ
+silence = 1_000_000_000
+
 -- 1 millisecond, the least rest of the reclaimer after a sweep
 abbrev pub least_rest : ℕ
 least_rest = 1_000_000

@@ -1,6 +1,18 @@
-//! What a server calls: once it is ready, and before each event of a worker.
+//! What a server calls: once it is ready, before each event of a worker, and where something failed.
 use gs_door::Door;
 use gs_event::{Answer, Event};
+
+/// What failed.
+#[derive(Clone, Copy, Debug, PartialEq)]
+pub enum Failure {
+    /// An accept.
+    Accept,
+    /// A connection took no limits, or there was no memory for its session or for bytes that came: it was
+    /// dropped.
+    Connection,
+    /// There was no memory for a request, or no number: it was answered 503.
+    Request,
+}
 
 /// What a server calls, outside the hold of the lock. A gate that waits before an event holds up its own
 /// worker alone.
@@ -13,6 +25,9 @@ pub trait Gate {
     fn ready(&self) -> bool {
         true
     }
+
+    /// Is called after each failure, by the accept loop or by the worker that met it.
+    fn failed(&self, _failure: Failure) {}
 }
 
 /// A gate that holds up nothing.

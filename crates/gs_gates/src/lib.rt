@@ -3,6 +3,7 @@
 #![tactic(auto)]
 
 mod accepting;
+mod counters;
 mod endings;
 mod gates;
 mod limits;
@@ -11,7 +12,8 @@ mod notes;
 mod reclaimers;
 
 pub use accepting::accept_all;
-pub use gates::{Gate, GateDoor, OpenGate};
+pub use counters::Counter;
+pub use gates::{Failure, Gate, GateDoor, OpenGate};
 pub use limits::{
     ACCEPT_PAUSE_MILLISECONDS, IDLE_SECONDS, LINGER_SECONDS, PATIENCE_SECONDS, PLACES,
     RECLAIM_NODES, SHARE_MILLISECONDS, WAITING_NOTES, WAITING_PLACES, WAITING_STREAMS,

@@ -60,6 +60,9 @@ pub const LINGER_SECONDS: u64 = 1;
 /// The most bytes that one of these reads drops.
 pub(crate) const LINGER_BYTES: usize = 16_384;
 
+/// The seconds for which no more is told of failures of a kind, after a number of them was.
+pub(crate) const SILENCE_SECONDS: u64 = 1;
+
 /// How long one read or one write of a connection may wait for its client.
 pub fn patience() -> Duration
     ensures { as_nanos result ≡ spec.patience }
@@ -102,6 +105,13 @@ pub(crate) fn linger_patience() -> Duration
     ensures { as_nanos result ≡ spec.linger_patience }
 {
     Duration::from_secs(LINGER_SECONDS)
+}
+
+/// For how long no more is told of failures of a kind, after a number of them was.
+pub(crate) fn silence() -> Duration
+    ensures { as_nanos result ≡ spec.silence }
+{
+    Duration::from_secs(SILENCE_SECONDS)
 }
 
 /// The rest of the reclaimer after a sweep that took so long.

@@ -59,7 +59,7 @@ fn accept_once_ready<G: Gate, R: Wait + Clock>(
     to_workers: Sender<TcpStream>,
 ) {
     if gate.ready() {
-        accept_all(rt, listener, limit, to_workers);
+        accept_all(rt, listener, limit, gate, to_workers);
     }
 }
 
