@@ -53,7 +53,7 @@ fn is_made(alloc: Global, stream: TcpStream, lines: &str) -> io::Result<bool> {
     hears_made(alloc, &stream)
 }
 
-/// One client puts a graph; the other asks for it, and takes nothing for three seconds: whether less comes
+/// One client puts a graph; the other asks for it, and takes nothing for five seconds: whether less comes
 /// then than was asked for.
 fn is_cut_off<K: Clock>(
     clock: &K,
@@ -65,7 +65,7 @@ fn is_cut_off<K: Clock>(
     let made = is_made(alloc, first, lines.as_str())?;
     let requests = many_gets(alloc)?;
     say(&second, requests.as_bytes())?;
-    thread::sleep(clock, Duration::from_secs(3));
+    thread::sleep(clock, Duration::from_secs(5));
     let replies = io::read_to_string(alloc, &second)?;
     let begins = replies.as_str().starts_with("HTTP/1.1 200 ");
     Ok(made && begins && replies.len() < lines.len().saturating_mul(ASKS))
@@ -86,7 +86,8 @@ impl<'a, K: Clock> Job for Takers<'a, K> {
     }
 }
 
-/// A write may wait for longer than the client takes nothing, and 64 KiB have a second in all.
+/// Once both ends are full a write may wait for three seconds, and has taken a part of its text then. The
+/// next one might wait for three more, but the text has two seconds in all.
 fn taker_is_cut_off<
     R: Net<Listener = TcpListener, Stream = TcpStream>
         + Threads
@@ -101,8 +102,8 @@ fn taker_is_cut_off<
     let setup = Setup {
         workers: 1,
         limit: 2,
-        patience: 15_000,
-        whole: 1_000,
+        patience: 3_000,
+        whole: 2_000,
     };
     let clients = Takers {
         clock: rt,
