@@ -332,11 +332,48 @@ def kept_row(program, many=64, seconds=10):
     return max(longest)
 
 
-# What 64 clients do on four workers, and in what time (seconds) a reply is wanted.
+def sends_on_row(program, many=4):
+    """How long one more client waits beside so many that were told the end of their connections and go on sending."""
+    last = HEAD.replace(b"\r\n\r\n", b"\r\nConnection: close\r\n\r\n")
+    is_over = threading.Event()
+
+    def run(client):
+        while not is_over.wait(0.02):
+            try:
+                client.send(b"#")
+            except OSError:
+                return
+
+    with Server(program, "--workers", "4") as server:
+        clients = [Client(server) for _ in range(many)]
+        for client in clients:
+            client.send(last)
+        for client in clients:
+            client.reply()
+        threads = [threading.Thread(target=run, args=(client,), daemon=True) for client in clients]
+        for thread in threads:
+            thread.start()
+        try:
+            more = Client(server)
+            start = time.perf_counter()
+            is_right = more.status(HEAD) == 200
+            taken = time.perf_counter() - start
+        except TimeoutError:
+            server.process.kill()
+            return float("inf")
+        finally:
+            is_over.set()
+        if not is_right:
+            raise SystemExit("a HEAD of the default graph is not answered 200")
+        return taken
+
+
+# What many clients do on four workers, and in what time (seconds) a reply is wanted.
 MANY = [
     ("one more beside 64 clients that asked once and stay", lambda program: silent_row(program, True), 3.0),
     ("one more beside 64 clients that say nothing", lambda program: silent_row(program, False), 3.0),
     ("64 clients that ask once a second over connections that they keep", kept_row, 2.0),
+    ("one more beside 4 clients that were told the end and send on", sends_on_row, 3.0),
 ]
 
 

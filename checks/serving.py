@@ -5,15 +5,17 @@ import subprocess
 
 
 class Server:
-    """Starts PROGRAM --listen on a free port, with these options more, and so many bytes of addresses at most where they are said;
-    the block's end ends it."""
+    """Starts PROGRAM --listen on a free port, with these options more, and so many bytes of addresses at most where they are said, as
+    a process with what more is said; the block's end ends it."""
 
-    def __init__(self, program, *options, addresses=None):
+    def __init__(self, program, *options, addresses=None, **more):
         self.words = [program, "--listen", "127.0.0.1:0", *options]
-        self.bound = addresses and (lambda: resource.setrlimit(resource.RLIMIT_AS, (addresses, addresses)))
+        self.more = more
+        if addresses:
+            self.more["preexec_fn"] = lambda: resource.setrlimit(resource.RLIMIT_AS, (addresses, addresses))
 
     def __enter__(self):
-        self.process = subprocess.Popen(self.words, stdin=subprocess.DEVNULL, stdout=subprocess.PIPE, preexec_fn=self.bound)
+        self.process = subprocess.Popen(self.words, stdin=subprocess.DEVNULL, stdout=subprocess.PIPE, **self.more)
         line = self.process.stdout.readline().decode()
         found = re.fullmatch(r"listening 127\.0\.0\.1:([1-9][0-9]*)\n", line)
         if not found:

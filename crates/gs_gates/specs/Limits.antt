@@ -21,9 +21,13 @@ share = 10_000_000
 abbrev pub accept_pause : ℕ
 accept_pause = 50_000_000
 
--- 1 second, which one read may wait for a client to end too, once its connection was served
+-- 1 second, which one read may wait for a client to end too, once its connection was served, and all such reads while others wait
 abbrev pub linger_patience : ℕ
 linger_patience = 1_000_000_000
+
+-- 1 second, for which no more is told of failures of a kind
+abbrev pub silence : ℕ
+silence = 1_000_000_000
 
 -- 1 millisecond, the least rest of the reclaimer after a sweep
 abbrev pub least_rest : ℕ

@@ -3,6 +3,7 @@
 #![tactic(auto)]
 
 mod accepting;
+mod counters;
 mod endings;
 mod gates;
 mod limits;
@@ -11,12 +12,13 @@ mod notes;
 mod reclaimers;
 
 pub use accepting::accept_all;
-pub use gates::{Gate, GateDoor, OpenGate};
+pub use counters::Counter;
+pub use gates::{Failure, Gate, GateDoor, OpenGate};
 pub use limits::{
     ACCEPT_PAUSE_MILLISECONDS, IDLE_SECONDS, LINGER_SECONDS, PATIENCE_SECONDS, PLACES,
     RECLAIM_NODES, SHARE_MILLISECONDS, WAITING_NOTES, WAITING_PLACES, WAITING_STREAMS,
     WHOLE_SECONDS, idleness, patience, share, whole,
 };
-pub use lingering::linger;
+pub use lingering::{Others, linger};
 pub use notes::{Note, NoteDoor};
 pub use reclaimers::{reclaim, sweep_after, sweep_and_rest};

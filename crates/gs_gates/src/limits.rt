@@ -53,14 +53,15 @@ pub(crate) const LEAST_REST_NANOSECONDS: u64 = 1_000_000;
 /// work for longer, and what waits to be freed is no more than what a second and a sweep leave behind.
 pub(crate) const MOST_REST_NANOSECONDS: u64 = 1_000_000_000;
 
-/// The seconds that one read may wait for a client to end too, once its connection was served.
+/// The seconds that one read may wait for a client to end too, once its connection was served; and those
+/// after which such reads end while others wait.
 pub const LINGER_SECONDS: u64 = 1;
-
-/// The most reads by which what it still sends is dropped.
-pub(crate) const LINGER_READS: usize = 1_024;
 
 /// The most bytes that one of these reads drops.
 pub(crate) const LINGER_BYTES: usize = 16_384;
+
+/// The seconds for which no more is told of failures of a kind, after a number of them was.
+pub(crate) const SILENCE_SECONDS: u64 = 1;
 
 /// How long one read or one write of a connection may wait for its client.
 pub fn patience() -> Duration
@@ -98,11 +99,19 @@ pub(crate) fn accept_pause() -> Duration
     Duration::from_millis(ACCEPT_PAUSE_MILLISECONDS)
 }
 
-/// How long one read may wait for a client to end too, once its connection was served.
+/// How long one read may wait for a client to end too, once its connection was served; and how long all
+/// such reads may take while others wait.
 pub(crate) fn linger_patience() -> Duration
     ensures { as_nanos result ≡ spec.linger_patience }
 {
     Duration::from_secs(LINGER_SECONDS)
+}
+
+/// For how long no more is told of failures of a kind, after a number of them was.
+pub(crate) fn silence() -> Duration
+    ensures { as_nanos result ≡ spec.silence }
+{
+    Duration::from_secs(SILENCE_SECONDS)
 }
 
 /// The rest of the reclaimer after a sweep that took so long.

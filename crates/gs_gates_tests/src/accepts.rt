@@ -1,11 +1,12 @@
 //! An accept that fails.
 use crossbeam_channel::{Receiver, Sender, bounded};
-use gs_gates::accept_all;
+use gs_gates::{Failure, Gate, accept_all};
 use std::alloc::Global;
 use std::cell::Cell;
 use std::io;
 use std::net::{Net, OpenListener, SocketAddr, TcpListener, TcpStream};
 use std::sync::Wait;
+use std::sync::atomic::{AtomicU64, Ordering};
 use std::test::*;
 use std::time::{Clock, Duration, Instant};
 
@@ -29,6 +30,20 @@ impl OpenListener for Shaky {
     }
 }
 
+/// Counts the accepts that failed.
+#[derive(Drop)]
+struct Told {
+    accepts: AtomicU64,
+}
+
+impl Gate for Told {
+    fn failed(&self, failure: Failure) {
+        if failure == Failure::Accept {
+            self.accepts.fetch_add(1, Ordering::SeqCst);
+        }
+    }
+}
+
 /// Such a listener, and a client that has connected to it.
 fn shaky_listener<R: Net<Listener = TcpListener, Stream = TcpStream>>(
     rt: &R,
@@ -39,15 +54,20 @@ fn shaky_listener<R: Net<Listener = TcpListener, Stream = TcpStream>>(
     Ok((Shaky { inner, turns }, client))
 }
 
-/// Accepts three times, of which the first and the last fail; whether that took as long as two rests.
+/// Accepts three times, of which the first and the last fail; whether the gate was told, and that took as
+/// long as two rests.
 fn rests<R: Wait + Clock>(
     rt: &R,
     listener: &Shaky,
     to_workers: Sender<TcpStream>,
 ) -> io::Result<bool> {
     let start = Instant::now(rt)?;
-    accept_all(rt, listener, Some(3), to_workers);
-    Ok(start.elapsed(rt)? >= Duration::from_millis(100))
+    let gate = Told {
+        accepts: AtomicU64::new(0),
+    };
+    accept_all(rt, listener, Some(3), &gate, to_workers);
+    let is_told = gate.accepts.load(Ordering::SeqCst) == 2;
+    Ok(is_told && start.elapsed(rt)? >= Duration::from_millis(100))
 }
 
 /// How many connections of four that are waited for come.
@@ -61,8 +81,8 @@ fn came<R: Wait>(rt: &R, streams: Receiver<TcpStream>) -> u64 {
     came
 }
 
-/// What is not as it must be: one connection comes of three accepts, and a rest follows each that
-/// fails.
+/// What is not as it must be: one connection comes of three accepts, and the gate is told of each that
+/// fails, and a rest follows it.
 fn wrong_part<R: Net<Listener = TcpListener, Stream = TcpStream> + Wait + Clock>(
     rt: &R,
     alloc: Global,
@@ -74,7 +94,7 @@ fn wrong_part<R: Net<Listener = TcpListener, Stream = TcpStream> + Wait + Clock>
         return Some("memory");
     };
     if !matches!(rests(rt, &listener, to_workers), Ok(true)) {
-        return Some("the rests");
+        return Some("what the gate was told, or the rests");
     }
     let is_one = came(rt, streams) == 1;
     drop(client);

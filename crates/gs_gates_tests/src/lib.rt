@@ -5,6 +5,8 @@
 #[cfg(test)]
 mod accepts;
 #[cfg(test)]
+mod counters;
+#[cfg(test)]
 mod gates;
 mod jobs;
 #[cfg(test)]

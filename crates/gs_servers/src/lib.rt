@@ -2,10 +2,11 @@
 //! thread reclaims.
 #![tactic(auto)]
 
+mod channels;
 mod promises;
 mod servers;
 
-pub use gs_gates::{Gate, OpenGate};
+pub use gs_gates::{Counter, Failure, Gate, OpenGate};
 pub use gs_shared::Ended;
 pub use gs_workers::Plan;
 pub use servers::{serve_all, serve_within};

@@ -10,18 +10,16 @@ ghost use Rattle.gs_servers.specs.Ends.{EndsAs};
 ghost use Rattle.gs_gates.specs.Records.{IsAsBefore};
 ghost use Rattle.gs_workers.specs.Served.{IsPromised, WasServed};
 
+use crate::channels::channels;
 use crate::promises::{AsBefore, Served};
-use crossbeam_channel::{Receiver, Sender, bounded};
-use gs_gates::{
-    Gate, Note, WAITING_NOTES, WAITING_PLACES, WAITING_STREAMS, accept_all, patience, reclaim,
-    whole,
-};
+use crossbeam_channel::Sender;
+use gs_gates::{Gate, accept_all, patience, reclaim, whole};
 use gs_model::Refusal;
 use gs_shared::{Ended, Hall, Pass, Room, Shared, Side, StampCell, Token, stamp_cell};
-use gs_workers::{Plan, Queue, Waiting, work};
+use gs_workers::{Plan, work};
 use std::alloc::{AllocError, Global};
 use std::marker::Brand;
-use std::net::TcpListener;
+use std::net::{TcpListener, TcpStream};
 use std::random::RandomSource;
 use std::snapshot::Snapshot;
 use std::sync::Wait;
@@ -51,6 +49,20 @@ fn join_all<C: Side, T: Side, B: Room, R: Threads>(
     back
 }
 
+/// Says that all is ready, and accepts connections where they are wanted. None can come to the workers
+/// after that.
+fn accept_once_ready<G: Gate, R: Wait + Clock>(
+    rt: &R,
+    listener: &TcpListener,
+    limit: Option<u64>,
+    gate: &G,
+    to_workers: Sender<TcpStream>,
+) {
+    if gate.ready() {
+        accept_all(rt, listener, limit, gate, to_workers);
+    }
+}
+
 /// Starts a worker for each pass, and the reclaimer with the last one; accepts connections; and joins
 /// them all. The passes come back in their order. `None` where memory or a thread was wanting: what a
 /// thread waits for is dropped then too, so each one that was started ends.
@@ -77,9 +89,7 @@ fn with_threads<
     ensures last { IfSome result (λ r. IsAsBefore last.record r.1.record) }
 {
     let alloc = plan.alloc;
-    let (to_workers, streams) = bounded(alloc, WAITING_STREAMS).ok()?;
-    let (to_places, places) = bounded(alloc, WAITING_PLACES).ok()?;
-    let (to_reclaimer, notes) = bounded(alloc, WAITING_NOTES).ok()?;
+    let (ends, to_workers, notes) = channels(alloc)?;
     thread::scope(
         thread::scope_env(),
         rt,
@@ -98,14 +108,7 @@ fn with_threads<
                 .spawn_with(AsBefore { before }, move || reclaim(rt, hall, notes, last))
                 .ok()?;
             for pass in passes {
-                let own_streams: Receiver<_> = streams.clone().ok()?;
-                let own_places: Receiver<Waiting> = places.clone().ok()?;
-                let queue = Queue {
-                    streams: own_streams,
-                    to_places: to_places.clone().ok()?,
-                    places: own_places,
-                };
-                let own_notes: Sender<Note> = to_reclaimer.clone().ok()?;
+                let (queue, own_notes) = ends.for_worker()?;
                 let before = Snapshot::of(&pass);
                 let worker = scope
                     .spawn_with(Served { before, plan }, move || {
@@ -114,11 +117,8 @@ fn with_threads<
                     .ok()?;
                 workers.push_reserved(worker);
             }
-            drop(streams);
-            drop(to_places);
-            drop(places);
-            drop(to_reclaimer);
-            accept_all(rt, listener, limit, to_workers);
+            drop(ends);
+            accept_once_ready(rt, listener, limit, gate, to_workers);
             let back = join_all(rt, workers, back);
             Some((back, reclaimer.join(rt)))
         },

@@ -1,17 +1,21 @@
 //! One connection, whatever becomes of it.
-ghost use Rattle.std.specs.Prelude.{◌≡◌, true};
+ghost use Rattle.std.specs.Prelude.{◌≡◌, true, OnOk};
 ghost use Rattle.gs_model.specs.Bases.{is_base};
 ghost use Rattle.gs_session.specs.Connections.{Connection, Done};
 ghost use Rattle.gs_workers.specs.Attends.{Attends};
 
 use gs_door::Door;
-use gs_session::serve;
+use gs_session::{ServeFault, serve};
 use std::alloc::Global;
 use std::io::{Read, Write};
 
-/// Serves one connection until its reader has no more or a reply ends it, and says whether all was said
-/// that is to be said. The reader of one that gives way has no more. A fault is dropped: what was open is
-/// cancelled then, so the seat is idle for the next one.
+/// Serves one connection until its reader has no more or a reply ends it. The reader of one that gives way
+/// has no more.
+///
+/// # Errors
+///
+/// Why not all was said that is to be said. What was open is cancelled then, so the seat is idle for the
+/// next one.
 pub fn attend<I: Read, O: Write, D: Door>(
     alloc: Global,
     seat: u16,
@@ -20,14 +24,14 @@ pub fn attend<I: Read, O: Write, D: Door>(
     reader: &mut I,
     writer: &mut O,
     door: &mut D,
-) -> bool
+) -> Result<(), ServeFault>
     requires { is_base base.now ≡ true }
     ensures served { Attends (record { base = base.now; piece = piece }) D.Gives seat
         (I.remaining reader.old) (I.remaining reader.new) (O.contents writer.old) (O.contents writer.new)
         door.old door.new }
-    ensures whole { result ≡ true → Connection D.Gives seat
+    ensures whole { OnOk result (Connection D.Gives seat
         (I.remaining reader.old) (I.remaining reader.new) (O.contents writer.old) (O.contents writer.new)
-        door.old door.new (Done (record { base = base.now; piece = piece }) (I.remaining reader.new)) }
+        door.old door.new (Done (record { base = base.now; piece = piece }) (I.remaining reader.new))) }
 {
-    serve(alloc, seat, base, piece, reader, writer, door).is_ok()
+    serve(alloc, seat, base, piece, reader, writer, door)
 }

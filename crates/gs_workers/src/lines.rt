@@ -5,7 +5,7 @@ use crate::heads::Heading;
 use crate::queues::Queue;
 use crate::states::State;
 use crate::ways::{Way, has_waited, read_wait, waits_in};
-use gs_gates::share;
+use gs_gates::{Others, share};
 use std::io;
 use std::io::{ErrorKind, Read, Write};
 use std::net::TcpStream;
@@ -19,6 +19,9 @@ const TEXT_WINDOW_BYTES: usize = 65_536;
 
 /// What a text begins with that ends no request.
 const GREETING: &[u8] = b"HTTP/1.1 100 ";
+
+/// What the reply begins with to a request for which there was no memory, or no number.
+const REFUSAL: &[u8] = b"HTTP/1.1 503 ";
 
 /// A connection while it is served, as it is read and written. The last byte of what one read of the
 /// system gave is handed out by itself, unless a head ends with it that began where a request does: where a
@@ -207,6 +210,9 @@ impl<'a, K: Clock> Line<'a, K> {
     fn says(&self, text: &[u8]) {
         if text.starts_with(GREETING) {
             return;
+        }
+        if text.starts_with(REFUSAL) {
+            self.state.is_refused.set(true);
         }
         let is_between = self.state.held.get().is_none();
         self.state.is_between.set(is_between);

@@ -1,6 +1,6 @@
 //! The connections that wait for a worker: those that were accepted, and those that gave way.
 use crossbeam_channel::{Receiver, RecvTimeoutError, Sender};
-use gs_gates::{PLACES, idleness};
+use gs_gates::{Others, PLACES, idleness};
 use std::io;
 use std::io::ErrorKind;
 use std::net::TcpStream;
@@ -51,12 +51,13 @@ pub struct Queue {
     pub places: Receiver<Waiting>,
 }
 
-impl Queue {
-    /// Whether a connection waits for a worker.
-    pub(crate) fn has_others(&self) -> bool {
+impl Others for Queue {
+    fn has_others(&self) -> bool {
         !self.streams.is_empty() || !self.places.is_empty()
     }
+}
 
+impl Queue {
     /// Whether there is a place for one more that gives way.
     pub(crate) fn has_place(&self) -> bool {
         self.places.len() < MOST_PLACES

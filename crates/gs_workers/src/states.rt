@@ -29,6 +29,8 @@ pub(crate) struct State {
     pub(crate) taken: Cell<usize>,
     /// Whether a byte came since its worker took it.
     pub(crate) was_read: Cell<bool>,
+    /// Whether a reply was begun that says 503, after which it closes.
+    pub(crate) is_refused: Cell<bool>,
     pub(crate) way: Cell<Way>,
 }
 
@@ -47,6 +49,7 @@ impl State {
             is_in_text: Cell::new(false),
             taken: Cell::new(0),
             was_read: Cell::new(false),
+            is_refused: Cell::new(false),
             way: Cell::new(Way::Over),
         }
     }

@@ -11,7 +11,8 @@ use crate::states::State;
 use crate::ways::{Way, read_wait};
 use crossbeam_channel::Sender;
 use gs_door::Door;
-use gs_gates::{Gate, GateDoor, Note, NoteDoor, linger};
+use gs_gates::{Failure, Gate, GateDoor, Note, NoteDoor, linger};
+use gs_session::ServeFault;
 use gs_shared::{Hall, Pass, PassDoor, Room};
 use std::io;
 use std::net::TcpStream;
@@ -27,7 +28,7 @@ pub fn limit_waits(stream: &TcpStream, patience: Duration) -> io::Result<()> {
     stream.set_write_timeout(Some(patience))
 }
 
-/// Serves one connection while it may be served; whether all was said then that is to be said.
+/// Serves one connection while it may be served, and says why not all was said then that is to be said.
 fn serve_line<'x, D: Door, K: Clock>(
     clock: &'x K,
     plan: Plan<'_>,
@@ -36,7 +37,7 @@ fn serve_line<'x, D: Door, K: Clock>(
     others: &'x Queue,
     state: &'x State,
     door: &mut D,
-) -> bool
+) -> Result<(), ServeFault>
     ensures { Serves (record { base = plan.entry.base.now; piece = plan.entry.piece })
         D.Gives seat door.old door.new }
 {
@@ -68,14 +69,24 @@ fn serve_line<'x, D: Door, K: Clock>(
     )
 }
 
+/// Tells the gate of a connection that was served so, where memory was wanting.
+fn tell<G: Gate>(gate: &G, served: Result<(), ServeFault>, state: &State) {
+    if state.is_refused.get() {
+        gate.failed(Failure::Request);
+    } else if matches!(served, Err(ServeFault::NoMemory)) {
+        gate.failed(Failure::Connection);
+    }
+}
+
 /// Serves one connection, and lets its client hear the end. One that takes no limits is dropped
-/// unserved. One that gives way between two requests comes back.
-fn serve_stream<D: Door, K: Clock>(
+/// unserved. One that gives way between two requests comes back. The gate is told what failed.
+fn serve_stream<D: Door, G: Gate, K: Clock>(
     clock: &K,
     plan: Plan<'_>,
     seat: u16,
     waiting: Waiting,
     others: &Queue,
+    gate: &G,
     door: &mut D,
 ) -> Option<Waiting>
     ensures { (n : ℕ) × ServesMany (record { base = plan.entry.base.now; piece = plan.entry.piece })
@@ -83,16 +94,19 @@ fn serve_stream<D: Door, K: Clock>(
 {
     let Waiting { stream, since } = waiting;
     if limit_waits(&stream, plan.patience).is_err() {
+        gate.failed(Failure::Connection);
         return None;
     }
     let state = State::new(clock, since, plan.patience);
-    if !serve_line(clock, plan, seat, &stream, others, &state, door) {
+    let served = serve_line(clock, plan, seat, &stream, others, &state, door);
+    tell(gate, served, &state);
+    if served.is_err() {
         return None;
     }
     let since = state.idle_since();
     match state.way() {
         Way::Over => {
-            let _ = linger(&stream);
+            let _ = linger(clock, &stream, plan.patience, others);
             None
         }
         Way::Waits => Some(Waiting { stream, since }),
@@ -101,11 +115,12 @@ fn serve_stream<D: Door, K: Clock>(
 }
 
 /// Serves each connection that comes, until no more can come.
-pub(crate) fn serve_streams<D: Door, R: Wait + Clock>(
+pub(crate) fn serve_streams<D: Door, G: Gate, R: Wait + Clock>(
     rt: &R,
     plan: Plan<'_>,
     seat: u16,
     queue: Queue,
+    gate: &G,
     door: &mut D,
 )
     ensures { (n : ℕ) × ServesMany (record { base = plan.entry.base.now; piece = plan.entry.piece })
@@ -117,7 +132,7 @@ pub(crate) fn serve_streams<D: Door, R: Wait + Clock>(
             break;
         };
         is_for_accepted = !is_for_accepted;
-        if let Some(back) = serve_stream(rt, plan, seat, waiting, &queue, door) {
+        if let Some(back) = serve_stream(rt, plan, seat, waiting, &queue, gate, door) {
             queue.keep(rt, back, plan.patience);
             is_for_accepted = false;
         }
@@ -147,7 +162,7 @@ pub fn work<C: Ledger, T: Ledger, B: Room, G: Gate, R: Wait + Clock>(
             door: PassDoor::new(rt, hall, pass),
         },
     };
-    serve_streams(rt, plan, seat, queue, &mut door);
+    serve_streams(rt, plan, seat, queue, gate, &mut door);
     let NoteDoor {
         rt: _,
         notes: _,

@@ -188,10 +188,24 @@ fn parts_answered<N: Net<Stream = TcpStream> + Clock>(rt: &N, addr: SocketAddr) 
     Ok(answered)
 }
 
-/// Sends a head byte by byte, each within the time of a read; whether the connection ends with no reply.
-fn trickle_ends<N: Net<Stream = TcpStream> + Clock>(rt: &N, addr: SocketAddr) -> io::Result<bool> {
+/// A head whose body has a hundred bytes.
+const BEGIN: &[u8] =
+    b"PUT /graphs/a HTTP/1.1\r\nHost: a\r\nContent-Type: application/n-triples\r\nContent-Length: 100\r\n\r\n";
+
+/// Such a body.
+const BODY: [u8; 100] = [b'#'; 100];
+
+/// Sends this at once, and that byte by byte, each within the time of a read; whether the connection ends
+/// with no reply.
+fn trickle_ends<N: Net<Stream = TcpStream> + Clock>(
+    rt: &N,
+    addr: SocketAddr,
+    at_once: &[u8],
+    slowly: &[u8],
+) -> io::Result<bool> {
     let stream = connected(rt, addr)?;
-    for byte in ASK.chunks(1) {
+    say(&stream, at_once)?;
+    for byte in slowly.chunks(1) {
         if say(&stream, byte).is_err() {
             return Ok(true);
         }
@@ -205,7 +219,8 @@ fn trickle_ends<N: Net<Stream = TcpStream> + Clock>(rt: &N, addr: SocketAddr) ->
 enum Kind {
     Stay,
     Part,
-    Trickle,
+    Head,
+    Body,
 }
 
 /// They.
@@ -222,7 +237,8 @@ impl<'a, R: Net<Stream = TcpStream> + Clock> Job for Clients<'a, R> {
         one(match self.kind {
             Kind::Stay => ask_and_stay(self.rt, self.alloc, self.addr),
             Kind::Part => return parts_answered(self.rt, self.addr).unwrap_or(0),
-            Kind::Trickle => trickle_ends(self.rt, self.addr),
+            Kind::Head => trickle_ends(self.rt, self.addr, b"", ASK),
+            Kind::Body => trickle_ends(self.rt, self.addr, BEGIN, &BODY),
         })
     }
 }
@@ -280,6 +296,18 @@ fn a_head_that_comes_byte_by_byte_ends(rt: HostRuntime) -> Result<(), Fail> {
         patience: 15_000,
         whole: 300,
     };
-    assert_eq!(rt; counted(&rt, rt.alloc(), setup, Kind::Trickle), 1);
+    assert_eq!(rt; counted(&rt, rt.alloc(), setup, Kind::Head), 1);
+    Ok(())
+}
+
+#[test]
+fn a_body_that_comes_byte_by_byte_ends(rt: HostRuntime) -> Result<(), Fail> {
+    let setup = Setup {
+        workers: 1,
+        limit: 1,
+        patience: 15_000,
+        whole: 300,
+    };
+    assert_eq!(rt; counted(&rt, rt.alloc(), setup, Kind::Body), 1);
     Ok(())
 }

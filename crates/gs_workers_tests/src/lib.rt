@@ -2,6 +2,8 @@
 #![tactic(auto)]
 
 #[cfg(test)]
+mod beginnings;
+#[cfg(test)]
 mod clients;
 #[cfg(test)]
 mod crowds;
@@ -23,6 +25,8 @@ mod servings;
 mod sleepers;
 #[cfg(test)]
 mod streams;
+#[cfg(test)]
+mod takers;
 #[cfg(test)]
 mod turns;
 #[cfg(test)]
