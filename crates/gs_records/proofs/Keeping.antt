@@ -6,6 +6,7 @@ use Rattle.std.proofs.Common.{inl, inr}
 use Rattle.gs_model.specs.Limits.{last_node}
 use Rattle.gs_pool.specs.declared.nodes.Node.{Node}
 use Rattle.gs_pool.specs.Pool.{Nodes, NodeMark, retired, node_at, mark_at, Marks}
+use Rattle.gs_ledger.specs.Marks.{death_of}
 use Rattle.gs_index.specs.declared.entries.Entry.{Entry}
 use Rattle.gs_index.specs.Indexes.{Indexed, entry_at, is_listed}
 use Rattle.gs_records.specs.Records.{is_kept, Record, free, opened, unused, kept, Recorded, record_at, has_at, is_current, Turns}
@@ -78,7 +79,7 @@ module _ (x : Indexed) (p q : Nodes) (opens latest n : ℕ) (s : IsStored x p op
       let at = stands_at x p opens latest n opened s is in
       record {
         many = ap length marks.nodes ∙ s.many;
-        stands = (at.0, subst (λ o. HasNode o 0) (sym (ap (λ ns. get_or ns n None) marks.nodes)) at.1, marks.changed);
+        stands = (at.0, subst (λ o. HasNode o 0) (sym (ap (λ ns. get_or ns n None) marks.nodes)) at.1, ap death_of marks.changed);
         nodes = λ m ne. ap (λ ns. get_or ns m None) marks.nodes;
         marks = marks.others;
         entries = λ m ne. refl;

@@ -6,6 +6,7 @@ use Rattle.gs_term.specs.declared.names.Target.{Target}
 use Rattle.gs_catalogue.specs.declared.versions.GraphVersion.{GraphVersion}
 use Rattle.gs_pool.specs.declared.nodes.Node.{Node}
 use Rattle.gs_pool.specs.Pool.{Nodes, plain, node_at, mark_at, Updates}
+use Rattle.gs_ledger.specs.Marks.{death_of}
 use Rattle.gs_index.specs.declared.entries.Entry.{Entry}
 use Rattle.gs_index.specs.Indexes.{Indexed, entry_at, is_listed, with_number}
 use Rattle.gs_records.specs.Records.{is_kept, opened, kept, Recorded, record_at, Turns}
@@ -53,7 +54,7 @@ module _ (x : Indexed) (p : Nodes) (opens latest n : ℕ) (s : IsStored x p open
     made_changes : Changes x y p q n (kept (made_entry t v latest))
     made_changes = record {
       many = numbers ∙ s.many ∙ sym (ap length entries ∙ length-set x.entries n (made_entry t v latest));
-      stands = (entry_now, record { node = node; found = updates.changed; birth_is = birth }, ap (λ ms. get_or ms n plain) marks ∙ open_is_plain, after);
+      stands = (entry_now, record { node = node; found = updates.changed; birth_is = birth }, ap death_of (ap (λ ms. get_or ms n plain) marks ∙ open_is_plain), after);
       nodes = updates.others;
       marks = λ m ne. ap (λ ms. get_or ms m plain) marks;
       entries = entry_other;

@@ -7,13 +7,16 @@ ghost use Rattle.gs_records.specs.Records.{opened, kept, Recorded, record_at};
 ghost use Rattle.gs_records.specs.Graphs.{current};
 ghost use Rattle.gs_records.specs.Kept.{HasNoCurrent};
 ghost use Rattle.gs_records.specs.Calls.{Opens, GivesUp, Removes, Places, Puts, FindsCurrent};
+ghost use Rattle.gs_records.specs.Reclaims.{Reclaims};
 
 use crate::places::{grow, is_nothing_of, missing_version, node_of};
+use crate::reclaiming::{Reclaimed, reclaim};
 use gs_catalogue::GraphVersion;
 use gs_index::{Entry, Index};
 use gs_model::Refusal;
 use gs_pool::Pool;
 use gs_term::Target;
+use gs_versions::Versions;
 use std::alloc::Global;
 use std::marker::Model;
 
@@ -166,5 +169,12 @@ impl Records {
         } else {
             self.place(number, target, version);
         }
+    }
+    /// Frees as many of the records that ended or were given up as no pinned version needs, at most n.
+    /// Their numbers are free, and the bytes of their names are given back. Takes no memory.
+    pub fn reclaim(&mut self, versions: &Versions, n: u64) -> Reclaimed
+        ensures { Reclaims versions.now.seats n result.freed result.left self.old self.new }
+    {
+        reclaim(&mut self.index, &mut self.pool, versions, n)
     }
 }
