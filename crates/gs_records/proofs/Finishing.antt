@@ -190,6 +190,7 @@ module _ (v : Pins) (x y : Indexed) (p0 p p1 q : Nodes) (n freed : ℕ) (left : 
       none_needed = swept_drops.none_needed;
       left_is = left_is y q h.opens h.latest (swept_stored h.opens h.latest h.stored) parted left none answer;
     };
+    none_aside = none;
   }
 
 -- what the contract says of it

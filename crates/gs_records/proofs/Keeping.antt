@@ -10,6 +10,7 @@ use Rattle.gs_ledger.specs.Marks.{death_of}
 use Rattle.gs_index.specs.declared.entries.Entry.{Entry}
 use Rattle.gs_index.specs.Indexes.{Indexed, entry_at, is_listed}
 use Rattle.gs_records.specs.Records.{is_kept, Record, free, opened, unused, kept, Recorded, record_at, has_at, is_current, Turns}
+use Rattle.gs_records.specs.Graphs.{current}
 use Rattle.gs_records.specs.Waste.{is_opened, open_count}
 use Rattle.gs_records.specs.Kept.{AreSingle}
 use Rattle.gs_records.specs.Calls.{KeepsGraphs, GivesUp}
@@ -90,6 +91,9 @@ module _ (x : Indexed) (p q : Nodes) (opens latest n : ℕ) (s : IsStored x p op
 
   given_open : open_count (records_by x q) + 1 ≡ open_count (records_by x p)
   given_open = omega (arith, open_turned (records_by x p) (records_by x q) n unused given_turns, ap (λ r. cond {A = ℕ} (is_opened r) 1 0) is)
+
+  pub given_current : current (records_by x q) ≡ current (records_by x p)
+  given_current = (keeps_graphs (records_by x p) (records_by x q) n unused s.single given_turns (ap is_kept is) refl).now
 
   pub given_some : 0 < opens
   given_some = omega (arith, given_open, s.counted)

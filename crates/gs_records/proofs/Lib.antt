@@ -19,3 +19,4 @@ pub mod Blanking
 pub mod Dropping
 pub mod Sweeping
 pub mod Finishing
+pub mod Counting

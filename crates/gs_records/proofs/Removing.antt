@@ -8,6 +8,7 @@ use Rattle.gs_ledger.specs.Marks.{death_of}
 use Rattle.gs_index.specs.declared.entries.Entry.{Entry}
 use Rattle.gs_index.specs.Indexes.{Indexed, entry_at, is_listed, ended as died}
 use Rattle.gs_records.specs.Records.{Record, free, opened, unused, kept, Recorded, record_at, is_current, ended_entry, ended, Turns, Ends}
+use Rattle.gs_records.specs.Graphs.{current, without_version}
 use Rattle.gs_records.specs.Waste.{is_opened}
 use Rattle.gs_records.specs.Kept.{AreSingle, HasNoCurrent}
 use Rattle.gs_records.specs.Calls.{Removes}
@@ -125,6 +126,9 @@ module _ (x y : Indexed) (p q : Nodes) (opens latest commit n : ℕ) (t : Target
       | inl is ↦ ap (λ k. (entry_at y.entries k).birth) is ∙ ap (λ (d : Entry). d.birth) entry_now ∙ sym (ap (λ (d : Entry). d.birth) here.0) ∙ sym (ap (λ k. (entry_at x.entries k).birth) is)
       | inr ne ↦ ap (λ (d : Entry). d.birth) (entry_other m ne)
     ]
+
+    pub end_current : current (records_by y q) ≡ without_version (current (records_by x p)) t
+    end_current = current-ended_records (records_by x p) (records_by y q) t commit end_ends s.single
 
     pub end_stored : latest < commit → IsStored y q opens commit
     end_stored lt = record {

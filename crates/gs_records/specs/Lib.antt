@@ -7,4 +7,5 @@ pub mod Stored
 pub mod Calls
 pub mod Reclaims
 pub mod Sweeps
+pub mod Counts
 pub mod Order

@@ -3,7 +3,7 @@ use Rattle.std.specs.Prelude.{◌≡◌, ◌≢◌, ℕ, ◌+◌, ◌≤◌, Boo
 use Rattle.std.specs.List.{All, sum_by}
 use Rattle.gs_pool.specs.declared.nodes.Node.{Node}
 use Rattle.gs_pool.specs.declared.nodes.Retired.{Retired}
-use Rattle.gs_pool.specs.Pool.{Nodes, NodeMark, aside, node_at, mark_at, Updates, KeepsMarks, Marks}
+use Rattle.gs_pool.specs.Pool.{Nodes, NodeMark, aside, node_at, mark_at, aside_count, Updates, KeepsMarks, Marks}
 use Rattle.gs_versions.specs.Pins.{IsPinned}
 use Rattle.gs_event.specs.Waste.{Lifetime, is_needed}
 use Rattle.gs_event.specs.Steps.{Frees}
@@ -79,3 +79,4 @@ pub record Swept (pins : List (Option ℕ)) (n freed : ℕ) (left : Bool) (x y :
   pub stored : KeepsStored x y p q
   pub drops : Drops pins freed (records_by x p) (records_by y q)
   pub waste : Frees pins n freed left (waste_in (records_by x p)) (waste_in (records_by y q))
+  pub none_aside : aside_count q ≡ 0

@@ -114,12 +114,11 @@ fn restore(pool: &mut Pool)
 /// Frees as many numbers as no pin needs the records of, at most n. Takes no memory. It looks at what
 /// ended since it was looked at last, and at what was held for pins that have ended.
 pub fn reclaim(index: &mut Index, pool: &mut Pool, versions: &Versions, n: u64) -> Reclaimed
-    requires { AreStored index.old pool.old }
+    requires stored { AreStored index.old pool.old }
+    requires none_aside { aside_count pool.old ≡ 0 }
     ensures { Swept versions.now.seats n result.freed result.left
         index.old index.new pool.old pool.new }
 {
-    // Nothing is set aside between two calls: this says so to the proof.
-    restore(pool);
     follow_pins(pool, versions);
     let freed = free_unneeded(index, pool, versions, n);
     restore(pool);
