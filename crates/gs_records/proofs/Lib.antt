@@ -15,3 +15,8 @@ pub mod Putting
 pub mod Seeking
 pub mod Ordering
 pub mod Shown
+pub mod Blanking
+pub mod Dropping
+pub mod Sweeping
+pub mod Finishing
+pub mod Counting

@@ -5,7 +5,9 @@
 mod laws;
 mod places;
 mod reading;
+mod reclaiming;
 mod records;
 
 pub use laws::graphs_are_listed_in_order;
+pub use reclaiming::Reclaimed;
 pub use records::Records;
