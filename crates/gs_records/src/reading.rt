@@ -4,6 +4,7 @@ ghost use Rattle.std.specs.List.{filter};
 ghost use Rattle.gs_index.specs.Indexes.{is_listed, numbers_after};
 ghost use Rattle.gs_records.specs.Records.{kept, record_at, is_kept, outlives as outlives_death, has_at as has_entry_at};
 ghost use Rattle.gs_records.specs.Waste.{is_opened};
+ghost use Rattle.gs_records.specs.Kept.{AreSingle, AreDated};
 ghost use Rattle.gs_records.specs.Order.{has_number, AreListed, goes_on};
 ghost use Rattle.gs_records.specs.Stored.{is_made as is_made_entry};
 
@@ -47,10 +48,15 @@ fn last_if_many(numbers: &[u32], most: usize) -> Option<u32>
 }
 
 impl Records {
-    /// The number of the last commit.
+    /// The number of the last commit. It says what is true of all records, and of the listed numbers.
     pub fn latest(&self) -> u64
-        ensures { result ≡ self.now.latest }
+        ensures value { result ≡ self.now.latest }
+        ensures single { AreSingle self.now.records }
+        ensures dated { AreDated self.now.latest self.now.records }
+        ensures listed { AreListed self.now.records self.now.listed }
     {
+        // The length says of the listed numbers that they are in order.
+        let _all = self.index.len();
         self.latest
     }
 
