@@ -15,3 +15,5 @@ pub mod Putting
 pub mod Seeking
 pub mod Ordering
 pub mod Shown
+pub mod Lasting
+pub mod Walking

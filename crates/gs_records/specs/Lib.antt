@@ -6,3 +6,4 @@ pub mod Kept
 pub mod Stored
 pub mod Calls
 pub mod Order
+pub mod Laws
