@@ -1,11 +1,12 @@
 //! Records in the order of their graphs, as a version of the dataset has them.
-ghost use Rattle.std.specs.Prelude.{◌≡◌, ◌&&◌, ◌<◌, take, true, IfOk, IfErr, IfSome};
+ghost use Rattle.std.specs.Prelude.{◌≡◌, ◌&&◌, ◌<◌, true, IfOk, IfErr, IfSome};
 ghost use Rattle.std.specs.List.{filter};
-ghost use Rattle.gs_index.specs.Indexes.{is_listed, numbers_after};
+ghost use Rattle.gs_index.specs.Indexes.{is_listed};
 ghost use Rattle.gs_records.specs.Records.{kept, record_at, is_kept, outlives as outlives_death, has_at as has_entry_at};
 ghost use Rattle.gs_records.specs.Waste.{is_opened};
 ghost use Rattle.gs_records.specs.Kept.{AreSingle, AreDated};
 ghost use Rattle.gs_records.specs.Order.{has_number, AreListed, goes_on};
+ghost use Rattle.gs_records.specs.Laws.{piece_after};
 ghost use Rattle.gs_records.specs.Stored.{is_made as is_made_entry};
 
 use crate::records::Records;
@@ -94,7 +95,10 @@ impl Records {
     }
 
     /// Of the next `most` numbers after `from`, in the order of their graphs, those that a version of the
-    /// dataset has, and the number after which to go on: `None` says that no number is left.
+    /// dataset has, and the number after which to go on: `None` says that no number is left. That number
+    /// is for the same hold of the store, as the version may not have it: once it is free it may be
+    /// another graph's. A reader that waits for other events goes on after a number that its pinned
+    /// version has.
     pub fn next_at(
         &self,
         alloc: Global,
@@ -102,11 +106,11 @@ impl Records {
         from: Option<u32>,
         most: usize,
     ) -> Result<(Vec<u32>, Option<u32>), Refusal>
-        requires { IfSome from (λ n. is_listed n self.now.listed ≡ true) }
+        requires some { 0 < most }
+        requires from { IfSome from (λ n. is_listed n self.now.listed ≡ true) }
         ensures numbers { IfOk result (λ p. p.0.items
-            ≡ filter (has_number version self.now.records) (take most (numbers_after from self.now.listed))) }
-        ensures rest { IfOk result (λ p. p.1
-            ≡ goes_on most (take most (numbers_after from self.now.listed))) }
+            ≡ filter (has_number version self.now.records) (piece_after most from self.now.listed)) }
+        ensures rest { IfOk result (λ p. p.1 ≡ goes_on most (piece_after most from self.now.listed)) }
         ensures refused { IfErr result (λ e. e ≡ Refusal.NoMemory) }
         ensures listed { AreListed self.now.records self.now.listed }
     {
