@@ -20,3 +20,5 @@ pub mod Dropping
 pub mod Sweeping
 pub mod Finishing
 pub mod Counting
+pub mod Lasting
+pub mod Walking

@@ -35,7 +35,7 @@ pub or_cases : (a b : Bool) → (a || b) ≡ true → (a ≡ true) ⊎ (b ≡ tr
 or_cases true b h = inl refl
 or_cases false b h = inr h
 
-all_less : (cmp : ℕ → ℕ → Ordering) (n m : ℕ) (ns : List ℕ) → AllByRecursion (λ k. cmp n k ≡ Less) ns → is_listed m ns ≡ true → cmp n m ≡ Less
+pub all_less : (cmp : ℕ → ℕ → Ordering) (n m : ℕ) (ns : List ℕ) → AllByRecursion (λ k. cmp n k ≡ Less) ns → is_listed m ns ≡ true → cmp n m ≡ Less
 all_less cmp n m [] h is = absurd (true≢false (sym is))
 all_less cmp n m (k ∷ ks) h is = elim (or_cases (k == m) (is_listed m ks) is) [
   | inl here ↦ ap (cmp n) (sym (exact_unsigned_eq k m here)) ∙ h.0

@@ -57,7 +57,7 @@ number_less age k m apart e = go (target_cmp (age k).target (age m).target) refl
     go Equal is h = absurd (apart (target_ties (age k).target (age m).target ∙ ap is_eq is))
     go Greater is h = absurd (let bad : Greater ≡ Less = h in cc)
 
-number_tied : (age : ℕ → Age) (k : ℕ) → number_cmp age k k ≡ Less → ⊥
+pub number_tied : (age : ℕ → Age) (k : ℕ) → number_cmp age k k ≡ Less → ⊥
 number_tied age k e =
     let t = ap (λ o. ordering_then (ordering_then o (nat_cmp (age k).birth (age k).birth)) (nat_cmp k k)) (sym (tied_itself target_total (age k).target)) in
     let b = ap (λ o. ordering_then o (nat_cmp k k)) (sym (tied_itself nat_cmp_total (age k).birth)) in

@@ -33,8 +33,9 @@ pub record KeepsGraphs (old new : List Record) : Type 0 where
   pub versions : (v : ℕ) → graphs_at v new ≡ graphs_at v old
   pub now : current new ≡ current old
 
--- A number that was free is open; no version of the dataset is another.
+-- A number that was free, and is below the limit, is open; no version of the dataset is another.
 pub record Opens (old new : Recorded) (n : ℕ) : Type 0 where
+  pub below : n < new.limit
   pub was : record_at old.records n ≡ free
   pub turns : Turns old.records new.records n opened
   pub graphs : KeepsGraphs old.records new.records

@@ -9,3 +9,4 @@ pub mod Reclaims
 pub mod Sweeps
 pub mod Counts
 pub mod Order
+pub mod Laws

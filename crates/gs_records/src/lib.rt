@@ -8,6 +8,9 @@ mod reading;
 mod reclaiming;
 mod records;
 
-pub use laws::graphs_are_listed_in_order;
+pub use laws::{
+    commits_end_one_record, graphs_are_listed_in_order, last_graphs_are_current,
+    walks_have_all_numbers,
+};
 pub use reclaiming::Reclaimed;
 pub use records::Records;

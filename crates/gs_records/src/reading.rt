@@ -1,12 +1,14 @@
 //! Records in the order of their graphs, as a version of the dataset has them.
-ghost use Rattle.std.specs.Prelude.{◌≡◌, ◌&&◌, ◌<◌, ◌%◌, ◌^◌, take, true, IfOk, IfErr, IfSome};
+ghost use Rattle.std.specs.Prelude.{◌≡◌, ◌&&◌, ◌<◌, ◌%◌, ◌^◌, true, IfOk, IfErr, IfSome};
 ghost use Rattle.std.specs.List.{filter};
-ghost use Rattle.gs_index.specs.Indexes.{is_listed, numbers_after};
+ghost use Rattle.gs_index.specs.Indexes.{is_listed};
 ghost use Rattle.gs_records.specs.Records.{kept, record_at, is_kept, outlives as outlives_death, has_at as has_entry_at};
 ghost use Rattle.gs_catalogue.specs.Catalogues.{name_count, triple_count};
 ghost use Rattle.gs_records.specs.Graphs.{current};
 ghost use Rattle.gs_records.specs.Waste.{is_opened};
+ghost use Rattle.gs_records.specs.Kept.{AreSingle, AreDated};
 ghost use Rattle.gs_records.specs.Order.{has_number, AreListed, goes_on};
+ghost use Rattle.gs_records.specs.Laws.{piece_after};
 ghost use Rattle.gs_records.specs.Stored.{is_made as is_made_entry};
 
 use crate::records::Records;
@@ -49,10 +51,15 @@ fn last_if_many(numbers: &[u32], most: usize) -> Option<u32>
 }
 
 impl Records {
-    /// The number of the last commit.
+    /// The number of the last commit. It says what is true of all records, and of the listed numbers.
     pub fn latest(&self) -> u64
-        ensures { result ≡ self.now.latest }
+        ensures value { result ≡ self.now.latest }
+        ensures single { AreSingle self.now.records }
+        ensures dated { AreDated self.now.latest self.now.records }
+        ensures listed { AreListed self.now.records self.now.listed }
     {
+        // The length says of the listed numbers that they are in order.
+        let _all = self.index.len();
         self.latest
     }
 
@@ -105,7 +112,10 @@ impl Records {
     }
 
     /// Of the next `most` numbers after `from`, in the order of their graphs, those that a version of the
-    /// dataset has, and the number after which to go on: `None` says that no number is left.
+    /// dataset has, and the number after which to go on: `None` says that no number is left. That number
+    /// is for the same hold of the store, as the version may not have it: once it is free it may be
+    /// another graph's. A reader that waits for other events goes on after a number that its pinned
+    /// version has.
     pub fn next_at(
         &self,
         alloc: Global,
@@ -113,11 +123,11 @@ impl Records {
         from: Option<u32>,
         most: usize,
     ) -> Result<(Vec<u32>, Option<u32>), Refusal>
-        requires { IfSome from (λ n. is_listed n self.now.listed ≡ true) }
+        requires some { 0 < most }
+        requires from { IfSome from (λ n. is_listed n self.now.listed ≡ true) }
         ensures numbers { IfOk result (λ p. p.0.items
-            ≡ filter (has_number version self.now.records) (take most (numbers_after from self.now.listed))) }
-        ensures rest { IfOk result (λ p. p.1
-            ≡ goes_on most (take most (numbers_after from self.now.listed))) }
+            ≡ filter (has_number version self.now.records) (piece_after most from self.now.listed)) }
+        ensures rest { IfOk result (λ p. p.1 ≡ goes_on most (piece_after most from self.now.listed)) }
         ensures refused { IfErr result (λ e. e ≡ Refusal.NoMemory) }
         ensures listed { AreListed self.now.records self.now.listed }
     {

@@ -50,5 +50,5 @@ returns-clause-ok c =
     fills c.node_of.ensures (grown_many w y q r n c.node_of.result grows fills)
     (omega (arith, grows.spare, c.in_ok-reserve.ensures.ok))
     (grown_few w y q grows room.ok room.fits room.small)
-    _ _ refl refl (grows.listed ∙ c.in_ok-reserve.ensures.listed) refl (c.alloc_reserved-number.ensures.limit ∙ room.limit)
+    _ _ refl refl (grows.listed ∙ c.in_ok-reserve.ensures.listed) refl (c.alloc_reserved-number.ensures.limit ∙ room.limit) refl
     )
