@@ -6,9 +6,11 @@ use Rattle.std.proofs.Common.{inl, inr}
 use Rattle.gs_model.specs.Limits.{last_node}
 use Rattle.gs_pool.specs.declared.nodes.Node.{Node}
 use Rattle.gs_pool.specs.Pool.{Nodes, NodeMark, retired, node_at, mark_at, Marks}
+use Rattle.gs_ledger.specs.Marks.{death_of}
 use Rattle.gs_index.specs.declared.entries.Entry.{Entry}
 use Rattle.gs_index.specs.Indexes.{Indexed, entry_at, is_listed}
 use Rattle.gs_records.specs.Records.{is_kept, Record, free, opened, unused, kept, Recorded, record_at, has_at, is_current, Turns}
+use Rattle.gs_records.specs.Graphs.{current}
 use Rattle.gs_records.specs.Waste.{is_opened, open_count}
 use Rattle.gs_records.specs.Kept.{AreSingle}
 use Rattle.gs_records.specs.Calls.{KeepsGraphs, GivesUp}
@@ -78,7 +80,7 @@ module _ (x : Indexed) (p q : Nodes) (opens latest n : ℕ) (s : IsStored x p op
       let at = stands_at x p opens latest n opened s is in
       record {
         many = ap length marks.nodes ∙ s.many;
-        stands = (at.0, subst (λ o. HasNode o 0) (sym (ap (λ ns. get_or ns n None) marks.nodes)) at.1, marks.changed);
+        stands = (at.0, subst (λ o. HasNode o 0) (sym (ap (λ ns. get_or ns n None) marks.nodes)) at.1, ap death_of marks.changed);
         nodes = λ m ne. ap (λ ns. get_or ns m None) marks.nodes;
         marks = marks.others;
         entries = λ m ne. refl;
@@ -89,6 +91,9 @@ module _ (x : Indexed) (p q : Nodes) (opens latest n : ℕ) (s : IsStored x p op
 
   given_open : open_count (records_by x q) + 1 ≡ open_count (records_by x p)
   given_open = omega (arith, open_turned (records_by x p) (records_by x q) n unused given_turns, ap (λ r. cond {A = ℕ} (is_opened r) 1 0) is)
+
+  pub given_current : current (records_by x q) ≡ current (records_by x p)
+  given_current = (keeps_graphs (records_by x p) (records_by x q) n unused s.single given_turns (ap is_kept is) refl).now
 
   pub given_some : 0 < opens
   given_some = omega (arith, given_open, s.counted)

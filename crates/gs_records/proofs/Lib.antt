@@ -17,3 +17,8 @@ pub mod Ordering
 pub mod Shown
 pub mod Lasting
 pub mod Walking
+pub mod Blanking
+pub mod Dropping
+pub mod Sweeping
+pub mod Finishing
+pub mod Counting

@@ -6,9 +6,12 @@ use Rattle.gs_term.specs.declared.names.Target.{Target}
 use Rattle.gs_catalogue.specs.declared.versions.GraphVersion.{GraphVersion}
 use Rattle.gs_pool.specs.declared.nodes.Node.{Node}
 use Rattle.gs_pool.specs.Pool.{Nodes, plain, node_at, mark_at, Updates}
+use Rattle.gs_ledger.specs.Marks.{death_of}
 use Rattle.gs_index.specs.declared.entries.Entry.{Entry}
 use Rattle.gs_index.specs.Indexes.{Indexed, entry_at, is_listed, with_number}
 use Rattle.gs_records.specs.Records.{is_kept, opened, kept, Recorded, record_at, Turns}
+use Rattle.gs_catalogue.specs.Catalogues.{with_version}
+use Rattle.gs_records.specs.Graphs.{current}
 use Rattle.gs_records.specs.Waste.{is_opened, open_count}
 use Rattle.gs_records.specs.Kept.{AreSingle, AreDated, HasNoCurrent}
 use Rattle.gs_records.specs.Calls.{Places}
@@ -53,7 +56,7 @@ module _ (x : Indexed) (p : Nodes) (opens latest n : ℕ) (s : IsStored x p open
     made_changes : Changes x y p q n (kept (made_entry t v latest))
     made_changes = record {
       many = numbers ∙ s.many ∙ sym (ap length entries ∙ length-set x.entries n (made_entry t v latest));
-      stands = (entry_now, record { node = node; found = updates.changed; birth_is = birth }, ap (λ ms. get_or ms n plain) marks ∙ open_is_plain, after);
+      stands = (entry_now, record { node = node; found = updates.changed; birth_is = birth }, ap death_of (ap (λ ms. get_or ms n plain) marks ∙ open_is_plain), after);
       nodes = updates.others;
       marks = λ m ne. ap (λ ms. get_or ms m plain) marks;
       entries = entry_other;
@@ -88,6 +91,9 @@ module _ (x : Indexed) (p : Nodes) (opens latest n : ℕ) (s : IsStored x p open
       dated = dated_placed (records_by x p) (records_by y q) n (made_entry t v latest) made_turns was_bare s.single s.dated refl none after;
       few = omega (arith, s.few, made_changes.many, numbers, s.many);
     }
+
+    pub made_current : current (records_by y q) ≡ with_version (current (records_by x p)) t v
+    made_current = current-placed (records_by x p) (records_by y q) n (made_entry t v latest) made_turns was_bare s.single s.dated refl none
 
     pub made_places : (a b : Recorded) → a.records ≡ records_by x p → b.records ≡ records_by y q → a.latest ≡ latest → b.latest ≡ a.latest → b.limit ≡ a.limit → Places a b n t v
     made_places a b from to was same limit =

@@ -7,6 +7,7 @@ use Rattle.gs_index.specs.declared.entries.Entry.{Entry}
 use Rattle.gs_index.specs.Ages.{blank_entry}
 use Rattle.gs_index.specs.Indexes.{Indexed, entry_at}
 use Rattle.gs_records.specs.Records.{is_kept, free, opened, Recorded, record_at, Turns}
+use Rattle.gs_records.specs.Graphs.{current}
 use Rattle.gs_records.specs.Waste.{is_opened}
 use Rattle.gs_records.specs.Kept.{AreSingle}
 use Rattle.gs_records.specs.Calls.{Opens}
@@ -60,6 +61,9 @@ module _ (x y : Indexed) (p q r : Nodes) (opens latest n : ℕ) (node : Node) (s
   opened_stored = stored_bare x y p r opens (opens + 1) latest n opened s opens_changes refl alike.listed (alike.entries n) s.counted
       (omega (arith, s.counted, open_turned (records_by x p) (records_by y r) n opened opened_turns, ap (λ z. cond {A = ℕ} (is_opened z) 1 0) was_free))
       room few
+
+  pub opened_current : current (records_by y r) ≡ current (records_by x p)
+  opened_current = (keeps_graphs (records_by x p) (records_by y r) n opened s.single opened_turns (ap is_kept was_free) refl).now
 
   pub opened_now : (a b : Recorded) → a.records ≡ records_by x p → b.records ≡ records_by y r → b.listed ≡ a.listed → b.latest ≡ a.latest → b.limit ≡ a.limit → b.limit ≡ r.limit → Opens a b n
   opened_now a b from to listed same limit limit_is =

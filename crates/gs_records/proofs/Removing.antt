@@ -3,14 +3,16 @@ use Rattle.std.proofs.Common.{is_some, nat_lt, ◌≡◌, ◌≢◌, ℕ, ◌<�
 use Rattle.std.proofs.lemmas.Bool.{cases_eq}
 use Rattle.std.proofs.lemmas.List.{length-set}
 use Rattle.gs_term.specs.declared.names.Target.{Target}
-use Rattle.gs_pool.specs.Pool.{Nodes, plain, retired, node_at, mark_at, Marks}
+use Rattle.gs_pool.specs.Pool.{Nodes, NodeMark, plain, aside, retired, node_at, mark_at, Marks}
+use Rattle.gs_ledger.specs.Marks.{death_of}
 use Rattle.gs_index.specs.declared.entries.Entry.{Entry}
 use Rattle.gs_index.specs.Indexes.{Indexed, entry_at, is_listed, ended as died}
 use Rattle.gs_records.specs.Records.{Record, free, opened, unused, kept, Recorded, record_at, is_current, ended_entry, ended, Turns, Ends}
+use Rattle.gs_records.specs.Graphs.{current, without_version}
 use Rattle.gs_records.specs.Waste.{is_opened}
 use Rattle.gs_records.specs.Kept.{AreSingle, HasNoCurrent}
 use Rattle.gs_records.specs.Calls.{Removes}
-use Rattle.gs_records.specs.Stored.{records_by, HasNode, mark_of, Stands, IsStored, Changes}
+use Rattle.gs_records.specs.Stored.{records_by, HasNode, said_of, Stands, IsStored, Changes}
 use Rattle.gs_records.proofs.Lifetimes.{EndedCases, ends, stays, ended_cases, once_current}
 use Rattle.gs_records.proofs.Ending.{graphs_at-ended, current-ended_records, none_current, single_ended, dated_ended}
 use Rattle.gs_records.proofs.Sums.{gains_ended, open_turned}
@@ -77,6 +79,12 @@ stored_later x p opens latest commit t s none lt = record {
   few = s.few;
 }
 
+-- a mark that says no death is plain
+pub plain_undead : (m : NodeMark) → death_of m ≡ None → m ≡ plain
+plain_undead plain e = refl
+plain_undead (aside death whole) e = absurd (cc)
+plain_undead (retired death whole) e = absurd (cc)
+
 -- the current record of a number ends
 module _ (x y : Indexed) (p q : Nodes) (opens latest commit n : ℕ) (t : Target) (e : Entry) (s : IsStored x p opens latest) (at : record_at (records_by x p) n ≡ kept e) (same : e.target ≡ t) (none : e.death ≡ None) where
   here : Stands (kept e) (node_at p n) (mark_at p n) (entry_at x.entries n)
@@ -89,7 +97,7 @@ module _ (x y : Indexed) (p q : Nodes) (opens latest commit n : ℕ) (t : Target
   end_used = ap is_some here.1.found
 
   pub end_plain : mark_at p n ≡ plain
-  end_plain = here.2 ∙ ap mark_of none
+  end_plain = plain_undead (mark_at p n) (here.2 ∙ ap said_of none)
 
   module _ (entries : y.entries ≡ slice_set x.entries n (died (entry_at x.entries n) commit)) (listed : y.listed ≡ x.listed) (spare : y.spare ≡ x.spare) (marks : Marks p q n (retired commit false)) where
     entry_now : entry_at y.entries n ≡ died e commit
@@ -101,7 +109,7 @@ module _ (x y : Indexed) (p q : Nodes) (opens latest commit n : ℕ) (t : Target
     end_changes : Changes x y p q n (kept (died e commit))
     end_changes = record {
       many = ap length marks.nodes ∙ s.many ∙ sym (ap length entries ∙ length-set x.entries n (died (entry_at x.entries n) commit));
-      stands = (entry_now, subst (λ o. HasNode o e.birth) (sym (ap (λ ns. get_or ns n None) marks.nodes)) here.1, marks.changed, here.3);
+      stands = (entry_now, subst (λ o. HasNode o e.birth) (sym (ap (λ ns. get_or ns n None) marks.nodes)) here.1, ap death_of marks.changed, here.3);
       nodes = λ m ne. ap (λ ns. get_or ns m None) marks.nodes;
       marks = marks.others;
       entries = entry_other;
@@ -118,6 +126,9 @@ module _ (x y : Indexed) (p q : Nodes) (opens latest commit n : ℕ) (t : Target
       | inl is ↦ ap (λ k. (entry_at y.entries k).birth) is ∙ ap (λ (d : Entry). d.birth) entry_now ∙ sym (ap (λ (d : Entry). d.birth) here.0) ∙ sym (ap (λ k. (entry_at x.entries k).birth) is)
       | inr ne ↦ ap (λ (d : Entry). d.birth) (entry_other m ne)
     ]
+
+    pub end_current : current (records_by y q) ≡ without_version (current (records_by x p)) t
+    end_current = current-ended_records (records_by x p) (records_by y q) t commit end_ends s.single
 
     pub end_stored : latest < commit → IsStored y q opens commit
     end_stored lt = record {

@@ -1,16 +1,18 @@
 -- One number of an index and of a pool changes.
-use Rattle.std.proofs.Common.{◌≡◌, ℕ, zero, suc, cond, List, [], ◌∷◌, length, drop, get_or, Option, None, refl, sym, ap, subst, ◌∙◌, inl, inr, arith}
+use Rattle.std.proofs.Common.{◌≡◌, ℕ, zero, suc, cond, List, [], ◌∷◌, length, drop, get_or, Bool, false, Option, Some, None, refl, sym, ap, subst, ◌∙◌, inl, inr, arith}
 use Rattle.std.proofs.lemmas.Bool.{cases_eq, lt-ltb, le-ltb}
 use Rattle.std.proofs.lemmas.List.{get_or_past, length-drop}
 use Rattle.gs_pool.specs.declared.nodes.Node.{Node}
-use Rattle.gs_pool.specs.Pool.{Nodes, NodeMark, plain, node_at, mark_at}
+use Rattle.gs_pool.specs.Pool.{Nodes, NodeMark, plain, aside, retired, node_at, mark_at}
+use Rattle.gs_ledger.specs.Marks.{death_of}
 use Rattle.gs_index.specs.declared.entries.Entry.{Entry}
 use Rattle.gs_index.specs.Ages.{blank_entry}
 use Rattle.gs_index.specs.Indexes.{Indexed, entry_at}
 use Rattle.gs_records.specs.Records.{Record, free, opened, unused, kept, record_at, Turns}
 use Rattle.gs_records.specs.Stored.{bare_of, state_of, records_of, records_by, Stands, AllStand, Changes}
 
-get_or_drop : {X : Type 0} (xs : List X) (n : ℕ) (d : X) → get_or (drop 1 xs) n d ≡ get_or xs (suc n) d
+-- the numbers after the first
+pub get_or_drop : {X : Type 0} (xs : List X) (n : ℕ) (d : X) → get_or (drop 1 xs) n d ≡ get_or xs (suc n) d
 get_or_drop [] n d = refl
 get_or_drop (x ∷ xs) n d = refl
 
@@ -25,11 +27,17 @@ records_at (e ∷ es) ns ms (suc n) many =
 bare_is : (o : Option Node) (m : NodeMark) (e : Entry) → e.birth ≡ 0 → state_of o m e ≡ bare_of o m
 bare_is o m e none = ap (λ b. cond b (kept e) (bare_of o m)) (le-ltb 0 e.birth (omega arith))
 
+-- what died, and is no record, was given up
+bare_dead : (n : Node) (m : NodeMark) (d : ℕ × Bool) → death_of m ≡ Some d → bare_of (Some n) m ≡ unused
+bare_dead n plain d e = absurd (cc)
+bare_dead n (aside death whole) d e = refl
+bare_dead n (retired death whole) d e = refl
+
 -- what it stands for is what it is said to
 pub stands_is : (r : Record) (o : Option Node) (m : NodeMark) (e : Entry) → Stands r o m e → state_of o m e ≡ r
 stands_is free o m e s = bare_is o m e s.0 ∙ ap (λ x. bare_of x m) s.1
 stands_is opened o m e s = bare_is o m e s.0 ∙ (λ i. bare_of (s.1.found i) (s.2 i))
-stands_is unused o m e s = bare_is o m e s.0 ∙ (λ i. bare_of (s.1.found i) (s.2 i))
+stands_is unused o m e s = bare_is o m e s.0 ∙ ap (λ x. bare_of x m) s.1.found ∙ bare_dead s.1.node m (0, false) s.2
 stands_is (kept k) o m e s = ap (λ b. cond b (kept e) (bare_of o m)) (lt-ltb 0 e.birth (omega (arith, s.3, ap (λ (x : Entry). x.birth) s.0))) ∙ ap kept s.0
 
 module _ (x y : Indexed) (p q : Nodes) (n : ℕ) (r : Record) (many : length p.nodes ≡ length x.entries) (stand : AllStand x p) (c : Changes x y p q n r) where

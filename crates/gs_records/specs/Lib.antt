@@ -1,9 +1,12 @@
--- Read in this order: what each number stands for; the graphs of a version; waste; what a call does to the records; what is kept true.
+-- Read in this order: what each number stands for; the graphs of a version; waste; what a call does to the records, and a reclaim; what is kept true.
 pub mod Records
 pub mod Graphs
 pub mod Waste
 pub mod Kept
 pub mod Stored
 pub mod Calls
+pub mod Reclaims
+pub mod Sweeps
+pub mod Counts
 pub mod Order
 pub mod Laws

@@ -3,6 +3,7 @@ use Rattle.std.specs.Prelude.{◌≡◌, ℕ, ◌+◌, ◌<◌, ◌≤◌, nat_l
 use Rattle.gs_model.specs.Limits.{last_node}
 use Rattle.gs_pool.specs.declared.nodes.Node.{Node}
 use Rattle.gs_pool.specs.Pool.{Nodes, NodeMark, plain, aside, retired, node_at, mark_at, free_count}
+use Rattle.gs_ledger.specs.Marks.{death_of}
 use Rattle.gs_index.specs.declared.entries.Entry.{Entry}
 use Rattle.gs_index.specs.Indexes.{Indexed, entry_at, is_listed}
 use Rattle.gs_records.specs.Records.{Record, free, opened, unused, kept, record_at}
@@ -40,17 +41,17 @@ pub record HasNode (o : Option Node) (birth : ℕ) : Type 0 where
   pub found : o ≡ Some node
   pub birth_is : node.birth ≡ birth
 
--- the mark of a record with this death
-abbrev pub mark_of : Option ℕ → NodeMark
-mark_of None = plain
-mark_of (Some death) = retired death false
+-- what the mark of a record with this death says: that its node died alone, where it died
+abbrev pub said_of : Option ℕ → Option (ℕ × Bool)
+said_of None = None
+said_of (Some death) = Some (death, false)
 
 -- a number with this node, this mark and this entry stands for a record
 abbrev pub Stands : Record → Option Node → NodeMark → Entry → Type 0
 Stands free o m e = (e.birth ≡ 0) × (o ≡ None)
 Stands opened o m e = (e.birth ≡ 0) × HasNode o 0 × (m ≡ plain)
-Stands unused o m e = (e.birth ≡ 0) × HasNode o 0 × (m ≡ retired 0 false)
-Stands (kept k) o m e = (e ≡ k) × HasNode o k.birth × (m ≡ mark_of k.death) × (0 < k.birth)
+Stands unused o m e = (e.birth ≡ 0) × HasNode o 0 × (death_of m ≡ Some (0, false))
+Stands (kept k) o m e = (e ≡ k) × HasNode o k.birth × (death_of m ≡ said_of k.death) × (0 < k.birth)
 
 -- each number stands for its record
 abbrev pub AllStand : Indexed → Nodes → Type 0

@@ -5,10 +5,12 @@
 mod laws;
 mod places;
 mod reading;
+mod reclaiming;
 mod records;
 
 pub use laws::{
     commits_end_one_record, graphs_are_listed_in_order, last_graphs_are_current,
     walks_have_all_numbers,
 };
+pub use reclaiming::Reclaimed;
 pub use records::Records;

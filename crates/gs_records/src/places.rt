@@ -3,6 +3,7 @@ ghost use Rattle.std.specs.Prelude.{◌≡◌, length, IfErr, OnOk, OnErr};
 ghost use Rattle.gs_catalogue.specs.Catalogues.{no_versions, version_at};
 ghost use Rattle.gs_records.specs.Calls.{is_nothing};
 ghost use Rattle.gs_records.specs.Stored.{Grows};
+ghost use Rattle.gs_records.specs.Counts.{named_one};
 
 use gs_catalogue::GraphVersion;
 use gs_index::Index;
@@ -48,6 +49,16 @@ pub fn is_nothing_of(target: &Target, version: GraphVersion) -> bool
     match target {
         Target::Default => version.root.is_none() && version.triples == 0,
         Target::Named(_) => false,
+    }
+}
+
+/// How many names a graph has: one, or none.
+pub fn name_of(target: &Target) -> usize
+    ensures { result ≡ named_one target.now }
+{
+    match target {
+        Target::Default => 0,
+        Target::Named(_) => 1,
     }
 }
 

@@ -1,8 +1,10 @@
 //! Records in the order of their graphs, as a version of the dataset has them.
-ghost use Rattle.std.specs.Prelude.{◌≡◌, ◌&&◌, ◌<◌, true, IfOk, IfErr, IfSome};
+ghost use Rattle.std.specs.Prelude.{◌≡◌, ◌&&◌, ◌<◌, ◌%◌, ◌^◌, true, IfOk, IfErr, IfSome};
 ghost use Rattle.std.specs.List.{filter};
 ghost use Rattle.gs_index.specs.Indexes.{is_listed};
 ghost use Rattle.gs_records.specs.Records.{kept, record_at, is_kept, outlives as outlives_death, has_at as has_entry_at};
+ghost use Rattle.gs_catalogue.specs.Catalogues.{name_count, triple_count};
+ghost use Rattle.gs_records.specs.Graphs.{current};
 ghost use Rattle.gs_records.specs.Waste.{is_opened};
 ghost use Rattle.gs_records.specs.Kept.{AreSingle, AreDated};
 ghost use Rattle.gs_records.specs.Order.{has_number, AreListed, goes_on};
@@ -59,6 +61,21 @@ impl Records {
         // The length says of the listed numbers that they are in order.
         let _all = self.index.len();
         self.latest
+    }
+
+    /// How many graphs with names there are now. It is kept, and not counted.
+    pub fn names(&self) -> usize
+        ensures { result ≡ name_count (current self.now.records) }
+    {
+        self.names
+    }
+
+    /// How many triples all graphs of now have, the default graph too, by the count of each version. It is
+    /// kept, and not summed up. A `u64` holds that of any store; of a greater sum it is the rest.
+    pub fn triples(&self) -> u64
+        ensures { result ≡ triple_count (current self.now.records) % 2 ^ 64 }
+    {
+        self.triples
     }
 
     /// Whether the record of a number is open.

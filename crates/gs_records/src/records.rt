@@ -7,13 +7,16 @@ ghost use Rattle.gs_records.specs.Records.{opened, kept, Recorded, record_at};
 ghost use Rattle.gs_records.specs.Graphs.{current};
 ghost use Rattle.gs_records.specs.Kept.{HasNoCurrent};
 ghost use Rattle.gs_records.specs.Calls.{Opens, GivesUp, Removes, Places, Puts, FindsCurrent};
+ghost use Rattle.gs_records.specs.Reclaims.{Reclaims};
 
-use crate::places::{grow, is_nothing_of, missing_version, node_of};
+use crate::places::{grow, is_nothing_of, missing_version, name_of, node_of};
+use crate::reclaiming::{Reclaimed, reclaim};
 use gs_catalogue::GraphVersion;
 use gs_index::{Entry, Index};
 use gs_model::Refusal;
 use gs_pool::Pool;
 use gs_term::Target;
+use gs_versions::Versions;
 use std::alloc::Global;
 use std::marker::Model;
 
@@ -31,6 +34,9 @@ pub struct Records {
     opened: usize,
     // The number of the last commit.
     pub(crate) latest: u64,
+    // How many names there are now, and how many triples, of which a multiple of 2^64 may be left out.
+    pub(crate) names: usize,
+    pub(crate) triples: u64,
 }
 
 impl Model for Records {
@@ -38,7 +44,8 @@ impl Model for Records {
 
     ghost Value = { Recorded };
 
-    ghost use Rattle.gs_records.specs.Stored.{records_by, IsStored};
+    ghost use Rattle.gs_records.specs.Stored.{records_by};
+    ghost use Rattle.gs_records.specs.Counts.{IsKept};
 
     ghost view = { λ r. record {
       records = records_by r.index r.pool;
@@ -47,7 +54,7 @@ impl Model for Records {
       limit = r.pool.limit;
     } };
 
-    ghost invariant = { λ r. IsStored r.index r.pool r.opened r.latest };
+    ghost invariant = { λ r. IsKept r.index r.pool r.opened r.latest r.names r.triples };
 }
 
 impl Records {
@@ -69,6 +76,8 @@ impl Records {
             pool,
             opened: 0,
             latest: commit,
+            names: 0,
+            triples: 0,
         })
     }
 
@@ -132,6 +141,9 @@ impl Records {
             self.latest = commit;
             return;
         };
+        let gone = self.index.entry(number).version.triples;
+        self.names -= name_of(target);
+        self.triples = self.triples.wrapping_sub(gone);
         self.index.end(number, commit);
         self.pool.retire_one(number, commit);
         self.latest = commit;
@@ -144,6 +156,8 @@ impl Records {
         requires after { 0 < self.old.latest }
         ensures { Places self.old self.new number target version }
     {
+        self.names += name_of(&target);
+        self.triples = self.triples.wrapping_add(version.triples);
         self.pool.set(number, node_of(self.latest));
         let entry = Entry {
             target,
@@ -168,5 +182,12 @@ impl Records {
         } else {
             self.place(number, target, version);
         }
+    }
+    /// Frees as many of the records that ended or were given up as no pinned version needs, at most n.
+    /// Their numbers are free, and the bytes of their names are given back. Takes no memory.
+    pub fn reclaim(&mut self, versions: &Versions, n: u64) -> Reclaimed
+        ensures { Reclaims versions.now.seats n result.freed result.left self.old self.new }
+    {
+        reclaim(&mut self.index, &mut self.pool, versions, n)
     }
 }

@@ -11,10 +11,10 @@ returns-in-Some c =
     let s = c.self.inside in
     let n = c.in-Some.number in
     let finds : FindsCurrent (records_by s.index s.pool) c.args.target.now (Some n) = rw (← c.self.view_is) at c.in-Some.ensures in
-    rw (← c.self.view_is) (ap (λ (e : Entry). Some e.version) c.entry.ensures ∙ sym (version_current s.index s.pool s.opened s.latest c.self.invariant c.args.target.now n finds))
+    rw (← c.self.view_is) (ap (λ (e : Entry). Some e.version) c.entry.ensures ∙ sym (version_current s.index s.pool s.opened s.latest c.self.invariant.stored c.args.target.now n finds))
 
 pub returns-in-None : goal.returns-in-None
 returns-in-None c =
     let s = c.self.inside in
     let none : HasNoCurrent (records_by s.index s.pool) c.args.target.now = rw (← c.self.view_is) at c.in-None.ensures in
-    rw (← c.self.view_is) (c.missing_version.ensures ∙ sym (version_none s.index s.pool s.opened s.latest c.self.invariant c.args.target.now none))
+    rw (← c.self.view_is) (c.missing_version.ensures ∙ sym (version_none s.index s.pool s.opened s.latest c.self.invariant.stored c.args.target.now none))

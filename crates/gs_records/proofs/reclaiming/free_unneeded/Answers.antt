@@ -1,0 +1,32 @@
+use Rattle.std.proofs.Common.{refl, subst, arith, ◌∙◌}
+use Rattle.gs_reclaim.proofs.Reclaiming.{agrees_still}
+use Rattle.gs_records.specs.Sweeps.{Settles}
+use Rattle.gs_records.proofs.Sweeping.{sweeps_none, sweeps_settled, sweeps_stayed}
+use Rattle.gs_records.proofs.reclaiming.free_unneeded.Goals as goal
+
+pub loop-freed-init : goal.loop-freed-init
+loop-freed-init c = record {
+  sweeps = sweeps_none c.args.versions.now.seats c.args.index.now c.args.pool.now c.requires.none_aside;
+  pins = refl;
+  most = omega arith;
+}
+
+pub settle-requires-clause-agrees : goal.settle-requires-clause-agrees
+settle-requires-clause-agrees c = agrees_still c.args.versions.now c.args.pool.now c.next_retired.new.self (c.in-Some.ensures.pins ∙ c.loop-freed.invariant.pins) c.requires.agrees
+
+pub settle-requires-clause-lists : goal.settle-requires-clause-lists
+settle-requires-clause-lists c = (c.loop-freed.invariant.sweeps.stored c.requires.stored.opens c.requires.stored.latest c.requires.stored.stored).lists
+
+pub loop-freed-preserved-then-settle : goal.loop-freed-preserved-then-settle
+loop-freed-preserved-then-settle c = record {
+  sweeps = sweeps_settled c.args.versions.now.seats c.loop-freed.freed c.args.index.now c.loop-freed.index c.settle.new.index c.args.pool.now c.loop-freed.pool c.next_retired.new.self c.settle.new.pool c.in-Some.entry c.requires.stored c.loop-freed.invariant.sweeps c.in-Some.ensures.takes (subst (Settles c.args.versions.now.seats c.loop-freed.index c.settle.new.index c.next_retired.new.self c.settle.new.pool c.in-Some.entry) c.if-settle.true c.settle.ensures.settles);
+  pins = c.settle.ensures.pins ∙ c.in-Some.ensures.pins ∙ c.loop-freed.invariant.pins;
+  most = omega (arith, c.loop-freed-test.true);
+}
+
+pub loop-freed-preserved : goal.loop-freed-preserved
+loop-freed-preserved c = record {
+  sweeps = sweeps_stayed c.args.versions.now.seats c.loop-freed.freed c.args.index.now c.loop-freed.index c.settle.new.index c.args.pool.now c.loop-freed.pool c.next_retired.new.self c.settle.new.pool c.in-Some.entry c.loop-freed.invariant.sweeps c.in-Some.ensures.takes (subst (Settles c.args.versions.now.seats c.loop-freed.index c.settle.new.index c.next_retired.new.self c.settle.new.pool c.in-Some.entry) c.if-settle.false c.settle.ensures.settles);
+  pins = c.settle.ensures.pins ∙ c.in-Some.ensures.pins ∙ c.loop-freed.invariant.pins;
+  most = c.loop-freed.invariant.most;
+}
