@@ -1,4 +1,4 @@
-//! The record of one version of one graph.
+//! The entry of one version of one graph.
 ghost use Rattle.std.specs.Prelude.{◌≡◌};
 ghost use Rattle.gs_index.specs.Ages.{blank_entry};
 

@@ -141,7 +141,8 @@ impl Index {
         drop(mem::replace(&mut self.entries[number as usize], Entry::blank()));
     }
 
-    /// The youngest listed entry of a target, of those made by the commit `version` or an earlier one.
+    /// The youngest listed entry of a target, of those made by the commit `version` or an earlier one,
+    /// whether it has died or not.
     pub fn find(&self, target: &Target, version: u64) -> Option<u32>
         ensures value { result ≡ youngest_by self.now target.now version }
         ensures within { IfSome result (λ n. n < length self.now.entries) }

@@ -1,4 +1,4 @@
-//! Records of versions of graphs, by number, and a set of numbers in the order of their graphs.
+//! Entries of versions of graphs, by number, and a set of numbers in the order of their graphs.
 #![tactic(auto)]
 
 mod ages;

@@ -1,5 +1,5 @@
 //! Entries of one target, of which one is found at each commit.
-use crate::records::{are_next, list_next, target};
+use crate::entries::{are_next, list_next, target};
 use gs_index::{Entry, Index};
 use gs_model::Refusal;
 use gs_term::Target;

@@ -4,6 +4,6 @@
 #[cfg(test)]
 mod ages;
 #[cfg(test)]
-mod places;
+mod entries;
 #[cfg(test)]
-mod records;
+mod places;

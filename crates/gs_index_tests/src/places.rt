@@ -1,5 +1,5 @@
 //! Entries of names that are a front of another: the bracket after a name is compared too.
-use crate::records::{are_next, list_next};
+use crate::entries::{are_next, list_next};
 use gs_index::Index;
 use gs_model::Refusal;
 use std::alloc::Global;

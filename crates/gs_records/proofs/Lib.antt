@@ -15,10 +15,10 @@ pub mod Putting
 pub mod Seeking
 pub mod Ordering
 pub mod Shown
+pub mod Lasting
+pub mod Walking
 pub mod Blanking
 pub mod Dropping
 pub mod Sweeping
 pub mod Finishing
 pub mod Counting
-pub mod Lasting
-pub mod Walking

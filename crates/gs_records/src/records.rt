@@ -23,7 +23,7 @@ use std::marker::Model;
 /// Records of versions of graphs, each under a number. A record is open, from when an upload or a patch
 /// begins until it is committed or given up; then it is that of a version of a graph, from the commit that
 /// made it until the one that ended it. A version v of the dataset has the records where
-/// birth ≤ v < death. What has ended or was given up stays until no pinned version needs it.
+/// birth ≤ v < death. What has ended stays under its number while a pinned version needs it.
 #[derive(Drop)]
 pub struct Records {
     pub(crate) index: Index,
@@ -82,6 +82,7 @@ impl Records {
     }
 
     /// Opens a record, under a number that was free, and makes room for all open ones to be committed.
+    /// That no number is left counts as want of memory.
     pub fn open(&mut self) -> Result<u32, Refusal>
         ensures ok { IfOk result (λ n. Opens self.old self.new n) }
         ensures refused { IfErr result (λ e. e ≡ Refusal.NoMemory) }
@@ -108,6 +109,7 @@ impl Records {
     fn current_of(&self, target: &Target) -> Option<u32>
         ensures { FindsCurrent self.now.records target.now result }
     {
+        // The length says of the listed numbers that they are in order, so the youngest is found first.
         if self.index.len() == 0 {
             return None;
         }
@@ -168,7 +170,7 @@ impl Records {
     }
 
     /// Commits an open record: it is that of a graph, whose current record ends. No record is kept of an
-    /// empty default graph. Takes no memory.
+    /// empty default graph: the open one is left as if it had been given up. Takes no memory.
     pub fn put(&mut self, number: u32, target: Target, version: GraphVersion, commit: u64)
         requires opened { record_at self.old.records number ≡ opened }
         requires later { self.old.latest < commit }
