@@ -34,11 +34,13 @@ def status(server, method, body=""):
     return int(said[9:12]) if said else None
 
 
-def limited(said):
-    """A server with these limits, whose standard error is this."""
+def limited(said, closed=()):
+    """A server with these limits, whose standard error is this, and which begins with these descriptors closed."""
     def limit():
         resource.setrlimit(resource.RLIMIT_NOFILE, (MOST_FILES, MOST_FILES))
         resource.setrlimit(resource.RLIMIT_AS, (MOST_BYTES, MOST_BYTES))
+        for descriptor in closed:
+            os.close(descriptor)
     return Server(program, preexec_fn=limit, stderr=said)
 
 
@@ -76,6 +78,45 @@ def check_silence():
     print("a standard error that takes nothing: the server goes on")
 
 
+def fail(server):
+    """Has accepts fail, and then a request for want of memory; the server goes on."""
+    clients = [socket.create_connection(("127.0.0.1", server.port), timeout=30) for _ in range(2 * MOST_FILES)]
+    time.sleep(0.5)
+    for client in clients:
+        client.close()
+    wanted("a request that takes too much", status(server, "PUT", LONG), 503)
+    wanted("a request after it", status(server, "PUT", "<a:a> <a:a> 1 ."), 201)
+
+
+def check_full_pipe():
+    """Where standard error is a pipe that is full, and that nobody reads, neither the accept loop nor a worker waits for it."""
+    unread, full = os.pipe()
+    os.set_blocking(full, False)
+    try:
+        while True:
+            os.write(full, b"a")
+    except BlockingIOError:
+        os.set_blocking(full, True)
+    with limited(full) as server:
+        fail(server)
+    os.close(full)
+    os.close(unread)
+    print("a standard error that nobody reads: the server goes on")
+
+
+def check_closed():
+    """Where standard error is closed its descriptor is the first client's: nothing is said to that one."""
+    with limited(None, closed=(0, 2)) as server:
+        with socket.create_connection(("127.0.0.1", server.port), timeout=30) as first:
+            time.sleep(0.2)
+            wanted("the descriptor of the first", os.path.exists(f"/proc/{server.process.pid}/fd/2"), True)
+            fail(server)
+            first.sendall(b"GET /graphs/b HTTP/1.1\r\nHost: a\r\nConnection: close\r\n\r\n")
+            said = first.makefile("rb").read()
+    wanted("what the first client reads", (said[:13], b"gsd:" in said), (b"HTTP/1.1 404 ", False))
+    print("a standard error that is closed: nothing is said to the client who has its descriptor")
+
+
 def check_first_line():
     """Where standard output takes nothing the server ends; where there is no memory for the threads nothing is written on it."""
     with open("/dev/full", "w", encoding="ascii") as full:
@@ -93,4 +134,6 @@ def check_first_line():
 program = sys.argv[1] if len(sys.argv) > 1 else f"{HERE}/../crates/gsd/out/gsd"
 check_lines()
 check_silence()
+check_full_pipe()
+check_closed()
 check_first_line()

@@ -53,7 +53,7 @@ fn main(rt: HostRuntime) -> ExitCode {
                 workers,
                 piece,
             },
-        ) => match listen(&rt, alloc, address, base, workers, piece) {
+        ) => match listen(&rt, alloc, err, address, base, workers, piece) {
             Ok(()) => 0,
             Err(stop) => report(&mut err, stop),
         },
