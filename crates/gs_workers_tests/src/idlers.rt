@@ -1,8 +1,7 @@
 //! More clients than workers, who keep their connections.
-use crate::clients::{connected, hears_none, say};
-use crate::servings::{Setup, listening, served};
 use gs_gates_tests::{Job, one};
 use gs_servers::OpenGate;
+use gs_test_servers::{Setup, connected, hears_none, listening, say, served};
 use std::alloc::Global;
 use std::io::Read;
 use std::net::{Net, SocketAddr, TcpListener, TcpStream};

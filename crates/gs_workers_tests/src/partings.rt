@@ -1,9 +1,8 @@
 //! How a connection ends for its client.
-use crate::clients::{both_ends, connected, get, hears_none, say};
-use crate::servings::{Setup, listening, served};
 use gs_gates::{Others, linger, patience};
 use gs_gates_tests::{Job, both, one};
 use gs_servers::OpenGate;
+use gs_test_servers::{Setup, both_ends, connected, get, hears_none, listening, say, served};
 use std::alloc::Global;
 use std::io::Read;
 use std::net::{Net, SocketAddr, TcpListener, TcpStream};

@@ -1,8 +1,7 @@
 //! A client that is refused before it has said all.
-use crate::clients::{ask, connected};
-use crate::servings::{Setup, served};
 use gs_gates_tests::{Job, one};
 use gs_servers::OpenGate;
+use gs_test_servers::{Setup, ask, connected, served};
 use std::alloc::{AllocError, Global};
 use std::io;
 use std::net::{Net, TcpListener, TcpStream};

@@ -1,8 +1,10 @@
 //! Clients that say nothing, little at a time, or nothing more.
-use crate::clients::{connected, get, hears_made, hears_none, is_missing, put, say};
-use crate::servings::{Setup, listening, served, two_connected};
 use gs_gates_tests::{Job, one};
 use gs_servers::OpenGate;
+use gs_test_servers::{
+    Setup, connected, get, hears_made, hears_none, is_missing, listening, put, say, served,
+    two_connected,
+};
 use std::alloc::Global;
 use std::net::{Net, SocketAddr, TcpListener, TcpStream};
 use std::random::RandomSource;

@@ -1,6 +1,6 @@
 //! What a connection gets before it is served.
-use crate::clients::both_ends;
 use gs_gates::patience;
+use gs_test_servers::both_ends;
 use gs_workers::limit_waits;
 use std::io;
 use std::net::{Net, TcpListener, TcpStream};

@@ -1,8 +1,7 @@
 //! A client that takes little of its reply.
-use crate::clients::{get, hears_made, put, say};
-use crate::servings::{Setup, served, two_connected};
 use gs_gates_tests::{Job, one};
 use gs_servers::OpenGate;
+use gs_test_servers::{Setup, get, hears_made, put, say, served, two_connected};
 use std::alloc::{AllocError, Global};
 use std::net::{Net, TcpListener, TcpStream};
 use std::random::RandomSource;

@@ -1,9 +1,8 @@
 //! Clients that put graphs, get them back and delete them, at the same time.
-use crate::clients::{ask, connected, get, put};
-use crate::servings::listening;
 use gs_event::{Answer, Event};
 use gs_servers::{OpenGate, serve_all};
 use gs_shared::Ended;
+use gs_test_servers::{ask, connected, get, listening, put};
 use std::alloc::{AllocError, Global};
 use std::net::{Net, SocketAddr, TcpListener, TcpStream};
 use std::random::RandomSource;

@@ -1,10 +1,8 @@
 //! As many clients as workers, and more, at the same time.
-use crate::clients::{connected, hears_none, say};
-use crate::servings::{Setup, listening, served};
-use crate::turns::comes;
 use gs_event::{Action, Event};
 use gs_gates_tests::Job;
 use gs_servers::Gate;
+use gs_test_servers::{Setup, comes, connected, hears_none, listening, say, served};
 use std::alloc::Global;
 use std::net::{Net, SocketAddr, TcpListener, TcpStream};
 use std::random::RandomSource;

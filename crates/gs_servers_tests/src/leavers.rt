@@ -1,10 +1,10 @@
 //! Clients that leave in the middle.
-use crate::clients::{ask, connected, get, hears_made, is_missing, put, say};
-use crate::servings::{Setup, served, two_connected};
-use crate::turns::comes;
 use gs_event::{Action, Event};
 use gs_gates_tests::{Job, one};
 use gs_servers::{Gate, OpenGate};
+use gs_test_servers::{
+    Setup, ask, comes, connected, get, hears_made, is_missing, put, say, served, two_connected,
+};
 use std::alloc::{AllocError, Global};
 use std::io;
 use std::io::Read;

@@ -1,9 +1,8 @@
 //! What the requests of a server leave behind is freed.
-use crate::clients::{ask, connected, get, put};
-use crate::servings::listening;
 use gs_event::{Answer, Event};
 use gs_servers::{OpenGate, serve_all};
 use gs_shared::Ended;
+use gs_test_servers::{ask, connected, get, listening, put};
 use std::alloc::Global;
 use std::io;
 use std::net::{Net, SocketAddr, TcpListener, TcpStream};

@@ -1,10 +1,8 @@
 //! An upload that is held before its Commit holds up nobody else.
-use crate::clients::{hears_made, is_missing, put, say};
-use crate::servings::{Setup, served, two_connected};
-use crate::turns::comes;
 use gs_event::{Action, Event};
 use gs_gates_tests::{Job, one};
 use gs_servers::Gate;
+use gs_test_servers::{Setup, comes, hears_made, is_missing, put, say, served, two_connected};
 use std::alloc::Global;
 use std::io;
 use std::net::{Net, TcpListener, TcpStream};

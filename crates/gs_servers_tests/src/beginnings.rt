@@ -1,9 +1,8 @@
 //! A gate is asked once whether a server begins, before the first connection.
-use crate::clients::{connected, get, hears_none, say};
-use crate::servings::{Setup, listening, served};
 use gs_event::Event;
 use gs_gates_tests::{Job, one};
 use gs_servers::Gate;
+use gs_test_servers::{Setup, connected, get, hears_none, listening, say, served};
 use std::alloc::Global;
 use std::io;
 use std::net::{Net, SocketAddr, TcpListener, TcpStream};
