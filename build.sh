@@ -8,6 +8,7 @@ here=$(cd "$(dirname "$0")" && pwd)
 exec python3 - "$here" "${1:-gsd}" << 'END'
 import os
 import re
+import shutil
 import signal
 import subprocess
 import sys
@@ -18,21 +19,20 @@ top, program = sys.argv[1:]
 GIGABYTES_EACH = 4
 
 
-def crates():
-    """The crates of crates.txt, each with those of the repository that it names."""
-    lines = re.sub(r"#.*", "", open(f"{top}/crates.txt").read()).splitlines()
-    named = {line.split(":")[0].split()[0]: line.split(":")[1].split() for line in lines if ":" in line}
-    return {name: [it for it in below if it in named] for name, below in named.items()}
+def lines():
+    """The lines of crates.txt, by the names of their crates."""
+    texts = re.sub(r"#.*", "", open(f"{top}/crates.txt").read()).splitlines()
+    return {text.split(":")[0].split()[0]: text for text in texts if ":" in text}
 
 
-def closure(below, name):
+def closure(named, name):
     """A crate and all that it stands on."""
     found, left = set(), [name]
     while left:
         one = left.pop()
-        if one not in found:
+        if one in named and one not in found:
             found.add(one)
-            left += below[one]
+            left += named[one].split(":")[1].split()
     return found
 
 
@@ -40,52 +40,41 @@ def free_gigabytes():
     return int(re.search(r"MemAvailable:\s+(\d+)", open("/proc/meminfo").read())[1]) / 1e6
 
 
-def height(below, names):
-    """For each crate, how many stand on it, one upon the other, at most."""
-    above = {name: [it for it in names if name in below[it]] for name in names}
-    known = {}
+def lay_out(copy, named, names):
+    """Copies these crates: rt proves several at once where it is given all below a folder, and there no others are."""
+    with open(f"{copy}/crates.txt", "w") as file:
+        file.writelines(f"{named[name]}\n" for name in sorted(names))
+    shutil.copy(f"{top}/HANDLES", copy)
+    for name in names:
+        shutil.copytree(f"{top}/crates/{name}", f"{copy}/crates/{name}", ignore=shutil.ignore_patterns("out"))
 
-    def of(name):
-        if name not in known:
-            known[name] = 1 + max((of(it) for it in above[name]), default=0)
-        return known[name]
-    return {name: of(name) for name in names}
+
+def prove(copy, many, at_once):
+    """Proves the crates of the copy, and says so of each as it ends."""
+    start, done, said = time.time(), 0, []
+    words = ["rt", "all", "check", "--jobs", str(at_once)]
+    run = subprocess.Popen(words, cwd=copy, stdin=subprocess.DEVNULL, stdout=subprocess.PIPE, stderr=subprocess.STDOUT, text=True)
+    signal.signal(signal.SIGTERM, lambda *_: (run.terminate(), sys.exit(143)))
+    for line in run.stdout:
+        said.append(line)
+        if line.startswith("== "):
+            done += 1
+            print(f"[{done}/{many}] {line[3:].strip()}, {time.time() - start:.0f} s", flush=True)
+    if run.wait():
+        sys.exit("".join(said[-100:]) + "build.sh: a proof failed")
 
 
 def main():
-    below = crates()
-    if program not in below:
+    named = lines()
+    if program not in named:
         sys.exit(f"build.sh: crates.txt has no crate {program}")
-    left = closure(below, program)
-    many, heights = len(left), height(below, left)
+    names = closure(named, program)
     at_once = max(1, min(len(os.sched_getaffinity(0)), int(free_gigabytes() // GIGABYTES_EACH)))
-    start, done, running = time.time(), set(), {}
-
-    def stop(*_):
-        for child, _, _ in running.values():
-            child.terminate()
-        sys.exit(143)
-
-    signal.signal(signal.SIGTERM, stop)
-    while left or running:
-        ready = sorted((it for it in left if done.issuperset(below[it])), key=lambda it: -heights[it])
-        for name in ready[:at_once - len(running)]:
-            left.remove(name)
-            words = ["rt", "check"] if name == program else ["rt", "lib"]
-            log = tempfile.TemporaryFile("w+")
-            running[name] = (subprocess.Popen([*words, "--jobs", "1"], cwd=f"{top}/crates/{name}", stdin=subprocess.DEVNULL, stdout=log, stderr=log), log, time.time())
-        time.sleep(0.2)
-        for name, (child, log, since) in list(running.items()):
-            if child.poll() is None:
-                continue
-            del running[name]
-            if child.returncode:
-                log.seek(0)
-                for other, _, _ in running.values():
-                    other.terminate()
-                sys.exit(f"{log.read()}\nbuild.sh: {name} failed")
-            done.add(name)
-            print(f"[{len(done)}/{many}] {name}: proved in {time.time() - since:.0f} s, {time.time() - start:.0f} s in all", flush=True)
+    with tempfile.TemporaryDirectory(prefix="build-") as copy:
+        lay_out(copy, named, names)
+        prove(copy, len(names), at_once)
+        # the libraries of the copy are taken over here
+        sys.exit(subprocess.run(["rt", "check"], cwd=f"{top}/crates/{program}", stdin=subprocess.DEVNULL).returncode)
 
 
 main()
