@@ -1,6 +1,7 @@
 #!/bin/sh
 # Proves a program (gsd where none is named) and the crates below it, as many at once as the machine has processors and memory for:
-# build.sh [PROGRAM]. Afterwards `rt run` in crates/PROGRAM builds and starts it.
+# build.sh [PROGRAM]. Afterwards `rt run` in crates/PROGRAM builds and starts it. A run of rt keeps others out of the crates that it
+# works in and of those below, so each works in a copy, and rt takes from one copy what was proved in another.
 set -eu
 [ $# -le 1 ] || { echo "usage: build.sh [PROGRAM]" >&2; exit 2; }
 command -v rt > /dev/null || { echo "build.sh wants rt, the toolchain's command" >&2; exit 2; }
@@ -40,8 +41,20 @@ def free_gigabytes():
     return int(re.search(r"MemAvailable:\s+(\d+)", open("/proc/meminfo").read())[1]) / 1e6
 
 
+def height(names, below):
+    """For each crate, how many stand on it, one upon the other, at most."""
+    known = {}
+
+    def of(name):
+        if name not in known:
+            known[name] = 1 + max((of(it) for it in names if name in below[it]), default=0)
+        return known[name]
+    return {name: of(name) for name in names}
+
+
 def lay_out(copy, named, names):
-    """Copies these crates: rt proves several at once where it is given all below a folder, and there no others are."""
+    """Copies these crates, and no library that was built of them."""
+    os.mkdir(copy)
     with open(f"{copy}/crates.txt", "w") as file:
         file.writelines(f"{named[name]}\n" for name in sorted(names))
     shutil.copy(f"{top}/HANDLES", copy)
@@ -49,19 +62,37 @@ def lay_out(copy, named, names):
         shutil.copytree(f"{top}/crates/{name}", f"{copy}/crates/{name}", ignore=shutil.ignore_patterns("out"))
 
 
-def prove(copy, many, at_once):
-    """Proves the crates of the copy, and says so of each as it ends."""
-    start, done, said = time.time(), 0, []
-    words = ["rt", "all", "check", "--jobs", str(at_once)]
-    run = subprocess.Popen(words, cwd=copy, stdin=subprocess.DEVNULL, stdout=subprocess.PIPE, stderr=subprocess.STDOUT, text=True)
-    signal.signal(signal.SIGTERM, lambda *_: (run.terminate(), sys.exit(143)))
-    for line in run.stdout:
-        said.append(line)
-        if line.startswith("== "):
-            done += 1
-            print(f"[{done}/{many}] {line[3:].strip()}, {time.time() - start:.0f} s", flush=True)
-    if run.wait():
-        sys.exit("".join(said[-100:]) + "build.sh: a proof failed")
+def prove(copies, names, below):
+    """Proves the libraries, each in a copy of the crates that has nothing else to do; and says so of each as it ends."""
+    left, heights = set(names), height(names, below)
+    start, done, running, many = time.time(), set(), {}, len(names)
+
+    def stop(*_):
+        for child, _, _ in running.values():
+            child.terminate()
+        sys.exit(143)
+
+    signal.signal(signal.SIGTERM, stop)
+    while left or running:
+        ready = sorted((it for it in left if done.issuperset(below[it])), key=lambda it: -heights[it])
+        idle = [it for it in copies if it not in [copy for _, _, copy in running.values()]]
+        for name, copy in zip(ready, idle):
+            left.remove(name)
+            log = tempfile.TemporaryFile("w+")
+            words = ["rt", "lib", "--jobs", "1"]
+            running[name] = subprocess.Popen(words, cwd=f"{copy}/crates/{name}", stdin=subprocess.DEVNULL, stdout=log, stderr=log), log, copy
+        time.sleep(0.2)
+        for name, (child, log, _) in list(running.items()):
+            if child.poll() is None:
+                continue
+            if child.returncode:
+                log.seek(0)
+                for other, _, _ in running.values():
+                    other.terminate()
+                sys.exit(f"{log.read()}\nbuild.sh: {name} failed")
+            del running[name]
+            done.add(name)
+            print(f"[{len(done)}/{many}] {name}, {time.time() - start:.0f} s", flush=True)
 
 
 def main():
@@ -69,13 +100,17 @@ def main():
     if program not in named:
         sys.exit(f"build.sh: crates.txt has no crate {program}")
     names = closure(named, program)
+    libraries = names - {program}
+    below = {name: [it for it in named[name].split(":")[1].split() if it in named] for name in names}
     at_once = max(1, min(len(os.sched_getaffinity(0)), int(free_gigabytes() // GIGABYTES_EACH)))
-    with tempfile.TemporaryDirectory(prefix="build-") as copy:
-        lay_out(copy, named, names)
-        prove(copy, len(names), at_once)
-        # the libraries of the copy are taken over here
-        sys.exit(subprocess.run(["rt", "check"], cwd=f"{top}/crates/{program}", stdin=subprocess.DEVNULL).returncode)
+    with tempfile.TemporaryDirectory(prefix="build-") as folder:
+        copies = [f"{folder}/{number}" for number in range(at_once)]
+        for copy in copies:
+            lay_out(copy, named, libraries)
+        prove(copies, libraries, below)
+        # the libraries of the copies are taken over here
+        return subprocess.run(["rt", "check"], cwd=f"{top}/crates/{program}", stdin=subprocess.DEVNULL).returncode
 
 
-main()
+sys.exit(main())
 END
