@@ -2,6 +2,7 @@
 ghost use Rattle.std.specs.Prelude.{◌≡◌, ◌==◌, List, codes};
 ghost use Rattle.std.specs.List.{list_all, list_any};
 ghost use Rattle.std.specs.Char.{is_ascii_digit};
+ghost use Rattle.gs_model.specs.Terms.{digit};
 ghost use Rattle.gs_http.specs.Fields.{kept_under};
 ghost use Rattle.gs_http.specs.Connections.{elements_of};
 ghost use Rattle.gs_names.specs.Words.{parts_of};
@@ -20,7 +21,7 @@ fn all_digits(decimals: &[u8]) -> bool
 }
 
 fn all_zeros(decimals: &[u8]) -> bool
-    ensures { result ≡ list_all (λ c. c == 48) decimals.now }
+    ensures { result ≡ list_all (λ c. c == digit 0) decimals.now }
 {
     decimals.iter().all(|c| *c == b'0')
 }

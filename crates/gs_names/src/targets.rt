@@ -3,6 +3,7 @@ ghost use Rattle.std.specs.Prelude.{◌≡◌, ◌==◌, ◌&&◌, ◌||◌, ◌
 ghost use Rattle.std.specs.List.{list_all, list_any, starts_with};
 ghost use Rattle.std.specs.Str.{IsUtf8, bytes_eq};
 ghost use Rattle.percent_encoding.specs.Percent.{percent_decode};
+ghost use Rattle.gs_model.specs.Punctuation.{ampersand};
 ghost use Rattle.gs_names.specs.declared.routes.Place.TheVariants.{Graphs};
 ghost use Rattle.gs_names.specs.Places.{place_of};
 ghost use Rattle.gs_names.specs.Targets.{is_target_byte, rest_of, IsTextOf, is_short_iri, named_text, named_by, queried, placed, target_of};
@@ -120,7 +121,7 @@ fn is_default(query: &[u8]) -> bool
 
 fn names_graph(query: &[u8]) -> bool
     ensures value { result
-        ≡ (starts_with nat_eq query.now (codes "graph=") && not (list_any (λ c. c == 38) (drop 6 query.now))) }
+        ≡ (starts_with nat_eq query.now (codes "graph=") && not (list_any (λ c. c == ampersand) (drop 6 query.now))) }
     ensures bound { IsTrue result → 6 ≤ length query.now }
 {
     query.starts_with(b"graph=") && !has(&query[6..], b'&')

@@ -61,7 +61,7 @@ fn ask<D: Door>(setup: &Setup, asked: Asked, door: &mut D) -> Step
         Ok(Plan::Delete(target)) => Step::Made(delete(setup, &asked, target, door)),
         Ok(Plan::Look(target)) => Step::Made(look(setup, &asked, target, door)),
         Ok(Plan::Read(target)) => Step::Made(pin(setup, asked, target, door)),
-        // Another plan never drops its body.
+        // There was no memory for the name. (Another plan never drops its body.)
         _ => Step::Silent(reply(setup.alloc, 503, Note::Nothing, true)),
     }
 }

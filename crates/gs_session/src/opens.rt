@@ -100,7 +100,7 @@ pub fn open<D: Door>(setup: &Setup, asked: Asked, door: &mut D) -> Step
     match plan_of(&asked) {
         Ok(Plan::Upload(kind)) => { Step::Made(open_upload(setup, asked, kind, greeting, door)) }
         Ok(Plan::Patch(target)) => { Step::Made(open_patch(setup, asked, target, greeting, door)) }
-        // Another plan opens nothing.
+        // There was no memory for the name. (Another plan opens nothing.)
         _ => Step::Silent(reply(setup.alloc, 503, Note::Nothing, true)),
     }
 }
