@@ -1,0 +1,43 @@
+-- The records that the seats of a store have open, one for each upload and each patch. No public clause cites this module.
+use Rattle.std.specs.Prelude.{◌≡◌, ◌≢◌, ℕ, List, Option, Some, None, slice_index_or}
+use Rattle.gs_records.specs.Records.{opened, record_at}
+use Rattle.gs_tree_store.specs.declared.books.Books.{Books}
+use Rattle.gs_tree_store.specs.declared.books.Seat.{Seat}
+use Rattle.gs_tree_store.specs.declared.books.Seat.TheVariants.{Idle, Writing, Patching, Reading}
+
+-- the number of the record that a seat has open
+abbrev pub opened_by : Seat → Option ℕ
+opened_by (Writing k r v n) = Some n
+opened_by (Patching t r n) = Some n
+opened_by s = None
+
+-- whether the record of this number is open
+abbrev pub IsOpen : Books → ℕ → Type 0
+IsOpen b n = record_at b.records.records n ≡ opened
+
+-- the record of a seat is open, where it has one
+abbrev pub HasRecord : Books → Seat → Type 0
+HasRecord b s = (n : ℕ) → opened_by s ≡ Some n → IsOpen b n
+
+-- what was open under other numbers is open
+abbrev pub KeepsOthers : Books → Books → ℕ → Type 0
+KeepsOthers old new n = (m : ℕ) → m ≢ n → IsOpen old m → IsOpen new m
+
+-- a record that is open, and not this seat's
+pub record IsOther (b : Books) (s : Seat) (n : ℕ) : Type 0 where
+  pub open_now : IsOpen b n
+  pub other : opened_by s ≢ Some n
+
+-- the seat's record is open, if it was; what others have open is open, and not the seat's
+pub record KeepsRecords (old new : Books) (was now : Seat) : Type 0 where
+  pub own : HasRecord old was → HasRecord new now
+  pub others : (n : ℕ) → IsOther old was n → IsOther new now n
+
+-- that of a seat by its place
+abbrev pub opened_at : List Seat → ℕ → Option ℕ
+opened_at seats k = opened_by (slice_index_or seats k Idle)
+
+-- the record of each seat is open, and no two seats have the same
+pub record HaveRecords (b : Books) (seats : List Seat) : Type 0 where
+  pub open_now : (k n : ℕ) → opened_at seats k ≡ Some n → IsOpen b n
+  pub apart : (j k n : ℕ) → opened_at seats j ≡ Some n → opened_at seats k ≡ Some n → j ≡ k
