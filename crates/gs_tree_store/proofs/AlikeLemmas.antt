@@ -1,5 +1,5 @@
 -- Books whose records are others, with the same graphs of now.
-use Rattle.std.proofs.Common.{◌≡◌, ℕ, ◌∷◌, set, refl, sym, ap, subst, ◌∙◌}
+use Rattle.std.proofs.Common.{◌≡◌, ℕ, ◌∷◌, set, sym, ap, subst, ◌∙◌}
 use Rattle.std.specs.List.{All}
 use Rattle.gs_event.specs.declared.events.Action.{Action}
 use Rattle.gs_event.specs.declared.answers.Answer.{Answer}

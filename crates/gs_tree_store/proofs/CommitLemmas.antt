@@ -1,5 +1,5 @@
 -- What the end of a commit makes of the books, beside records that are written.
-use Rattle.std.proofs.Common.{◌≡◌, ◌+◌, ◌<◌, ◌≤◌, ℕ, true, List, [], ◌∷◌, ◌++◌, length, get_or, Option, Some, None, option_map, unwrap_or, string_bytes, refl, sym, ap, subst, ◌∙◌, arith, append-nil}
+use Rattle.std.proofs.Common.{◌≡◌, ◌+◌, ◌<◌, ℕ, true, List, [], ◌∷◌, ◌++◌, length, get_or, Option, Some, None, option_map, unwrap_or, string_bytes, refl, sym, ap, subst, ◌∙◌, arith, append-nil}
 use Rattle.std.specs.List.{All}
 use Rattle.std.proofs.lemmas.List.Elements.{All-head, Contains-get_or}
 use Rattle.gs_model.specs.Terms.{Term}
@@ -37,7 +37,7 @@ use Rattle.gs_commit.proofs.RootLemmas.{ledger_retirable}
 use Rattle.gs_commit.proofs.LawLemmas.{leaf_upload}
 use Rattle.gs_tree_store.specs.declared.books.Books.{Books}
 use Rattle.gs_tree_store.specs.Books.{graphs_of, dataset_of, IsSound, HasLedger}
-use Rattle.gs_tree_store.specs.Opened.{IsOpen, KeepsOthers}
+use Rattle.gs_tree_store.specs.Opened.{IsOpened, KeepsOpened}
 use Rattle.gs_tree_store.specs.Writes.{KeepsBooks, Ends, Puts, Removes}
 
 -- the version of a target, an empty one where it is missing
@@ -170,7 +170,7 @@ module _ (old new : Books) (t : Target) (e : EndsTree old new (version_or (graph
       }
 
 -- the target has the upload's version
-pub put_made : (old new : Books) (n : ℕ) (t : Target) (u : GraphVersion) → EndsTree old new (version_or (graphs_of old) t).root → graphs_of new ≡ with_version (graphs_of old) t u → new.records.latest ≡ new.versions.commit → KeepsOthers old new n
+pub put_made : (old new : Books) (n : ℕ) (t : Target) (u : GraphVersion) → EndsTree old new (version_or (graphs_of old) t).root → graphs_of new ≡ with_version (graphs_of old) t u → new.records.latest ≡ new.versions.commit → KeepsOpened old new n
     → IsSound old → IsVersion old.dict.terms old.pool u → old.versions.commit < last_number → Puts old new n t u
 put_made old new n t u e graphs latest others sound is number =
     let terms = old.dict.terms in
@@ -196,7 +196,7 @@ leaf_ends : (old new : Books) (size : ℕ) → ((us : List Tree) (rs : List (Lis
 leaf_ends old new size ends us rs l = ends us rs ((leaf_upload old.pool old.versions (graph_trees old.pool (graphs_of old)) us rs (dead_at old.pool)).0 l)
 
 -- The version of the target's graph ended.
-module _ (old new : Books) (latest : new.records.latest ≡ new.versions.commit) (all_open : (m : ℕ) → IsOpen old m → IsOpen new m) (sound : IsSound old) (number : old.versions.commit < last_number) where
+module _ (old new : Books) (latest : new.records.latest ≡ new.versions.commit) (all_open : (m : ℕ) → IsOpened old m → IsOpened new m) (sound : IsSound old) (number : old.versions.commit < last_number) where
   -- the default graph is empty
   emptied : EndsTree old new (version_or (graphs_of old) Default).root → graphs_of new ≡ with_version (graphs_of old) Default empty_version → Removes old new Default
   emptied e written =

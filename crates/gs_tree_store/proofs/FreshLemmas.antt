@@ -1,5 +1,5 @@
 -- What holds of a store without graphs, whose seats are idle.
-use Rattle.std.proofs.Common.{◌≡◌, ◌≤◌, ℕ, zero, suc, ◌+◌, true, false, List, [], ◌∷◌, map, replicate, get_or, Option, Some, None, is_some, refl, sym, ap, ◌∙◌, subst, arith, add-zero, string_bytes}
+use Rattle.std.proofs.Common.{◌≡◌, ◌≤◌, ℕ, zero, suc, ◌+◌, true, false, List, [], ◌∷◌, map, replicate, get_or, Option, Some, None, is_some, refl, sym, ap, ◌∙◌, subst, add-zero, string_bytes}
 use Rattle.std.specs.List.{All, count_by, range_with_len}
 use Rattle.std.specs.FinMap as fin
 use Rattle.std.proofs.lemmas.List.{nil_from_length}
@@ -23,11 +23,10 @@ use Rattle.gs_commit.proofs.LawLemmas.{empty_ledger, empty_dead}
 use Rattle.gs_datasets.specs.Standing.{dataset_at, all_versions, version_tree, graph_trees, IsVersion}
 use Rattle.gs_datasets.proofs.Sizes.{none_at_all}
 use Rattle.gs_tree_store.specs.declared.books.Books.{Books}
-use Rattle.gs_tree_store.specs.declared.books.Seat.{Seat}
 use Rattle.gs_tree_store.specs.declared.books.Seat.TheVariants.{Idle}
 use Rattle.gs_tree_store.specs.declared.stores.TreeStore.TheInside.{Inside}
 use Rattle.gs_tree_store.specs.Books.{graphs_of, dataset_of, seat_view, upload_tree, read_trees, is_reading, IsSeat}
-use Rattle.gs_tree_store.specs.Opened.{opened_by, opened_at, HaveRecords}
+use Rattle.gs_tree_store.specs.Opened.{own_record, own_record_at, HaveRecords}
 use Rattle.gs_tree_store.specs.Kept.{shown_of, IsKept}
 
 -- no graph has no tree
@@ -43,8 +42,8 @@ idle_at (suc n) zero = refl
 idle_at (suc n) (suc k) = idle_at n k
 
 -- idle seats have no records
-none_open : (n k m : ℕ) → opened_at (replicate n Idle) k ≡ Some m → ⊥
-none_open n k m e = none-some m (sym (ap opened_by (idle_at n k)) ∙ e)
+none_open : (n k m : ℕ) → own_record_at (replicate n Idle) k ≡ Some m → ⊥
+none_open n k m e = none-some m (sym (ap own_record (idle_at n k)) ∙ e)
 
 none_have : (b : Books) (n : ℕ) → HaveRecords b (replicate n Idle)
 none_have b n = record { open_now = λ k m e. absurd (none_open n k m e); apart = λ j k m e f. absurd (none_open n j m e) }

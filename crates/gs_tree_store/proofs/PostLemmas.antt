@@ -68,8 +68,7 @@ abbrev pub DecidesPost : Books → Target → GraphVersion → Verdict → Type 
 DecidesPost b t v verdict = DecidesStore (books_setting b) (dataset_of b) b.versions.commit t (posted b t v) verdict
 
 -- no memory, and nothing was done
-pub post_unread : (b : Books) (q : Nodes) (s : ℕ) (t : Target) (n : ℕ) (u : GraphVersion) (o : ℕ) (now : Seat) (a : Answer) → q ≡ b.pool → now ≡ Writing (Post t) n u o → a ≡ Refused NoMemory → IsReady b s (Writing (Post t) n u o)
-    → Acts b (with_nodes b b.dict q) s (Writing (Post t) n u o) now Commit a
+pub post_unread : (b : Books) (q : Nodes) (s : ℕ) (t : Target) (n : ℕ) (u : GraphVersion) (o : ℕ) (now : Seat) (a : Answer) → q ≡ b.pool → now ≡ Writing (Post t) n u o → a ≡ Refused NoMemory → IsReady b s (Writing (Post t) n u o) → Acts b (with_nodes b b.dict q) s (Writing (Post t) n u o) now Commit a
 post_unread b q s t n u o now a same writes why ready =
     let here : Acts b b s (Writing (Post t) n u o) (Writing (Post t) n u o) Commit (Refused NoMemory) = nothing_done b s (Writing (Post t) n u o) Commit (Refused NoMemory) refl refl refl refl refl refl ready in
     subst (λ x. Acts b (with_nodes b b.dict x) s (Writing (Post t) n u o) now Commit a) (sym same)
@@ -201,15 +200,13 @@ module _ (b : Books) (t : Target) (n : ℕ) (u : GraphVersion) (o : ℕ) (p1 : N
         }
 
     -- want of memory
-    pub post_unmade : (r' : Nodes) (birth s : ℕ) (v : GraphVersion) (now : Seat) (a : Answer) → birth ≡ b.versions.commit + 1 → MakesAgain birth r r' ks v → now ≡ Writing (Post t) n v o → a ≡ Refused NoMemory → IsReady b s (Writing (Post t) n u o)
-        → Acts b (with_nodes b b.dict r') s (Writing (Post t) n u o) now Commit a
+    pub post_unmade : (r' : Nodes) (birth s : ℕ) (v : GraphVersion) (now : Seat) (a : Answer) → birth ≡ b.versions.commit + 1 → MakesAgain birth r r' ks v → now ≡ Writing (Post t) n v o → a ≡ Refused NoMemory → IsReady b s (Writing (Post t) n u o) → Acts b (with_nodes b b.dict r') s (Writing (Post t) n u o) now Commit a
     post_unmade r' birth s v now a born puts writes why ready =
         subst (λ x. Acts b (with_nodes b b.dict r') s (Writing (Post t) n u o) x Commit a) (sym writes)
         (subst (λ x. Acts b (with_nodes b b.dict r') s (Writing (Post t) n u o) (Writing (Post t) n v o) Commit x) (sym why) (post_again r' birth s v NoMemory born puts refl ready))
 
     -- no commit number is left
-    post_last : (r' : Nodes) (birth s : ℕ) (v : GraphVersion) (now : Seat) (a : Answer) → birth ≡ b.versions.commit + 1 → DecidesPost b t u LastNumber → MakesAgain birth r r' ks v → now ≡ Writing (Post t) n v o → a ≡ Refused NoNumber → IsReady b s (Writing (Post t) n u o)
-        → Acts b (with_nodes b b.dict r') s (Writing (Post t) n u o) now Commit a
+    post_last : (r' : Nodes) (birth s : ℕ) (v : GraphVersion) (now : Seat) (a : Answer) → birth ≡ b.versions.commit + 1 → DecidesPost b t u LastNumber → MakesAgain birth r r' ks v → now ≡ Writing (Post t) n v o → a ≡ Refused NoNumber → IsReady b s (Writing (Post t) n u o) → Acts b (with_nodes b b.dict r') s (Writing (Post t) n u o) now Commit a
     post_last r' birth s v now a born decided puts writes why ready =
         let would = would_be_stored (books_setting b) (dataset_of b) b.versions.commit (Posts t graph) t (posted b t u) refl refl decided in
         subst (λ x. Acts b (with_nodes b b.dict r') s (Writing (Post t) n u o) x Commit a) (sym writes)
@@ -254,14 +251,12 @@ module _ (b : Books) (t : Target) (n : ℕ) (u : GraphVersion) (o : ℕ) (p1 : N
     -- The verdict on it, by the counts of the books.
     module _ (held : Holdings) (place : Place) (holds : held ≡ holdings_of (books_setting b) (dataset_of b) b.versions.commit) (at : place ≡ place_in (dataset_of b) t) where
       -- no commit number is left: it was taken back, and the upload made again
-      pub draft_last : (r r' : Nodes) (s : ℕ) (x : GraphVersion) (now : Seat) (a : Answer) → LastNumber ≡ verdict_of held place (Stores v.triples true) → UndoesAll birth q r (tree_at q v.root) → birth ≡ b.versions.commit + 1
-          → MakesAgain birth r r' ks x → now ≡ Writing (Post t) n x o → a ≡ Refused NoNumber → IsReady b s (Writing (Post t) n u o) → Acts b (with_nodes b b.dict r') s (Writing (Post t) n u o) now Commit a
+      pub draft_last : (r r' : Nodes) (s : ℕ) (x : GraphVersion) (now : Seat) (a : Answer) → LastNumber ≡ verdict_of held place (Stores v.triples true) → UndoesAll birth q r (tree_at q v.root) → birth ≡ b.versions.commit + 1 → MakesAgain birth r r' ks x → now ≡ Writing (Post t) n x o → a ≡ Refused NoNumber → IsReady b s (Writing (Post t) n u o) → Acts b (with_nodes b b.dict r') s (Writing (Post t) n u o) now Commit a
       draft_last r r' s x now a by undoes born puts writes why ready =
           post_last r (draft_undone r undoes) r' birth s x now a born (draft_decided held place LastNumber holds at by) puts writes why ready
 
       -- beyond the limits: it was taken back
-      pub draft_full : (r : Nodes) (x : Recorded) (s : ℕ) (now : Seat) → now ≡ Idle → SameNow b.records x → Full ≡ verdict_of held place (Stores v.triples true) → UndoesAll birth q r (tree_at q v.root) → IsReady b s (Writing (Post t) n u o)
-          → Acts b (with_records (with_nodes b b.dict r) x) s (Writing (Post t) n u o) now Commit (Status 507 None)
+      pub draft_full : (r : Nodes) (x : Recorded) (s : ℕ) (now : Seat) → now ≡ Idle → SameNow b.records x → Full ≡ verdict_of held place (Stores v.triples true) → UndoesAll birth q r (tree_at q v.root) → IsReady b s (Writing (Post t) n u o) → Acts b (with_records (with_nodes b b.dict r) x) s (Writing (Post t) n u o) now Commit (Status 507 None)
       draft_full r x s now idle same by undoes ready =
           subst (λ y. Acts b (with_records (with_nodes b b.dict r) x) s (Writing (Post t) n u o) y Commit (Status 507 None)) (sym idle)
           (post_full r (draft_undone r undoes) x s same (draft_decided held place Full holds at by) ready)

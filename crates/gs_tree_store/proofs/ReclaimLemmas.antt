@@ -22,7 +22,7 @@ use Rattle.gs_datasets.proofs.Writing.{all_stay}
 use Rattle.gs_tree_store.specs.declared.books.Seat.{Seat}
 use Rattle.gs_tree_store.specs.declared.stores.TreeStore.TheInside.{Inside}
 use Rattle.gs_tree_store.specs.Books.{graphs_of, seat_view, upload_tree, read_trees, IsSeat}
-use Rattle.gs_tree_store.specs.Opened.{IsOpen}
+use Rattle.gs_tree_store.specs.Opened.{IsOpened}
 use Rattle.gs_tree_store.specs.Kept.{shown_of, IsKept}
 use Rattle.gs_tree_store.proofs.AlikeLemmas.{SameNow, alike_dataset, alike_sound}
 use Rattle.gs_tree_store.proofs.PlaceLemmas.{same_map, pin_at, some_of}
@@ -106,7 +106,7 @@ module _ (a : Inside) (q : Nodes) (kept : IsKept a) (ledgers : KeepsLedgers a.bo
     now_same : SameNow a.books.records r
     now_same = record { graphs = reclaims.now; latest = reclaims.latest }
 
-    still_open : (k : ℕ) → IsOpen a.books k → IsOpen (reclaimed a q r).books k
+    still_open : (k : ℕ) → IsOpened a.books k → IsOpened (reclaimed a q r).books k
     still_open k open_now = opened_stays a.books.versions.seats (record_at a.books.records.records k) (record_at r.records k) open_now (reclaims.each k)
 
     -- What holds of every store still holds,

@@ -3,30 +3,30 @@ use Rattle.std.specs.Prelude.{◌≡◌, ◌≢◌, ℕ, List, Option, Some, Non
 use Rattle.gs_records.specs.Records.{opened, record_at}
 use Rattle.gs_tree_store.specs.declared.books.Books.{Books}
 use Rattle.gs_tree_store.specs.declared.books.Seat.{Seat}
-use Rattle.gs_tree_store.specs.declared.books.Seat.TheVariants.{Idle, Writing, Patching, Reading}
+use Rattle.gs_tree_store.specs.declared.books.Seat.TheVariants.{Idle, Writing, Patching}
 
 -- the number of the record that a seat has open
-abbrev pub opened_by : Seat → Option ℕ
-opened_by (Writing k r v n) = Some n
-opened_by (Patching t r n) = Some n
-opened_by s = None
+abbrev pub own_record : Seat → Option ℕ
+own_record (Writing k r v n) = Some n
+own_record (Patching t r n) = Some n
+own_record s = None
 
 -- whether the record of this number is open
-abbrev pub IsOpen : Books → ℕ → Type 0
-IsOpen b n = record_at b.records.records n ≡ opened
+abbrev pub IsOpened : Books → ℕ → Type 0
+IsOpened b n = record_at b.records.records n ≡ opened
 
 -- the record of a seat is open, where it has one
 abbrev pub HasRecord : Books → Seat → Type 0
-HasRecord b s = (n : ℕ) → opened_by s ≡ Some n → IsOpen b n
+HasRecord b s = (n : ℕ) → own_record s ≡ Some n → IsOpened b n
 
 -- what was open under other numbers is open
-abbrev pub KeepsOthers : Books → Books → ℕ → Type 0
-KeepsOthers old new n = (m : ℕ) → m ≢ n → IsOpen old m → IsOpen new m
+abbrev pub KeepsOpened : Books → Books → ℕ → Type 0
+KeepsOpened old new n = (m : ℕ) → m ≢ n → IsOpened old m → IsOpened new m
 
 -- a record that is open, and not this seat's
 pub record IsOther (b : Books) (s : Seat) (n : ℕ) : Type 0 where
-  pub open_now : IsOpen b n
-  pub other : opened_by s ≢ Some n
+  pub open_now : IsOpened b n
+  pub other : own_record s ≢ Some n
 
 -- the seat's record is open, if it was; what others have open is open, and not the seat's
 pub record KeepsRecords (old new : Books) (was now : Seat) : Type 0 where
@@ -34,10 +34,10 @@ pub record KeepsRecords (old new : Books) (was now : Seat) : Type 0 where
   pub others : (n : ℕ) → IsOther old was n → IsOther new now n
 
 -- that of a seat by its place
-abbrev pub opened_at : List Seat → ℕ → Option ℕ
-opened_at seats k = opened_by (slice_index_or seats k Idle)
+abbrev pub own_record_at : List Seat → ℕ → Option ℕ
+own_record_at seats k = own_record (slice_index_or seats k Idle)
 
 -- the record of each seat is open, and no two seats have the same
 pub record HaveRecords (b : Books) (seats : List Seat) : Type 0 where
-  pub open_now : (k n : ℕ) → opened_at seats k ≡ Some n → IsOpen b n
-  pub apart : (j k n : ℕ) → opened_at seats j ≡ Some n → opened_at seats k ≡ Some n → j ≡ k
+  pub open_now : (k n : ℕ) → own_record_at seats k ≡ Some n → IsOpened b n
+  pub apart : (j k n : ℕ) → own_record_at seats j ≡ Some n → own_record_at seats k ≡ Some n → j ≡ k

@@ -10,7 +10,7 @@ use Rattle.gs_ledger.specs.Marks.{waste_at}
 use Rattle.gs_datasets.specs.Standing.{IsVersion}
 use Rattle.gs_tree_store.specs.declared.books.Books.{Books}
 use Rattle.gs_tree_store.specs.Books.{dataset_of, IsSound, HasLedger}
-use Rattle.gs_tree_store.specs.Opened.{IsOpen, KeepsOthers}
+use Rattle.gs_tree_store.specs.Opened.{IsOpened, KeepsOpened}
 
 -- some trees of the seats have a ledger with the books
 pub record HasAny (b : Books) : Type 0 where
@@ -46,7 +46,7 @@ pub record Puts (old new : Books) (n : ℕ) (t : Target) (v : GraphVersion) : Ty
   pub kept : KeepsBooks old new
   pub sound : IsSound new
   pub ledgers : (uploads : List Tree) (reads : List (List Tree)) → HasLedger old (tree_at old.pool v.root ∷ uploads) reads → Ends old new (size_at (dataset_of old) t) uploads reads
-  pub others : KeepsOthers old new n
+  pub others : KeepsOpened old new n
 
 -- the target has no graph now, or an empty one where it is the default graph
 pub record Removes (old new : Books) (t : Target) : Type 0 where
@@ -54,4 +54,4 @@ pub record Removes (old new : Books) (t : Target) : Type 0 where
   pub kept : KeepsBooks old new
   pub sound : IsSound new
   pub ledgers : (uploads : List Tree) (reads : List (List Tree)) → HasLedger old uploads reads → Ends old new (size_at (dataset_of old) t) uploads reads
-  pub all_open : (m : ℕ) → IsOpen old m → IsOpen new m
+  pub all_open : (m : ℕ) → IsOpened old m → IsOpened new m

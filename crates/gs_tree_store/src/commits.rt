@@ -2,7 +2,7 @@
 ghost use Rattle.std.specs.Prelude.{◌≡◌, ◌<◌};
 ghost use Rattle.gs_model.specs.Limits.{last_number};
 ghost use Rattle.gs_tree_store.specs.Books.{IsSound};
-ghost use Rattle.gs_tree_store.specs.Opened.{IsOpen};
+ghost use Rattle.gs_tree_store.specs.Opened.{IsOpened};
 ghost use Rattle.gs_tree_store.specs.Writes.{HasUpload, HasAny, Puts, Removes};
 
 use crate::books::{self, Books};
@@ -14,7 +14,7 @@ use gs_term::Target;
 pub fn put_version(books: &mut Books, opened: u32, target: Target, upload: GraphVersion)
     requires sound { IsSound books.old }
     requires upload { HasUpload books.old upload }
-    requires opened { IsOpen books.old opened }
+    requires opened { IsOpened books.old opened }
     requires number { books.old.versions.commit < last_number }
     ensures { Puts books.old books.new opened target upload }
 {

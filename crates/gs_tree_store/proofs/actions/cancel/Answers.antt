@@ -1,7 +1,5 @@
-use Rattle.std.proofs.Common.{refl, ap}
-use Rattle.gs_tree_store.specs.declared.books.Seat.TheVariants.{Idle}
-use Rattle.gs_tree_store.specs.Opened.{opened_by}
-use Rattle.gs_tree_store.proofs.OpenedLemmas.{others_kept, record_let_go}
+use Rattle.std.proofs.Common.{ap}
+use Rattle.gs_tree_store.specs.Opened.{own_record}
 use Rattle.gs_tree_store.proofs.AlikeLemmas.{gives_up_same}
 use Rattle.gs_tree_store.proofs.ActionLemmas.{upload_retirable, upload_cancelled, patch_cancelled, read_cancelled}
 use Rattle.gs_tree_store.proofs.actions.cancel.Goals as goal
@@ -11,10 +9,10 @@ pub drop_tree-requires : goal.drop_tree-requires
 drop_tree-requires c = upload_retirable c.args.books.now c.args.number c.args.seat.now c.in-Writing.field-0 c.in-Writing.field-1 c.in-Writing.upload c.in-Writing.opened c.in-Writing.is c.requires.ready
 
 pub give_up-requires : goal.give_up-requires
-give_up-requires c = c.requires.opened c.in-Writing.opened (ap opened_by c.in-Writing.is)
+give_up-requires c = c.requires.opened c.in-Writing.opened (ap own_record c.in-Writing.is)
 
 pub give_up-requires-in-Patching : goal.give_up-requires-in-Patching
-give_up-requires-in-Patching c = c.requires.opened c.in-Patching.opened (ap opened_by c.in-Patching.is)
+give_up-requires-in-Patching c = c.requires.opened c.in-Patching.opened (ap own_record c.in-Patching.is)
 
 pub returns-clause-acts : goal.returns-clause-acts
 returns-clause-acts c =

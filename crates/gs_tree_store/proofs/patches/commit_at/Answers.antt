@@ -5,7 +5,7 @@ use Rattle.gs_event.specs.declared.verdicts.Verdict.TheVariants.{Full, LastNumbe
 use Rattle.gs_records.specs.Records.{unused}
 use Rattle.gs_tree_store.specs.declared.books.Books.{Books}
 use Rattle.gs_tree_store.specs.declared.books.Seat.TheVariants.{Patching}
-use Rattle.gs_tree_store.specs.Opened.{opened_by}
+use Rattle.gs_tree_store.specs.Opened.{own_record}
 use Rattle.gs_tree_store.specs.Actions.{Acts}
 use Rattle.gs_tree_store.proofs.OpenedLemmas.{open_stays, others_kept, put_others, record_let_go}
 use Rattle.gs_tree_store.proofs.AlikeLemmas.{gives_up_same, with_records}
@@ -101,7 +101,7 @@ pub returns-then-not-is_there-clause-records : goal.returns-then-not-is_there-cl
 returns-then-not-is_there-clause-records c =
     let b = c.args.books.now in
     let new : Books = with_records b c.give_up.new.self in
-    record_let_go b new (Patching c.args.target c.args.request c.args.opened) c.args.seat.now c.args.opened refl (ap opened_by c.requires.idle) (others_kept b new c.args.opened unused c.give_up.ensures.turns)
+    record_let_go b new (Patching c.args.target c.args.request c.args.opened) c.args.seat.now c.args.opened refl (ap own_record c.requires.idle) (others_kept b new c.args.opened unused c.give_up.ensures.turns)
 
 pub returns-in_default-clause-records : goal.returns-in_default-clause-records
 returns-in_default-clause-records c =
@@ -113,7 +113,7 @@ pub returns-in-Full-clause-records : goal.returns-in-Full-clause-records
 returns-in-Full-clause-records c =
     let b = c.args.books.now in
     let new : Books = with_records (with_nodes b c.patched-draft.new.dict c.take_back.new.pool) c.give_up-in-Full.new.self in
-    record_let_go b new (Patching c.args.target c.args.request c.args.opened) c.args.seat.now c.args.opened refl (ap opened_by c.requires.idle) (others_kept b new c.args.opened unused c.give_up-in-Full.ensures.turns)
+    record_let_go b new (Patching c.args.target c.args.request c.args.opened) c.args.seat.now c.args.opened refl (ap own_record c.requires.idle) (others_kept b new c.args.opened unused c.give_up-in-Full.ensures.turns)
 
 pub returns-in-LastNumber-clause-records : goal.returns-in-LastNumber-clause-records
 returns-in-LastNumber-clause-records c =
@@ -125,5 +125,5 @@ pub returns-in-Granted-clause-records : goal.returns-in-Granted-clause-records
 returns-in-Granted-clause-records c =
     let b = c.args.books.now in
     let new : Books = with_draft b c.patched-draft.new.dict c.keep_draft.new.pool c.keep_draft.new.versions c.put.new.self in
-    record_let_go b new (Patching c.args.target c.args.request c.args.opened) c.args.seat.now c.args.opened refl (ap opened_by c.requires.idle)
+    record_let_go b new (Patching c.args.target c.args.request c.args.opened) c.args.seat.now c.args.opened refl (ap own_record c.requires.idle)
     (put_others b new c.args.opened c.args.target c.in-Ok.draft (c.commit-birth.result + 1) c.put.ensures)

@@ -7,7 +7,7 @@ use Rattle.gs_records.specs.Records.{unused}
 use Rattle.gs_tree_store.specs.declared.books.Books.{Books}
 use Rattle.gs_tree_store.specs.declared.books.Seat.TheVariants.{Writing}
 use Rattle.gs_tree_store.specs.Books.{books_setting, dataset_of}
-use Rattle.gs_tree_store.specs.Opened.{opened_by}
+use Rattle.gs_tree_store.specs.Opened.{own_record}
 use Rattle.gs_tree_store.specs.Actions.{Acts}
 use Rattle.gs_tree_store.proofs.VerdictLemmas.{is_stored, is_not_stored}
 use Rattle.gs_tree_store.proofs.OpenedLemmas.{open_stays, others_kept, record_let_go}
@@ -49,11 +49,11 @@ pub returns-in-Full-clause-records : goal.returns-in-Full-clause-records
 returns-in-Full-clause-records c =
     let b = c.args.books.now in
     let new : Books = record b { pool = c.drop_tree.new.pool; records = c.give_up.new.self } in
-    record_let_go b new (Writing (Put c.args.target) c.args.request c.args.upload c.args.opened) c.args.seat.now c.args.opened refl (ap opened_by c.requires.idle) (others_kept b new c.args.opened unused c.give_up.ensures.turns)
+    record_let_go b new (Writing (Put c.args.target) c.args.request c.args.upload c.args.opened) c.args.seat.now c.args.opened refl (ap own_record c.requires.idle) (others_kept b new c.args.opened unused c.give_up.ensures.turns)
 
 pub returns-in-LastNumber-clause-records : goal.returns-in-LastNumber-clause-records
 returns-in-LastNumber-clause-records c = open_stays c.args.books.now c.args.books.now (Writing (Put c.args.target) c.args.request c.args.upload c.args.opened) (Writing (Put c.args.target) c.args.request c.args.upload c.args.opened) refl (λ n h. h)
 
 pub returns-in-Granted-clause-records : goal.returns-in-Granted-clause-records
 returns-in-Granted-clause-records c =
-    record_let_go c.args.books.now c.put_version.new.books (Writing (Put c.args.target) c.args.request c.args.upload c.args.opened) c.args.seat.now c.args.opened refl (ap opened_by c.requires.idle) c.put_version.ensures.others
+    record_let_go c.args.books.now c.put_version.new.books (Writing (Put c.args.target) c.args.request c.args.upload c.args.opened) c.args.seat.now c.args.opened refl (ap own_record c.requires.idle) c.put_version.ensures.others

@@ -6,10 +6,10 @@ use Rattle.gs_tree_store.specs.declared.stores.TreeStore.TheInside.{Inside}
 use Rattle.gs_tree_store.proofs.FreshLemmas.{IsFresh, fresh_kept, fresh_view, fresh_pins}
 use Rattle.gs_tree_store.proofs.stores.TreeStore.starting_at.Goals as goal
 
-abbrev made : goal.After-new-3 → Inside
+abbrev made : goal.In_ok-records → Inside
 made c = record { alloc = c.args.alloc; books = record { base = c.in_ok-base.base; limits = c.args.limits; request = c.args.request; dict = c.in_ok-dict.dict; pool = c.in_ok-pool.pool; versions = c.in_ok-versions.versions; records = c.in_ok-records.records }; seats = c.in_ok-idle.idle }
 
-is_fresh : (c : goal.After-new-3) → IsFresh (made c) c.args.seats c.args.commit
+is_fresh : (c : goal.In_ok-records) → IsFresh (made c) c.args.seats c.args.commit
 is_fresh c = record {
   nodes = c.in_ok-pool.ensures.nodes;
   marks = c.in_ok-pool.ensures.marks;
