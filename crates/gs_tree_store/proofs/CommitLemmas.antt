@@ -37,7 +37,7 @@ use Rattle.gs_commit.proofs.RootLemmas.{ledger_retirable}
 use Rattle.gs_commit.proofs.LawLemmas.{leaf_upload}
 use Rattle.gs_tree_store.specs.declared.books.Books.{Books}
 use Rattle.gs_tree_store.specs.Books.{graphs_of, dataset_of, IsSound, HasLedger}
-use Rattle.gs_tree_store.specs.Opened.{IsOpened, KeepsOpened}
+use Rattle.gs_tree_store.specs.Opened.{LetsGo, SameOpened}
 use Rattle.gs_tree_store.specs.Writes.{KeepsBooks, Ends, Puts, Removes}
 
 -- the version of a target, an empty one where it is missing
@@ -169,10 +169,16 @@ module _ (old new : Books) (t : Target) (e : EndsTree old new (version_or (graph
         waste = subst (λ n. Joins (EndsAt (old.versions.commit + 1)) n (waste_at p) (waste_at q)) (keys_of_target old.dict.terms p (graphs_of old) t sound.versions) h.waste;
       }
 
--- the target has the upload's version
-pub put_made : (old new : Books) (n : ℕ) (t : Target) (u : GraphVersion) → EndsTree old new (version_or (graphs_of old) t).root → graphs_of new ≡ with_version (graphs_of old) t u → new.records.latest ≡ new.versions.commit → KeepsOpened old new n
-    → IsSound old → IsVersion old.dict.terms old.pool u → old.versions.commit < last_number → Puts old new n t u
-put_made old new n t u e graphs latest others sound is number =
+-- the target has the version, and no upload has its tree
+record Sets (old new : Books) (t : Target) (u : GraphVersion) : Type 0 where
+  pub dataset : dataset_of new ≡ with_graph (dataset_of old) t (graph_at old.dict.terms old.pool u.root)
+  pub kept : KeepsBooks old new
+  pub sound : IsSound new
+  pub ledgers : (us : List Tree) (rs : List (List Tree)) → HasLedger old (tree_at old.pool u.root ∷ us) rs → Ends old new (size_at (dataset_of old) t) us rs
+
+version_set : (old new : Books) (t : Target) (u : GraphVersion) → EndsTree old new (version_or (graphs_of old) t).root → graphs_of new ≡ with_version (graphs_of old) t u → new.records.latest ≡ new.versions.commit
+    → IsSound old → IsVersion old.dict.terms old.pool u → old.versions.commit < last_number → Sets old new t u
+version_set old new t u e graphs latest sound is number =
     let terms = old.dict.terms in
     let p = old.pool in
     let q = new.pool in
@@ -188,27 +194,33 @@ put_made old new n t u e graphs latest others sound is number =
       kept = kept_books old new (version_or g t).root e;
       sound = sound_now old new t e sound number h graphs latest (subst (λ ts. All (IsVersion ts q) (all_versions h)) (append-nil terms) sets.versions);
       ledgers = ends_now old new t e sound number h graphs latest (tree_at p u.root) (subst (λ x. AreSameTrees (x ∷ other_trees p g t) (graph_trees q h)) tree sets.trees);
-      others = others;
     }
+
+-- the target has the upload's version
+pub put_made : (old new : Books) (n : ℕ) (t : Target) (u : GraphVersion) → EndsTree old new (version_or (graphs_of old) t).root → graphs_of new ≡ with_version (graphs_of old) t u → new.records.latest ≡ new.versions.commit → LetsGo old new n
+    → IsSound old → IsVersion old.dict.terms old.pool u → old.versions.commit < last_number → Puts old new n t u
+put_made old new n t u e graphs latest go sound is number =
+    let sets = version_set old new t u e graphs latest sound is number in
+    record { dataset = sets.dataset; kept = sets.kept; sound = sets.sound; ledgers = sets.ledgers; lets_go = go }
 
 -- the ledger of a Delete: a leaf is no upload
 leaf_ends : (old new : Books) (size : ℕ) → ((us : List Tree) (rs : List (List Tree)) → HasLedger old (leaf ∷ us) rs → Ends old new size us rs) → (us : List Tree) (rs : List (List Tree)) → HasLedger old us rs → Ends old new size us rs
 leaf_ends old new size ends us rs l = ends us rs ((leaf_upload old.pool old.versions (graph_trees old.pool (graphs_of old)) us rs (dead_at old.pool)).0 l)
 
 -- The version of the target's graph ended.
-module _ (old new : Books) (latest : new.records.latest ≡ new.versions.commit) (all_open : (m : ℕ) → IsOpened old m → IsOpened new m) (sound : IsSound old) (number : old.versions.commit < last_number) where
+module _ (old new : Books) (latest : new.records.latest ≡ new.versions.commit) (same : SameOpened old new) (sound : IsSound old) (number : old.versions.commit < last_number) where
   -- the default graph is empty
   emptied : EndsTree old new (version_or (graphs_of old) Default).root → graphs_of new ≡ with_version (graphs_of old) Default empty_version → Removes old new Default
   emptied e written =
       let terms = old.dict.terms in
       let none : graph_at terms old.pool None ≡ empty_graph = refl in
-      let puts = put_made old new 0 Default empty_version e written latest (λ m apart. all_open m) sound (empty_is terms old.pool) number in
+      let sets = version_set old new Default empty_version e written latest sound (empty_is terms old.pool) number in
       record {
-        dataset = puts.dataset ∙ ap (with_graph (dataset_of old) Default) none;
-        kept = puts.kept;
-        sound = puts.sound;
-        ledgers = leaf_ends old new (size_at (dataset_of old) Default) puts.ledgers;
-        all_open = all_open;
+        dataset = sets.dataset ∙ ap (with_graph (dataset_of old) Default) none;
+        kept = sets.kept;
+        sound = sets.sound;
+        ledgers = leaf_ends old new (size_at (dataset_of old) Default) sets.ledgers;
+        same_opened = same;
       }
 
   -- a name is gone
@@ -226,7 +238,7 @@ module _ (old new : Books) (latest : new.records.latest ≡ new.versions.commit)
         kept = kept_books old new (version_or g t).root e;
         sound = sound_now old new t e sound number h graphs latest takes.versions;
         ledgers = leaf_ends old new (size_at (dataset_of old) t) (ends_now old new t e sound number h graphs latest leaf takes.trees);
-        all_open = all_open;
+        same_opened = same;
       }
 
   pub removed : (t : Target) → EndsTree old new (version_or (graphs_of old) t).root → graphs_of new ≡ without_version (graphs_of old) t → Removes old new t

@@ -1,5 +1,5 @@
 -- What a Reclaim keeps of the whole store.
-use Rattle.std.proofs.Common.{◌≡◌, ℕ, ◌<◌, Bool, List, [], map, length, get_or, Option, None, refl, sym, ap, ◌∙◌, subst, inl, inr, arith}
+use Rattle.std.proofs.Common.{◌≡◌, ℕ, ◌<◌, Bool, List, [], map, length, get_or, Option, None, refl, sym, ap, ◌∙◌, subst, inl, inr, arith, true≢false}
 use Rattle.std.specs.List.{All}
 use Rattle.std.proofs.lemmas.List.{append-nil, length-map, get_or-map}
 use Rattle.gs_event.specs.declared.events.Event.TheVariants.{Reclaim}
@@ -12,7 +12,7 @@ use Rattle.gs_ledger.specs.Marks.{dead_at, waste_at}
 use Rattle.gs_ledger.specs.Ledger.{IsLedger}
 use Rattle.gs_reclaim.specs.Reclaims.{KeepsLedgers}
 use Rattle.gs_records.specs.Records.{Record, opened, Recorded, record_at}
-use Rattle.gs_records.specs.Waste.{lifetimes}
+use Rattle.gs_records.specs.Waste.{lifetimes, is_opened}
 use Rattle.gs_records.specs.Reclaims.{StaysOrGoes, Reclaims}
 use Rattle.gs_datasets.specs.Standing.{dataset_at, all_versions, graph_trees, IsVersion}
 use Rattle.gs_datasets.specs.Trees.{IsMeant, IsPlainTree}
@@ -41,6 +41,11 @@ reclaimed a q r = record a { books = record a.books { pool = q; records = r } }
 opened_stays : (pins : List (Option ℕ)) (old new : Record) → old ≡ opened → StaysOrGoes pins old new → new ≡ opened
 opened_stays pins old new open_now (inl same) = same ∙ open_now
 opened_stays pins old new open_now (inr (gone, none)) = absurd (omega (arith, ap (λ (ls : List Lifetime). length ls) (sym (ap lifetimes open_now) ∙ none.only)))
+
+-- and what is open now was open
+opened_was : (pins : List (Option ℕ)) (old new : Record) → new ≡ opened → StaysOrGoes pins old new → old ≡ opened
+opened_was pins old new open_now (inl same) = sym same ∙ open_now
+opened_was pins old new open_now (inr (gone, none)) = absurd (true≢false (sym (ap is_opened (sym gone ∙ open_now))))
 
 module _ (a : Inside) (q : Nodes) (kept : IsKept a) (ledgers : KeepsLedgers a.books.versions a.books.pool q) where
   gone_on : IsLedger q a.books.versions (graph_trees a.books.pool (graphs_of a.books)) (uploads_of a) (reads_of a) (dead_at q)
@@ -96,7 +101,7 @@ module _ (a : Inside) (q : Nodes) (kept : IsKept a) (ledgers : KeepsLedgers a.bo
     sound = record { versions = versions_kept; none_aside = none; commit = kept.sound.commit; latest = kept.sound.latest; base = kept.sound.base };
     known = seats_known;
     pinned = kept.pinned;
-    records = record { open_now = kept.records.open_now; apart = kept.records.apart };
+    records = record { open_now = kept.records.open_now; apart = kept.records.apart; all = kept.records.all };
     ledger = ledger_kept;
   }
 
@@ -109,13 +114,16 @@ module _ (a : Inside) (q : Nodes) (kept : IsKept a) (ledgers : KeepsLedgers a.bo
     still_open : (k : ℕ) → IsOpened a.books k → IsOpened (reclaimed a q r).books k
     still_open k open_now = opened_stays a.books.versions.seats (record_at a.books.records.records k) (record_at r.records k) open_now (reclaims.each k)
 
+    was_open : (k : ℕ) → IsOpened (reclaimed a q r).books k → IsOpened a.books k
+    was_open k open_now = opened_was a.books.versions.seats (record_at a.books.records.records k) (record_at r.records k) open_now (reclaims.each k)
+
     -- What holds of every store still holds,
     pub kept_reclaimed : aside_count q ≡ 0 → IsKept (reclaimed a q r)
     kept_reclaimed none = record {
       sound = alike_sound (with_pool a q).books r now_same (pool_kept none).sound;
       known = seats_known;
       pinned = kept.pinned;
-      records = record { open_now = λ k m e. still_open m (kept.records.open_now k m e); apart = kept.records.apart };
+      records = record { open_now = λ k m e. still_open m (kept.records.open_now k m e); apart = kept.records.apart; all = λ m h. kept.records.all m (was_open m h) };
       ledger = subst (λ g. IsLedger q a.books.versions (graph_trees q g) (uploads_of (with_pool a q)) (reads_of (with_pool a q)) (dead_at q)) (sym now_same.graphs) ledger_kept;
     }
 

@@ -6,7 +6,7 @@ use Rattle.gs_ledger.specs.Marks.{dead_at}
 use Rattle.gs_reclaim.specs.Reclaims.{CanRetireRoot}
 use Rattle.gs_tree_store.specs.declared.books.Books.{Books}
 use Rattle.gs_tree_store.specs.Books.{graphs_of}
-use Rattle.gs_tree_store.proofs.OpenedLemmas.{put_others}
+use Rattle.gs_tree_store.proofs.OpenedLemmas.{put_lets_go}
 use Rattle.gs_tree_store.proofs.CommitLemmas.{target_retirable, tree_ended, put_made}
 use Rattle.gs_tree_store.proofs.commits.put_version.Goals as goal
 
@@ -28,4 +28,4 @@ returns c =
     let put = c.put.ensures in
     let new : Books = record b { pool = c.end_tree.new.pool; versions = c.end_tree.new.versions; records = c.put.new.self } in
     let ends = tree_ended b t c.version_of-old.result new.pool new.versions new.records c.version_of-old.ensures ended.commit ended.nodes ended.aside ended.ledgers in
-    put_made b new c.args.opened t c.args.upload ends put.now (put.latest ∙ c.commit-commit.ensures) (put_others b new c.args.opened t c.args.upload c.commit-commit.result put) c.requires.sound c.requires.upload.version c.requires.number
+    put_made b new c.args.opened t c.args.upload ends put.now (put.latest ∙ c.commit-commit.ensures) (put_lets_go b new c.args.opened t c.args.upload c.commit-commit.result put) c.requires.sound c.requires.upload.version c.requires.number

@@ -5,7 +5,7 @@ use Rattle.gs_ledger.specs.Marks.{dead_at}
 use Rattle.gs_reclaim.specs.Reclaims.{CanRetireRoot}
 use Rattle.gs_tree_store.specs.declared.books.Books.{Books}
 use Rattle.gs_tree_store.specs.Books.{graphs_of}
-use Rattle.gs_tree_store.proofs.OpenedLemmas.{removed_others}
+use Rattle.gs_tree_store.proofs.OpenedLemmas.{end_same}
 use Rattle.gs_tree_store.proofs.CommitLemmas.{target_retirable, tree_ended, removed}
 use Rattle.gs_tree_store.proofs.commits.remove_version.Goals as goal
 
@@ -27,4 +27,4 @@ returns c =
     let gone = c.remove.ensures in
     let new : Books = record b { pool = c.end_tree.new.pool; versions = c.end_tree.new.versions; records = c.remove.new.self } in
     let ends = tree_ended b t c.version_of-old.result new.pool new.versions new.records c.version_of-old.ensures ended.commit ended.nodes ended.aside ended.ledgers in
-    removed b new (gone.latest ∙ c.commit-commit.ensures) (removed_others b new t c.commit-commit.result gone.ends) c.requires.sound c.requires.number t ends gone.now
+    removed b new (gone.latest ∙ c.commit-commit.ensures) (end_same b new t c.commit-commit.result gone.ends) c.requires.sound c.requires.number t ends gone.now

@@ -7,7 +7,7 @@ use Rattle.gs_tree_store.specs.declared.books.Books.{Books}
 use Rattle.gs_tree_store.specs.declared.books.Seat.TheVariants.{Patching}
 use Rattle.gs_tree_store.specs.Opened.{own_record}
 use Rattle.gs_tree_store.specs.Actions.{Acts}
-use Rattle.gs_tree_store.proofs.OpenedLemmas.{open_stays, others_kept, put_others, record_let_go}
+use Rattle.gs_tree_store.proofs.OpenedLemmas.{open_stays, turn_lets_go, put_lets_go, record_let_go}
 use Rattle.gs_tree_store.proofs.AlikeLemmas.{gives_up_same, with_records}
 use Rattle.gs_tree_store.proofs.WriteLemmas.{has_counts, next_later}
 use Rattle.gs_tree_store.proofs.UndoneLemmas.{with_nodes}
@@ -101,29 +101,29 @@ pub returns-then-not-is_there-clause-records : goal.returns-then-not-is_there-cl
 returns-then-not-is_there-clause-records c =
     let b = c.args.books.now in
     let new : Books = with_records b c.give_up.new.self in
-    record_let_go b new (Patching c.args.target c.args.request c.args.opened) c.args.seat.now c.args.opened refl (ap own_record c.requires.idle) (others_kept b new c.args.opened unused c.give_up.ensures.turns)
+    record_let_go b new (Patching c.args.target c.args.request c.args.opened) c.args.seat.now c.args.opened refl (ap own_record c.requires.idle) (turn_lets_go b new c.args.opened unused refl c.give_up.ensures.turns)
 
 pub returns-in_default-clause-records : goal.returns-in_default-clause-records
 returns-in_default-clause-records c =
     let b = c.args.books.now in
     let seat = Patching c.args.target c.args.request c.args.opened in
-    open_stays b (with_nodes b c.patched-draft.new.dict c.patched-draft.new.pool) seat seat refl (λ n h. h)
+    open_stays b (with_nodes b c.patched-draft.new.dict c.patched-draft.new.pool) seat seat refl (record { stays = λ n h. h; no_more = λ n h. h })
 
 pub returns-in-Full-clause-records : goal.returns-in-Full-clause-records
 returns-in-Full-clause-records c =
     let b = c.args.books.now in
     let new : Books = with_records (with_nodes b c.patched-draft.new.dict c.take_back.new.pool) c.give_up-in-Full.new.self in
-    record_let_go b new (Patching c.args.target c.args.request c.args.opened) c.args.seat.now c.args.opened refl (ap own_record c.requires.idle) (others_kept b new c.args.opened unused c.give_up-in-Full.ensures.turns)
+    record_let_go b new (Patching c.args.target c.args.request c.args.opened) c.args.seat.now c.args.opened refl (ap own_record c.requires.idle) (turn_lets_go b new c.args.opened unused refl c.give_up-in-Full.ensures.turns)
 
 pub returns-in-LastNumber-clause-records : goal.returns-in-LastNumber-clause-records
 returns-in-LastNumber-clause-records c =
     let b = c.args.books.now in
     let seat = Patching c.args.target c.args.request c.args.opened in
-    open_stays b (with_nodes b c.patched-draft.new.dict c.take_back-in-LastNumber.new.pool) seat seat refl (λ n h. h)
+    open_stays b (with_nodes b c.patched-draft.new.dict c.take_back-in-LastNumber.new.pool) seat seat refl (record { stays = λ n h. h; no_more = λ n h. h })
 
 pub returns-in-Granted-clause-records : goal.returns-in-Granted-clause-records
 returns-in-Granted-clause-records c =
     let b = c.args.books.now in
     let new : Books = with_draft b c.patched-draft.new.dict c.keep_draft.new.pool c.keep_draft.new.versions c.put.new.self in
     record_let_go b new (Patching c.args.target c.args.request c.args.opened) c.args.seat.now c.args.opened refl (ap own_record c.requires.idle)
-    (put_others b new c.args.opened c.args.target c.in-Ok.draft (c.commit-birth.result + 1) c.put.ensures)
+    (put_lets_go b new c.args.opened c.args.target c.in-Ok.draft (c.commit-birth.result + 1) c.put.ensures)

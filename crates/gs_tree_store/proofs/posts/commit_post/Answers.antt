@@ -5,7 +5,7 @@ use Rattle.gs_tree_store.specs.declared.books.Books.{Books}
 use Rattle.gs_tree_store.specs.declared.books.Seat.TheVariants.{Writing}
 use Rattle.gs_tree_store.specs.Uploads.{TakesKeys}
 use Rattle.gs_tree_store.specs.Opened.{own_record}
-use Rattle.gs_tree_store.proofs.OpenedLemmas.{open_stays, others_kept, put_others, record_let_go}
+use Rattle.gs_tree_store.proofs.OpenedLemmas.{open_stays, turn_lets_go, put_lets_go, record_let_go}
 use Rattle.gs_tree_store.proofs.AlikeLemmas.{gives_up_same, with_records}
 use Rattle.gs_tree_store.proofs.UndoneLemmas.{with_nodes}
 use Rattle.gs_tree_store.proofs.DraftLemmas.{with_draft}
@@ -80,27 +80,27 @@ put-requires-clause-later c = next_later c.args.books.now (Writing (Post c.args.
 pub returns-in_default-clause-records : goal.returns-in_default-clause-records
 returns-in_default-clause-records c =
     let b = c.args.books.now in
-    open_stays b (with_nodes b b.dict _) (Writing (Post c.args.target) c.args.request c.args.upload c.args.opened) _ (ap own_record c.still_open.ensures.seat) (λ n h. h)
+    open_stays b (with_nodes b b.dict _) (Writing (Post c.args.target) c.args.request c.args.upload c.args.opened) _ (ap own_record c.still_open.ensures.seat) (record { stays = λ n h. h; no_more = λ n h. h })
 
 pub returns-in_default-united-clause-records : goal.returns-in_default-united-clause-records
 returns-in_default-united-clause-records c =
     let b = c.args.books.now in
-    open_stays b (with_nodes b b.dict _) (Writing (Post c.args.target) c.args.request c.args.upload c.args.opened) _ (ap own_record c.still_open-in_default-united.ensures.seat) (λ n h. h)
+    open_stays b (with_nodes b b.dict _) (Writing (Post c.args.target) c.args.request c.args.upload c.args.opened) _ (ap own_record c.still_open-in_default-united.ensures.seat) (record { stays = λ n h. h; no_more = λ n h. h })
 
 pub returns-in-Full-clause-records : goal.returns-in-Full-clause-records
 returns-in-Full-clause-records c =
     let b = c.args.books.now in
     let new : Books = with_records (with_nodes b b.dict c.take_back.new.pool) c.give_up.new.self in
-    record_let_go b new (Writing (Post c.args.target) c.args.request c.args.upload c.args.opened) c.args.seat.now c.args.opened refl (ap own_record c.requires.idle) (others_kept b new c.args.opened unused c.give_up.ensures.turns)
+    record_let_go b new (Writing (Post c.args.target) c.args.request c.args.upload c.args.opened) c.args.seat.now c.args.opened refl (ap own_record c.requires.idle) (turn_lets_go b new c.args.opened unused refl c.give_up.ensures.turns)
 
 pub returns-in-LastNumber-clause-records : goal.returns-in-LastNumber-clause-records
 returns-in-LastNumber-clause-records c =
     let b = c.args.books.now in
-    open_stays b (with_nodes b b.dict _) (Writing (Post c.args.target) c.args.request c.args.upload c.args.opened) _ (ap own_record c.still_open-in-LastNumber.ensures.seat) (λ n h. h)
+    open_stays b (with_nodes b b.dict _) (Writing (Post c.args.target) c.args.request c.args.upload c.args.opened) _ (ap own_record c.still_open-in-LastNumber.ensures.seat) (record { stays = λ n h. h; no_more = λ n h. h })
 
 pub returns-in-Granted-clause-records : goal.returns-in-Granted-clause-records
 returns-in-Granted-clause-records c =
     let b = c.args.books.now in
     let new : Books = with_draft b b.dict c.keep_draft.new.pool c.keep_draft.new.versions c.put.new.self in
     record_let_go b new (Writing (Post c.args.target) c.args.request c.args.upload c.args.opened) c.args.seat.now c.args.opened refl (ap own_record c.requires.idle)
-    (put_others b new c.args.opened c.args.target c.in-Ok-united.draft (c.commit-birth.result + 1) c.put.ensures)
+    (put_lets_go b new c.args.opened c.args.target c.in-Ok-united.draft (c.commit-birth.result + 1) c.put.ensures)

@@ -10,7 +10,7 @@ use Rattle.gs_tree_store.specs.Books.{books_setting, dataset_of}
 use Rattle.gs_tree_store.specs.Opened.{own_record}
 use Rattle.gs_tree_store.specs.Actions.{Acts}
 use Rattle.gs_tree_store.proofs.VerdictLemmas.{is_stored, is_not_stored}
-use Rattle.gs_tree_store.proofs.OpenedLemmas.{open_stays, others_kept, record_let_go}
+use Rattle.gs_tree_store.proofs.OpenedLemmas.{open_stays, turn_lets_go, record_let_go}
 use Rattle.gs_tree_store.proofs.AlikeLemmas.{gives_up_same}
 use Rattle.gs_tree_store.proofs.WriteLemmas.{upload_graph, has_upload, upload_retirable, versions_same, same_use, commit_failed, commit_stored}
 use Rattle.gs_tree_store.proofs.writes.commit_put.Goals as goal
@@ -49,11 +49,11 @@ pub returns-in-Full-clause-records : goal.returns-in-Full-clause-records
 returns-in-Full-clause-records c =
     let b = c.args.books.now in
     let new : Books = record b { pool = c.drop_tree.new.pool; records = c.give_up.new.self } in
-    record_let_go b new (Writing (Put c.args.target) c.args.request c.args.upload c.args.opened) c.args.seat.now c.args.opened refl (ap own_record c.requires.idle) (others_kept b new c.args.opened unused c.give_up.ensures.turns)
+    record_let_go b new (Writing (Put c.args.target) c.args.request c.args.upload c.args.opened) c.args.seat.now c.args.opened refl (ap own_record c.requires.idle) (turn_lets_go b new c.args.opened unused refl c.give_up.ensures.turns)
 
 pub returns-in-LastNumber-clause-records : goal.returns-in-LastNumber-clause-records
-returns-in-LastNumber-clause-records c = open_stays c.args.books.now c.args.books.now (Writing (Put c.args.target) c.args.request c.args.upload c.args.opened) (Writing (Put c.args.target) c.args.request c.args.upload c.args.opened) refl (λ n h. h)
+returns-in-LastNumber-clause-records c = open_stays c.args.books.now c.args.books.now (Writing (Put c.args.target) c.args.request c.args.upload c.args.opened) (Writing (Put c.args.target) c.args.request c.args.upload c.args.opened) refl (record { stays = λ n h. h; no_more = λ n h. h })
 
 pub returns-in-Granted-clause-records : goal.returns-in-Granted-clause-records
 returns-in-Granted-clause-records c =
-    record_let_go c.args.books.now c.put_version.new.books (Writing (Put c.args.target) c.args.request c.args.upload c.args.opened) c.args.seat.now c.args.opened refl (ap own_record c.requires.idle) c.put_version.ensures.others
+    record_let_go c.args.books.now c.put_version.new.books (Writing (Put c.args.target) c.args.request c.args.upload c.args.opened) c.args.seat.now c.args.opened refl (ap own_record c.requires.idle) c.put_version.ensures.lets_go

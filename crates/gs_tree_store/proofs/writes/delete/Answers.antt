@@ -15,4 +15,4 @@ returns-in-Granted-clause-acts c = λ s ready.
     (deleted b c.remove_version.new.books s c.args.target.now c.in-Granted.status c.remove_version.ensures decided.0 decided.1 decided.2 (subst (IsReady b s) c.in-Idle.is ready))
 
 pub returns-in-Granted-clause-records : goal.returns-in-Granted-clause-records
-returns-in-Granted-clause-records c = open_stays c.args.books.now c.remove_version.new.books c.args.seat.now c.args.seat.now refl c.remove_version.ensures.all_open
+returns-in-Granted-clause-records c = open_stays c.args.books.now c.remove_version.new.books c.args.seat.now c.args.seat.now refl c.remove_version.ensures.same_opened

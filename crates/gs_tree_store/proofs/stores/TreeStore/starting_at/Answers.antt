@@ -1,7 +1,6 @@
 use Rattle.std.proofs.Common.{refl, ap, ◌∙◌, []}
 use Rattle.gs_event.specs.Histories.{start_with, view_of}
 use Rattle.gs_records.specs.Records.{Recorded}
-use Rattle.gs_records.specs.Graphs.{current}
 use Rattle.gs_tree_store.specs.declared.stores.TreeStore.TheInside.{Inside}
 use Rattle.gs_tree_store.proofs.FreshLemmas.{IsFresh, fresh_kept, fresh_view, fresh_pins}
 use Rattle.gs_tree_store.proofs.stores.TreeStore.starting_at.Goals as goal
@@ -13,7 +12,7 @@ is_fresh : (c : goal.In_ok-records) → IsFresh (made c) c.args.seats c.args.com
 is_fresh c = record {
   nodes = c.in_ok-pool.ensures.nodes;
   marks = c.in_ok-pool.ensures.marks;
-  graphs = ap (λ (x : Recorded). current x.records) c.in_ok-records.ensures;
+  records = ap (λ (x : Recorded). x.records) c.in_ok-records.ensures;
   latest = ap (λ (x : Recorded). x.latest) c.in_ok-records.ensures;
   versions = c.in_ok-versions.ensures;
   idle = c.in_ok-idle.ensures;
