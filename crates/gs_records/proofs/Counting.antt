@@ -1,5 +1,5 @@
 -- How many names and triples graphs have, as a version comes or goes.
-use Rattle.std.proofs.Common.{◌≡◌, ℕ, ◌+◌, ◌-◌, ◌%◌, ◌^◌, ◌≤◌, Bool, true, false, cond, List, [], ◌∷◌, length, count_by, get_or, Some, None, is_some, refl, sym, ap, subst, ◌∙◌, inl, inr, arith}
+use Rattle.std.proofs.Common.{◌≡◌, ℕ, suc, ◌+◌, ◌-◌, ◌*◌, ◌^◌, ◌<◌, ◌≤◌, Bool, true, false, cond, List, [], ◌∷◌, length, count_by, get_or, Some, None, is_some, refl, sym, ap, subst, ◌∙◌, inl, inr, arith}
 use Rattle.std.specs.List.{sum_by}
 use Rattle.std.specs.FinMap as map
 use Rattle.gs_term.specs.declared.names.Target.{Target}
@@ -17,9 +17,11 @@ use Rattle.gs_records.specs.Records.{Record, free, opened, unused, kept, record_
 use Rattle.gs_records.specs.Graphs.{graphs_where, current, without_version}
 use Rattle.gs_records.specs.Waste.{open_count}
 use Rattle.gs_records.specs.Stored.{is_made, records_of, records_by, Stands}
+use Rattle.gs_records.specs.Versions.{AreVersions}
 use Rattle.gs_records.specs.Counts.{named_one, AreCounted, IsKept}
 use Rattle.gs_records.proofs.Keeping.{length-records_of}
 use Rattle.gs_records.proofs.Found.{not_kept, same_versions, cases_target, version_at-with, version_at-with_other, version_at-without, version_at-without_other}
+use Rattle.gs_records.proofs.Versions.{versions_none}
 
 some_version : (a b : GraphVersion) → Some a ≡ Some b → a ≡ b
 some_version a b e = cc
@@ -73,47 +75,69 @@ name_count-most test (kept e ∷ rs) = go (test e) (name_count-most test rs)
     go true h = omega (arith, h, name_more (graphs_where test rs) e.target e.version)
     go false h = omega (arith, h)
 
+-- and no more triples than the count of each comes to
+triple_more : (g : GraphVersions) (t : Target) (v : GraphVersion) → triple_count (with_version g t v) ≤ triple_count g + v.triples
+triple_more g Default v = omega arith
+triple_more g (Named n) v =
+    let put = sum_by-put name_cmp name_total (λ (x : GraphVersion). x.triples) n v (map.entries g.named) (map.entries_sorted g.named) in
+    omega (arith, put, ap (λ es. sum_by (λ (x : List ℕ × GraphVersion). x.1.triples) es) (map.entries-insert name_total g.named n v))
+
+no_items : {X : Type 0} (xs : List X) → length xs ≡ 0 → xs ≡ []
+no_items [] e = refl
+no_items (x ∷ xs) e = absurd (omega (arith, e))
+
+triple_count-none : triple_count no_versions ≡ 0
+triple_count-none =
+    let none = no_items (map.entries (map.empty {X = GraphVersion} {R = name_cmp})) (sym (map.len-entries map.empty) ∙ map.len-empty name_cmp GraphVersion) in
+    omega (arith, ap (λ es. sum_by (λ (x : List ℕ × GraphVersion). x.1.triples) es) none)
+
+-- each count is below 2^64
+pub triple_count-most : (test : Entry → Bool) (rs : List Record) → AreVersions rs → triple_count (graphs_where test rs) ≤ length rs * 18446744073709551615
+triple_count-most test [] h = omega (arith, triple_count-none)
+triple_count-most test (free ∷ rs) h = omega (arith, triple_count-most test rs (λ n. h (suc n)))
+triple_count-most test (opened ∷ rs) h = omega (arith, triple_count-most test rs (λ n. h (suc n)))
+triple_count-most test (unused ∷ rs) h = omega (arith, triple_count-most test rs (λ n. h (suc n)))
+triple_count-most test (kept e ∷ rs) h = go (test e) (triple_count-most test rs (λ n. h (suc n))) (h 0 e refl).small
+  where
+    go : (b : Bool) → triple_count (graphs_where test rs) ≤ length rs * 18446744073709551615 → e.version.triples < 2 ^ 64 → triple_count (cond b (with_version (graphs_where test rs) e.target e.version) (graphs_where test rs)) ≤ length (kept e ∷ rs) * 18446744073709551615
+    go true rest small = omega (arith, rest, small, triple_more (graphs_where test rs) e.target e.version)
+    go false rest small = omega (arith, rest)
+
 -- the counts stay where the graphs do
 pub counted_same : (old new : List Record) (names triples : ℕ) → current new ≡ current old → AreCounted old names triples → AreCounted new names triples
 counted_same old new names triples same c = record {
   names_are = c.names_are ∙ ap name_count (sym same);
-  triples_are = c.triples_are ∙ ap (λ g. triple_count g % 2 ^ 64) (sym same);
+  triples_are = c.triples_are ∙ ap triple_count (sym same);
 }
 
 -- one more
-pub counted_more : (old new : List Record) (t : Target) (v : GraphVersion) (names triples next : ℕ) → version_at (current old) t ≡ version_at no_versions t → current new ≡ with_version (current old) t v → AreCounted old names triples → next ≡ (triples + v.triples) % 2 ^ 64 → AreCounted new (names + named_one t) next
-counted_more old new t v names triples next none now c is = record {
-  names_are = omega (arith, c.names_are, name_count-with (current old) t v none, ap name_count now);
-  triples_are = omega (arith, is, c.triples_are, triple_count-with (current old) t v none, ap triple_count now);
+pub counted_more : (old new : List Record) (t : Target) (v : GraphVersion) (names triples name more : ℕ) → version_at (current old) t ≡ version_at no_versions t → current new ≡ with_version (current old) t v → AreCounted old names triples → name ≡ named_one t → more ≡ v.triples → AreCounted new (names + name) (triples + more)
+counted_more old new t v names triples name more none now c name_is more_is = record {
+  names_are = omega (arith, name_is, c.names_are, name_count-with (current old) t v none, ap name_count now);
+  triples_are = omega (arith, more_is, c.triples_are, triple_count-with (current old) t v none, ap triple_count now);
 }
 
 -- one fewer
-pub counted_fewer : (old new : List Record) (t : Target) (v : GraphVersion) (names triples next : ℕ) → version_at (current old) t ≡ Some v → current new ≡ without_version (current old) t → AreCounted old names triples → v.triples ≤ 2 ^ 64 → next ≡ (triples + (2 ^ 64 - v.triples)) % 2 ^ 64 → AreCounted new (names - named_one t) next
-counted_fewer old new t v names triples next found now c small is = record {
-  names_are = omega (arith, c.names_are, name_count-without (current old) t v found, ap name_count now);
-  triples_are = omega (arith, is, c.triples_are, triple_count-without (current old) t v found, ap triple_count now, small);
+pub counted_fewer : (old new : List Record) (t : Target) (v : GraphVersion) (names triples name gone : ℕ) → version_at (current old) t ≡ Some v → current new ≡ without_version (current old) t → AreCounted old names triples → name ≡ named_one t → gone ≡ v.triples → AreCounted new (names - name) (triples - gone)
+counted_fewer old new t v names triples name gone found now c name_is gone_is = record {
+  names_are = omega (arith, name_is, c.names_are, name_count-without (current old) t v found, ap name_count now);
+  triples_are = omega (arith, gone_is, c.triples_are, triple_count-without (current old) t v found, ap triple_count now);
 }
 
 pub names_enough : (old : List Record) (t : Target) (v : GraphVersion) (names triples : ℕ) → version_at (current old) t ≡ Some v → AreCounted old names triples → named_one t ≤ names
 names_enough old t v names triples found c = omega (arith, c.names_are, name_count-without (current old) t v found)
+
+pub triples_enough : (old : List Record) (t : Target) (v : GraphVersion) (names triples : ℕ) → version_at (current old) t ≡ Some v → AreCounted old names triples → v.triples ≤ triples
+triples_enough old t v names triples found c = omega (arith, c.triples_are, triple_count-without (current old) t v found)
 
 -- a graph has one name at most
 pub one_most : (t : Target) → named_one t ≤ 1
 one_most Default = omega arith
 one_most (Named n) = omega arith
 
-no_items : {X : Type 0} (xs : List X) → length xs ≡ 0 → xs ≡ []
-no_items [] e = refl
-no_items (x ∷ xs) e = absurd (omega (arith, e))
-
 -- no graph has a name, and none has a triple
 counted_none : AreCounted [] 0 0
-counted_none =
-    let none = no_items (map.entries (map.empty {X = GraphVersion} {R = name_cmp})) (sym (map.len-entries map.empty) ∙ map.len-empty name_cmp GraphVersion) in
-    record {
-      names_are = sym (map.len-empty name_cmp GraphVersion);
-      triples_are = omega (arith, ap (λ es. sum_by (λ (x : List ℕ × GraphVersion). x.1.triples) es) none);
-    }
+counted_none = record { names_are = sym (map.len-empty name_cmp GraphVersion); triples_are = sym triple_count-none }
 
 -- an index and a pool with nothing
 pub new_kept : (x : Indexed) (p : Nodes) (commit : ℕ) → x ≡ record { entries = []; listed = []; spare = 0 } → p.nodes ≡ [] → p.marks ≡ [] → IsKept x p 0 commit 0 0
@@ -131,9 +155,14 @@ new_kept x p commit is nodes marks =
         few = omega (arith, ap (λ (z : Indexed). length z.entries) is);
       };
       none_aside = ap (count_by is_aside) marks;
+      versions = versions_none (records_by x p) (λ n. ap (λ rs. record_at rs n) none);
       counted = subst (λ rs. AreCounted rs 0 0) (sym none) counted_none;
     }
 
 -- there are no more names than numbers
 pub names_few : (x : Indexed) (p : Nodes) (opens latest names triples : ℕ) → IsKept x p opens latest names triples → names ≤ last_node + 1
 names_few x p opens latest names triples k = omega (arith, k.counted.names_are, name_count-most is_current (records_by x p), length-records_of x.entries p.nodes p.marks, k.stored.few)
+
+-- so the triples are far below 2^128
+pub triples_few : (x : Indexed) (p : Nodes) (opens latest names triples : ℕ) → IsKept x p opens latest names triples → triples < 2 ^ 96
+triples_few x p opens latest names triples k = omega (arith, k.counted.triples_are, triple_count-most is_current (records_by x p) k.versions, length-records_of x.entries p.nodes p.marks, k.stored.few)

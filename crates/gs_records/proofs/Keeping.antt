@@ -86,7 +86,7 @@ module _ (x : Indexed) (p q : Nodes) (opens latest n : ℕ) (s : IsStored x p op
         entries = λ m ne. refl;
       }
 
-  given_turns : Turns (records_by x p) (records_by x q) n unused
+  pub given_turns : Turns (records_by x p) (records_by x q) n unused
   given_turns = turns x x p q opens (opens - 1) latest n unused s gives_changes
 
   given_open : open_count (records_by x q) + 1 ≡ open_count (records_by x p)

@@ -21,4 +21,5 @@ pub mod Blanking
 pub mod Dropping
 pub mod Sweeping
 pub mod Finishing
+pub mod Versions
 pub mod Counting

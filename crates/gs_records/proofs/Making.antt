@@ -62,7 +62,7 @@ module _ (x : Indexed) (p : Nodes) (opens latest n : ℕ) (s : IsStored x p open
       entries = entry_other;
     }
 
-    made_turns : Turns (records_by x p) (records_by y q) n (kept (made_entry t v latest))
+    pub made_turns : Turns (records_by x p) (records_by y q) n (kept (made_entry t v latest))
     made_turns = turns_stored x y p q n (kept (made_entry t v latest)) s.many s.stand made_changes
 
     lists_made : (m : ℕ) → is_listed m y.listed ≡ is_made (entry_at y.entries m)

@@ -54,7 +54,7 @@ module _ (x y : Indexed) (p q r : Nodes) (opens latest n : ℕ) (node : Node) (s
     entries = λ m ne. alike.entries m;
   }
 
-  opened_turns : Turns (records_by x p) (records_by y r) n opened
+  pub opened_turns : Turns (records_by x p) (records_by y r) n opened
   opened_turns = turns x y p r opens (opens + 1) latest n opened s opens_changes
 
   pub opened_stored : IsStored y r (opens + 1) latest

@@ -7,6 +7,7 @@ pub mod Stored
 pub mod Calls
 pub mod Reclaims
 pub mod Sweeps
+pub mod Versions
 pub mod Counts
 pub mod Order
 pub mod Laws

@@ -1,5 +1,5 @@
 //! Records in the order of their graphs, as a version of the dataset has them.
-ghost use Rattle.std.specs.Prelude.{◌≡◌, ◌&&◌, ◌<◌, ◌%◌, ◌^◌, true, IfOk, IfErr, IfSome};
+ghost use Rattle.std.specs.Prelude.{◌≡◌, ◌&&◌, ◌<◌, true, IfOk, IfErr, IfSome};
 ghost use Rattle.std.specs.List.{filter};
 ghost use Rattle.gs_index.specs.Indexes.{is_listed};
 ghost use Rattle.gs_records.specs.Records.{kept, record_at, is_kept, outlives as outlives_death, has_at as has_entry_at};
@@ -71,9 +71,9 @@ impl Records {
     }
 
     /// How many triples all graphs of now have, the default graph too, by the count of each version. It is
-    /// kept, and not summed up. A `u64` holds that of any store; of a greater sum it is the rest.
-    pub fn triples(&self) -> u64
-        ensures { result ≡ triple_count (current self.now.records) % 2 ^ 64 }
+    /// kept, and not summed up.
+    pub fn triples(&self) -> u128
+        ensures { result ≡ triple_count (current self.now.records) }
     {
         self.triples
     }

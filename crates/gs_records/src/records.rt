@@ -34,9 +34,10 @@ pub struct Records {
     opened: usize,
     // The number of the last commit.
     pub(crate) latest: u64,
-    // How many names there are now, and how many triples, of which a multiple of 2^64 may be left out.
+    // How many names there are now, and how many triples all graphs have. A `u64` holds that of any store,
+    // but a caller may give any counts.
     pub(crate) names: usize,
-    pub(crate) triples: u64,
+    pub(crate) triples: u128,
 }
 
 impl Model for Records {
@@ -143,7 +144,7 @@ impl Records {
         };
         let gone = self.index.entry(number).version.triples;
         self.names -= name_of(target);
-        self.triples = self.triples.wrapping_sub(gone);
+        self.triples -= u128::from(gone);
         self.index.end(number, commit);
         self.pool.retire_one(number, commit);
         self.latest = commit;
@@ -157,7 +158,7 @@ impl Records {
         ensures { Places self.old self.new number target version }
     {
         self.names += name_of(&target);
-        self.triples = self.triples.wrapping_add(version.triples);
+        self.triples += u128::from(version.triples);
         self.pool.set(number, node_of(self.latest));
         let entry = Entry {
             target,

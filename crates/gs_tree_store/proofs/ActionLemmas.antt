@@ -20,6 +20,7 @@ use Rattle.gs_keys.proofs.KeyLemmas.{triples_of_keys}
 use Rattle.gs_staging.proofs.KeyLemmas.{still_grows}
 use Rattle.gs_catalogue.specs.declared.versions.GraphVersion.{GraphVersion}
 use Rattle.gs_versions.specs.Pins.{Pins, with_pin}
+use Rattle.gs_records.specs.Records.{Recorded}
 use Rattle.gs_reclaim.specs.Reclaims.{CanRetireRoot}
 use Rattle.gs_ledger.specs.Marks.{dead_at, waste_at}
 use Rattle.gs_ledger.specs.Ledger.{IsLedger}
@@ -32,18 +33,19 @@ use Rattle.gs_datasets.specs.Standing.{all_versions, graph_trees, IsVersion}
 use Rattle.gs_tree_store.specs.declared.books.Books.{Books}
 use Rattle.gs_tree_store.specs.declared.books.Seat.{Seat}
 use Rattle.gs_tree_store.specs.declared.books.Seat.TheVariants.{Idle, Writing, Patching, Reading}
-use Rattle.gs_tree_store.specs.Books.{IsReady}
+use Rattle.gs_tree_store.specs.Books.{graphs_of, IsReady}
 use Rattle.gs_tree_store.specs.Actions.{Acts}
+use Rattle.gs_tree_store.proofs.AlikeLemmas.{SameNow, acts_alike}
 use Rattle.gs_tree_store.proofs.SeatLemmas.{still_unpinned, same_totals, same_graphs, ledger_stays, read_ends}
 
 -- the tree of an upload can be retired
-pub upload_retirable : (b : Books) (s : ℕ) (seat : Seat) (k : UploadKind) (r : ℕ) (v : GraphVersion) → seat ≡ Writing k r v → IsReady b s seat → CanRetireRoot b.pool v.root
-upload_retirable b s seat k r v writes =
+pub upload_retirable : (b : Books) (s : ℕ) (seat : Seat) (k : UploadKind) (r : ℕ) (v : GraphVersion) (o : ℕ) → seat ≡ Writing k r v o → IsReady b s seat → CanRetireRoot b.pool v.root
+upload_retirable b s seat k r v o writes =
     subst (λ x. IsReady b s x → CanRetireRoot b.pool v.root) (sym writes)
-    (λ (ready : IsReady b s (Writing k r v)).
+    (λ (ready : IsReady b s (Writing k r v o)).
     let some = ready.ledger in
     let tree = tree_at b.pool v.root in
-    let all = ledger_retirable b.pool b.versions (graph_trees b.pool b.catalogue.graphs) (tree ∷ some.uploads) some.reads (dead_at b.pool) some.ledger.ledger in
+    let all = ledger_retirable b.pool b.versions (graph_trees b.pool (graphs_of b)) (tree ∷ some.uploads) some.reads (dead_at b.pool) some.ledger.ledger in
     subst (CanRetireRoot b.pool) ready.known.root_is (All-head (IsRetirable b.pool) tree some.uploads all.staged).root)
 
 -- a version's graph has a triple for each key
@@ -53,12 +55,12 @@ version_size terms p v is =
     ap length (triples_of_keys terms ks is.keyed.rising is.keyed.given) ∙ length-map ks (triple_at terms)
 
 -- an upload is given up
-upload_dropped : (b : Books) (s : ℕ) (k : UploadKind) (r : ℕ) (v : GraphVersion) (q : Nodes) → q.nodes ≡ b.pool.nodes → aside_count q ≡ aside_count b.pool → DropsAll b.pool q v.root → IsReady b s (Writing k r v)
-    → Acts b (record b { pool = q }) s (Writing k r v) Idle Cancel Cancelled
-upload_dropped b s k r v q nodes aside drops ready =
+upload_dropped : (b : Books) (s : ℕ) (k : UploadKind) (r : ℕ) (v : GraphVersion) (o : ℕ) (q : Nodes) → q.nodes ≡ b.pool.nodes → aside_count q ≡ aside_count b.pool → DropsAll b.pool q v.root → IsReady b s (Writing k r v o)
+    → Acts b (record b { pool = q }) s (Writing k r v o) Idle Cancel Cancelled
+upload_dropped b s k r v o q nodes aside drops ready =
     let p = b.pool in
-    let gs = graph_trees p b.catalogue.graphs in
-    let vs = all_versions b.catalogue.graphs in
+    let gs = graph_trees p (graphs_of b) in
+    let vs = all_versions (graphs_of b) in
     let grows = still_grows b.dict b.dict refl in
     let means = tree_at_same p q (λ x. ap (λ ns. slice_index_or ns x None) nodes) in
     let kept = same_graphs b b.dict q b.versions ready.sound grows (λ j w h. means (get_or vs j w).root) (aside ∙ ready.sound.none_aside) refl in
@@ -67,7 +69,7 @@ upload_dropped b s k r v q nodes aside drops ready =
       fits = tt;
       totals = same_totals b (record b { pool = q }) refl kept.dataset refl refl;
       seat = refl;
-      pins = still_unpinned b s (Writing k r v) refl ready;
+      pins = still_unpinned b s (Writing k r v o) refl ready;
       sound = kept.sound;
       known = tt;
       grows = grows;
@@ -81,19 +83,20 @@ upload_dropped b s k r v q nodes aside drops ready =
       uses = ap (λ ns. count_by is_some ns) nodes;
     }
 
-pub upload_cancelled : (b c : Books) (s : ℕ) (seat : Seat) (k : UploadKind) (r : ℕ) (v : GraphVersion) (q : Nodes) → seat ≡ Writing k r v → c ≡ record b { pool = q } → q.nodes ≡ b.pool.nodes → aside_count q ≡ aside_count b.pool → DropsAll b.pool q v.root → IsReady b s seat
+pub upload_cancelled : (b c : Books) (s : ℕ) (seat : Seat) (k : UploadKind) (r : ℕ) (v : GraphVersion) (o : ℕ) (q : Nodes) (x : Recorded) → seat ≡ Writing k r v o → c ≡ record b { pool = q; records = x } → SameNow b.records x → q.nodes ≡ b.pool.nodes → aside_count q ≡ aside_count b.pool → DropsAll b.pool q v.root → IsReady b s seat
     → Acts b c s seat Idle Cancel Cancelled
-upload_cancelled b c s seat k r v q writes is nodes aside drops =
-    subst (λ x. IsReady b s x → Acts b c s x Idle Cancel Cancelled) (sym writes)
-    (λ ready. subst (λ y. Acts b y s (Writing k r v) Idle Cancel Cancelled) (sym is) (upload_dropped b s k r v q nodes aside drops ready))
+upload_cancelled b c s seat k r v o q x writes is same nodes aside drops =
+    subst (λ y. IsReady b s y → Acts b c s y Idle Cancel Cancelled) (sym writes)
+    (λ ready. subst (λ y. Acts b y s (Writing k r v o) Idle Cancel Cancelled) (sym is)
+    (acts_alike (record b { pool = q }) x same b s (Writing k r v o) Idle Cancel Cancelled (upload_dropped b s k r v o q nodes aside drops ready)))
 
 -- a patch is given up
-patch_dropped : (b : Books) (s : ℕ) (t : Target) (r : ℕ) → IsReady b s (Patching t r) → Acts b b s (Patching t r) Idle Cancel Cancelled
-patch_dropped b s t r ready = record {
+patch_dropped : (b : Books) (s : ℕ) (t : Target) (r o : ℕ) → IsReady b s (Patching t r o) → Acts b b s (Patching t r o) Idle Cancel Cancelled
+patch_dropped b s t r o ready = record {
   fits = tt;
   totals = same_totals b b refl refl refl refl;
   seat = refl;
-  pins = still_unpinned b s (Patching t r) refl ready;
+  pins = still_unpinned b s (Patching t r o) refl ready;
   sound = ready.sound;
   known = tt;
   grows = still_grows b.dict b.dict refl;
@@ -101,10 +104,10 @@ patch_dropped b s t r ready = record {
   uses = refl;
 }
 
-pub patch_cancelled : (b c : Books) (s : ℕ) (seat : Seat) (t : Target) (r : ℕ) → seat ≡ Patching t r → c ≡ b → IsReady b s seat → Acts b c s seat Idle Cancel Cancelled
-patch_cancelled b c s seat t r patches is =
-    subst (λ x. IsReady b s x → Acts b c s x Idle Cancel Cancelled) (sym patches)
-    (λ ready. subst (λ y. Acts b y s (Patching t r) Idle Cancel Cancelled) (sym is) (patch_dropped b s t r ready))
+pub patch_cancelled : (b c : Books) (s : ℕ) (seat : Seat) (t : Target) (r o : ℕ) (x : Recorded) → seat ≡ Patching t r o → c ≡ record b { records = x } → SameNow b.records x → IsReady b s seat → Acts b c s seat Idle Cancel Cancelled
+patch_cancelled b c s seat t r o x patches is same =
+    subst (λ y. IsReady b s y → Acts b c s y Idle Cancel Cancelled) (sym patches)
+    (λ ready. subst (λ y. Acts b y s (Patching t r o) Idle Cancel Cancelled) (sym is) (acts_alike b x same b s (Patching t r o) Idle Cancel Cancelled (patch_dropped b s t r o ready)))
 
 -- a read is given up
 read_dropped : (b : Books) (s : ℕ) (root : Option ℕ) (last : Option Key) → IsReady b s (Reading root last) → Acts b (record b { versions = with_pin b.versions s None }) s (Reading root last) Idle Cancel Cancelled
@@ -113,7 +116,7 @@ read_dropped b s root last ready = record {
   totals = same_totals b (record b { versions = with_pin b.versions s None }) refl refl refl refl;
   seat = refl;
   pins = refl;
-  sound = record { versions = ready.sound.versions; none_aside = ready.sound.none_aside; commit = ready.sound.commit; base = ready.sound.base };
+  sound = record { versions = ready.sound.versions; none_aside = ready.sound.none_aside; commit = ready.sound.commit; latest = ready.sound.latest; base = ready.sound.base };
   known = tt;
   grows = still_grows b.dict b.dict refl;
   ledgers = λ us rs l. record { ledger = read_ends b s root last us rs ready.there l; waste = refl };

@@ -17,6 +17,7 @@ use Rattle.gs_datasets.specs.Standing.{all_versions, other_trees, IsKeyed, IsVer
 use Rattle.gs_datasets.proofs.Keeping.{ledger_has_sets}
 use Rattle.gs_datasets.proofs.Parting.{all_target}
 use Rattle.gs_tree_store.specs.declared.books.Books.{Books}
+use Rattle.gs_tree_store.specs.Books.{graphs_of}
 use Rattle.gs_tree_store.specs.Verdicts.{HasCounts}
 use Rattle.gs_tree_store.specs.Drafts.{CanDraft}
 use Rattle.gs_tree_store.proofs.CommitLemmas.{version_or, apart_ledger, empty_is}
@@ -29,16 +30,16 @@ target_version terms p g t all = by_version (version_at g t) refl
     by_version None is = empty_is terms p
     by_version (Some v) is = all_target (IsVersion terms p) g t v is all
 
-can_here : (b : Books) (t : Target) → HasCounts b → CanDraft (b.versions.commit + 1) b.dict.terms b.pool (version_or b.catalogue.graphs t)
+can_here : (b : Books) (t : Target) → HasCounts b → CanDraft (b.versions.commit + 1) b.dict.terms b.pool (version_or (graphs_of b) t)
 can_here b t has =
     let terms = b.dict.terms in
     let p = b.pool in
     let commit = b.versions.commit in
-    let tree = tree_at p (version_or b.catalogue.graphs t).root in
-    let others = other_trees p b.catalogue.graphs t in
+    let tree = tree_at p (version_or (graphs_of b) t).root in
+    let others = other_trees p (graphs_of b) t in
     let some = has.ledger in
-    let is = target_version terms p b.catalogue.graphs t has.sound.versions in
-    let here : IsLedger p b.versions (tree ∷ others) some.uploads some.reads (dead_at p) = apart_ledger p b.versions b.catalogue.graphs t some.uploads some.reads (dead_at p) some.ledger in
+    let is = target_version terms p (graphs_of b) t has.sound.versions in
+    let here : IsLedger p b.versions (tree ∷ others) some.uploads some.reads (dead_at p) = apart_ledger p b.versions (graphs_of b) t some.uploads some.reads (dead_at p) some.ledger in
     let sets = ledger_has_sets terms p b.versions (tree ∷ others) some.uploads some.reads (dead_at p) here in
     let set : IsSetAt (key_cmp terms) p (root_of tree) = All-head (λ (u : Tree). IsKeyed terms u → IsSetAt (key_cmp terms) p (root_of u)) tree others sets.current is.keyed in
     let stands : IsTreeOf p commit tree = All-head (IsTreeOf p commit) tree others here.current in
@@ -50,6 +51,6 @@ can_here b t has =
     }
 
 -- a draft of a target's graph can be made by the next commit
-pub can_draft : (b : Books) (t : Target) (old : GraphVersion) (birth : ℕ) → old ≡ version_or b.catalogue.graphs t → birth ≡ b.versions.commit + 1 → HasCounts b → CanDraft birth b.dict.terms b.pool old
+pub can_draft : (b : Books) (t : Target) (old : GraphVersion) (birth : ℕ) → old ≡ version_or (graphs_of b) t → birth ≡ b.versions.commit + 1 → HasCounts b → CanDraft birth b.dict.terms b.pool old
 can_draft b t old birth is born has =
-    subst (λ v. CanDraft birth b.dict.terms b.pool v) (sym is) (subst (λ n. CanDraft n b.dict.terms b.pool (version_or b.catalogue.graphs t)) (sym born) (can_here b t has))
+    subst (λ v. CanDraft birth b.dict.terms b.pool v) (sym is) (subst (λ n. CanDraft n b.dict.terms b.pool (version_or (graphs_of b) t)) (sym born) (can_here b t has))

@@ -1,5 +1,5 @@
--- What the end of a commit makes of the books, beside a catalogue that is written.
-use Rattle.std.proofs.Common.{◌≡◌, ◌+◌, ◌<◌, ◌≤◌, ℕ, true, List, [], ◌∷◌, ◌++◌, length, get_or, Option, Some, None, option_map, unwrap_or, string_bytes, refl, sym, ap, subst, ◌∙◌, arith, append-nil}
+-- What the end of a commit makes of the books, beside records that are written.
+use Rattle.std.proofs.Common.{◌≡◌, ◌+◌, ◌<◌, ℕ, true, List, [], ◌∷◌, ◌++◌, length, get_or, Option, Some, None, option_map, unwrap_or, string_bytes, refl, sym, ap, subst, ◌∙◌, arith, append-nil}
 use Rattle.std.specs.List.{All}
 use Rattle.std.proofs.lemmas.List.Elements.{All-head, Contains-get_or}
 use Rattle.gs_model.specs.Terms.{Term}
@@ -14,7 +14,9 @@ use Rattle.gs_pool.specs.Pool.{Nodes, aside_count}
 use Rattle.gs_tree.specs.Tree.{Tree, leaf, root_of, keys, tree_at}
 use Rattle.gs_keys.specs.Roots.{graph_at}
 use Rattle.gs_catalogue.specs.declared.versions.GraphVersion.{GraphVersion}
-use Rattle.gs_catalogue.specs.Catalogues.{GraphVersions, Catalogued, empty_version, version_at, with_version, without_name, room_wanted, after_set, after_take}
+use Rattle.gs_catalogue.specs.Catalogues.{GraphVersions, empty_version, version_at, with_version, without_name}
+use Rattle.gs_records.specs.Records.{Recorded}
+use Rattle.gs_records.specs.Graphs.{without_version}
 use Rattle.gs_versions.specs.Pins.{Pins, at_commit}
 use Rattle.gs_ledger.specs.Entries.{Dead}
 use Rattle.gs_ledger.specs.Marks.{dead_at, waste_at}
@@ -34,7 +36,8 @@ use Rattle.gs_commit.proofs.DeadLemmas.{tree_at_same}
 use Rattle.gs_commit.proofs.RootLemmas.{ledger_retirable}
 use Rattle.gs_commit.proofs.LawLemmas.{leaf_upload}
 use Rattle.gs_tree_store.specs.declared.books.Books.{Books}
-use Rattle.gs_tree_store.specs.Books.{dataset_of, IsSound, HasLedger}
+use Rattle.gs_tree_store.specs.Books.{graphs_of, dataset_of, IsSound, HasLedger}
+use Rattle.gs_tree_store.specs.Opened.{LetsGo, SameOpened}
 use Rattle.gs_tree_store.specs.Writes.{KeepsBooks, Ends, Puts, Removes}
 
 -- the version of a target, an empty one where it is missing
@@ -59,7 +62,7 @@ apart_ledger p v g t us rs ds l =
     subst (λ x. IsLedger p v (x ∷ other_trees p g t) us rs ds) (sym (tree_of_target p g t))
     (reorder_ledger p v (graph_trees p g) (target_tree p g t ∷ other_trees p g t) us us rs ds ds (one_is_apart p g t) (same_trees us) (same_dead ds) l)
 
--- The versions of a catalogue, and a target.
+-- The versions of all graphs, and a target.
 module _ (terms : List Term) (p : Nodes) (g : GraphVersions) (t : Target) (all : All (IsVersion terms p) (all_versions g)) where
   root_if : (o : Option GraphVersion) → version_at g t ≡ o → root_of (tree_at p (unwrap_or o empty_version).root) ≡ (unwrap_or o empty_version).root
   root_if None is = refl
@@ -108,9 +111,9 @@ pub record EndsTree (old new : Books) (root : Option ℕ) : Type 0 where
   pub aside : aside_count new.pool ≡ aside_count old.pool
   pub ledgers : HandsOverAll old.versions new.versions old.pool new.pool root
 
--- it makes this of them, beside any catalogue
-pub tree_ended : (b : Books) (t : Target) (old : GraphVersion) (q : Nodes) (w : Pins) (c : Catalogued) → old ≡ version_or b.catalogue.graphs t → w ≡ at_commit b.versions (b.versions.commit + 1) → q.nodes ≡ b.pool.nodes → aside_count q ≡ aside_count b.pool
-    → HandsOverAll b.versions w b.pool q old.root → EndsTree b (record b { pool = q; versions = w; catalogue = c }) (version_or b.catalogue.graphs t).root
+-- it makes this of them, beside any records
+pub tree_ended : (b : Books) (t : Target) (old : GraphVersion) (q : Nodes) (w : Pins) (c : Recorded) → old ≡ version_or (graphs_of b) t → w ≡ at_commit b.versions (b.versions.commit + 1) → q.nodes ≡ b.pool.nodes → aside_count q ≡ aside_count b.pool
+    → HandsOverAll b.versions w b.pool q old.root → EndsTree b (record b { pool = q; versions = w; records = c }) (version_or (graphs_of b) t).root
 tree_ended b t old q w c is commit nodes aside ledgers = record {
   base = refl;
   limits = refl;
@@ -135,90 +138,109 @@ kept_books old new root e = record {
 }
 
 -- The books before a commit, and after it, where the graphs are g.
-module _ (old new : Books) (t : Target) (e : EndsTree old new (version_or old.catalogue.graphs t).root) (sound : IsSound old) (number : old.versions.commit < last_number) (g : GraphVersions) (written : new.catalogue.graphs ≡ g) where
-  others_same : AreSameIn old.pool new.pool (other_versions old.catalogue.graphs t)
-  others_same = λ k d h. roots_same old.pool new.pool e.nodes (get_or (other_versions old.catalogue.graphs t) k d).root
+module _ (old new : Books) (t : Target) (e : EndsTree old new (version_or (graphs_of old) t).root) (sound : IsSound old) (number : old.versions.commit < last_number) (g : GraphVersions) (written : graphs_of new ≡ g)
+    (latest : new.records.latest ≡ new.versions.commit) where
+  others_same : AreSameIn old.pool new.pool (other_versions (graphs_of old) t)
+  others_same = λ k d h. roots_same old.pool new.pool e.nodes (get_or (other_versions (graphs_of old) t) k d).root
 
   dataset_now : dataset_of new ≡ dataset_at old.dict.terms new.pool g
-  dataset_now = ap (λ d. dataset_at d.terms new.pool new.catalogue.graphs) e.dict ∙ ap (dataset_at old.dict.terms new.pool) written
+  dataset_now = ap (λ d. dataset_at d.terms new.pool (graphs_of new)) e.dict ∙ ap (dataset_at old.dict.terms new.pool) written
 
   sound_now : All (IsVersion old.dict.terms new.pool) (all_versions g) → IsSound new
   sound_now all = record {
-    versions = subst (λ d. All (IsVersion d.terms new.pool) (all_versions new.catalogue.graphs)) (sym e.dict) (subst (λ h. All (IsVersion old.dict.terms new.pool) (all_versions h)) (sym written) all);
+    versions = subst (λ d. All (IsVersion d.terms new.pool) (all_versions (graphs_of new))) (sym e.dict) (subst (λ h. All (IsVersion old.dict.terms new.pool) (all_versions h)) (sym written) all);
     none_aside = e.aside ∙ sound.none_aside;
     commit = omega (arith, ap (λ (v : Pins). v.commit) e.commit, number);
+    latest = latest;
     base = subst (λ x. is_base x ≡ true) (sym e.base) sound.base;
   }
 
   -- the tree of the upload is that of a graph now
-  ends_now : (tree : Tree) → AreSameTrees (tree ∷ other_trees old.pool old.catalogue.graphs t) (graph_trees new.pool g) → (us : List Tree) (rs : List (List Tree)) → HasLedger old (tree ∷ us) rs → Ends old new (size_at (dataset_of old) t) us rs
+  ends_now : (tree : Tree) → AreSameTrees (tree ∷ other_trees old.pool (graphs_of old) t) (graph_trees new.pool g) → (us : List Tree) (rs : List (List Tree)) → HasLedger old (tree ∷ us) rs → Ends old new (size_at (dataset_of old) t) us rs
   ends_now tree trees us rs l =
       let p = old.pool in
       let q = new.pool in
-      let root = (version_or old.catalogue.graphs t).root in
-      let others = other_trees p old.catalogue.graphs t in
-      let h : HandsOver old.versions new.versions p q (tree_at p root) tree others us rs = e.ledgers tree others us rs (apart_ledger p old.versions old.catalogue.graphs t (tree ∷ us) rs (dead_at p) l) in
+      let root = (version_or (graphs_of old) t).root in
+      let others = other_trees p (graphs_of old) t in
+      let h : HandsOver old.versions new.versions p q (tree_at p root) tree others us rs = e.ledgers tree others us rs (apart_ledger p old.versions (graphs_of old) t (tree ∷ us) rs (dead_at p) l) in
       record {
         ledger = subst (λ h. IsLedger q new.versions (graph_trees q h) us rs (dead_at q)) (sym written)
             (reorder_ledger q new.versions (tree ∷ others) (graph_trees q g) us us rs (dead_at q) (dead_at q) trees (same_trees us) (same_dead (dead_at q)) h.ledger);
-        waste = subst (λ n. Joins (EndsAt (old.versions.commit + 1)) n (waste_at p) (waste_at q)) (keys_of_target old.dict.terms p old.catalogue.graphs t sound.versions) h.waste;
+        waste = subst (λ n. Joins (EndsAt (old.versions.commit + 1)) n (waste_at p) (waste_at q)) (keys_of_target old.dict.terms p (graphs_of old) t sound.versions) h.waste;
       }
 
--- the target has the upload's version
-pub put_made : (old new : Books) (t : Target) (u : GraphVersion) → EndsTree old new (version_or old.catalogue.graphs t).root → new.catalogue ≡ after_set old.catalogue t u → IsSound old → IsVersion old.dict.terms old.pool u → room_wanted old.catalogue.graphs t ≤ old.catalogue.spare → old.versions.commit < last_number → Puts old new t u
-put_made old new t u e written sound is room number =
+-- the target has the version, and no upload has its tree
+record Sets (old new : Books) (t : Target) (u : GraphVersion) : Type 0 where
+  pub dataset : dataset_of new ≡ with_graph (dataset_of old) t (graph_at old.dict.terms old.pool u.root)
+  pub kept : KeepsBooks old new
+  pub sound : IsSound new
+  pub ledgers : (us : List Tree) (rs : List (List Tree)) → HasLedger old (tree_at old.pool u.root ∷ us) rs → Ends old new (size_at (dataset_of old) t) us rs
+
+version_set : (old new : Books) (t : Target) (u : GraphVersion) → EndsTree old new (version_or (graphs_of old) t).root → graphs_of new ≡ with_version (graphs_of old) t u → new.records.latest ≡ new.versions.commit
+    → IsSound old → IsVersion old.dict.terms old.pool u → old.versions.commit < last_number → Sets old new t u
+version_set old new t u e graphs latest sound is number =
     let terms = old.dict.terms in
     let p = old.pool in
     let q = new.pool in
-    let g = old.catalogue.graphs in
+    let g = graphs_of old in
     let h = with_version g t u in
-    let graphs : new.catalogue.graphs ≡ h = ap (λ (c : Catalogued). c.graphs) written in
     let tree : version_tree q u ≡ version_tree p u = roots_same p q e.nodes u.root in
     let now : IsVersion (terms ++ []) q u = subst (λ ts. IsVersion ts q u) (sym (append-nil terms)) (still_version terms p q u tree is) in
-    let sets : SetsOne terms [] p q g t u = one_is_set terms [] p q g t u sound.versions (others_same old new t e sound number h graphs) now in
+    let sets : SetsOne terms [] p q g t u = one_is_set terms [] p q g t u sound.versions (others_same old new t e sound number h graphs latest) now in
     let set_to : dataset_at terms q h ≡ with_graph (dataset_at terms p g) t (version_graph terms q u) = subst (λ ts. dataset_at ts q h ≡ with_graph (dataset_at terms p g) t (version_graph ts q u)) (append-nil terms) sets.dataset in
     let graph : version_graph terms q u ≡ graph_at terms p u.root = ap (tree_graph terms) tree in
     record {
-      dataset = dataset_now old new t e sound number h graphs ∙ set_to ∙ ap (with_graph (dataset_at terms p g) t) graph;
+      dataset = dataset_now old new t e sound number h graphs latest ∙ set_to ∙ ap (with_graph (dataset_at terms p g) t) graph;
       kept = kept_books old new (version_or g t).root e;
-      sound = sound_now old new t e sound number h graphs (subst (λ ts. All (IsVersion ts q) (all_versions h)) (append-nil terms) sets.versions);
-      ledgers = ends_now old new t e sound number h graphs (tree_at p u.root) (subst (λ x. AreSameTrees (x ∷ other_trees p g t) (graph_trees q h)) tree sets.trees);
-      room = omega (arith, ap (λ (c : Catalogued). c.spare) written, room);
+      sound = sound_now old new t e sound number h graphs latest (subst (λ ts. All (IsVersion ts q) (all_versions h)) (append-nil terms) sets.versions);
+      ledgers = ends_now old new t e sound number h graphs latest (tree_at p u.root) (subst (λ x. AreSameTrees (x ∷ other_trees p g t) (graph_trees q h)) tree sets.trees);
     }
+
+-- the target has the upload's version
+pub put_made : (old new : Books) (n : ℕ) (t : Target) (u : GraphVersion) → EndsTree old new (version_or (graphs_of old) t).root → graphs_of new ≡ with_version (graphs_of old) t u → new.records.latest ≡ new.versions.commit → LetsGo old new n
+    → IsSound old → IsVersion old.dict.terms old.pool u → old.versions.commit < last_number → Puts old new n t u
+put_made old new n t u e graphs latest go sound is number =
+    let sets = version_set old new t u e graphs latest sound is number in
+    record { dataset = sets.dataset; kept = sets.kept; sound = sets.sound; ledgers = sets.ledgers; lets_go = go }
 
 -- the ledger of a Delete: a leaf is no upload
 leaf_ends : (old new : Books) (size : ℕ) → ((us : List Tree) (rs : List (List Tree)) → HasLedger old (leaf ∷ us) rs → Ends old new size us rs) → (us : List Tree) (rs : List (List Tree)) → HasLedger old us rs → Ends old new size us rs
-leaf_ends old new size ends us rs l = ends us rs ((leaf_upload old.pool old.versions (graph_trees old.pool old.catalogue.graphs) us rs (dead_at old.pool)).0 l)
+leaf_ends old new size ends us rs l = ends us rs ((leaf_upload old.pool old.versions (graph_trees old.pool (graphs_of old)) us rs (dead_at old.pool)).0 l)
 
--- the default graph is empty
-pub emptied : (old new : Books) → EndsTree old new (version_or old.catalogue.graphs Default).root → new.catalogue ≡ after_set old.catalogue Default empty_version → IsSound old → old.versions.commit < last_number → Removes old new Default
-emptied old new e written sound number =
-    let terms = old.dict.terms in
-    let none : graph_at terms old.pool None ≡ empty_graph = refl in
-    let puts = put_made old new Default empty_version e written sound (empty_is terms old.pool) (omega arith) number in
-    record {
-      dataset = puts.dataset ∙ ap (with_graph (dataset_of old) Default) none;
-      kept = puts.kept;
-      sound = puts.sound;
-      ledgers = leaf_ends old new (size_at (dataset_of old) Default) puts.ledgers;
-      room = omega (arith, puts.room);
-    }
+-- The version of the target's graph ended.
+module _ (old new : Books) (latest : new.records.latest ≡ new.versions.commit) (same : SameOpened old new) (sound : IsSound old) (number : old.versions.commit < last_number) where
+  -- the default graph is empty
+  emptied : EndsTree old new (version_or (graphs_of old) Default).root → graphs_of new ≡ with_version (graphs_of old) Default empty_version → Removes old new Default
+  emptied e written =
+      let terms = old.dict.terms in
+      let none : graph_at terms old.pool None ≡ empty_graph = refl in
+      let sets = version_set old new Default empty_version e written latest sound (empty_is terms old.pool) number in
+      record {
+        dataset = sets.dataset ∙ ap (with_graph (dataset_of old) Default) none;
+        kept = sets.kept;
+        sound = sets.sound;
+        ledgers = leaf_ends old new (size_at (dataset_of old) Default) sets.ledgers;
+        same_opened = same;
+      }
 
--- a name is gone
-pub taken_out : (old new : Books) (n : List ℕ) → EndsTree old new (version_or old.catalogue.graphs (Named n)).root → new.catalogue ≡ after_take old.catalogue n → IsSound old → old.versions.commit < last_number → Removes old new (Named n)
-taken_out old new n e written sound number =
-    let terms = old.dict.terms in
-    let p = old.pool in
-    let q = new.pool in
-    let g = old.catalogue.graphs in
-    let t = Named n in
-    let h = without_name g n in
-    let graphs : new.catalogue.graphs ≡ h = ap (λ (c : Catalogued). c.graphs) written in
-    let takes = name_is_taken terms p q g n sound.versions (others_same old new t e sound number h graphs) in
-    record {
-      dataset = dataset_now old new t e sound number h graphs ∙ takes.dataset;
-      kept = kept_books old new (version_or g t).root e;
-      sound = sound_now old new t e sound number h graphs takes.versions;
-      ledgers = leaf_ends old new (size_at (dataset_of old) t) (ends_now old new t e sound number h graphs leaf takes.trees);
-      room = omega (arith, ap (λ (c : Catalogued). c.spare) written);
-    }
+  -- a name is gone
+  taken_out : (n : List ℕ) → EndsTree old new (version_or (graphs_of old) (Named n)).root → graphs_of new ≡ without_name (graphs_of old) n → Removes old new (Named n)
+  taken_out n e graphs =
+      let terms = old.dict.terms in
+      let p = old.pool in
+      let q = new.pool in
+      let g = graphs_of old in
+      let t = Named n in
+      let h = without_name g n in
+      let takes = name_is_taken terms p q g n sound.versions (others_same old new t e sound number h graphs latest) in
+      record {
+        dataset = dataset_now old new t e sound number h graphs latest ∙ takes.dataset;
+        kept = kept_books old new (version_or g t).root e;
+        sound = sound_now old new t e sound number h graphs latest takes.versions;
+        ledgers = leaf_ends old new (size_at (dataset_of old) t) (ends_now old new t e sound number h graphs latest leaf takes.trees);
+        same_opened = same;
+      }
+
+  pub removed : (t : Target) → EndsTree old new (version_or (graphs_of old) t).root → graphs_of new ≡ without_version (graphs_of old) t → Removes old new t
+  removed Default = emptied
+  removed (Named n) = taken_out n

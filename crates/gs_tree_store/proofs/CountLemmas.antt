@@ -23,7 +23,7 @@ use Rattle.gs_datasets.proofs.Sizes.{triples_in-is}
 use Rattle.gs_tree_store.specs.declared.books.Seat.{Seat}
 use Rattle.gs_tree_store.specs.declared.books.Seat.TheVariants.{Idle, Writing, Patching, Reading}
 use Rattle.gs_tree_store.specs.declared.stores.TreeStore.TheInside.{Inside}
-use Rattle.gs_tree_store.specs.Books.{seat_shown, upload_tree, read_trees, IsSeat}
+use Rattle.gs_tree_store.specs.Books.{graphs_of, seat_shown, upload_tree, read_trees, IsSeat}
 use Rattle.gs_tree_store.specs.Kept.{shown_of, IsKept}
 
 module _ (terms : List Term) (p : Nodes) where
@@ -52,10 +52,10 @@ module _ (terms : List Term) (p : Nodes) where
 
   seat_keys : (s : Seat) → IsSeat terms p s → staged_at (seat_shown terms p s) ≡ length (keys (upload_tree p s))
   seat_keys Idle is = refl
-  seat_keys (Writing k r v) is =
+  seat_keys (Writing k r v o) is =
       let ks = keys (tree_at p v.root) in
       ap length (triples_of_keys terms ks is.keyed.rising is.keyed.given) ∙ length-map ks (triple_at terms)
-  seat_keys (Patching t r) is = refl
+  seat_keys (Patching t r o) is = refl
   seat_keys (Reading root last) is = refl
 
   -- those of all uploads one for each triple that was staged
@@ -70,10 +70,10 @@ module _ (terms : List Term) (p : Nodes) where
   )
 
 module _ (a : Inside) (kept : IsKept a) where
-  counted : in_use a.books.pool ≡ triple_count a.books.catalogue.graphs + keys_in (map (upload_tree a.books.pool) a.seats.items) + length (shown_of a).waste
+  counted : in_use a.books.pool ≡ triple_count (graphs_of a.books) + keys_in (map (upload_tree a.books.pool) a.seats.items) + length (shown_of a).waste
   counted =
       let p = a.books.pool in
-      let g = a.books.catalogue.graphs in
+      let g = graphs_of a.books in
       let xs = a.seats.items in
       omega (
         arith,
@@ -86,15 +86,15 @@ module _ (a : Inside) (kept : IsKept a) where
   nodes_kept = omega (
     arith,
     counted,
-    triples_in-is a.books.dict.terms a.books.pool a.books.catalogue.graphs kept.sound.versions,
+    triples_in-is a.books.dict.terms a.books.pool (graphs_of a.books) kept.sound.versions,
     upload_keys a.books.dict.terms a.books.pool a.seats.items kept.known,
   )
 
   -- the triples of all graphs are no more than these
-  pub triples_few : triple_count a.books.catalogue.graphs ≤ in_use a.books.pool
+  pub triples_few : triple_count (graphs_of a.books) ≤ in_use a.books.pool
   triples_few = omega (arith, counted)
 
   -- and are those of what is shown
-  pub triples_kept : (s : Shown) → shown_of a ≡ s → triple_count a.books.catalogue.graphs ≡ triples_in s.view.totals.dataset
+  pub triples_kept : (s : Shown) → shown_of a ≡ s → triple_count (graphs_of a.books) ≡ triples_in s.view.totals.dataset
   triples_kept s view =
-      sym (triples_in-is a.books.dict.terms a.books.pool a.books.catalogue.graphs kept.sound.versions) ∙ ap (λ (x : Shown). triples_in x.view.totals.dataset) view
+      sym (triples_in-is a.books.dict.terms a.books.pool (graphs_of a.books) kept.sound.versions) ∙ ap (λ (x : Shown). triples_in x.view.totals.dataset) view

@@ -33,7 +33,9 @@ use Rattle.gs_staging.proofs.StageLemmas.{with_run}
 use Rattle.gs_patch.specs.declared.patches.Draft.{Draft}
 use Rattle.gs_patch.specs.Patches.{Patches}
 use Rattle.gs_catalogue.specs.declared.versions.GraphVersion.{GraphVersion}
-use Rattle.gs_catalogue.specs.Catalogues.{Catalogued, empty_version, version_at, with_version, after_set}
+use Rattle.gs_catalogue.specs.Catalogues.{empty_version, version_at, with_version}
+use Rattle.gs_records.specs.Records.{Recorded}
+use Rattle.gs_records.specs.Graphs.{current}
 use Rattle.gs_versions.specs.Pins.{Pins, at_commit}
 use Rattle.gs_ledger.specs.Marks.{dead_at, waste_at}
 use Rattle.gs_ledger.specs.Ledger.{IsTreeOf, IsLedger}
@@ -47,7 +49,7 @@ use Rattle.gs_datasets.proofs.Keeping.{others_stay_beside}
 use Rattle.gs_datasets.proofs.Sizes.{graph_at-is}
 use Rattle.gs_datasets.proofs.Writing.{one_is_set}
 use Rattle.gs_tree_store.specs.declared.books.Books.{Books}
-use Rattle.gs_tree_store.specs.Books.{dataset_of, IsSound, HasLedger}
+use Rattle.gs_tree_store.specs.Books.{graphs_of, dataset_of, IsSound, HasLedger}
 use Rattle.gs_tree_store.specs.Drafts.{CanDraft, IsRun, Drafts}
 use Rattle.gs_tree_store.proofs.CommitLemmas.{version_or, same_dead, apart_ledger, roots_same, still_version}
 
@@ -77,9 +79,9 @@ united_if terms p None g = sym (graph_of-triples_of g) ∙ sym (ap (λ xs. graph
 united_if terms p (Some v) g = refl
 
 -- the target's graph with that of an upload is the union of both
-pub united_target : (b : Books) (t : Target) (g : Graph) → with_triples (graph_at b.dict.terms b.pool (version_or b.catalogue.graphs t).root) (triples_of g) ≡ united (graph_of_target (dataset_of b) t) g
+pub united_target : (b : Books) (t : Target) (g : Graph) → with_triples (graph_at b.dict.terms b.pool (version_or (graphs_of b) t).root) (triples_of g) ≡ united (graph_of_target (dataset_of b) t) g
 united_target b t g =
-    sym (ap (λ o. united o g) (graph_at-is b.dict.terms b.pool b.catalogue.graphs t) ∙ united_if b.dict.terms b.pool (version_at b.catalogue.graphs t) g)
+    sym (ap (λ o. united o g) (graph_at-is b.dict.terms b.pool (graphs_of b) t) ∙ united_if b.dict.terms b.pool (version_at (graphs_of b) t) g)
 
 -- the ledger goes on, and so many nodes at most join the waste
 pub record KeptEnds (old new : Books) (most : ℕ) (us : List Tree) (rs : List (List Tree)) : Type 0 where
@@ -87,39 +89,39 @@ pub record KeptEnds (old new : Books) (most : ℕ) (us : List Tree) (rs : List (
   pub waste : Joins (EndsAt (old.versions.commit + 1)) most (waste_at old.pool) (waste_at new.pool)
 
 -- the books once a draft is kept
-abbrev pub with_draft : Books → Numbered → Nodes → Pins → Catalogued → Books
-with_draft b d r w c = record b { dict = d; pool = r; versions = w; catalogue = c }
+abbrev pub with_draft : Books → Numbered → Nodes → Pins → Recorded → Books
+with_draft b d r w c = record b { dict = d; pool = r; versions = w; records = c }
 
 fewer : (commit n most : ℕ) (old new : List Lifetime) → n ≤ most → Joins (EndsAt commit) n old new → Joins (EndsAt commit) most old new
 fewer commit n most old new few j = record { more = j.more; few = omega (arith, few, j.few); same = j.same; ended = j.ended }
 
 -- The draft v of the target's graph is kept.
-module _ (b : Books) (d : Numbered) (q r : Nodes) (w : Pins) (c : Catalogued) (t : Target) (v : GraphVersion) (g : Graph) (birth most : ℕ)
-    (born : birth ≡ b.versions.commit + 1) (grows : Grows b.dict d) (made : Drafts birth d.terms b.pool q (version_or b.catalogue.graphs t) v g most)
+module _ (b : Books) (d : Numbered) (q r : Nodes) (w : Pins) (c : Recorded) (t : Target) (v : GraphVersion) (g : Graph) (birth most : ℕ)
+    (born : birth ≡ b.versions.commit + 1) (grows : Grows b.dict d) (made : Drafts birth d.terms b.pool q (version_or (graphs_of b) t) v g most)
     (keeps : KeepsDraftAll b.versions w q r) (commit : w ≡ at_commit b.versions (b.versions.commit + 1)) (nodes : r.nodes ≡ q.nodes) (none : aside_count r ≡ 0)
-    (written : c ≡ after_set b.catalogue t v) (number : b.versions.commit < last_number) (sound : IsSound b) where
-  ends : (us : List Tree) (rs : List (List Tree)) → HasLedger b us rs → KeepsDraft b.versions w b.pool q r (tree_at q v.root) (other_trees b.pool b.catalogue.graphs t) us rs
+    (written : current c.records ≡ with_version (graphs_of b) t v) (latest : c.latest ≡ birth) (number : b.versions.commit < last_number) (sound : IsSound b) where
+  ends : (us : List Tree) (rs : List (List Tree)) → HasLedger b us rs → KeepsDraft b.versions w b.pool q r (tree_at q v.root) (other_trees b.pool (graphs_of b) t) us rs
   ends us rs l =
-      let old = tree_at b.pool (version_or b.catalogue.graphs t).root in
+      let old = tree_at b.pool (version_or (graphs_of b) t).root in
       let new = tree_at q v.root in
-      keeps b.pool old new (other_trees b.pool b.catalogue.graphs t) us rs sound.none_aside
-      (apart_ledger b.pool b.versions b.catalogue.graphs t us rs (dead_at b.pool) l)
+      keeps b.pool old new (other_trees b.pool (graphs_of b) t) us rs sound.none_aside
+      (apart_ledger b.pool b.versions (graphs_of b) t us rs (dead_at b.pool) l)
       (subst (λ n. Step n n b.pool q (occurrences old) (occurrences new)) born made.step) (subst (λ n. IsTreeOf q n new) born made.tree)
 
   module _ (us₀ : List Tree) (rs₀ : List (List Tree)) (l₀ : HasLedger b us₀ rs₀) where
-    same_others : AreSameIn b.pool r (other_versions b.catalogue.graphs t)
-    same_others = others_stay_beside b.dict.terms b.pool r b.catalogue.graphs t w (tree_at q v.root) us₀ rs₀ (dead_at r) sound.versions (ends us₀ rs₀ l₀).ledger
+    same_others : AreSameIn b.pool r (other_versions (graphs_of b) t)
+    same_others = others_stay_beside b.dict.terms b.pool r (graphs_of b) t w (tree_at q v.root) us₀ rs₀ (dead_at r) sound.versions (ends us₀ rs₀ l₀).ledger
 
     same_draft : version_tree r v ≡ version_tree q v
     same_draft = roots_same q r nodes v.root
 
-    sets : SetsOne b.dict.terms grows.more b.pool r b.catalogue.graphs t v
-    sets = one_is_set b.dict.terms grows.more b.pool r b.catalogue.graphs t v sound.versions same_others (subst (λ ts. IsVersion ts r v) grows.terms (still_version d.terms q r v same_draft made.version))
+    sets : SetsOne b.dict.terms grows.more b.pool r (graphs_of b) t v
+    sets = one_is_set b.dict.terms grows.more b.pool r (graphs_of b) t v sound.versions same_others (subst (λ ts. IsVersion ts r v) grows.terms (still_version d.terms q r v same_draft made.version))
 
     pub kept_dataset : dataset_of (with_draft b d r w c) ≡ with_graph (dataset_of b) t g
     kept_dataset =
-        ap (λ (x : Catalogued). dataset_at d.terms r x.graphs) written
-        ∙ ap (λ ts. dataset_at ts r (with_version b.catalogue.graphs t v)) grows.terms
+        ap (dataset_at d.terms r) written
+        ∙ ap (λ ts. dataset_at ts r (with_version (graphs_of b) t v)) grows.terms
         ∙ sets.dataset
         ∙ ap (λ ts. with_graph (dataset_of b) t (version_graph ts r v)) (sym grows.terms)
         ∙ ap (λ u. with_graph (dataset_of b) t (tree_graph d.terms u)) same_draft
@@ -127,19 +129,20 @@ module _ (b : Books) (d : Numbered) (q r : Nodes) (w : Pins) (c : Catalogued) (t
 
     pub kept_sound : IsSound (with_draft b d r w c)
     kept_sound = record {
-      versions = subst (λ ts. All (IsVersion ts r) (all_versions c.graphs)) (sym grows.terms) (subst (λ (x : Catalogued). All (IsVersion (b.dict.terms ++ grows.more) r) (all_versions x.graphs)) (sym written) sets.versions);
+      versions = subst (λ ts. All (IsVersion ts r) (all_versions (current c.records))) (sym grows.terms) (subst (λ g. All (IsVersion (b.dict.terms ++ grows.more) r) (all_versions g)) (sym written) sets.versions);
       none_aside = none;
       commit = omega (arith, ap (λ (x : Pins). x.commit) commit, number);
+      latest = latest ∙ born ∙ sym (ap (λ (x : Pins). x.commit) commit);
       base = sound.base;
     }
 
     pub kept_ends : (us : List Tree) (rs : List (List Tree)) → HasLedger b us rs → KeptEnds b (with_draft b d r w c) most us rs
     kept_ends us rs l =
         let h = ends us rs l in
-        let trees : AreSameTrees (version_tree q v ∷ other_trees b.pool b.catalogue.graphs t) (graph_trees r (with_version b.catalogue.graphs t v)) = subst (λ u. AreSameTrees (u ∷ other_trees b.pool b.catalogue.graphs t) (graph_trees r (with_version b.catalogue.graphs t v))) same_draft sets.trees in
+        let trees : AreSameTrees (version_tree q v ∷ other_trees b.pool (graphs_of b) t) (graph_trees r (with_version (graphs_of b) t v)) = subst (λ u. AreSameTrees (u ∷ other_trees b.pool (graphs_of b) t) (graph_trees r (with_version (graphs_of b) t v))) same_draft sets.trees in
         record {
-          ledger = subst (λ (x : Catalogued). IsLedger r w (graph_trees r x.graphs) us rs (dead_at r)) (sym written)
-              (reorder_ledger r w (version_tree q v ∷ other_trees b.pool b.catalogue.graphs t) (graph_trees r (with_version b.catalogue.graphs t v)) us us rs (dead_at r) (dead_at r) trees (same_trees us) (same_dead (dead_at r)) h.ledger);
+          ledger = subst (λ g. IsLedger r w (graph_trees r g) us rs (dead_at r)) (sym written)
+              (reorder_ledger r w (version_tree q v ∷ other_trees b.pool (graphs_of b) t) (graph_trees r (with_version (graphs_of b) t v)) us us rs (dead_at r) (dead_at r) trees (same_trees us) (same_dead (dead_at r)) h.ledger);
           waste = fewer (b.versions.commit + 1) (aside_count q) most (waste_at b.pool) (waste_at r) made.few h.waste;
         }
 

@@ -1,10 +1,10 @@
 -- What holds of a store without graphs, whose seats are idle.
-use Rattle.std.proofs.Common.{◌≡◌, ◌≤◌, ℕ, zero, suc, ◌+◌, ◌*◌, true, false, cond, List, [], ◌∷◌, map, replicate, Option, None, is_some, refl, sym, ap, ◌∙◌, subst, arith, add-zero, string_bytes}
+use Rattle.std.proofs.Common.{◌≡◌, ◌≤◌, ℕ, zero, suc, ◌+◌, true, false, List, [], ◌∷◌, map, replicate, get_or, Option, Some, None, is_some, refl, sym, ap, ◌∙◌, subst, add-zero, string_bytes, true≢false}
 use Rattle.std.specs.List.{All, count_by, range_with_len}
 use Rattle.std.specs.FinMap as fin
 use Rattle.std.proofs.lemmas.List.{nil_from_length}
 use Rattle.std.proofs.lemmas.List.Elements.{All-nil, All-cons, All-map, All-replicate}
-use Rattle.std.proofs.lemmas.List.Folds.{sum_by-replicate}
+use Rattle.std.proofs.lemmas.Option.{none-some}
 use Rattle.gs_model.specs.Bases.{is_base}
 use Rattle.gs_model.specs.Limits.{last_number}
 use Rattle.gs_term.specs.Names.{name_cmp}
@@ -16,6 +16,9 @@ use Rattle.gs_pool.specs.Pool.{Nodes, is_aside}
 use Rattle.gs_tree.specs.Tree.{leaf}
 use Rattle.gs_catalogue.specs.declared.versions.GraphVersion.{GraphVersion}
 use Rattle.gs_catalogue.specs.Catalogues.{GraphVersions, no_versions}
+use Rattle.gs_records.specs.Records.{record_at}
+use Rattle.gs_records.specs.Graphs.{current}
+use Rattle.gs_records.specs.Waste.{is_opened}
 use Rattle.gs_versions.specs.Pins.{Pins, unpinned}
 use Rattle.gs_ledger.specs.Marks.{dead_at}
 use Rattle.gs_ledger.specs.Ledger.{IsLedger}
@@ -23,21 +26,34 @@ use Rattle.gs_commit.proofs.LawLemmas.{empty_ledger, empty_dead}
 use Rattle.gs_datasets.specs.Standing.{dataset_at, all_versions, version_tree, graph_trees, IsVersion}
 use Rattle.gs_datasets.proofs.Sizes.{none_at_all}
 use Rattle.gs_tree_store.specs.declared.books.Books.{Books}
-use Rattle.gs_tree_store.specs.declared.books.Seat.{Seat}
 use Rattle.gs_tree_store.specs.declared.books.Seat.TheVariants.{Idle}
 use Rattle.gs_tree_store.specs.declared.stores.TreeStore.TheInside.{Inside}
-use Rattle.gs_tree_store.specs.Books.{dataset_of, seat_view, upload_tree, read_trees, is_writing, is_reading, IsSeat}
+use Rattle.gs_tree_store.specs.Books.{graphs_of, dataset_of, seat_view, upload_tree, read_trees, is_reading, IsSeat}
+use Rattle.gs_tree_store.specs.Opened.{own_record, own_record_at, HaveRecords}
 use Rattle.gs_tree_store.specs.Kept.{shown_of, IsKept}
 
--- the catalogue of no graph has no tree
+-- no graph has no tree
 no_trees : (p : Nodes) → All (λ t. t ≡ leaf) (graph_trees p no_versions)
 no_trees p =
     let none : fin.entries (no_versions.named) ≡ [] = nil_from_length _ (sym (fin.len-entries no_versions.named) ∙ fin.len-empty name_cmp GraphVersion) in
     All-cons (λ t. t ≡ leaf) leaf (map (version_tree p) (fin.values no_versions.named)) refl
     (subst (λ (es : List (List ℕ × GraphVersion)). All (λ t. t ≡ leaf) (map (version_tree p) (map (λ e. e.1) es))) (sym none) (All-nil (λ t. t ≡ leaf)))
 
-no_writers : (n : ℕ) → count_by is_writing (replicate n Idle) ≡ 0
-no_writers n = let e : count_by is_writing (replicate n Idle) ≡ n * 0 = sum_by-replicate (λ (s : Seat). cond (is_writing s) 1 0) n Idle in omega (arith, e)
+idle_at : (n k : ℕ) → get_or (replicate n Idle) k Idle ≡ Idle
+idle_at zero k = refl
+idle_at (suc n) zero = refl
+idle_at (suc n) (suc k) = idle_at n k
+
+-- idle seats have no records
+none_open : (n k m : ℕ) → own_record_at (replicate n Idle) k ≡ Some m → ⊥
+none_open n k m e = none-some m (sym (ap own_record (idle_at n k)) ∙ e)
+
+none_have : (b : Books) (n : ℕ) → b.records.records ≡ [] → HaveRecords b (replicate n Idle)
+none_have b n none = record {
+  open_now = λ k m e. absurd (none_open n k m e);
+  apart = λ j k m e f. absurd (none_open n j m e);
+  all = λ m h. absurd (true≢false (sym (ap is_opened (sym (ap (λ rs. record_at rs m) none) ∙ h))));
+}
 
 no_flags : (n : ℕ) → map is_some (replicate {A = Option ℕ} n None) ≡ map is_reading (replicate n Idle)
 no_flags zero = refl
@@ -58,18 +74,22 @@ idle_shown b a (suc n) = ap (λ ss. phase.Idle ∷ ss) (idle_shown b (a + 1) n)
 pub record IsFresh (a : Inside) (seats commit : ℕ) : Type 0 where
   pub nodes : a.books.pool.nodes ≡ []
   pub marks : a.books.pool.marks ≡ []
-  pub graphs : a.books.catalogue.graphs ≡ no_versions
+  pub records : a.books.records.records ≡ []
+  pub latest : a.books.records.latest ≡ commit
   pub versions : a.books.versions ≡ unpinned commit seats
   pub idle : a.seats.items ≡ replicate seats Idle
 
 module _ (a : Inside) (seats commit : ℕ) (fresh : IsFresh a seats commit) where
-  fresh_ledger : IsLedger a.books.pool a.books.versions (graph_trees a.books.pool a.books.catalogue.graphs) (map (upload_tree a.books.pool) a.seats.items) (map (read_trees a.books.pool) a.seats.items) (dead_at a.books.pool)
+  no_graphs : graphs_of a.books ≡ no_versions
+  no_graphs = ap current fresh.records
+
+  fresh_ledger : IsLedger a.books.pool a.books.versions (graph_trees a.books.pool (graphs_of a.books)) (map (upload_tree a.books.pool) a.seats.items) (map (read_trees a.books.pool) a.seats.items) (dead_at a.books.pool)
   fresh_ledger =
       let p = a.books.pool in
-      let gs = graph_trees p a.books.catalogue.graphs in
+      let gs = graph_trees p (graphs_of a.books) in
       let us = map (upload_tree p) a.seats.items in
       let rs = map (read_trees p) a.seats.items in
-      let current : All (λ t. t ≡ leaf) gs = subst (λ (g : GraphVersions). All (λ t. t ≡ leaf) (graph_trees p g)) (sym fresh.graphs) (no_trees p) in
+      let current : All (λ t. t ≡ leaf) gs = subst (λ (g : GraphVersions). All (λ t. t ≡ leaf) (graph_trees p g)) (sym no_graphs) (no_trees p) in
       let staged : All (λ t. t ≡ leaf) us = subst (λ xs. All (λ t. t ≡ leaf) (map (upload_tree p) xs)) (sym fresh.idle) (All-map (λ t. t ≡ leaf) (upload_tree p) (replicate seats Idle) (All-replicate (λ s. upload_tree p s ≡ leaf) seats Idle refl)) in
       let pins : All (λ pin. pin ≡ None) a.books.versions.seats = subst (λ (v : Pins). All (λ pin. pin ≡ None) v.seats) (sym fresh.versions) (All-replicate (λ (pin : Option ℕ). pin ≡ None) seats None refl) in
       subst (λ ds. IsLedger p a.books.versions gs us rs ds) (sym (empty_dead p fresh.nodes)) (empty_ledger p a.books.versions gs us rs fresh.nodes fresh.marks current staged pins)
@@ -80,21 +100,22 @@ module _ (a : Inside) (seats commit : ℕ) (fresh : IsFresh a seats commit) wher
       let terms = a.books.dict.terms in
       record {
         sound = record {
-          versions = subst (λ (g : GraphVersions). All (IsVersion terms p) (all_versions g)) (sym fresh.graphs) (none_at_all terms p).versions;
+          versions = subst (λ (g : GraphVersions). All (IsVersion terms p) (all_versions g)) (sym no_graphs) (none_at_all terms p).versions;
           none_aside = ap (λ ms. count_by is_aside ms) fresh.marks;
           commit = subst (λ (v : Pins). v.commit ≤ last_number) (sym fresh.versions) last;
+          latest = fresh.latest ∙ sym (ap (λ (v : Pins). v.commit) fresh.versions);
           base = base;
         };
         known = subst (All (IsSeat terms p)) (sym fresh.idle) (All-replicate (IsSeat terms p) seats Idle tt);
         pinned = ap (λ (v : Pins). map is_some v.seats) fresh.versions ∙ no_flags seats ∙ sym (ap (map is_reading) fresh.idle);
-        room = rw fresh.idle (omega (arith, no_writers seats));
+        records = subst (HaveRecords a.books) (sym fresh.idle) (none_have a.books seats fresh.records);
         ledger = fresh_ledger;
       }
 
   -- it shows what the empty history says,
   pub fresh_view : (shown_of a).view ≡ view_of (record { seats = seats; setting = record { base = string_bytes a.books.base; limits = a.books.limits }; request = a.books.request; commit = commit }) []
   fresh_view =
-      let dataset : dataset_of a.books ≡ empty_dataset = ap (dataset_at a.books.dict.terms a.books.pool) fresh.graphs ∙ (none_at_all a.books.dict.terms a.books.pool).dataset in
+      let dataset : dataset_of a.books ≡ empty_dataset = ap (dataset_at a.books.dict.terms a.books.pool) no_graphs ∙ (none_at_all a.books.dict.terms a.books.pool).dataset in
       let last : a.books.versions.commit ≡ commit + 0 = ap (λ (v : Pins). v.commit) fresh.versions ∙ sym (add-zero commit) in
       let shown : map (seat_view a.books) a.seats.items ≡ map idle_view (range_with_len 0 seats) = ap (map (seat_view a.books)) fresh.idle ∙ idle_shown a.books 0 seats in
       λ i. record { totals = record { setting = record { base = string_bytes a.books.base; limits = a.books.limits }; dataset = dataset i; request = sym (add-zero a.books.request) i; commit = last i }; seats = shown i }

@@ -21,10 +21,12 @@ use Rattle.gs_tree_store.specs.declared.books.Books.{Books}
 use Rattle.gs_tree_store.specs.declared.books.Seat.{Seat}
 use Rattle.gs_tree_store.specs.declared.books.Seat.TheVariants.{Idle}
 use Rattle.gs_tree_store.specs.declared.stores.TreeStore.TheInside.{Inside}
-use Rattle.gs_tree_store.specs.Books.{totals_of, seat_view, upload_tree, read_trees, is_reading, IsSeat, IsReady, HasLedger, HasLedgerAt}
-use Rattle.gs_tree_store.specs.Actions.{Acts, GoesOn, KeepsRoom}
+use Rattle.gs_tree_store.specs.Books.{graphs_of, totals_of, seat_view, upload_tree, read_trees, is_reading, IsSeat, IsReady, HasLedger, HasLedgerAt}
+use Rattle.gs_tree_store.specs.Opened.{HasRecord, KeepsRecords, HaveRecords}
+use Rattle.gs_tree_store.specs.Actions.{Acts, GoesOn}
 use Rattle.gs_tree_store.specs.Kept.{IsKept}
-use Rattle.gs_tree_store.proofs.PlaceLemmas.{map_beside, pins_long, pin_at, some_of, others_few, room_before, room_after}
+use Rattle.gs_tree_store.proofs.PlaceLemmas.{map_beside, pins_long, pin_at, some_of}
+use Rattle.gs_tree_store.proofs.OpenedLemmas.{own_open, have_after}
 use Rattle.gs_tree_store.proofs.ShownLemmas.{Outlives, outlives_more, KeepsSeat, same_upload, same_read, keeps_seat, seat_stays, shown_stays, pin_is}
 
 same_dead : (ds : List Dead) → AreSameDead ds ds
@@ -33,7 +35,7 @@ same_dead ds = record { sums = λ f. refl; each = λ k d h. Contains-get_or ds k
 -- a ledger with its uploads in another order
 turned : (b : Books) (us vs : List Tree) (rs : List (List Tree)) → AreSameTrees us vs → HasLedger b us rs → HasLedger b vs rs
 turned b us vs rs same l =
-    let gs = graph_trees b.pool b.catalogue.graphs in
+    let gs = graph_trees b.pool (graphs_of b) in
     reorder_ledger b.pool b.versions gs gs us vs rs (dead_at b.pool) (dead_at b.pool) (same_trees gs) same (same_dead (dead_at b.pool)) l
 
 -- the trees of the uploads of a store, and those that its seats read
@@ -70,6 +72,10 @@ module _ (a : Inside) (s : ℕ) (was : Seat) (kept : IsKept a) (within : s < len
         ledger = record { uploads = set (uploads_of a) s leaf; reads = reads_of a; ledger = ledger_at };
       }
 
+  -- and its record is open
+  pub opened_here : HasRecord a.books was
+  opened_here = own_open a.books a.books a.seats.items s was was within is kept.records
+
 module _ (a b : Inside) (s : ℕ) (was now : Seat) (action : Action) (answer : Answer) (kept : IsKept a) (within : s < length a.seats.items) (is : was ≡ get_or a.seats.items s was) (seats : b.seats.items ≡ set a.seats.items s now) (acts : Acts a.books b.books s was now action answer) where
   -- the ledger goes on with the trees of the other seats
   pub goes_on : GoesOn a.books b.books s was now action answer (set (uploads_of a) s leaf) (reads_of a)
@@ -87,7 +93,7 @@ module _ (a b : Inside) (s : ℕ) (was now : Seat) (action : Action) (answer : A
       let xs = a.seats.items in
       let idle = set xs s Idle in
       let own = read_trees q now in
-      let trees = ledger_keeps q b.books.versions (graph_trees q b.books.catalogue.graphs) (upload_tree q now ∷ set (uploads_of a) s leaf) (set (reads_of a) s own) (dead_at q) goes_on.ledger.ledger in
+      let trees = ledger_keeps q b.books.versions (graph_trees q (graphs_of b.books)) (upload_tree q now ∷ set (uploads_of a) s leaf) (set (reads_of a) s own) (dead_at q) goes_on.ledger.ledger in
       let staged : All (IsPlainTree q) (map (upload_tree p) idle) = subst (All (IsPlainTree q)) (sym (map-set (upload_tree p) xs s Idle)) (All-tail (IsPlainTree q) (upload_tree q now) (set (uploads_of a) s leaf) trees.staged) in
       let long : length idle ≡ length xs = length-set xs s Idle in
       let there : length (map (upload_tree p) idle) ≡ length idle = length-map idle (upload_tree p) in
@@ -158,14 +164,13 @@ module _ (a b : Inside) (s : ℕ) (was now : Seat) (action : Action) (answer : A
       ∙ sym (ap (map is_reading) seats)
 
   -- What holds of every store still holds.
-  pub kept_after : KeepsRoom (length a.seats.items) a.books b.books was now → IsKept b
-  kept_after room =
+  pub kept_after : KeepsRecords a.books b.books was now → IsKept b
+  kept_after keeps =
       let xs = a.seats.items in
-      let later = room.kept _ (others_few xs s within) (room_before xs s was within is a.books.catalogue.spare kept.room) in
       record {
         sound = acts.sound;
         known = subst (All (IsSeat b.books.dict.terms b.books.pool)) (set-set xs s Idle now ∙ sym seats) (All-set (IsSeat b.books.dict.terms b.books.pool) (set xs s Idle) s now acts.known others_stay);
         pinned = pinned_after;
-        room = rw seats (room_after xs s was within is now b.books.catalogue.spare later);
+        records = subst (HaveRecords b.books) (sym seats) (have_after a.books b.books xs s was now within is kept.records keeps);
         ledger = ledger_after;
       }

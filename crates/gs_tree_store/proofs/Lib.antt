@@ -1,6 +1,8 @@
 pub mod VerdictLemmas
 pub mod CommitLemmas
 pub mod WriteLemmas
+pub mod OpenedLemmas
+pub mod AlikeLemmas
 pub mod SeatLemmas
 pub mod ReadLemmas
 pub mod ActionLemmas

@@ -1,5 +1,5 @@
 -- What the commit of a patch makes of the books and of the seat.
-use Rattle.std.proofs.Common.{◌≡◌, ◌+◌, ◌*◌, ◌<◌, ◌⊎◌, ℕ, true, false, cond, List, ◌∷◌, Option, Some, None, option_map, unwrap_or, is_some, refl, sym, ap, subst, ◌∙◌, inr, arith, add-zero, true≢false}
+use Rattle.std.proofs.Common.{◌≡◌, ◌+◌, ◌*◌, ◌<◌, ◌⊎◌, ℕ, true, false, cond, List, ◌∷◌, Option, Some, None, option_map, unwrap_or, is_some, refl, sym, ap, subst, ◌∙◌, inr, add-zero, true≢false}
 use Rattle.std.specs.declared.alloc.Global.{Global}
 use Rattle.std.specs.declared.vec.Vec.{Vec}
 use Rattle.std.proofs.lemmas.List.{set-get_or}
@@ -33,18 +33,21 @@ use Rattle.gs_changes.specs.Endings.{Restores, UndoesAll}
 use Rattle.gs_staging.specs.Keys.{Grows}
 use Rattle.gs_staging.proofs.KeyLemmas.{still_grows}
 use Rattle.gs_catalogue.specs.declared.versions.GraphVersion.{GraphVersion}
-use Rattle.gs_catalogue.specs.Catalogues.{Catalogued, empty_version, version_at, room_wanted, after_set}
+use Rattle.gs_catalogue.specs.Catalogues.{empty_version, version_at, with_version}
+use Rattle.gs_records.specs.Records.{Recorded}
+use Rattle.gs_records.specs.Graphs.{current}
 use Rattle.gs_versions.specs.Pins.{Pins, at_commit}
 use Rattle.gs_ledger.specs.Marks.{waste_at}
 use Rattle.gs_commit.specs.Commits.{KeepsDraftAll}
 use Rattle.gs_datasets.specs.Standing.{version_graph}
-use Rattle.gs_datasets.proofs.Sizes.{graph_at-is, is_there-is}
+use Rattle.gs_datasets.proofs.Sizes.{graph_at-is}
 use Rattle.gs_tree_store.specs.declared.books.Books.{Books}
 use Rattle.gs_tree_store.specs.declared.books.Seat.{Seat}
 use Rattle.gs_tree_store.specs.declared.books.Seat.TheVariants.{Idle, Patching}
-use Rattle.gs_tree_store.specs.Books.{books_setting, dataset_of, totals_of, IsReady}
+use Rattle.gs_tree_store.specs.Books.{graphs_of, books_setting, dataset_of, totals_of, IsReady}
 use Rattle.gs_tree_store.specs.Drafts.{Drafts}
-use Rattle.gs_tree_store.specs.Actions.{Acts, HoldsRoom}
+use Rattle.gs_tree_store.specs.Actions.{Acts}
+use Rattle.gs_tree_store.proofs.AlikeLemmas.{SameNow, with_records, acts_alike}
 use Rattle.gs_tree_store.proofs.CommitLemmas.{version_or}
 use Rattle.gs_tree_store.proofs.VerdictLemmas.{size_of_version, is_stored, is_not_stored, would_be_stored}
 use Rattle.gs_tree_store.proofs.SeatLemmas.{ledger_stays}
@@ -53,15 +56,15 @@ use Rattle.gs_tree_store.proofs.DraftLemmas.{KeptEnds, with_draft, kept_dataset,
 
 -- the graph of the target's version
 abbrev pub target_graph : Books → Target → Graph
-target_graph b t = graph_at b.dict.terms b.pool (version_or b.catalogue.graphs t).root
+target_graph b t = graph_at b.dict.terms b.pool (version_or (graphs_of b) t).root
 
 -- the draft that the operations make of it
 abbrev pub DraftsPatch : ℕ → Books → Numbered → Nodes → Target → List Op → GraphVersion → Type 0
 DraftsPatch birth b d q t ops v =
-    Drafts birth d.terms b.pool q (version_or b.catalogue.graphs t) v (updated (target_graph b t) ops) (259 * inserted_by (target_graph b t) ops + 261 * removed_by (target_graph b t) ops)
+    Drafts birth d.terms b.pool q (version_or (graphs_of b) t) v (updated (target_graph b t) ops) (259 * inserted_by (target_graph b t) ops + 261 * removed_by (target_graph b t) ops)
 
 -- what was drafted of a version that is the target's
-pub drafts_here : (birth : ℕ) (b : Books) (d : Numbered) (q : Nodes) (t : Target) (old v : GraphVersion) (xs ops : List Op) → old ≡ version_or b.catalogue.graphs t → xs ≡ ops
+pub drafts_here : (birth : ℕ) (b : Books) (d : Numbered) (q : Nodes) (t : Target) (old v : GraphVersion) (xs ops : List Op) → old ≡ version_or (graphs_of b) t → xs ≡ ops
     → Drafts birth d.terms b.pool q old v (updated (graph_at b.dict.terms b.pool old.root) xs) (259 * inserted_by (graph_at b.dict.terms b.pool old.root) xs + 261 * removed_by (graph_at b.dict.terms b.pool old.root) xs)
     → DraftsPatch birth b d q t ops v
 drafts_here birth b d q t old v xs ops is items made =
@@ -72,7 +75,7 @@ drafts_here birth b d q t old v xs ops is items made =
 
 -- it is taken back
 pub draft_undone : (birth : ℕ) (b : Books) (d : Numbered) (q r : Nodes) (t : Target) (ops : List Op) (v : GraphVersion) → DraftsPatch birth b d q t ops v → UndoesAll birth q r (tree_at q v.root) → Restores b.pool r
-draft_undone birth b d q r t ops v made undoes = undoes b.pool (tree_at b.pool (version_or b.catalogue.graphs t).root) made.began made.step
+draft_undone birth b d q r t ops v made undoes = undoes b.pool (tree_at b.pool (version_or (graphs_of b) t).root) made.began made.step
 
 -- what becomes of a write of the target's graph after the operations
 abbrev pub DecidesPatch : Books → Target → List Op → Verdict → Type 0
@@ -87,8 +90,8 @@ module _ (b : Books) (t : Target) (there : is_there (dataset_of b) t ≡ true) w
   -- it is that of its version
   graph_is : graph_of_target (dataset_of b) t ≡ Some (target_graph b t)
   graph_is =
-      let is = graph_at-is b.dict.terms b.pool b.catalogue.graphs t in
-      is ∙ there_if b.dict.terms b.pool (version_at b.catalogue.graphs t) (sym (ap (λ (o : Option Graph). is_some o) is) ∙ there)
+      let is = graph_at-is b.dict.terms b.pool (graphs_of b) t in
+      is ∙ there_if b.dict.terms b.pool (version_at (graphs_of b) t) (sym (ap (λ (o : Option Graph). is_some o) is) ∙ there)
 
   -- the operations are on that graph
   updated_is : (ops : List Op) → updated (target_graph b t) ops ≡ patched (graph_of_target (dataset_of b) t) ops
@@ -96,10 +99,6 @@ module _ (b : Books) (t : Target) (there : is_there (dataset_of b) t ≡ true) w
 
   most_is : (ops : List Op) → 259 * inserted_by (target_graph b t) ops + 261 * removed_by (target_graph b t) ops ≡ most_patched (graph_of_target (dataset_of b) t) ops
   most_is ops = sym (ap (λ o. most_patched o ops) graph_is)
-
-  -- another version of it wants no room
-  pub no_room_wanted : room_wanted b.catalogue.graphs t ≡ 0
-  no_room_wanted = ap (λ x. cond x 0 1) (sym (is_there-is b.dict.terms b.pool b.catalogue.graphs t) ∙ there)
 
   -- what was decided by the count of the draft
   pub patch_decided : (birth : ℕ) (d : Numbered) (q : Nodes) (ops : List Op) (v : GraphVersion) (held : Holdings) (place : Place) (verdict : Verdict) → DraftsPatch birth b d q t ops v
@@ -123,9 +122,9 @@ module _ (w : Setting) (m : Dataset) (t : Target) (ops : List Op) (there : is_th
   dataset_stored = ap (λ x. cond x (stored w m t (patched (graph_of_target m t) ops)) m) there
 
 -- a commit without effect: the seat is idle
-without_effect : (b : Books) (s : ℕ) (t : Target) (n : ℕ) (ops : Vec Op Global) (status : ℕ) → status ≡ status_of (books_setting b) (dataset_of b) (Patches t ops.items) → is_success status ≡ false → after (books_setting b) (dataset_of b) (Patches t ops.items) ≡ dataset_of b
-    → IsReady b s (Patching t n) → Acts b b s (Patching t n) Idle (CommitPatch ops) (Status status None)
-without_effect b s t n ops status is fails same ready =
+without_effect : (b : Books) (s : ℕ) (t : Target) (n o : ℕ) (ops : Vec Op Global) (status : ℕ) → status ≡ status_of (books_setting b) (dataset_of b) (Patches t ops.items) → is_success status ≡ false → after (books_setting b) (dataset_of b) (Patches t ops.items) ≡ dataset_of b
+    → IsReady b s (Patching t n o) → Acts b b s (Patching t n o) Idle (CommitPatch ops) (Status status None)
+without_effect b s t n o ops status is fails same ready =
     let request : b.request ≡ b.request + 0 = sym (add-zero b.request) in
     let counted : b.versions.commit ≡ b.versions.commit + cond (is_success status) 1 0 = sym (add-zero b.versions.commit) ∙ sym (ap (λ x. b.versions.commit + cond x 1 0) fails) in
     record {
@@ -143,10 +142,21 @@ without_effect b s t n ops status is fails same ready =
       uses = tt;
     }
 
+-- the target has no graph: nothing changes, and the seat is idle
+pub patch_missing : (b : Books) (x : Recorded) (s : ℕ) (t : Target) (n o : ℕ) (ops : Vec Op Global) → SameNow b.records x → is_there (dataset_of b) t ≡ false → IsReady b s (Patching t n o)
+    → Acts b (with_records b x) s (Patching t n o) Idle (CommitPatch ops) (Status 404 None)
+patch_missing b x s t n o ops same missing ready =
+    let w = books_setting b in
+    let m = dataset_of b in
+    let g = patched (graph_of_target m t) ops.items in
+    let status : 404 ≡ status_of w m (Patches t ops.items) = sym (ap (λ y. cond y (stored_status w m t g) 404) missing) in
+    let dataset : after w m (Patches t ops.items) ≡ m = ap (λ y. cond y (stored w m t g) m) missing in
+    acts_alike b x same b s (Patching t n o) Idle (CommitPatch ops) (Status 404 None) (without_effect b s t n o ops 404 status refl dataset ready)
+
 -- The draft was refused or given up, and the pool is as it was.
-module _ (b : Books) (d : Numbered) (q : Nodes) (s : ℕ) (t : Target) (n : ℕ) (ops : Vec Op Global) (grows : Grows b.dict d) (restores : Restores b.pool q) (there : is_there (dataset_of b) t ≡ true) (ready : IsReady b s (Patching t n)) where
-  ready_now : IsReady (with_nodes b d q) s (Patching t n)
-  ready_now = undone_ready b d q grows restores ready.sound s (Patching t n) refl ready
+module _ (b : Books) (d : Numbered) (q : Nodes) (s : ℕ) (t : Target) (n o : ℕ) (ops : Vec Op Global) (grows : Grows b.dict d) (restores : Restores b.pool q) (there : is_there (dataset_of b) t ≡ true) (ready : IsReady b s (Patching t n o)) where
+  ready_now : IsReady (with_nodes b d q) s (Patching t n o)
+  ready_now = undone_ready b d q grows restores ready.sound s (Patching t n o) refl ready
 
   dataset_now : dataset_of (with_nodes b d q) ≡ dataset_of b
   dataset_now = ap (λ (x : Totals). x.dataset) (undone_totals b d q grows restores ready.sound)
@@ -157,41 +167,42 @@ module _ (b : Books) (d : Numbered) (q : Nodes) (s : ℕ) (t : Target) (n : ℕ)
   decided_now : (verdict : Verdict) → DecidesPatch b t ops.items verdict → DecidesPatch (with_nodes b d q) t ops.items verdict
   decided_now verdict = subst (λ m. DecidesChange (books_setting b) m b.versions.commit t (patched (graph_of_target m t) ops.items) verdict) (sym dataset_now)
 
-  acts_so : (now : Seat) (a : Answer) → Acts (with_nodes b d q) (with_nodes b d q) s (Patching t n) now (CommitPatch ops) a → Acts b (with_nodes b d q) s (Patching t n) now (CommitPatch ops) a
-  acts_so now a = undone_acts b d q grows restores ready.sound (with_nodes b d q) s (Patching t n) now (CommitPatch ops) a refl ready.known
+  acts_so : (now : Seat) (a : Answer) → Acts (with_nodes b d q) (with_nodes b d q) s (Patching t n o) now (CommitPatch ops) a → Acts b (with_nodes b d q) s (Patching t n o) now (CommitPatch ops) a
+  acts_so now a = undone_acts b d q grows restores ready.sound (with_nodes b d q) s (Patching t n o) now (CommitPatch ops) a refl ready.known
 
   -- want of memory
-  pub patch_unmade : Acts b (with_nodes b d q) s (Patching t n) (Patching t n) (CommitPatch ops) (Refused NoMemory)
-  patch_unmade = acts_so (Patching t n) (Refused NoMemory) (nothing_done (with_nodes b d q) s (Patching t n) (CommitPatch ops) (Refused NoMemory) there_now refl refl refl refl refl ready_now)
+  pub patch_unmade : Acts b (with_nodes b d q) s (Patching t n o) (Patching t n o) (CommitPatch ops) (Refused NoMemory)
+  patch_unmade = acts_so (Patching t n o) (Refused NoMemory) (nothing_done (with_nodes b d q) s (Patching t n o) (CommitPatch ops) (Refused NoMemory) there_now refl refl refl refl refl ready_now)
 
   -- no commit number is left: the patch stays open
-  pub patch_last : DecidesPatch b t ops.items LastNumber → Acts b (with_nodes b d q) s (Patching t n) (Patching t n) (CommitPatch ops) (Refused NoNumber)
+  pub patch_last : DecidesPatch b t ops.items LastNumber → Acts b (with_nodes b d q) s (Patching t n o) (Patching t n o) (CommitPatch ops) (Refused NoNumber)
   patch_last decided =
       let w = books_setting b in
       let m = dataset_of (with_nodes b d q) in
       let change = decided_now LastNumber decided in
       let would = would_be_stored w m b.versions.commit (Patches t ops.items) t (patched (graph_of_target m t) ops.items) (status_stored w m t ops.items there_now) (dataset_stored w m t ops.items there_now) change.1 in
-      acts_so (Patching t n) (Refused NoNumber) (nothing_done (with_nodes b d q) s (Patching t n) (CommitPatch ops) (Refused NoNumber) (would, change.1.1) refl refl refl refl refl ready_now)
+      acts_so (Patching t n o) (Refused NoNumber) (nothing_done (with_nodes b d q) s (Patching t n o) (CommitPatch ops) (Refused NoNumber) (would, change.1.1) refl refl refl refl refl ready_now)
 
   -- beyond the limits: nothing changes, and the seat is idle
-  pub patch_full : DecidesPatch b t ops.items Full → Acts b (with_nodes b d q) s (Patching t n) Idle (CommitPatch ops) (Status 507 None)
-  patch_full decided =
+  pub patch_full : (x : Recorded) → SameNow b.records x → DecidesPatch b t ops.items Full → Acts b (with_records (with_nodes b d q) x) s (Patching t n o) Idle (CommitPatch ops) (Status 507 None)
+  patch_full x same decided =
       let w = books_setting b in
       let m = dataset_of (with_nodes b d q) in
       let change = decided_now Full decided in
       let not = is_not_stored w m b.versions.commit (Patches t ops.items) t (patched (graph_of_target m t) ops.items) (status_stored w m t ops.items there_now) (dataset_stored w m t ops.items there_now) change.1 in
-      acts_so Idle (Status 507 None) (without_effect (with_nodes b d q) s t n ops 507 not.status_is refl not.dataset ready_now)
+      acts_alike (with_nodes b d q) x same b s (Patching t n o) Idle (CommitPatch ops) (Status 507 None)
+      (acts_so Idle (Status 507 None) (without_effect (with_nodes b d q) s t n o ops 507 not.status_is refl not.dataset ready_now))
 
 -- what the copies replaced joins the waste
 replaced_joins : (last most : ℕ) (a b : List Lifetime) → Joins (EndsAt (last + 1)) most a b → Joins (λ l. IsUnreached l ⊎ EndsAt (last + 1) l) most a b
 replaced_joins last most a b j = record { more = j.more; few = j.few; same = j.same; ended = λ k x h. inr (j.ended k x h) }
 
 -- the draft is kept
-pub patch_kept : (b : Books) (d : Numbered) (q r : Nodes) (w : Pins) (c : Catalogued) (s : ℕ) (t : Target) (n : ℕ) (ops : Vec Op Global) (v : GraphVersion) (birth status triples names : ℕ)
+pub patch_kept : (b : Books) (d : Numbered) (q r : Nodes) (w : Pins) (c : Recorded) (s : ℕ) (t : Target) (n o : ℕ) (ops : Vec Op Global) (v : GraphVersion) (birth status triples names : ℕ)
     → birth ≡ b.versions.commit + 1 → Grows b.dict d → DraftsPatch birth b d q t ops.items v
-    → KeepsDraftAll b.versions w q r → w ≡ at_commit b.versions (b.versions.commit + 1) → r.nodes ≡ q.nodes → aside_count r ≡ 0 → c ≡ after_set b.catalogue t v
-    → DecidesPatch b t ops.items (Granted status triples names) → IsReady b s (Patching t n) → Acts b (with_draft b d r w c) s (Patching t n) Idle (CommitPatch ops) (Status status None)
-patch_kept b d q r w c s t n ops v birth status triples names born grows made keeps commit nodes none written decided ready =
+    → KeepsDraftAll b.versions w q r → w ≡ at_commit b.versions (b.versions.commit + 1) → r.nodes ≡ q.nodes → aside_count r ≡ 0 → current c.records ≡ with_version (graphs_of b) t v → c.latest ≡ birth
+    → DecidesPatch b t ops.items (Granted status triples names) → IsReady b s (Patching t n o) → Acts b (with_draft b d r w c) s (Patching t n o) Idle (CommitPatch ops) (Status status None)
+patch_kept b d q r w c s t n o ops v birth status triples names born grows made keeps commit nodes none written latest decided ready =
     let there = decided.0 in
     let m = dataset_of b in
     let g = updated (target_graph b t) ops.items in
@@ -201,7 +212,7 @@ patch_kept b d q r w c s t n ops v birth status triples names born grows made ke
     let number : b.versions.commit < last_number = decided.1.2 in
     let stored = is_stored (books_setting b) m b.versions.commit (Patches t ops.items) t (patched (graph_of_target m t) ops.items) (status_stored (books_setting b) m t ops.items there) (dataset_stored (books_setting b) m t ops.items there) status triples names decided.1 in
     let last : w.commit ≡ b.versions.commit + 1 = ap (λ (x : Pins). x.commit) commit in
-    let dataset = kept_dataset b d q r w c t v g birth most born grows made keeps commit nodes none written number ready.sound (leaf ∷ some.uploads) some.reads some.ledger.ledger ∙ ap (with_graph m t) (updated_is b t there ops.items) ∙ sym stored.dataset in
+    let dataset = kept_dataset b d q r w c t v g birth most born grows made keeps commit nodes none written latest number ready.sound (leaf ∷ some.uploads) some.reads some.ledger.ledger ∙ ap (with_graph m t) (updated_is b t there ops.items) ∙ sym stored.dataset in
     let request : b.request ≡ b.request + 0 = sym (add-zero b.request) in
     let counted : w.commit ≡ b.versions.commit + cond (is_success status) 1 0 = last ∙ sym (ap (λ x. b.versions.commit + cond x 1 0) stored.well) in
     record {
@@ -209,11 +220,11 @@ patch_kept b d q r w c s t n ops v birth status triples names born grows made ke
       totals = λ i. record { setting = books_setting b; dataset = dataset i; request = request i; commit = counted i };
       seat = refl;
       pins = ap (λ (x : Pins). x.seats) commit ∙ sym (set-get_or b.versions.seats s None);
-      sound = kept_sound b d q r w c t v g birth most born grows made keeps commit nodes none written number ready.sound (leaf ∷ some.uploads) some.reads some.ledger.ledger;
+      sound = kept_sound b d q r w c t v g birth most born grows made keeps commit nodes none written latest number ready.sound (leaf ∷ some.uploads) some.reads some.ledger.ledger;
       known = tt;
       grows = grows;
       ledgers = λ us rs l.
-          let e : KeptEnds b new most (leaf ∷ us) rs = kept_ends b d q r w c t v g birth most born grows made keeps commit nodes none written number ready.sound (leaf ∷ some.uploads) some.reads some.ledger.ledger (leaf ∷ us) rs l.ledger in
+          let e : KeptEnds b new most (leaf ∷ us) rs = kept_ends b d q r w c t v g birth most born grows made keeps commit nodes none written latest number ready.sound (leaf ∷ some.uploads) some.reads some.ledger.ledger (leaf ∷ us) rs l.ledger in
           let joins = replaced_joins b.versions.commit most (waste_at b.pool) (waste_at r) e.waste in
           record {
             ledger = ledger_stays new s Idle us rs l.read l.there e.ledger;
@@ -222,8 +233,3 @@ patch_kept b d q r w c s t n ops v birth status triples names born grows made ke
           };
       uses = tt;
     }
-
--- a commit with effect leaves the room that there was: the target's name was there
-pub patch_room : (old new : Books) (t : Target) (n : ℕ) (v : GraphVersion) (now : Seat) → now ≡ Idle → new.catalogue ≡ after_set old.catalogue t v → room_wanted old.catalogue.graphs t ≡ 0 → HoldsRoom old new (Patching t n) now
-patch_room old new t n v now idle written none =
-    subst (HoldsRoom old new (Patching t n)) (sym idle) (record { held = λ seats. record { kept = λ others few had. omega (arith, had, ap (λ (c : Catalogued). c.spare) written, none) } })

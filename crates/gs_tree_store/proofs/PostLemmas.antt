@@ -34,7 +34,9 @@ use Rattle.gs_keys.proofs.KeyLemmas.{triples_of_keys}
 use Rattle.gs_staging.proofs.KeyLemmas.{still_grows}
 use Rattle.gs_changes.specs.Endings.{UndoesAll, Restores}
 use Rattle.gs_catalogue.specs.declared.versions.GraphVersion.{GraphVersion}
-use Rattle.gs_catalogue.specs.Catalogues.{Catalogued, after_set}
+use Rattle.gs_catalogue.specs.Catalogues.{with_version}
+use Rattle.gs_records.specs.Records.{Recorded}
+use Rattle.gs_records.specs.Graphs.{current}
 use Rattle.gs_versions.specs.Pins.{Pins, at_commit}
 use Rattle.gs_ledger.specs.Marks.{waste_at}
 use Rattle.gs_ledger.specs.Ledger.{IsTreeOf}
@@ -42,11 +44,12 @@ use Rattle.gs_commit.specs.Commits.{KeepsDraftAll}
 use Rattle.gs_tree_store.specs.declared.books.Books.{Books}
 use Rattle.gs_tree_store.specs.declared.books.Seat.{Seat}
 use Rattle.gs_tree_store.specs.declared.books.Seat.TheVariants.{Idle, Writing}
-use Rattle.gs_tree_store.specs.Books.{books_setting, dataset_of, totals_of, seat_view, HasLedger, IsReady}
+use Rattle.gs_tree_store.specs.Books.{graphs_of, books_setting, dataset_of, totals_of, seat_view, HasLedger, IsReady}
 use Rattle.gs_tree_store.specs.Drafts.{CanDraft, IsRun, Drafts}
 use Rattle.gs_tree_store.specs.Uploads.{TakesKeys, MakesAgain}
 use Rattle.gs_tree_store.specs.Verdicts.{HasCounts}
 use Rattle.gs_tree_store.specs.Actions.{Acts, IsReadyAny}
+use Rattle.gs_tree_store.proofs.AlikeLemmas.{SameNow, with_records, acts_alike}
 use Rattle.gs_tree_store.proofs.CommitLemmas.{version_or}
 use Rattle.gs_tree_store.proofs.VerdictLemmas.{size_of_version, is_stored, is_not_stored, would_be_stored}
 use Rattle.gs_tree_store.proofs.WriteLemmas.{upload_graph, taken_over}
@@ -65,15 +68,14 @@ abbrev pub DecidesPost : Books → Target → GraphVersion → Verdict → Type 
 DecidesPost b t v verdict = DecidesStore (books_setting b) (dataset_of b) b.versions.commit t (posted b t v) verdict
 
 -- no memory, and nothing was done
-pub post_unread : (b : Books) (q : Nodes) (s : ℕ) (t : Target) (n : ℕ) (u : GraphVersion) (now : Seat) (a : Answer) → q ≡ b.pool → now ≡ Writing (Post t) n u → a ≡ Refused NoMemory → IsReady b s (Writing (Post t) n u)
-    → Acts b (with_nodes b b.dict q) s (Writing (Post t) n u) now Commit a
-post_unread b q s t n u now a same writes why ready =
-    let here : Acts b b s (Writing (Post t) n u) (Writing (Post t) n u) Commit (Refused NoMemory) = nothing_done b s (Writing (Post t) n u) Commit (Refused NoMemory) refl refl refl refl refl refl ready in
-    subst (λ x. Acts b (with_nodes b b.dict x) s (Writing (Post t) n u) now Commit a) (sym same)
-    (subst (λ x. Acts b b s (Writing (Post t) n u) x Commit a) (sym writes) (subst (λ x. Acts b b s (Writing (Post t) n u) (Writing (Post t) n u) Commit x) (sym why) here))
+pub post_unread : (b : Books) (q : Nodes) (s : ℕ) (t : Target) (n : ℕ) (u : GraphVersion) (o : ℕ) (now : Seat) (a : Answer) → q ≡ b.pool → now ≡ Writing (Post t) n u o → a ≡ Refused NoMemory → IsReady b s (Writing (Post t) n u o) → Acts b (with_nodes b b.dict q) s (Writing (Post t) n u o) now Commit a
+post_unread b q s t n u o now a same writes why ready =
+    let here : Acts b b s (Writing (Post t) n u o) (Writing (Post t) n u o) Commit (Refused NoMemory) = nothing_done b s (Writing (Post t) n u o) Commit (Refused NoMemory) refl refl refl refl refl refl ready in
+    subst (λ x. Acts b (with_nodes b b.dict x) s (Writing (Post t) n u o) now Commit a) (sym same)
+    (subst (λ x. Acts b b s (Writing (Post t) n u o) x Commit a) (sym writes) (subst (λ x. Acts b b s (Writing (Post t) n u o) (Writing (Post t) n u o) Commit x) (sym why) here))
 
 -- The upload's keys are `ks`, and `p1` is the pool without its tree.
-module _ (b : Books) (t : Target) (n : ℕ) (u : GraphVersion) (p1 : Nodes) (ks : List Key) (any : IsReadyAny b (Writing (Post t) n u)) (apart : TakesKeys b.pool p1 u.root ks) where
+module _ (b : Books) (t : Target) (n : ℕ) (u : GraphVersion) (o : ℕ) (p1 : Nodes) (ks : List Key) (any : IsReadyAny b (Writing (Post t) n u o)) (apart : TakesKeys b.pool p1 u.root ks) where
   abbrev tree : Tree
   tree = tree_at b.pool u.root
 
@@ -111,7 +113,7 @@ module _ (b : Books) (t : Target) (n : ℕ) (u : GraphVersion) (p1 : Nodes) (ks 
   mid_use = omega (arith, moved_use b b.dict p1 0 tree leaf (still_grows b.dict b.dict refl) any.ready.sound (apart.frees.step 0) (no_tree p1) none_aside us₀ rs₀ l₀, ap (λ (xs : List Key). length xs) apart.keys_are)
 
   -- a draft of the target's graph can be made,
-  pub mid_can : (old : GraphVersion) (birth : ℕ) → old ≡ version_or b.catalogue.graphs t → birth ≡ b.versions.commit + 1 → CanDraft birth b.dict.terms p1 old
+  pub mid_can : (old : GraphVersion) (birth : ℕ) → old ≡ version_or (graphs_of b) t → birth ≡ b.versions.commit + 1 → CanDraft birth b.dict.terms p1 old
   mid_can old birth is born =
       let counts : HasCounts mid = record { sound = mid_graphs.sound; ledger = record { uploads = leaf ∷ us₀; reads = rs₀; ledger = mid_ledger us₀ rs₀ l₀ } } in
       can_draft mid t old birth is born counts
@@ -136,13 +138,14 @@ module _ (b : Books) (t : Target) (n : ℕ) (u : GraphVersion) (p1 : Nodes) (ks 
     again_fits total = omega (arith, apart.total, total, mid_use, restores.in_use)
 
     -- beyond the limits: the upload is no more
-    post_full : (s : ℕ) → DecidesPost b t u Full → IsReady b s (Writing (Post t) n u) → Acts b (with_nodes b b.dict r) s (Writing (Post t) n u) Idle Commit (Status 507 None)
-    post_full s decided ready =
+    post_full : (x : Recorded) (s : ℕ) → SameNow b.records x → DecidesPost b t u Full → IsReady b s (Writing (Post t) n u o) → Acts b (with_records (with_nodes b b.dict r) x) s (Writing (Post t) n u o) Idle Commit (Status 507 None)
+    post_full x s now decided ready =
         let not = is_not_stored (books_setting b) (dataset_of b) b.versions.commit (Posts t graph) t (posted b t u) refl refl decided in
         let grows = still_grows b.dict b.dict refl in
         let graphs = moved_graphs b b.dict r 0 tree leaf grows ready.sound (gone_step 0) (no_tree r) restores.aside us₀ rs₀ l₀ in
         let waste = moved_waste b b.dict r 0 tree leaf grows ready.sound (gone_step 0) (no_tree r) restores.aside us₀ rs₀ l₀ in
-        record {
+        acts_alike (with_nodes b b.dict r) x now b s (Writing (Post t) n u o) Idle Commit (Status 507 None)
+        (record {
           fits = (not.status_is, refl, λ e. absurd (true≢false (sym e)));
           totals = λ i. record { setting = books_setting b; dataset = (graphs.dataset ∙ sym not.dataset) i; request = sym (add-zero b.request) i; commit = sym (add-zero b.versions.commit) i };
           seat = refl;
@@ -157,12 +160,12 @@ module _ (b : Books) (t : Target) (n : ℕ) (u : GraphVersion) (p1 : Nodes) (ks 
                 waste = subst (Joins IsUnreached (size_of graph) (waste_at b.pool)) (sym waste) (record { more = []; few = omega arith; same = λ f. omega arith; ended = λ k d lt. absurd (omega arith) });
               };
           uses = tt;
-        }
+        })
 
     -- refused: the upload is made again, from the same keys
     post_again : (r' : Nodes) (birth s : ℕ) (v : GraphVersion) (why : Refusal) → birth ≡ b.versions.commit + 1 → MakesAgain birth r r' ks v
-        → FitsSeat (totals_of b) (seat_view b (Writing (Post t) n u)) Commit (Refused why) → IsReady b s (Writing (Post t) n u)
-        → Acts b (with_nodes b b.dict r') s (Writing (Post t) n u) (Writing (Post t) n v) Commit (Refused why)
+        → FitsSeat (totals_of b) (seat_view b (Writing (Post t) n u o)) Commit (Refused why) → IsReady b s (Writing (Post t) n u o)
+        → Acts b (with_nodes b b.dict r') s (Writing (Post t) n u o) (Writing (Post t) n v o) Commit (Refused why)
     post_again r' birth s v why born puts fits ready =
         let made = puts.built in
         let grows = still_grows b.dict b.dict refl in
@@ -190,41 +193,39 @@ module _ (b : Books) (t : Target) (n : ℕ) (u : GraphVersion) (p1 : Nodes) (ks 
           };
           grows = grows;
           ledgers = λ us rs l. record {
-            ledger = ledger_stays (with_nodes b b.dict r') s (Writing (Post t) n v) us rs l.read l.there (moved_ledger b b.dict r' birth tree new grows ready.sound step stands none us₀ rs₀ l₀ us rs l.ledger);
+            ledger = ledger_stays (with_nodes b b.dict r') s (Writing (Post t) n v o) us rs l.read l.there (moved_ledger b b.dict r' birth tree new grows ready.sound step stands none us₀ rs₀ l₀ us rs l.ledger);
             waste = moved_waste b b.dict r' birth tree new grows ready.sound step stands none us₀ rs₀ l₀;
           };
           uses = omega (arith, used, ap (λ (xs : List Key). length xs) same);
         }
 
     -- want of memory
-    pub post_unmade : (r' : Nodes) (birth s : ℕ) (v : GraphVersion) (now : Seat) (a : Answer) → birth ≡ b.versions.commit + 1 → MakesAgain birth r r' ks v → now ≡ Writing (Post t) n v → a ≡ Refused NoMemory → IsReady b s (Writing (Post t) n u)
-        → Acts b (with_nodes b b.dict r') s (Writing (Post t) n u) now Commit a
+    pub post_unmade : (r' : Nodes) (birth s : ℕ) (v : GraphVersion) (now : Seat) (a : Answer) → birth ≡ b.versions.commit + 1 → MakesAgain birth r r' ks v → now ≡ Writing (Post t) n v o → a ≡ Refused NoMemory → IsReady b s (Writing (Post t) n u o) → Acts b (with_nodes b b.dict r') s (Writing (Post t) n u o) now Commit a
     post_unmade r' birth s v now a born puts writes why ready =
-        subst (λ x. Acts b (with_nodes b b.dict r') s (Writing (Post t) n u) x Commit a) (sym writes)
-        (subst (λ x. Acts b (with_nodes b b.dict r') s (Writing (Post t) n u) (Writing (Post t) n v) Commit x) (sym why) (post_again r' birth s v NoMemory born puts refl ready))
+        subst (λ x. Acts b (with_nodes b b.dict r') s (Writing (Post t) n u o) x Commit a) (sym writes)
+        (subst (λ x. Acts b (with_nodes b b.dict r') s (Writing (Post t) n u o) (Writing (Post t) n v o) Commit x) (sym why) (post_again r' birth s v NoMemory born puts refl ready))
 
     -- no commit number is left
-    post_last : (r' : Nodes) (birth s : ℕ) (v : GraphVersion) (now : Seat) (a : Answer) → birth ≡ b.versions.commit + 1 → DecidesPost b t u LastNumber → MakesAgain birth r r' ks v → now ≡ Writing (Post t) n v → a ≡ Refused NoNumber → IsReady b s (Writing (Post t) n u)
-        → Acts b (with_nodes b b.dict r') s (Writing (Post t) n u) now Commit a
+    post_last : (r' : Nodes) (birth s : ℕ) (v : GraphVersion) (now : Seat) (a : Answer) → birth ≡ b.versions.commit + 1 → DecidesPost b t u LastNumber → MakesAgain birth r r' ks v → now ≡ Writing (Post t) n v o → a ≡ Refused NoNumber → IsReady b s (Writing (Post t) n u o) → Acts b (with_nodes b b.dict r') s (Writing (Post t) n u o) now Commit a
     post_last r' birth s v now a born decided puts writes why ready =
         let would = would_be_stored (books_setting b) (dataset_of b) b.versions.commit (Posts t graph) t (posted b t u) refl refl decided in
-        subst (λ x. Acts b (with_nodes b b.dict r') s (Writing (Post t) n u) x Commit a) (sym writes)
-        (subst (λ x. Acts b (with_nodes b b.dict r') s (Writing (Post t) n u) (Writing (Post t) n v) Commit x) (sym why) (post_again r' birth s v NoNumber born puts (would, decided.1) ready))
+        subst (λ x. Acts b (with_nodes b b.dict r') s (Writing (Post t) n u o) x Commit a) (sym writes)
+        (subst (λ x. Acts b (with_nodes b b.dict r') s (Writing (Post t) n u o) (Writing (Post t) n v o) Commit x) (sym why) (post_again r' birth s v NoNumber born puts (would, decided.1) ready))
 
   -- the draft of a version with the keys too
   abbrev DraftsKeys : Nodes → ℕ → GraphVersion → GraphVersion → Type 0
   DraftsKeys q birth old v = Drafts birth b.dict.terms p1 q old v (with_triples (graph_at b.dict.terms p1 old.root) (map (triple_at b.dict.terms) ks)) (259 * length ks)
 
   -- The draft `v`, of the version `old` that the target had.
-  module _ (q : Nodes) (birth : ℕ) (old v : GraphVersion) (is : old ≡ version_or b.catalogue.graphs t) (drafts : DraftsKeys q birth old v) where
+  module _ (q : Nodes) (birth : ℕ) (old v : GraphVersion) (is : old ≡ version_or (graphs_of b) t) (drafts : DraftsKeys q birth old v) where
     abbrev both : Graph
-    both = with_triples (graph_at b.dict.terms p1 (version_or b.catalogue.graphs t).root) (triples_of graph)
+    both = with_triples (graph_at b.dict.terms p1 (version_or (graphs_of b) t).root) (triples_of graph)
 
     -- it is that of the target, with the upload's triples
-    draft_made : Drafts birth b.dict.terms p1 q (version_or b.catalogue.graphs t) v both (259 * size_of graph)
+    draft_made : Drafts birth b.dict.terms p1 q (version_or (graphs_of b) t) v both (259 * size_of graph)
     draft_made =
-        subst (λ k. Drafts birth b.dict.terms p1 q (version_or b.catalogue.graphs t) v both (259 * k)) size_is
-        (subst (λ ts. Drafts birth b.dict.terms p1 q (version_or b.catalogue.graphs t) v (with_triples (graph_at b.dict.terms p1 (version_or b.catalogue.graphs t).root) ts) (259 * length ks)) triples_are
+        subst (λ k. Drafts birth b.dict.terms p1 q (version_or (graphs_of b) t) v both (259 * k)) size_is
+        (subst (λ ts. Drafts birth b.dict.terms p1 q (version_or (graphs_of b) t) v (with_triples (graph_at b.dict.terms p1 (version_or (graphs_of b) t).root) ts) (259 * length ks)) triples_are
         (subst (λ w. DraftsKeys q birth w v) is drafts))
 
     both_is : both ≡ posted b t u
@@ -250,23 +251,21 @@ module _ (b : Books) (t : Target) (n : ℕ) (u : GraphVersion) (p1 : Nodes) (ks 
     -- The verdict on it, by the counts of the books.
     module _ (held : Holdings) (place : Place) (holds : held ≡ holdings_of (books_setting b) (dataset_of b) b.versions.commit) (at : place ≡ place_in (dataset_of b) t) where
       -- no commit number is left: it was taken back, and the upload made again
-      pub draft_last : (r r' : Nodes) (s : ℕ) (x : GraphVersion) (now : Seat) (a : Answer) → LastNumber ≡ verdict_of held place (Stores v.triples true) → UndoesAll birth q r (tree_at q v.root) → birth ≡ b.versions.commit + 1
-          → MakesAgain birth r r' ks x → now ≡ Writing (Post t) n x → a ≡ Refused NoNumber → IsReady b s (Writing (Post t) n u) → Acts b (with_nodes b b.dict r') s (Writing (Post t) n u) now Commit a
+      pub draft_last : (r r' : Nodes) (s : ℕ) (x : GraphVersion) (now : Seat) (a : Answer) → LastNumber ≡ verdict_of held place (Stores v.triples true) → UndoesAll birth q r (tree_at q v.root) → birth ≡ b.versions.commit + 1 → MakesAgain birth r r' ks x → now ≡ Writing (Post t) n x o → a ≡ Refused NoNumber → IsReady b s (Writing (Post t) n u o) → Acts b (with_nodes b b.dict r') s (Writing (Post t) n u o) now Commit a
       draft_last r r' s x now a by undoes born puts writes why ready =
           post_last r (draft_undone r undoes) r' birth s x now a born (draft_decided held place LastNumber holds at by) puts writes why ready
 
       -- beyond the limits: it was taken back
-      pub draft_full : (r : Nodes) (s : ℕ) (now : Seat) → now ≡ Idle → Full ≡ verdict_of held place (Stores v.triples true) → UndoesAll birth q r (tree_at q v.root) → IsReady b s (Writing (Post t) n u)
-          → Acts b (with_nodes b b.dict r) s (Writing (Post t) n u) now Commit (Status 507 None)
-      draft_full r s now idle by undoes ready =
-          subst (λ x. Acts b (with_nodes b b.dict r) s (Writing (Post t) n u) x Commit (Status 507 None)) (sym idle)
-          (post_full r (draft_undone r undoes) s (draft_decided held place Full holds at by) ready)
+      pub draft_full : (r : Nodes) (x : Recorded) (s : ℕ) (now : Seat) → now ≡ Idle → SameNow b.records x → Full ≡ verdict_of held place (Stores v.triples true) → UndoesAll birth q r (tree_at q v.root) → IsReady b s (Writing (Post t) n u o) → Acts b (with_records (with_nodes b b.dict r) x) s (Writing (Post t) n u o) now Commit (Status 507 None)
+      draft_full r x s now idle same by undoes ready =
+          subst (λ y. Acts b (with_records (with_nodes b b.dict r) x) s (Writing (Post t) n u o) y Commit (Status 507 None)) (sym idle)
+          (post_full r (draft_undone r undoes) x s same (draft_decided held place Full holds at by) ready)
 
       -- kept, it is the target's graph
-      pub draft_stored : (r : Nodes) (w : Pins) (c : Catalogued) (s status triples names : ℕ) (now : Seat) → now ≡ Idle → Granted status triples names ≡ verdict_of held place (Stores v.triples true) → birth ≡ b.versions.commit + 1
-          → KeepsDraftAll b.versions w q r → w ≡ at_commit b.versions (b.versions.commit + 1) → r.nodes ≡ q.nodes → aside_count r ≡ 0 → c ≡ after_set b.catalogue t v → IsReady b s (Writing (Post t) n u)
-          → Acts b (with_draft b b.dict r w c) s (Writing (Post t) n u) now Commit (Status status None)
-      draft_stored r w c s status triples names now idle by born keeps commit nodes none written ready =
+      pub draft_stored : (r : Nodes) (w : Pins) (c : Recorded) (s status triples names : ℕ) (now : Seat) → now ≡ Idle → Granted status triples names ≡ verdict_of held place (Stores v.triples true) → birth ≡ b.versions.commit + 1
+          → KeepsDraftAll b.versions w q r → w ≡ at_commit b.versions (b.versions.commit + 1) → r.nodes ≡ q.nodes → aside_count r ≡ 0 → current c.records ≡ with_version (graphs_of b) t v → c.latest ≡ birth → IsReady b s (Writing (Post t) n u o)
+          → Acts b (with_draft b b.dict r w c) s (Writing (Post t) n u o) now Commit (Status status None)
+      draft_stored r w c s status triples names now idle by born keeps commit nodes none written latest ready =
           let decided = draft_decided held place (Granted status triples names) holds at by in
           let grows = still_grows b.dict b.dict refl in
           let most = 259 * size_of graph in
@@ -275,20 +274,20 @@ module _ (b : Books) (t : Target) (n : ℕ) (u : GraphVersion) (p1 : Nodes) (ks 
           let stored = is_stored (books_setting b) (dataset_of b) b.versions.commit (Posts t graph) t (posted b t u) refl refl status triples names decided in
           let last : w.commit ≡ b.versions.commit + 1 = ap (λ (x : Pins). x.commit) commit in
           let here : HasLedger mid (leaf ∷ us₀) rs₀ = mid_ledger us₀ rs₀ l₀ in
-          let dataset : dataset_of new ≡ with_graph (dataset_of mid) t both = kept_dataset mid b.dict q r w c t v both birth most born grows draft_made keeps commit nodes none written number mid_graphs.sound (leaf ∷ us₀) rs₀ here in
+          let dataset : dataset_of new ≡ with_graph (dataset_of mid) t both = kept_dataset mid b.dict q r w c t v both birth most born grows draft_made keeps commit nodes none written latest number mid_graphs.sound (leaf ∷ us₀) rs₀ here in
           let written_is : with_graph (dataset_of mid) t both ≡ with_graph (dataset_of b) t (posted b t u) = λ i. with_graph (mid_graphs.dataset i) t (both_is i) in
           let request : b.request ≡ b.request + 0 = sym (add-zero b.request) in
           let counted : w.commit ≡ b.versions.commit + cond (is_success status) 1 0 = last ∙ sym (ap (λ x. b.versions.commit + cond x 1 0) stored.well) in
-          let acts : Acts b new s (Writing (Post t) n u) Idle Commit (Status status None) = record {
+          let acts : Acts b new s (Writing (Post t) n u o) Idle Commit (Status status None) = record {
             fits = (stored.status_is, refl, λ e. number);
             totals = λ i. record { setting = books_setting b; dataset = (dataset ∙ written_is ∙ sym stored.dataset) i; request = request i; commit = counted i };
             seat = refl;
             pins = ap (λ (x : Pins). x.seats) commit ∙ sym (set-get_or b.versions.seats s None);
-            sound = kept_sound mid b.dict q r w c t v both birth most born grows draft_made keeps commit nodes none written number mid_graphs.sound (leaf ∷ us₀) rs₀ here;
+            sound = kept_sound mid b.dict q r w c t v both birth most born grows draft_made keeps commit nodes none written latest number mid_graphs.sound (leaf ∷ us₀) rs₀ here;
             known = tt;
             grows = grows;
             ledgers = λ us rs l.
-                let e : KeptEnds mid new most (leaf ∷ us) rs = kept_ends mid b.dict q r w c t v both birth most born grows draft_made keeps commit nodes none written number mid_graphs.sound (leaf ∷ us₀) rs₀ here (leaf ∷ us) rs (mid_ledger us rs l.ledger) in
+                let e : KeptEnds mid new most (leaf ∷ us) rs = kept_ends mid b.dict q r w c t v both birth most born grows draft_made keeps commit nodes none written latest number mid_graphs.sound (leaf ∷ us₀) rs₀ here (leaf ∷ us) rs (mid_ledger us rs l.ledger) in
                 let copied = taken_over b.versions.commit (size_of graph) most (waste_at b.pool) (waste_at r) (omega arith) (subst (λ ls. Joins (EndsAt (b.versions.commit + 1)) most ls (waste_at r)) mid_waste e.waste) in
                 record {
                   ledger = ledger_stays new s Idle us rs l.read l.there e.ledger;
@@ -296,4 +295,4 @@ module _ (b : Books) (t : Target) (n : ℕ) (u : GraphVersion) (p1 : Nodes) (ks 
                 };
             uses = tt;
           } in
-          subst (λ x. Acts b (with_draft b b.dict r w c) s (Writing (Post t) n u) x Commit (Status status None)) (sym idle) acts
+          subst (λ x. Acts b (with_draft b b.dict r w c) s (Writing (Post t) n u o) x Commit (Status status None)) (sym idle) acts

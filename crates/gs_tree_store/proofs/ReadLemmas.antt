@@ -34,7 +34,7 @@ use Rattle.gs_datasets.proofs.Keeping.{ledger_has_sets}
 use Rattle.gs_tree_store.specs.declared.books.Books.{Books}
 use Rattle.gs_tree_store.specs.declared.books.Seat.{Seat}
 use Rattle.gs_tree_store.specs.declared.books.Seat.TheVariants.{Idle, Reading}
-use Rattle.gs_tree_store.specs.Books.{dataset_of, upload_tree, IsReady}
+use Rattle.gs_tree_store.specs.Books.{graphs_of, dataset_of, upload_tree, IsReady}
 use Rattle.gs_tree_store.specs.Actions.{Acts}
 use Rattle.gs_tree_store.proofs.PlaceLemmas.{some_of}
 use Rattle.gs_tree_store.proofs.SeatLemmas.{same_totals, ledger_stays, read_ends}
@@ -48,16 +48,16 @@ has_tree p g t v is =
     (λ k d h. (k, subst (λ n. k < n) (sym (length-map vs f)) h, get_or-map f vs k d (f (get_or vs k d)) h))
 
 -- its root can be read
-version_read : (b : Books) (s : ℕ) (seat : Seat) (t : Target) (v : GraphVersion) → version_at b.catalogue.graphs t ≡ Some v → IsReady b s seat → IsVersion b.dict.terms b.pool v × IsGraphAt b.dict.terms b.pool v.root
+version_read : (b : Books) (s : ℕ) (seat : Seat) (t : Target) (v : GraphVersion) → version_at (graphs_of b) t ≡ Some v → IsReady b s seat → IsVersion b.dict.terms b.pool v × IsGraphAt b.dict.terms b.pool v.root
 version_read b s seat t v is ready =
     let terms = b.dict.terms in
     let p = b.pool in
-    let gs = graph_trees p b.catalogue.graphs in
+    let gs = graph_trees p (graphs_of b) in
     let some = ready.ledger in
-    let version : IsVersion terms p v = all_target (IsVersion terms p) b.catalogue.graphs t v is ready.sound.versions in
+    let version : IsVersion terms p v = all_target (IsVersion terms p) (graphs_of b) t v is ready.sound.versions in
     let sets = ledger_has_sets terms p b.versions gs (upload_tree p seat ∷ some.uploads) some.reads (dead_at p) some.ledger.ledger in
     let one : IsSetAt (key_cmp terms) p (root_of (tree_at p v.root)) =
-    all_at (λ u. IsKeyed terms u → IsSetAt (key_cmp terms) p (root_of u)) gs (tree_at p v.root) sets.current (has_tree p b.catalogue.graphs t v is) version.keyed in
+    all_at (λ u. IsKeyed terms u → IsSetAt (key_cmp terms) p (root_of u)) gs (tree_at p v.root) sets.current (has_tree p (graphs_of b) t v is) version.keyed in
     (version, set_graph terms p v.root (subst (IsSetAt (key_cmp terms) p) version.root_is one) version.keyed.given)
 
 -- the root of a read can be read: its tree is among those that the seat has pinned
@@ -69,7 +69,7 @@ read_at b s root last ready =
     let tree = tree_at p root in
     let can_read : Tree → Type 0 = λ t. IsKeyed terms t → IsReadableAt (key_cmp terms) p (root_of t) in
     let pin = some_of (get_or b.versions.seats s None) ready.pinned in
-    let sets = ledger_has_sets terms p b.versions (graph_trees p b.catalogue.graphs) (leaf ∷ some.uploads) some.reads (dead_at p) some.ledger.ledger in
+    let sets = ledger_has_sets terms p b.versions (graph_trees p (graphs_of b)) (leaf ∷ some.uploads) some.reads (dead_at p) some.ledger.ledger in
     let each : All can_read (tree ∷ []) = subst (All can_read) some.ledger.read (sets.read s pin.0 pin.1) in
     let one : IsReadableAt (key_cmp terms) p (root_of tree) = All-head can_read tree [] each ready.known.keyed in
     record { set = subst (IsReadableAt (key_cmp terms) p) ready.known.root_is one; given = ready.known.keyed.given }
@@ -78,9 +78,9 @@ pub read_graph : (b : Books) (s : ℕ) (seat : Seat) (root : Option ℕ) (last :
 read_graph b s seat root last reads = subst (λ x. IsReady b s x → IsGraphAt b.dict.terms b.pool root) (sym reads) (read_at b s root last)
 
 -- a pin of a missing graph
-missing : (b : Books) (s : ℕ) (t : Target) → version_at b.catalogue.graphs t ≡ None → IsReady b s Idle → Acts b b s Idle Idle (Pin t) (Pinned 404)
+missing : (b : Books) (s : ℕ) (t : Target) → version_at (graphs_of b) t ≡ None → IsReady b s Idle → Acts b b s Idle Idle (Pin t) (Pinned 404)
 missing b s t none ready =
-    let not_there : is_there (dataset_of b) t ≡ false = is_there-is b.dict.terms b.pool b.catalogue.graphs t ∙ ap is_some none in
+    let not_there : is_there (dataset_of b) t ≡ false = is_there-is b.dict.terms b.pool (graphs_of b) t ∙ ap is_some none in
     record {
       fits = sym (ap (λ x. cond x 200 404) not_there);
       totals = same_totals b b refl refl refl refl;
@@ -93,16 +93,16 @@ missing b s t none ready =
       uses = refl;
     }
 
-pub pin_missing : (b : Books) (s : ℕ) (seat : Seat) (t : Target) → seat ≡ Idle → version_at b.catalogue.graphs t ≡ None → IsReady b s seat → Acts b b s seat seat (Pin t) (Pinned 404)
+pub pin_missing : (b : Books) (s : ℕ) (seat : Seat) (t : Target) → seat ≡ Idle → version_at (graphs_of b) t ≡ None → IsReady b s seat → Acts b b s seat seat (Pin t) (Pinned 404)
 pin_missing b s seat t idle none = subst (λ x. IsReady b s x → Acts b b s x x (Pin t) (Pinned 404)) (sym idle) (missing b s t none)
 
 -- a pin of a graph
-pinned : (b : Books) (s : ℕ) (t : Target) (v : GraphVersion) → version_at b.catalogue.graphs t ≡ Some v → IsReady b s Idle
+pinned : (b : Books) (s : ℕ) (t : Target) (v : GraphVersion) → version_at (graphs_of b) t ≡ Some v → IsReady b s Idle
     → Acts b (record b { versions = with_pin b.versions s (Some b.versions.commit) }) s Idle (Reading v.root None) (Pin t) (Pinned 200)
 pinned b s t v is ready =
     let terms = b.dict.terms in
     let p = b.pool in
-    let g = b.catalogue.graphs in
+    let g = graphs_of b in
     let read = version_read b s Idle t v is ready in
     let there : is_there (dataset_of b) t ≡ true = is_there-is terms p g t ∙ ap is_some is in
     let graph : lines_at (dataset_of b) t ≡ lines_of (graph_at terms p v.root) = ap lines_if (graph_at-is terms p g t ∙ ap (option_map (version_graph terms p)) is) in
@@ -115,7 +115,7 @@ pinned b s t v is ready =
       totals = same_totals b (record b { versions = with_pin b.versions s (Some b.versions.commit) }) refl refl refl refl;
       seat = ap (λ x. phase.Reading x) lines;
       pins = refl;
-      sound = record { versions = ready.sound.versions; none_aside = ready.sound.none_aside; commit = ready.sound.commit; base = ready.sound.base };
+      sound = record { versions = ready.sound.versions; none_aside = ready.sound.none_aside; commit = ready.sound.commit; latest = ready.sound.latest; base = ready.sound.base };
       known = record { root_is = read.0.root_is; keyed = read.0.keyed; given = tt };
       grows = still_grows b.dict b.dict refl;
       ledgers = λ us rs l. record {
@@ -129,7 +129,7 @@ pinned b s t v is ready =
       uses = refl;
     }
 
-pub pin_found : (b : Books) (s : ℕ) (seat : Seat) (t : Target) (v : GraphVersion) (w : Pins) → seat ≡ Idle → version_at b.catalogue.graphs t ≡ Some v → w ≡ with_pin b.versions s (Some b.versions.commit) → IsReady b s seat
+pub pin_found : (b : Books) (s : ℕ) (seat : Seat) (t : Target) (v : GraphVersion) (w : Pins) → seat ≡ Idle → version_at (graphs_of b) t ≡ Some v → w ≡ with_pin b.versions s (Some b.versions.commit) → IsReady b s seat
     → Acts b (record b { versions = w }) s seat (Reading v.root None) (Pin t) (Pinned 200)
 pin_found b s seat t v w idle is pin =
     subst (λ x. IsReady b s x → Acts b (record b { versions = w }) s x (Reading v.root None) (Pin t) (Pinned 200)) (sym idle)
@@ -163,7 +163,7 @@ none_left b s root last count piece some ends p ready = record {
   totals = same_totals b (record b { versions = with_pin b.versions s None }) refl refl refl refl;
   seat = refl;
   pins = refl;
-  sound = record { versions = ready.sound.versions; none_aside = ready.sound.none_aside; commit = ready.sound.commit; base = ready.sound.base };
+  sound = record { versions = ready.sound.versions; none_aside = ready.sound.none_aside; commit = ready.sound.commit; latest = ready.sound.latest; base = ready.sound.base };
   known = tt;
   grows = still_grows b.dict b.dict refl;
   ledgers = λ us rs l. record { ledger = read_ends b s root last us rs ready.there l; waste = refl };

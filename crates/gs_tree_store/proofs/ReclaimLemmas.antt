@@ -1,16 +1,19 @@
 -- What a Reclaim keeps of the whole store.
-use Rattle.std.proofs.Common.{◌≡◌, ℕ, ◌<◌, Bool, [], map, length, get_or, None, refl, sym, ◌∙◌, subst, arith}
+use Rattle.std.proofs.Common.{◌≡◌, ℕ, ◌<◌, Bool, List, [], map, length, get_or, Option, None, refl, sym, ap, ◌∙◌, subst, inl, inr, arith, true≢false}
 use Rattle.std.specs.List.{All}
 use Rattle.std.proofs.lemmas.List.{append-nil, length-map, get_or-map}
 use Rattle.gs_event.specs.declared.events.Event.TheVariants.{Reclaim}
 use Rattle.gs_event.specs.declared.answers.Answer.TheVariants.{Reclaimed}
-use Rattle.gs_event.specs.Waste.{Shown}
+use Rattle.gs_event.specs.Waste.{Lifetime, Shown}
 use Rattle.gs_event.specs.Steps.{Frees, Steps}
 use Rattle.gs_pool.specs.Pool.{Nodes, aside_count}
 use Rattle.gs_tree.specs.Tree.{leaf}
 use Rattle.gs_ledger.specs.Marks.{dead_at, waste_at}
 use Rattle.gs_ledger.specs.Ledger.{IsLedger}
 use Rattle.gs_reclaim.specs.Reclaims.{KeepsLedgers}
+use Rattle.gs_records.specs.Records.{Record, opened, Recorded, record_at}
+use Rattle.gs_records.specs.Waste.{lifetimes, is_opened}
+use Rattle.gs_records.specs.Reclaims.{StaysOrGoes, Reclaims}
 use Rattle.gs_datasets.specs.Standing.{dataset_at, all_versions, graph_trees, IsVersion}
 use Rattle.gs_datasets.specs.Trees.{IsMeant, IsPlainTree}
 use Rattle.gs_datasets.specs.Writes.{KeepsDataset}
@@ -18,33 +21,49 @@ use Rattle.gs_datasets.proofs.Keeping.{ledger_keeps, graphs_stay}
 use Rattle.gs_datasets.proofs.Writing.{all_stay}
 use Rattle.gs_tree_store.specs.declared.books.Seat.{Seat}
 use Rattle.gs_tree_store.specs.declared.stores.TreeStore.TheInside.{Inside}
-use Rattle.gs_tree_store.specs.Books.{seat_view, upload_tree, read_trees, IsSeat}
+use Rattle.gs_tree_store.specs.Books.{graphs_of, seat_view, upload_tree, read_trees, IsSeat}
+use Rattle.gs_tree_store.specs.Opened.{IsOpened}
 use Rattle.gs_tree_store.specs.Kept.{shown_of, IsKept}
+use Rattle.gs_tree_store.proofs.AlikeLemmas.{SameNow, alike_dataset, alike_sound}
 use Rattle.gs_tree_store.proofs.PlaceLemmas.{same_map, pin_at, some_of}
 use Rattle.gs_tree_store.proofs.ShownLemmas.{outlives_same, KeepsSeat, same_upload, same_read, keeps_seat, seat_stays, shown_stays}
 use Rattle.gs_tree_store.proofs.KeptLemmas.{uploads_of, reads_of}
 
 -- the store with another pool
-abbrev pub with_pool : Inside → Nodes → Inside
+abbrev with_pool : Inside → Nodes → Inside
 with_pool a q = record a { books = record a.books { pool = q } }
 
+-- and with other records
+abbrev pub reclaimed : Inside → Nodes → Recorded → Inside
+reclaimed a q r = record a { books = record a.books { pool = q; records = r } }
+
+-- what is open has no lifetime, so it stays
+opened_stays : (pins : List (Option ℕ)) (old new : Record) → old ≡ opened → StaysOrGoes pins old new → new ≡ opened
+opened_stays pins old new open_now (inl same) = same ∙ open_now
+opened_stays pins old new open_now (inr (gone, none)) = absurd (omega (arith, ap (λ (ls : List Lifetime). length ls) (sym (ap lifetimes open_now) ∙ none.only)))
+
+-- and what is open now was open
+opened_was : (pins : List (Option ℕ)) (old new : Record) → new ≡ opened → StaysOrGoes pins old new → old ≡ opened
+opened_was pins old new open_now (inl same) = sym same ∙ open_now
+opened_was pins old new open_now (inr (gone, none)) = absurd (true≢false (sym (ap is_opened (sym gone ∙ open_now))))
+
 module _ (a : Inside) (q : Nodes) (kept : IsKept a) (ledgers : KeepsLedgers a.books.versions a.books.pool q) where
-  gone_on : IsLedger q a.books.versions (graph_trees a.books.pool a.books.catalogue.graphs) (uploads_of a) (reads_of a) (dead_at q)
-  gone_on = ledgers (graph_trees a.books.pool a.books.catalogue.graphs) (uploads_of a) (reads_of a) kept.ledger
+  gone_on : IsLedger q a.books.versions (graph_trees a.books.pool (graphs_of a.books)) (uploads_of a) (reads_of a) (dead_at q)
+  gone_on = ledgers (graph_trees a.books.pool (graphs_of a.books)) (uploads_of a) (reads_of a) kept.ledger
 
   -- versions have the trees that they had
-  graphs_kept : KeepsDataset a.books.dict.terms [] a.books.pool q a.books.catalogue.graphs
+  graphs_kept : KeepsDataset a.books.dict.terms [] a.books.pool q (graphs_of a.books)
   graphs_kept =
       let terms = a.books.dict.terms in
       let p = a.books.pool in
-      let g = a.books.catalogue.graphs in
+      let g = graphs_of a.books in
       all_stay terms [] p q g kept.sound.versions (graphs_stay terms p q g a.books.versions (uploads_of a) (reads_of a) (dead_at q) kept.sound.versions gone_on)
 
-  versions_kept : All (IsVersion a.books.dict.terms q) (all_versions a.books.catalogue.graphs)
-  versions_kept = subst (λ ts. All (IsVersion ts q) (all_versions a.books.catalogue.graphs)) (append-nil a.books.dict.terms) graphs_kept.versions
+  versions_kept : All (IsVersion a.books.dict.terms q) (all_versions (graphs_of a.books))
+  versions_kept = subst (λ ts. All (IsVersion ts q) (all_versions (graphs_of a.books))) (append-nil a.books.dict.terms) graphs_kept.versions
 
-  dataset_kept : dataset_at a.books.dict.terms q a.books.catalogue.graphs ≡ dataset_at a.books.dict.terms a.books.pool a.books.catalogue.graphs
-  dataset_kept = subst (λ ts. dataset_at ts q a.books.catalogue.graphs ≡ dataset_at a.books.dict.terms a.books.pool a.books.catalogue.graphs) (append-nil a.books.dict.terms) graphs_kept.dataset
+  dataset_kept : dataset_at a.books.dict.terms q (graphs_of a.books) ≡ dataset_at a.books.dict.terms a.books.pool (graphs_of a.books)
+  dataset_kept = subst (λ ts. dataset_at ts q (graphs_of a.books) ≡ dataset_at a.books.dict.terms a.books.pool (graphs_of a.books)) (append-nil a.books.dict.terms) graphs_kept.dataset
 
   -- and so do seats
   seats_kept : (k : ℕ) (d : Seat) → k < length a.seats.items → KeepsSeat a.books.pool q (get_or a.seats.items k d)
@@ -52,7 +71,7 @@ module _ (a : Inside) (q : Nodes) (kept : IsKept a) (ledgers : KeepsLedgers a.bo
       let p = a.books.pool in
       let xs = a.seats.items in
       let pins = a.books.versions.seats in
-      let trees = ledger_keeps q a.books.versions (graph_trees p a.books.catalogue.graphs) (uploads_of a) (reads_of a) (dead_at q) gone_on in
+      let trees = ledger_keeps q a.books.versions (graph_trees p (graphs_of a.books)) (uploads_of a) (reads_of a) (dead_at q) gone_on in
       let long : length (uploads_of a) ≡ length xs = length-map xs (upload_tree p) in
       let staged : IsPlainTree q (upload_tree p (get_or xs k d)) = subst (IsPlainTree q) (get_or-map (upload_tree p) xs k d leaf lt) (trees.staged k leaf (omega arith)) in
       keeps_seat p q a.books.dict.terms (get_or xs k d) (kept.known k d lt) staged
@@ -67,34 +86,57 @@ module _ (a : Inside) (q : Nodes) (kept : IsKept a) (ledgers : KeepsLedgers a.bo
   seats_shown = same_map (seat_view a.books) (seat_view (with_pool a q).books) a.seats.items
       (λ k d lt. shown_stays a.books.dict.terms a.books.dict.terms (outlives_same a.books.dict.terms) a.books.pool q (get_or a.seats.items k d) (kept.known k d lt) (seats_kept k d lt))
 
-  ledger_kept : IsLedger q a.books.versions (graph_trees q a.books.catalogue.graphs) (uploads_of (with_pool a q)) (reads_of (with_pool a q)) (dead_at q)
+  ledger_kept : IsLedger q a.books.versions (graph_trees q (graphs_of a.books)) (uploads_of (with_pool a q)) (reads_of (with_pool a q)) (dead_at q)
   ledger_kept =
       let p = a.books.pool in
       let xs = a.seats.items in
       let us : uploads_of (with_pool a q) ≡ uploads_of a = same_map (upload_tree p) (upload_tree q) xs (λ k d lt. same_upload p q (get_or xs k d) (seats_kept k d lt)) in
       let rs : reads_of (with_pool a q) ≡ reads_of a = same_map (read_trees p) (read_trees q) xs (λ k d lt. same_read p q (get_or xs k d) (seats_kept k d lt)) in
       subst (λ gs. IsLedger q a.books.versions gs (uploads_of (with_pool a q)) (reads_of (with_pool a q)) (dead_at q)) (sym graphs_kept.trees)
-      (subst (λ ts. IsLedger q a.books.versions (graph_trees p a.books.catalogue.graphs) ts (reads_of (with_pool a q)) (dead_at q)) (sym us)
-      (subst (λ ts. IsLedger q a.books.versions (graph_trees p a.books.catalogue.graphs) (uploads_of a) ts (dead_at q)) (sym rs) gone_on))
+      (subst (λ ts. IsLedger q a.books.versions (graph_trees p (graphs_of a.books)) ts (reads_of (with_pool a q)) (dead_at q)) (sym us)
+      (subst (λ ts. IsLedger q a.books.versions (graph_trees p (graphs_of a.books)) (uploads_of a) ts (dead_at q)) (sym rs) gone_on))
 
-  -- What holds of every store still holds,
-  pub kept_reclaimed : aside_count q ≡ 0 → IsKept (with_pool a q)
-  kept_reclaimed none = record {
-    sound = record { versions = versions_kept; none_aside = none; commit = kept.sound.commit; base = kept.sound.base };
+  pool_kept : aside_count q ≡ 0 → IsKept (with_pool a q)
+  pool_kept none = record {
+    sound = record { versions = versions_kept; none_aside = none; commit = kept.sound.commit; latest = kept.sound.latest; base = kept.sound.base };
     known = seats_known;
     pinned = kept.pinned;
-    room = kept.room;
+    records = record { open_now = kept.records.open_now; apart = kept.records.apart; all = kept.records.all };
     ledger = ledger_kept;
   }
 
-  own_reclaim : (n freed : ℕ) (left : Bool) → Frees a.books.versions.seats n freed left (waste_at a.books.pool) (waste_at q) → Steps (shown_of a) (Reclaim n) (Reclaimed freed left) (shown_of (with_pool a q))
-  own_reclaim n freed left frees = record {
-    fits = tt;
-    view = λ i. record { totals = record { setting = (shown_of a).view.totals.setting; dataset = dataset_kept i; request = a.books.request; commit = a.books.versions.commit }; seats = seats_shown i };
-    pinned = refl;
-    waste = frees;
-  }
+  -- Records that ended are gone too.
+  module _ (r : Recorded) (n gone : ℕ) (rest : Bool) (reclaims : Reclaims a.books.versions.seats n gone rest a.books.records r) where
+    -- the graphs of now are the same
+    now_same : SameNow a.books.records r
+    now_same = record { graphs = reclaims.now; latest = reclaims.latest }
 
-  -- and it is a step.
-  pub steps_reclaimed : (old : Shown) (n freed : ℕ) (left : Bool) → shown_of a ≡ old → Frees a.books.versions.seats n freed left (waste_at a.books.pool) (waste_at q) → Steps old (Reclaim n) (Reclaimed freed left) (shown_of (with_pool a q))
-  steps_reclaimed old n freed left view frees = subst (λ (x : Shown). Steps x (Reclaim n) (Reclaimed freed left) (shown_of (with_pool a q))) view (own_reclaim n freed left frees)
+    still_open : (k : ℕ) → IsOpened a.books k → IsOpened (reclaimed a q r).books k
+    still_open k open_now = opened_stays a.books.versions.seats (record_at a.books.records.records k) (record_at r.records k) open_now (reclaims.each k)
+
+    was_open : (k : ℕ) → IsOpened (reclaimed a q r).books k → IsOpened a.books k
+    was_open k open_now = opened_was a.books.versions.seats (record_at a.books.records.records k) (record_at r.records k) open_now (reclaims.each k)
+
+    -- What holds of every store still holds,
+    pub kept_reclaimed : aside_count q ≡ 0 → IsKept (reclaimed a q r)
+    kept_reclaimed none = record {
+      sound = alike_sound (with_pool a q).books r now_same (pool_kept none).sound;
+      known = seats_known;
+      pinned = kept.pinned;
+      records = record { open_now = λ k m e. still_open m (kept.records.open_now k m e); apart = kept.records.apart; all = λ m h. kept.records.all m (was_open m h) };
+      ledger = subst (λ g. IsLedger q a.books.versions (graph_trees q g) (uploads_of (with_pool a q)) (reads_of (with_pool a q)) (dead_at q)) (sym now_same.graphs) ledger_kept;
+    }
+
+    own_reclaim : (freed : ℕ) (left : Bool) → Frees a.books.versions.seats n freed left (waste_at a.books.pool) (waste_at q) → Steps (shown_of a) (Reclaim n) (Reclaimed freed left) (shown_of (reclaimed a q r))
+    own_reclaim freed left frees =
+        let dataset = alike_dataset (with_pool a q).books r now_same ∙ dataset_kept in
+        record {
+          fits = tt;
+          view = λ i. record { totals = record { setting = (shown_of a).view.totals.setting; dataset = dataset i; request = a.books.request; commit = a.books.versions.commit }; seats = seats_shown i };
+          pinned = refl;
+          waste = frees;
+        }
+
+    -- and it is a step.
+    pub steps_reclaimed : (old : Shown) (freed : ℕ) (left : Bool) → shown_of a ≡ old → Frees a.books.versions.seats n freed left (waste_at a.books.pool) (waste_at q) → Steps old (Reclaim n) (Reclaimed freed left) (shown_of (reclaimed a q r))
+    steps_reclaimed old freed left view frees = subst (λ (x : Shown). Steps x (Reclaim n) (Reclaimed freed left) (shown_of (reclaimed a q r))) view (own_reclaim freed left frees)

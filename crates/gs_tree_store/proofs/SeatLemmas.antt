@@ -17,7 +17,7 @@ use Rattle.gs_datasets.proofs.Writing.{all_stay}
 use Rattle.gs_tree_store.specs.declared.books.Books.{Books}
 use Rattle.gs_tree_store.specs.declared.books.Seat.{Seat}
 use Rattle.gs_tree_store.specs.declared.books.Seat.TheVariants.{Idle, Reading}
-use Rattle.gs_tree_store.specs.Books.{books_setting, dataset_of, totals_of, upload_tree, read_trees, is_reading, IsSound, IsReady, HasLedger, HasLedgerAt}
+use Rattle.gs_tree_store.specs.Books.{graphs_of, books_setting, dataset_of, totals_of, upload_tree, read_trees, is_reading, IsSound, IsReady, HasLedger, HasLedgerAt}
 
 -- a pin that is none
 none_pinned : (o : Option ℕ) → is_some o ≡ false → o ≡ None
@@ -40,14 +40,14 @@ same_totals b c setting dataset request commit =
 -- the books are sound and have the dataset and the trees that they had
 pub record SameGraphs (b c : Books) : Type 0 where
   pub dataset : dataset_of c ≡ dataset_of b
-  pub trees : graph_trees c.pool c.catalogue.graphs ≡ graph_trees b.pool b.catalogue.graphs
+  pub trees : graph_trees c.pool (graphs_of c) ≡ graph_trees b.pool (graphs_of b)
   pub sound : IsSound c
 
 -- that is so where there are more terms, and each version has the tree that it had
-pub same_graphs : (b : Books) (d : Numbered) (q : Nodes) (w : Pins) → IsSound b → Grows b.dict d → AreSameIn b.pool q (all_versions b.catalogue.graphs) → aside_count q ≡ 0 → w.commit ≡ b.versions.commit
+pub same_graphs : (b : Books) (d : Numbered) (q : Nodes) (w : Pins) → IsSound b → Grows b.dict d → AreSameIn b.pool q (all_versions (graphs_of b)) → aside_count q ≡ 0 → w.commit ≡ b.versions.commit
     → SameGraphs b (record b { dict = d; pool = q; versions = w })
 same_graphs b d q w sound grows same none commit =
-    let g = b.catalogue.graphs in
+    let g = graphs_of b in
     let kept = all_stay b.dict.terms grows.more b.pool q g sound.versions same in
     record {
       dataset = ap (λ ts. dataset_at ts q g) grows.terms ∙ kept.dataset;
@@ -56,6 +56,7 @@ same_graphs b d q w sound grows same none commit =
         versions = subst (λ ts. All (IsVersion ts q) (all_versions g)) (sym grows.terms) kept.versions;
         none_aside = none;
         commit = subst (λ n. n ≤ last_number) (sym commit) sound.commit;
+        latest = sound.latest ∙ sym commit;
         base = sound.base;
       };
     }
@@ -73,7 +74,7 @@ ledger_stays c s now us rs read there l =
 -- the end of a read: nothing is pinned, and no tree is there
 pub read_ends : (b : Books) (s : ℕ) (root : Option ℕ) (last : Option Key) (us : List Tree) (rs : List (List Tree)) → s < length b.versions.seats → HasLedgerAt b s (Reading root last) us rs → HasLedgerAt (record b { versions = with_pin b.versions s None }) s Idle us (set rs s [])
 read_ends b s root last us rs there l =
-    let gs = graph_trees b.pool b.catalogue.graphs in
+    let gs = graph_trees b.pool (graphs_of b) in
     let k = l.ledger in
     record {
       ledger = record {

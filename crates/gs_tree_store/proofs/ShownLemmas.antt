@@ -47,40 +47,40 @@ outlives_same terms = record { trees = keys_last terms; lines = λ from ks c g. 
 
 -- the root of a seat means the same tree in both pools
 abbrev pub KeepsSeat : Nodes → Nodes → Seat → Type 0
-KeepsSeat p q (Writing k r v) = tree_at q v.root ≡ tree_at p v.root
+KeepsSeat p q (Writing k r v o) = tree_at q v.root ≡ tree_at p v.root
 KeepsSeat p q (Reading root last) = tree_at q root ≡ tree_at p root
 KeepsSeat p q s = Unit {0}
 
 module _ (p q : Nodes) where
   pub same_upload : (s : Seat) → KeepsSeat p q s → upload_tree q s ≡ upload_tree p s
   same_upload Idle h = refl
-  same_upload (Writing k r v) h = h
-  same_upload (Patching t r) h = refl
+  same_upload (Writing k r v o) h = h
+  same_upload (Patching t r o) h = refl
   same_upload (Reading root last) h = refl
 
   pub same_read : (s : Seat) → KeepsSeat p q s → read_trees q s ≡ read_trees p s
   same_read Idle h = refl
-  same_read (Writing k r v) h = refl
-  same_read (Patching t r) h = refl
+  same_read (Writing k r v o) h = refl
+  same_read (Patching t r o) h = refl
   same_read (Reading root last) h = ap (λ t. t ∷ []) h
 
   -- so it does where its trees stand in the other pool
   pub keeps_seat : (terms : List Term) (s : Seat) → IsSeat terms p s → IsPlainTree q (upload_tree p s) → (is_reading s ≡ true → All (IsMeant q) (read_trees p s)) → KeepsSeat p q s
   keeps_seat terms Idle is staged read = tt
-  keeps_seat terms (Writing k r v) is staged read = ap (tree_at q) (sym is.root_is) ∙ staged.means
-  keeps_seat terms (Patching t r) is staged read = tt
+  keeps_seat terms (Writing k r v o) is staged read = ap (tree_at q) (sym is.root_is) ∙ staged.means
+  keeps_seat terms (Patching t r o) is staged read = tt
   keeps_seat terms (Reading root last) is staged read = ap (tree_at q) (sym is.root_is) ∙ (All-head (IsMeant q) (tree_at p root) [] (read refl)).means
 
 module _ (terms now : List Term) (more : Outlives terms now) (p q : Nodes) where
   -- such a seat is one still,
   pub seat_stays : (s : Seat) → IsSeat terms p s → KeepsSeat p q s → IsSeat now q s
   seat_stays Idle is same = tt
-  seat_stays (Writing k r v) is same = record {
+  seat_stays (Writing k r v o) is same = record {
     root_is = ap root_of same ∙ is.root_is;
     keyed = subst (IsKeyed now) (sym same) (more.trees (tree_at p v.root) is.keyed).keyed;
     counted = is.counted ∙ sym (ap (λ t. length (keys t)) same);
   }
-  seat_stays (Patching t r) is same = tt
+  seat_stays (Patching t r o) is same = tt
   seat_stays (Reading root last) is same = record {
     root_is = ap root_of same ∙ is.root_is;
     keyed = subst (IsKeyed now) (sym same) (more.trees (tree_at p root) is.keyed).keyed;
@@ -90,8 +90,8 @@ module _ (terms now : List Term) (more : Outlives terms now) (p q : Nodes) where
   -- and shows what it showed
   pub shown_stays : (s : Seat) → IsSeat terms p s → KeepsSeat p q s → seat_shown now q s ≡ seat_shown terms p s
   shown_stays Idle is same = refl
-  shown_stays (Writing k r v) is same = ap (λ g. phase.Writing k r g) (ap (tree_graph now) same ∙ (more.trees (tree_at p v.root) is.keyed).same)
-  shown_stays (Patching t r) is same = refl
+  shown_stays (Writing k r v o) is same = ap (λ g. phase.Writing k r g) (ap (tree_graph now) same ∙ (more.trees (tree_at p v.root) is.keyed).same)
+  shown_stays (Patching t r o) is same = refl
   shown_stays (Reading root last) is same =
       ap (λ ls. phase.Reading ls) (ap (λ t. map (line_at now) (keys_from (key_cmp now) last (keys t))) same ∙ more.lines last (keys (tree_at p root)) is.given is.keyed.given)
 
@@ -102,8 +102,8 @@ reads_now p = false
 
 reads_shown : (terms : List Term) (p : Nodes) (s : Seat) → reads_now (seat_shown terms p s) ≡ is_reading s
 reads_shown terms p Idle = refl
-reads_shown terms p (Writing k r v) = refl
-reads_shown terms p (Patching t r) = refl
+reads_shown terms p (Writing k r v o) = refl
+reads_shown terms p (Patching t r o) = refl
 reads_shown terms p (Reading root last) = refl
 
 begins : (b : Bool) (commit : ℕ) (pin : Option ℕ) (left : List (List ℕ)) → is_some pin ≡ false → is_some (cond b (Some commit) pin) ≡ reads_now (cond b (phase.Reading left) phase.Idle)

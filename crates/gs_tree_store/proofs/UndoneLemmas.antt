@@ -24,7 +24,7 @@ use Rattle.gs_datasets.proofs.Outlasting.{keys_outlast}
 use Rattle.gs_tree_store.specs.declared.books.Books.{Books}
 use Rattle.gs_tree_store.specs.declared.books.Seat.{Seat}
 use Rattle.gs_tree_store.specs.declared.books.Seat.TheVariants.{Idle, Writing, Patching, Reading}
-use Rattle.gs_tree_store.specs.Books.{books_setting, dataset_of, totals_of, seat_view, upload_tree, read_trees, is_reading, IsSeat, IsSound, IsReady, HasLedgerAt}
+use Rattle.gs_tree_store.specs.Books.{graphs_of, books_setting, dataset_of, totals_of, seat_view, upload_tree, read_trees, is_reading, IsSeat, IsSound, IsReady, HasLedgerAt}
 use Rattle.gs_tree_store.specs.Actions.{SeatWastes, SeatUses, Acts}
 use Rattle.gs_tree_store.proofs.SeatLemmas.{SameGraphs, same_graphs, same_totals, ledger_stays}
 
@@ -37,7 +37,7 @@ module _ (b : Books) (d : Numbered) (q : Nodes) (grows : Grows b.dict d) (restor
   same = restored_same b.pool q restores
 
   kept : SameGraphs b (with_nodes b d q)
-  kept = same_graphs b d q b.versions sound grows (λ k w h. same.roots (get_or (all_versions b.catalogue.graphs) k w).root) restores.aside refl
+  kept = same_graphs b d q b.versions sound grows (λ k w h. same.roots (get_or (all_versions (graphs_of b)) k w).root) restores.aside refl
 
   -- the totals are the same
   totals_same : totals_of (with_nodes b d q) ≡ totals_of b
@@ -60,31 +60,31 @@ module _ (b : Books) (d : Numbered) (q : Nodes) (grows : Grows b.dict d) (restor
   -- and so is what a seat shows that does not read
   view_same : (seat : Seat) → is_reading seat ≡ false → IsSeat b.dict.terms b.pool seat → seat_view (with_nodes b d q) seat ≡ seat_view b seat
   view_same Idle none known = refl
-  view_same (Writing k r v) none known = ap (λ g. phase.Writing k r g) (graph_same v known)
-  view_same (Patching t r) none known = refl
+  view_same (Writing k r v o) none known = ap (λ g. phase.Writing k r g) (graph_same v known)
+  view_same (Patching t r o) none known = refl
   view_same (Reading root last) none known = absurd (true≢false none)
 
   known_same : (seat : Seat) → is_reading seat ≡ false → IsSeat b.dict.terms b.pool seat → IsSeat d.terms q seat
   known_same Idle none known = tt
-  known_same (Writing k r v) none known = version_same v known
-  known_same (Patching t r) none known = tt
+  known_same (Writing k r v o) none known = version_same v known
+  known_same (Patching t r o) none known = tt
   known_same (Reading root last) none known = absurd (true≢false none)
 
   upload_same : (seat : Seat) → upload_tree q seat ≡ upload_tree b.pool seat
   upload_same Idle = refl
-  upload_same (Writing k r v) = same.roots v.root
-  upload_same (Patching t r) = refl
+  upload_same (Writing k r v o) = same.roots v.root
+  upload_same (Patching t r o) = refl
   upload_same (Reading root last) = refl
 
   read_same : (seat : Seat) → read_trees q seat ≡ read_trees b.pool seat
   read_same Idle = refl
-  read_same (Writing k r v) = refl
-  read_same (Patching t r) = refl
+  read_same (Writing k r v o) = refl
+  read_same (Patching t r o) = refl
   read_same (Reading root last) = ap (λ t. t ∷ []) (same.roots root)
 
   ledger_same : (s : ℕ) (seat : Seat) (us : List Tree) (rs : List (List Tree)) → HasLedgerAt b s seat us rs → HasLedgerAt (with_nodes b d q) s seat us rs
   ledger_same s seat us rs l =
-      let g = b.catalogue.graphs in
+      let g = graphs_of b in
       let here : IsLedger q b.versions (graph_trees b.pool g) (upload_tree b.pool seat ∷ us) rs (dead_at q) = same.ledgers b.versions (graph_trees b.pool g) (upload_tree b.pool seat ∷ us) rs l.ledger in
       record {
         ledger = subst (λ u. IsLedger q b.versions (graph_trees q g) (u ∷ us) rs (dead_at q)) (sym (upload_same seat)) (subst (λ gs. IsLedger q b.versions gs (upload_tree b.pool seat ∷ us) rs (dead_at q)) (sym kept.trees) here);

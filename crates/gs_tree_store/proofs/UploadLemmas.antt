@@ -30,7 +30,7 @@ use Rattle.gs_datasets.proofs.Keeping.{ledger_has_sets, graphs_stay}
 use Rattle.gs_tree_store.specs.declared.books.Books.{Books}
 use Rattle.gs_tree_store.specs.declared.books.Seat.{Seat}
 use Rattle.gs_tree_store.specs.declared.books.Seat.TheVariants.{Writing}
-use Rattle.gs_tree_store.specs.Books.{IsSound, HasLedger, IsReady}
+use Rattle.gs_tree_store.specs.Books.{graphs_of, IsSound, HasLedger, IsReady}
 use Rattle.gs_tree_store.specs.Actions.{IsReadyAny}
 use Rattle.gs_tree_store.proofs.SeatLemmas.{SameGraphs, same_graphs}
 use Rattle.gs_tree_store.proofs.UndoneLemmas.{with_nodes}
@@ -41,25 +41,25 @@ all_read cmp n ks xs ys all none read =
     read ∙ ap (λ zs. zs ++ take n (keys_from cmp None ks)) none ∙ ap (take n) (from_all cmp ks) ∙ take_all n ks (omega (arith, all))
 
 -- an upload has a tree that triples can go into
-staged_here : (b : Books) (s : ℕ) (k : UploadKind) (r : ℕ) (v : GraphVersion) → IsReady b s (Writing k r v) → IsStaged b.dict.terms b.pool v.root
-staged_here b s k r v ready =
+staged_here : (b : Books) (s : ℕ) (k : UploadKind) (r : ℕ) (v : GraphVersion) (o : ℕ) → IsReady b s (Writing k r v o) → IsStaged b.dict.terms b.pool v.root
+staged_here b s k r v o ready =
     let terms = b.dict.terms in
     let p = b.pool in
     let some = ready.ledger in
     let tree = tree_at p v.root in
-    let sets = ledger_has_sets terms p b.versions (graph_trees p b.catalogue.graphs) (tree ∷ some.uploads) some.reads (dead_at p) some.ledger.ledger in
+    let sets = ledger_has_sets terms p b.versions (graph_trees p (graphs_of b)) (tree ∷ some.uploads) some.reads (dead_at p) some.ledger.ledger in
     let one = All-head (λ (t : Tree). IsKeyed terms t → IsSetAt (key_cmp terms) p (root_of t)) tree some.uploads sets.staged ready.known.keyed in
     record { set = subst (IsSetAt (key_cmp terms) p) ready.known.root_is one; given = ready.known.keyed.given }
 
-pub upload_staged : (b : Books) (seat : Seat) (k : UploadKind) (r : ℕ) (v : GraphVersion) → seat ≡ Writing k r v → IsReadyAny b seat → IsStaged b.dict.terms b.pool v.root
-upload_staged b seat k r v writes =
+pub upload_staged : (b : Books) (seat : Seat) (k : UploadKind) (r : ℕ) (v : GraphVersion) (o : ℕ) → seat ≡ Writing k r v o → IsReadyAny b seat → IsStaged b.dict.terms b.pool v.root
+upload_staged b seat k r v o writes =
     subst (λ x. IsReadyAny b x → IsStaged b.dict.terms b.pool v.root) (sym writes)
-    (λ (any : IsReadyAny b (Writing k r v)). staged_here b any.number k r v any.ready)
+    (λ (any : IsReadyAny b (Writing k r v o)). staged_here b any.number k r v o any.ready)
 
 -- the tree of an upload is all its own
-pub upload_draft : (b : Books) (k : UploadKind) (n : ℕ) (u : GraphVersion) → IsReadyAny b (Writing k n u) → IsDraftAt b.pool u.root
-upload_draft b k n u any =
-    let set = (upload_staged b (Writing k n u) k n u refl any).set in
+pub upload_draft : (b : Books) (k : UploadKind) (n : ℕ) (u : GraphVersion) (o : ℕ) → IsReadyAny b (Writing k n u o) → IsDraftAt b.pool u.root
+upload_draft b k n u o any =
+    let set = (upload_staged b (Writing k n u o) k n u o refl any).set in
     let l = any.ready.ledger in
     let tree = tree_at b.pool u.root in
     let here : IsTreeOf b.pool (b.versions.commit + 1) tree = All-head (IsTreeOf b.pool (b.versions.commit + 1)) tree l.uploads l.ledger.ledger.staged in
@@ -77,14 +77,14 @@ restored_step birth p q restores = record {
 
 -- The upload that had the tree `old` has the tree `new`, and no other tree changes.
 module _ (b : Books) (d : Numbered) (q : Nodes) (birth : ℕ) (old new : Tree) (grows : Grows b.dict d) (sound : IsSound b) (step : Step 0 birth b.pool q (occurrences old) (occurrences new)) (tree : IsTreeOf q (b.versions.commit + 1) new) (none : aside_count q ≡ 0) where
-  moved : (us : List Tree) (rs : List (List Tree)) → HasLedger b (old ∷ us) rs → GrowsUpload b.versions b.pool q new (graph_trees b.pool b.catalogue.graphs) us rs
-  moved us rs l = upload_grows b.pool q b.versions birth old new (graph_trees b.pool b.catalogue.graphs) us rs l step tree
+  moved : (us : List Tree) (rs : List (List Tree)) → HasLedger b (old ∷ us) rs → GrowsUpload b.versions b.pool q new (graph_trees b.pool (graphs_of b)) us rs
+  moved us rs l = upload_grows b.pool q b.versions birth old new (graph_trees b.pool (graphs_of b)) us rs l step tree
 
   module _ (us₀ : List Tree) (rs₀ : List (List Tree)) (l₀ : HasLedger b (old ∷ us₀) rs₀) where
     -- the graphs are the same
     pub moved_graphs : SameGraphs b (with_nodes b d q)
     moved_graphs =
-        let stay = graphs_stay b.dict.terms b.pool q b.catalogue.graphs b.versions (new ∷ us₀) rs₀ (dead_at q) sound.versions (moved us₀ rs₀ l₀).ledger in
+        let stay = graphs_stay b.dict.terms b.pool q (graphs_of b) b.versions (new ∷ us₀) rs₀ (dead_at q) sound.versions (moved us₀ rs₀ l₀).ledger in
         same_graphs b d q b.versions sound grows stay none refl
 
     -- the ledger has the new tree
@@ -98,7 +98,7 @@ module _ (b : Books) (d : Numbered) (q : Nodes) (birth : ℕ) (old new : Tree) (
     -- the nodes in use are fewer by those of the old tree, and more by those of the new one
     pub moved_use : in_use q + length (keys old) ≡ in_use b.pool + length (keys new)
     moved_use =
-        let gs = graph_trees b.pool b.catalogue.graphs in
+        let gs = graph_trees b.pool (graphs_of b) in
         let before = nodes_counted b.pool b.versions gs (old ∷ us₀) rs₀ (dead_at b.pool) l₀ in
         let after = nodes_counted q b.versions gs (new ∷ us₀) rs₀ (dead_at q) (moved us₀ rs₀ l₀).ledger in
         let waste : length (waste_at q) ≡ length (waste_at b.pool) = ap (λ (ls : List Lifetime). length ls) moved_waste in

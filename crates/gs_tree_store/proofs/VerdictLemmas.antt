@@ -30,7 +30,7 @@ use Rattle.gs_ledger.proofs.Counts.{nodes_counted}
 use Rattle.gs_datasets.specs.Standing.{all_versions, version_tree, graph_trees, IsVersion}
 use Rattle.gs_datasets.proofs.Sizes.{size_at-is}
 use Rattle.gs_tree_store.specs.declared.books.Books.{Books}
-use Rattle.gs_tree_store.specs.Books.{dataset_of, IsSound}
+use Rattle.gs_tree_store.specs.Books.{graphs_of, dataset_of, IsSound}
 use Rattle.gs_tree_store.specs.Verdicts.{HasCounts}
 
 module _ (terms : List Term) (p : Nodes) where
@@ -65,20 +65,20 @@ module _ (terms : List Term) (p : Nodes) where
       is.counted ∙ sym (ap length (triples_of_keys terms ks is.keyed.rising is.keyed.given) ∙ length-map ks (triple_at terms))
 
 -- the triples of all graphs are nodes in use
-pub triples_in_use : (b : Books) → HasCounts b → triple_count b.catalogue.graphs ≤ in_use b.pool
+pub triples_in_use : (b : Books) → HasCounts b → triple_count (graphs_of b) ≤ in_use b.pool
 triples_in_use b has =
     let l = has.ledger in
-    let c : Counts b.pool (graph_trees b.pool b.catalogue.graphs) l.uploads (dead_at b.pool) = nodes_counted b.pool b.versions (graph_trees b.pool b.catalogue.graphs) l.uploads l.reads (dead_at b.pool) l.ledger in
-    omega (arith, keys_of_graphs b.dict.terms b.pool b.catalogue.graphs has.sound.versions, c.nodes)
+    let c : Counts b.pool (graph_trees b.pool (graphs_of b)) l.uploads (dead_at b.pool) = nodes_counted b.pool b.versions (graph_trees b.pool (graphs_of b)) l.uploads l.reads (dead_at b.pool) l.ledger in
+    omega (arith, keys_of_graphs b.dict.terms b.pool (graphs_of b) has.sound.versions, c.nodes)
 
 count_if : (o : Option GraphVersion) → (unwrap_or o empty_version).triples ≡ unwrap_or (option_map (λ v. v.triples) o) 0
 count_if None = refl
 count_if (Some v) = refl
 
 -- the version of a target counts its triples
-pub target_counted : (b : Books) (t : Target) (v : GraphVersion) → IsSound b → v ≡ unwrap_or (version_at b.catalogue.graphs t) empty_version → v.triples ≡ size_at (dataset_of b) t
+pub target_counted : (b : Books) (t : Target) (v : GraphVersion) → IsSound b → v ≡ unwrap_or (version_at (graphs_of b) t) empty_version → v.triples ≡ size_at (dataset_of b) t
 target_counted b t v sound is =
-    ap (λ (w : GraphVersion). w.triples) is ∙ count_if (version_at b.catalogue.graphs t) ∙ sym (size_at-is b.dict.terms b.pool b.catalogue.graphs t sound.versions)
+    ap (λ (w : GraphVersion). w.triples) is ∙ count_if (version_at (graphs_of b) t) ∙ sym (size_at-is b.dict.terms b.pool (graphs_of b) t sound.versions)
 
 -- an operation that stored g at t, with this status
 pub record IsStored (w : Setting) (m : Dataset) (q : Operation) (t : Target) (g : Graph) (status : ℕ) : Type 0 where

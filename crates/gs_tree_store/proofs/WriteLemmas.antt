@@ -1,5 +1,5 @@
 -- What a write makes of a seat and of its books.
-use Rattle.std.proofs.Common.{◌≡◌, ◌+◌, ◌*◌, ◌<◌, ◌≤◌, ℕ, Bool, true, false, cond, List, [], ◌∷◌, length, get_or, set, Option, None, is_some, count_by, refl, sym, ap, subst, ◌∙◌, arith, add-zero, true≢false}
+use Rattle.std.proofs.Common.{◌≡◌, ◌+◌, ◌*◌, ◌<◌, ◌≤◌, ℕ, true, false, cond, List, [], ◌∷◌, length, get_or, set, Option, None, is_some, count_by, refl, sym, ap, subst, ◌∙◌, arith, add-zero, true≢false}
 use Rattle.std.proofs.lemmas.List.{set-get_or}
 use Rattle.std.proofs.lemmas.List.Elements.{All-head}
 use Rattle.gs_model.specs.Graphs.{Graph, size_of}
@@ -24,7 +24,7 @@ use Rattle.gs_tree.specs.Tree.{Tree, keys, tree_at}
 use Rattle.gs_keys.specs.Roots.{graph_at}
 use Rattle.gs_staging.proofs.KeyLemmas.{still_grows}
 use Rattle.gs_catalogue.specs.declared.versions.GraphVersion.{GraphVersion}
-use Rattle.gs_catalogue.specs.Catalogues.{room_wanted}
+use Rattle.gs_records.specs.Records.{Recorded}
 use Rattle.gs_ledger.specs.Marks.{dead_at, waste_at}
 use Rattle.gs_ledger.specs.Ledger.{IsLedger}
 use Rattle.gs_reclaim.specs.Reclaims.{CanRetireRoot}
@@ -38,10 +38,11 @@ use Rattle.gs_commit.proofs.LawLemmas.{leaf_upload}
 use Rattle.gs_tree_store.specs.declared.books.Books.{Books}
 use Rattle.gs_tree_store.specs.declared.books.Seat.{Seat}
 use Rattle.gs_tree_store.specs.declared.books.Seat.TheVariants.{Idle, Writing}
-use Rattle.gs_tree_store.specs.Books.{books_setting, dataset_of, totals_of, upload_tree, IsSound, HasLedger, HasLedgerAt, IsReady}
+use Rattle.gs_tree_store.specs.Books.{graphs_of, books_setting, dataset_of, totals_of, upload_tree, IsSound, HasLedger, HasLedgerAt, IsReady}
 use Rattle.gs_tree_store.specs.Writes.{HasUpload, Ends, Puts, Removes}
 use Rattle.gs_tree_store.specs.Verdicts.{HasCounts}
-use Rattle.gs_tree_store.specs.Actions.{SeatUses, Acts, IsReadyAny, HoldsRoom}
+use Rattle.gs_tree_store.specs.Actions.{SeatUses, Acts, IsReadyAny}
+use Rattle.gs_tree_store.proofs.AlikeLemmas.{SameNow, acts_alike}
 use Rattle.gs_tree_store.proofs.CommitLemmas.{roots_same}
 use Rattle.gs_tree_store.proofs.VerdictLemmas.{size_of_version, IsStored, IsNotStored}
 
@@ -64,8 +65,8 @@ has_counts b seat any =
     record { sound = any.ready.sound; ledger = record { uploads = upload_tree b.pool seat ∷ l.uploads; reads = l.reads; ledger = l.ledger.ledger } }
 
 -- and the upload of a seat that writes
-pub has_upload : (b : Books) (k : UploadKind) (r : ℕ) (v : GraphVersion) → IsReadyAny b (Writing k r v) → HasUpload b v
-has_upload b k r v any =
+pub has_upload : (b : Books) (k : UploadKind) (r : ℕ) (v : GraphVersion) (o : ℕ) → IsReadyAny b (Writing k r v o) → HasUpload b v
+has_upload b k r v o any =
     let l = any.ready.ledger in
     record { version = any.ready.known; uploads = l.uploads; reads = l.reads; ledger = l.ledger.ledger }
 
@@ -73,19 +74,13 @@ has_upload b k r v any =
 pub upload_retirable : (b : Books) (v : GraphVersion) → HasUpload b v → CanRetireRoot b.pool v.root
 upload_retirable b v has =
     let tree = tree_at b.pool v.root in
-    let gs = graph_trees b.pool b.catalogue.graphs in
+    let gs = graph_trees b.pool (graphs_of b) in
     let can : IsRetirable b.pool tree = All-head (IsRetirable b.pool) tree has.uploads (ledger_retirable b.pool b.versions gs (tree ∷ has.uploads) has.reads (dead_at b.pool) has.ledger).staged in
     subst (CanRetireRoot b.pool) has.version.root_is can.root
 
-wanted_most : (b : Bool) → cond {A = ℕ} b 0 1 ≤ 1
-wanted_most true = omega arith
-wanted_most false = omega arith
-
--- a commit leaves room for the uploads of the other seats
-pub room_stored : (old new : Books) (k : UploadKind) (r : ℕ) (v : GraphVersion) (t : Target) (now : Seat) → now ≡ Idle → new.catalogue.spare + room_wanted old.catalogue.graphs t ≡ old.catalogue.spare → HoldsRoom old new (Writing k r v) now
-room_stored old new k r v t now idle room =
-    let most : room_wanted old.catalogue.graphs t ≤ 1 = wanted_most _ in
-    subst (HoldsRoom old new (Writing k r v)) (sym idle) (record { held = λ seats. record { kept = λ others few had. omega (arith, had, room, most) } })
+-- the next commit is later than the last of the records
+pub next_later : (b : Books) (seat : Seat) (birth : ℕ) → birth ≡ b.versions.commit + 1 → IsReadyAny b seat → b.records.latest < birth
+next_later b seat birth born any = omega (arith, born, any.ready.sound.latest)
 
 -- what is at a place is set there
 pub set_there : {X : Type 0} (xs : List X) (s : ℕ) (d x : X) → get_or xs s d ≡ x → set xs s x ≡ xs
@@ -95,7 +90,7 @@ set_there xs s d x is = ap (set xs s) (sym is) ∙ set-get_or xs s d
 pub idle_ledger : (b : Books) (s : ℕ) (us : List Tree) (rs : List (List Tree)) → s < length rs → get_or rs s [] ≡ [] → HasLedger b us rs → HasLedgerAt b s Idle us (set rs s [])
 idle_ledger b s us rs there none l =
     subst (HasLedgerAt b s Idle us) (sym (set_there rs s [] [] none))
-    (record { ledger = (leaf_upload b.pool b.versions (graph_trees b.pool b.catalogue.graphs) us rs (dead_at b.pool)).0 l; there = there; read = none })
+    (record { ledger = (leaf_upload b.pool b.versions (graph_trees b.pool (graphs_of b)) us rs (dead_at b.pool)).0 l; there = there; read = none })
 
 -- as many nodes are in use where the nodes are the same
 pub same_use : (p q : Nodes) → q.nodes ≡ p.nodes → in_use q ≡ in_use p
@@ -112,8 +107,8 @@ commit_uses (Post t) r g status name m n same = tt
 commit_uses New r g status name m n same = tt
 
 -- a commit that finds no number left: nothing changes
-pub commit_refused : (b : Books) (s : ℕ) (k : UploadKind) (r : ℕ) (v : GraphVersion) → FitsWrite (totals_of b) (asked_by b k r v) (Refused LastNumber) → IsReady b s (Writing k r v) → Acts b b s (Writing k r v) (Writing k r v) Commit (Refused LastNumber)
-commit_refused b s k r v fits ready = record {
+pub commit_refused : (b : Books) (s : ℕ) (k : UploadKind) (r : ℕ) (v : GraphVersion) (o : ℕ) → FitsWrite (totals_of b) (asked_by b k r v) (Refused LastNumber) → IsReady b s (Writing k r v o) → Acts b b s (Writing k r v o) (Writing k r v o) Commit (Refused LastNumber)
+commit_refused b s k r v o fits ready = record {
   fits = fits;
   totals = λ i. record { setting = books_setting b; dataset = dataset_of b; request = sym (add-zero b.request) i; commit = sym (add-zero b.versions.commit) i };
   seat = refl;
@@ -121,29 +116,30 @@ commit_refused b s k r v fits ready = record {
   sound = ready.sound;
   known = ready.known;
   grows = still_grows b.dict b.dict refl;
-  ledgers = λ us rs l. record { ledger = subst (HasLedgerAt b s (Writing k r v) us) (sym (set_there rs s [] [] l.read)) l; waste = refl };
+  ledgers = λ us rs l. record { ledger = subst (HasLedgerAt b s (Writing k r v o) us) (sym (set_there rs s [] [] l.read)) l; waste = refl };
   uses = refused_uses k r (upload_graph b v) LastNumber (in_use b.pool);
 }
 
 -- nodes that stay are the same trees
-pub versions_same : (b : Books) (q : Nodes) → q.nodes ≡ b.pool.nodes → AreSameIn b.pool q (all_versions b.catalogue.graphs)
-versions_same b q nodes = λ k d h. roots_same b.pool q nodes (get_or (all_versions b.catalogue.graphs) k d).root
+pub versions_same : (b : Books) (q : Nodes) → q.nodes ≡ b.pool.nodes → AreSameIn b.pool q (all_versions (graphs_of b))
+versions_same b q nodes = λ k d h. roots_same b.pool q nodes (get_or (all_versions (graphs_of b)) k d).root
 
 -- the books with another pool, where each version has the tree that it had
-module _ (b : Books) (q : Nodes) (sound : IsSound b) (same : AreSameIn b.pool q (all_versions b.catalogue.graphs)) where
+module _ (b : Books) (q : Nodes) (sound : IsSound b) (same : AreSameIn b.pool q (all_versions (graphs_of b))) where
   same_dataset : dataset_of (record b { pool = q }) ≡ dataset_of b
-  same_dataset = dataset_kept b.dict.terms b.dict.terms (keys_last b.dict.terms) b.pool q b.catalogue.graphs sound.versions same
+  same_dataset = dataset_kept b.dict.terms b.dict.terms (keys_last b.dict.terms) b.pool q (graphs_of b) sound.versions same
 
   still_sound : aside_count q ≡ 0 → IsSound (record b { pool = q })
   still_sound none = record {
-    versions = versions_kept b.dict.terms b.dict.terms (keys_last b.dict.terms) b.pool q (all_versions b.catalogue.graphs) sound.versions same;
+    versions = versions_kept b.dict.terms b.dict.terms (keys_last b.dict.terms) b.pool q (all_versions (graphs_of b)) sound.versions same;
     none_aside = none;
     commit = sound.commit;
+    latest = sound.latest;
     base = sound.base;
   }
 
-  graphs_same : (us : List Tree) (rs : List (List Tree)) → IsLedger q b.versions (graph_trees b.pool b.catalogue.graphs) us rs (dead_at q) → HasLedger (record b { pool = q }) us rs
-  graphs_same us rs l = subst (λ gs. IsLedger q b.versions gs us rs (dead_at q)) (sym (same_trees b.pool q (all_versions b.catalogue.graphs) same)) l
+  graphs_same : (us : List Tree) (rs : List (List Tree)) → IsLedger q b.versions (graph_trees b.pool (graphs_of b)) us rs (dead_at q) → HasLedger (record b { pool = q }) us rs
+  graphs_same us rs l = subst (λ gs. IsLedger q b.versions gs us rs (dead_at q)) (sym (same_trees b.pool q (all_versions (graphs_of b)) same)) l
 
 failed_wastes : (v : Totals) (k : UploadKind) (g : Graph) (old new : List Lifetime) → Joins IsUnreached (size_of g) old new → WastesUpload v k g false old new
 failed_wastes v (Put t) g old new j = j
@@ -151,15 +147,16 @@ failed_wastes v (Post t) g old new j = j
 failed_wastes v New g old new j = j
 
 -- a commit without effect: the upload is dropped
-pub commit_failed : (b : Books) (q : Nodes) (s : ℕ) (k : UploadKind) (r : ℕ) (v : GraphVersion) → AreSameIn b.pool q (all_versions b.catalogue.graphs) → aside_count q ≡ 0 → DropsAll b.pool q v.root
+pub commit_failed : (b : Books) (q : Nodes) (x : Recorded) (s : ℕ) (k : UploadKind) (r : ℕ) (v : GraphVersion) (o : ℕ) → SameNow b.records x → AreSameIn b.pool q (all_versions (graphs_of b)) → aside_count q ≡ 0 → DropsAll b.pool q v.root
     → in_use q ≡ in_use b.pool → IsNotStored (books_setting b) (dataset_of b) (asked_by b k r v) → None ≡ name_by b (asked_by b k r v)
-    → IsReady b s (Writing k r v) → Acts b (record b { pool = q }) s (Writing k r v) Idle Commit (Status 507 None)
-commit_failed b q s k r v same none drops used not name ready =
+    → IsReady b s (Writing k r v o) → Acts b (record b { pool = q; records = x }) s (Writing k r v o) Idle Commit (Status 507 None)
+commit_failed b q x s k r v o now same none drops used not name ready =
     let g = upload_graph b v in
-    let gs = graph_trees b.pool b.catalogue.graphs in
+    let gs = graph_trees b.pool (graphs_of b) in
     let dataset = same_dataset b q ready.sound same in
     let size : length (keys (tree_at b.pool v.root)) ≡ size_of g = sym ready.known.counted ∙ size_of_version b.dict.terms b.pool v ready.known in
-    record {
+    acts_alike (record b { pool = q }) x now b s (Writing k r v o) Idle Commit (Status 507 None)
+    (record {
       fits = (not.status_is, name, λ e. absurd (true≢false (sym e)));
       totals = λ i. record { setting = books_setting b; dataset = (dataset ∙ sym not.dataset) i; request = sym (add-zero b.request) i; commit = sym (add-zero b.versions.commit) i };
       seat = refl;
@@ -174,14 +171,14 @@ commit_failed b q s k r v same none drops used not name ready =
             waste = failed_wastes (totals_of b) k g (waste_at b.pool) (waste_at q) (subst (λ n. Joins IsUnreached n (waste_at b.pool) (waste_at q)) size d.waste);
           };
       uses = commit_uses k r g 507 None (in_use b.pool) (in_use q) used;
-    }
+    })
 
 -- a commit with effect: the target has the upload's graph
-pub commit_stored : (old new : Books) (s : ℕ) (k : UploadKind) (r : ℕ) (v : GraphVersion) (t : Target) (status : ℕ) (name : Option (List ℕ)) → Puts old new t v → old.versions.commit < last_number
+pub commit_stored : (old new : Books) (s : ℕ) (k : UploadKind) (r : ℕ) (v : GraphVersion) (o : ℕ) (t : Target) (status : ℕ) (name : Option (List ℕ)) → Puts old new o t v → old.versions.commit < last_number
     → IsStored (books_setting old) (dataset_of old) (asked_by old k r v) t (upload_graph old v) status → name ≡ name_by old (asked_by old k r v)
     → ((a b : List Lifetime) → Joins (EndsAt (old.versions.commit + 1)) (size_at (dataset_of old) t) a b → WastesUpload (totals_of old) k (upload_graph old v) true a b)
-    → IsReady old s (Writing k r v) → Acts old new s (Writing k r v) Idle Commit (Status status name)
-commit_stored old new s k r v t status name puts number stored reported wastes ready =
+    → IsReady old s (Writing k r v o) → Acts old new s (Writing k r v o) Idle Commit (Status status name)
+commit_stored old new s k r v o t status name puts number stored reported wastes ready =
     let g = upload_graph old v in
     let kept = puts.kept in
     let dataset = puts.dataset ∙ sym stored.dataset in
@@ -230,7 +227,7 @@ deleted old new s t status removes there is number ready =
       known = tt;
       grows = still_grows old.dict new.dict kept.dict;
       ledgers = λ us rs l.
-          let e : Ends old new (size_at m t) us rs = removes.ledgers us rs ((leaf_upload old.pool old.versions (graph_trees old.pool old.catalogue.graphs) us rs (dead_at old.pool)).1 l.ledger) in
+          let e : Ends old new (size_at m t) us rs = removes.ledgers us rs ((leaf_upload old.pool old.versions (graph_trees old.pool (graphs_of old)) us rs (dead_at old.pool)).1 l.ledger) in
           record {
             ledger = idle_ledger new s us rs l.there l.read e.ledger;
             waste = subst (λ b. WastesDelete (totals_of old) t b (waste_at old.pool) (waste_at new.pool)) (sym well) e.waste;

@@ -1,5 +1,5 @@
 -- What an action makes of the books and of its seat. Of this module public clauses cite `SeatUses` alone, by `UsesNodes`.
-use Rattle.std.specs.Prelude.{◌≡◌, ◌<◌, ◌≤◌, ℕ, ◌+◌, if◌then◌else◌, List, ◌∷◌, None, slice_index_or}
+use Rattle.std.specs.Prelude.{◌≡◌, ℕ, ◌+◌, List, ◌∷◌, None, slice_index_or}
 use Rattle.std.specs.List.{slice_set}
 use Rattle.gs_model.specs.Graphs.{size_of, with_triples}
 use Rattle.gs_event.specs.declared.events.Action.{Action}
@@ -18,7 +18,7 @@ use Rattle.gs_staging.specs.Keys.{Grows}
 use Rattle.gs_ledger.specs.Marks.{waste_at}
 use Rattle.gs_tree_store.specs.declared.books.Books.{Books}
 use Rattle.gs_tree_store.specs.declared.books.Seat.{Seat}
-use Rattle.gs_tree_store.specs.Books.{totals_of, seat_view, read_trees, is_writing, IsSeat, IsSound, IsReady, HasLedgerAt}
+use Rattle.gs_tree_store.specs.Books.{totals_of, seat_view, read_trees, IsSeat, IsSound, IsReady, HasLedgerAt}
 
 -- what a seat's action that was answered so makes of the waste
 abbrev pub SeatWastes : Totals → SeatView → Action → Answer → List Lifetime → List Lifetime → Type 0
@@ -67,15 +67,3 @@ pub record IsReadyAny (b : Books) (seat : Seat) : Type 0 where
 -- the action made that, whichever of the seats it was
 abbrev pub ActsAny : Books → Books → Seat → Seat → Action → Answer → Type 0
 ActsAny old new was now action answer = (s : ℕ) → IsReady old s was → Acts old new s was now action answer
-
--- there is room for the name of each upload, `others` of them at other seats
-abbrev pub HasRoom : Books → ℕ → Seat → Type 0
-HasRoom b others s = others + (if is_writing s then 1 else 0) ≤ b.catalogue.spare
-
--- at a store of so many seats there is still room
-pub record KeepsRoom (seats : ℕ) (old new : Books) (was now : Seat) : Type 0 where
-  pub kept : (others : ℕ) → others < seats → HasRoom old others was → HasRoom new others now
-
--- there is still room, however many seats there are
-pub record HoldsRoom (old new : Books) (was now : Seat) : Type 0 where
-  pub held : (seats : ℕ) → KeepsRoom seats old new was now

@@ -12,6 +12,8 @@ use Rattle.gs_pool.specs.Pool.{Nodes, aside_count}
 use Rattle.gs_tree.specs.Tree.{Tree, leaf, root_of, tree_at}
 use Rattle.gs_keys.specs.Roots.{graph_at}
 use Rattle.gs_lines.specs.Pieces.{lines_from, IsCursor}
+use Rattle.gs_catalogue.specs.Catalogues.{GraphVersions}
+use Rattle.gs_records.specs.Graphs.{current}
 use Rattle.gs_ledger.specs.Marks.{dead_at}
 use Rattle.gs_ledger.specs.Ledger.{IsLedger}
 use Rattle.gs_datasets.specs.Standing.{dataset_at, all_versions, graph_trees, IsKeyed, IsVersion}
@@ -23,9 +25,13 @@ use Rattle.gs_tree_store.specs.declared.books.Seat.TheVariants.{Idle, Writing, P
 abbrev pub books_setting : Books → Setting
 books_setting b = record { base = string_bytes b.base; limits = b.limits }
 
--- the dataset that the versions of all graphs stand for
+-- the versions of the graphs of now
+abbrev pub graphs_of : Books → GraphVersions
+graphs_of b = current b.records.records
+
+-- the dataset that they stand for
 abbrev pub dataset_of : Books → Dataset
-dataset_of b = dataset_at b.dict.terms b.pool b.catalogue.graphs
+dataset_of b = dataset_at b.dict.terms b.pool (graphs_of b)
 
 -- the setting, the dataset and the numbers given out
 abbrev pub totals_of : Books → Totals
@@ -39,8 +45,8 @@ totals_of b = record {
 -- a seat as it is seen: an upload is the graph of its tree, and a read the lines of its tree after the last that was given
 abbrev pub seat_shown : List Term → Nodes → Seat → SeatView
 seat_shown terms p Idle = phase.Idle
-seat_shown terms p (Writing k r v) = phase.Writing k r (graph_at terms p v.root)
-seat_shown terms p (Patching t r) = phase.Patching t r
+seat_shown terms p (Writing k r v n) = phase.Writing k r (graph_at terms p v.root)
+seat_shown terms p (Patching t r n) = phase.Patching t r
 seat_shown terms p (Reading root last) = phase.Reading (lines_from terms p root last)
 
 -- the same, by the books
@@ -49,18 +55,13 @@ seat_view b s = seat_shown b.dict.terms b.pool s
 
 -- the tree of the seat's upload, a leaf where it has none
 abbrev pub upload_tree : Nodes → Seat → Tree
-upload_tree p (Writing k r v) = tree_at p v.root
+upload_tree p (Writing k r v n) = tree_at p v.root
 upload_tree p s = leaf
 
 -- the trees that the seat reads: the one of its read, and none where it does not read
 abbrev pub read_trees : Nodes → Seat → List Tree
 read_trees p (Reading root last) = tree_at p root ∷ []
 read_trees p s = []
-
--- whether the seat has an open upload, whose commit may want room for a name
-abbrev pub is_writing : Seat → Bool
-is_writing (Writing k r v) = true
-is_writing s = false
 
 -- whether the seat reads
 abbrev pub is_reading : Seat → Bool
@@ -75,20 +76,21 @@ pub record IsRead (terms : List Term) (p : Nodes) (root : Option ℕ) (last : Op
 
 -- what is true of a seat: its upload is the version of a graph, and its read one of such a tree
 abbrev pub IsSeat : List Term → Nodes → Seat → Type 0
-IsSeat terms p (Writing k r v) = IsVersion terms p v
+IsSeat terms p (Writing k r v n) = IsVersion terms p v
 IsSeat terms p (Reading root last) = IsRead terms p root last
 IsSeat terms p s = Unit {0}
 
 -- what is true of the books alone
 pub record IsSound (b : Books) : Type 0 where
-  pub versions : All (IsVersion b.dict.terms b.pool) (all_versions b.catalogue.graphs)
+  pub versions : All (IsVersion b.dict.terms b.pool) (all_versions (graphs_of b))
   pub none_aside : aside_count b.pool ≡ 0
   pub commit : b.versions.commit ≤ last_number
+  pub latest : b.records.latest ≡ b.versions.commit
   pub base : is_base (string_bytes b.base) ≡ true
 
 -- the ledger of the books, with these trees of uploads and of reads
 abbrev pub HasLedger : Books → List Tree → List (List Tree) → Type 0
-HasLedger b uploads reads = IsLedger b.pool b.versions (graph_trees b.pool b.catalogue.graphs) uploads reads (dead_at b.pool)
+HasLedger b uploads reads = IsLedger b.pool b.versions (graph_trees b.pool (graphs_of b)) uploads reads (dead_at b.pool)
 
 -- the ledger where seat s is this one: its upload stands before those of the others
 pub record HasLedgerAt (b : Books) (s : ℕ) (seat : Seat) (uploads : List Tree) (reads : List (List Tree)) : Type 0 where

@@ -1,16 +1,16 @@
 -- What a write makes of the books. No public clause cites this module.
-use Rattle.std.specs.Prelude.{◌≡◌, ◌≤◌, ℕ, ◌+◌, List, ◌∷◌, string_bytes}
+use Rattle.std.specs.Prelude.{◌≡◌, ℕ, ◌+◌, List, ◌∷◌, string_bytes}
 use Rattle.gs_term.specs.declared.names.Target.{Target}
 use Rattle.gs_event.specs.Datasets.{with_graph, without_graph, size_at}
 use Rattle.gs_event.specs.Steps.{Joins, EndsAt}
 use Rattle.gs_keys.specs.Roots.{graph_at}
 use Rattle.gs_tree.specs.Tree.{Tree, tree_at}
 use Rattle.gs_catalogue.specs.declared.versions.GraphVersion.{GraphVersion}
-use Rattle.gs_catalogue.specs.Catalogues.{room_wanted}
 use Rattle.gs_ledger.specs.Marks.{waste_at}
 use Rattle.gs_datasets.specs.Standing.{IsVersion}
 use Rattle.gs_tree_store.specs.declared.books.Books.{Books}
 use Rattle.gs_tree_store.specs.Books.{dataset_of, IsSound, HasLedger}
+use Rattle.gs_tree_store.specs.Opened.{LetsGo, SameOpened}
 
 -- some trees of the seats have a ledger with the books
 pub record HasAny (b : Books) : Type 0 where
@@ -40,13 +40,13 @@ pub record Ends (old new : Books) (size : ℕ) (uploads : List Tree) (reads : Li
   pub ledger : HasLedger new uploads reads
   pub waste : Joins (EndsAt (old.versions.commit + 1)) size (waste_at old.pool) (waste_at new.pool)
 
--- the target has the upload's graph now, and the upload is no more
-pub record Puts (old new : Books) (t : Target) (v : GraphVersion) : Type 0 where
+-- the target has the upload's graph now, and the upload is no more, whose record had number n
+pub record Puts (old new : Books) (n : ℕ) (t : Target) (v : GraphVersion) : Type 0 where
   pub dataset : dataset_of new ≡ with_graph (dataset_of old) t (graph_at old.dict.terms old.pool v.root)
   pub kept : KeepsBooks old new
   pub sound : IsSound new
   pub ledgers : (uploads : List Tree) (reads : List (List Tree)) → HasLedger old (tree_at old.pool v.root ∷ uploads) reads → Ends old new (size_at (dataset_of old) t) uploads reads
-  pub room : new.catalogue.spare + room_wanted old.catalogue.graphs t ≡ old.catalogue.spare
+  pub lets_go : LetsGo old new n
 
 -- the target has no graph now, or an empty one where it is the default graph
 pub record Removes (old new : Books) (t : Target) : Type 0 where
@@ -54,4 +54,4 @@ pub record Removes (old new : Books) (t : Target) : Type 0 where
   pub kept : KeepsBooks old new
   pub sound : IsSound new
   pub ledgers : (uploads : List Tree) (reads : List (List Tree)) → HasLedger old uploads reads → Ends old new (size_at (dataset_of old) t) uploads reads
-  pub room : old.catalogue.spare ≤ new.catalogue.spare
+  pub same_opened : SameOpened old new

@@ -1,8 +1,8 @@
 //! What a seat's action does to the books and to the seat. A refused action changes neither, but that terms
 //! may have been given numbers.
-ghost use Rattle.std.specs.Prelude.{◌≡◌, ◌<◌, IsTrue};
-ghost use Rattle.gs_tree_store.specs.Books.{is_writing, IsReady};
-ghost use Rattle.gs_tree_store.specs.Actions.{Acts, ActsAny, IsReadyAny, KeepsRoom, HoldsRoom};
+ghost use Rattle.gs_tree_store.specs.Books.{IsReady};
+ghost use Rattle.gs_tree_store.specs.Opened.{HasRecord, KeepsRecords};
+ghost use Rattle.gs_tree_store.specs.Actions.{Acts, ActsAny, IsReadyAny};
 
 use crate::books::{Books, Seat};
 use crate::{patches, reads, writes};
@@ -13,22 +13,21 @@ use gs_model::{LAST_NUMBER, Refusal};
 use gs_term::Triple;
 use std::alloc::Global;
 
-/// Any action of the seat of this number, at a store of so many seats.
+/// Any action of the seat of this number.
 pub fn act(
     books: &mut Books,
     seat: &mut Seat,
     number: u16,
-    seats: usize,
     alloc: Global,
     action: &Action,
 ) -> Answer
     requires ready { IsReady books.old number seat.old }
-    requires room { IsTrue (is_writing seat.old) → 0 < books.old.catalogue.spare }
+    requires opened { HasRecord books.old seat.old }
     ensures acts { Acts books.old books.new number seat.old seat.new action.now result }
-    ensures room { KeepsRoom seats books.old books.new seat.old seat.new }
+    ensures records { KeepsRecords books.old books.new seat.old seat.new }
 {
     match action {
-        Action::Open(kind) => open(books, seat, seats, kind),
+        Action::Open(kind) => open(books, seat, kind),
         Action::OpenPatch(target) => patches::open(books, seat, target),
         Action::Stage(triples) => stage(books, seat, alloc, triples),
         Action::Commit => writes::commit(books, seat, alloc),
@@ -41,11 +40,11 @@ pub fn act(
     }
 }
 
-/// Makes room for the name of each seat's upload, so that a commit takes no memory for it.
-fn open(books: &mut Books, seat: &mut Seat, seats: usize, kind: &UploadKind) -> Answer
+/// Opens the upload's record too, so that a commit takes no memory for it.
+fn open(books: &mut Books, seat: &mut Seat, kind: &UploadKind) -> Answer
     requires { IsReadyAny books.old seat.old }
     ensures acts { ActsAny books.old books.new seat.old seat.new (Action.Open kind.now) result }
-    ensures room { KeepsRoom seats books.old books.new seat.old seat.new }
+    ensures records { KeepsRecords books.old books.new seat.old seat.new }
 {
     let Seat::Idle = seat else {
         return Answer::Refused(Refusal::WrongPhase);
@@ -56,11 +55,11 @@ fn open(books: &mut Books, seat: &mut Seat, seats: usize, kind: &UploadKind) -> 
     let Ok(kept) = kind.clone() else {
         return Answer::Refused(Refusal::NoMemory);
     };
-    if books.catalogue.reserve(seats).is_err() {
+    let Ok(opened) = books.records.open() else {
         return Answer::Refused(Refusal::NoMemory);
-    }
+    };
     books.request += 1;
-    *seat = Seat::Writing(kept, books.request, GraphVersion::empty());
+    *seat = Seat::Writing(kept, books.request, GraphVersion::empty(), opened);
     Answer::Opened(books.request)
 }
 
@@ -68,9 +67,9 @@ fn open(books: &mut Books, seat: &mut Seat, seats: usize, kind: &UploadKind) -> 
 fn stage(books: &mut Books, seat: &mut Seat, alloc: Global, triples: &Vec<Triple>) -> Answer
     requires { IsReadyAny books.old seat.old }
     ensures acts { ActsAny books.old books.new seat.old seat.new (Action.Stage triples.now) result }
-    ensures room { HoldsRoom books.old books.new seat.old seat.new }
+    ensures records { KeepsRecords books.old books.new seat.old seat.new }
 {
-    let Seat::Writing(_, _, upload) = seat else {
+    let Seat::Writing(_, _, upload, _) = seat else {
         return Answer::Refused(Refusal::WrongPhase);
     };
     let birth = books.versions.commit() + 1;
@@ -94,14 +93,18 @@ fn stage(books: &mut Books, seat: &mut Seat, alloc: Global, triples: &Vec<Triple
 
 /// Gives up what the seat has open. Takes no memory.
 fn cancel(books: &mut Books, seat: &mut Seat, number: u16) -> Answer
-    requires { IsReady books.old number seat.old }
+    requires ready { IsReady books.old number seat.old }
+    requires opened { HasRecord books.old seat.old }
     ensures acts { Acts books.old books.new number seat.old seat.new Action.Cancel result }
-    ensures room { HoldsRoom books.old books.new seat.old seat.new }
+    ensures records { KeepsRecords books.old books.new seat.old seat.new }
 {
     match seat {
         Seat::Idle => return Answer::Refused(Refusal::WrongPhase),
-        Seat::Writing(_, _, upload) => drop_tree(&mut books.pool, upload.root),
-        Seat::Patching(_, _) => {}
+        Seat::Writing(_, _, upload, opened) => {
+            drop_tree(&mut books.pool, upload.root);
+            books.records.give_up(*opened);
+        }
+        Seat::Patching(_, _, opened) => books.records.give_up(*opened),
         Seat::Reading(_, _) => books.versions.unpin(number),
     }
     *seat = Seat::Idle;

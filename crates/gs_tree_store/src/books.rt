@@ -3,12 +3,13 @@ ghost use Rattle.std.specs.Prelude.{◌≡◌};
 ghost use Rattle.std.specs.Option.{unwrap_or};
 ghost use Rattle.gs_catalogue.specs.Catalogues.{version_at, empty_version};
 ghost use Rattle.gs_event.specs.Datasets.{is_there as is_there_of};
-ghost use Rattle.gs_tree_store.specs.Books.{dataset_of};
+ghost use Rattle.gs_tree_store.specs.Books.{dataset_of, graphs_of};
 
-use gs_catalogue::{Catalogue, GraphVersion};
+use gs_catalogue::GraphVersion;
 use gs_dict::Dict;
 use gs_event::{Limits, UploadKind};
 use gs_pool::{Key, Pool};
+use gs_records::Records;
 use gs_term::Target;
 use gs_versions::Versions;
 
@@ -16,15 +17,16 @@ use gs_versions::Versions;
 #[derive(Drop)]
 pub enum Seat {
     Idle,
-    /// An upload: what it will do, its request number, and the tree of what was staged.
-    Writing(UploadKind, u64, GraphVersion),
-    /// A patch of this target's graph, and its request number.
-    Patching(Target, u64),
+    /// An upload: what it will do, its request number, the tree of what was staged, and the number of
+    /// its open record.
+    Writing(UploadKind, u64, GraphVersion, u32),
+    /// A patch of this target's graph, its request number, and the number of its open record.
+    Patching(Target, u64, u32),
     /// A read: the root of its tree, and the key of the last line that was given.
     Reading(Option<u32>, Option<Key>),
 }
 
-/// The numbers given out, the terms by number, the nodes of all trees, and the current graphs.
+/// The numbers given out, the terms by number, the nodes of all trees, and the versions of all graphs.
 #[derive(Drop)]
 pub struct Books {
     /// Names of graphs that the store makes up begin with this.
@@ -35,21 +37,21 @@ pub struct Books {
     pub dict: Dict,
     pub pool: Pool,
     pub versions: Versions,
-    pub catalogue: Catalogue,
+    pub records: Records,
 }
 
 /// Whether the target has a graph.
 pub fn is_there(books: &Books, target: &Target) -> bool
     ensures { result ≡ is_there_of (dataset_of books.now) target.now }
 {
-    books.catalogue.get(target).is_some()
+    books.records.get(target).is_some()
 }
 
 /// The version of the target's graph, and an empty one where it is missing.
 pub fn version_of(books: &Books, target: &Target) -> GraphVersion
-    ensures { result ≡ unwrap_or (version_at books.now.catalogue.graphs target.now) empty_version }
+    ensures { result ≡ unwrap_or (version_at (graphs_of books.now) target.now) empty_version }
 {
-    match books.catalogue.get(target) {
+    match books.records.get(target) {
         Some(version) => version,
         None => GraphVersion::empty(),
     }

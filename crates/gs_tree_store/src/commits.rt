@@ -1,8 +1,8 @@
 //! What a write makes of the books: a target's graph gets a tree, or goes. None of it takes memory.
-ghost use Rattle.std.specs.Prelude.{◌≡◌, ◌<◌, ◌≤◌, Some};
+ghost use Rattle.std.specs.Prelude.{◌≡◌, ◌<◌};
 ghost use Rattle.gs_model.specs.Limits.{last_number};
-ghost use Rattle.gs_catalogue.specs.Catalogues.{room_wanted};
 ghost use Rattle.gs_tree_store.specs.Books.{IsSound};
+ghost use Rattle.gs_tree_store.specs.Opened.{IsOpened};
 ghost use Rattle.gs_tree_store.specs.Writes.{HasUpload, HasAny, Puts, Removes};
 
 use crate::books::{self, Books};
@@ -10,17 +10,18 @@ use gs_catalogue::GraphVersion;
 use gs_commit::end_tree;
 use gs_term::Target;
 
-/// Gives the target the upload's tree, as it is, by the next commit. There is room for the target's name.
-pub fn put_version(books: &mut Books, target: Target, upload: GraphVersion)
+/// Gives the target the upload's tree, as it is, by the next commit. The open record is that of it then.
+pub fn put_version(books: &mut Books, opened: u32, target: Target, upload: GraphVersion)
     requires sound { IsSound books.old }
     requires upload { HasUpload books.old upload }
-    requires room { room_wanted books.old.catalogue.graphs target ≤ books.old.catalogue.spare }
+    requires opened { IsOpened books.old opened }
     requires number { books.old.versions.commit < last_number }
-    ensures { Puts books.old books.new target upload }
+    ensures { Puts books.old books.new opened target upload }
 {
     let old = books::version_of(books, &target);
     end_tree(&mut books.pool, &mut books.versions, old.root);
-    books.catalogue.set_reserved(target, upload);
+    let commit = books.versions.commit();
+    books.records.put(opened, target, upload, commit);
 }
 
 /// Takes the target's graph away, by the next commit: the default graph is empty then.
@@ -32,12 +33,6 @@ pub fn remove_version(books: &mut Books, target: &Target)
 {
     let old = books::version_of(books, target);
     end_tree(&mut books.pool, &mut books.versions, old.root);
-    match target {
-        Target::Default => books
-            .catalogue
-            .set_reserved(Target::Default, GraphVersion::empty()),
-        Target::Named(name) => {
-            let _ = books.catalogue.take(name);
-        }
-    }
+    let commit = books.versions.commit();
+    books.records.remove(target, commit);
 }

@@ -13,13 +13,13 @@ fn new_name(books: &Books, alloc: Global, request: u64) -> Result<GraphName, All
     ensures { IfOk result (λ name. name ≡ name_for books.now request) }
 {
     let base = books.base.as_str();
-    for number in 0..books.catalogue.len() as u64 {
+    for number in 0..books.records.names() as u64 {
         let name = Target::Named(made_name(alloc, base, request, number)?);
         if !books::is_there(books, &name) {
             return made_name(alloc, base, request, number);
         }
     }
-    made_name(alloc, base, request, books.catalogue.len() as u64)
+    made_name(alloc, base, request, books.records.names() as u64)
 }
 
 /// The same name, twice: one to keep, and one to report.

@@ -2,7 +2,8 @@
 ghost use Rattle.std.specs.Prelude.{◌≡◌};
 ghost use Rattle.gs_event.specs.declared.events.Action.TheVariants.{OpenPatch, CommitPatch};
 ghost use Rattle.gs_tree_store.specs.declared.books.Seat.TheVariants.{Patching};
-ghost use Rattle.gs_tree_store.specs.Actions.{ActsAny, IsReadyAny, HoldsRoom};
+ghost use Rattle.gs_tree_store.specs.Opened.{HasRecord, KeepsRecords};
+ghost use Rattle.gs_tree_store.specs.Actions.{ActsAny, IsReadyAny};
 
 use crate::books::{self, Books, Seat};
 use crate::drafts::patched;
@@ -15,11 +16,11 @@ use gs_term::Target;
 use std::alloc::Global;
 use std::mem;
 
-/// Opens a patch of the target's graph, if the seat is idle.
+/// Opens a patch of the target's graph, and its record, if the seat is idle.
 pub fn open(books: &mut Books, seat: &mut Seat, target: &Target) -> Answer
     requires { IsReadyAny books.old seat.old }
     ensures acts { ActsAny books.old books.new seat.old seat.new (OpenPatch target.now) result }
-    ensures room { HoldsRoom books.old books.new seat.old seat.new }
+    ensures records { KeepsRecords books.old books.new seat.old seat.new }
 {
     let Seat::Idle = seat else {
         return Answer::Refused(Refusal::WrongPhase);
@@ -30,20 +31,24 @@ pub fn open(books: &mut Books, seat: &mut Seat, target: &Target) -> Answer
     let Ok(kept) = target.clone() else {
         return Answer::Refused(Refusal::NoMemory);
     };
+    let Ok(opened) = books.records.open() else {
+        return Answer::Refused(Refusal::NoMemory);
+    };
     books.request += 1;
-    *seat = Seat::Patching(kept, books.request);
+    *seat = Seat::Patching(kept, books.request, opened);
     Answer::Opened(books.request)
 }
 
 /// Commits the seat's open patch, with these operations.
 pub fn commit(books: &mut Books, seat: &mut Seat, alloc: Global, operations: &Vec<Op>) -> Answer
-    requires { IsReadyAny books.old seat.old }
+    requires ready { IsReadyAny books.old seat.old }
+    requires opened { HasRecord books.old seat.old }
     ensures acts { ActsAny books.old books.new seat.old seat.new (CommitPatch operations.now) result }
-    ensures room { HoldsRoom books.old books.new seat.old seat.new }
+    ensures records { KeepsRecords books.old books.new seat.old seat.new }
 {
     match mem::replace(seat, Seat::Idle) {
-        Seat::Patching(target, request) => {
-            commit_at(books, seat, alloc, target, request, operations)
+        Seat::Patching(target, request, opened) => {
+            commit_at(books, seat, alloc, target, request, opened, operations)
         }
         other => {
             *seat = other;
@@ -59,15 +64,18 @@ fn commit_at(
     alloc: Global,
     target: Target,
     request: u64,
+    opened: u32,
     operations: &Vec<Op>,
 ) -> Answer
-    requires ready { IsReadyAny books.old (Patching target request) }
+    requires ready { IsReadyAny books.old (Patching target request opened) }
+    requires opened { HasRecord books.old (Patching target request opened) }
     requires idle { seat.old ≡ Seat.Idle }
-    ensures acts { ActsAny books.old books.new (Patching target request) seat.new
+    ensures acts { ActsAny books.old books.new (Patching target request opened) seat.new
         (CommitPatch operations.now) result }
-    ensures room { HoldsRoom books.old books.new (Patching target request) seat.new }
+    ensures records { KeepsRecords books.old books.new (Patching target request opened) seat.new }
 {
     if !books::is_there(books, &target) {
+        books.records.give_up(opened);
         return Answer::Status(404, None);
     }
     let held = holdings(books);
@@ -83,23 +91,24 @@ fn commit_at(
         birth,
     );
     let Ok(draft) = draft else {
-        *seat = Seat::Patching(target, request);
+        *seat = Seat::Patching(target, request, opened);
         return Answer::Refused(Refusal::NoMemory);
     };
     match verdict_on(&held, &place, Change::Stores(draft.triples, false)) {
         Verdict::Missing => unreachable!(),
         Verdict::Full => {
             take_back(&mut books.pool, draft.root, birth);
+            books.records.give_up(opened);
             Answer::Status(507, None)
         }
         Verdict::LastNumber => {
             take_back(&mut books.pool, draft.root, birth);
-            *seat = Seat::Patching(target, request);
+            *seat = Seat::Patching(target, request, opened);
             Answer::Refused(Refusal::LastNumber)
         }
         Verdict::Granted(status, _, _) => {
             keep_draft(&mut books.pool, &mut books.versions);
-            books.catalogue.set_reserved(target, draft);
+            books.records.put(opened, target, draft, birth);
             Answer::Status(status, None)
         }
     }

@@ -1,10 +1,11 @@
 //! The commit of a POST: the upload's keys go out of its own tree and into the target's, by copies.
-ghost use Rattle.std.specs.Prelude.{◌≡◌, ◌<◌};
+ghost use Rattle.std.specs.Prelude.{◌≡◌};
 ghost use Rattle.gs_event.specs.declared.events.Action.TheVariants.{Commit};
 ghost use Rattle.gs_event.specs.declared.events.UploadKind.TheVariants.{Post};
 ghost use Rattle.gs_event.specs.declared.answers.Answer.TheVariants.{Refused};
 ghost use Rattle.gs_tree_store.specs.declared.books.Seat.TheVariants.{Writing};
-ghost use Rattle.gs_tree_store.specs.Actions.{ActsAny, IsReadyAny, HoldsRoom};
+ghost use Rattle.gs_tree_store.specs.Opened.{HasRecord, KeepsRecords};
+ghost use Rattle.gs_tree_store.specs.Actions.{ActsAny, IsReadyAny};
 
 use crate::books::{self, Books, Seat};
 use crate::drafts::united;
@@ -26,39 +27,43 @@ pub fn commit_post(
     target: Target,
     request: u64,
     upload: GraphVersion,
+    opened: u32,
 ) -> Answer
-    requires ready { IsReadyAny books.old (Writing (Post target) request upload) }
-    requires room { 0 < books.old.catalogue.spare }
+    requires ready { IsReadyAny books.old (Writing (Post target) request upload opened) }
+    requires opened { HasRecord books.old (Writing (Post target) request upload opened) }
     requires idle { seat.old ≡ Seat.Idle }
-    ensures acts { ActsAny books.old books.new (Writing (Post target) request upload) seat.new Commit result }
-    ensures room { HoldsRoom books.old books.new (Writing (Post target) request upload) seat.new }
+    ensures acts { ActsAny books.old books.new (Writing (Post target) request upload opened) seat.new
+        Commit result }
+    ensures records { KeepsRecords books.old books.new (Writing (Post target) request upload opened)
+        seat.new }
 {
     let held = holdings(books);
     let place = place(books, &target);
     let old = books::version_of(books, &target);
     let birth = books.versions.commit() + 1;
     let Ok(keys) = take_keys(alloc, &books.dict, &mut books.pool, upload) else {
-        return still_open(seat, target, request, upload, Refusal::NoMemory);
+        return still_open(seat, target, request, upload, opened, Refusal::NoMemory);
     };
     let run = keys.as_slice();
     let Ok(draft) = united(&books.dict, &mut books.pool, old, run, birth) else {
         let upload = make_again(&mut books.pool, run, birth);
-        return still_open(seat, target, request, upload, Refusal::NoMemory);
+        return still_open(seat, target, request, upload, opened, Refusal::NoMemory);
     };
     match verdict_on(&held, &place, Change::Stores(draft.triples, true)) {
         Verdict::Missing => unreachable!(),
         Verdict::Full => {
             take_back(&mut books.pool, draft.root, birth);
+            books.records.give_up(opened);
             Answer::Status(507, None)
         }
         Verdict::LastNumber => {
             take_back(&mut books.pool, draft.root, birth);
             let upload = make_again(&mut books.pool, run, birth);
-            still_open(seat, target, request, upload, Refusal::LastNumber)
+            still_open(seat, target, request, upload, opened, Refusal::LastNumber)
         }
         Verdict::Granted(status, _, _) => {
             keep_draft(&mut books.pool, &mut books.versions);
-            books.catalogue.set_reserved(target, draft);
+            books.records.put(opened, target, draft, birth);
             Answer::Status(status, None)
         }
     }
@@ -70,11 +75,12 @@ fn still_open(
     target: Target,
     request: u64,
     upload: GraphVersion,
+    opened: u32,
     why: Refusal,
 ) -> Answer
-    ensures seat { seat.new ≡ Writing (Post target) request upload }
+    ensures seat { seat.new ≡ Writing (Post target) request upload opened }
     ensures answer { result ≡ Refused why }
 {
-    *seat = Seat::Writing(UploadKind::Post(target), request, upload);
+    *seat = Seat::Writing(UploadKind::Post(target), request, upload, opened);
     Answer::Refused(why)
 }

@@ -2,7 +2,8 @@
 ghost use Rattle.std.specs.Prelude.{◌≡◌};
 ghost use Rattle.gs_event.specs.declared.events.Action.TheVariants.{Head, Pin, Piece as PieceOf};
 ghost use Rattle.gs_tree_store.specs.Books.{IsReady};
-ghost use Rattle.gs_tree_store.specs.Actions.{Acts, ActsAny, IsReadyAny, HoldsRoom};
+ghost use Rattle.gs_tree_store.specs.Opened.{KeepsRecords};
+ghost use Rattle.gs_tree_store.specs.Actions.{Acts, ActsAny, IsReadyAny};
 
 use crate::books::{self, Books, Seat};
 use gs_event::Answer;
@@ -15,7 +16,7 @@ use std::alloc::Global;
 pub fn head(books: &mut Books, seat: &mut Seat, target: &Target) -> Answer
     requires { IsReadyAny books.old seat.old }
     ensures acts { ActsAny books.old books.new seat.old seat.new (Head target.now) result }
-    ensures room { HoldsRoom books.old books.new seat.old seat.new }
+    ensures records { KeepsRecords books.old books.new seat.old seat.new }
 {
     let Seat::Idle = seat else {
         return Answer::Refused(Refusal::WrongPhase);
@@ -28,12 +29,12 @@ pub fn head(books: &mut Books, seat: &mut Seat, target: &Target) -> Answer
 pub fn pin(books: &mut Books, seat: &mut Seat, number: u16, target: &Target) -> Answer
     requires { IsReady books.old number seat.old }
     ensures acts { Acts books.old books.new number seat.old seat.new (Pin target.now) result }
-    ensures room { HoldsRoom books.old books.new seat.old seat.new }
+    ensures records { KeepsRecords books.old books.new seat.old seat.new }
 {
     let Seat::Idle = seat else {
         return Answer::Refused(Refusal::WrongPhase);
     };
-    let Some(version) = books.catalogue.get(target) else {
+    let Some(version) = books.records.get(target) else {
         return Answer::Pinned(404);
     };
     books.versions.pin(number);
@@ -45,7 +46,7 @@ pub fn pin(books: &mut Books, seat: &mut Seat, number: u16, target: &Target) -> 
 pub fn piece(books: &mut Books, seat: &mut Seat, number: u16, alloc: Global, count: u32) -> Answer
     requires { IsReady books.old number seat.old }
     ensures acts { Acts books.old books.new number seat.old seat.new (PieceOf count) result }
-    ensures room { HoldsRoom books.old books.new seat.old seat.new }
+    ensures records { KeepsRecords books.old books.new seat.old seat.new }
 {
     let Seat::Reading(root, last) = seat else {
         return Answer::Refused(Refusal::WrongPhase);

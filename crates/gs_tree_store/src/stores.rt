@@ -12,12 +12,12 @@ ghost use Rattle.gs_tree_store.specs.Uses.{UsesNodes};
 use crate::actions;
 use crate::books::{Books, Seat};
 use crate::storage::Storage;
-use gs_catalogue::Catalogue;
 use gs_dict::Dict;
 use gs_event::{Action, Answer, Event, Limits};
 use gs_model::Refusal;
 use gs_pool::Pool;
 use gs_reclaim::reclaim;
+use gs_records::Records;
 use gs_run::EventStore;
 use gs_versions::Versions;
 use std::alloc::{AllocError, Global};
@@ -72,6 +72,7 @@ impl TreeStore {
         let dict = Dict::new(alloc, storage.seed, storage.last_term)?;
         let versions = Versions::new(alloc, seats, commit)?;
         let pool = Pool::with_lists(alloc, storage.last_node, usize::from(seats))?;
+        let records = Records::new(alloc, seats, u32::MAX, commit)?;
         let books = Books {
             base,
             limits,
@@ -79,7 +80,7 @@ impl TreeStore {
             dict,
             pool,
             versions,
-            catalogue: Catalogue::new(alloc),
+            records,
         };
         Ok(TreeStore {
             alloc,
@@ -113,14 +114,15 @@ impl TreeStore {
     {
         // The triples of all graphs are nodes in use, which are fewer than 2^32.
         let _used = self.books.pool.nodes_in_use();
-        self.books.catalogue.triples() as u64
+        self.books.records.triples() as u64
     }
 
-    /// Frees nodes that no version needs.
+    /// Frees nodes that no version needs, and beside them at most as many records that ended.
     fn reclaim(&mut self, count: u64) -> Answer
         ensures steps { Steps self.old (Event.Reclaim count) result self.new }
     {
         let done = reclaim(&mut self.books.pool, &self.books.versions, count);
+        let _beside = self.books.records.reclaim(&self.books.versions, count);
         Answer::Reclaimed(done.freed, done.left)
     }
 
@@ -132,9 +134,8 @@ impl TreeStore {
         if place >= self.seats.len() {
             return Answer::Refused(Refusal::BadSeat);
         }
-        let seats = self.seats.len();
         let held = &mut self.seats[place];
-        actions::act(&mut self.books, held, number, seats, self.alloc, action)
+        actions::act(&mut self.books, held, number, self.alloc, action)
     }
 }
 

@@ -19,8 +19,8 @@ pub fn holdings(books: &Books) -> Holdings
     // The triples of all graphs are nodes in use, which are fewer than 2^32.
     let _used = books.pool.nodes_in_use();
     Holdings {
-        triples: books.catalogue.triples() as u64,
-        names: books.catalogue.len() as u64,
+        triples: books.records.triples() as u64,
+        names: books.records.names() as u64,
         commit: books.versions.commit(),
         limits: books.limits,
     }

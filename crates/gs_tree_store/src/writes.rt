@@ -1,10 +1,10 @@
 //! Writes: the commits of uploads, and deletes.
-ghost use Rattle.std.specs.Prelude.{◌≡◌, ◌<◌, IsTrue};
+ghost use Rattle.std.specs.Prelude.{◌≡◌};
 ghost use Rattle.gs_event.specs.declared.events.Action.TheVariants.{Commit, Delete};
 ghost use Rattle.gs_event.specs.declared.events.UploadKind.TheVariants.{Put, New};
 ghost use Rattle.gs_tree_store.specs.declared.books.Seat.TheVariants.{Writing};
-ghost use Rattle.gs_tree_store.specs.Books.{is_writing};
-ghost use Rattle.gs_tree_store.specs.Actions.{ActsAny, IsReadyAny, HoldsRoom};
+ghost use Rattle.gs_tree_store.specs.Opened.{HasRecord, KeepsRecords};
+ghost use Rattle.gs_tree_store.specs.Actions.{ActsAny, IsReadyAny};
 
 use crate::books::{Books, Seat};
 use crate::commits::{put_version, remove_version};
@@ -22,15 +22,17 @@ use std::mem;
 /// Commits the seat's open upload, by its kind.
 pub fn commit(books: &mut Books, seat: &mut Seat, alloc: Global) -> Answer
     requires ready { IsReadyAny books.old seat.old }
-    requires room { IsTrue (is_writing seat.old) → 0 < books.old.catalogue.spare }
+    requires opened { HasRecord books.old seat.old }
     ensures acts { ActsAny books.old books.new seat.old seat.new Commit result }
-    ensures room { HoldsRoom books.old books.new seat.old seat.new }
+    ensures records { KeepsRecords books.old books.new seat.old seat.new }
 {
     match mem::replace(seat, Seat::Idle) {
-        Seat::Writing(kind, request, upload) => match kind {
-            UploadKind::Put(target) => commit_put(books, seat, target, request, upload),
-            UploadKind::Post(target) => commit_post(books, seat, alloc, target, request, upload),
-            UploadKind::New => commit_new(books, seat, alloc, request, upload),
+        Seat::Writing(kind, request, upload, opened) => match kind {
+            UploadKind::Put(target) => commit_put(books, seat, target, request, upload, opened),
+            UploadKind::Post(target) => commit_post(
+                books, seat, alloc, target, request, upload, opened,
+            ),
+            UploadKind::New => commit_new(books, seat, alloc, request, upload, opened),
         },
         other => {
             *seat = other;
@@ -46,25 +48,28 @@ fn commit_put(
     target: Target,
     request: u64,
     upload: GraphVersion,
+    opened: u32,
 ) -> Answer
-    requires ready { IsReadyAny books.old (Writing (Put target) request upload) }
-    requires room { 0 < books.old.catalogue.spare }
+    requires ready { IsReadyAny books.old (Writing (Put target) request upload opened) }
+    requires opened { HasRecord books.old (Writing (Put target) request upload opened) }
     requires idle { seat.old ≡ Seat.Idle }
-    ensures acts { ActsAny books.old books.new (Writing (Put target) request upload) seat.new Commit result }
-    ensures room { HoldsRoom books.old books.new (Writing (Put target) request upload) seat.new }
+    ensures acts { ActsAny books.old books.new (Writing (Put target) request upload opened) seat.new
+        Commit result }
+    ensures records { KeepsRecords books.old books.new (Writing (Put target) request upload opened) seat.new }
 {
     match verdict_on_upload(books, &target, upload) {
         Verdict::Missing => unreachable!(),
         Verdict::Full => {
             drop_tree(&mut books.pool, upload.root);
+            books.records.give_up(opened);
             Answer::Status(507, None)
         }
         Verdict::LastNumber => {
-            *seat = Seat::Writing(UploadKind::Put(target), request, upload);
+            *seat = Seat::Writing(UploadKind::Put(target), request, upload, opened);
             Answer::Refused(Refusal::LastNumber)
         }
         Verdict::Granted(status, _, _) => {
-            put_version(books, target, upload);
+            put_version(books, opened, target, upload);
             Answer::Status(status, None)
         }
     }
@@ -77,15 +82,16 @@ fn commit_new(
     alloc: Global,
     request: u64,
     upload: GraphVersion,
+    opened: u32,
 ) -> Answer
-    requires ready { IsReadyAny books.old (Writing New request upload) }
-    requires room { 0 < books.old.catalogue.spare }
+    requires ready { IsReadyAny books.old (Writing New request upload opened) }
+    requires opened { HasRecord books.old (Writing New request upload opened) }
     requires idle { seat.old ≡ Seat.Idle }
-    ensures acts { ActsAny books.old books.new (Writing New request upload) seat.new Commit result }
-    ensures room { HoldsRoom books.old books.new (Writing New request upload) seat.new }
+    ensures acts { ActsAny books.old books.new (Writing New request upload opened) seat.new Commit result }
+    ensures records { KeepsRecords books.old books.new (Writing New request upload opened) seat.new }
 {
     let Ok((name, location)) = names::new_name_twice(books, alloc, request) else {
-        *seat = Seat::Writing(UploadKind::New, request, upload);
+        *seat = Seat::Writing(UploadKind::New, request, upload, opened);
         return Answer::Refused(Refusal::NoMemory);
     };
     let target = Target::Named(name);
@@ -93,14 +99,15 @@ fn commit_new(
         Verdict::Missing => unreachable!(),
         Verdict::Full => {
             drop_tree(&mut books.pool, upload.root);
+            books.records.give_up(opened);
             Answer::Status(507, None)
         }
         Verdict::LastNumber => {
-            *seat = Seat::Writing(UploadKind::New, request, upload);
+            *seat = Seat::Writing(UploadKind::New, request, upload, opened);
             Answer::Refused(Refusal::LastNumber)
         }
         Verdict::Granted(status, _, _) => {
-            put_version(books, target, upload);
+            put_version(books, opened, target, upload);
             Answer::Status(status, Some(location))
         }
     }
@@ -110,7 +117,7 @@ fn commit_new(
 pub fn delete(books: &mut Books, seat: &mut Seat, target: &Target) -> Answer
     requires { IsReadyAny books.old seat.old }
     ensures acts { ActsAny books.old books.new seat.old seat.new (Delete target.now) result }
-    ensures room { HoldsRoom books.old books.new seat.old seat.new }
+    ensures records { KeepsRecords books.old books.new seat.old seat.new }
 {
     let Seat::Idle = seat else {
         return Answer::Refused(Refusal::WrongPhase);

@@ -7,17 +7,28 @@ use Rattle.gs_event.specs.declared.answers.Answer.TheVariants.{Status}
 use Rattle.gs_event.specs.declared.verdicts.Verdict.TheVariants.{Full, LastNumber, Granted}
 use Rattle.gs_event.specs.Datasets.{size_at}
 use Rattle.gs_event.specs.Operations.{Creates}
+use Rattle.gs_records.specs.Records.{unused}
+use Rattle.gs_tree_store.specs.declared.books.Books.{Books}
 use Rattle.gs_tree_store.specs.declared.books.Seat.TheVariants.{Writing}
 use Rattle.gs_tree_store.specs.Books.{books_setting, dataset_of}
 use Rattle.gs_tree_store.specs.Writes.{Puts}
 use Rattle.gs_tree_store.specs.Verdicts.{name_for, DecidesUpload}
+use Rattle.gs_tree_store.specs.Opened.{own_record}
 use Rattle.gs_tree_store.specs.Actions.{Acts}
 use Rattle.gs_tree_store.proofs.VerdictLemmas.{is_stored, is_not_stored, would_be_stored, name_reported, no_name_reported, new_is_empty}
-use Rattle.gs_tree_store.proofs.WriteLemmas.{upload_graph, has_upload, upload_retirable, versions_same, same_use, room_stored, commit_refused, commit_failed, commit_stored, taken_over}
+use Rattle.gs_tree_store.proofs.OpenedLemmas.{open_stays, turn_lets_go, record_let_go}
+use Rattle.gs_tree_store.proofs.AlikeLemmas.{gives_up_same}
+use Rattle.gs_tree_store.proofs.WriteLemmas.{upload_graph, has_upload, upload_retirable, versions_same, same_use, commit_refused, commit_failed, commit_stored, taken_over}
 use Rattle.gs_tree_store.proofs.writes.commit_new.Goals as goal
 
 pub drop_tree-requires : goal.drop_tree-requires
-drop_tree-requires c = upload_retirable c.args.books.now c.args.upload (has_upload c.args.books.now New c.args.request c.args.upload c.requires.ready)
+drop_tree-requires c = upload_retirable c.args.books.now c.args.upload (has_upload c.args.books.now New c.args.request c.args.upload c.args.opened c.requires.ready)
+
+pub give_up-requires : goal.give_up-requires
+give_up-requires c = c.requires.opened c.args.opened refl
+
+pub put_version-requires-clause-opened : goal.put_version-requires-clause-opened
+put_version-requires-clause-opened c = c.requires.opened c.args.opened refl
 
 pub returns-in-Full-clause-acts : goal.returns-in-Full-clause-acts
 returns-in-Full-clause-acts c = λ s ready.
@@ -28,10 +39,11 @@ returns-in-Full-clause-acts c = λ s ready.
     let own = name_for b r in
     let g = upload_graph b c.args.upload in
     let dropped = c.drop_tree.ensures in
+    let same = gives_up_same b.records c.give_up.new.self c.args.opened c.give_up.ensures in
     let decided = subst (λ n. DecidesUpload b (Named n) c.args.upload Full) c.in-Ok.ensures.0 c.in-Full.ensures in
     let not = is_not_stored w m b.versions.commit (Creates r g) (Named own) g refl refl decided in
-    subst (λ x. Acts b (record b { pool = c.drop_tree.new.pool }) s (Writing New r c.args.upload) x Commit (Status 507 None)) (sym c.requires.idle)
-    (commit_failed b c.drop_tree.new.pool s New r c.args.upload (versions_same b c.drop_tree.new.pool dropped.nodes) (dropped.aside ∙ ready.sound.none_aside) dropped.ledgers (same_use b.pool c.drop_tree.new.pool dropped.nodes) not (no_name_reported w m r g decided) ready)
+    subst (λ x. Acts b (record b { pool = c.drop_tree.new.pool; records = c.give_up.new.self }) s (Writing New r c.args.upload c.args.opened) x Commit (Status 507 None)) (sym c.requires.idle)
+    (commit_failed b c.drop_tree.new.pool c.give_up.new.self s New r c.args.upload c.args.opened same (versions_same b c.drop_tree.new.pool dropped.nodes) (dropped.aside ∙ ready.sound.none_aside) dropped.ledgers (same_use b.pool c.drop_tree.new.pool dropped.nodes) not (no_name_reported w m r g decided) ready)
 
 pub returns-in-LastNumber-clause-acts : goal.returns-in-LastNumber-clause-acts
 returns-in-LastNumber-clause-acts c = λ s ready.
@@ -39,7 +51,7 @@ returns-in-LastNumber-clause-acts c = λ s ready.
     let r = c.args.request in
     let g = upload_graph b c.args.upload in
     let decided = subst (λ n. DecidesUpload b (Named n) c.args.upload LastNumber) c.in-Ok.ensures.0 c.in-LastNumber.ensures in
-    commit_refused b s New r c.args.upload (would_be_stored (books_setting b) (dataset_of b) b.versions.commit (Creates r g) (Named (name_for b r)) g refl refl decided, decided.1) ready
+    commit_refused b s New r c.args.upload c.args.opened (would_be_stored (books_setting b) (dataset_of b) b.versions.commit (Creates r g) (Named (name_for b r)) g refl refl decided, decided.1) ready
 
 pub returns-in-Granted-clause-acts : goal.returns-in-Granted-clause-acts
 returns-in-Granted-clause-acts c = λ s ready.
@@ -53,12 +65,24 @@ returns-in-Granted-clause-acts c = λ s ready.
     let status = c.in-Granted.status in
     let decided = subst (λ n. DecidesUpload b (Named n) c.args.upload (Granted status c.in-Granted.field-1 c.in-Granted.field-2)) c.in-Ok.ensures.0 c.in-Granted.ensures in
     let stored = is_stored w m b.versions.commit (Creates r g) (Named own) g refl refl status c.in-Granted.field-1 c.in-Granted.field-2 decided in
-    let puts = subst (λ n. Puts b new (Named n) c.args.upload) c.in-Ok.ensures.0 c.put_version.ensures in
+    let puts = subst (λ n. Puts b new c.args.opened (Named n) c.args.upload) c.in-Ok.ensures.0 c.put_version.ensures in
     let name = ap Some c.in-Ok.ensures.1 ∙ name_reported w m r g decided.0 in
-    subst (λ x. Acts b new s (Writing New r c.args.upload) x Commit (Status status (Some c.in-Ok.location))) (sym c.requires.idle)
-    (commit_stored b new s New r c.args.upload (Named own) status (Some c.in-Ok.location) puts decided.2 stored name
+    subst (λ x. Acts b new s (Writing New r c.args.upload c.args.opened) x Commit (Status status (Some c.in-Ok.location))) (sym c.requires.idle)
+    (commit_stored b new s New r c.args.upload c.args.opened (Named own) status (Some c.in-Ok.location) puts decided.2 stored name
     (λ x y j. taken_over b.versions.commit (size_of g) (size_at m (Named own)) x y (omega (arith, new_is_empty (string_bytes b.base) m r)) j) ready)
 
-pub returns-in-Granted-clause-room : goal.returns-in-Granted-clause-room
-returns-in-Granted-clause-room c =
-    room_stored c.args.books.now c.put_version.new.books New c.args.request c.args.upload (Named c.in-Ok.name) c.args.seat.now c.requires.idle c.put_version.ensures.room
+pub returns-in_default-clause-records : goal.returns-in_default-clause-records
+returns-in_default-clause-records c = open_stays c.args.books.now c.args.books.now (Writing New c.args.request c.args.upload c.args.opened) (Writing New c.args.request c.args.upload c.args.opened) refl (record { stays = λ n h. h; no_more = λ n h. h })
+
+pub returns-in-Full-clause-records : goal.returns-in-Full-clause-records
+returns-in-Full-clause-records c =
+    let b = c.args.books.now in
+    let new : Books = record b { pool = c.drop_tree.new.pool; records = c.give_up.new.self } in
+    record_let_go b new (Writing New c.args.request c.args.upload c.args.opened) c.args.seat.now c.args.opened refl (ap own_record c.requires.idle) (turn_lets_go b new c.args.opened unused refl c.give_up.ensures.turns)
+
+pub returns-in-LastNumber-clause-records : goal.returns-in-LastNumber-clause-records
+returns-in-LastNumber-clause-records c = open_stays c.args.books.now c.args.books.now (Writing New c.args.request c.args.upload c.args.opened) (Writing New c.args.request c.args.upload c.args.opened) refl (record { stays = λ n h. h; no_more = λ n h. h })
+
+pub returns-in-Granted-clause-records : goal.returns-in-Granted-clause-records
+returns-in-Granted-clause-records c =
+    record_let_go c.args.books.now c.put_version.new.books (Writing New c.args.request c.args.upload c.args.opened) c.args.seat.now c.args.opened refl (ap own_record c.requires.idle) c.put_version.ensures.lets_go

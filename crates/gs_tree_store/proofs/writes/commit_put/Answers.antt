@@ -1,17 +1,28 @@
-use Rattle.std.proofs.Common.{None, refl, sym, subst, ◌∙◌}
+use Rattle.std.proofs.Common.{None, refl, sym, ap, subst, ◌∙◌}
 use Rattle.gs_event.specs.declared.events.UploadKind.TheVariants.{Put}
 use Rattle.gs_event.specs.declared.events.Action.TheVariants.{Commit}
 use Rattle.gs_event.specs.declared.answers.Answer.TheVariants.{Status}
 use Rattle.gs_event.specs.Operations.{Puts}
+use Rattle.gs_records.specs.Records.{unused}
+use Rattle.gs_tree_store.specs.declared.books.Books.{Books}
 use Rattle.gs_tree_store.specs.declared.books.Seat.TheVariants.{Writing}
 use Rattle.gs_tree_store.specs.Books.{books_setting, dataset_of}
+use Rattle.gs_tree_store.specs.Opened.{own_record}
 use Rattle.gs_tree_store.specs.Actions.{Acts}
 use Rattle.gs_tree_store.proofs.VerdictLemmas.{is_stored, is_not_stored}
+use Rattle.gs_tree_store.proofs.OpenedLemmas.{open_stays, turn_lets_go, record_let_go}
+use Rattle.gs_tree_store.proofs.AlikeLemmas.{gives_up_same}
 use Rattle.gs_tree_store.proofs.WriteLemmas.{upload_graph, has_upload, upload_retirable, versions_same, same_use, commit_failed, commit_stored}
 use Rattle.gs_tree_store.proofs.writes.commit_put.Goals as goal
 
 pub drop_tree-requires : goal.drop_tree-requires
-drop_tree-requires c = upload_retirable c.args.books.now c.args.upload (has_upload c.args.books.now (Put c.args.target) c.args.request c.args.upload c.requires.ready)
+drop_tree-requires c = upload_retirable c.args.books.now c.args.upload (has_upload c.args.books.now (Put c.args.target) c.args.request c.args.upload c.args.opened c.requires.ready)
+
+pub give_up-requires : goal.give_up-requires
+give_up-requires c = c.requires.opened c.args.opened refl
+
+pub put_version-requires-clause-opened : goal.put_version-requires-clause-opened
+put_version-requires-clause-opened c = c.requires.opened c.args.opened refl
 
 pub returns-in-Full-clause-acts : goal.returns-in-Full-clause-acts
 returns-in-Full-clause-acts c = λ s ready.
@@ -19,9 +30,10 @@ returns-in-Full-clause-acts c = λ s ready.
     let t = c.args.target in
     let g = upload_graph b c.args.upload in
     let dropped = c.drop_tree.ensures in
+    let same = gives_up_same b.records c.give_up.new.self c.args.opened c.give_up.ensures in
     let not = is_not_stored (books_setting b) (dataset_of b) b.versions.commit (Puts t g) t g refl refl c.in-Full.ensures in
-    subst (λ x. Acts b (record b { pool = c.drop_tree.new.pool }) s (Writing (Put t) c.args.request c.args.upload) x Commit (Status 507 None)) (sym c.requires.idle)
-    (commit_failed b c.drop_tree.new.pool s (Put t) c.args.request c.args.upload (versions_same b c.drop_tree.new.pool dropped.nodes) (dropped.aside ∙ ready.sound.none_aside) dropped.ledgers (same_use b.pool c.drop_tree.new.pool dropped.nodes) not refl ready)
+    subst (λ x. Acts b (record b { pool = c.drop_tree.new.pool; records = c.give_up.new.self }) s (Writing (Put t) c.args.request c.args.upload c.args.opened) x Commit (Status 507 None)) (sym c.requires.idle)
+    (commit_failed b c.drop_tree.new.pool c.give_up.new.self s (Put t) c.args.request c.args.upload c.args.opened same (versions_same b c.drop_tree.new.pool dropped.nodes) (dropped.aside ∙ ready.sound.none_aside) dropped.ledgers (same_use b.pool c.drop_tree.new.pool dropped.nodes) not refl ready)
 
 pub returns-in-Granted-clause-acts : goal.returns-in-Granted-clause-acts
 returns-in-Granted-clause-acts c = λ s ready.
@@ -30,5 +42,18 @@ returns-in-Granted-clause-acts c = λ s ready.
     let g = upload_graph b c.args.upload in
     let decided = c.in-Granted.ensures in
     let stored = is_stored (books_setting b) (dataset_of b) b.versions.commit (Puts t g) t g refl refl c.in-Granted.status c.in-Granted.field-1 c.in-Granted.field-2 decided in
-    subst (λ x. Acts b c.put_version.new.books s (Writing (Put t) c.args.request c.args.upload) x Commit (Status c.in-Granted.status None)) (sym c.requires.idle)
-    (commit_stored b c.put_version.new.books s (Put t) c.args.request c.args.upload t c.in-Granted.status None c.put_version.ensures decided.2 stored refl (λ a b j. j) ready)
+    subst (λ x. Acts b c.put_version.new.books s (Writing (Put t) c.args.request c.args.upload c.args.opened) x Commit (Status c.in-Granted.status None)) (sym c.requires.idle)
+    (commit_stored b c.put_version.new.books s (Put t) c.args.request c.args.upload c.args.opened t c.in-Granted.status None c.put_version.ensures decided.2 stored refl (λ a b j. j) ready)
+
+pub returns-in-Full-clause-records : goal.returns-in-Full-clause-records
+returns-in-Full-clause-records c =
+    let b = c.args.books.now in
+    let new : Books = record b { pool = c.drop_tree.new.pool; records = c.give_up.new.self } in
+    record_let_go b new (Writing (Put c.args.target) c.args.request c.args.upload c.args.opened) c.args.seat.now c.args.opened refl (ap own_record c.requires.idle) (turn_lets_go b new c.args.opened unused refl c.give_up.ensures.turns)
+
+pub returns-in-LastNumber-clause-records : goal.returns-in-LastNumber-clause-records
+returns-in-LastNumber-clause-records c = open_stays c.args.books.now c.args.books.now (Writing (Put c.args.target) c.args.request c.args.upload c.args.opened) (Writing (Put c.args.target) c.args.request c.args.upload c.args.opened) refl (record { stays = λ n h. h; no_more = λ n h. h })
+
+pub returns-in-Granted-clause-records : goal.returns-in-Granted-clause-records
+returns-in-Granted-clause-records c =
+    record_let_go c.args.books.now c.put_version.new.books (Writing (Put c.args.target) c.args.request c.args.upload c.args.opened) c.args.seat.now c.args.opened refl (ap own_record c.requires.idle) c.put_version.ensures.lets_go

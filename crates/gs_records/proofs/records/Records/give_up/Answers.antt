@@ -1,7 +1,8 @@
 use Rattle.std.proofs.Common.{◌≡◌, refl, ◌∙◌}
-use Rattle.gs_records.specs.Records.{opened, record_at}
+use Rattle.gs_records.specs.Records.{opened, unused, record_at}
 use Rattle.gs_records.specs.Stored.{records_by}
-use Rattle.gs_records.proofs.Keeping.{given_stored, given_current, given_up}
+use Rattle.gs_records.proofs.Keeping.{given_turns, given_stored, given_current, given_up}
+use Rattle.gs_records.proofs.Versions.{versions_bare}
 use Rattle.gs_records.proofs.Counting.{counted_same}
 use Rattle.gs_records.proofs.records.Records.give_up.Goals as goal
 
@@ -14,6 +15,7 @@ invariant_of-self c =
     record {
       stored = given_stored s.index s.pool c.retire_one.new.self s.opened s.latest c.args.number c.self.invariant.stored is marks;
       none_aside = c.retire_one.ensures.aside ∙ c.self.invariant.none_aside;
+      versions = versions_bare (records_by s.index s.pool) (records_by s.index c.retire_one.new.self) c.args.number unused (given_turns s.index s.pool c.retire_one.new.self s.opened s.latest c.args.number c.self.invariant.stored is marks) refl c.self.invariant.versions;
       counted = counted_same (records_by s.index s.pool) (records_by s.index c.retire_one.new.self) s.names s.triples now c.self.invariant.counted;
     }
 

@@ -1,8 +1,10 @@
 use Rattle.std.proofs.Common.{◌≤◌, ◌+◌, refl, ap, count_by, ◌∙◌, arith}
 use Rattle.gs_records.proofs.Keeping.{open_few}
-use Rattle.gs_records.proofs.Opening.{alike_grown, grown_many, grown_few, opened_stored, opened_current, opened_now}
+use Rattle.gs_records.proofs.Opening.{alike_grown, grown_many, grown_few, opened_turns, opened_stored, opened_current, opened_now}
 use Rattle.gs_pool.specs.Pool.{is_aside}
+use Rattle.gs_records.specs.Records.{opened}
 use Rattle.gs_records.specs.Stored.{records_by}
+use Rattle.gs_records.proofs.Versions.{versions_bare}
 use Rattle.gs_records.proofs.Counting.{counted_same}
 use Rattle.gs_records.proofs.records.Records.open.Goals as goal
 
@@ -30,6 +32,7 @@ invariant_of-self-2 c =
     record {
       stored = opened_stored s.index y s.pool q r s.opened s.latest n c.node_of.result c.self.invariant.stored alike fills c.node_of.ensures many spare few;
       none_aside = fills.aside ∙ ap (count_by is_aside) room.marks ∙ c.self.invariant.none_aside;
+      versions = versions_bare (records_by s.index s.pool) (records_by y r) n opened (opened_turns s.index y s.pool q r s.opened s.latest n c.node_of.result c.self.invariant.stored alike fills c.node_of.ensures many spare few) refl c.self.invariant.versions;
       counted = counted_same (records_by s.index s.pool) (records_by y r) s.names s.triples (opened_current s.index y s.pool q r s.opened s.latest n c.node_of.result c.self.invariant.stored alike fills c.node_of.ensures many spare few) c.self.invariant.counted;
     }
 

@@ -1,5 +1,6 @@
 use Rattle.std.proofs.Common.{refl}
 use Rattle.gs_records.specs.Stored.{records_by}
+use Rattle.gs_records.proofs.Versions.{versions_dropped}
 use Rattle.gs_records.proofs.Counting.{counted_same}
 use Rattle.gs_records.proofs.Finishing.{reclaimed}
 use Rattle.gs_records.proofs.records.Records.reclaim.Goals as goal
@@ -10,6 +11,7 @@ invariant_of-self c =
     record {
       stored = c.reclaim.ensures.stored s.opened s.latest c.self.invariant.stored;
       none_aside = c.reclaim.ensures.none_aside;
+      versions = versions_dropped c.args.versions.now.seats (records_by s.index s.pool) (records_by c.reclaim.new.index c.reclaim.new.pool) c.reclaim.ensures.drops.each c.self.invariant.versions;
       counted = counted_same (records_by s.index s.pool) (records_by c.reclaim.new.index c.reclaim.new.pool) s.names s.triples c.reclaim.ensures.drops.now c.self.invariant.counted;
     }
 

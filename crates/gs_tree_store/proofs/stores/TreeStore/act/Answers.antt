@@ -1,9 +1,8 @@
-use Rattle.std.proofs.Common.{◌≡◌, ◌<◌, ◌≤◌, length, arith, refl, subst}
+use Rattle.std.proofs.Common.{◌<◌, ◌≤◌, length, arith, refl}
 use Rattle.std.specs.Vec.{with_item}
 use Rattle.gs_tree_store.specs.declared.stores.TreeStore.TheInside.{Inside}
-use Rattle.gs_tree_store.specs.Actions.{KeepsRoom}
 use Rattle.gs_tree_store.specs.Kept.{IsKept}
-use Rattle.gs_tree_store.proofs.KeptLemmas.{ready_at, kept_after}
+use Rattle.gs_tree_store.proofs.KeptLemmas.{ready_at, opened_here, kept_after}
 use Rattle.gs_tree_store.proofs.StepLemmas.{steps_after, uses_after, steps_nowhere}
 use Rattle.gs_tree_store.proofs.stores.TreeStore.act.Goals as goal
 
@@ -17,15 +16,18 @@ act-requires-clause-ready c =
     let within : c.args.number < length c.self.inside.seats.items = omega arith in
     ready_at c.self.inside c.args.number c.index_mut-held.result.now c.self.invariant within c.index_mut-held.ensures.value
 
+pub act-requires-clause-opened : goal.act-requires-clause-opened
+act-requires-clause-opened c =
+    let within : c.args.number < length c.self.inside.seats.items = omega arith in
+    opened_here c.self.inside c.args.number c.index_mut-held.result.now c.self.invariant within c.index_mut-held.ensures.value
+
 abbrev after : goal.After-self-1 → Inside
 after c = record { alloc = c.self.inside.alloc; books = c.act.new.books; seats = with_item c.self.inside.seats c.args.number c.act.new.seat }
 
 is_kept : (c : goal.After-self-1) → IsKept (after c)
 is_kept c =
     let within : c.args.number < length c.self.inside.seats.items = omega arith in
-    let seats : c.len-seats.result ≡ length c.self.inside.seats.items = omega arith in
-    let room = subst (λ n. KeepsRoom n c.self.inside.books c.act.new.books c.index_mut-held.result.now c.act.new.seat) seats c.act.ensures.room in
-    kept_after c.self.inside (after c) c.args.number c.index_mut-held.result.now c.act.new.seat c.args.action.now c.act.result c.self.invariant within c.index_mut-held.ensures.value refl c.act.ensures.acts room
+    kept_after c.self.inside (after c) c.args.number c.index_mut-held.result.now c.act.new.seat c.args.action.now c.act.result c.self.invariant within c.index_mut-held.ensures.value refl c.act.ensures.acts c.act.ensures.records
 
 pub invariant_of-self : goal.invariant_of-self
 invariant_of-self c = is_kept c

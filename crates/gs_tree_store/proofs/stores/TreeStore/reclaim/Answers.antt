@@ -2,9 +2,16 @@ use Rattle.gs_tree_store.proofs.ReclaimLemmas.{kept_reclaimed, steps_reclaimed}
 use Rattle.gs_tree_store.proofs.stores.TreeStore.reclaim.Goals as goal
 
 pub invariant_of-self : goal.invariant_of-self
-invariant_of-self c = kept_reclaimed c.self.inside c.reclaim-done.new.pool c.self.invariant c.reclaim-done.ensures.ledgers c.reclaim-done.ensures.none_aside
+invariant_of-self c =
+    let done = c.reclaim-done in
+    let beside = c.reclaim-beside in
+    kept_reclaimed c.self.inside done.new.pool c.self.invariant done.ensures.ledgers beside.new.self c.args.count beside.result.freed beside.result.left beside.ensures done.ensures.none_aside
 
 pub returns : goal.returns
 returns c = record {
-  steps = steps_reclaimed c.self.inside c.reclaim-done.new.pool c.self.invariant c.reclaim-done.ensures.ledgers c.args.self.now c.args.count c.reclaim-done.result.freed c.reclaim-done.result.left c.self.view_is c.reclaim-done.ensures.waste;
+  steps =
+      let done = c.reclaim-done in
+      let beside = c.reclaim-beside in
+      steps_reclaimed c.self.inside done.new.pool c.self.invariant done.ensures.ledgers beside.new.self c.args.count beside.result.freed beside.result.left beside.ensures
+      c.args.self.now done.result.freed done.result.left c.self.view_is done.ensures.waste;
 }

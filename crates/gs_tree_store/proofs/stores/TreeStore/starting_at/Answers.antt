@@ -1,18 +1,19 @@
 use Rattle.std.proofs.Common.{refl, ap, ◌∙◌, []}
 use Rattle.gs_event.specs.Histories.{start_with, view_of}
-use Rattle.gs_catalogue.specs.Catalogues.{Catalogued}
+use Rattle.gs_records.specs.Records.{Recorded}
 use Rattle.gs_tree_store.specs.declared.stores.TreeStore.TheInside.{Inside}
 use Rattle.gs_tree_store.proofs.FreshLemmas.{IsFresh, fresh_kept, fresh_view, fresh_pins}
 use Rattle.gs_tree_store.proofs.stores.TreeStore.starting_at.Goals as goal
 
-abbrev made : goal.After-new-3 → Inside
-made c = record { alloc = c.args.alloc; books = record { base = c.in_ok-base.base; limits = c.args.limits; request = c.args.request; dict = c.in_ok-dict.dict; pool = c.in_ok-pool.pool; versions = c.in_ok-versions.versions; catalogue = c.new-3.result }; seats = c.in_ok-idle.idle }
+abbrev made : goal.In_ok-records → Inside
+made c = record { alloc = c.args.alloc; books = record { base = c.in_ok-base.base; limits = c.args.limits; request = c.args.request; dict = c.in_ok-dict.dict; pool = c.in_ok-pool.pool; versions = c.in_ok-versions.versions; records = c.in_ok-records.records }; seats = c.in_ok-idle.idle }
 
-is_fresh : (c : goal.After-new-3) → IsFresh (made c) c.args.seats c.args.commit
+is_fresh : (c : goal.In_ok-records) → IsFresh (made c) c.args.seats c.args.commit
 is_fresh c = record {
   nodes = c.in_ok-pool.ensures.nodes;
   marks = c.in_ok-pool.ensures.marks;
-  graphs = ap (λ (x : Catalogued). x.graphs) c.new-3.ensures;
+  records = ap (λ (x : Recorded). x.records) c.in_ok-records.ensures;
+  latest = ap (λ (x : Recorded). x.latest) c.in_ok-records.ensures;
   versions = c.in_ok-versions.ensures;
   idle = c.in_ok-idle.ensures;
 }

@@ -1,0 +1,66 @@
+-- Books whose records are others, with the same graphs of now.
+use Rattle.std.proofs.Common.{◌≡◌, ℕ, ◌∷◌, set, sym, ap, subst, ◌∙◌}
+use Rattle.std.specs.List.{All}
+use Rattle.gs_event.specs.declared.events.Action.{Action}
+use Rattle.gs_event.specs.declared.answers.Answer.{Answer}
+use Rattle.gs_ledger.specs.Marks.{dead_at}
+use Rattle.gs_ledger.specs.Ledger.{IsLedger}
+use Rattle.gs_datasets.specs.Standing.{dataset_at, all_versions, graph_trees, IsVersion}
+use Rattle.gs_records.specs.Records.{Recorded}
+use Rattle.gs_records.specs.Graphs.{current}
+use Rattle.gs_records.specs.Calls.{Opens, GivesUp}
+use Rattle.gs_tree_store.specs.declared.books.Books.{Books}
+use Rattle.gs_tree_store.specs.declared.books.Seat.{Seat}
+use Rattle.gs_tree_store.specs.Books.{books_setting, dataset_of, upload_tree, read_trees, IsSound}
+use Rattle.gs_tree_store.specs.Actions.{Acts}
+
+-- the graphs of now and the last commit are the same
+pub record SameNow (x y : Recorded) : Type 0 where
+  pub graphs : current y.records ≡ current x.records
+  pub latest : y.latest ≡ x.latest
+
+pub opens_same : (x y : Recorded) (n : ℕ) → Opens x y n → SameNow x y
+opens_same x y n opens = record { graphs = opens.graphs.now; latest = opens.latest }
+
+pub gives_up_same : (x y : Recorded) (n : ℕ) → GivesUp x y n → SameNow x y
+gives_up_same x y n gives = record { graphs = gives.graphs.now; latest = gives.latest }
+
+-- the books with other records
+abbrev pub with_records : Books → Recorded → Books
+with_records c r = record c { records = r }
+
+module _ (c : Books) (r : Recorded) (same : SameNow c.records r) where
+  pub alike_dataset : dataset_of (with_records c r) ≡ dataset_of c
+  alike_dataset = ap (dataset_at c.dict.terms c.pool) same.graphs
+
+  pub alike_sound : IsSound c → IsSound (with_records c r)
+  alike_sound sound = record {
+    versions = subst (λ g. All (IsVersion c.dict.terms c.pool) (all_versions g)) (sym same.graphs) sound.versions;
+    none_aside = sound.none_aside;
+    commit = sound.commit;
+    latest = same.latest ∙ sound.latest;
+    base = sound.base;
+  }
+
+  -- an action makes such books of others where it makes these of them
+  pub acts_alike : (b : Books) (s : ℕ) (was now : Seat) (action : Action) (answer : Answer) → Acts b c s was now action answer → Acts b (with_records c r) s was now action answer
+  acts_alike b s was now action answer acts = record {
+    fits = acts.fits;
+    totals = (λ i. record { setting = books_setting c; dataset = alike_dataset i; request = c.request; commit = c.versions.commit }) ∙ acts.totals;
+    seat = acts.seat;
+    pins = acts.pins;
+    sound = alike_sound acts.sound;
+    known = acts.known;
+    grows = acts.grows;
+    ledgers = λ us rs l.
+        let on = acts.ledgers us rs l in
+        record {
+          ledger = record {
+            ledger = subst (λ g. IsLedger c.pool c.versions (graph_trees c.pool g) (upload_tree c.pool now ∷ us) (set rs s (read_trees c.pool now)) (dead_at c.pool)) (sym same.graphs) on.ledger.ledger;
+            there = on.ledger.there;
+            read = on.ledger.read;
+          };
+          waste = on.waste;
+        };
+    uses = acts.uses;
+  }

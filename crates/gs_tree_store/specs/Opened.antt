@@ -1,0 +1,51 @@
+-- The records that the seats of a store have open, one for each upload and each patch. No public clause cites this module.
+use Rattle.std.specs.Prelude.{◌≡◌, ◌≢◌, ℕ, List, Option, Some, None, slice_index_or}
+use Rattle.gs_records.specs.Records.{opened, record_at}
+use Rattle.gs_tree_store.specs.declared.books.Books.{Books}
+use Rattle.gs_tree_store.specs.declared.books.Seat.{Seat}
+use Rattle.gs_tree_store.specs.declared.books.Seat.TheVariants.{Idle, Writing, Patching}
+
+-- the number of the record that a seat has open
+abbrev pub own_record : Seat → Option ℕ
+own_record (Writing k r v n) = Some n
+own_record (Patching t r n) = Some n
+own_record s = None
+
+-- whether the record of this number is open
+abbrev pub IsOpened : Books → ℕ → Type 0
+IsOpened b n = record_at b.records.records n ≡ opened
+
+-- the record of a seat is open, where it has one
+abbrev pub HasRecord : Books → Seat → Type 0
+HasRecord b s = (n : ℕ) → own_record s ≡ Some n → IsOpened b n
+
+-- the same records are open
+pub record SameOpened (old new : Books) : Type 0 where
+  pub stays : (n : ℕ) → IsOpened old n → IsOpened new n
+  pub no_more : (n : ℕ) → IsOpened new n → IsOpened old n
+
+-- the record of number n is open no more, and beside it the same are open
+pub record LetsGo (old new : Books) (n : ℕ) : Type 0 where
+  pub stays : (m : ℕ) → m ≢ n → IsOpened old m → IsOpened new m
+  pub no_more : (m : ℕ) → IsOpened new m → (m ≢ n) × IsOpened old m
+
+-- a record that is open, and not this seat's
+pub record IsOther (b : Books) (s : Seat) (n : ℕ) : Type 0 where
+  pub open_now : IsOpened b n
+  pub other : own_record s ≢ Some n
+
+-- the seat's record is open, if it was, and beside it is open what was open beside that of the seat before
+pub record KeepsRecords (old new : Books) (was now : Seat) : Type 0 where
+  pub own : HasRecord old was → HasRecord new now
+  pub others : (n : ℕ) → IsOther old was n → IsOther new now n
+  pub no_more : (n : ℕ) → IsOther new now n → IsOther old was n
+
+-- that of a seat by its place
+abbrev pub own_record_at : List Seat → ℕ → Option ℕ
+own_record_at seats k = own_record (slice_index_or seats k Idle)
+
+-- the record of each seat is open, no two seats have the same, and no other record is open
+pub record HaveRecords (b : Books) (seats : List Seat) : Type 0 where
+  pub open_now : (k n : ℕ) → own_record_at seats k ≡ Some n → IsOpened b n
+  pub apart : (j k n : ℕ) → own_record_at seats j ≡ Some n → own_record_at seats k ≡ Some n → j ≡ k
+  pub all : (n : ℕ) → IsOpened b n → (k : ℕ) × (own_record_at seats k ≡ Some n)
