@@ -18,6 +18,7 @@ SECONDS = "600"
 
 ACTIONS, GATES, HALLS = "gs_tree_store/src/actions.rt", "gs_gates/src", "gs_shared/src/halls.rt"
 SERVING, WRITING = "gs_session/src/serving.rt", "gs_session/src/writing.rt"
+LINES, WORKERS = "gs_workers/src/lines.rt", "gs_workers/src/workers.rt"
 BIRTH = "let birth = books.versions.commit() + 1;\n    let merged"
 FIRST_BIRTH = "match upload.root { Some(root) => books.pool.get(root).birth, None => books.versions.commit() + 1 }"
 OF_DEFAULT = "gs_event::Action::Pin(gs_term::Target::Default)"
@@ -58,6 +59,40 @@ PLANTS = [
      "let answer = self.door.event(event);\n        if awaited.ends_by(&answer) && self.notes.is_empty() {",
      "let none_waits = self.notes.is_empty();\n        let answer = self.door.event(event);\n        if awaited.ends_by(&answer) && none_waits {",
      [("gs_gates_tests", "a_note_that_is_taken_before_the_end_is_followed_by_another")]),
+    ("a counter tells at every failure", f"{GATES}/counters.rt",
+     "may_tell(told, now)\n            && self", "now >= told\n            && self",
+     [("gs_gates_tests", "a_number_is_told_once_a_second"), ("gs_gates_tests", "two_threads_tell_each_failure_once")]),
+    ("a counter tells a number again with the next one", f"{GATES}/counters.rt",
+     "self.count.swap(0, Ordering::SeqCst)", "self.count.load(Ordering::SeqCst)",
+     [("gs_gates_tests", "two_threads_tell_each_failure_once")]),
+    ("a worker hears a client for ever after its last reply", f"{GATES}/lingering.rt",
+     "let now = Instant::now(clock).ok();", "let now = start;",
+     [("gs_gates_tests", "a_client_that_sends_on_is_heard_for_its_time"), ("gs_workers_tests", "a_client_that_sends_on_is_cut_off"),
+      ("gs_workers_tests", "a_client_that_sends_on_does_not_keep_its_worker")]),
+    ("a worker hears a client for a second though nobody waits", f"{GATES}/lingering.rt",
+     "was_heard(start, now, whole, others.has_others())", "was_heard(start, now, whole, true)",
+     [("gs_workers_tests", "a_client_that_sends_on_for_less_is_heard_to_its_end")]),
+    ("a worker hears no client while others wait", f"{GATES}/lingering.rt",
+     "if was_heard(start, now, whole, others.has_others())", "if others.has_others() || was_heard(start, now, whole, false)",
+     [("gs_workers_tests", "one_that_sends_on_for_less_while_another_waits_is_heard")]),
+    ("the time for a body begins anew with each byte", LINES,
+     "if came < WINDOW_BYTES {", "if came < WINDOW_BYTES && came < 1 {",
+     [("gs_workers_tests", "a_body_that_comes_byte_by_byte_ends")]),
+    ("a head and its body have one time", LINES,
+     "if heading.is_over() {\n                self.begin();", "if heading.is_over() {\n                self.state.came.set(0);",
+     [("gs_workers_tests", "a_head_and_its_body_have_a_time_each")]),
+    ("a body has one time however long it is", LINES,
+     "} else {\n            self.begin();", "} else {\n            self.state.came.set(0);",
+     [("gs_workers_tests", "each_8_kib_of_a_body_have_their_time")]),
+    ("a worker writes on while its client takes nothing", LINES,
+     "let left = self.left_since(start);", "let _ = start;\n        let left = self.patience;",
+     [("gs_workers_tests", "a_client_that_takes_nothing_is_cut_off")]),
+    ("a connection that takes no limits is dropped and not told", WORKERS,
+     "gate.failed(Failure::Connection);\n        return None;", "return None;",
+     [("gs_workers_tests", "a_dropped_connection_is_told")]),
+    ("a server accepts where its gate wants nothing", "gs_servers/src/servers.rt",
+     "if gate.ready() {", "if gate.ready() || limit.is_some() {",
+     [("gs_servers_tests", "a_server_that_is_not_wanted_accepts_nothing")]),
     ("no upload has memory", ACTIONS,
      BIRTH, "if books.request > 0 {\n        return Answer::Refused(Refusal::NoMemory);\n    }\n    " + BIRTH,
      [("gs_schedule_tests", "worked_schedules_print_what_they_must"), ("gs_run_tests", "a_run_over_each_store_answers_as_the_schedule_does")]),

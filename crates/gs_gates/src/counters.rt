@@ -1,7 +1,29 @@
 //! A number that is told now and then.
+ghost use Rattle.std.specs.Prelude.{◌≡◌};
+ghost use Rattle.gs_gates.specs.Decisions as spec;
+
 use crate::limits::silence;
 use std::sync::atomic::{AtomicU64, Ordering};
 use std::time::{Clock, Instant};
+
+/// For how many nanoseconds a count goes on, one at least, since 0 stands for no time; one where the clock
+/// could not be read.
+fn age(start: Option<Instant>, now: Option<Instant>) -> u64
+    ensures { result ≡ spec.age start now }
+{
+    let (Some(start), Some(now)) = (start, now) else {
+        return 1;
+    };
+    let nanoseconds = now.duration_since(start).as_nanos();
+    u64::try_from(nanoseconds).unwrap_or(u64::MAX).max(1)
+}
+
+/// Whether a number may be told now, after one was told at that time, or none, for which 0 stands.
+fn may_tell(told: u64, now: u64) -> bool
+    ensures { result ≡ spec.may_tell told now }
+{
+    told == 0 || u128::from(now.saturating_sub(told)) >= silence().as_nanos()
+}
 
 /// Counts what happens again and again, in any thread, and tells the number at once and then no more than
 /// once a second. What was not told waits for the next time that it happens.
@@ -25,26 +47,15 @@ impl Counter {
         }
     }
 
-    /// How many nanoseconds it counts, one at least; one where the clock cannot be read.
-    fn age<K: Clock>(&self, clock: &K) -> u64 {
-        let age = self.start.and_then(|start| start.elapsed(clock).ok());
-        match age {
-            Some(age) => u64::try_from(age.as_nanos()).unwrap_or(u64::MAX).max(1),
-            None => 1,
-        }
-    }
-
     /// Whether a number may be told now, in this thread alone.
     fn is_due<K: Clock>(&self, clock: &K) -> bool {
-        let now = self.age(clock);
+        let now = age(self.start, Instant::now(clock).ok());
         let told = self.told.load(Ordering::SeqCst);
-        let since = u128::from(now.saturating_sub(told));
-        if told > 0 && since < silence().as_nanos() {
-            return false;
-        }
-        self.told
-            .compare_exchange(told, now, Ordering::SeqCst, Ordering::SeqCst)
-            .is_ok()
+        may_tell(told, now)
+            && self
+                .told
+                .compare_exchange(told, now, Ordering::SeqCst, Ordering::SeqCst)
+                .is_ok()
     }
 
     /// It happens once more. How often it did since a number was told, where one is told now.

@@ -1,4 +1,8 @@
 //! How a connection ends that was served to its end.
+ghost use Rattle.std.specs.Prelude.{◌≡◌};
+ghost use Rattle.std.specs.Duration.{as_nanos};
+ghost use Rattle.gs_gates.specs.Decisions as spec;
+
 use crate::limits::{LINGER_BYTES, linger_patience};
 use std::io;
 use std::io::{ErrorKind, Read};
@@ -11,18 +15,21 @@ pub trait Others {
     fn has_others(&self) -> bool;
 }
 
-/// How long ago that was; `None` where the clock could not be read, or cannot.
-fn since<K: Clock>(clock: &K, start: Option<Instant>) -> Option<Duration> {
-    start?.elapsed(clock).ok()
-}
-
 /// Whether a client that still sends was heard for long enough: for this whole time, or for a second where
-/// others wait.
-fn was_heard<O: Others>(taken: Option<Duration>, whole: Duration, others: &O) -> bool {
-    let Some(taken) = taken else {
+/// others wait. So it was where the clock could not be read.
+fn was_heard(
+    start: Option<Instant>,
+    now: Option<Instant>,
+    whole: Duration,
+    has_others: bool,
+) -> bool
+    ensures { result ≡ spec.was_heard start now (as_nanos whole) has_others }
+{
+    let (Some(start), Some(now)) = (start, now) else {
         return true;
     };
-    taken >= whole || (taken >= linger_patience() && others.has_others())
+    let taken = now.duration_since(start).as_nanos();
+    taken >= whole.as_nanos() || (taken >= linger_patience().as_nanos() && has_others)
 }
 
 /// Ends what is written, and reads and drops what the client still sends until it ends too, as long as no
@@ -47,7 +54,8 @@ pub fn linger<K: Clock, O: Others>(
             Err(e) if e.kind() == ErrorKind::Interrupted => {}
             Err(e) => return Err(e),
         }
-        if was_heard(since(clock, start), whole, others) {
+        let now = Instant::now(clock).ok();
+        if was_heard(start, now, whole, others.has_others()) {
             break;
         }
     }

@@ -1,5 +1,5 @@
-//! Tests of what stands around a worker: gates, notes, the reclaimer's sweeps and rests, and accepts that
-//! fail; by stores, clocks and listeners of their own.
+//! Tests of what stands around a worker: gates, notes, the reclaimer's sweeps and rests, accepts that fail,
+//! and ends of connections; by stores, clocks and listeners of their own.
 #![tactic(auto)]
 
 #[cfg(test)]
@@ -8,6 +8,8 @@ mod accepts;
 mod counters;
 #[cfg(test)]
 mod gates;
+#[cfg(test)]
+mod hearings;
 mod jobs;
 #[cfg(test)]
 mod notes;

@@ -2,7 +2,11 @@
 #![tactic(auto)]
 
 #[cfg(test)]
+mod failures;
+#[cfg(test)]
 mod idlers;
+#[cfg(test)]
+mod paces;
 #[cfg(test)]
 mod partings;
 #[cfg(test)]

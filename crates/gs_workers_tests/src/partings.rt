@@ -84,21 +84,30 @@ fn end_is_heard_first<
     ended == 1 && heard == 1
 }
 
-/// How often a client sends a byte after its last reply, each time after 30 milliseconds: for twelve seconds.
-const BYTES: u32 = 400;
+/// How a client goes on after its last reply: how many others wait for its worker, how many milliseconds that
+/// waits for a read, how often the client sends a byte, each time after 30 milliseconds, and whether that fails
+/// before all were sent.
+#[derive(Clone, Copy)]
+struct Course {
+    others: u64,
+    patience: u64,
+    bytes: u32,
+    is_cut: bool,
+}
 
 /// Asks for a graph, hears that it is not there, and sends on; whether that fails before all was sent.
 fn sends_on<N: Net<Stream = TcpStream> + Clock>(
     rt: &N,
     alloc: Global,
     stream: &TcpStream,
+    bytes: u32,
 ) -> io::Result<bool> {
     let request = get(alloc, "none")?;
     say(stream, request.as_bytes())?;
     let mut start = [0u8; 12];
     let mut input = stream;
     input.read_exact(&mut start)?;
-    for _ in 0..BYTES {
+    for _ in 0..bytes {
         thread::sleep(rt, Duration::from_millis(30));
         if say(stream, b"#").is_err() {
             return Ok(true);
@@ -107,28 +116,30 @@ fn sends_on<N: Net<Stream = TcpStream> + Clock>(
     Ok(false)
 }
 
-/// One client sends on; whether it is cut off, and others that connect before that, so many, are answered.
-fn is_cut_off<N: Net<Stream = TcpStream> + Clock>(
+/// One client sends on; whether it is cut off or not, as it should be, and the others, who connect before
+/// that, are answered once it has left.
+fn ends_so<N: Net<Stream = TcpStream> + Clock>(
     rt: &N,
     alloc: Global,
     addr: SocketAddr,
-    others: u64,
+    course: Course,
 ) -> io::Result<bool> {
     let first = connected(rt, addr)?;
     let mut waiting = Vec::new(alloc);
-    for _ in 0..others {
+    for _ in 0..course.others {
         let other = connected(rt, addr)?;
         let request = get(alloc, "none")?;
         say(&other, request.as_bytes())?;
         waiting.push(other)?;
     }
-    let ends = sends_on(rt, alloc, &first)?;
+    let is_cut = sends_on(rt, alloc, &first, course.bytes)?;
+    drop(first);
     for other in waiting {
         if !hears_none(alloc, &other)? {
             return Ok(false);
         }
     }
-    Ok(ends)
+    Ok(is_cut == course.is_cut)
 }
 
 /// These clients.
@@ -137,38 +148,38 @@ struct Clients<'a, R: Net<Stream = TcpStream> + Clock> {
     rt: &'a R,
     alloc: Global,
     addr: SocketAddr,
-    others: u64,
+    course: Course,
 }
 
 impl<'a, R: Net<Stream = TcpStream> + Clock> Job for Clients<'a, R> {
     fn done(self) -> u64 {
-        one(is_cut_off(self.rt, self.alloc, self.addr, self.others))
+        one(ends_so(self.rt, self.alloc, self.addr, self.course))
     }
 }
 
-/// The same beside a server of one worker, which waits so many milliseconds for a read.
-fn worker_is_free<
+/// The same beside a server of one worker.
+fn ended_so<
     R: Net<Listener = TcpListener, Stream = TcpStream>
         + Threads
         + Wait
         + Clock
         + RandomSource
         + Sync,
->(rt: &R, alloc: Global, others: u64, patience: u64) -> u64 {
+>(rt: &R, alloc: Global, course: Course) -> u64 {
     let Ok((listener, addr)) = listening(rt) else {
         return 0;
     };
     let setup = Setup {
         workers: 1,
-        limit: others.saturating_add(1),
-        patience,
+        limit: course.others.saturating_add(1),
+        patience: course.patience,
         whole: 60_000,
     };
     let clients = Clients {
         rt,
         alloc,
         addr,
-        others,
+        course,
     };
     served(rt, alloc, &listener, setup, &OpenGate, clients)
 }
@@ -181,12 +192,48 @@ fn a_client_hears_the_end_before_it_leaves(rt: HostRuntime) -> Result<(), Fail> 
 
 #[test]
 fn a_client_that_sends_on_is_cut_off(rt: HostRuntime) -> Result<(), Fail> {
-    assert_eq!(rt; worker_is_free(&rt, rt.alloc(), 0, 300), 1);
+    let course = Course {
+        others: 0,
+        patience: 300,
+        bytes: 400,
+        is_cut: true,
+    };
+    assert_eq!(rt; ended_so(&rt, rt.alloc(), course), 1);
     Ok(())
 }
 
 #[test]
 fn a_client_that_sends_on_does_not_keep_its_worker(rt: HostRuntime) -> Result<(), Fail> {
-    assert_eq!(rt; worker_is_free(&rt, rt.alloc(), 1, 15_000), 1);
+    let course = Course {
+        others: 1,
+        patience: 15_000,
+        bytes: 400,
+        is_cut: true,
+    };
+    assert_eq!(rt; ended_so(&rt, rt.alloc(), course), 1);
+    Ok(())
+}
+
+#[test]
+fn a_client_that_sends_on_for_less_is_heard_to_its_end(rt: HostRuntime) -> Result<(), Fail> {
+    let course = Course {
+        others: 0,
+        patience: 15_000,
+        bytes: 50,
+        is_cut: false,
+    };
+    assert_eq!(rt; ended_so(&rt, rt.alloc(), course), 1);
+    Ok(())
+}
+
+#[test]
+fn one_that_sends_on_for_less_while_another_waits_is_heard(rt: HostRuntime) -> Result<(), Fail> {
+    let course = Course {
+        others: 1,
+        patience: 15_000,
+        bytes: 15,
+        is_cut: false,
+    };
+    assert_eq!(rt; ended_so(&rt, rt.alloc(), course), 1);
     Ok(())
 }

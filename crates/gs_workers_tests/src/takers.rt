@@ -1,4 +1,4 @@
-//! A client that takes little of its reply.
+//! A client that takes its reply late, or too late.
 use gs_gates_tests::{Job, one};
 use gs_servers::OpenGate;
 use gs_test_servers::{Setup, get, hears_made, put, say, served, two_connected};
@@ -52,22 +52,31 @@ fn is_made(alloc: Global, stream: TcpStream, lines: &str) -> io::Result<bool> {
     hears_made(alloc, &stream)
 }
 
-/// One client puts a graph; the other asks for it, and takes nothing for five seconds: whether less comes
-/// then than was asked for.
-fn is_cut_off<K: Clock>(
+/// For how many milliseconds a client takes nothing, and whether all that it asked for comes then.
+#[derive(Clone, Copy)]
+struct Taking {
+    rest: u64,
+    is_whole: bool,
+}
+
+/// One client puts a graph; the other asks for it, and takes nothing for a time: whether as much comes then
+/// as should.
+fn takes_so<K: Clock>(
     clock: &K,
     alloc: Global,
     first: TcpStream,
     second: TcpStream,
+    taking: Taking,
 ) -> io::Result<bool> {
     let lines = long_lines(alloc)?;
     let made = is_made(alloc, first, lines.as_str())?;
     let requests = many_gets(alloc)?;
     say(&second, requests.as_bytes())?;
-    thread::sleep(clock, Duration::from_secs(5));
+    thread::sleep(clock, Duration::from_millis(taking.rest));
     let replies = io::read_to_string(alloc, &second)?;
     let begins = replies.as_str().starts_with("HTTP/1.1 200 ");
-    Ok(made && begins && replies.len() < lines.len().saturating_mul(ASKS))
+    let is_whole = replies.len() >= lines.len().saturating_mul(ASKS);
+    Ok(made && begins && is_whole == taking.is_whole)
 }
 
 /// Both clients.
@@ -77,24 +86,25 @@ struct Takers<'a, K: Clock> {
     alloc: Global,
     first: TcpStream,
     second: TcpStream,
+    taking: Taking,
 }
 
 impl<'a, K: Clock> Job for Takers<'a, K> {
     fn done(self) -> u64 {
-        one(is_cut_off(self.clock, self.alloc, self.first, self.second))
+        one(takes_so(self.clock, self.alloc, self.first, self.second, self.taking))
     }
 }
 
 /// Once both ends are full a write may wait for three seconds, and has taken a part of its text then. The
 /// next one might wait for three more, but the text has two seconds in all.
-fn taker_is_cut_off<
+fn taken_so<
     R: Net<Listener = TcpListener, Stream = TcpStream>
         + Threads
         + Wait
         + Clock
         + RandomSource
         + Sync,
->(rt: &R, alloc: Global) -> u64 {
+>(rt: &R, alloc: Global, taking: Taking) -> u64 {
     let Ok((listener, first, second)) = two_connected(rt) else {
         return 0;
     };
@@ -109,12 +119,27 @@ fn taker_is_cut_off<
         alloc,
         first,
         second,
+        taking,
     };
     served(rt, alloc, &listener, setup, &OpenGate, clients)
 }
 
 #[test]
 fn a_client_that_takes_nothing_is_cut_off(rt: HostRuntime) -> Result<(), Fail> {
-    assert_eq!(rt; taker_is_cut_off(&rt, rt.alloc()), 1);
+    let taking = Taking {
+        rest: 5_000,
+        is_whole: false,
+    };
+    assert_eq!(rt; taken_so(&rt, rt.alloc(), taking), 1);
+    Ok(())
+}
+
+#[test]
+fn a_client_that_takes_its_reply_in_time_gets_all(rt: HostRuntime) -> Result<(), Fail> {
+    let taking = Taking {
+        rest: 1_000,
+        is_whole: true,
+    };
+    assert_eq!(rt; taken_so(&rt, rt.alloc(), taking), 1);
     Ok(())
 }
