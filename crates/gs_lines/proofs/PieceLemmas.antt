@@ -7,6 +7,7 @@ use Rattle.std.proofs.lemmas.Option.{slice_get-get_or}
 use Rattle.gs_model.specs.Terms.{Term}
 use Rattle.gs_model.specs.Triples.{line_of}
 use Rattle.gs_model.specs.Graphs.{lines_of}
+use Rattle.gs_term.specs.declared.names.Target.TheVariants.{Default}
 use Rattle.gs_pool.specs.declared.nodes.Key.{Key}
 use Rattle.gs_pool.specs.Pool.{Nodes}
 use Rattle.gs_tree.specs.Tree.{keys, tree_at}
@@ -23,10 +24,11 @@ use Rattle.gs_lines.specs.Pieces.{line_at, bytes_of, keys_left, lines_from, last
 use Rattle.gs_lines.proofs.LineLemmas.{lines_of_triples, lines_kept}
 
 -- where one key more than asked was looked for, as many came as were asked exactly where no more are left
-ends : (found left count : ℕ) → found ≡ min (count + 1) left → nat_le found count ≡ nat_le left count
+pub ends : (found left count : ℕ) → found ≡ min (count + 1) left → nat_le found count ≡ nat_le left count
 ends found left count is = grind (arith, nat_tests)
 
-goes_on : (left count : ℕ) → nat_le left count ≡ false → count < left
+-- where it is not the end, more are left
+pub goes_on : (left count : ℕ) → nat_le left count ≡ false → count < left
 goes_on left count e = grind (arith, nat_tests)
 
 -- a key of those that were given is a place to read from
@@ -35,19 +37,19 @@ given_at terms [] i h = tt
 given_at terms (k ∷ ks) zero h = h.0
 given_at terms (k ∷ ks) (suc i) h = given_at terms ks i h.1
 
--- the last of the first keys
-last_taken : (ks : List Key) (n : ℕ) (d : Key) → n < length ks → last_key (take (n + 1) ks) ≡ Some (get_or ks n d)
-last_taken ks n d h =
-    let long : length (take (n + 1) ks) ≡ n + 1 = length-take-le (n + 1) ks (omega arith) in
-    let place : length (take (n + 1) ks) - 1 ≡ n = omega arith in
-    ap (slice_get (take (n + 1) ks)) place ∙ slice_get-get_or (take (n + 1) ks) n d (omega arith) ∙ ap Some (get_or-take (n + 1) ks n d (omega arith))
+-- the last of the first elements
+pub last_taken : {A : Type 0} (xs : List A) (n : ℕ) (d : A) → n < length xs → slice_get (take (n + 1) xs) (length (take (n + 1) xs) - 1) ≡ Some (get_or xs n d)
+last_taken xs n d h =
+    let long : length (take (n + 1) xs) ≡ n + 1 = length-take-le (n + 1) xs (omega arith) in
+    let place : length (take (n + 1) xs) - 1 ≡ n = omega arith in
+    ap (slice_get (take (n + 1) xs)) place ∙ slice_get-get_or (take (n + 1) xs) n d (omega arith) ∙ ap Some (get_or-take (n + 1) xs n d (omega arith))
 
-any_key : Key
+pub any_key : Key
 any_key = record { subject = 0; predicate = 0; object = 0 }
 
 module _ (terms : List Term) (p : Nodes) (root : Option ℕ) (graph : IsGraphAt terms p root) where
   -- the keys from a place on were given
-  left_given : (from : Option Key) → AllKeys (IsGiven terms) (keys_left terms p root from)
+  pub left_given : (from : Option Key) → AllKeys (IsGiven terms) (keys_left terms p root from)
   left_given from = all_from (key_cmp terms) (IsGiven terms) from (keys_at p root) graph.given
 
   taken_given : (from : Option Key) (n : ℕ) → AllKeys (IsGiven terms) (take n (keys_left terms p root from))
@@ -99,7 +101,7 @@ module _ (terms : List Term) (p : Nodes) (root : Option ℕ) (graph : IsGraphAt 
   pub all_lines : lines_from terms p root None ≡ lines_of (graph_at terms p root)
   all_lines =
       let ks = keys_at p root in
-      ap (map (line_at terms)) (from_all (key_cmp terms) ks) ∙ lines_of_triples terms ks ∙ ap (map line_of) (sym (triples_of_keys terms ks graph.set.rising graph.given))
+      ap (map (line_at terms)) (from_all (key_cmp terms) ks) ∙ lines_of_triples terms Default ks ∙ ap (map line_of) (sym (triples_of_keys terms ks graph.set.rising graph.given))
 
 -- a later pool that has the tree has its lines
 pub lines_outlast : (terms more : List Term) (p q : Nodes) (root : Option ℕ) (from : Option Key) → IsGraphAt terms p root → tree_at q root ≡ tree_at p root → IsCursor terms from → lines_from (terms ++ more) q root from ≡ lines_from terms p root from

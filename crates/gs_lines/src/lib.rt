@@ -6,4 +6,5 @@ mod lines;
 mod pieces;
 
 pub use laws::{all_lines_are_the_graphs, lines_outlast_changes};
-pub use pieces::{Piece, next_piece};
+pub use lines::{append_lines, lines_size, room_for};
+pub use pieces::{Piece, add_keys, next_piece, room_for_keys};

@@ -1,5 +1,5 @@
 //! The next lines of a read.
-ghost use Rattle.std.specs.Prelude.{◌≡◌, ◌<◌, take, IfOk};
+ghost use Rattle.std.specs.Prelude.{◌≡◌, ◌<◌, ◌++◌, [], take, IfOk, OnOk};
 ghost use Rattle.gs_keys.specs.Roots.{IsGraphAt};
 ghost use Rattle.gs_lines.specs.Pieces.{keys_left, IsPiece};
 
@@ -23,6 +23,31 @@ pub struct Piece {
 // first, which is a walk of its own.
 const USUAL_KEYS: usize = 4_097;
 
+/// Room for keys, `most` of them at most, before they are looked for: 12 bytes each, and no more than
+/// for 4,097 of them.
+pub fn room_for_keys(alloc: Global, most: usize) -> Result<Vec<Key>, AllocError>
+    ensures { IfOk result (λ keys. keys.items ≡ []) }
+{
+    Vec::with_capacity(alloc, most.min(USUAL_KEYS))
+}
+
+/// Appends the keys of a root above `from`, or all where it is `None`, and `most` of them at most.
+pub fn add_keys(
+    dict: &Dict,
+    pool: &Pool,
+    root: Option<u32>,
+    from: Option<Key>,
+    most: usize,
+    keys: &mut Vec<Key>,
+) -> Result<(), AllocError>
+    requires { IsGraphAt dict.now.terms pool.now root }
+    ensures { OnOk result (keys.new.items
+        ≡ keys.old.items ++ take most (keys_left dict.now.terms pool.now root from)) }
+{
+    let order = ByText::new(dict);
+    next_keys(pool, &order, root, from, most, keys)
+}
+
 /// The keys of a root above `from`, or all where it is `None`, and `most` of them at most.
 fn find_keys(
     alloc: Global,
@@ -36,9 +61,8 @@ fn find_keys(
     ensures { IfOk result (λ keys. keys.items
         ≡ take most (keys_left dict.now.terms pool.now root from)) }
 {
-    let order = ByText::new(dict);
-    let mut keys = Vec::with_capacity(alloc, most.min(USUAL_KEYS))?;
-    next_keys(pool, &order, root, from, most, &mut keys)?;
+    let mut keys = room_for_keys(alloc, most)?;
+    add_keys(dict, pool, root, from, most, &mut keys)?;
     Ok(keys)
 }
 

@@ -2,7 +2,7 @@
 use Rattle.std.proofs.Common.{◌≡◌, ◌+◌, ◌^◌, ◌<◌, length, drop}
 use Rattle.gs_tree.specs.Keys.{AllKeys}
 use Rattle.gs_keys.specs.Texts.{IsGiven}
-use Rattle.gs_lines.specs.Pieces.{bytes_of}
+use Rattle.gs_lines.specs.Graphs.{bytes_in}
 use Rattle.gs_lines.specs.Lines.{IsKnown}
 use Rattle.gs_lines.proofs.lines.lines_size.Given as goal
 
@@ -11,6 +11,6 @@ invariant-loop-key l = record {
   subject : IsKnown l.dict.terms l.subject.number l.subject;
   predicate : IsKnown l.dict.terms l.predicate.number l.predicate;
   given : AllKeys (IsGiven l.dict.terms) (drop l.key-index l.keys);
-  counted : l.size + length (bytes_of l.dict.terms (drop l.key-index l.keys)) ≡ length (bytes_of l.dict.terms l.keys);
+  counted : l.size + length (bytes_in l.dict.terms l.graph (drop l.key-index l.keys)) ≡ length (bytes_in l.dict.terms l.graph l.keys);
   fits : l.size < 2 ^ 64;
 }
