@@ -10,12 +10,13 @@ use Rattle.gs_event.proofs.DatasetLemmas.{sum_by-put, count_if}
 use Rattle.gs_catalogue.specs.declared.versions.GraphVersion.{GraphVersion}
 use Rattle.gs_catalogue.specs.Catalogues.{GraphVersions, empty_version, no_versions, version_at, with_version, name_count, triple_count}
 use Rattle.gs_model.specs.Limits.{last_node}
-use Rattle.gs_pool.specs.Pool.{Nodes, is_aside, node_at, mark_at}
+use Rattle.gs_pool.specs.Pool.{Nodes, plain, is_aside, node_at, mark_at}
 use Rattle.gs_index.specs.declared.entries.Entry.{Entry}
 use Rattle.gs_index.specs.Indexes.{Indexed, entry_at, is_listed}
 use Rattle.gs_records.specs.Records.{Record, free, opened, unused, kept, record_at, is_current}
 use Rattle.gs_records.specs.Graphs.{graphs_where, current, without_version}
 use Rattle.gs_records.specs.Waste.{open_count}
+use Rattle.gs_records.specs.Kept.{AreSingle, AreDated}
 use Rattle.gs_records.specs.Stored.{is_made, records_of, records_by, Stands}
 use Rattle.gs_records.specs.Versions.{AreVersions}
 use Rattle.gs_records.specs.Counts.{named_one, AreCounted, IsKept}
@@ -158,6 +159,33 @@ new_kept x p commit is nodes marks =
       versions = versions_none (records_by x p) (λ n. ap (λ rs. record_at rs n) none);
       counted = subst (λ rs. AreCounted rs 0 0) (sym none) counted_none;
     }
+
+-- more room changes nothing
+module _ (x y : Indexed) (p q : Nodes) (opens latest names triples : ℕ) (entries : y.entries ≡ x.entries) (listed : y.listed ≡ x.listed) (spare : x.spare ≤ y.spare) (nodes : q.nodes ≡ p.nodes) (marks : q.marks ≡ p.marks) (k : IsKept x p opens latest names triples) where
+  roomier_records : records_by y q ≡ records_by x p
+  roomier_records = λ i. records_of (entries i) (nodes i) (marks i)
+
+  roomier_stand : (n : ℕ) → Stands (record_at (records_by y q) n) (node_at q n) (mark_at q n) (entry_at y.entries n)
+  roomier_stand n =
+      let same : Stands (record_at (records_by x p) n) (node_at p n) (mark_at p n) (entry_at x.entries n) ≡ Stands (record_at (records_by y q) n) (node_at q n) (mark_at q n) (entry_at y.entries n) = λ i. Stands (record_at (sym roomier_records i) n) (get_or (sym nodes i) n None) (get_or (sym marks i) n plain) (entry_at (sym entries i) n) in
+      subst (λ (A : Type 0). A) same (k.stored.stand n)
+
+  pub roomier_kept : IsKept y q opens latest names triples
+  roomier_kept = record {
+    stored = record {
+      many = ap length nodes ∙ k.stored.many ∙ sym (ap length entries);
+      stand = roomier_stand;
+      lists = λ n. ap (is_listed n) listed ∙ k.stored.lists n ∙ sym (ap (λ es. is_made (entry_at es n)) entries);
+      counted = k.stored.counted ∙ sym (ap open_count roomier_records);
+      room = omega (arith, k.stored.room, spare);
+      single = subst AreSingle (sym roomier_records) k.stored.single;
+      dated = subst (AreDated latest) (sym roomier_records) k.stored.dated;
+      few = omega (arith, k.stored.few, ap length entries);
+    };
+    none_aside = ap (count_by is_aside) marks ∙ k.none_aside;
+    versions = subst AreVersions (sym roomier_records) k.versions;
+    counted = subst (λ rs. AreCounted rs names triples) (sym roomier_records) k.counted;
+  }
 
 -- there are no more names than numbers
 pub names_few : (x : Indexed) (p : Nodes) (opens latest names triples : ℕ) → IsKept x p opens latest names triples → names ≤ last_node + 1

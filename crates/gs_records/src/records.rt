@@ -1,12 +1,12 @@
 //! The records.
-ghost use Rattle.std.specs.Prelude.{◌≡◌, ◌+◌, ◌<◌, ◌≤◌, [], min, length, take, filter, IfOk, IfErr, IfSome, OnErr, MatchResult};
+ghost use Rattle.std.specs.Prelude.{◌≡◌, ◌+◌, ◌<◌, ◌≤◌, false, [], min, length, take, filter, IfOk, IfErr, IfSome, OnErr, MatchResult};
 ghost use Rattle.gs_model.specs.Limits.{last_node, last_number};
 ghost use Rattle.gs_catalogue.specs.Catalogues.{version_at};
 ghost use Rattle.gs_index.specs.Indexes.{is_listed, numbers_after};
 ghost use Rattle.gs_records.specs.Records.{opened, kept, Recorded, record_at};
 ghost use Rattle.gs_records.specs.Graphs.{current};
 ghost use Rattle.gs_records.specs.Kept.{HasNoCurrent};
-ghost use Rattle.gs_records.specs.Calls.{Opens, GivesUp, Removes, Places, Puts, FindsCurrent};
+ghost use Rattle.gs_records.specs.Calls.{is_nothing, Opens, GivesUp, Removes, Places, Puts, FindsCurrent};
 ghost use Rattle.gs_records.specs.Reclaims.{Reclaims};
 
 use crate::places::{grow, is_nothing_of, missing_version, name_of, node_of};
@@ -150,10 +150,11 @@ impl Records {
         self.latest = commit;
     }
 
-    // An open record is that of a graph, made by the last commit.
+    // An open record is that of a graph, made by the last commit, and not of an empty default graph.
     fn place(&mut self, number: u32, target: Target, version: GraphVersion)
         requires opened { record_at self.old.records number ≡ opened }
         requires none { HasNoCurrent self.old.records target }
+        requires something { is_nothing target version ≡ false }
         requires after { 0 < self.old.latest }
         ensures { Places self.old self.new number target version }
     {

@@ -26,7 +26,7 @@ invariant_of-self c =
     record {
       stored = made_stored s.index s.pool s.opened s.latest c.args.number c.self.invariant.stored is c.list.new.self c.set.new.self c.args.target c.args.version c.node_of.result none after c.set.ensures.updates c.set.ensures.marks c.set.ensures.numbers c.node_of.ensures c.list.ensures.entries c.list.ensures.listed c.list.ensures.spare;
       none_aside = ap (count_by is_aside) c.set.ensures.marks ∙ c.self.invariant.none_aside;
-      versions = versions_placed old new c.args.number (made_entry t v s.latest) turns (record { small = fits }) c.self.invariant.versions;
+      versions = versions_placed old new c.args.number (made_entry t v s.latest) turns (record { small = fits; something = c.requires.something }) c.self.invariant.versions;
       counted = counted_more old new t v s.names s.triples c.name_of.result c.from.result was now c.self.invariant.counted c.name_of.ensures c.from.ensures;
     }
 
