@@ -106,8 +106,9 @@ impl Records {
         self.opened -= 1;
     }
 
-    // The number of the current record of a graph.
-    fn current_of(&self, target: &Target) -> Option<u32>
+    /// The number of the current record of a graph. An empty default graph has none, as a graph that is
+    /// missing.
+    pub fn current(&self, target: &Target) -> Option<u32>
         ensures { FindsCurrent self.now.records target.now result }
     {
         // The length says of the listed numbers that they are in order, so the youngest is found first.
@@ -127,7 +128,7 @@ impl Records {
     pub fn get(&self, target: &Target) -> Option<GraphVersion>
         ensures { result ≡ version_at (current self.now.records) target.now }
     {
-        match self.current_of(target) {
+        match self.current(target) {
             Some(number) => Some(self.index.entry(number).version),
             None => missing_version(target),
         }
@@ -138,7 +139,7 @@ impl Records {
         requires { self.old.latest < commit }
         ensures { Removes self.old self.new target.now commit }
     {
-        let Some(number) = self.current_of(target) else {
+        let Some(number) = self.current(target) else {
             self.latest = commit;
             return;
         };
