@@ -106,7 +106,7 @@ module _ (a : Inside) (q : Nodes) (kept : IsKept a) (ledgers : KeepsLedgers a.bo
   }
 
   -- Records that ended are gone too.
-  module _ (r : Recorded) (n gone : ℕ) (rest : Bool) (reclaims : Reclaims a.books.versions.seats n gone rest a.books.records r) where
+  module _ (r : Recorded) (most gone : ℕ) (rest : Bool) (reclaims : Reclaims a.books.versions.seats most gone rest a.books.records r) where
     -- the graphs of now are the same
     now_same : SameNow a.books.records r
     now_same = record { graphs = reclaims.now; latest = reclaims.latest }
@@ -127,8 +127,8 @@ module _ (a : Inside) (q : Nodes) (kept : IsKept a) (ledgers : KeepsLedgers a.bo
       ledger = subst (λ g. IsLedger q a.books.versions (graph_trees q g) (uploads_of (with_pool a q)) (reads_of (with_pool a q)) (dead_at q)) (sym now_same.graphs) ledger_kept;
     }
 
-    own_reclaim : (freed : ℕ) (left : Bool) → Frees a.books.versions.seats n freed left (waste_at a.books.pool) (waste_at q) → Steps (shown_of a) (Reclaim n) (Reclaimed freed left) (shown_of (reclaimed a q r))
-    own_reclaim freed left frees =
+    own_reclaim : (n freed : ℕ) (left : Bool) → Frees a.books.versions.seats n freed left (waste_at a.books.pool) (waste_at q) → Steps (shown_of a) (Reclaim n) (Reclaimed freed left) (shown_of (reclaimed a q r))
+    own_reclaim n freed left frees =
         let dataset = alike_dataset (with_pool a q).books r now_same ∙ dataset_kept in
         record {
           fits = tt;
@@ -138,5 +138,15 @@ module _ (a : Inside) (q : Nodes) (kept : IsKept a) (ledgers : KeepsLedgers a.bo
         }
 
     -- and it is a step.
-    pub steps_reclaimed : (old : Shown) (freed : ℕ) (left : Bool) → shown_of a ≡ old → Frees a.books.versions.seats n freed left (waste_at a.books.pool) (waste_at q) → Steps old (Reclaim n) (Reclaimed freed left) (shown_of (reclaimed a q r))
-    steps_reclaimed old freed left view frees = subst (λ (x : Shown). Steps x (Reclaim n) (Reclaimed freed left) (shown_of (reclaimed a q r))) view (own_reclaim freed left frees)
+    pub steps_reclaimed : (old : Shown) (n freed : ℕ) (left : Bool) → shown_of a ≡ old → Frees a.books.versions.seats n freed left (waste_at a.books.pool) (waste_at q) → Steps old (Reclaim n) (Reclaimed freed left) (shown_of (reclaimed a q r))
+    steps_reclaimed old n freed left view frees = subst (λ (x : Shown). Steps x (Reclaim n) (Reclaimed freed left) (shown_of (reclaimed a q r))) view (own_reclaim n freed left frees)
+
+    -- Where no node is gone, what is shown is the same.
+    pub shown_reclaimed : waste_at q ≡ waste_at a.books.pool → shown_of (reclaimed a q r) ≡ shown_of a
+    shown_reclaimed waste =
+        let dataset = alike_dataset (with_pool a q).books r now_same ∙ dataset_kept in
+        λ i. record {
+          view = record { totals = record { setting = (shown_of a).view.totals.setting; dataset = dataset i; request = a.books.request; commit = a.books.versions.commit }; seats = seats_shown i };
+          pinned = a.books.versions.seats;
+          waste = waste i;
+        }
