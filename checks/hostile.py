@@ -429,9 +429,35 @@ def dear_texts(program, rounds):
     return right
 
 
+def put_again(client, request, many, batch=100):
+    """The same request so many times, some of them sent before their replies."""
+    for _ in range(many // batch):
+        client.send(request * batch)
+        replies = b""
+        while replies.count(b"\r\n\r\n") < batch:
+            replies += client.socket.recv(65536)
+        if replies.count(b"HTTP/1.1 20") != batch:
+            raise SystemExit(f"a PUT was answered {replies[:40]!r}")
+
+
+def empty_puts(program, rounds, warm=70_000, many=100_000, wanted=4_000_000):
+    """How much memory PUTs of an empty graph take, none of which leaves a node; the first fill the page of what was asked."""
+    grown = []
+    for _ in range(rounds):
+        with Server(program) as server:
+            client = Client(server)
+            put_again(client, put("/graphs/empty", []), warm)
+            before = server.resident_bytes()
+            put_again(client, put("/graphs/empty", []), many)
+            grown.append(server.resident_bytes() - before)
+    holds = min(grown) <= wanted
+    print(f"{many} PUTs of an empty graph: {min(grown) / 1e6:.1f} MB more (at most {wanted / 1e6:g}){'' if holds else ': MISSED'}", flush=True)
+    return holds
+
+
 def main():
     program, rounds = sys.argv[1], int(sys.argv[2]) if len(sys.argv) > 2 else 3
-    rows = (patterns, slow_reader, readers_end, many_clients, dear_texts)
+    rows = (patterns, slow_reader, readers_end, many_clients, dear_texts, empty_puts)
     held = [row(program, rounds) for row in rows]
     sys.exit(0 if all(held) else 1)
 
