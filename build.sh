@@ -1,7 +1,8 @@
 #!/bin/sh
 # Proves a program (gsd where none is named) and the crates below it, as many at once as the machine has processors and memory for:
 # build.sh [PROGRAM]. Afterwards `rt run` in crates/PROGRAM builds and starts it. A run of rt keeps others out of the crates that it
-# works in and of those below, so each works in a copy, and rt takes from one copy what was proved in another.
+# works in and of those below, so each works in a copy, and rt takes from one copy what was proved in
+# another, as far as it may keep work beside the kit.
 set -eu
 [ $# -le 1 ] || { echo "usage: build.sh [PROGRAM]" >&2; exit 2; }
 command -v rt > /dev/null || { echo "build.sh wants rt, the toolchain's command" >&2; exit 2; }
@@ -62,17 +63,18 @@ def lay_out(copy, named, names):
         shutil.copytree(f"{top}/crates/{name}", f"{copy}/crates/{name}", ignore=shutil.ignore_patterns("out"))
 
 
-def prove(copies, names, below):
+def end(children):
+    """Ends these runs with all that they started, and waits until they are gone."""
+    for child in children:
+        os.killpg(child.pid, signal.SIGTERM)
+    for child in children:
+        child.wait()
+
+
+def prove(copies, names, below, running):
     """Proves the libraries, each in a copy of the crates that has nothing else to do; and says so of each as it ends."""
     left, heights = set(names), height(names, below)
-    start, done, running, many = time.time(), set(), {}, len(names)
-
-    def stop(*_):
-        for child, _, _ in running.values():
-            child.terminate()
-        sys.exit(143)
-
-    signal.signal(signal.SIGTERM, stop)
+    start, done, many = time.time(), set(), len(names)
     while left or running:
         ready = sorted((it for it in left if done.issuperset(below[it])), key=lambda it: -heights[it])
         idle = [it for it in copies if it not in [copy for _, _, copy in running.values()]]
@@ -80,17 +82,16 @@ def prove(copies, names, below):
             left.remove(name)
             log = tempfile.TemporaryFile("w+")
             words = ["rt", "lib", "--jobs", "1"]
-            running[name] = subprocess.Popen(words, cwd=f"{copy}/crates/{name}", stdin=subprocess.DEVNULL, stdout=log, stderr=log), log, copy
+            child = subprocess.Popen(words, cwd=f"{copy}/crates/{name}", stdin=subprocess.DEVNULL, stdout=log, stderr=log, start_new_session=True)
+            running[name] = child, log, copy
         time.sleep(0.2)
         for name, (child, log, _) in list(running.items()):
             if child.poll() is None:
                 continue
+            del running[name]
             if child.returncode:
                 log.seek(0)
-                for other, _, _ in running.values():
-                    other.terminate()
                 sys.exit(f"{log.read()}\nbuild.sh: {name} failed")
-            del running[name]
             done.add(name)
             print(f"[{len(done)}/{many}] {name}, {time.time() - start:.0f} s", flush=True)
 
@@ -103,13 +104,19 @@ def main():
     libraries = names - {program}
     below = {name: [it for it in named[name].split(":")[1].split() if it in named] for name in names}
     at_once = max(1, min(len(os.sched_getaffinity(0)), int(free_gigabytes() // GIGABYTES_EACH)))
+    running = {}
+    for number in (signal.SIGINT, signal.SIGHUP, signal.SIGTERM):
+        signal.signal(number, lambda number, _: sys.exit(128 + number))
     with tempfile.TemporaryDirectory(prefix="build-") as folder:
-        copies = [f"{folder}/{number}" for number in range(at_once)]
-        for copy in copies:
-            lay_out(copy, named, libraries)
-        prove(copies, libraries, below)
-        # the libraries of the copies are taken over here
-        return subprocess.run(["rt", "check"], cwd=f"{top}/crates/{program}", stdin=subprocess.DEVNULL).returncode
+        try:
+            copies = [f"{folder}/{number}" for number in range(at_once)]
+            for copy in copies:
+                lay_out(copy, named, libraries)
+            prove(copies, libraries, below, running)
+            # the libraries of the copies are taken over here
+            return subprocess.run(["rt", "check"], cwd=f"{top}/crates/{program}", stdin=subprocess.DEVNULL).returncode
+        finally:
+            end([child for child, _, _ in running.values()])
 
 
 sys.exit(main())
