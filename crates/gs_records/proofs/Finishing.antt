@@ -180,6 +180,7 @@ module _ (v : Pins) (x y : Indexed) (p0 p p1 q : Nodes) (n freed : ℕ) (left : 
 
   pub swept : Swept v.seats n freed left x y p0 q
   swept = record {
+    many = w.many;
     stored = swept_stored;
     drops = swept_drops;
     waste = record {
@@ -194,8 +195,8 @@ module _ (v : Pins) (x y : Indexed) (p0 p p1 q : Nodes) (n freed : ℕ) (left : 
   }
 
 -- what the contract says of it
-pub reclaimed : (pins : List (Option ℕ)) (n freed : ℕ) (left : Bool) (x y : Indexed) (p q : Nodes) → Swept pins n freed left x y p q → (a b : Recorded) → a.records ≡ records_by x p → b.records ≡ records_by y q → b.latest ≡ a.latest → Reclaims pins n freed left a b
-reclaimed pins n freed left x y p q w a b from to latest =
+pub reclaimed : (pins : List (Option ℕ)) (n freed : ℕ) (left : Bool) (x y : Indexed) (p q : Nodes) → Swept pins n freed left x y p q → (a b : Recorded) → a.records ≡ records_by x p → b.records ≡ records_by y q → b.latest ≡ a.latest → b.limit ≡ a.limit → Reclaims pins n freed left a b
+reclaimed pins n freed left x y p q w a b from to latest limit =
     let drops : Drops pins freed a.records b.records = subst (λ rs. Drops pins freed rs b.records) (sym from) (subst (Drops pins freed (records_by x p)) (sym to) w.drops) in
     record {
       waste = subst (λ rs. Frees pins n freed left (waste_in rs) (waste_in b.records)) (sym from) (subst (λ rs. Frees pins n freed left (waste_in (records_by x p)) (waste_in rs)) (sym to) w.waste);
@@ -203,4 +204,5 @@ reclaimed pins n freed left x y p q w a b from to latest =
       versions = drops.versions;
       now = drops.now;
       latest = latest;
+      limit = limit;
     }

@@ -18,7 +18,7 @@ use Rattle.gs_records.specs.Graphs.{current}
 use Rattle.gs_records.specs.Kept.{DiedBy, HasNoCurrent}
 use Rattle.gs_records.specs.Calls.{FindsCurrent}
 use Rattle.gs_records.specs.Stored.{is_made, bare_of, records_by, Stands, IsStored}
-use Rattle.gs_records.proofs.Found.{target_itself, target_same}
+use Rattle.gs_records.proofs.Found.{Found, target_itself, target_same}
 use Rattle.gs_records.proofs.Same.{version_found, version_lacking}
 use Rattle.gs_records.proofs.Lifetimes.{both_true, first_true, has_from, lives_none, once_current}
 use Rattle.gs_records.proofs.Storing.{records_at}
@@ -87,7 +87,15 @@ module _ (x : Indexed) (p : Nodes) (opens latest : ℕ) (s : IsStored x p opens 
 
       -- the first one is current
       pub sought : (entry_at x.entries n).death ≡ None → FindsCurrent (records_by x p) t (Some n)
-      sought none = (entry_at x.entries n, kept_at n first.listed, target_is, none)
+      sought none =
+          let here : Found is_current (records_by x p) t = record { number = n; entry = entry_at x.entries n; at = kept_at n first.listed; passes = ap is_none none; same = target_is } in
+          record {
+            entry = here.entry;
+            at = here.at;
+            same = here.same;
+            lives = none;
+            only = λ m e at same now. once_current (records_by x p) s.single t (record { number = m; entry = e; at = at; passes = now; same = same }) here;
+          }
 
       -- or none is
       pub none_current_after : is_some (entry_at x.entries n).death ≡ true → HasNoCurrent (records_by x p) t
@@ -114,8 +122,8 @@ module _ (x : Indexed) (p : Nodes) (opens latest : ℕ) (s : IsStored x p opens 
     -- the graph's version is that of its current record
     pub version_current : (n : ℕ) → FindsCurrent (records_by x p) t (Some n) → version_at (current (records_by x p)) t ≡ Some (entry_at x.entries n).version
     version_current n c =
-        version_found is_current (records_by x p) t (once_current (records_by x p) s.single) (record { number = n; entry = c.0; at = c.1; passes = ap is_none c.3; same = c.2 })
-        ∙ ap (λ (e : Entry). Some e.version) (sym (entry_is n c.0 c.1))
+        version_found is_current (records_by x p) t (once_current (records_by x p) s.single) (record { number = n; entry = c.entry; at = c.at; passes = ap is_none c.lives; same = c.same })
+        ∙ ap (λ (e : Entry). Some e.version) (sym (entry_is n c.entry c.at))
 
     pub version_none : HasNoCurrent (records_by x p) t → version_at (current (records_by x p)) t ≡ version_at no_versions t
     version_none none = version_lacking is_current (records_by x p) t (λ f. none f.number f.entry f.at f.same f.passes)

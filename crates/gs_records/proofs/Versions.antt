@@ -30,7 +30,7 @@ version_ended : (t : Target) (death : ℕ) (e : Entry) → IsVersion e → IsVer
 version_ended t death e v = go (ended_cases t death e)
   where
     go : EndedCases t death e → IsVersion (ended_entry t death e)
-    go (ends s n is) = subst IsVersion (sym is) (record { small = v.small })
+    go (ends s n is) = subst IsVersion (sym is) (record { small = v.small; something = v.something })
     go (stays h is) = subst IsVersion (sym is) v
 
 pub versions_ended : (old new : List Record) (t : Target) (death : ℕ) → Ends old new t death → AreVersions old → AreVersions new

@@ -1,5 +1,5 @@
 -- What the calls do to the records.
-use Rattle.std.specs.Prelude.{◌≡◌, ◌≢◌, ℕ, ◌+◌, ◌<◌, Bool, false, ◌&&◌, nat_eq, is_none, if◌then◌else◌, List, [], ◌∷◌, ◌++◌, MatchOption, Option, None}
+use Rattle.std.specs.Prelude.{◌≡◌, ◌≢◌, ℕ, ◌+◌, ◌<◌, Bool, true, false, ◌&&◌, nat_eq, is_none, if◌then◌else◌, List, [], ◌∷◌, ◌++◌, MatchOption, Option, None}
 use Rattle.std.specs.List.{sum_by}
 use Rattle.gs_term.specs.declared.names.Target.{Target}
 use Rattle.gs_term.specs.declared.names.Target.TheVariants.{Default, Named}
@@ -97,6 +97,14 @@ pub record Puts (old new : Recorded) (n : ℕ) (t : Target) (v : GraphVersion) (
   pub latest : new.latest ≡ commit
   pub limit : new.limit ≡ old.limit
 
+-- this number is that of a record of the graph that has not died, and no other number is
+pub record IsCurrentOf (rs : List Record) (t : Target) (n : ℕ) : Type 0 where
+  pub entry : Entry
+  pub at : record_at rs n ≡ kept entry
+  pub same : entry.target ≡ t
+  pub lives : entry.death ≡ None
+  pub only : (m : ℕ) (e : Entry) → record_at rs m ≡ kept e → e.target ≡ t → is_current e ≡ true → m ≡ n
+
 -- the number named is that of the graph's current record, and where none is named there is none
 abbrev pub FindsCurrent : List Record → Target → Option ℕ → Type 0
-FindsCurrent rs t found = MatchOption found (HasNoCurrent rs t) (λ n. (e : Entry) × (record_at rs n ≡ kept e) × (e.target ≡ t) × (e.death ≡ None))
+FindsCurrent rs t found = MatchOption found (HasNoCurrent rs t) (IsCurrentOf rs t)

@@ -24,3 +24,4 @@ pub record Reclaims (pins : List (Option ℕ)) (n freed : ℕ) (left : Bool) (ol
   pub versions : (s v : ℕ) → slice_index_or pins s None ≡ Some v → graphs_at v new.records ≡ graphs_at v old.records
   pub now : current new.records ≡ current old.records
   pub latest : new.latest ≡ old.latest
+  pub limit : new.limit ≡ old.limit

@@ -7,6 +7,7 @@ ghost use Rattle.gs_catalogue.specs.Catalogues.{name_count, triple_count};
 ghost use Rattle.gs_records.specs.Graphs.{current};
 ghost use Rattle.gs_records.specs.Waste.{is_opened};
 ghost use Rattle.gs_records.specs.Kept.{AreSingle, AreDated};
+ghost use Rattle.gs_records.specs.Versions.{AreVersions};
 ghost use Rattle.gs_records.specs.Order.{has_number, AreListed, goes_on};
 ghost use Rattle.gs_records.specs.Laws.{piece_after};
 ghost use Rattle.gs_records.specs.Stored.{is_made as is_made_entry};
@@ -56,6 +57,7 @@ impl Records {
         ensures value { result ≡ self.now.latest }
         ensures single { AreSingle self.now.records }
         ensures dated { AreDated self.now.latest self.now.records }
+        ensures versions { AreVersions self.now.records }
         ensures listed { AreListed self.now.records self.now.listed }
     {
         // The length says of the listed numbers that they are in order.

@@ -1,15 +1,15 @@
 //! The records.
-ghost use Rattle.std.specs.Prelude.{◌≡◌, ◌+◌, ◌<◌, ◌≤◌, [], min, length, take, filter, IfOk, IfErr, IfSome, OnErr, MatchResult};
+ghost use Rattle.std.specs.Prelude.{◌≡◌, ◌+◌, ◌<◌, ◌≤◌, false, [], min, length, take, filter, IfOk, IfErr, IfSome, OnErr, MatchResult};
 ghost use Rattle.gs_model.specs.Limits.{last_node, last_number};
 ghost use Rattle.gs_catalogue.specs.Catalogues.{version_at};
 ghost use Rattle.gs_index.specs.Indexes.{is_listed, numbers_after};
 ghost use Rattle.gs_records.specs.Records.{opened, kept, Recorded, record_at};
 ghost use Rattle.gs_records.specs.Graphs.{current};
 ghost use Rattle.gs_records.specs.Kept.{HasNoCurrent};
-ghost use Rattle.gs_records.specs.Calls.{Opens, GivesUp, Removes, Places, Puts, FindsCurrent};
+ghost use Rattle.gs_records.specs.Calls.{is_nothing, Opens, GivesUp, Removes, Places, Puts, FindsCurrent};
 ghost use Rattle.gs_records.specs.Reclaims.{Reclaims};
 
-use crate::places::{grow, is_nothing_of, missing_version, name_of, node_of};
+use crate::places::{grow, is_nothing_of, limit_of, missing_version, name_of, node_of};
 use crate::reclaiming::{Reclaimed, reclaim};
 use gs_catalogue::GraphVersion;
 use gs_index::{Entry, Index};
@@ -30,6 +30,9 @@ pub struct Records {
     // A node for each number in use, with its birth. It is retired where its record has ended, or was
     // given up.
     pub(crate) pool: Pool,
+    // How many numbers there are at most. The pool has the same limit, but `follow_pins` does not say that
+    // it keeps it.
+    limit: usize,
     // How many records are open.
     opened: usize,
     // The number of the last commit.
@@ -52,10 +55,10 @@ impl Model for Records {
       records = records_by r.index r.pool;
       listed = r.index.listed;
       latest = r.latest;
-      limit = r.pool.limit;
+      limit = r.limit;
     } };
 
-    ghost invariant = { λ r. IsKept r.index r.pool r.opened r.latest r.names r.triples };
+    ghost invariant = { λ r. IsKept r.index r.pool r.opened r.latest r.names r.triples r.limit };
 }
 
 impl Records {
@@ -75,6 +78,7 @@ impl Records {
         Ok(Records {
             index: Index::new(alloc),
             pool,
+            limit: limit_of(last),
             opened: 0,
             latest: commit,
             names: 0,
@@ -91,7 +95,7 @@ impl Records {
     {
         self.index.reserve(self.opened + 1)?;
         self.pool.reserve(1)?;
-        grow(&mut self.index, &self.pool)?;
+        grow(&mut self.index, &self.pool, self.limit)?;
         let number = self.pool.alloc_reserved(node_of(0));
         self.opened += 1;
         Ok(number)
@@ -106,8 +110,9 @@ impl Records {
         self.opened -= 1;
     }
 
-    // The number of the current record of a graph.
-    fn current_of(&self, target: &Target) -> Option<u32>
+    /// The number of the current record of a graph. An empty default graph has none, as a graph that is
+    /// missing.
+    pub fn current(&self, target: &Target) -> Option<u32>
         ensures { FindsCurrent self.now.records target.now result }
     {
         // The length says of the listed numbers that they are in order, so the youngest is found first.
@@ -127,7 +132,7 @@ impl Records {
     pub fn get(&self, target: &Target) -> Option<GraphVersion>
         ensures { result ≡ version_at (current self.now.records) target.now }
     {
-        match self.current_of(target) {
+        match self.current(target) {
             Some(number) => Some(self.index.entry(number).version),
             None => missing_version(target),
         }
@@ -138,7 +143,7 @@ impl Records {
         requires { self.old.latest < commit }
         ensures { Removes self.old self.new target.now commit }
     {
-        let Some(number) = self.current_of(target) else {
+        let Some(number) = self.current(target) else {
             self.latest = commit;
             return;
         };
@@ -150,10 +155,11 @@ impl Records {
         self.latest = commit;
     }
 
-    // An open record is that of a graph, made by the last commit.
+    // An open record is that of a graph, made by the last commit, and not of an empty default graph.
     fn place(&mut self, number: u32, target: Target, version: GraphVersion)
         requires opened { record_at self.old.records number ≡ opened }
         requires none { HasNoCurrent self.old.records target }
+        requires something { is_nothing target version ≡ false }
         requires after { 0 < self.old.latest }
         ensures { Places self.old self.new number target version }
     {

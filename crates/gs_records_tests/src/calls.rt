@@ -65,14 +65,19 @@ pub fn removes(
     Ok(records.latest() == commit)
 }
 
-/// Whether the graph of a name has so many triples now, or is missing.
+/// Whether the record of a name's graph has this number now, or there is none, and the graph has so many
+/// triples, or is missing.
 pub fn has_now(
     alloc: Global,
     records: &Records,
     name: &str,
+    number: Option<u32>,
     wanted: Option<u64>,
 ) -> Result<bool, Refusal> {
     let target = target(alloc, name)?;
+    if records.current(&target) != number {
+        return Ok(false);
+    }
     Ok(match records.get(&target) {
         None => wanted == None,
         Some(found) => wanted == Some(found.triples),

@@ -80,7 +80,10 @@ fn all_made(
         if !is_made(alloc, records, name, call)? {
             return Ok(false);
         }
-        if !has_now(alloc, records, name, *triples)? {
+        if !has_now(alloc, records, name, now.first().copied(), *triples)? {
+            return Ok(false);
+        }
+        if records.triples() != u128::from(triples.unwrap_or(0)) {
             return Ok(false);
         }
         if !walks(alloc, records, records.latest(), None, 99, now, None)? {

@@ -7,6 +7,9 @@ returns-clause-single c = rw (← c.self.view_is) c.self.invariant.stored.single
 pub returns-clause-dated : goal.returns-clause-dated
 returns-clause-dated c = rw (← c.self.view_is) c.self.invariant.stored.dated
 
+pub returns-clause-versions : goal.returns-clause-versions
+returns-clause-versions c = rw (← c.self.view_is) c.self.invariant.versions
+
 pub returns-clause-listed : goal.returns-clause-listed
 returns-clause-listed c =
     let s = c.self.inside in

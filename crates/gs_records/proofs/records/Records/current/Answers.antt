@@ -2,7 +2,7 @@ use Rattle.std.proofs.Common.{◌≡◌, sym, ap, ◌∙◌, Some, None, is_some
 use Rattle.gs_index.specs.declared.entries.Entry.{Entry}
 use Rattle.gs_index.specs.Indexes.{youngest_by, entry_at}
 use Rattle.gs_records.proofs.Seeking.{not_some, none_sought, sought, none_current_after}
-use Rattle.gs_records.proofs.records.Records.current_of.Goals as goal
+use Rattle.gs_records.proofs.records.Records.current.Goals as goal
 
 pub returns-in_default : goal.returns-in_default
 returns-in_default c =
