@@ -8,7 +8,7 @@ use Rattle.gs_ledger.specs.Ledger.{IsLedger}
 use Rattle.gs_datasets.specs.Standing.{dataset_at, all_versions, graph_trees, IsVersion}
 use Rattle.gs_records.specs.Records.{Recorded}
 use Rattle.gs_records.specs.Graphs.{current}
-use Rattle.gs_records.specs.Calls.{Opens, GivesUp}
+use Rattle.gs_records.specs.Calls.{GivesUp}
 use Rattle.gs_tree_store.specs.declared.books.Books.{Books}
 use Rattle.gs_tree_store.specs.declared.books.Seat.{Seat}
 use Rattle.gs_tree_store.specs.Books.{books_setting, dataset_of, upload_tree, read_trees, IsSound}
@@ -19,9 +19,7 @@ pub record SameNow (x y : Recorded) : Type 0 where
   pub graphs : current y.records ≡ current x.records
   pub latest : y.latest ≡ x.latest
 
-pub opens_same : (x y : Recorded) (n : ℕ) → Opens x y n → SameNow x y
-opens_same x y n opens = record { graphs = opens.graphs.now; latest = opens.latest }
-
+-- giving a record up leaves them
 pub gives_up_same : (x y : Recorded) (n : ℕ) → GivesUp x y n → SameNow x y
 gives_up_same x y n gives = record { graphs = gives.graphs.now; latest = gives.latest }
 
