@@ -29,8 +29,8 @@ impl Gate for Told {
     }
 }
 
-/// How many milliseconds a read may wait, and how many of two connections are dropped then: a read that may
-/// not wait at all is none that the system takes.
+/// How many milliseconds a read may wait, and how many of two connections are dropped then: the system refuses
+/// a limit of no time.
 const DROPS: [(&str, u64, u64); 2] = [
     ("connections that take no limits", 0, 2),
     ("connections that take them", 15_000, 0),
