@@ -1,0 +1,9 @@
+pub mod Lists
+pub mod Parts
+pub mod Adding
+pub mod Numbers
+pub mod Same
+pub mod Walking
+pub mod Rests
+pub mod Whole
+pub mod Lasting

@@ -1,0 +1,11 @@
+//! The next lines of a read of all graphs: a piece of them from a place, and the place after it.
+#![tactic(auto)]
+
+mod laws;
+mod lines;
+mod pieces;
+mod runs;
+mod walks;
+
+pub use laws::{all_quads_are_the_datasets, quads_outlast_changes};
+pub use pieces::{QuadPiece, next_quads};
