@@ -1,18 +1,18 @@
 -- Places that are found: none, those of one record, and those of others after them.
-use Rattle.std.proofs.Common.{◌≡◌, ℕ, ◌+◌, ◌-◌, ◌<◌, ◌≤◌, List, [], ◌∷◌, ◌++◌, map, length, take, drop, Option, Some, None, refl, sym, ap, ◌∙◌, subst, arith, append_assoc, length-append}
+use Rattle.std.proofs.Common.{◌≡◌, ℕ, ◌+◌, ◌-◌, ◌≤◌, List, [], ◌∷◌, ◌++◌, length, take, Option, refl, sym, ap, ◌∙◌, subst, arith, append_assoc, length-append}
 use Rattle.std.proofs.Math.Seq.{take-append-add}
 use Rattle.std.proofs.lemmas.List.{append-nil, take_all, take-map, take-append-le}
 use Rattle.std.proofs.lemmas.List.Sums.{sum_by_push}
 use Rattle.std.proofs.lemmas.List.Elements.{All-nil, All-push}
 use Rattle.std.specs.List.{All}
-use Rattle.gs_model.specs.Terms.{Term}
 use Rattle.gs_pool.specs.declared.nodes.Key.{Key}
-use Rattle.gs_pool.specs.Pool.{Nodes}
 use Rattle.gs_tree.specs.Keys.{AllKeys}
 use Rattle.gs_keys.specs.Texts.{IsGiven}
 use Rattle.gs_lines.specs.Pieces.{keys_left}
 use Rattle.gs_lines.proofs.PieceLemmas.{left_given}
-use Rattle.gs_records.specs.Records.{Record}
+use Rattle.gs_index.specs.declared.entries.Entry.{Entry}
+use Rattle.gs_records.specs.Records.{Record, kept, record_at}
+use Rattle.gs_records.specs.Order.{entry_of}
 use Rattle.gs_quads.specs.declared.runs.Run.{Run}
 use Rattle.gs_quads.specs.declared.runs.Source.{Source}
 use Rattle.gs_quads.specs.declared.runs.Found.{Found}
@@ -78,7 +78,12 @@ module _ (s : Source) (most : ℕ) where
     more_given : AreGiven s more
     more_given = keys_first (IsGiven s.dict.now.terms) (most - length old.keys.items) left (left_given s.dict.now.terms s.pool.now (root_at s.records.now.records n) graph.graph from)
 
-    module _ (keys_are : new.keys.items ≡ old.keys.items ++ more) where
+    module _ (e : Entry) (at : record_at s.records.now.records n ≡ kept e) (had : ℕ) (had_is : had ≡ length old.keys.items) (came : new.keys.items ≡ old.keys.items ++ take (most - had) (keys_left s.dict.now.terms s.pool.now e.version.root from)) where
+      keys_are : new.keys.items ≡ old.keys.items ++ more
+      keys_are =
+          let root : e.version.root ≡ root_at s.records.now.records n = sym (ap (λ (r : Record). (entry_of r).version.root) at) in
+          came ∙ (λ i. old.keys.items ++ take (most - had_is i) (keys_left s.dict.now.terms s.pool.now (root i) from))
+
       given : AreGiven s new.keys.items
       given = subst (AreGiven s) (sym keys_are) (all_both (IsGiven s.dict.now.terms) old.keys.items more found.given more_given)
 

@@ -14,10 +14,10 @@ use Rattle.gs_lines.specs.Graphs.{line_in}
 use Rattle.gs_lines.specs.Pieces.{IsCursor, keys_left}
 use Rattle.gs_lines.proofs.LineLemmas.{quads_kept}
 use Rattle.gs_catalogue.specs.declared.versions.GraphVersion.{GraphVersion}
-use Rattle.gs_index.specs.Indexes.{after_number, numbers_after}
+use Rattle.gs_index.specs.Indexes.{after_number}
 use Rattle.gs_records.specs.Records.{Recorded}
 use Rattle.gs_records.specs.Order.{has_number, AreListed, graph_of_number}
-use Rattle.gs_quads.specs.Places.{Place, target_at, root_at, numbers_of, places_of, places_in, all_places, number_at, quad_at, quads_left}
+use Rattle.gs_quads.specs.Places.{Place, target_at, root_at, numbers_of, places_in, all_places, quad_at, quads_left}
 use Rattle.gs_quads.specs.Pieces.{AreGraphs, IsPlace}
 use Rattle.gs_quads.specs.Laws.{HasSame, HasTrees}
 use Rattle.gs_quads.proofs.Numbers.{numbers_had, had_after}

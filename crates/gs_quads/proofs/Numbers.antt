@@ -1,12 +1,10 @@
 -- Numbers that are listed in order, and those of them that a version has: what stands after one, and walks over them.
-use Rattle.std.proofs.Common.{◌≡◌, ℕ, ◌+◌, ◌-◌, ◌<◌, ◌≤◌, Bool, true, false, cond, ◌==◌, ◌||◌, ltb, min, List, [], ◌∷◌, ◌++◌, length, get_or, take, drop, slice_get, Option, Some, None, refl, sym, ap, ◌∙◌, subst, inl, inr, arith, append_assoc, length-append, true≢false}
-use Rattle.std.specs.Prelude.{IfSome}
+use Rattle.std.proofs.Common.{◌≡◌, ℕ, ◌+◌, ◌-◌, ◌<◌, ◌≤◌, Bool, true, false, cond, ◌==◌, ◌||◌, ltb, List, [], ◌∷◌, ◌++◌, length, get_or, take, drop, slice_get, Option, Some, None, refl, sym, ap, ◌∙◌, subst, inl, inr, arith, append_assoc, length-append, true≢false}
 use Rattle.std.specs.List.{All, AllByRecursion, filter}
 use Rattle.std.specs.List.Sorted.{IsStrictlySortedBy}
-use Rattle.std.specs.declared.cmp.Ordering.{Ordering}
 use Rattle.std.specs.declared.cmp.Ordering.TheVariants.{Less}
 use Rattle.std.proofs.lemmas.Bool.{cases_Bool, ltb-true, ltb-false}
-use Rattle.std.proofs.lemmas.List.{take-append-drop, length-take, length-take-le, length-drop, take_all, get_or-take, append-nil}
+use Rattle.std.proofs.lemmas.List.{take-append-drop, length-take, take_all, get_or-take, append-nil}
 use Rattle.std.proofs.lemmas.List.Elements.{filter-append}
 use Rattle.std.proofs.lemmas.List.Kept.{IsStrictlySortedBy-filter}
 use Rattle.std.proofs.lemmas.Map.Views.{exact_unsigned_eq}
@@ -19,7 +17,7 @@ use Rattle.gs_records.specs.Laws.{piece_after}
 use Rattle.gs_records.proofs.Listing.{same_number}
 use Rattle.gs_records.proofs.Ordering.{number_tied}
 use Rattle.gs_quads.specs.Places.{numbers_of}
-use Rattle.gs_quads.specs.Found.{numbers_past, numbers_on, AreNext}
+use Rattle.gs_quads.specs.Found.{AreNext}
 use Rattle.gs_quads.proofs.Lists.{cut_at, filter_passes}
 
 -- what stands after a number is the end of the list

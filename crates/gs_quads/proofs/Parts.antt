@@ -1,10 +1,9 @@
 -- Keys in runs, as places and as lines.
-use Rattle.std.proofs.Common.{◌≡◌, ℕ, suc, ◌+◌, ◌-◌, ◌<◌, ◌≤◌, List, [], ◌∷◌, ◌++◌, map, length, get_or, take, drop, slice_get, Option, Some, None, refl, sym, ap, ◌∙◌, subst, inl, inr, arith, append_assoc, length-append}
+use Rattle.std.proofs.Common.{◌≡◌, ℕ, suc, ◌+◌, ◌-◌, ◌<◌, ◌≤◌, List, [], ◌∷◌, ◌++◌, length, get_or, take, drop, slice_get, Option, Some, None, refl, sym, ap, ◌∙◌, subst, inl, inr, arith, append_assoc, length-append}
 use Rattle.std.proofs.Math.Seq.{take-nil, take-append-add}
 use Rattle.std.proofs.lemmas.Bool.{cases_lt}
 use Rattle.std.proofs.lemmas.List.{append-nil, length-map, length-drop, length-take, length-take-le, take_all, drop_all, take-map, take-take, drop-take, take-append-le, drop-append-le, drop_more, take-append-drop}
 use Rattle.std.proofs.lemmas.List.Sums.{sum_by-cons}
-use Rattle.gs_term.specs.declared.names.Target.{Target}
 use Rattle.gs_pool.specs.declared.nodes.Key.{Key}
 use Rattle.gs_tree.specs.Keys.{AllKeys}
 use Rattle.gs_tree.proofs.Order.{AllKeys-front, AllKeys-back}
@@ -74,8 +73,11 @@ runs_take (r ∷ runs) ks m whole =
           let t : take r.keys (take m ks) ≡ take m ks = take_all r.keys (take m ks) short in
           let d : drop r.keys (take m ks) ≡ [] = drop_all r.keys (take m ks) short in
           let one : run_places (r ∷ runs) (take m ks) ≡ places_of r.number (take m ks) ++ run_places runs [] = λ i. places_of r.number (t i) ++ run_places runs (d i) in
-          let first : take m own ≡ places_of r.number (take m ks) = take-map (λ k. (r.number, k)) m (take r.keys ks) ∙ ap (places_of r.number) (take-take m r.keys ks few) in
-          one ∙ ap (λ xs. places_of r.number (take m ks) ++ xs) (none_in runs) ∙ append-nil (places_of r.number (take m ks)) ∙ sym first ∙ sym (take-append-le m own rest (omega arith))
+          let ones : take m own ≡ places_of r.number (take m (take r.keys ks)) = take-map (λ k. (r.number, k)) m (take r.keys ks) in
+          let first : take m own ≡ places_of r.number (take m ks) = ones ∙ ap (places_of r.number) (take-take m r.keys ks few) in
+          let alone : places_of r.number (take m ks) ++ run_places runs [] ≡ places_of r.number (take m ks) = ap (λ xs. places_of r.number (take m ks) ++ xs) (none_in runs) ∙ append-nil (places_of r.number (take m ks)) in
+          let all : take m (own ++ rest) ≡ places_of r.number (take m ks) = take-append-le m own rest (omega arith) ∙ first in
+          one ∙ alone ∙ sym all
       | inl many ↦
           let j = m - r.keys in
           let m_is : m ≡ r.keys + j = omega arith in
@@ -84,13 +86,18 @@ runs_take (r ∷ runs) ks m whole =
           let left : length (drop r.keys ks) ≡ length ks - r.keys = length-drop r.keys ks in
           let one : run_places (r ∷ runs) (take m ks) ≡ own ++ run_places runs (take j (drop r.keys ks)) = λ i. places_of r.number (t i) ++ run_places runs (d i) in
           let all : m ≡ length own + j = omega arith in
-          one ∙ ap (λ xs. own ++ xs) (runs_take runs (drop r.keys ks) j (omega arith)) ∙ sym (take-append-add own rest j) ∙ ap (λ n. take n (own ++ rest)) (sym all)
+          let cut : take m (own ++ rest) ≡ own ++ take j rest = ap (λ n. take n (own ++ rest)) all ∙ take-append-add own rest j in
+          one ∙ ap (λ xs. own ++ xs) (runs_take runs (drop r.keys ks) j (omega arith)) ∙ sym cut
     ]
 
+-- what stands for a run past the last
+abbrev pub no_run : Run
+no_run = record { number = 0; keys = 0 }
+
 -- the places of the runs that are left, cut after the first
-pub places_cut : (runs : List Run) (ks : List Key) (i : ℕ) (d : Run) → i < length runs
-    → run_places (drop i runs) ks ≡ places_of (get_or runs i d).number (take (get_or runs i d).keys ks) ++ run_places (drop (i + 1) runs) (drop (get_or runs i d).keys ks)
-places_cut runs ks i d within = ap (λ qs. run_places qs ks) (drop_more runs i d within)
+pub places_cut : (runs : List Run) (ks : List Key) (i : ℕ) → i < length runs
+    → run_places (drop i runs) ks ≡ places_of (get_or runs i no_run).number (take (get_or runs i no_run).keys ks) ++ run_places (drop (i + 1) runs) (drop (get_or runs i no_run).keys ks)
+places_cut runs ks i within = ap (λ qs. run_places qs ks) (drop_more runs i no_run within)
 
 module _ (s : Source) where
   -- the lines of one record's keys, and those of places after them
@@ -101,22 +108,20 @@ module _ (s : Source) where
       let line = line_in s.dict.now.terms graph k in
       ap (λ ys. line ++ ys) (bytes_cut n ks xs) ∙ sym (append_assoc line (bytes_in s.dict.now.terms graph ks) (bytes_at s xs))
 
-  -- the lines of the runs that are left, cut after the first
-  pub runs_left : (runs : List Run) (ks own rest : List Key) (graph : Target) (i : ℕ) (d : Run) → i < length runs
-      → own ≡ take (get_or runs i d).keys ks → rest ≡ drop (get_or runs i d).keys ks → graph ≡ target_at s.records.now.records (get_or runs i d).number
-      → bytes_at s (run_places (drop i runs) ks) ≡ bytes_in s.dict.now.terms graph own ++ bytes_at s (run_places (drop (i + 1) runs) rest)
-  runs_left runs ks own rest graph i d within own_is rest_is graph_is =
-      let r = get_or runs i d in
-      let o = sym own_is in
-      let q = sym rest_is in
-      let g = sym graph_is in
-      ap (bytes_at s) (places_cut runs ks i d within)
-      ∙ bytes_cut r.number (take r.keys ks) (run_places (drop (i + 1) runs) (drop r.keys ks))
-      ∙ (λ j. bytes_in s.dict.now.terms (g j) (o j) ++ bytes_at s (run_places (drop (i + 1) runs) (q j)))
+  -- the lines of the runs that are left, cut after the first, whose record this is
+  module _ (runs : List Run) (ks own rest : List Key) (e : Entry) (i : ℕ) (within : i < length runs) (own_is : own ≡ take (get_or runs i no_run).keys ks) (rest_is : rest ≡ drop (get_or runs i no_run).keys ks) (at : record_at s.records.now.records (get_or runs i no_run).number ≡ kept e) where
+    pub runs_left : bytes_at s (run_places (drop i runs) ks) ≡ bytes_in s.dict.now.terms e.target own ++ bytes_at s (run_places (drop (i + 1) runs) rest)
+    runs_left =
+        let r = get_or runs i no_run in
+        let graph : target_at s.records.now.records r.number ≡ e.target = ap (λ (q : Record). (entry_of q).target) at in
+        let first : take r.keys ks ≡ own = sym own_is in
+        let others : drop r.keys ks ≡ rest = sym rest_is in
+        ap (bytes_at s) (places_cut runs ks i within)
+        ∙ bytes_cut r.number (take r.keys ks) (run_places (drop (i + 1) runs) (drop r.keys ks))
+        ∙ (λ j. bytes_in s.dict.now.terms (graph j) (first j) ++ bytes_at s (run_places (drop (i + 1) runs) (others j)))
 
-  -- the graph of a record
-  pub graph_is : (n : ℕ) (e : Entry) → record_at s.records.now.records n ≡ kept e → e.target ≡ target_at s.records.now.records n
-  graph_is n e is = sym (ap (λ (r : Record). (entry_of r).target) is)
+    pub sizes_left : length (bytes_at s (run_places (drop i runs) ks)) ≡ length (bytes_in s.dict.now.terms e.target own) + length (bytes_at s (run_places (drop (i + 1) runs) rest))
+    sizes_left = ap length runs_left ∙ length-append (bytes_in s.dict.now.terms e.target own) (bytes_at s (run_places (drop (i + 1) runs) rest))
 
 -- the last of two lists of places
 pub last_both : (o : Option Place) (xs ys : List Place) → last_or o (xs ++ ys) ≡ last_or (last_or o xs) ys

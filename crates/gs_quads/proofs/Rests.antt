@@ -1,5 +1,5 @@
 -- The places after one of those that were left, and the piece that ends there.
-use Rattle.std.proofs.Common.{◌≡◌, ℕ, ◌+◌, ◌-◌, ◌<◌, ◌≤◌, min, Bool, true, false, nat_le, List, [], ◌∷◌, ◌++◌, map, length, get_or, take, drop, slice_get, Option, Some, None, refl, sym, ap, ◌∙◌, subst, inl, inr, arith}
+use Rattle.std.proofs.Common.{◌≡◌, ℕ, ◌+◌, ◌-◌, ◌<◌, min, true, nat_le, List, [], ◌∷◌, ◌++◌, map, length, get_or, take, drop, slice_get, Option, Some, None, refl, sym, ap, ◌∙◌, subst, inl, inr, arith}
 use Rattle.std.specs.List.{All, AllByRecursion, concat}
 use Rattle.std.specs.List.Sorted.{IsStrictlySortedBy}
 use Rattle.std.proofs.lemmas.Bool.{cases_lt}
@@ -16,11 +16,11 @@ use Rattle.gs_keys.specs.Texts.{key_cmp, key_total, IsGiven}
 use Rattle.gs_lines.specs.Pieces.{keys_left}
 use Rattle.gs_lines.proofs.PieceLemmas.{ends, goes_on, last_taken, any_key, left_given}
 use Rattle.gs_index.specs.Ages.{number_cmp}
-use Rattle.gs_index.specs.Indexes.{after_number, numbers_after}
+use Rattle.gs_index.specs.Indexes.{after_number}
 use Rattle.gs_records.specs.Records.{Recorded}
 use Rattle.gs_records.specs.Order.{has_number, age_at, AreListed}
 use Rattle.gs_quads.specs.declared.pieces.QuadPiece.{QuadPiece}
-use Rattle.gs_quads.specs.Places.{Place, root_at, numbers_of, places_of, places_in, all_places, number_at, places_left, quad_at, quads_left}
+use Rattle.gs_quads.specs.Places.{Place, root_at, numbers_of, places_of, places_in, all_places, places_left, quad_at, quads_left}
 use Rattle.gs_quads.specs.Pieces.{AreGraphs, IsPlace, last_place, IsQuadPiece}
 use Rattle.gs_quads.proofs.Lists.{cut_at, none_there, IsCutIn, inside, after, cut_in}
 use Rattle.gs_quads.proofs.Numbers.{after_cut, numbers_sorted, numbers_had, had_after}

@@ -1,18 +1,18 @@
 -- A walk over the numbers of a version: what is found of the next ones, and of those after them.
-use Rattle.std.proofs.Common.{◌≡◌, ℕ, ◌+◌, ◌<◌, Bool, true, List, [], ◌∷◌, ◌++◌, length, get_or, take, Option, Some, None, refl, sym, ap, ◌∙◌, subst}
+use Rattle.std.proofs.Common.{◌≡◌, ℕ, ◌+◌, ◌<◌, true, List, [], ◌∷◌, ◌++◌, length, get_or, take, Option, Some, None, refl, sym, ap, ◌∙◌, subst}
 use Rattle.std.specs.Prelude.{IfSome}
-use Rattle.std.specs.List.{All, filter, flat_map}
+use Rattle.std.specs.List.{All}
 use Rattle.std.proofs.lemmas.Grind.{flat_map-append}
 use Rattle.std.proofs.lemmas.List.{append-nil, take_more}
 use Rattle.std.proofs.lemmas.List.Elements.{All-weaker}
-use Rattle.gs_index.specs.Indexes.{is_listed, after_number, numbers_after}
+use Rattle.gs_index.specs.Indexes.{is_listed, numbers_after}
 use Rattle.gs_records.specs.Records.{Recorded, record_at, is_kept, has_at}
 use Rattle.gs_records.specs.Order.{has_number, entry_of, AreListed}
 use Rattle.gs_records.proofs.Lifetimes.{first_true}
 use Rattle.gs_quads.specs.declared.runs.Source.{Source}
 use Rattle.gs_quads.specs.declared.runs.Found.{Found}
 use Rattle.gs_quads.specs.Places.{Place, numbers_of, number_at, places_left}
-use Rattle.gs_quads.specs.Found.{one_graph, all_graphs, own_graph, AreReadable, IsPlaceOf, places_found, AreFound, Adds, IsGraphOf, numbers_past, AreNext}
+use Rattle.gs_quads.specs.Found.{one_graph, all_graphs, own_graph, AreReadable, IsPlaceOf, places_found, Adds, IsGraphOf, numbers_past, AreNext}
 use Rattle.gs_quads.proofs.Adding.{adds_both}
 use Rattle.gs_quads.proofs.Numbers.{after_filter}
 

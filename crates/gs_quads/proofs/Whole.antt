@@ -8,28 +8,27 @@ use Rattle.std.proofs.lemmas.List.Elements.{recursion_from_All}
 use Rattle.std.proofs.lemmas.List.Folds.{flat_map-map}
 use Rattle.gs_model.specs.Terms.{Term}
 use Rattle.gs_model.specs.Triples.{line_of}
-use Rattle.gs_model.specs.Graphs.{Graph, triples_of, lines_of}
+use Rattle.gs_model.specs.Graphs.{triples_of, lines_of}
 use Rattle.gs_term.specs.declared.names.Target.{Target}
-use Rattle.gs_term.specs.declared.names.Target.TheVariants.{Default, Named}
 use Rattle.gs_pool.specs.declared.nodes.Key.{Key}
 use Rattle.gs_pool.specs.Pool.{Nodes}
 use Rattle.gs_tree.specs.Reading.{keys_at}
 use Rattle.gs_tree.proofs.FromLemmas.{from_all}
-use Rattle.gs_keys.specs.Texts.{triple_at, key_cmp}
-use Rattle.gs_keys.specs.Roots.{IsGraphAt, graph_at}
+use Rattle.gs_keys.specs.Texts.{key_cmp}
+use Rattle.gs_keys.specs.Roots.{graph_at}
 use Rattle.gs_keys.proofs.KeyLemmas.{triples_of_keys}
 use Rattle.gs_lines.specs.Graphs.{line_for, line_in}
 use Rattle.gs_lines.proofs.LineLemmas.{lines_of_triples}
 use Rattle.gs_catalogue.specs.declared.versions.GraphVersion.{GraphVersion}
 use Rattle.gs_catalogue.specs.Catalogues.{GraphVersions, empty_version}
-use Rattle.gs_datasets.specs.Standing.{with_values, version_graph, dataset_at}
+use Rattle.gs_datasets.specs.Standing.{version_graph, dataset_at}
 use Rattle.gs_datasets.proofs.Values.{entries-with_values}
 use Rattle.gs_records.specs.Records.{Record, Recorded}
 use Rattle.gs_records.specs.Graphs.{graphs_at}
 use Rattle.gs_records.specs.Kept.{AreSingle}
 use Rattle.gs_records.specs.Order.{has_number, AreListed, graph_of_number, graphs_listed, default_first, with_target, AreInOrder}
 use Rattle.gs_records.proofs.Ordering.{listed_in_order}
-use Rattle.gs_quads.specs.Places.{Place, target_at, root_at, numbers_of, places_of, places_in, all_places, quad_at, quads_left}
+use Rattle.gs_quads.specs.Places.{target_at, root_at, numbers_of, places_of, places_in, all_places, quad_at, quads_left}
 use Rattle.gs_quads.specs.Pieces.{AreGraphs}
 use Rattle.gs_quads.specs.Quads.{named_lines, quads_of}
 use Rattle.gs_quads.proofs.Numbers.{numbers_had}

@@ -1,13 +1,12 @@
 -- Keys of several graphs, as they are found. No public clause cites this module.
-use Rattle.std.specs.Prelude.{◌≡◌, ℕ, ◌≤◌, ◌<◌, true, List, [], ◌∷◌, ◌++◌, length, map, take, drop, Option, Some, None, IfSome, MatchOption}
+use Rattle.std.specs.Prelude.{◌≡◌, ℕ, ◌≤◌, ◌<◌, true, List, [], ◌∷◌, ◌++◌, length, map, take, drop, Option, Some, None, IfSome}
 use Rattle.std.specs.List.{All, concat, filter, sum_by}
-use Rattle.gs_model.specs.Terms.{Term}
 use Rattle.gs_pool.specs.declared.nodes.Key.{Key}
 use Rattle.gs_tree.specs.Keys.{AllKeys}
 use Rattle.gs_keys.specs.Texts.{IsGiven}
 use Rattle.gs_keys.specs.Roots.{IsGraphAt}
 use Rattle.gs_index.specs.Indexes.{is_listed, after_number, numbers_after}
-use Rattle.gs_records.specs.Records.{Record, Recorded, record_at, is_kept}
+use Rattle.gs_records.specs.Records.{Recorded, record_at, is_kept}
 use Rattle.gs_records.specs.Order.{has_number}
 use Rattle.gs_quads.specs.declared.runs.Run.{Run}
 use Rattle.gs_quads.specs.declared.runs.Source.{Source}

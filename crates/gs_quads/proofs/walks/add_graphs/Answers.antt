@@ -1,4 +1,4 @@
-use Rattle.std.proofs.Common.{◌≡◌, sym, subst, take, get_or, None}
+use Rattle.std.proofs.Common.{sym, subst, take, get_or, None}
 use Rattle.gs_quads.specs.Found.{one_graph, all_graphs, Adds}
 use Rattle.gs_quads.proofs.Adding.{adds_none, adds_both}
 use Rattle.gs_quads.proofs.Walking.{graphs_more}
