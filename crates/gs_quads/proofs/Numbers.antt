@@ -16,7 +16,7 @@ use Rattle.gs_records.specs.Order.{has_number, age_at, AreListed, goes_on}
 use Rattle.gs_records.specs.Laws.{piece_after}
 use Rattle.gs_records.proofs.Listing.{same_number}
 use Rattle.gs_records.proofs.Ordering.{number_tied}
-use Rattle.gs_quads.specs.Places.{numbers_of}
+use Rattle.gs_quads.specs.Places.{version_numbers}
 use Rattle.gs_quads.specs.Found.{AreNext}
 use Rattle.gs_quads.proofs.Lists.{cut_at, filter_passes}
 
@@ -88,11 +88,11 @@ after_filter p n passes (m ∷ ms) = go (m == n) refl (p m) refl (after_filter p
     go false is false has rest = rest
 
 -- the numbers of a version are in order
-pub numbers_sorted : (v : ℕ) (r : Recorded) → AreListed r.records r.listed → IsStrictlySortedBy (number_cmp (age_at r.records)) (numbers_of v r)
+pub numbers_sorted : (v : ℕ) (r : Recorded) → AreListed r.records r.listed → IsStrictlySortedBy (number_cmp (age_at r.records)) (version_numbers v r)
 numbers_sorted v r al = IsStrictlySortedBy-filter (number_cmp (age_at r.records)) (has_number v r.records) r.listed al.rising
 
 -- and the version has them
-pub numbers_had : (v : ℕ) (r : Recorded) → All (λ n. has_number v r.records n ≡ true) (numbers_of v r)
+pub numbers_had : (v : ℕ) (r : Recorded) → All (λ n. has_number v r.records n ≡ true) (version_numbers v r)
 numbers_had v r = filter_passes (has_number v r.records) r.listed
 
 -- so it has those that stand after one of them

@@ -14,7 +14,7 @@ use Rattle.gs_records.specs.Records.{Recorded, record_at, is_kept, has_at}
 use Rattle.gs_records.specs.Order.{entry_of, has_number, age_at, AreListed}
 use Rattle.gs_records.proofs.Listing.{same_number, all_less}
 use Rattle.gs_records.proofs.Ordering.{number_tied}
-use Rattle.gs_quads.specs.Places.{numbers_of}
+use Rattle.gs_quads.specs.Places.{version_numbers}
 use Rattle.gs_quads.specs.Laws.{HasSame}
 use Rattle.gs_quads.proofs.Numbers.{numbers_sorted, numbers_had}
 
@@ -101,7 +101,7 @@ filter_listed p n (m ∷ ms) = go (m == n) refl (p m) refl (filter_listed p n ms
     go false is false passes rest = rest
 
 -- just what a version has is among its numbers
-number_listed : (v : ℕ) (r : Recorded) → AreListed r.records r.listed → (n : ℕ) → is_listed n (numbers_of v r) ≡ has_number v r.records n
+number_listed : (v : ℕ) (r : Recorded) → AreListed r.records r.listed → (n : ℕ) → is_listed n (version_numbers v r) ≡ has_number v r.records n
 number_listed v r al n =
     filter_listed (has_number v r.records) n r.listed
     ∙ ap (λ b. b && has_number v r.records n) (al.members n)
@@ -112,9 +112,9 @@ number_listed v r al n =
     twice false b = refl
 
 -- a version has the same numbers in the same order
-pub numbers_same : (v : ℕ) (old new : Recorded) → AreListed old.records old.listed → AreListed new.records new.listed → HasSame v old new → numbers_of v new ≡ numbers_of v old
+pub numbers_same : (v : ℕ) (old new : Recorded) → AreListed old.records old.listed → AreListed new.records new.listed → HasSame v old new → version_numbers v new ≡ version_numbers v old
 numbers_same v old new al al_new same =
-    let alike : All (λ n. age_at new.records n ≡ age_at old.records n) (numbers_of v new) =
-    All-weaker (λ n. has_number v new.records n ≡ true) (λ n. age_at new.records n ≡ age_at old.records n) (λ n h. same.ages n (sym (same.numbers n) ∙ h)) (numbers_of v new) (numbers_had v new) in
-    let sorted = sorted_alike (age_at new.records) (age_at old.records) (numbers_of v new) (recursion_from_All (λ n. age_at new.records n ≡ age_at old.records n) (numbers_of v new) alike) (numbers_sorted v new al_new) in
-    same_members (age_at old.records) (numbers_of v new) (numbers_of v old) sorted (numbers_sorted v old al) (λ n. number_listed v new al_new n ∙ same.numbers n ∙ sym (number_listed v old al n))
+    let alike : All (λ n. age_at new.records n ≡ age_at old.records n) (version_numbers v new) =
+    All-weaker (λ n. has_number v new.records n ≡ true) (λ n. age_at new.records n ≡ age_at old.records n) (λ n h. same.ages n (sym (same.numbers n) ∙ h)) (version_numbers v new) (numbers_had v new) in
+    let sorted = sorted_alike (age_at new.records) (age_at old.records) (version_numbers v new) (recursion_from_All (λ n. age_at new.records n ≡ age_at old.records n) (version_numbers v new) alike) (numbers_sorted v new al_new) in
+    same_members (age_at old.records) (version_numbers v new) (version_numbers v old) sorted (numbers_sorted v old al) (λ n. number_listed v new al_new n ∙ same.numbers n ∙ sym (number_listed v old al n))

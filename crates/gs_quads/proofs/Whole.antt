@@ -28,13 +28,13 @@ use Rattle.gs_records.specs.Graphs.{graphs_at}
 use Rattle.gs_records.specs.Kept.{AreSingle}
 use Rattle.gs_records.specs.Order.{has_number, AreListed, graph_of_number, graphs_listed, default_first, with_target, AreInOrder}
 use Rattle.gs_records.proofs.Ordering.{listed_in_order}
-use Rattle.gs_quads.specs.Places.{target_at, root_at, numbers_of, places_of, places_in, all_places, quad_at, quads_left}
+use Rattle.gs_quads.specs.Places.{target_at, root_at, version_numbers, as_places, record_places, all_places, quad_at, quads_left}
 use Rattle.gs_quads.specs.Pieces.{AreGraphs}
 use Rattle.gs_quads.specs.Quads.{named_lines, quads_of}
 use Rattle.gs_quads.proofs.Numbers.{numbers_had}
 
 -- the lines of places of one record
-pub quads_of_places : (terms : List Term) (rs : List Record) (n : ℕ) (ks : List Key) → map (quad_at terms rs) (places_of n ks) ≡ map (line_in terms (target_at rs n)) ks
+pub quads_of_places : (terms : List Term) (rs : List Record) (n : ℕ) (ks : List Key) → map (quad_at terms rs) (as_places n ks) ≡ map (line_in terms (target_at rs n)) ks
 quads_of_places terms rs n [] = refl
 quads_of_places terms rs n (k ∷ ks) = ap (λ xs. line_in terms (target_at rs n) k ∷ xs) (quads_of_places terms rs n ks)
 
@@ -45,11 +45,11 @@ module _ (terms : List Term) (p : Nodes) where
 
   module _ (v : ℕ) (rs : List Record) (graphs : AreGraphs terms p v rs) where
     -- the lines of a record are those of its graph
-    lines_of_one : (n : ℕ) → has_number v rs n ≡ true → map (quad_at terms rs) (places_in terms p rs None n) ≡ graph_lines (graph_of_number rs n)
+    lines_of_one : (n : ℕ) → has_number v rs n ≡ true → map (quad_at terms rs) (record_places terms p rs None n) ≡ graph_lines (graph_of_number rs n)
     lines_of_one n has =
         let graph = graphs n has in
         let ks = keys_at p (root_at rs n) in
-        ap (λ xs. map (quad_at terms rs) (places_of n xs)) (from_all (key_cmp terms) ks)
+        ap (λ xs. map (quad_at terms rs) (as_places n xs)) (from_all (key_cmp terms) ks)
         ∙ quads_of_places terms rs n ks
         ∙ lines_of_triples terms (target_at rs n) ks
         ∙ ap (map (line_for (target_at rs n))) (sym (triples_of_keys terms ks graph.set.rising graph.given))
@@ -57,7 +57,7 @@ module _ (terms : List Term) (p : Nodes) where
     lines_of_all : (ns : List ℕ) → AllByRecursion (λ n. has_number v rs n ≡ true) ns → map (quad_at terms rs) (all_places terms p rs ns) ≡ flat_map graph_lines (map (graph_of_number rs) ns)
     lines_of_all [] h = refl
     lines_of_all (n ∷ ns) h =
-        map-append (quad_at terms rs) (places_in terms p rs None n) (all_places terms p rs ns)
+        map-append (quad_at terms rs) (record_places terms p rs None n) (all_places terms p rs ns)
         ∙ (λ i. lines_of_one n h.0 i ++ lines_of_all ns h.1 i)
 
   -- a root of no tree has no line
@@ -83,5 +83,5 @@ module _ (terms : List Term) (p : Nodes) where
 
   pub all_quads : (v : ℕ) (r : Recorded) → AreSingle r.records → AreListed r.records r.listed → AreGraphs terms p v r.records → quads_left terms p v r None ≡ quads_of (dataset_at terms p (graphs_at v r.records))
   all_quads v r single al graphs =
-      lines_of_all v r.records graphs (numbers_of v r) (recursion_from_All (λ n. has_number v r.records n ≡ true) (numbers_of v r) (numbers_had v r))
+      lines_of_all v r.records graphs (version_numbers v r) (recursion_from_All (λ n. has_number v r.records n ≡ true) (version_numbers v r) (numbers_had v r))
       ∙ lines_in_order (graphs_at v r.records) (graphs_listed v r.records r.listed) (listed_in_order v r.records r.listed single al)

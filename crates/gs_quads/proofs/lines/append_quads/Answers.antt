@@ -1,7 +1,7 @@
 use Rattle.std.proofs.Common.{◌+◌, ◌++◌, get_or, length, drop, sym, ap, subst, ◌∙◌, arith, append_assoc, length-append}
 use Rattle.gs_keys.specs.Texts.{IsGiven}
 use Rattle.gs_lines.specs.Graphs.{bytes_in}
-use Rattle.gs_quads.specs.Found.{run_places, bytes_at, AreGiven}
+use Rattle.gs_quads.specs.Found.{run_places, bytes_at, KeysAreGiven}
 use Rattle.gs_quads.proofs.Parts.{no_run, keys_after, runs_left, sizes_left}
 use Rattle.gs_quads.proofs.lines.append_quads.Goals as goal
 
@@ -17,7 +17,7 @@ loop-run-preserved c =
     let more = ap length c.append_lines.ensures.items in
     let long = sizes_left s c.args.runs.now c.loop-run.left.now c.cut.result.0.now c.cut.result.1.now c.record.result.now c.loop-run.run-index c.loop-run-test.true c.cut.ensures.front c.cut.ensures.back c.record.ensures in
     record {
-      given = subst (AreGiven s) (sym c.cut.ensures.back) (keys_after (IsGiven s.dict.now.terms) (get_or c.args.runs.now c.loop-run.run-index no_run).keys c.loop-run.left.now c.loop-run.invariant.given);
+      given = subst (KeysAreGiven s) (sym c.cut.ensures.back) (keys_after (IsGiven s.dict.now.terms) (get_or c.args.runs.now c.loop-run.run-index no_run).keys c.loop-run.left.now c.loop-run.invariant.given);
       room = omega (arith, c.loop-run.invariant.room, long, more, length-append old lines, c.append_lines.ensures.capacity);
       written =
           ap (λ xs. xs ++ rest) c.append_lines.ensures.items

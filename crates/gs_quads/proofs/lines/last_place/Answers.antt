@@ -1,5 +1,5 @@
 use Rattle.std.proofs.Common.{◌+◌, get_or, take, drop, sym, ap, ◌∙◌}
-use Rattle.gs_quads.specs.Places.{places_of}
+use Rattle.gs_quads.specs.Places.{as_places}
 use Rattle.gs_quads.specs.Found.{run_places, last_or}
 use Rattle.gs_quads.proofs.Parts.{no_run, last_is, last_both, places_cut}
 use Rattle.gs_quads.proofs.lines.last_place.Goals as goal
@@ -16,7 +16,7 @@ loop-run-preserved c =
     let last = c.loop-run.last in
     let rest = run_places (drop (i + 1) runs) (drop r.keys left) in
     (λ j. last_or (c.last_in-last.ensures j) (run_places (drop (i + 1) runs) (c.cut.ensures.back j)))
-    ∙ ap (λ ks. last_or (last_or last (places_of r.number ks)) rest) c.cut.ensures.front
-    ∙ sym (last_both last (places_of r.number (take r.keys left)) rest)
+    ∙ ap (λ ks. last_or (last_or last (as_places r.number ks)) rest) c.cut.ensures.front
+    ∙ sym (last_both last (as_places r.number (take r.keys left)) rest)
     ∙ sym (ap (last_or last) (places_cut runs left i c.loop-run-test.true))
     ∙ c.loop-run.invariant

@@ -1,7 +1,7 @@
 use Rattle.std.proofs.Common.{◌<◌, ◌^◌, get_or, length, sym, subst, arith}
 use Rattle.std.specs.Prelude.{SomeIff}
 use Rattle.gs_keys.specs.Texts.{IsGiven}
-use Rattle.gs_quads.specs.Found.{run_places, bytes_at, AreGiven}
+use Rattle.gs_quads.specs.Found.{run_places, bytes_at, KeysAreGiven}
 use Rattle.gs_quads.proofs.Parts.{no_run, keys_after, sizes_left}
 use Rattle.gs_quads.proofs.lines.quads_size.Goals as goal
 
@@ -22,7 +22,7 @@ loop-run-preserved c =
     let s = c.args.source.now in
     let left = sizes_left s c.args.runs.now c.loop-run.left.now c.cut.result.0.now c.cut.result.1.now c.record.result.now c.loop-run.run-index c.loop-run-test.true c.cut.ensures.front c.cut.ensures.back c.record.ensures in
     record {
-      given = subst (AreGiven s) (sym c.cut.ensures.back) (keys_after (IsGiven s.dict.now.terms) (get_or c.args.runs.now c.loop-run.run-index no_run).keys c.loop-run.left.now c.loop-run.invariant.given);
+      given = subst (KeysAreGiven s) (sym c.cut.ensures.back) (keys_after (IsGiven s.dict.now.terms) (get_or c.args.runs.now c.loop-run.run-index no_run).keys c.loop-run.left.now c.loop-run.invariant.given);
       counted = omega (arith, c.loop-run.invariant.counted, left, c.in_ok-size.ensures.1, c.in_ok-lines.ensures.1);
       fits = omega (arith, c.in_ok-size.ensures.0, c.in_ok-size.ensures.1);
     }
