@@ -36,10 +36,12 @@ module _ (s : Source) (most : ℕ) where
     few = let none : length f.keys.items ≡ 0 = ap length keys in omega arith;
   }
 
+  -- so there are no places
   pub no_places : (f : Found) → f.keys.items ≡ [] → f.runs.items ≡ [] → places_found f ≡ []
   no_places f keys runs = ap (λ qs. run_places qs f.keys.items) runs
 
   module _ (f : Found) (found : AreFound s most f) where
+    -- there are as many places as keys
     long : length (places_found f) ≡ length f.keys.items
     long = places_long f.runs.items f.keys.items found.whole
 
@@ -69,27 +71,33 @@ module _ (s : Source) (most : ℕ) where
   }
 
   module _ (old : Found) (found : AreFound s most old) (n : ℕ) (graph : IsGraphOf s n) (from : Option Key) (new : Found) where
+    -- the keys of the graph, and those for which there is room
     abbrev left : List Key
     left = keys_left s.dict.now.terms s.pool.now (root_at s.records.now.records n) from
 
     abbrev more : List Key
     more = take (most - length old.keys.items) left
 
+    -- their numbers were given
     more_given : KeysAreGiven s more
     more_given = keys_first (IsGiven s.dict.now.terms) (most - length old.keys.items) left (left_given s.dict.now.terms s.pool.now (root_at s.records.now.records n) graph.graph from)
 
     module _ (e : Entry) (at : record_at s.records.now.records n ≡ kept e) (had : ℕ) (had_is : had ≡ length old.keys.items) (came : new.keys.items ≡ old.keys.items ++ take (most - had) (keys_left s.dict.now.terms s.pool.now e.version.root from)) where
+      -- they came by the root of the record
       keys_are : new.keys.items ≡ old.keys.items ++ more
       keys_are =
           let root : e.version.root ≡ root_at s.records.now.records n = sym (ap (λ (r : Record). (entry_of r).version.root) at) in
           came ∙ (λ i. old.keys.items ++ take (most - had_is i) (keys_left s.dict.now.terms s.pool.now (root i) from))
 
+      -- the numbers of all keys were given
       given : KeysAreGiven s new.keys.items
       given = subst (KeysAreGiven s) (sym keys_are) (all_both (IsGiven s.dict.now.terms) old.keys.items more found.given more_given)
 
+      -- how many there are
       many : length new.keys.items ≡ length old.keys.items + length more
       many = ap length keys_are ∙ length-append old.keys.items more
 
+      -- they are not too many
       few : length new.keys.items ≤ most
       few =
           let f = found.few in

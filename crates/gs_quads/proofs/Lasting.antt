@@ -38,6 +38,7 @@ module _ (terms more : List Term) (p q : Nodes) (v : ℕ) (old new : Recorded) (
       ∙ quads_kept terms more (target_at old.records n) from (keys_at p (root_at old.records n)) given (graphs n has).given
       ∙ sym (quads_of_places terms old.records n (keys_left terms p (root_at old.records n) from))
 
+  -- the lines of some that it has
   all_last : (ns : List ℕ) → AllByRecursion (λ n. has_number v old.records n ≡ true) ns
       → map (quad_at (terms ++ more) new.records) (all_places (terms ++ more) q new.records ns) ≡ map (quad_at terms old.records) (all_places terms p old.records ns)
   all_last [] h = refl
@@ -46,12 +47,15 @@ module _ (terms more : List Term) (p q : Nodes) (v : ℕ) (old new : Recorded) (
       ∙ (λ i. one_lasts n h.0 None tt i ++ all_last ns h.1 i)
       ∙ sym (map-append (quad_at terms old.records) (record_places terms p old.records None n) (all_places terms p old.records ns))
 
+  -- the version has all of its numbers
   had : AllByRecursion (λ n. has_number v old.records n ≡ true) (version_numbers v old)
   had = recursion_from_All (λ n. has_number v old.records n ≡ true) (version_numbers v old) (numbers_had v old)
 
+  -- and has the same later
   numbers : version_numbers v new ≡ version_numbers v old
   numbers = numbers_same v old new al al_new same
 
+  -- the lines after a place, and all where none is
   pub quads_last : (from : Option Place) → IsQuadPlace terms v old.records from → quads_left (terms ++ more) q v new from ≡ quads_left terms p v old from
   quads_last None h =
       ap (λ ns. map (quad_at (terms ++ more) new.records) (all_places (terms ++ more) q new.records ns)) numbers

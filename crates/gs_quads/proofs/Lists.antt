@@ -45,6 +45,7 @@ pub data IsCutIn {A : Type 0} (us vs xs : List A) (x : A) (ys : List A) : Type 0
   inside : (zs : List A) → us ≡ xs ++ x ∷ zs → ys ≡ zs ++ vs → IsCutIn us vs xs x ys
   after : (zs : List A) → vs ≡ zs ++ x ∷ ys → IsCutIn us vs xs x ys
 
+-- it is in the first or in the second
 pub cut_in : {A : Type 0} (us vs xs : List A) (x : A) (ys : List A) → us ++ vs ≡ xs ++ x ∷ ys → IsCutIn us vs xs x ys
 cut_in [] vs xs x ys e = after xs e
 cut_in (u ∷ us) vs [] x ys e =

@@ -21,6 +21,7 @@ use Rattle.gs_quads.specs.Found.{run_places, bytes_at, run_keys, last_or}
 pub keys_first : (P : Key → Type 0) (n : ℕ) (ks : List Key) → AllKeys P ks → AllKeys P (take n ks)
 keys_first P n ks h = AllKeys-front P (take n ks) (drop n ks) (subst (AllKeys P) (sym (take-append-drop n ks)) h)
 
+-- the same of those after them
 pub keys_after : (P : Key → Type 0) (n : ℕ) (ks : List Key) → AllKeys P ks → AllKeys P (drop n ks)
 keys_after P n ks h = AllKeys-back P (take n ks) (drop n ks) (subst (AllKeys P) (sym (take-append-drop n ks)) h)
 
@@ -110,6 +111,7 @@ module _ (s : Source) where
 
   -- the lines of the runs that are left, cut after the first, whose record this is
   module _ (runs : List Run) (ks own rest : List Key) (e : Entry) (i : ℕ) (within : i < length runs) (own_is : own ≡ take (get_or runs i no_run).keys ks) (rest_is : rest ≡ drop (get_or runs i no_run).keys ks) (at : record_at s.records.now.records (get_or runs i no_run).number ≡ kept e) where
+    -- as bytes
     pub runs_left : bytes_at s (run_places (drop i runs) ks) ≡ bytes_in s.dict.now.terms e.target own ++ bytes_at s (run_places (drop (i + 1) runs) rest)
     runs_left =
         let r = get_or runs i no_run in
@@ -120,6 +122,7 @@ module _ (s : Source) where
         ∙ bytes_cut r.number (take r.keys ks) (run_places (drop (i + 1) runs) (drop r.keys ks))
         ∙ (λ j. bytes_in s.dict.now.terms (graph j) (first j) ++ bytes_at s (run_places (drop (i + 1) runs) (others j)))
 
+    -- and how many there are
     pub sizes_left : length (bytes_at s (run_places (drop i runs) ks)) ≡ length (bytes_in s.dict.now.terms e.target own) + length (bytes_at s (run_places (drop (i + 1) runs) rest))
     sizes_left = ap length runs_left ∙ length-append (bytes_in s.dict.now.terms e.target own) (bytes_at s (run_places (drop (i + 1) runs) rest))
 
@@ -128,10 +131,12 @@ pub last_both : (o : Option Place) (xs ys : List Place) → last_or o (xs ++ ys)
 last_both o [] ys = refl
 last_both o (x ∷ xs) ys = last_both (Some x) xs ys
 
+-- the last of places after another
 last_some : (y : Place) (xs : List Place) → last_or (Some y) xs ≡ slice_get (y ∷ xs) (length xs)
 last_some y [] = refl
 last_some y (x ∷ xs) = last_some x xs
 
+-- the last of places, by both definitions
 pub last_is : (xs : List Place) → last_or None xs ≡ last_place xs
 last_is [] = refl
 last_is (x ∷ xs) = let e : length xs ≡ length (x ∷ xs) - 1 = omega arith in last_some x xs ∙ ap (slice_get (x ∷ xs)) e

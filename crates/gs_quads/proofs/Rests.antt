@@ -34,9 +34,11 @@ record IsKeyCut (n : ℕ) (ks : List Key) (x : Place) (zs : List Place) : Type 0
   cut : ks ≡ before ++ key ∷ behind
   rest : zs ≡ as_places n behind
 
+-- with one key more before them
 longer_cut : (n : ℕ) (k : Key) (ks : List Key) (x : Place) (zs : List Place) → IsKeyCut n ks x zs → IsKeyCut n (k ∷ ks) x zs
 longer_cut n k ks x zs c = record { key = c.key; before = k ∷ c.before; behind = c.behind; place = c.place; cut = ap (λ ys. k ∷ ys) c.cut; rest = c.rest }
 
+-- the place of one is cut out of theirs
 key_cut : (n : ℕ) (ks : List Key) (xs : List Place) (x : Place) (zs : List Place) → as_places n ks ≡ xs ++ x ∷ zs → IsKeyCut n ks x zs
 key_cut n [] xs x zs e = absurd (none_there xs x zs e)
 key_cut n (k ∷ ks) [] x zs e =
@@ -51,10 +53,12 @@ key_cut n (k ∷ ks) (y ∷ xs) x zs e =
 abbrev pub IsAt : List Term → ℕ → Recorded → Place → Type 0
 IsAt terms v r x = (has_number v r.records x.0 ≡ true) × IsGiven terms x.1
 
+-- what stands for a place where there is none
 any_place : Place
 any_place = (0, any_key)
 
 module _ (terms : List Term) (p : Nodes) (v : ℕ) (r : Recorded) (graphs : AreGraphs terms p v r.records) where
+  -- the places of keys whose numbers were given
   own_at : (n : ℕ) → has_number v r.records n ≡ true → (ks : List Key) → AllKeys (IsGiven terms) ks → All (IsAt terms v r) (as_places n ks)
   own_at n has ks h = All-map (IsAt terms v r) (λ k. (n, k)) ks (λ k d lt. (has, given ks h k d lt))
     where
@@ -62,13 +66,16 @@ module _ (terms : List Term) (p : Nodes) (v : ℕ) (r : Recorded) (graphs : AreG
       given [] h = All-nil (IsGiven terms)
       given (k ∷ ks) h = All-cons (IsGiven terms) k ks h.0 (given ks h.1)
 
+  -- those of a record
   in_at : (n : ℕ) → has_number v r.records n ≡ true → (from : Option Key) → All (IsAt terms v r) (record_places terms p r.records from n)
   in_at n has from = own_at n has (keys_left terms p (root_at r.records n) from) (left_given terms p (root_at r.records n) (graphs n has) from)
 
+  -- those of some records
   all_at : (ns : List ℕ) → AllByRecursion (λ n. has_number v r.records n ≡ true) ns → All (IsAt terms v r) (all_places terms p r.records ns)
   all_at [] h = All-nil (IsAt terms v r)
   all_at (n ∷ ns) h = All-append (IsAt terms v r) (record_places terms p r.records None n) (all_places terms p r.records ns) (in_at n h.0 None) (all_at ns h.1)
 
+  -- the version has all of its numbers
   had : AllByRecursion (λ n. has_number v r.records n ≡ true) (version_numbers v r)
   had = recursion_from_All (λ n. has_number v r.records n ≡ true) (version_numbers v r) (numbers_had v r)
 
@@ -79,6 +86,7 @@ module _ (terms : List Term) (p : Nodes) (v : ℕ) (r : Recorded) (graphs : AreG
       All-append (IsAt terms v r) (record_places terms p r.records (Some x.1) x.0) (all_places terms p r.records (after_number x.0 (version_numbers v r)))
       (in_at x.0 h.0 (Some x.1)) (all_at (after_number x.0 (version_numbers v r)) (had_after (λ n. has_number v r.records n ≡ true) x.0 (version_numbers v r) had))
 
+  -- one of such places, or none, is a place to read from
   place_at : (xs : List Place) (i : ℕ) → All (IsAt terms v r) xs → IsQuadPlace terms v r.records (slice_get xs i)
   place_at xs i h = elim (cases_lt i (length xs)) [
     | inl within ↦ subst (IsQuadPlace terms v r.records) (sym (slice_get-get_or xs i any_place within)) (All-get_or (IsAt terms v r) xs i any_place within h)
@@ -86,9 +94,11 @@ module _ (terms : List Term) (p : Nodes) (v : ℕ) (r : Recorded) (graphs : AreG
   ]
 
   module _ (al : AreListed r.records r.listed) where
+    -- the numbers of the version
     abbrev ns : List ℕ
     ns = version_numbers v r
 
+    -- they are in order
     sorted : IsStrictlySortedBy (number_cmp (age_at r.records)) ns
     sorted = numbers_sorted v r al
 
@@ -103,6 +113,7 @@ module _ (terms : List Term) (p : Nodes) (v : ℕ) (r : Recorded) (graphs : AreG
         ∙ (λ i. as_places n (left i) ++ all_places terms p r.records (later_is i))
         ∙ sym (others ∙ ap (λ us. us ++ all_places terms p r.records later) c.rest)
 
+    -- the same, wherever the place is among all of these
     walk : (later : List ℕ) (n : ℕ) (from : Option Key) → has_number v r.records n ≡ true → after_number n ns ≡ later → AllByRecursion (λ m. has_number v r.records m ≡ true) later → (xs : List Place) (x : Place) (ys : List Place)
         → record_places terms p r.records from n ++ all_places terms p r.records later ≡ xs ++ x ∷ ys → places_left terms p v r (Some x) ≡ ys
     walk [] n from has later_is all xs x ys e = go (cut_in (record_places terms p r.records from n) [] xs x ys e)
@@ -119,6 +130,7 @@ module _ (terms : List Term) (p : Nodes) (v : ℕ) (r : Recorded) (graphs : AreG
         go farther (inside zs is others) = here n from (m ∷ later) has later_is xs x ys zs is others
         go farther (after zs is) = farther zs is
 
+    -- the same from the beginning on
     first : (later : List ℕ) → ns ≡ later → AllByRecursion (λ m. has_number v r.records m ≡ true) later → (xs : List Place) (x : Place) (ys : List Place)
         → all_places terms p r.records later ≡ xs ++ x ∷ ys → places_left terms p v r (Some x) ≡ ys
     first [] is all xs x ys e = absurd (none_there xs x ys e)

@@ -38,6 +38,7 @@ module _ (s : Source) (v : ℕ) (graphs : AreReadable s v) where
   pub graph_of : (n : ℕ) → has_number v s.records.now.records n ≡ true → IsGraphOf s n
   graph_of n h = record { kept = had_kept v s.records.now n h; graph = graphs n h }
 
+  -- the same of some numbers
   pub graphs_of : (ns : List ℕ) → All (λ n. has_number v s.records.now.records n ≡ true) ns → All (IsGraphOf s) ns
   graphs_of ns h = All-weaker (λ n. has_number v s.records.now.records n ≡ true) (IsGraphOf s) graph_of ns h
 
@@ -46,10 +47,12 @@ module _ (s : Source) (v : ℕ) (graphs : AreReadable s v) where
   place_graph None h = tt
   place_graph (Some x) h = graph_of x.0 h.0
 
+  -- its number is listed
   pub place_listed : AreListed s.records.now.records s.records.now.listed → (from : Option Place) → IsQuadPlaceOf s v from → IfSome (number_at from) (λ n. is_listed n s.records.now.listed ≡ true)
   place_listed al None h = tt
   place_listed al (Some x) h = al.members x.0 ∙ had_kept v s.records.now x.0 h.0
 
+  -- and the version has it
   place_had : (from : Option Place) → IsQuadPlaceOf s v from → IfSome (number_at from) (λ n. has_number v s.records.now.records n ≡ true)
   place_had None h = tt
   place_had (Some x) h = h.0

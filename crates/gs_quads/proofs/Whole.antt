@@ -54,6 +54,7 @@ module _ (terms : List Term) (p : Nodes) where
         ∙ lines_of_triples terms (target_at rs n) ks
         ∙ ap (map (line_for (target_at rs n))) (sym (triples_of_keys terms ks graph.set.rising graph.given))
 
+    -- the same of some records
     lines_of_all : (ns : List ℕ) → AllByRecursion (λ n. has_number v rs n ≡ true) ns → map (quad_at terms rs) (all_places terms p rs ns) ≡ flat_map graph_lines (map (graph_of_number rs) ns)
     lines_of_all [] h = refl
     lines_of_all (n ∷ ns) h =
@@ -81,6 +82,7 @@ module _ (terms : List Term) (p : Nodes) where
       ∙ flat_map-append graph_lines (default_first o.unnamed) (map with_target es)
       ∙ (λ i. lines_of_default g.unnamed o.unnamed o.default i ++ named i)
 
+  -- the lines of a version are those of its dataset
   pub all_quads : (v : ℕ) (r : Recorded) → AreSingle r.records → AreListed r.records r.listed → AreGraphs terms p v r.records → quads_left terms p v r None ≡ quads_of (dataset_at terms p (graphs_at v r.records))
   all_quads v r single al graphs =
       lines_of_all v r.records graphs (version_numbers v r) (recursion_from_All (λ n. has_number v r.records n ≡ true) (version_numbers v r) (numbers_had v r))
