@@ -14,11 +14,11 @@ use Rattle.gs_lines.specs.Graphs.{line_in}
 use Rattle.gs_lines.specs.Pieces.{IsCursor, keys_left}
 use Rattle.gs_lines.proofs.LineLemmas.{quads_kept}
 use Rattle.gs_catalogue.specs.declared.versions.GraphVersion.{GraphVersion}
-use Rattle.gs_index.specs.Indexes.{after_number, numbers_after}
+use Rattle.gs_index.specs.Indexes.{after_number}
 use Rattle.gs_records.specs.Records.{Recorded}
 use Rattle.gs_records.specs.Order.{has_number, AreListed, graph_of_number}
-use Rattle.gs_quads.specs.Places.{Place, target_at, root_at, numbers_of, places_of, places_in, all_places, number_at, quad_at, quads_left}
-use Rattle.gs_quads.specs.Pieces.{AreGraphs, IsPlace}
+use Rattle.gs_quads.specs.Places.{Place, target_at, root_at, version_numbers, record_places, all_places, quad_at, quads_left}
+use Rattle.gs_quads.specs.Pieces.{AreGraphs, IsQuadPlace}
 use Rattle.gs_quads.specs.Laws.{HasSame, HasTrees}
 use Rattle.gs_quads.proofs.Numbers.{numbers_had, had_after}
 use Rattle.gs_quads.proofs.Same.{numbers_same}
@@ -27,7 +27,7 @@ use Rattle.gs_quads.proofs.Whole.{quads_of_places}
 module _ (terms more : List Term) (p q : Nodes) (v : ℕ) (old new : Recorded) (al : AreListed old.records old.listed) (al_new : AreListed new.records new.listed) (graphs : AreGraphs terms p v old.records) (same : HasSame v old new) (trees : HasTrees v old.records p q) where
   -- the lines of a record that the version has
   one_lasts : (n : ℕ) → has_number v old.records n ≡ true → (from : Option Key) → IsCursor terms from
-      → map (quad_at (terms ++ more) new.records) (places_in (terms ++ more) q new.records from n) ≡ map (quad_at terms old.records) (places_in terms p old.records from n)
+      → map (quad_at (terms ++ more) new.records) (record_places (terms ++ more) q new.records from n) ≡ map (quad_at terms old.records) (record_places terms p old.records from n)
   one_lasts n has from given =
       let graph : graph_of_number new.records n ≡ graph_of_number old.records n = same.graphs n has in
       let target : target_at new.records n ≡ target_at old.records n = ap (λ (g : Target × GraphVersion). g.0) graph in
@@ -38,29 +38,33 @@ module _ (terms more : List Term) (p q : Nodes) (v : ℕ) (old new : Recorded) (
       ∙ quads_kept terms more (target_at old.records n) from (keys_at p (root_at old.records n)) given (graphs n has).given
       ∙ sym (quads_of_places terms old.records n (keys_left terms p (root_at old.records n) from))
 
+  -- the lines of some that it has
   all_last : (ns : List ℕ) → AllByRecursion (λ n. has_number v old.records n ≡ true) ns
       → map (quad_at (terms ++ more) new.records) (all_places (terms ++ more) q new.records ns) ≡ map (quad_at terms old.records) (all_places terms p old.records ns)
   all_last [] h = refl
   all_last (n ∷ ns) h =
-      map-append (quad_at (terms ++ more) new.records) (places_in (terms ++ more) q new.records None n) (all_places (terms ++ more) q new.records ns)
+      map-append (quad_at (terms ++ more) new.records) (record_places (terms ++ more) q new.records None n) (all_places (terms ++ more) q new.records ns)
       ∙ (λ i. one_lasts n h.0 None tt i ++ all_last ns h.1 i)
-      ∙ sym (map-append (quad_at terms old.records) (places_in terms p old.records None n) (all_places terms p old.records ns))
+      ∙ sym (map-append (quad_at terms old.records) (record_places terms p old.records None n) (all_places terms p old.records ns))
 
-  had : AllByRecursion (λ n. has_number v old.records n ≡ true) (numbers_of v old)
-  had = recursion_from_All (λ n. has_number v old.records n ≡ true) (numbers_of v old) (numbers_had v old)
+  -- the version has all of its numbers
+  had : AllByRecursion (λ n. has_number v old.records n ≡ true) (version_numbers v old)
+  had = recursion_from_All (λ n. has_number v old.records n ≡ true) (version_numbers v old) (numbers_had v old)
 
-  numbers : numbers_of v new ≡ numbers_of v old
+  -- and has the same later
+  numbers : version_numbers v new ≡ version_numbers v old
   numbers = numbers_same v old new al al_new same
 
-  pub quads_last : (from : Option Place) → IsPlace terms v old.records from → quads_left (terms ++ more) q v new from ≡ quads_left terms p v old from
+  -- the lines after a place, and all where none is
+  pub quads_last : (from : Option Place) → IsQuadPlace terms v old.records from → quads_left (terms ++ more) q v new from ≡ quads_left terms p v old from
   quads_last None h =
       ap (λ ns. map (quad_at (terms ++ more) new.records) (all_places (terms ++ more) q new.records ns)) numbers
-      ∙ all_last (numbers_of v old) had
+      ∙ all_last (version_numbers v old) had
   quads_last (Some x) h =
       let new_quad = quad_at (terms ++ more) new.records in
       let old_quad = quad_at terms old.records in
-      let ns = after_number x.0 (numbers_of v old) in
-      map-append new_quad (places_in (terms ++ more) q new.records (Some x.1) x.0) (all_places (terms ++ more) q new.records (after_number x.0 (numbers_of v new)))
-      ∙ ap (λ ms. map new_quad (places_in (terms ++ more) q new.records (Some x.1) x.0) ++ map new_quad (all_places (terms ++ more) q new.records (after_number x.0 ms))) numbers
-      ∙ (λ i. one_lasts x.0 h.0 (Some x.1) h.1 i ++ all_last ns (had_after (λ n. has_number v old.records n ≡ true) x.0 (numbers_of v old) had) i)
-      ∙ sym (map-append old_quad (places_in terms p old.records (Some x.1) x.0) (all_places terms p old.records ns))
+      let ns = after_number x.0 (version_numbers v old) in
+      map-append new_quad (record_places (terms ++ more) q new.records (Some x.1) x.0) (all_places (terms ++ more) q new.records (after_number x.0 (version_numbers v new)))
+      ∙ ap (λ ms. map new_quad (record_places (terms ++ more) q new.records (Some x.1) x.0) ++ map new_quad (all_places (terms ++ more) q new.records (after_number x.0 ms))) numbers
+      ∙ (λ i. one_lasts x.0 h.0 (Some x.1) h.1 i ++ all_last ns (had_after (λ n. has_number v old.records n ≡ true) x.0 (version_numbers v old) had) i)
+      ∙ sym (map-append old_quad (record_places terms p old.records (Some x.1) x.0) (all_places terms p old.records ns))

@@ -1,5 +1,5 @@
 -- Lists that are cut at one of their elements, or after so many.
-use Rattle.std.proofs.Common.{◌≡◌, ℕ, ◌+◌, ◌-◌, ◌<◌, ◌≤◌, min, Bool, true, false, cond, List, [], ◌∷◌, ◌++◌, length, get_or, take, drop, slice_get, Option, Some, None, refl, sym, ap, ◌∙◌, inl, inr, arith, length-append}
+use Rattle.std.proofs.Common.{◌≡◌, ℕ, ◌+◌, ◌<◌, ◌≤◌, min, Bool, true, false, cond, List, [], ◌∷◌, ◌++◌, length, get_or, take, drop, refl, sym, ap, ◌∙◌, inl, inr, arith, length-append}
 use Rattle.std.specs.List.{All, filter}
 use Rattle.std.proofs.lemmas.Bool.{cases_lt}
 use Rattle.std.proofs.lemmas.List.{take-append-drop, take-append-le, length-take, length-take-le, take_all, drop_all, drop_more}
@@ -45,6 +45,7 @@ pub data IsCutIn {A : Type 0} (us vs xs : List A) (x : A) (ys : List A) : Type 0
   inside : (zs : List A) → us ≡ xs ++ x ∷ zs → ys ≡ zs ++ vs → IsCutIn us vs xs x ys
   after : (zs : List A) → vs ≡ zs ++ x ∷ ys → IsCutIn us vs xs x ys
 
+-- it is in the first or in the second
 pub cut_in : {A : Type 0} (us vs xs : List A) (x : A) (ys : List A) → us ++ vs ≡ xs ++ x ∷ ys → IsCutIn us vs xs x ys
 cut_in [] vs xs x ys e = after xs e
 cut_in (u ∷ us) vs [] x ys e =

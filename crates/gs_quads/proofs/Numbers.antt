@@ -1,12 +1,10 @@
 -- Numbers that are listed in order, and those of them that a version has: what stands after one, and walks over them.
-use Rattle.std.proofs.Common.{◌≡◌, ℕ, ◌+◌, ◌-◌, ◌<◌, ◌≤◌, Bool, true, false, cond, ◌==◌, ◌||◌, ltb, min, List, [], ◌∷◌, ◌++◌, length, get_or, take, drop, slice_get, Option, Some, None, refl, sym, ap, ◌∙◌, subst, inl, inr, arith, append_assoc, length-append, true≢false}
-use Rattle.std.specs.Prelude.{IfSome}
+use Rattle.std.proofs.Common.{◌≡◌, ℕ, ◌+◌, ◌-◌, ◌<◌, ◌≤◌, Bool, true, false, cond, ◌==◌, ◌||◌, ltb, List, [], ◌∷◌, ◌++◌, length, get_or, take, drop, slice_get, Option, Some, None, refl, sym, ap, ◌∙◌, subst, inl, inr, arith, append_assoc, length-append, true≢false}
 use Rattle.std.specs.List.{All, AllByRecursion, filter}
 use Rattle.std.specs.List.Sorted.{IsStrictlySortedBy}
-use Rattle.std.specs.declared.cmp.Ordering.{Ordering}
 use Rattle.std.specs.declared.cmp.Ordering.TheVariants.{Less}
 use Rattle.std.proofs.lemmas.Bool.{cases_Bool, ltb-true, ltb-false}
-use Rattle.std.proofs.lemmas.List.{take-append-drop, length-take, length-take-le, length-drop, take_all, get_or-take, append-nil}
+use Rattle.std.proofs.lemmas.List.{take-append-drop, length-take, take_all, get_or-take, append-nil}
 use Rattle.std.proofs.lemmas.List.Elements.{filter-append}
 use Rattle.std.proofs.lemmas.List.Kept.{IsStrictlySortedBy-filter}
 use Rattle.std.proofs.lemmas.Map.Views.{exact_unsigned_eq}
@@ -18,8 +16,8 @@ use Rattle.gs_records.specs.Order.{has_number, age_at, AreListed, goes_on}
 use Rattle.gs_records.specs.Laws.{piece_after}
 use Rattle.gs_records.proofs.Listing.{same_number}
 use Rattle.gs_records.proofs.Ordering.{number_tied}
-use Rattle.gs_quads.specs.Places.{numbers_of}
-use Rattle.gs_quads.specs.Found.{numbers_past, numbers_on, AreNext}
+use Rattle.gs_quads.specs.Places.{version_numbers}
+use Rattle.gs_quads.specs.Found.{AreNext}
 use Rattle.gs_quads.proofs.Lists.{cut_at, filter_passes}
 
 -- what stands after a number is the end of the list
@@ -27,6 +25,7 @@ record IsEnd (ns end : List ℕ) : Type 0 where
   before : List ℕ
   whole : ns ≡ before ++ end
 
+-- the end that stands after a number
 end_after : (n : ℕ) (ns : List ℕ) → IsEnd ns (after_number n ns)
 end_after n [] = record { before = []; whole = refl }
 end_after n (m ∷ ms) = go (end_after n ms) (m == n)
@@ -35,14 +34,17 @@ end_after n (m ∷ ms) = go (end_after n ms) (m == n)
     go e true = record { before = m ∷ []; whole = refl }
     go e false = record { before = m ∷ e.before; whole = ap (λ xs. m ∷ xs) e.whole }
 
+-- the same, and the whole list where no number is given
 end_from : (from : Option ℕ) (ns : List ℕ) → IsEnd ns (numbers_after from ns)
 end_from None ns = record { before = []; whole = refl }
 end_from (Some n) ns = end_after n ns
 
+-- what holds of all numbers holds of one among them
 all_there : (P : ℕ → Type 0) (xs : List ℕ) (n : ℕ) (ys : List ℕ) → AllByRecursion P (xs ++ n ∷ ys) → P n
 all_there P [] n ys h = h.0
 all_there P (x ∷ xs) n ys h = all_there P xs n ys h.1
 
+-- it is listed
 listed_there : (n : ℕ) (xs ys : List ℕ) → is_listed n (xs ++ n ∷ ys) ≡ true
 listed_there n [] ys = ap (λ b. b || is_listed n ys) (same_number n)
 listed_there n (x ∷ xs) ys = go (x == n) (listed_there n xs ys)
@@ -52,6 +54,7 @@ listed_there n (x ∷ xs) ys = go (x == n) (listed_there n xs ys)
     go false later = later
 
 module _ (rs : List Record) where
+  -- after a number stands what follows it, where all numbers rise
   after_here : (n : ℕ) (xs ys : List ℕ) → IsStrictlySortedBy (number_cmp (age_at rs)) (xs ++ n ∷ ys) → after_number n (xs ++ n ∷ ys) ≡ ys
   unfolding IsStrictlySortedBy
   after_here n [] ys s = ap (λ b. cond b ys (after_number n ys)) (same_number n)
@@ -63,6 +66,7 @@ module _ (rs : List Record) where
   ]
 
   module _ (ns : List ℕ) (sorted : IsStrictlySortedBy (number_cmp (age_at rs)) ns) (from : Option ℕ) (xs : List ℕ) (n : ℕ) (ys : List ℕ) (cut : numbers_after from ns ≡ xs ++ n ∷ ys) where
+    -- the list, cut at the number
     whole : ns ≡ ((end_from from ns).before ++ xs) ++ n ∷ ys
     whole =
         let e = end_from from ns in
@@ -74,6 +78,7 @@ module _ (rs : List Record) where
         let front = (end_from from ns).before ++ xs in
         ap (after_number n) whole ∙ after_here n front ys (subst (IsStrictlySortedBy (number_cmp (age_at rs))) whole sorted)
 
+    -- it is listed
     pub listed_cut : is_listed n ns ≡ true
     listed_cut = ap (is_listed n) whole ∙ listed_there n ((end_from from ns).before ++ xs) ys
 
@@ -90,11 +95,11 @@ after_filter p n passes (m ∷ ms) = go (m == n) refl (p m) refl (after_filter p
     go false is false has rest = rest
 
 -- the numbers of a version are in order
-pub numbers_sorted : (v : ℕ) (r : Recorded) → AreListed r.records r.listed → IsStrictlySortedBy (number_cmp (age_at r.records)) (numbers_of v r)
+pub numbers_sorted : (v : ℕ) (r : Recorded) → AreListed r.records r.listed → IsStrictlySortedBy (number_cmp (age_at r.records)) (version_numbers v r)
 numbers_sorted v r al = IsStrictlySortedBy-filter (number_cmp (age_at r.records)) (has_number v r.records) r.listed al.rising
 
 -- and the version has them
-pub numbers_had : (v : ℕ) (r : Recorded) → All (λ n. has_number v r.records n ≡ true) (numbers_of v r)
+pub numbers_had : (v : ℕ) (r : Recorded) → All (λ n. has_number v r.records n ≡ true) (version_numbers v r)
 numbers_had v r = filter_passes (has_number v r.records) r.listed
 
 -- so it has those that stand after one of them
@@ -135,9 +140,11 @@ ends_whole most xs some e = elim (cases_Bool (ltb (length (take most xs)) most))
 ]
 
 module _ (most v : ℕ) (r : Recorded) (some : 0 < most) (al : AreListed r.records r.listed) (from : Option ℕ) (numbers : List ℕ) where
+  -- what is searched
   abbrev xs : List ℕ
   xs = numbers_after from r.listed
 
+  -- whether the version has a number
   abbrev has : ℕ → Bool
   has = has_number v r.records
 

@@ -14,7 +14,7 @@ use Rattle.gs_records.specs.Records.{Recorded, record_at, is_kept, has_at}
 use Rattle.gs_records.specs.Order.{entry_of, has_number, age_at, AreListed}
 use Rattle.gs_records.proofs.Listing.{same_number, all_less}
 use Rattle.gs_records.proofs.Ordering.{number_tied}
-use Rattle.gs_quads.specs.Places.{numbers_of}
+use Rattle.gs_quads.specs.Places.{version_numbers}
 use Rattle.gs_quads.specs.Laws.{HasSame}
 use Rattle.gs_quads.proofs.Numbers.{numbers_sorted, numbers_had}
 
@@ -27,9 +27,11 @@ later_listed : (x y : ℕ) (xs : List ℕ) → (x == y) ≡ false → is_listed 
 later_listed x y xs off = ap (λ b. b || is_listed y xs) off
 
 module _ (age : ℕ → Age) where
+  -- no two numbers come each before the other
   less_twice : (m n : ℕ) → number_cmp age m n ≡ Less → number_cmp age n m ≡ Less → ⊥
   less_twice m n a b = number_tied age m ((key_total age).trans (key_of m) (key_of n) (key_of m) a b)
 
+  -- a number is not among those above it
   not_above : (n : ℕ) (ns : List ℕ) → AllByRecursion (λ m. number_cmp age n m ≡ Less) ns → is_listed n ns ≡ false
   not_above n ns above = go (is_listed n ns) refl
     where
@@ -38,6 +40,7 @@ module _ (age : ℕ → Age) where
       go false is = is
 
   module _ (x y : ℕ) (xs ys : List ℕ) (above_x : AllByRecursion (λ m. number_cmp age x m ≡ Less) xs) (above_y : AllByRecursion (λ m. number_cmp age y m ≡ Less) ys) (same : (n : ℕ) → is_listed n (x ∷ xs) ≡ is_listed n (y ∷ ys)) where
+    -- the first of both are the same
     first_same : x ≡ y
     first_same = elim (cases_Bool (x == y)) [
       | inl is ↦ exact_unsigned_eq x y is
@@ -50,6 +53,7 @@ module _ (age : ℕ → Age) where
       ]
     ]
 
+    -- the others have the same members
     rest_same : (n : ℕ) → is_listed n xs ≡ is_listed n ys
     rest_same n = elim (cases_Bool (x == n)) [
       | inl is ↦
@@ -61,6 +65,7 @@ module _ (age : ℕ → Age) where
           sym (later_listed x n xs off) ∙ same n ∙ later_listed y n ys off_y
     ]
 
+  -- lists with the same members are the same
   pub same_members : (xs ys : List ℕ) → IsStrictlySortedBy (number_cmp age) xs → IsStrictlySortedBy (number_cmp age) ys → ((n : ℕ) → is_listed n xs ≡ is_listed n ys) → xs ≡ ys
   unfolding IsStrictlySortedBy
   same_members [] [] sx sy same = refl
@@ -79,6 +84,7 @@ all_alike f g n (m ∷ ms) is alike h =
     let eq : number_cmp f n m ≡ number_cmp g n m = λ i. ordering_then (age_cmp (is i) (other i)) (nat_cmp m n) in
     (sym eq ∙ h.0, all_alike f g n ms is alike.1 h.1)
 
+-- the same of a whole list
 pub sorted_alike : (f g : ℕ → Age) (ns : List ℕ) → AllByRecursion (λ n. f n ≡ g n) ns → IsStrictlySortedBy (number_cmp f) ns → IsStrictlySortedBy (number_cmp g) ns
 unfolding IsStrictlySortedBy
 sorted_alike f g [] alike s = tt
@@ -89,6 +95,7 @@ filter_listed : (p : ℕ → Bool) (n : ℕ) (ns : List ℕ) → is_listed n (fi
 filter_listed p n [] = refl
 filter_listed p n (m ∷ ms) = go (m == n) refl (p m) refl (filter_listed p n ms)
   where
+    -- a test that fails, after any other
     never : (b c : Bool) → c ≡ false → (b && c) ≡ c
     never true c is = refl
     never false c is = sym is
@@ -101,20 +108,21 @@ filter_listed p n (m ∷ ms) = go (m == n) refl (p m) refl (filter_listed p n ms
     go false is false passes rest = rest
 
 -- just what a version has is among its numbers
-number_listed : (v : ℕ) (r : Recorded) → AreListed r.records r.listed → (n : ℕ) → is_listed n (numbers_of v r) ≡ has_number v r.records n
+number_listed : (v : ℕ) (r : Recorded) → AreListed r.records r.listed → (n : ℕ) → is_listed n (version_numbers v r) ≡ has_number v r.records n
 number_listed v r al n =
     filter_listed (has_number v r.records) n r.listed
     ∙ ap (λ b. b && has_number v r.records n) (al.members n)
     ∙ twice (is_kept (record_at r.records n)) (has_at v (entry_of (record_at r.records n)))
   where
+    -- a test that is asked twice
     twice : (a b : Bool) → (a && (a && b)) ≡ (a && b)
     twice true b = refl
     twice false b = refl
 
 -- a version has the same numbers in the same order
-pub numbers_same : (v : ℕ) (old new : Recorded) → AreListed old.records old.listed → AreListed new.records new.listed → HasSame v old new → numbers_of v new ≡ numbers_of v old
+pub numbers_same : (v : ℕ) (old new : Recorded) → AreListed old.records old.listed → AreListed new.records new.listed → HasSame v old new → version_numbers v new ≡ version_numbers v old
 numbers_same v old new al al_new same =
-    let alike : All (λ n. age_at new.records n ≡ age_at old.records n) (numbers_of v new) =
-    All-weaker (λ n. has_number v new.records n ≡ true) (λ n. age_at new.records n ≡ age_at old.records n) (λ n h. same.ages n (sym (same.numbers n) ∙ h)) (numbers_of v new) (numbers_had v new) in
-    let sorted = sorted_alike (age_at new.records) (age_at old.records) (numbers_of v new) (recursion_from_All (λ n. age_at new.records n ≡ age_at old.records n) (numbers_of v new) alike) (numbers_sorted v new al_new) in
-    same_members (age_at old.records) (numbers_of v new) (numbers_of v old) sorted (numbers_sorted v old al) (λ n. number_listed v new al_new n ∙ same.numbers n ∙ sym (number_listed v old al n))
+    let alike : All (λ n. age_at new.records n ≡ age_at old.records n) (version_numbers v new) =
+    All-weaker (λ n. has_number v new.records n ≡ true) (λ n. age_at new.records n ≡ age_at old.records n) (λ n h. same.ages n (sym (same.numbers n) ∙ h)) (version_numbers v new) (numbers_had v new) in
+    let sorted = sorted_alike (age_at new.records) (age_at old.records) (version_numbers v new) (recursion_from_All (λ n. age_at new.records n ≡ age_at old.records n) (version_numbers v new) alike) (numbers_sorted v new al_new) in
+    same_members (age_at old.records) (version_numbers v new) (version_numbers v old) sorted (numbers_sorted v old al) (λ n. number_listed v new al_new n ∙ same.numbers n ∙ sym (number_listed v old al n))

@@ -8,34 +8,33 @@ use Rattle.std.proofs.lemmas.List.Elements.{recursion_from_All}
 use Rattle.std.proofs.lemmas.List.Folds.{flat_map-map}
 use Rattle.gs_model.specs.Terms.{Term}
 use Rattle.gs_model.specs.Triples.{line_of}
-use Rattle.gs_model.specs.Graphs.{Graph, triples_of, lines_of}
+use Rattle.gs_model.specs.Graphs.{triples_of, lines_of}
 use Rattle.gs_term.specs.declared.names.Target.{Target}
-use Rattle.gs_term.specs.declared.names.Target.TheVariants.{Default, Named}
 use Rattle.gs_pool.specs.declared.nodes.Key.{Key}
 use Rattle.gs_pool.specs.Pool.{Nodes}
 use Rattle.gs_tree.specs.Reading.{keys_at}
 use Rattle.gs_tree.proofs.FromLemmas.{from_all}
-use Rattle.gs_keys.specs.Texts.{triple_at, key_cmp}
-use Rattle.gs_keys.specs.Roots.{IsGraphAt, graph_at}
+use Rattle.gs_keys.specs.Texts.{key_cmp}
+use Rattle.gs_keys.specs.Roots.{graph_at}
 use Rattle.gs_keys.proofs.KeyLemmas.{triples_of_keys}
 use Rattle.gs_lines.specs.Graphs.{line_for, line_in}
 use Rattle.gs_lines.proofs.LineLemmas.{lines_of_triples}
 use Rattle.gs_catalogue.specs.declared.versions.GraphVersion.{GraphVersion}
 use Rattle.gs_catalogue.specs.Catalogues.{GraphVersions, empty_version}
-use Rattle.gs_datasets.specs.Standing.{with_values, version_graph, dataset_at}
+use Rattle.gs_datasets.specs.Standing.{version_graph, dataset_at}
 use Rattle.gs_datasets.proofs.Values.{entries-with_values}
 use Rattle.gs_records.specs.Records.{Record, Recorded}
 use Rattle.gs_records.specs.Graphs.{graphs_at}
 use Rattle.gs_records.specs.Kept.{AreSingle}
 use Rattle.gs_records.specs.Order.{has_number, AreListed, graph_of_number, graphs_listed, default_first, with_target, AreInOrder}
 use Rattle.gs_records.proofs.Ordering.{listed_in_order}
-use Rattle.gs_quads.specs.Places.{Place, target_at, root_at, numbers_of, places_of, places_in, all_places, quad_at, quads_left}
+use Rattle.gs_quads.specs.Places.{target_at, root_at, version_numbers, as_places, record_places, all_places, quad_at, quads_left}
 use Rattle.gs_quads.specs.Pieces.{AreGraphs}
 use Rattle.gs_quads.specs.Quads.{named_lines, quads_of}
 use Rattle.gs_quads.proofs.Numbers.{numbers_had}
 
 -- the lines of places of one record
-pub quads_of_places : (terms : List Term) (rs : List Record) (n : ℕ) (ks : List Key) → map (quad_at terms rs) (places_of n ks) ≡ map (line_in terms (target_at rs n)) ks
+pub quads_of_places : (terms : List Term) (rs : List Record) (n : ℕ) (ks : List Key) → map (quad_at terms rs) (as_places n ks) ≡ map (line_in terms (target_at rs n)) ks
 quads_of_places terms rs n [] = refl
 quads_of_places terms rs n (k ∷ ks) = ap (λ xs. line_in terms (target_at rs n) k ∷ xs) (quads_of_places terms rs n ks)
 
@@ -46,19 +45,20 @@ module _ (terms : List Term) (p : Nodes) where
 
   module _ (v : ℕ) (rs : List Record) (graphs : AreGraphs terms p v rs) where
     -- the lines of a record are those of its graph
-    lines_of_one : (n : ℕ) → has_number v rs n ≡ true → map (quad_at terms rs) (places_in terms p rs None n) ≡ graph_lines (graph_of_number rs n)
+    lines_of_one : (n : ℕ) → has_number v rs n ≡ true → map (quad_at terms rs) (record_places terms p rs None n) ≡ graph_lines (graph_of_number rs n)
     lines_of_one n has =
         let graph = graphs n has in
         let ks = keys_at p (root_at rs n) in
-        ap (λ xs. map (quad_at terms rs) (places_of n xs)) (from_all (key_cmp terms) ks)
+        ap (λ xs. map (quad_at terms rs) (as_places n xs)) (from_all (key_cmp terms) ks)
         ∙ quads_of_places terms rs n ks
         ∙ lines_of_triples terms (target_at rs n) ks
         ∙ ap (map (line_for (target_at rs n))) (sym (triples_of_keys terms ks graph.set.rising graph.given))
 
+    -- the same of some records
     lines_of_all : (ns : List ℕ) → AllByRecursion (λ n. has_number v rs n ≡ true) ns → map (quad_at terms rs) (all_places terms p rs ns) ≡ flat_map graph_lines (map (graph_of_number rs) ns)
     lines_of_all [] h = refl
     lines_of_all (n ∷ ns) h =
-        map-append (quad_at terms rs) (places_in terms p rs None n) (all_places terms p rs ns)
+        map-append (quad_at terms rs) (record_places terms p rs None n) (all_places terms p rs ns)
         ∙ (λ i. lines_of_one n h.0 i ++ lines_of_all ns h.1 i)
 
   -- a root of no tree has no line
@@ -82,7 +82,8 @@ module _ (terms : List Term) (p : Nodes) where
       ∙ flat_map-append graph_lines (default_first o.unnamed) (map with_target es)
       ∙ (λ i. lines_of_default g.unnamed o.unnamed o.default i ++ named i)
 
+  -- the lines of a version are those of its dataset
   pub all_quads : (v : ℕ) (r : Recorded) → AreSingle r.records → AreListed r.records r.listed → AreGraphs terms p v r.records → quads_left terms p v r None ≡ quads_of (dataset_at terms p (graphs_at v r.records))
   all_quads v r single al graphs =
-      lines_of_all v r.records graphs (numbers_of v r) (recursion_from_All (λ n. has_number v r.records n ≡ true) (numbers_of v r) (numbers_had v r))
+      lines_of_all v r.records graphs (version_numbers v r) (recursion_from_All (λ n. has_number v r.records n ≡ true) (version_numbers v r) (numbers_had v r))
       ∙ lines_in_order (graphs_at v r.records) (graphs_listed v r.records r.listed) (listed_in_order v r.records r.listed single al)

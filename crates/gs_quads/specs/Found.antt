@@ -1,24 +1,23 @@
 -- Keys of several graphs, as they are found. No public clause cites this module.
-use Rattle.std.specs.Prelude.{◌≡◌, ℕ, ◌≤◌, ◌<◌, true, List, [], ◌∷◌, ◌++◌, length, map, take, drop, Option, Some, None, IfSome, MatchOption}
+use Rattle.std.specs.Prelude.{◌≡◌, ℕ, ◌≤◌, ◌<◌, true, List, [], ◌∷◌, ◌++◌, length, map, take, drop, Option, Some, None, IfSome}
 use Rattle.std.specs.List.{All, concat, filter, sum_by}
-use Rattle.gs_model.specs.Terms.{Term}
 use Rattle.gs_pool.specs.declared.nodes.Key.{Key}
 use Rattle.gs_tree.specs.Keys.{AllKeys}
 use Rattle.gs_keys.specs.Texts.{IsGiven}
 use Rattle.gs_keys.specs.Roots.{IsGraphAt}
 use Rattle.gs_index.specs.Indexes.{is_listed, after_number, numbers_after}
-use Rattle.gs_records.specs.Records.{Record, Recorded, record_at, is_kept}
+use Rattle.gs_records.specs.Records.{Recorded, record_at, is_kept}
 use Rattle.gs_records.specs.Order.{has_number}
 use Rattle.gs_quads.specs.declared.runs.Run.{Run}
 use Rattle.gs_quads.specs.declared.runs.Source.{Source}
 use Rattle.gs_quads.specs.declared.runs.Found.{Found}
-use Rattle.gs_quads.specs.Places.{Place, root_at, places_of, places_in, all_places, own_places, quad_at}
-use Rattle.gs_quads.specs.Pieces.{AreGraphs, IsPlace}
+use Rattle.gs_quads.specs.Places.{Place, root_at, as_places, record_places, all_places, own_places, quad_at}
+use Rattle.gs_quads.specs.Pieces.{AreGraphs, IsQuadPlace}
 
 -- the places of keys, as many for each run as it says
 abbrev pub run_places : List Run → List Key → List Place
 run_places [] ks = []
-run_places (r ∷ runs) ks = places_of r.number (take r.keys ks) ++ run_places runs (drop r.keys ks)
+run_places (r ∷ runs) ks = as_places r.number (take r.keys ks) ++ run_places runs (drop r.keys ks)
 
 -- the bytes of the lines at places, one after another
 abbrev pub bytes_at : Source → List Place → List ℕ
@@ -26,7 +25,7 @@ bytes_at s xs = concat (map (quad_at s.dict.now.terms s.records.now.records) xs)
 
 -- the places of a record above a key, or all
 abbrev pub one_graph : Source → Option Key → ℕ → List Place
-one_graph s from n = places_in s.dict.now.terms s.pool.now s.records.now.records from n
+one_graph s from n = record_places s.dict.now.terms s.pool.now s.records.now.records from n
 
 -- all places of some records
 abbrev pub all_graphs : Source → List ℕ → List Place
@@ -41,8 +40,8 @@ abbrev pub AreReadable : Source → ℕ → Type 0
 AreReadable s v = AreGraphs s.dict.now.terms s.pool.now v s.records.now.records
 
 -- a place of version v
-abbrev pub IsPlaceOf : Source → ℕ → Option Place → Type 0
-IsPlaceOf s v from = IsPlace s.dict.now.terms v s.records.now.records from
+abbrev pub IsQuadPlaceOf : Source → ℕ → Option Place → Type 0
+IsQuadPlaceOf s v from = IsQuadPlace s.dict.now.terms v s.records.now.records from
 
 -- the last of these places, and the one given where there is none
 abbrev pub last_or : Option Place → List Place → Option Place
@@ -50,16 +49,16 @@ last_or o [] = o
 last_or o (x ∷ xs) = last_or (Some x) xs
 
 -- how many keys runs have
-abbrev pub key_count : List Run → ℕ
-key_count runs = sum_by (λ r. r.keys) runs
+abbrev pub run_keys : List Run → ℕ
+run_keys runs = sum_by (λ r. r.keys) runs
 
 -- a run is of a record
-abbrev pub IsRun : Source → Run → Type 0
-IsRun s r = is_kept (record_at s.records.now.records r.number) ≡ true
+abbrev pub IsRecordRun : Source → Run → Type 0
+IsRecordRun s r = is_kept (record_at s.records.now.records r.number) ≡ true
 
 -- the numbers of keys were given
-abbrev pub AreGiven : Source → List Key → Type 0
-AreGiven s ks = AllKeys (IsGiven s.dict.now.terms) ks
+abbrev pub KeysAreGiven : Source → List Key → Type 0
+KeysAreGiven s ks = AllKeys (IsGiven s.dict.now.terms) ks
 
 -- the places that were found
 abbrev pub places_found : Found → List Place
@@ -67,13 +66,13 @@ places_found f = run_places f.runs.items f.keys.items
 
 -- the runs have just the keys, which are not too many; each run is of a record, and the numbers of the keys were given
 pub record AreFound (s : Source) (most : ℕ) (f : Found) : Type 0 where
-  pub whole : key_count f.runs.items ≡ length f.keys.items
-  pub kept : All (IsRun s) f.runs.items
-  pub given : AreGiven s f.keys.items
+  pub whole : run_keys f.runs.items ≡ length f.keys.items
+  pub kept : All (IsRecordRun s) f.runs.items
+  pub given : KeysAreGiven s f.keys.items
   pub few : length f.keys.items ≤ most
 
 -- of these places so many are found as there is room for
-pub record Adds (s : Source) (most : ℕ) (old new : Found) (more : List Place) : Type 0 where
+pub record FindsMore (s : Source) (most : ℕ) (old new : Found) (more : List Place) : Type 0 where
   pub found : AreFound s most new
   pub places : places_found new ≡ take most (places_found old ++ more)
 

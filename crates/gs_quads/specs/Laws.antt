@@ -9,7 +9,7 @@ use Rattle.gs_records.specs.Graphs.{graphs_at}
 use Rattle.gs_records.specs.Kept.{AreSingle}
 use Rattle.gs_records.specs.Order.{has_number, age_at, AreListed, graph_of_number}
 use Rattle.gs_quads.specs.Places.{Place, root_at, quads_left}
-use Rattle.gs_quads.specs.Pieces.{AreGraphs, IsPlace}
+use Rattle.gs_quads.specs.Pieces.{AreGraphs, IsQuadPlace}
 use Rattle.gs_quads.specs.Quads.{quads_of}
 
 -- from the beginning on, the lines of a version are those of its dataset
@@ -36,6 +36,6 @@ abbrev pub QuadsOutlast : Type 0
 QuadsOutlast =
     (terms more : List Term) (p q : Nodes) (v : ℕ) (old new : Recorded) (from : Option Place)
     → AreListed old.records old.listed → AreListed new.records new.listed
-    → AreGraphs terms p v old.records → IsPlace terms v old.records from
+    → AreGraphs terms p v old.records → IsQuadPlace terms v old.records from
     → HasSame v old new → HasTrees v old.records p q
     → quads_left (terms ++ more) q v new from ≡ quads_left terms p v old from

@@ -15,9 +15,9 @@ abbrev pub AreGraphs : List Term → Nodes → ℕ → List Record → Type 0
 AreGraphs terms p v rs = (n : ℕ) → has_number v rs n ≡ true → IsGraphAt terms p (root_at rs n)
 
 -- a place to read from: the beginning, or a key whose numbers were given, of a record that version v has
-abbrev pub IsPlace : List Term → ℕ → List Record → Option Place → Type 0
-IsPlace terms v rs None = Unit {0}
-IsPlace terms v rs (Some x) = (has_number v rs x.0 ≡ true) × IsGiven terms x.1
+abbrev pub IsQuadPlace : List Term → ℕ → List Record → Option Place → Type 0
+IsQuadPlace terms v rs None = Unit {0}
+IsQuadPlace terms v rs (Some x) = (has_number v rs x.0 ≡ true) × IsGiven terms x.1
 
 -- the last of these places
 abbrev pub last_place : List Place → Option Place
@@ -29,5 +29,5 @@ pub record IsQuadPiece (terms : List Term) (p : Nodes) (v : ℕ) (r : Recorded) 
   pub bytes : piece.bytes.items ≡ concat (take count (quads_left terms p v r from))
   pub end : piece.is_end ≡ nat_le (length (quads_left terms p v r from)) count
   pub last : piece.last ≡ last_place (take count (places_left terms p v r from))
-  pub last_given : IsPlace terms v r.records piece.last
+  pub last_given : IsQuadPlace terms v r.records piece.last
   pub rest : piece.is_end ≡ false → quads_left terms p v r piece.last ≡ drop count (quads_left terms p v r from)

@@ -25,25 +25,25 @@ abbrev pub root_at : List Record → ℕ → Option ℕ
 root_at rs n = (entry_of (record_at rs n)).version.root
 
 -- the numbers that version v has, in the order of their graphs
-abbrev pub numbers_of : ℕ → Recorded → List ℕ
-numbers_of v r = filter (has_number v r.records) r.listed
+abbrev pub version_numbers : ℕ → Recorded → List ℕ
+version_numbers v r = filter (has_number v r.records) r.listed
 
 -- keys of a record, as places
-abbrev pub places_of : ℕ → List Key → List Place
-places_of n ks = map (λ k. (n, k)) ks
+abbrev pub as_places : ℕ → List Key → List Place
+as_places n ks = map (λ k. (n, k)) ks
 
 -- the places of a record: those of its keys above the one given, and of all where none is
-abbrev pub places_in : List Term → Nodes → List Record → Option Key → ℕ → List Place
-places_in terms p rs from n = places_of n (keys_left terms p (root_at rs n) from)
+abbrev pub record_places : List Term → Nodes → List Record → Option Key → ℕ → List Place
+record_places terms p rs from n = as_places n (keys_left terms p (root_at rs n) from)
 
 -- all places of some records, one after another
 abbrev pub all_places : List Term → Nodes → List Record → List ℕ → List Place
-all_places terms p rs ns = flat_map (places_in terms p rs None) ns
+all_places terms p rs ns = flat_map (record_places terms p rs None) ns
 
 -- those of a place's own record that stand after it
 abbrev pub own_places : List Term → Nodes → List Record → Option Place → List Place
 own_places terms p rs None = []
-own_places terms p rs (Some x) = places_in terms p rs (Some x.1) x.0
+own_places terms p rs (Some x) = record_places terms p rs (Some x.1) x.0
 
 -- the number of a place
 abbrev pub number_at : Option Place → Option ℕ
@@ -52,7 +52,7 @@ number_at from = option_map (λ x. x.0) from
 -- the places after the one given, and all where none is: those of its own record, and those of the numbers after it
 abbrev pub places_left : List Term → Nodes → ℕ → Recorded → Option Place → List Place
 places_left terms p v r from =
-    own_places terms p r.records from ++ all_places terms p r.records (numbers_after (number_at from) (numbers_of v r))
+    own_places terms p r.records from ++ all_places terms p r.records (numbers_after (number_at from) (version_numbers v r))
 
 -- the line at a place: with the name of its graph, if it has one
 abbrev pub quad_at : List Term → List Record → Place → List ℕ

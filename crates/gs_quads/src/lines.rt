@@ -1,9 +1,9 @@
 //! Places as lines: how many bytes they take, the bytes, and the last place.
 ghost use Rattle.std.specs.Prelude.{◌≡◌, ◌+◌, ◌<◌, ◌≤◌, ◌++◌, ◌^◌, length, vec_len, vec_capacity, IfOk, SomeIff};
 ghost use Rattle.std.specs.List.{All};
-ghost use Rattle.gs_quads.specs.Places.{places_of};
+ghost use Rattle.gs_quads.specs.Places.{as_places};
 ghost use Rattle.gs_quads.specs.Pieces.{last_place as last_of};
-ghost use Rattle.gs_quads.specs.Found.{run_places, bytes_at, last_or, IsRun, AreGiven};
+ghost use Rattle.gs_quads.specs.Found.{run_places, bytes_at, last_or, IsRecordRun, KeysAreGiven};
 
 use crate::runs::{Run, Source, cut};
 use gs_lines::{append_lines, lines_size, room_for};
@@ -13,8 +13,8 @@ use std::alloc::{AllocError, Global};
 /// How many bytes the lines of runs of keys have, where 64 bits can say it. `ends` is as `lines_size`
 /// of `gs_lines` has it.
 fn quads_size(source: &Source, runs: &[Run], keys: &[Key], ends: &mut u8) -> Option<usize>
-    requires kept { All (IsRun source.now) runs.now }
-    requires given { AreGiven source.now keys.now }
+    requires kept { All (IsRecordRun source.now) runs.now }
+    requires given { KeysAreGiven source.now keys.now }
     ensures { SomeIff result
         (length (bytes_at source.now (run_places runs.now keys.now)) < 2 ^ 64)
         (length (bytes_at source.now (run_places runs.now keys.now))) }
@@ -33,8 +33,8 @@ fn quads_size(source: &Source, runs: &[Run], keys: &[Key], ends: &mut u8) -> Opt
 
 /// Appends the lines of runs of keys, for which there is room.
 fn append_quads(source: &Source, runs: &[Run], keys: &[Key], bytes: &mut Vec<u8>)
-    requires kept { All (IsRun source.now) runs.now }
-    requires given { AreGiven source.now keys.now }
+    requires kept { All (IsRecordRun source.now) runs.now }
+    requires given { KeysAreGiven source.now keys.now }
     requires room { vec_len bytes.old
         + length (bytes_at source.now (run_places runs.now keys.now))
         ≤ vec_capacity bytes.old }
@@ -57,8 +57,8 @@ pub fn quads(
     runs: &[Run],
     keys: &[Key],
 ) -> Result<Vec<u8>, AllocError>
-    requires kept { All (IsRun source.now) runs.now }
-    requires given { AreGiven source.now keys.now }
+    requires kept { All (IsRecordRun source.now) runs.now }
+    requires given { KeysAreGiven source.now keys.now }
     ensures { IfOk result (λ bytes. bytes.items
         ≡ bytes_at source.now (run_places runs.now keys.now)) }
 {
@@ -73,7 +73,7 @@ pub fn quads(
 
 /// The last place of a record's keys, or the one given where it has none.
 fn last_in(number: u32, keys: &[Key], last: Option<(u32, Key)>) -> Option<(u32, Key)>
-    ensures { result ≡ last_or last (places_of number keys.now) }
+    ensures { result ≡ last_or last (as_places number keys.now) }
 {
     match keys.last() {
         None => last,

@@ -1,6 +1,6 @@
 //! The next lines of a read of all graphs.
 ghost use Rattle.std.specs.Prelude.{◌<◌, IfOk};
-ghost use Rattle.gs_quads.specs.Pieces.{AreGraphs, IsPlace, IsQuadPiece};
+ghost use Rattle.gs_quads.specs.Pieces.{AreGraphs, IsQuadPlace, IsQuadPiece};
 
 use crate::lines::{last_place, quads};
 use crate::runs::Source;
@@ -35,7 +35,7 @@ pub fn next_quads(
     count: u32,
 ) -> Result<QuadPiece, AllocError>
     requires graphs { AreGraphs dict.now.terms pool.now version records.now.records }
-    requires place { IsPlace dict.now.terms version records.now.records from }
+    requires place { IsQuadPlace dict.now.terms version records.now.records from }
     requires some { 0 < count }
     ensures { IfOk result
         (IsQuadPiece dict.now.terms pool.now version records.now from count) }

@@ -4,7 +4,7 @@ ghost use Rattle.std.specs.List.{All};
 ghost use Rattle.gs_index.specs.Indexes.{is_listed};
 ghost use Rattle.gs_records.specs.Order.{AreListed};
 ghost use Rattle.gs_quads.specs.Places.{number_at as number_in, places_left};
-ghost use Rattle.gs_quads.specs.Found.{one_graph, all_graphs, own_graph, AreReadable, IsPlaceOf, places_found, AreFound, Adds, IsGraphOf, numbers_past, AreNext};
+ghost use Rattle.gs_quads.specs.Found.{one_graph, all_graphs, own_graph, AreReadable, IsQuadPlaceOf, places_found, AreFound, FindsMore, IsGraphOf, numbers_past, AreNext};
 
 use crate::runs::{Found, Run, Source};
 use gs_lines::{add_keys, room_for_keys};
@@ -25,7 +25,7 @@ fn add_graph(
 ) -> Result<(), AllocError>
     requires graph { IsGraphOf source.now number }
     requires found { AreFound source.now most found.old }
-    ensures { OnOk result (Adds source.now most found.old found.new
+    ensures { OnOk result (FindsMore source.now most found.old found.new
         (one_graph source.now from number)) }
 {
     let before = found.keys.len();
@@ -48,7 +48,7 @@ fn add_graphs(
 ) -> Result<(), AllocError>
     requires graphs { All (IsGraphOf source.now) numbers.now }
     requires found { AreFound source.now most found.old }
-    ensures { OnOk result (Adds source.now most found.old found.new
+    ensures { OnOk result (FindsMore source.now most found.old found.new
         (all_graphs source.now numbers.now)) }
 {
     for number in numbers {
@@ -86,7 +86,7 @@ fn add_after(
     requires from { IfSome from (λ n. is_listed n source.now.records.now.listed ≡ true) }
     requires graphs { AreReadable source.now version }
     requires found { AreFound source.now most found.old }
-    ensures { OnOk result (Adds source.now most found.old found.new
+    ensures { OnOk result (FindsMore source.now most found.old found.new
         (all_graphs source.now (numbers_past version source.now.records.now from))) }
 {
     let mut after = from;
@@ -120,7 +120,7 @@ fn add_own(
 ) -> Result<(), AllocError>
     requires graph { IfSome from (λ x. IsGraphOf source.now x.0) }
     requires found { AreFound source.now most found.old }
-    ensures { OnOk result (Adds source.now most found.old found.new
+    ensures { OnOk result (FindsMore source.now most found.old found.new
         (own_graph source.now from)) }
 {
     match from {
@@ -149,7 +149,7 @@ pub fn find_places(
     most: usize,
 ) -> Result<Found, AllocError>
     requires graphs { AreReadable source.now version }
-    requires place { IsPlaceOf source.now version from }
+    requires place { IsQuadPlaceOf source.now version from }
     ensures found { IfOk result (AreFound source.now most) }
     ensures places { IfOk result (λ f. places_found f ≡ take most
         (places_left source.now.dict.now.terms source.now.pool.now version source.now.records.now from)) }
