@@ -42,13 +42,22 @@ def free_gigabytes():
     return int(re.search(r"MemAvailable:\s+(\d+)", open("/proc/meminfo").read())[1]) / 1e6
 
 
+def length(name):
+    """How many bytes of code, definitions and proofs a crate has: its check takes the longer, the more these are."""
+    found = 0
+    for kind in ("src", "specs", "proofs"):
+        for folder, _, files in os.walk(f"{top}/crates/{name}/{kind}"):
+            found += sum(os.path.getsize(f"{folder}/{it}") for it in files)
+    return found
+
+
 def height(names, below):
-    """For each crate, how many stand on it, one upon the other, at most."""
+    """For each crate, the length of the longest way that begins with it, one upon the other: what is on it goes first."""
     known = {}
 
     def of(name):
         if name not in known:
-            known[name] = 1 + max((of(it) for it in names if name in below[it]), default=0)
+            known[name] = length(name) + max((of(it) for it in names if name in below[it]), default=0)
         return known[name]
     return {name: of(name) for name in names}
 
