@@ -3,7 +3,7 @@ use Rattle.std.proofs.Common.{◌≡◌, ℕ, ◌+◌, ◌<◌, Bool, true, fals
 use Rattle.std.proofs.lemmas.List.{drop_more}
 use Rattle.gs_model.specs.Characters.{line_feed, space, dot}
 use Rattle.gs_model.specs.Terms.{Term, text_of}
-use Rattle.gs_model.specs.Triples.{RdfTriple, line_of}
+use Rattle.gs_model.specs.Triples.{RdfTriple}
 use Rattle.gs_term.specs.declared.names.Target.{Target}
 use Rattle.gs_term.specs.declared.names.Target.TheVariants.{Default, Named}
 use Rattle.gs_term.specs.Names.{in_brackets}

@@ -6,6 +6,7 @@ ghost use Rattle.gs_keys.specs.Texts.{term_at, IsGiven};
 ghost use Rattle.gs_lines.specs.Graphs.{line_in, bytes_in};
 ghost use Rattle.gs_lines.specs.Pieces.{bytes_of};
 ghost use Rattle.gs_lines.specs.Lines.{IsKnown, end_of};
+ghost use Rattle.gs_lines.specs.Rooms.{frame_room};
 
 use gs_dict::{Dict, TermId};
 use gs_pool::Key;
@@ -191,20 +192,31 @@ pub fn append_lines(dict: &Dict, graph: &Target, keys: &[Key], bytes: &mut Vec<u
     }
 }
 
-/// Room for lines of so many bytes, and for 256 more, but none where there is no line. `ends` is what
-/// `lines_size` joined of their texts.
-pub fn room_for(alloc: Global, size: usize, ends: u8) -> Result<Vec<u8>, AllocError>
-    ensures empty { IfOk result (λ bytes. bytes.items ≡ []) }
-    ensures room { IfOk result (λ bytes. vec_len bytes + size ≤ vec_capacity bytes) }
+/// How many bytes go around lines of so many bytes. `ends` is what `lines_size` joined of their texts.
+fn frame_size(size: usize, ends: u8) -> usize
+    ensures { result ≡ frame_room size ends }
 {
     // `ends` is never 0 where there are lines, since no text begins with a zero byte: so nothing is
     // added. The compiler does not know that, and keeps the reads of the ends.
-    let room = if size == 0 {
+    if size == 0 {
         0
     } else {
         FRAME_ROOM + usize::from(ends == 0)
+    }
+}
+
+/// Room for lines of so many bytes, and for 256 more, but none where there is no line. So `append_lines`
+/// takes no memory, and the head of a reply and the frame of a chunk find room around the lines. `ends`
+/// is what `lines_size` joined of their texts. Room that 64 bits cannot count is refused.
+pub fn room_for(alloc: Global, size: usize, ends: u8) -> Result<Vec<u8>, AllocError>
+    ensures empty { IfOk result (λ bytes. bytes.items ≡ []) }
+    ensures room { IfOk result (λ bytes. vec_len bytes + size ≤ vec_capacity bytes) }
+    ensures exact { IfOk result (λ bytes. vec_capacity bytes ≡ size + frame_room size ends) }
+{
+    let Some(room) = size.checked_add(frame_size(size, ends)) else {
+        return Err(AllocError);
     };
-    Vec::with_capacity(alloc, size.saturating_add(room))
+    Vec::with_capacity(alloc, room)
 }
 
 /// The lines of keys, one after another. Memory is asked for once, for these bytes and 256 more, and

@@ -1,5 +1,5 @@
 //! The next lines of a read.
-ghost use Rattle.std.specs.Prelude.{◌≡◌, ◌<◌, ◌++◌, [], take, IfOk, OnOk};
+ghost use Rattle.std.specs.Prelude.{◌≡◌, ◌<◌, ◌++◌, [], min, take, vec_capacity, IfOk, OnOk};
 ghost use Rattle.gs_keys.specs.Roots.{IsGraphAt};
 ghost use Rattle.gs_lines.specs.Pieces.{keys_left, IsPiece};
 
@@ -24,9 +24,10 @@ pub struct Piece {
 const USUAL_KEYS: usize = 4_097;
 
 /// Room for keys, `most` of them at most, before they are looked for: 12 bytes each, and no more than
-/// for 4,097 of them.
+/// for 4,097 of them. So a list of that many keys is not moved as it grows.
 pub fn room_for_keys(alloc: Global, most: usize) -> Result<Vec<Key>, AllocError>
-    ensures { IfOk result (λ keys. keys.items ≡ []) }
+    ensures empty { IfOk result (λ keys. keys.items ≡ []) }
+    ensures room { IfOk result (λ keys. vec_capacity keys ≡ min most 4097) }
 {
     Vec::with_capacity(alloc, most.min(USUAL_KEYS))
 }

@@ -93,21 +93,21 @@ all_agree p v n h few s lt = h s (omega (arith, lt, few))
 let_go_as : (q : Nodes) (v : Pins) (n : ℕ) → length q.pins ≡ n → let_go_by q v ≡ sum_below n (λ k. let_go_of (take n v.seats) (get_or q.pins k None) (get_or q.held k 0))
 let_go_as q v n many = ap (λ m. sum_below m (λ k. let_go_of (take m v.seats) (get_or q.pins k None) (get_or q.held k 0))) many
 
--- no node and no mark is another
+-- where no node and no mark is another, no death is
 pub dead_kept : (p q : Nodes) → q.nodes ≡ p.nodes → q.marks ≡ p.marks → KeepsDead p q
 dead_kept p q nodes marks = record { nodes = nodes; deaths = λ x. ap (λ ms. death_of (get_or ms x plain)) marks }
 
 -- nor is more or less set aside
-aside_kept : (p q : Nodes) → q.marks ≡ p.marks → aside_count q ≡ aside_count p
+pub aside_kept : (p q : Nodes) → q.marks ≡ p.marks → aside_count q ≡ aside_count p
 aside_kept p q marks = ap (λ ms. Rattle.std.proofs.Common.count_by is_aside ms) marks
 
 -- a list that agrees has followed
 pub follows_same : (p : Nodes) (v : Pins) (list : ℕ) → AgreesAt p v list → Follows v p p list true
-follows_same p v list at = record { dead = record { nodes = refl; deaths = λ x. refl }; aside = refl; many = refl; agreed = λ s e. e; loose = refl; turned = at }
+follows_same p v list at = record { nodes = refl; marks = refl; spare = refl; limit = refl; many = refl; agreed = λ s e. e; loose = refl; turned = at }
 
 -- a list follows its pin, and lets go just what no seat needs
-pub follows_pin : (p q : Nodes) (v : Pins) (list : ℕ) (pin : Option ℕ) → list < length p.pins → pin ≡ get_or v.seats list None → q.nodes ≡ p.nodes → q.marks ≡ p.marks → q.pins ≡ set p.pins list pin → q.loose ≡ p.loose + let_go p list pin → KeepsLists p q list → let_go p list pin ≡ let_go_at p v list → Follows v p q list true
-follows_pin p q v list pin lt is nodes marks pins loose held goes =
+pub follows_pin : (p q : Nodes) (v : Pins) (list : ℕ) (pin : Option ℕ) → list < length p.pins → pin ≡ get_or v.seats list None → q.nodes ≡ p.nodes → q.marks ≡ p.marks → q.spare ≡ p.spare → q.limit ≡ p.limit → q.pins ≡ set p.pins list pin → q.loose ≡ p.loose + let_go p list pin → KeepsLists p q list → let_go p list pin ≡ let_go_at p v list → Follows v p q list true
+follows_pin p q v list pin lt is nodes marks spare limit pins loose held goes =
     let n = length p.pins in
     let many : length q.pins ≡ n = ap length pins ∙ length-set p.pins list pin in
     let here : get_or q.pins list None ≡ get_or v.seats list None = ap (λ ps. get_or ps list None) pins ∙ get_or-set_same p.pins list pin None lt ∙ is in
@@ -116,8 +116,10 @@ follows_pin p q v list pin lt is nodes marks pins loose held goes =
     let none : go list ≡ 0 = kept_whole v.seats n list (get_or q.pins list None) (get_or q.held list 0) lt here in
     let rest : (k : ℕ) → k ≢ list → go k ≡ let_go_at p v k = λ k ne. ap (λ o. let_go_of (take n v.seats) o (get_or q.held k 0)) (off k ne) ∙ ap (let_go_of (take n v.seats) (get_or p.pins k None)) (held k ne) in
     record {
-      dead = dead_kept p q nodes marks;
-      aside = aside_kept p q marks;
+      nodes = nodes;
+      marks = marks;
+      spare = spare;
+      limit = limit;
       many = many;
       agreed = λ s e. elim (cases_eq s list) [
         | inl same ↦ subst (λ t. AgreesAt q v t) (sym same) here
@@ -164,13 +166,12 @@ holder_go p q v list other h same pins hands =
     let_go_as q v n (ap length pins) ∙ sum_same n go (let_go_at p v) each
 
 -- the list of a pin that ended goes to a seat that has its version pinned
-pub follows_hand : (p p1 q : Nodes) (v : Pins) (list other : ℕ) → IsHolder v p list other → get_or p.pins other None ≡ get_or p.pins list None → p1.nodes ≡ p.nodes → p1.marks ≡ p.marks → p1.loose ≡ p.loose → p1.pins ≡ p.pins → GivesAll p p1 list other → Follows v p1 q list true → Follows v p q list true
-follows_hand p p1 q v list other h same nodes marks loose pins hands f = record {
-  dead = record {
-    nodes = f.dead.nodes ∙ nodes;
-    deaths = λ x. f.dead.deaths x ∙ ap (λ ms. death_of (get_or ms x plain)) marks;
-  };
-  aside = f.aside ∙ aside_kept p p1 marks;
+pub follows_hand : (p p1 q : Nodes) (v : Pins) (list other : ℕ) → IsHolder v p list other → get_or p.pins other None ≡ get_or p.pins list None → p1.nodes ≡ p.nodes → p1.marks ≡ p.marks → p1.spare ≡ p.spare → p1.limit ≡ p.limit → p1.loose ≡ p.loose → p1.pins ≡ p.pins → GivesAll p p1 list other → Follows v p1 q list true → Follows v p q list true
+follows_hand p p1 q v list other h same nodes marks spare limit loose pins hands f = record {
+  nodes = f.nodes ∙ nodes;
+  marks = f.marks ∙ marks;
+  spare = f.spare ∙ spare;
+  limit = f.limit ∙ limit;
   many = f.many ∙ ap length pins;
   agreed = λ s e. f.agreed s (ap (λ ps. get_or ps s None) pins ∙ e);
   loose = omega (arith, f.loose, loose, holder_go p p1 v list other h same pins hands);
@@ -178,8 +179,8 @@ follows_hand p p1 q v list other h same nodes marks loose pins hands f = record 
 }
 
 -- two lists change places: the one that goes to the holder agrees, and what is let go stays
-pub follows_exchange : (p q : Nodes) (v : Pins) (list other : ℕ) → list < length p.pins → IsHolder v p list other → (AgreesAt p v list → ⊥) → get_or p.pins other None ≢ get_or p.pins list None → q.nodes ≡ p.nodes → q.marks ≡ p.marks → q.loose ≡ p.loose → Exchanges p q list other → Follows v p q list false
-follows_exchange p q v list other lt h stale differ nodes marks loose ex =
+pub follows_exchange : (p q : Nodes) (v : Pins) (list other : ℕ) → list < length p.pins → IsHolder v p list other → (AgreesAt p v list → ⊥) → get_or p.pins other None ≢ get_or p.pins list None → q.nodes ≡ p.nodes → q.marks ≡ p.marks → q.spare ≡ p.spare → q.limit ≡ p.limit → q.loose ≡ p.loose → Exchanges p q list other → Follows v p q list false
+follows_exchange p q v list other lt h stale differ nodes marks spare limit loose ex =
     let n = length p.pins in
     let apart = holder_apart p v list other h stale in
     let once = set p.pins list (get_or p.pins other None) in
@@ -194,8 +195,10 @@ follows_exchange p q v list other lt h stale differ nodes marks loose ex =
     let moved : (a b : ℕ) → get_or q.pins a None ≡ get_or p.pins b None → get_or q.held a 0 ≡ get_or p.held b 0 → go a ≡ let_go_at p v b = λ a b is held. ap (λ o. let_go_of (take n v.seats) o (get_or q.held a 0)) is ∙ ap (let_go_of (take n v.seats) (get_or p.pins b None)) held in
     let sums = sum_swap n list other (let_go_at p v) go lt h.below apart (moved list other at_list ex.gets) (moved other list at_other ex.gives) (λ k ne away. moved k k (off k ne away) (ex.others k ne away)) in
     record {
-      dead = dead_kept p q nodes marks;
-      aside = aside_kept p q marks;
+      nodes = nodes;
+      marks = marks;
+      spare = spare;
+      limit = limit;
       many = many;
       agreed = λ s e. elim (cases_eq s list) [
         | inl here ↦ absurd (stale (subst (λ k. AgreesAt p v k) here e))

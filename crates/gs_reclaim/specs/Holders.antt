@@ -1,6 +1,6 @@
 -- For which pin each list of held nodes is kept, and what a list lets go.
 use Rattle.std.specs.Prelude.{◌≡◌, ℕ, zero, suc, ◌+◌, ◌<◌, ◌≤◌, Bool, true, false, List, length, take, MatchOption, Option, Some, None, slice_index_or, if◌then◌else◌}
-use Rattle.gs_pool.specs.Pool.{Nodes, mark_at, aside_count}
+use Rattle.gs_pool.specs.Pool.{Nodes, mark_at}
 use Rattle.gs_versions.specs.Pins.{Pins, is_pinned}
 use Rattle.gs_ledger.specs.Marks.{death_of}
 
@@ -61,10 +61,12 @@ abbrev pub HasTurned : Pins → Nodes → Nodes → ℕ → Bool → Type 0
 HasTurned v p q list true = AgreesAt q v list
 HasTurned v p q list false = (s : ℕ) × Settled v p q s
 
--- One list followed its pin: no node and no death is another, what agreed agrees, and just what no seat's pin needs is looked at.
+-- One list followed its pin: no node, no mark and no room is another, what agreed agrees, and just what no seat's pin needs is looked at.
 pub record Follows (v : Pins) (p q : Nodes) (list : ℕ) (done : Bool) : Type 0 where
-  pub dead : KeepsDead p q
-  pub aside : aside_count q ≡ aside_count p
+  pub nodes : q.nodes ≡ p.nodes
+  pub marks : q.marks ≡ p.marks
+  pub spare : q.spare ≡ p.spare
+  pub limit : q.limit ≡ p.limit
   pub many : length q.pins ≡ length p.pins
   pub agreed : (s : ℕ) → AgreesAt p v s → AgreesAt q v s
   pub loose : q.loose + let_go_by q v ≡ p.loose + let_go_by p v

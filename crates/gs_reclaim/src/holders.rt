@@ -1,7 +1,6 @@
 //! For which pin each list of held nodes is kept: the lists follow the pins of their seats.
 ghost use Rattle.std.specs.Prelude.{◌≡◌, ◌+◌, ◌<◌, length};
-ghost use Rattle.gs_pool.specs.Pool.{aside_count};
-ghost use Rattle.gs_reclaim.specs.Holders.{AgreesAt, Agrees, IsHolder, FindsHolder, let_go_by, KeepsDead, Follows};
+ghost use Rattle.gs_reclaim.specs.Holders.{AgreesAt, Agrees, IsHolder, FindsHolder, let_go_by, Follows};
 
 use gs_pool::Pool;
 use gs_versions::Versions;
@@ -52,8 +51,10 @@ fn follow_pin(pool: &mut Pool, versions: &Versions, list: usize) -> bool
 /// Has the lists of the pool follow the pins. What is held for a pin that has ended goes to a seat that has
 /// its version pinned; where no seat has, it is looked at again.
 pub fn follow_pins(pool: &mut Pool, versions: &Versions)
-    ensures dead { KeepsDead pool.old pool.new }
-    ensures aside { aside_count pool.new ≡ aside_count pool.old }
+    ensures nodes { pool.new.nodes ≡ pool.old.nodes }
+    ensures marks { pool.new.marks ≡ pool.old.marks }
+    ensures spare { pool.new.spare ≡ pool.old.spare }
+    ensures limit { pool.new.limit ≡ pool.old.limit }
     ensures agrees { Agrees pool.new versions.now }
     ensures lists { length pool.new.pins ≡ length pool.old.pins }
     ensures loose { pool.new.loose ≡ pool.old.loose + let_go_by pool.old versions.now }

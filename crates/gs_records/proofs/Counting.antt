@@ -141,8 +141,8 @@ counted_none : AreCounted [] 0 0
 counted_none = record { names_are = sym (map.len-empty name_cmp GraphVersion); triples_are = sym triple_count-none }
 
 -- an index and a pool with nothing
-pub new_kept : (x : Indexed) (p : Nodes) (commit limit : ℕ) → x ≡ record { entries = []; listed = []; spare = 0 } → p.nodes ≡ [] → p.marks ≡ [] → IsKept x p 0 commit 0 0 limit
-new_kept x p commit limit is nodes marks =
+pub new_kept : (x : Indexed) (p : Nodes) (commit : ℕ) → x ≡ record { entries = []; listed = []; spare = 0 } → p.nodes ≡ [] → p.marks ≡ [] → IsKept x p 0 commit 0 0
+new_kept x p commit is nodes marks =
     let none : records_by x p ≡ [] = ap (λ (z : Indexed). records_of z.entries p.nodes p.marks) is in
     record {
       stored = record {
@@ -155,14 +155,13 @@ new_kept x p commit limit is nodes marks =
         dated = λ n e at. absurd (not_kept free e refl (sym (ap (λ rs. record_at rs n) none) ∙ at));
         few = omega (arith, ap (λ (z : Indexed). length z.entries) is);
       };
-      within = omega (arith, ap (λ (z : Indexed). length z.entries) is);
       none_aside = ap (count_by is_aside) marks;
       versions = versions_none (records_by x p) (λ n. ap (λ rs. record_at rs n) none);
       counted = subst (λ rs. AreCounted rs 0 0) (sym none) counted_none;
     }
 
 -- more room changes nothing
-module _ (x y : Indexed) (p q : Nodes) (opens latest names triples limit : ℕ) (entries : y.entries ≡ x.entries) (listed : y.listed ≡ x.listed) (spare : x.spare ≤ y.spare) (nodes : q.nodes ≡ p.nodes) (marks : q.marks ≡ p.marks) (k : IsKept x p opens latest names triples limit) where
+module _ (x y : Indexed) (p q : Nodes) (opens latest names triples : ℕ) (entries : y.entries ≡ x.entries) (listed : y.listed ≡ x.listed) (spare : x.spare ≤ y.spare) (nodes : q.nodes ≡ p.nodes) (marks : q.marks ≡ p.marks) (k : IsKept x p opens latest names triples) where
   roomier_records : records_by y q ≡ records_by x p
   roomier_records = λ i. records_of (entries i) (nodes i) (marks i)
 
@@ -171,7 +170,7 @@ module _ (x y : Indexed) (p q : Nodes) (opens latest names triples limit : ℕ) 
       let same : Stands (record_at (records_by x p) n) (node_at p n) (mark_at p n) (entry_at x.entries n) ≡ Stands (record_at (records_by y q) n) (node_at q n) (mark_at q n) (entry_at y.entries n) = λ i. Stands (record_at (sym roomier_records i) n) (get_or (sym nodes i) n None) (get_or (sym marks i) n plain) (entry_at (sym entries i) n) in
       subst (λ (A : Type 0). A) same (k.stored.stand n)
 
-  pub roomier_kept : IsKept y q opens latest names triples limit
+  pub roomier_kept : IsKept y q opens latest names triples
   roomier_kept = record {
     stored = record {
       many = ap length nodes ∙ k.stored.many ∙ sym (ap length entries);
@@ -183,16 +182,15 @@ module _ (x y : Indexed) (p q : Nodes) (opens latest names triples limit : ℕ) 
       dated = subst (AreDated latest) (sym roomier_records) k.stored.dated;
       few = omega (arith, k.stored.few, ap length entries);
     };
-    within = omega (arith, k.within, ap length entries);
     none_aside = ap (count_by is_aside) marks ∙ k.none_aside;
     versions = subst AreVersions (sym roomier_records) k.versions;
     counted = subst (λ rs. AreCounted rs names triples) (sym roomier_records) k.counted;
   }
 
 -- there are no more names than numbers
-pub names_few : (x : Indexed) (p : Nodes) (opens latest names triples limit : ℕ) → IsKept x p opens latest names triples limit → names ≤ last_node + 1
-names_few x p opens latest names triples limit k = omega (arith, k.counted.names_are, name_count-most is_current (records_by x p), length-records_of x.entries p.nodes p.marks, k.stored.few)
+pub names_few : (x : Indexed) (p : Nodes) (opens latest names triples : ℕ) → IsKept x p opens latest names triples → names ≤ last_node + 1
+names_few x p opens latest names triples k = omega (arith, k.counted.names_are, name_count-most is_current (records_by x p), length-records_of x.entries p.nodes p.marks, k.stored.few)
 
 -- so the triples are far below 2^128
-pub triples_few : (x : Indexed) (p : Nodes) (opens latest names triples limit : ℕ) → IsKept x p opens latest names triples limit → triples < 2 ^ 96
-triples_few x p opens latest names triples limit k = omega (arith, k.counted.triples_are, triple_count-most is_current (records_by x p) k.versions, length-records_of x.entries p.nodes p.marks, k.stored.few)
+pub triples_few : (x : Indexed) (p : Nodes) (opens latest names triples : ℕ) → IsKept x p opens latest names triples → triples < 2 ^ 96
+triples_few x p opens latest names triples k = omega (arith, k.counted.triples_are, triple_count-most is_current (records_by x p) k.versions, length-records_of x.entries p.nodes p.marks, k.stored.few)

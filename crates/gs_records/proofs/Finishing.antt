@@ -180,7 +180,6 @@ module _ (v : Pins) (x y : Indexed) (p0 p p1 q : Nodes) (n freed : ℕ) (left : 
 
   pub swept : Swept v.seats n freed left x y p0 q
   swept = record {
-    many = w.many;
     stored = swept_stored;
     drops = swept_drops;
     waste = record {

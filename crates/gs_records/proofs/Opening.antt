@@ -13,7 +13,7 @@ use Rattle.gs_records.specs.Kept.{AreSingle}
 use Rattle.gs_records.specs.Calls.{Opens}
 use Rattle.gs_records.specs.Stored.{records_by, IsStored, Changes, Grows}
 use Rattle.gs_records.proofs.Sums.{gains_turned, open_turned}
-use Rattle.gs_records.proofs.Keeping.{free_without, free_birth, used_within, keeps_graphs, turns, stored_bare}
+use Rattle.gs_records.proofs.Keeping.{free_without, free_birth, keeps_graphs, turns, stored_bare}
 
 zero_or : (n : ℕ) → (n ≡ 0) ⊎ (0 < n)
 zero_or zero = inl refl
@@ -65,13 +65,13 @@ module _ (x y : Indexed) (p q r : Nodes) (opens latest n : ℕ) (node : Node) (s
   pub opened_current : current (records_by y r) ≡ current (records_by x p)
   opened_current = (keeps_graphs (records_by x p) (records_by y r) n opened s.single opened_turns (ap is_kept was_free) refl).now
 
-  pub opened_now : (a b : Recorded) → a.records ≡ records_by x p → b.records ≡ records_by y r → b.listed ≡ a.listed → b.latest ≡ a.latest → b.limit ≡ a.limit → length y.entries ≤ b.limit → Opens a b n
-  opened_now a b from to listed same limit within =
+  pub opened_now : (a b : Recorded) → a.records ≡ records_by x p → b.records ≡ records_by y r → b.listed ≡ a.listed → b.latest ≡ a.latest → b.limit ≡ a.limit → n < b.limit → Opens a b n
+  opened_now a b from to listed same limit below =
       let turn : Turns a.records b.records n opened = subst (λ rs. Turns rs b.records n opened) (sym from) (subst (λ rs. Turns (records_by x p) rs n opened) (sym to) opened_turns) in
       let single : AreSingle a.records = subst AreSingle (sym from) s.single in
       let was : record_at a.records n ≡ free = ap (λ rs. record_at rs n) from ∙ was_free in
       record {
-        below = omega (arith, within, used_within r y n 0 many (record { node = node; found = fills.updates.changed; birth_is = birth }));
+        below = below;
         was = was;
         turns = turn;
         graphs = keeps_graphs a.records b.records n opened single turn (ap is_kept was) refl;

@@ -148,7 +148,6 @@ not_aside m death whole off is = true≢false (sym (ap is_aside is) ∙ off)
 -- at first none went
 pub sweeps_none : (pins : List (Option ℕ)) (x : Indexed) (p : Nodes) → aside_count p ≡ 0 → Sweeps pins 0 x x p p
 sweeps_none pins x p none = record {
-  many = refl;
   stored = λ opens latest s. s;
   drops = drops_none pins (records_by x p);
   aside = λ m death whole n is found. absurd (not_aside (mark_at p m) death whole (none_aside p none m) is);
@@ -159,7 +158,6 @@ pub sweeps_kept : (pins : List (Option ℕ)) (k : ℕ) (x0 x : Indexed) (p0 p p1
 sweeps_kept pins k x0 x p0 p p1 q r w u s =
     let dead : KeepsDead p q = dead_marked p p p1 q r (retired r.death r.whole) s.mark (dead_same p) u s.marks s.dead in
     record {
-      many = w.many;
       stored = λ opens latest h. dead_stored x p q dead opens latest (w.stored opens latest h);
       drops = subst (Drops pins k (records_by x0 p0)) (sym (dead_records x p q dead)) w.drops;
       aside = λ m death whole n is found. elim (cases_eq m r.id) [
@@ -177,7 +175,6 @@ pub sweeps_freed : (pins : List (Option ℕ)) (k : ℕ) (x0 x y : Indexed) (p0 p
 sweeps_freed pins k x0 x y p0 p p1 q r n h w u found none l =
     let now = w.stored h.opens h.latest h.stored in
     record {
-      many = l.blanks.many ∙ w.many;
       stored = λ opens latest s. freed_stored x y p p1 q r n u found l opens latest (w.stored opens latest s);
       drops = drops_more pins k (records_by x0 p0) (records_by x p) (records_by y q) r.id w.drops now.single (freed_turns x y p p1 q r n u found l h.opens h.latest now) (freed_unneeded x y p p1 q r n u found l h.opens h.latest now pins none);
       aside = λ m death whole a is at. elim (cases_eq m r.id) [

@@ -1,5 +1,5 @@
 -- How many names and triples the graphs of now have, as they are counted beside the records. No public clause cites this module.
-use Rattle.std.specs.Prelude.{◌≡◌, ℕ, ◌≤◌, List, length}
+use Rattle.std.specs.Prelude.{◌≡◌, ℕ, List}
 use Rattle.gs_term.specs.declared.names.Target.{Target}
 use Rattle.gs_term.specs.declared.names.Target.TheVariants.{Default, Named}
 use Rattle.gs_pool.specs.Pool.{Nodes, aside_count}
@@ -20,10 +20,9 @@ pub record AreCounted (rs : List Record) (names triples : ℕ) : Type 0 where
   pub names_are : names ≡ name_count (current rs)
   pub triples_are : triples ≡ triple_count (current rs)
 
--- records are stored and counted, under so many numbers at most, each is of a version of a graph, and no node is set aside
-pub record IsKept (x : Indexed) (p : Nodes) (opens latest names triples limit : ℕ) : Type 0 where
+-- records are stored and counted, each is of a version of a graph, and no node is set aside
+pub record IsKept (x : Indexed) (p : Nodes) (opens latest names triples : ℕ) : Type 0 where
   pub stored : IsStored x p opens latest
-  pub within : length x.entries ≤ limit
   pub none_aside : aside_count p ≡ 0
   pub versions : AreVersions (records_by x p)
   pub counted : AreCounted (records_by x p) names triples

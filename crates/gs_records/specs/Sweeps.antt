@@ -70,14 +70,12 @@ AsideIsNeeded pins q = (x death : ℕ) (whole : Bool) (n : Node) → mark_at q x
 
 -- so many went, and what is set aside is needed
 pub record Sweeps (pins : List (Option ℕ)) (freed : ℕ) (x y : Indexed) (p q : Nodes) : Type 0 where
-  pub many : length y.entries ≡ length x.entries
   pub stored : KeepsStored x y p q
   pub drops : Drops pins freed (records_by x p) (records_by y q)
   pub aside : AsideIsNeeded pins q
 
 -- a whole reclaim
 pub record Swept (pins : List (Option ℕ)) (n freed : ℕ) (left : Bool) (x y : Indexed) (p q : Nodes) : Type 0 where
-  pub many : length y.entries ≡ length x.entries
   pub stored : KeepsStored x y p q
   pub drops : Drops pins freed (records_by x p) (records_by y q)
   pub waste : Frees pins n freed left (waste_in (records_by x p)) (waste_in (records_by y q))

@@ -1,6 +1,5 @@
 //! What a record leaves in a pool, room for one more, and of what no record is kept.
-ghost use Rattle.std.specs.Prelude.{◌≡◌, ◌+◌, ◌≤◌, length, min, IfErr, OnOk, OnErr};
-ghost use Rattle.gs_model.specs.Limits.{last_node};
+ghost use Rattle.std.specs.Prelude.{◌≡◌, length, IfErr, OnOk, OnErr};
 ghost use Rattle.gs_catalogue.specs.Catalogues.{no_versions, version_at};
 ghost use Rattle.gs_records.specs.Calls.{is_nothing};
 ghost use Rattle.gs_records.specs.Stored.{Grows};
@@ -8,7 +7,7 @@ ghost use Rattle.gs_records.specs.Counts.{named_one};
 
 use gs_catalogue::GraphVersion;
 use gs_index::Index;
-use gs_model::{LAST_NODE, Refusal};
+use gs_model::Refusal;
 use gs_pool::{Key, Node, Pool};
 use gs_term::Target;
 
@@ -30,28 +29,15 @@ pub fn node_of(birth: u64) -> Node
     }
 }
 
-/// How many numbers there are up to `last`, or to the greatest number of a node.
-pub fn limit_of(last: u32) -> usize
-    ensures { result ≡ min last last_node + 1 }
-{
-    u64::from(last).min(LAST_NODE) as usize + 1
-}
-
-/// An entry for the next number, where the nodes of all numbers are in use and the number is below the
-/// limit.
-pub fn grow(index: &mut Index, pool: &Pool, limit: usize) -> Result<(), Refusal>
-    requires many { length pool.now.nodes ≡ length index.old.entries }
-    requires within { length index.old.entries ≤ limit }
+/// An entry for the next number, where the nodes of all numbers are in use.
+pub fn grow(index: &mut Index, pool: &Pool) -> Result<(), Refusal>
+    requires { length pool.now.nodes ≡ length index.old.entries }
     ensures ok { OnOk result (Grows index.old index.new pool.now) }
-    ensures within { length index.new.entries ≤ limit }
     ensures refused { IfErr result (λ e. e ≡ Refusal.NoMemory) }
     ensures kept { OnErr result (index.new ≡ index.old) }
 {
     if pool.nodes_in_use() < index.len() as u64 {
         return Ok(());
-    }
-    if index.len() == limit {
-        return Err(Refusal::NoMemory);
     }
     index.push()
 }

@@ -26,6 +26,7 @@ fn keep(pool: &mut Pool, versions: &Versions, entry: Retired, seat: usize)
     requires agrees { Agrees pool.old versions.now }
     requires needed { IsNeededFor versions.now pool.old seat entry }
     ensures stays { Stays versions.now.seats pool.old pool.new entry }
+    ensures limit { pool.new.limit ≡ pool.old.limit }
     ensures pins { pool.new.pins ≡ pool.old.pins }
     ensures loose { pool.new.loose ≡ pool.old.loose }
 {
@@ -52,6 +53,7 @@ fn let_go(index: &mut Index, pool: &mut Pool, number: u32)
     requires unlisted { mark_at pool.old number ≡ plain }
     requires lists { ListsMade index.old }
     ensures lets { Lets index.old index.new pool.old pool.new number }
+    ensures limit { pool.new.limit ≡ pool.old.limit }
     ensures pins { pool.new.pins ≡ pool.old.pins }
     ensures loose { pool.new.loose ≡ pool.old.loose }
 {
@@ -66,6 +68,7 @@ fn settle(index: &mut Index, pool: &mut Pool, versions: &Versions, entry: Retire
     requires agrees { Agrees pool.old versions.now }
     requires lists { ListsMade index.old }
     ensures settles { Settles versions.now.seats index.old index.new pool.old pool.new entry result }
+    ensures limit { pool.new.limit ≡ pool.old.limit }
     ensures pins { pool.new.pins ≡ pool.old.pins }
     ensures loose { pool.new.loose ≡ pool.old.loose }
 {
@@ -86,6 +89,7 @@ fn free_unneeded(index: &mut Index, pool: &mut Pool, versions: &Versions, n: u64
     ensures sweeps { Sweeps versions.now.seats result index.old index.new pool.old pool.new }
     ensures most { result ≤ n }
     ensures all { (result ≡ n) ⊎ AreHeld pool.new }
+    ensures limit { pool.new.limit ≡ pool.old.limit }
     ensures pins { pool.new.pins ≡ pool.old.pins }
 {
     let mut freed = 0;
@@ -104,6 +108,7 @@ fn free_unneeded(index: &mut Index, pool: &mut Pool, versions: &Versions, n: u64
 fn restore(pool: &mut Pool)
     ensures dead { KeepsDead pool.old pool.new }
     ensures none_aside { aside_count pool.new ≡ 0 }
+    ensures limit { pool.new.limit ≡ pool.old.limit }
     ensures pins { pool.new.pins ≡ pool.old.pins }
 {
     while let Some(entry) = pool.next_aside() {
@@ -116,8 +121,9 @@ fn restore(pool: &mut Pool)
 pub fn reclaim(index: &mut Index, pool: &mut Pool, versions: &Versions, n: u64) -> Reclaimed
     requires stored { AreStored index.old pool.old }
     requires none_aside { aside_count pool.old ≡ 0 }
-    ensures { Swept versions.now.seats n result.freed result.left
+    ensures swept { Swept versions.now.seats n result.freed result.left
         index.old index.new pool.old pool.new }
+    ensures limit { pool.new.limit ≡ pool.old.limit }
 {
     follow_pins(pool, versions);
     let freed = free_unneeded(index, pool, versions, n);

@@ -9,7 +9,7 @@ ghost use Rattle.gs_records.specs.Kept.{HasNoCurrent};
 ghost use Rattle.gs_records.specs.Calls.{is_nothing, Opens, GivesUp, Removes, Places, Puts, FindsCurrent};
 ghost use Rattle.gs_records.specs.Reclaims.{Reclaims};
 
-use crate::places::{grow, is_nothing_of, limit_of, missing_version, name_of, node_of};
+use crate::places::{grow, is_nothing_of, missing_version, name_of, node_of};
 use crate::reclaiming::{Reclaimed, reclaim};
 use gs_catalogue::GraphVersion;
 use gs_index::{Entry, Index};
@@ -28,11 +28,8 @@ use std::marker::Model;
 pub struct Records {
     pub(crate) index: Index,
     // A node for each number in use, with its birth. It is retired where its record has ended, or was
-    // given up.
+    // given up. The pool refuses a number past the last one.
     pub(crate) pool: Pool,
-    // How many numbers there are at most. The pool has the same limit, but `follow_pins` does not say that
-    // it keeps it.
-    limit: usize,
     // How many records are open.
     opened: usize,
     // The number of the last commit.
@@ -55,10 +52,10 @@ impl Model for Records {
       records = records_by r.index r.pool;
       listed = r.index.listed;
       latest = r.latest;
-      limit = r.limit;
+      limit = r.pool.limit;
     } };
 
-    ghost invariant = { λ r. IsKept r.index r.pool r.opened r.latest r.names r.triples r.limit };
+    ghost invariant = { λ r. IsKept r.index r.pool r.opened r.latest r.names r.triples };
 }
 
 impl Records {
@@ -78,7 +75,6 @@ impl Records {
         Ok(Records {
             index: Index::new(alloc),
             pool,
-            limit: limit_of(last),
             opened: 0,
             latest: commit,
             names: 0,
@@ -95,7 +91,7 @@ impl Records {
     {
         self.index.reserve(self.opened + 1)?;
         self.pool.reserve(1)?;
-        grow(&mut self.index, &self.pool, self.limit)?;
+        grow(&mut self.index, &self.pool)?;
         let number = self.pool.alloc_reserved(node_of(0));
         self.opened += 1;
         Ok(number)

@@ -6,4 +6,4 @@ pub returns-in-None : goal.returns-in-None
 returns-in-None c =
     let ne : slice_index_or c.args.pool.now.pins c.args.list None ≢ c.pin_at-pin.result = λ e. pins_apart _ _ (sym c.eq.ensures ∙ c.if-eq.false) (c.pin_at.ensures.pin ∙ e) in
     let whole = rw c.in-None.is at c.holder_of.ensures in
-    follows_pin c.args.pool.now c.follow.new.self c.args.versions.now c.args.list c.pin_at-pin.result c.requires c.pin_at-pin.ensures c.follow.ensures.nodes c.follow.ensures.marks c.follow.ensures.pins c.follow.ensures.loose c.follow.ensures.held (goes_whole c.args.pool.now c.args.versions.now c.args.list c.pin_at-pin.result ne whole)
+    follows_pin c.args.pool.now c.follow.new.self c.args.versions.now c.args.list c.pin_at-pin.result c.requires c.pin_at-pin.ensures c.follow.ensures.nodes c.follow.ensures.marks c.follow.ensures.spare c.follow.ensures.limit c.follow.ensures.pins c.follow.ensures.loose c.follow.ensures.held (goes_whole c.args.pool.now c.args.versions.now c.args.list c.pin_at-pin.result ne whole)

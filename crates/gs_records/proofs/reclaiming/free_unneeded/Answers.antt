@@ -7,6 +7,7 @@ use Rattle.gs_records.proofs.reclaiming.free_unneeded.Goals as goal
 pub loop-freed-init : goal.loop-freed-init
 loop-freed-init c = record {
   sweeps = sweeps_none c.args.versions.now.seats c.args.index.now c.args.pool.now c.requires.none_aside;
+  limit = refl;
   pins = refl;
   most = omega arith;
 }
@@ -20,6 +21,7 @@ settle-requires-clause-lists c = (c.loop-freed.invariant.sweeps.stored c.require
 pub loop-freed-preserved-then-settle : goal.loop-freed-preserved-then-settle
 loop-freed-preserved-then-settle c = record {
   sweeps = sweeps_settled c.args.versions.now.seats c.loop-freed.freed c.args.index.now c.loop-freed.index c.settle.new.index c.args.pool.now c.loop-freed.pool c.next_retired.new.self c.settle.new.pool c.in-Some.entry c.requires.stored c.loop-freed.invariant.sweeps c.in-Some.ensures.takes (subst (Settles c.args.versions.now.seats c.loop-freed.index c.settle.new.index c.next_retired.new.self c.settle.new.pool c.in-Some.entry) c.if-settle.true c.settle.ensures.settles);
+  limit = c.settle.ensures.limit ∙ c.in-Some.ensures.takes.marks.limit ∙ c.loop-freed.invariant.limit;
   pins = c.settle.ensures.pins ∙ c.in-Some.ensures.pins ∙ c.loop-freed.invariant.pins;
   most = omega (arith, c.loop-freed-test.true);
 }
@@ -27,6 +29,7 @@ loop-freed-preserved-then-settle c = record {
 pub loop-freed-preserved : goal.loop-freed-preserved
 loop-freed-preserved c = record {
   sweeps = sweeps_stayed c.args.versions.now.seats c.loop-freed.freed c.args.index.now c.loop-freed.index c.settle.new.index c.args.pool.now c.loop-freed.pool c.next_retired.new.self c.settle.new.pool c.in-Some.entry c.loop-freed.invariant.sweeps c.in-Some.ensures.takes (subst (Settles c.args.versions.now.seats c.loop-freed.index c.settle.new.index c.next_retired.new.self c.settle.new.pool c.in-Some.entry) c.if-settle.false c.settle.ensures.settles);
+  limit = c.settle.ensures.limit ∙ c.in-Some.ensures.takes.marks.limit ∙ c.loop-freed.invariant.limit;
   pins = c.settle.ensures.pins ∙ c.in-Some.ensures.pins ∙ c.loop-freed.invariant.pins;
   most = c.loop-freed.invariant.most;
 }

@@ -5,6 +5,7 @@ use Rattle.gs_records.proofs.reclaiming.free_unneeded.Given as goal
 abbrev pub invariant-loop-freed : goal.invariant-loop-freed
 invariant-loop-freed l = record {
   sweeps : Sweeps l.versions.seats l.freed l.fn.index l.index l.fn.pool l.pool;
+  limit : l.pool.limit ≡ l.fn.pool.limit;
   pins : l.pool.pins ≡ l.fn.pool.pins;
   most : l.freed ≤ l.n;
 }

@@ -6,6 +6,7 @@ use Rattle.gs_records.proofs.reclaiming.restore.Given as goal
 abbrev pub invariant-loop-entry : goal.invariant-loop-entry
 invariant-loop-entry l = record {
   dead : KeepsDead l.fn.pool l.pool;
+  limit : l.pool.limit ≡ l.fn.pool.limit;
   pins : l.pool.pins ≡ l.fn.pool.pins;
 }
 

@@ -14,7 +14,6 @@ invariant_of-self c =
     let now = given_current s.index s.pool c.retire_one.new.self s.opened s.latest c.args.number c.self.invariant.stored is marks in
     record {
       stored = given_stored s.index s.pool c.retire_one.new.self s.opened s.latest c.args.number c.self.invariant.stored is marks;
-      within = c.self.invariant.within;
       none_aside = c.retire_one.ensures.aside ∙ c.self.invariant.none_aside;
       versions = versions_bare (records_by s.index s.pool) (records_by s.index c.retire_one.new.self) c.args.number unused (given_turns s.index s.pool c.retire_one.new.self s.opened s.latest c.args.number c.self.invariant.stored is marks) refl c.self.invariant.versions;
       counted = counted_same (records_by s.index s.pool) (records_by s.index c.retire_one.new.self) s.names s.triples now c.self.invariant.counted;
@@ -25,4 +24,4 @@ returns c =
     let s = c.self.inside in
     let marks = c.retire_one.ensures.marks in
     let is : record_at (records_by s.index s.pool) c.args.number ≡ opened = rw (← c.self.view_is) at c.requires in
-    rw (← c.self.view_is) (given_up s.index s.pool c.retire_one.new.self s.opened s.latest c.args.number c.self.invariant.stored is marks _ _ refl refl refl refl refl)
+    rw (← c.self.view_is) (given_up s.index s.pool c.retire_one.new.self s.opened s.latest c.args.number c.self.invariant.stored is marks _ _ refl refl refl refl marks.limit)

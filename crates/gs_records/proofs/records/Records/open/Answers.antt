@@ -19,14 +19,14 @@ pub invariant_of-self-in_err-reserve-2 : goal.invariant_of-self-in_err-reserve-2
 invariant_of-self-in_err-reserve-2 c =
     let s = c.self.inside in
     let w = c.reserve.ensures in
-    roomier_kept s.index c.reserve.new.self s.pool c.reserve-2.new.self s.opened s.latest s.names s.triples s.limit w.entries w.listed w.spare c.reserve-2.ensures.nodes c.reserve-2.ensures.marks c.self.invariant
+    roomier_kept s.index c.reserve.new.self s.pool c.reserve-2.new.self s.opened s.latest s.names s.triples w.entries w.listed w.spare c.reserve-2.ensures.nodes c.reserve-2.ensures.marks c.self.invariant
 
 pub invariant_of-self-in_err-grow : goal.invariant_of-self-in_err-grow
 invariant_of-self-in_err-grow c =
     let s = c.self.inside in
     let w = c.reserve.ensures in
-    let roomier = roomier_kept s.index c.reserve.new.self s.pool c.reserve-2.new.self s.opened s.latest s.names s.triples s.limit w.entries w.listed w.spare c.reserve-2.ensures.nodes c.reserve-2.ensures.marks c.self.invariant in
-    subst (λ x. IsKept x c.reserve-2.new.self s.opened s.latest s.names s.triples s.limit) (sym c.in_err-grow.ensures.kept) roomier
+    let roomier = roomier_kept s.index c.reserve.new.self s.pool c.reserve-2.new.self s.opened s.latest s.names s.triples w.entries w.listed w.spare c.reserve-2.ensures.nodes c.reserve-2.ensures.marks c.self.invariant in
+    subst (λ x. IsKept x c.reserve-2.new.self s.opened s.latest s.names s.triples) (sym c.in_err-grow.ensures.kept) roomier
 
 pub invariant_of-self-2 : goal.invariant_of-self-2
 invariant_of-self-2 c =
@@ -45,7 +45,6 @@ invariant_of-self-2 c =
     let few = grown_few w y q grows room.ok room.fits room.small in
     record {
       stored = opened_stored s.index y s.pool q r s.opened s.latest n c.node_of.result c.self.invariant.stored alike fills c.node_of.ensures many spare few;
-      within = c.grow.ensures.within;
       none_aside = fills.aside ∙ ap (count_by is_aside) room.marks ∙ c.self.invariant.none_aside;
       versions = versions_bare (records_by s.index s.pool) (records_by y r) n opened (opened_turns s.index y s.pool q r s.opened s.latest n c.node_of.result c.self.invariant.stored alike fills c.node_of.ensures many spare few) refl c.self.invariant.versions;
       counted = counted_same (records_by s.index s.pool) (records_by y r) s.names s.triples (opened_current s.index y s.pool q r s.opened s.latest n c.node_of.result c.self.invariant.stored alike fills c.node_of.ensures many spare few) c.self.invariant.counted;
@@ -68,5 +67,5 @@ returns-clause-ok c =
     fills c.node_of.ensures (grown_many w y q r n c.node_of.result grows fills)
     (omega (arith, grows.spare, c.in_ok-reserve.ensures.ok))
     (grown_few w y q grows room.ok room.fits room.small)
-    _ _ refl refl (grows.listed ∙ c.in_ok-reserve.ensures.listed) refl refl c.grow.ensures.within
+    _ _ refl refl (grows.listed ∙ c.in_ok-reserve.ensures.listed) refl (c.alloc_reserved-number.ensures.limit ∙ room.limit) fills.below
     )

@@ -1,11 +1,10 @@
-use Rattle.std.proofs.Common.{◌≡◌, ◌<◌, length, refl, ap, subst, ◌∙◌, arith, Some}
-use Rattle.std.proofs.lemmas.List.{length-set}
+use Rattle.std.proofs.Common.{◌≡◌, ◌<◌, refl, ap, subst, ◌∙◌, arith, Some}
 use Rattle.gs_records.specs.Kept.{HasNoCurrent}
 use Rattle.gs_records.specs.Calls.{FindsCurrent}
 use Rattle.gs_records.specs.Stored.{records_by}
 use Rattle.gs_records.proofs.Removing.{ends_none, removed, end_ends, end_current, end_stored}
 use Rattle.gs_index.specs.declared.entries.Entry.{Entry}
-use Rattle.gs_index.specs.Indexes.{entry_at, ended}
+use Rattle.gs_index.specs.Indexes.{entry_at}
 use Rattle.gs_records.proofs.Seeking.{version_current}
 use Rattle.gs_records.proofs.Versions.{versions_ended}
 use Rattle.gs_records.proofs.Counting.{counted_fewer, names_enough, triples_enough}
@@ -35,7 +34,6 @@ invariant_of-self-2 c =
     let now = end_current s.index c.end.new.self s.pool c.retire_one.new.self s.opened s.latest c.args.commit n c.args.target.now finds.entry c.self.invariant.stored finds.at finds.same finds.lives c.end.ensures.entries c.end.ensures.listed c.end.ensures.spare c.retire_one.ensures.marks in
     record {
       stored = end_stored s.index c.end.new.self s.pool c.retire_one.new.self s.opened s.latest c.args.commit n c.args.target.now finds.entry c.self.invariant.stored finds.at finds.same finds.lives c.end.ensures.entries c.end.ensures.listed c.end.ensures.spare c.retire_one.ensures.marks later;
-      within = omega (arith, c.self.invariant.within, ap length c.end.ensures.entries, length-set s.index.entries n (ended (entry_at s.index.entries n) c.args.commit));
       none_aside = c.retire_one.ensures.aside ∙ c.self.invariant.none_aside;
       versions = versions_ended old new t c.args.commit ends c.self.invariant.versions;
       counted = counted_fewer old new t v s.names s.triples c.name_of.result c.from.result found now c.self.invariant.counted c.name_of.ensures gone;
@@ -69,5 +67,5 @@ returns c =
     rw (← c.self.view_is) (
     removed _ _ c.args.target.now c.args.commit c.self.invariant.stored.single
     (end_ends s.index c.end.new.self s.pool c.retire_one.new.self s.opened s.latest c.args.commit n c.args.target.now finds.entry c.self.invariant.stored finds.at finds.same finds.lives c.end.ensures.entries c.end.ensures.listed c.end.ensures.spare marks)
-    c.end.ensures.listed refl refl
+    c.end.ensures.listed refl marks.limit
     )
