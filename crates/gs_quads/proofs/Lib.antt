@@ -7,3 +7,6 @@ pub mod Walking
 pub mod Rests
 pub mod Whole
 pub mod Lasting
+pub mod Joined
+pub mod Counted
+pub mod Calls

@@ -108,7 +108,7 @@ filter_listed p n (m ∷ ms) = go (m == n) refl (p m) refl (filter_listed p n ms
     go false is false passes rest = rest
 
 -- just what a version has is among its numbers
-number_listed : (v : ℕ) (r : Recorded) → AreListed r.records r.listed → (n : ℕ) → is_listed n (version_numbers v r) ≡ has_number v r.records n
+pub number_listed : (v : ℕ) (r : Recorded) → AreListed r.records r.listed → (n : ℕ) → is_listed n (version_numbers v r) ≡ has_number v r.records n
 number_listed v r al n =
     filter_listed (has_number v r.records) n r.listed
     ∙ ap (λ b. b && has_number v r.records n) (al.members n)

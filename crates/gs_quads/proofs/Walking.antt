@@ -1,9 +1,9 @@
 -- A walk over the numbers of a version: what is found of the next ones, and of those after them.
-use Rattle.std.proofs.Common.{◌≡◌, ℕ, ◌+◌, ◌<◌, true, List, [], ◌∷◌, ◌++◌, length, get_or, take, Option, Some, None, refl, sym, ap, ◌∙◌, subst}
+use Rattle.std.proofs.Common.{◌≡◌, ℕ, ◌+◌, ◌<◌, ◌≤◌, true, List, [], ◌∷◌, ◌++◌, length, get_or, take, drop, Option, Some, None, refl, sym, ap, ◌∙◌, subst}
 use Rattle.std.specs.Prelude.{IfSome}
 use Rattle.std.specs.List.{All}
 use Rattle.std.proofs.lemmas.Grind.{flat_map-append}
-use Rattle.std.proofs.lemmas.List.{append-nil, take_more}
+use Rattle.std.proofs.lemmas.List.{append-nil, take_more, take-append-drop}
 use Rattle.std.proofs.lemmas.List.Elements.{All-weaker}
 use Rattle.gs_index.specs.Indexes.{is_listed, numbers_after}
 use Rattle.gs_records.specs.Records.{Recorded, record_at, is_kept, has_at}
@@ -13,7 +13,7 @@ use Rattle.gs_quads.specs.declared.runs.Source.{Source}
 use Rattle.gs_quads.specs.declared.runs.Found.{Found}
 use Rattle.gs_quads.specs.Places.{Place, version_numbers, number_at, places_left}
 use Rattle.gs_quads.specs.Found.{one_graph, all_graphs, own_graph, AreReadable, IsQuadPlaceOf, places_found, FindsMore, IsGraphOf, numbers_past, AreNext}
-use Rattle.gs_quads.proofs.Adding.{adds_both}
+use Rattle.gs_quads.proofs.Adding.{adds_full, adds_both}
 use Rattle.gs_quads.proofs.Numbers.{after_filter}
 
 -- a number that a version has is kept
@@ -32,6 +32,14 @@ graphs_more s numbers i d within =
     ap (all_graphs s) (take_more numbers i d within)
     ∙ flat_map-append (one_graph s None) (take i numbers) (get_or numbers i d ∷ [])
     ∙ ap (λ xs. all_graphs s (take i numbers) ++ xs) (append-nil one)
+
+-- where there are enough, the numbers that are left add none
+pub graphs_full : (s : Source) (most : ℕ) (old new : Found) (numbers : List ℕ) (i : ℕ) → FindsMore s most old new (all_graphs s (take i numbers)) → most ≤ length new.keys.items → FindsMore s most old new (all_graphs s numbers)
+graphs_full s most old new numbers i a full =
+    let first = all_graphs s (take i numbers) in
+    let rest = all_graphs s (drop i numbers) in
+    let all : first ++ rest ≡ all_graphs s numbers = sym (flat_map-append (one_graph s None) (take i numbers) (drop i numbers)) ∙ ap (all_graphs s) (take-append-drop i numbers) in
+    subst (FindsMore s most old new) all (adds_both s most old new new first rest a (adds_full s most new a.found rest full))
 
 module _ (s : Source) (v : ℕ) (graphs : AreReadable s v) where
   -- what the version has can be read

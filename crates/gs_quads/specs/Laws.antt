@@ -1,15 +1,23 @@
 -- What the laws say.
-use Rattle.std.specs.Prelude.{◌≡◌, ℕ, true, List, ◌++◌, Option, None}
+use Rattle.std.specs.Prelude.{◌≡◌, ℕ, ◌<◌, Bool, true, false, List, [], ◌∷◌, ◌++◌, length, slice_index_or, Option, Some, None}
+use Rattle.std.specs.List.{concat, flat_map}
 use Rattle.gs_model.specs.Terms.{Term}
+use Rattle.gs_term.specs.declared.names.Target.{Target}
 use Rattle.gs_pool.specs.Pool.{Nodes}
-use Rattle.gs_tree.specs.Tree.{tree_at}
+use Rattle.gs_tree.specs.Tree.{Stands, tree_at}
+use Rattle.gs_tree.specs.Reading.{keys_at}
+use Rattle.gs_catalogue.specs.declared.versions.GraphVersion.{GraphVersion}
+use Rattle.gs_catalogue.specs.Catalogues.{triple_count}
 use Rattle.gs_datasets.specs.Standing.{dataset_at}
-use Rattle.gs_records.specs.Records.{Record, Recorded}
+use Rattle.gs_records.specs.Records.{Record, opened, Recorded, record_at}
 use Rattle.gs_records.specs.Graphs.{graphs_at}
 use Rattle.gs_records.specs.Kept.{AreSingle}
-use Rattle.gs_records.specs.Order.{has_number, age_at, AreListed, graph_of_number}
+use Rattle.gs_records.specs.Calls.{Opens, GivesUp, Removes, Puts}
+use Rattle.gs_records.specs.Reclaims.{Reclaims}
+use Rattle.gs_records.specs.Order.{entry_of, has_number, age_at, AreListed, graph_of_number}
+use Rattle.gs_quads.specs.declared.pieces.QuadPiece.{QuadPiece}
 use Rattle.gs_quads.specs.Places.{Place, root_at, quads_left}
-use Rattle.gs_quads.specs.Pieces.{AreGraphs, IsQuadPlace}
+use Rattle.gs_quads.specs.Pieces.{AreGraphs, IsQuadPlace, IsQuadPiece}
 use Rattle.gs_quads.specs.Quads.{quads_of}
 
 -- from the beginning on, the lines of a version are those of its dataset
@@ -26,16 +34,68 @@ pub record HasSame (v : ℕ) (old new : Recorded) : Type 0 where
   pub graphs : (n : ℕ) → has_number v old.records n ≡ true → graph_of_number new.records n ≡ graph_of_number old.records n
   pub ages : (n : ℕ) → has_number v old.records n ≡ true → age_at new.records n ≡ age_at old.records n
 
--- the roots that version v has mean the same trees in both pools
+-- a later pool has each node of the trees that the roots of version v mean
 abbrev pub HasTrees : ℕ → List Record → Nodes → Nodes → Type 0
-HasTrees v rs p q = (n : ℕ) → has_number v rs n ≡ true → tree_at q (root_at rs n) ≡ tree_at p (root_at rs n)
+HasTrees v rs p q = (n : ℕ) → has_number v rs n ≡ true → Stands q (tree_at p (root_at rs n))
 
--- the lines of a version from a place on stay the same among later records that have the version, in a later pool that has its
--- trees, and among more terms
+-- A read of version v goes on among other terms, in another pool and other records: the version can be read there, the place where
+-- the read stands is one of it still, and the lines from there on are the same.
+pub record GoesOn (terms later : List Term) (p q : Nodes) (v : ℕ) (old new : Recorded) (from : Option Place) : Type 0 where
+  pub graphs : AreGraphs later q v new.records
+  pub place : IsQuadPlace later v new.records from
+  pub lines : quads_left later q v new from ≡ quads_left terms p v old from
+
+-- so it does among more terms, in a later pool that has the trees of the version, and among later records that have the version
 abbrev pub QuadsOutlast : Type 0
 QuadsOutlast =
     (terms more : List Term) (p q : Nodes) (v : ℕ) (old new : Recorded) (from : Option Place)
     → AreListed old.records old.listed → AreListed new.records new.listed
     → AreGraphs terms p v old.records → IsQuadPlace terms v old.records from
     → HasSame v old new → HasTrees v old.records p q
-    → quads_left (terms ++ more) q v new from ≡ quads_left terms p v old from
+    → GoesOn terms (terms ++ more) p q v old new from
+
+-- A read of version v to the end, piece by piece, of so many lines each as was asked for then. The next piece begins at the last place of
+-- the one before, among terms, in a pool and in records where the lines from there on are the same.
+pub data IsRead (v : ℕ) : List Term → Nodes → Recorded → Option Place → List QuadPiece → Type 0 where
+  ends : (terms : List Term) (p : Nodes) (r : Recorded) (from : Option Place) (count : ℕ) (piece : QuadPiece)
+      → IsQuadPiece terms p v r from count piece → piece.is_end ≡ true
+      → IsRead v terms p r from (piece ∷ [])
+  goes : (terms later : List Term) (p q : Nodes) (r new : Recorded) (from : Option Place) (count : ℕ) (piece : QuadPiece) (rest : List QuadPiece)
+      → IsQuadPiece terms p v r from count piece → piece.is_end ≡ false
+      → quads_left later q v new piece.last ≡ quads_left terms p v r piece.last
+      → IsRead v later q new piece.last rest
+      → IsRead v terms p r from (piece ∷ rest)
+
+-- the bytes of its pieces, joined, are those of all lines from its beginning on
+abbrev pub PiecesAreAll : Type 0
+PiecesAreAll =
+    (v : ℕ) (terms : List Term) (p : Nodes) (r : Recorded) (from : Option Place) (pieces : List QuadPiece)
+    → IsRead v terms p r from pieces
+    → flat_map (λ (piece : QuadPiece). piece.bytes.items) pieces ≡ concat (quads_left terms p v r from)
+
+-- the count of each version that version v has is how many keys its root means
+abbrev pub AreCounted : ℕ → Nodes → List Record → Type 0
+AreCounted v p rs = (n : ℕ) → has_number v rs n ≡ true → (entry_of (record_at rs n)).version.triples ≡ length (keys_at p (root_at rs n))
+
+-- then a version has as many lines as its graphs have triples, by the count of each
+abbrev pub AsManyAsTriples : Type 0
+AsManyAsTriples =
+    (terms : List Term) (p : Nodes) (v : ℕ) (r : Recorded)
+    → AreSingle r.records → AreListed r.records r.listed → AreCounted v p r.records
+    → length (quads_left terms p v r None) ≡ triple_count (graphs_at v r.records)
+
+-- A version has the same after one call and then another. Opening a record and giving one up leave it all that it has; so does what ends or
+-- makes a graph at a later commit, and a reclaim where a seat has pinned it.
+pub record CallsKeep (v : ℕ) : Type 0 where
+  pub then : (old mid new : Recorded) → HasSame v old mid → HasSame v mid new → HasSame v old new
+  pub opens : (old new : Recorded) (n : ℕ) → Opens old new n → HasSame v old new
+  pub gives_up : (old new : Recorded) (n : ℕ) → record_at old.records n ≡ opened → GivesUp old new n → HasSame v old new
+  pub removes : (old new : Recorded) (t : Target) (commit : ℕ) → v < commit → Removes old new t commit → HasSame v old new
+  pub puts : (old new : Recorded) (n : ℕ) (t : Target) (g : GraphVersion) (commit : ℕ) → v < commit
+      → record_at old.records n ≡ opened → Puts old new n t g commit → HasSame v old new
+  pub reclaims : (old new : Recorded) (pins : List (Option ℕ)) (seat most freed : ℕ) (left : Bool)
+      → slice_index_or pins seat None ≡ Some v → Reclaims pins most freed left old new → HasSame v old new
+
+-- so it is with each version
+abbrev pub CallsKeepVersions : Type 0
+CallsKeepVersions = (v : ℕ) → CallsKeep v

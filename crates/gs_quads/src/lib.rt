@@ -7,5 +7,8 @@ mod pieces;
 mod runs;
 mod walks;
 
-pub use laws::{all_quads_are_the_datasets, quads_outlast_changes};
+pub use laws::{
+    all_quads_are_the_datasets, calls_keep_versions, lines_are_as_many_as_triples,
+    pieces_are_all_lines, quads_outlast_changes,
+};
 pub use pieces::{QuadPiece, next_quads};

@@ -39,6 +39,16 @@ fn add_graph(
     Ok(())
 }
 
+/// Adds all keys of a record's graph, until there are `most`.
+fn add_all(source: &Source, number: u32, most: usize, found: &mut Found) -> Result<(), AllocError>
+    requires graph { IsGraphOf source.now number }
+    requires found { AreFound source.now most found.old }
+    ensures { OnOk result (FindsMore source.now most found.old found.new
+        (one_graph source.now None number)) }
+{
+    add_graph(source, number, None, most, found)
+}
+
 /// Adds the keys of the graphs of records, until there are `most`.
 fn add_graphs(
     source: &Source,
@@ -52,7 +62,10 @@ fn add_graphs(
         (all_graphs source.now numbers.now)) }
 {
     for number in numbers {
-        add_graph(source, *number, None, most, found)?;
+        if found.keys.len() >= most {
+            return Ok(());
+        }
+        add_all(source, *number, most, found)?;
     }
     Ok(())
 }
