@@ -8,6 +8,9 @@ XSD = "http://www.w3.org/2001/XMLSchema#"
 LONGEST_TERM = 65_535
 DEEPEST = 64
 MOST_PATTERNS = 4
+# the bytes that the texts of triples and prefixes may have, and for each byte of an update
+FIRST_BYTES = 16_777_216
+BYTES_FOR_ONE = 64
 
 BASE_CHARS = (
     "A-Za-z\u00c0-\u00d6\u00d8-\u00f6\u00f8-\u02ff\u0370-\u037d\u037f-\u1fff\u200c-\u200d\u2070-\u218f\u2c00-\u2fef"
@@ -50,6 +53,10 @@ class Fault(Exception):
 
 class TooLong(Exception):
     """A term is too long."""
+
+
+class TooMuch(Exception):
+    """The texts of triples and prefixes are too many for the text's bytes."""
 
 
 class NotServed(Exception):
@@ -180,6 +187,7 @@ class Reader:
         self.nodes, self.labels, self.old_labels = 0, {}, set()
         self.operations, self.last_end, self.offset = [], 0, 0
         self.form, self.triples, self.depth = "", [], 0
+        self.used, self.most = 0, FIRST_BYTES + BYTES_FOR_ONE * len(text.encode("utf-8", "surrogateescape"))
 
     # Tokens
 
@@ -257,10 +265,24 @@ class Reader:
 
     # Triples
 
-    def state(self, *triple):
+    def count(self, *texts):
+        """Counts the bytes of texts, of variables without their mark."""
+        self.used += sum(len(it.removeprefix("?").encode("utf-8")) for it in texts)
+        if self.used > self.most:
+            raise TooMuch
+
+    def counted(self, text):
+        self.count(text)
+        return text
+
+    def append(self, *triple):
         self.triples.append(" ".join(triple) + " .")
         if self.form == "where" and len(self.triples) > MOST_PATTERNS:
             raise NotServed
+
+    def state(self, *triple):
+        self.append(*triple)
+        self.count(*triple)
 
     def deeper(self):
         self.depth += 1
@@ -291,13 +313,13 @@ class Reader:
                 raise Fault
             cell = self.new_node()
             if last:
-                self.state(last, f"<{RDF}rest>", cell)
-            self.state(cell, f"<{RDF}first>", self.object())
+                self.append(last, f"<{RDF}rest>", cell)
+            self.append(cell, f"<{RDF}first>", self.counted(self.object()))
             first, last = first or cell, cell
         self.want(")")
         self.depth -= 1
         if last:
-            self.state(last, f"<{RDF}rest>", f"<{RDF}nil>")
+            self.append(last, f"<{RDF}rest>", f"<{RDF}nil>")
         return first or f"<{RDF}nil>", first is not None
 
     def object(self):
@@ -390,7 +412,7 @@ class Reader:
         if prefix is None:
             self.base = iri
         else:
-            self.prefixes[prefix] = iri
+            self.prefixes[prefix] = self.counted(iri)
 
     def prologue(self):
         while self.is_next("PREFIX", "BASE"):
@@ -409,7 +431,7 @@ class Reader:
 
 def read(data, base, request=1):
     """("update", its operations), each a form and its triples as canonical lines; or ("broken", the number of bytes up
-    to the end of the last operation before the fault), ("long",) or ("out",)."""
+    to the end of the last operation before the fault), ("long",), ("much",) or ("out",)."""
     text = decoded(data)
     reader = Reader(text, base, request)
     try:
@@ -418,6 +440,8 @@ def read(data, base, request=1):
         return "broken", len(text[: reader.last_end].encode("utf-8"))
     except TooLong:
         return ("long",)
+    except TooMuch:
+        return ("much",)
     except NotServed:
         return ("out",)
     return "update", reader.operations

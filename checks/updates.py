@@ -61,7 +61,7 @@ def taken(case, line):
     elif sign == ">":
         case.wanted[-1][1].append(expanded(rest).decode("utf-8"))
     elif sign == "!":
-        return (rest,) if rest in ("long", "out") else ("broken", int(rest))
+        return (rest,) if rest in ("long", "much", "out") else ("broken", int(rest))
     elif line == ".":
         return "update", case.wanted
     return None

@@ -1,5 +1,7 @@
 -- What a parser stands for.
-use Rattle.std.specs.Prelude.{Result, Ok, Err, string_bytes}
+use Rattle.std.specs.Prelude.{ℕ, List, Result, Ok, Err, string_bytes}
+use Rattle.gs_model.specs.Terms.{Term}
+use Rattle.gs_model.specs.Triples.{RdfTriple}
 use Rattle.gs_model.specs.declared.faults.Fault.{Fault}
 use Rattle.gs_model.specs.declared.faults.Fault.TheVariants.{Syntax}
 use Rattle.gs_blank.specs.Numbers.{Numbers}
@@ -7,6 +9,7 @@ use Rattle.gs_body.specs.Bodies.{Ending, Whole, Faulty}
 use Rattle.gs_document.specs.Contexts.{TurtleContext}
 use Rattle.gs_triple_values.specs.Typed.{terms}
 use Rattle.gs_triple_parser.specs.Views.{triples_state, context_now, numbers_now}
+use Rattle.gs_triples.specs.States as triples
 use Rattle.gs_document.specs.States as machine
 use Rattle.gs_parse.specs.declared.parser.Parser.{Parser}
 use Rattle.gs_parse.specs.declared.places.Place.{Place}
@@ -20,15 +23,19 @@ context_at p = context_now terms p.triples
 abbrev pub numbers_at : Parser → Numbers
 numbers_at p = numbers_now p.triples
 
+-- what a place stands for, with the rest of a parser, of which the first is the text of the prefix that is declared
+abbrev pub state_with : Place → List ℕ → TurtleContext → Numbers → triples.State Term RdfTriple → machine.State
+state_with place.Between x env n s = machine.Between env n
+state_with (place.InPrefix dot) x env n s = machine.InPrefix dot env n
+state_with (place.InPrefixIri dot) x env n s = machine.InPrefixIri dot x env n
+state_with (place.InBase dot) x env n s = machine.InBase dot env n
+state_with place.AtDot x env n s = machine.AtDot env n
+state_with place.Within x env n s = machine.Within s
+state_with place.Lost x env n s = machine.lost Syntax
+
 -- the state of a parser, were it at this place
 abbrev pub state_at : Parser → Place → machine.State
-state_at p place.Between = machine.Between (context_at p) (numbers_at p)
-state_at p (place.InPrefix dot) = machine.InPrefix dot (context_at p) (numbers_at p)
-state_at p (place.InPrefixIri dot) = machine.InPrefixIri dot (string_bytes p.prefix) (context_at p) (numbers_at p)
-state_at p (place.InBase dot) = machine.InBase dot (context_at p) (numbers_at p)
-state_at p place.AtDot = machine.AtDot (context_at p) (numbers_at p)
-state_at p place.Within = machine.Within (triples_state terms p.triples)
-state_at p place.Lost = machine.lost Syntax
+state_at p l = state_with l (string_bytes p.prefix) (context_at p) (numbers_at p) (triples_state terms p.triples)
 
 -- the state of a parser
 abbrev pub state_of : Parser → machine.State

@@ -93,7 +93,8 @@ impl Parser {
     }
 
     /// One token more: the triples of the statement that it ends are added to the list. After a
-    /// refusal the list is as it was, and the parser is of no more use.
+    /// refusal the list is as it was, and the parser is of no more use. Where the texts of the
+    /// document so far are too many for its bytes, that is refused as for want of memory.
     pub fn step(
         &mut self,
         token: BorrowedToken<'_>,
@@ -107,6 +108,7 @@ impl Parser {
             (machine.step (state_of self.old) (symbol_of (lexeme_of_borrowed token.entry))).1) }
         ensures err { OnErr result (triples.new.items ≡ triples.old.items) }
     {
+        self.read_up_to(token.end);
         self.take(symbol_of_borrowed(token), triples)
     }
 }

@@ -31,6 +31,16 @@ impl Parser {
         self.place = Place::Lost;
     }
 
+    /// The text was read up to there, a number of bytes: the more of it, the more its triples and
+    /// prefixes may take.
+    #[inline]
+    pub(crate) fn read_up_to(&mut self, end: u64)
+        ensures state { state_of self.new ≡ state_of self.old }
+        ensures last { self.new.last ≡ self.old.last }
+    {
+        self.triples.read_up_to(end);
+    }
+
     /// A statement ends there, and the next one may begin.
     pub(crate) fn between(&mut self, end: u64)
         ensures state { state_of self.new ≡ Between (context_at self.old) (numbers_at self.old) }

@@ -1,5 +1,6 @@
--- Read in this order: declared prefixes, contexts, what tokens and contexts stand for, the terms of tokens, the texts of
--- tokens that stand in a term as they are, and references that mean themselves.
+-- Read in this order: how much texts may take, declared prefixes, contexts, what tokens and contexts stand for, the terms
+-- of tokens, the texts of tokens that stand in a term as they are, and references that mean themselves.
+pub mod Budgets
 pub mod Prefixes
 pub mod Contexts
 pub mod Datatypes

@@ -7,6 +7,7 @@ ghost use Rattle.gs_iri.specs.Resolving.{resolved};
 ghost use Rattle.gs_escape.specs.Tokens.{iri_of, parts_of};
 ghost use Rattle.gs_token_terms.specs.Contexts.{IsText};
 
+use crate::budgets::Budget;
 use crate::iris::{expanded, named_iri, resolved_iri};
 use crate::plain::plain_reference;
 use crate::prefixes::Prefixes;
@@ -151,7 +152,7 @@ impl Context {
         }
     }
 
-    /// The same, as a term, or its fault.
+    /// The IRI that a token means, as a term, or its fault: of the grammar where it means none.
     #[tactic(auto, unfolding(gs_triples::specs::Meanings::iri, gs_triples::specs::Meanings::made_of))]
     pub fn term(&self, token: TermToken) -> Result<Result<TermText, Fault>, AllocError>
         ensures value { IfOk result (λ m. m ≡ meaning.iri (context_of self.now) (token_at token.entry)) }
@@ -165,9 +166,15 @@ impl Context {
     }
 
     /// Declares a prefix, whose text ends in its colon, by the text of a reference. Whether these
-    /// are a prefix and a reference.
+    /// are a prefix and a reference. The prefix's IRI counts among the texts of the request each time
+    /// that it is declared.
     #[tactic(auto, unfolding(gs_triples::specs::Directives::with_prefix))]
-    pub fn set_prefix(&mut self, prefix: &str, text: &str) -> Result<bool, AllocError>
+    pub fn set_prefix(
+        &mut self,
+        budget: &mut Budget,
+        prefix: &str,
+        text: &str,
+    ) -> Result<bool, AllocError>
         ensures { Changes result (context_of self.old) (context_of self.new)
             (with_prefix (context_of self.old) prefix.now text.now) }
     {
@@ -177,6 +184,7 @@ impl Context {
         let Some(iri) = self.resolve(text)? else {
             return Ok(false);
         };
+        budget.count(iri.len())?;
         self.prefixes.insert(prefix, iri)?;
         Ok(true)
     }

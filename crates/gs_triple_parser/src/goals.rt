@@ -118,17 +118,22 @@ impl<L: Language> TripleParser<L> {
     {
         match symbol {
             Symbol::Comma => {
-                put::<L>(self.alloc, &mut self.pending, &subject, &verb, object)?;
+                let budget = &mut self.scope.budget;
+                let pending = &mut self.pending;
+                put::<L>(self.alloc, budget, pending, &subject, &verb, object)?;
                 self.place = Place::Heading(Goal::Object(depth, subject, verb));
                 Ok(Turn::Taken)
             }
             Symbol::Semicolon => {
-                put_last::<L>(self.alloc, &mut self.pending, &subject, verb, object)?;
+                let budget = &mut self.scope.budget;
+                let pending = &mut self.pending;
+                put_last::<L>(self.alloc, budget, pending, &subject, verb, object)?;
                 self.place = Place::Heading(Goal::Semis(depth, subject));
                 Ok(Turn::Taken)
             }
             _ => {
-                put_end::<L>(&mut self.pending, subject, verb, object)?;
+                let budget = &mut self.scope.budget;
+                put_end::<L>(budget, &mut self.pending, subject, verb, object)?;
                 self.leave(symbol)
             }
         }

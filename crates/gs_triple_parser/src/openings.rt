@@ -68,6 +68,18 @@ impl<L: Language> TripleParser<L> {
         self.scope.set_base(text)
     }
 
+    /// The text was read up to there, a number of bytes: the more of it, the more its triples and
+    /// prefixes may take.
+    #[inline]
+    pub fn read_up_to(&mut self, end: u64)
+        ensures state { triples_state L.language self.new ≡ triples_state L.language self.old }
+        ensures context { context_now L.language self.new ≡ context_now L.language self.old }
+        ensures numbers { numbers_now self.new ≡ numbers_now self.old }
+        ensures pending { pending_triples self.new ≡ pending_triples self.old }
+    {
+        self.scope.budget.read_up_to(end);
+    }
+
     /// A subject, whose verbs come next.
     pub(crate) fn begin(&mut self, subject: L::Subject)
         ensures { triples_state L.language self.new

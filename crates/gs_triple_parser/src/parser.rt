@@ -59,7 +59,9 @@ impl<L: Language> TripleParser<L> {
             (given_slot L.language self.old (Slot.ToItem depth first cell number) value) }
     {
         let context = &self.scope.context;
-        put_first::<L>(self.alloc, context, &mut self.pending, number, value)?;
+        let budget = &mut self.scope.budget;
+        let pending = &mut self.pending;
+        put_first::<L>(self.alloc, context, budget, pending, number, value)?;
         let next = L::value(blank(self.alloc, context.request, number)?);
         put_rest::<L>(self.alloc, context, &mut self.pending, cell, next)?;
         self.place = Place::Heading(Goal::Items(depth, first, number));
@@ -78,7 +80,9 @@ impl<L: Language> TripleParser<L> {
             }
             Slot::ToFirst(depth, number) => {
                 let context = &self.scope.context;
-                put_first::<L>(self.alloc, context, &mut self.pending, number, value)?;
+                let budget = &mut self.scope.budget;
+                let pending = &mut self.pending;
+                put_first::<L>(self.alloc, context, budget, pending, number, value)?;
                 self.place = Place::Heading(Goal::Items(depth, number, number));
                 Ok(())
             }

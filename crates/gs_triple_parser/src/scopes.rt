@@ -4,15 +4,17 @@ ghost use Rattle.gs_model.specs.Iris.{is_absolute};
 ghost use Rattle.gs_blank.specs.Numbers.{no_numbers};
 
 use gs_blank::Numbering;
-use gs_triple_values::Context;
+use gs_triple_values::{Budget, Context};
 use std::alloc::{AllocError, Global};
 
-/// The base and the prefixes in force, the request, and the numbers of its blank nodes so far.
+/// The base and the prefixes in force, the request, the numbers of its blank nodes so far, and how
+/// much its texts may take.
 #[derive(Drop)]
 pub struct Scope {
     pub(crate) alloc: Global,
     pub(crate) context: Context,
     pub(crate) numbering: Numbering,
+    pub(crate) budget: Budget,
 }
 
 impl Scope {
@@ -32,7 +34,17 @@ impl Scope {
             alloc,
             context: Context::new(alloc, base, request)?,
             numbering: Numbering::new(alloc),
+            budget: Budget::new(),
         })
+    }
+
+    /// The text was read up to there, a number of bytes: the more of it, the more its triples and
+    /// prefixes may take.
+    pub fn read_up_to(&mut self, end: u64)
+        ensures context { scope_context self.new ≡ scope_context self.old }
+        ensures numbers { scope_numbers self.new ≡ scope_numbers self.old }
+    {
+        self.budget.read_up_to(end);
     }
 
     /// Declares a prefix, whose text ends in its colon, by the text of a reference. Whether these
@@ -42,7 +54,7 @@ impl Scope {
             (with_prefix (scope_context self.old) prefix.now text.now) }
         ensures numbers { scope_numbers self.new ≡ scope_numbers self.old }
     {
-        self.context.set_prefix(prefix, text)
+        self.context.set_prefix(&mut self.budget, prefix, text)
     }
 
     /// Sets the base by the text of a reference. Whether that is one.

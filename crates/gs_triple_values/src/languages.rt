@@ -1,5 +1,5 @@
 //! What triples are made of.
-ghost use Rattle.std.specs.Prelude.{◌≡◌, ◌+◌, length, true, IfOk, option_map};
+ghost use Rattle.std.specs.Prelude.{◌≡◌, ℕ, ◌+◌, length, true, IfOk, option_map};
 ghost use Rattle.gs_model.specs.Triples.{is_iri, is_subject};
 
 use gs_term::TermText;
@@ -20,6 +20,11 @@ pub trait Language {
 
     // The language of the grammar, and what subjects and verbs stand for in it.
     ghost language: { TypedLanguage Self.Subject Self.Verb Self.Value Self.Triple };
+
+    // How many bytes the text of an object has, and those of a triple.
+    ghost value_size: { Self.Value → ℕ };
+
+    ghost triple_size: { Self.Triple → ℕ };
 
     /// A term.
     fn value(term: TermText) -> Self::Value
@@ -68,6 +73,14 @@ pub trait Language {
         object: Self::Value,
     ) -> Result<Self::Triple, AllocError>
         ensures { IfOk result (λ t. t ≡ triple_in language subject.now verb object) };
+
+    /// How many bytes the text of an object has.
+    fn value_bytes(value: &Self::Value) -> usize
+        ensures { result ≡ value_size value.now };
+
+    /// How many bytes the texts of a triple have.
+    fn triple_bytes(triple: &Self::Triple) -> usize
+        ensures { result ≡ triple_size triple.now };
 
     /// How many triples there are, with one more. A triple takes memory, so that there are never too
     /// many to count.

@@ -12,7 +12,7 @@ pub mod values;
 
 pub use allowed::Allowed;
 pub use gs_token_terms::{
-    Context, Datatype, Symbol, TermToken, rdf_nil, symbol_of_borrowed, symbol_of_token,
+    Budget, Context, Datatype, Symbol, TermToken, rdf_nil, symbol_of_borrowed, symbol_of_token,
 };
 pub use kinds::{Subject, Verb};
 pub use languages::Language;

@@ -1,6 +1,7 @@
 //! The language of patterns.
 ghost use Rattle.std.specs.Prelude.{◌≡◌, IfOk};
 ghost use Rattle.gs_triples.specs.Languages.{of_patterns};
+ghost use Rattle.gs_triple_values.specs.Sizes.{part_bytes};
 
 use crate::languages::Language;
 use gs_term::{Part, Pattern, TermText, VariableName};
@@ -29,8 +30,19 @@ fn variable(alloc: Global, name: &[u8]) -> Result<Option<Part>, AllocError>
     }
 }
 
+/// How many bytes the text of a term has, or the name of a variable.
+fn bytes_of(part: &Part) -> usize
+    ensures { result ≡ part_bytes part.now }
+{
+    match part {
+        Part::Term(term) => term.as_bytes().len(),
+        Part::Variable(name) => name.as_str().len(),
+    }
+}
+
 impl Language for Patterns {
     ghost use Rattle.gs_triple_values.specs.Typed.{patterns};
+    ghost use Rattle.gs_triple_values.specs.Sizes.{part_bytes, parts_bytes};
 
     type Subject = Part;
 
@@ -41,6 +53,10 @@ impl Language for Patterns {
     type Triple = Pattern;
 
     ghost language = { patterns };
+
+    ghost value_size = { part_bytes };
+
+    ghost triple_size = { parts_bytes };
 
     fn value(term: TermText) -> Part {
         Part::Term(term)
@@ -101,6 +117,16 @@ impl Language for Patterns {
             predicate: verb,
             object,
         })
+    }
+
+    fn value_bytes(value: &Part) -> usize {
+        bytes_of(value)
+    }
+
+    fn triple_bytes(triple: &Pattern) -> usize {
+        bytes_of(&triple.subject)
+            .saturating_add(bytes_of(&triple.predicate))
+            .saturating_add(bytes_of(&triple.object))
     }
 
     fn count_with_one(triples: &Vec<Pattern>) -> usize {

@@ -19,6 +19,7 @@ fn copied(alloc: Global, term: &TermText) -> Result<TermText, AllocError>
 
 impl Language for Terms {
     ghost use Rattle.gs_triple_values.specs.Typed.{terms};
+    ghost use Rattle.gs_triple_values.specs.Sizes.{term_bytes, terms_bytes};
 
     type Subject = Subject;
 
@@ -29,6 +30,10 @@ impl Language for Terms {
     type Triple = Triple;
 
     ghost language = { terms };
+
+    ghost value_size = { term_bytes };
+
+    ghost triple_size = { terms_bytes };
 
     fn value(term: TermText) -> TermText {
         term
@@ -77,6 +82,16 @@ impl Language for Terms {
     ) -> Result<Triple, AllocError> {
         let subject = copied(alloc, &subject.term)?;
         Ok(Triple::new(subject, verb.term, object))
+    }
+
+    fn value_bytes(value: &TermText) -> usize {
+        value.as_bytes().len()
+    }
+
+    fn triple_bytes(triple: &Triple) -> usize {
+        triple.subject().as_bytes().len()
+            + triple.predicate().as_bytes().len()
+            + triple.object().as_bytes().len()
     }
 
     fn count_with_one(triples: &Vec<Triple>) -> usize {

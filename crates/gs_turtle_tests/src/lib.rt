@@ -2,6 +2,8 @@
 #![tactic(auto)]
 
 #[cfg(test)]
+mod amounts;
+#[cfg(test)]
 mod bodies;
 #[cfg(test)]
 mod characters;

@@ -36,14 +36,22 @@ impl UpdateParser {
     ghost use Rattle.gs_update_places.specs.Places.{IsPassage, Follows, concluded, closed_at};
     ghost use Rattle.gs_update.specs.Steps.{Starts, Moves, Ends};
 
-    /// At the start of an update under an absolute base, in the request of this number.
-    pub fn new(alloc: Global, base: &str, request: u64) -> Result<UpdateParser, AllocError>
+    /// At the start of an update of so many bytes under an absolute base, in the request of this
+    /// number.
+    pub fn new(
+        alloc: Global,
+        base: &str,
+        request: u64,
+        bytes: u64,
+    ) -> Result<UpdateParser, AllocError>
         requires { is_absolute base.now ≡ true }
         ensures { IfOk result (λ p. Starts p (Between (first_scope base.now request) no_numbers)) }
     {
+        let mut scope = Scope::new(alloc, base, request)?;
+        scope.read_up_to(bytes);
         Ok(UpdateParser {
             alloc,
-            place: Place::Between(Scope::new(alloc, base, request)?),
+            place: Place::Between(scope),
             operations: Vec::new(alloc),
             last: 0,
         })

@@ -9,6 +9,8 @@ pub enum Expected {
     /// The case has more lines to come.
     Nothing,
     Update,
+    /// It is an update, and its texts are too many for its bytes.
+    TooMuch,
     /// The text breaks the grammar: the number of bytes up to the end of the last operation before
     /// the fault.
     Broken(u64),
@@ -73,6 +75,7 @@ impl Case {
     /// The case ends.
     fn end(&mut self, fault: &str) {
         self.expected = match fault {
+            "much" => Expected::TooMuch,
             "long" => Expected::TooLong,
             "out" => Expected::OutOfProfile,
             place => Expected::Broken(place.parse::<u64>().unwrap_or(u64::MAX)),

@@ -1,0 +1,64 @@
+//! How much the texts of a request may take.
+ghost use Rattle.std.specs.Prelude.{◌≡◌, ◌+◌, ◌≤◌, ◌<◌, IfSome, IfNone};
+ghost use Rattle.gs_token_terms.specs.Budgets.{most_after, Counts};
+
+use std::alloc::AllocError;
+
+/// The bytes that texts may have where nothing was read yet: 16 MiB.
+const FIRST_BYTES: u64 = 16_777_216;
+
+/// And for each byte that was read.
+const BYTES_FOR_ONE: u64 = 64;
+
+/// How many bytes the texts have that a request was read into, each copy counted, and how many they
+/// may have. A prefix, or a subject with many objects, makes long texts of few bytes.
+#[derive(Clone, Copy)]
+pub struct Budget {
+    used: u64,
+    most: u64,
+}
+
+/// The sum, where it is within the limit. One that no number holds is over every limit.
+#[inline]
+fn sum_within(a: u64, b: u64, most: u64) -> Option<u64>
+    ensures some { IfSome result (λ s. (s ≡ a + b) × (s ≤ most)) }
+    ensures none { IfNone result (most < a + b) }
+{
+    let sum = a.checked_add(b)?;
+    if sum <= most { Some(sum) } else { None }
+}
+
+impl Budget {
+    /// Nothing was read.
+    pub fn new() -> Budget
+        ensures { result ≡ record { used = 0; most = most_after 0 } }
+    {
+        Budget {
+            used: 0,
+            most: FIRST_BYTES,
+        }
+    }
+
+    /// The text was read up to there, a number of bytes.
+    #[inline]
+    pub fn read_up_to(&mut self, end: u64)
+        ensures { self.new ≡ record self.old { most = most_after end } }
+    {
+        self.most = FIRST_BYTES.saturating_add(end.saturating_mul(BYTES_FOR_ONE));
+    }
+
+    /// So many bytes more of texts. Where they are too many they are refused as for want of memory,
+    /// and not counted.
+    #[inline]
+    pub fn count(&mut self, bytes: usize) -> Result<(), AllocError>
+        ensures { Counts result self.old self.new bytes }
+    {
+        match sum_within(self.used, bytes as u64, self.most) {
+            None => Err(AllocError),
+            Some(used) => {
+                self.used = used;
+                Ok(())
+            }
+        }
+    }
+}
