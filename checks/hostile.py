@@ -455,9 +455,26 @@ def empty_puts(program, rounds, warm=70_000, many=100_000, wanted=4_000_000):
     return holds
 
 
+def small_puts(program, rounds, warm=1_000, many=20_000, wanted=40_000_000):
+    """How much memory PUTs of 60 triples take in the page of what was asked: each triple has terms of 74 bytes, and takes some
+    14 once it is packed."""
+    lines = [line(f"<http://example.org/s/{number}>", "<http://example.org/p>", f"<http://example.org/o/{number}>") for number in range(100, 160)]
+    grown = []
+    for _ in range(rounds):
+        with Server(program) as server:
+            client = Client(server)
+            put_again(client, put("/graphs/small", lines), warm)
+            before = server.resident_bytes()
+            put_again(client, put("/graphs/small", lines), many)
+            grown.append(server.resident_bytes() - before)
+    holds = min(grown) <= wanted
+    print(f"{many} PUTs of 60 triples: {min(grown) / 1e6:.1f} MB more (at most {wanted / 1e6:g}){'' if holds else ': MISSED'}", flush=True)
+    return holds
+
+
 def main():
     program, rounds = sys.argv[1], int(sys.argv[2]) if len(sys.argv) > 2 else 3
-    rows = (patterns, slow_reader, readers_end, many_clients, dear_texts, empty_puts)
+    rows = (patterns, slow_reader, readers_end, many_clients, dear_texts, empty_puts, small_puts)
     held = [row(program, rounds) for row in rows]
     sys.exit(0 if all(held) else 1)
 

@@ -116,7 +116,10 @@ fn after_upload(
             _ => (Slot::Upload(upload), None),
         },
         Action::Commit => match answer {
-            Answer::Status(status, _) => (Slot::Empty, Some((Request::Upload(upload), *status))),
+            Answer::Status(status, _) => {
+                upload.close();
+                (Slot::Empty, Some((Request::Upload(upload), *status)))
+            }
             _ => (Slot::Upload(upload), None),
         },
         Action::Cancel => match answer {

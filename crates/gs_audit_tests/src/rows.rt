@@ -137,6 +137,34 @@ fn wrong_of_none(alloc: Global, store: &mut Small) -> Result<Option<&'static str
     Ok(if are_none { None } else { Some("the entry") })
 }
 
+/// How many triples a PUT has, and for how many bytes of packed texts its entry has room. The first
+/// triple has 12, 12 and 6 bytes, and each other one 6 of its own, where 30 were asked for: of two
+/// triples 36 of 60 bytes are filled, and of four 48 of 120.
+const ROOMS: [(u8, usize); 2] = [(2, 60), (4, 48)];
+
+/// For how many bytes of packed texts the last entry of a page has room.
+fn last_room(store: &Small) -> usize {
+    match store.page().entries().last() {
+        Some(entry) => match entry.request() {
+            Request::Upload(upload) => upload.capacity(),
+            _ => 0,
+        },
+        None => 0,
+    }
+}
+
+/// The first number of triples whose entry has other room, in a store that is lent.
+fn wrong_room(alloc: Global, store: &mut Small) -> Result<Option<u8>, Refusal> {
+    for row in &ROOMS {
+        let (count, room) = *row;
+        drop(put(alloc, store, count)?);
+        if last_room(store) != room {
+            return Ok(Some(count));
+        }
+    }
+    Ok(None)
+}
+
 /// How many triples a reader of an upload gives.
 fn read_from(upload: &Upload) -> usize {
     let mut triples = upload.triples();
@@ -190,6 +218,15 @@ fn wrong_of_many(alloc: Global, store: &mut Wide) -> Result<Option<&'static str>
 fn an_upload_of_many_lists_is_stored_whole(rt: HostRuntime) -> Result<(), Refusal> {
     let mut store = wide(rt.alloc())?;
     let wrong = wrong_of_many(rt.alloc(), &mut store);
+    drop(store);
+    assert_eq!(&rt; wrong?, None);
+    Ok(())
+}
+
+#[test]
+fn a_stored_upload_has_no_more_room_than_it_needs(rt: HostRuntime) -> Result<(), Refusal> {
+    let mut store = small(rt.alloc())?;
+    let wrong = wrong_room(rt.alloc(), &mut store);
     drop(store);
     assert_eq!(&rt; wrong?, None);
     Ok(())

@@ -18,7 +18,7 @@ impl Upload {
     ghost use Rattle.std.specs.Prelude.{[], ◌++◌, true, length};
     ghost use Rattle.gs_model.specs.Graphs.{empty_graph, with_triples};
     ghost use Rattle.gs_packed_triples.specs.Triples.{triples_left};
-    ghost use Rattle.gs_chronicle.specs.Uploads.{staged_triples, staged_graph, HasRoomToStage};
+    ghost use Rattle.gs_chronicle.specs.Uploads.{staged_triples, staged_graph, staged_bytes, staged_room, HasRoomToStage};
 
     /// An upload of this kind and this request number, to which nothing was staged yet.
     pub fn new(alloc: Global, kind: UploadKind, request: u64) -> Upload
@@ -82,5 +82,22 @@ impl Upload {
         ensures graph { staged_graph self.new ≡ with_triples (staged_graph self.old) list.now }
     {
         self.packed.add(list);
+    }
+
+    /// Gives back room that no triple fills. For an upload that is committed.
+    pub fn close(&mut self)
+        ensures kind { self.new.kind ≡ self.old.kind }
+        ensures request { self.new.request ≡ self.old.request }
+        ensures triples { staged_triples self.new ≡ staged_triples self.old }
+        ensures frees { staged_bytes self.old ≡ 0 → staged_room self.new ≡ 0 }
+    {
+        self.packed.close();
+    }
+
+    /// For how many bytes of packed texts there is room, those that are there too.
+    pub fn capacity(&self) -> usize
+        ensures { result ≡ staged_room self.now }
+    {
+        self.packed.capacity()
     }
 }

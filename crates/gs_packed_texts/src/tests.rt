@@ -81,6 +81,30 @@ const ROWS: [(&str, &[&str], usize); 12] = [
     ),
 ];
 
+/// A name, for how many texts and bytes room is made, the texts, and for how many marks, counts and bytes
+/// there is room once they are closed.
+const ROOMS: [(&str, [usize; 2], &[&str], [usize; 3]); 4] = [
+    ("no text", [12, 100], &[], [0, 0, 0]),
+    (
+        "half of each is filled",
+        [10, 38],
+        &["<e:a>", "<e:p>", "<e:b>", "<e:c>", "<e:q>"],
+        [5, 5, 19],
+    ),
+    (
+        "more than half of each is filled",
+        [9, 37],
+        &["<e:a>", "<e:p>", "<e:b>", "<e:c>", "<e:q>"],
+        [9, 9, 37],
+    ),
+    (
+        "a text once more has no count",
+        [8, 10],
+        &["<e:a>", "", "", "<e:a>"],
+        [4, 1, 5],
+    ),
+];
+
 /// A name, of how many bytes two texts are that differ in the last one, and how many bytes of their own
 /// they have.
 const LONG: [(&str, usize, usize); 3] = [
@@ -106,19 +130,24 @@ fn comes(left: &mut Texts<'_>, text: &[u8]) -> bool {
     }
 }
 
+/// Whether these texts come back, and no others.
+fn come_back(packed: &PackedTexts, texts: &[&str]) -> bool {
+    let mut left = packed.texts();
+    for text in texts {
+        if !comes(&mut left, text.as_bytes()) {
+            return false;
+        }
+    }
+    left.next().is_none()
+}
+
 /// Whether these texts come back, and have so many bytes of their own.
 fn is_right(alloc: Global, texts: &[&str], own: usize) -> Result<bool, AllocError> {
     let mut packed = PackedTexts::new(alloc);
     for text in texts {
         add(&mut packed, text.as_bytes())?;
     }
-    let mut left = packed.texts();
-    for text in texts {
-        if !comes(&mut left, text.as_bytes()) {
-            return Ok(false);
-        }
-    }
-    Ok(left.next().is_none() && packed.own_bytes() == own)
+    Ok(come_back(&packed, texts) && packed.own_bytes() == own)
 }
 
 /// The name of the first row that is wrong.
@@ -126,6 +155,33 @@ fn wrong_row(alloc: Global) -> Result<Option<&'static str>, AllocError> {
     for row in &ROWS {
         let (name, texts, own) = *row;
         if !is_right(alloc, texts, own)? {
+            return Ok(Some(name));
+        }
+    }
+    Ok(None)
+}
+
+/// Whether these texts come back after they were closed, with so much room.
+fn is_room_right(
+    alloc: Global,
+    made: [usize; 2],
+    texts: &[&str],
+    left: [usize; 3],
+) -> Result<bool, AllocError> {
+    let mut packed = PackedTexts::new(alloc);
+    packed.make_room(made[0], made[1])?;
+    for text in texts {
+        add(&mut packed, text.as_bytes())?;
+    }
+    packed.close();
+    Ok(come_back(&packed, texts) && packed.rooms() == left && packed.capacity() == left[2])
+}
+
+/// The name of the first row of rooms that is wrong.
+fn wrong_room(alloc: Global) -> Result<Option<&'static str>, AllocError> {
+    for row in &ROOMS {
+        let (name, made, texts, left) = *row;
+        if !is_room_right(alloc, made, texts, left)? {
             return Ok(Some(name));
         }
     }
@@ -173,6 +229,12 @@ fn wrong_long_row(alloc: Global) -> Result<Option<&'static str>, AllocError> {
 #[test]
 fn texts_come_back(rt: HostRuntime) -> Result<(), Fail> {
     assert_eq!(rt; wrong_row(rt.alloc())?, None);
+    Ok(())
+}
+
+#[test]
+fn closed_texts_give_their_room_back(rt: HostRuntime) -> Result<(), Fail> {
+    assert_eq!(rt; wrong_room(rt.alloc())?, None);
     Ok(())
 }
 

@@ -33,9 +33,20 @@ fn append(own: &[u8], bytes: &mut Vec<u8>)
     let _ = bytes.extend_from_slice(own);
 }
 
+/// Gives back the room that is not filled, where it is half of all or more. Where memory for a smaller
+/// block is refused, the room stays.
+fn fit<T>(list: &mut Vec<T>)
+    ensures items { list.new.items ≡ list.old.items }
+    ensures frees { vec_len list.old ≡ 0 → vec_capacity list.new ≡ 0 }
+{
+    if list.len() <= list.capacity() / 2 {
+        list.shrink_to_fit();
+    }
+}
+
 impl PackedTexts {
     ghost use Rattle.std.specs.Prelude.{◌≡◌, ◌+◌, ◌≤◌, ℕ, [], ◌∷◌, ◌++◌, length, OnOk};
-    ghost use Rattle.gs_packed_texts.specs.Texts.{texts_of, left_of, HasRoom};
+    ghost use Rattle.gs_packed_texts.specs.Texts.{texts_of, left_of, own_bytes, own_room, HasRoom};
 
     /// No texts. Takes no memory.
     pub fn new(alloc: Global) -> PackedTexts
@@ -83,6 +94,24 @@ impl PackedTexts {
         self.third = window;
     }
 
+    /// Gives back room that is not filled: what is kept is less than twice what the texts take, unless
+    /// memory is refused. For texts after which no more will come.
+    pub fn close(&mut self)
+        ensures texts { texts_of self.new ≡ texts_of self.old }
+        ensures frees { own_bytes self.old ≡ 0 → own_room self.new ≡ 0 }
+    {
+        fit(&mut self.marks);
+        fit(&mut self.counts);
+        fit(&mut self.bytes);
+    }
+
+    /// For how many bytes of their own there is room, those of the texts that are there too.
+    pub fn capacity(&self) -> usize
+        ensures { result ≡ own_room self.now }
+    {
+        self.bytes.capacity()
+    }
+
     /// The texts, the first one first.
     pub fn texts(&self) -> Texts<'_>
         ensures { left_of result ≡ texts_of self.now }
@@ -94,5 +123,15 @@ impl PackedTexts {
     #[cfg(test)]
     pub fn own_bytes(&self) -> usize {
         self.bytes.len()
+    }
+
+    /// For how many marks, counts and bytes there is room.
+    #[cfg(test)]
+    pub fn rooms(&self) -> [usize; 3] {
+        [
+            self.marks.capacity(),
+            self.counts.capacity(),
+            self.bytes.capacity(),
+        ]
     }
 }

@@ -55,7 +55,7 @@ fn push_term(texts: &mut PackedTexts, term: &TermText)
 
 impl PackedTriples {
     ghost use Rattle.std.specs.Prelude.{◌≡◌, [], ◌∷◌, ◌++◌, length, true};
-    ghost use Rattle.gs_packed_triples.specs.Triples.{packed_triples, triples_left, HasRoomFor, LeavesRoomFor};
+    ghost use Rattle.gs_packed_triples.specs.Triples.{packed_triples, packed_bytes, packed_room, triples_left, HasRoomFor, LeavesRoomFor};
 
     /// No triples. Takes no memory.
     pub fn new(alloc: Global) -> PackedTriples
@@ -114,6 +114,22 @@ impl PackedTriples {
         for triple in list {
             self.add_one(triple);
         }
+    }
+
+    /// Gives back room that is not filled (`PackedTexts::close`). For triples after which no more will
+    /// come.
+    pub fn close(&mut self)
+        ensures triples { packed_triples self.new ≡ packed_triples self.old }
+        ensures frees { packed_bytes self.old ≡ 0 → packed_room self.new ≡ 0 }
+    {
+        self.texts.close();
+    }
+
+    /// For how many bytes of texts there is room, those that are there too.
+    pub fn capacity(&self) -> usize
+        ensures { result ≡ packed_room self.now }
+    {
+        self.texts.capacity()
     }
 
     /// A reader of the triples, the first one first.
