@@ -36,13 +36,17 @@ use Rattle.gs_commit.proofs.DeadLemmas.{tree_at_same}
 use Rattle.gs_commit.proofs.RootLemmas.{ledger_retirable}
 use Rattle.gs_commit.proofs.LawLemmas.{leaf_upload}
 use Rattle.gs_tree_store.specs.declared.books.Books.{Books}
-use Rattle.gs_tree_store.specs.Books.{graphs_of, dataset_of, IsSound, HasLedger}
+use Rattle.gs_tree_store.specs.Books.{graphs_of, dataset_of, IsFound, IsSound, HasLedger}
 use Rattle.gs_tree_store.specs.Opened.{LetsGo, SameOpened}
 use Rattle.gs_tree_store.specs.Writes.{KeepsBooks, Ends, Puts, Removes}
 
 -- the version of a target, an empty one where it is missing
 abbrev pub version_or : GraphVersions → Target → GraphVersion
 version_or g t = unwrap_or (version_at g t) empty_version
+
+-- it is the one that was found, or an empty one
+pub version_found : (b : Books) (t : Target) (found : Option GraphVersion) (v : GraphVersion) → v ≡ unwrap_or found empty_version → IsFound b t found → v ≡ version_or (graphs_of b) t
+version_found b t found v is there = is ∙ ap (λ (o : Option GraphVersion). unwrap_or o empty_version) there
 
 tree_if : (p : Nodes) (o : Option GraphVersion) → tree_at p (unwrap_or o empty_version).root ≡ unwrap_or (option_map (version_tree p) o) leaf
 tree_if p None = refl

@@ -13,7 +13,7 @@ use Rattle.gs_event.specs.declared.verdicts.Verdict.TheVariants.{Full, LastNumbe
 use Rattle.gs_event.specs.Datasets.{Dataset, with_graph, is_there, lines_if, graph_at as graph_of_target, size_at}
 use Rattle.gs_event.specs.Names.{new_name}
 use Rattle.gs_event.specs.Operations.{Setting, Operation, Creates, is_within, after, status_of, location_of, stored, stored_status, is_success}
-use Rattle.gs_event.specs.Verdicts.{DecidesStore}
+use Rattle.gs_event.specs.Verdicts.{is_named, place_in, DecidesStore}
 use Rattle.gs_event.proofs.VerdictLemmas.{made_well}
 use Rattle.gs_event.proofs.NameLemmas.{new_name-is_least}
 use Rattle.gs_pool.specs.Pool.{Nodes, in_use}
@@ -28,10 +28,10 @@ use Rattle.gs_ledger.specs.Marks.{dead_at}
 use Rattle.gs_ledger.specs.Laws.{Counts}
 use Rattle.gs_ledger.proofs.Counts.{nodes_counted}
 use Rattle.gs_datasets.specs.Standing.{all_versions, version_tree, graph_trees, IsVersion}
-use Rattle.gs_datasets.proofs.Sizes.{size_at-is}
+use Rattle.gs_datasets.proofs.Sizes.{size_at-is, is_there-is}
 use Rattle.gs_tree_store.specs.declared.books.Books.{Books}
-use Rattle.gs_tree_store.specs.Books.{graphs_of, dataset_of, IsSound}
-use Rattle.gs_tree_store.specs.Verdicts.{HasCounts}
+use Rattle.gs_tree_store.specs.Books.{graphs_of, dataset_of, IsFound, IsSound}
+use Rattle.gs_tree_store.specs.Verdicts.{place_by, HasCounts}
 
 module _ (terms : List Term) (p : Nodes) where
   keys_counted : (es : List (List ℕ × GraphVersion)) → All (IsVersion terms p) (map (λ e. e.1) es)
@@ -79,6 +79,13 @@ count_if (Some v) = refl
 pub target_counted : (b : Books) (t : Target) (v : GraphVersion) → IsSound b → v ≡ unwrap_or (version_at (graphs_of b) t) empty_version → v.triples ≡ size_at (dataset_of b) t
 target_counted b t v sound is =
     ap (λ (w : GraphVersion). w.triples) is ∙ count_if (version_at (graphs_of b) t) ∙ sym (size_at-is b.dict.terms b.pool (graphs_of b) t sound.versions)
+
+-- a target as it was found is that of the dataset
+pub place_found : (b : Books) (t : Target) (found : Option GraphVersion) → IsSound b → IsFound b t found → place_by t found ≡ place_in (dataset_of b) t
+place_found b t found sound is =
+    let there : is_some found ≡ is_there (dataset_of b) t = ap is_some is ∙ sym (is_there-is b.dict.terms b.pool (graphs_of b) t) in
+    let triples : (unwrap_or found empty_version).triples ≡ size_at (dataset_of b) t = target_counted b t (unwrap_or found empty_version) sound (ap (λ (o : Option GraphVersion). unwrap_or o empty_version) is) in
+    λ i. record { is_name = is_named t; is_there = there i; triples = triples i }
 
 -- an operation that stored g at t, with this status
 pub record IsStored (w : Setting) (m : Dataset) (q : Operation) (t : Target) (g : Graph) (status : ℕ) : Type 0 where

@@ -1,5 +1,5 @@
 -- What an action makes of the books and of its seat. Of this module public clauses cite `SeatUses` alone, by `UsesNodes`.
-use Rattle.std.specs.Prelude.{◌≡◌, ℕ, ◌+◌, List, ◌∷◌, None, slice_index_or}
+use Rattle.std.specs.Prelude.{◌≡◌, ℕ, ◌+◌, List, Some, None, slice_index_or}
 use Rattle.std.specs.List.{slice_set}
 use Rattle.gs_model.specs.Graphs.{size_of, with_triples}
 use Rattle.gs_event.specs.declared.events.Action.{Action}
@@ -22,10 +22,10 @@ use Rattle.gs_tree_store.specs.Books.{totals_of, seat_view, read_trees, IsSeat, 
 
 -- what a seat's action that was answered so makes of the waste
 abbrev pub SeatWastes : Totals → SeatView → Action → Answer → List Lifetime → List Lifetime → Type 0
-SeatWastes v p Commit (Status status name) old new = WastesCommit v (Rattle.std.specs.Prelude.Some p) (is_success status) old new
-SeatWastes v p (CommitPatch ops) (Status status name) old new = WastesPatch v (Rattle.std.specs.Prelude.Some p) ops.items (is_success status) old new
+SeatWastes v p Commit (Status status name) old new = WastesCommit v (Some p) (is_success status) old new
+SeatWastes v p (CommitPatch ops) (Status status name) old new = WastesPatch v (Some p) ops.items (is_success status) old new
 SeatWastes v p (Delete t) (Status status name) old new = WastesDelete v t (is_success status) old new
-SeatWastes v p Cancel Cancelled old new = WastesCancel (Rattle.std.specs.Prelude.Some p) old new
+SeatWastes v p Cancel Cancelled old new = WastesCancel (Some p) old new
 SeatWastes v p action a old new = new ≡ old
 
 -- What it makes of the number of nodes in use: a Stage raises it by the triples that are new to its upload. What a POST, a new graph

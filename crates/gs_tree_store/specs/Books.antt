@@ -4,6 +4,7 @@ use Rattle.std.specs.List.{All}
 use Rattle.gs_model.specs.Terms.{Term}
 use Rattle.gs_model.specs.Bases.{is_base}
 use Rattle.gs_model.specs.Limits.{last_number}
+use Rattle.gs_term.specs.declared.names.Target.{Target}
 use Rattle.gs_event.specs.Datasets.{Dataset}
 use Rattle.gs_event.specs.Operations.{Setting}
 use Rattle.gs_event.specs.Phases as phase
@@ -12,7 +13,8 @@ use Rattle.gs_pool.specs.Pool.{Nodes, aside_count}
 use Rattle.gs_tree.specs.Tree.{Tree, leaf, root_of, tree_at}
 use Rattle.gs_keys.specs.Roots.{graph_at}
 use Rattle.gs_lines.specs.Pieces.{lines_from, IsCursor}
-use Rattle.gs_catalogue.specs.Catalogues.{GraphVersions}
+use Rattle.gs_catalogue.specs.declared.versions.GraphVersion.{GraphVersion}
+use Rattle.gs_catalogue.specs.Catalogues.{GraphVersions, version_at}
 use Rattle.gs_records.specs.Graphs.{current}
 use Rattle.gs_ledger.specs.Marks.{dead_at}
 use Rattle.gs_ledger.specs.Ledger.{IsLedger}
@@ -32,6 +34,10 @@ graphs_of b = current b.records.records
 -- the dataset that they stand for
 abbrev pub dataset_of : Books → Dataset
 dataset_of b = dataset_at b.dict.terms b.pool (graphs_of b)
+
+-- the target's graph was found to have this version, or to be missing
+abbrev pub IsFound : Books → Target → Option GraphVersion → Type 0
+IsFound b t found = found ≡ version_at (graphs_of b) t
 
 -- the setting, the dataset and the numbers given out
 abbrev pub totals_of : Books → Totals

@@ -1,12 +1,15 @@
 -- What a verdict asks of the books, and what it decides. No public clause cites this module.
-use Rattle.std.specs.Prelude.{ℕ, List, string_bytes}
+use Rattle.std.specs.Prelude.{ℕ, List, string_bytes, Option, is_some}
+use Rattle.std.specs.Option.{unwrap_or}
 use Rattle.gs_term.specs.declared.names.Target.{Target}
 use Rattle.gs_event.specs.declared.verdicts.Change.{Change}
+use Rattle.gs_event.specs.declared.verdicts.Place.{Place}
 use Rattle.gs_event.specs.declared.verdicts.Verdict.{Verdict}
 use Rattle.gs_event.specs.Names.{new_name}
-use Rattle.gs_event.specs.Verdicts.{holdings_of, place_in, verdict_of, DecidesStore}
+use Rattle.gs_event.specs.Verdicts.{is_named, holdings_of, place_in, verdict_of, DecidesStore}
 use Rattle.gs_keys.specs.Roots.{graph_at}
 use Rattle.gs_catalogue.specs.declared.versions.GraphVersion.{GraphVersion}
+use Rattle.gs_catalogue.specs.Catalogues.{empty_version}
 use Rattle.gs_tree_store.specs.declared.books.Books.{Books}
 use Rattle.gs_tree_store.specs.Books.{books_setting, dataset_of, IsSound}
 use Rattle.gs_tree_store.specs.Writes.{HasAny}
@@ -15,6 +18,10 @@ use Rattle.gs_tree_store.specs.Writes.{HasAny}
 pub record HasCounts (b : Books) : Type 0 where
   pub sound : IsSound b
   pub ledger : HasAny b
+
+-- a target whose graph has this version, or is missing
+abbrev pub place_by : Target → Option GraphVersion → Place
+place_by t found = record { is_name = is_named t; is_there = is_some found; triples = (unwrap_or found empty_version).triples }
 
 -- what becomes of a write that changes its target so
 abbrev pub verdict_by : Books → Target → Change → Verdict

@@ -51,7 +51,14 @@ pub fn is_there(books: &Books, target: &Target) -> bool
 pub fn version_of(books: &Books, target: &Target) -> GraphVersion
     ensures { result ≡ unwrap_or (version_at (graphs_of books.now) target.now) empty_version }
 {
-    match books.records.get(target) {
+    or_empty(books.records.get(target))
+}
+
+/// The version of a graph as it was found, and an empty one where it is missing.
+pub fn or_empty(found: Option<GraphVersion>) -> GraphVersion
+    ensures { result ≡ unwrap_or found empty_version }
+{
+    match found {
         Some(version) => version,
         None => GraphVersion::empty(),
     }

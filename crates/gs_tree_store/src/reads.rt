@@ -1,16 +1,19 @@
 //! Reads: whether there is a graph, the pin of one, and its lines piece by piece.
-ghost use Rattle.std.specs.Prelude.{◌≡◌};
+ghost use Rattle.std.specs.Prelude.{◌<◌, IfOk};
 ghost use Rattle.gs_event.specs.declared.events.Action.TheVariants.{Head, Pin, Piece as PieceOf};
+ghost use Rattle.gs_keys.specs.Roots.{IsGraphAt};
+ghost use Rattle.gs_lines.specs.Pieces.{IsPiece};
 ghost use Rattle.gs_tree_store.specs.Books.{IsReady};
 ghost use Rattle.gs_tree_store.specs.Opened.{KeepsRecords};
 ghost use Rattle.gs_tree_store.specs.Actions.{Acts, ActsAny, IsReadyAny};
 
 use crate::books::{self, Books, Seat};
 use gs_event::Answer;
-use gs_lines::next_piece;
+use gs_lines::{Piece, next_piece};
 use gs_model::Refusal;
+use gs_pool::Key;
 use gs_term::Target;
-use std::alloc::Global;
+use std::alloc::{AllocError, Global};
 
 /// Answers 200 where the target has a graph, and else 404, if the seat is idle.
 pub fn head(books: &mut Books, seat: &mut Seat, target: &Target) -> Answer
@@ -54,7 +57,7 @@ pub fn piece(books: &mut Books, seat: &mut Seat, number: u16, alloc: Global, cou
     if count == 0 {
         return Answer::Refused(Refusal::WrongPhase);
     }
-    let Ok(piece) = next_piece(alloc, &books.dict, &books.pool, *root, *last, count) else {
+    let Ok(piece) = lines_after(books, alloc, *root, *last, count) else {
         return Answer::Refused(Refusal::NoMemory);
     };
     if piece.is_end {
@@ -64,4 +67,19 @@ pub fn piece(books: &mut Books, seat: &mut Seat, number: u16, alloc: Global, cou
     }
     *last = piece.last;
     Answer::Lines(piece.bytes, false)
+}
+
+/// At most `count` lines of a root's graph: those after the key `last`, or from the first on.
+fn lines_after(
+    books: &Books,
+    alloc: Global,
+    root: Option<u32>,
+    last: Option<Key>,
+    count: u32,
+) -> Result<Piece, AllocError>
+    requires graph { IsGraphAt books.now.dict.terms books.now.pool root }
+    requires some { 0 < count }
+    ensures { IfOk result (IsPiece books.now.dict.terms books.now.pool root last count) }
+{
+    next_piece(alloc, &books.dict, &books.pool, root, last, count)
 }

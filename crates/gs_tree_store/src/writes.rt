@@ -57,7 +57,8 @@ fn commit_put(
         Commit result }
     ensures records { KeepsRecords books.old books.new (Writing (Put target) request upload opened) seat.new }
 {
-    match verdict_on_upload(books, &target, upload) {
+    let found = books.records.get(&target);
+    match verdict_on_upload(books, &target, found, upload) {
         Verdict::Missing => unreachable!(),
         Verdict::Full => {
             drop_tree(&mut books.pool, upload.root);
@@ -69,7 +70,7 @@ fn commit_put(
             Answer::Refused(Refusal::LastNumber)
         }
         Verdict::Granted(status, _, _) => {
-            put_version(books, opened, target, upload);
+            put_version(books, opened, target, found, upload);
             Answer::Status(status, None)
         }
     }
@@ -95,7 +96,8 @@ fn commit_new(
         return Answer::Refused(Refusal::NoMemory);
     };
     let target = Target::Named(name);
-    match verdict_on_upload(books, &target, upload) {
+    let found = books.records.get(&target);
+    match verdict_on_upload(books, &target, found, upload) {
         Verdict::Missing => unreachable!(),
         Verdict::Full => {
             drop_tree(&mut books.pool, upload.root);
@@ -107,7 +109,7 @@ fn commit_new(
             Answer::Refused(Refusal::LastNumber)
         }
         Verdict::Granted(status, _, _) => {
-            put_version(books, opened, target, upload);
+            put_version(books, opened, target, found, upload);
             Answer::Status(status, Some(location))
         }
     }
@@ -122,12 +124,13 @@ pub fn delete(books: &mut Books, seat: &mut Seat, target: &Target) -> Answer
     let Seat::Idle = seat else {
         return Answer::Refused(Refusal::WrongPhase);
     };
-    match verdict_on_removal(books, target) {
+    let found = books.records.get(target);
+    match verdict_on_removal(books, target, found) {
         Verdict::Missing => Answer::Status(404, None),
         Verdict::Full => unreachable!(),
         Verdict::LastNumber => Answer::Refused(Refusal::LastNumber),
         Verdict::Granted(status, _, _) => {
-            remove_version(books, target);
+            remove_version(books, target, found);
             Answer::Status(status, None)
         }
     }

@@ -1,6 +1,6 @@
 -- The tokens of a portion, one after another.
 use Rattle.std.proofs.Common.{◌≡◌, ◌≢◌, ℕ, Bool, true, false, List, [], ◌∷◌, ◌++◌, refl, sym, ap, subst, ◌∙◌, append_assoc, append-nil}
-use Rattle.std.specs.Prelude.{Result, Ok, Err, OnErr}
+use Rattle.std.specs.Prelude.{Result, Ok, Err, OnOk, OnErr, IfErr, IsOk}
 use Rattle.std.proofs.lemmas.List.{map-append}
 use Rattle.gs_model.specs.Triples.{RdfTriple}
 use Rattle.gs_model.specs.declared.refusals.Refusal.{Refusal}
@@ -21,7 +21,7 @@ use Rattle.gs_triples.specs.Symbols.{symbol_of, symbols_of}
 use Rattle.gs_document.specs.States.{State, lost}
 use Rattle.gs_document.specs.Machine.{step, ended, turtle}
 use Rattle.gs_document.proofs.ReaderLemmas.{lost_rest}
-use Rattle.gs_parse.specs.Views.{state_of}
+use Rattle.gs_parse.specs.Views.{state_of, ending_at}
 use Rattle.gs_parse.specs.declared.parser.Parser.{Parser}
 use Rattle.gs_turtle.specs.Documents.{ended_by}
 use Rattle.gs_turtle.specs.Portions.{transition_of, end_of, Takes, TakesAll, IsRead, refusal_of, ReportsAfter}
@@ -175,6 +175,19 @@ pub ends-faulty : (p : Parser) (f : Fault) → Faulty f ≡ ended (state_of p) �
 ends-faulty p f e =
     let all = ends-here p in
     reports-fault f p.last p.last (end_of p []) (ap (λ (z : Meaning). z.1) all ∙ sym e) (ap (λ (z : Meaning). end_after p.last z.0) (sym all))
+
+-- where nothing is reported of the end, the text has no fault
+pub ends-well : (p : Parser) (end : Result (Unit {0}) Fault) (r : Result (Unit {0}) Refusal) → ending_at end ≡ ended (state_of p) → IfErr end (λ f. r ≡ Err (refusal_of p.last f)) → OnOk r (end_of p [] ≡ ([], Whole))
+ends-well p (Ok u) (Ok v) e h = ends-here p ∙ ap (λ x. ([], x)) (sym e)
+ends-well p (Ok u) (Err x) e h = tt
+ends-well p (Err f) r e h = subst (λ (y : Result (Unit {0}) Refusal). OnOk y (end_of p [] ≡ ([], Whole))) (sym h) tt
+
+-- and what is reported is the fault that it has
+pub ends-reported : (p : Parser) (end : Result (Unit {0}) Fault) (r : Result (Unit {0}) Refusal) → ending_at end ≡ ended (state_of p) → OnOk end (IsOk r) → IfErr end (λ f. r ≡ Err (refusal_of p.last f))
+    → IfErr r (λ x. ReportsAfter p.last x (end_of p []))
+ends-reported p (Ok u) (Ok v) e ok h = tt
+ends-reported p (Ok u) (Err x) e ok h = absurd (Prim.cc ok)
+ends-reported p (Err f) r e ok h = subst (λ (y : Result (Unit {0}) Refusal). IfErr y (λ x. ReportsAfter p.last x (end_of p []))) (sym h) (ends-faulty p f e)
 
 -- the first fault of all is that of the tokens, where they have one
 pub reports-ended : (e : Refusal) (last : ℕ) (end : lexer.CutEnd) (t : Meaning) → ReportsAfter last e t → ReportsAfter last e (ended_by end t)

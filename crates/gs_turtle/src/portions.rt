@@ -1,5 +1,5 @@
 //! The tokens of a portion, and what a parser says after them.
-ghost use Rattle.std.specs.Prelude.{◌≡◌, [], OnOk, OnErr, IfOk, IfErr, ℕ, List};
+ghost use Rattle.std.specs.Prelude.{◌≡◌, [], Err, OnOk, OnErr, IfOk, IfErr, IsOk, ℕ, List};
 ghost use Rattle.gs_machine.specs.Machines.{Begins};
 ghost use Rattle.gs_lex.specs.Tokens.{Lexeme};
 ghost use Rattle.gs_lex.specs.Tokens as lexer;
@@ -63,15 +63,24 @@ pub fn go_on(parser: &Parser) -> Result<(), Refusal>
     }
 }
 
+/// What is reported of how a text ended.
+fn outcome(parser: &Parser, end: Result<(), Fault>) -> Result<(), Refusal>
+    ensures ok { OnOk end (IsOk result) }
+    ensures fault { IfErr end (λ f. result ≡ Err (refusal_of parser.now.last f)) }
+{
+    match end {
+        Ok(()) => Ok(()),
+        Err(fault) => Err(refusal(parser, fault)),
+    }
+}
+
 /// After tokens after which the text ends.
 pub fn conclude(parser: &Parser) -> Result<(), Refusal>
     ensures ok { OnOk result (end_of parser.now [] ≡ ([], Whole)) }
     ensures fault { IfErr result (λ e. ReportsAfter parser.now.last e (end_of parser.now [])) }
 {
-    match parser.end()? {
-        Ok(()) => Ok(()),
-        Err(fault) => Err(refusal(parser, fault)),
-    }
+    let end = parser.end()?;
+    outcome(parser, end)
 }
 
 /// After tokens after which stands something that is none: the first fault of all.

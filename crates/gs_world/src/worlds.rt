@@ -1,5 +1,5 @@
 //! Many connections on one store.
-ghost use Rattle.std.specs.Prelude.{◌≡◌, ◌≤◌, ℕ, true, [], IfOk, IfErr, OnOk, OnErr};
+ghost use Rattle.std.specs.Prelude.{◌≡◌, ◌≤◌, ℕ, true, [], IfOk, IfErr, IsErr, OnOk, OnErr};
 ghost use Rattle.gs_model.specs.Bases.{is_base};
 ghost use Rattle.gs_model.specs.Limits.{max_seats};
 ghost use Rattle.gs_world.specs.Walks.{Apart, ChangesOne, Gets, InputEnds, MovesOn, LeavesSeat, FreesNodes, Walks, IsLive, HasText, IsGivenUp, RefusesStep};
@@ -63,10 +63,7 @@ impl World {
         match self.connections.get_mut(connection as usize) {
             Some(it) => match it.give(bytes) {
                 Ok(()) => Ok(()),
-                Err(error) => {
-                    it.leave(&mut self.store);
-                    Err(error)
-                }
+                Err(error) => give_up(it, &mut self.store, error),
             },
             None => Ok(()),
         }
@@ -80,10 +77,7 @@ impl World {
         match self.connections.get_mut(connection as usize) {
             Some(it) => match it.turn(&mut self.store) {
                 Ok(()) => Ok(()),
-                Err(error) => {
-                    it.leave(&mut self.store);
-                    Err(error)
-                }
+                Err(error) => give_up(it, &mut self.store, error),
             },
             None => Ok(()),
         }
@@ -159,6 +153,15 @@ impl World {
         }
         Ok(())
     }
+}
+
+/// Gives a connection up that cannot go on, and passes its error on.
+fn give_up(it: &mut Connection, store: &mut Store, error: AllocError) -> Result<(), AllocError>
+    ensures left { LeavesSeat it.old store.old it.new store.new }
+    ensures err { IsErr result }
+{
+    it.leave(store);
+    Err(error)
 }
 
 /// So many connections, each at the seat of its number.

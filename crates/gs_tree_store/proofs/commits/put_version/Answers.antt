@@ -7,14 +7,14 @@ use Rattle.gs_reclaim.specs.Reclaims.{CanRetireRoot}
 use Rattle.gs_tree_store.specs.declared.books.Books.{Books}
 use Rattle.gs_tree_store.specs.Books.{graphs_of}
 use Rattle.gs_tree_store.proofs.OpenedLemmas.{put_lets_go}
-use Rattle.gs_tree_store.proofs.CommitLemmas.{target_retirable, tree_ended, put_made}
+use Rattle.gs_tree_store.proofs.CommitLemmas.{version_found, target_retirable, tree_ended, put_made}
 use Rattle.gs_tree_store.proofs.commits.put_version.Goals as goal
 
 pub end_tree-requires-clause-root : goal.end_tree-requires-clause-root
 end_tree-requires-clause-root c =
     let b = c.args.books.now in
     let u = c.requires.upload in
-    subst (λ (v : GraphVersion). CanRetireRoot b.pool v.root) (sym c.version_of-old.ensures)
+    subst (λ (v : GraphVersion). CanRetireRoot b.pool v.root) (sym (version_found b c.args.target c.args.found c.or_empty-old.result c.or_empty-old.ensures c.requires.found))
     (target_retirable b.dict.terms b.pool (graphs_of b) c.args.target c.requires.sound.versions b.versions (tree_at b.pool c.args.upload.root ∷ u.uploads) u.reads (dead_at b.pool) u.ledger)
 
 pub put-requires-clause-later : goal.put-requires-clause-later
@@ -27,5 +27,5 @@ returns c =
     let ended = c.end_tree.ensures in
     let put = c.put.ensures in
     let new : Books = record b { pool = c.end_tree.new.pool; versions = c.end_tree.new.versions; records = c.put.new.self } in
-    let ends = tree_ended b t c.version_of-old.result new.pool new.versions new.records c.version_of-old.ensures ended.commit ended.nodes ended.aside ended.ledgers in
+    let ends = tree_ended b t c.or_empty-old.result new.pool new.versions new.records (version_found b t c.args.found c.or_empty-old.result c.or_empty-old.ensures c.requires.found) ended.commit ended.nodes ended.aside ended.ledgers in
     put_made b new c.args.opened t c.args.upload ends put.now (put.latest ∙ c.commit-commit.ensures) (put_lets_go b new c.args.opened t c.args.upload c.commit-commit.result put) c.requires.sound c.requires.upload.version c.requires.number

@@ -6,14 +6,14 @@ use Rattle.gs_reclaim.specs.Reclaims.{CanRetireRoot}
 use Rattle.gs_tree_store.specs.declared.books.Books.{Books}
 use Rattle.gs_tree_store.specs.Books.{graphs_of}
 use Rattle.gs_tree_store.proofs.OpenedLemmas.{end_same}
-use Rattle.gs_tree_store.proofs.CommitLemmas.{target_retirable, tree_ended, removed}
+use Rattle.gs_tree_store.proofs.CommitLemmas.{version_found, target_retirable, tree_ended, removed}
 use Rattle.gs_tree_store.proofs.commits.remove_version.Goals as goal
 
 pub end_tree-requires-clause-root : goal.end_tree-requires-clause-root
 end_tree-requires-clause-root c =
     let b = c.args.books.now in
     let l = c.requires.ledger in
-    subst (λ (v : GraphVersion). CanRetireRoot b.pool v.root) (sym c.version_of-old.ensures)
+    subst (λ (v : GraphVersion). CanRetireRoot b.pool v.root) (sym (version_found b c.args.target.now c.args.found c.or_empty-old.result c.or_empty-old.ensures c.requires.found))
     (target_retirable b.dict.terms b.pool (graphs_of b) c.args.target.now c.requires.sound.versions b.versions l.uploads l.reads (dead_at b.pool) l.ledger)
 
 pub remove-requires : goal.remove-requires
@@ -26,5 +26,5 @@ returns c =
     let ended = c.end_tree.ensures in
     let gone = c.remove.ensures in
     let new : Books = record b { pool = c.end_tree.new.pool; versions = c.end_tree.new.versions; records = c.remove.new.self } in
-    let ends = tree_ended b t c.version_of-old.result new.pool new.versions new.records c.version_of-old.ensures ended.commit ended.nodes ended.aside ended.ledgers in
+    let ends = tree_ended b t c.or_empty-old.result new.pool new.versions new.records (version_found b t c.args.found c.or_empty-old.result c.or_empty-old.ensures c.requires.found) ended.commit ended.nodes ended.aside ended.ledgers in
     removed b new (gone.latest ∙ c.commit-commit.ensures) (end_same b new t c.commit-commit.result gone.ends) c.requires.sound c.requires.number t ends gone.now

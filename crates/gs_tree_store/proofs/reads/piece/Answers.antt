@@ -2,8 +2,8 @@ use Rattle.std.proofs.Common.{arith}
 use Rattle.gs_tree_store.proofs.ReadLemmas.{read_graph, piece_last, piece_more}
 use Rattle.gs_tree_store.proofs.reads.piece.Goals as goal
 
-pub next_piece-requires-clause-graph : goal.next_piece-requires-clause-graph
-next_piece-requires-clause-graph c = read_graph c.args.books.now c.args.number c.args.seat.now c.in-Reading.root c.in-Reading.last c.in-Reading.is c.requires
+pub lines_after-requires-clause-graph : goal.lines_after-requires-clause-graph
+lines_after-requires-clause-graph c = read_graph c.args.books.now c.args.number c.args.seat.now c.in-Reading.root c.in-Reading.last c.in-Reading.is c.requires
 
 pub returns-then-piece-clause-acts : goal.returns-then-piece-clause-acts
 returns-then-piece-clause-acts c =
