@@ -43,13 +43,14 @@ impl Others for Queue {
 
 /// Whether others wait, for how many milliseconds a client is heard in all, and after how many looks at the
 /// clock it is cut off, of which the first is before it is heard.
-const HEARINGS: [(&str, bool, u64, u64); 6] = [
+const HEARINGS: [(&str, bool, u64, u64); 7] = [
     ("nobody waits", false, 30_000, 301),
     ("others wait", true, 30_000, 11),
     ("a time that ends between two looks", false, 1_950, 21),
     ("a time of less than a second", false, 500, 6),
     ("the same while others wait", true, 500, 6),
     ("no time", false, 0, 2),
+    ("a time of two thousand reads", false, 200_000, 2_001),
 ];
 
 /// What a client sends at once, and how often at most: more than both ends of a connection hold.
