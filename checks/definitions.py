@@ -36,7 +36,7 @@ PROMISES = (
         (
             "gs_shared::Shared::end",
             "gs_shared::Shared::passes",
-            "gs_shared::Hall::event",
+            "gs_shared::SharedStore::event",
             "gs_audit::Audited::event",
             "gs_audit::Audited::page",
         ),

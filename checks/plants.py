@@ -16,13 +16,13 @@ from twins import TOP, below, text, uses
 # How many seconds a test or a program may run, once it is built.
 SECONDS = "600"
 
-ACTIONS, GATES, HALLS = "gs_tree_store/src/actions.rt", "gs_gates/src", "gs_shared/src/halls.rt"
+ACTIONS, GATES, SHARED_STORES = "gs_tree_store/src/actions.rt", "gs_gates/src", "gs_shared/src/shared_stores.rt"
 SERVING, WRITING = "gs_session/src/serving.rt", "gs_session/src/writing.rt"
 LINES, WORKERS = "gs_workers/src/lines.rt", "gs_workers/src/workers.rt"
 BIRTH = "let birth = books.versions.commit() + 1;\n    let merged"
 FIRST_BIRTH = "match upload.root { Some(root) => books.pool.get(root).birth, None => books.versions.commit() + 1 }"
 OF_DEFAULT = "gs_event::Action::Pin(gs_term::Target::Default)"
-LOCKED = "let asked = Asked::by(&event);\n        self.lock"
+LOCKED = "let asked = EventAsk::by(&event);\n        self.lock"
 
 # The name of each plant, its file, what stands there once, what takes its place, and who has to refuse it: a crate and one of its
 # tests, a program and a conversation of its input, or a program and nothing.
@@ -42,12 +42,12 @@ PLANTS = [
     ("a text has 100,000 writes", WRITING,
      "for _ in 0..u64::MAX {", "for _ in 0..100_000u64 {",
      [("gs_once_tests", "a_write_that_was_interrupted_is_made_again")]),
-    ("a pin is of the default graph", HALLS,
+    ("a pin is of the default graph", SHARED_STORES,
      LOCKED, f"let event = match event {{\n            Event::Seat(seat, gs_event::Action::Pin(_)) => Event::Seat(seat, {OF_DEFAULT}),\n            other => other,\n        }};\n        {LOCKED}",
      [("gs_shared_tests", "write_read_back"), ("gs_lock_tests", "same_answers")]),
-    ("the store takes what is refused to a pass", HALLS,
+    ("the store takes what is refused to a pass", SHARED_STORES,
      "return Answer::Refused(Refusal::BadSeat);",
-     "let asked = Asked::by(&event);\n            let _ = self.lock.lock(rt).event(rt, &self.cell, pass, event, asked);\n            return Answer::Refused(Refusal::BadSeat);",
+     "let asked = EventAsk::by(&event);\n            let _ = self.lock.lock(rt).event(rt, &self.cell, pass, event, asked);\n            return Answer::Refused(Refusal::BadSeat);",
      [("gs_shared_tests", "no_pass_acts_for_another_seat")]),
     ("a reclaimer that does not rest", f"{GATES}/reclaimers.rt",
      "thread::sleep(clock, rest_after(since(clock, start)));", "let _ = rest_after(since(clock, start));",

@@ -8,7 +8,7 @@ use Rattle.clap.specs.declared.error.kind.ErrorKind.TheVariants.{DisplayHelp, Ou
 use Rattle.clap.specs.declared.parser.matches.Found.{Found}
 use Rattle.clap.proofs.WalkLemmas.{first_value-rows}
 use Rattle.gs_arguments.specs.Options.{gsd, given}
-use Rattle.gs_arguments.specs.Asked.{help, nothing, asked_at, asked_by, asked_by_found, asked_of, asked_way, number_said}
+use Rattle.gs_arguments.specs.Asked.{help, nothing, asked_with_faults, asked_by, asked_by_found, asked_of, asked_way, number_said}
 use Rattle.gs_arguments.proofs.FaultLemmas.{AtMostOne}
 
 -- the text that was found for an option is the one that the words give it
@@ -50,23 +50,23 @@ pub asked_by_found-words : (f : Found) (words : List Text) → rows_of f ≡ mat
 asked_by_found-words f words rows none =
     asked_by_found-is f _ _ _ _ _ (given_is f words (codes "listen") rows) (given_is f words (codes "once") rows) (given_is f words (codes "base") rows)
     (given_is f words (codes "workers") rows) (given_is f words (codes "piece") rows)
-    ∙ ap (λ ks. asked_at ks words) (sym none)
+    ∙ ap (λ ks. asked_with_faults ks words) (sym none)
 
 -- where that of help is among the faults, help is asked for
-pub asked_at-help : (ks : Kinds) (words : List Text) (k : ErrorKind) → AtMostOne ks → k ≡ DisplayHelp → (k ≡ OutOfMemory) ⊎ IsAmong k ks → asked_at ks words ≡ help
+pub asked_at-help : (ks : Kinds) (words : List Text) (k : ErrorKind) → AtMostOne ks → k ≡ DisplayHelp → (k ≡ OutOfMemory) ⊎ IsAmong k ks → asked_with_faults ks words ≡ help
 asked_at-help ks words k one is (inl memory) = absurd (cc)
 asked_at-help [] words k one is (inr among) = absurd among
-asked_at-help (x ∷ []) words k one is (inr (inl same)) = subst (λ z. asked_at (z ∷ []) words ≡ help) (sym is ∙ same) refl
+asked_at-help (x ∷ []) words k one is (inr (inl same)) = subst (λ z. asked_with_faults (z ∷ []) words ≡ help) (sym is ∙ same) refl
 asked_at-help (x ∷ []) words k one is (inr (inr more)) = absurd more
 asked_at-help (x ∷ y ∷ ks) words k one is (inr among) = absurd one
 
-other_fault : (x : ErrorKind) (words : List Text) → (x ≡ DisplayHelp → ⊥) → asked_at (x ∷ []) words ≡ nothing
+other_fault : (x : ErrorKind) (words : List Text) → (x ≡ DisplayHelp → ⊥) → asked_with_faults (x ∷ []) words ≡ nothing
 other_fault DisplayHelp words other = absurd (other refl)
 other_fault x words other = refl
 
 -- where another is, they ask for nothing
 pub asked_at-nothing : (ks : Kinds) (words : List Text) (k : ErrorKind) → AtMostOne ks → (k ≡ DisplayHelp → ⊥) → (k ≡ OutOfMemory → ⊥) → (k ≡ OutOfMemory) ⊎ IsAmong k ks
-    → asked_at ks words ≡ nothing
+    → asked_with_faults ks words ≡ nothing
 asked_at-nothing ks words k one other enough (inl memory) = absurd (enough memory)
 asked_at-nothing [] words k one other enough (inr among) = absurd among
 asked_at-nothing (x ∷ []) words k one other enough (inr (inl same)) = other_fault x words (λ is. other (same ∙ is))

@@ -26,7 +26,7 @@ use Rattle.clap.specs.declared.parser.matches.Found.{Found}
 use Rattle.clap.specs.declared.parser.matches.MatchedArg.{MatchedArg}
 use Rattle.clap.proofs.CallerLemmas.{entry_by_id, same_rules_by_id}
 use Rattle.gs_arguments.specs.Options.{ReadsNumber, ReadsWorkers, ReadsPiece, gsd, listen, once, base, workers, piece}
-use Rattle.gs_arguments.specs.Asked.{SaysNumber}
+use Rattle.gs_arguments.specs.Asked.{SaysOptionNumber}
 
 -- ---- the text
 
@@ -66,7 +66,7 @@ none_found f id h = go (matched_of f id) h
 
 module _ (bits most : ℕ) (id : Text) (fits : most < 2 ^ bits) where
   number_of : (f : Found) (t : Text) (r : Option ℕ) → first_value f id ≡ Some t → ReadsOne (Parses bits) t r → IsSignedIn (pos 1) (pos most) t
-      → MatchOption r (first_value f id ≡ None) (SaysNumber id most f)
+      → MatchOption r (first_value f id ≡ None) (SaysOptionNumber id most f)
   number_of f t (Some v) found read passed =
       let minus = no_minus most t passed in
       let low = rw minus at passed.2 in
@@ -81,11 +81,11 @@ module _ (bits most : ℕ) (id : Text) (fits : most < 2 ^ bits) where
 
   -- what is read of an option is the number that its text says
   pub number_read : (f : Found) (r : Option ℕ) → ReadsNumber id most f → (one_text f id ≡ None → r ≡ None)
-      → ((t : Text) → one_text f id ≡ Some t → ReadsOne (Parses bits) t r) → MatchOption r (first_value f id ≡ None) (SaysNumber id most f)
+      → ((t : Text) → one_text f id ≡ Some t → ReadsOne (Parses bits) t r) → MatchOption r (first_value f id ≡ None) (SaysOptionNumber id most f)
   number_read f r reads none some = go (first_value f id) refl reads
     where
       go : (o : Option Text) → first_value f id ≡ o → IfSome o (λ text. (one_text f id ≡ Some text) × IsSignedIn (pos 1) (pos most) text)
-          → MatchOption r (first_value f id ≡ None) (SaysNumber id most f)
+          → MatchOption r (first_value f id ≡ None) (SaysOptionNumber id most f)
       go None e h = rw (none (none_found f id e)) e
       go (Some t) e h = number_of f t r e (some t h.0) h.1
 

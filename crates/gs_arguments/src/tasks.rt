@@ -3,7 +3,7 @@ ghost use Rattle.std.specs.Prelude.{◌≡◌, ◌≤◌, MatchOption, None, cod
 ghost use Rattle.clap.specs.Words.{found_of, first_value};
 ghost use Rattle.gs_model.specs.Bases.{is_base as is_base_text};
 ghost use Rattle.gs_arguments.specs.Options.{ReadsWorkers, ReadsPiece};
-ghost use Rattle.gs_arguments.specs.Asked.{IsTask, ReadsWords, SaysNumber, asked_by, asked_by_found, asked_way, nothing};
+ghost use Rattle.gs_arguments.specs.Asked.{IsTask, ReadsWords, SaysOptionNumber, asked_by, asked_by_found, asked_way, nothing};
 
 use crate::stops::Stop;
 use crate::words::matches;
@@ -62,7 +62,7 @@ fn way<'a>(
 fn workers_of(matches: &ArgMatches) -> Option<u16>
     requires { ReadsWorkers (found_of matches.now) }
     ensures { MatchOption result (first_value (found_of matches.now) (codes "workers") ≡ None)
-        (SaysNumber (codes "workers") 256 (found_of matches.now)) }
+        (SaysOptionNumber (codes "workers") 256 (found_of matches.now)) }
 {
     matches.get_one("workers")
 }
@@ -70,7 +70,7 @@ fn workers_of(matches: &ArgMatches) -> Option<u16>
 fn piece_of(matches: &ArgMatches) -> Option<u32>
     requires { ReadsPiece (found_of matches.now) }
     ensures { MatchOption result (first_value (found_of matches.now) (codes "piece") ≡ None)
-        (SaysNumber (codes "piece") 4096 (found_of matches.now)) }
+        (SaysOptionNumber (codes "piece") 4096 (found_of matches.now)) }
 {
     matches.get_one("piece")
 }

@@ -12,7 +12,7 @@ use Rattle.gs_event.specs.Datasets.{lines_at}
 use Rattle.gs_event.specs.Operations.{Operation, status_of}
 use Rattle.gs_event.specs.Phases.{Idle, Writing, Patching, Reading, operation_of}
 use Rattle.gs_event.specs.Views.{Totals, SeatView, FitsSeat, next_phase}
-use Rattle.gs_audit.specs.Staged.{staged_by}
+use Rattle.gs_audit.specs.Staged.{staged_since_open}
 use Rattle.gs_audit.specs.Decisions.{status_in, triples_by, call_for, decided_at}
 use Rattle.gs_audit.specs.Slots.{open_of, open_after, count_after}
 
@@ -76,7 +76,7 @@ abbrev pub StagedAt : SeatView → ℕ → Type 0
 StagedAt (Writing k r g) n = Unit {0}
 StagedAt p n = n ≡ 0
 
-idle_count : (t : Totals) (action : Action) (a : Answer) → FitsSeat t Idle action a → staged_by 0 action a ≡ 0
+idle_count : (t : Totals) (action : Action) (a : Answer) → FitsSeat t Idle action a → staged_since_open 0 action a ≡ 0
 idle_count t (Open k) (Opened r) fits = refl
 idle_count t (Stage ts) Staged fits = absurd fits
 idle_count t Commit (Status s name) fits = refl
@@ -84,21 +84,21 @@ idle_count t Cancel Cancelled fits = refl
 idle_count t action a fits = refl
 
 writing_count : (t : Totals) (k : UploadKind) (r : ℕ) (g : Graph) (n : ℕ) (action : Action) (a : Answer) → FitsSeat t (Writing k r g) action a
-    → staged_by n action a ≡ count_after (Writing k r g) n action a
+    → staged_since_open n action a ≡ count_after (Writing k r g) n action a
 writing_count t k r g n (Open j) (Opened q) fits = absurd fits
 writing_count t k r g n (Stage ts) Staged fits = refl
 writing_count t k r g n Commit (Status s name) fits = refl
 writing_count t k r g n Cancel Cancelled fits = refl
 writing_count t k r g n action a fits = refl
 
-patching_count : (t : Totals) (d : Target) (r : ℕ) (action : Action) (a : Answer) → FitsSeat t (Patching d r) action a → staged_by 0 action a ≡ 0
+patching_count : (t : Totals) (d : Target) (r : ℕ) (action : Action) (a : Answer) → FitsSeat t (Patching d r) action a → staged_since_open 0 action a ≡ 0
 patching_count t d r (Open k) (Opened q) fits = refl
 patching_count t d r (Stage ts) Staged fits = absurd fits
 patching_count t d r Commit (Status s name) fits = refl
 patching_count t d r Cancel Cancelled fits = refl
 patching_count t d r action a fits = refl
 
-reading_count : (t : Totals) (left : List (List ℕ)) (action : Action) (a : Answer) → FitsSeat t (Reading left) action a → staged_by 0 action a ≡ 0
+reading_count : (t : Totals) (left : List (List ℕ)) (action : Action) (a : Answer) → FitsSeat t (Reading left) action a → staged_since_open 0 action a ≡ 0
 reading_count t left (Open k) (Opened q) fits = refl
 reading_count t left (Stage ts) Staged fits = absurd fits
 reading_count t left Commit (Status s name) fits = refl
@@ -106,11 +106,11 @@ reading_count t left Cancel Cancelled fits = refl
 reading_count t left action a fits = refl
 
 pub count_kept : (t : Totals) (p : SeatView) (n : ℕ) (action : Action) (a : Answer) → FitsSeat t p action a → StagedAt (open_of p) n
-    → staged_by n action a ≡ count_after (open_of p) n action a
-count_kept t Idle n action a fits none = ap (λ m. staged_by m action a) none ∙ idle_count t action a fits ∙ sym none
+    → staged_since_open n action a ≡ count_after (open_of p) n action a
+count_kept t Idle n action a fits none = ap (λ m. staged_since_open m action a) none ∙ idle_count t action a fits ∙ sym none
 count_kept t (Writing k r g) n action a fits none = writing_count t k r g n action a fits
-count_kept t (Patching d r) n action a fits none = ap (λ m. staged_by m action a) none ∙ patching_count t d r action a fits ∙ sym none
-count_kept t (Reading left) n action a fits none = ap (λ m. staged_by m action a) none ∙ reading_count t left action a fits ∙ sym none
+count_kept t (Patching d r) n action a fits none = ap (λ m. staged_since_open m action a) none ∙ patching_count t d r action a fits ∙ sym none
+count_kept t (Reading left) n action a fits none = ap (λ m. staged_since_open m action a) none ∙ reading_count t left action a fits ∙ sym none
 
 -- a status is the abstract store's, where it was asked something
 abbrev pub StatusIs : Totals → Option Operation → ℕ → Type 0

@@ -25,7 +25,7 @@ use Rattle.gs_chronicle.specs.Pages.{PageView}
 use Rattle.gs_chronicle.specs.Replays.{Replays}
 use Rattle.gs_chronicle.proofs.ReplayLemmas.{page_after-replays}
 use Rattle.gs_audit.specs.declared.slots.Slot.{Slot}
-use Rattle.gs_audit.specs.Staged.{staged_by}
+use Rattle.gs_audit.specs.Staged.{staged_since_open}
 use Rattle.gs_audit.specs.Decisions.{status_in, triples_by, call_for, decided_at, decided_if, decided_by, page_by, ReplaysTo}
 use Rattle.gs_audit.specs.Slots.{open_of, slot_phase, slot_count, open_after, count_after, MayLack}
 use Rattle.gs_audit.specs.Takes.{StepsOrLacks, FollowSeats, TakesEvent, kept_phase, kept_count, kept_call}
@@ -102,7 +102,7 @@ module _ (n k : ℕ) (old new : Shown) (slots : List Slot) (p p_then : PageView)
         staged =
             map-set slot_count slots s slot_then
             ∙ ap (slice_set (map slot_count slots) s)
-            (count ∙ ap (λ (x : SeatView). count_after x (slot_count slot) action a) (sym same) ∙ sym (count_kept t q (slot_count slot) action a fits counted) ∙ ap (λ (m : ℕ). staged_by m action a) (sym staged));
+            (count ∙ ap (λ (x : SeatView). count_after x (slot_count slot) action a) (sym same) ∙ sym (count_kept t q (slot_count slot) action a fits counted) ∙ ap (λ (m : ℕ). staged_since_open m action a) (sym staged));
         page =
             page
             ∙ ap (page_by n k p)

@@ -9,14 +9,14 @@ use Rattle.gs_event.specs.declared.answers.Answer.{Answer}
 use Rattle.gs_event.specs.declared.answers.Answer.TheVariants.{Opened, Staged, Status, Cancelled}
 
 -- how many triples were staged at a seat since its upload was opened, with repeats, after an answer where it was n
-abbrev pub staged_by : ℕ → Action → Answer → ℕ
-staged_by n (Open k) (Opened r) = 0
-staged_by n (Stage ts) Staged = n + length ts.items
-staged_by n Commit (Status s name) = 0
-staged_by n Cancel Cancelled = 0
-staged_by n action a = n
+abbrev pub staged_since_open : ℕ → Action → Answer → ℕ
+staged_since_open n (Open k) (Opened r) = 0
+staged_since_open n (Stage ts) Staged = n + length ts.items
+staged_since_open n Commit (Status s name) = 0
+staged_since_open n Cancel Cancelled = 0
+staged_since_open n action a = n
 
 -- the same of all seats, by their numbers
 abbrev pub staged_after : List ℕ → Event → Answer → List ℕ
 staged_after staged (Reclaim n) a = staged
-staged_after staged (At s action) a = slice_set staged s (staged_by (slice_index staged s) action a)
+staged_after staged (At s action) a = slice_set staged s (staged_since_open (slice_index staged s) action a)

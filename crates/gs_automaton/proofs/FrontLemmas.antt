@@ -3,7 +3,7 @@ use Rattle.std.proofs.Common.{◌≡◌, ℕ, zero, suc, ◌+◌, ◌<◌, ◌�
 use Rattle.std.proofs.lemmas.Bool.Decides.{nat_tests}
 use Rattle.std.proofs.lemmas.List.{get_or-drop, get_or_default}
 use Rattle.gs_automaton.specs.Classes.{is_alpha, is_digit}
-use Rattle.gs_automaton.specs.Fronts.{is_stop, EndsAtStop, IsAtStart, IsLast, LeadsOn}
+use Rattle.gs_automaton.specs.Fronts.{is_stop, EndsAtStop, IsAtStart, IsLastToken, LeadsOn}
 use Rattle.gs_automaton.specs.Scans.{IsScanned, onward_of}
 use Rattle.gs_automaton.specs.States.{state_after, start_of}
 use Rattle.gs_automaton.specs.Symbols.{BeginsWith}
@@ -28,13 +28,13 @@ front_byte x s l b =
     front-ascii rest c byte some b
 
 -- where such a byte comes next, no longer token comes
-pub last-stop : (x : List ℕ) (s : Scan) → EndsAtStop s.state → s.len < length x → is_stop (get_or x s.len 0) ≡ true → IsLast x s
+pub last-stop : (x : List ℕ) (s : Scan) → EndsAtStop s.state → s.len < length x → is_stop (get_or x s.len 0) ≡ true → IsLastToken x s
 last-stop x s f l h is_end u z m =
     let c = get_or x s.len 0 in
     stuck-barren u s.state z (stuck-character is_end s.state c 1 (drop s.len x) (front_byte x s l (stop_low c h)) (f c h) z m)
 
 -- nor does one after an ended token
-pub last-ended : (x : List ℕ) (s : Scan) (t : Terminal) → s.state ≡ at.Ended t → IsLast x s
+pub last-ended : (x : List ℕ) (s : Scan) (t : Terminal) → s.state ≡ at.Ended t → IsLastToken x s
 last-ended x s t e is_end u z m = stuck-barren u s.state z (λ c o i p. subst (λ q. state_after q c ≡ None) (sym e) refl)
 
 -- one byte more

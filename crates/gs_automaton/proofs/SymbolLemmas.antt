@@ -6,7 +6,7 @@ use Rattle.std.specs.Prelude.{nat_lt, ◌==◌, encode_utf8}
 use Rattle.std.specs.Char.{IsScalar}
 use Rattle.std.specs.Str.{StartsWithNoChar}
 use Rattle.gs_machine.specs.Machines.{steps, rest}
-use Rattle.gs_machine.specs.Utf8.{bad, Spells, nothing, char, fault, Decoding, Ready, Within, Lost, goes_on, decode_step, decode_end, utf8}
+use Rattle.gs_machine.specs.Utf8.{bad, Spells, nothing, char, fault, Decoding, Ready, Within, Lost, character_goes_on, decode_step, decode_end, utf8}
 use Rattle.gs_machine.proofs.MachineLemmas.{rest-append, steps-snoc}
 use Rattle.gs_machine.proofs.Utf8Lemmas.{walk, Stands, ready, within, stands-on, completes}
 use Rattle.gs_machine.proofs.Encodings.{scalar_from}
@@ -21,7 +21,7 @@ quiet_if : (t : Bool) (x y : Decoding × List ℕ) → Quiet x → Quiet y → Q
 quiet_if true x y p q = p
 quiet_if false x y p q = q
 
-quiet_on : (n v : ℕ) → Quiet (goes_on n v)
+quiet_on : (n v : ℕ) → Quiet (character_goes_on n v)
 quiet_on zero v c e = refl
 quiet_on (suc n) v c e = Prim.cc e
 

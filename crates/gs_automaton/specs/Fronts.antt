@@ -25,8 +25,8 @@ abbrev pub IsAtStart : State → Type 0
 IsAtStart q = (updates : Bool) × (q ≡ start_of updates)
 
 -- no longer token comes, whatever the text x becomes
-abbrev pub IsLast : List ℕ → Scan → Type 0
-IsLast x s = (is_end updates : Bool) (z : List ℕ) → MayBecome is_end (drop s.len x) z → IsBarren updates s.state z
+abbrev pub IsLastToken : List ℕ → Scan → Type 0
+IsLastToken x s = (is_end updates : Bool) (z : List ℕ) → MayBecome is_end (drop s.len x) z → IsBarren updates s.state z
 
 -- after the byte that comes next in x, which is of ASCII, the automaton stands there
 pub record LeadsOn (x : List ℕ) (s : Scan) (p : State) : Type 0 where
@@ -35,7 +35,7 @@ pub record LeadsOn (x : List ℕ) (s : Scan) (p : State) : Type 0 where
   pub goes : state_after s.state (get_or x s.len 0) ≡ Some p
 
 -- a scan went on in the text x
-pub record GoesOn (x : List ℕ) (from to : Scan) : Type 0 where
+pub record ScanGoesOn (x : List ℕ) (from to : Scan) : Type 0 where
   pub onward : from.len ≤ to.len
   pub within : to.len ≤ length x
   pub best_within : to.best_len ≤ to.len
@@ -43,5 +43,5 @@ pub record GoesOn (x : List ℕ) (from to : Scan) : Type 0 where
 
 -- and, where the second part says so, no longer token comes
 pub record GoesOver (x : List ℕ) (from : Scan) (r : Scan × Bool) : Type 0 where
-  pub went : GoesOn x from r.0
-  pub last : r.1 ≡ true → IsLast x r.0
+  pub went : ScanGoesOn x from r.0
+  pub last : r.1 ≡ true → IsLastToken x r.0

@@ -2,7 +2,7 @@
 ghost use Rattle.std.specs.Prelude.{◌≡◌, ◌≤◌, true};
 ghost use Rattle.gs_automaton.specs.Classes.{is_alpha, is_digit, is_exponent};
 ghost use Rattle.gs_automaton.specs.Fronts as spec;
-ghost use Rattle.gs_automaton.specs.Fronts.{EndsAtStop, GoesOn, GoesOver, IsLast, LeadsOn};
+ghost use Rattle.gs_automaton.specs.Fronts.{EndsAtStop, ScanGoesOn, GoesOver, IsLastToken, LeadsOn};
 ghost use Rattle.gs_automaton.specs.declared.states.State.TheVariants as at;
 
 use crate::scans::{Scan, over_run};
@@ -74,7 +74,7 @@ fn ends_at_stop(state: State) -> bool
 /// Whether a byte comes next by which no token goes on.
 #[inline(always)]
 pub fn stops(text: &[u8], scan: Scan) -> bool
-    ensures { result ≡ true → IsLast text.now scan }
+    ensures { result ≡ true → IsLastToken text.now scan }
 {
     if ends_at_stop(scan.state) {
         return scan.len < text.len() && is_stop(text[scan.len]);
@@ -87,7 +87,7 @@ pub fn stops(text: &[u8], scan: Scan) -> bool
 pub fn over_byte(text: &[u8], from: Scan, state: State) -> Scan
     requires leads { LeadsOn text.now from state }
     requires best { from.best_len ≤ from.len }
-    ensures went { GoesOn text.now from result }
+    ensures went { ScanGoesOn text.now from result }
     ensures state { result.state ≡ state }
 {
     over_run(text, from.onward(state, 1))

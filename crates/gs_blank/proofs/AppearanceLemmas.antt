@@ -7,8 +7,8 @@ use Rattle.std.specs.Str.{bytes_eq}
 use Rattle.std.specs.FinMap.{get-insert, get-empty}
 use Rattle.std.proofs.lemmas.Map.Text.{is_eq-slice_cmp}
 use Rattle.gs_model.proofs.TextLemmas.{same_text}
-use Rattle.gs_blank.specs.Numbers.{Numbers, with_label, known, number_of}
-use Rattle.gs_blank.specs.Appearances.{Node, Named, Nameless, numbers_after, appears, count_of, before}
+use Rattle.gs_blank.specs.Numbers.{Numbers, with_label, known, label_number}
+use Rattle.gs_blank.specs.Appearances.{Node, Named, Nameless, node_numbers, appears, count_of, before}
 use Rattle.gs_blank.proofs.NumbersLemmas.{number-known, number-new}
 
 -- the place of a label that appears
@@ -17,7 +17,7 @@ place label nodes = cond (appears label nodes) (Some (count_of (before label nod
 
 -- what the numbers know after some nodes
 abbrev Facts : List Node → Type 0
-Facts nodes = ((numbers_after nodes).1 ≡ count_of nodes) × ((label : List ℕ) → known (numbers_after nodes) label ≡ place label nodes)
+Facts nodes = ((node_numbers nodes).1 ≡ count_of nodes) × ((label : List ℕ) → known (node_numbers nodes) label ≡ place label nodes)
 
 nameless_place : (a : Bool) (xs ys : List Node) → cond a (Some (count_of xs + 1)) None ≡ cond a (Some (count_of (cond a xs ys) + 1)) None
 nameless_place true xs ys = refl
@@ -45,11 +45,11 @@ known-with_label : (n : Numbers) (k l : List ℕ) → known (with_label n k) l �
 known-with_label n k l = get-insert nat_list_cmp_total n.0 k (n.1 + 1) l ∙ ap (λ b. cond b (Some (n.1 + 1)) (known n l)) (is_eq-slice_cmp l k)
 
 -- the answer for a label, where it has appeared and where not
-answer_seen : (k : List ℕ) (xs : List Node) → Facts xs → appears k xs ≡ true → number_of (numbers_after xs) k ≡ (count_of (before k xs) + 1, numbers_after xs)
-answer_seen k xs h e = number-known (numbers_after xs) k (count_of (before k xs) + 1) (h.1 k ∙ ap (λ b. cond b (Some (count_of (before k xs) + 1)) None) e)
+answer_seen : (k : List ℕ) (xs : List Node) → Facts xs → appears k xs ≡ true → label_number (node_numbers xs) k ≡ (count_of (before k xs) + 1, node_numbers xs)
+answer_seen k xs h e = number-known (node_numbers xs) k (count_of (before k xs) + 1) (h.1 k ∙ ap (λ b. cond b (Some (count_of (before k xs) + 1)) None) e)
 
-answer_new : (k : List ℕ) (xs : List Node) → Facts xs → appears k xs ≡ false → number_of (numbers_after xs) k ≡ ((numbers_after xs).1 + 1, with_label (numbers_after xs) k)
-answer_new k xs h e = number-new (numbers_after xs) k (h.1 k ∙ ap (λ b. cond b (Some (count_of (before k xs) + 1)) None) e)
+answer_new : (k : List ℕ) (xs : List Node) → Facts xs → appears k xs ≡ false → label_number (node_numbers xs) k ≡ ((node_numbers xs).1 + 1, with_label (node_numbers xs) k)
+answer_new k xs h e = number-new (node_numbers xs) k (h.1 k ∙ ap (λ b. cond b (Some (count_of (before k xs) + 1)) None) e)
 
 named_seen : (k : List ℕ) (xs : List Node) → Facts xs → appears k xs ≡ true → Facts (Named k ∷ xs)
 named_seen k xs h e =
@@ -60,7 +60,7 @@ named_seen k xs h e =
 
 named_new : (k : List ℕ) (xs : List Node) → Facts xs → appears k xs ≡ false → Facts (Named k ∷ xs)
 named_new k xs h e =
-    let n = numbers_after xs in
+    let n = node_numbers xs in
     let s = answer_new k xs h e in (
       ap (λ (u : ℕ × Numbers). u.1.1) s ∙ ap (λ z. z + 1) h.0 ∙ sym (ap (λ b. cond b (count_of xs) (count_of xs + 1)) e),
       λ l. ap (λ (u : ℕ × Numbers). known u.1 l) s ∙ known-with_label n k l
@@ -89,14 +89,14 @@ all_before l [] e = refl
 all_before l (Named k ∷ xs) e = none_before l (bytes_eq l k) (appears l xs) k xs e
 all_before l (Nameless ∷ xs) e = ap (λ a. cond a (before l xs) (Nameless ∷ xs)) e
 
-answer : (l : List ℕ) (nodes : List Node) (a : Bool) → appears l nodes ≡ a → (number_of (numbers_after nodes) l).0 ≡ count_of (before l nodes) + 1
+answer : (l : List ℕ) (nodes : List Node) (a : Bool) → appears l nodes ≡ a → (label_number (node_numbers nodes) l).0 ≡ count_of (before l nodes) + 1
 answer l nodes true e = ap (λ (u : ℕ × Numbers). u.0) (answer_seen l nodes (facts nodes) e)
 answer l nodes false e =
     ap (λ (u : ℕ × Numbers). u.0) (answer_new l nodes (facts nodes) e) ∙ ap (λ z. z + 1) (facts nodes).0
     ∙ ap (λ (xs : List Node). count_of xs + 1) (sym (all_before l nodes e))
 
-pub label_place : (nodes : List Node) (label : List ℕ) → (number_of (numbers_after nodes) label).0 ≡ count_of (before label nodes) + 1
+pub label_place : (nodes : List Node) (label : List ℕ) → (label_number (node_numbers nodes) label).0 ≡ count_of (before label nodes) + 1
 label_place nodes label = answer label nodes (appears label nodes) refl
 
-pub last_place : (nodes : List Node) → (numbers_after nodes).1 ≡ count_of nodes
+pub last_place : (nodes : List Node) → (node_numbers nodes).1 ≡ count_of nodes
 last_place nodes = (facts nodes).0

@@ -13,7 +13,7 @@ use Rattle.std.specs.Map.{lookup}
 use Rattle.std.specs.String.{string_cmp}
 use Rattle.std.specs.Str.{bytes_eq}
 use Rattle.std.proofs.lemmas.Map.Text.{btree_map_updates_text, is_eq-slice_cmp}
-use Rattle.gs_blank.specs.Numbers.{Numbers, number_of, numbered, known, with_label}
+use Rattle.gs_blank.specs.Numbers.{Numbers, label_number, label_numbered, known, with_label}
 
 pub turned : (x y : List ℕ) → bytes_eq x y ≡ bytes_eq y x
 turned [] [] = refl
@@ -22,11 +22,11 @@ turned (x ∷ xs) [] = refl
 turned (x ∷ xs) (y ∷ ys) = let h : nat_eq x y ≡ nat_eq y x = grind (arith, nat_tests) in
     ap (λ b. b && bytes_eq xs ys) h ∙ ap (λ b. nat_eq y x && b) (turned xs ys)
 
-pub number-known : (n : Numbers) (label : List ℕ) (k : ℕ) → known n label ≡ Some k → number_of n label ≡ (k, n)
-number-known n label k h = ap (numbered n label) h
+pub number-known : (n : Numbers) (label : List ℕ) (k : ℕ) → known n label ≡ Some k → label_number n label ≡ (k, n)
+number-known n label k h = ap (label_numbered n label) h
 
-pub number-new : (n : Numbers) (label : List ℕ) → known n label ≡ None → number_of n label ≡ (n.1 + 1, with_label n label)
-number-new n label h = ap (numbered n label) h
+pub number-new : (n : Numbers) (label : List ℕ) → known n label ≡ None → label_number n label ≡ (n.1 + 1, with_label n label)
+number-new n label h = ap (label_numbered n label) h
 
 module _ {Z : Type 0} where
   -- an entry with its key's bytes

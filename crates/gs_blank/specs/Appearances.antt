@@ -1,7 +1,7 @@
 -- The number of a blank node by its first appearance. Lists have the newest node first.
 use Rattle.std.specs.Prelude.{ℕ, ◌+◌, Bool, false, ◌||◌, if◌then◌else◌, List, [], ◌∷◌}
 use Rattle.std.specs.Str.{bytes_eq}
-use Rattle.gs_blank.specs.Numbers.{Numbers, no_numbers, one_more, number_of}
+use Rattle.gs_blank.specs.Numbers.{Numbers, no_numbers, one_more, label_number}
 
 -- a node with a label, or one without
 pub data Node : Type 0 where
@@ -9,10 +9,10 @@ pub data Node : Type 0 where
   Nameless : Node
 
 -- the numbers after some nodes, given one after another to a new numbering
-abbrev pub numbers_after : List Node → Numbers
-numbers_after [] = no_numbers
-numbers_after (Named label ∷ nodes) = (number_of (numbers_after nodes) label).1
-numbers_after (Nameless ∷ nodes) = one_more (numbers_after nodes)
+abbrev pub node_numbers : List Node → Numbers
+node_numbers [] = no_numbers
+node_numbers (Named label ∷ nodes) = (label_number (node_numbers nodes) label).1
+node_numbers (Nameless ∷ nodes) = one_more (node_numbers nodes)
 
 -- whether a label appears
 abbrev pub appears : List ℕ → List Node → Bool
@@ -36,5 +36,5 @@ before label (Named other ∷ nodes) =
 before label (Nameless ∷ nodes) = if appears label nodes then before label nodes else Nameless ∷ nodes
 
 -- the place of a label by first appearance: one more than there are labels, and nodes without one, before it
-abbrev pub place_of : List ℕ → List Node → ℕ
-place_of label nodes = count_of (before label nodes) + 1
+abbrev pub label_place : List ℕ → List Node → ℕ
+label_place label nodes = count_of (before label nodes) + 1

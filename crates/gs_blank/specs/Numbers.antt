@@ -25,10 +25,10 @@ abbrev pub with_label : Numbers → List ℕ → Numbers
 with_label n label = (map.insert n.0 label (n.1 + 1), n.1 + 1)
 
 -- the number that a label has, or else the next
-abbrev pub numbered : Numbers → List ℕ → Option ℕ → ℕ × Numbers
-numbered n label None = (n.1 + 1, with_label n label)
-numbered n label (Some k) = (k, n)
+abbrev pub label_numbered : Numbers → List ℕ → Option ℕ → ℕ × Numbers
+label_numbered n label None = (n.1 + 1, with_label n label)
+label_numbered n label (Some k) = (k, n)
 
 -- a label's number, and the numbers then
-abbrev pub number_of : Numbers → List ℕ → ℕ × Numbers
-number_of n label = numbered n label (known n label)
+abbrev pub label_number : Numbers → List ℕ → ℕ × Numbers
+label_number n label = label_numbered n label (known n label)

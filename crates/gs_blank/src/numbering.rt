@@ -1,6 +1,6 @@
 //! The labels of a body and their numbers.
 ghost use Rattle.std.specs.Prelude.{◌≡◌, ◌+◌, OnOk, OnErr, IfOk, IfErr};
-ghost use Rattle.gs_blank.specs.Numbers.{no_numbers, known, number_of, one_more};
+ghost use Rattle.gs_blank.specs.Numbers.{no_numbers, known, label_number, one_more};
 
 use gs_model::Refusal;
 use std::alloc::Global;
@@ -59,8 +59,8 @@ impl Numbering {
     /// The number of a label: the one that it has, or else the next. After `NoMemory` nothing has
     /// changed. Logarithmic in the number of labels.
     pub fn of_label(&mut self, label: &str) -> Result<u64, Refusal>
-        ensures value { IfOk result (λ k. k ≡ (number_of self.old label.now).0) }
-        ensures ok { OnOk result (self.new ≡ (number_of self.old label.now).1) }
+        ensures value { IfOk result (λ k. k ≡ (label_number self.old label.now).0) }
+        ensures ok { OnOk result (self.new ≡ (label_number self.old label.now).1) }
         ensures refused { IfErr result (λ e. e ≡ Refusal.NoMemory) }
         ensures kept { OnErr result (self.new ≡ self.old) }
     {

@@ -7,14 +7,14 @@ use Rattle.gs_machine.specs.Machines.{Machine, joined, steps, rest, composed, Ar
 use Rattle.gs_machine.specs.Utf8.{Decoding, Ready, Lost, utf8, IsLongestFront}
 use Rattle.gs_machine.proofs.MachineLemmas.{steps-append, rest-append, steps-nil, steps-composed}
 use Rattle.gs_machine.proofs.FrontLemmas.{composed-at_front}
-use Rattle.gs_body.specs.Bodies.{Statement, Ending, Faulty, Meaning, triples_of, end_after, IsBroken}
+use Rattle.gs_body.specs.Bodies.{Statement, Ending, Faulty, Meaning, all_stated, end_after, IsBroken}
 use Rattle.gs_body.specs.Leading.{IsLed}
 
 pub end_after-append : (n : ℕ) (a b : List Statement) → end_after n (a ++ b) ≡ end_after (end_after n a) b
 end_after-append n [] b = refl
 end_after-append n (s ∷ ss) b = end_after-append s.end ss b
 
-pub triples_of-append : (a b : List Statement) → triples_of (a ++ b) ≡ triples_of a ++ triples_of b
+pub triples_of-append : (a b : List Statement) → all_stated (a ++ b) ≡ all_stated a ++ all_stated b
 triples_of-append a b = flat_map-append (λ (s : Statement). s.triples) a b
 
 module _ {S I : Type 0} (m : Machine S I Statement Ending) (start : S) where
@@ -24,11 +24,11 @@ module _ {S I : Type 0} (m : Machine S I Statement Ending) (start : S) where
 
   -- a machine goes on
   pub led-on : (s t : S) (n l : ℕ) (x y : List I) (ts : List RdfTriple) (new : List Statement) → IsLed m start s n x ts
-      → steps m s y ≡ (t, new) → l ≡ end_after n new → IsLed m start t l (x ++ y) (ts ++ triples_of new)
+      → steps m s y ≡ (t, new) → l ≡ end_after n new → IsLed m start t l (x ++ y) (ts ++ all_stated new)
   led-on s t n l x y ts new h e p = record {
     statements = h.statements ++ new;
     run = steps-append m start x y ∙ ap (λ (u : S × List Statement). ((steps m u.0 y).0, u.1 ++ (steps m u.0 y).1)) h.run ∙ ap (λ (u : S × List Statement). (u.0, h.statements ++ u.1)) e;
-    given = ap (λ z. z ++ triples_of new) h.given ∙ sym (triples_of-append h.statements new);
+    given = ap (λ z. z ++ all_stated new) h.given ∙ sym (triples_of-append h.statements new);
     place = p ∙ ap (λ z. end_after z new) h.place ∙ sym (end_after-append 0 h.statements new);
   }
 
@@ -39,17 +39,17 @@ module _ {S I : Type 0} (m : Machine S I Statement Ending) (start : S) where
 
   -- what was given is a front of what is said
   pub led-begun : (s : S) (n : ℕ) (x : List I) (ts : List RdfTriple) → IsLed m start s n x ts
-      → (y : List I) → Begins (triples_of (rest m start (x ++ y)).0) ts
-  led-begun s n x ts h y = (triples_of (rest m s y).0, ap (λ (r : Meaning). triples_of r.0) (led-meaning s n x y ts h) ∙ triples_of-append h.statements (rest m s y).0 ∙ ap (λ z. z ++ triples_of (rest m s y).0) (sym h.given))
+      → (y : List I) → Begins (all_stated (rest m start (x ++ y)).0) ts
+  led-begun s n x ts h y = (all_stated (rest m s y).0, ap (λ (r : Meaning). all_stated r.0) (led-meaning s n x y ts h) ∙ triples_of-append h.statements (rest m s y).0 ∙ ap (λ z. z ++ all_stated (rest m s y).0) (sym h.given))
 
   -- what was given are the triples of the complete statements, where the text may go on so that nothing more is said
   pub led-settled : (s : S) (n : ℕ) (x : List I) (ts : List RdfTriple) → IsLed m start s n x ts
-      → (y : List I) → (rest m s y).0 ≡ [] → AreSettled (λ z. triples_of (rest m start z).0) x ts
+      → (y : List I) → (rest m s y).0 ≡ [] → AreSettled (λ z. all_stated (rest m start z).0) x ts
   led-settled s n x ts h y silent = record {
     stay = led-begun s n x ts h;
     are_all = λ more f.
-        let e : triples_of (rest m start (x ++ y)).0 ≡ ts =
-        ap (λ (r : Meaning). triples_of r.0) (led-meaning s n x y ts h) ∙ ap (λ z. triples_of (h.statements ++ z)) silent ∙ ap triples_of (append-nil h.statements) ∙ sym h.given in
+        let e : all_stated (rest m start (x ++ y)).0 ≡ ts =
+        ap (λ (r : Meaning). all_stated r.0) (led-meaning s n x y ts h) ∙ ap (λ z. all_stated (h.statements ++ z)) silent ∙ ap all_stated (append-nil h.statements) ∙ sym h.given in
         subst (λ z. Begins z more) e (f y);
   }
 
@@ -88,6 +88,6 @@ led-at_front {T} b start s n x front ts h f open_ =
 pub led-settled_at_front : {T : Type 0} (b : Machine T ℕ Statement Ending) (start : T) (s : Decoding × T) (n : ℕ) (x front : List ℕ) (ts : List RdfTriple)
     → IsLed (composed utf8 b) (Ready, start) s n x ts → IsLongestFront x front → (s.0 ≡ Lost → ⊥)
     → (y : List ℕ) → (rest (composed utf8 b) (Ready, s.1) y).0 ≡ []
-    → AreSettled (λ z. triples_of (rest (composed utf8 b) (Ready, start) z).0) front ts
+    → AreSettled (λ z. all_stated (rest (composed utf8 b) (Ready, start) z).0) front ts
 led-settled_at_front b start s n x front ts h f open_ y silent =
     led-settled (composed utf8 b) (Ready, start) (Ready, s.1) n front ts (led-at_front b start s n x front ts h f open_) y silent

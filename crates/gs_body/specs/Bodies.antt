@@ -22,8 +22,8 @@ abbrev pub Meaning : Type 0
 Meaning = List Statement × Ending
 
 -- all triples that these statements state, in their order
-abbrev pub triples_of : List Statement → List RdfTriple
-triples_of ss = flat_map (λ s. s.triples) ss
+abbrev pub all_stated : List Statement → List RdfTriple
+all_stated ss = flat_map (λ s. s.triples) ss
 
 -- the end of the last statement, where one that ends after n bytes stands before
 abbrev pub end_after : ℕ → List Statement → ℕ

@@ -4,7 +4,7 @@ use Rattle.gs_model.specs.Triples.{RdfTriple}
 use Rattle.gs_model.specs.declared.refusals.Refusal.{Refusal}
 use Rattle.gs_machine.specs.Machines.{AreSettled, Begins}
 use Rattle.gs_machine.specs.Utf8.{IsLongestFront}
-use Rattle.gs_body.specs.Bodies.{Meaning, Whole, Reports, triples_of}
+use Rattle.gs_body.specs.Bodies.{Meaning, Whole, Reports, all_stated}
 
 -- A piece was fed: the list grew by some triples. With them a reader of x that had given ts has given just the
 -- triples of the complete statements: of the longest front of the text so far that ends between two characters, all
@@ -14,16 +14,16 @@ pub record Feeds {R : Type 0} (meaning_of : R → List ℕ → Meaning) (Leads :
   pub grown : after ≡ before ++ given
   pub leads : (x : List ℕ) (ts : List RdfTriple) → Leads old x ts → Leads new (x ++ piece) (ts ++ given)
   pub begun : (x : List ℕ) (ts : List RdfTriple) → Leads old x ts
-      → (y : List ℕ) → Begins (triples_of (meaning_of old (x ++ piece ++ y)).0) (ts ++ given)
+      → (y : List ℕ) → Begins (all_stated (meaning_of old (x ++ piece ++ y)).0) (ts ++ given)
   pub settled : (x : List ℕ) (ts : List RdfTriple) → Leads old x ts → (front : List ℕ) → IsLongestFront (x ++ piece) front
-      → AreSettled (λ z. triples_of (meaning_of old z).0) front (ts ++ given)
+      → AreSettled (λ z. all_stated (meaning_of old z).0) front (ts ++ given)
 
 -- The text ended: it has no fault, and with the triples by which the list grew all that it says is given.
 pub record Finishes {R : Type 0} (meaning_of : R → List ℕ → Meaning) (Leads : R → List ℕ → List RdfTriple → Type 0) (old : R) (before after : List RdfTriple) : Type 0 where
   pub given : List RdfTriple
   pub grown : after ≡ before ++ given
   pub whole : (x : List ℕ) (ts : List RdfTriple) → Leads old x ts → (meaning_of old x).1 ≡ Whole
-  pub all : (x : List ℕ) (ts : List RdfTriple) → Leads old x ts → triples_of (meaning_of old x).0 ≡ ts ++ given
+  pub all : (x : List ℕ) (ts : List RdfTriple) → Leads old x ts → all_stated (meaning_of old x).0 ≡ ts ++ given
 
 -- a call that fed a piece, if it was not refused: a list of triples grew as `Feeds` says
 abbrev pub FedInto : {R E Y Z : Type 0} → (R → List ℕ → Meaning) → (R → List ℕ → List RdfTriple → Type 0) → (old new : R) → List ℕ

@@ -1,6 +1,6 @@
 //! A whole body, in any list of pieces.
 ghost use Rattle.std.specs.Prelude.{◌≡◌, ◌≢◌, [], ℕ, List, false, OnOk, IfOk, IfErr};
-ghost use Rattle.gs_body.specs.Bodies.{Reports, Whole, triples_of, whole_text};
+ghost use Rattle.gs_body.specs.Bodies.{Reports, Whole, all_stated, whole_text};
 
 use crate::bodies::BodyReader;
 use gs_model::Refusal;
@@ -16,7 +16,7 @@ pub fn read_pieces<R: BodyReader + Drop>(
 ) -> Result<Vec<Triple>, Refusal>
     requires fresh { R.Leads reader [] [] }
     requires unread { R.is_closed reader ≡ false }
-    ensures given { IfOk result (λ v. v.items ≡ triples_of (R.meaning_of reader (whole_text pieces.now)).0) }
+    ensures given { IfOk result (λ v. v.items ≡ all_stated (R.meaning_of reader (whole_text pieces.now)).0) }
     ensures whole { OnOk result ((R.meaning_of reader (whole_text pieces.now)).1 ≡ Whole) }
     ensures fault { IfErr result (λ e. Reports e (R.meaning_of reader (whole_text pieces.now))) }
     ensures reported { IfErr result (λ e. e ≢ Refusal.Closed) }

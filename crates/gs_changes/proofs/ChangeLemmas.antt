@@ -6,7 +6,7 @@ use Rattle.gs_pool.specs.declared.nodes.Node.{Node}
 use Rattle.gs_pool.specs.Pool.{Nodes, node_at}
 use Rattle.gs_tree.specs.Tree.{Tree, leaf, fork, occurrences, Stands, BirthAtMost, Descends}
 use Rattle.gs_tree.specs.Steps.{Step}
-use Rattle.gs_tree.specs.Sets.{IsSet, Unites, Removes}
+use Rattle.gs_tree.specs.Sets.{IsSet, Unites, RemovesOneKey}
 use Rattle.gs_tree.proofs.TreeLemmas.{Step-then, born_at}
 use Rattle.gs_changes.specs.Changes.{Changes, IsBornBefore, IsEarlier}
 use Rattle.gs_changes.specs.Endings.{IsDraft}
@@ -57,7 +57,7 @@ unites_changes cmp birth p q root added t run new u = record {
 }
 
 -- a removal is a change
-pub removes_changes : (cmp : Key → Key → Ordering) (birth : ℕ) (p q : Nodes) (root : Option ℕ) (key : Key) (t new : Tree) → Removes cmp birth birth p q root key t new → Changes cmp birth p q root 0 1 t new
+pub removes_changes : (cmp : Key → Key → Ordering) (birth : ℕ) (p q : Nodes) (root : Option ℕ) (key : Key) (t new : Tree) → RemovesOneKey cmp birth birth p q root key t new → Changes cmp birth p q root 0 1 t new
 removes_changes cmp birth p q root key t new u = record {
   set = u.set;
   births = u.births;

@@ -5,12 +5,12 @@ use Rattle.gs_tree.specs.Tree.{Tree, occurrences}
 use Rattle.gs_tree.specs.Steps.{plain_count, plain_mark, Step}
 use Rattle.gs_tree.specs.Sets.{KeepsOthers}
 use Rattle.gs_tree.proofs.TreeLemmas.{Stands-same, tree_at-is, plain_count_mark}
-use Rattle.gs_changes.specs.Changes.{StaysOrGoes}
+use Rattle.gs_changes.specs.Changes.{MarkStaysOrGoes}
 use Rattle.gs_changes.proofs.Counts.{count_same}
 
 module _ (birth : ℕ) (p q : Nodes) (t new : Tree) (s : Step birth birth p q (occurrences t) (occurrences new)) where
   -- what is set aside was in the tree, and is not in the new one, whose nodes are plain
-  pub step_aside : ((x : ℕ) → occurrences new x ≤ plain_count q x) → (x : ℕ) → StaysOrGoes birth p q t new x
+  pub step_aside : ((x : ℕ) → occurrences new x ≤ plain_count q x) → (x : ℕ) → MarkStaysOrGoes birth p q t new x
   step_aside apart x = elim (s.marks x) [
     | inl same ↦ inl same
     | inr gone ↦

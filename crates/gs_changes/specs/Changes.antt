@@ -16,8 +16,8 @@ pub record IsSetAside (birth : ℕ) (p q : Nodes) (t new : Tree) (x : ℕ) : Typ
   pub after : occurrences new x ≡ 0
 
 -- the mark of a number stays, or its node is set aside
-abbrev pub StaysOrGoes : ℕ → Nodes → Nodes → Tree → Tree → ℕ → Type 0
-StaysOrGoes birth p q t new x = (mark_at q x ≡ mark_at p x) ⊎ IsSetAside birth p q t new x
+abbrev pub MarkStaysOrGoes : ℕ → Nodes → Nodes → Tree → Tree → ℕ → Type 0
+MarkStaysOrGoes birth p q t new x = (mark_at q x ≡ mark_at p x) ⊎ IsSetAside birth p q t new x
 
 -- From pool p to pool q the tree t became the tree new, by nodes born at `birth`: so many keys went in, and so many out. Older nodes stay as they are; those that went out of the tree are set aside. What stands apart from t or is older means what it meant. A key in takes at most 257 nodes, a key out 192.
 pub record Changes (cmp : Key → Key → Ordering) (birth : ℕ) (p q : Nodes) (root : Option ℕ) (added removed : ℕ) (t new : Tree) : Type 0 where
@@ -25,7 +25,7 @@ pub record Changes (cmp : Key → Key → Ordering) (birth : ℕ) (p q : Nodes) 
   pub births : Descends t → BirthAtMost birth t → Descends new × BirthAtMost birth new
   pub step : Step birth birth p q (occurrences t) (occurrences new)
   pub others : KeepsOthers birth p q t
-  pub aside : (x : ℕ) → StaysOrGoes birth p q t new x
+  pub aside : (x : ℕ) → MarkStaysOrGoes birth p q t new x
   pub still : added + removed ≡ 0 → (root ≡ root_of t) × (q.nodes ≡ p.nodes) × (q.marks ≡ p.marks)
   pub counted : length (keys new) + removed ≡ length (keys t) + added
   pub copied : in_use q + older_count birth new + removed ≡ in_use p + older_count birth t + added

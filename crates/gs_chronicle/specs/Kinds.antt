@@ -4,11 +4,11 @@ use Rattle.gs_chronicle.specs.declared.kinds.ActionKind.{ActionKind}
 use Rattle.gs_chronicle.specs.declared.kinds.ActionKind.TheVariants.{Commit, CommitPatch, Delete, Head, Pin}
 
 -- the kind of action by which the abstract store is asked for this
-abbrev pub kind_of : Operation → ActionKind
-kind_of (Puts t g) = Commit
-kind_of (Posts t g) = Commit
-kind_of (Creates r g) = Commit
-kind_of (Patches t ops) = CommitPatch
-kind_of (Deletes t) = Delete
-kind_of (Looks t) = Head
-kind_of (Reads t) = Pin
+abbrev pub action_kind_of : Operation → ActionKind
+action_kind_of (Puts t g) = Commit
+action_kind_of (Posts t g) = Commit
+action_kind_of (Creates r g) = Commit
+action_kind_of (Patches t ops) = CommitPatch
+action_kind_of (Deletes t) = Delete
+action_kind_of (Looks t) = Head
+action_kind_of (Reads t) = Pin

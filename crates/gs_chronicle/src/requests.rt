@@ -1,6 +1,6 @@
 //! What a store was asked by a call that it decided.
 ghost use Rattle.std.specs.Prelude.{◌≡◌, ◌≤◌, ◌^◌, MatchOption};
-ghost use Rattle.gs_chronicle.specs.Kinds.{kind_of};
+ghost use Rattle.gs_chronicle.specs.Kinds.{action_kind_of};
 ghost use Rattle.gs_chronicle.specs.Requests.{operation_in, request_size};
 
 use crate::kinds::ActionKind;
@@ -27,7 +27,7 @@ pub enum Request {
 impl Request {
     /// The kind of the action.
     pub fn kind(&self) -> ActionKind
-        ensures { result ≡ kind_of (operation_in self.now) }
+        ensures { result ≡ action_kind_of (operation_in self.now) }
     {
         match self {
             Request::Upload(_) => ActionKind::Commit,

@@ -31,23 +31,23 @@ lines_in [] = []
 lines_in (c ∷ cs) = if c == line_feed then [] ∷ lines_in cs else before_first c (lines_in cs)
 
 -- a word with a space after it, and then what the rest says
-pub record SaysAfter (word : List ℕ) (Says : List ℕ → Type 0) (x : List ℕ) : Type 0 where
+pub record SaysAfter (word : List ℕ) (SaysRest : List ℕ → Type 0) (x : List ℕ) : Type 0 where
   pub rest : List ℕ
   pub parts : x ≡ word ++ rest
-  pub says : Says rest
+  pub says : SaysRest rest
 
 -- the name of a graph, as it is
 abbrev pub SaysName : List ℕ → List ℕ → Type 0
 SaysName name x = (x ≡ name) × IsName name
 
 -- a text between `<` and `>`
-abbrev pub in_brackets : List ℕ → List ℕ
-in_brackets x = less_than ∷ x ++ greater_than ∷ []
+abbrev pub bracketed : List ℕ → List ℕ
+bracketed x = less_than ∷ x ++ greater_than ∷ []
 
 -- `default`, or a name between `<` and `>`
 abbrev pub SaysTarget : Target → List ℕ → Type 0
 SaysTarget Default x = x ≡ codes "default"
-SaysTarget (Named name) x = (x ≡ in_brackets name) × IsName name
+SaysTarget (Named name) x = (x ≡ bracketed name) × IsName name
 
 -- what an upload is opened for
 abbrev pub SaysKind : UploadKind → List ℕ → Type 0
@@ -113,8 +113,8 @@ abbrev pub FindsStage : List ℕ → Option Action → Type 0
 FindsStage x found = MatchOption found ((t : RdfTriple) → ¬ SaysTriple t x) (λ action. SaysAction action (codes "stage " ++ x))
 
 -- the event of a seat that a line says, and none only where it says none
-abbrev pub FindsSeat : List ℕ → Option Event → Type 0
-FindsSeat x found = MatchOption found ((s : ℕ) (action : Action) → ¬ SaysEvent (At s action) x) (λ event. SaysEvent event x)
+abbrev pub FindsSeatEvent : List ℕ → Option Event → Type 0
+FindsSeatEvent x found = MatchOption found ((s : ℕ) (action : Action) → ¬ SaysEvent (At s action) x) (λ event. SaysEvent event x)
 
 -- the line is no seat's event, no feed and no patch
 pub record SaysNothingAt (x : List ℕ) : Type 0 where
@@ -136,11 +136,11 @@ is_skipped [] = true
 is_skipped (c ∷ cs) = c == number_sign
 
 -- what a line says
-abbrev pub Says : Command → List ℕ → Type 0
-Says Nothing x = (is_skipped x ≡ true) × IsUtf8 x
-Says (Begin seats commit request) x = SaysAfter (codes "store ") (SaysStart seats commit request) x
-Says (Ask event) x = SaysEvent event x
-Says Count x = x ≡ codes "counts"
-Says (Feed s l y) x = SaysFeed s l y.items x
-Says (Patch s y) x = SaysPatch s y.items x
-Says (Cut n) x = SaysAfter (codes "cut ") (SaysNumber last_u64 n) x
+abbrev pub SaysCommand : Command → List ℕ → Type 0
+SaysCommand Nothing x = (is_skipped x ≡ true) × IsUtf8 x
+SaysCommand (Begin seats commit request) x = SaysAfter (codes "store ") (SaysStart seats commit request) x
+SaysCommand (Ask event) x = SaysEvent event x
+SaysCommand Count x = x ≡ codes "counts"
+SaysCommand (Feed s l y) x = SaysFeed s l y.items x
+SaysCommand (Patch s y) x = SaysPatch s y.items x
+SaysCommand (Cut n) x = SaysAfter (codes "cut ") (SaysNumber last_u64 n) x

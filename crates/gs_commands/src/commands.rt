@@ -1,7 +1,7 @@
 //! What a line of a schedule says.
 ghost use Rattle.std.specs.Prelude.{◌≡◌, ◌++◌, ◌∷◌, [], List, ℕ, IfOk, MatchOption};
 ghost use Rattle.gs_commands.specs.Found.{Finds};
-ghost use Rattle.gs_commands.specs.Commands.{SaysName, SaysTarget, SaysKind, SaysTriple, SaysAction, SaysText, SaysFeed, SaysNothingAt, SaysStart, Says, FindsStage, FindsSeat, in_brackets, feed_words, is_skipped as is_skipped_line};
+ghost use Rattle.gs_commands.specs.Commands.{SaysName, SaysTarget, SaysKind, SaysTriple, SaysAction, SaysText, SaysFeed, SaysNothingAt, SaysStart, SaysCommand, FindsStage, FindsSeatEvent, bracketed, feed_words, is_skipped as is_skipped_line};
 ghost use Rattle.gs_upload.specs.declared.languages.Language.{Language as ALanguage};
 
 use crate::lines::read_line;
@@ -44,8 +44,8 @@ fn read_name(alloc: Global, bytes: &[u8]) -> Result<Option<GraphName>, AllocErro
 
 /// What stands between `<` and `>`.
 fn between(text: &[u8]) -> Option<&[u8]>
-    ensures { MatchOption result ((name : List ℕ) → ¬ (text.now ≡ in_brackets name))
-        (λ name. text.now ≡ in_brackets name.now) }
+    ensures { MatchOption result ((name : List ℕ) → ¬ (text.now ≡ bracketed name))
+        (λ name. text.now ≡ bracketed name.now) }
 {
     let Some((b'<', rest)) = text.split_first() else {
         return None;
@@ -148,7 +148,7 @@ fn read_action(alloc: Global, text: &[u8]) -> Result<Option<Action>, AllocError>
 
 /// A seat's number, a space and its action.
 fn read_seat(alloc: Global, text: &[u8]) -> Result<Option<Event>, AllocError>
-    ensures { IfOk result (FindsSeat text.now) }
+    ensures { IfOk result (FindsSeatEvent text.now) }
 {
     let (seat, rest) = split(text, b' ');
     let Some(seat) = number(seat, 65_535) else {
@@ -229,7 +229,7 @@ fn read_start(text: &[u8]) -> Option<(u16, u64, u64)>
 
 /// What a line says: a row for each first word, and else a seat's number.
 pub fn read_command(alloc: Global, line: &[u8]) -> Result<Option<Command>, AllocError>
-    ensures { IfOk result (Finds Says line.now) }
+    ensures { IfOk result (Finds SaysCommand line.now) }
 {
     if is_skipped(line) {
         return match str::from_utf8(line) {
@@ -264,7 +264,7 @@ pub fn read_command(alloc: Global, line: &[u8]) -> Result<Option<Command>, Alloc
 /// A line that begins with a seat's number.
 fn read_at_seat(alloc: Global, line: &[u8]) -> Result<Option<Command>, AllocError>
     ensures { IfOk result (λ found. MatchOption found (SaysNothingAt line.now)
-        (λ command. Says command line.now)) }
+        (λ command. SaysCommand command line.now)) }
 {
     if let Some((seat, language, text)) = read_feed(alloc, line)? {
         return Ok(Some(Command::Feed(seat, language, text)));

@@ -11,7 +11,7 @@ use Rattle.gs_tree.specs.Steps.{one}
 use Rattle.gs_tree.proofs.TreeLemmas.{one_same}
 use Rattle.gs_versions.specs.Pins.{Pins}
 use Rattle.gs_ledger.specs.Entries.{Dead, tops}
-use Rattle.gs_ledger.specs.Marks.{death_of, side_at, entry_at, dead_below, dead_at}
+use Rattle.gs_ledger.specs.Marks.{death_of, side_at, dead_entry_at, dead_below, dead_at}
 use Rattle.gs_ledger.specs.Ledger.{IsLedger}
 use Rattle.gs_ledger.specs.Changes.{AreSameDead}
 use Rattle.gs_ledger.proofs.Sums.{zero_or, all_at, tops_cons, tops_append}
@@ -20,7 +20,7 @@ use Rattle.gs_ledger.proofs.Marked.{said_by_marks}
 
 -- a number as a dead node, where it has a node and a death
 abbrev here : Nodes → ℕ → List Dead
-here p x = entry_at p x (node_at p x) (death_of (mark_at p x))
+here p x = dead_entry_at p x (node_at p x) (death_of (mark_at p x))
 
 -- pools with the same nodes
 module _ (p q : Nodes) (nodes : KeepsNodes p q) where
@@ -45,7 +45,7 @@ module _ (p q : Nodes) (nodes : KeepsNodes p q) where
   side_same true root = tree_at_same root
   side_same false root = refl
 
-  entry_same : (x : ℕ) (o : Option Node) (d : Option (ℕ × Bool)) → entry_at q x o d ≡ entry_at p x o d
+  entry_same : (x : ℕ) (o : Option Node) (d : Option (ℕ × Bool)) → dead_entry_at q x o d ≡ dead_entry_at p x o d
   entry_same x None d = refl
   entry_same x (Some n) None = refl
   entry_same x (Some n) (Some d) =
@@ -54,11 +54,11 @@ module _ (p q : Nodes) (nodes : KeepsNodes p q) where
       λ i. record { id = x; birth = n.birth; death = d.0; whole = d.1; left = l i; right = r i } ∷ []
 
   here_same : KeepsMarks p q → (x : ℕ) → here q x ≡ here p x
-  here_same marks x = ap (λ o. entry_at q x o (death_of (mark_at q x))) (nodes x) ∙ ap (λ m. entry_at q x (node_at p x) (death_of m)) (marks x) ∙ entry_same x (node_at p x) (death_of (mark_at p x))
+  here_same marks x = ap (λ o. dead_entry_at q x o (death_of (mark_at q x))) (nodes x) ∙ ap (λ m. dead_entry_at q x (node_at p x) (death_of m)) (marks x) ∙ entry_same x (node_at p x) (death_of (mark_at p x))
 
 -- past its numbers a pool has no dead node
 here_past : (p : Nodes) (x : ℕ) → length p.nodes ≤ x → here p x ≡ []
-here_past p x past = ap (λ o. entry_at p x o (death_of (mark_at p x))) (get_or_past p.nodes x None past)
+here_past p x past = ap (λ o. dead_entry_at p x o (death_of (mark_at p x))) (get_or_past p.nodes x None past)
 
 below_past : (p : Nodes) (n : ℕ) → length p.nodes ≤ n → dead_below n p ≡ dead_at p
 below_past p zero h = let all : 0 ≡ length p.nodes = omega arith in ap (λ k. dead_below k p) all
@@ -84,10 +84,10 @@ dead_at_same p q nodes marks = dead_by_number p q (here_same p q nodes marks)
 abbrev IsHere : Nodes → Dead → Type 0
 IsHere p d = here p d.id ≡ d ∷ []
 
-entry_here : (p : Nodes) (x : ℕ) (o : Option Node) (d : Option (ℕ × Bool)) → node_at p x ≡ o → death_of (mark_at p x) ≡ d → All (IsHere p) (entry_at p x o d)
+entry_here : (p : Nodes) (x : ℕ) (o : Option Node) (d : Option (ℕ × Bool)) → node_at p x ≡ o → death_of (mark_at p x) ≡ d → All (IsHere p) (dead_entry_at p x o d)
 entry_here p x None d e f = All-nil (IsHere p)
 entry_here p x (Some n) None e f = All-nil (IsHere p)
-entry_here p x (Some n) (Some d) e f = All-cons (IsHere p) _ [] (ap (λ o. entry_at p x o (death_of (mark_at p x))) e ∙ ap (entry_at p x (Some n)) f) (All-nil (IsHere p))
+entry_here p x (Some n) (Some d) e f = All-cons (IsHere p) _ [] (ap (λ o. dead_entry_at p x o (death_of (mark_at p x))) e ∙ ap (dead_entry_at p x (Some n)) f) (All-nil (IsHere p))
 
 below_here : (p : Nodes) (n : ℕ) → All (IsHere p) (dead_below n p)
 below_here p zero = All-nil (IsHere p)
@@ -103,7 +103,7 @@ tops_below p (suc n) x h = elim (cases_lt x n) [
       omega (arith, tops_append (here p n) (dead_below n p) x, tops_are)
 ]
 
-no_top : (p : Nodes) (x : ℕ) (o : Option Node) (d : Option (ℕ × Bool)) → tops (entry_at p x o d) x ≡ 0 → entry_at p x o d ≡ []
+no_top : (p : Nodes) (x : ℕ) (o : Option Node) (d : Option (ℕ × Bool)) → tops (dead_entry_at p x o d) x ≡ 0 → dead_entry_at p x o d ≡ []
 no_top p x None d h = refl
 no_top p x (Some n) None h = refl
 no_top p x (Some n) (Some d) h =

@@ -21,7 +21,7 @@ HandsOverAll v w p q root =
     → HandsOver v w p q (tree_at p root) new graphs uploads reads
 
 -- The upload that had the tree `old` is no more. The nodes of `old` join the waste, and no version had one of them.
-pub record Drops (v : Pins) (p q : Nodes) (old : Tree) (graphs uploads : List Tree) (reads : List (List Tree)) : Type 0 where
+pub record DropsUpload (v : Pins) (p q : Nodes) (old : Tree) (graphs uploads : List Tree) (reads : List (List Tree)) : Type 0 where
   pub ledger : IsLedger q v graphs uploads reads (dead_at q)
   pub waste : Joins IsUnreached (length (keys old)) (waste_at p) (waste_at q)
 
@@ -30,7 +30,7 @@ abbrev pub DropsAll : Nodes → Nodes → Option ℕ → Type 0
 DropsAll p q root =
     (v : Pins) (graphs uploads : List Tree) (reads : List (List Tree))
     → IsLedger p v graphs (tree_at p root ∷ uploads) reads (dead_at p)
-    → Drops v p q (tree_at p root) graphs uploads reads
+    → DropsUpload v p q (tree_at p root) graphs uploads reads
 
 -- The graph has its draft `new`. The nodes that are set aside in q join the waste: a version had each, and this commit took it out.
 pub record KeepsDraft (v w : Pins) (p q r : Nodes) (new : Tree) (graphs uploads : List Tree) (reads : List (List Tree)) : Type 0 where

@@ -13,7 +13,7 @@ use Rattle.gs_pool.specs.Pool.{Nodes}
 use Rattle.gs_tree.specs.Keys.{AllKeys, IsRising}
 use Rattle.gs_tree.specs.Tree.{Tree, leaf, root_of, keys, IsBalanced, tree_at}
 use Rattle.gs_keys.specs.Texts.{triple_at, key_cmp, IsGiven}
-use Rattle.gs_keys.specs.Roots.{graph_at}
+use Rattle.gs_keys.specs.Roots.{graph_of_root}
 use Rattle.gs_catalogue.specs.declared.versions.GraphVersion.{GraphVersion}
 use Rattle.gs_catalogue.specs.Catalogues.{GraphVersions, version_at}
 
@@ -23,7 +23,7 @@ with_values f m = map.from_sorted (map_each (λ e. (e.0, f e.1)) (map.entries m)
 
 -- the graph of a version: that of its root
 abbrev pub version_graph : List Term → Nodes → GraphVersion → Graph
-version_graph terms p v = graph_at terms p v.root
+version_graph terms p v = graph_of_root terms p v.root
 
 -- the dataset of the versions: the graph of each
 abbrev pub dataset_at : List Term → Nodes → GraphVersions → Dataset

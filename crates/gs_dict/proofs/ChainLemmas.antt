@@ -3,7 +3,7 @@ use Rattle.std.proofs.Common.{◌≡◌, ◌≢◌, ℕ, ◌+◌, ◌-◌, ◌<�
 use Rattle.std.proofs.lemmas.Bool.{cases_eq, cases_lt}
 use Rattle.std.proofs.lemmas.Nat.{and_le_r}
 use Rattle.gs_dict.specs.declared.chains.Entry.{Entry}
-use Rattle.gs_dict.specs.Chains.{IsChained, IsLinked, IsAlong, Has, entry_at, bucket_at, bucket_of, link_after}
+use Rattle.gs_dict.specs.Chains.{IsChained, IsLinked, IsAlong, EntryHas, dict_entry_at, bucket_at, bucket_of, link_after}
 
 -- one number more: its next is what was its bucket's link, and it becomes that link
 pub chained_more :
@@ -66,11 +66,11 @@ bucket_inside buckets hash some = omega (arith, and_le_r hash (buckets - 1))
 
 -- one entry more, at the head of its bucket's chain
 pub linked_more :
-    (n : ℕ) (es fs : List Entry) (heads : List ℕ) → IsLinked n es heads → 0 < length heads → ((i : ℕ) → i < n → entry_at fs i ≡ entry_at es i)
+    (n : ℕ) (es fs : List Entry) (heads : List ℕ) → IsLinked n es heads → 0 < length heads → ((i : ℕ) → i < n → dict_entry_at fs i ≡ dict_entry_at es i)
     → link_after fs n ≡ get_or heads (bucket_at (length heads) fs n) 0 → IsLinked (n + 1) fs (set heads (bucket_at (length heads) fs n) (n + 1))
 linked_more n es fs heads h some same next =
     let b : ℕ = bucket_at (length heads) fs n in
-    let inside : b < length heads = bucket_inside (length heads) (entry_at fs n).hash some in
+    let inside : b < length heads = bucket_inside (length heads) (dict_entry_at fs n).hash some in
     let P : ℕ → Type 0 = λ m. IsChained (n + 1) (bucket_at m fs) (link_after fs) (λ k. get_or (set heads b (n + 1)) k 0) in
     subst P (sym (length-set heads b (n + 1)))
     (chained_more n (bucket_at (length heads) es) (bucket_at (length heads) fs) (link_after es) (link_after fs) (λ k. get_or heads k 0)
@@ -85,7 +85,7 @@ linked_more n es fs heads h some same next =
 -- along a chain, from a number of another hash or text to the one after it
 pub along_more :
     (arena : List ℕ) (es : List Entry) (heads : List ℕ) (hash : ℕ) (x : List ℕ) (link : ℕ) → IsLinked (length es) es heads
-    → IsAlong arena es (length heads) hash x link → 0 < link → (Has arena es (link - 1) hash x → ⊥)
+    → IsAlong arena es (length heads) hash x link → 0 < link → (EntryHas arena es (link - 1) hash x → ⊥)
     → IsAlong arena es (length heads) hash x (link_after es (link - 1))
 along_more arena es heads hash x link linked along some other =
     let i : ℕ = link - 1 in
@@ -97,7 +97,7 @@ along_more arena es heads hash x link linked along some other =
       passed = λ j within past has. elim (cases_lt i j) [
         | inl above ↦ along.passed j within (omega arith) has
         | inr below ↦ elim (cases_eq j i) [
-          | inl e ↦ let P : ℕ → Type 0 = λ k. Has arena es k hash x in other (subst P e has)
+          | inl e ↦ let P : ℕ → Type 0 = λ k. EntryHas arena es k hash x in other (subst P e has)
           | inr ne ↦
               let fall : j < i = omega arith in
               let alike : bucket_at (length heads) es j ≡ bucket_at (length heads) es i = ap (bucket_of (length heads)) has.0 ∙ sym here in

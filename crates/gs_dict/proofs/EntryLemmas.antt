@@ -3,17 +3,17 @@ use Rattle.std.proofs.Common.{◌≡◌, ◌≢◌, ℕ, ◌+◌, ◌-◌, ◌<�
 use Rattle.std.proofs.lemmas.Bool.{cases_eq, ne_eqb}
 use Rattle.std.proofs.lemmas.List.{get_or_append_left, get_or_push, length_push, take_all, take-append-le, drop-append-le, drop_at, length-drop}
 use Rattle.gs_dict.specs.declared.chains.Entry.{Entry}
-use Rattle.gs_dict.specs.Chains.{IsLinked, IsSpanned, IsTable, AreEnough, Agree, entry_at, bucket_at, bucket_of, start_at, text_at, no_entry}
+use Rattle.gs_dict.specs.Chains.{IsLinked, IsSpanned, IsTable, AreEnough, Agree, dict_entry_at, bucket_at, bucket_of, start_at, text_at, no_entry}
 use Rattle.gs_dict.proofs.ChainLemmas.{linked_more}
 
 -- the next entry is put into its chain
 pub relinked :
     (n : ℕ) (es : List Entry) (heads : List ℕ) (b : ℕ) → b ≡ bucket_at (length heads) es n → n < length es → 0 < length heads → IsLinked n es heads
-    → IsLinked (n + 1) (set es n (record { end = (entry_at es n).end; next = get_or heads b 0; hash = (entry_at es n).hash })) (set heads b (n + 1))
+    → IsLinked (n + 1) (set es n (record { end = (dict_entry_at es n).end; next = get_or heads b 0; hash = (dict_entry_at es n).hash })) (set heads b (n + 1))
 relinked n es heads b is inside some linked =
-    let e : Entry = record { end = (entry_at es n).end; next = get_or heads b 0; hash = (entry_at es n).hash } in
+    let e : Entry = record { end = (dict_entry_at es n).end; next = get_or heads b 0; hash = (dict_entry_at es n).hash } in
     let fs : List Entry = set es n e in
-    let there : entry_at fs n ≡ e = get_or-set_same es n e no_entry inside in
+    let there : dict_entry_at fs n ≡ e = get_or-set_same es n e no_entry inside in
     let bucket : bucket_at (length heads) fs n ≡ b = ap (λ (f : Entry). bucket_of (length heads) f.hash) there ∙ sym is in
     let P : ℕ → Type 0 = λ k. IsLinked (n + 1) fs (set heads k (n + 1)) in
     subst P bucket
@@ -23,19 +23,19 @@ relinked n es heads b is inside some linked =
 
 -- ends and hashes stay where an entry's next alone is written
 pub agree_set :
-    (gs es : List Entry) (n : ℕ) (e : Entry) → Agree gs es → n < length es → e.end ≡ (entry_at es n).end → e.hash ≡ (entry_at es n).hash
+    (gs es : List Entry) (n : ℕ) (e : Entry) → Agree gs es → n < length es → e.end ≡ (dict_entry_at es n).end → e.hash ≡ (dict_entry_at es n).hash
     → Agree gs (set es n e)
 agree_set gs es n e agree inside same_end same_hash = record {
   count = length-set es n e ∙ agree.count;
   end_same = λ i. elim (cases_eq i n) [
     | inl at ↦
-        let P : ℕ → Type 0 = λ k. (entry_at (set es n e) k).end ≡ (entry_at gs k).end in
+        let P : ℕ → Type 0 = λ k. (dict_entry_at (set es n e) k).end ≡ (dict_entry_at gs k).end in
         subst P (sym at) (ap (λ (f : Entry). f.end) (get_or-set_same es n e no_entry inside) ∙ (same_end ∙ agree.end_same n))
     | inr other ↦ ap (λ (f : Entry). f.end) (get_or-set_other es n i e no_entry other) ∙ agree.end_same i
   ];
   hash_same = λ i. elim (cases_eq i n) [
     | inl at ↦
-        let P : ℕ → Type 0 = λ k. (entry_at (set es n e) k).hash ≡ (entry_at gs k).hash in
+        let P : ℕ → Type 0 = λ k. (dict_entry_at (set es n e) k).hash ≡ (dict_entry_at gs k).hash in
         subst P (sym at) (ap (λ (f : Entry). f.hash) (get_or-set_same es n e no_entry inside) ∙ (same_hash ∙ agree.hash_same n))
     | inr other ↦ ap (λ (f : Entry). f.hash) (get_or-set_other es n i e no_entry other) ∙ agree.hash_same i
   ];
@@ -49,7 +49,7 @@ start_agree es fs i agree = ap (λ z. cond (eqb i 0) 0 z) (agree.end_same (i - 1
 pub text_agree : (arena : List ℕ) (es fs : List Entry) (i : ℕ) → Agree es fs → text_at arena fs i ≡ text_at arena es i
 unfolding text_at
 text_agree arena es fs i agree =
-    ap (λ z. take ((entry_at fs i).end - z) (drop z arena)) (start_agree es fs i agree)
+    ap (λ z. take ((dict_entry_at fs i).end - z) (drop z arena)) (start_agree es fs i agree)
     ∙ ap (λ z. take (z - start_at es i) (drop (start_at es i) arena)) (agree.end_same i)
 
 pub spanned_agree : (arena : List ℕ) (es fs : List Entry) → IsSpanned arena es → Agree es fs → IsSpanned arena fs
@@ -66,7 +66,7 @@ start_push : (es : List Entry) (e : Entry) (i : ℕ) → i ≤ length es → sta
 unfolding start_at
 start_push es e i within = elim (cases_eq i 0) [
   | inl first ↦
-      let P : ℕ → Type 0 = λ k. cond (eqb k 0) 0 (entry_at (es ++ e ∷ []) (k - 1)).end ≡ cond (eqb k 0) 0 (entry_at es (k - 1)).end in
+      let P : ℕ → Type 0 = λ k. cond (eqb k 0) 0 (dict_entry_at (es ++ e ∷ []) (k - 1)).end ≡ cond (eqb k 0) 0 (dict_entry_at es (k - 1)).end in
       subst P (sym first) refl
   | inr later ↦
       let inside : i - 1 < length es = omega arith in
@@ -78,7 +78,7 @@ unfolding start_at
 start_after es e n is =
     let later : n + 1 ≢ 0 = λ h. omega arith in
     let before : length es ≡ n + 1 - 1 = omega arith in
-    ap (λ b. cond b 0 (entry_at (es ++ e ∷ []) (n + 1 - 1)).end) (ne_eqb (n + 1) 0 later)
+    ap (λ b. cond b 0 (dict_entry_at (es ++ e ∷ []) (n + 1 - 1)).end) (ne_eqb (n + 1) 0 later)
     ∙ ap (λ (f : Entry). f.end) (get_or_push es e no_entry (n + 1 - 1) before)
 
 pub spanned_push :
@@ -86,11 +86,11 @@ pub spanned_push :
 spanned_push arena es x e spanned ends =
     let long : length (arena ++ x) ≡ length arena + length x = length-append arena x in
     let count : length (es ++ e ∷ []) ≡ length es + 1 = length_push es e in
-    let last : (entry_at (es ++ e ∷ []) (length es)).end ≡ e.end = ap (λ (f : Entry). f.end) (get_or_push es e no_entry (length es) refl) in
+    let last : (dict_entry_at (es ++ e ∷ []) (length es)).end ≡ e.end = ap (λ (f : Entry). f.end) (get_or_push es e no_entry (length es) refl) in
     record {
       rises = λ i p. elim (cases_eq i (length es)) [
         | inl at ↦
-            let P : ℕ → Type 0 = λ k. start_at (es ++ e ∷ []) k ≤ (entry_at (es ++ e ∷ []) k).end in
+            let P : ℕ → Type 0 = λ k. start_at (es ++ e ∷ []) k ≤ (dict_entry_at (es ++ e ∷ []) k).end in
             subst P (sym at) (omega (arith, start_push es e (length es) (omega arith), spanned.whole))
         | inr other ↦
             let inside : i < length es = omega arith in
@@ -98,7 +98,7 @@ spanned_push arena es x e spanned ends =
       ];
       inside = λ i p. elim (cases_eq i (length es)) [
         | inl at ↦
-            let P : ℕ → Type 0 = λ k. (entry_at (es ++ e ∷ []) k).end ≤ length (arena ++ x) in
+            let P : ℕ → Type 0 = λ k. (dict_entry_at (es ++ e ∷ []) k).end ≤ length (arena ++ x) in
             subst P (sym at) (omega arith)
         | inr other ↦
             let inside : i < length es = omega arith in
@@ -120,10 +120,10 @@ pub text_push :
     → text_at (arena ++ x) (es ++ e ∷ []) i ≡ text_at arena es i
 unfolding text_at
 text_push arena es x e i spanned inside =
-    let ends : (entry_at (es ++ e ∷ []) i).end ≡ (entry_at es i).end = ap (λ (f : Entry). f.end) (get_or_append_left es (e ∷ []) no_entry i inside) in
-    ap (λ z. take ((entry_at (es ++ e ∷ []) i).end - z) (drop z (arena ++ x))) (start_push es e i (omega arith))
+    let ends : (dict_entry_at (es ++ e ∷ []) i).end ≡ (dict_entry_at es i).end = ap (λ (f : Entry). f.end) (get_or_append_left es (e ∷ []) no_entry i inside) in
+    ap (λ z. take ((dict_entry_at (es ++ e ∷ []) i).end - z) (drop z (arena ++ x))) (start_push es e i (omega arith))
     ∙ (ap (λ z. take (z - start_at es i) (drop (start_at es i) (arena ++ x))) ends
-    ∙ part_of_longer (start_at es i) (entry_at es i).end arena x (spanned.rises i inside) (spanned.inside i inside))
+    ∙ part_of_longer (start_at es i) (dict_entry_at es i).end arena x (spanned.rises i inside) (spanned.inside i inside))
 
 pub text_last :
     (arena : List ℕ) (es : List Entry) (x : List ℕ) (e : Entry) → IsSpanned arena es → e.end ≡ length (arena ++ x)
@@ -131,9 +131,9 @@ pub text_last :
 unfolding text_at
 text_last arena es x e spanned ends =
     let start : start_at (es ++ e ∷ []) (length es) ≡ length arena = start_push es e (length es) (omega arith) ∙ spanned.whole in
-    let last : (entry_at (es ++ e ∷ []) (length es)).end ≡ length (arena ++ x) = ap (λ (f : Entry). f.end) (get_or_push es e no_entry (length es) refl) ∙ ends in
+    let last : (dict_entry_at (es ++ e ∷ []) (length es)).end ≡ length (arena ++ x) = ap (λ (f : Entry). f.end) (get_or_push es e no_entry (length es) refl) ∙ ends in
     let left : length x ≤ length (arena ++ x) - length arena = omega (arith, length-append arena x) in
-    ap (λ z. take ((entry_at (es ++ e ∷ []) (length es)).end - z) (drop z (arena ++ x))) start
+    ap (λ z. take ((dict_entry_at (es ++ e ∷ []) (length es)).end - z) (drop z (arena ++ x))) start
     ∙ (ap (λ z. take (z - length arena) (drop (length arena) (arena ++ x))) last
     ∙ (ap (take (length (arena ++ x) - length arena)) (drop_at arena x (length arena) refl)
     ∙ take_all (length (arena ++ x) - length arena) x left))
@@ -153,7 +153,7 @@ pub table_push :
 table_push arena es heads x e b table ends is next another =
     let n : ℕ = length es in
     let fs : List Entry = es ++ e ∷ [] in
-    let there : entry_at fs n ≡ e = get_or_push es e no_entry n refl in
+    let there : dict_entry_at fs n ≡ e = get_or_push es e no_entry n refl in
     let bucket : bucket_at (length heads) fs n ≡ b = ap (λ (f : Entry). bucket_of (length heads) f.hash) there ∙ sym is in
     let P : ℕ → Type 0 = λ k. IsLinked (n + 1) fs (set heads k (n + 1)) in
     let Q : ℕ → Type 0 = λ m. IsLinked m fs (set heads b (n + 1)) in

@@ -2,7 +2,7 @@
 use Rattle.std.proofs.Common.{◌≡◌, ℕ, ◌+◌, ◌<◌, List, [], ◌∷◌, ◌++◌, length, ap, sym, ◌∙◌, subst, refl, arith, get_or, set}
 use Rattle.std.proofs.lemmas.List.{get_or_append_left, get_or_push, length_push}
 use Rattle.gs_dict.specs.declared.chains.Entry.{Entry}
-use Rattle.gs_dict.specs.Chains.{IsLinked, IsSpanned, IsTable, AreEnough, Has, Agree, KeepsTexts, bucket_of, no_entry}
+use Rattle.gs_dict.specs.Chains.{IsLinked, IsSpanned, IsTable, AreEnough, EntryHas, Agree, KeepsTexts, bucket_of, no_entry}
 use Rattle.gs_dict.proofs.EntryLemmas.{text_agree, spanned_agree, text_push, text_last, table_push}
 
 -- with other links, each text stands where it stood
@@ -31,14 +31,14 @@ pub record Added (arena : List ℕ) (es : List Entry) (later : List ℕ) (fs : L
   pub table : IsTable later fs heads
   pub kept : KeepsTexts arena es later fs
   pub count : length fs ≡ length es + 1
-  pub has : Has later fs (length es) hash x
+  pub has : EntryHas later fs (length es) hash x
 
 pub added :
     (arena : List ℕ) (es fs : List Entry) (links x : List ℕ) (e : Entry) (b : ℕ) → IsTable arena fs links → Agree es fs
     → e.end ≡ length (arena ++ x) → b ≡ bucket_of (length links) e.hash → e.next ≡ get_or links b 0 → length fs < length links
     → Added arena es (arena ++ x) (fs ++ e ∷ []) (set links b (length fs + 1)) x e.hash
 added arena es fs links x e b table agree ends is next another =
-    let H : ℕ → Type 0 = λ n. Has (arena ++ x) (fs ++ e ∷ []) n e.hash x in
+    let H : ℕ → Type 0 = λ n. EntryHas (arena ++ x) (fs ++ e ∷ []) n e.hash x in
     let spanned : IsSpanned arena fs = table.spanned in
     record {
       table = table_push arena fs links x e b table ends is next another;

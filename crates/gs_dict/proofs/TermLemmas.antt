@@ -13,9 +13,9 @@ use Rattle.std.proofs.lemmas.Bool.Decides.{nat_tests}
 use Rattle.std.specs.Bool.{Decides}
 use Rattle.gs_model.proofs.TextLemmas.{term_of-text_of, text_of-injective}
 use Rattle.gs_dict.specs.declared.chains.Entry.{Entry}
-use Rattle.gs_dict.specs.Chains.{IsTable, AreEnough, Has, Meets, KeepsTexts, entry_at, text_at, start_at}
-use Rattle.gs_dict.specs.Numbering.{Numbered, IsNumberOf, IsNew, IsDistinct, Joins}
-use Rattle.gs_dict.specs.Kept.{IsDict, hash_of, term_at, terms_of}
+use Rattle.gs_dict.specs.Chains.{IsTable, AreEnough, EntryHas, Meets, KeepsTexts, dict_entry_at, text_at, start_at}
+use Rattle.gs_dict.specs.Numbering.{Numbered, IsNumberOf, IsNew, IsDistinct, GivesNextNumber}
+use Rattle.gs_dict.specs.Kept.{IsDict, hash_of, term_of_entry, terms_of}
 
 -- what a dictionary of these parts shows
 abbrev pub shown : List ℕ → List Entry → ℕ → Numbered
@@ -24,16 +24,16 @@ shown arena es last = record { terms = terms_of arena es; last = last }
 -- as many terms as entries
 pub length-terms_of : (arena : List ℕ) (es : List Entry) → length (terms_of arena es) ≡ length es
 unfolding terms_of
-length-terms_of arena es = length-map-range_with_len (term_at arena es) 0 (length es)
+length-terms_of arena es = length-map-range_with_len (term_of_entry arena es) 0 (length es)
 
 -- the term of a number is that of its text
-pub get-terms_of : (arena : List ℕ) (es : List Entry) (i : ℕ) → i < length es → slice_get (terms_of arena es) i ≡ Some (term_at arena es i)
+pub get-terms_of : (arena : List ℕ) (es : List Entry) (i : ℕ) → i < length es → slice_get (terms_of arena es) i ≡ Some (term_of_entry arena es i)
 unfolding terms_of
 get-terms_of arena es i inside =
     let within : i < length (terms_of arena es) = omega (arith, length-terms_of arena es) in
     let same : 0 + i ≡ i = omega arith in
     slice_get-get_or (terms_of arena es) i (Iri []) within
-    ∙ ap (λ (t : Term). Some t) (get_or-map-range_with_len (term_at arena es) 0 (length es) i i (Iri []) inside same)
+    ∙ ap (λ (t : Term). Some t) (get_or-map-range_with_len (term_of_entry arena es) 0 (length es) i i (Iri []) inside same)
 
 pub number_inside : (arena : List ℕ) (es : List Entry) (i : ℕ) (t : Term) → IsNumberOf (terms_of arena es) i t → i < length es
 number_inside arena es i t number = omega (arith, slice_get_within (terms_of arena es) i t number, length-terms_of arena es)
@@ -44,7 +44,7 @@ pub number_text :
     → IsNumberOf (terms_of arena es) i t → text_at arena es i ≡ text_of t
 number_text arena es heads s last i t d number =
     let inside : i < length es = number_inside arena es i t number in
-    let same : term_at arena es i ≡ t = same_Some (term_at arena es i) t (sym (get-terms_of arena es i inside) ∙ number) in
+    let same : term_of_entry arena es i ≡ t = same_Some (term_of_entry arena es i) t (sym (get-terms_of arena es i inside) ∙ number) in
     sym (d.canonical i inside).canonical ∙ ap text_of same
 
 pub text_number :
@@ -65,7 +65,7 @@ pub number_valid :
 number_valid arena es heads s last i t d number =
     let inside : i < length es = number_inside arena es i t number in
     let P : Term → Type 0 = λ u. IsTerm u in
-    subst P (same_Some (term_at arena es i) t (sym (get-terms_of arena es i inside) ∙ number)) (d.canonical i inside).valid
+    subst P (same_Some (term_of_entry arena es i) t (sym (get-terms_of arena es i inside) ∙ number)) (d.canonical i inside).valid
 
 -- no term has two numbers
 pub terms_distinct :
@@ -92,20 +92,20 @@ new_term arena es heads s last t d none n number =
 -- each term that was there keeps its number
 below_same :
     (arena later : List ℕ) (es fs : List Entry) → KeepsTexts arena es later fs
-    → map (term_at arena es) (range_with_len 0 (length es)) ≡ map (term_at later fs) (range_with_len 0 (length es))
+    → map (term_of_entry arena es) (range_with_len 0 (length es)) ≡ map (term_of_entry later fs) (range_with_len 0 (length es))
 below_same arena later es fs kept =
-    fill_by_all (term_at later fs) (map (term_at arena es) (range_with_len 0 (length es))) (length es) (Iri [])
-    (length-map-range_with_len (term_at arena es) 0 (length es))
+    fill_by_all (term_of_entry later fs) (map (term_of_entry arena es) (range_with_len 0 (length es))) (length es) (Iri [])
+    (length-map-range_with_len (term_of_entry arena es) 0 (length es))
     (λ k p.
     let same : 0 + k ≡ k = omega arith in
-    get_or-map-range_with_len (term_at arena es) 0 (length es) k k (Iri []) p same ∙ ap term_of (sym (kept.text_same k p)))
+    get_or-map-range_with_len (term_of_entry arena es) 0 (length es) k k (Iri []) p same ∙ ap term_of (sym (kept.text_same k p)))
 
 pub terms_kept :
     (arena later : List ℕ) (es fs : List Entry) → KeepsTexts arena es later fs → length fs ≡ length es
     → terms_of later fs ≡ terms_of arena es
 unfolding terms_of
 terms_kept arena later es fs kept count =
-    ap (λ m. map (term_at later fs) (range_with_len 0 m)) count ∙ sym (below_same arena later es fs kept)
+    ap (λ m. map (term_of_entry later fs) (range_with_len 0 m)) count ∙ sym (below_same arena later es fs kept)
 
 pub terms_more :
     (arena later : List ℕ) (es fs : List Entry) (t : Term) → KeepsTexts arena es later fs → length fs ≡ length es + 1
@@ -114,11 +114,11 @@ unfolding terms_of
 terms_more arena later es fs t kept count text =
     let n : ℕ = length es in
     let same : 0 + n ≡ n = omega arith in
-    let term : term_at later fs n ≡ t = ap term_of text ∙ term_of-text_of t in
-    ap (λ m. map (term_at later fs) (range_with_len 0 m)) count
-    ∙ (map-range_with_len_more (term_at later fs) 0 n n same
-    ∙ (ap (λ z. z ++ term_at later fs n ∷ []) (sym (below_same arena later es fs kept))
-    ∙ ap (λ (u : Term). map (term_at arena es) (range_with_len 0 n) ++ u ∷ []) term))
+    let term : term_of_entry later fs n ≡ t = ap term_of text ∙ term_of-text_of t in
+    ap (λ m. map (term_of_entry later fs) (range_with_len 0 m)) count
+    ∙ (map-range_with_len_more (term_of_entry later fs) 0 n n same
+    ∙ (ap (λ z. z ++ term_of_entry later fs n ∷ []) (sym (below_same arena later es fs kept))
+    ∙ ap (λ (u : Term). map (term_of_entry arena es) (range_with_len 0 n) ++ u ∷ []) term))
 
 -- the text of a term is canonical
 pub canonical_text : (t : Term) → IsTerm t → IsCanonical (text_of t)
@@ -151,7 +151,7 @@ dict_kept arena later es fs heads links s last d table kept count = record {
 -- a dictionary with one text more, which it did not have
 pub dict_more :
     (arena later : List ℕ) (es fs : List Entry) (heads links : List ℕ) (s : FoldHasher) (last : ℕ) (x : List ℕ) → IsDict arena es heads s last
-    → IsTable later fs links → KeepsTexts arena es later fs → length fs ≡ length es + 1 → Has later fs (length es) (hash_of s x) x
+    → IsTable later fs links → KeepsTexts arena es later fs → length fs ≡ length es + 1 → EntryHas later fs (length es) (hash_of s x) x
     → IsCanonical x → Meets arena es (hash_of s x) x None → length es ≤ last → IsDict later fs links s last
 dict_more arena later es fs heads links s last x d table kept count has canonical none room =
     let P : List ℕ → Type 0 = λ y. IsCanonical y in
@@ -167,7 +167,7 @@ dict_more arena later es fs heads links s last x d table kept count has canonica
         | inr other ↦ let inside : i < length es = omega arith in subst P (sym (kept.text_same i inside)) (d.canonical i inside)
       ];
       hashed = λ i p. elim (cases_eq i (length es)) [
-        | inl at ↦ ap (λ k. (entry_at fs k).hash) at ∙ (has.0 ∙ ap (hash_of s) (sym (ap (text_at later fs) at ∙ has.1)))
+        | inl at ↦ ap (λ k. (dict_entry_at fs k).hash) at ∙ (has.0 ∙ ap (hash_of s) (sym (ap (text_at later fs) at ∙ has.1)))
         | inr other ↦
             let inside : i < length es = omega arith in
             kept.hash_same i inside ∙ (d.hashed i inside ∙ ap (hash_of s) (sym (kept.text_same i inside)))
@@ -262,12 +262,12 @@ pub joined :
     (arena later : List ℕ) (es fs : List Entry) (heads links : List ℕ) (s : FoldHasher) (last : ℕ) (t : Term) (x : List ℕ) (h i : ℕ)
     → IsDict arena es heads s last → IsTerm t → x ≡ text_of t → h ≡ hash_of s x → Meets arena es (hash_of s (text_of t)) (text_of t) None
     → length es ≤ last → IsTable later fs links → KeepsTexts arena es later fs
-    → (i ≡ length es) × (length fs ≡ length es + 1) × Has later fs (length es) h x
-    → IsDict later fs links s last × Joins (shown arena es last) t i (shown later fs last)
+    → (i ≡ length es) × (length fs ≡ length es + 1) × EntryHas later fs (length es) h x
+    → IsDict later fs links s last × GivesNextNumber (shown arena es last) t i (shown later fs last)
 joined arena later es fs heads links s last t x h i d valid text hash none room table kept added =
-    let H : ℕ → Type 0 = λ k. Has later fs (length es) k x in
-    let X : List ℕ → Type 0 = λ z. Has later fs (length es) (hash_of s z) z in
-    let has : Has later fs (length es) (hash_of s (text_of t)) (text_of t) = subst X text (subst H hash added.2) in (
+    let H : ℕ → Type 0 = λ k. EntryHas later fs (length es) k x in
+    let X : List ℕ → Type 0 = λ z. EntryHas later fs (length es) (hash_of s z) z in
+    let has : EntryHas later fs (length es) (hash_of s (text_of t)) (text_of t) = subst X text (subst H hash added.2) in (
       dict_more arena later es fs heads links s last (text_of t) d table kept added.1 has (canonical_text t valid) none room,
       record {
         absent = new_term arena es heads s last t d none;

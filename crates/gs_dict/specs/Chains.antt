@@ -8,15 +8,15 @@ abbrev pub no_entry : Entry
 no_entry = record { end = 0; next = 0; hash = 0 }
 
 -- the entry of a number
-abbrev pub entry_at : List Entry → ℕ → Entry
-entry_at es i = slice_index_or es i no_entry
+abbrev pub dict_entry_at : List Entry → ℕ → Entry
+dict_entry_at es i = slice_index_or es i no_entry
 
 -- a text begins where the one before it ends
 unfoldable pub start_at : List Entry → ℕ → ℕ
-start_at es i = if i == 0 then 0 else (entry_at es (i - 1)).end
+start_at es i = if i == 0 then 0 else (dict_entry_at es (i - 1)).end
 
 unfoldable pub text_at : List ℕ → List Entry → ℕ → List ℕ
-text_at arena es i = slice_range arena (start_at es i) (entry_at es i).end
+text_at arena es i = slice_range arena (start_at es i) (dict_entry_at es i).end
 
 -- the bucket of a hash, among so many
 unfoldable pub bucket_of : ℕ → ℕ → ℕ
@@ -36,11 +36,11 @@ pub record IsChained (n : ℕ) (bucket next head : ℕ → ℕ) : Type 0 where
 
 -- the bucket of an entry, among so many
 abbrev pub bucket_at : ℕ → List Entry → ℕ → ℕ
-bucket_at buckets es i = bucket_of buckets (entry_at es i).hash
+bucket_at buckets es i = bucket_of buckets (dict_entry_at es i).hash
 
 -- the link from an entry to the next one of its chain
 abbrev pub link_after : List Entry → ℕ → ℕ
-link_after es i = (entry_at es i).next
+link_after es i = (dict_entry_at es i).next
 
 -- the first n entries are in chains
 abbrev pub IsLinked : ℕ → List Entry → List ℕ → Type 0
@@ -48,8 +48,8 @@ IsLinked n es heads = IsChained n (bucket_at (length heads) es) (link_after es) 
 
 -- texts end one after another, the last at the end of the arena
 pub record IsSpanned (arena : List ℕ) (es : List Entry) : Type 0 where
-  pub rises : (i : ℕ) → i < length es → start_at es i ≤ (entry_at es i).end
-  pub inside : (i : ℕ) → i < length es → (entry_at es i).end ≤ length arena
+  pub rises : (i : ℕ) → i < length es → start_at es i ≤ (dict_entry_at es i).end
+  pub inside : (i : ℕ) → i < length es → (dict_entry_at es i).end ≤ length arena
   pub whole : start_at es (length es) ≡ length arena
 
 -- so many buckets are enough for so many entries: a power of two, so that a bit mask reaches each bucket, and no fewer
@@ -66,32 +66,32 @@ pub record IsTable (arena : List ℕ) (es : List Entry) (heads : List ℕ) : Typ
   pub enough : AreEnough (length heads) (length es)
 
 -- the number has this hash and this text
-abbrev pub Has : List ℕ → List Entry → ℕ → ℕ → List ℕ → Type 0
-Has arena es i hash x = ((entry_at es i).hash ≡ hash) × (text_at arena es i ≡ x)
+abbrev pub EntryHas : List ℕ → List Entry → ℕ → ℕ → List ℕ → Type 0
+EntryHas arena es i hash x = ((dict_entry_at es i).hash ≡ hash) × (text_at arena es i ≡ x)
 
 -- no number has this hash and this text, or this one has
 abbrev pub Meets : List ℕ → List Entry → ℕ → List ℕ → Option ℕ → Type 0
-Meets arena es hash x None = (j : ℕ) → j < length es → Has arena es j hash x → ⊥
-Meets arena es hash x (Some i) = (i < length es) × Has arena es i hash x
+Meets arena es hash x None = (j : ℕ) → j < length es → EntryHas arena es j hash x → ⊥
+Meets arena es hash x (Some i) = (i < length es) × EntryHas arena es i hash x
 
 -- the chain from a link on has all numbers of this hash and this text
 pub record IsAlong (arena : List ℕ) (es : List Entry) (buckets hash : ℕ) (x : List ℕ) (link : ℕ) : Type 0 where
   pub given : link ≤ length es
   pub there : 0 < link → bucket_at buckets es (link - 1) ≡ bucket_of buckets hash
-  pub passed : (j : ℕ) → j < length es → link ≤ j → Has arena es j hash x → ⊥
+  pub passed : (j : ℕ) → j < length es → link ≤ j → EntryHas arena es j hash x → ⊥
 
 -- as many entries, with the ends and the hashes that they had
 pub record Agree (es fs : List Entry) : Type 0 where
   pub count : length fs ≡ length es
-  pub end_same : (i : ℕ) → (entry_at fs i).end ≡ (entry_at es i).end
-  pub hash_same : (i : ℕ) → (entry_at fs i).hash ≡ (entry_at es i).hash
+  pub end_same : (i : ℕ) → (dict_entry_at fs i).end ≡ (dict_entry_at es i).end
+  pub hash_same : (i : ℕ) → (dict_entry_at fs i).hash ≡ (dict_entry_at es i).hash
 
 -- each number keeps its text and its hash
 pub record KeepsTexts (arena : List ℕ) (es : List Entry) (later : List ℕ) (fs : List Entry) : Type 0 where
   pub text_same : (i : ℕ) → i < length es → text_at later fs i ≡ text_at arena es i
-  pub hash_same : (i : ℕ) → i < length es → (entry_at fs i).hash ≡ (entry_at es i).hash
+  pub hash_same : (i : ℕ) → i < length es → (dict_entry_at fs i).hash ≡ (dict_entry_at es i).hash
 
 -- one more entry has the next number, this hash and this text; or memory was wanted, and there are as many as before
 abbrev pub AddsText : ℕ → List ℕ → List Entry → ℕ → List ℕ → Result ℕ AllocError → Type 0
-AddsText n later fs hash x (Ok i) = (i ≡ n) × (length fs ≡ n + 1) × Has later fs n hash x
+AddsText n later fs hash x (Ok i) = (i ≡ n) × (length fs ≡ n + 1) × EntryHas later fs n hash x
 AddsText n later fs hash x (Err e) = length fs ≡ n

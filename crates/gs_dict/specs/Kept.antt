@@ -7,25 +7,25 @@ use Rattle.gs_model.specs.Limits.{last_term}
 use Rattle.gs_model.specs.Terms.{Term}
 use Rattle.gs_model.specs.Texts.{term_of, IsCanonical}
 use Rattle.gs_dict.specs.declared.chains.Entry.{Entry}
-use Rattle.gs_dict.specs.Chains.{IsTable, entry_at, text_at}
+use Rattle.gs_dict.specs.Chains.{IsTable, dict_entry_at, text_at}
 
 -- the hash of a text, from a hasher that has been given the seed
 unfoldable pub hash_of : FoldHasher → List ℕ → ℕ
 hash_of seeded x = bit_and (folding.finish (folding.write seeded x)) 0xFFFF_FFFF
 
 -- the term whose text a number has
-abbrev pub term_at : List ℕ → List Entry → ℕ → Term
-term_at arena es i = term_of (text_at arena es i)
+abbrev pub term_of_entry : List ℕ → List Entry → ℕ → Term
+term_of_entry arena es i = term_of (text_at arena es i)
 
 -- the terms, in the order of their numbers
 unfoldable pub terms_of : List ℕ → List Entry → List Term
-terms_of arena es = map (term_at arena es) (range_with_len 0 (length es))
+terms_of arena es = map (term_of_entry arena es) (range_with_len 0 (length es))
 
 -- each number has a text of a term, in the chain of its hash, and no two have one text
 pub record IsDict (arena : List ℕ) (es : List Entry) (heads : List ℕ) (seeded : FoldHasher) (last : ℕ) : Type 0 where
   pub table : IsTable arena es heads
   pub canonical : (i : ℕ) → i < length es → IsCanonical (text_at arena es i)
-  pub hashed : (i : ℕ) → i < length es → (entry_at es i).hash ≡ hash_of seeded (text_at arena es i)
+  pub hashed : (i : ℕ) → i < length es → (dict_entry_at es i).hash ≡ hash_of seeded (text_at arena es i)
   pub apart : (i j : ℕ) → i < length es → j < length es → text_at arena es i ≡ text_at arena es j → i ≡ j
   pub few : length es ≤ last + 1
   pub bounded : last ≤ last_term

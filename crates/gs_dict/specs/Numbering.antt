@@ -21,8 +21,8 @@ abbrev pub none_numbered : ℕ → Numbered
 none_numbered last = record { terms = []; last = last }
 
 -- one term more, under the next number
-abbrev pub with_term : Numbered → Term → Numbered
-with_term d t = record { terms = d.terms ++ t ∷ []; last = d.last }
+abbrev pub with_next_term : Numbered → Term → Numbered
+with_next_term d t = record { terms = d.terms ++ t ∷ []; last = d.last }
 
 -- this number is the term's
 abbrev pub IsNumberOf : List Term → ℕ → Term → Type 0
@@ -47,14 +47,14 @@ pub record Recalls (d : Numbered) (t : Term) (n : ℕ) (e : Numbered) : Type 0 w
   pub same : e ≡ d
 
 -- the term had no number, and is given the next one, which is not past the last
-pub record Joins (d : Numbered) (t : Term) (n : ℕ) (e : Numbered) : Type 0 where
+pub record GivesNextNumber (d : Numbered) (t : Term) (n : ℕ) (e : Numbered) : Type 0 where
   pub absent : IsNew d.terms t
   pub next : n ≡ length d.terms
   pub within : n ≤ d.last
-  pub more : e ≡ with_term d t
+  pub more : e ≡ with_next_term d t
 
 -- What giving a term its number answers and leaves. Want of memory comes to new terms alone, and changes nothing.
 abbrev pub Interns : Numbered → Term → Result TermId Refusal → Numbered → Type 0
-Interns d t (Ok id) e = Recalls d t id.number e ⊎ Joins d t id.number e
+Interns d t (Ok id) e = Recalls d t id.number e ⊎ GivesNextNumber d t id.number e
 Interns d t (Err NoMemory) e = IsNew d.terms t × (e ≡ d)
 Interns d t (Err refusal) e = ⊥

@@ -1,7 +1,7 @@
 //! Texts in one arena, with an entry for each, and chains of entries by their hashes.
 ghost use Rattle.std.specs.Prelude.{◌≡◌, ◌+◌, ◌-◌, ◌<◌, ◌≤◌, ◌^◌, length, slice_index, ℕ, IfOk, OnOk};
 ghost use Rattle.std.specs.Bool.{Decides};
-ghost use Rattle.gs_dict.specs.Chains.{IsLinked, IsSpanned, IsTable, AreEnough, Has, Meets, Agree, KeepsTexts, AddsText, text_at as text_of_number, bucket_of};
+ghost use Rattle.gs_dict.specs.Chains.{IsLinked, IsSpanned, IsTable, AreEnough, EntryHas, Meets, Agree, KeepsTexts, AddsText, text_at as text_of_number, bucket_of};
 
 use crate::numbers::NO_TERM;
 use std::alloc::{AllocError, Global};
@@ -45,7 +45,7 @@ pub fn text_at<'a>(arena: &'a [u8], entries: &[Entry], number: usize) -> &'a [u8
 fn has(arena: &[u8], entries: &[Entry], number: usize, text: &[u8], hash: u32) -> bool
     requires given { number < length entries.now }
     requires spanned { IsSpanned arena.now entries.now }
-    ensures { Decides result (Has arena.now entries.now number hash text.now) }
+    ensures { Decides result (EntryHas arena.now entries.now number hash text.now) }
 {
     entries[number].hash == hash && text_at(arena, entries, number) == text
 }

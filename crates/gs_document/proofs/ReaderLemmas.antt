@@ -24,7 +24,7 @@ use Rattle.gs_triples.specs.Directives.{with_prefix, with_base}
 use Rattle.gs_document.specs.Documents.{stated, start}
 use Rattle.gs_document.specs.Program.{read_statement as statement_by}
 use Rattle.gs_document.specs.Program.{dotted, prefix_at, base_at, statement_at, followed, statements_at, document}
-use Rattle.gs_document.specs.States.{Transition, Between, InPrefix, InPrefixIri, InBase, AtDot, Within, lost, quiet}
+use Rattle.gs_document.specs.States.{Transition, Between, InPrefix, InPrefixIri, InBase, AtDot, Within, lost, states_nothing}
 use Rattle.gs_document.specs.Machine.{set, conclude, over, step, ended, turtle}
 use Rattle.gs_document.proofs.DocumentLemmas.{statements_nil}
 
@@ -92,7 +92,7 @@ unfolding rest step triples_machine.step
 set_dot f k n e us again h None = lost_rest Syntax us
 set_dot f k n e us again h (Some env) = ap (joined (stated e [])) (again env n us h)
 
-set_other : (k : ℕ) (n : Numbers) (t : Symbol) (us : List Symbol) (q : Option TurtleContext) → ((env : TurtleContext) → step (AtDot env n) t ≡ quiet (lost Syntax))
+set_other : (k : ℕ) (n : Numbers) (t : Symbol) (us : List Symbol) (q : Option TurtleContext) → ((env : TurtleContext) → step (AtDot env n) t ≡ states_nothing (lost Syntax))
     → reported (set true k n q) (t ∷ us) ≡ ([], Faulty Syntax)
 unfolding rest
 set_other k n t us None s = lost_rest Syntax (t ∷ us)

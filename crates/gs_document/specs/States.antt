@@ -10,23 +10,23 @@ use Rattle.gs_triples.specs.States.{Lost}
 use Rattle.gs_document.specs.Contexts.{TurtleContext}
 
 -- between statements, within a directive, or within the triples of a statement
-pub data State : Type 0 where
-  Between : TurtleContext → Numbers → State
+pub data DocumentState : Type 0 where
+  Between : TurtleContext → Numbers → DocumentState
   -- after '@prefix' (and then a dot comes at the end) or 'PREFIX'
-  InPrefix : (dot : Bool) → TurtleContext → Numbers → State
-  InPrefixIri : (dot : Bool) → List ℕ → TurtleContext → Numbers → State
-  InBase : (dot : Bool) → TurtleContext → Numbers → State
-  AtDot : TurtleContext → Numbers → State
-  Within : triples.State Term RdfTriple → State
+  InPrefix : (dot : Bool) → TurtleContext → Numbers → DocumentState
+  InPrefixIri : (dot : Bool) → List ℕ → TurtleContext → Numbers → DocumentState
+  InBase : (dot : Bool) → TurtleContext → Numbers → DocumentState
+  AtDot : TurtleContext → Numbers → DocumentState
+  Within : triples.State Term RdfTriple → DocumentState
 
 -- a fault, from which nothing leads away
-abbrev pub lost : Fault → State
+abbrev pub lost : Fault → DocumentState
 lost e = Within (Lost e)
 
 -- the state after a symbol, and what is stated
 abbrev pub Transition : Type 0
-Transition = State × List Statement
+Transition = DocumentState × List Statement
 
 -- nothing is stated
-abbrev pub quiet : State → Transition
-quiet s = (s, [])
+abbrev pub states_nothing : DocumentState → Transition
+states_nothing s = (s, [])

@@ -18,7 +18,7 @@ use Rattle.gs_feeding.specs.declared.texts.SeatText.{SeatText}
 use Rattle.gs_feeding.specs.declared.texts.SeatText.TheVariants as seat_text
 use Rattle.gs_feeding.specs.declared.openings.Opening.{Opening}
 use Rattle.gs_drill.specs.declared.uploads.Uploads.{Uploads}
-use Rattle.gs_drill.specs.Feeds.{Answers, with_fed, fed_after, is_boundary}
+use Rattle.gs_drill.specs.Feeds.{Responds, with_fed, fed_after, is_boundary}
 use Rattle.gs_drill.specs.Standing.{AreFed, Standing, desk_of, opening_of, patch_of}
 use Rattle.gs_drill.specs.Following.{held_reset, held_after, openings_after, patches_after, patch_opened_by, texts_after}
 use Rattle.gs_feeding.specs.Receiving.{Fed, Unfed}
@@ -141,7 +141,7 @@ lengths_next bs os (At s action) a even = texts_length (is_boundary a) bs s ∙ 
 -- the uploads follow an answer
 pub follows : (old new : Shown) (u w : Uploads) (event : Event) (a : Answer) → Steps old event a new
     → w.openings.items ≡ openings_after u.openings.items event a → w.patches.items ≡ patches_after u.patches.items event a → w.texts.items ≡ texts_after u.texts.items event a
-    → (st : Standing old u) → (en : Standing new w) × Answers (desk_of st) event a (desk_of en)
+    → (st : Standing old u) → (en : Standing new w) × Responds (desk_of st) event a (desk_of en)
 follows old new u w event a steps openings patches texts st =
     let P : List SeatText → Type 0 = λ z. AreFed z (fed_after st.fed event a) in
     let en : Standing new w = record {

@@ -2,12 +2,12 @@
 use Rattle.std.proofs.Common.{ℕ, List, [], ◌∷◌, ◌++◌, refl, sym, ap, ◌∙◌, subst, append_assoc, append-nil}
 use Rattle.gs_commands.specs.declared.commands.Command.{Command}
 use Rattle.gs_commands.specs.declared.commands.Command.TheVariants.{Nothing, Begin, Ask, Count, Feed, Patch, Cut}
-use Rattle.gs_commands.specs.Commands.{Says}
+use Rattle.gs_commands.specs.Commands.{SaysCommand}
 use Rattle.gs_drill.specs.Drills.{RunState, DoesLine, Plays}
 use Rattle.gs_drill.specs.Taking.{IsInRange}
 
 -- a command that a line says is in range
-pub says_in_range : (c : Command) (x : List ℕ) → Says c x → IsInRange c
+pub says_in_range : (c : Command) (x : List ℕ) → SaysCommand c x → IsInRange c
 says_in_range Nothing x says = tt
 says_in_range (Begin a b c) x says = (says.says.some, says.says.most, says.says.commit_left, says.says.request_left)
 says_in_range (Ask event) x says = tt

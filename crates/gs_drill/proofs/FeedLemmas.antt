@@ -17,22 +17,22 @@ use Rattle.gs_upload.specs.declared.languages.Language.{Language}
 use Rattle.gs_feeding.specs.declared.openings.Opening.{Opening}
 use Rattle.gs_drill.specs.declared.uploads.Uploads.{Uploads}
 use Rattle.gs_drill.specs.Printing.{answer_text, fed_text}
-use Rattle.gs_drill.specs.Feeds.{Desk, Answers, Stages, FeedsUpload, FeedsSeat, RefusesText, DoesFeed, with_fed, feed_text}
+use Rattle.gs_drill.specs.Feeds.{Desk, Responds, StagesByEvent, FeedsUpload, FeedsSeat, RefusesText, DoesFeed, with_fed, feed_text}
 use Rattle.gs_drill.specs.Commits.{Commits, CommitsBy, Completes, CommitsStaged}
 use Rattle.gs_drill.specs.Standing.{AreFed, Standing, FeedsAt, desk_of, opening_of}
 use Rattle.gs_feeding.specs.Receiving.{Fed, Closes}
 use Rattle.gs_feeding.specs.SeatTexts.{first_context}
 
 -- nothing is staged
-pub stages_none : (d : Desk) (s : ℕ) (given : List RdfTriple) → given ≡ [] → Stages d s given Staged d
-stages_none d s given none = let P : List RdfTriple → Type 0 = λ z. Stages d s z Staged d in subst P (sym none) (refl, refl)
+pub stages_none : (d : Desk) (s : ℕ) (given : List RdfTriple) → given ≡ [] → StagesByEvent d s given Staged d
+stages_none d s given none = let P : List RdfTriple → Type 0 = λ z. StagesByEvent d s z Staged d in subst P (sym none) (refl, refl)
 
-stages_by : (d e : Desk) (s : ℕ) (v : Vec Triple Global) (a : Answer) (given : List RdfTriple) → v.items ≡ given → ¬ (given ≡ []) → Answers d (At s (Stage v)) a e → Stages d s given a e
+stages_by : (d e : Desk) (s : ℕ) (v : Vec Triple Global) (a : Answer) (given : List RdfTriple) → v.items ≡ given → ¬ (given ≡ []) → Responds d (At s (Stage v)) a e → StagesByEvent d s given a e
 stages_by d e s v a [] is some answers = absurd (some refl)
 stages_by d e s v a (t ∷ ts) is some answers = (Stage v, is, answers)
 
 -- some triples are staged
-pub stages_some : (d e : Desk) (s : ℕ) (v : Vec Triple Global) (a : Answer) → ¬ (v.items ≡ []) → Answers d (At s (Stage v)) a e → Stages d s v.items a e
+pub stages_some : (d e : Desk) (s : ℕ) (v : Vec Triple Global) (a : Answer) → ¬ (v.items ≡ []) → Responds d (At s (Stage v)) a e → StagesByEvent d s v.items a e
 stages_some d e s v a some answers = stages_by d e s v a v.items refl some answers
 
 -- the uploads, once a text was fed to a seat
@@ -49,7 +49,7 @@ fed_standing shown u w st s f openings patches lengths all = record {
 pub feeds_upload : (n : ℕ) (old new : Shown) (u m w : Uploads) (l : Language) (s : ℕ) (y : List ℕ) (given : List RdfTriple) (a : Answer) (text : List ℕ)
     → m.openings.items ≡ u.openings.items → m.patches.items ≡ u.patches.items → length m.texts.items ≡ length u.texts.items
     → FeedsAt n l s y u.openings.items u.texts.items m.texts.items given
-    → ((st : Standing old m) → (en : Standing new w) × Stages (desk_of st) s given a (desk_of en)) → text ≡ feed_text a
+    → ((st : Standing old m) → (en : Standing new w) × StagesByEvent (desk_of st) s given a (desk_of en)) → text ≡ feed_text a
     → (o : Opening) → slice_get u.openings.items s ≡ Some (Some o) → (st : Standing old u) → (en : Standing new w) × FeedsUpload n (first_context l o) (desk_of st) s y text (desk_of en)
 feeds_upload n old new u m w l s y given a text openings patches lengths feeds stages printed o there st =
     let P : ℕ → Type 0 = λ k. s < k in
@@ -103,19 +103,19 @@ concludes_other Staged d s other = absurd (other refl)
 concludes_other a d s other = (refl, refl)
 
 -- the last triples are not staged
-pub completes_not : (old new : Shown) (u w : Uploads) (s : ℕ) (given : List RdfTriple) (a : Answer) → a ≢ Staged → ((st : Standing old u) → (en : Standing new w) × Stages (desk_of st) s given a (desk_of en))
+pub completes_not : (old new : Shown) (u w : Uploads) (s : ℕ) (given : List RdfTriple) (a : Answer) → a ≢ Staged → ((st : Standing old u) → (en : Standing new w) × StagesByEvent (desk_of st) s given a (desk_of en))
     → (st : Standing old u) → (en : Standing new w) × Completes given (desk_of st) s (answer_text a) (desk_of en)
 completes_not old new u w s given a other stages st =
     let en = stages st in (en.0, record { answer = a; between = desk_of en.0; staged = en.1; concludes = concludes_other a (desk_of en.0) s other })
 
 -- they are staged, and the upload is committed
-pub completes : (old mid new : Shown) (u m w : Uploads) (s : ℕ) (given : List RdfTriple) (a b : Answer) → a ≡ Staged → ((st : Standing old u) → (en : Standing mid m) × Stages (desk_of st) s given a (desk_of en))
-    → ((st : Standing mid m) → (en : Standing new w) × Answers (desk_of st) (At s Commit) b (desk_of en))
+pub completes : (old mid new : Shown) (u m w : Uploads) (s : ℕ) (given : List RdfTriple) (a b : Answer) → a ≡ Staged → ((st : Standing old u) → (en : Standing mid m) × StagesByEvent (desk_of st) s given a (desk_of en))
+    → ((st : Standing mid m) → (en : Standing new w) × Responds (desk_of st) (At s Commit) b (desk_of en))
     → (st : Standing old u) → (en : Standing new w) × Completes given (desk_of st) s (answer_text b) (desk_of en)
 completes old mid new u m w s given a b is stages commits st =
     let between = stages st in
     let en = commits between.0 in
-    let P : Answer → Type 0 = λ z. Stages (desk_of st) s given z (desk_of between.0) in (
+    let P : Answer → Type 0 = λ z. StagesByEvent (desk_of st) s given z (desk_of between.0) in (
       en.0,
       record { answer = Staged; between = desk_of between.0; staged = subst P is between.1; concludes = record { answer = b; answers = en.1; printed = refl } },
     )

@@ -7,7 +7,7 @@ use Rattle.gs_event.specs.declared.events.Event.TheVariants.{Seat as At, Reclaim
 use Rattle.gs_upload.specs.declared.languages.Language.{Language}
 use Rattle.gs_commands.specs.declared.commands.Command.{Command}
 use Rattle.gs_commands.specs.declared.commands.Command.TheVariants.{Nothing, Begin, Ask, Count, Feed, Patch, Cut}
-use Rattle.gs_commands.specs.Commands.{Says, SaysFeed, is_skipped}
+use Rattle.gs_commands.specs.Commands.{SaysCommand, SaysFeed, is_skipped}
 use Rattle.gs_commands.proofs.WordLemmas.{first_differs}
 use Rattle.gs_commands.proofs.FeedLineLemmas.{feed_one, feed_no_event}
 use Rattle.gs_commands.proofs.PatchLineLemmas.{feed_no_patch}
@@ -16,7 +16,7 @@ use Rattle.gs_feeding.specs.Receiving.{IsIn}
 use Rattle.gs_drill.specs.Drills.{RunState, IsLate}
 
 -- what says that a store begins says no other command
-pub late_line : (s : RunState) (x rest : List ℕ) → x ≡ codes "store " ++ rest → s.begun ≡ true → (c : Command) → Says c x → IsLate s c
+pub late_line : (s : RunState) (x rest : List ℕ) → x ≡ codes "store " ++ rest → s.begun ≡ true → (c : Command) → SaysCommand c x → IsLate s c
 late_line s x rest e begun Nothing says = let clash : false ≡ true = ap is_skipped (sym e) ∙ says.0 in cc
 late_line s x rest e begun (Begin a b c) says = begun
 late_line s x rest e begun (Ask (At seat action)) says = other_first 115 (numeral seat) (codes "tore " ++ rest) says.1.rest (other-numeral 115 refl seat) refl (sym e ∙ says.1.parts)
@@ -31,7 +31,7 @@ feed_first : (b : ℕ) (x y z : List ℕ) (s : ℕ) (l : Language) → (32 == b)
 feed_first b x y z s l space others e says = other_first b (numeral s) z says.1.rest others space (sym e ∙ says.1.parts)
 
 -- what says a feed in another language than before says no other command
-late_feed : (s : RunState) (x : List ℕ) (seat : ℕ) (l : Language) (y : List ℕ) → SaysFeed seat l y x → ¬ IsIn l (s.desk.fed seat) → (d : Command) → Says d x → IsLate s d
+late_feed : (s : RunState) (x : List ℕ) (seat : ℕ) (l : Language) (y : List ℕ) → SaysFeed seat l y x → ¬ IsIn l (s.desk.fed seat) → (d : Command) → SaysCommand d x → IsLate s d
 late_feed s x seat l y feed late Nothing says = absurd (skipped_digit (numeral seat) x feed.1.rest (other-numeral 35 refl seat) says.0 feed.1.parts)
 late_feed s x seat l y feed late (Begin a b c) says = absurd (feed_first 115 x y (codes "tore " ++ says.rest) seat l refl (other-numeral 115 refl seat) says.parts feed)
 late_feed s x seat l y feed late (Ask (At t action)) says = feed_no_event x seat t l y action feed says
@@ -46,7 +46,7 @@ late_feed s x seat l y feed late (Patch t z) says = feed_no_patch x seat t l y z
 late_feed s x seat l y feed late (Cut n) says = feed_first 99 x y (codes "ut " ++ says.rest) seat l refl (other-numeral 99 refl seat) says.parts feed
 
 -- of a late command's line every command is late
-pub late_none : (s : RunState) (c : Command) (x : List ℕ) → Says c x → IsLate s c → (d : Command) → Says d x → IsLate s d
+pub late_none : (s : RunState) (c : Command) (x : List ℕ) → SaysCommand c x → IsLate s c → (d : Command) → SaysCommand d x → IsLate s d
 late_none s Nothing x says late d other = absurd late
 late_none s (Begin a b k) x says late d other = late_line s x says.rest says.parts late d other
 late_none s (Ask event) x says late d other = absurd late

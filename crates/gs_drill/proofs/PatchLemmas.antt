@@ -12,34 +12,34 @@ use Rattle.gs_event.specs.Phases.{Idle, Writing, Patching, Reading}
 use Rattle.gs_event.specs.Views.{SeatView}
 use Rattle.gs_event.specs.Waste.{Shown}
 use Rattle.gs_triples.specs.Meanings.{Syntax, TermTooLong}
-use Rattle.gs_update_text.specs.Requests.{Broken, OutOfProfile, Rejection, Request}
+use Rattle.gs_update_text.specs.Requests.{Broken, OutOfProfile, Rejection, UpdateRequest}
 use Rattle.gs_update_text.specs.Texts.{request_by}
 use Rattle.gs_update.specs.Answers.{AreOperationsOf, Refuses}
 use Rattle.gs_feeding.specs.declared.openings.Opening.{Opening}
 use Rattle.gs_feeding.specs.Bases.{base_under}
 use Rattle.gs_drill.specs.declared.uploads.Uploads.{Uploads}
 use Rattle.gs_drill.specs.Printing.{answer_text, fault_text, outside_text}
-use Rattle.gs_drill.specs.Feeds.{Desk, Answers, RefusesText}
-use Rattle.gs_drill.specs.Commits.{GivesUp}
+use Rattle.gs_drill.specs.Feeds.{Desk, Responds, RefusesText}
+use Rattle.gs_drill.specs.Commits.{GivesUpSeat}
 use Rattle.gs_drill.specs.Patches.{SettlesBy, SettlesPatch, PatchesSeat, DoesPatch}
 use Rattle.gs_drill.specs.Standing.{Standing, desk_of, patch_of}
 
 -- the operations of a text are committed
-pub settles_whole : (q : Request) (d e : Desk) (s : ℕ) (ops : Vec Op Global) (a : Answer) → AreOperationsOf ops.items q → Answers d (At s (CommitPatch ops)) a e → SettlesPatch q d s (answer_text a) e
+pub settles_whole : (q : UpdateRequest) (d e : Desk) (s : ℕ) (ops : Vec Op Global) (a : Answer) → AreOperationsOf ops.items q → Responds d (At s (CommitPatch ops)) a e → SettlesPatch q d s (answer_text a) e
 settles_whole q d e s ops a are answers =
     let P : Option Rejection → Type 0 = λ z. SettlesBy z q d s (answer_text a) e in
     subst P (sym are.0) (record { action = CommitPatch ops; is = are; asks = record { answer = a; answers = answers; printed = refl } })
 
 -- a text breaks the grammar, or has a term that is too long
-settles_broken : (q : Request) (d e : Desk) (s : ℕ) (text : List ℕ) (r : Rejection) → q.1 ≡ Some r → SettlesBy (Some r) q d s text e → SettlesPatch q d s text e
+settles_broken : (q : UpdateRequest) (d e : Desk) (s : ℕ) (text : List ℕ) (r : Rejection) → q.1 ≡ Some r → SettlesBy (Some r) q d s text e → SettlesPatch q d s text e
 settles_broken q d e s text r is by = let P : Option Rejection → Type 0 = λ z. SettlesBy z q d s text e in subst P (sym is) by
 
 -- a text is outside what is served
-pub settles_outside : (q : Request) (d e : Desk) (s : ℕ) (text : List ℕ) → Refuses refusal.NotInProfile q → GivesUp outside_text d s text e → SettlesPatch q d s text e
+pub settles_outside : (q : UpdateRequest) (d e : Desk) (s : ℕ) (text : List ℕ) → Refuses refusal.NotInProfile q → GivesUpSeat outside_text d s text e → SettlesPatch q d s text e
 settles_outside q d e s text refuses up = settles_broken q d e s text OutOfProfile refuses up
 
 -- any other refusal of a text but want of memory says that it has a fault
-pub settles_fault : (q : Request) (d e : Desk) (s : ℕ) (text : List ℕ) (r : Refusal) → Refuses r q → r ≢ refusal.NoMemory → r ≢ refusal.NotInProfile → GivesUp fault_text d s text e → SettlesPatch q d s text e
+pub settles_fault : (q : UpdateRequest) (d e : Desk) (s : ℕ) (text : List ℕ) (r : Refusal) → Refuses r q → r ≢ refusal.NoMemory → r ≢ refusal.NotInProfile → GivesUpSeat fault_text d s text e → SettlesPatch q d s text e
 settles_fault q d e s text (refusal.Syntax at) refuses memory profile up = settles_broken q d e s text (Broken Syntax) refuses.broken up
 settles_fault q d e s text refusal.TermTooLong refuses memory profile up = settles_broken q d e s text (Broken TermTooLong) refuses up
 settles_fault q d e s text refusal.NotInProfile refuses memory profile up = absurd (profile refl)

@@ -9,11 +9,11 @@ use Rattle.gs_event.specs.declared.events.Action.TheVariants.{Commit}
 use Rattle.gs_commands.specs.declared.commands.Command.{Command}
 use Rattle.gs_drill.specs.declared.stops.Stop.{Stop}
 use Rattle.gs_drill.specs.declared.stops.Stop.TheVariants.{NoCommand, NoMemory, Failed}
-use Rattle.gs_commands.specs.Commands.{Says, lines_in}
+use Rattle.gs_commands.specs.Commands.{SaysCommand, lines_in}
 use Rattle.gs_drill.specs.Feeds.{Desk}
 use Rattle.gs_drill.specs.Commits.{Asks, DoesEvent}
-use Rattle.gs_drill.specs.Drills.{RunState, Does, DoesLine, Plays, FinishesRun, Halts, first_state}
-use Rattle.gs_drill.specs.Taking.{PrintsAll, Replies, DoesCommand, TakesLine, EndsBy}
+use Rattle.gs_drill.specs.Drills.{RunState, CarriesOut, DoesLine, Plays, FinishesRun, Halts, first_state}
+use Rattle.gs_drill.specs.Taking.{PrintsAll, WritesReply, DoesCommand, TakesLine, EndsBy}
 use Rattle.gs_drill.proofs.WritingLemmas.{Appends-append, Appends-none, WritesFront-next}
 use Rattle.gs_drill.proofs.LateLemmas.{late_none}
 use Rattle.gs_commands.proofs.LinesLemmas.{lines_in-split, length-split}
@@ -21,7 +21,7 @@ use Rattle.gs_drill.proofs.DrillLemmas.{Plays-more}
 
 -- what is done at a desk, and printed, is what a command does
 pub does_by : {T X : Type 0} (at : T → Desk) (s : RunState) (command : Command) (done : Desk → RunState) (Makes : List ℕ → Desk → Type 0) (old new : Option (List ℕ)) (r : Result X Stop)
-    → ((text : List ℕ) (d : Desk) → Makes text d → Does s command text (done d)) → Replies at Makes old new r → DoesCommand s command (λ t. done (at t)) old new r
+    → ((text : List ℕ) (d : Desk) → Makes text d → CarriesOut s command text (done d)) → WritesReply at Makes old new r → DoesCommand s command (λ t. done (at t)) old new r
 does_by at s command done Makes old new (Ok x) does replies = record { text = replies.text; last = replies.last; makes = does replies.text (at replies.last) replies.makes; written = replies.written }
 does_by at s command done Makes old new (Err NoCommand) does replies = absurd replies
 does_by at s command done Makes old new (Err NoMemory) does replies = replies
@@ -29,7 +29,7 @@ does_by at s command done Makes old new (Err Failed) does replies = record { tex
 
 -- the same where a text is given that does not depend on the desk
 pub printed_by : {T D X : Type 0} (at : T → D) (last : T) (Makes : List ℕ → D → Type 0) (printed : List ℕ) (old new : Option (List ℕ)) (r : Result X Stop)
-    → Makes printed (at last) → Replies (λ (d : Unit {0}). d) (λ text d. text ≡ printed) old new r → Replies at Makes old new r
+    → Makes printed (at last) → WritesReply (λ (d : Unit {0}). d) (λ text d. text ≡ printed) old new r → WritesReply at Makes old new r
 printed_by at last Makes printed old new (Ok x) makes replies = let P : List ℕ → Type 0 = λ z. Makes z (at last) in record { text = replies.text; last = last; makes = subst P (sym replies.makes) makes; written = replies.written }
 printed_by at last Makes printed old new (Err NoCommand) makes replies = absurd replies
 printed_by at last Makes printed old new (Err NoMemory) makes replies = replies
@@ -41,7 +41,7 @@ asks_event d e (At s Commit) text other asks = absurd (other s refl)
 asks_event d e event text other asks = asks
 
 -- what a command does is what its line does
-pub does_takes : {T X : Type 0} (s : RunState) (after : T → RunState) (command : Command) (line : List ℕ) (old new : Option (List ℕ)) (r : Result X Stop) → Says command line → DoesCommand s command after old new r → TakesLine s line after old new r
+pub does_takes : {T X : Type 0} (s : RunState) (after : T → RunState) (command : Command) (line : List ℕ) (old new : Option (List ℕ)) (r : Result X Stop) → SaysCommand command line → DoesCommand s command after old new r → TakesLine s line after old new r
 does_takes s after command line old new (Ok x) says does = record { text = does.text; last = does.last; makes = record { command = command; says = says; does = does.makes }; written = does.written }
 does_takes s after command line old new (Err NoCommand) says does = (late_none s command line says does.0, does.1)
 does_takes s after command line old new (Err NoMemory) says does = does

@@ -7,19 +7,19 @@ use Rattle.gs_event.specs.declared.events.Event.TheVariants.{Seat as At}
 use Rattle.gs_event.specs.declared.answers.Answer.{Answer}
 use Rattle.gs_event.specs.declared.answers.Answer.TheVariants.{Staged}
 use Rattle.gs_drill.specs.Printing.{answer_text, fault_text}
-use Rattle.gs_drill.specs.Feeds.{Desk, desk_with, Answers, Stages}
+use Rattle.gs_drill.specs.Feeds.{Desk, desk_with, Responds, StagesByEvent}
 use Rattle.gs_feeding.specs.Receiving.{Fed, Closes}
 
 -- an event is answered, and the answer is printed
 pub record Asks (d : Desk) (event : Event) (text : List ℕ) (e : Desk) : Type 0 where
   pub answer : Answer
-  pub answers : Answers d event answer e
+  pub answers : Responds d event answer e
   pub printed : text ≡ answer_text answer
 
 -- the upload or the patch is given up, and its fault is printed in the place of the answer
-pub record GivesUp (fault : List ℕ) (d : Desk) (s : ℕ) (text : List ℕ) (e : Desk) : Type 0 where
+pub record GivesUpSeat (fault : List ℕ) (d : Desk) (s : ℕ) (text : List ℕ) (e : Desk) : Type 0 where
   pub answer : Answer
-  pub answers : Answers d (At s Cancel) answer e
+  pub answers : Responds d (At s Cancel) answer e
   pub printed : text ≡ fault
 
 -- where the last triples are staged the upload is committed, and else the refusal is printed
@@ -31,12 +31,12 @@ CommitsStaged a d s text e = (text ≡ answer_text a) × (e ≡ d)
 pub record Completes (given : List RdfTriple) (d : Desk) (s : ℕ) (text : List ℕ) (e : Desk) : Type 0 where
   pub answer : Answer
   pub between : Desk
-  pub staged : Stages d s given answer between
+  pub staged : StagesByEvent d s given answer between
   pub concludes : CommitsStaged answer between s text e
 
 -- the same by what the text gives as it ends
 abbrev pub CommitsBy : Option (List RdfTriple) → Desk → ℕ → List ℕ → Desk → Type 0
-CommitsBy None d s text e = GivesUp fault_text d s text e
+CommitsBy None d s text e = GivesUpSeat fault_text d s text e
 CommitsBy (Some given) d s text e = Completes given d s text e
 
 -- a commit of seat s: the text that was fed ends, and the upload is committed or given up

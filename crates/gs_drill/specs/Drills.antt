@@ -7,7 +7,7 @@ use Rattle.gs_event.specs.Waste.{Shown, nodes_in}
 use Rattle.gs_core.specs.Settings.{setting_of}
 use Rattle.gs_commands.specs.declared.commands.Command.{Command}
 use Rattle.gs_commands.specs.declared.commands.Command.TheVariants.{Nothing, Begin, Ask, Count, Feed, Patch, Cut}
-use Rattle.gs_commands.specs.Commands.{Says, lines_in}
+use Rattle.gs_commands.specs.Commands.{SaysCommand, lines_in}
 use Rattle.gs_drill.specs.Printing.{counts_text, no_command_text, no_memory_text, WritesFront}
 use Rattle.gs_drill.specs.Feeds.{Desk, DoesFeed}
 use Rattle.gs_drill.specs.Commits.{DoesEvent}
@@ -39,20 +39,20 @@ first_state = new_state false (drill_start 4 0 0)
 
 -- what a command prints, and the state that it leaves: a store begins only before any other command, and an upload
 -- is fed in one language
-abbrev pub Does : RunState → Command → List ℕ → RunState → Type 0
-Does s Nothing text t = (text ≡ []) × (t ≡ s)
-Does s (Begin seats commit request) text t = (s.begun ≡ false) × (text ≡ []) × (t ≡ new_state true (drill_start seats commit request))
-Does s (Ask event) text t = (t.begun ≡ true) × (t.cut ≡ s.cut) × DoesEvent s.desk event text t.desk
-Does s Count text t = (t.begun ≡ true) × (t.cut ≡ s.cut) × (t.desk ≡ s.desk) × (text ≡ counts_text (nodes_in s.desk.shown) (triples_in s.desk.shown.view.totals.dataset))
-Does s (Feed seat l y) text t = IsIn l (s.desk.fed seat) × (t.begun ≡ true) × (t.cut ≡ s.cut) × DoesFeed s.cut s.desk seat l y.items text t.desk
-Does s (Patch seat y) text t = (t.begun ≡ true) × (t.cut ≡ s.cut) × DoesPatch s.desk seat y.items text t.desk
-Does s (Cut n) text t = (text ≡ []) × (t ≡ record { begun = true; cut = n; desk = s.desk })
+abbrev pub CarriesOut : RunState → Command → List ℕ → RunState → Type 0
+CarriesOut s Nothing text t = (text ≡ []) × (t ≡ s)
+CarriesOut s (Begin seats commit request) text t = (s.begun ≡ false) × (text ≡ []) × (t ≡ new_state true (drill_start seats commit request))
+CarriesOut s (Ask event) text t = (t.begun ≡ true) × (t.cut ≡ s.cut) × DoesEvent s.desk event text t.desk
+CarriesOut s Count text t = (t.begun ≡ true) × (t.cut ≡ s.cut) × (t.desk ≡ s.desk) × (text ≡ counts_text (nodes_in s.desk.shown) (triples_in s.desk.shown.view.totals.dataset))
+CarriesOut s (Feed seat l y) text t = IsIn l (s.desk.fed seat) × (t.begun ≡ true) × (t.cut ≡ s.cut) × DoesFeed s.cut s.desk seat l y.items text t.desk
+CarriesOut s (Patch seat y) text t = (t.begun ≡ true) × (t.cut ≡ s.cut) × DoesPatch s.desk seat y.items text t.desk
+CarriesOut s (Cut n) text t = (text ≡ []) × (t ≡ record { begun = true; cut = n; desk = s.desk })
 
 -- a line says a command, which is done
 pub record DoesLine (s : RunState) (line text : List ℕ) (t : RunState) : Type 0 where
   pub command : Command
-  pub says : Says command line
-  pub does : Does s command text t
+  pub says : SaysCommand command line
+  pub does : CarriesOut s command text t
 
 -- lines in their order, all that they print, and the state that they leave
 abbrev pub Plays : RunState → List (List ℕ) → List ℕ → RunState → Type 0
@@ -72,7 +72,7 @@ IsLate s (Cut n) = ⊥
 
 -- each command that the line says, if it says one, is late in this state
 abbrev pub IsNoCommand : RunState → List ℕ → Type 0
-IsNoCommand s line = (command : Command) → Says command line → IsLate s command
+IsNoCommand s line = (command : Command) → SaysCommand command line → IsLate s command
 
 -- the input is what a reader had left, if it reports that
 abbrev pub IsInput : Option (List ℕ) → List ℕ → Type 0
@@ -89,7 +89,7 @@ pub record FinishesRun (given old new : Option (List ℕ)) : Type 0 where
   pub written : Appends old new text
 
 -- the lines before line n are commands, and what they print is written; line n is no command
-pub record Stops (given : Option (List ℕ)) (n : ℕ) (old new : Option (List ℕ)) : Type 0 where
+pub record StopsAtLine (given : Option (List ℕ)) (n : ℕ) (old new : Option (List ℕ)) : Type 0 where
   pub input : List ℕ
   pub read : IsInput given input
   pub before : List (List ℕ)
@@ -106,7 +106,7 @@ pub record Stops (given : Option (List ℕ)) (n : ℕ) (old new : Option (List �
 -- the same, and it is said
 pub record SaysStop (given old new errors_old errors_new : Option (List ℕ)) : Type 0 where
   pub line_number : ℕ
-  pub stops : Stops given line_number old new
+  pub stops : StopsAtLine given line_number old new
   pub printed : Appends errors_old errors_new (no_command_text line_number)
 
 -- some first lines are commands, and what they print is written
@@ -137,5 +137,5 @@ pub record BreaksOff (given old new : Option (List ℕ)) : Type 0 where
 -- early, what its lines print is written, and of what is said of that a front.
 abbrev pub FailsRun : Option (List ℕ) → Option (List ℕ) → Option (List ℕ) → Option (List ℕ) → Option (List ℕ) → Type 0
 FailsRun given old new errors_old errors_new = (BreaksOff given old new × Appends errors_old errors_new [])
-    ⊎ (((n : ℕ) × Stops given n old new × WritesFront errors_old errors_new (no_command_text n))
+    ⊎ (((n : ℕ) × StopsAtLine given n old new × WritesFront errors_old errors_new (no_command_text n))
     ⊎ (Halts given old new × WritesFront errors_old errors_new no_memory_text))

@@ -46,7 +46,7 @@ fed_after fed (Reclaim n) a = fed
 fed_after fed (At s action) a = if is_boundary a then with_fed fed s Unfed else fed
 
 -- an event is answered, in one step of the store
-pub record Answers (d : Desk) (event : Event) (a : Answer) (e : Desk) : Type 0 where
+pub record Responds (d : Desk) (event : Event) (a : Answer) (e : Desk) : Type 0 where
   pub steps : Steps d.shown event a e.shown
   pub fed : e.fed ≡ fed_after d.fed event a
 
@@ -56,9 +56,9 @@ IsStage given (Stage ts) = ts.items ≡ given
 IsStage given action = ⊥
 
 -- triples are staged by one event; where there are none, by no event, and the answer counts as `Staged`
-abbrev pub Stages : Desk → ℕ → List RdfTriple → Answer → Desk → Type 0
-Stages d s [] a e = (a ≡ Staged) × (e ≡ d)
-Stages d s (t ∷ ts) a e = (action : Action) × IsStage (t ∷ ts) action × Answers d (At s action) a e
+abbrev pub StagesByEvent : Desk → ℕ → List RdfTriple → Answer → Desk → Type 0
+StagesByEvent d s [] a e = (a ≡ Staged) × (e ≡ d)
+StagesByEvent d s (t ∷ ts) a e = (action : Action) × IsStage (t ∷ ts) action × Responds d (At s action) a e
 
 -- a refusal stands in the place of `fed`
 abbrev pub feed_text : Answer → List ℕ
@@ -71,7 +71,7 @@ pub record FeedsUpload (n : ℕ) (c : TextContext) (d : Desk) (s : ℕ) (y text 
   pub fed : Fed
   pub receives : Receives n c (d.fed s) y given fed
   pub answer : Answer
-  pub staged : Stages (desk_with d s fed) s given answer e
+  pub staged : StagesByEvent (desk_with d s fed) s given answer e
   pub printed : text ≡ feed_text answer
 
 -- no event is made

@@ -41,8 +41,8 @@ FeedsAt n l s y openings old new given = (o : Opening) → slice_get openings s 
     → s < length old → (f : Fed) × AreFed new (with_fed fed s f) × Receives n (first_context l o) (fed s) y given f
 
 -- the text of seat s ends
-abbrev pub EndsAt : ℕ → List SeatText → List SeatText → Option (List RdfTriple) → Type 0
-EndsAt s old new given = (fed : ℕ → Fed) → AreFed old fed → (f : Fed) × AreFed new (with_fed fed s f) × Closes (fed s) given f
+abbrev pub SeatTextEnds : ℕ → List SeatText → List SeatText → Option (List RdfTriple) → Type 0
+SeatTextEnds s old new given = (fed : ℕ → Fed) → AreFed old fed → (f : Fed) × AreFed new (with_fed fed s f) × Closes (fed s) given f
 
 -- what was fed to the seats of a store that shows this
 pub record Standing (shown : Shown) (u : Uploads) : Type 0 where

@@ -10,7 +10,7 @@ use Rattle.gs_drill.specs.declared.stops.Stop.TheVariants.{NoCommand, NoMemory, 
 use Rattle.gs_drill.specs.declared.uploads.Uploads.{Uploads}
 use Rattle.gs_drill.specs.Printing.{Writes, WritesFront, no_command_text, no_memory_text}
 use Rattle.gs_drill.specs.Feeds.{Desk}
-use Rattle.gs_drill.specs.Drills.{RunState, Does, DoesLine, IsLate, IsNoCommand, FinishesRun, Stops, Halts, BreaksOff}
+use Rattle.gs_drill.specs.Drills.{RunState, CarriesOut, DoesLine, IsLate, IsNoCommand, FinishesRun, StopsAtLine, Halts, BreaksOff}
 use Rattle.gs_drill.specs.Standing.{Standing, desk_of}
 
 -- a store may begin with these numbers
@@ -50,27 +50,27 @@ pub record PrintsTo {T D : Type 0} (after : T → D) (Makes : List ℕ → D →
   pub written : Appends old new text
 
 -- a text is made and written; nothing is written for want of memory; or a write fails
-abbrev pub Replies : {T D : Type 0} → (T → D) → (List ℕ → D → Type 0) → Option (List ℕ) → Option (List ℕ) → {X : Type 0} → Result X Stop → Type 0
-Replies after Makes old new (Ok x) = PrintsTo after Makes old new
-Replies after Makes old new (Err NoCommand) = ⊥
-Replies after Makes old new (Err NoMemory) = Appends old new []
-Replies after Makes old new (Err Failed) = PrintsFront Makes old new
+abbrev pub WritesReply : {T D : Type 0} → (T → D) → (List ℕ → D → Type 0) → Option (List ℕ) → Option (List ℕ) → {X : Type 0} → Result X Stop → Type 0
+WritesReply after Makes old new (Ok x) = PrintsTo after Makes old new
+WritesReply after Makes old new (Err NoCommand) = ⊥
+WritesReply after Makes old new (Err NoMemory) = Appends old new []
+WritesReply after Makes old new (Err Failed) = PrintsFront Makes old new
 
 -- this text is written; nothing is written for want of memory; or a write fails
 abbrev pub RepliesText : List ℕ → Option (List ℕ) → Option (List ℕ) → {X : Type 0} → Result X Stop → Type 0
-RepliesText printed old new outcome = Replies (λ (d : Unit {0}). d) (λ text d. text ≡ printed) old new outcome
+RepliesText printed old new outcome = WritesReply (λ (d : Unit {0}). d) (λ text d. text ≡ printed) old new outcome
 
 -- the same of what is made at the desk where the code stands
 abbrev pub RepliesFrom : Shown → Uploads → Shown → Uploads → (Desk → List ℕ → Desk → Type 0) → Option (List ℕ) → Option (List ℕ)
     → {X : Type 0} → Result X Stop → Type 0
-RepliesFrom shown u next w Makes old new outcome = (st : Standing shown u) → Replies {T = Standing next w} desk_of (Makes (desk_of st)) old new outcome
+RepliesFrom shown u next w Makes old new outcome = (st : Standing shown u) → WritesReply {T = Standing next w} desk_of (Makes (desk_of st)) old new outcome
 
 -- a command is done; it is late; nothing is written for want of memory; or a write fails
 abbrev pub DoesCommand : RunState → Command → {T : Type 0} → (T → RunState) → Option (List ℕ) → Option (List ℕ) → {X : Type 0} → Result X Stop → Type 0
-DoesCommand s command after old new (Ok x) = PrintsTo after (Does s command) old new
+DoesCommand s command after old new (Ok x) = PrintsTo after (CarriesOut s command) old new
 DoesCommand s command after old new (Err NoCommand) = IsLate s command × Appends old new []
 DoesCommand s command after old new (Err NoMemory) = Appends old new []
-DoesCommand s command after old new (Err Failed) = PrintsFront (Does s command) old new
+DoesCommand s command after old new (Err Failed) = PrintsFront (CarriesOut s command) old new
 
 -- the same of a line
 abbrev pub TakesLine : RunState → List ℕ → {T : Type 0} → (T → RunState) → Option (List ℕ) → Option (List ℕ) → {X : Type 0} → Result X Stop → Type 0
@@ -87,7 +87,7 @@ stop_text Failed n = []
 
 -- how a run of lines ends before the last of them, by the number of the line
 abbrev pub EndsBy : Option (List ℕ) → Option (List ℕ) → Option (List ℕ) → Stop → ℕ → Type 0
-EndsBy given old new NoCommand n = Stops given n old new
+EndsBy given old new NoCommand n = StopsAtLine given n old new
 EndsBy given old new NoMemory n = Halts given old new
 EndsBy given old new Failed n = BreaksOff given old new
 

@@ -3,8 +3,8 @@ ghost use Rattle.std.specs.Prelude.{◌≡◌, Some, IfOk};
 ghost use Rattle.gs_feeding.specs.declared.openings.Opening.{Opening as AnOpening};
 ghost use Rattle.std.specs.List.{slice_get};
 ghost use Rattle.gs_drill.specs.Printing.{reply_text};
-ghost use Rattle.gs_drill.specs.Feeds.{Answers, Stages, DoesFeed, FeedsUpload};
-ghost use Rattle.gs_drill.specs.Commits.{Commits, Asks, GivesUp, Completes};
+ghost use Rattle.gs_drill.specs.Feeds.{Responds, StagesByEvent, DoesFeed, FeedsUpload};
+ghost use Rattle.gs_drill.specs.Commits.{Commits, Asks, GivesUpSeat, Completes};
 ghost use Rattle.gs_drill.specs.Standing.{MovesDesk};
 ghost use Rattle.gs_feeding.specs.SeatTexts.{first_context};
 
@@ -19,7 +19,7 @@ use std::alloc::{AllocError, Global};
 
 /// Asks the store, and follows its answer.
 pub fn answer(store: &mut Store, uploads: &mut Uploads, event: Event) -> Answer
-    ensures does { MovesDesk store.old uploads.old store.new uploads.new (λ d e. Answers d event result e) }
+    ensures does { MovesDesk store.old uploads.old store.new uploads.new (λ d e. Responds d event result e) }
     ensures cut { uploads.new.cut ≡ uploads.old.cut }
 {
     let answer = store.step(&event);
@@ -30,7 +30,7 @@ pub fn answer(store: &mut Store, uploads: &mut Uploads, event: Event) -> Answer
 /// Stages triples by one event, and by none where there are none.
 fn stage(store: &mut Store, uploads: &mut Uploads, seat: u16, given: Vec<Triple>) -> Answer
     ensures does { MovesDesk store.old uploads.old store.new uploads.new
-        (λ d e. Stages d seat given.items result e) }
+        (λ d e. StagesByEvent d seat given.items result e) }
     ensures cut { uploads.new.cut ≡ uploads.old.cut }
 {
     if given.is_empty() {
@@ -84,7 +84,7 @@ pub fn feed(
 /// Gives the upload or the patch of a seat up, whose text has this fault.
 pub fn give_up(store: &mut Store, uploads: &mut Uploads, seat: u16, fault: Reply) -> Reply
     ensures does { MovesDesk store.old uploads.old store.new uploads.new
-        (λ d e. GivesUp (reply_text fault) d seat (reply_text result) e) }
+        (λ d e. GivesUpSeat (reply_text fault) d seat (reply_text result) e) }
     ensures cut { uploads.new.cut ≡ uploads.old.cut }
 {
     let _ = answer(store, uploads, Event::Seat(seat, Action::Cancel));

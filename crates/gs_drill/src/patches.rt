@@ -1,6 +1,6 @@
 //! Patches: the text of an update is read, and what it says is committed.
 ghost use Rattle.std.specs.Prelude.{◌≡◌, IfOk};
-ghost use Rattle.gs_update_text.specs.Requests.{Request};
+ghost use Rattle.gs_update_text.specs.Requests.{UpdateRequest};
 ghost use Rattle.gs_update.specs.Answers.{Answers as ReadsUpdate, Refuses};
 ghost use Rattle.gs_drill.specs.Printing.{reply_text};
 ghost use Rattle.gs_drill.specs.Patches.{SettlesPatch, DoesPatch};
@@ -22,7 +22,7 @@ fn reject(
     seat: u16,
     refusal: Refusal,
 ) -> Result<Reply, AllocError>
-    ensures does { IfOk result (λ reply. (q : Request) → Refuses refusal q
+    ensures does { IfOk result (λ reply. (q : UpdateRequest) → Refuses refusal q
         → MovesDesk store.old uploads.old store.new uploads.new
         (λ d e. SettlesPatch q d seat (reply_text reply) e)) }
     ensures cut { uploads.new.cut ≡ uploads.old.cut }
@@ -41,7 +41,7 @@ fn conclude(
     seat: u16,
     read: Result<Vec<Op>, Refusal>,
 ) -> Result<Reply, AllocError>
-    ensures does { IfOk result (λ reply. (q : Request) → ReadsUpdate read q
+    ensures does { IfOk result (λ reply. (q : UpdateRequest) → ReadsUpdate read q
         → MovesDesk store.old uploads.old store.new uploads.new
         (λ d e. SettlesPatch q d seat (reply_text reply) e)) }
     ensures cut { uploads.new.cut ≡ uploads.old.cut }

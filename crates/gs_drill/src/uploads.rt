@@ -2,7 +2,7 @@
 ghost use Rattle.std.specs.Prelude.{◌≡◌, length, [], ℕ, List, true, false, is_some, None, Some, option_map, MatchOption, IfOk, replicate};
 ghost use Rattle.std.specs.List.{slice_get, slice_set};
 ghost use Rattle.gs_feeding.specs.declared.openings.Opening.{Opening as AnOpening};
-ghost use Rattle.gs_drill.specs.Standing.{AreFed, FeedsAt, EndsAt};
+ghost use Rattle.gs_drill.specs.Standing.{AreFed, FeedsAt, SeatTextEnds};
 ghost use Rattle.gs_drill.specs.Following.{openings_after, patches_after, patch_opened_by, texts_after};
 ghost use Rattle.gs_feeding.specs.Receiving.{Fed, IsIn};
 ghost use Rattle.gs_feeding.specs.SeatTexts.{FeedsText, first_context, opened_by};
@@ -221,7 +221,7 @@ impl Uploads {
 
     /// The text that was fed to a seat ends: what that gives, which is nothing where it has a fault.
     pub fn finish(&mut self, alloc: Global, seat: u16) -> Result<Option<Vec<Triple>>, AllocError>
-        ensures given { IfOk result (λ given. EndsAt seat self.old.texts.items self.new.texts.items
+        ensures given { IfOk result (λ given. SeatTextEnds seat self.old.texts.items self.new.texts.items
             (option_map (λ ts. ts.items) given)) }
         ensures openings { IfOk result (λ given. self.new.openings.items ≡ self.old.openings.items) }
         ensures patches { self.new.patches.items ≡ self.old.patches.items }

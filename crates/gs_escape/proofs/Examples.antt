@@ -6,7 +6,7 @@ use lib.Utf8.{encode}
 use Rattle.gs_model.specs.Escapes.{hex_number, echar_meaning}
 use Rattle.gs_escape.specs.Escapes.{numbered, uchar, echar, local_escape, iri_escape, string_escape}
 use Rattle.gs_escape.specs.Meanings.{stands_short, stands_long, stands_local, unescaped}
-use Rattle.gs_escape.specs.Tokens.{between, quoted, iri_of, string_of, local_of, parts_of}
+use Rattle.gs_escape.specs.Tokens.{between, quoted, iri_of, string_of, local_of, split_at_colon}
 
 -- a percent escape is not decoded
 percent : iri_of (codes "<http://a.example/%66oo-bar>") ≡ Some (codes "http://a.example/%66oo-bar")
@@ -58,5 +58,5 @@ dash : local_of (codes "lat" ++ 92 ∷ codes "-long") ≡ Some (codes "lat-long"
 unfolding unescaped stands_local local_escape is_utf8 chars encode
 dash = refl
 
-first_colon : parts_of (codes "og:video:height") ≡ Some (codes "og", codes "video:height")
+first_colon : split_at_colon (codes "og:video:height") ≡ Some (codes "og", codes "video:height")
 first_colon = refl

@@ -36,16 +36,16 @@ abbrev pub three : ℕ → List ℕ
 three q = q ∷ q ∷ q ∷ []
 
 -- a quote once
-abbrev pub one : ℕ → List ℕ
-one q = q ∷ []
+abbrev pub quote_once : ℕ → List ℕ
+quote_once q = q ∷ []
 
 -- [22] to [25], the four string literals between their quotes: three of a kind, or else one
 unfoldable pub quoted : List ℕ → Option (Form × List ℕ)
 quoted x =
     option_or (with_form form.StringLiteralLongQuote (between (three quote) (three quote) x))
     (option_or (with_form form.StringLiteralLongSingleQuote (between (three apostrophe) (three apostrophe) x))
-    (option_or (with_form form.StringLiteralQuote (between (one quote) (one quote) x))
-    (with_form form.StringLiteralSingleQuote (between (one apostrophe) (one apostrophe) x))))
+    (option_or (with_form form.StringLiteralQuote (between (quote_once quote) (quote_once quote) x))
+    (with_form form.StringLiteralSingleQuote (between (quote_once apostrophe) (quote_once apostrophe) x))))
 
 -- [17] String: what the text between the quotes means
 unfoldable pub string_of : List ℕ → Option (List ℕ)
@@ -56,8 +56,8 @@ abbrev pub local_of : List ℕ → Option (List ℕ)
 local_of x = meaning form.Local x
 
 -- [140s] PNAME_LN and [139s] PNAME_NS, parted at the first colon
-abbrev pub parts_of : List ℕ → Option (List ℕ × List ℕ)
-parts_of x = option_map (λ i. (take i x, drop (i + 1) x)) (position (λ c. c == colon) x)
+abbrev pub split_at_colon : List ℕ → Option (List ℕ × List ℕ)
+split_at_colon x = option_map (λ i. (take i x, drop (i + 1) x)) (position (λ c. c == colon) x)
 
 -- a string has grown by what a text means, which has a meaning
 abbrev pub AppendsMeaning : {Z : Type 0} → String Z → String Z → Option (List ℕ) → Type 0

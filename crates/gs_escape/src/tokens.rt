@@ -3,7 +3,7 @@ ghost use Rattle.std.specs.Prelude.{◌≡◌, ◌==◌, Some, OnOk, OnErr, opti
 ghost use Rattle.std.specs.Option.{option_copied};
 ghost use Rattle.std.specs.String.{string_bytes};
 ghost use Rattle.gs_model.specs.Characters.{colon as colon_of};
-ghost use Rattle.gs_escape.specs.Tokens.{between as between_of, quoted as quoted_of, iri_of, string_of, local_of, parts_of, AppendsMeaning, ReportsMeaning};
+ghost use Rattle.gs_escape.specs.Tokens.{between as between_of, quoted as quoted_of, iri_of, string_of, local_of, split_at_colon, AppendsMeaning, ReportsMeaning};
 
 use crate::forms::Form;
 use crate::walks::append;
@@ -94,7 +94,7 @@ fn colon(text: &[u8]) -> Option<usize>
 /// The prefix and the local part of a prefixed name, without the first colon between them; `None`
 /// where the text has no colon.
 pub fn parts(text: &[u8]) -> Option<(&[u8], &[u8])>
-    ensures { option_map (λ p. (p.0.now, p.1.now)) result ≡ parts_of text.now }
+    ensures { option_map (λ p. (p.0.now, p.1.now)) result ≡ split_at_colon text.now }
 {
     match colon(text) {
         None => None,

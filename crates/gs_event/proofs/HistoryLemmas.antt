@@ -17,7 +17,7 @@ use Rattle.gs_event.specs.declared.answers.Answer.TheVariants.{Opened, Staged, S
 use Rattle.gs_event.specs.Datasets.{lines_at}
 use Rattle.gs_event.specs.Operations.{Setting, Operation, after_all}
 use Rattle.gs_event.specs.Phases.{Phase, Idle, Writing, Patching, Reading, phase_after, operation_of}
-use Rattle.gs_event.specs.Views.{SeatView, Fits, FitsSeat, is_opened, is_written, after_asked, next_view, next_at, next_if}
+use Rattle.gs_event.specs.Views.{SeatView, Fits, FitsSeat, answers_opened, is_written, after_asked, next_view, next_at, next_if}
 use Rattle.gs_event.specs.Histories.{History, OpenRead, phase_of, phase_by, points_of, dataset_after, lines_left, seat_view, Start, view_of}
 
 -- a seat's phase by its history, with one more answer
@@ -126,7 +126,7 @@ next_seen : (start : Start) (h : History) (s : ℕ) (action : Action) (a : Answe
 next_seen start h s action a p is =
     let asked : after_all start.setting (points_of ((At s action, a) ∷ h)) ≡ after_asked start.setting (dataset_after start.setting h) (operation_of p action a) =
     after_cons start.setting (operation_of (phase_of h s) action a) (points_of h) ∙ ap (after_asked start.setting (dataset_after start.setting h)) (sym (same_operation start.setting (phase_of h s) action a) ∙ ap (λ q. operation_of q action a) is) in
-    let opened = counted is_opened start.request h (At s action) a in
+    let opened = counted answers_opened start.request h (At s action) a in
     let written = counted is_written start.commit h (At s action) a in
     let own : seat_view start.setting (phase_by h s (phase_of h s) (At s action) a) ≡ phase_after (lines_at (dataset_after start.setting h)) (λ left n. drop n left) p action a =
     own_seat start.setting h s action a ∙ ap (λ q. phase_after (lines_at (dataset_after start.setting h)) (λ left n. drop n left) q action a) is in
@@ -137,7 +137,7 @@ next_seen start h s action a p is =
 refused_seen : (start : Start) (h : History) (s : ℕ) (action : Action) (r : Refusal) → view_of start ((At s action, Refused r) ∷ h) ≡ view_of start h
 refused_seen start h s action r =
     let asked : after_all start.setting (points_of ((At s action, Refused r) ∷ h)) ≡ dataset_after start.setting h = rw (refused_operation (phase_of h s) action r) in
-    let opened : start.request + count_by (λ (x : Event × Answer). is_opened x.1) ((At s action, Refused r) ∷ h) ≡ start.request + count_by (λ (x : Event × Answer). is_opened x.1) h = omega (arith, counted is_opened start.request h (At s action) (Refused r)) in
+    let opened : start.request + count_by (λ (x : Event × Answer). answers_opened x.1) ((At s action, Refused r) ∷ h) ≡ start.request + count_by (λ (x : Event × Answer). answers_opened x.1) h = omega (arith, counted answers_opened start.request h (At s action) (Refused r)) in
     let written : start.commit + count_by (λ (x : Event × Answer). is_written x.1) ((At s action, Refused r) ∷ h) ≡ start.commit + count_by (λ (x : Event × Answer). is_written x.1) h = omega (arith, counted is_written start.commit h (At s action) (Refused r)) in
     let seats = same_after (λ k. seat_view start.setting (phase_of h k)) (λ k. seat_view start.setting (phase_by h k (phase_of h k) (At s action) (Refused r))) 0 start.seats (λ k _. same_seat k) in
     λ i. record { totals = record { setting = start.setting; dataset = asked i; request = opened i; commit = written i }; seats = seats i }
@@ -157,7 +157,7 @@ next_if_seen start h s action a (Some p) is fits = next_seen start h s action a 
 -- what is shown after one more answer that fits
 pub view_of-cons : (start : Start) (h : History) (e : Event) (a : Answer) → Fits (view_of start h) e a → view_of start ((e, a) ∷ h) ≡ next_view (view_of start h) e a
 view_of-cons start h (Reclaim n) (Reclaimed freed left) fits =
-    let opened : start.request + count_by (λ (x : Event × Answer). is_opened x.1) ((Reclaim n, Reclaimed freed left) ∷ h) ≡ start.request + count_by (λ (x : Event × Answer). is_opened x.1) h = omega (arith, counted is_opened start.request h (Reclaim n) (Reclaimed freed left)) in
+    let opened : start.request + count_by (λ (x : Event × Answer). answers_opened x.1) ((Reclaim n, Reclaimed freed left) ∷ h) ≡ start.request + count_by (λ (x : Event × Answer). answers_opened x.1) h = omega (arith, counted answers_opened start.request h (Reclaim n) (Reclaimed freed left)) in
     let written : start.commit + count_by (λ (x : Event × Answer). is_written x.1) ((Reclaim n, Reclaimed freed left) ∷ h) ≡ start.commit + count_by (λ (x : Event × Answer). is_written x.1) h = omega (arith, counted is_written start.commit h (Reclaim n) (Reclaimed freed left)) in
     λ i. record { totals = record { setting = start.setting; dataset = dataset_after start.setting h; request = opened i; commit = written i }; seats = (view_of start h).seats }
 view_of-cons start h (Reclaim n) a fits = absurd fits

@@ -16,22 +16,22 @@ use Rattle.gs_event.specs.Phases.{Phase, Idle, Writing, Patching, Reading}
 use Rattle.gs_event.specs.Views.{View, Totals, SeatView, Fits, FitsSeat}
 use Rattle.gs_event.specs.Waste.{Shown}
 use Rattle.gs_event.specs.Steps.{pin_after}
-use Rattle.gs_event.specs.Histories.{History, OpenRead, phase_of, phase_by, seat_view, Start, view_of, commit_after, pin_of, pinned_of}
+use Rattle.gs_event.specs.Histories.{History, OpenRead, phase_of, phase_by, seat_view, Start, view_of, commit_after, pin_of_read, pinned_of}
 use Rattle.gs_event.specs.Continuing.{PinsGoOn}
 use Rattle.gs_event.proofs.HistoryLemmas.{later, refused_phase, same_after, changed_at, at_place}
 
 -- a read begins where the test says so
-pin_begins : (start : Start) (h : History) (t : Target) (b : Bool) → pin_of start (cond b (Reading (record { target = t; before = h; given = 0 })) Idle) ≡ cond b (Some (commit_after start h)) None
+pin_begins : (start : Start) (h : History) (t : Target) (b : Bool) → pin_of_read start (cond b (Reading (record { target = t; before = h; given = 0 })) Idle) ≡ cond b (Some (commit_after start h)) None
 pin_begins start h t true = refl
 pin_begins start h t false = refl
 
 -- a read ends where the test says so, and else goes on with its pin
-pin_ends : (start : Start) (r : OpenRead) (n : ℕ) (b : Bool) → pin_of start (cond b Idle (Reading (record { target = r.target; before = r.before; given = r.given + n }))) ≡ cond b None (Some (commit_after start r.before))
+pin_ends : (start : Start) (r : OpenRead) (n : ℕ) (b : Bool) → pin_of_read start (cond b Idle (Reading (record { target = r.target; before = r.before; given = r.given + n }))) ≡ cond b None (Some (commit_after start r.before))
 pin_ends start r n true = refl
 pin_ends start r n false = refl
 
 -- a seat's pin by its phase goes on as the table of pins says
-pin_next : (start : Start) (h : History) (v : Totals) (w : Setting) (p : Phase OpenRead) (action : Action) (a : Answer) → FitsSeat v (seat_view w p) action a → pin_of start (later h p action a) ≡ pin_after (commit_after start h) (pin_of start p) action a
+pin_next : (start : Start) (h : History) (v : Totals) (w : Setting) (p : Phase OpenRead) (action : Action) (a : Answer) → FitsSeat v (seat_view w p) action a → pin_of_read start (later h p action a) ≡ pin_after (commit_after start h) (pin_of_read start p) action a
 pin_next start h v w Idle (Open k) (Opened r) fits = refl
 pin_next start h v w Idle (OpenPatch t) (Opened r) fits = refl
 pin_next start h v w Idle (Pin t) (Pinned s) fits = pin_begins start h t (nat_eq s 200)
@@ -66,24 +66,24 @@ same_place f g a (suc n) (suc s) x d e =
     let more : a + suc s ≡ a + 1 + s = omega arith in
     rw more (same_place f g (a + 1) n s x d e)
 
-other_pin : (start : Start) (h : History) (s k : ℕ) (action : Action) (a : Answer) → k ≢ s → pin_of start (phase_by h k (phase_of h k) (At s action) a) ≡ pin_of start (phase_of h k)
+other_pin : (start : Start) (h : History) (s k : ℕ) (action : Action) (a : Answer) → k ≢ s → pin_of_read start (phase_by h k (phase_of h k) (At s action) a) ≡ pin_of_read start (phase_of h k)
 other_pin start h s k action a ne =
     let apart : nat_eq s k ≡ false = ne_eqb s k (λ e. ne (sym e)) in
     rw apart
 
-own_pin : (start : Start) (h : History) (v : Totals) (w : Setting) (s : ℕ) (action : Action) (a : Answer) → FitsSeat v (seat_view w (phase_of h s)) action a → pin_of start (phase_by h s (phase_of h s) (At s action) a) ≡ pin_after (commit_after start h) (pin_of start (phase_of h s)) action a
+own_pin : (start : Start) (h : History) (v : Totals) (w : Setting) (s : ℕ) (action : Action) (a : Answer) → FitsSeat v (seat_view w (phase_of h s)) action a → pin_of_read start (phase_by h s (phase_of h s) (At s action) a) ≡ pin_after (commit_after start h) (pin_of_read start (phase_of h s)) action a
 own_pin start h v w s action a fits =
     let same : nat_eq s s ≡ true = eq-eqb s s refl in
     rw same (pin_next start h v w (phase_of h s) action a fits)
 
 -- the pins are the same by index after a refusal
 refused_pins : (start : Start) (h : History) (s : ℕ) (action : Action) (r : Refusal) → pinned_of start ((At s action, Refused r) ∷ h) ≡ pinned_of start h
-refused_pins start h s action r = same_after (λ k. pin_of start (phase_of h k)) (λ k. pin_of start (phase_by h k (phase_of h k) (At s action) (Refused r))) 0 start.seats (λ k _. same k)
+refused_pins start h s action r = same_after (λ k. pin_of_read start (phase_of h k)) (λ k. pin_of_read start (phase_by h k (phase_of h k) (At s action) (Refused r))) 0 start.seats (λ k _. same k)
   where
-    same : (k : ℕ) → pin_of start (phase_by h k (phase_of h k) (At s action) (Refused r)) ≡ pin_of start (phase_of h k)
+    same : (k : ℕ) → pin_of_read start (phase_by h k (phase_of h k) (At s action) (Refused r)) ≡ pin_of_read start (phase_of h k)
     same k =
-        elim (nat_eq s k) as (λ b. pin_of start (cond b (later h (phase_of h k) action (Refused r)) (phase_of h k)) ≡ pin_of start (phase_of h k)) [
-          | true ↦ ap (pin_of start) (refused_phase _ _ (phase_of h k) action r)
+        elim (nat_eq s k) as (λ b. pin_of_read start (cond b (later h (phase_of h k) action (Refused r)) (phase_of h k)) ≡ pin_of_read start (phase_of h k)) [
+          | true ↦ ap (pin_of_read start) (refused_phase _ _ (phase_of h k) action r)
           | false ↦ refl
         ]
 
@@ -99,9 +99,9 @@ next_pins start h s action a (Some p) is fits =
     let pins = pinned_of start h in
     let seen : seat_view start.setting (phase_of h s) ≡ p = sym (ap (λ k. seat_view start.setting (phase_of h k)) (zero-add s)) ∙ at_place (λ k. seat_view start.setting (phase_of h k)) 0 start.seats s p is in
     let fit : FitsSeat (view_of start h).totals (seat_view start.setting (phase_of h s)) action a = subst (λ q. FitsSeat (view_of start h).totals q action a) (sym seen) fits in
-    let here : get_or pins s None ≡ pin_of start (phase_of h s) = same_place (λ k. seat_view start.setting (phase_of h k)) (λ k. pin_of start (phase_of h k)) 0 start.seats s p None is ∙ ap (λ k. pin_of start (phase_of h k)) (zero-add s) in
+    let here : get_or pins s None ≡ pin_of_read start (phase_of h s) = same_place (λ k. seat_view start.setting (phase_of h k)) (λ k. pin_of_read start (phase_of h k)) 0 start.seats s p None is ∙ ap (λ k. pin_of_read start (phase_of h k)) (zero-add s) in
     let own = own_pin start h (view_of start h).totals start.setting s action a fit ∙ ap (λ q. pin_after (commit_after start h) q action a) (sym here) in
-    changed_at (λ k. pin_of start (phase_of h k)) (λ k. pin_of start (phase_by h k (phase_of h k) (At s action) a)) 0 start.seats s _ (ap (λ k. pin_of start (phase_by h k (phase_of h k) (At s action) a)) (zero-add s) ∙ own) (λ k ne. other_pin start h s k action a (λ e. ne (e ∙ sym (zero-add s))))
+    changed_at (λ k. pin_of_read start (phase_of h k)) (λ k. pin_of_read start (phase_by h k (phase_of h k) (At s action) a)) 0 start.seats s _ (ap (λ k. pin_of_read start (phase_by h k (phase_of h k) (At s action) a)) (zero-add s) ∙ own) (λ k ne. other_pin start h s k action a (λ e. ne (e ∙ sym (zero-add s))))
 
 -- the pins after one more answer that fits
 pub pinned_of-cons : (start : Start) (h : History) (s : Shown) → PinsGoOn start h s

@@ -13,13 +13,13 @@ use Rattle.gs_model.proofs.GraphLemmas.{triple_total, same_graph, empty_has_none
 use Rattle.gs_event.specs.declared.updates.Op.{Op}
 use Rattle.gs_event.specs.declared.updates.Op.TheVariants.{Insert, DeleteData, DeleteWhere}
 use Rattle.gs_event.specs.Solutions.{is_among, instances_of}
-use Rattle.gs_event.specs.Updates.{operated, inserted, removed}
+use Rattle.gs_event.specs.Updates.{operated, inserted_count, removed}
 use Rattle.gs_event.specs.Datasets.{lines_if}
 use Rattle.gs_event.specs.Operations.{united}
 use Rattle.gs_event.specs.NodesInUse.{AddsUp, GoesOneWay}
 
 -- one operation
-adds_up_one : (g : Graph) (op : Op) → size_of (operated g op) + removed g op ≡ size_of g + inserted g op
+adds_up_one : (g : Graph) (op : Op) → size_of (operated g op) + removed g op ≡ size_of g + inserted_count g op
 adds_up_one g op = omega arith
 
 -- the triples that came and went account for the size of what an update leaves

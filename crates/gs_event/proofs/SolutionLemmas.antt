@@ -15,7 +15,7 @@ use Rattle.gs_model.specs.Graphs.{Graph, triples_of}
 use Rattle.gs_term.specs.declared.patterns.Part.{Part}
 use Rattle.gs_term.specs.declared.patterns.Part.TheVariants.{Term as TheTerm, Variable}
 use Rattle.gs_term.specs.declared.patterns.Pattern.{Pattern}
-use Rattle.gs_event.specs.Solutions.{Assignment, value_of, instance_of, is_among, IsInstance, ListsInstances, Bindings, term_for, with_term, bind, bind_triple, all_if, solutions, or_any, assignment_of, instances_of}
+use Rattle.gs_event.specs.Solutions.{Assignment, value_of_part, instance_of, is_among, IsInstance, ListsInstances, Bindings, term_for, with_term, bind, bind_triple, all_if, solutions, or_any, assignment_of, instances_of}
 use Rattle.gs_model.proofs.TextLemmas.{text_of-injective}
 use Rattle.gs_model.proofs.GraphLemmas.{triple_total, triple_exact}
 
@@ -71,7 +71,7 @@ with_sound b c x t None none e a agrees =
     (λ y v f. there y v (other_is b x y t v (bytes_eq x y) refl none f), there x t (first_is b x t))
 with_sound b c x t (Some u) is e a agrees = kept_if (λ a. a x) b c u t (term_eq u t) refl (λ a agrees. agrees x u is) e a agrees
 
-bind_sound : (b c : Bindings) (p : Part) (t : Term) → bind b p t ≡ Some c → Binds b (λ a. value_of a p) t c
+bind_sound : (b c : Bindings) (p : Part) (t : Term) → bind b p t ≡ Some c → Binds b (λ a. value_of_part a p) t c
 bind_sound b c (TheTerm u) t e = kept_if (λ a. u) b c u t (term_eq u t) refl (λ a agrees. refl) e
 bind_sound b c (Variable x) t e = with_sound b c x t (term_for b x) refl e
 
@@ -87,7 +87,7 @@ with_found : (a : Assignment) (b : Bindings) (x : List ℕ) (t : Term) (o : Opti
 with_found a b x t None none agrees is = ((x, t) ∷ b, refl, λ y v e. still a b x y t v (bytes_eq x y) refl agrees is e)
 with_found a b x t (Some u) at agrees is = (b, ap (λ r. cond r (Some b) None) (term_is u t (sym (agrees x u at) ∙ is)), agrees)
 
-bind_found : (a : Assignment) (b : Bindings) (p : Part) (t : Term) → Agrees a b → value_of a p ≡ t → Found a (bind b p t)
+bind_found : (a : Assignment) (b : Bindings) (p : Part) (t : Term) → Agrees a b → value_of_part a p ≡ t → Found a (bind b p t)
 bind_found a b (TheTerm u) t agrees is = (b, ap (λ r. cond r (Some b) None) (term_is u t is), agrees)
 bind_found a b (Variable x) t agrees is = with_found a b x t (term_for b x) refl agrees is
 
@@ -100,10 +100,10 @@ alike s x y z e f g = λ i. record { subject = e i; predicate = f i; object = g 
 
 third_sound : (b c d k : Bindings) (p : Pattern) (t : RdfTriple) → bind b p.subject t.subject ≡ Some c → bind c p.predicate t.predicate ≡ Some d → bind d p.object t.object ≡ Some k → BindsTriple b p t k
 third_sound b c d k p t e f g a agrees =
-    let o : Agrees a d × (value_of a p.object ≡ t.object) = bind_sound d k p.object t.object g a agrees in
-    let v : Agrees a c × (value_of a p.predicate ≡ t.predicate) = bind_sound c d p.predicate t.predicate f a o.0 in
-    let s : Agrees a b × (value_of a p.subject ≡ t.subject) = bind_sound b c p.subject t.subject e a v.0 in
-    (s.0, alike t (value_of a p.subject) (value_of a p.predicate) (value_of a p.object) s.1 v.1 o.1)
+    let o : Agrees a d × (value_of_part a p.object ≡ t.object) = bind_sound d k p.object t.object g a agrees in
+    let v : Agrees a c × (value_of_part a p.predicate ≡ t.predicate) = bind_sound c d p.predicate t.predicate f a o.0 in
+    let s : Agrees a b × (value_of_part a p.subject ≡ t.subject) = bind_sound b c p.subject t.subject e a v.0 in
+    (s.0, alike t (value_of_part a p.subject) (value_of_part a p.predicate) (value_of_part a p.object) s.1 v.1 o.1)
 
 second_sound : (b c k : Bindings) (p : Pattern) (t : RdfTriple) (o : Option Bindings) → bind b p.subject t.subject ≡ Some c → bind c p.predicate t.predicate ≡ o
     → option_and_then (λ d. bind d p.object t.object) o ≡ Some k → BindsTriple b p t k

@@ -16,9 +16,9 @@ use Rattle.gs_event.specs.Views.{View, SeatView}
 use Rattle.gs_event.specs.Waste.{Lifetime, Shown}
 
 -- the name of a target; the default graph has none
-abbrev pub target_name : Target → Option (List ℕ)
-target_name Default = None
-target_name (Named n) = Some n
+abbrev pub name_in_target : Target → Option (List ℕ)
+name_in_target Default = None
+name_in_target (Named n) = Some n
 
 -- the target of this name, or the default graph where there is none
 abbrev pub target_from : Option (List ℕ) → Target
@@ -26,13 +26,13 @@ target_from None = Default
 target_from (Some n) = Named n
 
 -- the target made of a target's name is that target
-abbrev pub target_back : (t : Target) → target_from (target_name t) ≡ t
+abbrev pub target_back : (t : Target) → target_from (name_in_target t) ≡ t
 target_back Default = refl
 target_back (Named n) = refl
 
 -- how a target is stored: by its name, if it has one
 abbrev pub target_code : Coded Target
-target_code = code_by (Option (List ℕ)) (coded_option text_code) target_name target_from target_back
+target_code = code_by (Option (List ℕ)) (coded_option text_code) name_in_target target_from target_back
 
 -- a PUT's target or a POST's target, or neither
 abbrev pub upload_parts : UploadKind → Option (Target ⊎ Target)

@@ -9,7 +9,7 @@ use Rattle.gs_event.specs.declared.limits.Limits.{Limits}
 use Rattle.gs_event.specs.Datasets.{Dataset, lines_at}
 use Rattle.gs_event.specs.Operations.{Setting, Operation, after_all}
 use Rattle.gs_event.specs.Phases.{Phase, Idle, Writing, Patching, Reading, phase_after, operation_of}
-use Rattle.gs_event.specs.Views.{View, SeatView, Fits, is_opened, is_written}
+use Rattle.gs_event.specs.Views.{View, SeatView, Fits, answers_opened, is_written}
 use Rattle.gs_event.specs.Waste.{Shown}
 
 -- each event with its answer, the newest first: the tail of a history is what went before
@@ -82,22 +82,22 @@ view_of start h = record {
   totals = record {
     setting = start.setting;
     dataset = dataset_after start.setting h;
-    request = start.request + count_by (λ x. is_opened x.1) h;
+    request = start.request + count_by (λ x. answers_opened x.1) h;
     commit = commit_after start h;
   };
   seats = map (λ s. seat_view start.setting (phase_of h s)) (range_with_len 0 start.seats);
 }
 
 -- the commit number at the pin of a read
-abbrev pub pin_of : Start → Phase OpenRead → Option ℕ
-pin_of start Idle = None
-pin_of start (Writing k r g) = None
-pin_of start (Patching t r) = None
-pin_of start (Reading r) = Some (commit_after start r.before)
+abbrev pub pin_of_read : Start → Phase OpenRead → Option ℕ
+pin_of_read start Idle = None
+pin_of_read start (Writing k r g) = None
+pin_of_read start (Patching t r) = None
+pin_of_read start (Reading r) = Some (commit_after start r.before)
 
 -- the commit numbers at the pins of all reads, by seat
 abbrev pub pinned_of : Start → History → List (Option ℕ)
-pinned_of start h = map (λ s. pin_of start (phase_of h s)) (range_with_len 0 start.seats)
+pinned_of start h = map (λ s. pin_of_read start (phase_of h s)) (range_with_len 0 start.seats)
 
 -- a store that begins so shows what the empty history says
 abbrev pub ShowsStart : Start → Shown → Type 0

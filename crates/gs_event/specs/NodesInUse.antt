@@ -12,7 +12,7 @@ use Rattle.gs_event.specs.declared.answers.Answer.{Answer}
 use Rattle.gs_event.specs.declared.answers.Answer.TheVariants.{Staged, Status, Reclaimed}
 use Rattle.gs_event.specs.declared.updates.Op.{Op}
 use Rattle.gs_event.specs.declared.updates.Op.TheVariants.{Insert, DeleteData, DeleteWhere}
-use Rattle.gs_event.specs.Updates.{inserted, removed, updated, inserted_by, removed_by}
+use Rattle.gs_event.specs.Updates.{inserted_count, removed, updated, inserted_by, removed_by}
 use Rattle.gs_event.specs.Datasets.{Dataset, graph_at}
 use Rattle.gs_event.specs.Operations.{is_success}
 use Rattle.gs_event.specs.Phases.{Writing, Patching}
@@ -27,8 +27,8 @@ AddsUp g ops = size_of (updated g ops) + removed_by g ops ≡ size_of g + insert
 -- an INSERT DATA takes no triple out, and a DELETE DATA or a DELETE WHERE adds none
 abbrev pub GoesOneWay : Graph → Op → Type 0
 GoesOneWay g (Insert ts) = removed g (Insert ts) ≡ 0
-GoesOneWay g (DeleteData ts) = inserted g (DeleteData ts) ≡ 0
-GoesOneWay g (DeleteWhere ps) = inserted g (DeleteWhere ps) ≡ 0
+GoesOneWay g (DeleteData ts) = inserted_count g (DeleteData ts) ≡ 0
+GoesOneWay g (DeleteWhere ps) = inserted_count g (DeleteWhere ps) ≡ 0
 
 -- the most nodes that an upload of g takes into use where it took effect: a PUT none, and a POST and a new
 -- graph 260 for each triple of g

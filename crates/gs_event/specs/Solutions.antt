@@ -16,13 +16,13 @@ abbrev pub Assignment : Type 0
 Assignment = List ℕ → Term
 
 -- the term that a part stands for
-abbrev pub value_of : Assignment → Part → Term
-value_of a (TheTerm t) = t
-value_of a (Variable x) = a x
+abbrev pub value_of_part : Assignment → Part → Term
+value_of_part a (TheTerm t) = t
+value_of_part a (Variable x) = a x
 
 -- the instance of a pattern: each variable's term in its place
 abbrev pub instance_of : Assignment → Pattern → RdfTriple
-instance_of a p = record { subject = value_of a p.subject; predicate = value_of a p.predicate; object = value_of a p.object }
+instance_of a p = record { subject = value_of_part a p.subject; predicate = value_of_part a p.predicate; object = value_of_part a p.object }
 
 -- the triple is one of these
 abbrev pub is_among : List RdfTriple → RdfTriple → Bool

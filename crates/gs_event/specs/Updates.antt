@@ -19,8 +19,8 @@ operated g (DeleteData ts) = without_triples g ts.items
 operated g (DeleteWhere ps) = without_triples g (instances_of g ps.items)
 
 -- how many triples come to a graph by an operation
-abbrev pub inserted : Graph → Op → ℕ
-inserted g op = size_of (operated g op) - size_of g
+abbrev pub inserted_count : Graph → Op → ℕ
+inserted_count g op = size_of (operated g op) - size_of g
 
 -- how many triples go from a graph by an operation
 abbrev pub removed : Graph → Op → ℕ
@@ -34,7 +34,7 @@ updated g (op ∷ ops) = updated (operated g op) ops
 -- how many triples come to a graph by operations one after another, those too that go again
 abbrev pub inserted_by : Graph → List Op → ℕ
 inserted_by g [] = 0
-inserted_by g (op ∷ ops) = inserted g op + inserted_by (operated g op) ops
+inserted_by g (op ∷ ops) = inserted_count g op + inserted_by (operated g op) ops
 
 -- how many triples go from a graph by operations one after another, those too that had come
 abbrev pub removed_by : Graph → List Op → ℕ

@@ -72,9 +72,9 @@ Fits v (Reclaim n) a = ⊥
 Fits v (At s action) a = MatchOption (slice_get v.seats s) (a ≡ Refused BadSeat) (λ p. FitsSeat v.totals p action a)
 
 -- whether an upload or a patch was opened
-abbrev pub is_opened : Answer → Bool
-is_opened (Opened r) = true
-is_opened a = false
+abbrev pub answers_opened : Answer → Bool
+answers_opened (Opened r) = true
+answers_opened a = false
 
 -- whether a write took effect
 abbrev pub is_written : Answer → Bool
@@ -91,7 +91,7 @@ abbrev pub next_totals : Totals → SeatView → Action → Answer → Totals
 next_totals v p action a = record {
   setting = v.setting;
   dataset = after_asked v.setting v.dataset (operation_of p action a);
-  request = v.request + (if is_opened a then 1 else 0);
+  request = v.request + (if answers_opened a then 1 else 0);
   commit = v.commit + (if is_written a then 1 else 0);
 }
 

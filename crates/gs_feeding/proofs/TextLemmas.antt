@@ -10,7 +10,7 @@ use Rattle.gs_upload.specs.declared.readers.TextReader.{TextReader}
 use Rattle.gs_upload.specs.declared.readings.Reading.{Reading}
 use Rattle.gs_upload.specs.Faults.{HasFault}
 use Rattle.gs_upload.specs.Languages.{TextContext, meaning_in_context, meaning_in}
-use Rattle.gs_upload.specs.Readings.{Stands, EndsReading, FeedsPieces, FeedsEach, FeedsReading, MeansAll, GivesComplete}
+use Rattle.gs_upload.specs.Readings.{ReaderStands, EndsReading, FeedsPieces, FeedsEach, FeedsReading, MeansAll, GivesComplete}
 use Rattle.gs_upload.specs.Readers.{meaning_of_text, LeadsText, is_closed_text, IsFedText}
 use Rattle.gs_upload.proofs.ReadingLemmas.{IsFedBy-more}
 use Rattle.gs_feeding.specs.declared.texts.SeatText.{SeatText}
@@ -35,9 +35,9 @@ begins_text k l o base is none h =
 
 -- what stands of a reading with a fault
 faulty_on : (o : Option Refusal) (e : Refusal) (k : Reading TextReader) (means : List ℕ → Meaning) (x : List ℕ) (ts : List RdfTriple) → o ≡ Some e
-    → Stands meaning_of_text LeadsText is_closed_text o k.reader means x ts → (y : List ℕ) → IsFaulty means (x ++ y)
+    → ReaderStands meaning_of_text LeadsText is_closed_text o k.reader means x ts → (y : List ℕ) → IsFaulty means (x ++ y)
 faulty_on o e k means x ts is h y =
-    let P : Option Refusal → Type 0 = λ z. Stands meaning_of_text LeadsText is_closed_text z k.reader means x ts in
+    let P : Option Refusal → Type 0 = λ z. ReaderStands meaning_of_text LeadsText is_closed_text z k.reader means x ts in
     let faults : (y : List ℕ) → HasFault e (means (x ++ y)) = subst P is h in
     fault_faulty e (means (x ++ y)) (faults y)
 

@@ -2,7 +2,7 @@
 use Rattle.std.specs.Prelude.{◌≡◌, ℕ, List, [], ◌++◌, Option, Some, None}
 use Rattle.gs_model.specs.Triples.{RdfTriple}
 use Rattle.gs_machine.specs.Machines.{Begins}
-use Rattle.gs_body.specs.Bodies.{Meaning, Whole, triples_of}
+use Rattle.gs_body.specs.Bodies.{Meaning, Whole, all_stated}
 use Rattle.gs_upload.specs.declared.languages.Language.{Language}
 use Rattle.gs_upload.specs.Languages.{TextContext, meaning_in_context}
 use Rattle.gs_upload.specs.Readings.{GivesComplete, ArePieces, MeansAll}
@@ -25,7 +25,7 @@ IsIn l (Finished k) = k ≡ l
 -- The triples that a text gives so far, by what texts mean: with them its triples begin, however the text goes on; and
 -- they are just those of its complete statements.
 pub record GivesSoFar (meaning_of : List ℕ → Meaning) (x : List ℕ) (given : List RdfTriple) : Type 0 where
-  pub begun : (z : List ℕ) → Begins (triples_of (meaning_of (x ++ z)).0) given
+  pub begun : (z : List ℕ) → Begins (all_stated (meaning_of (x ++ z)).0) given
   pub complete : GivesComplete meaning_of x given
 
 -- a text without a meaning
@@ -40,17 +40,17 @@ pub record GoesOnInPieces (n : ℕ) (before : List (List ℕ)) (y : List ℕ) (a
 
 -- The text x, which gave ts, goes on by y, in pieces of n bytes, and gives some triples more; or it has a fault,
 -- however it goes on.
-abbrev pub GoesOn : ℕ → TextContext → List ℕ → List (List ℕ) → List RdfTriple → List ℕ → List RdfTriple → Fed → Type 0
-GoesOn n c x ps ts y given (InPart d z qs all) = (d ≡ c) × (z ≡ x ++ y) × GoesOnInPieces n ps y qs × (all ≡ ts ++ given)
+abbrev pub UploadGoesOn : ℕ → TextContext → List ℕ → List (List ℕ) → List RdfTriple → List ℕ → List RdfTriple → Fed → Type 0
+UploadGoesOn n c x ps ts y given (InPart d z qs all) = (d ≡ c) × (z ≡ x ++ y) × GoesOnInPieces n ps y qs × (all ≡ ts ++ given)
     × GivesSoFar (meaning_in_context c) z all
-GoesOn n c x ps ts y given (Faulted l) = (l ≡ c.language) × (given ≡ []) × ((z : List ℕ) → IsFaulty (meaning_in_context c) (x ++ y ++ z))
-GoesOn n c x ps ts y given f = ⊥
+UploadGoesOn n c x ps ts y given (Faulted l) = (l ≡ c.language) × (given ≡ []) × ((z : List ℕ) → IsFaulty (meaning_in_context c) (x ++ y ++ z))
+UploadGoesOn n c x ps ts y given f = ⊥
 
 -- What y gives to an upload, whose first text is read as c says. It is fed in pieces of n bytes. After a fault, or
 -- after the end of the text, it is dropped.
 abbrev pub Receives : ℕ → TextContext → Fed → List ℕ → List RdfTriple → Fed → Type 0
-Receives n c Unfed y given f = GoesOn n c [] [] [] y given f
-Receives n c (InPart d x ps ts) y given f = GoesOn n d x ps ts y given f
+Receives n c Unfed y given f = UploadGoesOn n c [] [] [] y given f
+Receives n c (InPart d x ps ts) y given f = UploadGoesOn n d x ps ts y given f
 Receives n c (Faulted l) y given f = (given ≡ []) × (f ≡ Faulted l)
 Receives n c (Finished l) y given f = (given ≡ []) × (f ≡ Finished l)
 

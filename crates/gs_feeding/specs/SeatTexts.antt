@@ -51,11 +51,11 @@ IsBegun Unfed = ⊥
 IsBegun f = Unit {0}
 
 -- the language of what was fed to a seat, if anything was
-abbrev pub language_of : SeatText → Option Language
-language_of seat_text.Unfed = None
-language_of (seat_text.Fed l k) = Some l
-language_of (seat_text.Faulted l) = Some l
-language_of (seat_text.Finished l) = Some l
+abbrev pub fed_language : SeatText → Option Language
+fed_language seat_text.Unfed = None
+fed_language (seat_text.Fed l k) = Some l
+fed_language (seat_text.Faulted l) = Some l
+fed_language (seat_text.Finished l) = Some l
 
 -- what was fed to a seat
 abbrev pub WasFed : SeatText → Fed → Type 0

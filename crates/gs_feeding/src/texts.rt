@@ -1,7 +1,7 @@
 //! The text that is fed to the upload of a seat.
 ghost use Rattle.std.specs.Prelude.{◌≡◌, [], Option, option_map, IfOk};
 ghost use Rattle.gs_feeding.specs.Receiving.{Fed};
-ghost use Rattle.gs_feeding.specs.SeatTexts.{WasFed, FeedsText, GoesOnText, EndsText, FedInPieces, Ended, first_context, language_of};
+ghost use Rattle.gs_feeding.specs.SeatTexts.{WasFed, FeedsText, GoesOnText, EndsText, FedInPieces, Ended, first_context, fed_language};
 
 use crate::openings::Opening;
 use gs_term::Triple;
@@ -120,7 +120,7 @@ impl SeatText {
 
     /// The language of what was fed, if anything was.
     pub fn language(&self) -> Option<Language>
-        ensures { result ≡ language_of self.now }
+        ensures { result ≡ fed_language self.now }
     {
         match self {
             SeatText::Unfed => None,

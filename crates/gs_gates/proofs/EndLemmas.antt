@@ -5,10 +5,10 @@ use Rattle.gs_event.specs.declared.events.Event.{Event}
 use Rattle.gs_event.specs.declared.events.Event.TheVariants.{Seat as At, Reclaim}
 use Rattle.gs_event.specs.declared.answers.Answer.{Answer}
 use Rattle.gs_event.specs.declared.answers.Answer.TheVariants.{Opened, Staged, Status, Pinned, Lines, Cancelled, Reclaimed, Refused}
-use Rattle.gs_gates.specs.Endings.{awaited_of, comes_with, ends}
+use Rattle.gs_gates.specs.Endings.{awaited_of, comes_with, is_ending}
 
 -- event by event, and where something is awaited, answer by answer
-pub comes_with_awaited : (e : Event) (a : Answer) → comes_with (awaited_of e) a ≡ ends e a
+pub comes_with_awaited : (e : Event) (a : Answer) → comes_with (awaited_of e) a ≡ is_ending e a
 comes_with_awaited (Reclaim n) a = refl
 comes_with_awaited (At s (Open k)) a = refl
 comes_with_awaited (At s (OpenPatch t)) a = refl

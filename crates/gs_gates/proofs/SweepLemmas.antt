@@ -6,7 +6,7 @@ use Rattle.gs_event.specs.declared.answers.Answer.{Answer}
 use Rattle.gs_pass.specs.declared.records.Record.{Record}
 use Rattle.gs_pass.specs.Tallies.{tally_of}
 use Rattle.gs_gates.specs.Records.{told, IsAsBefore}
-use Rattle.gs_gates.specs.Sweeps.{goes_on, GoesOn, Reclaims, SweepsMany}
+use Rattle.gs_gates.specs.Sweeps.{has_more, SweepGoesOn, ReclaimsByEvents, SweepsMany}
 
 -- a door shows something of itself, and what it gives shows there
 pub record Shows {D E : Type 0} (f : D → E) (gives : D → Event → Answer → D → Type 0) (shown : E → Event → Answer → E → Type 0) : Type 0 where
@@ -22,13 +22,13 @@ all_cons P x xs first all zero d few = first
 all_cons P x xs first all (suc k) d few = all k d (omega (arith, few))
 
 -- where each answer said that there is more to do, there were as many as may be
-pub goes_on_all : (answers : List Answer) → length answers ≡ 2 ^ 64 - 1 → All (λ b. goes_on b ≡ true) answers → GoesOn answers
+pub goes_on_all : (answers : List Answer) → length answers ≡ 2 ^ 64 - 1 → All (λ b. has_more b ≡ true) answers → SweepGoesOn answers
 goes_on_all [] many all = absurd (omega (arith, many))
-goes_on_all (a ∷ rest) many all = (all_tail (λ b. goes_on b ≡ true) a rest all, λ on. many)
+goes_on_all (a ∷ rest) many all = (all_tail (λ b. has_more b ≡ true) a rest all, λ on. many)
 
 -- a pass is told nothing by them
 reclaims_keep : {D : Type 0} (old new : D) (f : D → Record) (gives : D → Event → Answer → D → Type 0) → Shows f gives told
-    → (answers : List Answer) → Reclaims gives old answers new → IsAsBefore (f old) (f new)
+    → (answers : List Answer) → ReclaimsByEvents gives old answers new → IsAsBefore (f old) (f new)
 reclaims_keep old new f gives s [] done = (ap (λ d. (f d).seat) done, ap (λ d. tally_of (f d)) done)
 reclaims_keep old new f gives s (a ∷ rest) done =
     let first = reclaims_keep old done.0 f gives s rest done.1 in

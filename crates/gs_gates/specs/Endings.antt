@@ -10,13 +10,13 @@ use Rattle.gs_gates.specs.declared.endings.Awaited.{Awaited}
 use Rattle.gs_gates.specs.declared.endings.Awaited.TheVariants.{Status as AwaitsStatus, Cancelled as AwaitsCancelled, LastLines as AwaitsLastLines, Nothing as AwaitsNothing}
 
 -- whether an answered event ended an upload or a patch, was a Delete that was not refused, or ended a read
-abbrev pub ends : Event → Answer → Bool
-ends (At s Commit) (Status status name) = true
-ends (At s (CommitPatch ops)) (Status status name) = true
-ends (At s (Delete t)) (Status status name) = true
-ends (At s Cancel) Cancelled = true
-ends (At s (Piece n)) (Lines bytes is_last) = is_last
-ends e a = false
+abbrev pub is_ending : Event → Answer → Bool
+is_ending (At s Commit) (Status status name) = true
+is_ending (At s (CommitPatch ops)) (Status status name) = true
+is_ending (At s (Delete t)) (Status status name) = true
+is_ending (At s Cancel) Cancelled = true
+is_ending (At s (Piece n)) (Lines bytes is_last) = is_last
+is_ending e a = false
 
 -- the answer that ends what an event is about
 abbrev pub awaited_of : Event → Awaited

@@ -38,5 +38,5 @@ abbrev pub most_rest : ℕ
 most_rest = 1_000_000_000
 
 -- the rest after a sweep that took so long: 16 times as long, but no less than the least and no more than the most
-abbrev pub rest_after : ℕ → ℕ
-rest_after taken = min (max (taken * 16) least_rest) most_rest
+abbrev pub pause_after : ℕ → ℕ
+pause_after taken = min (max (taken * 16) least_rest) most_rest

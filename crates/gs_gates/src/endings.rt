@@ -1,7 +1,7 @@
 //! Which answers end an upload, a patch, a Delete or a read, so that something may be left to reclaim.
 ghost use Rattle.std.specs.Prelude.{◌≡◌};
 ghost use Rattle.gs_event.specs.declared.events.Event.{Event as AnEvent};
-ghost use Rattle.gs_gates.specs.Endings.{awaited_of, comes_with, ends};
+ghost use Rattle.gs_gates.specs.Endings.{awaited_of, comes_with, is_ending};
 
 use gs_event::{Action, Answer, Event};
 
@@ -40,7 +40,7 @@ impl Awaited {
 
     /// Whether this answer to the event ends what that is about.
     pub(crate) fn ends_by(self, answer: &Answer) -> bool
-        ensures { (e : AnEvent) → self ≡ awaited_of e → result ≡ ends e answer.now }
+        ensures { (e : AnEvent) → self ≡ awaited_of e → result ≡ is_ending e answer.now }
     {
         self.comes_with(answer)
     }

@@ -116,7 +116,7 @@ pub(crate) fn silence() -> Duration
 
 /// The rest of the reclaimer after a sweep that took so long.
 pub(crate) fn rest_after(taken: Duration) -> Duration
-    ensures { as_nanos result ≡ spec.rest_after (as_nanos taken) }
+    ensures { as_nanos result ≡ spec.pause_after (as_nanos taken) }
 {
     let long = u64::try_from(taken.as_nanos().saturating_mul(REST_TIMES)).unwrap_or(u64::MAX);
     Duration::from_nanos(long.clamp(LEAST_REST_NANOSECONDS, MOST_REST_NANOSECONDS))

@@ -2,14 +2,14 @@
 ghost use Rattle.std.specs.Prelude.{◌≡◌, ℕ, List};
 ghost use Rattle.gs_event.specs.declared.answers.Answer.{Answer as AnAnswer};
 ghost use Rattle.gs_pass.specs.Tallies.{tally_of};
-ghost use Rattle.gs_gates.specs.Sweeps.{Sweeps, SweepsMany, goes_on as goes_on_after};
+ghost use Rattle.gs_gates.specs.Sweeps.{SweepsAll, SweepsMany, has_more as goes_on_after};
 
 use crate::limits::{RECLAIM_NODES, rest_after};
 use crate::notes::Note;
 use crossbeam_channel::Receiver;
 use gs_door::Door;
 use gs_event::{Answer, Event};
-use gs_shared::{Hall, Pass, PassDoor, Room};
+use gs_shared::{Pass, PassDoor, Room, SharedStore};
 use std::sync::Wait;
 use std::sync::ledger::Ledger;
 use std::thread;
@@ -35,7 +35,7 @@ fn free_some<D: Door>(door: &mut D) -> bool
 
 /// Frees what can be freed; others get in between. The bound says that it ends; it is not reached.
 fn sweep<D: Door>(door: &mut D)
-    ensures { (answers : List AnAnswer) × Sweeps D.Gives door.old answers door.new }
+    ensures { (answers : List AnAnswer) × SweepsAll D.Gives door.old answers door.new }
 {
     for _ in 0..u64::MAX {
         if !free_some(door) {
@@ -55,7 +55,7 @@ fn since<K: Clock>(clock: &K, start: Option<Instant>) -> Duration {
 /// Frees what can be freed, and rests in proportion to the time that this took, so that the store is left
 /// to others for most of the time.
 pub fn sweep_and_rest<D: Door, K: Clock>(clock: &K, door: &mut D)
-    ensures { (answers : List AnAnswer) × Sweeps D.Gives door.old answers door.new }
+    ensures { (answers : List AnAnswer) × SweepsAll D.Gives door.old answers door.new }
 {
     let start = Instant::now(clock).ok();
     sweep(door);
@@ -77,14 +77,14 @@ pub fn sweep_after<D: Door, R: Wait + Clock>(rt: &R, notes: Receiver<Note>, door
 /// The whole run of the reclaimer: its pass comes back, and was told nothing.
 pub fn reclaim<C: Ledger, T: Ledger, B: Room, R: Wait + Clock>(
     rt: &R,
-    hall: &Hall<C, T, B>,
+    store: &SharedStore<C, T, B>,
     notes: Receiver<Note>,
     pass: Pass<C, T, B>,
 ) -> Pass<C, T, B>
     ensures seat { result.record.seat ≡ pass.record.seat }
     ensures tally { tally_of result.record ≡ tally_of pass.record }
 {
-    let mut door = PassDoor::new(rt, hall, pass);
+    let mut door = PassDoor::new(rt, store, pass);
     sweep_after(rt, notes, &mut door);
     door.into_pass()
 }

@@ -105,13 +105,13 @@ pub record StepsOn (ts : List RdfTriple) (ps : List Pattern) (old new : Place) (
   pub marks : (found : List RdfTriple) → AreMarked ts before found → AreMarked ts after (found ++ more)
 
 -- a step, or the end
-abbrev pub Advances : List RdfTriple → List Pattern → Place → Place → List Bool → List Bool → Bool → Type 0
-Advances ts ps old new before after true = StepsOn ts ps old new before after
-Advances ts ps old new before after false = (left_from ts ps old ≡ []) × (after ≡ before)
+abbrev pub AdvancesSearch : List RdfTriple → List Pattern → Place → Place → List Bool → List Bool → Bool → Type 0
+AdvancesSearch ts ps old new before after true = StepsOn ts ps old new before after
+AdvancesSearch ts ps old new before after false = (left_from ts ps old ≡ []) × (after ≡ before)
 
 -- the same, without a mark
 abbrev pub GoesBack : List RdfTriple → List Pattern → Place → Place → Bool → Type 0
-GoesBack ts ps old new more = (marks : List Bool) → Advances ts ps old new marks marks more
+GoesBack ts ps old new more = (marks : List Bool) → AdvancesSearch ts ps old new marks marks more
 
 -- more are bound, after those that were
 pub record BindsMore (old new : List Binding) : Type 0 where

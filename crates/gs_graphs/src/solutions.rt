@@ -4,7 +4,7 @@ ghost use Rattle.std.specs.List.{All};
 ghost use Rattle.std.specs.List.Sorted.{IsStrictlySortedBy};
 ghost use Rattle.gs_model.specs.Triples.{triple_cmp};
 ghost use Rattle.gs_event.specs.Solutions.{ListsInstances, term_for as term_for_of};
-ghost use Rattle.gs_graphs.specs.Solving.{bindings_of, found_in, bound_by, marked_by, AreMarked, CopiesMarked, IsPlace, Advances, StepsOn, GoesBack, Chooses, Binds, BindsTriple};
+ghost use Rattle.gs_graphs.specs.Solving.{bindings_of, found_in, bound_by, marked_by, AreMarked, CopiesMarked, IsPlace, AdvancesSearch, StepsOn, GoesBack, Chooses, Binds, BindsTriple};
 
 use crate::graphs::SortedGraph;
 use gs_term::{Part, Pattern, TermText, Triple, VariableName};
@@ -79,7 +79,7 @@ fn advance<'a>(
     requires sorted { IsStrictlySortedBy triple_cmp triples.now }
     requires place { IsPlace triples.now patterns.now place.old }
     requires marks { length marks.old ≡ length triples.now }
-    ensures { IfOk result (Advances triples.now patterns.now place.old place.new marks.old marks.new) }
+    ensures { IfOk result (AdvancesSearch triples.now patterns.now place.old place.new marks.old marks.new) }
 {
     if place.next < triples.len() {
         try_next(place, marks, triples, patterns)?;

@@ -8,8 +8,8 @@ use Rattle.httparse.specs.Grammar.{LineEnd, print_end, print_blank, print_versio
 use Rattle.httparse.proofs.GrammarLemmas.{print_request-append, cons-append}
 use Rattle.httparse.proofs.PieceLemmas.{print_field-append}
 use Rattle.gs_model.proofs.TextLemmas.{AllOther}
-use Rattle.gs_http.specs.Lines.{before, after, lines, Line, ended_lines}
-use Rattle.gs_http.specs.Heads.{field_of, fields_of, last_of, start_of, head_at, cut_head}
+use Rattle.gs_http.specs.Lines.{before_byte, after_byte, lines, Line, ended_lines}
+use Rattle.gs_http.specs.Heads.{field_of, fields_of, last_line_end, request_line_of, head_at, cut_head}
 use Rattle.gs_http.proofs.LineLemmas.{AllOther-append, AllOther-class, before-stop, after-stop, ended_lines-front, is_empty-append}
 
 -- a field line without its end
@@ -79,7 +79,7 @@ fields_of-section (f ∷ fs) last all =
     rw (is_empty-append f.name f.raw 58) (cc (field_of-text f (All-head IsField f fs all), fields_of-section fs last (All-tail IsField f fs all)))
 
 -- the end of the empty line
-last_of-section : (fs : List Field) (last : LineEnd) → last_of (section_lines fs last) ≡ last
+last_of-section : (fs : List Field) (last : LineEnd) → last_line_end (section_lines fs last) ≡ last
 last_of-section [] last = refl
 last_of-section (f ∷ fs) last = rw (is_empty-append f.name f.raw 58) (last_of-section fs last)
 
@@ -104,18 +104,18 @@ start_free c low t u h k =
 
 -- a request line is cut into its parts
 start_is : (h : RequestHead) → IsRequestHead h
-    → start_of (start_text h, h.line_end) (section_lines h.fields h.last) ≡ record h { blank = [] }
+    → request_line_of (start_text h, h.line_end) (section_lines h.fields h.last) ≡ record h { blank = [] }
 start_is h k =
     let v : List ℕ = print_version h.minor in
     let p = token_free 32 token_no_32 h.method k.method in
     let q = AllOther-class is_uri_byte 32 refl h.target k.target.1 in
     let one = after-stop 32 h.method (h.target ++ 32 ∷ v) p in
-    let two = ap (after 32) one ∙ after-stop 32 h.target v q in
+    let two = ap (after_byte 32) one ∙ after-stop 32 h.target v q in
     let number : (48 + h.minor) - 48 ≡ h.minor = omega arith in
     λ i. record {
       blank = [];
       method = before-stop 32 h.method (h.target ++ 32 ∷ v) p i;
-      target = (ap (before 32) one ∙ before-stop 32 h.target v q) i;
+      target = (ap (before_byte 32) one ∙ before-stop 32 h.target v q) i;
       minor = (ap (λ (t : List ℕ). slice_index t 7 - 48) two ∙ number) i;
       line_end = h.line_end;
       fields = fields_of-section h.fields h.last k.fields i;

@@ -7,7 +7,7 @@ use Rattle.std.proofs.lemmas.List.Elements.{All-head, All-tail}
 use Rattle.httparse.specs.Grammar.{LineEnd, crlf, lf, print_end, AllPass}
 use Rattle.gs_model.specs.Texts.{split_first}
 use Rattle.gs_model.proofs.TextLemmas.{AllOther, split_first-other}
-use Rattle.gs_http.specs.Lines.{before, after, put_first, lines, ended_line, ended_lines, is_empty}
+use Rattle.gs_http.specs.Lines.{before_byte, after_byte, put_first, lines, ended_line, ended_lines, has_no_byte}
 
 -- two texts, one after the other
 pub AllOther-append : (c : ℕ) (xs ys : List ℕ) → AllOther c xs → AllOther c ys → AllOther c (xs ++ ys)
@@ -26,11 +26,11 @@ AllOther-class test c off (x ∷ xs) all =
     (differs test c x off (All-head P x xs all), AllOther-class test c off xs (All-tail P x xs all))
 
 -- cut at the first c
-pub before-stop : (c : ℕ) (xs ys : List ℕ) → AllOther c xs → before c (xs ++ c ∷ ys) ≡ xs
+pub before-stop : (c : ℕ) (xs ys : List ℕ) → AllOther c xs → before_byte c (xs ++ c ∷ ys) ≡ xs
 before-stop c xs ys p = ap (λ (q : List ℕ × List ℕ). q.0) (split_first-other c xs ys p)
 
 -- what stands after the first c
-pub after-stop : (c : ℕ) (xs ys : List ℕ) → AllOther c xs → after c (xs ++ c ∷ ys) ≡ ys
+pub after-stop : (c : ℕ) (xs ys : List ℕ) → AllOther c xs → after_byte c (xs ++ c ∷ ys) ≡ ys
 after-stop c xs ys p = ap (λ (q : List ℕ × List ℕ). q.1) (split_first-other c xs ys p)
 
 -- where c is not
@@ -79,6 +79,6 @@ pub ended_lines-front : (xs ys : List ℕ) (e : LineEnd) → AllOther 10 xs → 
 ended_lines-front xs ys e p q = ap ended_lines (lines-ended xs ys e p) ∙ ap (λ l. l ∷ ended_lines (lines ys)) (ended_line-ended xs e q)
 
 -- a text with a byte in it
-pub is_empty-append : (xs ys : List ℕ) (c : ℕ) → is_empty (xs ++ c ∷ ys) ≡ false
+pub is_empty-append : (xs ys : List ℕ) (c : ℕ) → has_no_byte (xs ++ c ∷ ys) ≡ false
 is_empty-append [] ys c = refl
 is_empty-append (x ∷ xs) ys c = refl

@@ -17,10 +17,10 @@ abbrev pub capped : ℕ → ℕ
 capped n = min n last_size
 
 -- by the values of Content-Length (section 6.2)
-abbrev pub sized : List (List ℕ) → Framing
-sized [] = Nothing
-sized (v ∷ []) = if is_number v then Bytes (capped (digits_value 10 v)) else Malformed
-sized (v ∷ w ∷ vs) = Malformed
+abbrev pub sized_framing : List (List ℕ) → Framing
+sized_framing [] = Nothing
+sized_framing (v ∷ []) = if is_number v then Bytes (capped (digits_value 10 v)) else Malformed
+sized_framing (v ∷ w ∷ vs) = Malformed
 
 -- by the values of Transfer-Encoding (section 6.1), of which there is one at least
 abbrev pub coded : List (List ℕ) → Framing
@@ -30,7 +30,7 @@ coded (v ∷ w ∷ vs) = Unknown
 
 -- by both: together they are a fault (section 6.3)
 abbrev pub framed : List (List ℕ) → List (List ℕ) → Framing
-framed [] sizes = sized sizes
+framed [] sizes = sized_framing sizes
 framed (v ∷ vs) [] = coded (v ∷ vs)
 framed (v ∷ vs) (w ∷ ws) = Malformed
 

@@ -6,39 +6,39 @@ use Rattle.httparse.specs.Grammar.{LineEnd, lf, Field, is_token, is_uri_byte, is
 use Rattle.httparse.specs.Spans.{name_and_value}
 use Rattle.gs_model.specs.Characters.{space, colon}
 use Rattle.gs_model.specs.Terms.{digit}
-use Rattle.gs_http.specs.Lines.{before, after, lines, Line, ended_lines, is_empty}
+use Rattle.gs_http.specs.Lines.{before_byte, after_byte, lines, Line, ended_lines, has_no_byte}
 
 -- field-line (section 5): the name stands before the first colon
 abbrev pub field_of : Line → Field
-field_of l = record { name = before colon l.0; raw = after colon l.0; end = l.1 }
+field_of l = record { name = before_byte colon l.0; raw = after_byte colon l.0; end = l.1 }
 
 -- the field lines up to the first empty line
 abbrev pub fields_of : List Line → List Field
 fields_of [] = []
-fields_of (l ∷ ls) = if is_empty l.0 then [] else field_of l ∷ fields_of ls
+fields_of (l ∷ ls) = if has_no_byte l.0 then [] else field_of l ∷ fields_of ls
 
 -- how that empty line ends
-abbrev pub last_of : List Line → LineEnd
-last_of [] = lf
-last_of (l ∷ ls) = if is_empty l.0 then l.1 else last_of ls
+abbrev pub last_line_end : List Line → LineEnd
+last_line_end [] = lf
+last_line_end (l ∷ ls) = if has_no_byte l.0 then l.1 else last_line_end ls
 
 -- request-line (section 3): cut at its first two spaces; the eighth byte of the version is its last digit
-abbrev pub start_of : Line → List Line → RequestHead
-start_of l ls = record {
+abbrev pub request_line_of : Line → List Line → RequestHead
+request_line_of l ls = record {
   blank = [];
-  method = before space l.0;
-  target = before space (after space l.0);
-  minor = slice_index (after space (after space l.0)) 7 - digit 0;
+  method = before_byte space l.0;
+  target = before_byte space (after_byte space l.0);
+  minor = slice_index (after_byte space (after_byte space l.0)) 7 - digit 0;
   line_end = l.1;
   fields = fields_of ls;
-  last = last_of ls;
+  last = last_line_end ls;
 }
 
 -- a head's lines: empty ones may come first (section 2.2)
 abbrev pub head_at : List Line → RequestHead
-head_at [] = start_of ([], lf) []
+head_at [] = request_line_of ([], lf) []
 head_at (l ∷ ls) =
-    if is_empty l.0 then record (head_at ls) { blank = l.1 ∷ (head_at ls).blank } else start_of l ls
+    if has_no_byte l.0 then record (head_at ls) { blank = l.1 ∷ (head_at ls).blank } else request_line_of l ls
 
 -- the only head that a text can be
 unfoldable pub cut_head : List ℕ → RequestHead

@@ -6,12 +6,12 @@ use Rattle.gs_model.specs.Characters.{line_feed, carriage_return}
 use Rattle.gs_model.specs.Texts.{split_first}
 
 -- the bytes before the first c, or all
-abbrev pub before : ℕ → List ℕ → List ℕ
-before c xs = (split_first c xs).0
+abbrev pub before_byte : ℕ → List ℕ → List ℕ
+before_byte c xs = (split_first c xs).0
 
 -- the bytes after the first c, or none
-abbrev pub after : ℕ → List ℕ → List ℕ
-after c xs = (split_first c xs).1
+abbrev pub after_byte : ℕ → List ℕ → List ℕ
+after_byte c xs = (split_first c xs).1
 
 -- a byte more at the front of the first line
 abbrev pub put_first : ℕ → List (List ℕ) → List (List ℕ)
@@ -29,7 +29,7 @@ Line = List ℕ × LineEnd
 
 -- a line without its LF, cut at its first CR
 abbrev pub ended_line : List ℕ → Line
-ended_line l = (before carriage_return l, if list_any (λ c. c == carriage_return) l then crlf else lf)
+ended_line l = (before_byte carriage_return l, if list_any (λ c. c == carriage_return) l then crlf else lf)
 
 -- the lines of a text
 abbrev pub ended_lines : List (List ℕ) → List Line
@@ -37,6 +37,6 @@ ended_lines [] = []
 ended_lines (l ∷ ls) = ended_line l ∷ ended_lines ls
 
 -- no byte at all
-abbrev pub is_empty : List ℕ → Bool
-is_empty [] = true
-is_empty (c ∷ cs) = false
+abbrev pub has_no_byte : List ℕ → Bool
+has_no_byte [] = true
+has_no_byte (c ∷ cs) = false

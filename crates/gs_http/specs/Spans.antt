@@ -14,7 +14,7 @@ parts_at b s = record {
 }
 
 -- each offset lies in the bytes
-pub record AreWithin (b : List ℕ) (s : HeadSpans) : Type 0 where
+pub record AreWithinBytes (b : List ℕ) (s : HeadSpans) : Type 0 where
   pub method : IsWithin (length b) s.method
   pub target : IsWithin (length b) s.target
   pub fields : All (IsHeaderWithin (length b)) s.fields.items

@@ -4,7 +4,7 @@ ghost use Rattle.std.specs.List.{list_all};
 ghost use Rattle.std.specs.Char.{is_ascii_digit};
 ghost use Rattle.std.specs.Str.Parse.{digits_value};
 ghost use Rattle.gs_http.specs.Fields.{kept_under};
-ghost use Rattle.gs_http.specs.Framing.{framing_of, announces, is_number, capped, sized, coded};
+ghost use Rattle.gs_http.specs.Framing.{framing_of, announces, is_number, capped, sized_framing, coded};
 
 use crate::trimming::is_same_word;
 use crate::values::{Only, one_value};
@@ -65,7 +65,7 @@ fn number(value: &[u8]) -> u64
 
 /// How a body is framed where there is no Transfer-Encoding.
 fn by_size(kept: &HeaderMap<&[u8]>) -> Framing
-    ensures { result ≡ sized (kept_under kept.now (codes "content-length")) }
+    ensures { result ≡ sized_framing (kept_under kept.now (codes "content-length")) }
 {
     match one_value(kept, "content-length") {
         Only::Absent => Framing::Nothing,

@@ -1,7 +1,7 @@
 //! Where the parts of a head lie.
 ghost use Rattle.std.specs.Prelude.{◌≡◌, ◌==◌, ◌/◌, length, IfOk, IfSome, option_map};
 ghost use Rattle.gs_http.specs.Heads.{head_of, parts_of};
-ghost use Rattle.gs_http.specs.Spans.{parts_at, AreWithin};
+ghost use Rattle.gs_http.specs.Spans.{parts_at, AreWithinBytes};
 
 use httparse::Status;
 use httparse::spans::{EMPTY_HEADER_SPAN, HeaderSpan, Span, parse_request};
@@ -36,7 +36,7 @@ fn is_whole_head(len: usize, head: &[u8]) -> bool
 pub fn read_spans(alloc: Global, head: &[u8]) -> Result<Option<HeadSpans>, AllocError>
     ensures value { IfOk result
         (λ r. option_map (parts_at head.now) r ≡ option_map parts_of (head_of head.now)) }
-    ensures within { IfOk result (λ r. IfSome r (AreWithin head.now)) }
+    ensures within { IfOk result (λ r. IfSome r (AreWithinBytes head.now)) }
 {
     let mut fields = Vec::from_elem(alloc, EMPTY_HEADER_SPAN, most_fields(head))?;
     match parse_request(head, fields.as_mut_slice()) {

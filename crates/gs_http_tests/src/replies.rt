@@ -1,6 +1,6 @@
 //! Replies one after another, beside their text written by hand.
 use gs_names::Media;
-use gs_reply::{Note, chunk_after, push_last_chunk, push_lines_head, push_reply};
+use gs_reply::{ReplyNote, chunk_after, push_last_chunk, push_lines_head, push_reply};
 use gs_verdict::Allow;
 use std::alloc::{AllocError, Global};
 use std::test::Fail;
@@ -21,8 +21,8 @@ fn line(alloc: Global, room: usize) -> Result<Vec<u8>, AllocError> {
 
 fn written(alloc: Global, room: usize) -> Result<Vec<u8>, AllocError> {
     let mut text = Vec::new(alloc);
-    push_reply(&mut text, 405, Note::Allows(Allow::OfStore), false)?;
-    push_reply(&mut text, 201, Note::Made(b"http://h/g"), false)?;
+    push_reply(&mut text, 405, ReplyNote::Allows(Allow::OfStore), false)?;
+    push_reply(&mut text, 201, ReplyNote::Made(b"http://h/g"), false)?;
     push_lines_head(&mut text, Media::Turtle, true)?;
     text = chunk_after(alloc, text.as_slice(), line(alloc, room)?)?;
     text = chunk_after(alloc, text.as_slice(), Vec::new(alloc))?;

@@ -16,7 +16,7 @@ use Rattle.gs_term.specs.NameOrder.{name_ties}
 use Rattle.gs_pool.specs.declared.nodes.Key.{Key}
 use Rattle.gs_tree.specs.Keys.{AllKeys, IsRising}
 use Rattle.gs_index.specs.declared.entries.Entry.{Entry}
-use Rattle.gs_index.specs.Ages.{Age, blank_entry, age_of, target_text, target_cmp, is_target, age_cmp, number_cmp, key_cmp, key_total, age_among, age_in}
+use Rattle.gs_index.specs.Ages.{Age, blank_entry, age_of, target_text, target_cmp, is_target, age_cmp, aged_number_cmp, aged_key_cmp, aged_key_total, age_among, age_in}
 use Rattle.gs_index.specs.Indexes.{entry_at}
 
 -- targets are in a total order
@@ -53,26 +53,26 @@ tied_numbers m n e = elim (nat_lt m n) as (λ b. cond b Less (cond (nat_eq m n) 
 
 module _ (age : ℕ → Age) where
   -- keys of one place have one number
-  pub tied_keys : (a b : Key) → key_cmp age a b ≡ Equal → a.subject ≡ b.subject
+  pub tied_keys : (a b : Key) → aged_key_cmp age a b ≡ Equal → a.subject ≡ b.subject
   tied_keys a b e = tied_numbers b.subject a.subject (tied_second (age_cmp (age a.subject) (age b.subject)) (nat_cmp b.subject a.subject) e)
 
   -- keys of one number have one place
-  pub same_place : (a b : Key) → a.subject ≡ b.subject → key_cmp age a b ≡ Equal
-  same_place a b e = ap (λ n. number_cmp age n b.subject) e ∙ tied_itself (key_total age) b
+  pub same_place : (a b : Key) → a.subject ≡ b.subject → aged_key_cmp age a b ≡ Equal
+  same_place a b e = ap (λ n. aged_number_cmp age n b.subject) e ∙ tied_itself (aged_key_total age) b
 
 -- an order reads the ages of the keys' numbers alone
 module _ (f g : ℕ → Age) (P : ℕ → Type 0) (same : (n : ℕ) → P n → f n ≡ g n) where
-  cmp_same : (a b : Key) → P a.subject → P b.subject → key_cmp g a b ≡ key_cmp f a b
+  cmp_same : (a b : Key) → P a.subject → P b.subject → aged_key_cmp g a b ≡ aged_key_cmp f a b
   cmp_same a b ha hb =
       ap (λ x. ordering_then (age_cmp x (g b.subject)) (nat_cmp b.subject a.subject)) (sym (same a.subject ha))
       ∙ ap (λ x. ordering_then (age_cmp (f a.subject) x) (nat_cmp b.subject a.subject)) (sym (same b.subject hb))
 
-  above_same : (a : Key) (ks : List Key) → P a.subject → AllKeys (λ k. P k.subject) ks → AllKeys (λ k. key_cmp f a k ≡ Less) ks → AllKeys (λ k. key_cmp g a k ≡ Less) ks
+  above_same : (a : Key) (ks : List Key) → P a.subject → AllKeys (λ k. P k.subject) ks → AllKeys (λ k. aged_key_cmp f a k ≡ Less) ks → AllKeys (λ k. aged_key_cmp g a k ≡ Less) ks
   above_same a [] h hs less = tt
   above_same a (k ∷ ks) h hs less = (cmp_same a k h hs.0 ∙ less.0, above_same a ks h hs.1 less.1)
 
   -- keys that rise by one rise by the other
-  pub rising_same : (ks : List Key) → AllKeys (λ k. P k.subject) ks → IsRising (key_cmp f) ks → IsRising (key_cmp g) ks
+  pub rising_same : (ks : List Key) → AllKeys (λ k. P k.subject) ks → IsRising (aged_key_cmp f) ks → IsRising (aged_key_cmp g) ks
   rising_same [] hs up = tt
   rising_same (k ∷ ks) hs up = (above_same k ks hs.0 hs.1 up.0, rising_same ks hs.1 up.1)
 

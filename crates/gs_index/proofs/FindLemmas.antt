@@ -10,9 +10,9 @@ use Rattle.std.proofs.lemmas.Cmp.{alike_right}
 use Rattle.gs_term.specs.declared.names.Target.{Target}
 use Rattle.gs_pool.specs.declared.nodes.Key.{Key}
 use Rattle.gs_tree.specs.Keys.{AllKeys, IsRising}
-use Rattle.gs_tree.specs.Reading.{is_less, keys_from, first_of}
-use Rattle.gs_index.specs.Ages.{Age, target_cmp, is_target, age_cmp, key_cmp}
-use Rattle.gs_index.specs.Kept.{key_of, number_if}
+use Rattle.gs_tree.specs.Reading.{is_less, keys_from, first_key}
+use Rattle.gs_index.specs.Ages.{Age, target_cmp, is_target, age_cmp, aged_key_cmp}
+use Rattle.gs_index.specs.Kept.{number_key, number_if}
 use Rattle.gs_index.proofs.AgeLemmas.{target_total, target_ties}
 use Rattle.gs_index.proofs.NumberLemmas.{numbers}
 
@@ -43,7 +43,7 @@ greater_is m n Greater e h = lt-leb m n (subst (λ o. MatchOrdering o (m < n) (m
 
 module _ (f : ℕ → Age) (t : Target) (v top : ℕ) (sought : f top ≡ record { target = t; birth = v }) where
   -- how a key compares with what is sought
-  top_cmp : (k : Key) → k.subject < top → key_cmp f (key_of top) k ≡ ordering_then (ordering_then (target_cmp t (f k.subject).target) (nat_cmp (f k.subject).birth v)) Less
+  top_cmp : (k : Key) → k.subject < top → aged_key_cmp f (number_key top) k ≡ ordering_then (ordering_then (target_cmp t (f k.subject).target) (nat_cmp (f k.subject).birth v)) Less
   top_cmp k h =
       ap (λ x. ordering_then (age_cmp x (f k.subject)) (nat_cmp k.subject top)) sought
       ∙ ap (λ o. ordering_then (ordering_then (target_cmp t (f k.subject).target) (nat_cmp (f k.subject).birth v)) o) (less_is k.subject top h)
@@ -73,7 +73,7 @@ module _ (f : ℕ → Age) (t : Target) (v top : ℕ) (sought : f top ≡ record
   later_still a b Equal p e is h = sym (alike_right target_total a.target b.target t is) ∙ e
   later_still a b Greater p e is h = absurd (cc)
 
-  none_later : (a : Key) (ks : List Key) → target_cmp t (f a.subject).target ≡ Less → AllKeys (λ k. key_cmp f a k ≡ Less) ks → find (λ n. is_sought t v (f n)) (numbers ks) ≡ None
+  none_later : (a : Key) (ks : List Key) → target_cmp t (f a.subject).target ≡ Less → AllKeys (λ k. aged_key_cmp f a k ≡ Less) ks → find (λ n. is_sought t v (f n)) (numbers ks) ≡ None
   none_later a [] e h = refl
   none_later a (k ∷ ks) e h =
       let later : target_cmp t (f k.subject).target ≡ Less = later_still (f a.subject) (f k.subject) (target_cmp (f a.subject).target (f k.subject).target) (nat_cmp k.subject a.subject) e refl h.0 in
@@ -81,10 +81,10 @@ module _ (f : ℕ → Age) (t : Target) (v top : ℕ) (sought : f top ≡ record
       rw other (none_later a ks e h.1)
 
   -- the first key past what is sought has the first number that is sought, or another target
-  pub first_sought : (ks : List Key) → AllKeys (λ k. k.subject < top) ks → IsRising (key_cmp f) ks
-      → number_if_of f t (number_if (first_of (keys_from (key_cmp f) (Some (key_of top)) ks))) ≡ find (λ n. is_sought t v (f n)) (numbers ks)
+  pub first_sought : (ks : List Key) → AllKeys (λ k. k.subject < top) ks → IsRising (aged_key_cmp f) ks
+      → number_if_of f t (number_if (first_key (keys_from (aged_key_cmp f) (Some (number_key top)) ks))) ≡ find (λ n. is_sought t v (f n)) (numbers ks)
   first_sought [] low up = refl
-  first_sought (k ∷ ks) low up = by_test (is_less (key_cmp f (key_of top) k)) refl (first_sought ks low.1 up.1)
+  first_sought (k ∷ ks) low up = by_test (is_less (aged_key_cmp f (number_key top) k)) refl (first_sought ks low.1 up.1)
     where
       a : Age
       a = f k.subject
@@ -97,9 +97,9 @@ module _ (f : ℕ → Age) (t : Target) (v top : ℕ) (sought : f top ≡ record
           ∙ sym (none_later k ks e up.0)
           ∙ sym (ap (λ b. cond b (Some k.subject) (find (λ n. is_sought t v (f n)) (numbers ks))) (and_left (is_target t a.target) (nat_le a.birth v) (later_other a e)))
 
-      by_test : (b : Bool) → is_less (key_cmp f (key_of top) k) ≡ b
-          → number_if_of f t (number_if (first_of (keys_from (key_cmp f) (Some (key_of top)) ks))) ≡ find (λ n. is_sought t v (f n)) (numbers ks)
-          → number_if_of f t (number_if (first_of (cond b (k ∷ keys_from (key_cmp f) (Some (key_of top)) ks) (keys_from (key_cmp f) (Some (key_of top)) ks)))) ≡ cond (is_sought t v a) (Some k.subject) (find (λ n. is_sought t v (f n)) (numbers ks))
+      by_test : (b : Bool) → is_less (aged_key_cmp f (number_key top) k) ≡ b
+          → number_if_of f t (number_if (first_key (keys_from (aged_key_cmp f) (Some (number_key top)) ks))) ≡ find (λ n. is_sought t v (f n)) (numbers ks)
+          → number_if_of f t (number_if (first_key (cond b (k ∷ keys_from (aged_key_cmp f) (Some (number_key top)) ks) (keys_from (aged_key_cmp f) (Some (number_key top)) ks)))) ≡ cond (is_sought t v a) (Some k.subject) (find (λ n. is_sought t v (f n)) (numbers ks))
       by_test true e later = by_kind (past_by a (target_cmp t a.target) refl (sym (ap is_less (top_cmp k low.0)) ∙ e))
       by_test false e later =
           let no : is_sought t v a ≡ false = left_by a (target_cmp t a.target) refl (sym (ap is_less (top_cmp k low.0)) ∙ e) in

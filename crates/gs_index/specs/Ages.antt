@@ -47,16 +47,16 @@ abbrev pub age_cmp : Age → Age → Ordering
 age_cmp a b = ordering_then (target_cmp a.target b.target) (nat_cmp b.birth a.birth)
 
 -- numbers are ordered by their ages; of one age the greater number is first
-abbrev pub number_cmp : (ℕ → Age) → ℕ → ℕ → Ordering
-number_cmp age m n = ordering_then (age_cmp (age m) (age n)) (nat_cmp n m)
+abbrev pub aged_number_cmp : (ℕ → Age) → ℕ → ℕ → Ordering
+aged_number_cmp age m n = ordering_then (age_cmp (age m) (age n)) (nat_cmp n m)
 
 -- keys are ordered by their subjects, which are numbers
-abbrev pub key_cmp : (ℕ → Age) → Key → Key → Ordering
-key_cmp age a b = number_cmp age a.subject b.subject
+abbrev pub aged_key_cmp : (ℕ → Age) → Key → Key → Ordering
+aged_key_cmp age a b = aged_number_cmp age a.subject b.subject
 
 -- that is a total order
-pub key_total : (age : ℕ → Age) → IsTotalOrder (key_cmp age)
-key_total age =
+pub aged_key_total : (age : ℕ → Age) → IsTotalOrder (aged_key_cmp age)
+aged_key_total age =
     then_total
     (then_total (on_total (λ (k : Key). target_text (age k.subject).target) nat_list_cmp_total) (on_total (λ (k : Key). (age k.subject).birth) (back_total nat_cmp_total)))
     (on_total (λ (k : Key). k.subject) (back_total nat_cmp_total))

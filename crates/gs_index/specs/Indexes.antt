@@ -6,7 +6,7 @@ use Rattle.std.specs.Ordering.{is_lt}
 use Rattle.gs_model.specs.Limits.{last_node}
 use Rattle.gs_term.specs.declared.names.Target.{Target}
 use Rattle.gs_index.specs.declared.entries.Entry.{Entry}
-use Rattle.gs_index.specs.Ages.{blank_entry, is_target, number_cmp, age_in}
+use Rattle.gs_index.specs.Ages.{blank_entry, is_target, aged_number_cmp, age_in}
 
 -- the entry under each number from 0 on; the numbers that are listed, in order; and how many more can be listed with no allocation
 pub record Indexed : Type 0 where
@@ -19,12 +19,12 @@ abbrev pub entry_at : List Entry → ℕ → Entry
 entry_at entries n = slice_index_or entries n blank_entry
 
 -- the entry, which died at this commit
-abbrev pub ended : Entry → ℕ → Entry
-ended e death = record { target = e.target; version = e.version; birth = e.birth; death = Some death }
+abbrev pub with_death : Entry → ℕ → Entry
+with_death e death = record { target = e.target; version = e.version; birth = e.birth; death = Some death }
 
 -- whether a number comes before another, by their entries
-abbrev pub is_before : List Entry → ℕ → ℕ → Bool
-is_before entries m n = is_lt (number_cmp (age_in entries) m n)
+abbrev pub number_is_before : List Entry → ℕ → ℕ → Bool
+number_is_before entries m n = is_lt (aged_number_cmp (age_in entries) m n)
 
 -- whether a number is in a list
 abbrev pub is_listed : ℕ → List ℕ → Bool
@@ -33,7 +33,7 @@ is_listed n ns = list_any (λ m. m == n) ns
 -- the numbers with this one in its place: before the first that it comes before
 abbrev pub with_number : List Entry → ℕ → List ℕ → List ℕ
 with_number entries n [] = n ∷ []
-with_number entries n (m ∷ ms) = if is_before entries n m then n ∷ m ∷ ms else m ∷ with_number entries n ms
+with_number entries n (m ∷ ms) = if number_is_before entries n m then n ∷ m ∷ ms else m ∷ with_number entries n ms
 
 -- the numbers without this one
 abbrev pub without_number : ℕ → List ℕ → List ℕ
@@ -60,5 +60,5 @@ youngest_by x target version = find (λ n. is_made_by target version (entry_at x
 -- the numbers are those of entries, and strictly rise in the order of these; there are no more entries than numbers of nodes
 pub record IsIndexed (x : Indexed) : Type 0 where
   pub within : AllByRecursion (λ n. n < length x.entries) x.listed
-  pub rising : IsStrictlySortedBy (number_cmp (age_in x.entries)) x.listed
+  pub rising : IsStrictlySortedBy (aged_number_cmp (age_in x.entries)) x.listed
   pub few : length x.entries ≤ last_node + 1

@@ -69,12 +69,12 @@ impl<'a> ByAge<'a> {
 }
 
 impl<'a> KeyOrder for ByAge<'a> {
-    ghost use Rattle.gs_index.specs.Ages.{key_cmp, key_total};
+    ghost use Rattle.gs_index.specs.Ages.{aged_key_cmp, aged_key_total};
     ghost use Rattle.gs_index.specs.Kept.{ages_of};
 
-    ghost compare = { λ order. key_cmp (ages_of order) };
+    ghost compare = { λ order. aged_key_cmp (ages_of order) };
 
-    ghost total = { λ order. key_total (ages_of order) };
+    ghost total = { λ order. aged_key_total (ages_of order) };
 
     fn compare(&self, a: Key, b: Key) -> Ordering {
         let (first, second) = (a.subject, b.subject);

@@ -1,7 +1,7 @@
 //! The index: entries by number, and the set of the listed numbers.
 ghost use Rattle.std.specs.Prelude.{◌≡◌, ◌+◌, ◌<◌, ◌≤◌, [], ◌∷◌, ◌++◌, length, take, slice_set, true, false, IsOk, IfOk, IfErr, IfSome, OnOk, OnErr};
 ghost use Rattle.gs_index.specs.Ages.{blank_entry};
-ghost use Rattle.gs_index.specs.Indexes.{entry_at, ended, is_listed, with_number, without_number, numbers_after, youngest_by, IsIndexed};
+ghost use Rattle.gs_index.specs.Indexes.{entry_at, with_death, is_listed, with_number, without_number, numbers_after, youngest_by, IsIndexed};
 
 use crate::ages::is_same;
 use crate::entries::Entry;
@@ -122,7 +122,7 @@ impl Index {
     pub fn end(&mut self, number: u32, death: u64)
         requires { number < length self.old.entries }
         ensures entries { self.new.entries
-            ≡ slice_set self.old.entries number (ended (entry_at self.old.entries number) death) }
+            ≡ slice_set self.old.entries number (with_death (entry_at self.old.entries number) death) }
         ensures listed { self.new.listed ≡ self.old.listed }
         ensures spare { self.new.spare ≡ self.old.spare }
     {

@@ -2,11 +2,11 @@
 ghost use Rattle.std.specs.Prelude.{◌≡◌, ◌<◌, map, take, IfOk};
 ghost use Rattle.gs_pool.specs.Pool.{room};
 ghost use Rattle.gs_tree.specs.Keys.{HasKey};
-ghost use Rattle.gs_tree.specs.Reading.{IsReadableAt, keys_at, keys_from, first_of};
+ghost use Rattle.gs_tree.specs.Reading.{IsReadableAt, keys_at, keys_from, first_key};
 ghost use Rattle.gs_tree.specs.Sets.{IsSetAt};
-ghost use Rattle.gs_index.specs.Ages.{key_cmp, age_among, age_in};
+ghost use Rattle.gs_index.specs.Ages.{aged_key_cmp, age_among, age_in};
 ghost use Rattle.gs_index.specs.Indexes.{is_listed};
-ghost use Rattle.gs_index.specs.Kept.{key_of as key_with, key_if as key_where, number_of, number_if, numbers_at, keys_past, Gains, Loses};
+ghost use Rattle.gs_index.specs.Kept.{number_key as key_with, key_if as key_where, key_number, number_if, numbers_at, keys_past, GainsNumber, LosesNumber};
 
 use crate::ages::ByAge;
 use crate::entries::Entry;
@@ -39,9 +39,9 @@ pub fn key_if(number: Option<u32>) -> Option<Key>
 /// Puts a number into the set of some entries' numbers. Takes no memory: no version has the set, so its
 /// nodes are written in place, and there is room for one more.
 pub fn put(pool: &mut Pool, entries: &[Entry], root: Option<u32>, number: u32) -> Option<u32>
-    requires set { IsSetAt (key_cmp (age_in entries.now)) pool.old root }
+    requires set { IsSetAt (aged_key_cmp (age_in entries.now)) pool.old root }
     requires room { 0 < room pool.old }
-    ensures { Gains (age_in entries.now) pool.old pool.new root result number }
+    ensures { GainsNumber (age_in entries.now) pool.old pool.new root result number }
 {
     let order = ByAge::new(entries, &Target::Default, 0);
     match union(pool, &order, root, &[key_of(number)], 0, 0) {
@@ -52,9 +52,9 @@ pub fn put(pool: &mut Pool, entries: &[Entry], root: Option<u32>, number: u32) -
 
 /// Takes a number out of the set of some entries' numbers, which has it. Takes no memory, and no room.
 pub fn take(pool: &mut Pool, entries: &[Entry], root: Option<u32>, number: u32) -> Option<u32>
-    requires set { IsSetAt (key_cmp (age_in entries.now)) pool.old root }
-    requires has { HasKey (key_cmp (age_in entries.now)) (key_with number) (keys_at pool.old root) }
-    ensures { Loses (age_in entries.now) pool.old pool.new root result number }
+    requires set { IsSetAt (aged_key_cmp (age_in entries.now)) pool.old root }
+    requires has { HasKey (aged_key_cmp (age_in entries.now)) (key_with number) (keys_at pool.old root) }
+    ensures { LosesNumber (age_in entries.now) pool.old pool.new root result number }
 {
     let order = ByAge::new(entries, &Target::Default, 0);
     match remove(pool, &order, root, key_of(number), 0, 0) {
@@ -65,7 +65,7 @@ pub fn take(pool: &mut Pool, entries: &[Entry], root: Option<u32>, number: u32) 
 
 /// Whether the set of some entries' numbers has a number.
 pub fn has(pool: &Pool, entries: &[Entry], root: Option<u32>, number: u32) -> bool
-    requires { IsReadableAt (key_cmp (age_in entries.now)) pool.now root }
+    requires { IsReadableAt (aged_key_cmp (age_in entries.now)) pool.now root }
     ensures { result ≡ is_listed number (numbers_at pool.now root) }
 {
     let order = ByAge::new(entries, &Target::Default, 0);
@@ -80,9 +80,9 @@ pub fn seek(
     target: &Target,
     birth: u64,
 ) -> Option<u32>
-    requires { IsReadableAt (key_cmp (age_among entries.now target.now birth)) pool.now root }
+    requires { IsReadableAt (aged_key_cmp (age_among entries.now target.now birth)) pool.now root }
     ensures { result ≡ number_if
-        (first_of (keys_past (age_among entries.now target.now birth) (keys_at pool.now root))) }
+        (first_key (keys_past (age_among entries.now target.now birth) (keys_at pool.now root))) }
 {
     let order = ByAge::new(entries, target, birth);
     // No entry has this number, so it stands for what is sought, before all of its age.
@@ -99,9 +99,9 @@ pub fn keys_after(
     from: Option<u32>,
     most: usize,
 ) -> Result<Vec<Key>, AllocError>
-    requires { IsReadableAt (key_cmp (age_in entries.now)) pool.now root }
+    requires { IsReadableAt (aged_key_cmp (age_in entries.now)) pool.now root }
     ensures { IfOk result (λ keys. keys.items ≡ take most
-        (keys_from (key_cmp (age_in entries.now)) (key_where from) (keys_at pool.now root))) }
+        (keys_from (aged_key_cmp (age_in entries.now)) (key_where from) (keys_at pool.now root))) }
 {
     let order = ByAge::new(entries, &Target::Default, 0);
     let mut keys = Vec::new(alloc);
@@ -111,7 +111,7 @@ pub fn keys_after(
 
 /// The numbers of some keys, in one reserved list.
 pub fn numbers_of(alloc: Global, keys: &[Key]) -> Result<Vec<u32>, AllocError>
-    ensures { IfOk result (λ numbers. numbers.items ≡ map number_of keys.now) }
+    ensures { IfOk result (λ numbers. numbers.items ≡ map key_number keys.now) }
 {
     let mut numbers = Vec::with_capacity(alloc, keys.len())?;
     for key in keys {

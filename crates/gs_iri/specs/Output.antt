@@ -37,8 +37,8 @@ abbrev pub DropsLast : {Z : Type 0} → ℕ → String Z → String Z → Type 0
 DropsLast start old new = drop start (string_bytes new) ≡ without_last (drop start (string_bytes old))
 
 -- from `start` on, a segment is put after what is put, and whether any is put now
-abbrev pub Puts : {Z : Type 0} → ℕ → Bool → List ℕ → String Z → String Z → Bool → Type 0
-Puts start begun segment old new b = (b, drop start (string_bytes new)) ≡ put (begun, drop start (string_bytes old)) segment
+abbrev pub PutsSegment : {Z : Type 0} → ℕ → Bool → List ℕ → String Z → String Z → Bool → Type 0
+PutsSegment start begun segment old new b = (b, drop start (string_bytes new)) ≡ put (begun, drop start (string_bytes old)) segment
 
 -- the same of each segment of a path
 abbrev pub PutsAll : {Z : Type 0} → ℕ → Bool → List ℕ → String Z → String Z → Bool → Type 0

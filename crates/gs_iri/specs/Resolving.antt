@@ -67,11 +67,11 @@ abbrev pub is_resolvable : List ℕ → List ℕ → Bool
 is_resolvable base reference = is_absolute base && list_all is_iri_char reference
 
 -- which answers a base and a reference may get
-abbrev pub Reports : List ℕ → List ℕ → Result (Unit {0}) Refusal → Type 0
-Reports base reference (Ok _) = is_resolvable base reference ≡ true
-Reports base reference (Err NoMemory) = is_resolvable base reference ≡ true
-Reports base reference (Err (Syntax at)) = (is_resolvable base reference ≡ false) × (at ≡ 0)
-Reports base reference (Err _) = ⊥
+abbrev pub ReportsReference : List ℕ → List ℕ → Result (Unit {0}) Refusal → Type 0
+ReportsReference base reference (Ok _) = is_resolvable base reference ≡ true
+ReportsReference base reference (Err NoMemory) = is_resolvable base reference ≡ true
+ReportsReference base reference (Err (Syntax at)) = (is_resolvable base reference ≡ false) × (at ≡ 0)
+ReportsReference base reference (Err _) = ⊥
 
 -- a reference of IRI characters means an absolute IRI, if the base is absolute
 abbrev pub StaysAbsolute : List ℕ → List ℕ → Type 0

@@ -3,7 +3,7 @@ ghost use Rattle.std.specs.Prelude.{◌≡◌, ◌≤◌, OnOk, IfOk, MatchOptio
 ghost use Rattle.std.specs.String.{string_bytes};
 ghost use Rattle.std.specs.Str.{IsUtf8};
 ghost use Rattle.gs_iri.specs.Dots.{is_dot as is_dot_of, is_dot_dot as is_dot_dot_of, is_dots as is_dots_of, segments_of, last_of};
-ghost use Rattle.gs_iri.specs.Output.{has_slash, IsLastSlash, DropsLast, KeepsFront, Puts, PutsAll, PutsPath};
+ghost use Rattle.gs_iri.specs.Output.{has_slash, IsLastSlash, DropsLast, KeepsFront, PutsSegment, PutsAll, PutsPath};
 ghost use Rattle.gs_iri.specs.Appending.{AppendsDots, KeepsAll};
 
 use crate::references::{after, cut};
@@ -73,7 +73,7 @@ fn put_segment(
     requires spelled { IsUtf8 (take start (string_bytes resolved.old)) }
     ensures within { start ≤ length (string_bytes resolved.new) }
     ensures front { KeepsFront start resolved.old resolved.new }
-    ensures output { IfOk result (λ b. Puts start begun segment.now resolved.old resolved.new b) }
+    ensures output { IfOk result (λ b. PutsSegment start begun segment.now resolved.old resolved.new b) }
 {
     if !begun {
         if is_dots(segment) {

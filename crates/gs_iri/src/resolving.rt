@@ -3,7 +3,7 @@ ghost use Rattle.std.specs.Prelude.{◌≡◌, true, OnOk, OnErr};
 ghost use Rattle.std.specs.Option.{option_copied};
 ghost use Rattle.std.specs.String.{string_bytes};
 ghost use Rattle.gs_model.specs.Iris.{is_absolute as is_absolute_text};
-ghost use Rattle.gs_iri.specs.Resolving.{scheme_text, front_text, directory_of, through_last, resolved as resolved_text, Reports};
+ghost use Rattle.gs_iri.specs.Resolving.{scheme_text, front_text, directory_of, through_last, resolved as resolved_text, ReportsReference};
 ghost use Rattle.gs_iri.specs.Appending.{Appends, AppendsHead, AppendsPart, AppendsRemoved, AppendsTail, KeepsAll, text_with};
 
 use crate::absolute::{are_iri_bytes, is_absolute};
@@ -161,7 +161,7 @@ fn append_resolved(base: &str, reference: &str, resolved: &mut String) -> Result
 pub fn resolve_under(base: &str, reference: &str, resolved: &mut String) -> Result<(), Refusal>
     requires { is_absolute_text base.now ≡ true }
     ensures value { OnOk result (Appends resolved.old resolved.new (resolved_text base.now reference.now)) }
-    ensures refused { Reports base.now reference.now result }
+    ensures refused { ReportsReference base.now reference.now result }
     ensures kept { OnErr result (string_bytes resolved.new ≡ string_bytes resolved.old) }
 {
     if !are_iri_bytes(reference.as_bytes()) {
@@ -184,7 +184,7 @@ pub fn resolve_under(base: &str, reference: &str, resolved: &mut String) -> Resu
 /// string's own growth.
 pub fn resolve(base: &str, reference: &str, resolved: &mut String) -> Result<(), Refusal>
     ensures value { OnOk result (Appends resolved.old resolved.new (resolved_text base.now reference.now)) }
-    ensures refused { Reports base.now reference.now result }
+    ensures refused { ReportsReference base.now reference.now result }
     ensures kept { OnErr result (string_bytes resolved.new ≡ string_bytes resolved.old) }
 {
     if !is_absolute(base) {

@@ -14,11 +14,11 @@ use Rattle.gs_joins.specs.declared.sought.Sought.{Sought}
 use Rattle.gs_joins.specs.declared.lots.Lot.{Lot}
 use Rattle.gs_joins.specs.declared.questions.Places.{Places}
 use Rattle.gs_joins.specs.declared.questions.Question.{Question}
-use Rattle.gs_joins.specs.Numbers.{Numbers, number_for}
+use Rattle.gs_joins.specs.Numbers.{BoundNumbers, number_for}
 use Rattle.gs_joins.specs.Values.{Values, HasAt}
 use Rattle.gs_joins.specs.Choices.{has_choice}
-use Rattle.gs_joins.specs.Links.{is_variable, has_variable, has_at, one_has}
-use Rattle.gs_joins.specs.Answers.{place_of, places_of, places_in, question_of, places_cmp, question_cmp, IsAnswer}
+use Rattle.gs_joins.specs.Links.{is_this_variable, has_variable, has_variable_at, one_has}
+use Rattle.gs_joins.specs.Answers.{number_bound, places_of, places_in, question_of, places_cmp, question_cmp, IsAnswer}
 use Rattle.gs_joins.proofs.ListLemmas.{all_by}
 use Rattle.std.proofs.lemmas.List.Elements.{All-contains}
 use Rattle.gs_joins.proofs.LinkLemmas.{has_at_is}
@@ -27,12 +27,12 @@ use Rattle.gs_joins.proofs.ChoiceLemmas.{choice_sound, choice_complete}
 use Rattle.gs_joins.proofs.GroupLemmas.{mixed, has_in}
 
 -- the bindings have the same numbers for the variables of the patterns of these lists
-abbrev pub Agree : List Lot → List ℕ → Numbers → Numbers → Type 0
+abbrev pub Agree : List Lot → List ℕ → BoundNumbers → BoundNumbers → Type 0
 Agree ls is b c = (x : List ℕ) → one_has ls is x ≡ true → number_for b x ≡ number_for c x
 
 module _ (ls : List Lot) (is : List ℕ) where
   -- values for the one are changed to values for the other, at variables that the patterns do not have
-  holds_other : (b c : Numbers) (v : Values) → Agree ls is b c → Holds v b → Holds (mixed (one_has ls is) v (values_of c)) c
+  holds_other : (b c : BoundNumbers) (v : Values) → Agree ls is b c → Holds v b → Holds (mixed (one_has ls is) v (values_of c)) c
   holds_other b c v agree h x n e = by_test (one_has ls is x) refl
     where
       by_test : (r : Bool) → one_has ls is x ≡ r → mixed (one_has ls is) v (values_of c) x ≡ n
@@ -40,14 +40,14 @@ module _ (ls : List Lot) (is : List ℕ) where
       by_test false t = ap (λ r. cond r (v x) (values_of c x)) t ∙ holds_own c x n e
 
   -- where they go together under the one, they do under the other
-  choice_over : (b c : Numbers) → Agree ls is b c → has_choice ls is b ≡ true → has_choice ls is c ≡ true
+  choice_over : (b c : BoundNumbers) → Agree ls is b c → has_choice ls is b ≡ true → has_choice ls is c ≡ true
   choice_over b c agree e =
       let (v, h, s) = choice_sound ls is b e in
       choice_complete ls (mixed (one_has ls is) v (values_of c)) is c (holds_other b c v agree h)
       (all_by (HasAt (mixed (one_has ls is) v (values_of c)) ls) is (λ i there. has_in ls is v (values_of c) i there (All-contains (HasAt v ls) is i s there)))
 
   -- so the answer is the same
-  pub choice_same : (b c : Numbers) → Agree ls is b c → has_choice ls is b ≡ has_choice ls is c
+  pub choice_same : (b c : BoundNumbers) → Agree ls is b c → has_choice ls is b ≡ has_choice ls is c
   choice_same b c agree = by_tests (has_choice ls is b) refl (has_choice ls is c) refl
     where
       by_tests : (x : Bool) → has_choice ls is b ≡ x → (y : Bool) → has_choice ls is c ≡ y → has_choice ls is b ≡ has_choice ls is c
@@ -57,7 +57,7 @@ module _ (ls : List Lot) (is : List ℕ) where
       by_tests false e false f = e ∙ sym f
 
 -- what is known at an item is what is known for its variable
-item_agrees : (b c : Numbers) (i : Item) (x : List ℕ) → place_of b i ≡ place_of c i → is_variable i x ≡ true → number_for b x ≡ number_for c x
+item_agrees : (b c : BoundNumbers) (i : Item) (x : List ℕ) → number_bound b i ≡ number_bound c i → is_this_variable i x ≡ true → number_for b x ≡ number_for c x
 item_agrees b c (Number n) x e t = absurd (cc)
 item_agrees b c (Variable y) x e t =
     let same : y.now ≡ x = (bytes_eq-Decides y.now x).0 t in
@@ -70,15 +70,15 @@ one_of false true r P e f g h = g refl
 one_of false false r P e f g h = h e
 
 -- the same for the variables of a pattern
-sought_agrees : (b c : Numbers) (s : Sought) (x : List ℕ) → places_of b s ≡ places_of c s → has_variable s x ≡ true → number_for b x ≡ number_for c x
+sought_agrees : (b c : BoundNumbers) (s : Sought) (x : List ℕ) → places_of b s ≡ places_of c s → has_variable s x ≡ true → number_for b x ≡ number_for c x
 sought_agrees b c s x e t =
-    one_of (is_variable s.subject x) (is_variable s.predicate x) (is_variable s.object x) (number_for b x ≡ number_for c x) t
+    one_of (is_this_variable s.subject x) (is_this_variable s.predicate x) (is_this_variable s.object x) (number_for b x ≡ number_for c x) t
     (item_agrees b c s.subject x (ap (λ (p : Places). p.subject) e))
     (item_agrees b c s.predicate x (ap (λ (p : Places). p.predicate) e))
     (item_agrees b c s.object x (ap (λ (p : Places). p.object) e))
 
 -- and of a list
-list_agrees : (ls : List Lot) (b c : Numbers) (i : ℕ) (x : List ℕ) → places_in b (slice_get ls i) ≡ places_in c (slice_get ls i) → has_at ls x i ≡ true → number_for b x ≡ number_for c x
+list_agrees : (ls : List Lot) (b c : BoundNumbers) (i : ℕ) (x : List ℕ) → places_in b (slice_get ls i) ≡ places_in c (slice_get ls i) → has_variable_at ls x i ≡ true → number_for b x ≡ number_for c x
 list_agrees ls b c i x e t = by_list (slice_get ls i) refl e
   where
     by_list : (o : Option Lot) → slice_get ls i ≡ o → places_in b o ≡ places_in c o → number_for b x ≡ number_for c x
@@ -86,19 +86,19 @@ list_agrees ls b c i x e t = by_list (slice_get ls i) refl e
     by_list (Some l) at f = sought_agrees b c l.sought x f (sym (has_at_is ls i l x at) ∙ t)
 
 -- the bindings under which a question is the same agree
-pub questions_agree : (ls : List Lot) (b c : Numbers) (i j : ℕ) → question_of ls b i j ≡ question_of ls c i j → Agree ls (i ∷ j ∷ []) b c
-questions_agree ls b c i j e x t = by_test (has_at ls x i) refl t
+pub questions_agree : (ls : List Lot) (b c : BoundNumbers) (i j : ℕ) → question_of ls b i j ≡ question_of ls c i j → Agree ls (i ∷ j ∷ []) b c
+questions_agree ls b c i j e x t = by_test (has_variable_at ls x i) refl t
   where
-    by_test : (r : Bool) → has_at ls x i ≡ r → (r || (has_at ls x j || false)) ≡ true → number_for b x ≡ number_for c x
+    by_test : (r : Bool) → has_variable_at ls x i ≡ r → (r || (has_variable_at ls x j || false)) ≡ true → number_for b x ≡ number_for c x
     by_test true f t = list_agrees ls b c i x (ap (λ (q : Question). q.of_first) e) f
-    by_test false f t = by_second (has_at ls x j) refl t
+    by_test false f t = by_second (has_variable_at ls x j) refl t
       where
-        by_second : (r : Bool) → has_at ls x j ≡ r → (r || false) ≡ true → number_for b x ≡ number_for c x
+        by_second : (r : Bool) → has_variable_at ls x j ≡ r → (r || false) ≡ true → number_for b x ≡ number_for c x
         by_second true g t = list_agrees ls b c j x (ap (λ (q : Question). q.of_second) e) g
         by_second false g t = absurd (cc)
 
 -- what was found is the answer to the question
-pub answer_is : (ls : List Lot) (b : Numbers) (i j : ℕ) (q : Question) (found : Bool) → q ≡ question_of ls b i j → found ≡ has_choice ls (i ∷ j ∷ []) b → IsAnswer ls q found
+pub answer_is : (ls : List Lot) (b : BoundNumbers) (i j : ℕ) (q : Question) (found : Bool) → q ≡ question_of ls b i j → found ≡ has_choice ls (i ∷ j ∷ []) b → IsAnswer ls q found
 answer_is ls b i j q found is e =
     subst (λ z. IsAnswer ls z found) (sym is) (λ c same. e ∙ choice_same ls (i ∷ j ∷ []) b c (questions_agree ls b c i j (sym same)))
 

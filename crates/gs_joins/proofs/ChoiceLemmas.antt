@@ -7,7 +7,7 @@ use Rattle.std.proofs.lemmas.List.Sorted.{All-permutation, IsPermutation-sym}
 use Rattle.gs_pool.specs.declared.nodes.Key.{Key}
 use Rattle.gs_joins.specs.declared.sought.Sought.{Sought}
 use Rattle.gs_joins.specs.declared.lots.Lot.{Lot}
-use Rattle.gs_joins.specs.Numbers.{Numbers, bind_key}
+use Rattle.gs_joins.specs.Numbers.{BoundNumbers, bind_key}
 use Rattle.gs_joins.specs.Values.{Values, key_of, HasAt, SolvesAt}
 use Rattle.gs_joins.specs.Choices.{goes_if, goes_on_in, goes_at, has_choice}
 use Rattle.gs_joins.proofs.ListLemmas.{any_has, any_some}
@@ -15,12 +15,12 @@ use Rattle.gs_joins.proofs.ValueLemmas.{Holds, values_of, holds_own, key_complet
 
 module _ (ls : List Lot) where
   -- where the lists have keys that go together, there are such values
-  pub choice_sound : (is : List ℕ) (b : Numbers) → has_choice ls is b ≡ true → (v : Values) × Holds v b × SolvesAt v ls is
+  pub choice_sound : (is : List ℕ) (b : BoundNumbers) → has_choice ls is b ≡ true → (v : Values) × Holds v b × SolvesAt v ls is
   choice_sound [] b e = (values_of b, holds_own b, All-nil (HasAt (values_of b) ls))
   choice_sound (i ∷ is) b e = by_list (slice_get ls i) refl e (choice_sound is)
     where
       by_list : (o : Option Lot) → slice_get ls i ≡ o → goes_on_in o (has_choice ls is) b ≡ true
-          → ((c : Numbers) → has_choice ls is c ≡ true → (v : Values) × Holds v c × SolvesAt v ls is)
+          → ((c : BoundNumbers) → has_choice ls is c ≡ true → (v : Values) × Holds v c × SolvesAt v ls is)
           → (v : Values) × Holds v b × SolvesAt v ls (i ∷ is)
       by_list None at e again =
           let (v, h, s) = again b e in
@@ -29,7 +29,7 @@ module _ (ls : List Lot) where
           let (k, there, passes) = any_some (goes_at ls is b l.sought) l.keys.items e in
           by_bound k there (bind_key b l.sought k) refl passes
         where
-          by_bound : (k : Key) → Contains l.keys.items k → (o : Option Numbers) → bind_key b l.sought k ≡ o → goes_if (has_choice ls is) o ≡ true → (v : Values) × Holds v b × SolvesAt v ls (i ∷ is)
+          by_bound : (k : Key) → Contains l.keys.items k → (o : Option BoundNumbers) → bind_key b l.sought k ≡ o → goes_if (has_choice ls is) o ≡ true → (v : Values) × Holds v b × SolvesAt v ls (i ∷ is)
           by_bound k there None f passes = absurd (cc)
           by_bound k there (Some c) f passes =
               let (v, h, s) = again c passes in
@@ -37,18 +37,18 @@ module _ (ls : List Lot) where
               (v, both.0, All-cons (HasAt v ls) i is (rw at (subst (Contains l.keys.items) (sym both.1) there)) s)
 
   -- and the other way round
-  pub choice_complete : (v : Values) (is : List ℕ) (b : Numbers) → Holds v b → SolvesAt v ls is → has_choice ls is b ≡ true
+  pub choice_complete : (v : Values) (is : List ℕ) (b : BoundNumbers) → Holds v b → SolvesAt v ls is → has_choice ls is b ≡ true
   choice_complete v [] b h s = refl
   choice_complete v (i ∷ is) b h s = by_list (slice_get ls i) refl (choice_complete v is) (All-head (HasAt v ls) i is s) (All-tail (HasAt v ls) i is s)
     where
-      by_list : (o : Option Lot) → slice_get ls i ≡ o → ((c : Numbers) → Holds v c → SolvesAt v ls is → has_choice ls is c ≡ true) → HasAt v ls i → SolvesAt v ls is → goes_on_in o (has_choice ls is) b ≡ true
+      by_list : (o : Option Lot) → slice_get ls i ≡ o → ((c : BoundNumbers) → Holds v c → SolvesAt v ls is → has_choice ls is c ≡ true) → HasAt v ls i → SolvesAt v ls is → goes_on_in o (has_choice ls is) b ≡ true
       by_list None at again has rest = again b h rest
       by_list (Some l) at again has rest =
           let (c, e, hc) = key_complete v b l.sought h in
           any_has (goes_at ls is b l.sought) l.keys.items (key_of v l.sought) (rw at at has) (ap (goes_if (has_choice ls is)) e ∙ again c hc rest)
 
   -- in another order they have keys that go together where they had
-  pub choice_permuted : (is js : List ℕ) (b : Numbers) → IsPermutation is js → has_choice ls is b ≡ has_choice ls js b
+  pub choice_permuted : (is js : List ℕ) (b : BoundNumbers) → IsPermutation is js → has_choice ls is b ≡ has_choice ls js b
   choice_permuted is js b same = by_tests (has_choice ls is b) refl (has_choice ls js b) refl
     where
       over : (us vs : List ℕ) → IsPermutation us vs → has_choice ls us b ≡ true → has_choice ls vs b ≡ true

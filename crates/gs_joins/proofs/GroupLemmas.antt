@@ -15,7 +15,7 @@ use Rattle.gs_joins.specs.declared.sought.Sought.{Sought}
 use Rattle.gs_joins.specs.declared.lots.Lot.{Lot}
 use Rattle.gs_joins.specs.Values.{Values, value_of, key_of, Has, HasAt, Solves, SolvesAt, HasSolution}
 use Rattle.gs_joins.specs.Choices.{AreAll, has_choice}
-use Rattle.gs_joins.specs.Links.{is_variable, has_variable, has_at, one_has, IsApart}
+use Rattle.gs_joins.specs.Links.{is_this_variable, has_variable, has_variable_at, one_has, IsApart}
 use Rattle.gs_joins.proofs.ListLemmas.{get_or_any, all_by, any_has}
 use Rattle.gs_joins.proofs.ValueLemmas.{holds_none, values_of, same_key}
 use Rattle.gs_joins.proofs.ChoiceLemmas.{choice_sound, choice_complete}
@@ -44,28 +44,28 @@ third_of false false c e = e
 
 module _ (h : List ℕ → Bool) (v w : Values) where
   -- an item whose variable passes
-  item_in : (i : Item) → ((x : List ℕ) → is_variable i x ≡ true → h x ≡ true) → value_of (mixed h v w) i ≡ value_of v i
+  item_in : (i : Item) → ((x : List ℕ) → is_this_variable i x ≡ true → h x ≡ true) → value_of (mixed h v w) i ≡ value_of v i
   item_in (Number n) all = refl
   item_in (Variable x) all = ap (λ b. cond b (v x.now) (w x.now)) (all x.now ((bytes_eq-Decides x.now x.now).1 refl))
 
   -- and one whose variable does not
-  item_out : (i : Item) → ((x : List ℕ) → is_variable i x ≡ true → h x ≡ false) → value_of (mixed h v w) i ≡ value_of w i
+  item_out : (i : Item) → ((x : List ℕ) → is_this_variable i x ≡ true → h x ≡ false) → value_of (mixed h v w) i ≡ value_of w i
   item_out (Number n) all = refl
   item_out (Variable x) all = ap (λ b. cond b (v x.now) (w x.now)) (all x.now ((bytes_eq-Decides x.now x.now).1 refl))
 
   -- the same of a pattern
   pub key_in : (s : Sought) → ((x : List ℕ) → has_variable s x ≡ true → h x ≡ true) → key_of (mixed h v w) s ≡ key_of v s
   key_in s all = same_key (key_of (mixed h v w) s) (key_of v s)
-      (item_in s.subject (λ x e. all x (first_of (is_variable s.subject x) (is_variable s.predicate x) (is_variable s.object x) e)))
-      (item_in s.predicate (λ x e. all x (second_of (is_variable s.subject x) (is_variable s.predicate x) (is_variable s.object x) e)))
-      (item_in s.object (λ x e. all x (third_of (is_variable s.subject x) (is_variable s.predicate x) (is_variable s.object x) e)))
+      (item_in s.subject (λ x e. all x (first_of (is_this_variable s.subject x) (is_this_variable s.predicate x) (is_this_variable s.object x) e)))
+      (item_in s.predicate (λ x e. all x (second_of (is_this_variable s.subject x) (is_this_variable s.predicate x) (is_this_variable s.object x) e)))
+      (item_in s.object (λ x e. all x (third_of (is_this_variable s.subject x) (is_this_variable s.predicate x) (is_this_variable s.object x) e)))
 
   -- and where none of its variables passes
   pub key_out : (s : Sought) → ((x : List ℕ) → has_variable s x ≡ true → h x ≡ false) → key_of (mixed h v w) s ≡ key_of w s
   key_out s all = same_key (key_of (mixed h v w) s) (key_of w s)
-      (item_out s.subject (λ x e. all x (first_of (is_variable s.subject x) (is_variable s.predicate x) (is_variable s.object x) e)))
-      (item_out s.predicate (λ x e. all x (second_of (is_variable s.subject x) (is_variable s.predicate x) (is_variable s.object x) e)))
-      (item_out s.object (λ x e. all x (third_of (is_variable s.subject x) (is_variable s.predicate x) (is_variable s.object x) e)))
+      (item_out s.subject (λ x e. all x (first_of (is_this_variable s.subject x) (is_this_variable s.predicate x) (is_this_variable s.object x) e)))
+      (item_out s.predicate (λ x e. all x (second_of (is_this_variable s.subject x) (is_this_variable s.predicate x) (is_this_variable s.object x) e)))
+      (item_out s.object (λ x e. all x (third_of (is_this_variable s.subject x) (is_this_variable s.predicate x) (is_this_variable s.object x) e)))
 
 module _ (ls : List Lot) where
   -- a list of one of these numbers
@@ -76,7 +76,7 @@ module _ (ls : List Lot) where
       by_list None at has = subst (λ o. MatchOption o (Unit {0}) (Has (mixed (one_has ls front) v w))) (sym at) tt
       by_list (Some l) at has =
           subst (λ o. MatchOption o (Unit {0}) (Has (mixed (one_has ls front) v w))) (sym at)
-          (subst (Contains l.keys.items) (sym (key_in (one_has ls front) v w l.sought (λ x e. any_has (has_at ls x) front i there (has_at_is ls i l x at ∙ e)))) has)
+          (subst (Contains l.keys.items) (sym (key_in (one_has ls front) v w l.sought (λ x e. any_has (has_variable_at ls x) front i there (has_at_is ls i l x at ∙ e)))) has)
 
   -- a variable of the others is none of theirs
   not_in : (front rest : List ℕ) → IsApart (one_has ls front) (one_has ls rest) → (x : List ℕ) → one_has ls rest x ≡ true → one_has ls front x ≡ false
@@ -94,7 +94,7 @@ module _ (ls : List Lot) where
       by_list None at has = subst (λ o. MatchOption o (Unit {0}) (Has (mixed (one_has ls front) v w))) (sym at) tt
       by_list (Some l) at has =
           subst (λ o. MatchOption o (Unit {0}) (Has (mixed (one_has ls front) v w))) (sym at)
-          (subst (Contains l.keys.items) (sym (key_out (one_has ls front) v w l.sought (λ x e. not_in front rest apart x (any_has (has_at ls x) rest i there (has_at_is ls i l x at ∙ e))))) has)
+          (subst (Contains l.keys.items) (sym (key_out (one_has ls front) v w l.sought (λ x e. not_in front rest apart x (any_has (has_variable_at ls x) rest i there (has_at_is ls i l x at ∙ e))))) has)
 
   -- values for both
   pub solves_both : (front rest : List ℕ) (v w : Values) → IsApart (one_has ls front) (one_has ls rest) → SolvesAt v ls front → SolvesAt w ls rest → SolvesAt (mixed (one_has ls front) v w) ls (front ++ rest)

@@ -6,10 +6,10 @@ use Rattle.std.proofs.lemmas.List.{take_all, take-append-drop}
 use Rattle.std.proofs.lemmas.List.Elements.{All-cons}
 use Rattle.gs_pool.specs.declared.nodes.Key.{Key}
 use Rattle.gs_joins.specs.declared.lots.Lot.{Lot}
-use Rattle.gs_joins.specs.Numbers.{Numbers, bind_key}
-use Rattle.gs_joins.specs.Values.{Values, key_of, Has, HasAt, Solves, SolvesAt, HasSolution, KeepsAll, KeepsAt}
+use Rattle.gs_joins.specs.Numbers.{BoundNumbers, bind_key}
+use Rattle.gs_joins.specs.Values.{Values, key_of, Has, HasAt, Solves, SolvesAt, HasSolution, KeepsAllKeys, KeepsAt}
 use Rattle.gs_joins.specs.Choices.{AreAll, goes_if, goes_at, has_choice, KeepsThose}
-use Rattle.gs_joins.specs.Links.{has_at, one_has, Gathers}
+use Rattle.gs_joins.specs.Links.{has_variable_at, one_has, Gathers}
 use Rattle.gs_joins.proofs.ListLemmas.{contains_none, contains_head, any_has, filter_has, filter_some}
 use Rattle.gs_joins.proofs.ValueLemmas.{holds_none, key_complete, key_sound}
 use Rattle.gs_joins.proofs.ChoiceLemmas.{choice_sound, choice_complete}
@@ -35,7 +35,7 @@ module _ (ls : List Lot) (at : ℕ) (l : Lot) (own : slice_get ls at ≡ Some l)
   group_is = front_is new at many (gathers.first ∙ first) gathers.some
 
   -- where the others do not stand, nothing is kept
-  pub keeps_no : (rest : List ℕ) → Decides false (HasSolution ls rest) → KeepsAll ls l.sought []
+  pub keeps_no : (rest : List ℕ) → Decides false (HasSolution ls rest) → KeepsAllKeys ls l.sought []
   keeps_no rest decides = record {
     sound = λ k there. absurd (contains_none k there);
     complete = λ v s. let bad : false ≡ true = decides.1 (v, solves_some ls v rest s) in absurd (cc);
@@ -43,10 +43,10 @@ module _ (ls : List Lot) (at : ℕ) (l : Lot) (own : slice_get ls at ≡ Some l)
 
   -- where they do, those are kept that go with keys of the lists in front
   pub keeps_those : (others : List ℕ) (rest : List ℕ) (kept : List Key) → others ≡ drop 1 (take many new) → rest ≡ drop many new → Decides true (HasSolution ls rest)
-      → kept ≡ filter (goes_at ls others [] l.sought) l.keys.items → KeepsAll ls l.sought kept
+      → kept ≡ filter (goes_at ls others [] l.sought) l.keys.items → KeepsAllKeys ls l.sought kept
   keeps_those others rest kept is_others is_rest decides is_kept = record { sound = sound; complete = complete }
     where
-      by_bound : (k : Key) → Contains l.keys.items k → (o : Option Numbers) → bind_key [] l.sought k ≡ o → goes_if (has_choice ls others) o ≡ true → (v : Values) × Solves v ls × (key_of v l.sought ≡ k)
+      by_bound : (k : Key) → Contains l.keys.items k → (o : Option BoundNumbers) → bind_key [] l.sought k ≡ o → goes_if (has_choice ls others) o ≡ true → (v : Values) × Solves v ls × (key_of v l.sought ≡ k)
       by_bound k there None e passes = absurd (cc)
       by_bound k there (Some c) e passes =
           let (v, hv, sv) = choice_sound ls others c passes in
@@ -59,7 +59,7 @@ module _ (ls : List Lot) (at : ℕ) (l : Lot) (own : slice_get ls at ≡ Some l)
           let inside : Contains (take many new) at = subst (λ js. Contains js at) (sym group_is) (contains_head at (drop 1 (take many new))) in (
             u,
             solves_all ls u new (all_moved ls old new gathers.same all) solved,
-            key_in (one_has ls (take many new)) v w l.sought (λ x f. any_has (has_at ls x) (take many new) at inside (has_at_is ls at l x own ∙ f)) ∙ both.1,
+            key_in (one_has ls (take many new)) v w l.sought (λ x f. any_has (has_variable_at ls x) (take many new) at inside (has_at_is ls at l x own ∙ f)) ∙ both.1,
           )
 
       sound : (k : Key) → Contains kept k → (v : Values) × Solves v ls × (key_of v l.sought ≡ k)
@@ -79,7 +79,7 @@ module _ (ls : List Lot) (at : ℕ) (old new : List ℕ) (many : ℕ) (all : Are
   pub keeps_no_at : (rest : List ℕ) → Decides false (HasSolution ls rest) → KeepsAt ls at []
   keeps_no_at rest decides = by_list (slice_get ls at) refl
     where
-      by_list : (o : Option Lot) → slice_get ls at ≡ o → MatchOption o (Unit {0}) (λ (l : Lot). KeepsAll ls l.sought [])
+      by_list : (o : Option Lot) → slice_get ls at ≡ o → MatchOption o (Unit {0}) (λ (l : Lot). KeepsAllKeys ls l.sought [])
       by_list None e = tt
       by_list (Some l) e = keeps_no ls at l e old new many all first gathers rest decides
 
@@ -89,6 +89,6 @@ module _ (ls : List Lot) (at : ℕ) (old new : List ℕ) (many : ℕ) (all : Are
   keeps_those_at others rest kept is_others is_rest decides is_kept = by_list (slice_get ls at) refl is_kept
     where
       by_list : (o : Option Lot) → slice_get ls at ≡ o → MatchOption o (Unit {0}) (λ (l : Lot). kept ≡ filter (goes_at ls others [] l.sought) l.keys.items)
-          → MatchOption o (Unit {0}) (λ (l : Lot). KeepsAll ls l.sought kept)
+          → MatchOption o (Unit {0}) (λ (l : Lot). KeepsAllKeys ls l.sought kept)
       by_list None e is = tt
       by_list (Some l) e is = keeps_those ls at l e old new many all first gathers others rest kept is_others is_rest decides is

@@ -3,10 +3,10 @@ use Rattle.std.proofs.Common.{◌≡◌, ◌≤◌, ◌<◌, ◌+◌, ℕ, Bool,
 use Rattle.std.proofs.lemmas.List.Folds.{list_any_more}
 use Rattle.std.proofs.Math.ListN.{drop_of_length-le}
 use Rattle.gs_joins.specs.declared.lots.Lot.{Lot}
-use Rattle.gs_joins.specs.Links.{has_variable, has_at, one_has, IsApart}
+use Rattle.gs_joins.specs.Links.{has_variable, has_variable_at, one_has, IsApart}
 
 -- what the pattern of a list has
-pub has_at_is : (ls : List Lot) (i : ℕ) (l : Lot) (x : List ℕ) → slice_get ls i ≡ Some l → has_at ls x i ≡ has_variable l.sought x
+pub has_at_is : (ls : List Lot) (i : ℕ) (l : Lot) (x : List ℕ) → slice_get ls i ≡ Some l → has_variable_at ls x i ≡ has_variable l.sought x
 has_at_is ls i l x e = ap (λ (o : Option Lot). unwrap_or (option_map (λ (l : Lot). has_variable l.sought x) o) false) e
 
 -- where one of two tests passes
@@ -18,8 +18,8 @@ either false b P h f g = g h
 pub front_more : (ls : List Lot) (front : List ℕ) (i : ℕ) (l : Lot) (h : List ℕ → Bool) → i < length front → slice_get ls (get_or front i 0) ≡ Some l
     → IsApart (one_has ls (take i front)) h → IsApart (has_variable l.sought) h → IsApart (one_has ls (take (i + 1) front)) h
 front_more ls front i l h within at old one = record {
-  other = λ x e. either (one_has ls (take i front) x) (has_at ls x (get_or front i 0)) (h x ≡ false)
-      (sym (list_any_more (has_at ls x) front i 0 within) ∙ e)
+  other = λ x e. either (one_has ls (take i front) x) (has_variable_at ls x (get_or front i 0)) (h x ≡ false)
+      (sym (list_any_more (has_variable_at ls x) front i 0 within) ∙ e)
       (old.other x) (λ has. one.other x (sym (has_at_is ls (get_or front i 0) l x at) ∙ has));
 }
 
@@ -27,7 +27,7 @@ front_more ls front i l h within at old one = record {
 pub after_more : (ls : List Lot) (rest : List ℕ) (i : ℕ) (l : Lot) (h : List ℕ → Bool) → i < length rest → slice_get ls (get_or rest i 0) ≡ Some l
     → IsApart h (one_has ls (take i rest)) → IsApart h (has_variable l.sought) → IsApart h (one_has ls (take (i + 1) rest))
 after_more ls rest i l h within at old one = record {
-  other = λ x e. list_any_more (has_at ls x) rest i 0 within ∙ ap (λ b. b || has_at ls x (get_or rest i 0)) (old.other x e)
+  other = λ x e. list_any_more (has_variable_at ls x) rest i 0 within ∙ ap (λ b. b || has_variable_at ls x (get_or rest i 0)) (old.other x e)
       ∙ has_at_is ls (get_or rest i 0) l x at ∙ one.other x e;
 }
 

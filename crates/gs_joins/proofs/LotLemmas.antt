@@ -10,7 +10,7 @@ use Rattle.gs_pool.specs.declared.nodes.Key.{Key}
 use Rattle.gs_joins.specs.declared.sought.Sought.{Sought}
 use Rattle.gs_joins.specs.declared.bindings.Bound.{Bound}
 use Rattle.gs_joins.specs.declared.lots.Lot.{Lot}
-use Rattle.gs_joins.specs.Numbers.{Numbers, numbers_of, bind_key, Chooses}
+use Rattle.gs_joins.specs.Numbers.{BoundNumbers, numbers_of, bind_key, Chooses}
 use Rattle.gs_joins.specs.Lots.{IsLot, MakesLot, Serves}
 use Rattle.gs_joins.specs.Values.{Values, key_of, Has, Solves}
 use Rattle.gs_joins.specs.Reductions.{HasNone, HasNoneAt, Keeps, Reduces}
@@ -40,7 +40,7 @@ none_chosen ls s k old new empty h v solves is =
     absurd (cc)
 
 -- whether there are bindings
-abbrev pub some_bound : Option Numbers → Bool
+abbrev pub some_bound : Option BoundNumbers → Bool
 some_bound None = false
 some_bound (Some b) = true
 
@@ -57,7 +57,7 @@ none_near ls s k old new i l near empty h within at serves none v solves is =
     let bad : true ≡ false = sym (any_has p l.keys.items (key_of v l.sought) there (ap some_bound f)) ∙ sym (serves p (λ z e. ap some_bound e)) ∙ ap (list_any p) none in
     absurd (cc)
   where
-    some_is : (a b : Numbers) → Some a ≡ Some b → a ≡ b
+    some_is : (a b : BoundNumbers) → Some a ≡ Some b → a ≡ b
     some_is a b e = cc
 
 -- nothing was tried

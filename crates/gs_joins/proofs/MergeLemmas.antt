@@ -8,7 +8,7 @@ use Rattle.gs_joins.specs.declared.sought.Sought.{Sought}
 use Rattle.gs_joins.specs.declared.weights.Turn.{Turn}
 use Rattle.gs_joins.specs.declared.lots.Lot.{Lot}
 use Rattle.gs_joins.specs.declared.merges.Joint.{Joint}
-use Rattle.gs_joins.specs.Numbers.{Numbers, bind_key}
+use Rattle.gs_joins.specs.Numbers.{BoundNumbers, bind_key}
 use Rattle.gs_joins.specs.Lots.{first_of, Serves}
 use Rattle.gs_joins.specs.Values.{Values}
 use Rattle.gs_joins.specs.Choices.{goes_if, goes_on_in, goes_at, has_choice}
@@ -17,7 +17,7 @@ use Rattle.gs_joins.proofs.ListLemmas.{any_has, any_none, get_or_any}
 use Rattle.gs_joins.proofs.ValueLemmas.{values_of, holds_own, key_complete, key_sound}
 
 -- whether a key may be bound and has this number
-abbrev bound_at : Turn → ℕ → Key → Option Numbers → Bool
+abbrev bound_at : Turn → ℕ → Key → Option BoundNumbers → Bool
 bound_at t n k None = false
 bound_at t n k (Some b) = nat_eq (first_of t k) n
 
@@ -30,7 +30,7 @@ one_number : (m n : ℕ) → nat_eq m n ≡ true → m ≡ n
 one_number m n e = grind (arith, nat_tests)
 
 -- no key near the other list has the number of this key, so it goes with none of them
-pub goes_none : (ls : List Lot) (j : ℕ) (m : Lot) (b : Numbers) (s : Sought) (p : Joint) (k : Key) (other : List Key) → slice_get ls j ≡ Some m → Serves b m other → IsJoint s m.sought p
+pub goes_none : (ls : List Lot) (j : ℕ) (m : Lot) (b : BoundNumbers) (s : Sought) (p : Joint) (k : Key) (other : List Key) → slice_get ls j ≡ Some m → Serves b m other → IsJoint s m.sought p
     → ((i : ℕ) (d : Key) → i < length other → first_of p.other (get_or other i d) ≢ first_of p.one k) → goes_at ls (j ∷ []) b s k ≡ false
 goes_none ls j m b s p k other at serves joint none = by_bound (bind_key b s k) refl
   where
@@ -38,7 +38,7 @@ goes_none ls j m b s p k other at serves joint none = by_bound (bind_key b s k) 
     test z = bound_at p.other (first_of p.one k) z (bind_key b m.sought z)
 
     -- none near passes
-    by_near : (z : Key) (o : Option Numbers) → Contains other z → bound_at p.other (first_of p.one k) z o ≡ true → ⊥
+    by_near : (z : Key) (o : Option BoundNumbers) → Contains other z → bound_at p.other (first_of p.one k) z o ≡ true → ⊥
     by_near z None there e = absurd (cc)
     by_near z (Some a) (i, within, is) e = none i z within (ap (first_of p.other) is ∙ one_number (first_of p.other z) (first_of p.one k) e)
 
@@ -49,7 +49,7 @@ goes_none ls j m b s p k other at serves joint none = by_bound (bind_key b s k) 
     no_key : list_any test m.keys.items ≡ false
     no_key = sym (serves test (λ z e. ap (bound_at p.other (first_of p.one k) z) e)) ∙ any_none test other (λ z there. not_true (test z) (by_near z (bind_key b m.sought z) there))
 
-    by_choice : (a : Numbers) → bind_key b s k ≡ Some a → (z : Key) → Contains m.keys.items z → (o : Option Numbers) → bind_key a m.sought z ≡ o → goes_if (has_choice ls []) o ≡ true → ⊥
+    by_choice : (a : BoundNumbers) → bind_key b s k ≡ Some a → (z : Key) → Contains m.keys.items z → (o : Option BoundNumbers) → bind_key a m.sought z ≡ o → goes_if (has_choice ls []) o ≡ true → ⊥
     by_choice a e z there None f passes = absurd (cc)
     by_choice a e z there (Some d) f passes =
         let v : Values = values_of d in
@@ -62,7 +62,7 @@ goes_none ls j m b s p k other at serves joint none = by_bound (bind_key b s k) 
         let bad : true ≡ false = sym (any_has test m.keys.items z there passing) ∙ no_key in
         absurd (cc)
 
-    by_bound : (o : Option Numbers) → bind_key b s k ≡ o → goes_if (has_choice ls (j ∷ [])) o ≡ false
+    by_bound : (o : Option BoundNumbers) → bind_key b s k ≡ o → goes_if (has_choice ls (j ∷ [])) o ≡ false
     by_bound None e = refl
     by_bound (Some a) e =
         ap (λ o. goes_on_in o (has_choice ls []) a) at

@@ -6,7 +6,7 @@ use Rattle.gs_pool.specs.declared.nodes.Key.{Key}
 use Rattle.gs_joins.specs.declared.bindings.Bound.{Bound}
 use Rattle.gs_joins.specs.declared.lots.Lot.{Lot}
 use Rattle.gs_joins.specs.declared.merges.Joint.{Joint}
-use Rattle.gs_joins.specs.Numbers.{Numbers, numbers_of}
+use Rattle.gs_joins.specs.Numbers.{BoundNumbers, numbers_of}
 use Rattle.gs_joins.specs.Lots.{first_of, Serves}
 use Rattle.gs_joins.specs.Choices.{goes_at, Searches}
 use Rattle.gs_joins.specs.Sides.{TriesKey, NoneGoes, AreJoint}
@@ -58,7 +58,7 @@ module _ (ls : List Lot) (i j : ℕ) (old now : List Bound) (near : List Key) (t
       by_list (Some l) at f = rw at (none_more (goes_at ls (j ∷ []) (numbers_of old) l.sought) near n d within f (tried ls i j l old now new (get_or near n d) false at same h))
 
 -- one more that does not, for no key near the other list has its number
-pub none_merged : (ls : List Lot) (i j : ℕ) (b : Numbers) (p : Joint) (near other : List Key) (n : ℕ) (d : Key) → n < length near → NoneGoes ls i j b (take n near)
+pub none_merged : (ls : List Lot) (i j : ℕ) (b : BoundNumbers) (p : Joint) (near other : List Key) (n : ℕ) (d : Key) → n < length near → NoneGoes ls i j b (take n near)
     → j < length ls → MatchOption (slice_get ls j) (Unit {0}) (λ (l : Lot). Serves b l other) → AreJoint ls i j p
     → ((k : ℕ) (e : Key) → k < length other → first_of p.other (get_or other k e) ≡ first_of p.one (get_or near n d) → ⊥)
     → NoneGoes ls i j b (take (n + 1) near)

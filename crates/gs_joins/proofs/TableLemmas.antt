@@ -14,8 +14,8 @@ use Rattle.gs_joins.specs.declared.sought.Sought.{Sought}
 use Rattle.gs_joins.specs.declared.weights.Turn.{Turn}
 use Rattle.gs_joins.specs.declared.weights.Turn.TheVariants as turn
 use Rattle.gs_joins.specs.declared.lots.Lot.{Lot}
-use Rattle.gs_joins.specs.Numbers.{no_number, Numbers, number_for, bind_key, known_number, or_none}
-use Rattle.gs_joins.specs.Lots.{weight_of, least_of, least_key_of, known_key_of, IsSmall, IsTable, IsLot, IsBetween, Serves}
+use Rattle.gs_joins.specs.Numbers.{no_number, BoundNumbers, number_for, bind_key, known_number, or_none}
+use Rattle.gs_joins.specs.Lots.{weight_of, least_of, least_key_of, known_key_of, IsSmall, IsKeyTable, IsLot, IsBetween, Serves}
 use Rattle.gs_joins.specs.Values.{Values, value_of, key_of}
 use Rattle.gs_joins.proofs.ListLemmas.{any_none, get_or_any}
 use Rattle.gs_joins.proofs.ValueLemmas.{Holds, values_of, holds_own, key_sound}
@@ -100,7 +100,7 @@ least_none : least_of no_number ≤ 0
 least_none = omega arith
 
 -- a value is between what may stand at its place
-known_fits : (v : Values) (b : Numbers) (i : Item) → Holds v b → value_of v i ≤ no_number → (least_of (known_number b i) ≤ value_of v i) × (value_of v i ≤ known_number b i)
+known_fits : (v : Values) (b : BoundNumbers) (i : Item) → Holds v b → value_of v i ≤ no_number → (least_of (known_number b i) ≤ value_of v i) × (value_of v i ≤ known_number b i)
 known_fits v b (Number m) h small = (least_le m, omega arith)
 known_fits v b (Variable x) h small = by_bound (number_for b x.now) refl
   where
@@ -109,7 +109,7 @@ known_fits v b (Variable x) h small = by_bound (number_for b x.now) refl
     by_bound (Some m) e = let is : v x.now ≡ m = h x.now m e in (let less = least_le m in omega arith, omega arith)
 
 -- a key that may be the instance is between the weights
-key_fits : (t : Turn) (b c : Numbers) (s : Sought) (k : Key) → IsSmall k → bind_key b s k ≡ Some c
+key_fits : (t : Turn) (b c : BoundNumbers) (s : Sought) (k : Key) → IsSmall k → bind_key b s k ≡ Some c
     → (weight_of t (least_key_of (known_key_of b s)) ≤ weight_of t k) × (weight_of t k ≤ weight_of t (known_key_of b s))
 key_fits t b c s k small e =
     let v : Values = values_of c in
@@ -125,13 +125,13 @@ key_fits t b c s k small e =
     (weight_mono t (least_key_of (known_key_of b s)) own subject.0 predicate.0 object.0, weight_mono t own (known_key_of b s) subject.1 predicate.1 object.1)
 
 -- the keys between the weights are all that may be instances
-pub serves_is : (l : Lot) (b : Numbers) (t : Turn) (table rest : List Key) → IsLot l → IsTable t l.keys.items table
+pub serves_is : (l : Lot) (b : BoundNumbers) (t : Turn) (table rest : List Key) → IsLot l → IsKeyTable t l.keys.items table
     → IsBetween t (weight_of t (least_key_of (known_key_of b l.sought))) (weight_of t (known_key_of b l.sought)) table rest → Serves b l rest
 serves_is l b t table rest lot is between p quiet =
     between p (λ k there passes. by_bound k (Contains-permutation table l.keys.items k (IsPermutation-sym l.keys.items table is.same) there) passes (bind_key b l.sought k) refl)
     ∙ sym (list_any-IsPermutation p l.keys.items table is.same)
   where
-    by_bound : (k : Key) → Contains l.keys.items k → p k ≡ true → (o : Option Numbers) → bind_key b l.sought k ≡ o
+    by_bound : (k : Key) → Contains l.keys.items k → p k ≡ true → (o : Option BoundNumbers) → bind_key b l.sought k ≡ o
         → (weight_of t (least_key_of (known_key_of b l.sought)) ≤ weight_of t k) × (weight_of t k ≤ weight_of t (known_key_of b l.sought))
     by_bound k there passes None e = let bad : true ≡ false = sym passes ∙ quiet k e in absurd (cc)
     by_bound k there passes (Some c) e = key_fits t b c l.sought k (All-contains IsSmall l.keys.items k lot.small there) e

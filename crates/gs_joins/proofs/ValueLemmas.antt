@@ -8,11 +8,11 @@ use Rattle.gs_pool.specs.declared.nodes.Key.{Key}
 use Rattle.gs_joins.specs.declared.sought.Item.{Item}
 use Rattle.gs_joins.specs.declared.sought.Item.TheVariants.{Number, Variable}
 use Rattle.gs_joins.specs.declared.sought.Sought.{Sought}
-use Rattle.gs_joins.specs.Numbers.{Numbers, number_for, with_number, bind_number, bind_key, or_none}
+use Rattle.gs_joins.specs.Numbers.{BoundNumbers, number_for, bound_to_number, bind_number, bind_key, or_none}
 use Rattle.gs_joins.specs.Values.{Values, value_of, key_of}
 
 -- each variable that is bound has its number
-abbrev pub Holds : Values → Numbers → Type 0
+abbrev pub Holds : Values → BoundNumbers → Type 0
 Holds v b = (x : List ℕ) (n : ℕ) → number_for b x ≡ Some n → v x ≡ n
 
 -- nothing is bound
@@ -20,11 +20,11 @@ pub holds_none : (v : Values) → Holds v []
 holds_none v x n e = absurd (cc)
 
 -- the values that are bound
-abbrev pub values_of : Numbers → Values
+abbrev pub values_of : BoundNumbers → Values
 values_of b x = or_none (number_for b x)
 
 -- they agree with what is bound
-pub holds_own : (b : Numbers) → Holds (values_of b) b
+pub holds_own : (b : BoundNumbers) → Holds (values_of b) b
 holds_own b x n e = ap or_none e
 
 -- a text is itself
@@ -40,7 +40,7 @@ one_number : (m n : ℕ) → nat_eq m n ≡ true → m ≡ n
 one_number m n e = grind (arith, nat_tests)
 
 -- one variable more
-pub holds_more : (v : Values) (b : Numbers) (x : List ℕ) (n : ℕ) → Holds v b → v x ≡ n → Holds v ((x, n) ∷ b)
+pub holds_more : (v : Values) (b : BoundNumbers) (x : List ℕ) (n : ℕ) → Holds v b → v x ≡ n → Holds v ((x, n) ∷ b)
 holds_more v b x n h is y m e = by_name (bytes_eq x y) refl e
   where
     by_name : (r : Bool) → bytes_eq x y ≡ r → cond r (Some n) (number_for b y) ≡ Some m → v y ≡ m
@@ -51,30 +51,30 @@ holds_more v b x n h is y m e = by_name (bytes_eq x y) refl e
     by_name false t e = h y m e
 
 -- a test that gives back bindings gives those that it had, where it passes
-kept : (b c : Numbers) (r : Bool) → cond r (Some b) None ≡ Some c → (r ≡ true) × (b ≡ c)
+kept : (b c : BoundNumbers) (r : Bool) → cond r (Some b) None ≡ Some c → (r ≡ true) × (b ≡ c)
 kept b c true e = (refl, some_is b c e)
   where
-    some_is : (k l : Numbers) → Some k ≡ Some l → k ≡ l
+    some_is : (k l : BoundNumbers) → Some k ≡ Some l → k ≡ l
     some_is k l e = cc
 kept b c false e = absurd (cc)
 
 -- values that agree stand for numbers that can be bound
-with_complete : (v : Values) (b : Numbers) (x : List ℕ) (o : Option ℕ) → Holds v b → number_for b x ≡ o → (c : Numbers) × (with_number b x (v x) o ≡ Some c) × Holds v c
+with_complete : (v : Values) (b : BoundNumbers) (x : List ℕ) (o : Option ℕ) → Holds v b → number_for b x ≡ o → (c : BoundNumbers) × (bound_to_number b x (v x) o ≡ Some c) × Holds v c
 with_complete v b x None h e = ((x, v x) ∷ b, refl, holds_more v b x (v x) h refl)
 with_complete v b x (Some m) h e = (b, let is : v x ≡ m = h x m e in ap (λ n. cond (nat_eq m n) (Some b) None) is ∙ ap (λ r. cond r (Some b) None) (same_number m), h)
 
 -- the same at an item
-number_complete : (v : Values) (b : Numbers) (i : Item) → Holds v b → (c : Numbers) × (bind_number b i (value_of v i) ≡ Some c) × Holds v c
+number_complete : (v : Values) (b : BoundNumbers) (i : Item) → Holds v b → (c : BoundNumbers) × (bind_number b i (value_of v i) ≡ Some c) × Holds v c
 number_complete v b (Number m) h = (b, ap (λ r. cond r (Some b) None) (same_number m), h)
 number_complete v b (Variable x) h = with_complete v b x.now (number_for b x.now) h refl
 
 -- what is bound then agrees only with values that stand for the number
-with_sound : (v : Values) (b c : Numbers) (x : List ℕ) (n : ℕ) (o : Option ℕ) → number_for b x ≡ o → with_number b x n o ≡ Some c → Holds v c → Holds v b × (v x ≡ n)
+with_sound : (v : Values) (b c : BoundNumbers) (x : List ℕ) (n : ℕ) (o : Option ℕ) → number_for b x ≡ o → bound_to_number b x n o ≡ Some c → Holds v c → Holds v b × (v x ≡ n)
 with_sound v b c x n None e f h =
     let own : Holds v ((x, n) ∷ b) = subst (Holds v) (sym (some_is ((x, n) ∷ b) c f)) h in
     ((λ y m g. by_name y m g (bytes_eq x y) refl own), own x n (ap (λ r. cond r (Some n) (number_for b x)) (same_text x)))
   where
-    some_is : (k l : Numbers) → Some k ≡ Some l → k ≡ l
+    some_is : (k l : BoundNumbers) → Some k ≡ Some l → k ≡ l
     some_is k l e = cc
 
     by_name : (y : List ℕ) (m : ℕ) → number_for b y ≡ Some m → (r : Bool) → bytes_eq x y ≡ r → Holds v ((x, n) ∷ b) → v y ≡ m
@@ -86,12 +86,12 @@ with_sound v b c x n (Some m) e f h =
     (own, own x m e ∙ one_number m n both.0)
 
 -- the same at an item
-number_sound : (v : Values) (b c : Numbers) (i : Item) (n : ℕ) → bind_number b i n ≡ Some c → Holds v c → Holds v b × (value_of v i ≡ n)
+number_sound : (v : Values) (b c : BoundNumbers) (i : Item) (n : ℕ) → bind_number b i n ≡ Some c → Holds v c → Holds v b × (value_of v i ≡ n)
 number_sound v b c (Number m) n f h = let both = kept b c (nat_eq m n) f in (subst (Holds v) (sym both.1) h, one_number m n both.0)
 number_sound v b c (Variable x) n f h = with_sound v b c x.now n (number_for b x.now) refl f h
 
 -- values that agree with what is bound bind the pattern to its instance
-pub key_complete : (v : Values) (b : Numbers) (s : Sought) → Holds v b → (c : Numbers) × (bind_key b s (key_of v s) ≡ Some c) × Holds v c
+pub key_complete : (v : Values) (b : BoundNumbers) (s : Sought) → Holds v b → (c : BoundNumbers) × (bind_key b s (key_of v s) ≡ Some c) × Holds v c
 key_complete v b s h =
     let (c, ec, hc) = number_complete v b s.subject h in
     let (d, ed, hd) = number_complete v c s.predicate hc in
@@ -111,13 +111,13 @@ same_key k l s p o =
     ap by_subject s ∙ ap by_predicate p ∙ ap by_object o
 
 -- what is bound by a key agrees only with values under which the key is the instance
-pub key_sound : (v : Values) (b c : Numbers) (s : Sought) (k : Key) → bind_key b s k ≡ Some c → Holds v c → Holds v b × (key_of v s ≡ k)
+pub key_sound : (v : Values) (b c : BoundNumbers) (s : Sought) (k : Key) → bind_key b s k ≡ Some c → Holds v c → Holds v b × (key_of v s ≡ k)
 key_sound v b c s k e h = by_subject (bind_number b s.subject k.subject) refl e
   where
-    by_object : (d : Numbers) → bind_number d s.object k.object ≡ Some c → Holds v d × (value_of v s.object ≡ k.object)
+    by_object : (d : BoundNumbers) → bind_number d s.object k.object ≡ Some c → Holds v d × (value_of v s.object ≡ k.object)
     by_object d f = number_sound v d c s.object k.object f h
 
-    by_predicate : (a : Numbers) (o : Option Numbers) → bind_number a s.predicate k.predicate ≡ o → option_and_then (λ d. bind_number d s.object k.object) o ≡ Some c
+    by_predicate : (a : BoundNumbers) (o : Option BoundNumbers) → bind_number a s.predicate k.predicate ≡ o → option_and_then (λ d. bind_number d s.object k.object) o ≡ Some c
         → Holds v a × (value_of v s.predicate ≡ k.predicate) × (value_of v s.object ≡ k.object)
     by_predicate a None f g = absurd (cc)
     by_predicate a (Some d) f g =
@@ -125,7 +125,7 @@ key_sound v b c s k e h = by_subject (bind_number b s.subject k.subject) refl e
         let mid = number_sound v a d s.predicate k.predicate f last.0 in
         (mid.0, mid.1, last.1)
 
-    by_subject : (o : Option Numbers) → bind_number b s.subject k.subject ≡ o → option_and_then (λ a. option_and_then (λ d. bind_number d s.object k.object) (bind_number a s.predicate k.predicate)) o ≡ Some c
+    by_subject : (o : Option BoundNumbers) → bind_number b s.subject k.subject ≡ o → option_and_then (λ a. option_and_then (λ d. bind_number d s.object k.object) (bind_number a s.predicate k.predicate)) o ≡ Some c
         → Holds v b × (key_of v s ≡ k)
     by_subject None f g = absurd (cc)
     by_subject (Some a) f g =

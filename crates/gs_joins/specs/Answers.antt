@@ -12,25 +12,25 @@ use Rattle.gs_joins.specs.declared.lots.Lot.{Lot}
 use Rattle.gs_joins.specs.declared.questions.Places.{Places}
 use Rattle.gs_joins.specs.declared.questions.Question.{Question}
 use Rattle.gs_joins.specs.declared.answers.Answers.{Answers}
-use Rattle.gs_joins.specs.Numbers.{Numbers, number_for}
+use Rattle.gs_joins.specs.Numbers.{BoundNumbers, number_for}
 use Rattle.gs_joins.specs.Choices.{has_choice}
 
 -- the number that is bound to an item, where it is a variable and has one
-abbrev pub place_of : Numbers → Item → Option ℕ
-place_of b (Number n) = None
-place_of b (Variable x) = number_for b x.now
+abbrev pub number_bound : BoundNumbers → Item → Option ℕ
+number_bound b (Number n) = None
+number_bound b (Variable x) = number_for b x.now
 
 -- what is known at the places of a pattern
-abbrev pub places_of : Numbers → Sought → Places
-places_of b s = record { subject = place_of b s.subject; predicate = place_of b s.predicate; object = place_of b s.object }
+abbrev pub places_of : BoundNumbers → Sought → Places
+places_of b s = record { subject = number_bound b s.subject; predicate = number_bound b s.predicate; object = number_bound b s.object }
 
 -- the same of a list, where there is one
-abbrev pub places_in : Numbers → Option Lot → Places
+abbrev pub places_in : BoundNumbers → Option Lot → Places
 places_in b None = record { subject = None; predicate = None; object = None }
 places_in b (Some l) = places_of b l.sought
 
 -- the question of the lists of two numbers
-abbrev pub question_of : List Lot → Numbers → ℕ → ℕ → Question
+abbrev pub question_of : List Lot → BoundNumbers → ℕ → ℕ → Question
 question_of ls b i j = record { first = i; second = j; of_first = places_in b (slice_get ls i); of_second = places_in b (slice_get ls j) }
 
 -- the order of what is known at places
@@ -45,7 +45,7 @@ question_cmp p q =
 
 -- it is the answer under all bindings under which the question is this one
 abbrev pub IsAnswer : List Lot → Question → Bool → Type 0
-IsAnswer ls q found = (b : Numbers) → question_of ls b q.first q.second ≡ q → found ≡ has_choice ls (q.first ∷ q.second ∷ []) b
+IsAnswer ls q found = (b : BoundNumbers) → question_of ls b q.first q.second ≡ q → found ≡ has_choice ls (q.first ∷ q.second ∷ []) b
 
 -- each answer that is kept is one
 abbrev pub AreRight : List Lot → Answers → Type 0

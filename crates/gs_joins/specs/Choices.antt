@@ -5,25 +5,25 @@ use Rattle.gs_pool.specs.declared.nodes.Key.{Key}
 use Rattle.gs_joins.specs.declared.sought.Sought.{Sought}
 use Rattle.gs_joins.specs.declared.bindings.Bound.{Bound}
 use Rattle.gs_joins.specs.declared.lots.Lot.{Lot}
-use Rattle.gs_joins.specs.Numbers.{Numbers, numbers_of, bind_key}
+use Rattle.gs_joins.specs.Numbers.{BoundNumbers, numbers_of, bind_key}
 
 -- whether it goes on from bindings, where there are any
-abbrev pub goes_if : (Numbers → Bool) → Option Numbers → Bool
+abbrev pub goes_if : (BoundNumbers → Bool) → Option BoundNumbers → Bool
 goes_if again None = false
 goes_if again (Some b) = again b
 
 -- whether it goes on where a key of the list is chosen
-abbrev pub goes_on_in : Option Lot → (Numbers → Bool) → Numbers → Bool
+abbrev pub goes_on_in : Option Lot → (BoundNumbers → Bool) → BoundNumbers → Bool
 goes_on_in None again b = again b
 goes_on_in (Some l) again b = list_any (λ k. goes_if again (bind_key b l.sought k)) l.keys.items
 
 -- whether the lists of these numbers have a key each that go together, under what is bound
-abbrev pub has_choice : List Lot → List ℕ → Numbers → Bool
+abbrev pub has_choice : List Lot → List ℕ → BoundNumbers → Bool
 has_choice ls [] b = true
 has_choice ls (i ∷ is) b = goes_on_in (slice_get ls i) (has_choice ls is) b
 
 -- whether they have where this key is chosen for a pattern
-abbrev pub goes_at : List Lot → List ℕ → Numbers → Sought → Key → Bool
+abbrev pub goes_at : List Lot → List ℕ → BoundNumbers → Sought → Key → Bool
 goes_at ls is b s k = goes_if (has_choice ls is) (bind_key b s k)
 
 -- a search answers whether they have, and leaves what is bound

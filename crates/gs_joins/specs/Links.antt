@@ -9,21 +9,21 @@ use Rattle.gs_joins.specs.declared.sought.Sought.{Sought}
 use Rattle.gs_joins.specs.declared.lots.Lot.{Lot}
 
 -- whether an item is this variable
-abbrev pub is_variable : Item → List ℕ → Bool
-is_variable (Number n) x = false
-is_variable (Variable y) x = bytes_eq y.now x
+abbrev pub is_this_variable : Item → List ℕ → Bool
+is_this_variable (Number n) x = false
+is_this_variable (Variable y) x = bytes_eq y.now x
 
 -- whether a pattern has this variable
 abbrev pub has_variable : Sought → List ℕ → Bool
-has_variable s x = is_variable s.subject x || (is_variable s.predicate x || is_variable s.object x)
+has_variable s x = is_this_variable s.subject x || (is_this_variable s.predicate x || is_this_variable s.object x)
 
 -- whether the pattern of the list of this number has it
-abbrev pub has_at : List Lot → List ℕ → ℕ → Bool
-has_at ls x i = unwrap_or (option_map (λ (l : Lot). has_variable l.sought x) (slice_get ls i)) false
+abbrev pub has_variable_at : List Lot → List ℕ → ℕ → Bool
+has_variable_at ls x i = unwrap_or (option_map (λ (l : Lot). has_variable l.sought x) (slice_get ls i)) false
 
 -- whether one of the patterns of the lists of these numbers has it
 abbrev pub one_has : List Lot → List ℕ → List ℕ → Bool
-one_has ls is x = list_any (has_at ls x) is
+one_has ls is x = list_any (has_variable_at ls x) is
 
 -- no variable passes both tests
 pub record IsApart (a b : List ℕ → Bool) : Type 0 where

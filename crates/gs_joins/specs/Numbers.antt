@@ -10,30 +10,30 @@ use Rattle.gs_joins.specs.declared.sought.Sought.{Sought}
 use Rattle.gs_joins.specs.declared.bindings.Bound.{Bound}
 
 -- some variables, each with its number
-abbrev pub Numbers : Type 0
-Numbers = List (List ℕ × ℕ)
+abbrev pub BoundNumbers : Type 0
+BoundNumbers = List (List ℕ × ℕ)
 
 -- what is bound, the last first
-abbrev pub numbers_of : List Bound → Numbers
+abbrev pub numbers_of : List Bound → BoundNumbers
 numbers_of bs = fold (λ known b. (b.name.now, b.number) ∷ known) [] bs
 
 -- the number that a variable is bound to
-abbrev pub number_for : Numbers → List ℕ → Option ℕ
+abbrev pub number_for : BoundNumbers → List ℕ → Option ℕ
 number_for [] x = None
 number_for (e ∷ b) x = if bytes_eq e.0 x then Some e.1 else number_for b x
 
 -- with a variable bound to a number, which is the one that it was bound to
-abbrev pub with_number : Numbers → List ℕ → ℕ → Option ℕ → Option Numbers
-with_number b x n None = Some ((x, n) ∷ b)
-with_number b x n (Some m) = if m == n then Some b else None
+abbrev pub bound_to_number : BoundNumbers → List ℕ → ℕ → Option ℕ → Option BoundNumbers
+bound_to_number b x n None = Some ((x, n) ∷ b)
+bound_to_number b x n (Some m) = if m == n then Some b else None
 
 -- with an item that stands for this number
-abbrev pub bind_number : Numbers → Item → ℕ → Option Numbers
+abbrev pub bind_number : BoundNumbers → Item → ℕ → Option BoundNumbers
 bind_number b (Number m) n = if m == n then Some b else None
-bind_number b (Variable x) n = with_number b x.now n (number_for b x.now)
+bind_number b (Variable x) n = bound_to_number b x.now n (number_for b x.now)
 
 -- with a pattern whose instance is this key
-abbrev pub bind_key : Numbers → Sought → Key → Option Numbers
+abbrev pub bind_key : BoundNumbers → Sought → Key → Option BoundNumbers
 bind_key b s k = option_and_then (λ c. option_and_then (λ d. bind_number d s.object k.object) (bind_number c s.predicate k.predicate)) (bind_number b s.subject k.subject)
 
 -- a number that no term has
@@ -46,7 +46,7 @@ or_none None = no_number
 or_none (Some n) = n
 
 -- the number that an item stands for, where it is known
-abbrev pub known_number : Numbers → Item → ℕ
+abbrev pub known_number : BoundNumbers → Item → ℕ
 known_number b (Number m) = m
 known_number b (Variable x) = or_none (number_for b x.now)
 
@@ -56,12 +56,12 @@ pub record BindsMore (old new : List Bound) : Type 0 where
   pub parts : new ≡ old ++ more
 
 -- what is bound with this, where that may be
-abbrev pub BindsTo : Option Numbers → List Bound → Bool → Type 0
+abbrev pub BindsTo : Option BoundNumbers → List Bound → Bool → Type 0
 BindsTo o new true = o ≡ Some (numbers_of new)
 BindsTo o new false = o ≡ None
 
 -- whether it may stand under bindings that grow, and what is bound then
-abbrev pub Extends : {E : Type 0} → Option Numbers → List Bound → List Bound → Result Bool E → Type 0
+abbrev pub Extends : {E : Type 0} → Option BoundNumbers → List Bound → List Bound → Result Bool E → Type 0
 Extends o old new (Err e) = Unit {0}
 Extends o old new (Ok stands) = BindsMore old new × BindsTo o new stands
 

@@ -7,13 +7,13 @@ use Rattle.gs_joins.specs.declared.bindings.Bound.{Bound}
 use Rattle.gs_joins.specs.declared.lots.Lot.{Lot}
 use Rattle.gs_joins.specs.declared.merges.Joint.{Joint}
 use Rattle.gs_joins.specs.declared.pairs.Side.{Side}
-use Rattle.gs_joins.specs.Numbers.{Numbers, numbers_of}
+use Rattle.gs_joins.specs.Numbers.{BoundNumbers, numbers_of}
 use Rattle.gs_joins.specs.Lots.{first_of, Serves}
 use Rattle.gs_joins.specs.Choices.{goes_at, has_choice}
 use Rattle.gs_joins.specs.Merges.{IsJoint}
 
 -- no key of the list of this number is left out that may be its pattern's instance
-pub record IsSide (ls : List Lot) (b : Numbers) (s : Side) : Type 0 where
+pub record IsJoinSide (ls : List Lot) (b : BoundNumbers) (s : Side) : Type 0 where
   pub at : s.at < length ls
   pub serves : MatchOption (slice_get ls s.at) (Unit {0}) (λ (l : Lot). Serves b l s.near.now)
 
@@ -28,7 +28,7 @@ pub record TriesFirst (ls : List Lot) (i j : ℕ) (old new : List Bound) (goes :
   pub answer : goes ≡ true → has_choice ls (i ∷ j ∷ []) (numbers_of old) ≡ true
 
 -- none of these keys of a list goes with one of the other list
-abbrev pub NoneGoes : List Lot → ℕ → ℕ → Numbers → List Key → Type 0
+abbrev pub NoneGoes : List Lot → ℕ → ℕ → BoundNumbers → List Key → Type 0
 NoneGoes ls i j b ks = MatchOption (slice_get ls i) (Unit {0}) (λ (l : Lot). list_any (goes_at ls (j ∷ []) b l.sought) ks ≡ false)
 
 -- the patterns of two lists have one number at these places

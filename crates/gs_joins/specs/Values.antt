@@ -41,13 +41,13 @@ abbrev pub HasSolution : List Lot → List ℕ → Type 0
 HasSolution ls is = (v : Values) × SolvesAt v ls is
 
 -- these are the keys of a pattern's instances under all values that solve the lists
-pub record KeepsAll (ls : List Lot) (s : Sought) (kept : List Key) : Type 0 where
+pub record KeepsAllKeys (ls : List Lot) (s : Sought) (kept : List Key) : Type 0 where
   pub sound : (k : Key) → Contains kept k → (v : Values) × Solves v ls × (key_of v s ≡ k)
   pub complete : (v : Values) → Solves v ls → Contains kept (key_of v s)
 
 -- the same for the list of this number
 abbrev pub KeepsAt : List Lot → ℕ → List Key → Type 0
-KeepsAt ls i kept = MatchOption (slice_get ls i) (Unit {0}) (λ (l : Lot). KeepsAll ls l.sought kept)
+KeepsAt ls i kept = MatchOption (slice_get ls i) (Unit {0}) (λ (l : Lot). KeepsAllKeys ls l.sought kept)
 
 -- the patterns of lists
 abbrev pub sought_of : List Lot → List Sought

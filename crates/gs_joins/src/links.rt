@@ -2,14 +2,14 @@
 ghost use Rattle.std.specs.Prelude.{◌≡◌, ◌<◌, ◌≤◌, ◌+◌, length, take, drop, MatchOption, true, false};
 ghost use Rattle.gs_joins.specs.Choices.{AreIn};
 ghost use Rattle.gs_joins.specs.Merges.{IsSameItem};
-ghost use Rattle.gs_joins.specs.Links.{is_variable, has_variable, one_has, IsApart, Gathers};
+ghost use Rattle.gs_joins.specs.Links.{is_this_variable, has_variable, one_has, IsApart, Gathers};
 
 use crate::lots::Lot;
 use crate::sought::{Item, Sought};
 
 /// Whether two items are one variable.
 pub fn is_shared(a: &Item, b: &Item) -> bool
-    ensures apart { result ≡ false → IsApart (is_variable a.now) (is_variable b.now) }
+    ensures apart { result ≡ false → IsApart (is_this_variable a.now) (is_this_variable b.now) }
     ensures same { result ≡ true → IsSameItem a.now b.now }
 {
     match a {
@@ -23,7 +23,7 @@ pub fn is_shared(a: &Item, b: &Item) -> bool
 
 /// Whether a pattern has this variable.
 pub fn has_item(a: &Sought, item: &Item) -> bool
-    ensures { result ≡ false → IsApart (has_variable a.now) (is_variable item.now) }
+    ensures { result ≡ false → IsApart (has_variable a.now) (is_this_variable item.now) }
 {
     is_shared(&a.subject, item) || is_shared(&a.predicate, item) || is_shared(&a.object, item)
 }

@@ -3,7 +3,7 @@ ghost use Rattle.std.specs.Prelude.{◌≡◌, IfOk};
 ghost use Rattle.std.specs.List.{All};
 ghost use Rattle.std.specs.List.Sorted.{IsNonDecreasingBy};
 ghost use Rattle.gs_joins.specs.Numbers.{numbers_of};
-ghost use Rattle.gs_joins.specs.Lots.{known_key_of, least_of, least_key_of, weight_of, IsSmall, IsTable, IsLot, IsBetween, Serves, MakesLot};
+ghost use Rattle.gs_joins.specs.Lots.{known_key_of, least_of, least_key_of, weight_of, IsSmall, IsKeyTable, IsLot, IsBetween, Serves, MakesLot};
 
 use crate::bindings::{Bound, NO_NUMBER, known};
 use crate::sought::Sought;
@@ -24,7 +24,7 @@ pub struct Lot<'a> {
 
 /// The keys by their numbers, from one place on.
 fn table_of(keys: &[Key], alloc: Global, turn: Turn) -> Result<Vec<Key>, AllocError>
-    ensures { IfOk result (λ table. IsTable turn keys.now table.items) }
+    ensures { IfOk result (λ table. IsKeyTable turn keys.now table.items) }
 {
     let mut table = Vec::from_slice(alloc, keys)?;
     table.sort_unstable_by_key(|key| weight(turn, *key));
@@ -116,7 +116,7 @@ impl<'a> Lot<'a> {
     /// The keys by their numbers from one place on.
     pub fn table(&self, turn: Turn) -> &[Key]
         requires { IsLot self.now }
-        ensures { IsTable turn self.now.keys.items result.now }
+        ensures { IsKeyTable turn self.now.keys.items result.now }
     {
         match turn {
             Turn::Subject => self.by_subject.as_slice(),

@@ -5,7 +5,7 @@ ghost use Rattle.gs_joins.specs.Numbers.{numbers_of};
 ghost use Rattle.gs_joins.specs.Lots.{IsLot};
 ghost use Rattle.gs_joins.specs.Choices.{AreIn, Searches};
 ghost use Rattle.gs_joins.specs.Answers.{AreRight};
-ghost use Rattle.gs_joins.specs.Sides.{IsSide, TriesKey, TriesFirst, IsMerge};
+ghost use Rattle.gs_joins.specs.Sides.{IsJoinSide, TriesKey, TriesFirst, IsMerge};
 
 use crate::answers::Answers;
 use crate::bindings::{Bound, choose};
@@ -84,7 +84,7 @@ fn has_either<'a>(
     looked: &mut u64,
 ) -> Result<bool, AllocError>
     requires lots { All IsLot lots.now }
-    requires one { IsSide lots.now (numbers_of bound.old.items) one.now }
+    requires one { IsJoinSide lots.now (numbers_of bound.old.items) one.now }
     requires other { other < length lots.now }
     ensures { IfOk result (Searches lots.now (one.now.at ∷ other ∷ []) bound.old.items bound.new.items) }
 {
@@ -107,8 +107,8 @@ fn has_merged<'a>(
     looked: &mut u64,
 ) -> Result<bool, AllocError>
     requires lots { All IsLot lots.now }
-    requires one { IsSide lots.now (numbers_of bound.old.items) one.now }
-    requires other { IsSide lots.now (numbers_of bound.old.items) other.now }
+    requires one { IsJoinSide lots.now (numbers_of bound.old.items) one.now }
+    requires other { IsJoinSide lots.now (numbers_of bound.old.items) other.now }
     requires joint { IsMerge lots.now one.now other.now joint }
     ensures { IfOk result
         (Searches lots.now (one.now.at ∷ other.now.at ∷ []) bound.old.items bound.new.items) }
@@ -153,7 +153,7 @@ fn first_goes<'a>(
     looked: &mut u64,
 ) -> Result<bool, AllocError>
     requires lots { All IsLot lots.now }
-    requires one { IsSide lots.now (numbers_of bound.old.items) one.now }
+    requires one { IsJoinSide lots.now (numbers_of bound.old.items) one.now }
     requires other { other < length lots.now }
     ensures { IfOk result (TriesFirst lots.now one.now.at other bound.old.items bound.new.items) }
 {
@@ -172,8 +172,8 @@ fn has_sides<'a>(
     looked: &mut u64,
 ) -> Result<bool, AllocError>
     requires lots { All IsLot lots.now }
-    requires one { IsSide lots.now (numbers_of bound.old.items) one.now }
-    requires other { IsSide lots.now (numbers_of bound.old.items) other.now }
+    requires one { IsJoinSide lots.now (numbers_of bound.old.items) one.now }
+    requires other { IsJoinSide lots.now (numbers_of bound.old.items) other.now }
     ensures { IfOk result
         (Searches lots.now (one.now.at ∷ other.now.at ∷ []) bound.old.items bound.new.items) }
 {
@@ -195,7 +195,7 @@ fn has_pair<'a>(
     looked: &mut u64,
 ) -> Result<bool, AllocError>
     requires lots { All IsLot lots.now }
-    requires one { IsSide lots.now (numbers_of bound.old.items) one.now }
+    requires one { IsJoinSide lots.now (numbers_of bound.old.items) one.now }
     requires second { second < length lots.now }
     ensures { IfOk result (Searches lots.now (one.now.at ∷ second ∷ []) bound.old.items bound.new.items) }
 {

@@ -1,7 +1,7 @@
 //! What the answer hangs on, whether two lists have keys that go together.
 ghost use Rattle.std.specs.Prelude.{◌≡◌, ◌<◌, length};
 ghost use Rattle.gs_joins.specs.Numbers.{numbers_of};
-ghost use Rattle.gs_joins.specs.Answers.{place_of, places_of, question_of};
+ghost use Rattle.gs_joins.specs.Answers.{number_bound, places_of, question_of};
 
 use crate::bindings::{Bound, number_for};
 use crate::links::has_item;
@@ -28,7 +28,7 @@ pub struct Question {
 
 /// The number that is bound to an item, where it is a variable and has one.
 fn place(item: &Item, bound: &[Bound]) -> Option<u32>
-    ensures { result ≡ place_of (numbers_of bound.now) item.now }
+    ensures { result ≡ number_bound (numbers_of bound.now) item.now }
 {
     match item {
         Item::Number(_) => None,

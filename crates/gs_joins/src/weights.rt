@@ -1,6 +1,6 @@
 //! Keys as one number, whose first digits are any of their places.
 ghost use Rattle.std.specs.Prelude.{◌≡◌};
-ghost use Rattle.gs_joins.specs.Lots.{joined as joined_of, weight_of, first_of};
+ghost use Rattle.gs_joins.specs.Lots.{joined_numbers as joined_of, weight_of, first_of};
 
 use gs_pool::Key;
 

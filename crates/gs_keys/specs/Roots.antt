@@ -8,8 +8,8 @@ use Rattle.gs_tree.specs.Reading.{IsReadableAt, keys_at}
 use Rattle.gs_keys.specs.Texts.{triple_at, key_cmp, IsGiven}
 
 -- the graph of a root: the triples of its keys
-abbrev pub graph_at : List Term → Nodes → Option ℕ → Graph
-graph_at terms p root = graph_of (map (triple_at terms) (keys_at p root))
+abbrev pub graph_of_root : List Term → Nodes → Option ℕ → Graph
+graph_of_root terms p root = graph_of (map (triple_at terms) (keys_at p root))
 
 -- a root means keys in the order of their texts, whose numbers were all given
 pub record IsGraphAt (terms : List Term) (p : Nodes) (root : Option ℕ) : Type 0 where
@@ -19,4 +19,4 @@ pub record IsGraphAt (terms : List Term) (p : Nodes) (root : Option ℕ) : Type 
 -- among more terms a root stands for the same graph
 pub record IsKept (terms more : List Term) (p : Nodes) (root : Option ℕ) : Type 0 where
   pub graph : IsGraphAt (terms ++ more) p root
-  pub same : graph_at (terms ++ more) p root ≡ graph_at terms p root
+  pub same : graph_of_root (terms ++ more) p root ≡ graph_of_root terms p root

@@ -13,7 +13,7 @@ use Rattle.gs_tree.proofs.TreeLemmas.{tree_at-is, one_same}
 use Rattle.gs_tree.proofs.Counting.{below, below_add, below_same, below_none}
 use Rattle.gs_versions.specs.Pins.{Pins}
 use Rattle.gs_ledger.specs.Entries.{Dead, tops}
-use Rattle.gs_ledger.specs.Marks.{death_of, side_at, entry_at, dead_below, dead_at, used_count}
+use Rattle.gs_ledger.specs.Marks.{death_of, side_at, dead_entry_at, dead_below, dead_at, used_count}
 use Rattle.gs_ledger.specs.Ledger.{HasSides, IsDead, IsLedger}
 use Rattle.gs_ledger.specs.Changes.{AreSameTrees, AreSameDead}
 use Rattle.gs_ledger.proofs.Sums.{zero_or, all_at, sum_contained, tops_cons, tops_most}
@@ -25,22 +25,22 @@ side_is p true n l r s sl sr = (ap (tree_at p) s.0 ∙ tree_at-is p l sl, ap (tr
 side_is p false n l r s sl sr = (sym s.0, sym s.1)
 
 -- a dead node is what its mark says
-entry_is : (p : Nodes) (c : ℕ) (d : Dead) → IsDead p c d → entry_at p d.id (node_at p d.id) (death_of (mark_at p d.id)) ≡ d ∷ []
+entry_is : (p : Nodes) (c : ℕ) (d : Dead) → IsDead p c d → dead_entry_at p d.id (node_at p d.id) (death_of (mark_at p d.id)) ≡ d ∷ []
 entry_is p c d s =
     let both = side_is p d.whole s.top d.left d.right s.sides s.left_tree.stands s.right_tree.stands in
     let b = s.birth_is in
     let l = both.0 in
     let r = both.1 in
-    let same : entry_at p d.id (Some s.top) (Some (d.death, d.whole)) ≡ d ∷ [] =
+    let same : dead_entry_at p d.id (Some s.top) (Some (d.death, d.whole)) ≡ d ∷ [] =
     λ i. record { id = d.id; birth = b i; death = d.death; whole = d.whole; left = l i; right = r i } ∷ [] in
-    ap (λ o. entry_at p d.id o (death_of (mark_at p d.id))) s.found ∙ ap (entry_at p d.id (Some s.top)) s.marked ∙ same
+    ap (λ o. dead_entry_at p d.id o (death_of (mark_at p d.id))) s.found ∙ ap (dead_entry_at p d.id (Some s.top)) s.marked ∙ same
 
 plain_none : (m : NodeMark) → plain_mark m ≡ 1 → death_of m ≡ None
 plain_none plain e = refl
 plain_none (aside death whole) e = absurd (omega arith)
 plain_none (retired death whole) e = absurd (omega arith)
 
-entry_none : (p : Nodes) (x : ℕ) (o : Option Node) → entry_at p x o None ≡ []
+entry_none : (p : Nodes) (x : ℕ) (o : Option Node) → dead_entry_at p x o None ≡ []
 entry_none p x None = refl
 entry_none p x (Some n) = refl
 
@@ -108,20 +108,20 @@ below_parts f (d ∷ ds) n h = omega (
   sum_by-cons f d ds,
 )
 
-below_dead : (f : Dead → ℕ) (p : Nodes) (n : ℕ) → sum_by f (dead_below n p) ≡ below (λ x. sum_by f (entry_at p x (node_at p x) (death_of (mark_at p x)))) n
+below_dead : (f : Dead → ℕ) (p : Nodes) (n : ℕ) → sum_by f (dead_below n p) ≡ below (λ x. sum_by f (dead_entry_at p x (node_at p x) (death_of (mark_at p x)))) n
 below_dead f p zero = refl
-below_dead f p (suc n) = omega (arith, sum_by-append f (entry_at p n (node_at p n) (death_of (mark_at p n))) (dead_below n p), below_dead f p n)
+below_dead f p (suc n) = omega (arith, sum_by-append f (dead_entry_at p n (node_at p n) (death_of (mark_at p n))) (dead_below n p), below_dead f p n)
 
 module _ (p : Nodes) (v : Pins) (gs us : List Tree) (rs : List (List Tree)) (ds : List Dead) (l : IsLedger p v gs us rs ds) where
   few : (x : ℕ) → tops ds x ≤ 1
   few x = omega (arith, l.marks x)
 
   -- a number is that of one dead node, or its mark says none
-  said : (x : ℕ) → ((tops ds x ≡ 0) × (entry_at p x (node_at p x) (death_of (mark_at p x)) ≡ [])) ⊎ ((d : Dead) × Contains ds d × (d.id ≡ x) × (entry_at p x (node_at p x) (death_of (mark_at p x)) ≡ d ∷ []))
+  said : (x : ℕ) → ((tops ds x ≡ 0) × (dead_entry_at p x (node_at p x) (death_of (mark_at p x)) ≡ [])) ⊎ ((d : Dead) × Contains ds d × (d.id ≡ x) × (dead_entry_at p x (node_at p x) (death_of (mark_at p x)) ≡ d ∷ []))
   said x = elim (zero_or (tops ds x)) [
-    | inl none ↦ inl (none, ap (entry_at p x (node_at p x)) (plain_none (mark_at p x) (omega (arith, l.marks x, none))) ∙ entry_none p x (node_at p x))
+    | inl none ↦ inl (none, ap (dead_entry_at p x (node_at p x)) (plain_none (mark_at p x) (omega (arith, l.marks x, none))) ∙ entry_none p x (node_at p x))
     | inr some ↦ let found = top_found ds x some in
-        inr (found.0, found.1, found.2, subst (λ y. entry_at p y (node_at p y) (death_of (mark_at p y)) ≡ found.0 ∷ []) found.2 (entry_is p v.commit found.0 (all_at (IsDead p v.commit) ds found.0 l.waste found.1)))
+        inr (found.0, found.1, found.2, subst (λ y. dead_entry_at p y (node_at p y) (death_of (mark_at p y)) ≡ found.0 ∷ []) found.2 (entry_is p v.commit found.0 (all_at (IsDead p v.commit) ds found.0 l.waste found.1)))
   ]
 
   -- a dead node has a place in the pool
@@ -131,7 +131,7 @@ module _ (p : Nodes) (v : Pins) (gs us : List Tree) (rs : List (List Tree)) (ds 
     | inr past ↦ absurd (let free : used_count p x ≡ 0 = ap (λ o. cond {A = ℕ} (is_some o) 1 0) (get_or_past p.nodes x None past) in omega (arith, l.once x, tops_most ds x))
   ]
 
-  each_part : (f : Dead → ℕ) (x : ℕ) → sum_by f (entry_at p x (node_at p x) (death_of (mark_at p x))) ≡ parts f ds x
+  each_part : (f : Dead → ℕ) (x : ℕ) → sum_by f (dead_entry_at p x (node_at p x) (death_of (mark_at p x))) ≡ parts f ds x
   each_part f x = elim (said x) [
     | inl none ↦ ap (sum_by f) none.1 ∙ sym (parts_none f ds x none.0)
     | inr found ↦ omega (arith, ap (sum_by f) found.3, sum_by-cons f found.0 [], parts_one f ds x found.0 found.1.0 found.1.1 found.1.2 found.2 (few x))
@@ -139,7 +139,7 @@ module _ (p : Nodes) (v : Pins) (gs us : List Tree) (rs : List (List Tree)) (ds 
 
   contained : (n : ℕ) → All (λ d. Contains ds d) (dead_below n p)
   contained zero = All-nil (λ d. Contains ds d)
-  contained (suc n) = All-append (λ d. Contains ds d) (entry_at p n (node_at p n) (death_of (mark_at p n))) (dead_below n p)
+  contained (suc n) = All-append (λ d. Contains ds d) (dead_entry_at p n (node_at p n) (death_of (mark_at p n))) (dead_below n p)
       (elim (said n) [
         | inl none ↦ subst (All (λ d. Contains ds d)) (sym none.1) (All-nil (λ d. Contains ds d))
         | inr found ↦ subst (All (λ d. Contains ds d)) (sym found.3) (All-cons (λ d. Contains ds d) found.0 [] found.1 (All-nil (λ d. Contains ds d)))
@@ -149,7 +149,7 @@ module _ (p : Nodes) (v : Pins) (gs us : List Tree) (rs : List (List Tree)) (ds 
   -- The dead nodes of a ledger are those that the marks say.
   pub said_by_marks : AreSameDead ds (dead_at p)
   said_by_marks = record {
-    sums = λ f. below_dead f p (length p.nodes) ∙ below_same (λ x. sum_by f (entry_at p x (node_at p x) (death_of (mark_at p x)))) (parts f ds) (length p.nodes) (λ x h. each_part f x) ∙ below_parts f ds (length p.nodes) within;
+    sums = λ f. below_dead f p (length p.nodes) ∙ below_same (λ x. sum_by f (dead_entry_at p x (node_at p x) (death_of (mark_at p x)))) (parts f ds) (length p.nodes) (λ x h. each_part f x) ∙ below_parts f ds (length p.nodes) within;
     each = contained (length p.nodes);
   }
 

@@ -11,12 +11,12 @@ use Rattle.gs_ledger.specs.Entries.{Dead, died_whole, sides_of, tree_lives, entr
 use Rattle.gs_ledger.specs.Marks.{waste_at}
 use Rattle.gs_ledger.specs.Ledger.{IsReadAt, IsLedger}
 use Rattle.gs_ledger.specs.Changes.{FreesTop}
-use Rattle.gs_ledger.specs.Laws.{IsUnchanged, NeededStay, MayGo}
+use Rattle.gs_ledger.specs.Laws.{IsUnchangedTree, NeededStay, MayGo}
 use Rattle.gs_ledger.proofs.FreeSteps.{free_ledger}
 use Rattle.gs_ledger.proofs.Counts.{in_use_is, waste_is}
 
 -- a tree that stands in both pools is unchanged
-unchanged : (p q : Nodes) (t : Tree) → Stands p t → Stands q t → IsUnchanged p q t
+unchanged : (p q : Nodes) (t : Tree) → Stands p t → Stands q t → IsUnchangedTree p q t
 unchanged p q t sp sq = record { stands = sq; means = tree_at-is q t sq ∙ sym (tree_at-is p t sp) }
 
 -- the lifetimes of the sides of a dead node

@@ -19,15 +19,15 @@ pub record Counts (p : Nodes) (graphs uploads : List Tree) (dead : List Dead) : 
   pub waste : SameLives (lives dead) (waste_at p)
 
 -- the tree stands as it stood, and its root means it
-pub record IsUnchanged (p q : Nodes) (t : Tree) : Type 0 where
+pub record IsUnchangedTree (p q : Nodes) (t : Tree) : Type 0 where
   pub stands : Stands q t
   pub means : tree_at q (root_of t) ≡ tree_at p (root_of t)
 
 -- each current graph, each open upload and each tree that a seat reads is unchanged
 pub record NeededStay (p q : Nodes) (v : Pins) (graphs uploads : List Tree) (reads : List (List Tree)) : Type 0 where
-  pub current : All (IsUnchanged p q) graphs
-  pub staged : All (IsUnchanged p q) uploads
-  pub read : (s w : ℕ) → slice_index_or v.seats s None ≡ Some w → All (IsUnchanged p q) (slice_index_or reads s [])
+  pub current : All (IsUnchangedTree p q) graphs
+  pub staged : All (IsUnchangedTree p q) uploads
+  pub read : (s w : ℕ) → slice_index_or v.seats s None ≡ Some w → All (IsUnchangedTree p q) (slice_index_or reads s [])
 
 -- the ledger goes on with the sides of the dead node in its place, one node fewer is in use, and its lifetime alone is out of the waste
 pub record MayGo (p q : Nodes) (v : Pins) (graphs uploads : List Tree) (reads : List (List Tree)) (d : Dead) (dead : List Dead) : Type 0 where

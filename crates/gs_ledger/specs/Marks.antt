@@ -17,10 +17,10 @@ abbrev pub side_at : Nodes → Bool → Option ℕ → Tree
 side_at p whole root = if whole then tree_at p root else leaf
 
 -- a number as a dead node, where it has a node and a death
-abbrev pub entry_at : Nodes → ℕ → Option Node → Option (ℕ × Bool) → List Dead
-entry_at p x None death = []
-entry_at p x (Some n) None = []
-entry_at p x (Some n) (Some d) =
+abbrev pub dead_entry_at : Nodes → ℕ → Option Node → Option (ℕ × Bool) → List Dead
+dead_entry_at p x None death = []
+dead_entry_at p x (Some n) None = []
+dead_entry_at p x (Some n) (Some d) =
     record {
       id = x;
       birth = n.birth;
@@ -33,7 +33,7 @@ entry_at p x (Some n) (Some d) =
 -- the dead nodes among the numbers below n
 abbrev pub dead_below : ℕ → Nodes → List Dead
 dead_below zero p = []
-dead_below (suc n) p = entry_at p n (node_at p n) (death_of (mark_at p n)) ++ dead_below n p
+dead_below (suc n) p = dead_entry_at p n (node_at p n) (death_of (mark_at p n)) ++ dead_below n p
 
 -- all dead nodes of a pool
 abbrev pub dead_at : Nodes → List Dead

@@ -12,7 +12,7 @@ use Rattle.gs_automaton.specs.Automata.{Found, run, run_from, kind_at, longest}
 use Rattle.gs_automaton.specs.Classes.{is_name_char}
 use Rattle.gs_automaton.specs.States.{tokens, state_after, start_of, accepts}
 use Rattle.gs_automaton.specs.Scans.{MayBecome, IsBest, IsScanned, IsBarren, IsBarrenTo}
-use Rattle.gs_lex.specs.Readings.{HasRead, first_of}
+use Rattle.gs_lex.specs.Readings.{HasRead, reading_at_start}
 use Rattle.gs_automaton.specs.declared.terminals.Terminal.{Terminal}
 use Rattle.gs_automaton.specs.declared.terminals.Terminal.TheVariants as kind
 use Rattle.gs_automaton.specs.declared.states.State.{State}
@@ -269,5 +269,5 @@ read-more r x y h = record {
 pub read-end : (r : Reading) (x : List ℕ) → HasRead false r x → HasRead true r x
 read-end r x h = record { scanned = h.scanned; barren = λ y v z m. h.barren y v z (becomes-open x y m) }
 
-pub read-fresh : (u : Bool) (x : List ℕ) → HasRead false (first_of u) x
+pub read-fresh : (u : Bool) (x : List ℕ) → HasRead false (reading_at_start u) x
 read-fresh u x = record { scanned = scan-fresh u x; barren = barren-none false u x }

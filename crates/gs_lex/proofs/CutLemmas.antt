@@ -14,8 +14,8 @@ use Rattle.gs_machine.proofs.Utf8Lemmas.{spelt}
 use Rattle.gs_automaton.proofs.BecomeLemmas.{becomes-on, no_end}
 use Rattle.gs_automaton.specs.Automata.{Found, run_from, kind_at, Recognizes, longest}
 use Rattle.gs_automaton.specs.Classes.{is_ws, is_line_end}
-use Rattle.gs_lex.specs.Cuts.{Parted, parted, from_kind, from_found, cut_from}
-use Rattle.gs_lex.specs.Lexers.{Leads}
+use Rattle.gs_lex.specs.Cuts.{PartedTokens, parted, from_kind, from_found, text_cut_from}
+use Rattle.gs_lex.specs.Lexers.{LeadsLexer}
 use Rattle.gs_lex.specs.Standing.{StandsAfter}
 use Rattle.gs_lex.specs.Readings.{BeginsToken, gap_of}
 use Rattle.gs_automaton.specs.States.{tokens, state_after, start_of}
@@ -124,18 +124,18 @@ found_longest u x cs t h b k = record {
 }
 
 -- the text x is cut so
-abbrev pub IsParted : Bool → Gap → ℕ → ℕ → List ℕ → Parted → Type 0
+abbrev pub IsParted : Bool → Gap → ℕ → ℕ → List ℕ → PartedTokens → Type 0
 IsParted u m n l x p = Cut u m n l x p.0 p.1
 
 -- after the longest token, whether it has a kind or not
-kind_parted : (u : Bool) (n l : ℕ) (x : List ℕ) (t : Terminal) (w r cs : List ℕ) (go : ℕ → List ℕ → Parted) (k : Option TokenKind) → Longest u x t w r → token_kind u t (encode_utf8_all w) ≡ k
+kind_parted : (u : Bool) (n l : ℕ) (x : List ℕ) (t : Terminal) (w r cs : List ℕ) (go : ℕ → List ℕ → PartedTokens) (k : Option TokenKind) → Longest u x t w r → token_kind u t (encode_utf8_all w) ≡ k
     → IsParted u Between (place_after n (length (encode_utf8_all w))) (place_after n (length (encode_utf8_all w))) r (go (place_after n (length (encode_utf8_all w))) cs)
     → IsParted u Between n l x (from_kind go n l (encode_utf8_all w) cs k)
 kind_parted u n l x t w r cs go None g e d = no_kind t w r g e
 kind_parted u n l x t w r cs go (Some k) g e d = token t w r k g e d
 
 -- where a token begins, whether the automaton finds one or not
-found_parted : (u : Bool) (n l : ℕ) (x cs : List ℕ) (go : ℕ → List ℕ → Parted) (f : Found Terminal ℕ) → Spells x cs → IsSplit cs f → Best (tokens u) (Some (start_of u)) cs f → BeginsToken x
+found_parted : (u : Bool) (n l : ℕ) (x cs : List ℕ) (go : ℕ → List ℕ → PartedTokens) (f : Found Terminal ℕ) → Spells x cs → IsSplit cs f → Best (tokens u) (Some (start_of u)) cs f → BeginsToken x
     → ((k : ℕ) (y ds : List ℕ) → Spells y ds → length ds < length cs → IsParted u Between k k y (go k ds)) → IsParted u Between n l x (from_found go u n l f)
 found_parted u n l x cs go None h s b t d = no_token t.first t.others t.parts t.no_space t.no_hash (found_none u x cs h b)
 found_parted u n l x cs go (Some t) h s b i d =
@@ -168,7 +168,7 @@ begins_bad : (x : List ℕ) → x ≢ [] → StartsWithNoChar x → BeginsToken 
 begins_bad x n j = begins x n (λ d r p l. absurd (j d r (scalar_from d (inl (omega arith))) p))
 
 -- either way of a test
-by_test : (P : Parted → Type 0) (b : Bool) (p q : Parted) → (b ≡ true → P p) → (b ≡ false → P q) → P (if b then p else q)
+by_test : (P : PartedTokens → Type 0) (b : Bool) (p q : PartedTokens) → (b ≡ true → P p) → (b ≡ false → P q) → P (if b then p else q)
 by_test P true p q f g = f refl
 by_test P false p q f g = g refl
 
@@ -176,7 +176,7 @@ no_scalar : (c : ℕ) → IsScalar c → (c == bad) ≡ true → ⊥
 no_scalar c k e = let h : IsScalar bad = subst IsScalar (eqb-true c bad e) k in Prim.cc h
 
 -- after the end of a comment's line
-line_parted : (u : Bool) (n l : ℕ) (x : List ℕ) (c : ℕ) (o : List ℕ) (p : Parted) → x ≡ encode_utf8 c ++ o → is_line_end c ≡ true → IsParted u Between (place_after n 1) l o p → IsParted u InComment n l x p
+line_parted : (u : Bool) (n l : ℕ) (x : List ℕ) (c : ℕ) (o : List ℕ) (p : PartedTokens) → x ≡ encode_utf8 c ++ o → is_line_end c ≡ true → IsParted u Between (place_after n 1) l o p → IsParted u InComment n l x p
 line_parted u n l x c o p e t d =
     let q : x ≡ c ∷ o = e ∙ ap (λ z. z ++ o) (one c (line_end_low c t)) in
     line_end (subst EndsLine (sym q) t) (space c o q (end_space c t) d)
@@ -211,20 +211,20 @@ parted-cut (suc f) u Between n l x _ (char c o cs s e q) h =
     (λ p y ds g j. parted-cut f u Between p p y ds g (omega (arith, h, j)))))
 
 -- each text has a cut, from each place
-pub cut-from : (u : Bool) (m : Gap) (n l : ℕ) (x : List ℕ) → Cut u m n l x (cut_from u m n l x).0 (cut_from u m n l x).1
+pub cut-from : (u : Bool) (m : Gap) (n l : ℕ) (x : List ℕ) → Cut u m n l x (text_cut_from u m n l x).0 (text_cut_from u m n l x).1
 cut-from u m n l x = parted-cut (length (symbols x)) u m n l x (symbols x) (spelt x) (omega arith)
 
 -- where a lexer of pieces that were fed stands
-pub leads-stands : (u : Bool) (l : Lexer) (x : List ℕ) (ts : List Lexeme) → Leads u l x ts → StandsAfter false u l.at l.held.items x ts
+pub leads-stands : (u : Bool) (l : Lexer) (x : List ℕ) (ts : List Lexeme) → LeadsLexer u l x ts → StandsAfter false u l.at l.held.items x ts
 leads-stands u l x ts h = record { reads = h.reads; read = h.read; before = h.before; parts = h.parts; characters = h.characters; rest = h.rest }
 
 -- a text of which a reading has cut some tokens has a cut, however it goes on, and they are its first
 pub stands-goes-on : (u : Bool) (r : Reading) (left x : List ℕ) (ts : List Lexeme) → StandsAfter false u r left x ts → (y : List ℕ) → (us : List Lexeme) × (e : CutEnd) × IsCut u (x ++ y) (ts ++ us) e
 stands-goes-on u r left x ts h y =
-    let p = cut_from r.updates (gap_of r.in_comment) r.place r.last (left ++ y) in
+    let p = text_cut_from r.updates (gap_of r.in_comment) r.place r.last (left ++ y) in
     let c = h.rest (left ++ y) p.0 p.1 (becomes-on false left y (no_end y)) (cut-from r.updates (gap_of r.in_comment) r.place r.last (left ++ y)) in
     (p.0, p.1, subst (λ z. IsCut u z (ts ++ p.0) p.1) (sym (append_assoc h.before left y) ∙ ap (λ z. z ++ y) (sym h.parts)) c)
 
 -- so has a text that a lexer was fed
-pub leads-goes-on : (u : Bool) (l : Lexer) (x : List ℕ) (ts : List Lexeme) → Leads u l x ts → (y : List ℕ) → (us : List Lexeme) × (e : CutEnd) × IsCut u (x ++ y) (ts ++ us) e
+pub leads-goes-on : (u : Bool) (l : Lexer) (x : List ℕ) (ts : List Lexeme) → LeadsLexer u l x ts → (y : List ℕ) → (us : List Lexeme) × (e : CutEnd) × IsCut u (x ++ y) (ts ++ us) e
 leads-goes-on u l x ts h y = stands-goes-on u l.at l.held.items x ts (leads-stands u l x ts h) y

@@ -2,7 +2,7 @@
 use Rattle.std.proofs.Common.{◌≡◌, ℕ, Bool, false, List, [], ◌++◌, refl, sym, ap, ◌∙◌, subst, append_assoc, append-nil, drop}
 use Rattle.gs_lex.specs.Tokens.{CutEnd, AtFault, Lexeme, IsCut}
 use Rattle.gs_lex.specs.Readings.{CutFrom, Fails, HasRead, Waits, Went, HasHalted}
-use Rattle.gs_lex.specs.Lexers.{Leads, Feeds, Breaks, CutsHeld}
+use Rattle.gs_lex.specs.Lexers.{LeadsLexer, FeedsLexer, Breaks, CutsHeld}
 use Rattle.gs_lex.specs.declared.lexers.Lexer.{Lexer}
 use Rattle.gs_lex.specs.declared.readings.Halt.{Halt}
 use Rattle.gs_lex.specs.declared.readings.Halt.TheVariants as halt
@@ -44,11 +44,11 @@ takes-as l m text r h old new e k a d f g =
       waits = λ p. subst (λ z. Waits m.at.in_comment z m.at.scan) (sym d) (subst (λ (s : Reading). Waits s.in_comment (drop r.cut x) s.scan) (sym a) (waiting x r h p w.1));
     }
 
-read_piece : (u : Bool) (l m : Lexer) (x piece : List ℕ) (ts : List Lexeme) → Leads u l x ts → m.at ≡ l.at → m.held.items ≡ l.held.items ++ piece → HasRead false m.at m.held.items
+read_piece : (u : Bool) (l m : Lexer) (x piece : List ℕ) (ts : List Lexeme) → LeadsLexer u l x ts → m.at ≡ l.at → m.held.items ≡ l.held.items ++ piece → HasRead false m.at m.held.items
 read_piece u l m x piece ts h a d = subst (λ q. HasRead false q m.held.items) (sym a) (subst (HasRead false l.at) (sym d) (read-more l.at l.held.items piece h.read))
 
 -- the tokens of the text are those given before, those of the piece, and those of what becomes of the bytes that are held
-cut_piece : (u : Bool) (l m n : Lexer) (x piece : List ℕ) (ts : List Lexeme) (old new : List Token) (k : Halt) → (h : Leads u l x ts) → m.at ≡ l.at → m.held.items ≡ l.held.items ++ piece
+cut_piece : (u : Bool) (l m n : Lexer) (x piece : List ℕ) (ts : List Lexeme) (old new : List Token) (k : Halt) → (h : LeadsLexer u l x ts) → m.at ≡ l.at → m.held.items ≡ l.held.items ++ piece
     → (t : CutsHeld m n old new k) → (z : List ℕ) (us : List Lexeme) (e : CutEnd) → MayBecome false n.held.items z → CutFrom n.at z us e → IsCut u ((h.before ++ t.before) ++ z) ((ts ++ t.added) ++ us) e
 cut_piece u l m n x piece ts old new k h a d t z us e b c =
     let all : CutFrom l.at (t.before ++ z) (t.added ++ us) e = subst (λ q. CutFrom q (t.before ++ z) (t.added ++ us) e) a (t.cut z us e b c) in
@@ -58,16 +58,16 @@ cut_piece u l m n x piece ts old new k h a d t z us e b c =
     (subst (λ y. IsCut u (h.before ++ (t.before ++ z)) y e) (sym (append_assoc ts t.added us)) (h.rest (t.before ++ z) (t.added ++ us) e held all))
 
 -- the text up to the end of the piece: what is cut, and what is held
-piece_parts : (u : Bool) (l m n : Lexer) (x piece : List ℕ) (ts : List Lexeme) (old new : List Token) (k : Halt) → (h : Leads u l x ts) → m.held.items ≡ l.held.items ++ piece
+piece_parts : (u : Bool) (l m n : Lexer) (x piece : List ℕ) (ts : List Lexeme) (old new : List Token) (k : Halt) → (h : LeadsLexer u l x ts) → m.held.items ≡ l.held.items ++ piece
     → (t : CutsHeld m n old new k) → x ++ piece ≡ (h.before ++ t.before) ++ n.held.items
 piece_parts u l m n x piece ts old new k h d t =
     ap (λ z. z ++ piece) h.parts ∙ append_assoc h.before l.held.items piece ∙ ap (λ z. h.before ++ z) (sym d ∙ t.parts) ∙ sym (append_assoc h.before t.before n.held.items)
 
-pub feeds-as : (u : Bool) (l m n : Lexer) (x piece : List ℕ) (ts : List Lexeme) (old new : List Token) (k : Halt) → Leads u l x ts → m.at ≡ l.at → m.held.items ≡ l.held.items ++ piece
-    → n.is_closed ≡ false → (k ≡ halt.Fault → ⊥) → (HasRead false m.at m.held.items → CutsHeld m n old new k) → Feeds u n (x ++ piece) ts old new
+pub feeds-as : (u : Bool) (l m n : Lexer) (x piece : List ℕ) (ts : List Lexeme) (old new : List Token) (k : Halt) → LeadsLexer u l x ts → m.at ≡ l.at → m.held.items ≡ l.held.items ++ piece
+    → n.is_closed ≡ false → (k ≡ halt.Fault → ⊥) → (HasRead false m.at m.held.items → CutsHeld m n old new k) → FeedsLexer u n (x ++ piece) ts old new
 feeds-as u l m n x piece ts old new k h a d o g f =
     let t = f (read_piece u l m x piece ts h a d) in
-    let leads : Leads u n (x ++ piece) (ts ++ t.added) = record {
+    let leads : LeadsLexer u n (x ++ piece) (ts ++ t.added) = record {
       open_ = o;
       reads = t.reads ∙ ap (λ (q : Reading). q.updates) a ∙ h.reads;
       read = t.read;
@@ -79,7 +79,7 @@ feeds-as u l m n x piece ts old new k h a d o g f =
     let waits : Awaits u (x ++ piece) (ts ++ t.added) = awaits-at u n.at n.held.items (x ++ piece) (ts ++ t.added) (leads-stands u n (x ++ piece) (ts ++ t.added) leads) (t.waits g) in
     record { added = t.added; given = t.given; leads = leads; settled = waits.settled; quiet = waits.quiet }
 
-pub breaks-as : (u : Bool) (l m n : Lexer) (x piece : List ℕ) (ts : List Lexeme) (old new : List Token) (k : Halt) → Leads u l x ts → m.at ≡ l.at → m.held.items ≡ l.held.items ++ piece
+pub breaks-as : (u : Bool) (l m n : Lexer) (x piece : List ℕ) (ts : List Lexeme) (old new : List Token) (k : Halt) → LeadsLexer u l x ts → m.at ≡ l.at → m.held.items ≡ l.held.items ++ piece
     → k ≡ halt.Fault → (HasRead false m.at m.held.items → CutsHeld m n old new k) → Breaks u (x ++ piece) ts n.at.last old new
 breaks-as u l m n x piece ts old new k h a d p f =
     let t = f (read_piece u l m x piece ts h a d) in

@@ -2,8 +2,8 @@
 use Rattle.std.proofs.Common.{◌≡◌, ℕ, Bool, true, false, List, [], ◌++◌, refl, sym, ap, ◌∙◌, subst, append-nil, drop}
 use Rattle.std.proofs.lemmas.Str.{IsUtf8-nil}
 use Rattle.gs_lex.specs.Tokens.{CutEnd, AtEnd, AtFault, Lexeme, IsCut}
-use Rattle.gs_lex.specs.Readings.{CutFrom, Fails, HasRead, Went, HasHalted, first_of}
-use Rattle.gs_lex.specs.Lexers.{Leads, Finishes}
+use Rattle.gs_lex.specs.Readings.{CutFrom, Fails, HasRead, Went, HasHalted, reading_at_start}
+use Rattle.gs_lex.specs.Lexers.{LeadsLexer, FinishesLexer}
 use Rattle.gs_lex.specs.declared.lexers.Lexer.{Lexer}
 use Rattle.gs_lex.specs.declared.readings.Halt.{Halt}
 use Rattle.gs_lex.specs.declared.readings.Halt.TheVariants as halt
@@ -14,11 +14,11 @@ use Rattle.gs_automaton.proofs.BecomeLemmas.{becomes-self}
 use Rattle.gs_lex.proofs.BarrenLemmas.{read-end, read-fresh}
 
 -- what is held is read from its start
-pub held-read : (u : Bool) (l : Lexer) (x : List ℕ) (ts : List Lexeme) → Leads u l x ts → l.at.cut ≡ 0 → HasRead true l.at (drop l.at.cut l.held.items)
+pub held-read : (u : Bool) (l : Lexer) (x : List ℕ) (ts : List Lexeme) → LeadsLexer u l x ts → l.at.cut ≡ 0 → HasRead true l.at (drop l.at.cut l.held.items)
 held-read u l x ts h k = subst (λ n. HasRead true l.at (drop n l.held.items)) (sym k) (read-end l.at l.held.items h.read)
 
-pub finish-as : (u : Bool) (l : Lexer) (x : List ℕ) (ts : List Lexeme) (r : Reading) (old new : List Token) (e : CutEnd) → Leads u l x ts → l.at.cut ≡ 0
-    → Went true l.held.items l.at r old new → CutFrom r (drop r.cut l.held.items) [] e → Finishes u x ts e old new
+pub finish-as : (u : Bool) (l : Lexer) (x : List ℕ) (ts : List Lexeme) (r : Reading) (old new : List Token) (e : CutEnd) → LeadsLexer u l x ts → l.at.cut ≡ 0
+    → Went true l.held.items l.at r old new → CutFrom r (drop r.cut l.held.items) [] e → FinishesLexer u x ts e old new
 finish-as u l x ts r old new e h k w f =
     let rest = drop r.cut l.held.items in
     let t : CutFrom l.at (w.before ++ rest) (w.added ++ []) e = w.cut rest [] e (becomes-self true rest) f in
@@ -52,7 +52,7 @@ of-held l text r h old new e f =
     subst P e f
 
 -- a lexer at the start of a text
-pub leads-fresh : (u : Bool) (l : Lexer) → l.is_closed ≡ false → l.held.items ≡ [] → l.at ≡ first_of u → Leads u l [] []
+pub leads-fresh : (u : Bool) (l : Lexer) → l.is_closed ≡ false → l.held.items ≡ [] → l.at ≡ reading_at_start u → LeadsLexer u l [] []
 leads-fresh u l h k e = record {
   open_ = h;
   reads = ap (λ (r : Reading). r.updates) e;

@@ -2,7 +2,7 @@
 use Rattle.std.proofs.Common.{◌≡◌, ℕ, ◌+◌, ◌^◌, ◌<◌, ◌≤◌, Bool, true, false, List, [], ◌∷◌, ◌++◌, refl, sym, ap, ◌∙◌, arith, subst, length, Some, take, drop, encode_utf8_all}
 use Rattle.std.proofs.lemmas.List.{drop-drop}
 use Rattle.gs_automaton.specs.Fronts.{GoesOver}
-use Rattle.gs_lex.specs.Plains.{IsPlain, IsPlainAhead, plain_of}
+use Rattle.gs_lex.specs.Plains.{IsPlainToken, IsPlainAhead, plain_of}
 use Rattle.gs_lex.specs.Readings.{FindsToken, passed_of, found_of}
 use Rattle.gs_automaton.specs.Scans.{IsScanned, MayBecome, fresh}
 use Rattle.gs_lex.specs.Standing.{StandsAfter}
@@ -21,7 +21,7 @@ use Rattle.gs_lex.proofs.StepLemmas.{find-token, stuck-finds}
 
 -- a scan that went straight on to where no longer token comes has found the token
 pub plain-found : (u : Bool) (x : List ℕ) (r : Scan × Bool) (t : Terminal) (k : TokenKind) → GoesOver x (fresh u) r → r.1 ≡ true → r.0.best ≡ Some t → 0 < r.0.best_len
-    → token_kind u t (take r.0.best_len x) ≡ Some k → IsPlain u x k r.0.best_len
+    → token_kind u t (take r.0.best_len x) ≡ Some k → IsPlainToken u x k r.0.best_len
 plain-found u x r t k g e b some d = record {
   some = some;
   within = within;

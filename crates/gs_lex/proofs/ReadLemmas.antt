@@ -7,7 +7,7 @@ use Rattle.std.specs.Str.{IsUtf8}
 use Rattle.gs_automaton.specs.Scans.{MayBecome, IsScanned, IsBarrenTo}
 use Rattle.gs_lex.specs.Tokens.{lexeme_at}
 use Rattle.gs_lex.specs.Lexemes.{lexemes_of}
-use Rattle.gs_lex.specs.Readings.{Passes, FindsToken, CutFrom, HasRead, Went, Grows, IsWithin, passed_of, found_of, bit}
+use Rattle.gs_lex.specs.Readings.{Passes, FindsToken, CutFrom, HasRead, Went, GrowsByTokens, IsWithin, passed_of, found_of, bit}
 use Rattle.gs_lex.specs.declared.kinds.TokenKind.{TokenKind}
 use Rattle.gs_automaton.specs.declared.scans.Scan.{Scan}
 use Rattle.gs_lex.specs.declared.steps.Reading.{Reading}
@@ -82,10 +82,10 @@ within-passed r x count c w h = record { cut = omega (arith, length-drop r.cut x
 pub within-wait : (r : Reading) (x : List ℕ) (s : Scan) → IsWithin r x → s.len ≤ length (drop r.cut x) → s.best_len ≤ s.len → IsWithin (record r { scan = s }) x
 within-wait r x s w h k = record { cut = w.cut; scan = omega (arith, length-drop r.cut x, w.cut, h); best = k }
 
-pub grows-nothing : (old : List Token) → Grows old old
+pub grows-nothing : (old : List Token) → GrowsByTokens old old
 grows-nothing old = record { more = []; parts = sym (append-nil old) }
 
-pub grows-more : (old new newer : List Token) → Grows old new → Grows new newer → Grows old newer
+pub grows-more : (old new newer : List Token) → GrowsByTokens old new → GrowsByTokens new newer → GrowsByTokens old newer
 grows-more old new newer g h = record { more = g.more ++ h.more; parts = h.parts ∙ ap (λ z. z ++ h.more) g.parts ∙ append_assoc old g.more h.more }
 
 pub falls-passed : (r : Reading) (x : List ℕ) (count : ℕ) (c : Bool) → IsWithin r x → count ≤ length (drop r.cut x) → bit c < count + count + bit r.in_comment

@@ -15,7 +15,7 @@ use Rattle.gs_automaton.specs.Symbols.{IsShort}
 use Rattle.gs_automaton.specs.Terminals.{has_char, Caret}
 use Rattle.gs_lex.specs.Tokens.{Cut, Between, InComment, CutEnd, AtEnd, AtFault, Lexeme, IsCut, lexeme_at, has_text, token_kind, Longest, NoTerminal, ended, token, no_token, line_end}
 use Rattle.gs_lex.specs.Readings.{CutFrom, Waits, inside, between, begun, gap_of}
-use Rattle.gs_lex.specs.Cuts.{cut_from}
+use Rattle.gs_lex.specs.Cuts.{text_cut_from}
 use Rattle.gs_lex.specs.Lexers.{Stay, MayGoQuietly}
 use Rattle.gs_lex.specs.Standing.{StandsAfter, Awaits}
 use Rattle.gs_lex.specs.declared.kinds.TokenKind.{TokenKind}
@@ -204,7 +204,7 @@ from_front u l left x front ts held short h p g s f =
 -- however that front goes on, its tokens begin with those that were given
 stays_on : (u : Bool) (l : Reading) (front : List ℕ) (ts : List Lexeme) (held : List ℕ) → FromFront u l front ts held → Stay u front ts
 stays_on u l front ts held h y vs e c =
-    let p = cut_from l.updates (gap_of l.in_comment) l.place l.last (held ++ y) in
+    let p = text_cut_from l.updates (gap_of l.in_comment) l.place l.last (held ++ y) in
     let d = h.on y p.0 p.1 (cut-from l.updates (gap_of l.in_comment) l.place l.last (held ++ y)) in
     (p.0, (cut-one u Between 0 0 (front ++ y) vs (ts ++ p.0) e p.1 c d).0)
 

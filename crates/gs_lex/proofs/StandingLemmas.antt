@@ -5,7 +5,7 @@ use Rattle.std.proofs.lemmas.List.{drop-drop}
 use Rattle.std.proofs.lemmas.Str.{IsUtf8-nil, IsUtf8-append}
 use Rattle.gs_lex.specs.Tokens.{IsCut, CutEnd, AtEnd, AtFault, Lexeme, lexeme_at}
 use Rattle.gs_automaton.specs.Scans.{MayFollow, IsScanned}
-use Rattle.gs_lex.specs.Readings.{CutFrom, Passes, FindsToken, Fails, Waits, passed_of, found_of, first_of}
+use Rattle.gs_lex.specs.Readings.{CutFrom, Passes, FindsToken, Fails, Waits, passed_of, found_of, reading_at_start}
 use Rattle.gs_lex.specs.Standing.{StandsAfter, Awaits}
 use Rattle.gs_lex.specs.declared.kinds.TokenKind.{TokenKind}
 use Rattle.gs_automaton.specs.declared.scans.Scan.{Scan}
@@ -17,7 +17,7 @@ use Rattle.gs_automaton.proofs.ScanLemmas.{scan-fresh}
 use Rattle.gs_lex.proofs.SettledLemmas.{awaits-at}
 
 -- at the start of a text
-pub stands-first : (u : Bool) (r : Reading) (held : List ℕ) → r ≡ first_of u → held ≡ [] → StandsAfter false u r (drop r.cut held) [] []
+pub stands-first : (u : Bool) (r : Reading) (held : List ℕ) → r ≡ reading_at_start u → held ≡ [] → StandsAfter false u r (drop r.cut held) [] []
 stands-first u r held e k = subst (λ (s : Reading). StandsAfter false u s (drop s.cut held) [] []) (sym e) (record {
   reads = refl;
   read = read-fresh u held;

@@ -3,8 +3,8 @@ use Rattle.std.proofs.Common.{◌≡◌, ℕ, ◌+◌, Bool, true, List, [], ◌
 use Rattle.std.proofs.Math.ListN.{take-append-drop}
 use Rattle.std.proofs.lemmas.List.{drop-drop}
 use Rattle.gs_lex.specs.Tokens.{IsCut, CutEnd, AtFault, Lexeme, lexeme_at}
-use Rattle.gs_lex.specs.Cuts.{cut_from}
-use Rattle.gs_lex.specs.Readings.{CutFrom, Passes, FindsToken, Fails, passed_of, found_of, first_of, gap_of}
+use Rattle.gs_lex.specs.Cuts.{text_cut_from}
+use Rattle.gs_lex.specs.Readings.{CutFrom, Passes, FindsToken, Fails, passed_of, found_of, reading_at_start, gap_of}
 use Rattle.gs_automaton.specs.Scans.{IsBarrenTo}
 use Rattle.gs_lex.specs.Cutting.{HasCutOff}
 use Rattle.gs_lex.specs.declared.kinds.TokenKind.{TokenKind}
@@ -20,8 +20,8 @@ left_more : (r : Reading) (x : List ℕ) (count : ℕ) → drop count (drop r.cu
 left_more r x count = drop-drop count r.cut x
 
 -- at the start of a text
-pub cut-start : (u : Bool) (r : Reading) (x : List ℕ) → r ≡ first_of u → HasCutOff u r x []
-cut-start u r x e = subst (λ (s : Reading). HasCutOff u s x []) (sym e) (record { reads = refl; read = read-end (first_of u) x (read-fresh u x); rest = λ us end c. c })
+pub cut-start : (u : Bool) (r : Reading) (x : List ℕ) → r ≡ reading_at_start u → HasCutOff u r x []
+cut-start u r x e = subst (λ (s : Reading). HasCutOff u s x []) (sym e) (record { reads = refl; read = read-end (reading_at_start u) x (read-fresh u x); rest = λ us end c. c })
 
 -- after bytes that are no part of a token
 pub cut-passed : (u : Bool) (r : Reading) (x : List ℕ) (ts : List Lexeme) (count : ℕ) (c : Bool) → HasCutOff u r x ts → Passes true r (drop r.cut x) count c → HasCutOff u (passed_of r count c) x ts
@@ -61,5 +61,5 @@ cut-fails u r x ts h f = cut-ends u r x ts (AtFault r.last) h (fails-at r (drop 
 -- the text has a cut that begins with the tokens that were given
 pub cut-goes-on : (u : Bool) (r : Reading) (x : List ℕ) (ts : List Lexeme) → HasCutOff u r x ts → (us : List Lexeme) × ((e : CutEnd) × IsCut u x (ts ++ us) e)
 cut-goes-on u r x ts h =
-    let p = cut_from r.updates (gap_of r.in_comment) r.place r.last (drop r.cut x) in
+    let p = text_cut_from r.updates (gap_of r.in_comment) r.place r.last (drop r.cut x) in
     (p.0, (p.1, h.rest p.0 p.1 (cut-from r.updates (gap_of r.in_comment) r.place r.last (drop r.cut x))))

@@ -10,25 +10,25 @@ use Rattle.gs_lex.specs.declared.kinds.TokenKind.{TokenKind}
 use Rattle.gs_automaton.specs.declared.terminals.Terminal.{Terminal}
 
 -- the tokens of a text, and how it ends
-abbrev pub Parted : Type 0
-Parted = List Lexeme × CutEnd
+abbrev pub PartedTokens : Type 0
+PartedTokens = List Lexeme × CutEnd
 
 -- a token, and those after it
-abbrev pub with_token : Lexeme → Parted → Parted
+abbrev pub with_token : Lexeme → PartedTokens → PartedTokens
 with_token t p = (t ∷ p.0, p.1)
 
 -- A token of these bytes that ends there, and what follows by `next`; or a fault after the last token.
-abbrev pub from_kind : (ℕ → List ℕ → Parted) → ℕ → ℕ → List ℕ → List ℕ → Option TokenKind → Parted
+abbrev pub from_kind : (ℕ → List ℕ → PartedTokens) → ℕ → ℕ → List ℕ → List ℕ → Option TokenKind → PartedTokens
 from_kind next n last x cs None = ([], AtFault last)
 from_kind next n last x cs (Some k) = with_token (lexeme_at k n x) (next (place_after n (length x)) cs)
 
 -- The token that was found at the front, and what follows it; or a fault after the last token.
-abbrev pub from_found : (ℕ → List ℕ → Parted) → Bool → ℕ → ℕ → Found Terminal ℕ → Parted
+abbrev pub from_found : (ℕ → List ℕ → PartedTokens) → Bool → ℕ → ℕ → Found Terminal ℕ → PartedTokens
 from_found next updates n last None = ([], AtFault last)
 from_found next updates n last (Some (t, w, cs)) = from_kind next n last (encode_utf8_all w) cs (token_kind updates t (encode_utf8_all w))
 
 -- characters at the place n, after a last token that ends at the place `last`, in at most so many steps
-unfoldable pub parted : ℕ → Bool → Gap → ℕ → ℕ → List ℕ → Parted
+unfoldable pub parted : ℕ → Bool → Gap → ℕ → ℕ → List ℕ → PartedTokens
 parted f updates m n last [] = ([], AtEnd)
 parted zero updates m n last (c ∷ cs) = ([], AtFault last)
 parted (suc f) updates InComment n last (c ∷ cs) =
@@ -41,16 +41,16 @@ parted (suc f) updates Between n last (c ∷ cs) =
     else from_found (λ k ds. parted f updates Between k k ds) updates n last (longest (tokens updates) (c ∷ cs))
 
 -- bytes from there on
-abbrev pub cut_from : Bool → Gap → ℕ → ℕ → List ℕ → Parted
-cut_from updates m n last x = parted (length (symbols x)) updates m n last (symbols x)
+abbrev pub text_cut_from : Bool → Gap → ℕ → ℕ → List ℕ → PartedTokens
+text_cut_from updates m n last x = parted (length (symbols x)) updates m n last (symbols x)
 
 -- a whole text
-abbrev pub cut_of : Bool → List ℕ → Parted
-cut_of updates x = cut_from updates Between 0 0 x
+abbrev pub cut_of_text : Bool → List ℕ → PartedTokens
+cut_of_text updates x = text_cut_from updates Between 0 0 x
 
 -- bytes from there on are cut so
 abbrev pub HasThatCut : Bool → Gap → ℕ → ℕ → List ℕ → Type 0
-HasThatCut updates m n last x = let p = cut_from updates m n last x in Cut updates m n last x p.0 p.1
+HasThatCut updates m n last x = let p = text_cut_from updates m n last x in Cut updates m n last x p.0 p.1
 
 -- two cuts of a text are the same
 abbrev pub HasOneCut : Bool → List ℕ → Type 0

@@ -24,10 +24,10 @@ abbrev pub CutsNext : List ℕ → Reading → Reading → Next → Type 0
 CutsNext x from to n = (updates : Bool) (ts : List Lexeme) → HasCutOff updates from x ts → StandsNext updates x to ts n
 
 -- how many bytes are left
-abbrev pub left_of : List ℕ → Reading → ℕ
-left_of x r = length x - r.cut
+abbrev pub bytes_left : List ℕ → Reading → ℕ
+bytes_left x r = length x - r.cut
 
 -- a token takes some of them; of a fault and of the end nothing is said
 abbrev pub TakesSome : List ℕ → Reading → Reading → Next → Type 0
-TakesSome x from to (next.Token t) = left_of x to < left_of x from
+TakesSome x from to (next.Token t) = bytes_left x to < bytes_left x from
 TakesSome x from to n = Unit {0}

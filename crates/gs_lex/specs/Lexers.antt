@@ -16,7 +16,7 @@ use Rattle.gs_lex.specs.declared.lexers.Lexer.{Lexer}
 
 -- The lexer was fed the text x and gave the tokens ts: whatever x becomes, they are its first tokens, and the
 -- others are those of what becomes of the bytes that are held. Before what is held stand whole characters.
-pub record Leads (updates : Bool) (l : Lexer) (x : List ℕ) (ts : List Lexeme) : Type 0 where
+pub record LeadsLexer (updates : Bool) (l : Lexer) (x : List ℕ) (ts : List Lexeme) : Type 0 where
   pub open_ : l.is_closed ≡ false
   pub reads : l.at.updates ≡ updates
   pub read : HasRead false l.at l.held.items
@@ -36,15 +36,15 @@ pub record IsUnchanged (old new : Lexer) : Type 0 where
   pub closed : new.is_closed ≡ old.is_closed
 
 -- these tokens were added to the list
-abbrev pub Adds : List Token → List Token → List Lexeme → Type 0
-Adds old new us = lexemes_of new ≡ lexemes_of old ++ us
+abbrev pub AddsTokens : List Token → List Token → List Lexeme → Type 0
+AddsTokens old new us = lexemes_of new ≡ lexemes_of old ++ us
 
 -- the tokens of the text begin with these however it goes on
 abbrev pub Stay : Bool → List ℕ → List Lexeme → Type 0
 Stay updates x ts = (y : List ℕ) (us : List Lexeme) (e : CutEnd) → IsCut updates (x ++ y) us e → Begins us ts
 
 -- and with no longer list do they all begin
-pub record AreSettled (updates : Bool) (x : List ℕ) (ts : List Lexeme) : Type 0 where
+pub record AreSettledTokens (updates : Bool) (x : List ℕ) (ts : List Lexeme) : Type 0 where
   pub stay : Stay updates x ts
   pub are_all : (more : List Lexeme) → Stay updates x more → Begins ts more
 
@@ -64,23 +64,23 @@ pub record MayGoQuietly (updates : Bool) (x : List ℕ) (ts : List Lexeme) : Typ
 
 -- A piece was read, and its tokens given: all that are settled by the longest front of the text so far that ends between
 -- two characters, and that front may go on quietly.
-pub record Feeds (updates : Bool) (new : Lexer) (x : List ℕ) (ts : List Lexeme) (old_list new_list : List Token) : Type 0 where
+pub record FeedsLexer (updates : Bool) (new : Lexer) (x : List ℕ) (ts : List Lexeme) (old_list new_list : List Token) : Type 0 where
   pub added : List Lexeme
-  pub given : Adds old_list new_list added
-  pub leads : Leads updates new x (ts ++ added)
-  pub settled : (front : List ℕ) → IsLongestFront x front → AreSettled updates front (ts ++ added)
+  pub given : AddsTokens old_list new_list added
+  pub leads : LeadsLexer updates new x (ts ++ added)
+  pub settled : (front : List ℕ) → IsLongestFront x front → AreSettledTokens updates front (ts ++ added)
   pub quiet : (front : List ℕ) → IsLongestFront x front → MayGoQuietly updates front (ts ++ added)
 
 -- the text has this fault, however it goes on; the tokens before it are given
 pub record Breaks (updates : Bool) (x : List ℕ) (ts : List Lexeme) (at : ℕ) (old_list new_list : List Token) : Type 0 where
   pub added : List Lexeme
-  pub given : Adds old_list new_list added
+  pub given : AddsTokens old_list new_list added
   pub fault : (y : List ℕ) → IsCut updates (x ++ y) (ts ++ added) (AtFault at)
 
 -- the whole text was read, and ends so; its last tokens are given
-pub record Finishes (updates : Bool) (x : List ℕ) (ts : List Lexeme) (e : CutEnd) (old_list new_list : List Token) : Type 0 where
+pub record FinishesLexer (updates : Bool) (x : List ℕ) (ts : List Lexeme) (e : CutEnd) (old_list new_list : List Token) : Type 0 where
   pub added : List Lexeme
-  pub given : Adds old_list new_list added
+  pub given : AddsTokens old_list new_list added
   pub cut : IsCut updates x (ts ++ added) e
 
 -- how `feed` is refused, where the lexer was open
@@ -92,7 +92,7 @@ FeedRefused updates x ts old_list new_list _ = ⊥
 -- how `finish` is refused, where the lexer was open
 abbrev pub FinishRefused : Bool → List ℕ → List Lexeme → List Token → List Token → Refusal → Type 0
 FinishRefused updates x ts old_list new_list NoMemory = Unit {0}
-FinishRefused updates x ts old_list new_list (Syntax at) = Finishes updates x ts (AtFault at) old_list new_list
+FinishRefused updates x ts old_list new_list (Syntax at) = FinishesLexer updates x ts (AtFault at) old_list new_list
 FinishRefused updates x ts old_list new_list _ = ⊥
 
 -- what a refusal leaves: a fault closes the lexer, and all else changes nothing
@@ -105,7 +105,7 @@ Leaves old new old_list new_list _ = ⊥
 -- the held text was cut, and what is left of it is held
 pub record CutsHeld (old new : Lexer) (old_list new_list : List Token) (h : Halt) : Type 0 where
   pub added : List Lexeme
-  pub given : Adds old_list new_list added
+  pub given : AddsTokens old_list new_list added
   pub reads : new.at.updates ≡ old.at.updates
   pub read : HasRead false new.at new.held.items
   pub before : List ℕ
@@ -122,23 +122,23 @@ CutsIfRead old new old_list new_list h = HasRead false old.at old.held.items →
 -- `feed` reads a piece more of each text that led to the lexer
 abbrev pub FeedReads : Lexer → Lexer → List ℕ → List Token → List Token → Result (Unit {0}) Refusal → Type 0
 FeedReads old new piece old_list new_list result =
-    (updates : Bool) (x : List ℕ) (ts : List Lexeme) → Leads updates old x ts
-    → OnOk result (Feeds updates new (x ++ piece) ts old_list new_list)
+    (updates : Bool) (x : List ℕ) (ts : List Lexeme) → LeadsLexer updates old x ts
+    → OnOk result (FeedsLexer updates new (x ++ piece) ts old_list new_list)
 
 -- or is refused as that text wants
 abbrev pub FeedFails : Lexer → List ℕ → List Token → List Token → Result (Unit {0}) Refusal → Type 0
 FeedFails old piece old_list new_list result =
-    (updates : Bool) (x : List ℕ) (ts : List Lexeme) → Leads updates old x ts
+    (updates : Bool) (x : List ℕ) (ts : List Lexeme) → LeadsLexer updates old x ts
     → IfErr result (FeedRefused updates (x ++ piece) ts old_list new_list)
 
 -- `finish` reads each text that led to the lexer to its end, and the lexer then stands at the start of another
 abbrev pub FinishReads : Lexer → Lexer → List Token → List Token → Result (Unit {0}) Refusal → Type 0
 FinishReads old new old_list new_list result =
-    (updates : Bool) (x : List ℕ) (ts : List Lexeme) → Leads updates old x ts
-    → OnOk result (Finishes updates x ts AtEnd old_list new_list × Leads updates new [] [])
+    (updates : Bool) (x : List ℕ) (ts : List Lexeme) → LeadsLexer updates old x ts
+    → OnOk result (FinishesLexer updates x ts AtEnd old_list new_list × LeadsLexer updates new [] [])
 
 -- or is refused as that text wants
 abbrev pub FinishFails : Lexer → List Token → List Token → Result (Unit {0}) Refusal → Type 0
 FinishFails old old_list new_list result =
-    (updates : Bool) (x : List ℕ) (ts : List Lexeme) → Leads updates old x ts
+    (updates : Bool) (x : List ℕ) (ts : List Lexeme) → LeadsLexer updates old x ts
     → IfErr result (FinishRefused updates x ts old_list new_list)

@@ -13,8 +13,8 @@ abbrev pub left_in : PieceLexer → List ℕ
 left_in l = drop l.at.cut l.held.items
 
 -- The lexer took the text x, and has cut the tokens ts off it; x is the whole text where it ends there.
-abbrev pub Leads : Bool → Bool → PieceLexer → List ℕ → List Lexeme → Type 0
-Leads is_end updates l x ts = StandsAfter is_end updates l.at (left_in l) x ts
+abbrev pub LeadsPieces : Bool → Bool → PieceLexer → List ℕ → List Lexeme → Type 0
+LeadsPieces is_end updates l x ts = StandsAfter is_end updates l.at (left_in l) x ts
 
 -- the token that was cut last
 abbrev pub token_of : PieceLexer → Lexeme
@@ -23,12 +23,12 @@ token_of l = lexeme_in l.held.items l.last
 -- a piece goes on with each text that led to the lexer
 abbrev pub Holds : PieceLexer → PieceLexer → List ℕ → Type 0
 Holds old new piece =
-    (updates : Bool) (x : List ℕ) (ts : List Lexeme) → Leads false updates old x ts → Leads false updates new (x ++ piece) ts
+    (updates : Bool) (x : List ℕ) (ts : List Lexeme) → LeadsPieces false updates old x ts → LeadsPieces false updates new (x ++ piece) ts
 
 -- in each text that led to the lexer this comes next
-abbrev pub Advances : Bool → PieceLexer → PieceLexer → Advance → Type 0
-Advances is_end old new n =
-    (updates : Bool) (x : List ℕ) (ts : List Lexeme) → Leads is_end updates old x ts
+abbrev pub AdvancesPieces : Bool → PieceLexer → PieceLexer → Advance → Type 0
+AdvancesPieces is_end old new n =
+    (updates : Bool) (x : List ℕ) (ts : List Lexeme) → LeadsPieces is_end updates old x ts
     → ComesNext is_end updates new.at (left_in new) x ts (token_of new) n
 
 -- a token leaves fewer bytes; of all else nothing is said

@@ -9,7 +9,7 @@ use Rattle.gs_lex.specs.declared.plains.Plain.{Plain}
 use Rattle.gs_lex.specs.declared.steps.Reading.{Reading}
 
 -- at the front of x stands this token of so many bytes
-pub record IsPlain (updates : Bool) (x : List ℕ) (k : TokenKind) (count : ℕ) : Type 0 where
+pub record IsPlainToken (updates : Bool) (x : List ℕ) (k : TokenKind) (count : ℕ) : Type 0 where
   pub some : 0 < count
   pub within : count ≤ length x
   pub found : (is_end : Bool) (r : Reading) → r.updates ≡ updates → r.in_comment ≡ false → FindsToken is_end r x k count 0
@@ -18,7 +18,7 @@ pub record IsPlain (updates : Bool) (x : List ℕ) (k : TokenKind) (count : ℕ)
 pub record IsPlainAhead (updates : Bool) (x : List ℕ) (p : Plain) : Type 0 where
   pub within : p.space + p.count ≤ length x
   pub spaces : AllFrom is_ws x 0 p.space
-  pub token : IsPlain updates (drop p.space x) p.kind p.count
+  pub token : IsPlainToken updates (drop p.space x) p.kind p.count
 
 -- the reading after them
 abbrev pub plain_of : Reading → ℕ → ℕ → Reading

@@ -121,13 +121,13 @@ HasHalted is_end x r halt.End = (is_end ≡ true) × CutFrom r (drop r.cut x) []
 HasHalted is_end x r halt.Wait = (is_end ≡ false) × Waits r.in_comment (drop r.cut x) r.scan
 
 -- tokens were added at most
-pub record Grows (old new : List Token) : Type 0 where
+pub record GrowsByTokens (old new : List Token) : Type 0 where
   pub more : List Token
   pub parts : new ≡ old ++ more
 
 -- at the start of a text
-abbrev pub first_of : Bool → Reading
-first_of updates = record { updates = updates; in_comment = false; cut = 0; place = 0; last = 0; barren = 0; scan = fresh updates }
+abbrev pub reading_at_start : Bool → Reading
+reading_at_start updates = record { updates = updates; in_comment = false; cut = 0; place = 0; last = 0; barren = 0; scan = fresh updates }
 
 -- the token of so many bytes from the cut on was added
 abbrev pub AddsToken : List ℕ → Reading → TokenKind → ℕ → List Token → List Token → Type 0

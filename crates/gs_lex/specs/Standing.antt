@@ -5,8 +5,8 @@ use Rattle.gs_machine.specs.Utf8.{IsLongestFront}
 use Rattle.gs_lex.specs.Tokens.{IsCut, CutEnd, AtEnd, AtFault, Lexeme, lexeme_at}
 use Rattle.gs_automaton.specs.Scans.{MayBecome, MayFollow}
 use Rattle.gs_lex.specs.Readings.{CutFrom, HasRead}
-use Rattle.gs_lex.specs.Cutting.{left_of}
-use Rattle.gs_lex.specs.Lexers.{AreSettled, MayGoQuietly}
+use Rattle.gs_lex.specs.Cutting.{bytes_left}
+use Rattle.gs_lex.specs.Lexers.{AreSettledTokens, MayGoQuietly}
 use Rattle.gs_lex.specs.declared.steps.Reading.{Reading}
 use Rattle.gs_lex.specs.declared.pieces.Span.{Span}
 use Rattle.gs_lex.specs.declared.pieces.Advance.{Advance}
@@ -33,7 +33,7 @@ lexeme_in x s = lexeme_at s.kind s.start (take s.count (drop s.from x))
 -- The text x goes on, and after the tokens ts no token comes that it cannot change: of the longest front of x that ends
 -- between two characters, all settled tokens are ts, and that front may go on quietly.
 pub record Awaits (updates : Bool) (x : List ℕ) (ts : List Lexeme) : Type 0 where
-  pub settled : (front : List ℕ) → IsLongestFront x front → AreSettled updates front ts
+  pub settled : (front : List ℕ) → IsLongestFront x front → AreSettledTokens updates front ts
   pub quiet : (front : List ℕ) → IsLongestFront x front → MayGoQuietly updates front ts
 
 -- The token t comes after the tokens ts of the text x, and the reading stands after it; or it stands where the text goes
@@ -52,5 +52,5 @@ CutsAhead is_end at_hand from to s n =
 
 -- a token takes some of the bytes that are left; of all else nothing is said
 abbrev pub TakesSome : List ℕ → Reading → Reading → Advance → Type 0
-TakesSome x from to next.Token = left_of x to < left_of x from
+TakesSome x from to next.Token = bytes_left x to < bytes_left x from
 TakesSome x from to n = Unit {0}

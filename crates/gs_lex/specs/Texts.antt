@@ -6,8 +6,8 @@ use Rattle.gs_lex.specs.declared.texts.Next.{Next}
 use Rattle.gs_lex.specs.declared.texts.TextLexer.{TextLexer}
 
 -- the lexer has given these tokens of its text
-abbrev pub HasGiven : Bool → TextLexer → List Lexeme → Type 0
-HasGiven updates l ts = HasCutOff updates l.at l.text.now ts
+abbrev pub HasGivenTokens : Bool → TextLexer → List Lexeme → Type 0
+HasGivenTokens updates l ts = HasCutOff updates l.at l.text.now ts
 
 -- after the tokens that it had given a lexer gives what stands next; where that is a token, fewer bytes are left
 abbrev pub Continues : TextLexer → TextLexer → Next → Type 0

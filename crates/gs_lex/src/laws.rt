@@ -1,7 +1,7 @@
 //! Laws of the definition, proved: the body is empty, and the contract is the law.
 ghost use Rattle.std.specs.Prelude.{◌<◌, ◌^◌, ℕ, Bool, true, false, List, length};
 ghost use Rattle.gs_lex.specs.Cuts.{HasOneCut, HasThatCut};
-ghost use Rattle.gs_lex.specs.Pieces.{Leads};
+ghost use Rattle.gs_lex.specs.Pieces.{LeadsPieces};
 ghost use Rattle.gs_lex.specs.Tokens.{Gap, Lexeme};
 ghost use Rattle.gs_lex.specs.declared.pieces.PieceLexer.{PieceLexer};
 ghost use Rattle.gs_lex.specs.Spans.{IsCutIntoSpans};
@@ -11,7 +11,7 @@ pub fn text_has_one_cut()
     ensures { (updates : Bool) (x : List ℕ) → HasOneCut updates x }
 {}
 
-/// Each text has a cut, from each place, and `cut_from` computes it.
+/// Each text has a cut, from each place, and `text_cut_from` computes it.
 pub fn text_has_a_cut()
     ensures { (updates : Bool) (m : Gap) (n last : ℕ) (x : List ℕ) → HasThatCut updates m n last x }
 {}
@@ -26,5 +26,5 @@ pub fn tokens_are_spans()
 /// the end of the whole text.
 pub fn a_text_may_end()
     ensures { (updates : Bool) (lexer : PieceLexer) (x : List ℕ) (ts : List Lexeme)
-        → Leads false updates lexer x ts → Leads true updates lexer x ts }
+        → LeadsPieces false updates lexer x ts → LeadsPieces true updates lexer x ts }
 {}

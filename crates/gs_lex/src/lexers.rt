@@ -1,6 +1,6 @@
 //! The lexer.
 ghost use Rattle.std.specs.Prelude.{◌≡◌, ◌≤◌, [], drop, vec_len, IfOk, IfErr, OnOk, OnErr};
-ghost use Rattle.gs_lex.specs.Readings.{Grows, first_of};
+ghost use Rattle.gs_lex.specs.Readings.{GrowsByTokens, reading_at_start};
 
 use crate::readings::{Halt, read};
 use crate::steps::Reading;
@@ -24,7 +24,7 @@ pub struct Lexer {
 
 /// At the start of a text.
 pub fn first_reading(updates: bool) -> Reading
-    ensures { result ≡ first_of updates }
+    ensures { result ≡ reading_at_start updates }
 {
     Reading {
         updates,
@@ -66,12 +66,12 @@ pub fn drop_front(held: &mut Vec<u8>, count: usize)
 }
 
 impl Lexer {
-    ghost use Rattle.gs_lex.specs.Lexers.{Leads, IsClosed, FeedReads, FeedFails, FinishReads, FinishFails, Leaves, CutsIfRead, IsUnchanged};
+    ghost use Rattle.gs_lex.specs.Lexers.{LeadsLexer, IsClosed, FeedReads, FeedFails, FinishReads, FinishFails, Leaves, CutsIfRead, IsUnchanged};
 
     /// A lexer at the start of a text, of the tokens of Turtle, or of SPARQL Update too. It takes
     /// no memory.
     pub fn new(alloc: Global, updates: bool) -> Lexer
-        ensures { Leads updates result [] [] }
+        ensures { LeadsLexer updates result [] [] }
     {
         Lexer {
             alloc,
@@ -86,7 +86,7 @@ impl Lexer {
         ensures ok { IfOk result (CutsIfRead self.old self.new tokens.old.items tokens.new.items) }
         ensures err { OnErr result (IsUnchanged self.old self.new) }
         ensures closed { self.new.is_closed ≡ self.old.is_closed }
-        ensures kept { Grows tokens.old.items tokens.new.items }
+        ensures kept { GrowsByTokens tokens.old.items tokens.new.items }
     {
         let (at, halt) = read(self.alloc, &self.held, self.at, false, tokens)?;
         drop_front(&mut self.held, at.cut);

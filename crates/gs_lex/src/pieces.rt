@@ -124,12 +124,12 @@ pub struct PieceLexer {
 
 impl PieceLexer {
     ghost use Rattle.std.specs.Prelude.{◌++◌, Bool, IfSome, OnErr};
-    ghost use Rattle.gs_lex.specs.Pieces.{Leads, Holds, Advances, Shortens, ComesPlain, left_in, token_of};
+    ghost use Rattle.gs_lex.specs.Pieces.{LeadsPieces, Holds, AdvancesPieces, Shortens, ComesPlain, left_in, token_of};
 
     /// A lexer at the start of a text, of the tokens of Turtle, or of SPARQL Update too. It takes
     /// no memory.
     pub fn new(alloc: Global, updates: bool) -> PieceLexer
-        ensures { Leads false updates result [] [] }
+        ensures { LeadsPieces false updates result [] [] }
     {
         PieceLexer {
             held: Vec::new(alloc),
@@ -159,7 +159,7 @@ impl PieceLexer {
     /// tries, each straight on, settled nothing.
     #[inline(always)]
     pub fn advance(&mut self, is_end: bool) -> Advance
-        ensures next { Advances is_end self.old self.new result }
+        ensures next { AdvancesPieces is_end self.old self.new result }
         ensures on { Shortens self.old self.new result }
     {
         if let Some(plain) = self.plain() {
@@ -184,7 +184,7 @@ impl PieceLexer {
     #[inline(always)]
     fn pass(&mut self, plain: Plain)
         requires { ComesPlain self.old plain }
-        ensures next { (is_end : Bool) → Advances is_end self.old self.new Advance.Token }
+        ensures next { (is_end : Bool) → AdvancesPieces is_end self.old self.new Advance.Token }
         ensures on { Shortens self.old self.new Advance.Token }
     {
         let from = self.at.cut + plain.space;
@@ -204,7 +204,7 @@ impl PieceLexer {
     /// Over the token that comes next, whichever it is.
     #[inline(always)]
     fn advance_far(&mut self, is_end: bool) -> Advance
-        ensures next { Advances is_end self.old self.new result }
+        ensures next { AdvancesPieces is_end self.old self.new result }
         ensures on { Shortens self.old self.new result }
     {
         let (at, last, next) = advance_in(&self.held, self.at, self.last, is_end);

@@ -1,6 +1,6 @@
 //! Tokens that are known at once, as most are: no longer one may come, whatever the text becomes.
 ghost use Rattle.std.specs.Prelude.{IfSome};
-ghost use Rattle.gs_lex.specs.Plains.{IsPlain, IsPlainAhead};
+ghost use Rattle.gs_lex.specs.Plains.{IsPlainToken, IsPlainAhead};
 
 use crate::kinds::TokenKind;
 use crate::runs::space_run;
@@ -20,7 +20,7 @@ pub struct Plain {
 /// The kind of the token at the front, and how many bytes it has, where that is known at once.
 #[inline(never)]
 pub fn plain_token(rest: &[u8], updates: bool) -> Option<(TokenKind, usize)>
-    ensures { IfSome result (λ t. IsPlain updates rest.now t.0 t.1) }
+    ensures { IfSome result (λ t. IsPlainToken updates rest.now t.0 t.1) }
 {
     if rest.len() == 0 {
         return None;

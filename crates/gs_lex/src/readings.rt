@@ -1,6 +1,6 @@
 //! The reading of a text, step by step.
 ghost use Rattle.std.specs.Prelude.{◌≡◌, ◌≤◌, ◌<◌, ◌+◌, ◌^◌, length, drop, IfOk, OnOk};
-ghost use Rattle.gs_lex.specs.Readings.{AddsToken, Grows, IsWithin, ReadsTo, StepFollows, StepMoves, passed_of, found_of};
+ghost use Rattle.gs_lex.specs.Readings.{AddsToken, GrowsByTokens, IsWithin, ReadsTo, StepFollows, StepMoves, passed_of, found_of};
 
 use crate::kinds::TokenKind;
 use crate::steps::{Reading, Step, next_step};
@@ -72,7 +72,7 @@ fn add_token(
 ) -> Result<(), AllocError>
     requires { at.cut + count ≤ length text.now }
     ensures ok { OnOk result (AddsToken text.now at kind count tokens.old.items tokens.new.items) }
-    ensures kept { Grows tokens.old.items tokens.new.items }
+    ensures kept { GrowsByTokens tokens.old.items tokens.new.items }
 {
     let rest = &text[at.cut..];
     let token = token_at(alloc, kind, at.place, &rest[..count])?;
@@ -91,7 +91,7 @@ pub fn read(
 ) -> Result<(Reading, Halt), AllocError>
     requires { IsWithin from text.now }
     ensures ok { IfOk result (ReadsTo is_end text.now from tokens.old.items tokens.new.items) }
-    ensures kept { Grows tokens.old.items tokens.new.items }
+    ensures kept { GrowsByTokens tokens.old.items tokens.new.items }
 {
     let mut at = from;
     'steps: loop {

@@ -56,12 +56,12 @@ pub struct TextLexer<'a> {
 }
 
 impl<'a> TextLexer<'a> {
-    ghost use Rattle.gs_lex.specs.Texts.{Continues, HasGiven};
+    ghost use Rattle.gs_lex.specs.Texts.{Continues, HasGivenTokens};
 
     /// A lexer at the start of a text, of the tokens of Turtle, or of SPARQL Update too.
     pub fn new(text: &'a [u8], updates: bool) -> TextLexer<'a>
         ensures text { result.text ≡ text.entry }
-        ensures given { HasGiven updates result [] }
+        ensures given { HasGivenTokens updates result [] }
     {
         TextLexer {
             text,

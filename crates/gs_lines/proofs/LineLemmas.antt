@@ -13,7 +13,7 @@ use Rattle.gs_tree.specs.Reading.{is_less, is_past, keys_from}
 use Rattle.gs_keys.specs.Texts.{triple_at, key_cmp, IsGiven}
 use Rattle.gs_keys.proofs.RootLemmas.{key_cmp_kept, triple_kept}
 use Rattle.gs_lines.specs.Graphs.{line_for, line_in, bytes_in}
-use Rattle.gs_lines.specs.Lines.{end_of}
+use Rattle.gs_lines.specs.Lines.{line_tail}
 use Rattle.gs_lines.specs.Pieces.{line_at, IsCursor}
 
 -- the bytes of the keys that are left, cut after the first
@@ -21,7 +21,7 @@ pub bytes_left : (terms : List Term) (graph : Target) (ks : List Key) (i : ℕ) 
 bytes_left terms graph ks i k within is = ap (bytes_in terms graph) (drop_more ks i k within) ∙ ap (λ x. line_in terms graph x ++ bytes_in terms graph (drop (i + 1) ks)) (sym is)
 
 -- a line is three texts, with a space after each, and its end
-pub line_parts : (graph : Target) (t : RdfTriple) → line_for graph t ≡ text_of t.subject ++ space ∷ text_of t.predicate ++ space ∷ text_of t.object ++ space ∷ end_of graph
+pub line_parts : (graph : Target) (t : RdfTriple) → line_for graph t ≡ text_of t.subject ++ space ∷ text_of t.predicate ++ space ∷ text_of t.object ++ space ∷ line_tail graph
 line_parts Default t = refl
 line_parts (Named name) t = append_assoc (text_of t.subject ++ space ∷ text_of t.predicate ++ space ∷ text_of t.object) (space ∷ in_brackets name) (space ∷ dot ∷ line_feed ∷ [])
 

@@ -17,7 +17,7 @@ use Rattle.gs_tree.proofs.FromLemmas.{from_all}
 use Rattle.gs_tree.proofs.KeysAfter.{all_from, left_after, cut_at}
 use Rattle.gs_tree.proofs.Order.{AllKeys-front}
 use Rattle.gs_keys.specs.Texts.{key_cmp, key_total, IsGiven}
-use Rattle.gs_keys.specs.Roots.{IsGraphAt, graph_at}
+use Rattle.gs_keys.specs.Roots.{IsGraphAt, graph_of_root}
 use Rattle.gs_keys.proofs.KeyLemmas.{triples_of_keys}
 use Rattle.gs_lines.specs.declared.pieces.Piece.{Piece}
 use Rattle.gs_lines.specs.Pieces.{line_at, bytes_of, keys_left, lines_from, last_key, IsCursor, IsPiece}
@@ -98,7 +98,7 @@ module _ (terms : List Term) (p : Nodes) (root : Option ℕ) (graph : IsGraphAt 
       }
 
   -- from the beginning on, the lines are those of the graph
-  pub all_lines : lines_from terms p root None ≡ lines_of (graph_at terms p root)
+  pub all_lines : lines_from terms p root None ≡ lines_of (graph_of_root terms p root)
   all_lines =
       let ks = keys_at p root in
       ap (map (line_at terms)) (from_all (key_cmp terms) ks) ∙ lines_of_triples terms Default ks ∙ ap (map line_of) (sym (triples_of_keys terms ks graph.set.rising graph.given))

@@ -9,11 +9,11 @@ use Rattle.gs_keys.specs.Texts.{term_at}
 use Rattle.gs_lines.specs.declared.lines.Known.{Known}
 
 -- it is this number, with the text of its term
-pub record IsKnown (terms : List Term) (number : ℕ) (k : Known) : Type 0 where
+pub record IsKnownText (terms : List Term) (number : ℕ) (k : Known) : Type 0 where
   pub number_is : k.number ≡ number
   pub text_is : k.text.now ≡ text_of (term_at terms number)
 
 -- what a line in a graph has after its three texts, and the space after each
-abbrev pub end_of : Target → List ℕ
-end_of Default = dot ∷ line_feed ∷ []
-end_of (Named name) = in_brackets name ++ space ∷ dot ∷ line_feed ∷ []
+abbrev pub line_tail : Target → List ℕ
+line_tail Default = dot ∷ line_feed ∷ []
+line_tail (Named name) = in_brackets name ++ space ∷ dot ∷ line_feed ∷ []

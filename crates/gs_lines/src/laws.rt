@@ -5,13 +5,13 @@ ghost use Rattle.gs_model.specs.Graphs.{lines_of};
 ghost use Rattle.gs_pool.specs.declared.nodes.Key.{Key};
 ghost use Rattle.gs_pool.specs.Pool.{Nodes};
 ghost use Rattle.gs_tree.specs.Tree.{tree_at};
-ghost use Rattle.gs_keys.specs.Roots.{IsGraphAt, graph_at};
+ghost use Rattle.gs_keys.specs.Roots.{IsGraphAt, graph_of_root};
 ghost use Rattle.gs_lines.specs.Pieces.{lines_from, IsCursor};
 
 /// From the beginning on, the lines are those of the root's graph.
 pub fn all_lines_are_the_graphs()
     ensures { (terms : List Term) (p : Nodes) (root : Option ℕ)
-        → IsGraphAt terms p root → lines_from terms p root None ≡ lines_of (graph_at terms p root) }
+        → IsGraphAt terms p root → lines_from terms p root None ≡ lines_of (graph_of_root terms p root) }
 {}
 
 /// The lines from a place on stay the same in a later pool that has the root's tree, among more terms.

@@ -5,7 +5,7 @@ ghost use Rattle.gs_tree.specs.Keys.{AllKeys};
 ghost use Rattle.gs_keys.specs.Texts.{term_at, IsGiven};
 ghost use Rattle.gs_lines.specs.Graphs.{line_in, bytes_in};
 ghost use Rattle.gs_lines.specs.Pieces.{bytes_of};
-ghost use Rattle.gs_lines.specs.Lines.{IsKnown, end_of};
+ghost use Rattle.gs_lines.specs.Lines.{IsKnownText, line_tail};
 ghost use Rattle.gs_lines.specs.Rooms.{frame_room};
 
 use gs_dict::{Dict, TermId};
@@ -41,7 +41,7 @@ struct Known<'a> {
 /// A number with its text.
 fn look_up<'a>(dict: &'a Dict, number: u32) -> Known<'a>
     requires { number < length dict.now.terms }
-    ensures { IsKnown dict.now.terms number result }
+    ensures { IsKnownText dict.now.terms number result }
 {
     Known {
         number,
@@ -53,8 +53,8 @@ fn look_up<'a>(dict: &'a Dict, number: u32) -> Known<'a>
 /// subject of the key before it.
 fn look_up_near<'a>(dict: &'a Dict, known: Known<'a>, number: u32) -> Known<'a>
     requires given { number < length dict.now.terms }
-    requires known { IsKnown dict.now.terms known.number known }
-    ensures { IsKnown dict.now.terms number result }
+    requires known { IsKnownText dict.now.terms known.number known }
+    ensures { IsKnownText dict.now.terms number result }
 {
     if known.number == number {
         known
@@ -66,7 +66,7 @@ fn look_up_near<'a>(dict: &'a Dict, known: Known<'a>, number: u32) -> Known<'a>
 /// How many bytes a line in a graph has beside its three texts, where 64 bits can say it.
 fn rest_size(graph: &Target) -> Option<usize>
     ensures { SomeIff result
-        (length (end_of graph.now) + 3 < 2 ^ 64) (length (end_of graph.now) + 3) }
+        (length (line_tail graph.now) + 3 < 2 ^ 64) (length (line_tail graph.now) + 3) }
 {
     match graph {
         Target::Default => Some(MARKS),
@@ -132,9 +132,9 @@ fn append(text: &[u8], bytes: &mut Vec<u8>)
 
 /// Appends what a line in a graph has after its three texts, for which there is room.
 fn append_end(graph: &Target, bytes: &mut Vec<u8>)
-    requires { vec_len bytes.old + length (end_of graph.now) ≤ vec_capacity bytes.old }
-    ensures items { bytes.new.items ≡ bytes.old.items ++ end_of graph.now }
-    ensures len { vec_len bytes.new ≡ vec_len bytes.old + length (end_of graph.now) }
+    requires { vec_len bytes.old + length (line_tail graph.now) ≤ vec_capacity bytes.old }
+    ensures items { bytes.new.items ≡ bytes.old.items ++ line_tail graph.now }
+    ensures len { vec_len bytes.new ≡ vec_len bytes.old + length (line_tail graph.now) }
     ensures capacity { vec_capacity bytes.old ≤ vec_capacity bytes.new }
 {
     if let Target::Named(name) = graph {
@@ -155,8 +155,8 @@ fn append_line(
     bytes: &mut Vec<u8>,
 )
     requires given { IsGiven dict.now.terms key }
-    requires subject { IsKnown dict.now.terms key.subject subject }
-    requires predicate { IsKnown dict.now.terms key.predicate predicate }
+    requires subject { IsKnownText dict.now.terms key.subject subject }
+    requires predicate { IsKnownText dict.now.terms key.predicate predicate }
     requires room { vec_len bytes.old + length (line_in dict.now.terms graph.now key)
         ≤ vec_capacity bytes.old }
     ensures items { bytes.new.items ≡ bytes.old.items ++ line_in dict.now.terms graph.now key }

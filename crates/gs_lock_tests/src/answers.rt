@@ -7,7 +7,7 @@ ghost use Rattle.gs_pass.specs.Stamps.{keeper as keeper_of};
 use gs_core::{Answer, Event, Refusal, Store};
 use gs_door::Door;
 use gs_schedules::{ROWS, Row};
-use gs_shared::{Pass, PassDoor, Room, Shared, Side, StampCell, Token, stamp_cell};
+use gs_shared::{CountedLedger, Pass, PassDoor, Room, Shared, StampCell, Token, stamp_cell};
 use gs_test_events::{answered, events, printed};
 use std::alloc::Global;
 use std::marker::Brand;
@@ -59,7 +59,7 @@ fn place_of(event: &Event) -> usize {
 }
 
 /// What the pass is answered, through a door or at the lock.
-fn answer<C: Side, T: Side, B: Room, R: Wait>(
+fn answer<C: CountedLedger, T: CountedLedger, B: Room, R: Wait>(
     rt: &R,
     shared: &Shared<C, T, B>,
     pass: Pass<C, T, B>,
@@ -71,13 +71,13 @@ fn answer<C: Side, T: Side, B: Room, R: Wait>(
         let answer = shared.event(rt, &mut pass, event);
         return (pass, answer);
     }
-    let mut door = PassDoor::new(rt, shared.hall(), pass);
+    let mut door = PassDoor::new(rt, shared.store(), pass);
     let answer = door.event(event);
     (door.into_pass(), answer)
 }
 
 /// Makes an event by its pass, where there is one, and keeps what it is answered.
-fn answer_one<C: Side, T: Side, B: Room, R: Wait>(
+fn answer_one<C: CountedLedger, T: CountedLedger, B: Room, R: Wait>(
     rt: &R,
     shared: &Shared<C, T, B>,
     passes: &mut Vec<Pass<C, T, B>>,
@@ -99,7 +99,7 @@ fn answer_one<C: Side, T: Side, B: Room, R: Wait>(
 }
 
 /// Takes all events out of the list, and makes them one by one.
-fn answer_each<C: Side, T: Side, B: Room, R: Wait>(
+fn answer_each<C: CountedLedger, T: CountedLedger, B: Room, R: Wait>(
     rt: &R,
     shared: &Shared<C, T, B>,
     passes: &mut Vec<Pass<C, T, B>>,
@@ -117,7 +117,7 @@ fn answer_each<C: Side, T: Side, B: Room, R: Wait>(
 }
 
 /// What four passes of a store are answered, as text.
-fn printed_by<C: Side, T: Side, B: Room, R: Wait>(
+fn printed_by<C: CountedLedger, T: CountedLedger, B: Room, R: Wait>(
     rt: &R,
     alloc: Global,
     shared: &mut Shared<C, T, B>,
@@ -135,7 +135,7 @@ fn printed_by<C: Side, T: Side, B: Room, R: Wait>(
 }
 
 /// The same of the passes of a new store of four seats.
-fn printed_by_new<C: Side, T: Side, B: Room, R: Wait>(
+fn printed_by_new<C: CountedLedger, T: CountedLedger, B: Room, R: Wait>(
     rt: &R,
     alloc: Global,
     events: &mut Vec<Event>,

@@ -1,7 +1,7 @@
 //! What a thread does in a round: it puts a graph, reads it, patches it, and in three rounds of four
 //! deletes it.
 use gs_core::{Answer, Refusal};
-use gs_shared::{Hall, Pass, Room};
+use gs_shared::{Pass, Room, SharedStore};
 use gs_test_events::{event, words};
 use std::alloc::{AllocError, Global};
 use std::sync::Wait;
@@ -16,14 +16,14 @@ pub fn is_deleting(round: u32) -> bool {
 fn say<C: Ledger, T: Ledger, B: Room, R: Wait>(
     rt: &R,
     alloc: Global,
-    hall: &Hall<C, T, B>,
+    store: &SharedStore<C, T, B>,
     pass: &mut Pass<C, T, B>,
     line: &str,
 ) -> Result<String, Refusal> {
     let seat = pass.seat();
     let line = format!(in alloc; "{seat} {line}")?;
     let event = event(alloc, line.as_str())?;
-    let answer: Answer = hall.event(rt, pass, event);
+    let answer: Answer = store.event(rt, pass, event);
     let said = words(alloc, &answer);
     drop(answer);
     Ok(said?)
@@ -54,12 +54,12 @@ fn line_at(alloc: Global, place: u32, graph: &str, mark: &str) -> Result<String,
 fn add_said<C: Ledger, T: Ledger, B: Room, R: Wait>(
     rt: &R,
     alloc: Global,
-    hall: &Hall<C, T, B>,
+    store: &SharedStore<C, T, B>,
     pass: &mut Pass<C, T, B>,
     line: &str,
     text: &mut String,
 ) -> Result<(), Refusal> {
-    let said = say(rt, alloc, hall, pass, line)?;
+    let said = say(rt, alloc, store, pass, line)?;
     if !line.starts_with("open ") && !line.starts_with("stage ") {
         text.push_str(said.as_str())?;
     }
@@ -70,7 +70,7 @@ fn add_said<C: Ledger, T: Ledger, B: Room, R: Wait>(
 pub fn hold<C: Ledger, T: Ledger, B: Room, R: Wait>(
     rt: &R,
     alloc: Global,
-    hall: &Hall<C, T, B>,
+    store: &SharedStore<C, T, B>,
     pass: &mut Pass<C, T, B>,
     graph: &str,
     mark: &str,
@@ -79,7 +79,7 @@ pub fn hold<C: Ledger, T: Ledger, B: Room, R: Wait>(
     let mut text = String::new(alloc);
     for place in 0..count_of_lines(round) {
         let line = line_at(alloc, place, graph, mark)?;
-        add_said(rt, alloc, hall, pass, line.as_str(), &mut text)?;
+        add_said(rt, alloc, store, pass, line.as_str(), &mut text)?;
     }
     Ok(text)
 }

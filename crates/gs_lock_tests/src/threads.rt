@@ -9,7 +9,9 @@ use crate::replays::{is_replayed, read, replays, stands};
 use crate::rounds::{expected, hold, is_whole};
 use gs_chronicle::Entry;
 use gs_core::Refusal;
-use gs_shared::{Ended, Hall, Pass, Record, Room, Shared, Side, StampCell, Token, stamp_cell};
+use gs_shared::{
+    CountedLedger, Ended, Pass, Record, Room, Shared, SharedStore, StampCell, Token, stamp_cell,
+};
 use std::alloc::Global;
 use std::marker::Brand;
 use std::sync::Wait;
@@ -28,19 +30,19 @@ const ALL: &str = "http://e/all";
 type Fault = (u16, u32, &'static str);
 
 /// A round on the thread's own graph and one on the graph of all: which does not print what it must.
-fn both<C: Side, T: Side, B: Room, R: Wait>(
+fn both<C: CountedLedger, T: CountedLedger, B: Room, R: Wait>(
     rt: &R,
     alloc: Global,
-    hall: &Hall<C, T, B>,
+    store: &SharedStore<C, T, B>,
     pass: &mut Pass<C, T, B>,
     round: u32,
 ) -> Result<Option<&'static str>, Refusal> {
     let seat = pass.seat();
     let mark = format!(in alloc; "{seat}-{round}")?;
     let own = format!(in alloc; "http://e/own{seat}")?;
-    let said = hold(rt, alloc, hall, pass, own.as_str(), mark.as_str(), round)?;
+    let said = hold(rt, alloc, store, pass, own.as_str(), mark.as_str(), round)?;
     let want = expected(alloc, mark.as_str(), round)?;
-    let shared = hold(rt, alloc, hall, pass, ALL, mark.as_str(), round)?;
+    let shared = hold(rt, alloc, store, pass, ALL, mark.as_str(), round)?;
     if said.as_str() != want.as_str() {
         return Ok(Some("its own graph"));
     }
@@ -52,16 +54,16 @@ fn both<C: Side, T: Side, B: Room, R: Wait>(
 }
 
 /// All rounds, and the first fault.
-fn work<C: Side, T: Side, B: Room, R: Wait>(
+fn work<C: CountedLedger, T: CountedLedger, B: Room, R: Wait>(
     rt: &R,
     alloc: Global,
-    hall: &Hall<C, T, B>,
+    store: &SharedStore<C, T, B>,
     pass: Pass<C, T, B>,
 ) -> (Pass<C, T, B>, Option<Fault>) {
     let mut pass = pass;
     let mut fault = None;
     for round in 0..ROUNDS {
-        let wrong = both(rt, alloc, hall, &mut pass, round).unwrap_or(Some("a refusal"));
+        let wrong = both(rt, alloc, store, &mut pass, round).unwrap_or(Some("a refusal"));
         if let Some(part) = wrong {
             fault = fault.or(Some((pass.seat(), round, part)));
         }
@@ -71,14 +73,14 @@ fn work<C: Side, T: Side, B: Room, R: Wait>(
 
 /// Each pass works in a thread of its own: the passes that come back, and the first fault of one of them.
 fn work_all<
-    C: Side + Send + Sync,
-    T: Side + Send + Sync,
+    C: CountedLedger + Send + Sync,
+    T: CountedLedger + Send + Sync,
     B: Room + Send + Sync,
     R: Threads + Wait + Sync,
 >(
     rt: &R,
     alloc: Global,
-    hall: &Hall<C, T, B>,
+    store: &SharedStore<C, T, B>,
     passes: Vec<Pass<C, T, B>>,
 ) -> Option<(Vec<Pass<C, T, B>>, Option<Fault>)> {
     thread::scope(
@@ -87,7 +89,7 @@ fn work_all<
         move |scope| -> Option<(Vec<Pass<C, T, B>>, Option<Fault>)> {
             let mut threads = Vec::with_capacity(alloc, 4).ok()?;
             for pass in passes {
-                let works = scope.spawn(move || work(rt, alloc, hall, pass)).ok()?;
+                let works = scope.spawn(move || work(rt, alloc, store, pass)).ok()?;
                 threads.push(works).ok()?;
             }
             let mut back = Vec::with_capacity(alloc, 4).ok()?;
@@ -104,8 +106,8 @@ fn work_all<
 
 /// Four threads work, and the store is ended.
 fn run<
-    C: Side + Send + Sync,
-    T: Side + Send + Sync,
+    C: CountedLedger + Send + Sync,
+    T: CountedLedger + Send + Sync,
     B: Room + Send + Sync,
     R: Threads + Wait + Sync,
 >(
@@ -138,7 +140,7 @@ fn run<
         drop(shared);
         return None;
     };
-    let Some(worked) = work_all(rt, alloc, shared.hall(), passes) else {
+    let Some(worked) = work_all(rt, alloc, shared.store(), passes) else {
         drop(shared);
         return None;
     };

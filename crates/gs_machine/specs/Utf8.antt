@@ -39,9 +39,9 @@ lead b =
     else (Lost, bad ∷ [])
 
 -- a byte that goes on with a character
-abbrev pub goes_on : ℕ → ℕ → Decoding × List ℕ
-goes_on zero v = (Ready, v ∷ [])
-goes_on (suc n) v = (Within n v 128 191, [])
+abbrev pub character_goes_on : ℕ → ℕ → Decoding × List ℕ
+character_goes_on zero v = (Ready, v ∷ [])
+character_goes_on (suc n) v = (Within n v 128 191, [])
 
 -- after a byte, and what it gives: a character, a mark where no character goes on so, or nothing
 abbrev pub decode_step : Decoding → ℕ → Decoding × List ℕ
@@ -49,7 +49,7 @@ decode_step Ready b = lead b
 decode_step (Within n v low high) b =
     if nat_lt b low then (Lost, bad ∷ [])
     else if nat_lt high b then (Lost, bad ∷ [])
-    else goes_on n (v * 64 + (b - 128))
+    else character_goes_on n (v * 64 + (b - 128))
 decode_step Lost b = (Lost, [])
 
 -- what the end of the bytes gives: a mark within a character, and else nothing

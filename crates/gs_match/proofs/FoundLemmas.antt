@@ -23,10 +23,10 @@ use Rattle.gs_tree.specs.Keys.{AllKeys, IsRising, insert_key, merge_keys}
 use Rattle.gs_tree.specs.Reading.{keys_at, keys_from}
 use Rattle.gs_tree.proofs.Order.{below}
 use Rattle.gs_keys.specs.Texts.{triple_at, key_cmp, key_total, IsGiven}
-use Rattle.gs_keys.specs.Roots.{graph_at, IsGraphAt}
+use Rattle.gs_keys.specs.Roots.{graph_of_root, IsGraphAt}
 use Rattle.gs_keys.proofs.KeyLemmas.{key_cmp_is, triples_of_keys}
 use Rattle.gs_joins.specs.declared.sought.Sought.{Sought}
-use Rattle.gs_joins.specs.Numbers.{Numbers, bind_key}
+use Rattle.gs_joins.specs.Numbers.{BoundNumbers, bind_key}
 use Rattle.gs_joins.proofs.ListLemmas.{contains_none, contains_head, contains_tail, contains_cases, any_has, any_some}
 use Rattle.gs_match.specs.Instances.{instance_keys}
 use Rattle.gs_match.specs.Patterns.{pattern_of, IsGivenSought, AreGiven, IsLacking, OneLacks}
@@ -152,16 +152,16 @@ all_self ks [] f = tt
 all_self ks (z ∷ zs) f = (f z (inl refl), all_self ks zs (λ x there. f x (inr there)))
 
 -- only keys of the root are found
-only_keys : (ks : List Key) (ss : List Sought) (b : Numbers) (chosen : List Key) → AllKeys (λ x. IsIn x ks) chosen → AllKeys (λ x. IsIn x ks) (found_keys ks ss b chosen)
+only_keys : (ks : List Key) (ss : List Sought) (b : BoundNumbers) (chosen : List Key) → AllKeys (λ x. IsIn x ks) chosen → AllKeys (λ x. IsIn x ks) (found_keys ks ss b chosen)
 only_keys ks [] b chosen h = h
 only_keys ks (s ∷ ss) b chosen h = at_each (λ k there o. at_key k there o (λ c. only_keys ks ss c (chosen ++ k ∷ []))) ks (all_self ks ks (λ x there. there))
   where
-    at_key : (k : Key) → IsIn k ks → (o : Option Numbers) → ((c : Numbers) → AllKeys (λ x. IsIn x ks) (chosen ++ k ∷ []) → AllKeys (λ x. IsIn x ks) (found_keys ks ss c (chosen ++ k ∷ [])))
+    at_key : (k : Key) → IsIn k ks → (o : Option BoundNumbers) → ((c : BoundNumbers) → AllKeys (λ x. IsIn x ks) (chosen ++ k ∷ []) → AllKeys (λ x. IsIn x ks) (found_keys ks ss c (chosen ++ k ∷ [])))
         → AllKeys (λ x. IsIn x ks) (keys_if (λ c. found_keys ks ss c (chosen ++ k ∷ [])) o)
     at_key k there None again = tt
     at_key k there (Some c) again = again c (all_append (λ x. IsIn x ks) chosen (k ∷ []) h (there, tt))
 
-    at_each : ((k : Key) → IsIn k ks → (o : Option Numbers) → AllKeys (λ x. IsIn x ks) (keys_if (λ c. found_keys ks ss c (chosen ++ k ∷ [])) o)) → (zs : List Key) → AllKeys (λ x. IsIn x ks) zs
+    at_each : ((k : Key) → IsIn k ks → (o : Option BoundNumbers) → AllKeys (λ x. IsIn x ks) (keys_if (λ c. found_keys ks ss c (chosen ++ k ∷ [])) o)) → (zs : List Key) → AllKeys (λ x. IsIn x ks) zs
         → AllKeys (λ x. IsIn x ks) (flat_map (λ k. keys_if (λ c. found_keys ks ss c (chosen ++ k ∷ [])) (bind_key b s k)) zs)
     at_each f [] there = tt
     at_each f (z ∷ zs) there = all_append (λ x. IsIn x ks) (keys_if (λ c. found_keys ks ss c (chosen ++ z ∷ [])) (bind_key b s z)) _ (f z there.0 (bind_key b s z)) (at_each f zs there.1)
@@ -172,19 +172,19 @@ module _ (terms : List Term) (distinct : IsDistinct terms) (p : Nodes) (root : O
   found_instances ss ps given is =
       let ks = keys_at p root in
       let xs = found_keys ks ss [] [] in
-      let all : map (triple_at terms) xs ≡ instances_of (graph_at terms p root) ps =
+      let all : map (triple_at terms) xs ≡ instances_of (graph_of_root terms p root) ps =
       found_is terms distinct ks graph.given ss [] [] given tt
       ∙ ap (λ ts. found_from ts (map (pattern_of terms) ss) [] []) (sym (triples_of_keys terms ks graph.set.rising graph.given))
-      ∙ ap (λ qs. found_from (triples_of (graph_at terms p root)) qs [] []) is
-      ∙ all_found (graph_at terms p root) ps in
+      ∙ ap (λ qs. found_from (triples_of (graph_of_root terms p root)) qs [] []) is
+      ∙ all_found (graph_of_root terms p root) ps in
       merged terms ks graph.set.rising graph.given xs (only_keys ks ss [] [] tt) ∙ ap (λ ts. filter (λ k. is_among ts (triple_at terms k)) ks) all
 
   -- nothing is, where a term of a pattern has no number
   pub no_instances : (ps : List Pattern) → OneLacks terms ps → instance_keys terms p root ps ≡ []
   no_instances ps lacks =
       let ks = keys_at p root in
-      let none : instances_of (graph_at terms p root) ps ≡ [] =
-      sym (all_found (graph_at terms p root) ps) ∙ ap (λ ts. found_from ts ps [] []) (triples_of_keys terms ks graph.set.rising graph.given) ∙ lacks_all terms ks graph.given ps [] [] lacks in
+      let none : instances_of (graph_of_root terms p root) ps ≡ [] =
+      sym (all_found (graph_of_root terms p root) ps) ∙ ap (λ ts. found_from ts ps [] []) (triples_of_keys terms ks graph.set.rising graph.given) ∙ lacks_all terms ks graph.given ps [] [] lacks in
       ap (λ ts. filter (λ k. is_among ts (triple_at terms k)) ks) none ∙ none_pass ks
 
   -- the triples of keys whose triples pass a test
@@ -198,9 +198,9 @@ module _ (terms : List Term) (distinct : IsDistinct terms) (p : Nodes) (root : O
       by_test false e later = rw e later
 
   -- the triples of these keys are the instances
-  pub lists_instances : (ps : List Pattern) (found : List Key) → found ≡ instance_keys terms p root ps → ListsInstances (graph_at terms p root) ps (map (triple_at terms) found)
+  pub lists_instances : (ps : List Pattern) (found : List Key) → found ≡ instance_keys terms p root ps → ListsInstances (graph_of_root terms p root) ps (map (triple_at terms) found)
   lists_instances ps found is =
-      let g = graph_at terms p root in
+      let g = graph_of_root terms p root in
       let ks = keys_at p root in
       listed g ps (map (triple_at terms) found) (
       ap (map (triple_at terms)) is ∙ map_filter (is_among (instances_of g ps)) ks

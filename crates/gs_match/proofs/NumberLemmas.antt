@@ -21,21 +21,21 @@ use Rattle.gs_keys.proofs.KeyLemmas.{term_read, term_eq_is}
 use Rattle.gs_joins.specs.declared.sought.Item.{Item}
 use Rattle.gs_joins.specs.declared.sought.Item.TheVariants.{Number, Variable}
 use Rattle.gs_joins.specs.declared.sought.Sought.{Sought}
-use Rattle.gs_joins.specs.Numbers.{Numbers, number_for, with_number, bind_number, bind_key}
+use Rattle.gs_joins.specs.Numbers.{BoundNumbers, number_for, bound_to_number, bind_number, bind_key}
 use Rattle.gs_match.specs.Patterns.{part_of, pattern_of, IsGivenItem, IsGivenSought, AreGiven, IsLackingPart, IsLacking, OneLacks}
 use Rattle.gs_match.specs.Found.{keys_if, found_keys, found_at}
 
 -- bindings with terms in the place of numbers
-abbrev pub lifted : List Term → Numbers → Bindings
+abbrev pub lifted : List Term → BoundNumbers → Bindings
 lifted terms b = map (λ (e : List ℕ × ℕ). (e.0, term_at terms e.1)) b
 
 -- each number that is bound was given
-abbrev pub AllBound : List Term → Numbers → Type 0
+abbrev pub AllBound : List Term → BoundNumbers → Type 0
 AllBound terms [] = Unit {0}
 AllBound terms (e ∷ b) = (e.1 < length terms) × AllBound terms b
 
 -- the number that a variable is bound to was given
-bound_given : (terms : List Term) (b : Numbers) (x : List ℕ) (m : ℕ) → AllBound terms b → number_for b x ≡ Some m → m < length terms
+bound_given : (terms : List Term) (b : BoundNumbers) (x : List ℕ) (m : ℕ) → AllBound terms b → number_for b x ≡ Some m → m < length terms
 bound_given terms [] x m all e = absurd (cc)
 bound_given terms (p ∷ b) x m all e = by_name (bytes_eq p.0 x) e (bound_given terms b x m all.1)
   where
@@ -47,7 +47,7 @@ bound_given terms (p ∷ b) x m all e = by_name (bytes_eq p.0 x) e (bound_given 
     by_name false e later = later e
 
 -- the term that a variable is bound to is that of its number
-term_for_is : (terms : List Term) (b : Numbers) (x : List ℕ) → term_for (lifted terms b) x ≡ option_map (term_at terms) (number_for b x)
+term_for_is : (terms : List Term) (b : BoundNumbers) (x : List ℕ) → term_for (lifted terms b) x ≡ option_map (term_at terms) (number_for b x)
 term_for_is terms [] x = refl
 term_for_is terms (p ∷ b) x = by_name (bytes_eq p.0 x) (term_for_is terms b x)
   where
@@ -58,7 +58,7 @@ term_for_is terms (p ∷ b) x = by_name (bytes_eq p.0 x) (term_for_is terms b x)
 
 module _ (terms : List Term) (distinct : IsDistinct terms) where
   -- bindings stay where two numbers are one
-  same_if : (b : Numbers) (m n : ℕ) → m < length terms → n < length terms → cond (term_eq (term_at terms m) (term_at terms n)) (Some (lifted terms b)) None ≡ option_map (lifted terms) (cond (nat_eq m n) (Some b) None)
+  same_if : (b : BoundNumbers) (m n : ℕ) → m < length terms → n < length terms → cond (term_eq (term_at terms m) (term_at terms n)) (Some (lifted terms b)) None ≡ option_map (lifted terms) (cond (nat_eq m n) (Some b) None)
   same_if b m n hm hn = ap (λ r. cond r (Some (lifted terms b)) None) (term_eq_is terms m n distinct hm hn) ∙ by_test (nat_eq m n)
     where
       by_test : (r : Bool) → cond r (Some (lifted terms b)) None ≡ option_map (lifted terms) (cond r (Some b) None)
@@ -66,39 +66,39 @@ module _ (terms : List Term) (distinct : IsDistinct terms) where
       by_test false = refl
 
   -- a variable is bound to a number where it is to its term
-  with_is : (b : Numbers) (x : List ℕ) (n : ℕ) (o : Option ℕ) → ((m : ℕ) → o ≡ Some m → m < length terms) → n < length terms
-      → with_term (lifted terms b) x (term_at terms n) (option_map (term_at terms) o) ≡ option_map (lifted terms) (with_number b x n o)
+  with_is : (b : BoundNumbers) (x : List ℕ) (n : ℕ) (o : Option ℕ) → ((m : ℕ) → o ≡ Some m → m < length terms) → n < length terms
+      → with_term (lifted terms b) x (term_at terms n) (option_map (term_at terms) o) ≡ option_map (lifted terms) (bound_to_number b x n o)
   with_is b x n None h hn = refl
   with_is b x n (Some m) h hn = same_if b m n (h m refl) hn
 
   -- a number is bound where its term is
-  bind_is : (b : Numbers) (i : Item) (n : ℕ) → AllBound terms b → IsGivenItem terms i → n < length terms → bind (lifted terms b) (part_of terms i) (term_at terms n) ≡ option_map (lifted terms) (bind_number b i n)
+  bind_is : (b : BoundNumbers) (i : Item) (n : ℕ) → AllBound terms b → IsGivenItem terms i → n < length terms → bind (lifted terms b) (part_of terms i) (term_at terms n) ≡ option_map (lifted terms) (bind_number b i n)
   bind_is b (Number m) n all g hn = same_if b m n g hn
   bind_is b (Variable x) n all g hn = ap (with_term (lifted terms b) x.now (term_at terms n)) (term_for_is terms b x.now) ∙ with_is b x.now n (number_for b x.now) (λ m. bound_given terms b x.now m all) hn
 
   -- bindings that stay were given
-  kept_if : (b c : Numbers) (r : Bool) → cond r (Some b) None ≡ Some c → AllBound terms b → AllBound terms c
+  kept_if : (b c : BoundNumbers) (r : Bool) → cond r (Some b) None ≡ Some c → AllBound terms b → AllBound terms c
   kept_if b c true e all = subst (AllBound terms) (some_is b c e) all
     where
-      some_is : (k l : Numbers) → Some k ≡ Some l → k ≡ l
+      some_is : (k l : BoundNumbers) → Some k ≡ Some l → k ≡ l
       some_is k l e = cc
   kept_if b c false e all = absurd (cc)
 
   -- so were those with a variable more
-  kept_with : (b c : Numbers) (x : List ℕ) (n : ℕ) (o : Option ℕ) → with_number b x n o ≡ Some c → n < length terms → AllBound terms b → AllBound terms c
+  kept_with : (b c : BoundNumbers) (x : List ℕ) (n : ℕ) (o : Option ℕ) → bound_to_number b x n o ≡ Some c → n < length terms → AllBound terms b → AllBound terms c
   kept_with b c x n None e h all = subst (AllBound terms) (some_is ((x, n) ∷ b) c e) (h, all)
     where
-      some_is : (k l : Numbers) → Some k ≡ Some l → k ≡ l
+      some_is : (k l : BoundNumbers) → Some k ≡ Some l → k ≡ l
       some_is k l e = cc
   kept_with b c x n (Some m) e h all = kept_if b c (nat_eq m n) e all
 
   -- what is bound then was given
-  kept_by : (b c : Numbers) (i : Item) (n : ℕ) → bind_number b i n ≡ Some c → n < length terms → AllBound terms b → AllBound terms c
+  kept_by : (b c : BoundNumbers) (i : Item) (n : ℕ) → bind_number b i n ≡ Some c → n < length terms → AllBound terms b → AllBound terms c
   kept_by b c (Number m) n e h all = kept_if b c (nat_eq m n) e all
   kept_by b c (Variable x) n e h all = kept_with b c x.now n (number_for b x.now) e h all
 
   -- a key is a pattern's instance where its triple is
-  pub key_is : (b : Numbers) (s : Sought) (k : Key) → AllBound terms b → IsGivenSought terms s → IsGiven terms k → bind_triple (lifted terms b) (pattern_of terms s) (triple_at terms k) ≡ option_map (lifted terms) (bind_key b s k)
+  pub key_is : (b : BoundNumbers) (s : Sought) (k : Key) → AllBound terms b → IsGivenSought terms s → IsGiven terms k → bind_triple (lifted terms b) (pattern_of terms s) (triple_at terms k) ≡ option_map (lifted terms) (bind_key b s k)
   key_is b s k all g gk = by_subject (bind_number b s.subject k.subject) refl (bind_is b s.subject k.subject all g.subject gk.subject)
     where
       object_of : Bindings → Option Bindings
@@ -107,13 +107,13 @@ module _ (terms : List Term) (distinct : IsDistinct terms) where
       predicate_of : Bindings → Option Bindings
       predicate_of c = option_and_then object_of (bind c (part_of terms s.predicate) (term_at terms k.predicate))
 
-      object_then : Numbers → Option Numbers
+      object_then : BoundNumbers → Option BoundNumbers
       object_then d = bind_number d s.object k.object
 
-      predicate_then : Numbers → Option Numbers
+      predicate_then : BoundNumbers → Option BoundNumbers
       predicate_then c = option_and_then object_then (bind_number c s.predicate k.predicate)
 
-      by_predicate : (c : Numbers) → AllBound terms c → (o : Option Numbers) → bind_number c s.predicate k.predicate ≡ o → bind (lifted terms c) (part_of terms s.predicate) (term_at terms k.predicate) ≡ option_map (lifted terms) (bind_number c s.predicate k.predicate)
+      by_predicate : (c : BoundNumbers) → AllBound terms c → (o : Option BoundNumbers) → bind_number c s.predicate k.predicate ≡ o → bind (lifted terms c) (part_of terms s.predicate) (term_at terms k.predicate) ≡ option_map (lifted terms) (bind_number c s.predicate k.predicate)
           → predicate_of (lifted terms c) ≡ option_map (lifted terms) (predicate_then c)
       by_predicate c all_c None e is = ap (option_and_then object_of) (is ∙ ap (option_map (lifted terms)) e) ∙ sym (ap (λ o. option_map (lifted terms) (option_and_then object_then o)) e)
       by_predicate c all_c (Some d) e is =
@@ -121,7 +121,7 @@ module _ (terms : List Term) (distinct : IsDistinct terms) where
           ∙ bind_is d s.object k.object (kept_by c d s.predicate k.predicate e gk.predicate all_c) g.object gk.object
           ∙ sym (ap (λ o. option_map (lifted terms) (option_and_then object_then o)) e)
 
-      by_subject : (o : Option Numbers) → bind_number b s.subject k.subject ≡ o → bind (lifted terms b) (part_of terms s.subject) (term_at terms k.subject) ≡ option_map (lifted terms) (bind_number b s.subject k.subject)
+      by_subject : (o : Option BoundNumbers) → bind_number b s.subject k.subject ≡ o → bind (lifted terms b) (part_of terms s.subject) (term_at terms k.subject) ≡ option_map (lifted terms) (bind_number b s.subject k.subject)
           → bind_triple (lifted terms b) (pattern_of terms s) (triple_at terms k) ≡ option_map (lifted terms) (bind_key b s k)
       by_subject None e is = ap (option_and_then predicate_of) (is ∙ ap (option_map (lifted terms)) e) ∙ sym (ap (λ o. option_map (lifted terms) (option_and_then predicate_then o)) e)
       by_subject (Some c) e is =
@@ -131,14 +131,14 @@ module _ (terms : List Term) (distinct : IsDistinct terms) where
           ∙ sym (ap (λ o. option_map (lifted terms) (option_and_then predicate_then o)) e)
 
   -- what is bound then was given
-  pub kept_key : (b c : Numbers) (s : Sought) (k : Key) → bind_key b s k ≡ Some c → IsGiven terms k → AllBound terms b → AllBound terms c
+  pub kept_key : (b c : BoundNumbers) (s : Sought) (k : Key) → bind_key b s k ≡ Some c → IsGiven terms k → AllBound terms b → AllBound terms c
   kept_key b c s k e gk all = by_subject (bind_number b s.subject k.subject) refl e
     where
-      by_predicate : (a : Numbers) → AllBound terms a → (o : Option Numbers) → bind_number a s.predicate k.predicate ≡ o → option_and_then (λ d. bind_number d s.object k.object) o ≡ Some c → AllBound terms c
+      by_predicate : (a : BoundNumbers) → AllBound terms a → (o : Option BoundNumbers) → bind_number a s.predicate k.predicate ≡ o → option_and_then (λ d. bind_number d s.object k.object) o ≡ Some c → AllBound terms c
       by_predicate a all_a None e f = absurd (cc)
       by_predicate a all_a (Some d) e f = kept_by d c s.object k.object f gk.object (kept_by a d s.predicate k.predicate e gk.predicate all_a)
 
-      by_subject : (o : Option Numbers) → bind_number b s.subject k.subject ≡ o → option_and_then (λ a. option_and_then (λ d. bind_number d s.object k.object) (bind_number a s.predicate k.predicate)) o ≡ Some c → AllBound terms c
+      by_subject : (o : Option BoundNumbers) → bind_number b s.subject k.subject ≡ o → option_and_then (λ a. option_and_then (λ d. bind_number d s.object k.object) (bind_number a s.predicate k.predicate)) o ≡ Some c → AllBound terms c
       by_subject None e f = absurd (cc)
       by_subject (Some a) e f = by_predicate a (kept_by b a s.subject k.subject e gk.subject all) (bind_number a s.predicate k.predicate) refl f
 
@@ -150,7 +150,7 @@ module _ (terms : List Term) (distinct : IsDistinct terms) where
     found_each f g h (z ∷ zs) gs = map-append (triple_at terms) (f z) (flat_map f zs) ∙ ap (λ xs. xs ++ map (triple_at terms) (flat_map f zs)) (h z gs.0) ∙ ap (λ xs. g (triple_at terms z) ++ xs) (found_each f g h zs gs.1)
 
     -- the triples of the keys that are found are those that are found
-    pub found_is : (ss : List Sought) (b : Numbers) (chosen : List Key) → AreGiven terms ss → AllBound terms b
+    pub found_is : (ss : List Sought) (b : BoundNumbers) (chosen : List Key) → AreGiven terms ss → AllBound terms b
         → map (triple_at terms) (found_keys ks ss b chosen) ≡ found_from (map (triple_at terms) ks) (map (pattern_of terms) ss) (lifted terms b) (map (triple_at terms) chosen)
     found_is [] b chosen gs all = refl
     found_is (s ∷ ss) b chosen gs all =
@@ -160,8 +160,8 @@ module _ (terms : List Term) (distinct : IsDistinct terms) where
         again : RdfTriple → Bindings → List RdfTriple
         again t c = found_from (map (triple_at terms) ks) (map (pattern_of terms) ss) c (map (triple_at terms) chosen ++ t ∷ [])
 
-        at_key : (k : Key) → IsGiven terms k → (o : Option Numbers) → bind_key b s k ≡ o
-            → ((c : Numbers) → bind_key b s k ≡ Some c → map (triple_at terms) (found_keys ks ss c (chosen ++ k ∷ [])) ≡ found_from (map (triple_at terms) ks) (map (pattern_of terms) ss) (lifted terms c) (map (triple_at terms) (chosen ++ k ∷ [])))
+        at_key : (k : Key) → IsGiven terms k → (o : Option BoundNumbers) → bind_key b s k ≡ o
+            → ((c : BoundNumbers) → bind_key b s k ≡ Some c → map (triple_at terms) (found_keys ks ss c (chosen ++ k ∷ [])) ≡ found_from (map (triple_at terms) ks) (map (pattern_of terms) ss) (lifted terms c) (map (triple_at terms) (chosen ++ k ∷ [])))
             → map (triple_at terms) (keys_if (λ c. found_keys ks ss c (chosen ++ k ∷ [])) (bind_key b s k)) ≡ found_if (again (triple_at terms k)) (bind_triple (lifted terms b) (pattern_of terms s) (triple_at terms k))
         at_key k g None e later = ap (λ o. map (triple_at terms) (keys_if (λ c. found_keys ks ss c (chosen ++ k ∷ [])) o)) e ∙ sym (ap (found_if (again (triple_at terms k))) (key_is b s k all gs.0 g ∙ ap (option_map (lifted terms)) e))
         at_key k g (Some c) e later =

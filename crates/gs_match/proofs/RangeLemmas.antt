@@ -12,7 +12,7 @@ use Rattle.gs_pool.specs.declared.nodes.Key.{Key}
 use Rattle.gs_keys.specs.Texts.{text_at, number_cmp, key_cmp, IsGiven}
 use Rattle.gs_keys.proofs.KeyLemmas.{no_text_first, tied_numbers}
 use Rattle.gs_joins.specs.Numbers.{no_number}
-use Rattle.gs_match.specs.Ranges.{is_at, in_range, IsRange}
+use Rattle.gs_match.specs.Ranges.{is_at, key_in_range, IsRange}
 
 -- the places of a range that a key is in
 pub record Fits (r k : Key) : Type 0 where
@@ -21,14 +21,14 @@ pub record Fits (r k : Key) : Type 0 where
   pub object : is_at r.object k.object ≡ true
 
 -- a key in a range stands at each of its places
-pub fits : (r k : Key) → in_range r k ≡ true → Fits r k
+pub fits : (r k : Key) → key_in_range r k ≡ true → Fits r k
 fits r k h =
     let two = and_parts (is_at r.subject k.subject && is_at r.predicate k.predicate) (is_at r.object k.object) h in
     let one = and_parts (is_at r.subject k.subject) (is_at r.predicate k.predicate) two.0 in
     record { subject = one.0; predicate = one.1; object = two.1 }
 
 -- and the other way round
-pub in_by : (r k : Key) → Fits r k → in_range r k ≡ true
+pub in_by : (r k : Key) → Fits r k → key_in_range r k ≡ true
 in_by r k f = ap (λ b. (b && is_at r.predicate k.predicate) && is_at r.object k.object) f.subject ∙ ap (λ b. b && is_at r.object k.object) f.predicate ∙ f.object
 
 -- a place that has the number that no term has takes any
@@ -72,7 +72,7 @@ module _ (terms : List Term) (distinct : IsDistinct terms) (few : length terms �
   same_tied m n e = ap (number_cmp terms m) (sym e) ∙ tied_itself nat_list_cmp_total (text_at terms m)
 
   -- a key in a range that is no single key is above the range itself
-  pub above_range : (r k : Key) → IsRange r → r.object ≡ no_number → IsGiven terms k → in_range r k ≡ true → key_cmp terms r k ≡ Less
+  pub above_range : (r k : Key) → IsRange r → r.object ≡ no_number → IsGiven terms k → key_in_range r k ≡ true → key_cmp terms r k ≡ Less
   above_range r k form none g h = known_or_not r.subject (key_cmp terms r k ≡ Less) any_subject own_subject
     where
       f : Fits r k
@@ -110,8 +110,8 @@ module _ (terms : List Term) (distinct : IsDistinct terms) (few : length terms �
       (at_own m n (tied_numbers terms m n distinct (omega arith) hn s.0), s.1, s.2)
 
   -- what is between a range and one of its keys is in the range
-  pub between : (r k c : Key) → IsRange r → IsGiven terms k → IsGiven terms c → key_cmp terms r k ≢ Greater → key_cmp terms k c ≡ Less → in_range r c ≡ true → in_range r k ≡ true
-  between r k c form gk gc low high h = known_or_not r.subject (in_range r k ≡ true)
+  pub between : (r k c : Key) → IsRange r → IsGiven terms k → IsGiven terms c → key_cmp terms r k ≢ Greater → key_cmp terms k c ≡ Less → key_in_range r c ≡ true → key_in_range r k ≡ true
+  between r k c form gk gc low high h = known_or_not r.subject (key_in_range r k ≡ true)
       (λ e. in_by r k (record { subject = any_at r.subject k.subject e; predicate = any_at r.predicate k.predicate (form.predicate e); object = any_at r.object k.object (form.object (form.predicate e)) }))
       (λ ne. by_predicate (level r.subject k.subject c.subject (p r k) (p k c) ne gk.subject gc.subject f.subject low high))
     where
@@ -121,21 +121,21 @@ module _ (terms : List Term) (distinct : IsDistinct terms) (few : length terms �
       p : Key → Key → Ordering
       p a b = ordering_then (number_cmp terms a.predicate b.predicate) (number_cmp terms a.object b.object)
 
-      by_object : is_at r.subject k.subject ≡ true → (is_at r.predicate k.predicate ≡ true) × (number_cmp terms r.object k.object ≢ Greater) × (number_cmp terms k.object c.object ≡ Less) → in_range r k ≡ true
-      by_object s q = known_or_not r.object (in_range r k ≡ true)
+      by_object : is_at r.subject k.subject ≡ true → (is_at r.predicate k.predicate ≡ true) × (number_cmp terms r.object k.object ≢ Greater) × (number_cmp terms k.object c.object ≡ Less) → key_in_range r k ≡ true
+      by_object s q = known_or_not r.object (key_in_range r k ≡ true)
           (λ e. in_by r k (record { subject = s; predicate = q.0; object = any_at r.object k.object e }))
           (λ ne. absurd (q.1 (
           let is : r.object ≡ c.object = own_at r.object c.object ne f.object in
           nat_list_cmp_total.antisymm (text_at terms r.object) (text_at terms k.object) ∙ ap (λ x. ordering_reverse (number_cmp terms k.object x)) is ∙ ap ordering_reverse q.2
           )))
 
-      by_predicate : (is_at r.subject k.subject ≡ true) × (p r k ≢ Greater) × (p k c ≡ Less) → in_range r k ≡ true
-      by_predicate s = known_or_not r.predicate (in_range r k ≡ true)
+      by_predicate : (is_at r.subject k.subject ≡ true) × (p r k ≢ Greater) × (p k c ≡ Less) → key_in_range r k ≡ true
+      by_predicate s = known_or_not r.predicate (key_in_range r k ≡ true)
           (λ e. in_by r k (record { subject = s.0; predicate = any_at r.predicate k.predicate e; object = any_at r.object k.object (form.object e) }))
           (λ ne. by_object s.0 (level r.predicate k.predicate c.predicate (number_cmp terms r.object k.object) (number_cmp terms k.object c.object) ne gk.predicate gc.predicate f.predicate s.1 s.2))
 
 -- a range whose places are all known has its own key alone
-pub only_key : (r k : Key) → IsRange r → r.object ≢ no_number → in_range r k ≡ true → r ≡ k
+pub only_key : (r k : Key) → IsRange r → r.object ≢ no_number → key_in_range r k ≡ true → r ≡ k
 only_key r k form ne h =
     let f : Fits r k = fits r k h in
     let p_ne : r.predicate ≢ no_number = λ e. ne (form.object e) in

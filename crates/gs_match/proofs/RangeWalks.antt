@@ -2,14 +2,14 @@
 use Rattle.std.proofs.Common.{◌≡◌, ◌≤◌, ◌+◌, false, length, List, [], ◌∷◌, ◌++◌, Option, Some, None, refl, sym, ap, ◌∙◌, append_assoc, append-nil, arith}
 use Rattle.gs_pool.specs.declared.nodes.Key.{Key}
 use Rattle.gs_dict.specs.Numbering.{IsDistinct}
-use Rattle.gs_tree.specs.Reading.{keys_at, keys_from, first_of}
+use Rattle.gs_tree.specs.Reading.{keys_at, keys_from, first_key}
 use Rattle.gs_keys.specs.Texts.{key_cmp, key_total, IsGiven}
 use Rattle.gs_keys.specs.Roots.{IsGraphAt}
 use Rattle.gs_joins.specs.declared.sought.Sought.{Sought}
 use Rattle.gs_joins.specs.declared.bindings.Bound.{Bound}
 use Rattle.gs_joins.specs.Numbers.{no_number, numbers_of}
 use Rattle.gs_match.specs.declared.ranges.Keys.{Keys}
-use Rattle.gs_match.specs.Ranges.{in_range, IsRange, Covers, IsNotBelow, StartsAt, rest_at}
+use Rattle.gs_match.specs.Ranges.{key_in_range, IsRange, Covers, IsNotBelow, StartsAt, rest_at}
 use Rattle.gs_match.specs.Candidates.{one_if, instances_in, Sifts}
 use Rattle.gs_match.proofs.WalkLemmas.{from_first, goes_on, ends_above}
 use Rattle.gs_match.proofs.SiftLemmas.{quiet_one}
@@ -42,7 +42,7 @@ module _ (keys : Keys) (graph : IsGraphAt keys.order.dict.now.terms keys.pool.no
     (s : Sought) (range : Key) (form : IsRange range) (bound : List Bound) (from : List Key) where
   -- a key is gone through, and the next one is the first above it
   pub steps : (now_bound after_bound : List Bound) (to after : List Key) (k : Key) (next : Option Key) → Walks keys s range bound now_bound from to (Some k)
-      → next ≡ first_of (keys_from (key_cmp keys.order.dict.now.terms) (Some k) (keys_of keys)) → Sifts now_bound after_bound s (k ∷ []) to after → Walks keys s range bound after_bound from after next
+      → next ≡ first_key (keys_from (key_cmp keys.order.dict.now.terms) (Some k) (keys_of keys)) → Sifts now_bound after_bound s (k ∷ []) to after → Walks keys s range bound after_bound from after next
   steps now_bound after_bound to after k next w is sifts = record {
     bound_is = sifts.bound ∙ w.bound_is;
     given = λ z e. (goes_on keys.order.dict.now.terms distinct few (keys_of keys) graph.set.rising graph.given range form k (w.not_below k refl) z (sym is ∙ e)).0;
@@ -55,7 +55,7 @@ module _ (keys : Keys) (graph : IsGraphAt keys.order.dict.now.terms keys.pool.no
   }
 
   -- fewer keys are left
-  pub shorter : (k : Key) (next : Option Key) → next ≡ first_of (keys_from (key_cmp keys.order.dict.now.terms) (Some k) (keys_of keys)) → length (left_of keys next) + 1 ≡ length (left_of keys (Some k))
+  pub shorter : (k : Key) (next : Option Key) → next ≡ first_key (keys_from (key_cmp keys.order.dict.now.terms) (Some k) (keys_of keys)) → length (left_of keys next) + 1 ≡ length (left_of keys (Some k))
   shorter k next is =
       let same : left_of keys next ≡ keys_from (key_cmp keys.order.dict.now.terms) (Some k) (keys_of keys) =
       ap (left_of keys) is ∙ sym (from_first (key_cmp keys.order.dict.now.terms) (key_total keys.order.dict.now.terms) k (keys_of keys) graph.set.rising) in
@@ -67,7 +67,7 @@ module _ (keys : Keys) (graph : IsGraphAt keys.order.dict.now.terms keys.pool.no
   ends now_bound to w = record { bound = w.bound_is; more = sym (append-nil to) ∙ w.parts }
 
   -- and where the next one is not in the range
-  pub leaves : (now_bound : List Bound) (to : List Key) (k : Key) → Walks keys s range bound now_bound from to (Some k) → Covers range (numbers_of bound) s → in_range range k ≡ false → Sifts bound now_bound s (keys_of keys) from to
+  pub leaves : (now_bound : List Bound) (to : List Key) (k : Key) → Walks keys s range bound now_bound from to (Some k) → Covers range (numbers_of bound) s → key_in_range range k ≡ false → Sifts bound now_bound s (keys_of keys) from to
   leaves now_bound to k w covers out =
       let none = ends_above keys.order.dict.now.terms distinct few (keys_of keys) graph.set.rising graph.given range form k (w.given k refl) (w.not_below k refl) out
       (one_if (numbers_of bound) s) (quiet_one keys.order.dict.now.terms range (numbers_of bound) s covers) in

@@ -11,7 +11,7 @@ use Rattle.gs_joins.specs.declared.sought.Sought.{Sought}
 use Rattle.gs_joins.specs.declared.weights.Turn.{Turn}
 use Rattle.gs_joins.specs.declared.bindings.Bound.{Bound}
 use Rattle.gs_joins.specs.declared.lots.Lot.{Lot}
-use Rattle.gs_joins.specs.Numbers.{Numbers, numbers_of, bind_key}
+use Rattle.gs_joins.specs.Numbers.{BoundNumbers, numbers_of, bind_key}
 use Rattle.gs_joins.specs.Lots.{first_of}
 use Rattle.gs_joins.specs.Values.{key_of, Has}
 use Rattle.gs_joins.proofs.ListLemmas.{contains_none}
@@ -22,7 +22,7 @@ use Rattle.gs_match.proofs.SiftLemmas.{instance_there, instance_has}
 
 -- all instances with this number for the variable are there
 abbrev pub Covered : List Key → Sought → List ℕ → ℕ → List Key → Type 0
-Covered ks s x n found = (k : Key) (c : Numbers) → Contains ks k → bind_key ((x, n) ∷ []) s k ≡ Some c → Contains found k
+Covered ks s x n found = (k : Key) (c : BoundNumbers) → Contains ks k → bind_key ((x, n) ∷ []) s k ≡ Some c → Contains found k
 
 -- all with the numbers that were seen are there, and with the last one
 pub record Seen (ks : List Key) (s : Sought) (x : List ℕ) (t : Turn) (seen : List Key) (last : Option ℕ) (found : List Key) : Type 0 where

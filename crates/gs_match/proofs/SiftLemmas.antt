@@ -9,7 +9,7 @@ use Rattle.gs_tree.specs.Keys.{AllKeys, IsRising, merge_keys}
 use Rattle.gs_tree.proofs.Merging.{merge_none}
 use Rattle.gs_joins.specs.declared.sought.Sought.{Sought}
 use Rattle.gs_joins.specs.declared.bindings.Bound.{Bound}
-use Rattle.gs_joins.specs.Numbers.{Numbers, numbers_of, bind_key, Chooses}
+use Rattle.gs_joins.specs.Numbers.{BoundNumbers, numbers_of, bind_key, Chooses}
 use Rattle.gs_joins.proofs.ListLemmas.{contains_none, contains_head, contains_cases}
 use Rattle.gs_match.specs.Found.{keys_if, found_keys}
 use Rattle.gs_match.specs.Ranges.{Covers, IsQuiet}
@@ -48,16 +48,16 @@ sifts_then a b c s xs ys from mid to g h = record {
 }
 
 -- outside the range there is none
-pub quiet_one : (terms : List _) (r : Key) (b : Numbers) (s : Sought) → Covers r b s → IsQuiet terms r (one_if b s)
+pub quiet_one : (terms : List _) (r : Key) (b : BoundNumbers) (s : Sought) → Covers r b s → IsQuiet terms r (one_if b s)
 quiet_one terms r b s covers k given out = ap (keys_if (λ c. k ∷ [])) (covers k out)
 
 -- an instance is one of the keys
-pub instance_there : (b : Numbers) (s : Sought) (ks : List Key) (k : Key) → Contains (instances_in b s ks) k → Contains ks k
+pub instance_there : (b : BoundNumbers) (s : Sought) (ks : List Key) (k : Key) → Contains (instances_in b s ks) k → Contains ks k
 instance_there b s ks k there =
     let (z, inside, here) = flat_some (one_if b s) ks k there in
     by_bound z inside (bind_key b s z) here
   where
-    by_bound : (z : Key) → Contains ks z → (o : Option Numbers) → Contains (keys_if (λ c. z ∷ []) o) k → Contains ks k
+    by_bound : (z : Key) → Contains ks z → (o : Option BoundNumbers) → Contains (keys_if (λ c. z ∷ []) o) k → Contains ks k
     by_bound z inside None here = absurd (contains_none k here)
     by_bound z inside (Some c) here = elim (contains_cases z [] k here) [
       | inl is ↦ subst (Contains ks) is inside
@@ -65,24 +65,24 @@ instance_there b s ks k there =
     ]
 
 -- a key that can be bound is an instance
-pub instance_has : (b c : Numbers) (s : Sought) (ks : List Key) (k : Key) → Contains ks k → bind_key b s k ≡ Some c → Contains (instances_in b s ks) k
+pub instance_has : (b c : BoundNumbers) (s : Sought) (ks : List Key) (k : Key) → Contains ks k → bind_key b s k ≡ Some c → Contains (instances_in b s ks) k
 instance_has b c s ks k there e = flat_has (one_if b s) ks k k there (subst (λ o. Contains (keys_if (λ c. k ∷ []) o) k) (sym e) (contains_head k []))
 
 -- what holds of keys holds of the instances among them
-all_instances : (P : Key → Type 0) (b : Numbers) (s : Sought) (ks : List Key) → AllKeys P ks → AllKeys P (instances_in b s ks)
+all_instances : (P : Key → Type 0) (b : BoundNumbers) (s : Sought) (ks : List Key) → AllKeys P ks → AllKeys P (instances_in b s ks)
 all_instances P b s [] h = tt
 all_instances P b s (k ∷ ks) h = by_bound (bind_key b s k) (all_instances P b s ks h.1)
   where
-    by_bound : (o : Option Numbers) → AllKeys P (instances_in b s ks) → AllKeys P (keys_if (λ c. k ∷ []) o ++ instances_in b s ks)
+    by_bound : (o : Option BoundNumbers) → AllKeys P (instances_in b s ks) → AllKeys P (keys_if (λ c. k ∷ []) o ++ instances_in b s ks)
     by_bound None later = later
     by_bound (Some c) later = (h.0, later)
 
 -- those among keys that rise do
-pub rising_instances : (cmp : Key → Key → Ordering) (b : Numbers) (s : Sought) (ks : List Key) → IsRising cmp ks → IsRising cmp (instances_in b s ks)
+pub rising_instances : (cmp : Key → Key → Ordering) (b : BoundNumbers) (s : Sought) (ks : List Key) → IsRising cmp ks → IsRising cmp (instances_in b s ks)
 rising_instances cmp b s [] h = tt
 rising_instances cmp b s (k ∷ ks) h = by_bound (bind_key b s k) (rising_instances cmp b s ks h.1)
   where
-    by_bound : (o : Option Numbers) → IsRising cmp (instances_in b s ks) → IsRising cmp (keys_if (λ c. k ∷ []) o ++ instances_in b s ks)
+    by_bound : (o : Option BoundNumbers) → IsRising cmp (instances_in b s ks) → IsRising cmp (keys_if (λ c. k ∷ []) o ++ instances_in b s ks)
     by_bound None later = later
     by_bound (Some c) later = (all_instances (λ y. cmp k y ≡ Less) b s ks h.0, later)
 

@@ -12,14 +12,14 @@ use Rattle.gs_tree.specs.Keys.{AllKeys, IsRising, merge_keys}
 use Rattle.gs_keys.specs.Texts.{key_cmp, IsGiven}
 use Rattle.gs_joins.specs.declared.sought.Sought.{Sought}
 use Rattle.gs_joins.specs.declared.lots.Lot.{Lot}
-use Rattle.gs_joins.specs.Numbers.{no_number, Numbers, bind_key}
+use Rattle.gs_joins.specs.Numbers.{no_number, BoundNumbers, bind_key}
 use Rattle.gs_joins.specs.Lots.{IsSmall, IsLot, MakesLot}
-use Rattle.gs_joins.specs.Values.{Values, key_of, Has, Solves, KeepsAll, KeepsAt, sought_of}
+use Rattle.gs_joins.specs.Values.{Values, key_of, Has, Solves, KeepsAllKeys, KeepsAt, sought_of}
 use Rattle.gs_joins.specs.Reductions.{Reduces}
 use Rattle.gs_joins.proofs.ListLemmas.{contains_none, contains_cases, all_by}
 use Rattle.gs_joins.proofs.ValueLemmas.{Holds, holds_none, values_of, holds_own, key_complete, key_sound}
 use Rattle.gs_match.specs.declared.found.Found.{Found}
-use Rattle.gs_match.specs.Found.{keys_if, found_keys, found_at, found_in, IsFound, Gains}
+use Rattle.gs_match.specs.Found.{keys_if, found_keys, found_at, found_in, IsFound, GainsKeys}
 use Rattle.gs_match.specs.Solving.{SolvesAll, AreLots, Collects}
 use Rattle.gs_match.specs.Candidates.{ListsThem}
 use Rattle.gs_match.proofs.ListLemmas.{flat_has, flat_some, map_some}
@@ -27,15 +27,15 @@ use Rattle.gs_match.proofs.FoundLemmas.{same_found, merge_more}
 
 module _ (ks : List Key) where
   -- what is found is an instance under values under which all patterns have instances
-  pub found_sound : (ss : List Sought) (b : Numbers) (chosen : List Key) (k : Key) → Contains (found_keys ks ss b chosen) k
+  pub found_sound : (ss : List Sought) (b : BoundNumbers) (chosen : List Key) (k : Key) → Contains (found_keys ks ss b chosen) k
       → (v : Values) × Holds v b × SolvesAll v ks ss × Contains (chosen ++ map (key_of v) ss) k
   found_sound [] b chosen k h = (values_of b, holds_own b, All-nil (λ s. Contains ks (key_of (values_of b) s)), Contains-append_left chosen [] k h)
   found_sound (s ∷ ss) b chosen k h =
       let (z, there, here) = flat_some (found_at ks s ss b chosen) ks k h in
       by_bound z there (bind_key b s z) refl here (λ c. found_sound ss c (chosen ++ z ∷ []) k)
     where
-      by_bound : (z : Key) → Contains ks z → (o : Option Numbers) → bind_key b s z ≡ o → Contains (keys_if (λ c. found_keys ks ss c (chosen ++ z ∷ [])) o) k
-          → ((c : Numbers) → Contains (found_keys ks ss c (chosen ++ z ∷ [])) k → (v : Values) × Holds v c × SolvesAll v ks ss × Contains ((chosen ++ z ∷ []) ++ map (key_of v) ss) k)
+      by_bound : (z : Key) → Contains ks z → (o : Option BoundNumbers) → bind_key b s z ≡ o → Contains (keys_if (λ c. found_keys ks ss c (chosen ++ z ∷ [])) o) k
+          → ((c : BoundNumbers) → Contains (found_keys ks ss c (chosen ++ z ∷ [])) k → (v : Values) × Holds v c × SolvesAll v ks ss × Contains ((chosen ++ z ∷ []) ++ map (key_of v) ss) k)
           → (v : Values) × Holds v b × SolvesAll v ks (s ∷ ss) × Contains (chosen ++ map (key_of v) (s ∷ ss)) k
       by_bound z there None f here again = absurd (contains_none k here)
       by_bound z there (Some c) f here again =
@@ -48,7 +48,7 @@ module _ (ks : List Key) where
           )
 
   -- and the other way round
-  pub found_complete : (v : Values) (ss : List Sought) (b : Numbers) (chosen : List Key) (k : Key) → Holds v b → SolvesAll v ks ss → Contains (chosen ++ map (key_of v) ss) k
+  pub found_complete : (v : Values) (ss : List Sought) (b : BoundNumbers) (chosen : List Key) (k : Key) → Holds v b → SolvesAll v ks ss → Contains (chosen ++ map (key_of v) ss) k
       → Contains (found_keys ks ss b chosen) k
   found_complete v [] b chosen k h all inside = subst (λ xs. Contains xs k) (append-nil chosen) inside
   found_complete v (s ∷ ss) b chosen k h all inside =
@@ -139,7 +139,7 @@ gathered_none terms ls f set none = record {
 }
 
 -- of one list more
-pub gathered_more : (terms : List Term) (ls some : List Lot) (l : Lot) (f g : Found) (kept : List Key) → Gathered terms ls some f → KeepsAll ls l.sought kept → Gains terms f g kept → Gathered terms ls (some ++ l ∷ []) g
+pub gathered_more : (terms : List Term) (ls some : List Lot) (l : Lot) (f g : Found) (kept : List Key) → Gathered terms ls some f → KeepsAllKeys ls l.sought kept → GainsKeys terms f g kept → Gathered terms ls (some ++ l ∷ []) g
 gathered_more terms ls some l f g kept old keeps gains = record {
   set = gains.set;
   done = old.done ++ kept;
@@ -158,10 +158,10 @@ gathered_more terms ls some l f g kept old keeps gains = record {
     split v = ap (map (key_of v)) (map-append (λ (z : Lot). z.sought) some (l ∷ [])) ∙ map-append (key_of v) (sought_of some) (l.sought ∷ [])
 
 -- the same of the list of a number
-pub gathered_at : (terms : List Term) (ls : List Lot) (i : ℕ) (f g : Found) (kept : List Key) → i < length ls → Gathered terms ls (take i ls) f → KeepsAt ls i kept → Gains terms f g kept → Gathered terms ls (take (i + 1) ls) g
+pub gathered_at : (terms : List Term) (ls : List Lot) (i : ℕ) (f g : Found) (kept : List Key) → i < length ls → Gathered terms ls (take i ls) f → KeepsAt ls i kept → GainsKeys terms f g kept → Gathered terms ls (take (i + 1) ls) g
 gathered_at terms ls i f g kept within old keeps gains = by_list (slice_get ls i) refl keeps
   where
-    by_list : (o : Option Lot) → slice_get ls i ≡ o → MatchOption o (Unit {0}) (λ (l : Lot). KeepsAll ls l.sought kept) → Gathered terms ls (take (i + 1) ls) g
+    by_list : (o : Option Lot) → slice_get ls i ≡ o → MatchOption o (Unit {0}) (λ (l : Lot). KeepsAllKeys ls l.sought kept) → Gathered terms ls (take (i + 1) ls) g
     by_list None e keeps = elim (slice_get_cases ls i).1 [
       | inl found ↦ let (l, h, at, is) = found in let bad : None ≡ Some l = sym e ∙ at in absurd (cc)
       | inr past ↦ let h = past.0 in absurd (omega arith)

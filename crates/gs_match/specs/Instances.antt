@@ -8,8 +8,8 @@ use Rattle.gs_pool.specs.declared.nodes.Key.{Key}
 use Rattle.gs_pool.specs.Pool.{Nodes}
 use Rattle.gs_tree.specs.Reading.{keys_at}
 use Rattle.gs_keys.specs.Texts.{triple_at}
-use Rattle.gs_keys.specs.Roots.{graph_at}
+use Rattle.gs_keys.specs.Roots.{graph_of_root}
 
 -- the keys of a root whose triples are instances of the patterns in its graph, in the root's order
 abbrev pub instance_keys : List Term → Nodes → Option ℕ → List Pattern → List Key
-instance_keys terms p root ps = filter (λ k. is_among (instances_of (graph_at terms p root) ps) (triple_at terms k)) (keys_at p root)
+instance_keys terms p root ps = filter (λ k. is_among (instances_of (graph_of_root terms p root) ps) (triple_at terms k)) (keys_at p root)

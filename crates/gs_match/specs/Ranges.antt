@@ -8,7 +8,7 @@ use Rattle.gs_pool.specs.declared.nodes.Key.{Key}
 use Rattle.gs_tree.specs.Reading.{keys_at, keys_from}
 use Rattle.gs_keys.specs.Texts.{key_cmp, IsGiven}
 use Rattle.gs_joins.specs.declared.sought.Sought.{Sought}
-use Rattle.gs_joins.specs.Numbers.{no_number, Numbers, bind_key, known_number}
+use Rattle.gs_joins.specs.Numbers.{no_number, BoundNumbers, bind_key, known_number}
 use Rattle.gs_match.specs.declared.ranges.Keys.{Keys}
 
 -- whether a number may stand at a place of a range: any where the place has the number that no term has
@@ -16,8 +16,8 @@ abbrev pub is_at : ℕ → ℕ → Bool
 is_at m n = (m == no_number) || (m == n)
 
 -- whether a key is in a range
-abbrev pub in_range : Key → Key → Bool
-in_range r k = (is_at r.subject k.subject && is_at r.predicate k.predicate) && is_at r.object k.object
+abbrev pub key_in_range : Key → Key → Bool
+key_in_range r k = (is_at r.subject k.subject && is_at r.predicate k.predicate) && is_at r.object k.object
 
 -- after a place that is not known, none is
 pub record IsRange (r : Key) : Type 0 where
@@ -29,15 +29,15 @@ abbrev pub known_after : ℕ → ℕ → ℕ
 known_after before n = if before == no_number then no_number else n
 
 -- the range of a pattern: its known numbers, up to the first place that is not known
-abbrev pub range_for : Numbers → Sought → Key
+abbrev pub range_for : BoundNumbers → Sought → Key
 range_for b s =
     let subject = known_number b s.subject in
     let predicate = known_after subject (known_number b s.predicate) in
     record { subject = subject; predicate = predicate; object = known_after predicate (known_number b s.object) }
 
 -- no key outside the range is the pattern's instance
-abbrev pub Covers : Key → Numbers → Sought → Type 0
-Covers r b s = (k : Key) → in_range r k ≡ false → bind_key b s k ≡ None
+abbrev pub Covers : Key → BoundNumbers → Sought → Type 0
+Covers r b s = (k : Key) → key_in_range r k ≡ false → bind_key b s k ≡ None
 
 -- the keys of a list from this one on
 abbrev pub rest_at : (Key → Key → Ordering) → List Key → Option Key → List Key
@@ -50,7 +50,7 @@ IsNotBelow cmp r k = cmp r k ≢ Greater
 
 -- nothing is found outside the range
 abbrev pub IsQuiet : List Term → Key → (Key → List Key) → Type 0
-IsQuiet terms r f = (k : Key) → IsGiven terms k → in_range r k ≡ false → f k ≡ []
+IsQuiet terms r f = (k : Key) → IsGiven terms k → key_in_range r k ≡ false → f k ≡ []
 
 -- all that is found in a range is found from this key on
 pub record StartsIn (terms : List Term) (ks : List Key) (r : Key) (next : Option Key) : Type 0 where

@@ -3,7 +3,7 @@ ghost use Rattle.std.specs.Prelude.{◌≡◌, ◌+◌, [], ◌∷◌, None, OnO
 ghost use Rattle.gs_model.specs.Limits.{last_node};
 ghost use Rattle.gs_tree.specs.Keys.{IsRising};
 ghost use Rattle.gs_keys.specs.Texts.{key_cmp};
-ghost use Rattle.gs_match.specs.Found.{IsFound, found_in, Gains};
+ghost use Rattle.gs_match.specs.Found.{IsFound, found_in, GainsKeys};
 
 use gs_keys::ByText;
 use gs_pool::{Key, Pool};
@@ -32,7 +32,7 @@ impl Found {
     /// Adds a key.
     fn add(&mut self, order: &ByText, key: Key) -> Result<(), AllocError>
         requires { IsFound order.now.dict.now.terms self.old }
-        ensures { OnOk result (Gains order.now.dict.now.terms self.old self.new (key ∷ [])) }
+        ensures { OnOk result (GainsKeys order.now.dict.now.terms self.old self.new (key ∷ [])) }
     {
         let merged = insert(&mut self.pool, order, self.root, key, 0, 0)?;
         self.root = merged.root;
@@ -43,7 +43,7 @@ impl Found {
     fn add_run(&mut self, order: &ByText, run: &[Key]) -> Result<(), AllocError>
         requires set { IsFound order.now.dict.now.terms self.old }
         requires rising { IsRising (key_cmp order.now.dict.now.terms) run.now }
-        ensures { OnOk result (Gains order.now.dict.now.terms self.old self.new run.now) }
+        ensures { OnOk result (GainsKeys order.now.dict.now.terms self.old self.new run.now) }
     {
         let merged = union(&mut self.pool, order, self.root, run, 0, 0)?;
         self.root = merged.root;
@@ -53,7 +53,7 @@ impl Found {
     /// Adds some keys, one by one.
     fn add_each(&mut self, order: &ByText, keys: &[Key]) -> Result<(), AllocError>
         requires { IsFound order.now.dict.now.terms self.old }
-        ensures { OnOk result (Gains order.now.dict.now.terms self.old self.new keys.now) }
+        ensures { OnOk result (GainsKeys order.now.dict.now.terms self.old self.new keys.now) }
     {
         for key in keys {
             self.add(order, *key)?;
@@ -64,7 +64,7 @@ impl Found {
     /// Adds some keys.
     pub fn add_all(&mut self, order: &ByText, keys: &[Key]) -> Result<(), AllocError>
         requires { IsFound order.now.dict.now.terms self.old }
-        ensures { OnOk result (Gains order.now.dict.now.terms self.old self.new keys.now) }
+        ensures { OnOk result (GainsKeys order.now.dict.now.terms self.old self.new keys.now) }
     {
         if is_rising(order, keys) {
             self.add_run(order, keys)

@@ -3,7 +3,7 @@ ghost use Rattle.std.specs.Prelude.{◌≡◌, ◌≤◌, length};
 ghost use Rattle.gs_dict.specs.Numbering.{IsDistinct};
 ghost use Rattle.gs_keys.specs.Roots.{IsGraphAt};
 ghost use Rattle.gs_joins.specs.Numbers.{no_number, numbers_of};
-ghost use Rattle.gs_match.specs.Ranges.{is_at as is_at_of, in_range, range_for, IsRange, Covers, StartsAt};
+ghost use Rattle.gs_match.specs.Ranges.{is_at as is_at_of, key_in_range, range_for, IsRange, Covers, StartsAt};
 
 use gs_joins::{Bound, NO_NUMBER, Sought, known};
 use gs_keys::ByText;
@@ -52,7 +52,7 @@ fn is_at(place: u32, number: u32) -> bool
 
 /// Whether a key is in a range.
 pub fn is_in_range(range: Key, key: Key) -> bool
-    ensures { result ≡ in_range range key }
+    ensures { result ≡ key_in_range range key }
 {
     is_at(range.subject, key.subject)
         && is_at(range.predicate, key.predicate)

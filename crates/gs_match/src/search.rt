@@ -5,7 +5,7 @@ ghost use Rattle.gs_model.specs.declared.refusals.Refusal.TheVariants.{NoMemory}
 ghost use Rattle.gs_event.specs.Solutions.{ListsInstances};
 ghost use Rattle.gs_dict.specs.Numbering.{IsDistinct};
 ghost use Rattle.gs_keys.specs.Texts.{triple_at};
-ghost use Rattle.gs_keys.specs.Roots.{graph_at, IsGraphAt};
+ghost use Rattle.gs_keys.specs.Roots.{graph_of_root, IsGraphAt};
 ghost use Rattle.gs_joins.specs.Numbers.{no_number};
 ghost use Rattle.gs_joins.specs.Lots.{IsLot};
 ghost use Rattle.gs_match.specs.Instances.{instance_keys};
@@ -78,7 +78,7 @@ pub fn solve_counted(
     ensures value { MatchResult result
         (λ solved. solved.keys.items ≡ instance_keys dict.now.terms pool.now root patterns.now)
         (λ e. e ≡ NoMemory) }
-    ensures instances { IfOk result (λ solved. ListsInstances (graph_at dict.now.terms pool.now root)
+    ensures instances { IfOk result (λ solved. ListsInstances (graph_of_root dict.now.terms pool.now root)
         patterns.now (map (triple_at dict.now.terms) solved.keys.items)) }
 {
     // That no term has two numbers, and none the last one of 32 bits.
@@ -116,7 +116,7 @@ pub fn solve(
     ensures value { MatchResult result
         (λ found. found.items ≡ instance_keys dict.now.terms pool.now root patterns.now)
         (λ e. e ≡ NoMemory) }
-    ensures instances { IfOk result (λ found. ListsInstances (graph_at dict.now.terms pool.now root)
+    ensures instances { IfOk result (λ found. ListsInstances (graph_of_root dict.now.terms pool.now root)
         patterns.now (map (triple_at dict.now.terms) found.items)) }
 {
     let Solved { keys, looked: _ } = solve_counted(alloc, pool, root, dict, patterns)?;

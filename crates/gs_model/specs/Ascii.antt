@@ -1,5 +1,5 @@
 -- Control characters, the space and letters of ASCII by their names (ISO/IEC 10646 has longer ones for some).
-use Rattle.std.specs.Prelude.{ℕ}
+use Rattle.std.specs.Prelude.{ℕ, List, [], ◌∷◌}
 
 -- U+0008
 abbrev pub backspace : ℕ
@@ -20,6 +20,10 @@ form_feed = 0x0C
 -- U+000D
 abbrev pub carriage_return : ℕ
 carriage_return = 0x0D
+
+-- CR LF, the end of a line of HTTP (RFC 9112, section 2.1)
+abbrev pub crlf : List ℕ
+crlf = carriage_return ∷ line_feed ∷ []
 
 -- the space
 abbrev pub space : ℕ

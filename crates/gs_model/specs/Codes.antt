@@ -9,8 +9,8 @@ use Rattle.gs_model.specs.Triples.{RdfTriple}
 use Rattle.gs_model.specs.Graphs.{Graph}
 
 -- a term as pairs and choices
-abbrev pub Parts : Type 0
-Parts = (List ℕ ⊎ (ℕ × ℕ)) ⊎ (List ℕ × (List ℕ ⊎ List ℕ))
+abbrev pub TermParts : Type 0
+TermParts = (List ℕ ⊎ (ℕ × ℕ)) ⊎ (List ℕ × (List ℕ ⊎ List ℕ))
 
 -- a literal's kind as a choice
 abbrev pub kind_parts : LiteralKind → List ℕ ⊎ List ℕ
@@ -23,13 +23,13 @@ kind_from (inl d) = Typed d
 kind_from (inr t) = Tagged t
 
 -- a term's parts
-abbrev pub term_parts : Term → Parts
+abbrev pub term_parts : Term → TermParts
 term_parts (Iri text) = inl (inl text)
 term_parts (Blank r k) = inl (inr (r, k))
 term_parts (Literal l k) = inr (l, kind_parts k)
 
 -- the term of its parts
-abbrev pub term_from : Parts → Term
+abbrev pub term_from : TermParts → Term
 term_from (inl (inl text)) = Iri text
 term_from (inl (inr p)) = Blank p.0 p.1
 term_from (inr p) = Literal p.0 (kind_from p.1)
@@ -47,7 +47,7 @@ text_code = coded_list coded_ℕ
 
 -- how a term is stored
 abbrev pub term_code : Coded Term
-term_code = code_by Parts (coded⊎ (coded⊎ text_code (coded× coded_ℕ coded_ℕ)) (coded× text_code (coded⊎ text_code text_code))) term_parts term_from term_back
+term_code = code_by TermParts (coded⊎ (coded⊎ text_code (coded× coded_ℕ coded_ℕ)) (coded× text_code (coded⊎ text_code text_code))) term_parts term_from term_back
 
 -- how a triple is stored
 abbrev pub triple_code : Coded RdfTriple

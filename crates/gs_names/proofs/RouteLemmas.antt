@@ -7,15 +7,15 @@ use Rattle.std.proofs.lemmas.Bool.{cases_Bool, eqb-true, eqb-false, eq-eqb, ne_e
 use Rattle.matchit.specs.Rows.{Rows}
 use Rattle.matchit.specs.Seek.{step, or_else, seek, first, param_step}
 use Rattle.matchit.proofs.SeekLemmas.{seek-empty, param_step-empty, first-prefix, or_else-none}
-use Rattle.gs_names.specs.declared.routes.Place.{Place}
-use Rattle.gs_names.specs.declared.routes.Place.TheVariants.{Store, Graphs}
+use Rattle.gs_names.specs.declared.routes.Route.{Route}
+use Rattle.gs_names.specs.declared.routes.Route.TheVariants.{Store, Graphs}
 use Rattle.matchit.specs.Router.{RouteOf, map_key}
 use Rattle.matchit.proofs.RenameLemmas.{first-rename}
 use Rattle.gs_names.specs.Routes.{LeadsToPlaces}
 use Rattle.gs_names.specs.Places.{some_more, place_of}
 
 -- the place of a route by its number
-abbrev pub named : Option ℕ → Option Place
+abbrev pub named : Option ℕ → Option Route
 named None = None
 named (Some k) = Some (cond (nat_eq k 0) Graphs Store)
 
@@ -146,16 +146,16 @@ routed (x ∷ p) = elim (cases_Bool (nat_eq 47 x)) [
 ]
 
 -- the router's rows, whatever else a row keeps
-pub leads : (g s : RouteOf Place) → g.value ≡ Graphs → s.value ≡ Store
+pub leads : (g s : RouteOf Route) → g.value ≡ Graphs → s.value ≡ Store
     → LeadsToPlaces ((47 ∷ 103 ∷ 114 ∷ 97 ∷ 112 ∷ 104 ∷ 115 ∷ 47 ∷ 257 ∷ [], g) ∷ (47 ∷ 115 ∷ 116 ∷ 111 ∷ 114 ∷ 101 ∷ [], s) ∷ [])
 leads g s gv sv path =
-    let pick : ℕ → RouteOf Place = λ k. cond (nat_eq k 0) g s in
-    ap (option_map (λ (r : RouteOf Place). r.value)) (first-rename pick both path) ∙ values (first both path) ∙ routed path
+    let pick : ℕ → RouteOf Route = λ k. cond (nat_eq k 0) g s in
+    ap (option_map (λ (r : RouteOf Route). r.value)) (first-rename pick both path) ∙ values (first both path) ∙ routed path
   where
     by : (v : Bool) → (cond v g s).value ≡ cond v Graphs Store
     by true = gv
     by false = sv
 
-    values : (o : Option ℕ) → option_map (λ (r : RouteOf Place). r.value) (map_key (λ k. cond (nat_eq k 0) g s) o) ≡ named o
+    values : (o : Option ℕ) → option_map (λ (r : RouteOf Route). r.value) (map_key (λ k. cond (nat_eq k 0) g s) o) ≡ named o
     values None = refl
     values (Some k) = ap Some (by (nat_eq k 0))

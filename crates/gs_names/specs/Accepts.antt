@@ -8,7 +8,7 @@ use Rattle.gs_model.specs.Terms.{digit}
 use Rattle.gs_http.specs.Connections.{elements_of}
 use Rattle.gs_names.specs.declared.media.Media.{Media}
 use Rattle.gs_names.specs.declared.media.Media.TheVariants.{Turtle, NTriples}
-use Rattle.gs_names.specs.Words.{front_word, back_word, is_word, parts_of}
+use Rattle.gs_names.specs.Words.{front_word, back_word, is_same_word, semicolon_parts}
 
 -- qvalue (section 12.4.2): `0` or `1` with at most three decimals, after `1` only zeros
 abbrev pub is_weight : List ℕ → Bool
@@ -24,7 +24,7 @@ is_zero w = list_all (λ c. c == digit 0 || c == dot) w
 
 -- the parameter is the weight
 abbrev pub is_q : List ℕ → Bool
-is_q p = is_word (front_word equals_sign p) (codes "q")
+is_q p = is_same_word (front_word equals_sign p) (codes "q")
 
 -- the weight is one; other parameters are ignored
 abbrev pub allows_q : List ℕ → Bool
@@ -36,11 +36,11 @@ excludes p = is_q p && is_zero (back_word equals_sign p)
 
 -- an element counts for a range, in any case
 abbrev pub counts : List ℕ → List ℕ → Bool
-counts range e = is_word (front_word semicolon e) range && list_all allows_q (parts_of e)
+counts range e = is_same_word (front_word semicolon e) range && list_all allows_q (semicolon_parts e)
 
 -- and has a weight above zero
 abbrev pub passes : List ℕ → List ℕ → Bool
-passes range e = counts range e && not (list_any excludes (parts_of e))
+passes range e = counts range e && not (list_any excludes (semicolon_parts e))
 
 -- some element of some field
 abbrev pub some_element : (List ℕ → Bool) → List (List ℕ) → Bool

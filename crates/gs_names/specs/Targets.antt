@@ -8,8 +8,8 @@ use Rattle.gs_model.specs.Punctuation.{exclamation_mark, number_sign, ampersand,
 use Rattle.gs_model.specs.Limits.{max_name_bytes}
 use Rattle.gs_model.specs.Iris.{is_absolute, IsName}
 use Rattle.gs_term.specs.declared.names.Target.TheVariants.{Default, Named}
-use Rattle.gs_names.specs.declared.routes.Place.{Place}
-use Rattle.gs_names.specs.declared.routes.Place.TheVariants as place
+use Rattle.gs_names.specs.declared.routes.Route.{Route}
+use Rattle.gs_names.specs.declared.routes.Route.TheVariants as place
 use Rattle.gs_names.specs.declared.targets.Goal.{Goal}
 use Rattle.gs_names.specs.declared.targets.Goal.TheVariants.{Store, Graph, Malformed, Missing}
 use Rattle.gs_names.specs.Words.{position_of}
@@ -62,16 +62,16 @@ queried (Some q) =
     else Malformed
 
 -- by the place of the path; a path of graphs is named by the base and the whole target (section 4.1)
-abbrev pub placed : List ℕ → List ℕ → Option Place → Goal
-placed base r None = Missing
-placed base r (Some place.Store) = queried (query_of r)
-placed base r (Some place.Graphs) = named_by (base ++ r)
+abbrev pub goal_at : List ℕ → List ℕ → Option Route → Goal
+goal_at base r None = Missing
+goal_at base r (Some place.Store) = queried (query_of r)
+goal_at base r (Some place.Graphs) = named_by (base ++ r)
 
 -- what a target names, under a base
 abbrev pub target_of : List ℕ → List ℕ → Goal
 target_of base t =
     if list_all is_target_byte t && starts_with nat_eq (rest_of base t) (codes "/")
-    then placed base (rest_of base t) (place_of (path_of (rest_of base t)))
+    then goal_at base (rest_of base t) (place_of (path_of (rest_of base t)))
     else Malformed
 
 -- the text that bytes are, if they are UTF-8

@@ -18,9 +18,9 @@ abbrev pub back_word : ℕ → List ℕ → List ℕ
 back_word c v = trim_ows (drop (position_of c v + 1) v)
 
 -- the same word, in any case
-abbrev pub is_word : List ℕ → List ℕ → Bool
-is_word = str_eq_ignore_ascii_case
+abbrev pub is_same_word : List ℕ → List ℕ → Bool
+is_same_word = str_eq_ignore_ascii_case
 
 -- what stands between semicolons: the value itself, and then its parameters
-abbrev pub parts_of : List ℕ → List (List ℕ)
-parts_of v = slice_split (λ b. b == semicolon) v
+abbrev pub semicolon_parts : List ℕ → List (List ℕ)
+semicolon_parts v = slice_split (λ b. b == semicolon) v

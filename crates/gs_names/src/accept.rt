@@ -5,7 +5,7 @@ ghost use Rattle.std.specs.Char.{is_ascii_digit};
 ghost use Rattle.gs_model.specs.Terms.{digit};
 ghost use Rattle.gs_http.specs.Fields.{kept_under};
 ghost use Rattle.gs_http.specs.Connections.{elements_of};
-ghost use Rattle.gs_names.specs.Words.{parts_of};
+ghost use Rattle.gs_names.specs.Words.{semicolon_parts};
 ghost use Rattle.gs_names.specs.Accepts as spec;
 ghost use Rattle.gs_names.specs.Accepts.{some_element};
 
@@ -71,13 +71,13 @@ fn excludes(part: &[u8]) -> bool
 }
 
 fn all_allow(value: &[u8]) -> bool
-    ensures { result ≡ list_all spec.allows_q (parts_of value.now) }
+    ensures { result ≡ list_all spec.allows_q (semicolon_parts value.now) }
 {
     value.split(|b| *b == b';').all(|p| allows_q(p))
 }
 
 fn any_excludes(value: &[u8]) -> bool
-    ensures { result ≡ list_any spec.excludes (parts_of value.now) }
+    ensures { result ≡ list_any spec.excludes (semicolon_parts value.now) }
 {
     value.split(|b| *b == b';').any(|p| excludes(p))
 }

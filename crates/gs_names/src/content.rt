@@ -1,7 +1,7 @@
 //! The type of a body.
 ghost use Rattle.std.specs.Prelude.{◌≡◌, ◌||◌, List, codes};
 ghost use Rattle.std.specs.List.{list_all};
-ghost use Rattle.gs_names.specs.Words.{is_word, parts_of};
+ghost use Rattle.gs_names.specs.Words.{is_same_word, semicolon_parts};
 ghost use Rattle.gs_http.specs.Fields.{kept_under};
 ghost use Rattle.gs_names.specs.Media as spec;
 
@@ -25,20 +25,20 @@ fn media_named(word: &[u8]) -> Option<Media>
 }
 
 fn is_utf8_name(word: &[u8]) -> bool
-    ensures { result ≡ (is_word word.now (codes "utf-8") || is_word word.now (codes "\"utf-8\"")) }
+    ensures { result ≡ (is_same_word word.now (codes "utf-8") || is_same_word word.now (codes "\"utf-8\"")) }
 {
     is_same_word(word, b"utf-8") || is_same_word(word, b"\"utf-8\"")
 }
 
 fn is_allowed(parameter: &[u8]) -> bool
-    ensures { result ≡ spec.is_allowed parameter.now }
+    ensures { result ≡ spec.is_allowed_charset parameter.now }
 {
     !is_same_word(front_word(parameter, b'='), b"charset")
         || is_utf8_name(back_word(parameter, b'='))
 }
 
 fn all_allow(value: &[u8]) -> bool
-    ensures { result ≡ list_all spec.is_allowed (parts_of value.now) }
+    ensures { result ≡ list_all spec.is_allowed_charset (semicolon_parts value.now) }
 {
     value.split(|b| *b == b';').all(|p| is_allowed(p))
 }

@@ -15,5 +15,5 @@ pub use content::body_type;
 pub use laws::tested_name_is_a_name;
 pub use media::{BodyType, Media};
 pub use places::Places;
-pub use routes::Place;
+pub use routes::Route;
 pub use targets::{Goal, read_target};

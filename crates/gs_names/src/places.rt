@@ -2,14 +2,14 @@
 ghost use Rattle.std.specs.Prelude.{◌≡◌, IfOk};
 ghost use Rattle.gs_names.specs.Routes.{LeadsToPlaces};
 
-use crate::routes::{Place, find_place, routes};
+use crate::routes::{Route, find_place, routes};
 use matchit::Router;
 use std::alloc::{AllocError, Global};
 
 /// The routes of the server's paths, made once.
 #[derive(Drop)]
 pub struct Places {
-    router: Router<Place>,
+    router: Router<Route>,
     ghost leads: { LeadsToPlaces router },
 }
 
@@ -25,7 +25,7 @@ impl Places {
     }
 
     /// What a path names.
-    pub fn at(&self, path: &str) -> Option<Place>
+    pub fn at(&self, path: &str) -> Option<Route>
         ensures { result ≡ place_of path.now }
     {
         find_place(&self.router, path)

@@ -8,7 +8,7 @@ use std::alloc::Global;
 
 /// What a path names.
 #[derive(Clone, Copy, Debug, PartialEq)]
-pub enum Place {
+pub enum Route {
     /// `/store`: the store, or a graph that the query names.
     Store,
     /// `/graphs/` and more: a graph that the path names.
@@ -16,17 +16,17 @@ pub enum Place {
 }
 
 /// The router of both places.
-pub fn routes(alloc: Global) -> Result<Router<Place>, InsertError>
+pub fn routes(alloc: Global) -> Result<Router<Route>, InsertError>
     ensures { IfOk result LeadsToPlaces }
 {
     let mut router = Router::new(alloc);
-    router.insert("/store", Place::Store)?;
-    router.insert("/graphs/{*rest}", Place::Graphs)?;
+    router.insert("/store", Route::Store)?;
+    router.insert("/graphs/{*rest}", Route::Graphs)?;
     Ok(router)
 }
 
 /// What a path names.
-pub fn find_place(router: &Router<Place>, path: &str) -> Option<Place>
+pub fn find_place(router: &Router<Route>, path: &str) -> Option<Route>
     requires { LeadsToPlaces router.now }
     ensures { result ≡ place_of path.now }
 {

@@ -4,12 +4,12 @@ ghost use Rattle.std.specs.List.{list_all, list_any, starts_with};
 ghost use Rattle.std.specs.Str.{IsUtf8, bytes_eq};
 ghost use Rattle.percent_encoding.specs.Percent.{percent_decode};
 ghost use Rattle.gs_model.specs.Punctuation.{ampersand};
-ghost use Rattle.gs_names.specs.declared.routes.Place.TheVariants.{Graphs};
+ghost use Rattle.gs_names.specs.declared.routes.Route.TheVariants.{Graphs};
 ghost use Rattle.gs_names.specs.Places.{place_of};
-ghost use Rattle.gs_names.specs.Targets.{is_target_byte, rest_of, IsTextOf, is_short_iri, named_text, named_by, queried, placed, target_of};
+ghost use Rattle.gs_names.specs.Targets.{is_target_byte, rest_of, IsTextOf, is_short_iri, named_text, named_by, queried, goal_at, target_of};
 
 use crate::places::Places;
-use crate::routes::Place;
+use crate::routes::Route;
 use crate::words::position;
 use gs_iri::is_absolute;
 use gs_model::MAX_NAME_BYTES;
@@ -106,7 +106,7 @@ fn decoded(alloc: Global, value: &[u8]) -> Result<Vec<u8>, AllocError>
 
 /// The graph whose name is the base and then the target.
 fn direct(alloc: Global, base: &[u8], rest: &[u8]) -> Result<Goal, AllocError>
-    ensures { IfOk result (λ r. r ≡ placed base.now rest.now (Some Graphs)) }
+    ensures { IfOk result (λ r. r ≡ goal_at base.now rest.now (Some Graphs)) }
 {
     let mut name = Vec::from_slice(alloc, base)?;
     name.extend_from_slice(rest)?;
@@ -148,7 +148,7 @@ fn indirect(alloc: Global, query: &[u8]) -> Result<Goal, AllocError>
     Ok(Goal::Malformed)
 }
 
-fn place_at(places: &Places, path: &[u8]) -> Option<Place>
+fn place_at(places: &Places, path: &[u8]) -> Option<Route>
     requires { IsUtf8 path.now }
     ensures { result ≡ place_of path.now }
 {
@@ -174,8 +174,8 @@ pub fn read_target(
     let mark = position(rest, b'?');
     match place_at(places, &rest[..mark]) {
         None => Ok(Goal::Missing),
-        Some(Place::Graphs) => direct(alloc, base, rest),
-        Some(Place::Store) => {
+        Some(Route::Graphs) => direct(alloc, base, rest),
+        Some(Route::Store) => {
             if mark < rest.len() {
                 indirect(alloc, &rest[mark + 1..])
             } else {

@@ -8,14 +8,14 @@ use Rattle.gs_model.specs.declared.refusals.Refusal.{Refusal}
 use Rattle.gs_model.specs.declared.refusals.Refusal.TheVariants as refusal
 use Rattle.gs_machine.specs.Machines.{joined, steps, rest, AreSettled, Begins}
 use Rattle.gs_machine.specs.Utf8.{Lost, IsLongestFront}
-use Rattle.gs_body.specs.Bodies.{Faulty, Statement, Meaning, Reports, triples_of, end_after}
+use Rattle.gs_body.specs.Bodies.{Faulty, Statement, Meaning, Reports, all_stated, end_after}
 use Rattle.gs_body.specs.Feeding.{Feeds, Finishes}
 use Rattle.gs_body.specs.Leading.{IsLed}
 use Rattle.gs_body.proofs.LeadingLemmas.{led-on, led-begun, led-settled_at_front, led-meaning, led-fails, triples_of-append, end_after-append}
 use Rattle.gs_ntread.specs.Documents.{meaning_by}
 use Rattle.gs_ntread.specs.States.{LineState, broken}
 use Rattle.gs_ntread.specs.Reader.{Led, placing, ntriples, nothing_read}
-use Rattle.gs_ntread.specs.Readers.{led_of, LeadsTo, Advances, IsStopped, refusal_after, Refuses, FaultyAfter, FaultyEnd, EndsWell, Sound}
+use Rattle.gs_ntread.specs.Readers.{led_of, LeadsToNTriples, Advances, IsStopped, refusal_after, RefusesFault, FaultyAfter, FaultyEnd, EndsWell, Sound}
 use Rattle.gs_ntread.specs.Views.{cursor_state}
 use Rattle.gs_ntread.specs.declared.reader.NTriplesReader.{NTriplesReader}
 use Rattle.gs_ntread.proofs.Whole.{meaning_is, says_nothing, silence}
@@ -25,33 +25,33 @@ abbrev meaning_for : NTriplesReader → List ℕ → Meaning
 meaning_for r x = meaning_by r.request x
 
 -- a machine that led somewhere goes on to a state
-goes : (a : NTriplesReader) (x y : List ℕ) (ts : List RdfTriple) → LeadsTo a x ts
-    → IsLed (ntriples a.request) nothing_read (steps (ntriples a.request) (led_of a) y).0 (end_after a.last (steps (ntriples a.request) (led_of a) y).1) (x ++ y) (ts ++ triples_of (steps (ntriples a.request) (led_of a) y).1)
+goes : (a : NTriplesReader) (x y : List ℕ) (ts : List RdfTriple) → LeadsToNTriples a x ts
+    → IsLed (ntriples a.request) nothing_read (steps (ntriples a.request) (led_of a) y).0 (end_after a.last (steps (ntriples a.request) (led_of a) y).1) (x ++ y) (ts ++ all_stated (steps (ntriples a.request) (led_of a) y).1)
 goes a x y ts l = led-on (ntriples a.request) nothing_read (led_of a) (steps (ntriples a.request) (led_of a) y).0 a.last _ x y ts (steps (ntriples a.request) (led_of a) y).1 l refl refl
 
 -- A decoder that is not lost has given all by the longest front between characters, where the text may go on so that
 -- nothing more is said.
 settled_at : (r : ℕ) (s : Led) (n : ℕ) (x : List ℕ) (ts : List RdfTriple) → IsLed (ntriples r) nothing_read s n x ts → (s.0 ≡ Lost → ⊥) → (front : List ℕ) → IsLongestFront x front
-    → AreSettled (λ z. triples_of (meaning_by r z).0) front ts
+    → AreSettled (λ z. all_stated (meaning_by r z).0) front ts
 settled_at r s n x ts h kept front f =
     let y = silence r s.1.0 s.1.1.0 s.1.1.1 in
-    subst (λ (g : List ℕ → List RdfTriple). AreSettled g front ts) (λ i z. triples_of (meaning_is r z i).0) (led-settled_at_front (placing r) nothing_read.1 s n x front ts h f kept y.0 y.1)
+    subst (λ (g : List ℕ → List RdfTriple). AreSettled g front ts) (λ i z. all_stated (meaning_is r z i).0) (led-settled_at_front (placing r) nothing_read.1 s n x front ts h f kept y.0 y.1)
 
 -- a piece that was taken, and by which no fault came
-pub feeds : (a b : NTriplesReader) (y : List ℕ) (o1 o2 : List RdfTriple) → Advances a b o1 o2 (steps (ntriples a.request) (led_of a) y) → ¬ (IsStopped (cursor_state b.cursor)) → Feeds meaning_for LeadsTo a b y o1 o2
+pub feeds : (a b : NTriplesReader) (y : List ℕ) (o1 o2 : List RdfTriple) → Advances a b o1 o2 (steps (ntriples a.request) (led_of a) y) → ¬ (IsStopped (cursor_state b.cursor)) → Feeds meaning_for LeadsToNTriples a b y o1 o2
 feeds a b y o1 o2 h unbroken =
     let m = ntriples a.request in
     let new : List Statement = (steps m (led_of a) y).1 in
     record {
-      given = triples_of new;
+      given = all_stated new;
       grown = h.given;
-      leads = λ x ts l. subst (λ (r : ℕ). IsLed (ntriples r) nothing_read (led_of b) b.last (x ++ y) (ts ++ triples_of new)) (sym h.request)
+      leads = λ x ts l. subst (λ (r : ℕ). IsLed (ntriples r) nothing_read (led_of b) b.last (x ++ y) (ts ++ all_stated new)) (sym h.request)
           (led-on m nothing_read (led_of a) (led_of b) a.last b.last x y ts new l (ap (λ (s : Led). (s, new)) (sym h.led)) h.last);
-      begun = λ x ts l z. subst (λ (s : Meaning). Begins (triples_of s.0) (ts ++ triples_of new)) (meaning_is a.request ((x ++ y) ++ z)) (led-begun m nothing_read _ _ (x ++ y) (ts ++ triples_of new) (goes a x y ts l) z);
+      begun = λ x ts l z. subst (λ (s : Meaning). Begins (all_stated s.0) (ts ++ all_stated new)) (meaning_is a.request ((x ++ y) ++ z)) (led-begun m nothing_read _ _ (x ++ y) (ts ++ all_stated new) (goes a x y ts l) z);
       settled = λ x ts l front f.
           let g = goes a x y ts l in
           let whole : ¬ (IsStopped (steps m (led_of a) y).0.1.1.0) = subst (λ (s : Led). ¬ (IsStopped s.1.1.0)) h.led unbroken in
-          settled_at a.request _ _ (x ++ y) (ts ++ triples_of new) g (λ e. whole (sound-led a.request _ _ (x ++ y) (ts ++ triples_of new) g e)) front f;
+          settled_at a.request _ _ (x ++ y) (ts ++ all_stated new) g (λ e. whole (sound-led a.request _ _ (x ++ y) (ts ++ all_stated new) g e)) front f;
     }
 
 -- what the refusal of a fault reports
@@ -65,10 +65,10 @@ unreported e t h = subst (λ (r : Refusal). Reports r t) (sym h) tt
 
 -- a refused piece
 pub faults : (e : Refusal) (a : NTriplesReader) (y : List ℕ) → FaultyAfter e a.last (steps (ntriples a.request) (led_of a) y)
-    → (x : List ℕ) (ts : List RdfTriple) → LeadsTo a x ts → (z : List ℕ) → Reports e (meaning_for a ((x ++ y) ++ z))
+    → (x : List ℕ) (ts : List RdfTriple) → LeadsToNTriples a x ts → (z : List ℕ) → Reports e (meaning_for a ((x ++ y) ++ z))
 faults e a y f x ts l z = elim f [ inl h ↦ unreported e _ h | inr h ↦ reported h ]
   where
-    reported : Refuses e (end_after a.last (steps (ntriples a.request) (led_of a) y).1) (λ f. (steps (ntriples a.request) (led_of a) y).0.1.1.0 ≡ broken f) → Reports e (meaning_for a ((x ++ y) ++ z))
+    reported : RefusesFault e (end_after a.last (steps (ntriples a.request) (led_of a) y).1) (λ f. (steps (ntriples a.request) (led_of a) y).0.1.1.0 ≡ broken f) → Reports e (meaning_for a ((x ++ y) ++ z))
     reported h =
         let t : Led × List Statement = steps (ntriples a.request) (led_of a) y in
         let m = ntriples a.request in
@@ -76,31 +76,31 @@ faults e a y f x ts l z = elim f [ inl h ↦ unreported e _ h | inr h ↦ report
         let nothing : rest m t.0 z ≡ ([], Faulty h.fault) =
         ap (λ (q : LineState). rest m (t.0.0, (t.0.1.0, (q, t.0.1.1.1))) z) h.is ∙ says_nothing a.request t.0.0 t.0.1.0 h.fault t.0.1.1.1 z in
         let g = goes a x y ts l in
-        let whole = led-fails m nothing_read (Faulty h.fault) t.0 n (x ++ y) z (ts ++ triples_of t.1) g nothing in
+        let whole = led-fails m nothing_read (Faulty h.fault) t.0 n (x ++ y) z (ts ++ all_stated t.1) g nothing in
         subst (λ (s : Meaning). Reports e s) (meaning_is a.request ((x ++ y) ++ z))
         (subst (λ (k : Refusal). Reports k (rest m nothing_read ((x ++ y) ++ z))) (sym h.refusal)
         (reports_fault h.fault n _ (ap (λ (s : Meaning). s.1) whole) (g.place ∙ ap (λ (s : Meaning). end_after 0 s.0) (sym whole))))
 
 -- the text ends
-meaning_at_end : (a : NTriplesReader) (x : List ℕ) (ts : List RdfTriple) → (l : LeadsTo a x ts) → meaning_for a x ≡ joined l.statements (rest (ntriples a.request) (led_of a) [])
+meaning_at_end : (a : NTriplesReader) (x : List ℕ) (ts : List RdfTriple) → (l : LeadsToNTriples a x ts) → meaning_for a x ≡ joined l.statements (rest (ntriples a.request) (led_of a) [])
 meaning_at_end a x ts l = sym (meaning_is a.request x) ∙ ap (rest (ntriples a.request) nothing_read) (sym (append-nil x)) ∙ led-meaning (ntriples a.request) nothing_read (led_of a) a.last x [] ts l
 
-pub finishes : (a : NTriplesReader) (o1 o2 : List RdfTriple) → EndsWell o1 o2 (rest (ntriples a.request) (led_of a) []) → Finishes meaning_for LeadsTo a o1 o2
+pub finishes : (a : NTriplesReader) (o1 o2 : List RdfTriple) → EndsWell o1 o2 (rest (ntriples a.request) (led_of a) []) → Finishes meaning_for LeadsToNTriples a o1 o2
 finishes a o1 o2 h =
     let t : Meaning = rest (ntriples a.request) (led_of a) [] in
     record {
-      given = triples_of t.0;
+      given = all_stated t.0;
       grown = h.given;
       whole = λ x ts l. ap (λ (s : Meaning). s.1) (meaning_at_end a x ts l) ∙ h.whole;
-      all = λ x ts l. ap (λ (s : Meaning). triples_of s.0) (meaning_at_end a x ts l) ∙ triples_of-append l.statements t.0 ∙ ap (λ z. z ++ triples_of t.0) (sym l.given);
+      all = λ x ts l. ap (λ (s : Meaning). all_stated s.0) (meaning_at_end a x ts l) ∙ triples_of-append l.statements t.0 ∙ ap (λ z. z ++ all_stated t.0) (sym l.given);
     }
 
 -- a refused end
 pub faults-end : (e : Refusal) (a : NTriplesReader) → (Sound (led_of a) → FaultyEnd e a.last (rest (ntriples a.request) (led_of a) []))
-    → (x : List ℕ) (ts : List RdfTriple) → LeadsTo a x ts → Reports e (meaning_for a x)
+    → (x : List ℕ) (ts : List RdfTriple) → LeadsToNTriples a x ts → Reports e (meaning_for a x)
 faults-end e a f x ts l = elim (f (sound-led a.request (led_of a) a.last x ts l)) [ inl h ↦ unreported e _ h | inr h ↦ reported h ]
   where
-    reported : Refuses e (end_after a.last (rest (ntriples a.request) (led_of a) []).0) (λ f. (rest (ntriples a.request) (led_of a) []).1 ≡ Faulty f) → Reports e (meaning_for a x)
+    reported : RefusesFault e (end_after a.last (rest (ntriples a.request) (led_of a) []).0) (λ f. (rest (ntriples a.request) (led_of a) []).1 ≡ Faulty f) → Reports e (meaning_for a x)
     reported h =
         let t : Meaning = rest (ntriples a.request) (led_of a) [] in
         let at_end = meaning_at_end a x ts l in

@@ -7,7 +7,7 @@ use Rattle.gs_model.specs.declared.faults.Fault.{Fault}
 use Rattle.gs_model.specs.declared.faults.Fault.TheVariants.{Syntax}
 use Rattle.gs_model.specs.Escapes.{echar_meaning}
 use Rattle.gs_machine.specs.Machines.{steps, composed}
-use Rattle.gs_machine.specs.Utf8.{Decoding, Ready, Within, Lost, bad, decode_step, lead, goes_on}
+use Rattle.gs_machine.specs.Utf8.{Decoding, Ready, Within, Lost, bad, decode_step, lead, character_goes_on}
 use Rattle.gs_body.specs.Bodies.{Statement}
 use Rattle.gs_body.specs.Leading.{IsLed}
 use Rattle.gs_blank.specs.Numbers.{Numbers}
@@ -92,7 +92,7 @@ marks_ready os e = absurd (Prim.cc)
 marks_within : (n v l h : ℕ) (os : List ℕ) → Marks (Within n v l h, os)
 marks_within n v l h os e = absurd (Prim.cc)
 
-marks_on : (n v : ℕ) → Marks (goes_on n v)
+marks_on : (n v : ℕ) → Marks (character_goes_on n v)
 marks_on zero v = marks_ready (v ∷ [])
 marks_on (suc n) v = marks_within n v 128 191 []
 

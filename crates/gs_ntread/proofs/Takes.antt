@@ -7,7 +7,7 @@ use Rattle.gs_model.specs.declared.refusals.Refusal.{Refusal}
 use Rattle.gs_machine.specs.Machines.{joined, steps, rest, composed}
 use Rattle.gs_machine.specs.Utf8.{Decoding, Ready, Within, Lost, bad, is_ready_of}
 use Rattle.gs_machine.proofs.MachineLemmas.{steps-snoc, steps-append}
-use Rattle.gs_body.specs.Bodies.{Statement, Meaning, Ending, Faulty, triples_of, end_after}
+use Rattle.gs_body.specs.Bodies.{Statement, Meaning, Ending, Faulty, all_stated, end_after}
 use Rattle.gs_body.proofs.LeadingLemmas.{triples_of-append, end_after-append}
 use Rattle.gs_blank.specs.Numbers.{Numbers}
 use Rattle.gs_ntread.specs.States.{LineState, broken}
@@ -29,7 +29,7 @@ if_err (Err e) P Q f h = f e h
 pub took-none : (a b : NTriplesReader) (ts : List RdfTriple) (t : Led × List Statement) → t ≡ (led_of b, []) → b.last ≡ a.last → b.request ≡ a.request → b.is_closed ≡ a.is_closed → Advances a b ts ts t
 took-none a b ts t e l r k = record {
   led = ap (λ (u : Led × List Statement). u.0) (sym e);
-  given = sym (append-nil ts) ∙ ap (λ (u : Led × List Statement). ts ++ triples_of u.1) (sym e);
+  given = sym (append-nil ts) ∙ ap (λ (u : Led × List Statement). ts ++ all_stated u.1) (sym e);
   last = l ∙ ap (λ (u : Led × List Statement). end_after a.last u.1) (sym e);
   request = r;
   closed = k;
@@ -39,7 +39,7 @@ took-none a b ts t e l r k = record {
 pub took-from : (a c b : NTriplesReader) (ts us : List RdfTriple) (t u : Led × List Statement) → c.last ≡ a.last → c.request ≡ a.request → c.is_closed ≡ a.is_closed → t ≡ u → Advances c b ts us u → Advances a b ts us t
 took-from a c b ts us t u l r k e h = record {
   led = h.led ∙ ap (λ (u : Led × List Statement). u.0) (sym e);
-  given = h.given ∙ ap (λ (u : Led × List Statement). ts ++ triples_of u.1) (sym e);
+  given = h.given ∙ ap (λ (u : Led × List Statement). ts ++ all_stated u.1) (sym e);
   last = h.last ∙ ap (λ n. end_after n u.1) l ∙ ap (λ (u : Led × List Statement). end_after a.last u.1) (sym e);
   request = h.request ∙ r;
   closed = h.closed ∙ k;
@@ -49,7 +49,7 @@ took-from a c b ts us t u l r k e h = record {
 pub took-then : (a b c : NTriplesReader) (o1 o2 o3 : List RdfTriple) (t u : Led × List Statement) → Advances a b o1 o2 t → Advances b c o2 o3 u → Advances a c o1 o3 (u.0, t.1 ++ u.1)
 took-then a b c o1 o2 o3 t u f g = record {
   led = g.led;
-  given = g.given ∙ ap (λ z. z ++ triples_of u.1) f.given ∙ append_assoc o1 (triples_of t.1) (triples_of u.1) ∙ ap (λ z. o1 ++ z) (sym (triples_of-append t.1 u.1));
+  given = g.given ∙ ap (λ z. z ++ all_stated u.1) f.given ∙ append_assoc o1 (all_stated t.1) (all_stated u.1) ∙ ap (λ z. o1 ++ z) (sym (triples_of-append t.1 u.1));
   last = g.last ∙ ap (λ z. end_after z u.1) f.last ∙ sym (end_after-append a.last t.1 u.1);
   request = g.request ∙ f.request;
   closed = g.closed ∙ f.closed;

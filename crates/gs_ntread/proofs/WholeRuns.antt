@@ -27,7 +27,7 @@ use Rattle.gs_ntterm.specs.Terminals.{Plain}
 use Rattle.gs_ntterm.specs.Forms.{form_of}
 use Rattle.gs_ntterm.specs.Tokens.{Held, Text, Long, hold, add, plain_held, tagged_held}
 use Rattle.gs_ntterm.specs.Runs.{runs_in_iri, runs_in_string, add_each}
-use Rattle.gs_ntterm.specs.Wholes.{IriFront, IsIriFront, IsLiteralFront, Says, none, datatype, tag}
+use Rattle.gs_ntterm.specs.Wholes.{IriFront, IsIriFront, IsLiteralFront, SaysSuffix, none, datatype, tag}
 use Rattle.gs_ntterm.proofs.RunLemmas.{low_space, add_each-text}
 use Rattle.gs_ntread.specs.LineTriples.{LineTriple}
 use Rattle.gs_ntread.specs.Documents.{line_stated}
@@ -189,7 +189,7 @@ module _ (x lexical : List ℕ) (n : ℕ) (t : Term) (plain : list_all runs_in_s
   sizes : (after : List ℕ) → take n x ≡ 34 ∷ lexical ++ 34 ∷ after → length lexical + length after ≤ max_term_bytes
   sizes after e = omega (arith, ap length e, length-take-le n x within, length-append lexical (34 ∷ after))
 
-  by_says : (after : List ℕ) (k : LiteralKind) → Says after k → take n x ≡ 34 ∷ lexical ++ 34 ∷ after → made (Literal lexical k) ≡ Ok t → IsObjectToken x n (Fixed t)
+  by_says : (after : List ℕ) (k : LiteralKind) → SaysSuffix after k → take n x ≡ 34 ∷ lexical ++ 34 ∷ after → made (Literal lexical k) ≡ Ok t → IsObjectToken x n (Fixed t)
   by_says _ _ none e m = record {
     within = within;
     after = λ s p. (AtSuffix s p (Text lexical), Between);

@@ -7,14 +7,14 @@ use Rattle.gs_machine.specs.Utf8.{symbols}
 use Rattle.gs_machine.specs.Machines.{Machine, rest}
 use Rattle.gs_model.specs.declared.faults.Fault.TheVariants.{Syntax}
 use Rattle.gs_body.specs.Bodies.{Ending, Whole, Faulty, Statement, Meaning}
-use Rattle.gs_blank.specs.Numbers.{Numbers, no_numbers, number_of}
+use Rattle.gs_blank.specs.Numbers.{Numbers, no_numbers, label_number}
 use Rattle.gs_ntterm.specs.Marks.{Mark, marks}
 use Rattle.gs_model.specs.Escapes.{is_line_end}
 use Rattle.gs_ntterm.specs.Classes.{is_space, may_stand_in_comment}
 use Rattle.gs_ntterm.specs.LineTerms.{LineTerm, Fixed, Labelled}
 use Rattle.gs_ntterm.specs.Terminals.{FrontRead}
 use Rattle.gs_ntread.specs.LineTriples.{LineTriple}
-use Rattle.gs_ntread.specs.Grammar.{triple_at}
+use Rattle.gs_ntread.specs.Grammar.{line_triple_at}
 
 -- line triples before the first fault, and how the text ends
 abbrev pub Meant : Type 0
@@ -41,7 +41,7 @@ line_meant [] = ([], Whole)
 line_meant (m ∷ ms) =
     if is_space m.0 then line_meant ms
     else if m.0 == number_sign then ([], comment_meant ms)
-    else triple_meant (triple_at (m ∷ ms))
+    else triple_meant (line_triple_at (m ∷ ms))
 
 -- one line after another, where the first has no fault
 abbrev pub then_meant : Meant → Meant → Meant
@@ -62,7 +62,7 @@ document_meant text = lines_meant [] text
 -- a line's term as a term of request r, and the numbers then
 abbrev pub term_of : ℕ → Numbers → LineTerm → Term × Numbers
 term_of r n (Fixed t) = (t, n)
-term_of r n (Labelled label) = (Blank r (number_of n label).0, (number_of n label).1)
+term_of r n (Labelled label) = (Blank r (label_number n label).0, (label_number n label).1)
 
 -- a statement that states this triple, and ends after so many bytes
 abbrev pub one_statement : RdfTriple → ℕ → List Statement

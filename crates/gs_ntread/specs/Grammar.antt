@@ -82,8 +82,8 @@ dot_at [] = Err Syntax
 dot_at (m ∷ ms) = if m.0 == dot then Ok (m.1, ms) else Err Syntax
 
 -- [2] triple, with its dot
-abbrev pub triple_at : List Mark → FrontRead LineTriple
-triple_at text =
+abbrev pub line_triple_at : List Mark → FrontRead LineTriple
+line_triple_at text =
     subject_at text >>= λ s.
     predicate_at (skip s.1) >>= λ p.
     object_at (skip p.1) >>= λ o.

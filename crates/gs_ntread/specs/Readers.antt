@@ -7,7 +7,7 @@ use Rattle.gs_machine.specs.Machines.{steps, rest}
 use Rattle.gs_machine.specs.Utf8.{Lost}
 use Rattle.gs_model.specs.declared.faults.Fault.{Fault}
 use Rattle.gs_model.specs.declared.faults.Fault.TheVariants.{Syntax, TermTooLong}
-use Rattle.gs_body.specs.Bodies.{Ending, Whole, Faulty, Meaning, Statement, triples_of, end_after}
+use Rattle.gs_body.specs.Bodies.{Ending, Whole, Faulty, Meaning, Statement, all_stated, end_after}
 use Rattle.gs_body.specs.Leading.{IsLed}
 use Rattle.gs_ntread.specs.Reader.{Led, stating, placing, ntriples, nothing_read}
 use Rattle.gs_ntread.specs.States.{LineState, TokenMode, Broken, broken}
@@ -21,13 +21,13 @@ abbrev pub led_of : NTriplesReader → Led
 led_of r = (r.decoder, (r.read, (cursor_state r.cursor, r.numbering)))
 
 -- A text leads a new reader of a request to this one, and to having given these triples.
-abbrev pub LeadsTo : NTriplesReader → List ℕ → List RdfTriple → Type 0
-LeadsTo r x ts = IsLed (ntriples r.request) nothing_read (led_of r) r.last x ts
+abbrev pub LeadsToNTriples : NTriplesReader → List ℕ → List RdfTriple → Type 0
+LeadsToNTriples r x ts = IsLed (ntriples r.request) nothing_read (led_of r) r.last x ts
 
 -- a reader goes on, by what a machine gives
 pub record Advances (old new : NTriplesReader) (before after : List RdfTriple) (t : Led × List Statement) : Type 0 where
   pub led : led_of new ≡ t.0
-  pub given : after ≡ before ++ triples_of t.1
+  pub given : after ≡ before ++ all_stated t.1
   pub last : new.last ≡ end_after old.last t.1
   pub request : new.request ≡ old.request
   pub closed : new.is_closed ≡ old.is_closed
@@ -61,19 +61,19 @@ abbrev pub TakesByte : (old new : NTriplesReader) → (before after : List RdfTr
 TakesByte old new before after byte = Advances old new before after ((ntriples old.request).step (led_of old) byte)
 
 -- a reader takes bytes, one after another
-abbrev pub TakesAll : (old new : NTriplesReader) → (before after : List RdfTriple) → List ℕ → Type 0
-TakesAll old new before after bytes = Advances old new before after (led_through old bytes)
+abbrev pub TakesEach : (old new : NTriplesReader) → (before after : List RdfTriple) → List ℕ → Type 0
+TakesEach old new before after bytes = Advances old new before after (led_through old bytes)
 
 -- a reader takes as many bytes of a piece as it answers
 abbrev pub TakesFront : (old new : NTriplesReader) → (before after : List RdfTriple) → List ℕ → Result ℕ Refusal → Type 0
-TakesFront old new before after piece answer = IfOk answer (λ n. TakesAll old new before after (take n piece))
+TakesFront old new before after piece answer = IfOk answer (λ n. TakesEach old new before after (take n piece))
 
 -- a reader takes as many bytes of a piece as it answers, which complete nothing
 abbrev pub TakesRun : {E : Type 0} → (old new : NTriplesReader) → List ℕ → Result ℕ E → Type 0
-TakesRun old new piece answer = IfOk answer (λ n. (ts : List RdfTriple) → TakesAll old new ts ts (take n piece))
+TakesRun old new piece answer = IfOk answer (λ n. (ts : List RdfTriple) → TakesEach old new ts ts (take n piece))
 
 -- a triple by its parts, which a reader has yet to give, is complete with the first n bytes of a piece
-pub record Completes (old new : NTriplesReader) (piece : List ℕ) (p : Parts) (n : ℕ) : Type 0 where
+pub record CompletesTriple (old new : NTriplesReader) (piece : List ℕ) (p : Parts) (n : ℕ) : Type 0 where
   pub some : 0 < n
   pub within : n ≤ length piece
   pub led : led_through old (take n piece) ≡ led_stated new p
@@ -81,7 +81,7 @@ pub record Completes (old new : NTriplesReader) (piece : List ℕ) (p : Parts) (
 -- so it is with so many bytes, or nothing is done
 abbrev pub TakesParts : (old new : NTriplesReader) → (piece : List ℕ) → Option (Parts × ℕ) → Type 0
 TakesParts old new piece None = led_of new ≡ led_of old
-TakesParts old new piece (Some w) = Completes old new piece w.0 w.1
+TakesParts old new piece (Some w) = CompletesTriple old new piece w.0 w.1
 
 -- what the end of the text gives between two characters
 abbrev pub text_end : NTriplesReader → Meaning
@@ -106,18 +106,18 @@ refusal_after last Syntax = refusal.Syntax last
 refusal_after last TermTooLong = refusal.TermTooLong
 
 -- a refusal for a fault
-pub record Refuses (e : Refusal) (last : ℕ) (P : Fault → Type 0) : Type 0 where
+pub record RefusesFault (e : Refusal) (last : ℕ) (P : Fault → Type 0) : Type 0 where
   pub fault : Fault
   pub is : P fault
   pub refusal : e ≡ refusal_after last fault
 
 -- a refusal by a state, where the last statement ends after so many bytes
 abbrev pub FaultsAs : Refusal → ℕ → LineState → Type 0
-FaultsAs e last s = Refuses e last (λ f. s ≡ broken f)
+FaultsAs e last s = RefusesFault e last (λ f. s ≡ broken f)
 
 -- the same by what a machine gives, or for want of memory
 abbrev pub FaultyAfter : Refusal → ℕ → Led × List Statement → Type 0
-FaultyAfter e last t = (e ≡ refusal.NoMemory) ⊎ Refuses e (end_after last t.1) (λ f. t.0.1.1.0 ≡ broken f)
+FaultyAfter e last t = (e ≡ refusal.NoMemory) ⊎ RefusesFault e (end_after last t.1) (λ f. t.0.1.1.0 ≡ broken f)
 
 -- the same by bytes, one after another
 abbrev pub FaultsAfter : NTriplesReader → List ℕ → Refusal → Type 0
@@ -125,16 +125,16 @@ FaultsAfter old bytes e = FaultyAfter e old.last (led_through old bytes)
 
 -- the same by the end of the text
 abbrev pub ConcludesAs : Refusal → ℕ → Ending → Type 0
-ConcludesAs e last end = Refuses e last (λ f. end ≡ Faulty f)
+ConcludesAs e last end = RefusesFault e last (λ f. end ≡ Faulty f)
 
 -- the same by what a machine gives at the end of the text, or for want of memory
 abbrev pub FaultyEnd : Refusal → ℕ → Meaning → Type 0
-FaultyEnd e last t = (e ≡ refusal.NoMemory) ⊎ Refuses e (end_after last t.0) (λ f. t.1 ≡ Faulty f)
+FaultyEnd e last t = (e ≡ refusal.NoMemory) ⊎ RefusesFault e (end_after last t.0) (λ f. t.1 ≡ Faulty f)
 
 -- the text ends without a fault, and gives the rest of its triples
 pub record EndsWell (before after : List RdfTriple) (t : Meaning) : Type 0 where
   pub whole : t.1 ≡ Whole
-  pub given : after ≡ before ++ triples_of t.0
+  pub given : after ≡ before ++ all_stated t.0
 
 -- where the decoder is lost the grammar is broken
 abbrev pub Sound : Led → Type 0

@@ -53,9 +53,9 @@ fn end_after_char(n: u64, c: u32) -> u64
 impl NTriplesReader {
     ghost use Rattle.gs_machine.specs.Machines.{steps, rest, Begins};
     ghost use Rattle.gs_machine.specs.Utf8.{is_ready_of};
-    ghost use Rattle.gs_body.specs.Bodies.{triples_of, Whole};
+    ghost use Rattle.gs_body.specs.Bodies.{all_stated, Whole};
     ghost use Rattle.gs_ntread.specs.Documents.{meaning_by, Means};
-    ghost use Rattle.gs_ntread.specs.Readers.{LeadsTo, IsStopped, refusal_after, FaultsAs, ConcludesAs, FaultyEnd, EndsWell, FaultsAfter, FaultsAtEnd, GivesParts, TakesAll, TakesByte, TakesChar, TakesFront, TakesRun, TakesParts, body_end, text_end};
+    ghost use Rattle.gs_ntread.specs.Readers.{LeadsToNTriples, IsStopped, refusal_after, FaultsAs, ConcludesAs, FaultyEnd, EndsWell, FaultsAfter, FaultsAtEnd, GivesParts, TakesEach, TakesByte, TakesChar, TakesFront, TakesRun, TakesParts, body_end, text_end};
     ghost use Rattle.gs_ntread.specs.Views.{cursor_state, ending_of};
 
     /// A reader at the start of the body of the request of this number. Takes no memory.
@@ -183,7 +183,7 @@ impl NTriplesReader {
 
     /// The next bytes.
     fn take_all(&mut self, piece: &[u8], triples: &mut Vec<Triple>) -> Result<(), Refusal>
-        ensures ok { OnOk result (TakesAll self.old self.new triples.old.items triples.new.items piece.now) }
+        ensures ok { OnOk result (TakesEach self.old self.new triples.old.items triples.new.items piece.now) }
         ensures err { OnErr result (Begins triples.new.items triples.old.items) }
         ensures request { self.new.request ≡ self.old.request }
         ensures refused { IfErr result (λ e. e ≡ Refusal.NoMemory) }
@@ -220,7 +220,7 @@ impl NTriplesReader {
 
     /// The next piece, and its fault.
     fn take_piece(&mut self, piece: &[u8], triples: &mut Vec<Triple>) -> Result<(), Refusal>
-        ensures ok { OnOk result (TakesAll self.old self.new triples.old.items triples.new.items piece.now) }
+        ensures ok { OnOk result (TakesEach self.old self.new triples.old.items triples.new.items piece.now) }
         ensures err { OnErr result (Begins triples.new.items triples.old.items) }
         ensures fault { IfErr result (λ e. FaultsAfter self.old piece.now e) }
         ensures request { self.new.request ≡ self.old.request }
@@ -298,11 +298,11 @@ impl NTriplesReader {
 
 impl BodyReader for NTriplesReader {
     ghost use Rattle.gs_ntread.specs.Documents.{meaning_by};
-    ghost use Rattle.gs_ntread.specs.Readers.{LeadsTo};
+    ghost use Rattle.gs_ntread.specs.Readers.{LeadsToNTriples};
 
     ghost meaning_of = { λ r x. meaning_by r.request x };
 
-    ghost Leads = { λ r x ts. LeadsTo r x ts };
+    ghost Leads = { λ r x ts. LeadsToNTriples r x ts };
 
     ghost is_closed = { λ r. r.is_closed };
 

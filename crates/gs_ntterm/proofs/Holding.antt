@@ -15,7 +15,7 @@ use Rattle.gs_ntterm.specs.Forms.{form_of, form_after, is_absolute_form, is_tag_
 use Rattle.gs_ntterm.proofs.FormLemmas.{form_after-append, absolute_by_form, tag_by_form}
 use Rattle.gs_ntterm.specs.LineTerms.{iri_made, plain_made, typed_made, tagged_made}
 use Rattle.gs_ntterm.specs.declared.forms.Form.{Form}
-use Rattle.gs_ntterm.specs.Views.{held}
+use Rattle.gs_ntterm.specs.Views.{held_form}
 use Rattle.gs_ntterm.specs.Tokens.{Text, Long, hold, add, iri_held, literal_held, typed_held, tagged_held, plain_held}
 
 abbrev fits : List ℕ → Bool
@@ -116,7 +116,7 @@ tagged_held-hold l t = by_fit (fits t) refl
     by_fit false h = long_form (Literal l k) (is_tag_form (form_of t)) (tag_by_form t) (outgrown t (text_of (Literal l k)) (tag_length l t) h)
 
 -- a token for which no term has room any more
-pub add-grown : (long : Bool) (f : Form) (t more : List ℕ) → long ≡ false → max_term_bytes < length t + length more → Long (form_after (form_of t) more) ≡ add (held long f t) more
+pub add-grown : (long : Bool) (f : Form) (t more : List ℕ) → long ≡ false → max_term_bytes < length t + length more → Long (form_after (form_of t) more) ≡ add (held_form long f t) more
 add-grown true f t more e h = absurd (Prim.cc)
 add-grown false f t more e h =
     let n = length-append t more in

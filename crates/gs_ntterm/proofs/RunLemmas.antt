@@ -10,7 +10,7 @@ use Rattle.gs_ntterm.specs.Classes.{is_space}
 use Rattle.gs_ntterm.specs.Tokens.{Text, Long, hold}
 use Rattle.gs_ntterm.specs.Forms.{form_on, form_after, form_of}
 use Rattle.gs_ntterm.specs.declared.forms.Form.{Form}
-use Rattle.gs_ntterm.specs.Views.{held}
+use Rattle.gs_ntterm.specs.Views.{held_form}
 use Rattle.gs_ntterm.specs.Runs.{runs_in_iri, runs_in_string, runs_in_label, runs_in_comment, add_each}
 use Rattle.gs_ntterm.proofs.Holding.{add-hold, add-grown}
 
@@ -25,19 +25,19 @@ add_each-long : (f : Form) (bs : List ℕ) → add_each (Long f) bs ≡ Long (fo
 add_each-long f [] = refl
 add_each-long f (b ∷ bs) = add_each-long (form_on f b) bs
 
-pub add_each-still_long : (l : Bool) (f g : Form) (t bs : List ℕ) → l ≡ true → g ≡ form_after f bs → held l g t ≡ add_each (held l f t) bs
+pub add_each-still_long : (l : Bool) (f g : Form) (t bs : List ℕ) → l ≡ true → g ≡ form_after f bs → held_form l g t ≡ add_each (held_form l f t) bs
 add_each-still_long true f g t bs e k = ap Long k ∙ sym (add_each-long f bs)
 add_each-still_long false f g t bs e k = absurd (Prim.cc)
 
 pub add_each-too_long : (l m : Bool) (f g : Form) (t u bs : List ℕ) → l ≡ false → m ≡ true → g ≡ form_after (form_of t) bs → 0 < length bs → max_term_bytes < length t + length bs
-    → held m g u ≡ add_each (held l f t) bs
+    → held_form m g u ≡ add_each (held_form l f t) bs
 add_each-too_long true m f g t u bs e k w h n = absurd (Prim.cc)
 add_each-too_long false false f g t u bs e k w h n = absurd (Prim.cc)
 add_each-too_long false true f g t u [] e k w h n = absurd (omega arith)
 add_each-too_long false true f g t u (b ∷ bs) e k w h n = ap Long w ∙ add-grown false f t (b ∷ bs) e n ∙ sym (add_each-text t b bs)
 
 pub add_each-fits : {A E : Type 0} (r : Result A E) (l : Bool) (f : Form) (t bs u : List ℕ) → l ≡ false → (0 < length bs → length t + length bs ≤ max_term_bytes) → OnOk r (u ≡ t ++ bs)
-    → OnOk r (held l f u ≡ add_each (held l f t) bs)
+    → OnOk r (held_form l f u ≡ add_each (held_form l f t) bs)
 add_each-fits (Err x) l f t bs u e h w = tt
 add_each-fits (Ok x) true f t bs u e h w = absurd (Prim.cc)
 add_each-fits (Ok x) false f t [] u e h w = ap Text (w ∙ append-nil t)

@@ -20,7 +20,7 @@ use Rattle.std.proofs.lemmas.Slice.Eq.{bytes_eq-Decides}
 use Rattle.gs_term.specs.Making.{made}
 use Rattle.gs_term.proofs.MakingLemmas.{canonical, term_of-bytes, suffix_plain, suffix_other, suffix_tag}
 use Rattle.gs_ntterm.specs.Runs.{runs_in_iri, runs_in_string}
-use Rattle.gs_ntterm.specs.Wholes.{IriFront, IsIriFront, StringFront, DatatypeFront, TagFront, IsLiteralFront, string_suffix, Says, none, datatype, tag}
+use Rattle.gs_ntterm.specs.Wholes.{IriFront, IsIriFront, StringFront, DatatypeFront, TagFront, IsLiteralFront, string_suffix, SaysSuffix, none, datatype, tag}
 use Rattle.gs_ntterm.proofs.RunLemmas.{low_iri, low_string}
 
 -- text between two marks
@@ -108,7 +108,7 @@ same_suffix d = by_name (bytes_eq (94 ∷ 94 ∷ 60 ∷ d ++ 62 ∷ []) string_s
     by_name false e = other_name d e
 
 -- a literal whose text is the first m bytes, of n that are read
-module _ (x lexical after : List ℕ) (k : LiteralKind) (n m : ℕ) (stands : take n x ≡ 34 ∷ lexical ++ 34 ∷ after) (plain : list_all runs_in_string lexical ≡ true) (says : Says after k)
+module _ (x lexical after : List ℕ) (k : LiteralKind) (n m : ℕ) (stands : take n x ≡ 34 ∷ lexical ++ 34 ∷ after) (plain : list_all runs_in_string lexical ≡ true) (says : SaysSuffix after k)
     (kind : is_kind k ≡ true) (spelled : IsKindText k) (short : n ≤ max_term_bytes) (within : n ≤ length x) (is : take m x ≡ text_of (Literal lexical k)) (less : m ≤ n) where
   small : length (take m x) ≤ max_term_bytes
   small = omega (arith, length-take-le m x (omega arith))

@@ -9,13 +9,13 @@ use Rattle.gs_ntterm.specs.declared.tokens.Token.{Token}
 use Rattle.gs_ntterm.specs.declared.names.Name.{Name}
 
 -- the bytes of a token, or their form
-abbrev pub held : Bool → Form → List ℕ → Held
-held true form text = Long form
-held false form text = Text text
+abbrev pub held_form : Bool → Form → List ℕ → Held
+held_form true form text = Long form
+held_form false form text = Text text
 
 -- what the fields of a token stand for
 abbrev pub held_of : Token → Held
-held_of t = held t.is_long t.form (string_bytes t.text)
+held_of t = held_form t.is_long t.form (string_bytes t.text)
 
 -- the term of an IRI, or the fault
 abbrev pub name_made : Result Name Fault → Result Term Fault

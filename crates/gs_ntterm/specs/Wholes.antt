@@ -51,10 +51,10 @@ pub record TagFront (rest : List ℕ) (n : ℕ) : Type 0 where
   pub within : n ≤ length rest
 
 -- what stands after a string's closing quote says its kind: nothing, a datatype's IRI, or a tag of small letters
-pub data Says : List ℕ → LiteralKind → Type 0 where
-  none : Says [] (Typed xsd_string)
-  datatype : (d : List ℕ) → list_all runs_in_iri d ≡ true → Says (caret ∷ caret ∷ less_than ∷ d ++ greater_than ∷ []) (Typed d)
-  tag : (t : List ℕ) → list_all is_lower t ≡ true → 0 < length t → Says (at_sign ∷ t) (Tagged t)
+pub data SaysSuffix : List ℕ → LiteralKind → Type 0 where
+  none : SaysSuffix [] (Typed xsd_string)
+  datatype : (d : List ℕ) → list_all runs_in_iri d ≡ true → SaysSuffix (caret ∷ caret ∷ less_than ∷ d ++ greater_than ∷ []) (Typed d)
+  tag : (t : List ℕ) → list_all is_lower t ≡ true → 0 < length t → SaysSuffix (at_sign ∷ t) (Tagged t)
 
 -- the first n bytes are a literal, which t is
 pub record IsLiteralFront (piece : List ℕ) (n : ℕ) (t : Term) : Type 0 where
@@ -64,7 +64,7 @@ pub record IsLiteralFront (piece : List ℕ) (n : ℕ) (t : Term) : Type 0 where
   pub term : t ≡ Literal lexical kind
   pub stands : take n piece ≡ quote ∷ lexical ++ quote ∷ after
   pub plain : list_all runs_in_string lexical ≡ true
-  pub says : Says after kind
+  pub says : SaysSuffix after kind
   pub made : made (Literal lexical kind) ≡ Ok (Literal lexical kind)
   pub short : n ≤ max_term_bytes
   pub within : n ≤ length piece

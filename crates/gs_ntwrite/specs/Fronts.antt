@@ -5,5 +5,5 @@ use Rattle.gs_model.specs.Terms.{text_of}
 use Rattle.gs_model.specs.Triples.{RdfTriple}
 
 -- the three texts, each with a space after it
-abbrev pub terms_of : RdfTriple → List ℕ
-terms_of t = text_of t.subject ++ space ∷ text_of t.predicate ++ space ∷ text_of t.object ++ space ∷ []
+abbrev pub spaced_terms : RdfTriple → List ℕ
+spaced_terms t = text_of t.subject ++ space ∷ text_of t.predicate ++ space ∷ text_of t.object ++ space ∷ []

@@ -2,7 +2,7 @@
 ghost use Rattle.std.specs.Prelude.{◌≡◌, ◌++◌, OnOk, OnErr, IfErr, Ok, Err, take, length};
 ghost use Rattle.gs_model.specs.Triples.{line_of};
 ghost use Rattle.gs_term.specs.Names.{quad_line_of};
-ghost use Rattle.gs_ntwrite.specs.Fronts.{terms_of};
+ghost use Rattle.gs_ntwrite.specs.Fronts.{spaced_terms};
 
 use gs_model::Refusal;
 use gs_term::{GraphName, Triple};
@@ -71,7 +71,7 @@ fn push_quad(triple: &Triple, name: &GraphName, bytes: &mut Vec<u8>) -> Result<(
 
 /// Appends the three terms, each with a space after it.
 fn push_terms(triple: &Triple, bytes: &mut Vec<u8>) -> Result<(), AllocError>
-    ensures ok { OnOk result (bytes.new.items ≡ bytes.old.items ++ terms_of triple.now) }
+    ensures ok { OnOk result (bytes.new.items ≡ bytes.old.items ++ spaced_terms triple.now) }
     ensures front { take (length bytes.old.items) bytes.new.items ≡ bytes.old.items }
 {
     bytes.extend_from_slice(triple.subject().as_bytes())?;

@@ -7,11 +7,11 @@ use Rattle.gs_event.specs.Histories.{ShowsStart, HasStartPins}
 use Rattle.gs_core.specs.Settings.{start_at}
 use Rattle.gs_talk.specs.Seats.{Deeds}
 use Rattle.gs_talk.specs.Logs.{Server}
-use Rattle.gs_session.specs.Connections.{Connection, Done, Quit}
+use Rattle.gs_session.specs.Connections.{Connection, IsFinished, Quit}
 use Rattle.gs_arguments.specs.declared.stops.Stop.{Stop}
 use Rattle.gs_arguments.specs.declared.stops.Stop.TheVariants.{BadArguments, CannotListen, NoMemory, ReadFailed, WriteFailed}
 use Rattle.gs_arguments.specs.Options.{help_text}
-use Rattle.gs_arguments.specs.Asked.{Asked, help, connection, listening, nothing}
+use Rattle.gs_arguments.specs.Asked.{AskedTask, help, connection, listening, nothing}
 use Rattle.gs_once.specs.Stops.{AppendsFront, said_line}
 
 -- what is left to read before and after a run, and what its output holds before and after it
@@ -47,12 +47,12 @@ pub record ServesConnection (base : List ℕ) (piece : ℕ) (t : Traffic)
       (Holds (record { base = base; piece = piece }) t.left)
 
 -- What a run did of what was asked, where it ended well or for this reason. It has no network, so it listens nowhere.
-abbrev pub Performs : Asked → Traffic → Result (Unit {0}) Stop → Type 0
+abbrev pub Performs : AskedTask → Traffic → Result (Unit {0}) Stop → Type 0
 Performs help t (Ok done) = IsUnread t × Appends t.held t.holds help_text
 Performs help t (Err WriteFailed) = IsUnread t × AppendsFront t.held t.holds help_text
 Performs help t (Err NoMemory) = IsUntouched t
 Performs help t (Err stop) = ⊥
-Performs (connection base piece) t (Ok done) = ServesConnection base piece t Done
+Performs (connection base piece) t (Ok done) = ServesConnection base piece t IsFinished
 Performs (connection base piece) t (Err NoMemory) = IsUntouched t ⊎ ServesConnection base piece t Quit
 Performs (connection base piece) t (Err ReadFailed) = ServesConnection base piece t Quit
 Performs (connection base piece) t (Err WriteFailed) = ServesConnection base piece t Quit
@@ -65,11 +65,11 @@ Performs nothing t (Err NoMemory) = IsUntouched t
 Performs nothing t ended = ⊥
 
 -- a run ended for this reason, which was said, or a front of it
-abbrev pub StopsBy : Asked → Traffic → Option (List ℕ) → Option (List ℕ) → Stop → Type 0
+abbrev pub StopsBy : AskedTask → Traffic → Option (List ℕ) → Option (List ℕ) → Stop → Type 0
 StopsBy asked t said says stop = Performs asked t (Err stop) × AppendsFront said says (said_line stop)
 
 -- What a run did, by its status. Where that is 0, nothing is said.
-pub record Exits (asked : Asked) (t : Traffic) (said says : Option (List ℕ)) (status : ℕ) : Type 0 where
+pub record Exits (asked : AskedTask) (t : Traffic) (said says : Option (List ℕ)) (status : ℕ) : Type 0 where
   pub is_one : (status ≡ 0) ⊎ ((status ≡ 1) ⊎ ((status ≡ 2) ⊎ ((status ≡ 3) ⊎ (status ≡ 4))))
   pub well : status ≡ 0 → Performs asked t (Ok tt) × (says ≡ said)
   pub failed : status ≡ 1 → StopsBy asked t said says ReadFailed ⊎ StopsBy asked t said says WriteFailed

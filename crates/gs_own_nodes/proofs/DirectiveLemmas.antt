@@ -1,7 +1,7 @@
 -- Directives: a base or a prefix leaves the request of a context and its language.
 use Rattle.std.proofs.Common.{ℕ, List}
 use Rattle.std.specs.Option.{IfSome}
-use Rattle.gs_escape.specs.Tokens.{iri_of, parts_of}
+use Rattle.gs_escape.specs.Tokens.{iri_of, split_at_colon}
 use Rattle.gs_triples.specs.Languages.{Language}
 use Rattle.gs_triples.specs.Meanings.{Context}
 use Rattle.gs_triples.specs.Directives.{with_prefix, with_base}
@@ -18,4 +18,4 @@ module _ {Value Triple : Type 0} (P : ℕ → Language Value Triple → Type 0) 
   unfolding with_prefix
   prefix_keeps p x =
       let C : Context Value Triple → Type 0 = λ next. P next.request next.language in
-      chained C _ (λ q. mapped C _ (λ i. so) (iri_of x)) (parts_of p)
+      chained C _ (λ q. mapped C _ (λ i. so) (iri_of x)) (split_at_colon p)

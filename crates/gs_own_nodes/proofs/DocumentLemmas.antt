@@ -8,9 +8,9 @@ use Rattle.std.proofs.lemmas.List.Concat.{flat_map-append}
 use Rattle.gs_model.specs.Terms.{Term}
 use Rattle.gs_model.specs.Triples.{RdfTriple}
 use Rattle.gs_lex.specs.Tokens as lexer
-use Rattle.gs_lex.specs.Cuts.{cut_of}
+use Rattle.gs_lex.specs.Cuts.{cut_of_text}
 use Rattle.gs_blank.specs.Numbers.{Numbers, no_numbers}
-use Rattle.gs_body.specs.Bodies.{Meaning, Statement, Whole, Faulty, triples_of}
+use Rattle.gs_body.specs.Bodies.{Meaning, Statement, Whole, Faulty, all_stated}
 use Rattle.gs_triples.specs.Symbols.{Symbol, symbols_of}
 use Rattle.gs_triples.specs.Languages.{Language}
 use Rattle.gs_triples.specs.Meanings.{Fault}
@@ -31,7 +31,7 @@ IsFor r q l = IsHonest l q (NamesOwn r) (HasOwn r)
 
 -- what a statement leaves and says
 abbrev StatementOwn : ℕ → TurtleContext → List Statement → Type 0
-StatementOwn r next S = IsFor r next.request next.language × All (HasOwn r) (triples_of S)
+StatementOwn r next S = IsFor r next.request next.language × All (HasOwn r) (all_stated S)
 
 -- a directive says no triple
 directed : (r : ℕ) (m : Option TurtleContext) (next : TurtleContext) (end : ℕ) → IfSome m (λ e. IsFor r e.request e.language) → m ≡ Some next
@@ -49,18 +49,18 @@ statement_own r {env = env} h (statement.triples {T = T} end c) = (h, All-append
 
 -- a statement and what follows it
 followed_own : (r f : ℕ) (env : TurtleContext) (n : Numbers) (ts : List Symbol) → IsFor r env.request env.language
-    → ((e : TurtleContext) (k : Numbers) (us : List Symbol) → IsFor r e.request e.language → All (HasOwn r) (triples_of (statements_at f e k us).0))
-    → (q : Result ReadStatement Fault) → CoveredStatement env n ts q → All (HasOwn r) (triples_of (followed (statements_at f) q).0)
+    → ((e : TurtleContext) (k : Numbers) (us : List Symbol) → IsFor r e.request e.language → All (HasOwn r) (all_stated (statements_at f e k us).0))
+    → (q : Result ReadStatement Fault) → CoveredStatement env n ts q → All (HasOwn r) (all_stated (followed (statements_at f) q).0)
 followed_own r f env n ts h again (Err e) c = All-nil (HasOwn r)
 followed_own r f env n ts h again (Ok s) (front, e, c) =
     let first = statement_own r h c in
     let others : List Statement = (statements_at f s.context s.numbers s.rest).0 in
     subst (All (HasOwn r)) (sym (flat_map-append (λ (x : Statement). x.triples) s.stated others))
-    (All-append (HasOwn r) (triples_of s.stated) (triples_of others) first.1 (again s.context s.numbers s.rest first.0))
+    (All-append (HasOwn r) (all_stated s.stated) (all_stated others) first.1 (again s.context s.numbers s.rest first.0))
 
 -- all statements before a fault
 statements_own : (r f : ℕ) (env : TurtleContext) (n : Numbers) (ts : List Symbol) → IsFor r env.request env.language
-    → All (HasOwn r) (triples_of (statements_at f env n ts).0)
+    → All (HasOwn r) (all_stated (statements_at f env n ts).0)
 unfolding statements_at
 statements_own r zero env n [] h = All-nil (HasOwn r)
 statements_own r (suc f) env n [] h = All-nil (HasOwn r)
@@ -69,14 +69,14 @@ statements_own r (suc f) env n (t ∷ ts) h =
     followed_own r f env n (t ∷ ts) h (statements_own r f) (statement_at env n (t ∷ ts)) (statement_covered env n (t ∷ ts))
 
 -- where no token begins, nothing more is said
-ended_own : (r : ℕ) (e : lexer.CutEnd) (d : Meaning) → All (HasOwn r) (triples_of d.0) → All (HasOwn r) (triples_of (ended_by e d).0)
+ended_own : (r : ℕ) (e : lexer.CutEnd) (d : Meaning) → All (HasOwn r) (all_stated d.0) → All (HasOwn r) (all_stated (ended_by e d).0)
 ended_own r lexer.AtEnd d own = own
 ended_own r (lexer.AtFault n) (S, Whole) own = own
 ended_own r (lexer.AtFault n) (S, Faulty f) own = own
 
 -- a document of Turtle
-pub document_own : (base : List ℕ) (r : ℕ) (x : List ℕ) → All (HasOwn r) (triples_of (meaning_by base r x).0)
+pub document_own : (base : List ℕ) (r : ℕ) (x : List ℕ) → All (HasOwn r) (all_stated (meaning_by base r x).0)
 unfolding meaning_by
 document_own base r x =
-    let c = cut_of false x in
+    let c = cut_of_text false x in
     ended_own r c.1 (document base r c.0) (statements_own r _ (start base r) no_numbers (symbols_of c.0) (terms_honest true false r))

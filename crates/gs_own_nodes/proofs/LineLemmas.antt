@@ -10,7 +10,7 @@ use Rattle.gs_model.specs.Terms.{Term, Iri, Literal, Typed, Tagged, xsd_string}
 use Rattle.gs_model.specs.declared.faults.Fault.{Fault}
 use Rattle.gs_machine.specs.Machines.{rest}
 use Rattle.gs_machine.specs.Utf8.{symbols}
-use Rattle.gs_body.specs.Bodies.{Whole, Faulty, triples_of}
+use Rattle.gs_body.specs.Bodies.{Whole, Faulty, all_stated}
 use Rattle.gs_blank.specs.Numbers.{Numbers, no_numbers}
 use Rattle.std.specs.Str.{str_to_ascii_lowercase}
 use Rattle.gs_ntterm.specs.Marks.{Mark, marks}
@@ -18,7 +18,7 @@ use Rattle.gs_ntterm.specs.Classes.{is_space}
 use Rattle.gs_ntterm.specs.LineTerms.{LineTerm, Fixed, Labelled, iri_made, plain_made, typed_made, tagged_made}
 use Rattle.gs_ntterm.specs.Terminals.{FrontRead, skip, Plain, iri_after, string_after, label_at, begins_part, tag_after}
 use Rattle.gs_ntread.specs.LineTriples.{LineTriple}
-use Rattle.gs_ntread.specs.Grammar.{before_text, fixed, iri_read, label_read, datatype_at, caret_at, tag_at, suffix_at, subject_at, predicate_at, object_at, dot_at, triple_at}
+use Rattle.gs_ntread.specs.Grammar.{before_text, fixed, iri_read, label_read, datatype_at, caret_at, tag_at, suffix_at, subject_at, predicate_at, object_at, dot_at, line_triple_at}
 use Rattle.gs_ntread.specs.Documents.{Meant, triple_meant, line_meant, then_meant, lines_meant, document_meant, term_of, numbering, meaning_by}
 use Rattle.gs_own_nodes.specs.Own.{NamesOwn, HasOwn}
 use Rattle.gs_own_nodes.proofs.AnswerLemmas.{chosen, then_read}
@@ -125,7 +125,7 @@ dot_own r s p o a b c (Err e) = tt
 dot_own r s p o a b c (Ok d) = (a, b, c)
 
 -- a triple
-triple_own : (r : ℕ) (ms : List Mark) → IfOk (triple_at ms) (λ l. HasOwnTerms r l.0)
+triple_own : (r : ℕ) (ms : List Mark) → IfOk (line_triple_at ms) (λ l. HasOwnTerms r l.0)
 triple_own r ms =
     let Q : LineTriple × List Mark → Type 0 = λ l. HasOwnTerms r l.0 in
     let P : Term × List Mark → Type 0 = λ p. NamesOwn r p.0 in
@@ -148,7 +148,7 @@ line_means : (r : ℕ) (ms : List Mark) → MeansOwn r (line_meant ms)
 line_means r [] = All-nil (HasOwnTerms r)
 line_means r (m ∷ ms) =
     chosen (MeansOwn r) (is_space m.0) _ _ (line_means r ms)
-    (chosen (MeansOwn r) (m.0 == number_sign) _ _ (All-nil (HasOwnTerms r)) (triple_means r (triple_at (m ∷ ms)) (triple_own r (m ∷ ms))))
+    (chosen (MeansOwn r) (m.0 == number_sign) _ _ (All-nil (HasOwnTerms r)) (triple_means r (line_triple_at (m ∷ ms)) (triple_own r (m ∷ ms))))
 
 -- a line and the lines after it
 then_means : (r : ℕ) (d next : Meant) → MeansOwn r d → MeansOwn r next → MeansOwn r (then_meant d next)
@@ -168,7 +168,7 @@ term_own r n (Fixed t) own = own
 term_own r n (Labelled label) own = refl
 
 -- the triples of lines
-numbered_own : (r : ℕ) (n : Numbers) (ls : List LineTriple) → All (HasOwnTerms r) ls → All (HasOwn r) (triples_of (rest (numbering r) n ls).0)
+numbered_own : (r : ℕ) (n : Numbers) (ls : List LineTriple) → All (HasOwnTerms r) ls → All (HasOwn r) (all_stated (rest (numbering r) n ls).0)
 unfolding rest
 numbered_own r n [] own = All-nil (HasOwn r)
 numbered_own r n (l ∷ ls) own =
@@ -178,6 +178,6 @@ numbered_own r n (l ∷ ls) own =
     All-cons (HasOwn r) _ _ (term_own r n l.subject here.0, here.1, term_own r s.1 l.object here.2) (numbered_own r o.1 ls (All-tail (HasOwnTerms r) l ls own))
 
 -- a document of N-Triples
-pub lines_own : (r : ℕ) (x : List ℕ) → All (HasOwn r) (triples_of (meaning_by r x).0)
+pub lines_own : (r : ℕ) (x : List ℕ) → All (HasOwn r) (all_stated (meaning_by r x).0)
 unfolding meaning_by
 lines_own r x = numbered_own r no_numbers (document_meant (marks 0 (symbols x))).0 (lines_mean r [] (marks 0 (symbols x)))

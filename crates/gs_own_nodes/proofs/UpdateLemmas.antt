@@ -12,13 +12,13 @@ use Rattle.gs_triples.specs.Symbols.{Symbol}
 use Rattle.gs_triples.specs.Languages.{part_named}
 use Rattle.gs_triples.specs.Meanings.{Context}
 use Rattle.gs_triples.specs.Directives.{with_prefix, with_base}
-use Rattle.gs_update_text.specs.Requests.{UpdateOperation, Inserts, DeletesData, DeletesWhere, Written, Request}
+use Rattle.gs_update_text.specs.Requests.{UpdateOperation, Inserts, DeletesData, DeletesWhere, Written, UpdateRequest}
 use Rattle.gs_update_text.specs.Operations.{Scope, inserted, deleted, sought, in_language}
 use Rattle.gs_update_text.specs.Grammar as grammar
 use Rattle.gs_update_text.specs.Grammar.{IsTemplate, IsPrologue, IsOperation, AreOperations}
 use Rattle.gs_update_text.specs.Texts.{request_by}
 use Rattle.gs_update_text.proofs.TextLemmas.{text_covered}
-use Rattle.gs_update.specs.Views.{operation_of, operations_of}
+use Rattle.gs_update.specs.Views.{update_operation_of, operations_of}
 use Rattle.gs_update.specs.Answers.{AreOperationsOf}
 use Rattle.gs_own_nodes.specs.Own.{NamesOwn, HasOwn, IsOwnPart, MatchesOwn, SaysOwn}
 use Rattle.gs_own_nodes.proofs.AnswerLemmas.{chosen}
@@ -84,12 +84,12 @@ operations_own r h (grammar.more {o = o} {os = os} p a others) =
     All-cons (WrittenOwn r) o os (operation_own r next a) (operations_own r next others)
 
 -- a text without a fault
-text_own : (base : List ℕ) (r : ℕ) (x : List ℕ) (q : Request) → request_by base r x ≡ q → q.1 ≡ None → All (WrittenOwn r) q.0
+text_own : (base : List ℕ) (r : ℕ) (x : List ℕ) (q : UpdateRequest) → request_by base r x ≡ q → q.1 ≡ None → All (WrittenOwn r) q.0
 text_own base r x (os, None) is h = operations_own r refl (text_covered base r x os is).stated
 text_own base r x (os, Some e) is h = absurd (cc)
 
 -- an operation of the code
-op_own : (r : ℕ) (o : Op) → OperationOwn r (operation_of o) → SaysOwn r o
+op_own : (r : ℕ) (o : Op) → OperationOwn r (update_operation_of o) → SaysOwn r o
 op_own r (op.Insert ts) own = own
 op_own r (op.DeleteData ts) own = own
 op_own r (op.DeleteWhere ps) own = own
@@ -98,11 +98,11 @@ op_own r (op.DeleteWhere ps) own = own
 ops_own : (r : ℕ) (ops : List Op) → All (OperationOwn r) (operations_of ops) → All (SaysOwn r) ops
 ops_own r [] own = All-nil (SaysOwn r)
 ops_own r (o ∷ ops) own =
-    All-cons (SaysOwn r) o ops (op_own r o (All-head (OperationOwn r) (operation_of o) (operations_of ops) own))
-    (ops_own r ops (All-tail (OperationOwn r) (operation_of o) (operations_of ops) own))
+    All-cons (SaysOwn r) o ops (op_own r o (All-head (OperationOwn r) (update_operation_of o) (operations_of ops) own))
+    (ops_own r ops (All-tail (OperationOwn r) (update_operation_of o) (operations_of ops) own))
 
 -- the operations that a text means
 pub update_own : (base : List ℕ) (r : ℕ) (x : List ℕ) (ops : List Op) → AreOperationsOf ops (request_by base r x) → All (SaysOwn r) ops
 update_own base r x ops (whole, are) =
-    let q : Request = request_by base r x in
+    let q : UpdateRequest = request_by base r x in
     ops_own r ops (subst (All (OperationOwn r)) (sym are) (All-map (OperationOwn r) (λ (w : Written). w.operation) q.0 (text_own base r x q refl whole)))

@@ -3,7 +3,7 @@ use Rattle.std.specs.Prelude.{◌≡◌, ℕ, List}
 use Rattle.std.specs.List.{All}
 use Rattle.gs_model.specs.Terms.{Term, Blank}
 use Rattle.gs_model.specs.Triples.{RdfTriple}
-use Rattle.gs_body.specs.Bodies.{triples_of}
+use Rattle.gs_body.specs.Bodies.{all_stated}
 use Rattle.gs_term.specs.declared.patterns.Part.{Part}
 use Rattle.gs_term.specs.declared.patterns.Part.TheVariants.{Term as TheTerm, Variable}
 use Rattle.gs_term.specs.declared.patterns.Pattern.{Pattern}
@@ -40,7 +40,7 @@ SaysOwn r (DeleteWhere ps) = All (MatchesOwn r) ps.items
 
 -- Each blank node that a document says is one of its request, also where the document has a fault.
 abbrev pub DocumentsNameTheirOwn : Type 0
-DocumentsNameTheirOwn = (l : Language) (base : List ℕ) (r : ℕ) (x : List ℕ) → All (HasOwn r) (triples_of (meaning_in l base r x).0)
+DocumentsNameTheirOwn = (l : Language) (base : List ℕ) (r : ℕ) (x : List ℕ) → All (HasOwn r) (all_stated (meaning_in l base r x).0)
 
 -- so is each that an update says
 abbrev pub UpdatesNameTheirOwn : Type 0

@@ -2,8 +2,8 @@
 use Rattle.std.proofs.Common.{◌≡◌, ℕ, ◌+◌, ◌-◌, ◌≤◌, List, [], ◌∷◌, ◌++◌, length, take, drop, ap, sym, ◌∙◌, refl, arith, length-append}
 use Rattle.std.specs.List.{sum}
 use Rattle.std.proofs.lemmas.List.{drop-drop, drop_all, take_rest}
-use Rattle.gs_packed_texts.specs.Packing.{Mark, mark_of, Memory, Source, piece_of, text_by, memory_after, pieces_after, next_text, after, unpacked, cut_by, source_of}
-use Rattle.gs_packed_texts.specs.Kept.{own_by, own_in, own_counts, after_all, span_in, parts_in, memory_in, window_after, IsSpanIn, IsWindowIn, IsPacked, IsReady, IsPlace}
+use Rattle.gs_packed_texts.specs.Packing.{TextMark, text_mark_of, Memory, Source, piece_of, text_by, memory_after, pieces_after, next_text, left_after, unpacked, cut_by, source_of}
+use Rattle.gs_packed_texts.specs.Kept.{own_by, own_in, own_counts, left_after_all, span_in, parts_in, memory_in, window_after, IsSpanIn, IsWindowIn, IsPacked, IsReady, IsWindowPlace}
 use Rattle.gs_packed_texts.specs.declared.places.Place.{Place}
 use Rattle.gs_packed_texts.specs.declared.windows.Span.{Span}
 use Rattle.gs_packed_texts.specs.declared.windows.Window.{Window}
@@ -11,7 +11,7 @@ use Rattle.gs_packed_texts.proofs.PackingLemmas.{unpacked_push, after_all_push, 
 use Rattle.gs_packed_texts.proofs.SpanLemmas.{span_last, memory_more, window_in_more, text_after, memory_of_after, window_in_after}
 
 -- A text more: these are its mark and its own bytes, which stand in this span.
-pub record IsMore (x : List ℕ) (w : Window) (t : List ℕ) (m : Mark) (own : List ℕ) (s : Span) : Type 0 where
+pub record IsMore (x : List ℕ) (w : Window) (t : List ℕ) (m : TextMark) (own : List ℕ) (s : Span) : Type 0 where
   pub text : text_by m (memory_in x w) own ≡ t
   pub none : own_by m ≡ 0 → own ≡ []
   pub start : s.start ≡ length x
@@ -19,12 +19,12 @@ pub record IsMore (x : List ℕ) (w : Window) (t : List ℕ) (m : Mark) (own : L
 
 -- the text that is placed, where what is left of it after a front are its own bytes
 pub more_placed :
-    (x y t : List ℕ) (w : Window) (p : Place) (start : ℕ) → IsPlace y w t p → y ≡ x → start ≡ length x
-    → IsMore x w t (mark_of p.mark) (take (length t - p.front) (drop p.front t)) (record { start = start; count = length (take (length t - p.front) (drop p.front t)) })
+    (x y t : List ℕ) (w : Window) (p : Place) (start : ℕ) → IsWindowPlace y w t p → y ≡ x → start ≡ length x
+    → IsMore x w t (text_mark_of p.mark) (take (length t - p.front) (drop p.front t)) (record { start = start; count = length (take (length t - p.front) (drop p.front t)) })
 more_placed x y t w p start h same at =
     let own : take (length t - p.front) (drop p.front t) ≡ drop p.front t = take_rest t p.front in
     record {
-      text = ap (λ z. text_by (mark_of p.mark) (memory_in x w) z) own ∙ (ap (λ z. text_by (mark_of p.mark) (memory_in z w) (drop p.front t)) (sym same) ∙ h.text);
+      text = ap (λ z. text_by (text_mark_of p.mark) (memory_in x w) z) own ∙ (ap (λ z. text_by (text_mark_of p.mark) (memory_in z w) (drop p.front t)) (sym same) ∙ h.text);
       none = λ e. own ∙ drop_all p.front t (omega (arith, h.none e));
       start = at;
       count = refl;
@@ -32,7 +32,7 @@ more_placed x y t w p start h same at =
 
 -- it adds its own bytes to what is read
 source_push :
-    (m : Mark) (cs x own : List ℕ) → sum cs ≡ length x → (own_by m ≡ 0 → own ≡ [])
+    (m : TextMark) (cs x own : List ℕ) → sum cs ≡ length x → (own_by m ≡ 0 → own ≡ [])
     → source_of (cs ++ own_counts m (length own)) (x ++ own) ≡ with_more (source_of cs x) (own_pieces m own)
 source_push m cs x own h none = rw (cut_more m cs x own h none)
 
@@ -43,14 +43,14 @@ end_of x first second third ps = record { first = memory_in x first; second = me
 -- all that is left after the other texts is what it adds
 at_end :
     (ms cs x : List ℕ) (first second third : Window) (e : List (List ℕ)) → IsPacked ms cs x first second third
-    → after_all ms (with_more (source_of cs x) e) ≡ end_of x first second third e
+    → left_after_all ms (with_more (source_of cs x) e) ≡ end_of x first second third e
 at_end ms cs x first second third e h =
     let enough : own_in ms ≤ length (cut_by cs x) = omega (arith, length_cut cs x, h.owned) in
     after_all_more ms (source_of cs x) e enough ∙ ap (λ z. with_more z e) h.left
 
 -- its memory after it is that of the window after it
 memory_push :
-    (x : List ℕ) (w : Window) (t : List ℕ) (m : Mark) (own : List ℕ) (s : Span) → IsWindowIn (length x) w → IsMore x w t m own s
+    (x : List ℕ) (w : Window) (t : List ℕ) (m : TextMark) (own : List ℕ) (s : Span) → IsWindowIn (length x) w → IsMore x w t m own s
     → memory_in (x ++ own) (window_after m s w) ≡ memory_after m (text_by m (memory_in x w) (piece_of (own_pieces m own))) (memory_in x w)
 memory_push x w t m own s h more =
     memory_of_after m (x ++ own) s w (window_in_more x own w h)
@@ -60,9 +60,9 @@ memory_push x w t m own s h more =
 
 -- nothing is left after it, and the memories are those of the windows
 end_push :
-    (x : List ℕ) (first second third : Window) (t : List ℕ) (m : Mark) (own : List ℕ) (s : Span)
+    (x : List ℕ) (first second third : Window) (t : List ℕ) (m : TextMark) (own : List ℕ) (s : Span)
     → IsWindowIn (length x) first → IsWindowIn (length x) second → IsWindowIn (length x) third → IsMore x first t m own s
-    → after m (end_of x first second third (own_pieces m own)) ≡ end_of (x ++ own) second third (window_after m s first) []
+    → left_after m (end_of x first second third (own_pieces m own)) ≡ end_of (x ++ own) second third (window_after m s first) []
 end_push x first second third t m own s h1 h2 h3 more =
     let f : Memory → Memory → Memory → List (List ℕ) → Source = λ a b c ps. record { first = a; second = b; third = c; pieces = ps } in
     let third' : Memory = memory_after m (text_by m (memory_in x first) (piece_of (own_pieces m own))) (memory_in x first) in
@@ -74,10 +74,10 @@ end_push x first second third t m own s h1 h2 h3 more =
 -- so packed texts are kept so with one text more
 pub packed_push :
     (ms cs x : List ℕ) (first second third : Window) (t : List ℕ) (b : ℕ) (own : List ℕ) (s : Span) → IsPacked ms cs x first second third
-    → IsMore x first t (mark_of b) own s
-    → IsPacked (ms ++ b ∷ []) (cs ++ own_counts (mark_of b) (length own)) (x ++ own) second third (window_after (mark_of b) s first)
+    → IsMore x first t (text_mark_of b) own s
+    → IsPacked (ms ++ b ∷ []) (cs ++ own_counts (text_mark_of b) (length own)) (x ++ own) second third (window_after (text_mark_of b) s first)
 packed_push ms cs x first second third t b own s h more =
-    let m : Mark = mark_of b in
+    let m : TextMark = text_mark_of b in
     let e : List (List ℕ) = own_pieces m own in
     let from : Source = source_of cs x in
     let inside : IsSpanIn (length (x ++ own)) s = omega (arith, length-append x own, more.start, more.count) in
@@ -88,35 +88,35 @@ packed_push ms cs x first second third t b own s h more =
       second_in = window_in_more x own third h.third_in;
       third_in = window_in_after m (length (x ++ own)) s first (window_in_more x own first h.first_in) inside;
       left =
-          ap (after_all (ms ++ b ∷ [])) (source_push m cs x own h.counted more.none)
+          ap (left_after_all (ms ++ b ∷ [])) (source_push m cs x own h.counted more.none)
           ∙ (after_all_push ms b (with_more from e)
-          ∙ (ap (after m) (at_end ms cs x first second third e h)
+          ∙ (ap (left_after m) (at_end ms cs x first second third e h)
           ∙ end_push x first second third t m own s h.first_in h.second_in h.third_in more));
     }
 
 -- and that text stands at the end
 pub texts_push :
     (ms cs x : List ℕ) (first second third : Window) (t : List ℕ) (b : ℕ) (own : List ℕ) (s : Span) → IsPacked ms cs x first second third
-    → IsMore x first t (mark_of b) own s
-    → unpacked (ms ++ b ∷ []) (source_of (cs ++ own_counts (mark_of b) (length own)) (x ++ own)) ≡ unpacked ms (source_of cs x) ++ t ∷ []
+    → IsMore x first t (text_mark_of b) own s
+    → unpacked (ms ++ b ∷ []) (source_of (cs ++ own_counts (text_mark_of b) (length own)) (x ++ own)) ≡ unpacked ms (source_of cs x) ++ t ∷ []
 texts_push ms cs x first second third t b own s h more =
-    let m : Mark = mark_of b in
+    let m : TextMark = text_mark_of b in
     let e : List (List ℕ) = own_pieces m own in
     let from : Source = source_of cs x in
     let enough : own_in ms ≤ length (cut_by cs x) = omega (arith, length_cut cs x, h.owned) in
     ap (unpacked (ms ++ b ∷ [])) (source_push m cs x own h.counted more.none)
     ∙ (unpacked_push ms b (with_more from e)
-    ∙ (ap (λ z. z ++ next_text m (after_all ms (with_more from e)) ∷ []) (unpacked_more ms from e enough)
+    ∙ (ap (λ z. z ++ next_text m (left_after_all ms (with_more from e)) ∷ []) (unpacked_more ms from e enough)
     ∙ ap (λ z. unpacked ms from ++ z ∷ [])
     (ap (next_text m) (at_end ms cs x first second third e h) ∙ (text_of_own m (memory_in x first) own ∙ more.text))))
 
 -- a reader is ready after a text
 pub ready_next :
-    (ms cs x : List ℕ) (at k b : ℕ) (first second third : Window) → IsReady (b ∷ ms) (own_counts (mark_of b) k ++ cs) x at first second third
-    → (own_by (mark_of b) ≡ 0 → k ≡ 0)
-    → IsReady ms cs x (at + k) second third (window_after (mark_of b) (record { start = at; count = k }) first)
+    (ms cs x : List ℕ) (at k b : ℕ) (first second third : Window) → IsReady (b ∷ ms) (own_counts (text_mark_of b) k ++ cs) x at first second third
+    → (own_by (text_mark_of b) ≡ 0 → k ≡ 0)
+    → IsReady ms cs x (at + k) second third (window_after (text_mark_of b) (record { start = at; count = k }) first)
 ready_next ms cs x at k b first second third h none =
-    let m : Mark = mark_of b in
+    let m : TextMark = text_mark_of b in
     let own : Span = record { start = at; count = k } in
     let whole : sum (own_counts m k ++ cs) ≡ k + sum cs = sum_of_first m k cs none in
     let inside : IsSpanIn (length x) own = omega (arith, h.counted) in
@@ -130,12 +130,12 @@ ready_next ms cs x at k b first second third h none =
 
 -- the first text is the one that the reader gives, and the others are those that it has before it then
 pub left_next :
-    (ms cs x : List ℕ) (at k b : ℕ) (first second third : Window) → IsWindowIn (length x) first → (own_by (mark_of b) ≡ 0 → k ≡ 0)
-    → unpacked (b ∷ ms) (end_of x first second third (cut_by (own_counts (mark_of b) k ++ cs) (drop at x)))
-    ≡ parts_in x (window_after (mark_of b) (record { start = at; count = k }) first).last
-    ∷ unpacked ms (end_of x second third (window_after (mark_of b) (record { start = at; count = k }) first) (cut_by cs (drop (at + k) x)))
+    (ms cs x : List ℕ) (at k b : ℕ) (first second third : Window) → IsWindowIn (length x) first → (own_by (text_mark_of b) ≡ 0 → k ≡ 0)
+    → unpacked (b ∷ ms) (end_of x first second third (cut_by (own_counts (text_mark_of b) k ++ cs) (drop at x)))
+    ≡ parts_in x (window_after (text_mark_of b) (record { start = at; count = k }) first).last
+    ∷ unpacked ms (end_of x second third (window_after (text_mark_of b) (record { start = at; count = k }) first) (cut_by cs (drop (at + k) x)))
 left_next ms cs x at k b first second third h none =
-    let m : Mark = mark_of b in
+    let m : TextMark = text_mark_of b in
     let own : Span = record { start = at; count = k } in
     let mem : Memory = memory_in x first in
     let rest : List (List ℕ) = cut_by (own_counts m k ++ cs) (drop at x) in

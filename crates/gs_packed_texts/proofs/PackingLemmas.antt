@@ -3,22 +3,22 @@ use Rattle.std.proofs.Common.{◌≡◌, ℕ, suc, ◌+◌, ◌-◌, ◌≤◌, 
 use Rattle.std.specs.List.{sum}
 use Rattle.std.proofs.lemmas.List.{append-nil, take_all, take-append-le, drop-append-le, nil_from_length}
 use Rattle.std.proofs.lemmas.List.Sums.{sum_by-cons, sum_by_push}
-use Rattle.gs_packed_texts.specs.Packing.{Mark, Last, Earlier, Whole, Front, mark_of, Memory, Source, piece_of, text_by, pieces_after, next_text, after, unpacked, cut_by}
-use Rattle.gs_packed_texts.specs.Kept.{own_by, own_in, own_counts, after_all}
+use Rattle.gs_packed_texts.specs.Packing.{TextMark, Last, Earlier, Whole, Front, text_mark_of, Memory, Source, piece_of, text_by, pieces_after, next_text, left_after, unpacked, cut_by}
+use Rattle.gs_packed_texts.specs.Kept.{own_by, own_in, own_counts, left_after_all}
 
 -- one mark more gives one text more
 pub unpacked_push :
-    (ms : List ℕ) (b : ℕ) (s : Source) → unpacked (ms ++ b ∷ []) s ≡ unpacked ms s ++ next_text (mark_of b) (after_all ms s) ∷ []
+    (ms : List ℕ) (b : ℕ) (s : Source) → unpacked (ms ++ b ∷ []) s ≡ unpacked ms s ++ next_text (text_mark_of b) (left_after_all ms s) ∷ []
 unpacked_push [] b s = refl
-unpacked_push (m ∷ ms) b s = ap (λ z. next_text (mark_of m) s ∷ z) (unpacked_push ms b (after (mark_of m) s))
+unpacked_push (m ∷ ms) b s = ap (λ z. next_text (text_mark_of m) s ∷ z) (unpacked_push ms b (left_after (text_mark_of m) s))
 
 -- it is read after all others
-pub after_all_push : (ms : List ℕ) (b : ℕ) (s : Source) → after_all (ms ++ b ∷ []) s ≡ after (mark_of b) (after_all ms s)
+pub after_all_push : (ms : List ℕ) (b : ℕ) (s : Source) → left_after_all (ms ++ b ∷ []) s ≡ left_after (text_mark_of b) (left_after_all ms s)
 after_all_push [] b s = refl
-after_all_push (m ∷ ms) b s = after_all_push ms b (after (mark_of m) s)
+after_all_push (m ∷ ms) b s = after_all_push ms b (left_after (text_mark_of m) s)
 
 -- it has a count where it has bytes of its own
-pub own_in_push : (ms : List ℕ) (b : ℕ) → own_in (ms ++ b ∷ []) ≡ own_in ms + own_by (mark_of b)
+pub own_in_push : (ms : List ℕ) (b : ℕ) → own_in (ms ++ b ∷ []) ≡ own_in ms + own_by (text_mark_of b)
 own_in_push [] b = omega arith
 own_in_push (m ∷ ms) b = omega (arith, own_in_push ms b)
 
@@ -28,7 +28,7 @@ with_more s e = record { first = s.first; second = s.second; third = s.third; pi
 
 -- a mark takes a piece, if there is one for it, before those that are more
 text_more :
-    (m : Mark) (mem : Memory) (ps e : List (List ℕ)) → own_by m ≤ length ps → text_by m mem (piece_of (ps ++ e)) ≡ text_by m mem (piece_of ps)
+    (m : TextMark) (mem : Memory) (ps e : List (List ℕ)) → own_by m ≤ length ps → text_by m mem (piece_of (ps ++ e)) ≡ text_by m mem (piece_of ps)
 text_more Last mem ps e h = refl
 text_more Earlier mem ps e h = refl
 text_more Whole mem [] e h = absurd (omega arith)
@@ -37,7 +37,7 @@ text_more (Front n) mem [] e h = absurd (omega arith)
 text_more (Front n) mem (p ∷ ps) e h = refl
 
 -- the pieces that are more stay after those that are left
-pieces_more : (m : Mark) (ps e : List (List ℕ)) → own_by m ≤ length ps → pieces_after m (ps ++ e) ≡ pieces_after m ps ++ e
+pieces_more : (m : TextMark) (ps e : List (List ℕ)) → own_by m ≤ length ps → pieces_after m (ps ++ e) ≡ pieces_after m ps ++ e
 pieces_more Last ps e h = refl
 pieces_more Earlier ps e h = refl
 pieces_more Whole [] e h = absurd (omega arith)
@@ -46,18 +46,18 @@ pieces_more (Front n) [] e h = absurd (omega arith)
 pieces_more (Front n) (p ∷ ps) e h = refl
 
 -- a mark leaves all pieces but the one that it takes
-pieces_left : (m : Mark) (ps : List (List ℕ)) → length (pieces_after m ps) ≡ length ps - own_by m
+pieces_left : (m : TextMark) (ps : List (List ℕ)) → length (pieces_after m ps) ≡ length ps - own_by m
 pieces_left Last ps = omega arith
 pieces_left Earlier ps = omega arith
 pieces_left Whole ps = length-drop 1 ps
 pieces_left (Front n) ps = length-drop 1 ps
 
 -- so pieces that are more stay as they are after a text
-after_more : (m : Mark) (s : Source) (e : List (List ℕ)) → own_by m ≤ length s.pieces → after m (with_more s e) ≡ with_more (after m s) e
+after_more : (m : TextMark) (s : Source) (e : List (List ℕ)) → own_by m ≤ length s.pieces → left_after m (with_more s e) ≡ with_more (left_after m s) e
 after_more m s e h = rw (text_more m s.first s.pieces e h, pieces_more m s.pieces e h)
 
 -- where there is a piece for each mark, there is one for each mark after the first
-enough_left : (m : Mark) (ms : List ℕ) (s : Source) → own_by m + own_in ms ≤ length s.pieces → own_in ms ≤ length (after m s).pieces
+enough_left : (m : TextMark) (ms : List ℕ) (s : Source) → own_by m + own_in ms ≤ length s.pieces → own_in ms ≤ length (left_after m s).pieces
 enough_left m ms s h = omega (arith, pieces_left m s.pieces)
 
 -- pieces that are more change no text
@@ -65,20 +65,20 @@ pub unpacked_more :
     (ms : List ℕ) (s : Source) (e : List (List ℕ)) → own_in ms ≤ length s.pieces → unpacked ms (with_more s e) ≡ unpacked ms s
 unpacked_more [] s e h = refl
 unpacked_more (b ∷ bs) s e h =
-    let m : Mark = mark_of b in
+    let m : TextMark = text_mark_of b in
     let here : own_by m ≤ length s.pieces = omega arith in
-    ap (λ x. x ∷ unpacked bs (after m (with_more s e))) (text_more m s.first s.pieces e here)
+    ap (λ x. x ∷ unpacked bs (left_after m (with_more s e))) (text_more m s.first s.pieces e here)
     ∙ (ap (λ z. next_text m s ∷ unpacked bs z) (after_more m s e here)
-    ∙ ap (λ z. next_text m s ∷ z) (unpacked_more bs (after m s) e (enough_left m bs s h)))
+    ∙ ap (λ z. next_text m s ∷ z) (unpacked_more bs (left_after m s) e (enough_left m bs s h)))
 
 -- pieces that are more are what is left after all marks
 pub after_all_more :
-    (ms : List ℕ) (s : Source) (e : List (List ℕ)) → own_in ms ≤ length s.pieces → after_all ms (with_more s e) ≡ with_more (after_all ms s) e
+    (ms : List ℕ) (s : Source) (e : List (List ℕ)) → own_in ms ≤ length s.pieces → left_after_all ms (with_more s e) ≡ with_more (left_after_all ms s) e
 after_all_more [] s e h = refl
 after_all_more (b ∷ bs) s e h =
-    let m : Mark = mark_of b in
+    let m : TextMark = text_mark_of b in
     let here : own_by m ≤ length s.pieces = omega arith in
-    ap (after_all bs) (after_more m s e here) ∙ after_all_more bs (after m s) e (enough_left m bs s h)
+    ap (left_after_all bs) (after_more m s e here) ∙ after_all_more bs (left_after m s) e (enough_left m bs s h)
 
 -- as many pieces as counts
 pub length_cut : (ns x : List ℕ) → length (cut_by ns x) ≡ length ns
@@ -99,7 +99,7 @@ cut_push (n ∷ ns) x y h =
     ∙ ap (λ z. take n x ∷ z) (cut_push ns (drop n x) y rest))
 
 -- the pieces that a text with this mark adds, where these are its own bytes
-abbrev pub own_pieces : Mark → List ℕ → List (List ℕ)
+abbrev pub own_pieces : TextMark → List ℕ → List (List ℕ)
 own_pieces Last y = []
 own_pieces Earlier y = []
 own_pieces Whole y = y ∷ []
@@ -113,7 +113,7 @@ cut_none ns x y none =
 
 -- one text more adds its own bytes as a piece, if it has some
 pub cut_more :
-    (m : Mark) (ns x y : List ℕ) → sum ns ≡ length x → (own_by m ≡ 0 → y ≡ []) → cut_by (ns ++ own_counts m (length y)) (x ++ y) ≡ cut_by ns x ++ own_pieces m y
+    (m : TextMark) (ns x y : List ℕ) → sum ns ≡ length x → (own_by m ≡ 0 → y ≡ []) → cut_by (ns ++ own_counts m (length y)) (x ++ y) ≡ cut_by ns x ++ own_pieces m y
 cut_more Last ns x y h none = cut_none ns x y (none refl)
 cut_more Earlier ns x y h none = cut_none ns x y (none refl)
 cut_more Whole ns x y h none = cut_push ns x y h
@@ -128,28 +128,28 @@ sum_push : (ns x y : List ℕ) → sum ns ≡ length x → sum (ns ++ length y �
 sum_push ns x y h = omega (arith, sum_by_push (λ k. k) ns (length y), length-append x y)
 
 -- the counts are of all bytes with one text more
-pub sum_more : (m : Mark) (ns x y : List ℕ) → sum ns ≡ length x → (own_by m ≡ 0 → y ≡ []) → sum (ns ++ own_counts m (length y)) ≡ length (x ++ y)
+pub sum_more : (m : TextMark) (ns x y : List ℕ) → sum ns ≡ length x → (own_by m ≡ 0 → y ≡ []) → sum (ns ++ own_counts m (length y)) ≡ length (x ++ y)
 sum_more Last ns x y h none = sum_none ns x y h (none refl)
 sum_more Earlier ns x y h none = sum_none ns x y h (none refl)
 sum_more Whole ns x y h none = sum_push ns x y h
 sum_more (Front n) ns x y h none = sum_push ns x y h
 
 -- what is read of the pieces that a text adds is the text
-pub text_of_own : (m : Mark) (mem : Memory) (y : List ℕ) → text_by m mem (piece_of (own_pieces m y)) ≡ text_by m mem y
+pub text_of_own : (m : TextMark) (mem : Memory) (y : List ℕ) → text_by m mem (piece_of (own_pieces m y)) ≡ text_by m mem y
 text_of_own Last mem y = refl
 text_of_own Earlier mem y = refl
 text_of_own Whole mem y = refl
 text_of_own (Front n) mem y = refl
 
 -- nothing is left of them
-pub pieces_of_own : (m : Mark) (y : List ℕ) → pieces_after m (own_pieces m y) ≡ []
+pub pieces_of_own : (m : TextMark) (y : List ℕ) → pieces_after m (own_pieces m y) ≡ []
 pieces_of_own Last y = refl
 pieces_of_own Earlier y = refl
 pieces_of_own Whole y = refl
 pieces_of_own (Front n) y = refl
 
 -- a text has a count where it has bytes of its own
-pub length_own : (m : Mark) (k : ℕ) → length (own_counts m k) ≡ own_by m
+pub length_own : (m : TextMark) (k : ℕ) → length (own_counts m k) ≡ own_by m
 length_own Last k = refl
 length_own Earlier k = refl
 length_own Whole k = refl
@@ -157,7 +157,7 @@ length_own (Front n) k = refl
 
 -- a reader takes the bytes of the first count, if the text has one
 pub text_of_first :
-    (m : Mark) (mem : Memory) (k : ℕ) (ns y : List ℕ) → text_by m mem (piece_of (cut_by (own_counts m k ++ ns) y)) ≡ text_by m mem (take k y)
+    (m : TextMark) (mem : Memory) (k : ℕ) (ns y : List ℕ) → text_by m mem (piece_of (cut_by (own_counts m k ++ ns) y)) ≡ text_by m mem (take k y)
 text_of_first Last mem k ns y = refl
 text_of_first Earlier mem k ns y = refl
 text_of_first Whole mem k ns y = refl
@@ -169,14 +169,14 @@ pieces_after_none k ns y none = ap (λ n. cut_by ns (drop n y)) (sym none)
 
 -- the pieces after the first one are of the bytes after its own
 pub pieces_after_first :
-    (m : Mark) (k : ℕ) (ns y : List ℕ) → (own_by m ≡ 0 → k ≡ 0) → pieces_after m (cut_by (own_counts m k ++ ns) y) ≡ cut_by ns (drop k y)
+    (m : TextMark) (k : ℕ) (ns y : List ℕ) → (own_by m ≡ 0 → k ≡ 0) → pieces_after m (cut_by (own_counts m k ++ ns) y) ≡ cut_by ns (drop k y)
 pieces_after_first Last k ns y none = pieces_after_none k ns y (none refl)
 pieces_after_first Earlier k ns y none = pieces_after_none k ns y (none refl)
 pieces_after_first Whole k ns y none = refl
 pieces_after_first (Front n) k ns y none = refl
 
 -- the first count and the others
-pub sum_of_first : (m : Mark) (k : ℕ) (ns : List ℕ) → (own_by m ≡ 0 → k ≡ 0) → sum (own_counts m k ++ ns) ≡ k + sum ns
+pub sum_of_first : (m : TextMark) (k : ℕ) (ns : List ℕ) → (own_by m ≡ 0 → k ≡ 0) → sum (own_counts m k ++ ns) ≡ k + sum ns
 sum_of_first Last k ns none = omega (arith, none refl)
 sum_of_first Earlier k ns none = omega (arith, none refl)
 sum_of_first Whole k ns none = sum_by-cons (λ n. n) k ns

@@ -4,7 +4,7 @@ use Rattle.std.specs.Str.{bytes_eq}
 use Rattle.std.proofs.Math.Bool.{and-true}
 use Rattle.std.proofs.lemmas.Bool.{and_right}
 use Rattle.std.proofs.lemmas.List.{take_all, take-take, take_min, take-append-le, drop_at, drop-append-le, length-take-le}
-use Rattle.gs_packed_texts.specs.Packing.{Mark, Last, Earlier, Whole, Front, text_by, memory_after}
+use Rattle.gs_packed_texts.specs.Packing.{TextMark, Last, Earlier, Whole, Front, text_by, memory_after}
 use Rattle.gs_packed_texts.specs.Kept.{span_in, parts_in, memory_in, front_of, window_after, IsSpanIn, ArePartsIn, IsWindowIn}
 use Rattle.gs_packed_texts.specs.declared.windows.Span.{Span}
 use Rattle.gs_packed_texts.specs.declared.windows.Parts.{Parts}
@@ -92,7 +92,7 @@ front_span x n s h =
 
 -- a text stands where the window after it says
 pub text_after :
-    (m : Mark) (x : List ℕ) (own : Span) (w : Window) → IsWindowIn (length x) w
+    (m : TextMark) (x : List ℕ) (own : Span) (w : Window) → IsWindowIn (length x) w
     → parts_in x (window_after m own w).last ≡ text_by m (memory_in x w) (span_in x own)
 text_after Last x own w h = refl
 text_after Earlier x own w h = refl
@@ -101,7 +101,7 @@ text_after (Front n) x own w h = ap (λ z. z ++ span_in x own) (front_span x n w
 
 -- all texts of the memory stand where the window after it says
 pub memory_of_after :
-    (m : Mark) (x : List ℕ) (own : Span) (w : Window) → IsWindowIn (length x) w
+    (m : TextMark) (x : List ℕ) (own : Span) (w : Window) → IsWindowIn (length x) w
     → memory_in x (window_after m own w) ≡ memory_after m (text_by m (memory_in x w) (span_in x own)) (memory_in x w)
 memory_of_after Last x own w h = refl
 memory_of_after Earlier x own w h = refl
@@ -110,7 +110,7 @@ memory_of_after (Front n) x own w h = rw (front_span x n w.anchor h.anchor)
 
 -- the window after a text lies in the bytes
 pub window_in_after :
-    (m : Mark) (n : ℕ) (own : Span) (w : Window) → IsWindowIn n w → IsSpanIn n own → IsWindowIn n (window_after m own w)
+    (m : TextMark) (n : ℕ) (own : Span) (w : Window) → IsWindowIn n w → IsSpanIn n own → IsWindowIn n (window_after m own w)
 window_in_after Last n own w h o = h
 window_in_after Earlier n own w h o = record { anchor = h.anchor; last = h.earlier; earlier = h.last }
 window_in_after Whole n own w h o = record { anchor = o; last = (omega arith, o); earlier = h.last }

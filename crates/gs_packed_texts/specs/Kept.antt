@@ -1,7 +1,7 @@
 -- How packed texts are kept: marks, the counts of their own bytes, those bytes, and where each memory's texts stand.
 use Rattle.std.specs.Prelude.{◌≡◌, ℕ, ◌+◌, ◌≤◌, List, [], ◌∷◌, ◌++◌, length, min, drop, slice_range}
 use Rattle.std.specs.List.{sum}
-use Rattle.gs_packed_texts.specs.Packing.{Memory, Mark, Last, Earlier, Whole, Front, mark_of, text_by, Source, after, source_of}
+use Rattle.gs_packed_texts.specs.Packing.{Memory, TextMark, Last, Earlier, Whole, Front, text_mark_of, text_by, Source, left_after, source_of}
 use Rattle.gs_packed_texts.specs.declared.windows.Span.{Span}
 use Rattle.gs_packed_texts.specs.declared.windows.Parts.{Parts}
 use Rattle.gs_packed_texts.specs.declared.windows.Window.{Window}
@@ -36,7 +36,7 @@ abbrev pub front_of : ℕ → Span → Span
 front_of n s = record { start = s.start; count = min n s.count }
 
 -- where a memory's texts stand after a text that stands so, with these bytes of its own
-abbrev pub window_after : Mark → Span → Window → Window
+abbrev pub window_after : TextMark → Span → Window → Window
 window_after Last own w = w
 window_after Earlier own w = record { anchor = w.anchor; last = w.earlier; earlier = w.last }
 window_after Whole own w = record { anchor = own; last = record { front = no_span; rest = own }; earlier = w.last }
@@ -57,7 +57,7 @@ pub record IsWindowIn (n : ℕ) (w : Window) : Type 0 where
   pub earlier : ArePartsIn n w.earlier
 
 -- how many counts are kept of a text that stands so
-abbrev pub own_by : Mark → ℕ
+abbrev pub own_by : TextMark → ℕ
 own_by Last = 0
 own_by Earlier = 0
 own_by Whole = 1
@@ -66,19 +66,19 @@ own_by (Front n) = 1
 -- how many are kept of the texts of these marks
 abbrev pub own_in : List ℕ → ℕ
 own_in [] = 0
-own_in (b ∷ bs) = own_by (mark_of b) + own_in bs
+own_in (b ∷ bs) = own_by (text_mark_of b) + own_in bs
 
 -- the count that is kept of a text with so many bytes of its own
-abbrev pub own_counts : Mark → ℕ → List ℕ
+abbrev pub own_counts : TextMark → ℕ → List ℕ
 own_counts Last n = []
 own_counts Earlier n = []
 own_counts Whole n = n ∷ []
 own_counts (Front k) n = n ∷ []
 
 -- what is left after all these marks
-abbrev pub after_all : List ℕ → Source → Source
-after_all [] s = s
-after_all (b ∷ bs) s = after_all bs (after (mark_of b) s)
+abbrev pub left_after_all : List ℕ → Source → Source
+left_after_all [] s = s
+left_after_all (b ∷ bs) s = left_after_all bs (left_after (text_mark_of b) s)
 
 -- The counts are of all bytes, and there is one for each mark with bytes of its own; after all marks nothing is left, and
 -- the memories are those of the windows.
@@ -88,7 +88,7 @@ pub record IsPacked (marks counts bytes : List ℕ) (first second third : Window
   pub first_in : IsWindowIn (length bytes) first
   pub second_in : IsWindowIn (length bytes) second
   pub third_in : IsWindowIn (length bytes) third
-  pub left : after_all marks (source_of counts bytes) ≡ record {
+  pub left : left_after_all marks (source_of counts bytes) ≡ record {
     first = memory_in bytes first;
     second = memory_in bytes second;
     third = memory_in bytes third;
@@ -106,7 +106,7 @@ pub record IsReady (marks counts bytes : List ℕ) (at : ℕ) (first second thir
 
 -- A text can stand so after the texts of a window, where what is left of it after a front are its own bytes. A text with no
 -- bytes of its own has none left.
-pub record IsPlace (bytes : List ℕ) (w : Window) (x : List ℕ) (p : Place) : Type 0 where
+pub record IsWindowPlace (bytes : List ℕ) (w : Window) (x : List ℕ) (p : Place) : Type 0 where
   pub front : p.front ≤ length x
-  pub text : text_by (mark_of p.mark) (memory_in bytes w) (drop p.front x) ≡ x
-  pub none : own_by (mark_of p.mark) ≡ 0 → p.front ≡ length x
+  pub text : text_by (text_mark_of p.mark) (memory_in bytes w) (drop p.front x) ≡ x
+  pub none : own_by (text_mark_of p.mark) ≡ 0 → p.front ≡ length x

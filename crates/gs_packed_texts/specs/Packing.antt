@@ -14,15 +14,15 @@ no_memory = record { anchor = []; last = []; earlier = [] }
 
 -- how a text stands: as the last one, as the earlier one, whole (then it is the anchor from there on), or so many bytes of
 -- the anchor and its own
-pub data Mark : Type 0 where
-  Last : Mark
-  Earlier : Mark
-  Whole : Mark
-  Front : (count : ℕ) → Mark
+pub data TextMark : Type 0 where
+  Last : TextMark
+  Earlier : TextMark
+  Whole : TextMark
+  Front : (count : ℕ) → TextMark
 
 -- the mark of a byte
-abbrev pub mark_of : ℕ → Mark
-mark_of b = if b == 255 then Last else if b == 254 then Earlier else if b == 253 then Whole else Front b
+abbrev pub text_mark_of : ℕ → TextMark
+text_mark_of b = if b == 255 then Last else if b == 254 then Earlier else if b == 253 then Whole else Front b
 
 -- what is not read yet: the memories, whose turn comes first, second and third, and texts' own bytes, in their order
 pub record Source : Type 0 where
@@ -37,33 +37,33 @@ piece_of [] = []
 piece_of (p ∷ ps) = p
 
 -- the text that stands so, by its memory and by bytes of its own
-abbrev pub text_by : Mark → Memory → List ℕ → List ℕ
+abbrev pub text_by : TextMark → Memory → List ℕ → List ℕ
 text_by Last m own = m.last
 text_by Earlier m own = m.earlier
 text_by Whole m own = own
 text_by (Front n) m own = take n m.anchor ++ own
 
 -- the memory after a text that stands so
-abbrev pub memory_after : Mark → List ℕ → Memory → Memory
+abbrev pub memory_after : TextMark → List ℕ → Memory → Memory
 memory_after Last x m = m
 memory_after Earlier x m = record { anchor = m.anchor; last = m.earlier; earlier = m.last }
 memory_after Whole x m = record { anchor = x; last = x; earlier = m.last }
 memory_after (Front n) x m = record { anchor = m.anchor; last = x; earlier = m.last }
 
 -- the pieces after it
-abbrev pub pieces_after : Mark → List (List ℕ) → List (List ℕ)
+abbrev pub pieces_after : TextMark → List (List ℕ) → List (List ℕ)
 pieces_after Last ps = ps
 pieces_after Earlier ps = ps
 pieces_after Whole ps = drop 1 ps
 pieces_after (Front n) ps = drop 1 ps
 
 -- the next text, if it stands so
-abbrev pub next_text : Mark → Source → List ℕ
+abbrev pub next_text : TextMark → Source → List ℕ
 next_text m s = text_by m s.first (piece_of s.pieces)
 
 -- what is left after it: the text after it is the second memory's
-abbrev pub after : Mark → Source → Source
-after m s = record {
+abbrev pub left_after : TextMark → Source → Source
+left_after m s = record {
   first = s.second;
   second = s.third;
   third = memory_after m (next_text m s) s.first;
@@ -73,7 +73,7 @@ after m s = record {
 -- the texts of these marks
 abbrev pub unpacked : List ℕ → Source → List (List ℕ)
 unpacked [] s = []
-unpacked (b ∷ bs) s = next_text (mark_of b) s ∷ unpacked bs (after (mark_of b) s)
+unpacked (b ∷ bs) s = next_text (text_mark_of b) s ∷ unpacked bs (left_after (text_mark_of b) s)
 
 -- bytes cut into pieces, of so many bytes each
 abbrev pub cut_by : List ℕ → List ℕ → List (List ℕ)

@@ -1,6 +1,6 @@
 //! How a text is packed after others.
 ghost use Rattle.std.specs.Prelude.{◌≡◌, ◌≤◌, length, take};
-ghost use Rattle.gs_packed_texts.specs.Kept.{IsWindowIn, IsPlace};
+ghost use Rattle.gs_packed_texts.specs.Kept.{IsWindowIn, IsWindowPlace};
 
 use crate::windows::{EARLIER, LAST, WHOLE, Window, bytes_at, is_text};
 
@@ -35,7 +35,7 @@ fn common_front(anchor: &[u8], text: &[u8]) -> usize
 /// anchor is the next anchor; a literal or a blank node never is, so it does not part IRIs that begin alike.
 pub fn placed(bytes: &[u8], window: Window, text: &[u8]) -> Place
     requires { IsWindowIn (length bytes.now) window }
-    ensures { IsPlace bytes.now window text.now result }
+    ensures { IsWindowPlace bytes.now window text.now result }
 {
     if is_text(bytes, window.last, text) {
         return Place {

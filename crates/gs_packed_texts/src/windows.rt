@@ -1,7 +1,7 @@
 //! Where texts stand in the bytes of all texts.
 ghost use Rattle.std.specs.Prelude.{◌≡◌, length};
 ghost use Rattle.std.specs.Str.{bytes_eq};
-ghost use Rattle.gs_packed_texts.specs.Packing.{Whole, Front, mark_of};
+ghost use Rattle.gs_packed_texts.specs.Packing.{Whole, Front, text_mark_of};
 ghost use Rattle.gs_packed_texts.specs.Kept.{span_in, parts_in, no_span, no_window, window_after, IsSpanIn, ArePartsIn};
 
 /// The mark of a text that is its memory's last one.
@@ -126,7 +126,7 @@ impl Window {
 
     /// After a text with this mark, whose own bytes are these.
     pub fn after(self, mark: u8, own: Span) -> Window
-        ensures { result ≡ window_after (mark_of mark) own self }
+        ensures { result ≡ window_after (text_mark_of mark) own self }
     {
         match mark {
             LAST => self,

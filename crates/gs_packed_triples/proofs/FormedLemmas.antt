@@ -7,7 +7,7 @@ use Rattle.gs_model.specs.Triples.{RdfTriple, IsTriple}
 use Rattle.gs_model.proofs.TextLemmas.{term_of-text_of}
 use Rattle.gs_packed_texts.specs.Texts.{split_bytes, Gives}
 use Rattle.gs_packed_texts.specs.declared.readers.SplitText.{SplitText}
-use Rattle.gs_packed_triples.specs.Formed.{triple_of_texts, triples_in, texts_in, AreFormed, IsFormed}
+use Rattle.gs_packed_triples.specs.Formed.{triple_of_texts, triples_unpacked, texts_in, AreFormed, IsFormed}
 
 -- the triple of a triple's texts
 triple_of_texts-text_of : (t : RdfTriple) → triple_of_texts (text_of t.subject) (text_of t.predicate) (text_of t.object) ≡ t
@@ -18,7 +18,7 @@ triple_of_texts-text_of t = λ i. record {
 }
 
 -- texts of triples are of no others
-triples_in-texts_in : (ts : List RdfTriple) → triples_in (texts_in ts) ≡ ts
+triples_in-texts_in : (ts : List RdfTriple) → triples_unpacked (texts_in ts) ≡ ts
 triples_in-texts_in [] = refl
 triples_in-texts_in (t ∷ ts) = λ i. triple_of_texts-text_of t i ∷ triples_in-texts_in ts i
 
@@ -30,15 +30,15 @@ texts_in-push (u ∷ ts) t = ap (λ xs. text_of u.subject ∷ text_of u.predicat
 -- the texts are those of one triple more
 pub record Pushed (xs ys : List (List ℕ)) (t : RdfTriple) : Type 0 where
   pub formed : AreFormed ys
-  pub triples : triples_in ys ≡ triples_in xs ++ t ∷ []
+  pub triples : triples_unpacked ys ≡ triples_unpacked xs ++ t ∷ []
 
-pushed : (xs ys : List (List ℕ)) (t : RdfTriple) → AreFormed xs → IsTriple t → ys ≡ texts_in (triples_in xs ++ t ∷ []) → Pushed xs ys t
+pushed : (xs ys : List (List ℕ)) (t : RdfTriple) → AreFormed xs → IsTriple t → ys ≡ texts_in (triples_unpacked xs ++ t ∷ []) → Pushed xs ys t
 pushed xs ys t formed is more =
-    let triples : triples_in ys ≡ triples_in xs ++ t ∷ [] = ap triples_in more ∙ triples_in-texts_in (triples_in xs ++ t ∷ []) in
+    let triples : triples_unpacked ys ≡ triples_unpacked xs ++ t ∷ [] = ap triples_unpacked more ∙ triples_in-texts_in (triples_unpacked xs ++ t ∷ []) in
     record {
       formed = record {
         texts = more ∙ ap texts_in (sym triples);
-        triples = subst (All IsTriple) (sym triples) (All-push IsTriple (triples_in xs) t formed.triples is);
+        triples = subst (All IsTriple) (sym triples) (All-push IsTriple (triples_unpacked xs) t formed.triples is);
       };
       triples = triples;
     }
@@ -62,7 +62,7 @@ texts_pushed ws xs ys zs s p o t formed is first second third subject predicate 
     ∙ append_assoc (ws ++ x ∷ []) (y ∷ []) (z ∷ [])
     ∙ append_assoc ws (x ∷ []) (y ∷ z ∷ [])
     ∙ ap (λ v. v ++ x ∷ y ∷ z ∷ []) formed.texts
-    ∙ sym (texts_in-push (triples_in ws) t))
+    ∙ sym (texts_in-push (triples_unpacked ws) t))
 
 -- no texts are formed
 AreFormed-nil : AreFormed []
@@ -75,7 +75,7 @@ pub record Taken (s p o : List ℕ) (xs : List (List ℕ)) : Type 0 where
 
 taken : (s p o : List ℕ) (xs : List (List ℕ)) → AreFormed (s ∷ p ∷ o ∷ xs) → Taken s p o xs
 taken s p o xs formed =
-    let is : IsTriple (triple_of_texts s p o) = All-head IsTriple (triple_of_texts s p o) (triples_in xs) formed.triples in
+    let is : IsTriple (triple_of_texts s p o) = All-head IsTriple (triple_of_texts s p o) (triples_unpacked xs) formed.triples in
     record {
       first = record {
         subject = record { canonical = cc formed.texts; valid = is.subject_is };
@@ -85,7 +85,7 @@ taken s p o xs formed =
       };
       rest = record {
         texts = cc formed.texts;
-        triples = All-tail IsTriple (triple_of_texts s p o) (triples_in xs) formed.triples;
+        triples = All-tail IsTriple (triple_of_texts s p o) (triples_unpacked xs) formed.triples;
       };
     }
 

@@ -10,11 +10,11 @@ abbrev pub triple_of_texts : List ℕ → List ℕ → List ℕ → RdfTriple
 triple_of_texts s p o = record { subject = term_of s; predicate = term_of p; object = term_of o }
 
 -- the triples of texts
-abbrev pub triples_in : List (List ℕ) → List RdfTriple
-triples_in [] = []
-triples_in (s ∷ []) = []
-triples_in (s ∷ p ∷ []) = []
-triples_in (s ∷ p ∷ o ∷ xs) = triple_of_texts s p o ∷ triples_in xs
+abbrev pub triples_unpacked : List (List ℕ) → List RdfTriple
+triples_unpacked [] = []
+triples_unpacked (s ∷ []) = []
+triples_unpacked (s ∷ p ∷ []) = []
+triples_unpacked (s ∷ p ∷ o ∷ xs) = triple_of_texts s p o ∷ triples_unpacked xs
 
 -- the texts of triples
 abbrev pub texts_in : List RdfTriple → List (List ℕ)
@@ -23,8 +23,8 @@ texts_in (t ∷ ts) = text_of t.subject ∷ text_of t.predicate ∷ text_of t.ob
 
 -- the texts are those of their triples, and each of these is one
 pub record AreFormed (xs : List (List ℕ)) : Type 0 where
-  pub texts : xs ≡ texts_in (triples_in xs)
-  pub triples : All IsTriple (triples_in xs)
+  pub texts : xs ≡ texts_in (triples_unpacked xs)
+  pub triples : All IsTriple (triples_unpacked xs)
 
 -- three texts are canonical, and of the kinds of a triple
 pub record IsFormed (s p o : List ℕ) : Type 0 where

@@ -2,7 +2,7 @@
 use Rattle.std.specs.Prelude.{◌≡◌, ℕ, ◌+◌, ◌*◌, ◌<◌, ◌^◌, List, [], ◌∷◌, length, Option, Some, None}
 use Rattle.gs_model.specs.Triples.{RdfTriple}
 use Rattle.gs_packed_texts.specs.Texts.{texts_of, left_of, split_bytes, own_bytes, own_room, HasRoom}
-use Rattle.gs_packed_triples.specs.Formed.{triple_of_texts, triples_in}
+use Rattle.gs_packed_triples.specs.Formed.{triple_of_texts, triples_unpacked}
 use Rattle.gs_packed_triples.specs.Room.{triples_bytes}
 use Rattle.gs_packed_triples.specs.declared.triples.PackedTriples.{PackedTriples}
 use Rattle.gs_packed_triples.specs.declared.readers.PackedTriple.{PackedTriple}
@@ -10,7 +10,7 @@ use Rattle.gs_packed_triples.specs.declared.readers.UnpackedTriples.{UnpackedTri
 
 -- the triples, in the order in which they came, with repeats
 abbrev pub packed_triples : PackedTriples → List RdfTriple
-packed_triples p = triples_in (texts_of p.texts)
+packed_triples p = triples_unpacked (texts_of p.texts)
 
 -- how many bytes of their own the texts of the triples have
 abbrev pub packed_bytes : PackedTriples → ℕ
@@ -30,14 +30,14 @@ abbrev pub LeavesRoomFor : PackedTriples → RdfTriple → PackedTriples → Typ
 LeavesRoomFor p t q = (ts : List RdfTriple) → HasRoomFor p (t ∷ ts) → HasRoomFor q ts
 
 -- a triple as it stands where it is packed
-abbrev pub triple_in : PackedTriple → RdfTriple
-triple_in t = triple_of_texts (split_bytes t.subject) (split_bytes t.predicate) (split_bytes t.object)
+abbrev pub triple_unpacked : PackedTriple → RdfTriple
+triple_unpacked t = triple_of_texts (split_bytes t.subject) (split_bytes t.predicate) (split_bytes t.object)
 
 -- the triples that a reader has before it
 abbrev pub triples_left : UnpackedTriples → List RdfTriple
-triples_left r = triples_in (left_of r.texts)
+triples_left r = triples_unpacked (left_of r.texts)
 
 -- a reader gave the first of the triples before it, or there was none
 abbrev pub GivesTriple : List RdfTriple → Option PackedTriple → List RdfTriple → Type 0
 GivesTriple old None new = (old ≡ []) × (new ≡ [])
-GivesTriple old (Some t) new = old ≡ triple_in t ∷ new
+GivesTriple old (Some t) new = old ≡ triple_unpacked t ∷ new

@@ -43,32 +43,32 @@ impl<'a> PackedTriple<'a> {
     ghost use Rattle.std.specs.Prelude.{◌≡◌, IfOk};
     ghost use Rattle.gs_model.specs.Terms.{text_of};
     ghost use Rattle.gs_packed_texts.specs.Texts.{split_bytes};
-    ghost use Rattle.gs_packed_triples.specs.Triples.{triple_in};
+    ghost use Rattle.gs_packed_triples.specs.Triples.{triple_unpacked};
 
     /// The text of the subject.
     pub fn subject(&self) -> SplitText<'a>
-        ensures { split_bytes result ≡ text_of (triple_in self.now).subject }
+        ensures { split_bytes result ≡ text_of (triple_unpacked self.now).subject }
     {
         self.subject
     }
 
     /// The text of the predicate.
     pub fn predicate(&self) -> SplitText<'a>
-        ensures { split_bytes result ≡ text_of (triple_in self.now).predicate }
+        ensures { split_bytes result ≡ text_of (triple_unpacked self.now).predicate }
     {
         self.predicate
     }
 
     /// The text of the object.
     pub fn object(&self) -> SplitText<'a>
-        ensures { split_bytes result ≡ text_of (triple_in self.now).object }
+        ensures { split_bytes result ≡ text_of (triple_unpacked self.now).object }
     {
         self.object
     }
 
     /// The triple. Linear in the bytes of its terms.
     pub fn to_triple(&self, alloc: Global) -> Result<Triple, AllocError>
-        ensures { IfOk result (λ t. t ≡ triple_in self.now) }
+        ensures { IfOk result (λ t. t ≡ triple_unpacked self.now) }
     {
         let subject = term(alloc, self.subject)?;
         let predicate = term(alloc, self.predicate)?;
@@ -80,13 +80,13 @@ impl<'a> PackedTriple<'a> {
 impl<'a> UnpackedTriples<'a> {
     ghost use Rattle.std.specs.Prelude.{◌≡◌};
     ghost use Rattle.gs_packed_texts.specs.Texts.{left_of};
-    ghost use Rattle.gs_packed_triples.specs.Formed.{triples_in, AreFormed};
+    ghost use Rattle.gs_packed_triples.specs.Formed.{triples_unpacked, AreFormed};
     ghost use Rattle.gs_packed_triples.specs.Triples.{triples_left, GivesTriple};
 
     /// A reader of the triples of these texts.
     pub(crate) fn new(texts: Texts<'a>) -> UnpackedTriples<'a>
         requires { AreFormed (left_of texts) }
-        ensures { triples_left result ≡ triples_in (left_of texts.entry) }
+        ensures { triples_left result ≡ triples_unpacked (left_of texts.entry) }
     {
         UnpackedTriples { texts }
     }

@@ -3,7 +3,7 @@ ghost use Rattle.std.specs.Prelude.{◌≡◌, ◌≤◌, [], ◌∷◌, ◌++�
 ghost use Rattle.std.proofs.Props.{props};
 ghost use Rattle.gs_model.specs.Terms.{text_of};
 ghost use Rattle.gs_packed_texts.specs.Texts.{texts_of, HasRoom};
-ghost use Rattle.gs_packed_triples.specs.Formed.{triples_in, AreFormed};
+ghost use Rattle.gs_packed_triples.specs.Formed.{triples_unpacked, AreFormed};
 ghost use Rattle.gs_packed_triples.specs.Room.{triple_bytes, triples_bytes, LeavesRoom};
 ghost use Rattle.gs_packed_triples.specs.Props.{IsText-prop};
 
@@ -20,7 +20,7 @@ pub struct PackedTriples {
     texts: PackedTexts,
     count: usize,
     ghost formed: { AreFormed (texts_of texts) } by { Prim.hlevel (IsText-prop, props) },
-    ghost counted: { count ≡ length (triples_in (texts_of texts)) },
+    ghost counted: { count ≡ length (triples_unpacked (texts_of texts)) },
 }
 
 /// How many bytes the three texts of a triple have.

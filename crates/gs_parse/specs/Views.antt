@@ -20,11 +20,11 @@ abbrev pub context_at : Parser → TurtleContext
 context_at p = context_now terms p.triples
 
 -- the numbers of the blank nodes so far
-abbrev pub numbers_at : Parser → Numbers
-numbers_at p = numbers_now p.triples
+abbrev pub parser_numbers : Parser → Numbers
+parser_numbers p = numbers_now p.triples
 
 -- what a place stands for, with the rest of a parser, of which the first is the text of the prefix that is declared
-abbrev pub state_with : Place → List ℕ → TurtleContext → Numbers → triples.State Term RdfTriple → machine.State
+abbrev pub state_with : Place → List ℕ → TurtleContext → Numbers → triples.State Term RdfTriple → machine.DocumentState
 state_with place.Between x env n s = machine.Between env n
 state_with (place.InPrefix dot) x env n s = machine.InPrefix dot env n
 state_with (place.InPrefixIri dot) x env n s = machine.InPrefixIri dot x env n
@@ -34,12 +34,12 @@ state_with place.Within x env n s = machine.Within s
 state_with place.Lost x env n s = machine.lost Syntax
 
 -- the state of a parser, were it at this place
-abbrev pub state_at : Parser → Place → machine.State
-state_at p l = state_with l (string_bytes p.prefix) (context_at p) (numbers_at p) (triples_state terms p.triples)
+abbrev pub parser_at : Parser → Place → machine.DocumentState
+parser_at p l = state_with l (string_bytes p.prefix) (context_at p) (parser_numbers p) (triples_state terms p.triples)
 
 -- the state of a parser
-abbrev pub state_of : Parser → machine.State
-state_of p = state_at p p.place
+abbrev pub state_of : Parser → machine.DocumentState
+state_of p = parser_at p p.place
 
 -- how a text ends, by what a parser says there
 abbrev pub ending_at : {X : Type 0} → Result X Fault → Ending

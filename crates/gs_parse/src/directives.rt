@@ -10,13 +10,13 @@ impl Parser {
     ghost use Rattle.gs_triples.specs.Symbols.{At};
     ghost use Rattle.gs_triple_values.specs.Contexts.{Changes};
     ghost use Rattle.gs_document.specs.Machine.{step, set};
-    ghost use Rattle.gs_parse.specs.Views.{state_at, context_at, numbers_at};
-    ghost use Rattle.gs_parse.specs.Steps.{transition, declared, MovesQuietly};
+    ghost use Rattle.gs_parse.specs.Views.{parser_at, context_at, parser_numbers};
+    ghost use Rattle.gs_parse.specs.Steps.{transition_at, declared, MovesQuietly};
 
     /// `@prefix` or `@base`.
     #[tactic(auto, unfolding(gs_document::specs::Machine::step))]
     fn begin_at(&mut self, text: &str)
-        ensures { MovesQuietly self.old self.new (step (state_at self.old Place.Between) (At text.now)) }
+        ensures { MovesQuietly self.old self.new (step (parser_at self.old Place.Between) (At text.now)) }
     {
         if text == "@prefix" {
             self.place = Place::InPrefix(true);
@@ -31,7 +31,7 @@ impl Parser {
     #[tactic(auto, unfolding(gs_document::specs::Machine::step))]
     pub(crate) fn begin(&mut self, symbol: Symbol) -> Result<(), AllocError>
         ensures { OnOk result
-            (MovesQuietly self.old self.new (transition self.old Place.Between symbol.entry)) }
+            (MovesQuietly self.old self.new (transition_at self.old Place.Between symbol.entry)) }
     {
         match symbol {
             Symbol::At(text) => self.begin_at(text),
@@ -49,7 +49,7 @@ impl Parser {
     #[tactic(auto, unfolding(gs_document::specs::Machine::step))]
     pub(crate) fn prefix(&mut self, dot: bool, symbol: Symbol) -> Result<(), AllocError>
         ensures { OnOk result
-            (MovesQuietly self.old self.new (transition self.old (Place.InPrefix dot) symbol.entry)) }
+            (MovesQuietly self.old self.new (transition_at self.old (Place.InPrefix dot) symbol.entry)) }
     {
         match symbol {
             Symbol::Term(TermToken::Namespace(prefix)) => {
@@ -64,7 +64,7 @@ impl Parser {
     /// After the IRI of a directive, which ends there where no dot is to come.
     fn set(&mut self, dot: bool, end: u64)
         ensures { MovesQuietly self.old self.new
-            (set dot end (numbers_at self.old) (Some (context_at self.old))) }
+            (set dot end (parser_numbers self.old) (Some (context_at self.old))) }
     {
         if dot {
             self.place = Place::AtDot;
@@ -77,7 +77,7 @@ impl Parser {
     fn declare(&mut self, text: &str) -> Result<bool, AllocError>
         ensures context { Changes result (context_at self.old) (context_at self.new)
             (declared self.old text.now) }
-        ensures numbers { numbers_at self.new ≡ numbers_at self.old }
+        ensures numbers { parser_numbers self.new ≡ parser_numbers self.old }
         ensures last { self.new.last ≡ self.old.last }
     {
         self.triples.set_prefix(self.prefix.as_str(), text)
@@ -87,7 +87,7 @@ impl Parser {
     #[tactic(auto, unfolding(gs_document::specs::Machine::step))]
     pub(crate) fn prefix_iri(&mut self, dot: bool, symbol: Symbol) -> Result<(), AllocError>
         ensures { OnOk result
-            (MovesQuietly self.old self.new (transition self.old (Place.InPrefixIri dot) symbol.entry)) }
+            (MovesQuietly self.old self.new (transition_at self.old (Place.InPrefixIri dot) symbol.entry)) }
     {
         match symbol {
             Symbol::Term(TermToken::Reference(text, end)) => {
@@ -106,7 +106,7 @@ impl Parser {
     #[tactic(auto, unfolding(gs_document::specs::Machine::step, gs_document::specs::Directives::with_base))]
     pub(crate) fn base(&mut self, dot: bool, symbol: Symbol) -> Result<(), AllocError>
         ensures { OnOk result
-            (MovesQuietly self.old self.new (transition self.old (Place.InBase dot) symbol.entry)) }
+            (MovesQuietly self.old self.new (transition_at self.old (Place.InBase dot) symbol.entry)) }
     {
         match symbol {
             Symbol::Term(TermToken::Reference(text, end)) => {
@@ -124,7 +124,7 @@ impl Parser {
     /// The dot of a directive.
     #[tactic(auto, unfolding(gs_document::specs::Machine::step))]
     pub(crate) fn dot(&mut self, symbol: Symbol)
-        ensures { MovesQuietly self.old self.new (transition self.old Place.AtDot symbol.entry) }
+        ensures { MovesQuietly self.old self.new (transition_at self.old Place.AtDot symbol.entry) }
     {
         match symbol {
             Symbol::Dot(end) => self.between(end),

@@ -12,14 +12,14 @@ use gs_triple_values::{Allowed, Symbol, symbol_of_borrowed};
 use std::alloc::{AllocError, Global};
 
 impl Parser {
-    ghost use Rattle.gs_body.specs.Bodies.{triples_of, end_after};
+    ghost use Rattle.gs_body.specs.Bodies.{all_stated, end_after};
     ghost use Rattle.gs_lex.specs.Lexemes.{lexeme_of_borrowed};
     ghost use Rattle.gs_triples.specs.Symbols.{symbol_of};
     ghost use Rattle.gs_document.specs.Documents.{start};
     ghost use Rattle.gs_document.specs.Machine as machine;
     ghost use Rattle.gs_document.specs.States.{Between};
     ghost use Rattle.gs_parse.specs.Views.{state_of};
-    ghost use Rattle.gs_parse.specs.Steps.{transition_here, transition_within, transition_after, Moves, Gives};
+    ghost use Rattle.gs_parse.specs.Steps.{transition_here, transition_within, transition_after, MovesBy, GivesTriples};
 
     /// At the start of a document under an absolute base, in the request of this number.
     pub fn new(alloc: Global, base: &str, request: u64) -> Result<Parser, AllocError>
@@ -44,8 +44,8 @@ impl Parser {
     /// The symbol after the triples of a statement, which is to be their dot.
     #[tactic(auto, using(crate::proofs::StepLemmas::given_stated))]
     fn conclude(&mut self, symbol: Symbol, triples: &mut Vec<Triple>) -> Result<(), AllocError>
-        ensures moves { OnOk result (Moves self.old self.new (transition_after self.old symbol.entry)) }
-        ensures given { Gives result triples.old.items triples.new.items
+        ensures moves { OnOk result (MovesBy self.old self.new (transition_after self.old symbol.entry)) }
+        ensures given { GivesTriples result triples.old.items triples.new.items
             (transition_after self.old symbol.entry) }
     {
         let Symbol::Dot(end) = symbol else {
@@ -60,8 +60,8 @@ impl Parser {
     /// A symbol within the triples of a statement, or after them.
     #[tactic(auto, unfolding(gs_document::specs::Machine::step))]
     fn within(&mut self, symbol: Symbol, triples: &mut Vec<Triple>) -> Result<(), AllocError>
-        ensures moves { OnOk result (Moves self.old self.new (transition_within self.old symbol.entry)) }
-        ensures given { Gives result triples.old.items triples.new.items
+        ensures moves { OnOk result (MovesBy self.old self.new (transition_within self.old symbol.entry)) }
+        ensures given { GivesTriples result triples.old.items triples.new.items
             (transition_within self.old symbol.entry) }
     {
         match self.triples.step(symbol)? {
@@ -76,8 +76,8 @@ impl Parser {
     /// One symbol more.
     #[tactic(auto, using(crate::proofs::StepLemmas::quiet_moves, crate::proofs::StepLemmas::quiet_given), unfolding(gs_document::specs::Machine::step, gs_triples::specs::Machine::step))]
     fn take(&mut self, symbol: Symbol, triples: &mut Vec<Triple>) -> Result<(), AllocError>
-        ensures moves { OnOk result (Moves self.old self.new (transition_here self.old symbol.entry)) }
-        ensures given { Gives result triples.old.items triples.new.items
+        ensures moves { OnOk result (MovesBy self.old self.new (transition_here self.old symbol.entry)) }
+        ensures given { GivesTriples result triples.old.items triples.new.items
             (transition_here self.old symbol.entry) }
     {
         match self.place {
@@ -103,7 +103,7 @@ impl Parser {
         ensures state { OnOk result (state_of self.new
             ≡ (machine.step (state_of self.old) (symbol_of (lexeme_of_borrowed token.entry))).0) }
         ensures given { OnOk result (triples.new.items ≡ triples.old.items
-            ++ triples_of (machine.step (state_of self.old) (symbol_of (lexeme_of_borrowed token.entry))).1) }
+            ++ all_stated (machine.step (state_of self.old) (symbol_of (lexeme_of_borrowed token.entry))).1) }
         ensures last { OnOk result (self.new.last ≡ end_after self.old.last
             (machine.step (state_of self.old) (symbol_of (lexeme_of_borrowed token.entry))).1) }
         ensures err { OnErr result (triples.new.items ≡ triples.old.items) }

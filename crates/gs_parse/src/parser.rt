@@ -20,13 +20,13 @@ pub struct Parser {
 
 impl Parser {
     ghost use Rattle.gs_model.specs.declared.faults.Fault.TheVariants.{Syntax};
-    ghost use Rattle.gs_document.specs.States.{Between, lost, quiet};
-    ghost use Rattle.gs_parse.specs.Views.{state_of, context_at, numbers_at};
+    ghost use Rattle.gs_document.specs.States.{Between, lost, states_nothing};
+    ghost use Rattle.gs_parse.specs.Views.{state_of, context_at, parser_numbers};
     ghost use Rattle.gs_parse.specs.Steps.{MovesQuietly};
 
     /// The grammar is broken outside triples: nothing is read after it.
     pub(crate) fn lose(&mut self)
-        ensures { MovesQuietly self.old self.new (quiet (lost Syntax)) }
+        ensures { MovesQuietly self.old self.new (states_nothing (lost Syntax)) }
     {
         self.place = Place::Lost;
     }
@@ -43,7 +43,7 @@ impl Parser {
 
     /// A statement ends there, and the next one may begin.
     pub(crate) fn between(&mut self, end: u64)
-        ensures state { state_of self.new ≡ Between (context_at self.old) (numbers_at self.old) }
+        ensures state { state_of self.new ≡ Between (context_at self.old) (parser_numbers self.old) }
         ensures last { self.new.last ≡ end }
     {
         self.last = end;

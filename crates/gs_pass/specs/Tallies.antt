@@ -36,10 +36,10 @@ decides (Pin t) (Pinned s) = Some (PinKind, s)
 decides action a = None
 
 -- how many triples an action brings that was answered so: those of a Stage, and triples and patterns of a CommitPatch
-abbrev pub brings : Action → Answer → ℕ
-brings (Stage ts) Staged = length ts.items
-brings (CommitPatch ops) (Status s name) = ops_size ops.items
-brings action a = 0
+abbrev pub brought_by : Action → Answer → ℕ
+brought_by (Stage ts) Staged = length ts.items
+brought_by (CommitPatch ops) (Status s name) = ops_size ops.items
+brought_by action a = 0
 
 -- a count goes up, and stops at its last value
 abbrev pub count_plus : ℕ → ℕ → ℕ
@@ -60,4 +60,4 @@ CountsCall (Some d) v w = (n : ℕ) × AddsReceipt v.receipts (receipt n d.0 d.1
 
 -- what an answered action makes of a tally
 abbrev pub Told : Action → Answer → Tally → Tally → Type 0
-Told action a v w = CountsCall (decides action a) v w × (w.triples ≡ count_plus v.triples (brings action a))
+Told action a v w = CountsCall (decides action a) v w × (w.triples ≡ count_plus v.triples (brought_by action a))

@@ -2,26 +2,26 @@
 #![tactic(auto)]
 
 mod cells;
+mod counted_ledgers;
 mod knowledge;
 mod notes;
 mod passes;
+mod receipt_rooms;
 mod receipts;
 mod records;
 mod registers;
 mod rooms;
-mod sides;
-mod spaces;
 mod stamps;
 mod wholes;
 
 pub use cells::{StampCell, Token, stamp_cell};
+pub use counted_ledgers::CountedLedger;
 pub use knowledge::Knowledge;
 pub use passes::Pass;
+pub use receipt_rooms::ReceiptRoom;
 pub use receipts::Receipt;
 pub use records::Record;
 pub use registers::Register;
 pub use rooms::Room;
-pub use sides::Side;
-pub use spaces::Space;
 pub use stamps::Stamp;
 pub use wholes::Whole;

@@ -9,10 +9,10 @@ ghost use Rattle.gs_pass.specs.Backing.{IsBacked};
 use crate::cells::{Hands, StampCell, Token};
 use crate::notes::{compare, note};
 use crate::passes::Pass;
+use crate::receipt_rooms::ReceiptRoom;
 use crate::receipts::{Receipt, code};
 use crate::records::Record;
 use crate::rooms::Room;
-use crate::spaces::Space;
 use std::marker::PhantomData;
 use std::sync::Wait;
 use std::sync::ledger::{Blank, Book, Ledger, Share};
@@ -61,7 +61,7 @@ impl<C: Ledger, T: Ledger, B: Room> Register<C, T, B> {
         &mut self,
         cell: &StampCell,
         seat: u16,
-        space: Space,
+        space: ReceiptRoom,
         call_share: Share<C>,
         triple_share: Share<T>,
     ) -> Pass<C, T, B>
@@ -75,7 +75,7 @@ impl<C: Ledger, T: Ledger, B: Room> Register<C, T, B> {
             × (self.new.triples.total ≡ self.old.triples.total) }
     {
         let token = cell.split_pass::<Hands>(&mut self.keeper);
-        let Space { receipts } = space;
+        let ReceiptRoom { receipts } = space;
         let record = Record {
             seat,
             receipts,

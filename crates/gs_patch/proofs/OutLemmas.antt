@@ -18,7 +18,7 @@ use Rattle.gs_tree.specs.Reading.{keys_at}
 use Rattle.gs_tree.specs.Sets.{IsSetAt}
 use Rattle.gs_tree.proofs.Order.{AllKeys-map}
 use Rattle.gs_keys.specs.Texts.{triple_at, key_cmp, key_total, IsGiven}
-use Rattle.gs_keys.specs.Roots.{graph_at}
+use Rattle.gs_keys.specs.Roots.{graph_of_root}
 use Rattle.gs_keys.proofs.KeyLemmas.{key_cmp_is}
 use Rattle.gs_changes.specs.Keys.{remove_keys}
 use Rattle.gs_staging.specs.Staging.{IsStaged}
@@ -140,7 +140,7 @@ module _ (terms : List Term) where
   -- keys out of a staged tree: it is staged, and its graph lacks their triples
   pub without_keys :
       (p q : Nodes) (root new : Option ℕ) (run : List Key) → IsStaged terms p root → AllKeys (IsGiven terms) run → IsSetAt (key_cmp terms) q new → keys_at q new ≡ remove_keys (key_cmp terms) run (keys_at p root)
-      → IsStaged terms q new × (graph_at terms q new ≡ without_triples (graph_at terms p root) (map (triple_at terms) run))
+      → IsStaged terms q new × (graph_of_root terms q new ≡ without_triples (graph_of_root terms p root) (map (triple_at terms) run))
   without_keys p q root new run old gs set keys_are =
       let ks = keys_at p root in
       let one : Key → Bool = is_one_of (key_cmp terms) (key_total terms) run in
@@ -154,7 +154,7 @@ module _ (terms : List Term) where
       )
 
   -- a graph without known triples is the graph without them all
-  pub without_known : (p : Nodes) (root : Option ℕ) (ts : List RdfTriple) (ks : List Key) → IsStaged terms p root → AreKnown terms ts ks → without_triples (graph_at terms p root) (map (triple_at terms) ks) ≡ without_triples (graph_at terms p root) ts
+  pub without_known : (p : Nodes) (root : Option ℕ) (ts : List RdfTriple) (ks : List Key) → IsStaged terms p root → AreKnown terms ts ks → without_triples (graph_of_root terms p root) (map (triple_at terms) ks) ≡ without_triples (graph_of_root terms p root) ts
   without_known p root ts ks old known =
       let a : RdfTriple → Bool = is_among (map (triple_at terms) ks) in
       let b : RdfTriple → Bool = is_among ts in

@@ -9,7 +9,7 @@ use Rattle.gs_tree.specs.Tree.{tree_at}
 use Rattle.gs_changes.specs.Changes.{ChangesAt}
 use Rattle.gs_changes.proofs.ChangeLemmas.{unchanged, then}
 use Rattle.gs_keys.specs.Texts.{key_cmp}
-use Rattle.gs_keys.specs.Roots.{graph_at}
+use Rattle.gs_keys.specs.Roots.{graph_of_root}
 use Rattle.gs_staging.specs.Keys.{Grows, GivesOnly}
 use Rattle.gs_staging.specs.Staging.{IsStaged}
 use Rattle.gs_staging.proofs.KeyLemmas.{still_grows, grows_twice, only_twice}
@@ -45,9 +45,9 @@ pub record Patching (birth : ℕ) (d e : Numbered) (p q : Nodes) (root : Option 
   pub grows : Grows d e
   pub changes : ChangesAt (key_cmp e.terms) birth p q root m.root m.added m.removed
   pub staged : IsStaged e.terms q m.root
-  pub graph : updated (graph_at e.terms q m.root) left ≡ updated (graph_at d.terms p root) ops
-  pub added : m.added + inserted_by (graph_at e.terms q m.root) left ≡ inserted_by (graph_at d.terms p root) ops
-  pub removed : m.removed + removed_by (graph_at e.terms q m.root) left ≡ removed_by (graph_at d.terms p root) ops
+  pub graph : updated (graph_of_root e.terms q m.root) left ≡ updated (graph_of_root d.terms p root) ops
+  pub added : m.added + inserted_by (graph_of_root e.terms q m.root) left ≡ inserted_by (graph_of_root d.terms p root) ops
+  pub removed : m.removed + removed_by (graph_of_root e.terms q m.root) left ≡ removed_by (graph_of_root d.terms p root) ops
   pub few_added : m.added + most * length left ≤ most * length ops
   pub few_removed : m.removed + most * length left ≤ most * length ops
 
@@ -69,10 +69,10 @@ pub patching_more :
     → Grows e f → Operates birth e.terms f.terms q r old.root op o → m.root ≡ o.root → m.added ≡ old.added + o.added → m.removed ≡ old.removed + o.removed
     → Patching birth d e p q root ops (op ∷ left) old → Patching birth d f p r root ops left m
 patching_more birth d e f p q r root ops left op old m o few_in few_out grows done root_is added_is removed_is i =
-    let g = graph_at e.terms q old.root in
+    let g = graph_of_root e.terms q old.root in
     let first = change_grown birth e f p q root old.root old.added old.removed grows i.staged i.changes in
     let both = then (key_cmp f.terms) birth p q r old.root o.root old.added old.removed o.added o.removed (tree_at p root) (tree_at q old.root) (tree_at r o.root) first done.becomes.changes in
-    let made : graph_at f.terms r m.root ≡ operated g op = ap (graph_at f.terms r) root_is ∙ done.becomes.graph in
+    let made : graph_of_root f.terms r m.root ≡ operated g op = ap (graph_of_root f.terms r) root_is ∙ done.becomes.graph in
     record {
       grows = grows_twice d e f i.grows grows;
       changes = rw (root_is, added_is, removed_is) both;
@@ -95,7 +95,7 @@ patching_half birth d e f p q r root new ops left old grows i half =
 -- none is left
 pub patching_end : (birth : ℕ) (d e : Numbered) (p q : Nodes) (root : Option ℕ) (ops left : List Op) (m : Draft) → left ≡ [] → Patching birth d e p q root ops left m → Patches birth d.terms e.terms p q root ops m
 patching_end birth d e p q root ops left m none i =
-    let g = graph_at e.terms q m.root in
+    let g = graph_of_root e.terms q m.root in
     record {
       changes = i.changes;
       staged = i.staged;

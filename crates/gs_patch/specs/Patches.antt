@@ -6,7 +6,7 @@ use Rattle.gs_event.specs.Updates.{updated, inserted_by, removed_by}
 use Rattle.gs_pool.specs.Pool.{Nodes}
 use Rattle.gs_changes.specs.Changes.{ChangesAt}
 use Rattle.gs_keys.specs.Texts.{key_cmp}
-use Rattle.gs_keys.specs.Roots.{graph_at}
+use Rattle.gs_keys.specs.Roots.{graph_of_root}
 use Rattle.gs_staging.specs.Staging.{IsStaged}
 use Rattle.gs_patch.specs.declared.patches.Draft.{Draft}
 
@@ -14,6 +14,6 @@ use Rattle.gs_patch.specs.declared.patches.Draft.{Draft}
 pub record Patches (birth : ℕ) (terms grown : List Term) (p q : Nodes) (root : Option ℕ) (ops : List Op) (d : Draft) : Type 0 where
   pub changes : ChangesAt (key_cmp grown) birth p q root d.root d.added d.removed
   pub staged : IsStaged grown q d.root
-  pub graph : graph_at grown q d.root ≡ updated (graph_at terms p root) ops
-  pub added : d.added ≡ inserted_by (graph_at terms p root) ops
-  pub removed : d.removed ≡ removed_by (graph_at terms p root) ops
+  pub graph : graph_of_root grown q d.root ≡ updated (graph_of_root terms p root) ops
+  pub added : d.added ≡ inserted_by (graph_of_root terms p root) ops
+  pub removed : d.removed ≡ removed_by (graph_of_root terms p root) ops

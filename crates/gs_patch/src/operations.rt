@@ -3,10 +3,10 @@ ghost use Rattle.std.specs.Prelude.{◌≡◌, map, IfOk, IfErr, OnErr};
 ghost use Rattle.gs_event.specs.Solutions.{instances_of};
 ghost use Rattle.gs_tree.specs.Keys.{AllKeys};
 ghost use Rattle.gs_keys.specs.Texts.{triple_at, IsGiven};
-ghost use Rattle.gs_keys.specs.Roots.{graph_at};
+ghost use Rattle.gs_keys.specs.Roots.{graph_of_root};
 ghost use Rattle.gs_staging.specs.Keys.{Grows, GivesOnly, IsTermIn};
 ghost use Rattle.gs_staging.specs.Staging.{IsStaged};
-ghost use Rattle.gs_patch.specs.Operations.{Gains, Loses, ChangesSome, Operates};
+ghost use Rattle.gs_patch.specs.Operations.{GainsTriples, LosesTriples, ChangesSome, Operates};
 ghost use Rattle.gs_patch.specs.Inserted.{IsInsertedBy};
 
 use crate::known::known_keys;
@@ -42,7 +42,7 @@ fn insert(
     requires { IsStaged dict.old.terms pool.old root }
     ensures grows { Grows dict.old dict.new }
     ensures only { GivesOnly (IsTermIn triples.now) dict.old.terms dict.new.terms }
-    ensures ok { IfOk result (Gains birth dict.old.terms dict.new.terms pool.old pool.new root
+    ensures ok { IfOk result (GainsTriples birth dict.old.terms dict.new.terms pool.old pool.new root
         triples.now) }
     ensures kept { OnErr result (pool.new ≡ pool.old) }
 {
@@ -63,7 +63,7 @@ fn take_out(
 ) -> Result<Pruned, HalfDone>
     requires staged { IsStaged dict.now.terms pool.old root }
     requires given { AllKeys (IsGiven dict.now.terms) keys.now }
-    ensures ok { IfOk result (Loses birth dict.now.terms pool.old pool.new root
+    ensures ok { IfOk result (LosesTriples birth dict.now.terms pool.old pool.new root
         (map (triple_at dict.now.terms) keys.now)) }
     ensures half { IfErr result (λ h. ChangesSome birth dict.now.terms pool.old pool.new root h.root) }
 {
@@ -81,7 +81,7 @@ fn delete(
     birth: u64,
 ) -> Result<Pruned, HalfDone>
     requires { IsStaged dict.now.terms pool.old root }
-    ensures ok { IfOk result (Loses birth dict.now.terms pool.old pool.new root triples.now) }
+    ensures ok { IfOk result (LosesTriples birth dict.now.terms pool.old pool.new root triples.now) }
     ensures half { IfErr result (λ h. ChangesSome birth dict.now.terms pool.old pool.new root h.root) }
 {
     let Ok(keys) = known_keys(alloc, dict, triples) else {
@@ -100,8 +100,8 @@ fn delete_instances(
     birth: u64,
 ) -> Result<Pruned, HalfDone>
     requires { IsStaged dict.now.terms pool.old root }
-    ensures ok { IfOk result (Loses birth dict.now.terms pool.old pool.new root
-        (instances_of (graph_at dict.now.terms pool.old root) patterns.now)) }
+    ensures ok { IfOk result (LosesTriples birth dict.now.terms pool.old pool.new root
+        (instances_of (graph_of_root dict.now.terms pool.old root) patterns.now)) }
     ensures half { IfErr result (λ h. ChangesSome birth dict.now.terms pool.old pool.new root h.root) }
 {
     let Ok(keys) = solve(alloc, pool, root, dict, patterns) else {

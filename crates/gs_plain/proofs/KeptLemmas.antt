@@ -25,7 +25,7 @@ use Rattle.gs_plain.specs.declared.books.Seat.{Seat}
 use Rattle.gs_plain.specs.declared.books.Seat.TheVariants.{Idle, Writing, Patching, Reading}
 use Rattle.gs_plain.specs.declared.stores.PlainStore.TheInside.{Inside}
 use Rattle.gs_plain.specs.Books.{staged_by, dataset_of, totals_of, seat_shown, will_commit, IsKnown, KeepsRows}
-use Rattle.gs_plain.specs.Actions.{Acts, HasRoom, KeepsRoom}
+use Rattle.gs_plain.specs.Actions.{Acts, HasRowRoom, KeepsRoom}
 use Rattle.gs_plain.specs.Kept.{shown_of, IsKept}
 
 -- what a store's fields show, without the waste
@@ -82,8 +82,8 @@ kept_after a b i was now action answer within is seats acts room kept =
     let idle : others + cond (will_commit (get_or xs i was)) 1 0 ≡ count_by will_commit xs + 0 = sum_by-set (λ x. cond (will_commit x) 1 0) xs i Idle was within in
     let after : count_by will_commit (slice_set xs i now) + cond (will_commit (get_or xs i was)) 1 0 ≡ count_by will_commit xs + cond (will_commit now) 1 0 = sum_by-set (λ x. cond (will_commit x) 1 0) xs i now was within in
     let same : cond {A = ℕ} (will_commit was) 1 0 ≡ cond {A = ℕ} (will_commit (get_or xs i was)) 1 0 = ap (λ (s : Seat). cond {A = ℕ} (will_commit s) 1 0) is in
-    let before : HasRoom a.books others was = had_room (vec_len a.books.rows) others (cond {A = ℕ} (will_commit was) 1 0) (cond {A = ℕ} (will_commit (get_or xs i was)) 1 0) (count_by will_commit xs) (vec_capacity a.books.rows) idle same kept.room in
-    let later : HasRoom b.books others now = room.kept others (others_few xs i within) before in
+    let before : HasRowRoom a.books others was = had_room (vec_len a.books.rows) others (cond {A = ℕ} (will_commit was) 1 0) (cond {A = ℕ} (will_commit (get_or xs i was)) 1 0) (count_by will_commit xs) (vec_capacity a.books.rows) idle same kept.room in
+    let later : HasRowRoom b.books others now = room.kept others (others_few xs i within) before in
     let total : sum_by staged_by (slice_set xs i now) + staged_by (get_or xs i was) ≡ sum_by staged_by xs + staged_by now = sum_by-set staged_by xs i now was within in
     record {
       known = rw seats (All-set (IsKnown b.books.rows.items) xs i now acts.known known);

@@ -20,7 +20,7 @@ use Rattle.gs_term.proofs.NameLemmas.{name_total, name_exact}
 use Rattle.gs_event.specs.Datasets.{Dataset, empty_dataset, with_graph, without_graph, graph_at, lines_if}
 use Rattle.gs_plain.specs.declared.books.Row.{Row}
 use Rattle.gs_plain.specs.Books.{after_row, dataset_of, lines_of_row, is_default}
-use Rattle.gs_plain.specs.Newest.{target_eq, graph_of_row, graph_by, AreOthers, IsLast, NewestRow}
+use Rattle.gs_plain.specs.Newest.{target_eq, graph_of_row, graph_by, AreOthers, IsLastRow, NewestRow}
 
 pub dataset_push : (rows : List Row) (row : Row) → dataset_of (rows ++ row ∷ []) ≡ after_row (dataset_of rows) row
 dataset_push rows row = fold-append (λ m (r : Row). after_row m r) empty_dataset rows (row ∷ [])
@@ -71,7 +71,7 @@ target_eq-true (Named a) (Named b) e = ap Named (same_text a b e)
 pub record IsNewest (rows front : List Row) (t : Target) (found : Option ℕ) : Type 0 where
   pub graph : graph_at (dataset_of front) t ≡ graph_by rows t found
   pub within : IfSome found (λ i. i < length front)
-  pub last : IfSome found (IsLast front t)
+  pub last : IfSome found (IsLastRow front t)
 
 pub newest_none : (rows : List Row) (t : Target) → IsNewest rows [] t None
 newest_none rows t = record { graph = refl; within = search rules; last = search rules }
@@ -84,7 +84,7 @@ others_push : (t : Target) (rs : List Row) (r : Row) → AreOthers t rs → targ
 others_push t [] r h k = (k, tt)
 others_push t (x ∷ rs) r h k = (h.0, others_push t rs r h.1 k)
 
-still_last : (front : List Row) (row : Row) (t : Target) (found : Option ℕ) → target_eq row.target t ≡ false → IfSome found (IsLast front t) → IfSome found (IsLast (front ++ row ∷ []) t)
+still_last : (front : List Row) (row : Row) (t : Target) (found : Option ℕ) → target_eq row.target t ≡ false → IfSome found (IsLastRow front t) → IfSome found (IsLastRow (front ++ row ∷ []) t)
 still_last front row t None other h = h
 still_last front row t (Some j) other h = record {
   before = h.before;
@@ -140,8 +140,8 @@ pub get_after : (before : List Row) (row : Row) (later : List Row) → slice_get
 get_after [] row later = refl
 get_after (x ∷ before) row later = get_after before row later
 
--- the row of IsLast is at its place
-pub last_at : (rows : List Row) (t : Target) (i : ℕ) (l : IsLast rows t i) → slice_get rows i ≡ Some l.row
+-- the row of IsLastRow is at its place
+pub last_at : (rows : List Row) (t : Target) (i : ℕ) (l : IsLastRow rows t i) → slice_get rows i ≡ Some l.row
 last_at rows t i l = ap (λ rs. slice_get rs i) l.parts ∙ ap (slice_get (l.before ++ l.row ∷ l.later)) l.place ∙ get_after l.before l.row l.later
 
 -- what is found in all rows

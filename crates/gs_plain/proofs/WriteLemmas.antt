@@ -9,7 +9,7 @@ use Rattle.gs_event.specs.Operations.{is_within, Setting, stored_status, is_succ
 use Rattle.gs_plain.specs.declared.books.Row.{Row}
 use Rattle.gs_plain.specs.Books.{after_row, dataset_of, lines_of_row, KeepsRows}
 use Rattle.gs_plain.specs.Versions.{ended_row}
-use Rattle.gs_plain.specs.Newest.{target_eq, AreOthers, IsLast}
+use Rattle.gs_plain.specs.Newest.{target_eq, AreOthers, IsLastRow}
 use Rattle.gs_plain.proofs.RowLemmas.{graph_at-without_graph, graph_at-after_row, at_row, same_dataset, target_eq-true}
 
 -- rows that stay
@@ -60,7 +60,7 @@ set_parts [] row new later = refl
 set_parts (r ∷ before) row new later = ap (λ rs. r ∷ rs) (set_parts before row new later)
 
 -- the newest row of a target is ended: the target's graph is gone, and every other is as it was
-pub dataset_end : (rows : List Row) (t : Target) (i : ℕ) (l : IsLast rows t i) → dataset_of (slice_set rows i (ended_row l.row)) ≡ without_graph (dataset_of rows) t
+pub dataset_end : (rows : List Row) (t : Target) (i : ℕ) (l : IsLastRow rows t i) → dataset_of (slice_set rows i (ended_row l.row)) ≡ without_graph (dataset_of rows) t
 dataset_end rows t i l =
     let set : slice_set rows i (ended_row l.row) ≡ l.before ++ ended_row l.row ∷ l.later =
     ap (λ rs. slice_set rs i (ended_row l.row)) l.parts ∙ ap (λ n. slice_set (l.before ++ l.row ∷ l.later) n (ended_row l.row)) l.place ∙ set_parts l.before l.row (ended_row l.row) l.later in

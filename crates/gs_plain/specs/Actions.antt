@@ -36,12 +36,12 @@ abbrev pub CommitsPatch : Books → Books → Target → ℕ → Seat → Vec Op
 CommitsPatch old new t r now ops answer = Acts old new (Patching t r) now (CommitPatch ops) answer
 
 -- there is room for the row of each upload and patch, `others` of them at other seats
-abbrev pub HasRoom : Books → ℕ → Seat → Type 0
-HasRoom b others s = vec_len b.rows + (others + (if will_commit s then 1 else 0)) ≤ vec_capacity b.rows
+abbrev pub HasRowRoom : Books → ℕ → Seat → Type 0
+HasRowRoom b others s = vec_len b.rows + (others + (if will_commit s then 1 else 0)) ≤ vec_capacity b.rows
 
 -- at a store of so many seats there is still room
 pub record KeepsRoom (seats : ℕ) (old new : Books) (was now : Seat) : Type 0 where
-  pub kept : (others : ℕ) → others < seats → HasRoom old others was → HasRoom new others now
+  pub kept : (others : ℕ) → others < seats → HasRowRoom old others was → HasRowRoom new others now
 
 -- there is still room, however many seats there are
 pub record HoldsRoom (old new : Books) (was now : Seat) : Type 0 where

@@ -31,7 +31,7 @@ AreOthers t [] = Unit {0}
 AreOthers t (r ∷ rs) = (target_eq r.target t ≡ false) × AreOthers t rs
 
 -- row i is of this target, and none after it
-pub record IsLast (rows : List Row) (t : Target) (i : ℕ) : Type 0 where
+pub record IsLastRow (rows : List Row) (t : Target) (i : ℕ) : Type 0 where
   pub before : List Row
   pub row : Row
   pub later : List Row
@@ -46,4 +46,4 @@ pub record NewestRow (rows : List Row) (t : Target) (found : Option ℕ) : Type 
   pub lines : row_lines rows found ≡ lines_at (dataset_of rows) t
   pub there : (is_default t || is_some found) ≡ is_there (dataset_of rows) t
   pub within : IfSome found (λ i. i < length rows)
-  pub last : IfSome found (IsLast rows t)
+  pub last : IfSome found (IsLastRow rows t)

@@ -5,7 +5,7 @@ use Rattle.std.proofs.lemmas.List.{map-set, length-map, get_or-map, get_or-set_s
 use Rattle.std.proofs.lemmas.List.Sums.{sum_by-cons, get_or-le-sum_by}
 use Rattle.std.proofs.Math.Seq.{map-set_same}
 use Rattle.std.specs.List.{sum_by}
-use Rattle.gs_pool.specs.Lists.{IsChain, times, last_of, is_retired_at}
+use Rattle.gs_pool.specs.Lists.{IsChain, times, last_in_list, is_retired_at}
 use Rattle.gs_pool.proofs.ListLemmas.{times_same, times_other, fewer_times, written, not_written}
 
 -- 1 for a test that is passed
@@ -59,11 +59,11 @@ chain_weaker next_of test weak items first [] h p = p
 chain_weaker next_of test weak items first (y ∷ ys) h p = (p.0, (p.1.0, p.1.1, h p.1.0 p.1.2, chain_weaker next_of test weak items (next_of p.1.0) ys h p.1.3))
 
 -- the last number of a list is in it
-pub last_in : (y : ℕ) (ys : List ℕ) → 0 < times (last_of y ys) (y ∷ ys)
+pub last_in : (y : ℕ) (ys : List ℕ) → 0 < times (last_in_list y ys) (y ∷ ys)
 last_in y [] = omega (arith, times_same y [])
-last_in y (w ∷ ws) = elim (cases_eq y (last_of w ws)) [
+last_in y (w ∷ ws) = elim (cases_eq y (last_in_list w ws)) [
   | inl same ↦ subst (λ z. 0 < times z (y ∷ w ∷ ws)) same (omega (arith, times_same y (w ∷ ws)))
-  | inr ne ↦ omega (arith, times_other (last_of w ws) y (w ∷ ws) ne, last_in w ws)
+  | inr ne ↦ omega (arith, times_other (last_in_list w ws) y (w ∷ ws) ne, last_in w ws)
 ]
 
 -- a number is in two lists that are one as often as in both
@@ -72,7 +72,7 @@ times_append x [] ys = omega arith
 times_append x (z ∷ xs) ys = omega (arith, times_append x xs ys)
 
 -- the last element of a list names the first of another: the two are one
-pub chain_join : {A : Type 0} (next_of : A → Option ℕ) (test : A → Bool) (items : List A) (z : ℕ) (s : A) (first second : Option ℕ) (y : ℕ) (ys ids : List ℕ) → IsChain next_of test items first (y ∷ ys) → z ≡ last_of y ys → ((x : ℕ) → times x (y ∷ ys) ≤ 1) → z < length items → test s ≡ true → next_of s ≡ second → IsChain next_of test (set items z s) second ids → IsChain next_of test (set items z s) first ((y ∷ ys) ++ ids)
+pub chain_join : {A : Type 0} (next_of : A → Option ℕ) (test : A → Bool) (items : List A) (z : ℕ) (s : A) (first second : Option ℕ) (y : ℕ) (ys ids : List ℕ) → IsChain next_of test items first (y ∷ ys) → z ≡ last_in_list y ys → ((x : ℕ) → times x (y ∷ ys) ≤ 1) → z < length items → test s ≡ true → next_of s ≡ second → IsChain next_of test (set items z s) second ids → IsChain next_of test (set items z s) first ((y ∷ ys) ++ ids)
 chain_join next_of test items z s first second y [] ids p is once within now next rest =
     (p.0, (s, subst (λ x. slice_get (set items z s) x ≡ Some s) is (written items z s within), now, subst (λ o. IsChain next_of test (set items z s) o ids) (sym next) rest))
 chain_join next_of test items z s first second y (w ∷ ws) ids p is once within now next rest =

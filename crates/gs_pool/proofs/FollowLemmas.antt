@@ -14,7 +14,7 @@ use Rattle.gs_pool.specs.declared.holds.Hold.{Hold}
 use Rattle.gs_pool.specs.Pool.{Nodes, plain, is_aside, is_retired}
 use Rattle.gs_pool.specs.Held.{IsNeededBy, AreHeld, let_go}
 use Rattle.gs_pool.specs.Places.{content_of, next_of, node_in, mark_in, is_whole, node_of, mark_of, is_free_place, is_aside_place, is_retired_place}
-use Rattle.gs_pool.specs.Lists.{place_kind, hold_at, times, pin_of, count_of, empty_hold, with_first, is_kept_for, is_retired_at, AreRetired, IsSound}
+use Rattle.gs_pool.specs.Lists.{place_kind, hold_at, times, pin_of, hold_count, empty_hold, with_node_first, is_kept_for, is_retired_at, AreRetired, AreSoundLists}
 use Rattle.gs_pool.proofs.ListLemmas.{place_of, list_off, count-set}
 use Rattle.gs_pool.proofs.HoldLemmas.{kept_for, kept_pin, all_held, last_within, total_few, held_few, empty_count}
 use Rattle.gs_pool.proofs.ReleaseLemmas.{released_none, released}
@@ -81,7 +81,7 @@ pub list_within : (p : Nodes) (holds : List Hold) (list id death : ℕ) → IsNe
 list_within p holds list id death need pins = omega (arith, pin_within p.pins list need.version need.pinned, ap length pins, length-map holds pin_of)
 
 -- all lists after the next place of a retired one is another, where the retired ones are on lists still
-pub relinked_sound : (places : List Place) (ff fr ft now : Option ℕ) (holds others : List Hold) (free loose more total limit : ℕ) → IsSound places ff fr ft holds free loose total limit → (z : ℕ) (s d : Place) → z < length places → d ≡ get_or places z d → is_retired_place d ≡ true → content_of s ≡ content_of d → s.state ≡ d.state → s.death ≡ d.death → AreRetired place_kind (set places z s) now others more total → IsSound (set places z s) ff fr now others free more total limit
+pub relinked_sound : (places : List Place) (ff fr ft now : Option ℕ) (holds others : List Hold) (free loose more total limit : ℕ) → AreSoundLists places ff fr ft holds free loose total limit → (z : ℕ) (s d : Place) → z < length places → d ≡ get_or places z d → is_retired_place d ≡ true → content_of s ≡ content_of d → s.state ≡ d.state → s.death ≡ d.death → AreRetired place_kind (set places z s) now others more total → AreSoundLists (set places z s) ff fr now others free more total limit
 relinked_sound places ff fr ft now holds others free loose more total limit sound z s d within at was content state dies lists =
     let place = retired_place d.state d.death (content_of d) was in
     let mark : mark_of s ≡ mark_of d = ap (λ t. mark_in t s.death) state ∙ ap (mark_in d.state) dies in
@@ -100,7 +100,7 @@ relinked_sound places ff fr ft now holds others free loose more total limit soun
     }
 
 -- a list gets a node, or is given up
-module _ (places : List Place) (ff fr ft : Option ℕ) (holds : List Hold) (free loose total limit k : ℕ) (h : Hold) (sound : IsSound places ff fr ft holds free loose total limit) (lt : k < length holds) (read : h ≡ get_or holds k h) where
+module _ (places : List Place) (ff fr ft : Option ℕ) (holds : List Hold) (free loose total limit k : ℕ) (h : Hold) (sound : AreSoundLists places ff fr ft holds free loose total limit) (lt : k < length holds) (read : h ≡ get_or holds k h) where
   same : hold_at holds k ≡ h
   same = hold_is holds k h lt read
 
@@ -108,12 +108,12 @@ module _ (places : List Place) (ff fr ft : Option ℕ) (holds : List Hold) (free
   first_same = ap (λ (o : Hold). o.first) same
 
   -- a plain place gets onto it
-  pub more_sound : (id : ℕ) (s d : Place) → d ≡ get_or places id d → id < length places → is_free_place d ≡ false → mark_of d ≡ plain → is_free_place s ≡ false → is_aside_place s ≡ false → is_kept_for place_kind (hold_at holds k).pin s ≡ true → next_of s ≡ h.first → IsSound (set places id s) ff fr ft (set holds k (with_first h id)) free loose (total + 1) limit
+  pub more_sound : (id : ℕ) (s d : Place) → d ≡ get_or places id d → id < length places → is_free_place d ≡ false → mark_of d ≡ plain → is_free_place s ≡ false → is_aside_place s ≡ false → is_kept_for place_kind (hold_at holds k).pin s ≡ true → next_of s ≡ h.first → AreSoundLists (set places id s) ff fr ft (set holds k (with_node_first h id)) free loose (total + 1) limit
   more_sound id s d at within was mark now off kept next =
-      subst (λ (o : Hold). IsSound (set places id s) ff fr ft (set holds k (with_first o id)) free loose (total + 1) limit) same
+      subst (λ (o : Hold). AreSoundLists (set places id s) ff fr ft (set holds k (with_node_first o id)) free loose (total + 1) limit) same
       (held_sound places ff fr ft holds free loose total limit id s d sound at k lt within was mark now off kept (next ∙ sym first_same))
 
-  pub emptied_sound : (pin : Option ℕ) → h.first ≡ None → IsSound places ff fr ft (set holds k (empty_hold pin)) free loose total limit
+  pub emptied_sound : (pin : Option ℕ) → h.first ≡ None → AreSoundLists places ff fr ft (set holds k (empty_hold pin)) free loose total limit
   emptied_sound pin none = record {
     free_list = sound.free_list;
     aside_list = sound.aside_list;
@@ -141,7 +141,7 @@ module _ (places : List Place) (ff fr ft : Option ℕ) (holds : List Hold) (free
         retired = λ d at. let here = place_of places h.last d within at in let one : on.0 ≡ d = cc in ap is_retired_place (sym one) ∙ (kept_pin place_kind (hold_at holds k).pin on.0 on.2).retired;
       }
 
-  pub released_sound : (pin : Option ℕ) (y : ℕ) (s d : Place) → h.first ≡ Some y → d ≡ get_or places h.last d → content_of s ≡ content_of d → s.state ≡ d.state → s.death ≡ d.death → next_of s ≡ ft → IsSound (set places h.last s) ff fr (Some y) (set holds k (empty_hold pin)) free (loose + h.count) total limit
+  pub released_sound : (pin : Option ℕ) (y : ℕ) (s d : Place) → h.first ≡ Some y → d ≡ get_or places h.last d → content_of s ≡ content_of d → s.state ≡ d.state → s.death ≡ d.death → next_of s ≡ ft → AreSoundLists (set places h.last s) ff fr (Some y) (set holds k (empty_hold pin)) free (loose + h.count) total limit
   released_sound pin y s d is at content state dies next =
       let last = has_last y is in
       let was = last.retired d at in
@@ -180,7 +180,7 @@ all_same n k x = elim (cases_lt k n) [
 ]
 
 -- a pool with no place
-empty_sound : (n limit : ℕ) → limit ≤ last_node + 1 → IsSound [] None None None (replicate n (empty_hold None)) 0 0 0 limit
+empty_sound : (n limit : ℕ) → limit ≤ last_node + 1 → AreSoundLists [] None None None (replicate n (empty_hold None)) 0 0 0 limit
 empty_sound n limit small = record {
   free_list = record { ids = []; chain = refl; once = λ x. omega arith; all = refl };
   aside_list = record { ids = []; chain = refl; once = λ x. omega arith; all = refl };
@@ -200,10 +200,10 @@ empty_sound n limit small = record {
   small = small;
 }
 
-pub none_sound : (places : List Place) (holds : List Hold) (limit : ℕ) → places ≡ [] → holds ≡ replicate (length holds) (empty_hold None) → limit ≤ last_node + 1 → IsSound places None None None holds 0 0 0 limit
+pub none_sound : (places : List Place) (holds : List Hold) (limit : ℕ) → places ≡ [] → holds ≡ replicate (length holds) (empty_hold None) → limit ≤ last_node + 1 → AreSoundLists places None None None holds 0 0 0 limit
 none_sound places holds limit none empty small =
-    subst (λ ps. IsSound ps None None None holds 0 0 0 limit) (sym none)
-    (subst (λ hs. IsSound [] None None None hs 0 0 0 limit) (sym empty) (empty_sound (length holds) limit small))
+    subst (λ ps. AreSoundLists ps None None None holds 0 0 0 limit) (sym none)
+    (subst (λ hs. AreSoundLists [] None None None hs 0 0 0 limit) (sym empty) (empty_sound (length holds) limit small))
 
 map-replicate : {A B : Type 0} (f : A → B) (n : ℕ) (x : A) → map f (replicate n x) ≡ replicate n (f x)
 map-replicate f zero x = refl
@@ -213,31 +213,31 @@ pub pins_empty : (holds : List Hold) → holds ≡ replicate (length holds) (emp
 pins_empty holds e = ap (map pin_of) e ∙ map-replicate pin_of (length holds) (empty_hold None)
 
 -- how many nodes each list has
-pub counts_at : (holds : List Hold) (k : ℕ) → get_or (map count_of holds) k 0 ≡ (hold_at holds k).count
+pub counts_at : (holds : List Hold) (k : ℕ) → get_or (map hold_count holds) k 0 ≡ (hold_at holds k).count
 counts_at [] k = refl
 counts_at (h ∷ holds) zero = refl
 counts_at (h ∷ holds) (suc k) = counts_at holds k
 
-pub counts_else : (holds : List Hold) (k other : ℕ) (h : Hold) → other ≢ k → get_or (map count_of (set holds k h)) other 0 ≡ get_or (map count_of holds) other 0
-counts_else holds k other h ne = rw (map-set count_of holds k h) (get_or-set_other (map count_of holds) k other h.count 0 ne)
+pub counts_else : (holds : List Hold) (k other : ℕ) (h : Hold) → other ≢ k → get_or (map hold_count (set holds k h)) other 0 ≡ get_or (map hold_count holds) other 0
+counts_else holds k other h ne = rw (map-set hold_count holds k h) (get_or-set_other (map hold_count holds) k other h.count 0 ne)
 
 -- and the list that was written has as many as were written
-pub counts_own : (holds : List Hold) (k : ℕ) (h : Hold) → k < length holds → get_or (map count_of (set holds k h)) k 0 ≡ h.count
-counts_own holds k h lt = rw (map-set count_of holds k h) (get_or-set_same (map count_of holds) k h.count 0 (omega (arith, lt, length-map holds count_of)))
+pub counts_own : (holds : List Hold) (k : ℕ) (h : Hold) → k < length holds → get_or (map hold_count (set holds k h)) k 0 ≡ h.count
+counts_own holds k h lt = rw (map-set hold_count holds k h) (get_or-set_same (map hold_count holds) k h.count 0 (omega (arith, lt, length-map holds hold_count)))
 
 -- the pin that is seen of a list, and how many nodes
 pub pin_shown : (p : Nodes) (holds : List Hold) (k : ℕ) (h : Hold) → p.pins ≡ map pin_of holds → k < length holds → h ≡ get_or holds k h → get_or p.pins k None ≡ h.pin
 pin_shown p holds k h pins lt read = ap (λ ps. get_or ps k None) pins ∙ pins_at holds k ∙ ap pin_of (hold_is holds k h lt read)
 
-pub held_shown : (p : Nodes) (holds : List Hold) (k : ℕ) (h : Hold) → p.held ≡ map count_of holds → k < length holds → h ≡ get_or holds k h → get_or p.held k 0 ≡ h.count
-held_shown p holds k h held lt read = ap (λ cs. get_or cs k 0) held ∙ counts_at holds k ∙ ap count_of (hold_is holds k h lt read)
+pub held_shown : (p : Nodes) (holds : List Hold) (k : ℕ) (h : Hold) → p.held ≡ map hold_count holds → k < length holds → h ≡ get_or holds k h → get_or p.held k 0 ≡ h.count
+held_shown p holds k h held lt read = ap (λ cs. get_or cs k 0) held ∙ counts_at holds k ∙ ap hold_count (hold_is holds k h lt read)
 
 -- what a list lets go: nothing where its pin stays, and else all that it has
 pub none_let_go : (p : Nodes) (holds : List Hold) (k : ℕ) (h : Hold) (pin : Option ℕ) → p.pins ≡ map pin_of holds → k < length holds → h ≡ get_or holds k h → option_eq eqb h.pin pin ≡ true → let_go p k pin ≡ 0
 none_let_go p holds k h pin pins lt read same =
     ap (λ o. cond {A = ℕ} (option_eq eqb o pin) 0 (get_or p.held k 0)) (pin_shown p holds k h pins lt read) ∙ ap (λ b. cond {A = ℕ} b 0 (get_or p.held k 0)) same
 
-pub all_let_go : (p : Nodes) (holds : List Hold) (k : ℕ) (h : Hold) (pin : Option ℕ) → p.pins ≡ map pin_of holds → p.held ≡ map count_of holds → k < length holds → h ≡ get_or holds k h → option_eq eqb h.pin pin ≡ false → let_go p k pin ≡ h.count
+pub all_let_go : (p : Nodes) (holds : List Hold) (k : ℕ) (h : Hold) (pin : Option ℕ) → p.pins ≡ map pin_of holds → p.held ≡ map hold_count holds → k < length holds → h ≡ get_or holds k h → option_eq eqb h.pin pin ≡ false → let_go p k pin ≡ h.count
 all_let_go p holds k h pin pins held lt read same =
     ap (λ o. cond {A = ℕ} (option_eq eqb o pin) 0 (get_or p.held k 0)) (pin_shown p holds k h pins lt read) ∙ ap (λ b. cond {A = ℕ} b 0 (get_or p.held k 0)) same ∙ held_shown p holds k h held lt read
 
@@ -245,4 +245,4 @@ all_let_go p holds k h pin pins held lt read same =
 pub none_counted : (places : List Place) (first : Option ℕ) (holds : List Hold) (loose total k : ℕ) (h : Hold) → AreRetired place_kind places first holds loose total → k < length holds → h ≡ get_or holds k h → h.first ≡ None → h.count ≡ 0
 none_counted places first holds loose total k h r lt read none =
     let same = hold_is holds k h lt read in
-    ap count_of (sym same) ∙ empty_count places first holds loose total r k (ap (λ (o : Hold). o.first) same ∙ none)
+    ap hold_count (sym same) ∙ empty_count places first holds loose total r k (ap (λ (o : Hold). o.first) same ∙ none)

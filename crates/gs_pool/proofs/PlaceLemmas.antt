@@ -11,7 +11,7 @@ use Rattle.gs_pool.specs.declared.places.State.TheVariants.{Free, Plain, AsideNo
 use Rattle.gs_pool.specs.Pool.{Nodes, NodeMark, plain, aside, retired, is_aside, is_retired, Marks}
 use Rattle.gs_pool.specs.Places.{content_of, next_of, node_in, mark_in, aside_state, retired_state, node_of, mark_of, is_free_place, is_aside_place, is_retired_place}
 use Rattle.gs_pool.specs.declared.holds.Hold.{Hold}
-use Rattle.gs_pool.specs.Lists.{place_kind, hold_at, with_first, is_kept_for, IsSound}
+use Rattle.gs_pool.specs.Lists.{place_kind, hold_at, with_node_first, is_kept_for, AreSoundLists}
 use Rattle.gs_pool.proofs.ListLemmas.{list_push, list_pop, list_off, count-set}
 use Rattle.gs_pool.proofs.RetireLemmas.{retired_off, retired_push, retired_pop, retired_hold}
 
@@ -143,7 +143,7 @@ pub mark_by : (s : Place) (st : State) (death : ℕ) → s.state ≡ st → s.de
 mark_by s st death state dies = ap (λ k. mark_in k s.death) state ∙ ap (mark_in st) dies
 
 -- the lists after a plain place gets onto one, or a place of one gets plain
-module _ (places : List Place) (ff fr ft : Option ℕ) (holds : List Hold) (free loose total limit id : ℕ) (s d : Place) (sound : IsSound places ff fr ft holds free loose total limit) (read : d ≡ get_or places id d) where
+module _ (places : List Place) (ff fr ft : Option ℕ) (holds : List Hold) (free loose total limit id : ℕ) (s d : Place) (sound : AreSoundLists places ff fr ft holds free loose total limit) (read : d ≡ get_or places id d) where
   fewer_free : id < length places → is_free_place d ≡ false → is_free_place s ≡ false → free ≡ count_by is_free_place (set places id s)
   fewer_free within was now =
       let counted = rw (was, now) at (count-set is_free_place places id s d within read) in omega (arith, sound.counted)
@@ -151,7 +151,7 @@ module _ (places : List Place) (ff fr ft : Option ℕ) (holds : List Hold) (free
   short : length (set places id s) ≤ limit
   short = omega (arith, length-set places id s, sound.short)
 
-  pub aside_sound : (death : ℕ) (whole : Bool) → id < length places → is_free_place d ≡ false → mark_of d ≡ plain → is_free_place s ≡ false → mark_of s ≡ aside death whole → next_of s ≡ fr → IsSound (set places id s) ff (Some id) ft holds free loose total limit
+  pub aside_sound : (death : ℕ) (whole : Bool) → id < length places → is_free_place d ≡ false → mark_of d ≡ plain → is_free_place s ≡ false → mark_of s ≡ aside death whole → next_of s ≡ fr → AreSoundLists (set places id s) ff (Some id) ft holds free loose total limit
   aside_sound death whole within was mark now new next = record {
     free_list = list_off next_of is_free_place places ff id s d sound.free_list within read was now;
     aside_list = list_push next_of is_aside_place places fr id s d sound.aside_list within read (ap is_aside mark) (ap is_aside new) next;
@@ -161,7 +161,7 @@ module _ (places : List Place) (ff fr ft : Option ℕ) (holds : List Hold) (free
     small = sound.small;
   }
 
-  pub retired_sound : (death : ℕ) (whole : Bool) → id < length places → is_free_place d ≡ false → mark_of d ≡ plain → is_free_place s ≡ false → mark_of s ≡ retired death whole → next_of s ≡ ft → IsSound (set places id s) ff fr (Some id) holds free (loose + 1) (total + 1) limit
+  pub retired_sound : (death : ℕ) (whole : Bool) → id < length places → is_free_place d ≡ false → mark_of d ≡ plain → is_free_place s ≡ false → mark_of s ≡ retired death whole → next_of s ≡ ft → AreSoundLists (set places id s) ff fr (Some id) holds free (loose + 1) (total + 1) limit
   retired_sound death whole within was mark now new next = record {
     free_list = list_off next_of is_free_place places ff id s d sound.free_list within read was now;
     aside_list = list_off next_of is_aside_place places fr id s d sound.aside_list within read (ap is_aside mark) (ap is_aside new);
@@ -171,7 +171,7 @@ module _ (places : List Place) (ff fr ft : Option ℕ) (holds : List Hold) (free
     small = sound.small;
   }
 
-  pub unaside_sound : fr ≡ Some id → is_free_place d ≡ false → is_retired_place d ≡ false → is_free_place s ≡ false → mark_of s ≡ plain → IsSound (set places id s) ff (next_of d) ft holds free loose total limit
+  pub unaside_sound : fr ≡ Some id → is_free_place d ≡ false → is_retired_place d ≡ false → is_free_place s ≡ false → mark_of s ≡ plain → AreSoundLists (set places id s) ff (next_of d) ft holds free loose total limit
   unaside_sound is was other now new =
       let pops = list_pop next_of is_aside_place places fr id s d sound.aside_list is read (ap is_aside new) in
       record {
@@ -183,7 +183,7 @@ module _ (places : List Place) (ff fr ft : Option ℕ) (holds : List Hold) (free
         small = sound.small;
       }
 
-  pub unretired_sound : ft ≡ Some id → is_free_place d ≡ false → is_aside_place d ≡ false → is_free_place s ≡ false → mark_of s ≡ plain → IsSound (set places id s) ff fr (next_of d) holds free (loose - 1) (total - 1) limit
+  pub unretired_sound : ft ≡ Some id → is_free_place d ≡ false → is_aside_place d ≡ false → is_free_place s ≡ false → mark_of s ≡ plain → AreSoundLists (set places id s) ff fr (next_of d) holds free (loose - 1) (total - 1) limit
   unretired_sound is was other now new =
       let pops = retired_pop places ft holds loose total sound.retired_lists id s d is read (ap is_retired new) in
       record {
@@ -195,7 +195,7 @@ module _ (places : List Place) (ff fr ft : Option ℕ) (holds : List Hold) (free
         small = sound.small;
       }
 
-  pub freed_sound : id < length places → is_free_place d ≡ false → mark_of d ≡ plain → is_free_place s ≡ true → mark_of s ≡ plain → next_of s ≡ ff → IsSound (set places id s) (Some id) fr ft holds (free + 1) loose total limit
+  pub freed_sound : id < length places → is_free_place d ≡ false → mark_of d ≡ plain → is_free_place s ≡ true → mark_of s ≡ plain → next_of s ≡ ff → AreSoundLists (set places id s) (Some id) fr ft holds (free + 1) loose total limit
   freed_sound within was mark now new next =
       let counted = rw (was, now) at (count-set is_free_place places id s d within read) in
       record {
@@ -207,7 +207,7 @@ module _ (places : List Place) (ff fr ft : Option ℕ) (holds : List Hold) (free
         small = sound.small;
       }
 
-  pub filled_sound : ff ≡ Some id → mark_of d ≡ plain → is_free_place s ≡ false → mark_of s ≡ plain → (0 < free) × IsSound (set places id s) (next_of d) fr ft holds (free - 1) loose total limit
+  pub filled_sound : ff ≡ Some id → mark_of d ≡ plain → is_free_place s ≡ false → mark_of s ≡ plain → (0 < free) × AreSoundLists (set places id s) (next_of d) fr ft holds (free - 1) loose total limit
   filled_sound is mark now new =
       let pops = list_pop next_of is_free_place places ff id s d sound.free_list is read now in
       let counted = rw (pops.was, now) at (count-set is_free_place places id s d pops.within read) in (
@@ -223,7 +223,7 @@ module _ (places : List Place) (ff fr ft : Option ℕ) (holds : List Hold) (free
       )
 
   -- a plain place is changed, and stays plain
-  pub changed_sound : id < length places → is_free_place d ≡ false → mark_of d ≡ plain → is_free_place s ≡ false → mark_of s ≡ plain → IsSound (set places id s) ff fr ft holds free loose total limit
+  pub changed_sound : id < length places → is_free_place d ≡ false → mark_of d ≡ plain → is_free_place s ≡ false → mark_of s ≡ plain → AreSoundLists (set places id s) ff fr ft holds free loose total limit
   changed_sound within was mark now new = record {
     free_list = list_off next_of is_free_place places ff id s d sound.free_list within read was now;
     aside_list = list_off next_of is_aside_place places fr id s d sound.aside_list within read (ap is_aside mark) (ap is_aside new);
@@ -234,7 +234,7 @@ module _ (places : List Place) (ff fr ft : Option ℕ) (holds : List Hold) (free
   }
 
   -- a plain place gets onto the list of a hold
-  pub held_sound : (k : ℕ) → k < length holds → id < length places → is_free_place d ≡ false → mark_of d ≡ plain → is_free_place s ≡ false → is_aside_place s ≡ false → is_kept_for place_kind (hold_at holds k).pin s ≡ true → next_of s ≡ (hold_at holds k).first → IsSound (set places id s) ff fr ft (set holds k (with_first (hold_at holds k) id)) free loose (total + 1) limit
+  pub held_sound : (k : ℕ) → k < length holds → id < length places → is_free_place d ≡ false → mark_of d ≡ plain → is_free_place s ≡ false → is_aside_place s ≡ false → is_kept_for place_kind (hold_at holds k).pin s ≡ true → next_of s ≡ (hold_at holds k).first → AreSoundLists (set places id s) ff fr ft (set holds k (with_node_first (hold_at holds k) id)) free loose (total + 1) limit
   held_sound k lt within was mark now off kept next = record {
     free_list = list_off next_of is_free_place places ff id s d sound.free_list within read was now;
     aside_list = list_off next_of is_aside_place places fr id s d sound.aside_list within read (ap is_aside mark) off;

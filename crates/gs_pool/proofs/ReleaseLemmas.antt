@@ -6,7 +6,7 @@ use Rattle.std.proofs.lemmas.List.Sums.{sum_by-set}
 use Rattle.std.proofs.lemmas.Option.{slice_get_within}
 use Rattle.std.specs.List.{sum_by}
 use Rattle.gs_pool.specs.declared.holds.Hold.{Hold}
-use Rattle.gs_pool.specs.Lists.{Kind, IsChain, times, empty_hold, hold_at, is_kept_for, last_of, IsHold, is_retired_at, AreRetired}
+use Rattle.gs_pool.specs.Lists.{Kind, IsChain, times, empty_hold, hold_at, is_kept_for, last_in_list, IsHold, is_retired_at, AreRetired}
 use Rattle.gs_pool.proofs.ListLemmas.{place_of, count-set, IsChain-set}
 use Rattle.gs_pool.proofs.ChainLemmas.{flag, flag_most, retired_was, retired_same, times_held, chain_on, chain_weaker, last_in, times_append, chain_join}
 use Rattle.gs_pool.proofs.HoldLemmas.{kept_retired, held_kept, each_set}
@@ -45,7 +45,7 @@ module _ {A : Type 0} {kind : Kind A} (items : List A) (first : Option ℕ) (hol
             let h = hold_at holds k in
             let z = h.last in
             let start : Some w ≡ Some y = sym i.chain.0 ∙ is in
-            let last : z ≡ last_of w ws = i.last in
+            let last : z ≡ last_in_list w ws = i.last in
             let in_it : 0 < times z (w ∷ ws) = subst (λ x. 0 < times x (w ∷ ws)) (sym last) (last_in w ws) in
             let on = chain_on kind.next (is_kept_for kind h.pin) items h.first (w ∷ ws) z i.chain in_it in
             let within = slice_get_within items z on.0 on.1 in

@@ -6,7 +6,7 @@ use Rattle.std.proofs.lemmas.List.Sums.{sum_by-set, sum_by_push}
 use Rattle.std.proofs.lemmas.Option.{slice_get_within}
 use Rattle.std.specs.List.{sum_by}
 use Rattle.gs_pool.specs.declared.holds.Hold.{Hold}
-use Rattle.gs_pool.specs.Lists.{Kind, IsChain, times, hold_at, with_first, is_kept_for, IsLast, IsHold, is_retired_at, AreRetired}
+use Rattle.gs_pool.specs.Lists.{Kind, IsChain, times, hold_at, with_node_first, is_kept_for, IsLast, IsHold, is_retired_at, AreRetired}
 use Rattle.gs_pool.proofs.ListLemmas.{times_same, times_other, place_of, written, count-set, IsChain-set, IsChain-push}
 use Rattle.gs_pool.proofs.ChainLemmas.{flag, retired_was, retired_here, retired_else, retired_same}
 use Rattle.gs_pool.proofs.HoldLemmas.{kept_retired, held_kept, each_set, off_one}
@@ -97,7 +97,7 @@ module _ {A : Type 0} {kind : Kind A} (items : List A) (first : Option ℕ) (hol
             }
 
     -- an element gets onto the list of a hold whose pin needs it
-    pub retired_hold : d ≡ get_or items id d → (k : ℕ) → k < length holds → id < length items → kind.is_retired d ≡ false → is_kept_for kind (hold_at holds k).pin s ≡ true → kind.next s ≡ (hold_at holds k).first → AreRetired kind (set items id s) first (set holds k (with_first (hold_at holds k) id)) loose (total + 1)
+    pub retired_hold : d ≡ get_or items id d → (k : ℕ) → k < length holds → id < length items → kind.is_retired d ≡ false → is_kept_for kind (hold_at holds k).pin s ≡ true → kind.next s ≡ (hold_at holds k).first → AreRetired kind (set items id s) first (set holds k (with_node_first (hold_at holds k) id)) loose (total + 1)
     retired_hold read k lt within was kept next =
         let h = hold_at holds k in
         let l = get_or r.held k [] in
@@ -105,13 +105,13 @@ module _ {A : Type 0} {kind : Kind A} (items : List A) (first : Option ℕ) (hol
         let none : times id r.ids + sum_by (times id) r.held ≡ 0 = omega (arith, r.once id, ap flag (retired_was kind.is_retired items id d within read ∙ was)) in
         let counted = rw (was, now) at (count-set kind.is_retired items id s d within read) in
         let lt_held : k < length r.held = omega (arith, r.many) in
-        let mine : IsHold kind (set items id s) (with_first h id) (id ∷ l) = with_more h l (r.each k) (off_one items first holds loose total r id k (omega (arith, none))) kept next in
+        let mine : IsHold kind (set items id s) (with_node_first h id) (id ∷ l) = with_more h l (r.each k) (off_one items first holds loose total r id k (omega (arith, none))) kept next in
         record {
           ids = r.ids;
           held = set r.held k (id ∷ l);
           chain = IsChain-set kind.next kind.is_retired items id s first r.ids (omega (arith, none)) r.chain;
-          many = length-set r.held k (id ∷ l) ∙ r.many ∙ sym (length-set holds k (with_first h id));
-          each = each_set kind (set items id s) holds r.held k (with_first h id) (id ∷ l) lt r.many mine (λ j ne. held_kept kind items holds r.held id s r.each j (off_one items first holds loose total r id j (omega (arith, none))));
+          many = length-set r.held k (id ∷ l) ∙ r.many ∙ sym (length-set holds k (with_node_first h id));
+          each = each_set kind (set items id s) holds r.held k (with_node_first h id) (id ∷ l) lt r.many mine (λ j ne. held_kept kind items holds r.held id s r.each j (off_one items first holds loose total r id j (omega (arith, none))));
           once = λ x. elim (cases_eq x id) [
             | inl here ↦ subst (λ y. times y r.ids + sum_by (times y) (set r.held k (id ∷ l)) ≡ flag (is_retired_at kind.is_retired (set items id s) y)) (sym here)
                 (omega (arith, none, times_same id l, sum_by-set (times id) r.held k (id ∷ l) [] lt_held, ap flag (retired_here kind.is_retired items id s within ∙ now)))
@@ -122,11 +122,11 @@ module _ {A : Type 0} {kind : Kind A} (items : List A) (first : Option ℕ) (hol
           total_is = omega (arith, r.total_is, counted);
         }
       where
-        last_more : (h : Hold) (l : List ℕ) → IsChain kind.next (is_kept_for kind h.pin) items h.first l → IsLast h.last l → IsLast (with_first h id).last (id ∷ l)
+        last_more : (h : Hold) (l : List ℕ) → IsChain kind.next (is_kept_for kind h.pin) items h.first l → IsLast h.last l → IsLast (with_node_first h id).last (id ∷ l)
         last_more h [] p last = ap (λ o. cond {A = ℕ} (is_some o) h.last id) (let e : h.first ≡ None = p in e)
         last_more h (y ∷ ys) p last = ap (λ o. cond {A = ℕ} (is_some o) h.last id) p.0 ∙ last
 
-        with_more : (h : Hold) (l : List ℕ) → IsHold kind items h l → times id l ≡ 0 → is_kept_for kind h.pin s ≡ true → kind.next s ≡ h.first → IsHold kind (set items id s) (with_first h id) (id ∷ l)
+        with_more : (h : Hold) (l : List ℕ) → IsHold kind items h l → times id l ≡ 0 → is_kept_for kind h.pin s ≡ true → kind.next s ≡ h.first → IsHold kind (set items id s) (with_node_first h id) (id ∷ l)
         with_more h l i off keeps onward = record {
           chain = (refl, (s, written items id s within, keeps, subst (λ o. IsChain kind.next (is_kept_for kind h.pin) (set items id s) o l) (sym onward) (IsChain-set kind.next (is_kept_for kind h.pin) items id s h.first l off i.chain)));
           last = last_more h l i.chain i.last;

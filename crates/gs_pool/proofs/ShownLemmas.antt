@@ -11,7 +11,7 @@ use Rattle.gs_pool.specs.declared.places.State.TheVariants.{Free, Plain, AsideNo
 use Rattle.gs_pool.specs.Pool.{Nodes, NodeMark, plain, aside, retired, is_aside, is_retired, Fills}
 use Rattle.gs_pool.specs.Places.{content_of, next_of, node_in, mark_in, is_whole, node_of, mark_of, is_free_place, is_aside_place}
 use Rattle.gs_pool.specs.declared.holds.Hold.{Hold}
-use Rattle.gs_pool.specs.Lists.{place_kind, IsListOf, AreRetired, IsSound}
+use Rattle.gs_pool.specs.Lists.{place_kind, IsListOf, AreRetired, AreSoundLists}
 use Rattle.gs_pool.proofs.ListLemmas.{list_pop, list_more, none_listed}
 use Rattle.gs_pool.proofs.RetireLemmas.{retired_pop, retired_more}
 use Rattle.gs_pool.proofs.PlaceLemmas.{Relists, relists, Writes, writes, mark_by}
@@ -104,7 +104,7 @@ pub record Filled (places : List Place) (id limit : ℕ) (s d : Place) (n : Node
   pub fills : (old new : Nodes) → old.nodes ≡ map node_of places → old.marks ≡ map mark_of places → new.nodes ≡ map node_of (set places id s) → new.marks ≡ map mark_of (set places id s) → new.limit ≡ limit → Fills old new id n
   pub fewer : count_by is_none (map node_of (set places id s)) + 1 ≡ count_by is_none (map node_of places)
 
-pub filled : (places : List Place) (ff fr ft : Option ℕ) (holds : List Hold) (free loose total limit id : ℕ) (s d : Place) (n : Node) → IsSound places ff fr ft holds free loose total limit → ff ≡ Some id → d ≡ get_or places id d → node_of s ≡ Some n → mark_of s ≡ plain → Filled places id limit s d n
+pub filled : (places : List Place) (ff fr ft : Option ℕ) (holds : List Hold) (free loose total limit id : ℕ) (s d : Place) (n : Node) → AreSoundLists places ff fr ft holds free loose total limit → ff ≡ Some id → d ≡ get_or places id d → node_of s ≡ Some n → mark_of s ≡ plain → Filled places id limit s d n
 filled places ff fr ft holds free loose total limit id s d n sound is read node mark =
     let pops = list_pop next_of is_free_place places ff id s d sound.free_list is read (ap is_none node) in
     let was = free_state d.state d.death (content_of d) pops.was in
@@ -155,7 +155,7 @@ pub record Pushed (places : List Place) (limit : ℕ) (s : Place) (n : Node) : T
   pub fills : (old new : Nodes) → old.nodes ≡ map node_of places → old.marks ≡ map mark_of places → new.nodes ≡ map node_of (places ++ s ∷ []) → new.marks ≡ map mark_of (places ++ s ∷ []) → new.limit ≡ limit → Fills old new (length places) n
   pub free : count_by is_none (map node_of (places ++ s ∷ [])) ≡ 0
 
-pub pushed : (places : List Place) (ff fr ft : Option ℕ) (holds : List Hold) (free loose total limit : ℕ) (s : Place) (n : Node) → IsSound places ff fr ft holds free loose total limit → ff ≡ None → length places < limit → node_of s ≡ Some n → mark_of s ≡ plain → Pushed places limit s n
+pub pushed : (places : List Place) (ff fr ft : Option ℕ) (holds : List Hold) (free loose total limit : ℕ) (s : Place) (n : Node) → AreSoundLists places ff fr ft holds free loose total limit → ff ≡ None → length places < limit → node_of s ≡ Some n → mark_of s ≡ plain → Pushed places limit s n
 pushed places ff fr ft holds free loose total limit s n sound none room node mark =
     let full : count_by is_none (map node_of places) ≡ 0 = Rattle.gs_pool.proofs.PlaceLemmas.count_shown is_none node_of places ∙ none_listed next_of is_free_place places ff sound.free_list none in
     let same : (x : ℕ) → get_or (map mark_of (places ++ s ∷ [])) x plain ≡ get_or (map mark_of places) x plain = λ x. elim (eqb x (length places)) as (λ b. eqb x (length places) ≡ b → get_or (map mark_of (places ++ s ∷ [])) x plain ≡ get_or (map mark_of places) x plain) [
@@ -187,7 +187,7 @@ pushed places ff fr ft holds free loose total limit s n sound none room node mar
       free = omega arith;
     }
 
-pub pushed_sound : (places : List Place) (ff fr ft : Option ℕ) (holds : List Hold) (free loose total limit : ℕ) (s : Place) (n : Node) → IsSound places ff fr ft holds free loose total limit → length places < limit → node_of s ≡ Some n → mark_of s ≡ plain → IsSound (places ++ s ∷ []) ff fr ft holds free loose total limit
+pub pushed_sound : (places : List Place) (ff fr ft : Option ℕ) (holds : List Hold) (free loose total limit : ℕ) (s : Place) (n : Node) → AreSoundLists places ff fr ft holds free loose total limit → length places < limit → node_of s ≡ Some n → mark_of s ≡ plain → AreSoundLists (places ++ s ∷ []) ff fr ft holds free loose total limit
 pushed_sound places ff fr ft holds free loose total limit s n sound room node mark =
     let counted = rw (ap is_none node) at (sum_by_push (λ p. cond (is_free_place p) 1 0) places s) in
     record {

@@ -11,8 +11,8 @@ abbrev pub pin_of : Hold → Option ℕ
 pin_of h = h.pin
 
 -- how many nodes a hold has
-abbrev pub count_of : Hold → ℕ
-count_of h = h.count
+abbrev pub hold_count : Hold → ℕ
+hold_count h = h.count
 
 -- a hold of no node, for a pin
 abbrev pub empty_hold : Option ℕ → Hold
@@ -23,12 +23,12 @@ abbrev pub hold_at : List Hold → ℕ → Hold
 hold_at holds k = slice_index_or holds k (empty_hold None)
 
 -- a hold with a node more, at its head
-abbrev pub with_first : Hold → ℕ → Hold
-with_first h id = record { pin = h.pin; first = Some id; last = if is_some h.first then h.last else id; count = h.count + 1 }
+abbrev pub with_node_first : Hold → ℕ → Hold
+with_node_first h id = record { pin = h.pin; first = Some id; last = if is_some h.first then h.last else id; count = h.count + 1 }
 
 -- the nodes of one hold before those of another, whose pin stays
-abbrev pub joined : Hold → Hold → Hold
-joined h g = record { pin = g.pin; first = h.first; last = if is_some g.first then g.last else h.last; count = h.count + g.count }
+abbrev pub joined_holds : Hold → Hold → Hold
+joined_holds h g = record { pin = g.pin; first = h.first; last = if is_some g.first then g.last else h.last; count = h.count + g.count }
 
 -- how often a number is in a list
 abbrev pub times : ℕ → List ℕ → ℕ
@@ -64,14 +64,14 @@ is_kept_for kind None s = false
 is_kept_for kind (Some v) s = kind.is_retired s && (nat_le (kind.birth s) v && nat_lt v (kind.death s))
 
 -- the last number of a list that begins with x
-abbrev pub last_of : ℕ → List ℕ → ℕ
-last_of x [] = x
-last_of x (y ∷ ys) = last_of y ys
+abbrev pub last_in_list : ℕ → List ℕ → ℕ
+last_in_list x [] = x
+last_in_list x (y ∷ ys) = last_in_list y ys
 
 -- the last number of a list, where it has any
 abbrev pub IsLast : ℕ → List ℕ → Type 0
 IsLast last [] = Unit {0}
-IsLast last (x ∷ xs) = last ≡ last_of x xs
+IsLast last (x ∷ xs) = last ≡ last_in_list x xs
 
 -- a hold has these numbers, each of which its pin needs
 pub record IsHold {A : Type 0} (kind : Kind A) (items : List A) (h : Hold) (ids : List ℕ) : Type 0 where
@@ -97,7 +97,7 @@ pub record AreRetired {A : Type 0} (kind : Kind A) (items : List A) (first : Opt
   pub total_is : total ≡ count_by kind.is_retired items
 
 -- each list is whole
-pub record IsSound (places : List Place) (first_free first_aside first_retired : Option ℕ) (holds : List Hold) (free loose total limit : ℕ) : Type 0 where
+pub record AreSoundLists (places : List Place) (first_free first_aside first_retired : Option ℕ) (holds : List Hold) (free loose total limit : ℕ) : Type 0 where
   pub free_list : IsListOf next_of is_free_place places first_free
   pub aside_list : IsListOf next_of is_aside_place places first_aside
   pub retired_lists : AreRetired place_kind places first_retired holds loose total

@@ -7,16 +7,16 @@ use Rattle.gs_pool.specs.declared.places.State.TheVariants.{Free, Plain, AsideNo
 use Rattle.gs_pool.specs.Pool.{NodeMark, plain, aside, retired, is_aside, is_retired}
 
 -- a number, where there is one
-abbrev pub number_if : Bool → ℕ → Option ℕ
-number_if has id = if has then Some id else None
+abbrev pub number_where : Bool → ℕ → Option ℕ
+number_where has id = if has then Some id else None
 
 -- the node of a place, whether it is in use or not
 abbrev pub content_of : Place → Node
-content_of s = record { key = s.key; left = number_if s.has_left s.left; right = number_if s.has_right s.right; height = s.height; birth = s.birth }
+content_of s = record { key = s.key; left = number_where s.has_left s.left; right = number_where s.has_right s.right; height = s.height; birth = s.birth }
 
 -- the next place of the list that a place is on
 abbrev pub next_of : Place → Option ℕ
-next_of s = number_if s.has_next s.next
+next_of s = number_where s.has_next s.next
 
 -- a node in this state, where the state is not free
 abbrev pub node_in : State → Node → Option Node
@@ -37,13 +37,13 @@ mark_in RetiredNode death = retired death false
 mark_in RetiredTree death = retired death true
 
 -- whether the state is that of a node in use that is on no list
-abbrev pub is_plain : State → Bool
-is_plain Free = false
-is_plain Plain = true
-is_plain AsideNode = false
-is_plain AsideTree = false
-is_plain RetiredNode = false
-is_plain RetiredTree = false
+abbrev pub is_plain_state : State → Bool
+is_plain_state Free = false
+is_plain_state Plain = true
+is_plain_state AsideNode = false
+is_plain_state AsideTree = false
+is_plain_state RetiredNode = false
+is_plain_state RetiredTree = false
 
 -- whether the state is that of a node that stands for all below it too
 abbrev pub is_whole : State → Bool

@@ -120,8 +120,8 @@ abbrev pub TakesRetired : Nodes → Nodes → Option Retired → Type 0
 TakesRetired old new taken = MatchOption taken (new ≡ old) (λ r. Unlists old new r.id (retired r.death r.whole))
 
 -- none is taken only where there were none, and else there is one fewer
-abbrev pub Counts : Option Retired → ℕ → ℕ → Type 0
-Counts taken before after = MatchOption taken (before ≡ 0) (λ _. after + 1 ≡ before)
+abbrev pub CountsRetired : Option Retired → ℕ → ℕ → Type 0
+CountsRetired taken before after = MatchOption taken (before ≡ 0) (λ _. after + 1 ≡ before)
 
 -- a number that was free has this node, and the plain node of another number is set aside
 pub record Replaces (old new : Nodes) (id copy : ℕ) (node : Node) : Type 0 where

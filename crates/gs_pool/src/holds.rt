@@ -1,6 +1,6 @@
 //! What a pin holds: retired nodes on a list of their own.
 ghost use Rattle.std.specs.Prelude.{◌≡◌, ◌<◌, ◌+◌, ◌^◌};
-ghost use Rattle.gs_pool.specs.Lists.{empty_hold, with_first, joined};
+ghost use Rattle.gs_pool.specs.Lists.{empty_hold, with_node_first, joined_holds};
 
 /// A list of retired nodes, each of which the version of one pin needs. Nobody looks at them until that
 /// pin has ended; then the whole list goes before that of another pin of the same version, or before the
@@ -30,7 +30,7 @@ impl Hold {
     /// The list with a node more, at its head.
     pub fn with_first(self, id: u32) -> Hold
         requires { self.count < 2 ^ 33 }
-        ensures { result ≡ with_first self id }
+        ensures { result ≡ with_node_first self id }
     {
         Hold {
             pin: self.pin,
@@ -42,7 +42,7 @@ impl Hold {
     /// The nodes of this list before those of another, whose pin stays.
     pub fn joined(self, other: Hold) -> Hold
         requires { self.count + other.count < 2 ^ 33 }
-        ensures { result ≡ joined self other }
+        ensures { result ≡ joined_holds self other }
     {
         Hold {
             pin: other.pin,

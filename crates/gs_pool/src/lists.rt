@@ -2,7 +2,7 @@
 ghost use Rattle.std.specs.Prelude.{◌≡◌, ◌+◌, ◌<◌, ◌≢◌, length, slice_set, slice_index_or, Option, Some, None, IsSome, MatchOption, true, false};
 ghost use Rattle.std.specs.Bool.{Decides};
 ghost use Rattle.gs_pool.specs.Pool.{node_at, mark_at, aside_count, retired_count, plain, retired};
-ghost use Rattle.gs_pool.specs.Pool.{Marks, TakesRetired, Counts};
+ghost use Rattle.gs_pool.specs.Pool.{Marks, TakesRetired, CountsRetired};
 ghost use Rattle.gs_pool.specs.Held.{IsNeededBy, AreHeld, let_go, KeepsLists, GivesAll, Exchanges};
 
 use crate::holds::Hold;
@@ -60,7 +60,7 @@ impl Pool {
     /// none is there, so that a pin needs each that is retired.
     pub fn next_retired(&mut self) -> Option<Retired>
         ensures takes { TakesRetired self.old self.new result }
-        ensures loose { Counts result self.old.loose self.new.loose }
+        ensures loose { CountsRetired result self.old.loose self.new.loose }
         ensures retired { MatchOption result (Unit {0})
             (λ _. retired_count self.new + 1 ≡ retired_count self.old) }
         ensures held { MatchOption result (AreHeld self.new) (λ _. Unit {0}) }

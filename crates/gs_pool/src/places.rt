@@ -1,7 +1,7 @@
 //! How a node lies in memory: 48 bytes.
 ghost use Rattle.std.specs.Prelude.{◌≡◌, Some, None, IsSome, is_some};
 ghost use Rattle.gs_pool.specs.Pool.{plain};
-ghost use Rattle.gs_pool.specs.Places.{node_of, mark_of, next_of, content_of, is_plain, is_whole, aside_state, retired_state, number_if};
+ghost use Rattle.gs_pool.specs.Places.{node_of, mark_of, next_of, content_of, is_plain_state, is_whole, aside_state, retired_state, number_where};
 
 use crate::nodes::{Key, Node};
 
@@ -59,7 +59,7 @@ pub struct Place {
 
 // The number, where there is one.
 fn optional(has: bool, id: u32) -> Option<u32>
-    ensures { result ≡ number_if has id }
+    ensures { result ≡ number_where has id }
 {
     if has { Some(id) } else { None }
 }
@@ -107,7 +107,7 @@ impl Place {
 
     /// Whether the place is in use and on no list.
     pub fn is_plain(&self) -> bool
-        ensures { result ≡ is_plain self.now.state }
+        ensures { result ≡ is_plain_state self.now.state }
     {
         matches!(self.state, State::Plain)
     }

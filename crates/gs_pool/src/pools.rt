@@ -3,7 +3,7 @@ ghost use Rattle.std.specs.Prelude.{◌≡◌, ℕ, ◌+◌, ◌<◌, ◌≤◌,
 ghost use Rattle.std.specs.Bool.{Decides};
 ghost use Rattle.gs_model.specs.Limits.{last_node};
 ghost use Rattle.gs_pool.specs.Pool.{node_at, mark_at, free_count, in_use, room, aside_count, retired_count, plain, aside, replaced, retired};
-ghost use Rattle.gs_pool.specs.Pool.{IsPlain, IsParted, Updates, Marks, KeepsMarks, Fills, Replaces, TakesAside, TakesRetired, Counts};
+ghost use Rattle.gs_pool.specs.Pool.{IsPlain, IsParted, Updates, Marks, KeepsMarks, Fills, Replaces, TakesAside, TakesRetired, CountsRetired};
 ghost use Rattle.gs_pool.specs.Held.{IsNeededBy, AreHeld, let_go, KeepsLists};
 ghost use Rattle.gs_pool.specs.Lists.{empty_hold};
 
@@ -40,7 +40,7 @@ impl Model for Pool {
     ghost Value = { Nodes };
 
     ghost use Rattle.gs_pool.specs.Places.{node_of, mark_of};
-    ghost use Rattle.gs_pool.specs.Lists.{pin_of, count_of, IsSound};
+    ghost use Rattle.gs_pool.specs.Lists.{pin_of, hold_count, AreSoundLists};
 
     ghost view = { λ p. record {
       nodes = map node_of p.places.items;
@@ -49,10 +49,10 @@ impl Model for Pool {
       limit = p.limit;
       loose = p.loose;
       pins = map pin_of p.holds.items;
-      held = map count_of p.holds.items;
+      held = map hold_count p.holds.items;
     } };
 
-    ghost invariant = { λ p. IsSound p.places.items p.first_free p.first_aside p.first_retired p.holds.items p.free p.loose p.retired p.limit };
+    ghost invariant = { λ p. AreSoundLists p.places.items p.first_free p.first_aside p.first_retired p.holds.items p.free p.loose p.retired p.limit };
 }
 
 impl Pool {
@@ -285,7 +285,7 @@ impl Pool {
     /// Takes a node that was set aside off its list: it is plain again. `None` says that none is there.
     pub fn next_aside(&mut self) -> Option<Retired>
         ensures takes { TakesAside self.old self.new result }
-        ensures none { Counts result (aside_count self.old) (aside_count self.new) }
+        ensures none { CountsRetired result (aside_count self.old) (aside_count self.new) }
         ensures retired { retired_count self.new ≡ retired_count self.old }
         ensures loose { self.new.loose ≡ self.old.loose }
         ensures pins { self.new.pins ≡ self.old.pins }

@@ -14,7 +14,7 @@ use Rattle.gs_event.specs.Phases.{Phase, Idle, Writing, Patching, Reading, opera
 use Rattle.gs_event.specs.Views.{Totals, FitsSeat}
 use Rattle.gs_event.specs.Histories.{History, OpenRead, Start, IsLegal, phase_of, operation_by, points_of, seat_view, view_of}
 use Rattle.gs_event.proofs.HistoryLemmas.{later}
-use Rattle.gs_protocol_laws.specs.GivenUp.{ends_upload, LeavesUpload, LeaveUpload, is_of, apart, OpenUploadsLeaveNothing, GivenUpUploadsLeaveNothing}
+use Rattle.gs_protocol_laws.specs.GivenUp.{ends_upload, LeavesUpload, LeaveUpload, is_of_seat, apart, OpenUploadsLeaveNothing, GivenUpUploadsLeaveNothing}
 use Rattle.gs_protocol_laws.proofs.FitLemmas.{legal_before, fits_phase}
 use Rattle.gs_protocol_laws.proofs.AlikeLemmas.{outline, AreAlike, asks_alike, phases_by, points_on}
 
@@ -115,7 +115,7 @@ other_since seat h k s action a ne z = record {
 }
 
 one_more : (seat : ℕ) (h k before : History) (e : Event) (a : Answer) (rest : History) → k ≡ rest ++ before → LeavesUpload seat e a → Since seat h k
-    → Since seat ((e, a) ∷ h) (cond (is_of seat e) rest ((e, a) ∷ rest) ++ before)
+    → Since seat ((e, a) ∷ h) (cond (is_of_seat seat e) rest ((e, a) ∷ rest) ++ before)
 one_more seat h k before (Reclaim n) a rest is l z =
     let same = subst (Since seat h) is z in
     record { opened = same.opened; alike = same.alike; points = same.points }
@@ -157,7 +157,7 @@ cancelled h (Patching t r) o = refl
 cancelled h (Reading left) o = absurd o
 
 -- as it was before it was opened, and as it is without its events
-still_idle : (seat : ℕ) (before rest : History) (e : Event) (a : Answer) → phase_of (rest ++ before) seat ≡ Idle → phase_of (cond (is_of seat e) rest ((e, a) ∷ rest) ++ before) seat ≡ Idle
+still_idle : (seat : ℕ) (before rest : History) (e : Event) (a : Answer) → phase_of (rest ++ before) seat ≡ Idle → phase_of (cond (is_of_seat seat e) rest ((e, a) ∷ rest) ++ before) seat ≡ Idle
 still_idle seat before rest (Reclaim n) a idle = idle
 still_idle seat before rest (At s action) a idle =
     elim (nat_eq s seat) as (λ b. nat_eq s seat ≡ b → phase_of (cond b rest ((At s action, a) ∷ rest) ++ before) seat ≡ Idle) [

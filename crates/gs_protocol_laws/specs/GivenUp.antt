@@ -26,14 +26,14 @@ LeaveUpload seat [] = Unit {0}
 LeaveUpload seat (x ∷ before) = LeaveUpload seat before × LeavesUpload seat x.0 x.1
 
 -- whether the event is one of this seat
-abbrev pub is_of : ℕ → Event → Bool
-is_of seat (Reclaim n) = false
-is_of seat (At s action) = nat_eq s seat
+abbrev pub is_of_seat : ℕ → Event → Bool
+is_of_seat seat (Reclaim n) = false
+is_of_seat seat (At s action) = nat_eq s seat
 
 -- these events but those of this seat
 abbrev pub apart : ℕ → History → History
 apart seat [] = []
-apart seat (x ∷ before) = cond (is_of seat x.0) (apart seat before) (x ∷ apart seat before)
+apart seat (x ∷ before) = cond (is_of_seat seat x.0) (apart seat before) (x ∷ apart seat before)
 
 -- A seat opened an upload or a patch, and did not commit it: the points are those of the history without all that the seat did since.
 abbrev pub OpenUploadsLeaveNothing : Type 0

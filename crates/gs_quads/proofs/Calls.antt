@@ -7,7 +7,7 @@ use Rattle.gs_index.specs.declared.entries.Entry.{Entry}
 use Rattle.gs_index.specs.Ages.{age_of}
 use Rattle.gs_records.specs.Records.{Record, free, opened, unused, kept, Recorded, record_at, has_at, is_kept, ended_entry, ended}
 use Rattle.gs_records.specs.Order.{entry_of}
-use Rattle.gs_records.specs.Calls.{made, is_nothing, placed}
+use Rattle.gs_records.specs.Calls.{made_record, is_nothing, placed}
 use Rattle.gs_records.specs.Reclaims.{IsUnneeded, StaysOrGoes}
 use Rattle.gs_records.proofs.Lifetimes.{EndedCases, ends, stays, ended_cases, target-ended, version-ended, has-ended}
 use Rattle.gs_records.proofs.Dropping.{unneeded_had}
@@ -70,7 +70,7 @@ ended_later v t death (kept e) lt = record {
 placed_later : (v : ℕ) (t : Target) (g : GraphVersion) (commit : ℕ) → v < commit → had v (placed t g commit) ≡ false
 placed_later v t g commit lt = go (is_nothing t g)
   where
-    go : (b : Bool) → had v (cond b unused (made t g commit)) ≡ false
+    go : (b : Bool) → had v (cond b unused (made_record t g commit)) ≡ false
     go true = refl
     go false = ap (λ b. b && true) (lt-leb commit v lt)
 

@@ -9,10 +9,10 @@ use Rattle.std.proofs.lemmas.List.Elements.{filter-append}
 use Rattle.std.proofs.lemmas.List.Kept.{IsStrictlySortedBy-filter}
 use Rattle.std.proofs.lemmas.Map.Views.{exact_unsigned_eq}
 use Rattle.std.proofs.lemmas.Option.{slice_get-get_or, get_or_from_slice_get}
-use Rattle.gs_index.specs.Ages.{number_cmp}
+use Rattle.gs_index.specs.Ages.{aged_number_cmp}
 use Rattle.gs_index.specs.Indexes.{is_listed, after_number, numbers_after}
 use Rattle.gs_records.specs.Records.{Record, Recorded}
-use Rattle.gs_records.specs.Order.{has_number, age_at, AreListed, goes_on}
+use Rattle.gs_records.specs.Order.{has_number, age_at, AreListed, search_goes_on}
 use Rattle.gs_records.specs.Laws.{piece_after}
 use Rattle.gs_records.proofs.Listing.{same_number}
 use Rattle.gs_records.proofs.Ordering.{number_tied}
@@ -55,17 +55,17 @@ listed_there n (x ∷ xs) ys = go (x == n) (listed_there n xs ys)
 
 module _ (rs : List Record) where
   -- after a number stands what follows it, where all numbers rise
-  after_here : (n : ℕ) (xs ys : List ℕ) → IsStrictlySortedBy (number_cmp (age_at rs)) (xs ++ n ∷ ys) → after_number n (xs ++ n ∷ ys) ≡ ys
+  after_here : (n : ℕ) (xs ys : List ℕ) → IsStrictlySortedBy (aged_number_cmp (age_at rs)) (xs ++ n ∷ ys) → after_number n (xs ++ n ∷ ys) ≡ ys
   unfolding IsStrictlySortedBy
   after_here n [] ys s = ap (λ b. cond b ys (after_number n ys)) (same_number n)
   after_here n (x ∷ xs) ys s = elim (cases_Bool (x == n)) [
     | inl here ↦
-        let less : number_cmp (age_at rs) x n ≡ Less = all_there (λ k. number_cmp (age_at rs) x k ≡ Less) xs n ys s.0 in
-        absurd (number_tied (age_at rs) n (ap (λ k. number_cmp (age_at rs) k n) (sym (exact_unsigned_eq x n here)) ∙ less))
+        let less : aged_number_cmp (age_at rs) x n ≡ Less = all_there (λ k. aged_number_cmp (age_at rs) x k ≡ Less) xs n ys s.0 in
+        absurd (number_tied (age_at rs) n (ap (λ k. aged_number_cmp (age_at rs) k n) (sym (exact_unsigned_eq x n here)) ∙ less))
     | inr off ↦ ap (λ b. cond b (xs ++ n ∷ ys) (after_number n (xs ++ n ∷ ys))) off ∙ after_here n xs ys s.1
   ]
 
-  module _ (ns : List ℕ) (sorted : IsStrictlySortedBy (number_cmp (age_at rs)) ns) (from : Option ℕ) (xs : List ℕ) (n : ℕ) (ys : List ℕ) (cut : numbers_after from ns ≡ xs ++ n ∷ ys) where
+  module _ (ns : List ℕ) (sorted : IsStrictlySortedBy (aged_number_cmp (age_at rs)) ns) (from : Option ℕ) (xs : List ℕ) (n : ℕ) (ys : List ℕ) (cut : numbers_after from ns ≡ xs ++ n ∷ ys) where
     -- the list, cut at the number
     whole : ns ≡ ((end_from from ns).before ++ xs) ++ n ∷ ys
     whole =
@@ -76,7 +76,7 @@ module _ (rs : List Record) where
     pub after_cut : after_number n ns ≡ ys
     after_cut =
         let front = (end_from from ns).before ++ xs in
-        ap (after_number n) whole ∙ after_here n front ys (subst (IsStrictlySortedBy (number_cmp (age_at rs))) whole sorted)
+        ap (after_number n) whole ∙ after_here n front ys (subst (IsStrictlySortedBy (aged_number_cmp (age_at rs))) whole sorted)
 
     -- it is listed
     pub listed_cut : is_listed n ns ≡ true
@@ -95,8 +95,8 @@ after_filter p n passes (m ∷ ms) = go (m == n) refl (p m) refl (after_filter p
     go false is false has rest = rest
 
 -- the numbers of a version are in order
-pub numbers_sorted : (v : ℕ) (r : Recorded) → AreListed r.records r.listed → IsStrictlySortedBy (number_cmp (age_at r.records)) (version_numbers v r)
-numbers_sorted v r al = IsStrictlySortedBy-filter (number_cmp (age_at r.records)) (has_number v r.records) r.listed al.rising
+pub numbers_sorted : (v : ℕ) (r : Recorded) → AreListed r.records r.listed → IsStrictlySortedBy (aged_number_cmp (age_at r.records)) (version_numbers v r)
+numbers_sorted v r al = IsStrictlySortedBy-filter (aged_number_cmp (age_at r.records)) (has_number v r.records) r.listed al.rising
 
 -- and the version has them
 pub numbers_had : (v : ℕ) (r : Recorded) → All (λ n. has_number v r.records n ≡ true) (version_numbers v r)
@@ -112,7 +112,7 @@ had_after P n (m ∷ ms) h = go (m == n) (had_after P n ms h.1)
     go false rest = rest
 
 -- where a search for so many goes on, its last number is cut out
-goes_cut : (most n : ℕ) (xs : List ℕ) → 0 < most → goes_on most (take most xs) ≡ Some n → xs ≡ take (most - 1) xs ++ n ∷ drop most xs
+goes_cut : (most n : ℕ) (xs : List ℕ) → 0 < most → search_goes_on most (take most xs) ≡ Some n → xs ≡ take (most - 1) xs ++ n ∷ drop most xs
 goes_cut most n xs some e = elim (cases_Bool (ltb (length (take most xs)) most)) [
   | inl few ↦ absurd (let bad : None ≡ Some n = sym (ap (λ b. cond b None (slice_get (take most xs) (length (take most xs) - 1))) few) ∙ e in cc)
   | inr many ↦
@@ -128,7 +128,7 @@ goes_cut most n xs some e = elim (cases_Bool (ltb (length (take most xs)) most))
 ]
 
 -- where it ends, it gave all
-ends_whole : (most : ℕ) (xs : List ℕ) → 0 < most → goes_on most (take most xs) ≡ None → take most xs ≡ xs
+ends_whole : (most : ℕ) (xs : List ℕ) → 0 < most → search_goes_on most (take most xs) ≡ None → take most xs ≡ xs
 ends_whole most xs some e = elim (cases_Bool (ltb (length (take most xs)) most)) [
   | inl few ↦
       let lt : length (take most xs) < most = ltb-true (length (take most xs)) most few in
@@ -149,7 +149,7 @@ module _ (most v : ℕ) (r : Recorded) (some : 0 < most) (al : AreListed r.recor
   has = has_number v r.records
 
   -- what a search for so many numbers gave are the next ones
-  pub next_are : (on : Option ℕ) → numbers ≡ filter has (piece_after most from r.listed) → on ≡ goes_on most (piece_after most from r.listed) → AreNext v r from numbers on
+  pub next_are : (on : Option ℕ) → numbers ≡ filter has (piece_after most from r.listed) → on ≡ search_goes_on most (piece_after most from r.listed) → AreNext v r from numbers on
   next_are None is on_is = record {
     first = ap (filter has) (sym (ends_whole most xs some (sym on_is))) ∙ sym is ∙ sym (append-nil numbers);
     had = subst (All (λ n. has n ≡ true)) (sym is) (filter_passes has (take most xs));

@@ -15,7 +15,7 @@ use Rattle.gs_tree.proofs.KeysAfter.{left_after}
 use Rattle.gs_keys.specs.Texts.{key_cmp, key_total, IsGiven}
 use Rattle.gs_lines.specs.Pieces.{keys_left}
 use Rattle.gs_lines.proofs.PieceLemmas.{ends, goes_on, last_taken, any_key, left_given}
-use Rattle.gs_index.specs.Ages.{number_cmp}
+use Rattle.gs_index.specs.Ages.{aged_number_cmp}
 use Rattle.gs_index.specs.Indexes.{after_number}
 use Rattle.gs_records.specs.Records.{Recorded}
 use Rattle.gs_records.specs.Order.{has_number, age_at, AreListed}
@@ -99,7 +99,7 @@ module _ (terms : List Term) (p : Nodes) (v : ℕ) (r : Recorded) (graphs : AreG
     ns = version_numbers v r
 
     -- they are in order
-    sorted : IsStrictlySortedBy (number_cmp (age_at r.records)) ns
+    sorted : IsStrictlySortedBy (aged_number_cmp (age_at r.records)) ns
     sorted = numbers_sorted v r al
 
     -- after a key of a record come its other keys, and those of the numbers after it

@@ -7,9 +7,9 @@ use Rattle.std.specs.declared.cmp.Ordering.TheVariants.{Less}
 use Rattle.std.proofs.lemmas.Bool.{cases_Bool}
 use Rattle.std.proofs.lemmas.List.Elements.{All-weaker, recursion_from_All}
 use Rattle.std.proofs.lemmas.Map.Views.{exact_unsigned_eq}
-use Rattle.gs_index.specs.Ages.{Age, age_cmp, number_cmp, key_total}
+use Rattle.gs_index.specs.Ages.{Age, age_cmp, aged_number_cmp, aged_key_total}
 use Rattle.gs_index.specs.Indexes.{is_listed}
-use Rattle.gs_index.specs.Kept.{key_of}
+use Rattle.gs_index.specs.Kept.{number_key}
 use Rattle.gs_records.specs.Records.{Recorded, record_at, is_kept, has_at}
 use Rattle.gs_records.specs.Order.{entry_of, has_number, age_at, AreListed}
 use Rattle.gs_records.proofs.Listing.{same_number, all_less}
@@ -28,18 +28,18 @@ later_listed x y xs off = ap (λ b. b || is_listed y xs) off
 
 module _ (age : ℕ → Age) where
   -- no two numbers come each before the other
-  less_twice : (m n : ℕ) → number_cmp age m n ≡ Less → number_cmp age n m ≡ Less → ⊥
-  less_twice m n a b = number_tied age m ((key_total age).trans (key_of m) (key_of n) (key_of m) a b)
+  less_twice : (m n : ℕ) → aged_number_cmp age m n ≡ Less → aged_number_cmp age n m ≡ Less → ⊥
+  less_twice m n a b = number_tied age m ((aged_key_total age).trans (number_key m) (number_key n) (number_key m) a b)
 
   -- a number is not among those above it
-  not_above : (n : ℕ) (ns : List ℕ) → AllByRecursion (λ m. number_cmp age n m ≡ Less) ns → is_listed n ns ≡ false
+  not_above : (n : ℕ) (ns : List ℕ) → AllByRecursion (λ m. aged_number_cmp age n m ≡ Less) ns → is_listed n ns ≡ false
   not_above n ns above = go (is_listed n ns) refl
     where
       go : (b : Bool) → is_listed n ns ≡ b → is_listed n ns ≡ false
-      go true is = absurd (number_tied age n (all_less (number_cmp age) n n ns above is))
+      go true is = absurd (number_tied age n (all_less (aged_number_cmp age) n n ns above is))
       go false is = is
 
-  module _ (x y : ℕ) (xs ys : List ℕ) (above_x : AllByRecursion (λ m. number_cmp age x m ≡ Less) xs) (above_y : AllByRecursion (λ m. number_cmp age y m ≡ Less) ys) (same : (n : ℕ) → is_listed n (x ∷ xs) ≡ is_listed n (y ∷ ys)) where
+  module _ (x y : ℕ) (xs ys : List ℕ) (above_x : AllByRecursion (λ m. aged_number_cmp age x m ≡ Less) xs) (above_y : AllByRecursion (λ m. aged_number_cmp age y m ≡ Less) ys) (same : (n : ℕ) → is_listed n (x ∷ xs) ≡ is_listed n (y ∷ ys)) where
     -- the first of both are the same
     first_same : x ≡ y
     first_same = elim (cases_Bool (x == y)) [
@@ -49,7 +49,7 @@ module _ (age : ℕ → Age) where
         | inr back ↦
             let y_later : is_listed y xs ≡ true = sym (later_listed x y xs off) ∙ same y ∙ first_listed y ys in
             let x_later : is_listed x ys ≡ true = sym (later_listed y x ys back) ∙ sym (same x) ∙ first_listed x xs in
-            absurd (less_twice x y (all_less (number_cmp age) x y xs above_x y_later) (all_less (number_cmp age) y x ys above_y x_later))
+            absurd (less_twice x y (all_less (aged_number_cmp age) x y xs above_x y_later) (all_less (aged_number_cmp age) y x ys above_y x_later))
       ]
     ]
 
@@ -66,7 +66,7 @@ module _ (age : ℕ → Age) where
     ]
 
   -- lists with the same members are the same
-  pub same_members : (xs ys : List ℕ) → IsStrictlySortedBy (number_cmp age) xs → IsStrictlySortedBy (number_cmp age) ys → ((n : ℕ) → is_listed n xs ≡ is_listed n ys) → xs ≡ ys
+  pub same_members : (xs ys : List ℕ) → IsStrictlySortedBy (aged_number_cmp age) xs → IsStrictlySortedBy (aged_number_cmp age) ys → ((n : ℕ) → is_listed n xs ≡ is_listed n ys) → xs ≡ ys
   unfolding IsStrictlySortedBy
   same_members [] [] sx sy same = refl
   same_members [] (y ∷ ys) sx sy same = absurd (true≢false (sym (same y ∙ first_listed y ys)))
@@ -77,15 +77,15 @@ module _ (age : ℕ → Age) where
       λ i. first i ∷ rest i
 
 -- numbers in one order are in another that orders them alike
-all_alike : (f g : ℕ → Age) (n : ℕ) (ns : List ℕ) → f n ≡ g n → AllByRecursion (λ m. f m ≡ g m) ns → AllByRecursion (λ m. number_cmp f n m ≡ Less) ns → AllByRecursion (λ m. number_cmp g n m ≡ Less) ns
+all_alike : (f g : ℕ → Age) (n : ℕ) (ns : List ℕ) → f n ≡ g n → AllByRecursion (λ m. f m ≡ g m) ns → AllByRecursion (λ m. aged_number_cmp f n m ≡ Less) ns → AllByRecursion (λ m. aged_number_cmp g n m ≡ Less) ns
 all_alike f g n [] is alike h = tt
 all_alike f g n (m ∷ ms) is alike h =
     let other : f m ≡ g m = alike.0 in
-    let eq : number_cmp f n m ≡ number_cmp g n m = λ i. ordering_then (age_cmp (is i) (other i)) (nat_cmp m n) in
+    let eq : aged_number_cmp f n m ≡ aged_number_cmp g n m = λ i. ordering_then (age_cmp (is i) (other i)) (nat_cmp m n) in
     (sym eq ∙ h.0, all_alike f g n ms is alike.1 h.1)
 
 -- the same of a whole list
-pub sorted_alike : (f g : ℕ → Age) (ns : List ℕ) → AllByRecursion (λ n. f n ≡ g n) ns → IsStrictlySortedBy (number_cmp f) ns → IsStrictlySortedBy (number_cmp g) ns
+pub sorted_alike : (f g : ℕ → Age) (ns : List ℕ) → AllByRecursion (λ n. f n ≡ g n) ns → IsStrictlySortedBy (aged_number_cmp f) ns → IsStrictlySortedBy (aged_number_cmp g) ns
 unfolding IsStrictlySortedBy
 sorted_alike f g [] alike s = tt
 sorted_alike f g (n ∷ ns) alike s = (all_alike f g n ns alike.0 alike.1 s.0, sorted_alike f g ns alike.1 s.1)

@@ -15,7 +15,7 @@ use Rattle.gs_pool.specs.Pool.{Nodes}
 use Rattle.gs_tree.specs.Reading.{keys_at}
 use Rattle.gs_tree.proofs.FromLemmas.{from_all}
 use Rattle.gs_keys.specs.Texts.{key_cmp}
-use Rattle.gs_keys.specs.Roots.{graph_at}
+use Rattle.gs_keys.specs.Roots.{graph_of_root}
 use Rattle.gs_keys.proofs.KeyLemmas.{triples_of_keys}
 use Rattle.gs_lines.specs.Graphs.{line_for, line_in}
 use Rattle.gs_lines.proofs.LineLemmas.{lines_of_triples}
@@ -62,7 +62,7 @@ module _ (terms : List Term) (p : Nodes) where
         ∙ (λ i. lines_of_one n h.0 i ++ lines_of_all ns h.1 i)
 
   -- a root of no tree has no line
-  lines_of_none : lines_of (graph_at terms p None) ≡ []
+  lines_of_none : lines_of (graph_of_root terms p None) ≡ []
   lines_of_none = ap (map line_of) (triples_of_keys terms [] tt tt)
 
   -- the lines of the default graph, where it is there

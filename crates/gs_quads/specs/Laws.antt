@@ -12,8 +12,8 @@ use Rattle.gs_datasets.specs.Standing.{dataset_at}
 use Rattle.gs_records.specs.Records.{Record, opened, Recorded, record_at}
 use Rattle.gs_records.specs.Graphs.{graphs_at}
 use Rattle.gs_records.specs.Kept.{AreSingle}
-use Rattle.gs_records.specs.Calls.{Opens, GivesUp, Removes, Puts}
-use Rattle.gs_records.specs.Reclaims.{Reclaims}
+use Rattle.gs_records.specs.Calls.{Opens, GivesUp, RemovesVersion, MakesCurrent}
+use Rattle.gs_records.specs.Reclaims.{ReclaimsRecords}
 use Rattle.gs_records.specs.Order.{entry_of, has_number, age_at, AreListed, graph_of_number}
 use Rattle.gs_quads.specs.declared.pieces.QuadPiece.{QuadPiece}
 use Rattle.gs_quads.specs.Places.{Place, root_at, quads_left}
@@ -90,11 +90,11 @@ pub record CallsKeep (v : ℕ) : Type 0 where
   pub then : (old mid new : Recorded) → HasSame v old mid → HasSame v mid new → HasSame v old new
   pub opens : (old new : Recorded) (n : ℕ) → Opens old new n → HasSame v old new
   pub gives_up : (old new : Recorded) (n : ℕ) → record_at old.records n ≡ opened → GivesUp old new n → HasSame v old new
-  pub removes : (old new : Recorded) (t : Target) (commit : ℕ) → v < commit → Removes old new t commit → HasSame v old new
+  pub removes : (old new : Recorded) (t : Target) (commit : ℕ) → v < commit → RemovesVersion old new t commit → HasSame v old new
   pub puts : (old new : Recorded) (n : ℕ) (t : Target) (g : GraphVersion) (commit : ℕ) → v < commit
-      → record_at old.records n ≡ opened → Puts old new n t g commit → HasSame v old new
+      → record_at old.records n ≡ opened → MakesCurrent old new n t g commit → HasSame v old new
   pub reclaims : (old new : Recorded) (pins : List (Option ℕ)) (seat most freed : ℕ) (left : Bool)
-      → slice_index_or pins seat None ≡ Some v → Reclaims pins most freed left old new → HasSame v old new
+      → slice_index_or pins seat None ≡ Some v → ReclaimsRecords pins most freed left old new → HasSame v old new
 
 -- so it is with each version
 abbrev pub CallsKeepVersions : Type 0

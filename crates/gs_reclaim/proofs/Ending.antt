@@ -15,7 +15,7 @@ use Rattle.gs_ledger.specs.Marks.{death_of, dead_at, waste_at}
 use Rattle.gs_ledger.specs.Ledger.{IsDead}
 use Rattle.gs_ledger.proofs.Retiring.{none_aside}
 use Rattle.std.specs.Bool.{Decides}
-use Rattle.gs_reclaim.specs.Reclaims.{HasLedger, KeepsLedgers, Reclaims}
+use Rattle.gs_reclaim.specs.Reclaims.{HasMarkedLedger, KeepsLedgers, Reclaims}
 use Rattle.gs_reclaim.specs.Holders.{Agrees, KeepsDead}
 use Rattle.gs_reclaim.proofs.Reclaiming.{none_retired, same_ledgers, same_waste, ledger_now, freed_exact, in_use_falls}
 
@@ -78,14 +78,14 @@ no_more n none = elim (cases_lt 0 n) [
   | inr few ↦ omega (arith, few)
 ]
 
-left_is : (v : Pins) (p : Nodes) (left : Bool) → HasLedger p v → aside_count p ≡ 0 → Decides left (0 < retired_count p) → IsTrue left ↔ (waste_at p ≢ [])
+left_is : (v : Pins) (p : Nodes) (left : Bool) → HasMarkedLedger p v → aside_count p ≡ 0 → Decides left (0 < retired_count p) → IsTrue left ↔ (waste_at p ≢ [])
 left_is v p true h none some =
     let found = retired_found p.marks (some.0 refl) in
     (λ t. some_lives (dead_at p) found.0 (omega (arith, h.ledger.marks found.0, retired_not_plain (mark_at p found.0) found.1)), λ e. refl)
 left_is v p false h none zero_left = (λ t. absurd (cc), λ e. absurd (e (no_lives p v.commit (dead_at p) h.ledger.waste none (no_more (retired_count p) zero_left))))
 
 -- What a reclaim makes of the waste, from what its parts did.
-module _ (v : Pins) (p0 p q : Nodes) (n freed : ℕ) (left : Bool) (h : HasLedger p0 v) (k : Reclaims v p0 p freed) (most : freed ≤ n) (all : (freed ≡ n) ⊎ AreHeld p) (agrees : Agrees p v) (dead : KeepsDead p q) where
+module _ (v : Pins) (p0 p q : Nodes) (n freed : ℕ) (left : Bool) (h : HasMarkedLedger p0 v) (k : Reclaims v p0 p freed) (most : freed ≤ n) (all : (freed ≡ n) ⊎ AreHeld p) (agrees : Agrees p v) (dead : KeepsDead p q) where
   pub ended_ledgers : KeepsLedgers v p0 q
   ended_ledgers gs us rs l = same_ledgers v p q (keeps_nodes p q dead) dead.deaths gs us rs (k.ledgers gs us rs l)
 

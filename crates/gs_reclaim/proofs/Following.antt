@@ -10,7 +10,7 @@ use Rattle.gs_pool.specs.Held.{let_go, KeepsLists, GivesAll, Exchanges}
 use Rattle.gs_pool.proofs.FollowLemmas.{pin_within, same_pin}
 use Rattle.gs_versions.specs.Pins.{Pins, is_pinned, FindsSeat}
 use Rattle.gs_ledger.specs.Marks.{death_of}
-use Rattle.gs_reclaim.specs.Holders.{AgreesAt, Agrees, let_go_of, let_go_at, IsHolder, FindsHolder, sum_below, let_go_by, KeepsDead, Follows}
+use Rattle.gs_reclaim.specs.Holders.{AgreesAt, Agrees, let_go_of, let_go_at, IsHolder, FindsHolder, sum_below, let_go_by, KeepsDead, FollowsPin}
 
 -- sums of what is the same, of what is no more, and of what is nothing
 sum_same : (n : ℕ) (f g : ℕ → ℕ) → ((k : ℕ) → k < n → f k ≡ g k) → sum_below n f ≡ sum_below n g
@@ -102,11 +102,11 @@ pub aside_kept : (p q : Nodes) → q.marks ≡ p.marks → aside_count q ≡ asi
 aside_kept p q marks = ap (λ ms. Rattle.std.proofs.Common.count_by is_aside ms) marks
 
 -- a list that agrees has followed
-pub follows_same : (p : Nodes) (v : Pins) (list : ℕ) → AgreesAt p v list → Follows v p p list true
+pub follows_same : (p : Nodes) (v : Pins) (list : ℕ) → AgreesAt p v list → FollowsPin v p p list true
 follows_same p v list at = record { nodes = refl; marks = refl; spare = refl; limit = refl; many = refl; agreed = λ s e. e; loose = refl; turned = at }
 
 -- a list follows its pin, and lets go just what no seat needs
-pub follows_pin : (p q : Nodes) (v : Pins) (list : ℕ) (pin : Option ℕ) → list < length p.pins → pin ≡ get_or v.seats list None → q.nodes ≡ p.nodes → q.marks ≡ p.marks → q.spare ≡ p.spare → q.limit ≡ p.limit → q.pins ≡ set p.pins list pin → q.loose ≡ p.loose + let_go p list pin → KeepsLists p q list → let_go p list pin ≡ let_go_at p v list → Follows v p q list true
+pub follows_pin : (p q : Nodes) (v : Pins) (list : ℕ) (pin : Option ℕ) → list < length p.pins → pin ≡ get_or v.seats list None → q.nodes ≡ p.nodes → q.marks ≡ p.marks → q.spare ≡ p.spare → q.limit ≡ p.limit → q.pins ≡ set p.pins list pin → q.loose ≡ p.loose + let_go p list pin → KeepsLists p q list → let_go p list pin ≡ let_go_at p v list → FollowsPin v p q list true
 follows_pin p q v list pin lt is nodes marks spare limit pins loose held goes =
     let n = length p.pins in
     let many : length q.pins ≡ n = ap length pins ∙ length-set p.pins list pin in
@@ -166,7 +166,7 @@ holder_go p q v list other h same pins hands =
     let_go_as q v n (ap length pins) ∙ sum_same n go (let_go_at p v) each
 
 -- the list of a pin that ended goes to a seat that has its version pinned
-pub follows_hand : (p p1 q : Nodes) (v : Pins) (list other : ℕ) → IsHolder v p list other → get_or p.pins other None ≡ get_or p.pins list None → p1.nodes ≡ p.nodes → p1.marks ≡ p.marks → p1.spare ≡ p.spare → p1.limit ≡ p.limit → p1.loose ≡ p.loose → p1.pins ≡ p.pins → GivesAll p p1 list other → Follows v p1 q list true → Follows v p q list true
+pub follows_hand : (p p1 q : Nodes) (v : Pins) (list other : ℕ) → IsHolder v p list other → get_or p.pins other None ≡ get_or p.pins list None → p1.nodes ≡ p.nodes → p1.marks ≡ p.marks → p1.spare ≡ p.spare → p1.limit ≡ p.limit → p1.loose ≡ p.loose → p1.pins ≡ p.pins → GivesAll p p1 list other → FollowsPin v p1 q list true → FollowsPin v p q list true
 follows_hand p p1 q v list other h same nodes marks spare limit loose pins hands f = record {
   nodes = f.nodes ∙ nodes;
   marks = f.marks ∙ marks;
@@ -179,7 +179,7 @@ follows_hand p p1 q v list other h same nodes marks spare limit loose pins hands
 }
 
 -- two lists change places: the one that goes to the holder agrees, and what is let go stays
-pub follows_exchange : (p q : Nodes) (v : Pins) (list other : ℕ) → list < length p.pins → IsHolder v p list other → (AgreesAt p v list → ⊥) → get_or p.pins other None ≢ get_or p.pins list None → q.nodes ≡ p.nodes → q.marks ≡ p.marks → q.spare ≡ p.spare → q.limit ≡ p.limit → q.loose ≡ p.loose → Exchanges p q list other → Follows v p q list false
+pub follows_exchange : (p q : Nodes) (v : Pins) (list other : ℕ) → list < length p.pins → IsHolder v p list other → (AgreesAt p v list → ⊥) → get_or p.pins other None ≢ get_or p.pins list None → q.nodes ≡ p.nodes → q.marks ≡ p.marks → q.spare ≡ p.spare → q.limit ≡ p.limit → q.loose ≡ p.loose → Exchanges p q list other → FollowsPin v p q list false
 follows_exchange p q v list other lt h stale differ nodes marks spare limit loose ex =
     let n = length p.pins in
     let apart = holder_apart p v list other h stale in
@@ -261,12 +261,12 @@ sum_less (suc n) a f g lt h less = elim (cases_eq n a) [
 ]
 
 -- the measure of the loop: lists to come, and lists that do not agree
-pub stale_kept : (p q : Nodes) (v : Pins) (list : ℕ) (done : Bool) → Follows v p q list done → stale_by q v ≤ stale_by p v
+pub stale_kept : (p q : Nodes) (v : Pins) (list : ℕ) (done : Bool) → FollowsPin v p q list done → stale_by q v ≤ stale_by p v
 unfolding stale_by
 stale_kept p q v list done f = omega (arith, ap (λ n. sum_below n (stale_at q v)) f.many, sum_most (length p.pins) (stale_at q v) (stale_at p v) (stale_most p q v f.agreed))
 
 -- and it falls where another list agrees now
-pub stale_falls : (p q : Nodes) (v : Pins) (list : ℕ) → Follows v p q list false → stale_by q v < stale_by p v
+pub stale_falls : (p q : Nodes) (v : Pins) (list : ℕ) → FollowsPin v p q list false → stale_by q v < stale_by p v
 unfolding stale_by
 stale_falls p q v list f =
     let s = f.turned.0 in

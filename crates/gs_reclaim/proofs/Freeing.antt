@@ -22,7 +22,7 @@ use Rattle.gs_ledger.proofs.Marked.{ledger_of_marks}
 use Rattle.gs_ledger.proofs.Retiring.{first_ledger, frees_top, marks_nodes}
 use Rattle.gs_ledger.proofs.Staying.{may_go}
 use Rattle.gs_ledger.proofs.Needing.{not_needed}
-use Rattle.gs_reclaim.specs.Reclaims.{HasLedger, CanRetireRoot, IsSide, AreApart, AreSides, CanFree, Settles}
+use Rattle.gs_reclaim.specs.Reclaims.{HasMarkedLedger, CanRetireRoot, IsSide, AreApart, AreSides, CanFree, SettlesNode}
 
 mark_plain : (m : NodeMark) → plain_mark m ≡ 1 → m ≡ plain
 mark_plain plain e = refl
@@ -47,7 +47,7 @@ roots_apart (fork i birth a k b) leaf h = tt
 roots_apart (fork i birth a k b) (fork j later c m d) h = λ e. let two = subst (λ y. occurrences (fork i birth a k b) i + occurrences (fork y later c m d) i ≤ 1) (sym e) (h i) in absurd (omega (arith, one_same i))
 
 -- what is taken off the list of retired nodes can be freed
-pub can_free : (p p1 : Nodes) (v : Pins) (r : Retired) → HasLedger p v → Unlists p p1 r.id (retired r.death r.whole) → CanFree p1 r.id r.whole
+pub can_free : (p p1 : Nodes) (v : Pins) (r : Retired) → HasMarkedLedger p v → Unlists p p1 r.id (retired r.death r.whole) → CanFree p1 r.id r.whole
 can_free p p1 v r h u =
     let b = first_ledger p v h.graphs h.uploads h.reads (dead_at p) r.id r.death r.whole h.ledger (ap death_of u.was) in
     let d = b.first in
@@ -127,7 +127,7 @@ pub record FreesOne (v : Pins) (p q : Nodes) (gs us : List Tree) (rs : List (Lis
   pub not_needed : is_needed v.seats gone ≡ false
   pub asides : (x a : ℕ) (w : Bool) (n : Node) → mark_at q x ≡ aside a w → node_at q x ≡ Some n → (mark_at p x ≡ aside a w) × (node_at p x ≡ Some n)
 
-pub frees_one : (p p1 q : Nodes) (v : Pins) (gs us : List Tree) (rs : List (List Tree)) (r : Retired) → IsLedger p v gs us rs (dead_at p) → Unlists p p1 r.id (retired r.death r.whole) → Settles v p1 q r true → FreesOne v p q gs us rs
+pub frees_one : (p p1 q : Nodes) (v : Pins) (gs us : List Tree) (rs : List (List Tree)) (r : Retired) → IsLedger p v gs us rs (dead_at p) → Unlists p p1 r.id (retired r.death r.whole) → SettlesNode v p1 q r true → FreesOne v p q gs us rs
 frees_one p p1 q v gs us rs r l0 u s =
     let b = first_ledger p v gs us rs (dead_at p) r.id r.death r.whole l0 (ap death_of u.was) in
     let d = b.first in

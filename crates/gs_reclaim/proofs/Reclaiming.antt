@@ -22,7 +22,7 @@ use Rattle.gs_ledger.proofs.Marked.{ledger_of_marks}
 use Rattle.gs_ledger.proofs.Counts.{nodes_counted, waste_is, length_sum}
 use Rattle.gs_ledger.proofs.Retiring.{marks_nodes, none_aside, first_ledger, remark_ledger}
 use Rattle.gs_ledger.proofs.Needing.{needed_by_pin, older_needed}
-use Rattle.gs_reclaim.specs.Reclaims.{HasLedger, KeepsLedgers, IsNeededFor, Stays, Settles, Reclaims}
+use Rattle.gs_reclaim.specs.Reclaims.{HasMarkedLedger, KeepsLedgers, IsNeededFor, NodeStays, SettlesNode, Reclaims}
 use Rattle.gs_reclaim.specs.Holders.{KeepsDead, Agrees, HasLists}
 use Rattle.gs_reclaim.proofs.Freeing.{frees_one}
 
@@ -41,11 +41,11 @@ reclaims_none v p h = record {
 pub same_ledgers : (v : Pins) (p q : Nodes) → KeepsNodes p q → ((x : ℕ) → death_of (mark_at q x) ≡ death_of (mark_at p x)) → KeepsLedgers v p q
 same_ledgers v p q nodes deaths gs us rs l = ledger_of_marks q v gs us rs (dead_at p) (remark_ledger p q v gs us rs (dead_at p) nodes deaths l)
 
-pub same_waste : (v : Pins) (p q : Nodes) → HasLedger p v → KeepsNodes p q → ((x : ℕ) → death_of (mark_at q x) ≡ death_of (mark_at p x)) → (f : Lifetime → ℕ) → sum_by f (waste_at q) ≡ sum_by f (waste_at p)
+pub same_waste : (v : Pins) (p q : Nodes) → HasMarkedLedger p v → KeepsNodes p q → ((x : ℕ) → death_of (mark_at q x) ≡ death_of (mark_at p x)) → (f : Lifetime → ℕ) → sum_by f (waste_at q) ≡ sum_by f (waste_at p)
 same_waste v p q h nodes deaths f = waste_is q v h.graphs h.uploads h.reads (dead_at p) (remark_ledger p q v h.graphs h.uploads h.reads (dead_at p) nodes deaths h.ledger) f
 
 -- a ledger of the pool as it is now
-pub ledger_now : (v : Pins) (p q : Nodes) → HasLedger p v → KeepsLedgers v p q → HasLedger q v
+pub ledger_now : (v : Pins) (p q : Nodes) → HasMarkedLedger p v → KeepsLedgers v p q → HasMarkedLedger q v
 ledger_now v p q h keeps = record { graphs = h.graphs; uploads = h.uploads; reads = h.reads; ledger = keeps h.graphs h.uploads h.reads h.ledger }
 
 some_node : (a b : Node) → Some a ≡ Some b → a ≡ b
@@ -55,7 +55,7 @@ same_dead : (a b : ℕ × Bool) → Some a ≡ Some b → a ≡ b
 same_dead a b e = cc
 
 -- a node that is needed stayed
-pub reclaims_kept : (v : Pins) (p0 p p1 q : Nodes) (freed : ℕ) (r : Retired) → HasLedger p0 v → Reclaims v p0 p freed → Unlists p p1 r.id (retired r.death r.whole) → Stays v p1 q r → Reclaims v p0 q freed
+pub reclaims_kept : (v : Pins) (p0 p p1 q : Nodes) (freed : ℕ) (r : Retired) → HasMarkedLedger p0 v → Reclaims v p0 p freed → Unlists p p1 r.id (retired r.death r.whole) → NodeStays v p1 q r → Reclaims v p0 q freed
 reclaims_kept v p0 p p1 q freed r h k u s =
     let nodes : KeepsNodes p q = λ x. marks_nodes p1 q r.id s.mark s.marks x ∙ marks_nodes p p1 r.id plain u.marks x in
     let deaths : (x : ℕ) → death_of (mark_at q x) ≡ death_of (mark_at p x) = λ x. elim (cases_eq x r.id) [
@@ -79,18 +79,18 @@ reclaims_kept v p0 p p1 q freed r h k u s =
     }
 
 -- what is retired or set aside died by the last commit
-pub died_before : (p : Nodes) (v : Pins) (id death : ℕ) (whole : Bool) → HasLedger p v → mark_at p id ≡ retired death whole → death ≤ v.commit
+pub died_before : (p : Nodes) (v : Pins) (id death : ℕ) (whole : Bool) → HasMarkedLedger p v → mark_at p id ≡ retired death whole → death ≤ v.commit
 died_before p v id death whole h is =
     let b = first_ledger p v h.graphs h.uploads h.reads (dead_at p) id death whole h.ledger (ap death_of is) in
     let e : IsDead p v.commit b.first = All-head (IsDead p v.commit) b.first b.rest b.ledger.waste in
     omega (arith, e.died, b.death_is)
 
 -- a pool with the same nodes and deaths has a ledger too
-pub ledger_after : (v : Pins) (p q : Nodes) → HasLedger p v → KeepsDead p q → HasLedger q v
+pub ledger_after : (v : Pins) (p q : Nodes) → HasMarkedLedger p v → KeepsDead p q → HasMarkedLedger q v
 ledger_after v p q h dead = ledger_now v p q h (same_ledgers v p q (λ x. ap (λ ns. get_or ns x None) dead.nodes) dead.deaths)
 
 -- what went on from a pool with the same nodes and deaths
-pub reclaims_after : (v : Pins) (p0 p q : Nodes) (freed : ℕ) → HasLedger p0 v → KeepsDead p0 p → Reclaims v p q freed → Reclaims v p0 q freed
+pub reclaims_after : (v : Pins) (p0 p q : Nodes) (freed : ℕ) → HasMarkedLedger p0 v → KeepsDead p0 p → Reclaims v p q freed → Reclaims v p0 q freed
 reclaims_after v p0 p q freed h dead k =
     let nodes : KeepsNodes p0 p = λ x. ap (λ ns. get_or ns x None) dead.nodes in
     record {
@@ -103,7 +103,7 @@ reclaims_after v p0 p q freed h dead k =
     }
 
 -- one that no version needs was freed
-pub reclaims_freed : (v : Pins) (p0 p p1 q : Nodes) (freed : ℕ) (r : Retired) → HasLedger p0 v → Reclaims v p0 p freed → Unlists p p1 r.id (retired r.death r.whole) → Settles v p1 q r true → Reclaims v p0 q (freed + 1)
+pub reclaims_freed : (v : Pins) (p0 p p1 q : Nodes) (freed : ℕ) (r : Retired) → HasMarkedLedger p0 v → Reclaims v p0 p freed → Unlists p p1 r.id (retired r.death r.whole) → SettlesNode v p1 q r true → Reclaims v p0 q (freed + 1)
 reclaims_freed v p0 p p1 q freed r h k u s =
     let now = ledger_now v p0 p h k.ledgers in
     let one = frees_one p p1 q v now.graphs now.uploads now.reads r now.ledger u s in
@@ -195,7 +195,7 @@ pub seat_pinned : (v : Pins) (seat version : ℕ) → slice_index_or v.seats sea
 seat_pinned v seat version is = slice_get-get_or v.seats seat None (pin_within v.seats seat version is) ∙ ap Some is
 
 -- the node that the pin of a seat needs stays, whether it is held or set aside
-pub stays : (v : Pins) (p q : Nodes) (seat : ℕ) (r : Retired) (m : NodeMark) → IsNeededFor v p seat r → Marks p q r.id m → death_of m ≡ Some (r.death, r.whole) → Stays v p q r
+pub stays : (v : Pins) (p q : Nodes) (seat : ℕ) (r : Retired) (m : NodeMark) → IsNeededFor v p seat r → Marks p q r.id m → death_of m ≡ Some (r.death, r.whole) → NodeStays v p q r
 stays v p q seat r m n marks dead = record {
   node = n.node;
   found = n.found;
@@ -245,7 +245,7 @@ held_needed v p d agrees e held =
     })
 
 -- where each retired node is held, all waste that is left is needed
-rest_needed : (v : Pins) (p0 p : Nodes) (freed : ℕ) → HasLedger p0 v → Reclaims v p0 p freed → Agrees p v → AreHeld p → sum_by (unneeded_one v.seats) (waste_at p) ≡ 0
+rest_needed : (v : Pins) (p0 p : Nodes) (freed : ℕ) → HasMarkedLedger p0 v → Reclaims v p0 p freed → Agrees p v → AreHeld p → sum_by (unneeded_one v.seats) (waste_at p) ≡ 0
 rest_needed v p0 p freed h k agrees held =
     dead_needed v p (dead_at p) (ledger_now v p0 p h k.ledgers).ledger.waste (λ d e. by_mark d e (is_retired (mark_at p d.id)) refl)
   where
@@ -254,7 +254,7 @@ rest_needed v p0 p freed h k agrees held =
     by_mark d e false off = subst (λ b. IsNeeded v b d.death) e.birth_is (k.needed d.id d.death d.whole e.top (dead_aside (mark_at p d.id) d.death d.whole e.marked off) e.found)
 
 -- how many were freed
-pub freed_exact : (v : Pins) (p0 p : Nodes) (n freed : ℕ) → HasLedger p0 v → Reclaims v p0 p freed → freed ≤ n → (freed ≡ n) ⊎ AreHeld p → Agrees p v → freed ≡ min n (unneeded v.seats (waste_at p0))
+pub freed_exact : (v : Pins) (p0 p : Nodes) (n freed : ℕ) → HasMarkedLedger p0 v → Reclaims v p0 p freed → freed ≤ n → (freed ≡ n) ⊎ AreHeld p → Agrees p v → freed ≡ min n (unneeded v.seats (waste_at p0))
 freed_exact v p0 p n freed h k most all agrees =
     let parts : sum_by (unneeded_one v.seats) (waste_at p) + freed ≡ unneeded v.seats (waste_at p0) = omega (arith, unneeded_is v.seats (waste_at p0), k.same (unneeded_one v.seats), all_unneeded v.seats k.gone k.none_needed, k.many) in
     elim all [
@@ -263,7 +263,7 @@ freed_exact v p0 p n freed h k most all agrees =
     ]
 
 -- nodes in use fall by what was freed
-pub in_use_falls : (v : Pins) (p q : Nodes) (freed : ℕ) → HasLedger p v → Reclaims v p q freed → in_use q + freed ≡ in_use p
+pub in_use_falls : (v : Pins) (p q : Nodes) (freed : ℕ) → HasMarkedLedger p v → Reclaims v p q freed → in_use q + freed ≡ in_use p
 in_use_falls v p q freed h k =
     let before = nodes_counted p v h.graphs h.uploads h.reads (dead_at p) h.ledger in
     let after = nodes_counted q v h.graphs h.uploads h.reads (dead_at q) (k.ledgers h.graphs h.uploads h.reads h.ledger) in

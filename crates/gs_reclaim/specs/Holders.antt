@@ -51,7 +51,7 @@ pub record KeepsDead (p q : Nodes) : Type 0 where
   pub deaths : (x : ℕ) → death_of (mark_at q x) ≡ death_of (mark_at p x)
 
 -- a list agrees now that did not
-pub record Settled (v : Pins) (p q : Nodes) (s : ℕ) : Type 0 where
+pub record SettledList (v : Pins) (p q : Nodes) (s : ℕ) : Type 0 where
   pub list : s < length p.pins
   pub did_not : AgreesAt p v s → ⊥
   pub does : AgreesAt q v s
@@ -59,10 +59,10 @@ pub record Settled (v : Pins) (p q : Nodes) (s : ℕ) : Type 0 where
 -- the list that was to follow its pin does, or another one does now, and this one is to be looked at again
 abbrev pub HasTurned : Pins → Nodes → Nodes → ℕ → Bool → Type 0
 HasTurned v p q list true = AgreesAt q v list
-HasTurned v p q list false = (s : ℕ) × Settled v p q s
+HasTurned v p q list false = (s : ℕ) × SettledList v p q s
 
 -- One list followed its pin: no node, no mark and no room is another, what agreed agrees, and just what no seat's pin needs is looked at.
-pub record Follows (v : Pins) (p q : Nodes) (list : ℕ) (done : Bool) : Type 0 where
+pub record FollowsPin (v : Pins) (p q : Nodes) (list : ℕ) (done : Bool) : Type 0 where
   pub nodes : q.nodes ≡ p.nodes
   pub marks : q.marks ≡ p.marks
   pub spare : q.spare ≡ p.spare

@@ -12,7 +12,7 @@ use Rattle.gs_ledger.specs.Ledger.{IsLedger}
 use Rattle.gs_ledger.specs.Changes.{RetiresSides}
 
 -- some graphs, uploads and reads have a ledger of the pool, whose dead nodes are those that its marks say
-pub record HasLedger (p : Nodes) (v : Pins) : Type 0 where
+pub record HasMarkedLedger (p : Nodes) (v : Pins) : Type 0 where
   pub graphs : List Tree
   pub uploads : List Tree
   pub reads : List (List Tree)
@@ -66,7 +66,7 @@ pub record IsNeededFor (v : Pins) (p : Nodes) (seat : ℕ) (r : Retired) : Type 
   pub pinned : HasPinned v.seats seat node.birth r.death
 
 -- a node that was taken off the list, and that a version needs, is dead still: it is held, or set aside
-pub record Stays (v : Pins) (p q : Nodes) (r : Retired) : Type 0 where
+pub record NodeStays (v : Pins) (p q : Nodes) (r : Retired) : Type 0 where
   pub node : Node
   pub found : node_at p r.id ≡ Some node
   pub needed : IsNeeded v node.birth r.death
@@ -75,9 +75,9 @@ pub record Stays (v : Pins) (p q : Nodes) (r : Retired) : Type 0 where
   pub marks : Marks p q r.id mark
 
 -- a node that was taken off the list is freed, where no version needs it, and else stays
-abbrev pub Settles : Pins → Nodes → Nodes → Retired → Bool → Type 0
-Settles v p q r true = (n : Node) × (node_at p r.id ≡ Some n) × (IsNeeded v n.birth r.death → ⊥) × Unrolls p q r.id r.death r.whole
-Settles v p q r false = Stays v p q r
+abbrev pub SettlesNode : Pins → Nodes → Nodes → Retired → Bool → Type 0
+SettlesNode v p q r true = (n : Node) × (node_at p r.id ≡ Some n) × (IsNeeded v n.birth r.death → ⊥) × Unrolls p q r.id r.death r.whole
+SettlesNode v p q r false = NodeStays v p q r
 
 -- So many nodes went from a pool, which no pin needed; what is set aside is needed; and ledgers go on.
 pub record Reclaims (v : Pins) (p q : Nodes) (freed : ℕ) : Type 0 where

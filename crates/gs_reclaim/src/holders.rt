@@ -1,6 +1,6 @@
 //! For which pin each list of held nodes is kept: the lists follow the pins of their seats.
 ghost use Rattle.std.specs.Prelude.{◌≡◌, ◌+◌, ◌<◌, length};
-ghost use Rattle.gs_reclaim.specs.Holders.{AgreesAt, Agrees, IsHolder, FindsHolder, let_go_by, Follows};
+ghost use Rattle.gs_reclaim.specs.Holders.{AgreesAt, Agrees, IsHolder, FindsHolder, let_go_by, FollowsPin};
 
 use gs_pool::Pool;
 use gs_versions::Versions;
@@ -19,7 +19,7 @@ fn pass_on(pool: &mut Pool, versions: &Versions, list: usize, other: usize) -> b
     requires list { list < length pool.old.pins }
     requires stale { AgreesAt pool.old versions.now list → ⊥ }
     requires holder { IsHolder versions.now pool.old list other }
-    ensures { Follows versions.now pool.old pool.new list result }
+    ensures { FollowsPin versions.now pool.old pool.new list result }
 {
     if pool.pin_at(other) == pool.pin_at(list) {
         pool.hand_over(list, other);
@@ -33,7 +33,7 @@ fn pass_on(pool: &mut Pool, versions: &Versions, list: usize, other: usize) -> b
 // Has a list follow the pin of its seat, or another one, where the two changed places.
 fn follow_pin(pool: &mut Pool, versions: &Versions, list: usize) -> bool
     requires { list < length pool.old.pins }
-    ensures { Follows versions.now pool.old pool.new list result }
+    ensures { FollowsPin versions.now pool.old pool.new list result }
 {
     let pin = versions.pin_at(list);
     if pool.pin_at(list) == pin {

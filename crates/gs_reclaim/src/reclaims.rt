@@ -4,7 +4,7 @@ ghost use Rattle.gs_pool.specs.Pool.{in_use, aside_count};
 ghost use Rattle.gs_pool.specs.Held.{AreHeld};
 ghost use Rattle.gs_event.specs.Steps.{Frees};
 ghost use Rattle.gs_ledger.specs.Marks.{waste_at};
-ghost use Rattle.gs_reclaim.specs.Reclaims.{HasLedger, KeepsLedgers, CanFree, IsNeededFor, Stays, Settles, Reclaims};
+ghost use Rattle.gs_reclaim.specs.Reclaims.{HasMarkedLedger, KeepsLedgers, CanFree, IsNeededFor, NodeStays, SettlesNode, Reclaims};
 ghost use Rattle.gs_reclaim.specs.Holders.{Agrees, HasLists, let_go_by, KeepsDead};
 
 use crate::holders::follow_pins;
@@ -32,7 +32,7 @@ fn keep(pool: &mut Pool, versions: &Versions, entry: Retired, seat: usize)
     requires agrees { Agrees pool.old versions.now }
     requires can { CanFree pool.old entry.id entry.whole }
     requires needed { IsNeededFor versions.now pool.old seat entry }
-    ensures stays { Stays versions.now pool.old pool.new entry }
+    ensures stays { NodeStays versions.now pool.old pool.new entry }
     ensures pins { pool.new.pins ≡ pool.old.pins }
     ensures loose { pool.new.loose ≡ pool.old.loose }
     ensures aside { HasLists pool.old versions.now → aside_count pool.new ≡ aside_count pool.old }
@@ -49,7 +49,7 @@ fn settle(pool: &mut Pool, versions: &Versions, entry: Retired) -> bool
     requires agrees { Agrees pool.old versions.now }
     requires can { CanFree pool.old entry.id entry.whole }
     requires died { entry.death ≤ versions.now.commit }
-    ensures settles { Settles versions.now pool.old pool.new entry result }
+    ensures settles { SettlesNode versions.now pool.old pool.new entry result }
     ensures pins { pool.new.pins ≡ pool.old.pins }
     ensures counted { 2 * in_use pool.new + pool.new.loose ≤ 2 * in_use pool.old + pool.old.loose }
     ensures aside { HasLists pool.old versions.now → aside_count pool.new ≡ aside_count pool.old }
@@ -66,7 +66,7 @@ fn settle(pool: &mut Pool, versions: &Versions, entry: Retired) -> bool
 // Frees at most n retired nodes that no version needs, and keeps those that it met and that a version
 // needs.
 fn free_unneeded(pool: &mut Pool, versions: &Versions, n: u64) -> Swept
-    requires ledger { HasLedger pool.old versions.now }
+    requires ledger { HasMarkedLedger pool.old versions.now }
     requires none_aside { aside_count pool.old ≡ 0 }
     requires agrees { Agrees pool.old versions.now }
     ensures reclaims { Reclaims versions.now pool.old pool.new result.freed }
@@ -108,7 +108,7 @@ fn restore(pool: &mut Pool)
 /// freed node by node. Takes no memory. It looks at what was retired since it was looked at last, and at
 /// what was held for pins that have ended, and at nothing else that is held.
 pub fn reclaim(pool: &mut Pool, versions: &Versions, n: u64) -> Reclaimed
-    requires ledger { HasLedger pool.old versions.now }
+    requires ledger { HasMarkedLedger pool.old versions.now }
     requires none_aside { aside_count pool.old ≡ 0 }
     ensures waste { Frees versions.now.seats n result.freed result.left
         (waste_at pool.old) (waste_at pool.new) }

@@ -17,7 +17,7 @@ use Rattle.gs_records.specs.Records.{Record, free, opened, unused, kept, record_
 use Rattle.gs_records.specs.Graphs.{graphs_where, current, without_version}
 use Rattle.gs_records.specs.Waste.{open_count}
 use Rattle.gs_records.specs.Kept.{AreSingle, AreDated}
-use Rattle.gs_records.specs.Stored.{is_made, records_of, records_by, Stands}
+use Rattle.gs_records.specs.Stored.{is_made, records_of, records_by, StandsForRecord}
 use Rattle.gs_records.specs.Versions.{AreVersions}
 use Rattle.gs_records.specs.Counts.{named_one, AreCounted, IsKept}
 use Rattle.gs_records.proofs.Keeping.{length-records_of}
@@ -147,7 +147,7 @@ new_kept x p commit is nodes marks =
     record {
       stored = record {
         many = ap length nodes ∙ sym (ap (λ (z : Indexed). length z.entries) is);
-        stand = λ n. subst (λ r. Stands r (node_at p n) (mark_at p n) (entry_at x.entries n)) (sym (ap (λ rs. record_at rs n) none)) (ap (λ (z : Indexed). (entry_at z.entries n).birth) is, ap (λ ns. get_or ns n None) nodes);
+        stand = λ n. subst (λ r. StandsForRecord r (node_at p n) (mark_at p n) (entry_at x.entries n)) (sym (ap (λ rs. record_at rs n) none)) (ap (λ (z : Indexed). (entry_at z.entries n).birth) is, ap (λ ns. get_or ns n None) nodes);
         lists = λ n. ap (λ (z : Indexed). is_listed n z.listed) is ∙ sym (ap (λ (z : Indexed). is_made (entry_at z.entries n)) is);
         counted = sym (ap open_count none);
         room = omega arith;
@@ -165,9 +165,9 @@ module _ (x y : Indexed) (p q : Nodes) (opens latest names triples : ℕ) (entri
   roomier_records : records_by y q ≡ records_by x p
   roomier_records = λ i. records_of (entries i) (nodes i) (marks i)
 
-  roomier_stand : (n : ℕ) → Stands (record_at (records_by y q) n) (node_at q n) (mark_at q n) (entry_at y.entries n)
+  roomier_stand : (n : ℕ) → StandsForRecord (record_at (records_by y q) n) (node_at q n) (mark_at q n) (entry_at y.entries n)
   roomier_stand n =
-      let same : Stands (record_at (records_by x p) n) (node_at p n) (mark_at p n) (entry_at x.entries n) ≡ Stands (record_at (records_by y q) n) (node_at q n) (mark_at q n) (entry_at y.entries n) = λ i. Stands (record_at (sym roomier_records i) n) (get_or (sym nodes i) n None) (get_or (sym marks i) n plain) (entry_at (sym entries i) n) in
+      let same : StandsForRecord (record_at (records_by x p) n) (node_at p n) (mark_at p n) (entry_at x.entries n) ≡ StandsForRecord (record_at (records_by y q) n) (node_at q n) (mark_at q n) (entry_at y.entries n) = λ i. StandsForRecord (record_at (sym roomier_records i) n) (get_or (sym nodes i) n None) (get_or (sym marks i) n plain) (entry_at (sym entries i) n) in
       subst (λ (A : Type 0). A) same (k.stored.stand n)
 
   pub roomier_kept : IsKept y q opens latest names triples

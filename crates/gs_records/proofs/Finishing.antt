@@ -20,8 +20,8 @@ use Rattle.gs_index.specs.declared.entries.Entry.{Entry}
 use Rattle.gs_index.specs.Indexes.{Indexed, entry_at}
 use Rattle.gs_records.specs.Records.{Record, free, opened, unused, kept, Recorded, record_at}
 use Rattle.gs_records.specs.Waste.{lifetime_of, lifetimes, waste_in}
-use Rattle.gs_records.specs.Stored.{records_by, said_of, Stands, IsStored}
-use Rattle.gs_records.specs.Reclaims.{Reclaims}
+use Rattle.gs_records.specs.Stored.{records_by, said_of, StandsForRecord, IsStored}
+use Rattle.gs_records.specs.Reclaims.{ReclaimsRecords}
 use Rattle.gs_records.specs.Sweeps.{AreStored, KeepsStored, Drops, AsideIsNeeded, Sweeps, Swept}
 use Rattle.gs_records.proofs.Sums.{sum_agrees, wasted, waste_is}
 use Rattle.gs_records.proofs.Keeping.{free_without}
@@ -43,14 +43,14 @@ none_said None e = refl
 none_said (Some d) e = absurd (cc)
 
 -- what has no death has no lifetime
-alive_life : (r : Record) (o : Option Node) (m : NodeMark) (e : Entry) → Stands r o m e → death_of m ≡ None → lifetimes r ≡ []
+alive_life : (r : Record) (o : Option Node) (m : NodeMark) (e : Entry) → StandsForRecord r o m e → death_of m ≡ None → lifetimes r ≡ []
 alive_life free o m e s none = refl
 alive_life opened o m e s none = refl
 alive_life unused o m e s none = absurd (let bad : None ≡ Some (0, false) = sym none ∙ s.2 in cc)
 alive_life (kept f) o m e s none = ap (λ d. lifetime_of f.birth d) (none_said f.death (sym none ∙ s.2))
 
 -- what is free has none either
-free_life : (r : Record) (o : Option Node) (m : NodeMark) (e : Entry) → Stands r o m e → o ≡ None → lifetimes r ≡ []
+free_life : (r : Record) (o : Option Node) (m : NodeMark) (e : Entry) → StandsForRecord r o m e → o ≡ None → lifetimes r ≡ []
 free_life r o m e s none = ap lifetimes (free_without r o m e s none)
 
 -- where f is 0 for what each dead node is of, the waste comes to 0
@@ -194,7 +194,7 @@ module _ (v : Pins) (x y : Indexed) (p0 p p1 q : Nodes) (n freed : ℕ) (left : 
   }
 
 -- what the contract says of it
-pub reclaimed : (pins : List (Option ℕ)) (n freed : ℕ) (left : Bool) (x y : Indexed) (p q : Nodes) → Swept pins n freed left x y p q → (a b : Recorded) → a.records ≡ records_by x p → b.records ≡ records_by y q → b.latest ≡ a.latest → b.limit ≡ a.limit → Reclaims pins n freed left a b
+pub reclaimed : (pins : List (Option ℕ)) (n freed : ℕ) (left : Bool) (x y : Indexed) (p q : Nodes) → Swept pins n freed left x y p q → (a b : Recorded) → a.records ≡ records_by x p → b.records ≡ records_by y q → b.latest ≡ a.latest → b.limit ≡ a.limit → ReclaimsRecords pins n freed left a b
 reclaimed pins n freed left x y p q w a b from to latest limit =
     let drops : Drops pins freed a.records b.records = subst (λ rs. Drops pins freed rs b.records) (sym from) (subst (Drops pins freed (records_by x p)) (sym to) w.drops) in
     record {

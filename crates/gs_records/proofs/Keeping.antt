@@ -15,7 +15,7 @@ use Rattle.gs_records.specs.Waste.{is_opened, open_count}
 use Rattle.gs_records.specs.Kept.{AreSingle}
 use Rattle.gs_records.specs.Calls.{KeepsGraphs, GivesUp}
 use Rattle.std.proofs.lemmas.List.Sums.{count_by-le-length}
-use Rattle.gs_records.specs.Stored.{is_made, records_of, records_by, HasNode, Stands, IsStored, Changes}
+use Rattle.gs_records.specs.Stored.{is_made, records_of, records_by, HasNode, StandsForRecord, IsStored, ChangesOneNumber}
 use Rattle.gs_records.proofs.Lifetimes.{once_at, once_current}
 use Rattle.gs_records.proofs.Turning.{none_bare, graphs_turned, single_turned, dated_turned}
 use Rattle.gs_records.proofs.Sums.{gains_turned, open_turned}
@@ -25,19 +25,19 @@ some_not_none : (n : Node) (o : Option Node) → o ≡ Some n → o ≡ None →
 some_not_none n o is none = absurd (let bad : Some n ≡ None = sym is ∙ none in cc)
 
 -- a number with no node is free
-pub free_without : (r : Record) (o : Option Node) (m : NodeMark) (e : Entry) → Stands r o m e → o ≡ None → r ≡ free
+pub free_without : (r : Record) (o : Option Node) (m : NodeMark) (e : Entry) → StandsForRecord r o m e → o ≡ None → r ≡ free
 free_without free o m e s none = refl
 free_without opened o m e s none = absurd (some_not_none s.1.node o s.1.found none)
 free_without unused o m e s none = absurd (some_not_none s.1.node o s.1.found none)
 free_without (kept k) o m e s none = absurd (some_not_none s.1.node o s.1.found none)
 
-pub free_birth : (r : Record) (o : Option Node) (m : NodeMark) (e : Entry) → Stands r o m e → r ≡ free → e.birth ≡ 0
-free_birth r o m e s is = (subst (λ x. Stands x o m e) is s).0
+pub free_birth : (r : Record) (o : Option Node) (m : NodeMark) (e : Entry) → StandsForRecord r o m e → r ≡ free → e.birth ≡ 0
+free_birth r o m e s is = (subst (λ x. StandsForRecord x o m e) is s).0
 
 module _ (x : Indexed) (p : Nodes) (opens latest n : ℕ) (r : Record) (s : IsStored x p opens latest) (is : record_at (records_by x p) n ≡ r) where
   -- what a number has that stands for this
-  pub stands_at : Stands r (node_at p n) (mark_at p n) (entry_at x.entries n)
-  stands_at = subst (λ y. Stands y (node_at p n) (mark_at p n) (entry_at x.entries n)) is (s.stand n)
+  pub stands_at : StandsForRecord r (node_at p n) (mark_at p n) (entry_at x.entries n)
+  stands_at = subst (λ y. StandsForRecord y (node_at p n) (mark_at p n) (entry_at x.entries n)) is (s.stand n)
 
 -- what has a node is within
 pub used_within : (p : Nodes) (x : Indexed) (n b : ℕ) → length p.nodes ≡ length x.entries → HasNode (node_at p n) b → n < length x.entries
@@ -53,7 +53,7 @@ keeps_graphs old new n r single turn was is = record {
   now = graphs_turned is_current old new n r (once_current old single) turn (λ t. none_bare is_current t (record_at old n) was) (λ t. none_bare is_current t r is);
 }
 
-module _ (x y : Indexed) (p q : Nodes) (opens now latest n : ℕ) (r : Record) (s : IsStored x p opens latest) (c : Changes x y p q n r) where
+module _ (x y : Indexed) (p q : Nodes) (opens now latest n : ℕ) (r : Record) (s : IsStored x p opens latest) (c : ChangesOneNumber x y p q n r) where
   pub turns : Turns (records_by x p) (records_by y q) n r
   turns = turns_stored x y p q n r s.many s.stand c
 
@@ -75,7 +75,7 @@ module _ (x y : Indexed) (p q : Nodes) (opens now latest n : ℕ) (r : Record) (
 
 -- an open record is given up
 module _ (x : Indexed) (p q : Nodes) (opens latest n : ℕ) (s : IsStored x p opens latest) (is : record_at (records_by x p) n ≡ opened) (marks : Marks p q n (retired 0 false)) where
-  gives_changes : Changes x x p q n unused
+  gives_changes : ChangesOneNumber x x p q n unused
   gives_changes =
       let at = stands_at x p opens latest n opened s is in
       record {

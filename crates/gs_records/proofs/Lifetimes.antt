@@ -3,7 +3,7 @@ use Rattle.std.proofs.Common.{◌≡◌, ◌≢◌, ℕ, ◌+◌, ◌<◌, ◌�
 use Rattle.std.proofs.lemmas.Bool.{cases_Bool, le-leb, leb-true, lt-ltb, ltb-true}
 use Rattle.gs_term.specs.declared.names.Target.{Target}
 use Rattle.gs_index.specs.declared.entries.Entry.{Entry}
-use Rattle.gs_index.specs.Indexes.{ended as died}
+use Rattle.gs_index.specs.Indexes.{with_death as died}
 use Rattle.gs_records.specs.Records.{Record, free, opened, unused, kept, outlives, has_at, is_current, is_of, ended_entry, ended}
 use Rattle.gs_records.specs.Kept.{DiedBy, IsDated, AreSingle}
 use Rattle.gs_records.proofs.Found.{same_kept, not_kept, target_same, target_itself}

@@ -8,7 +8,7 @@ use Rattle.std.specs.declared.cmp.Ordering.{Ordering}
 use Rattle.std.specs.declared.cmp.Ordering.TheVariants.{Less}
 use Rattle.std.specs.Prelude.{Some, None}
 use Rattle.gs_index.specs.declared.entries.Entry.{Entry}
-use Rattle.gs_index.specs.Indexes.{is_before, is_listed, with_number}
+use Rattle.gs_index.specs.Indexes.{number_is_before, is_listed, with_number}
 
 pub is_true : (b : Bool) → T b → b ≡ true
 is_true true h = refl
@@ -25,7 +25,7 @@ swap_or false b c = refl
 -- a number that is put in its place is listed, and so are all others that were
 pub listed_with : (es : List Entry) (n m : ℕ) (ns : List ℕ) → is_listed m (with_number es n ns) ≡ ((n == m) || is_listed m ns)
 listed_with es n m [] = refl
-listed_with es n m (k ∷ ks) = go (listed_with es n m ks) (is_before es n k)
+listed_with es n m (k ∷ ks) = go (listed_with es n m ks) (number_is_before es n k)
   where
     go : is_listed m (with_number es n ks) ≡ ((n == m) || is_listed m ks) → (b : Bool) → is_listed m (cond b (n ∷ k ∷ ks) (k ∷ with_number es n ks)) ≡ ((n == m) || is_listed m (k ∷ ks))
     go rest true = refl

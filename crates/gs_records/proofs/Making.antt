@@ -15,7 +15,7 @@ use Rattle.gs_records.specs.Graphs.{current}
 use Rattle.gs_records.specs.Waste.{is_opened, open_count}
 use Rattle.gs_records.specs.Kept.{AreSingle, AreDated, HasNoCurrent}
 use Rattle.gs_records.specs.Calls.{Places}
-use Rattle.gs_records.specs.Stored.{is_made, records_by, Stands, IsStored, Changes}
+use Rattle.gs_records.specs.Stored.{is_made, records_by, StandsForRecord, IsStored, ChangesOneNumber}
 use Rattle.gs_records.proofs.Sums.{gains_turned, open_turned}
 use Rattle.gs_records.proofs.Storing.{turns_stored, all_stand}
 use Rattle.gs_records.proofs.Placing.{graphs_at-placed, single_placed, dated_placed, current-placed}
@@ -28,7 +28,7 @@ made_entry t v latest = record { target = t; version = v; birth = latest; death 
 
 -- an open record
 module _ (x : Indexed) (p : Nodes) (opens latest n : ℕ) (s : IsStored x p opens latest) (is : record_at (records_by x p) n ≡ opened) where
-  open_stands : Stands opened (node_at p n) (mark_at p n) (entry_at x.entries n)
+  open_stands : StandsForRecord opened (node_at p n) (mark_at p n) (entry_at x.entries n)
   open_stands = stands_at x p opens latest n opened s is
 
   pub open_within : n < length x.entries
@@ -53,7 +53,7 @@ module _ (x : Indexed) (p : Nodes) (opens latest n : ℕ) (s : IsStored x p open
     entry_other : (m : ℕ) → m ≢ n → entry_at y.entries m ≡ entry_at x.entries m
     entry_other m ne = ap (λ es. entry_at es m) entries ∙ rw get_or-set_other refl
 
-    made_changes : Changes x y p q n (kept (made_entry t v latest))
+    made_changes : ChangesOneNumber x y p q n (kept (made_entry t v latest))
     made_changes = record {
       many = numbers ∙ s.many ∙ sym (ap length entries ∙ length-set x.entries n (made_entry t v latest));
       stands = (entry_now, record { node = node; found = updates.changed; birth_is = birth }, ap death_of (ap (λ ms. get_or ms n plain) marks ∙ open_is_plain), after);

@@ -11,7 +11,7 @@ use Rattle.gs_records.specs.Graphs.{current}
 use Rattle.gs_records.specs.Waste.{is_opened}
 use Rattle.gs_records.specs.Kept.{AreSingle}
 use Rattle.gs_records.specs.Calls.{Opens}
-use Rattle.gs_records.specs.Stored.{records_by, IsStored, Changes, Grows}
+use Rattle.gs_records.specs.Stored.{records_by, IsStored, ChangesOneNumber, GrowsByEntry}
 use Rattle.gs_records.proofs.Sums.{gains_turned, open_turned}
 use Rattle.gs_records.proofs.Keeping.{free_without, free_birth, keeps_graphs, turns, stored_bare}
 
@@ -41,7 +41,7 @@ module _ (x y : Indexed) (p q r : Nodes) (opens latest n : ℕ) (node : Node) (s
   pub was_free : record_at (records_by x p) n ≡ free
   was_free = free_without (record_at (records_by x p) n) (node_at p n) (mark_at p n) (entry_at x.entries n) (s.stand n) was_none
 
-  opens_changes : Changes x y p r n opened
+  opens_changes : ChangesOneNumber x y p r n opened
   opens_changes = record {
     many = many;
     stands = (
@@ -82,23 +82,23 @@ module _ (x y : Indexed) (p q r : Nodes) (opens latest n : ℕ) (node : Node) (s
       }
 
 -- an entry more is there just where the pool is longer
-pub grown_many : (x y : Indexed) (p r : Nodes) (n : ℕ) (node : Node) → Grows x y p → Fills p r n node → length r.nodes ≡ length y.entries
+pub grown_many : (x y : Indexed) (p r : Nodes) (n : ℕ) (node : Node) → GrowsByEntry x y p → Fills p r n node → length r.nodes ≡ length y.entries
 grown_many x y p r n node g f = elim (zero_or (free_count p)) [
   | inl none ↦ f.grows none ∙ sym (g.none_free none)
   | inr some ↦ f.reuses some ∙ sym (g.free_left some)
 ]
 
-pub grown_few : (x y : Indexed) (p : Nodes) → Grows x y p → 1 ≤ room p → length p.nodes + p.spare ≤ p.limit → p.limit ≤ last_node + 1 → length y.entries ≤ last_node + 1
+pub grown_few : (x y : Indexed) (p : Nodes) → GrowsByEntry x y p → 1 ≤ room p → length p.nodes + p.spare ≤ p.limit → p.limit ≤ last_node + 1 → length y.entries ≤ last_node + 1
 grown_few x y p g room fits small = elim (zero_or (free_count p)) [
   | inl none ↦ omega (arith, g.none_free none, room, none, fits, small)
   | inr some ↦ omega (arith, g.free_left some, fits, small)
 ]
 
 -- no entry is wanted where a number is free, and one is where none is
-pub grows_none : (x : Indexed) (p : Nodes) → length p.nodes ≡ length x.entries → 0 < free_count p → Grows x x p
+pub grows_none : (x : Indexed) (p : Nodes) → length p.nodes ≡ length x.entries → 0 < free_count p → GrowsByEntry x x p
 grows_none x p many some = record { entries = λ m. refl; listed = refl; spare = refl; free_left = λ h. sym many; none_free = λ h. absurd (omega arith) }
 
-pub grows_one : (x y : Indexed) (p : Nodes) → length p.nodes ≡ length x.entries → free_count p ≡ 0 → y.entries ≡ x.entries ++ blank_entry ∷ [] → y.listed ≡ x.listed → y.spare ≡ x.spare → Grows x y p
+pub grows_one : (x y : Indexed) (p : Nodes) → length p.nodes ≡ length x.entries → free_count p ≡ 0 → y.entries ≡ x.entries ++ blank_entry ∷ [] → y.listed ≡ x.listed → y.spare ≡ x.spare → GrowsByEntry x y p
 grows_one x y p many none entries listed spare = record {
   entries = λ m. ap (λ es. entry_at es m) entries ∙ entry_pushed x.entries m;
   listed = listed;
@@ -107,7 +107,7 @@ grows_one x y p many none entries listed spare = record {
   none_free = λ h. omega (arith, ap length entries, length-append x.entries (blank_entry ∷ []), many);
 }
 
-pub alike_grown : (x w y : Indexed) (p q : Nodes) → w.entries ≡ x.entries → w.listed ≡ x.listed → Grows w y q → q.nodes ≡ p.nodes → q.marks ≡ p.marks → IsAlike x y p q
+pub alike_grown : (x w y : Indexed) (p q : Nodes) → w.entries ≡ x.entries → w.listed ≡ x.listed → GrowsByEntry w y q → q.nodes ≡ p.nodes → q.marks ≡ p.marks → IsAlike x y p q
 alike_grown x w y p q entries listed g nodes marks = record {
   entries = λ m. g.entries m ∙ ap (λ es. entry_at es m) entries;
   listed = g.listed ∙ listed;

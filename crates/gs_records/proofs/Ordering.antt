@@ -17,7 +17,7 @@ use Rattle.gs_term.specs.Names.{name_cmp}
 use Rattle.gs_term.proofs.NameLemmas.{name_total, name_exact}
 use Rattle.gs_catalogue.specs.declared.versions.GraphVersion.{GraphVersion}
 use Rattle.gs_catalogue.specs.Catalogues.{empty_version}
-use Rattle.gs_index.specs.Ages.{Age, number_cmp, target_cmp, target_text, is_target}
+use Rattle.gs_index.specs.Ages.{Age, aged_number_cmp, target_cmp, target_text, is_target}
 use Rattle.gs_index.specs.Indexes.{is_listed}
 use Rattle.gs_index.proofs.AgeLemmas.{target_total, target_ties}
 use Rattle.gs_records.specs.Records.{Record, free, opened, unused, kept, record_at, has_at, is_kept}
@@ -49,7 +49,7 @@ look t [] = None
 look t (e ∷ es) = cond (is_target t e.0) (Some e.1) (look t es)
 
 -- numbers of different graphs are in the order of these
-number_less : (age : ℕ → Age) (k m : ℕ) → (is_target (age k).target (age m).target ≡ true → ⊥) → number_cmp age k m ≡ Less → target_cmp (age k).target (age m).target ≡ Less
+number_less : (age : ℕ → Age) (k m : ℕ) → (is_target (age k).target (age m).target ≡ true → ⊥) → aged_number_cmp age k m ≡ Less → target_cmp (age k).target (age m).target ≡ Less
 number_less age k m apart e = go (target_cmp (age k).target (age m).target) refl e
   where
     go : (o : Ordering) → target_cmp (age k).target (age m).target ≡ o → ordering_then (ordering_then o (nat_cmp (age m).birth (age k).birth)) (nat_cmp m k) ≡ Less → target_cmp (age k).target (age m).target ≡ Less
@@ -57,7 +57,7 @@ number_less age k m apart e = go (target_cmp (age k).target (age m).target) refl
     go Equal is h = absurd (apart (target_ties (age k).target (age m).target ∙ ap is_eq is))
     go Greater is h = absurd (let bad : Greater ≡ Less = h in cc)
 
-pub number_tied : (age : ℕ → Age) (k : ℕ) → number_cmp age k k ≡ Less → ⊥
+pub number_tied : (age : ℕ → Age) (k : ℕ) → aged_number_cmp age k k ≡ Less → ⊥
 number_tied age k e =
     let t = ap (λ o. ordering_then (ordering_then o (nat_cmp (age k).birth (age k).birth)) (nat_cmp k k)) (sym (tied_itself target_total (age k).target)) in
     let b = ap (λ o. ordering_then o (nat_cmp k k)) (sym (tied_itself nat_cmp_total (age k).birth)) in
@@ -68,12 +68,12 @@ module _ (v : ℕ) (rs : List Record) (single : AreSingle rs) where
   had_at n h = kept_is (record_at rs n) (first_true _ _ h)
 
   -- no two numbers that the version has are of one graph
-  apart_numbers : (k m : ℕ) → has_number v rs k ≡ true → has_number v rs m ≡ true → number_cmp (age_at rs) k m ≡ Less → target_cmp (age_at rs k).target (age_at rs m).target ≡ Less
+  apart_numbers : (k m : ℕ) → has_number v rs k ≡ true → has_number v rs m ≡ true → aged_number_cmp (age_at rs) k m ≡ Less → target_cmp (age_at rs k).target (age_at rs m).target ≡ Less
   apart_numbers k m hk hm less = number_less (age_at rs) k m (λ same.
       let one : k ≡ m = single v k m (entry_of (record_at rs k)) (entry_of (record_at rs m)) (had_at k hk) (had_at m hm) (target_same _ _ same) (second_true _ _ hk) (second_true _ _ hm) in
-      number_tied (age_at rs) k (ap (number_cmp (age_at rs) k) one ∙ less)) less
+      number_tied (age_at rs) k (ap (aged_number_cmp (age_at rs) k) one ∙ less)) less
 
-  less_after : (k : ℕ) (ms : List ℕ) → has_number v rs k ≡ true → AllByRecursion (λ m. number_cmp (age_at rs) k m ≡ Less) ms → AllByRecursion (λ b. by_target (graph_of_number rs k) b ≡ Less) (graphs_listed v rs ms)
+  less_after : (k : ℕ) (ms : List ℕ) → has_number v rs k ≡ true → AllByRecursion (λ m. aged_number_cmp (age_at rs) k m ≡ Less) ms → AllByRecursion (λ b. by_target (graph_of_number rs k) b ≡ Less) (graphs_listed v rs ms)
   less_after k [] hk h = tt
   less_after k (m ∷ ms) hk h = go (less_after k ms hk h.1) (has_number v rs m) refl
     where
@@ -82,7 +82,7 @@ module _ (v : ℕ) (rs : List Record) (single : AreSingle rs) where
       go rest false has = rest
 
   -- the graphs of a version rise
-  graphs_rise : (ns : List ℕ) → IsStrictlySortedBy (number_cmp (age_at rs)) ns → IsStrictlySortedBy by_target (graphs_listed v rs ns)
+  graphs_rise : (ns : List ℕ) → IsStrictlySortedBy (aged_number_cmp (age_at rs)) ns → IsStrictlySortedBy by_target (graphs_listed v rs ns)
   unfolding IsStrictlySortedBy
   graphs_rise [] s = tt
   graphs_rise (n ∷ ns) s = go (graphs_rise ns s.1) (has_number v rs n) refl

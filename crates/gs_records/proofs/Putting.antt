@@ -10,7 +10,7 @@ use Rattle.gs_catalogue.specs.Catalogues.{GraphVersions, version_at, with_versio
 use Rattle.gs_records.specs.Records.{opened, unused, Recorded, record_at, ended}
 use Rattle.gs_records.specs.Graphs.{current, without_version}
 use Rattle.gs_records.specs.Waste.{lifetimes, waste_in}
-use Rattle.gs_records.specs.Calls.{Gains, endings, made, is_nothing, placed, GivesUp, Removes, Places, Puts}
+use Rattle.gs_records.specs.Calls.{Gains, endings, made_record, is_nothing, placed, GivesUp, RemovesVersion, Places, MakesCurrent}
 use Rattle.gs_records.proofs.Found.{same_versions, cases_target, version_at-with, version_at-with_other, version_at-without_other}
 use Rattle.gs_records.proofs.Lifetimes.{first_true, second_true}
 
@@ -37,12 +37,12 @@ gains_both : (a b c : List Lifetime) (more last : List Lifetime) → Gains a b m
 gains_both a b c more last first second f = omega (arith, first f, second f, sum_by-append f more last)
 
 -- an open record is open still once another ended
-pub open_still : (a b : Recorded) (n : ℕ) (t : Target) (commit : ℕ) → record_at a.records n ≡ opened → Removes a b t commit → record_at b.records n ≡ opened
+pub open_still : (a b : Recorded) (n : ℕ) (t : Target) (commit : ℕ) → record_at a.records n ≡ opened → RemovesVersion a b t commit → record_at b.records n ≡ opened
 open_still a b n t commit is r = r.ends n ∙ ap (ended t commit) is
 
-pub puts_nothing : (a b c : Recorded) (n : ℕ) (t : Target) (v : GraphVersion) (commit : ℕ) → is_nothing t v ≡ true → Removes a b t commit → GivesUp b c n → Puts a c n t v commit
+pub puts_nothing : (a b c : Recorded) (n : ℕ) (t : Target) (v : GraphVersion) (commit : ℕ) → is_nothing t v ≡ true → RemovesVersion a b t commit → GivesUp b c n → MakesCurrent a c n t v commit
 puts_nothing a b c n t v commit nothing r g =
-    let is : placed t v commit ≡ unused = ap (λ x. cond x unused (made t v commit)) nothing in
+    let is : placed t v commit ≡ unused = ap (λ x. cond x unused (made_record t v commit)) nothing in
     record {
       turned = g.turns.changed ∙ sym is;
       others = λ m ne. g.turns.others m ne ∙ r.ends m;
@@ -53,11 +53,11 @@ puts_nothing a b c n t v commit nothing r g =
       limit = g.limit ∙ r.limit;
     }
 
-pub puts_made : (a b c : Recorded) (n : ℕ) (t : Target) (v : GraphVersion) (commit : ℕ) → is_nothing t v ≡ false → Removes a b t commit → Places b c n t v → Puts a c n t v commit
+pub puts_made : (a b c : Recorded) (n : ℕ) (t : Target) (v : GraphVersion) (commit : ℕ) → is_nothing t v ≡ false → RemovesVersion a b t commit → Places b c n t v → MakesCurrent a c n t v commit
 puts_made a b c n t v commit something r p =
-    let is : placed t v commit ≡ made t v commit = ap (λ x. cond x unused (made t v commit)) something in
+    let is : placed t v commit ≡ made_record t v commit = ap (λ x. cond x unused (made_record t v commit)) something in
     record {
-      turned = p.turns.changed ∙ ap (made t v) r.latest ∙ sym is;
+      turned = p.turns.changed ∙ ap (made_record t v) r.latest ∙ sym is;
       others = λ m ne. p.turns.others m ne ∙ r.ends m;
       versions = λ w lt. p.versions w (omega (arith, lt, r.latest)) ∙ r.versions w lt;
       now = p.now ∙ ap (λ g. with_version g t v) r.now ∙ with-without (current a.records) t v;

@@ -6,13 +6,13 @@ use Rattle.gs_term.specs.declared.names.Target.{Target}
 use Rattle.gs_pool.specs.Pool.{Nodes, NodeMark, plain, aside, retired, node_at, mark_at, Marks}
 use Rattle.gs_ledger.specs.Marks.{death_of}
 use Rattle.gs_index.specs.declared.entries.Entry.{Entry}
-use Rattle.gs_index.specs.Indexes.{Indexed, entry_at, is_listed, ended as died}
+use Rattle.gs_index.specs.Indexes.{Indexed, entry_at, is_listed, with_death as died}
 use Rattle.gs_records.specs.Records.{Record, free, opened, unused, kept, Recorded, record_at, is_current, ended_entry, ended, Turns, Ends}
 use Rattle.gs_records.specs.Graphs.{current, without_version}
 use Rattle.gs_records.specs.Waste.{is_opened}
 use Rattle.gs_records.specs.Kept.{AreSingle, HasNoCurrent}
-use Rattle.gs_records.specs.Calls.{Removes}
-use Rattle.gs_records.specs.Stored.{records_by, HasNode, said_of, Stands, IsStored, Changes}
+use Rattle.gs_records.specs.Calls.{RemovesVersion}
+use Rattle.gs_records.specs.Stored.{records_by, HasNode, said_of, StandsForRecord, IsStored, ChangesOneNumber}
 use Rattle.gs_records.proofs.Lifetimes.{EndedCases, ends, stays, ended_cases, once_current}
 use Rattle.gs_records.proofs.Ending.{graphs_at-ended, current-ended_records, none_current, single_ended, dated_ended}
 use Rattle.gs_records.proofs.Sums.{gains_ended, open_turned}
@@ -54,7 +54,7 @@ ends_one old new t death n e single at same none turn m = elim (cases_eq m n) [
 ]
 
 -- what follows from that alone
-pub removed : (a b : Recorded) (t : Target) (commit : ℕ) → AreSingle a.records → Ends a.records b.records t commit → b.listed ≡ a.listed → b.latest ≡ commit → b.limit ≡ a.limit → Removes a b t commit
+pub removed : (a b : Recorded) (t : Target) (commit : ℕ) → AreSingle a.records → Ends a.records b.records t commit → b.listed ≡ a.listed → b.latest ≡ commit → b.limit ≡ a.limit → RemovesVersion a b t commit
 removed a b t commit single is listed latest limit = record {
   ends = is;
   versions = λ v lt. graphs_at-ended a.records b.records t commit is v single lt;
@@ -87,7 +87,7 @@ plain_undead (retired death whole) e = absurd (cc)
 
 -- the current record of a number ends
 module _ (x y : Indexed) (p q : Nodes) (opens latest commit n : ℕ) (t : Target) (e : Entry) (s : IsStored x p opens latest) (at : record_at (records_by x p) n ≡ kept e) (same : e.target ≡ t) (none : e.death ≡ None) where
-  here : Stands (kept e) (node_at p n) (mark_at p n) (entry_at x.entries n)
+  here : StandsForRecord (kept e) (node_at p n) (mark_at p n) (entry_at x.entries n)
   here = stands_at x p opens latest n (kept e) s at
 
   pub end_within : n < length x.entries
@@ -106,7 +106,7 @@ module _ (x y : Indexed) (p q : Nodes) (opens latest commit n : ℕ) (t : Target
     entry_other : (m : ℕ) → m ≢ n → entry_at y.entries m ≡ entry_at x.entries m
     entry_other m ne = ap (λ es. entry_at es m) entries ∙ rw get_or-set_other refl
 
-    end_changes : Changes x y p q n (kept (died e commit))
+    end_changes : ChangesOneNumber x y p q n (kept (died e commit))
     end_changes = record {
       many = ap length marks.nodes ∙ s.many ∙ sym (ap length entries ∙ length-set x.entries n (died (entry_at x.entries n) commit));
       stands = (entry_now, subst (λ o. HasNode o e.birth) (sym (ap (λ ns. get_or ns n None) marks.nodes)) here.1, ap death_of marks.changed, here.3);

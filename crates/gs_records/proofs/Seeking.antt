@@ -11,13 +11,13 @@ use Rattle.gs_term.specs.declared.names.Target.{Target}
 use Rattle.gs_catalogue.specs.Catalogues.{no_versions, version_at}
 use Rattle.gs_pool.specs.Pool.{Nodes, node_at, mark_at}
 use Rattle.gs_index.specs.declared.entries.Entry.{Entry}
-use Rattle.gs_index.specs.Ages.{blank_entry, age_of, age_in, age_cmp, number_cmp, target_cmp, target_text, is_target}
+use Rattle.gs_index.specs.Ages.{blank_entry, age_of, age_in, age_cmp, aged_number_cmp, target_cmp, target_text, is_target}
 use Rattle.gs_index.specs.Indexes.{Indexed, entry_at, is_listed, is_made_by, youngest_by, IsIndexed}
 use Rattle.gs_records.specs.Records.{kept, record_at, is_current, outlives}
 use Rattle.gs_records.specs.Graphs.{current}
 use Rattle.gs_records.specs.Kept.{DiedBy, HasNoCurrent}
 use Rattle.gs_records.specs.Calls.{FindsCurrent}
-use Rattle.gs_records.specs.Stored.{is_made, bare_of, records_by, Stands, IsStored}
+use Rattle.gs_records.specs.Stored.{is_made, bare_of, records_by, StandsForRecord, IsStored}
 use Rattle.gs_records.proofs.Found.{Found, target_itself, target_same}
 use Rattle.gs_records.proofs.Same.{version_found, version_lacking}
 use Rattle.gs_records.proofs.Lifetimes.{both_true, first_true, has_from, lives_none, once_current}
@@ -34,7 +34,7 @@ not_greater r a b e = go (nat_cmp a b) refl e
     go Greater is h = absurd (let bad : Greater ≡ Less = h in cc)
 
 -- of one graph the youngest is first
-pub younger_first : (es : List Entry) (n m : ℕ) → (entry_at es n).target ≡ (entry_at es m).target → number_cmp (age_in es) n m ≡ Less → (entry_at es m).birth ≤ (entry_at es n).birth
+pub younger_first : (es : List Entry) (n m : ℕ) → (entry_at es n).target ≡ (entry_at es m).target → aged_number_cmp (age_in es) n m ≡ Less → (entry_at es m).birth ≤ (entry_at es n).birth
 younger_first es n m same less =
     let an : age_in es n ≡ age_of (entry_at es n) = get_or-map age_of es n blank_entry in
     let am : age_in es m ≡ age_of (entry_at es m) = get_or-map age_of es m blank_entry in
@@ -58,7 +58,7 @@ module _ (x : Indexed) (p : Nodes) (opens latest : ℕ) (s : IsStored x p opens 
 
   -- and what is a record is listed
   module _ (n : ℕ) (e : Entry) (at : record_at (records_by x p) n ≡ kept e) where
-    here : Stands (kept e) (node_at p n) (mark_at p n) (entry_at x.entries n)
+    here : StandsForRecord (kept e) (node_at p n) (mark_at p n) (entry_at x.entries n)
     here = stands_at x p opens latest n (kept e) s at
 
     pub entry_is : entry_at x.entries n ≡ e
@@ -79,8 +79,8 @@ module _ (x : Indexed) (p : Nodes) (opens latest : ℕ) (s : IsStored x p opens 
     none_sought none n e at same now = find_none (λ k. is_made_by t latest (entry_at x.entries k)) x.listed none n (kept_listed n e at) (passes_at n e at same)
 
     module _ (n : ℕ) (found : youngest_by x t latest ≡ Some n) (indexed : IsIndexed x) where
-      first : IsFirst (number_cmp (age_in x.entries)) (λ k. is_made_by t latest (entry_at x.entries k)) x.listed n
-      first = find_first (number_cmp (age_in x.entries)) (λ k. is_made_by t latest (entry_at x.entries k)) x.listed n indexed.rising found
+      first : IsFirst (aged_number_cmp (age_in x.entries)) (λ k. is_made_by t latest (entry_at x.entries k)) x.listed n
+      first = find_first (aged_number_cmp (age_in x.entries)) (λ k. is_made_by t latest (entry_at x.entries k)) x.listed n indexed.rising found
 
       target_is : (entry_at x.entries n).target ≡ t
       target_is = sym (target_same t (entry_at x.entries n).target (first_true _ _ first.passes))

@@ -8,11 +8,11 @@ use Rattle.std.specs.declared.cmp.Ordering.TheVariants.{Less}
 use Rattle.gs_pool.specs.declared.nodes.Node.{Node}
 use Rattle.gs_pool.specs.Pool.{Nodes, NodeMark, plain, aside, retired, node_at, mark_at}
 use Rattle.gs_index.specs.declared.entries.Entry.{Entry}
-use Rattle.gs_index.specs.Ages.{Age, blank_entry, age_of, age_in, age_cmp, number_cmp}
+use Rattle.gs_index.specs.Ages.{Age, blank_entry, age_of, age_in, age_cmp, aged_number_cmp}
 use Rattle.gs_index.specs.Indexes.{Indexed, entry_at, is_listed, IsIndexed}
 use Rattle.gs_records.specs.Records.{kept, record_at, has_at, is_kept}
 use Rattle.gs_records.specs.Order.{entry_of, has_number, age_at, AreListed}
-use Rattle.gs_records.specs.Stored.{is_made, bare_of, state_of, records_by, IsStored}
+use Rattle.gs_records.specs.Stored.{is_made, bare_of, record_by, records_by, IsStored}
 use Rattle.gs_records.proofs.Ordering.{kept_is}
 use Rattle.gs_records.proofs.Storing.{records_at}
 use Rattle.gs_records.proofs.Listing.{same_number}
@@ -24,14 +24,14 @@ bare_not (Some n) plain = refl
 bare_not (Some n) (aside d w) = refl
 bare_not (Some n) (retired d w) = refl
 
-state_kept : (o : Option Node) (m : NodeMark) (e : Entry) → is_kept (state_of o m e) ≡ is_made e
+state_kept : (o : Option Node) (m : NodeMark) (e : Entry) → is_kept (record_by o m e) ≡ is_made e
 state_kept o m e = go (is_made e)
   where
     go : (b : Bool) → is_kept (cond b (kept e) (bare_of o m)) ≡ b
     go true = refl
     go false = bare_not o m
 
-state_has : (v : ℕ) (o : Option Node) (m : NodeMark) (e : Entry) → (is_kept (state_of o m e) && has_at v (entry_of (state_of o m e))) ≡ (is_made e && has_at v e)
+state_has : (v : ℕ) (o : Option Node) (m : NodeMark) (e : Entry) → (is_kept (record_by o m e) && has_at v (entry_of (record_by o m e))) ≡ (is_made e && has_at v e)
 state_has v o m e = go (is_made e)
   where
     go : (b : Bool) → (is_kept (cond b (kept e) (bare_of o m)) && has_at v (entry_of (cond b (kept e) (bare_of o m)))) ≡ (b && has_at v e)
@@ -42,14 +42,14 @@ or_later : (a b : Bool) → b ≡ true → (a || b) ≡ true
 or_later true b e = refl
 or_later false b e = e
 
-all_same : (f g : ℕ → Age) (k : ℕ) (ns : List ℕ) → f k ≡ g k → ((n : ℕ) → is_listed n ns ≡ true → f n ≡ g n) → AllByRecursion (λ n. number_cmp f k n ≡ Less) ns → AllByRecursion (λ n. number_cmp g k n ≡ Less) ns
+all_same : (f g : ℕ → Age) (k : ℕ) (ns : List ℕ) → f k ≡ g k → ((n : ℕ) → is_listed n ns ≡ true → f n ≡ g n) → AllByRecursion (λ n. aged_number_cmp f k n ≡ Less) ns → AllByRecursion (λ n. aged_number_cmp g k n ≡ Less) ns
 all_same f g k [] at same h = tt
 all_same f g k (n ∷ ns) at same h =
     let here : f n ≡ g n = same n (ap (λ b. b || is_listed n ns) (same_number n)) in
-    let eq : number_cmp f k n ≡ number_cmp g k n = λ i. ordering_then (age_cmp (at i) (here i)) (nat_cmp n k) in
+    let eq : aged_number_cmp f k n ≡ aged_number_cmp g k n = λ i. ordering_then (age_cmp (at i) (here i)) (nat_cmp n k) in
     (sym eq ∙ h.0, all_same f g k ns at (λ m is. same m (or_later (n == m) (is_listed m ns) is)) h.1)
 
-sorted_same : (f g : ℕ → Age) (ns : List ℕ) → ((n : ℕ) → is_listed n ns ≡ true → f n ≡ g n) → IsStrictlySortedBy (number_cmp f) ns → IsStrictlySortedBy (number_cmp g) ns
+sorted_same : (f g : ℕ → Age) (ns : List ℕ) → ((n : ℕ) → is_listed n ns ≡ true → f n ≡ g n) → IsStrictlySortedBy (aged_number_cmp f) ns → IsStrictlySortedBy (aged_number_cmp g) ns
 unfolding IsStrictlySortedBy
 sorted_same f g [] same h = tt
 sorted_same f g (n ∷ ns) same h =

@@ -5,7 +5,7 @@ use Rattle.std.proofs.lemmas.List.Sums.{sum_by-cons, sum_by-append}
 use Rattle.gs_term.specs.declared.names.Target.{Target}
 use Rattle.gs_event.specs.Waste.{Lifetime}
 use Rattle.gs_index.specs.declared.entries.Entry.{Entry}
-use Rattle.gs_index.specs.Indexes.{ended as died}
+use Rattle.gs_index.specs.Indexes.{with_death as died}
 use Rattle.gs_records.specs.Records.{Record, free, opened, unused, kept, record_at, is_of, is_current, ended, Turns, Ends}
 use Rattle.gs_records.specs.Waste.{lifetime_of, lifetimes, waste_in, is_opened, open_count}
 use Rattle.gs_records.specs.Calls.{Gains, ending, endings}

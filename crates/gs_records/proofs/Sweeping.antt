@@ -17,9 +17,9 @@ use Rattle.gs_index.specs.Indexes.{Indexed, entry_at}
 use Rattle.gs_records.specs.Records.{Record, free, opened, unused, kept, record_at, Turns}
 use Rattle.gs_records.specs.Waste.{lifetime_of, lifetimes, is_opened, open_count}
 use Rattle.gs_records.specs.Kept.{AreSingle, AreDated}
-use Rattle.gs_records.specs.Stored.{is_made, bare_of, state_of, records_of, records_by, said_of, Stands, IsStored, Changes}
+use Rattle.gs_records.specs.Stored.{is_made, bare_of, record_by, records_of, records_by, said_of, StandsForRecord, IsStored, ChangesOneNumber}
 use Rattle.gs_records.specs.Reclaims.{IsUnneeded}
-use Rattle.gs_records.specs.Sweeps.{AreStored, Lets, Stays, Settles, Drops, Sweeps}
+use Rattle.gs_records.specs.Sweeps.{AreStored, Lets, Stays, SettlesNumber, Drops, Sweeps}
 use Rattle.gs_records.proofs.Storing.{get_or_drop, turns_stored, all_stand}
 use Rattle.gs_records.proofs.Turning.{single_turned, dated_turned}
 use Rattle.gs_records.proofs.Sums.{open_turned}
@@ -43,11 +43,11 @@ records_same : (es : List Entry) (ns : List (Option Node)) (ms ks : List NodeMar
 records_same [] ns ms ks e = refl
 records_same (x ∷ es) ns ms ks e =
     let first = bare_same (get_or ns 0 None) (get_or ms 0 plain) (get_or ks 0 plain) (e 0) in
-    let here : state_of (get_or ns 0 None) (get_or ks 0 plain) x ≡ state_of (get_or ns 0 None) (get_or ms 0 plain) x = ap (λ r. cond (is_made x) (kept x) r) first in
+    let here : record_by (get_or ns 0 None) (get_or ks 0 plain) x ≡ record_by (get_or ns 0 None) (get_or ms 0 plain) x = ap (λ r. cond (is_made x) (kept x) r) first in
     let rest = records_same es (drop 1 ns) (drop 1 ms) (drop 1 ks) (λ m. ap death_of (get_or_drop ks m plain) ∙ e (suc m) ∙ sym (ap death_of (get_or_drop ms m plain))) in
     λ i. here i ∷ rest i
 
-stands_same : (r : Record) (o : Option Node) (m k : NodeMark) (e : Entry) → death_of k ≡ death_of m → Stands r o m e → Stands r o k e
+stands_same : (r : Record) (o : Option Node) (m k : NodeMark) (e : Entry) → death_of k ≡ death_of m → StandsForRecord r o m e → StandsForRecord r o k e
 stands_same free o m k e d s = s
 stands_same opened o m k e d s = (s.0, s.1, plain_undead k (d ∙ ap death_of s.2))
 stands_same unused o m k e d s = (s.0, s.1, d ∙ s.2)
@@ -63,8 +63,8 @@ module _ (x : Indexed) (p q : Nodes) (k : KeepsDead p q) where
     many = ap length k.nodes ∙ s.many;
     stand = λ n.
         let old = record_at (records_by x p) n in
-        let marked : Stands old (node_at p n) (mark_at q n) (entry_at x.entries n) = stands_same old (node_at p n) (mark_at p n) (mark_at q n) (entry_at x.entries n) (k.deaths n) (s.stand n) in
-        subst (λ r. Stands r (node_at q n) (mark_at q n) (entry_at x.entries n)) (sym (ap (λ rs. record_at rs n) dead_records)) (subst (λ o. Stands old o (mark_at q n) (entry_at x.entries n)) (sym (ap (λ ns. get_or ns n None) k.nodes)) marked);
+        let marked : StandsForRecord old (node_at p n) (mark_at q n) (entry_at x.entries n) = stands_same old (node_at p n) (mark_at p n) (mark_at q n) (entry_at x.entries n) (k.deaths n) (s.stand n) in
+        subst (λ r. StandsForRecord r (node_at q n) (mark_at q n) (entry_at x.entries n)) (sym (ap (λ rs. record_at rs n) dead_records)) (subst (λ o. StandsForRecord old o (mark_at q n) (entry_at x.entries n)) (sym (ap (λ ns. get_or ns n None) k.nodes)) marked);
     lists = s.lists;
     counted = s.counted ∙ sym (ap open_count dead_records);
     room = s.room;
@@ -90,7 +90,7 @@ kept_life birth b None death whole said born = absurd (no_pair (death, whole) sa
 kept_life birth b (Some d) death whole said born = let same = some_pair (d, false) (death, whole) said in λ i. record { birth = born i; death = (same i).0 } ∷ []
 
 -- a record whose mark says a death has the lifetime from its node's birth until then
-pub dead_life : (r : Record) (o : Option Node) (m : NodeMark) (e : Entry) (death : ℕ) (whole : Bool) (n : Node) → Stands r o m e → death_of m ≡ Some (death, whole) → o ≡ Some n → lifetimes r ≡ record { birth = n.birth; death = death } ∷ []
+pub dead_life : (r : Record) (o : Option Node) (m : NodeMark) (e : Entry) (death : ℕ) (whole : Bool) (n : Node) → StandsForRecord r o m e → death_of m ≡ Some (death, whole) → o ≡ Some n → lifetimes r ≡ record { birth = n.birth; death = death } ∷ []
 dead_life free o m e death whole n s said found = absurd (no_node n (sym s.1 ∙ found))
 dead_life opened o m e death whole n s said found = absurd (no_pair (death, whole) (sym (ap death_of s.2) ∙ said))
 dead_life unused o m e death whole n s said found =
@@ -108,7 +108,7 @@ not_opened (kept f) l e = refl
 
 -- a number is freed whose node was taken off the list
 module _ (x y : Indexed) (p p1 q : Nodes) (r : Retired) (n : Node) (u : Unlists p p1 r.id (retired r.death r.whole)) (found : node_at p1 r.id ≡ Some n) (l : Lets x y p1 q r.id) (opens latest : ℕ) (s : IsStored x p opens latest) where
-  freed_changes : Changes x y p q r.id free
+  freed_changes : ChangesOneNumber x y p q r.id free
   freed_changes = record {
     many = l.numbers ∙ ap length u.marks.nodes ∙ s.many ∙ sym l.blanks.many;
     stands = (l.blanks.blank, l.updates.changed);
@@ -195,8 +195,8 @@ stays v p q seat r m n marks dead = record {
 }
 
 -- what the loop made of it
-pub sweeps_settled : (pins : List (Option ℕ)) (k : ℕ) (x0 x y : Indexed) (p0 p p1 q : Nodes) (r : Retired) → AreStored x0 p0 → Sweeps pins k x0 x p0 p → Unlists p p1 r.id (retired r.death r.whole) → Settles pins x y p1 q r true → Sweeps pins (k + 1) x0 y p0 q
+pub sweeps_settled : (pins : List (Option ℕ)) (k : ℕ) (x0 x y : Indexed) (p0 p p1 q : Nodes) (r : Retired) → AreStored x0 p0 → Sweeps pins k x0 x p0 p → Unlists p p1 r.id (retired r.death r.whole) → SettlesNumber pins x y p1 q r true → Sweeps pins (k + 1) x0 y p0 q
 sweeps_settled pins k x0 x y p0 p p1 q r h w u s = sweeps_freed pins k x0 x y p0 p p1 q r s.0 h w u s.1 s.2 s.3
 
-pub sweeps_stayed : (pins : List (Option ℕ)) (k : ℕ) (x0 x y : Indexed) (p0 p p1 q : Nodes) (r : Retired) → Sweeps pins k x0 x p0 p → Unlists p p1 r.id (retired r.death r.whole) → Settles pins x y p1 q r false → Sweeps pins k x0 y p0 q
+pub sweeps_stayed : (pins : List (Option ℕ)) (k : ℕ) (x0 x y : Indexed) (p0 p p1 q : Nodes) (r : Retired) → Sweeps pins k x0 x p0 p → Unlists p p1 r.id (retired r.death r.whole) → SettlesNumber pins x y p1 q r false → Sweeps pins k x0 y p0 q
 sweeps_stayed pins k x0 x y p0 p p1 q r w u s = subst (λ z. Sweeps pins k x0 z p0 q) (sym s.0) (sweeps_kept pins k x0 x p0 p p1 q r w u s.1)

@@ -9,10 +9,10 @@ use Rattle.std.proofs.lemmas.Bool.{cases_Bool, le-ltb, ltb-true, ltb-false}
 use Rattle.std.proofs.lemmas.List.{take-append-drop, length-take-le, take_all}
 use Rattle.std.proofs.lemmas.List.Elements.{filter-append}
 use Rattle.std.proofs.lemmas.Map.Views.{exact_unsigned_eq}
-use Rattle.gs_index.specs.Ages.{number_cmp}
+use Rattle.gs_index.specs.Ages.{aged_number_cmp}
 use Rattle.gs_index.specs.Indexes.{is_listed, after_number, numbers_after}
 use Rattle.gs_records.specs.Records.{Record}
-use Rattle.gs_records.specs.Order.{has_number, age_at, AreListed, goes_on}
+use Rattle.gs_records.specs.Order.{has_number, age_at, AreListed, search_goes_on}
 use Rattle.gs_records.specs.Laws.{piece_after, IsWalk, ends, goes}
 use Rattle.gs_records.proofs.Listing.{same_number, all_less}
 use Rattle.gs_records.proofs.Ordering.{number_tied}
@@ -75,14 +75,14 @@ last_is n [] e = absurd (let bad : None ≡ Some n = e in cc)
 last_is n (x ∷ xs) e = last_at n (x ∷ xs) (length (x ∷ xs) - 1) (omega arith) e
 
 -- where a walk goes on, it has the last number of a piece
-goes_last : (most n : ℕ) (ns : List ℕ) → goes_on most ns ≡ Some n → IsLast n ns
+goes_last : (most n : ℕ) (ns : List ℕ) → search_goes_on most ns ≡ Some n → IsLast n ns
 goes_last most n ns e = elim (cases_Bool (ltb (length ns) most)) [
   | inl few ↦ absurd (let bad : None ≡ Some n = sym (ap (λ b. cond b None (slice_get ns (length ns - 1))) few) ∙ e in cc)
   | inr many ↦ last_is n ns (sym (ap (λ b. cond b None (slice_get ns (length ns - 1))) many) ∙ e)
 ]
 
 -- where a walk ends, a piece is all that was left
-ends_whole : (most : ℕ) (xs : List ℕ) → 0 < most → goes_on most (take most xs) ≡ None → take most xs ≡ xs
+ends_whole : (most : ℕ) (xs : List ℕ) → 0 < most → search_goes_on most (take most xs) ≡ None → take most xs ≡ xs
 ends_whole most xs some e = elim (cases_Bool (ltb (length xs) most)) [
   | inl few ↦ let lt = ltb-true (length xs) most few in take_all most xs (omega (arith, lt))
   | inr many ↦
@@ -94,7 +94,7 @@ ends_whole most xs some e = elim (cases_Bool (ltb (length xs) most)) [
 
 module _ (most v : ℕ) (rs : List Record) (listed : List ℕ) (some : 0 < most) (al : AreListed rs listed) where
   -- what is listed after the last number of a piece is what follows the piece
-  goes_after : (from : Option ℕ) (n : ℕ) → goes_on most (piece_after most from listed) ≡ Some n → after_number n listed ≡ drop most (numbers_after from listed)
+  goes_after : (from : Option ℕ) (n : ℕ) → search_goes_on most (piece_after most from listed) ≡ Some n → after_number n listed ≡ drop most (numbers_after from listed)
   goes_after from n e =
       let r = rest_from from listed in
       let xs = numbers_after from listed in
@@ -102,7 +102,7 @@ module _ (most v : ℕ) (rs : List Record) (listed : List ℕ) (some : 0 < most)
       let rest = drop most xs in
       let piece : xs ≡ l.front ++ n ∷ rest = sym (take-append-drop most xs) ∙ ap (λ zs. zs ++ rest) l.same ∙ append_assoc l.front (n ∷ []) rest in
       let whole : listed ≡ (r.before ++ l.front) ++ n ∷ rest = r.whole ∙ ap (λ zs. r.before ++ zs) piece ∙ sym (append_assoc r.before l.front (n ∷ rest)) in
-      ap (after_number n) whole ∙ after_risen (number_cmp (age_at rs)) (number_tied (age_at rs)) n (r.before ++ l.front) rest (subst (IsStrictlySortedBy (number_cmp (age_at rs))) whole al.rising)
+      ap (after_number n) whole ∙ after_risen (aged_number_cmp (age_at rs)) (number_tied (age_at rs)) n (r.before ++ l.front) rest (subst (IsStrictlySortedBy (aged_number_cmp (age_at rs))) whole al.rising)
 
   -- a walk gives all that the version has of what is listed after its beginning
   pub walk_has : (from : Option ℕ) (ns : List ℕ) → IsWalk most v rs listed from ns → ns ≡ filter (has_number v rs) (numbers_after from listed)

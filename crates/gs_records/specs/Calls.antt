@@ -54,7 +54,7 @@ pub record GivesUp (old new : Recorded) (n : ℕ) : Type 0 where
   pub limit : new.limit ≡ old.limit
 
 -- The version of a graph ended at this commit: earlier versions of the dataset have it, and it has none now.
-pub record Removes (old new : Recorded) (t : Target) (commit : ℕ) : Type 0 where
+pub record RemovesVersion (old new : Recorded) (t : Target) (commit : ℕ) : Type 0 where
   pub ends : Ends old.records new.records t commit
   pub versions : (v : ℕ) → v < commit → graphs_at v new.records ≡ graphs_at v old.records
   pub now : current new.records ≡ without_version (current old.records) t
@@ -65,8 +65,8 @@ pub record Removes (old new : Recorded) (t : Target) (commit : ℕ) : Type 0 whe
   pub limit : new.limit ≡ old.limit
 
 -- a graph's record, made by this commit
-abbrev pub made : Target → GraphVersion → ℕ → Record
-made t v commit = kept (record { target = t; version = v; birth = commit; death = None })
+abbrev pub made_record : Target → GraphVersion → ℕ → Record
+made_record t v commit = kept (record { target = t; version = v; birth = commit; death = None })
 
 -- whether this is the version of an empty default graph, of which no record is kept
 abbrev pub is_nothing : Target → GraphVersion → Bool
@@ -75,11 +75,11 @@ is_nothing (Named name) v = false
 
 -- what a number stands for once its version is committed
 abbrev pub placed : Target → GraphVersion → ℕ → Record
-placed t v commit = if is_nothing t v then unused else made t v commit
+placed t v commit = if is_nothing t v then unused else made_record t v commit
 
 -- An open record is that of a graph, made by the last commit; earlier versions of the dataset do not have it.
 pub record Places (old new : Recorded) (n : ℕ) (t : Target) (v : GraphVersion) : Type 0 where
-  pub turns : Turns old.records new.records n (made t v old.latest)
+  pub turns : Turns old.records new.records n (made_record t v old.latest)
   pub versions : (w : ℕ) → w < old.latest → graphs_at w new.records ≡ graphs_at w old.records
   pub now : current new.records ≡ with_version (current old.records) t v
   pub waste : Gains (waste_in old.records) (waste_in new.records) []
@@ -88,7 +88,7 @@ pub record Places (old new : Recorded) (n : ℕ) (t : Target) (v : GraphVersion)
 
 -- An open record is that of a graph, whose version until now ended at this commit: earlier versions of the dataset are as before, and
 -- the graph has this version now, and no other graph changed.
-pub record Puts (old new : Recorded) (n : ℕ) (t : Target) (v : GraphVersion) (commit : ℕ) : Type 0 where
+pub record MakesCurrent (old new : Recorded) (n : ℕ) (t : Target) (v : GraphVersion) (commit : ℕ) : Type 0 where
   pub turned : record_at new.records n ≡ placed t v commit
   pub others : (m : ℕ) → m ≢ n → record_at new.records m ≡ ended t commit (record_at old.records m)
   pub versions : (w : ℕ) → w < commit → graphs_at w new.records ≡ graphs_at w old.records

@@ -9,7 +9,7 @@ use Rattle.gs_records.specs.Records.{Record}
 use Rattle.gs_records.specs.Graphs.{graphs_at, current}
 use Rattle.gs_records.specs.Kept.{AreSingle, AreDated}
 use Rattle.gs_records.specs.Calls.{endings}
-use Rattle.gs_records.specs.Order.{has_number, AreListed, goes_on}
+use Rattle.gs_records.specs.Order.{has_number, AreListed, search_goes_on}
 
 -- the graphs of the last commit's version of the dataset, and of later ones, are those of now
 abbrev pub LastAreCurrent : Type 0
@@ -32,9 +32,9 @@ piece_after most from listed = take most (numbers_after from listed)
 
 -- A walk to the end, so many numbers a piece: what version v has of each piece, which begins after the last number of the one before.
 pub data IsWalk (most v : ℕ) (rs : List Record) (listed : List ℕ) : Option ℕ → List ℕ → Type 0 where
-  ends : (from : Option ℕ) → goes_on most (piece_after most from listed) ≡ None
+  ends : (from : Option ℕ) → search_goes_on most (piece_after most from listed) ≡ None
       → IsWalk most v rs listed from (filter (has_number v rs) (piece_after most from listed))
-  goes : (from : Option ℕ) (n : ℕ) (rest : List ℕ) → goes_on most (piece_after most from listed) ≡ Some n
+  goes : (from : Option ℕ) (n : ℕ) (rest : List ℕ) → search_goes_on most (piece_after most from listed) ≡ Some n
       → IsWalk most v rs listed (Some n) rest
       → IsWalk most v rs listed from (filter (has_number v rs) (piece_after most from listed) ++ rest)
 

@@ -8,7 +8,7 @@ use Rattle.gs_term.specs.declared.names.Target.TheVariants.{Default, Named}
 use Rattle.gs_catalogue.specs.declared.versions.GraphVersion.{GraphVersion}
 use Rattle.gs_catalogue.specs.Catalogues.{GraphVersions, empty_version}
 use Rattle.gs_index.specs.declared.entries.Entry.{Entry}
-use Rattle.gs_index.specs.Ages.{Age, blank_entry, age_of, number_cmp}
+use Rattle.gs_index.specs.Ages.{Age, blank_entry, age_of, aged_number_cmp}
 use Rattle.gs_index.specs.Indexes.{is_listed}
 use Rattle.gs_records.specs.Records.{Record, free, opened, unused, kept, record_at, has_at, is_kept}
 use Rattle.gs_records.specs.Graphs.{graphs_at}
@@ -32,7 +32,7 @@ age_at rs n = age_of (entry_of (record_at rs n))
 -- just the numbers of versions of graphs are listed, in the order of their graphs, and of one graph the youngest first
 pub record AreListed (rs : List Record) (listed : List ℕ) : Type 0 where
   pub members : (n : ℕ) → is_listed n listed ≡ is_kept (record_at rs n)
-  pub rising : IsStrictlySortedBy (number_cmp (age_at rs)) listed
+  pub rising : IsStrictlySortedBy (aged_number_cmp (age_at rs)) listed
 
 -- the graph and the version of a number
 abbrev pub graph_of_number : List Record → ℕ → Target × GraphVersion
@@ -62,5 +62,5 @@ abbrev pub AreListedInOrder : Type 0
 AreListedInOrder = (v : ℕ) (rs : List Record) (listed : List ℕ) → AreSingle rs → AreListed rs listed → AreInOrder (graphs_at v rs) (graphs_listed v rs listed)
 
 -- Where a search for so many numbers goes on, which gave these: after the last of them, and nowhere where they were fewer.
-abbrev pub goes_on : ℕ → List ℕ → Option ℕ
-goes_on most numbers = if nat_lt (length numbers) most then None else slice_get numbers (length numbers - 1)
+abbrev pub search_goes_on : ℕ → List ℕ → Option ℕ
+search_goes_on most numbers = if nat_lt (length numbers) most then None else slice_get numbers (length numbers - 1)

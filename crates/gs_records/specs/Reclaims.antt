@@ -18,7 +18,7 @@ StaysOrGoes pins old new = (new ≡ old) ⊎ ((new ≡ free) × IsUnneeded pins 
 
 -- The waste goes as a Reclaim of at most n says; just records that no version needs are free now, so what is open, current or needed
 -- stays under its number; and the graphs of each pinned version and those of now are what they were.
-pub record Reclaims (pins : List (Option ℕ)) (n freed : ℕ) (left : Bool) (old new : Recorded) : Type 0 where
+pub record ReclaimsRecords (pins : List (Option ℕ)) (n freed : ℕ) (left : Bool) (old new : Recorded) : Type 0 where
   pub waste : Frees pins n freed left (waste_in old.records) (waste_in new.records)
   pub each : (m : ℕ) → StaysOrGoes pins (record_at old.records m) (record_at new.records m)
   pub versions : (s v : ℕ) → slice_index_or pins s None ≡ Some v → graphs_at v new.records ≡ graphs_at v old.records

@@ -3,7 +3,7 @@ use Rattle.std.specs.Prelude.{◌≡◌, ◌≢◌, ℕ, Bool, true, false, ◌&
 use Rattle.gs_term.specs.declared.names.Target.{Target}
 use Rattle.gs_index.specs.declared.entries.Entry.{Entry}
 use Rattle.gs_index.specs.Ages.{is_target}
-use Rattle.gs_index.specs.Indexes.{ended as died}
+use Rattle.gs_index.specs.Indexes.{with_death as died}
 
 -- What a number stands for: nothing; an upload or a patch that is not committed yet; one that was given up; or a version of a graph.
 pub data Record : Type 0 where

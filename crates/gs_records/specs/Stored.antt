@@ -22,14 +22,14 @@ bare_of (Some n) (aside death whole) = unused
 bare_of (Some n) (retired death whole) = unused
 
 -- what a number stands for, by its node, its mark and its entry
-abbrev pub state_of : Option Node → NodeMark → Entry → Record
-state_of o m e = if is_made e then kept e else bare_of o m
+abbrev pub record_by : Option Node → NodeMark → Entry → Record
+record_by o m e = if is_made e then kept e else bare_of o m
 
 -- the same of all numbers
 abbrev pub records_of : List Entry → List (Option Node) → List NodeMark → List Record
 records_of [] nodes marks = []
 records_of (e ∷ es) nodes marks =
-    state_of (slice_index_or nodes 0 None) (slice_index_or marks 0 plain) e ∷ records_of es (drop 1 nodes) (drop 1 marks)
+    record_by (slice_index_or nodes 0 None) (slice_index_or marks 0 plain) e ∷ records_of es (drop 1 nodes) (drop 1 marks)
 
 -- the records of an index and a pool
 abbrev pub records_by : Indexed → Nodes → List Record
@@ -47,15 +47,15 @@ said_of None = None
 said_of (Some death) = Some (death, false)
 
 -- a number with this node, this mark and this entry stands for a record
-abbrev pub Stands : Record → Option Node → NodeMark → Entry → Type 0
-Stands free o m e = (e.birth ≡ 0) × (o ≡ None)
-Stands opened o m e = (e.birth ≡ 0) × HasNode o 0 × (m ≡ plain)
-Stands unused o m e = (e.birth ≡ 0) × HasNode o 0 × (death_of m ≡ Some (0, false))
-Stands (kept k) o m e = (e ≡ k) × HasNode o k.birth × (death_of m ≡ said_of k.death) × (0 < k.birth)
+abbrev pub StandsForRecord : Record → Option Node → NodeMark → Entry → Type 0
+StandsForRecord free o m e = (e.birth ≡ 0) × (o ≡ None)
+StandsForRecord opened o m e = (e.birth ≡ 0) × HasNode o 0 × (m ≡ plain)
+StandsForRecord unused o m e = (e.birth ≡ 0) × HasNode o 0 × (death_of m ≡ Some (0, false))
+StandsForRecord (kept k) o m e = (e ≡ k) × HasNode o k.birth × (death_of m ≡ said_of k.death) × (0 < k.birth)
 
 -- each number stands for its record
-abbrev pub AllStand : Indexed → Nodes → Type 0
-AllStand x p = (n : ℕ) → Stands (record_at (records_by x p) n) (node_at p n) (mark_at p n) (entry_at x.entries n)
+abbrev pub AllStandForRecords : Indexed → Nodes → Type 0
+AllStandForRecords x p = (n : ℕ) → StandsForRecord (record_at (records_by x p) n) (node_at p n) (mark_at p n) (entry_at x.entries n)
 
 -- what is made is listed
 abbrev pub ListsMade : Indexed → Type 0
@@ -64,7 +64,7 @@ ListsMade x = (n : ℕ) → is_listed n x.listed ≡ is_made (entry_at x.entries
 -- there are as many entries as nodes, each number stands for its record, what is made is listed, and there is room for what is open
 pub record IsStored (x : Indexed) (p : Nodes) (open_now latest : ℕ) : Type 0 where
   pub many : length p.nodes ≡ length x.entries
-  pub stand : AllStand x p
+  pub stand : AllStandForRecords x p
   pub lists : ListsMade x
   pub counted : open_now ≡ open_count (records_by x p)
   pub room : open_now ≤ x.spare
@@ -73,15 +73,15 @@ pub record IsStored (x : Indexed) (p : Nodes) (open_now latest : ℕ) : Type 0 w
   pub few : length x.entries ≤ last_node + 1
 
 -- one number has another node, another mark and another entry, so that it stands for this record, and each other one has what it had
-pub record Changes (x y : Indexed) (p q : Nodes) (n : ℕ) (r : Record) : Type 0 where
+pub record ChangesOneNumber (x y : Indexed) (p q : Nodes) (n : ℕ) (r : Record) : Type 0 where
   pub many : length q.nodes ≡ length y.entries
-  pub stands : Stands r (node_at q n) (mark_at q n) (entry_at y.entries n)
+  pub stands : StandsForRecord r (node_at q n) (mark_at q n) (entry_at y.entries n)
   pub nodes : (m : ℕ) → (m ≡ n → ⊥) → node_at q m ≡ node_at p m
   pub marks : (m : ℕ) → (m ≡ n → ⊥) → mark_at q m ≡ mark_at p m
   pub entries : (m : ℕ) → (m ≡ n → ⊥) → entry_at y.entries m ≡ entry_at x.entries m
 
 -- each number has the entry that it had, and there is one more where no number of the pool is free
-pub record Grows (x y : Indexed) (p : Nodes) : Type 0 where
+pub record GrowsByEntry (x y : Indexed) (p : Nodes) : Type 0 where
   pub entries : (m : ℕ) → entry_at y.entries m ≡ entry_at x.entries m
   pub listed : y.listed ≡ x.listed
   pub spare : y.spare ≡ x.spare

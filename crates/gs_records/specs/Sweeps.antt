@@ -50,9 +50,9 @@ pub record Stays (pins : List (Option ℕ)) (p q : Nodes) (r : Retired) : Type 0
   pub marks : Marks p q r.id mark
 
 -- such a number is free, where no pin needs it, and else stays
-abbrev pub Settles : List (Option ℕ) → Indexed → Indexed → Nodes → Nodes → Retired → Bool → Type 0
-Settles pins x y p q r true = (n : Node) × (node_at p r.id ≡ Some n) × (IsPinned pins n.birth r.death → ⊥) × Lets x y p q r.id
-Settles pins x y p q r false = (y ≡ x) × Stays pins p q r
+abbrev pub SettlesNumber : List (Option ℕ) → Indexed → Indexed → Nodes → Nodes → Retired → Bool → Type 0
+SettlesNumber pins x y p q r true = (n : Node) × (node_at p r.id ≡ Some n) × (IsPinned pins n.birth r.death → ⊥) × Lets x y p q r.id
+SettlesNumber pins x y p q r false = (y ≡ x) × Stays pins p q r
 
 -- so many numbers are free now, which stood for records that no pin needs, and nothing else is another
 pub record Drops (pins : List (Option ℕ)) (freed : ℕ) (old new : List Record) : Type 0 where

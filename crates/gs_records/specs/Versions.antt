@@ -5,10 +5,10 @@ use Rattle.gs_records.specs.Records.{Record, kept, record_at}
 use Rattle.gs_records.specs.Calls.{is_nothing}
 
 -- its count of triples is below 2^64, and it is not that of an empty default graph, of which no record is kept
-pub record IsVersion (e : Entry) : Type 0 where
+pub record IsVersionEntry (e : Entry) : Type 0 where
   pub small : e.version.triples < 2 ^ 64
   pub something : is_nothing e.target e.version ≡ false
 
 -- each version of a graph is so
 abbrev pub AreVersions : List Record → Type 0
-AreVersions rs = (n : ℕ) (e : Entry) → record_at rs n ≡ kept e → IsVersion e
+AreVersions rs = (n : ℕ) (e : Entry) → record_at rs n ≡ kept e → IsVersionEntry e

@@ -2,7 +2,7 @@
 ghost use Rattle.std.specs.Prelude.{◌≡◌, length, IfErr, OnOk, OnErr};
 ghost use Rattle.gs_catalogue.specs.Catalogues.{no_versions, version_at};
 ghost use Rattle.gs_records.specs.Calls.{is_nothing};
-ghost use Rattle.gs_records.specs.Stored.{Grows};
+ghost use Rattle.gs_records.specs.Stored.{GrowsByEntry};
 ghost use Rattle.gs_records.specs.Counts.{named_one};
 
 use gs_catalogue::GraphVersion;
@@ -32,7 +32,7 @@ pub fn node_of(birth: u64) -> Node
 /// An entry for the next number, where the nodes of all numbers are in use.
 pub fn grow(index: &mut Index, pool: &Pool) -> Result<(), Refusal>
     requires { length pool.now.nodes ≡ length index.old.entries }
-    ensures ok { OnOk result (Grows index.old index.new pool.now) }
+    ensures ok { OnOk result (GrowsByEntry index.old index.new pool.now) }
     ensures refused { IfErr result (λ e. e ≡ Refusal.NoMemory) }
     ensures kept { OnErr result (index.new ≡ index.old) }
 {

@@ -8,7 +8,7 @@ ghost use Rattle.gs_records.specs.Graphs.{current};
 ghost use Rattle.gs_records.specs.Waste.{is_opened};
 ghost use Rattle.gs_records.specs.Kept.{AreSingle, AreDated};
 ghost use Rattle.gs_records.specs.Versions.{AreVersions};
-ghost use Rattle.gs_records.specs.Order.{has_number, AreListed, goes_on};
+ghost use Rattle.gs_records.specs.Order.{has_number, AreListed, search_goes_on};
 ghost use Rattle.gs_records.specs.Laws.{piece_after};
 ghost use Rattle.gs_records.specs.Stored.{is_made as is_made_entry};
 
@@ -43,7 +43,7 @@ fn has_made(version: u64, entry: &Entry) -> bool
 
 /// The last of these numbers, of which as many were asked for.
 fn last_if_many(numbers: &[u32], most: usize) -> Option<u32>
-    ensures { result ≡ goes_on most numbers.now }
+    ensures { result ≡ search_goes_on most numbers.now }
 {
     if numbers.len() < most {
         return None;
@@ -129,7 +129,7 @@ impl Records {
         requires from { IfSome from (λ n. is_listed n self.now.listed ≡ true) }
         ensures numbers { IfOk result (λ p. p.0.items
             ≡ filter (has_number version self.now.records) (piece_after most from self.now.listed)) }
-        ensures rest { IfOk result (λ p. p.1 ≡ goes_on most (piece_after most from self.now.listed)) }
+        ensures rest { IfOk result (λ p. p.1 ≡ search_goes_on most (piece_after most from self.now.listed)) }
         ensures refused { IfErr result (λ e. e ≡ Refusal.NoMemory) }
         ensures listed { AreListed self.now.records self.now.listed }
     {

@@ -5,7 +5,7 @@ ghost use Rattle.gs_pool.specs.Held.{AreHeld};
 ghost use Rattle.gs_reclaim.specs.Holders.{Agrees, KeepsDead};
 ghost use Rattle.gs_reclaim.specs.Reclaims.{IsNeededFor};
 ghost use Rattle.gs_records.specs.Stored.{ListsMade};
-ghost use Rattle.gs_records.specs.Sweeps.{AreStored, Blanks, Lets, Stays, Settles, Sweeps, Swept};
+ghost use Rattle.gs_records.specs.Sweeps.{AreStored, Blanks, Lets, Stays, SettlesNumber, Sweeps, Swept};
 
 use gs_index::Index;
 use gs_pool::{Pool, Retired};
@@ -67,7 +67,7 @@ fn settle(index: &mut Index, pool: &mut Pool, versions: &Versions, entry: Retire
     requires unlisted { mark_at pool.old entry.id ≡ plain }
     requires agrees { Agrees pool.old versions.now }
     requires lists { ListsMade index.old }
-    ensures settles { Settles versions.now.seats index.old index.new pool.old pool.new entry result }
+    ensures settles { SettlesNumber versions.now.seats index.old index.new pool.old pool.new entry result }
     ensures limit { pool.new.limit ≡ pool.old.limit }
     ensures pins { pool.new.pins ≡ pool.old.pins }
     ensures loose { pool.new.loose ≡ pool.old.loose }

@@ -6,8 +6,8 @@ ghost use Rattle.gs_index.specs.Indexes.{is_listed, numbers_after};
 ghost use Rattle.gs_records.specs.Records.{opened, kept, Recorded, record_at};
 ghost use Rattle.gs_records.specs.Graphs.{current};
 ghost use Rattle.gs_records.specs.Kept.{HasNoCurrent};
-ghost use Rattle.gs_records.specs.Calls.{is_nothing, Opens, GivesUp, Removes, Places, Puts, FindsCurrent};
-ghost use Rattle.gs_records.specs.Reclaims.{Reclaims};
+ghost use Rattle.gs_records.specs.Calls.{is_nothing, Opens, GivesUp, RemovesVersion, Places, MakesCurrent, FindsCurrent};
+ghost use Rattle.gs_records.specs.Reclaims.{ReclaimsRecords};
 
 use crate::places::{grow, is_nothing_of, missing_version, name_of, node_of};
 use crate::reclaiming::{Reclaimed, reclaim};
@@ -137,7 +137,7 @@ impl Records {
     /// Ends the current record of a graph at a commit, where there is one. Takes no memory.
     pub fn remove(&mut self, target: &Target, commit: u64)
         requires { self.old.latest < commit }
-        ensures { Removes self.old self.new target.now commit }
+        ensures { RemovesVersion self.old self.new target.now commit }
     {
         let Some(number) = self.current(target) else {
             self.latest = commit;
@@ -177,7 +177,7 @@ impl Records {
     pub fn put(&mut self, number: u32, target: Target, version: GraphVersion, commit: u64)
         requires opened { record_at self.old.records number ≡ opened }
         requires later { self.old.latest < commit }
-        ensures { Puts self.old self.new number target version commit }
+        ensures { MakesCurrent self.old self.new number target version commit }
     {
         self.remove(&target, commit);
         if is_nothing_of(&target, version) {
@@ -189,7 +189,7 @@ impl Records {
     /// Frees as many of the records that ended or were given up as no pinned version needs, at most n.
     /// Their numbers are free, and the bytes of their names are given back. Takes no memory.
     pub fn reclaim(&mut self, versions: &Versions, n: u64) -> Reclaimed
-        ensures { Reclaims versions.now.seats n result.freed result.left self.old self.new }
+        ensures { ReclaimsRecords versions.now.seats n result.freed result.left self.old self.new }
     {
         reclaim(&mut self.index, &mut self.pool, versions, n)
     }

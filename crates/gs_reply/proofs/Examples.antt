@@ -6,7 +6,8 @@ use Rattle.std.specs.Fmt.{digits}
 use Rattle.gs_names.specs.declared.media.Media.TheVariants.{Turtle, NTriples}
 use Rattle.gs_verdict.specs.declared.methods.Allow.TheVariants.{OfGraphs, OfStore}
 use Rattle.gs_reply.specs.Notices.{Nothing, Allows, Made}
-use Rattle.gs_reply.specs.Replies.{line_end, phrase_of, status_line, field_line, type_line, chunked_line}
+use Rattle.gs_model.specs.Ascii.{crlf}
+use Rattle.gs_reply.specs.Replies.{phrase_of, status_line, field_line, type_line, chunked_line}
 use Rattle.gs_reply.specs.Replies.{reply_text, continue_text, lines_head, chunk, last_chunk}
 
 phrase_100 : phrase_of 100 ≡ codes "Continue"
@@ -75,7 +76,7 @@ phrase_507 = refl
 
 -- a line of characters, with its end
 line : List ℕ → List ℕ
-line x = x ++ line_end
+line x = x ++ crlf
 
 -- a 204 has no length
 no_content : reply_text 204 Nothing true ≡

@@ -3,15 +3,11 @@ use Rattle.std.specs.Prelude.{ℕ, Bool, false, ◌&&◌, nat_le, nat_lt, ◌==�
 use Rattle.std.specs.Prelude.{List, [], ◌∷◌, ◌++◌, length, codes}
 use Rattle.std.specs.Fmt.{digits}
 use Rattle.http.specs.StatusCode.{code_digits, reason_phrase}
-use Rattle.gs_model.specs.Ascii.{carriage_return, line_feed}
+use Rattle.gs_model.specs.Ascii.{crlf}
 use Rattle.gs_names.specs.declared.media.Media.{Media}
 use Rattle.gs_names.specs.declared.media.Media.TheVariants.{Turtle, NTriples, Update}
 use Rattle.gs_verdict.specs.Methods.{allow_text}
 use Rattle.gs_reply.specs.Notices.{Notice, Nothing, Allows, Made}
-
--- the end of a line (RFC 9112, section 2.1)
-abbrev pub line_end : List ℕ
-line_end = carriage_return ∷ line_feed ∷ []
 
 -- status-code (RFC 9110, section 15): a number from 100 to 999; 500 stands for any other, as a client is to read it
 abbrev pub code_of : ℕ → ℕ
@@ -23,11 +19,11 @@ phrase_of s = unwrap_or (reason_phrase s) []
 
 -- status-line (RFC 9112, section 4)
 unfoldable pub status_line : ℕ → List ℕ
-status_line s = codes "HTTP/1.1 " ++ code_digits s ++ codes " " ++ phrase_of s ++ line_end
+status_line s = codes "HTTP/1.1 " ++ code_digits s ++ codes " " ++ phrase_of s ++ crlf
 
 -- field-line (RFC 9112, section 5), its value after one space
 unfoldable pub field_line : List ℕ → List ℕ → List ℕ
-field_line name value = name ++ codes ": " ++ value ++ line_end
+field_line name value = name ++ codes ": " ++ value ++ crlf
 
 -- the field of a connection that ends (RFC 9112, section 9.6)
 abbrev pub close_line : Bool → List ℕ
@@ -46,11 +42,11 @@ note_line (Made name) = field_line (codes "Location") name
 -- a reply without a body
 unfoldable pub reply_text : ℕ → Notice → Bool → List ℕ
 reply_text n notice closes =
-    status_line (code_of n) ++ length_line (code_of n) ++ note_line notice ++ close_line closes ++ line_end
+    status_line (code_of n) ++ length_line (code_of n) ++ note_line notice ++ close_line closes ++ crlf
 
 -- the reply before a body that is awaited (RFC 9110, section 15.2.1)
 unfoldable pub continue_text : List ℕ
-continue_text = status_line 100 ++ line_end
+continue_text = status_line 100 ++ crlf
 
 -- the name of a media type
 abbrev pub media_text : Media → List ℕ
@@ -68,12 +64,12 @@ chunked_line = field_line (codes "Transfer-Encoding") (codes "chunked")
 
 -- the head of a reply whose body comes in chunks
 unfoldable pub lines_head : Media → Bool → List ℕ
-lines_head media closes = status_line 200 ++ type_line media ++ chunked_line ++ close_line closes ++ line_end
+lines_head media closes = status_line 200 ++ type_line media ++ chunked_line ++ close_line closes ++ crlf
 
 -- chunk (RFC 9112, section 7.1), its size in lower-case hexadecimal; a piece without bytes is none
 unfoldable pub chunk : List ℕ → List ℕ
-chunk x = if length x == 0 then [] else digits 16 false (length x) ++ line_end ++ x ++ line_end
+chunk x = if length x == 0 then [] else digits 16 false (length x) ++ crlf ++ x ++ crlf
 
 -- last-chunk, and no trailers (RFC 9112, section 7.1)
 unfoldable pub last_chunk : List ℕ
-last_chunk = codes "0" ++ line_end ++ line_end
+last_chunk = codes "0" ++ crlf ++ crlf

@@ -3,4 +3,6 @@
 
 mod replies;
 
-pub use replies::{Note, chunk_after, continue_text, push_last_chunk, push_lines_head, push_reply};
+pub use replies::{
+    ReplyNote, chunk_after, continue_text, push_last_chunk, push_lines_head, push_reply,
+};

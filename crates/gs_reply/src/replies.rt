@@ -2,6 +2,7 @@
 //! memory is wanted the list is of no more use.
 ghost use Rattle.std.specs.Fmt.{digits};
 ghost use Rattle.std.specs.Prelude.{◌≡◌, ◌++◌, false, IfOk, OnOk};
+ghost use Rattle.gs_model.specs.Ascii.{crlf};
 ghost use Rattle.gs_reply.specs.Notices.{notice_of};
 ghost use Rattle.gs_reply.specs.Replies as spec;
 
@@ -20,7 +21,7 @@ const FRAME_BYTES: usize = 20;
 
 /// What a reply without a body says besides its status.
 #[derive(Clone, Copy, Debug)]
-pub enum Note<'a> {
+pub enum ReplyNote<'a> {
     Nothing,
     /// The methods that the target allows.
     Allows(Allow),
@@ -94,20 +95,20 @@ fn push_length(text: &mut Vec<u8>, status: StatusCode) -> Result<(), AllocError>
     }
 }
 
-fn push_note(text: &mut Vec<u8>, note: Note<'_>) -> Result<(), AllocError>
+fn push_note(text: &mut Vec<u8>, note: ReplyNote<'_>) -> Result<(), AllocError>
     ensures { OnOk result (text.new.items ≡ text.old.items ++ spec.note_line (notice_of note.entry)) }
 {
     match note {
-        Note::Nothing => Ok(()),
-        Note::Allows(allow) => push_field(text, b"Allow", allow.text().as_bytes()),
-        Note::Made(name) => push_field(text, b"Location", name),
+        ReplyNote::Nothing => Ok(()),
+        ReplyNote::Allows(allow) => push_field(text, b"Allow", allow.text().as_bytes()),
+        ReplyNote::Made(name) => push_field(text, b"Location", name),
     }
 }
 
 /// The most bytes of a reply without a body that says this.
-fn room_for(note: Note<'_>) -> usize {
+fn room_for(note: ReplyNote<'_>) -> usize {
     match note {
-        Note::Made(name) => name.len().saturating_add(HEAD_BYTES),
+        ReplyNote::Made(name) => name.len().saturating_add(HEAD_BYTES),
         _ => HEAD_BYTES,
     }
 }
@@ -118,7 +119,7 @@ fn room_for(note: Note<'_>) -> usize {
 pub fn push_reply(
     text: &mut Vec<u8>,
     status: u16,
-    note: Note<'_>,
+    note: ReplyNote<'_>,
     closes: bool,
 ) -> Result<(), AllocError>
     ensures { OnOk result
@@ -173,14 +174,14 @@ pub fn push_lines_head(text: &mut Vec<u8>, media: Media, closes: bool) -> Result
 
 /// Adds the line with the size of a chunk.
 fn push_size(text: &mut Vec<u8>, size: usize) -> Result<(), AllocError>
-    ensures { OnOk result (text.new.items ≡ text.old.items ++ digits 16 false size ++ spec.line_end) }
+    ensures { OnOk result (text.new.items ≡ text.old.items ++ digits 16 false size ++ crlf) }
 {
     write!(text, "{size:x}\r\n").map_err(|_| AllocError)
 }
 
 /// A list of a text and the line with the size of a chunk, with room for so many bytes more.
 fn sized(alloc: Global, text: &[u8], size: usize, room: usize) -> Result<Vec<u8>, AllocError>
-    ensures { IfOk result (λ all. all.items ≡ text.now ++ (digits 16 false size ++ spec.line_end)) }
+    ensures { IfOk result (λ all. all.items ≡ text.now ++ (digits 16 false size ++ crlf)) }
 {
     let most = text.len().saturating_add(FRAME_BYTES).saturating_add(room);
     let mut all = Vec::with_capacity(alloc, most)?;

@@ -5,7 +5,7 @@ use Rattle.gs_core.specs.Settings.{start_at}
 use Rattle.gs_talk.specs.Logs.{Server}
 use Rattle.gs_shared.specs.declared.endings.Ended.{Ended}
 use Rattle.gs_shared.specs.Seats.{BeganAs}
-use Rattle.gs_shared.specs.Ends.{FitOnePage, IsWithin, HasAllCalls, AllStand}
+use Rattle.gs_shared.specs.Ends.{FitOnePage, IsWithinPage, HasAllCalls, AllStand}
 use Rattle.gs_gates.specs.Records.{AreOfSeats, IsFreshAt}
 use Rattle.gs_workers.specs.Served.{WereServed}
 
@@ -17,7 +17,7 @@ pub record EndsAs (workers : ℕ) (p : Server) (e : Ended) : Type 0 where
   pub passes : AreOfSeats (workers + 1) e.passes.items
   pub served : WereServed p workers e.passes.items
   pub reclaimer : IsFreshAt workers e.passes.items
-  pub within : IsWithin (page_of e.audited.chronicle)
+  pub within : IsWithinPage (page_of e.audited.chronicle)
   pub turned : FitOnePage e.passes.items → (page_of e.audited.chronicle).number ≡ 0
   pub many : HasAllCalls (page_of e.audited.chronicle) e.passes.items
   pub stand : AllStand (page_of e.audited.chronicle) e.passes.items

@@ -8,5 +8,5 @@ mod servers;
 
 pub use gs_gates::{Counter, Failure, Gate, OpenGate};
 pub use gs_shared::Ended;
-pub use gs_workers::Plan;
+pub use gs_workers::ServicePlan;
 pub use servers::{serve_all, serve_within};

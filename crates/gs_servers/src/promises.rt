@@ -1,6 +1,6 @@
 //! What is known of a pass that a thread gives back.
 use gs_shared::{Pass, Room};
-use gs_workers::Plan;
+use gs_workers::ServicePlan;
 use std::snapshot::Snapshot;
 use std::sync::ledger::Ledger;
 use std::thread::Promise;
@@ -9,7 +9,7 @@ use std::thread::Promise;
 #[derive(Drop)]
 pub(crate) struct Served<'a, C: Ledger, T: Ledger, B: Room> {
     pub(crate) before: Snapshot<Pass<C, T, B>>,
-    pub(crate) plan: Plan<'a>,
+    pub(crate) plan: ServicePlan<'a>,
 }
 
 impl<'a, C: Ledger, T: Ledger, B: Room> Promise<Pass<C, T, B>> for Served<'a, C, T, B> {

@@ -15,8 +15,10 @@ use crate::promises::{AsBefore, Served};
 use crossbeam_channel::Sender;
 use gs_gates::{Gate, accept_all, patience, reclaim, whole};
 use gs_model::Refusal;
-use gs_shared::{Ended, Hall, Pass, Room, Shared, Side, StampCell, Token, stamp_cell};
-use gs_workers::{Plan, work};
+use gs_shared::{
+    CountedLedger, Ended, Pass, Room, Shared, SharedStore, StampCell, Token, stamp_cell,
+};
+use gs_workers::{ServicePlan, work};
 use std::alloc::{AllocError, Global};
 use std::marker::Brand;
 use std::net::{TcpListener, TcpStream};
@@ -29,7 +31,7 @@ use std::thread::{PromisedHandle, Threads};
 use std::time::Clock;
 
 /// Joins the workers, in the order in which they were started. There is room for their passes.
-fn join_all<C: Side, T: Side, B: Room, R: Threads>(
+fn join_all<C: CountedLedger, T: CountedLedger, B: Room, R: Threads>(
     rt: &R,
     workers: Vec<PromisedHandle<Pass<C, T, B>, Served<'_, C, T, B>>>,
     back: Vec<Pass<C, T, B>>,
@@ -67,18 +69,18 @@ fn accept_once_ready<G: Gate, R: Wait + Clock>(
 /// them all. The passes come back in their order. `None` where memory or a thread was wanting: what a
 /// thread waits for is dropped then too, so each one that was started ends.
 fn with_threads<
-    C: Side + Send + Sync,
-    T: Side + Send + Sync,
+    C: CountedLedger + Send + Sync,
+    T: CountedLedger + Send + Sync,
     B: Room + Send + Sync,
     G: Gate + Sync,
     R: Threads + Wait + Clock + Sync,
 >(
     rt: &R,
-    plan: Plan<'_>,
+    plan: ServicePlan<'_>,
     listener: &TcpListener,
     limit: Option<u64>,
     gate: &G,
-    hall: &Hall<C, T, B>,
+    store: &SharedStore<C, T, B>,
     passes: Vec<Pass<C, T, B>>,
     last: Pass<C, T, B>,
 ) -> Option<(Vec<Pass<C, T, B>>, Pass<C, T, B>)>
@@ -105,14 +107,14 @@ fn with_threads<
             let back = Vec::with_capacity(alloc, passes.len()).ok()?;
             let before = Snapshot::of(&last);
             let reclaimer = scope
-                .spawn_with(AsBefore { before }, move || reclaim(rt, hall, notes, last))
+                .spawn_with(AsBefore { before }, move || reclaim(rt, store, notes, last))
                 .ok()?;
             for pass in passes {
                 let (queue, own_notes) = ends.for_worker()?;
                 let before = Snapshot::of(&pass);
                 let worker = scope
                     .spawn_with(Served { before, plan }, move || {
-                        work(rt, plan, hall, gate, queue, own_notes, pass)
+                        work(rt, plan, store, gate, queue, own_notes, pass)
                     })
                     .ok()?;
                 workers.push_reserved(worker);
@@ -146,14 +148,14 @@ fn seed_from<R: RandomSource>(rt: &R) -> u64 {
 
 /// As `serve_all`, by this plan, over a cell and two blanks.
 fn run<
-    C: Side + Send + Sync,
-    T: Side + Send + Sync,
+    C: CountedLedger + Send + Sync,
+    T: CountedLedger + Send + Sync,
     B: Room + Send + Sync,
     G: Gate + Sync,
     R: Threads + Wait + Clock + RandomSource + Sync,
 >(
     rt: &R,
-    plan: Plan<'_>,
+    plan: ServicePlan<'_>,
     listener: &TcpListener,
     workers: u16,
     limit: Option<u64>,
@@ -202,7 +204,7 @@ fn run<
         listener,
         limit,
         gate,
-        shared.hall(),
+        shared.store(),
         passes,
         last,
     ) else {
@@ -217,7 +219,7 @@ fn run<
 /// As `serve_all`, by this plan.
 pub fn serve_within<G: Gate + Sync, R: Threads + Wait + Clock + RandomSource + Sync>(
     rt: &R,
-    plan: Plan<'_>,
+    plan: ServicePlan<'_>,
     listener: &TcpListener,
     workers: u16,
     limit: Option<u64>,
@@ -268,7 +270,7 @@ pub fn serve_all<G: Gate + Sync, R: Threads + Wait + Clock + RandomSource + Sync
     ensures refused { IfErr result (λ r. r ≡ Refusal.NoMemory) }
     ensures ended { IfOk result (EndsAs workers (record { base = base.now; piece = piece })) }
 {
-    let plan = Plan {
+    let plan = ServicePlan {
         alloc,
         base,
         piece,

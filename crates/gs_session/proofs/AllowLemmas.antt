@@ -8,7 +8,7 @@ use Rattle.gs_event.specs.Phases.{allows}
 use Rattle.gs_verdict.specs.declared.verdicts.Asked.{Asked}
 use Rattle.gs_talk.specs.Plans.{Plan, Uploads, Patches, Deletes, Looks, Reads, plan_of}
 use Rattle.gs_talk.specs.Courses.{Move, Did, Short, Course, Fresh, Early, Writing, Patching, Lacking, Late, Dropped, Wrote, Patched, Erased, Looked, Missing, Held, Cutting, Cut}
-use Rattle.gs_talk.specs.Moves.{first, writing, patching, held, cancelling, ready, after, course}
+use Rattle.gs_talk.specs.Moves.{first, writing, patching, held, cancelling, ready, course_after, course}
 use Rattle.gs_talk.specs.Following.{phase_at, writing_phase, patching_phase}
 use Rattle.gs_talk.specs.Seats.{Deeds, SeatPhase, phase_then, phase_in}
 use Rattle.gs_talk.specs.Logs.{AllSuit, IsRight, deed_of, deeds_of}
@@ -76,7 +76,7 @@ ready_allowed p c (Did action answer) h = absurd h
 
 -- any move
 
-after_allowed : (a : Asked) (piece : ℕ) (c : Course) (m : Move) → 1 ≤ piece → AllSuit piece (plan_of a) (m ∷ []) → IsPlanned (plan_of a) c → IsRight (after a c m)
+after_allowed : (a : Asked) (piece : ℕ) (c : Course) (m : Move) → 1 ≤ piece → AllSuit piece (plan_of a) (m ∷ []) → IsPlanned (plan_of a) c → IsRight (course_after a c m)
     → AreAllowed (phase_at (plan_of a) c) (deed_of m)
 after_allowed a piece Fresh m few s o h = first_allowed a (plan_of a) m h
 after_allowed a piece (Writing r g) m few s o h = writing_allowed (plan_of a) r g m o h
@@ -99,15 +99,15 @@ after_allowed a piece c m few s o h = absurd h
 pub moves_allowed : (a : Asked) (piece : ℕ) (c : Course) (ms : List Move) → 1 ≤ piece → AllSuit piece (plan_of a) ms → IsPlanned (plan_of a) c
     → IsRight (course a c ms) → AreAllowed (phase_at (plan_of a) c) (deeds_of ms)
 moves_allowed a piece c [] few s o h = tt
-moves_allowed a piece c (m ∷ ms) few s o h = go m s (right_before a (after a c m) ms h) (λ u. moves_allowed a piece (after a c m) ms few u (after_so a c m o) h)
+moves_allowed a piece c (m ∷ ms) few s o h = go m s (right_before a (course_after a c m) ms h) (λ u. moves_allowed a piece (course_after a c m) ms few u (after_so a c m o) h)
   where
-    both : (m : Move) → AllSuit piece (plan_of a) (m ∷ []) → IsRight (after a c m) → AreAllowed (phase_at (plan_of a) (after a c m)) (deeds_of ms)
+    both : (m : Move) → AllSuit piece (plan_of a) (m ∷ []) → IsRight (course_after a c m) → AreAllowed (phase_at (plan_of a) (course_after a c m)) (deeds_of ms)
         → AreAllowed (phase_at (plan_of a) c) (deed_of m ++ deeds_of ms)
     both m u r k =
         allowed-append (phase_at (plan_of a) c) (deed_of m) (deeds_of ms) (after_allowed a piece c m few u o r)
         (subst (λ (p : SeatPhase). AreAllowed p (deeds_of ms)) (sym (after_follows a piece c m u r).seat) k)
 
-    go : (m : Move) → AllSuit piece (plan_of a) (m ∷ ms) → IsRight (after a c m)
-        → (AllSuit piece (plan_of a) ms → AreAllowed (phase_at (plan_of a) (after a c m)) (deeds_of ms)) → AreAllowed (phase_at (plan_of a) c) (deed_of m ++ deeds_of ms)
+    go : (m : Move) → AllSuit piece (plan_of a) (m ∷ ms) → IsRight (course_after a c m)
+        → (AllSuit piece (plan_of a) ms → AreAllowed (phase_at (plan_of a) (course_after a c m)) (deeds_of ms)) → AreAllowed (phase_at (plan_of a) c) (deed_of m ++ deeds_of ms)
     go (Did action answer) s r k = both (Did action answer) (s.0, tt) r (k s.1)
     go Short s r k = both Short tt r (k s)

@@ -13,7 +13,7 @@ use Rattle.gs_reply.specs.Replies.{reply_text}
 use Rattle.gs_talk.specs.Plans.{plan_of}
 use Rattle.gs_talk.specs.Bodies.{States, refusal_at}
 use Rattle.gs_talk.specs.Courses.{Did, Short, Course, Writing, Lacking, Late, Dropped, Wrote, Memory, Numbers, Cutting, Cut, Misanswered, Mute, lines_out}
-use Rattle.gs_talk.specs.Moves.{after, course, at_stage, at_cancel}
+use Rattle.gs_talk.specs.Moves.{course_after, course, at_stage, at_cancel}
 use Rattle.gs_talk.specs.Seats.{Deeds}
 use Rattle.gs_talk.specs.Replies.{BodyState, Faulty, Unended, IsOwn, Settles, said_so_far, greeting, name_notice}
 use Rattle.gs_talk.specs.Logs.{Server, stages_in}
@@ -39,12 +39,12 @@ pub commit_leads : {s : Server} {e : Bool} (a : Asked) (k : Work) (r : ℕ) (g :
 commit_leads a k r g (Status st name) b x h said body l at whole means served n o =
     replies a k (Did act.Commit (Status st name) ∷ []) (Wrote r g st name) body (reply_text st (name_notice name) a.closes) a.closes b x h said l whole
     (few_still a k b x h said l body (Did act.Commit (Status st name) ∷ []) whole refl)
-    (record { suits = (tt, tt); came = ap (λ (c : Course). after a c (Did act.Commit (Status st name))) at; mute = refl; own = means; settled = refl; greeted = greeted_upload a l.trail.course r g at }) n o
+    (record { suits = (tt, tt); came = ap (λ (c : Course). course_after a c (Did act.Commit (Status st name))) at; mute = refl; own = means; settled = refl; greeted = greeted_upload a l.trail.course r g at }) n o
 commit_leads a k r g (Refused why.NoMemory) b x h said body l at whole means served n o =
-    reads_on a k (Failing want.Memory) (Did act.Commit (Refused why.NoMemory) ∷ []) (Lacking (Writing r g) Memory) [] b x h said body l whole (tt, tt) (ap (λ (c : Course). after a c (Did act.Commit (Refused why.NoMemory))) at)
+    reads_on a k (Failing want.Memory) (Did act.Commit (Refused why.NoMemory) ∷ []) (Lacking (Writing r g) Memory) [] b x h said body l whole (tt, tt) (ap (λ (c : Course). course_after a c (Did act.Commit (Refused why.NoMemory))) at)
     (append-nil (said_so_far a l.trail.course) ∙ ap (λ (c : Course). said_so_far a c) at) refl (Writing r g, refl, tt) n o
 commit_leads a k r g (Refused why.LastNumber) b x h said body l at whole means served n o =
-    reads_on a k (Failing want.Numbers) (Did act.Commit (Refused why.LastNumber) ∷ []) (Lacking (Writing r g) Numbers) [] b x h said body l whole (tt, tt) (ap (λ (c : Course). after a c (Did act.Commit (Refused why.LastNumber))) at)
+    reads_on a k (Failing want.Numbers) (Did act.Commit (Refused why.LastNumber) ∷ []) (Lacking (Writing r g) Numbers) [] b x h said body l whole (tt, tt) (ap (λ (c : Course). course_after a c (Did act.Commit (Refused why.LastNumber))) at)
     (append-nil (said_so_far a l.trail.course) ∙ ap (λ (c : Course). said_so_far a c) at) refl (Writing r g, refl, (body, λ z. refl, (r, served))) n o
 commit_leads a k r g answer b x h said body l at whole means served n o =
     broke a k (Did act.Commit answer) (Writing r g) b b x h said l (tt, tt) at refl (λ o. tt) (no_more a k b x h said l) n o
@@ -63,19 +63,19 @@ stage_last {s} {e} a k r g v answer b x h said body l at whole few long means fu
     go (u ∷ us) is full Staged o =
         to_next m (Serving a Committing) [] b x (h ++ (act.Stage v, Staged) ∷ []) said o
         (moved a k Committing (Did (act.Stage v) Staged ∷ []) [] b b x h said l (whole_trail body (Writing r (g ++ v.items))) (λ y. sym (whole y)) (tt, tt)
-        (ap (λ (c : Course). after a c (Did (act.Stage v) Staged)) at ∙ ap (λ w. at_stage r g w Staged) is ∙ ap (λ w. Writing r (g ++ w)) (sym is)) same (λ z. omega (arith, few))
+        (ap (λ (c : Course). course_after a c (Did (act.Stage v) Staged)) at ∙ ap (λ w. at_stage r g w Staged) is ∙ ap (λ w. Writing r (g ++ w)) (sym is)) same (λ z. omega (arith, few))
         (r, body, g ++ v.items, refl, means, λ z. refl))
     go (u ∷ us) is full (Refused why.NoMemory) o =
         to_next m (Serving a (Failing want.Memory)) [] b x (h ++ (act.Stage v, Refused why.NoMemory) ∷ []) said o
         (moved a k (Failing want.Memory) (Did (act.Stage v) (Refused why.NoMemory) ∷ []) [] b b x h said l (whole_trail body (Lacking (Writing r g) Memory)) (λ y. sym (whole y)) (tt, tt)
-        (ap (λ (c : Course). after a c (Did (act.Stage v) (Refused why.NoMemory))) at ∙ ap (λ w. at_stage r g w (Refused why.NoMemory)) is) same (λ z. omega (arith, few))
+        (ap (λ (c : Course). course_after a c (Did (act.Stage v) (Refused why.NoMemory))) at ∙ ap (λ w. at_stage r g w (Refused why.NoMemory)) is) same (λ z. omega (arith, few))
         (Writing r g, refl, tt))
     go (u ∷ us) is full other o =
         broke a k (Did (act.Stage v) other) (Writing r g) b b x h said l (tt, tt) at (ap (λ w. at_stage r g w other) is) (λ o. tt) (λ z. omega (arith, few, long z)) m o
 
 -- What is open: an upload or a patch, which a Cancel gives up, and of which nothing was said but the greeting.
 pub record IsOpenAt (a : Asked) (c : Course) (r : ℕ) : Type 0 where
-  pub cancels : (answer : Answer) → after a c (Did act.Cancel answer) ≡ at_cancel c (Dropped r) answer
+  pub cancels : (answer : Answer) → course_after a c (Did act.Cancel answer) ≡ at_cancel c (Dropped r) answer
   pub own : (base : List ℕ) (o : BodyState) → IsOwn base a o c
   pub greeted : said_so_far a c ≡ greeting a (Dropped r)
   pub lines : lines_out c ≡ []
@@ -86,7 +86,7 @@ pub drop_leads : {s : Server} {e : Bool} (a : Asked) (k : Work) (c : Course) (r 
     → LeadsTo s e n.phase b x (h ++ (act.Cancel, answer) ∷ []) (said ++ n.said.items)
 drop_leads a k c r st Cancelled b x h said body l at is whole why n o =
     replies a k (Did act.Cancel Cancelled ∷ []) (Dropped r) body (reply_text st Nothing a.closes) a.closes b x h said l whole (few_still a k b x h said l body (Did act.Cancel Cancelled ∷ []) whole refl)
-    (record { suits = (tt, tt); came = ap (λ (c : Course). after a c (Did act.Cancel Cancelled)) at ∙ is.cancels Cancelled; mute = refl; own = tt; settled = (st, why, refl); greeted = ap (λ (c : Course). said_so_far a c) at ∙ is.greeted }) n o
+    (record { suits = (tt, tt); came = ap (λ (c : Course). course_after a c (Did act.Cancel Cancelled)) at ∙ is.cancels Cancelled; mute = refl; own = tt; settled = (st, why, refl); greeted = ap (λ (c : Course). said_so_far a c) at ∙ is.greeted }) n o
 drop_leads {s} a k c r st answer b x h said body l at is whole why n o =
     broke a k (Did act.Cancel answer) c b b x h said l (tt, tt) at (is.cancels answer) (is.own s.base) (no_more a k b x h said l) n o
 
@@ -96,11 +96,11 @@ pub fault_leads : {s : Server} {e : Bool} (a : Asked) (k : Work) (c : Course) (r
     → LeadsTo s e n.phase b x (h ++ (act.Cancel, answer) ∷ []) (said ++ n.said.items)
 fault_leads {s} {e} a k c r st front Cancelled b x h said l at is faulty n o = go o
   where
-    came : after a l.trail.course (Did act.Cancel Cancelled) ≡ Dropped r
-    came = ap (λ (c : Course). after a c (Did act.Cancel Cancelled)) at ∙ is.cancels Cancelled
+    came : course_after a l.trail.course (Did act.Cancel Cancelled) ≡ Dropped r
+    came = ap (λ (c : Course). course_after a c (Did act.Cancel Cancelled)) at ∙ is.cancels Cancelled
 
     few : stages_in l.now + 0 ≤ length front + 1
-    few = omega (arith, l.keeps.few (b ++ []), ap (λ (c : cut.Cut). length c.bytes) (faulty []))
+    few = omega (arith, l.keeps.few (b ++ []), ap (λ (c : cut.BodyCut). length c.bytes) (faulty []))
 
     greets : said_so_far a l.trail.course ≡ greeting a (Dropped r)
     greets = ap (λ (c : Course). said_so_far a c) at ∙ is.greeted
@@ -113,7 +113,7 @@ fault_leads {s} {e} a k c r st front Cancelled b x h said l at is faulty n o = g
         (subst (λ (d : Course). Settles s.base a (Faulty front st) d (reply_text st Nothing true, false)) (sym came) refl)
         (ap (λ z. z ++ reply_text st Nothing true) greets ∙ ap (λ (d : Course). greeting a d ++ reply_text st Nothing true) (sym came)))
     go (inr y) =
-        let mute : course a l.trail.course (Did act.Cancel Cancelled ∷ Short ∷ []) ≡ Mute (Dropped r) = ap (λ (d : Course). after a d Short) came in
+        let mute : course a l.trail.course (Did act.Cancel Cancelled ∷ Short ∷ []) ≡ Mute (Dropped r) = ap (λ (d : Course). course_after a d Short) came in
         to_next n Over [] b x (h ++ (act.Cancel, Cancelled) ∷ []) said y
         (answers_fault a k (Did act.Cancel Cancelled ∷ Short ∷ []) front st [] [] b b x h said l faulty (tt, tt)
         (subst (λ (d : Course). IsOwn s.base a (Faulty front st) d) (sym mute) tt) few
@@ -127,11 +127,11 @@ pub leave_leads : {s : Server} (a : Asked) (k : Work) (c : Course) (r : ℕ) (fr
     → l.trail.course ≡ c → IsOpenAt a c r → l.trail.cut (b ++ []) ≡ record { bytes = front; end = cut.Open } → (n : Next) → Stops n
     → LeadsTo s true n.phase b x (h ++ (act.Cancel, answer) ∷ []) (said ++ n.said.items)
 leave_leads {s} a k c r front Cancelled b x h said l at is ended n y =
-    let came : after a l.trail.course (Did act.Cancel Cancelled) ≡ Dropped r = ap (λ (c : Course). after a c (Did act.Cancel Cancelled)) at ∙ is.cancels Cancelled in
+    let came : course_after a l.trail.course (Did act.Cancel Cancelled) ≡ Dropped r = ap (λ (c : Course). course_after a c (Did act.Cancel Cancelled)) at ∙ is.cancels Cancelled in
     to_next n Over [] b x (h ++ (act.Cancel, Cancelled) ∷ []) said y
     (ends_open a k (Did act.Cancel Cancelled ∷ []) front [] [] b b x h said l ended (tt, tt)
     (subst (λ (d : Course). IsOwn s.base a (Unended front true) d) (sym came) tt)
-    (omega (arith, l.keeps.few (b ++ []), ap (λ (c : cut.Cut). length c.bytes) ended))
+    (omega (arith, l.keeps.few (b ++ []), ap (λ (c : cut.BodyCut). length c.bytes) ended))
     (subst (λ (d : Course). Settles s.base a (Unended front true) d ([], false)) (sym came) (refl, refl))
     (ap (λ z. z ++ []) (ap (λ (c : Course). said_so_far a c) at ∙ is.greeted) ∙ ap (λ (d : Course). greeting a d ++ []) (sym came)))
 leave_leads {s} a k c r front answer b x h said l at is ended n y =
@@ -144,7 +144,7 @@ memory_leads a before Cancelled b x h said l at n o =
     replies_any a (Failing want.Memory) (Did act.Cancel Cancelled ∷ []) (Late Memory) (reply_text 503 Nothing true) b x h said l refl
     (λ o. record {
       suits = (tt, tt);
-      came = ap (λ (c : Course). after a c (Did act.Cancel Cancelled)) at;
+      came = ap (λ (c : Course). course_after a c (Did act.Cancel Cancelled)) at;
       mute = refl;
       own = tt;
       settled = refl;
@@ -160,7 +160,7 @@ numbers_leads a before r Cancelled b x h said body l at whole served n o =
     replies a (Failing want.Numbers) (Did act.Cancel Cancelled ∷ []) (Late Numbers) body (reply_text 507 Nothing a.closes) a.closes b x h said l whole (few_still a (Failing want.Numbers) b x h said l body (Did act.Cancel Cancelled ∷ []) whole refl)
     (record {
       suits = (tt, tt);
-      came = ap (λ (c : Course). after a c (Did act.Cancel Cancelled)) at;
+      came = ap (λ (c : Course). course_after a c (Did act.Cancel Cancelled)) at;
       mute = refl;
       own = tt;
       settled = ((r, served), refl);
@@ -183,7 +183,7 @@ cut_leads {s} {e} a answer b x h said l n y = go answer
     go : (answer : Answer) → LeadsTo s e n.phase b x (h ++ (act.Cancel, answer) ∷ []) (said ++ n.said.items)
     go Cancelled =
         stops_whole a work.Cutting (Did act.Cancel Cancelled ∷ []) (Cut out) b x h said l.keeps.stands.1 l (λ y. l.keeps.stands.3 (b ++ y)) (tt, tt)
-        (ap (λ (c : Course). after a c (Did act.Cancel Cancelled)) at) refl tt refl (ap (λ (c : Course). said_so_far a c) at) n y
+        (ap (λ (c : Course). course_after a c (Did act.Cancel Cancelled)) at) refl tt refl (ap (λ (c : Course). said_so_far a c) at) n y
     go other =
         stops_whole a work.Cutting (Did act.Cancel other ∷ []) (Misanswered (Cutting out)) b x h said l.keeps.stands.1 l (λ y. l.keeps.stands.3 (b ++ y)) (tt, tt)
-        (ap (λ (c : Course). after a c (Did act.Cancel other)) at) refl tt refl (ap (λ (c : Course). said_so_far a c) at) n y
+        (ap (λ (c : Course). course_after a c (Did act.Cancel other)) at) refl tt refl (ap (λ (c : Course). said_so_far a c) at) n y

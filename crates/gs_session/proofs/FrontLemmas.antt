@@ -1,7 +1,7 @@
 -- A connection is given up: what was done and said was a front of a conversation, and the seat is idle.
 use Rattle.std.proofs.Common.{◌≡◌, ◌⊎◌, inl, inr, ◌+◌, ◌≤◌, arith, ℕ, Bool, true, false, List, [], ◌∷◌, ◌++◌, length, refl, sym, ap, subst, ◌∙◌, append-nil, append_assoc}
 use Rattle.std.proofs.lemmas.List.Concat.{flat_map-append}
-use Rattle.gs_transfer.specs.Cuts.{Cut, End}
+use Rattle.gs_transfer.specs.Cuts.{BodyCut, End}
 use Rattle.gs_transfer.specs.Cuts as cut
 use Rattle.gs_event.specs.declared.events.Event.{Event}
 use Rattle.gs_event.specs.declared.events.Action.TheVariants.{Cancel}
@@ -12,7 +12,7 @@ use Rattle.gs_verdict.specs.declared.verdicts.Asked.{Asked}
 use Rattle.gs_stream.specs.Requests.{Request, Denied, Asks, Breaks, Waits, by_body, by_end, requests}
 use Rattle.gs_talk.specs.Plans.{plan_of}
 use Rattle.gs_talk.specs.Courses.{Move, Did, Lack, Course, Fresh, Writing, Patching, Lacking, Late, Dropped, Held, Cutting, Cut as CutShort, Left}
-use Rattle.gs_talk.specs.Moves.{after, course, at_cancel}
+use Rattle.gs_talk.specs.Moves.{course_after, course, at_cancel}
 use Rattle.gs_talk.specs.Following.{phase_at}
 use Rattle.gs_talk.specs.Seats.{Deeds}
 use Rattle.gs_talk.specs.Replies.{BodyState, Whole, Faulty, Unended, IsOwn, said_so_far, data_of}
@@ -25,9 +25,9 @@ use Rattle.gs_session.specs.declared.phases.Phase.{Phase}
 use Rattle.gs_session.specs.declared.phases.Phase.TheVariants.{Between, Serving, Over}
 use Rattle.gs_session.specs.declared.phases.Work.{Work}
 use Rattle.gs_session.specs.declared.phases.Work.TheVariants as work
-use Rattle.gs_session.specs.Trails.{Trail, coming, Stands, IsWholeBody}
+use Rattle.gs_session.specs.Trails.{Trail, coming, WorkStands, IsWholeBody}
 use Rattle.gs_session.specs.Leads.{LeadsTo, MayCome}
-use Rattle.gs_session.specs.Steps.{Acts, server_of}
+use Rattle.gs_session.specs.Steps.{TakesAction, server_of}
 use Rattle.gs_session.specs.Turns.{Quits, has_opened}
 use Rattle.gs_session.specs.declared.sessions.Session.{Session}
 use Rattle.gs_session.proofs.MoveLemmas.{course-append, suit-append, stages-append}
@@ -134,8 +134,8 @@ serving_front {s} {e} a k b x h w due l ms suit few right said own y may = (
     hand : Owned s.base a l.trail (course a l.trail.course ms) → InHand s e (by_body (requests s.base) a (l.trail.cut (b ++ y))) (l.now ++ ms) l.text
     hand (inl q) = at_end (l.trail.cut (b ++ y)).bytes (l.trail.cut (b ++ y)).end (l.keeps.few (b ++ y)) q
     hand (inr q) =
-        subst (λ (v : Cut). InHand s e (by_body (requests s.base) a v) (l.now ++ ms) l.text) (sym (q.1 (b ++ y)))
-        (at_now (Whole q.0) q.2 (omega (arith, l.keeps.few (b ++ y), ap (λ (v : Cut). length v.bytes) (q.1 (b ++ y)))))
+        subst (λ (v : BodyCut). InHand s e (by_body (requests s.base) a v) (l.now ++ ms) l.text) (sym (q.1 (b ++ y)))
+        (at_now (Whole q.0) q.2 (omega (arith, l.keeps.few (b ++ y), ap (λ (v : BodyCut). length v.bytes) (q.1 (b ++ y)))))
 
 -- the same, where these moves give it up
 serving : {s : Server} {e : Bool} (seat : ℕ) (a : Asked) (k : Work) (b x : List ℕ) (h : Deeds) (w due : List ℕ) (l : LeadsTo s e (Serving a k) b x h (w ++ due)) (ms : List Move)
@@ -153,7 +153,7 @@ serving {s} {e} seat a k b x h w due l ms suit few g y may = (
 fresh : (base : List ℕ) (a : Asked) (t : Trail) → t.course ≡ Fresh → GivesUp base a t t.course t.course
 fresh base a t f = subst (λ (c : Course). GivesUp base a t c c) (sym f) (record { right = tt; said = refl; own = inl (λ o. tt); idle = inl refl })
 
-unopened : (base : List ℕ) (a : Asked) (k : Work) (t : Trail) (stages : ℕ) → has_opened k ≡ false → Stands base a k t stages → GivesUp base a t t.course t.course
+unopened : (base : List ℕ) (a : Asked) (k : Work) (t : Trail) (stages : ℕ) → has_opened k ≡ false → WorkStands base a k t stages → GivesUp base a t t.course t.course
 unopened base a work.Opening t stages f j = fresh base a t j.0
 unopened base a (work.Skipping transfer) t stages f j = fresh base a t j.1
 unopened base a (work.Uploading reading transfer) t stages f j = cc
@@ -186,11 +186,11 @@ cutting_cancelled : (base : List ℕ) (a : Asked) (t : Trail) (out body : List �
 cutting_cancelled base a t out body Cancelled n = record { right = tt; said = refl; own = inr (body, n, tt); idle = inl refl }
 cutting_cancelled base a t out body answer n = record { right = tt; said = refl; own = inr (body, n, tt); idle = inr tt }
 
-at_course : (base : List ℕ) (a : Asked) (t : Trail) (answer : Answer) (c : Course) → t.course ≡ c → GivesUp base a t c (after a c (Did Cancel answer)) → GivesUp base a t t.course (after a t.course (Did Cancel answer))
-at_course base a t answer c f g = subst (λ (v : Course). GivesUp base a t v (after a v (Did Cancel answer))) (sym f) g
+at_course : (base : List ℕ) (a : Asked) (t : Trail) (answer : Answer) (c : Course) → t.course ≡ c → GivesUp base a t c (course_after a c (Did Cancel answer)) → GivesUp base a t t.course (course_after a t.course (Did Cancel answer))
+at_course base a t answer c f g = subst (λ (v : Course). GivesUp base a t v (course_after a v (Did Cancel answer))) (sym f) g
 
-cancelled : (base : List ℕ) (a : Asked) (k : Work) (t : Trail) (stages : ℕ) (answer : Answer) → has_opened k ≡ true → Stands base a k t stages
-    → GivesUp base a t t.course (after a t.course (Did Cancel answer))
+cancelled : (base : List ℕ) (a : Asked) (k : Work) (t : Trail) (stages : ℕ) (answer : Answer) → has_opened k ≡ true → WorkStands base a k t stages
+    → GivesUp base a t t.course (course_after a t.course (Did Cancel answer))
 cancelled base a (work.Uploading reading transfer) t stages answer f j = at_course base a t answer _ j.stands (writing_cancelled base a t j.request j.staged answer)
 cancelled base a work.Committing t stages answer f j = at_course base a t answer _ j.3 (writing_cancelled base a t j.0 j.2 answer)
 cancelled base a (work.Patching r body transfer) t stages answer f j = at_course base a t answer _ j.0 (patching_cancelled base a t r answer)
@@ -222,7 +222,7 @@ quits_unopened gives s old new a k at f g = (
 
 -- What was opened is cancelled.
 pub quits_cancelled : {D : Type 0} (gives : D → Event → Answer → D → Type 0) (s : Session) (old mid new : D) (a : Asked) (k : Work) (answer : Answer) → s.phase ≡ Serving a k → has_opened k ≡ true
-    → Acts gives s.setup.seat old Cancel answer mid → new ≡ mid → Quits gives s old new
+    → TakesAction gives s.setup.seat old Cancel answer mid → new ≡ mid → Quits gives s old new
 quits_cancelled gives s old mid new a k answer at f g i = (
   (Cancel, answer) ∷ [],
   inr (answer, refl),

@@ -2,9 +2,9 @@
 use Rattle.std.proofs.Common.{◌≡◌, inl, inr, ◌≤◌, ◌<◌, arith, ℕ, Bool, true, false, cond, not, eqb, leb, List, [], ◌∷◌, ◌++◌, length, take, drop, refl, sym, ap, subst, ◌∙◌, append-nil, length-append, length-take, length-drop, Some, None}
 use Rattle.std.proofs.lemmas.Bool.{leb-true}
 use Rattle.gs_transfer.specs.Cuts as cut
-use Rattle.gs_transfer.specs.Cuts.{Cut, End, body_at, with_data}
+use Rattle.gs_transfer.specs.Cuts.{BodyCut, End, body_at, with_data}
 use Rattle.gs_transfer.specs.Views.{cut_of}
-use Rattle.gs_verdict.specs.Bytes.{verdict_of}
+use Rattle.gs_verdict.specs.Bytes.{head_verdict}
 use Rattle.gs_verdict.specs.Checks.{limit_of}
 use Rattle.gs_verdict.specs.declared.verdicts.Asked.{Asked}
 use Rattle.gs_verdict.specs.declared.verdicts.Denial.{Denial}
@@ -20,7 +20,7 @@ use Rattle.gs_stream.proofs.RequestLemmas.{reads-on}
 use Rattle.gs_stream.proofs.StaysLemmas.{heads-stay, long-stays}
 use Rattle.gs_talk.specs.Plans.{plan_of}
 use Rattle.gs_talk.specs.Courses.{Move, Short, Course, Fresh, Early, Memory, Mute}
-use Rattle.gs_talk.specs.Moves.{after, course}
+use Rattle.gs_talk.specs.Moves.{course_after, course}
 use Rattle.gs_talk.specs.Seats.{Deeds}
 use Rattle.gs_talk.specs.Replies.{BodyState, Faulty, Unended, Said, IsOwn, Settles, said_so_far, greeting, allow_notice, denial_reply, plain, data_of}
 use Rattle.gs_talk.specs.Replies as state
@@ -33,7 +33,7 @@ use Rattle.gs_session.specs.declared.phases.Work.TheVariants as work
 use Rattle.gs_session.specs.declared.outcomes.Next.{Next}
 use Rattle.gs_session.specs.declared.setups.Setup.{Setup}
 use Rattle.gs_session.specs.declared.steps.Step.TheVariants.{Silent, Wait}
-use Rattle.gs_session.specs.Trails.{coming, Keeps, Stands}
+use Rattle.gs_session.specs.Trails.{coming, KeepsTrail, WorkStands}
 use Rattle.gs_session.specs.Leads.{LeadsTo}
 use Rattle.gs_session.specs.Heads.{greeting_of, BeginsOpen, BeginsSkip, AfterHead}
 use Rattle.gs_session.specs.Outcomes.{Says, Stops, Replies, RepliesBy, after_reply}
@@ -94,7 +94,7 @@ strips : (b y : List ℕ) → stripped b ≡ b → 2 ≤ length b → stripped (
 strips b y f few = strip-more b y (omega (arith, few, ap length f)) ∙ ap (λ z. z ++ y) f
 
 -- The requests from a whole head on are those of its verdict and of what stands after it.
-pub whole-requests : (base b head rest y : List ℕ) → stripped b ≡ b → head_at b ≡ Whole head rest → requests base (b ++ y) ≡ by_verdict (requests base) (verdict_of base head) (rest ++ y)
+pub whole-requests : (base b head rest y : List ℕ) → stripped b ≡ b → head_at b ≡ Whole head rest → requests base (b ++ y) ≡ by_verdict (requests base) (head_verdict base head) (rest ++ y)
 whole-requests base b head rest y f g =
     reads-on base (b ++ y) ∙ ap (λ (z : List ℕ). by_head base (requests base) (head_at z)) (strips b y f (head-sizes b head rest g).0)
     ∙ ap (λ (c : HeadCut). by_head base (requests base) c) (heads-stay b y head rest g)
@@ -118,7 +118,7 @@ lead_dropped {s} b x h said l = silent Between Between b (stripped b) x h said l
 -- a denied head is answered by these moves, which did nothing, and this text
 denied_by : {s : Server} {e : Bool} (d : Denial) (q : Phase) (ms : List Move) (u : List ℕ) (goes : Bool) (b c x : List ℕ) (h : Deeds) (said : List ℕ) (l : LeadsTo s e Between b x h said)
     → ((y : List ℕ) → requests s.base (b ++ y) ≡ Denied d ∷ cond d.closes [] (requests s.base (c ++ y))) → AnswersDenied d ms (u, goes) → deeds_of ms ≡ []
-    → ((y : List ℕ) → coming s.base q none (c ++ y) ≡ cond goes (cond d.closes [] (requests s.base (c ++ y))) []) → Keeps s q none [] [] → Closes q goes
+    → ((y : List ℕ) → coming s.base q none (c ++ y) ≡ cond goes (cond d.closes [] (requests s.base (c ++ y))) []) → KeepsTrail s q none [] [] → Closes q goes
     → LeadsTo s e q c x h (said ++ u)
 denied_by {s} {e} d q ms u goes b c x h said l f told idle g k j =
     subst (λ (z : Deeds). LeadsTo s e q c x z (said ++ u)) (ap (λ (z : Deeds). h ++ z) idle ∙ append-nil h)
@@ -169,7 +169,7 @@ AsksOn s a b c = (y : List ℕ) → requests s.base (b ++ y) ≡ by_body (reques
 
 -- it is served, and nothing was done yet
 served : {s : Server} {e : Bool} (a : Asked) (k : Work) (u b c x : List ℕ) (h : Deeds) (said : List ℕ) (l : LeadsTo s e Between b x h said)
-    → AsksOn s a b c → u ≡ said_so_far a Fresh → Stands s.base a k (first_trail a Fresh) 0 → LeadsTo s e (Serving a k) c x h (said ++ u)
+    → AsksOn s a b c → u ≡ said_so_far a Fresh → WorkStands s.base a k (first_trail a Fresh) 0 → LeadsTo s e (Serving a k) c x h (said ++ u)
 served {s} {e} a k u b c x h said l f g j = record {
   trail = first_trail a Fresh;
   log = l.log;
@@ -236,7 +236,7 @@ asked_short {s} a b c x h said l f n (inl o) =
 asked_short {s} a b c x h said l f n (inr o) =
     to_next n Over [] c x h said o
     (unheard a (Short ∷ Short ∷ []) [] b c x h said l f
-    (λ o. answers_early s a o (Short ∷ Short ∷ []) (Mute (Early Memory)) [] (ap (λ (d : Course). after a d Short) (early_is a (plan_of a))) tt refl tt (((reply_text 503 Nothing true, false), refl), refl)
+    (λ o. answers_early s a o (Short ∷ Short ∷ []) (Mute (Early Memory)) [] (ap (λ (d : Course). course_after a d Short) (early_is a (plan_of a))) tt refl tt (((reply_text 503 Nothing true, false), refl), refl)
     (quiet a.awaits_continue)) refl)
 
 -- What a verdict leads to.
@@ -284,11 +284,11 @@ denies_long setup e old new k n q f g o =
 
 -- It is whole, and taken.
 pub takes_head : (setup : Setup) (e : Bool) (old b new : List ℕ) (k m : ℕ) (n : Next) → b ≡ drop k old → b ≡ stripped old → Whole (take m b) (drop m b) ≡ head_at b → m ≤ length b → 0 < m → new ≡ drop m b
-    → AfterHead (verdict_of setup.site (take m b)) n → Rests setup e Between old (Silent n) new
+    → AfterHead (head_verdict setup.site (take m b)) n → Rests setup e Between old (Silent n) new
 takes_head setup e old b new k m n q f g within some w o =
     let bare : stripped b ≡ b = ap stripped f ∙ strip-twice old ∙ sym f in (
       omega (arith, fewer old b k q, ap length w, length-drop m b, within, some, rank-small n.phase),
       λ x h said l. subst (λ (z : List ℕ). LeadsTo (server_of setup) e n.phase z x h (said ++ n.said.items)) (sym w)
-          (head_leads (verdict_of setup.site (take m b)) b (drop m b) x h said (subst (λ (z : List ℕ). LeadsTo (server_of setup) e Between z x h said) (sym f) (lead_dropped old x h said l))
+          (head_leads (head_verdict setup.site (take m b)) b (drop m b) x h said (subst (λ (z : List ℕ). LeadsTo (server_of setup) e Between z x h said) (sym f) (lead_dropped old x h said l))
           (λ y. whole-requests setup.site b (take m b) (drop m b) y bare (sym g)) n o),
     )

@@ -9,7 +9,7 @@ use Rattle.gs_session.specs.declared.phases.Phase.{Phase}
 use Rattle.gs_session.specs.declared.phases.Phase.TheVariants.{Between, Serving, Over}
 use Rattle.gs_session.specs.declared.phases.Work.{Work}
 use Rattle.gs_session.specs.declared.phases.Work.TheVariants as work
-use Rattle.gs_session.specs.Trails.{Trail, Stands}
+use Rattle.gs_session.specs.Trails.{Trail, WorkStands}
 use Rattle.gs_session.specs.Leads.{LeadsTo}
 use Rattle.gs_session.specs.Laws.{SaysFrontAlways}
 use Rattle.gs_session.specs.Steps.{server_of}
@@ -21,7 +21,7 @@ abbrev IsSound : List ℕ → Asked → Trail → Course → Type 0
 IsSound base a t c = IsRight c × Owned base a t c
 
 -- it does at each stand of the work
-stands_sound : (base : List ℕ) (a : Asked) (k : Work) (t : Trail) (stages : ℕ) → Stands base a k t stages → IsSound base a t t.course
+stands_sound : (base : List ℕ) (a : Asked) (k : Work) (t : Trail) (stages : ℕ) → WorkStands base a k t stages → IsSound base a t t.course
 stands_sound base a work.Opening t stages j = subst (λ (c : Course). IsSound base a t c) (sym j.0) (tt, inl (λ o. tt))
 stands_sound base a (work.Skipping transfer) t stages j = subst (λ (c : Course). IsSound base a t c) (sym j.1) (tt, inl (λ o. tt))
 stands_sound base a (work.Uploading reading transfer) t stages j = subst (λ (c : Course). IsSound base a t c) (sym j.stands) (tt, inl (λ o. tt))

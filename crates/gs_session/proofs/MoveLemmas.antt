@@ -2,13 +2,13 @@
 use Rattle.std.proofs.Common.{◌≡◌, inl, ◌+◌, ◌≤◌, arith, ℕ, Bool, true, false, cond, not, ◌||◌, List, [], ◌∷◌, ◌++◌, length, refl, sym, ap, subst, ◌∙◌, append-nil, append_assoc}
 use Rattle.std.specs.List.{flat_map}
 use Rattle.std.proofs.lemmas.List.Concat.{flat_map-append}
-use Rattle.gs_transfer.specs.Cuts.{Cut, End}
+use Rattle.gs_transfer.specs.Cuts.{BodyCut, End}
 use Rattle.gs_transfer.specs.Cuts as cut
 use Rattle.gs_verdict.specs.declared.verdicts.Asked.{Asked}
 use Rattle.gs_stream.specs.Requests.{Request, by_body, by_end, requests}
 use Rattle.gs_talk.specs.Plans.{Plan, plan_of}
 use Rattle.gs_talk.specs.Courses.{Move, Did, Short, Course, Fresh}
-use Rattle.gs_talk.specs.Moves.{after, course}
+use Rattle.gs_talk.specs.Moves.{course_after, course}
 use Rattle.gs_talk.specs.Seats.{Deeds}
 use Rattle.gs_talk.specs.Replies.{BodyState, Whole, Faulty, Unended, IsOwn, Settles, said_so_far, greeting, data_of}
 use Rattle.gs_talk.specs.Logs.{Server, Entry, Log, AllSuit, AnswersAsk, AnswersAll, deed_of, deeds_of, deeds, texts, stages_in}
@@ -16,14 +16,14 @@ use Rattle.gs_talk.specs.Closings.{is_closed}
 use Rattle.gs_session.specs.declared.phases.Phase.{Phase}
 use Rattle.gs_session.specs.declared.phases.Phase.TheVariants.{Between, Serving, Over}
 use Rattle.gs_session.specs.declared.phases.Work.{Work}
-use Rattle.gs_session.specs.Trails.{Trail, coming, Stands, Keeps}
+use Rattle.gs_session.specs.Trails.{Trail, coming, WorkStands, KeepsTrail}
 use Rattle.gs_session.specs.Leads.{LeadsTo, MayCome, IsShut}
 
 -- moves
 
 pub course-append : (a : Asked) (c : Course) (ms ns : List Move) → course a c (ms ++ ns) ≡ course a (course a c ms) ns
 course-append a c [] ns = refl
-course-append a c (m ∷ ms) ns = course-append a (after a c m) ms ns
+course-append a c (m ∷ ms) ns = course-append a (course_after a c m) ms ns
 
 pub suit-append : (piece : ℕ) (p : Plan) (ms ns : List Move) → AllSuit piece p ms → AllSuit piece p ns → AllSuit piece p (ms ++ ns)
 suit-append piece p [] ns k j = j
@@ -36,7 +36,7 @@ stages-append (m ∷ ms) ns = omega (arith, stages-append ms ns)
 
 -- The bytes that are left are used, or the phase changes, and nothing is done or said.
 pub silent : {s : Server} {e : Bool} (p q : Phase) (b c x : List ℕ) (h : Deeds) (said : List ℕ) (l : LeadsTo s e p b x h said) (t : Trail)
-    → ((y : List ℕ) → coming s.base q t (c ++ y) ≡ coming s.base p l.trail (b ++ y)) → Keeps s q t l.now l.text → (IsShut p l.log → IsShut q l.log) → LeadsTo s e q c x h said
+    → ((y : List ℕ) → coming s.base q t (c ++ y) ≡ coming s.base p l.trail (b ++ y)) → KeepsTrail s q t l.now l.text → (IsShut p l.log → IsShut q l.log) → LeadsTo s e q c x h said
 silent {s} {e} p q b c x h said l t d k shut = record {
   trail = t;
   log = l.log;
@@ -53,13 +53,13 @@ silent {s} {e} p q b c x h said l t d k shut = record {
 pub moved : {s : Server} {e : Bool} (a : Asked) (k k2 : Work) (ms : List Move) (u b c x : List ℕ) (h : Deeds) (said : List ℕ) (l : LeadsTo s e (Serving a k) b x h said) (t : Trail)
     → ((y : List ℕ) → t.cut (c ++ y) ≡ l.trail.cut (b ++ y)) → AllSuit s.piece (plan_of a) ms → course a l.trail.course ms ≡ t.course
     → said_so_far a l.trail.course ++ u ≡ said_so_far a t.course → ((z : List ℕ) → stages_in l.now + stages_in ms ≤ length (t.cut z).bytes + 1)
-    → Stands s.base a k2 t (stages_in l.now + stages_in ms) → LeadsTo s e (Serving a k2) c x (h ++ deeds_of ms) (said ++ u)
+    → WorkStands s.base a k2 t (stages_in l.now + stages_in ms) → LeadsTo s e (Serving a k2) c x (h ++ deeds_of ms) (said ++ u)
 moved {s} {e} a k k2 ms u b c x h said l t d suit f g few j = record {
   trail = t;
   log = l.log;
   now = l.now ++ ms;
   text = l.text ++ u;
-  same = λ y i more rest z. l.same y i more rest (subst (λ (v : Cut). AnswersAll s e more (by_body (requests s.base) a v) rest) (d y) z);
+  same = λ y i more rest z. l.same y i more rest (subst (λ (v : BodyCut). AnswersAll s e more (by_body (requests s.base) a v) rest) (d y) z);
   done =
       ap (λ z. z ++ deeds_of ms) l.done ∙ append_assoc (deeds l.log) (deeds_of l.now) (deeds_of ms)
       ∙ ap (λ z. deeds l.log ++ z) (sym (flat_map-append deed_of l.now ms));
@@ -69,7 +69,7 @@ moved {s} {e} a k k2 ms u b c x h said l t d suit f g few j = record {
     came = course-append a Fresh l.now ms ∙ ap (λ (v : Course). course a v ms) l.keeps.came ∙ f;
     said = ap (λ z. z ++ u) l.keeps.said ∙ g;
     few = λ z. subst (λ n. n ≤ length (t.cut z).bytes + 1) (sym (stages-append l.now ms)) (few z);
-    stands = subst (λ n. Stands s.base a k2 t n) (sym (stages-append l.now ms)) j;
+    stands = subst (λ n. WorkStands s.base a k2 t n) (sym (stages-append l.now ms)) j;
   };
   shut = l.shut;
 }
@@ -109,7 +109,7 @@ shut_last (Serving a k) log n g f = open_last log n g f
 pub answered : {s : Server} {e : Bool} (p q : Phase) (b c x : List ℕ) (h : Deeds) (said : List ℕ) (l : LeadsTo s e p b x h said) (ms : List Move) (u : List ℕ) (goes : Bool) (t : Trail)
     → ((y : List ℕ) → MayCome e y → (more : Log) (rest : List Request) → AnswersAll s e more (coming s.base q t (c ++ y)) rest
     → AnswersAll s e ((record { moves = l.now ++ ms; text = l.text ++ u; goes = goes }) ∷ more) (coming s.base p l.trail (b ++ y)) rest)
-    → Keeps s q t [] [] → is_closed l.log ≡ false → Closes q goes → LeadsTo s e q c x (h ++ deeds_of ms) (said ++ u)
+    → KeepsTrail s q t [] [] → is_closed l.log ≡ false → Closes q goes → LeadsTo s e q c x (h ++ deeds_of ms) (said ++ u)
 answered {s} {e} p q b c x h said l ms u goes t f k open_yet j =
     let n : Entry = record { moves = l.now ++ ms; text = l.text ++ u; goes = goes } in
     record {
@@ -163,7 +163,7 @@ ends {s} {e} a k ms v u b c x h said l suit own few set g =
     at_end d (cut.Faulty st) m more rest w = (by (Faulty d st) m, w)
     at_end d (cut.Whole z) m more rest w = (by (Whole d) m, w)
 
-    go : (v : Cut) → stages_in l.now + stages_in ms ≤ length v.bytes + 1 → (more : Log) (rest : List Request) → AnswersAll s e more [] rest
+    go : (v : BodyCut) → stages_in l.now + stages_in ms ≤ length v.bytes + 1 → (more : Log) (rest : List Request) → AnswersAll s e more [] rest
         → AnswersAll s e ((record { moves = l.now ++ ms; text = l.text ++ u; goes = false }) ∷ more) (by_body (requests s.base) a v) rest
     go v m more rest w = at_end v.bytes v.end m more rest w
 
@@ -179,12 +179,12 @@ pub answers : {s : Server} {e : Bool} (a : Asked) (k : Work) (ms : List Move) (b
     → LeadsTo s e (replied closes) b x (h ++ deeds_of ms) (said ++ u)
 answers {s} {e} a k ms body true v u b x h said l whole suit own few set g =
     answered (Serving a k) Over b b x h said l ms u false none
-    (λ y i more rest w. subst (λ (c : Cut). AnswersAll s e ((record { moves = l.now ++ ms; text = l.text ++ u; goes = false }) ∷ more) (by_body (requests s.base) a c) rest) (sym (whole y))
+    (λ y i more rest w. subst (λ (c : BodyCut). AnswersAll s e ((record { moves = l.now ++ ms; text = l.text ++ u; goes = false }) ∷ more) (by_body (requests s.base) a c) rest) (sym (whole y))
     (settles a k ms (Whole body) false v u b x h said l suit own few set g, w))
     (refl, refl) l.shut refl
 answers {s} {e} a k ms body false v u b x h said l whole suit own few set g =
     answered (Serving a k) Between b b x h said l ms u true none
-    (λ y i more rest w. subst (λ (c : Cut). AnswersAll s e ((record { moves = l.now ++ ms; text = l.text ++ u; goes = true }) ∷ more) (by_body (requests s.base) a c) rest) (sym (whole y))
+    (λ y i more rest w. subst (λ (c : BodyCut). AnswersAll s e ((record { moves = l.now ++ ms; text = l.text ++ u; goes = true }) ∷ more) (by_body (requests s.base) a c) rest) (sym (whole y))
     (settles a k ms (Whole body) true v u b x h said l suit own few set g, w))
     (refl, refl) l.shut refl
 
@@ -196,7 +196,7 @@ pub answers_fault : {s : Server} {e : Bool} (a : Asked) (k : Work) (ms : List Mo
     → LeadsTo s e Over c x (h ++ deeds_of ms) (said ++ u)
 answers_fault {s} {e} a k ms front st v u b c x h said l faulty suit own few set g =
     answered (Serving a k) Over b c x h said l ms u false none
-    (λ y i more rest w. subst (λ (d : Cut). AnswersAll s e ((record { moves = l.now ++ ms; text = l.text ++ u; goes = false }) ∷ more) (by_body (requests s.base) a d) rest) (sym (faulty y))
+    (λ y i more rest w. subst (λ (d : BodyCut). AnswersAll s e ((record { moves = l.now ++ ms; text = l.text ++ u; goes = false }) ∷ more) (by_body (requests s.base) a d) rest) (sym (faulty y))
     (settles a k ms (Faulty front st) false v u b x h said l suit own few set g, w))
     (refl, refl) l.shut refl
 
@@ -208,7 +208,7 @@ pub ends_open : {s : Server} (a : Asked) (k : Work) (ms : List Move) (front v u 
     → LeadsTo s true Over c x (h ++ deeds_of ms) (said ++ u)
 ends_open {s} a k ms front v u b c x h said l ended suit own few set g =
     answered (Serving a k) Over b c x h said l ms u false none
-    (λ y i more rest w. subst (λ (d : Cut). AnswersAll s true ((record { moves = l.now ++ ms; text = l.text ++ u; goes = false }) ∷ more) (by_body (requests s.base) a d) rest)
+    (λ y i more rest w. subst (λ (d : BodyCut). AnswersAll s true ((record { moves = l.now ++ ms; text = l.text ++ u; goes = false }) ∷ more) (by_body (requests s.base) a d) rest)
     (sym (ap (λ z. l.trail.cut (b ++ z)) i ∙ ended))
     (settles a k ms (Unended front true) false v u b x h said l suit own few set g, w))
     (refl, refl) l.shut refl

@@ -21,10 +21,10 @@ use Rattle.gs_reply.specs.Notices.{Nothing}
 use Rattle.gs_reply.specs.Replies.{reply_text, continue_text}
 use Rattle.gs_talk.specs.Plans.{Plan, Uploads, Patches, Deletes, Looks, Reads, NoPlan, opens, plan_of}
 use Rattle.gs_talk.specs.Courses.{Move, Did, Short, Course, Fresh, Early, Writing, Patching, Lacking, Memory, Numbers}
-use Rattle.gs_talk.specs.Moves.{first, after}
+use Rattle.gs_talk.specs.Moves.{first, course_after}
 use Rattle.gs_talk.specs.Seats.{Deeds}
 use Rattle.gs_talk.specs.Replies.{said_so_far, greeting, ends_early}
-use Rattle.gs_talk.specs.Logs.{Server, AllSuit, deeds_of, stage_of}
+use Rattle.gs_talk.specs.Logs.{Server, AllSuit, deeds_of, stage_count}
 use Rattle.gs_session.specs.declared.phases.Phase.TheVariants.{Serving, Over}
 use Rattle.gs_session.specs.declared.phases.Work.{Work}
 use Rattle.gs_session.specs.declared.phases.Work.TheVariants.{Opening, Uploading, Failing}
@@ -36,8 +36,8 @@ use Rattle.gs_session.specs.declared.steps.Step.TheVariants.{Silent}
 use Rattle.gs_session.specs.Trails.{Trail}
 use Rattle.gs_session.specs.Leads.{LeadsTo}
 use Rattle.gs_session.specs.Heads.{greeting_of}
-use Rattle.gs_session.specs.Steps.{server_of, Makes, rank, Rests}
-use Rattle.gs_session.specs.Outcomes.{Says, Stops, Replies, Receives, IsFirstTransfer, AfterOpen, AfterOpenPatch}
+use Rattle.gs_session.specs.Steps.{server_of, MakesPhase, rank, Rests}
+use Rattle.gs_session.specs.Outcomes.{Says, Stops, Replies, ReceivesBody, IsFirstTransfer, AfterOpen, AfterOpenPatch}
 use Rattle.gs_session.proofs.MoveLemmas.{moved}
 use Rattle.gs_session.proofs.ReplyLemmas.{replies, replies_any, broke, to_next}
 use Rattle.gs_session.proofs.ReadLemmas.{no_more, first_is}
@@ -57,12 +57,12 @@ abbrev pub first_trail : Asked → Course → Trail
 first_trail a c = record { cut = λ z. body_at (limit_of a.method) a.framing z; course = c }
 
 -- no data before a body leave it as it is
-pub none_of : (c : cut.Cut) → c ≡ with_data [] c
+pub none_of : (c : cut.BodyCut) → c ≡ with_data [] c
 none_of c = refl
 
 -- An upload was opened, and its reading is begun, or there was no memory for it.
 pub opened_so : {s : Server} {e : Bool} (a : Asked) (k : UploadKind) (r : ℕ) (b x : List ℕ) (h : Deeds) (said : List ℕ) (l : LeadsTo s e (Serving a Opening) b x h said)
-    → plan_of a ≡ Uploads k → (n : Next) (w : Work) → Says n (Serving a w) (greeting_of a) → Receives s.base a r w → LeadsTo s e n.phase b x (h ++ (act.Open k, Opened r) ∷ []) (said ++ n.said.items)
+    → plan_of a ≡ Uploads k → (n : Next) (w : Work) → Says n (Serving a w) (greeting_of a) → ReceivesBody s.base a r w → LeadsTo s e n.phase b x (h ++ (act.Open k, Opened r) ∷ []) (said ++ n.said.items)
 opened_so {s} a k r b x h said l is n (Uploading g t) y o =
     to_next n (Serving a (Uploading g t)) (greeting_of a) b x (h ++ (act.Open k, Opened r) ∷ []) said y
     (moved a Opening (Uploading g t) (Did (act.Open k) (Opened r) ∷ []) (greeting_of a) b b x h said l (first_trail a (Writing r [])) (λ y. sym (l.keeps.stands.2 (b ++ y))) (is, tt)
@@ -72,7 +72,7 @@ opened_so {s} a k r b x h said l is n (Uploading g t) y o =
 opened_so {s} a k r b x h said l is n (Failing want.Memory) y o =
     to_next n (Serving a (Failing want.Memory)) (greeting_of a) b x (h ++ (act.Open k, Opened r) ∷ []) said y
     (moved a Opening (Failing want.Memory) (Did (act.Open k) (Opened r) ∷ Short ∷ []) (greeting_of a) b b x h said l (first_trail a (Lacking (Writing r []) Memory)) (λ y. sym (l.keeps.stands.2 (b ++ y))) (is, tt)
-    (ap (λ (c : Course). after a c Short) (first_is a l.trail.course (Uploads k) (Did (act.Open k) (Opened r)) l.keeps.stands.0 is))
+    (ap (λ (c : Course). course_after a c Short) (first_is a l.trail.course (Uploads k) (Did (act.Open k) (Opened r)) l.keeps.stands.0 is))
     (ap (λ z. z ++ greeting_of a) (unsaid a l.trail.course l.keeps.stands.0 l.keeps.stands.1) ∙ sym (append-nil (greeting_of a))) (λ z. omega (arith, l.keeps.stands.3))
     (Writing r [], refl, tt))
 opened_so a k r b x h said l is n w y o = absurd o
@@ -105,7 +105,7 @@ unsaid_early a before at o = unsaid a before at o ∙ sym (quiet a.awaits_contin
 
 -- there was no memory, at the store or at the session: 503
 early_memory : {s : Server} {e : Bool} (a : Asked) (m : Move) (b x : List ℕ) (h : Deeds) (said : List ℕ) (l : LeadsTo s e (Serving a Opening) b x h said)
-    → AllSuit s.piece (plan_of a) (m ∷ []) → stage_of m ≡ 0 → after a l.trail.course m ≡ Early Memory → (n : Next) → Replies n 503 true → LeadsTo s e n.phase b x (h ++ deeds_of (m ∷ [])) (said ++ n.said.items)
+    → AllSuit s.piece (plan_of a) (m ∷ []) → stage_count m ≡ 0 → course_after a l.trail.course m ≡ Early Memory → (n : Next) → Replies n 503 true → LeadsTo s e n.phase b x (h ++ deeds_of (m ∷ [])) (said ++ n.said.items)
 early_memory a m b x h said l suit none is n o =
     replies_any a Opening (m ∷ []) (Early Memory) (reply_text 503 Nothing true) b x h said l (omega (arith, none))
     (λ o. record { suits = suit; came = is; mute = refl; own = tt; settled = refl; greeted = unsaid_early a l.trail.course l.keeps.stands.0 l.keeps.stands.1 }) n o
@@ -126,7 +126,7 @@ or_false false v e = e
 
 -- there was no number left: 507
 numbers_by : {s : Server} {e : Bool} (a : Asked) (m : Move) (v : Bool) (b x : List ℕ) (h : Deeds) (said : List ℕ) (l : LeadsTo s e (Serving a Opening) b x h said)
-    → AllSuit s.piece (plan_of a) (m ∷ []) → stage_of m ≡ 0 → after a l.trail.course m ≡ Early Numbers → ends_early a ≡ v → (n : Next) → Replies n 507 v → LeadsTo s e n.phase b x (h ++ deeds_of (m ∷ [])) (said ++ n.said.items)
+    → AllSuit s.piece (plan_of a) (m ∷ []) → stage_count m ≡ 0 → course_after a l.trail.course m ≡ Early Numbers → ends_early a ≡ v → (n : Next) → Replies n 507 v → LeadsTo s e n.phase b x (h ++ deeds_of (m ∷ [])) (said ++ n.said.items)
 numbers_by a m true b x h said l suit none is ends n o =
     replies_any a Opening (m ∷ []) (Early Numbers) (reply_text 507 Nothing true) b x h said l (omega (arith, none))
     (λ o. record {
@@ -151,7 +151,7 @@ numbers_by a m false b x h said l suit none is ends n o =
     }) n o
 
 early_numbers : {s : Server} {e : Bool} (a : Asked) (m : Move) (b x : List ℕ) (h : Deeds) (said : List ℕ) (l : LeadsTo s e (Serving a Opening) b x h said)
-    → AllSuit s.piece (plan_of a) (m ∷ []) → stage_of m ≡ 0 → after a l.trail.course m ≡ Early Numbers → (n : Next) → Replies n 507 (ends_early a) → LeadsTo s e n.phase b x (h ++ deeds_of (m ∷ [])) (said ++ n.said.items)
+    → AllSuit s.piece (plan_of a) (m ∷ []) → stage_count m ≡ 0 → course_after a l.trail.course m ≡ Early Numbers → (n : Next) → Replies n 507 (ends_early a) → LeadsTo s e n.phase b x (h ++ deeds_of (m ∷ [])) (said ++ n.said.items)
 early_numbers a m b x h said l suit none is n o = numbers_by a m (ends_early a) b x h said l suit none is refl n o
 
 -- The Open of an upload.
@@ -191,10 +191,10 @@ open_short setup e a b n o = (
 
 -- The Open of an upload, as a step.
 pub open_makes : (setup : Setup) (e : Bool) (a : Asked) (k : UploadKind) (answer : Answer) (b text : List ℕ) (n : Next) → Uploads k ≡ plan_of a → text ≡ greeting_of a → AfterOpen setup.site a text answer n
-    → Makes (server_of setup) e (Serving a Opening) b n.phase b (act.Open k) answer n.said.items
+    → MakesPhase (server_of setup) e (Serving a Opening) b n.phase b (act.Open k) answer n.said.items
 open_makes setup e a k answer b text n is f o = λ x h said l. open_leads a k answer b x h said l (sym is) n (subst (λ u. AfterOpen setup.site a u answer n) f o)
 
 -- The Open of a patch, as a step.
 pub open_patch_makes : (setup : Setup) (e : Bool) (a : Asked) (t : Target) (answer : Answer) (b text : List ℕ) (n : Next) → Patches t ≡ plan_of a → text ≡ greeting_of a → AfterOpenPatch a text answer n
-    → Makes (server_of setup) e (Serving a Opening) b n.phase b (act.OpenPatch t) answer n.said.items
+    → MakesPhase (server_of setup) e (Serving a Opening) b n.phase b (act.OpenPatch t) answer n.said.items
 open_patch_makes setup e a t answer b text n is f o = λ x h said l. open_patch_leads a t answer b x h said l (sym is) n (subst (λ u. AfterOpenPatch a u answer n) f o)

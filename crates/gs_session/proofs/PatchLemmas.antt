@@ -8,12 +8,12 @@ use Rattle.gs_event.specs.declared.events.Action.TheVariants as act
 use Rattle.gs_event.specs.declared.answers.Answer.{Answer}
 use Rattle.gs_event.specs.declared.answers.Answer.TheVariants.{Status, Refused}
 use Rattle.gs_event.specs.declared.updates.Op.{Op}
-use Rattle.gs_transfer.specs.Cuts.{Cut, ends, with_data}
+use Rattle.gs_transfer.specs.Cuts.{BodyCut, ends, with_data}
 use Rattle.gs_transfer.specs.Cuts as cut
 use Rattle.gs_transfer.specs.Views.{cut_of}
 use Rattle.gs_transfer.specs.declared.places.Transfer.{Transfer}
 use Rattle.gs_triples.specs.Meanings.{Fault, Syntax, TermTooLong}
-use Rattle.gs_update_text.specs.Requests.{Request, Rejection, Broken}
+use Rattle.gs_update_text.specs.Requests.{UpdateRequest, Rejection, Broken}
 use Rattle.gs_update_text.specs.Texts.{request_by}
 use Rattle.gs_update.specs.Answers.{AreOperationsOf, Refuses}
 use Rattle.gs_verdict.specs.declared.verdicts.Asked.{Asked}
@@ -23,7 +23,7 @@ use Rattle.gs_stream.specs.Requests.{by_body, requests}
 use Rattle.gs_talk.specs.Plans.{Plan, plan_of}
 use Rattle.gs_talk.specs.Bodies.{text_base, refusal_at, rejection_status, Orders}
 use Rattle.gs_talk.specs.Courses.{Did, Short, Course, Patching, Lacking, Dropped, Patched, Memory, Numbers}
-use Rattle.gs_talk.specs.Moves.{after}
+use Rattle.gs_talk.specs.Moves.{course_after}
 use Rattle.gs_talk.specs.Seats.{Deeds}
 use Rattle.gs_talk.specs.Replies.{said_so_far, greeting}
 use Rattle.gs_talk.specs.Logs.{Server, stages_in}
@@ -73,7 +73,7 @@ order_leads a k r ops (Status st name) b x h said body l at whole orders n o =
     (few_still a k b x h said l body (Did (act.CommitPatch ops) (Status st name) ∷ []) whole refl)
     (record {
       suits = (tt, tt);
-      came = ap (λ (c : Course). after a c (Did (act.CommitPatch ops) (Status st name))) at;
+      came = ap (λ (c : Course). course_after a c (Did (act.CommitPatch ops) (Status st name))) at;
       mute = refl;
       own = orders;
       settled = refl;
@@ -81,24 +81,24 @@ order_leads a k r ops (Status st name) b x h said body l at whole orders n o =
     }) n o
 order_leads a k r ops (Refused why.NoMemory) b x h said body l at whole orders n o =
     reads_on a k (Failing want.Memory) (Did (act.CommitPatch ops) (Refused why.NoMemory) ∷ []) (Lacking (Patching r) Memory) [] b x h said body l whole (tt, tt)
-    (ap (λ (c : Course). after a c (Did (act.CommitPatch ops) (Refused why.NoMemory))) at)
+    (ap (λ (c : Course). course_after a c (Did (act.CommitPatch ops) (Refused why.NoMemory))) at)
     (append-nil (said_so_far a l.trail.course) ∙ ap (λ (c : Course). said_so_far a c) at) refl (Patching r, refl, tt) n o
 order_leads a k r ops (Refused why.LastNumber) b x h said body l at whole orders n o =
     reads_on a k (Failing want.Numbers) (Did (act.CommitPatch ops) (Refused why.LastNumber) ∷ []) (Lacking (Patching r) Numbers) [] b x h said body l whole (tt, tt)
-    (ap (λ (c : Course). after a c (Did (act.CommitPatch ops) (Refused why.LastNumber))) at)
+    (ap (λ (c : Course). course_after a c (Did (act.CommitPatch ops) (Refused why.LastNumber))) at)
     (append-nil (said_so_far a l.trail.course) ∙ ap (λ (c : Course). said_so_far a c) at) refl
     (Patching r, refl, (body, λ z. refl, (r, patch_refusal a k b x h said l r body None at orders.0))) n o
 order_leads a k r ops answer b x h said body l at whole orders n o =
     broke a k (Did (act.CommitPatch ops) answer) (Patching r) b b x h said l (tt, tt) at refl (λ o. tt) (no_more a k b x h said l) n o
 
 -- There was no memory for a patch.
-pub patch_short : {s : Server} {e : Bool} (a : Asked) (k : Work) (r : ℕ) (rest : List ℕ → Cut) (b c x : List ℕ) (h : Deeds) (said : List ℕ) (l : LeadsTo s e (Serving a k) b x h said)
+pub patch_short : {s : Server} {e : Bool} (a : Asked) (k : Work) (r : ℕ) (rest : List ℕ → BodyCut) (b c x : List ℕ) (h : Deeds) (said : List ℕ) (l : LeadsTo s e (Serving a k) b x h said)
     → l.trail.course ≡ Patching r → ((y : List ℕ) → rest (c ++ y) ≡ l.trail.cut (b ++ y)) → ((z : List ℕ) → stages_in l.now + 0 ≤ length (rest z).bytes + 1)
     → (n : Next) → Says n (Serving a (Failing want.Memory)) [] → LeadsTo s e n.phase c x h (said ++ n.said.items)
 patch_short {s} {e} a k r rest b c x h said l at same few n y =
     to_next n (Serving a (Failing want.Memory)) [] c x h said y
     (subst (λ (d : Deeds). LeadsTo s e (Serving a (Failing want.Memory)) c x d (said ++ [])) (append-nil h)
-    (moved a k (Failing want.Memory) (Short ∷ []) [] b c x h said l (record { cut = rest; course = Lacking (Patching r) Memory }) same tt (ap (λ (c : Course). after a c Short) at)
+    (moved a k (Failing want.Memory) (Short ∷ []) [] b c x h said l (record { cut = rest; course = Lacking (Patching r) Memory }) same tt (ap (λ (c : Course). course_after a c Short) at)
     (append-nil (said_so_far a l.trail.course) ∙ ap (λ (c : Course). said_so_far a c) at) few (Patching r, refl, tt)))
 
 -- steps
@@ -114,7 +114,7 @@ pub patch_on : {s : Server} {e : Bool} (a : Asked) (r : ℕ) (v v2 : Vec ℕ Glo
     → GivesData t t2 b bytes n → v2.items ≡ v.items ++ bytes → LeadsTo s e (Serving a (work.Patching r v2 t2)) (drop n b) x h said
 patch_on {s} a r v v2 t t2 bytes b x n h said l p is =
     silent (Serving a (work.Patching r v t)) (Serving a (work.Patching r v2 t2)) b (drop n b) x h said l (part_trail (v.items ++ bytes) t2 (Patching r))
-    (λ y. ap (λ (c : Cut). by_body (requests s.base) a c) (seam l.trail v.items bytes b t t2 n l.keeps.stands.1 p y))
+    (λ y. ap (λ (c : BodyCut). by_body (requests s.base) a c) (seam l.trail v.items bytes b t t2 n l.keeps.stands.1 p y))
     (record {
       suits = l.keeps.suits;
       came = l.keeps.came ∙ l.keeps.stands.0;
@@ -155,7 +155,7 @@ rests_steps gives setup e p b c old (Made n) r = absurd r
 patch_whole : {s : Server} {e : Bool} (a : Asked) (r : ℕ) (v : Vec ℕ Global) (t : Transfer) (b x : List ℕ) (h : Deeds) (said : List ℕ) (l : LeadsTo s e (Serving a (work.Patching r v t)) b x h said) (body : List ℕ)
     → v.items ≡ body → ((y : List ℕ) → cut_of t (b ++ y) ≡ ends (cut.Whole (b ++ y))) → IsWholeAt l body
 patch_whole a r v t b x h said l body is over y =
-    l.keeps.stands.1 (b ++ y) ∙ ap (λ (c : Cut). with_data v.items c) (over y) ∙ ap (λ (z : List ℕ). record { bytes = z; end = cut.Whole (b ++ y) }) (append-nil v.items ∙ is)
+    l.keeps.stands.1 (b ++ y) ∙ ap (λ (c : BodyCut). with_data v.items c) (over y) ∙ ap (λ (z : List ℕ). record { bytes = z; end = cut.Whole (b ++ y) }) (append-nil v.items ∙ is)
 
 -- The operations of a patch take effect.
 pub order_steps : {D : Type 0} (gives : D → Event → Answer → D → Type 0) (setup : Setup) (e : Bool) (a : Asked) (r : ℕ) (v : Vec ℕ Global) (t : Transfer) (body b : List ℕ) (ops : Vec Op Global) (old new : D) (n : Next) (base : List ℕ)
@@ -182,7 +182,7 @@ reject_steps gives setup e a r v t body b why st old new n base is over under fa
 )
 
 -- a refusal that is neither want of memory nor what is out of the profile tells a broken text
-broken : (f : Refusal) (q : Request) → Refuses f q → f ≢ why.NoMemory → f ≢ why.NotInProfile → (k : Fault) × (q.1 ≡ Some (Broken k))
+broken : (f : Refusal) (q : UpdateRequest) → Refuses f q → f ≢ why.NoMemory → f ≢ why.NotInProfile → (k : Fault) × (q.1 ≡ Some (Broken k))
 broken (why.Syntax at) q r m p = (Syntax, r.broken)
 broken why.TermTooLong q r m p = (TermTooLong, r)
 broken why.NoMemory q r m p = absurd (m refl)
@@ -217,7 +217,7 @@ patch_fault gives setup e a r v t b st old new n faulty o = (
   o.0,
   o.1,
   λ x h said l. fault_leads a (work.Patching r v t) (Patching r) r st (v.items ++ []) o.0 b x h said l l.keeps.stands.0 (patch_open a r)
-      (λ y. l.keeps.stands.1 (b ++ y) ∙ ap (λ (c : Cut). with_data v.items c) (faulty y)) n o.2,
+      (λ y. l.keeps.stands.1 (b ++ y) ∙ ap (λ (c : BodyCut). with_data v.items c) (faulty y)) n o.2,
 )
 
 -- The input ended within a patch's body: the patch is cancelled.
@@ -230,5 +230,5 @@ patch_ends gives setup e a r v t b old new n at_end ended o =
       o.0,
       o.1,
       λ x h said l. leave_leads a (work.Patching r v t) (Patching r) r (v.items ++ []) o.0 b x h said l l.keeps.stands.0 (patch_open a r)
-          (l.keeps.stands.1 (b ++ []) ∙ ap (λ z. with_data v.items (cut_of t z)) (append-nil b) ∙ ap (λ (c : Cut). with_data v.items c) ended) n o.2,
+          (l.keeps.stands.1 (b ++ []) ∙ ap (λ z. with_data v.items (cut_of t z)) (append-nil b) ∙ ap (λ (c : BodyCut). with_data v.items c) ended) n o.2,
     )

@@ -13,7 +13,7 @@ use Rattle.gs_verdict.specs.declared.verdicts.Asked.{Asked}
 use Rattle.gs_reply.specs.Replies.{lines_head}
 use Rattle.gs_talk.specs.Plans.{Plan, Uploads, Patches, Deletes, Looks, Reads, NoPlan, plan_of}
 use Rattle.gs_talk.specs.Courses.{Move, Did, Short, Course, Fresh, Early, Writing, Patching, Lacking, Late, Dropped, Wrote, Patched, Erased, Looked, Missing, Held, Cutting, Cut as CutShort}
-use Rattle.gs_talk.specs.Moves.{first, writing, patching, held, cancelling, ready, after, course, at_delete, at_head, at_pin, at_stage, at_commit, at_commit_patch, at_piece}
+use Rattle.gs_talk.specs.Moves.{first, writing, patching, held, cancelling, ready, course_after, course, at_delete, at_head, at_pin, at_stage, course_at_commit, at_commit_patch, at_piece}
 use Rattle.gs_talk.specs.Following.{phase_at, writing_phase, patching_phase}
 
 -- where an upload or a patch is open, the plan is one, and where a Cancel of it is due, the seat may be cancelled
@@ -68,7 +68,7 @@ stage_so p r g (t ∷ ts) Staged k = k
 stage_so p r g (t ∷ ts) (Refused why.NoMemory) k = drops_upload p r g k
 stage_so p r g (t ∷ ts) other k = tt
 
-commit_so : (p : Plan) (r : ℕ) (g : List RdfTriple) (answer : Answer) → IsPlanned p (Writing r g) → IsPlanned p (at_commit r g answer)
+commit_so : (p : Plan) (r : ℕ) (g : List RdfTriple) (answer : Answer) → IsPlanned p (Writing r g) → IsPlanned p (course_at_commit r g answer)
 commit_so p r g (Status s name) k = tt
 commit_so p r g (Refused why.NoMemory) k = drops_upload p r g k
 commit_so p r g (Refused why.LastNumber) k = drops_upload p r g k
@@ -117,7 +117,7 @@ ready_so : (p : Plan) (c : Course) (m : Move) → IsPlanned p (ready c m)
 ready_so p c Short = tt
 ready_so p c other = tt
 
-pub after_so : (a : Asked) (c : Course) (m : Move) → IsPlanned (plan_of a) c → IsPlanned (plan_of a) (after a c m)
+pub after_so : (a : Asked) (c : Course) (m : Move) → IsPlanned (plan_of a) c → IsPlanned (plan_of a) (course_after a c m)
 after_so a Fresh m k = first_so a (plan_of a) m
 after_so a (Writing r g) m k = writing_so (plan_of a) r g m k
 after_so a (Patching r) m k = patching_so (plan_of a) r m k
@@ -136,7 +136,7 @@ after_so a other m k = tt
 
 course_so : (a : Asked) (c : Course) (ms : List Move) → IsPlanned (plan_of a) c → IsPlanned (plan_of a) (course a c ms)
 course_so a c [] k = k
-course_so a c (m ∷ ms) k = course_so a (after a c m) ms (after_so a c m k)
+course_so a c (m ∷ ms) k = course_so a (course_after a c m) ms (after_so a c m k)
 
 -- moves that open a patch are those of a plan that does
 pub patch_plan : (a : Asked) (ms : List Move) (r : ℕ) → course a Fresh ms ≡ Patching r → (t : Target) × (plan_of a ≡ Patches t)

@@ -13,7 +13,7 @@ use Rattle.gs_reply.specs.Replies.{reply_text, lines_head, chunk, continue_text}
 use Rattle.gs_talk.specs.Bodies.{refusal_at}
 use Rattle.gs_talk.specs.Plans.{Plan, Deletes, Looks, Reads, opens, plan_of}
 use Rattle.gs_talk.specs.Courses.{Move, Did, Short, Course, Fresh, Late, Numbers, Erased, Looked, Missing, Held, Cutting, Cut, Misanswered, lines_out}
-use Rattle.gs_talk.specs.Moves.{first, after, course, last_if, at_piece}
+use Rattle.gs_talk.specs.Moves.{first, course_after, course, last_if, at_piece}
 use Rattle.gs_talk.specs.Seats.{Deeds}
 use Rattle.gs_talk.specs.Replies.{Whole, Said, IsOwn, Settles, said_so_far, greeting}
 use Rattle.gs_talk.specs.Logs.{Server, AllSuit, deeds_of, stages_in}
@@ -23,9 +23,9 @@ use Rattle.gs_session.specs.declared.phases.Work.{Work}
 use Rattle.gs_session.specs.declared.phases.Work.TheVariants.{Skipping, Sending}
 use Rattle.gs_session.specs.declared.phases.Work.TheVariants as work
 use Rattle.gs_session.specs.declared.outcomes.Next.{Next}
-use Rattle.gs_session.specs.Trails.{Trail, Stands}
+use Rattle.gs_session.specs.Trails.{Trail, WorkStands}
 use Rattle.gs_session.specs.Leads.{LeadsTo}
-use Rattle.gs_session.specs.Outcomes.{Says, Stops, Replies, RepliesFound, Begins, after_reply, AfterDelete, AfterLook, AfterPin, AfterPiece}
+use Rattle.gs_session.specs.Outcomes.{Says, Stops, Replies, RepliesFound, BeginsRead, after_reply, AfterDelete, AfterLook, AfterPin, AfterPiece}
 use Rattle.gs_session.proofs.MoveLemmas.{moved, answers}
 use Rattle.gs_session.proofs.ReplyLemmas.{replies, broke, to_next}
 
@@ -36,7 +36,7 @@ IsWholeAt {b = b} l body = (y : List ℕ) → l.trail.cut (b ++ y) ≡ record { 
 -- no stage more, after which there are few
 pub few_still : {s : Server} {e : Bool} (a : Asked) (k : Work) (b x : List ℕ) (h : Deeds) (said : List ℕ) (l : LeadsTo s e (Serving a k) b x h said) (body : List ℕ) (ms : List Move)
     → IsWholeAt l body → stages_in ms ≡ 0 → stages_in l.now + stages_in ms ≤ length body + 1
-few_still a k b x h said l body ms whole none = omega (arith, none, l.keeps.few (b ++ []), ap (λ (c : cut.Cut). length c.bytes) (whole []))
+few_still a k b x h said l body ms whole none = omega (arith, none, l.keeps.few (b ++ []), ap (λ (c : cut.BodyCut). length c.bytes) (whole []))
 
 -- an event that stages nothing leaves their number
 pub no_more : {s : Server} {e : Bool} (a : Asked) (k : Work) (b x : List ℕ) (h : Deeds) (said : List ℕ) (l : LeadsTo s e (Serving a k) b x h said) (z : List ℕ) → stages_in l.now + 0 ≤ length (l.trail.cut z).bytes + 1
@@ -48,8 +48,8 @@ greeted_skip a before at none =
     ap (λ (c : Course). said_so_far a c) at ∙ append-nil (greeting a Fresh) ∙ ap (λ v. cond a.awaits_continue (cond (not v) continue_text []) []) none
 
 -- after a first move the course is what the move leads to
-pub first_is : (a : Asked) (before : Course) (p : Plan) (m : Move) → before ≡ Fresh → plan_of a ≡ p → after a before m ≡ first a p m
-first_is a before p m at is = ap (λ (c : Course). after a c m) at ∙ ap (λ (q : Plan). first a q m) is
+pub first_is : (a : Asked) (before : Course) (p : Plan) (m : Move) → before ≡ Fresh → plan_of a ≡ p → course_after a before m ≡ first a p m
+first_is a before p m at is = ap (λ (c : Course). course_after a c m) at ∙ ap (λ (q : Plan). first a q m) is
 
 pub delete_leads : {s : Server} {e : Bool} (a : Asked) (transfer : Transfer) (t : Target) (answer : Answer) (b x : List ℕ) (h : Deeds) (said body : List ℕ) (l : LeadsTo s e (Serving a (Skipping transfer)) b x h said)
     → plan_of a ≡ Deletes t → IsWholeAt l body → (n : Next) → AfterDelete a answer n → LeadsTo s e n.phase b x (h ++ (act.Delete t, answer) ∷ []) (said ++ n.said.items)
@@ -115,30 +115,30 @@ whole_trail body c = record { cut = λ z. record { bytes = body; end = cut.Whole
 -- moves are made and a text is said, and a request whose body is whole is served on
 reads_at : {s : Server} {e : Bool} (a : Asked) (k k2 : Work) (ms : List Move) (c : Course) (u b x : List ℕ) (h : Deeds) (said body : List ℕ) (l : LeadsTo s e (Serving a k) b x h said)
     → IsWholeAt l body → AllSuit s.piece (plan_of a) ms → course a l.trail.course ms ≡ c → said_so_far a l.trail.course ++ u ≡ said_so_far a c → stages_in ms ≡ 0
-    → Stands s.base a k2 (whole_trail body c) (stages_in l.now + stages_in ms) → LeadsTo s e (Serving a k2) b x (h ++ deeds_of ms) (said ++ u)
+    → WorkStands s.base a k2 (whole_trail body c) (stages_in l.now + stages_in ms) → LeadsTo s e (Serving a k2) b x (h ++ deeds_of ms) (said ++ u)
 reads_at a k k2 ms c u b x h said body l whole suit f g none j =
     moved a k k2 ms u b b x h said l (whole_trail body c) (λ y. sym (whole y)) suit f g (λ z. few_still a k b x h said l body ms whole none) j
 
 -- and this is what comes next
 pub reads_on : {s : Server} {e : Bool} (a : Asked) (k k2 : Work) (ms : List Move) (c : Course) (u b x : List ℕ) (h : Deeds) (said body : List ℕ) (l : LeadsTo s e (Serving a k) b x h said)
     → IsWholeAt l body → AllSuit s.piece (plan_of a) ms → course a l.trail.course ms ≡ c → said_so_far a l.trail.course ++ u ≡ said_so_far a c → stages_in ms ≡ 0
-    → Stands s.base a k2 (whole_trail body c) (stages_in l.now + stages_in ms) → (n : Next) → Says n (Serving a k2) u → LeadsTo s e n.phase b x (h ++ deeds_of ms) (said ++ n.said.items)
+    → WorkStands s.base a k2 (whole_trail body c) (stages_in l.now + stages_in ms) → (n : Next) → Says n (Serving a k2) u → LeadsTo s e n.phase b x (h ++ deeds_of ms) (said ++ n.said.items)
 reads_on a k k2 ms c u b x h said body l whole suit f g none j n y =
     to_next n (Serving a k2) u b x (h ++ deeds_of ms) said y (reads_at a k k2 ms c u b x h said body l whole suit f g none j)
 
 begun : {s : Server} {e : Bool} (a : Asked) (transfer : Transfer) (t : Target) (st : ℕ) (b x : List ℕ) (h : Deeds) (said body : List ℕ) (l : LeadsTo s e (Serving a (Skipping transfer)) b x h said)
-    → plan_of a ≡ Reads t → IsWholeAt l body → after a l.trail.course (Did (act.Pin t) (Pinned st)) ≡ Held [] (lines_head a.reply a.closes) false → (n : Next) → Begins n a
+    → plan_of a ≡ Reads t → IsWholeAt l body → course_after a l.trail.course (Did (act.Pin t) (Pinned st)) ≡ Held [] (lines_head a.reply a.closes) false → (n : Next) → BeginsRead n a
     → LeadsTo s e n.phase b x (h ++ (act.Pin t, Pinned st) ∷ []) (said ++ n.said.items)
 begun a transfer t st b x h said body l is whole f n (inl y) =
     reads_on a (Skipping transfer) Sending (Did (act.Pin t) (Pinned st) ∷ []) (Held [] (lines_head a.reply a.closes) false) (lines_head a.reply a.closes) b x h said body l whole (is, tt) f
     (ap (λ z. z ++ lines_head a.reply a.closes) (greeted_skip a l.trail.course l.keeps.stands.1 l.keeps.stands.2)) refl ([], lines_head a.reply a.closes, body, refl, λ z. refl) n y
 begun a transfer t st b x h said body l is whole f n (inr y) =
-    reads_on a (Skipping transfer) work.Cutting (Did (act.Pin t) (Pinned st) ∷ Short ∷ []) (Cutting []) [] b x h said body l whole (is, tt) (ap (λ (c : Course). after a c Short) f)
+    reads_on a (Skipping transfer) work.Cutting (Did (act.Pin t) (Pinned st) ∷ Short ∷ []) (Cutting []) [] b x h said body l whole (is, tt) (ap (λ (c : Course). course_after a c Short) f)
     (ap (λ z. z ++ []) (greeted_skip a l.trail.course l.keeps.stands.1 l.keeps.stands.2)) refl ([], body, refl, λ z. refl) n y
 
 pinned : {s : Server} {e : Bool} (a : Asked) (transfer : Transfer) (t : Target) (st : ℕ) (b x : List ℕ) (h : Deeds) (said body : List ℕ) (l : LeadsTo s e (Serving a (Skipping transfer)) b x h said)
-    → plan_of a ≡ Reads t → IsWholeAt l body → (v : Bool) → after a l.trail.course (Did (act.Pin t) (Pinned st)) ≡ cond v (Held [] (lines_head a.reply a.closes) false) (Missing st)
-    → (n : Next) → cond v (Begins n a) (Replies n st a.closes) → LeadsTo s e n.phase b x (h ++ (act.Pin t, Pinned st) ∷ []) (said ++ n.said.items)
+    → plan_of a ≡ Reads t → IsWholeAt l body → (v : Bool) → course_after a l.trail.course (Did (act.Pin t) (Pinned st)) ≡ cond v (Held [] (lines_head a.reply a.closes) false) (Missing st)
+    → (n : Next) → cond v (BeginsRead n a) (Replies n st a.closes) → LeadsTo s e n.phase b x (h ++ (act.Pin t, Pinned st) ∷ []) (said ++ n.said.items)
 pinned a transfer t st b x h said body l is whole true f n o = begun a transfer t st b x h said body l is whole f n o
 pinned a transfer t st b x h said body l is whole false f n o =
     replies a (Skipping transfer) (Did (act.Pin t) (Pinned st) ∷ []) (Missing st) body (reply_text st Nothing a.closes) a.closes b x h said l whole
@@ -173,8 +173,8 @@ joins : (a : Asked) (before : Course) (out due u : List ℕ) → before ≡ Held
 joins a before out due u at = ap (λ (c : Course). said_so_far a c ++ u) at ∙ append_assoc (greeting a (Held out due false)) (out ++ due) u
 
 -- what the course of a read is after a move
-held_is : (a : Asked) (before c : Course) (out due : List ℕ) (m : Move) → before ≡ Held out due false → after a (Held out due false) m ≡ c → after a before m ≡ c
-held_is a before c out due m at f = ap (λ (d : Course). after a d m) at ∙ f
+held_is : (a : Asked) (before c : Course) (out due : List ℕ) (m : Move) → before ≡ Held out due false → course_after a (Held out due false) m ≡ c → course_after a before m ≡ c
+held_is a before c out due m at f = ap (λ (d : Course). course_after a d m) at ∙ f
 
 -- what was due is said before a text
 after_due : {s : Server} {e : Bool} (n : Next) (p : Phase) (due u b x : List ℕ) (h : Deeds) (w : List ℕ) → Says n p (due ++ u) → LeadsTo s e p b x h ((w ++ due) ++ u) → LeadsTo s e n.phase b x h (w ++ n.said.items)
@@ -203,7 +203,7 @@ piece_leads {s} {e} a answer b x h w held l n o = go answer o
     whole : IsWholeAt l body
     whole y = l.keeps.stands.4 (b ++ y)
 
-    is : (answer : Answer) → after a l.trail.course (Did (act.Piece s.piece) answer) ≡ at_piece out due answer
+    is : (answer : Answer) → course_after a l.trail.course (Did (act.Piece s.piece) answer) ≡ at_piece out due answer
     is answer = held_is a l.trail.course (at_piece out due answer) out due (Did (act.Piece s.piece) answer) at refl
 
     go : (answer : Answer) → AfterPiece a held answer n → LeadsTo s e n.phase b x (h ++ (act.Piece s.piece, answer) ∷ []) (w ++ n.said.items)
@@ -215,7 +215,7 @@ piece_leads {s} {e} a answer b x h w held l n o = go answer o
         (joins a l.trail.course out due (chunk v.items ++ last_if true) at ∙ ap (λ (d : Course). greeting a d ++ ((out ++ due) ++ (chunk v.items ++ last_if true))) (sym (is (Lines v true)))))
     go (Lines v true) (inr y) =
         after_due n Over held [] b x (h ++ (act.Piece s.piece, Lines v true) ∷ []) w (due_alone n Over held y)
-        (stops_at a Sending (Did (act.Piece s.piece) (Lines v true) ∷ Short ∷ []) (Cut (out ++ due)) b x h (w ++ held) body l whole (refl, tt) (ap (λ (d : Course). after a d Short) (is (Lines v true))) refl tt refl
+        (stops_at a Sending (Did (act.Piece s.piece) (Lines v true) ∷ Short ∷ []) (Cut (out ++ due)) b x h (w ++ held) body l whole (refl, tt) (ap (λ (d : Course). course_after a d Short) (is (Lines v true))) refl tt refl
         (ap (λ (c : Course). said_so_far a c) at))
     go (Lines v false) (inl y) =
         after_due n (Serving a Sending) held (chunk v.items ++ last_if false) b x (h ++ (act.Piece s.piece, Lines v false) ∷ []) w y
@@ -223,7 +223,7 @@ piece_leads {s} {e} a answer b x h w held l n o = go answer o
         (joins a l.trail.course out due (chunk v.items ++ last_if false) at) refl (out ++ due, chunk v.items ++ last_if false, body, refl, λ z. refl))
     go (Lines v false) (inr y) =
         after_due n (Serving a work.Cutting) held [] b x (h ++ (act.Piece s.piece, Lines v false) ∷ []) w (due_alone n (Serving a work.Cutting) held y)
-        (reads_at a Sending work.Cutting (Did (act.Piece s.piece) (Lines v false) ∷ Short ∷ []) (Cutting (out ++ due)) [] b x h (w ++ held) body l whole (refl, tt) (ap (λ (d : Course). after a d Short) (is (Lines v false)))
+        (reads_at a Sending work.Cutting (Did (act.Piece s.piece) (Lines v false) ∷ Short ∷ []) (Cutting (out ++ due)) [] b x h (w ++ held) body l whole (refl, tt) (ap (λ (d : Course). course_after a d Short) (is (Lines v false)))
         (append-nil (said_so_far a l.trail.course) ∙ ap (λ (c : Course). said_so_far a c) at) refl (out ++ due, body, refl, λ z. refl))
     go (Refused why.NoMemory) y =
         after_due n (Serving a work.Cutting) held [] b x (h ++ (act.Piece s.piece, Refused why.NoMemory) ∷ []) w (due_alone n (Serving a work.Cutting) held y)

@@ -1,12 +1,12 @@
 -- A request is answered by a reply, or by nothing for want of memory; or the door's answer ends the connection.
 use Rattle.std.proofs.Common.{◌≡◌, ◌⊎◌, inl, inr, ◌+◌, ◌≤◌, arith, ℕ, Bool, true, false, not, List, [], ◌∷◌, ◌++◌, length, refl, sym, ap, subst, ◌∙◌, append-nil}
 use Rattle.std.proofs.lemmas.List.Concat.{flat_map-append}
-use Rattle.gs_transfer.specs.Cuts.{Cut}
+use Rattle.gs_transfer.specs.Cuts.{BodyCut}
 use Rattle.gs_transfer.specs.Cuts as cut
 use Rattle.gs_verdict.specs.declared.verdicts.Asked.{Asked}
 use Rattle.gs_talk.specs.Plans.{Plan, plan_of}
 use Rattle.gs_talk.specs.Courses.{Move, Short, Course, Mute, Misanswered, lines_out}
-use Rattle.gs_talk.specs.Moves.{after, course}
+use Rattle.gs_talk.specs.Moves.{course_after, course}
 use Rattle.gs_talk.specs.Seats.{Deeds}
 use Rattle.gs_talk.specs.Replies.{BodyState, Whole, IsOwn, Settles, said_so_far, greeting}
 use Rattle.gs_talk.specs.Logs.{Server, AllSuit, deed_of, deeds_of, stages_in}
@@ -37,13 +37,13 @@ short_suits piece p ms k = suit-append piece p ms (Short ∷ []) k tt
 pub record Answers (s : Server) (a : Asked) (o : BodyState) (before c : Course) (ms : List Move) (v : List ℕ) (goes : Bool) : Type 0 where
   pub suits : AllSuit s.piece (plan_of a) ms
   pub came : course a before ms ≡ c
-  pub mute : after a c Short ≡ Mute c
+  pub mute : course_after a c Short ≡ Mute c
   pub own : IsOwn s.base a o c
   pub settled : Settles s.base a o c (v, goes)
   pub greeted : said_so_far a before ≡ greeting a c
 
-muted_course : (a : Asked) (before c : Course) (ms : List Move) → course a before ms ≡ c → after a c Short ≡ Mute c → course a before (ms ++ Short ∷ []) ≡ Mute c
-muted_course a before c ms f g = course-append a before ms (Short ∷ []) ∙ ap (λ (d : Course). after a d Short) f ∙ g
+muted_course : (a : Asked) (before c : Course) (ms : List Move) → course a before ms ≡ c → course_after a c Short ≡ Mute c → course a before (ms ++ Short ∷ []) ≡ Mute c
+muted_course a before c ms f g = course-append a before ms (Short ∷ []) ∙ ap (λ (d : Course). course_after a d Short) f ∙ g
 
 -- A request whose body is whole is answered.
 pub replies : {s : Server} {e : Bool} (a : Asked) (k : Work) (ms : List Move) (c : Course) (body v : List ℕ) (closes : Bool) (b x : List ℕ) (h : Deeds) (said : List ℕ) (l : LeadsTo s e (Serving a k) b x h said)
@@ -84,11 +84,11 @@ replies_any {s} {e} a k ms c v b x h said l none r n (inr y) =
 
 -- The door gave an answer that it should not: the connection ends.
 pub broke : {s : Server} {e : Bool} (a : Asked) (k : Work) (m : Move) (c : Course) (b d x : List ℕ) (h : Deeds) (said : List ℕ) (l : LeadsTo s e (Serving a k) b x h said)
-    → AllSuit s.piece (plan_of a) (m ∷ []) → l.trail.course ≡ c → after a c m ≡ Misanswered c → ((o : BodyState) → IsOwn s.base a o c)
+    → AllSuit s.piece (plan_of a) (m ∷ []) → l.trail.course ≡ c → course_after a c m ≡ Misanswered c → ((o : BodyState) → IsOwn s.base a o c)
     → ((z : List ℕ) → stages_in l.now + stages_in (m ∷ []) ≤ length (l.trail.cut z).bytes + 1)
     → (n : Next) → Stops n → LeadsTo s e n.phase d x (h ++ deeds_of (m ∷ [])) (said ++ n.said.items)
 broke {s} {e} a k m c b d x h said l suit at f own few n y =
-    let is : after a l.trail.course m ≡ Misanswered c = ap (λ (w : Course). after a w m) at ∙ f in
+    let is : course_after a l.trail.course m ≡ Misanswered c = ap (λ (w : Course). course_after a w m) at ∙ f in
     to_next n Over [] d x (h ++ deeds_of (m ∷ [])) said y
     (ends a k (m ∷ []) (lines_out c) [] b d x h said l suit (λ o. subst (λ (w : Course). IsOwn s.base a o w) (sym is) (own o)) few
     (λ o. subst (λ (w : Course). Settles s.base a o w (lines_out c, false)) (sym is) refl)

@@ -1,6 +1,6 @@
 -- Where nothing can be done before more comes, all that is to be said was said.
 use Rattle.std.proofs.Common.{◌≡◌, inl, inr, arith, ℕ, Bool, true, false, not, List, [], ◌∷◌, ◌++◌, length, refl, sym, ap, subst, ◌∙◌, append-nil, true≢false}
-use Rattle.gs_transfer.specs.Cuts.{Cut, with_data, ends}
+use Rattle.gs_transfer.specs.Cuts.{BodyCut, with_data, ends}
 use Rattle.gs_transfer.specs.Cuts as cut
 use Rattle.gs_transfer.specs.Views.{cut_of}
 use Rattle.gs_transfer.specs.declared.places.Transfer.{Transfer}
@@ -47,12 +47,12 @@ waiting {s} {e} a k b x h said l c front at own right awaits is = (
       log = l.log;
       now = l.now;
       text = l.text;
-      answers = subst (λ (v : Cut). AnswersAll s e l.log (requests s.base x) (by_body (requests s.base) a v)) is (answered_now l);
+      answers = subst (λ (v : BodyCut). AnswersAll s e l.log (requests s.base x) (by_body (requests s.base) a v)) is (answered_now l);
       hand = (
         (
           l.keeps.suits,
           subst (λ (d : Course). IsOwn s.base a (Unended front e) d) (sym to_c) (own (Unended front e)),
-          omega (arith, l.keeps.few b, ap (λ (v : Cut). length v.bytes) is),
+          omega (arith, l.keeps.few b, ap (λ (v : BodyCut). length v.bytes) is),
         ),
         subst IsRight (sym to_c) right,
         l.keeps.said ∙ ap (λ (d : Course). said_so_far a d) (at ∙ sym to_c),
@@ -69,7 +69,7 @@ waiting {s} {e} a k b x h said l c front at own right awaits is = (
     to_c = l.keeps.came ∙ at
 
 open_cut : (t : Trail) (done b : List ℕ) (transfer : Transfer) → t.cut b ≡ with_data done (cut_of transfer b) → cut_of transfer b ≡ ends cut.Open → t.cut b ≡ record { bytes = done ++ []; end = cut.Open }
-open_cut t done b transfer f g = f ∙ ap (λ (c : Cut). with_data done c) g
+open_cut t done b transfer f g = f ∙ ap (λ (c : BodyCut). with_data done c) g
 
 pub says_all : {s : Server} {e : Bool} (p : Phase) (b x : List ℕ) (h : Deeds) (said : List ℕ) → IsStill p e b → (p ≡ Over → ⊥) → LeadsTo s e p b x h said → SaysAll s e x h said
 says_all {s} {e} Between b x h said i n l = (

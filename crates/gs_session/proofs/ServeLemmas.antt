@@ -17,8 +17,8 @@ use Rattle.gs_session.specs.declared.sessions.Turn.TheVariants.{NeedInput, Made,
 use Rattle.gs_session.specs.declared.setups.Setup.{Setup}
 use Rattle.gs_session.specs.Leads.{MayCome}
 use Rattle.gs_session.specs.Steps.{server_of}
-use Rattle.gs_session.specs.Turns.{Leads, Turns, HasEnded, Ran, Quits}
-use Rattle.gs_session.specs.Connections.{Connection, Goes, Done, Quit, AsksRightly, Reads, Loses}
+use Rattle.gs_session.specs.Turns.{Leads, MakesTurn, HasEnded, Ran, Quits}
+use Rattle.gs_session.specs.Connections.{Connection, Goes, IsFinished, Quit, AsksRightly, ReadsInput, Loses}
 use Rattle.gs_session.proofs.RestLemmas.{may_none}
 
 ran_more : {D : Type 0} (gives : D → Event → Answer → D → Type 0) (seat : ℕ) (a b c : D) (d f : Deeds) → Ran gives seat a d b → Ran gives seat b f c → Ran gives seat a (d ++ f) c
@@ -36,7 +36,7 @@ output (Output b) = b.items
 output turn = []
 
 -- a turn, as deeds and a text
-stepped : {D : Type 0} (gives : D → Event → Answer → D → Type 0) (s : Session) (old : D) (t : Turn) (s2 : Session) (new : D) → Turns gives s old t s2 new
+stepped : {D : Type 0} (gives : D → Event → Answer → D → Type 0) (s : Session) (old : D) (t : Turn) (s2 : Session) (new : D) → MakesTurn gives s old t s2 new
     → (d : Deeds) × Ran gives s.setup.seat old d new × ((x : List ℕ) (h : Deeds) (w : List ℕ) → Leads s x h w → Leads s2 x (h ++ d) (w ++ output t))
 stepped gives s old Made s2 new f = ((f.0, f.1) ∷ [], (new, f.2, refl), λ x h w l. subst (λ z. Leads s2 x (h ++ (f.0, f.1) ∷ []) z) (sym (append-nil w)) (f.3 x h w l))
 stepped gives s old (Output v) s2 new f = ([], f.0, λ x h w l. subst (λ (z : Deeds). Leads s2 x z (w ++ v.items)) (sym (append-nil h)) (f.2 x h w l))
@@ -45,7 +45,7 @@ stepped gives s old Over s2 new f = ([], f.0, λ x h w l. subst (λ (z : Deeds).
 
 -- A turn was taken, and its text was written.
 pub after_turn : {D : Type 0} (gives : D → Event → Answer → D → Type 0) (p : Server) (seat : ℕ) (unread left held holds holds2 : Option (List ℕ)) (first old new : D) (s s2 : Session) (t : Turn)
-    → Connection gives seat unread left held holds first old (Goes p seat s left) → Turns gives s old t s2 new → s2.setup ≡ s.setup → s2.ended ≡ s.ended → Appends holds holds2 (output t)
+    → Connection gives seat unread left held holds first old (Goes p seat s left) → MakesTurn gives s old t s2 new → s2.setup ≡ s.setup → s2.ended ≡ s.ended → Appends holds holds2 (output t)
     → Connection gives seat unread left held holds2 first new (Goes p seat s2 left)
 after_turn gives p seat unread left held holds holds2 first old new s s2 t z f setup ended a =
     let m = stepped gives s old t s2 new f in
@@ -66,7 +66,7 @@ after_turn gives p seat unread left held holds holds2 first old new s s2 t z f s
 
 -- The connection has ended.
 pub at_end : {D : Type 0} (gives : D → Event → Answer → D → Type 0) (p : Server) (seat : ℕ) (unread left held holds : Option (List ℕ)) (first new : D) (s : Session)
-    → Connection gives seat unread left held holds first new (Goes p seat s left) → HasEnded s → Connection gives seat unread left held holds first new (Done p left)
+    → Connection gives seat unread left held holds first new (Goes p seat s left) → HasEnded s → Connection gives seat unread left held holds first new (IsFinished p left)
 at_end gives p seat unread left held holds first new s z f =
     let says : SaysLast p s.ended z.x z.h z.w = subst (λ (q : Server). SaysLast q s.ended z.x z.h z.w) z.fact.2 (f z.x z.h z.w z.fact.0) in
     record {
@@ -85,7 +85,7 @@ asks p e x h w f i = (talk_points p e x h (w ++ f.1) f.0 f.2, i)
 
 -- what is whole is a front
 pub done_quits : {D : Type 0} (gives : D → Event → Answer → D → Type 0) (p : Server) (seat : ℕ) (unread left held holds : Option (List ℕ)) (first new : D)
-    → Connection gives seat unread left held holds first new (Done p left) → Connection gives seat unread left held holds first new (Quit p left)
+    → Connection gives seat unread left held holds first new (IsFinished p left) → Connection gives seat unread left held holds first new (Quit p left)
 done_quits gives p seat unread left held holds first new z = record {
   x = z.x;
   h = z.h;
@@ -135,7 +135,7 @@ given_up gives p seat unread left left2 held holds first mid new s more z q may 
 
 -- A turn whose text was written in part, and then the connection is given up.
 pub cut_short : {D : Type 0} (gives : D → Event → Answer → D → Type 0) (p : Server) (seat : ℕ) (unread left held holds holds2 : Option (List ℕ)) (first old mid new : D) (s s2 : Session) (t : Turn) (n : ℕ)
-    → Connection gives seat unread left held holds first old (Goes p seat s left) → Turns gives s old t s2 mid → s2.setup ≡ s.setup → s2.ended ≡ s.ended → Quits gives s2 mid new → Appends holds holds2 (take n (output t))
+    → Connection gives seat unread left held holds first old (Goes p seat s left) → MakesTurn gives s old t s2 mid → s2.setup ≡ s.setup → s2.ended ≡ s.ended → Quits gives s2 mid new → Appends holds holds2 (take n (output t))
     → Connection gives seat unread left held holds2 first new (Quit p left)
 cut_short gives p seat unread left held holds holds2 first old mid new s s2 t n z f setup ended q a =
     let m = stepped gives s old t s2 mid f in
@@ -163,7 +163,7 @@ cut_short gives p seat unread left held holds holds2 first old mid new s s2 t n 
 
 -- What was read was taken.
 pub after_read : {D : Type 0} (gives : D → Event → Answer → D → Type 0) (p : Server) (seat : ℕ) (unread left left2 held holds : Option (List ℕ)) (first new : D) (s s2 : Session)
-    → Connection gives seat unread left held holds first new (Goes p seat s left) → Reads s s2 left left2 → Connection gives seat unread left2 held holds first new (Goes p seat s2 left2)
+    → Connection gives seat unread left held holds first new (Goes p seat s left) → ReadsInput s s2 left left2 → Connection gives seat unread left2 held holds first new (Goes p seat s2 left2)
 after_read gives p seat unread left left2 held holds first new s s2 z f =
     let m = f.2 z.x z.h z.w z.fact.0 in
     record {

@@ -4,10 +4,10 @@ use Rattle.gs_event.specs.declared.events.Event.{Event}
 use Rattle.gs_event.specs.declared.events.Action.TheVariants as act
 use Rattle.gs_event.specs.declared.answers.Answer.{Answer}
 use Rattle.gs_term.specs.declared.names.Target.{Target}
-use Rattle.gs_transfer.specs.Cuts.{Cut, End, ends, with_data, cut_from}
+use Rattle.gs_transfer.specs.Cuts.{BodyCut, End, ends, with_data, cut_from}
 use Rattle.gs_transfer.specs.Cuts as cut
-use Rattle.gs_transfer.specs.States.{State, Left, SizeLine, Data, DataEnd, DataEndCr, Trailer, Over}
-use Rattle.gs_transfer.specs.Places.{state_at}
+use Rattle.gs_transfer.specs.States.{TransferState, Left, SizeLine, Data, DataEnd, DataEndCr, Trailer, Over}
+use Rattle.gs_transfer.specs.Places.{state_at_place}
 use Rattle.gs_transfer.specs.Views.{cut_of, Parts}
 use Rattle.gs_transfer.specs.declared.transfers.Part.{Part}
 use Rattle.gs_transfer.specs.declared.transfers.Part.TheVariants as part
@@ -18,7 +18,7 @@ use Rattle.gs_reply.specs.Replies.{reply_text}
 use Rattle.gs_stream.specs.Requests.{Request, by_body, by_end, requests}
 use Rattle.gs_talk.specs.Plans.{Plan, Uploads, Patches, Deletes, Looks, Reads, NoPlan, plan_of}
 use Rattle.gs_talk.specs.Courses.{Move, Short, Course, Fresh, Early, Memory, Mute}
-use Rattle.gs_talk.specs.Moves.{first, after, course}
+use Rattle.gs_talk.specs.Moves.{first, course_after, course}
 use Rattle.gs_talk.specs.Seats.{Deeds}
 use Rattle.gs_talk.specs.Replies.{BodyState, Whole, Faulty, Unended, Said, IsOwn, Settles, said_so_far, greeting, data_of, plain, is_early}
 use Rattle.gs_talk.specs.Logs.{Server, Log, AllSuit, AnswersAsk, AnswersAll, deeds_of, stages_in}
@@ -83,7 +83,7 @@ ends_early {s} {e} a k ms c v b x h said l at suit came early no_stage own set =
     at_end d (cut.Faulty st) m more rest w = (by (Faulty d st) m, w)
     at_end d (cut.Whole z) m more rest w = (by (Whole d) m, w)
 
-    go : (q : Cut) → stages_in l.now ≤ length q.bytes + 1 → (more : Log) (rest : List Request) → AnswersAll s e more [] rest
+    go : (q : BodyCut) → stages_in l.now ≤ length q.bytes + 1 → (more : Log) (rest : List Request) → AnswersAll s e more [] rest
         → AnswersAll s e ((record { moves = l.now ++ ms; text = l.text ++ v; goes = false }) ∷ more) (by_body (requests s.base) a q) rest
     go q m more rest w = at_end q.bytes q.end m more rest w
 
@@ -93,7 +93,7 @@ stops_early : {s : Server} {e : Bool} (a : Asked) (k : Work) (b x : List ℕ) (h
 stops_early {s} {e} a k b x h said l at n y =
     to_next n phase.Over [] b x h said y
     (subst (λ (d : Deeds). LeadsTo s e phase.Over b x d (said ++ [])) (append-nil h)
-    (ends_early a k (Short ∷ Short ∷ []) (Mute (Early Memory)) [] b x h said l at tt (ap (λ (c : Course). after a c Short) (first_short a (plan_of a))) refl refl (λ o. tt) (λ o. ((plain 503 true, refl), refl))))
+    (ends_early a k (Short ∷ Short ∷ []) (Mute (Early Memory)) [] b x h said l at tt (ap (λ (c : Course). course_after a c Short) (first_short a (plan_of a))) refl refl (λ o. tt) (λ o. ((plain 503 true, refl), refl))))
 
 -- Memory was wanting before any event: the reply is 503, or nothing, and the connection ends.
 pub early_leads : {s : Server} {e : Bool} (a : Asked) (k : Work) (b x : List ℕ) (h : Deeds) (said : List ℕ) (l : LeadsTo s e (Serving a k) b x h said)
@@ -118,7 +118,7 @@ closed n v (inr y) = y.0
 -- the body of a request that is dropped is whole
 skip_whole : {s : Server} {e : Bool} (a : Asked) (t : Transfer) (b x : List ℕ) (h : Deeds) (said : List ℕ) (l : LeadsTo s e (Serving a (Skipping t)) b x h said)
     → ((y : List ℕ) → cut_of t (b ++ y) ≡ ends (cut.Whole (b ++ y))) → IsWholeAt l (l.keeps.stands.0 ++ [])
-skip_whole a t b x h said l over y = l.keeps.stands.3 (b ++ y) ∙ ap (λ (c : Cut). with_data l.keeps.stands.0 c) (over y)
+skip_whole a t b x h said l over y = l.keeps.stands.3 (b ++ y) ∙ ap (λ (c : BodyCut). with_data l.keeps.stands.0 c) (over y)
 
 -- A graph is removed, once the body is over.
 pub delete_steps : {D : Type 0} (gives : D → Event → Answer → D → Type 0) (setup : Setup) (e : Bool) (a : Asked) (t : Transfer) (u : Target) (b : List ℕ) (old new : D) (n : Next)
@@ -148,7 +148,7 @@ early_steps gives setup e a t b old n o =
     (refl, (over_less n a t b (closed n (reply_text 503 Nothing true) o), λ x h said l. early_leads a (Skipping t) b x h said l l.keeps.stands.1 n o))
 
 -- a body so far has no data before its bytes
-none_from : (limit : ℕ) (s : State) → length (cut_from limit s []).bytes ≡ 0
+none_from : (limit : ℕ) (s : TransferState) → length (cut_from limit s []).bytes ≡ 0
 none_from limit (Left zero) = refl
 none_from limit (Left (suc n)) = refl
 none_from limit (SizeLine sum line) = refl
@@ -161,7 +161,7 @@ none_from limit Over = refl
 -- the stages are few by what came of the body
 pub few_came : (t : Trail) (done : List ℕ) (transfer : Transfer) (n : ℕ) → IsCutBy t done transfer → ((z : List ℕ) → n ≤ length (t.cut z).bytes + 1) → n ≤ length done + 1
 few_came t done transfer n is few =
-    omega (arith, few [], ap (λ (c : Cut). length c.bytes) (is []), length-append done (cut_of transfer []).bytes, none_from transfer.limit (state_at transfer.sum transfer.place))
+    omega (arith, few [], ap (λ (c : BodyCut). length c.bytes) (is []), length-append done (cut_of transfer []).bytes, none_from transfer.limit (state_at_place transfer.sum transfer.place))
 
 -- More of a body that is dropped was used.
 pub skip_on : {s : Server} {e : Bool} (a : Asked) (t t2 : Transfer) (bytes b x : List ℕ) (n : ℕ) (h : Deeds) (said : List ℕ) (l : LeadsTo s e (Serving a (Skipping t)) b x h said)
@@ -169,7 +169,7 @@ pub skip_on : {s : Server} {e : Bool} (a : Asked) (t t2 : Transfer) (bytes b x :
 skip_on {s} a t t2 bytes b x n h said l p =
     let done : List ℕ = l.keeps.stands.0 in
     silent (Serving a (Skipping t)) (Serving a (Skipping t2)) b (drop n b) x h said l (part_trail (done ++ bytes) t2 Fresh)
-    (λ y. ap (λ (c : Cut). by_body (requests s.base) a c) (seam l.trail done bytes b t t2 n l.keeps.stands.3 p y))
+    (λ y. ap (λ (c : BodyCut). by_body (requests s.base) a c) (seam l.trail done bytes b t t2 n l.keeps.stands.3 p y))
     (record {
       suits = l.keeps.suits;
       came = l.keeps.came ∙ l.keeps.stands.1;
@@ -205,7 +205,7 @@ skip_fault gives setup e a t b st old n faulty o = (refl, (over_less n a t b (cl
         to_next n phase.Over (reply_text st Nothing true) b x h said y
         (subst (λ (d : Deeds). LeadsTo (server_of setup) e phase.Over b x d (said ++ reply_text st Nothing true)) (append-nil h)
         (answers_fault a (Skipping t) [] (l.keeps.stands.0 ++ []) st (reply_text st Nothing true) (reply_text st Nothing true) b b x h said l
-        (λ y. l.keeps.stands.3 (b ++ y) ∙ ap (λ (c : Cut). with_data l.keeps.stands.0 c) (faulty y)) tt
+        (λ y. l.keeps.stands.3 (b ++ y) ∙ ap (λ (c : BodyCut). with_data l.keeps.stands.0 c) (faulty y)) tt
         (subst (λ (c : Course). IsOwn setup.site a (Faulty (l.keeps.stands.0 ++ []) st) c) (sym l.keeps.stands.1) tt)
         (omega (arith, few_came l.trail l.keeps.stands.0 t (stages_in l.now) l.keeps.stands.3 l.keeps.few, length-append l.keeps.stands.0 []))
         (subst (λ (c : Course). Settles setup.site a (Faulty (l.keeps.stands.0 ++ []) st) c (reply_text st Nothing true, false)) (sym l.keeps.stands.1) (l.keeps.stands.2, refl))
@@ -220,7 +220,7 @@ skip_ends {s} a t b x h said l ended n y =
     to_next n phase.Over [] b x h said y
     (subst (λ (d : Deeds). LeadsTo s true phase.Over b x d (said ++ [])) (append-nil h)
     (ends_open a (Skipping t) [] (l.keeps.stands.0 ++ []) [] [] b b x h said l
-    (l.keeps.stands.3 (b ++ []) ∙ ap (λ z. with_data l.keeps.stands.0 (cut_of t z)) (append-nil b) ∙ ap (λ (c : Cut). with_data l.keeps.stands.0 c) ended) tt
+    (l.keeps.stands.3 (b ++ []) ∙ ap (λ z. with_data l.keeps.stands.0 (cut_of t z)) (append-nil b) ∙ ap (λ (c : BodyCut). with_data l.keeps.stands.0 c) ended) tt
     (subst (λ (c : Course). IsOwn s.base a (Unended (l.keeps.stands.0 ++ []) true) c) (sym l.keeps.stands.1) tt)
     (omega (arith, few_came l.trail l.keeps.stands.0 t (stages_in l.now) l.keeps.stands.3 l.keeps.few, length-append l.keeps.stands.0 []))
     (subst (λ (c : Course). Settles s.base a (Unended (l.keeps.stands.0 ++ []) true) c ([], false)) (sym l.keeps.stands.1) (refl, l.keeps.stands.2, refl))

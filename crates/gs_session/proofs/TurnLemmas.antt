@@ -16,8 +16,8 @@ use Rattle.gs_session.specs.declared.sessions.Turn.{Turn}
 use Rattle.gs_session.specs.declared.sessions.Turn.TheVariants as turn
 use Rattle.gs_session.specs.Leads.{LeadsTo}
 use Rattle.gs_session.specs.Outcomes.{AfterPiece}
-use Rattle.gs_session.specs.Steps.{Acts, Does, DoesStep, IsStill, server_of}
-use Rattle.gs_session.specs.Turns.{IsKept, Turns, RestsRightly, taken, waiting, turn_at}
+use Rattle.gs_session.specs.Steps.{TakesAction, Does, DoesStep, IsStill, server_of}
+use Rattle.gs_session.specs.Turns.{IsKept, MakesTurn, RestsRightly, taken, waiting, turn_at}
 use Rattle.gs_session.proofs.ReadLemmas.{piece_leads}
 use Rattle.gs_session.proofs.RestLemmas.{rests_at}
 
@@ -32,11 +32,11 @@ with_input s b = record { setup = s.setup; input = b; ended = s.ended; due = s.d
 
 -- what a step does by one event, a turn does
 pub turn_made : {D : Type 0} (gives : D → Event → Answer → D → Type 0) (first now : Session) (old mid new : D) (n : Next) (b : List ℕ) → IsKept first now → now.setup ≡ first.setup → mid ≡ old → now.due.items ≡ []
-    → DoesStep gives now.setup now.ended now.phase now.input mid (Made n) b new → Turns gives first old turn.Made (taken (with_input now b) n) new
+    → DoesStep gives now.setup now.ended now.phase now.input mid (Made n) b new → MakesTurn gives first old turn.Made (taken (with_input now b) n) new
 turn_made {D} gives first now old mid new n b kept setup door empty k = (
   k.0,
   k.1,
-  subst (λ (t : Setup). Acts gives t.seat old k.0 k.1 new) setup (subst (λ (d : D). Acts gives now.setup.seat d k.0 k.1 new) door k.2),
+  subst (λ (t : Setup). TakesAction gives t.seat old k.0 k.1 new) setup (subst (λ (d : D). TakesAction gives now.setup.seat d k.0 k.1 new) door k.2),
   λ x h w l. subst (λ z. LeadsTo (server_of now.setup) now.ended n.phase b x (h ++ (k.0, k.1) ∷ []) (z ++ n.said.items)) (ap (λ z. w ++ z) empty ∙ append-nil w) (k.3 x h (w ++ now.due.items) (kept x h w l)),
 )
 
@@ -47,7 +47,7 @@ turn_waits now b p t s empty still at told =
 
 -- In a read, the next piece joins what is due.
 pub turn_gathers : {D : Type 0} (gives : D → Event → Answer → D → Type 0) (s : Session) (old new : D) (a : Asked) (n : Next) → s.phase ≡ Serving a Sending
-    → Does gives s.setup.seat old (Piece s.setup.piece) new (λ answer. AfterPiece a s.due.items answer n) → Turns gives s old turn.Made (taken s n) new
+    → Does gives s.setup.seat old (Piece s.setup.piece) new (λ answer. AfterPiece a s.due.items answer n) → MakesTurn gives s old turn.Made (taken s n) new
 turn_gathers gives s old new a n at d = (
   Piece s.setup.piece,
   d.0,

@@ -8,7 +8,7 @@ use Rattle.gs_event.specs.declared.events.Action.TheVariants as act
 use Rattle.gs_event.specs.declared.answers.Answer.{Answer}
 use Rattle.gs_event.specs.declared.answers.Answer.TheVariants.{Staged, Refused}
 use Rattle.gs_event.specs.declared.events.UploadKind.{UploadKind}
-use Rattle.gs_transfer.specs.Cuts.{Cut, with_data}
+use Rattle.gs_transfer.specs.Cuts.{BodyCut, with_data}
 use Rattle.gs_transfer.specs.Views.{cut_of}
 use Rattle.gs_transfer.specs.declared.places.Transfer.{Transfer}
 use Rattle.gs_upload.specs.declared.readings.Reading.{Reading}
@@ -18,9 +18,9 @@ use Rattle.gs_upload.specs.Readers.{IsFedText}
 use Rattle.gs_verdict.specs.declared.verdicts.Asked.{Asked}
 use Rattle.gs_stream.specs.Requests.{by_body, requests}
 use Rattle.gs_talk.specs.Plans.{Uploads, plan_of}
-use Rattle.gs_talk.specs.Bodies.{language_of, text_base}
+use Rattle.gs_talk.specs.Bodies.{document_language, text_base}
 use Rattle.gs_talk.specs.Courses.{Did, Course, Writing, Lacking, Memory}
-use Rattle.gs_talk.specs.Moves.{after, at_stage}
+use Rattle.gs_talk.specs.Moves.{course_after, at_stage}
 use Rattle.gs_talk.specs.Seats.{Deeds}
 use Rattle.gs_talk.specs.Replies.{said_so_far}
 use Rattle.gs_talk.specs.Logs.{Server, stages_in}
@@ -39,7 +39,7 @@ use Rattle.gs_session.proofs.ReplyLemmas.{broke, to_next}
 abbrev pub Reads : Reading TextReader → Reading TextReader → List ℕ → List RdfTriple → Type 0
 Reads k k2 bytes given = (means : List ℕ → Meaning) (x : List ℕ) (ts : List RdfTriple) → IsFedText k means x ts → IsFedText k2 means (x ++ bytes) (ts ++ given)
 
-with-bytes : (d f : List ℕ) (c : Cut) → with_data (d ++ f) c ≡ with_data d (with_data f c)
+with-bytes : (d f : List ℕ) (c : BodyCut) → with_data (d ++ f) c ≡ with_data d (with_data f c)
 with-bytes d f c = ap (λ z. record { bytes = z; end = c.end }) (append_assoc d f c.bytes)
 
 -- the trail of a body of which so much came
@@ -51,7 +51,7 @@ pub seam : (t : Trail) (done bytes b : List ℕ) (old new : Transfer) (n : ℕ) 
 seam t done bytes b old new n is p y = with-bytes done bytes (cut_of new (drop n b ++ y)) ∙ ap (with_data done) (sym (p y)) ∙ sym (is (b ++ y))
 
 -- what came is a part of the body
-pub longer : (done bytes : List ℕ) (c : Cut) → length done ≤ length (with_data (done ++ bytes) c).bytes
+pub longer : (done bytes : List ℕ) (c : BodyCut) → length done ≤ length (with_data (done ++ bytes) c).bytes
 longer done bytes c = omega (arith, length-append (done ++ bytes) c.bytes, length-append done bytes)
 
 -- What came was read, and gave nothing.
@@ -60,7 +60,7 @@ pub reads_on : {s : Server} {e : Bool} (a : Asked) (k k2 : Reading TextReader) (
 reads_on {s} a k k2 t t2 bytes b x n h said l p r =
     let g = l.keeps.stands in
     silent (Serving a (Uploading k t)) (Serving a (Uploading k2 t2)) b (drop n b) x h said l (part_trail (g.done ++ bytes) t2 (Writing g.request g.staged))
-    (λ y. ap (λ (c : Cut). by_body (requests s.base) a c) (seam l.trail g.done bytes b t t2 n g.cut p y))
+    (λ y. ap (λ (c : BodyCut). by_body (requests s.base) a c) (seam l.trail g.done bytes b t t2 n g.cut p y))
     (record {
       suits = l.keeps.suits;
       came = l.keeps.came ∙ g.stands;
@@ -71,8 +71,8 @@ reads_on {s} a k k2 t t2 bytes b x n h said l p r =
         done = g.done ++ bytes;
         staged = g.staged;
         stands = refl;
-        fed = subst (λ (ts : List RdfTriple). IsFedText k2 (meaning_in (language_of a.body) (text_base s.base a.graph) g.request) (g.done ++ bytes) ts) (append-nil g.staged)
-            (r (meaning_in (language_of a.body) (text_base s.base a.graph) g.request) g.done g.staged g.fed);
+        fed = subst (λ (ts : List RdfTriple). IsFedText k2 (meaning_in (document_language a.body) (text_base s.base a.graph) g.request) (g.done ++ bytes) ts) (append-nil g.staged)
+            (r (meaning_in (document_language a.body) (text_base s.base a.graph) g.request) g.done g.staged g.fed);
         cut = λ z. refl;
         few = omega (arith, g.few, length-append g.done bytes);
       };
@@ -103,14 +103,14 @@ stage_leads {s} {e} a k k2 t t2 bytes b x n h said l p some v full r answer m o 
         to_next m (Serving a (Uploading k2 t2)) [] (drop n b) x (h ++ (act.Stage v, Staged) ∷ []) said o
         (moved a (Uploading k t) (Uploading k2 t2) (Did (act.Stage v) Staged ∷ []) [] b (drop n b) x h said l (part_trail (g.done ++ bytes) t2 (Writing g.request (g.staged ++ v.items)))
         (seam l.trail g.done bytes b t t2 n g.cut p) (tt, tt)
-        (ap (λ (c : Course). after a c (Did (act.Stage v) Staged)) g.stands ∙ ap (λ w. at_stage g.request g.staged w Staged) is ∙ ap (λ w. Writing g.request (g.staged ++ w)) (sym is))
+        (ap (λ (c : Course). course_after a c (Did (act.Stage v) Staged)) g.stands ∙ ap (λ w. at_stage g.request g.staged w Staged) is ∙ ap (λ w. Writing g.request (g.staged ++ w)) (sym is))
         same few
         (record {
           request = g.request;
           done = g.done ++ bytes;
           staged = g.staged ++ v.items;
           stands = refl;
-          fed = r (meaning_in (language_of a.body) (text_base s.base a.graph) g.request) g.done g.staged g.fed;
+          fed = r (meaning_in (document_language a.body) (text_base s.base a.graph) g.request) g.done g.staged g.fed;
           cut = λ z. refl;
           few = omega (arith, g.few, some, length-append g.done bytes);
         }))
@@ -118,8 +118,8 @@ stage_leads {s} {e} a k k2 t t2 bytes b x n h said l p some v full r answer m o 
         to_next m (Serving a (Failing want.Memory)) [] (drop n b) x (h ++ (act.Stage v, Refused why.NoMemory) ∷ []) said o
         (moved a (Uploading k t) (Failing want.Memory) (Did (act.Stage v) (Refused why.NoMemory) ∷ []) [] b (drop n b) x h said l (part_trail (g.done ++ bytes) t2 (Lacking (Writing g.request g.staged) Memory))
         (seam l.trail g.done bytes b t t2 n g.cut p) (tt, tt)
-        (ap (λ (c : Course). after a c (Did (act.Stage v) (Refused why.NoMemory))) g.stands ∙ ap (λ w. at_stage g.request g.staged w (Refused why.NoMemory)) is)
+        (ap (λ (c : Course). course_after a c (Did (act.Stage v) (Refused why.NoMemory))) g.stands ∙ ap (λ w. at_stage g.request g.staged w (Refused why.NoMemory)) is)
         same few (Writing g.request g.staged, refl, tt))
     go (u ∷ us) is full other o =
         broke a (Uploading k t) (Did (act.Stage v) other) (Writing g.request g.staged) b (drop n b) x h said l (tt, tt) g.stands (ap (λ w. at_stage g.request g.staged w other) is) (λ o. tt)
-        (λ z. omega (arith, g.few, ap (λ (c : Cut). length c.bytes) (g.cut z), length-append g.done (cut_of t z).bytes)) m o
+        (λ z. omega (arith, g.few, ap (λ (c : BodyCut). length c.bytes) (g.cut z), length-append g.done (cut_of t z).bytes)) m o

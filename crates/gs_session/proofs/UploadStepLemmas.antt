@@ -11,7 +11,7 @@ use Rattle.gs_event.specs.declared.events.Event.{Event}
 use Rattle.gs_event.specs.declared.events.Action.{Action}
 use Rattle.gs_event.specs.declared.events.Action.TheVariants as act
 use Rattle.gs_event.specs.declared.answers.Answer.{Answer}
-use Rattle.gs_transfer.specs.Cuts.{Cut, with_data, ends}
+use Rattle.gs_transfer.specs.Cuts.{BodyCut, with_data, ends}
 use Rattle.gs_transfer.specs.Cuts as cut
 use Rattle.gs_transfer.specs.Views.{cut_of}
 use Rattle.gs_transfer.specs.declared.places.Transfer.{Transfer}
@@ -24,9 +24,9 @@ use Rattle.gs_upload.specs.Faults.{HasFault}
 use Rattle.gs_verdict.specs.declared.verdicts.Asked.{Asked}
 use Rattle.gs_stream.specs.Requests.{by_body, requests}
 use Rattle.gs_talk.specs.Plans.{Plan}
-use Rattle.gs_talk.specs.Bodies.{language_of, text_base, fault_status, States, refusal_at}
+use Rattle.gs_talk.specs.Bodies.{document_language, text_base, fault_status, States, refusal_at}
 use Rattle.gs_talk.specs.Courses.{Short, Course, Writing, Lacking, Memory}
-use Rattle.gs_talk.specs.Moves.{first, after}
+use Rattle.gs_talk.specs.Moves.{first, course_after}
 use Rattle.gs_talk.specs.Seats.{Deeds}
 use Rattle.gs_talk.specs.Replies.{said_so_far, greeting}
 use Rattle.gs_talk.specs.Logs.{Server, stages_in}
@@ -39,7 +39,7 @@ use Rattle.gs_session.specs.declared.outcomes.Next.{Next}
 use Rattle.gs_session.specs.declared.steps.Step.TheVariants.{Silent, Made}
 use Rattle.gs_session.specs.Leads.{LeadsTo}
 use Rattle.gs_session.specs.Outcomes.{Says, Stops, AfterStage, AfterCancel}
-use Rattle.gs_session.specs.Steps.{Does, GivesData, DoesStep, Rests, Makes, effort, server_of}
+use Rattle.gs_session.specs.Steps.{Does, GivesData, DoesStep, Rests, MakesPhase, effort, server_of}
 use Rattle.gs_session.proofs.MoveLemmas.{silent, moved}
 use Rattle.gs_session.proofs.ReplyLemmas.{to_next}
 use Rattle.gs_session.proofs.ReadLemmas.{IsWholeAt, no_more, whole_trail}
@@ -72,7 +72,7 @@ filled us b is some e = true≢false (sym (is ∙ ap (λ (z : List RdfTriple). l
 
 -- One event was made, and what holds of its answer leads on.
 pub made_by : {D : Type 0} (gives : D → Event → Answer → D → Type 0) (setup : Setup) (e : Bool) (p : Phase) (b c : List ℕ) (old new : D) (action : Action) (n : Next) (Holds : Answer → Type 0)
-    → ((answer : Answer) → Holds answer → Makes (server_of setup) e p b n.phase c action answer n.said.items) → Does gives setup.seat old action new Holds → DoesStep gives setup e p b old (Made n) c new
+    → ((answer : Answer) → Holds answer → MakesPhase (server_of setup) e p b n.phase c action answer n.said.items) → Does gives setup.seat old action new Holds → DoesStep gives setup e p b old (Made n) c new
 made_by gives setup e p b c old new action n Holds f d = (action, d.0, d.1, f d.0 d.2)
 
 -- Nothing was done or said, and less is left to be done.
@@ -87,14 +87,14 @@ fewer : (n k m : ℕ) (b : List ℕ) → 0 < n → n ≤ length b → k ≤ m �
 fewer n k m b some within less = omega (arith, length-drop n b, some, within, less)
 
 -- memory was wanting
-short_leads : {s : Server} {e : Bool} (a : Asked) (k : Reading TextReader) (t : Transfer) (b c x : List ℕ) (h : Deeds) (said : List ℕ) (l : LeadsTo s e (Serving a (Uploading k t)) b x h said) (cuts : List ℕ → Cut)
+short_leads : {s : Server} {e : Bool} (a : Asked) (k : Reading TextReader) (t : Transfer) (b c x : List ℕ) (h : Deeds) (said : List ℕ) (l : LeadsTo s e (Serving a (Uploading k t)) b x h said) (cuts : List ℕ → BodyCut)
     → ((y : List ℕ) → cuts (c ++ y) ≡ l.trail.cut (b ++ y)) → ((z : List ℕ) → stages_in l.now + 0 ≤ length (cuts z).bytes + 1) → LeadsTo s e (Serving a (Failing want.Memory)) c x h said
 short_leads {s} {e} a k t b c x h said l cuts f few =
     let g = l.keeps.stands in
     subst (λ (d : Deeds). LeadsTo s e (Serving a (Failing want.Memory)) c x d said) (append-nil h)
     (subst (λ z. LeadsTo s e (Serving a (Failing want.Memory)) c x (h ++ []) z) (append-nil said)
     (moved a (Uploading k t) (Failing want.Memory) (Short ∷ []) [] b c x h said l (record { cut = cuts; course = Lacking (Writing g.request g.staged) Memory }) f tt
-    (ap (λ (d : Course). after a d Short) g.stands)
+    (ap (λ (d : Course). course_after a d Short) g.stands)
     (append-nil (said_so_far a l.trail.course) ∙ ap (λ (d : Course). said_so_far a d) g.stands)
     few (Writing g.request g.staged, refl, tt)))
 
@@ -151,14 +151,14 @@ ended_by k before given none f =
 
 whole_at : {s : Server} {e : Bool} (a : Asked) (k : Reading TextReader) (t : Transfer) (b x : List ℕ) (h : Deeds) (said : List ℕ) (l : LeadsTo s e (Serving a (Uploading k t)) b x h said) → IsOver t b → IsWholeAt l l.keeps.stands.done
 whole_at a k t b x h said l f y =
-    l.keeps.stands.cut (b ++ y) ∙ ap (λ (c : Cut). with_data l.keeps.stands.done c) (f y) ∙ ap (λ z. record { bytes = z; end = cut.Whole (b ++ y) }) (append-nil l.keeps.stands.done)
+    l.keeps.stands.cut (b ++ y) ∙ ap (λ (c : BodyCut). with_data l.keeps.stands.done c) (f y) ∙ ap (λ z. record { bytes = z; end = cut.Whole (b ++ y) }) (append-nil l.keeps.stands.done)
 
 -- the whole body states what was staged, with what came last
 states : {s : Server} {e : Bool} (a : Asked) (k : Reading TextReader) (t : Transfer) (b x : List ℕ) (h : Deeds) (said : List ℕ) (l : LeadsTo s e (Serving a (Uploading k t)) b x h said) (given : List RdfTriple)
     → GivesLast k given → States s.base a l.keeps.stands.request l.keeps.stands.done (l.keeps.stands.staged ++ given)
 states {s} a k t b x h said l given f =
     let g = l.keeps.stands in
-    let all = f (meaning_in (language_of a.body) (text_base s.base a.graph) g.request) g.done g.staged g.fed in
+    let all = f (meaning_in (document_language a.body) (text_base s.base a.graph) g.request) g.done g.staged g.fed in
     (all.whole, sym all.all)
 
 -- There was no memory for what the end of the body gives.
@@ -175,7 +175,7 @@ end_staged setup e a k t b m over all y =
     (λ x h said l.
     let g = l.keeps.stands in
     silent (Serving a (Uploading k t)) (Serving a Committing) b b x h said l (whole_trail g.done (Writing g.request g.staged))
-    (λ y. ap (λ (c : Cut). by_body (requests setup.site) a c) (sym (whole_at a k t b x h said l over y)))
+    (λ y. ap (λ (c : BodyCut). by_body (requests setup.site) a c) (sym (whole_at a k t b x h said l over y)))
     (record {
       suits = l.keeps.suits;
       came = l.keeps.came ∙ g.stands;
@@ -192,7 +192,7 @@ end_gives gives setup e a k t b v old new m over all full d =
     (λ answer o x h said l.
     let g = l.keeps.stands in
     stage_last a (Uploading k t) g.request g.staged v answer b x h said g.done l g.stands (whole_at a k t b x h said l over) g.few
-    (λ z. omega (arith, ap (λ (c : Cut). length c.bytes) (g.cut z), length-append g.done (cut_of t z).bytes)) (states a k t b x h said l v.items all) full m o) d
+    (λ z. omega (arith, ap (λ (c : BodyCut). length c.bytes) (g.cut z), length-append g.done (cut_of t z).bytes)) (states a k t b x h said l v.items all) full m o) d
 
 -- The body has a fault: the upload is cancelled, and the reply says so.
 pub end_faulty : {D : Type 0} (gives : D → Event → Answer → D → Type 0) (setup : Setup) (e : Bool) (a : Asked) (k : Reading TextReader) (t : Transfer) (b : List ℕ) (fault : Refusal) (old new : D) (m : Next)
@@ -203,7 +203,7 @@ end_faulty gives setup e a k t b fault old new m over first d =
     (λ answer o x h said l.
     let g = l.keeps.stands in
     let is = upload_plan a l.now g.request g.staged (l.keeps.came ∙ g.stands) in
-    let means = meaning_in (language_of a.body) (text_base setup.site a.graph) g.request in
+    let means = meaning_in (document_language a.body) (text_base setup.site a.graph) g.request in
     drop_leads a (Uploading k t) (Writing g.request g.staged) g.request 400 answer b x h said g.done l g.stands (open_writing a g.request g.staged) (whole_at a k t b x h said l over)
     (ap (λ (p : Plan). refusal_at setup.site a p g.request g.done) is.1 ∙ refused_body fault (means g.done) (first means g.done g.staged g.fed)) m o) d
 
@@ -215,7 +215,7 @@ transfer_faulty gives setup e a k t b st old new m faulty d =
     (λ answer o x h said l.
     let g = l.keeps.stands in
     fault_leads a (Uploading k t) (Writing g.request g.staged) g.request st (g.done ++ []) answer b x h said l g.stands (open_writing a g.request g.staged)
-    (λ y. g.cut (b ++ y) ∙ ap (λ (c : Cut). with_data g.done c) (faulty y)) m o) d
+    (λ y. g.cut (b ++ y) ∙ ap (λ (c : BodyCut). with_data g.done c) (faulty y)) m o) d
 
 -- The input ended in the body: the upload is cancelled.
 pub input_ended : {D : Type 0} (gives : D → Event → Answer → D → Type 0) (setup : Setup) (e : Bool) (a : Asked) (k : Reading TextReader) (t : Transfer) (b : List ℕ) (old new : D) (m : Next)
@@ -226,4 +226,4 @@ input_ended {D} gives setup e a k t b old new m f open_at d =
     (λ answer o x h said l.
     let g = l.keeps.stands in
     leave_leads a (Uploading k t) (Writing g.request g.staged) g.request (g.done ++ []) answer b x h said l g.stands (open_writing a g.request g.staged)
-    (g.cut (b ++ []) ∙ ap (λ (z : List ℕ). with_data g.done (cut_of t z)) (append-nil b) ∙ ap (λ (c : Cut). with_data g.done c) open_at) m o) d)
+    (g.cut (b ++ []) ∙ ap (λ (z : List ℕ). with_data g.done (cut_of t z)) (append-nil b) ∙ ap (λ (c : BodyCut). with_data g.done c) open_at) m o) d)

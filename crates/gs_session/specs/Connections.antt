@@ -45,16 +45,16 @@ abbrev pub AsksRightly : Server → List ℕ → Deeds → Type 0
 AsksRightly p x h = ArePointsOf p.base (requests p.base x) (asked_in Idle h) × IsIdle h
 
 -- All that is to be said was written and no request is left, since the reader is at its end, or a reply closed or stopped.
-abbrev pub Done : Server → Option (List ℕ) → List ℕ → Deeds → List ℕ → Type 0
-Done p left x h w = (ended : Bool) × (ended ≡ true → IsAtEnd left) × SaysLast p ended x h w × AsksRightly p x h
+abbrev pub IsFinished : Server → Option (List ℕ) → List ℕ → Deeds → List ℕ → Type 0
+IsFinished p left x h w = (ended : Bool) × (ended ≡ true → IsAtEnd left) × SaysLast p ended x h w × AsksRightly p x h
 
 -- what was written is a front of what is to be said
 abbrev pub Quit : Server → Option (List ℕ) → List ℕ → Deeds → List ℕ → Type 0
 Quit p left x h w = (ended : Bool) × (ended ≡ true → IsAtEnd left) × SaysFront p ended x h w × AsksRightly p x h
 
 -- the session took what was read
-abbrev pub Reads : Session → Session → Option (List ℕ) → Option (List ℕ) → Type 0
-Reads s s2 unread left = (s2.setup ≡ s.setup) × (s2.ended ≡ true → IsAtEnd left)
+abbrev pub ReadsInput : Session → Session → Option (List ℕ) → Option (List ℕ) → Type 0
+ReadsInput s s2 unread left = (s2.setup ≡ s.setup) × (s2.ended ≡ true → IsAtEnd left)
     × ((x : List ℕ) (h : Deeds) (w : List ℕ) → Leads s x h w → (more : List ℕ) × Consumes unread left more × Leads s2 (x ++ more) h w)
 
 -- it did not, and is as it was

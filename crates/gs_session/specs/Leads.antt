@@ -5,7 +5,7 @@ use Rattle.gs_talk.specs.Courses.{Move}
 use Rattle.gs_talk.specs.Seats.{Deeds}
 use Rattle.gs_talk.specs.Logs.{Server, Log, AnswersAll, deeds, deeds_of, texts}
 use Rattle.gs_talk.specs.Closings.{is_closed}
-use Rattle.gs_session.specs.Trails.{Trail, coming, Keeps}
+use Rattle.gs_session.specs.Trails.{Trail, coming, KeepsTrail}
 use Rattle.gs_session.specs.declared.phases.Phase.{Phase}
 use Rattle.gs_session.specs.declared.phases.Phase.TheVariants.{Over}
 
@@ -30,5 +30,5 @@ pub record LeadsTo (s : Server) (ended : Bool) (p : Phase) (unused x : List ℕ)
       → AnswersAll s ended (log ++ more) (requests s.base (x ++ y)) rest
   pub done : h ≡ deeds log ++ deeds_of now
   pub written : said ≡ texts log ++ text
-  pub keeps : Keeps s p trail now text
+  pub keeps : KeepsTrail s p trail now text
   pub shut : IsShut p log

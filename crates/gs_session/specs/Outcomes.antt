@@ -13,7 +13,7 @@ use Rattle.gs_verdict.specs.Checks.{limit_of}
 use Rattle.gs_verdict.specs.declared.verdicts.Asked.{Asked}
 use Rattle.gs_reply.specs.Notices.{Notice, Nothing}
 use Rattle.gs_reply.specs.Replies.{reply_text, lines_head, chunk}
-use Rattle.gs_talk.specs.Bodies.{language_of, text_base}
+use Rattle.gs_talk.specs.Bodies.{document_language, text_base}
 use Rattle.gs_talk.specs.Moves.{last_if}
 use Rattle.gs_talk.specs.Replies.{name_notice, ends_early}
 use Rattle.gs_session.specs.declared.phases.Want.{Want}
@@ -49,10 +49,10 @@ abbrev pub IsFirstTransfer : Asked → Transfer → Type 0
 IsFirstTransfer a t = (z : List ℕ) → cut_of t z ≡ body_at (limit_of a.method) a.framing z
 
 -- the reading of an upload's body is begun, or there was no memory for it
-abbrev pub Receives : List ℕ → Asked → ℕ → Work → Type 0
-Receives base a r (Uploading k t) = IsFedText k (meaning_in (language_of a.body) (text_base base a.graph) r) [] [] × IsFirstTransfer a t
-Receives base a r (Failing Memory) = Unit {0}
-Receives base a r w = ⊥
+abbrev pub ReceivesBody : List ℕ → Asked → ℕ → Work → Type 0
+ReceivesBody base a r (Uploading k t) = IsFedText k (meaning_in (document_language a.body) (text_base base a.graph) r) [] [] × IsFirstTransfer a t
+ReceivesBody base a r (Failing Memory) = Unit {0}
+ReceivesBody base a r w = ⊥
 
 -- an Open that was refused
 abbrev pub AfterRefusal : Asked → Answer → Next → Type 0
@@ -62,7 +62,7 @@ AfterRefusal a answer n = Stops n
 
 -- an Open
 abbrev pub AfterOpen : List ℕ → Asked → List ℕ → Answer → Next → Type 0
-AfterOpen base a greeting (Opened r) n = (w : Work) × Says n (Serving a w) greeting × Receives base a r w
+AfterOpen base a greeting (Opened r) n = (w : Work) × Says n (Serving a w) greeting × ReceivesBody base a r w
 AfterOpen base a greeting answer n = AfterRefusal a answer n
 
 -- the Open of a patch
@@ -86,12 +86,12 @@ AfterLook a (Status s name) n = cond (s == 200) (RepliesFound n a) (Replies n s 
 AfterLook a answer n = Stops n
 
 -- a Pin that reads
-abbrev pub Begins : Next → Asked → Type 0
-Begins n a = Says n (Serving a Sending) (lines_head a.reply a.closes) ⊎ Says n (Serving a Cutting) []
+abbrev pub BeginsRead : Next → Asked → Type 0
+BeginsRead n a = Says n (Serving a Sending) (lines_head a.reply a.closes) ⊎ Says n (Serving a Cutting) []
 
 -- a Pin
 abbrev pub AfterPin : Asked → Answer → Next → Type 0
-AfterPin a (Pinned s) n = cond (s == 200) (Begins n a) (Replies n s a.closes)
+AfterPin a (Pinned s) n = cond (s == 200) (BeginsRead n a) (Replies n s a.closes)
 AfterPin a answer n = Stops n
 
 -- what comes after a piece

@@ -22,28 +22,28 @@ use Rattle.gs_session.specs.declared.steps.Step.TheVariants.{Silent, Made, Wait}
 use Rattle.gs_session.specs.Leads.{LeadsTo}
 
 -- the door took the seat's action, and gave an answer of its kind
-abbrev pub Acts : {D : Type 0} → (D → Event → Answer → D → Type 0) → ℕ → D → Action → Answer → D → Type 0
-Acts {D} gives seat old action answer new = gives old (Seat seat action) answer new × IsOfKind (Seat seat action) answer
+abbrev pub TakesAction : {D : Type 0} → (D → Event → Answer → D → Type 0) → ℕ → D → Action → Answer → D → Type 0
+TakesAction {D} gives seat old action answer new = gives old (Seat seat action) answer new × IsOfKind (Seat seat action) answer
 
 -- and this holds of it
 abbrev pub Does : {D : Type 0} → (D → Event → Answer → D → Type 0) → ℕ → D → Action → D → (Answer → Type 0) → Type 0
-Does {D} gives seat old action new Holds = (answer : Answer) × Acts gives seat old action answer new × Holds answer
+Does {D} gives seat old action new Holds = (answer : Answer) × TakesAction gives seat old action answer new × Holds answer
 
 -- what a session serves by
 abbrev pub server_of : Setup → Server
 server_of setup = record { base = setup.site; piece = setup.piece }
 
 -- each history that leads to a phase leads to the other
-abbrev pub Stays : Server → Bool → Phase → List ℕ → Phase → List ℕ → Type 0
-Stays s e p b q c = (x : List ℕ) (h : Deeds) (said : List ℕ) → LeadsTo s e p b x h said → LeadsTo s e q c x h said
+abbrev pub LeadsAlike : Server → Bool → Phase → List ℕ → Phase → List ℕ → Type 0
+LeadsAlike s e p b q c = (x : List ℕ) (h : Deeds) (said : List ℕ) → LeadsTo s e p b x h said → LeadsTo s e q c x h said
 
 -- and there this was said
 abbrev pub Speaks : Server → Bool → Phase → List ℕ → Phase → List ℕ → List ℕ → Type 0
 Speaks s e p b q c u = (x : List ℕ) (h : Deeds) (said : List ℕ) → LeadsTo s e p b x h said → LeadsTo s e q c x h (said ++ u)
 
 -- and there this was done and said
-abbrev pub Makes : Server → Bool → Phase → List ℕ → Phase → List ℕ → Action → Answer → List ℕ → Type 0
-Makes s e p b q c action answer u = (x : List ℕ) (h : Deeds) (said : List ℕ) → LeadsTo s e p b x h said → LeadsTo s e q c x (h ++ (action, answer) ∷ []) (said ++ u)
+abbrev pub MakesPhase : Server → Bool → Phase → List ℕ → Phase → List ℕ → Action → Answer → List ℕ → Type 0
+MakesPhase s e p b q c action answer u = (x : List ℕ) (h : Deeds) (said : List ℕ) → LeadsTo s e p b x h said → LeadsTo s e q c x (h ++ (action, answer) ∷ []) (said ++ u)
 
 -- what is left of a phase without an event, beside its bytes
 abbrev pub rank : Phase → ℕ
@@ -76,10 +76,10 @@ IsStill p e b = ⊥
 -- a step without an event
 abbrev pub Rests : Setup → Bool → Phase → List ℕ → Step → List ℕ → Type 0
 Rests setup e p b (Silent n) c = (effort n.phase c < effort p b) × Speaks (server_of setup) e p b n.phase c n.said.items
-Rests setup e p b (Wait q) c = IsStill q e c × Stays (server_of setup) e p b q c
+Rests setup e p b (Wait q) c = IsStill q e c × LeadsAlike (server_of setup) e p b q c
 Rests setup e p b (Made n) c = ⊥
 
 -- A step: one event, or none.
 abbrev pub DoesStep : {D : Type 0} → (D → Event → Answer → D → Type 0) → Setup → Bool → Phase → List ℕ → D → Step → List ℕ → D → Type 0
-DoesStep {D} gives setup e p b old (Made n) c new = (action : Action) × (answer : Answer) × Acts gives setup.seat old action answer new × Makes (server_of setup) e p b n.phase c action answer n.said.items
+DoesStep {D} gives setup e p b old (Made n) c new = (action : Action) × (answer : Answer) × TakesAction gives setup.seat old action answer new × MakesPhase (server_of setup) e p b n.phase c action answer n.said.items
 DoesStep {D} gives setup e p b old step c new = (new ≡ old) × Rests setup e p b step c

@@ -5,7 +5,7 @@ use Rattle.gs_upload.specs.Languages.{meaning_in}
 use Rattle.gs_upload.specs.Readers.{IsFedText}
 use Rattle.gs_upload.specs.declared.readings.Reading.{Reading}
 use Rattle.gs_upload.specs.declared.readers.TextReader.{TextReader}
-use Rattle.gs_transfer.specs.Cuts.{Cut, Whole, with_data, body_at}
+use Rattle.gs_transfer.specs.Cuts.{BodyCut, Whole, with_data, body_at}
 use Rattle.gs_transfer.specs.Views.{cut_of}
 use Rattle.gs_transfer.specs.declared.places.Transfer.{Transfer}
 use Rattle.gs_verdict.specs.declared.verdicts.Asked.{Asked}
@@ -15,7 +15,7 @@ use Rattle.gs_talk.specs.Plans.{opens, plan_of}
 use Rattle.gs_talk.specs.Courses.{Move, Lack, Memory, Numbers, Course}
 use Rattle.gs_talk.specs.Courses as at
 use Rattle.gs_talk.specs.Moves.{course}
-use Rattle.gs_talk.specs.Bodies.{language_of, text_base, refusal_at, States}
+use Rattle.gs_talk.specs.Bodies.{document_language, text_base, refusal_at, States}
 use Rattle.gs_talk.specs.Replies.{said_so_far}
 use Rattle.gs_talk.specs.Logs.{Server, AllSuit, stages_in}
 use Rattle.gs_session.specs.declared.phases.Want.{Want}
@@ -28,7 +28,7 @@ use Rattle.gs_session.specs.declared.phases.Phase.TheVariants.{Between, Serving,
 -- What a phase does not store of the request that it serves: its body, by the bytes that are not used yet, and how far it has
 -- come.
 pub record Trail : Type 0 where
-  pub cut : List ℕ → Cut
+  pub cut : List ℕ → BodyCut
   pub course : Course
 
 -- the requests that are still to be answered, by the bytes that are not used yet
@@ -61,31 +61,31 @@ pub record IsReading (base : List ℕ) (a : Asked) (k : Reading TextReader) (tra
   pub done : List ℕ
   pub staged : List RdfTriple
   pub stands : t.course ≡ at.Writing request staged
-  pub fed : IsFedText k (meaning_in (language_of a.body) (text_base base a.graph) request) done staged
+  pub fed : IsFedText k (meaning_in (document_language a.body) (text_base base a.graph) request) done staged
   pub cut : IsCutBy t done transfer
   pub few : stages ≤ length done
 
 -- where the work stands
-abbrev pub Stands : List ℕ → Asked → Work → Trail → ℕ → Type 0
-Stands base a (Skipping transfer) t stages = (done : List ℕ) × (t.course ≡ at.Fresh) × (opens (plan_of a) ≡ false) × IsCutBy t done transfer
-Stands base a Opening t stages = (t.course ≡ at.Fresh) × (opens (plan_of a) ≡ true) × ((z : List ℕ) → t.cut z ≡ body_at (limit_of a.method) a.framing z) × (stages ≡ 0)
-Stands base a (Uploading k transfer) t stages = IsReading base a k transfer t stages
-Stands base a Committing t stages = (r : ℕ) × (body : List ℕ) × (staged : List RdfTriple) × (t.course ≡ at.Writing r staged) × States base a r body staged × IsWholeBody t body
-Stands base a (Patching r body transfer) t stages = (t.course ≡ at.Patching r) × IsCutBy t body.items transfer
-Stands base a (Failing w) t stages = (before : Course) × (t.course ≡ at.Lacking before (lack_of w)) × WantsAfter base a w t
-Stands base a Sending t stages = (out : List ℕ) × (due : List ℕ) × (body : List ℕ) × (t.course ≡ at.Held out due false) × IsWholeBody t body
-Stands base a Cutting t stages = (out : List ℕ) × (body : List ℕ) × (t.course ≡ at.Cutting out) × IsWholeBody t body
+abbrev pub WorkStands : List ℕ → Asked → Work → Trail → ℕ → Type 0
+WorkStands base a (Skipping transfer) t stages = (done : List ℕ) × (t.course ≡ at.Fresh) × (opens (plan_of a) ≡ false) × IsCutBy t done transfer
+WorkStands base a Opening t stages = (t.course ≡ at.Fresh) × (opens (plan_of a) ≡ true) × ((z : List ℕ) → t.cut z ≡ body_at (limit_of a.method) a.framing z) × (stages ≡ 0)
+WorkStands base a (Uploading k transfer) t stages = IsReading base a k transfer t stages
+WorkStands base a Committing t stages = (r : ℕ) × (body : List ℕ) × (staged : List RdfTriple) × (t.course ≡ at.Writing r staged) × States base a r body staged × IsWholeBody t body
+WorkStands base a (Patching r body transfer) t stages = (t.course ≡ at.Patching r) × IsCutBy t body.items transfer
+WorkStands base a (Failing w) t stages = (before : Course) × (t.course ≡ at.Lacking before (lack_of w)) × WantsAfter base a w t
+WorkStands base a Sending t stages = (out : List ℕ) × (due : List ℕ) × (body : List ℕ) × (t.course ≡ at.Held out due false) × IsWholeBody t body
+WorkStands base a Cutting t stages = (out : List ℕ) × (body : List ℕ) × (t.course ≡ at.Cutting out) × IsWholeBody t body
 
 -- the moves and the text of the request that is served
-pub record Serves (s : Server) (a : Asked) (k : Work) (t : Trail) (now : List Move) (text : List ℕ) : Type 0 where
+pub record ServesRequest (s : Server) (a : Asked) (k : Work) (t : Trail) (now : List Move) (text : List ℕ) : Type 0 where
   pub suits : AllSuit s.piece (plan_of a) now
   pub came : course a at.Fresh now ≡ t.course
   pub said : text ≡ said_so_far a t.course
   pub few : (z : List ℕ) → stages_in now ≤ length (t.cut z).bytes + 1
-  pub stands : Stands s.base a k t (stages_in now)
+  pub stands : WorkStands s.base a k t (stages_in now)
 
 -- the moves and the text of the request at hand; none is between two requests, and after the last
-abbrev pub Keeps : Server → Phase → Trail → List Move → List ℕ → Type 0
-Keeps s Between t now text = (now ≡ []) × (text ≡ [])
-Keeps s (Serving a k) t now text = Serves s a k t now text
-Keeps s Over t now text = (now ≡ []) × (text ≡ [])
+abbrev pub KeepsTrail : Server → Phase → Trail → List Move → List ℕ → Type 0
+KeepsTrail s Between t now text = (now ≡ []) × (text ≡ [])
+KeepsTrail s (Serving a k) t now text = ServesRequest s a k t now text
+KeepsTrail s Over t now text = (now ≡ []) × (text ≡ [])

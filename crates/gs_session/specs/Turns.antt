@@ -16,7 +16,7 @@ use Rattle.gs_session.specs.declared.sessions.Turn.{Turn}
 use Rattle.gs_session.specs.declared.sessions.Turn.TheVariants.{NeedInput, Made, Output, Over}
 use Rattle.gs_session.specs.declared.outcomes.Next.{Next}
 use Rattle.gs_session.specs.Leads.{LeadsTo, MayCome}
-use Rattle.gs_session.specs.Steps.{Acts, server_of}
+use Rattle.gs_session.specs.Steps.{TakesAction, server_of}
 
 -- The bytes x that came, what was done for them, and what was written, lead to this session. What is due was said and not
 -- written yet.
@@ -33,15 +33,15 @@ StaysSo {D} s old next new = (new ≡ old) × IsKept s next
 
 -- A turn: one event of the session's seat, a text that is not empty, or nothing. Each history that led to the session leads,
 -- with that more, to the session after it.
-abbrev pub Turns : {D : Type 0} → (D → Event → Answer → D → Type 0) → Session → D → Turn → Session → D → Type 0
-Turns {D} gives s old Made next new = (action : Action) × (answer : Answer) × Acts gives s.setup.seat old action answer new
+abbrev pub MakesTurn : {D : Type 0} → (D → Event → Answer → D → Type 0) → Session → D → Turn → Session → D → Type 0
+MakesTurn {D} gives s old Made next new = (action : Action) × (answer : Answer) × TakesAction gives s.setup.seat old action answer new
     × ((x : List ℕ) (h : Deeds) (w : List ℕ) → Leads s x h w → Leads next x (h ++ (action, answer) ∷ []) w)
-Turns {D} gives s old (Output b) next new = (new ≡ old) × (b.items ≢ []) × ((x : List ℕ) (h : Deeds) (w : List ℕ) → Leads s x h w → Leads next x h (w ++ b.items))
-Turns {D} gives s old turn next new = StaysSo s old next new
+MakesTurn {D} gives s old (Output b) next new = (new ≡ old) × (b.items ≢ []) × ((x : List ℕ) (h : Deeds) (w : List ℕ) → Leads s x h w → Leads next x h (w ++ b.items))
+MakesTurn {D} gives s old turn next new = StaysSo s old next new
 
 -- where more input is wanted, it may come, and all that is to be said was written
-abbrev pub Waits : Session → Type 0
-Waits s = (s.ended ≡ false) × ((x : List ℕ) (h : Deeds) (w : List ℕ) → Leads s x h w → SaysAll (server_of s.setup) false x h w)
+abbrev pub AwaitsInput : Session → Type 0
+AwaitsInput s = (s.ended ≡ false) × ((x : List ℕ) (h : Deeds) (w : List ℕ) → Leads s x h w → SaysAll (server_of s.setup) false x h w)
 
 -- where the connection has ended, all that is to be said was written, and no request is left
 abbrev pub HasEnded : Session → Type 0
@@ -49,13 +49,13 @@ HasEnded s = (x : List ℕ) (h : Deeds) (w : List ℕ) → Leads s x h w → Say
 
 -- what waits or has ended does so rightly
 abbrev pub RestsRightly : Turn → Session → Type 0
-RestsRightly NeedInput s = Waits s
+RestsRightly NeedInput s = AwaitsInput s
 RestsRightly Over s = HasEnded s
 RestsRightly turn s = Unit {0}
 
 -- these bytes came, unless the input had ended
-abbrev pub joined : Bool → List ℕ → List ℕ → List ℕ
-joined ended x piece = cond ended x (x ++ piece)
+abbrev pub joined_input : Bool → List ℕ → List ℕ → List ℕ
+joined_input ended x piece = cond ended x (x ++ piece)
 
 -- what a turn tells that showed nothing
 abbrev pub turn_at : Phase → Bool → Turn
@@ -73,7 +73,7 @@ waiting s p = record { setup = s.setup; input = s.input; ended = s.ended; due = 
 -- the door took these actions of a seat one after another, and gave these answers
 abbrev pub Ran : {D : Type 0} → (D → Event → Answer → D → Type 0) → ℕ → D → Deeds → D → Type 0
 Ran {D} gives seat old [] new = new ≡ old
-Ran {D} gives seat old (d ∷ ds) new = (mid : D) × Acts gives seat old d.0 d.1 mid × Ran gives seat mid ds new
+Ran {D} gives seat old (d ∷ ds) new = (mid : D) × TakesAction gives seat old d.0 d.1 mid × Ran gives seat mid ds new
 
 -- something is open at the store
 abbrev pub has_opened : Work → Bool

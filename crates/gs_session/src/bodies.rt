@@ -19,7 +19,7 @@ use crate::setups::Setup;
 use crate::steps::Step;
 use gs_door::Door;
 use gs_event::Action;
-use gs_reply::Note;
+use gs_reply::ReplyNote;
 use gs_term::Target;
 use gs_transfer::{Part, Transfer};
 use gs_verdict::Asked;
@@ -62,7 +62,7 @@ fn ask<D: Door>(setup: &Setup, asked: Asked, door: &mut D) -> Step
         Ok(Plan::Look(target)) => Step::Made(look(setup, &asked, target, door)),
         Ok(Plan::Read(target)) => Step::Made(pin(setup, asked, target, door)),
         // There was no memory for the name. (Another plan never drops its body.)
-        _ => Step::Silent(reply(setup.alloc, 503, Note::Nothing, true)),
+        _ => Step::Silent(reply(setup.alloc, 503, ReplyNote::Nothing, true)),
     }
 }
 
@@ -84,7 +84,7 @@ pub fn skip<D: Door>(
             Step::Silent(silently(setup.alloc, Phase::Serving(asked, Work::Skipping(transfer))))
         }
         Part::End => ask(setup, asked, door),
-        Part::Fault(status) => Step::Silent(reply(setup.alloc, status, Note::Nothing, true)),
+        Part::Fault(status) => Step::Silent(reply(setup.alloc, status, ReplyNote::Nothing, true)),
         Part::More => {
             if ended {
                 Step::Silent(stop(setup.alloc))

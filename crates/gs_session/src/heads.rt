@@ -1,7 +1,7 @@
 //! The step between two requests: the next head.
 ghost use Rattle.std.specs.Prelude.{◌≡◌, ◌≤◌, ◌⊎◌, Bool, true, cond, [], length, IfOk};
 ghost use Rattle.gs_http.specs.Limits.{max_field_name_bytes};
-ghost use Rattle.gs_verdict.specs.Bytes.{verdict_of};
+ghost use Rattle.gs_verdict.specs.Bytes.{head_verdict};
 ghost use Rattle.gs_reply.specs.Replies.{continue_text as continue_bytes};
 ghost use Rattle.gs_talk.specs.Replies.{allow_notice};
 ghost use Rattle.gs_session.specs.declared.phases.Phase.TheVariants.{Between};
@@ -15,7 +15,7 @@ use crate::phases::{Phase, Work};
 use crate::plans::opens;
 use crate::setups::Setup;
 use crate::steps::Step;
-use gs_reply::{Note, continue_text};
+use gs_reply::{ReplyNote, continue_text};
 use gs_stream::{HeadEnd, find_head, leading};
 use gs_transfer::Transfer;
 use gs_verdict::{Asked, Denial, Verdict, limit_of, read_verdict};
@@ -44,8 +44,13 @@ fn deny(alloc: Global, denial: Denial) -> Next
     ensures { RepliesBy result denial.status (allow_notice denial.allow) denial.closes }
 {
     match denial.allow {
-        None => reply(alloc, denial.status, Note::Nothing, denial.closes),
-        Some(allow) => reply(alloc, denial.status, Note::Allows(allow), denial.closes),
+        None => reply(alloc, denial.status, ReplyNote::Nothing, denial.closes),
+        Some(allow) => reply(
+            alloc,
+            denial.status,
+            ReplyNote::Allows(allow),
+            denial.closes,
+        ),
     }
 }
 
@@ -64,19 +69,19 @@ fn begin(alloc: Global, asked: Asked) -> Next
                 said,
             }
         }
-        Err(_) => reply(alloc, 503, Note::Nothing, true),
+        Err(_) => reply(alloc, 503, ReplyNote::Nothing, true),
     }
 }
 
 /// What a whole head leads to.
 fn take_head(setup: &Setup, head: &[u8]) -> Next
     requires { length head.now ≤ max_field_name_bytes }
-    ensures { AfterHead (verdict_of setup.now.site head.now) result }
+    ensures { AfterHead (head_verdict setup.now.site head.now) result }
 {
     match read_verdict(setup.alloc, setup.site.places(), setup.site.base(), head) {
         Ok(Verdict::Deny(denial)) => deny(setup.alloc, denial),
         Ok(Verdict::Ask(asked)) => begin(setup.alloc, asked),
-        Err(_) => reply(setup.alloc, 503, Note::Nothing, true),
+        Err(_) => reply(setup.alloc, 503, ReplyNote::Nothing, true),
     }
 }
 
@@ -88,7 +93,7 @@ pub fn next_head(setup: &Setup, input: &mut Buffer) -> Step
     input.skip(lead);
     match find_head(input.as_slice()) {
         HeadEnd::Open => Step::Wait(Phase::Between),
-        HeadEnd::TooLong => Step::Silent(reply(setup.alloc, 431, Note::Nothing, true)),
+        HeadEnd::TooLong => Step::Silent(reply(setup.alloc, 431, ReplyNote::Nothing, true)),
         HeadEnd::After(count) => {
             let next = take_head(setup, &input.as_slice()[..count]);
             input.skip(count);

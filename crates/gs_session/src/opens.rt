@@ -1,10 +1,10 @@
 //! The step that opens an upload or a patch.
 ghost use Rattle.std.specs.Prelude.{◌≡◌, ℕ, List, Bool};
 ghost use Rattle.gs_event.specs.declared.events.Action.TheVariants as act;
-ghost use Rattle.gs_talk.specs.Bodies.{language_of as language_of_type};
+ghost use Rattle.gs_talk.specs.Bodies.{document_language as language_of_type};
 ghost use Rattle.gs_session.specs.declared.phases.Phase.TheVariants.{Serving};
 ghost use Rattle.gs_session.specs.declared.phases.Work.TheVariants.{Opening};
-ghost use Rattle.gs_session.specs.Outcomes.{Receives, AfterOpen, AfterOpenPatch};
+ghost use Rattle.gs_session.specs.Outcomes.{ReceivesBody, AfterOpen, AfterOpenPatch};
 ghost use Rattle.gs_session.specs.Steps.{Does, DoesStep};
 
 use crate::heads::{greeting, transfer_of};
@@ -16,7 +16,7 @@ use crate::steps::Step;
 use gs_door::Door;
 use gs_event::{Action, Answer, UploadKind};
 use gs_names::Media;
-use gs_reply::Note;
+use gs_reply::ReplyNote;
 use gs_term::Target;
 use gs_upload::{Language, Reading};
 use gs_verdict::Asked;
@@ -33,7 +33,7 @@ fn language_of(media: Media) -> Language
 
 /// The reading of an upload's body is begun.
 fn receive(setup: &Setup, asked: &Asked, request: u64) -> Work
-    ensures { Receives setup.now.site asked.now request result }
+    ensures { ReceivesBody setup.now.site asked.now request result }
 {
     let base = setup.site.text_base(&asked.graph);
     match Reading::new(setup.alloc, language_of(asked.body), request, base) {
@@ -95,12 +95,12 @@ pub fn open<D: Door>(setup: &Setup, asked: Asked, door: &mut D) -> Step
         → DoesStep D.Gives setup.now e (Serving asked Opening) b door.old result b door.new }
 {
     let Ok(greeting) = greeting(setup.alloc, asked.awaits_continue) else {
-        return Step::Silent(reply(setup.alloc, 503, Note::Nothing, true));
+        return Step::Silent(reply(setup.alloc, 503, ReplyNote::Nothing, true));
     };
     match plan_of(&asked) {
         Ok(Plan::Upload(kind)) => { Step::Made(open_upload(setup, asked, kind, greeting, door)) }
         Ok(Plan::Patch(target)) => { Step::Made(open_patch(setup, asked, target, greeting, door)) }
         // There was no memory for the name. (Another plan opens nothing.)
-        _ => Step::Silent(reply(setup.alloc, 503, Note::Nothing, true)),
+        _ => Step::Silent(reply(setup.alloc, 503, ReplyNote::Nothing, true)),
     }
 }

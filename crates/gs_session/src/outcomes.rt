@@ -3,13 +3,13 @@ ghost use Rattle.std.specs.Prelude.{◌≡◌, ◌++◌, [], IfOk};
 ghost use Rattle.gs_reply.specs.Notices.{notice_of};
 ghost use Rattle.gs_reply.specs.Replies.{chunk, lines_head};
 ghost use Rattle.gs_talk.specs.Moves.{last_if};
-ghost use Rattle.gs_session.specs.Outcomes.{Says, Stops, RepliesBy, RepliesFound, Begins, AfterRefusal, AfterDelete, AfterLook, AfterPin, AfterPiece, AfterStage, AfterCommit, AfterCommitPatch, AfterCancel};
+ghost use Rattle.gs_session.specs.Outcomes.{Says, Stops, RepliesBy, RepliesFound, BeginsRead, AfterRefusal, AfterDelete, AfterLook, AfterPin, AfterPiece, AfterStage, AfterCommit, AfterCommitPatch, AfterCancel};
 ghost use Rattle.gs_session.specs.Outcomes as spec;
 
 use crate::phases::{Phase, Want, Work};
 use gs_event::Answer;
 use gs_model::Refusal;
-use gs_reply::{Note, chunk_after, push_last_chunk, push_lines_head, push_reply};
+use gs_reply::{ReplyNote, chunk_after, push_last_chunk, push_lines_head, push_reply};
 use gs_verdict::Asked;
 use std::alloc::{AllocError, Global};
 
@@ -45,7 +45,7 @@ fn after_reply(closes: bool) -> Phase
 }
 
 /// A reply without lines; where there is no memory for it, nothing is said and the connection ends.
-pub fn reply(alloc: Global, status: u16, note: Note<'_>, closes: bool) -> Next
+pub fn reply(alloc: Global, status: u16, note: ReplyNote<'_>, closes: bool) -> Next
     ensures { RepliesBy result status (notice_of note.entry) closes }
 {
     let mut text = Vec::new(alloc);
@@ -63,10 +63,10 @@ pub fn after_refusal(alloc: Global, asked: &Asked, answer: &Answer) -> Next
     ensures { AfterRefusal asked.now answer.now result }
 {
     match answer {
-        Answer::Refused(Refusal::NoMemory) => reply(alloc, 503, Note::Nothing, true),
+        Answer::Refused(Refusal::NoMemory) => reply(alloc, 503, ReplyNote::Nothing, true),
         Answer::Refused(Refusal::LastNumber) => {
             let closes = asked.closes || asked.framing.announces();
-            reply(alloc, 507, Note::Nothing, closes)
+            reply(alloc, 507, ReplyNote::Nothing, closes)
         }
         _ => stop(alloc),
     }
@@ -77,8 +77,8 @@ pub fn after_delete(alloc: Global, asked: &Asked, answer: &Answer) -> Next
     ensures { AfterDelete asked.now answer.now result }
 {
     match answer {
-        Answer::Status(status, _) => reply(alloc, *status, Note::Nothing, asked.closes),
-        Answer::Refused(Refusal::LastNumber) => reply(alloc, 507, Note::Nothing, asked.closes),
+        Answer::Status(status, _) => reply(alloc, *status, ReplyNote::Nothing, asked.closes),
+        Answer::Refused(Refusal::LastNumber) => reply(alloc, 507, ReplyNote::Nothing, asked.closes),
         _ => stop(alloc),
     }
 }
@@ -114,7 +114,7 @@ pub fn after_look(alloc: Global, asked: &Asked, answer: &Answer) -> Next
             if *status == 200 {
                 found(alloc, asked)
             } else {
-                reply(alloc, *status, Note::Nothing, asked.closes)
+                reply(alloc, *status, ReplyNote::Nothing, asked.closes)
             }
         }
         _ => stop(alloc),
@@ -123,7 +123,7 @@ pub fn after_look(alloc: Global, asked: &Asked, answer: &Answer) -> Next
 
 /// A read begins.
 fn begin_read(alloc: Global, asked: Asked) -> Next
-    ensures { Begins result asked }
+    ensures { BeginsRead result asked }
 {
     match head_text(alloc, &asked) {
         Ok(text) => Next {
@@ -143,7 +143,7 @@ pub fn after_pin(alloc: Global, asked: Asked, answer: &Answer) -> Next
             if *status == 200 {
                 begin_read(alloc, asked)
             } else {
-                reply(alloc, *status, Note::Nothing, asked.closes)
+                reply(alloc, *status, ReplyNote::Nothing, asked.closes)
             }
         }
         _ => stop(alloc),
@@ -234,9 +234,14 @@ pub fn after_commit(alloc: Global, asked: Asked, answer: &Answer) -> Next
     ensures { AfterCommit asked answer.now result }
 {
     match answer {
-        Answer::Status(status, None) => reply(alloc, *status, Note::Nothing, asked.closes),
+        Answer::Status(status, None) => reply(alloc, *status, ReplyNote::Nothing, asked.closes),
         Answer::Status(status, Some(name)) => {
-            reply(alloc, *status, Note::Made(name.as_bytes()), asked.closes)
+            reply(
+                alloc,
+                *status,
+                ReplyNote::Made(name.as_bytes()),
+                asked.closes,
+            )
         }
         Answer::Refused(Refusal::NoMemory) => {
             silently(alloc, Phase::Serving(asked, Work::Failing(Want::Memory)))
@@ -253,7 +258,7 @@ pub fn after_commit_patch(alloc: Global, asked: Asked, answer: &Answer) -> Next
     ensures { AfterCommitPatch asked answer.now result }
 {
     match answer {
-        Answer::Status(status, _) => reply(alloc, *status, Note::Nothing, asked.closes),
+        Answer::Status(status, _) => reply(alloc, *status, ReplyNote::Nothing, asked.closes),
         Answer::Refused(Refusal::NoMemory) => {
             silently(alloc, Phase::Serving(asked, Work::Failing(Want::Memory)))
         }
@@ -269,7 +274,7 @@ pub fn after_cancel(alloc: Global, status: u16, closes: bool, answer: &Answer) -
     ensures { AfterCancel status closes answer.now result }
 {
     match answer {
-        Answer::Cancelled => reply(alloc, status, Note::Nothing, closes),
+        Answer::Cancelled => reply(alloc, status, ReplyNote::Nothing, closes),
         _ => stop(alloc),
     }
 }

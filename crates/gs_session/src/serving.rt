@@ -3,7 +3,7 @@ ghost use Rattle.std.specs.Prelude.{◌≡◌, ℕ, List, Option, Bool, true, fa
 ghost use Rattle.std.specs.Io.KnownBytes.{Keeps};
 ghost use Rattle.gs_model.specs.Bases.{is_base};
 ghost use Rattle.gs_talk.specs.Logs.{Server};
-ghost use Rattle.gs_session.specs.Connections.{Connection, Comes, Goes, Done, Quit, Reads, Loses};
+ghost use Rattle.gs_session.specs.Connections.{Connection, Comes, Goes, IsFinished, Quit, ReadsInput, Loses};
 
 use crate::sessions::{Session, Turn};
 use crate::writing::write_text;
@@ -28,7 +28,7 @@ const READ_BYTES: usize = 8_192;
 /// Gives the session what a read gives. One that was interrupted gives nothing.
 fn read_more<R: Read>(session: &mut Session, reader: &mut R) -> Result<(), ServeFault>
     requires { session.old.ended ≡ false }
-    ensures ok { OnOk result (Reads session.old session.new (R.remaining reader.old)
+    ensures ok { OnOk result (ReadsInput session.old session.new (R.remaining reader.old)
         (R.remaining reader.new)) }
     ensures err { OnErr result (Loses session.old session.new (R.remaining reader.old)
         (R.remaining reader.new)) }
@@ -56,7 +56,7 @@ fn await_input<R: Read, W: Write>(
     writer: &mut W,
 ) -> Result<(), ServeFault>
     requires { session.old.ended ≡ false }
-    ensures ok { OnOk result (Reads session.old session.new (R.remaining reader.old)
+    ensures ok { OnOk result (ReadsInput session.old session.new (R.remaining reader.old)
         (R.remaining reader.new)) }
     ensures err { OnErr result (Loses session.old session.new (R.remaining reader.old)
         (R.remaining reader.new)) }
@@ -82,7 +82,7 @@ fn round<R: Read, W: Write, D: Door>(
     ensures over { result ≡ Ok true → Comes D.Gives session.old
         (R.remaining reader.old) (W.contents writer.old) door.old
         (R.remaining reader.new) (W.contents writer.new) door.new
-        (λ p seat. Done p (R.remaining reader.new)) }
+        (λ p seat. IsFinished p (R.remaining reader.new)) }
     ensures fault { OnErr result (Comes D.Gives session.old
         (R.remaining reader.old) (W.contents writer.old) door.old
         (R.remaining reader.new) (W.contents writer.new) door.new
@@ -122,7 +122,7 @@ fn rounds<R: Read, W: Write, D: Door>(
     ensures over { OnOk result (Comes D.Gives session.old
         (R.remaining reader.old) (W.contents writer.old) door.old
         (R.remaining reader.new) (W.contents writer.new) door.new
-        (λ p seat. Done p (R.remaining reader.new))) }
+        (λ p seat. IsFinished p (R.remaining reader.new))) }
     ensures fault { OnErr result (Comes D.Gives session.old
         (R.remaining reader.old) (W.contents writer.old) door.old
         (R.remaining reader.new) (W.contents writer.new) door.new
@@ -161,7 +161,7 @@ pub fn serve<R: Read, W: Write, D: Door>(
     // All of what is to be said was written, and no request is left.
     ensures whole { OnOk result (Connection D.Gives seat (R.remaining reader.old) (R.remaining reader.new)
         (W.contents writer.old) (W.contents writer.new) door.old door.new
-        (Done (record { base = base.now; piece = piece }) (R.remaining reader.new))) }
+        (IsFinished (record { base = base.now; piece = piece }) (R.remaining reader.new))) }
     // What was written is a front of it.
     ensures front { OnErr result (Connection D.Gives seat (R.remaining reader.old) (R.remaining reader.new)
         (W.contents writer.old) (W.contents writer.new) door.old door.new

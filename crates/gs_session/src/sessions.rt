@@ -3,7 +3,7 @@ ghost use Rattle.std.specs.Prelude.{◌≡◌, ◌<◌, ℕ, List, [], length, t
 ghost use Rattle.gs_model.specs.Bases.{is_base};
 ghost use Rattle.gs_talk.specs.Seats.{Deeds};
 ghost use Rattle.gs_session.specs.Steps.{server_of};
-ghost use Rattle.gs_session.specs.Turns.{Leads, IsKept, Turns, RestsRightly, Quits, joined, taken, waiting, turn_at, has_opened as has_opened_at};
+ghost use Rattle.gs_session.specs.Turns.{Leads, IsKept, MakesTurn, RestsRightly, Quits, joined_input, taken, waiting, turn_at, has_opened as has_opened_at};
 
 use crate::bodies::send;
 use crate::buffers::Buffer;
@@ -73,7 +73,7 @@ impl Session {
     /// The next bytes come. After the end of the input they are dropped.
     pub fn give(&mut self, piece: &[u8]) -> Result<(), AllocError>
         ensures given { OnOk result ((x : List ℕ) (h : Deeds) (w : List ℕ)
-            → Leads self.old x h w → Leads self.new (joined self.old.ended x piece.now) h w) }
+            → Leads self.old x h w → Leads self.new (joined_input self.old.ended x piece.now) h w) }
         ensures refused { OnErr result (self.new ≡ self.old) }
         ensures setup { self.new.setup ≡ self.old.setup }
         ensures ended { self.new.ended ≡ self.old.ended }
@@ -137,7 +137,7 @@ impl Session {
     fn gather<D: Door>(&mut self, door: &mut D) -> bool
         requires { length self.old.due.items < 4096 }
         ensures turns { result ≡ true
-            → Turns D.Gives self.old door.old Turn.Made self.new door.new }
+            → MakesTurn D.Gives self.old door.old Turn.Made self.new door.new }
         ensures stays { result ≡ false → (self.new ≡ self.old) × (door.new ≡ door.old) }
         ensures setup { self.new.setup ≡ self.old.setup }
         ensures ended { self.new.ended ≡ self.old.ended }
@@ -166,7 +166,7 @@ impl Session {
     /// The next thing that the connection does: one event, a text to be written, or nothing before more
     /// input comes. The caller writes a text before the next turn.
     pub fn turn<D: Door>(&mut self, door: &mut D) -> Turn
-        ensures turns { Turns D.Gives self.old door.old result self.new door.new }
+        ensures turns { MakesTurn D.Gives self.old door.old result self.new door.new }
         ensures rests { RestsRightly result self.new }
         ensures setup { self.new.setup ≡ self.old.setup }
         ensures ended { self.new.ended ≡ self.old.ended }

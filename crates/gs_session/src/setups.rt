@@ -1,5 +1,5 @@
 //! What stays the same for all requests of a session.
-ghost use Rattle.gs_session.specs.Steps.{Acts};
+ghost use Rattle.gs_session.specs.Steps.{TakesAction};
 
 use crate::sites::Site;
 use gs_door::Door;
@@ -19,7 +19,7 @@ pub struct Setup {
 impl Setup {
     /// One event of the seat.
     pub fn act<D: Door>(&self, action: Action, door: &mut D) -> Answer
-        ensures { Acts D.Gives self.now.seat door.old action result door.new }
+        ensures { TakesAction D.Gives self.now.seat door.old action result door.new }
     {
         door.event(Event::Seat(self.seat, action))
     }

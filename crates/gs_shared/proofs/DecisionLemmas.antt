@@ -19,13 +19,13 @@ use Rattle.gs_event.specs.Operations.{Operation}
 use Rattle.gs_event.specs.Phases.{Idle, Writing, Patching, Reading, operation_of}
 use Rattle.gs_event.specs.Views.{View, SeatView, Totals, Fits, FitsSeat}
 use Rattle.gs_chronicle.specs.declared.kinds.ActionKind.{ActionKind}
-use Rattle.gs_chronicle.specs.Kinds.{kind_of}
+use Rattle.gs_chronicle.specs.Kinds.{action_kind_of}
 use Rattle.gs_chronicle.specs.Sizes.{ops_size}
 use Rattle.gs_chronicle.specs.Pages.{Decided}
-use Rattle.gs_audit.specs.Staged.{staged_by, staged_after}
+use Rattle.gs_audit.specs.Staged.{staged_since_open, staged_after}
 use Rattle.gs_audit.specs.Decisions.{status_in, call_for, decided_at, decided_if, decided_by}
-use Rattle.gs_pass.specs.Tallies.{decides, brings}
-use Rattle.gs_shared.specs.Asked.{capped, ask_of_action, ask_of_event, decided_of, brought_of, IsSmall, IsSmallEvent}
+use Rattle.gs_pass.specs.Tallies.{decides, brought_by}
+use Rattle.gs_shared.specs.Asked.{capped_count, ask_of_action, ask_of_event, decided_of, brought_of, IsSmallAction, IsSmallEvent}
 use Rattle.gs_shared.specs.Tells.{is_of_another}
 use Rattle.gs_shared.proofs.AskedLemmas.{decided_of-ask_of_action, brought_of-ask_of_action, decided_of-Refused}
 
@@ -37,7 +37,7 @@ size_if (Some d) = d.triples
 -- the kind and status of what was decided
 abbrev pub mark_if : Option Decided → Option (ActionKind × ℕ)
 mark_if None = None
-mark_if (Some d) = Some (kind_of d.operation, d.status)
+mark_if (Some d) = Some (action_kind_of d.operation, d.status)
 
 -- a call has at most the triples that it is for
 size_if-call_for : (s n status : ℕ) (o : Option Operation) → size_if (call_for s n status o) ≤ n
@@ -45,7 +45,7 @@ size_if-call_for s n status None = omega arith
 size_if-call_for s n status (Some q) = omega arith
 
 -- what a commit decides was staged, and is no more
-commit_law : (s n : ℕ) (p : SeatView) (a : Answer) → staged_by n Commit a + size_if (decided_at s p n Commit a) ≤ n
+commit_law : (s n : ℕ) (p : SeatView) (a : Answer) → staged_since_open n Commit a + size_if (decided_at s p n Commit a) ≤ n
 commit_law s n p (Status x name) = let few = size_if-call_for s n x (operation_of p Commit (Status x name)) in omega (arith, few)
 commit_law s n Idle a = omega arith
 commit_law s n (Writing k r g) a = omega arith
@@ -53,7 +53,7 @@ commit_law s n (Patching t r) a = omega arith
 commit_law s n (Reading left) a = omega arith
 
 -- What is staged at a seat after an event, and what the event decided, was staged before it or came with it.
-seat_law : (s n : ℕ) (p : SeatView) (action : Action) (a : Answer) (more : ℕ) → IsSmall action → more ≡ capped (brings action a) → staged_by n action a + capped (size_if (decided_at s p n action a)) ≤ n + more
+seat_law : (s n : ℕ) (p : SeatView) (action : Action) (a : Answer) (more : ℕ) → IsSmallAction action → more ≡ capped_count (brought_by action a) → staged_since_open n action a + capped_count (size_if (decided_at s p n action a)) ≤ n + more
 seat_law s n p Commit a more small is = let few = commit_law s n p a in omega (arith, few)
 seat_law s n p (CommitPatch ops) (Status x name) more small is =
     let few = size_if-call_for s (ops_size ops.items) x (operation_of p (CommitPatch ops) (Status x name)) in omega (arith, few, is)
@@ -81,18 +81,18 @@ sum_set (y ∷ ys) zero x = omega (arith, sum_by-cons (λ n. n) x ys, sum_by-con
 sum_set (y ∷ ys) (suc s) x = let h = sum_set ys s x in omega (arith, h, sum_by-cons (λ n. n) y (slice_set ys s x), sum_by-cons (λ n. n) y ys)
 
 -- What is staged in all after an event, and what the event decided, was staged before it or came with it.
-pub staged_law : (v : View) (staged : List ℕ) (e : Event) (a : Answer) (more : ℕ) → IsSmallEvent e → more ≡ brought_of (ask_of_event e) a → sum (staged_after staged e a) + capped (size_if (decided_by v staged e a)) ≤ sum staged + more
+pub staged_law : (v : View) (staged : List ℕ) (e : Event) (a : Answer) (more : ℕ) → IsSmallEvent e → more ≡ brought_of (ask_of_event e) a → sum (staged_after staged e a) + capped_count (size_if (decided_by v staged e a)) ≤ sum staged + more
 staged_law v staged (Reclaim n) a more small is = omega arith
 staged_law v staged (At s action) a more small is = at (slice_get v.seats s)
   where
-    at : (o : Option SeatView) → sum (slice_set staged s (staged_by (slice_index staged s) action a)) + capped (size_if (decided_if s o (slice_index staged s) action a)) ≤ sum staged + more
+    at : (o : Option SeatView) → sum (slice_set staged s (staged_since_open (slice_index staged s) action a)) + capped_count (size_if (decided_if s o (slice_index staged s) action a)) ≤ sum staged + more
     at None =
         let law = seat_law s (slice_index staged s) Idle action a more small (is ∙ brought_of-ask_of_action action a) in
-        let set = sum_set staged s (staged_by (slice_index staged s) action a) in
+        let set = sum_set staged s (staged_since_open (slice_index staged s) action a) in
         omega (arith, law, set)
     at (Some p) =
         let law = seat_law s (slice_index staged s) p action a more small (is ∙ brought_of-ask_of_action action a) in
-        let set = sum_set staged s (staged_by (slice_index staged s) action a) in
+        let set = sum_set staged s (staged_since_open (slice_index staged s) action a) in
         omega (arith, law, set)
 
 -- An idle seat: what it decides has the kind and status that the answer alone gives.
@@ -150,9 +150,9 @@ mark_law v staged (At s action) a fits = at (slice_get v.seats s) fits
     at (Some p) fit = seat_mark v.totals s (slice_index staged s) p action a fit ∙ sym (decided_of-ask_of_action action a)
 
 -- What was decided is there where its kind and status are.
-pub some_decided : (o : Option Decided) (m : ActionKind × ℕ) → mark_if o ≡ Some m → (d : Decided) × (o ≡ Some d) × (kind_of d.operation ≡ m.0) × (d.status ≡ m.1)
+pub some_decided : (o : Option Decided) (m : ActionKind × ℕ) → mark_if o ≡ Some m → (d : Decided) × (o ≡ Some d) × (action_kind_of d.operation ≡ m.0) × (d.status ≡ m.1)
 some_decided None m e = absurd (cc)
-some_decided (Some d) m e = let same : (kind_of d.operation, d.status) ≡ m = cc in (d, refl, ap (λ x. x.0) same, ap (λ x. x.1) same)
+some_decided (Some d) m e = let same : (action_kind_of d.operation, d.status) ≡ m = cc in (d, refl, ap (λ x. x.0) same, ap (λ x. x.1) same)
 
 -- Nothing was decided where there is no kind and status.
 pub none_decided : (o : Option Decided) → mark_if o ≡ None → o ≡ None

@@ -10,46 +10,46 @@ use Rattle.gs_chronicle.specs.declared.kinds.ActionKind.{ActionKind}
 use Rattle.gs_chronicle.specs.declared.kinds.ActionKind.TheVariants.{Commit as CommitKind, CommitPatch as PatchKind, Delete as DeleteKind, Head as HeadKind, Pin as PinKind}
 use Rattle.gs_chronicle.specs.Sizes.{ops_size}
 use Rattle.gs_pass.specs.Limits.{last_count}
-use Rattle.gs_shared.specs.declared.asked.Asked.{Asked}
-use Rattle.gs_shared.specs.declared.asked.Asked.TheVariants.{Stage as AsksStage, Status as AsksStatus, Pin as AsksPin, Nothing as AsksNothing}
+use Rattle.gs_shared.specs.declared.asked.EventAsk.{EventAsk}
+use Rattle.gs_shared.specs.declared.asked.EventAsk.TheVariants.{Stage as AsksStage, Status as AsksStatus, Pin as AsksPin, Nothing as AsksNothing}
 
 -- a number of triples as it is counted: it stops at the last value of a count
-abbrev pub capped : ℕ → ℕ
-capped n = min n last_count
+abbrev pub capped_count : ℕ → ℕ
+capped_count n = min n last_count
 
 -- what an action asks
-abbrev pub ask_of_action : Action → Asked
-ask_of_action (Stage ts) = AsksStage (capped (length ts.items))
+abbrev pub ask_of_action : Action → EventAsk
+ask_of_action (Stage ts) = AsksStage (capped_count (length ts.items))
 ask_of_action Commit = AsksStatus CommitKind 0
-ask_of_action (CommitPatch ops) = AsksStatus PatchKind (capped (ops_size ops.items))
+ask_of_action (CommitPatch ops) = AsksStatus PatchKind (capped_count (ops_size ops.items))
 ask_of_action (Delete t) = AsksStatus DeleteKind 0
 ask_of_action (Head t) = AsksStatus HeadKind 0
 ask_of_action (Pin t) = AsksPin
 ask_of_action action = AsksNothing
 
 -- what an event asks
-abbrev pub ask_of_event : Event → Asked
+abbrev pub ask_of_event : Event → EventAsk
 ask_of_event (At s action) = ask_of_action action
 ask_of_event (Reclaim n) = AsksNothing
 
 -- the kind and status of a deciding call with this answer
-abbrev pub decided_of : Asked → Answer → Option (ActionKind × ℕ)
+abbrev pub decided_of : EventAsk → Answer → Option (ActionKind × ℕ)
 decided_of (AsksStatus kind n) (Status s name) = Some (kind, s)
 decided_of AsksPin (Pinned s) = Some (PinKind, s)
 decided_of asked a = None
 
 -- how many triples came with this answer
-abbrev pub brought_of : Asked → Answer → ℕ
+abbrev pub brought_of : EventAsk → Answer → ℕ
 brought_of (AsksStage n) Staged = n
 brought_of (AsksStatus kind n) (Status s name) = n
 brought_of asked a = 0
 
 -- a number holds how many triples the action stages
-abbrev pub IsSmall : Action → Type 0
-IsSmall (Stage ts) = length ts.items < 2 ^ 64
-IsSmall action = Unit {0}
+abbrev pub IsSmallAction : Action → Type 0
+IsSmallAction (Stage ts) = length ts.items < 2 ^ 64
+IsSmallAction action = Unit {0}
 
 -- the same of an event
 abbrev pub IsSmallEvent : Event → Type 0
-IsSmallEvent (At s action) = IsSmall action
+IsSmallEvent (At s action) = IsSmallAction action
 IsSmallEvent (Reclaim n) = Unit {0}

@@ -1,7 +1,7 @@
 -- What is known of receipts and of the page once all passes are back.
 use Rattle.std.specs.Prelude.{◌≡◌, ◌≤◌, ℕ, suc, List, [], ◌∷◌, length, Some}
 use Rattle.std.specs.List.{slice_get, sum_by, All}
-use Rattle.gs_chronicle.specs.Kinds.{kind_of}
+use Rattle.gs_chronicle.specs.Kinds.{action_kind_of}
 use Rattle.gs_chronicle.specs.Pages.{Decided, Row, PageView, stored_in}
 use Rattle.gs_pass.specs.declared.receipts.Receipt.{Receipt}
 use Rattle.gs_pass.specs.declared.records.Record.{Record}
@@ -24,7 +24,7 @@ StandFrom from rows seat (r ∷ rs) =
     × (from ≤ r.number)
     × (slice_get rows r.number ≡ Some (record { number = r.number; call = call }))
     × (call.seat ≡ seat)
-    × (kind_of call.operation ≡ r.kind)
+    × (action_kind_of call.operation ≡ r.kind)
     × (call.status ≡ r.status)
     × StandFrom (suc r.number) rows seat rs
 
@@ -37,8 +37,8 @@ abbrev pub FitOnePage : List Record → Type 0
 FitOnePage records = (counted_calls records ≤ page_entries) × (counted_triples records ≤ page_triples)
 
 -- a page has no more rows, and no more triples, than a page holds
-abbrev pub IsWithin : PageView → Type 0
-IsWithin p = (length p.rows ≤ page_entries) × (stored_in p.rows ≤ page_triples)
+abbrev pub IsWithinPage : PageView → Type 0
+IsWithinPage p = (length p.rows ≤ page_entries) × (stored_in p.rows ≤ page_triples)
 
 -- where no page was turned, the page has as many rows as these passes counted deciding calls
 abbrev pub HasAllCalls : PageView → List Record → Type 0

@@ -1,14 +1,14 @@
 //! What an event asks, as far as the tally of its pass is concerned: it is read off the event before
 //! the store takes it.
 ghost use Rattle.std.specs.Prelude.{◌≡◌};
-ghost use Rattle.gs_shared.specs.Asked.{ask_of_action, ask_of_event, decided_of, brought_of, IsSmall, IsSmallEvent};
+ghost use Rattle.gs_shared.specs.Asked.{ask_of_action, ask_of_event, decided_of, brought_of, IsSmallAction, IsSmallEvent};
 
 use gs_chronicle::{ActionKind, ops_size};
 use gs_event::{Action, Answer, Event};
 
 /// What an event asks.
 #[derive(Clone, Copy)]
-pub enum Asked {
+pub enum EventAsk {
     /// To stage so many triples.
     Stage(u64),
     /// What a status decides, by an action of this kind that brings so many triples.
@@ -19,34 +19,34 @@ pub enum Asked {
     Nothing,
 }
 
-impl Asked {
+impl EventAsk {
     /// What an event asks.
-    pub(crate) fn by(event: &Event) -> Asked
+    pub(crate) fn by(event: &Event) -> EventAsk
         ensures value { result ≡ ask_of_event event.now }
         ensures small { IsSmallEvent event.now }
     {
         match event {
-            Event::Seat(_, action) => Asked::within(action),
-            Event::Reclaim(_) => Asked::Nothing,
+            Event::Seat(_, action) => EventAsk::within(action),
+            Event::Reclaim(_) => EventAsk::Nothing,
         }
     }
 
-    fn within(action: &Action) -> Asked
+    fn within(action: &Action) -> EventAsk
         ensures value { result ≡ ask_of_action action.now }
-        ensures small { IsSmall action.now }
+        ensures small { IsSmallAction action.now }
     {
         match action {
-            Action::Stage(list) => Asked::Stage(list.len() as u64),
-            Action::Commit => Asked::Status(ActionKind::Commit, 0),
+            Action::Stage(list) => EventAsk::Stage(list.len() as u64),
+            Action::Commit => EventAsk::Status(ActionKind::Commit, 0),
             Action::CommitPatch(ops) => {
                 let triples = ops_size(ops.as_slice()).unwrap_or(usize::MAX);
-                Asked::Status(ActionKind::CommitPatch, triples as u64)
+                EventAsk::Status(ActionKind::CommitPatch, triples as u64)
             }
-            Action::Delete(_) => Asked::Status(ActionKind::Delete, 0),
-            Action::Head(_) => Asked::Status(ActionKind::Head, 0),
-            Action::Pin(_) => Asked::Pin,
+            Action::Delete(_) => EventAsk::Status(ActionKind::Delete, 0),
+            Action::Head(_) => EventAsk::Status(ActionKind::Head, 0),
+            Action::Pin(_) => EventAsk::Pin,
             Action::Open(_) | Action::OpenPatch(_) | Action::Piece(_) | Action::Cancel => {
-                Asked::Nothing
+                EventAsk::Nothing
             }
         }
     }
@@ -56,15 +56,15 @@ impl Asked {
         ensures { result ≡ decided_of self answer.now }
     {
         match self {
-            Asked::Status(kind, _) => match answer {
+            EventAsk::Status(kind, _) => match answer {
                 Answer::Status(status, _) => Some((kind, *status)),
                 _ => None,
             },
-            Asked::Pin => match answer {
+            EventAsk::Pin => match answer {
                 Answer::Pinned(status) => Some((ActionKind::Pin, *status)),
                 _ => None,
             },
-            Asked::Stage(_) | Asked::Nothing => None,
+            EventAsk::Stage(_) | EventAsk::Nothing => None,
         }
     }
 
@@ -73,15 +73,15 @@ impl Asked {
         ensures { result ≡ brought_of self answer.now }
     {
         match self {
-            Asked::Stage(triples) => match answer {
+            EventAsk::Stage(triples) => match answer {
                 Answer::Staged => triples,
                 _ => 0,
             },
-            Asked::Status(_, triples) => match answer {
+            EventAsk::Status(_, triples) => match answer {
                 Answer::Status(_, _) => triples,
                 _ => 0,
             },
-            Asked::Pin | Asked::Nothing => 0,
+            EventAsk::Pin | EventAsk::Nothing => 0,
         }
     }
 }

@@ -1,5 +1,5 @@
 //! A pass with its lock and a runtime, as a door.
-use crate::halls::Hall;
+use crate::shared_stores::SharedStore;
 use gs_door::Door;
 use gs_event::{Answer, Event};
 use gs_pass::{Pass, Room};
@@ -9,7 +9,7 @@ use std::sync::ledger::Ledger;
 /// A door to a store that threads share: a lent runtime and a lent lock, with a pass.
 pub struct PassDoor<'a, C: Ledger, T: Ledger, B: Room, R: Wait> {
     rt: &'a R,
-    hall: &'a Hall<C, T, B>,
+    store: &'a SharedStore<C, T, B>,
     pass: Pass<C, T, B>,
 }
 
@@ -17,10 +17,14 @@ impl<'a, C: Ledger, T: Ledger, B: Room, R: Wait> PassDoor<'a, C, T, B, R> {
     ghost use Rattle.std.specs.Prelude.{◌≡◌};
 
     /// The door of this pass.
-    pub fn new(rt: &'a R, hall: &'a Hall<C, T, B>, pass: Pass<C, T, B>) -> PassDoor<'a, C, T, B, R>
+    pub fn new(
+        rt: &'a R,
+        store: &'a SharedStore<C, T, B>,
+        pass: Pass<C, T, B>,
+    ) -> PassDoor<'a, C, T, B, R>
         ensures { result.pass ≡ pass }
     {
-        PassDoor { rt, hall, pass }
+        PassDoor { rt, store, pass }
     }
 
     /// The pass.
@@ -36,7 +40,7 @@ impl<'a, C: Ledger, T: Ledger, B: Room, R: Wait> PassDoor<'a, C, T, B, R> {
     {
         let PassDoor {
             rt: _,
-            hall: _,
+            store: _,
             pass,
         } = self;
         pass
@@ -50,6 +54,6 @@ impl<'a, C: Ledger, T: Ledger, B: Room, R: Wait> Door for PassDoor<'a, C, T, B, 
     ghost Gives = { λ old e a new. IsOfKind e a × Tells e a old.pass.record new.pass.record };
 
     fn event(&mut self, event: Event) -> Answer {
-        self.hall.event(self.rt, &mut self.pass, event)
+        self.store.event(self.rt, &mut self.pass, event)
     }
 }

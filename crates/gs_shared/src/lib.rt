@@ -2,16 +2,16 @@
 #![tactic(auto)]
 
 mod asked;
-mod desks;
 mod doors;
 mod endings;
-mod halls;
 mod limits;
+mod locked;
 mod shared;
+mod shared_stores;
 
 pub use doors::PassDoor;
 pub use endings::Ended;
-pub use gs_pass::{Pass, Receipt, Record, Room, Side, StampCell, Token, stamp_cell};
-pub use halls::Hall;
+pub use gs_pass::{CountedLedger, Pass, Receipt, Record, Room, StampCell, Token, stamp_cell};
 pub use limits::{PAGE_ENTRIES, PAGE_TRIPLES};
 pub use shared::Shared;
+pub use shared_stores::SharedStore;

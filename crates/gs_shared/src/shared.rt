@@ -10,24 +10,24 @@ ghost use Rattle.gs_door.specs.Kinds.{IsOfKind};
 ghost use Rattle.gs_pass.specs.Stamps.{keeper as keeper_of};
 ghost use Rattle.gs_shared.specs.Seats.{BeganAs, From, IsFreshOf};
 ghost use Rattle.gs_shared.specs.Tells.{Tells};
-ghost use Rattle.gs_shared.specs.Ends.{FitOnePage, IsWithin, HasAllCalls, AllStand};
+ghost use Rattle.gs_shared.specs.Ends.{FitOnePage, IsWithinPage, HasAllCalls, AllStand};
 
-use crate::desks::Desk;
 use crate::endings::Ended;
-use crate::halls::Hall;
+use crate::locked::Locked;
+use crate::shared_stores::SharedStore;
 use gs_audit::Audited;
 use gs_event::{Answer, Event};
 use gs_model::Refusal;
-use gs_pass::{Pass, Record, Register, Room, Side, Space, StampCell, Token, Whole};
+use gs_pass::{CountedLedger, Pass, ReceiptRoom, Record, Register, Room, StampCell, Token, Whole};
 use std::alloc::{AllocError, Global};
 use std::sync::ledger::{Blank, Share};
 use std::sync::{Mutex, Wait};
 
 /// One Mutex over a store with its page, and the parts of both ledgers that no pass has yet. A room
-/// names its cell, and two sides its ledgers of calls and of triples.
+/// names its cell, and the two ledgers count calls and triples.
 #[derive(Drop)]
-pub struct Shared<C: Side, T: Side, B: Room> {
-    hall: Hall<C, T, B>,
+pub struct Shared<C: CountedLedger, T: CountedLedger, B: Room> {
+    store: SharedStore<C, T, B>,
     seats: u16,
     handed: u16,
     call_rest: Share<C>,
@@ -48,7 +48,7 @@ pub struct Shared<C: Side, T: Side, B: Room> {
     ghost reserved: { seats ≤ vec_capacity records },
 }
 
-impl<C: Side, T: Side, B: Room> Shared<C, T, B> {
+impl<C: CountedLedger, T: CountedLedger, B: Room> Shared<C, T, B> {
     /// A new store with this base, for so many seats, 1 to 512, of which no pass is handed out yet.
     /// `gs_core::is_base` tests a base. The seed spreads the terms, and shows in nothing but time: where
     /// strangers choose the terms, it is a random number that is kept from them. The cell is one of
@@ -91,13 +91,13 @@ impl<C: Side, T: Side, B: Room> Shared<C, T, B> {
             return Err(Refusal::NoMemory);
         };
         let (register, call_rest, triple_rest) = Register::new(keeper, calls, triples);
-        let desk = Desk { audited, register };
-        let hall = Hall {
+        let locked = Locked { audited, register };
+        let store = SharedStore {
             cell,
-            lock: Mutex::new(desk),
+            lock: Mutex::new(locked),
         };
         Ok(Shared {
-            hall,
+            store,
             seats,
             handed: 0,
             call_rest,
@@ -110,18 +110,18 @@ impl<C: Side, T: Side, B: Room> Shared<C, T, B> {
     }
 
     /// The lock, which threads share.
-    pub fn hall(&self) -> &Hall<C, T, B>
-        ensures { result.now ≡ self.now.hall }
+    pub fn store(&self) -> &SharedStore<C, T, B>
+        ensures { result.now ≡ self.now.store }
     {
-        &self.hall
+        &self.store
     }
 
-    /// Takes one event, as `Hall::event` does.
+    /// Takes one event, as `SharedStore::event` does.
     pub fn event<R: Wait>(&self, rt: &R, pass: &mut Pass<C, T, B>, event: Event) -> Answer
         ensures told { Tells event result pass.old.record pass.new.record }
         ensures kind { IsOfKind event result }
     {
-        self.hall.event(rt, pass, event)
+        self.store.event(rt, pass, event)
     }
 
     /// A pass for each of the next `n` seats. Room for all their receipts is made before any is handed
@@ -150,7 +150,11 @@ impl<C: Side, T: Side, B: Room> Shared<C, T, B> {
     }
 
     /// A pass in each of these spaces, for the next seats.
-    fn handed_out(&mut self, spaces: Vec<Space>, passes: Vec<Pass<C, T, B>>) -> Vec<Pass<C, T, B>>
+    fn handed_out(
+        &mut self,
+        spaces: Vec<ReceiptRoom>,
+        passes: Vec<Pass<C, T, B>>,
+    ) -> Vec<Pass<C, T, B>>
         requires left { self.old.handed + length spaces.items ≤ self.old.seats }
         requires room { (passes.items ≡ []) × (length spaces.items ≤ vec_capacity passes) }
         ensures passes { (length result.items ≡ length spaces.items)
@@ -172,7 +176,7 @@ impl<C: Side, T: Side, B: Room> Shared<C, T, B> {
     }
 
     /// The pass of the next seat.
-    fn next(&mut self, space: Space) -> Pass<C, T, B>
+    fn next(&mut self, space: ReceiptRoom) -> Pass<C, T, B>
         requires { self.old.handed < self.old.seats }
         ensures fresh { IsFreshOf self.old.handed result.record }
         ensures handed { (self.new.handed ≡ self.old.handed + 1) × (self.new.seats ≡ self.old.seats) }
@@ -181,10 +185,10 @@ impl<C: Side, T: Side, B: Room> Shared<C, T, B> {
         let call_share = self.call_rest.split_off(1, 0);
         let triple_share = self.triple_rest.split_off(1, 0);
         let pass = self
-            .hall
+            .store
             .lock
             .get_mut()
-            .issue(&self.hall.cell, seat, space, call_share, triple_share);
+            .issue(&self.store.cell, seat, space, call_share, triple_share);
         self.handed += 1;
         pass
     }
@@ -195,13 +199,13 @@ impl<C: Side, T: Side, B: Room> Shared<C, T, B> {
         requires back { length passes.items ≡ self.handed }
         ensures records { result.passes.items ≡ map (λ p. p.record) passes.items }
         ensures turned { FitOnePage result.passes.items → (page_of result.audited.chronicle).number ≡ 0 }
-        ensures within { IsWithin (page_of result.audited.chronicle) }
+        ensures within { IsWithinPage (page_of result.audited.chronicle) }
         ensures many { HasAllCalls (page_of result.audited.chronicle) result.passes.items }
         ensures stand { AllStand (page_of result.audited.chronicle) result.passes.items }
         ensures began { BeganAs B.start result.audited.store.view }
     {
         let Shared {
-            hall,
+            store,
             seats: _,
             handed: _,
             mut call_rest,
@@ -211,8 +215,8 @@ impl<C: Side, T: Side, B: Room> Shared<C, T, B> {
             alloc: _,
             mut records,
         } = self;
-        let Hall { cell, lock } = hall;
-        let Desk {
+        let SharedStore { cell, lock } = store;
+        let Locked {
             audited,
             mut register,
         } = lock.into_inner();
@@ -233,13 +237,13 @@ impl<C: Side, T: Side, B: Room> Shared<C, T, B> {
 }
 
 /// Room for so many passes, and for the receipts of each.
-fn rooms<P: Drop>(alloc: Global, n: u16) -> Result<(Vec<Space>, Vec<P>), AllocError>
+fn rooms<P: Drop>(alloc: Global, n: u16) -> Result<(Vec<ReceiptRoom>, Vec<P>), AllocError>
     ensures { IfOk result (λ r. (length r.0.items ≡ n) × (r.1.items ≡ []) × (n ≤ vec_capacity r.1)) }
 {
     let passes = Vec::with_capacity(alloc, usize::from(n))?;
     let mut spaces = Vec::with_capacity(alloc, usize::from(n))?;
     for _ in 0..n {
-        let space = Space::new(alloc)?;
+        let space = ReceiptRoom::new(alloc)?;
         spaces.push_reserved(space);
     }
     Ok((spaces, passes))

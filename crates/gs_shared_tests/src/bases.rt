@@ -5,7 +5,7 @@ ghost use Rattle.gs_core.specs.Settings.{start_at};
 ghost use Rattle.gs_pass.specs.Stamps.{keeper as keeper_of};
 
 use gs_event::{Action, Answer, Event, UploadKind};
-use gs_shared::{Room, Shared, Side, StampCell, Token, stamp_cell};
+use gs_shared::{CountedLedger, Room, Shared, StampCell, Token, stamp_cell};
 use std::alloc::Global;
 use std::marker::Brand;
 use std::sync::Wait;
@@ -14,7 +14,7 @@ use std::test::Fail;
 
 /// What the one seat of a store is answered that creates a graph, once it was seen that there is no
 /// pass for a second.
-fn create<C: Side, T: Side, B: Room, R: Wait>(
+fn create<C: CountedLedger, T: CountedLedger, B: Room, R: Wait>(
     rt: &R,
     shared: &mut Shared<C, T, B>,
 ) -> Option<Answer> {
@@ -37,7 +37,12 @@ fn create<C: Side, T: Side, B: Room, R: Wait>(
 }
 
 /// The same of a new store of one seat.
-fn run<C: Side + Send + Sync, T: Side + Send + Sync, B: Room + Send + Sync, R: Wait>(
+fn run<
+    C: CountedLedger + Send + Sync,
+    T: CountedLedger + Send + Sync,
+    B: Room + Send + Sync,
+    R: Wait,
+>(
     rt: &R,
     alloc: Global,
     cell: StampCell,

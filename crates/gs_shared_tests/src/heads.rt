@@ -5,7 +5,9 @@ ghost use Rattle.gs_core.specs.Settings.{start_at};
 ghost use Rattle.gs_pass.specs.Stamps.{keeper as keeper_of};
 
 use gs_event::{Action, Event};
-use gs_shared::{Ended, Hall, Pass, Room, Shared, Side, StampCell, Token, stamp_cell};
+use gs_shared::{
+    CountedLedger, Ended, Pass, Room, Shared, SharedStore, StampCell, Token, stamp_cell,
+};
 use gs_term::Target;
 use std::alloc::Global;
 use std::marker::Brand;
@@ -16,30 +18,30 @@ use std::thread;
 use std::thread::Threads;
 
 /// Asks so many times whether the default graph is there.
-pub fn ask<C: Side, T: Side, B: Room, R: Wait>(
+pub fn ask<C: CountedLedger, T: CountedLedger, B: Room, R: Wait>(
     rt: &R,
-    hall: &Hall<C, T, B>,
+    store: &SharedStore<C, T, B>,
     pass: Pass<C, T, B>,
     times: u32,
 ) -> Pass<C, T, B> {
     let mut pass = pass;
     for _ in 0..times {
         let event = Event::Seat(pass.seat(), Action::Head(Target::Default));
-        let _ = hall.event(rt, &mut pass, event);
+        let _ = store.event(rt, &mut pass, event);
     }
     pass
 }
 
 /// Each pass asks 1,000 times in a thread of its own: the passes that come back.
 fn ask_all<
-    C: Side + Send + Sync,
-    T: Side + Send + Sync,
+    C: CountedLedger + Send + Sync,
+    T: CountedLedger + Send + Sync,
     B: Room + Send + Sync,
     R: Threads + Wait + Sync,
 >(
     rt: &R,
     alloc: Global,
-    hall: &Hall<C, T, B>,
+    store: &SharedStore<C, T, B>,
     passes: Vec<Pass<C, T, B>>,
 ) -> Option<Vec<Pass<C, T, B>>> {
     thread::scope(
@@ -48,7 +50,7 @@ fn ask_all<
         move |scope| -> Option<Vec<Pass<C, T, B>>> {
             let mut threads = Vec::with_capacity(alloc, 4).ok()?;
             for pass in passes {
-                let asks = scope.spawn(move || ask(rt, hall, pass, 1000)).ok()?;
+                let asks = scope.spawn(move || ask(rt, store, pass, 1000)).ok()?;
                 threads.push(asks).ok()?;
             }
             let mut back = Vec::with_capacity(alloc, 4).ok()?;
@@ -63,8 +65,8 @@ fn ask_all<
 
 /// Four threads ask 1,000 times each.
 fn run<
-    C: Side + Send + Sync,
-    T: Side + Send + Sync,
+    C: CountedLedger + Send + Sync,
+    T: CountedLedger + Send + Sync,
     B: Room + Send + Sync,
     R: Threads + Wait + Sync,
 >(
@@ -97,7 +99,7 @@ fn run<
         drop(shared);
         return None;
     };
-    let Some(back) = ask_all(rt, alloc, shared.hall(), passes) else {
+    let Some(back) = ask_all(rt, alloc, shared.store(), passes) else {
         drop(shared);
         return None;
     };

@@ -5,7 +5,7 @@ ghost use Rattle.gs_core.specs.Settings.{start_at};
 ghost use Rattle.gs_pass.specs.Stamps.{keeper as keeper_of};
 
 use gs_event::{Action, Answer, Event, UploadKind};
-use gs_shared::{Hall, Pass, Room, Shared, Side, StampCell, Token, stamp_cell};
+use gs_shared::{CountedLedger, Pass, Room, Shared, SharedStore, StampCell, Token, stamp_cell};
 use gs_term::{GraphName, Target, TermText, Triple};
 use std::alloc::{AllocError, Global};
 use std::marker::Brand;
@@ -32,14 +32,14 @@ fn triple(alloc: Global, word: &str) -> Option<Triple> {
 }
 
 /// Makes an event of the pass's seat.
-fn act<C: Side, T: Side, B: Room, R: Wait>(
+fn act<C: CountedLedger, T: CountedLedger, B: Room, R: Wait>(
     rt: &R,
-    hall: &Hall<C, T, B>,
+    store: &SharedStore<C, T, B>,
     pass: &mut Pass<C, T, B>,
     action: Action,
 ) -> Answer {
     let event = Event::Seat(pass.seat(), action);
-    hall.event(rt, pass, event)
+    store.event(rt, pass, event)
 }
 
 /// The graph.
@@ -48,10 +48,10 @@ fn target(alloc: Global) -> Option<Target> {
 }
 
 /// Puts a triple for each of these words into the graph; whether that has this status.
-fn write<C: Side, T: Side, B: Room, R: Wait>(
+fn write<C: CountedLedger, T: CountedLedger, B: Room, R: Wait>(
     rt: &R,
     alloc: Global,
-    hall: &Hall<C, T, B>,
+    store: &SharedStore<C, T, B>,
     pass: Pass<C, T, B>,
     words: &[&str],
     status: u16,
@@ -60,45 +60,45 @@ fn write<C: Side, T: Side, B: Room, R: Wait>(
     let Some(target) = target(alloc) else {
         return (pass, false);
     };
-    drop(act(rt, hall, &mut pass, Action::Open(UploadKind::Put(target))));
+    drop(act(rt, store, &mut pass, Action::Open(UploadKind::Put(target))));
     for word in words {
         let mut list = Vec::new(alloc);
         if let Some(one) = triple(alloc, word) {
             let _ = list.push(one);
         }
-        drop(act(rt, hall, &mut pass, Action::Stage(list)));
+        drop(act(rt, store, &mut pass, Action::Stage(list)));
     }
-    let answer = act(rt, hall, &mut pass, Action::Commit);
+    let answer = act(rt, store, &mut pass, Action::Commit);
     let is_right = matches!(&answer, Answer::Status(found, None) if *found == status);
     drop(answer);
     (pass, is_right)
 }
 
 /// Begins to read the graph; whether that has status 200.
-fn pin<C: Side, T: Side, B: Room, R: Wait>(
+fn pin<C: CountedLedger, T: CountedLedger, B: Room, R: Wait>(
     rt: &R,
     alloc: Global,
-    hall: &Hall<C, T, B>,
+    store: &SharedStore<C, T, B>,
     pass: &mut Pass<C, T, B>,
 ) -> bool {
     let Some(target) = target(alloc) else {
         return false;
     };
-    let answer = act(rt, hall, pass, Action::Pin(target));
+    let answer = act(rt, store, pass, Action::Pin(target));
     let is_right = matches!(answer, Answer::Pinned(200));
     drop(answer);
     is_right
 }
 
 /// Reads a line; whether it is this one, and the last one or not.
-fn reads<C: Side, T: Side, B: Room, R: Wait>(
+fn reads<C: CountedLedger, T: CountedLedger, B: Room, R: Wait>(
     rt: &R,
-    hall: &Hall<C, T, B>,
+    store: &SharedStore<C, T, B>,
     pass: &mut Pass<C, T, B>,
     line: &str,
     is_last: bool,
 ) -> bool {
-    let answer = act(rt, hall, pass, Action::Piece(1));
+    let answer = act(rt, store, pass, Action::Piece(1));
     let is_right = match &answer {
         Answer::Lines(lines, end) => *end == is_last && lines.as_slice() == line.as_bytes(),
         _ => false,
@@ -108,28 +108,29 @@ fn reads<C: Side, T: Side, B: Room, R: Wait>(
 }
 
 /// Begins to read the graph, and reads its first line, which is not the last.
-fn begin<C: Side, T: Side, B: Room, R: Wait>(
+fn begin<C: CountedLedger, T: CountedLedger, B: Room, R: Wait>(
     rt: &R,
     alloc: Global,
-    hall: &Hall<C, T, B>,
+    store: &SharedStore<C, T, B>,
     pass: Pass<C, T, B>,
 ) -> (Pass<C, T, B>, bool) {
     let mut pass = pass;
-    let is_right = pin(rt, alloc, hall, &mut pass) && reads(rt, hall, &mut pass, FIRST_LINE, false);
+    let is_right = pin(rt, alloc, store, &mut pass)
+        && reads(rt, store, &mut pass, FIRST_LINE, false);
     (pass, is_right)
 }
 
 /// Reads the last line of the graph as it was, and then the graph as it is, which has none.
-fn go_on<C: Side, T: Side, B: Room, R: Wait>(
+fn go_on<C: CountedLedger, T: CountedLedger, B: Room, R: Wait>(
     rt: &R,
     alloc: Global,
-    hall: &Hall<C, T, B>,
+    store: &SharedStore<C, T, B>,
     pass: Pass<C, T, B>,
 ) -> bool {
     let mut pass = pass;
-    let is_right = reads(rt, hall, &mut pass, LAST_LINE, true)
-        && pin(rt, alloc, hall, &mut pass)
-        && reads(rt, hall, &mut pass, "", true);
+    let is_right = reads(rt, store, &mut pass, LAST_LINE, true)
+        && pin(rt, alloc, store, &mut pass)
+        && reads(rt, store, &mut pass, "", true);
     drop(pass);
     is_right
 }
@@ -138,38 +139,38 @@ fn go_on<C: Side, T: Side, B: Room, R: Wait>(
 /// third one puts none by the first, and a fourth one goes on with the read. Which of them were answered
 /// as they must be.
 fn write_and_read<
-    C: Side + Send + Sync,
-    T: Side + Send + Sync,
+    C: CountedLedger + Send + Sync,
+    T: CountedLedger + Send + Sync,
     B: Room + Send + Sync,
     R: Threads + Wait + Sync,
 >(
     rt: &R,
     alloc: Global,
-    hall: &Hall<C, T, B>,
+    store: &SharedStore<C, T, B>,
     writer: Pass<C, T, B>,
     reader: Pass<C, T, B>,
 ) -> Option<[bool; 4]> {
     thread::scope(thread::scope_env(), rt, move |scope| -> Option<[bool; 4]> {
         let puts = scope
-            .spawn(move || write(rt, alloc, hall, writer, &["2", "1"], 201))
+            .spawn(move || write(rt, alloc, store, writer, &["2", "1"], 201))
             .ok()?;
         let (writer, made) = puts.join(rt);
-        let begins = scope.spawn(move || begin(rt, alloc, hall, reader)).ok()?;
+        let begins = scope.spawn(move || begin(rt, alloc, store, reader)).ok()?;
         let (reader, begun) = begins.join(rt);
         let empties = scope
-            .spawn(move || write(rt, alloc, hall, writer, &[], 204))
+            .spawn(move || write(rt, alloc, store, writer, &[], 204))
             .ok()?;
         let (writer, emptied) = empties.join(rt);
         drop(writer);
-        let goes_on = scope.spawn(move || go_on(rt, alloc, hall, reader)).ok()?;
+        let goes_on = scope.spawn(move || go_on(rt, alloc, store, reader)).ok()?;
         Some([made, begun, emptied, goes_on.join(rt)])
     })
 }
 
 /// The same of a store.
 fn write_and_read_at<
-    C: Side + Send + Sync,
-    T: Side + Send + Sync,
+    C: CountedLedger + Send + Sync,
+    T: CountedLedger + Send + Sync,
     B: Room + Send + Sync,
     R: Threads + Wait + Sync,
 >(rt: &R, alloc: Global, shared: &mut Shared<C, T, B>) -> Option<[bool; 4]> {
@@ -185,13 +186,13 @@ fn write_and_read_at<
         drop(writer);
         return None;
     };
-    write_and_read(rt, alloc, shared.hall(), writer, reader)
+    write_and_read(rt, alloc, shared.store(), writer, reader)
 }
 
 /// The same of a new store.
 fn run<
-    C: Side + Send + Sync,
-    T: Side + Send + Sync,
+    C: CountedLedger + Send + Sync,
+    T: CountedLedger + Send + Sync,
     B: Room + Send + Sync,
     R: Threads + Wait + Sync,
 >(

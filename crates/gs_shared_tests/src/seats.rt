@@ -6,7 +6,7 @@ ghost use Rattle.gs_pass.specs.Stamps.{keeper as keeper_of};
 
 use gs_event::{Action, Answer, Event, UploadKind};
 use gs_model::Refusal;
-use gs_shared::{Pass, Room, Shared, Side, StampCell, Token, stamp_cell};
+use gs_shared::{CountedLedger, Pass, Room, Shared, StampCell, Token, stamp_cell};
 use gs_term::Target;
 use std::alloc::Global;
 use std::marker::Brand;
@@ -26,7 +26,7 @@ struct Outcome {
 }
 
 /// The pass of a store's last seat acts for the seat of another pass.
-fn act<C: Side, T: Side, B: Room, R: Wait>(
+fn act<C: CountedLedger, T: CountedLedger, B: Room, R: Wait>(
     rt: &R,
     shared: &Shared<C, T, B>,
     own: &mut Pass<C, T, B>,
@@ -45,7 +45,7 @@ fn act<C: Side, T: Side, B: Room, R: Wait>(
 }
 
 /// The last of the next so many passes of a store, where there are so many.
-fn last_of<C: Side, T: Side, B: Room>(
+fn last_of<C: CountedLedger, T: CountedLedger, B: Room>(
     shared: &mut Shared<C, T, B>,
     count: u16,
 ) -> Option<Pass<C, T, B>> {
@@ -57,7 +57,7 @@ fn last_of<C: Side, T: Side, B: Room>(
 
 /// Hands out the passes of 512 seats, and has the last one act for the one before it, once it was seen
 /// that there are no two after 511.
-fn act_at<C: Side, T: Side, B: Room, R: Wait>(
+fn act_at<C: CountedLedger, T: CountedLedger, B: Room, R: Wait>(
     rt: &R,
     shared: &mut Shared<C, T, B>,
 ) -> Option<Outcome> {
@@ -81,7 +81,12 @@ fn act_at<C: Side, T: Side, B: Room, R: Wait>(
 }
 
 /// The same of a new store.
-fn run<C: Side + Send + Sync, T: Side + Send + Sync, B: Room + Send + Sync, R: Wait>(
+fn run<
+    C: CountedLedger + Send + Sync,
+    T: CountedLedger + Send + Sync,
+    B: Room + Send + Sync,
+    R: Wait,
+>(
     rt: &R,
     alloc: Global,
     cell: StampCell,

@@ -5,7 +5,9 @@ ghost use Rattle.gs_core.specs.Settings.{start_at};
 ghost use Rattle.gs_pass.specs.Stamps.{keeper as keeper_of};
 
 use crate::heads::ask;
-use gs_shared::{Ended, Hall, Pass, Record, Room, Shared, Side, StampCell, Token, stamp_cell};
+use gs_shared::{
+    CountedLedger, Ended, Pass, Record, Room, Shared, SharedStore, StampCell, Token, stamp_cell,
+};
 use std::alloc::Global;
 use std::marker::Brand;
 use std::sync::Wait;
@@ -13,7 +15,7 @@ use std::sync::ledger::Blank;
 use std::test::Fail;
 
 /// Both passes, in a list.
-fn both<C: Side, T: Side, B: Room>(
+fn both<C: CountedLedger, T: CountedLedger, B: Room>(
     alloc: Global,
     first: Pass<C, T, B>,
     second: Pass<C, T, B>,
@@ -25,10 +27,10 @@ fn both<C: Side, T: Side, B: Room>(
 }
 
 /// The first pass of a list asks as often as a page has entries, and then the second twice.
-fn ask_both<C: Side, T: Side, B: Room, R: Wait>(
+fn ask_both<C: CountedLedger, T: CountedLedger, B: Room, R: Wait>(
     rt: &R,
     alloc: Global,
-    hall: &Hall<C, T, B>,
+    store: &SharedStore<C, T, B>,
     mut passes: Vec<Pass<C, T, B>>,
 ) -> Option<Vec<Pass<C, T, B>>> {
     let second = passes.pop();
@@ -42,13 +44,18 @@ fn ask_both<C: Side, T: Side, B: Room, R: Wait>(
         drop(first);
         return None;
     };
-    let first = ask(rt, hall, first, 65_536);
-    let second = ask(rt, hall, second, 2);
+    let first = ask(rt, store, first, 65_536);
+    let second = ask(rt, store, second, 2);
     both(alloc, first, second)
 }
 
 /// One pass asks as often as a page has entries, and then another twice.
-fn run<C: Side + Send + Sync, T: Side + Send + Sync, B: Room + Send + Sync, R: Wait>(
+fn run<
+    C: CountedLedger + Send + Sync,
+    T: CountedLedger + Send + Sync,
+    B: Room + Send + Sync,
+    R: Wait,
+>(
     rt: &R,
     alloc: Global,
     cell: StampCell,
@@ -79,7 +86,7 @@ fn run<C: Side + Send + Sync, T: Side + Send + Sync, B: Room + Send + Sync, R: W
         drop(shared);
         return None;
     };
-    let Some(back) = ask_both(rt, alloc, shared.hall(), passes) else {
+    let Some(back) = ask_both(rt, alloc, shared.store(), passes) else {
         drop(shared);
         return None;
     };

@@ -19,7 +19,7 @@ use Rattle.gs_tree.specs.Keys.{AllKeys, insert_key, insert_by, merge_keys}
 use Rattle.gs_tree.specs.Reading.{keys_at}
 use Rattle.gs_tree.specs.Sets.{IsSetAt, UnitesAt}
 use Rattle.gs_keys.specs.Texts.{triple_at, key_cmp, IsGiven}
-use Rattle.gs_keys.specs.Roots.{graph_at, IsGraphAt}
+use Rattle.gs_keys.specs.Roots.{graph_of_root, IsGraphAt}
 use Rattle.gs_keys.proofs.KeyLemmas.{tied_keys, triples_of_keys}
 use Rattle.gs_keys.proofs.RootLemmas.{all_insert, all_merge, all_given_kept, set_kept, set_graph, graph_kept}
 use Rattle.gs_staging.proofs.RunLemmas.{any_map}
@@ -31,11 +31,11 @@ pub staged_graph : (terms : List Term) (p : Nodes) (root : Option ℕ) → IsSta
 staged_graph terms p root h = set_graph terms p root h.set h.given
 
 -- its triples are those of its keys
-pub staged_triples : (terms : List Term) (p : Nodes) (root : Option ℕ) → IsStaged terms p root → triples_of (graph_at terms p root) ≡ map (triple_at terms) (keys_at p root)
+pub staged_triples : (terms : List Term) (p : Nodes) (root : Option ℕ) → IsStaged terms p root → triples_of (graph_of_root terms p root) ≡ map (triple_at terms) (keys_at p root)
 staged_triples terms p root h = triples_of_keys terms (keys_at p root) h.set.rising h.given
 
 -- it has as many as the tree has keys
-pub staged_size : (terms : List Term) (p : Nodes) (root : Option ℕ) → IsStaged terms p root → size_of (graph_at terms p root) ≡ length (keys_at p root)
+pub staged_size : (terms : List Term) (p : Nodes) (root : Option ℕ) → IsStaged terms p root → size_of (graph_of_root terms p root) ≡ length (keys_at p root)
 staged_size terms p root h = ap length (staged_triples terms p root h) ∙ length-map (keys_at p root) (triple_at terms)
 
 -- among more terms it is what it was
@@ -113,13 +113,13 @@ graph_before (x ∷ xs) ys zs e = ap (λ (g : Graph). fin.insert g x tt) (graph_
 pub with_run :
     (d e : Numbered) (p q : Nodes) (root new : Option ℕ) (ts : List RdfTriple) (run : List Key) → Grows d e → IsDistinct e.terms → IsStaged d.terms p root → IsRunOfTriples e.terms ts run
     → IsSetAt (key_cmp e.terms) q new → keys_at q new ≡ merge_keys (key_cmp e.terms) run (keys_at p root)
-    → IsStaged e.terms q new × (graph_at e.terms q new ≡ with_triples (graph_at d.terms p root) ts)
+    → IsStaged e.terms q new × (graph_of_root e.terms q new ≡ with_triples (graph_of_root d.terms p root) ts)
 with_run d e p q root new ts run grows distinct old is set keys_are =
     let still = staged_grown d e p root grows old in
-    let same : graph_at e.terms p root ≡ graph_at d.terms p root = ap (λ terms. graph_at terms p root) grows.terms ∙ (staged_kept d.terms grows.more p root old).same in
+    let same : graph_of_root e.terms p root ≡ graph_of_root d.terms p root = ap (λ terms. graph_of_root terms p root) grows.terms ∙ (staged_kept d.terms grows.more p root old).same in
     let given : AllKeys (IsGiven e.terms) (keys_at q new) =
     subst (AllKeys (IsGiven e.terms)) (sym keys_are) (all_merge (key_cmp e.terms) (IsGiven e.terms) run (keys_at p root) is.given still.given) in
-    let grown : graph_at e.terms q new ≡ with_triples (graph_at e.terms p root) ts =
+    let grown : graph_of_root e.terms q new ≡ with_triples (graph_of_root e.terms p root) ts =
     ap (λ xs. graph_of (map (triple_at e.terms) xs)) keys_are
     ∙ merged_graph e.terms distinct run (keys_at p root) is.given still.given
     ∙ graph_before (map (triple_at e.terms) (keys_at p root)) (map (triple_at e.terms) run) ts is.graph
@@ -132,8 +132,8 @@ pub stages :
     → IsRunOfTriples e.terms ts run → UnitesAt (key_cmp e.terms) 0 birth p q root run m → Stages birth d.terms e.terms p q root ts m
 stages birth d e p q root ts run m grows distinct old is unites =
     let made = with_run d e p q root m.root ts run grows distinct old is unites.set unites.keys_are in
-    let before : size_of (graph_at d.terms p root) ≡ length (keys_at p root) = staged_size d.terms p root old in
-    let after : size_of (graph_at e.terms q m.root) ≡ length (keys_at q m.root) = staged_size e.terms q m.root made.0 in
+    let before : size_of (graph_of_root d.terms p root) ≡ length (keys_at p root) = staged_size d.terms p root old in
+    let after : size_of (graph_of_root e.terms q m.root) ≡ length (keys_at q m.root) = staged_size e.terms q m.root made.0 in
     record {
       run = run;
       run_graph = is.graph;

@@ -20,8 +20,8 @@ pub record SortsWithin (terms : List Term) (old new : List Key) (from end : ℕ)
   pub below : (k : ℕ) (d : Key) → k < from → slice_index_or new k d ≡ slice_index_or old k d
 
 -- the key at `from` does not come before the last of those before `place`
-abbrev pub MayFollow : List Term → List Key → ℕ → ℕ → Type 0
-MayFollow terms ks place from = (d : Key) → 0 < place → is_before terms (slice_index_or ks from d) (slice_index_or ks (place - 1) d) ≡ false
+abbrev pub MayFollowKey : List Term → List Key → ℕ → ℕ → Type 0
+MayFollowKey terms ks place from = (d : Key) → 0 < place → is_before terms (slice_index_or ks from d) (slice_index_or ks (place - 1) d) ≡ false
 
 -- the key at `place` does not come before the last of those before `end`
 abbrev pub MayPrecede : List Term → List Key → ℕ → ℕ → Type 0

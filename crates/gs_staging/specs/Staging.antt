@@ -10,7 +10,7 @@ use Rattle.gs_tree.specs.Keys.{AllKeys}
 use Rattle.gs_tree.specs.Reading.{keys_at}
 use Rattle.gs_tree.specs.Sets.{IsSetAt, UnitesAt}
 use Rattle.gs_keys.specs.Texts.{triple_at, key_cmp, IsGiven}
-use Rattle.gs_keys.specs.Roots.{graph_at}
+use Rattle.gs_keys.specs.Roots.{graph_of_root}
 
 -- a root means a set of keys that can be changed, whose numbers were all given
 pub record IsStaged (terms : List Term) (p : Nodes) (root : Option ℕ) : Type 0 where
@@ -20,7 +20,7 @@ pub record IsStaged (terms : List Term) (p : Nodes) (root : Option ℕ) : Type 0
 -- among more terms a root is still staged, and stands for the same graph
 pub record IsStillStaged (terms more : List Term) (p : Nodes) (root : Option ℕ) : Type 0 where
   pub staged : IsStaged (terms ++ more) p root
-  pub same : graph_at (terms ++ more) p root ≡ graph_at terms p root
+  pub same : graph_of_root (terms ++ more) p root ≡ graph_of_root terms p root
 
 -- The triples went into the tree of a root: their keys are a run that was united with its set, in place, so that as many nodes more are in use as triples were new.
 pub record Stages (birth : ℕ) (terms grown : List Term) (p q : Nodes) (root : Option ℕ) (ts : List RdfTriple) (m : Merged) : Type 0 where
@@ -28,5 +28,5 @@ pub record Stages (birth : ℕ) (terms grown : List Term) (p q : Nodes) (root : 
   pub run_graph : graph_of (map (triple_at grown) run) ≡ graph_of ts
   pub unites : UnitesAt (key_cmp grown) 0 birth p q root run m
   pub staged : IsStaged grown q m.root
-  pub graph : graph_at grown q m.root ≡ with_triples (graph_at terms p root) ts
-  pub added : size_of (graph_at grown q m.root) ≡ size_of (graph_at terms p root) + m.added
+  pub graph : graph_of_root grown q m.root ≡ with_triples (graph_of_root terms p root) ts
+  pub added : size_of (graph_of_root grown q m.root) ≡ size_of (graph_of_root terms p root) + m.added

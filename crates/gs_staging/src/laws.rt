@@ -4,13 +4,13 @@ ghost use Rattle.gs_model.specs.Terms.{Term};
 ghost use Rattle.gs_model.specs.Graphs.{empty_graph, size_of};
 ghost use Rattle.gs_pool.specs.Pool.{Nodes};
 ghost use Rattle.gs_tree.specs.Reading.{keys_at};
-ghost use Rattle.gs_keys.specs.Roots.{graph_at, IsGraphAt};
+ghost use Rattle.gs_keys.specs.Roots.{graph_of_root, IsGraphAt};
 ghost use Rattle.gs_staging.specs.Staging.{IsStaged, IsStillStaged};
 
 /// An upload begins without a root, which stands for the graph without a triple.
 pub fn nothing_is_staged()
     ensures staged { (terms : List Term) (p : Nodes) → IsStaged terms p None }
-    ensures empty { (terms : List Term) (p : Nodes) → graph_at terms p None ≡ empty_graph }
+    ensures empty { (terms : List Term) (p : Nodes) → graph_of_root terms p None ≡ empty_graph }
 {}
 
 /// The tree of an upload stays one where the dictionary has more terms, and stands for the same graph.
@@ -24,5 +24,5 @@ pub fn staged_has_a_key_for_each_triple()
     ensures graph { (terms : List Term) (p : Nodes) (root : Option ℕ)
         → IsStaged terms p root → IsGraphAt terms p root }
     ensures size { (terms : List Term) (p : Nodes) (root : Option ℕ)
-        → IsStaged terms p root → size_of (graph_at terms p root) ≡ length (keys_at p root) }
+        → IsStaged terms p root → size_of (graph_of_root terms p root) ≡ length (keys_at p root) }
 {}

@@ -5,7 +5,7 @@ ghost use Rattle.gs_dict.specs.Numbering.{IsDistinct};
 ghost use Rattle.gs_tree.specs.Keys.{AllKeys};
 ghost use Rattle.gs_keys.specs.Texts.{key_cmp, IsGiven};
 ghost use Rattle.gs_staging.specs.Keys.{is_same as is_same_key, IsRunOf};
-ghost use Rattle.gs_staging.specs.Groups.{is_before as is_before_by, IsInOrder, SortsWithin, MayFollow, MayPrecede};
+ghost use Rattle.gs_staging.specs.Groups.{is_before as is_before_by, IsInOrder, SortsWithin, MayFollowKey, MayPrecede};
 
 use gs_keys::ByText;
 use gs_pool::Key;
@@ -72,7 +72,7 @@ fn is_before(order: &ByText, a: Key, b: Key) -> bool
 fn may_follow(order: &ByText, keys: &[Key], place: usize, from: usize) -> bool
     requires before { place ≤ from }
     requires within { from < length keys.now }
-    ensures { result ≡ true → MayFollow order.now.dict.now.terms keys.now place from }
+    ensures { result ≡ true → MayFollowKey order.now.dict.now.terms keys.now place from }
 {
     if place == 0 {
         return true;

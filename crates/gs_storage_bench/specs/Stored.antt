@@ -10,13 +10,13 @@ use Rattle.gs_tree.specs.Sets.{IsSetAt}
 use Rattle.gs_keys.specs.Texts.{key_cmp, IsGiven}
 
 -- a root means a set in the order of texts, whose numbers were all given
-pub record IsStored (terms : List Term) (p : Nodes) (root : Option ℕ) : Type 0 where
+pub record IsStoredSet (terms : List Term) (p : Nodes) (root : Option ℕ) : Type 0 where
   pub set : IsSetAt (key_cmp terms) p root
   pub given : AllKeys (IsGiven terms) (keys_at p root)
 
 -- a dictionary has more terms at its end
-abbrev pub Grows : Numbered → Numbered → Type 0
-Grows d e = (more : List Term) × (e.terms ≡ d.terms ++ more)
+abbrev pub GrowsByTerms : Numbered → Numbered → Type 0
+GrowsByTerms d e = (more : List Term) × (e.terms ≡ d.terms ++ more)
 
 -- keys may be united with a set
 pub record MayUnite (terms : List Term) (keys : List Key) : Type 0 where

@@ -3,7 +3,7 @@ ghost use Rattle.std.specs.Prelude.{◌≡◌, ◌<◌, true, OnOk};
 ghost use Rattle.std.specs.Bool.{Decides};
 ghost use Rattle.gs_tree.specs.Keys.{IsRising, AllKeys};
 ghost use Rattle.gs_keys.specs.Texts.{key_cmp, IsGiven};
-ghost use Rattle.gs_storage_bench.specs.Stored.{Grows, MayUnite};
+ghost use Rattle.gs_storage_bench.specs.Stored.{GrowsByTerms, MayUnite};
 
 use crate::document::Terms;
 use gs_dict::{Dict, GUESSED_TOGETHER, NO_TERM, TermId};
@@ -36,16 +36,16 @@ impl Model for Graph {
 
     ghost coded = { numbered_code };
 
-    ghost use Rattle.gs_storage_bench.specs.Stored.{IsStored};
+    ghost use Rattle.gs_storage_bench.specs.Stored.{IsStoredSet};
 
     ghost view = { λ g. g.dict };
 
-    ghost invariant = { λ g. IsStored g.dict.terms g.pool g.root };
+    ghost invariant = { λ g. IsStoredSet g.dict.terms g.pool g.root };
 }
 
 /// The numbers of three terms, of which the subject's is tried first, and a guess for the object's.
 fn numbers(dict: &mut Dict, near: TermId, guess: TermId, terms: &Terms) -> Result<Key, Refusal>
-    ensures { Grows dict.old dict.new }
+    ensures { GrowsByTerms dict.old dict.new }
 {
     let subject = dict.intern_near(near, &terms.subject)?;
     let predicate = dict.intern(&terms.predicate)?;

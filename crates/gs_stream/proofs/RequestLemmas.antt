@@ -1,12 +1,12 @@
 -- The requests of a stream, whatever the most of them is.
 use Rattle.std.proofs.Common.{◌≡◌, ℕ, zero, suc, ◌+◌, ◌≤◌, true, false, cond, eqb, leb, List, [], ◌∷◌, length, take, refl, sym, ap, ◌∙◌, arith, length-take, length-drop, length-append, Some, None}
-use Rattle.gs_transfer.specs.States.{State, Left, Over, Step, Gives, Passes, Fails, step, start}
-use Rattle.gs_transfer.specs.Cuts.{Cut, End, goes_on, cut_from, body_at}
+use Rattle.gs_transfer.specs.States.{TransferState, Left, Over, ByteStep, Gives, Passes, Fails, step, start_state}
+use Rattle.gs_transfer.specs.Cuts.{BodyCut, End, goes_on, cut_from, body_at}
 use Rattle.gs_transfer.specs.Cuts as body
 use Rattle.gs_verdict.specs.declared.verdicts.Asked.{Asked}
 use Rattle.gs_verdict.specs.declared.verdicts.Verdict.{Verdict}
 use Rattle.gs_verdict.specs.declared.verdicts.Verdict.TheVariants.{Deny, Ask}
-use Rattle.gs_verdict.specs.Bytes.{verdict_of}
+use Rattle.gs_verdict.specs.Bytes.{head_verdict}
 use Rattle.gs_verdict.specs.Checks.{limit_of}
 use Rattle.gs_stream.specs.Heads.{Parted, through_empty_line, HeadCut, Open, TooLong, Whole, stripped, cut_at, head_at}
 use Rattle.gs_stream.specs.Requests.{Request, Denied, Asks, by_end, by_verdict, by_head, requests_in, requests}
@@ -25,18 +25,18 @@ leaves-more n m body.Open h l = tt
 leaves-more n m (body.Faulty status) h l = tt
 
 -- after one byte
-step-leaves : (n c : ℕ) (f : State → Cut) (s : Step) → ((t : State) → LeavesIn n (f t).end) → LeavesIn n (goes_on f c s).end
+step-leaves : (n c : ℕ) (f : TransferState → BodyCut) (s : ByteStep) → ((t : TransferState) → LeavesIn n (f t).end) → LeavesIn n (goes_on f c s).end
 step-leaves n c f (Gives t) h = h t
 step-leaves n c f (Passes t) h = h t
 step-leaves n c f (Fails status) h = tt
 
 -- from each state on
-rest-leaves : (limit : ℕ) (s : State) (x : List ℕ) → LeavesIn (length x) (cut_from limit s x).end
+rest-leaves : (limit : ℕ) (s : TransferState) (x : List ℕ) → LeavesIn (length x) (cut_from limit s x).end
 rest-leaves limit (Left zero) x = omega arith
 rest-leaves limit Over x = omega arith
 rest-leaves limit s [] = tt
 rest-leaves limit s (c ∷ x) =
-    leaves-more (length x) (length (c ∷ x)) (cut_from limit s (c ∷ x)).end (omega arith) (step-leaves (length x) c (λ (t : State). cut_from limit t x) (step limit s c) (λ (t : State). rest-leaves limit t x))
+    leaves-more (length x) (length (c ∷ x)) (cut_from limit s (c ∷ x)).end (omega arith) (step-leaves (length x) c (λ (t : TransferState). cut_from limit t x) (step limit s c) (λ (t : TransferState). rest-leaves limit t x))
 
 -- Two ways to read on say the same of so many bytes.
 abbrev Agrees : ℕ → (f g : List ℕ → List Request) → Type 0
@@ -54,8 +54,8 @@ unfolding body_at
 same-verdict n f g (Deny d) rest h l = ap (λ (z : List Request). Denied d ∷ cond d.closes [] z) (h rest l)
 same-verdict n f g (Ask a) rest h l =
     let limit = limit_of a.method in
-    let s : State = start a.framing in
-    let d : Cut = cut_from limit s rest in
+    let s : TransferState = start_state a.framing in
+    let d : BodyCut = cut_from limit s rest in
     same-end n f g a d.bytes d.end h (leaves-more (length rest) n d.end l (rest-leaves limit s rest))
 
 -- What stands after a whole head has so many bytes at most.
@@ -67,7 +67,7 @@ HeadLeaves n other = Unit {0}
 same-head : (n : ℕ) (base : List ℕ) (f g : List ℕ → List Request) (h : HeadCut) → Agrees n f g → HeadLeaves n h → by_head base f h ≡ by_head base g h
 same-head n base f g Open a l = refl
 same-head n base f g TooLong a l = refl
-same-head n base f g (Whole head rest) a l = same-verdict n f g (verdict_of base head) rest a l
+same-head n base f g (Whole head rest) a l = same-verdict n f g (head_verdict base head) rest a l
 
 -- what is stripped is no longer than the text
 stripped-length : (x : List ℕ) → length (stripped x) ≤ length x

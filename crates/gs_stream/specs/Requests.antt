@@ -1,12 +1,12 @@
 -- The requests of a stream, by the shortest fronts that settle them (RFC 9112, sections 2 to 7).
 use Rattle.std.specs.Prelude.{ℕ, zero, suc, true, cond, List, [], ◌∷◌, length, None}
-use Rattle.gs_transfer.specs.Cuts.{Cut, End, body_at}
+use Rattle.gs_transfer.specs.Cuts.{BodyCut, End, body_at}
 use Rattle.gs_transfer.specs.Cuts as body
 use Rattle.gs_verdict.specs.declared.verdicts.Denial.{Denial}
 use Rattle.gs_verdict.specs.declared.verdicts.Asked.{Asked}
 use Rattle.gs_verdict.specs.declared.verdicts.Verdict.{Verdict}
 use Rattle.gs_verdict.specs.declared.verdicts.Verdict.TheVariants.{Deny, Ask}
-use Rattle.gs_verdict.specs.Bytes.{verdict_of}
+use Rattle.gs_verdict.specs.Bytes.{head_verdict}
 use Rattle.gs_verdict.specs.Checks.{limit_of}
 use Rattle.gs_stream.specs.Heads.{HeadCut, Open, TooLong, Whole, stripped, head_at}
 
@@ -29,7 +29,7 @@ by_end again a b (body.Faulty status) = Breaks a b status ∷ []
 by_end again a b (body.Whole rest) = Asks a b ∷ again rest
 
 -- from a head's body on
-abbrev pub by_body : (List ℕ → List Request) → Asked → Cut → List Request
+abbrev pub by_body : (List ℕ → List Request) → Asked → BodyCut → List Request
 by_body again a c = by_end again a c.bytes c.end
 
 -- from what a head asks for on
@@ -41,7 +41,7 @@ by_verdict again (Ask a) rest = by_body again a (body_at (limit_of a.method) a.f
 abbrev pub by_head : List ℕ → (List ℕ → List Request) → HeadCut → List Request
 by_head base again Open = []
 by_head base again TooLong = Denied too_long ∷ []
-by_head base again (Whole head rest) = by_verdict again (verdict_of base head) rest
+by_head base again (Whole head rest) = by_verdict again (head_verdict base head) rest
 
 -- the requests of a stream under a base, of which there are at most so many
 unfoldable pub requests_in : ℕ → List ℕ → List ℕ → List Request

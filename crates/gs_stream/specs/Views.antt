@@ -10,12 +10,12 @@ part_size None = None
 part_size (Some p) = Some (length p.0)
 
 -- the cut of a buffer that an end is
-abbrev pub cut_by : List ℕ → HeadEnd → HeadCut
-cut_by x end.Open = Open
-cut_by x end.TooLong = TooLong
-cut_by x (end.After n) = Whole (take n x) (drop n x)
+abbrev pub head_cut_by : List ℕ → HeadEnd → HeadCut
+head_cut_by x end.Open = Open
+head_cut_by x end.TooLong = TooLong
+head_cut_by x (end.After n) = Whole (take n x) (drop n x)
 
 -- the end lies in so many bytes, and not at their front
-abbrev pub IsWithin : ℕ → HeadEnd → Type 0
-IsWithin n (end.After m) = (m ≤ n) × (0 < m)
-IsWithin n other = Unit {0}
+abbrev pub IsWithinBuffer : ℕ → HeadEnd → Type 0
+IsWithinBuffer n (end.After m) = (m ≤ n) × (0 < m)
+IsWithinBuffer n other = Unit {0}

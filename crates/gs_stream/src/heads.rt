@@ -1,10 +1,10 @@
 //! Where a head ends.
-ghost use Rattle.std.specs.Prelude.{◌≡◌, ◌≤◌, ◌==◌, nat_le, length, take, drop};
-ghost use Rattle.std.specs.List.{position};
-ghost use Rattle.gs_model.specs.Ascii.{line_feed};
+ghost use Rattle.std.specs.Prelude.{◌≡◌, ◌≤◌, nat_le, length, take, drop};
 ghost use Rattle.gs_stream.specs.Limits.{max_head_bytes};
 ghost use Rattle.gs_stream.specs.Heads.{stripped, empty_line as empty_line_at, through_empty_line, head_at};
-ghost use Rattle.gs_stream.specs.Views.{part_size, cut_by, IsWithin};
+ghost use Rattle.gs_stream.specs.Views.{part_size, head_cut_by, IsWithinBuffer};
+
+use gs_transfer::first_line_feed;
 
 /// The most bytes of a head, its empty line included.
 const MAX_HEAD_BYTES: usize = 16_384;
@@ -44,19 +44,12 @@ pub fn leading(buffer: &[u8]) -> usize
     count
 }
 
-/// Where the first LF is.
-fn line_end(bytes: &[u8]) -> Option<usize>
-    ensures { result ≡ position (λ c. c == line_feed) bytes.now }
-{
-    bytes.iter().position(|c| *c == b'\n')
-}
-
 /// Where the first empty line of these bytes ends: after an LF, LF or CR LF.
 fn find_empty_line(front: &[u8]) -> Option<usize>
     ensures { result ≡ part_size (through_empty_line front.now) }
 {
     let mut from = 0;
-    while let Some(place) = line_end(&front[from..]) {
+    while let Some(place) = first_line_feed(&front[from..]) {
         let after = from + place + 1;
         if let Some(size) = empty_line(&front[after..]) {
             return Some(after + size);
@@ -83,8 +76,8 @@ fn is_full(buffer: &[u8]) -> bool
 /// The end of the head at the front of a buffer, before which nothing is to be dropped. Linear in the
 /// bytes of the head.
 pub fn find_head(buffer: &[u8]) -> HeadEnd
-    ensures cut { cut_by buffer.now result ≡ head_at buffer.now }
-    ensures within { IsWithin (length buffer.now) result }
+    ensures cut { head_cut_by buffer.now result ≡ head_at buffer.now }
+    ensures within { IsWithinBuffer (length buffer.now) result }
 {
     match find_empty_line(front(buffer)) {
         Some(end) => HeadEnd::After(end),

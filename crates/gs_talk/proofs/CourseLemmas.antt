@@ -19,8 +19,8 @@ use Rattle.gs_reply.specs.Replies.{lines_head}
 use Rattle.gs_verdict.specs.declared.verdicts.Asked.{Asked}
 use Rattle.gs_talk.specs.Plans.{Plan, Uploads, Patches, Deletes, Looks, Reads, plan_of}
 use Rattle.gs_talk.specs.Courses.{Lack, Move, Did, Short, Course, Fresh, Early, Writing, Patching, Lacking, Late, Dropped, Wrote, Patched, Erased, Looked, Missing, Held, Cutting, Cut, Left, Wrong}
-use Rattle.gs_talk.specs.Moves.{first, writing, patching, held, ready, after, course, at_open, at_open_patch, at_delete, at_head, at_pin, at_stage, at_commit, at_commit_patch, at_piece, at_cancel}
-use Rattle.gs_talk.specs.Seats.{Deeds, SeatPhase, Point, numbered, phase_then, phase_in, asked_in}
+use Rattle.gs_talk.specs.Moves.{first, writing, patching, held, ready, course_after, course, at_open, at_open_patch, at_delete, at_head, at_pin, at_stage, course_at_commit, at_commit_patch, at_piece, at_cancel}
+use Rattle.gs_talk.specs.Seats.{Deeds, SeatPhase, Point, point_numbered, phase_then, phase_in, asked_in}
 use Rattle.gs_talk.specs.Logs.{AllSuit, deed_of, deeds_of, IsRight}
 use Rattle.gs_talk.specs.Following.{phase_at, operations_at, writing_phase, read_by}
 
@@ -111,7 +111,7 @@ stage_follows (Uploads k) r g v (t ∷ ts) other e h = record { seat = refl; ask
 stage_follows p r g v (t ∷ ts) (Refused why.NoMemory) e h = record { seat = refl; asked = refl }
 stage_follows p r g v (t ∷ ts) other e h = record { seat = refl; asked = refl }
 
-commit_follows : (p : Plan) (r : ℕ) (g : List RdfTriple) (answer : Answer) → Follows p (Writing r g) (at_commit r g answer) (Did Commit answer)
+commit_follows : (p : Plan) (r : ℕ) (g : List RdfTriple) (answer : Answer) → Follows p (Writing r g) (course_at_commit r g answer) (Did Commit answer)
 commit_follows (Uploads k) r g (Status s name) = record { seat = refl; asked = refl }
 commit_follows (Uploads k) r g (Refused why.NoMemory) = record { seat = refl; asked = refl }
 commit_follows (Uploads k) r g (Refused why.LastNumber) = record { seat = refl; asked = refl }
@@ -210,7 +210,7 @@ ready_follows p c (Did action answer) h = absurd h
 
 -- any move
 
-pub after_follows : (a : Asked) (piece : ℕ) (c : Course) (m : Move) → AllSuit piece (plan_of a) (m ∷ []) → IsRight (after a c m) → Follows (plan_of a) c (after a c m) m
+pub after_follows : (a : Asked) (piece : ℕ) (c : Course) (m : Move) → AllSuit piece (plan_of a) (m ∷ []) → IsRight (course_after a c m) → Follows (plan_of a) c (course_after a c m) m
 after_follows a piece Fresh m s h = first_follows a piece (plan_of a) m s h
 after_follows a piece (Writing r g) m s h = writing_follows (plan_of a) r g m h
 after_follows a piece (Patching r) m s h = patching_follows (plan_of a) r m h
@@ -250,8 +250,8 @@ cons-append (Some q) xs ys = refl
 pub operations-append : (s : SeatPhase) (d f : Deeds) → asked_in s (d ++ f) ≡ asked_in s d ++ asked_in (phase_in s d) f
 operations-append s [] f = refl
 operations-append s (d ∷ ds) f =
-    ap (λ z. cons_option (numbered s (operation_of s d.0 d.1)) z) (operations-append (phase_then s d) ds f)
-    ∙ cons-append (numbered s (operation_of s d.0 d.1)) (asked_in (phase_then s d) ds) (asked_in (phase_in (phase_then s d) ds) f)
+    ap (λ z. cons_option (point_numbered s (operation_of s d.0 d.1)) z) (operations-append (phase_then s d) ds f)
+    ∙ cons-append (point_numbered s (operation_of s d.0 d.1)) (asked_in (phase_then s d) ds) (asked_in (phase_in (phase_then s d) ds) f)
 
 suits_first : (piece : ℕ) (p : Plan) (m : Move) (ms : List Move) → AllSuit piece p (m ∷ ms) → AllSuit piece p (m ∷ []) × AllSuit piece p ms
 suits_first piece p (Did action answer) ms s = ((s.0, tt), s.1)
@@ -264,10 +264,10 @@ pub course_follows : (a : Asked) (piece : ℕ) (c : Course) (ms : List Move) →
 course_follows a piece c [] s h = (refl, append-nil (operations_at (plan_of a) c))
 course_follows a piece c (m ∷ ms) s h =
     let p : Plan = plan_of a in
-    let k : Follows p c (after a c m) m = after_follows a piece c m (suits_first piece p m ms s).0 (right_before a (after a c m) ms h) in
-    let i = course_follows a piece (after a c m) ms (suits_first piece p m ms s).1 h in (
+    let k : Follows p c (course_after a c m) m = after_follows a piece c m (suits_first piece p m ms s).0 (right_before a (course_after a c m) ms h) in
+    let i = course_follows a piece (course_after a c m) ms (suits_first piece p m ms s).1 h in (
       phase-append (phase_at p c) (deed_of m) (deeds_of ms) ∙ ap (λ z. phase_in z (deeds_of ms)) k.seat ∙ i.0,
       ap (λ z. operations_at p c ++ z) (operations-append (phase_at p c) (deed_of m) (deeds_of ms) ∙ ap (λ z. asked_in (phase_at p c) (deed_of m) ++ asked_in z (deeds_of ms)) k.seat)
-          ∙ sym (append_assoc (operations_at p c) (asked_in (phase_at p c) (deed_of m)) (asked_in (phase_at p (after a c m)) (deeds_of ms)))
-          ∙ ap (λ z. z ++ asked_in (phase_at p (after a c m)) (deeds_of ms)) k.asked ∙ i.1,
+          ∙ sym (append_assoc (operations_at p c) (asked_in (phase_at p c) (deed_of m)) (asked_in (phase_at p (course_after a c m)) (deeds_of ms)))
+          ∙ ap (λ z. z ++ asked_in (phase_at p (course_after a c m)) (deeds_of ms)) k.asked ∙ i.1,
     )

@@ -16,7 +16,7 @@ use Rattle.gs_door.specs.Kinds.{IsOfKind}
 use Rattle.gs_verdict.specs.declared.verdicts.Asked.{Asked}
 use Rattle.gs_talk.specs.Plans.{Plan, Uploads, Patches, Deletes, Looks, Reads, plan_of}
 use Rattle.gs_talk.specs.Courses.{Move, Did, Short, Course, Fresh, Early, Writing, Patching, Lacking, Late, Dropped, Wrote, Patched, Erased, Looked, Missing, Held, Cutting, Cut, Left, Mute, Misanswered}
-use Rattle.gs_talk.specs.Moves.{first, writing, patching, held, ready, after, course, at_open, at_open_patch, at_delete, at_head, at_pin, at_stage, at_commit, at_commit_patch, at_piece, at_cancel}
+use Rattle.gs_talk.specs.Moves.{first, writing, patching, held, ready, course_after, course, at_open, at_open_patch, at_delete, at_head, at_pin, at_stage, course_at_commit, at_commit_patch, at_piece, at_cancel}
 use Rattle.gs_talk.specs.Seats.{Deeds}
 use Rattle.gs_talk.specs.Logs.{deed_of, deeds_of}
 use Rattle.gs_talk.specs.Laws.{is_misfit, HasMisfit, AreOfKind}
@@ -100,7 +100,7 @@ stage_misfit v (phase.Writing j i h) r g (u ∷ us) ts answer f b = absurd f
 stage_misfit v (phase.Patching t i) r g (u ∷ us) ts answer f b = absurd f
 stage_misfit v (phase.Reading l) r g (u ∷ us) ts answer f b = absurd f
 
-commit_misfit : (v : Totals) (p : SeatView) (r : ℕ) (g : List RdfTriple) (answer : Answer) → FitsSeat v p Commit answer → IsBroken (at_commit r g answer) → is_misfit answer ≡ true
+commit_misfit : (v : Totals) (p : SeatView) (r : ℕ) (g : List RdfTriple) (answer : Answer) → FitsSeat v p Commit answer → IsBroken (course_at_commit r g answer) → is_misfit answer ≡ true
 commit_misfit v p r g (Status s name) f b = absurd b
 commit_misfit v p r g (Refused why.NoMemory) f b = absurd b
 commit_misfit v p r g (Refused why.LastNumber) f b = absurd b
@@ -177,7 +177,7 @@ ready_misfit : (c : Course) (m : Move) → IsBroken (ready c m) → IsBroken c
 ready_misfit c Short b = b
 ready_misfit c (Did action answer) b = absurd b
 
-after_misfit : (a : Asked) (s : ℕ) (c : Course) (m : Move) → AreOfKind s (deed_of m) → IsBroken (after a c m) → IsBroken c ⊎ HasMisfit (deed_of m)
+after_misfit : (a : Asked) (s : ℕ) (c : Course) (m : Move) → AreOfKind s (deed_of m) → IsBroken (course_after a c m) → IsBroken c ⊎ HasMisfit (deed_of m)
 after_misfit a s Fresh m o b = inr (first_misfit a s (plan_of a) m o b)
 after_misfit a s (Writing r g) m o b = inr (writing_misfit s r g m o b)
 after_misfit a s (Patching r) m o b = inr (patching_misfit s r m o b)
@@ -214,11 +214,11 @@ kinds-rest s (d ∷ ds) f k = kinds-rest s ds f k.1
 -- A course breaks only by such an answer.
 pub course_misfit : (a : Asked) (s : ℕ) (c : Course) (ms : List Move) → AreOfKind s (deeds_of ms) → IsBroken (course a c ms) → IsBroken c ⊎ HasMisfit (deeds_of ms)
 course_misfit a s c [] o b = inl b
-course_misfit a s c (m ∷ ms) o b = go (course_misfit a s (after a c m) ms (kinds-rest s (deed_of m) (deeds_of ms) o) b) where
+course_misfit a s c (m ∷ ms) o b = go (course_misfit a s (course_after a c m) ms (kinds-rest s (deed_of m) (deeds_of ms) o) b) where
   here : IsBroken c ⊎ HasMisfit (deed_of m) → IsBroken c ⊎ HasMisfit (deed_of m ++ deeds_of ms)
   here (inl p) = inl p
   here (inr p) = inr (misfit-append (deed_of m) (deeds_of ms) (inl p))
 
-  go : IsBroken (after a c m) ⊎ HasMisfit (deeds_of ms) → IsBroken c ⊎ HasMisfit (deed_of m ++ deeds_of ms)
+  go : IsBroken (course_after a c m) ⊎ HasMisfit (deeds_of ms) → IsBroken c ⊎ HasMisfit (deed_of m ++ deeds_of ms)
   go (inl p) = here (after_misfit a s c m (kinds-front s (deed_of m) (deeds_of ms) o) p)
   go (inr p) = inr (misfit-append (deed_of m) (deeds_of ms) (inr p))

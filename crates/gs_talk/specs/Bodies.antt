@@ -4,7 +4,7 @@ use Rattle.gs_model.specs.Triples.{RdfTriple}
 use Rattle.gs_event.specs.declared.updates.Op.{Op}
 use Rattle.gs_term.specs.declared.names.Target.{Target}
 use Rattle.gs_term.specs.declared.names.Target.TheVariants.{Named}
-use Rattle.gs_body.specs.Bodies.{Meaning, Ending, Whole, Faulty, triples_of}
+use Rattle.gs_body.specs.Bodies.{Meaning, Ending, Whole, Faulty, all_stated}
 use Rattle.gs_names.specs.declared.media.Media.{Media}
 use Rattle.gs_names.specs.declared.media.Media.TheVariants as media
 use Rattle.gs_upload.specs.declared.languages.Language.{Language}
@@ -22,9 +22,9 @@ text_base base (Some (Named name)) = name
 text_base base other = base ++ codes "/store"
 
 -- the language of a document's type
-abbrev pub language_of : Media → Language
-language_of media.Turtle = language.Turtle
-language_of other = language.NTriples
+abbrev pub document_language : Media → Language
+document_language media.Turtle = language.Turtle
+document_language other = language.NTriples
 
 -- the status of a document that has a fault
 abbrev pub fault_status : Ending → Option ℕ
@@ -39,17 +39,17 @@ rejection_status (Some (Broken f)) = Some 400
 
 -- the statuses of a body that is no document, or no update that is served
 abbrev pub refusal_at : List ℕ → Asked → Plan → ℕ → List ℕ → Option ℕ
-refusal_at base a (Uploads k) r body = fault_status (meaning_in (language_of a.body) (text_base base a.graph) r body).1
+refusal_at base a (Uploads k) r body = fault_status (meaning_in (document_language a.body) (text_base base a.graph) r body).1
 refusal_at base a (Patches t) r body = rejection_status (request_by (text_base base a.graph) r body).1
 refusal_at base a p r body = None
 
 -- a meaning without a fault, of just these triples in their order
 abbrev pub HasTriples : Meaning → List RdfTriple → Type 0
-HasTriples m ts = (m.1 ≡ Whole) × (ts ≡ triples_of m.0)
+HasTriples m ts = (m.1 ≡ Whole) × (ts ≡ all_stated m.0)
 
 -- a document has no fault, and states just these triples
 abbrev pub States : List ℕ → Asked → ℕ → List ℕ → List RdfTriple → Type 0
-States base a r body ts = HasTriples (meaning_in (language_of a.body) (text_base base a.graph) r body) ts
+States base a r body ts = HasTriples (meaning_in (document_language a.body) (text_base base a.graph) r body) ts
 
 -- an update has no fault, and is these operations in their order
 abbrev pub Orders : List ℕ → Asked → ℕ → List ℕ → List Op → Type 0

@@ -67,14 +67,14 @@ AnswersDenied d (Short ∷ []) t = (t ≡ plain 503 true) ⊎ (t ≡ stopped)
 AnswersDenied d ms t = ⊥
 
 -- one, where it is a Stage
-abbrev pub stage_of : Move → ℕ
-stage_of (Did (action.Stage ts) answer) = 1
-stage_of m = 0
+abbrev pub stage_count : Move → ℕ
+stage_count (Did (action.Stage ts) answer) = 1
+stage_count m = 0
 
 -- how many of these moves are
 abbrev pub stages_in : List Move → ℕ
 stages_in [] = 0
-stages_in (m ∷ ms) = stage_of m + stages_in ms
+stages_in (m ∷ ms) = stage_count m + stages_in ms
 
 -- What was done for a request may be done for it: the actions are its plan's; what took effect is what it asks; and there is
 -- at most one Stage more than its body has bytes so far.

@@ -49,11 +49,11 @@ at_stage r g (t ∷ ts) (Refused NoMemory) = Lacking (Writing r g) Memory
 at_stage r g (t ∷ ts) other = Misanswered (Writing r g)
 
 -- after a Commit
-abbrev pub at_commit : ℕ → List RdfTriple → Answer → Course
-at_commit r g (Status s name) = Wrote r g s name
-at_commit r g (Refused NoMemory) = Lacking (Writing r g) Memory
-at_commit r g (Refused LastNumber) = Lacking (Writing r g) Numbers
-at_commit r g other = Misanswered (Writing r g)
+abbrev pub course_at_commit : ℕ → List RdfTriple → Answer → Course
+course_at_commit r g (Status s name) = Wrote r g s name
+course_at_commit r g (Refused NoMemory) = Lacking (Writing r g) Memory
+course_at_commit r g (Refused LastNumber) = Lacking (Writing r g) Numbers
+course_at_commit r g other = Misanswered (Writing r g)
 
 -- after the commit of a patch
 abbrev pub at_commit_patch : ℕ → List Op → Answer → Course
@@ -90,7 +90,7 @@ first a p other = Wrong
 -- in an upload
 abbrev pub writing : ℕ → List RdfTriple → Move → Course
 writing r g (Did (Stage ts) answer) = at_stage r g ts.items answer
-writing r g (Did Commit answer) = at_commit r g answer
+writing r g (Did Commit answer) = course_at_commit r g answer
 writing r g (Did Cancel answer) = at_cancel (Writing r g) (Dropped r) answer
 writing r g Short = Lacking (Writing r g) Memory
 writing r g other = Wrong
@@ -121,28 +121,28 @@ ready c Short = Mute c
 ready c other = Wrong
 
 -- after one move more
-abbrev pub after : Asked → Course → Move → Course
-after a Fresh m = first a (plan_of a) m
-after a (Writing r g) m = writing r g m
-after a (Patching r) m = patching r m
-after a (Lacking c l) m = cancelling (Lacking c l) (Late l) m
-after a (Held out due end) m = held out due end m
-after a (Cutting out) m = cancelling (Cutting out) (Cut out) m
-after a (Early l) m = ready (Early l) m
-after a (Late l) m = ready (Late l) m
-after a (Dropped r) m = ready (Dropped r) m
-after a (Wrote r g s n) m = ready (Wrote r g s n) m
-after a (Patched r ops s) m = ready (Patched r ops s) m
-after a (Erased s) m = ready (Erased s) m
-after a (Looked s) m = ready (Looked s) m
-after a (Missing s) m = ready (Missing s) m
-after a (Cut out) m = Wrong
-after a (Left out) m = Wrong
-after a (Mute c) m = Wrong
-after a (Misanswered c) m = Wrong
-after a Wrong m = Wrong
+abbrev pub course_after : Asked → Course → Move → Course
+course_after a Fresh m = first a (plan_of a) m
+course_after a (Writing r g) m = writing r g m
+course_after a (Patching r) m = patching r m
+course_after a (Lacking c l) m = cancelling (Lacking c l) (Late l) m
+course_after a (Held out due end) m = held out due end m
+course_after a (Cutting out) m = cancelling (Cutting out) (Cut out) m
+course_after a (Early l) m = ready (Early l) m
+course_after a (Late l) m = ready (Late l) m
+course_after a (Dropped r) m = ready (Dropped r) m
+course_after a (Wrote r g s n) m = ready (Wrote r g s n) m
+course_after a (Patched r ops s) m = ready (Patched r ops s) m
+course_after a (Erased s) m = ready (Erased s) m
+course_after a (Looked s) m = ready (Looked s) m
+course_after a (Missing s) m = ready (Missing s) m
+course_after a (Cut out) m = Wrong
+course_after a (Left out) m = Wrong
+course_after a (Mute c) m = Wrong
+course_after a (Misanswered c) m = Wrong
+course_after a Wrong m = Wrong
 
 -- after these moves
 abbrev pub course : Asked → Course → List Move → Course
 course a c [] = c
-course a c (m ∷ ms) = course a (after a c m) ms
+course a c (m ∷ ms) = course a (course_after a c m) ms

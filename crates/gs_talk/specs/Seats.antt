@@ -28,17 +28,17 @@ abbrev pub Point : Type 0
 Point = ℕ × Operation
 
 -- the number of the request that opened what the seat is doing
-abbrev pub number_of : SeatPhase → ℕ
-number_of (Writing k r g) = r
-number_of (Patching t r) = r
-number_of p = 0
+abbrev pub opened_number : SeatPhase → ℕ
+opened_number (Writing k r g) = r
+opened_number (Patching t r) = r
+opened_number p = 0
 
 -- an operation with that number
-abbrev pub numbered : SeatPhase → Option Operation → Option Point
-numbered p None = None
-numbered p (Some q) = Some (number_of p, q)
+abbrev pub point_numbered : SeatPhase → Option Operation → Option Point
+point_numbered p None = None
+point_numbered p (Some q) = Some (opened_number p, q)
 
 -- what the abstract store is asked by these, in order
 abbrev pub asked_in : SeatPhase → Deeds → List Point
 asked_in p [] = []
-asked_in p (d ∷ ds) = cons_option (numbered p (operation_of p d.0 d.1)) (asked_in (phase_then p d) ds)
+asked_in p (d ∷ ds) = cons_option (point_numbered p (operation_of p d.0 d.1)) (asked_in (phase_then p d) ds)

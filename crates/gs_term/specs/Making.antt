@@ -44,8 +44,8 @@ abbrev pub literal_len : List ℕ → ℕ → ℕ
 literal_len lexical after = length lexical + count_by is_escaped lexical + after + 2
 
 -- so many of its bytes are escaped, and its text is not too long
-abbrev pub Fits : List ℕ → ℕ → ℕ → Type 0
-Fits lexical after n = (n ≡ count_by is_escaped lexical) × (length lexical + n + after + 2 ≤ max_term_bytes)
+abbrev pub FitsWithEscapes : List ℕ → ℕ → ℕ → Type 0
+FitsWithEscapes lexical after n = (n ≡ count_by is_escaped lexical) × (length lexical + n + after + 2 ≤ max_term_bytes)
 
 -- The name of a text, where it is an absolute IRI and not too long. A wrong form counts before a great length.
 abbrev pub Names : List ℕ → Result (List ℕ) Refusal → Type 0

@@ -3,7 +3,7 @@ ghost use Rattle.std.specs.Prelude.{◌≡◌, ◌+◌, ◌≤◌, ◌<◌, ◌+
 ghost use Rattle.std.specs.Str.{str_to_ascii_lowercase as lower_case};
 ghost use Rattle.gs_model.specs.Terms.{Typed, Tagged, escaped, is_escaped, escape_of, suffix, is_tag as is_tag_of};
 ghost use Rattle.gs_model.specs.Limits.{max_term_bytes};
-ghost use Rattle.gs_term.specs.Making.{Fits, literal_len};
+ghost use Rattle.gs_term.specs.Making.{FitsWithEscapes, literal_len};
 
 use gs_model::MAX_TERM_BYTES;
 use std::alloc::{AllocError, Global};
@@ -55,7 +55,7 @@ fn push_escaped(bytes: &mut Vec<u8>, lexical: &[u8], count: usize) -> Result<(),
 
 /// How many bytes are escaped, if a literal with so many bytes after its closing quote is not too long.
 pub fn fitting_count(lexical: &str, after: usize) -> Option<usize>
-    ensures fits { IfSome result (λ n. Fits lexical.now after n) }
+    ensures fits { IfSome result (λ n. FitsWithEscapes lexical.now after n) }
     ensures long { IfNone result (max_term_bytes < literal_len lexical.now after) }
 {
     if lexical.len() > MAX_TERM_BYTES || after > MAX_TERM_BYTES {

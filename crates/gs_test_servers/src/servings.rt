@@ -3,7 +3,7 @@ ghost use Rattle.std.specs.Prelude.{◌≤◌};
 
 use crate::clients::connected;
 use gs_gates_tests::Job;
-use gs_servers::{Gate, Plan, serve_within};
+use gs_servers::{Gate, ServicePlan, serve_within};
 use std::alloc::Global;
 use std::io;
 use std::net::{Net, SocketAddr, TcpListener, TcpStream};
@@ -51,7 +51,7 @@ fn serves<G: Gate + Sync, R: Threads + Wait + Clock + RandomSource + Sync>(
     setup: Setup,
     gate: &G,
 ) -> bool {
-    let plan = Plan {
+    let plan = ServicePlan {
         alloc,
         base: "http://localhost",
         piece: 2,

@@ -7,7 +7,7 @@ use Rattle.gs_model.specs.declared.refusals.Refusal.{Refusal}
 use Rattle.gs_model.specs.declared.refusals.Refusal.TheVariants.{NoMemory, Syntax}
 use Rattle.gs_model.specs.Iris.{is_absolute}
 use Rattle.gs_model.specs.Terms.{Literal, Typed, xsd_string}
-use Rattle.gs_iri.specs.Resolving.{is_resolvable, resolved, Reports}
+use Rattle.gs_iri.specs.Resolving.{is_resolvable, resolved, ReportsReference}
 use Rattle.gs_iri.proofs.SchemeLemmas.{resolved_absolute}
 use Rattle.gs_escape.specs.Tokens.{iri_of, string_of}
 use Rattle.gs_escape.proofs.CharacterLemmas.{iri_of-characters}
@@ -20,7 +20,7 @@ pub absolute_still : (base x r : List ℕ) → is_absolute base ≡ true → iri
 absolute_still base x r h e = resolved_absolute base r h (iri_of-characters x r e)
 
 -- a refusal for no want of memory is that of a reference that cannot be resolved
-pub unresolvable : (base r : List ℕ) (o : Result (Unit {0}) Refusal) (e : Refusal) → o ≡ Err e → (o ≡ Err NoMemory → ⊥) → Reports base r o → is_resolvable base r ≡ false
+pub unresolvable : (base r : List ℕ) (o : Result (Unit {0}) Refusal) (e : Refusal) → o ≡ Err e → (o ≡ Err NoMemory → ⊥) → ReportsReference base r o → is_resolvable base r ≡ false
 unresolvable base r (Ok u) e h n p = absurd (cc)
 unresolvable base r (Err NoMemory) e h n p = absurd (n refl)
 unresolvable base r (Err (Syntax at)) e h n p = p.0

@@ -12,7 +12,7 @@ use Rattle.gs_escape.specs.declared.forms.Form.{Form}
 use Rattle.gs_escape.specs.declared.forms.Form.TheVariants as form
 use Rattle.gs_escape.specs.Escapes.{escape}
 use Rattle.gs_escape.specs.Meanings.{stands, stands_short, stands_long, stands_local, begins_with_other, has_few_quotes, meant_after, unescaped, meaning}
-use Rattle.gs_escape.specs.Tokens.{between, before_back, with_form, three, one, quoted, string_of, iri_of, local_of}
+use Rattle.gs_escape.specs.Tokens.{between, before_back, with_form, three, quote_once, quoted, string_of, iri_of, local_of}
 use Rattle.gs_token_terms.specs.Plain.{are_bare, is_plain, is_plain_in, is_quote, StandsIn, IsPlainString, IsPlainReference}
 
 -- a text of bytes that stand, whatever follows them
@@ -107,7 +107,7 @@ not_three q two other (c ∷ cs) e = other c (take 1 (cs ++ q ∷ [])) (no_quote
 first_of : Option (Form × List ℕ) → Option (Form × List ℕ) → Option (Form × List ℕ) → Option (Form × List ℕ) → Option (List ℕ)
 first_of a b c d = option_and_then (λ p. meaning p.0 p.1) (option_or a (option_or b (option_or c d)))
 
-string_by : (x : List ℕ) (a b c d : Option (List ℕ)) → between (three 34) (three 34) x ≡ a → between (three 39) (three 39) x ≡ b → between (one 34) (one 34) x ≡ c → between (one 39) (one 39) x ≡ d
+string_by : (x : List ℕ) (a b c d : Option (List ℕ)) → between (three 34) (three 34) x ≡ a → between (three 39) (three 39) x ≡ b → between (quote_once 34) (quote_once 34) x ≡ c → between (quote_once 39) (quote_once 39) x ≡ d
     → string_of x ≡ first_of (with_form form.StringLiteralLongQuote a) (with_form form.StringLiteralLongSingleQuote b) (with_form form.StringLiteralQuote c) (with_form form.StringLiteralSingleQuote d)
 unfolding string_of quoted first_of
 string_by x a b c d e f g h = cc
@@ -118,8 +118,8 @@ unfolding first_of
 short_quotes x y s e u =
     let none : bytes_eq (take 3 x) (three 34) ≡ false = ap (λ z. bytes_eq (take 3 z) (three 34)) s ∙ not_three 34 refl (λ c z h. ap (λ b. b && bytes_eq z (34 ∷ [])) h) y e in
     let single : bytes_eq (take 3 x) (three 39) ≡ false = ap (λ z. bytes_eq (take 3 z) (three 39)) s in
-    string_by x None None (Some y) (between (one 39) (one 39) x) (not_between (three 34) (three 34) x none) (not_between (three 39) (three 39) x single)
-    (ap (between (one 34) (one 34)) s ∙ between_marks (one 34) (one 34) y refl refl) refl
+    string_by x None None (Some y) (between (quote_once 39) (quote_once 39) x) (not_between (three 34) (three 34) x none) (not_between (three 39) (three 39) x single)
+    (ap (between (quote_once 34) (quote_once 34)) s ∙ between_marks (quote_once 34) (quote_once 34) y refl refl) refl
     ∙ itself form.StringLiteralQuote (is_plain_in 34) (λ c cs h. plain_short 34 c h) y e u
 
 -- between apostrophes
@@ -128,9 +128,9 @@ unfolding first_of
 short_apostrophes x y s e u =
     let none : bytes_eq (take 3 x) (three 39) ≡ false = ap (λ z. bytes_eq (take 3 z) (three 39)) s ∙ not_three 39 refl (λ c z h. ap (λ b. b && bytes_eq z (39 ∷ [])) h) y e in
     let double : bytes_eq (take 3 x) (three 34) ≡ false = ap (λ z. bytes_eq (take 3 z) (three 34)) s in
-    let mark : bytes_eq (take 1 x) (one 34) ≡ false = ap (λ z. bytes_eq (take 1 z) (one 34)) s in
-    string_by x None None None (Some y) (not_between (three 34) (three 34) x double) (not_between (three 39) (three 39) x none) (not_between (one 34) (one 34) x mark)
-    (ap (between (one 39) (one 39)) s ∙ between_marks (one 39) (one 39) y refl refl)
+    let mark : bytes_eq (take 1 x) (quote_once 34) ≡ false = ap (λ z. bytes_eq (take 1 z) (quote_once 34)) s in
+    string_by x None None None (Some y) (not_between (three 34) (three 34) x double) (not_between (three 39) (three 39) x none) (not_between (quote_once 34) (quote_once 34) x mark)
+    (ap (between (quote_once 39) (quote_once 39)) s ∙ between_marks (quote_once 39) (quote_once 39) y refl refl)
     ∙ itself form.StringLiteralSingleQuote (is_plain_in 39) (λ c cs h. plain_short 39 c h) y e u
 
 -- three times the same mark
@@ -144,7 +144,7 @@ thrice q x y z w a b c =
 long_quotes : (x w : List ℕ) → x ≡ three 34 ++ (w ++ three 34) → string_of x ≡ meaning form.StringLiteralLongQuote w
 unfolding first_of
 long_quotes x w s =
-    string_by x (Some w) (between (three 39) (three 39) x) (between (one 34) (one 34) x) (between (one 39) (one 39) x)
+    string_by x (Some w) (between (three 39) (three 39) x) (between (quote_once 34) (quote_once 34) x) (between (quote_once 39) (quote_once 39) x)
     (ap (between (three 34) (three 34)) s ∙ between_marks (three 34) (three 34) w refl refl) refl refl refl
 
 -- between three apostrophes
@@ -152,7 +152,7 @@ long_apostrophes : (x w : List ℕ) → x ≡ three 39 ++ (w ++ three 39) → st
 unfolding first_of
 long_apostrophes x w s =
     let double : bytes_eq (take 3 x) (three 34) ≡ false = ap (λ z. bytes_eq (take 3 z) (three 34)) s in
-    string_by x None (Some w) (between (one 34) (one 34) x) (between (one 39) (one 39) x) (not_between (three 34) (three 34) x double)
+    string_by x None (Some w) (between (quote_once 34) (quote_once 34) x) (between (quote_once 39) (quote_once 39) x) (not_between (three 34) (three 34) x double)
     (ap (between (three 39) (three 39)) s ∙ between_marks (three 39) (three 39) w refl refl) refl refl
 
 -- a text with no backslash and no two quotes one after another

@@ -12,7 +12,7 @@ use Rattle.std.specs.String.{string_cmp}
 use Rattle.std.specs.Str.{bytes_eq}
 use Rattle.std.proofs.lemmas.Map.Text.{btree_map_updates_text, is_eq-slice_cmp}
 use Rattle.gs_blank.proofs.NumbersLemmas.{turned}
-use Rattle.gs_token_terms.specs.Prefixes.{as_texts, texts_of}
+use Rattle.gs_token_terms.specs.Prefixes.{as_texts, prefix_texts}
 use Rattle.gs_token_terms.specs.declared.prefixes.Absolute.{Absolute}
 
 -- the bytes of an IRI
@@ -28,15 +28,15 @@ module _ {Y : Type 0} where
   find-texts q [] = refl
   find-texts q (e ∷ es) = ap (λ r. cond (is_eq (slice_cmp nat_cmp q (string_bytes e.0))) (Some (iri_bytes e.1)) r) (find-texts q es) ∙ sym (bytes_if _ e.1 _)
 
-  pub get-texts : (m : BTreeMap (String Y) Absolute) (q : List ℕ) → finite.get (texts_of m) q ≡ option_map (λ v. string_bytes v.text) (tree.get_by_text m q)
+  pub get-texts : (m : BTreeMap (String Y) Absolute) (q : List ℕ) → finite.get (prefix_texts m) q ≡ option_map (λ v. string_bytes v.text) (tree.get_by_text m q)
   get-texts m q = get-from_entries nat_list_cmp_total (map as_texts m.entries) q ∙ find-texts q m.entries
 
   -- an insertion
   pub texts-insert : (m n : BTreeMap (String Y) Absolute) (key : List ℕ) (v : Absolute) → tree.UpdatesBy string_cmp (λ s. slice_cmp nat_cmp key (string_bytes s)) m n (Some v)
-      → texts_of n ≡ finite.insert (texts_of m) key (string_bytes v.text)
-  texts-insert m n key v h = same_map nat_list_cmp_total (slice_cmp-IsAntisymmetric nat_cmp-IsAntisymmetric) (texts_of n) (finite.insert (texts_of m) key (iri_bytes v)) (λ q.
+      → prefix_texts n ≡ finite.insert (prefix_texts m) key (string_bytes v.text)
+  texts-insert m n key v h = same_map nat_list_cmp_total (slice_cmp-IsAntisymmetric nat_cmp-IsAntisymmetric) (prefix_texts n) (finite.insert (prefix_texts m) key (iri_bytes v)) (λ q.
       get-texts n q ∙ ap (option_map iri_bytes) (btree_map_updates_text key m n (Some v) h q)
       ∙ bytes_if (bytes_eq key q) v (tree.get_by_text m q)
       ∙ ap (λ b. cond b (Some (iri_bytes v)) (option_map iri_bytes (tree.get_by_text m q))) (turned key q ∙ sym (is_eq-slice_cmp q key))
       ∙ ap (cond (is_eq (slice_cmp nat_cmp q key)) (Some (iri_bytes v))) (sym (get-texts m q))
-      ∙ sym (get-insert nat_list_cmp_total (texts_of m) key (iri_bytes v) q))
+      ∙ sym (get-insert nat_list_cmp_total (prefix_texts m) key (iri_bytes v) q))

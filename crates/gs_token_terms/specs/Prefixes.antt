@@ -10,5 +10,5 @@ abbrev pub as_texts : {Y : Type 0} → String Y × Absolute → List ℕ × List
 as_texts e = (string_bytes e.0, string_bytes e.1.text)
 
 -- a tree of texts as a map
-abbrev pub texts_of : {Y : Type 0} → BTreeMap (String Y) Absolute → Prefixes
-texts_of m = finite.from_entries (map as_texts m.entries)
+abbrev pub prefix_texts : {Y : Type 0} → BTreeMap (String Y) Absolute → Prefixes
+prefix_texts m = finite.from_entries (map as_texts m.entries)

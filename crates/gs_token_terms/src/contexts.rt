@@ -4,8 +4,8 @@ ghost use Rattle.gs_model.specs.Iris.{is_absolute};
 ghost use Rattle.gs_model.specs.Terms.{Iri};
 ghost use Rattle.gs_model.specs.Triples.{is_iri};
 ghost use Rattle.gs_iri.specs.Resolving.{resolved};
-ghost use Rattle.gs_escape.specs.Tokens.{iri_of, parts_of};
-ghost use Rattle.gs_token_terms.specs.Contexts.{IsText};
+ghost use Rattle.gs_escape.specs.Tokens.{iri_of, split_at_colon};
+ghost use Rattle.gs_token_terms.specs.Contexts.{Yields};
 
 use crate::budgets::Budget;
 use crate::iris::{expanded, named_iri, resolved_iri};
@@ -35,7 +35,7 @@ fn colon(text: &[u8]) -> Option<usize>
 
 /// The prefix and the local part of a name, without the first colon between them.
 fn parts(text: &str) -> Option<(&str, &str)>
-    ensures { option_map (λ p. (p.0.now, p.1.now)) result ≡ parts_of text.now }
+    ensures { option_map (λ p. (p.0.now, p.1.now)) result ≡ split_at_colon text.now }
 {
     match colon(text.as_bytes()) {
         None => None,
@@ -45,7 +45,7 @@ fn parts(text: &str) -> Option<(&str, &str)>
 
 /// The reference between the brackets of a token.
 fn reference(alloc: Global, text: &str) -> Result<Option<String>, AllocError>
-    ensures { IsText result (iri_of text.now) }
+    ensures { Yields result (iri_of text.now) }
 {
     let mut meaning = String::new(alloc);
     match memory_apart(gs_escape::iri(text.as_bytes(), &mut meaning))? {
@@ -60,7 +60,7 @@ impl Context {
     ghost use Rattle.gs_triples.specs.Meanings as meaning;
     ghost use Rattle.gs_triples.specs.Meanings.{made_of, name_text, iri_text};
     ghost use Rattle.gs_token_terms.specs.Views.{token_at, context_of};
-    ghost use Rattle.gs_token_terms.specs.Contexts.{Changes};
+    ghost use Rattle.gs_token_terms.specs.Contexts.{ChangesContext};
 
     /// Under an absolute base, with no prefix.
     pub fn new(alloc: Global, base: &str, request: u64) -> Result<Context, AllocError>
@@ -78,7 +78,7 @@ impl Context {
 
     /// The IRI that a reference means, which is absolute as the base is.
     fn resolve(&self, text: &str) -> Result<Option<String>, AllocError>
-        ensures value { IsText result (option_map (resolved (string_bytes self.now.base)) (iri_of text.now)) }
+        ensures value { Yields result (option_map (resolved (string_bytes self.now.base)) (iri_of text.now)) }
         ensures absolute { IfOk result (λ o. IfSome o (λ i. is_absolute (string_bytes i) ≡ true)) }
     {
         let Some(reference) = reference(self.alloc, text)? else {
@@ -98,7 +98,7 @@ impl Context {
     /// The IRI that a prefixed name means.
     #[tactic(auto, unfolding(gs_triples::specs::Meanings::name_text))]
     fn name(&self, text: &str) -> Result<Option<String>, AllocError>
-        ensures { IsText result (name_text (context_of self.now) text.now) }
+        ensures { Yields result (name_text (context_of self.now) text.now) }
     {
         let Some((prefix, local)) = parts(text) else {
             return Ok(None);
@@ -143,7 +143,7 @@ impl Context {
 
     /// The IRI that a token means, if it means one.
     pub fn iri(&self, token: TermToken) -> Result<Option<String>, AllocError>
-        ensures { IsText result (iri_text (context_of self.now) (token_at token.entry)) }
+        ensures { Yields result (iri_text (context_of self.now) (token_at token.entry)) }
     {
         match token {
             TermToken::Reference(text, _) => self.resolve(text),
@@ -175,7 +175,7 @@ impl Context {
         prefix: &str,
         text: &str,
     ) -> Result<bool, AllocError>
-        ensures { Changes result (context_of self.old) (context_of self.new)
+        ensures { ChangesContext result (context_of self.old) (context_of self.new)
             (with_prefix (context_of self.old) prefix.now text.now) }
     {
         let Some((prefix, _)) = parts(prefix) else {
@@ -192,7 +192,7 @@ impl Context {
     /// Sets the base by the text of a reference. Whether that is one.
     #[tactic(auto, unfolding(gs_triples::specs::Directives::with_base))]
     pub fn set_base(&mut self, text: &str) -> Result<bool, AllocError>
-        ensures { Changes result (context_of self.old) (context_of self.new)
+        ensures { ChangesContext result (context_of self.old) (context_of self.new)
             (with_base (context_of self.old) text.now) }
     {
         let Some(base) = self.resolve(text)? else {

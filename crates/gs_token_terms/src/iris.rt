@@ -9,7 +9,7 @@ ghost use Rattle.gs_term.specs.Making.{made};
 ghost use Rattle.gs_iri.specs.Resolving.{resolved};
 ghost use Rattle.gs_escape.specs.Tokens.{local_of};
 ghost use Rattle.gs_triples.specs.Meanings.{made_of};
-ghost use Rattle.gs_token_terms.specs.Contexts.{IsText};
+ghost use Rattle.gs_token_terms.specs.Contexts.{Yields};
 
 use crate::buffers::joined_iri;
 use crate::plain::are_iri_bytes;
@@ -33,7 +33,7 @@ fn made_iri(alloc: Global, text: &str) -> Result<Result<TermText, Fault>, AllocE
 
 /// The text of a prefix's IRI, and after it what a local part means.
 pub fn expanded(alloc: Global, front: &str, local: &str) -> Result<Option<String>, AllocError>
-    ensures { IsText result (option_map (λ l. front.now ++ l) (local_of local.now)) }
+    ensures { Yields result (option_map (λ l. front.now ++ l) (local_of local.now)) }
 {
     let mut text = String::with_capacity(alloc, front.len() + local.len())?;
     text.push_str(front)?;
@@ -67,7 +67,7 @@ pub fn named_iri(
 fn marked_text(alloc: Global, base: &str, reference: &str) -> Result<Option<String>, AllocError>
     requires absolute { is_absolute base.now ≡ true }
     requires characters { list_all is_iri_char reference.now ≡ true }
-    ensures { IsText result (Some (less_than ∷ resolved base.now reference.now)) }
+    ensures { Yields result (Some (less_than ∷ resolved base.now reference.now)) }
 {
     let mut text = String::with_capacity(alloc, reference.len() + 2)?;
     text.push_str("<")?;

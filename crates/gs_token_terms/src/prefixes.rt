@@ -25,13 +25,13 @@ impl Model for Prefixes {
     ghost use Rattle.std.specs.FinMap as finite;
     ghost use Rattle.std.specs.Coded.{coded_ℕ, coded_list};
     ghost use Rattle.gs_triples.specs.Prefixes.{Prefixes as Declared};
-    ghost use Rattle.gs_token_terms.specs.Prefixes.{texts_of};
+    ghost use Rattle.gs_token_terms.specs.Prefixes.{prefix_texts};
 
     ghost Value = { Declared };
 
     ghost coded = { finite.code (coded_list coded_ℕ) (coded_list coded_ℕ) };
 
-    ghost view = { λ p. texts_of p.iris };
+    ghost view = { λ p. prefix_texts p.iris };
 }
 
 impl Prefixes {

@@ -4,7 +4,7 @@ use Rattle.std.proofs.lemmas.Bool.{lt-leb, le-leb, le-ltb}
 use Rattle.std.proofs.lemmas.List.{drop_more, take_more}
 use Rattle.gs_model.proofs.TextLemmas.{AllOther}
 use Rattle.gs_http.specs.Chunks.{chunk_size_of}
-use Rattle.gs_transfer.specs.States.{State, Left, SizeLine, Data, Passes, Fails, sized, size_byte, data_left}
+use Rattle.gs_transfer.specs.States.{TransferState, Left, SizeLine, Data, Passes, Fails, sized, size_byte, data_left}
 use Rattle.gs_transfer.specs.Cuts.{Open, Faulty, ends, with_data, goes_on, cut_from}
 
 -- bytes of a body without chunks
@@ -40,7 +40,7 @@ size-full limit sum c l other many =
 pub size-run : (limit sum : ℕ) (l d y : List ℕ) → AllOther 10 d → length l + length d < 256 → cut_from limit (SizeLine sum l) (d ++ y) ≡ cut_from limit (SizeLine sum (l ++ d)) y
 size-run limit sum l [] y other few = ap (λ (k : List ℕ). cut_from limit (SizeLine sum k) y) (sym (append-nil l))
 size-run limit sum l (c ∷ d) y other few =
-    ap (goes_on (λ (t : State). cut_from limit t (d ++ y)) c) (size-on limit sum c l other.0 (omega arith))
+    ap (goes_on (λ (t : TransferState). cut_from limit t (d ++ y)) c) (size-on limit sum c l other.0 (omega arith))
     ∙ size-run limit sum (l ++ c ∷ []) d y other.1 (omega (arith, length-append l (c ∷ [])))
     ∙ ap (λ (k : List ℕ). cut_from limit (SizeLine sum k) y) (append_assoc l (c ∷ []) d)
 
@@ -71,14 +71,14 @@ length-front x i lt = omega (arith, length-take i x)
 
 -- a size line that ends within its limit
 pub cut-line : (limit sum i : ℕ) (x y : List ℕ) → i < length x → i < 256 → ((k : ℕ) → k < i → eqb (get_or x k 0) 10 ≡ false) → get_or x i 0 ≡ 10
-    → cut_from limit (SizeLine sum []) (x ++ y) ≡ goes_on (λ (t : State). cut_from limit t (drop (i + 1) x ++ y)) 10 (sized limit sum (chunk_size_of (take (i + 1) x)))
+    → cut_from limit (SizeLine sum []) (x ++ y) ≡ goes_on (λ (t : TransferState). cut_from limit t (drop (i + 1) x ++ y)) 10 (sized limit sum (chunk_size_of (take (i + 1) x)))
 cut-line limit sum i x y lt few f e =
     let rest : List ℕ = drop (i + 1) x ++ y in
     let line : take i x ++ 10 ∷ [] ≡ take (i + 1) x = sym (take_more x i 0 lt ∙ ap (λ (c : ℕ). take i x ++ c ∷ []) e) in
     ap (cut_from limit (SizeLine sum [])) (split-at x y i lt)
     ∙ size-run limit sum [] (take i x) (get_or x i 0 ∷ rest) (other-take x i f) (omega (arith, length-front x i lt))
     ∙ ap (λ (c : ℕ). cut_from limit (SizeLine sum (take i x)) (c ∷ rest)) e
-    ∙ ap (λ (l : List ℕ). goes_on (λ (t : State). cut_from limit t rest) 10 (sized limit sum (chunk_size_of l))) line
+    ∙ ap (λ (l : List ℕ). goes_on (λ (t : TransferState). cut_from limit t rest) 10 (sized limit sum (chunk_size_of l))) line
 
 -- one that has no end within it
 pub cut-long : (limit sum i : ℕ) (x y : List ℕ) → i < length x → i + 1 ≡ 256 → ((k : ℕ) → k < i + 1 → eqb (get_or x k 0) 10 ≡ false)
@@ -87,7 +87,7 @@ cut-long limit sum i x y lt full f =
     let rest : List ℕ = drop (i + 1) x ++ y in
     ap (cut_from limit (SizeLine sum [])) (split-at x y i lt)
     ∙ size-run limit sum [] (take i x) (get_or x i 0 ∷ rest) (other-take x i (λ k h. f k (omega arith))) (omega (arith, length-front x i lt))
-    ∙ ap (goes_on (λ (t : State). cut_from limit t rest) (get_or x i 0)) (size-full limit sum (get_or x i 0) (take i x) (f i (omega arith)) (omega (arith, length-front x i lt)))
+    ∙ ap (goes_on (λ (t : TransferState). cut_from limit t rest) (get_or x i 0)) (size-full limit sum (get_or x i 0) (take i x) (f i (omega arith)) (omega (arith, length-front x i lt)))
 
 -- one that is not whole
 pub cut-open : (limit sum : ℕ) (x : List ℕ) → length x < 256 → ((k : ℕ) → k < length x → eqb (get_or x k 0) 10 ≡ false) → cut_from limit (SizeLine sum []) x ≡ ends Open

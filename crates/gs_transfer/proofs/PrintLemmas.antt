@@ -10,9 +10,10 @@ use Rattle.gs_model.proofs.TextLemmas.{AllOther}
 use Rattle.gs_http.specs.declared.framing.Framing.TheVariants.{Chunked}
 use Rattle.gs_http.specs.Chunks.{chunk_line_of, chunk_size_of}
 use Rattle.gs_http.proofs.ChunkLemmas.{reads-chunk_line_of}
-use Rattle.gs_transfer.specs.Grammar.{IsSizeLine, Chunk, chunk_text, IsChunk, IsLine, trailer_text, data_of, IsChunked, line_end}
-use Rattle.gs_transfer.specs.States.{State, SizeLine, Trailer, Start, StartCr, sized}
-use Rattle.gs_transfer.specs.Cuts.{Cut, Whole, ends, with_data, goes_on, cut_from, body_at}
+use Rattle.gs_model.specs.Ascii.{crlf}
+use Rattle.gs_transfer.specs.Grammar.{IsSizeLine, Chunk, chunk_text, IsChunk, IsLine, trailer_text, chunk_data, IsChunked}
+use Rattle.gs_transfer.specs.States.{TransferState, SizeLine, Trailer, Start, StartCr, sized}
+use Rattle.gs_transfer.specs.Cuts.{BodyCut, Whole, ends, with_data, goes_on, cut_from, body_at}
 use Rattle.gs_transfer.proofs.CutLemmas.{size-run, data-run, data_left-some, sized-fits}
 use Rattle.gs_transfer.proofs.QuietLemmas.{byte-on, full-run, line-quiet}
 
@@ -64,7 +65,7 @@ size-reads b size e =
     ] refl e
 
 -- a size line
-line-run : (limit sum size : ℕ) (line z : List ℕ) → IsSizeLine line size → cut_from limit (SizeLine sum []) (line ++ z) ≡ goes_on (λ (t : State). cut_from limit t z) 10 (sized limit sum (Some size))
+line-run : (limit sum size : ℕ) (line z : List ℕ) → IsSizeLine line size → cut_from limit (SizeLine sum []) (line ++ z) ≡ goes_on (λ (t : TransferState). cut_from limit t z) 10 (sized limit sum (Some size))
 line-run limit sum size line z h =
     let r = size-reads line size h.0 in
     let d : List ℕ = text_of r.0 ++ 13 ∷ [] in
@@ -73,11 +74,11 @@ line-run limit sum size line z h =
     ap (λ (b : List ℕ). cut_from limit (SizeLine sum []) (b ++ z)) whole
     ∙ ap (cut_from limit (SizeLine sum [])) (append_assoc d (10 ∷ []) z)
     ∙ size-run limit sum [] d (10 ∷ z) (front-other r.0 r.1.0) (omega (arith, few))
-    ∙ ap (λ (b : List ℕ). goes_on (λ (t : State). cut_from limit t z) 10 (sized limit sum (chunk_size_of b))) (sym whole)
-    ∙ ap (λ (o : Option ℕ). goes_on (λ (t : State). cut_from limit t z) 10 (sized limit sum o)) h.0
+    ∙ ap (λ (b : List ℕ). goes_on (λ (t : TransferState). cut_from limit t z) 10 (sized limit sum (chunk_size_of b))) (sym whole)
+    ∙ ap (λ (o : Option ℕ). goes_on (λ (t : TransferState). cut_from limit t z) 10 (sized limit sum o)) h.0
 
 -- the parts of a chunk, one after the other
-chunk-parts : (l b z : List ℕ) → (l ++ b ++ line_end) ++ z ≡ l ++ (b ++ 13 ∷ 10 ∷ z)
+chunk-parts : (l b z : List ℕ) → (l ++ b ++ crlf) ++ z ≡ l ++ (b ++ 13 ∷ 10 ∷ z)
 chunk-parts l b z = simp append_assoc
 
 -- a chunk
@@ -87,20 +88,20 @@ chunk-run limit sum c z h fits =
     let rest : List ℕ = c.bytes ++ 13 ∷ 10 ∷ z in
     ap (cut_from limit (SizeLine sum [])) (chunk-parts c.line c.bytes z)
     ∙ line-run limit sum n c.line rest h.0
-    ∙ ap (goes_on (λ (t : State). cut_from limit t rest) 10) (sized-fits limit sum n h.1 fits)
-    ∙ ap (λ (s : State). cut_from limit s rest) (sym (data_left-some (sum + n) n h.1))
+    ∙ ap (goes_on (λ (t : TransferState). cut_from limit t rest) 10) (sized-fits limit sum n h.1 fits)
+    ∙ ap (λ (s : TransferState). cut_from limit s rest) (sym (data_left-some (sum + n) n h.1))
     ∙ data-run limit (sum + n) 0 n c.bytes (13 ∷ 10 ∷ z) (omega arith)
 
 -- chunks
-chunks-run : (limit sum : ℕ) (cs : List Chunk) (z : List ℕ) → All IsChunk cs → sum + length (data_of cs) ≤ limit
-    → cut_from limit (SizeLine sum []) (flat_map chunk_text cs ++ z) ≡ with_data (data_of cs) (cut_from limit (SizeLine (sum + length (data_of cs)) []) z)
+chunks-run : (limit sum : ℕ) (cs : List Chunk) (z : List ℕ) → All IsChunk cs → sum + length (chunk_data cs) ≤ limit
+    → cut_from limit (SizeLine sum []) (flat_map chunk_text cs ++ z) ≡ with_data (chunk_data cs) (cut_from limit (SizeLine (sum + length (chunk_data cs)) []) z)
 chunks-run limit sum [] z all fits = ap (λ (n : ℕ). cut_from limit (SizeLine n []) z) (omega arith)
 chunks-run limit sum (c ∷ cs) z all fits =
     let n = length c.bytes in
-    let more : List ℕ = data_of cs in
+    let more : List ℕ = chunk_data cs in
     let one : IsChunk c = All-head IsChunk c cs all in
     let len : length (c.bytes ++ more) ≡ n + length more = length-append c.bytes more in
-    let r : Cut = cut_from limit (SizeLine (sum + length (c.bytes ++ more)) []) z in
+    let r : BodyCut = cut_from limit (SizeLine (sum + length (c.bytes ++ more)) []) z in
     ap (cut_from limit (SizeLine sum [])) (append_assoc (chunk_text c) (flat_map chunk_text cs) z)
     ∙ chunk-run limit sum c (flat_map chunk_text cs ++ z) one (omega (arith, len))
     ∙ ap (with_data c.bytes) (chunks-run limit (sum + n) cs z (All-tail IsChunk c cs all) (omega (arith, len)))
@@ -108,25 +109,25 @@ chunks-run limit sum (c ∷ cs) z all fits =
     ∙ ap (λ (b : List ℕ). record { bytes = b; end = r.end }) (sym (append_assoc c.bytes more r.bytes))
 
 -- the parts of a trailer section
-pub line-parts : (l f z : List ℕ) → (((l ++ line_end) ++ f) ++ line_end) ++ z ≡ l ++ 13 ∷ 10 ∷ ((f ++ line_end) ++ z)
+pub line-parts : (l f z : List ℕ) → (((l ++ crlf) ++ f) ++ crlf) ++ z ≡ l ++ 13 ∷ 10 ∷ ((f ++ crlf) ++ z)
 line-parts l f z = simp append_assoc
 
 -- how long a section is
 pub trailer-length : (l : List ℕ) (ls : List (List ℕ)) → length (trailer_text (l ∷ ls)) ≡ length l + 2 + length (trailer_text ls)
 trailer-length l ls =
-    let f : List ℕ = flat_map (λ k. k ++ line_end) ls in
-    omega (arith, length-append ((l ++ line_end) ++ f) line_end, length-append (l ++ line_end) f, length-append l line_end, length-append f line_end)
+    let f : List ℕ = flat_map (λ k. k ++ crlf) ls in
+    omega (arith, length-append ((l ++ crlf) ++ f) crlf, length-append (l ++ crlf) f, length-append l crlf, length-append f crlf)
 
 -- a trailer section
 trailer-run : (limit count : ℕ) (ls : List (List ℕ)) (z : List ℕ) → All IsLine ls → All (λ l. 0 < length l) ls → count + length (trailer_text ls) ≤ 16384
     → cut_from limit (Trailer Start count) (trailer_text ls ++ z) ≡ ends (Whole z)
 trailer-run limit count [] z lines full short = byte-on limit count 13 Start StartCr (10 ∷ z) refl (omega arith)
 trailer-run limit count (l ∷ ls) z lines full short =
-    let f : List ℕ = flat_map (λ k. k ++ line_end) ls in
+    let f : List ℕ = flat_map (λ k. k ++ crlf) ls in
     let one : IsLine l = All-head IsLine l ls lines in
     let some : 0 < length l = All-head (λ (k : List ℕ). 0 < length k) l ls full in
     let len = trailer-length l ls in
-    let last = length-append f line_end in
+    let last = length-append f crlf in
     ap (cut_from limit (Trailer Start count)) (line-parts l f z)
     ∙ full-run limit count l (trailer_text ls ++ z) some (line-quiet false l (λ e. absurd (false≢true e)) one) (omega (arith, len, last))
     ∙ trailer-run limit (count + length l + 2) ls z (All-tail IsLine l ls lines) (All-tail (λ (k : List ℕ). 0 < length k) l ls full) (omega (arith, len))
@@ -135,7 +136,7 @@ trailer-run limit count (l ∷ ls) z lines full short =
 pub printed : (limit : ℕ) (x body rest : List ℕ) → IsChunked limit x body rest → body_at limit Chunked x ≡ record { bytes = body; end = Whole rest }
 unfolding body_at
 printed limit x body rest g =
-    let d : List ℕ = data_of g.chunks in
+    let d : List ℕ = chunk_data g.chunks in
     let after : List ℕ = trailer_text g.trailer ++ rest in
     let fits : 0 + length d ≤ limit = omega (arith, g.fits, ap length g.bytes) in
     let parts : flat_map chunk_text g.chunks ++ g.last ++ trailer_text g.trailer ++ rest ≡ flat_map chunk_text g.chunks ++ (g.last ++ after) = simp append_assoc in

@@ -1,8 +1,9 @@
 -- Lines that have no CR LF before their end, byte by byte.
 use Rattle.std.proofs.Common.{◌≡◌, ℕ, ◌+◌, ◌<◌, Bool, true, false, cond, eqb, leb, List, [], ◌∷◌, ◌++◌, length, get_or, refl, sym, ap, ◌∙◌, subst, arith, length-append}
 use Rattle.std.proofs.lemmas.Bool.{eqb-true, eq-eqb, lt-leb, cond-false, false_from_ne_true, false≢true}
-use Rattle.gs_transfer.specs.Grammar.{IsLine, line_end}
-use Rattle.gs_transfer.specs.States.{State, Trailer, TrailerPlace, Start, StartCr, Inside, InsideCr, Passes, inside_place, trailer_byte, trailer_goes}
+use Rattle.gs_model.specs.Ascii.{crlf}
+use Rattle.gs_transfer.specs.Grammar.{IsLine}
+use Rattle.gs_transfer.specs.States.{TransferState, Trailer, TrailerPlace, Start, StartCr, Inside, InsideCr, Passes, inside_place, trailer_byte, trailer_goes}
 use Rattle.gs_transfer.specs.Cuts.{goes_on, cut_from}
 
 -- no LF after a CR, in a line or after a CR in it
@@ -21,7 +22,7 @@ pub byte-on : (limit count c : ℕ) (p q : TrailerPlace) (x : List ℕ) → trai
 byte-on limit count c p q x e room =
     let few : leb 16384 (count + 1) ≡ false = lt-leb 16384 (count + 1) room in
     let goes : trailer_goes q (count + 1) ≡ Passes (Trailer q (count + 1)) = rw few in
-    ap (goes_on (λ (t : State). cut_from limit t x) c) (e ∙ goes)
+    ap (goes_on (λ (t : TransferState). cut_from limit t x) c) (e ∙ goes)
 
 -- the end of a line
 end-run : (limit count : ℕ) (cr : Bool) (z : List ℕ) → count + 2 < 16384 → cut_from limit (Trailer (place_in cr) count) (13 ∷ 10 ∷ z) ≡ cut_from limit (Trailer Start (count + 2)) z
@@ -83,8 +84,8 @@ line-tail c l h front back e = h (c ∷ front) back (ap (λ (z : List ℕ). c �
 cr-next : (c : ℕ) (l : List ℕ) → IsLine (13 ∷ c ∷ l) → eqb c 10 ≡ false
 cr-next c l h = false_from_ne_true (eqb c 10) (λ e.
     let lf : c ≡ 10 = eqb-true c 10 e in
-    let none : l ++ line_end ≡ [] = h [] (l ++ line_end) (ap (λ (d : ℕ). 13 ∷ d ∷ (l ++ line_end)) lf) in
-    omega (arith, ap length none, length-append l line_end))
+    let none : l ++ crlf ≡ [] = h [] (l ++ crlf) (ap (λ (d : ℕ). 13 ∷ d ∷ (l ++ crlf)) lf) in
+    omega (arith, ap length none, length-append l crlf))
 
 -- a line, byte by byte
 pub line-quiet : (cr : Bool) (l : List ℕ) → (cr ≡ true → IsLine (13 ∷ l)) → IsLine l → Quiet cr l
@@ -99,16 +100,16 @@ quiet-tail false c l h = h
 quiet-tail true c l h = h.1
 
 -- after a CR comes no LF
-no-lf : (l back : List ℕ) → Quiet true l → l ++ line_end ≡ 10 ∷ back → ⊥
+no-lf : (l back : List ℕ) → Quiet true l → l ++ crlf ≡ 10 ∷ back → ⊥
 no-lf [] back h e = false≢true (ap (λ (z : List ℕ). eqb (get_or z 0 0) 10) e)
 no-lf (c ∷ l) back h e = let lf : c ≡ 10 = cc in false≢true (sym h.0 ∙ eq-eqb c 10 lf)
 
 -- such bytes are a line
 pub quiet-line : (cr : Bool) (l : List ℕ) → Quiet cr l → IsLine l
 quiet-line cr [] h [] back e = cc
-quiet-line cr [] h (f ∷ fs) back e = absurd (omega (arith, ap length e, length-append (fs ++ line_end) back, length-append fs line_end))
+quiet-line cr [] h (f ∷ fs) back e = absurd (omega (arith, ap length e, length-append (fs ++ crlf) back, length-append fs crlf))
 quiet-line cr (c ∷ l) h [] back e =
     let here : c ≡ 13 = cc in
-    let next : l ++ line_end ≡ 10 ∷ back = cc in
+    let next : l ++ crlf ≡ 10 ∷ back = cc in
     absurd (no-lf l back (subst (λ (b : Bool). Quiet b l) (eq-eqb c 13 here) (quiet-tail cr c l h)) next)
 quiet-line cr (c ∷ l) h (f ∷ fs) back e = quiet-line (eqb c 13) l (quiet-tail cr c l h) fs back cc

@@ -4,29 +4,30 @@ use Rattle.std.specs.Prelude.{All}
 use Rattle.std.specs.List.{flat_map}
 use Rattle.std.proofs.lemmas.Bool.{eqb-true, leb-false, false≢true}
 use Rattle.std.proofs.lemmas.List.Elements.{All-nil, All-cons}
-use Rattle.gs_transfer.specs.Grammar.{IsLine, line_end, trailer_text}
-use Rattle.gs_transfer.specs.States.{State, Trailer, TrailerPlace, Start, StartCr, Inside, InsideCr, Over, Passes, Fails, inside_place, trailer_goes}
-use Rattle.gs_transfer.specs.Cuts.{Cut, Open, Faulty, Whole, ends, goes_on, cut_from}
+use Rattle.gs_model.specs.Ascii.{crlf}
+use Rattle.gs_transfer.specs.Grammar.{IsLine, trailer_text}
+use Rattle.gs_transfer.specs.States.{TransferState, Trailer, TrailerPlace, Start, StartCr, Inside, InsideCr, Over, Passes, Fails, inside_place, trailer_goes}
+use Rattle.gs_transfer.specs.Cuts.{BodyCut, Open, Faulty, Whole, ends, goes_on, cut_from}
 use Rattle.gs_transfer.proofs.QuietLemmas.{Quiet, quiet-line}
 use Rattle.gs_transfer.proofs.PrintLemmas.{line-parts, trailer-length}
 
 -- the cut is whole, with these data and this rest
-abbrev pub IsWhole : Cut → List ℕ → List ℕ → Type 0
+abbrev pub IsWhole : BodyCut → List ℕ → List ℕ → Type 0
 IsWhole d body rest = d ≡ record { bytes = body; end = Whole rest }
 
 -- no data come any more
 pub over-whole : (x body rest : List ℕ) → IsWhole (ends (Whole x)) body rest → (body ≡ []) × (x ≡ rest)
 over-whole x body rest e =
-    let ended : Whole x ≡ Whole rest = ap (λ (d : Cut). d.end) e in
-    (sym (ap (λ (d : Cut). d.bytes) e), cc)
+    let ended : Whole x ≡ Whole rest = ap (λ (d : BodyCut). d.end) e in
+    (sym (ap (λ (d : BodyCut). d.bytes) e), cc)
 
 -- a fault is no end
 pub fault-whole : (status : ℕ) (body rest : List ℕ) → IsWhole (ends (Faulty status)) body rest → ⊥
-fault-whole status body rest e = let ended : Faulty status ≡ Whole rest = ap (λ (d : Cut). d.end) e in cc
+fault-whole status body rest e = let ended : Faulty status ≡ Whole rest = ap (λ (d : BodyCut). d.end) e in cc
 
 -- nor is a body that goes on
 pub open-whole : (body rest : List ℕ) → IsWhole (ends Open) body rest → ⊥
-open-whole body rest e = let ended : Open ≡ Whole rest = ap (λ (d : Cut). d.end) e in cc
+open-whole body rest e = let ended : Open ≡ Whole rest = ap (λ (d : BodyCut). d.end) e in cc
 
 -- the lines of a section after so many bytes, at the start of one
 abbrev Lines : ℕ → List ℕ → List ℕ → Type 0
@@ -72,7 +73,7 @@ line-on cr count c x rest p true e (inr h) = line-more cr count c x rest p (subs
 -- a line that is not empty, and the lines after it
 lines-cons : (count : ℕ) (x l y rest : List ℕ) → 0 < length l → Quiet false l → x ≡ l ++ 13 ∷ 10 ∷ y → Lines (count + length l + 2) y rest → Lines count x rest
 lines-cons count x l y rest some q e h =
-    let f : List ℕ = flat_map (λ k. k ++ line_end) h.0 in (
+    let f : List ℕ = flat_map (λ k. k ++ crlf) h.0 in (
       l ∷ h.0,
       All-cons IsLine l h.0 (quiet-line false l q) h.1,
       All-cons (λ (k : List ℕ). 0 < length k) l h.0 some h.2,
@@ -99,7 +100,7 @@ within true n x rest h = h
 within false n x rest h = h
 
 -- a byte that has room
-goes-whole : (c n : ℕ) (f : State → Cut) (q : TrailerPlace) (body rest : List ℕ) → IsWhole (goes_on f c (trailer_goes q n)) body rest → (n < 16384) × IsWhole (f (Trailer q n)) body rest
+goes-whole : (c n : ℕ) (f : TransferState → BodyCut) (q : TrailerPlace) (body rest : List ℕ) → IsWhole (goes_on f c (trailer_goes q n)) body rest → (n < 16384) × IsWhole (f (Trailer q n)) body rest
 goes-whole c n f q body rest e =
     elim (leb 16384 n) as (λ b. leb 16384 n ≡ b → IsWhole (goes_on f c (cond b (Fails 400) (Passes (Trailer q n)))) body rest → (n < 16384) × IsWhole (f (Trailer q n)) body rest) [
       | true ↦ λ t h. absurd (fault-whole 400 body rest h)
@@ -111,29 +112,29 @@ pub section-read : (limit count : ℕ) (p : TrailerPlace) (x body rest : List �
 section-read limit count p [] body rest e = absurd (open-whole body rest e)
 section-read limit count Start (c ∷ x) body rest e =
     let q = cond (eqb c 13) StartCr Inside in
-    let g = goes-whole c (count + 1) (λ (t : State). cut_from limit t x) q body rest e in
+    let g = goes-whole c (count + 1) (λ (t : TransferState). cut_from limit t x) q body rest e in
     let r = section-read limit (count + 1) q x body rest g.1 in
     (r.0, start-lines count c x rest (eqb c 13) g.0 refl r.1)
 section-read limit count Inside (c ∷ x) body rest e =
-    let g = goes-whole c (count + 1) (λ (t : State). cut_from limit t x) (inside_place c) body rest e in
+    let g = goes-whole c (count + 1) (λ (t : TransferState). cut_from limit t x) (inside_place c) body rest e in
     let r = section-read limit (count + 1) (inside_place c) x body rest g.1 in
     (r.0, line-on false count c x rest (λ t. absurd (false≢true t)) (eqb c 13) refl (within (eqb c 13) (count + 1) x rest r.1))
 section-read limit count StartCr (c ∷ x) body rest e =
-    elim (eqb c 10) as (λ b. eqb c 10 ≡ b → IsWhole (goes_on (λ (t : State). cut_from limit t x) c (cond b (Passes Over) (trailer_goes (inside_place c) (count + 1)))) body rest → (body ≡ []) × Section StartCr count (c ∷ x) rest) [
+    elim (eqb c 10) as (λ b. eqb c 10 ≡ b → IsWhole (goes_on (λ (t : TransferState). cut_from limit t x) c (cond b (Passes Over) (trailer_goes (inside_place c) (count + 1)))) body rest → (body ≡ []) × Section StartCr count (c ∷ x) rest) [
       | true ↦ λ t h. let o = over-whole x body rest h in (o.0, inl (ap (λ (d : ℕ). d ∷ x) (eqb-true c 10 t) ∙ ap (λ (z : List ℕ). 10 ∷ z) o.1))
       | false ↦ λ t h.
-          let g = goes-whole c (count + 1) (λ (s : State). cut_from limit s x) (inside_place c) body rest h in
+          let g = goes-whole c (count + 1) (λ (s : TransferState). cut_from limit s x) (inside_place c) body rest h in
           let r = section-read limit (count + 1) (inside_place c) x body rest g.1 in
           (r.0, inr (line-on true count c x rest (λ _. t) (eqb c 13) refl (within (eqb c 13) (count + 1) x rest r.1)))
     ] refl e
 section-read limit count InsideCr (c ∷ x) body rest e =
-    elim (eqb c 10) as (λ b. eqb c 10 ≡ b → IsWhole (goes_on (λ (t : State). cut_from limit t x) c (trailer_goes (cond b Start (inside_place c)) (count + 1))) body rest → (body ≡ []) × Section InsideCr count (c ∷ x) rest) [
+    elim (eqb c 10) as (λ b. eqb c 10 ≡ b → IsWhole (goes_on (λ (t : TransferState). cut_from limit t x) c (trailer_goes (cond b Start (inside_place c)) (count + 1))) body rest → (body ≡ []) × Section InsideCr count (c ∷ x) rest) [
       | true ↦ λ t h.
-          let g = goes-whole c (count + 1) (λ (s : State). cut_from limit s x) Start body rest h in
+          let g = goes-whole c (count + 1) (λ (s : TransferState). cut_from limit s x) Start body rest h in
           let r = section-read limit (count + 1) Start x body rest g.1 in
           (r.0, inl (x, ap (λ (d : ℕ). d ∷ x) (eqb-true c 10 t), r.1))
       | false ↦ λ t h.
-          let g = goes-whole c (count + 1) (λ (s : State). cut_from limit s x) (inside_place c) body rest h in
+          let g = goes-whole c (count + 1) (λ (s : TransferState). cut_from limit s x) (inside_place c) body rest h in
           let r = section-read limit (count + 1) (inside_place c) x body rest g.1 in
           (r.0, inr (line-on true count c x rest (λ _. t) (eqb c 13) refl (within (eqb c 13) (count + 1) x rest r.1)))
     ] refl e

@@ -8,4 +8,4 @@ mod transfers;
 
 pub use laws::{chunked_is_the_grammar, settled_stays, sized_is_the_front};
 pub use places::Transfer;
-pub use transfers::Part;
+pub use transfers::{Part, first_line_feed};

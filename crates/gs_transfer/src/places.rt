@@ -1,7 +1,7 @@
 //! Where a transfer stands.
 ghost use Rattle.std.specs.Prelude.{◌≡◌, ◌≤◌, ℕ};
-ghost use Rattle.gs_transfer.specs.States.{start, data_left};
-ghost use Rattle.gs_transfer.specs.Places.{HasRoom, state_at};
+ghost use Rattle.gs_transfer.specs.States.{start_state, data_left};
+ghost use Rattle.gs_transfer.specs.Places.{HasByteRoom, state_at_place};
 
 use crate::trailers::Line;
 use gs_http::Framing;
@@ -31,13 +31,13 @@ pub struct Transfer {
     /// The most that they may have.
     pub(crate) limit: u64,
     ghost within: { sum ≤ limit },
-    ghost room: { HasRoom place },
+    ghost room: { HasByteRoom place },
 }
 
 /// Where a body begins that is framed so.
 pub(crate) fn first_place(framing: Framing) -> Place
-    ensures place { state_at 0 result ≡ start framing }
-    ensures room { HasRoom result }
+    ensures place { state_at_place 0 result ≡ start_state framing }
+    ensures room { HasByteRoom result }
 {
     match framing {
         Framing::Bytes(count) => Place::Left(count),
@@ -50,8 +50,8 @@ pub(crate) fn first_place(framing: Framing) -> Place
 
 /// The place in a chunk's data of which so many bytes are left.
 pub(crate) fn data_place(left: u64) -> Place
-    ensures place { (sum : ℕ) → state_at sum result ≡ data_left sum left }
-    ensures room { HasRoom result }
+    ensures place { (sum : ℕ) → state_at_place sum result ≡ data_left sum left }
+    ensures room { HasByteRoom result }
 {
     if left == 0 {
         Place::DataEnd

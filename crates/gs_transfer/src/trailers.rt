@@ -2,7 +2,7 @@
 ghost use Rattle.std.specs.Prelude.{◌≡◌, ◌<◌};
 ghost use Rattle.gs_transfer.specs.Limits.{max_trailer_bytes};
 ghost use Rattle.gs_transfer.specs.States.{inside_place};
-ghost use Rattle.gs_transfer.specs.Trailers.{line_at, IsAfter, IsTrailing};
+ghost use Rattle.gs_transfer.specs.Trailers.{trailer_line_at, IsLineAfter, IsTrailing};
 
 /// The most bytes of a trailer section, the empty line included.
 const MAX_TRAILER_BYTES: u64 = 16_384;
@@ -29,7 +29,7 @@ pub(crate) enum Trailing {
 
 /// Where a line stands after a byte within it that does not end it.
 fn inside_after(c: u8) -> Line
-    ensures { line_at result ≡ inside_place c }
+    ensures { trailer_line_at result ≡ inside_place c }
 {
     if c == b'\r' {
         Line::InsideCr
@@ -40,7 +40,7 @@ fn inside_after(c: u8) -> Line
 
 /// Where a trailer section stands after a byte; `None` where the byte ends it.
 fn line_after(line: Line, c: u8) -> Option<Line>
-    ensures { IsAfter line c result }
+    ensures { IsLineAfter line c result }
 {
     match line {
         Line::Start => {

@@ -37,7 +37,7 @@ fn at_hand(left: u64, bytes: &[u8]) -> usize
 }
 
 /// Where the first LF is.
-fn line_end(bytes: &[u8]) -> Option<usize>
+pub fn first_line_feed(bytes: &[u8]) -> Option<usize>
     ensures { result ≡ position (λ c. c == line_feed) bytes.now }
 {
     bytes.iter().position(|c| *c == b'\n')
@@ -119,7 +119,7 @@ impl Transfer {
         ensures { Parts self.old self.new bytes.now result }
     {
         let front = &bytes[..bytes.len().min(MAX_SIZE_LINE_BYTES)];
-        match line_end(front) {
+        match first_line_feed(front) {
             Some(at) => self.take_size(&bytes[..at + 1]),
             None => {
                 if bytes.len() < MAX_SIZE_LINE_BYTES {

@@ -10,7 +10,7 @@ use Rattle.std.specs.declared.cmp.Ordering.TheVariants.{Less, Equal, Greater}
 use Rattle.std.specs.Cmp.{IsTotalOrder}
 use Rattle.gs_pool.specs.declared.nodes.Key.{Key}
 use Rattle.gs_tree.specs.Keys.{AllKeys, IsRising, HasKey}
-use Rattle.gs_tree.specs.Reading.{is_less, is_past, keys_from, first_of, filled_up}
+use Rattle.gs_tree.specs.Reading.{is_less, is_past, keys_from, first_key, filled_up}
 use Rattle.gs_tree.proofs.Order.{all_middle}
 
 pub less_is : (o : Ordering) → is_less o ≡ true → o ≡ Less
@@ -23,7 +23,7 @@ abbrev pub or_else : Option Key → Key → Option Key
 or_else None k = Some k
 or_else (Some y) k = Some y
 
-pub first_append : (xs : List Key) (k : Key) (ys : List Key) → first_of (xs ++ k ∷ ys) ≡ or_else (first_of xs) k
+pub first_append : (xs : List Key) (k : Key) (ys : List Key) → first_key (xs ++ k ∷ ys) ≡ or_else (first_key xs) k
 first_append [] k ys = refl
 first_append (x ∷ xs) k ys = refl
 

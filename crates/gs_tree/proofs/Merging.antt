@@ -6,7 +6,7 @@ use Rattle.std.specs.declared.cmp.Ordering.{Ordering}
 use Rattle.std.specs.declared.cmp.Ordering.TheVariants.{Less, Equal, Greater}
 use Rattle.std.specs.Cmp.{IsTotalOrder}
 use Rattle.gs_pool.specs.declared.nodes.Key.{Key}
-use Rattle.gs_tree.specs.Merging.{Cut}
+use Rattle.gs_tree.specs.Merging.{CutAtKey}
 use Rattle.gs_tree.specs.Keys.{AllKeys, IsRising, insert_key, insert_by, merge_keys, Places}
 use Rattle.gs_tree.proofs.Order.{AllKeys-map, all_middle, above, below, rising_front, rising_insert, insert_key_left, insert_key_right}
 
@@ -24,13 +24,13 @@ append_all : (P : Key → Type 0) (l r : List Key) → AllKeys P l → AllKeys P
 append_all P [] r a b = b
 append_all P (x ∷ l) r a b = (a.0, append_all P l r a.1 b)
 
-pub cut_length : (cmp : Key → Key → Ordering) (key : Key) (run low high : List Key) → Cut cmp key run low high → length low + length high ≤ length run
+pub cut_length : (cmp : Key → Key → Ordering) (key : Key) (run low high : List Key) → CutAtKey cmp key run low high → length low + length high ≤ length run
 cut_length cmp key run low high c = elim c.parts [
   | inl e ↦ omega (arith, ap length e, length-append low high)
   | inr e ↦ omega (arith, ap length e.1, length-append low (e.0 ∷ high))
 ]
 
-pub cut_of : (cmp : Key → Key → Ordering) (key : Key) (run low high : List Key) (before after : ℕ) → Places cmp key run before after → low ≡ take before run → high ≡ drop after run → Cut cmp key run low high
+pub cut_of : (cmp : Key → Key → Ordering) (key : Key) (run low high : List Key) (before after : ℕ) → Places cmp key run before after → low ≡ take before run → high ≡ drop after run → CutAtKey cmp key run low high
 cut_of cmp key run low high before after p el eh = record {
   below = subst (AllKeys (λ x. cmp x key ≡ Less)) (sym el) p.below;
   above = subst (AllKeys (λ x. cmp key x ≡ Less)) (sym eh) p.above;
@@ -68,7 +68,7 @@ module _ (cmp : Key → Key → Ordering) (total : IsTotalOrder cmp) where
   rising_merge (x ∷ run) ys s = rising_merge run (insert_key cmp x ys) (rising_insert cmp total x ys s)
 
   -- a run goes into the two sides of a key
-  pub merge_node : (run low high : List Key) (k : Key) (l r : List Key) → Cut cmp k run low high → IsRising cmp (l ++ k ∷ r) → merge_keys cmp run (l ++ k ∷ r) ≡ merge_keys cmp low l ++ k ∷ merge_keys cmp high r
+  pub merge_node : (run low high : List Key) (k : Key) (l r : List Key) → CutAtKey cmp k run low high → IsRising cmp (l ++ k ∷ r) → merge_keys cmp run (l ++ k ∷ r) ≡ merge_keys cmp low l ++ k ∷ merge_keys cmp high r
   merge_node run low high k l r c s =
       let f : List Key → Key → List Key = λ ks x. insert_key cmp x ks in
       let e = merge_left low k l r c.below in
@@ -101,7 +101,7 @@ module _ (cmp : Key → Key → Ordering) (total : IsTotalOrder cmp) where
   pub merge_none : (run : List Key) → IsRising cmp run → merge_keys cmp run [] ≡ run
   merge_none run s = merge_end run [] s
 
-  pub cut_rising : (key : Key) (run low high : List Key) → Cut cmp key run low high → IsRising cmp run → IsRising cmp low × IsRising cmp high
+  pub cut_rising : (key : Key) (run low high : List Key) → CutAtKey cmp key run low high → IsRising cmp run → IsRising cmp low × IsRising cmp high
   cut_rising key run low high c s = elim c.parts [
     | inl e ↦ let up : IsRising cmp (low ++ high) = subst (IsRising cmp) e s in (rising_front cmp total low high up, rising_after low high up)
     | inr e ↦ let up : IsRising cmp (low ++ e.0 ∷ high) = subst (IsRising cmp) e.1 s in (rising_front cmp total low (e.0 ∷ high) up, (rising_after low (e.0 ∷ high) up).1)

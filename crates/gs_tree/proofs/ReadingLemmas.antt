@@ -9,7 +9,7 @@ use Rattle.gs_pool.specs.declared.nodes.Node.{Node}
 use Rattle.gs_pool.specs.Pool.{Nodes, node_at}
 use Rattle.gs_tree.specs.Tree.{height, occurrences, keys, height_at, tree_at}
 use Rattle.gs_tree.specs.Keys.{IsRising, HasKey}
-use Rattle.gs_tree.specs.Reading.{HasTreeAt, IsReadableAt, IsTreeAt, keys_at, is_less, is_past, keys_from, first_of}
+use Rattle.gs_tree.specs.Reading.{HasTreeAt, IsReadableAt, IsTreeAt, keys_at, is_less, is_past, keys_from, first_key}
 use Rattle.gs_tree.specs.Sets.{IsSetAt}
 use Rattle.gs_tree.proofs.TreeLemmas.{plain_count_most}
 use Rattle.gs_tree.proofs.Order.{rising_front, rising_back}
@@ -71,10 +71,10 @@ module _ (cmp : Key → Key → Ordering) (total : IsTotalOrder cmp) (p : Nodes)
   top_not_past from h = rw s.keys_are (from_not_past cmp total from node.key _ _ h s.rises)
 
   -- the first key above one
-  pub after_left : (key : Key) (found : Option Key) → is_less (cmp key node.key) ≡ true → found ≡ first_of (keys_from cmp (Some key) (keys_at p node.left)) → or_else found node.key ≡ first_of (keys_from cmp (Some key) (keys_at p root))
+  pub after_left : (key : Key) (found : Option Key) → is_less (cmp key node.key) ≡ true → found ≡ first_key (keys_from cmp (Some key) (keys_at p node.left)) → or_else found node.key ≡ first_key (keys_from cmp (Some key) (keys_at p root))
   after_left key found less is = rw (top_past (Some key) less, is) (sym (first_append _ node.key _))
 
-  pub after_right : (key : Key) (found : Option Key) → is_less (cmp key node.key) ≡ false → found ≡ first_of (keys_from cmp (Some key) (keys_at p node.right)) → found ≡ first_of (keys_from cmp (Some key) (keys_at p root))
+  pub after_right : (key : Key) (found : Option Key) → is_less (cmp key node.key) ≡ false → found ≡ first_key (keys_from cmp (Some key) (keys_at p node.right)) → found ≡ first_key (keys_from cmp (Some key) (keys_at p root))
   after_right key found not_less is = rw (top_not_past (Some key) not_less) is
 
 -- a tree cut at its top: the pool has both sides, which are lower

@@ -11,7 +11,7 @@ use Rattle.gs_tree.specs.Tree.{Tree, leaf, fork, height, keys, occurrences, Stan
 use Rattle.gs_tree.specs.Sets.{IsSet, union_cost}
 use Rattle.gs_tree.specs.Steps.{plain_count, one, Step, IsOlder, CopiesIfOlder}
 use Rattle.gs_tree.specs.Joining.{CanJoin, Settled, copies, joins, IsHeightAfter, KeepsHeight}
-use Rattle.gs_tree.specs.Merging.{Built, CanMerge, Merges, Cut}
+use Rattle.gs_tree.specs.Merging.{Built, CanMerge, Merges, CutAtKey}
 use Rattle.gs_tree.proofs.TreeLemmas.{one_same, plain_count_most, plain_found, Stands-step, Step-then, Step-beside, CopiesIfOlder-step, BirthAtMost-later}
 use Rattle.gs_tree.proofs.Rotations.{height_in, tree_in}
 use Rattle.gs_tree.proofs.Order.{rising_front, rising_back}
@@ -92,7 +92,7 @@ merges_built cmp total since birth p q root result run new young none rising som
   still = λ z. absurd (omega arith);
 })
 
-module _ (cmp : Key → Key → Ordering) (total : IsTotalOrder cmp) (since birth : ℕ) (p : Nodes) (root : Option ℕ) (t : Tree) (run : List Key) (can : CanMerge cmp since p root t run) (id : ℕ) (node : Node) (is : root ≡ Some id) (found : node_at p id ≡ Some node) (low high : List Key) (cut : Cut cmp node.key run low high) where
+module _ (cmp : Key → Key → Ordering) (total : IsTotalOrder cmp) (since birth : ℕ) (p : Nodes) (root : Option ℕ) (t : Tree) (run : List Key) (can : CanMerge cmp since p root t run) (id : ℕ) (node : Node) (is : root ≡ Some id) (found : node_at p id ≡ Some node) (low high : List Key) (cut : CutAtKey cmp node.key run low high) where
   o : Opened p id node t
   o = opened p root id node t can.set.root_is can.set.stands is found
 

@@ -10,7 +10,7 @@ use Rattle.gs_pool.specs.Pool.{Nodes, plain, is_aside, node_at, mark_at, in_use,
 use Rattle.gs_tree.specs.Tree.{Tree, height, keys, occurrences, tree_at, older_count}
 use Rattle.gs_tree.specs.Steps.{plain_count, Step}
 use Rattle.gs_tree.specs.Shrinking.{CanShrink, Shrinks, remove_cost}
-use Rattle.gs_tree.specs.Sets.{IsSet, Removes}
+use Rattle.gs_tree.specs.Sets.{IsSet, RemovesOneKey}
 use Rattle.gs_tree.proofs.TreeLemmas.{Stands-same, plain_count_same, tree_at-is}
 use Rattle.gs_tree.proofs.Rotations.{tree_in}
 use Rattle.gs_tree.proofs.Costs.{copies_most}
@@ -25,7 +25,7 @@ remove_can cmp since p q root t s same drop fits enough =
     (is, subst (CanShrink since q root) (sym is) (record { root_is = s.root_is; stands = stands; balanced = s.balanced; apart = λ x. omega (arith, s.apart x, alike x); fits = fits; has_room = enough }))
 
 -- the same removal, seen from the pool before room was made
-pub removed : (cmp : Key → Key → Ordering) (total : IsTotalOrder cmp) (since birth : ℕ) (p0 p q : Nodes) (root to : Option ℕ) (key : Key) (t u new : Tree) → IsSet cmp p0 root t → p.nodes ≡ p0.nodes → p.marks ≡ p0.marks → height t ≤ 64 → u ≡ t → Shrinks since birth p q to u new → HasKey cmp key (keys t) → keys new ≡ remove_key cmp key (keys u) → Removes cmp since birth p0 q to key t new
+pub removed : (cmp : Key → Key → Ordering) (total : IsTotalOrder cmp) (since birth : ℕ) (p0 p q : Nodes) (root to : Option ℕ) (key : Key) (t u new : Tree) → IsSet cmp p0 root t → p.nodes ≡ p0.nodes → p.marks ≡ p0.marks → height t ≤ 64 → u ≡ t → Shrinks since birth p q to u new → HasKey cmp key (keys t) → keys new ≡ remove_key cmp key (keys u) → RemovesOneKey cmp since birth p0 q to key t new
 removed cmp total since birth p0 p q root to key t u new s same drop low e0 i0 has k0 =
     let i : Shrinks since birth p q to t new = subst (λ v. Shrinks since birth p q to v new) e0 i0 in
     let k : keys new ≡ remove_key cmp key (keys t) = k0 ∙ ap (λ v. remove_key cmp key (keys v)) e0 in

@@ -66,7 +66,7 @@ abbrev pub MergesAt : (Key → Key → Ordering) → ℕ → ℕ → Nodes → N
 MergesAt cmp since birth p q root run m = Merges cmp since birth p q m.root m.added (tree_at p root) run (tree_at q m.root)
 
 -- a run is cut at a key: what is below it, what is above it, and at most one key between
-pub record Cut (cmp : Key → Key → Ordering) (key : Key) (run low high : List Key) : Type 0 where
+pub record CutAtKey (cmp : Key → Key → Ordering) (key : Key) (run low high : List Key) : Type 0 where
   pub below : AllKeys (λ x. cmp x key ≡ Less) low
   pub above : AllKeys (λ x. cmp key x ≡ Less) high
   pub parts : (run ≡ low ++ high) ⊎ ((x : Key) × (run ≡ low ++ x ∷ high) × (cmp x key ≡ Equal))

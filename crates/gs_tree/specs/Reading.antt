@@ -55,9 +55,9 @@ abbrev pub keys_from : (Key → Key → Ordering) → Option Key → List Key �
 keys_from cmp from ks = filter (is_past cmp from) ks
 
 -- the first of these keys
-abbrev pub first_of : List Key → Option Key
-first_of [] = None
-first_of (x ∷ xs) = Some x
+abbrev pub first_key : List Key → Option Key
+first_key [] = None
+first_key (x ∷ xs) = Some x
 
 -- the keys xs, and then those of ys for which there is room up to so many in all
 abbrev pub filled_up : ℕ → List Key → List Key → List Key
@@ -68,8 +68,8 @@ abbrev pub FillsUp : (Key → Key → Ordering) → Nodes → Option ℕ → Opt
 FillsUp cmp p root from end xs ys = ys ≡ filled_up end xs (keys_from cmp from (keys_at p root))
 
 -- the keys of a set from a place on were appended, so many of them at most
-abbrev pub Appends : (Key → Key → Ordering) → Nodes → Option ℕ → Option Key → ℕ → List Key → List Key → Type 0
-Appends cmp p root from most xs ys = ys ≡ xs ++ take most (keys_from cmp from (keys_at p root))
+abbrev pub AppendsKeys : (Key → Key → Ordering) → Nodes → Option ℕ → Option Key → ℕ → List Key → List Key → Type 0
+AppendsKeys cmp p root from most xs ys = ys ≡ xs ++ take most (keys_from cmp from (keys_at p root))
 
 -- the first n keys are the first `most` keys
 abbrev pub IsEnough : List Key → ℕ → ℕ → Type 0

@@ -76,7 +76,7 @@ abbrev pub IsCheap : ℕ → Nodes → Nodes → Type 0
 IsCheap size p q = (d : ℕ) → size < 2 ^ d → in_use q ≤ in_use p + 8 * d + 1
 
 -- The set t became the set new, which lacks the key. At most 6 d nodes more are in use, where the set's size has d binary digits, and 192 in any pool.
-pub record Removes (cmp : Key → Key → Ordering) (since birth : ℕ) (p q : Nodes) (to : Option ℕ) (key : Key) (t new : Tree) : Type 0 where
+pub record RemovesOneKey (cmp : Key → Key → Ordering) (since birth : ℕ) (p q : Nodes) (to : Option ℕ) (key : Key) (t new : Tree) : Type 0 where
   pub set : IsSet cmp q to new
   pub keys_are : keys new ≡ remove_key cmp key (keys t)
   pub counted : length (keys new) + 1 ≡ length (keys t)
@@ -92,7 +92,7 @@ pub record Removes (cmp : Key → Key → Ordering) (since birth : ℕ) (p q : N
 
 -- the set that a root meant became that of the new root, which lacks the key
 abbrev pub RemovesAt : (Key → Key → Ordering) → ℕ → ℕ → Nodes → Nodes → Option ℕ → Key → Option ℕ → Type 0
-RemovesAt cmp since birth p q root key to = Removes cmp since birth p q to key (tree_at p root) (tree_at q to)
+RemovesAt cmp since birth p q root key to = RemovesOneKey cmp since birth p q to key (tree_at p root) (tree_at q to)
 
 -- the pool has the room that the union of the set that a root means with n keys asks for
 abbrev pub HasUnionRoom : ℕ → Nodes → Option ℕ → ℕ → Type 0

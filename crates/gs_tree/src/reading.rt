@@ -4,7 +4,7 @@ ghost use Rattle.std.specs.Prelude.{◌≡◌, ◌+◌, ◌<◌, ◌≤◌, ◌^
 ghost use Rattle.std.specs.Bool.{Decides};
 ghost use Rattle.gs_tree.specs.Keys.{HasKey};
 ghost use Rattle.gs_tree.specs.Tree.{height_at};
-ghost use Rattle.gs_tree.specs.Reading.{IsTreeAt, IsReadableAt, keys_at, HasTreeAt, is_past as is_past_in, keys_from, first_of, filled_up, FillsUp, Appends, IsEnough, key_count, keys_seen, HasSeen, height_seen};
+ghost use Rattle.gs_tree.specs.Reading.{IsTreeAt, IsReadableAt, keys_at, HasTreeAt, is_past as is_past_in, keys_from, first_key, filled_up, FillsUp, AppendsKeys, IsEnough, key_count, keys_seen, HasSeen, height_seen};
 
 use crate::orders::KeyOrder;
 use gs_pool::{Key, Pool};
@@ -40,7 +40,7 @@ fn is_past<O: KeyOrder>(order: &O, from: Option<Key>, key: Key) -> bool
 /// The least key of a set that is above this one, whether the set has this one or not.
 pub fn after<O: KeyOrder>(pool: &Pool, order: &O, root: Option<u32>, key: Key) -> Option<Key>
     requires { IsReadableAt (O.compare order.now) pool.now root }
-    ensures { result ≡ first_of (keys_from (O.compare order.now) (Some key) (keys_at pool.now root)) }
+    ensures { result ≡ first_key (keys_from (O.compare order.now) (Some key) (keys_at pool.now root)) }
 {
     let Some(id) = root else {
         return None;
@@ -234,7 +234,7 @@ pub fn next_keys<O: KeyOrder>(
 ) -> Result<(), AllocError>
     requires { IsReadableAt (O.compare order.now) pool.now root }
     ensures ok { OnOk result
-        (Appends (O.compare order.now) pool.now root from most to.old.items to.new.items) }
+        (AppendsKeys (O.compare order.now) pool.now root from most to.old.items to.new.items) }
     ensures kept { OnErr result (to.new.items ≡ to.old.items) }
     ensures had_room { vec_len to.old + key_count (O.compare order.now) pool.now root from most
         ≤ vec_capacity to.old → IsOk result }

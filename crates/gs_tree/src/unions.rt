@@ -3,7 +3,7 @@ ghost use Rattle.std.specs.Prelude.{◌≡◌, ℕ, ◌+◌, ◌^◌, ◌<◌, �
 ghost use Rattle.gs_pool.specs.Pool.{room};
 ghost use Rattle.std.specs.declared.cmp.Ordering.TheVariants.{Less};
 ghost use Rattle.gs_tree.specs.Keys.{AllKeys, IsRising, Places};
-ghost use Rattle.gs_tree.specs.Merging.{BuiltAt, CanMergeAt, MergesAt, Cut, IsAsHigh};
+ghost use Rattle.gs_tree.specs.Merging.{BuiltAt, CanMergeAt, MergesAt, CutAtKey, IsAsHigh};
 ghost use Rattle.gs_tree.specs.Tree.{IsRoot, height_at};
 ghost use Rattle.gs_tree.specs.Steps.{SameTotal};
 ghost use Rattle.gs_tree.specs.Reading.{keys_at};
@@ -140,7 +140,7 @@ fn lacked(left: usize, right: usize) -> usize
 fn cut_at<'a, O: KeyOrder>(order: &O, run: &'a [Key], key: Key) -> (&'a [Key], &'a [Key])
     requires rising { IsRising (O.compare order.now) run.now }
     requires some { 0 < length run.now }
-    ensures { Cut (O.compare order.now) key run.now result.0.now result.1.now }
+    ensures { CutAtKey (O.compare order.now) key run.now result.0.now result.1.now }
 {
     let at = find_place(order, run, key);
     let (low, _) = run.split_at(at.before);

@@ -15,7 +15,7 @@ use Rattle.gs_pool.specs.declared.nodes.Key.{Key}
 use Rattle.gs_pool.specs.Pool.{Nodes, aside_count}
 use Rattle.gs_tree.specs.Tree.{leaf, keys, tree_at}
 use Rattle.gs_keys.specs.Texts.{triple_at}
-use Rattle.gs_keys.specs.Roots.{graph_at}
+use Rattle.gs_keys.specs.Roots.{graph_of_root}
 use Rattle.gs_keys.proofs.KeyLemmas.{triples_of_keys}
 use Rattle.gs_staging.proofs.KeyLemmas.{still_grows}
 use Rattle.gs_catalogue.specs.declared.versions.GraphVersion.{GraphVersion}
@@ -49,7 +49,7 @@ upload_retirable b s seat k r v o writes =
     subst (CanRetireRoot b.pool) ready.known.root_is (All-head (IsRetirable b.pool) tree some.uploads all.staged).root)
 
 -- a version's graph has a triple for each key
-pub version_size : (terms : List Term) (p : Nodes) (v : GraphVersion) → IsVersion terms p v → size_of (graph_at terms p v.root) ≡ length (keys (tree_at p v.root))
+pub version_size : (terms : List Term) (p : Nodes) (v : GraphVersion) → IsVersion terms p v → size_of (graph_of_root terms p v.root) ≡ length (keys (tree_at p v.root))
 version_size terms p v is =
     let ks = keys (tree_at p v.root) in
     ap length (triples_of_keys terms ks is.keyed.rising is.keyed.given) ∙ length-map ks (triple_at terms)

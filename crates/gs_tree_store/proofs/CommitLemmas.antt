@@ -12,7 +12,7 @@ use Rattle.gs_event.specs.Datasets.{with_graph, size_at}
 use Rattle.gs_event.specs.Steps.{Joins, EndsAt}
 use Rattle.gs_pool.specs.Pool.{Nodes, aside_count}
 use Rattle.gs_tree.specs.Tree.{Tree, leaf, root_of, keys, tree_at}
-use Rattle.gs_keys.specs.Roots.{graph_at}
+use Rattle.gs_keys.specs.Roots.{graph_of_root}
 use Rattle.gs_catalogue.specs.declared.versions.GraphVersion.{GraphVersion}
 use Rattle.gs_catalogue.specs.Catalogues.{GraphVersions, empty_version, version_at, with_version, without_name}
 use Rattle.gs_records.specs.Records.{Recorded}
@@ -38,7 +38,7 @@ use Rattle.gs_commit.proofs.LawLemmas.{leaf_upload}
 use Rattle.gs_tree_store.specs.declared.books.Books.{Books}
 use Rattle.gs_tree_store.specs.Books.{graphs_of, dataset_of, IsFound, IsSound, HasLedger}
 use Rattle.gs_tree_store.specs.Opened.{LetsGo, SameOpened}
-use Rattle.gs_tree_store.specs.Writes.{KeepsBooks, Ends, Puts, Removes}
+use Rattle.gs_tree_store.specs.Writes.{KeepsBooks, EndsOneVersion, Puts, Removes}
 
 -- the version of a target, an empty one where it is missing
 abbrev pub version_or : GraphVersions → Target → GraphVersion
@@ -160,7 +160,7 @@ module _ (old new : Books) (t : Target) (e : EndsTree old new (version_or (graph
   }
 
   -- the tree of the upload is that of a graph now
-  ends_now : (tree : Tree) → AreSameTrees (tree ∷ other_trees old.pool (graphs_of old) t) (graph_trees new.pool g) → (us : List Tree) (rs : List (List Tree)) → HasLedger old (tree ∷ us) rs → Ends old new (size_at (dataset_of old) t) us rs
+  ends_now : (tree : Tree) → AreSameTrees (tree ∷ other_trees old.pool (graphs_of old) t) (graph_trees new.pool g) → (us : List Tree) (rs : List (List Tree)) → HasLedger old (tree ∷ us) rs → EndsOneVersion old new (size_at (dataset_of old) t) us rs
   ends_now tree trees us rs l =
       let p = old.pool in
       let q = new.pool in
@@ -175,10 +175,10 @@ module _ (old new : Books) (t : Target) (e : EndsTree old new (version_or (graph
 
 -- the target has the version, and no upload has its tree
 record Sets (old new : Books) (t : Target) (u : GraphVersion) : Type 0 where
-  pub dataset : dataset_of new ≡ with_graph (dataset_of old) t (graph_at old.dict.terms old.pool u.root)
+  pub dataset : dataset_of new ≡ with_graph (dataset_of old) t (graph_of_root old.dict.terms old.pool u.root)
   pub kept : KeepsBooks old new
   pub sound : IsSound new
-  pub ledgers : (us : List Tree) (rs : List (List Tree)) → HasLedger old (tree_at old.pool u.root ∷ us) rs → Ends old new (size_at (dataset_of old) t) us rs
+  pub ledgers : (us : List Tree) (rs : List (List Tree)) → HasLedger old (tree_at old.pool u.root ∷ us) rs → EndsOneVersion old new (size_at (dataset_of old) t) us rs
 
 version_set : (old new : Books) (t : Target) (u : GraphVersion) → EndsTree old new (version_or (graphs_of old) t).root → graphs_of new ≡ with_version (graphs_of old) t u → new.records.latest ≡ new.versions.commit
     → IsSound old → IsVersion old.dict.terms old.pool u → old.versions.commit < last_number → Sets old new t u
@@ -192,7 +192,7 @@ version_set old new t u e graphs latest sound is number =
     let now : IsVersion (terms ++ []) q u = subst (λ ts. IsVersion ts q u) (sym (append-nil terms)) (still_version terms p q u tree is) in
     let sets : SetsOne terms [] p q g t u = one_is_set terms [] p q g t u sound.versions (others_same old new t e sound number h graphs latest) now in
     let set_to : dataset_at terms q h ≡ with_graph (dataset_at terms p g) t (version_graph terms q u) = subst (λ ts. dataset_at ts q h ≡ with_graph (dataset_at terms p g) t (version_graph ts q u)) (append-nil terms) sets.dataset in
-    let graph : version_graph terms q u ≡ graph_at terms p u.root = ap (tree_graph terms) tree in
+    let graph : version_graph terms q u ≡ graph_of_root terms p u.root = ap (tree_graph terms) tree in
     record {
       dataset = dataset_now old new t e sound number h graphs latest ∙ set_to ∙ ap (with_graph (dataset_at terms p g) t) graph;
       kept = kept_books old new (version_or g t).root e;
@@ -208,7 +208,7 @@ put_made old new n t u e graphs latest go sound is number =
     record { dataset = sets.dataset; kept = sets.kept; sound = sets.sound; ledgers = sets.ledgers; lets_go = go }
 
 -- the ledger of a Delete: a leaf is no upload
-leaf_ends : (old new : Books) (size : ℕ) → ((us : List Tree) (rs : List (List Tree)) → HasLedger old (leaf ∷ us) rs → Ends old new size us rs) → (us : List Tree) (rs : List (List Tree)) → HasLedger old us rs → Ends old new size us rs
+leaf_ends : (old new : Books) (size : ℕ) → ((us : List Tree) (rs : List (List Tree)) → HasLedger old (leaf ∷ us) rs → EndsOneVersion old new size us rs) → (us : List Tree) (rs : List (List Tree)) → HasLedger old us rs → EndsOneVersion old new size us rs
 leaf_ends old new size ends us rs l = ends us rs ((leaf_upload old.pool old.versions (graph_trees old.pool (graphs_of old)) us rs (dead_at old.pool)).0 l)
 
 -- The version of the target's graph ended.
@@ -217,7 +217,7 @@ module _ (old new : Books) (latest : new.records.latest ≡ new.versions.commit)
   emptied : EndsTree old new (version_or (graphs_of old) Default).root → graphs_of new ≡ with_version (graphs_of old) Default empty_version → Removes old new Default
   emptied e written =
       let terms = old.dict.terms in
-      let none : graph_at terms old.pool None ≡ empty_graph = refl in
+      let none : graph_of_root terms old.pool None ≡ empty_graph = refl in
       let sets = version_set old new Default empty_version e written latest sound (empty_is terms old.pool) number in
       record {
         dataset = sets.dataset ∙ ap (with_graph (dataset_of old) Default) none;

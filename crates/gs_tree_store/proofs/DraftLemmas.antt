@@ -22,7 +22,7 @@ use Rattle.gs_tree.specs.Tree.{Tree, occurrences, tree_at}
 use Rattle.gs_tree.specs.Steps.{Step}
 use Rattle.gs_tree.specs.Reading.{keys_at}
 use Rattle.gs_keys.specs.Texts.{triple_at, key_cmp, key_total}
-use Rattle.gs_keys.specs.Roots.{graph_at}
+use Rattle.gs_keys.specs.Roots.{graph_of_root}
 use Rattle.gs_changes.specs.Changes.{ChangesAt}
 use Rattle.gs_changes.proofs.AddLemmas.{few_keys}
 use Rattle.gs_changes.proofs.ChangeLemmas.{at_most, draft}
@@ -55,7 +55,7 @@ use Rattle.gs_tree_store.proofs.CommitLemmas.{version_or, same_dead, apart_ledge
 
 -- a change of the tree of a version that can have a draft is one
 pub drafted : (birth : ℕ) (terms grown : List Term) (p q : Nodes) (old v : GraphVersion) (g : Graph) (added removed most : ℕ) → CanDraft birth terms p old → IsParted p → ChangesAt (key_cmp grown) birth p q old.root v.root added removed → IsStaged grown q v.root
-    → v.triples + removed ≡ old.triples + added → graph_at grown q v.root ≡ g → 256 * added + 193 * removed ≤ most → Drafts birth grown p q old v g most
+    → v.triples + removed ≡ old.triples + added → graph_of_root grown q v.root ≡ g → 256 * added + 193 * removed ≤ most → Drafts birth grown p q old v g most
 drafted birth terms grown p q old v g added removed most can parted c staged count graph few =
     let t = tree_at p old.root in
     let new = tree_at q v.root in
@@ -74,12 +74,12 @@ drafted birth terms grown p q old v g added removed most can parted c staged cou
       few = omega (arith, few, c.exact, c.few, can.none_aside);
     }
 
-united_if : (terms : List Term) (p : Nodes) (o : Option GraphVersion) (g : Graph) → united (option_map (version_graph terms p) o) g ≡ with_triples (graph_at terms p (unwrap_or o empty_version).root) (triples_of g)
+united_if : (terms : List Term) (p : Nodes) (o : Option GraphVersion) (g : Graph) → united (option_map (version_graph terms p) o) g ≡ with_triples (graph_of_root terms p (unwrap_or o empty_version).root) (triples_of g)
 united_if terms p None g = sym (graph_of-triples_of g) ∙ sym (ap (λ xs. graph_of (xs ++ triples_of g)) triples_of-empty)
 united_if terms p (Some v) g = refl
 
 -- the target's graph with that of an upload is the union of both
-pub united_target : (b : Books) (t : Target) (g : Graph) → with_triples (graph_at b.dict.terms b.pool (version_or (graphs_of b) t).root) (triples_of g) ≡ united (graph_of_target (dataset_of b) t) g
+pub united_target : (b : Books) (t : Target) (g : Graph) → with_triples (graph_of_root b.dict.terms b.pool (version_or (graphs_of b) t).root) (triples_of g) ≡ united (graph_of_target (dataset_of b) t) g
 united_target b t g =
     sym (ap (λ o. united o g) (graph_at-is b.dict.terms b.pool (graphs_of b) t) ∙ united_if b.dict.terms b.pool (version_at (graphs_of b) t) g)
 
@@ -149,21 +149,21 @@ module _ (b : Books) (d : Numbered) (q r : Nodes) (w : Pins) (c : Recorded) (t :
 -- keys in a version
 pub united_made : (birth : ℕ) (d : Numbered) (p q : Nodes) (old : GraphVersion) (ks : List Key) (root : Option ℕ) (added : ℕ) → IsDistinct d.terms → CanDraft birth d.terms p old → IsParted p → IsRun d.terms ks
     → ChangesAt (key_cmp d.terms) birth p q old.root root added 0 → keys_at q root ≡ merge_keys (key_cmp d.terms) ks (keys_at p old.root)
-    → Drafts birth d.terms p q old (record { root = root; triples = old.triples + added }) (with_triples (graph_at d.terms p old.root) (map (triple_at d.terms) ks)) (259 * length ks)
+    → Drafts birth d.terms p q old (record { root = root; triples = old.triples + added }) (with_triples (graph_of_root d.terms p old.root) (map (triple_at d.terms) ks)) (259 * length ks)
 united_made birth d p q old ks root added distinct can parted is c keys_are =
     let terms = d.terms in
     let ts = map (triple_at terms) ks in
     let run : IsRunOfTriples terms ts ks = record { rising = is.rising; given = is.given; graph = refl } in
     let made = with_run d d p q old.root root ts ks (still_grows d d refl) distinct can.staged run c.set keys_are in
     let few : length (keys_at q root) ≤ length (keys_at p old.root) + length ks = subst (λ xs. length xs ≤ length (keys_at p old.root) + length ks) (sym keys_are) (length_merge (key_cmp terms) (key_total terms) ks (keys_at p old.root)) in
-    drafted birth terms terms p q old (record { root = root; triples = old.triples + added }) (with_triples (graph_at terms p old.root) ts) added 0 (259 * length ks) can parted c made.0 (omega arith) made.1
+    drafted birth terms terms p q old (record { root = root; triples = old.triples + added }) (with_triples (graph_of_root terms p old.root) ts) added 0 (259 * length ks) can parted c made.0 (omega arith) made.1
     (omega (arith, few, c.counted))
 
 -- the operations of an update on a version
 pub patched_made : (birth : ℕ) (terms grown : List Term) (p q : Nodes) (old : GraphVersion) (ops : List Op) (x : Draft) (n : ℕ) → CanDraft birth terms p old → IsParted p → Patches birth terms grown p q old.root ops x → n + x.removed ≡ old.triples + x.added
-    → Drafts birth grown p q old (record { root = x.root; triples = n }) (updated (graph_at terms p old.root) ops) (259 * inserted_by (graph_at terms p old.root) ops + 261 * removed_by (graph_at terms p old.root) ops)
+    → Drafts birth grown p q old (record { root = x.root; triples = n }) (updated (graph_of_root terms p old.root) ops) (259 * inserted_by (graph_of_root terms p old.root) ops + 261 * removed_by (graph_of_root terms p old.root) ops)
 patched_made birth terms grown p q old ops x n can parted is count =
-    drafted birth terms grown p q old (record { root = x.root; triples = n }) (updated (graph_at terms p old.root) ops) x.added x.removed (259 * inserted_by (graph_at terms p old.root) ops + 261 * removed_by (graph_at terms p old.root) ops) can parted is.changes is.staged count is.graph
+    drafted birth terms grown p q old (record { root = x.root; triples = n }) (updated (graph_of_root terms p old.root) ops) x.added x.removed (259 * inserted_by (graph_of_root terms p old.root) ops + 261 * removed_by (graph_of_root terms p old.root) ops) can parted is.changes is.staged count is.graph
     (omega (arith, is.added, is.removed))
 
 -- a draft has no more triples than there are numbers of nodes

@@ -28,7 +28,7 @@ use Rattle.gs_datasets.proofs.Sizes.{none_at_all}
 use Rattle.gs_tree_store.specs.declared.books.Books.{Books}
 use Rattle.gs_tree_store.specs.declared.books.Seat.TheVariants.{Idle}
 use Rattle.gs_tree_store.specs.declared.stores.TreeStore.TheInside.{Inside}
-use Rattle.gs_tree_store.specs.Books.{graphs_of, dataset_of, seat_view, upload_tree, read_trees, is_reading, IsSeat}
+use Rattle.gs_tree_store.specs.Books.{graphs_of, dataset_of, seat_view_by, upload_tree, read_trees, is_reading, IsSeat}
 use Rattle.gs_tree_store.specs.Opened.{own_record, own_record_at, HaveRecords}
 use Rattle.gs_tree_store.specs.Kept.{shown_of, IsKept}
 
@@ -66,7 +66,7 @@ idle_pins a (suc n) = ap (λ ps. None ∷ ps) (idle_pins (a + 1) n)
 abbrev idle_view : ℕ → SeatView
 idle_view s = phase.Idle
 
-idle_shown : (b : Books) (a n : ℕ) → map (seat_view b) (replicate n Idle) ≡ map idle_view (range_with_len a n)
+idle_shown : (b : Books) (a n : ℕ) → map (seat_view_by b) (replicate n Idle) ≡ map idle_view (range_with_len a n)
 idle_shown b a zero = refl
 idle_shown b a (suc n) = ap (λ ss. phase.Idle ∷ ss) (idle_shown b (a + 1) n)
 
@@ -117,7 +117,7 @@ module _ (a : Inside) (seats commit : ℕ) (fresh : IsFresh a seats commit) wher
   fresh_view =
       let dataset : dataset_of a.books ≡ empty_dataset = ap (dataset_at a.books.dict.terms a.books.pool) no_graphs ∙ (none_at_all a.books.dict.terms a.books.pool).dataset in
       let last : a.books.versions.commit ≡ commit + 0 = ap (λ (v : Pins). v.commit) fresh.versions ∙ sym (add-zero commit) in
-      let shown : map (seat_view a.books) a.seats.items ≡ map idle_view (range_with_len 0 seats) = ap (map (seat_view a.books)) fresh.idle ∙ idle_shown a.books 0 seats in
+      let shown : map (seat_view_by a.books) a.seats.items ≡ map idle_view (range_with_len 0 seats) = ap (map (seat_view_by a.books)) fresh.idle ∙ idle_shown a.books 0 seats in
       λ i. record { totals = record { setting = record { base = string_bytes a.books.base; limits = a.books.limits }; dataset = dataset i; request = sym (add-zero a.books.request) i; commit = last i }; seats = shown i }
 
   -- and has no pins

@@ -21,7 +21,7 @@ use Rattle.gs_tree_store.specs.declared.books.Books.{Books}
 use Rattle.gs_tree_store.specs.declared.books.Seat.{Seat}
 use Rattle.gs_tree_store.specs.declared.books.Seat.TheVariants.{Idle}
 use Rattle.gs_tree_store.specs.declared.stores.TreeStore.TheInside.{Inside}
-use Rattle.gs_tree_store.specs.Books.{graphs_of, totals_of, seat_view, upload_tree, read_trees, is_reading, IsSeat, IsReady, HasLedger, HasLedgerAt}
+use Rattle.gs_tree_store.specs.Books.{graphs_of, totals_of, seat_view_by, upload_tree, read_trees, is_reading, IsSeat, IsReady, HasLedger, HasLedgerAt}
 use Rattle.gs_tree_store.specs.Opened.{HasRecord, KeepsRecords, HaveRecords}
 use Rattle.gs_tree_store.specs.Actions.{Acts, GoesOn}
 use Rattle.gs_tree_store.specs.Kept.{IsKept}
@@ -120,11 +120,11 @@ module _ (a b : Inside) (s : ℕ) (was now : Seat) (action : Action) (answer : A
   others_stay = λ k d lt. seat_stays a.books.dict.terms b.books.dict.terms outlives a.books.pool b.books.pool (get_or (set a.seats.items s Idle) k d) (others_known k d lt) (beside_at k d lt)
 
   -- and show what they showed
-  pub others_shown : map (seat_view b.books) b.seats.items ≡ set (map (seat_view a.books) a.seats.items) s (seat_view b.books now)
+  pub others_shown : map (seat_view_by b.books) b.seats.items ≡ set (map (seat_view_by a.books) a.seats.items) s (seat_view_by b.books now)
   others_shown =
-      let same : All (λ x. seat_view b.books x ≡ seat_view a.books x) (set a.seats.items s Idle) =
+      let same : All (λ x. seat_view_by b.books x ≡ seat_view_by a.books x) (set a.seats.items s Idle) =
       λ k d lt. shown_stays a.books.dict.terms b.books.dict.terms outlives a.books.pool b.books.pool (get_or (set a.seats.items s Idle) k d) (others_known k d lt) (beside_at k d lt) in
-      ap (map (seat_view b.books)) seats ∙ map_beside (seat_view a.books) (seat_view b.books) a.seats.items s now same
+      ap (map (seat_view_by b.books)) seats ∙ map_beside (seat_view_by a.books) (seat_view_by b.books) a.seats.items s now same
 
   uploads_after : set (uploads_of a) s (upload_tree b.books.pool now) ≡ uploads_of b
   uploads_after =

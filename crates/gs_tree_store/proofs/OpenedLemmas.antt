@@ -6,7 +6,7 @@ use Rattle.std.proofs.lemmas.List.{get_or_default, get_or-set_same, get_or-set_o
 use Rattle.gs_term.specs.declared.names.Target.{Target}
 use Rattle.gs_catalogue.specs.declared.versions.GraphVersion.{GraphVersion}
 use Rattle.gs_records.specs.Records.{Record, free, opened, unused, kept, record_at, ended, Turns, Ends}
-use Rattle.gs_records.specs.Calls.{is_nothing, made, placed, Puts}
+use Rattle.gs_records.specs.Calls.{is_nothing, made_record, placed, MakesCurrent}
 use Rattle.gs_records.specs.Waste.{is_opened}
 use Rattle.gs_tree_store.specs.declared.books.Books.{Books}
 use Rattle.gs_tree_store.specs.declared.books.Seat.{Seat}
@@ -50,9 +50,9 @@ placed_closed true r closed = refl
 placed_closed false r closed = closed
 
 -- a commit lets its record go
-pub put_lets_go : (b c : Books) (n : ℕ) (t : Target) (v : GraphVersion) (commit : ℕ) → Puts b.records c.records n t v commit → LetsGo b c n
+pub put_lets_go : (b c : Books) (n : ℕ) (t : Target) (v : GraphVersion) (commit : ℕ) → MakesCurrent b.records c.records n t v commit → LetsGo b c n
 put_lets_go b c n t v commit puts =
-    let closed : is_opened (placed t v commit) ≡ false = placed_closed (is_nothing t v) (made t v commit) refl in
+    let closed : is_opened (placed t v commit) ≡ false = placed_closed (is_nothing t v) (made_record t v commit) refl in
     record {
       stays = λ m apart h. puts.others m apart ∙ ap (ended t commit) h;
       no_more = λ m h. elim (cases_eq m n) [

@@ -28,7 +28,7 @@ use Rattle.gs_event.proofs.VerdictLemmas.{store_must}
 use Rattle.gs_dict.specs.Numbering.{Numbered}
 use Rattle.gs_pool.specs.Pool.{Nodes, aside_count}
 use Rattle.gs_tree.specs.Tree.{leaf, tree_at}
-use Rattle.gs_keys.specs.Roots.{graph_at}
+use Rattle.gs_keys.specs.Roots.{graph_of_root}
 use Rattle.gs_changes.specs.Endings.{Restores, UndoesAll}
 use Rattle.gs_staging.specs.Keys.{Grows}
 use Rattle.gs_staging.proofs.KeyLemmas.{still_grows}
@@ -56,7 +56,7 @@ use Rattle.gs_tree_store.proofs.DraftLemmas.{KeptEnds, with_draft, kept_dataset,
 
 -- the graph of the target's version
 abbrev pub target_graph : Books → Target → Graph
-target_graph b t = graph_at b.dict.terms b.pool (version_or (graphs_of b) t).root
+target_graph b t = graph_of_root b.dict.terms b.pool (version_or (graphs_of b) t).root
 
 -- the draft that the operations make of it
 abbrev pub DraftsPatch : ℕ → Books → Numbered → Nodes → Target → List Op → GraphVersion → Type 0
@@ -65,13 +65,13 @@ DraftsPatch birth b d q t ops v =
 
 -- what was drafted of a version that is the target's
 pub drafts_here : (birth : ℕ) (b : Books) (d : Numbered) (q : Nodes) (t : Target) (old v : GraphVersion) (xs ops : List Op) → old ≡ version_or (graphs_of b) t → xs ≡ ops
-    → Drafts birth d.terms b.pool q old v (updated (graph_at b.dict.terms b.pool old.root) xs) (259 * inserted_by (graph_at b.dict.terms b.pool old.root) xs + 261 * removed_by (graph_at b.dict.terms b.pool old.root) xs)
+    → Drafts birth d.terms b.pool q old v (updated (graph_of_root b.dict.terms b.pool old.root) xs) (259 * inserted_by (graph_of_root b.dict.terms b.pool old.root) xs + 261 * removed_by (graph_of_root b.dict.terms b.pool old.root) xs)
     → DraftsPatch birth b d q t ops v
 drafts_here birth b d q t old v xs ops is items made =
     let terms = b.dict.terms in
     let p = b.pool in
     subst (λ ys. DraftsPatch birth b d q t ys v) items
-    (subst (λ (w : GraphVersion). Drafts birth d.terms p q w v (updated (graph_at terms p w.root) xs) (259 * inserted_by (graph_at terms p w.root) xs + 261 * removed_by (graph_at terms p w.root) xs)) is made)
+    (subst (λ (w : GraphVersion). Drafts birth d.terms p q w v (updated (graph_of_root terms p w.root) xs) (259 * inserted_by (graph_of_root terms p w.root) xs + 261 * removed_by (graph_of_root terms p w.root) xs)) is made)
 
 -- it is taken back
 pub draft_undone : (birth : ℕ) (b : Books) (d : Numbered) (q r : Nodes) (t : Target) (ops : List Op) (v : GraphVersion) → DraftsPatch birth b d q t ops v → UndoesAll birth q r (tree_at q v.root) → Restores b.pool r
@@ -81,7 +81,7 @@ draft_undone birth b d q r t ops v made undoes = undoes b.pool (tree_at b.pool (
 abbrev pub DecidesPatch : Books → Target → List Op → Verdict → Type 0
 DecidesPatch b t ops verdict = DecidesChange (books_setting b) (dataset_of b) b.versions.commit t (patched (graph_of_target (dataset_of b) t) ops) verdict
 
-there_if : (terms : List Term) (p : Nodes) (o : Option GraphVersion) → is_some (option_map (version_graph terms p) o) ≡ true → option_map (version_graph terms p) o ≡ Some (graph_at terms p (unwrap_or o empty_version).root)
+there_if : (terms : List Term) (p : Nodes) (o : Option GraphVersion) → is_some (option_map (version_graph terms p) o) ≡ true → option_map (version_graph terms p) o ≡ Some (graph_of_root terms p (unwrap_or o empty_version).root)
 there_if terms p None there = absurd (true≢false (sym there))
 there_if terms p (Some v) there = refl
 

@@ -29,7 +29,7 @@ use Rattle.gs_tree.specs.Reading.{keys_at}
 use Rattle.gs_tree.specs.Steps.{Step, SameTotal}
 use Rattle.gs_tree.proofs.TreeLemmas.{Step-then}
 use Rattle.gs_keys.specs.Texts.{triple_at, key_cmp, IsGiven}
-use Rattle.gs_keys.specs.Roots.{graph_at}
+use Rattle.gs_keys.specs.Roots.{graph_of_root}
 use Rattle.gs_keys.proofs.KeyLemmas.{triples_of_keys}
 use Rattle.gs_staging.proofs.KeyLemmas.{still_grows}
 use Rattle.gs_changes.specs.Endings.{UndoesAll, Restores}
@@ -44,7 +44,7 @@ use Rattle.gs_commit.specs.Commits.{KeepsDraftAll}
 use Rattle.gs_tree_store.specs.declared.books.Books.{Books}
 use Rattle.gs_tree_store.specs.declared.books.Seat.{Seat}
 use Rattle.gs_tree_store.specs.declared.books.Seat.TheVariants.{Idle, Writing}
-use Rattle.gs_tree_store.specs.Books.{graphs_of, books_setting, dataset_of, totals_of, seat_view, HasLedger, IsReady}
+use Rattle.gs_tree_store.specs.Books.{graphs_of, books_setting, dataset_of, totals_of, seat_view_by, HasLedger, IsReady}
 use Rattle.gs_tree_store.specs.Drafts.{CanDraft, IsRun, Drafts}
 use Rattle.gs_tree_store.specs.Uploads.{TakesKeys, MakesAgain}
 use Rattle.gs_tree_store.specs.Verdicts.{HasCounts}
@@ -164,7 +164,7 @@ module _ (b : Books) (t : Target) (n : ℕ) (u : GraphVersion) (o : ℕ) (p1 : N
 
     -- refused: the upload is made again, from the same keys
     post_again : (r' : Nodes) (birth s : ℕ) (v : GraphVersion) (why : Refusal) → birth ≡ b.versions.commit + 1 → MakesAgain birth r r' ks v
-        → FitsSeat (totals_of b) (seat_view b (Writing (Post t) n u o)) Commit (Refused why) → IsReady b s (Writing (Post t) n u o)
+        → FitsSeat (totals_of b) (seat_view_by b (Writing (Post t) n u o)) Commit (Refused why) → IsReady b s (Writing (Post t) n u o)
         → Acts b (with_nodes b b.dict r') s (Writing (Post t) n u o) (Writing (Post t) n v o) Commit (Refused why)
     post_again r' birth s v why born puts fits ready =
         let made = puts.built in
@@ -214,18 +214,18 @@ module _ (b : Books) (t : Target) (n : ℕ) (u : GraphVersion) (o : ℕ) (p1 : N
 
   -- the draft of a version with the keys too
   abbrev DraftsKeys : Nodes → ℕ → GraphVersion → GraphVersion → Type 0
-  DraftsKeys q birth old v = Drafts birth b.dict.terms p1 q old v (with_triples (graph_at b.dict.terms p1 old.root) (map (triple_at b.dict.terms) ks)) (259 * length ks)
+  DraftsKeys q birth old v = Drafts birth b.dict.terms p1 q old v (with_triples (graph_of_root b.dict.terms p1 old.root) (map (triple_at b.dict.terms) ks)) (259 * length ks)
 
   -- The draft `v`, of the version `old` that the target had.
   module _ (q : Nodes) (birth : ℕ) (old v : GraphVersion) (is : old ≡ version_or (graphs_of b) t) (drafts : DraftsKeys q birth old v) where
     abbrev both : Graph
-    both = with_triples (graph_at b.dict.terms p1 (version_or (graphs_of b) t).root) (triples_of graph)
+    both = with_triples (graph_of_root b.dict.terms p1 (version_or (graphs_of b) t).root) (triples_of graph)
 
     -- it is that of the target, with the upload's triples
     draft_made : Drafts birth b.dict.terms p1 q (version_or (graphs_of b) t) v both (259 * size_of graph)
     draft_made =
         subst (λ k. Drafts birth b.dict.terms p1 q (version_or (graphs_of b) t) v both (259 * k)) size_is
-        (subst (λ ts. Drafts birth b.dict.terms p1 q (version_or (graphs_of b) t) v (with_triples (graph_at b.dict.terms p1 (version_or (graphs_of b) t).root) ts) (259 * length ks)) triples_are
+        (subst (λ ts. Drafts birth b.dict.terms p1 q (version_or (graphs_of b) t) v (with_triples (graph_of_root b.dict.terms p1 (version_or (graphs_of b) t).root) ts) (259 * length ks)) triples_are
         (subst (λ w. DraftsKeys q birth w v) is drafts))
 
     both_is : both ≡ posted b t u

@@ -15,7 +15,7 @@ use Rattle.gs_tree.specs.Tree.{Tree, leaf, root_of, tree_at}
 use Rattle.gs_tree.specs.Reading.{IsReadableAt}
 use Rattle.gs_tree.specs.Sets.{IsSetAt}
 use Rattle.gs_keys.specs.Texts.{key_cmp}
-use Rattle.gs_keys.specs.Roots.{IsGraphAt, graph_at}
+use Rattle.gs_keys.specs.Roots.{IsGraphAt, graph_of_root}
 use Rattle.gs_keys.proofs.RootLemmas.{set_graph}
 use Rattle.gs_staging.proofs.KeyLemmas.{still_grows}
 use Rattle.gs_lines.specs.declared.pieces.Piece.{Piece}
@@ -105,7 +105,7 @@ pinned b s t v is ready =
     let g = graphs_of b in
     let read = version_read b s Idle t v is ready in
     let there : is_there (dataset_of b) t ≡ true = is_there-is terms p g t ∙ ap is_some is in
-    let graph : lines_at (dataset_of b) t ≡ lines_of (graph_at terms p v.root) = ap lines_if (graph_at-is terms p g t ∙ ap (option_map (version_graph terms p)) is) in
+    let graph : lines_at (dataset_of b) t ≡ lines_of (graph_of_root terms p v.root) = ap lines_if (graph_at-is terms p g t ∙ ap (option_map (version_graph terms p)) is) in
     let lines : lines_from terms p v.root None ≡ lines_at (dataset_of b) t = all_lines terms p v.root read.1 ∙ sym graph in
     let one : List Tree = tree_at p v.root ∷ [] in
     let is_in : Tree → Type 0 = Contains (graph_trees p g) in

@@ -13,7 +13,7 @@ use Rattle.gs_ledger.specs.Ledger.{IsLedger}
 use Rattle.gs_reclaim.specs.Reclaims.{KeepsLedgers}
 use Rattle.gs_records.specs.Records.{Record, opened, Recorded, record_at}
 use Rattle.gs_records.specs.Waste.{lifetimes, is_opened}
-use Rattle.gs_records.specs.Reclaims.{StaysOrGoes, Reclaims}
+use Rattle.gs_records.specs.Reclaims.{StaysOrGoes, ReclaimsRecords}
 use Rattle.gs_datasets.specs.Standing.{dataset_at, all_versions, graph_trees, IsVersion}
 use Rattle.gs_datasets.specs.Trees.{IsMeant, IsPlainTree}
 use Rattle.gs_datasets.specs.Writes.{KeepsDataset}
@@ -21,7 +21,7 @@ use Rattle.gs_datasets.proofs.Keeping.{ledger_keeps, graphs_stay}
 use Rattle.gs_datasets.proofs.Writing.{all_stay}
 use Rattle.gs_tree_store.specs.declared.books.Seat.{Seat}
 use Rattle.gs_tree_store.specs.declared.stores.TreeStore.TheInside.{Inside}
-use Rattle.gs_tree_store.specs.Books.{graphs_of, seat_view, upload_tree, read_trees, IsSeat}
+use Rattle.gs_tree_store.specs.Books.{graphs_of, seat_view_by, upload_tree, read_trees, IsSeat}
 use Rattle.gs_tree_store.specs.Opened.{IsOpened}
 use Rattle.gs_tree_store.specs.Kept.{shown_of, IsKept}
 use Rattle.gs_tree_store.proofs.AlikeLemmas.{SameNow, alike_dataset, alike_sound}
@@ -82,8 +82,8 @@ module _ (a : Inside) (q : Nodes) (kept : IsKept a) (ledgers : KeepsLedgers a.bo
   seats_known : All (IsSeat a.books.dict.terms q) a.seats.items
   seats_known = λ k d lt. seat_stays a.books.dict.terms a.books.dict.terms (outlives_same a.books.dict.terms) a.books.pool q (get_or a.seats.items k d) (kept.known k d lt) (seats_kept k d lt)
 
-  seats_shown : map (seat_view (with_pool a q).books) a.seats.items ≡ map (seat_view a.books) a.seats.items
-  seats_shown = same_map (seat_view a.books) (seat_view (with_pool a q).books) a.seats.items
+  seats_shown : map (seat_view_by (with_pool a q).books) a.seats.items ≡ map (seat_view_by a.books) a.seats.items
+  seats_shown = same_map (seat_view_by a.books) (seat_view_by (with_pool a q).books) a.seats.items
       (λ k d lt. shown_stays a.books.dict.terms a.books.dict.terms (outlives_same a.books.dict.terms) a.books.pool q (get_or a.seats.items k d) (kept.known k d lt) (seats_kept k d lt))
 
   ledger_kept : IsLedger q a.books.versions (graph_trees q (graphs_of a.books)) (uploads_of (with_pool a q)) (reads_of (with_pool a q)) (dead_at q)
@@ -106,7 +106,7 @@ module _ (a : Inside) (q : Nodes) (kept : IsKept a) (ledgers : KeepsLedgers a.bo
   }
 
   -- Records that ended are gone too.
-  module _ (r : Recorded) (most gone : ℕ) (rest : Bool) (reclaims : Reclaims a.books.versions.seats most gone rest a.books.records r) where
+  module _ (r : Recorded) (most gone : ℕ) (rest : Bool) (reclaims : ReclaimsRecords a.books.versions.seats most gone rest a.books.records r) where
     -- the graphs of now are the same
     now_same : SameNow a.books.records r
     now_same = record { graphs = reclaims.now; latest = reclaims.latest }

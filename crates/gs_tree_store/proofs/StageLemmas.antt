@@ -16,7 +16,7 @@ use Rattle.gs_pool.specs.Pool.{Nodes, in_use, aside_count}
 use Rattle.gs_tree.specs.declared.unions.Merged.{Merged}
 use Rattle.gs_tree.specs.Tree.{Descends, BirthAtMost, tree_at}
 use Rattle.gs_keys.specs.Texts.{key_cmp}
-use Rattle.gs_keys.specs.Roots.{graph_at}
+use Rattle.gs_keys.specs.Roots.{graph_of_root}
 use Rattle.gs_changes.proofs.AddLemmas.{few_keys}
 use Rattle.gs_staging.specs.Keys.{Grows}
 use Rattle.gs_staging.specs.Staging.{Stages}
@@ -93,7 +93,7 @@ staged b s k r birth v o ts d q m born grows stages ready =
     let used : in_use q ≡ in_use p + m.added = u.in_place refl in
     let none : aside_count q ≡ 0 = omega (arith, used, u.exact, ready.sound.none_aside) in
     let kept = moved_graphs b d q birth old new grows ready.sound u.step tree none some.uploads some.reads some.ledger.ledger in
-    let larger : size_of (with_triples (graph_at b.dict.terms p v.root) ts.items) ≡ size_of (graph_at b.dict.terms p v.root) + m.added = sym (ap size_of stages.graph) ∙ stages.added in
+    let larger : size_of (with_triples (graph_of_root b.dict.terms p v.root) ts.items) ≡ size_of (graph_of_root b.dict.terms p v.root) + m.added = sym (ap size_of stages.graph) ∙ stages.added in
     record {
       fits = tt;
       totals = same_totals b now refl kept.dataset refl refl;

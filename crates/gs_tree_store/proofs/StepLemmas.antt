@@ -19,7 +19,7 @@ use Rattle.gs_pool.specs.Pool.{in_use}
 use Rattle.gs_ledger.specs.Marks.{waste_at}
 use Rattle.gs_tree_store.specs.declared.books.Seat.{Seat}
 use Rattle.gs_tree_store.specs.declared.stores.TreeStore.TheInside.{Inside}
-use Rattle.gs_tree_store.specs.Books.{seat_view}
+use Rattle.gs_tree_store.specs.Books.{seat_view_by}
 use Rattle.gs_tree_store.specs.Actions.{SeatWastes, SeatUses, Acts}
 use Rattle.gs_tree_store.specs.Uses.{UsesAt, UsesNodes}
 use Rattle.gs_tree_store.specs.Kept.{shown_of, IsKept}
@@ -35,13 +35,13 @@ seat_wasted old s p Cancel Cancelled new there h = subst (λ o. WastesCancel o o
 seat_wasted old s p action a new there h = h
 
 module _ (a b : Inside) (s : ℕ) (was now : Seat) (action : Action) (answer : Answer) (kept : IsKept a) (within : s < length a.seats.items) (is : was ≡ get_or a.seats.items s was) (seats : b.seats.items ≡ set a.seats.items s now) (acts : Acts a.books b.books s was now action answer) where
-  seat_there : slice_get (shown_of a).view.seats s ≡ Some (seat_view a.books was)
-  seat_there = slice_get-map (seat_view a.books) a.seats.items s ∙ ap (option_map (seat_view a.books)) (slice_get-get_or a.seats.items s was within ∙ ap Some (sym is))
+  seat_there : slice_get (shown_of a).view.seats s ≡ Some (seat_view_by a.books was)
+  seat_there = slice_get-map (seat_view_by a.books) a.seats.items s ∙ ap (option_map (seat_view_by a.books)) (slice_get-get_or a.seats.items s was within ∙ ap Some (sym is))
 
   next_shown : (shown_of b).view ≡ next_if (shown_of a).view s (slice_get (shown_of a).view.seats s) action answer
   next_shown =
-      let seen : map (seat_view b.books) b.seats.items ≡ slice_set (map (seat_view a.books) a.seats.items) s _ = others_shown a b s was now action answer kept within is seats acts ∙ ap (slice_set (map (seat_view a.books) a.seats.items) s) acts.seat in
-      let made : (shown_of b).view ≡ next_at (shown_of a).view s (seat_view a.books was) action answer = λ j. record { totals = acts.totals j; seats = seen j } in
+      let seen : map (seat_view_by b.books) b.seats.items ≡ slice_set (map (seat_view_by a.books) a.seats.items) s _ = others_shown a b s was now action answer kept within is seats acts ∙ ap (slice_set (map (seat_view_by a.books) a.seats.items) s) acts.seat in
+      let made : (shown_of b).view ≡ next_at (shown_of a).view s (seat_view_by a.books was) action answer = λ j. record { totals = acts.totals j; seats = seen j } in
       made ∙ sym (ap (λ o. next_if (shown_of a).view s o action answer) seat_there)
 
   own_step : Steps (shown_of a) (At s action) answer (shown_of b)
@@ -49,7 +49,7 @@ module _ (a b : Inside) (s : ℕ) (was now : Seat) (action : Action) (answer : A
     fits = rw seat_there acts.fits;
     view = next_shown;
     pinned = acts.pins;
-    waste = seat_wasted (shown_of a) s (seat_view a.books was) action answer (waste_at b.books.pool) seat_there (goes_on a b s was now action answer kept within is seats acts).waste;
+    waste = seat_wasted (shown_of a) s (seat_view_by a.books was) action answer (waste_at b.books.pool) seat_there (goes_on a b s was now action answer kept within is seats acts).waste;
   }
 
   -- an action of a seat that there is
@@ -58,7 +58,7 @@ module _ (a b : Inside) (s : ℕ) (was now : Seat) (action : Action) (answer : A
 
   own_uses : IsKept b → UsesNodes (shown_of a) (At s action) answer (shown_of b)
   own_uses after =
-      let p = seat_view a.books was in
+      let p = seat_view_by a.books was in
       let before : SeatUses p action answer (nodes_in (shown_of a)) (in_use b.books.pool) = subst (λ n. SeatUses p action answer n (in_use b.books.pool)) (nodes_kept a kept) acts.uses in
       let both : SeatUses p action answer (nodes_in (shown_of a)) (nodes_in (shown_of b)) = subst (λ n. SeatUses p action answer (nodes_in (shown_of a)) n) (nodes_kept b after) before in
       subst (λ o. UsesAt o (At s action) answer (shown_of a) (shown_of b)) (sym seat_there) both
@@ -76,7 +76,7 @@ none_wasted s n action = refl
 
 module _ (a : Inside) (s : ℕ) (action : Action) (past : length a.seats.items ≤ s) where
   none_there : slice_get (shown_of a).view.seats s ≡ None
-  none_there = slice_get-map (seat_view a.books) a.seats.items s ∙ ap (option_map (seat_view a.books)) (slice_get_past a.seats.items s past)
+  none_there = slice_get-map (seat_view_by a.books) a.seats.items s ∙ ap (option_map (seat_view_by a.books)) (slice_get_past a.seats.items s past)
 
   own_nowhere : Steps (shown_of a) (At s action) (Refused BadSeat) (shown_of a)
   own_nowhere =

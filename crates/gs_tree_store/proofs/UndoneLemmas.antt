@@ -9,7 +9,7 @@ use Rattle.gs_event.specs.Steps.{pin_after}
 use Rattle.gs_dict.specs.Numbering.{Numbered}
 use Rattle.gs_pool.specs.Pool.{Nodes, in_use}
 use Rattle.gs_tree.specs.Tree.{Tree, root_of, keys, tree_at}
-use Rattle.gs_keys.specs.Roots.{graph_at}
+use Rattle.gs_keys.specs.Roots.{graph_of_root}
 use Rattle.gs_staging.specs.Keys.{Grows}
 use Rattle.gs_staging.proofs.KeyLemmas.{still_grows, grows_twice}
 use Rattle.gs_changes.specs.Endings.{Restores}
@@ -24,7 +24,7 @@ use Rattle.gs_datasets.proofs.Outlasting.{keys_outlast}
 use Rattle.gs_tree_store.specs.declared.books.Books.{Books}
 use Rattle.gs_tree_store.specs.declared.books.Seat.{Seat}
 use Rattle.gs_tree_store.specs.declared.books.Seat.TheVariants.{Idle, Writing, Patching, Reading}
-use Rattle.gs_tree_store.specs.Books.{graphs_of, books_setting, dataset_of, totals_of, seat_view, upload_tree, read_trees, is_reading, IsSeat, IsSound, IsReady, HasLedgerAt}
+use Rattle.gs_tree_store.specs.Books.{graphs_of, books_setting, dataset_of, totals_of, seat_view_by, upload_tree, read_trees, is_reading, IsSeat, IsSound, IsReady, HasLedgerAt}
 use Rattle.gs_tree_store.specs.Actions.{SeatWastes, SeatUses, Acts}
 use Rattle.gs_tree_store.proofs.SeatLemmas.{SameGraphs, same_graphs, same_totals, ledger_stays}
 
@@ -47,7 +47,7 @@ module _ (b : Books) (d : Numbered) (q : Nodes) (grows : Grows b.dict d) (restor
     outlasts : Outlasts b.dict.terms d.terms (tree_at b.pool v.root)
     outlasts = subst (λ ts. Outlasts b.dict.terms ts (tree_at b.pool v.root)) (sym grows.terms) (keys_outlast b.dict.terms grows.more (tree_at b.pool v.root) is.keyed)
 
-    graph_same : graph_at d.terms q v.root ≡ graph_at b.dict.terms b.pool v.root
+    graph_same : graph_of_root d.terms q v.root ≡ graph_of_root b.dict.terms b.pool v.root
     graph_same = ap (tree_graph d.terms) (same.roots v.root) ∙ outlasts.same
 
     version_same : IsVersion d.terms q v
@@ -58,7 +58,7 @@ module _ (b : Books) (d : Numbered) (q : Nodes) (grows : Grows b.dict d) (restor
     }
 
   -- and so is what a seat shows that does not read
-  view_same : (seat : Seat) → is_reading seat ≡ false → IsSeat b.dict.terms b.pool seat → seat_view (with_nodes b d q) seat ≡ seat_view b seat
+  view_same : (seat : Seat) → is_reading seat ≡ false → IsSeat b.dict.terms b.pool seat → seat_view_by (with_nodes b d q) seat ≡ seat_view_by b seat
   view_same Idle none known = refl
   view_same (Writing k r v o) none known = ap (λ g. phase.Writing k r g) (graph_same v known)
   view_same (Patching t r o) none known = refl
@@ -106,7 +106,7 @@ module _ (b : Books) (d : Numbered) (q : Nodes) (grows : Grows b.dict d) (restor
   pub undone_totals : totals_of (with_nodes b d q) ≡ totals_of b
   undone_totals = totals_same
 
-  pub undone_graph : (v : GraphVersion) → IsVersion b.dict.terms b.pool v → graph_at d.terms q v.root ≡ graph_at b.dict.terms b.pool v.root
+  pub undone_graph : (v : GraphVersion) → IsVersion b.dict.terms b.pool v → graph_of_root d.terms q v.root ≡ graph_of_root b.dict.terms b.pool v.root
   undone_graph = graph_same
 
   pub undone_version : (v : GraphVersion) → IsVersion b.dict.terms b.pool v → IsVersion d.terms q v
@@ -119,7 +119,7 @@ module _ (b : Books) (d : Numbered) (q : Nodes) (grows : Grows b.dict d) (restor
       let mid = with_nodes b d q in
       let view = view_same was none known in
       record {
-        fits = subst (λ t. FitsSeat t (seat_view b was) action answer) totals_same (subst (λ p. FitsSeat (totals_of mid) p action answer) view acts.fits);
+        fits = subst (λ t. FitsSeat t (seat_view_by b was) action answer) totals_same (subst (λ p. FitsSeat (totals_of mid) p action answer) view acts.fits);
         totals = acts.totals ∙ (λ i. next_totals (totals_same i) (view i) action answer);
         seat = acts.seat ∙ (λ i. next_phase (totals_same i) (view i) action answer);
         pins = acts.pins;
@@ -130,20 +130,20 @@ module _ (b : Books) (d : Numbered) (q : Nodes) (grows : Grows b.dict d) (restor
             let on = acts.ledgers us rs (ledger_same s was us rs l) in
             record {
               ledger = on.ledger;
-              waste = subst (λ w. SeatWastes (totals_of b) (seat_view b was) action answer w (waste_at new.pool)) same.waste
-                  (subst (λ t. SeatWastes t (seat_view b was) action answer (waste_at q) (waste_at new.pool)) totals_same
+              waste = subst (λ w. SeatWastes (totals_of b) (seat_view_by b was) action answer w (waste_at new.pool)) same.waste
+                  (subst (λ t. SeatWastes t (seat_view_by b was) action answer (waste_at q) (waste_at new.pool)) totals_same
                   (subst (λ p. SeatWastes (totals_of mid) p action answer (waste_at q) (waste_at new.pool)) view on.waste));
             };
-        uses = subst (λ n. SeatUses (seat_view b was) action answer n (in_use new.pool)) restores.in_use (subst (λ p. SeatUses p action answer (in_use q) (in_use new.pool)) view acts.uses);
+        uses = subst (λ n. SeatUses (seat_view_by b was) action answer n (in_use new.pool)) restores.in_use (subst (λ p. SeatUses p action answer (in_use q) (in_use new.pool)) view acts.uses);
       }
 
 -- Nothing changes, and the answer says so.
-pub nothing_done : (b : Books) (s : ℕ) (seat : Seat) (action : Action) (a : Answer) → FitsSeat (totals_of b) (seat_view b seat) action a
-    → next_totals (totals_of b) (seat_view b seat) action a ≡ record { setting = books_setting b; dataset = dataset_of b; request = b.request + 0; commit = b.versions.commit + 0 }
-    → next_phase (totals_of b) (seat_view b seat) action a ≡ seat_view b seat
+pub nothing_done : (b : Books) (s : ℕ) (seat : Seat) (action : Action) (a : Answer) → FitsSeat (totals_of b) (seat_view_by b seat) action a
+    → next_totals (totals_of b) (seat_view_by b seat) action a ≡ record { setting = books_setting b; dataset = dataset_of b; request = b.request + 0; commit = b.versions.commit + 0 }
+    → next_phase (totals_of b) (seat_view_by b seat) action a ≡ seat_view_by b seat
     → pin_after b.versions.commit (get_or b.versions.seats s None) action a ≡ get_or b.versions.seats s None
-    → SeatWastes (totals_of b) (seat_view b seat) action a (waste_at b.pool) (waste_at b.pool)
-    → SeatUses (seat_view b seat) action a (in_use b.pool) (in_use b.pool)
+    → SeatWastes (totals_of b) (seat_view_by b seat) action a (waste_at b.pool) (waste_at b.pool)
+    → SeatUses (seat_view_by b seat) action a (in_use b.pool) (in_use b.pool)
     → IsReady b s seat → Acts b b s seat seat action a
 nothing_done b s seat action a fits totals phase pin waste uses ready = record {
   fits = fits;

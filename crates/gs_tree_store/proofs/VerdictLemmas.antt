@@ -19,7 +19,7 @@ use Rattle.gs_event.proofs.NameLemmas.{new_name-is_least}
 use Rattle.gs_pool.specs.Pool.{Nodes, in_use}
 use Rattle.gs_tree.specs.Tree.{Tree, keys}
 use Rattle.gs_keys.specs.Texts.{triple_at}
-use Rattle.gs_keys.specs.Roots.{graph_at}
+use Rattle.gs_keys.specs.Roots.{graph_of_root}
 use Rattle.gs_keys.proofs.KeyLemmas.{triples_of_keys}
 use Rattle.gs_catalogue.specs.declared.versions.GraphVersion.{GraphVersion}
 use Rattle.gs_catalogue.specs.Catalogues.{GraphVersions, empty_version, version_at, triple_count}
@@ -59,7 +59,7 @@ module _ (terms : List Term) (p : Nodes) where
       )
 
   -- a version has as many triples as it says
-  pub size_of_version : (v : GraphVersion) → IsVersion terms p v → v.triples ≡ size_of (graph_at terms p v.root)
+  pub size_of_version : (v : GraphVersion) → IsVersion terms p v → v.triples ≡ size_of (graph_of_root terms p v.root)
   size_of_version v is =
       let ks = keys (version_tree p v) in
       is.counted ∙ sym (ap length (triples_of_keys terms ks is.keyed.rising is.keyed.given) ∙ length-map ks (triple_at terms))

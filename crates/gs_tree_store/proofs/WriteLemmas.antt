@@ -21,7 +21,7 @@ use Rattle.gs_event.specs.Steps.{Joins, JoinsCopied, IsUnreached, EndsAt, most_f
 use Rattle.gs_pool.specs.declared.nodes.Node.{Node}
 use Rattle.gs_pool.specs.Pool.{Nodes, in_use, aside_count}
 use Rattle.gs_tree.specs.Tree.{Tree, keys, tree_at}
-use Rattle.gs_keys.specs.Roots.{graph_at}
+use Rattle.gs_keys.specs.Roots.{graph_of_root}
 use Rattle.gs_staging.proofs.KeyLemmas.{still_grows}
 use Rattle.gs_catalogue.specs.declared.versions.GraphVersion.{GraphVersion}
 use Rattle.gs_records.specs.Records.{Recorded}
@@ -31,7 +31,7 @@ use Rattle.gs_reclaim.specs.Reclaims.{CanRetireRoot}
 use Rattle.gs_datasets.specs.Standing.{all_versions, graph_trees, AreSameIn}
 use Rattle.gs_datasets.proofs.Outlasting.{keys_last}
 use Rattle.gs_datasets.proofs.Writing.{same_trees, versions_kept, dataset_kept}
-use Rattle.gs_commit.specs.Commits.{Drops, DropsAll}
+use Rattle.gs_commit.specs.Commits.{DropsUpload, DropsAll}
 use Rattle.gs_commit.specs.Laws.{IsRetirable}
 use Rattle.gs_commit.proofs.RootLemmas.{ledger_retirable}
 use Rattle.gs_commit.proofs.LawLemmas.{leaf_upload}
@@ -39,7 +39,7 @@ use Rattle.gs_tree_store.specs.declared.books.Books.{Books}
 use Rattle.gs_tree_store.specs.declared.books.Seat.{Seat}
 use Rattle.gs_tree_store.specs.declared.books.Seat.TheVariants.{Idle, Writing}
 use Rattle.gs_tree_store.specs.Books.{graphs_of, books_setting, dataset_of, totals_of, upload_tree, IsSound, HasLedger, HasLedgerAt, IsReady}
-use Rattle.gs_tree_store.specs.Writes.{HasUpload, Ends, Puts, Removes}
+use Rattle.gs_tree_store.specs.Writes.{HasUpload, EndsOneVersion, Puts, Removes}
 use Rattle.gs_tree_store.specs.Verdicts.{HasCounts}
 use Rattle.gs_tree_store.specs.Actions.{SeatUses, Acts, IsReadyAny}
 use Rattle.gs_tree_store.proofs.AlikeLemmas.{SameNow, acts_alike}
@@ -48,7 +48,7 @@ use Rattle.gs_tree_store.proofs.VerdictLemmas.{size_of_version, IsStored, IsNotS
 
 -- the graph of an upload
 abbrev pub upload_graph : Books → GraphVersion → Graph
-upload_graph b v = graph_at b.dict.terms b.pool v.root
+upload_graph b v = graph_of_root b.dict.terms b.pool v.root
 
 -- what the abstract store is asked by its commit
 abbrev pub asked_by : Books → UploadKind → ℕ → GraphVersion → Operation
@@ -165,7 +165,7 @@ commit_failed b q x s k r v o now same none drops used not name ready =
       known = tt;
       grows = still_grows b.dict b.dict refl;
       ledgers = λ us rs l.
-          let d : Drops b.versions b.pool q (tree_at b.pool v.root) gs us rs = drops b.versions gs us rs l.ledger in
+          let d : DropsUpload b.versions b.pool q (tree_at b.pool v.root) gs us rs = drops b.versions gs us rs l.ledger in
           record {
             ledger = idle_ledger (record b { pool = q }) s us rs l.there l.read (graphs_same b q ready.sound same us rs d.ledger);
             waste = failed_wastes (totals_of b) k g (waste_at b.pool) (waste_at q) (subst (λ n. Joins IsUnreached n (waste_at b.pool) (waste_at q)) size d.waste);
@@ -193,7 +193,7 @@ commit_stored old new s k r v o t status name puts number stored reported wastes
       known = tt;
       grows = still_grows old.dict new.dict kept.dict;
       ledgers = λ us rs l.
-          let e : Ends old new (size_at (dataset_of old) t) us rs = puts.ledgers us rs l.ledger in
+          let e : EndsOneVersion old new (size_at (dataset_of old) t) us rs = puts.ledgers us rs l.ledger in
           record {
             ledger = idle_ledger new s us rs l.there l.read e.ledger;
             waste = subst (λ b. WastesUpload (totals_of old) k g b (waste_at old.pool) (waste_at new.pool)) (sym stored.well) (wastes (waste_at old.pool) (waste_at new.pool) e.waste);
@@ -227,7 +227,7 @@ deleted old new s t status removes there is number ready =
       known = tt;
       grows = still_grows old.dict new.dict kept.dict;
       ledgers = λ us rs l.
-          let e : Ends old new (size_at m t) us rs = removes.ledgers us rs ((leaf_upload old.pool old.versions (graph_trees old.pool (graphs_of old)) us rs (dead_at old.pool)).1 l.ledger) in
+          let e : EndsOneVersion old new (size_at m t) us rs = removes.ledgers us rs ((leaf_upload old.pool old.versions (graph_trees old.pool (graphs_of old)) us rs (dead_at old.pool)).1 l.ledger) in
           record {
             ledger = idle_ledger new s us rs l.there l.read e.ledger;
             waste = subst (λ b. WastesDelete (totals_of old) t b (waste_at old.pool) (waste_at new.pool)) (sym well) e.waste;

@@ -18,7 +18,7 @@ use Rattle.gs_staging.specs.Keys.{Grows}
 use Rattle.gs_ledger.specs.Marks.{waste_at}
 use Rattle.gs_tree_store.specs.declared.books.Books.{Books}
 use Rattle.gs_tree_store.specs.declared.books.Seat.{Seat}
-use Rattle.gs_tree_store.specs.Books.{totals_of, seat_view, read_trees, IsSeat, IsSound, IsReady, HasLedgerAt}
+use Rattle.gs_tree_store.specs.Books.{totals_of, seat_view_by, read_trees, IsSeat, IsSound, IsReady, HasLedgerAt}
 
 -- what a seat's action that was answered so makes of the waste
 abbrev pub SeatWastes : Totals → SeatView → Action → Answer → List Lifetime → List Lifetime → Type 0
@@ -40,7 +40,7 @@ SeatUses p action a old new = new ≡ old
 -- where there was a ledger with the trees of the other seats, there is one still, and the waste is what the action makes of it
 pub record GoesOn (old new : Books) (s : ℕ) (was now : Seat) (action : Action) (answer : Answer) (uploads : List Tree) (reads : List (List Tree)) : Type 0 where
   pub ledger : HasLedgerAt new s now uploads (slice_set reads s (read_trees new.pool now))
-  pub waste : SeatWastes (totals_of old) (seat_view old was) action answer (waste_at old.pool) (waste_at new.pool)
+  pub waste : SeatWastes (totals_of old) (seat_view_by old was) action answer (waste_at old.pool) (waste_at new.pool)
 
 -- that is so whatever trees the other seats have
 abbrev pub GoesOnAll : Books → Books → ℕ → Seat → Seat → Action → Answer → Type 0
@@ -49,15 +49,15 @@ GoesOnAll old new s was now action answer =
 
 -- what an action of seat s that was answered so made of the books and of the seat
 pub record Acts (old new : Books) (s : ℕ) (was now : Seat) (action : Action) (answer : Answer) : Type 0 where
-  pub fits : FitsSeat (totals_of old) (seat_view old was) action answer
-  pub totals : totals_of new ≡ next_totals (totals_of old) (seat_view old was) action answer
-  pub seat : seat_view new now ≡ next_phase (totals_of old) (seat_view old was) action answer
+  pub fits : FitsSeat (totals_of old) (seat_view_by old was) action answer
+  pub totals : totals_of new ≡ next_totals (totals_of old) (seat_view_by old was) action answer
+  pub seat : seat_view_by new now ≡ next_phase (totals_of old) (seat_view_by old was) action answer
   pub pins : new.versions.seats ≡ slice_set old.versions.seats s (pin_after old.versions.commit (slice_index_or old.versions.seats s None) action answer)
   pub sound : IsSound new
   pub known : IsSeat new.dict.terms new.pool now
   pub grows : Grows old.dict new.dict
   pub ledgers : GoesOnAll old new s was now action answer
-  pub uses : SeatUses (seat_view old was) action answer (in_use old.pool) (in_use new.pool)
+  pub uses : SeatUses (seat_view_by old was) action answer (in_use old.pool) (in_use new.pool)
 
 -- there is a seat that the books are ready for
 pub record IsReadyAny (b : Books) (seat : Seat) : Type 0 where

@@ -11,7 +11,7 @@ use Rattle.gs_event.specs.Phases as phase
 use Rattle.gs_event.specs.Views.{Totals, SeatView}
 use Rattle.gs_pool.specs.Pool.{Nodes, aside_count}
 use Rattle.gs_tree.specs.Tree.{Tree, leaf, root_of, tree_at}
-use Rattle.gs_keys.specs.Roots.{graph_at}
+use Rattle.gs_keys.specs.Roots.{graph_of_root}
 use Rattle.gs_lines.specs.Pieces.{lines_from, IsCursor}
 use Rattle.gs_catalogue.specs.declared.versions.GraphVersion.{GraphVersion}
 use Rattle.gs_catalogue.specs.Catalogues.{GraphVersions, version_at}
@@ -51,13 +51,13 @@ totals_of b = record {
 -- a seat as it is seen: an upload is the graph of its tree, and a read the lines of its tree after the last that was given
 abbrev pub seat_shown : List Term → Nodes → Seat → SeatView
 seat_shown terms p Idle = phase.Idle
-seat_shown terms p (Writing k r v n) = phase.Writing k r (graph_at terms p v.root)
+seat_shown terms p (Writing k r v n) = phase.Writing k r (graph_of_root terms p v.root)
 seat_shown terms p (Patching t r n) = phase.Patching t r
 seat_shown terms p (Reading root last) = phase.Reading (lines_from terms p root last)
 
 -- the same, by the books
-abbrev pub seat_view : Books → Seat → SeatView
-seat_view b s = seat_shown b.dict.terms b.pool s
+abbrev pub seat_view_by : Books → Seat → SeatView
+seat_view_by b s = seat_shown b.dict.terms b.pool s
 
 -- the tree of the seat's upload, a leaf where it has none
 abbrev pub upload_tree : Nodes → Seat → Tree
@@ -75,7 +75,7 @@ is_reading (Reading root last) = true
 is_reading s = false
 
 -- a root and the last key given of it: the root means a tree in order, and the key's numbers were given
-pub record IsRead (terms : List Term) (p : Nodes) (root : Option ℕ) (last : Option Rattle.gs_pool.specs.declared.nodes.Key.Key) : Type 0 where
+pub record IsReadFrom (terms : List Term) (p : Nodes) (root : Option ℕ) (last : Option Rattle.gs_pool.specs.declared.nodes.Key.Key) : Type 0 where
   pub root_is : root_of (tree_at p root) ≡ root
   pub keyed : IsKeyed terms (tree_at p root)
   pub given : IsCursor terms last
@@ -83,7 +83,7 @@ pub record IsRead (terms : List Term) (p : Nodes) (root : Option ℕ) (last : Op
 -- what is true of a seat: its upload is the version of a graph, and its read one of such a tree
 abbrev pub IsSeat : List Term → Nodes → Seat → Type 0
 IsSeat terms p (Writing k r v n) = IsVersion terms p v
-IsSeat terms p (Reading root last) = IsRead terms p root last
+IsSeat terms p (Reading root last) = IsReadFrom terms p root last
 IsSeat terms p s = Unit {0}
 
 -- what is true of the books alone

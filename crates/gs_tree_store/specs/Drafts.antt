@@ -9,7 +9,7 @@ use Rattle.gs_tree.specs.Tree.{occurrences, tree_at}
 use Rattle.gs_tree.specs.Reading.{keys_at}
 use Rattle.gs_tree.specs.Steps.{Step}
 use Rattle.gs_keys.specs.Texts.{key_cmp, IsGiven}
-use Rattle.gs_keys.specs.Roots.{graph_at}
+use Rattle.gs_keys.specs.Roots.{graph_of_root}
 use Rattle.gs_changes.specs.Changes.{IsEarlier, CanBegin}
 use Rattle.gs_changes.specs.Endings.{IsDraftAt}
 use Rattle.gs_staging.specs.Staging.{IsStaged}
@@ -36,5 +36,5 @@ pub record Drafts (birth : ℕ) (grown : List Term) (p q : Nodes) (old v : Graph
   pub tree : IsTreeOf q birth (tree_at q v.root)
   pub draft : IsDraftAt q v.root
   pub version : IsVersion grown q v
-  pub graph : graph_at grown q v.root ≡ g
+  pub graph : graph_of_root grown q v.root ≡ g
   pub few : aside_count q ≤ most

@@ -4,13 +4,13 @@ use Rattle.std.specs.List.{All}
 use Rattle.gs_event.specs.Waste.{Shown}
 use Rattle.gs_ledger.specs.Marks.{waste_at}
 use Rattle.gs_tree_store.specs.declared.stores.TreeStore.TheInside.{Inside}
-use Rattle.gs_tree_store.specs.Books.{totals_of, seat_view, upload_tree, read_trees, is_reading, IsSeat, IsSound, HasLedger}
+use Rattle.gs_tree_store.specs.Books.{totals_of, seat_view_by, upload_tree, read_trees, is_reading, IsSeat, IsSound, HasLedger}
 use Rattle.gs_tree_store.specs.Opened.{HaveRecords}
 
 -- the view of the books and the seats, the pins, and the waste that the marks of the pool say
 abbrev pub shown_of : Inside → Shown
 shown_of a = record {
-  view = record { totals = totals_of a.books; seats = map (seat_view a.books) a.seats.items };
+  view = record { totals = totals_of a.books; seats = map (seat_view_by a.books) a.seats.items };
   pinned = a.books.versions.seats;
   waste = waste_at a.books.pool;
 }

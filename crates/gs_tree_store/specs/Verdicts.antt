@@ -7,7 +7,7 @@ use Rattle.gs_event.specs.declared.verdicts.Place.{Place}
 use Rattle.gs_event.specs.declared.verdicts.Verdict.{Verdict}
 use Rattle.gs_event.specs.Names.{new_name}
 use Rattle.gs_event.specs.Verdicts.{is_named, holdings_of, place_in, verdict_of, DecidesStore}
-use Rattle.gs_keys.specs.Roots.{graph_at}
+use Rattle.gs_keys.specs.Roots.{graph_of_root}
 use Rattle.gs_catalogue.specs.declared.versions.GraphVersion.{GraphVersion}
 use Rattle.gs_catalogue.specs.Catalogues.{empty_version}
 use Rattle.gs_tree_store.specs.declared.books.Books.{Books}
@@ -29,7 +29,7 @@ verdict_by b t x = verdict_of (holdings_of (books_setting b) (dataset_of b) b.ve
 
 -- this becomes of a write that makes the upload its target's graph, and may create it
 abbrev pub DecidesUpload : Books → Target → GraphVersion → Verdict → Type 0
-DecidesUpload b t v verdict = DecidesStore (books_setting b) (dataset_of b) b.versions.commit t (graph_at b.dict.terms b.pool v.root) verdict
+DecidesUpload b t v verdict = DecidesStore (books_setting b) (dataset_of b) b.versions.commit t (graph_of_root b.dict.terms b.pool v.root) verdict
 
 -- the name that is made up for the request of this number
 abbrev pub name_for : Books → ℕ → List ℕ

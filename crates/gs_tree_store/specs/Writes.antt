@@ -3,7 +3,7 @@ use Rattle.std.specs.Prelude.{◌≡◌, ℕ, ◌+◌, List, ◌∷◌, string_b
 use Rattle.gs_term.specs.declared.names.Target.{Target}
 use Rattle.gs_event.specs.Datasets.{with_graph, without_graph, size_at}
 use Rattle.gs_event.specs.Steps.{Joins, EndsAt}
-use Rattle.gs_keys.specs.Roots.{graph_at}
+use Rattle.gs_keys.specs.Roots.{graph_of_root}
 use Rattle.gs_tree.specs.Tree.{Tree, tree_at}
 use Rattle.gs_catalogue.specs.declared.versions.GraphVersion.{GraphVersion}
 use Rattle.gs_ledger.specs.Marks.{waste_at}
@@ -36,16 +36,16 @@ pub record KeepsBooks (old new : Books) : Type 0 where
   pub nodes : new.pool.nodes ≡ old.pool.nodes
 
 -- the ledger goes on, and at most so many nodes, which a version had, join the waste by this commit
-pub record Ends (old new : Books) (size : ℕ) (uploads : List Tree) (reads : List (List Tree)) : Type 0 where
+pub record EndsOneVersion (old new : Books) (size : ℕ) (uploads : List Tree) (reads : List (List Tree)) : Type 0 where
   pub ledger : HasLedger new uploads reads
   pub waste : Joins (EndsAt (old.versions.commit + 1)) size (waste_at old.pool) (waste_at new.pool)
 
 -- the target has the upload's graph now, and the upload is no more, whose record had number n
 pub record Puts (old new : Books) (n : ℕ) (t : Target) (v : GraphVersion) : Type 0 where
-  pub dataset : dataset_of new ≡ with_graph (dataset_of old) t (graph_at old.dict.terms old.pool v.root)
+  pub dataset : dataset_of new ≡ with_graph (dataset_of old) t (graph_of_root old.dict.terms old.pool v.root)
   pub kept : KeepsBooks old new
   pub sound : IsSound new
-  pub ledgers : (uploads : List Tree) (reads : List (List Tree)) → HasLedger old (tree_at old.pool v.root ∷ uploads) reads → Ends old new (size_at (dataset_of old) t) uploads reads
+  pub ledgers : (uploads : List Tree) (reads : List (List Tree)) → HasLedger old (tree_at old.pool v.root ∷ uploads) reads → EndsOneVersion old new (size_at (dataset_of old) t) uploads reads
   pub lets_go : LetsGo old new n
 
 -- the target has no graph now, or an empty one where it is the default graph
@@ -53,5 +53,5 @@ pub record Removes (old new : Books) (t : Target) : Type 0 where
   pub dataset : dataset_of new ≡ without_graph (dataset_of old) t
   pub kept : KeepsBooks old new
   pub sound : IsSound new
-  pub ledgers : (uploads : List Tree) (reads : List (List Tree)) → HasLedger old uploads reads → Ends old new (size_at (dataset_of old) t) uploads reads
+  pub ledgers : (uploads : List Tree) (reads : List (List Tree)) → HasLedger old uploads reads → EndsOneVersion old new (size_at (dataset_of old) t) uploads reads
   pub same_opened : SameOpened old new

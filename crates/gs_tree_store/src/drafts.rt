@@ -4,7 +4,7 @@ ghost use Rattle.gs_model.specs.Graphs.{with_triples};
 ghost use Rattle.gs_event.specs.Updates.{updated, inserted_by, removed_by};
 ghost use Rattle.gs_tree.specs.Steps.{SameTotal};
 ghost use Rattle.gs_keys.specs.Texts.{triple_at};
-ghost use Rattle.gs_keys.specs.Roots.{graph_at};
+ghost use Rattle.gs_keys.specs.Roots.{graph_of_root};
 ghost use Rattle.gs_changes.specs.Endings.{Restores};
 ghost use Rattle.gs_staging.specs.Keys.{Grows};
 ghost use Rattle.gs_tree_store.specs.Drafts.{CanDraft, IsRun, Drafts};
@@ -29,7 +29,7 @@ pub fn united(
     requires can { CanDraft birth dict.now.terms pool.old old }
     requires run { IsRun dict.now.terms keys.now }
     ensures ok { IfOk result (λ v. Drafts birth dict.now.terms pool.old pool.new old v
-        (with_triples (graph_at dict.now.terms pool.old old.root) (map (triple_at dict.now.terms) keys.now))
+        (with_triples (graph_of_root dict.now.terms pool.old old.root) (map (triple_at dict.now.terms) keys.now))
         (259 * length keys.now)) }
     ensures kept { OnErr result (Restores pool.old pool.new) }
     ensures total { SameTotal pool.old pool.new }
@@ -60,9 +60,9 @@ pub fn patched(
     requires { CanDraft birth dict.old.terms pool.old old }
     ensures grows { Grows dict.old dict.new }
     ensures ok { IfOk result (λ v. Drafts birth dict.new.terms pool.old pool.new old v
-        (updated (graph_at dict.old.terms pool.old old.root) operations.now)
-        (259 * inserted_by (graph_at dict.old.terms pool.old old.root) operations.now
-        + 261 * removed_by (graph_at dict.old.terms pool.old old.root) operations.now)) }
+        (updated (graph_of_root dict.old.terms pool.old old.root) operations.now)
+        (259 * inserted_by (graph_of_root dict.old.terms pool.old old.root) operations.now
+        + 261 * removed_by (graph_of_root dict.old.terms pool.old old.root) operations.now)) }
     ensures kept { OnErr result (Restores pool.old pool.new) }
 {
     // A number that is free has no mark.

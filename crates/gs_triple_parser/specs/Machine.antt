@@ -20,8 +20,8 @@ use Rattle.gs_triple_parser.specs.declared.parser.TripleParser.{TripleParser}
 use Rattle.gs_triple_parser.specs.declared.parser.Turn as code
 
 -- a symbol after a string without a suffix, which is the object that stands last
-abbrev pub next_of : {X T : Type 0} → State X T → Symbol → Turn X T
-next_of s t = machine.go_on (symbol_at t) s
+abbrev pub turn_after_string : {X T : Type 0} → State X T → Symbol → Turn X T
+turn_after_string s t = machine.go_on (symbol_at t) s
 
 -- in a language of the code
 module _ {L S V X T : Type 0} (l : TypedLanguage S V X T) where

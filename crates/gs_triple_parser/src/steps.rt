@@ -16,7 +16,7 @@ impl<L: Language> TripleParser<L> {
     ghost use Rattle.gs_triples.specs.Machine as machine;
     ghost use Rattle.gs_triple_values.specs.Views.{symbol_at};
     ghost use Rattle.gs_triple_parser.specs.Views.{triples_state, triples_turn};
-    ghost use Rattle.gs_triple_parser.specs.Machine.{IsTaken, Turned, simple_of, step_of, next_of};
+    ghost use Rattle.gs_triple_parser.specs.Machine.{IsTaken, Turned, simple_of, step_of, turn_after_string};
 
     /// A symbol after a `[` that opens triples.
     #[tactic(auto, unfolding(gs_triples::specs::Machine::step))]
@@ -60,7 +60,7 @@ impl<L: Language> TripleParser<L> {
     #[tactic(auto, unfolding(gs_triples::specs::Machine::step))]
     fn go_on(&mut self, symbol: Symbol) -> Result<Turn, AllocError>
         ensures { Turned L.language result self.new
-            (next_of (triples_state L.language self.old) symbol.entry) }
+            (turn_after_string (triples_state L.language self.old) symbol.entry) }
     {
         match mem::replace(&mut self.place, Place::Lost(Fault::Syntax)) {
             Place::Heading(goal) => self.head(goal, symbol),
@@ -77,7 +77,7 @@ impl<L: Language> TripleParser<L> {
     #[inline]
     fn simple(&mut self, slot: Slot<L>, symbol: Symbol) -> Result<Turn, AllocError>
         ensures { Turned L.language result self.new
-            (next_of (simple_of L.language self.old slot) symbol.entry) }
+            (turn_after_string (simple_of L.language self.old slot) symbol.entry) }
     {
         let made = terms::simple(self.alloc, self.text.as_str())?;
         self.put(slot, made)?;

@@ -2,7 +2,7 @@
 use Rattle.std.proofs.Common.{◌≡◌, ℕ, List, true, cond, refl, sym, ap, ◌∙◌}
 use Rattle.std.specs.Prelude.{codes, Option, Some, None, option_map, Result, Ok, Err}
 use Rattle.gs_model.specs.Terms.{Term, Blank}
-use Rattle.gs_blank.specs.Numbers.{Numbers, number_of}
+use Rattle.gs_blank.specs.Numbers.{Numbers, label_number}
 use Rattle.gs_escape.specs.Tokens.{rest_after}
 use Rattle.gs_triples.specs.Meanings.{Fault, Syntax, iri, value_of, labelled, word}
 use Rattle.gs_triples.specs.Symbols.{Label}
@@ -33,7 +33,7 @@ module _ {S V X T : Type 0} (l : TypedLanguage S V X T) (a : Allowed) (c : Conte
   node_of (Some p) = Ok (l.grammar.of_term (Blank c.request p.0), p.1)
 
   -- a label's blank node, by its number
-  labelled_by : (n : Numbers) (o : Option (List ℕ)) → node_of (option_map (number_of n) o) ≡ labelled (context_in (language_of l a) c) n o
+  labelled_by : (n : Numbers) (o : Option (List ℕ)) → node_of (option_map (label_number n) o) ≡ labelled (context_in (language_of l a) c) n o
   unfolding node_of
   labelled_by n None = refl
   labelled_by n (Some x) = refl
@@ -44,12 +44,12 @@ module _ {S V X T : Type 0} (l : TypedLanguage S V X T) (a : Allowed) (c : Conte
   word_by n x h = sym (ap (λ b. cond b (labelled (context_in (language_of l a) c) n (rest_after (codes "_:") x)) (Err Syntax)) h)
 
   -- what is no label
-  pub no_label : (n : Numbers) (x : List ℕ) → a.nodes ≡ true → None ≡ option_map (number_of n) (rest_after (codes "_:") x) → Err Syntax ≡ word (context_in (language_of l a) c) n (Label x)
+  pub no_label : (n : Numbers) (x : List ℕ) → a.nodes ≡ true → None ≡ option_map (label_number n) (rest_after (codes "_:") x) → Err Syntax ≡ word (context_in (language_of l a) c) n (Label x)
   unfolding node_of
   no_label n x h e = ap node_of e ∙ labelled_by n (rest_after (codes "_:") x) ∙ word_by n x h
 
   -- the blank node of a label
-  pub label_node : (n m : Numbers) (x : List ℕ) (k : ℕ) → a.nodes ≡ true → Some (k, m) ≡ option_map (number_of n) (rest_after (codes "_:") x)
+  pub label_node : (n m : Numbers) (x : List ℕ) (k : ℕ) → a.nodes ≡ true → Some (k, m) ≡ option_map (label_number n) (rest_after (codes "_:") x)
       → Ok (l.grammar.of_term (Blank c.request k), m) ≡ word (context_in (language_of l a) c) n (Label x)
   unfolding node_of
   label_node n m x k h e = ap node_of e ∙ labelled_by n (rest_after (codes "_:") x) ∙ word_by n x h

@@ -2,7 +2,7 @@
 ghost use Rattle.std.specs.Prelude.{◌≡◌, Some, IfOk, option_map, codes};
 ghost use Rattle.gs_model.specs.Terms.{Literal, Typed};
 ghost use Rattle.gs_escape.specs.Tokens.{rest_after};
-ghost use Rattle.gs_blank.specs.Numbers.{Numbers, number_of};
+ghost use Rattle.gs_blank.specs.Numbers.{Numbers, label_number};
 ghost use Rattle.gs_token_terms.specs.Datatypes.{datatype_iri};
 ghost use Rattle.gs_triple_values.specs.Terms.{stood, StandsFor, StandsNumbered, IsNumbered};
 ghost use Rattle.gs_triple_values.specs.Terms.{iri_value, verb_value, word_value, subject_value};
@@ -83,7 +83,7 @@ pub fn verb<L: Language>(
 /// The number of a label, which stands after its mark.
 fn labelled(numbering: &mut Numbering, label: &str) -> Result<Option<u64>, AllocError>
     ensures { IfOk result (λ o. option_map (λ k. (k, numbering.new)) o
-        ≡ option_map (number_of numbering.old) (rest_after (codes "_:") label.now)) }
+        ≡ option_map (label_number numbering.old) (rest_after (codes "_:") label.now)) }
 {
     let Some(label) = after(label, "_:") else {
         return Ok(None);

@@ -4,7 +4,7 @@ use Rattle.std.specs.Prelude.{Option, Some, None, option_map, option_and_then}
 use Rattle.std.specs.FinMap as finite
 use Rattle.gs_model.specs.Terms.{Iri, Literal, Typed}
 use Rattle.gs_iri.specs.Resolving.{resolved}
-use Rattle.gs_escape.specs.Tokens.{iri_of, string_of, parts_of}
+use Rattle.gs_escape.specs.Tokens.{iri_of, string_of, split_at_colon}
 use Rattle.gs_triples.specs.Languages.{Language}
 use Rattle.gs_triples.specs.Symbols.{TermToken, Reference, Namespace, Name, Label, Plain, Variable, Symbol, ATerm}
 use Rattle.gs_triples.specs.Meanings.{Context, in_language, made_of, name_text, iri_text, iri, typed}
@@ -62,4 +62,4 @@ module _ {Value Triple V T : Type 0} (l : Language Value Triple) (env : Context 
   -- a prefix is declared alike
   pub with_prefix-in_language : (p x : List ℕ) → with_prefix (in_language l env) p x ≡ option_map (λ e. in_language l e) (with_prefix env p x)
   unfolding with_prefix
-  with_prefix-in_language p x = named_by x (parts_of p)
+  with_prefix-in_language p x = named_by x (split_at_colon p)

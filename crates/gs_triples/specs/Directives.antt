@@ -2,7 +2,7 @@
 use Rattle.std.specs.Prelude.{ℕ, List, Option, option_map, option_and_then}
 use Rattle.std.specs.FinMap as finite
 use Rattle.gs_iri.specs.Resolving.{resolved}
-use Rattle.gs_escape.specs.Tokens.{iri_of, parts_of}
+use Rattle.gs_escape.specs.Tokens.{iri_of, split_at_colon}
 use Rattle.gs_triples.specs.Languages.{Language}
 use Rattle.gs_triples.specs.Meanings.{Context}
 
@@ -14,7 +14,7 @@ module _ {Value Triple : Type 0} where
   -- the context from the next statement on; a prefix's text ends in its colon
   unfoldable pub with_prefix : Context Value Triple → List ℕ → List ℕ → Option (Context Value Triple)
   with_prefix env p x =
-      option_and_then (λ q. option_map (λ i. record env { prefixes = finite.insert env.prefixes q.0 (resolved env.base i) }) (iri_of x)) (parts_of p)
+      option_and_then (λ q. option_map (λ i. record env { prefixes = finite.insert env.prefixes q.0 (resolved env.base i) }) (iri_of x)) (split_at_colon p)
 
   -- the base is resolved against the one before it
   unfoldable pub with_base : Context Value Triple → List ℕ → Option (Context Value Triple)

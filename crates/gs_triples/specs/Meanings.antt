@@ -5,8 +5,8 @@ use Rattle.std.specs.Str.{str_to_ascii_lowercase}
 use Rattle.std.specs.FinMap as finite
 use Rattle.gs_model.specs.Terms.{Term, Iri, Blank, Literal, Typed, Tagged, xsd_string}
 use Rattle.gs_iri.specs.Resolving.{resolved}
-use Rattle.gs_escape.specs.Tokens.{rest_after, iri_of, string_of, local_of, parts_of}
-use Rattle.gs_blank.specs.Numbers.{Numbers, number_of}
+use Rattle.gs_escape.specs.Tokens.{rest_after, iri_of, string_of, local_of, split_at_colon}
+use Rattle.gs_blank.specs.Numbers.{Numbers, label_number}
 pub use Rattle.gs_model.specs.declared.faults.Fault.{Fault}
 pub use Rattle.gs_model.specs.declared.faults.Fault.TheVariants.{Syntax, TermTooLong}
 use Rattle.gs_term.specs.Making.{made}
@@ -73,7 +73,7 @@ module _ {Value Triple : Type 0} where
   -- 2.4: the prefix's IRI, and after it the local part
   unfoldable pub name_text : Context Value Triple → List ℕ → Option (List ℕ)
   name_text env x =
-      option_and_then (λ p. option_and_then (λ i. option_map (λ l. i ++ l) (local_of p.1)) (finite.get env.prefixes p.0)) (parts_of x)
+      option_and_then (λ p. option_and_then (λ i. option_map (λ l. i ++ l) (local_of p.1)) (finite.get env.prefixes p.0)) (split_at_colon x)
 
   -- [135s] iri: a reference is resolved against the base (6.3)
   abbrev pub iri_text : Context Value Triple → TermToken → Option (List ℕ)
@@ -96,7 +96,7 @@ module _ {Value Triple : Type 0} where
   -- the blank node of a label, which has the label's number, or else the next
   abbrev pub labelled : Context Value Triple → Numbers → Option (List ℕ) → Result (Value × Numbers) Fault
   labelled env n None = Err Syntax
-  labelled env n (Some l) = Ok (blank env (number_of n l).0, (number_of n l).1)
+  labelled env n (Some l) = Ok (blank env (label_number n l).0, (label_number n l).1)
 
   -- the value of one token; a label stands after its `_:`
   unfoldable pub word : Context Value Triple → Numbers → TermToken → Result (Value × Numbers) Fault

@@ -2,7 +2,7 @@
 use Rattle.std.proofs.Common.{◌≡◌, ℕ, false, List, refl, ap, subst, ◌∙◌}
 use Rattle.gs_lex.specs.Tokens as lexer
 use Rattle.gs_lex.specs.Tokens.{IsCut}
-use Rattle.gs_lex.specs.Cuts.{cut_of}
+use Rattle.gs_lex.specs.Cuts.{cut_of_text}
 use Rattle.gs_lex.proofs.CutLemmas.{cut-from}
 use Rattle.gs_body.specs.Bodies.{Whole, Faulty, Meaning, Statement}
 use Rattle.gs_document.specs.Program.{document}
@@ -19,7 +19,7 @@ whole-ends (lexer.AtFault n) (ss, Faulty f) S h = absurd (Prim.cc (ap (λ (t : M
 pub body-covered : (b : List ℕ) (r : ℕ) (x : List ℕ) (S : List Statement) → meaning_by b r x ≡ (S, Whole) → IsBody b r x S
 unfolding meaning_by
 body-covered b r x S h =
-    let c = cut_of false x in
+    let c = cut_of_text false x in
     let w = whole-ends c.1 (document b r c.0) S h in
     record {
       lexemes = c.0;

@@ -5,7 +5,7 @@ use Rattle.std.specs.List.{AllByRecursion}
 use Rattle.std.proofs.lemmas.List.Elements.{All-from_recursion}
 use Rattle.gs_lex.specs.Tokens as lexer
 use Rattle.gs_lex.specs.Tokens.{Lexeme, IsCut, CutEnd}
-use Rattle.gs_lex.specs.Cuts.{cut_of}
+use Rattle.gs_lex.specs.Cuts.{cut_of_text}
 use Rattle.gs_lex.proofs.CutLemmas.{cut-from}
 use Rattle.gs_blank.specs.Numbers.{Numbers, no_numbers}
 use Rattle.gs_body.specs.Bodies.{Whole, Faulty, Meaning, Statement, IsBroken, end_after}
@@ -101,7 +101,7 @@ no_body b r x S f h body = let both : Whole ≡ Faulty f = ap (λ (z : Meaning).
 pub faulty_read : (b : List ℕ) (r : ℕ) (x : List ℕ) (S : List Statement) → SaysUpTo b r x S → IsFaultyAfter b r x S
 unfolding meaning_by
 faulty_read b r x S (f, h) =
-    let c = cut_of false x in
+    let c = cut_of_text false x in
     read_to b r x c.0 c.1 S (cut-from false lexer.Between 0 0 x) (fault_cases c.1 b r c.0 S f (document b r c.0) refl h) (no_body b r x S f h)
 
 -- tokens after which a text has a fault

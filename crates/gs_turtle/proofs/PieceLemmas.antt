@@ -5,9 +5,9 @@ use Rattle.gs_model.specs.Triples.{RdfTriple}
 use Rattle.gs_model.specs.declared.refusals.Refusal.{Refusal}
 use Rattle.gs_machine.specs.Machines.{AreSettled, Begins}
 use Rattle.gs_machine.specs.Utf8.{IsLongestFront}
-use Rattle.gs_body.specs.Bodies.{Meaning, Reports, triples_of}
+use Rattle.gs_body.specs.Bodies.{Meaning, Reports, all_stated}
 use Rattle.gs_body.specs.Feeding.{Feeds}
-use Rattle.gs_turtle.specs.Readers.{LeadsTo, meaning_for, Keeps, Goes, Reads, IsRefused}
+use Rattle.gs_turtle.specs.Readers.{IsLedBy, meaning_for, KeepsReader, PieceLeadsOn, Reads, IsRefused}
 use Rattle.gs_turtle.specs.declared.readers.TurtleReader.{TurtleReader}
 use Rattle.gs_turtle.proofs.SaidLemmas.{begun}
 use Rattle.gs_turtle.proofs.HistoryLemmas.{meaning_of-same, keeps-then}
@@ -20,20 +20,20 @@ halves x front back n p q = sym (take-append-drop n x) ∙ ap (λ z. z ++ drop n
 pub record Walks (old new : TurtleReader) (piece later : List ℕ) (before after : List RdfTriple) : Type 0 where
   pub front : List ℕ
   pub parts : piece ≡ front ++ later
-  pub goes : Goes old new front before after
-  pub kept : Keeps old new
+  pub goes : PieceLeadsOn old new front before after
+  pub kept : KeepsReader old new
 
 -- one piece after another
-abbrev goes-then : (a b c : TurtleReader) (p q : List ℕ) (o1 o2 o3 : List RdfTriple) → Goes a b p o1 o2 → Goes b c q o2 o3 → Goes a c (p ++ q) o1 o3
+abbrev goes-then : (a b c : TurtleReader) (p q : List ℕ) (o1 o2 o3 : List RdfTriple) → PieceLeadsOn a b p o1 o2 → PieceLeadsOn b c q o2 o3 → PieceLeadsOn a c (p ++ q) o1 o3
 goes-then a b c p q o1 o2 o3 g h = record {
   given = g.given ++ h.given;
   grown = h.grown ∙ ap (λ z. z ++ h.given) g.grown ∙ append_assoc o1 g.given h.given;
-  leads = λ x ts l. subst (λ z. LeadsTo c z (ts ++ (g.given ++ h.given))) (append_assoc x p q)
-      (subst (LeadsTo c ((x ++ p) ++ q)) (append_assoc ts g.given h.given) (h.leads (x ++ p) (ts ++ g.given) (g.leads x ts l)));
+  leads = λ x ts l. subst (λ z. IsLedBy c z (ts ++ (g.given ++ h.given))) (append_assoc x p q)
+      (subst (IsLedBy c ((x ++ p) ++ q)) (append_assoc ts g.given h.given) (h.leads (x ++ p) (ts ++ g.given) (g.leads x ts l)));
 }
 
 -- one portion more
-pub walks-more : (a b c : TurtleReader) (piece rest portion later : List ℕ) (o1 o2 o3 : List RdfTriple) → Walks a b piece rest o1 o2 → rest ≡ portion ++ later → Reads b c portion o2 o3 → Keeps b c
+pub walks-more : (a b c : TurtleReader) (piece rest portion later : List ℕ) (o1 o2 o3 : List RdfTriple) → Walks a b piece rest o1 o2 → rest ≡ portion ++ later → Reads b c portion o2 o3 → KeepsReader b c
     → Walks a c piece later o1 o3
 walks-more a b c piece rest portion later o1 o2 o3 w e r k = record {
   front = w.front ++ portion;
@@ -43,15 +43,15 @@ walks-more a b c piece rest portion later o1 o2 o3 w e r k = record {
 }
 
 -- the last portion
-reads-then : (a b c : TurtleReader) (p q : List ℕ) (o1 o2 o3 : List RdfTriple) → Keeps a b → Goes a b p o1 o2 → Reads b c q o2 o3 → Reads a c (p ++ q) o1 o3
+reads-then : (a b c : TurtleReader) (p q : List ℕ) (o1 o2 o3 : List RdfTriple) → KeepsReader a b → PieceLeadsOn a b p o1 o2 → Reads b c q o2 o3 → Reads a c (p ++ q) o1 o3
 reads-then a b c p q o1 o2 o3 k g r = record {
   goes = goes-then a b c p q o1 o2 o3 g r.goes;
   settled = λ x ts l front u.
       let i : IsLongestFront ((x ++ p) ++ q) front = subst (λ z. IsLongestFront z front) (sym (append_assoc x p q)) u in
-      let s : AreSettled (λ z. triples_of (meaning_for a z).0) front ((ts ++ g.given) ++ r.goes.given) =
-      subst (λ (f : List ℕ → List RdfTriple). AreSettled f front ((ts ++ g.given) ++ r.goes.given)) (λ j z. triples_of (meaning_of-same a b k z j).0)
+      let s : AreSettled (λ z. all_stated (meaning_for a z).0) front ((ts ++ g.given) ++ r.goes.given) =
+      subst (λ (f : List ℕ → List RdfTriple). AreSettled f front ((ts ++ g.given) ++ r.goes.given)) (λ j z. all_stated (meaning_of-same a b k z j).0)
       (r.settled (x ++ p) (ts ++ g.given) (g.leads x ts l) front i) in
-      subst (AreSettled (λ y. triples_of (meaning_for a y).0) front) (append_assoc ts g.given r.goes.given) s;
+      subst (AreSettled (λ y. all_stated (meaning_for a y).0) front) (append_assoc ts g.given r.goes.given) s;
 }
 
 -- all of a piece was read
@@ -76,11 +76,11 @@ pub walks-last-refused : (e : Refusal) (a b : TurtleReader) (piece rest : List �
 walks-last-refused e a b piece rest o1 o2 w h = walks-refused e a b piece rest rest [] o1 o2 w (sym (append-nil rest)) h
 
 -- a piece was read
-pub feeds : (a b : TurtleReader) (piece : List ℕ) (o1 o2 : List RdfTriple) → Reads a b piece o1 o2 → Keeps a b → Feeds meaning_for LeadsTo a b piece o1 o2
+pub feeds : (a b : TurtleReader) (piece : List ℕ) (o1 o2 : List RdfTriple) → Reads a b piece o1 o2 → KeepsReader a b → Feeds meaning_for IsLedBy a b piece o1 o2
 feeds a b piece o1 o2 r k = record {
   given = r.goes.given;
   grown = r.goes.grown;
   leads = r.goes.leads;
-  begun = λ x ts l y. subst (λ (s : Meaning). Begins (triples_of s.0) (ts ++ r.goes.given)) (meaning_of-same a b k ((x ++ piece) ++ y)) (begun b (x ++ piece) (ts ++ r.goes.given) (r.goes.leads x ts l) y);
+  begun = λ x ts l y. subst (λ (s : Meaning). Begins (all_stated s.0) (ts ++ r.goes.given)) (meaning_of-same a b k ((x ++ piece) ++ y)) (begun b (x ++ piece) (ts ++ r.goes.given) (r.goes.leads x ts l) y);
   settled = r.settled;
 }

@@ -2,7 +2,7 @@
 use Rattle.std.specs.Prelude.{◌≡◌, ℕ, false, List}
 use Rattle.gs_lex.specs.Tokens as lexer
 use Rattle.gs_lex.specs.Tokens.{IsCut, Lexeme}
-use Rattle.gs_lex.specs.Cuts.{cut_of}
+use Rattle.gs_lex.specs.Cuts.{cut_of_text}
 use Rattle.gs_model.specs.declared.faults.Fault.TheVariants as fault
 use Rattle.gs_body.specs.Bodies.{Meaning, Statement, Whole, Faulty}
 use Rattle.gs_document.specs.Documents.{IsDocument}
@@ -16,7 +16,7 @@ ended_by (lexer.AtFault n) (ss, Faulty f) = (ss, Faulty f)
 
 -- what a text says under the base b in the request r
 unfoldable pub meaning_by : List ℕ → ℕ → List ℕ → Meaning
-meaning_by b r x = let c = cut_of false x in ended_by c.1 (document b r c.0)
+meaning_by b r x = let c = cut_of_text false x in ended_by c.1 (document b r c.0)
 
 -- the text has no fault, and says these statements
 abbrev pub SaysWhole : List ℕ → ℕ → List ℕ → List Statement → Type 0

@@ -5,7 +5,7 @@ ghost use Rattle.gs_lex.specs.Tokens.{Lexeme};
 ghost use Rattle.gs_lex.specs.Tokens as lexer;
 ghost use Rattle.gs_body.specs.Bodies.{Whole};
 ghost use Rattle.gs_turtle.specs.Documents.{ended_by};
-ghost use Rattle.gs_turtle.specs.Portions.{TakesAll, ReportsAfter, refusal_of, end_of};
+ghost use Rattle.gs_turtle.specs.Portions.{TakesAll, ReportsAfter, refusal_of_fault, end_of};
 
 use gs_lex::{Advance, PieceLexer};
 use gs_model::{Fault, Refusal};
@@ -45,7 +45,7 @@ pub fn take_tokens(
 
 /// The refusal that reports a fault.
 fn refusal(parser: &Parser, fault: Fault) -> Refusal
-    ensures { result ≡ refusal_of parser.now.last fault }
+    ensures { result ≡ refusal_of_fault parser.now.last fault }
 {
     match fault {
         Fault::Syntax => Refusal::Syntax(parser.last),
@@ -66,7 +66,7 @@ pub fn go_on(parser: &Parser) -> Result<(), Refusal>
 /// What is reported of how a text ended.
 fn outcome(parser: &Parser, end: Result<(), Fault>) -> Result<(), Refusal>
     ensures ok { OnOk end (IsOk result) }
-    ensures fault { IfErr end (λ f. result ≡ Err (refusal_of parser.now.last f)) }
+    ensures fault { IfErr end (λ f. result ≡ Err (refusal_of_fault parser.now.last f)) }
 {
     match end {
         Ok(()) => Ok(()),

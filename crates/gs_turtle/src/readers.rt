@@ -28,7 +28,7 @@ impl TurtleReader {
     ghost use Rattle.gs_machine.specs.Machines.{Begins};
     ghost use Rattle.gs_body.specs.Feeding.{Finishes};
     ghost use Rattle.gs_turtle.specs.Documents.{meaning_by};
-    ghost use Rattle.gs_turtle.specs.Readers.{LeadsTo, meaning_for, Keeps, Reads, IsRefused, IsRefusedAtEnd};
+    ghost use Rattle.gs_turtle.specs.Readers.{IsLedBy, meaning_for, KeepsReader, Reads, IsRefused, IsRefusedAtEnd};
 
     /// A reader at the start of the body of the request of this number, under an absolute base.
     pub fn new(alloc: Global, request: u64, base: &str) -> Result<TurtleReader, AllocError>
@@ -53,7 +53,7 @@ impl TurtleReader {
         ensures err { OnErr result (Begins triples.new.items triples.old.items) }
         ensures fault { IfErr result (IsRefused self.old portion.now) }
         ensures reported { IfErr result (λ e. e ≢ Refusal.Closed) }
-        ensures kept { Keeps self.old self.new }
+        ensures kept { KeepsReader self.old self.new }
     {
         self.lexer.hold(portion)?;
         match take_tokens(&mut self.lexer, &mut self.parser, false, triples)? {
@@ -68,7 +68,7 @@ impl TurtleReader {
         ensures err { OnErr result (Begins triples.new.items triples.old.items) }
         ensures fault { IfErr result (IsRefused self.old piece.now) }
         ensures reported { IfErr result (λ e. e ≢ Refusal.Closed) }
-        ensures kept { Keeps self.old self.new }
+        ensures kept { KeepsReader self.old self.new }
     {
         let mut rest = piece;
         while rest.len() > PORTION {
@@ -81,7 +81,7 @@ impl TurtleReader {
 
     /// The text ends.
     fn take_end(&mut self, triples: &mut Vec<Triple>) -> Result<(), Refusal>
-        ensures ok { OnOk result (Finishes meaning_for LeadsTo self.old triples.old.items triples.new.items) }
+        ensures ok { OnOk result (Finishes meaning_for IsLedBy self.old triples.old.items triples.new.items) }
         ensures err { OnErr result (Begins triples.new.items triples.old.items) }
         ensures fault { IfErr result (IsRefusedAtEnd self.old) }
         ensures reported { IfErr result (λ e. e ≢ Refusal.Closed) }
@@ -94,11 +94,11 @@ impl TurtleReader {
 }
 
 impl BodyReader for TurtleReader {
-    ghost use Rattle.gs_turtle.specs.Readers.{LeadsTo, meaning_for};
+    ghost use Rattle.gs_turtle.specs.Readers.{IsLedBy, meaning_for};
 
     ghost meaning_of = { λ r x. meaning_for r x };
 
-    ghost Leads = { λ r x ts. LeadsTo r x ts };
+    ghost Leads = { λ r x ts. IsLedBy r x ts };
 
     ghost is_closed = { λ r. r.is_closed };
 

@@ -18,12 +18,12 @@ use Rattle.gs_triple_parser.specs.Views.{scope_context, scope_numbers}
 use Rattle.gs_triple_parser.specs.declared.scopes.Scope.{Scope as CodeScope}
 use Rattle.gs_update_text.specs.Requests.{UpdateOperation, DeletesWhere}
 use Rattle.gs_update_text.specs.Operations.{Scope, some_patterns}
-use Rattle.gs_update_text.specs.States.{Transition, quiet}
+use Rattle.gs_update_text.specs.States.{UpdateStep, quiet}
 use Rattle.gs_update_text.specs.Machine.{syntax_fault}
 use Rattle.gs_update_places.specs.Views.{state_at}
-use Rattle.gs_update_places.specs.Steps.{LeadsTo}
+use Rattle.gs_update_places.specs.Steps.{LeadsToPlace}
 use Rattle.gs_update_places.specs.Places.{concluded, closed_at}
-use Rattle.gs_update.specs.Views.{operation_of, operations_of}
+use Rattle.gs_update.specs.Views.{update_operation_of, operations_of}
 use Rattle.gs_update.specs.Steps.{Moves}
 use Rattle.gs_update_places.specs.declared.blocks.Block.{Block as CodeBlock}
 use Rattle.gs_update_places.specs.declared.places.Place.{Place}
@@ -31,23 +31,23 @@ use Rattle.gs_update_places.specs.declared.places.Place.TheVariants as place
 use Rattle.gs_update.specs.declared.parser.UpdateParser.{UpdateParser}
 
 -- a transition by another name, from a parser that differs in its place
-pub moves_from : (p : UpdateParser) (z : Place) (q : UpdateParser) (t u : Transition) → t ≡ u → Moves (record p { place = z }) q t → Moves p q u
+pub moves_from : (p : UpdateParser) (z : Place) (q : UpdateParser) (t u : UpdateStep) → t ≡ u → Moves (record p { place = z }) q t → Moves p q u
 moves_from p z q t u e h =
     let moved : Moves p q t = record { state = h.state; operations = h.operations; last = h.last; sound = h.sound } in
     subst (Moves p q) e moved
 
 -- a parser stands where a quiet transition led it
-pub led_there : (p : UpdateParser) (z : Place) (t : Transition) → LeadsTo z t → Moves p (record p { place = z }) t
+pub led_there : (p : UpdateParser) (z : Place) (t : UpdateStep) → LeadsToPlace z t → Moves p (record p { place = z }) t
 led_there p z t l =
     let here : Moves p (record p { place = z }) (quiet (state_at z)) = record { state = refl; operations = sym (append-nil (operations_of p.operations.items)); last = refl; sound = l.sound } in
     subst (Moves p (record p { place = z })) l.state here
 
 -- an operation more, and then the place after it
 pub adds_on : (p a q : UpdateParser) (s : CodeScope) (o : Op) (e : ℕ) → a.operations.items ≡ p.operations.items ++ o ∷ [] → a.last ≡ e → Moves a q (quiet (state_at (place.After s)))
-    → Moves p q (concluded (Some (operation_of o)) (scope_context s) (scope_numbers s) e)
+    → Moves p q (concluded (Some (update_operation_of o)) (scope_context s) (scope_numbers s) e)
 adds_on p a q s o e os l m = record {
   state = m.state;
-  operations = m.operations ∙ append-nil (operations_of a.operations.items) ∙ ap operations_of os ∙ map-append operation_of p.operations.items (o ∷ []);
+  operations = m.operations ∙ append-nil (operations_of a.operations.items) ∙ ap operations_of os ∙ map-append update_operation_of p.operations.items (o ∷ []);
   last = m.last ∙ l;
   sound = m.sound;
 }
@@ -68,7 +68,7 @@ pub concluded_alike : (s : CodeScope) (env : Scope) (n : Numbers) (o m : Option 
 concluded_alike s env n o m e c k h = λ i. concluded (h i) (c i) (k i) e
 
 -- and so does that of the place that a parser was at
-pub closes : (p : UpdateParser) (z : Place) (q : UpdateParser) (o : Place) (e : ℕ) (t : Transition) → t ≡ closed_at o e → o ≡ p.place → Moves (record p { place = z }) q t → Moves p q (closed_at p.place e)
+pub closes : (p : UpdateParser) (z : Place) (q : UpdateParser) (o : Place) (e : ℕ) (t : UpdateStep) → t ≡ closed_at o e → o ≡ p.place → Moves (record p { place = z }) q t → Moves p q (closed_at p.place e)
 closes p z q o e t h is m = moves_from p z q t (closed_at p.place e) (h ∙ ap (λ (x : Place). closed_at x e) is) m
 
 -- in no block nothing ends

@@ -8,15 +8,15 @@ use Rattle.gs_update_places.specs.Views.{state_at}
 use Rattle.gs_update.specs.declared.parser.UpdateParser.{UpdateParser}
 
 -- the state of a parser
-abbrev pub state_of : UpdateParser → machine.State
-state_of p = state_at p.place
+abbrev pub update_state_of : UpdateParser → machine.UpdateState
+update_state_of p = state_at p.place
 
 -- an operation of the code, as the grammar has it
-abbrev pub operation_of : Op → UpdateOperation
-operation_of (op.Insert ts) = Inserts ts.items
-operation_of (op.DeleteData ts) = DeletesData ts.items
-operation_of (op.DeleteWhere ps) = DeletesWhere ps.items
+abbrev pub update_operation_of : Op → UpdateOperation
+update_operation_of (op.Insert ts) = Inserts ts.items
+update_operation_of (op.DeleteData ts) = DeletesData ts.items
+update_operation_of (op.DeleteWhere ps) = DeletesWhere ps.items
 
 -- operations in their order
 abbrev pub operations_of : List Op → List UpdateOperation
-operations_of ops = map operation_of ops
+operations_of ops = map update_operation_of ops

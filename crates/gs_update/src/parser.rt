@@ -1,7 +1,7 @@
 //! The parser.
 ghost use Rattle.std.specs.Prelude.{◌≡◌, ◌≢◌, ◌++◌, ◌∷◌, [], true, Some, option_map, OnOk, IfOk, IfSome, IfNone};
 ghost use Rattle.gs_model.specs.Iris.{is_absolute};
-ghost use Rattle.gs_update_places.specs.Views.{IsSound};
+ghost use Rattle.gs_update_places.specs.Views.{IsSoundPlace};
 
 use gs_event::Op;
 use gs_model::Fault;
@@ -26,15 +26,15 @@ impl UpdateParser {
     ghost use Rattle.gs_blank.specs.Numbers.{no_numbers};
     ghost use Rattle.gs_triple_values.specs.Views.{symbol_at};
     ghost use Rattle.gs_update_text.specs.Grammar.{first_scope};
-    ghost use Rattle.gs_update_text.specs.States.{Transition, Between, Rejected, quiet};
+    ghost use Rattle.gs_update_text.specs.States.{UpdateStep, Between, Rejected, quiet};
     ghost use Rattle.gs_update_text.specs.Machine as machine;
     ghost use Rattle.gs_update_places.specs.declared.rejections.Rejection.{Rejection as Code};
     ghost use Rattle.gs_update_places.specs.Views.{rejection_at, state_at};
-    ghost use Rattle.gs_update.specs.Views.{state_of, operation_of};
+    ghost use Rattle.gs_update.specs.Views.{update_state_of, update_operation_of};
     ghost use Rattle.gs_triple_parser.specs.Views.{scope_context, scope_numbers};
     ghost use Rattle.gs_update_places.specs.Steps.{transition_at_place};
     ghost use Rattle.gs_update_places.specs.Places.{IsPassage, Follows, concluded, closed_at};
-    ghost use Rattle.gs_update.specs.Steps.{Starts, Moves, Ends};
+    ghost use Rattle.gs_update.specs.Steps.{Starts, Moves, EndsUpdateText};
 
     /// At the start of an update of so many bytes under an absolute base, in the request of this
     /// number.
@@ -59,7 +59,7 @@ impl UpdateParser {
 
     /// At another place, where no operation ends.
     fn stand(&mut self, place: Place) -> Result<(), AllocError>
-        requires { IsSound place }
+        requires { IsSoundPlace place }
         ensures { OnOk result (Moves self.old self.new (quiet (state_at place))) }
     {
         drop(mem::replace(&mut self.place, place));
@@ -80,7 +80,7 @@ impl UpdateParser {
     /// An operation ends there.
     fn conclude(&mut self, scope: Scope, operation: Op, end: u64) -> Result<(), AllocError>
         ensures { OnOk result (Moves self.old self.new
-            (concluded (Some (operation_of operation)) (scope_context scope) (scope_numbers scope) end)) }
+            (concluded (Some (update_operation_of operation)) (scope_context scope) (scope_numbers scope) end)) }
     {
         self.add(operation, end)?;
         self.stand(Place::After(scope))
@@ -125,7 +125,7 @@ impl UpdateParser {
     /// After the turn of the block that the parser is in.
     #[inline(always)]
     fn follow(&mut self, turn: BlockTurn) -> Result<(), AllocError>
-        ensures { (t : Transition) → Follows t turn self.old.place → OnOk result (Moves self.old self.new t) }
+        ensures { (t : UpdateStep) → Follows t turn self.old.place → OnOk result (Moves self.old self.new t) }
     {
         match turn {
             BlockTurn::Takes => Ok(()),
@@ -146,9 +146,9 @@ impl UpdateParser {
     /// One symbol more. After a refusal the parser is of no more use.
     #[inline(always)]
     pub fn step(&mut self, symbol: Symbol) -> Result<(), AllocError>
-        requires { IsSound self.old.place }
+        requires { IsSoundPlace self.old.place }
         ensures { OnOk result (Moves self.old self.new
-            (machine.step (state_of self.old) (symbol_at symbol.entry))) }
+            (machine.step (update_state_of self.old) (symbol_at symbol.entry))) }
     {
         match self.place.step_block(symbol)? {
             Some(turn) => self.follow(turn),
@@ -158,15 +158,15 @@ impl UpdateParser {
 
     /// The departure after which nothing is read.
     pub fn rejection(&self) -> Option<Rejection>
-        ensures some { IfSome result (λ r. state_of self.now ≡ Rejected (rejection_at r)) }
-        ensures none { IfNone result ((r : Code) → state_of self.now ≢ Rejected (rejection_at r)) }
+        ensures some { IfSome result (λ r. update_state_of self.now ≡ Rejected (rejection_at r)) }
+        ensures none { IfNone result ((r : Code) → update_state_of self.now ≢ Rejected (rejection_at r)) }
     {
         self.place.rejection()
     }
 
     /// The departure of a text that ends here, if it is no update.
     pub fn end(&mut self) -> Result<Option<Rejection>, AllocError>
-        ensures { IfOk result (λ o. Ends self.old self.new (option_map rejection_at o)) }
+        ensures { IfOk result (λ o. EndsUpdateText self.old self.new (option_map rejection_at o)) }
     {
         self.place.end()
     }

@@ -3,8 +3,8 @@ ghost use Rattle.std.specs.Prelude.{◌≡◌, true, OnOk, IfErr};
 ghost use Rattle.gs_model.specs.Iris.{is_absolute};
 ghost use Rattle.gs_update_text.specs.Texts.{request_by};
 ghost use Rattle.gs_update.specs.Answers.{Answers};
-ghost use Rattle.gs_update.specs.Readers.{Reads, IsRefused};
-ghost use Rattle.gs_update_places.specs.Views.{IsSound};
+ghost use Rattle.gs_update.specs.Readers.{ReadsText, IsUpdateRefused};
+ghost use Rattle.gs_update_places.specs.Views.{IsSoundPlace};
 
 use crate::parser::UpdateParser;
 use crate::tokens::{break_off, conclude, take_token};
@@ -15,9 +15,9 @@ use std::alloc::Global;
 
 /// A whole text, from its start to its end, and its fault.
 fn take_text(parser: &mut UpdateParser, text: &[u8]) -> Result<(), Refusal>
-    requires { IsSound parser.old.place }
-    ensures ok { OnOk result (Reads parser.old parser.new text.now) }
-    ensures fault { IfErr result (IsRefused parser.old text.now) }
+    requires { IsSoundPlace parser.old.place }
+    ensures ok { OnOk result (ReadsText parser.old parser.new text.now) }
+    ensures fault { IfErr result (IsUpdateRefused parser.old text.now) }
 {
     let mut lexer = TextLexer::new(text, true);
     'tokens: loop {

@@ -3,9 +3,9 @@ ghost use Rattle.std.specs.Prelude.{◌≡◌, [], ◌∷◌, OnOk, IfErr, ℕ, 
 ghost use Rattle.gs_lex.specs.Tokens.{Lexeme};
 ghost use Rattle.gs_lex.specs.Tokens as lexer;
 ghost use Rattle.gs_lex.specs.Lexemes.{lexeme_of_borrowed};
-ghost use Rattle.gs_update_text.specs.Texts.{ended_by};
-ghost use Rattle.gs_update_places.specs.Views.{IsSound, rejection_at};
-ghost use Rattle.gs_update.specs.Tokens.{Takes, Concludes, ReportsAfter, refusal_of, end_of};
+ghost use Rattle.gs_update_text.specs.Texts.{request_ended_by};
+ghost use Rattle.gs_update_places.specs.Views.{IsSoundPlace, rejection_at};
+ghost use Rattle.gs_update.specs.Tokens.{TakesTokens, Concludes, ReportsAfterOperation, refusal_of, request_end};
 
 use crate::parser::UpdateParser;
 use gs_lex::BorrowedToken;
@@ -27,10 +27,10 @@ fn refusal(parser: &UpdateParser, rejection: Rejection) -> Refusal
 /// One token more, and its fault.
 #[inline(always)]
 pub fn take_token(parser: &mut UpdateParser, token: BorrowedToken<'_>) -> Result<(), Refusal>
-    requires { IsSound parser.old.place }
-    ensures ok { OnOk result (Takes parser.old parser.new (lexeme_of_borrowed token.entry ∷ [])) }
+    requires { IsSoundPlace parser.old.place }
+    ensures ok { OnOk result (TakesTokens parser.old parser.new (lexeme_of_borrowed token.entry ∷ [])) }
     ensures fault { IfErr result (λ e. (us : List Lexeme) →
-        ReportsAfter parser.old.last e (end_of parser.old (lexeme_of_borrowed token.entry ∷ us))) }
+        ReportsAfterOperation parser.old.last e (request_end parser.old (lexeme_of_borrowed token.entry ∷ us))) }
 {
     parser.step(symbol_of_borrowed(token))?;
     match parser.rejection() {
@@ -41,9 +41,9 @@ pub fn take_token(parser: &mut UpdateParser, token: BorrowedToken<'_>) -> Result
 
 /// The text ends there.
 pub fn conclude(parser: &mut UpdateParser) -> Result<(), Refusal>
-    requires { IsSound parser.old.place }
+    requires { IsSoundPlace parser.old.place }
     ensures ok { OnOk result (Concludes parser.old parser.new []) }
-    ensures fault { IfErr result (λ e. ReportsAfter parser.old.last e (end_of parser.old [])) }
+    ensures fault { IfErr result (λ e. ReportsAfterOperation parser.old.last e (request_end parser.old [])) }
 {
     match parser.end()? {
         None => Ok(()),
@@ -54,9 +54,9 @@ pub fn conclude(parser: &mut UpdateParser) -> Result<(), Refusal>
 /// Something that is no token stands there: the refusal of a text that ends there, or, where it has
 /// none, a broken grammar.
 pub fn break_off(parser: &mut UpdateParser) -> Refusal
-    requires { IsSound parser.old.place }
-    ensures { (n : ℕ) → ReportsAfter parser.old.last result
-        (ended_by (lexer.AtFault n) (end_of parser.old [])) }
+    requires { IsSoundPlace parser.old.place }
+    ensures { (n : ℕ) → ReportsAfterOperation parser.old.last result
+        (request_ended_by (lexer.AtFault n) (request_end parser.old [])) }
 {
     match conclude(parser) {
         Ok(()) => Refusal::Syntax(parser.last),

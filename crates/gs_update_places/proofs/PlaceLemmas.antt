@@ -20,10 +20,10 @@ use Rattle.gs_update_text.specs.Requests.{UpdateOperation, Inserts, DeletesData}
 use Rattle.gs_update_text.specs.Operations.{Scope, Block, some_patterns}
 use Rattle.gs_update_text.specs.Blocks as blocks
 use Rattle.gs_update_text.specs.Blocks.{BlockState}
-use Rattle.gs_update_text.specs.States.{State, Transition, InData, InWhere, Rejected, quiet}
+use Rattle.gs_update_text.specs.States.{UpdateState, UpdateStep, InData, InWhere, Rejected, quiet}
 use Rattle.gs_update_text.specs.Machine.{blocked, step}
 use Rattle.gs_update_places.specs.Views.{rejection_at, block_state, rules_of, scope_of}
-use Rattle.gs_update_places.specs.Steps.{Making, Turned, block_turn, Stays, StaysUnless, LeadsTo, transition_at_place}
+use Rattle.gs_update_places.specs.Steps.{Making, Turned, block_turn, Stays, StaysUnless, LeadsToPlace, transition_at_place}
 use Rattle.gs_update_places.specs.Places.{concluded, Follows}
 use Rattle.gs_update_places.specs.declared.blocks.Block.{Block as CodeBlock}
 use Rattle.gs_update_places.specs.declared.blocks.BlockTurn.{BlockTurn as CodeTurn}
@@ -33,18 +33,18 @@ use Rattle.gs_update_places.specs.declared.places.Place.{Place}
 use Rattle.gs_update_places.specs.declared.places.Place.TheVariants as place
 
 -- nothing leads away from a departure
-pub stays_rejected : (r : CodeRejection) (t : Symbol) → LeadsTo (place.Rejected r) (transition_at_place (place.Rejected r) t)
+pub stays_rejected : (r : CodeRejection) (t : Symbol) → LeadsToPlace (place.Rejected r) (transition_at_place (place.Rejected r) t)
 unfolding step
 stays_rejected r t = record { state = refl; sound = tt }
 
 -- the end of a block is the machine's
-concluded_blocked : {X T : Type 0} (o : Option UpdateOperation) (inside : BlockState X T → State) (env : Scope) (n : Numbers) (e : ℕ) → concluded o env n e ≡ blocked inside env (blocks.shut o n e)
+concluded_blocked : {X T : Type 0} (o : Option UpdateOperation) (inside : BlockState X T → UpdateState) (env : Scope) (n : Numbers) (e : ℕ) → concluded o env n e ≡ blocked inside env (blocks.shut o n e)
 concluded_blocked None inside env n e = refl
 concluded_blocked (Some o) inside env n e = refl
 
-module _ {L S V X T : Type 0} (l : TypedLanguage S V X T) (inside : Block X T → Scope → BlockState X T → State) (made : Making T) where
+module _ {L S V X T : Type 0} (l : TypedLanguage S V X T) (inside : Block X T → Scope → BlockState X T → UpdateState) (made : Making T) where
   -- the machine's transition in a block
-  abbrev pub turn_in : CodeBlock L S V X T → Symbol → Transition
+  abbrev pub turn_in : CodeBlock L S V X T → Symbol → UpdateStep
   turn_in a t = blocked (inside (rules_of l made a) (scope_of l a)) (scope_of l a) (block_turn l a t made)
 
   -- the block goes on

@@ -21,9 +21,9 @@ use Rattle.gs_update_text.specs.Requests.{Inserts, DeletesData}
 use Rattle.gs_update_text.specs.Operations.{Scope, Block, inserted, deleted, sought, some_patterns}
 use Rattle.gs_update_text.specs.Blocks as blocks
 use Rattle.gs_update_text.specs.Blocks.{BlockState}
-use Rattle.gs_update_text.specs.States.{InsertData, DeleteData, DeleteWhere, State, InData, InWhere, quiet}
+use Rattle.gs_update_text.specs.States.{InsertData, DeleteData, DeleteWhere, UpdateState, InData, InWhere, quiet}
 use Rattle.gs_update_places.specs.Views.{HasGiven, block_state, rules_of, scope_of, more_than, bars_since}
-use Rattle.gs_update_places.specs.Steps.{Making, LeadsTo, start_of}
+use Rattle.gs_update_places.specs.Steps.{Making, LeadsToPlace, block_start}
 use Rattle.gs_update_places.specs.declared.blocks.Block.{Block as CodeBlock}
 use Rattle.gs_update_places.specs.declared.places.Place.TheVariants as place
 
@@ -38,7 +38,7 @@ module _ {L S V X T : Type 0} (l : TypedLanguage S V X T) (b : CodeBlock L S V X
     pub most : b.most ≡ most_of
 
   -- is at its start for the machine
-  pub begun_in : (inside : Block X T → Scope → BlockState X T → State) (made : Making T) (since most : Option ℕ) → Begins since most
+  pub begun_in : (inside : Block X T → Scope → BlockState X T → UpdateState) (made : Making T) (since most : Option ℕ) → Begins since most
       → quiet (inside (rules_of l made b) (scope_of l b) (block_state l b))
       ≡ quiet (inside (record { language = env.language; bars = bars_since since n; too_many = more_than most; operation = made }) (in_language of_terms env) (blocks.AtTriples env [] n))
   begun_in inside made since most h = λ i. quiet (inside
@@ -58,7 +58,7 @@ module _ {L S V X T : Type 0} (l : TypedLanguage S V X T) (b : CodeBlock L S V X
 
 -- the start of the block of INSERT DATA
 pub inserting_starts : (s : CodeScope) (b : CodeBlock Terms Subject Verb Term RdfTriple)
-    → Begins terms b (in_language inserted (scope_context s)) (scope_numbers s) (Some (scope_numbers s).1) None → LeadsTo (place.Inserting b) (start_of InsertData s)
+    → Begins terms b (in_language inserted (scope_context s)) (scope_numbers s) (Some (scope_numbers s).1) None → LeadsToPlace (place.Inserting b) (block_start InsertData s)
 inserting_starts s b h =
     let env = in_language inserted (scope_context s) in
     let n = scope_numbers s in
@@ -69,7 +69,7 @@ inserting_starts s b h =
 
 -- of DELETE DATA
 pub deleting_starts : (s : CodeScope) (b : CodeBlock Terms Subject Verb Term RdfTriple)
-    → Begins terms b (in_language deleted (scope_context s)) (scope_numbers s) None None → LeadsTo (place.Deleting b) (start_of DeleteData s)
+    → Begins terms b (in_language deleted (scope_context s)) (scope_numbers s) None None → LeadsToPlace (place.Deleting b) (block_start DeleteData s)
 deleting_starts s b h =
     let env = in_language deleted (scope_context s) in
     let n = scope_numbers s in
@@ -80,7 +80,7 @@ deleting_starts s b h =
 
 -- of DELETE WHERE
 pub seeking_starts : (s : CodeScope) (b : CodeBlock Patterns Part Part Part Pattern)
-    → Begins patterns b (in_language sought (scope_context s)) (scope_numbers s) None (Some max_patterns) → LeadsTo (place.Seeking b) (start_of DeleteWhere s)
+    → Begins patterns b (in_language sought (scope_context s)) (scope_numbers s) None (Some max_patterns) → LeadsToPlace (place.Seeking b) (block_start DeleteWhere s)
 seeking_starts s b h =
     let env = in_language sought (scope_context s) in
     let n = scope_numbers s in

@@ -9,7 +9,7 @@ use Rattle.gs_update_text.specs.Operations.{Scope, some_patterns}
 use Rattle.gs_update_text.specs.States as machine
 use Rattle.gs_update_text.specs.Machine.{syntax_fault}
 use Rattle.gs_update_places.specs.Views.{rejection_at, scope_of}
-use Rattle.gs_update_places.specs.Steps.{LeadsTo, transition_at_place}
+use Rattle.gs_update_places.specs.Steps.{LeadsToPlace, transition_at_place}
 use Rattle.gs_update_places.specs.declared.blocks.BlockTurn.{BlockTurn as CodeTurn}
 use Rattle.gs_update_places.specs.declared.blocks.BlockTurn.TheVariants as turn
 use Rattle.gs_update_places.specs.declared.places.Place.{Place}
@@ -23,20 +23,20 @@ IsPassage (place.Seeking b) = ⊥
 IsPassage other = Unit {0}
 
 -- after a block that ends there, with the operation that it makes; one of DELETE WHERE may make none
-abbrev pub concluded : Option UpdateOperation → Scope → Numbers → ℕ → machine.Transition
+abbrev pub concluded : Option UpdateOperation → Scope → Numbers → ℕ → machine.UpdateStep
 concluded None env n e = machine.quiet (machine.Rejected OutOfProfile)
 concluded (Some o) env n e = (machine.After env n, record { operation = o; end = e } ∷ [])
 
 -- where the block of a place ends there; a place in none has nothing that could end
-abbrev pub closed_at : Place → ℕ → machine.Transition
+abbrev pub closed_at : Place → ℕ → machine.UpdateStep
 closed_at (place.Inserting b) e = concluded (Some (Inserts b.triples.items)) (scope_of terms b) (numbers_now b.parser) e
 closed_at (place.Deleting b) e = concluded (Some (DeletesData b.triples.items)) (scope_of terms b) (numbers_now b.parser) e
 closed_at (place.Seeking b) e = concluded (some_patterns b.triples.items) (scope_of patterns b) (numbers_now b.parser) e
 closed_at other e = machine.quiet syntax_fault
 
 -- a block took a symbol with this turn, and the machine this transition; the place after it
-abbrev pub Follows : machine.Transition → CodeTurn → Place → Type 0
-Follows t turn.Takes p = LeadsTo p t
+abbrev pub Follows : machine.UpdateStep → CodeTurn → Place → Type 0
+Follows t turn.Takes p = LeadsToPlace p t
 Follows t (turn.Shuts e) p = closed_at p e ≡ t
 Follows t (turn.Stops r) p = machine.quiet (machine.Rejected (rejection_at r)) ≡ t
 

@@ -11,7 +11,7 @@ use Rattle.gs_update_text.specs.Requests.{UpdateOperation, Rejection}
 use Rattle.gs_update_text.specs.Blocks as blocks
 use Rattle.gs_update_text.specs.States as machine
 use Rattle.gs_update_text.specs.Machine.{step}
-use Rattle.gs_update_places.specs.Views.{rejection_at, HasGiven, IsSound, block_state, rules_of, state_at}
+use Rattle.gs_update_places.specs.Views.{rejection_at, HasGiven, IsSoundPlace, block_state, rules_of, state_at}
 use Rattle.gs_update_places.specs.declared.blocks.Block.{Block as CodeBlock}
 use Rattle.gs_update_places.specs.declared.blocks.BlockTurn.{BlockTurn as CodeTurn}
 use Rattle.gs_update_places.specs.declared.blocks.BlockTurn.TheVariants as turn
@@ -22,17 +22,17 @@ abbrev pub Making : Type 0 → Type 0
 Making T = List T → Option UpdateOperation
 
 -- a place that a symbol leads to, and no operation ends
-pub record LeadsTo (p : Place) (t : machine.Transition) : Type 0 where
+pub record LeadsToPlace (p : Place) (t : machine.UpdateStep) : Type 0 where
   pub state : machine.quiet (state_at p) ≡ t
-  pub sound : IsSound p
+  pub sound : IsSoundPlace p
 
 -- the machine's transition by a symbol at a place
-abbrev pub transition_at_place : Place → Symbol → machine.Transition
+abbrev pub transition_at_place : Place → Symbol → machine.UpdateStep
 transition_at_place p t = step (state_at p) (symbol_at t)
 
 -- at the start of the block of an operation of this form
-abbrev pub start_of : machine.Form → Scope → machine.Transition
-start_of f s = machine.quiet (machine.block_of f (scope_context s) (scope_numbers s))
+abbrev pub block_start : machine.Form → Scope → machine.UpdateStep
+block_start f s = machine.quiet (machine.block_of f (scope_context s) (scope_numbers s))
 
 -- a block's triples, with those that are read and handed on
 abbrev pub all_triples : {L S V X T : Type 0} → CodeBlock L S V X T → List T

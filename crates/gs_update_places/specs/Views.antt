@@ -67,7 +67,7 @@ module _ {L S V X T : Type 0} (l : TypedLanguage S V X T) where
   scope_of b = in_language of_terms (context_now l b.parser)
 
 -- the state of a parser at a place
-abbrev pub state_at : Place → machine.State
+abbrev pub state_at : Place → machine.UpdateState
 state_at (place.Between s) = machine.Between (scope_context s) (scope_numbers s)
 state_at (place.InPrefix s) = machine.InPrefix (scope_context s) (scope_numbers s)
 state_at (place.InPrefixIri s x) = machine.InPrefixIri (string_bytes x) (scope_context s) (scope_numbers s)
@@ -82,8 +82,8 @@ state_at (place.After s) = machine.After (scope_context s) (scope_numbers s)
 state_at (place.Rejected r) = machine.Rejected (rejection_at r)
 
 -- the numbers that bound the labels of a block are given
-abbrev pub IsSound : Place → Type 0
-IsSound (place.Inserting b) = HasGiven b.since (numbers_now b.parser)
-IsSound (place.Deleting b) = HasGiven b.since (numbers_now b.parser)
-IsSound (place.Seeking b) = HasGiven b.since (numbers_now b.parser)
-IsSound other = Unit {0}
+abbrev pub IsSoundPlace : Place → Type 0
+IsSoundPlace (place.Inserting b) = HasGiven b.since (numbers_now b.parser)
+IsSoundPlace (place.Deleting b) = HasGiven b.since (numbers_now b.parser)
+IsSoundPlace (place.Seeking b) = HasGiven b.since (numbers_now b.parser)
+IsSoundPlace other = Unit {0}

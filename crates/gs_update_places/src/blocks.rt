@@ -235,11 +235,11 @@ impl<L: Language> Block<L> {
 
 ghost use Rattle.gs_update_text.specs.States.{InsertData, DeleteData, DeleteWhere};
 ghost use Rattle.gs_update_places.specs.declared.places.Place.TheVariants as place;
-ghost use Rattle.gs_update_places.specs.Steps.{LeadsTo, start_of};
+ghost use Rattle.gs_update_places.specs.Steps.{LeadsToPlace, block_start};
 
 /// INSERT DATA: no label that an earlier operation has.
 pub(crate) fn inserting(alloc: Global, scope: Scope) -> Block<Terms>
-    ensures { LeadsTo (place.Inserting result) (start_of InsertData scope) }
+    ensures { LeadsToPlace (place.Inserting result) (block_start InsertData scope) }
 {
     let allowed = Allowed {
         nodes: true,
@@ -258,7 +258,7 @@ pub(crate) fn inserting(alloc: Global, scope: Scope) -> Block<Terms>
 
 /// DELETE DATA: no blank nodes.
 pub(crate) fn deleting(alloc: Global, scope: Scope) -> Block<Terms>
-    ensures { LeadsTo (place.Deleting result) (start_of DeleteData scope) }
+    ensures { LeadsToPlace (place.Deleting result) (block_start DeleteData scope) }
 {
     let allowed = Allowed {
         nodes: false,
@@ -275,7 +275,7 @@ pub(crate) fn deleting(alloc: Global, scope: Scope) -> Block<Terms>
 
 /// DELETE WHERE: no blank nodes, and not too many patterns.
 pub(crate) fn seeking(alloc: Global, scope: Scope) -> Block<Patterns>
-    ensures { LeadsTo (place.Seeking result) (start_of DeleteWhere scope) }
+    ensures { LeadsToPlace (place.Seeking result) (block_start DeleteWhere scope) }
 {
     let allowed = Allowed {
         nodes: false,

@@ -1,6 +1,6 @@
 //! The words of an operation, its opening brace, and what follows it.
 ghost use Rattle.gs_update_places.specs.Views.{form_at};
-ghost use Rattle.gs_update_places.specs.Steps.{LeadsTo, start_of, transition_at_place};
+ghost use Rattle.gs_update_places.specs.Steps.{LeadsToPlace, block_start, transition_at_place};
 
 use crate::blocks::{deleting, inserting, seeking};
 use crate::places::{Form, Place};
@@ -14,7 +14,7 @@ use std::alloc::Global;
 /// After INSERT; templates are not served.
 #[tactic(auto, unfolding(gs_update_text::specs::Machine::step))]
 pub(crate) fn after_insert(scope: Scope, symbol: Symbol) -> Place
-    ensures { LeadsTo result (transition_at_place (Place.AfterInsert scope) symbol.entry) }
+    ensures { LeadsToPlace result (transition_at_place (Place.AfterInsert scope) symbol.entry) }
 {
     match symbol {
         Symbol::Foreign(TokenKind::Data, _) => Place::AtBrace(Form::InsertData, scope),
@@ -26,7 +26,7 @@ pub(crate) fn after_insert(scope: Scope, symbol: Symbol) -> Place
 /// After DELETE.
 #[tactic(auto, unfolding(gs_update_text::specs::Machine::step))]
 pub(crate) fn after_delete(scope: Scope, symbol: Symbol) -> Place
-    ensures { LeadsTo result (transition_at_place (Place.AfterDelete scope) symbol.entry) }
+    ensures { LeadsToPlace result (transition_at_place (Place.AfterDelete scope) symbol.entry) }
 {
     match symbol {
         Symbol::Foreign(TokenKind::Data, _) => Place::AtBrace(Form::DeleteData, scope),
@@ -38,7 +38,7 @@ pub(crate) fn after_delete(scope: Scope, symbol: Symbol) -> Place
 
 /// The start of a block.
 fn opened(alloc: Global, form: Form, scope: Scope) -> Place
-    ensures { LeadsTo result (start_of (form_at form) scope) }
+    ensures { LeadsToPlace result (block_start (form_at form) scope) }
 {
     match form {
         Form::InsertData => Place::Inserting(inserting(alloc, scope)),
@@ -50,7 +50,7 @@ fn opened(alloc: Global, form: Form, scope: Scope) -> Place
 /// The opening brace.
 #[tactic(auto, unfolding(gs_update_text::specs::Machine::step))]
 pub(crate) fn at_brace(alloc: Global, form: Form, scope: Scope, symbol: Symbol) -> Place
-    ensures { LeadsTo result (transition_at_place (Place.AtBrace form scope) symbol.entry) }
+    ensures { LeadsToPlace result (transition_at_place (Place.AtBrace form scope) symbol.entry) }
 {
     match symbol {
         Symbol::Foreign(TokenKind::OpenBrace, _) => opened(alloc, form, scope),
@@ -61,7 +61,7 @@ pub(crate) fn at_brace(alloc: Global, form: Form, scope: Scope, symbol: Symbol) 
 /// After an operation.
 #[tactic(auto, unfolding(gs_update_text::specs::Machine::step))]
 pub(crate) fn after(scope: Scope, symbol: Symbol) -> Place
-    ensures { LeadsTo result (transition_at_place (Place.After scope) symbol.entry) }
+    ensures { LeadsToPlace result (transition_at_place (Place.After scope) symbol.entry) }
 {
     match symbol {
         Symbol::Semicolon => Place::Between(scope),

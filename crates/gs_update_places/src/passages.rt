@@ -1,6 +1,6 @@
 //! Where a symbol leads from a place outside a block.
 ghost use Rattle.std.specs.Prelude.{IfOk};
-ghost use Rattle.gs_update_places.specs.Steps.{LeadsTo, transition_at_place};
+ghost use Rattle.gs_update_places.specs.Steps.{LeadsToPlace, transition_at_place};
 ghost use Rattle.gs_update_places.specs.Places.{IsPassage};
 
 use crate::operations::{after, after_delete, after_insert, at_brace};
@@ -13,7 +13,7 @@ use std::alloc::{AllocError, Global};
 #[tactic(auto, using(crate::proofs::PlaceLemmas::stays_rejected))]
 pub(crate) fn passed(alloc: Global, place: Place, symbol: Symbol) -> Result<Place, AllocError>
     requires { IsPassage place }
-    ensures { IfOk result (λ p. LeadsTo p (transition_at_place place symbol.entry)) }
+    ensures { IfOk result (λ p. LeadsToPlace p (transition_at_place place symbol.entry)) }
 {
     match place {
         Place::Between(scope) => Ok(between(scope, symbol)),

@@ -43,15 +43,15 @@ impl Place {
     ghost use Rattle.gs_update_text.specs.States.{Rejected};
     ghost use Rattle.gs_update_text.specs.Machine.{ended};
     ghost use Rattle.gs_update_places.specs.declared.rejections.Rejection.{Rejection as Code};
-    ghost use Rattle.gs_update_places.specs.Views.{IsSound, rejection_at, state_at};
-    ghost use Rattle.gs_update_places.specs.Steps.{LeadsTo, transition_at_place};
+    ghost use Rattle.gs_update_places.specs.Views.{IsSoundPlace, rejection_at, state_at};
+    ghost use Rattle.gs_update_places.specs.Steps.{LeadsToPlace, transition_at_place};
     ghost use Rattle.gs_update_places.specs.Places.{IsPassage, StepsBlock};
 
     /// What the block of a place makes of a symbol, where the place is in one. The block stays where
     /// it is, since it is large and most symbols stand in one.
     #[inline(always)]
     pub fn step_block(&mut self, symbol: Symbol) -> Result<Option<BlockTurn>, AllocError>
-        requires { IsSound self.old }
+        requires { IsSoundPlace self.old }
         ensures { IfOk result (λ o. StepsBlock self.old symbol.entry o self.new) }
     {
         match self {
@@ -65,7 +65,7 @@ impl Place {
     /// A symbol outside a block. After a refusal the place is of no more use.
     pub fn pass(&mut self, alloc: Global, symbol: Symbol) -> Result<(), AllocError>
         requires { IsPassage self.old }
-        ensures { OnOk result (LeadsTo self.new (transition_at_place self.old symbol.entry)) }
+        ensures { OnOk result (LeadsToPlace self.new (transition_at_place self.old symbol.entry)) }
     {
         let lost = Place::Rejected(Rejection::Broken(Fault::Syntax));
         let place = mem::replace(self, lost);

@@ -4,7 +4,7 @@ ghost use Rattle.gs_triple_parser.specs.Views.{scope_context, scope_numbers};
 ghost use Rattle.gs_update_text.specs.States.{quiet};
 ghost use Rattle.gs_update_text.specs.Machine as machine;
 ghost use Rattle.gs_update_text.specs.Machine.{syntax_fault};
-ghost use Rattle.gs_update_places.specs.Steps.{LeadsTo, transition_at_place};
+ghost use Rattle.gs_update_places.specs.Steps.{LeadsToPlace, transition_at_place};
 
 use crate::places::Place;
 use crate::rejections::Rejection;
@@ -16,14 +16,14 @@ use std::alloc::{AllocError, Global};
 
 /// The text breaks the grammar here.
 pub(crate) fn broken() -> Place
-    ensures { LeadsTo result (quiet syntax_fault) }
+    ensures { LeadsToPlace result (quiet syntax_fault) }
 {
     Place::Rejected(Rejection::Broken(Fault::Syntax))
 }
 
 /// A word where an operation may begin; the operations of other forms are not served.
 fn begun(kind: TokenKind, scope: Scope) -> Place
-    ensures { LeadsTo result (quiet (machine.begun kind (scope_context scope) (scope_numbers scope))) }
+    ensures { LeadsToPlace result (quiet (machine.begun kind (scope_context scope) (scope_numbers scope))) }
 {
     match kind {
         TokenKind::Insert => Place::AfterInsert(scope),
@@ -43,7 +43,7 @@ fn begun(kind: TokenKind, scope: Scope) -> Place
 /// A symbol where an update may begin.
 #[tactic(auto, unfolding(gs_update_text::specs::Machine::step))]
 pub(crate) fn between(scope: Scope, symbol: Symbol) -> Place
-    ensures { LeadsTo result (transition_at_place (Place.Between scope) symbol.entry) }
+    ensures { LeadsToPlace result (transition_at_place (Place.Between scope) symbol.entry) }
 {
     match symbol {
         Symbol::Prefix => Place::InPrefix(scope),
@@ -56,7 +56,7 @@ pub(crate) fn between(scope: Scope, symbol: Symbol) -> Place
 /// The prefix that is declared.
 #[tactic(auto, unfolding(gs_update_text::specs::Machine::step))]
 pub(crate) fn prefix(alloc: Global, scope: Scope, symbol: Symbol) -> Result<Place, AllocError>
-    ensures { IfOk result (λ p. LeadsTo p (transition_at_place (Place.InPrefix scope) symbol.entry)) }
+    ensures { IfOk result (λ p. LeadsToPlace p (transition_at_place (Place.InPrefix scope) symbol.entry)) }
 {
     match symbol {
         Symbol::Term(TermToken::Namespace(prefix)) => {
@@ -70,7 +70,7 @@ pub(crate) fn prefix(alloc: Global, scope: Scope, symbol: Symbol) -> Result<Plac
 #[tactic(auto, unfolding(gs_update_text::specs::Machine::step))]
 pub(crate) fn prefix_iri(scope: Scope, prefix: String, symbol: Symbol) -> Result<Place, AllocError>
     ensures { IfOk result
-        (λ p. LeadsTo p (transition_at_place (Place.InPrefixIri scope prefix) symbol.entry)) }
+        (λ p. LeadsToPlace p (transition_at_place (Place.InPrefixIri scope prefix) symbol.entry)) }
 {
     let mut scope = scope;
     match symbol {
@@ -88,7 +88,7 @@ pub(crate) fn prefix_iri(scope: Scope, prefix: String, symbol: Symbol) -> Result
 /// The IRI of a base.
 #[tactic(auto, unfolding(gs_update_text::specs::Machine::step))]
 pub(crate) fn base(scope: Scope, symbol: Symbol) -> Result<Place, AllocError>
-    ensures { IfOk result (λ p. LeadsTo p (transition_at_place (Place.InBase scope) symbol.entry)) }
+    ensures { IfOk result (λ p. LeadsToPlace p (transition_at_place (Place.InBase scope) symbol.entry)) }
 {
     let mut scope = scope;
     match symbol {

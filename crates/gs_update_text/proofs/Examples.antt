@@ -19,7 +19,7 @@ use Rattle.gs_triples.specs.Languages.{triple}
 use Rattle.gs_triples.specs.Meanings.{Syntax, word, iri, made_of, simple, tagged, rdf}
 use Rattle.gs_triples.specs.Directives.{with_base}
 use Rattle.gs_triples.specs.Machine as triples_machine
-use Rattle.gs_update_text.specs.Requests.{Inserts, DeletesData, DeletesWhere, Broken, OutOfProfile, Written, Request}
+use Rattle.gs_update_text.specs.Requests.{Inserts, DeletesData, DeletesWhere, Broken, OutOfProfile, Written, UpdateRequest}
 use Rattle.gs_update_text.specs.Operations.{pattern}
 use Rattle.gs_update_text.specs.Grammar.{first_scope}
 use Rattle.gs_update_text.specs.Blocks.{block_run}
@@ -28,7 +28,7 @@ use Rattle.gs_update_text.specs.Machine.{updates, step, ended}
 use Rattle.gs_update_text.proofs.UpdateLemmas.{written}
 
 -- what these symbols say
-abbrev pub says : List Symbol → Request
+abbrev pub says : List Symbol → UpdateRequest
 says ts = rest updates (Between (first_scope (codes "http://e/g") 1) no_numbers) ts
 
 -- a word or a brace that ends there

@@ -8,7 +8,7 @@ use Rattle.std.specs.Cmp.{Equal-is}
 use Rattle.std.proofs.lemmas.Bool.{lt-ltb}
 use Rattle.gs_model.specs.Terms.{Term}
 use Rattle.gs_escape.specs.Tokens.{rest_after}
-use Rattle.gs_blank.specs.Numbers.{Numbers, known, one_more, with_label, numbered, number_of}
+use Rattle.gs_blank.specs.Numbers.{Numbers, known, one_more, with_label, label_numbered, label_number}
 use Rattle.gs_triples.specs.Symbols.{Symbol, TermToken, ATerm, Text, At, Carets, Open, Close, OpenList, CloseList, Semicolon, Comma, Plain, Label, Variable}
 use Rattle.gs_triples.specs.Meanings as meaning
 use Rattle.gs_triples.specs.Meanings.{Fault, Syntax, Context, blank, rdf_value, tagged, typed, simple, with_numbers, labelled}
@@ -54,17 +54,17 @@ keeps_new k n l q h None = refl
 keeps_new k n l q h (Some x) = ap (is_among_first k) (get-insert nat_list_cmp_total n.0 l (n.1 + 1) x) ∙ new_label k n l x (eq_by_cmp (slice_cmp nat_cmp) x l) refl q h
 
 -- and where a label has one already
-keeps_numbered : (k : ℕ) (m n : Numbers) (l : List ℕ) (o : Option ℕ) → known n l ≡ o → Keeps k m n → Keeps k m (numbered n l o).1
+keeps_numbered : (k : ℕ) (m n : Numbers) (l : List ℕ) (o : Option ℕ) → known n l ≡ o → Keeps k m n → Keeps k m (label_numbered n l o).1
 keeps_numbered k m n l None q h = (omega (arith, h.0), λ o. keeps_new k n l q h.0 o ∙ h.1 o)
 keeps_numbered k m n l (Some j) q h = h
 
 -- a label gets its number
-keeps_label : (k : ℕ) (m n : Numbers) (l : List ℕ) → Keeps k m n → Keeps k m (number_of n l).1
+keeps_label : (k : ℕ) (m n : Numbers) (l : List ℕ) → Keeps k m n → Keeps k m (label_number n l).1
 keeps_label k m n l h = keeps_numbered k m n l (known n l) refl h
 
 -- what holds of a context and of numbers, and of them with a number more
 module _ {Value Triple : Type 0} (R : Context Value Triple → Numbers → Type 0) (one : (env : Context Value Triple) (n : Numbers) → R env n → R env (one_more n))
-    (label : (env : Context Value Triple) (n : Numbers) (l : List ℕ) → R env n → R env (number_of n l).1) where
+    (label : (env : Context Value Triple) (n : Numbers) (l : List ℕ) → R env n → R env (label_number n l).1) where
   -- what holds of a state's context and numbers, unless after a fault
   abbrev pub Kept : State Value Triple → Type 0
   Kept (Lost e) = Unit {0}
@@ -234,7 +234,7 @@ module _ {Value Triple : Type 0} (k : ℕ) (c : Context Value Triple) (m : Numbe
   stays_one env n h = (h.0, keeps_one k m n h.1)
 
   -- a label's number
-  pub stays_label : (env : Context Value Triple) (n : Numbers) (l : List ℕ) → Stays k c m env n → Stays k c m env (number_of n l).1
+  pub stays_label : (env : Context Value Triple) (n : Numbers) (l : List ℕ) → Stays k c m env n → Stays k c m env (label_number n l).1
   stays_label env n l h = (h.0, keeps_label k m n l h.1)
 
   -- so they do over a symbol of triples

@@ -12,11 +12,11 @@ use Rattle.gs_triples.specs.Rules.{Covers}
 use Rattle.gs_triples.specs.Rules as covers
 use Rattle.gs_triples.specs.Triples.{AreTriples}
 use Rattle.gs_triples.specs.Triples as triple
-use Rattle.gs_update_text.specs.Requests.{Written, IsBroken, end_of_last}
+use Rattle.gs_update_text.specs.Requests.{Written, IsBrokenUpdate, end_of_last}
 use Rattle.gs_update_text.specs.Operations.{Scope}
 use Rattle.gs_update_text.specs.Grammar.{IsTemplate, IsPrologue, IsOperation, AreOperations, braced}
 use Rattle.gs_update_text.specs.Grammar as rule
-use Rattle.gs_update_text.specs.Fronts.{last_brace, AreBeforeFault}
+use Rattle.gs_update_text.specs.Fronts.{last_brace, AreOperationsBeforeFault}
 use Rattle.gs_update_text.specs.Machine.{request_of}
 
 last_brace-append : (c : ℕ) (xs ys : List Symbol) → last_brace c (xs ++ ys) ≡ last_brace (last_brace c xs) ys
@@ -100,5 +100,5 @@ operations_end (rule.more {xs = xs} {ys = ys} {zs = zs} {o = o} p a r) c =
     ∙ operations_end r o.end
 
 -- a broken text's fault
-pub fault_placed : (b : List ℕ) (r : ℕ) (ts : List Lexeme) (at : ℕ) → IsBroken (request_of b r ts) at → (f : AreBeforeFault b r ts (request_of b r ts).0) → at ≡ last_brace 0 f.front
+pub fault_placed : (b : List ℕ) (r : ℕ) (ts : List Lexeme) (at : ℕ) → IsBrokenUpdate (request_of b r ts) at → (f : AreOperationsBeforeFault b r ts (request_of b r ts).0) → at ≡ last_brace 0 f.front
 fault_placed b r ts at h f = h.place ∙ sym (operations_end f.whole 0)

@@ -11,7 +11,7 @@ use Rattle.gs_blank.specs.Numbers.{Numbers, no_numbers}
 use Rattle.gs_triples.specs.Symbols.{Symbol, ATerm, Reference, Namespace, Semicolon, PrefixWord, BaseWord, Foreign, symbols_of}
 use Rattle.gs_triples.specs.Meanings.{Fault, Context}
 use Rattle.gs_triples.specs.Directives.{with_prefix, with_base}
-use Rattle.gs_update_text.specs.Requests.{Rejection, Broken, OutOfProfile, Written, Request}
+use Rattle.gs_update_text.specs.Requests.{Rejection, Broken, OutOfProfile, Written, UpdateRequest}
 use Rattle.gs_model.specs.Limits.{max_patterns}
 use Rattle.gs_update_text.specs.Operations.{Scope, Block, in_language, insert_block, delete_block, where_block}
 use Rattle.gs_update_text.specs.Grammar as rule
@@ -19,7 +19,7 @@ use Rattle.gs_update_text.specs.Grammar.{IsOperation, IsUpdate, first_scope}
 use Rattle.gs_update_text.specs.Profile as profile
 use Rattle.gs_update_text.specs.Profile.{BeginsOther, AreDotted, Expects, Departs, Departure, LeavesProfile}
 use Rattle.gs_update_text.specs.Blocks.{BlockState, AtTriples, block_run}
-use Rattle.gs_update_text.specs.States.{State, Between, InData, InWhere}
+use Rattle.gs_update_text.specs.States.{UpdateState, Between, InData, InWhere}
 use Rattle.gs_update_text.specs.Machine.{begun, step, updates, request_of}
 use Rattle.gs_update_text.proofs.BlockLemmas.{Bounds, Parts, block_reported, stands}
 use Rattle.gs_update_text.proofs.ExcessLemmas.{template_excess, dotted_run}
@@ -55,7 +55,7 @@ module _ {Value Triple : Type 0} where
   graph_stops b env P n e ts free = ap (block_reported b ts) (stands b (AtTriples env P n) (Foreign kind.Graph e) free)
 
   -- a graph where triples may begin
-  graph_read : {env : Scope} {n k : Numbers} {xs : List Symbol} {T : List Triple} (inside : BlockState Value Triple → State) (b : Block Value Triple) (e : ℕ) (ts : List Symbol)
+  graph_read : {env : Scope} {n k : Numbers} {xs : List Symbol} {T : List Triple} (inside : BlockState Value Triple → UpdateState) (b : Block Value Triple) (e : ℕ) (ts : List Symbol)
       → Holds inside b env → Bounds b → AreDotted (in_language b.language env) n xs T k → list_any b.bars xs ≡ false → ((t : Symbol) → Parts t → b.bars t ≡ false)
       → b.bars (Foreign kind.Graph e) ≡ false → b.too_many T ≡ false
       → rest updates (inside (AtTriples (in_language b.language env) [] n)) (xs ++ Foreign kind.Graph e ∷ ts) ≡ ([], Some OutOfProfile)
@@ -83,7 +83,7 @@ departs_read (profile.no_pattern a b c e ts) = rejected_rest OutOfProfile ts
 -- tokens that leave what is served
 departure_reported : {env : Scope} {n : Numbers} {ts : List Symbol} {os : List Written} → Departure env n ts os → rest updates (Between env n) ts ≡ (os, Some OutOfProfile)
 departure_reported {os = os} (profile.departure {ys = ys} e d) =
-    expects_read e ys ∙ ap (joined os) (departs_read d) ∙ ap (λ z. let p : Request = (z, Some OutOfProfile) in p) (append-nil os)
+    expects_read e ys ∙ ap (joined os) (departs_read d) ∙ ap (λ z. let p : UpdateRequest = (z, Some OutOfProfile) in p) (append-nil os)
 
 -- a directive before them
 base_expects : {env next last : Scope} {n k : Numbers} {xs : List Symbol} {os : List Written} (i : List ℕ) (a : ℕ) → with_base env i ≡ Some next → Expects next n xs os last k
@@ -140,4 +140,4 @@ departure_covered b r ts os h =
 
 pub departure_apart : (b : List ℕ) (r : ℕ) (ts : List Lexeme) (os us : List Written) → IsUpdate b r ts os → LeavesProfile b r ts us → ⊥
 departure_apart b r ts os us u h =
-    let both : None ≡ Some OutOfProfile = ap (λ (z : Request). z.1) (sym (update_read b r ts os u) ∙ departure_read b r ts us h) in absurd (cc)
+    let both : None ≡ Some OutOfProfile = ap (λ (z : UpdateRequest). z.1) (sym (update_read b r ts os u) ∙ departure_read b r ts us h) in absurd (cc)

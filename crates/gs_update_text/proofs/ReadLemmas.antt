@@ -6,7 +6,7 @@ use Rattle.gs_machine.specs.Machines.{rest}
 use Rattle.gs_blank.specs.Numbers.{Numbers}
 use Rattle.gs_triples.specs.Symbols.{Symbol, ATerm, Reference, Namespace, PrefixWord, BaseWord}
 use Rattle.gs_triples.specs.Directives.{with_prefix, with_base}
-use Rattle.gs_update_text.specs.Requests.{Rejection, Written, Request}
+use Rattle.gs_update_text.specs.Requests.{Rejection, Written, UpdateRequest}
 use Rattle.gs_update_text.specs.Operations.{Scope}
 use Rattle.gs_update_text.specs.Grammar as rule
 use Rattle.gs_update_text.specs.Grammar.{IsTemplate, IsPrologue, IsOperation, AreOperations, IsUpdate, braced, first_scope}
@@ -55,4 +55,4 @@ update_covered b r ts os h = operations_covered h
 
 -- so an update has one list of operations
 pub update_once : (b : List ℕ) (r : ℕ) (ts : List Lexeme) (os us : List Written) → IsUpdate b r ts os → IsUpdate b r ts us → os ≡ us
-update_once b r ts os us d e = ap (λ (z : Request). z.0) (sym (update_read b r ts os d) ∙ update_read b r ts us e)
+update_once b r ts os us d e = ap (λ (z : UpdateRequest). z.0) (sym (update_read b r ts os d) ∙ update_read b r ts us e)

@@ -5,7 +5,7 @@ use Rattle.std.specs.Str.{is_utf8, chars}
 use lib.Utf8.{encode}
 use Rattle.gs_machine.specs.Machines.{rest}
 use Rattle.gs_triples.specs.Meanings.{Syntax}
-use Rattle.gs_update_text.specs.Requests.{Inserts, Broken, OutOfProfile, Request}
+use Rattle.gs_update_text.specs.Requests.{Inserts, Broken, OutOfProfile, UpdateRequest}
 use Rattle.gs_update_text.specs.Blocks.{block_run}
 use Rattle.gs_update_text.specs.Machine.{step, ended}
 use Rattle.gs_update_text.proofs.UpdateLemmas.{written}
@@ -14,7 +14,7 @@ use Rattle.gs_lex.specs.Cuts.{parted}
 use Rattle.gs_update_text.specs.Texts.{request_by}
 
 -- what a text says in the graph `http://e/g`
-abbrev text_says : List ℕ → Request
+abbrev text_says : List ℕ → UpdateRequest
 text_says x = request_by (codes "http://e/g") 1 x
 
 -- words in any case

@@ -11,18 +11,18 @@ use Rattle.gs_lex.specs.declared.kinds.TokenKind.TheVariants as kind
 use Rattle.gs_machine.specs.Machines.{joined, rest}
 use Rattle.gs_blank.specs.Numbers.{Numbers}
 use Rattle.gs_triples.specs.Symbols.{Symbol, Dot, Semicolon, Foreign}
-use Rattle.gs_update_text.specs.Requests.{UpdateOperation, DeletesWhere, Rejection, Written, Request}
+use Rattle.gs_update_text.specs.Requests.{UpdateOperation, DeletesWhere, Rejection, Written, UpdateRequest}
 use Rattle.gs_model.specs.Limits.{max_patterns}
 use Rattle.gs_update_text.specs.Operations.{Scope, Block, in_language, insert_block, delete_block, where_block, some_patterns}
 use Rattle.gs_update_text.specs.Grammar as rule
 use Rattle.gs_update_text.specs.Grammar.{IsTemplate, IsPrologue, IsOperation, AreOperations, AreNew}
 use Rattle.gs_update_text.specs.Blocks.{BlockState, AtTriples, BlockTurn, Takes, Shuts, Stops, Shut, shut, block_step, block_ended, block_run}
-use Rattle.gs_update_text.specs.States.{State, Between, InData, InWhere, After, Rejected, Transition}
+use Rattle.gs_update_text.specs.States.{UpdateState, Between, InData, InWhere, After, Rejected, UpdateStep}
 use Rattle.gs_update_text.specs.Machine.{prefaced, blocked, step, ended, updates}
 use Rattle.gs_update_text.proofs.BlockLemmas.{Bounds, Parts, block_reported, template_run}
 
 -- what is said from a transition on
-abbrev pub reported : Transition → List Symbol → Request
+abbrev pub reported : UpdateStep → List Symbol → UpdateRequest
 reported u ts = joined u.1 (rest updates u.0 ts)
 
 -- after a departure nothing is said
@@ -36,17 +36,17 @@ abbrev pub written : UpdateOperation → ℕ → Written
 written o e = record { operation = o; end = e }
 
 -- what is said after a block
-abbrev pub after_block : Scope → Result Shut Rejection → Request
+abbrev pub after_block : Scope → Result Shut Rejection → UpdateRequest
 after_block env (Err r) = ([], Some r)
 after_block env (Ok d) = joined (written d.operation d.end ∷ []) (rest updates (After env d.numbers) d.rest)
 
 module _ {Value Triple : Type 0} where
   -- a state for each state of a block, whose symbols are the block's
-  pub record Holds (inside : BlockState Value Triple → State) (b : Block Value Triple) (env : Scope) : Type 0 where
+  pub record Holds (inside : BlockState Value Triple → UpdateState) (b : Block Value Triple) (env : Scope) : Type 0 where
     pub steps : (s : BlockState Value Triple) (t : Symbol) → step (inside s) t ≡ blocked inside env (block_step b s t)
     pub ends : (s : BlockState Value Triple) → ended (inside s) ≡ Some (block_ended b s)
 
-  block_turn : (inside : BlockState Value Triple → State) (b : Block Value Triple) (env : Scope) (ts : List Symbol)
+  block_turn : (inside : BlockState Value Triple → UpdateState) (b : Block Value Triple) (env : Scope) (ts : List Symbol)
       → ((s : BlockState Value Triple) → rest updates (inside s) ts ≡ after_block env (block_run b ts s)) → (u : BlockTurn Value Triple)
       → reported (blocked inside env u) ts ≡ after_block env (block_reported b ts u)
   block_turn inside b env ts again (Takes s) = again s
@@ -54,10 +54,10 @@ module _ {Value Triple : Type 0} where
   block_turn inside b env ts again (Stops r) = rejected_rest r ts
 
   -- the machine in a block says what the block's machine reads, and what comes after it
-  pub block_rest : (inside : BlockState Value Triple → State) (b : Block Value Triple) (env : Scope) → Holds inside b env → (ts : List Symbol) (s : BlockState Value Triple)
+  pub block_rest : (inside : BlockState Value Triple → UpdateState) (b : Block Value Triple) (env : Scope) → Holds inside b env → (ts : List Symbol) (s : BlockState Value Triple)
       → rest updates (inside s) ts ≡ after_block env (block_run b ts s)
   unfolding rest block_run
-  block_rest inside b env h [] s = ap (λ z. let p : Request = ([], z) in p) (h.ends s)
+  block_rest inside b env h [] s = ap (λ z. let p : UpdateRequest = ([], z) in p) (h.ends s)
   block_rest inside b env h (t ∷ ts) s =
       ap (λ z. reported z ts) (h.steps s t) ∙ block_turn inside b env ts (block_rest inside b env h ts) (block_step b s t)
 
@@ -98,7 +98,7 @@ pub parts_plain : (t : Symbol) → Parts t → false ≡ false
 parts_plain t h = refl
 
 -- what is said of a block by its rule
-block_read : {Value Triple : Type 0} {env : Scope} {n k : Numbers} {xs : List Symbol} {T : List Triple} (inside : BlockState Value Triple → State) (b : Block Value Triple) (e : ℕ) (us : List Symbol) (o : UpdateOperation)
+block_read : {Value Triple : Type 0} {env : Scope} {n k : Numbers} {xs : List Symbol} {T : List Triple} (inside : BlockState Value Triple → UpdateState) (b : Block Value Triple) (e : ℕ) (us : List Symbol) (o : UpdateOperation)
     → Holds inside b env → Bounds b → IsTemplate (in_language b.language env) n xs T k → list_any b.bars xs ≡ false → ((t : Symbol) → Parts t → b.bars t ≡ false) → b.too_many T ≡ false
     → b.operation T ≡ Some o
     → rest updates (inside (AtTriples (in_language b.language env) [] n)) ((xs ++ Foreign kind.CloseBrace e ∷ []) ++ us)

@@ -10,7 +10,7 @@ use Rattle.gs_blank.specs.Numbers.{Numbers}
 use Rattle.gs_triples.specs.Symbols.{Symbol, ATerm, Reference, Namespace, Dot, Semicolon, PrefixWord, BaseWord, Foreign}
 use Rattle.gs_triples.specs.Meanings.{Syntax}
 use Rattle.gs_triples.specs.Directives.{with_prefix, with_base}
-use Rattle.gs_update_text.specs.Requests.{UpdateOperation, DeletesWhere, Rejection, Broken, OutOfProfile, Written, Request}
+use Rattle.gs_update_text.specs.Requests.{UpdateOperation, DeletesWhere, Rejection, Broken, OutOfProfile, Written, UpdateRequest}
 use Rattle.gs_model.specs.Limits.{max_patterns}
 use Rattle.gs_update_text.specs.Operations.{Scope, Block, inserted, deleted, sought, in_language, insert_block, delete_block, where_block, some_patterns}
 use Rattle.gs_update_text.specs.Grammar as rule
@@ -18,7 +18,7 @@ use Rattle.gs_update_text.specs.Grammar.{IsTemplate, IsPrologue, IsOperation, Ar
 use Rattle.gs_update_text.specs.Profile as profile
 use Rattle.gs_update_text.specs.Profile.{BeginsOther, Departs}
 use Rattle.gs_update_text.specs.Blocks.{BlockState, AtTriples, Shut, block_run}
-use Rattle.gs_update_text.specs.States.{Form, InsertData, DeleteData, DeleteWhere, State, Between, InPrefix, InPrefixIri, InBase, AfterInsert, AfterDelete, AtBrace, InData, InWhere, After, Rejected, block_of}
+use Rattle.gs_update_text.specs.States.{Form, InsertData, DeleteData, DeleteWhere, UpdateState, Between, InPrefix, InPrefixIri, InBase, AfterInsert, AfterDelete, AtBrace, InData, InWhere, After, Rejected, block_of}
 use Rattle.gs_update_text.specs.Machine.{prefaced, step, ended, updates}
 use Rattle.gs_update_text.proofs.RefusalLemmas.{block_stops}
 use Rattle.gs_update_text.proofs.DepartLemmas.{insert_guards, delete_guards, where_guards, insert_departs, delete_departs, where_departs}
@@ -104,7 +104,7 @@ second_word DeleteData b = Foreign kind.Data b
 second_word DeleteWhere b = Foreign kind.Where b
 
 -- no operation, and this departure
-abbrev none_but : Rejection → Request
+abbrev none_but : Rejection → UpdateRequest
 none_but r = ([], Some r)
 
 module _ (e : Option Rejection) (G : Scope → Numbers → List Symbol → List Written → Type 0) (reads : Reads e G) where
@@ -113,7 +113,7 @@ module _ (e : Option Rejection) (G : Scope → Numbers → List Symbol → List 
   Known f = (env : Scope) (n : Numbers) (ts : List Symbol) (os : List Written) → length ts ≤ f → rest updates (Between env n) ts ≡ (os, e) → G env n ts os
 
   stop : (env : Scope) (n : Numbers) (ts : List Symbol) (os : List Written) (r : Rejection) → Stopped env n ts r → none_but r ≡ (os, e) → G env n ts os
-  stop env n ts os r s h = subst (G env n ts) (ap (λ (z : Request). z.0) h) (reads.stops env n ts r (ap (λ (z : Request). z.1) h) s)
+  stop env n ts os r s h = subst (G env n ts) (ap (λ (z : UpdateRequest). z.0) h) (reads.stops env n ts r (ap (λ (z : UpdateRequest). z.1) h) s)
 
   rejected : (env : Scope) (n : Numbers) (ts us : List Symbol) (os : List Written) (r : Rejection) → Stopped env n ts r → rest updates (Rejected r) us ≡ (os, e) → G env n ts os
   rejected env n ts us os r s h = stop env n ts os r s (sym (rejected_rest r us) ∙ h)
@@ -123,17 +123,17 @@ module _ (e : Option Rejection) (G : Scope → Numbers → List Symbol → List 
       → joined (o ∷ []) (rest updates (After env k) us) ≡ (os, e) → G env n (ys ++ us) os
   unfolding rest step ended
   after_operation f env n k ys [] o os again a size h =
-      subst (λ z. G env n (ys ++ []) z) (ap (λ (z : Request). z.0) h)
-      (subst (λ z. G env n z (o ∷ [])) (sym (append-nil ys)) (reads.last a (ap (λ (z : Request). z.1) h)))
+      subst (λ z. G env n (ys ++ []) z) (ap (λ (z : UpdateRequest). z.0) h)
+      (subst (λ z. G env n z (o ∷ [])) (sym (append-nil ys)) (reads.last a (ap (λ (z : UpdateRequest). z.1) h)))
   after_operation f env n k ys (Semicolon ∷ zs) o os again a size h =
-      let later : Request = rest updates (Between env k) zs in
-      let ends : later.1 ≡ e = ap (λ (z : Request). z.1) h in
-      let same : later ≡ (later.0, e) = ap (λ z. let p : Request = (later.0, z) in p) ends in
-      subst (λ z. G env n (ys ++ Semicolon ∷ zs) z) (ap (λ (z : Request). z.0) h)
+      let later : UpdateRequest = rest updates (Between env k) zs in
+      let ends : later.1 ≡ e = ap (λ (z : UpdateRequest). z.1) h in
+      let same : later ≡ (later.0, e) = ap (λ z. let p : UpdateRequest = (later.0, z) in p) ends in
+      subst (λ z. G env n (ys ++ Semicolon ∷ zs) z) (ap (λ (z : UpdateRequest). z.0) h)
       (reads.more a (again env k zs later.0 (omega arith) same))
   after_operation f env n k ys (t ∷ us) o os again a size h =
       let said : joined (o ∷ []) (none_but (Broken Syntax)) ≡ (os, e) = ap (joined (o ∷ [])) (sym (rejected_rest (Broken Syntax) us)) ∙ h in
-      subst (λ z. G env n (ys ++ t ∷ us) z) (ap (λ (z : Request). z.0) said) (reads.unparted t us a (ap (λ (z : Request). z.1) said))
+      subst (λ z. G env n (ys ++ t ∷ us) z) (ap (λ (z : UpdateRequest). z.0) said) (reads.unparted t us a (ap (λ (z : UpdateRequest). z.1) said))
 
   -- the words before a block, and the block
   in_words : (f : ℕ) (env : Scope) (n k : Numbers) (a b : Symbol) (c i : ℕ) (ts xs us : List Symbol) (o : UpdateOperation) (os : List Written) → Known f → ts ≡ xs ++ Foreign kind.CloseBrace i ∷ us
@@ -151,7 +151,7 @@ module _ (e : Option Rejection) (G : Scope → Numbers → List Symbol → List 
       let r : Found b (in_language b.language env) [] n ts d = template_found (length ts) b (in_language b.language env) d free [] n ts (omega arith) few p in
       in_words f env n d.numbers x y c d.end ts r.content d.rest d.operation os again r.parts (by d r) size h
 
-  block_back : {Value Triple : Type 0} (f : ℕ) (inside : BlockState Value Triple → State) (b : Block Value Triple) (env : Scope) (n : Numbers) (x y : Symbol) (c : ℕ) (ts : List Symbol) (os : List Written) → Known f
+  block_back : {Value Triple : Type 0} (f : ℕ) (inside : BlockState Value Triple → UpdateState) (b : Block Value Triple) (env : Scope) (n : Numbers) (x y : Symbol) (c : ℕ) (ts : List Symbol) (os : List Written) → Known f
       → Holds inside b env → ((i : ℕ) → b.bars (Dot i) ≡ false) → b.too_many [] ≡ false → ByBlock b env n x y c ts → ByStop b env n x y c ts → length ts ≤ f
       → rest updates (inside (AtTriples (in_language b.language env) [] n)) ts ≡ (os, e) → G env n (x ∷ y ∷ Foreign kind.OpenBrace c ∷ ts) os
   block_back f inside b env n x y c ts os again holds free few by stops size h =
@@ -252,6 +252,6 @@ module _ (e : Option Rejection) (G : Scope → Numbers → List Symbol → List 
   -- it holds of whatever the machine says
   pub walk : (f : ℕ) → Known f
   unfolding rest ended
-  walk f env n [] os size h = subst (G env n []) (ap (λ (z : Request). z.0) h) (reads.ends env n (ap (λ (z : Request). z.1) h))
+  walk f env n [] os size h = subst (G env n []) (ap (λ (z : UpdateRequest). z.0) h) (reads.ends env n (ap (λ (z : UpdateRequest). z.1) h))
   walk zero env n (t ∷ ts) os size h = absurd (omega arith)
   walk (suc f) env n (t ∷ ts) os size h = word_back f env n t ts os (walk f) (omega arith) h

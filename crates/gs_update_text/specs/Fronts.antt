@@ -9,7 +9,7 @@ use Rattle.gs_update_text.specs.Operations.{Scope}
 use Rattle.gs_update_text.specs.Grammar.{AreOperations, first_scope}
 
 -- These are the operations of a front of the tokens that is an update, and no longer front is one.
-pub record AreLongest (env : Scope) (n : Numbers) (ts : List Symbol) (os : List Written) : Type 0 where
+pub record AreLongestOperations (env : Scope) (n : Numbers) (ts : List Symbol) (os : List Written) : Type 0 where
   pub front : List Symbol
   pub after : List Symbol
   pub parts : ts ≡ front ++ after
@@ -17,8 +17,8 @@ pub record AreLongest (env : Scope) (n : Numbers) (ts : List Symbol) (os : List 
   pub longest : (xs ys : List Symbol) (us : List Written) → ts ≡ xs ++ ys → AreOperations env n xs us → length xs ≤ length front
 
 -- a text's tokens, under this base and in this request: the operations of the longest front that is an update
-abbrev pub AreBeforeFault : List ℕ → ℕ → List Lexeme → List Written → Type 0
-AreBeforeFault b r ts os = AreLongest (first_scope b r) no_numbers (symbols_of ts) os
+abbrev pub AreOperationsBeforeFault : List ℕ → ℕ → List Lexeme → List Written → Type 0
+AreOperationsBeforeFault b r ts os = AreLongestOperations (first_scope b r) no_numbers (symbols_of ts) os
 
 -- where the last closing brace of these tokens ends, after one that ends after n bytes
 abbrev pub last_brace : ℕ → List Symbol → ℕ

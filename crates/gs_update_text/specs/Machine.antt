@@ -8,23 +8,23 @@ use Rattle.gs_blank.specs.Numbers.{Numbers, no_numbers}
 use Rattle.gs_triples.specs.Symbols.{Symbol, ATerm, Reference, Namespace, Semicolon, PrefixWord, BaseWord, Foreign, symbols_of}
 use Rattle.gs_triples.specs.Meanings.{Syntax}
 use Rattle.gs_triples.specs.Directives.{with_prefix, with_base}
-use Rattle.gs_update_text.specs.Requests.{Rejection, Broken, OutOfProfile, Written, Request}
+use Rattle.gs_update_text.specs.Requests.{Rejection, Broken, OutOfProfile, Written, UpdateRequest}
 use Rattle.gs_update_text.specs.Operations.{Scope}
 use Rattle.gs_update_text.specs.Grammar.{first_scope}
 use Rattle.gs_update_text.specs.Blocks.{BlockState, BlockTurn, Takes, Shuts, Stops, block_step, block_ended}
-use Rattle.gs_update_text.specs.States.{Form, InsertData, DeleteData, DeleteWhere, State, Between, InPrefix, InPrefixIri, InBase, AfterInsert, AfterDelete, AtBrace, InData, InWhere, After, Rejected, block_of, Transition, quiet}
+use Rattle.gs_update_text.specs.States.{Form, InsertData, DeleteData, DeleteWhere, UpdateState, Between, InPrefix, InPrefixIri, InBase, AfterInsert, AfterDelete, AtBrace, InData, InWhere, After, Rejected, block_of, UpdateStep, quiet}
 
 -- a broken grammar
-abbrev pub syntax_fault : State
+abbrev pub syntax_fault : UpdateState
 syntax_fault = Rejected (Broken Syntax)
 
 -- the context that a directive leaves
-abbrev pub prefaced : Numbers → Option Scope → State
+abbrev pub prefaced : Numbers → Option Scope → UpdateState
 prefaced n None = syntax_fault
 prefaced n (Some env) = Between env n
 
 -- a word where an operation may begin; the operations of other forms are not served
-abbrev pub begun : TokenKind → Scope → Numbers → State
+abbrev pub begun : TokenKind → Scope → Numbers → UpdateState
 begun kind.Insert env n = AfterInsert env n
 begun kind.Delete env n = AfterDelete env n
 begun kind.Load env n = Rejected OutOfProfile
@@ -38,32 +38,32 @@ begun kind.With env n = Rejected OutOfProfile
 begun k env n = syntax_fault
 
 -- after INSERT; templates are not served
-abbrev pub inserting : TokenKind → Scope → Numbers → State
+abbrev pub inserting : TokenKind → Scope → Numbers → UpdateState
 inserting kind.Data env n = AtBrace InsertData env n
 inserting kind.OpenBrace env n = Rejected OutOfProfile
 inserting k env n = syntax_fault
 
 -- after DELETE
-abbrev pub deleting : TokenKind → Scope → Numbers → State
+abbrev pub deleting : TokenKind → Scope → Numbers → UpdateState
 deleting kind.Data env n = AtBrace DeleteData env n
 deleting kind.Where env n = AtBrace DeleteWhere env n
 deleting kind.OpenBrace env n = Rejected OutOfProfile
 deleting k env n = syntax_fault
 
 -- the opening brace
-abbrev pub opened : Form → TokenKind → Scope → Numbers → State
+abbrev pub opened : Form → TokenKind → Scope → Numbers → UpdateState
 opened f kind.OpenBrace env n = block_of f env n
 opened f k env n = syntax_fault
 
 module _ {Value Triple : Type 0} where
   -- a symbol in a block
-  abbrev pub blocked : (BlockState Value Triple → State) → Scope → BlockTurn Value Triple → Transition
+  abbrev pub blocked : (BlockState Value Triple → UpdateState) → Scope → BlockTurn Value Triple → UpdateStep
   blocked inside env (Takes s) = quiet (inside s)
   blocked inside env (Shuts o n e) = (After env n, record { operation = o; end = e } ∷ [])
   blocked inside env (Stops r) = quiet (Rejected r)
 
 -- one symbol more
-unfoldable pub step : State → Symbol → Transition
+unfoldable pub step : UpdateState → Symbol → UpdateStep
 step (Between env n) PrefixWord = quiet (InPrefix env n)
 step (Between env n) BaseWord = quiet (InBase env n)
 step (Between env n) (Foreign k e) = quiet (begun k env n)
@@ -87,7 +87,7 @@ step (After env n) t = quiet syntax_fault
 step (Rejected r) t = quiet (Rejected r)
 
 -- the departure of a text that ends there, if it is no update
-unfoldable pub ended : State → Option Rejection
+unfoldable pub ended : UpdateState → Option Rejection
 ended (Between env n) = None
 ended (After env n) = None
 ended (InData b env s) = Some (block_ended b s)
@@ -96,9 +96,9 @@ ended (Rejected r) = Some r
 ended s = Some (Broken Syntax)
 
 -- the reader: symbols in, operations out, and the departure
-abbrev pub updates : Machine State Symbol Written (Option Rejection)
+abbrev pub updates : Machine UpdateState Symbol Written (Option Rejection)
 updates = record { step = step; ended = λ s. ([], ended s) }
 
 -- what the tokens of a text say under this base and in this request
-abbrev pub request_of : List ℕ → ℕ → List Lexeme → Request
+abbrev pub request_of : List ℕ → ℕ → List Lexeme → UpdateRequest
 request_of b r ts = rest updates (Between (first_scope b r) no_numbers) (symbols_of ts)

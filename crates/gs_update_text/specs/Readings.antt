@@ -1,10 +1,10 @@
 -- What the machine reads of a request, beside the rules.
 use Rattle.std.specs.Prelude.{◌≡◌, ◌↔◌, ℕ, List, Some, None}
 use Rattle.gs_lex.specs.Tokens.{Lexeme}
-use Rattle.gs_update_text.specs.Requests.{OutOfProfile, Written, IsBroken}
+use Rattle.gs_update_text.specs.Requests.{OutOfProfile, Written, IsBrokenUpdate}
 use Rattle.gs_update_text.specs.Grammar.{IsUpdate}
 use Rattle.gs_update_text.specs.Profile.{LeavesProfile}
-use Rattle.gs_update_text.specs.Fronts.{AreBeforeFault, last_brace}
+use Rattle.gs_update_text.specs.Fronts.{AreOperationsBeforeFault, last_brace}
 use Rattle.gs_update_text.specs.Machine.{request_of}
 
 -- the machine finds just the updates that the rules give
@@ -25,9 +25,9 @@ KeepsApart b r ts = (os us : List Written) → IsUpdate b r ts os → LeavesProf
 
 -- it says the operations of the longest front that is an update, those before a departure too
 abbrev pub SaysLongest : List ℕ → ℕ → List Lexeme → Type 0
-SaysLongest b r ts = AreBeforeFault b r ts (request_of b r ts).0
+SaysLongest b r ts = AreOperationsBeforeFault b r ts (request_of b r ts).0
 
 -- a broken text's fault is placed where the last closing brace of that front ends, or at 0
-abbrev pub PlacesFault : List ℕ → ℕ → List Lexeme → Type 0
-PlacesFault b r ts =
-    (at : ℕ) → IsBroken (request_of b r ts) at → (f : AreBeforeFault b r ts (request_of b r ts).0) → at ≡ last_brace 0 f.front
+abbrev pub PlacesUpdateFault : List ℕ → ℕ → List Lexeme → Type 0
+PlacesUpdateFault b r ts =
+    (at : ℕ) → IsBrokenUpdate (request_of b r ts) at → (f : AreOperationsBeforeFault b r ts (request_of b r ts).0) → at ≡ last_brace 0 f.front

@@ -22,8 +22,8 @@ pub data Rejection : Type 0 where
   OutOfProfile : Rejection
 
 -- the operations before the first departure, and that departure, where there is one
-abbrev pub Request : Type 0
-Request = List Written × Option Rejection
+abbrev pub UpdateRequest : Type 0
+UpdateRequest = List Written × Option Rejection
 
 -- the end of the last operation, where one that ends after n bytes stands before
 abbrev pub end_of_last : ℕ → List Written → ℕ
@@ -31,6 +31,6 @@ end_of_last n [] = n
 end_of_last n (o ∷ os) = end_of_last o.end os
 
 -- The text breaks the grammar, first after an operation that ends after so many bytes, or after none and 0.
-pub record IsBroken (r : Request) (at : ℕ) : Type 0 where
+pub record IsBrokenUpdate (r : UpdateRequest) (at : ℕ) : Type 0 where
   pub broken : r.1 ≡ Some (Broken Syntax)
   pub place : at ≡ end_of_last 0 r.0

@@ -16,34 +16,34 @@ pub data Form : Type 0 where
   DeleteWhere : Form
 
 -- within a request
-pub data State : Type 0 where
+pub data UpdateState : Type 0 where
   -- where an update may begin, in its prologue too, or the text may end
-  Between : Scope → Numbers → State
-  InPrefix : Scope → Numbers → State
-  InPrefixIri : (prefix : List ℕ) → Scope → Numbers → State
-  InBase : Scope → Numbers → State
+  Between : Scope → Numbers → UpdateState
+  InPrefix : Scope → Numbers → UpdateState
+  InPrefixIri : (prefix : List ℕ) → Scope → Numbers → UpdateState
+  InBase : Scope → Numbers → UpdateState
   -- after INSERT, and after DELETE
-  AfterInsert : Scope → Numbers → State
-  AfterDelete : Scope → Numbers → State
+  AfterInsert : Scope → Numbers → UpdateState
+  AfterDelete : Scope → Numbers → UpdateState
   -- before the opening brace
-  AtBrace : Form → Scope → Numbers → State
-  InData : Block Term RdfTriple → Scope → BlockState Term RdfTriple → State
-  InWhere : Block Part Pattern → Scope → BlockState Part Pattern → State
+  AtBrace : Form → Scope → Numbers → UpdateState
+  InData : Block Term RdfTriple → Scope → BlockState Term RdfTriple → UpdateState
+  InWhere : Block Part Pattern → Scope → BlockState Part Pattern → UpdateState
   -- after an operation: a ';' may come, or the text may end
-  After : Scope → Numbers → State
+  After : Scope → Numbers → UpdateState
   -- after a departure, from which nothing leads away
-  Rejected : Rejection → State
+  Rejected : Rejection → UpdateState
 
 -- the start of a block
-abbrev pub block_of : Form → Scope → Numbers → State
+abbrev pub block_of : Form → Scope → Numbers → UpdateState
 block_of InsertData env n = InData (insert_block n) env (AtTriples (in_language inserted env) [] n)
 block_of DeleteData env n = InData delete_block env (AtTriples (in_language deleted env) [] n)
 block_of DeleteWhere env n = InWhere where_block env (AtTriples (in_language sought env) [] n)
 
 -- the state after a symbol, and the operation that it ends
-abbrev pub Transition : Type 0
-Transition = State × List Written
+abbrev pub UpdateStep : Type 0
+UpdateStep = UpdateState × List Written
 
 -- no operation ends
-abbrev pub quiet : State → Transition
+abbrev pub quiet : UpdateState → UpdateStep
 quiet s = (s, [])

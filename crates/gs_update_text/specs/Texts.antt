@@ -3,23 +3,23 @@
 use Rattle.std.specs.Prelude.{◌≡◌, ℕ, true, List, Some, None}
 use Rattle.gs_lex.specs.Tokens as lexer
 use Rattle.gs_lex.specs.Tokens.{IsCut, Lexeme}
-use Rattle.gs_lex.specs.Cuts.{cut_of}
+use Rattle.gs_lex.specs.Cuts.{cut_of_text}
 use Rattle.gs_triples.specs.Meanings.{Fault, Syntax}
-use Rattle.gs_update_text.specs.Requests.{Broken, Written, Request, end_of_last}
+use Rattle.gs_update_text.specs.Requests.{Broken, Written, UpdateRequest, end_of_last}
 use Rattle.gs_update_text.specs.Grammar.{IsUpdate}
-use Rattle.gs_update_text.specs.Fronts.{AreBeforeFault, last_brace}
+use Rattle.gs_update_text.specs.Fronts.{AreOperationsBeforeFault, last_brace}
 use Rattle.gs_update_text.specs.Profile.{LeavesProfile}
 use Rattle.gs_update_text.specs.Machine.{request_of}
 
 -- After the tokens the text ends, or goes on with no token or no character, which breaks the grammar.
-abbrev pub ended_by : lexer.CutEnd → Request → Request
-ended_by lexer.AtEnd q = q
-ended_by (lexer.AtFault n) (os, None) = (os, Some (Broken Syntax))
-ended_by (lexer.AtFault n) (os, Some e) = (os, Some e)
+abbrev pub request_ended_by : lexer.CutEnd → UpdateRequest → UpdateRequest
+request_ended_by lexer.AtEnd q = q
+request_ended_by (lexer.AtFault n) (os, None) = (os, Some (Broken Syntax))
+request_ended_by (lexer.AtFault n) (os, Some e) = (os, Some e)
 
 -- what a text says under the base b in the request r
-unfoldable pub request_by : List ℕ → ℕ → List ℕ → Request
-request_by b r x = let c = cut_of true x in ended_by c.1 (request_of b r c.0)
+unfoldable pub request_by : List ℕ → ℕ → List ℕ → UpdateRequest
+request_by b r x = let c = cut_of_text true x in request_ended_by c.1 (request_of b r c.0)
 
 -- the text says these operations, and has a fault after them
 abbrev pub SaysBroken : List ℕ → ℕ → List ℕ → List Written → Type 0
@@ -45,13 +45,13 @@ pub record IsBrokenAfter (b : List ℕ) (r : ℕ) (x : List ℕ) (operations : L
   pub lexemes : List Lexeme
   pub ending : lexer.CutEnd
   pub cut : IsCut true x lexemes ending
-  pub longest : AreBeforeFault b r lexemes operations
+  pub longest : AreOperationsBeforeFault b r lexemes operations
   pub no_update : (os : List Written) → IsUpdateText b r x os → ⊥
   pub served : (os : List Written) → LeavesText b r x os → ⊥
 
 -- The text breaks the grammar after so many bytes: where the last operation before its fault ends, with the last closing
 -- brace of that front, or at 0.
-pub record BreaksAfter (b : List ℕ) (r : ℕ) (x : List ℕ) (at : ℕ) : Type 0 where
+pub record BreaksUpdate (b : List ℕ) (r : ℕ) (x : List ℕ) (at : ℕ) : Type 0 where
   pub operations : List Written
   pub before : IsBrokenAfter b r x operations
   pub end : at ≡ end_of_last 0 operations

@@ -1,9 +1,9 @@
 //! Laws of the definitions, proved: the body is empty, and the contract is the law.
 ghost use Rattle.std.specs.Prelude.{◌≡◌, ◌↔◌, ℕ, List, Some, None};
 ghost use Rattle.gs_lex.specs.Tokens.{Lexeme};
-ghost use Rattle.gs_update_text.specs.Readings.{FindsUpdates, HasOneReading, RefusesDepartures, KeepsApart, SaysLongest, PlacesFault};
-ghost use Rattle.gs_update_text.specs.Requests.{Written, OutOfProfile, IsBroken};
-ghost use Rattle.gs_update_text.specs.Texts.{request_by, IsUpdateText, LeavesText, SaysBroken, IsBrokenAfter, BreaksAfter};
+ghost use Rattle.gs_update_text.specs.Readings.{FindsUpdates, HasOneReading, RefusesDepartures, KeepsApart, SaysLongest, PlacesUpdateFault};
+ghost use Rattle.gs_update_text.specs.Requests.{Written, OutOfProfile, IsBrokenUpdate};
+ghost use Rattle.gs_update_text.specs.Texts.{request_by, IsUpdateText, LeavesText, SaysBroken, IsBrokenAfter, BreaksUpdate};
 
 /// The machine finds what the grammar's rules say of a list of tokens, and nothing else.
 pub fn update_is_read()
@@ -27,7 +27,7 @@ pub fn departure_is_refused()
 /// the end of the last of them, where the last closing brace of that front ends.
 pub fn departure_ends_the_longest_front()
     ensures front { (base : List ℕ) (request : ℕ) (ts : List Lexeme) → SaysLongest base request ts }
-    ensures place { (base : List ℕ) (request : ℕ) (ts : List Lexeme) → PlacesFault base request ts }
+    ensures place { (base : List ℕ) (request : ℕ) (ts : List Lexeme) → PlacesUpdateFault base request ts }
 {}
 
 /// A text says these operations and has no departure exactly where its tokens, each the longest at
@@ -51,5 +51,5 @@ pub fn departing_text_is_refused()
 pub fn broken_text_is_refused()
     ensures front { (b x : List ℕ) (r : ℕ) (os : List Written)
         → (SaysBroken b r x os ↔ IsBrokenAfter b r x os) }
-    ensures place { (b x : List ℕ) (r at : ℕ) → IsBroken (request_by b r x) at → BreaksAfter b r x at }
+    ensures place { (b x : List ℕ) (r at : ℕ) → IsBrokenUpdate (request_by b r x) at → BreaksUpdate b r x at }
 {}

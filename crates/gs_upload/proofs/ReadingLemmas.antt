@@ -7,11 +7,11 @@ use Rattle.gs_model.specs.Triples.{RdfTriple}
 use Rattle.gs_model.specs.declared.refusals.Refusal.{Refusal}
 use Rattle.gs_model.specs.declared.refusals.Refusal.TheVariants as refusal
 use Rattle.gs_machine.specs.Machines.{AreSettled, Begins}
-use Rattle.gs_body.specs.Bodies.{Meaning, Reports, triples_of}
+use Rattle.gs_body.specs.Bodies.{Meaning, Reports, all_stated}
 use Rattle.gs_body.specs.Feeding as feeding
 use Rattle.gs_upload.specs.declared.readings.Reading.{Reading}
 use Rattle.gs_upload.specs.Faults.{HasFault, ReportsFault}
-use Rattle.gs_upload.specs.Readings.{ReadsOn, Stands, IsFedReading, FeedsReading, FeedsPiece, FeedsEach, IsFedBy, ArePieces, EndsReading, EndsWhole, EndsFaulty, GivesComplete}
+use Rattle.gs_upload.specs.Readings.{ReadsBodyOn, ReaderStands, IsFedReading, FeedsReading, FeedsPiece, FeedsEach, IsFedBy, ArePieces, EndsReading, EndsWhole, EndsFaulty, GivesComplete}
 
 -- a refusal that is neither want of memory nor a closed reader's is a fault of the body
 reported_fault : (e : Refusal) (m : Meaning) → e ≢ refusal.NoMemory → e ≢ refusal.Closed → Reports e m → HasFault e m
@@ -58,7 +58,7 @@ module _ {R : Type 0} (meaning_of : R → List ℕ → Meaning) (Leads : R → L
 
   -- a fault that is kept is one of every longer text
   stands_faulty : (e : Refusal) (o : Option Refusal) (r : R) (means : List ℕ → Meaning) (x y : List ℕ) (ts us : List RdfTriple) → o ≡ Some e
-      → Stands meaning_of Leads closed o r means x ts → Stands meaning_of Leads closed o r means (x ++ y) us
+      → ReaderStands meaning_of Leads closed o r means x ts → ReaderStands meaning_of Leads closed o r means (x ++ y) us
   stands_faulty e None r means x y ts us is h = absurd (cc)
   stands_faulty e (Some f) r means x y ts us is h = λ z. (let P : List ℕ → Type 0 = λ w. HasFault f (means w) in subst P (sym (append_assoc x y z)) (h (y ++ z)))
 
@@ -74,8 +74,8 @@ module _ {R : Type 0} (meaning_of : R → List ℕ → Meaning) (Leads : R → L
           given = [];
           grown = sym (append-nil before);
           fed = λ means x ts h. record {
-            begun = λ y. (let P : List ℕ → Type 0 = λ w. Begins (triples_of (means w).0) (ts ++ []) in
-                let Q : List RdfTriple → Type 0 = λ w. Begins (triples_of (means (x ++ (piece ++ y))).0) w in
+            begun = λ y. (let P : List ℕ → Type 0 = λ w. Begins (all_stated (means w).0) (ts ++ []) in
+                let Q : List RdfTriple → Type 0 = λ w. Begins (all_stated (means (x ++ (piece ++ y))).0) w in
                 subst P (sym (append_assoc x piece y)) (subst Q (sym (append-nil ts)) (h.begun (piece ++ y))));
             stands = stands_faulty e.0 k.fault k.reader means x piece ts (ts ++ []) e.1 h.stands;
           };
@@ -86,8 +86,8 @@ module _ {R : Type 0} (meaning_of : R → List ℕ → Meaning) (Leads : R → L
       }
 
   -- where no fault is kept the reader goes on
-  reads_on : (k : Reading R) (means : List ℕ → Meaning) (x : List ℕ) (ts : List RdfTriple) → k.fault ≡ None → IsFedReading meaning_of Leads closed k means x ts → ReadsOn meaning_of Leads closed k.reader means x ts
-  reads_on k means x ts none h = let P : Option Refusal → Type 0 = λ o. Stands meaning_of Leads closed o k.reader means x ts in subst P none h.stands
+  reads_on : (k : Reading R) (means : List ℕ → Meaning) (x : List ℕ) (ts : List RdfTriple) → k.fault ≡ None → IsFedReading meaning_of Leads closed k means x ts → ReadsBodyOn meaning_of Leads closed k.reader means x ts
+  reads_on k means x ts none h = let P : Option Refusal → Type 0 = λ o. ReaderStands meaning_of Leads closed o k.reader means x ts in subst P none h.stands
 
   -- a piece is read
   reads_piece : (o : Result (Unit {0}) Refusal) (k new : Reading R) (piece : List ℕ) (before after : List RdfTriple) → k.fault ≡ None → new.fault ≡ None → o ≡ Ok tt
@@ -101,13 +101,13 @@ module _ {R : Type 0} (meaning_of : R → List ℕ → Meaning) (Leads : R → L
           grown = f.grown;
           fed = λ means x ts h.
               let r = reads_on k means x ts none h in
-              let P : Option Refusal → Type 0 = λ o. Stands meaning_of Leads closed o new.reader means (x ++ piece) (ts ++ f.given) in record {
-                begun = λ y. (let b = f.begun x ts r.leads y in (b.0, ap (λ (m : Meaning). triples_of m.0) (sym (r.same (x ++ piece ++ y))) ∙ b.1));
+              let P : Option Refusal → Type 0 = λ o. ReaderStands meaning_of Leads closed o new.reader means (x ++ piece) (ts ++ f.given) in record {
+                begun = λ y. (let b = f.begun x ts r.leads y in (b.0, ap (λ (m : Meaning). all_stated m.0) (sym (r.same (x ++ piece ++ y))) ∙ b.1));
                 stands = subst P (sym still) (record { leads = f.leads x ts r.leads; goes_on = goes; same = λ z. same z ∙ r.same z });
               };
           complete = λ means x ts h _ front longest.
               let r = reads_on k means x ts none h in
-              let same_triples : (λ z. triples_of (meaning_of k.reader z).0) ≡ (λ z. triples_of (means z).0) = λ i z. triples_of (r.same z i).0 in
+              let same_triples : (λ z. all_stated (meaning_of k.reader z).0) ≡ (λ z. all_stated (means z).0) = λ i z. all_stated (r.same z i).0 in
               let Q : (List ℕ → List RdfTriple) → Type 0 = λ t. AreSettled t front (ts ++ f.given) in
               subst Q same_triples (f.settled x ts r.leads front longest);
           latched = λ e is. absurd (let clash : None ≡ Some e = sym none ∙ is in cc);
@@ -129,10 +129,10 @@ module _ {R : Type 0} (meaning_of : R → List ℕ → Meaning) (Leads : R → L
           grown = same ∙ sym (append-nil before);
           fed = λ means x ts h.
               let r = reads_on k means x ts none h in
-              let P : Option Refusal → Type 0 = λ o. Stands meaning_of Leads closed o new.reader means (x ++ piece) (ts ++ []) in
+              let P : Option Refusal → Type 0 = λ o. ReaderStands meaning_of Leads closed o new.reader means (x ++ piece) (ts ++ []) in
               let S : Meaning → Type 0 = λ m. HasFault e m in record {
-                begun = λ y. (let B : List ℕ → Type 0 = λ w. Begins (triples_of (means w).0) (ts ++ []) in
-                    let Q : List RdfTriple → Type 0 = λ w. Begins (triples_of (means (x ++ (piece ++ y))).0) w in
+                begun = λ y. (let B : List ℕ → Type 0 = λ w. Begins (all_stated (means w).0) (ts ++ []) in
+                    let Q : List RdfTriple → Type 0 = λ w. Begins (all_stated (means (x ++ (piece ++ y))).0) w in
                     subst B (sym (append_assoc x piece y)) (subst Q (sym (append-nil ts)) (h.begun (piece ++ y))));
                 stands = subst P (sym kept) (λ y. subst S (r.same (x ++ piece ++ y)) (fault (meaning_of k.reader (x ++ piece ++ y)) (is_reported x ts r.leads y)));
               };
@@ -237,7 +237,7 @@ module _ {R : Type 0} (meaning_of : R → List ℕ → Meaning) (Leads : R → L
   ends_kept k e before is = record {
     unchanged = refl;
     first = λ means x ts h.
-        let P : Option Refusal → Type 0 = λ o. Stands meaning_of Leads closed o k.reader means x ts in
+        let P : Option Refusal → Type 0 = λ o. ReaderStands meaning_of Leads closed o k.reader means x ts in
         let Q : List ℕ → Type 0 = λ z. HasFault e (means z) in
         let faulty : (y : List ℕ) → HasFault e (means (x ++ y)) = subst P is h.stands in
         subst Q (append-nil x) (faulty []);
@@ -253,7 +253,7 @@ module _ {R : Type 0} (meaning_of : R → List ℕ → Meaning) (Leads : R → L
         all = λ means x ts h.
             let r = reads_on k means x ts none h in record {
               whole = ap (λ (m : Meaning). m.1) (sym (r.same x)) ∙ f.whole x ts r.leads;
-              all = ap (λ (m : Meaning). triples_of m.0) (sym (r.same x)) ∙ f.all x ts r.leads;
+              all = ap (λ (m : Meaning). all_stated m.0) (sym (r.same x)) ∙ f.all x ts r.leads;
             };
       }
 

@@ -7,10 +7,10 @@ use Rattle.gs_model.specs.declared.refusals.Refusal.{Refusal}
 use Rattle.gs_body.specs.Bodies.{Meaning, Reports}
 use Rattle.gs_body.specs.Feeding.{Feeds, Finishes}
 use Rattle.gs_ntread.specs.Documents.{meaning_by as ntriples_meaning}
-use Rattle.gs_ntread.specs.Readers.{LeadsTo as NTriplesLeads}
+use Rattle.gs_ntread.specs.Readers.{LeadsToNTriples as NTriplesLeads}
 use Rattle.gs_ntread.specs.declared.reader.NTriplesReader.{NTriplesReader}
 use Rattle.gs_turtle.specs.Documents.{meaning_by as turtle_meaning}
-use Rattle.gs_turtle.specs.Readers.{LeadsTo as TurtleLeads}
+use Rattle.gs_turtle.specs.Readers.{IsLedBy as TurtleLeads}
 use Rattle.gs_turtle.specs.declared.readers.TurtleReader.{TurtleReader}
 use Rattle.gs_upload.specs.declared.readers.TextReader.{TextReader}
 use Rattle.gs_upload.specs.declared.readers.TextReader.TheVariants.{NTriples, Turtle}

@@ -18,8 +18,8 @@ meaning_of_text (Turtle r) x = turtle_meaning (string_bytes r.base) r.request x
 
 -- a text leads a new reader here, and to having given these triples
 abbrev pub LeadsText : TextReader → List ℕ → List RdfTriple → Type 0
-LeadsText (NTriples r) x ts = ntriples.LeadsTo r x ts
-LeadsText (Turtle r) x ts = turtle.LeadsTo r x ts
+LeadsText (NTriples r) x ts = ntriples.LeadsToNTriples r x ts
+LeadsText (Turtle r) x ts = turtle.IsLedBy r x ts
 
 -- each call is refused from now on
 abbrev pub is_closed_text : TextReader → Bool

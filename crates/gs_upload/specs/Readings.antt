@@ -5,34 +5,34 @@ use Rattle.gs_model.specs.Triples.{RdfTriple}
 use Rattle.gs_model.specs.declared.refusals.Refusal.{Refusal}
 use Rattle.gs_machine.specs.Machines.{AreSettled, Begins}
 use Rattle.gs_machine.specs.Utf8.{IsLongestFront}
-use Rattle.gs_body.specs.Bodies.{Meaning, Whole, triples_of}
+use Rattle.gs_body.specs.Bodies.{Meaning, Whole, all_stated}
 use Rattle.gs_upload.specs.declared.readings.Reading.{Reading}
 use Rattle.gs_upload.specs.Faults.{HasFault}
 
 -- the reader has read x and given ts, goes on, and a text means to it what `means` says
-pub record ReadsOn {R : Type 0} (meaning_of : R → List ℕ → Meaning) (Leads : R → List ℕ → List RdfTriple → Type 0) (closed : R → Bool)
+pub record ReadsBodyOn {R : Type 0} (meaning_of : R → List ℕ → Meaning) (Leads : R → List ℕ → List RdfTriple → Type 0) (closed : R → Bool)
     (reader : R) (means : List ℕ → Meaning) (x : List ℕ) (ts : List RdfTriple) : Type 0 where
   pub leads : Leads reader x ts
   pub goes_on : closed reader ≡ false
   pub same : (z : List ℕ) → meaning_of reader z ≡ means z
 
 -- the reader goes on, or the text has this fault, however it goes on
-abbrev pub Stands : {R : Type 0} → (R → List ℕ → Meaning) → (R → List ℕ → List RdfTriple → Type 0) → (R → Bool)
+abbrev pub ReaderStands : {R : Type 0} → (R → List ℕ → Meaning) → (R → List ℕ → List RdfTriple → Type 0) → (R → Bool)
     → Option Refusal → R → (List ℕ → Meaning) → List ℕ → List RdfTriple → Type 0
-Stands meaning_of Leads closed None reader means x ts = ReadsOn meaning_of Leads closed reader means x ts
-Stands meaning_of Leads closed (Some e) reader means x ts = (y : List ℕ) → HasFault e (means (x ++ y))
+ReaderStands meaning_of Leads closed None reader means x ts = ReadsBodyOn meaning_of Leads closed reader means x ts
+ReaderStands meaning_of Leads closed (Some e) reader means x ts = (y : List ℕ) → HasFault e (means (x ++ y))
 
 -- Of a text that means what `means` says, x was fed to the reading, and ts were given, with which its triples begin,
 -- however it goes on.
 pub record IsFedReading {R : Type 0} (meaning_of : R → List ℕ → Meaning) (Leads : R → List ℕ → List RdfTriple → Type 0) (closed : R → Bool)
     (k : Reading R) (means : List ℕ → Meaning) (x : List ℕ) (ts : List RdfTriple) : Type 0 where
-  pub begun : (y : List ℕ) → Begins (triples_of (means (x ++ y)).0) ts
-  pub stands : Stands meaning_of Leads closed k.fault k.reader means x ts
+  pub begun : (y : List ℕ) → Begins (all_stated (means (x ++ y)).0) ts
+  pub stands : ReaderStands meaning_of Leads closed k.fault k.reader means x ts
 
 -- Just the triples of the complete statements are given: of the longest front of x that ends between two characters,
 -- all that it means however it goes on.
 abbrev pub GivesComplete : (List ℕ → Meaning) → List ℕ → List RdfTriple → Type 0
-GivesComplete means x ts = (front : List ℕ) → IsLongestFront x front → AreSettled (λ z. triples_of (means z).0) front ts
+GivesComplete means x ts = (front : List ℕ) → IsLongestFront x front → AreSettled (λ z. all_stated (means z).0) front ts
 
 -- A text was fed, and the list grew by what it gives. Without a fault those are the triples of the complete statements;
 -- a fault that was kept before is kept.
@@ -81,7 +81,7 @@ FeedsPieces meaning_of Leads closed n old new text before after = (pieces : List
 -- a text has no fault, and its triples are these
 pub record MeansAll (m : Meaning) (ts : List RdfTriple) : Type 0 where
   pub whole : m.1 ≡ Whole
-  pub all : triples_of m.0 ≡ ts
+  pub all : all_stated m.0 ≡ ts
 
 -- the text ended without a fault, and with the triples by which the list grew all that it means is given
 pub record EndsWhole {R : Type 0} (meaning_of : R → List ℕ → Meaning) (Leads : R → List ℕ → List RdfTriple → Type 0) (closed : R → Bool)

@@ -16,5 +16,5 @@ judged_head base None = closed 400
 judged_head base (Some h) = judged base (seen_of (parts_of h))
 
 -- what bytes ask for, under a base
-abbrev pub verdict_of : List ℕ → List ℕ → Verdict
-verdict_of base b = judged_head base (head_of b)
+abbrev pub head_verdict : List ℕ → List ℕ → Verdict
+head_verdict base b = judged_head base (head_of b)

@@ -1,7 +1,7 @@
 //! From the bytes of a head to what they ask for.
 ghost use Rattle.std.specs.Prelude.{◌≡◌, ◌≤◌, length, IfOk};
 ghost use Rattle.gs_http.specs.Limits.{max_field_name_bytes};
-ghost use Rattle.gs_verdict.specs.Bytes.{verdict_of};
+ghost use Rattle.gs_verdict.specs.Bytes.{head_verdict};
 
 use crate::judging::{closed, judge_head};
 use crate::verdicts::Verdict;
@@ -17,7 +17,7 @@ pub fn read_verdict(
     bytes: &[u8],
 ) -> Result<Verdict, AllocError>
     requires short { length bytes.now ≤ max_field_name_bytes }
-    ensures { IfOk result (λ v. v ≡ verdict_of base.now bytes.now) }
+    ensures { IfOk result (λ v. v ≡ head_verdict base.now bytes.now) }
 {
     match read_head(alloc, bytes)? {
         None => Ok(closed(400)),

@@ -6,9 +6,9 @@ use Rattle.gs_event.specs.declared.answers.Answer.{Answer}
 use Rattle.gs_talk.specs.Logs.{Server}
 use Rattle.gs_talk.specs.Seats.{Deeds}
 use Rattle.gs_session.specs.Turns.{Ran}
-use Rattle.gs_session.specs.Connections.{Connection, Done, Quit}
+use Rattle.gs_session.specs.Connections.{Connection, IsFinished, Quit}
 use Rattle.gs_pass.specs.declared.records.Record.{Record}
-use Rattle.gs_workers.specs.Attends.{Serves, ServesMany}
+use Rattle.gs_workers.specs.Attends.{ServesOne, ServesMany}
 use Rattle.gs_gates.specs.Records.{told}
 use Rattle.gs_gates.proofs.SweepLemmas.{Shows}
 
@@ -49,9 +49,9 @@ connection_shown f gives shown s seat unread left held holds old new Holds c = r
 
 -- so are both kinds of end
 pub serves_shown : {D E : Type 0} (f : D → E) (gives : D → Event → Answer → D → Type 0) (shown : E → Event → Answer → E → Type 0) → Shows f gives shown
-    → (p : Server) (seat : ℕ) (old new : D) → Serves p gives seat old new → Serves p shown seat (f old) (f new)
+    → (p : Server) (seat : ℕ) (old new : D) → ServesOne p gives seat old new → ServesOne p shown seat (f old) (f new)
 serves_shown f gives shown s p seat old new (unread, left, held, holds, inl done) =
-    (unread, left, held, holds, inl (connection_shown f gives shown s seat unread left held holds old new (Done p left) done))
+    (unread, left, held, holds, inl (connection_shown f gives shown s seat unread left held holds old new (IsFinished p left) done))
 serves_shown f gives shown s p seat old new (unread, left, held, holds, inr quit) =
     (unread, left, held, holds, inr (connection_shown f gives shown s seat unread left held holds old new (Quit p left) quit))
 
@@ -67,7 +67,7 @@ ran_seat : (seat : ℕ) (r s : Record) (h : Deeds) → Ran told seat r h s → s
 ran_seat seat r s [] ran = ap (λ (x : Record). x.seat) ran
 ran_seat seat r s (d ∷ ds) ran = ran_seat seat ran.0 s ds ran.2 ∙ ran.1.0.1.0
 
-serves_seat : (p : Server) (seat : ℕ) (r s : Record) → Serves p told seat r s → s.seat ≡ r.seat
+serves_seat : (p : Server) (seat : ℕ) (r s : Record) → ServesOne p told seat r s → s.seat ≡ r.seat
 serves_seat p seat r s (unread, left, held, holds, inl done) = ran_seat seat r s done.h done.ran
 serves_seat p seat r s (unread, left, held, holds, inr quit) = ran_seat seat r s quit.h quit.ran
 

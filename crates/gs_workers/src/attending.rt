@@ -1,7 +1,7 @@
 //! One connection, whatever becomes of it.
 ghost use Rattle.std.specs.Prelude.{◌≡◌, true, OnOk};
 ghost use Rattle.gs_model.specs.Bases.{is_base};
-ghost use Rattle.gs_session.specs.Connections.{Connection, Done};
+ghost use Rattle.gs_session.specs.Connections.{Connection, IsFinished};
 ghost use Rattle.gs_workers.specs.Attends.{Attends};
 
 use gs_door::Door;
@@ -31,7 +31,7 @@ pub fn attend<I: Read, O: Write, D: Door>(
         door.old door.new }
     ensures whole { OnOk result (Connection D.Gives seat
         (I.remaining reader.old) (I.remaining reader.new) (O.contents writer.old) (O.contents writer.new)
-        door.old door.new (Done (record { base = base.now; piece = piece }) (I.remaining reader.new))) }
+        door.old door.new (IsFinished (record { base = base.now; piece = piece }) (I.remaining reader.new))) }
 {
     serve(alloc, seat, base, piece, reader, writer, door)
 }

@@ -11,6 +11,6 @@ mod ways;
 mod workers;
 
 pub use attending::attend;
-pub use plans::Plan;
+pub use plans::ServicePlan;
 pub use queues::{Queue, Waiting};
 pub use workers::{limit_waits, work};

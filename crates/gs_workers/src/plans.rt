@@ -8,7 +8,7 @@ use std::time::Duration;
 /// How connections are served: the base, the lines of a piece, how long a read or a write may wait, and how
 /// long a head, each 8 KiB of a body, and each 64 KiB of a text that is sent may take in all.
 #[derive(Clone, Copy)]
-pub struct Plan<'a> {
+pub struct ServicePlan<'a> {
     pub alloc: Global,
     pub base: &'a str,
     pub piece: u32,

@@ -1,11 +1,11 @@
 //! A worker: it serves one connection after the other, through its own pass.
 ghost use Rattle.std.specs.Prelude.{ℕ};
-ghost use Rattle.gs_workers.specs.Attends.{Serves, ServesMany};
+ghost use Rattle.gs_workers.specs.Attends.{ServesOne, ServesMany};
 ghost use Rattle.gs_workers.specs.Served.{ServedOn};
 
 use crate::attending::attend;
 use crate::lines::Line;
-use crate::plans::Plan;
+use crate::plans::ServicePlan;
 use crate::queues::{Queue, Waiting};
 use crate::states::State;
 use crate::ways::{Way, read_wait};
@@ -13,7 +13,7 @@ use crossbeam_channel::Sender;
 use gs_door::Door;
 use gs_gates::{Failure, Gate, GateDoor, Note, NoteDoor, linger};
 use gs_session::ServeFault;
-use gs_shared::{Hall, Pass, PassDoor, Room};
+use gs_shared::{Pass, PassDoor, Room, SharedStore};
 use std::io;
 use std::net::TcpStream;
 use std::sync::Wait;
@@ -31,14 +31,14 @@ pub fn limit_waits(stream: &TcpStream, patience: Duration) -> io::Result<()> {
 /// Serves one connection while it may be served, and says why not all was said then that is to be said.
 fn serve_line<'x, D: Door, K: Clock>(
     clock: &'x K,
-    plan: Plan<'_>,
+    plan: ServicePlan<'_>,
     seat: u16,
     stream: &'x TcpStream,
     others: &'x Queue,
     state: &'x State,
     door: &mut D,
 ) -> Result<(), ServeFault>
-    ensures { Serves (record { base = plan.entry.base.now; piece = plan.entry.piece })
+    ensures { ServesOne (record { base = plan.entry.base.now; piece = plan.entry.piece })
         D.Gives seat door.old door.new }
 {
     let (patience, whole) = (plan.patience, plan.whole);
@@ -82,7 +82,7 @@ fn tell<G: Gate>(gate: &G, served: Result<(), ServeFault>, state: &State) {
 /// unserved. One that gives way between two requests comes back. The gate is told what failed.
 fn serve_stream<D: Door, G: Gate, K: Clock>(
     clock: &K,
-    plan: Plan<'_>,
+    plan: ServicePlan<'_>,
     seat: u16,
     waiting: Waiting,
     others: &Queue,
@@ -117,7 +117,7 @@ fn serve_stream<D: Door, G: Gate, K: Clock>(
 /// Serves each connection that comes, until no more can come.
 pub(crate) fn serve_streams<D: Door, G: Gate, R: Wait + Clock>(
     rt: &R,
-    plan: Plan<'_>,
+    plan: ServicePlan<'_>,
     seat: u16,
     queue: Queue,
     gate: &G,
@@ -142,8 +142,8 @@ pub(crate) fn serve_streams<D: Door, G: Gate, R: Wait + Clock>(
 /// The whole run of a worker: its pass comes back.
 pub fn work<C: Ledger, T: Ledger, B: Room, G: Gate, R: Wait + Clock>(
     rt: &R,
-    plan: Plan<'_>,
-    hall: &Hall<C, T, B>,
+    plan: ServicePlan<'_>,
+    store: &SharedStore<C, T, B>,
     gate: &G,
     queue: Queue,
     notes: Sender<Note>,
@@ -159,7 +159,7 @@ pub fn work<C: Ledger, T: Ledger, B: Room, G: Gate, R: Wait + Clock>(
         door: GateDoor {
             gate,
             seat,
-            door: PassDoor::new(rt, hall, pass),
+            door: PassDoor::new(rt, store, pass),
         },
     };
     serve_streams(rt, plan, seat, queue, gate, &mut door);

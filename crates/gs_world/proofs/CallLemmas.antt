@@ -9,14 +9,14 @@ use Rattle.gs_session.specs.declared.sessions.Turn as turn
 use Rattle.gs_session.specs.declared.sessions.Turn.TheVariants.{NeedInput, Made, Output, Over}
 use Rattle.gs_world.specs.declared.connections.Connection.{Connection}
 use Rattle.gs_world.specs.declared.worlds.World.{World}
-use Rattle.gs_world.specs.Walks.{turn_text, IsGiven, HasInputEnded, TakesTurn, Gets, InputEnds, MovesOn, CannotWrite, ChangesOne, LeavesSeat, IsGivenUp}
+use Rattle.gs_world.specs.Walks.{turn_text, BytesCame, HasInputEnded, TakesTurn, Gets, InputEnds, MovesOn, CannotWrite, ChangesOne, LeavesSeat, IsGivenUp}
 
 -- a connection that was not given up
 
 if_live : (o : Option Session) (s : Session) (Gone : Type 0) (Holds : Session → Type 0) → o ≡ Some s → Holds s → MatchOption o Gone Holds
 if_live o s Gone Holds e h = subst (λ (q : Option Session). MatchOption q Gone Holds) (sym e) h
 
-pub gets_live : (k : Connection) (s next : Session) (b : List ℕ) → k.session ≡ Some s → IsGiven b s next → Gets b k (record { session = Some next; written = k.written })
+pub gets_live : (k : Connection) (s next : Session) (b : List ℕ) → k.session ≡ Some s → BytesCame b s next → Gets b k (record { session = Some next; written = k.written })
 gets_live k s next b e g = if_live k.session s _ _ e (next, (refl, refl), g)
 
 pub ends_live : (k : Connection) (s next : Session) → k.session ≡ Some s → HasInputEnded s next → InputEnds k (record { session = Some next; written = k.written })

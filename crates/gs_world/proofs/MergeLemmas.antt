@@ -17,7 +17,7 @@ use Rattle.gs_event.specs.Phases.{Phase, Idle, Writing, Patching, Reading, opera
 use Rattle.gs_event.specs.Views.{SeatView, Fits, FitsSeat}
 use Rattle.gs_event.specs.Histories.{History, OpenRead, Start, IsLegal, phase_of, phase_by, operation_by, points_of, seat_view, view_of}
 use Rattle.gs_event.proofs.HistoryLemmas.{later}
-use Rattle.gs_talk.specs.Seats.{SeatPhase, Point, phase_then, phase_in, numbered, asked_in}
+use Rattle.gs_talk.specs.Seats.{SeatPhase, Point, phase_then, phase_in, point_numbered, asked_in}
 use Rattle.gs_talk.proofs.CourseLemmas.{phase-append, operations-append}
 use Rattle.gs_world.specs.Happenings.{deed_at, deeds_at}
 use Rattle.gs_world.specs.Merging.{Askings, asked_at, points_by, IsMerged}
@@ -81,7 +81,7 @@ same_operation p action a = refl
 
 -- what an action at this phase asks
 abbrev asks : SeatPhase → Action → Answer → Option Point
-asks p action a = numbered p (operation_of p action a)
+asks p action a = point_numbered p (operation_of p action a)
 
 -- a point with its seat
 abbrev at_seat : ℕ → Option Point → Askings
@@ -103,7 +103,7 @@ all_asked (x ∷ before) = all_asked before ++ asked_then before x.0 x.1
 abbrev operation_in : ℕ × Point → Operation
 operation_in x = x.1.1
 
-seat_operations : (s : ℕ) (p : SeatPhase) (o : Option Operation) → map operation_in (at_seat s (numbered p o)) ≡ cons_option o []
+seat_operations : (s : ℕ) (p : SeatPhase) (o : Option Operation) → map operation_in (at_seat s (point_numbered p o)) ≡ cons_option o []
 seat_operations s p None = refl
 seat_operations s p (Some q) = refl
 
@@ -190,7 +190,7 @@ event_below start before (Reclaim n) a f = none_below start.seats
 event_below start before (Seat s action) a f = go (slice_get (view_of start before).seats s) refl f where
   refused : a ≡ Refused BadSeat → AreBelow start.seats (at_seat s (asks (phase_in Idle (deeds_at s before)) action a))
   refused e =
-      subst (λ (o : Option Operation). AreBelow start.seats (at_seat s (numbered (phase_in Idle (deeds_at s before)) o)))
+      subst (λ (o : Option Operation). AreBelow start.seats (at_seat s (point_numbered (phase_in Idle (deeds_at s before)) o)))
       (sym (ap (λ (b : Answer). operation_of (phase_in Idle (deeds_at s before)) action b) e ∙ refused_asks (phase_in Idle (deeds_at s before)) action BadSeat))
       (none_below start.seats)
 

@@ -10,12 +10,12 @@ use Rattle.gs_talk.specs.Logs.{Server}
 use Rattle.gs_session.specs.declared.sessions.Session.{Session}
 use Rattle.gs_session.specs.declared.setups.Setup.{Setup}
 use Rattle.gs_session.specs.Steps.{server_of}
-use Rattle.gs_session.specs.Turns.{Leads, joined}
+use Rattle.gs_session.specs.Turns.{Leads, joined_input}
 use Rattle.gs_world.specs.declared.connections.Connection.{Connection}
 use Rattle.gs_world.specs.declared.steps.WorldStep.{WorldStep}
 use Rattle.gs_world.specs.declared.steps.WorldStep.TheVariants.{Bytes, End}
 use Rattle.gs_world.specs.Happenings.{Input, with_own, input_with, IsMadeBy}
-use Rattle.gs_world.specs.Walks.{Becomes, IsGiven, HasInputEnded, Gets, InputEnds}
+use Rattle.gs_world.specs.Walks.{Becomes, BytesCame, HasInputEnded, Gets, InputEnds}
 use Rattle.gs_world.specs.Worlds.{LeadsToSession, HasLeft, HoldsTo}
 
 -- the store took these deeds of a seat, one at most
@@ -78,7 +78,7 @@ server_same s next e = ap (λ (setup : Setup). server_of setup) e
 pub gets_moved : (p : Server) (c : ℕ) (b : Vec ℕ Global) (i : Input) (h : Deeds) (k k2 : Connection) (first last : Shown) → HoldsTo p c i h k → Gets b.items k k2
     → last ≡ first → Moved p c (Bytes c b) i h first k2 last
 gets_moved p c b i h k k2 first last j g stays = go k.session refl j g where
-  live : (s : Session) (next : Session) → LeadsToSession p c i h k.written.items s → Becomes k2 next k.written.items → IsGiven b.items s next → Moved p c (Bytes c b) i h first k2 last
+  live : (s : Session) (next : Session) → LeadsToSession p c i h k.written.items s → Becomes k2 next k.written.items → BytesCame b.items s next → Moved p c (Bytes c b) i h first k2 last
   live s next f e n = record {
     done = [];
     few = stays;
@@ -88,8 +88,8 @@ gets_moved p c b i h k k2 first last j g stays = go k.session refl j g where
         put_serves p c (input_with i (Bytes c b)) (h ++ []) k.written.items k2 next e
         (live_taken p c i (h ++ []) k.written.items next (Bytes c b) f.live record {
           leads =
-              subst (λ (d : Deeds). Leads next (joined i.ended i.bytes b.items) d k.written.items) (sym (append-nil h))
-              (subst (λ (v : Bool). Leads next (joined v i.bytes b.items) h k.written.items) f.ended (n.0 i.bytes h k.written.items f.leads));
+              subst (λ (d : Deeds). Leads next (joined_input i.ended i.bytes b.items) d k.written.items) (sym (append-nil h))
+              (subst (λ (v : Bool). Leads next (joined_input v i.bytes b.items) h k.written.items) f.ended (n.0 i.bytes h k.written.items f.leads));
           ended = n.2 ∙ f.ended;
           server = server_same s next n.1 ∙ f.server;
           seat_is = seat_same s next n.1 ∙ f.seat_is;
@@ -98,7 +98,7 @@ gets_moved p c b i h k k2 first last j g stays = go k.session refl j g where
   }
 
   go : (o : Option Session) → k.session ≡ o → MatchOption o (HasLeft p c i h k.written.items) (λ s. LeadsToSession p c i h k.written.items s)
-      → MatchOption o (k2 ≡ k) (λ s. (next : Session) × Becomes k2 next k.written.items × IsGiven b.items s next) → Moved p c (Bytes c b) i h first k2 last
+      → MatchOption o (k2 ≡ k) (λ s. (next : Session) × Becomes k2 next k.written.items × BytesCame b.items s next) → Moved p c (Bytes c b) i h first k2 last
   go None e f n = gone_moved p c (Bytes c b) i h k k2 first last tt e f n stays
   go (Some s) e f n = live s n.0 f n.1 n.2
 

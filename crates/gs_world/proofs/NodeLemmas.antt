@@ -22,7 +22,7 @@ use Rattle.gs_own_nodes.proofs.UpdateLemmas.{update_own}
 use Rattle.gs_verdict.specs.declared.verdicts.Asked.{Asked}
 use Rattle.gs_stream.specs.Requests.{Request, Denied, Asks, Breaks, Waits}
 use Rattle.gs_talk.specs.Plans.{Plan, Uploads, Patches, Deletes, Looks, Reads, NoPlan, plan_of}
-use Rattle.gs_talk.specs.Bodies.{text_base, language_of}
+use Rattle.gs_talk.specs.Bodies.{text_base, document_language}
 use Rattle.gs_talk.specs.Seats.{Point, asked_in}
 use Rattle.gs_talk.specs.Points.{IsAskedBy, IsPointOf, ArePointsOf}
 use Rattle.gs_talk.specs.Logs.{Server}
@@ -67,7 +67,7 @@ write_own New r g h = graph_keeps (HasOwn r) g h
 asked_own : (base : List ℕ) (a : Asked) (body : List ℕ) (p : Plan) (q : Point) → IsAskedBy base a body p q → BringsOwn q.0 q.1
 asked_own base a body (Uploads k) q m =
     subst (λ (o : Operation). BringsOwn q.0 o) (sym m.2)
-    (write_own k q.0 m.0 (All-same (HasOwn q.0) m.0 _ m.1.1 (documents_own (language_of a.body) (text_base base a.graph) q.0 body)))
+    (write_own k q.0 m.0 (All-same (HasOwn q.0) m.0 _ m.1.1 (documents_own (document_language a.body) (text_base base a.graph) q.0 body)))
 asked_own base a body (Patches t) q m = subst (λ (o : Operation). BringsOwn q.0 o) (sym m.2) (update_own (text_base base a.graph) q.0 body m.0 m.1)
 asked_own base a body (Deletes t) q m = subst (λ (o : Operation). BringsOwn q.0 o) (sym m) tt
 asked_own base a body (Looks t) q m = subst (λ (o : Operation). BringsOwn q.0 o) (sym m) tt

@@ -14,13 +14,13 @@ use Rattle.gs_event.specs.declared.events.Action.TheVariants.{Open, OpenPatch, S
 use Rattle.gs_event.specs.declared.answers.Answer.{Answer}
 use Rattle.gs_event.specs.declared.answers.Answer.TheVariants.{Opened, Staged, Status, Pinned, Lines, Cancelled, Refused}
 use Rattle.gs_event.specs.Phases.{Idle, Writing, Patching, Reading, write_of}
-use Rattle.gs_event.specs.Views.{Totals, SeatView, View, Fits, FitsSeat, is_opened}
+use Rattle.gs_event.specs.Views.{Totals, SeatView, View, Fits, FitsSeat, answers_opened}
 use Rattle.gs_event.specs.Histories.{History, Start, IsLegal, view_of}
 use Rattle.gs_model.specs.Graphs.{Graph}
 use Rattle.gs_talk.specs.Seats.{Deeds, SeatPhase, Point, phase_in, asked_in}
 use Rattle.gs_talk.proofs.CourseLemmas.{phase-append, operations-append}
 use Rattle.gs_world.specs.Happenings.{deed_at, deeds_at}
-use Rattle.gs_world.specs.Nodes.{brings, numbers_of, request_numbers, RiseFrom}
+use Rattle.gs_world.specs.Nodes.{brings, numbers_bringing, request_numbers, RiseFrom}
 
 -- numbers that rise
 
@@ -66,7 +66,7 @@ open_in p = []
 
 -- the numbers of what is given from this phase on, and of what is open after it
 abbrev used_from : SeatPhase → Deeds → List ℕ
-used_from p d = numbers_of (asked_in p d) ++ open_in (phase_in p d)
+used_from p d = numbers_bringing (asked_in p d) ++ open_in (phase_in p d)
 
 -- What is open stays, is given or is dropped; or something is opened.
 abbrev Goes : List ℕ → Answer → List ℕ → Type 0
@@ -83,7 +83,7 @@ rest_opens true = refl
 rest_opens false = refl
 
 -- an upload gives its own number
-write_brings : (k : UploadKind) (r : ℕ) (g : Graph) → numbers_of ((r, write_of k r g) ∷ []) ++ [] ≡ r ∷ []
+write_brings : (k : UploadKind) (r : ℕ) (g : Graph) → numbers_bringing ((r, write_of k r g) ∷ []) ++ [] ≡ r ∷ []
 write_brings (Put t) r g = refl
 write_brings (Post t) r g = refl
 write_brings New r g = refl
@@ -141,7 +141,7 @@ one_seat c d (Reclaim n) k j = absurd k
 
 -- What is open at this seat stays, is given or is dropped; or an event of the seat opened something under the next number.
 abbrev GoesAt : ℕ → ℕ → Event → Answer → List ℕ → List ℕ → Type 0
-GoesAt last c e a old new = (new ≡ old) ⊎ ((new ≡ []) ⊎ (IsAt c e × (is_opened a ≡ true) × (old ≡ []) × (new ≡ (last + 1) ∷ [])))
+GoesAt last c e a old new = (new ≡ old) ⊎ ((new ≡ []) ⊎ (IsAt c e × (answers_opened a ≡ true) × (old ≡ []) × (new ≡ (last + 1) ∷ [])))
 
 -- it goes so by any event that fits
 event_moves : (c : ℕ) (p : SeatPhase) (w : View) (e : Event) (a : Answer) → Fits w e a → GoesAt w.totals.request c e a (open_in p) (used_from p (deed_at c e a))
@@ -152,7 +152,7 @@ event_moves c p w (Seat s action) a f = go (nat_eq s c) refl where
   own e (inr (inl k)) = inr (inl k)
   own e (inr (inr k)) = inr (inr (
     eqb-true s c e,
-    ap is_opened k.1,
+    ap answers_opened k.1,
     k.2,
     k.3 ∙ ap (λ (n : ℕ). n ∷ []) (opened_number w s action k.0 (subst (λ (b : Answer). Fits w (Seat s action) b) k.1 f)),
   ))
@@ -168,15 +168,15 @@ abbrev last_of : Start → History → ℕ
 last_of start h = (view_of start h).totals.request
 
 -- one more event raises it by one where something was opened
-last-cons : (start : Start) (h : History) (e : Event) (a : Answer) → last_of start ((e, a) ∷ h) ≡ last_of start h + cond (is_opened a) 1 0
-last-cons start h e a = omega (arith, sum_by-cons (λ (x : Event × Answer). cond (is_opened x.1) 1 0) (e, a) h)
+last-cons : (start : Start) (h : History) (e : Event) (a : Answer) → last_of start ((e, a) ∷ h) ≡ last_of start h + cond (answers_opened a) 1 0
+last-cons start h e a = omega (arith, sum_by-cons (λ (x : Event × Answer). cond (answers_opened x.1) 1 0) (e, a) h)
 
 -- it never falls
 last_grows : (start : Start) (h : History) (e : Event) (a : Answer) → last_of start h ≤ last_of start ((e, a) ∷ h)
 last_grows start h e a = omega (arith, last-cons start h e a)
 
 -- what is opened has it
-last_opened : (start : Start) (h : History) (e : Event) (a : Answer) → is_opened a ≡ true → last_of start ((e, a) ∷ h) ≡ last_of start h + 1
+last_opened : (start : Start) (h : History) (e : Event) (a : Answer) → answers_opened a ≡ true → last_of start ((e, a) ∷ h) ≡ last_of start h + 1
 last_opened start h e a o = last-cons start h e a ∙ ap (λ (b : Bool). last_of start h + cond b 1 0) o
 
 -- the numbers that a seat used: of what it gave, and of what is open
@@ -184,21 +184,21 @@ abbrev used_at : ℕ → History → List ℕ
 used_at c h = used_from Idle (deeds_at c h)
 
 -- the numbers of some points and of more
-numbers-append : (xs ys : List Point) → numbers_of (xs ++ ys) ≡ numbers_of xs ++ numbers_of ys
+numbers-append : (xs ys : List Point) → numbers_bringing (xs ++ ys) ≡ numbers_bringing xs ++ numbers_bringing ys
 numbers-append [] ys = refl
 numbers-append (q ∷ xs) ys = go (brings q.1) (numbers-append xs ys) where
-  go : (b : Bool) → numbers_of (xs ++ ys) ≡ numbers_of xs ++ numbers_of ys
-      → cond b (q.0 ∷ numbers_of (xs ++ ys)) (numbers_of (xs ++ ys)) ≡ cond b (q.0 ∷ numbers_of xs) (numbers_of xs) ++ numbers_of ys
+  go : (b : Bool) → numbers_bringing (xs ++ ys) ≡ numbers_bringing xs ++ numbers_bringing ys
+      → cond b (q.0 ∷ numbers_bringing (xs ++ ys)) (numbers_bringing (xs ++ ys)) ≡ cond b (q.0 ∷ numbers_bringing xs) (numbers_bringing xs) ++ numbers_bringing ys
   go true e = ap (λ (ns : List ℕ). q.0 ∷ ns) e
   go false e = e
 
 -- the numbers after more deeds
-used-append : (d f : Deeds) → used_from Idle (d ++ f) ≡ numbers_of (asked_in Idle d) ++ used_from (phase_in Idle d) f
+used-append : (d f : Deeds) → used_from Idle (d ++ f) ≡ numbers_bringing (asked_in Idle d) ++ used_from (phase_in Idle d) f
 used-append d f =
-    ap (λ (qs : List Point). numbers_of qs ++ open_in (phase_in Idle (d ++ f))) (operations-append Idle d f)
+    ap (λ (qs : List Point). numbers_bringing qs ++ open_in (phase_in Idle (d ++ f))) (operations-append Idle d f)
     ∙ ap (λ (ns : List ℕ). ns ++ open_in (phase_in Idle (d ++ f))) (numbers-append (asked_in Idle d) (asked_in (phase_in Idle d) f))
-    ∙ ap (λ (p : SeatPhase). (numbers_of (asked_in Idle d) ++ numbers_of (asked_in (phase_in Idle d) f)) ++ open_in p) (phase-append Idle d f)
-    ∙ append_assoc (numbers_of (asked_in Idle d)) (numbers_of (asked_in (phase_in Idle d) f)) (open_in (phase_in (phase_in Idle d) f))
+    ∙ ap (λ (p : SeatPhase). (numbers_bringing (asked_in Idle d) ++ numbers_bringing (asked_in (phase_in Idle d) f)) ++ open_in p) (phase-append Idle d f)
+    ∙ append_assoc (numbers_bringing (asked_in Idle d)) (numbers_bringing (asked_in (phase_in Idle d) f)) (open_in (phase_in (phase_in Idle d) f))
 
 -- The numbers still rise, up to the new bound; each is an old one, or the next, which an event of the seat took.
 record Grows (last next c : ℕ) (e : Event) (old new : List ℕ) : Type 0 where
@@ -230,7 +230,7 @@ more_grows last next c e ms at o = record {
   which r (inr j) = inr (at, sym j)
 
 -- so it is in each case
-moved_grows : (last next c : ℕ) (e : Event) (a : Answer) (ms old new : List ℕ) → last ≤ next → (is_opened a ≡ true → next ≡ last + 1) → GoesAt last c e a old new
+moved_grows : (last next c : ℕ) (e : Event) (a : Answer) (ms old new : List ℕ) → last ≤ next → (answers_opened a ≡ true → next ≡ last + 1) → GoesAt last c e a old new
     → Grows last next c e (ms ++ old) (ms ++ new)
 moved_grows last next c e a ms old new l o (inl k) =
     subst (λ (ns : List ℕ). Grows last next c e (ms ++ old) (ms ++ ns)) (sym k) (same_grows last next c e (ms ++ old) l)
@@ -245,7 +245,7 @@ history_grows : (start : Start) (c : ℕ) (e : Event) (a : Answer) (h : History)
     → Grows (last_of start h) (last_of start ((e, a) ∷ h)) c e (used_at c h) (used_at c ((e, a) ∷ h))
 history_grows start c e a h f =
     subst (λ (ms : List ℕ). Grows (last_of start h) (last_of start ((e, a) ∷ h)) c e (used_at c h) ms) (sym (used-append (deeds_at c h) (deed_at c e a)))
-    (moved_grows (last_of start h) (last_of start ((e, a) ∷ h)) c e a (numbers_of (asked_in Idle (deeds_at c h))) _ _ (last_grows start h e a) (last_opened start h e a)
+    (moved_grows (last_of start h) (last_of start ((e, a) ∷ h)) c e a (numbers_bringing (asked_in Idle (deeds_at c h))) _ _ (last_grows start h e a) (last_opened start h e a)
     (event_moves c (phase_in Idle (deeds_at c h)) (view_of start h) e a f))
 
 -- the numbers that a seat used rise to at most the last one

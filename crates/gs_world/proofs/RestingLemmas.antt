@@ -10,14 +10,14 @@ use Rattle.gs_talk.specs.Closings.{SaysAll, SaysLast}
 use Rattle.gs_session.specs.declared.sessions.Session.{Session}
 use Rattle.gs_session.specs.declared.sessions.Turn as turn
 use Rattle.gs_session.specs.declared.sessions.Turn.TheVariants.{NeedInput, Made, Output, Over}
-use Rattle.gs_session.specs.Turns.{Leads, Waits, HasEnded}
+use Rattle.gs_session.specs.Turns.{Leads, AwaitsInput, HasEnded}
 use Rattle.gs_world.specs.declared.connections.Connection.{Connection}
 use Rattle.gs_world.specs.declared.steps.WorldStep.TheVariants.{Turn}
 use Rattle.gs_world.specs.declared.worlds.World.{World}
 use Rattle.gs_world.specs.Happenings.{Past, Input, input_of, deeds_at, IsMadeBy}
 use Rattle.gs_world.specs.Walks.{turn_text, Becomes, TakesTurn, StaysGone, MovesOn, Walks, WalksAll}
 use Rattle.gs_world.specs.Worlds.{LeadsToSession, HasLeft, HoldsTo, LeadsToWorld, text_written, written_on, RunsSteps}
-use Rattle.gs_world.specs.Resting.{LeadsOnBy, Acts, Writes, SaysItsAll, HasSaidAll, Rests, TurnsRestWhereAllIsSaid}
+use Rattle.gs_world.specs.Resting.{LeadsOnBy, MakesEvent, WritesText, SaysItsAll, HasSaidAll, SaysNothing, TurnsRestWhereAllIsSaid}
 use Rattle.gs_world.proofs.MoveLemmas.{DoesFew, events_of}
 use Rattle.gs_world.proofs.TurnLemmas.{turned_holds}
 use Rattle.gs_world.proofs.StandLemmas.{set_here, moved_leads}
@@ -36,7 +36,7 @@ session_there p c i h k j d = go k.session refl j where
 
 -- a session that waits, or has ended, has said all
 
-waits_said : (p : Server) (c : ℕ) (i : Input) (h : Deeds) (w : List ℕ) (s : Session) → Waits s → LeadsToSession p c i h w s → SaysItsAll p i h w
+waits_said : (p : Server) (c : ℕ) (i : Input) (h : Deeds) (w : List ℕ) (s : Session) → AwaitsInput s → LeadsToSession p c i h w s → SaysItsAll p i h w
 waits_said p c i h w s n f = inl (sym f.ended ∙ n.0, subst (λ (z : Server). SaysAll z false i.bytes h w) f.server (n.1 i.bytes h w f.leads))
 
 ended_said : (p : Server) (c : ℕ) (i : Input) (h : Deeds) (w : List ℕ) (s : Session) → HasEnded s → LeadsToSession p c i h w s → SaysItsAll p i h w
@@ -81,7 +81,7 @@ module _ (c : ℕ) (old new : World) (k k2 : Connection) (s next : Session) (her
   none_said x h w l = subst (λ (z : List ℕ). Leads next x h z) (sym (append-nil w)) l
 
   turn_shows : (t : turn.Turn) → s.setup.seat ≡ c → Becomes k2 next (k.written.items ++ turn_text t) → TakesTurn s old.store t next new.store
-      → Acts c old new ⊎ (Writes c old new ⊎ Rests c old new)
+      → MakesEvent c old new ⊎ (WritesText c old new ⊎ SaysNothing c old new)
   turn_shows Made at e n = inl (
     n.0.0,
     n.0.1,
@@ -108,24 +108,24 @@ module _ (c : ℕ) (old new : World) (k k2 : Connection) (s next : Session) (her
 
 -- a turn of a connection that is there and was not dropped
 walk_shows : (p : Server) (count c : ℕ) (old new : World) (past : Past) (history : History) → LeadsToWorld p count old past history → c < count
-    → (input_of c past).is_dropped ≡ false → Walks old (Turn c) new → Acts c old new ⊎ (Writes c old new ⊎ Rests c old new)
+    → (input_of c past).is_dropped ≡ false → Walks old (Turn c) new → MakesEvent c old new ⊎ (WritesText c old new ⊎ SaysNothing c old new)
 walk_shows p count c old new past history st l d walk = go (there old.connections.items c (omega (arith, l, st.many))) where
   moved : (k : Connection) (s : Session) → slice_get old.connections.items c ≡ Some k → k.session ≡ Some s
-      → (k2 : Connection) × (new.connections.items ≡ slice_set old.connections.items c k2) × MovesOn k old.store k2 new.store → Acts c old new ⊎ (Writes c old new ⊎ Rests c old new)
+      → (k2 : Connection) × (new.connections.items ≡ slice_set old.connections.items c k2) × MovesOn k old.store k2 new.store → MakesEvent c old new ⊎ (WritesText c old new ⊎ SaysNothing c old new)
   moved k s here live n =
       turned
       (subst (λ (o : Option Session). MatchOption o (StaysGone k old.store n.0 new.store)
       (λ s. (t : turn.Turn) × (next : Session) × Becomes n.0 next (k.written.items ++ turn_text t) × TakesTurn s old.store t next new.store)) live n.2)
     where
       turned : (t : turn.Turn) × (next : Session) × Becomes n.0 next (k.written.items ++ turn_text t) × TakesTurn s old.store t next new.store
-          → Acts c old new ⊎ (Writes c old new ⊎ Rests c old new)
+          → MakesEvent c old new ⊎ (WritesText c old new ⊎ SaysNothing c old new)
       turned m =
           turn_shows c old new k n.0 s m.1 here live n.1 m.0
           (session_led p c (input_of c past) (deeds_at c history) k s live (st.each c k here)).seat_is m.2 m.3
 
-  go : (k : Connection) × (slice_get old.connections.items c ≡ Some k) → Acts c old new ⊎ (Writes c old new ⊎ Rests c old new)
+  go : (k : Connection) × (slice_get old.connections.items c ≡ Some k) → MakesEvent c old new ⊎ (WritesText c old new ⊎ SaysNothing c old new)
   go k = live (session_there p c (input_of c past) (deeds_at c history) k.0 (st.each c k.0 k.1) d) where
-    live : (s : Session) × ((k.0).session ≡ Some s) → Acts c old new ⊎ (Writes c old new ⊎ Rests c old new)
+    live : (s : Session) × ((k.0).session ≡ Some s) → MakesEvent c old new ⊎ (WritesText c old new ⊎ SaysNothing c old new)
     live s =
         moved k.0 s.0 k.1 s.1
         (subst (λ (o : Option Connection). MatchOption o (new ≡ old) (λ k. (k2 : Connection) × (new.connections.items ≡ slice_set old.connections.items c k2) × MovesOn k old.store k2 new.store)) k.1 walk)
@@ -133,11 +133,11 @@ walk_shows p count c old new past history st l d walk = go (there old.connection
 -- The last turn of a run acts, or writes, or all that is to be said was written.
 pub last_turn : TurnsRestWhereAllIsSaid
 last_turn p count c old new past history steps st l d run = go (walks_last old new steps (Turn c) run.0) where
-  shown : (mid : World) → Walks mid (Turn c) new → RunsSteps old steps mid → Acts c mid new ⊎ (Writes c mid new ⊎ Rests c mid new)
+  shown : (mid : World) → Walks mid (Turn c) new → RunsSteps old steps mid → MakesEvent c mid new ⊎ (WritesText c mid new ⊎ SaysNothing c mid new)
   shown mid walk before = more (before.1 p count past history st).0 (before.1 p count past history st).2 where
-    more : (h : History) → LeadsToWorld p count mid (reverse steps ++ past) (h ++ history) → Acts c mid new ⊎ (Writes c mid new ⊎ Rests c mid new)
+    more : (h : History) → LeadsToWorld p count mid (reverse steps ++ past) (h ++ history) → MakesEvent c mid new ⊎ (WritesText c mid new ⊎ SaysNothing c mid new)
     more h leads = walk_shows p count c mid new (reverse steps ++ past) (h ++ history) leads l d walk
 
   go : (mid : World) × WalksAll old steps mid × Walks mid (Turn c) new
-      → (mid : World) × RunsSteps old steps mid × Walks mid (Turn c) new × (Acts c mid new ⊎ (Writes c mid new ⊎ Rests c mid new))
+      → (mid : World) × RunsSteps old steps mid × Walks mid (Turn c) new × (MakesEvent c mid new ⊎ (WritesText c mid new ⊎ SaysNothing c mid new))
   go n = (n.0, walks_run old n.0 steps n.1, n.2, shown n.0 n.2 (walks_run old n.0 steps n.1))

@@ -16,7 +16,7 @@ use Rattle.gs_event.specs.Histories.{History, Start, IsLegal}
 use Rattle.gs_own_nodes.specs.Own.{NamesOwn, HasOwn, IsOwnPart, MatchesOwn, SaysOwn}
 use Rattle.gs_talk.specs.Seats.{Point}
 use Rattle.gs_world.specs.Merging.{asked_at}
-use Rattle.gs_world.specs.Nodes.{BringsOwn, brings, numbers_of, request_numbers, RiseFrom, terms_of, term_of_part, pattern_terms, op_terms, terms_brought, StandsIn, NoneShareANode}
+use Rattle.gs_world.specs.Nodes.{BringsOwn, brings, numbers_bringing, request_numbers, RiseFrom, terms_of, term_of_part, pattern_terms, op_terms, terms_brought, IsBroughtIn, NoneShareANode}
 use Rattle.gs_world.proofs.NumberLemmas.{numbers_rise, numbers_apart}
 
 -- each term of what a request brings is no blank node, or one of its own
@@ -89,22 +89,22 @@ contains_at (z ∷ zs) zero x e = (0, omega arith, cc e)
 contains_at (z ∷ zs) (suc i) x e = Contains-append_right (z ∷ []) zs x (contains_at zs i x e)
 
 -- the numbers of a point that brings something, and of others
-brought_numbers : (x : Point) (qs : List Point) → brings x.1 ≡ true → numbers_of (x ∷ qs) ≡ x.0 ∷ numbers_of qs
-brought_numbers x qs b = ap (λ (v : Bool). cond v (x.0 ∷ numbers_of qs) (numbers_of qs)) b
+brought_numbers : (x : Point) (qs : List Point) → brings x.1 ≡ true → numbers_bringing (x ∷ qs) ≡ x.0 ∷ numbers_bringing qs
+brought_numbers x qs b = ap (λ (v : Bool). cond v (x.0 ∷ numbers_bringing qs) (numbers_bringing qs)) b
 
-more_numbers : (x : Point) (qs : List Point) (r : ℕ) → Contains (numbers_of qs) r → Contains (numbers_of (x ∷ qs)) r
+more_numbers : (x : Point) (qs : List Point) (r : ℕ) → Contains (numbers_bringing qs) r → Contains (numbers_bringing (x ∷ qs)) r
 more_numbers x qs r k = go (brings x.1) where
-  go : (b : Bool) → Contains (cond b (x.0 ∷ numbers_of qs) (numbers_of qs)) r
-  go true = Contains-append_right (x.0 ∷ []) (numbers_of qs) r k
+  go : (b : Bool) → Contains (cond b (x.0 ∷ numbers_bringing qs) (numbers_bringing qs)) r
+  go true = Contains-append_right (x.0 ∷ []) (numbers_bringing qs) r k
   go false = k
 
-number_at : (qs : List Point) (i : ℕ) (q : Point) → slice_get qs i ≡ Some q → brings q.1 ≡ true → Contains (numbers_of qs) q.0
+number_at : (qs : List Point) (i : ℕ) (q : Point) → slice_get qs i ≡ Some q → brings q.1 ≡ true → Contains (numbers_bringing qs) q.0
 number_at [] i q e b = cc
 number_at (x ∷ qs) zero q e b = go (cc e) where
-  go : q ≡ x → Contains (numbers_of (x ∷ qs)) q.0
+  go : q ≡ x → Contains (numbers_bringing (x ∷ qs)) q.0
   go same =
-      subst (λ (z : Point). Contains (numbers_of (z ∷ qs)) q.0) same
-      (subst (λ (ns : List ℕ). Contains ns q.0) (sym (brought_numbers q qs b)) (contains_first q.0 (numbers_of qs)))
+      subst (λ (z : Point). Contains (numbers_bringing (z ∷ qs)) q.0) same
+      (subst (λ (ns : List ℕ). Contains ns q.0) (sym (brought_numbers q qs b)) (contains_first q.0 (numbers_bringing qs)))
 number_at (x ∷ qs) (suc i) q e b = more_numbers x qs q.0 (number_at qs i q e b)
 
 -- numbers that rise from n are above it
@@ -113,18 +113,18 @@ rise_above n [] h = All-nil (λ m. n < m)
 rise_above n (m ∷ ms) h = All-cons (λ m. n < m) m ms h.0 (All-weaker (λ k. m < k) (λ k. n < k) (λ k l. omega (arith, h.0, l)) ms (rise_above m ms h.1))
 
 -- the number at a later place is above the one at an earlier place
-later_number : (n : ℕ) (qs : List Point) (i j : ℕ) (q s : Point) → RiseFrom n (numbers_of qs) → i < j → slice_get qs i ≡ Some q → slice_get qs j ≡ Some s
+later_number : (n : ℕ) (qs : List Point) (i j : ℕ) (q s : Point) → RiseFrom n (numbers_bringing qs) → i < j → slice_get qs i ≡ Some q → slice_get qs j ≡ Some s
     → brings q.1 ≡ true → brings s.1 ≡ true → q.0 < s.0
 later_number n [] i j q s h l e f b d = cc
 later_number n (x ∷ qs) zero zero q s h l e f b d = absurd (omega (arith, l))
 later_number n (x ∷ qs) zero (suc j) q s h l e f b d = go (cc e) where
   go : x ≡ q → q.0 < s.0
-  go same = All-contains (λ m. q.0 < m) (numbers_of qs) s.0 (rise_above q.0 (numbers_of qs) above.1) (number_at qs j s f d) where
-    above : RiseFrom n (q.0 ∷ numbers_of qs)
-    above = subst (λ (ns : List ℕ). RiseFrom n ns) (brought_numbers q qs b) (subst (λ (z : Point). RiseFrom n (numbers_of (z ∷ qs))) same h)
+  go same = All-contains (λ m. q.0 < m) (numbers_bringing qs) s.0 (rise_above q.0 (numbers_bringing qs) above.1) (number_at qs j s f d) where
+    above : RiseFrom n (q.0 ∷ numbers_bringing qs)
+    above = subst (λ (ns : List ℕ). RiseFrom n ns) (brought_numbers q qs b) (subst (λ (z : Point). RiseFrom n (numbers_bringing (z ∷ qs))) same h)
 later_number n (x ∷ qs) (suc i) zero q s h l e f b d = absurd (omega (arith, l))
 later_number n (x ∷ qs) (suc i) (suc j) q s h l e f b d = go (brings x.1) h (λ m k. later_number m qs i j q s k (omega (arith, l)) e f b d) where
-  go : (v : Bool) → RiseFrom n (cond v (x.0 ∷ numbers_of qs) (numbers_of qs)) → ((m : ℕ) → RiseFrom m (numbers_of qs) → q.0 < s.0) → q.0 < s.0
+  go : (v : Bool) → RiseFrom n (cond v (x.0 ∷ numbers_bringing qs) (numbers_bringing qs)) → ((m : ℕ) → RiseFrom m (numbers_bringing qs) → q.0 < s.0) → q.0 < s.0
   go true k again = again x.0 k.1
   go false k again = again n k
 
@@ -132,24 +132,24 @@ later_number n (x ∷ qs) (suc i) (suc j) q s h l e f b d = go (brings x.1) h (�
 
 module _ (start : Start) (h : History) (legal : IsLegal start h) (own : (c : ℕ) → c < start.seats → All (λ (q : Point). BringsOwn q.0 q.1) (asked_at c h)) where
   -- a request that brings a blank node has the number that this one has
-  own_number : (c i r k : ℕ) → c < start.seats → (n : StandsIn h c i (Blank r k)) → r ≡ (n.0).0
+  own_number : (c i r k : ℕ) → c < start.seats → (n : IsBroughtIn h c i (Blank r k)) → r ≡ (n.0).0
   own_number c i r k l n =
       All-contains (NamesOwn (n.0).0) (terms_brought (n.0).1) (Blank r k)
       (brought_own (n.0).0 (n.0).1 (All-contains (λ (q : Point). BringsOwn q.0 q.1) (asked_at c h) n.0 (own c l) (contains_at (asked_at c h) i n.0 n.1))) n.2
 
-  some_brought : (c i r k : ℕ) (n : StandsIn h c i (Blank r k)) → brings (n.0).1 ≡ true
+  some_brought : (c i r k : ℕ) (n : IsBroughtIn h c i (Blank r k)) → brings (n.0).1 ≡ true
   some_brought c i r k n = brings_some (n.0).1 (Blank r k) n.2
 
-  has_number : (c i r k : ℕ) → c < start.seats → StandsIn h c i (Blank r k) → Contains (request_numbers c h) r
+  has_number : (c i r k : ℕ) → c < start.seats → IsBroughtIn h c i (Blank r k) → Contains (request_numbers c h) r
   has_number c i r k l n =
       subst (λ (m : ℕ). Contains (request_numbers c h) m) (sym (own_number c i r k l n)) (number_at (asked_at c h) i n.0 n.1 (some_brought c i r k n))
 
   -- on two connections
-  apart_share_none : (c d i j r k : ℕ) → c < start.seats → d < start.seats → c ≢ d → StandsIn h c i (Blank r k) → StandsIn h d j (Blank r k) → ⊥
+  apart_share_none : (c d i j r k : ℕ) → c < start.seats → d < start.seats → c ≢ d → IsBroughtIn h c i (Blank r k) → IsBroughtIn h d j (Blank r k) → ⊥
   apart_share_none c d i j r k l m ne n o = numbers_apart start c d r h ne legal (has_number c i r k l n) (has_number d j r k m o)
 
   -- one after the other on one connection
-  later_shares_none : (c i j r k : ℕ) → c < start.seats → i < j → StandsIn h c i (Blank r k) → StandsIn h c j (Blank r k) → ⊥
+  later_shares_none : (c i j r k : ℕ) → c < start.seats → i < j → IsBroughtIn h c i (Blank r k) → IsBroughtIn h c j (Blank r k) → ⊥
   later_shares_none c i j r k l before n o =
       omega (
         arith,
@@ -158,7 +158,7 @@ module _ (start : Start) (h : History) (legal : IsLegal start h) (own : (c : ℕ
         later_number 0 (asked_at c h) i j n.0 o.0 (numbers_rise start c h legal) before n.1 o.1 (some_brought c i r k n) (some_brought c j r k o),
       )
 
-  own_shares_none : (c i j r k : ℕ) → c < start.seats → i ≢ j → StandsIn h c i (Blank r k) → StandsIn h c j (Blank r k) → ⊥
+  own_shares_none : (c i j r k : ℕ) → c < start.seats → i ≢ j → IsBroughtIn h c i (Blank r k) → IsBroughtIn h c j (Blank r k) → ⊥
   own_shares_none c i j r k l ne n o = go (nat_lt i j) refl where
     go : (b : Bool) → nat_lt i j ≡ b → ⊥
     go true e = later_shares_none c i j r k l (ltb-true i j e) n o
@@ -169,7 +169,7 @@ module _ (start : Start) (h : History) (legal : IsLegal start h) (own : (c : ℕ
   shares_none c d i j r k l m other n o = go (nat_eq c d) refl other where
     same : c ≡ d → (c ≢ d) ⊎ (i ≢ j) → ⊥
     same e (inl ne) = ne e
-    same e (inr ne) = own_shares_none c i j r k l ne n (subst (λ (s : ℕ). StandsIn h s j (Blank r k)) (sym e) o)
+    same e (inr ne) = own_shares_none c i j r k l ne n (subst (λ (s : ℕ). IsBroughtIn h s j (Blank r k)) (sym e) o)
 
     go : (b : Bool) → nat_eq c d ≡ b → (c ≢ d) ⊎ (i ≢ j) → ⊥
     go true e other = same (eqb-true c d e) other

@@ -6,7 +6,7 @@ use Rattle.gs_event.specs.declared.events.Action.TheVariants.{Cancel}
 use Rattle.gs_event.specs.declared.answers.Answer.{Answer}
 use Rattle.gs_event.specs.Histories.{History}
 use Rattle.gs_talk.specs.Seats.{Deeds}
-use Rattle.gs_session.specs.Turns.{joined}
+use Rattle.gs_session.specs.Turns.{joined_input}
 use Rattle.gs_world.specs.declared.steps.WorldStep.{WorldStep}
 use Rattle.gs_world.specs.declared.steps.WorldStep.TheVariants.{Bytes, Turn, End, Drop, Reclaim}
 
@@ -34,7 +34,7 @@ no_input = record { bytes = []; ended = false; is_dropped = false }
 
 -- what a step of the connection makes of it; bytes after the end count for nothing
 abbrev pub with_own : Input → WorldStep → Input
-with_own i (Bytes c b) = record i { bytes = joined i.ended i.bytes b.items }
+with_own i (Bytes c b) = record i { bytes = joined_input i.ended i.bytes b.items }
 with_own i (Turn c) = i
 with_own i (End c) = record i { ended = true }
 with_own i (Drop c) = record i { is_dropped = true }

@@ -36,13 +36,13 @@ brings (Patches t ops) = true
 brings q = false
 
 -- the numbers of the requests that give it some
-abbrev pub numbers_of : List Point → List ℕ
-numbers_of [] = []
-numbers_of (q ∷ qs) = cond (brings q.1) (q.0 ∷ numbers_of qs) (numbers_of qs)
+abbrev pub numbers_bringing : List Point → List ℕ
+numbers_bringing [] = []
+numbers_bringing (q ∷ qs) = cond (brings q.1) (q.0 ∷ numbers_bringing qs) (numbers_bringing qs)
 
 -- those of a seat
 abbrev pub request_numbers : ℕ → History → List ℕ
-request_numbers seat h = numbers_of (asked_at seat h)
+request_numbers seat h = numbers_bringing (asked_at seat h)
 
 -- each number is above the one before it
 abbrev pub RiseFrom : ℕ → List ℕ → Type 0
@@ -77,12 +77,12 @@ terms_brought (Patches t ops) = flat_map op_terms ops
 terms_brought q = []
 
 -- the term stands in what is brought by one request of a seat: the i-th of those that asked something
-abbrev pub StandsIn : History → ℕ → ℕ → Term → Type 0
-StandsIn h seat i n = (q : Point) × (slice_get (asked_at seat h) i ≡ Some q) × Contains (terms_brought q.1) n
+abbrev pub IsBroughtIn : History → ℕ → ℕ → Term → Type 0
+IsBroughtIn h seat i n = (q : Point) × (slice_get (asked_at seat h) i ≡ Some q) × Contains (terms_brought q.1) n
 
 -- No two requests share a blank node: none stands in what both bring, whichever connections they came on.
 abbrev pub NoneShareANode : ℕ → History → Type 0
-NoneShareANode count h = (c d i j r k : ℕ) → c < count → d < count → (c ≢ d) ⊎ (i ≢ j) → StandsIn h c i (Blank r k) → StandsIn h d j (Blank r k) → ⊥
+NoneShareANode count h = (c d i j r k : ℕ) → c < count → d < count → (c ≢ d) ⊎ (i ≢ j) → IsBroughtIn h c i (Blank r k) → IsBroughtIn h d j (Blank r k) → ⊥
 
 -- What a seat gives the abstract store has blank nodes of its own request alone; the numbers of a seat's requests rise, and no two
 -- seats have one in common; so no two requests share a blank node.

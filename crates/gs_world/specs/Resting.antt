@@ -21,13 +21,13 @@ LeadsOnBy c more old new = (p : Server) (count : ℕ) (past : Past) (history : H
     → LeadsToWorld p count new (Turn c ∷ past) (more ++ history)
 
 -- the turn made an event, at the connection's seat, and wrote nothing
-abbrev pub Acts : ℕ → World → World → Type 0
-Acts c old new = (action : Action) × (answer : Answer) × Steps old.store (Seat c action) answer new.store × (written_on new c ≡ written_on old c)
+abbrev pub MakesEvent : ℕ → World → World → Type 0
+MakesEvent c old new = (action : Action) × (answer : Answer) × Steps old.store (Seat c action) answer new.store × (written_on new c ≡ written_on old c)
     × LeadsOnBy c ((Seat c action, answer) ∷ []) old new
 
 -- it wrote a text that is not empty, and made no event
-abbrev pub Writes : ℕ → World → World → Type 0
-Writes c old new = (text : List ℕ) × (text ≢ []) × (written_on new c ≡ written_on old c ++ text) × (new.store ≡ old.store) × LeadsOnBy c [] old new
+abbrev pub WritesText : ℕ → World → World → Type 0
+WritesText c old new = (text : List ℕ) × (text ≢ []) × (written_on new c ≡ written_on old c ++ text) × (new.store ≡ old.store) × LeadsOnBy c [] old new
 
 -- All that is to be said to what came was written, and each settled request has its outcome, up to the first reply that closes or
 -- stops. More may come; or the connection is over, as the input ended, or a reply closed or stopped.
@@ -40,8 +40,8 @@ HasSaidAll c w = (p : Server) (count : ℕ) (past : Past) (history : History) �
     → SaysItsAll p (input_of c past) (deeds_at c history) (written_on w c)
 
 -- the turn made no event and wrote nothing: all that is to be said was written
-abbrev pub Rests : ℕ → World → World → Type 0
-Rests c old new = (written_on new c ≡ written_on old c) × (new.store ≡ old.store) × LeadsOnBy c [] old new × HasSaidAll c new
+abbrev pub SaysNothing : ℕ → World → World → Type 0
+SaysNothing c old new = (written_on new c ≡ written_on old c) × (new.store ≡ old.store) × LeadsOnBy c [] old new × HasSaidAll c new
 
 -- The last step of a run is a turn of a connection that is there and was not dropped. Then it made an event, or wrote, or all that is
 -- to be said was written.
@@ -49,4 +49,4 @@ abbrev pub TurnsRestWhereAllIsSaid : Type 0
 TurnsRestWhereAllIsSaid = (p : Server) (count c : ℕ) (old new : World) (past : Past) (history : History) (steps : List WorldStep)
     → LeadsToWorld p count old past history → c < count → (input_of c (reverse steps ++ past)).is_dropped ≡ false
     → RunsSteps old (steps ++ Turn c ∷ []) new
-    → (mid : World) × RunsSteps old steps mid × Walks mid (Turn c) new × (Acts c mid new ⊎ (Writes c mid new ⊎ Rests c mid new))
+    → (mid : World) × RunsSteps old steps mid × Walks mid (Turn c) new × (MakesEvent c mid new ⊎ (WritesText c mid new ⊎ SaysNothing c mid new))

@@ -10,7 +10,7 @@ use Rattle.gs_talk.specs.Seats.{Deeds}
 use Rattle.gs_session.specs.declared.sessions.Session.{Session}
 use Rattle.gs_session.specs.declared.sessions.Turn as turn
 use Rattle.gs_session.specs.declared.sessions.Turn.TheVariants.{Output}
-use Rattle.gs_session.specs.Turns.{Leads, IsKept, Turns, RestsRightly, Quits, joined}
+use Rattle.gs_session.specs.Turns.{Leads, IsKept, MakesTurn, RestsRightly, Quits, joined_input}
 use Rattle.gs_world.specs.declared.connections.Connection.{Connection}
 use Rattle.gs_world.specs.declared.steps.WorldStep.{WorldStep}
 use Rattle.gs_world.specs.declared.steps.WorldStep.TheVariants.{Bytes, Turn, End, Drop, Reclaim}
@@ -27,8 +27,8 @@ abbrev pub HasSameSetup : Session → Session → Type 0
 HasSameSetup s next = next.setup ≡ s.setup
 
 -- these bytes came to the session, unless its input had ended
-abbrev pub IsGiven : List ℕ → Session → Session → Type 0
-IsGiven b s next = ((x : List ℕ) (h : Deeds) (w : List ℕ) → Leads s x h w → Leads next (joined s.ended x b) h w)
+abbrev pub BytesCame : List ℕ → Session → Session → Type 0
+BytesCame b s next = ((x : List ℕ) (h : Deeds) (w : List ℕ) → Leads s x h w → Leads next (joined_input s.ended x b) h w)
     × HasSameSetup s next × (next.ended ≡ s.ended)
 
 -- no more bytes come to it
@@ -37,7 +37,7 @@ HasInputEnded s next = IsKept s next × HasSameSetup s next × (next.ended ≡ t
 
 -- it took this turn at the store
 abbrev pub TakesTurn : Session → Shown → turn.Turn → Session → Shown → Type 0
-TakesTurn s old t next new = Turns Steps s old t next new × RestsRightly t next × HasSameSetup s next × (next.ended ≡ s.ended)
+TakesTurn s old t next new = MakesTurn Steps s old t next new × RestsRightly t next × HasSameSetup s next × (next.ended ≡ s.ended)
 
 -- its session is now this one, and this was written
 abbrev pub Becomes : Connection → Session → List ℕ → Type 0
@@ -45,7 +45,7 @@ Becomes k next w = (k.session ≡ Some next) × (k.written.items ≡ w)
 
 -- bytes came to a connection; to one that was given up they did not
 abbrev pub Gets : List ℕ → Connection → Connection → Type 0
-Gets b k k2 = MatchOption k.session (k2 ≡ k) (λ s. (next : Session) × Becomes k2 next k.written.items × IsGiven b s next)
+Gets b k k2 = MatchOption k.session (k2 ≡ k) (λ s. (next : Session) × Becomes k2 next k.written.items × BytesCame b s next)
 
 -- its input ended
 abbrev pub InputEnds : Connection → Connection → Type 0

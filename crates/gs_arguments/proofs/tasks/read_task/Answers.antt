@@ -1,7 +1,7 @@
 use Rattle.std.proofs.Common.{◌∙◌, sym, subst, map}
 use Rattle.clap.specs.Words.{fault_of, found_of}
 use Rattle.gs_arguments.specs.Options.{gsd}
-use Rattle.gs_arguments.specs.Asked.{Asked, IsTask}
+use Rattle.gs_arguments.specs.Asked.{AskedTask, IsTask}
 use Rattle.gs_arguments.proofs.FaultLemmas.{gsd_one}
 use Rattle.gs_arguments.proofs.AskedLemmas.{asked_by_found-words, asked_at-help, asked_at-nothing}
 use Rattle.gs_arguments.proofs.tasks.read_task.Goals as goal
@@ -9,7 +9,7 @@ use Rattle.gs_arguments.proofs.tasks.read_task.Goals as goal
 pub returns-in-Some : goal.returns-in-Some
 returns-in-Some c =
     let words = map (λ w. w.now) c.args.words.now in
-    subst (λ (a : Asked). IsTask a c.in-Some.task) (asked_by_found-words (found_of c.in-Ok.matches) words c.in-Ok.ensures.ok c.in-Ok.ensures.kinds) c.in-Some.ensures
+    subst (λ (a : AskedTask). IsTask a c.in-Some.task) (asked_by_found-words (found_of c.in-Ok.matches) words c.in-Ok.ensures.ok c.in-Ok.ensures.kinds) c.in-Some.ensures
 
 pub returns-in-Ok : goal.returns-in-Ok
 returns-in-Ok c =

@@ -1,7 +1,7 @@
 use Rattle.std.proofs.Common.{◌≡◌, ◌∙◌, refl, sym, subst}
 use Rattle.std.specs.Option.{MatchOption}
 use Rattle.clap.specs.Words.{found_of}
-use Rattle.gs_arguments.specs.Asked.{Asked, IsTask, nothing}
+use Rattle.gs_arguments.specs.Asked.{AskedTask, IsTask, nothing}
 use Rattle.gs_arguments.proofs.AskedLemmas.{asked_by_found-is, asked_of-no_workers, asked_of-no_piece, asked_of-nothing, asked_of-way}
 use Rattle.gs_arguments.proofs.tasks.task_of.Goals as goal
 
@@ -23,7 +23,7 @@ returns-then-is_base c =
     let is = asked_by_found-is f _ _ _ _ _ (sym c.get_str-listen.ensures) (sym c.in_ok-once.ensures) (sym c.in_ok-base.ensures) workers.1 piece.1
     ∙ asked_of-way _ c.in_ok-once.once.now c.in_ok-base.base.now workers.0 piece.0 c.eq.result c.in_ok-workers.workers c.in_ok-piece.piece
     c.eq.ensures (sym c.is_base.ensures ∙ c.if-is_base.true) workers.2 piece.2 in
-    subst (λ (a : Asked). MatchOption c.way.result (a ≡ nothing) (IsTask a)) (sym is) c.way.ensures
+    subst (λ (a : AskedTask). MatchOption c.way.result (a ≡ nothing) (IsTask a)) (sym is) c.way.ensures
 
 pub returns-else-is_base : goal.returns-else-is_base
 returns-else-is_base c =

@@ -1,5 +1,5 @@
 use Rattle.std.proofs.Common.{sym, subst, drop}
-use Rattle.gs_lex.specs.Readings.{Went, Grows, HasRead, IsWithin}
+use Rattle.gs_lex.specs.Readings.{Went, GrowsByTokens, HasRead, IsWithin}
 use Rattle.gs_lex.specs.declared.steps.Reading.{Reading}
 use Rattle.gs_lex.proofs.ReadLemmas.{went-nothing, grows-nothing, went-found, went-passed, within-passed, within-found, grows-more}
 use Rattle.gs_lex.proofs.readings.read.Goals as goal
@@ -19,7 +19,7 @@ steps-preserved c =
     let P : Reading → Type 0 = λ r. record {
       within : IsWithin r x;
       went : HasRead c.args.is_end c.args.from (drop c.args.from.cut x) → Went c.args.is_end x c.args.from r c.args.tokens.now.items c.add_token.new.tokens.items;
-      kept : Grows c.args.tokens.now.items c.add_token.new.tokens.items;
+      kept : GrowsByTokens c.args.tokens.now.items c.add_token.new.tokens.items;
     } in
     subst P (sym c.found-at.ensures) (record {
       within = within-found c.steps.at x c.in-Found.count c.in-Found.barren h.within m.0;
@@ -37,7 +37,7 @@ steps-preserved-in-Passed c =
     let P : Reading → Type 0 = λ r. record {
       within : IsWithin r x;
       went : HasRead c.args.is_end c.args.from (drop c.args.from.cut x) → Went c.args.is_end x c.args.from r c.args.tokens.now.items c.steps.tokens.items;
-      kept : Grows c.args.tokens.now.items c.steps.tokens.items;
+      kept : GrowsByTokens c.args.tokens.now.items c.steps.tokens.items;
     } in
     subst P (sym c.passed-at.ensures) (record {
       within = within-passed c.steps.at x c.in-Passed.count c.in-Passed.in_comment h.within m.0;

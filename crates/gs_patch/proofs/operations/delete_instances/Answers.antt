@@ -4,7 +4,7 @@ use Rattle.gs_event.specs.Solutions.{instances_of}
 use Rattle.gs_graphs.proofs.SolvingLemmas.{without_instances}
 use Rattle.gs_tree.specs.Keys.{AllKeys}
 use Rattle.gs_keys.specs.Texts.{triple_at, IsGiven}
-use Rattle.gs_keys.specs.Roots.{graph_at}
+use Rattle.gs_keys.specs.Roots.{graph_of_root}
 use Rattle.gs_patch.proofs.OperationLemmas.{loses_so, instances_given}
 use Rattle.gs_patch.proofs.operations.delete_instances.Goals as goal
 
@@ -18,7 +18,7 @@ returns-clause-ok c =
     let terms = c.args.dict.now.terms in
     let p = c.args.pool.now in
     let root = c.args.root in
-    let g = graph_at terms p root in
+    let g = graph_of_root terms p root in
     let ps = c.args.patterns.now in
     let same =
     ap (λ ks. without_triples g (map (triple_at terms) ks)) c.as_slice.ensures.value

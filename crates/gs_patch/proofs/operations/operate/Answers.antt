@@ -3,14 +3,14 @@ use Rattle.gs_event.specs.Solutions.{instances_of}
 use Rattle.gs_event.specs.Updates.{operated, without_triples}
 use Rattle.gs_model.specs.Graphs.{with_triples}
 use Rattle.gs_pool.specs.Pool.{Nodes}
-use Rattle.gs_keys.specs.Roots.{graph_at}
+use Rattle.gs_keys.specs.Roots.{graph_of_root}
 use Rattle.gs_patch.specs.Operations.{ChangesSome}
 use Rattle.gs_patch.proofs.OperationLemmas.{nothing_done, operates}
 use Rattle.gs_patch.proofs.operations.operate.Goals as goal
 
 pub returns-in-Ok-clause-ok : goal.returns-in-Ok-clause-ok
 returns-in-Ok-clause-ok c =
-    let g = graph_at c.args.dict.now.terms c.args.pool.now c.args.root in
+    let g = graph_of_root c.args.dict.now.terms c.args.pool.now c.args.root in
     let m = c.in-Ok.merged in
     let ts = c.as_slice.result.now in
     let same = ap (with_triples g) c.as_slice.ensures.value ∙ sym (ap (operated g) c.in-Insert.is) in
@@ -26,7 +26,7 @@ returns-in-Err-clause-half c =
 pub returns-in_ok-pruned-in-DeleteData-clause-ok : goal.returns-in_ok-pruned-in-DeleteData-clause-ok
 returns-in_ok-pruned-in-DeleteData-clause-ok c =
     let d = c.args.dict.now in
-    let g = graph_at d.terms c.args.pool.now c.args.root in
+    let g = graph_of_root d.terms c.args.pool.now c.args.root in
     let m = c.in_ok-pruned-in-DeleteData.pruned in
     let ts = c.as_slice-in-DeleteData.result.now in
     let same = ap (without_triples g) c.as_slice-in-DeleteData.ensures.value ∙ sym (ap (operated g) c.in-DeleteData.is) in
@@ -36,7 +36,7 @@ returns-in_ok-pruned-in-DeleteData-clause-ok c =
 pub returns-in_ok-pruned-in-DeleteWhere-clause-ok : goal.returns-in_ok-pruned-in-DeleteWhere-clause-ok
 returns-in_ok-pruned-in-DeleteWhere-clause-ok c =
     let d = c.args.dict.now in
-    let g = graph_at d.terms c.args.pool.now c.args.root in
+    let g = graph_of_root d.terms c.args.pool.now c.args.root in
     let m = c.in_ok-pruned-in-DeleteWhere.pruned in
     let ps = c.as_slice-in-DeleteWhere.result.now in
     let same = ap (λ xs. without_triples g (instances_of g xs)) c.as_slice-in-DeleteWhere.ensures.value ∙ sym (ap (operated g) c.in-DeleteWhere.is) in

@@ -4,7 +4,7 @@ use Rattle.gs_tree.specs.Reading.{keys_at}
 use Rattle.gs_changes.specs.Changes.{ChangesAt}
 use Rattle.gs_changes.specs.Keys.{remove_keys}
 use Rattle.gs_keys.specs.Texts.{triple_at, key_cmp}
-use Rattle.gs_patch.specs.Operations.{Loses}
+use Rattle.gs_patch.specs.Operations.{LosesTriples}
 use Rattle.gs_patch.proofs.OperationLemmas.{ok_both, keys_go_out}
 use Rattle.gs_patch.proofs.operations.take_out.Goals as goal
 
@@ -17,7 +17,7 @@ returns-clause-ok c =
     let root = c.args.root in
     let run = c.args.keys.now in
     ok_both c.remove_all.result (λ m. ChangesAt (key_cmp f.terms) c.args.birth p q root m.root 0 m.removed) (λ m. keys_at q m.root ≡ remove_keys (key_cmp f.terms) run (keys_at p root))
-    (Loses c.args.birth d.terms p q root (map (triple_at d.terms) run)) (λ m changes keys_are.
+    (LosesTriples c.args.birth d.terms p q root (map (triple_at d.terms) run)) (λ m changes keys_are.
     keys_go_out c.args.birth d.terms p q root run m c.requires.staged c.requires.given
     (subst (λ (n : Numbered). ChangesAt (key_cmp n.terms) c.args.birth p q root m.root 0 m.removed) c.new-order.ensures changes)
     (subst (λ (n : Numbered). keys_at q m.root ≡ remove_keys (key_cmp n.terms) run (keys_at p root)) c.new-order.ensures keys_are))

@@ -1,5 +1,5 @@
 use Rattle.std.proofs.Common.{subst, arith}
-use Rattle.gs_reclaim.specs.Holders.{Follows}
+use Rattle.gs_reclaim.specs.Holders.{FollowsPin}
 use Rattle.gs_reclaim.proofs.Following.{none_let_go, stale_kept, stale_falls, all_agree}
 use Rattle.gs_reclaim.proofs.holders.follow_pins.Goals as goal
 
@@ -9,7 +9,7 @@ loop-list-smaller-then-follow_pin c =
 
 pub loop-list-smaller : goal.loop-list-smaller
 loop-list-smaller c =
-    omega (arith, stale_falls c.loop-list.pool c.follow_pin.new.pool c.args.versions.now c.loop-list.list (subst (Follows c.args.versions.now c.loop-list.pool c.follow_pin.new.pool c.loop-list.list) c.if-follow_pin.false c.follow_pin.ensures), c.follow_pin.ensures.many)
+    omega (arith, stale_falls c.loop-list.pool c.follow_pin.new.pool c.args.versions.now c.loop-list.list (subst (FollowsPin c.args.versions.now c.loop-list.pool c.follow_pin.new.pool c.loop-list.list) c.if-follow_pin.false c.follow_pin.ensures), c.follow_pin.ensures.many)
 
 pub returns-clause-loose : goal.returns-clause-loose
 returns-clause-loose c =

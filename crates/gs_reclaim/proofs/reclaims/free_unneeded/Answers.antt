@@ -1,5 +1,5 @@
 use Rattle.std.proofs.Common.{refl, ap, subst, arith, ◌∙◌}
-use Rattle.gs_reclaim.specs.Reclaims.{Settles}
+use Rattle.gs_reclaim.specs.Reclaims.{SettlesNode}
 use Rattle.gs_reclaim.proofs.Freeing.{can_free}
 use Rattle.gs_reclaim.proofs.Reclaiming.{reclaims_none, reclaims_kept, reclaims_freed, ledger_now, died_before, agrees_still, lists_still, unlisted_use, in_use_falls}
 use Rattle.gs_reclaim.proofs.reclaims.free_unneeded.Goals as goal
@@ -25,7 +25,7 @@ settle-requires-clause-agrees c = agrees_still c.args.versions.now c.args.pool.n
 
 pub loop-freed-preserved-then-settle : goal.loop-freed-preserved-then-settle
 loop-freed-preserved-then-settle c = record {
-  reclaims = reclaims_freed c.args.versions.now c.args.pool.now c.loop-freed.pool c.next_retired.new.self c.settle.new.pool c.loop-freed.freed c.in-Some.entry c.requires.ledger c.loop-freed.invariant.reclaims c.in-Some.ensures.takes (subst (Settles c.args.versions.now c.next_retired.new.self c.settle.new.pool c.in-Some.entry) c.if-settle.true c.settle.ensures.settles);
+  reclaims = reclaims_freed c.args.versions.now c.args.pool.now c.loop-freed.pool c.next_retired.new.self c.settle.new.pool c.loop-freed.freed c.in-Some.entry c.requires.ledger c.loop-freed.invariant.reclaims c.in-Some.ensures.takes (subst (SettlesNode c.args.versions.now c.next_retired.new.self c.settle.new.pool c.in-Some.entry) c.if-settle.true c.settle.ensures.settles);
   pins = c.settle.ensures.pins ∙ c.in-Some.ensures.pins ∙ c.loop-freed.invariant.pins;
   cost = omega (arith, c.loop-freed.invariant.cost, c.settle.ensures.counted, c.in-Some.ensures.loose, unlisted_use c.loop-freed.pool c.next_retired.new.self c.in-Some.entry c.in-Some.ensures.takes, c.saturating_add-looked.ensures);
   aside = λ lists. c.settle.ensures.aside (lists_still c.args.versions.now c.args.pool.now c.next_retired.new.self (c.in-Some.ensures.pins ∙ c.loop-freed.invariant.pins) lists) ∙ c.in-Some.ensures.aside ∙ c.loop-freed.invariant.aside lists;
@@ -35,7 +35,7 @@ loop-freed-preserved-then-settle c = record {
 
 pub loop-freed-preserved : goal.loop-freed-preserved
 loop-freed-preserved c = record {
-  reclaims = reclaims_kept c.args.versions.now c.args.pool.now c.loop-freed.pool c.next_retired.new.self c.settle.new.pool c.loop-freed.freed c.in-Some.entry c.requires.ledger c.loop-freed.invariant.reclaims c.in-Some.ensures.takes (subst (Settles c.args.versions.now c.next_retired.new.self c.settle.new.pool c.in-Some.entry) c.if-settle.false c.settle.ensures.settles);
+  reclaims = reclaims_kept c.args.versions.now c.args.pool.now c.loop-freed.pool c.next_retired.new.self c.settle.new.pool c.loop-freed.freed c.in-Some.entry c.requires.ledger c.loop-freed.invariant.reclaims c.in-Some.ensures.takes (subst (SettlesNode c.args.versions.now c.next_retired.new.self c.settle.new.pool c.in-Some.entry) c.if-settle.false c.settle.ensures.settles);
   pins = c.settle.ensures.pins ∙ c.in-Some.ensures.pins ∙ c.loop-freed.invariant.pins;
   cost = omega (arith, c.loop-freed.invariant.cost, c.settle.ensures.counted, c.in-Some.ensures.loose, unlisted_use c.loop-freed.pool c.next_retired.new.self c.in-Some.entry c.in-Some.ensures.takes, c.saturating_add-looked.ensures);
   aside = λ lists. c.settle.ensures.aside (lists_still c.args.versions.now c.args.pool.now c.next_retired.new.self (c.in-Some.ensures.pins ∙ c.loop-freed.invariant.pins) lists) ∙ c.in-Some.ensures.aside ∙ c.loop-freed.invariant.aside lists;

@@ -1,6 +1,6 @@
 use Rattle.std.proofs.Common.{refl, subst, arith, ◌∙◌}
 use Rattle.gs_reclaim.proofs.Reclaiming.{agrees_still}
-use Rattle.gs_records.specs.Sweeps.{Settles}
+use Rattle.gs_records.specs.Sweeps.{SettlesNumber}
 use Rattle.gs_records.proofs.Sweeping.{sweeps_none, sweeps_settled, sweeps_stayed}
 use Rattle.gs_records.proofs.reclaiming.free_unneeded.Goals as goal
 
@@ -20,7 +20,7 @@ settle-requires-clause-lists c = (c.loop-freed.invariant.sweeps.stored c.require
 
 pub loop-freed-preserved-then-settle : goal.loop-freed-preserved-then-settle
 loop-freed-preserved-then-settle c = record {
-  sweeps = sweeps_settled c.args.versions.now.seats c.loop-freed.freed c.args.index.now c.loop-freed.index c.settle.new.index c.args.pool.now c.loop-freed.pool c.next_retired.new.self c.settle.new.pool c.in-Some.entry c.requires.stored c.loop-freed.invariant.sweeps c.in-Some.ensures.takes (subst (Settles c.args.versions.now.seats c.loop-freed.index c.settle.new.index c.next_retired.new.self c.settle.new.pool c.in-Some.entry) c.if-settle.true c.settle.ensures.settles);
+  sweeps = sweeps_settled c.args.versions.now.seats c.loop-freed.freed c.args.index.now c.loop-freed.index c.settle.new.index c.args.pool.now c.loop-freed.pool c.next_retired.new.self c.settle.new.pool c.in-Some.entry c.requires.stored c.loop-freed.invariant.sweeps c.in-Some.ensures.takes (subst (SettlesNumber c.args.versions.now.seats c.loop-freed.index c.settle.new.index c.next_retired.new.self c.settle.new.pool c.in-Some.entry) c.if-settle.true c.settle.ensures.settles);
   limit = c.settle.ensures.limit ∙ c.in-Some.ensures.takes.marks.limit ∙ c.loop-freed.invariant.limit;
   pins = c.settle.ensures.pins ∙ c.in-Some.ensures.pins ∙ c.loop-freed.invariant.pins;
   most = omega (arith, c.loop-freed-test.true);
@@ -28,7 +28,7 @@ loop-freed-preserved-then-settle c = record {
 
 pub loop-freed-preserved : goal.loop-freed-preserved
 loop-freed-preserved c = record {
-  sweeps = sweeps_stayed c.args.versions.now.seats c.loop-freed.freed c.args.index.now c.loop-freed.index c.settle.new.index c.args.pool.now c.loop-freed.pool c.next_retired.new.self c.settle.new.pool c.in-Some.entry c.loop-freed.invariant.sweeps c.in-Some.ensures.takes (subst (Settles c.args.versions.now.seats c.loop-freed.index c.settle.new.index c.next_retired.new.self c.settle.new.pool c.in-Some.entry) c.if-settle.false c.settle.ensures.settles);
+  sweeps = sweeps_stayed c.args.versions.now.seats c.loop-freed.freed c.args.index.now c.loop-freed.index c.settle.new.index c.args.pool.now c.loop-freed.pool c.next_retired.new.self c.settle.new.pool c.in-Some.entry c.loop-freed.invariant.sweeps c.in-Some.ensures.takes (subst (SettlesNumber c.args.versions.now.seats c.loop-freed.index c.settle.new.index c.next_retired.new.self c.settle.new.pool c.in-Some.entry) c.if-settle.false c.settle.ensures.settles);
   limit = c.settle.ensures.limit ∙ c.in-Some.ensures.takes.marks.limit ∙ c.loop-freed.invariant.limit;
   pins = c.settle.ensures.pins ∙ c.in-Some.ensures.pins ∙ c.loop-freed.invariant.pins;
   most = c.loop-freed.invariant.most;

@@ -1,5 +1,5 @@
 use Rattle.std.proofs.Common.{◌≡◌, ◌≤◌, ℕ, List, length, take, drop, sym, ap, subst, ◌∙◌, arith}
-use Rattle.gs_verdict.specs.Bytes.{verdict_of}
+use Rattle.gs_verdict.specs.Bytes.{head_verdict}
 use Rattle.gs_stream.specs.Heads.{TooLong, Whole, head_at}
 use Rattle.gs_stream.specs.Heads as heads
 use Rattle.gs_session.specs.Heads.{AfterHead}
@@ -30,4 +30,4 @@ returns-in-After c = λ e.
     (bare_by c.args.input.now c.as_slice.result.now c.skip.new.self c.leading-lead.result c.as_slice.ensures c.leading-lead.ensures.dropped c.skip.ensures)
     (subst (λ (b : List ℕ). Whole (take c.in-After.count b) (drop c.in-After.count b) ≡ head_at b) c.as_slice-2.ensures c.in-After.ensures.cut)
     (subst (λ (b : List ℕ). c.in-After.count ≤ length b) c.as_slice-2.ensures c.in-After.ensures.within.0) c.in-After.ensures.within.1 c.skip-in-After.ensures
-    (subst (λ (b : List ℕ). AfterHead (verdict_of c.args.setup.now.site (take c.in-After.count b)) c.take_head-next.result) c.as_slice-in-After.ensures c.take_head-next.ensures)
+    (subst (λ (b : List ℕ). AfterHead (head_verdict c.args.setup.now.site (take c.in-After.count b)) c.take_head-next.result) c.as_slice-in-After.ensures c.take_head-next.ensures)

@@ -14,4 +14,4 @@ loop-place-preserved c =
     record { within = f.0; same = f.1 }
 
 pub returns : goal.returns
-returns c = rest-none c.args.front.now c.loop-place.from c.loop-place.invariant.same (sym c.in_default.is ∙ c.line_end.ensures)
+returns c = rest-none c.args.front.now c.loop-place.from c.loop-place.invariant.same (sym c.in_default.is ∙ c.first_line_feed.ensures)

@@ -1,4 +1,4 @@
-use Rattle.gs_lex.specs.Cutting.{left_of}
+use Rattle.gs_lex.specs.Cutting.{bytes_left}
 use Rattle.gs_update.proofs.TextLemmas.{Walks}
 use Rattle.gs_update.proofs.readers.take_text.Given as goal
 
@@ -6,4 +6,4 @@ abbrev pub invariant-tokens : goal.invariant-tokens
 invariant-tokens l = Walks l.fn.parser l.parser l.lexer l.text
 
 abbrev pub decreases-tokens : goal.decreases-tokens
-decreases-tokens l = left_of l.lexer.text.now l.lexer.at
+decreases-tokens l = bytes_left l.lexer.text.now l.lexer.at

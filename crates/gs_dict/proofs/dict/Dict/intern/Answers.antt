@@ -1,7 +1,7 @@
 use Rattle.std.proofs.Common.{Some, None, inl, inr, refl, ap, arith, ◌∙◌}
 use Rattle.std.proofs.lemmas.Result.{err_from_is_err_and}
 use Rattle.gs_dict.proofs.TermLemmas.{new_term, text_number, meets_as, terms_distinct, terms_kept, dict_kept, terms_fit}
-use Rattle.gs_dict.specs.Numbering.{Joins}
+use Rattle.gs_dict.specs.Numbering.{GivesNextNumber}
 use Rattle.gs_dict.specs.Kept.{IsDict}
 use Rattle.gs_dict.proofs.TermLemmas.{shown, some_left, joined}
 use Rattle.gs_dict.proofs.dict.Dict.intern.Goals as goal
@@ -50,7 +50,7 @@ add-requires-clause-few c = omega (arith, some_left _ _ _ _ _ c.self.view_is c.i
 whole :
     (c : goal.In_ok-number)
     → IsDict c.add.new.arena.items c.add.new.entries.items c.add.new.heads.items c.self.inside.seeded c.self.inside.last
-    × Joins (shown c.self.inside.arena.items c.self.inside.entries.items c.self.inside.last) c.args.term.now c.in_ok-number.number
+    × GivesNextNumber (shown c.self.inside.arena.items c.self.inside.entries.items c.self.inside.last) c.args.term.now c.in_ok-number.number
     (shown c.add.new.arena.items c.add.new.entries.items c.self.inside.last)
 whole c =
     joined _ _ _ _ _ _ _ _ c.args.term.now _ _ _ c.self.invariant c.as_bytes-text.ensures.valid c.as_bytes-text.ensures.text

@@ -1,4 +1,4 @@
-use Rattle.gs_index.specs.Ages.{key_cmp, age_in}
+use Rattle.gs_index.specs.Ages.{aged_key_cmp, age_in}
 use Rattle.gs_index.proofs.KeptLemmas.{kept_room, numbers_kept}
 use Rattle.gs_index.proofs.indexes.Index.reserve.Goals as goal
 
@@ -8,4 +8,4 @@ invariant_of-self-2 c = kept_room c.self.inside.entries.items c.self.inside.pool
 pub returns-clause-listed : goal.returns-clause-listed
 returns-clause-listed c =
     let x = c.self.inside in
-    rw (← c.self.view_is) (numbers_kept (key_cmp (age_in x.entries.items)) x.pool c.reserve.new.self x.root c.self.invariant.set c.reserve.ensures.nodes)
+    rw (← c.self.view_is) (numbers_kept (aged_key_cmp (age_in x.entries.items)) x.pool c.reserve.new.self x.root c.self.invariant.set c.reserve.ensures.nodes)

@@ -1,6 +1,6 @@
 use Rattle.std.proofs.Common.{◌≡◌, [], ◌++◌, sym, ap, ◌∙◌, append-nil}
 use Rattle.gs_machine.specs.Machines.{rest}
-use Rattle.gs_body.specs.Bodies.{Ending, Whole, Meaning, triples_of, end_after}
+use Rattle.gs_body.specs.Bodies.{Ending, Whole, Meaning, all_stated, end_after}
 use Rattle.gs_ntread.specs.Documents.{line_stated}
 use Rattle.gs_ntread.specs.States.{LineState}
 use Rattle.gs_ntread.specs.Reader.{stating}
@@ -18,7 +18,7 @@ returns-in-None-clause-ok c =
     let f : Ending = ending_of c.in_ok-parts.end in
     let e : rest (stating s.request) (q, s.numbering) [] ≡ ([], f) = end-none s.request q s.numbering f (ap (λ o. (sentences_of o, f)) (sym c.in-None.is) ∙ c.in_ok-parts.ensures) in
     on_ok c.conclude.result (f ≡ Whole) (EndsWell ts ts (rest (stating s.request) (q, s.numbering) []))
-    (λ w. record { whole = ap (λ (t : Meaning). t.1) e ∙ w; given = sym (append-nil ts) ∙ ap (λ (t : Meaning). ts ++ triples_of t.0) (sym e) }) c.conclude.ensures.ok
+    (λ w. record { whole = ap (λ (t : Meaning). t.1) e ∙ w; given = sym (append-nil ts) ∙ ap (λ (t : Meaning). ts ++ all_stated t.0) (sym e) }) c.conclude.ensures.ok
 
 pub returns-in-None-clause-fault : goal.returns-in-None-clause-fault
 returns-in-None-clause-fault c =
@@ -38,7 +38,7 @@ returns-in_ok-give-in-Some-clause-ok c =
     let w = sentence_of c.in-Some.parts in
     let e : rest (stating s.request) (q, s.numbering) [] ≡ ((line_stated s.request s.numbering w).1, f) = end-some s.request q s.numbering f w (ap (λ o. (sentences_of o, f)) (sym c.in-Some.is) ∙ c.in_ok-parts.ensures) in
     on_ok c.conclude-in-Some.result (f ≡ Whole) (EndsWell ts c.give.new.triples.items (rest (stating s.request) (q, s.numbering) []))
-    (λ k. record { whole = ap (λ (t : Meaning). t.1) e ∙ k; given = c.in_ok-give-in-Some.ensures.ok.given ∙ ap (λ (t : Meaning). ts ++ triples_of t.0) (sym e) }) c.conclude-in-Some.ensures.ok
+    (λ k. record { whole = ap (λ (t : Meaning). t.1) e ∙ k; given = c.in_ok-give-in-Some.ensures.ok.given ∙ ap (λ (t : Meaning). ts ++ all_stated t.0) (sym e) }) c.conclude-in-Some.ensures.ok
 
 pub returns-in_ok-give-in-Some-clause-fault : goal.returns-in_ok-give-in-Some-clause-fault
 returns-in_ok-give-in-Some-clause-fault c =

@@ -2,7 +2,7 @@ use Rattle.std.proofs.Common.{◌≡◌, ℕ, [], sym, ap, subst, ◌∙◌, ari
 use Rattle.std.specs.Prelude.{Option}
 use Rattle.gs_machine.proofs.MachineLemmas.{steps-nil}
 use Rattle.gs_ntread.specs.Reader.{Led}
-use Rattle.gs_ntread.specs.Readers.{Completes, TakesParts, led_of}
+use Rattle.gs_ntread.specs.Readers.{CompletesTriple, TakesParts, led_of}
 use Rattle.gs_ntread.specs.declared.parts.Parts.{Parts}
 use Rattle.gs_ntread.proofs.Takes.{took-none, took-from, took-more, took-after}
 use Rattle.gs_ntread.proofs.reader.NTriplesReader.take_some.Goals as goal
@@ -31,6 +31,6 @@ returns-in_ok-give-in-Some-clause-ok c =
     let ts = c.args.triples.now.items in
     let n = c.in-Some.n in
     let kept = c.in_ok-take_object.ensures in
-    let whole : Completes r o x c.in-Some.parts n = subst (λ (w : Option (Parts × ℕ)). TakesParts r o x w) c.in-Some.is kept.ok in
+    let whole : CompletesTriple r o x c.in-Some.parts n = subst (λ (w : Option (Parts × ℕ)). TakesParts r o x w) c.in-Some.is kept.ok in
     took-after s r _ ts ts _ x c.in_ok-count.count n (omega (arith, c.if-count-gt0.false)) (c.in_ok-count.ensures.ok ts)
     (took-from r o _ ts _ _ _ kept.last kept.request kept.closed whole.led c.in_ok-give-in-Some.ensures.ok)

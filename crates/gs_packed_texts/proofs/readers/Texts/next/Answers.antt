@@ -1,6 +1,6 @@
 -- The first mark says how the next text stands, and the reader is after it then.
 use Rattle.std.proofs.Common.{◌∷◌, ◌++◌}
-use Rattle.gs_packed_texts.specs.Packing.{mark_of}
+use Rattle.gs_packed_texts.specs.Packing.{text_mark_of}
 use Rattle.gs_packed_texts.specs.Kept.{own_counts, IsReady}
 use Rattle.gs_packed_texts.proofs.KeptLemmas.{ready_next, left_next}
 use Rattle.gs_packed_texts.proofs.readers.Texts.next.Goals as goal
@@ -9,7 +9,7 @@ pub invariant_of-self : goal.invariant_of-self
 invariant_of-self c =
     let r = c.args.self.now in
     let ready : IsReady (c.in_ok-mark.mark.now ∷ c.in_ok-mark.marks.now)
-    (own_counts (mark_of c.in_ok-mark.mark.now) c.split_count-count.result.0 ++ c.split_count-count.result.1.now) r.bytes.now r.at r.first r.second r.third =
+    (own_counts (text_mark_of c.in_ok-mark.mark.now) c.split_count-count.result.0 ++ c.split_count-count.result.1.now) r.bytes.now r.at r.first r.second r.third =
     rw (← c.in_ok-mark.ensures.cases.0, ← c.split_count-count.ensures.counts) r.ready in
     record { ready = rw c.after-window.ensures (ready_next _ _ _ _ _ _ _ _ _ ready c.split_count-count.ensures.none) }
 

@@ -1,7 +1,7 @@
 use Rattle.std.proofs.Common.{length, ap, arith, []}
 use Rattle.std.proofs.lemmas.List.{length_push}
 use Rattle.gs_packed_texts.specs.Texts.{texts_of}
-use Rattle.gs_packed_triples.specs.Formed.{triples_in}
+use Rattle.gs_packed_triples.specs.Formed.{triples_unpacked}
 use Rattle.gs_packed_triples.proofs.FormedLemmas.{texts_pushed}
 use Rattle.gs_packed_triples.proofs.RoomLemmas.{room_before_subject, room_after_subject, room_after_predicate, room_after_object, room_for_text}
 use Rattle.gs_packed_triples.proofs.triples.PackedTriples.add_one.Goals as goal
@@ -25,7 +25,7 @@ push_term-requires-3 c =
 pub invariant_of-self : goal.invariant_of-self
 invariant_of-self c =
     let p = texts_pushed _ _ _ _ _ _ _ c.args.triple.now c.args.self.now.formed c.known.ensures c.push_term.ensures.texts c.push_term-2.ensures.texts c.push_term-3.ensures.texts c.subject.ensures c.predicate.ensures c.object.ensures in
-    record { formed = p.formed; counted = omega (arith, c.args.self.now.counted, ap length p.triples, length_push (triples_in (texts_of c.args.self.now.texts)) c.args.triple.now) }
+    record { formed = p.formed; counted = omega (arith, c.args.self.now.counted, ap length p.triples, length_push (triples_unpacked (texts_of c.args.self.now.texts)) c.args.triple.now) }
 
 pub returns-clause-triples : goal.returns-clause-triples
 returns-clause-triples c =

@@ -1,6 +1,6 @@
 use Rattle.std.proofs.Common.{sym, ap, ◌∙◌, arith, get_or}
 use Rattle.std.proofs.lemmas.List.{length-map}
-use Rattle.gs_pool.specs.Lists.{pin_of, count_of}
+use Rattle.gs_pool.specs.Lists.{pin_of, hold_count}
 use Rattle.gs_pool.proofs.FollowLemmas.{emptied_sound, released_sound, few_held, has_last, nodes_same, marks_same, pins_set, pins_follow, none_let_go, all_let_go, none_counted, counts_else, counts_own, held_shown}
 use Rattle.gs_pool.proofs.pools.Pool.follow.Goals as goal
 
@@ -88,9 +88,9 @@ returns-clause-held c = λ other ne. counts_else c.self.inside.holds.items c.arg
 pub returns-in_default-clause-own : goal.returns-in_default-clause-own
 returns-in_default-clause-own c =
     let lt = rw (← c.self.view_is, length-map c.self.inside.holds.items pin_of) at c.requires in
-    omega (arith, counts_own c.self.inside.holds.items c.args.list c.empty.result lt, ap count_of c.empty.ensures, held_shown c.args.self.now c.self.inside.holds.items c.args.list c.index.result.now (ap (λ p. p.held) (sym c.self.view_is)) lt c.index.ensures, all_let_go c.args.self.now c.self.inside.holds.items c.args.list c.index.result.now c.args.pin (ap (λ p. p.pins) (sym c.self.view_is)) (ap (λ p. p.held) (sym c.self.view_is)) lt c.index.ensures (sym c.eq.ensures ∙ c.if-eq.false))
+    omega (arith, counts_own c.self.inside.holds.items c.args.list c.empty.result lt, ap hold_count c.empty.ensures, held_shown c.args.self.now c.self.inside.holds.items c.args.list c.index.result.now (ap (λ p. p.held) (sym c.self.view_is)) lt c.index.ensures, all_let_go c.args.self.now c.self.inside.holds.items c.args.list c.index.result.now c.args.pin (ap (λ p. p.pins) (sym c.self.view_is)) (ap (λ p. p.held) (sym c.self.view_is)) lt c.index.ensures (sym c.eq.ensures ∙ c.if-eq.false))
 
 pub returns-clause-own : goal.returns-clause-own
 returns-clause-own c =
     let lt = rw (← c.self.view_is, length-map c.self.inside.holds.items pin_of) at c.requires in
-    omega (arith, counts_own c.self.inside.holds.items c.args.list c.empty.result lt, ap count_of c.empty.ensures, held_shown c.args.self.now c.self.inside.holds.items c.args.list c.index.result.now (ap (λ p. p.held) (sym c.self.view_is)) lt c.index.ensures, all_let_go c.args.self.now c.self.inside.holds.items c.args.list c.index.result.now c.args.pin (ap (λ p. p.pins) (sym c.self.view_is)) (ap (λ p. p.held) (sym c.self.view_is)) lt c.index.ensures (sym c.eq.ensures ∙ c.if-eq.false))
+    omega (arith, counts_own c.self.inside.holds.items c.args.list c.empty.result lt, ap hold_count c.empty.ensures, held_shown c.args.self.now c.self.inside.holds.items c.args.list c.index.result.now (ap (λ p. p.held) (sym c.self.view_is)) lt c.index.ensures, all_let_go c.args.self.now c.self.inside.holds.items c.args.list c.index.result.now c.args.pin (ap (λ p. p.pins) (sym c.self.view_is)) (ap (λ p. p.held) (sym c.self.view_is)) lt c.index.ensures (sym c.eq.ensures ∙ c.if-eq.false))

@@ -2,7 +2,7 @@ use Rattle.std.proofs.Common.{refl, sym, ap, arith, ◌∙◌, get_or}
 use Rattle.std.specs.Prelude.{is_none}
 use Rattle.gs_pool.specs.Pool.{plain, retired, is_retired, is_aside}
 use Rattle.gs_pool.specs.Places.{retired_state}
-use Rattle.gs_pool.specs.Lists.{pin_of, count_of}
+use Rattle.gs_pool.specs.Lists.{pin_of, hold_count}
 use Rattle.gs_pool.proofs.PlaceLemmas.{is_used, relists, marked, same_node, mark_by, node_in_retired, mark_in_retired}
 use Rattle.gs_pool.proofs.FollowLemmas.{few_held, list_within, needed_place, more_sound, pins_kept, counts_else, counts_own, held_shown}
 use Rattle.gs_pool.proofs.pools.Pool.hold.Goals as goal
@@ -55,4 +55,4 @@ returns-clause-held c = λ other ne. counts_else c.self.inside.holds.items c.arg
 pub returns-clause-own : goal.returns-clause-own
 returns-clause-own c =
     let lt = list_within c.args.self.now c.self.inside.holds.items c.args.list c.args.entry.id c.args.entry.death c.requires.needed (ap (λ p. p.pins) (sym c.self.view_is)) in
-    omega (arith, counts_own c.self.inside.holds.items c.args.list c.with_first.result lt, ap count_of c.with_first.ensures, held_shown c.args.self.now c.self.inside.holds.items c.args.list c.index-hold.result.now (ap (λ p. p.held) (sym c.self.view_is)) lt c.index-hold.ensures)
+    omega (arith, counts_own c.self.inside.holds.items c.args.list c.with_first.result lt, ap hold_count c.with_first.ensures, held_shown c.args.self.now c.self.inside.holds.items c.args.list c.index-hold.result.now (ap (λ p. p.held) (sym c.self.view_is)) lt c.index-hold.ensures)

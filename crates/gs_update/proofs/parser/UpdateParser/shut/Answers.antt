@@ -6,7 +6,7 @@ use Rattle.gs_triple_parser.specs.Views.{scope_context, scope_numbers, numbers_n
 use Rattle.gs_update_text.specs.Requests.{Inserts, DeletesData, DeletesWhere}
 use Rattle.gs_update_text.specs.Operations.{some_patterns}
 use Rattle.gs_update_text.specs.States.{quiet}
-use Rattle.gs_update_places.specs.Views.{scope_of, state_at, IsSound}
+use Rattle.gs_update_places.specs.Views.{scope_of, state_at, IsSoundPlace}
 use Rattle.gs_update_places.specs.Places.{concluded, closed_at}
 use Rattle.gs_update_places.specs.declared.places.Place.{Place}
 use Rattle.gs_update_places.specs.declared.places.Place.TheVariants as place
@@ -63,5 +63,5 @@ returns-in_default c =
     led_there c.args.self.now c.replace.new.dest (closed_at c.args.self.now.place c.args.end)
     (record {
       state = ap (λ (p : Place). quiet (state_at p)) after ∙ closes_nothing c.replace.result c.args.end c.in_default.not-Inserting c.in_default.not-Deleting c.in_default.not-Seeking ∙ ap (λ (p : Place). closed_at p c.args.end) c.replace.ensures.value;
-      sound = subst IsSound (sym after) tt;
+      sound = subst IsSoundPlace (sym after) tt;
     })

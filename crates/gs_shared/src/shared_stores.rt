@@ -3,8 +3,8 @@ ghost use Rattle.std.specs.Prelude.{◌≡◌};
 ghost use Rattle.gs_door.specs.Kinds.{IsOfKind};
 ghost use Rattle.gs_shared.specs.Tells.{is_of_another as is_of_another_seat, Tells};
 
-use crate::asked::Asked;
-use crate::desks::Desk;
+use crate::asked::EventAsk;
+use crate::locked::Locked;
 use gs_event::{Answer, Event};
 use gs_model::Refusal;
 use gs_pass::{Pass, Room, StampCell};
@@ -14,13 +14,13 @@ use std::sync::{Mutex, Wait};
 /// One Mutex over a store with its page, beside the cell of its passes. Threads share it by
 /// reference.
 #[derive(Drop)]
-pub struct Hall<C: Ledger, T: Ledger, B: Room> {
+pub struct SharedStore<C: Ledger, T: Ledger, B: Room> {
     pub(crate) cell: StampCell,
-    pub(crate) lock: Mutex<Desk<C, T, B>>,
+    pub(crate) lock: Mutex<Locked<C, T, B>>,
     ghost table: { cell.table.shared.table_id ≡ B.table },
 }
 
-impl<C: Ledger, T: Ledger, B: Room> Hall<C, T, B> {
+impl<C: Ledger, T: Ledger, B: Room> SharedStore<C, T, B> {
     /// Takes one event, in one hold of the Mutex, and tells the pass. An action of another seat than
     /// the pass's is refused with `BadSeat`, and nothing else is.
     pub fn event<R: Wait>(&self, rt: &R, pass: &mut Pass<C, T, B>, event: Event) -> Answer
@@ -30,7 +30,7 @@ impl<C: Ledger, T: Ledger, B: Room> Hall<C, T, B> {
         if is_of_another(&event, pass.seat()) {
             return Answer::Refused(Refusal::BadSeat);
         }
-        let asked = Asked::by(&event);
+        let asked = EventAsk::by(&event);
         self.lock.lock(rt).event(rt, &self.cell, pass, event, asked)
     }
 }

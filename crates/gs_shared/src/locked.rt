@@ -6,38 +6,38 @@ ghost use Rattle.gs_audit.specs.Audits.{staged_of};
 ghost use Rattle.gs_door.specs.Kinds.{IsOfKind};
 ghost use Rattle.gs_pass.specs.Tallies.{tally_of};
 ghost use Rattle.gs_shared.specs.Asked.{ask_of_event, IsSmallEvent};
-ghost use Rattle.gs_shared.specs.Counts.{IsTied, IsCounted};
+ghost use Rattle.gs_shared.specs.Counts.{IsTied, IsPageCounted};
 ghost use Rattle.gs_shared.specs.Limits.{page_entries, page_triples};
 ghost use Rattle.gs_shared.specs.Seats.{BeganAs, IsFreshOf};
 ghost use Rattle.gs_shared.specs.Tells.{is_of_another, ToldBy};
 
-use crate::asked::Asked;
+use crate::asked::EventAsk;
 use crate::limits::{PAGE_ENTRIES, PAGE_TRIPLES};
 use gs_audit::Audited;
 use gs_event::{Answer, Event};
 use gs_model::Refusal;
-use gs_pass::{Pass, Receipt, Register, Room, Space, StampCell};
+use gs_pass::{Pass, Receipt, ReceiptRoom, Register, Room, StampCell};
 use std::sync::Wait;
 use std::sync::ledger::{Ledger, Share};
 
 /// A store with its page, and the register that ties both to the passes.
 #[derive(Drop)]
-pub struct Desk<C: Ledger, T: Ledger, B: Room> {
+pub struct Locked<C: Ledger, T: Ledger, B: Room> {
     pub(crate) audited: Audited<PAGE_ENTRIES, PAGE_TRIPLES>,
     pub(crate) register: Register<C, T, B>,
     ghost began: { BeganAs B.start audited.store.view },
     ghost tied: { IsTied (page_of audited.chronicle) (cell_view register.keeper).all },
-    ghost counted: { IsCounted page_entries page_triples (page_of audited.chronicle) (sum (staged_of audited))
+    ghost counted: { IsPageCounted page_entries page_triples (page_of audited.chronicle) (sum (staged_of audited))
         register.calls.total register.triples.total },
 }
 
-impl<C: Ledger, T: Ledger, B: Room> Desk<C, T, B> {
+impl<C: Ledger, T: Ledger, B: Room> Locked<C, T, B> {
     /// A pass for a seat, of a part of both ledgers.
     pub(crate) fn issue(
         &mut self,
         cell: &StampCell,
         seat: u16,
-        space: Space,
+        space: ReceiptRoom,
         call_share: Share<C>,
         triple_share: Share<T>,
     ) -> Pass<C, T, B>
@@ -59,7 +59,7 @@ impl<C: Ledger, T: Ledger, B: Room> Desk<C, T, B> {
         cell: &StampCell,
         pass: &mut Pass<C, T, B>,
         event: Event,
-        asked: Asked,
+        asked: EventAsk,
     ) -> Answer
         requires own { is_of_another pass.old.record.seat event ≡ false }
         requires cell { cell.now.table.shared.table_id ≡ B.table }

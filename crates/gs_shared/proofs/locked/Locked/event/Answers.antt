@@ -5,7 +5,7 @@ use Rattle.gs_pass.specs.Tallies.{tally_of, count_plus}
 use Rattle.gs_shared.proofs.CountLemmas.{undecided_kept, decided_kept}
 use Rattle.gs_shared.proofs.AskedLemmas.{told_decided}
 use Rattle.gs_shared.proofs.StartLemmas.{began_next, own_is_there}
-use Rattle.gs_shared.proofs.desks.Desk.event.Goals as goal
+use Rattle.gs_shared.proofs.locked.Locked.event.Goals as goal
 
 pub invariant_of-self : goal.invariant_of-self
 invariant_of-self g c =

@@ -6,16 +6,16 @@ use std::alloc::{AllocError, Global};
 
 /// Room for the receipts of one pass, made before the pass is.
 #[derive(Drop)]
-pub struct Space {
+pub struct ReceiptRoom {
     pub(crate) receipts: Vec<Receipt>,
     ghost empty: { receipts.items ≡ [] },
     ghost reserved: { 4096 ≤ vec_capacity receipts },
 }
 
-impl Space {
+impl ReceiptRoom {
     /// Room for the receipts of one pass.
-    pub fn new(alloc: Global) -> Result<Space, AllocError> {
+    pub fn new(alloc: Global) -> Result<ReceiptRoom, AllocError> {
         let receipts = Vec::with_capacity(alloc, MAX_RECEIPTS)?;
-        Ok(Space { receipts })
+        Ok(ReceiptRoom { receipts })
     }
 }
