@@ -8,7 +8,7 @@ XSD = "http://www.w3.org/2001/XMLSchema#"
 LONGEST_TERM = 65_535
 DEEPEST = 64
 MOST_PATTERNS = 4
-# the bytes that the texts of triples and prefixes may have, and for each byte of an update
+# the bytes that the texts of triples, prefixes and bases may have, and for each byte of an update
 FIRST_BYTES = 16_777_216
 BYTES_FOR_ONE = 64
 
@@ -56,7 +56,7 @@ class TooLong(Exception):
 
 
 class TooMuch(Exception):
-    """The texts of triples and prefixes are too many for the text's bytes."""
+    """The texts of triples, prefixes and bases are too many for the text's bytes."""
 
 
 class NotServed(Exception):
@@ -410,7 +410,7 @@ class Reader:
         prefix = self.want_kind("prefix")[:-1] if word == "PREFIX" else None
         iri = resolved(reference(self.want_kind("iri")), self.base)
         if prefix is None:
-            self.base = iri
+            self.base = self.counted(iri)
         else:
             self.prefixes[prefix] = self.counted(iri)
 

@@ -36,6 +36,42 @@ fn is_written(alloc: Global, room: usize) -> Result<bool, AllocError> {
     Ok(text.as_slice() == WRITTEN)
 }
 
+/// Pieces of so many bytes, each with the line of its size.
+const SIZES: [(usize, &[u8]); 4] = [
+    (1, b"1\r\n"),
+    (65_535, b"ffff\r\n"),
+    (65_536, b"10000\r\n"),
+    (1_048_576, b"100000\r\n"),
+];
+
+/// Whether a piece of so many bytes is one chunk after this line.
+fn is_one_chunk(alloc: Global, size: usize, front: &[u8]) -> Result<bool, AllocError> {
+    let piece = vec![in alloc; b'x'; size]?;
+    let text = chunk_after(alloc, b"", piece)?;
+    let more = front.len().saturating_add(2);
+    Ok(
+        text.len() == size.saturating_add(more)
+            && text.as_slice().starts_with(front)
+            && text.as_slice().ends_with(b"x\r\n"),
+    )
+}
+
+/// The first size whose piece is not.
+fn wrong_size(alloc: Global) -> Result<Option<usize>, AllocError> {
+    for (size, front) in &SIZES {
+        if !is_one_chunk(alloc, *size, front)? {
+            return Ok(Some(*size));
+        }
+    }
+    Ok(None)
+}
+
+#[test]
+fn a_piece_is_one_chunk_however_long_it_is(rt: HostRuntime) -> Result<(), Fail> {
+    assert_eq!(&rt; wrong_size(rt.alloc())?, None);
+    Ok(())
+}
+
 #[test]
 fn with_memory_each_text_is_written(rt: HostRuntime) -> Result<(), Fail> {
     assert!(&rt; is_written(rt.alloc(), 0)?);

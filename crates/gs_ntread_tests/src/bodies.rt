@@ -227,6 +227,22 @@ fn long_labels_that_differ_in_their_last_byte_are_two_nodes(rt: HostRuntime) -> 
 }
 
 #[test]
+fn a_label_has_any_number_of_dots_in_a_row(rt: HostRuntime) -> Result<(), Fail> {
+    let dots = vec![in rt.alloc(); b'.'; 70_000]?;
+    let pieces = [
+        b"_:a".as_slice(),
+        dots.as_slice(),
+        b"a <a:p> _:a".as_slice(),
+        dots.as_slice(),
+        b".a .".as_slice(),
+    ];
+    let lines = lines_of(rt.alloc(), &pieces)?;
+    let wanted = b"_:b3_1 <a:p> _:b3_2 .\n";
+    assert_eq!(rt; lines.as_slice(), wanted.as_slice());
+    Ok(())
+}
+
+#[test]
 fn a_byte_order_mark_is_a_fault(rt: HostRuntime) -> Result<(), Fail> {
     let parts = [b"\xEF\xBB\xBF<a:s> <a:p> <a:o> .".as_slice()];
     assert!(rt; is_fault(rt.alloc(), &parts, SYNTAX));

@@ -103,6 +103,8 @@ const FOR_LISTENERS: &[&str] = &[
 const BROKEN: &[(&str, &str, Broken)] = &[
     ("gsd --once", MAKE, Broken::Writes),
     ("gsd --help", MAKE, Broken::Writes),
+    ("gsd --once", MAKE, Broken::TakesNothing),
+    ("gsd --help", MAKE, Broken::TakesNothing),
     ("gsd --once", "", Broken::Flushes),
     ("gsd --once", MAKE, Broken::Flushes),
     ("gsd --once", MAKE, Broken::FlushesAfterWrites),
@@ -157,10 +159,13 @@ fn wrong_refused(
     None
 }
 
-/// What fails at each read, and at each write, each flush, or each flush after a write.
+/// What fails at each read, and at each write, each flush, or each flush after a write; or takes nothing of
+/// the first write, and fails at no write then, so that a run that asked again would end.
 #[derive(Clone, Copy, Drop)]
 enum Broken {
     Writes,
+    TakesNothing,
+    Reads,
     Flushes,
     FlushesAfterWrites,
 }
@@ -176,7 +181,13 @@ impl Write for Broken {
         if matches!(self, Broken::Writes) {
             return Err(Error::from(ErrorKind::BrokenPipe));
         }
-        *self = Broken::Flushes;
+        if matches!(self, Broken::TakesNothing) {
+            *self = Broken::Reads;
+            return Ok(0);
+        }
+        if matches!(self, Broken::FlushesAfterWrites) {
+            *self = Broken::Flushes;
+        }
         Ok(bytes.len())
     }
 

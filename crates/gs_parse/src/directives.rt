@@ -8,7 +8,7 @@ use std::alloc::AllocError;
 
 impl Parser {
     ghost use Rattle.gs_triples.specs.Symbols.{At};
-    ghost use Rattle.gs_triple_values.specs.Contexts.{Changes};
+    ghost use Rattle.gs_triple_values.specs.Contexts.{ChangesContext};
     ghost use Rattle.gs_document.specs.Machine.{step, set};
     ghost use Rattle.gs_parse.specs.Views.{parser_at, context_at, parser_numbers};
     ghost use Rattle.gs_parse.specs.Steps.{transition_at, declared, MovesQuietly};
@@ -75,7 +75,7 @@ impl Parser {
 
     /// Declares the prefix that a directive has. Whether it and this are a prefix and an IRI.
     fn declare(&mut self, text: &str) -> Result<bool, AllocError>
-        ensures context { Changes result (context_at self.old) (context_at self.new)
+        ensures context { ChangesContext result (context_at self.old) (context_at self.new)
             (declared self.old text.now) }
         ensures numbers { parser_numbers self.new ≡ parser_numbers self.old }
         ensures last { self.new.last ≡ self.old.last }

@@ -23,7 +23,7 @@ use Rattle.gs_records.specs.Kept.{AreSingle}
 use Rattle.gs_records.specs.Order.{entry_of, has_number, AreListed, graph_of_number, graphs_listed, default_first, with_target, AreInOrder}
 use Rattle.gs_records.proofs.Ordering.{listed_in_order}
 use Rattle.gs_quads.specs.Places.{root_at, version_numbers, record_places, all_places, quad_at, quads_left}
-use Rattle.gs_quads.specs.Laws.{AreCounted}
+use Rattle.gs_quads.specs.Laws.{CountTriples}
 use Rattle.gs_quads.proofs.Numbers.{numbers_had}
 
 -- a sum over what a list becomes
@@ -55,7 +55,7 @@ counts_in_order g graphs o =
     ∙ sum_by-append triples_of_graph (default_first o.unnamed) (map with_target es)
     ∙ (λ i. default_count g.unnamed o.unnamed o.default i + sum_by-map triples_of_graph with_target es i)
 
-module _ (terms : List Term) (p : Nodes) (v : ℕ) (r : Recorded) (counted : AreCounted v p r.records) where
+module _ (terms : List Term) (p : Nodes) (v : ℕ) (r : Recorded) (counted : CountTriples v p r.records) where
   -- a record has as many places as its version counts triples
   one_counted : (n : ℕ) → has_number v r.records n ≡ true → length (record_places terms p r.records None n) ≡ triples_at r.records n
   one_counted n has =
@@ -72,7 +72,7 @@ module _ (terms : List Term) (p : Nodes) (v : ℕ) (r : Recorded) (counted : Are
       ∙ sym (sum_by-cons (triples_at r.records) n ns)
 
 -- so there are as many lines
-pub lines_counted : (terms : List Term) (p : Nodes) (v : ℕ) (r : Recorded) → AreSingle r.records → AreListed r.records r.listed → AreCounted v p r.records → length (quads_left terms p v r None) ≡ triple_count (graphs_at v r.records)
+pub lines_counted : (terms : List Term) (p : Nodes) (v : ℕ) (r : Recorded) → AreSingle r.records → AreListed r.records r.listed → CountTriples v p r.records → length (quads_left terms p v r None) ≡ triple_count (graphs_at v r.records)
 lines_counted terms p v r single al counted =
     let ns = version_numbers v r in
     let had = recursion_from_All (λ n. has_number v r.records n ≡ true) ns (numbers_had v r) in

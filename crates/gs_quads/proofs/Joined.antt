@@ -9,14 +9,14 @@ use Rattle.gs_pool.specs.Pool.{Nodes}
 use Rattle.gs_records.specs.Records.{Recorded}
 use Rattle.gs_quads.specs.declared.pieces.QuadPiece.{QuadPiece}
 use Rattle.gs_quads.specs.Places.{Place, quads_left}
-use Rattle.gs_quads.specs.Laws.{IsRead, ends, goes}
+use Rattle.gs_quads.specs.Laws.{IsReadByPieces, ends, goes}
 
 -- the first lines, and the others
 whole : (count : ℕ) (xs : List (List ℕ)) → concat (take count xs) ++ concat (drop count xs) ≡ concat xs
 whole count xs = sym (concat-append (take count xs) (drop count xs)) ∙ ap concat (take-append-drop count xs)
 
 -- the bytes of a read to its end
-pub pieces_joined : (v : ℕ) (terms : List Term) (p : Nodes) (r : Recorded) (from : Option Place) (pieces : List QuadPiece) → IsRead v terms p r from pieces
+pub pieces_joined : (v : ℕ) (terms : List Term) (p : Nodes) (r : Recorded) (from : Option Place) (pieces : List QuadPiece) → IsReadByPieces v terms p r from pieces
     → flat_map (λ (piece : QuadPiece). piece.bytes.items) pieces ≡ concat (quads_left terms p v r from)
 pieces_joined v terms p r from pieces (ends _ _ _ _ count piece is last) =
     let xs = quads_left terms p v r from in

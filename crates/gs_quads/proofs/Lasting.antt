@@ -23,7 +23,7 @@ use Rattle.gs_records.specs.Records.{Recorded}
 use Rattle.gs_records.specs.Order.{has_number, AreListed, graph_of_number}
 use Rattle.gs_quads.specs.Places.{Place, target_at, root_at, version_numbers, record_places, all_places, quad_at, quads_left}
 use Rattle.gs_quads.specs.Pieces.{AreGraphs, IsQuadPlace}
-use Rattle.gs_quads.specs.Laws.{HasSame, HasTrees, GoesOn}
+use Rattle.gs_quads.specs.Laws.{HasSame, HasTrees, ReadGoesOn}
 use Rattle.gs_quads.proofs.Numbers.{numbers_had, had_after}
 use Rattle.gs_quads.proofs.Same.{numbers_same}
 use Rattle.gs_quads.proofs.Whole.{quads_of_places}
@@ -101,5 +101,5 @@ module _ (terms more : List Term) (p q : Nodes) (v : ℕ) (old new : Recorded) (
   place_lasts (Some x) h = (same.numbers x.0 ∙ h.0, given_kept terms more x.1 h.1)
 
   -- so a read goes on
-  pub read_goes_on : (from : Option Place) → IsQuadPlace terms v old.records from → GoesOn terms (terms ++ more) p q v old new from
+  pub read_goes_on : (from : Option Place) → IsQuadPlace terms v old.records from → ReadGoesOn terms (terms ++ more) p q v old new from
   read_goes_on from h = record { graphs = graphs_last; place = place_lasts from h; lines = quads_last from h }

@@ -40,7 +40,7 @@ HasTrees v rs p q = (n : ℕ) → has_number v rs n ≡ true → Stands q (tree_
 
 -- A read of version v goes on among other terms, in another pool and other records: the version can be read there, the place where
 -- the read stands is one of it still, and the lines from there on are the same.
-pub record GoesOn (terms later : List Term) (p q : Nodes) (v : ℕ) (old new : Recorded) (from : Option Place) : Type 0 where
+pub record ReadGoesOn (terms later : List Term) (p q : Nodes) (v : ℕ) (old new : Recorded) (from : Option Place) : Type 0 where
   pub graphs : AreGraphs later q v new.records
   pub place : IsQuadPlace later v new.records from
   pub lines : quads_left later q v new from ≡ quads_left terms p v old from
@@ -52,36 +52,36 @@ QuadsOutlast =
     → AreListed old.records old.listed → AreListed new.records new.listed
     → AreGraphs terms p v old.records → IsQuadPlace terms v old.records from
     → HasSame v old new → HasTrees v old.records p q
-    → GoesOn terms (terms ++ more) p q v old new from
+    → ReadGoesOn terms (terms ++ more) p q v old new from
 
 -- A read of version v to the end, piece by piece, of so many lines each as was asked for then. The next piece begins at the last place of
 -- the one before, among terms, in a pool and in records where the lines from there on are the same.
-pub data IsRead (v : ℕ) : List Term → Nodes → Recorded → Option Place → List QuadPiece → Type 0 where
+pub data IsReadByPieces (v : ℕ) : List Term → Nodes → Recorded → Option Place → List QuadPiece → Type 0 where
   ends : (terms : List Term) (p : Nodes) (r : Recorded) (from : Option Place) (count : ℕ) (piece : QuadPiece)
       → IsQuadPiece terms p v r from count piece → piece.is_end ≡ true
-      → IsRead v terms p r from (piece ∷ [])
+      → IsReadByPieces v terms p r from (piece ∷ [])
   goes : (terms later : List Term) (p q : Nodes) (r new : Recorded) (from : Option Place) (count : ℕ) (piece : QuadPiece) (rest : List QuadPiece)
       → IsQuadPiece terms p v r from count piece → piece.is_end ≡ false
       → quads_left later q v new piece.last ≡ quads_left terms p v r piece.last
-      → IsRead v later q new piece.last rest
-      → IsRead v terms p r from (piece ∷ rest)
+      → IsReadByPieces v later q new piece.last rest
+      → IsReadByPieces v terms p r from (piece ∷ rest)
 
 -- the bytes of its pieces, joined, are those of all lines from its beginning on
 abbrev pub PiecesAreAll : Type 0
 PiecesAreAll =
     (v : ℕ) (terms : List Term) (p : Nodes) (r : Recorded) (from : Option Place) (pieces : List QuadPiece)
-    → IsRead v terms p r from pieces
+    → IsReadByPieces v terms p r from pieces
     → flat_map (λ (piece : QuadPiece). piece.bytes.items) pieces ≡ concat (quads_left terms p v r from)
 
 -- the count of each version that version v has is how many keys its root means
-abbrev pub AreCounted : ℕ → Nodes → List Record → Type 0
-AreCounted v p rs = (n : ℕ) → has_number v rs n ≡ true → (entry_of (record_at rs n)).version.triples ≡ length (keys_at p (root_at rs n))
+abbrev pub CountTriples : ℕ → Nodes → List Record → Type 0
+CountTriples v p rs = (n : ℕ) → has_number v rs n ≡ true → (entry_of (record_at rs n)).version.triples ≡ length (keys_at p (root_at rs n))
 
 -- then a version has as many lines as its graphs have triples, by the count of each
 abbrev pub AsManyAsTriples : Type 0
 AsManyAsTriples =
     (terms : List Term) (p : Nodes) (v : ℕ) (r : Recorded)
-    → AreSingle r.records → AreListed r.records r.listed → AreCounted v p r.records
+    → AreSingle r.records → AreListed r.records r.listed → CountTriples v p r.records
     → length (quads_left terms p v r None) ≡ triple_count (graphs_at v r.records)
 
 -- A version has the same after one call and then another. Opening a record and giving one up leave it all that it has; so does what ends or

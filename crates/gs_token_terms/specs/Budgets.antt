@@ -7,6 +7,6 @@ abbrev pub most_after : ℕ → ℕ
 most_after n = min (16_777_216 + min (n * 64) (2 ^ 64 - 1)) (2 ^ 64 - 1)
 
 -- so many bytes more were counted, or they are too many and were not
-abbrev pub Counts : {E : Type 0} → Result (Unit {0}) E → Budget → Budget → ℕ → Type 0
-Counts (Ok u) old new n = (new ≡ record old { used = old.used + n }) × (old.used + n ≤ old.most)
-Counts (Err e) old new n = (new ≡ old) × (old.most < old.used + n)
+abbrev pub CountsBytes : {E : Type 0} → Result (Unit {0}) E → Budget → Budget → ℕ → Type 0
+CountsBytes (Ok u) old new n = (new ≡ record old { used = old.used + n }) × (old.used + n ≤ old.most)
+CountsBytes (Err e) old new n = (new ≡ old) × (old.most < old.used + n)

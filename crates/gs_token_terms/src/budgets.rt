@@ -1,6 +1,6 @@
 //! How much the texts of a request may take.
 ghost use Rattle.std.specs.Prelude.{◌≡◌, ◌+◌, ◌≤◌, ◌<◌, IfSome, IfNone};
-ghost use Rattle.gs_token_terms.specs.Budgets.{most_after, Counts};
+ghost use Rattle.gs_token_terms.specs.Budgets.{most_after, CountsBytes};
 
 use std::alloc::AllocError;
 
@@ -51,7 +51,7 @@ impl Budget {
     /// and not counted.
     #[inline]
     pub fn count(&mut self, bytes: usize) -> Result<(), AllocError>
-        ensures { Counts result self.old self.new bytes }
+        ensures { CountsBytes result self.old self.new bytes }
     {
         match sum_within(self.used, bytes as u64, self.most) {
             None => Err(AllocError),

@@ -8,11 +8,11 @@ ghost use Rattle.gs_escape.specs.Tokens.{iri_of, split_at_colon};
 ghost use Rattle.gs_token_terms.specs.Contexts.{Yields};
 
 use crate::budgets::Budget;
-use crate::iris::{expanded, named_iri, resolved_iri};
+use crate::iris::{expanded, fit, named_iri, resolved_iri};
 use crate::plain::plain_reference;
 use crate::prefixes::Prefixes;
 use crate::symbols::TermToken;
-use gs_model::{Fault, memory_apart};
+use gs_model::{Fault, MAX_TERM_BYTES, memory_apart};
 use gs_term::TermText;
 use std::alloc::{AllocError, Global};
 
@@ -181,23 +181,31 @@ impl Context {
         let Some((prefix, _)) = parts(prefix) else {
             return Ok(false);
         };
-        let Some(iri) = self.resolve(text)? else {
+        let Some(mut iri) = self.resolve(text)? else {
             return Ok(false);
         };
         budget.count(iri.len())?;
+        fit(&mut iri);
         self.prefixes.insert(prefix, iri)?;
         Ok(true)
     }
 
-    /// Sets the base by the text of a reference. Whether that is one.
+    /// Sets the base by the text of a reference. Whether that is one. The base counts among the texts
+    /// of the request each time that it is set. One that is longer than a term is refused as for want of
+    /// memory, since each relative reference goes through it.
     #[tactic(auto, unfolding(gs_triples::specs::Directives::with_base))]
-    pub fn set_base(&mut self, text: &str) -> Result<bool, AllocError>
+    pub fn set_base(&mut self, budget: &mut Budget, text: &str) -> Result<bool, AllocError>
         ensures { ChangesContext result (context_of self.old) (context_of self.new)
             (with_base (context_of self.old) text.now) }
     {
-        let Some(base) = self.resolve(text)? else {
+        let Some(mut base) = self.resolve(text)? else {
             return Ok(false);
         };
+        if base.len() > MAX_TERM_BYTES {
+            return Err(AllocError);
+        }
+        budget.count(base.len())?;
+        fit(&mut base);
         self.base = base;
         Ok(true)
     }

@@ -1,5 +1,5 @@
 //! The IRIs that names and references mean.
-ghost use Rattle.std.specs.Prelude.{◌≡◌, ◌∷◌, ◌++◌, true, Some, IfOk, option_map};
+ghost use Rattle.std.specs.Prelude.{◌≡◌, ◌∷◌, ◌++◌, true, Some, IfOk, option_map, string_bytes};
 ghost use Rattle.std.specs.List.{list_all};
 ghost use Rattle.gs_model.specs.Characters.{less_than, is_iri_char};
 ghost use Rattle.gs_model.specs.Iris.{is_absolute};
@@ -63,6 +63,17 @@ pub fn named_iri(
     }
 }
 
+/// A text in a block of its size, where at most half of its block is filled. A reference with `..` is
+/// written after the whole directory of the base, which then is cut. Where memory for the smaller block is
+/// refused, the text stays where it is.
+pub fn fit(text: &mut String)
+    ensures { string_bytes text.new ≡ string_bytes text.old }
+{
+    if text.len() <= text.capacity() / 2 {
+        text.shrink_to_fit();
+    }
+}
+
 /// The text of a resolved reference after the mark `<`.
 fn marked_text(alloc: Global, base: &str, reference: &str) -> Result<Option<String>, AllocError>
     requires absolute { is_absolute base.now ≡ true }
@@ -72,7 +83,10 @@ fn marked_text(alloc: Global, base: &str, reference: &str) -> Result<Option<Stri
     let mut text = String::with_capacity(alloc, reference.len() + 2)?;
     text.push_str("<")?;
     match memory_apart(gs_iri::resolve_under(base, reference, &mut text))? {
-        Ok(()) => Ok(Some(text)),
+        Ok(()) => {
+            fit(&mut text);
+            Ok(Some(text))
+        }
         Err(_) => Ok(None),
     }
 }

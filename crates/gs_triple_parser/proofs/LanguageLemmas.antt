@@ -10,7 +10,7 @@ use Rattle.gs_triples.specs.Symbols.{Symbol}
 use Rattle.gs_triples.specs.Directives.{with_prefix, with_base}
 use Rattle.gs_triples.proofs.LanguageLemmas.{typed-in_language, with_prefix-in_language, with_base-in_language}
 use Rattle.gs_triple_values.specs.Languages.{TypedLanguage, language_of}
-use Rattle.gs_triple_values.specs.Contexts.{Changes}
+use Rattle.gs_triple_values.specs.Contexts.{ChangesContext}
 use Rattle.gs_triple_parser.specs.Frames.{stack_of}
 use Rattle.gs_triple_values.specs.Views.{context_in, context_of}
 use Rattle.gs_triple_parser.specs.Views.{scope_context, scope_numbers, context_now, state_at, triples_state}
@@ -31,10 +31,10 @@ module _ {X T V W : Type 0} (l : Language X T) where
   answered false new o h = ap (option_map (λ (e : Context V W). in_language l e)) h
 
   -- a change of the context is one for each language
-  pub Changes-in_language : {E : Type 0} (r : Result Bool E) (old new : Context V W) (o : Option (Context V W)) → Changes r old new o
-      → Changes r (in_language l old) (in_language l new) (option_map (λ e. in_language l e) o)
-  Changes-in_language (Err e) old new o h = record { changed = tt; kept = tt }
-  Changes-in_language (Ok b) old new o h = record { changed = answered b new o h.changed; kept = λ f. ap (λ (e : Context V W). in_language l e) (h.kept f) }
+  pub ChangesContext-in_language : {E : Type 0} (r : Result Bool E) (old new : Context V W) (o : Option (Context V W)) → ChangesContext r old new o
+      → ChangesContext r (in_language l old) (in_language l new) (option_map (λ e. in_language l e) o)
+  ChangesContext-in_language (Err e) old new o h = record { changed = tt; kept = tt }
+  ChangesContext-in_language (Ok b) old new o h = record { changed = answered b new o h.changed; kept = λ f. ap (λ (e : Context V W). in_language l e) (h.kept f) }
 
 module _ {L S V X T : Type 0} (l : TypedLanguage S V X T) (p : TripleParser L S V X T) (s : Scope) where
   -- a parser in another scope has the state that it has there
@@ -44,19 +44,19 @@ module _ {L S V X T : Type 0} (l : TypedLanguage S V X T) (p : TripleParser L S 
       ∙ ap (λ k. state_at l p.place (string_bytes p.text) env (stack_of l p.stack) p.pending.items k) m
 
   -- a change of the scope's context, at the parser
-  declared : {E : Type 0} (r : Result Bool E) (o : Option (Context Term RdfTriple)) → Changes r (scope_context p.scope) (scope_context s) o → scope_numbers s ≡ scope_numbers p.scope
+  declared : {E : Type 0} (r : Result Bool E) (o : Option (Context Term RdfTriple)) → ChangesContext r (scope_context p.scope) (scope_context s) o → scope_numbers s ≡ scope_numbers p.scope
       → Declares l r p (record p { scope = s }) (option_map (λ e. in_language (language_of l p.allowed) e) o)
   declared (Err e) o h n = record { context = record { changed = tt; kept = tt }; state = tt; numbers = n; pending = refl }
   declared (Ok b) o h n =
-      let c = Changes-in_language (language_of l p.allowed) (Ok b) (scope_context p.scope) (scope_context s) o h in
+      let c = ChangesContext-in_language (language_of l p.allowed) (Ok b) (scope_context p.scope) (scope_context s) o h in
       record { context = c; state = λ f. moved (context_now l p) (c.kept f) (scope_numbers p.scope) n; numbers = n; pending = refl }
 
   -- a base is set
-  pub base_declared : {E : Type 0} (x : List ℕ) (r : Result Bool E) → Changes r (scope_context p.scope) (scope_context s) (with_base (scope_context p.scope) x) → scope_numbers s ≡ scope_numbers p.scope
+  pub base_declared : {E : Type 0} (x : List ℕ) (r : Result Bool E) → ChangesContext r (scope_context p.scope) (scope_context s) (with_base (scope_context p.scope) x) → scope_numbers s ≡ scope_numbers p.scope
       → Declares l r p (record p { scope = s }) (with_base (context_now l p) x)
   base_declared x r h n = subst (λ o. Declares l r p (record p { scope = s }) o) (sym (with_base-in_language (language_of l p.allowed) (scope_context p.scope) x)) (declared r _ h n)
 
   -- a prefix is declared
-  pub prefix_declared : {E : Type 0} (q x : List ℕ) (r : Result Bool E) → Changes r (scope_context p.scope) (scope_context s) (with_prefix (scope_context p.scope) q x) → scope_numbers s ≡ scope_numbers p.scope
+  pub prefix_declared : {E : Type 0} (q x : List ℕ) (r : Result Bool E) → ChangesContext r (scope_context p.scope) (scope_context s) (with_prefix (scope_context p.scope) q x) → scope_numbers s ≡ scope_numbers p.scope
       → Declares l r p (record p { scope = s }) (with_prefix (context_now l p) q x)
   prefix_declared q x r h n = subst (λ o. Declares l r p (record p { scope = s }) o) (sym (with_prefix-in_language (language_of l p.allowed) (scope_context p.scope) q x)) (declared r _ h n)

@@ -9,7 +9,7 @@ use Rattle.gs_triple_values.specs.Languages.{TypedLanguage}
 use Rattle.gs_triple_parser.specs.Frames.{goal_of, slot_of, frame_of, frames_at, triples_at, stack_of}
 use Rattle.gs_triple_values.specs.Views.{token_at, symbol_at}
 use Rattle.gs_triple_parser.specs.Views.{triples_state, triples_state_at, triples_turn, context_now, pending_triples, numbers_now}
-use Rattle.gs_triple_values.specs.Contexts.{Changes}
+use Rattle.gs_triple_values.specs.Contexts.{ChangesContext}
 use Rattle.gs_triple_parser.specs.declared.frames.Frame.{Frame}
 use Rattle.gs_triple_parser.specs.declared.frames.Goal.{Goal}
 use Rattle.gs_triple_parser.specs.declared.frames.Slot.{Slot}
@@ -39,7 +39,7 @@ module _ {L S V X T : Type 0} (l : TypedLanguage S V X T) where
 
   -- it says whether there is such a context, and leaves it, or else the state as it was; numbers and triples stay
   pub record Declares {E : Type 0} (r : Result Bool E) (old new : TripleParser L S V X T) (o : Option (Context X T)) : Type 0 where
-    pub context : Changes r (context_now l old) (context_now l new) o
+    pub context : ChangesContext r (context_now l old) (context_now l new) o
     pub state : IfOk r (λ b. b ≡ false → triples_state l new ≡ triples_state l old)
     pub numbers : numbers_now new ≡ numbers_now old
     pub pending : pending_triples new ≡ pending_triples old

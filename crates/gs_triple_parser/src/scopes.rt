@@ -21,7 +21,7 @@ impl Scope {
     ghost use Rattle.gs_triples.specs.Languages.{of_terms};
     ghost use Rattle.gs_triples.specs.Directives.{without_prefixes, with_prefix, with_base};
     ghost use Rattle.gs_triple_parser.specs.Views.{scope_context, scope_numbers};
-    ghost use Rattle.gs_triple_values.specs.Contexts.{Changes};
+    ghost use Rattle.gs_triple_values.specs.Contexts.{ChangesContext};
 
     /// Under an absolute base, with no prefix and no blank node, in the request of this number.
     /// `gs_iri::is_absolute` tests a base.
@@ -50,7 +50,7 @@ impl Scope {
     /// Declares a prefix, whose text ends in its colon, by the text of a reference. Whether these
     /// are a prefix and a reference.
     pub fn set_prefix(&mut self, prefix: &str, text: &str) -> Result<bool, AllocError>
-        ensures context { Changes result (scope_context self.old) (scope_context self.new)
+        ensures context { ChangesContext result (scope_context self.old) (scope_context self.new)
             (with_prefix (scope_context self.old) prefix.now text.now) }
         ensures numbers { scope_numbers self.new ≡ scope_numbers self.old }
     {
@@ -59,10 +59,10 @@ impl Scope {
 
     /// Sets the base by the text of a reference. Whether that is one.
     pub fn set_base(&mut self, text: &str) -> Result<bool, AllocError>
-        ensures context { Changes result (scope_context self.old) (scope_context self.new)
+        ensures context { ChangesContext result (scope_context self.old) (scope_context self.new)
             (with_base (scope_context self.old) text.now) }
         ensures numbers { scope_numbers self.new ≡ scope_numbers self.old }
     {
-        self.context.set_base(text)
+        self.context.set_base(&mut self.budget, text)
     }
 }

@@ -90,13 +90,14 @@ fn what_is_no_term_may_be_longer(rt: HostRuntime) -> Result<(), Fail> {
 }
 
 /// Long documents, each with its number of triples, or its fault.
-const DOCUMENTS: [(Row, Result<usize, Refusal>); 4] = [
+const DOCUMENTS: [(Row, Result<usize, Refusal>); 5] = [
     (("<s> <p> ( ", "1 [] ", 2_000, ") ."), Ok(8_001)),
     (
         ("<s> <p> <o>", " , \"x\"@en , [ a <c> ]", 2_000, " ."),
         Ok(6_001),
     ),
     (("", "<s> <p> _:x , 'y' ; a <c> .\n", 2_000, ""), Ok(6_000)),
+    (("<s> <p> <o>", ",1", 70_000, " ."), Ok(70_001)),
     (
         ("", "<s> <p> <o> .\n", 2_000, "<s> ."),
         Err(Refusal::Syntax(27_999)),

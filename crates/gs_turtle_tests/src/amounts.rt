@@ -32,24 +32,34 @@ const OBJECTS: Front = ("@prefix p: <http://e/", "> . p: <a:b> <a:b>");
 /// 21,292,736 may be. 327: 21,323,268, and 21,293,824 may be.
 const STATEMENTS: Front = ("@prefix p: <http://e/", "> .");
 
-/// Prefixes, each the long name. The first one's reference ends after 65,022 bytes, and each further one
-/// 16 bytes later. 327: 21,254,346 bytes, and 21,272,448 may be. 328: 21,319,344, and 21,273,472 may be.
-const PREFIXES: Front = ("@base <http://e/", "> .");
+/// Prefixes, each the long name, which is the base, and counts for this too. The first one's reference ends
+/// after 65,022 bytes, and each further one 16 bytes later. 326: 21,254,346 bytes, and 21,271,424 may be.
+/// 327: 21,319,344, and 21,272,448 may be. Or the same base again: its first reference ends after 65,017
+/// bytes, and each further one 11 bytes later. 324: 21,124,350 bytes, and 21,165,696 may be. 325:
+/// 21,189,348, and 21,166,400 may be.
+const BASE: Front = ("@base <http://e/", "> .");
 
 /// A collection of the long name. Each object alone counts, once it is read; the first one ends after
 /// 65,030 bytes, and each further one 3 bytes later. 322: 20,994,998 bytes, and 21,000,768 may be. 323:
 /// 21,059,998, and 21,000,960 may be.
 const COLLECTION: Front = ("@prefix p: <http://e/", "> . <a:b> <a:b> (");
 
-const ROWS: [Row; 10] = [
+/// A base that letters follow: 537 of them make it 65,535 bytes, as long as a term may be.
+const LONG_BASE: Front = ("@base <http://e/", "");
+
+const ROWS: [Row; 14] = [
     (OBJECTS, (",<a:b>", 321, " ."), Ok(322)),
     (OBJECTS, (",<a:b>", 322, " ."), TOO_MUCH),
     (OBJECTS, (",<a:b>", 322, "       ."), TOO_MUCH),
     (OBJECTS, (",<a:b>", 322, "        ."), Ok(323)),
     (STATEMENTS, (" p: <a:b> <a:b> .", 326, ""), Ok(326)),
     (STATEMENTS, (" p: <a:b> <a:b> .", 327, ""), TOO_MUCH),
-    (PREFIXES, (" @prefix p: <> .", 327, ""), Ok(0)),
-    (PREFIXES, (" @prefix p: <> .", 328, ""), TOO_MUCH),
+    (BASE, (" @prefix p: <> .", 326, ""), Ok(0)),
+    (BASE, (" @prefix p: <> .", 327, ""), TOO_MUCH),
+    (BASE, (" @base <> .", 324, ""), Ok(0)),
+    (BASE, (" @base <> .", 325, ""), TOO_MUCH),
+    (LONG_BASE, ("y", 537, "> ."), Ok(0)),
+    (LONG_BASE, ("y", 538, "> ."), TOO_MUCH),
     (COLLECTION, (" p:", 322, " ) ."), Ok(645)),
     (COLLECTION, (" p:", 323, " ) ."), TOO_MUCH),
 ];

@@ -9,7 +9,7 @@ use std::alloc::Global;
 use std::test::Fail;
 
 /// Texts with a fault.
-const FAULTS: [(&str, Refusal); 11] = [
+const FAULTS: [(&str, Refusal); 15] = [
     ("<s> <p> <o> . <s> <p> .", Refusal::Syntax(13)),
     ("<s> <p> <o> . <s> <p> ~", Refusal::Syntax(13)),
     ("<s> <p> <o> . <s> <p> <o>", Refusal::Syntax(13)),
@@ -17,6 +17,10 @@ const FAULTS: [(&str, Refusal); 11] = [
     ("<s> <p> <o> . <s> . ~", Refusal::Syntax(13)),
     ("<s> <p> \"", Refusal::Syntax(0)),
     ("@prefix p: <d/> . p:s ~ <o>", Refusal::Syntax(17)),
+    ("<s> <p> <o> . @prefix p: <d/>", Refusal::Syntax(13)),
+    ("<s> <p> <o> . @prefix p:", Refusal::Syntax(13)),
+    ("<s> <p> <o> . @base <d/>", Refusal::Syntax(13)),
+    ("<s> <p> <o> . PREFIX p:", Refusal::Syntax(13)),
     ("<s> <p> <o> . BASE <d/> <s> .", Refusal::Syntax(23)),
     // A byte order mark is a character that may begin a prefix; before anything else it is a word
     // that the grammar does not have.
