@@ -388,8 +388,10 @@ def many_clients(program, rounds):
     return right
 
 
-# The bytes of addresses that a server has for these texts, and in what time (seconds) a reply to another client is wanted.
+# The bytes of addresses that a server has for these texts, in what time (seconds) a reply to another client is wanted, with which
+# status, and how many bytes the server may grow by.
 ADDRESSES = 1_500_000_000
+GROWTH = 100_000_000
 LONG = "a" * 65_000
 DEAR = [
     ("an update of 965 kB, each word of its triples a prefix of 65,000 bytes", "PATCH", "application/sparql-update",
@@ -404,33 +406,37 @@ DEAR = [
 
 
 def dear_row(program, row):
-    """How long it takes until such a text is answered, and how long others wait; afterwards the server serves as before."""
+    """How long it takes until such a text is answered, how long others wait, and how much the server grows; afterwards it serves as
+    before."""
     name, method, media, text, _, wanted = row
     with Server(program, addresses=ADDRESSES) as server:
         client = Client(server)
         for target in ("one", "many"):
             client.status(put(f"/graphs/{target}", [line(node("s", 1), P, node("o", 1))]))
+        before = server.resident_bytes()
         with Bystander(server) as bystander:
             start = time.perf_counter()
             status = client.status(request(method, "/graphs/many", media, text))
             taken = time.perf_counter() - start
             time.sleep(0.05)
+        grown = server.resident_bytes() - before
         left = len(Client(server).lines("/graphs/many"))
         lines = 1 if wanted == 503 else 2
         if status != wanted or left != lines:
             raise SystemExit(f"{name}: status {status}, {left} lines in place of {lines}")
-        return taken, bystander.longest
+        return taken, bystander.longest, grown
 
 
 def dear_texts(program, rounds):
     right = True
     for row in DEAR:
         runs = [dear_row(program, row) for _ in range(rounds)]
-        taken, waited = (min(run[k] for run in runs) for k in (0, 1))
-        holds = waited <= row[4]
+        taken, waited, grown = (min(run[k] for run in runs) for k in range(3))
+        holds = waited <= row[4] and grown <= GROWTH
         right = right and holds
         missed = "" if holds else ": MISSED"
-        print(f"{row[0]}: {row[5]} in {taken:.3f} s, others waited {waited:.3f} s (at most {row[4]:g}){missed}", flush=True)
+        print(f"{row[0]}: {row[5]} in {taken:.3f} s, others waited {waited:.3f} s (at most {row[4]:g}), "
+              f"{grown / 1e6:.1f} MB more (at most {GROWTH / 1e6:g}){missed}", flush=True)
     return right
 
 
