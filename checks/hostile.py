@@ -483,9 +483,77 @@ def small_puts(program, rounds, warm=1_000, many=20_000, wanted=40_000_000):
     return holds
 
 
+def said(name, right):
+    print(f"{name}: {'right' if right else 'WRONG'}", flush=True)
+    return right
+
+
+def repeats(program, rounds, many=4_100_000):
+    """A body that says one triple more often than a page of what was asked may have triples."""
+    with Server(program) as server:
+        status = Client(server).status(request("PUT", "/graphs/one", "text/turtle", f"<a:a> <a:b> {'1,' * (many - 1)}1 ."))
+        lines = Client(server).lines("/graphs/one")
+    wanted = ['<a:a> <a:b> "1"^^<http://www.w3.org/2001/XMLSchema#integer> .\n']
+    return said(f"a PUT that says one triple {many} times", status == 201 and lines == wanted)
+
+
+def full_store(program, rounds, names=65_536, batch=128):
+    """A store that has as many names as it may have still takes writes of these, and no other name."""
+    with Server(program) as server:
+        client = Client(server)
+        for first in range(0, names, batch):
+            client.send(b"".join(put(f"/graphs/{number}", []) for number in range(first, first + batch)))
+            replies = b""
+            while replies.count(b"\r\n\r\n") < batch:
+                replies += client.socket.recv(65536)
+            if replies.count(b"HTTP/1.1 201") != batch:
+                raise SystemExit(f"a PUT of a new name was answered {replies[:40]!r}")
+        known, new = (client.status(put(f"/graphs/{name}", [line(P, Q, R)])) for name in ("0", "new"))
+    return said(f"a store of {names} names", (known, new) == (204, 507))
+
+
+def count_replies(client, many, counted):
+    """Counts the ends of replies in chunks until there are so many."""
+    rest, found = b"", 0
+    while found < many:
+        data = rest + client.socket.recv(262144)
+        found += data.count(b"\r\n0\r\n\r\n")
+        rest = data[-6:]
+    counted.set()
+
+
+def send_in_parts(client, text, many, before):
+    """Sends a text again and again, each time from its last byte on, and waits for all replies but the last."""
+    counted = threading.Event()
+    threading.Thread(target=count_replies, args=(client, many * text.count(b"GET") - (0 if before else 1), counted), daemon=True).start()
+    for number in range(many):
+        client.send((text[-1:] if before or number else b"") + text[:-1])
+    if not counted.wait(PATIENCE):
+        raise SystemExit("requests that were sent one upon the other were not all answered")
+
+
+def pipelined(program, rounds, warm=70, many=400, wanted=4_000_000):
+    """How much memory a client takes that never lets what it sends end with a request: what was answered may not stay. The first
+    requests fill the page of what was asked."""
+    text = b"GET /graphs/one HTTP/1.1\r\nHost: a\r\n\r\n" * 1_000
+    grown = []
+    for _ in range(rounds):
+        with Server(program) as server:
+            client = Client(server)
+            client.status(put("/graphs/one", [line(P, Q, R)]))
+            send_in_parts(client, text, warm, False)
+            before = server.resident_bytes()
+            send_in_parts(client, text, many, True)
+            grown.append(server.resident_bytes() - before)
+    holds = min(grown) <= wanted
+    print(f"{many * 1_000} GETs, sent so that a part of one is always left: {min(grown) / 1e6:.1f} MB more (at most {wanted / 1e6:g})"
+          f"{'' if holds else ': MISSED'}", flush=True)
+    return holds
+
+
 def main():
     program, rounds = sys.argv[1], int(sys.argv[2]) if len(sys.argv) > 2 else 3
-    rows = (patterns, slow_reader, readers_end, many_clients, dear_texts, empty_puts, small_puts)
+    rows = (patterns, slow_reader, readers_end, many_clients, dear_texts, empty_puts, small_puts, repeats, full_store, pipelined)
     held = [row(program, rounds) for row in rows]
     sys.exit(0 if all(held) else 1)
 
