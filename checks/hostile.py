@@ -535,7 +535,7 @@ def send_in_parts(client, text, many, before):
 def pipelined(program, rounds, warm=70, many=400, wanted=4_000_000):
     """How much memory a client takes that never lets what it sends end with a request: what was answered may not stay. The first
     requests fill the page of what was asked."""
-    text = b"GET /graphs/one HTTP/1.1\r\nHost: a\r\n\r\n" * 1_000
+    text = b"GET /graphs/one HTTP/1.1\r\nHost: a\r\nX: abcdefghijklmnopqrstuv\r\n\r\n" * 1_000
     grown = []
     for _ in range(rounds):
         with Server(program) as server:
