@@ -488,10 +488,11 @@ def said(name, right):
     return right
 
 
-def repeats(program, rounds, many=4_100_000):
+def repeats(program, rounds, many=4_100_000, batch=1_000):
     """A body that says one triple more often than a page of what was asked may have triples."""
+    statement = f"<a:a> <a:b> {'1,' * (batch - 1)}1 .\n"
     with Server(program) as server:
-        status = Client(server).status(request("PUT", "/graphs/one", "text/turtle", f"<a:a> <a:b> {'1,' * (many - 1)}1 ."))
+        status = Client(server).status(request("PUT", "/graphs/one", "text/turtle", statement * (many // batch)))
         lines = Client(server).lines("/graphs/one")
     wanted = ['<a:a> <a:b> "1"^^<http://www.w3.org/2001/XMLSchema#integer> .\n']
     return said(f"a PUT that says one triple {many} times", status == 201 and lines == wanted)
