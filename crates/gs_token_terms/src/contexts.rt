@@ -12,9 +12,12 @@ use crate::iris::{expanded, fit, named_iri, resolved_iri};
 use crate::plain::plain_reference;
 use crate::prefixes::Prefixes;
 use crate::symbols::TermToken;
-use gs_model::{Fault, MAX_TERM_BYTES, memory_apart};
+use gs_model::{Fault, memory_apart};
 use gs_term::TermText;
 use std::alloc::{AllocError, Global};
+
+/// The most bytes of a base: twice as many as a term may have.
+const MAX_BASE_BYTES: usize = 131_072;
 
 /// The base and the prefixes in force, and the request whose blank nodes are numbered.
 #[derive(Drop)]
@@ -191,7 +194,7 @@ impl Context {
     }
 
     /// Sets the base by the text of a reference. Whether that is one. The base counts among the texts
-    /// of the request each time that it is set. One that is longer than a term is refused as for want of
+    /// of the request each time that it is set. One of more than 131,072 bytes is refused as for want of
     /// memory, since each relative reference goes through it.
     #[tactic(auto, unfolding(gs_triples::specs::Directives::with_base))]
     pub fn set_base(&mut self, budget: &mut Budget, text: &str) -> Result<bool, AllocError>
@@ -201,7 +204,7 @@ impl Context {
         let Some(mut base) = self.resolve(text)? else {
             return Ok(false);
         };
-        if base.len() > MAX_TERM_BYTES {
+        if base.len() > MAX_BASE_BYTES {
             return Err(AllocError);
         }
         budget.count(base.len())?;

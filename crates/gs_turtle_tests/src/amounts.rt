@@ -44,7 +44,7 @@ const BASE: Front = ("@base <http://e/", "> .");
 /// 21,059,998, and 21,000,960 may be.
 const COLLECTION: Front = ("@prefix p: <http://e/", "> . <a:b> <a:b> (");
 
-/// A base that letters follow: 537 of them make it 65,535 bytes, as long as a term may be.
+/// A base that letters follow: 66,074 of them make it 131,072 bytes, as many as a base may have.
 const LONG_BASE: Front = ("@base <http://e/", "");
 
 const ROWS: [Row; 14] = [
@@ -58,8 +58,8 @@ const ROWS: [Row; 14] = [
     (BASE, (" @prefix p: <> .", 327, ""), TOO_MUCH),
     (BASE, (" @base <> .", 324, ""), Ok(0)),
     (BASE, (" @base <> .", 325, ""), TOO_MUCH),
-    (LONG_BASE, ("y", 537, "> ."), Ok(0)),
-    (LONG_BASE, ("y", 538, "> ."), TOO_MUCH),
+    (LONG_BASE, ("y", 66_074, "> ."), Ok(0)),
+    (LONG_BASE, ("y", 66_075, "> ."), TOO_MUCH),
     (COLLECTION, (" p:", 322, " ) ."), Ok(645)),
     (COLLECTION, (" p:", 323, " ) ."), TOO_MUCH),
 ];
